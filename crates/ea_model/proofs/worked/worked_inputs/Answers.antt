@@ -1,0 +1,23 @@
+use Rattle.std.proofs.Common.{refl}
+use Rattle.std.specs.Fmt.{digits}
+use Rattle.ea_model.proofs.worked.worked_inputs.Goals as goal
+
+pub returns-clause-first_block : goal.returns-clause-first_block
+unfolding digits
+returns-clause-first_block c = refl
+
+pub returns-clause-zero_bytes : goal.returns-clause-zero_bytes
+unfolding digits
+returns-clause-zero_bytes c = refl
+
+pub returns-clause-free_and_skip : goal.returns-clause-free_and_skip
+unfolding digits
+returns-clause-free_and_skip c = refl
+
+pub returns-clause-joined_gap : goal.returns-clause-joined_gap
+unfolding digits
+returns-clause-joined_gap c = refl
+
+pub returns-clause-spaces_and_comments : goal.returns-clause-spaces_and_comments
+unfolding digits
+returns-clause-spaces_and_comments c = refl

@@ -1,0 +1,33 @@
+-- The choice among gaps.
+use Rattle.std.specs.Prelude.{◌≡◌, ℕ, Bool, true, false, ◌&&◌, ◌||◌, if◌then◌else◌, nat_lt, nat_le, ◌==◌, List, [], ◌∷◌, Option, Some, None, filter, fold, All, Contains}
+use Rattle.ea_model.specs.declared.carriers.Gap.{Gap}
+use Rattle.ea_model.specs.declared.carriers.Inner.{Inner}
+use Rattle.ea_model.specs.declared.carriers.Inner.TheVariants.{Bf, Aobf, Aoff}
+
+-- which of two gaps of a carrier is taken first
+abbrev pub before : Inner → Gap → Gap → Bool
+before Bf a b = nat_lt a.size b.size || ((a.size == b.size) && nat_lt b.offset a.offset)
+before Aobf a b = nat_lt a.size b.size || ((a.size == b.size) && nat_lt a.offset b.offset)
+before Aoff a b = nat_lt a.offset b.offset
+
+-- the better of the best so far and x: of two that tie the earlier one
+abbrev pub better : {A : Type 0} → (A → A → Bool) → Option A → A → Option A
+better before None x = Some x
+better before (Some best) x = Some (if before x best then x else best)
+
+-- the element that comes first, if there is one
+abbrev pub first : {A : Type 0} → (A → A → Bool) → List A → Option A
+first before xs = fold (better before) None xs
+
+-- the gaps of at least so many units
+abbrev pub fitting : ℕ → List Gap → List Gap
+fitting need gs = filter (λ g. nat_le need g.size) gs
+
+-- the chosen gap of at least `need` units
+abbrev pub choice : Inner → ℕ → List Gap → Option Gap
+choice inner need gs = first (before inner) (fitting need gs)
+
+-- no element comes before x, which is one of them
+pub record IsFirst {A : Type 0} (before : A → A → Bool) (xs : List A) (x : A) : Type 0 where
+  pub among : Contains xs x
+  pub least : All (λ y. before y x ≡ false) xs

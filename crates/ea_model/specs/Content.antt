@@ -1,0 +1,82 @@
+-- The content of a carrier, and its gaps.
+use Rattle.std.specs.Prelude.{◌≡◌, ℕ, ◌+◌, ◌-◌, ◌/◌, ◌%◌, ◌<◌, ◌≤◌, max, not, if◌then◌else◌, nat_lt, nat_le, ◌==◌, List, [], ◌∷◌, ◌++◌, Option, Some, None, filter, find, sum_by, option_map}
+use Rattle.std.specs.Option.{option_map_or}
+use Rattle.ea_model.specs.declared.carriers.Kind.{Kind}
+use Rattle.ea_model.specs.declared.carriers.BlockAt.{BlockAt}
+use Rattle.ea_model.specs.declared.carriers.Block.{Block}
+use Rattle.ea_model.specs.declared.carriers.Gap.{Gap}
+
+-- a carrier: what it is, where it lies, and its blocks by rising offset; base counts pages, and units the whole carrier
+pub record Content : Type 0 where
+  pub number : ℕ
+  pub owner : ℕ
+  pub base : ℕ
+  pub birth : ℕ
+  pub units : ℕ
+  pub kind : Kind
+  pub blocks : List BlockAt
+
+-- the free units from a up to b, as a list of at most one gap
+abbrev pub gap : ℕ → ℕ → List Gap
+gap a b = if nat_lt a b then record { offset = a; size = b - a } ∷ [] else []
+
+-- the maximal runs from `at` up to `end` that no block covers, of blocks by rising offset
+abbrev pub gaps : ℕ → ℕ → List BlockAt → List Gap
+gaps at end [] = gap at end
+gaps at end (b ∷ bs) = gap at b.offset ++ gaps (b.offset + b.size) end bs
+
+-- the gaps of a carrier, by rising offset; its first 8 units are its header
+abbrev pub gaps_of : Content → List Gap
+gaps_of c = gaps 8 c.units c.blocks
+
+-- the units of all blocks
+abbrev pub allocated : List BlockAt → ℕ
+allocated bs = sum_by (λ b. b.size) bs
+
+-- the units of all gaps
+abbrev pub free_units : List Gap → ℕ
+free_units gs = sum_by (λ g. g.size) gs
+
+-- the units of the greatest gap, or 0
+abbrev pub largest : List Gap → ℕ
+largest [] = 0
+largest (g ∷ gs) = max g.size (largest gs)
+
+-- the units of the gap that begins at the offset, or 0
+abbrev pub gap_at : List Gap → ℕ → ℕ
+gap_at gs offset = option_map_or (λ g. g.size) (find (λ g. g.offset == offset) gs) 0
+
+-- the block that begins at the offset
+abbrev pub block_at : List BlockAt → ℕ → Option BlockAt
+block_at bs offset = find (λ b. b.offset == offset) bs
+
+-- a block's name and its units
+abbrev pub named : BlockAt → Block
+named b = record { name = b.name; size = b.size }
+
+-- the units that a block of this need takes of a gap: a rest of fewer than 6 stays in the block
+abbrev pub taken_of : ℕ → ℕ → ℕ
+taken_of g need = if nat_le 6 (g - need) then need else g
+
+-- x among the blocks, by its offset
+abbrev pub inserted : BlockAt → List BlockAt → List BlockAt
+inserted x [] = x ∷ []
+inserted x (b ∷ bs) = if nat_lt x.offset b.offset then x ∷ b ∷ bs else b ∷ inserted x bs
+
+-- the content with a block at the front of the gap at the offset
+abbrev pub placed : Content → ℕ → ℕ → ℕ → Content
+placed c offset need name = record c { blocks = inserted (record { name = name; offset = offset; size = taken_of (gap_at (gaps_of c) offset) need }) c.blocks }
+
+-- the content without the block at the offset
+abbrev pub released : Content → ℕ → Content
+released c offset = record c { blocks = filter (λ b. not (b.offset == offset)) c.blocks }
+
+-- a gap is empty, or has an even number of units, 6 at least
+pub record IsGapSize (n : ℕ) : Type 0 where
+  pub even : n % 2 ≡ 0
+  pub whole : 0 < n → 6 ≤ n
+
+-- the blocks lie one after another from `at` up to `end`, even and of 6 units at least, with whole gaps between them
+abbrev pub Tiled : ℕ → ℕ → List BlockAt → Type 0
+Tiled at end [] = (at ≤ end) × IsGapSize (end - at)
+Tiled at end (b ∷ bs) = (at ≤ b.offset) × IsGapSize (b.offset - at) × (6 ≤ b.size) × (b.size % 2 ≡ 0) × Tiled (b.offset + b.size) end bs

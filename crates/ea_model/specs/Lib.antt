@@ -1,0 +1,10 @@
+pub mod Lists
+pub mod Units
+pub mod Content
+pub mod Choice
+pub mod Words
+pub mod Lines
+pub mod Trace
+pub mod Run
+pub mod Text
+pub mod Faultline

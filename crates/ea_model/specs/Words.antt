@@ -1,0 +1,39 @@
+-- The lines of a text, the words of a line, and the number that a word writes.
+use Rattle.std.specs.Prelude.{ℕ, ◌+◌, ◌-◌, ◌*◌, Bool, true, false, ◌&&◌, ◌||◌, if◌then◌else◌, nat_le, ◌==◌, List, [], ◌∷◌, length, Option, Some, None, filter, fold}
+use Rattle.std.specs.List.{slice_split, list_all}
+use Rattle.std.specs.Char.{is_ascii_digit}
+
+-- a line feed
+abbrev pub is_feed : ℕ → Bool
+is_feed b = b == 10
+
+-- a space, a tab or a carriage return
+abbrev pub is_space : ℕ → Bool
+is_space b = (b == 32) || ((b == 9) || (b == 13))
+
+-- the lines of a text: what stands between its line feeds
+abbrev pub lines : List ℕ → List (List ℕ)
+lines bytes = slice_split is_feed bytes
+
+abbrev pub is_word : List ℕ → Bool
+is_word [] = false
+is_word (b ∷ bs) = true
+
+-- the words of a line: what stands between its spaces, where that isn't empty
+abbrev pub words : List ℕ → List (List ℕ)
+words line = filter is_word (slice_split is_space line)
+
+-- the number before a digit, and the digit
+abbrev pub then_digit : ℕ → ℕ → ℕ
+then_digit n b = n * 10 + (b - 48)
+
+-- a numeral has 1 to 10 digits
+abbrev pub is_numeral : List ℕ → Bool
+is_numeral word = is_word word && (nat_le (length word) 10 && list_all is_ascii_digit word)
+
+abbrev pub numeral_value : List ℕ → ℕ
+numeral_value word = fold then_digit 0 word
+
+-- the number from low to high that the word writes
+abbrev pub number : ℕ → ℕ → List ℕ → Option ℕ
+number low high word = if is_numeral word && (nat_le low (numeral_value word) && nat_le (numeral_value word) high) then Some (numeral_value word) else None

@@ -1,0 +1,128 @@
+//! Carriers, blocks and gaps.
+
+/// How a gap is chosen inside a carrier.
+#[derive(Debug, Clone, Copy, PartialEq, Eq)]
+pub enum Inner {
+    /// Best fit: the least size, among equals the highest offset.
+    Bf,
+    /// Address order best fit: the least size, among equals the lowest offset.
+    Aobf,
+    /// Address order first fit: the lowest offset.
+    Aoff,
+}
+
+/// A maximal run of free units of a carrier.
+#[derive(Debug, Clone, Copy, PartialEq, Eq)]
+pub struct Gap {
+    /// Its first unit.
+    pub offset: u32,
+    /// Its units.
+    pub size: u32,
+}
+
+/// An allocated block of a carrier.
+#[derive(Debug, Clone, Copy, PartialEq, Eq)]
+pub struct BlockAt {
+    /// Its name in the trace.
+    pub name: u32,
+    /// Its first unit, which is its header.
+    pub offset: u32,
+    /// Its units, the header included.
+    pub size: u32,
+}
+
+/// What is known of a block at a given offset.
+#[derive(Debug, Clone, Copy, PartialEq, Eq)]
+pub struct Block {
+    /// Its name in the trace.
+    pub name: u32,
+    /// Its units, the header included.
+    pub size: u32,
+}
+
+/// Where a block begins.
+#[derive(Debug, Clone, Copy, PartialEq, Eq)]
+pub struct Spot {
+    /// The carrier's number.
+    pub carrier: u32,
+    /// The block's first unit in it.
+    pub offset: u32,
+}
+
+/// Where a block lies.
+#[derive(Debug, Clone, Copy, PartialEq, Eq)]
+pub struct Place {
+    /// The carrier's number.
+    pub carrier: u32,
+    /// The block's first unit in it.
+    pub offset: u32,
+    /// The block's units.
+    pub size: u32,
+}
+
+/// The kinds of carriers.
+#[derive(Debug, Clone, Copy, PartialEq, Eq)]
+pub enum Kind {
+    /// An instance's first multiblock carrier, made before the run and never deallocated.
+    Main,
+    /// A multiblock carrier.
+    Multi,
+    /// A singleblock carrier.
+    Single,
+}
+
+/// What a carrier's owner word says of a carrier that is there.
+#[derive(Debug, Clone, Copy, PartialEq, Eq)]
+pub enum Standing {
+    /// An instance allocates in it.
+    Employed,
+    /// It is in the pool.
+    Pooled,
+    /// It is in the pool, and its employer is releasing a block of it.
+    Busy,
+    /// It is empty and on its way to its owner.
+    Returning,
+}
+
+/// A carrier at the end of a run.
+#[derive(Debug, Clone, Copy, PartialEq, Eq)]
+pub struct CarrierLine {
+    pub number: u32,
+    pub kind: Kind,
+    /// The instance that created it.
+    pub owner: u32,
+    pub word: Standing,
+    /// The instance that uses it; for a returning carrier the owner.
+    pub employer: u32,
+    /// Its first page.
+    pub base: u32,
+    pub pages: u32,
+    /// The units of its blocks.
+    pub allocated: u32,
+    /// The units of its largest gap, or 0.
+    pub largest: u32,
+}
+
+/// The sums over all carriers at the end of a run, in units but for `carriers`.
+#[derive(Debug, Clone, Copy, PartialEq, Eq)]
+pub struct Totals {
+    /// How many carriers there are.
+    pub carriers: u32,
+    pub units: u64,
+    /// The units of blocks that a scheduler holds, or that are given.
+    pub live: u64,
+    /// The units of blocks on their way to be released.
+    pub queued: u64,
+    /// The units of gaps.
+    pub free: u64,
+    /// The units of the carriers' headers.
+    pub header: u64,
+}
+
+/// A value that stands for the content of a multiblock carrier.
+pub trait Carried {
+    ghost use Rattle.ea_model.specs.Content.{Content};
+
+    // the content that the value stands for
+    ghost content: { Self → Content };
+}

@@ -1,0 +1,117 @@
+//! What a scheduler's log says of its operations, one entry each.
+
+use crate::carriers::Place;
+
+/// Why no carrier was created.
+#[derive(Debug, Clone, Copy, PartialEq, Eq)]
+pub enum NoCarrier {
+    /// All carrier numbers of the instance are in use.
+    Numbers,
+    /// The instance's region has no run of free pages for the least carrier.
+    Space,
+}
+
+/// A figure: as it is, its maximum since the last report, and its maximum ever.
+#[derive(Debug, Clone, Copy, PartialEq, Eq)]
+pub struct Triple {
+    pub now: u64,
+    pub last: u64,
+    pub ever: u64,
+}
+
+/// The figures of the multiblock or of the singleblock carriers of an instance; sizes are in units.
+#[derive(Debug, Clone, Copy, PartialEq, Eq)]
+pub struct Report {
+    pub blocks: Triple,
+    pub blocks_size: Triple,
+    pub carriers: Triple,
+    pub carriers_size: Triple,
+}
+
+/// What came of an operation.
+#[derive(Debug, Clone, Copy, PartialEq, Eq)]
+pub enum Entry {
+    /// A block was placed.
+    Alloc {
+        name: u32,
+        place: Place,
+    },
+    /// No block was placed: `need` units were asked for, and `looked` pooled or busy carriers were seen.
+    AllocFail {
+        name: u32,
+        need: u32,
+        looked: u32,
+        why: NoCarrier,
+    },
+    /// The scheduler released the block itself.
+    Free {
+        name: u32,
+    },
+    /// The block was queued to instance `to`.
+    FreeQueued {
+        name: u32,
+        to: u32,
+    },
+    /// The scheduler does not hold the name.
+    FreeSkipped {
+        name: u32,
+    },
+    /// The block keeps its offset.
+    ReallocHere {
+        old: u32,
+        fresh: u32,
+        place: Place,
+    },
+    /// The block moved, and the scheduler released the old one itself.
+    ReallocMoved {
+        old: u32,
+        fresh: u32,
+        place: Place,
+    },
+    /// The block moved, and the old one was queued to instance `to`.
+    ReallocQueued {
+        old: u32,
+        fresh: u32,
+        place: Place,
+        to: u32,
+    },
+    /// The block could not move, and keeps its name and place.
+    ReallocFail {
+        old: u32,
+        fresh: u32,
+        need: u32,
+        looked: u32,
+        why: NoCarrier,
+    },
+    /// The scheduler does not hold the old name.
+    ReallocSkipped {
+        old: u32,
+        fresh: u32,
+    },
+    /// The block was given to scheduler `to`.
+    Give {
+        name: u32,
+        to: u32,
+    },
+    /// The scheduler does not hold the name.
+    GiveSkipped {
+        name: u32,
+        to: u32,
+    },
+    /// The block was taken.
+    Take {
+        name: u32,
+    },
+    /// The name was not given at any of so many tries.
+    TakeAbsent {
+        name: u32,
+        tries: u32,
+    },
+    /// The allocator information.
+    Info {
+        mbcs: Report,
+        sbcs: Report,
+    },
+    /// Nothing was to be done.
+    Idle,
+}

@@ -1,0 +1,22 @@
+//! The words of the subject: units, carriers and their gaps, operations, entries of a log, and the
+//! definitions that every contract cites. Nothing here knows how a layer above keeps its things.
+#![tactic(auto)]
+
+pub mod carriers;
+pub mod entries;
+pub mod lists;
+pub mod operations;
+pub mod units;
+pub mod words;
+pub mod worked;
+
+pub use carriers::{
+    Block, BlockAt, Carried, CarrierLine, Gap, Inner, Kind, Place, Spot, Standing, Totals,
+};
+pub use entries::{Entry, NoCarrier, Report, Triple};
+pub use lists::{List, OutOfMemory};
+pub use operations::Op;
+pub use units::{
+    HEADER_UNITS, MAX_INPUT, MAX_NAME, MAX_OPS, MAX_SCHEDULERS, MIN_BLOCK, NUMBERS, PAGE_UNITS,
+    SEARCH_LIMIT, UNIT_BYTES, need,
+};

@@ -1,0 +1,35 @@
+//! Sizes and limits. A unit is 8 bytes; carriers, blocks and gaps are counted in units.
+ghost use Rattle.std.specs.Prelude.{◌≡◌, ◌^◌, ◌<◌};
+ghost use Rattle.ea_model.specs.Units.{need_of};
+
+/// The bytes of a unit.
+pub const UNIT_BYTES: u32 = 8;
+/// The units of a page. Segments are whole pages.
+pub const PAGE_UNITS: u32 = 512;
+/// The units at the front of a carrier that hold its own header.
+pub const HEADER_UNITS: u32 = 8;
+/// The fewest units of a block, its header included.
+pub const MIN_BLOCK: u32 = 6;
+/// The carrier numbers of an allocator instance.
+pub const NUMBERS: u32 = 256;
+/// The most schedulers of a run.
+pub const MAX_SCHEDULERS: u32 = 16;
+/// The greatest name of a block; names begin at 1.
+pub const MAX_NAME: u32 = 262_144;
+/// The most operations of a trace.
+pub const MAX_OPS: u32 = 262_144;
+/// The pooled or busy carriers after which a search of the pool ends.
+pub const SEARCH_LIMIT: u32 = 16;
+/// The most bytes of an input.
+pub const MAX_INPUT: usize = 16_777_216;
+
+/// The units that a request of `bytes` takes: its bytes in whole units and the block's header of one
+/// unit, rounded up to an even number, and 6 at least.
+pub fn need(bytes: u32) -> u32
+    requires { bytes < 2 ^ 30 }
+    ensures { result ≡ need_of bytes }
+{
+    let units = 1 + bytes.div_ceil(UNIT_BYTES);
+    let even = units + units % 2;
+    even.max(MIN_BLOCK)
+}

@@ -1,0 +1,84 @@
+// Lines, words and numbers of a text.
+ghost use Rattle.std.specs.Prelude.{◌≡◌, ◌+◌, ◌<◌, take, false, ◌≤◌, ◌∷◌, [], length, IfSome, fold, if◌then◌else◌, Some, None};
+ghost use Rattle.std.specs.List.{slice_split, list_all, list_any};
+ghost use Rattle.std.specs.Char.{is_ascii_digit};
+ghost use Rattle.std.specs.Option.{option_map_or};
+ghost use Rattle.ea_model.specs.Words.{is_feed, is_space, lines, words, number, numeral_value};
+
+/// Whether a byte separates words.
+fn is_space(byte: u8) -> bool
+    ensures { result ≡ Rattle.ea_model.specs.Words.is_space byte }
+{
+    matches!(byte, b' ' | b'\t' | b'\r')
+}
+
+/// The first line, and what follows its line feed.
+pub fn first_line(text: &[u8]) -> (&[u8], Option<&[u8]>)
+    ensures lines { lines text.now ≡ result.0.now ∷ option_map_or (λ rest. lines rest.now) result.1 [] }
+    ensures shorter { IfSome result.1 (λ rest. length rest.now < length text.now) }
+{
+    for i in 0..text.len() {
+        if text[i] == b'\n' {
+            return (&text[..i], Some(&text[i + 1..]));
+        }
+    }
+    (text, None)
+}
+
+/// The first word, and what follows it.
+pub fn first_word(line: &[u8]) -> Option<(&[u8], &[u8])>
+    ensures words { words line.now ≡ option_map_or (λ found. found.0.now ∷ words found.1.now) result [] }
+    ensures shorter { IfSome result (λ found. length found.1.now < length line.now) }
+{
+    let mut rest = line;
+    while let [byte, after @ ..] = rest {
+        if !is_space(*byte) {
+            return Some(word_end(rest));
+        }
+        rest = after;
+    }
+    None
+}
+
+/// The number that a word of at most 10 bytes writes.
+fn numeral(word: &[u8]) -> Option<u64>
+    requires { length word.now ≤ 10 }
+    ensures { result ≡ (if list_all is_ascii_digit word.now then Some (numeral_value word.now) else None) }
+{
+    let mut value = 0u64;
+    for byte in word {
+        if !byte.is_ascii_digit() {
+            return None;
+        }
+        value = value * 10 + u64::from(*byte - b'0');
+    }
+    Some(value)
+}
+
+/// The number from `low` to `high` that a word writes.
+pub fn number(word: &[u8], low: u32, high: u32) -> Option<u32>
+    ensures { result ≡ Rattle.ea_model.specs.Words.number low high word.now }
+{
+    if word.is_empty() || word.len() > 10 {
+        return None;
+    }
+    match numeral(word) {
+        Some(value) if u64::from(low) <= value && value <= u64::from(high) => Some(value as u32),
+        _ => None,
+    }
+}
+
+/// The word that a nonempty rest begins with, and what follows it.
+fn word_end(line: &[u8]) -> (&[u8], &[u8])
+    requires first { 0 < length line.now }
+    requires word { list_any is_space (take 1 line.now) ≡ false }
+    ensures words { words line.now ≡ result.0.now ∷ words result.1.now }
+    ensures shorter { length result.1.now < length line.now }
+{
+    for i in 1..line.len() {
+        if is_space(line[i]) {
+            return (&line[..i], &line[i + 1..]);
+        }
+    }
+    (line, &line[line.len()..])
+}
