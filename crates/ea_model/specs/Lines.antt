@@ -1,5 +1,5 @@
 -- What one line of a trace says, by itself.
-use Rattle.std.specs.Prelude.{ℕ, Bool, true, false, if◌then◌else◌, ◌==◌, List, [], ◌∷◌, Option, Some, None, codes, bytes_eq}
+use Rattle.std.specs.Prelude.{ℕ, ◌<◌, ◌≤◌, Bool, true, false, if◌then◌else◌, ◌==◌, List, [], ◌∷◌, Option, Some, None, codes, bytes_eq}
 use Rattle.ea_model.specs.Words.{words, number}
 
 -- everything that is no line of the language is Unreadable
@@ -12,25 +12,6 @@ pub data Line : Type 0 where
   Schedule : Line
   End : Line
   Unreadable : Line
-
--- the word that a line begins with
-pub data Keyword : Type 0 where
-  OfLetter : Keyword
-  OfScheduler : Keyword
-  OfAlloc : Keyword
-  OfFree : Keyword
-  OfSchedule : Keyword
-  OfEnd : Keyword
-  Other : Keyword
-
-abbrev pub keyword_of : List ℕ → Keyword
-keyword_of word =
-    if bytes_eq word (codes "type") then OfLetter else (
-    if bytes_eq word (codes "scheduler") then OfScheduler else (
-    if bytes_eq word (codes "alloc") then OfAlloc else (
-    if bytes_eq word (codes "free") then OfFree else (
-    if bytes_eq word (codes "schedule") then OfSchedule else (
-    if bytes_eq word (codes "end") then OfEnd else Other)))))
 
 -- a name, 1 to 262144
 abbrev pub name_in : List ℕ → Option ℕ
@@ -94,15 +75,15 @@ alloc_words (w ∷ []) = Unreadable
 alloc_words (w ∷ v ∷ []) = alloc_line (name_in w) (bytes_in v)
 alloc_words (w ∷ v ∷ u ∷ ws) = Unreadable
 
--- a line by its keyword and the words after it
-abbrev pub command : Keyword → List (List ℕ) → Line
-command OfLetter ws = letter_line ws
-command OfScheduler ws = one_number scheduler_line 1 1 ws
-command OfAlloc ws = alloc_words ws
-command OfFree ws = one_number free_line 1 262144 ws
-command OfSchedule ws = bare_line Schedule ws
-command OfEnd ws = bare_line End ws
-command Other ws = Unreadable
+-- a line by its first word and the words behind it
+abbrev pub command : List ℕ → List (List ℕ) → Line
+command keyword ws =
+    if bytes_eq keyword (codes "type") then letter_line ws else (
+    if bytes_eq keyword (codes "scheduler") then one_number scheduler_line 1 1 ws else (
+    if bytes_eq keyword (codes "alloc") then alloc_words ws else (
+    if bytes_eq keyword (codes "free") then one_number free_line 1 262144 ws else (
+    if bytes_eq keyword (codes "schedule") then bare_line Schedule ws else (
+    if bytes_eq keyword (codes "end") then bare_line End ws else Unreadable)))))
 
 -- a word that begins with '#'
 abbrev pub is_comment : List ℕ → Bool
@@ -112,8 +93,14 @@ is_comment (b ∷ bs) = b == 35
 -- a line by its words; one without words and a comment are skipped
 abbrev pub line_of_words : List (List ℕ) → Line
 line_of_words [] = Skipped
-line_of_words (w ∷ ws) = if is_comment w then Skipped else command (keyword_of w) ws
+line_of_words (w ∷ ws) = if is_comment w then Skipped else command w ws
 
 -- what a line says
 abbrev pub line_of : List ℕ → Line
 line_of text = line_of_words (words text)
+
+-- the name and the request of a line are in their ranges
+abbrev pub IsLineInRange : Line → Type 0
+IsLineInRange (Alloc name bytes) = (name ≤ 262144) × (bytes < 1073741824)
+IsLineInRange (Free name) = name ≤ 262144
+IsLineInRange l = Unit {0}

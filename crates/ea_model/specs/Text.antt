@@ -35,17 +35,25 @@ report_text class r = line (codes "info") (class
     ∷ codes "carriers" ∷ decimal r.carriers.now ∷ decimal r.carriers.last ∷ decimal r.carriers.ever
     ∷ codes "carriers_size" ∷ decimal r.carriers_size.now ∷ decimal r.carriers_size.last ∷ decimal r.carriers_size.ever ∷ [])
 
+-- the line of a reallocation whose block lies at p, with what came of the old one
+abbrev pub realloc_text : ℕ → ℕ → Place → List (List ℕ) → List ℕ
+realloc_text old fresh p rest = line (codes "realloc") (decimal old ∷ decimal fresh ∷ decimal p.carrier ∷ decimal p.offset ∷ decimal p.size ∷ rest)
+
+-- what stands behind the names of an operation that found no place
+abbrev pub fail_words : ℕ → ℕ → NoCarrier → List (List ℕ)
+fail_words need looked why = codes "fail" ∷ codes "need" ∷ decimal need ∷ codes "looked" ∷ decimal looked ∷ cause_text why ∷ []
+
 -- the line of an entry; the allocator information has two
 abbrev pub entry_text : Entry → List ℕ
 entry_text (entry.Alloc name p) = line (codes "alloc") (decimal name ∷ decimal p.carrier ∷ decimal p.offset ∷ decimal p.size ∷ [])
-entry_text (entry.AllocFail name need looked why) = line (codes "alloc") (decimal name ∷ codes "fail" ∷ codes "need" ∷ decimal need ∷ codes "looked" ∷ decimal looked ∷ cause_text why ∷ [])
+entry_text (entry.AllocFail name need looked why) = line (codes "alloc") (decimal name ∷ fail_words need looked why)
 entry_text (entry.Free name) = line (codes "free") (decimal name ∷ codes "done" ∷ [])
 entry_text (entry.FreeQueued name to) = line (codes "free") (decimal name ∷ codes "queued" ∷ decimal to ∷ [])
 entry_text (entry.FreeSkipped name) = line (codes "free") (decimal name ∷ codes "skipped" ∷ [])
-entry_text (entry.ReallocHere old fresh p) = line (codes "realloc") (decimal old ∷ decimal fresh ∷ decimal p.carrier ∷ decimal p.offset ∷ decimal p.size ∷ codes "here" ∷ [])
-entry_text (entry.ReallocMoved old fresh p) = line (codes "realloc") (decimal old ∷ decimal fresh ∷ decimal p.carrier ∷ decimal p.offset ∷ decimal p.size ∷ codes "moved" ∷ codes "done" ∷ [])
-entry_text (entry.ReallocQueued old fresh p to) = line (codes "realloc") (decimal old ∷ decimal fresh ∷ decimal p.carrier ∷ decimal p.offset ∷ decimal p.size ∷ codes "moved" ∷ codes "queued" ∷ decimal to ∷ [])
-entry_text (entry.ReallocFail old fresh need looked why) = line (codes "realloc") (decimal old ∷ decimal fresh ∷ codes "fail" ∷ codes "need" ∷ decimal need ∷ codes "looked" ∷ decimal looked ∷ cause_text why ∷ [])
+entry_text (entry.ReallocHere old fresh p) = realloc_text old fresh p (codes "here" ∷ [])
+entry_text (entry.ReallocMoved old fresh p) = realloc_text old fresh p (codes "moved" ∷ codes "done" ∷ [])
+entry_text (entry.ReallocQueued old fresh p to) = realloc_text old fresh p (codes "moved" ∷ codes "queued" ∷ decimal to ∷ [])
+entry_text (entry.ReallocFail old fresh need looked why) = line (codes "realloc") (decimal old ∷ decimal fresh ∷ fail_words need looked why)
 entry_text (entry.ReallocSkipped old fresh) = line (codes "realloc") (decimal old ∷ decimal fresh ∷ codes "skipped" ∷ [])
 entry_text (entry.Give name to) = line (codes "give") (decimal name ∷ decimal to ∷ [])
 entry_text (entry.GiveSkipped name to) = line (codes "give") (decimal name ∷ decimal to ∷ codes "skipped" ∷ [])

@@ -87,8 +87,22 @@ read_behind earlier (line ∷ later) = if_follows (may_follow earlier line) (rea
 abbrev pub trace_of : List ℕ → Option (List Op)
 trace_of bytes = read_behind [] (map line_of (lines bytes))
 
--- the numbers of an operation are in their ranges
+-- the name that an operation speaks of, of a reallocation the new one, or 0
+abbrev pub name_of : Op → ℕ
+name_of (op.Alloc name bytes) = name
+name_of (op.Free name) = name
+name_of (op.Realloc old fresh bytes) = fresh
+name_of (op.Give name to) = name
+name_of (op.Take name tries) = name
+name_of op.Info = 0
+name_of op.Idle = 0
+
+-- the bytes that an operation asks for
+abbrev pub bytes_of : Op → ℕ
+bytes_of (op.Alloc name bytes) = bytes
+bytes_of (op.Realloc old fresh bytes) = bytes
+bytes_of o = 0
+
+-- names are at most 262144, and requests below 2 ^ 30
 abbrev pub InRange : Op → Type 0
-InRange (op.Alloc name bytes) = (name ≤ 262144) × (bytes < 1073741824)
-InRange (op.Free name) = name ≤ 262144
-InRange o = Unit {0}
+InRange o = (name_of o ≤ 262144) × (bytes_of o < 1073741824)
