@@ -1,0 +1,179 @@
+//! The carrier and its calls.
+ghost use Rattle.std.specs.Prelude.{◌≡◌, ◌≢◌, ℕ, ◌+◌, ◌%◌, ◌<◌, ◌≤◌, ◌↔◌, List, [], All, Option, Some, None, IsTrue, IsSome, IsNone, IfSome, OnOk, OnErr, IfOk, option_map};
+ghost use Rattle.ea_model.specs.declared.carriers.Kind.TheVariants.{Multi};
+ghost use Rattle.ea_model.specs.Content.{Content, gaps_of, gap_at, block_at, named, taken_of, placed, released, allocated, largest, free_units};
+ghost use Rattle.ea_model.specs.Choice.{before, fitting, choice, IsFirst};
+
+use crate::walks::{
+    allocated_units, best_gap, find_block, gap_from, insert_block, largest_gap, place_of, taken,
+};
+use ea_model::{Block, BlockAt, Carried, Inner, OutOfMemory};
+use std::alloc::Global;
+use std::marker::Model;
+
+/// A carrier of many blocks. Contracts see it as its content: number, owner, base, birth, units and the
+/// blocks by rising offset. A block has an even number of units, 6 at least, and so has a gap.
+#[derive(Drop)]
+pub struct Mbc {
+    number: u32,
+    owner: u32,
+    base: u32,
+    birth: u32,
+    units: u32,
+    blocks: Vec<BlockAt>,
+}
+
+impl Model for Mbc {
+    ghost use Rattle.ea_model.specs.declared.carriers.Kind.TheVariants.{Multi};
+    ghost use Rattle.ea_model.specs.Content.{Content, Tiled};
+
+    ghost Value = { Content };
+
+    ghost view = { λ m. record { number = m.number; owner = m.owner; base = m.base; birth = m.birth; units = m.units; kind = Multi; blocks = m.blocks.items } };
+
+    ghost invariant = { λ m. Tiled 8 m.units m.blocks.items };
+}
+
+impl Carried for Mbc {
+    ghost content = { λ m. m };
+}
+
+impl Mbc {
+    /// A carrier without blocks: `units` units, its own header of 8 included, that begin at page `base`.
+    /// `birth` is its number in the order of creation, `owner` the instance that creates it, and `number`
+    /// its own.
+    pub fn new(
+        alloc: Global,
+        units: u32,
+        base: u32,
+        birth: u32,
+        owner: u32,
+        number: u32,
+    ) -> Result<Mbc, OutOfMemory>
+        requires some { 0 < units }
+        requires pages { units % 512 ≡ 0 }
+        ensures { IfOk result (λ m. m ≡ record { number = number; owner = owner; base = base; birth = birth; units = units; kind = Multi; blocks = [] }) }
+    {
+        Ok(Mbc {
+            number,
+            owner,
+            base,
+            birth,
+            units,
+            blocks: Vec::new(alloc),
+        })
+    }
+
+    /// The offset of the gap that is chosen for `need` units, or None where no gap has so many.
+    pub fn choose(&self, inner: Inner, need: u32) -> Option<u32>
+        ensures chosen { result ≡ option_map (λ g. g.offset) (choice inner need (gaps_of self.now)) }
+        ensures none { IsNone result ↔ All (λ g. g.size < need) (gaps_of self.now) }
+        ensures fits { IfSome result (λ offset. need ≤ gap_at (gaps_of self.now) offset) }
+        ensures first { IfSome (choice inner need (gaps_of self.now)) (IsFirst (before inner) (fitting need (gaps_of self.now))) }
+    {
+        best_gap(inner, need, self.units, &self.blocks).map(|gap| gap.offset)
+    }
+
+    /// Puts a block at the front of the gap at `offset`, and answers its units: `need`, or the whole gap
+    /// where fewer than 6 units would be left of it. Where there is no memory, nothing changes.
+    pub fn place(&mut self, offset: u32, need: u32, name: u32) -> Result<u32, OutOfMemory>
+        requires fits { need ≤ gap_at (gaps_of self.old) offset }
+        requires even { need % 2 ≡ 0 }
+        requires least { 6 ≤ need }
+        ensures size { IfOk result (λ size. size ≡ taken_of (gap_at (gaps_of self.old) offset) need) }
+        ensures ok { OnOk result (self.new ≡ placed self.old offset need name) }
+        ensures err { OnErr result (self.new ≡ self.old) }
+
+        // No block began at the offset, one begins there now, and the others are as before.
+        ensures behind_header { 8 ≤ offset }
+        ensures fresh { block_at self.old.blocks offset ≡ None }
+        ensures begins { IfOk result (λ size. block_at self.new.blocks offset ≡ Some (record { name = name; offset = offset; size = size })) }
+        ensures others { (at : ℕ) → at ≢ offset → block_at self.new.blocks at ≡ block_at self.old.blocks at }
+    {
+        let gap = gap_from(self.units, &self.blocks, offset);
+        let size = taken(gap, need);
+        insert_block(&mut self.blocks, BlockAt { name, offset, size })?;
+        Ok(size)
+    }
+
+    /// Takes out the block at `offset`, and answers its units, which are free from then on. Where there is
+    /// no memory, nothing changes.
+    pub fn release(&mut self, offset: u32) -> Result<u32, OutOfMemory>
+        requires { IsSome (block_at self.old.blocks offset) }
+        ensures size { IfOk result (λ size. option_map (λ b. b.size) (block_at self.old.blocks offset) ≡ Some size) }
+        ensures ok { OnOk result (self.new ≡ released self.old offset) }
+        ensures err { OnErr result (self.new ≡ self.old) }
+
+        // No block begins at the offset now, and the others are as before.
+        ensures gone { OnOk result (block_at self.new.blocks offset ≡ None) }
+        ensures others { (at : ℕ) → at ≢ offset → block_at self.new.blocks at ≡ block_at self.old.blocks at }
+    {
+        let index = place_of(&self.blocks, offset);
+        Ok(self.blocks.remove(index).size)
+    }
+
+    /// The block that begins at `offset`, if one does.
+    pub fn block_at(&self, offset: u32) -> Option<Block>
+        ensures { result ≡ option_map named (block_at self.now.blocks offset) }
+    {
+        find_block(&self.blocks, offset).map(|BlockAt { name, size, .. }| Block { name, size })
+    }
+
+    /// The units of its largest gap, or 0.
+    pub fn largest(&self) -> u32
+        ensures { result ≡ largest (gaps_of self.now) }
+    {
+        largest_gap(self.units, &self.blocks)
+    }
+
+    /// The units of its blocks. Blocks, gaps and header are the whole carrier.
+    pub fn allocated(&self) -> u32
+        ensures blocks { result ≡ allocated self.now.blocks }
+        ensures sum { result + free_units (gaps_of self.now) + 8 ≡ self.now.units }
+    {
+        allocated_units(self.units, &self.blocks)
+    }
+
+    /// Whether it has no blocks.
+    pub fn is_empty(&self) -> bool
+        ensures { IsTrue result ↔ (self.now.blocks ≡ []) }
+    {
+        self.blocks.is_empty()
+    }
+
+    /// All its units, its header included.
+    pub fn units(&self) -> u32
+        ensures units { result ≡ self.now.units }
+        ensures header { 8 ≤ result }
+    {
+        self.units
+    }
+
+    /// Its first page.
+    pub fn base(&self) -> u32
+        ensures { result ≡ self.now.base }
+    {
+        self.base
+    }
+
+    /// Its number in the order of creation.
+    pub fn birth(&self) -> u32
+        ensures { result ≡ self.now.birth }
+    {
+        self.birth
+    }
+
+    /// The instance that created it.
+    pub fn owner(&self) -> u32
+        ensures { result ≡ self.now.owner }
+    {
+        self.owner
+    }
+
+    /// Its own number.
+    pub fn number(&self) -> u32
+        ensures { result ≡ self.now.number }
+    {
+        self.number
+    }
+}

@@ -1,0 +1,163 @@
+//! Walks over the blocks of a carrier, by rising offset.
+ghost use Rattle.std.specs.Prelude.{◌≡◌, ◌+◌, ◌-◌, ◌<◌, ◌≤◌, nat_le, fold, filter, length, IsSome, OnOk, OnErr};
+ghost use Rattle.std.specs.List.{position_or_len};
+ghost use Rattle.ea_model.specs.Content.{gap, gaps, gap_at, allocated, largest, block_at, taken_of, inserted, Tiled};
+ghost use Rattle.ea_model.specs.Choice.{before, better, fitting, choice};
+ghost use Rattle.ea_mbc.specs.Walks.{begins, follows, next_of};
+
+use ea_model::{BlockAt, Gap, HEADER_UNITS, Inner, MIN_BLOCK, OutOfMemory};
+
+/// Whether the choice takes `a` before `b`.
+fn precedes(inner: Inner, a: Gap, b: Gap) -> bool
+    ensures { result ≡ before inner a b }
+{
+    match inner {
+        Inner::Bf => a.size < b.size || (a.size == b.size && b.offset < a.offset),
+        Inner::Aobf => a.size < b.size || (a.size == b.size && a.offset < b.offset),
+        Inner::Aoff => a.offset < b.offset,
+    }
+}
+
+/// The better of `best` and the gap from `from` up to `to`, where that one fits.
+fn better_of(inner: Inner, need: u32, best: Option<Gap>, from: u32, to: u32) -> Option<Gap>
+    requires { from ≤ to }
+    ensures { result ≡ fold (better (before inner)) best (fitting need (gap from to)) }
+{
+    let gap = Gap {
+        offset: from,
+        size: to - from,
+    };
+    if from == to || gap.size < need {
+        return best;
+    }
+    match best {
+        None => Some(gap),
+        Some(other) => {
+            if precedes(inner, gap, other) {
+                Some(gap)
+            } else {
+                Some(other)
+            }
+        }
+    }
+}
+
+/// The gap that is chosen for `need`.
+pub fn best_gap(inner: Inner, need: u32, units: u32, blocks: &[BlockAt]) -> Option<Gap>
+    requires { Tiled 8 units blocks.now }
+    ensures { result ≡ choice inner need (gaps 8 units blocks.now) }
+{
+    let mut at = HEADER_UNITS;
+    let mut best = None;
+    for block in blocks {
+        best = better_of(inner, need, best, at, block.offset);
+        at = block.offset + block.size;
+    }
+    better_of(inner, need, best, at, units)
+}
+
+/// The units of the largest gap, or 0.
+pub fn largest_gap(units: u32, blocks: &[BlockAt]) -> u32
+    requires { Tiled 8 units blocks.now }
+    ensures { result ≡ largest (gaps 8 units blocks.now) }
+{
+    let mut at = HEADER_UNITS;
+    let mut most = 0;
+    for block in blocks {
+        most = most.max(block.offset - at);
+        at = block.offset + block.size;
+    }
+    most.max(units - at)
+}
+
+/// The units of all blocks.
+pub fn allocated_units(units: u32, blocks: &[BlockAt]) -> u32
+    requires { Tiled 8 units blocks.now }
+    ensures { result ≡ allocated blocks.now }
+{
+    let mut sum = 0;
+    for block in blocks {
+        sum += block.size;
+    }
+    sum
+}
+
+/// The block that begins at the offset.
+pub fn find_block(blocks: &[BlockAt], offset: u32) -> Option<BlockAt>
+    ensures { result ≡ block_at blocks.now offset }
+{
+    for block in blocks {
+        if block.offset == offset {
+            return Some(*block);
+        }
+    }
+    None
+}
+
+/// How many blocks begin at the offset or before it.
+fn blocks_up_to(blocks: &[BlockAt], offset: u32) -> usize
+    ensures place { result ≡ position_or_len (follows offset) blocks.now }
+    ensures within { result ≤ length blocks.now }
+{
+    for (i, block) in blocks.iter().enumerate() {
+        if offset < block.offset {
+            return i;
+        }
+    }
+    blocks.len()
+}
+
+/// The place of the block that begins at the offset.
+pub fn place_of(blocks: &[BlockAt], offset: u32) -> usize
+    requires { IsSome (block_at blocks.now offset) }
+    ensures place { result ≡ position_or_len (begins offset) blocks.now }
+    ensures within { result < length blocks.now }
+{
+    for (i, block) in blocks.iter().enumerate() {
+        if block.offset == offset {
+            return i;
+        }
+    }
+    unreachable!()
+}
+
+/// Where the first block behind the offset begins, or the end.
+fn gap_end(units: u32, blocks: &[BlockAt], offset: u32) -> u32
+    ensures { result ≡ next_of units offset blocks.now }
+{
+    for block in blocks {
+        if offset < block.offset {
+            return block.offset;
+        }
+    }
+    units
+}
+
+/// The units of the gap that begins at the offset.
+pub fn gap_from(units: u32, blocks: &[BlockAt], offset: u32) -> u32
+    requires tiled { Tiled 8 units blocks.now }
+    requires begins { 0 < gap_at (gaps 8 units blocks.now) offset }
+    ensures { result ≡ gap_at (gaps 8 units blocks.now) offset }
+{
+    gap_end(units, blocks, offset) - offset
+}
+
+/// The units that a block takes of a gap.
+pub fn taken(gap: u32, need: u32) -> u32
+    requires { need ≤ gap }
+    ensures { result ≡ taken_of gap need }
+{
+    if gap - need >= MIN_BLOCK { need } else { gap }
+}
+
+/// Puts the block among the others.
+pub fn insert_block(blocks: &mut Vec<BlockAt>, block: BlockAt) -> Result<(), OutOfMemory>
+    ensures ok { OnOk result (blocks.new.items ≡ inserted block blocks.old.items) }
+    ensures err { OnErr result (blocks.new.items ≡ blocks.old.items) }
+{
+    let index = blocks_up_to(blocks, block.offset);
+    match blocks.insert(index, block) {
+        Ok(()) => Ok(()),
+        Err(_) => Err(OutOfMemory),
+    }
+}
