@@ -1,0 +1,66 @@
+#!/usr/bin/env python3
+"""Makes the traces that bench/measure runs: python3 bench/inputs.py FOLDER.
+
+They are the same bytes on every machine, and good under the flags +MMscs 1 +MHacul 0, where the one carrier has 32760
+units for blocks. A request of 3,000 bytes takes at most 380 units. So with at most 40 blocks held there are at most
+41 gaps, and one of them always fits: were all shorter than 380 units, blocks and gaps would cover less than
+81 * 380 = 30780 units.
+"""
+import os
+import random
+import sys
+
+OPENING = "type H\nscheduler 1\n"
+CLOSING = "schedule\nend\n"
+LARGEST_INPUT = 2**24
+LARGEST_REQUEST = 3000
+
+
+def comments():
+    """A small trace, and then comment lines up to the most bytes that an input may have."""
+    text = OPENING + "alloc 1 100\n" + CLOSING
+    line = "# " + "-" * 61 + "\n"
+    lines, rest = divmod(LARGEST_INPUT - len(text), len(line))
+    return text + line * lines + "#" * rest
+
+
+def mixed(count, most_held, seed):
+    """count operations, a random one of at most most_held blocks freed at a time, no name used twice."""
+    pick = random.Random(seed).random
+    lines, held, name = [], [], 0
+    for _ in range(count):
+        if held and (len(held) == most_held or pick() < 0.5):
+            at = int(pick() * len(held))
+            held[at], held[-1] = held[-1], held[at]
+            lines.append(f"free {held.pop()}\n")
+        else:
+            name += 1
+            held.append(name)
+            lines.append(f"alloc {name} {int(pick() * (LARGEST_REQUEST + 1))}\n")
+    return OPENING + "".join(lines) + CLOSING
+
+
+def stacked(count):
+    """count blocks of 6 or 8 units, freed in reverse."""
+    allocs = [f"alloc {name} {40 + name % 2 * 16}\n" for name in range(1, count + 1)]
+    frees = [f"free {name}\n" for name in range(count, 0, -1)]
+    return OPENING + "".join(allocs + frees) + CLOSING
+
+
+def main(folder):
+    os.makedirs(folder, exist_ok=True)
+    made = {
+        "comments": comments(),
+        "mixed-5000": mixed(5000, 40, 1),
+        "mixed-200000": mixed(200000, 8, 2),
+        "stacked-4000": stacked(4000),
+    }
+    for name, text in made.items():
+        with open(f"{folder}/{name}.trace", "w", encoding="ascii", newline="\n") as file:
+            file.write(text)
+
+
+if __name__ == "__main__":
+    if len(sys.argv) != 2:
+        sys.exit("usage: python3 bench/inputs.py FOLDER")
+    main(sys.argv[1])
