@@ -1,8 +1,8 @@
 -- A run: what the operations do, one after another.
-use Rattle.std.specs.Prelude.{ℕ, ◌+◌, ◌-◌, not, ◌==◌, List, [], ◌∷◌, ◌++◌, Option, Some, None, filter, find}
+use Rattle.std.specs.Prelude.{ℕ, ◌+◌, ◌-◌, not, ◌==◌, List, [], ◌∷◌, ◌++◌, Option, Some, None, filter, find, option_map}
 use Rattle.ea_model.specs.declared.carriers.Kind.TheVariants.{Multi}
 use Rattle.ea_model.specs.declared.carriers.Inner.TheVariants.{Bf}
-use Rattle.ea_model.specs.declared.carriers.Gap.{Gap}
+use Rattle.ea_model.specs.declared.carriers.Place.{Place}
 use Rattle.ea_model.specs.declared.carriers.BlockAt.{BlockAt}
 use Rattle.ea_model.specs.declared.operations.Op.{Op}
 use Rattle.ea_model.specs.declared.operations.Op.TheVariants as op
@@ -40,37 +40,47 @@ abbrev pub remains : Content → List BlockAt → Option Content
 remains c [] = None
 remains c (b ∷ bs) = Some c
 
-abbrev pub held_at : ℕ → List Held → Option Held
-held_at name held = find (λ h. h.name == name) held
+-- the offset of the name's block, if the name is held
+abbrev pub offset_of : ℕ → List Held → Option ℕ
+offset_of name held = option_map (λ h. h.offset) (find (λ h. h.name == name) held)
 
 abbrev pub without : ℕ → List Held → List Held
 without name held = filter (λ h. not (h.name == name)) held
 
-abbrev pub noted : Run → Entry → Run
-noted r e = record r { log = r.log ++ e ∷ [] }
+-- the offset of the chosen gap of a carrier: best fit, as a scheduler chooses that has one carrier
+abbrev pub chosen : Content → ℕ → Option ℕ
+chosen c need = option_map (λ g. g.offset) (choice Bf need (gaps_of c))
 
--- the block is placed in the chosen gap, if there is one
-abbrev pub placing : Run → Content → ℕ → ℕ → Option Gap → Option Run
-placing r c name need None = None
-placing r c name need (Some g) = Some record {
-  carrier = Some (placed c g.offset need name);
-  held = record { name = name; offset = g.offset } ∷ r.held;
-  log = r.log ++ entry.Alloc name (record { carrier = c.number; offset = g.offset; size = taken_of (gap_at (gaps_of c) g.offset) need }) ∷ [];
+-- where a block of this need lies at the front of the gap at the offset
+abbrev pub place_in : Content → ℕ → ℕ → Place
+place_in c need offset = record { carrier = c.number; offset = offset; size = taken_of (gap_at (gaps_of c) offset) need }
+
+-- the run with a block at the front of the gap at the offset
+abbrev pub with_block : Run → Content → ℕ → ℕ → ℕ → Run
+with_block r c name need offset = record {
+  carrier = Some (placed c offset need name);
+  held = record { name = name; offset = offset } ∷ r.held;
+  log = r.log ++ entry.Alloc name (place_in c need offset) ∷ [];
 }
 
+-- the block is placed in the chosen gap, if there is one
+abbrev pub placing : Run → Content → ℕ → ℕ → Option ℕ → Option Run
+placing r c name need None = None
+placing r c name need (Some offset) = Some (with_block r c name need offset)
+
 abbrev pub allocating : Run → Content → ℕ → ℕ → Option Run
-allocating r c name need = placing r c name need (choice Bf need (gaps_of c))
+allocating r c name need = placing r c name need (chosen c need)
 
 -- what is left of the carrier without the block at the offset
 abbrev pub freed_in : Option Content → ℕ → Option Content
 freed_in None offset = None
 freed_in (Some c) offset = remains (released c offset) (released c offset).blocks
 
--- a held name's block is released, another name is skipped
-abbrev pub freeing : Run → ℕ → Option Held → Run
-freeing r name None = noted r (entry.FreeSkipped name)
-freeing r name (Some h) = record {
-  carrier = freed_in r.carrier h.offset;
+-- the block of a held name is released; another name is skipped
+abbrev pub freeing : Run → ℕ → Option ℕ → Run
+freeing r name None = record r { log = r.log ++ entry.FreeSkipped name ∷ [] }
+freeing r name (Some offset) = record {
+  carrier = freed_in r.carrier offset;
   held = without name r.held;
   log = r.log ++ entry.Free name ∷ [];
 }
@@ -78,7 +88,7 @@ freeing r name (Some h) = record {
 -- what one operation does; none where a block fits no gap of the one carrier
 abbrev pub step : Run → Op → Option Run
 step r (op.Alloc name bytes) = allocating r (employed r.carrier) name (need_of bytes)
-step r (op.Free name) = Some (freeing r name (held_at name r.held))
+step r (op.Free name) = Some (freeing r name (offset_of name r.held))
 step r o = None
 
 -- what the operations do, in order

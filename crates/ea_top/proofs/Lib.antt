@@ -1,0 +1,3 @@
+pub mod InRange
+pub mod Printing
+pub mod Steps

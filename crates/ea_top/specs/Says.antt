@@ -1,0 +1,31 @@
+-- What the code's lines and stages stand for.
+use Rattle.ea_model.specs.Lines.{Line, IsLineInRange}
+use Rattle.ea_model.specs.Lines as line
+use Rattle.ea_model.specs.Trace.{Stage}
+use Rattle.ea_model.specs.Trace as part
+use Rattle.ea_top.specs.declared.lines.Line as code
+use Rattle.ea_top.specs.declared.lines.Line.TheVariants.{Skipped, Letter, Scheduler, Alloc, Free, Schedule, End, Unreadable}
+use Rattle.ea_top.specs.declared.stages.Stage as stages
+use Rattle.ea_top.specs.declared.stages.Stage.TheVariants.{Start, Typed, Section, Turns, Ended}
+
+-- what a line says
+abbrev pub said : code.Line → Line
+said Skipped = line.Skipped
+said Letter = line.Letter
+said Scheduler = line.Scheduler
+said (Alloc name bytes) = line.Alloc name bytes
+said (Free name) = line.Free name
+said Schedule = line.Schedule
+said End = line.End
+said Unreadable = line.Unreadable
+
+abbrev pub stage_of : stages.Stage → Stage
+stage_of Start = part.Start
+stage_of Typed = part.Typed
+stage_of Section = part.Section
+stage_of Turns = part.Turns
+stage_of Ended = part.Ended
+
+-- the name and the request of a line are in their ranges
+abbrev pub IsNamed : code.Line → Type 0
+IsNamed l = IsLineInRange (said l)

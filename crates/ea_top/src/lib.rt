@@ -1,0 +1,17 @@
+//! The top call: words and input in, text and status out.
+#![tactic(auto)]
+
+mod faults;
+mod lines;
+mod outcome;
+mod reader;
+mod report;
+mod scheduler;
+mod seen;
+mod simulation;
+mod stages;
+mod top;
+mod words;
+
+pub use faults::Fault;
+pub use top::run;
