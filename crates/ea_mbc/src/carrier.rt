@@ -109,7 +109,8 @@ impl Mbc {
         ensures others { (at : ℕ) → at ≢ offset → block_at self.new.blocks at ≡ block_at self.old.blocks at }
     {
         let index = place_of(&self.blocks, offset);
-        Ok(self.blocks.remove(index).size)
+        let block = self.blocks.remove(index);
+        Ok(block.size)
     }
 
     /// The block that begins at `offset`, if one does.
