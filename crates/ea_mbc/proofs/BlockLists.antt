@@ -227,3 +227,8 @@ pub IsFront-gap : (c : Content) (offset need : ℕ) → Tiled 8 c.units c.blocks
 IsFront-gap c offset need t fits least =
     let some : 0 < gap_at (gaps_of c) offset = omega arith in
     record { behind_header = (gap_at-next 8 c.units offset c.blocks t some).behind; fresh = block_at-gap 8 c.units offset c.blocks t some }
+
+-- what is left where the block at the offset is removed by its place
+pub remove-without : (end offset n : ℕ) (bs cs searched : List BlockAt) → Tiled 8 end bs → n ≡ position_or_len (begins offset) searched → searched ≡ bs → cs ≡ remove bs n → cs ≡ filter (λ b. not (begins offset b)) bs
+remove-without end offset n bs cs searched t at same left =
+    left ∙ ap (remove bs) (at ∙ ap (position_or_len (begins offset)) same) ∙ remove-filter 8 end offset bs t

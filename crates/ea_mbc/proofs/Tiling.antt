@@ -1,11 +1,10 @@
 -- Blocks that lie one after another.
-use Rattle.std.proofs.Common.{◌≡◌, ℕ, ◌+◌, ◌-◌, ◌<◌, ◌≤◌, Bool, max, List, [], ◌∷◌, ◌++◌, length, get_or, drop, fold, filter, sym, ◌∙◌, ap, arith}
+use Rattle.std.proofs.Common.{◌≡◌, ℕ, ◌+◌, ◌-◌, ◌<◌, ◌≤◌, List, [], ◌∷◌, ◌++◌, length, get_or, drop, arith}
 use Rattle.std.proofs.lemmas.List.{drop_more}
-use Rattle.std.proofs.lemmas.List.Elements.{filter-append}
-use Rattle.std.proofs.lemmas.List.Sums.{fold-append, sum_by-cons, sum_by-append}
+use Rattle.std.proofs.lemmas.List.Sums.{sum_by-cons, sum_by-append}
 use Rattle.ea_model.specs.declared.carriers.BlockAt.{BlockAt}
 use Rattle.ea_model.specs.declared.carriers.Gap.{Gap}
-use Rattle.ea_model.specs.Content.{gap, gaps, largest, allocated, free_units, Tiled}
+use Rattle.ea_model.specs.Content.{gap, gaps, allocated, free_units, Tiled}
 
 -- the default of an index past the end
 abbrev pub no_block : BlockAt
@@ -20,20 +19,6 @@ Tiled-allocated at end (b ∷ bs) t =
 -- the next block of the rest, and the rest after it
 pub Tiled-next : (at end : ℕ) (bs : List BlockAt) (i : ℕ) → i < length bs → Tiled at end (drop i bs) → Tiled at end (get_or bs i no_block ∷ drop (i + 1) bs)
 Tiled-next at end bs i h t = rw (drop_more bs i no_block h) at t
-
-pub gaps-next : (at end : ℕ) (bs : List BlockAt) (i : ℕ) → i < length bs → gaps at end (drop i bs) ≡ gap at (get_or bs i no_block).offset ++ gaps ((get_or bs i no_block).offset + (get_or bs i no_block).size) end (drop (i + 1) bs)
-gaps-next at end bs i h = ap (λ xs. gaps at end xs) (drop_more bs i no_block h)
-
--- choosing among what passes, part by part
-pub fold-filter-append : {A B : Type 0} (f : B → A → B) (p : A → Bool) (a : B) (xs ys : List A) → fold f (fold f a (filter p xs)) (filter p ys) ≡ fold f a (filter p (xs ++ ys))
-fold-filter-append f p a xs ys = sym (ap (fold f a) (filter-append p xs ys) ∙ fold-append f a (filter p xs) (filter p ys))
-
-pub largest-append : (xs ys : List Gap) → largest (xs ++ ys) ≡ max (largest xs) (largest ys)
-largest-append [] ys = omega arith
-largest-append (x ∷ xs) ys = omega (arith, largest-append xs ys)
-
-pub largest-gap : (a b : ℕ) → largest (gap a b) ≡ b - a
-largest-gap a b = grind arith
 
 free_units-append : (xs ys : List Gap) → free_units (xs ++ ys) ≡ free_units xs + free_units ys
 free_units-append xs ys = sum_by-append (λ (g : Gap). g.size) xs ys

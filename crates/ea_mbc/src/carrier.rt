@@ -1,7 +1,7 @@
 //! The carrier and its calls.
-ghost use Rattle.std.specs.Prelude.{◌≡◌, ◌≢◌, ℕ, ◌+◌, ◌%◌, ◌<◌, ◌≤◌, ◌↔◌, List, [], All, Option, Some, None, IsTrue, IsSome, IsNone, IfSome, OnOk, OnErr, IfOk, option_map};
+ghost use Rattle.std.specs.Prelude.{◌≡◌, ◌≢◌, ℕ, ◌+◌, ◌%◌, ◌<◌, ◌≤◌, ◌↔◌, [], All, Some, None, IsTrue, IsSome, IsNone, IfSome, OnOk, OnErr, IfOk, option_map};
 ghost use Rattle.ea_model.specs.declared.carriers.Kind.TheVariants.{Multi};
-ghost use Rattle.ea_model.specs.Content.{Content, gaps_of, gap_at, block_at, named, taken_of, placed, released, allocated, largest, free_units};
+ghost use Rattle.ea_model.specs.Content.{gaps_of, gap_at, block_at, named, taken_of, placed, released, allocated, largest, free_units};
 ghost use Rattle.ea_model.specs.Choice.{before, fitting, choice, IsFirst};
 
 use crate::walks::{
@@ -109,7 +109,8 @@ impl Mbc {
         ensures others { (at : ℕ) → at ≢ offset → block_at self.new.blocks at ≡ block_at self.old.blocks at }
     {
         let index = place_of(&self.blocks, offset);
-        Ok(self.blocks.remove(index).size)
+        let block = self.blocks.remove(index);
+        Ok(block.size)
     }
 
     /// The block that begins at `offset`, if one does.

@@ -1,5 +1,5 @@
 //! Walks over the blocks of a carrier, by rising offset.
-ghost use Rattle.std.specs.Prelude.{◌≡◌, ◌+◌, ◌-◌, ◌<◌, ◌≤◌, nat_le, fold, filter, length, IsSome, OnOk, OnErr};
+ghost use Rattle.std.specs.Prelude.{◌≡◌, ◌<◌, ◌≤◌, fold, length, IsSome, OnOk, OnErr};
 ghost use Rattle.std.specs.List.{position_or_len};
 ghost use Rattle.ea_model.specs.Content.{gap, gaps, gap_at, allocated, largest, block_at, taken_of, inserted, Tiled};
 ghost use Rattle.ea_model.specs.Choice.{before, better, fitting, choice};
