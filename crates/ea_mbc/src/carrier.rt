@@ -146,6 +146,7 @@ impl Mbc {
     pub fn units(&self) -> u32
         ensures units { result ≡ self.now.units }
         ensures header { 8 ≤ result }
+        ensures kind { self.now.kind ≡ Multi }
     {
         self.units
     }

@@ -1,0 +1,106 @@
+//! A source and a sink that never fail.
+ghost use Rattle.std.specs.Prelude.{◌≡◌, ◌+◌, ◌<◌, min, length, Ok, Some, None, IfOk};
+ghost use Rattle.std.specs.Io.{ReadsAtMost, WritesAtMost};
+ghost use Rattle.std.specs.Io.KnownBytes.{ReadConsumes, WriteAppends};
+ghost use Rattle.ea_io.specs.Counts.{WriteCounts, last_count};
+
+use crate::ends::{Failed, Sink, Source};
+use crate::pieces::copy_front;
+use ea_model::List;
+use std::marker::Model;
+
+/// A source of given bytes that gives at each call all that there is room for. It never fails, and its
+/// count of faults is 0. Contracts see it as the bytes that are left.
+#[derive(Drop)]
+pub struct PlainSource {
+    bytes: List<u8>,
+    at: usize,
+}
+
+impl Model for PlainSource {
+    ghost use Rattle.std.specs.Prelude.{◌≤◌, ℕ, List, drop, length};
+
+    ghost Value = { List ℕ };
+
+    ghost view = { λ s. drop s.at s.bytes.items };
+
+    ghost invariant = { λ s. s.at ≤ length s.bytes.items };
+}
+
+impl PlainSource {
+    /// A source of these bytes. It takes no memory.
+    pub fn new(bytes: List<u8>) -> PlainSource
+        ensures { result ≡ bytes.items }
+    {
+        PlainSource { bytes, at: 0 }
+    }
+}
+
+impl Source for PlainSource {
+    ghost left = { λ s. Some s };
+
+    ghost faults = { λ _. 0 };
+
+    fn read(&mut self, buf: &mut [u8]) -> Result<usize, Failed>
+        ensures bound { ReadsAtMost result buf.new }
+        ensures bytes { ReadConsumes (Some self.old) (Some self.new) result buf.new }
+        ensures all { result ≡ Ok (min (length self.old) (length buf.old)) }
+    {
+        let bytes = self.bytes.as_slice();
+        let room = buf.len();
+        let count = copy_front(&bytes[self.at..], buf, room);
+        self.at += count;
+        Ok(count)
+    }
+}
+
+/// A sink that takes all bytes and keeps only their number. It never fails, and its count of faults
+/// is 0. Contracts see it as that number, which stays at 2^64-1 once it is there.
+#[derive(Drop)]
+pub struct LengthSink {
+    length: u64,
+}
+
+impl Model for LengthSink {
+    ghost use Rattle.std.specs.Prelude.{ℕ};
+
+    ghost Value = { ℕ };
+
+    ghost view = { λ s. s.length };
+}
+
+impl LengthSink {
+    /// A sink that has taken nothing. It takes no memory.
+    pub fn new() -> LengthSink
+        ensures { result ≡ 0 }
+    {
+        LengthSink { length: 0 }
+    }
+
+    /// How many bytes it took, or 2^64-1 where there were more.
+    pub fn len(&self) -> u64
+        ensures { result ≡ self.now }
+    {
+        self.length
+    }
+}
+
+impl Sink for LengthSink {
+    ghost taken = { λ _. None };
+
+    ghost size = { λ s. Some s };
+
+    ghost faults = { λ _. 0 };
+
+    fn write(&mut self, piece: &[u8]) -> Result<usize, Failed>
+        ensures bound { WritesAtMost result piece.now }
+        ensures some { IfOk result (λ n. 0 < length piece.now → 0 < n) }
+        ensures bytes { WriteAppends None None result piece.now }
+        ensures counted { WriteCounts (Some self.old) (Some self.new) result }
+        ensures all { result ≡ Ok (length piece.now) }
+        ensures length { self.new ≡ min (self.old + length piece.now) last_count }
+    {
+        self.length = self.length.saturating_add(piece.len() as u64);
+        Ok(piece.len())
+    }
+}
