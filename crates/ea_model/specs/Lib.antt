@@ -2,6 +2,7 @@ pub mod Lists
 pub mod Units
 pub mod Content
 pub mod Choice
+pub mod Region
 pub mod Words
 pub mod Lines
 pub mod Trace

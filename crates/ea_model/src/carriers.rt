@@ -60,6 +60,14 @@ pub struct Place {
     pub size: u32,
 }
 
+/// Pages that lie one behind another: a carrier's segment, or a run of free pages.
+#[derive(Debug, Clone, Copy, PartialEq, Eq)]
+pub struct Segment {
+    /// Its first page.
+    pub start: u32,
+    pub pages: u32,
+}
+
 /// The kinds of carriers.
 #[derive(Debug, Clone, Copy, PartialEq, Eq)]
 pub enum Kind {

@@ -11,7 +11,7 @@ pub mod words;
 pub mod worked;
 
 pub use carriers::{
-    Block, BlockAt, Carried, CarrierLine, Gap, Inner, Kind, Place, Spot, Standing, Totals,
+    Block, BlockAt, Carried, CarrierLine, Gap, Inner, Kind, Place, Segment, Spot, Standing, Totals,
 };
 pub use entries::{Entry, NoCarrier, Report, Triple};
 pub use lists::{List, OutOfMemory};
