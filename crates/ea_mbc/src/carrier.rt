@@ -29,7 +29,15 @@ impl Model for Mbc {
 
     ghost Value = { Content };
 
-    ghost view = { λ m. record { number = m.number; owner = m.owner; base = m.base; birth = m.birth; units = m.units; kind = Multi; blocks = m.blocks.items } };
+    ghost view = { λ m. record {
+      number = m.number;
+      owner = m.owner;
+      base = m.base;
+      birth = m.birth;
+      units = m.units;
+      kind = Multi;
+      blocks = m.blocks.items;
+    } };
 
     ghost invariant = { λ m. Tiled 8 m.units m.blocks.items };
 }
@@ -52,7 +60,15 @@ impl Mbc {
     ) -> Result<Mbc, OutOfMemory>
         requires some { 0 < units }
         requires pages { units % 512 ≡ 0 }
-        ensures { IfOk result (λ m. m ≡ record { number = number; owner = owner; base = base; birth = birth; units = units; kind = Multi; blocks = [] }) }
+        ensures { IfOk result (λ m. m ≡ record {
+          number = number;
+          owner = owner;
+          base = base;
+          birth = birth;
+          units = units;
+          kind = Multi;
+          blocks = [];
+        }) }
     {
         Ok(Mbc {
             number,
@@ -69,7 +85,10 @@ impl Mbc {
         ensures chosen { result ≡ option_map (λ g. g.offset) (choice inner need (gaps_of self.now)) }
         ensures none { IsNone result ↔ All (λ g. g.size < need) (gaps_of self.now) }
         ensures fits { IfSome result (λ offset. need ≤ gap_at (gaps_of self.now) offset) }
-        ensures first { IfSome (choice inner need (gaps_of self.now)) (IsFirst (before inner) (fitting need (gaps_of self.now))) }
+
+        // The chosen gap is one that fits, and none that fits comes before it.
+        ensures first { IfSome (choice inner need (gaps_of self.now))
+            (IsFirst (before inner) (fitting need (gaps_of self.now))) }
     {
         best_gap(inner, need, self.units, &self.blocks).map(|gap| gap.offset)
     }
@@ -87,8 +106,10 @@ impl Mbc {
         // No block began at the offset, one begins there now, and the others are as before.
         ensures behind_header { 8 ≤ offset }
         ensures fresh { block_at self.old.blocks offset ≡ None }
-        ensures begins { IfOk result (λ size. block_at self.new.blocks offset ≡ Some (record { name = name; offset = offset; size = size })) }
-        ensures others { (at : ℕ) → at ≢ offset → block_at self.new.blocks at ≡ block_at self.old.blocks at }
+        ensures begins { IfOk result (λ size.
+            block_at self.new.blocks offset ≡ Some (record { name = name; offset = offset; size = size })) }
+        ensures others { (at : ℕ) → at ≢ offset →
+            block_at self.new.blocks at ≡ block_at self.old.blocks at }
     {
         let gap = gap_from(self.units, &self.blocks, offset);
         let size = taken(gap, need);
@@ -100,13 +121,15 @@ impl Mbc {
     /// no memory, nothing changes.
     pub fn release(&mut self, offset: u32) -> Result<u32, OutOfMemory>
         requires { IsSome (block_at self.old.blocks offset) }
-        ensures size { IfOk result (λ size. option_map (λ b. b.size) (block_at self.old.blocks offset) ≡ Some size) }
+        ensures size { IfOk result (λ size.
+            option_map (λ b. b.size) (block_at self.old.blocks offset) ≡ Some size) }
         ensures ok { OnOk result (self.new ≡ released self.old offset) }
         ensures err { OnErr result (self.new ≡ self.old) }
 
         // No block begins at the offset now, and the others are as before.
         ensures gone { OnOk result (block_at self.new.blocks offset ≡ None) }
-        ensures others { (at : ℕ) → at ≢ offset → block_at self.new.blocks at ≡ block_at self.old.blocks at }
+        ensures others { (at : ℕ) → at ≢ offset →
+            block_at self.new.blocks at ≡ block_at self.old.blocks at }
     {
         let index = place_of(&self.blocks, offset);
         let block = self.blocks.remove(index);

@@ -54,8 +54,6 @@ fn released_neighbours_are_one_gap(rt: HostRuntime) -> Result<(), Fail> {
 fn each_order_takes_its_own_gap(rt: HostRuntime) -> Result<(), Fail> {
     let mut carrier = Mbc::new(rt.alloc(), 512, 0, 1, 1, 1)?;
     for (name, need) in [(1, 20), (2, 6), (3, 14), (4, 6), (5, 14), (6, 6)] {
-        prove!(need % 2 == 0);
-        prove!(need >= 6);
         put(&mut carrier, Inner::Aoff, need, name)?;
     }
     for offset in [8, 34, 54] {
