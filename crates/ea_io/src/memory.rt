@@ -47,13 +47,15 @@ impl MemSource {
     /// It takes no memory.
     pub fn new(bytes: List<u8>, piece: usize, failing: List<u32>) -> MemSource
         requires { 1 ≤ piece }
-        ensures { result ≡ record {
+        ensures made { result ≡ record {
           left = bytes.items;
           piece = piece;
           failing = failing.items;
           calls = 0;
           faults = 0;
         } }
+        ensures left { ⟦<MemSource as Source>⟧.left result ≡ Some bytes.items }
+        ensures faults { ⟦<MemSource as Source>⟧.faults result ≡ 0 }
     {
         MemSource {
             bytes,
@@ -140,7 +142,7 @@ impl MemSink {
         failing: List<u32>,
     ) -> Result<MemSink, OutOfMemory>
         requires { 1 ≤ piece }
-        ensures { IfOk result (λ s. s ≡ record {
+        ensures made { IfOk result (λ s. s ≡ record {
           taken = [];
           room = room;
           piece = piece;
@@ -148,6 +150,8 @@ impl MemSink {
           calls = 0;
           faults = 0;
         }) }
+        ensures taken { IfOk result (λ s. ⟦<MemSink as Sink>⟧.taken s ≡ Some []) }
+        ensures faults { IfOk result (λ s. ⟦<MemSink as Sink>⟧.faults s ≡ 0) }
     {
         let Ok(taken) = Vec::with_capacity(alloc, room) else {
             return Err(OutOfMemory);
@@ -164,7 +168,8 @@ impl MemSink {
 
     /// The bytes that it took, in order.
     pub fn taken(&self) -> &[u8]
-        ensures { result.now ≡ self.now.taken }
+        ensures bytes { result.now ≡ self.now.taken }
+        ensures taken { ⟦<MemSink as Sink>⟧.taken self.now ≡ Some result.now }
     {
         self.taken.as_slice()
     }

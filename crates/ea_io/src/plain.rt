@@ -30,7 +30,9 @@ impl Model for PlainSource {
 impl PlainSource {
     /// A source of these bytes. It takes no memory.
     pub fn new(bytes: List<u8>) -> PlainSource
-        ensures { result ≡ bytes.items }
+        ensures bytes { result ≡ bytes.items }
+        ensures left { ⟦<PlainSource as Source>⟧.left result ≡ Some bytes.items }
+        ensures faults { ⟦<PlainSource as Source>⟧.faults result ≡ 0 }
     {
         PlainSource { bytes, at: 0 }
     }
@@ -72,14 +74,17 @@ impl Model for LengthSink {
 impl LengthSink {
     /// A sink that has taken nothing. It takes no memory.
     pub fn new() -> LengthSink
-        ensures { result ≡ 0 }
+        ensures length { result ≡ 0 }
+        ensures size { ⟦<LengthSink as Sink>⟧.size result ≡ Some 0 }
+        ensures faults { ⟦<LengthSink as Sink>⟧.faults result ≡ 0 }
     {
         LengthSink { length: 0 }
     }
 
     /// How many bytes it took, or 2^64-1 where there were more.
     pub fn len(&self) -> u64
-        ensures { result ≡ self.now }
+        ensures length { result ≡ self.now }
+        ensures size { ⟦<LengthSink as Sink>⟧.size self.now ≡ Some result }
     {
         self.length
     }

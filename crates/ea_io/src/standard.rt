@@ -22,7 +22,7 @@ impl<R: Read> StdSource<R> {
     /// A source of what the reader gives from here on, with no faults yet.
     pub fn new(reader: R) -> StdSource<R>
         ensures reader { reader_of result ≡ reader }
-        ensures faults { read_faults result ≡ 0 }
+        ensures faults { ⟦<StdSource<R> as Source>⟧.faults result ≡ 0 }
     {
         StdSource { reader, faults: 0 }
     }
@@ -72,7 +72,7 @@ impl<W: Write> StdSink<W> {
     /// A sink that hands its bytes to the writer, with no faults yet.
     pub fn new(writer: W) -> StdSink<W>
         ensures writer { writer_of result ≡ writer }
-        ensures faults { write_faults result ≡ 0 }
+        ensures faults { ⟦<StdSink<W> as Sink>⟧.faults result ≡ 0 }
     {
         StdSink { writer, faults: 0 }
     }
