@@ -3,9 +3,14 @@ pub mod Units
 pub mod Content
 pub mod Choice
 pub mod Region
+pub mod Settings
+pub mod Strategies
+pub mod Instance
+pub mod Flags
 pub mod Words
 pub mod Lines
 pub mod Trace
 pub mod Run
 pub mod Text
 pub mod Faultline
+pub mod Worked

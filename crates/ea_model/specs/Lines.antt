@@ -1,5 +1,5 @@
 -- What one line of a trace says, by itself.
-use Rattle.std.specs.Prelude.{ℕ, ◌<◌, ◌≤◌, Bool, true, false, if◌then◌else◌, ◌==◌, List, [], ◌∷◌, Option, Some, None, codes, bytes_eq}
+use Rattle.std.specs.Prelude.{ℕ, ◌≤◌, Bool, true, false, if◌then◌else◌, ◌==◌, List, [], ◌∷◌, Option, Some, None, codes, bytes_eq}
 use Rattle.ea_model.specs.Words.{words, number}
 
 -- everything that is no line of the language is Unreadable
@@ -17,9 +17,9 @@ pub data Line : Type 0 where
 abbrev pub name_in : List ℕ → Option ℕ
 name_in word = number 1 262144 word
 
--- the bytes of a request, below 2 ^ 30
+-- the bytes of a request; one above 512 kilobytes less the header's 8 bytes has a carrier of its own, which isn't built
 abbrev pub bytes_in : List ℕ → Option ℕ
-bytes_in word = number 0 1073741823 word
+bytes_in word = number 0 524280 word
 
 abbrev pub alloc_line : Option ℕ → Option ℕ → Line
 alloc_line (Some name) (Some bytes) = Alloc name bytes
@@ -101,6 +101,6 @@ line_of text = line_of_words (words text)
 
 -- the name and the request of a line are in their ranges
 abbrev pub IsLineInRange : Line → Type 0
-IsLineInRange (Alloc name bytes) = (name ≤ 262144) × (bytes < 1073741824)
+IsLineInRange (Alloc name bytes) = (name ≤ 262144) × (bytes ≤ 524280)
 IsLineInRange (Free name) = name ≤ 262144
 IsLineInRange l = Unit {0}

@@ -1,101 +1,88 @@
 -- A run: what the operations do, one after another.
-use Rattle.std.specs.Prelude.{ℕ, ◌+◌, ◌-◌, not, ◌==◌, List, [], ◌∷◌, ◌++◌, Option, Some, None, filter, find, option_map}
-use Rattle.ea_model.specs.declared.carriers.Kind.TheVariants.{Multi}
-use Rattle.ea_model.specs.declared.carriers.Inner.TheVariants.{Bf}
-use Rattle.ea_model.specs.declared.carriers.Place.{Place}
-use Rattle.ea_model.specs.declared.carriers.BlockAt.{BlockAt}
+use Rattle.std.specs.Prelude.{ℕ, not, ◌==◌, List, [], ◌∷◌, ◌++◌, Option, Some, None, Result, Ok, Err, filter, find, fold, if◌then◌else◌, option_map}
+use Rattle.ea_model.specs.declared.carriers.Spot.{Spot}
+use Rattle.ea_model.specs.declared.carriers.CarrierPlan.{CarrierPlan}
 use Rattle.ea_model.specs.declared.operations.Op.{Op}
 use Rattle.ea_model.specs.declared.operations.Op.TheVariants as op
+use Rattle.ea_model.specs.declared.entries.NoCarrier.{NoCarrier}
 use Rattle.ea_model.specs.declared.entries.Entry.{Entry}
 use Rattle.ea_model.specs.declared.entries.Entry.TheVariants as entry
 use Rattle.ea_model.specs.Units.{need_of}
-use Rattle.ea_model.specs.Content.{Content, gaps_of, gap_at, placed, released, taken_of}
-use Rattle.ea_model.specs.Choice.{choice}
+use Rattle.ea_model.specs.Content.{Content}
+use Rattle.ea_model.specs.Instance.{Instance, plan, creating, chosen_spot, place_at, placing_at, releasing_at, clearing, content_of, is_done}
 
--- a name that the scheduler holds, and the offset of its block
+-- a name that the scheduler holds, and where its block begins
 pub record Held : Type 0 where
   pub name : ℕ
-  pub offset : ℕ
+  pub spot : Spot
 
--- a scheduler: its carrier, if it is there, the names that it holds, and its log
+-- a scheduler: its instance, the names that it holds, and its log
 pub record Run : Type 0 where
-  pub carrier : Option Content
+  pub instance : Instance
   pub held : List Held
   pub log : List Entry
 
-abbrev pub start : Run
-start = record { carrier = None; held = []; log = [] }
+-- before the first operation
+abbrev pub start : Instance → Run
+start i = record { instance = i; held = []; log = [] }
 
--- carrier 1 as it is created: 64 pages from page 0 on
-abbrev pub fresh : Content
-fresh = record { number = 1; owner = 1; base = 0; birth = 1; units = 32768; kind = Multi; blocks = [] }
-
--- the carrier, created where it isn't there
-abbrev pub employed : Option Content → Content
-employed None = fresh
-employed (Some c) = c
-
--- what stays of a carrier: one without blocks is deallocated
-abbrev pub remains : Content → List BlockAt → Option Content
-remains c [] = None
-remains c (b ∷ bs) = Some c
-
--- the offset of the name's block, if the name is held
-abbrev pub offset_of : ℕ → List Held → Option ℕ
-offset_of name held = option_map (λ h. h.offset) (find (λ h. h.name == name) held)
+-- where the name's block begins, if the name is held
+abbrev pub spot_held : ℕ → List Held → Option Spot
+spot_held name held = option_map (λ h. h.spot) (find (λ h. h.name == name) held)
 
 abbrev pub without : ℕ → List Held → List Held
 without name held = filter (λ h. not (h.name == name)) held
 
--- the offset of the chosen gap of a carrier: best fit, as a scheduler chooses that has one carrier
-abbrev pub chosen : Content → ℕ → Option ℕ
-chosen c need = option_map (λ g. g.offset) (choice Bf need (gaps_of c))
-
--- where a block of this need lies at the front of the gap at the offset
-abbrev pub place_in : Content → ℕ → ℕ → Place
-place_in c need offset = record { carrier = c.number; offset = offset; size = taken_of (gap_at (gaps_of c) offset) need }
-
--- the run with a block at the front of the gap at the offset
-abbrev pub with_block : Run → Content → ℕ → ℕ → ℕ → Run
-with_block r c name need offset = record {
-  carrier = Some (placed c offset need name);
-  held = record { name = name; offset = offset } ∷ r.held;
-  log = r.log ++ entry.Alloc name (place_in c need offset) ∷ [];
+-- a block is placed at a spot of the instance
+abbrev pub with_block : Run → Instance → ℕ → ℕ → Spot → Run
+with_block r i name need spot = record {
+  instance = placing_at i spot need name;
+  held = record { name = name; spot = spot } ∷ r.held;
+  log = r.log ++ entry.Alloc name (place_at i spot need) ∷ [];
 }
 
--- the block is placed in the chosen gap, if there is one
-abbrev pub placing : Run → Content → ℕ → ℕ → Option ℕ → Option Run
-placing r c name need None = None
-placing r c name need (Some offset) = Some (with_block r c name need offset)
+-- a block in a carrier that was created for it; it has a spot there
+abbrev pub in_new_carrier : Run → Instance → ℕ → ℕ → Option Spot → Run
+in_new_carrier r i name need None = r
+in_new_carrier r i name need (Some spot) = with_block r i name need spot
 
-abbrev pub allocating : Run → Content → ℕ → ℕ → Option Run
-allocating r c name need = placing r c name need (chosen c need)
+-- a carrier is created as planned, or the allocation fails; nothing was looked at outside the instance
+abbrev pub with_carrier : Run → ℕ → ℕ → Result CarrierPlan NoCarrier → Run
+with_carrier r name need (Ok p) = in_new_carrier r (creating r.instance p) name need (chosen_spot (creating r.instance p) need)
+with_carrier r name need (Err why) = record r { log = r.log ++ entry.AllocFail name need 0 why ∷ [] }
 
--- what is left of the carrier without the block at the offset
-abbrev pub freed_in : Option Content → ℕ → Option Content
-freed_in None offset = None
-freed_in (Some c) offset = remains (released c offset) (released c offset).blocks
+-- the block is placed in the chosen gap, or a carrier is planned for it
+abbrev pub allocating : Run → ℕ → ℕ → Option Spot → Run
+allocating r name need None = with_carrier r name need (plan r.instance need)
+allocating r name need (Some spot) = with_block r r.instance name need spot
+
+-- a multiblock carrier without blocks is deallocated
+abbrev pub tidied : Instance → ℕ → Option Content → Instance
+tidied i number None = i
+tidied i number (Some c) = if is_done c then clearing i number else i
+
+abbrev pub freed_at : Instance → Spot → Instance
+freed_at i spot = tidied (releasing_at i spot) spot.carrier (content_of (releasing_at i spot).contents spot.carrier)
 
 -- the block of a held name is released; another name is skipped
-abbrev pub freeing : Run → ℕ → Option ℕ → Run
+abbrev pub freeing : Run → ℕ → Option Spot → Run
 freeing r name None = record r { log = r.log ++ entry.FreeSkipped name ∷ [] }
-freeing r name (Some offset) = record {
-  carrier = freed_in r.carrier offset;
+freeing r name (Some spot) = record {
+  instance = freed_at r.instance spot;
   held = without name r.held;
   log = r.log ++ entry.Free name ∷ [];
 }
 
--- what one operation does; none where a block fits no gap of the one carrier
-abbrev pub step : Run → Op → Option Run
-step r (op.Alloc name bytes) = allocating r (employed r.carrier) name (need_of bytes)
-step r (op.Free name) = Some (freeing r name (offset_of name r.held))
-step r o = None
+-- what one operation does; the others are no lines of a trace
+abbrev pub step : Run → Op → Run
+step r (op.Alloc name bytes) = allocating r name (need_of bytes) (chosen_spot r.instance (need_of bytes))
+step r (op.Free name) = freeing r name (spot_held name r.held)
+step r (op.Realloc old fresh bytes) = r
+step r (op.Give name to) = r
+step r (op.Take name tries) = r
+step r op.Info = r
+step r op.Idle = r
 
 -- what the operations do, in order
-abbrev pub steps : Option Run → List Op → Option Run
-steps r [] = r
-steps None (o ∷ ops) = None
-steps (Some r) (o ∷ ops) = steps (step r o) ops
-
-abbrev pub run : List Op → Option Run
-run ops = steps (Some start) ops
+abbrev pub run : Instance → List Op → Run
+run i ops = fold step (start i) ops

@@ -1,5 +1,5 @@
 -- The output text of a run.
-use Rattle.std.specs.Prelude.{ℕ, ◌+◌, ◌/◌, List, [], ◌∷◌, ◌++◌, Option, Some, None, codes, decimal}
+use Rattle.std.specs.Prelude.{ℕ, ◌+◌, ◌*◌, ◌/◌, length, map, sum_by, List, [], ◌∷◌, ◌++◌, Option, Some, None, codes, decimal}
 use Rattle.std.specs.List.{flat_map}
 use Rattle.std.specs.Option.{option_map}
 use Rattle.ea_model.specs.declared.carriers.Place.{Place}
@@ -9,7 +9,6 @@ use Rattle.ea_model.specs.declared.carriers.Standing.{Standing}
 use Rattle.ea_model.specs.declared.carriers.Standing.TheVariants as standing
 use Rattle.ea_model.specs.declared.carriers.CarrierLine.{CarrierLine}
 use Rattle.ea_model.specs.declared.carriers.Totals.{Totals}
-use Rattle.ea_model.specs.declared.operations.Op.{Op}
 use Rattle.ea_model.specs.declared.entries.NoCarrier.{NoCarrier}
 use Rattle.ea_model.specs.declared.entries.NoCarrier.TheVariants as cause
 use Rattle.ea_model.specs.declared.entries.Triple.{Triple}
@@ -18,6 +17,9 @@ use Rattle.ea_model.specs.declared.entries.Entry.{Entry}
 use Rattle.ea_model.specs.declared.entries.Entry.TheVariants as entry
 use Rattle.ea_model.specs.Content.{Content, gaps_of, allocated, largest, free_units}
 use Rattle.ea_model.specs.Trace.{trace_of}
+use Rattle.ea_model.specs.declared.settings.Config.{Config}
+use Rattle.ea_model.specs.Instance.{Instance, new_instance}
+use Rattle.ea_model.specs.Flags.{region_pages}
 use Rattle.ea_model.specs.Run.{Run, run}
 
 -- a line: a first word, each further word behind a space, and a line feed
@@ -87,22 +89,17 @@ text log carriers totals = line (codes "scheduler") (decimal 1 ∷ []) ++ flat_m
 abbrev pub carrier_line : Content → CarrierLine
 carrier_line c = record { number = c.number; kind = c.kind; owner = c.owner; word = standing.Employed; employer = c.owner; base = c.base; pages = c.units / 512; allocated = allocated c.blocks; largest = largest (gaps_of c) }
 
-abbrev pub carrier_lines : Option Content → List CarrierLine
-carrier_lines None = []
-carrier_lines (Some c) = carrier_line c ∷ []
-
--- every block is a held name's, so all allocated units are live
-abbrev pub totals : Option Content → Totals
-totals None = record { carriers = 0; units = 0; live = 0; queued = 0; free = 0; header = 0 }
-totals (Some c) = record { carriers = 1; units = c.units; live = allocated c.blocks; queued = 0; free = free_units (gaps_of c); header = 8 }
+-- every block is a held name's, so all allocated units are live; a carrier's header has 8 units
+abbrev pub totals : List Content → Totals
+totals cs = record { carriers = length cs; units = sum_by (λ c. c.units) cs; live = sum_by (λ c. allocated c.blocks) cs; queued = 0; free = sum_by (λ c. free_units (gaps_of c)) cs; header = 8 * length cs }
 
 abbrev pub run_text : Run → List ℕ
-run_text r = text r.log (carrier_lines r.carrier) (totals r.carrier)
+run_text r = text r.log (map carrier_line r.instance.contents) (totals r.instance.contents)
 
-abbrev pub run_of : Option (List Op) → Option Run
-run_of None = None
-run_of (Some ops) = run ops
+-- instance 1 as the configuration makes it for allocator H
+abbrev pub instance_of : Config → Instance
+instance_of c = new_instance c.h 1 0 (region_pages c)
 
--- the output for an input; none where it is no trace, or a block of it fits no gap
-abbrev pub output : List ℕ → Option (List ℕ)
-output input = option_map run_text (run_of (trace_of input))
+-- the output for an input under a configuration; none where it is no trace
+abbrev pub output : Config → List ℕ → Option (List ℕ)
+output c input = option_map (λ ops. run_text (run (instance_of c) ops)) (trace_of input)

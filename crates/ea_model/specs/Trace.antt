@@ -1,5 +1,5 @@
 -- The traces: which lines may follow which, and the operations that they hold. Earlier lines are lists with the newest line first.
-use Rattle.std.specs.Prelude.{ℕ, ◌+◌, ◌<◌, ◌≤◌, Bool, true, false, ◌&&◌, ◌||◌, not, nat_le, ◌==◌, List, [], ◌∷◌, ◌++◌, length, map, Option, Some, None}
+use Rattle.std.specs.Prelude.{ℕ, ◌≤◌, Bool, true, false, ◌&&◌, ◌||◌, not, nat_le, ◌==◌, List, [], ◌∷◌, ◌++◌, length, map, Option, Some, None}
 use Rattle.ea_model.specs.Words.{lines}
 use Rattle.ea_model.specs.Lines.{Line, Skipped, Letter, Scheduler, Alloc, Free, Schedule, End, Unreadable, line_of}
 use Rattle.ea_model.specs.declared.operations.Op.{Op}
@@ -103,6 +103,6 @@ bytes_of (op.Alloc name bytes) = bytes
 bytes_of (op.Realloc old fresh bytes) = bytes
 bytes_of o = 0
 
--- names are at most 262144, and requests below 2 ^ 30
+-- names are at most 262144, and requests at most 524280 bytes
 abbrev pub InRange : Op → Type 0
-InRange o = (name_of o ≤ 262144) × (bytes_of o < 1073741824)
+InRange o = (name_of o ≤ 262144) × (bytes_of o ≤ 524280)

@@ -127,6 +127,45 @@ pub struct Totals {
     pub header: u64,
 }
 
+/// A gap of a carrier, as strategies compare it with gaps of other carriers.
+#[derive(Debug, Clone, Copy, PartialEq, Eq)]
+pub struct Candidate {
+    /// The carrier's number.
+    pub number: u32,
+    /// The carrier's first page.
+    pub base: u32,
+    /// The carrier's number in the order of creation.
+    pub birth: u32,
+    /// The gap's first unit in the carrier.
+    pub offset: u32,
+    /// The gap's first unit in the super carrier.
+    pub address: u32,
+    /// The gap's units.
+    pub size: u32,
+}
+
+/// A carrier that is to be created.
+#[derive(Debug, Clone, Copy, PartialEq, Eq)]
+pub struct CarrierPlan {
+    pub number: u32,
+    /// Its first page.
+    pub base: u32,
+    pub pages: u32,
+    /// Its number in the order of creation.
+    pub birth: u32,
+    /// Whether it is a singleblock carrier.
+    pub single: bool,
+}
+
+/// How many blocks and carriers an instance has, and their units.
+#[derive(Debug, Clone, Copy, PartialEq, Eq)]
+pub struct Figures {
+    pub blocks: u64,
+    pub blocks_size: u64,
+    pub carriers: u64,
+    pub carriers_size: u64,
+}
+
 /// A value that stands for the content of a multiblock carrier.
 pub trait Carried {
     ghost use Rattle.ea_model.specs.Content.{Content};

@@ -6,16 +6,19 @@ pub mod carriers;
 pub mod entries;
 pub mod lists;
 pub mod operations;
+pub mod settings;
 pub mod units;
 pub mod words;
 pub mod worked;
 
 pub use carriers::{
-    Block, BlockAt, Carried, CarrierLine, Gap, Inner, Kind, Place, Segment, Spot, Standing, Totals,
+    Block, BlockAt, Candidate, Carried, CarrierLine, CarrierPlan, Figures, Gap, Inner, Kind, Place,
+    Segment, Spot, Standing, Totals,
 };
 pub use entries::{Entry, NoCarrier, Report, Triple};
 pub use lists::{List, OutOfMemory};
 pub use operations::Op;
+pub use settings::{Config, Letter, Settings, Strategy};
 pub use units::{
     HEADER_UNITS, MAX_INPUT, MAX_NAME, MAX_OPS, MAX_SCHEDULERS, MIN_BLOCK, NUMBERS, PAGE_UNITS,
     SEARCH_LIMIT, UNIT_BYTES, need,

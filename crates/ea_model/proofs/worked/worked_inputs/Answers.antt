@@ -18,6 +18,22 @@ pub returns-clause-joined_gap : goal.returns-clause-joined_gap
 unfolding digits
 returns-clause-joined_gap c = refl
 
+pub returns-clause-exactly_threshold : goal.returns-clause-exactly_threshold
+unfolding digits
+returns-clause-exactly_threshold c = refl
+
+pub returns-clause-space_refused : goal.returns-clause-space_refused
+unfolding digits
+returns-clause-space_refused c = refl
+
+pub returns-clause-main_carrier : goal.returns-clause-main_carrier
+unfolding digits
+returns-clause-main_carrier c = refl
+
+pub returns-clause-carrier_growth : goal.returns-clause-carrier_growth
+unfolding digits
+returns-clause-carrier_growth c = refl
+
 pub returns-clause-spaces_and_comments : goal.returns-clause-spaces_and_comments
 unfolding digits
 returns-clause-spaces_and_comments c = refl

@@ -1,0 +1,102 @@
+-- The flags that are built so far, and what they set.
+use Rattle.std.specs.Prelude.{ℕ, ◌+◌, ◌*◌, ◌/◌, Bool, true, false, if◌then◌else◌, nat_lt, List, [], ◌∷◌, length, Option, Some, None, Result, Ok, Err, codes, bytes_eq}
+use Rattle.ea_model.specs.declared.settings.Strategy.TheVariants.{AoffCbf}
+use Rattle.ea_model.specs.declared.settings.Settings.{Settings}
+use Rattle.ea_model.specs.declared.settings.Config.{Config}
+use Rattle.ea_model.specs.Words.{number}
+use Rattle.ea_model.specs.Instance.{pages_for}
+
+-- a flag with its value
+pub data Setting : Type 0 where
+  SuperCarrier : (megabytes : ℕ) → Setting
+  MainCarrier : (kilobytes : ℕ) → Setting
+  NoMigration : Setting
+
+-- why words are refused: the first word that is wrong at its place, or a main carrier larger than the region
+pub data Refusal : Type 0 where
+  Unsupported : (word : ℕ) → Refusal
+  TooSmall : Refusal
+
+abbrev pub super_carrier : Option ℕ → Option Setting
+super_carrier None = None
+super_carrier (Some n) = Some (SuperCarrier n)
+
+abbrev pub main_carrier : Option ℕ → Option Setting
+main_carrier None = None
+main_carrier (Some n) = Some (MainCarrier n)
+
+abbrev pub no_migration : List ℕ → Option Setting
+no_migration value = if bytes_eq value (codes "0") then Some NoMigration else None
+
+abbrev pub is_flag : List ℕ → Bool
+is_flag word = if bytes_eq word (codes "+MMscs") then true else (if bytes_eq word (codes "+MHmmbcs") then true else bytes_eq word (codes "+MHacul"))
+
+-- what a flag with this value sets, if the value is one of its own
+abbrev pub setting : List ℕ → List ℕ → Option Setting
+setting flag value =
+    if bytes_eq flag (codes "+MMscs") then super_carrier (number 1 512 value) else (
+    if bytes_eq flag (codes "+MHmmbcs") then main_carrier (number 0 524288 value) else no_migration value)
+
+-- what has been set: the super carrier in megabytes, the main carrier in kilobytes, and whether migration was turned off
+pub record Chosen : Type 0 where
+  pub megabytes : ℕ
+  pub kilobytes : ℕ
+  pub off : Bool
+
+-- of two settings of one flag the later one holds
+abbrev pub set_by : Chosen → Setting → Chosen
+set_by c (SuperCarrier n) = record c { megabytes = n }
+set_by c (MainCarrier n) = record c { kilobytes = n }
+set_by c NoMigration = record c { off = true }
+
+-- a super carrier of 64 megabytes and no main carrier, where no flag says otherwise
+abbrev pub defaults : Chosen
+defaults = record { megabytes = 64; kilobytes = 0; off = false }
+
+-- what is read behind so many words: at the end migration has to be off
+abbrev pub at_last : ℕ → Chosen → Result Chosen Refusal
+at_last n c = if c.off then Ok c else Err (Unsupported (n + 1))
+
+abbrev pub then_set : ℕ → Option Setting → (Setting → Result Chosen Refusal) → Result Chosen Refusal
+then_set word None go_on = Err (Unsupported word)
+then_set word (Some s) go_on = go_on s
+
+-- what the words behind the first n set; a flag and its value are a pair
+abbrev pub pairs_from : ℕ → Chosen → List (List ℕ) → Result Chosen Refusal
+pairs_from n c [] = at_last n c
+pairs_from n c (flag ∷ []) = Err (Unsupported (if is_flag flag then n + 2 else n + 1))
+pairs_from n c (flag ∷ value ∷ words) = if is_flag flag then then_set (n + 2) (setting flag value) (λ s. pairs_from (n + 2) (set_by c s) words) else Err (Unsupported (n + 1))
+
+-- a kilobyte has 128 units
+abbrev pub default_settings : Settings
+default_settings = record { strategy = AoffCbf; acul = 60; acfml = 0; sbct = 65536; smbcs = 32768; lmbcs = 655360; mbcgs = 10; mmbcs = 0; mbsd = 3; rsbcmt = 80; rmbcmt = 50; rsbcst = 20; asbcst = 131072; ramv = false }
+
+abbrev pub config_of : Chosen → Config
+config_of c = record {
+  schedulers = 1;
+  scs = c.megabytes;
+  b = default_settings;
+  d = default_settings;
+  e = default_settings;
+  h = record default_settings { acul = 0; mmbcs = 128 * c.kilobytes };
+  l = default_settings;
+  r = default_settings;
+  s = default_settings;
+  t = record default_settings { acul = 0 };
+}
+
+-- the pages of the region of the one instance; a megabyte has 256
+abbrev pub region_pages : Config → ℕ
+region_pages c = c.scs * 256 / c.schedulers
+
+-- the main carrier fits the region
+abbrev pub fitting_config : Config → Result Config Refusal
+fitting_config c = if nat_lt (region_pages c) (pages_for c.h.mmbcs) then Err TooSmall else Ok c
+
+abbrev pub configured : Result Chosen Refusal → Result Config Refusal
+configured (Ok c) = fitting_config (config_of c)
+configured (Err e) = Err e
+
+-- the configuration that the words ask for, or their first refusal
+abbrev pub flags : List (List ℕ) → Result Config Refusal
+flags words = configured (pairs_from 0 defaults words)

@@ -1,0 +1,166 @@
+-- An allocator instance: the carriers that it employs, and the carrier that it would create next.
+use Rattle.std.specs.Prelude.{◌≡◌, ℕ, zero, suc, ◌+◌, ◌-◌, ◌*◌, ◌/◌, max, Bool, true, false, not, ◌&&◌, ◌||◌, if◌then◌else◌, nat_lt, nat_le, ◌==◌, List, [], ◌∷◌, ◌++◌, Option, Some, None, Result, Ok, Err, filter, find, map, length, sum_by, option_map}
+use Rattle.std.specs.Option.{option_and_then}
+use Rattle.ea_model.specs.declared.settings.Settings.{Settings}
+use Rattle.ea_model.specs.declared.carriers.Kind.{Kind}
+use Rattle.ea_model.specs.declared.carriers.Kind.TheVariants.{Main, Multi, Single}
+use Rattle.ea_model.specs.declared.carriers.Spot.{Spot}
+use Rattle.ea_model.specs.declared.carriers.Place.{Place}
+use Rattle.ea_model.specs.declared.carriers.BlockAt.{BlockAt}
+use Rattle.ea_model.specs.declared.carriers.Segment.{Segment}
+use Rattle.ea_model.specs.declared.carriers.CarrierPlan.{CarrierPlan}
+use Rattle.ea_model.specs.declared.carriers.Figures.{Figures}
+use Rattle.ea_model.specs.declared.entries.NoCarrier.{NoCarrier}
+use Rattle.ea_model.specs.declared.entries.NoCarrier.TheVariants.{Numbers, Space}
+use Rattle.ea_model.specs.Content.{Content, gaps_of, gap_at, block_at, taken_of, placed, released, allocated}
+use Rattle.ea_model.specs.Strategies.{choice_among, spot_of}
+use Rattle.ea_model.specs.Region.{runs, lowest_run, entered}
+
+-- an instance: its number, from 1, its region from page `first` up to `end`, the contents that it employs by rising number, and how many carriers it created
+pub record Instance : Type 0 where
+  pub settings : Settings
+  pub number : ℕ
+  pub first : ℕ
+  pub end : ℕ
+  pub contents : List Content
+  pub created : ℕ
+
+-- the pages that hold so many units
+abbrev pub pages_for : ℕ → ℕ
+pages_for units = (units + 511) / 512
+
+-- the first of the 256 carrier numbers of an instance
+abbrev pub first_number : ℕ → ℕ
+first_number instance = 256 * (instance - 1) + 1
+
+-- a new carrier; a page has 512 units
+abbrev pub created_content : ℕ → Kind → CarrierPlan → Content
+created_content instance kind p = record { number = p.number; owner = instance; base = p.base; birth = p.birth; units = 512 * p.pages; kind = kind; blocks = [] }
+
+-- the main carrier, where the settings ask for one
+abbrev pub main_carriers : Settings → ℕ → ℕ → List Content
+main_carriers s instance first = if nat_lt 0 s.mmbcs then created_content instance Main (record { number = first_number instance; base = first; pages = pages_for s.mmbcs; birth = 1; single = false }) ∷ [] else []
+
+-- an instance before its first operation
+abbrev pub new_instance : Settings → ℕ → ℕ → ℕ → Instance
+new_instance s instance first pages = record { settings = s; number = instance; first = first; end = first + pages; contents = main_carriers s instance first; created = length (main_carriers s instance first) }
+
+-- the segment of a carrier
+abbrev pub segment_of : Content → Segment
+segment_of c = record { start = c.base; pages = c.units / 512 }
+
+-- the segments of carriers, by rising start
+abbrev pub segments : List Content → List Segment
+segments [] = []
+segments (c ∷ cs) = entered (segment_of c) (segments cs)
+
+-- the content of a carrier that is employed
+abbrev pub content_of : List Content → ℕ → Option Content
+content_of cs number = find (λ c. c.number == number) cs
+
+-- whether a number is in use
+abbrev pub is_used : ℕ → List Content → Bool
+is_used number [] = false
+is_used number (c ∷ cs) = (c.number == number) || is_used number cs
+
+-- the lowest of so many numbers from `number` on that isn't in use
+abbrev pub unused_from : ℕ → ℕ → List Content → Option ℕ
+unused_from zero number cs = None
+unused_from (suc k) number cs = if is_used number cs then unused_from k (number + 1) cs else Some number
+
+abbrev pub is_multi : Kind → Bool
+is_multi Main = false
+is_multi Multi = true
+is_multi Single = false
+
+-- how many multiblock carriers there are without the main one
+abbrev pub multis : List Content → ℕ
+multis cs = length (filter (λ c. is_multi c.kind) cs)
+
+-- the units of the next multiblock carrier behind so many: they grow from smbcs to lmbcs in mbcgs equal parts
+abbrev pub growth : Settings → ℕ → ℕ
+growth s n = if nat_le n s.mbcgs then s.smbcs + n * (max s.lmbcs s.smbcs - s.smbcs) / s.mbcgs else max s.lmbcs s.smbcs
+
+-- the pages of the least carrier that holds a block of this need, and of the next one
+abbrev pub least_pages : ℕ → ℕ
+least_pages need = pages_for (8 + need)
+
+abbrev pub next_pages : Instance → ℕ → ℕ
+next_pages i need = max (least_pages need) (pages_for (growth i.settings (multis i.contents)))
+
+-- where the lowest free run of the region with so many pages begins
+abbrev pub free_run : Instance → ℕ → Option ℕ
+free_run i pages = lowest_run pages (runs i.first i.end (segments i.contents))
+
+abbrev pub planned : Instance → ℕ → ℕ → ℕ → CarrierPlan
+planned i number base pages = record { number = number; base = base; pages = pages; birth = i.created + 1; single = false }
+
+-- the least carrier, where the next one has no room
+abbrev pub least_plan : Instance → ℕ → ℕ → Option ℕ → Result CarrierPlan NoCarrier
+least_plan i need number None = Err Space
+least_plan i need number (Some base) = Ok (planned i number base (least_pages need))
+
+abbrev pub sized_plan : Instance → ℕ → ℕ → Option ℕ → Result CarrierPlan NoCarrier
+sized_plan i need number None = least_plan i need number (free_run i (least_pages need))
+sized_plan i need number (Some base) = Ok (planned i number base (next_pages i need))
+
+abbrev pub numbered_plan : Instance → ℕ → Option ℕ → Result CarrierPlan NoCarrier
+numbered_plan i need None = Err Numbers
+numbered_plan i need (Some number) = sized_plan i need number (free_run i (next_pages i need))
+
+-- the multiblock carrier that would be created for a block of this need, or why there is none
+abbrev pub plan : Instance → ℕ → Result CarrierPlan NoCarrier
+plan i need = numbered_plan i need (unused_from 256 (first_number i.number) i.contents)
+
+-- the contents with one more, by its number
+abbrev pub with_content : Content → List Content → List Content
+with_content x [] = x ∷ []
+with_content x (c ∷ cs) = if nat_lt x.number c.number then x ∷ c ∷ cs else c ∷ with_content x cs
+
+-- the instance that employs the carrier of a plan
+abbrev pub creating : Instance → CarrierPlan → Instance
+creating i p = record i { contents = with_content (created_content i.number Multi p) i.contents; created = p.birth }
+
+-- the contents where that of the number is changed
+abbrev pub changed : (Content → Content) → ℕ → List Content → List Content
+changed f number cs = map (λ c. if c.number == number then f c else c) cs
+
+-- the chosen spot for a block of this need
+abbrev pub chosen_spot : Instance → ℕ → Option Spot
+chosen_spot i need = option_map spot_of (choice_among i.settings.strategy need i.contents)
+
+-- the units of a block of this need at a spot
+abbrev pub size_for : Option Content → ℕ → ℕ → ℕ
+size_for None offset need = 0
+size_for (Some c) offset need = taken_of (gap_at (gaps_of c) offset) need
+
+abbrev pub place_at : Instance → Spot → ℕ → Place
+place_at i spot need = record { carrier = spot.carrier; offset = spot.offset; size = size_for (content_of i.contents spot.carrier) spot.offset need }
+
+-- the instance with a block at a spot
+abbrev pub placing_at : Instance → Spot → ℕ → ℕ → Instance
+placing_at i spot need name = record i { contents = changed (λ c. placed c spot.offset need name) spot.carrier i.contents }
+
+-- the instance without the block at a spot
+abbrev pub releasing_at : Instance → Spot → Instance
+releasing_at i spot = record i { contents = changed (λ c. released c spot.offset) spot.carrier i.contents }
+
+-- the instance without a carrier
+abbrev pub clearing : Instance → ℕ → Instance
+clearing i number = record i { contents = filter (λ c. not (c.number == number)) i.contents }
+
+-- the block at a spot
+abbrev pub block_in : List Content → Spot → Option BlockAt
+block_in cs spot = option_and_then (λ c. block_at c.blocks spot.offset) (content_of cs spot.carrier)
+
+abbrev pub is_nil : List BlockAt → Bool
+is_nil [] = true
+is_nil (b ∷ bs) = false
+
+-- whether a multiblock carrier has no blocks; the main carrier stays
+abbrev pub is_done : Content → Bool
+is_done c = is_multi c.kind && is_nil c.blocks
+
+-- blocks and carriers of main and multiblock carriers, with their units
+abbrev pub figures : List Content → Figures
+figures cs = record { blocks = sum_by (λ c. length c.blocks) cs; blocks_size = sum_by (λ c. allocated c.blocks) cs; carriers = length cs; carriers_size = sum_by (λ c. c.units) cs }

@@ -1,0 +1,117 @@
+//! What the emulator flags set.
+ghost use Rattle.std.specs.Prelude.{◌≡◌, ◌*◌, ◌/◌, ◌<◌, ◌≤◌, ◌^◌};
+ghost use Rattle.ea_model.specs.Settings.{settings_of};
+
+/// How a gap is chosen among the carriers of an instance.
+#[derive(Debug, Clone, Copy, PartialEq, Eq)]
+pub enum Strategy {
+    /// Best fit.
+    Bf,
+    /// Address order best fit.
+    Aobf,
+    /// Address order first fit.
+    Aoff,
+    /// Address order first fit carrier, best fit inside it.
+    AoffCbf,
+    /// Address order first fit carrier, address order best fit inside it.
+    AoffCaobf,
+    /// Age order first fit carrier, address order first fit inside it.
+    AgeffCaoff,
+    /// Age order first fit carrier, best fit inside it.
+    AgeffCbf,
+    /// Age order first fit carrier, address order best fit inside it.
+    AgeffCaobf,
+    /// Good fit.
+    Gf,
+    /// Address fit.
+    Af,
+}
+
+/// The allocators of the runtime, by the letter of their flags.
+#[derive(Debug, Clone, Copy, PartialEq, Eq)]
+pub enum Letter {
+    B,
+    D,
+    E,
+    H,
+    L,
+    R,
+    S,
+    T,
+}
+
+/// The settings of one allocator. Sizes of carriers and thresholds are in units, 128 a kilobyte.
+#[derive(Debug, Clone, Copy, PartialEq, Eq)]
+pub struct Settings {
+    /// The strategy, of flag `as`.
+    pub strategy: Strategy,
+    /// The utilization in percent below which a carrier is abandoned, 0 to 100; 0 turns migration off.
+    pub acul: u32,
+    /// The least bytes of the largest gap of a carrier that is abandoned.
+    pub acfml: u32,
+    /// The units above which a block has a carrier of its own.
+    pub sbct: u32,
+    /// The units of the smallest multiblock carrier.
+    pub smbcs: u32,
+    /// The units of the largest multiblock carrier.
+    pub lmbcs: u32,
+    /// The carriers over which the size grows from the smallest to the largest.
+    pub mbcgs: u32,
+    /// The units of the main carrier, or 0 for none.
+    pub mmbcs: u32,
+    /// The gaps of a bin that good fit inspects.
+    pub mbsd: u32,
+    /// Relative singleblock carrier move threshold, in percent.
+    pub rsbcmt: u32,
+    /// Relative multiblock carrier move threshold, in percent.
+    pub rmbcmt: u32,
+    /// Relative singleblock carrier shrink threshold, in percent.
+    pub rsbcst: u32,
+    /// Absolute singleblock carrier shrink threshold, in units.
+    pub asbcst: u32,
+    /// Whether a reallocation always moves.
+    pub ramv: bool,
+}
+
+/// What all flags set: the schedulers, the super carrier in megabytes, and each allocator's settings.
+#[derive(Debug, Clone, Copy, PartialEq, Eq)]
+pub struct Config {
+    pub schedulers: u32,
+    pub scs: u32,
+    pub b: Settings,
+    pub d: Settings,
+    pub e: Settings,
+    pub h: Settings,
+    pub l: Settings,
+    pub r: Settings,
+    pub s: Settings,
+    pub t: Settings,
+}
+
+impl Config {
+    /// The settings of an allocator.
+    pub fn of(&self, letter: Letter) -> Settings
+        ensures { result ≡ settings_of self.now letter }
+    {
+        match letter {
+            Letter::B => self.b,
+            Letter::D => self.d,
+            Letter::E => self.e,
+            Letter::H => self.h,
+            Letter::L => self.l,
+            Letter::R => self.r,
+            Letter::S => self.s,
+            Letter::T => self.t,
+        }
+    }
+
+    /// The pages of each instance's region: an equal part of the super carrier's, of which a megabyte
+    /// has 256.
+    pub fn region_pages(&self) -> u32
+        requires some { 0 < self.now.schedulers }
+        requires size { self.now.scs ≤ 512 }
+        ensures { result ≡ self.now.scs * 256 / self.now.schedulers }
+    {
+        self.scs * 256 / self.schedulers
+    }
+}
