@@ -65,11 +65,18 @@ choice-fits inner need at end bs t =
     (both_All (λ g. nat_le need g.size ≡ true) (Begins at gs) (λ g. need ≤ gap_at gs g.offset) (λ g f h. omega (arith, leb-true need g.size f, h.size)) (fitting need gs)
     (filter_passes (λ g. nat_le need g.size) gs) (All-filter (λ g. nat_le need g.size) (Begins at gs) gs (gaps-Begins at end bs t)))
 
+-- the chosen gap is the one that begins at its offset
+pub choice-sized : (inner : Inner) (need at end : ℕ) (bs : List BlockAt) → Tiled at end bs → IfSome (choice inner need (gaps at end bs)) (λ g. gap_at (gaps at end bs) g.offset ≡ g.size)
+choice-sized inner need at end bs t =
+    let gs : List Gap = gaps at end bs in
+    fold-better-All (λ g. gap_at gs g.offset ≡ g.size) (before inner) None (fitting need gs) tt
+    (All-weaker (Begins at gs) (λ g. gap_at gs g.offset ≡ g.size) (λ g h. h.size) (fitting need gs) (All-filter (λ g. nat_le need g.size) (Begins at gs) gs (gaps-Begins at end bs t)))
+
 some_stays : {A : Type 0} (before : A → A → Bool) (x : A) (xs : List A) → IsNone (fold (better before) (Some x) xs) → ⊥
 some_stays before x [] h = true≢false h
 some_stays before x (y ∷ ys) h = some_stays before (cond (before y x) y x) ys h
 
-first-none : {A : Type 0} (before : A → A → Bool) (xs : List A) → IsNone (first before xs) → xs ≡ []
+pub first-none : {A : Type 0} (before : A → A → Bool) (xs : List A) → IsNone (first before xs) → xs ≡ []
 first-none before [] h = refl
 first-none before (x ∷ xs) h = absurd (some_stays before x xs h)
 

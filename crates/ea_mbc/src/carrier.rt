@@ -89,6 +89,8 @@ impl Mbc {
         // The chosen gap is one that fits, and none that fits comes before it.
         ensures first { IfSome (choice inner need (gaps_of self.now))
             (IsFirst (before inner) (fitting need (gaps_of self.now))) }
+        ensures sized { IfSome (choice inner need (gaps_of self.now)) (λ g.
+            gap_at (gaps_of self.now) g.offset ≡ g.size) }
     {
         best_gap(inner, need, self.units, &self.blocks).map(|gap| gap.offset)
     }
@@ -141,6 +143,14 @@ impl Mbc {
         ensures { result ≡ option_map named (block_at self.now.blocks offset) }
     {
         find_block(&self.blocks, offset).map(|BlockAt { name, size, .. }| Block { name, size })
+    }
+
+    /// The units of the gap that begins at `offset`.
+    pub fn gap_at(&self, offset: u32) -> u32
+        requires { 0 < gap_at (gaps_of self.now) offset }
+        ensures { result ≡ gap_at (gaps_of self.now) offset }
+    {
+        gap_from(self.units, &self.blocks, offset)
     }
 
     /// The units of its largest gap, or 0.

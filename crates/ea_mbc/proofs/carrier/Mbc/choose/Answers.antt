@@ -3,7 +3,7 @@ use Rattle.std.specs.Prelude.{IfSome, IsNone, option_map}
 use Rattle.std.proofs.lemmas.Grind.{common_steps}
 use Rattle.ea_model.specs.Content.{gaps_of, gap_at}
 use Rattle.ea_model.specs.Choice.{choice}
-use Rattle.ea_mbc.proofs.Chosen.{choice-fits, choice-none, IfSome-map}
+use Rattle.ea_mbc.proofs.Chosen.{choice-fits, choice-sized, choice-none, IfSome-map}
 use Rattle.ea_mbc.proofs.Least.{choice-IsFirst}
 use Rattle.ea_mbc.proofs.carrier.Mbc.choose.Goals as goal
 
@@ -23,3 +23,8 @@ returns-clause-fits c =
 
 pub returns-clause-first : goal.returns-clause-first
 returns-clause-first c = choice-IsFirst c.args.inner c.args.need (gaps_of c.args.self.now)
+
+pub returns-clause-sized : goal.returns-clause-sized
+returns-clause-sized c =
+    subst (λ m. IfSome (choice c.args.inner c.args.need (gaps_of m)) (λ g. gap_at (gaps_of m) g.offset ≡ g.size)) c.self.view_is
+    (choice-sized c.args.inner c.args.need 8 c.self.inside.units c.self.inside.blocks.items c.self.invariant)
