@@ -27,7 +27,7 @@ apart_before at end start pages [] t h = All-nil (IsBeside start pages)
 apart_before at end start pages (s ∷ ss) t h =
     All-cons (IsBeside start pages) s ss (inr (omega (arith, t.0))) (apart_before (s.start + s.pages) end start pages ss t.2 (omega (arith, t.0)))
 
-if_some : {A : Type 0} (r : Option A) (P Q : A → Type 0) → ((x : A) → P x → Q x) → IfSome r P → IfSome r Q
+pub if_some : {A : Type 0} (r : Option A) (P Q : A → Type 0) → ((x : A) → P x → Q x) → IfSome r P → IfSome r Q
 if_some None P Q f h = tt
 if_some (Some x) P Q f h = f x h
 

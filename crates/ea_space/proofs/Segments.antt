@@ -1,9 +1,9 @@
 -- Segments that lie one after another.
-use Rattle.std.proofs.Common.{suc, ◌≡◌, ℕ, ◌+◌, ◌-◌, ◌<◌, ◌≤◌, Bool, true, false, List, [], ◌∷◌, ◌++◌, length, get_or, set, drop, sym, ap, ◌∙◌, subst, refl, inl, inr, ◌⊎◌, arith}
+use Rattle.std.proofs.Common.{suc, zero, ◌≡◌, ◌≢◌, ℕ, ◌+◌, ◌-◌, ◌<◌, ◌≤◌, Bool, true, false, List, [], ◌∷◌, ◌++◌, length, get_or, set, drop, sym, ap, ◌∙◌, subst, refl, inl, inr, ◌⊎◌, arith}
 use Rattle.std.specs.Prelude.{insert, remove, Any}
 use Rattle.std.specs.List.{position_or_len}
 use Rattle.std.proofs.lemmas.Bool.{cases_lt, cases_eq}
-use Rattle.std.proofs.lemmas.List.{drop_more}
+use Rattle.std.proofs.lemmas.List.{drop_more, get_or_default}
 use Rattle.std.proofs.lemmas.List.Elements.{All-head, All-tail}
 use Rattle.ea_model.specs.declared.carriers.Segment.{Segment}
 use Rattle.ea_model.specs.Region.{stretch, entered, covers, cut_from, Laid}
@@ -98,9 +98,9 @@ Laid-cut at end page [] t = t
 Laid-cut at end page (s ∷ ss) t =
     elim (covers_cases page s) [
       | inl p ↦ subst (Laid at end) (sym (cut_first at end page s ss t p.1 p.2)) (elim (cases_lt s.start page) [
-          | inl lt ↦ subst (λ xs. Laid at end (xs ++ ss)) (sym (stretch_some s.start page lt)) (t.0, omega arith, Laid-earlier (s.start + (page - s.start)) (s.start + s.pages) end ss (omega arith) t.2)
-          | inr le ↦ subst (λ xs. Laid at end (xs ++ ss)) (sym (stretch_none s.start page le)) (Laid-earlier at (s.start + s.pages) end ss (omega (arith, t.0)) t.2)
-        ])
+        | inl lt ↦ subst (λ xs. Laid at end (xs ++ ss)) (sym (stretch_some s.start page lt)) (t.0, omega arith, Laid-earlier (s.start + (page - s.start)) (s.start + s.pages) end ss (omega arith) t.2)
+        | inr le ↦ subst (λ xs. Laid at end (xs ++ ss)) (sym (stretch_none s.start page le)) (Laid-earlier at (s.start + s.pages) end ss (omega (arith, t.0)) t.2)
+      ])
       | inr q ↦ subst (Laid at end) (sym (cut_past page s ss q.1)) (t.0, t.1, Laid-cut (s.start + s.pages) end page ss t.2)
     ]
 
@@ -111,41 +111,41 @@ position_past : (page : ℕ) (s : Segment) (ss : List Segment) → covers page s
 position_past page s ss h = rw h refl
 
 -- the whole segment that begins at the page is taken out
-pub remove-cut : (at end page : ℕ) (ss : List Segment) → Laid at end ss → (get_or ss (position_or_len (covers page) ss) no_segment).start ≡ page → position_or_len (covers page) ss < length ss → remove ss (position_or_len (covers page) ss) ≡ cut_from page ss
-remove-cut at end page [] t h lt = absurd (omega arith)
-remove-cut at end page (s ∷ ss) t h lt =
+pub remove-cut : (at end page : ℕ) (d : Segment) (ss : List Segment) → Laid at end ss → (get_or ss (position_or_len (covers page) ss) d).start ≡ page → position_or_len (covers page) ss < length ss → remove ss (position_or_len (covers page) ss) ≡ cut_from page ss
+remove-cut at end page d [] t h lt = absurd (omega arith)
+remove-cut at end page d (s ∷ ss) t h lt =
     elim (covers_cases page s) [
       | inl p ↦
           let zero = position_first page s ss p.2 in
-          let begins : s.start ≡ page = subst (λ n. (get_or (s ∷ ss) n no_segment).start ≡ page) zero h in
+          let begins : s.start ≡ page = subst (λ n. (get_or (s ∷ ss) n d).start ≡ page) zero h in
           ap (remove (s ∷ ss)) zero ∙ sym (cut_first at end page s ss t p.1 p.2 ∙ ap (λ xs. xs ++ ss) (stretch_none s.start page (omega arith)))
       | inr q ↦
           let n = position_or_len (covers page) ss in
           let past = position_past page s ss q.1 in
-          let there : (get_or ss n no_segment).start ≡ page = subst (λ x. x.start ≡ page) (ap (λ k. get_or (s ∷ ss) k no_segment) past ∙ get_or_cons s no_segment ss n) h in
-          ap (remove (s ∷ ss)) past ∙ remove_cons s ss n ∙ ap (λ xs. s ∷ xs) (remove-cut (s.start + s.pages) end page ss t.2 there (omega arith)) ∙ sym (cut_past page s ss q.1)
+          let there : (get_or ss n d).start ≡ page = subst (λ x. x.start ≡ page) (ap (λ k. get_or (s ∷ ss) k d) past ∙ get_or_cons s d ss n) h in
+          ap (remove (s ∷ ss)) past ∙ remove_cons s ss n ∙ ap (λ xs. s ∷ xs) (remove-cut (s.start + s.pages) end page d ss t.2 there (omega arith)) ∙ sym (cut_past page s ss q.1)
     ]
 
 -- the pages of a segment from the page on are taken off
-pub set-cut : (at end page : ℕ) (x : Segment) (ss : List Segment) → Laid at end ss → x.start ≡ (get_or ss (position_or_len (covers page) ss) no_segment).start → x.start + x.pages ≡ page → 0 < x.pages → position_or_len (covers page) ss < length ss → set ss (position_or_len (covers page) ss) x ≡ cut_from page ss
-set-cut at end page x [] t begins ends some lt = absurd (omega arith)
-set-cut at end page x (s ∷ ss) t begins ends some lt =
+pub set-cut : (at end page : ℕ) (x d : Segment) (ss : List Segment) → Laid at end ss → x.start ≡ (get_or ss (position_or_len (covers page) ss) d).start → x.start + x.pages ≡ page → 0 < x.pages → position_or_len (covers page) ss < length ss → set ss (position_or_len (covers page) ss) x ≡ cut_from page ss
+set-cut at end page x d [] t begins ends some lt = absurd (omega arith)
+set-cut at end page x d (s ∷ ss) t begins ends some lt =
     elim (covers_cases page s) [
       | inl p ↦
           let zero = position_first page s ss p.2 in
-          let start : x.start ≡ s.start = subst (λ n. x.start ≡ (get_or (s ∷ ss) n no_segment).start) zero begins in
+          let start : x.start ≡ s.start = subst (λ n. x.start ≡ (get_or (s ∷ ss) n d).start) zero begins in
           let same : x ∷ [] ≡ stretch s.start page = grind arith in
           ap (λ n. set (s ∷ ss) n x) zero ∙ ap (λ xs. xs ++ ss) same ∙ sym (cut_first at end page s ss t p.1 p.2)
       | inr q ↦
           let n = position_or_len (covers page) ss in
           let past = position_past page s ss q.1 in
-          let there : x.start ≡ (get_or ss n no_segment).start = subst (λ y. x.start ≡ y.start) (ap (λ k. get_or (s ∷ ss) k no_segment) past ∙ get_or_cons s no_segment ss n) begins in
-          ap (λ k. set (s ∷ ss) k x) past ∙ set_cons x s ss n ∙ ap (λ xs. s ∷ xs) (set-cut (s.start + s.pages) end page x ss t.2 there ends some (omega arith)) ∙ sym (cut_past page s ss q.1)
+          let there : x.start ≡ (get_or ss n d).start = subst (λ y. x.start ≡ y.start) (ap (λ k. get_or (s ∷ ss) k d) past ∙ get_or_cons s d ss n) begins in
+          ap (λ k. set (s ∷ ss) k x) past ∙ set_cons x s ss n ∙ ap (λ xs. s ∷ xs) (set-cut (s.start + s.pages) end page x d ss t.2 there ends some (omega arith)) ∙ sym (cut_past page s ss q.1)
     ]
 
 -- what holds of some element holds of the first one or of some later one
 any_cases : {A : Type 0} (P : A → Type 0) (x : A) (xs : List A) (k : ℕ) (y : A) → k < length (x ∷ xs) → get_or (x ∷ xs) k y ≡ y → P y → P x ⊎ Any P xs
-any_cases P x xs 0 y lt e p = inl (subst P (sym e) p)
+any_cases P x xs zero y lt e p = inl (subst P (sym e) p)
 any_cases P x xs (suc k) y lt e p = inr (k, y, omega arith, e, p)
 
 IsTail_cases : (start pages : ℕ) (s : Segment) (ss : List Segment) → IsTail start pages (s ∷ ss) → IsTailOf start pages s ⊎ IsTail start pages ss
@@ -163,22 +163,51 @@ IsTail_behind at end start pages (s ∷ ss) t h =
 -- the first segment that covers the start of a tail is the one that it is the tail of
 pub record IsTailAt (start pages n : ℕ) (ss : List Segment) : Type 0 where
   pub inside : n < length ss
-  pub tail : IsTailOf start pages (get_or ss n no_segment)
+  pub tail : (d : Segment) → IsTailOf start pages (get_or ss n d)
 
 pub IsTail-at : (at end start pages : ℕ) (ss : List Segment) → Laid at end ss → IsTail start pages ss → IsTailAt start pages (position_or_len (covers start) ss) ss
 IsTail-at at end start pages [] t h = absurd (omega (arith, h.2))
 IsTail-at at end start pages (s ∷ ss) t h =
     elim (IsTail_cases start pages s ss h) [
       | inl p ↦ elim (covers_cases start s) [
-          | inl c ↦ subst (λ n. IsTailAt start pages n (s ∷ ss)) (sym (position_first start s ss c.2)) (record { inside = omega arith; tail = p })
-          | inr n ↦ absurd (elim n.0 [ inl b ↦ omega (arith, p.within) | inr b ↦ omega (arith, p.some, p.to_end) ])
-        ]
+        | inl c ↦ subst (λ n. IsTailAt start pages n (s ∷ ss)) (sym (position_first start s ss c.2)) (record { inside = omega arith; tail = λ d. p })
+        | inr n ↦ absurd (elim n.0 [ inl b ↦ omega (arith, p.within) | inr b ↦ omega (arith, p.some, p.to_end) ])
+      ]
       | inr q ↦
           let behind = IsTail_behind (s.start + s.pages) end start pages ss t.2 q in
           let more = IsTail-at (s.start + s.pages) end start pages ss t.2 q in
           let n = position_or_len (covers start) ss in
           elim (covers_cases start s) [
             | inl c ↦ absurd (omega arith)
-            | inr c ↦ subst (λ k. IsTailAt start pages k (s ∷ ss)) (sym (position_past start s ss c.1)) (record { inside = omega (arith, more.inside); tail = subst (IsTailOf start pages) (sym (get_or_cons s no_segment ss n)) more.tail })
+            | inr c ↦ subst (λ k. IsTailAt start pages k (s ∷ ss)) (sym (position_past start s ss c.1)) (record { inside = omega (arith, more.inside); tail = λ d. subst (IsTailOf start pages) (sym (get_or_cons s d ss n)) (more.tail d) })
           ]
     ]
+
+-- s stands at the place n, and the pages are its tail
+pub record Found (start pages n : ℕ) (s : Segment) (ss : List Segment) : Type 0 where
+  pub inside : n < length ss
+  pub place : n ≡ position_or_len (covers start) ss
+  pub element : s ≡ get_or ss n s
+  pub tail : IsTailOf start pages s
+
+pub IsTail-found : (at end start pages n : ℕ) (s : Segment) (ss : List Segment) → Laid at end ss → IsTail start pages ss → n ≡ position_or_len (covers start) ss → s ≡ get_or ss n s → Found start pages n s ss
+IsTail-found at end start pages n s ss t h place element =
+    let found = subst (λ k. IsTailAt start pages k ss) (sym place) (IsTail-at at end start pages ss t h) in
+    record { inside = found.inside; place = place; element = element; tail = subst (IsTailOf start pages) (sym element) (found.tail s) }
+
+-- the whole segment is given back
+pub remove-found : (at end start pages n : ℕ) (s : Segment) (ss : List Segment) → Laid at end ss → Found start pages n s ss → s.pages ≡ pages → remove ss n ≡ cut_from start ss
+remove-found at end start pages n s ss t f e =
+    let begins : s.start ≡ start = omega (arith, f.tail.to_end) in
+    let there = subst (λ k. (get_or ss k s).start ≡ start) f.place (ap (λ x. x.start) (sym f.element) ∙ begins) in
+    ap (remove ss) f.place ∙ remove-cut at end start s ss t there (subst (λ k. k < length ss) f.place f.inside)
+
+-- the tail of the segment is given back
+pub set-found : (at end start pages n : ℕ) (s y : Segment) (ss : List Segment) → Laid at end ss → Found start pages n s ss → s.pages ≢ pages → y ≡ get_or ss n y → set ss n (record { start = y.start; pages = s.pages - pages }) ≡ cut_from start ss
+set-found at end start pages n s y ss t f e same =
+    let x : Segment = record { start = y.start; pages = s.pages - pages } in
+    let begins : y.start ≡ s.start = ap (λ z. z.start) (same ∙ get_or_default ss n y s f.inside ∙ sym f.element) in
+    let there = subst (λ k. x.start ≡ (get_or ss k s).start) f.place (begins ∙ ap (λ z. z.start) f.element) in
+    let le : s.start ≤ start = f.tail.within in
+    let to_end : start + pages ≡ s.start + s.pages = f.tail.to_end in
+    ap (λ k. set ss k x) f.place ∙ set-cut at end start x s ss t there (omega arith) (omega arith) (subst (λ k. k < length ss) f.place f.inside)

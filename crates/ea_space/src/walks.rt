@@ -26,7 +26,11 @@ pub fn lowest_start(pages: u32, first: u32, end: u32, taken: &[Segment]) -> Opti
         }
         at = segment.start + segment.pages;
     }
-    if holds(pages, at, end) { Some(at) } else { None }
+    if holds(pages, at, end) {
+        Some(at)
+    } else {
+        None
+    }
 }
 
 /// The pages of the longest run, or 0.
@@ -59,7 +63,8 @@ fn segments_up_to(taken: &[Segment], page: u32) -> usize
 /// The place of the first segment that covers the page.
 pub fn place_of(taken: &[Segment], page: u32) -> usize
     requires { position_or_len (covers page) taken.now < length taken.now }
-    ensures { result ≡ position_or_len (covers page) taken.now }
+    ensures place { result ≡ position_or_len (covers page) taken.now }
+    ensures within { result < length taken.now }
 {
     for (i, segment) in taken.iter().enumerate() {
         if segment.start <= page && page - segment.start < segment.pages {
