@@ -1,0 +1,213 @@
+-- Segments that lie one after another.
+use Rattle.std.proofs.Common.{suc, zero, ◌≡◌, ◌≢◌, ℕ, ◌+◌, ◌-◌, ◌<◌, ◌≤◌, Bool, true, false, List, [], ◌∷◌, ◌++◌, length, get_or, set, drop, sym, ap, ◌∙◌, subst, refl, inl, inr, ◌⊎◌, arith}
+use Rattle.std.specs.Prelude.{insert, remove, Any}
+use Rattle.std.specs.List.{position_or_len}
+use Rattle.std.proofs.lemmas.Bool.{cases_lt, cases_eq}
+use Rattle.std.proofs.lemmas.List.{drop_more, get_or_default}
+use Rattle.std.proofs.lemmas.List.Elements.{All-head, All-tail}
+use Rattle.ea_model.specs.declared.carriers.Segment.{Segment}
+use Rattle.ea_model.specs.Region.{stretch, entered, covers, cut_from, Laid}
+use Rattle.ea_space.specs.Pages.{IsBeside, IsApart, IsTailOf, IsTail, follows}
+
+-- the default of an index past the end
+abbrev pub no_segment : Segment
+no_segment = record { start = 0; pages = 0 }
+
+-- they end at the end or before it
+pub Laid-end : (at end : ℕ) (ss : List Segment) → Laid at end ss → at ≤ end
+Laid-end at end [] t = t
+Laid-end at end (s ∷ ss) t = omega (arith, t.0, t.1, Laid-end (s.start + s.pages) end ss t.2)
+
+-- they may begin earlier
+pub Laid-earlier : (a at end : ℕ) (ss : List Segment) → a ≤ at → Laid at end ss → Laid a end ss
+Laid-earlier a at end [] le t = omega arith
+Laid-earlier a at end (s ∷ ss) le t = (omega arith, t.1, t.2)
+
+-- the next segment of the rest, and the rest after it
+pub Laid-next : (at end : ℕ) (ss : List Segment) (i : ℕ) → i < length ss → Laid at end (drop i ss) → Laid at end (get_or ss i no_segment ∷ drop (i + 1) ss)
+Laid-next at end ss i h t = rw (drop_more ss i no_segment h) at t
+
+insert_cons : (x s : Segment) (ss : List Segment) (n : ℕ) → insert (s ∷ ss) (1 + n) x ≡ s ∷ insert ss n x
+insert_cons x s ss n = let e : 1 + n ≡ suc n = omega arith in rw e refl
+
+remove_cons : (s : Segment) (ss : List Segment) (n : ℕ) → remove (s ∷ ss) (1 + n) ≡ s ∷ remove ss n
+remove_cons s ss n = let e : 1 + n ≡ suc n = omega arith in rw e refl
+
+set_cons : (x s : Segment) (ss : List Segment) (n : ℕ) → set (s ∷ ss) (1 + n) x ≡ s ∷ set ss n x
+set_cons x s ss n = let e : 1 + n ≡ suc n = omega arith in rw e refl
+
+get_or_cons : (s d : Segment) (ss : List Segment) (n : ℕ) → get_or (s ∷ ss) (1 + n) d ≡ get_or ss n d
+get_or_cons s d ss n = let e : 1 + n ≡ suc n = omega arith in rw e refl
+
+entered_more : (x s : Segment) (ss : List Segment) → insert ss (position_or_len (follows x.start) ss) x ≡ entered x ss → insert (s ∷ ss) (position_or_len (follows x.start) (s ∷ ss)) x ≡ entered x (s ∷ ss)
+entered_more x s ss more = elim (cases_lt x.start s.start) [ inl p ↦ grind arith | inr q ↦ grind (arith, insert_cons x s ss (position_or_len (follows x.start) ss)) ]
+
+-- a segment is entered before the first one behind its start
+pub insert-entered : (x : Segment) (ss : List Segment) → insert ss (position_or_len (follows x.start) ss) x ≡ entered x ss
+insert-entered x [] = refl
+insert-entered x (s ∷ ss) = entered_more x s ss (insert-entered x ss)
+
+entered_here : (x s : Segment) (ss : List Segment) → x.start < s.start → entered x (s ∷ ss) ≡ x ∷ s ∷ ss
+entered_here x s ss h = grind arith
+
+entered_past : (x s : Segment) (ss : List Segment) → s.start ≤ x.start → entered x (s ∷ ss) ≡ s ∷ entered x ss
+entered_past x s ss h = grind arith
+
+-- still laid with a segment that meets no other
+pub Laid-entered : (at end : ℕ) (x : Segment) (ss : List Segment) → Laid at end ss → at ≤ x.start → x.start + x.pages ≤ end → 0 < x.pages → IsApart x.start x.pages ss → Laid at end (entered x ss)
+Laid-entered at end x [] t behind before some apart = (behind, some, before)
+Laid-entered at end x (s ∷ ss) t behind before some apart =
+    let beside : IsBeside x.start x.pages s = All-head (IsBeside x.start x.pages) s ss apart in
+    elim (cases_lt x.start s.start) [
+      | inl lt ↦ subst (Laid at end) (sym (entered_here x s ss lt)) (behind, some, elim beside [ inl p ↦ absurd (omega (arith, t.1)) | inr q ↦ (q, t.1, t.2) ])
+      | inr le ↦ subst (Laid at end) (sym (entered_past x s ss le)) (t.0, t.1, elim beside [ inl p ↦ Laid-entered (s.start + s.pages) end x ss t.2 p before some (All-tail (IsBeside x.start x.pages) s ss apart) | inr q ↦ absurd (omega arith) ])
+    ]
+
+-- a segment covers the page, or it lies beside it
+pub covers_cases : (page : ℕ) (s : Segment) → ((s.start ≤ page) × (page < s.start + s.pages) × (covers page s ≡ true)) ⊎ (((page < s.start) ⊎ (s.start + s.pages ≤ page)) × (covers page s ≡ false))
+covers_cases page s = grind arith
+
+cut_here : (page : ℕ) (s : Segment) (ss : List Segment) → covers page s ≡ true → cut_from page (s ∷ ss) ≡ stretch s.start page ++ cut_from page ss
+cut_here page s ss h = rw h refl
+
+cut_past : (page : ℕ) (s : Segment) (ss : List Segment) → covers page s ≡ false → cut_from page (s ∷ ss) ≡ s ∷ cut_from page ss
+cut_past page s ss h = rw h refl
+
+-- no segment covers a page before the first one
+pub cut-before : (at end page : ℕ) (ss : List Segment) → Laid at end ss → page < at → cut_from page ss ≡ ss
+cut-before at end page [] t h = refl
+cut-before at end page (s ∷ ss) t h =
+    elim (covers_cases page s) [
+      | inl p ↦ absurd (omega (arith, t.0))
+      | inr q ↦ cut_past page s ss q.1 ∙ ap (λ xs. s ∷ xs) (cut-before (s.start + s.pages) end page ss t.2 (omega (arith, t.0)))
+    ]
+
+stretch_some : (a b : ℕ) → a < b → stretch a b ≡ record { start = a; pages = b - a } ∷ []
+stretch_some a b h = grind arith
+
+stretch_none : (a b : ℕ) → b ≤ a → stretch a b ≡ []
+stretch_none a b h = grind arith
+
+-- what is cut of the segments whose first one covers the page
+cut_first : (at end page : ℕ) (s : Segment) (ss : List Segment) → Laid at end (s ∷ ss) → page < s.start + s.pages → covers page s ≡ true → cut_from page (s ∷ ss) ≡ stretch s.start page ++ ss
+cut_first at end page s ss t lt c = cut_here page s ss c ∙ ap (λ xs. stretch s.start page ++ xs) (cut-before (s.start + s.pages) end page ss t.2 lt)
+
+-- still laid without the pages of a segment from the page on
+pub Laid-cut : (at end page : ℕ) (ss : List Segment) → Laid at end ss → Laid at end (cut_from page ss)
+Laid-cut at end page [] t = t
+Laid-cut at end page (s ∷ ss) t =
+    elim (covers_cases page s) [
+      | inl p ↦ subst (Laid at end) (sym (cut_first at end page s ss t p.1 p.2)) (elim (cases_lt s.start page) [
+        | inl lt ↦ subst (λ xs. Laid at end (xs ++ ss)) (sym (stretch_some s.start page lt)) (t.0, omega arith, Laid-earlier (s.start + (page - s.start)) (s.start + s.pages) end ss (omega arith) t.2)
+        | inr le ↦ subst (λ xs. Laid at end (xs ++ ss)) (sym (stretch_none s.start page le)) (Laid-earlier at (s.start + s.pages) end ss (omega (arith, t.0)) t.2)
+      ])
+      | inr q ↦ subst (Laid at end) (sym (cut_past page s ss q.1)) (t.0, t.1, Laid-cut (s.start + s.pages) end page ss t.2)
+    ]
+
+position_first : (page : ℕ) (s : Segment) (ss : List Segment) → covers page s ≡ true → position_or_len (covers page) (s ∷ ss) ≡ 0
+position_first page s ss h = rw h refl
+
+position_past : (page : ℕ) (s : Segment) (ss : List Segment) → covers page s ≡ false → position_or_len (covers page) (s ∷ ss) ≡ 1 + position_or_len (covers page) ss
+position_past page s ss h = rw h refl
+
+-- the whole segment that begins at the page is taken out
+pub remove-cut : (at end page : ℕ) (d : Segment) (ss : List Segment) → Laid at end ss → (get_or ss (position_or_len (covers page) ss) d).start ≡ page → position_or_len (covers page) ss < length ss → remove ss (position_or_len (covers page) ss) ≡ cut_from page ss
+remove-cut at end page d [] t h lt = absurd (omega arith)
+remove-cut at end page d (s ∷ ss) t h lt =
+    elim (covers_cases page s) [
+      | inl p ↦
+          let zero = position_first page s ss p.2 in
+          let begins : s.start ≡ page = subst (λ n. (get_or (s ∷ ss) n d).start ≡ page) zero h in
+          ap (remove (s ∷ ss)) zero ∙ sym (cut_first at end page s ss t p.1 p.2 ∙ ap (λ xs. xs ++ ss) (stretch_none s.start page (omega arith)))
+      | inr q ↦
+          let n = position_or_len (covers page) ss in
+          let past = position_past page s ss q.1 in
+          let there : (get_or ss n d).start ≡ page = subst (λ x. x.start ≡ page) (ap (λ k. get_or (s ∷ ss) k d) past ∙ get_or_cons s d ss n) h in
+          ap (remove (s ∷ ss)) past ∙ remove_cons s ss n ∙ ap (λ xs. s ∷ xs) (remove-cut (s.start + s.pages) end page d ss t.2 there (omega arith)) ∙ sym (cut_past page s ss q.1)
+    ]
+
+-- the pages of a segment from the page on are taken off
+pub set-cut : (at end page : ℕ) (x d : Segment) (ss : List Segment) → Laid at end ss → x.start ≡ (get_or ss (position_or_len (covers page) ss) d).start → x.start + x.pages ≡ page → 0 < x.pages → position_or_len (covers page) ss < length ss → set ss (position_or_len (covers page) ss) x ≡ cut_from page ss
+set-cut at end page x d [] t begins ends some lt = absurd (omega arith)
+set-cut at end page x d (s ∷ ss) t begins ends some lt =
+    elim (covers_cases page s) [
+      | inl p ↦
+          let zero = position_first page s ss p.2 in
+          let start : x.start ≡ s.start = subst (λ n. x.start ≡ (get_or (s ∷ ss) n d).start) zero begins in
+          let same : x ∷ [] ≡ stretch s.start page = grind arith in
+          ap (λ n. set (s ∷ ss) n x) zero ∙ ap (λ xs. xs ++ ss) same ∙ sym (cut_first at end page s ss t p.1 p.2)
+      | inr q ↦
+          let n = position_or_len (covers page) ss in
+          let past = position_past page s ss q.1 in
+          let there : x.start ≡ (get_or ss n d).start = subst (λ y. x.start ≡ y.start) (ap (λ k. get_or (s ∷ ss) k d) past ∙ get_or_cons s d ss n) begins in
+          ap (λ k. set (s ∷ ss) k x) past ∙ set_cons x s ss n ∙ ap (λ xs. s ∷ xs) (set-cut (s.start + s.pages) end page x d ss t.2 there ends some (omega arith)) ∙ sym (cut_past page s ss q.1)
+    ]
+
+-- what holds of some element holds of the first one or of some later one
+any_cases : {A : Type 0} (P : A → Type 0) (x : A) (xs : List A) (k : ℕ) (y : A) → k < length (x ∷ xs) → get_or (x ∷ xs) k y ≡ y → P y → P x ⊎ Any P xs
+any_cases P x xs zero y lt e p = inl (subst P (sym e) p)
+any_cases P x xs (suc k) y lt e p = inr (k, y, omega arith, e, p)
+
+IsTail_cases : (start pages : ℕ) (s : Segment) (ss : List Segment) → IsTail start pages (s ∷ ss) → IsTailOf start pages s ⊎ IsTail start pages ss
+IsTail_cases start pages s ss h = any_cases (IsTailOf start pages) s ss h.0 h.1 h.2 h.3 h.4
+
+-- it is not before the first segment
+IsTail_behind : (at end start pages : ℕ) (ss : List Segment) → Laid at end ss → IsTail start pages ss → at ≤ start
+IsTail_behind at end start pages [] t h = absurd (omega (arith, h.2))
+IsTail_behind at end start pages (s ∷ ss) t h =
+    elim (IsTail_cases start pages s ss h) [
+      | inl p ↦ omega (arith, t.0, p.within)
+      | inr q ↦ omega (arith, t.0, IsTail_behind (s.start + s.pages) end start pages ss t.2 q)
+    ]
+
+-- the first segment that covers the start of a tail is the one that it is the tail of
+pub record IsTailAt (start pages n : ℕ) (ss : List Segment) : Type 0 where
+  pub inside : n < length ss
+  pub tail : (d : Segment) → IsTailOf start pages (get_or ss n d)
+
+pub IsTail-at : (at end start pages : ℕ) (ss : List Segment) → Laid at end ss → IsTail start pages ss → IsTailAt start pages (position_or_len (covers start) ss) ss
+IsTail-at at end start pages [] t h = absurd (omega (arith, h.2))
+IsTail-at at end start pages (s ∷ ss) t h =
+    elim (IsTail_cases start pages s ss h) [
+      | inl p ↦ elim (covers_cases start s) [
+        | inl c ↦ subst (λ n. IsTailAt start pages n (s ∷ ss)) (sym (position_first start s ss c.2)) (record { inside = omega arith; tail = λ d. p })
+        | inr n ↦ absurd (elim n.0 [ inl b ↦ omega (arith, p.within) | inr b ↦ omega (arith, p.some, p.to_end) ])
+      ]
+      | inr q ↦
+          let behind = IsTail_behind (s.start + s.pages) end start pages ss t.2 q in
+          let more = IsTail-at (s.start + s.pages) end start pages ss t.2 q in
+          let n = position_or_len (covers start) ss in
+          elim (covers_cases start s) [
+            | inl c ↦ absurd (omega arith)
+            | inr c ↦ subst (λ k. IsTailAt start pages k (s ∷ ss)) (sym (position_past start s ss c.1)) (record { inside = omega (arith, more.inside); tail = λ d. subst (IsTailOf start pages) (sym (get_or_cons s d ss n)) (more.tail d) })
+          ]
+    ]
+
+-- s stands at the place n, and the pages are its tail
+pub record Found (start pages n : ℕ) (s : Segment) (ss : List Segment) : Type 0 where
+  pub inside : n < length ss
+  pub place : n ≡ position_or_len (covers start) ss
+  pub element : s ≡ get_or ss n s
+  pub tail : IsTailOf start pages s
+
+pub IsTail-found : (at end start pages n : ℕ) (s : Segment) (ss : List Segment) → Laid at end ss → IsTail start pages ss → n ≡ position_or_len (covers start) ss → s ≡ get_or ss n s → Found start pages n s ss
+IsTail-found at end start pages n s ss t h place element =
+    let found = subst (λ k. IsTailAt start pages k ss) (sym place) (IsTail-at at end start pages ss t h) in
+    record { inside = found.inside; place = place; element = element; tail = subst (IsTailOf start pages) (sym element) (found.tail s) }
+
+-- the whole segment is given back
+pub remove-found : (at end start pages n : ℕ) (s : Segment) (ss : List Segment) → Laid at end ss → Found start pages n s ss → s.pages ≡ pages → remove ss n ≡ cut_from start ss
+remove-found at end start pages n s ss t f e =
+    let begins : s.start ≡ start = omega (arith, f.tail.to_end) in
+    let there = subst (λ k. (get_or ss k s).start ≡ start) f.place (ap (λ x. x.start) (sym f.element) ∙ begins) in
+    ap (remove ss) f.place ∙ remove-cut at end start s ss t there (subst (λ k. k < length ss) f.place f.inside)
+
+-- the tail of the segment is given back
+pub set-found : (at end start pages n : ℕ) (s y : Segment) (ss : List Segment) → Laid at end ss → Found start pages n s ss → s.pages ≢ pages → y ≡ get_or ss n y → set ss n (record { start = y.start; pages = s.pages - pages }) ≡ cut_from start ss
+set-found at end start pages n s y ss t f e same =
+    let x : Segment = record { start = y.start; pages = s.pages - pages } in
+    let begins : y.start ≡ s.start = ap (λ z. z.start) (same ∙ get_or_default ss n y s f.inside ∙ sym f.element) in
+    let there = subst (λ k. x.start ≡ (get_or ss k s).start) f.place (begins ∙ ap (λ z. z.start) f.element) in
+    let le : s.start ≤ start = f.tail.within in
+    let to_end : start + pages ≡ s.start + s.pages = f.tail.to_end in
+    ap (λ k. set ss k x) f.place ∙ set-cut at end start x s ss t there (omega arith) (omega arith) (subst (λ k. k < length ss) f.place f.inside)

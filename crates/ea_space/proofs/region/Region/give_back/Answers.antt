@@ -1,0 +1,55 @@
+use Rattle.std.proofs.Common.{◌≡◌, ◌-◌, ◌<◌, ◌≤◌, sym, ◌∙◌, ap, subst, refl, arith, set, length}
+use Rattle.std.specs.List.{position_or_len}
+use Rattle.ea_model.specs.declared.carriers.Segment.{Segment}
+use Rattle.ea_model.specs.Region.{covers, cut_from, Laid}
+use Rattle.ea_space.specs.Pages.{IsTail}
+use Rattle.ea_space.proofs.Segments.{Laid-cut, IsTail-at, Found, IsTail-found, remove-found, set-found}
+use Rattle.ea_space.proofs.region.Region.give_back.Goals as goal
+
+pub place_of-index-requires : goal.place_of-index-requires
+place_of-index-requires c =
+    subst (λ xs. position_or_len (covers c.args.start) xs < length xs) (sym c.deref.ensures.value)
+    (IsTail-at _ _ c.args.start c.args.pages c.self.inside.taken.items c.self.invariant.laid (subst (λ r. IsTail c.args.start c.args.pages r.taken) (sym c.self.view_is) c.requires)).inside
+
+pub overflow_sub-segment : goal.overflow_sub-segment
+overflow_sub-segment c =
+    let f = IsTail-found _ _ c.args.start c.args.pages c.place_of-index.result c.index-segment.result.now c.self.inside.taken.items c.self.invariant.laid (subst (λ r. IsTail c.args.start c.args.pages r.taken) (sym c.self.view_is) c.requires) (c.place_of-index.ensures.place ∙ ap (position_or_len (covers c.args.start)) c.deref.ensures.value) c.index-segment.ensures in
+    omega (arith, f.tail.within, f.tail.to_end)
+
+removed : (c : goal.After-remove) → c.remove.new.self.items ≡ cut_from c.args.start c.self.inside.taken.items
+removed c =
+    let f = IsTail-found _ _ c.args.start c.args.pages c.place_of-index.result c.index-segment.result.now c.self.inside.taken.items c.self.invariant.laid (subst (λ r. IsTail c.args.start c.args.pages r.taken) (sym c.self.view_is) c.requires) (c.place_of-index.ensures.place ∙ ap (position_or_len (covers c.args.start)) c.deref.ensures.value) c.index-segment.ensures in
+    c.remove.ensures.items ∙ remove-found _ _ c.args.start c.args.pages c.place_of-index.result c.index-segment.result.now c.self.inside.taken.items c.self.invariant.laid f c.if-segment-pages.true
+
+pub invariant_of-self : goal.invariant_of-self
+invariant_of-self c = record {
+  room = omega (arith, c.self.invariant.room, c.remove.ensures.capacity);
+  laid = subst (Laid c.self.inside.first c.self.inside.end) (sym (removed c)) (Laid-cut _ _ c.args.start c.self.inside.taken.items c.self.invariant.laid);
+}
+
+pub returns-then-segment-pages-clause-cut : goal.returns-then-segment-pages-clause-cut
+returns-then-segment-pages-clause-cut c = rw (removed c, ← c.self.view_is) refl
+
+pub returns-then-segment-pages-clause-laid : goal.returns-then-segment-pages-clause-laid
+returns-then-segment-pages-clause-laid c = subst (Laid c.self.inside.first c.self.inside.end) (sym (removed c)) (Laid-cut _ _ c.args.start c.self.inside.taken.items c.self.invariant.laid)
+
+pub invariant_of-self-else-segment-pages : goal.invariant_of-self-else-segment-pages
+invariant_of-self-else-segment-pages c =
+    let f = IsTail-found _ _ c.args.start c.args.pages c.place_of-index.result c.index-segment.result.now c.self.inside.taken.items c.self.invariant.laid (subst (λ r. IsTail c.args.start c.args.pages r.taken) (sym c.self.view_is) c.requires) (c.place_of-index.ensures.place ∙ ap (position_or_len (covers c.args.start)) c.deref.ensures.value) c.index-segment.ensures in
+    let left = set-found _ _ c.args.start c.args.pages c.place_of-index.result c.index-segment.result.now c.index_mut.result.now c.self.inside.taken.items c.self.invariant.laid f c.if-segment-pages.false c.index_mut.ensures.value in
+    record {
+      room = c.self.invariant.room;
+      laid = subst (Laid c.self.inside.first c.self.inside.end) (sym left) (Laid-cut _ _ c.args.start c.self.inside.taken.items c.self.invariant.laid);
+    }
+
+pub returns-else-segment-pages-clause-cut : goal.returns-else-segment-pages-clause-cut
+returns-else-segment-pages-clause-cut c =
+    let f = IsTail-found _ _ c.args.start c.args.pages c.place_of-index.result c.index-segment.result.now c.self.inside.taken.items c.self.invariant.laid (subst (λ r. IsTail c.args.start c.args.pages r.taken) (sym c.self.view_is) c.requires) (c.place_of-index.ensures.place ∙ ap (position_or_len (covers c.args.start)) c.deref.ensures.value) c.index-segment.ensures in
+    let left = set-found _ _ c.args.start c.args.pages c.place_of-index.result c.index-segment.result.now c.index_mut.result.now c.self.inside.taken.items c.self.invariant.laid f c.if-segment-pages.false c.index_mut.ensures.value in
+    rw (left, ← c.self.view_is) refl
+
+pub returns-else-segment-pages-clause-laid : goal.returns-else-segment-pages-clause-laid
+returns-else-segment-pages-clause-laid c =
+    let f = IsTail-found _ _ c.args.start c.args.pages c.place_of-index.result c.index-segment.result.now c.self.inside.taken.items c.self.invariant.laid (subst (λ r. IsTail c.args.start c.args.pages r.taken) (sym c.self.view_is) c.requires) (c.place_of-index.ensures.place ∙ ap (position_or_len (covers c.args.start)) c.deref.ensures.value) c.index-segment.ensures in
+    let left = set-found _ _ c.args.start c.args.pages c.place_of-index.result c.index-segment.result.now c.index_mut.result.now c.self.inside.taken.items c.self.invariant.laid f c.if-segment-pages.false c.index_mut.ensures.value in
+    subst (Laid c.self.inside.first c.self.inside.end) (sym left) (Laid-cut _ _ c.args.start c.self.inside.taken.items c.self.invariant.laid)

@@ -1,0 +1,35 @@
+use Rattle.std.proofs.Common.{◌≡◌, ◌+◌, ◌<◌, ◌≤◌, sym, subst, arith}
+use Rattle.std.specs.Prelude.{IfSome, Some}
+use Rattle.std.proofs.lemmas.Grind.{common_steps}
+use Rattle.ea_model.specs.Region.{runs, lowest_run, entered, Laid}
+use Rattle.ea_space.proofs.Segments.{Laid-entered}
+use Rattle.ea_space.proofs.Runs.{Fits, lowest-Fits}
+use Rattle.ea_space.proofs.region.Region.take.Goals as goal
+
+-- the answer is the start of the lowest run
+found : (c : goal.After-enter) → lowest_run c.args.pages (runs c.self.inside.first c.self.inside.end c.self.inside.taken.items) ≡ Some c.in-Some.start
+found c = grind (arith, common_steps)
+
+fits : (c : goal.After-enter) → Fits c.self.inside.first c.self.inside.end c.in-Some.start c.args.pages c.self.inside.taken.items
+fits c =
+    subst (λ r. IfSome r (λ start. Fits c.self.inside.first c.self.inside.end start c.args.pages c.self.inside.taken.items)) (found c)
+    (lowest-Fits c.self.inside.first c.self.inside.end c.args.pages c.self.inside.taken.items c.self.invariant.laid)
+
+laid : (c : goal.After-enter) → Laid c.self.inside.first c.self.inside.end (entered (record { start = c.in-Some.start; pages = c.args.pages }) c.self.inside.taken.items)
+laid c =
+    let f = fits c in
+    Laid-entered c.self.inside.first c.self.inside.end (record { start = c.in-Some.start; pages = c.args.pages }) c.self.inside.taken.items c.self.invariant.laid f.behind f.before c.requires.some f.apart
+
+pub invariant_of-self : goal.invariant_of-self
+invariant_of-self c = record { room = omega (arith, c.self.invariant.room, c.enter.ensures.capacity); laid = subst (Laid c.self.inside.first c.self.inside.end) (sym c.enter.ensures.items) (laid c) }
+
+pub returns-in-Some-clause-inside : goal.returns-in-Some-clause-inside
+returns-in-Some-clause-inside c =
+    let f = subst (λ r. Fits r.first r.end c.in-Some.start c.args.pages r.taken) c.self.view_is (fits c) in
+    (f.behind, f.before)
+
+pub returns-in-Some-clause-apart : goal.returns-in-Some-clause-apart
+returns-in-Some-clause-apart c = (subst (λ r. Fits r.first r.end c.in-Some.start c.args.pages r.taken) c.self.view_is (fits c)).apart
+
+pub returns-in-Some-clause-laid : goal.returns-in-Some-clause-laid
+returns-in-Some-clause-laid c = subst (Laid c.self.inside.first c.self.inside.end) (sym c.enter.ensures.items) (laid c)

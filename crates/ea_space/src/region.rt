@@ -1,0 +1,110 @@
+//! The region and its calls.
+ghost use Rattle.std.specs.Prelude.{◌≡◌, ◌+◌, ◌^◌, ◌<◌, ◌≤◌, ◌↔◌, [], All, IsNone, IfSome, IfNone, IfOk, length};
+ghost use Rattle.ea_model.specs.Region.{runs_of, lowest_run, longest, entered, cut_from, Laid};
+ghost use Rattle.ea_space.specs.Pages.{IsApart, IsTail};
+
+use crate::walks::{enter, longest_run, lowest_start, place_of};
+use ea_model::{OutOfMemory, Segment};
+use std::alloc::Global;
+use std::marker::Model;
+
+/// For how many taken segments memory is reserved.
+const ROOM: usize = 257;
+
+/// A region of pages, of which some are taken. Contracts see it as its first page, the page after its last
+/// one, and the taken segments by rising start.
+#[derive(Drop)]
+pub struct Region {
+    first: u32,
+    end: u32,
+    taken: Vec<Segment>,
+}
+
+impl Model for Region {
+    ghost use Rattle.std.specs.Prelude.{◌≤◌, vec_capacity};
+    ghost use Rattle.ea_model.specs.Region.{Region, Laid};
+
+    ghost Value = { Region };
+
+    ghost view = { λ r. record { first = r.first; end = r.end; taken = r.taken.items } };
+
+    ghost invariant = { λ r. record { room : 257 ≤ vec_capacity r.taken; laid : Laid r.first r.end r.taken.items } };
+}
+
+impl Region {
+    /// A region of `pages` pages from the page `first` on, all free. It reserves the memory that later
+    /// calls need.
+    pub fn new(alloc: Global, first: u32, pages: u32) -> Result<Region, OutOfMemory>
+        requires { first + pages < 2 ^ 32 }
+        ensures { IfOk result (λ r. r ≡ record { first = first; end = first + pages; taken = [] }) }
+    {
+        match Vec::with_capacity(alloc, ROOM) {
+            Ok(taken) => Ok(Region {
+                first,
+                end: first + pages,
+                taken,
+            }),
+            Err(_) => Err(OutOfMemory),
+        }
+    }
+
+    /// Where the lowest free run of at least `pages` pages begins, or None where no free run has so many.
+    pub fn find(&self, pages: u32) -> Option<u32>
+        ensures found { result ≡ lowest_run pages (runs_of self.now) }
+        ensures none { IsNone result ↔ All (λ r. r.pages < pages) (runs_of self.now) }
+
+        // The pages found lie in the region and meet no taken segment.
+        ensures inside { IfSome result (λ start. (self.now.first ≤ start) × (start + pages ≤ self.now.end)) }
+        ensures apart { IfSome result (λ start. IsApart start pages self.now.taken) }
+        ensures laid { Laid self.now.first self.now.end self.now.taken }
+    {
+        lowest_start(pages, self.first, self.end, &self.taken)
+    }
+
+    /// Takes `pages` pages, the front of the lowest free run that has so many, and answers the first of
+    /// them. None where no free run has so many, and then nothing changes.
+    pub fn take(&mut self, pages: u32) -> Option<u32>
+        requires some { 1 ≤ pages }
+        requires room { length self.old.taken < 256 }
+        ensures found { result ≡ lowest_run pages (runs_of self.old) }
+        ensures taken { IfSome result (λ start. self.new ≡ record self.old { taken = entered (record { start = start; pages = pages }) self.old.taken }) }
+        ensures none { IfNone result (self.new ≡ self.old) }
+
+        // The pages taken lie in the region and met no taken segment.
+        ensures inside { IfSome result (λ start. (self.old.first ≤ start) × (start + pages ≤ self.old.end)) }
+        ensures apart { IfSome result (λ start. IsApart start pages self.old.taken) }
+        ensures laid { Laid self.new.first self.new.end self.new.taken }
+    {
+        match lowest_start(pages, self.first, self.end, &self.taken) {
+            Some(start) => {
+                enter(&mut self.taken, Segment { start, pages });
+                Some(start)
+            }
+            None => None,
+        }
+    }
+
+    /// Makes the `pages` pages from `start` on free again. They are the whole or the tail of one taken
+    /// segment, and one page at least.
+    pub fn give_back(&mut self, start: u32, pages: u32)
+        requires { IsTail start pages self.old.taken }
+        ensures cut { self.new ≡ record self.old { taken = cut_from start self.old.taken } }
+        ensures laid { Laid self.new.first self.new.end self.new.taken }
+    {
+        let index = place_of(&self.taken, start);
+        let segment = self.taken[index];
+        if segment.pages == pages {
+            self.taken.remove(index);
+        } else {
+            self.taken[index].pages = segment.pages - pages;
+        }
+    }
+
+    /// The pages of the longest free run, or 0.
+    pub fn longest(&self) -> u32
+        ensures longest { result ≡ longest (runs_of self.now) }
+        ensures laid { Laid self.now.first self.now.end self.now.taken }
+    {
+        longest_run(self.first, self.end, &self.taken)
+    }
+}

@@ -1,0 +1,88 @@
+//! Walks over the taken segments, by rising start.
+ghost use Rattle.std.specs.Prelude.{◌≡◌, ◌<◌, ◌≤◌, length, vec_len, vec_capacity, max, is_some};
+ghost use Rattle.std.specs.List.{position_or_len};
+ghost use Rattle.ea_model.specs.Region.{stretch, runs, lowest_run, longest, entered, covers, Laid};
+ghost use Rattle.ea_space.specs.Pages.{follows};
+
+use ea_model::Segment;
+
+/// Whether the pages from `from` up to `to` are a run of at least so many pages.
+fn holds(pages: u32, from: u32, to: u32) -> bool
+    requires { from ≤ to }
+    ensures { result ≡ is_some (lowest_run pages (stretch from to)) }
+{
+    from < to && pages <= to - from
+}
+
+/// Where the lowest run of at least so many pages begins.
+pub fn lowest_start(pages: u32, first: u32, end: u32, taken: &[Segment]) -> Option<u32>
+    requires { Laid first end taken.now }
+    ensures { result ≡ lowest_run pages (runs first end taken.now) }
+{
+    let mut at = first;
+    for segment in taken {
+        if holds(pages, at, segment.start) {
+            return Some(at);
+        }
+        at = segment.start + segment.pages;
+    }
+    if holds(pages, at, end) {
+        Some(at)
+    } else {
+        None
+    }
+}
+
+/// The pages of the longest run, or 0.
+pub fn longest_run(first: u32, end: u32, taken: &[Segment]) -> u32
+    requires { Laid first end taken.now }
+    ensures { result ≡ longest (runs first end taken.now) }
+{
+    let mut at = first;
+    let mut most = 0;
+    for segment in taken {
+        most = most.max(segment.start - at);
+        at = segment.start + segment.pages;
+    }
+    most.max(end - at)
+}
+
+/// How many segments begin at the page or before it.
+fn segments_up_to(taken: &[Segment], page: u32) -> usize
+    ensures place { result ≡ position_or_len (follows page) taken.now }
+    ensures within { result ≤ length taken.now }
+{
+    for (i, segment) in taken.iter().enumerate() {
+        if page < segment.start {
+            return i;
+        }
+    }
+    taken.len()
+}
+
+/// The place of the first segment that covers the page.
+pub fn place_of(taken: &[Segment], page: u32) -> usize
+    requires { position_or_len (covers page) taken.now < length taken.now }
+    ensures place { result ≡ position_or_len (covers page) taken.now }
+    ensures within { result < length taken.now }
+{
+    for (i, segment) in taken.iter().enumerate() {
+        if segment.start <= page && page - segment.start < segment.pages {
+            return i;
+        }
+    }
+    unreachable!()
+}
+
+/// Puts the segment among the others, for which there is room.
+pub fn enter(taken: &mut Vec<Segment>, segment: Segment)
+    requires { vec_len taken.old < vec_capacity taken.old }
+    ensures items { taken.new.items ≡ entered segment taken.old.items }
+    ensures capacity { vec_capacity taken.old ≤ vec_capacity taken.new }
+{
+    let index = segments_up_to(taken, segment.start);
+    match taken.insert(index, segment) {
+        Ok(()) => (),
+        Err(_) => unreachable!(),
+    }
+}
