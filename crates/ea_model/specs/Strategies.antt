@@ -3,6 +3,8 @@ use Rattle.std.specs.Prelude.{ℕ, ◌+◌, ◌*◌, Bool, true, false, ◌&&◌
 use Rattle.std.specs.List.{flat_map}
 use Rattle.ea_model.specs.declared.settings.Strategy.{Strategy}
 use Rattle.ea_model.specs.declared.settings.Strategy.TheVariants.{Bf, Aobf, Aoff, AoffCbf, AoffCaobf, AgeffCaoff, AgeffCbf, AgeffCaobf, Gf, Af}
+use Rattle.ea_model.specs.declared.carriers.Inner.{Inner}
+use Rattle.ea_model.specs.declared.carriers.Inner.TheVariants as inner
 use Rattle.ea_model.specs.declared.carriers.Kind.{Kind}
 use Rattle.ea_model.specs.declared.carriers.Kind.TheVariants.{Main, Multi, Single}
 use Rattle.ea_model.specs.declared.carriers.Gap.{Gap}
@@ -54,6 +56,19 @@ takes_first AgeffCbf a b = older a b (smaller_high a b)
 takes_first AgeffCaobf a b = older a b (smaller_low a b)
 takes_first Gf a b = smaller_low a b
 takes_first Af a b = lower a b
+
+-- how a strategy compares two gaps of one carrier
+abbrev pub inner_of : Strategy → Inner
+inner_of Bf = inner.Bf
+inner_of Aobf = inner.Aobf
+inner_of Aoff = inner.Aoff
+inner_of AoffCbf = inner.Bf
+inner_of AoffCaobf = inner.Aobf
+inner_of AgeffCaoff = inner.Aoff
+inner_of AgeffCbf = inner.Bf
+inner_of AgeffCaobf = inner.Aobf
+inner_of Gf = inner.Aobf
+inner_of Af = inner.Aoff
 
 -- the candidates of at least so many units
 abbrev pub large_enough : ℕ → List Candidate → List Candidate

@@ -139,7 +139,7 @@ pub struct Candidate {
     /// The gap's first unit in the carrier.
     pub offset: u32,
     /// The gap's first unit in the super carrier.
-    pub address: u32,
+    pub address: u64,
     /// The gap's units.
     pub size: u32,
 }

@@ -1,0 +1,24 @@
+-- What an instance keeps of its carriers.
+use Rattle.std.specs.Prelude.{◌≡◌, ℕ, ◌+◌, ◌%◌, ◌/◌, ◌<◌, ◌≤◌, List, [], ◌∷◌, All}
+use Rattle.ea_model.specs.declared.settings.Settings.{Settings}
+use Rattle.ea_model.specs.Content.{Content}
+use Rattle.ea_model.specs.Settings.{IsValid}
+use Rattle.ea_model.specs.Instance.{segments, first_number}
+use Rattle.ea_model.specs.Region.{Region}
+
+-- the contents stand by rising number, from `low` on and below `high`
+abbrev pub Rising : ℕ → ℕ → List Content → Type 0
+Rising low high [] = low ≤ high
+Rising low high (c ∷ cs) = (low ≤ c.number) × (c.number < high) × Rising (c.number + 1) high cs
+
+-- a carrier has whole pages, one at least
+abbrev pub IsWhole : Content → Type 0
+IsWhole c = (c.units % 512 ≡ 0) × (1 ≤ c.units / 512)
+
+-- the carriers' numbers are the instance's own, and their segments are the taken ones of its region
+pub record IsKept (settings : Settings) (number : ℕ) (contents : List Content) (region : Region) : Type 0 where
+  pub valid : IsValid settings
+  pub instance : (1 ≤ number) × (number ≤ 16)
+  pub rising : Rising (first_number number) (first_number number + 256) contents
+  pub whole : All IsWhole contents
+  pub taken : region.taken ≡ segments contents

@@ -1,0 +1,138 @@
+//! A carrier that an instance employs.
+ghost use Rattle.std.specs.Prelude.{◌≡◌, ◌≢◌, ℕ, ◌+◌, ◌*◌, ◌%◌, ◌<◌, ◌≤◌, ◌↔◌, IsTrue, IsSome, IfSome, IfOk, OnOk, OnErr, Some, None, true, length, map, option_map};
+ghost use Rattle.ea_model.specs.Content.{gaps_of, gap_at, block_at, named, taken_of, placed, released, allocated, free_units};
+ghost use Rattle.ea_model.specs.Choice.{choice};
+ghost use Rattle.ea_model.specs.Strategies.{candidate, candidates_in};
+ghost use Rattle.ea_model.specs.Text.{carrier_line};
+ghost use Rattle.ea_model.specs.Instance.{is_done};
+ghost use Rattle.ea_instance.specs.Kinds.{is_shared};
+
+use ea_mbc::Mbc;
+use ea_model::{
+    Block, Candidate, CarrierLine, Inner, Kind, OutOfMemory, PAGE_UNITS, Standing,
+};
+use std::marker::Model;
+
+/// A main or multiblock carrier of an instance. Contracts see it as its content.
+#[derive(Drop)]
+pub struct Employed {
+    kind: Kind,
+    carrier: Mbc,
+}
+
+impl Model for Employed {
+    ghost use Rattle.std.specs.Prelude.{◌≡◌, true};
+    ghost use Rattle.ea_model.specs.Content.{Content};
+    ghost use Rattle.ea_instance.specs.Kinds.{is_shared};
+
+    ghost Value = { Content };
+
+    ghost view = { λ e. record e.carrier { kind = e.kind } };
+
+    ghost invariant = { λ e. is_shared e.kind ≡ true };
+}
+
+impl Employed {
+    /// The carrier as one of this kind, which isn't a singleblock carrier.
+    pub fn new(kind: Kind, carrier: Mbc) -> Employed
+        requires { is_shared kind ≡ true }
+        ensures { result ≡ record carrier { kind = kind } }
+    {
+        Employed { kind, carrier }
+    }
+
+    /// Its own number.
+    pub fn number(&self) -> u32
+        ensures { result ≡ self.now.number }
+    {
+        self.carrier.number()
+    }
+
+    /// Its first page.
+    pub fn base(&self) -> u32
+        ensures { result ≡ self.now.base }
+    {
+        self.carrier.base()
+    }
+
+    /// All its units.
+    pub fn units(&self) -> u32
+        ensures { result ≡ self.now.units }
+    {
+        self.carrier.units()
+    }
+
+    /// The gap that is chosen in it, as strategies compare it with those of other carriers.
+    pub fn candidate(&self, inner: Inner, need: u32) -> Option<Candidate>
+        requires { 1 ≤ need }
+        ensures found { result ≡ option_map (candidate self.now) (choice inner need (gaps_of self.now)) }
+        ensures fits { IfSome result (λ x. need ≤ gap_at (gaps_of self.now) x.offset) }
+        ensures shared { candidates_in self.now.kind self.now ≡ map (candidate self.now) (gaps_of self.now) }
+    {
+        let offset = self.carrier.choose(inner, need)?;
+        Some(Candidate {
+            number: self.carrier.number(),
+            base: self.carrier.base(),
+            birth: self.carrier.birth(),
+            offset,
+            address: u64::from(self.carrier.base()) * u64::from(PAGE_UNITS) + u64::from(offset),
+            size: self.carrier.gap_at(offset),
+        })
+    }
+
+    /// Places a block at the front of the gap at `offset`, and answers its units.
+    pub fn place(&mut self, offset: u32, need: u32, name: u32) -> Result<u32, OutOfMemory>
+        requires fits { need ≤ gap_at (gaps_of self.old) offset }
+        requires even { need % 2 ≡ 0 }
+        requires least { 6 ≤ need }
+        ensures size { IfOk result (λ size. size ≡ taken_of (gap_at (gaps_of self.old) offset) need) }
+        ensures ok { OnOk result (self.new ≡ placed self.old offset need name) }
+        ensures err { OnErr result (self.new ≡ self.old) }
+        ensures fresh { block_at self.old.blocks offset ≡ None }
+        ensures begins { IfOk result (λ size. block_at self.new.blocks offset ≡ Some (record { name = name; offset = offset; size = size })) }
+        ensures others { (at : ℕ) → at ≢ offset → block_at self.new.blocks at ≡ block_at self.old.blocks at }
+    {
+        self.carrier.place(offset, need, name)
+    }
+
+    /// Takes out the block at `offset`, and answers its units.
+    pub fn release(&mut self, offset: u32) -> Result<u32, OutOfMemory>
+        requires { IsSome (block_at self.old.blocks offset) }
+        ensures ok { OnOk result (self.new ≡ released self.old offset) }
+        ensures err { OnErr result (self.new ≡ self.old) }
+        ensures others { (at : ℕ) → at ≢ offset → block_at self.new.blocks at ≡ block_at self.old.blocks at }
+    {
+        self.carrier.release(offset)
+    }
+
+    /// The block that begins at `offset`, if one does.
+    pub fn block_at(&self, offset: u32) -> Option<Block>
+        ensures { result ≡ option_map named (block_at self.now.blocks offset) }
+    {
+        self.carrier.block_at(offset)
+    }
+
+    /// Whether it is to be deallocated: it has no blocks and isn't the main carrier.
+    pub fn is_done(&self) -> bool
+        ensures { result ≡ is_done self.now }
+    {
+        self.kind == Kind::Multi && self.carrier.is_empty()
+    }
+
+    /// Its line among the carriers of the output.
+    pub fn line(&self) -> CarrierLine
+        ensures { result ≡ carrier_line self.now }
+    {
+        CarrierLine {
+            number: self.carrier.number(),
+            kind: self.kind,
+            owner: self.carrier.owner(),
+            word: Standing::Employed,
+            employer: self.carrier.owner(),
+            base: self.carrier.base(),
+            pages: self.carrier.units() / PAGE_UNITS,
+            allocated: self.carrier.allocated(),
+            largest: self.carrier.largest(),
+        }
+    }
+}
