@@ -1,2 +1,4 @@
 pub mod Contents
+pub mod Folding
 pub mod Segments
+pub mod Unused

@@ -4,7 +4,7 @@ ghost use Rattle.ea_model.specs.Content.{gaps_of, gap_at, block_at, named, taken
 ghost use Rattle.ea_model.specs.Choice.{choice};
 ghost use Rattle.ea_model.specs.Strategies.{candidate, candidates_in};
 ghost use Rattle.ea_model.specs.Text.{carrier_line};
-ghost use Rattle.ea_model.specs.Instance.{is_done};
+ghost use Rattle.ea_model.specs.Instance.{is_done, is_multi};
 ghost use Rattle.ea_instance.specs.Kinds.{is_shared};
 
 use ea_mbc::Mbc;
@@ -112,11 +112,18 @@ impl Employed {
         self.carrier.block_at(offset)
     }
 
+    /// Whether it is a multiblock carrier other than the main one.
+    pub fn is_multi(&self) -> bool
+        ensures { result ≡ is_multi self.now.kind }
+    {
+        self.kind == Kind::Multi
+    }
+
     /// Whether it is to be deallocated: it has no blocks and isn't the main carrier.
     pub fn is_done(&self) -> bool
         ensures { result ≡ is_done self.now }
     {
-        self.kind == Kind::Multi && self.carrier.is_empty()
+        self.is_multi() && self.carrier.is_empty()
     }
 
     /// Its line among the carriers of the output.

@@ -3,4 +3,5 @@
 
 mod employed;
 mod strategies;
+mod walks;
 

@@ -64,7 +64,7 @@ is_used number [] = false
 is_used number (c ∷ cs) = (c.number == number) || is_used number cs
 
 -- the lowest of so many numbers from `number` on that isn't in use
-abbrev pub unused_from : ℕ → ℕ → List Content → Option ℕ
+unfoldable pub unused_from : ℕ → ℕ → List Content → Option ℕ
 unused_from zero number cs = None
 unused_from (suc k) number cs = if is_used number cs then unused_from k (number + 1) cs else Some number
 

@@ -1,39 +1,40 @@
 use Rattle.std.proofs.Common.{refl}
 use Rattle.std.specs.Fmt.{digits}
+use Rattle.ea_model.specs.Instance.{unused_from}
 use Rattle.ea_model.proofs.worked.worked_inputs.Goals as goal
 
 pub returns-clause-first_block : goal.returns-clause-first_block
-unfolding digits
+unfolding digits unused_from
 returns-clause-first_block c = refl
 
 pub returns-clause-zero_bytes : goal.returns-clause-zero_bytes
-unfolding digits
+unfolding digits unused_from
 returns-clause-zero_bytes c = refl
 
 pub returns-clause-free_and_skip : goal.returns-clause-free_and_skip
-unfolding digits
+unfolding digits unused_from
 returns-clause-free_and_skip c = refl
 
 pub returns-clause-joined_gap : goal.returns-clause-joined_gap
-unfolding digits
+unfolding digits unused_from
 returns-clause-joined_gap c = refl
 
 pub returns-clause-exactly_threshold : goal.returns-clause-exactly_threshold
-unfolding digits
+unfolding digits unused_from
 returns-clause-exactly_threshold c = refl
 
 pub returns-clause-space_refused : goal.returns-clause-space_refused
-unfolding digits
+unfolding digits unused_from
 returns-clause-space_refused c = refl
 
 pub returns-clause-main_carrier : goal.returns-clause-main_carrier
-unfolding digits
+unfolding digits unused_from
 returns-clause-main_carrier c = refl
 
 pub returns-clause-carrier_growth : goal.returns-clause-carrier_growth
-unfolding digits
+unfolding digits unused_from
 returns-clause-carrier_growth c = refl
 
 pub returns-clause-spaces_and_comments : goal.returns-clause-spaces_and_comments
-unfolding digits
+unfolding digits unused_from
 returns-clause-spaces_and_comments c = refl

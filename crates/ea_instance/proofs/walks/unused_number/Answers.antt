@@ -1,0 +1,24 @@
+use Rattle.std.proofs.Common.{◌≡◌, ◌+◌, ◌∙◌, sym, ap, refl, true, false, arith}
+use Rattle.ea_model.specs.Instance.{unused_from}
+use Rattle.ea_instance.proofs.Unused.{stops_here, goes_on, ends}
+use Rattle.ea_instance.proofs.walks.unused_number.Goals as goal
+
+pub loop-k-init : goal.loop-k-init
+loop-k-init c =
+    let at : c.args.first + 0 ≡ c.args.first = omega arith in
+    (256, refl, ap (λ n. unused_from 256 n c.args.carriers.now) at)
+
+pub loop-k-preserved : goal.loop-k-preserved
+loop-k-preserved c =
+    let (left, count, same) = c.loop-k.invariant in
+    goes_on left c.loop-k.k c.args.first c.args.carriers.now _ count c.loop-k-test.true ? same
+
+pub returns-then-not-is_used : goal.returns-then-not-is_used
+returns-then-not-is_used c =
+    let (left, count, same) = c.loop-k.invariant in
+    stops_here left c.loop-k.k c.args.first c.args.carriers.now _ count c.loop-k-test.true ? same
+
+pub returns : goal.returns
+returns c =
+    let (left, count, same) = c.loop-k.invariant in
+    ends left c.loop-k.k c.args.first c.args.carriers.now _ count (omega arith) same
