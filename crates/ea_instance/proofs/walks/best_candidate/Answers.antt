@@ -1,5 +1,25 @@
+use Rattle.std.proofs.Common.{◌≡◌, ◌+◌, ◌∷◌, fold, drop, option_map, sym, ◌∙◌, ap}
+use Rattle.std.proofs.lemmas.List.{drop_more}
+use Rattle.ea_model.specs.Content.{gaps_of}
+use Rattle.ea_model.specs.Choice.{better, choice}
+use Rattle.ea_model.specs.Strategies.{candidate, candidates, large_enough, takes_first}
+use Rattle.ea_model.specs.Strategies as strategies
+use Rattle.ea_instance.specs.Better.{better_of}
 use Rattle.ea_instance.proofs.Folding.{choice_more}
 use Rattle.ea_instance.proofs.walks.best_candidate.Goals as goal
 
 pub loop-carrier-preserved : goal.loop-carrier-preserved
-loop-carrier-preserved c = let h = choice_more in let e = c.candidate.ensures in let f = c.better_of-best.ensures in ?
+loop-carrier-preserved c =
+    let item = c.carrier-item.result in
+    let later = drop (c.loop-carrier.carrier-index + 1) c.args.carriers.now in
+    let next : drop c.loop-carrier.carrier-index c.args.carriers.now ≡ item ∷ later = drop_more c.args.carriers.now c.loop-carrier.carrier-index item c.loop-carrier-test.true ∙ ap (λ x. x ∷ later) (sym c.carrier-item.is) in
+    let found : c.candidate.result ≡ option_map (candidate item) (choice (strategies.inner_of c.args.strategy) c.args.need (gaps_of item)) =
+        c.candidate.ensures.found ∙ ap (λ inner. option_map (candidate item) (choice inner c.args.need (gaps_of item))) c.inner_of-inner.ensures in
+    record {
+      inner = c.inner_of-inner.ensures;
+      rest =
+          ap (λ best. fold (better (takes_first c.args.strategy)) best (large_enough c.args.need (candidates later))) (c.better_of-best.ensures ∙ ap (better_of (takes_first c.args.strategy) c.loop-carrier.best) found)
+          ∙ sym (choice_more c.args.strategy c.args.need c.loop-carrier.best item later c.candidate.ensures.shared)
+          ∙ sym (ap (λ cs. fold (better (takes_first c.args.strategy)) c.loop-carrier.best (large_enough c.args.need (candidates cs))) next)
+          ∙ c.loop-carrier.invariant.rest;
+    }

@@ -11,12 +11,12 @@ loop-k-init c =
 pub loop-k-preserved : goal.loop-k-preserved
 loop-k-preserved c =
     let (left, count, same) = c.loop-k.invariant in
-    goes_on left c.loop-k.k c.args.first c.args.carriers.now _ count c.loop-k-test.true ? same
+    goes_on left c.loop-k.k c.args.first c.args.carriers.now _ count c.loop-k-test.true (sym c.if-not-is_used.ensures) same
 
 pub returns-then-not-is_used : goal.returns-then-not-is_used
 returns-then-not-is_used c =
     let (left, count, same) = c.loop-k.invariant in
-    stops_here left c.loop-k.k c.args.first c.args.carriers.now _ count c.loop-k-test.true ? same
+    stops_here left c.loop-k.k c.args.first c.args.carriers.now _ count c.loop-k-test.true (sym c.if-not-is_used.ensures) same
 
 pub returns : goal.returns
 returns c =
