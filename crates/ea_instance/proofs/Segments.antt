@@ -1,33 +1,221 @@
 -- The segments of an instance's carriers.
-use Rattle.std.proofs.Common.{◌≡◌, ◌≢◌, ℕ, ◌+◌, ◌/◌, ◌%◌, ◌<◌, ◌≤◌, List, [], ◌∷◌, length, filter, not, All}
-use Rattle.std.specs.Prelude.{Some, ◌==◌}
+use Rattle.std.proofs.Common.{suc, ◌≡◌, ◌≢◌, ℕ, ◌+◌, ◌/◌, ◌<◌, ◌≤◌, true, List, [], ◌∷◌, ◌++◌, length, filter, not, All, sym, ap, ◌∙◌, subst, refl, inl, inr, ◌⊎◌, arith}
+use Rattle.std.specs.Prelude.{Some, ◌==◌, Any}
+use Rattle.std.proofs.lemmas.Bool.{cases_lt, cases_eq}
+use Rattle.std.proofs.lemmas.List.Elements.{All-nil, All-cons, All-head, All-tail}
 use Rattle.ea_model.specs.declared.carriers.Segment.{Segment}
 use Rattle.ea_model.specs.Content.{Content}
-use Rattle.ea_model.specs.Region.{entered, cut_from, Laid}
+use Rattle.ea_model.specs.Region.{stretch, entered, covers, cut_from, Laid}
 use Rattle.ea_model.specs.Instance.{segment_of, segments, with_content, content_of}
-use Rattle.ea_space.specs.Pages.{IsApart, IsTail}
+use Rattle.ea_space.specs.Pages.{IsBeside, IsApart, IsTailOf, IsTail}
+use Rattle.ea_space.proofs.Segments.{entered_here, entered_past, covers_cases, cut_past, cut_first, cut-before, stretch_none, Laid-cut, any_cases, IsTail_cases, IsTail_behind}
 use Rattle.ea_instance.specs.Kept.{Rising, IsWhole}
+
+entered_only : (a b : Segment) → a.start ≢ b.start → entered a (b ∷ []) ≡ entered b (a ∷ [])
+entered_only a b h = elim (cases_lt a.start b.start) [ inl p ↦ grind arith | inr q ↦ grind arith ]
+
+entered_first : (a b t : Segment) (ts : List Segment) → a.start ≢ b.start → b.start < t.start → entered a (b ∷ t ∷ ts) ≡ entered b (entered a (t ∷ ts))
+entered_first a b t ts h lt = elim (cases_lt a.start b.start) [ inl p ↦ grind arith | inr q ↦ grind arith ]
 
 -- segments that begin at different pages may be entered in either order
 pub entered-entered : (a b : Segment) (ts : List Segment) → a.start ≢ b.start → entered a (entered b ts) ≡ entered b (entered a ts)
-entered-entered a b ts h = ?
+entered-entered a b [] h = entered_only a b h
+entered-entered a b (t ∷ ts) h =
+    elim (cases_lt b.start t.start) [
+      | inl p ↦ ap (entered a) (entered_here b t ts p) ∙ entered_first a b t ts h p
+      | inr q ↦ elim (cases_lt a.start t.start) [
+        | inl p ↦ sym (ap (entered b) (entered_here a t ts p) ∙ entered_first b a t ts (λ e. h (sym e)) p)
+        | inr r ↦ ap (entered a) (entered_past b t ts q) ∙ entered_past a t (entered b ts) r ∙ ap (λ xs. t ∷ xs) (entered-entered a b ts h) ∙ sym (ap (entered b) (entered_past a t ts r) ∙ entered_past b t (entered a ts) q)
+      ]
+    ]
+
+length_entered : (s : Segment) (ts : List Segment) → length (entered s ts) ≡ suc (length ts)
+length_entered s [] = refl
+length_entered s (t ∷ ts) =
+    elim (cases_lt s.start t.start) [
+      | inl p ↦ ap (λ xs. length xs) (entered_here s t ts p)
+      | inr q ↦ ap (λ xs. length xs) (entered_past s t ts q) ∙ ap suc (length_entered s ts)
+    ]
 
 pub length-segments : (cs : List Content) → length (segments cs) ≡ length cs
-length-segments cs = ?
+length-segments [] = refl
+length-segments (c ∷ cs) = length_entered (segment_of c) (segments cs) ∙ ap suc (length-segments cs)
+
+-- what holds of all segments holds of the one entered and of the others
+all_entered : (P : Segment → Type 0) (s : Segment) (ts : List Segment) → All P (entered s ts) → P s × All P ts
+all_entered P s [] h = (All-head P s [] h, All-nil P)
+all_entered P s (t ∷ ts) h =
+    elim (cases_lt s.start t.start) [
+      | inl p ↦ let k = subst (All P) (entered_here s t ts p) h in (All-head P s (t ∷ ts) k, All-tail P s (t ∷ ts) k)
+      | inr q ↦
+          let k = subst (All P) (entered_past s t ts q) h in
+          let more = all_entered P s ts (All-tail P t (entered s ts) k) in
+          (more.0, All-cons P t ts (All-head P t (entered s ts) k) more.1)
+    ]
+
+apart_base : (start pages : ℕ) (c : Content) → 1 ≤ pages → IsWhole c → IsBeside start pages (segment_of c) → c.base ≢ start
+apart_base start pages c some whole beside =
+    elim beside [ inl p ↦ λ e. omega (arith, whole.1) | inr q ↦ λ e. omega arith ]
 
 -- a carrier that meets no taken segment begins where no other does
 pub apart-bases : (start pages : ℕ) (cs : List Content) → 1 ≤ pages → All IsWhole cs → IsApart start pages (segments cs) → All (λ c. c.base ≢ start) cs
-apart-bases start pages cs some whole apart = ?
+apart-bases start pages [] some whole apart = All-nil (λ (c : Content). c.base ≢ start)
+apart-bases start pages (c ∷ cs) some whole apart =
+    let both = all_entered (IsBeside start pages) (segment_of c) (segments cs) apart in
+    All-cons (λ (c : Content). c.base ≢ start) c cs
+      (apart_base start pages c some (All-head IsWhole c cs whole) both.0)
+      (apart-bases start pages cs some (All-tail IsWhole c cs whole) both.1)
+
+with_here : (x c : Content) (cs : List Content) → x.number < c.number → with_content x (c ∷ cs) ≡ x ∷ c ∷ cs
+with_here x c cs h = grind arith
+
+with_past : (x c : Content) (cs : List Content) → c.number ≤ x.number → with_content x (c ∷ cs) ≡ c ∷ with_content x cs
+with_past x c cs h = grind arith
 
 -- one more carrier is one more segment
 pub segments-with_content : (x : Content) (cs : List Content) → All (λ c. c.base ≢ x.base) cs → segments (with_content x cs) ≡ entered (segment_of x) (segments cs)
-segments-with_content x cs h = ?
+segments-with_content x [] h = refl
+segments-with_content x (c ∷ cs) h =
+    elim (cases_lt x.number c.number) [
+      | inl p ↦ ap segments (with_here x c cs p)
+      | inr q ↦ ap segments (with_past x c cs q)
+          ∙ ap (entered (segment_of c)) (segments-with_content x cs (All-tail (λ (c : Content). c.base ≢ x.base) c cs h))
+          ∙ entered-entered (segment_of c) (segment_of x) (segments cs) (All-head (λ (c : Content). c.base ≢ x.base) c cs h)
+    ]
+
+any_here : (P : Segment → Type 0) (s : Segment) (ts : List Segment) → P s → Any P (s ∷ ts)
+any_here P s ts p = (0, s, omega arith, refl, p)
+
+any_later : (P : Segment → Type 0) (s : Segment) (ts : List Segment) → Any P ts → Any P (s ∷ ts)
+any_later P s ts h = (suc h.0, h.1, omega (arith, h.2), h.3, h.4)
+
+any_entered : (P : Segment → Type 0) (s : Segment) (ts : List Segment) → P s → Any P (entered s ts)
+any_entered P s [] p = any_here P s [] p
+any_entered P s (t ∷ ts) p =
+    elim (cases_lt s.start t.start) [
+      | inl lt ↦ subst (Any P) (sym (entered_here s t ts lt)) (any_here P s (t ∷ ts) p)
+      | inr le ↦ subst (Any P) (sym (entered_past s t ts le)) (any_later P t (entered s ts) (any_entered P s ts p))
+    ]
+
+any_among : (P : Segment → Type 0) (s : Segment) (ts : List Segment) → Any P ts → Any P (entered s ts)
+any_among P s [] h = any_later P s [] h
+any_among P s (t ∷ ts) h =
+    elim (cases_lt s.start t.start) [
+      | inl lt ↦ subst (Any P) (sym (entered_here s t ts lt)) (any_later P s (t ∷ ts) h)
+      | inr le ↦ subst (Any P) (sym (entered_past s t ts le)) (elim (any_cases P t ts h.0 h.1 h.2 h.3 h.4) [
+        | inl p ↦ any_here P t (entered s ts) p
+        | inr q ↦ any_later P t (entered s ts) (any_among P s ts q)
+      ])
+    ]
+
+-- the content of a number is the first one, or it is among the others
+content_cases : (number : ℕ) (c x : Content) (xs : List Content) → content_of (x ∷ xs) number ≡ Some c → ((x.number ≡ number) × (x ≡ c)) ⊎ ((x.number ≢ number) × (content_of xs number ≡ Some c))
+content_cases number c x xs h = elim (cases_eq x.number number) [ inl e ↦ inl (e, grind arith) | inr n ↦ inr (n, grind arith) ]
 
 -- a carrier's segment is one of the taken ones
 pub content_of-IsTail : (number : ℕ) (c : Content) (cs : List Content) → content_of cs number ≡ Some c → All IsWhole cs → IsTail c.base (c.units / 512) (segments cs)
-content_of-IsTail number c cs there whole = ?
+content_of-IsTail number c [] there whole = absurd (grind arith)
+content_of-IsTail number c (x ∷ xs) there whole =
+    let is_tail : Segment → Type 0 = IsTailOf c.base (c.units / 512) in
+    elim (content_cases number c x xs there) [
+      | inl p ↦
+          let here : IsWhole c = subst IsWhole p.1 (All-head IsWhole x xs whole) in
+          any_entered is_tail (segment_of x) (segments xs) (subst (λ y. is_tail (segment_of y)) (sym p.1) (record { within = omega arith; some = here.1; to_end = refl }))
+      | inr q ↦ any_among is_tail (segment_of x) (segments xs) (content_of-IsTail number c xs q.1 (All-tail IsWhole x xs whole))
+    ]
+
+-- of segments laid with one more, that one begins behind the beginning and has pages, and the others are laid without it
+laid_entered : (at end : ℕ) (s : Segment) (ts : List Segment) → Laid at end (entered s ts) → (at ≤ s.start) × (0 < s.pages) × Laid at end ts
+laid_entered at end s [] t = (t.0, t.1, omega (arith, t.0, t.2))
+laid_entered at end s (r ∷ rs) t =
+    elim (cases_lt s.start r.start) [
+      | inl lt ↦ let l = subst (Laid at end) (entered_here s r rs lt) t in (l.0, l.1, (omega (arith, l.0), l.2.1, l.2.2))
+      | inr le ↦
+          let l = subst (Laid at end) (entered_past s r rs le) t in
+          let more = laid_entered (r.start + r.pages) end s rs l.2 in
+          (omega (arith, l.0), more.1, (l.0, l.1, more.2))
+    ]
+
+covers_start : (s : Segment) → 0 < s.pages → covers s.start s ≡ true
+covers_start s h = elim (covers_cases s.start s) [ inl p ↦ p.2 | inr q ↦ absurd (elim q.0 [ inl b ↦ omega arith | inr b ↦ omega arith ]) ]
+
+cut_whole : (at end : ℕ) (s : Segment) (ts : List Segment) → Laid at end (s ∷ ts) → cut_from s.start (s ∷ ts) ≡ ts
+cut_whole at end s ts t =
+    cut_first at end s.start s ts t (omega (arith, t.1)) (covers_start s t.1) ∙ ap (λ xs. xs ++ ts) (stretch_none s.start s.start (omega arith))
+
+-- the segment that was entered is cut out again
+cut_entered : (at end : ℕ) (s : Segment) (ts : List Segment) → Laid at end (entered s ts) → cut_from s.start (entered s ts) ≡ ts
+cut_entered at end s [] t = cut_whole at end s [] t
+cut_entered at end s (r ∷ rs) t =
+    elim (cases_lt s.start r.start) [
+      | inl lt ↦ ap (cut_from s.start) (entered_here s r rs lt) ∙ cut_whole at end s (r ∷ rs) (subst (Laid at end) (entered_here s r rs lt) t)
+      | inr le ↦
+          let l = subst (Laid at end) (entered_past s r rs le) t in
+          let behind = (laid_entered (r.start + r.pages) end s rs l.2).0 in
+          elim (covers_cases s.start r) [
+            | inl p ↦ absurd (omega arith)
+            | inr q ↦ ap (cut_from s.start) (entered_past s r rs le) ∙ cut_past s.start r (entered s rs) q.1 ∙ ap (λ xs. r ∷ xs) (cut_entered (r.start + r.pages) end s rs l.2)
+          ]
+    ]
+
+-- a segment before all others is entered as the first
+entered_front : (at end : ℕ) (s : Segment) (ts : List Segment) → Laid at end ts → s.start < at → entered s ts ≡ s ∷ ts
+entered_front at end s [] t h = refl
+entered_front at end s (r ∷ rs) t h = entered_here s r rs (omega (arith, t.0))
+
+entered_stretch : (a b : ℕ) (s : Segment) (ts : List Segment) → a ≤ s.start → entered s (stretch a b ++ ts) ≡ stretch a b ++ entered s ts
+entered_stretch a b s ts h = elim (cases_lt a b) [ inl lt ↦ grind arith | inr le ↦ grind arith ]
+
+-- an entry and the cut of another segment may be done in either order
+cut_other : (at end page pages : ℕ) (s : Segment) (ts : List Segment) → Laid at end (entered s ts) → IsTail page pages ts → cut_from page (entered s ts) ≡ entered s (cut_from page ts)
+cut_other at end page pages s [] t h = absurd (omega (arith, h.2))
+cut_other at end page pages s (r ∷ rs) t h =
+    elim (cases_lt s.start r.start) [
+      | inl lt ↦
+          let l = subst (Laid at end) (entered_here s r rs lt) t in
+          let later : Laid r.start end (r ∷ rs) = (omega arith, l.2.1, l.2.2) in
+          let behind = IsTail_behind r.start end page pages (r ∷ rs) later h in
+          elim (covers_cases page s) [
+            | inl p ↦ absurd (omega (arith, l.2.0))
+            | inr q ↦ ap (cut_from page) (entered_here s r rs lt) ∙ cut_past page s (r ∷ rs) q.1 ∙ sym (entered_front r.start end s (cut_from page (r ∷ rs)) (Laid-cut r.start end page (r ∷ rs) later) lt)
+          ]
+      | inr le ↦
+          let l = subst (Laid at end) (entered_past s r rs le) t in
+          elim (covers_cases page r) [
+            | inl p ↦
+                let rest : Laid at end (r ∷ rs) = (l.0, l.1, (laid_entered (r.start + r.pages) end s rs l.2).2) in
+                ap (cut_from page) (entered_past s r rs le) ∙ cut_first at end page r (entered s rs) l p.1 p.2 ∙ sym (entered_stretch r.start page s rs le) ∙ ap (entered s) (sym (cut_first at end page r rs rest p.1 p.2))
+            | inr q ↦ elim (IsTail_cases page pages r rs h) [
+              | inl p ↦ absurd (elim q.0 [ inl b ↦ omega (arith, p.within) | inr b ↦ omega (arith, p.some, p.to_end) ])
+              | inr more ↦ ap (cut_from page) (entered_past s r rs le) ∙ cut_past page r (entered s rs) q.1 ∙ ap (λ xs. r ∷ xs) (cut_other (r.start + r.pages) end page pages s rs l.2 more) ∙ sym (ap (entered s) (cut_past page r rs q.1) ∙ entered_past s r (cut_from page rs) le)
+            ]
+          ]
+    ]
+
+filter_gone : (number : ℕ) (x : Content) (xs : List Content) → x.number ≡ number → filter (λ c. not (c.number == number)) (x ∷ xs) ≡ filter (λ c. not (c.number == number)) xs
+filter_gone number x xs e = grind arith
+
+filter_past : (number : ℕ) (x : Content) (xs : List Content) → x.number ≢ number → filter (λ c. not (c.number == number)) (x ∷ xs) ≡ x ∷ filter (λ c. not (c.number == number)) xs
+filter_past number x xs n = grind arith
+
+-- no content has a number below the first one
+filter_behind : (low high number : ℕ) (cs : List Content) → Rising low high cs → number < low → filter (λ c. not (c.number == number)) cs ≡ cs
+filter_behind low high number [] r h = refl
+filter_behind low high number (c ∷ cs) r h =
+    filter_past number c cs (λ e. omega (arith, r.0)) ∙ ap (λ xs. c ∷ xs) (filter_behind (c.number + 1) high number cs r.2 (omega (arith, r.0)))
 
 -- one carrier less is its segment less
 pub segments-without : (first end low high number : ℕ) (c : Content) (cs : List Content) → Laid first end (segments cs) → All IsWhole cs → Rising low high cs → content_of cs number ≡ Some c
     → segments (filter (λ x. not (x.number == number)) cs) ≡ cut_from c.base (segments cs)
-segments-without first end low high number c cs laid whole rising there = ?
+segments-without first end low high number c [] laid whole rising there = absurd (grind arith)
+segments-without first end low high number c (x ∷ xs) laid whole rising there =
+    elim (content_cases number c x xs there) [
+      | inl p ↦
+          let cut : cut_from c.base (segments (x ∷ xs)) ≡ segments xs = subst (λ y. cut_from y.base (segments (x ∷ xs)) ≡ segments xs) p.1 (cut_entered first end (segment_of x) (segments xs) laid) in
+          ap segments (filter_gone number x xs p.0 ∙ filter_behind (x.number + 1) high number xs rising.2 (omega arith)) ∙ sym cut
+      | inr q ↦
+          let rest = All-tail IsWhole x xs whole in
+          ap segments (filter_past number x xs q.0)
+          ∙ ap (entered (segment_of x)) (segments-without first end (x.number + 1) high number c xs (laid_entered first end (segment_of x) (segments xs) laid).2 rest rising.2 q.1)
+          ∙ sym (cut_other first end c.base (c.units / 512) (segment_of x) (segments xs) laid (content_of-IsTail number c xs q.1 rest))
+    ]
