@@ -53,6 +53,15 @@ entered_here x s ss h = grind arith
 pub entered_past : (x s : Segment) (ss : List Segment) → s.start ≤ x.start → entered x (s ∷ ss) ≡ s ∷ entered x ss
 entered_past x s ss h = grind arith
 
+-- there is one segment more
+pub length-entered : (x : Segment) (ss : List Segment) → length (entered x ss) ≡ length ss + 1
+length-entered x [] = refl
+length-entered x (s ∷ ss) =
+    elim (cases_lt x.start s.start) [
+      | inl lt ↦ ap length (entered_here x s ss lt) ∙ omega arith
+      | inr le ↦ ap length (entered_past x s ss le) ∙ omega (arith, length-entered x ss)
+    ]
+
 -- still laid with a segment that meets no other
 pub Laid-entered : (at end : ℕ) (x : Segment) (ss : List Segment) → Laid at end ss → at ≤ x.start → x.start + x.pages ≤ end → 0 < x.pages → IsApart x.start x.pages ss → Laid at end (entered x ss)
 Laid-entered at end x [] t behind before some apart = (behind, some, before)

@@ -74,6 +74,7 @@ impl Region {
         ensures inside { IfSome result (λ start. (self.old.first ≤ start) × (start + pages ≤ self.old.end)) }
         ensures apart { IfSome result (λ start. IsApart start pages self.old.taken) }
         ensures laid { Laid self.new.first self.new.end self.new.taken }
+        ensures count { length self.new.taken ≤ length self.old.taken + 1 }
     {
         match lowest_start(pages, self.first, self.end, &self.taken) {
             Some(start) => {
@@ -90,6 +91,7 @@ impl Region {
         requires { IsTail start pages self.old.taken }
         ensures cut { self.new ≡ record self.old { taken = cut_from start self.old.taken } }
         ensures laid { Laid self.new.first self.new.end self.new.taken }
+        ensures count { length self.new.taken ≤ length self.old.taken }
     {
         let index = place_of(&self.taken, start);
         let segment = self.taken[index];

@@ -1,4 +1,4 @@
-use Rattle.std.proofs.Common.{◌≡◌, ◌-◌, ◌<◌, ◌≤◌, sym, ◌∙◌, ap, subst, refl, arith, set, length}
+use Rattle.std.proofs.Common.{◌≡◌, ◌-◌, ◌<◌, ◌≤◌, sym, ◌∙◌, ap, subst, refl, arith, set, length, length-set}
 use Rattle.std.specs.List.{position_or_len}
 use Rattle.ea_model.specs.declared.carriers.Segment.{Segment}
 use Rattle.ea_model.specs.Region.{covers, cut_from, Laid}
@@ -53,3 +53,9 @@ returns-else-segment-pages-clause-laid c =
     let f = IsTail-found _ _ c.args.start c.args.pages c.place_of-index.result c.index-segment.result.now c.self.inside.taken.items c.self.invariant.laid (subst (λ r. IsTail c.args.start c.args.pages r.taken) (sym c.self.view_is) c.requires) (c.place_of-index.ensures.place ∙ ap (position_or_len (covers c.args.start)) c.deref.ensures.value) c.index-segment.ensures in
     let left = set-found _ _ c.args.start c.args.pages c.place_of-index.result c.index-segment.result.now c.index_mut.result.now c.self.inside.taken.items c.self.invariant.laid f c.if-segment-pages.false c.index_mut.ensures.value in
     subst (Laid c.self.inside.first c.self.inside.end) (sym left) (Laid-cut _ _ c.args.start c.self.inside.taken.items c.self.invariant.laid)
+
+pub returns-else-segment-pages-clause-count : goal.returns-else-segment-pages-clause-count
+returns-else-segment-pages-clause-count c =
+    let x : Segment = record { start = c.index_mut.result.now.start; pages = c.index-segment.result.now.pages - c.args.pages } in
+    let kept : length (set c.self.inside.taken.items c.place_of-index.result x) ≡ length c.self.inside.taken.items = length-set c.self.inside.taken.items c.place_of-index.result x in
+    subst (λ r. length (set c.self.inside.taken.items c.place_of-index.result x) ≤ length r.taken) c.self.view_is (omega arith)

@@ -1,8 +1,8 @@
-use Rattle.std.proofs.Common.{◌≡◌, ◌+◌, ◌<◌, ◌≤◌, sym, subst, arith}
+use Rattle.std.proofs.Common.{◌≡◌, ◌+◌, ◌<◌, ◌≤◌, length, sym, ap, ◌∙◌, subst, arith}
 use Rattle.std.specs.Prelude.{IfSome, Some}
 use Rattle.std.proofs.lemmas.Grind.{common_steps}
 use Rattle.ea_model.specs.Region.{runs, lowest_run, entered, Laid}
-use Rattle.ea_space.proofs.Segments.{Laid-entered}
+use Rattle.ea_space.proofs.Segments.{Laid-entered, length-entered}
 use Rattle.ea_space.proofs.Runs.{Fits, lowest-Fits}
 use Rattle.ea_space.proofs.region.Region.take.Goals as goal
 
@@ -33,3 +33,8 @@ returns-in-Some-clause-apart c = (subst (λ r. Fits r.first r.end c.in-Some.star
 
 pub returns-in-Some-clause-laid : goal.returns-in-Some-clause-laid
 returns-in-Some-clause-laid c = subst (Laid c.self.inside.first c.self.inside.end) (sym c.enter.ensures.items) (laid c)
+
+pub returns-in-Some-clause-count : goal.returns-in-Some-clause-count
+returns-in-Some-clause-count c =
+    let more : length c.enter.new.taken.items ≡ length c.self.inside.taken.items + 1 = ap length c.enter.ensures.items ∙ length-entered (record { start = c.in-Some.start; pages = c.args.pages }) c.self.inside.taken.items in
+    subst (λ r. length c.enter.new.taken.items ≤ length r.taken + 1) c.self.view_is (omega arith)
