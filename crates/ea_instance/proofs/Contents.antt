@@ -6,17 +6,18 @@ use Rattle.std.proofs.lemmas.Bool.{cases_lt, cases_eq, cases_Bool}
 use Rattle.std.proofs.lemmas.List.Elements.{All-nil, All-cons, All-head, All-tail}
 use Rattle.ea_model.specs.Content.{Content}
 use Rattle.ea_model.specs.Instance.{segment_of, segments, with_content, content_of, is_used, unused_from, changed}
+use Rattle.ea_instance.proofs.Unused.{unused_from-zero, unused_from-used, unused_from-free_here}
 use Rattle.ea_instance.specs.Kept.{Rising}
 
 unused_here : (k low n : ℕ) (cs : List Content) → is_used low cs ≡ false → unused_from (suc k) low cs ≡ Some n → low ≡ n
-unused_here k low n cs free h = grind arith
+unused_here k low n cs free h = let e : Some low ≡ Some n = sym (unused_from-free_here k low cs free) ∙ h in cc
 
 unused_past : (k low n : ℕ) (cs : List Content) → is_used low cs ≡ true → unused_from (suc k) low cs ≡ Some n → unused_from k (low + 1) cs ≡ Some n
-unused_past k low n cs used h = grind arith
+unused_past k low n cs used h = sym (unused_from-used k low cs used) ∙ h
 
 -- the lowest unused number is one of those asked for, and isn't in use
 pub unused_from-free : (k low n : ℕ) (cs : List Content) → unused_from k low cs ≡ Some n → (low ≤ n) × (n < low + k) × (is_used n cs ≡ false)
-unused_from-free zero low n cs h = absurd cc
+unused_from-free zero low n cs h = let e : None ≡ Some n = sym (unused_from-zero low cs) ∙ h in absurd cc
 unused_from-free (suc k) low n cs h =
     elim (cases_Bool (is_used low cs)) [
       | inl used ↦ let more = unused_from-free k (low + 1) n cs (unused_past k low n cs used h) in (omega arith, omega arith, more.2)
