@@ -7,7 +7,7 @@ use Rattle.std.proofs.lemmas.List.Elements.{All-nil, All-cons, All-head, All-tai
 use Rattle.ea_model.specs.Content.{Content}
 use Rattle.ea_model.specs.Instance.{segment_of, segments, with_content, content_of, is_used, unused_from, changed}
 use Rattle.ea_instance.proofs.Unused.{unused_from-zero, unused_from-used, unused_from-free_here}
-use Rattle.ea_instance.specs.Kept.{Rising}
+use Rattle.ea_instance.specs.Kept.{Rising, is_behind}
 
 unused_here : (k low n : ℕ) (cs : List Content) → is_used low cs ≡ false → unused_from (suc k) low cs ≡ Some n → low ≡ n
 unused_here k low n cs free h = let e : Some low ≡ Some n = sym (unused_from-free_here k low cs free) ∙ h in cc
@@ -138,10 +138,6 @@ set-changed f low high zero d (c ∷ cs) r h =
 set-changed f low high (suc i) d (c ∷ cs) r h =
     let place = Rising-at (c.number + 1) high i d cs r.2 (omega arith) in
     ap (λ xs. c ∷ xs) (set-changed f (c.number + 1) high i d cs r.2 (omega arith)) ∙ sym (changed_past f (get_or cs i d).number c cs (λ e. omega arith))
-
--- the test for a content of a greater number
-abbrev pub is_behind : ℕ → Content → Bool
-is_behind number c = nat_lt number c.number
 
 insert_cons : (x c : Content) (cs : List Content) (n : ℕ) → insert (c ∷ cs) (1 + n) x ≡ c ∷ insert cs n x
 insert_cons x c cs n = let e : 1 + n ≡ suc n = omega arith in rw e refl

@@ -1,8 +1,8 @@
 -- Choosing carrier by carrier is choosing among all gaps.
 use Rattle.std.proofs.Common.{◌≡◌, ℕ, ◌+◌, ◌*◌, ◌<◌, ◌≤◌, Bool, true, false, cond, List, [], ◌∷◌, ◌++◌, fold, filter, map, refl, sym, ◌∙◌, ap, subst, inl, inr, arith}
-use Rattle.std.specs.Prelude.{Option, Some, None, option_map, nat_le, nat_lt, ◌⊎◌}
+use Rattle.std.specs.Prelude.{Option, Some, None, IfSome, option_map, nat_le, nat_lt, ◌⊎◌}
 use Rattle.std.specs.Cmp.{IsStrictWeakOrder}
-use Rattle.std.proofs.lemmas.Bool.{cases_Bool, cases_lt, cond-true, cond-false}
+use Rattle.std.proofs.lemmas.Bool.{cases_Bool, cases_lt, cond-true, cond-false, cond_both}
 use Rattle.std.proofs.lemmas.List.Sums.{fold-append}
 use Rattle.std.proofs.lemmas.List.Elements.{filter-append}
 use Rattle.ea_model.specs.declared.carriers.Gap.{Gap}
@@ -216,3 +216,13 @@ choice_more s need best c cs shared =
     ∙ ap (λ r. fold (better (takes_first s)) r (large_enough need (candidates cs)))
       (fold-from (takes_first s) (takes_first-order s) best (large_enough need (candidates_in c.kind c))
       ∙ ap (better_of (takes_first s) best) (ap (λ xs. first (takes_first s) (large_enough need xs)) shared ∙ first_inside s need c))
+
+-- what holds of both holds of the better one
+pub better_of-either : {A : Type 0} (P : A → Type 0) (t : A → A → Bool) (a b : Option A) → IfSome a P → IfSome b P → IfSome (better_of t a b) P
+better_of-either P t a None p q = p
+better_of-either P t None (Some y) p q = q
+better_of-either P t (Some x) (Some y) p q = cond_both (t y x) y x P (λ _. q) (λ _. p)
+
+pub IfSome-weaker : {A : Type 0} (o : Option A) (P Q : A → Type 0) → ((x : A) → P x → Q x) → IfSome o P → IfSome o Q
+IfSome-weaker None P Q f h = tt
+IfSome-weaker (Some x) P Q f h = f x h

@@ -1,5 +1,5 @@
 -- What an instance keeps of its carriers.
-use Rattle.std.specs.Prelude.{◌≡◌, ℕ, ◌+◌, ◌%◌, ◌/◌, ◌<◌, ◌≤◌, List, [], ◌∷◌, All}
+use Rattle.std.specs.Prelude.{◌≡◌, ℕ, ◌+◌, ◌%◌, ◌/◌, ◌<◌, ◌≤◌, Bool, nat_lt, List, [], ◌∷◌, All}
 use Rattle.ea_model.specs.declared.settings.Settings.{Settings}
 use Rattle.ea_model.specs.Content.{Content}
 use Rattle.ea_model.specs.Settings.{IsValid}
@@ -22,3 +22,7 @@ pub record IsKept (settings : Settings) (number : ℕ) (contents : List Content)
   pub rising : Rising (first_number number) (first_number number + 256) contents
   pub whole : All IsWhole contents
   pub taken : region.taken ≡ segments contents
+
+-- the test for a content of a greater number
+abbrev pub is_behind : ℕ → Content → Bool
+is_behind number c = nat_lt number c.number

@@ -6,6 +6,7 @@ ghost use Rattle.ea_model.specs.Strategies.{candidate, candidates_in};
 ghost use Rattle.ea_model.specs.Text.{carrier_line};
 ghost use Rattle.ea_model.specs.Instance.{is_done, is_multi};
 ghost use Rattle.ea_instance.specs.Kinds.{is_shared};
+ghost use Rattle.ea_instance.specs.Found.{IsGapOf};
 
 use ea_mbc::Mbc;
 use ea_model::{
@@ -66,7 +67,7 @@ impl Employed {
     pub fn candidate(&self, inner: Inner, need: u32) -> Option<Candidate>
         requires { 1 ≤ need }
         ensures found { result ≡ option_map (candidate self.now) (choice inner need (gaps_of self.now)) }
-        ensures fits { IfSome result (λ x. need ≤ gap_at (gaps_of self.now) x.offset) }
+        ensures gap { IfSome result (λ x. IsGapOf need x self.now) }
         ensures shared { candidates_in self.now.kind self.now ≡ map (candidate self.now) (gaps_of self.now) }
     {
         let offset = self.carrier.choose(inner, need)?;
@@ -110,6 +111,21 @@ impl Employed {
         ensures { result ≡ option_map named (block_at self.now.blocks offset) }
     {
         self.carrier.block_at(offset)
+    }
+
+    /// How many blocks it has.
+    pub fn len(&self) -> u32
+        ensures { result ≡ length self.now.blocks }
+    {
+        self.carrier.len()
+    }
+
+    /// The units of its blocks. Blocks, gaps and its header of 8 units are the whole carrier.
+    pub fn allocated(&self) -> u32
+        ensures blocks { result ≡ allocated self.now.blocks }
+        ensures sum { result + free_units (gaps_of self.now) + 8 ≡ self.now.units }
+    {
+        self.carrier.allocated()
     }
 
     /// Whether it is a multiblock carrier other than the main one.

@@ -1,7 +1,12 @@
 //! Walks over the carriers of an instance, by rising number.
-ghost use Rattle.std.specs.Prelude.{◌≡◌, ◌+◌, ◌^◌, ◌<◌, ◌≤◌, length};
+ghost use Rattle.std.specs.Prelude.{◌≡◌, ◌+◌, ◌^◌, ◌<◌, ◌≤◌, Some, IsSome, IfSome, Any, get_or, length};
+ghost use Rattle.std.specs.List.{position_or_len};
+ghost use Rattle.ea_model.specs.Content.{Content};
 ghost use Rattle.ea_model.specs.Strategies.{choice_among};
-ghost use Rattle.ea_model.specs.Instance.{is_used, unused_from, multis};
+ghost use Rattle.ea_model.specs.Instance.{content_of, unused_from, multis};
+ghost use Rattle.ea_model.specs.Instance as instances;
+ghost use Rattle.ea_instance.specs.Found.{IsGapOf};
+ghost use Rattle.ea_instance.specs.Kept.{is_behind};
 
 use crate::employed::Employed;
 use crate::strategies::{better_of, inner_of};
@@ -10,7 +15,8 @@ use ea_model::{Candidate, NUMBERS, Strategy};
 /// The candidate that a strategy chooses among the gaps of all carriers.
 pub fn best_candidate(strategy: Strategy, need: u32, carriers: &[Employed]) -> Option<Candidate>
     requires { 1 ≤ need }
-    ensures { result ≡ choice_among strategy need carriers.now }
+    ensures chosen { result ≡ choice_among strategy need carriers.now }
+    ensures fits { IfSome result (λ x. Any (IsGapOf need x) carriers.now) }
 {
     let inner = inner_of(strategy);
     let mut best = None;
@@ -22,7 +28,7 @@ pub fn best_candidate(strategy: Strategy, need: u32, carriers: &[Employed]) -> O
 
 /// Whether a carrier has the number.
 pub fn is_used(number: u32, carriers: &[Employed]) -> bool
-    ensures { result ≡ is_used number carriers.now }
+    ensures { result ≡ instances.is_used number carriers.now }
 {
     for carrier in carriers {
         if carrier.number() == number {
@@ -30,6 +36,33 @@ pub fn is_used(number: u32, carriers: &[Employed]) -> bool
         }
     }
     false
+}
+
+/// The place of the carrier with the number, which is there.
+pub fn place_of(number: u32, carriers: &[Employed]) -> usize
+    requires { IsSome (content_of carriers.now number) }
+    ensures found { (d : Content) → content_of carriers.now number ≡ Some (get_or carriers.now result d) }
+    ensures within { result < length carriers.now }
+{
+    for (place, carrier) in carriers.iter().enumerate() {
+        if carrier.number() == number {
+            return place;
+        }
+    }
+    unreachable!()
+}
+
+/// The place of the first carrier with a greater number.
+pub fn place_behind(number: u32, carriers: &[Employed]) -> usize
+    ensures place { result ≡ position_or_len (is_behind number) carriers.now }
+    ensures within { result ≤ length carriers.now }
+{
+    for (place, carrier) in carriers.iter().enumerate() {
+        if number < carrier.number() {
+            return place;
+        }
+    }
+    carriers.len()
 }
 
 /// The lowest of the instance's numbers, from `first` on, that no carrier has.

@@ -1,5 +1,5 @@
 -- Blocks that lie one after another.
-use Rattle.std.proofs.Common.{◌≡◌, ℕ, ◌+◌, ◌-◌, ◌<◌, ◌≤◌, List, [], ◌∷◌, ◌++◌, length, get_or, drop, arith}
+use Rattle.std.proofs.Common.{◌≡◌, ℕ, ◌+◌, ◌-◌, ◌*◌, ◌<◌, ◌≤◌, List, [], ◌∷◌, ◌++◌, length, get_or, drop, arith}
 use Rattle.std.proofs.lemmas.List.{drop_more}
 use Rattle.std.proofs.lemmas.List.Sums.{sum_by-cons, sum_by-append}
 use Rattle.ea_model.specs.declared.carriers.BlockAt.{BlockAt}
@@ -32,3 +32,8 @@ allocated-free at end [] t = omega (arith, free_units-gap at end, t.0)
 allocated-free at end (b ∷ bs) t =
     let rest : List Gap = gaps (b.offset + b.size) end bs in
     omega (arith, sum_by-cons (λ (x : BlockAt). x.size) b bs, free_units-append (gap at b.offset) rest, free_units-gap at b.offset, allocated-free (b.offset + b.size) end bs t.4, t.0)
+
+-- each block has 6 units at least
+pub Tiled-length : (at end : ℕ) (bs : List BlockAt) → Tiled at end bs → at + 6 * length bs ≤ end
+Tiled-length at end [] t = omega arith
+Tiled-length at end (b ∷ bs) t = omega (arith, Tiled-length (b.offset + b.size) end bs t.4)

@@ -1,11 +1,11 @@
 //! The carrier and its calls.
-ghost use Rattle.std.specs.Prelude.{◌≡◌, ◌≢◌, ℕ, ◌+◌, ◌%◌, ◌<◌, ◌≤◌, ◌↔◌, [], All, Some, None, IsTrue, IsSome, IsNone, IfSome, OnOk, OnErr, IfOk, option_map};
+ghost use Rattle.std.specs.Prelude.{◌≡◌, ◌≢◌, ℕ, ◌+◌, ◌%◌, ◌<◌, ◌≤◌, ◌↔◌, [], All, Some, None, IsTrue, IsSome, IsNone, IfSome, OnOk, OnErr, IfOk, length, option_map};
 ghost use Rattle.ea_model.specs.declared.carriers.Kind.TheVariants.{Multi};
 ghost use Rattle.ea_model.specs.Content.{gaps_of, gap_at, block_at, named, taken_of, placed, released, allocated, largest, free_units};
 ghost use Rattle.ea_model.specs.Choice.{before, fitting, choice, IsFirst};
 
 use crate::walks::{
-    allocated_units, best_gap, find_block, gap_from, insert_block, largest_gap, place_of, taken,
+    allocated_units, best_gap, count_of, find_block, gap_from, insert_block, largest_gap, place_of, taken,
 };
 use ea_model::{Block, BlockAt, Carried, Inner, OutOfMemory};
 use std::alloc::Global;
@@ -166,6 +166,13 @@ impl Mbc {
         ensures sum { result + free_units (gaps_of self.now) + 8 ≡ self.now.units }
     {
         allocated_units(self.units, &self.blocks)
+    }
+
+    /// How many blocks it has.
+    pub fn len(&self) -> u32
+        ensures { result ≡ length self.now.blocks }
+    {
+        count_of(self.units, &self.blocks)
     }
 
     /// Whether it has no blocks.

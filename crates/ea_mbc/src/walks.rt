@@ -82,6 +82,14 @@ pub fn allocated_units(units: u32, blocks: &[BlockAt]) -> u32
     sum
 }
 
+/// How many blocks there are.
+pub fn count_of(units: u32, blocks: &[BlockAt]) -> u32
+    requires { Tiled 8 units blocks.now }
+    ensures { result ≡ length blocks.now }
+{
+    blocks.len() as u32
+}
+
 /// The block that begins at the offset.
 pub fn find_block(blocks: &[BlockAt], offset: u32) -> Option<BlockAt>
     ensures { result ≡ block_at blocks.now offset }

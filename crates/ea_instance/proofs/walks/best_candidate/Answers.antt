@@ -1,11 +1,12 @@
-use Rattle.std.proofs.Common.{◌≡◌, ◌+◌, ◌∷◌, fold, drop, option_map, sym, ◌∙◌, ap}
+use Rattle.std.proofs.Common.{◌≡◌, ◌+◌, ◌∷◌, fold, drop, option_map, sym, ◌∙◌, ap, subst, IfSome, Any}
 use Rattle.std.proofs.lemmas.List.{drop_more}
 use Rattle.ea_model.specs.Content.{gaps_of}
 use Rattle.ea_model.specs.Choice.{better, choice}
 use Rattle.ea_model.specs.Strategies.{candidate, candidates, large_enough, takes_first}
 use Rattle.ea_model.specs.Strategies as strategies
+use Rattle.ea_instance.specs.Found.{IsGapOf}
 use Rattle.ea_instance.specs.Better.{better_of}
-use Rattle.ea_instance.proofs.Folding.{choice_more}
+use Rattle.ea_instance.proofs.Folding.{choice_more, better_of-either, IfSome-weaker}
 use Rattle.ea_instance.proofs.walks.best_candidate.Goals as goal
 
 pub loop-carrier-preserved : goal.loop-carrier-preserved
@@ -22,4 +23,8 @@ loop-carrier-preserved c =
           ∙ sym (choice_more c.args.strategy c.args.need c.loop-carrier.best item later c.candidate.ensures.shared)
           ∙ sym (ap (λ cs. fold (better (takes_first c.args.strategy)) c.loop-carrier.best (large_enough c.args.need (candidates cs))) next)
           ∙ c.loop-carrier.invariant.rest;
+      fits =
+          subst (λ best. IfSome best (λ x. Any (IsGapOf c.args.need x) c.args.carriers.now)) (sym c.better_of-best.ensures)
+          (better_of-either (λ x. Any (IsGapOf c.args.need x) c.args.carriers.now) (takes_first c.args.strategy) c.loop-carrier.best c.candidate.result c.loop-carrier.invariant.fits
+          (IfSome-weaker c.candidate.result (λ x. IsGapOf c.args.need x item) (λ x. Any (IsGapOf c.args.need x) c.args.carriers.now) (λ x gap. (c.loop-carrier.carrier-index, item, c.loop-carrier-test.true, sym c.carrier-item.is, gap)) c.candidate.ensures.gap));
     }
