@@ -10,7 +10,7 @@ ghost use Rattle.ea_instance.specs.Found.{IsGapOf};
 
 use ea_mbc::Mbc;
 use ea_model::{
-    Block, Candidate, CarrierLine, Inner, Kind, OutOfMemory, PAGE_UNITS, Standing,
+    Block, Candidate, CarrierLine, HEADER_UNITS, Inner, Kind, OutOfMemory, PAGE_UNITS, Standing,
 };
 use std::marker::Model;
 
@@ -120,12 +120,18 @@ impl Employed {
         self.carrier.len()
     }
 
-    /// The units of its blocks. Blocks, gaps and its header of 8 units are the whole carrier.
+    /// The units of its blocks.
     pub fn allocated(&self) -> u32
-        ensures blocks { result ≡ allocated self.now.blocks }
-        ensures sum { result + free_units (gaps_of self.now) + 8 ≡ self.now.units }
+        ensures { result ≡ allocated self.now.blocks }
     {
         self.carrier.allocated()
+    }
+
+    /// The units of its gaps.
+    pub fn free(&self) -> u32
+        ensures { result ≡ free_units (gaps_of self.now) }
+    {
+        self.carrier.units() - HEADER_UNITS - self.carrier.allocated()
     }
 
     /// Whether it is a multiblock carrier other than the main one.

@@ -1,5 +1,5 @@
 //! What the carriers of an instance come to.
-ghost use Rattle.std.specs.Prelude.{◌≡◌, ◌+◌, ◌*◌, ◌≤◌, length, sum_by};
+ghost use Rattle.std.specs.Prelude.{◌≡◌, ◌≤◌, length, sum_by};
 ghost use Rattle.ea_model.specs.Content.{allocated, free_units, gaps_of};
 ghost use Rattle.ea_model.specs.Instance as instances;
 
@@ -25,6 +25,14 @@ fn units_of(carriers: &[Employed]) -> u64
     ensures { result ≡ sum_by (λ c. c.units) carriers.now }
 {
     carriers.iter().map(|c| u64::from(c.units())).sum()
+}
+
+/// The units of all gaps.
+pub fn free_of(carriers: &[Employed]) -> u64
+    requires { length carriers.now ≤ 256 }
+    ensures { result ≡ sum_by (λ c. free_units (gaps_of c)) carriers.now }
+{
+    carriers.iter().map(|c| u64::from(c.free())).sum()
 }
 
 /// Blocks and carriers, and their units.

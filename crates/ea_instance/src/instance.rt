@@ -1,28 +1,31 @@
 //! The instance and its calls.
-ghost use Rattle.std.specs.Prelude.{◌≡◌, ◌≢◌, ℕ, ◌+◌, ◌*◌, ◌/◌, ◌%◌, ◌^◌, ◌<◌, ◌≤◌, ◌↔◌, true, Some, None, Ok, IsTrue, IsSome, IsNone, IfSome, IfOk, OnOk, OnErr, map, option_map};
-ghost use Rattle.ea_model.specs.Instance.{first_number};
+ghost use Rattle.std.specs.Prelude.{◌≡◌, ℕ, ◌+◌, ◌*◌, ◌/◌, ◌%◌, ◌^◌, ◌<◌, ◌≤◌, ◌++◌, true, Some, None, Ok, Result, IsSome, IfSome, IfOk, OnOk, OnErr, map, sum_by, option_map};
+ghost use Rattle.ea_model.specs.declared.carriers.Kind.TheVariants.{Multi};
+ghost use Rattle.ea_model.specs.declared.carriers.Spot.{Spot};
+ghost use Rattle.ea_model.specs.declared.carriers.CarrierPlan.{CarrierPlan};
+ghost use Rattle.ea_model.specs.Content.{named, free_units, gaps_of};
+ghost use Rattle.ea_model.specs.Settings.{IsValid};
+ghost use Rattle.ea_model.specs.Text.{carrier_line};
+ghost use Rattle.ea_model.specs.Instance.{main_content, new_instance, growth, plan, created_content, creating, chosen_spot, place_at, releasing_at, clearing, content_of, block_in, is_done};
 ghost use Rattle.ea_model.specs.Instance as instances;
+ghost use Rattle.ea_instance.specs.Answers.{placing_if, follow_up};
+ghost use Rattle.ea_instance.specs.Found.{IsOther};
 
+use crate::changes::{place_in, release_in};
 use crate::employed::Employed;
-use crate::walks::is_used;
-use ea_model::{NUMBERS, Settings};
+use crate::figures::{figures, free_of};
+use crate::released::Released;
+use crate::walks::{
+    best_candidate, carrier_of, is_used, multi_count, place_behind, place_of, unused_number,
+};
+use ea_mbc::Mbc;
+use ea_model::{
+    Block, CarrierLine, CarrierPlan, Figures, HEADER_UNITS, Kind, List, NUMBERS, NoCarrier,
+    OutOfMemory, PAGE_UNITS, Place, Settings, Spot,
+};
 use ea_space::Region;
+use std::alloc::Global;
 use std::marker::Model;
-
-/// What is to follow a release.
-#[derive(Debug, Clone, Copy, PartialEq, Eq)]
-pub enum Released {
-    /// Nothing.
-    Kept,
-    /// The carrier is to be abandoned.
-    Due,
-    /// The carrier is empty, and the instance owns it: it is to be cleared.
-    EmptyOwn,
-    /// The carrier is empty, and another instance owns it.
-    EmptyForeign,
-    /// The block of a singleblock carrier is gone.
-    SingleGone,
-}
 
 /// An allocator instance. Contracts see its settings, its number, its region, the contents that it
 /// employs by rising number, and how many carriers it created.
@@ -46,13 +49,89 @@ impl Model for Instance {
     ghost invariant = { λ i. IsKept i.settings i.number i.carriers.items i.region };
 }
 
+/// The pages that hold so many units.
+fn pages_for(units: u32) -> u32
+    requires { units ≤ 2 ^ 31 }
+    ensures { result ≡ instances.pages_for units }
+{
+    units.div_ceil(PAGE_UNITS)
+}
+
+/// The units of the next multiblock carrier behind `count` others.
+fn growth(settings: Settings, count: usize) -> u32
+    requires valid { IsValid settings }
+    requires count { count ≤ 256 }
+    ensures units { result ≡ growth settings count }
+    ensures small { result ≤ 67108864 }
+{
+    let largest = settings.lmbcs.max(settings.smbcs);
+    if count > settings.mbcgs as usize {
+        return largest;
+    }
+    let grown = count as u64 * u64::from(largest - settings.smbcs) / u64::from(settings.mbcgs);
+    settings.smbcs + grown as u32
+}
+
+/// The number of the first carrier that an instance creates.
+fn first_number(instance: u32) -> u32
+    requires { (1 ≤ instance) × (instance ≤ 16) }
+    ensures first { result ≡ instances.first_number instance }
+    ensures fits { result + 256 < 2 ^ 32 }
+{
+    (instance - 1) * NUMBERS + 1
+}
+
+/// The main carrier of an instance.
+fn main_carrier(
+    alloc: Global,
+    settings: Settings,
+    instance: u32,
+    page: u32,
+) -> Result<Employed, OutOfMemory>
+    requires valid { IsValid settings }
+    requires some { 0 < settings.mmbcs }
+    requires instance { (1 ≤ instance) × (instance ≤ 16) }
+    ensures { IfOk result (λ c. c ≡ main_content settings instance page) }
+{
+    let units = pages_for(settings.mmbcs) * PAGE_UNITS;
+    let carrier = Mbc::new(alloc, units, page, 1, instance, first_number(instance))?;
+    Ok(Employed::new(Kind::Main, carrier))
+}
+
 impl Instance {
-    /// The number of the first carrier that an instance creates.
-    fn first_number(&self) -> u32
-        ensures first { result ≡ first_number self.now.number }
-        ensures fits { result + 256 < 2 ^ 32 }
+    /// An instance before its first operation: instance `number`, from 1, of at most 16, with the region of
+    /// `pages` pages from page `first_page` on. Where the settings ask for a main carrier, it is created.
+    pub fn new(
+        alloc: Global,
+        settings: Settings,
+        number: u32,
+        first_page: u32,
+        pages: u32,
+    ) -> Result<Instance, OutOfMemory>
+        requires valid { IsValid settings }
+        requires number { (1 ≤ number) × (number ≤ 16) }
+        requires region { first_page + pages ≤ 131072 }
+        requires main { instances.pages_for settings.mmbcs ≤ pages }
+        ensures { IfOk result (λ i. i ≡ new_instance settings number first_page pages) }
     {
-        (self.number - 1) * NUMBERS + 1
+        let mut region = Region::new(alloc, first_page, pages)?;
+        let mut carriers = Vec::new(alloc);
+        let mut created = 0;
+        if settings.mmbcs > 0 {
+            let main = main_carrier(alloc, settings, number, first_page)?;
+            if carriers.push(main).is_err() {
+                return Err(OutOfMemory);
+            }
+            let _base = region.take(pages_for(settings.mmbcs));
+            created = 1;
+        }
+        Ok(Instance {
+            settings,
+            number,
+            carriers,
+            created,
+            region,
+        })
     }
 
     /// Whether it employs the carrier.
@@ -60,5 +139,146 @@ impl Instance {
         ensures { result ≡ instances.is_used carrier self.now.contents }
     {
         is_used(carrier, &self.carriers)
+    }
+
+    /// The block at the spot, if it employs the carrier and a block begins there.
+    pub fn block_at(&self, spot: Spot) -> Option<Block>
+        ensures { result ≡ option_map named (block_in self.now.contents spot) }
+    {
+        carrier_of(spot.carrier, &self.carriers)?.block_at(spot.offset)
+    }
+
+    /// The line of a carrier, if it employs it.
+    pub fn carrier_line(&self, carrier: u32) -> Option<CarrierLine>
+        ensures { result ≡ option_map carrier_line (content_of self.now.contents carrier) }
+    {
+        Some(carrier_of(carrier, &self.carriers)?.line())
+    }
+
+    /// Adds the lines of all carriers that it employs, by rising number.
+    pub fn put_lines(&self, lines: &mut List<CarrierLine>) -> Result<(), OutOfMemory>
+        ensures { OnOk result (lines.new.items ≡ lines.old.items ++ map carrier_line self.now.contents) }
+    {
+        for carrier in &self.carriers {
+            lines.push(carrier.line())?;
+        }
+        Ok(())
+    }
+
+    /// Blocks and carriers of its main and multiblock carriers, and their units.
+    pub fn multi_figures(&self) -> Figures
+        ensures { result ≡ instances.figures self.now.contents }
+    {
+        figures(&self.carriers)
+    }
+
+    /// The units of all gaps of its carriers.
+    pub fn free_units(&self) -> u64
+        ensures { result ≡ sum_by (λ c. free_units (gaps_of c)) self.now.contents }
+    {
+        free_of(&self.carriers)
+    }
+
+    /// Places a block of `need` units in the gap that its strategy chooses. None, and nothing changed, where
+    /// there is no choice.
+    pub fn try_alloc(&mut self, need: u32, name: u32) -> Result<Option<Place>, OutOfMemory>
+        requires even { need % 2 ≡ 0 }
+        requires least { 6 ≤ need }
+        ensures place { IfOk result (λ place. place ≡ option_map (λ spot. place_at self.old spot need) (chosen_spot self.old need)) }
+        ensures ok { OnOk result (self.new ≡ placing_if self.old (chosen_spot self.old need) need name) }
+        ensures err { OnErr result (self.new ≡ self.old) }
+    {
+        let Some(found) = best_candidate(self.settings.strategy, need, &self.carriers) else {
+            return Ok(None);
+        };
+        let size = place_in(&mut self.carriers, found.number, found.offset, need, name)?;
+        Ok(Some(Place {
+            carrier: found.number,
+            offset: found.offset,
+            size,
+        }))
+    }
+
+    /// The multiblock carrier that it would create for a block of `need` units, at most `sbct`, or why it
+    /// can't.
+    pub fn plan_carrier(&self, need: u32) -> Result<CarrierPlan, NoCarrier>
+        requires need { need ≤ self.now.settings.sbct }
+        requires created { self.now.created + 1 < 2 ^ 32 }
+        ensures { result ≡ plan self.now need }
+    {
+        let Some(number) = unused_number(first_number(self.number), &self.carriers) else {
+            return Err(NoCarrier::Numbers);
+        };
+        let least = pages_for(HEADER_UNITS + need);
+        let next = least.max(pages_for(growth(self.settings, multi_count(&self.carriers))));
+        let (base, pages) = match self.region.find(next) {
+            Some(base) => (base, next),
+            None => match self.region.find(least) {
+                Some(base) => (base, least),
+                None => return Err(NoCarrier::Space),
+            },
+        };
+        Ok(CarrierPlan {
+            number,
+            base,
+            pages,
+            birth: self.created + 1,
+            single: false,
+        })
+    }
+
+    /// The carrier of a plan, without blocks. It isn't employed yet.
+    pub fn prepare(&self, alloc: Global, plan: CarrierPlan) -> Result<Mbc, OutOfMemory>
+        requires { (1 ≤ plan.pages) × (plan.pages ≤ 131072) }
+        ensures { IfOk result (λ carrier. carrier ≡ created_content self.now.number Multi plan) }
+    {
+        Mbc::new(
+            alloc,
+            plan.pages * PAGE_UNITS,
+            plan.base,
+            plan.birth,
+            self.number,
+            plan.number,
+        )
+    }
+
+    /// Employs the carrier of its present plan for a block of `need` units. Where there is no memory, the
+    /// carrier is dropped and nothing changes.
+    pub fn create(&mut self, plan: CarrierPlan, need: u32, carrier: Mbc) -> Result<(), OutOfMemory>
+        requires plan { instances.plan self.old need ≡ Ok plan }
+        requires carrier { carrier ≡ created_content self.old.number Multi plan }
+        ensures ok { OnOk result (self.new ≡ creating self.old plan) }
+        ensures err { OnErr result (self.new ≡ self.old) }
+    {
+        let place = place_behind(plan.number, &self.carriers);
+        if self.carriers.insert(place, Employed::new(Kind::Multi, carrier)).is_err() {
+            return Err(OutOfMemory);
+        }
+        let _base = self.region.take(plan.pages);
+        self.created = plan.birth;
+        Ok(())
+    }
+
+    /// Releases the block at the spot, and says what is to follow.
+    pub fn release(&mut self, spot: Spot) -> Result<Released, OutOfMemory>
+        requires { IsSome (block_in self.old.contents spot) }
+        ensures ok { OnOk result (self.new ≡ releasing_at self.old spot) }
+        ensures answer { IfOk result (λ a. a ≡ follow_up (content_of self.new.contents spot.carrier)) }
+        ensures err { OnErr result (self.new ≡ self.old) }
+    {
+        release_in(&mut self.carriers, spot.carrier, spot.offset)?;
+        match carrier_of(spot.carrier, &self.carriers) {
+            Some(carrier) if carrier.is_done() => Ok(Released::EmptyOwn),
+            _ => Ok(Released::Kept),
+        }
+    }
+
+    /// Deallocates a carrier without blocks other than the main one: its number and pages are free again.
+    pub fn clear(&mut self, number: u32)
+        requires { IfSome (content_of self.old.contents number) (λ c. is_done c ≡ true) × IsSome (content_of self.old.contents number) }
+        ensures { self.new ≡ clearing self.old number }
+    {
+        let carrier = self.carriers.remove(place_of(number, &self.carriers));
+        self.region.give_back(carrier.base(), carrier.units() / PAGE_UNITS);
     }
 }

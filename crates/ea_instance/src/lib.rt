@@ -5,7 +5,10 @@ mod changes;
 mod employed;
 mod figures;
 mod instance;
+mod released;
 mod strategies;
 mod walks;
 
-pub use instance::{Instance, Released};
+pub use ea_model::CarrierPlan;
+pub use instance::Instance;
+pub use released::Released;

@@ -1,5 +1,5 @@
 //! Walks over the carriers of an instance, by rising number.
-ghost use Rattle.std.specs.Prelude.{◌≡◌, ◌+◌, ◌^◌, ◌<◌, ◌≤◌, Some, IsSome, IfSome, Any, get_or, length};
+ghost use Rattle.std.specs.Prelude.{◌≡◌, ◌+◌, ◌^◌, ◌<◌, ◌≤◌, Some, IsSome, IfSome, Any, get_or, length, option_map};
 ghost use Rattle.std.specs.List.{position_or_len};
 ghost use Rattle.ea_model.specs.Content.{Content};
 ghost use Rattle.ea_model.specs.Strategies.{choice_among};
@@ -36,6 +36,18 @@ pub fn is_used(number: u32, carriers: &[Employed]) -> bool
         }
     }
     false
+}
+
+/// The carrier with the number, if there is one.
+pub fn carrier_of(number: u32, carriers: &[Employed]) -> Option<&Employed>
+    ensures { option_map (λ c. c.now) result ≡ content_of carriers.now number }
+{
+    for carrier in carriers {
+        if carrier.number() == number {
+            return Some(carrier);
+        }
+    }
+    None
 }
 
 /// The place of the carrier with the number, which is there.

@@ -37,9 +37,13 @@ first_number instance = 256 * (instance - 1) + 1
 abbrev pub created_content : ℕ → Kind → CarrierPlan → Content
 created_content instance kind p = record { number = p.number; owner = instance; base = p.base; birth = p.birth; units = 512 * p.pages; kind = kind; blocks = [] }
 
+-- the main carrier: the first one that the instance creates, from its region's first page on
+abbrev pub main_content : Settings → ℕ → ℕ → Content
+main_content s instance first = created_content instance Main (record { number = first_number instance; base = first; pages = pages_for s.mmbcs; birth = 1; single = false })
+
 -- the main carrier, where the settings ask for one
 abbrev pub main_carriers : Settings → ℕ → ℕ → List Content
-main_carriers s instance first = if nat_lt 0 s.mmbcs then created_content instance Main (record { number = first_number instance; base = first; pages = pages_for s.mmbcs; birth = 1; single = false }) ∷ [] else []
+main_carriers s instance first = if nat_lt 0 s.mmbcs then main_content s instance first ∷ [] else []
 
 -- an instance before its first operation
 abbrev pub new_instance : Settings → ℕ → ℕ → ℕ → Instance

@@ -1,0 +1,6 @@
+use Rattle.std.proofs.Common.{arith}
+use Rattle.ea_instance.proofs.Contents.{Rising-length}
+use Rattle.ea_instance.proofs.instance.Instance.multi_figures.Goals as goal
+
+pub figures-requires : goal.figures-requires
+figures-requires c = omega (arith, Rising-length _ _ _ c.self.invariant.rising, c.deref.ensures.len)
