@@ -1,7 +1,6 @@
 -- A region after calls whose arguments are known.
-use Rattle.std.proofs.Common.{◌≡◌, ℕ, ◌≤◌, sym, ◌∙◌, ap, subst, refl, List, []}
+use Rattle.std.proofs.Common.{◌≡◌, ℕ, ◌∙◌, ap, subst}
 use Rattle.std.specs.Prelude.{Option, Some, IfSome}
-use Rattle.ea_model.specs.declared.carriers.Segment.{Segment}
 use Rattle.ea_model.specs.Region.{Region, runs_of, lowest_run, entered, cut_from}
 
 -- after a take from the region k

@@ -1,8 +1,8 @@
-use Rattle.std.proofs.Common.{◌≡◌, ℕ, List, sym, subst, refl, [], ◌∷◌, arith}
+use Rattle.std.proofs.Common.{List, sym, subst, refl, [], arith}
 use Rattle.ea_model.specs.declared.carriers.Segment.{Segment}
 use Rattle.ea_model.specs.Region.{Region}
 use Rattle.ea_space.specs.Pages.{IsTail}
-use Rattle.ea_space.proofs.Calls.{took, gave}
+use Rattle.ea_space.proofs.Calls.{took}
 use Rattle.ea_space.proofs.tests.a_run_is_not_put_together_of_two.Goals as goal
 
 abbrev holding : List Segment → Region

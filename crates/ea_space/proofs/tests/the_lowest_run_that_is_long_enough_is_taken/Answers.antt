@@ -1,4 +1,4 @@
-use Rattle.std.proofs.Common.{◌≡◌, ℕ, List, sym, subst, refl, [], ◌∷◌, arith}
+use Rattle.std.proofs.Common.{List, sym, subst, refl, [], arith}
 use Rattle.ea_model.specs.declared.carriers.Segment.{Segment}
 use Rattle.ea_model.specs.Region.{Region}
 use Rattle.ea_space.specs.Pages.{IsTail}

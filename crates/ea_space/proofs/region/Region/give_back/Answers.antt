@@ -3,7 +3,7 @@ use Rattle.std.specs.List.{position_or_len}
 use Rattle.ea_model.specs.declared.carriers.Segment.{Segment}
 use Rattle.ea_model.specs.Region.{covers, cut_from, Laid}
 use Rattle.ea_space.specs.Pages.{IsTail}
-use Rattle.ea_space.proofs.Segments.{Laid-cut, IsTail-at, Found, IsTail-found, remove-found, set-found}
+use Rattle.ea_space.proofs.Segments.{Laid-cut, IsTail-at, IsTail-found, remove-found, set-found}
 use Rattle.ea_space.proofs.region.Region.give_back.Goals as goal
 
 pub place_of-index-requires : goal.place_of-index-requires
