@@ -1,3 +1,4 @@
 pub mod Calls
 pub mod Runs
 pub mod Segments
+pub mod Tails

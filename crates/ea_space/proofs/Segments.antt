@@ -47,10 +47,10 @@ pub insert-entered : (x : Segment) (ss : List Segment) → insert ss (position_o
 insert-entered x [] = refl
 insert-entered x (s ∷ ss) = entered_more x s ss (insert-entered x ss)
 
-entered_here : (x s : Segment) (ss : List Segment) → x.start < s.start → entered x (s ∷ ss) ≡ x ∷ s ∷ ss
+pub entered_here : (x s : Segment) (ss : List Segment) → x.start < s.start → entered x (s ∷ ss) ≡ x ∷ s ∷ ss
 entered_here x s ss h = grind arith
 
-entered_past : (x s : Segment) (ss : List Segment) → s.start ≤ x.start → entered x (s ∷ ss) ≡ s ∷ entered x ss
+pub entered_past : (x s : Segment) (ss : List Segment) → s.start ≤ x.start → entered x (s ∷ ss) ≡ s ∷ entered x ss
 entered_past x s ss h = grind arith
 
 -- there is one segment more
@@ -79,7 +79,7 @@ covers_cases page s = grind arith
 cut_here : (page : ℕ) (s : Segment) (ss : List Segment) → covers page s ≡ true → cut_from page (s ∷ ss) ≡ stretch s.start page ++ cut_from page ss
 cut_here page s ss h = rw h refl
 
-cut_past : (page : ℕ) (s : Segment) (ss : List Segment) → covers page s ≡ false → cut_from page (s ∷ ss) ≡ s ∷ cut_from page ss
+pub cut_past : (page : ℕ) (s : Segment) (ss : List Segment) → covers page s ≡ false → cut_from page (s ∷ ss) ≡ s ∷ cut_from page ss
 cut_past page s ss h = rw h refl
 
 -- no segment covers a page before the first one
@@ -91,14 +91,14 @@ cut-before at end page (s ∷ ss) t h =
       | inr q ↦ cut_past page s ss q.1 ∙ ap (λ xs. s ∷ xs) (cut-before (s.start + s.pages) end page ss t.2 (omega (arith, t.0)))
     ]
 
-stretch_some : (a b : ℕ) → a < b → stretch a b ≡ record { start = a; pages = b - a } ∷ []
+pub stretch_some : (a b : ℕ) → a < b → stretch a b ≡ record { start = a; pages = b - a } ∷ []
 stretch_some a b h = grind arith
 
-stretch_none : (a b : ℕ) → b ≤ a → stretch a b ≡ []
+pub stretch_none : (a b : ℕ) → b ≤ a → stretch a b ≡ []
 stretch_none a b h = grind arith
 
 -- what is cut of the segments whose first one covers the page
-cut_first : (at end page : ℕ) (s : Segment) (ss : List Segment) → Laid at end (s ∷ ss) → page < s.start + s.pages → covers page s ≡ true → cut_from page (s ∷ ss) ≡ stretch s.start page ++ ss
+pub cut_first : (at end page : ℕ) (s : Segment) (ss : List Segment) → Laid at end (s ∷ ss) → page < s.start + s.pages → covers page s ≡ true → cut_from page (s ∷ ss) ≡ stretch s.start page ++ ss
 cut_first at end page s ss t lt c = cut_here page s ss c ∙ ap (λ xs. stretch s.start page ++ xs) (cut-before (s.start + s.pages) end page ss t.2 lt)
 
 -- still laid without the pages of a segment from the page on
@@ -157,11 +157,11 @@ any_cases : {A : Type 0} (P : A → Type 0) (x : A) (xs : List A) (k : ℕ) (y :
 any_cases P x xs zero y lt e p = inl (subst P (sym e) p)
 any_cases P x xs (suc k) y lt e p = inr (k, y, omega arith, e, p)
 
-IsTail_cases : (start pages : ℕ) (s : Segment) (ss : List Segment) → IsTail start pages (s ∷ ss) → IsTailOf start pages s ⊎ IsTail start pages ss
+pub IsTail_cases : (start pages : ℕ) (s : Segment) (ss : List Segment) → IsTail start pages (s ∷ ss) → IsTailOf start pages s ⊎ IsTail start pages ss
 IsTail_cases start pages s ss h = any_cases (IsTailOf start pages) s ss h.0 h.1 h.2 h.3 h.4
 
 -- it is not before the first segment
-IsTail_behind : (at end start pages : ℕ) (ss : List Segment) → Laid at end ss → IsTail start pages ss → at ≤ start
+pub IsTail_behind : (at end start pages : ℕ) (ss : List Segment) → Laid at end ss → IsTail start pages ss → at ≤ start
 IsTail_behind at end start pages [] t h = absurd (omega (arith, h.2))
 IsTail_behind at end start pages (s ∷ ss) t h =
     elim (IsTail_cases start pages s ss h) [
