@@ -1,9 +1,9 @@
 -- Which pages can be given back after a call.
-use Rattle.std.proofs.Common.{suc, ◌≡◌, ℕ, ◌+◌, ◌-◌, ◌<◌, ◌≤◌, List, [], ◌∷◌, ◌++◌, length, sym, subst, refl, inl, inr, ◌⊎◌, arith}
+use Rattle.std.proofs.Common.{suc, ℕ, ◌+◌, ◌-◌, ◌<◌, ◌≤◌, List, [], ◌∷◌, ◌++◌, sym, subst, refl, inl, inr, ◌⊎◌, arith}
 use Rattle.std.specs.Prelude.{Any}
 use Rattle.std.proofs.lemmas.Bool.{cases_lt}
 use Rattle.ea_model.specs.declared.carriers.Segment.{Segment}
-use Rattle.ea_model.specs.Region.{stretch, entered, covers, cut_from, Laid}
+use Rattle.ea_model.specs.Region.{stretch, entered, cut_from, Laid}
 use Rattle.ea_space.specs.Pages.{IsTailOf, IsTail}
 use Rattle.ea_space.proofs.Segments.{covers_cases, stretch_some, stretch_none, cut_first, cut_past, entered_here, entered_past, IsTail_cases, IsTail_behind}
 
@@ -29,9 +29,9 @@ IsTail-entered_other at n x (s ∷ ss) h =
     elim (cases_lt x.start s.start) [
       | inl lt ↦ subst (IsTail at n) (sym (entered_here x s ss lt)) (any_later (IsTailOf at n) x (s ∷ ss) h)
       | inr le ↦ subst (IsTail at n) (sym (entered_past x s ss le)) (elim (IsTail_cases at n s ss h) [
-          | inl p ↦ any_here (IsTailOf at n) s (entered x ss) p
-          | inr q ↦ any_later (IsTailOf at n) s (entered x ss) (IsTail-entered_other at n x ss q)
-        ])
+        | inl p ↦ any_here (IsTailOf at n) s (entered x ss) p
+        | inr q ↦ any_later (IsTailOf at n) s (entered x ss) (IsTail-entered_other at n x ss q)
+      ])
     ]
 
 -- a tail begins in its segment
@@ -51,19 +51,19 @@ IsTail-cut_other from end start pages at n [] t g away h = h
 IsTail-cut_other from end start pages at n (s ∷ ss) t g away h =
     elim (covers_cases start s) [
       | inl c ↦ subst (IsTail at n) (sym (cut_first from end start s ss t c.1 c.2)) (elim (IsTail_cases at n s ss h) [
-          | inl p ↦ absurd (elim away [
-              | inl b ↦ omega (arith, p.to_end)
-              | inr b ↦ elim (IsTail_cases start pages s ss g) [ inl q ↦ omega (arith, p.some, p.to_end, q.to_end) | inr q ↦ omega (arith, IsTail_behind (s.start + s.pages) end start pages ss t.2 q) ]
-            ])
-          | inr q ↦ behind_stretch at n s.start start ss q
+        | inl p ↦ absurd (elim away [
+          | inl b ↦ omega (arith, p.to_end)
+          | inr b ↦ elim (IsTail_cases start pages s ss g) [ inl q ↦ omega (arith, p.some, p.to_end, q.to_end) | inr q ↦ omega (arith, IsTail_behind (s.start + s.pages) end start pages ss t.2 q) ]
         ])
+        | inr q ↦ behind_stretch at n s.start start ss q
+      ])
       | inr c ↦ subst (IsTail at n) (sym (cut_past start s ss c.1)) (elim (IsTail_cases at n s ss h) [
-          | inl p ↦ any_here (IsTailOf at n) s (cut_from start ss) p
-          | inr q ↦ elim (IsTail_cases start pages s ss g) [
-              | inl p ↦ absurd (not_beside start pages s p c.0)
-              | inr r ↦ any_later (IsTailOf at n) s (cut_from start ss) (IsTail-cut_other (s.start + s.pages) end start pages at n ss t.2 r away q)
-            ]
-        ])
+        | inl p ↦ any_here (IsTailOf at n) s (cut_from start ss) p
+        | inr q ↦ elim (IsTail_cases start pages s ss g) [
+          | inl p ↦ absurd (not_beside start pages s p c.0)
+          | inr r ↦ any_later (IsTailOf at n) s (cut_from start ss) (IsTail-cut_other (s.start + s.pages) end start pages at n ss t.2 r away q)
+        ]
+      ])
     ]
 
 front_of : (at start pages : ℕ) (s : Segment) (ss : List Segment) → at < start → IsTailOf at (start + pages - at) s → IsTail at (start - at) (stretch s.start start ++ ss)
@@ -78,14 +78,14 @@ IsTail-cut_front from end start pages at [] t g lt h = absurd (omega (arith, h.2
 IsTail-cut_front from end start pages at (s ∷ ss) t g lt h =
     elim (covers_cases start s) [
       | inl c ↦ subst (IsTail at (start - at)) (sym (cut_first from end start s ss t c.1 c.2)) (elim (IsTail_cases at (start + pages - at) s ss h) [
-          | inl p ↦ front_of at start pages s ss lt p
-          | inr q ↦ absurd (omega (arith, IsTail_behind (s.start + s.pages) end at (start + pages - at) ss t.2 q))
-        ])
+        | inl p ↦ front_of at start pages s ss lt p
+        | inr q ↦ absurd (omega (arith, IsTail_behind (s.start + s.pages) end at (start + pages - at) ss t.2 q))
+      ])
       | inr c ↦ subst (IsTail at (start - at)) (sym (cut_past start s ss c.1)) (elim (IsTail_cases start pages s ss g) [
-          | inl p ↦ absurd (not_beside start pages s p c.0)
-          | inr r ↦ elim (IsTail_cases at (start + pages - at) s ss h) [
-              | inl p ↦ absurd (omega (arith, p.to_end, r.4.some, IsTail_behind (s.start + s.pages) end start pages ss t.2 r))
-              | inr q ↦ any_later (IsTailOf at (start - at)) s (cut_from start ss) (IsTail-cut_front (s.start + s.pages) end start pages at ss t.2 r lt q)
-            ]
-        ])
+        | inl p ↦ absurd (not_beside start pages s p c.0)
+        | inr r ↦ elim (IsTail_cases at (start + pages - at) s ss h) [
+          | inl p ↦ absurd (omega (arith, p.to_end, r.4.some, IsTail_behind (s.start + s.pages) end start pages ss t.2 r))
+          | inr q ↦ any_later (IsTailOf at (start - at)) s (cut_from start ss) (IsTail-cut_front (s.start + s.pages) end start pages at ss t.2 r lt q)
+        ]
+      ])
     ]
