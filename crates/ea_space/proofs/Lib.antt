@@ -1,3 +1,3 @@
-pub mod Calls
 pub mod Runs
 pub mod Segments
+pub mod Tails

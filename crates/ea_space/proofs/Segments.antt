@@ -1,8 +1,8 @@
 -- Segments that lie one after another.
-use Rattle.std.proofs.Common.{suc, zero, ◌≡◌, ◌≢◌, ℕ, ◌+◌, ◌-◌, ◌<◌, ◌≤◌, Bool, true, false, List, [], ◌∷◌, ◌++◌, length, get_or, set, drop, sym, ap, ◌∙◌, subst, refl, inl, inr, ◌⊎◌, arith}
+use Rattle.std.proofs.Common.{suc, zero, ◌≡◌, ◌≢◌, ℕ, ◌+◌, ◌-◌, ◌<◌, ◌≤◌, true, false, List, [], ◌∷◌, ◌++◌, length, get_or, set, drop, sym, ap, ◌∙◌, subst, refl, inl, inr, ◌⊎◌, arith}
 use Rattle.std.specs.Prelude.{insert, remove, Any}
 use Rattle.std.specs.List.{position_or_len}
-use Rattle.std.proofs.lemmas.Bool.{cases_lt, cases_eq}
+use Rattle.std.proofs.lemmas.Bool.{cases_lt}
 use Rattle.std.proofs.lemmas.List.{drop_more, get_or_default}
 use Rattle.std.proofs.lemmas.List.Elements.{All-head, All-tail}
 use Rattle.ea_model.specs.declared.carriers.Segment.{Segment}
@@ -91,7 +91,7 @@ cut-before at end page (s ∷ ss) t h =
       | inr q ↦ cut_past page s ss q.1 ∙ ap (λ xs. s ∷ xs) (cut-before (s.start + s.pages) end page ss t.2 (omega (arith, t.0)))
     ]
 
-stretch_some : (a b : ℕ) → a < b → stretch a b ≡ record { start = a; pages = b - a } ∷ []
+pub stretch_some : (a b : ℕ) → a < b → stretch a b ≡ record { start = a; pages = b - a } ∷ []
 stretch_some a b h = grind arith
 
 pub stretch_none : (a b : ℕ) → b ≤ a → stretch a b ≡ []

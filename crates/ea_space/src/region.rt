@@ -1,5 +1,5 @@
 //! The region and its calls.
-ghost use Rattle.std.specs.Prelude.{◌≡◌, ◌+◌, ◌^◌, ◌<◌, ◌≤◌, ◌↔◌, [], All, IsNone, IfSome, IfNone, IfOk, length};
+ghost use Rattle.std.specs.Prelude.{◌≡◌, ◌⊎◌, ℕ, ◌+◌, ◌-◌, ◌^◌, ◌<◌, ◌≤◌, ◌↔◌, [], All, IsNone, IfSome, IfNone, IfOk, length};
 ghost use Rattle.ea_model.specs.Region.{runs_of, lowest_run, longest, entered, cut_from, Laid};
 ghost use Rattle.ea_space.specs.Pages.{IsApart, IsTail};
 
@@ -75,6 +75,10 @@ impl Region {
         ensures apart { IfSome result (λ start. IsApart start pages self.old.taken) }
         ensures laid { Laid self.new.first self.new.end self.new.taken }
         ensures count { length self.new.taken ≤ length self.old.taken + 1 }
+
+        // The pages taken can be given back, and so can what could be given back before.
+        ensures whole { IfSome result (λ start. IsTail start pages self.new.taken) }
+        ensures others { (at n : ℕ) → IsTail at n self.old.taken → IsTail at n self.new.taken }
     {
         match lowest_start(pages, self.first, self.end, &self.taken) {
             Some(start) => {
@@ -92,6 +96,10 @@ impl Region {
         ensures cut { self.new ≡ record self.old { taken = cut_from start self.old.taken } }
         ensures laid { Laid self.new.first self.new.end self.new.taken }
         ensures count { length self.new.taken ≤ length self.old.taken }
+
+        // What is left of the segment can be given back, and so can other pages as before.
+        ensures front { (at : ℕ) → at < start → IsTail at (start + pages - at) self.old.taken → IsTail at (start - at) self.new.taken }
+        ensures others { (at n : ℕ) → (at + n ≤ start) ⊎ (start + pages ≤ at) → IsTail at n self.old.taken → IsTail at n self.new.taken }
     {
         let index = place_of(&self.taken, start);
         let segment = self.taken[index];

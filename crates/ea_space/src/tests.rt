@@ -16,15 +16,22 @@ fn the_lowest_run_that_is_long_enough_is_taken(rt: HostRuntime) -> Result<(), Fa
     assert_eq!(rt; region.take(32), Some(0));
     assert_eq!(rt; region.take(64), Some(250));
     assert_eq!(rt; region.longest(), 710);
+    Ok(())
+}
 
-    // The free pages are 32 to 63, 200 to 249 and 314 to 1023.
+#[test]
+fn a_tail_is_given_back(rt: HostRuntime) -> Result<(), Fail> {
+    let mut region = Region::new(rt.alloc(), 0, 1024)?;
+    assert_eq!(rt; region.take(250), Some(0));
+    assert_eq!(rt; region.take(64), Some(250));
+
+    // The free pages are 200 to 249 and 314 to 1023.
     region.give_back(200, 50);
-    assert_eq!(rt; region.find(32), Some(32));
-    assert_eq!(rt; region.find(33), Some(200));
+    assert_eq!(rt; region.find(50), Some(200));
     assert_eq!(rt; region.find(51), Some(314));
     assert_eq!(rt; region.take(50), Some(200));
-    assert_eq!(rt; region.take(33), Some(314));
-    assert_eq!(rt; region.longest(), 677);
+    assert_eq!(rt; region.take(1), Some(314));
+    assert_eq!(rt; region.longest(), 709);
     Ok(())
 }
 

@@ -1,9 +1,10 @@
-use Rattle.std.proofs.Common.{◌≡◌, ◌-◌, ◌<◌, ◌≤◌, sym, ◌∙◌, ap, subst, refl, arith, set, length, length-set}
+use Rattle.std.proofs.Common.{◌≡◌, ◌-◌, ◌<◌, ◌≤◌, sym, ◌∙◌, ap, subst, refl, arith, set, length, length-set, ◌+◌}
 use Rattle.std.specs.List.{position_or_len}
 use Rattle.ea_model.specs.declared.carriers.Segment.{Segment}
 use Rattle.ea_model.specs.Region.{covers, cut_from, Laid}
 use Rattle.ea_space.specs.Pages.{IsTail}
-use Rattle.ea_space.proofs.Segments.{Laid-cut, IsTail-at, Found, IsTail-found, remove-found, set-found}
+use Rattle.ea_space.proofs.Tails.{IsTail-cut_front, IsTail-cut_other}
+use Rattle.ea_space.proofs.Segments.{Laid-cut, IsTail-at, IsTail-found, remove-found, set-found}
 use Rattle.ea_space.proofs.region.Region.give_back.Goals as goal
 
 pub place_of-index-requires : goal.place_of-index-requires
@@ -59,3 +60,23 @@ returns-else-segment-pages-clause-count c =
     let x : Segment = record { start = c.index_mut.result.now.start; pages = c.index-segment.result.now.pages - c.args.pages } in
     let kept : length (set c.self.inside.taken.items c.place_of-index.result x) ≡ length c.self.inside.taken.items = length-set c.self.inside.taken.items c.place_of-index.result x in
     subst (λ r. length (set c.self.inside.taken.items c.place_of-index.result x) ≤ length r.taken) c.self.view_is (omega arith)
+
+pub returns-then-segment-pages-clause-front : goal.returns-then-segment-pages-clause-front
+returns-then-segment-pages-clause-front c = λ at lt h.
+    subst (IsTail at (c.args.start - at)) (sym (removed c)) (IsTail-cut_front _ _ c.args.start c.args.pages at c.self.inside.taken.items c.self.invariant.laid (subst (λ r. IsTail c.args.start c.args.pages r.taken) (sym c.self.view_is) c.requires) lt (subst (λ r. IsTail at (c.args.start + c.args.pages - at) r.taken) (sym c.self.view_is) h))
+
+pub returns-then-segment-pages-clause-others : goal.returns-then-segment-pages-clause-others
+returns-then-segment-pages-clause-others c = λ at n away h.
+    subst (IsTail at n) (sym (removed c)) (IsTail-cut_other _ _ c.args.start c.args.pages at n c.self.inside.taken.items c.self.invariant.laid (subst (λ r. IsTail c.args.start c.args.pages r.taken) (sym c.self.view_is) c.requires) away (subst (λ r. IsTail at n r.taken) (sym c.self.view_is) h))
+
+pub returns-else-segment-pages-clause-front : goal.returns-else-segment-pages-clause-front
+returns-else-segment-pages-clause-front c = λ at lt h.
+    let f = IsTail-found _ _ c.args.start c.args.pages c.place_of-index.result c.index-segment.result.now c.self.inside.taken.items c.self.invariant.laid (subst (λ r. IsTail c.args.start c.args.pages r.taken) (sym c.self.view_is) c.requires) (c.place_of-index.ensures.place ∙ ap (position_or_len (covers c.args.start)) c.deref.ensures.value) c.index-segment.ensures in
+    let left = set-found _ _ c.args.start c.args.pages c.place_of-index.result c.index-segment.result.now c.index_mut.result.now c.self.inside.taken.items c.self.invariant.laid f c.if-segment-pages.false c.index_mut.ensures.value in
+    subst (IsTail at (c.args.start - at)) (sym (left)) (IsTail-cut_front _ _ c.args.start c.args.pages at c.self.inside.taken.items c.self.invariant.laid (subst (λ r. IsTail c.args.start c.args.pages r.taken) (sym c.self.view_is) c.requires) lt (subst (λ r. IsTail at (c.args.start + c.args.pages - at) r.taken) (sym c.self.view_is) h))
+
+pub returns-else-segment-pages-clause-others : goal.returns-else-segment-pages-clause-others
+returns-else-segment-pages-clause-others c = λ at n away h.
+    let f = IsTail-found _ _ c.args.start c.args.pages c.place_of-index.result c.index-segment.result.now c.self.inside.taken.items c.self.invariant.laid (subst (λ r. IsTail c.args.start c.args.pages r.taken) (sym c.self.view_is) c.requires) (c.place_of-index.ensures.place ∙ ap (position_or_len (covers c.args.start)) c.deref.ensures.value) c.index-segment.ensures in
+    let left = set-found _ _ c.args.start c.args.pages c.place_of-index.result c.index-segment.result.now c.index_mut.result.now c.self.inside.taken.items c.self.invariant.laid f c.if-segment-pages.false c.index_mut.ensures.value in
+    subst (IsTail at n) (sym (left)) (IsTail-cut_other _ _ c.args.start c.args.pages at n c.self.inside.taken.items c.self.invariant.laid (subst (λ r. IsTail c.args.start c.args.pages r.taken) (sym c.self.view_is) c.requires) away (subst (λ r. IsTail at n r.taken) (sym c.self.view_is) h))

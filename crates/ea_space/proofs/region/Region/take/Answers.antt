@@ -1,8 +1,10 @@
-use Rattle.std.proofs.Common.{◌≡◌, ◌+◌, ◌<◌, ◌≤◌, length, sym, ap, ◌∙◌, subst, arith}
+use Rattle.std.proofs.Common.{◌≡◌, ◌+◌, ◌≤◌, length, sym, ap, ◌∙◌, subst, arith}
 use Rattle.std.specs.Prelude.{IfSome, Some}
 use Rattle.std.proofs.lemmas.Grind.{common_steps}
 use Rattle.ea_model.specs.Region.{runs, lowest_run, entered, Laid}
 use Rattle.ea_space.proofs.Segments.{Laid-entered, length-entered}
+use Rattle.ea_space.proofs.Tails.{IsTail-entered, IsTail-entered_other}
+use Rattle.ea_space.specs.Pages.{IsTail}
 use Rattle.ea_space.proofs.Runs.{Fits, lowest-Fits}
 use Rattle.ea_space.proofs.region.Region.take.Goals as goal
 
@@ -38,3 +40,11 @@ pub returns-in-Some-clause-count : goal.returns-in-Some-clause-count
 returns-in-Some-clause-count c =
     let more : length c.enter.new.taken.items ≡ length c.self.inside.taken.items + 1 = ap length c.enter.ensures.items ∙ length-entered (record { start = c.in-Some.start; pages = c.args.pages }) c.self.inside.taken.items in
     subst (λ r. length c.enter.new.taken.items ≤ length r.taken + 1) c.self.view_is (omega arith)
+
+pub returns-in-Some-clause-whole : goal.returns-in-Some-clause-whole
+returns-in-Some-clause-whole c =
+    subst (IsTail c.in-Some.start c.args.pages) (sym c.enter.ensures.items) (IsTail-entered (record { start = c.in-Some.start; pages = c.args.pages }) c.self.inside.taken.items c.requires.some)
+
+pub returns-in-Some-clause-others : goal.returns-in-Some-clause-others
+returns-in-Some-clause-others c = λ at n h.
+    subst (IsTail at n) (sym c.enter.ensures.items) (IsTail-entered_other at n (record { start = c.in-Some.start; pages = c.args.pages }) c.self.inside.taken.items (subst (λ r. IsTail at n r.taken) (sym c.self.view_is) h))

@@ -1,0 +1,91 @@
+-- Which pages can be given back after a call.
+use Rattle.std.proofs.Common.{suc, ℕ, ◌+◌, ◌-◌, ◌<◌, ◌≤◌, List, [], ◌∷◌, ◌++◌, sym, subst, refl, inl, inr, ◌⊎◌, arith}
+use Rattle.std.specs.Prelude.{Any}
+use Rattle.std.proofs.lemmas.Bool.{cases_lt}
+use Rattle.ea_model.specs.declared.carriers.Segment.{Segment}
+use Rattle.ea_model.specs.Region.{stretch, entered, cut_from, Laid}
+use Rattle.ea_space.specs.Pages.{IsTailOf, IsTail}
+use Rattle.ea_space.proofs.Segments.{covers_cases, stretch_some, stretch_none, cut_first, cut_past, entered_here, entered_past, IsTail_cases, IsTail_behind}
+
+any_here : {A : Type 0} (P : A → Type 0) (x : A) (xs : List A) → P x → Any P (x ∷ xs)
+any_here P x xs p = (0, x, omega arith, refl, p)
+
+any_later : {A : Type 0} (P : A → Type 0) (x : A) (xs : List A) → Any P xs → Any P (x ∷ xs)
+any_later P x xs h = (suc h.0, h.1, omega (arith, h.2), h.3, h.4)
+
+-- the whole of a segment that was entered
+pub IsTail-entered : (x : Segment) (ss : List Segment) → 0 < x.pages → IsTail x.start x.pages (entered x ss)
+IsTail-entered x [] some = any_here (IsTailOf x.start x.pages) x [] (record { within = omega arith; some = some; to_end = refl })
+IsTail-entered x (s ∷ ss) some =
+    elim (cases_lt x.start s.start) [
+      | inl lt ↦ subst (IsTail x.start x.pages) (sym (entered_here x s ss lt)) (any_here (IsTailOf x.start x.pages) x (s ∷ ss) (record { within = omega arith; some = some; to_end = refl }))
+      | inr le ↦ subst (IsTail x.start x.pages) (sym (entered_past x s ss le)) (any_later (IsTailOf x.start x.pages) s (entered x ss) (IsTail-entered x ss some))
+    ]
+
+-- beside a segment that was entered
+pub IsTail-entered_other : (at n : ℕ) (x : Segment) (ss : List Segment) → IsTail at n ss → IsTail at n (entered x ss)
+IsTail-entered_other at n x [] h = any_later (IsTailOf at n) x [] h
+IsTail-entered_other at n x (s ∷ ss) h =
+    elim (cases_lt x.start s.start) [
+      | inl lt ↦ subst (IsTail at n) (sym (entered_here x s ss lt)) (any_later (IsTailOf at n) x (s ∷ ss) h)
+      | inr le ↦ subst (IsTail at n) (sym (entered_past x s ss le)) (elim (IsTail_cases at n s ss h) [
+        | inl p ↦ any_here (IsTailOf at n) s (entered x ss) p
+        | inr q ↦ any_later (IsTailOf at n) s (entered x ss) (IsTail-entered_other at n x ss q)
+      ])
+    ]
+
+-- a tail begins in its segment
+not_beside : (start pages : ℕ) (s : Segment) → IsTailOf start pages s → (start < s.start) ⊎ (s.start + s.pages ≤ start) → ⊥
+not_beside start pages s p away = elim away [ inl b ↦ omega (arith, p.within) | inr b ↦ omega (arith, p.some, p.to_end) ]
+
+behind_stretch : (at n a b : ℕ) (ss : List Segment) → IsTail at n ss → IsTail at n (stretch a b ++ ss)
+behind_stretch at n a b ss h =
+    elim (cases_lt a b) [
+      | inl lt ↦ subst (λ xs. IsTail at n (xs ++ ss)) (sym (stretch_some a b lt)) (any_later (IsTailOf at n) (record { start = a; pages = b - a }) ss h)
+      | inr le ↦ subst (λ xs. IsTail at n (xs ++ ss)) (sym (stretch_none a b le)) h
+    ]
+
+-- beside the pages given back
+pub IsTail-cut_other : (from end start pages at n : ℕ) (ss : List Segment) → Laid from end ss → IsTail start pages ss → (at + n ≤ start) ⊎ (start + pages ≤ at) → IsTail at n ss → IsTail at n (cut_from start ss)
+IsTail-cut_other from end start pages at n [] t g away h = h
+IsTail-cut_other from end start pages at n (s ∷ ss) t g away h =
+    elim (covers_cases start s) [
+      | inl c ↦ subst (IsTail at n) (sym (cut_first from end start s ss t c.1 c.2)) (elim (IsTail_cases at n s ss h) [
+        | inl p ↦ absurd (elim away [
+          | inl b ↦ omega (arith, p.to_end)
+          | inr b ↦ elim (IsTail_cases start pages s ss g) [ inl q ↦ omega (arith, p.some, p.to_end, q.to_end) | inr q ↦ omega (arith, IsTail_behind (s.start + s.pages) end start pages ss t.2 q) ]
+        ])
+        | inr q ↦ behind_stretch at n s.start start ss q
+      ])
+      | inr c ↦ subst (IsTail at n) (sym (cut_past start s ss c.1)) (elim (IsTail_cases at n s ss h) [
+        | inl p ↦ any_here (IsTailOf at n) s (cut_from start ss) p
+        | inr q ↦ elim (IsTail_cases start pages s ss g) [
+          | inl p ↦ absurd (not_beside start pages s p c.0)
+          | inr r ↦ any_later (IsTailOf at n) s (cut_from start ss) (IsTail-cut_other (s.start + s.pages) end start pages at n ss t.2 r away q)
+        ]
+      ])
+    ]
+
+front_of : (at start pages : ℕ) (s : Segment) (ss : List Segment) → at < start → IsTailOf at (start + pages - at) s → IsTail at (start - at) (stretch s.start start ++ ss)
+front_of at start pages s ss lt p =
+    let x : Segment = record { start = s.start; pages = start - s.start } in
+    let le : s.start ≤ at = p.within in
+    subst (λ xs. IsTail at (start - at) (xs ++ ss)) (sym (stretch_some s.start start (omega arith))) (any_here (IsTailOf at (start - at)) x ss (record { within = le; some = omega arith; to_end = omega arith }))
+
+-- the front that is left of the segment
+pub IsTail-cut_front : (from end start pages at : ℕ) (ss : List Segment) → Laid from end ss → IsTail start pages ss → at < start → IsTail at (start + pages - at) ss → IsTail at (start - at) (cut_from start ss)
+IsTail-cut_front from end start pages at [] t g lt h = absurd (omega (arith, h.2))
+IsTail-cut_front from end start pages at (s ∷ ss) t g lt h =
+    elim (covers_cases start s) [
+      | inl c ↦ subst (IsTail at (start - at)) (sym (cut_first from end start s ss t c.1 c.2)) (elim (IsTail_cases at (start + pages - at) s ss h) [
+        | inl p ↦ front_of at start pages s ss lt p
+        | inr q ↦ absurd (omega (arith, IsTail_behind (s.start + s.pages) end at (start + pages - at) ss t.2 q))
+      ])
+      | inr c ↦ subst (IsTail at (start - at)) (sym (cut_past start s ss c.1)) (elim (IsTail_cases start pages s ss g) [
+        | inl p ↦ absurd (not_beside start pages s p c.0)
+        | inr r ↦ elim (IsTail_cases at (start + pages - at) s ss h) [
+          | inl p ↦ absurd (omega (arith, p.to_end, r.4.some, IsTail_behind (s.start + s.pages) end start pages ss t.2 r))
+          | inr q ↦ any_later (IsTailOf at (start - at)) s (cut_from start ss) (IsTail-cut_front (s.start + s.pages) end start pages at ss t.2 r lt q)
+        ]
+      ])
+    ]
