@@ -4,7 +4,7 @@ use Rattle.ea_model.specs.declared.settings.Settings.{Settings}
 use Rattle.ea_model.specs.Content.{Content}
 use Rattle.ea_model.specs.Settings.{IsValid}
 use Rattle.ea_model.specs.Instance.{segments, first_number}
-use Rattle.ea_model.specs.Region.{Region}
+use Rattle.ea_model.specs.Region.{Region, Laid}
 
 -- the contents stand by rising number, from `low` on and below `high`
 abbrev pub Rising : ℕ → ℕ → List Content → Type 0
@@ -22,6 +22,7 @@ pub record IsKept (settings : Settings) (number : ℕ) (contents : List Content)
   pub rising : Rising (first_number number) (first_number number + 256) contents
   pub whole : All IsWhole contents
   pub taken : region.taken ≡ segments contents
+  pub laid : Laid region.first region.end region.taken
 
 -- the test for a content of a greater number
 abbrev pub is_behind : ℕ → Content → Bool

@@ -2,11 +2,11 @@
 ghost use Rattle.std.specs.Prelude.{◌≡◌, ℕ, ◌%◌, ◌≤◌, Some, None, IsSome, IfOk, OnOk, OnErr};
 ghost use Rattle.ea_model.specs.declared.carriers.Spot.{Spot};
 ghost use Rattle.ea_model.specs.Content.{placed, released};
-ghost use Rattle.ea_model.specs.Instance.{changed, content_of, block_in, size_for};
+ghost use Rattle.ea_model.specs.Instance.{changed, content_of, block_in, size_for, with_content, without_content};
 ghost use Rattle.ea_instance.specs.Found.{HasGap, IsRising, IsOther};
 
 use crate::employed::Employed;
-use crate::walks::place_of;
+use crate::walks::{place_behind, place_of};
 use ea_model::OutOfMemory;
 
 /// Places a block in the carrier with the number, at the front of the gap at the offset.
@@ -43,4 +43,27 @@ pub fn release_in(carriers: &mut Vec<Employed>, number: u32, offset: u32) -> Res
     let place = place_of(number, carriers);
     carriers[place].release(offset)?;
     Ok(())
+}
+
+/// Puts a carrier among the others, by its number.
+pub fn enter(carriers: &mut Vec<Employed>, carrier: Employed) -> Result<(), OutOfMemory>
+    ensures ok { OnOk result (carriers.new.items ≡ with_content carrier carriers.old.items) }
+    ensures err { OnErr result (carriers.new.items ≡ carriers.old.items) }
+{
+    let place = place_behind(carrier.number(), carriers);
+    match carriers.insert(place, carrier) {
+        Ok(()) => Ok(()),
+        Err(_) => Err(OutOfMemory),
+    }
+}
+
+/// Takes out the carrier with the number.
+pub fn leave(carriers: &mut Vec<Employed>, number: u32) -> Employed
+    requires rising { IsRising carriers.old.items }
+    requires there { IsSome (content_of carriers.old.items number) }
+    ensures carrier { content_of carriers.old.items number ≡ Some result }
+    ensures rest { carriers.new.items ≡ without_content number carriers.old.items }
+{
+    let place = place_of(number, carriers);
+    carriers.remove(place)
 }

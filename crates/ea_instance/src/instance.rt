@@ -1,23 +1,21 @@
 //! The instance and its calls.
-ghost use Rattle.std.specs.Prelude.{◌≡◌, ℕ, ◌+◌, ◌*◌, ◌/◌, ◌%◌, ◌^◌, ◌<◌, ◌≤◌, ◌++◌, true, Some, None, Ok, Result, IsSome, IfSome, IfOk, OnOk, OnErr, map, sum_by, option_map};
+ghost use Rattle.std.specs.Prelude.{◌≡◌, ℕ, ◌+◌, ◌*◌, ◌/◌, ◌%◌, ◌^◌, ◌<◌, ◌≤◌, ◌++◌, max, true, Some, None, Ok, Result, IsSome, IfSome, IfOk, OnOk, OnErr, map, sum_by, option_map};
 ghost use Rattle.ea_model.specs.declared.carriers.Kind.TheVariants.{Multi};
 ghost use Rattle.ea_model.specs.declared.carriers.Spot.{Spot};
 ghost use Rattle.ea_model.specs.declared.carriers.CarrierPlan.{CarrierPlan};
 ghost use Rattle.ea_model.specs.Content.{named, free_units, gaps_of};
 ghost use Rattle.ea_model.specs.Settings.{IsValid};
 ghost use Rattle.ea_model.specs.Text.{carrier_line};
-ghost use Rattle.ea_model.specs.Instance.{main_content, new_instance, growth, plan, created_content, creating, chosen_spot, place_at, releasing_at, clearing, content_of, block_in, is_done};
+ghost use Rattle.ea_model.specs.Instance.{main_content, new_instance, growth, multis, unused_from, plan, created_content, creating, chosen_spot, place_at, releasing_at, clearing, content_of, block_in, is_done};
 ghost use Rattle.ea_model.specs.Instance as instances;
 ghost use Rattle.ea_instance.specs.Answers.{placing_if, follow_up};
 ghost use Rattle.ea_instance.specs.Found.{IsOther};
 
-use crate::changes::{place_in, release_in};
+use crate::changes::{enter, leave, place_in, release_in};
 use crate::employed::Employed;
 use crate::figures::{figures, free_of};
 use crate::released::Released;
-use crate::walks::{
-    best_candidate, carrier_of, is_used, multi_count, place_behind, place_of, unused_number,
-};
+use crate::walks::{best_candidate, carrier_of, is_used, multi_count, unused_number};
 use ea_mbc::Mbc;
 use ea_model::{
     Block, CarrierLine, CarrierPlan, Figures, HEADER_UNITS, Kind, List, NUMBERS, NoCarrier,
@@ -96,6 +94,16 @@ fn main_carrier(
     let units = pages_for(settings.mmbcs) * PAGE_UNITS;
     let carrier = Mbc::new(alloc, units, page, 1, instance, first_number(instance))?;
     Ok(Employed::new(Kind::Main, carrier))
+}
+
+/// What is to follow a release in the carrier with the number.
+fn follow_up(number: u32, carriers: &[Employed]) -> Released
+    ensures { result ≡ Rattle.ea_instance.specs.Answers.follow_up (content_of carriers.now number) }
+{
+    match carrier_of(number, carriers) {
+        Some(carrier) if carrier.is_done() => Released::EmptyOwn,
+        _ => Released::Kept,
+    }
 }
 
 impl Instance {
@@ -199,6 +207,28 @@ impl Instance {
         }))
     }
 
+    /// The lowest of its carrier numbers that isn't in use. Its settings are valid.
+    fn unused_number(&self) -> Option<u32>
+        ensures valid { IsValid self.now.settings }
+        ensures number { result ≡ unused_from 256 (instances.first_number self.now.number) self.now.contents }
+    {
+        unused_number(first_number(self.number), &self.carriers)
+    }
+
+    /// Where the lowest free run of its region with so many pages begins.
+    fn free_run(&self, pages: u32) -> Option<u32>
+        ensures { result ≡ instances.free_run self.now pages }
+    {
+        self.region.find(pages)
+    }
+
+    /// The pages of the next carrier: as many as it would have by its turn, and no fewer than `least`.
+    fn next_pages(&self, least: u32) -> u32
+        ensures { result ≡ max least (instances.pages_for (growth self.now.settings (multis self.now.contents))) }
+    {
+        least.max(pages_for(growth(self.settings, multi_count(&self.carriers))))
+    }
+
     /// The multiblock carrier that it would create for a block of `need` units, at most `sbct`, or why it
     /// can't.
     pub fn plan_carrier(&self, need: u32) -> Result<CarrierPlan, NoCarrier>
@@ -206,25 +236,32 @@ impl Instance {
         requires created { self.now.created + 1 < 2 ^ 32 }
         ensures { result ≡ plan self.now need }
     {
-        let Some(number) = unused_number(first_number(self.number), &self.carriers) else {
+        let Some(number) = self.unused_number() else {
             return Err(NoCarrier::Numbers);
         };
         let least = pages_for(HEADER_UNITS + need);
-        let next = least.max(pages_for(growth(self.settings, multi_count(&self.carriers))));
-        let (base, pages) = match self.region.find(next) {
-            Some(base) => (base, next),
-            None => match self.region.find(least) {
-                Some(base) => (base, least),
-                None => return Err(NoCarrier::Space),
+        let next = self.next_pages(least);
+        match self.free_run(next) {
+            Some(base) => Ok(self.planned(number, base, next)),
+            None => match self.free_run(least) {
+                Some(base) => Ok(self.planned(number, base, least)),
+                None => Err(NoCarrier::Space),
             },
-        };
-        Ok(CarrierPlan {
+        }
+    }
+
+    /// The next carrier that it creates, with this number and these pages.
+    fn planned(&self, number: u32, base: u32, pages: u32) -> CarrierPlan
+        requires { self.now.created + 1 < 2 ^ 32 }
+        ensures { result ≡ instances.planned self.now number base pages }
+    {
+        CarrierPlan {
             number,
             base,
             pages,
             birth: self.created + 1,
             single: false,
-        })
+        }
     }
 
     /// The carrier of a plan, without blocks. It isn't employed yet.
@@ -250,10 +287,7 @@ impl Instance {
         ensures ok { OnOk result (self.new ≡ creating self.old plan) }
         ensures err { OnErr result (self.new ≡ self.old) }
     {
-        let place = place_behind(plan.number, &self.carriers);
-        if self.carriers.insert(place, Employed::new(Kind::Multi, carrier)).is_err() {
-            return Err(OutOfMemory);
-        }
+        enter(&mut self.carriers, Employed::new(Kind::Multi, carrier))?;
         let _base = self.region.take(plan.pages);
         self.created = plan.birth;
         Ok(())
@@ -267,10 +301,7 @@ impl Instance {
         ensures err { OnErr result (self.new ≡ self.old) }
     {
         release_in(&mut self.carriers, spot.carrier, spot.offset)?;
-        match carrier_of(spot.carrier, &self.carriers) {
-            Some(carrier) if carrier.is_done() => Ok(Released::EmptyOwn),
-            _ => Ok(Released::Kept),
-        }
+        Ok(follow_up(spot.carrier, &self.carriers))
     }
 
     /// Deallocates a carrier without blocks other than the main one: its number and pages are free again.
@@ -278,7 +309,7 @@ impl Instance {
         requires { IfSome (content_of self.old.contents number) (λ c. is_done c ≡ true) × IsSome (content_of self.old.contents number) }
         ensures { self.new ≡ clearing self.old number }
     {
-        let carrier = self.carriers.remove(place_of(number, &self.carriers));
+        let carrier = leave(&mut self.carriers, number);
         self.region.give_back(carrier.base(), carrier.units() / PAGE_UNITS);
     }
 }

@@ -149,9 +149,13 @@ placing_at i spot need name = record i { contents = changed (λ c. placed c spot
 abbrev pub releasing_at : Instance → Spot → Instance
 releasing_at i spot = record i { contents = changed (λ c. released c spot.offset) spot.carrier i.contents }
 
+-- the contents without that of the number
+abbrev pub without_content : ℕ → List Content → List Content
+without_content number cs = filter (λ c. not (c.number == number)) cs
+
 -- the instance without a carrier
 abbrev pub clearing : Instance → ℕ → Instance
-clearing i number = record i { contents = filter (λ c. not (c.number == number)) i.contents }
+clearing i number = record i { contents = without_content number i.contents }
 
 -- the block at a spot
 abbrev pub block_in : List Content → Spot → Option BlockAt
