@@ -1,7 +1,8 @@
 -- A change of one content that keeps its number, base and units.
-use Rattle.std.proofs.Common.{◌≡◌, ◌≢◌, ℕ, ◌+◌, ◌/◌, ◌%◌, ◌<◌, ◌≤◌, List, [], ◌∷◌, length, get_or, set, All, sym, ap, ◌∙◌, subst, refl, inl, inr, arith}
-use Rattle.std.specs.Prelude.{Option, Some, None, Result, Ok, Err, IfOk, OnOk, OnErr, option_map, ◌==◌, if◌then◌else◌}
+use Rattle.std.proofs.Common.{◌≡◌, ◌≢◌, ℕ, ◌+◌, ◌/◌, ◌%◌, ◌<◌, ◌≤◌, List, [], ◌∷◌, length, get_or, set, remove, All, sym, ap, ◌∙◌, subst, refl, inl, inr, arith}
+use Rattle.std.specs.Prelude.{Bool, true, false, Option, Some, None, Result, Ok, Err, IfOk, OnOk, OnErr, option_map, ◌==◌, if◌then◌else◌}
 use Rattle.std.specs.Option.{option_and_then}
+use Rattle.std.specs.Result.{is_ok, is_err}
 use Rattle.std.proofs.lemmas.Bool.{cond_both, cond-true, cond-false, cases_eq}
 use Rattle.std.proofs.lemmas.List.{set-get_or}
 use Rattle.std.proofs.lemmas.List.Elements.{All-nil, All-cons, All-head, All-tail}
@@ -10,10 +11,10 @@ use Rattle.ea_model.specs.declared.carriers.BlockAt.{BlockAt}
 use Rattle.ea_model.specs.declared.carriers.Segment.{Segment}
 use Rattle.ea_model.specs.Region.{entered}
 use Rattle.ea_model.specs.Content.{Content, block_at}
-use Rattle.ea_model.specs.Instance.{segment_of, segments, content_of, changed, block_in}
+use Rattle.ea_model.specs.Instance.{segment_of, segments, content_of, changed, block_in, without_content}
 use Rattle.ea_instance.specs.Kept.{Rising, IsWhole}
 use Rattle.ea_instance.specs.Found.{IsOther, IsRising}
-use Rattle.ea_instance.proofs.Contents.{content_of-changed, content_of-number, set-changed}
+use Rattle.ea_instance.proofs.Contents.{content_of-changed, content_of-number, remove-without, set-changed}
 
 pub record KeepsPlace (f : Content → Content) : Type 0 where
   pub number : (c : Content) → (f c).number ≡ c.number
@@ -81,6 +82,16 @@ at_place cs seen i n item same found within is = record {
   is = is;
   there = subst (λ xs. content_of xs n ≡ Some (get_or xs i item)) same (found item) ∙ ap Some (sym is);
 }
+
+-- without the content at a place
+pub remove-number : (cs : List Content) (i n : ℕ) (item : Content) → IsAt cs i n item → IsRising cs → remove cs i ≡ without_content n cs
+remove-number cs i n item at rising =
+    remove-without rising.0 rising.1 i item cs rising.2 at.within ∙ ap (λ m. without_content m cs) (ap (λ (c : Content). c.number) (sym at.is) ∙ content_of-number n item cs at.there)
+
+-- what a call leaves where it had no error
+pub chosen_ok : {T E A : Type 0} (r : Result T E) (x new old : A) (err : Bool) → err ≡ false → err ≡ is_err r → x ≡ (if is_ok r then new else old) → x ≡ new
+chosen_ok (Ok y) x new old err none is e = e
+chosen_ok (Err y) x new old err none is e = let never : true ≡ false = sym is ∙ none in absurd cc
 
 -- what a call leaves, by its two outcomes
 pub by_outcome : {T E : Type 0} (r : Result T E) (A B G : Type 0) → (A → G) → (B → G) → OnOk r A → OnErr r B → G

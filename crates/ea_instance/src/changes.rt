@@ -51,10 +51,10 @@ pub fn enter(carriers: &mut Vec<Employed>, carrier: Employed) -> Result<(), OutO
     ensures err { OnErr result (carriers.new.items ≡ carriers.old.items) }
 {
     let place = place_behind(carrier.number(), carriers);
-    match carriers.insert(place, carrier) {
-        Ok(()) => Ok(()),
-        Err(_) => Err(OutOfMemory),
+    if carriers.insert(place, carrier).is_err() {
+        return Err(OutOfMemory);
     }
+    Ok(())
 }
 
 /// Takes out the carrier with the number.
