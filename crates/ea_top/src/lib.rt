@@ -1,7 +1,9 @@
 //! The top call: words and input in, text and status out.
 #![tactic(auto)]
 
+mod chosen;
 mod faults;
+mod flags;
 mod lines;
 mod outcome;
 mod reader;
