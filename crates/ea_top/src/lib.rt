@@ -13,7 +13,6 @@ mod seen;
 mod simulation;
 mod stages;
 mod top;
-mod words;
 
 pub use faults::Fault;
 pub use top::run;
