@@ -1,5 +1,5 @@
 -- The output text of a run.
-use Rattle.std.specs.Prelude.{ℕ, ◌+◌, ◌*◌, ◌/◌, length, map, sum_by, List, [], ◌∷◌, ◌++◌, Option, Some, None, codes, decimal}
+use Rattle.std.specs.Prelude.{ℕ, ◌+◌, ◌*◌, ◌/◌, length, map, sum_by, List, [], ◌∷◌, ◌++◌, Option, Some, None, Result, Ok, Err, codes, decimal}
 use Rattle.std.specs.List.{flat_map}
 use Rattle.std.specs.Option.{option_map}
 use Rattle.ea_model.specs.declared.carriers.Place.{Place}
@@ -19,7 +19,7 @@ use Rattle.ea_model.specs.Content.{Content, gaps_of, allocated, largest, free_un
 use Rattle.ea_model.specs.Trace.{trace_of}
 use Rattle.ea_model.specs.declared.settings.Config.{Config}
 use Rattle.ea_model.specs.Instance.{Instance, new_instance}
-use Rattle.ea_model.specs.Flags.{region_pages}
+use Rattle.ea_model.specs.Flags.{Refusal, region_pages, flags}
 use Rattle.ea_model.specs.Run.{Run, run}
 
 -- a line: a first word, each further word behind a space, and a line feed
@@ -103,3 +103,11 @@ instance_of c = new_instance c.h 1 0 (region_pages c)
 -- the output for an input under a configuration; none where it is no trace
 abbrev pub output : Config → List ℕ → Option (List ℕ)
 output c input = option_map (λ ops. run_text (run (instance_of c) ops)) (trace_of input)
+
+abbrev pub output_under : Result Config Refusal → List ℕ → Option (List ℕ)
+output_under (Ok c) input = output c input
+output_under (Err e) input = None
+
+-- the output for an input under the configuration that the words ask for; none where they are refused
+abbrev pub output_for : List (List ℕ) → List ℕ → Option (List ℕ)
+output_for words input = output_under (flags words) input

@@ -1,7 +1,8 @@
 //! Worked inputs with their outputs, computed from the definitions alone.
 ghost use Rattle.std.specs.Prelude.{◌≡◌, codes, Ok, Err, Some, None, [], ◌∷◌};
 ghost use Rattle.ea_model.specs.Flags.{Unsupported, TooSmall, flags};
-ghost use Rattle.ea_model.specs.Worked.{small, output_for};
+ghost use Rattle.ea_model.specs.Text.{output_for};
+ghost use Rattle.ea_model.specs.Worked.{small};
 
 /// Laws of the definitions: what they give on worked words and inputs.
 pub fn worked_inputs()

@@ -1,3 +1,4 @@
 pub mod InRange
+pub mod Pairs
 pub mod Printing
 pub mod Steps

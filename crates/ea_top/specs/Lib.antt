@@ -3,6 +3,7 @@ pub mod Reads
 pub mod Printed
 pub mod Holding
 pub mod Running
+pub mod Flags
 pub mod Answers
 pub mod Lines
 pub mod Whys

@@ -3,16 +3,20 @@ ghost use Rattle.std.specs.Prelude.{◌≡◌, OnOk, OnErr};
 ghost use Rattle.std.specs.Io.KnownBytes.{Appends};
 ghost use Rattle.ea_io.specs.Counts.{Rose, Calm};
 ghost use Rattle.ea_io.specs.Fronts.{AppendsFront};
-ghost use Rattle.ea_top.specs.Lines.{status_of, line_of, said_of};
+ghost use Rattle.ea_top.specs.Lines.{fault_of, status_of, line_with, line_of};
 
+use crate::flags::Refusal;
 use ea_io::{Failed, Sink, write_texts};
+use itoa::Buffer;
 
 /// Why a run has no text.
 #[derive(Debug, Clone, Copy, PartialEq, Eq)]
 pub enum Fault {
-    /// The words aren't the flags that are built.
-    Words,
-    /// The input isn't in the language that is built, or a block fits no gap of the one carrier.
+    /// The word of this number, from 1, is wrong at its place, or is missing there.
+    Word { word: u64 },
+    /// The main carrier is larger than the region.
+    SpaceTooSmall,
+    /// The input isn't in the language that is built.
     Input,
     /// The input has more than 2^24 bytes.
     TooLong,
@@ -24,31 +28,39 @@ pub enum Fault {
     OutOfMemory,
 }
 
+impl From<Refusal> for Fault {
+    ghost from_gives = { λ refusal fault. fault ≡ fault_of refusal };
+
+    fn from(refusal: Refusal) -> Fault {
+        match refusal {
+            Refusal::Unsupported { word } => Fault::Word { word },
+            Refusal::TooSmall => Fault::SpaceTooSmall,
+        }
+    }
+}
+
 impl Fault {
     /// The status that it ends with.
     pub fn status(self) -> u8
         ensures { result ≡ status_of self }
     {
         match self {
-            Fault::Words => 1,
+            Fault::Word { .. } | Fault::SpaceTooSmall => 1,
             Fault::Input | Fault::TooLong => 2,
             Fault::ReadFailed => 3,
             Fault::WriteFailed => 4,
             Fault::OutOfMemory => 5,
         }
     }
+}
 
-    fn said(self) -> &'static str
-        ensures { result.now ≡ said_of self }
-    {
-        match self {
-            Fault::Words | Fault::Input => "not built yet",
-            Fault::TooLong => "input too long",
-            Fault::ReadFailed => "read failed",
-            Fault::WriteFailed => "write failed",
-            Fault::OutOfMemory => "out of memory",
-        }
-    }
+/// Writes the line that says this.
+fn write_said<E: Sink>(err: &mut E, said: &str) -> Result<(), Failed>
+    ensures whole { OnOk result (Appends (E.taken err.old) (E.taken err.new) (line_with said.now)) }
+    ensures front { AppendsFront (E.taken err.old) (E.taken err.new) (line_with said.now) }
+    ensures cause { OnErr result (Rose (E.faults err.old) (E.faults err.new)) }
+{
+    write_texts(err, &["erts_alloc_run: ", said, "\n"])
 }
 
 fn write_line<E: Sink>(err: &mut E, fault: Fault) -> Result<(), Failed>
@@ -56,7 +68,19 @@ fn write_line<E: Sink>(err: &mut E, fault: Fault) -> Result<(), Failed>
     ensures front { AppendsFront (E.taken err.old) (E.taken err.new) (line_of fault) }
     ensures cause { OnErr result (Rose (E.faults err.old) (E.faults err.new)) }
 {
-    write_texts(err, &["erts_alloc_run: ", fault.said(), "\n"])
+    match fault {
+        Fault::Word { word } => {
+            let mut buffer = Buffer::new();
+            let number = buffer.format(word);
+            write_texts(err, &["erts_alloc_run: word ", number, ": unsupported\n"])
+        }
+        Fault::SpaceTooSmall => write_said(err, "super carrier too small"),
+        Fault::Input => write_said(err, "not built yet"),
+        Fault::TooLong => write_said(err, "input too long"),
+        Fault::ReadFailed => write_said(err, "read failed"),
+        Fault::WriteFailed => write_said(err, "write failed"),
+        Fault::OutOfMemory => write_said(err, "out of memory"),
+    }
 }
 
 /// Writes the line of a fault. After the first fault of `err` nothing more is written.

@@ -1,7 +1,9 @@
 //! The top call: words and input in, text and status out.
 #![tactic(auto)]
 
+mod chosen;
 mod faults;
+mod flags;
 mod lines;
 mod outcome;
 mod reader;
@@ -11,7 +13,6 @@ mod seen;
 mod simulation;
 mod stages;
 mod top;
-mod words;
 
 pub use faults::Fault;
 pub use top::run;

@@ -27,8 +27,8 @@ pub enum Line {
     Unreadable,
 }
 
-/// The most bytes of a request.
-const MAX_BYTES: u32 = 1_073_741_823;
+/// The most bytes of a request: 512 kilobytes less the block's header.
+const MAX_BYTES: u32 = 524_280;
 
 /// Whether no word is left.
 fn is_blank(rest: &[u8]) -> bool

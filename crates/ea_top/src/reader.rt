@@ -62,7 +62,8 @@ impl Seen {
     /// Whether the operations are few enough with this line.
     fn has_room(&self, line: Line) -> bool
         requires { IsNamed line }
-        ensures { (earlier : Lines) → Knows earlier self.now → result ≡ nat_le (length (operations (said line ∷ earlier))) 262144 }
+        ensures known { (earlier : Lines) → Knows earlier self.now → result ≡ nat_le (length (operations (said line ∷ earlier))) 262144 }
+        ensures few { result ≡ nat_le (length self.now.ops.items + length (op_of (said line))) 262144 }
     {
         self.ops.len() <= MAX_OPS as usize - usize::from(line.operation().is_some())
     }
@@ -70,14 +71,16 @@ impl Seen {
     /// Whether a line may follow those that were taken.
     fn may_follow(&self, line: Line) -> bool
         requires { IsNamed line }
-        ensures { (earlier : Lines) → Knows earlier self.now → result ≡ may_follow earlier (said line) }
+        ensures known { (earlier : Lines) → Knows earlier self.now → result ≡ may_follow earlier (said line) }
+        ensures few { result ≡ true → length self.now.ops.items + length (op_of (said line)) ≤ 262144 }
     {
         self.stage.admits(line) && self.has_room(line) && self.names_are_good(line)
     }
 
     /// Notes a line.
     fn note(&mut self, line: Line) -> Result<(), OutOfMemory>
-        requires { IsNamed line }
+        requires named { IsNamed line }
+        requires few { length self.old.ops.items + length (op_of (said line)) ≤ 262144 }
         ensures { OnOk result ((earlier : Lines) → Knows earlier self.old → Knows (said line ∷ earlier) self.new) }
     {
         if let Some(op) = line.operation() {
@@ -109,6 +112,7 @@ impl Seen {
     fn finish(self) -> Result<List<Op>, TraceFault>
         ensures given { (earlier : Lines) → Knows earlier self → Gives result (at_end (stage_after earlier) (operations earlier)) }
         ensures in_range { IfOk result (λ ops. All InRange ops.items) }
+        ensures few { IfOk result (λ ops. length ops.items ≤ 262144) }
     {
         if self.stage == Stage::Ended {
             Ok(self.ops)
@@ -122,6 +126,7 @@ impl Seen {
 pub fn read_trace(alloc: Global, bytes: &[u8]) -> Result<List<Op>, TraceFault>
     ensures given { Gives result (trace_of bytes.now) }
     ensures in_range { IfOk result (λ ops. All InRange ops.items) }
+    ensures few { IfOk result (λ ops. length ops.items ≤ 262144) }
 {
     let Ok(mut seen) = Seen::new(alloc) else {
         return Err(TraceFault::OutOfMemory);

@@ -1,5 +1,5 @@
 //! What a reader knows of the lines that it took.
-ghost use Rattle.std.specs.Prelude.{◌≡◌, length, All};
+ghost use Rattle.std.specs.Prelude.{◌≡◌, ◌≤◌, length, All};
 ghost use Rattle.ea_model.specs.Trace.{InRange};
 
 use crate::stages::Stage;
@@ -15,4 +15,5 @@ pub struct Seen {
     pub ops: List<Op>,
     ghost names: { length made.items ≡ 262145 },
     ghost in_range: { All InRange ops.items },
+    ghost few: { length ops.items ≤ 262144 },
 }

@@ -1,0 +1,202 @@
+//! Reads the flags that are built so far.
+ghost use Rattle.std.specs.Prelude.{◌≡◌, ◌+◌, ◌<◌, ◌≤◌, ◌^◌, ◌∷◌, [], ℕ, List, Err, IfOk, IfErr, IfSome, length, map, option_map, string_bytes};
+ghost use Rattle.ea_model.specs.Instance.{pages_for};
+ghost use Rattle.ea_model.specs.Flags.{Chosen as Choice, defaults, set_by, config_of, at_last, pairs_from, region_pages, flags};
+ghost use Rattle.ea_top.specs.Flags.{setting_of, chosen_of, refusal_of, IsInRange, IsBuilt, Chooses, Reads};
+
+use crate::chosen::{Chosen, Setting};
+use ea_model::words::number;
+use ea_model::{Config, PAGE_UNITS, Settings, Strategy};
+
+/// Why words are refused.
+#[derive(Debug, Clone, Copy, PartialEq, Eq)]
+pub enum Refusal {
+    /// The word of this number, from 1, is wrong at its place, or is missing there.
+    Unsupported { word: u64 },
+    /// The main carrier is larger than the region.
+    TooSmall,
+}
+
+/// The most megabytes of a super carrier.
+const MAX_MEGABYTES: u32 = 512;
+/// The most kilobytes of a main carrier.
+const MAX_KILOBYTES: u32 = 524_288;
+
+/// The units of a kilobyte.
+const KILOBYTE_UNITS: u32 = 128;
+
+/// The settings of an allocator, where no flag says otherwise.
+const DEFAULT_SETTINGS: Settings = Settings {
+    strategy: Strategy::AoffCbf,
+    acul: 60,
+    acfml: 0,
+    sbct: 65536,
+    smbcs: 32768,
+    lmbcs: 655_360,
+    mbcgs: 10,
+    mmbcs: 0,
+    mbsd: 3,
+    rsbcmt: 80,
+    rmbcmt: 50,
+    rsbcst: 20,
+    asbcst: 131_072,
+    ramv: false,
+};
+
+impl Chosen {
+    /// Where no flag says otherwise: a super carrier of 64 megabytes, and no main carrier.
+    pub fn new() -> Chosen
+        ensures { chosen_of result ≡ defaults }
+    {
+        Chosen {
+            megabytes: 64,
+            kilobytes: 0,
+            off: false,
+        }
+    }
+
+    /// Sets what a flag and its value say; the later of two settings of one flag holds.
+    pub fn set(&mut self, setting: Setting)
+        requires { IsInRange (setting_of setting) }
+        ensures { chosen_of self.new ≡ set_by (chosen_of self.old) (setting_of setting) }
+    {
+        match setting {
+            Setting::SuperCarrier(megabytes) => self.megabytes = megabytes,
+            Setting::MainCarrier(kilobytes) => self.kilobytes = kilobytes,
+            Setting::NoMigration => self.off = true,
+        }
+    }
+
+    /// The configuration, for one scheduler.
+    pub fn config(self) -> Config
+        ensures { result ≡ config_of (chosen_of self) }
+    {
+        Config {
+            schedulers: 1,
+            scs: self.megabytes,
+            b: DEFAULT_SETTINGS,
+            d: DEFAULT_SETTINGS,
+            e: DEFAULT_SETTINGS,
+            h: Settings {
+                acul: 0,
+                mmbcs: KILOBYTE_UNITS * self.kilobytes,
+                ..DEFAULT_SETTINGS
+            },
+            l: DEFAULT_SETTINGS,
+            r: DEFAULT_SETTINGS,
+            s: DEFAULT_SETTINGS,
+            t: Settings {
+                acul: 0,
+                ..DEFAULT_SETTINGS
+            },
+        }
+    }
+}
+
+/// Whether a word is a flag that is built.
+fn is_flag(word: &[u8]) -> bool
+    ensures { result ≡ Rattle.ea_model.specs.Flags.is_flag word.now }
+{
+    word == b"+MMscs".as_slice() || word == b"+MHmmbcs".as_slice() || word == b"+MHacul".as_slice()
+}
+
+/// What a flag sets with this value, if the value is one of its own.
+fn setting(flag: &[u8], value: &[u8]) -> Option<Setting>
+    ensures set { option_map setting_of result ≡ Rattle.ea_model.specs.Flags.setting flag.now value.now }
+    ensures in_range { IfSome result (λ s. IsInRange (setting_of s)) }
+{
+    if flag == b"+MMscs".as_slice() {
+        Some(Setting::SuperCarrier(number(value, 1, MAX_MEGABYTES)?))
+    } else if flag == b"+MHmmbcs".as_slice() {
+        Some(Setting::MainCarrier(number(value, 0, MAX_KILOBYTES)?))
+    } else if value == b"0".as_slice() {
+        Some(Setting::NoMigration)
+    } else {
+        None
+    }
+}
+
+/// What a flag and its value set, behind so many words.
+fn read_pair(before: u64, flag: &[u8], value: &[u8]) -> Result<Setting, Refusal>
+    requires { before < 2 ^ 32 }
+    ensures ok { IfOk result (λ s. (c : Choice) (words : List (List ℕ)) → pairs_from before c (flag.now ∷ value.now ∷ words) ≡ pairs_from (before + 2) (set_by c (setting_of s)) words) }
+    ensures err { IfErr result (λ e. (c : Choice) (words : List (List ℕ)) → pairs_from before c (flag.now ∷ value.now ∷ words) ≡ Err (refusal_of e)) }
+    ensures in_range { IfOk result (λ s. IsInRange (setting_of s)) }
+{
+    if !is_flag(flag) {
+        return Err(Refusal::Unsupported { word: before + 1 });
+    }
+    match setting(flag, value) {
+        Some(setting) => Ok(setting),
+        None => Err(Refusal::Unsupported { word: before + 2 }),
+    }
+}
+
+/// The refusal of a last word that is no value: a flag lacks its value, and another word is no flag.
+fn last_refusal(before: u64, word: &[u8]) -> Refusal
+    requires { before < 2 ^ 32 }
+    ensures { (c : Choice) → pairs_from before c (word.now ∷ []) ≡ Err (refusal_of result) }
+{
+    if is_flag(word) {
+        Refusal::Unsupported { word: before + 2 }
+    } else {
+        Refusal::Unsupported { word: before + 1 }
+    }
+}
+
+/// What has been set, behind so many words and at their end: migration has to be off.
+fn at_end(before: u64, chosen: Chosen) -> Result<Chosen, Refusal>
+    requires { before < 2 ^ 32 }
+    ensures { Chooses result (at_last before (chosen_of chosen)) }
+{
+    if chosen.off {
+        Ok(chosen)
+    } else {
+        Err(Refusal::Unsupported { word: before + 1 })
+    }
+}
+
+/// What the words set.
+fn read_pairs(words: &[String]) -> Result<Chosen, Refusal>
+    requires { length words.now < 2 ^ 32 }
+    ensures { Chooses result (pairs_from 0 defaults (map string_bytes words.now)) }
+{
+    let mut chosen = Chosen::new();
+    let mut before = 0u64;
+    let mut rest = words;
+    while let [flag, value, after @ ..] = rest {
+        chosen.set(read_pair(before, flag.as_bytes(), value.as_bytes())?);
+        before += 2;
+        rest = after;
+    }
+    match rest {
+        [word, ..] => Err(last_refusal(before, word.as_bytes())),
+        [] => at_end(before, chosen),
+    }
+}
+
+/// The configuration, if its main carrier fits the region.
+fn fitting_config(config: Config) -> Result<Config, Refusal>
+    requires schedulers { config.schedulers ≡ 1 }
+    requires region { config.scs ≤ 512 }
+    requires main { config.h.mmbcs ≤ 67108864 }
+    ensures read { Reads result (Rattle.ea_model.specs.Flags.fitting_config config) }
+    ensures same { IfOk result (λ c. c ≡ config) }
+    ensures fits { IfOk result (λ c. pages_for c.h.mmbcs ≤ region_pages c) }
+{
+    if config.region_pages() < config.h.mmbcs.div_ceil(PAGE_UNITS) {
+        Err(Refusal::TooSmall)
+    } else {
+        Ok(config)
+    }
+}
+
+/// The configuration that the words ask for. A refusal names the first word that is wrong.
+pub fn read_flags(words: &[String]) -> Result<Config, Refusal>
+    requires { length words.now < 2 ^ 32 }
+    ensures read { Reads result (flags (map string_bytes words.now)) }
+    ensures built { IfOk result IsBuilt }
+{
+    let chosen = read_pairs(words)?;
+    fitting_config(chosen.config())
+}
