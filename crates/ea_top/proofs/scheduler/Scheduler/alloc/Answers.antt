@@ -1,12 +1,11 @@
-use Rattle.std.proofs.Common.{◌≡◌, ℕ, List, [], ◌∷◌, ◌++◌, length, sym, ap, ◌∙◌, subst, refl, arith, rules}
+use Rattle.std.proofs.Common.{◌≡◌, [], ◌∷◌, ◌++◌, sym, ap, ◌∙◌, subst, arith, rules}
 use Rattle.std.specs.Prelude.{Some, option_map}
 use Rattle.ea_model.specs.Units.{need_of}
-use Rattle.ea_model.specs.Content.{Content, placed, gap_at, gaps_of, taken_of, block_at}
-use Rattle.ea_model.specs.Run.{Run, employed, chosen, placing, place_in, with_block}
+use Rattle.ea_model.specs.Content.{Content, placed, gap_at, gaps_of, taken_of}
+use Rattle.ea_model.specs.Run.{employed, chosen, placing, place_in, with_block}
 use Rattle.ea_model.specs.declared.carriers.BlockAt.{BlockAt}
 use Rattle.ea_model.specs.declared.entries.Entry.TheVariants.{Alloc}
 use Rattle.ea_top.specs.Holding.{HoldsBlocks}
-use Rattle.ea_top.specs.Running.{Shows}
 use Rattle.ea_top.proofs.Steps.{holds_employed, holds_placed, offset_of-set, entry_of}
 use Rattle.ea_top.proofs.scheduler.Scheduler.alloc.Goals as goal
 

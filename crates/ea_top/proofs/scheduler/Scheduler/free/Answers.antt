@@ -1,9 +1,8 @@
-use Rattle.std.proofs.Common.{◌≡◌, ℕ, List, length, sym, ap, ◌∙◌, ◌++◌, ◌∷◌, [], subst, refl, arith, rules}
-use Rattle.std.specs.Prelude.{Some, None, get_or}
+use Rattle.std.proofs.Common.{◌≡◌, sym, ap, ◌∙◌, ◌++◌, ◌∷◌, [], arith}
+use Rattle.std.specs.Prelude.{Some, None}
 use Rattle.std.proofs.lemmas.List.{get_or_read}
-use Rattle.ea_model.specs.Run.{Run, freeing, freed_in, offset_of}
+use Rattle.ea_model.specs.Run.{freeing, freed_in, offset_of}
 use Rattle.ea_model.specs.declared.entries.Entry.TheVariants.{Free, FreeSkipped}
-use Rattle.ea_top.specs.Running.{Shows}
 use Rattle.ea_top.proofs.Steps.{offset_of-unset}
 use Rattle.ea_top.proofs.scheduler.Scheduler.free.Goals as goal
 
