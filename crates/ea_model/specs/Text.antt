@@ -1,5 +1,5 @@
 -- The output text of a run.
-use Rattle.std.specs.Prelude.{ℕ, ◌+◌, ◌/◌, List, [], ◌∷◌, ◌++◌, Option, Some, None, codes, decimal}
+use Rattle.std.specs.Prelude.{ℕ, ◌/◌, List, [], ◌∷◌, ◌++◌, Option, Some, None, codes, decimal}
 use Rattle.std.specs.List.{flat_map}
 use Rattle.std.specs.Option.{option_map}
 use Rattle.ea_model.specs.declared.carriers.Place.{Place}
@@ -12,7 +12,6 @@ use Rattle.ea_model.specs.declared.carriers.Totals.{Totals}
 use Rattle.ea_model.specs.declared.operations.Op.{Op}
 use Rattle.ea_model.specs.declared.entries.NoCarrier.{NoCarrier}
 use Rattle.ea_model.specs.declared.entries.NoCarrier.TheVariants as cause
-use Rattle.ea_model.specs.declared.entries.Triple.{Triple}
 use Rattle.ea_model.specs.declared.entries.Report.{Report}
 use Rattle.ea_model.specs.declared.entries.Entry.{Entry}
 use Rattle.ea_model.specs.declared.entries.Entry.TheVariants as entry

@@ -1,5 +1,5 @@
 -- The traces: which lines may follow which, and the operations that they hold. Earlier lines are lists with the newest line first.
-use Rattle.std.specs.Prelude.{ℕ, ◌+◌, ◌<◌, ◌≤◌, Bool, true, false, ◌&&◌, ◌||◌, not, nat_le, ◌==◌, List, [], ◌∷◌, ◌++◌, length, map, Option, Some, None}
+use Rattle.std.specs.Prelude.{ℕ, ◌<◌, ◌≤◌, Bool, true, false, ◌&&◌, ◌||◌, not, nat_le, ◌==◌, List, [], ◌∷◌, ◌++◌, length, map, Option, Some, None}
 use Rattle.ea_model.specs.Words.{lines}
 use Rattle.ea_model.specs.Lines.{Line, Skipped, Letter, Scheduler, Alloc, Free, Schedule, End, Unreadable, line_of}
 use Rattle.ea_model.specs.declared.operations.Op.{Op}

@@ -6,6 +6,8 @@ pub mod carriers;
 pub mod entries;
 pub mod lists;
 pub mod operations;
+#[cfg(test)]
+mod tests;
 pub mod units;
 pub mod words;
 pub mod worked;

@@ -1,9 +1,9 @@
 -- The names and requests of a line are in their ranges.
-use Rattle.std.proofs.Common.{◌≡◌, ℕ, ◌+◌, ◌<◌, ◌≤◌, List, [], ◌∷◌, arith}
+use Rattle.std.proofs.Common.{ℕ, ◌≤◌, List, [], ◌∷◌, arith}
 use Rattle.std.specs.Prelude.{Option, None, Some, IfSome, codes, bytes_eq}
 use Rattle.std.proofs.lemmas.Bool.{cond_both}
 use Rattle.ea_model.specs.Words.{words, number}
-use Rattle.ea_model.specs.Lines.{Line, Skipped, Letter, Scheduler, Alloc, Free, Schedule, End, Unreadable, line_of, line_of_words, command, is_comment, letter_line, one_number, scheduler_line, free_line, alloc_words, alloc_line, name_in, bytes_in, bare_line, IsLineInRange}
+use Rattle.ea_model.specs.Lines.{Skipped, Letter, Schedule, End, Unreadable, line_of, line_of_words, command, is_comment, letter_line, one_number, scheduler_line, free_line, alloc_words, alloc_line, name_in, bytes_in, bare_line, IsLineInRange}
 
 number-high : (low high : ℕ) (word : List ℕ) → IfSome (number low high word) (λ n. n ≤ high)
 number-high low high word = grind arith

@@ -1,5 +1,5 @@
 -- What the program answers, by its words and its input.
-use Rattle.std.specs.Prelude.{◌≡◌, ℕ, ◌+◌, ◌<◌, Bool, Option, List, [], ◌∷◌, length, codes, nat_lt, unwrap_or, IsSome}
+use Rattle.std.specs.Prelude.{◌≡◌, ℕ, ◌<◌, Bool, List, [], ◌∷◌, length, codes, nat_lt, unwrap_or, IsSome}
 use Rattle.ea_model.specs.Text.{output}
 
 -- the words are the flags that are built

@@ -1,5 +1,5 @@
 -- The status and the line of a fault.
-use Rattle.std.specs.Prelude.{ℕ, Bool, true, false, List, ◌++◌, codes}
+use Rattle.std.specs.Prelude.{ℕ, Bool, true, false, List}
 use Rattle.ea_model.specs.Faultline.{said, faultline}
 use Rattle.ea_top.specs.declared.faults.Fault.{Fault}
 use Rattle.ea_top.specs.declared.faults.Fault.TheVariants.{Words, Input, TooLong, ReadFailed, WriteFailed, OutOfMemory}

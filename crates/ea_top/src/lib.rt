@@ -10,6 +10,8 @@ mod scheduler;
 mod seen;
 mod simulation;
 mod stages;
+#[cfg(test)]
+mod tests;
 mod top;
 mod words;
 

@@ -1,4 +1,4 @@
-use Rattle.std.proofs.Common.{◌≡◌, sym, ◌∙◌, ap}
+use Rattle.std.proofs.Common.{sym, ◌∙◌, ap}
 use Rattle.std.specs.Prelude.{Some, option_map}
 use Rattle.ea_model.specs.Run.{run}
 use Rattle.ea_model.specs.Text.{run_of, run_text}

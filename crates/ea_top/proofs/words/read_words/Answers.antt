@@ -1,4 +1,4 @@
-use Rattle.std.proofs.Common.{◌≡◌, ℕ, ◌<◌, ◌≤◌, List, [], ◌∷◌, length, get_or, map, refl, sym, ◌∙◌, arith}
+use Rattle.std.proofs.Common.{◌≡◌, ℕ, ◌<◌, List, [], ◌∷◌, length, get_or, map, refl, sym, ◌∙◌, arith}
 use Rattle.std.specs.Cmp.Lexicographic.{same_text}
 use Rattle.ea_top.proofs.words.read_words.Goals as goal
 
@@ -14,10 +14,10 @@ four f (x1 ∷ x2 ∷ x3 ∷ x4 ∷ x5 ∷ xs) x y z w p q r s a b c d k m e g h
 
 pub returns-then-eq-4-clause-good : goal.returns-then-eq-4-clause-good
 returns-then-eq-4-clause-good c = (
-    λ _. four _ _ _ _ _ _ _ _ _ _ c.size-item.is c.megabytes-item.is c.limit-item.is c.percent-item.is (omega arith) (omega arith)
-        (sym c.as_str.ensures.value ∙ same_text _ _ c.if-eq.ensures)
-        (sym c.as_str-then-eq.ensures.value ∙ same_text _ _ c.if-eq-2.ensures)
-        (sym c.as_str-then-eq-2.ensures.value ∙ same_text _ _ c.if-eq-3.ensures)
-        (sym c.as_str-then-eq-3.ensures.value ∙ same_text _ _ c.if-eq-4.ensures),
-    λ _. refl,
-  )
+  λ _. four _ _ _ _ _ _ _ _ _ _ c.size-item.is c.megabytes-item.is c.limit-item.is c.percent-item.is (omega arith) (omega arith)
+      (sym c.as_str.ensures.value ∙ same_text _ _ c.if-eq.ensures)
+      (sym c.as_str-then-eq.ensures.value ∙ same_text _ _ c.if-eq-2.ensures)
+      (sym c.as_str-then-eq-2.ensures.value ∙ same_text _ _ c.if-eq-3.ensures)
+      (sym c.as_str-then-eq-3.ensures.value ∙ same_text _ _ c.if-eq-4.ensures),
+  λ _. refl,
+)
