@@ -7,6 +7,8 @@ pub mod entries;
 pub mod lists;
 pub mod operations;
 pub mod settings;
+#[cfg(test)]
+mod tests;
 pub mod units;
 pub mod words;
 pub mod worked;

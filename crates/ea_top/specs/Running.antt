@@ -1,5 +1,5 @@
 -- What a scheduler shows of a run.
-use Rattle.std.specs.Prelude.{ℕ, ◌≡◌, ◌<◌, List, Option, None, Some, get_or}
+use Rattle.std.specs.Prelude.{ℕ, ◌≡◌, ◌<◌, Option, None, get_or}
 use Rattle.ea_model.specs.Run.{Run, offset_of}
 use Rattle.ea_top.specs.declared.scheduler.Scheduler.{Scheduler}
 use Rattle.ea_top.specs.declared.simulation.Stop.{Stop}

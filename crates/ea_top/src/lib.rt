@@ -12,6 +12,8 @@ mod scheduler;
 mod seen;
 mod simulation;
 mod stages;
+#[cfg(test)]
+mod tests;
 mod top;
 
 pub use faults::Fault;

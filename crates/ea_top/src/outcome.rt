@@ -7,9 +7,7 @@ ghost use Rattle.ea_top.specs.Running.{Shows};
 use crate::report::print;
 use crate::scheduler::Scheduler;
 use ea_mbc::Mbc;
-use ea_model::{
-    CarrierLine, HEADER_UNITS, Kind, List, OutOfMemory, PAGE_UNITS, Standing, Totals,
-};
+use ea_model::{CarrierLine, HEADER_UNITS, Kind, List, OutOfMemory, PAGE_UNITS, Standing, Totals};
 use std::alloc::Global;
 
 /// The line of a carrier that its owner employs.

@@ -22,6 +22,9 @@ pub enum Word<'a> {
 
 use Word::{Number, Sum, Text};
 
+#[cfg(test)]
+mod tests;
+
 /// Adds a word behind a space.
 fn put_word(text: &mut List<u8>, word: Word) -> Result<(), OutOfMemory>
     ensures { OnOk result (text.new.items ≡ text.old.items ++ 32 ∷ word_text word.entry) }

@@ -51,9 +51,11 @@ pub fn run<R: Threads + Sync, S: Source, O: Sink, E: Sink>(
     ensures refuses { GoodWords (map string_bytes words.now) → Calm (S.faults source.old) (S.faults source.new)
         → IfSome (S.left source.old) (λ input. (GoodInput (map string_bytes words.now) input → ⊥) → (result ≡ 2) ⊎ (result ≡ 5)) }
 
-    // 3 and 4: only where that count of faults rose; at 4 a front of the text was written.
+    // 3 and 4: only where that count of faults rose, and wherever it did; at 4 a front of the text was written.
     ensures read_failed { result ≡ 3 → Rose (S.faults source.old) (S.faults source.new) }
+    ensures read_told { S.faults source.old < S.faults source.new → result ≡ 3 }
     ensures write_failed { result ≡ 4 → Rose (O.faults out.old) (O.faults out.new) }
+    ensures write_told { O.faults out.old < O.faults out.new → result ≡ 4 }
     ensures front { result ≡ 4 → IfSome (S.left source.old) (λ input. GoodInput (map string_bytes words.now) input × AppendsFront (O.taken out.old) (O.taken out.new) (output_of (map string_bytes words.now) input)) }
     ensures untouched { result ≢ 0 → result ≢ 4 → out.new ≡ out.old }
 
@@ -92,6 +94,8 @@ fn attempt<S: Source, O: Sink>(
     ensures why { IfErr result (IsWhy (map string_bytes words.now) (S.left source.old) (Rose (S.faults source.old) (S.faults source.new)) (Rose (O.faults out.old) (O.faults out.new))) }
     ensures unread { IfErr result (λ f. status_of f ≡ 1 → source.new ≡ source.old) }
     ensures untouched { IfErr result (λ f. f ≢ Fault.WriteFailed → out.new ≡ out.old) }
+    ensures read_told { S.faults source.old < S.faults source.new → IsErrOf result Fault.ReadFailed }
+    ensures write_told { O.faults out.old < O.faults out.new → IsErrOf result Fault.WriteFailed }
     ensures front { IsErrOf result Fault.WriteFailed → IfSome (S.left source.old) (λ input. AppendsFront (O.taken out.old) (O.taken out.new) (output_of (map string_bytes words.now) input)) }
 {
     let config = read_flags(words)?;
@@ -107,6 +111,7 @@ fn attempt<S: Source, O: Sink>(
 fn input_of<S: Source>(alloc: Global, source: &mut S) -> Result<List<u8>, Fault>
     ensures all { IfOk result (λ bytes. IfSome (S.left source.old) (λ input. bytes.items ≡ input)) }
     ensures short { IfOk result (λ bytes. length bytes.items < 16777217) }
+    ensures told { S.faults source.old < S.faults source.new → IsErrOf result Fault.ReadFailed }
     ensures why { IfErr result (λ f. IsReadFault (S.left source.old) (Rose (S.faults source.old) (S.faults source.new)) f) }
 {
     match read_all(alloc, source, MAX_INPUT) {

@@ -1,0 +1,404 @@
+//! Runs in memory, in pieces, where some calls fail.
+ghost use Rattle.std.specs.Prelude.{◌≤◌};
+
+use crate::run;
+use ea_io::{LengthSink, MemSink, MemSource, PlainSource, Source};
+use ea_model::List;
+use std::alloc::{AllocError, Global};
+use std::process::Abort;
+use std::test::Fail;
+use std::thread::Threads;
+
+const GOOD: &[&str] = &["+MMscs", "1", "+MHacul", "0"];
+
+const FIRST_BLOCK: &str = "type H\nscheduler 1\nalloc 1 100\nschedule\nend\n";
+
+const FIRST_TEXT: &str =
+    "scheduler 1\nalloc 1 1 8 14\ncarrier 1 multi owner 1 employed 1 base 0 pages 64 allocated 14 largest 32746\ntotal carriers 1 units 32768 live 14 queued 0 free 32746 header 8\n";
+
+const NOT_BUILT: &str = "erts_alloc_run: not built yet\n";
+
+const TOO_LONG: &str = "erts_alloc_run: input too long\n";
+
+const READ_FAILED: &str = "erts_alloc_run: read failed\n";
+
+const WRITE_FAILED: &str = "erts_alloc_run: write failed\n";
+
+// The most bytes of an input.
+const LIMIT: usize = 16_777_216;
+
+#[derive(Debug, Clone, Copy)]
+struct Case<'a> {
+    words: &'a [&'static str],
+    input: &'a str,
+    /// The most bytes of each read and write.
+    piece: usize,
+    failing_reads: &'a [u32],
+    failing_writes: &'a [u32],
+    failing_complaints: &'a [u32],
+    status: u8,
+    out: &'a str,
+    err: &'a str,
+}
+
+const FIRST: Case = Case {
+    words: GOOD,
+    input: FIRST_BLOCK,
+    piece: 16,
+    failing_reads: &[],
+    failing_writes: &[],
+    failing_complaints: &[],
+    status: 0,
+    out: FIRST_TEXT,
+    err: "",
+};
+
+fn list<T: Copy>(alloc: Global, items: &[T]) -> Result<List<T>, AllocError> {
+    Ok(List::from_vec(Vec::from_slice(alloc, items)?))
+}
+
+fn sink(alloc: Global, piece: usize, failing: &[u32]) -> Result<MemSink, AllocError>
+    requires { 1 ≤ piece }
+{
+    MemSink::new(alloc, 1000, piece, list(alloc, failing)?).map_err(|_| AllocError)
+}
+
+fn words(alloc: Global, texts: &[&str]) -> Result<Vec<String>, AllocError> {
+    let mut words = Vec::new(alloc);
+    for text in texts {
+        words.push(String::from_str(alloc, text)?)?;
+    }
+    Ok(words)
+}
+
+// The first bytes of a text.
+fn front(text: &str, length: usize) -> &str {
+    text.get(..length).unwrap_or(text)
+}
+
+// Runs a case, and answers the source as it is left.
+fn check<R: Threads + Sync + Abort>(
+    rt: &R,
+    alloc: Global,
+    case: &Case,
+) -> Result<MemSource, AllocError> {
+    let words = words(alloc, case.words)?;
+    assert!(rt; words.len() < 10);
+    assert!(rt; case.piece >= 1);
+    let mut source = MemSource::new(
+        list(alloc, case.input.as_bytes())?,
+        case.piece,
+        list(alloc, case.failing_reads)?,
+    );
+    let mut out = sink(alloc, case.piece, case.failing_writes)?;
+    let mut err = sink(alloc, case.piece, case.failing_complaints)?;
+    let status = run(rt, alloc, &words, &mut source, &mut out, &mut err);
+    assert_eq!(rt; status, case.status, "of {case:?}");
+    assert_eq!(rt; out.taken(), case.out.as_bytes(), "of {case:?}");
+    assert_eq!(rt; err.taken(), case.err.as_bytes(), "of {case:?}");
+    Ok(source)
+}
+
+#[test]
+fn a_trace_gives_its_text_in_pieces_of_any_size(rt: HostRuntime) -> Result<(), Fail> {
+    let cases = [
+        (FIRST_BLOCK, FIRST_TEXT),
+        (
+            "type H\nscheduler 1\nalloc 1 0\nschedule\nend\n",
+            "scheduler 1\nalloc 1 1 8 6\ncarrier 1 multi owner 1 employed 1 base 0 pages 64 allocated 6 largest 32754\ntotal carriers 1 units 32768 live 6 queued 0 free 32754 header 8\n",
+        ),
+        (
+            "type H\nscheduler 1\nschedule\nend\n",
+            "scheduler 1\ntotal carriers 0 units 0 live 0 queued 0 free 0 header 0\n",
+        ),
+        // The carrier goes with its last block.
+        (
+            "type H\nscheduler 1\nalloc 1 100\nfree 1\nfree 1\nschedule\nend\n",
+            "scheduler 1\nalloc 1 1 8 14\nfree 1 done\nfree 1 skipped\ntotal carriers 0 units 0 live 0 queued 0 free 0 header 0\n",
+        ),
+        // And it comes back.
+        (
+            "type H\nscheduler 1\nalloc 1 100\nfree 1\nalloc 2 100\nschedule\nend\n",
+            "scheduler 1\nalloc 1 1 8 14\nfree 1 done\nalloc 2 1 8 14\ncarrier 1 multi owner 1 employed 1 base 0 pages 64 allocated 14 largest 32746\ntotal carriers 1 units 32768 live 14 queued 0 free 32746 header 8\n",
+        ),
+        // Two freed neighbours leave one gap.
+        (
+            "type H\nscheduler 1\nalloc 1 100\nalloc 2 100\nalloc 3 100\nfree 1\nfree 2\nalloc 4 200\nschedule\nend\n",
+            "scheduler 1\nalloc 1 1 8 14\nalloc 2 1 22 14\nalloc 3 1 36 14\nfree 1 done\nfree 2 done\nalloc 4 1 8 28\ncarrier 1 multi owner 1 employed 1 base 0 pages 64 allocated 42 largest 32718\ntotal carriers 1 units 32768 live 42 queued 0 free 32718 header 8\n",
+        ),
+        // Of the least gaps the one with the highest offset is taken.
+        (
+            "type H\nscheduler 1\nalloc 1 100\nalloc 2 100\nalloc 3 100\nalloc 4 100\nalloc 5 100\nfree 2\nfree 4\nalloc 6 100\nschedule\nend\n",
+            "scheduler 1\nalloc 1 1 8 14\nalloc 2 1 22 14\nalloc 3 1 36 14\nalloc 4 1 50 14\nalloc 5 1 64 14\nfree 2 done\nfree 4 done\nalloc 6 1 50 14\ncarrier 1 multi owner 1 employed 1 base 0 pages 64 allocated 56 largest 32690\ntotal carriers 1 units 32768 live 56 queued 0 free 32704 header 8\n",
+        ),
+        // A block that fills the carrier, under the greatest name.
+        (
+            "type H\nscheduler 1\nalloc 262144 262072\nschedule\nend\n",
+            "scheduler 1\nalloc 262144 1 8 32760\ncarrier 1 multi owner 1 employed 1 base 0 pages 64 allocated 32760 largest 0\ntotal carriers 1 units 32768 live 32760 queued 0 free 0 header 8\n",
+        ),
+        // Tabs, carriage returns, leading zeros, comments and lines without words.
+        (
+            "# c\n\ttype  H\r\n\nscheduler 01\n alloc\t1 0000000100 \n#end\nschedule\r\n\t\nend\n\n # end",
+            FIRST_TEXT,
+        ),
+        // The last line needs no line feed.
+        (
+            "type H\nscheduler 1\nalloc 1 100\nschedule\nend",
+            FIRST_TEXT,
+        ),
+    ];
+    for (input, out) in cases {
+        for piece in [1, 7, 16] {
+            check(
+                &rt,
+                rt.alloc(),
+                &Case {
+                    input,
+                    piece,
+                    out,
+                    ..FIRST
+                },
+            )?;
+        }
+    }
+    Ok(())
+}
+
+#[test]
+fn other_words_are_refused_and_nothing_is_read(rt: HostRuntime) -> Result<(), Fail> {
+    let cases: [&[&'static str]; 9] = [
+        &[],
+        &["+MMscs", "1", "+MHacul"],
+        &["+MMscs", "1", "+MHacul", "0", "0"],
+        &["+MHacul", "0", "+MMscs", "1"],
+        &["+MMscs", "2", "+MHacul", "0"],
+        &["+MMscs", "01", "+MHacul", "0"],
+        &["+MMscs", "1", "+MLacul", "0"],
+        &["+MMscs", "1", "+MHacul", "1"],
+        &["", "", "", ""],
+    ];
+    for words in cases {
+        let mut source = check(
+            &rt,
+            rt.alloc(),
+            &Case {
+                words,
+                failing_reads: &[1],
+                failing_writes: &[1],
+                status: 1,
+                out: "",
+                err: NOT_BUILT,
+                ..FIRST
+            },
+        )?;
+        // The first read is still to come.
+        assert!(rt; source.read(&mut [0; 4]).is_err(), "behind {words:?}");
+        assert_eq!(rt; source.read(&mut [0; 4]), Ok(4), "behind {words:?}");
+    }
+    Ok(())
+}
+
+#[test]
+fn an_input_outside_the_language_has_no_text(rt: HostRuntime) -> Result<(), Fail> {
+    let cases = [
+        // The end is missing or cut, or something stands behind it.
+        "",
+        "type H\nscheduler 1\nschedule\n",
+        "type H\nscheduler 1\nschedule\nen",
+        "type H\nscheduler 1\nschedule\nend\nend\n",
+        "type H\nscheduler 1\nschedule\nend # over\n",
+        // A line stands where it may not.
+        "scheduler 1\nschedule\nend\n",
+        "type H\ntype H\nscheduler 1\nschedule\nend\n",
+        "type H\nalloc 1 100\nscheduler 1\nschedule\nend\n",
+        "type H\nschedule\nend\n",
+        "type H\nscheduler 1\nscheduler 1\nschedule\nend\n",
+        "type H\nscheduler 1\nschedule\nalloc 1 100\nend\n",
+        "type H\nscheduler 1\nend\n",
+        // Other letters, schedulers and lines.
+        "type L\nscheduler 1\nschedule\nend\n",
+        "type h\nscheduler 1\nschedule\nend\n",
+        "type H\nscheduler 2\nschedule\nend\n",
+        "type H\nscheduler 1\ninfo\nschedule\nend\n",
+        "type H\nscheduler 1\nALLOC 1 100\nschedule\nend\n",
+        "type H\nscheduler 1\nalloc\x0b1 100\nschedule\nend\n",
+        "type H\nscheduler 1\nschedule\n1*5\nend\n",
+        // Too few words, or too many.
+        "type\nscheduler 1\nschedule\nend\n",
+        "type H H\nscheduler 1\nschedule\nend\n",
+        "type H\nscheduler\nschedule\nend\n",
+        "type H\nscheduler 1\nalloc 1\nschedule\nend\n",
+        "type H\nscheduler 1\nalloc 1 100 1\nschedule\nend\n",
+        "type H\nscheduler 1\nalloc 1 100\nfree\nschedule\nend\n",
+        "type H\nscheduler 1\nalloc 1 100\nfree 1 1\nschedule\nend\n",
+        "type H\nscheduler 1\nschedule 1\nend\n",
+        // No number of the range.
+        "type H\nscheduler 1\nalloc 0 100\nschedule\nend\n",
+        "type H\nscheduler 1\nalloc 262145 100\nschedule\nend\n",
+        "type H\nscheduler 1\nfree 0\nschedule\nend\n",
+        "type H\nscheduler 1\nfree 262145\nschedule\nend\n",
+        "type H\nscheduler 1\nalloc 1 1073741824\nschedule\nend\n",
+        "type H\nscheduler 1\nalloc 1 00000000100\nschedule\nend\n",
+        "type H\nscheduler 1\nalloc 1 -1\nschedule\nend\n",
+        "type H\nscheduler 1\nalloc x 100\nschedule\nend\n",
+        // A name is allocated once, and freed only behind its allocation.
+        "type H\nscheduler 1\nalloc 1 100\nalloc 1 100\nschedule\nend\n",
+        "type H\nscheduler 1\nalloc 1 100\nfree 1\nalloc 1 100\nschedule\nend\n",
+        "type H\nscheduler 1\nfree 1\nschedule\nend\n",
+        "type H\nscheduler 1\nfree 1\nalloc 1 100\nschedule\nend\n",
+        // No gap has room.
+        "type H\nscheduler 1\nalloc 1 262073\nschedule\nend\n",
+        "type H\nscheduler 1\nalloc 1 1073741823\nschedule\nend\n",
+        "type H\nscheduler 1\nalloc 1 262072\nalloc 2 1\nschedule\nend\n",
+    ];
+    for input in cases {
+        check(
+            &rt,
+            rt.alloc(),
+            &Case {
+                input,
+                failing_writes: &[1],
+                status: 2,
+                out: "",
+                err: NOT_BUILT,
+                ..FIRST
+            },
+        )?;
+    }
+    Ok(())
+}
+
+#[test]
+fn a_failing_call_ends_the_run(rt: HostRuntime) -> Result<(), Fail> {
+    let read_failed = Case {
+        status: 3,
+        out: "",
+        err: READ_FAILED,
+        ..FIRST
+    };
+    let write_failed = Case {
+        status: 4,
+        err: WRITE_FAILED,
+        ..FIRST
+    };
+    // 44 bytes are read in pieces of 16, and the fourth read finds the end.
+    for call in 1..5 {
+        check(
+            &rt,
+            rt.alloc(),
+            &Case {
+                failing_reads: &[call],
+                ..read_failed
+            },
+        )?;
+    }
+    // 171 bytes are written in pieces of 16.
+    for (call, done) in (1..12).zip((0..171).step_by(16)) {
+        check(
+            &rt,
+            rt.alloc(),
+            &Case {
+                failing_writes: &[call],
+                out: front(FIRST_TEXT, done),
+                ..write_failed
+            },
+        )?;
+    }
+    // Each byte of each line in turn.
+    let lines = [
+        Case {
+            words: &[],
+            status: 1,
+            out: "",
+            err: NOT_BUILT,
+            ..FIRST
+        },
+        Case {
+            input: "end\n",
+            status: 2,
+            out: "",
+            err: NOT_BUILT,
+            ..FIRST
+        },
+        Case {
+            failing_reads: &[2],
+            ..read_failed
+        },
+        Case {
+            failing_writes: &[13],
+            out: "scheduler 1\n",
+            ..write_failed
+        },
+    ];
+    for case in lines {
+        for done in 0..case.err.len() {
+            check(
+                &rt,
+                rt.alloc(),
+                &Case {
+                    piece: 1,
+                    failing_complaints: &[done as u32 + 1],
+                    err: front(case.err, done),
+                    ..case
+                },
+            )?;
+        }
+    }
+    Ok(())
+}
+
+// The status, the length of the text, and the line for a long input, which comes in whole buffers.
+fn long_run<R: Threads + Sync + Abort>(
+    rt: &R,
+    alloc: Global,
+    input: Vec<u8>,
+) -> Result<(u8, u64, MemSink), AllocError> {
+    let words = words(alloc, GOOD)?;
+    assert!(rt; words.len() < 10);
+    let mut source = PlainSource::new(List::from_vec(input));
+    let mut out = LengthSink::new();
+    let mut err = sink(alloc, 16, &[])?;
+    let status = run(rt, alloc, &words, &mut source, &mut out, &mut err);
+    Ok((status, out.len(), err))
+}
+
+#[test]
+fn an_input_may_be_long_and_not_too_long(rt: HostRuntime) -> Result<(), Fail> {
+    let alloc = rt.alloc();
+    let mut input = vec![in alloc; b'#'; LIMIT - 45]?;
+    input.extend_from_slice(b"\n")?;
+    input.extend_from_slice(FIRST_BLOCK.as_bytes())?;
+    assert_eq!(rt; input.len(), LIMIT);
+    let (status, length, err) = long_run(&rt, alloc, input)?;
+    assert_eq!(rt; status, 0);
+    assert_eq!(rt; length, 171);
+    assert_eq!(rt; err.taken(), b"".as_slice());
+
+    let (status, length, err) = long_run(&rt, alloc, vec![in alloc; 0; LIMIT + 1]?)?;
+    assert_eq!(rt; status, 2);
+    assert_eq!(rt; length, 0);
+    assert_eq!(rt; err.taken(), TOO_LONG.as_bytes());
+    Ok(())
+}
+
+#[test]
+fn a_trace_has_262144_operations_at_most(rt: HostRuntime) -> Result<(), Fail> {
+    let alloc = rt.alloc();
+    // 12 bytes of the section's line, 14 of the block, 12 of its free, 15 of each other, 57 of the totals.
+    let cases = [
+        (262_143, 0, 95 + 15 * 262_142, ""),
+        (262_144, 2, 0, NOT_BUILT),
+    ];
+    for (frees, wanted, text, line) in cases {
+        let mut input = Vec::from_slice(alloc, b"type H\nscheduler 1\nalloc 1 0\n")?;
+        for _ in 0..frees {
+            input.extend_from_slice(b"free 1\n")?;
+        }
+        input.extend_from_slice(b"schedule\nend\n")?;
+        let (status, length, err) = long_run(&rt, alloc, input)?;
+        assert_eq!(rt; status, wanted, "after {frees} frees");
+        assert_eq!(rt; length, text, "after {frees} frees");
+        assert_eq!(rt; err.taken(), line.as_bytes(), "after {frees} frees");
+    }
+    Ok(())
+}
