@@ -1,5 +1,5 @@
 -- The line of a run that has no text.
-use Rattle.std.specs.Prelude.{ℕ, Bool, true, false, List, ◌++◌, codes, decimal, if◌then◌else◌, ◌==◌, Result, Ok, Err}
+use Rattle.std.specs.Prelude.{ℕ, Bool, List, ◌++◌, codes, decimal, if◌then◌else◌, ◌==◌, Result, Ok, Err}
 use Rattle.ea_model.specs.declared.settings.Config.{Config}
 use Rattle.ea_model.specs.Flags.{Refusal, Unsupported, TooSmall}
 

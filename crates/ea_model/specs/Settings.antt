@@ -1,5 +1,5 @@
 -- What the emulator flags set, and the settings that are valid.
-use Rattle.std.specs.Prelude.{ℕ, ◌≤◌, ◌/◌, ◌+◌}
+use Rattle.std.specs.Prelude.{◌≤◌}
 use Rattle.ea_model.specs.declared.settings.Letter.{Letter}
 use Rattle.ea_model.specs.declared.settings.Letter.TheVariants.{B, D, E, H, L, R, S, T}
 use Rattle.ea_model.specs.declared.settings.Settings.{Settings}
