@@ -1,13 +1,17 @@
 -- The contents of an instance, by rising number.
 use Rattle.std.proofs.Common.{suc, zero, ◌≡◌, ◌≢◌, ℕ, ◌+◌, ◌<◌, ◌≤◌, Bool, true, false, List, [], ◌∷◌, length, get_or, set, filter, not, All, sym, ap, ◌∙◌, subst, refl, inl, inr, arith}
-use Rattle.std.specs.Prelude.{Some, None, nat_lt, ◌==◌, if◌then◌else◌, option_map, insert, remove}
+use Rattle.std.specs.Prelude.{Option, Some, None, nat_lt, ◌==◌, if◌then◌else◌, option_map, insert, remove}
 use Rattle.std.specs.List.{position_or_len}
-use Rattle.std.proofs.lemmas.Bool.{cases_lt, cases_eq, cases_Bool}
+use Rattle.std.specs.Option.{option_and_then}
+use Rattle.std.proofs.lemmas.Bool.{cases_lt, cases_eq, cases_Bool, cond-true, cond-false}
 use Rattle.std.proofs.lemmas.List.Elements.{All-nil, All-cons, All-head, All-tail}
-use Rattle.ea_model.specs.Content.{Content}
-use Rattle.ea_model.specs.Instance.{segment_of, segments, with_content, content_of, is_used, unused_from, changed}
+use Rattle.ea_model.specs.declared.carriers.Spot.{Spot}
+use Rattle.ea_model.specs.declared.carriers.BlockAt.{BlockAt}
+use Rattle.ea_model.specs.Content.{Content, block_at}
+use Rattle.ea_model.specs.Instance.{segment_of, segments, with_content, content_of, is_used, is_done, block_in, unused_from, changed}
 use Rattle.ea_instance.proofs.Unused.{unused_from-zero, unused_from-used, unused_from-free_here}
 use Rattle.ea_instance.specs.Kept.{Rising, is_behind}
+use Rattle.ea_instance.specs.Found.{HaveSameBlocks}
 
 unused_here : (k low n : ℕ) (cs : List Content) → is_used low cs ≡ false → unused_from (suc k) low cs ≡ Some n → low ≡ n
 unused_here k low n cs free h = let e : Some low ≡ Some n = sym (unused_from-free_here k low cs free) ∙ h in cc
@@ -42,10 +46,10 @@ Rising-room low high n (c ∷ cs) r a b unused =
       | inr le ↦ omega (arith, Rising-room (c.number + 1) high n cs r.2 (omega arith) b parts.1)
     ]
 
-with_here : (x c : Content) (cs : List Content) → x.number < c.number → with_content x (c ∷ cs) ≡ x ∷ c ∷ cs
+pub with_here : (x c : Content) (cs : List Content) → x.number < c.number → with_content x (c ∷ cs) ≡ x ∷ c ∷ cs
 with_here x c cs h = grind arith
 
-with_past : (x c : Content) (cs : List Content) → c.number ≤ x.number → with_content x (c ∷ cs) ≡ c ∷ with_content x cs
+pub with_past : (x c : Content) (cs : List Content) → c.number ≤ x.number → with_content x (c ∷ cs) ≡ c ∷ with_content x cs
 with_past x c cs h = grind arith
 
 pub Rising-with_content : (low high : ℕ) (x : Content) (cs : List Content) → Rising low high cs → low ≤ x.number → x.number < high → is_used x.number cs ≡ false → Rising low high (with_content x cs)
@@ -231,3 +235,37 @@ is_used-content_of n [] h = refl
 is_used-content_of n (c ∷ cs) h =
     let parts = used_parts n c cs h in
     content_of_past n c cs parts.0 ∙ is_used-content_of n cs parts.1
+
+gone_more : (number : ℕ) (c : Content) (cs : List Content) → content_of (filter (λ c. not (c.number == number)) cs) number ≡ None → content_of (filter (λ c. not (c.number == number)) (c ∷ cs)) number ≡ None
+gone_more number c cs more = elim (cases_eq c.number number) [ inl e ↦ grind arith | inr o ↦ grind arith ]
+
+content_of-gone : (number : ℕ) (cs : List Content) → content_of (filter (λ c. not (c.number == number)) cs) number ≡ None
+content_of-gone number [] = refl
+content_of-gone number (c ∷ cs) = gone_more number c cs (content_of-gone number cs)
+
+no_block : (c : Content) (offset : ℕ) → is_done c ≡ true → block_at c.blocks offset ≡ None
+no_block c offset done = grind arith
+
+-- the block at the offset, if there is a content
+abbrev block_among : ℕ → Option Content → Option BlockAt
+block_among offset o = option_and_then (λ c. block_at c.blocks offset) o
+
+-- a carrier without blocks takes none away
+pub same-without : (number : ℕ) (c : Content) (cs : List Content) → content_of cs number ≡ Some c → is_done c ≡ true → HaveSameBlocks cs (filter (λ c. not (c.number == number)) cs)
+same-without number c cs there done at =
+    elim (cases_eq at.carrier number) [
+      | inl same ↦
+          ap (block_among at.offset) (ap (content_of (filter (λ c. not (c.number == number)) cs)) same ∙ content_of-gone number cs)
+          ∙ sym (ap (block_among at.offset) (ap (content_of cs) same ∙ there) ∙ no_block c at.offset done)
+      | inr other ↦ ap (block_among at.offset) (content_of-without number at.carrier cs other)
+    ]
+
+-- and brings none
+pub same-with : (x : Content) (cs : List Content) → is_used x.number cs ≡ false → x.blocks ≡ [] → HaveSameBlocks cs (with_content x cs)
+same-with x cs unused empty at =
+    elim (cases_eq at.carrier x.number) [
+      | inl same ↦
+          ap (block_among at.offset) (content_of-with_content x at.carrier cs unused ∙ cond-true (at.carrier == x.number) (Some x) (content_of cs at.carrier) (grind arith))
+          ∙ ap (λ bs. block_at bs at.offset) empty ∙ sym (ap (block_among at.offset) (ap (content_of cs) same ∙ is_used-content_of x.number cs unused))
+      | inr other ↦ ap (block_among at.offset) (content_of-with_content x at.carrier cs unused ∙ cond-false (at.carrier == x.number) (Some x) (content_of cs at.carrier) (grind arith))
+    ]

@@ -1,6 +1,6 @@
 -- What an instance keeps through its calls.
 use Rattle.std.proofs.Common.{◌≡◌, ◌≢◌, ℕ, ◌+◌, ◌*◌, ◌/◌, ◌%◌, ◌<◌, ◌≤◌, max, true, false, List, [], ◌∷◌, length, get_or, filter, not, All, sym, ap, ◌∙◌, subst, refl, arith}
-use Rattle.std.specs.Prelude.{Option, Some, None, Result, Ok, Err, IfSome, Any, ◌==◌}
+use Rattle.std.specs.Prelude.{Option, Some, None, Result, Ok, Err, IsSome, IfSome, Any, ◌==◌}
 use Rattle.std.proofs.lemmas.List.Elements.{All-filter}
 use Rattle.ea_model.specs.declared.settings.Settings.{Settings}
 use Rattle.ea_model.specs.declared.carriers.Candidate.{Candidate}
@@ -10,12 +10,13 @@ use Rattle.ea_model.specs.declared.carriers.CarrierPlan.{CarrierPlan}
 use Rattle.ea_model.specs.declared.carriers.Kind.TheVariants.{Multi}
 use Rattle.ea_model.specs.Content.{Content, gaps_of, gap_at}
 use Rattle.ea_model.specs.Region.{Region, Laid, lowest_run, runs, entered, cut_from}
-use Rattle.ea_model.specs.Instance.{Instance, segments, segment_of, first_number, changed, content_of, with_content, unused_from, is_used, free_run, least_pages, next_pages, planned, least_plan, sized_plan, numbered_plan, plan, created_content, creating, without_content, pages_for}
+use Rattle.ea_model.specs.Instance.{Instance, segments, segment_of, first_number, changed, content_of, with_content, unused_from, is_used, free_run, least_pages, next_pages, planned, least_plan, sized_plan, numbered_plan, plan, created_content, creating, without_content, pages_for, chosen_spot, block_in}
 use Rattle.ea_space.specs.Pages.{IsApart}
 use Rattle.ea_instance.specs.Kept.{IsKept, IsWhole, Rising}
-use Rattle.ea_instance.specs.Found.{IsGapOf, HasGap}
+use Rattle.ea_instance.specs.Found.{IsGapOf, HasGap, HaveSameBlocks}
 use Rattle.ea_instance.proofs.Changed.{KeepsPlace, Rising-changed, segments-changed, All-changed}
-use Rattle.ea_instance.proofs.Contents.{content_of-at, Rising-room, Rising-with_content, Rising-without, All-with_content, unused_from-free, content_of-number}
+use Rattle.ea_instance.proofs.Contents.{content_of-at, Rising-room, Rising-with_content, Rising-without, All-with_content, unused_from-free, content_of-number, same-with}
+use Rattle.ea_instance.proofs.Room.{chosen-created}
 use Rattle.ea_instance.proofs.Segments.{length-segments, apart-bases, segments-with_content, segments-without}
 
 -- a gap of one of the contents is a gap at its carrier's number
@@ -153,6 +154,14 @@ module _ (s : Settings) (n : ℕ) (cs : List Content) (created : ℕ) (r : Regio
   seen-created o r2 x new found took is same =
       let e = at_some o p.base (λ start. r2 ≡ record r { taken = entered (record { start = start; pages = p.pages }) r.taken }) (taken_at o found) took in
       ap (λ ys. seen_as s n ys p.birth r2) (same ∙ ap (λ y. with_content y cs) is) ∙ ap (seen_as s n (with_content (created_content n Multi p) cs) p.birth) e ∙ ap (λ i. creating i p) seen
+
+  pub chosen-planned : IsSome (chosen_spot (creating now p) need)
+  chosen-planned = chosen-created now need p (omega (arith, planned_here.enough)) (omega (arith, some_pages))
+
+  -- it has no blocks
+  pub blocks-created : (x : Content) (new : List Content) → x ≡ created_content n Multi p → new ≡ with_content x cs → HaveSameBlocks now.contents new
+  blocks-created x new is same at =
+      ap (λ ys. block_in ys at) (same ∙ ap (λ y. with_content y cs) is) ∙ same-with (created_content n Multi p) cs unused.2 refl at ∙ ap (λ i. block_in i.contents at) seen
 
 -- the contents without a carrier
 pub IsKept-cleared : (s : Settings) (n number : ℕ) (cs : List Content) (c : Content) (r r2 : Region) → IsKept s n cs r → content_of cs number ≡ Some c → r2 ≡ record r { taken = cut_from c.base r.taken } → Laid r2.first r2.end r2.taken

@@ -2,5 +2,6 @@ pub mod Changed
 pub mod Contents
 pub mod Folding
 pub mod Keeping
+pub mod Room
 pub mod Segments
 pub mod Unused

@@ -1,9 +1,11 @@
 -- Spots and gaps among the contents of an instance.
-use Rattle.std.specs.Prelude.{◌≡◌, ◌≢◌, ℕ, ◌≤◌, List, Some, Any}
+use Rattle.std.specs.Prelude.{◌≡◌, ◌≢◌, ℕ, ◌≤◌, List, None, Some, Any}
 use Rattle.ea_model.specs.declared.carriers.Spot.{Spot}
+use Rattle.ea_model.specs.declared.carriers.Place.{Place}
+use Rattle.ea_model.specs.declared.carriers.BlockAt.{BlockAt}
 use Rattle.ea_model.specs.declared.carriers.Candidate.{Candidate}
 use Rattle.ea_model.specs.Content.{Content, gaps_of, gap_at}
-use Rattle.ea_model.specs.Instance.{content_of}
+use Rattle.ea_model.specs.Instance.{content_of, block_in}
 use Rattle.ea_instance.specs.Kept.{Rising}
 
 -- the candidate is a large enough gap of the content
@@ -21,3 +23,13 @@ IsRising cs = (low high : ℕ) × Rising low high cs
 -- the spot is another one
 abbrev pub IsOther : ℕ → ℕ → Spot → Type 0
 IsOther number offset spot = spot.carrier ≡ number → spot.offset ≢ offset
+
+-- the block of the name begins at a place where none began, and other blocks stay
+pub record IsPlaced (old new : List Content) (name : ℕ) (place : Place) : Type 0 where
+  pub fresh : block_in old (record { carrier = place.carrier; offset = place.offset }) ≡ None
+  pub begins : block_in new (record { carrier = place.carrier; offset = place.offset }) ≡ Some (record { name = name; offset = place.offset; size = place.size })
+  pub others : (at : Spot) → IsOther place.carrier place.offset at → block_in new at ≡ block_in old at
+
+-- the same blocks begin at the same spots
+abbrev pub HaveSameBlocks : List Content → List Content → Type 0
+HaveSameBlocks old new = (at : Spot) → block_in new at ≡ block_in old at

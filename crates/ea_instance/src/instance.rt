@@ -9,7 +9,7 @@ ghost use Rattle.ea_model.specs.Text.{carrier_line};
 ghost use Rattle.ea_model.specs.Instance.{main_content, new_instance, growth, multis, unused_from, plan, created_content, creating, chosen_spot, place_at, releasing_at, clearing, content_of, block_in, is_done};
 ghost use Rattle.ea_model.specs.Instance as instances;
 ghost use Rattle.ea_instance.specs.Answers.{placing_if, follow_up};
-ghost use Rattle.ea_instance.specs.Found.{IsOther};
+ghost use Rattle.ea_instance.specs.Found.{HaveSameBlocks, IsOther, IsPlaced};
 
 use crate::changes::{enter, leave, place_in, release_in};
 use crate::employed::Employed;
@@ -194,6 +194,7 @@ impl Instance {
         requires least { 6 ≤ need }
         ensures place { IfOk result (λ place. place ≡ option_map (λ spot. place_at self.old spot need) (chosen_spot self.old need)) }
         ensures ok { OnOk result (self.new ≡ placing_if self.old (chosen_spot self.old need) need name) }
+        ensures blocks { IfOk result (λ found. IfSome found (λ place. IsPlaced self.old.contents self.new.contents name place)) }
         ensures err { OnErr result (self.new ≡ self.old) }
     {
         let Some(found) = best_candidate(self.settings.strategy, need, &self.carriers) else {
@@ -224,7 +225,8 @@ impl Instance {
 
     /// The pages of the next carrier: as many as it would have by its turn, and no fewer than `least`.
     fn next_pages(&self, least: u32) -> u32
-        ensures { result ≡ max least (instances.pages_for (growth self.now.settings (multis self.now.contents))) }
+        ensures pages { result ≡ max least (instances.pages_for (growth self.now.settings (multis self.now.contents))) }
+        ensures small { result ≤ max least 131072 }
     {
         least.max(pages_for(growth(self.settings, multi_count(&self.carriers))))
     }
@@ -234,7 +236,8 @@ impl Instance {
     pub fn plan_carrier(&self, need: u32) -> Result<CarrierPlan, NoCarrier>
         requires need { need ≤ self.now.settings.sbct }
         requires created { self.now.created + 1 < 2 ^ 32 }
-        ensures { result ≡ plan self.now need }
+        ensures plan { result ≡ plan self.now need }
+        ensures pages { IfOk result (λ p. (1 ≤ p.pages) × (512 * p.pages < 2 ^ 32)) }
     {
         let Some(number) = self.unused_number() else {
             return Err(NoCarrier::Numbers);
@@ -266,7 +269,7 @@ impl Instance {
 
     /// The carrier of a plan, without blocks. It isn't employed yet.
     pub fn prepare(&self, alloc: Global, plan: CarrierPlan) -> Result<Mbc, OutOfMemory>
-        requires { (1 ≤ plan.pages) × (plan.pages ≤ 131072) }
+        requires { (1 ≤ plan.pages) × (512 * plan.pages < 2 ^ 32) }
         ensures { IfOk result (λ carrier. carrier ≡ created_content self.now.number Multi plan) }
     {
         Mbc::new(
@@ -285,6 +288,8 @@ impl Instance {
         requires plan { instances.plan self.old need ≡ Ok plan }
         requires carrier { carrier ≡ created_content self.old.number Multi plan }
         ensures ok { OnOk result (self.new ≡ creating self.old plan) }
+        ensures choice { OnOk result (IsSome (chosen_spot self.new need)) }
+        ensures blocks { OnOk result (HaveSameBlocks self.old.contents self.new.contents) }
         ensures err { OnErr result (self.new ≡ self.old) }
     {
         enter(&mut self.carriers, Employed::new(Kind::Multi, carrier))?;
@@ -298,6 +303,7 @@ impl Instance {
         requires { IsSome (block_in self.old.contents spot) }
         ensures ok { OnOk result (self.new ≡ releasing_at self.old spot) }
         ensures answer { IfOk result (λ a. a ≡ follow_up (content_of self.new.contents spot.carrier)) }
+        ensures others { (at : Spot) → IsOther spot.carrier spot.offset at → block_in self.new.contents at ≡ block_in self.old.contents at }
         ensures err { OnErr result (self.new ≡ self.old) }
     {
         release_in(&mut self.carriers, spot.carrier, spot.offset)?;
@@ -307,7 +313,8 @@ impl Instance {
     /// Deallocates a carrier without blocks other than the main one: its number and pages are free again.
     pub fn clear(&mut self, number: u32)
         requires { IfSome (content_of self.old.contents number) (λ c. is_done c ≡ true) × IsSome (content_of self.old.contents number) }
-        ensures { self.new ≡ clearing self.old number }
+        ensures cleared { self.new ≡ clearing self.old number }
+        ensures blocks { HaveSameBlocks self.old.contents self.new.contents }
     {
         let carrier = leave(&mut self.carriers, number);
         self.region.give_back(carrier.base(), carrier.units() / PAGE_UNITS);

@@ -1,9 +1,10 @@
-use Rattle.std.proofs.Common.{◌≡◌, ℕ, ◌+◌, ◌/◌, ◌∙◌, ap, sym, subst}
-use Rattle.std.specs.Prelude.{Some}
-use Rattle.ea_model.specs.Instance.{clearing, segments}
+use Rattle.std.proofs.Common.{◌≡◌, ℕ, true, ◌+◌, ◌/◌, ◌∙◌, ap, sym, subst}
+use Rattle.std.specs.Prelude.{Some, IfSome}
+use Rattle.ea_model.specs.Instance.{Instance, clearing, segments, content_of, block_in, is_done}
 use Rattle.ea_model.specs.Region.{Region, cut_from}
 use Rattle.ea_instance.specs.Kept.{IsKept}
 use Rattle.ea_space.specs.Pages.{IsTail}
+use Rattle.ea_instance.proofs.Contents.{same-without}
 use Rattle.ea_instance.proofs.Segments.{content_of-IsTail}
 use Rattle.ea_instance.proofs.Keeping.{IsKept-cleared, seen_as}
 use Rattle.ea_instance.proofs.instance.Instance.clear.Goals as goal
@@ -21,8 +22,16 @@ invariant_of-self c =
     subst (λ cs. IsKept c.self.inside.settings c.self.inside.number cs c.give_back.new.self) (sym c.leave-carrier.ensures.rest)
     (IsKept-cleared _ _ c.args.number _ c.leave-carrier.result _ _ c.self.invariant c.leave-carrier.ensures.carrier cut c.give_back.ensures.laid)
 
-pub returns : goal.returns
-returns c =
+pub returns-clause-cleared : goal.returns-clause-cleared
+returns-clause-cleared c =
     ap (λ (r : Region). seen_as c.self.inside.settings c.self.inside.number c.leave-carrier.new.carriers.items c.self.inside.created r) c.give_back.ensures.cut
     ∙ ap (λ cs. seen_as c.self.inside.settings c.self.inside.number cs c.self.inside.created c.self.inside.region) c.leave-carrier.ensures.rest
     ∙ ap (λ i. clearing i c.args.number) c.self.view_is
+
+pub returns-clause-blocks : goal.returns-clause-blocks
+returns-clause-blocks c = λ at.
+    let empty : is_done c.leave-carrier.result ≡ true =
+    subst (λ o. IfSome o (λ x. is_done x ≡ true)) (sym (ap (λ (i : Instance). content_of i.contents c.args.number) c.self.view_is) ∙ c.leave-carrier.ensures.carrier) c.requires.0 in
+    ap (λ cs. block_in cs at) c.leave-carrier.ensures.rest
+    ∙ same-without c.args.number c.leave-carrier.result c.self.inside.carriers.items c.leave-carrier.ensures.carrier empty at
+    ∙ ap (λ i. block_in i.contents at) c.self.view_is
