@@ -317,6 +317,7 @@ impl Instance {
         ensures blocks { HaveSameBlocks self.old.contents self.new.contents }
     {
         let carrier = leave(&mut self.carriers, number);
-        self.region.give_back(carrier.base(), carrier.units() / PAGE_UNITS);
+        self.region
+            .give_back(carrier.base(), carrier.units() / PAGE_UNITS);
     }
 }

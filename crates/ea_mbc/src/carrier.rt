@@ -5,7 +5,8 @@ ghost use Rattle.ea_model.specs.Content.{gaps_of, gap_at, block_at, named, taken
 ghost use Rattle.ea_model.specs.Choice.{before, fitting, choice, IsFirst};
 
 use crate::walks::{
-    allocated_units, best_gap, count_of, find_block, gap_from, insert_block, largest_gap, place_of, taken,
+    allocated_units, best_gap, count_of, find_block, gap_from, insert_block, largest_gap, place_of,
+    taken,
 };
 use ea_model::{Block, BlockAt, Carried, Inner, OutOfMemory};
 use std::alloc::Global;
