@@ -175,7 +175,8 @@ impl Instance {
 
     /// Blocks and carriers of its main and multiblock carriers, and their units.
     pub fn multi_figures(&self) -> Figures
-        ensures { result ≡ instances.figures self.now.contents }
+        ensures figures { result ≡ instances.figures self.now.contents }
+        ensures few { result.carriers ≤ 256 }
     {
         figures(&self.carriers)
     }

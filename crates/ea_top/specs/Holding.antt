@@ -1,13 +1,14 @@
 -- The blocks of held names.
 use Rattle.std.specs.Prelude.{ℕ, ◌≡◌, List, Option, None, Some, get_or}
 use Rattle.std.specs.Option.{option_map}
-use Rattle.ea_model.specs.Content.{Content, block_at}
+use Rattle.ea_model.specs.declared.carriers.Spot.{Spot}
+use Rattle.ea_model.specs.Content.{Content}
+use Rattle.ea_model.specs.Instance.{block_in}
 
--- the name of the block at the offset, if the carrier is there and has one
-abbrev pub name_at : Option Content → ℕ → Option ℕ
-name_at None offset = None
-name_at (Some c) offset = option_map (λ b. b.name) (block_at c.blocks offset)
+-- the name of the block at the spot, if one begins there
+abbrev pub name_in : List Content → Spot → Option ℕ
+name_in contents spot = option_map (λ b. b.name) (block_in contents spot)
 
--- where a name has an offset, its block begins there
-abbrev pub HoldsBlocks : Option Content → List (Option ℕ) → Type 0
-HoldsBlocks carrier offsets = (name offset : ℕ) → get_or offsets name None ≡ Some offset → name_at carrier offset ≡ Some name
+-- where a name has a spot, its block begins there
+abbrev pub HoldsBlocks : List Content → List (Option Spot) → Type 0
+HoldsBlocks contents spots = (name : ℕ) (spot : Spot) → get_or spots name None ≡ Some spot → name_in contents spot ≡ Some name

@@ -1,17 +1,18 @@
 -- What a scheduler shows of a run.
-use Rattle.std.specs.Prelude.{ℕ, ◌≡◌, ◌<◌, Option, None, get_or}
-use Rattle.ea_model.specs.Run.{Run, offset_of}
+use Rattle.std.specs.Prelude.{ℕ, ◌≡◌, ◌×◌, ◌<◌, None, Some, Result, Ok, Err, get_or}
+use Rattle.ea_model.specs.declared.carriers.Spot.{Spot}
+use Rattle.ea_model.specs.declared.carriers.Place.{Place}
+use Rattle.ea_model.specs.declared.entries.NoCarrier.{NoCarrier}
+use Rattle.ea_model.specs.Instance.{Instance, place_at, placing_at}
+use Rattle.ea_model.specs.Run.{Run, spot_held}
 use Rattle.ea_top.specs.declared.scheduler.Scheduler.{Scheduler}
-use Rattle.ea_top.specs.declared.simulation.Stop.{Stop}
-use Rattle.ea_top.specs.declared.simulation.Stop.TheVariants.{NoFit, OutOfMemory}
 
 -- the scheduler is where the run is
 pub record Shows (r : Run) (s : Scheduler) : Type 0 where
-  pub carrier : s.carrier ≡ r.carrier
-  pub held : (name : ℕ) → name < 262145 → get_or s.offsets.items name None ≡ offset_of name r.held
+  pub instance : s.instance ≡ r.instance
+  pub held : (name : ℕ) → name < 262145 → get_or s.spots.items name None ≡ spot_held name r.held
   pub log : s.log.items ≡ r.log
 
--- a run stops where its operation has no place; want of memory says nothing of it
-abbrev pub Stops : Stop → Option Run → Type 0
-Stops NoFit r = r ≡ None
-Stops OutOfMemory r = Unit {0}
+-- the spot of a place
+abbrev pub spot_at : Place → Spot
+spot_at p = record { carrier = p.carrier; offset = p.offset }

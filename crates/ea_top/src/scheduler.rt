@@ -1,18 +1,19 @@
-//! The scheduler of a run: its carrier, the names that it holds, and its log.
-ghost use Rattle.std.specs.Prelude.{◌≡◌, length};
+//! The scheduler of a run: its instance, the names that it holds, and its log.
+ghost use Rattle.std.specs.Prelude.{◌≡◌, ◌+◌, ◌≤◌, length};
 ghost use Rattle.ea_top.specs.Holding.{HoldsBlocks};
 
-use ea_mbc::Mbc;
-use ea_model::{Entry, List};
+use ea_instance::Instance;
+use ea_model::{Entry, List, Spot};
 
 /// What a scheduler has.
 #[derive(Drop)]
 pub struct Scheduler {
-    /// Its carrier, if it is there.
-    pub carrier: Option<Mbc>,
-    /// The offset of each held name's block, by name.
-    pub offsets: Vec<Option<u32>>,
+    pub instance: Instance,
+    /// Where each held name's block begins, by name.
+    pub spots: Vec<Option<Spot>>,
     pub log: List<Entry>,
-    ghost names: { length offsets.items ≡ 262145 },
-    ghost blocks: { HoldsBlocks carrier offsets.items },
+    ghost names: { length spots.items ≡ 262145 },
+    ghost blocks: { HoldsBlocks instance.contents spots.items },
+    ghost threshold: { 65536 ≤ instance.settings.sbct },
+    ghost created: { instance.created ≤ length log.items + 1 },
 }

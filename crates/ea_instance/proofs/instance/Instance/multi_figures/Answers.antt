@@ -4,3 +4,6 @@ use Rattle.ea_instance.proofs.instance.Instance.multi_figures.Goals as goal
 
 pub figures-requires : goal.figures-requires
 figures-requires c = omega (arith, Rising-length _ _ _ c.self.invariant.rising, c.deref.ensures.len)
+
+pub returns-clause-few : goal.returns-clause-few
+returns-clause-few c = omega (arith, Rising-length _ _ _ c.self.invariant.rising, c.deref.ensures.len, c.deref.ensures.value, ap (λ (f : Figures). f.carriers) c.figures.ensures)

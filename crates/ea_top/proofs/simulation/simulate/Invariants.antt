@@ -1,8 +1,0 @@
-use Rattle.std.proofs.Common.{◌≡◌, drop, Some}
-use Rattle.ea_model.specs.Run.{Run, steps, run}
-use Rattle.ea_top.specs.Running.{Shows}
-use Rattle.ea_top.proofs.simulation.simulate.Given as goal
-
--- the operations that are left lead from here to where the whole trace leads
-abbrev pub invariant-loop-op : goal.invariant-loop-op
-invariant-loop-op l = (r : Run) × Shows r l.scheduler × (steps (Some r) (drop l.op-index l.ops) ≡ run l.ops)
