@@ -1,5 +1,5 @@
 -- What a scheduler shows of a run.
-use Rattle.std.specs.Prelude.{ℕ, ◌≡◌, ◌×◌, ◌<◌, None, Some, Result, Ok, Err, get_or}
+use Rattle.std.specs.Prelude.{ℕ, ◌≡◌, ◌<◌, None, Some, Result, Ok, Err, get_or}
 use Rattle.ea_model.specs.declared.carriers.Spot.{Spot}
 use Rattle.ea_model.specs.declared.carriers.Place.{Place}
 use Rattle.ea_model.specs.declared.entries.NoCarrier.{NoCarrier}

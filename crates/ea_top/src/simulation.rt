@@ -4,7 +4,8 @@ ghost use Rattle.ea_model.specs.declared.operations.Op.TheVariants.{Alloc, Free}
 ghost use Rattle.ea_model.specs.declared.entries.Entry.TheVariants as entry;
 ghost use Rattle.ea_model.specs.declared.carriers.Spot.{Spot};
 ghost use Rattle.ea_model.specs.Trace.{InRange};
-ghost use Rattle.ea_model.specs.Instance.{chosen_spot, plan, creating, placing_at, place_at, block_in};
+ghost use Rattle.ea_model.specs.Instance.{chosen_spot, creating, placing_at, place_at, block_in};
+ghost use Rattle.ea_model.specs.Instance as instances;
 ghost use Rattle.ea_model.specs.Run.{Run, start, step, run, freed_at};
 ghost use Rattle.ea_model.specs.Text.{instance_of};
 ghost use Rattle.ea_instance.specs.Found.{IsOther, IsPlaced};
@@ -27,7 +28,7 @@ fn place_in_new(
 ) -> Result<Place, OutOfMemory>
     requires even { need % 2 ≡ 0 }
     requires least { 6 ≤ need }
-    requires plan { plan instance.old need ≡ Ok plan }
+    requires plan { instances.plan instance.old need ≡ Ok plan }
     requires pages { (1 ≤ plan.pages) × (512 * plan.pages < 2 ^ 32) }
     ensures ok { IfOk result (λ place. (spot : Spot) × (chosen_spot (creating instance.old plan) need ≡ Some spot)
         × (place ≡ place_at (creating instance.old plan) spot need) × (instance.new ≡ placing_at (creating instance.old plan) spot need name)) }

@@ -1,4 +1,5 @@
-use Rattle.std.proofs.Common.{arith}
+use Rattle.std.proofs.Common.{arith, ap}
+use Rattle.ea_model.specs.declared.carriers.Figures.{Figures}
 use Rattle.ea_instance.proofs.Contents.{Rising-length}
 use Rattle.ea_instance.proofs.instance.Instance.multi_figures.Goals as goal
 
