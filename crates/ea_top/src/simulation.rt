@@ -4,14 +4,14 @@ ghost use Rattle.ea_model.specs.declared.operations.Op.TheVariants.{Alloc, Free}
 ghost use Rattle.ea_model.specs.declared.entries.Entry.TheVariants as entry;
 ghost use Rattle.ea_model.specs.declared.carriers.Spot.{Spot};
 ghost use Rattle.ea_model.specs.Trace.{InRange};
-ghost use Rattle.ea_model.specs.Instance.{chosen_spot, creating, placing_at, place_at, block_in};
+ghost use Rattle.ea_model.specs.Instance.{creating, block_in};
 ghost use Rattle.ea_model.specs.Instance as instances;
 ghost use Rattle.ea_model.specs.Run.{Run, start, step, run, freed_at};
 ghost use Rattle.ea_model.specs.Text.{instance_of};
 ghost use Rattle.ea_instance.specs.Found.{IsOther, IsPlaced};
 ghost use Rattle.ea_top.specs.Flags.{IsBuilt};
 ghost use Rattle.ea_top.specs.Holding.{HoldsBlocks};
-ghost use Rattle.ea_top.specs.Running.{Shows, spot_at};
+ghost use Rattle.ea_top.specs.Running.{Shows, IsChosenPlace, spot_at};
 
 use crate::scheduler::Scheduler;
 use ea_instance::{Instance, Released};
@@ -30,8 +30,7 @@ fn place_in_new(
     requires least { 6 ≤ need }
     requires plan { instances.plan instance.old need ≡ Ok plan }
     requires pages { (1 ≤ plan.pages) × (512 * plan.pages < 2 ^ 32) }
-    ensures ok { IfOk result (λ place. (spot : Spot) × (chosen_spot (creating instance.old plan) need ≡ Some spot)
-        × (place ≡ place_at (creating instance.old plan) spot need) × (instance.new ≡ placing_at (creating instance.old plan) spot need name)) }
+    ensures ok { IfOk result (IsChosenPlace (creating instance.old plan) instance.new need name) }
     ensures blocks { IfOk result (IsPlaced instance.old.contents instance.new.contents name) }
 {
     let carrier = instance.prepare(alloc, plan)?;
