@@ -15,7 +15,9 @@ ghost use Rattle.ea_top.specs.Running.{Shows, IsChosenPlace, spot_at};
 
 use crate::scheduler::Scheduler;
 use ea_instance::{Instance, Released};
-use ea_model::{CarrierPlan, Config, Entry, Letter, List, MAX_NAME, Op, OutOfMemory, Place, Spot, need};
+use ea_model::{
+    CarrierPlan, Config, Entry, Letter, List, MAX_NAME, Op, OutOfMemory, Place, Spot, need,
+};
 use std::alloc::Global;
 
 /// Creates the carrier of the plan, and places a block in it.

@@ -1,5 +1,4 @@
-use Rattle.std.proofs.Common.{◌≡◌, sym, ◌∙◌, subst, refl}
-use Rattle.ea_model.specs.Instance.{Instance}
+use Rattle.std.proofs.Common.{sym, ◌∙◌, subst, refl}
 use Rattle.ea_instance.specs.Found.{IsPlaced}
 use Rattle.ea_top.specs.Running.{IsChosenPlace}
 use Rattle.ea_top.proofs.Steps.{placed-chosen, placed-from, some_holds}

@@ -1,5 +1,4 @@
-use Rattle.std.proofs.Common.{sym, ◌∙◌, get_or, arith}
-use Rattle.ea_model.specs.Run.{step}
+use Rattle.std.proofs.Common.{sym, ◌∙◌, arith}
 use Rattle.ea_top.proofs.Steps.{run_more}
 use Rattle.ea_top.proofs.simulation.simulate.Goals as goal
 

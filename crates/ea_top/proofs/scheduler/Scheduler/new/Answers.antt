@@ -1,4 +1,4 @@
-use Rattle.std.proofs.Common.{◌≡◌, ℕ, rules, get_or, replicate, refl, sym, ap, ◌∙◌, length, arith}
+use Rattle.std.proofs.Common.{◌≡◌, rules, get_or, replicate, sym, ap, ◌∙◌, length, arith}
 use Rattle.std.specs.Prelude.{Option, Some, None}
 use Rattle.std.proofs.lemmas.List.{length-replicate}
 use Rattle.ea_model.specs.declared.carriers.Spot.{Spot}
