@@ -2,9 +2,7 @@
 ghost use Rattle.std.specs.Prelude.{◌≤◌};
 
 use crate::run;
-use ea_io::{
-    LengthSink, MemSink, MemSource, PlainSource, Source, put_number, put_text,
-};
+use ea_io::{LengthSink, MemSink, MemSource, PlainSource, Source, put_number, put_text};
 use ea_model::{List, OutOfMemory};
 use std::alloc::{AllocError, Global};
 use std::process::Abort;
@@ -282,7 +280,9 @@ fn the_later_of_two_settings_holds_in_any_order(rt: HostRuntime) -> Result<(), F
             THREE_IN_1_MEGABYTE,
         ),
         (
-            &["+MHmmbcs", "1025", "+MMscs", "1", "+MHacul", "0", "+MHmmbcs", "0"],
+            &[
+                "+MHmmbcs", "1025", "+MMscs", "1", "+MHacul", "0", "+MHmmbcs", "0",
+            ],
             THREE_IN_1_MEGABYTE,
         ),
         (&["+MMscs", "2", "+MHacul", "0"], THREE_IN_2_MEGABYTES),
@@ -292,10 +292,7 @@ fn the_later_of_two_settings_holds_in_any_order(rt: HostRuntime) -> Result<(), F
         ),
         // Without a word on it the super carrier has 64 megabytes.
         (&["+MHacul", "0"], THREE_IN_2_MEGABYTES),
-        (
-            &["+MHacul", "0", "+MHmmbcs", "0"],
-            THREE_IN_2_MEGABYTES,
-        ),
+        (&["+MHacul", "0", "+MHmmbcs", "0"], THREE_IN_2_MEGABYTES),
         (&["+MMscs", "512", "+MHacul", "0"], THREE_IN_2_MEGABYTES),
         (
             &["+MMscs", "0000000512", "+MHacul", "0"],
@@ -333,7 +330,9 @@ fn other_words_are_refused_and_nothing_is_read(rt: HostRuntime) -> Result<(), Fa
         (&["+MMscs", "1", "+MHacul", "0", "0"], WORD_5),
         (&["+MHacul", "0", "+MHas", "bf"], WORD_3),
         (
-            &["+MMscs", "1", "+MMscs", "1", "+MMscs", "1", "+MHacul", "0", "x"],
+            &[
+                "+MMscs", "1", "+MMscs", "1", "+MMscs", "1", "+MHacul", "0", "x",
+            ],
             WORD_9,
         ),
         // A value is missing.
