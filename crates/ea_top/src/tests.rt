@@ -2,8 +2,8 @@
 ghost use Rattle.std.specs.Prelude.{◌≤◌};
 
 use crate::run;
-use ea_io::{LengthSink, MemSink, MemSource, PlainSource, Source};
-use ea_model::List;
+use ea_io::{LengthSink, MemSink, MemSource, PlainSource, Source, put_number, put_text};
+use ea_model::{List, OutOfMemory};
 use std::alloc::{AllocError, Global};
 use std::process::Abort;
 use std::test::Fail;
@@ -15,6 +15,20 @@ const FIRST_BLOCK: &str = "type H\nscheduler 1\nalloc 1 100\nschedule\nend\n";
 
 const FIRST_TEXT: &str =
     "scheduler 1\nalloc 1 1 8 14\ncarrier 1 multi owner 1 employed 1 base 0 pages 64 allocated 14 largest 32746\ntotal carriers 1 units 32768 live 14 queued 0 free 32746 header 8\n";
+
+const WORD_1: &str = "erts_alloc_run: word 1: unsupported\n";
+
+const WORD_2: &str = "erts_alloc_run: word 2: unsupported\n";
+
+const WORD_3: &str = "erts_alloc_run: word 3: unsupported\n";
+
+const WORD_4: &str = "erts_alloc_run: word 4: unsupported\n";
+
+const WORD_5: &str = "erts_alloc_run: word 5: unsupported\n";
+
+const WORD_9: &str = "erts_alloc_run: word 9: unsupported\n";
+
+const TOO_SMALL: &str = "erts_alloc_run: super carrier too small\n";
 
 const NOT_BUILT: &str = "erts_alloc_run: not built yet\n";
 
@@ -165,19 +179,191 @@ fn a_trace_gives_its_text_in_pieces_of_any_size(rt: HostRuntime) -> Result<(), F
 }
 
 #[test]
-fn other_words_are_refused_and_nothing_is_read(rt: HostRuntime) -> Result<(), Fail> {
-    let cases: [&[&'static str]; 9] = [
-        &[],
-        &["+MMscs", "1", "+MHacul"],
-        &["+MMscs", "1", "+MHacul", "0", "0"],
-        &["+MHacul", "0", "+MMscs", "1"],
-        &["+MMscs", "2", "+MHacul", "0"],
-        &["+MMscs", "01", "+MHacul", "0"],
-        &["+MMscs", "1", "+MLacul", "0"],
-        &["+MMscs", "1", "+MHacul", "1"],
-        &["", "", "", ""],
+fn an_instance_grows_in_its_region(rt: HostRuntime) -> Result<(), Fail> {
+    let cases: [(&[&'static str], &str, &str); 10] = [
+        // A block of the threshold: the carrier has the pages that hold it.
+        (
+            GOOD,
+            "type H\nscheduler 1\nalloc 1 524280\nschedule\nend\n",
+            "scheduler 1\nalloc 1 1 8 65536\ncarrier 1 multi owner 1 employed 1 base 0 pages 129 allocated 65536 largest 504\ntotal carriers 1 units 66048 live 65536 queued 0 free 504 header 8\n",
+        ),
+        // One page more than the first carrier has.
+        (
+            GOOD,
+            "type H\nscheduler 1\nalloc 1 262073\nschedule\nend\n",
+            "scheduler 1\nalloc 1 1 8 32762\ncarrier 1 multi owner 1 employed 1 base 0 pages 65 allocated 32762 largest 510\ntotal carriers 1 units 33280 live 32762 queued 0 free 510 header 8\n",
+        ),
+        // A block that no gap has room for is placed in a second carrier.
+        (
+            GOOD,
+            "type H\nscheduler 1\nalloc 1 262072\nalloc 2 1\nschedule\nend\n",
+            "scheduler 1\nalloc 1 1 8 32760\nalloc 2 2 8 6\ncarrier 1 multi owner 1 employed 1 base 0 pages 64 allocated 32760 largest 0\ncarrier 2 multi owner 1 employed 1 base 64 pages 186 allocated 6 largest 95218\ntotal carriers 2 units 128000 live 32766 queued 0 free 95218 header 16\n",
+        ),
+        (
+            &["+MHacul", "0"],
+            "type H\nscheduler 1\nalloc 1 200000\nalloc 2 200000\nschedule\nend\n",
+            "scheduler 1\nalloc 1 1 8 25002\nalloc 2 2 8 25002\ncarrier 1 multi owner 1 employed 1 base 0 pages 64 allocated 25002 largest 7758\ncarrier 2 multi owner 1 employed 1 base 64 pages 186 allocated 25002 largest 70222\ntotal carriers 2 units 128000 live 50004 queued 0 free 77980 header 16\n",
+        ),
+        // No run of the region is long enough, and the later blocks are placed.
+        (
+            GOOD,
+            "type H\nscheduler 1\nalloc 1 524280\nalloc 2 524280\nalloc 3 100\nschedule\nend\n",
+            "scheduler 1\nalloc 1 1 8 65536\nalloc 2 fail need 65536 looked 0 space\nalloc 3 1 65544 14\ncarrier 1 multi owner 1 employed 1 base 0 pages 129 allocated 65550 largest 490\ntotal carriers 1 units 66048 live 65550 queued 0 free 490 header 8\n",
+        ),
+        // The least carriers, where there is no room for larger ones, and a freed segment that is taken again.
+        (
+            GOOD,
+            "type H\nscheduler 1\nalloc 1 262072\nalloc 2 524280\nalloc 3 237496\nalloc 4 24504\nalloc 5 0\nfree 5\nfree 1\nalloc 6 0\nschedule\nend\n",
+            "scheduler 1\nalloc 1 1 8 32760\nalloc 2 2 8 65536\nalloc 3 2 65544 29688\nalloc 4 3 8 3064\nalloc 5 fail need 6 looked 0 space\nfree 5 skipped\nfree 1 done\nalloc 6 1 8 6\ncarrier 1 multi owner 1 employed 1 base 0 pages 1 allocated 6 largest 498\ncarrier 2 multi owner 1 employed 1 base 64 pages 186 allocated 95224 largest 0\ncarrier 3 multi owner 1 employed 1 base 250 pages 6 allocated 3064 largest 0\ntotal carriers 3 units 98816 live 98294 queued 0 free 498 header 24\n",
+        ),
+        // A number comes back at a higher address, and the carrier at the lowest address is chosen.
+        (
+            &["+MHacul", "0"],
+            "type H\nscheduler 1\nalloc 1 262072\nalloc 2 8\nfree 1\nalloc 3 524280\nalloc 4 262072\nalloc 5 0\nschedule\nend\n",
+            "scheduler 1\nalloc 1 1 8 32760\nalloc 2 2 8 6\nfree 1 done\nalloc 3 2 14 65536\nalloc 4 1 8 32760\nalloc 5 2 65550 6\ncarrier 1 multi owner 1 employed 1 base 250 pages 186 allocated 32760 largest 62464\ncarrier 2 multi owner 1 employed 1 base 64 pages 186 allocated 65548 largest 29676\ntotal carriers 2 units 190464 live 98308 queued 0 free 92140 header 16\n",
+        ),
+        // The main carrier stays.
+        (
+            &["+MMscs", "1", "+MHacul", "0", "+MHmmbcs", "100"],
+            "type H\nscheduler 1\nalloc 1 100\nfree 1\nschedule\nend\n",
+            "scheduler 1\nalloc 1 1 8 14\nfree 1 done\ncarrier 1 main owner 1 employed 1 base 0 pages 25 allocated 0 largest 12792\ntotal carriers 1 units 12800 live 0 queued 0 free 12792 header 8\n",
+        ),
+        // It has whole pages, and doesn't count where the next carrier's size is chosen.
+        (
+            &["+MHmmbcs", "1", "+MHacul", "0", "+MMscs", "1"],
+            "type H\nscheduler 1\nalloc 1 100\nalloc 2 8000\nalloc 3 0\nschedule\nend\n",
+            "scheduler 1\nalloc 1 1 8 14\nalloc 2 2 8 1002\nalloc 3 1 22 6\ncarrier 1 main owner 1 employed 1 base 0 pages 1 allocated 20 largest 484\ncarrier 2 multi owner 1 employed 1 base 1 pages 64 allocated 1002 largest 31758\ntotal carriers 2 units 33280 live 1022 queued 0 free 32242 header 16\n",
+        ),
+        // It is there without an operation.
+        (
+            &["+MHmmbcs", "1024", "+MHacul", "0", "+MMscs", "1"],
+            "type H\nscheduler 1\nschedule\nend\n",
+            "scheduler 1\ncarrier 1 main owner 1 employed 1 base 0 pages 256 allocated 0 largest 131064\ntotal carriers 1 units 131072 live 0 queued 0 free 131064 header 8\n",
+        ),
     ];
-    for words in cases {
+    for (words, input, out) in cases {
+        check(
+            &rt,
+            rt.alloc(),
+            &Case {
+                words,
+                input,
+                out,
+                ..FIRST
+            },
+        )?;
+    }
+    Ok(())
+}
+
+const THREE_BLOCKS: &str =
+    "type H\nscheduler 1\nalloc 1 524280\nalloc 2 524280\nalloc 3 100\nschedule\nend\n";
+
+const THREE_IN_1_MEGABYTE: &str =
+    "scheduler 1\nalloc 1 1 8 65536\nalloc 2 fail need 65536 looked 0 space\nalloc 3 1 65544 14\ncarrier 1 multi owner 1 employed 1 base 0 pages 129 allocated 65550 largest 490\ntotal carriers 1 units 66048 live 65550 queued 0 free 490 header 8\n";
+
+const THREE_IN_2_MEGABYTES: &str =
+    "scheduler 1\nalloc 1 1 8 65536\nalloc 2 2 8 65536\nalloc 3 1 65544 14\ncarrier 1 multi owner 1 employed 1 base 0 pages 129 allocated 65550 largest 490\ncarrier 2 multi owner 1 employed 1 base 129 pages 186 allocated 65536 largest 29688\ntotal carriers 2 units 161280 live 131086 queued 0 free 30178 header 16\n";
+
+#[test]
+fn the_later_of_two_settings_holds_in_any_order(rt: HostRuntime) -> Result<(), Fail> {
+    let cases: [(&[&'static str], &str); 12] = [
+        (GOOD, THREE_IN_1_MEGABYTE),
+        (&["+MHacul", "0", "+MMscs", "1"], THREE_IN_1_MEGABYTE),
+        (&["+MMscs", "01", "+MHacul", "0"], THREE_IN_1_MEGABYTE),
+        (
+            &["+MMscs", "512", "+MHacul", "0", "+MMscs", "1"],
+            THREE_IN_1_MEGABYTE,
+        ),
+        (
+            &["+MHacul", "0", "+MMscs", "1", "+MHacul", "0"],
+            THREE_IN_1_MEGABYTE,
+        ),
+        (
+            &[
+                "+MHmmbcs", "1025", "+MMscs", "1", "+MHacul", "0", "+MHmmbcs", "0",
+            ],
+            THREE_IN_1_MEGABYTE,
+        ),
+        (&["+MMscs", "2", "+MHacul", "0"], THREE_IN_2_MEGABYTES),
+        (
+            &["+MMscs", "1", "+MMscs", "2", "+MHacul", "0"],
+            THREE_IN_2_MEGABYTES,
+        ),
+        // Without a word on it the super carrier has 64 megabytes.
+        (&["+MHacul", "0"], THREE_IN_2_MEGABYTES),
+        (&["+MHacul", "0", "+MHmmbcs", "0"], THREE_IN_2_MEGABYTES),
+        (&["+MMscs", "512", "+MHacul", "0"], THREE_IN_2_MEGABYTES),
+        (
+            &["+MMscs", "0000000512", "+MHacul", "0"],
+            THREE_IN_2_MEGABYTES,
+        ),
+    ];
+    for (words, out) in cases {
+        check(
+            &rt,
+            rt.alloc(),
+            &Case {
+                words,
+                input: THREE_BLOCKS,
+                out,
+                ..FIRST
+            },
+        )?;
+    }
+    Ok(())
+}
+
+#[test]
+fn other_words_are_refused_and_nothing_is_read(rt: HostRuntime) -> Result<(), Fail> {
+    let cases: [(&[&'static str], &str); 27] = [
+        // Migration has to be off.
+        (&[], WORD_1),
+        (&["+MMscs", "1"], WORD_3),
+        (&["+MHmmbcs", "0", "+MMscs", "1"], WORD_5),
+        // No flag.
+        (&["", "", "", ""], WORD_1),
+        (&["1"], WORD_1),
+        (&["+MMSCS", "1", "+MHacul", "0"], WORD_1),
+        (&["+MMscs1", "+MHacul", "0"], WORD_1),
+        (&["+MMscs", "1", "+MLacul", "0"], WORD_3),
+        (&["+MMscs", "1", "+MHacul", "0", "0"], WORD_5),
+        (&["+MHacul", "0", "+MHas", "bf"], WORD_3),
+        (
+            &[
+                "+MMscs", "1", "+MMscs", "1", "+MMscs", "1", "+MHacul", "0", "x",
+            ],
+            WORD_9,
+        ),
+        // A value is missing.
+        (&["+MMscs"], WORD_2),
+        (&["+MMscs", "1", "+MHacul"], WORD_4),
+        (&["+MHacul", "0", "+MHmmbcs"], WORD_4),
+        // No value of the flag.
+        (&["+MMscs", "0", "+MHacul", "0"], WORD_2),
+        (&["+MMscs", "513", "+MHacul", "0"], WORD_2),
+        (&["+MMscs", "00000000001", "+MHacul", "0"], WORD_2),
+        (&["+MMscs", "", "+MHacul", "0"], WORD_2),
+        (&["+MHmmbcs", "524289", "+MHacul", "0"], WORD_2),
+        (&["+MHmmbcs", "-1", "+MHacul", "0"], WORD_2),
+        (&["+MMscs", "1", "+MHacul", "1"], WORD_4),
+        (&["+MMscs", "1", "+MHacul", "00"], WORD_4),
+        // The first wrong word is named, also where the main carrier is too large.
+        (&["+MMscs", "x", "+MHas", "bf"], WORD_2),
+        (&["+MMscs", "1", "+MHmmbcs", "1025", "x"], WORD_5),
+        // The main carrier has a page more than the region.
+        (
+            &["+MMscs", "1", "+MHacul", "0", "+MHmmbcs", "1025"],
+            TOO_SMALL,
+        ),
+        (
+            &["+MHmmbcs", "523265", "+MMscs", "511", "+MHacul", "0"],
+            TOO_SMALL,
+        ),
+        // Without a word on it the super carrier has 64 megabytes.
+        (&["+MHacul", "0", "+MHmmbcs", "65537"], TOO_SMALL),
+    ];
+    for (words, err) in cases {
         let mut source = check(
             &rt,
             rt.alloc(),
@@ -187,7 +373,7 @@ fn other_words_are_refused_and_nothing_is_read(rt: HostRuntime) -> Result<(), Fa
                 failing_writes: &[1],
                 status: 1,
                 out: "",
-                err: NOT_BUILT,
+                err,
                 ..FIRST
             },
         )?;
@@ -246,10 +432,9 @@ fn an_input_outside_the_language_has_no_text(rt: HostRuntime) -> Result<(), Fail
         "type H\nscheduler 1\nalloc 1 100\nfree 1\nalloc 1 100\nschedule\nend\n",
         "type H\nscheduler 1\nfree 1\nschedule\nend\n",
         "type H\nscheduler 1\nfree 1\nalloc 1 100\nschedule\nend\n",
-        // No gap has room.
-        "type H\nscheduler 1\nalloc 1 262073\nschedule\nend\n",
+        // A block above the threshold.
+        "type H\nscheduler 1\nalloc 1 524281\nschedule\nend\n",
         "type H\nscheduler 1\nalloc 1 1073741823\nschedule\nend\n",
-        "type H\nscheduler 1\nalloc 1 262072\nalloc 2 1\nschedule\nend\n",
     ];
     for input in cases {
         check(
@@ -310,7 +495,14 @@ fn a_failing_call_ends_the_run(rt: HostRuntime) -> Result<(), Fail> {
             words: &[],
             status: 1,
             out: "",
-            err: NOT_BUILT,
+            err: WORD_1,
+            ..FIRST
+        },
+        Case {
+            words: &["+MHacul", "0", "+MHmmbcs", "65537"],
+            status: 1,
+            out: "",
+            err: TOO_SMALL,
             ..FIRST
         },
         Case {
@@ -400,5 +592,72 @@ fn a_trace_has_262144_operations_at_most(rt: HostRuntime) -> Result<(), Fail> {
         assert_eq!(rt; length, text, "after {frees} frees");
         assert_eq!(rt; err.taken(), line.as_bytes(), "after {frees} frees");
     }
+    Ok(())
+}
+
+// Adds a text, and then each number behind a space, and a line feed.
+fn put_line(text: &mut List<u8>, first: &str, numbers: &[u64]) -> Result<(), OutOfMemory> {
+    put_text(text, first)?;
+    for number in numbers {
+        put_text(text, " ")?;
+        put_number(text, *number)?;
+    }
+    put_text(text, "\n")
+}
+
+// 507 blocks of 504 units: 65 fill carrier 1, 188 carrier 2, and each other one a carrier of one page. There is no
+// number for the next.
+fn numbers_input(alloc: Global) -> Result<List<u8>, OutOfMemory> {
+    let mut input = List::new(alloc);
+    put_text(&mut input, "type H\nscheduler 1\n")?;
+    for name in 1..509 {
+        put_line(&mut input, "alloc", &[name, 4024])?;
+    }
+    put_text(&mut input, "free 300\nalloc 509 4024\nschedule\nend\n")?;
+    Ok(input)
+}
+
+fn numbers_text(alloc: Global) -> Result<List<u8>, OutOfMemory> {
+    let mut text = List::new(alloc);
+    put_text(&mut text, "scheduler 1\n")?;
+    for (name, offset) in (1..66).zip((8..32_768).step_by(504)) {
+        put_line(&mut text, "alloc", &[name, 1, offset, 504])?;
+    }
+    for (name, offset) in (66..254).zip((8..94_760).step_by(504)) {
+        put_line(&mut text, "alloc", &[name, 2, offset, 504])?;
+    }
+    for (name, carrier) in (254..508).zip(3..257) {
+        put_line(&mut text, "alloc", &[name, carrier, 8, 504])?;
+    }
+    put_text(
+        &mut text,
+        "alloc 508 fail need 504 looked 0 numbers\nfree 300 done\nalloc 509 49 8 504\ncarrier 1 multi owner 1 employed 1 base 0 pages 64 allocated 32760 largest 0\ncarrier 2 multi owner 1 employed 1 base 64 pages 186 allocated 94752 largest 472\n",
+    )?;
+    for (carrier, base) in (3..257).zip(250..504) {
+        put_text(&mut text, "carrier ")?;
+        put_number(&mut text, carrier)?;
+        put_text(&mut text, " multi owner 1 employed 1 base ")?;
+        put_number(&mut text, base)?;
+        put_text(&mut text, " pages 1 allocated 504 largest 0\n")?;
+    }
+    put_text(
+        &mut text,
+        "total carriers 256 units 258048 live 255528 queued 0 free 472 header 2048\n",
+    )?;
+    Ok(text)
+}
+
+#[test]
+fn an_instance_has_256_carriers_at_most(rt: HostRuntime) -> Result<(), Fail> {
+    let alloc = rt.alloc();
+    let words = words(alloc, &["+MMscs", "2", "+MHacul", "0"])?;
+    assert!(rt; words.len() < 10);
+    let mut source = PlainSource::new(numbers_input(alloc)?);
+    let mut out = MemSink::new(alloc, 40_000, 4096, List::new(alloc))?;
+    let mut err = sink(alloc, 16, &[])?;
+    let status = run(&rt, alloc, &words, &mut source, &mut out, &mut err);
+    assert_eq!(rt; status, 0);
+    assert_eq!(rt; out.taken(), numbers_text(alloc)?.as_slice());
+    assert_eq!(rt; err.taken(), b"".as_slice());
     Ok(())
 }
