@@ -48,13 +48,13 @@ module _ (key : Candidate → ℕ) (t : Candidate → Candidate → Bool) (o : I
   by_key_chain a b c h k =
       elim (less-false (key a) (key b) (t a b) h) [
         | inl lt ↦ elim (less-false (key b) (key c) (t b c) k) [
-            | inl lt2 ↦ less-above (key a) (key c) (t a c) (omega arith)
-            | inr eq2 ↦ less-above (key a) (key c) (t a c) (omega (arith, eq2.0))
-          ]
+          | inl lt2 ↦ less-above (key a) (key c) (t a c) (omega arith)
+          | inr eq2 ↦ less-above (key a) (key c) (t a c) (omega (arith, eq2.0))
+        ]
         | inr eq ↦ elim (less-false (key b) (key c) (t b c) k) [
-            | inl lt2 ↦ less-above (key a) (key c) (t a c) (omega (arith, eq.0))
-            | inr eq2 ↦ less-same (key a) (key c) (t a c) (eq.0 ∙ eq2.0) (o.chain a b c eq.1 eq2.1)
-          ]
+          | inl lt2 ↦ less-above (key a) (key c) (t a c) (omega (arith, eq.0))
+          | inr eq2 ↦ less-same (key a) (key c) (t a c) (eq.0 ∙ eq2.0) (o.chain a b c eq.1 eq2.1)
+        ]
       ]
 
   by_key-order : IsStrictWeakOrder (λ a b. less (key a) (key b) (t a b))
@@ -177,16 +177,16 @@ module _ {A : Type 0} (t : A → A → Bool) (o : IsStrictWeakOrder t) where
   three b x z =
       elim (cases_Bool (t x b)) [
         | inl xb ↦ elim (cases_Bool (t z x)) [
-            | inl zx ↦ elim (cases_Bool (t z b)) [
-                | inl zb ↦ rw (xb, zx, zb) refl
-                | inr zb ↦ absurd (let f : t z x ≡ false = o.chain z b x zb (o.one_way x b xb) in cc)
-              ]
-            | inr zx ↦ rw (xb, zx, xb) refl
+          | inl zx ↦ elim (cases_Bool (t z b)) [
+            | inl zb ↦ rw (xb, zx, zb) refl
+            | inr zb ↦ absurd (let f : t z x ≡ false = o.chain z b x zb (o.one_way x b xb) in cc)
           ]
+          | inr zx ↦ rw (xb, zx, xb) refl
+        ]
         | inr xb ↦ elim (cases_Bool (t z x)) [
-            | inl zx ↦ rw (xb, zx) refl
-            | inr zx ↦ (let zb : t z b ≡ false = o.chain z x b zx xb in rw (xb, zx, zb, xb) refl)
-          ]
+          | inl zx ↦ rw (xb, zx) refl
+          | inr zx ↦ (let zb : t z b ≡ false = o.chain z x b zx xb in rw (xb, zx, zb, xb) refl)
+        ]
       ]
 
   step_in : (b x : A) (m : Option A) → better_of t (Some (cond (t x b) x b)) m ≡ better_of t (Some b) (better_of t (Some x) m)
@@ -214,8 +214,8 @@ choice_more s need best c cs shared =
     ap (fold (better (takes_first s)) best) (filter-append (λ x. nat_le need x.size) (candidates_in c.kind c) (candidates cs))
     ∙ fold-append (better (takes_first s)) best (large_enough need (candidates_in c.kind c)) (large_enough need (candidates cs))
     ∙ ap (λ r. fold (better (takes_first s)) r (large_enough need (candidates cs)))
-      (fold-from (takes_first s) (takes_first-order s) best (large_enough need (candidates_in c.kind c))
-      ∙ ap (better_of (takes_first s) best) (ap (λ xs. first (takes_first s) (large_enough need xs)) shared ∙ first_inside s need c))
+    (fold-from (takes_first s) (takes_first-order s) best (large_enough need (candidates_in c.kind c))
+    ∙ ap (better_of (takes_first s) best) (ap (λ xs. first (takes_first s) (large_enough need xs)) shared ∙ first_inside s need c))
 
 -- what holds of both holds of the better one
 pub better_of-either : {A : Type 0} (P : A → Type 0) (t : A → A → Bool) (a b : Option A) → IfSome a P → IfSome b P → IfSome (better_of t a b) P

@@ -63,8 +63,8 @@ apart-bases start pages [] some whole apart = All-nil (λ (c : Content). c.base 
 apart-bases start pages (c ∷ cs) some whole apart =
     let both = all_entered (IsBeside start pages) (segment_of c) (segments cs) apart in
     All-cons (λ (c : Content). c.base ≢ start) c cs
-      (apart_base start pages c some (All-head IsWhole c cs whole) both.0)
-      (apart-bases start pages cs some (All-tail IsWhole c cs whole) both.1)
+    (apart_base start pages c some (All-head IsWhole c cs whole) both.0)
+    (apart-bases start pages cs some (All-tail IsWhole c cs whole) both.1)
 
 with_here : (x c : Content) (cs : List Content) → x.number < c.number → with_content x (c ∷ cs) ≡ x ∷ c ∷ cs
 with_here x c cs h = grind arith

@@ -310,6 +310,7 @@ impl Instance {
         ensures { self.new ≡ clearing self.old number }
     {
         let carrier = leave(&mut self.carriers, number);
-        self.region.give_back(carrier.base(), carrier.units() / PAGE_UNITS);
+        self.region
+            .give_back(carrier.base(), carrier.units() / PAGE_UNITS);
     }
 }

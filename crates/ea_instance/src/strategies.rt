@@ -55,7 +55,11 @@ fn takes_first(strategy: Strategy, a: Candidate, b: Candidate) -> bool
 }
 
 /// The candidate that a strategy takes first of the best so far and another one.
-pub fn better_of(strategy: Strategy, best: Option<Candidate>, found: Option<Candidate>) -> Option<Candidate>
+pub fn better_of(
+    strategy: Strategy,
+    best: Option<Candidate>,
+    found: Option<Candidate>,
+) -> Option<Candidate>
     ensures { result ≡ better_of (takes_first strategy) best found }
 {
     match (best, found) {

@@ -15,7 +15,7 @@ loop-carrier-preserved c =
     let later = drop (c.loop-carrier.carrier-index + 1) c.args.carriers.now in
     let next : drop c.loop-carrier.carrier-index c.args.carriers.now ≡ item ∷ later = drop_more c.args.carriers.now c.loop-carrier.carrier-index item c.loop-carrier-test.true ∙ ap (λ x. x ∷ later) (sym c.carrier-item.is) in
     let found : c.candidate.result ≡ option_map (candidate item) (choice (strategies.inner_of c.args.strategy) c.args.need (gaps_of item)) =
-        c.candidate.ensures.found ∙ ap (λ inner. option_map (candidate item) (choice inner c.args.need (gaps_of item))) c.inner_of-inner.ensures in
+    c.candidate.ensures.found ∙ ap (λ inner. option_map (candidate item) (choice inner c.args.need (gaps_of item))) c.inner_of-inner.ensures in
     record {
       inner = c.inner_of-inner.ensures;
       rest =
