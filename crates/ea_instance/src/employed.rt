@@ -99,6 +99,8 @@ impl Employed {
     /// Takes out the block at `offset`, and answers its units.
     pub fn release(&mut self, offset: u32) -> Result<u32, OutOfMemory>
         requires { IsSome (block_at self.old.blocks offset) }
+        ensures size { IfOk result (λ size.
+            option_map (λ b. b.size) (block_at self.old.blocks offset) ≡ Some size) }
         ensures ok { OnOk result (self.new ≡ released self.old offset) }
         ensures err { OnErr result (self.new ≡ self.old) }
         ensures others { (at : ℕ) → at ≢ offset → block_at self.new.blocks at ≡ block_at self.old.blocks at }

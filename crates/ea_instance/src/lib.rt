@@ -7,6 +7,8 @@ mod figures;
 mod instance;
 mod released;
 mod strategies;
+#[cfg(test)]
+mod tests;
 mod walks;
 
 pub use ea_model::CarrierPlan;
