@@ -1,14 +1,13 @@
 -- The contents of an instance, by rising number.
-use Rattle.std.proofs.Common.{suc, zero, ◌≡◌, ◌≢◌, ℕ, ◌+◌, ◌<◌, ◌≤◌, Bool, true, false, List, [], ◌∷◌, length, get_or, set, filter, not, All, sym, ap, ◌∙◌, subst, refl, inl, inr, arith}
-use Rattle.std.specs.Prelude.{Option, Some, None, nat_lt, ◌==◌, if◌then◌else◌, option_map, insert, remove}
+use Rattle.std.proofs.Common.{suc, zero, ◌≡◌, ◌≢◌, ℕ, ◌+◌, ◌<◌, ◌≤◌, true, false, List, [], ◌∷◌, length, get_or, set, filter, not, All, sym, ap, ◌∙◌, subst, refl, inl, inr, arith}
+use Rattle.std.specs.Prelude.{Option, Some, None, ◌==◌, if◌then◌else◌, option_map, insert, remove}
 use Rattle.std.specs.List.{position_or_len}
 use Rattle.std.specs.Option.{option_and_then}
 use Rattle.std.proofs.lemmas.Bool.{cases_lt, cases_eq, cases_Bool, cond-true, cond-false}
 use Rattle.std.proofs.lemmas.List.Elements.{All-nil, All-cons, All-head, All-tail}
-use Rattle.ea_model.specs.declared.carriers.Spot.{Spot}
 use Rattle.ea_model.specs.declared.carriers.BlockAt.{BlockAt}
 use Rattle.ea_model.specs.Content.{Content, block_at}
-use Rattle.ea_model.specs.Instance.{segment_of, segments, with_content, content_of, is_used, is_done, block_in, unused_from, changed}
+use Rattle.ea_model.specs.Instance.{segment_of, segments, with_content, content_of, is_used, is_done, unused_from, changed}
 use Rattle.ea_instance.proofs.Unused.{unused_from-zero, unused_from-used, unused_from-free_here}
 use Rattle.ea_instance.specs.Kept.{Rising, is_behind}
 use Rattle.ea_instance.specs.Found.{HaveSameBlocks}

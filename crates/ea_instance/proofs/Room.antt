@@ -1,16 +1,15 @@
 -- A carrier with a large enough gap gives the strategy a choice.
-use Rattle.std.proofs.Common.{◌≡◌, ℕ, ◌+◌, ◌*◌, ◌-◌, ◌<◌, ◌≤◌, true, List, [], ◌∷◌, ◌++◌, length, filter, cond, sym, ap, ◌∙◌, subst, refl, inl, inr, arith, length-append}
-use Rattle.std.specs.Prelude.{Bool, Option, Some, None, IsSome, fold, nat_le, nat_lt, option_map}
+use Rattle.std.proofs.Common.{◌≡◌, ℕ, ◌+◌, ◌*◌, ◌<◌, ◌≤◌, List, [], ◌∷◌, length, cond, ap, ◌∙◌, refl, inl, inr, arith, length-append}
+use Rattle.std.specs.Prelude.{Bool, Option, Some, None, IsSome, fold, nat_le, option_map}
 use Rattle.std.proofs.lemmas.Bool.{cases_lt}
 use Rattle.std.proofs.lemmas.List.Elements.{filter-append}
-use Rattle.ea_model.specs.declared.settings.Strategy.{Strategy}
 use Rattle.ea_model.specs.declared.carriers.Candidate.{Candidate}
 use Rattle.ea_model.specs.declared.carriers.CarrierPlan.{CarrierPlan}
 use Rattle.ea_model.specs.declared.carriers.Kind.TheVariants.{Multi}
 use Rattle.ea_model.specs.Choice.{better, first}
-use Rattle.ea_model.specs.Content.{Content, gaps_of}
+use Rattle.ea_model.specs.Content.{Content}
 use Rattle.ea_model.specs.Instance.{Instance, created_content, creating, chosen_spot, with_content}
-use Rattle.ea_model.specs.Strategies.{candidates, candidates_in, candidate, choice_among, large_enough, takes_first, spot_of}
+use Rattle.ea_model.specs.Strategies.{candidates, candidates_in, choice_among, large_enough, takes_first, spot_of}
 use Rattle.ea_instance.proofs.Contents.{with_here, with_past}
 
 still_some : {A : Type 0} (t : A → A → Bool) (x : A) (xs : List A) → IsSome (fold (better t) (Some x) xs)
