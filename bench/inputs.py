@@ -1,10 +1,7 @@
 #!/usr/bin/env python3
 """Makes the traces that bench/measure runs: python3 bench/inputs.py FOLDER.
 
-They are the same bytes on every machine, and good under the flags +MMscs 1 +MHacul 0, where the one carrier has 32760
-units for blocks. A request of 3,000 bytes takes at most 380 units. So with at most 40 blocks held there are at most
-41 gaps, and one of them always fits: were all shorter than 380 units, blocks and gaps would cover less than
-81 * 380 = 30780 units.
+They are the same bytes on every machine, and good under the flags +MMscs 512 +MHacul 0.
 """
 import os
 import random
@@ -13,7 +10,8 @@ import sys
 OPENING = "type H\nscheduler 1\n"
 CLOSING = "schedule\nend\n"
 LARGEST_INPUT = 2**24
-LARGEST_REQUEST = 3000
+SMALL = 3000
+LARGEST = 524280
 
 
 def comments():
@@ -24,7 +22,7 @@ def comments():
     return text + line * lines + "#" * rest
 
 
-def mixed(count, most_held, seed):
+def mixed(count, most_held, largest, seed):
     """count operations, a random one of at most most_held blocks freed at a time, no name used twice."""
     pick = random.Random(seed).random
     lines, held, name = [], [], 0
@@ -36,7 +34,7 @@ def mixed(count, most_held, seed):
         else:
             name += 1
             held.append(name)
-            lines.append(f"alloc {name} {int(pick() * (LARGEST_REQUEST + 1))}\n")
+            lines.append(f"alloc {name} {int(pick() * (largest + 1))}\n")
     return OPENING + "".join(lines) + CLOSING
 
 
@@ -51,8 +49,9 @@ def main(folder):
     os.makedirs(folder, exist_ok=True)
     made = {
         "comments": comments(),
-        "mixed-5000": mixed(5000, 40, 1),
-        "mixed-200000": mixed(200000, 8, 2),
+        "growing-5000": mixed(5000, 400, LARGEST, 3),
+        "mixed-5000": mixed(5000, 40, SMALL, 1),
+        "mixed-200000": mixed(200000, 8, SMALL, 2),
         "stacked-4000": stacked(4000),
     }
     for name, text in made.items():
