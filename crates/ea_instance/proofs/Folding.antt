@@ -1,5 +1,5 @@
 -- Choosing carrier by carrier is choosing among all gaps.
-use Rattle.std.proofs.Common.{◌≡◌, ℕ, ◌+◌, ◌*◌, ◌<◌, ◌≤◌, Bool, true, false, cond, List, [], ◌∷◌, ◌++◌, fold, filter, map, refl, sym, ◌∙◌, ap, subst, inl, inr, arith}
+use Rattle.std.proofs.Common.{◌≡◌, ℕ, ◌<◌, ◌≤◌, Bool, true, false, cond, List, [], ◌∷◌, fold, filter, map, refl, sym, ◌∙◌, ap, inl, inr, arith}
 use Rattle.std.specs.Prelude.{Option, Some, None, IfSome, option_map, nat_le, nat_lt, ◌⊎◌}
 use Rattle.std.specs.Cmp.{IsStrictWeakOrder}
 use Rattle.std.proofs.lemmas.Bool.{cases_Bool, cases_lt, cond-true, cond-false, cond_both}
@@ -11,7 +11,7 @@ use Rattle.ea_model.specs.declared.settings.Strategy.{Strategy}
 use Rattle.ea_model.specs.declared.settings.Strategy.TheVariants.{Bf, Aobf, Aoff, AoffCbf, AoffCaobf, AgeffCaoff, AgeffCbf, AgeffCaobf, Gf, Af}
 use Rattle.ea_model.specs.Content.{Content, gaps_of}
 use Rattle.ea_model.specs.Choice.{before, better, first, fitting, choice}
-use Rattle.ea_model.specs.Strategies.{candidate, candidates, candidates_in, takes_first, inner_of, large_enough, choice_among, less, lower, older, smaller_high, smaller_low}
+use Rattle.ea_model.specs.Strategies.{candidate, candidates, candidates_in, takes_first, inner_of, large_enough, less, lower, older, smaller_high, smaller_low}
 use Rattle.ea_instance.specs.Better.{better_of}
 
 less-true-le : (x y : ℕ) (r : Bool) → less x y r ≡ true → y ≤ x → x ≤ y

@@ -1,6 +1,6 @@
 -- What an instance keeps through its calls.
-use Rattle.std.proofs.Common.{◌≡◌, ◌≢◌, ℕ, ◌+◌, ◌*◌, ◌/◌, ◌%◌, ◌<◌, ◌≤◌, max, true, false, List, [], ◌∷◌, length, get_or, filter, not, All, sym, ap, ◌∙◌, subst, refl, arith}
-use Rattle.std.specs.Prelude.{Option, Some, None, Result, Ok, Err, IfSome, Any, ◌==◌}
+use Rattle.std.proofs.Common.{◌≡◌, ℕ, ◌+◌, ◌*◌, ◌/◌, ◌%◌, ◌<◌, ◌≤◌, false, List, length, not, All, sym, ap, ◌∙◌, subst, refl, arith}
+use Rattle.std.specs.Prelude.{Option, Some, None, Ok, Err, IfSome, Any, ◌==◌}
 use Rattle.std.proofs.lemmas.List.Elements.{All-filter}
 use Rattle.ea_model.specs.declared.settings.Settings.{Settings}
 use Rattle.ea_model.specs.declared.carriers.Candidate.{Candidate}
@@ -8,14 +8,14 @@ use Rattle.ea_model.specs.declared.carriers.Segment.{Segment}
 use Rattle.ea_model.specs.declared.entries.NoCarrier.TheVariants.{Space}
 use Rattle.ea_model.specs.declared.carriers.CarrierPlan.{CarrierPlan}
 use Rattle.ea_model.specs.declared.carriers.Kind.TheVariants.{Multi}
-use Rattle.ea_model.specs.Content.{Content, gaps_of, gap_at}
+use Rattle.ea_model.specs.Content.{Content}
 use Rattle.ea_model.specs.Region.{Region, Laid, lowest_run, runs, entered, cut_from}
-use Rattle.ea_model.specs.Instance.{Instance, segments, segment_of, first_number, changed, content_of, with_content, unused_from, is_used, free_run, least_pages, next_pages, planned, least_plan, sized_plan, numbered_plan, plan, created_content, creating, without_content, pages_for}
+use Rattle.ea_model.specs.Instance.{Instance, segments, segment_of, first_number, changed, content_of, with_content, unused_from, is_used, free_run, least_pages, next_pages, planned, least_plan, sized_plan, numbered_plan, plan, created_content, creating, without_content}
 use Rattle.ea_space.specs.Pages.{IsApart}
 use Rattle.ea_instance.specs.Kept.{IsKept, IsWhole, Rising}
 use Rattle.ea_instance.specs.Found.{IsGapOf, HasGap}
 use Rattle.ea_instance.proofs.Changed.{KeepsPlace, Rising-changed, segments-changed, All-changed}
-use Rattle.ea_instance.proofs.Contents.{content_of-at, Rising-room, Rising-with_content, Rising-without, All-with_content, unused_from-free, content_of-number}
+use Rattle.ea_instance.proofs.Contents.{content_of-at, Rising-room, Rising-with_content, Rising-without, All-with_content, unused_from-free}
 use Rattle.ea_instance.proofs.Segments.{length-segments, apart-bases, segments-with_content, segments-without}
 
 -- a gap of one of the contents is a gap at its carrier's number

@@ -8,7 +8,7 @@ use Rattle.ea_model.specs.Content.{Content}
 use Rattle.ea_model.specs.Region.{stretch, entered, covers, cut_from, Laid}
 use Rattle.ea_model.specs.Instance.{segment_of, segments, with_content, content_of}
 use Rattle.ea_space.specs.Pages.{IsBeside, IsApart, IsTailOf, IsTail}
-use Rattle.ea_space.proofs.Segments.{entered_here, entered_past, covers_cases, cut_past, cut_first, cut-before, stretch_none, Laid-cut, any_cases, IsTail_cases, IsTail_behind}
+use Rattle.ea_space.proofs.Segments.{entered_here, entered_past, covers_cases, cut_past, cut_first, stretch_none, Laid-cut, any_cases, IsTail_cases, IsTail_behind}
 use Rattle.ea_instance.specs.Kept.{Rising, IsWhole}
 
 entered_only : (a b : Segment) → a.start ≢ b.start → entered a (b ∷ []) ≡ entered b (a ∷ [])

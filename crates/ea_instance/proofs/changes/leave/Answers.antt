@@ -1,4 +1,4 @@
-use Rattle.std.proofs.Common.{◌≡◌, ◌∙◌}
+use Rattle.std.proofs.Common.{◌∙◌}
 use Rattle.ea_instance.proofs.Changed.{at_place, remove-number}
 use Rattle.ea_instance.proofs.changes.leave.Goals as goal
 

@@ -1,9 +1,6 @@
-use Rattle.std.proofs.Common.{◌≡◌, ℕ, ◌∙◌, refl}
-use Rattle.std.specs.Prelude.{Some}
+use Rattle.std.proofs.Common.{ℕ, ◌∙◌, refl}
 use Rattle.std.proofs.lemmas.Result.{on_ok_weaker}
-use Rattle.ea_model.specs.declared.carriers.BlockAt.{BlockAt}
-use Rattle.ea_model.specs.Content.{Content, placed, block_at}
-use Rattle.ea_model.specs.Instance.{block_in}
+use Rattle.ea_model.specs.Content.{placed}
 use Rattle.ea_instance.proofs.Changed.{KeepsPlace, at_place, ok_both, set_is_changed, begins-set, others-set}
 use Rattle.ea_instance.proofs.changes.place_in.Goals as goal
 

@@ -1,5 +1,5 @@
-use Rattle.std.proofs.Common.{◌≡◌, ℕ, ◌∙◌, refl}
-use Rattle.ea_model.specs.Content.{Content, released}
+use Rattle.std.proofs.Common.{ℕ, refl}
+use Rattle.ea_model.specs.Content.{released}
 use Rattle.ea_instance.proofs.Changed.{KeepsPlace, at_place, set_is_changed, others-set}
 use Rattle.ea_instance.proofs.changes.release_in.Goals as goal
 

@@ -1,4 +1,4 @@
-use Rattle.std.proofs.Common.{◌≡◌, fold, drop, take}
+use Rattle.std.proofs.Common.{◌≡◌, fold, drop}
 use Rattle.std.specs.Prelude.{IfSome, Any}
 use Rattle.ea_model.specs.Choice.{better}
 use Rattle.ea_model.specs.Strategies.{takes_first, large_enough, candidates, choice_among}

@@ -1,4 +1,4 @@
-use Rattle.std.proofs.Common.{◌≡◌, ◌+◌, ◌∙◌, sym, ap, refl, true, false, arith}
+use Rattle.std.proofs.Common.{◌≡◌, ◌+◌, sym, ap, refl, arith}
 use Rattle.ea_model.specs.Instance.{unused_from}
 use Rattle.ea_instance.proofs.Unused.{stops_here, goes_on, ends}
 use Rattle.ea_instance.proofs.walks.unused_number.Goals as goal

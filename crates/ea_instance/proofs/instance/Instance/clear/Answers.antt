@@ -1,5 +1,4 @@
-use Rattle.std.proofs.Common.{◌≡◌, ℕ, ◌+◌, ◌/◌, ◌∙◌, ap, sym, subst}
-use Rattle.std.specs.Prelude.{Some}
+use Rattle.std.proofs.Common.{◌/◌, ◌∙◌, ap, sym, subst}
 use Rattle.ea_model.specs.Instance.{clearing, segments}
 use Rattle.ea_model.specs.Region.{Region, cut_from}
 use Rattle.ea_instance.specs.Kept.{IsKept}

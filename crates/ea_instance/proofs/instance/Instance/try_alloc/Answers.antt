@@ -1,6 +1,6 @@
-use Rattle.std.proofs.Common.{◌≡◌, ℕ, ◌∙◌, subst, refl}
+use Rattle.std.proofs.Common.{ℕ, subst, refl}
 use Rattle.std.specs.Prelude.{Any}
-use Rattle.ea_model.specs.Content.{Content, placed}
+use Rattle.ea_model.specs.Content.{placed}
 use Rattle.ea_instance.specs.Found.{IsGapOf}
 use Rattle.ea_instance.proofs.Changed.{KeepsPlace}
 use Rattle.ea_instance.proofs.Keeping.{found_in, IsKept-changed}
