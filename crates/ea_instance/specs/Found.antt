@@ -1,10 +1,10 @@
 -- Spots and gaps among the contents of an instance.
-use Rattle.std.specs.Prelude.{◌≡◌, ◌≢◌, ℕ, ◌≤◌, List, None, Some}
+use Rattle.std.specs.Prelude.{◌≡◌, ◌≢◌, ℕ, ◌+◌, ◌<◌, ◌≤◌, true, List, None, Some}
 use Rattle.ea_model.specs.declared.carriers.Spot.{Spot}
 use Rattle.ea_model.specs.declared.carriers.Place.{Place}
 use Rattle.ea_model.specs.declared.carriers.Candidate.{Candidate}
 use Rattle.ea_model.specs.Content.{Content, gaps_of, gap_at}
-use Rattle.ea_model.specs.Instance.{content_of, block_in}
+use Rattle.ea_model.specs.Instance.{Instance, content_of, block_in, first_number, is_used}
 use Rattle.ea_instance.specs.Kept.{Rising}
 
 -- the candidate is a large enough gap of the content
@@ -32,3 +32,7 @@ pub record IsPlaced (old new : List Content) (name : ℕ) (place : Place) : Type
 -- the same blocks begin at the same spots
 abbrev pub HaveSameBlocks : List Content → List Content → Type 0
 HaveSameBlocks old new = (at : Spot) → block_in new at ≡ block_in old at
+
+-- all carrier numbers of the instance are in use
+abbrev pub AllUsed : Instance → Type 0
+AllUsed i = (n : ℕ) → first_number i.number ≤ n → n < first_number i.number + 256 → is_used n i.contents ≡ true

@@ -1,15 +1,19 @@
 //! The instance and its calls.
-ghost use Rattle.std.specs.Prelude.{◌≡◌, ℕ, ◌+◌, ◌*◌, ◌/◌, ◌%◌, ◌^◌, ◌<◌, ◌≤◌, ◌++◌, max, true, Some, None, Ok, Result, IsSome, IfSome, IfOk, OnOk, OnErr, map, sum_by, option_map};
+ghost use Rattle.std.specs.Prelude.{◌≡◌, ℕ, ◌+◌, ◌*◌, ◌/◌, ◌%◌, ◌^◌, ◌<◌, ◌≤◌, ◌++◌, max, true, Some, None, Ok, Err, Result, All, IsNone, ◌↔◌, IsSome, IfSome, IfOk, OnOk, OnErr, map, sum_by, option_map};
 ghost use Rattle.ea_model.specs.declared.carriers.Kind.TheVariants.{Multi};
 ghost use Rattle.ea_model.specs.declared.carriers.Spot.{Spot};
 ghost use Rattle.ea_model.specs.declared.carriers.CarrierPlan.{CarrierPlan};
 ghost use Rattle.ea_model.specs.Content.{named, free_units, gaps_of};
+ghost use Rattle.ea_model.specs.declared.entries.NoCarrier.TheVariants.{Numbers, Space};
+ghost use Rattle.ea_model.specs.Choice.{IsFirst};
+ghost use Rattle.ea_model.specs.Region.{runs};
 ghost use Rattle.ea_model.specs.Settings.{IsValid};
+ghost use Rattle.ea_model.specs.Strategies.{candidates, choice_among, large_enough, takes_first};
 ghost use Rattle.ea_model.specs.Text.{carrier_line};
-ghost use Rattle.ea_model.specs.Instance.{main_content, new_instance, growth, multis, unused_from, plan, created_content, creating, chosen_spot, place_at, releasing_at, clearing, content_of, block_in, is_done};
+ghost use Rattle.ea_model.specs.Instance.{main_content, new_instance, growth, multis, unused_from, plan, created_content, creating, chosen_spot, place_at, releasing_at, clearing, content_of, block_in, is_done, segments, least_pages};
 ghost use Rattle.ea_model.specs.Instance as instances;
 ghost use Rattle.ea_instance.specs.Answers.{placing_if, follow_up};
-ghost use Rattle.ea_instance.specs.Found.{HaveSameBlocks, IsOther, IsPlaced};
+ghost use Rattle.ea_instance.specs.Found.{AllUsed, HaveSameBlocks, IsOther, IsPlaced};
 
 use crate::changes::{enter, leave, place_in, release_in};
 use crate::employed::Employed;
@@ -195,8 +199,26 @@ impl Instance {
         requires least { 6 ≤ need }
         ensures place { IfOk result (λ place. place ≡ option_map (λ spot. place_at self.old spot need) (chosen_spot self.old need)) }
         ensures ok { OnOk result (self.new ≡ placing_if self.old (chosen_spot self.old need) need name) }
-        ensures blocks { IfOk result (λ found. IfSome found (λ place. IsPlaced self.old.contents self.new.contents name place)) }
         ensures err { OnErr result (self.new ≡ self.old) }
+
+        // None exactly where no gap has so many units; and of those that have, none comes before the chosen one.
+        ensures none { IfOk result (λ found. IsNone found ↔ All (λ x. x.size < need) (candidates self.old.contents)) }
+        ensures first { IfSome (choice_among self.old.settings.strategy need self.old.contents)
+            (IsFirst (takes_first self.old.settings.strategy) (large_enough need (candidates self.old.contents))) }
+
+        // It lies where no block began, and other blocks stay.
+        ensures blocks { IfOk result (λ found. IfSome found (λ place. IsPlaced self.old.contents self.new.contents name place)) }
+    {
+        self.place_chosen(need, name)
+    }
+
+    fn place_chosen(&mut self, need: u32, name: u32) -> Result<Option<Place>, OutOfMemory>
+        requires even { need % 2 ≡ 0 }
+        requires least { 6 ≤ need }
+        ensures place { IfOk result (λ place. place ≡ option_map (λ spot. place_at self.old spot need) (chosen_spot self.old need)) }
+        ensures ok { OnOk result (self.new ≡ placing_if self.old (chosen_spot self.old need) need name) }
+        ensures err { OnErr result (self.new ≡ self.old) }
+        ensures blocks { IfOk result (λ found. IfSome found (λ place. IsPlaced self.old.contents self.new.contents name place)) }
     {
         let Some(found) = best_candidate(self.settings.strategy, need, &self.carriers) else {
             return Ok(None);
@@ -235,6 +257,20 @@ impl Instance {
     /// The multiblock carrier that it would create for a block of `need` units, at most `sbct`, or why it
     /// can't.
     pub fn plan_carrier(&self, need: u32) -> Result<CarrierPlan, NoCarrier>
+        requires need { need ≤ self.now.settings.sbct }
+        requires created { self.now.created + 1 < 2 ^ 32 }
+        ensures plan { result ≡ plan self.now need }
+
+        // Numbers exactly where all its numbers are in use; Space exactly where one is not, and no run holds
+        // the least carrier.
+        ensures numbers { (result ≡ Err Numbers) ↔ AllUsed self.now }
+        ensures space { (result ≡ Err Space) ↔ ((AllUsed self.now → ⊥) × All (λ r. r.pages < least_pages need) (runs self.now.first self.now.end (segments self.now.contents))) }
+        ensures pages { IfOk result (λ p. (1 ≤ p.pages) × (512 * p.pages < 2 ^ 32)) }
+    {
+        self.plan_for(need)
+    }
+
+    fn plan_for(&self, need: u32) -> Result<CarrierPlan, NoCarrier>
         requires need { need ≤ self.now.settings.sbct }
         requires created { self.now.created + 1 < 2 ^ 32 }
         ensures plan { result ≡ plan self.now need }

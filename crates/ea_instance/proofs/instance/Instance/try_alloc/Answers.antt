@@ -1,19 +1,22 @@
-use Rattle.std.proofs.Common.{ℕ, subst, refl}
-use Rattle.std.specs.Prelude.{Any}
-use Rattle.ea_model.specs.Content.{placed}
-use Rattle.ea_instance.specs.Found.{IsGapOf}
-use Rattle.ea_instance.proofs.Changed.{KeepsPlace}
-use Rattle.ea_instance.proofs.Keeping.{found_in, IsKept-changed}
+use Rattle.std.proofs.Common.{◌≡◌, ◌<◌, ◌↔◌, All, sym, subst}
+use Rattle.std.specs.Prelude.{Option, IsNone, option_map}
+use Rattle.std.proofs.lemmas.Result.{IfOk-weaker}
+use Rattle.ea_model.specs.declared.carriers.Place.{Place}
+use Rattle.ea_model.specs.declared.carriers.Candidate.{Candidate}
+use Rattle.ea_model.specs.Instance.{chosen_spot, place_at}
+use Rattle.ea_model.specs.Strategies.{candidates, large_enough, takes_first}
+use Rattle.ea_mbc.proofs.Least.{first-IsFirst}
+use Rattle.ea_instance.proofs.Folding.{takes_first-order}
+use Rattle.ea_instance.proofs.Refusals.{chosen-none}
 use Rattle.ea_instance.proofs.instance.Instance.try_alloc.Goals as goal
 
--- a placement changes blocks alone
-keeps : (offset need name : ℕ) → KeepsPlace (λ c. placed c offset need name)
-keeps offset need name = record { number = λ _. refl; base = λ _. refl; units = λ _. refl }
+pub returns-clause-none : goal.returns-clause-none
+returns-clause-none c =
+    let i = c.args.self.now in
+    IfOk-weaker c.place_chosen.result (λ (found : Option Place). found ≡ option_map (λ spot. place_at i spot c.args.need) (chosen_spot i c.args.need)) (λ (found : Option Place). IsNone found ↔ All (λ (x : Candidate). x.size < c.args.need) (candidates i.contents))
+    (λ found e. subst (λ (o : Option Place). IsNone o ↔ All (λ (x : Candidate). x.size < c.args.need) (candidates i.contents)) (sym e) (chosen-none (λ spot. place_at i spot c.args.need) i c.args.need))
+    c.place_chosen.ensures.place
 
-pub place_in-requires-clause-gap : goal.place_in-requires-clause-gap
-place_in-requires-clause-gap c =
-    found_in c.args.need _ _ c.in-Some.found c.self.inside.carriers.items c.self.invariant.rising (subst (Any (IsGapOf c.args.need c.in-Some.found)) c.deref.ensures.value c.in-Some.ensures.fits)
-
-pub invariant_of-self-2 : goal.invariant_of-self-2
-invariant_of-self-2 c =
-    IsKept-changed (λ x. placed x c.in-Some.found.offset c.args.need c.args.name) (keeps _ _ _) _ _ c.in-Some.found.number c.self.inside.carriers.items _ _ c.in_ok-size.ensures.ok c.self.invariant
+pub returns-clause-first : goal.returns-clause-first
+returns-clause-first c =
+    first-IsFirst (takes_first c.args.self.now.settings.strategy) (takes_first-order c.args.self.now.settings.strategy) (large_enough c.args.need (candidates c.args.self.now.contents))

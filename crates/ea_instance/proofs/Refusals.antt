@@ -1,0 +1,121 @@
+-- Why there is no choice, and why there is no plan.
+use Rattle.std.proofs.Common.{◌≡◌, ◌≢◌, ℕ, zero, suc, ◌+◌, ◌<◌, ◌≤◌, ◌↔◌, true, List, [], ◌∷◌, All, sym, ◌∙◌, ap, subst, refl, inl, inr, arith}
+use Rattle.std.specs.Prelude.{Option, Some, None, IsNone, Err, option_map}
+use Rattle.std.proofs.lemmas.Bool.{cases_Bool, cases_lt, cases_eq}
+use Rattle.std.proofs.lemmas.List.Elements.{All-nil, All-cons, All-head, All-tail}
+use Rattle.ea_model.specs.declared.carriers.Candidate.{Candidate}
+use Rattle.ea_model.specs.declared.carriers.Segment.{Segment}
+use Rattle.ea_model.specs.declared.entries.NoCarrier.TheVariants.{Numbers, Space}
+use Rattle.ea_model.specs.Choice.{first}
+use Rattle.ea_model.specs.Content.{Content}
+use Rattle.ea_model.specs.Region.{runs}
+use Rattle.ea_model.specs.Instance.{Instance, chosen_spot, unused_from, is_used, first_number, plan, numbered_plan, sized_plan, least_plan, free_run, next_pages, least_pages, segments}
+use Rattle.ea_model.specs.Strategies.{candidates, choice_among, large_enough, takes_first, spot_of}
+use Rattle.ea_mbc.proofs.Chosen.{first-none}
+use Rattle.ea_space.proofs.Runs.{lowest-none}
+use Rattle.ea_instance.specs.Found.{AllUsed}
+use Rattle.ea_instance.proofs.Unused.{unused_from-zero, unused_from-used, unused_from-free_here}
+
+large-past : (need : ℕ) (x : Candidate) (xs : List Candidate) → x.size < need → large_enough need (x ∷ xs) ≡ large_enough need xs
+large-past need x xs h = grind arith
+
+large-tail : (need : ℕ) (x : Candidate) (xs : List Candidate) → large_enough need (x ∷ xs) ≡ [] → (x.size < need) × (large_enough need xs ≡ [])
+large-tail need x xs h = elim (cases_lt x.size need) [ inl lt ↦ (lt, sym (large-past need x xs lt) ∙ h) | inr le ↦ absurd (grind arith) ]
+
+large-none : (need : ℕ) (xs : List Candidate) → All (λ x. x.size < need) xs → large_enough need xs ≡ []
+large-none need [] h = refl
+large-none need (x ∷ xs) h =
+    large-past need x xs (All-head (λ (y : Candidate). y.size < need) x xs h) ∙ large-none need xs (All-tail (λ (y : Candidate). y.size < need) x xs h)
+
+none-large : (need : ℕ) (xs : List Candidate) → large_enough need xs ≡ [] → All (λ x. x.size < need) xs
+none-large need [] h = All-nil (λ (y : Candidate). y.size < need)
+none-large need (x ∷ xs) h =
+    let both = large-tail need x xs h in
+    All-cons (λ (y : Candidate). y.size < need) x xs both.0 (none-large need xs both.1)
+
+unmapped : {A B : Type 0} (f : A → B) (o : Option A) → IsNone (option_map f o) → IsNone o
+unmapped f None h = h
+unmapped f (Some x) h = h
+
+mapped : {A B : Type 0} (f : A → B) (o : Option A) → IsNone o → IsNone (option_map f o)
+mapped f None h = h
+mapped f (Some x) h = h
+
+-- there is no choice exactly where no gap is large enough
+pub chosen-none : {B : Type 0} (f : _ → B) (i : Instance) (need : ℕ) → IsNone (option_map f (chosen_spot i need)) ↔ All (λ x. x.size < need) (candidates i.contents)
+chosen-none f i need = (
+  λ h. none-large need (candidates i.contents) (first-none (takes_first i.settings.strategy) (large_enough need (candidates i.contents)) (unmapped spot_of (choice_among i.settings.strategy need i.contents) (unmapped f (chosen_spot i need) h))),
+  λ h. mapped f (chosen_spot i need) (mapped spot_of (choice_among i.settings.strategy need i.contents) (subst (λ xs. IsNone (first (takes_first i.settings.strategy) xs)) (sym (large-none need (candidates i.contents) h)) refl)),
+)
+
+-- all of so many numbers are in use exactly where none is found
+all_used : (k low : ℕ) (cs : List Content) → unused_from k low cs ≡ None → (n : ℕ) → low ≤ n → n < low + k → is_used n cs ≡ true
+all_used zero low cs e n from below = absurd (omega arith)
+all_used (suc k) low cs e n from below =
+    elim (cases_Bool (is_used low cs)) [
+      | inl used ↦ elim (cases_eq n low) [
+        | inl same ↦ ap (λ m. is_used m cs) same ∙ used
+        | inr other ↦ all_used k (low + 1) cs (sym (unused_from-used k low cs used) ∙ e) n (omega arith) (omega arith)
+      ]
+      | inr free ↦ let never : Some low ≡ None = sym (unused_from-free_here k low cs free) ∙ e in absurd cc
+    ]
+
+none_unused : (k low : ℕ) (cs : List Content) → ((n : ℕ) → low ≤ n → n < low + k → is_used n cs ≡ true) → unused_from k low cs ≡ None
+none_unused zero low cs h = unused_from-zero low cs
+none_unused (suc k) low cs h = unused_from-used k low cs (h low (omega arith) (omega arith)) ∙ none_unused k (low + 1) cs (λ n from below. h n (omega arith) (omega arith))
+
+not_numbers_least : (i : Instance) (need number : ℕ) (o : Option ℕ) → least_plan i need number o ≢ Err Numbers
+not_numbers_least i need number None e = absurd cc
+not_numbers_least i need number (Some base) e = absurd cc
+
+not_numbers : (i : Instance) (need number : ℕ) (o : Option ℕ) → sized_plan i need number o ≢ Err Numbers
+not_numbers i need number None e = not_numbers_least i need number (free_run i (least_pages need)) e
+not_numbers i need number (Some base) e = absurd cc
+
+numbered : (i : Instance) (need : ℕ) (o : Option ℕ) → numbered_plan i need o ≡ Err Numbers → o ≡ None
+numbered i need None e = refl
+numbered i need (Some number) e = absurd (not_numbers i need number (free_run i (next_pages i need)) e)
+
+-- the numbers are the cause exactly where all are in use
+pub plan-numbers : (i : Instance) (need : ℕ) → (plan i need ≡ Err Numbers) ↔ AllUsed i
+plan-numbers i need = (
+  λ e. all_used 256 (first_number i.number) i.contents (numbered i need (unused_from 256 (first_number i.number) i.contents) e),
+  λ h. ap (numbered_plan i need) (none_unused 256 (first_number i.number) i.contents h),
+)
+
+no_room : (i : Instance) (need number : ℕ) (o : Option ℕ) → least_plan i need number o ≡ Err Space → IsNone o
+no_room i need number None e = refl
+no_room i need number (Some base) e = absurd cc
+
+no_room_at_all : (i : Instance) (need number : ℕ) (o : Option ℕ) → sized_plan i need number o ≡ Err Space → IsNone (free_run i (least_pages need))
+no_room_at_all i need number None e = no_room i need number (free_run i (least_pages need)) e
+no_room_at_all i need number (Some base) e = absurd cc
+
+spaced : (i : Instance) (need : ℕ) (o : Option ℕ) → numbered_plan i need o ≡ Err Space → (o ≢ None) × IsNone (free_run i (least_pages need))
+spaced i need None e = absurd cc
+spaced i need (Some number) e = (λ never. absurd cc, no_room_at_all i need number (free_run i (next_pages i need)) e)
+
+is_none : {A : Type 0} (o : Option A) → IsNone o → o ≡ None
+is_none None h = refl
+is_none (Some x) h = absurd cc
+
+-- no run for the least carrier, and so none for the next one
+All-more : (a b : ℕ) (rs : List Segment) → a ≤ b → All (λ r. r.pages < a) rs → All (λ r. r.pages < b) rs
+All-more a b [] le h = All-nil (λ (r : Segment). r.pages < b)
+All-more a b (r ∷ rs) le h =
+    All-cons (λ (r : Segment). r.pages < b) r rs (omega (arith, All-head (λ (r : Segment). r.pages < a) r rs h)) (All-more a b rs le (All-tail (λ (r : Segment). r.pages < a) r rs h))
+
+unplanned : (i : Instance) (need : ℕ) (o : Option ℕ) → o ≢ None → free_run i (next_pages i need) ≡ None → free_run i (least_pages need) ≡ None → numbered_plan i need o ≡ Err Space
+unplanned i need None some next least = absurd (some refl)
+unplanned i need (Some number) some next least = ap (sized_plan i need number) next ∙ ap (least_plan i need number) least
+
+-- the space is the cause exactly where a number is not in use, and no run holds the least carrier
+pub plan-space : (i : Instance) (need : ℕ) → (plan i need ≡ Err Space) ↔ ((AllUsed i → ⊥) × All (λ r. r.pages < least_pages need) (runs i.first i.end (segments i.contents)))
+plan-space i need =
+    let rs : List Segment = runs i.first i.end (segments i.contents) in (
+      λ e. let both = spaced i need (unused_from 256 (first_number i.number) i.contents) e in
+          (λ all. both.0 (none_unused 256 (first_number i.number) i.contents all), (lowest-none (least_pages need) rs).0 both.1),
+      λ h. unplanned i need (unused_from 256 (first_number i.number) i.contents) (λ none. h.0 (all_used 256 (first_number i.number) i.contents none))
+          (is_none (free_run i (next_pages i need)) ((lowest-none (next_pages i need) rs).1 (All-more (least_pages need) (next_pages i need) rs (omega arith) h.1)))
+          (is_none (free_run i (least_pages need)) ((lowest-none (least_pages need) rs).1 h.1)),
+    )
