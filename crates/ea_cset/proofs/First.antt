@@ -1,12 +1,13 @@
 -- The first carrier that fits.
 use Rattle.std.proofs.Common.{◌≡◌, ℕ, ◌<◌, ◌≤◌, ◌↔◌, Bool, true, false, cond, List, [], ◌∷◌, fold, refl, sym, ◌∙◌, subst, inl, inr, arith}
-use Rattle.std.specs.Prelude.{Option, Some, None, IfSome, IsNone, option_map, nat_le, All, Contains}
+use Rattle.std.specs.Prelude.{Option, Some, None, IfSome, IsNone, IsTrue, option_map, nat_le, All, Contains}
 use Rattle.std.specs.Cmp.{IsStrictWeakOrder}
 use Rattle.std.proofs.lemmas.Bool.{cases_Bool, cases_lt, cond-true, cond-false, cond_both, leb-true, true≢false}
 use Rattle.std.proofs.lemmas.List.Elements.{All-nil, All-cons, All-head, All-tail, All-filter, All-contains_itself, filter_passes}
 use Rattle.ea_model.specs.Choice.{better, first}
 use Rattle.ea_cset.specs.declared.keys.Held.{Held}
-use Rattle.ea_cset.specs.Carriers.{lower, older, fitting, first_number, IsAhead, IsFirstOf}
+use Rattle.ea_cset.specs.Carriers.{is_held, lower, older, fitting, first_number, IsAhead, IsFirstOf}
+use Rattle.ea_cset.proofs.Found.{all_held}
 
 lower_one_way : (a b : Held) → lower a b ≡ true → lower b a ≡ false
 lower_one_way a b h = grind arith
@@ -132,3 +133,9 @@ first_number-IsFirstOf before o need hs =
     (both_All (Contains hs) (λ h. nat_le need h.fit ≡ true) (λ h. Contains hs h × (need ≤ h.fit)) (λ h c f. (c, leb-true need h.fit f)) (fitting need hs)
     (All-filter (λ h. nat_le need h.fit) (Contains hs) hs (All-contains_itself hs)) (filter_passes (λ h. nat_le need h.fit) hs)))
     (first-IsLeast before o (fitting need hs)))
+
+-- the number found is held
+pub first_number-held : (before : Held → Held → Bool) (need : ℕ) (hs : List Held) → IfSome (first_number before need hs) (λ number. IsTrue (is_held number hs))
+first_number-held before need hs =
+    some_map (λ (h : Held). h.key.number) (λ number. IsTrue (is_held number hs)) (first before (fitting need hs))
+    (first-All (λ h. is_held h.key.number hs ≡ true) before None (fitting need hs) tt (All-filter (λ h. nat_le need h.fit) (λ h. is_held h.key.number hs ≡ true) hs (all_held hs)))

@@ -37,10 +37,10 @@ position_first n h hs t = rw t refl
 position_past : (n : ℕ) (h : Held) (hs : List Held) → has_number n h ≡ false → position_or_len (has_number n) (h ∷ hs) ≡ 1 + position_or_len (has_number n) hs
 position_past n h hs f = rw f refl
 
-without_here : (n : ℕ) (h : Held) (hs : List Held) → has_number n h ≡ true → without n (h ∷ hs) ≡ without n hs
+pub without_here : (n : ℕ) (h : Held) (hs : List Held) → has_number n h ≡ true → without n (h ∷ hs) ≡ without n hs
 without_here n h hs t = rw t refl
 
-without_past : (n : ℕ) (h : Held) (hs : List Held) → has_number n h ≡ false → without n (h ∷ hs) ≡ h ∷ without n hs
+pub without_past : (n : ℕ) (h : Held) (hs : List Held) → has_number n h ≡ false → without n (h ∷ hs) ≡ h ∷ without n hs
 without_past n h hs f = rw f refl
 
 without_others : (n : ℕ) (hs : List Held) → All (λ x. has_number n x ≡ false) hs → without n hs ≡ hs

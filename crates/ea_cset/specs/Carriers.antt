@@ -1,5 +1,5 @@
 -- The carriers of a set, and which of them comes first.
-use Rattle.std.specs.Prelude.{◌≡◌, ◌≢◌, ℕ, ◌≤◌, Bool, false, not, ◌&&◌, ◌||◌, if◌then◌else◌, nat_lt, nat_le, ◌==◌, List, [], ◌∷◌, ◌++◌, Option, All, AllPairs, Any, filter, map, length, option_map}
+use Rattle.std.specs.Prelude.{◌≡◌, ◌≢◌, ℕ, ◌≤◌, Bool, false, not, ◌&&◌, ◌||◌, if◌then◌else◌, nat_lt, nat_le, ◌==◌, List, [], ◌∷◌, ◌++◌, Option, All, AllPairs, Any, filter, map, length, find, option_map}
 use Rattle.std.specs.List.{list_any}
 use Rattle.ea_model.specs.Choice.{first}
 use Rattle.ea_cset.specs.declared.keys.CarrierKey.{CarrierKey}
@@ -17,6 +17,10 @@ has_number number h = h.key.number == number
 -- whether the carrier with the number is among them
 abbrev pub is_held : ℕ → List Held → Bool
 is_held number hs = list_any (has_number number) hs
+
+-- the carrier with the number
+abbrev pub carrier_of : List Held → ℕ → Option Held
+carrier_of hs number = find (has_number number) hs
 
 -- with one carrier more
 abbrev pub entered : CarrierKey → ℕ → List Held → List Held

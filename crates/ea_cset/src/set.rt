@@ -1,6 +1,6 @@
 //! The set and its calls.
-ghost use Rattle.std.specs.Prelude.{◌≡◌, ◌≢◌, ◌<◌, ◌≤◌, ◌↔◌, [], All, AllPairs, IsTrue, IsNone, IfSome, IfOk, length};
-ghost use Rattle.ea_cset.specs.Carriers.{is_held, entered, without, refitted, lower, older, first_number, IsOther, IsFirstOf};
+ghost use Rattle.std.specs.Prelude.{◌≡◌, ◌≢◌, ℕ, ◌<◌, ◌↔◌, [], ◌==◌, if◌then◌else◌, All, AllPairs, Some, None, IsTrue, IsNone, IfSome, IfOk, length, option_map};
+ghost use Rattle.ea_cset.specs.Carriers.{is_held, carrier_of, entered, without, with_fit, refitted, lower, older, first_number, IsOther, IsFirstOf};
 
 use crate::keys::{CarrierKey, Held};
 use crate::walks::{has_carrier, lowest, oldest, place_of};
@@ -52,6 +52,9 @@ impl CarrierSet {
         requires base { All (λ h. h.key.base ≢ key.base) self.old.held }
         ensures added { self.new ≡ record self.old { held = entered key fit self.old.held } }
         ensures apart { AllPairs IsOther self.new.held }
+
+        // The carrier is found by its number now, and the others are as before.
+        ensures carriers { (n : ℕ) → carrier_of self.new.held n ≡ (if n == key.number then Some (record { key = key; fit = fit }) else carrier_of self.old.held n) }
     {
         let end = self.held.len();
         match self.held.insert(end, Held { key, fit }) {
@@ -65,6 +68,9 @@ impl CarrierSet {
         requires { IsTrue (is_held number self.old.held) }
         ensures removed { self.new ≡ record self.old { held = without number self.old.held } }
         ensures apart { AllPairs IsOther self.new.held }
+
+        // The number is free now, and the other carriers are as before.
+        ensures carriers { (n : ℕ) → carrier_of self.new.held n ≡ (if n == number then None else carrier_of self.old.held n) }
     {
         let place = place_of(number, &self.held);
         self.held.remove(place);
@@ -75,6 +81,9 @@ impl CarrierSet {
         requires { IsTrue (is_held number self.old.held) }
         ensures updated { self.new ≡ record self.old { held = refitted number fit self.old.held } }
         ensures apart { AllPairs IsOther self.new.held }
+
+        // The carrier keeps its key, and the others are as before.
+        ensures carriers { (n : ℕ) → carrier_of self.new.held n ≡ option_map (with_fit number fit) (carrier_of self.old.held n) }
     {
         let place = place_of(number, &self.held);
         self.held[place].fit = fit;
@@ -88,6 +97,7 @@ impl CarrierSet {
 
         // The carrier found is one that fits, and none that fits comes before it.
         ensures first { IfSome result (IsFirstOf lower need self.now.held) }
+        ensures held { IfSome result (λ number. IsTrue (is_held number self.now.held)) }
     {
         lowest(need, &self.held)
     }
@@ -100,6 +110,7 @@ impl CarrierSet {
 
         // The carrier found is one that fits, and none that fits comes before it.
         ensures first { IfSome result (IsFirstOf older need self.now.held) }
+        ensures held { IfSome result (λ number. IsTrue (is_held number self.now.held)) }
     {
         oldest(need, &self.held)
     }

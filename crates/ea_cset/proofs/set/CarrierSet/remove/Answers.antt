@@ -1,8 +1,9 @@
 use Rattle.std.proofs.Common.{◌≡◌, ◌<◌, length, sym, ap, ◌∙◌, subst, refl, arith}
-use Rattle.std.specs.Prelude.{remove, AllPairs}
+use Rattle.std.specs.Prelude.{remove, AllPairs, None, ◌==◌, if◌then◌else◌}
 use Rattle.std.specs.List.{position_or_len}
 use Rattle.std.proofs.lemmas.List.Quantifiers.{all_pairs_remove}
-use Rattle.ea_cset.specs.Carriers.{has_number, without, IsOther}
+use Rattle.ea_cset.specs.Carriers.{Carriers, has_number, carrier_of, without, IsOther}
+use Rattle.ea_cset.proofs.Found.{carrier_of-without}
 use Rattle.ea_cset.proofs.Places.{remove-without}
 use Rattle.ea_cset.proofs.set.CarrierSet.remove.Goals as goal
 
@@ -33,3 +34,9 @@ returns-clause-removed c = rw (removed c, ← c.self.view_is) refl
 
 pub returns-clause-apart : goal.returns-clause-apart
 returns-clause-apart c = apart c
+
+pub returns-clause-carriers : goal.returns-clause-carriers
+returns-clause-carriers c = λ n.
+    ap (λ hs. carrier_of hs n) (removed c)
+    ∙ carrier_of-without n c.args.number c.self.inside.held.items
+    ∙ ap (λ (s : Carriers). if n == c.args.number then None else carrier_of s.held n) c.self.view_is

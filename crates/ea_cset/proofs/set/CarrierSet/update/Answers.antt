@@ -1,7 +1,9 @@
 use Rattle.std.proofs.Common.{◌≡◌, ◌<◌, length, get_or, set, sym, ap, ◌∙◌, subst, refl, arith}
+use Rattle.std.specs.Prelude.{option_map}
 use Rattle.std.specs.List.{position_or_len}
 use Rattle.ea_cset.specs.declared.keys.Held.{Held}
-use Rattle.ea_cset.specs.Carriers.{has_number, refitted}
+use Rattle.ea_cset.specs.Carriers.{Carriers, has_number, carrier_of, with_fit, refitted}
+use Rattle.ea_cset.proofs.Found.{carrier_of-refitted}
 use Rattle.ea_cset.proofs.Places.{set-refitted}
 use Rattle.ea_cset.proofs.set.CarrierSet.update.Goals as goal
 
@@ -20,3 +22,9 @@ updated c =
 
 pub returns-clause-updated : goal.returns-clause-updated
 returns-clause-updated c = rw (updated c, ← c.self.view_is) refl
+
+pub returns-clause-carriers : goal.returns-clause-carriers
+returns-clause-carriers c = λ n.
+    ap (λ hs. carrier_of hs n) (updated c)
+    ∙ carrier_of-refitted n c.args.number c.args.fit c.self.inside.held.items
+    ∙ ap (λ (s : Carriers). option_map (with_fit c.args.number c.args.fit) (carrier_of s.held n)) c.self.view_is
