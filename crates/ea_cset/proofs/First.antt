@@ -6,7 +6,7 @@ use Rattle.std.proofs.lemmas.Bool.{cases_Bool, cases_lt, cond-true, cond-false, 
 use Rattle.std.proofs.lemmas.List.Elements.{All-nil, All-cons, All-head, All-tail, All-filter, All-contains_itself, filter_passes}
 use Rattle.ea_model.specs.Choice.{better, first}
 use Rattle.ea_cset.specs.declared.keys.Held.{Held}
-use Rattle.ea_cset.specs.Carriers.{is_held, lower, older, fitting, first_number, IsAhead, IsFirstOf}
+use Rattle.ea_cset.specs.Carriers.{is_held, lower, older, fitting, first_number, IsFirstOf}
 use Rattle.ea_cset.proofs.Found.{all_held}
 
 lower_one_way : (a b : Held) → lower a b ≡ true → lower b a ≡ false

@@ -1,6 +1,6 @@
 -- The carrier with a number, after a change.
-use Rattle.std.proofs.Common.{◌≡◌, ◌≢◌, ℕ, Bool, true, false, cond, List, [], ◌∷◌, ◌++◌, sym, ap, ◌∙◌, refl, inl, inr, arith}
-use Rattle.std.specs.Prelude.{Option, Some, None, IsTrue, IfSome, ◌==◌, if◌then◌else◌, find, option_map, All}
+use Rattle.std.proofs.Common.{◌≡◌, ◌≢◌, ℕ, true, false, List, [], ◌∷◌, sym, ap, ◌∙◌, refl, inl, inr, arith}
+use Rattle.std.specs.Prelude.{Option, Some, None, ◌==◌, if◌then◌else◌, option_map, All}
 use Rattle.std.proofs.lemmas.Bool.{cases_Bool}
 use Rattle.std.proofs.lemmas.List.Elements.{All-nil, All-cons, All-head, All-tail, All-weaker}
 use Rattle.ea_cset.specs.declared.keys.CarrierKey.{CarrierKey}

@@ -11,9 +11,10 @@ pub struct CarrierKey {
     pub birth: u32,
 }
 
-/// A carrier of a set.
+/// A carrier of a set, as its contracts see it.
 #[derive(Debug, Clone, Copy, PartialEq, Eq)]
 pub struct Held {
+    /// What tells it from the others.
     pub key: CarrierKey,
     /// The units of its largest gap.
     pub fit: u32,

@@ -98,6 +98,7 @@ impl CarrierSet {
         // The carrier found is one that fits, and none that fits comes before it.
         ensures first { IfSome result (IsFirstOf lower need self.now.held) }
         ensures held { IfSome result (λ number. IsTrue (is_held number self.now.held)) }
+        ensures apart { AllPairs IsOther self.now.held }
     {
         lowest(need, &self.held)
     }
@@ -111,6 +112,7 @@ impl CarrierSet {
         // The carrier found is one that fits, and none that fits comes before it.
         ensures first { IfSome result (IsFirstOf older need self.now.held) }
         ensures held { IfSome result (λ number. IsTrue (is_held number self.now.held)) }
+        ensures apart { AllPairs IsOther self.now.held }
     {
         oldest(need, &self.held)
     }
