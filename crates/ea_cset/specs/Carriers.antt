@@ -1,0 +1,75 @@
+-- The carriers of a set, and which of them comes first.
+use Rattle.std.specs.Prelude.{◌≡◌, ◌≢◌, ℕ, ◌≤◌, Bool, false, not, ◌&&◌, ◌||◌, if◌then◌else◌, nat_lt, nat_le, ◌==◌, List, [], ◌∷◌, ◌++◌, Option, All, AllPairs, Any, filter, map, length, find, option_map}
+use Rattle.std.specs.List.{list_any}
+use Rattle.ea_model.specs.Choice.{first}
+use Rattle.ea_cset.specs.declared.keys.CarrierKey.{CarrierKey}
+use Rattle.ea_cset.specs.declared.keys.Held.{Held}
+
+-- the carriers in the order in which they were added, and how many there is room for
+pub record Carriers : Type 0 where
+  pub held : List Held
+  pub room : ℕ
+
+-- whether it is the carrier with the number
+abbrev pub has_number : ℕ → Held → Bool
+has_number number h = h.key.number == number
+
+-- whether the carrier with the number is among them
+abbrev pub is_held : ℕ → List Held → Bool
+is_held number hs = list_any (has_number number) hs
+
+-- the carrier with the number
+abbrev pub carrier_of : List Held → ℕ → Option Held
+carrier_of hs number = find (has_number number) hs
+
+-- with one carrier more
+abbrev pub entered : CarrierKey → ℕ → List Held → List Held
+entered key fit hs = hs ++ record { key = key; fit = fit } ∷ []
+
+-- without the carrier with the number
+abbrev pub without : ℕ → List Held → List Held
+without number hs = filter (λ h. not (has_number number h)) hs
+
+-- the carrier, with another fit if it has the number
+abbrev pub with_fit : ℕ → ℕ → Held → Held
+with_fit number fit h = if has_number number h then record { key = h.key; fit = fit } else h
+
+-- with another fit of the carrier with the number
+abbrev pub refitted : ℕ → ℕ → List Held → List Held
+refitted number fit hs = map (with_fit number fit) hs
+
+-- whether a lies at a lower address than b
+abbrev pub lower : Held → Held → Bool
+lower a b = nat_lt a.key.base b.key.base
+
+-- whether a is older than b: by birth, among equals by number
+abbrev pub older : Held → Held → Bool
+older a b = nat_lt a.key.birth b.key.birth || ((a.key.birth == b.key.birth) && nat_lt a.key.number b.key.number)
+
+-- the carriers whose largest gap has at least so many units
+abbrev pub fitting : ℕ → List Held → List Held
+fitting need hs = filter (λ h. nat_le need h.fit) hs
+
+-- the number of the first carrier that fits
+abbrev pub first_number : (Held → Held → Bool) → ℕ → List Held → Option ℕ
+first_number before need hs = option_map (λ h. h.key.number) (first before (fitting need hs))
+
+-- they are two carriers
+abbrev pub IsOther : Held → Held → Type 0
+IsOther a b = (a.key.number ≢ b.key.number) × (a.key.base ≢ b.key.base)
+
+-- h has the number and fits, and no carrier that fits comes before it
+pub record IsAhead (before : Held → Held → Bool) (need : ℕ) (hs : List Held) (number : ℕ) (h : Held) : Type 0 where
+  pub number_is : h.key.number ≡ number
+  pub fits : need ≤ h.fit
+  pub least : All (λ other. need ≤ other.fit → before other h ≡ false) hs
+
+-- the number is that of a held carrier that fits, and no carrier that fits comes before it
+abbrev pub IsFirstOf : (Held → Held → Bool) → ℕ → List Held → ℕ → Type 0
+IsFirstOf before need hs number = Any (IsAhead before need hs number) hs
+
+-- no two carriers are the same, there is room for them, and memory for the room
+pub record IsKept (room capacity : ℕ) (hs : List Held) : Type 0 where
+  pub apart : AllPairs IsOther hs
+  pub within : length hs ≤ room
+  pub reserved : room ≤ capacity

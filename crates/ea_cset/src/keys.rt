@@ -1,0 +1,21 @@
+//! What a set knows of a carrier.
+
+/// What tells a carrier from the others, and stays the same while it is employed.
+#[derive(Debug, Clone, Copy, PartialEq, Eq)]
+pub struct CarrierKey {
+    /// Its number.
+    pub number: u32,
+    /// The first page of its segment.
+    pub base: u32,
+    /// How many carriers its creator had created with it.
+    pub birth: u32,
+}
+
+/// A carrier of a set, as its contracts see it.
+#[derive(Debug, Clone, Copy, PartialEq, Eq)]
+pub struct Held {
+    /// What tells it from the others.
+    pub key: CarrierKey,
+    /// The units of its largest gap.
+    pub fit: u32,
+}

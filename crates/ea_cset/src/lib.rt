@@ -1,0 +1,12 @@
+//! The set of the carriers that an allocator instance employs. A strategy finds in it the first carrier
+//! whose largest gap is great enough.
+#![tactic(auto)]
+
+pub mod keys;
+pub mod set;
+#[cfg(test)]
+mod tests;
+mod walks;
+
+pub use keys::{CarrierKey, Held};
+pub use set::CarrierSet;

@@ -1,0 +1,119 @@
+//! The set and its calls.
+ghost use Rattle.std.specs.Prelude.{◌≡◌, ◌≢◌, ℕ, ◌<◌, ◌↔◌, [], ◌==◌, if◌then◌else◌, All, AllPairs, Some, None, IsTrue, IsNone, IfSome, IfOk, length, option_map};
+ghost use Rattle.ea_cset.specs.Carriers.{is_held, carrier_of, entered, without, with_fit, refitted, lower, older, first_number, IsOther, IsFirstOf};
+
+use crate::keys::{CarrierKey, Held};
+use crate::walks::{has_carrier, lowest, oldest, place_of};
+use ea_model::OutOfMemory;
+use std::alloc::Global;
+use std::marker::Model;
+
+/// A set of carriers, of which no two have the same number or the same base. Contracts see it as its
+/// carriers in the order in which they were added, and how many carriers it has room for.
+#[derive(Drop)]
+pub struct CarrierSet {
+    room: u32,
+    held: Vec<Held>,
+}
+
+impl Model for CarrierSet {
+    ghost use Rattle.std.specs.Prelude.{vec_capacity};
+    ghost use Rattle.ea_cset.specs.Carriers.{Carriers, IsKept};
+
+    ghost Value = { Carriers };
+
+    ghost view = { λ s. record { held = s.held.items; room = s.room } };
+
+    ghost invariant = { λ s. IsKept s.room (vec_capacity s.held) s.held.items };
+}
+
+impl CarrierSet {
+    /// An empty set with room for `room` carriers. It reserves the memory that later calls need.
+    pub fn new(alloc: Global, room: u32) -> Result<CarrierSet, OutOfMemory>
+        ensures { IfOk result (λ s. s ≡ record { held = []; room = room }) }
+    {
+        match Vec::with_capacity(alloc, room as usize) {
+            Ok(held) => Ok(CarrierSet { room, held }),
+            Err(_) => Err(OutOfMemory),
+        }
+    }
+
+    /// Whether the carrier with the number is in the set.
+    pub fn holds(&self, number: u32) -> bool
+        ensures { result ≡ is_held number self.now.held }
+    {
+        has_carrier(number, &self.held)
+    }
+
+    /// Adds a carrier whose largest gap has `fit` units.
+    pub fn add(&mut self, key: CarrierKey, fit: u32)
+        requires room { length self.old.held < self.old.room }
+        requires number { All (λ h. h.key.number ≢ key.number) self.old.held }
+        requires base { All (λ h. h.key.base ≢ key.base) self.old.held }
+        ensures added { self.new ≡ record self.old { held = entered key fit self.old.held } }
+        ensures apart { AllPairs IsOther self.new.held }
+
+        // The carrier is found by its number now, and the others are as before.
+        ensures carriers { (n : ℕ) → carrier_of self.new.held n ≡ (if n == key.number then Some (record { key = key; fit = fit }) else carrier_of self.old.held n) }
+    {
+        let end = self.held.len();
+        match self.held.insert(end, Held { key, fit }) {
+            Ok(()) => (),
+            Err(_) => unreachable!(),
+        }
+    }
+
+    /// Takes the carrier with the number out of the set.
+    pub fn remove(&mut self, number: u32)
+        requires { IsTrue (is_held number self.old.held) }
+        ensures removed { self.new ≡ record self.old { held = without number self.old.held } }
+        ensures apart { AllPairs IsOther self.new.held }
+
+        // The number is free now, and the other carriers are as before.
+        ensures carriers { (n : ℕ) → carrier_of self.new.held n ≡ (if n == number then None else carrier_of self.old.held n) }
+    {
+        let place = place_of(number, &self.held);
+        self.held.remove(place);
+    }
+
+    /// Notes that the largest gap of the carrier with the number now has `fit` units.
+    pub fn update(&mut self, number: u32, fit: u32)
+        requires { IsTrue (is_held number self.old.held) }
+        ensures updated { self.new ≡ record self.old { held = refitted number fit self.old.held } }
+        ensures apart { AllPairs IsOther self.new.held }
+
+        // The carrier keeps its key, and the others are as before.
+        ensures carriers { (n : ℕ) → carrier_of self.new.held n ≡ option_map (with_fit number fit) (carrier_of self.old.held n) }
+    {
+        let place = place_of(number, &self.held);
+        self.held[place].fit = fit;
+    }
+
+    /// The number of the carrier of the lowest base whose largest gap has at least `need` units, or None
+    /// where no carrier's has so many.
+    pub fn first_by_address(&self, need: u32) -> Option<u32>
+        ensures found { result ≡ first_number lower need self.now.held }
+        ensures none { IsNone result ↔ All (λ h. h.fit < need) self.now.held }
+
+        // The carrier found is one that fits, and none that fits comes before it.
+        ensures first { IfSome result (IsFirstOf lower need self.now.held) }
+        ensures held { IfSome result (λ number. IsTrue (is_held number self.now.held)) }
+        ensures apart { AllPairs IsOther self.now.held }
+    {
+        lowest(need, &self.held)
+    }
+
+    /// The number of the oldest carrier whose largest gap has at least `need` units, or None where no
+    /// carrier's has so many. The oldest is the one of the least birth, among equals of the least number.
+    pub fn first_by_age(&self, need: u32) -> Option<u32>
+        ensures found { result ≡ first_number older need self.now.held }
+        ensures none { IsNone result ↔ All (λ h. h.fit < need) self.now.held }
+
+        // The carrier found is one that fits, and none that fits comes before it.
+        ensures first { IfSome result (IsFirstOf older need self.now.held) }
+        ensures held { IfSome result (λ number. IsTrue (is_held number self.now.held)) }
+        ensures apart { AllPairs IsOther self.now.held }
+    {
+        oldest(need, &self.held)
+    }
+}

@@ -1,0 +1,80 @@
+//! Worked examples.
+ghost use Rattle.std.specs.Prelude.{◌≡◌, [], ◌∷◌, IfOk};
+
+use crate::{CarrierKey, CarrierSet};
+use ea_model::OutOfMemory;
+use std::alloc::Global;
+use std::test::Fail;
+
+fn key(number: u32, base: u32, birth: u32) -> CarrierKey
+    ensures { result ≡ record { number = number; base = base; birth = birth } }
+{
+    CarrierKey {
+        number,
+        base,
+        birth,
+    }
+}
+
+/// Four carriers, whose order by number is neither that by base nor that by age.
+fn four(alloc: Global) -> Result<CarrierSet, OutOfMemory>
+    ensures { IfOk result (λ s. s.held ≡ record { key = record { number = 1; base = 300; birth = 9 }; fit = 40 } ∷ record { key = record { number = 5; base = 100; birth = 7 }; fit = 20 } ∷ record { key = record { number = 258; base = 900; birth = 2 }; fit = 60 } ∷ record { key = record { number = 3; base = 0; birth = 2 }; fit = 10 } ∷ []) }
+{
+    let mut set = CarrierSet::new(alloc, 4)?;
+    set.add(key(1, 300, 9), 40);
+    set.add(key(5, 100, 7), 20);
+    set.add(key(258, 900, 2), 60);
+    set.add(key(3, 0, 2), 10);
+    Ok(set)
+}
+
+#[test]
+fn an_order_finds_its_first_carrier_that_fits(rt: HostRuntime) -> Result<(), Fail> {
+    let set = four(rt.alloc())?;
+    for (need, by_address, by_age) in [
+        (0, Some(3), Some(3)),
+        (10, Some(3), Some(3)),
+        (11, Some(5), Some(258)),
+        (20, Some(5), Some(258)),
+        (21, Some(1), Some(258)),
+        (41, Some(258), Some(258)),
+        (60, Some(258), Some(258)),
+        (61, None, None),
+    ] {
+        assert_eq!(rt; set.first_by_address(need), by_address);
+        assert_eq!(rt; set.first_by_age(need), by_age);
+    }
+    Ok(())
+}
+
+#[test]
+fn an_empty_set_finds_none(rt: HostRuntime) -> Result<(), Fail> {
+    let set = CarrierSet::new(rt.alloc(), 250)?;
+    assert_eq!(rt; set.first_by_address(0), None);
+    assert_eq!(rt; set.first_by_age(0), None);
+    assert!(rt; !set.holds(0));
+    Ok(())
+}
+
+#[test]
+fn a_changed_fit_and_a_removed_carrier_count(rt: HostRuntime) -> Result<(), Fail> {
+    let mut set = four(rt.alloc())?;
+    set.update(3, 50);
+    assert_eq!(rt; set.first_by_address(50), Some(3));
+    assert_eq!(rt; set.first_by_age(50), Some(3));
+    set.update(258, 8);
+    assert_eq!(rt; set.first_by_age(51), None);
+
+    set.remove(3);
+    assert!(rt; !set.holds(3));
+    assert!(rt; set.holds(258));
+    assert_eq!(rt; set.first_by_address(0), Some(5));
+    assert_eq!(rt; set.first_by_age(8), Some(258));
+    assert_eq!(rt; set.first_by_age(9), Some(5));
+
+    // The number and the base are free again, and so is the room.
+    set.add(key(3, 0, 11), 90);
+    assert_eq!(rt; set.first_by_age(41), Some(3));
+    assert_eq!(rt; set.first_by_age(40), Some(1));
+    Ok(())
+}
