@@ -1,5 +1,5 @@
 //! The set and its calls.
-ghost use Rattle.std.specs.Prelude.{◌≡◌, ◌≢◌, ℕ, ◌<◌, ◌↔◌, [], ◌==◌, if◌then◌else◌, All, AllPairs, Some, None, IsTrue, IsNone, IfSome, IfOk, length, option_map};
+ghost use Rattle.std.specs.Prelude.{◌≡◌, ◌≢◌, ℕ, ◌+◌, ◌<◌, ◌↔◌, [], ◌==◌, if◌then◌else◌, All, AllPairs, Some, None, IsTrue, IsNone, IfSome, IfOk, length, option_map};
 ghost use Rattle.ea_cset.specs.Carriers.{is_held, carrier_of, entered, without, with_fit, refitted, lower, older, first_number, IsOther, IsFirstOf};
 
 use crate::keys::{CarrierKey, Held};
@@ -51,6 +51,7 @@ impl CarrierSet {
         requires number { All (λ h. h.key.number ≢ key.number) self.old.held }
         requires base { All (λ h. h.key.base ≢ key.base) self.old.held }
         ensures added { self.new ≡ record self.old { held = entered key fit self.old.held } }
+        ensures count { length self.new.held ≡ length self.old.held + 1 }
         ensures apart { AllPairs IsOther self.new.held }
 
         // The carrier is found by its number now, and the others are as before.
@@ -67,6 +68,7 @@ impl CarrierSet {
     pub fn remove(&mut self, number: u32)
         requires { IsTrue (is_held number self.old.held) }
         ensures removed { self.new ≡ record self.old { held = without number self.old.held } }
+        ensures count { length self.new.held + 1 ≡ length self.old.held }
         ensures apart { AllPairs IsOther self.new.held }
 
         // The number is free now, and the other carriers are as before.
@@ -80,6 +82,7 @@ impl CarrierSet {
     pub fn update(&mut self, number: u32, fit: u32)
         requires { IsTrue (is_held number self.old.held) }
         ensures updated { self.new ≡ record self.old { held = refitted number fit self.old.held } }
+        ensures count { length self.new.held ≡ length self.old.held }
         ensures apart { AllPairs IsOther self.new.held }
 
         // The carrier keeps its key, and the others are as before.
