@@ -222,7 +222,3 @@ pub better_of-either : {A : Type 0} (P : A → Type 0) (t : A → A → Bool) (a
 better_of-either P t a None p q = p
 better_of-either P t None (Some y) p q = q
 better_of-either P t (Some x) (Some y) p q = cond_both (t y x) y x P (λ _. q) (λ _. p)
-
-pub IfSome-weaker : {A : Type 0} (o : Option A) (P Q : A → Type 0) → ((x : A) → P x → Q x) → IfSome o P → IfSome o Q
-IfSome-weaker None P Q f h = tt
-IfSome-weaker (Some x) P Q f h = f x h

@@ -11,6 +11,7 @@ use Rattle.ea_model.specs.declared.carriers.Kind.TheVariants.{Multi}
 use Rattle.ea_model.specs.Content.{Content}
 use Rattle.ea_model.specs.Region.{Region, Laid, lowest_run, runs, entered, cut_from}
 use Rattle.ea_model.specs.Instance.{Instance, segments, segment_of, first_number, changed, content_of, with_content, unused_from, is_used, free_run, least_pages, next_pages, planned, least_plan, sized_plan, numbered_plan, plan, created_content, creating, without_content, chosen_spot, block_in}
+use Rattle.ea_model.proofs.Options.{some_holds}
 use Rattle.ea_space.specs.Pages.{IsApart}
 use Rattle.ea_instance.specs.Kept.{IsKept, IsWhole, Rising}
 use Rattle.ea_instance.specs.Found.{IsGapOf, HasGap, HaveSameBlocks}
@@ -105,9 +106,6 @@ pages_of_units n = omega arith
 pub whole_pages : (n : ℕ) → 512 * n % 512 ≡ 0
 whole_pages n = omega arith
 
-at_some : {A : Type 0} (o : Option A) (x : A) (P : A → Type 0) → o ≡ Some x → IfSome o P → P x
-at_some o x P e h = subst (λ r. IfSome r P) e h
-
 -- the contents with the carrier of a plan
 module _ (s : Settings) (n : ℕ) (cs : List Content) (created : ℕ) (r : Region) (need : ℕ) (p : CarrierPlan) (k : IsKept s n cs r) (now : Instance) (seen : seen_as s n cs created r ≡ now) (asked : plan now need ≡ Ok p) where
   planned_here : IsPlanned (seen_as s n cs created r) need p
@@ -134,8 +132,8 @@ module _ (s : Settings) (n : ℕ) (cs : List Content) (created : ℕ) (r : Regio
       → IfSome o (λ start. r2 ≡ record r { taken = entered (record { start = start; pages = p.pages }) r.taken }) → Laid r2.first r2.end r2.taken → x ≡ created_content n Multi p → new ≡ with_content x cs → IsKept s n new r2
   IsKept-created o r2 x new found apart took laid is same =
       let at = taken_at o found in
-      let e = at_some o p.base (λ start. r2 ≡ record r { taken = entered (record { start = start; pages = p.pages }) r.taken }) at took in
-      let free = at_some o p.base (λ start. IsApart start p.pages r.taken) at apart in
+      let e = some_holds o p.base (λ start. r2 ≡ record r { taken = entered (record { start = start; pages = p.pages }) r.taken }) at took in
+      let free = some_holds o p.base (λ start. IsApart start p.pages r.taken) at apart in
       let entered_is : new ≡ with_content (created_content n Multi p) cs = same ∙ ap (λ y. with_content y cs) is in
       subst (λ ys. IsKept s n ys r2) (sym entered_is) (record {
         valid = k.valid;
@@ -152,7 +150,7 @@ module _ (s : Settings) (n : ℕ) (cs : List Content) (created : ℕ) (r : Regio
   pub seen-created : (o : Option ℕ) (r2 : Region) (x : Content) (new : List Content) → o ≡ lowest_run p.pages (runs r.first r.end r.taken)
       → IfSome o (λ start. r2 ≡ record r { taken = entered (record { start = start; pages = p.pages }) r.taken }) → x ≡ created_content n Multi p → new ≡ with_content x cs → seen_as s n new p.birth r2 ≡ creating now p
   seen-created o r2 x new found took is same =
-      let e = at_some o p.base (λ start. r2 ≡ record r { taken = entered (record { start = start; pages = p.pages }) r.taken }) (taken_at o found) took in
+      let e = some_holds o p.base (λ start. r2 ≡ record r { taken = entered (record { start = start; pages = p.pages }) r.taken }) (taken_at o found) took in
       ap (λ ys. seen_as s n ys p.birth r2) (same ∙ ap (λ y. with_content y cs) is) ∙ ap (seen_as s n (with_content (created_content n Multi p) cs) p.birth) e ∙ ap (λ i. creating i p) seen
 
   pub chosen-planned : IsSome (chosen_spot (creating now p) need)

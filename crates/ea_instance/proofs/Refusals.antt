@@ -1,7 +1,7 @@
 -- Why there is no choice, and why there is no plan.
 use Rattle.std.proofs.Common.{◌≡◌, ◌≢◌, ℕ, zero, suc, ◌+◌, ◌<◌, ◌≤◌, ◌↔◌, true, List, [], ◌∷◌, All, sym, ◌∙◌, ap, subst, refl, inl, inr, arith}
 use Rattle.std.specs.Prelude.{Option, Some, None, IsNone, Err, option_map}
-use Rattle.std.proofs.lemmas.Bool.{cases_Bool, cases_lt, cases_eq}
+use Rattle.std.proofs.lemmas.Bool.{cases_Bool, cases_eq}
 use Rattle.std.proofs.lemmas.List.Elements.{All-nil, All-cons, All-head, All-tail}
 use Rattle.ea_model.specs.declared.carriers.Candidate.{Candidate}
 use Rattle.ea_model.specs.declared.carriers.Segment.{Segment}
@@ -11,41 +11,17 @@ use Rattle.ea_model.specs.Content.{Content}
 use Rattle.ea_model.specs.Region.{runs}
 use Rattle.ea_model.specs.Instance.{Instance, chosen_spot, unused_from, is_used, first_number, plan, numbered_plan, sized_plan, least_plan, free_run, next_pages, least_pages, segments}
 use Rattle.ea_model.specs.Strategies.{candidates, choice_among, large_enough, takes_first, spot_of}
-use Rattle.ea_mbc.proofs.Chosen.{first-none}
+use Rattle.ea_model.proofs.First.{first-none, large-none, none-large}
+use Rattle.ea_model.proofs.Options.{mapped, unmapped}
 use Rattle.ea_space.proofs.Runs.{lowest-none}
 use Rattle.ea_instance.specs.Found.{AllUsed}
 use Rattle.ea_instance.proofs.Unused.{unused_from-zero, unused_from-used, unused_from-free_here}
 
-large-past : (need : ℕ) (x : Candidate) (xs : List Candidate) → x.size < need → large_enough need (x ∷ xs) ≡ large_enough need xs
-large-past need x xs h = grind arith
-
-large-tail : (need : ℕ) (x : Candidate) (xs : List Candidate) → large_enough need (x ∷ xs) ≡ [] → (x.size < need) × (large_enough need xs ≡ [])
-large-tail need x xs h = elim (cases_lt x.size need) [ inl lt ↦ (lt, sym (large-past need x xs lt) ∙ h) | inr le ↦ absurd (grind arith) ]
-
-large-none : (need : ℕ) (xs : List Candidate) → All (λ x. x.size < need) xs → large_enough need xs ≡ []
-large-none need [] h = refl
-large-none need (x ∷ xs) h =
-    large-past need x xs (All-head (λ (y : Candidate). y.size < need) x xs h) ∙ large-none need xs (All-tail (λ (y : Candidate). y.size < need) x xs h)
-
-none-large : (need : ℕ) (xs : List Candidate) → large_enough need xs ≡ [] → All (λ x. x.size < need) xs
-none-large need [] h = All-nil (λ (y : Candidate). y.size < need)
-none-large need (x ∷ xs) h =
-    let both = large-tail need x xs h in
-    All-cons (λ (y : Candidate). y.size < need) x xs both.0 (none-large need xs both.1)
-
-unmapped : {A B : Type 0} (f : A → B) (o : Option A) → IsNone (option_map f o) → IsNone o
-unmapped f None h = h
-unmapped f (Some x) h = h
-
-mapped : {A B : Type 0} (f : A → B) (o : Option A) → IsNone o → IsNone (option_map f o)
-mapped f None h = h
-mapped f (Some x) h = h
-
 -- there is no choice exactly where no gap is large enough
 pub chosen-none : {B : Type 0} (f : _ → B) (i : Instance) (need : ℕ) → IsNone (option_map f (chosen_spot i need)) ↔ All (λ x. x.size < need) (candidates i.contents)
 chosen-none f i need = (
-  λ h. none-large need (candidates i.contents) (first-none (takes_first i.settings.strategy) (large_enough need (candidates i.contents)) (unmapped spot_of (choice_among i.settings.strategy need i.contents) (unmapped f (chosen_spot i need) h))),
-  λ h. mapped f (chosen_spot i need) (mapped spot_of (choice_among i.settings.strategy need i.contents) (subst (λ xs. IsNone (first (takes_first i.settings.strategy) xs)) (sym (large-none need (candidates i.contents) h)) refl)),
+  λ h. none-large (λ (x : Candidate). x.size) need (candidates i.contents) (first-none (takes_first i.settings.strategy) (large_enough need (candidates i.contents)) (unmapped spot_of (choice_among i.settings.strategy need i.contents) (unmapped f (chosen_spot i need) h))),
+  λ h. mapped f (chosen_spot i need) (mapped spot_of (choice_among i.settings.strategy need i.contents) (subst (λ xs. IsNone (first (takes_first i.settings.strategy) xs)) (sym (large-none (λ (x : Candidate). x.size) need (candidates i.contents) h)) refl)),
 )
 
 -- all of so many numbers are in use exactly where none is found

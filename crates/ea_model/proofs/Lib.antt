@@ -1,2 +1,4 @@
+pub mod First
 pub mod Numbers
+pub mod Options
 pub mod Splits

@@ -1,10 +1,11 @@
 -- The lowest run that is long enough.
 use Rattle.std.proofs.Common.{◌≡◌, ℕ, ◌+◌, ◌-◌, ◌<◌, ◌≤◌, ◌↔◌, List, [], ◌∷◌, ◌++◌, sym, subst, refl, inl, inr, ◌⊎◌, arith}
-use Rattle.std.specs.Prelude.{Option, Some, None, IfSome, IsNone, All}
+use Rattle.std.specs.Prelude.{Some, None, IfSome, IsNone, All}
 use Rattle.std.proofs.lemmas.Bool.{cases_lt}
 use Rattle.std.proofs.lemmas.List.Elements.{All-nil, All-cons, All-head, All-tail}
 use Rattle.ea_model.specs.declared.carriers.Segment.{Segment}
 use Rattle.ea_model.specs.Region.{stretch, runs, lowest_run, Laid}
+use Rattle.ea_model.proofs.Options.{if_some}
 use Rattle.ea_space.specs.Pages.{IsBeside, IsApart}
 use Rattle.ea_space.proofs.Segments.{Laid-end}
 
@@ -26,10 +27,6 @@ apart_before : (at end start pages : ℕ) (ss : List Segment) → Laid at end ss
 apart_before at end start pages [] t h = All-nil (IsBeside start pages)
 apart_before at end start pages (s ∷ ss) t h =
     All-cons (IsBeside start pages) s ss (inr (omega (arith, t.0))) (apart_before (s.start + s.pages) end start pages ss t.2 (omega (arith, t.0)))
-
-pub if_some : {A : Type 0} (r : Option A) (P Q : A → Type 0) → ((x : A) → P x → Q x) → IfSome r P → IfSome r Q
-if_some None P Q f h = tt
-if_some (Some x) P Q f h = f x h
 
 pub lowest-Fits : (at end pages : ℕ) (ss : List Segment) → Laid at end ss → IfSome (lowest_run pages (runs at end ss)) (λ start. Fits at end start pages ss)
 lowest-Fits at end pages [] t =

@@ -125,10 +125,6 @@ tidied-keeps i number (Some c) = elim (cases_Bool (is_done c)) [ inl d ↦ rw d 
 pub freed_at-keeps : (i : Instance) (spot : Spot) → ((freed_at i spot).settings ≡ i.settings) × ((freed_at i spot).created ≡ i.created)
 freed_at-keeps i spot = tidied-keeps (releasing_at i spot) spot.carrier (content_of (releasing_at i spot).contents spot.carrier)
 
--- what holds of what is there
-pub some_holds : {A : Type 0} (o : Option A) (x : A) (P : A → Type 0) → o ≡ Some x → IfSome o P → P x
-some_holds o x P e h = subst (λ r. IfSome r P) e h
-
 -- the answer of a placement, by the chosen spot
 pub placed-chosen : (i new : Instance) (o : Option Spot) (need name : ℕ) (p : Place) → chosen_spot i need ≡ o → option_map (λ spot. place_at i spot need) o ≡ Some p → new ≡ placing_if i o need name → IsChosenPlace i new need name p
 placed-chosen i new None need name p e f g = absurd cc

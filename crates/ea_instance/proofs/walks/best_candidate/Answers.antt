@@ -6,7 +6,8 @@ use Rattle.ea_model.specs.Strategies.{candidate, candidates, large_enough, takes
 use Rattle.ea_model.specs.Strategies as strategies
 use Rattle.ea_instance.specs.Found.{IsGapOf}
 use Rattle.ea_instance.specs.Better.{better_of}
-use Rattle.ea_instance.proofs.Folding.{choice_more, better_of-either, IfSome-weaker}
+use Rattle.ea_model.proofs.Options.{if_some}
+use Rattle.ea_instance.proofs.Folding.{choice_more, better_of-either}
 use Rattle.ea_instance.proofs.walks.best_candidate.Goals as goal
 
 pub loop-carrier-preserved : goal.loop-carrier-preserved
@@ -26,5 +27,5 @@ loop-carrier-preserved c =
       fits =
           subst (λ best. IfSome best (λ x. Any (IsGapOf c.args.need x) c.args.carriers.now)) (sym c.better_of-best.ensures)
           (better_of-either (λ x. Any (IsGapOf c.args.need x) c.args.carriers.now) (takes_first c.args.strategy) c.loop-carrier.best c.candidate.result c.loop-carrier.invariant.fits
-          (IfSome-weaker c.candidate.result (λ x. IsGapOf c.args.need x item) (λ x. Any (IsGapOf c.args.need x) c.args.carriers.now) (λ x gap. (c.loop-carrier.carrier-index, item, c.loop-carrier-test.true, sym c.carrier-item.is, gap)) c.candidate.ensures.gap));
+          (if_some c.candidate.result (λ x. IsGapOf c.args.need x item) (λ x. Any (IsGapOf c.args.need x) c.args.carriers.now) (λ x gap. (c.loop-carrier.carrier-index, item, c.loop-carrier-test.true, sym c.carrier-item.is, gap)) c.candidate.ensures.gap));
     }

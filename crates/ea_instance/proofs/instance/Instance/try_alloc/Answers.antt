@@ -5,7 +5,7 @@ use Rattle.ea_model.specs.declared.carriers.Place.{Place}
 use Rattle.ea_model.specs.declared.carriers.Candidate.{Candidate}
 use Rattle.ea_model.specs.Instance.{chosen_spot, place_at}
 use Rattle.ea_model.specs.Strategies.{candidates, large_enough, takes_first}
-use Rattle.ea_mbc.proofs.Least.{first-IsFirst}
+use Rattle.ea_model.proofs.First.{first-IsFirst}
 use Rattle.ea_instance.proofs.Folding.{takes_first-order}
 use Rattle.ea_instance.proofs.Refusals.{chosen-none}
 use Rattle.ea_instance.proofs.instance.Instance.try_alloc.Goals as goal

@@ -3,7 +3,8 @@ use Rattle.std.specs.Prelude.{IfSome, IsNone, option_map}
 use Rattle.std.proofs.lemmas.Grind.{common_steps}
 use Rattle.ea_model.specs.Content.{gaps_of, gap_at}
 use Rattle.ea_model.specs.Choice.{choice}
-use Rattle.ea_mbc.proofs.Chosen.{choice-fits, choice-sized, choice-none, IfSome-map}
+use Rattle.ea_model.proofs.Options.{some_map}
+use Rattle.ea_mbc.proofs.Chosen.{choice-fits, choice-sized, choice-none}
 use Rattle.ea_mbc.proofs.Least.{choice-IsFirst}
 use Rattle.ea_mbc.proofs.carrier.Mbc.choose.Goals as goal
 
@@ -19,7 +20,7 @@ returns-clause-fits c =
     let inside = choice-fits c.args.inner c.args.need 8 c.self.inside.units c.self.inside.blocks.items c.self.invariant in
     let fits = subst (λ m. IfSome (choice c.args.inner c.args.need (gaps_of m)) (λ g. c.args.need ≤ gap_at (gaps_of m) g.offset)) c.self.view_is inside in
     subst (λ r. IfSome r (λ offset. c.args.need ≤ gap_at (gaps_of c.args.self.now) offset)) (sym (chosen c))
-    (IfSome-map (λ g. g.offset) (λ offset. c.args.need ≤ gap_at (gaps_of c.args.self.now) offset) (choice c.args.inner c.args.need (gaps_of c.args.self.now)) fits)
+    (some_map (λ g. g.offset) (λ offset. c.args.need ≤ gap_at (gaps_of c.args.self.now) offset) (choice c.args.inner c.args.need (gaps_of c.args.self.now)) fits)
 
 pub returns-clause-first : goal.returns-clause-first
 returns-clause-first c = choice-IsFirst c.args.inner c.args.need (gaps_of c.args.self.now)

@@ -3,7 +3,8 @@ use Rattle.std.specs.Prelude.{IfSome, IsNone}
 use Rattle.std.proofs.lemmas.Grind.{common_steps}
 use Rattle.ea_model.specs.Region.{runs_of, lowest_run, Laid}
 use Rattle.ea_space.specs.Pages.{IsApart}
-use Rattle.ea_space.proofs.Runs.{Fits, if_some, lowest-Fits, lowest-none}
+use Rattle.ea_model.proofs.Options.{if_some}
+use Rattle.ea_space.proofs.Runs.{Fits, lowest-Fits, lowest-none}
 use Rattle.ea_space.proofs.region.Region.find.Goals as goal
 
 -- the answer is the start of the lowest run

@@ -9,7 +9,8 @@ use Rattle.ea_instance.specs.Found.{IsPlaced}
 use Rattle.ea_top.specs.declared.scheduler.Scheduler.{Scheduler}
 use Rattle.ea_top.specs.Holding.{HoldsBlocks}
 use Rattle.ea_top.specs.Running.{Shows, IsChosenPlace, spot_at}
-use Rattle.ea_top.proofs.Steps.{holds_placed, some_holds, placed-chosen, unplaced, shows_here, shows_new}
+use Rattle.ea_model.proofs.Options.{some_holds}
+use Rattle.ea_top.proofs.Steps.{holds_placed, placed-chosen, unplaced, shows_here, shows_new}
 use Rattle.ea_top.proofs.scheduler.Scheduler.alloc.Goals as goal
 
 pub hold-requires-clause-blocks : goal.hold-requires-clause-blocks
