@@ -50,6 +50,21 @@ gap_at gs offset = option_map_or (λ g. g.size) (find (λ g. g.offset == offset)
 abbrev pub block_at : List BlockAt → ℕ → Option BlockAt
 block_at bs offset = find (λ b. b.offset == offset) bs
 
+-- where the block that begins at the offset ends
+abbrev pub end_of : List BlockAt → ℕ → ℕ
+end_of bs offset = option_map_or (λ b. b.offset + b.size) (block_at bs offset) 0
+
+-- the units of the gap that ends at the offset, or 0
+abbrev pub gap_up_to : List Gap → ℕ → ℕ
+gap_up_to gs offset = option_map_or (λ g. g.size) (find (λ g. (g.offset + g.size) == offset) gs) 0
+
+-- the units of the gap directly before the block at the offset, and of the one directly behind it, or 0
+abbrev pub gap_before : Content → ℕ → ℕ
+gap_before c offset = gap_up_to (gaps_of c) offset
+
+abbrev pub gap_behind : Content → ℕ → ℕ
+gap_behind c offset = gap_at (gaps_of c) (end_of c.blocks offset)
+
 -- a block's name and its units
 abbrev pub named : BlockAt → Block
 named b = record { name = b.name; size = b.size }

@@ -1,6 +1,7 @@
 -- The flags that are built so far, and what they set.
-use Rattle.std.specs.Prelude.{ℕ, ◌+◌, ◌*◌, ◌/◌, Bool, true, false, if◌then◌else◌, nat_lt, List, [], ◌∷◌, Option, Some, None, Result, Ok, Err, codes, bytes_eq}
-use Rattle.ea_model.specs.declared.settings.Strategy.TheVariants.{AoffCbf}
+use Rattle.std.specs.Prelude.{ℕ, ◌+◌, ◌*◌, ◌/◌, Bool, true, false, if◌then◌else◌, nat_lt, List, [], ◌∷◌, Option, Some, None, Result, Ok, Err, codes, bytes_eq, option_map}
+use Rattle.ea_model.specs.declared.settings.Strategy.{Strategy}
+use Rattle.ea_model.specs.declared.settings.Strategy.TheVariants.{Bf, Aobf, Aoff, AoffCbf, AoffCaobf, AgeffCaoff, AgeffCbf, AgeffCaobf}
 use Rattle.ea_model.specs.declared.settings.Settings.{Settings}
 use Rattle.ea_model.specs.declared.settings.Config.{Config}
 use Rattle.ea_model.specs.Words.{number}
@@ -10,6 +11,9 @@ use Rattle.ea_model.specs.Instance.{pages_for}
 pub data Setting : Type 0 where
   SuperCarrier : (megabytes : ℕ) → Setting
   MainCarrier : (kilobytes : ℕ) → Setting
+  LargestCarrier : (kilobytes : ℕ) → Setting
+  SearchDepth : (gaps : ℕ) → Setting
+  Placement : (strategy : Strategy) → Setting
   NoMigration : Setting
 
 -- why words are refused: the first word that is wrong at its place, or a main carrier larger than the region
@@ -17,41 +21,62 @@ pub data Refusal : Type 0 where
   Unsupported : (word : ℕ) → Refusal
   TooSmall : Refusal
 
-abbrev pub super_carrier : Option ℕ → Option Setting
-super_carrier None = None
-super_carrier (Some n) = Some (SuperCarrier n)
-
-abbrev pub main_carrier : Option ℕ → Option Setting
-main_carrier None = None
-main_carrier (Some n) = Some (MainCarrier n)
+-- the strategy of this name
+abbrev pub strategy_named : List ℕ → Option Strategy
+strategy_named name =
+    if bytes_eq name (codes "bf") then Some Bf
+    else if bytes_eq name (codes "aobf") then Some Aobf
+    else if bytes_eq name (codes "aoff") then Some Aoff
+    else if bytes_eq name (codes "aoffcbf") then Some AoffCbf
+    else if bytes_eq name (codes "aoffcaobf") then Some AoffCaobf
+    else if bytes_eq name (codes "ageffcaoff") then Some AgeffCaoff
+    else if bytes_eq name (codes "ageffcbf") then Some AgeffCbf
+    else if bytes_eq name (codes "ageffcaobf") then Some AgeffCaobf
+    else None
 
 abbrev pub no_migration : List ℕ → Option Setting
 no_migration value = if bytes_eq value (codes "0") then Some NoMigration else None
 
 abbrev pub is_flag : List ℕ → Bool
-is_flag word = if bytes_eq word (codes "+MMscs") then true else (if bytes_eq word (codes "+MHmmbcs") then true else bytes_eq word (codes "+MHacul"))
+is_flag word =
+    if bytes_eq word (codes "+MMscs") then true
+    else if bytes_eq word (codes "+MHmmbcs") then true
+    else if bytes_eq word (codes "+MHlmbcs") then true
+    else if bytes_eq word (codes "+MHmbsd") then true
+    else if bytes_eq word (codes "+MHas") then true
+    else bytes_eq word (codes "+MHacul")
 
 -- what a flag with this value sets, if the value is one of its own
 abbrev pub setting : List ℕ → List ℕ → Option Setting
 setting flag value =
-    if bytes_eq flag (codes "+MMscs") then super_carrier (number 1 512 value) else (
-    if bytes_eq flag (codes "+MHmmbcs") then main_carrier (number 0 524288 value) else no_migration value)
+    if bytes_eq flag (codes "+MMscs") then option_map (λ n. SuperCarrier n) (number 1 512 value)
+    else if bytes_eq flag (codes "+MHmmbcs") then option_map (λ n. MainCarrier n) (number 0 524288 value)
+    else if bytes_eq flag (codes "+MHlmbcs") then option_map (λ n. LargestCarrier n) (number 1 524288 value)
+    else if bytes_eq flag (codes "+MHmbsd") then option_map (λ n. SearchDepth n) (number 1 1000 value)
+    else if bytes_eq flag (codes "+MHas") then option_map (λ s. Placement s) (strategy_named value)
+    else no_migration value
 
--- what has been set: the super carrier in megabytes, the main carrier in kilobytes, and whether migration was turned off
+-- what has been set: the super carrier in megabytes, the main and the largest carrier in kilobytes, the gaps of a bin that good fit inspects, the strategy, and whether migration was turned off
 pub record Chosen : Type 0 where
-  pub megabytes : ℕ
-  pub kilobytes : ℕ
+  pub super_carrier : ℕ
+  pub main_carrier : ℕ
+  pub largest_carrier : ℕ
+  pub search_depth : ℕ
+  pub strategy : Strategy
   pub off : Bool
 
 -- of two settings of one flag the later one holds
 abbrev pub set_by : Chosen → Setting → Chosen
-set_by c (SuperCarrier n) = record c { megabytes = n }
-set_by c (MainCarrier n) = record c { kilobytes = n }
+set_by c (SuperCarrier n) = record c { super_carrier = n }
+set_by c (MainCarrier n) = record c { main_carrier = n }
+set_by c (LargestCarrier n) = record c { largest_carrier = n }
+set_by c (SearchDepth n) = record c { search_depth = n }
+set_by c (Placement s) = record c { strategy = s }
 set_by c NoMigration = record c { off = true }
 
--- a super carrier of 64 megabytes and no main carrier, where no flag says otherwise
+-- where no flag says otherwise
 abbrev pub defaults : Chosen
-defaults = record { megabytes = 64; kilobytes = 0; off = false }
+defaults = record { super_carrier = 64; main_carrier = 0; largest_carrier = 5120; search_depth = 3; strategy = AoffCbf; off = false }
 
 -- what is read behind so many words: at the end migration has to be off
 abbrev pub at_last : ℕ → Chosen → Result Chosen Refusal
@@ -74,11 +99,11 @@ default_settings = record { strategy = AoffCbf; acul = 60; acfml = 0; sbct = 655
 abbrev pub config_of : Chosen → Config
 config_of c = record {
   schedulers = 1;
-  scs = c.megabytes;
+  scs = c.super_carrier;
   b = default_settings;
   d = default_settings;
   e = default_settings;
-  h = record default_settings { acul = 0; mmbcs = 128 * c.kilobytes };
+  h = record default_settings { strategy = c.strategy; acul = 0; lmbcs = 128 * c.largest_carrier; mmbcs = 128 * c.main_carrier; mbsd = c.search_depth };
   l = default_settings;
   r = default_settings;
   s = default_settings;

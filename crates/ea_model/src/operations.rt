@@ -1,6 +1,6 @@
 //! The operations of a trace.
 
-/// An operation of a scheduler. Names are 1 to 262144, and a request has fewer than 2^30 bytes.
+/// An operation of a scheduler. Names are 1 to 262144, and the bytes of a request 0 to 524280.
 #[derive(Debug, Clone, Copy, PartialEq, Eq)]
 pub enum Op {
     /// Allocates a block.

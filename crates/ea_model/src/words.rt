@@ -1,4 +1,4 @@
-// Lines, words and numbers of a text.
+//! Lines, words and numbers of a text.
 ghost use Rattle.std.specs.Prelude.{◌≡◌, ◌+◌, ◌<◌, take, false, ◌≤◌, ◌∷◌, [], length, IfSome, fold, if◌then◌else◌, Some, None};
 ghost use Rattle.std.specs.List.{slice_split, list_all, list_any};
 ghost use Rattle.std.specs.Char.{is_ascii_digit};

@@ -38,3 +38,11 @@ returns-clause-carrier_growth c = refl
 pub returns-clause-spaces_and_comments : goal.returns-clause-spaces_and_comments
 unfolding digits unused_from
 returns-clause-spaces_and_comments c = refl
+
+pub returns-clause-best_fit : goal.returns-clause-best_fit
+unfolding digits unused_from
+returns-clause-best_fit c = refl
+
+pub returns-clause-address_order_best_fit : goal.returns-clause-address_order_best_fit
+unfolding digits unused_from
+returns-clause-address_order_best_fit c = refl
