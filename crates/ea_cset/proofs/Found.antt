@@ -1,9 +1,8 @@
 -- The carrier with a number, after a change.
 use Rattle.std.proofs.Common.{◌≡◌, ◌≢◌, ℕ, true, false, List, [], ◌∷◌, sym, ap, ◌∙◌, refl, inl, inr, arith}
 use Rattle.std.specs.Prelude.{Option, Some, None, ◌==◌, if◌then◌else◌, option_map, All}
-use Rattle.std.proofs.lemmas.Bool.{cases_Bool}
+use Rattle.std.proofs.lemmas.Bool.{cases_Bool, cases_eq, cases_lt}
 use Rattle.std.proofs.lemmas.List.Elements.{All-nil, All-cons, All-head, All-tail, All-weaker}
-use Rattle.ea_cset.specs.declared.keys.CarrierKey.{CarrierKey}
 use Rattle.ea_cset.specs.declared.keys.Held.{Held}
 use Rattle.ea_cset.specs.Carriers.{has_number, is_held, carrier_of, entered, without, with_fit, refitted}
 use Rattle.ea_cset.proofs.Places.{without_here, without_past}
@@ -14,27 +13,21 @@ find_here n h hs t = rw t refl
 find_past : (n : ℕ) (h : Held) (hs : List Held) → has_number n h ≡ false → carrier_of (h ∷ hs) n ≡ carrier_of hs n
 find_past n h hs f = rw f refl
 
-entered_last : (n fit : ℕ) (key : CarrierKey) → carrier_of (entered key fit []) n ≡ (if n == key.number then Some (record { key = key; fit = fit }) else None)
-entered_last n fit key = grind arith
+entered_only : (n : ℕ) (x : Held) → carrier_of (x ∷ []) n ≡ (if n == x.key.number then Some x else carrier_of [] n)
+entered_only n x = grind arith
 
--- a carrier before the entered one has another number
-if_other : (n k : ℕ) (h : Held) (x : Option Held) → h.key.number ≢ k → has_number n h ≡ true → Some h ≡ (if n == k then x else Some h)
-if_other n k h x other t = grind arith
-
-pub carrier_of-entered : (n fit : ℕ) (key : CarrierKey) (hs : List Held) → All (λ h. h.key.number ≢ key.number) hs → carrier_of (entered key fit hs) n ≡ (if n == key.number then Some (record { key = key; fit = fit }) else carrier_of hs n)
-carrier_of-entered n fit key [] a = entered_last n fit key
-carrier_of-entered n fit key (h ∷ hs) a =
-    let x : Option Held = Some (record { key = key; fit = fit }) in
-    elim (cases_Bool (has_number n h)) [
-      | inl t ↦
-          find_here n h (entered key fit hs) t
-          ∙ if_other n key.number h x (All-head (λ (y : Held). y.key.number ≢ key.number) h hs a) t
-          ∙ ap (λ o. if n == key.number then x else o) (sym (find_here n h hs t))
-      | inr f ↦
-          find_past n h (entered key fit hs) f
-          ∙ carrier_of-entered n fit key hs (All-tail (λ (y : Held). y.key.number ≢ key.number) h hs a)
-          ∙ ap (λ o. if n == key.number then x else o) (sym (find_past n h hs f))
+entered_more : (n : ℕ) (x h : Held) (hs : List Held) → h.key.number ≢ x.key.number → carrier_of (entered x hs) n ≡ (if n == x.key.number then Some x else carrier_of hs n)
+    → carrier_of (entered x (h ∷ hs)) n ≡ (if n == x.key.number then Some x else carrier_of (h ∷ hs) n)
+entered_more n x h hs other more =
+    elim (cases_lt x.key.number h.key.number) [
+      | inl lt ↦ elim (cases_eq n x.key.number) [ inl p ↦ grind arith | inr q ↦ grind arith ]
+      | inr le ↦ elim (cases_eq n x.key.number) [ inl p ↦ grind arith | inr q ↦ grind arith ]
     ]
+
+pub carrier_of-entered : (n : ℕ) (x : Held) (hs : List Held) → All (λ h. h.key.number ≢ x.key.number) hs → carrier_of (entered x hs) n ≡ (if n == x.key.number then Some x else carrier_of hs n)
+carrier_of-entered n x [] a = entered_only n x
+carrier_of-entered n x (h ∷ hs) a =
+    entered_more n x h hs (All-head (λ (y : Held). y.key.number ≢ x.key.number) h hs a) (carrier_of-entered n x hs (All-tail (λ (y : Held). y.key.number ≢ x.key.number) h hs a))
 
 none_either : (n k : ℕ) → carrier_of [] n ≡ (if n == k then None else carrier_of [] n)
 none_either n k = grind arith

@@ -1,11 +1,10 @@
 -- The carriers of a set, and which of them comes first.
-use Rattle.std.specs.Prelude.{◌≡◌, ◌≢◌, ℕ, ◌≤◌, Bool, false, not, ◌&&◌, ◌||◌, if◌then◌else◌, nat_lt, nat_le, ◌==◌, List, [], ◌∷◌, ◌++◌, Option, All, AllPairs, Any, filter, map, length, find, option_map}
+use Rattle.std.specs.Prelude.{◌≡◌, ◌≢◌, ℕ, ◌<◌, ◌≤◌, Bool, false, not, ◌&&◌, ◌||◌, if◌then◌else◌, nat_lt, nat_le, ◌==◌, List, [], ◌∷◌, Option, All, AllPairs, Any, filter, map, length, find, option_map}
 use Rattle.std.specs.List.{list_any}
 use Rattle.ea_model.specs.Choice.{first}
-use Rattle.ea_cset.specs.declared.keys.CarrierKey.{CarrierKey}
 use Rattle.ea_cset.specs.declared.keys.Held.{Held}
 
--- the carriers in the order in which they were added, and how many there is room for
+-- the carriers by rising number, and how many there is room for
 pub record Carriers : Type 0 where
   pub held : List Held
   pub room : ℕ
@@ -22,9 +21,14 @@ is_held number hs = list_any (has_number number) hs
 abbrev pub carrier_of : List Held → ℕ → Option Held
 carrier_of hs number = find (has_number number) hs
 
--- with one carrier more
-abbrev pub entered : CarrierKey → ℕ → List Held → List Held
-entered key fit hs = hs ++ record { key = key; fit = fit } ∷ []
+-- x among the carriers, by its number
+abbrev pub entered : Held → List Held → List Held
+entered x [] = x ∷ []
+entered x (h ∷ hs) = if nat_lt x.key.number h.key.number then x ∷ h ∷ hs else h ∷ entered x hs
+
+-- the test for a carrier of a greater number
+abbrev pub is_behind : ℕ → Held → Bool
+is_behind number h = nat_lt number h.key.number
 
 -- without the carrier with the number
 abbrev pub without : ℕ → List Held → List Held
@@ -54,9 +58,9 @@ fitting need hs = filter (λ h. nat_le need h.fit) hs
 abbrev pub first_number : (Held → Held → Bool) → ℕ → List Held → Option ℕ
 first_number before need hs = option_map (λ h. h.key.number) (first before (fitting need hs))
 
--- they are two carriers
-abbrev pub IsOther : Held → Held → Type 0
-IsOther a b = (a.key.number ≢ b.key.number) × (a.key.base ≢ b.key.base)
+-- a has the lower number, and they have different bases
+abbrev pub IsBefore : Held → Held → Type 0
+IsBefore a b = (a.key.number < b.key.number) × (a.key.base ≢ b.key.base)
 
 -- h has the number and fits, and no carrier that fits comes before it
 pub record IsAhead (before : Held → Held → Bool) (need : ℕ) (hs : List Held) (number : ℕ) (h : Held) : Type 0 where
@@ -68,8 +72,8 @@ pub record IsAhead (before : Held → Held → Bool) (need : ℕ) (hs : List Hel
 abbrev pub IsFirstOf : (Held → Held → Bool) → ℕ → List Held → ℕ → Type 0
 IsFirstOf before need hs number = Any (IsAhead before need hs number) hs
 
--- no two carriers are the same, there is room for them, and memory for the room
+-- the carriers stand by rising number and have different bases, there is room for them, and memory for the room
 pub record IsKept (room capacity : ℕ) (hs : List Held) : Type 0 where
-  pub apart : AllPairs IsOther hs
+  pub rising : AllPairs IsBefore hs
   pub within : length hs ≤ room
   pub reserved : room ≤ capacity

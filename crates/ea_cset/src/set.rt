@@ -1,15 +1,15 @@
 //! The set and its calls.
 ghost use Rattle.std.specs.Prelude.{◌≡◌, ◌≢◌, ℕ, ◌+◌, ◌<◌, ◌↔◌, [], ◌==◌, if◌then◌else◌, All, AllPairs, Some, None, IsTrue, IsNone, IfSome, IfOk, length, option_map};
-ghost use Rattle.ea_cset.specs.Carriers.{is_held, carrier_of, entered, without, with_fit, refitted, lower, older, first_number, IsOther, IsFirstOf};
+ghost use Rattle.ea_cset.specs.Carriers.{is_held, carrier_of, entered, without, with_fit, refitted, lower, older, first_number, IsBefore, IsFirstOf};
 
 use crate::keys::{CarrierKey, Held};
-use crate::walks::{has_carrier, lowest, oldest, place_of};
+use crate::walks::{has_carrier, lowest, oldest, place_behind, place_of};
 use ea_model::OutOfMemory;
 use std::alloc::Global;
 use std::marker::Model;
 
 /// A set of carriers, of which no two have the same number or the same base. Contracts see it as its
-/// carriers in the order in which they were added, and how many carriers it has room for.
+/// carriers by rising number, and how many carriers it has room for.
 #[derive(Drop)]
 pub struct CarrierSet {
     room: u32,
@@ -50,15 +50,15 @@ impl CarrierSet {
         requires room { length self.old.held < self.old.room }
         requires number { All (λ h. h.key.number ≢ key.number) self.old.held }
         requires base { All (λ h. h.key.base ≢ key.base) self.old.held }
-        ensures added { self.new ≡ record self.old { held = entered key fit self.old.held } }
+        ensures added { self.new ≡ record self.old { held = entered (record { key = key; fit = fit }) self.old.held } }
         ensures count { length self.new.held ≡ length self.old.held + 1 }
-        ensures apart { AllPairs IsOther self.new.held }
+        ensures rising { AllPairs IsBefore self.new.held }
 
         // The carrier is found by its number now, and the others are as before.
         ensures carriers { (n : ℕ) → carrier_of self.new.held n ≡ (if n == key.number then Some (record { key = key; fit = fit }) else carrier_of self.old.held n) }
     {
-        let end = self.held.len();
-        match self.held.insert(end, Held { key, fit }) {
+        let place = place_behind(key.number, &self.held);
+        match self.held.insert(place, Held { key, fit }) {
             Ok(()) => (),
             Err(_) => unreachable!(),
         }
@@ -69,7 +69,7 @@ impl CarrierSet {
         requires { IsTrue (is_held number self.old.held) }
         ensures removed { self.new ≡ record self.old { held = without number self.old.held } }
         ensures count { length self.new.held + 1 ≡ length self.old.held }
-        ensures apart { AllPairs IsOther self.new.held }
+        ensures rising { AllPairs IsBefore self.new.held }
 
         // The number is free now, and the other carriers are as before.
         ensures carriers { (n : ℕ) → carrier_of self.new.held n ≡ (if n == number then None else carrier_of self.old.held n) }
@@ -83,7 +83,7 @@ impl CarrierSet {
         requires { IsTrue (is_held number self.old.held) }
         ensures updated { self.new ≡ record self.old { held = refitted number fit self.old.held } }
         ensures count { length self.new.held ≡ length self.old.held }
-        ensures apart { AllPairs IsOther self.new.held }
+        ensures rising { AllPairs IsBefore self.new.held }
 
         // The carrier keeps its key, and the others are as before.
         ensures carriers { (n : ℕ) → carrier_of self.new.held n ≡ option_map (with_fit number fit) (carrier_of self.old.held n) }
@@ -101,7 +101,7 @@ impl CarrierSet {
         // The carrier found is one that fits, and none that fits comes before it.
         ensures first { IfSome result (IsFirstOf lower need self.now.held) }
         ensures held { IfSome result (λ number. IsTrue (is_held number self.now.held)) }
-        ensures apart { AllPairs IsOther self.now.held }
+        ensures rising { AllPairs IsBefore self.now.held }
     {
         lowest(need, &self.held)
     }
@@ -115,7 +115,7 @@ impl CarrierSet {
         // The carrier found is one that fits, and none that fits comes before it.
         ensures first { IfSome result (IsFirstOf older need self.now.held) }
         ensures held { IfSome result (λ number. IsTrue (is_held number self.now.held)) }
-        ensures apart { AllPairs IsOther self.now.held }
+        ensures rising { AllPairs IsBefore self.now.held }
     {
         oldest(need, &self.held)
     }

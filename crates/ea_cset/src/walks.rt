@@ -1,8 +1,8 @@
 //! Walks over the carriers of a set.
-ghost use Rattle.std.specs.Prelude.{◌≡◌, ◌<◌, Some, IsTrue, length};
+ghost use Rattle.std.specs.Prelude.{◌≡◌, ◌<◌, ◌≤◌, Some, IsTrue, length};
 ghost use Rattle.std.specs.List.{position_or_len};
 ghost use Rattle.ea_model.specs.Choice.{better};
-ghost use Rattle.ea_cset.specs.Carriers.{has_number, is_held, lower, older, first_number};
+ghost use Rattle.ea_cset.specs.Carriers.{has_number, is_behind, is_held, lower, older, first_number};
 
 use crate::keys::Held;
 
@@ -83,4 +83,17 @@ pub fn place_of(number: u32, held: &[Held]) -> usize
         }
     }
     unreachable!()
+}
+
+/// The place of the first carrier with a greater number.
+pub fn place_behind(number: u32, held: &[Held]) -> usize
+    ensures place { result ≡ position_or_len (is_behind number) held.now }
+    ensures within { result ≤ length held.now }
+{
+    for (place, h) in held.iter().enumerate() {
+        if number < h.key.number {
+            return place;
+        }
+    }
+    held.len()
 }

@@ -2,7 +2,7 @@ use Rattle.std.proofs.Common.{◌≡◌, ◌<◌, length, sym, ap, ◌∙◌, su
 use Rattle.std.specs.Prelude.{remove, AllPairs, None, ◌==◌, if◌then◌else◌}
 use Rattle.std.specs.List.{position_or_len}
 use Rattle.std.proofs.lemmas.List.Quantifiers.{all_pairs_remove}
-use Rattle.ea_cset.specs.Carriers.{Carriers, has_number, carrier_of, without, IsOther}
+use Rattle.ea_cset.specs.Carriers.{Carriers, has_number, carrier_of, without, IsBefore}
 use Rattle.ea_cset.proofs.Found.{carrier_of-without}
 use Rattle.ea_cset.proofs.Places.{remove-without}
 use Rattle.ea_cset.proofs.set.CarrierSet.remove.Goals as goal
@@ -17,14 +17,14 @@ removed : (c : goal.After-remove) → c.remove.new.self.items ≡ without c.args
 removed c =
     c.remove.ensures.items
     ∙ ap (remove c.self.inside.held.items) (place c)
-    ∙ remove-without c.args.number c.self.inside.held.items c.self.invariant.apart (subst (λ k. k < length c.self.inside.held.items) (place c) (within c))
+    ∙ remove-without c.args.number c.self.inside.held.items c.self.invariant.rising (subst (λ k. k < length c.self.inside.held.items) (place c) (within c))
 
-apart : (c : goal.After-remove) → AllPairs IsOther c.remove.new.self.items
-apart c = subst (AllPairs IsOther) (sym c.remove.ensures.items) (all_pairs_remove IsOther c.self.inside.held.items c.place_of-place.result (within c) c.self.invariant.apart)
+rising : (c : goal.After-remove) → AllPairs IsBefore c.remove.new.self.items
+rising c = subst (AllPairs IsBefore) (sym c.remove.ensures.items) (all_pairs_remove IsBefore c.self.inside.held.items c.place_of-place.result (within c) c.self.invariant.rising)
 
 pub invariant_of-self : goal.invariant_of-self
 invariant_of-self c = record {
-  apart = apart c;
+  rising = rising c;
   within = omega (arith, c.self.invariant.within, c.remove.ensures.len);
   reserved = omega (arith, c.self.invariant.reserved, c.remove.ensures.capacity);
 }
@@ -32,8 +32,8 @@ invariant_of-self c = record {
 pub returns-clause-removed : goal.returns-clause-removed
 returns-clause-removed c = rw (removed c, ← c.self.view_is) refl
 
-pub returns-clause-apart : goal.returns-clause-apart
-returns-clause-apart c = apart c
+pub returns-clause-rising : goal.returns-clause-rising
+returns-clause-rising c = rising c
 
 pub returns-clause-carriers : goal.returns-clause-carriers
 returns-clause-carriers c = λ n.

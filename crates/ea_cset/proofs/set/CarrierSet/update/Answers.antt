@@ -18,7 +18,7 @@ updated c =
     let hs = c.self.inside.held.items in
     ap (λ (y : Held). set hs c.place_of-place.result (record { key = y.key; fit = c.args.fit })) c.index_mut.ensures.value
     ∙ ap (λ k. set hs k (record { key = (get_or hs k c.index_mut.result.now).key; fit = c.args.fit })) (place c)
-    ∙ set-refitted c.args.number c.args.fit c.index_mut.result.now hs c.self.invariant.apart (subst (λ k. k < length hs) (place c) (within c))
+    ∙ set-refitted c.args.number c.args.fit c.index_mut.result.now hs c.self.invariant.rising (subst (λ k. k < length hs) (place c) (within c))
 
 pub returns-clause-updated : goal.returns-clause-updated
 returns-clause-updated c = rw (updated c, ← c.self.view_is) refl
