@@ -8,7 +8,7 @@ use Rattle.std.proofs.lemmas.List.{set-get_or}
 use Rattle.std.proofs.lemmas.List.Elements.{All-nil, All-cons, All-head, All-tail}
 use Rattle.ea_model.specs.declared.carriers.Spot.{Spot}
 use Rattle.ea_model.specs.Region.{entered}
-use Rattle.ea_model.specs.Content.{Content, block_at}
+use Rattle.ea_model.specs.Content.{Content, block_at, placed, released}
 use Rattle.ea_model.specs.Instance.{segment_of, segments, content_of, changed, block_in, without_content}
 use Rattle.ea_instance.specs.Kept.{Rising, IsWhole}
 use Rattle.ea_instance.specs.Found.{IsOther, IsRising}
@@ -17,7 +17,16 @@ use Rattle.ea_instance.proofs.Contents.{content_of-changed, content_of-number, r
 pub record KeepsPlace (f : Content → Content) : Type 0 where
   pub number : (c : Content) → (f c).number ≡ c.number
   pub base : (c : Content) → (f c).base ≡ c.base
+  pub birth : (c : Content) → (f c).birth ≡ c.birth
   pub units : (c : Content) → (f c).units ≡ c.units
+  pub kind : (c : Content) → (f c).kind ≡ c.kind
+
+-- a placement and a release change blocks alone
+pub placed-keeps : (offset need name : ℕ) → KeepsPlace (λ c. placed c offset need name)
+placed-keeps offset need name = record { number = λ _. refl; base = λ _. refl; birth = λ _. refl; units = λ _. refl; kind = λ _. refl }
+
+pub released-keeps : (offset : ℕ) → KeepsPlace (λ c. released c offset)
+released-keeps offset = record { number = λ _. refl; base = λ _. refl; birth = λ _. refl; units = λ _. refl; kind = λ _. refl }
 
 module _ (f : Content → Content) (k : KeepsPlace f) (n : ℕ) where
   one-number : (c : Content) → (if c.number == n then f c else c).number ≡ c.number

@@ -32,7 +32,7 @@ pub Rising-length : (low high : ℕ) (cs : List Content) → Rising low high cs 
 Rising-length low high [] r = omega arith
 Rising-length low high (c ∷ cs) r = omega (arith, Rising-length (c.number + 1) high cs r.2)
 
-used_parts : (n : ℕ) (c : Content) (cs : List Content) → is_used n (c ∷ cs) ≡ false → (c.number ≢ n) × (is_used n cs ≡ false)
+pub used_parts : (n : ℕ) (c : Content) (cs : List Content) → is_used n (c ∷ cs) ≡ false → (c.number ≢ n) × (is_used n cs ≡ false)
 used_parts n c cs h = grind arith
 
 -- and fewer where a number isn't in use
@@ -65,10 +65,10 @@ pub Rising-earlier : (a low high : ℕ) (cs : List Content) → a ≤ low → Ri
 Rising-earlier a low high [] le r = omega arith
 Rising-earlier a low high (c ∷ cs) le r = (omega arith, r.1, r.2)
 
-without_here : (number : ℕ) (c : Content) (cs : List Content) → c.number ≡ number → filter (λ c. not (c.number == number)) (c ∷ cs) ≡ filter (λ c. not (c.number == number)) cs
+pub without_here : (number : ℕ) (c : Content) (cs : List Content) → c.number ≡ number → filter (λ c. not (c.number == number)) (c ∷ cs) ≡ filter (λ c. not (c.number == number)) cs
 without_here number c cs e = grind arith
 
-without_past : (number : ℕ) (c : Content) (cs : List Content) → c.number ≢ number → filter (λ c. not (c.number == number)) (c ∷ cs) ≡ c ∷ filter (λ c. not (c.number == number)) cs
+pub without_past : (number : ℕ) (c : Content) (cs : List Content) → c.number ≢ number → filter (λ c. not (c.number == number)) (c ∷ cs) ≡ c ∷ filter (λ c. not (c.number == number)) cs
 without_past number c cs n = grind arith
 
 pub Rising-without : (low high number : ℕ) (cs : List Content) → Rising low high cs → Rising low high (filter (λ c. not (c.number == number)) cs)
@@ -101,10 +101,10 @@ segments-set i c d [] h base units = refl
 segments-set zero c d (x ∷ cs) h base units = segments_same c x cs base units
 segments-set (suc i) c d (x ∷ cs) h base units = segments_more x (set cs i c) cs (segments-set i c d cs (omega arith) base units)
 
-content_of_here : (n : ℕ) (c : Content) (cs : List Content) → c.number ≡ n → content_of (c ∷ cs) n ≡ Some c
+pub content_of_here : (n : ℕ) (c : Content) (cs : List Content) → c.number ≡ n → content_of (c ∷ cs) n ≡ Some c
 content_of_here n c cs e = grind arith
 
-content_of_past : (n : ℕ) (c : Content) (cs : List Content) → c.number ≢ n → content_of (c ∷ cs) n ≡ content_of cs n
+pub content_of_past : (n : ℕ) (c : Content) (cs : List Content) → c.number ≢ n → content_of (c ∷ cs) n ≡ content_of cs n
 content_of_past n c cs o = grind arith
 
 -- the number at a place is one of those that rise
@@ -121,10 +121,10 @@ content_of-at low high (suc i) d (c ∷ cs) r h =
     let place = Rising-at (c.number + 1) high i d cs r.2 (omega arith) in
     content_of_past (get_or cs i d).number c cs (λ e. omega arith) ∙ content_of-at (c.number + 1) high i d cs r.2 (omega arith)
 
-changed_here : (f : Content → Content) (n : ℕ) (c : Content) (cs : List Content) → c.number ≡ n → changed f n (c ∷ cs) ≡ f c ∷ changed f n cs
+pub changed_here : (f : Content → Content) (n : ℕ) (c : Content) (cs : List Content) → c.number ≡ n → changed f n (c ∷ cs) ≡ f c ∷ changed f n cs
 changed_here f n c cs e = grind arith
 
-changed_past : (f : Content → Content) (n : ℕ) (c : Content) (cs : List Content) → c.number ≢ n → changed f n (c ∷ cs) ≡ c ∷ changed f n cs
+pub changed_past : (f : Content → Content) (n : ℕ) (c : Content) (cs : List Content) → c.number ≢ n → changed f n (c ∷ cs) ≡ c ∷ changed f n cs
 changed_past f n c cs o = grind arith
 
 -- a change at a number before those that rise changes nothing

@@ -1,5 +1,5 @@
 -- What an instance keeps through its calls.
-use Rattle.std.proofs.Common.{◌≡◌, ℕ, ◌+◌, ◌*◌, ◌/◌, ◌%◌, ◌<◌, ◌≤◌, false, List, length, not, All, sym, ap, ◌∙◌, subst, refl, arith}
+use Rattle.std.proofs.Common.{◌≡◌, ℕ, ◌+◌, ◌*◌, ◌/◌, ◌%◌, ◌<◌, ◌≤◌, false, List, length, not, ◌≢◌, All, sym, ap, ◌∙◌, subst, refl, arith}
 use Rattle.std.specs.Prelude.{Option, Some, None, Ok, Err, IsSome, IfSome, Any, ◌==◌}
 use Rattle.std.proofs.lemmas.List.Elements.{All-filter}
 use Rattle.ea_model.specs.declared.settings.Settings.{Settings}
@@ -12,7 +12,7 @@ use Rattle.ea_model.specs.Content.{Content}
 use Rattle.ea_model.specs.Region.{Region, Laid, lowest_run, runs, entered, cut_from}
 use Rattle.ea_model.specs.Instance.{Instance, segments, segment_of, first_number, changed, content_of, with_content, unused_from, is_used, free_run, least_pages, next_pages, planned, least_plan, sized_plan, numbered_plan, plan, created_content, creating, without_content, chosen_spot, block_in}
 use Rattle.ea_model.proofs.Options.{some_holds}
-use Rattle.ea_space.specs.Pages.{IsApart}
+use Rattle.ea_space.proofs.Runs.{Fits, lowest-Fits}
 use Rattle.ea_instance.specs.Kept.{IsKept, IsWhole, Rising}
 use Rattle.ea_instance.specs.Found.{IsGapOf, HasGap, HaveSameBlocks}
 use Rattle.ea_instance.proofs.Changed.{KeepsPlace, Rising-changed, segments-changed, All-changed}
@@ -106,6 +106,10 @@ pages_of_units n = omega arith
 pub whole_pages : (n : ℕ) → 512 * n % 512 ≡ 0
 whole_pages n = omega arith
 
+-- the carrier that enters is the planned one
+pub entering : (n number : ℕ) (p : CarrierPlan) (x carrier : Content) → n ≡ number → carrier ≡ created_content number Multi p → x ≡ record carrier { kind = Multi } → x ≡ created_content n Multi p
+entering n number p x carrier seen is e = e ∙ ap (λ (y : Content). record y { kind = Multi }) is ∙ ap (λ m. created_content m Multi p) (sym seen)
+
 -- the contents with the carrier of a plan
 module _ (s : Settings) (n : ℕ) (cs : List Content) (created : ℕ) (r : Region) (need : ℕ) (p : CarrierPlan) (k : IsKept s n cs r) (now : Instance) (seen : seen_as s n cs created r ≡ now) (asked : plan now need ≡ Ok p) where
   planned_here : IsPlanned (seen_as s n cs created r) need p
@@ -117,9 +121,21 @@ module _ (s : Settings) (n : ℕ) (cs : List Content) (created : ℕ) (r : Regio
   unused : (first_number n ≤ p.number) × (p.number < first_number n + 256) × (is_used p.number cs ≡ false)
   unused = unused_from-free 256 (first_number n) p.number cs planned_here.number
 
-  -- there are fewer segments than numbers
+  -- the new carrier has a number and a base of its own
+  pub other-numbers : is_used p.number cs ≡ false
+  other-numbers = unused.2
+
+  pub other-bases : All (λ c. c.base ≢ p.base) cs
+  other-bases =
+      apart-bases p.base p.pages cs some_pages k.whole
+      (some_holds (lowest_run p.pages (runs r.first r.end (segments cs))) p.base (λ start. Fits r.first r.end start p.pages (segments cs)) planned_here.run (lowest-Fits r.first r.end p.pages (segments cs) (subst (Laid r.first r.end) k.taken k.laid))).apart
+
+  -- there are fewer carriers, and segments, than numbers
+  pub has-number : length cs < 256
+  has-number = omega (arith, Rising-room (first_number n) (first_number n + 256) p.number cs k.rising unused.0 unused.1 unused.2)
+
   pub has_room : length r.taken < 256
-  has_room = omega (arith, Rising-room (first_number n) (first_number n + 256) p.number cs k.rising unused.0 unused.1 unused.2, ap length k.taken, length-segments cs)
+  has_room = omega (arith, has-number, ap length k.taken, length-segments cs)
 
   segment_is : segment_of (created_content n Multi p) ≡ record { start = p.base; pages = p.pages }
   segment_is = (let e = pages_of_units p.pages in cc)
@@ -128,12 +144,11 @@ module _ (s : Settings) (n : ℕ) (cs : List Content) (created : ℕ) (r : Regio
   taken_at : (o : Option ℕ) → o ≡ lowest_run p.pages (runs r.first r.end r.taken) → o ≡ Some p.base
   taken_at o found = found ∙ ap (λ t. lowest_run p.pages (runs r.first r.end t)) k.taken ∙ planned_here.run
 
-  pub IsKept-created : (o : Option ℕ) (r2 : Region) (x : Content) (new : List Content) → o ≡ lowest_run p.pages (runs r.first r.end r.taken) → IfSome o (λ start. IsApart start p.pages r.taken)
+  pub IsKept-created : (o : Option ℕ) (r2 : Region) (x : Content) (new : List Content) → o ≡ lowest_run p.pages (runs r.first r.end r.taken)
       → IfSome o (λ start. r2 ≡ record r { taken = entered (record { start = start; pages = p.pages }) r.taken }) → Laid r2.first r2.end r2.taken → x ≡ created_content n Multi p → new ≡ with_content x cs → IsKept s n new r2
-  IsKept-created o r2 x new found apart took laid is same =
+  IsKept-created o r2 x new found took laid is same =
       let at = taken_at o found in
       let e = some_holds o p.base (λ start. r2 ≡ record r { taken = entered (record { start = start; pages = p.pages }) r.taken }) at took in
-      let free = some_holds o p.base (λ start. IsApart start p.pages r.taken) at apart in
       let entered_is : new ≡ with_content (created_content n Multi p) cs = same ∙ ap (λ y. with_content y cs) is in
       subst (λ ys. IsKept s n ys r2) (sym entered_is) (record {
         valid = k.valid;
@@ -142,7 +157,7 @@ module _ (s : Settings) (n : ℕ) (cs : List Content) (created : ℕ) (r : Regio
         whole = All-with_content IsWhole (created_content n Multi p) cs (whole_pages p.pages, subst (λ m. 1 ≤ m) (sym (pages_of_units p.pages)) some_pages) k.whole;
         taken =
             ap (λ (y : Region). y.taken) e ∙ ap (entered (record { start = p.base; pages = p.pages })) k.taken ∙ ap (λ g. entered g (segments cs)) (sym segment_is)
-            ∙ sym (segments-with_content (created_content n Multi p) cs (apart-bases p.base p.pages cs some_pages k.whole (subst (IsApart p.base p.pages) k.taken free)));
+            ∙ sym (segments-with_content (created_content n Multi p) cs other-bases);
         laid = laid;
       })
 

@@ -1,7 +1,9 @@
+pub mod ByCarrier
 pub mod Changed
 pub mod Contents
 pub mod Folding
 pub mod Keeping
+pub mod Listed
 pub mod Refusals
 pub mod Room
 pub mod Segments

@@ -1,13 +1,15 @@
 //! A carrier that an instance employs.
 ghost use Rattle.std.specs.Prelude.{◌≡◌, ◌≢◌, ℕ, ◌+◌, ◌*◌, ◌%◌, ◌<◌, ◌≤◌, ◌↔◌, IsTrue, IsSome, IfSome, IfOk, OnOk, OnErr, Some, None, true, length, map, option_map};
-ghost use Rattle.ea_model.specs.Content.{gaps_of, gap_at, block_at, named, taken_of, placed, released, allocated, free_units};
+ghost use Rattle.ea_model.specs.Content.{gaps_of, gap_at, block_at, named, taken_of, placed, released, allocated, free_units, largest};
 ghost use Rattle.ea_model.specs.Choice.{choice};
 ghost use Rattle.ea_model.specs.Strategies.{candidate, candidates_in};
 ghost use Rattle.ea_model.specs.Text.{carrier_line};
 ghost use Rattle.ea_model.specs.Instance.{is_done, is_multi};
 ghost use Rattle.ea_instance.specs.Kinds.{is_shared};
+ghost use Rattle.ea_instance.specs.Listed.{held_of};
 ghost use Rattle.ea_instance.specs.Found.{IsGapOf};
 
+use ea_cset::CarrierKey;
 use ea_mbc::Mbc;
 use ea_model::{
     Block, Candidate, CarrierLine, HEADER_UNITS, Inner, Kind, OutOfMemory, PAGE_UNITS, Standing,
@@ -61,6 +63,24 @@ impl Employed {
         ensures { result ≡ self.now.units }
     {
         self.carrier.units()
+    }
+
+    /// What tells it from the others of its instance.
+    pub fn key(&self) -> CarrierKey
+        ensures { result ≡ (held_of self.now).key }
+    {
+        CarrierKey {
+            number: self.carrier.number(),
+            base: self.carrier.base(),
+            birth: self.carrier.birth(),
+        }
+    }
+
+    /// The units of its largest gap, or 0.
+    pub fn largest(&self) -> u32
+        ensures { result ≡ largest (gaps_of self.now) }
+    {
+        self.carrier.largest()
     }
 
     /// The gap that is chosen in it, as strategies compare it with those of other carriers.

@@ -15,11 +15,11 @@ ghost use Rattle.ea_model.specs.Instance as instances;
 ghost use Rattle.ea_instance.specs.Answers.{placing_if, follow_up};
 ghost use Rattle.ea_instance.specs.Found.{AllUsed, HaveSameBlocks, IsOther, IsPlaced};
 
-use crate::changes::{enter, leave, place_in, release_in};
+use crate::carriers::Carriers;
 use crate::employed::Employed;
 use crate::figures::{figures, free_of};
 use crate::released::Released;
-use crate::walks::{best_candidate, carrier_of, is_used, multi_count, unused_number};
+use crate::walks::{carrier_of, is_used, multi_count, unused_number};
 use ea_mbc::Mbc;
 use ea_model::{
     Block, CarrierLine, CarrierPlan, Figures, HEADER_UNITS, Kind, List, NUMBERS, NoCarrier,
@@ -35,7 +35,7 @@ use std::marker::Model;
 pub struct Instance {
     settings: Settings,
     number: u32,
-    carriers: Vec<Employed>,
+    carriers: Carriers,
     created: u32,
     region: Region,
 }
@@ -46,9 +46,9 @@ impl Model for Instance {
 
     ghost Value = { Instance };
 
-    ghost view = { λ i. record { settings = i.settings; number = i.number; first = i.region.first; end = i.region.end; contents = i.carriers.items; created = i.created } };
+    ghost view = { λ i. record { settings = i.settings; number = i.number; first = i.region.first; end = i.region.end; contents = i.carriers; created = i.created } };
 
-    ghost invariant = { λ i. IsKept i.settings i.number i.carriers.items i.region };
+    ghost invariant = { λ i. IsKept i.settings i.number i.carriers i.region };
 }
 
 /// The pages that hold so many units.
@@ -127,13 +127,10 @@ impl Instance {
         ensures { IfOk result (λ i. i ≡ new_instance settings number first_page pages) }
     {
         let mut region = Region::new(alloc, first_page, pages)?;
-        let mut carriers = Vec::new(alloc);
+        let mut carriers = Carriers::new(alloc)?;
         let mut created = 0;
         if settings.mmbcs > 0 {
-            let main = main_carrier(alloc, settings, number, first_page)?;
-            if carriers.push(main).is_err() {
-                return Err(OutOfMemory);
-            }
+            carriers.enter(main_carrier(alloc, settings, number, first_page)?)?;
             let _base = region.take(pages_for(settings.mmbcs));
             created = 1;
         }
@@ -150,28 +147,28 @@ impl Instance {
     pub fn employs(&self, carrier: u32) -> bool
         ensures { result ≡ instances.is_used carrier self.now.contents }
     {
-        is_used(carrier, &self.carriers)
+        is_used(carrier, self.carriers.as_slice())
     }
 
     /// The block at the spot, if it employs the carrier and a block begins there.
     pub fn block_at(&self, spot: Spot) -> Option<Block>
         ensures { result ≡ option_map named (block_in self.now.contents spot) }
     {
-        carrier_of(spot.carrier, &self.carriers)?.block_at(spot.offset)
+        carrier_of(spot.carrier, self.carriers.as_slice())?.block_at(spot.offset)
     }
 
     /// The line of a carrier, if it employs it.
     pub fn carrier_line(&self, carrier: u32) -> Option<CarrierLine>
         ensures { result ≡ option_map carrier_line (content_of self.now.contents carrier) }
     {
-        Some(carrier_of(carrier, &self.carriers)?.line())
+        Some(carrier_of(carrier, self.carriers.as_slice())?.line())
     }
 
     /// Adds the lines of all carriers that it employs, by rising number.
     pub fn put_lines(&self, lines: &mut List<CarrierLine>) -> Result<(), OutOfMemory>
         ensures { OnOk result (lines.new.items ≡ lines.old.items ++ map carrier_line self.now.contents) }
     {
-        for carrier in &self.carriers {
+        for carrier in self.carriers.as_slice() {
             lines.push(carrier.line())?;
         }
         Ok(())
@@ -182,14 +179,14 @@ impl Instance {
         ensures figures { result ≡ instances.figures self.now.contents }
         ensures few { result.carriers ≤ 256 }
     {
-        figures(&self.carriers)
+        figures(self.carriers.as_slice())
     }
 
     /// The units of all gaps of its carriers.
     pub fn free_units(&self) -> u64
         ensures { result ≡ sum_by (λ c. free_units (gaps_of c)) self.now.contents }
     {
-        free_of(&self.carriers)
+        free_of(self.carriers.as_slice())
     }
 
     /// Places a block of `need` units in the gap that its strategy chooses. None, and nothing changed, where
@@ -220,10 +217,10 @@ impl Instance {
         ensures err { OnErr result (self.new ≡ self.old) }
         ensures blocks { IfOk result (λ found. IfSome found (λ place. IsPlaced self.old.contents self.new.contents name place)) }
     {
-        let Some(found) = best_candidate(self.settings.strategy, need, &self.carriers) else {
+        let Some(found) = self.carriers.chosen(self.settings.strategy, need) else {
             return Ok(None);
         };
-        let size = place_in(&mut self.carriers, found.number, found.offset, need, name)?;
+        let size = self.carriers.place(found.number, found.offset, need, name)?;
         Ok(Some(Place {
             carrier: found.number,
             offset: found.offset,
@@ -236,7 +233,7 @@ impl Instance {
         ensures valid { IsValid self.now.settings }
         ensures number { result ≡ unused_from 256 (instances.first_number self.now.number) self.now.contents }
     {
-        unused_number(first_number(self.number), &self.carriers)
+        unused_number(first_number(self.number), self.carriers.as_slice())
     }
 
     /// Where the lowest free run of its region with so many pages begins.
@@ -251,7 +248,7 @@ impl Instance {
         ensures pages { result ≡ max least (instances.pages_for (growth self.now.settings (multis self.now.contents))) }
         ensures small { result ≤ max least 131072 }
     {
-        least.max(pages_for(growth(self.settings, multi_count(&self.carriers))))
+        least.max(pages_for(growth(self.settings, multi_count(self.carriers.as_slice()))))
     }
 
     /// The multiblock carrier that it would create for a block of `need` units, at most `sbct`, or why it
@@ -329,7 +326,7 @@ impl Instance {
         ensures blocks { OnOk result (HaveSameBlocks self.old.contents self.new.contents) }
         ensures err { OnErr result (self.new ≡ self.old) }
     {
-        enter(&mut self.carriers, Employed::new(Kind::Multi, carrier))?;
+        self.carriers.enter(Employed::new(Kind::Multi, carrier))?;
         let _base = self.region.take(plan.pages);
         self.created = plan.birth;
         Ok(())
@@ -343,8 +340,8 @@ impl Instance {
         ensures others { (at : Spot) → IsOther spot.carrier spot.offset at → block_in self.new.contents at ≡ block_in self.old.contents at }
         ensures err { OnErr result (self.new ≡ self.old) }
     {
-        release_in(&mut self.carriers, spot.carrier, spot.offset)?;
-        Ok(follow_up(spot.carrier, &self.carriers))
+        self.carriers.release(spot.carrier, spot.offset)?;
+        Ok(follow_up(spot.carrier, self.carriers.as_slice()))
     }
 
     /// Deallocates a carrier without blocks other than the main one: its number and pages are free again.
@@ -353,7 +350,7 @@ impl Instance {
         ensures cleared { self.new ≡ clearing self.old number }
         ensures blocks { HaveSameBlocks self.old.contents self.new.contents }
     {
-        let carrier = leave(&mut self.carriers, number);
+        let carrier = self.carriers.leave(number);
         self.region
             .give_back(carrier.base(), carrier.units() / PAGE_UNITS);
     }

@@ -7,21 +7,24 @@ ghost use Rattle.ea_model.specs.Instance.{content_of, unused_from, multis};
 ghost use Rattle.ea_model.specs.Instance as instances;
 ghost use Rattle.ea_instance.specs.Found.{IsGapOf};
 ghost use Rattle.ea_instance.specs.Kept.{is_behind};
+ghost use Rattle.ea_instance.specs.Orders.{order_of};
+ghost use Rattle.ea_instance.specs.declared.strategies.Order.TheVariants.{Gaps};
 
 use crate::employed::Employed;
 use crate::strategies::{better_of, inner_of};
 use ea_model::{Candidate, NUMBERS, Strategy};
 
-/// The candidate that a strategy chooses among the gaps of all carriers.
+/// The candidate that a strategy chooses that compares the gaps of all carriers.
 pub fn best_candidate(strategy: Strategy, need: u32, carriers: &[Employed]) -> Option<Candidate>
-    requires { 1 ≤ need }
+    requires order { order_of strategy ≡ Gaps }
+    requires some { 1 ≤ need }
     ensures chosen { result ≡ choice_among strategy need carriers.now }
     ensures fits { IfSome result (λ x. Any (IsGapOf need x) carriers.now) }
 {
     let inner = inner_of(strategy);
     let mut best = None;
     for carrier in carriers {
-        best = better_of(strategy, best, carrier.candidate(inner, need));
+        best = better_of(inner, best, carrier.candidate(inner, need));
     }
     best
 }

@@ -1,6 +1,6 @@
-use Rattle.std.proofs.Common.{arith}
+use Rattle.std.proofs.Common.{length, arith, ap}
 use Rattle.ea_instance.proofs.Contents.{Rising-length}
 use Rattle.ea_instance.proofs.instance.Instance.free_units.Goals as goal
 
 pub free_of-requires : goal.free_of-requires
-free_of-requires c = omega (arith, Rising-length _ _ _ c.self.invariant.rising, c.deref.ensures.len)
+free_of-requires c = omega (arith, Rising-length _ _ _ c.self.invariant.rising, ap length c.as_slice.ensures)
