@@ -437,6 +437,29 @@ fn each_strategy_takes_its_own_gap_of_two_carriers(rt: HostRuntime) -> Result<()
 }
 
 #[test]
+fn the_first_carrier_that_fits_follows_its_changes(rt: HostRuntime) -> Result<(), Fail> {
+    let mut trial = with_gaps(&rt, rt.alloc(), Strategy::AoffCbf)?;
+    let steps = [
+        // The largest gap of carrier 1 is just large enough, and then it is filled and empty again.
+        Put(30, 16, Some((1, 8, 30))),
+        Put(16, 17, Some((2, 8, 20))),
+        TakeOut(1, 8, Released::Kept),
+        Put(16, 18, Some((1, 8, 16))),
+        Put(16, 19, None),
+        // Carrier 1 is deallocated.
+        TakeOut(1, 8, Released::Kept),
+        TakeOut(1, 38, Released::Kept),
+        TakeOut(1, 58, Released::Kept),
+        TakeOut(1, 78, Released::Kept),
+        TakeOut(1, 92, Released::EmptyOwn),
+        Put(16, 20, None),
+        Put(14, 20, Some((2, 54, 14))),
+    ];
+    trial.steps(&rt, rt.alloc(), &steps)?;
+    Ok(())
+}
+
+#[test]
 fn lines_are_added_by_rising_number(rt: HostRuntime) -> Result<(), Fail> {
     let trial = with_gaps(&rt, rt.alloc(), Strategy::Bf)?;
     let with_main = Settings {
