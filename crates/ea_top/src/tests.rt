@@ -468,28 +468,58 @@ const EIGHT_GAPS: &str =
 
 #[test]
 fn each_of_eight_strategies_has_a_gap_of_its_own(rt: HostRuntime) -> Result<(), Fail> {
-    let cases = [
-        ("bf", "3 36", "14 largest 102", "14 largest 102", "46"),
-        ("aobf", "3 8", "14 largest 102", "14 largest 102", "46"),
-        ("aoff", "1 8", "28 largest 88", "14 largest 102", "32"),
-        ("aoffcbf", "1 160", "28 largest 102", "14 largest 102", "32"),
+    let cases: [(&[&'static str], &str, &str, &str, &str); 8] = [
         (
-            "aoffcaobf",
+            &["+MHas", "bf", "+MHlmbcs", "256", "+MHacul", "0"],
+            "3 36",
+            "14 largest 102",
+            "14 largest 102",
+            "46",
+        ),
+        (
+            &["+MHas", "aobf", "+MHlmbcs", "256", "+MHacul", "0"],
+            "3 8",
+            "14 largest 102",
+            "14 largest 102",
+            "46",
+        ),
+        (
+            &["+MHas", "aoff", "+MHlmbcs", "256", "+MHacul", "0"],
+            "1 8",
+            "28 largest 88",
+            "14 largest 102",
+            "32",
+        ),
+        (
+            &["+MHas", "aoffcbf", "+MHlmbcs", "256", "+MHacul", "0"],
+            "1 160",
+            "28 largest 102",
+            "14 largest 102",
+            "32",
+        ),
+        (
+            &["+MHas", "aoffcaobf", "+MHlmbcs", "256", "+MHacul", "0"],
             "1 124",
             "28 largest 102",
             "14 largest 102",
             "32",
         ),
-        ("ageffcaoff", "2 8", "14 largest 102", "28 largest 88", "32"),
         (
-            "ageffcbf",
+            &["+MHas", "ageffcaoff", "+MHlmbcs", "256", "+MHacul", "0"],
+            "2 8",
+            "14 largest 102",
+            "28 largest 88",
+            "32",
+        ),
+        (
+            &["+MHas", "ageffcbf", "+MHlmbcs", "256", "+MHacul", "0"],
             "2 160",
             "14 largest 102",
             "28 largest 102",
             "32",
         ),
         (
-            "ageffcaobf",
+            &["+MHas", "ageffcaobf", "+MHlmbcs", "256", "+MHacul", "0"],
             "2 124",
             "14 largest 102",
             "28 largest 102",
@@ -497,7 +527,7 @@ fn each_of_eight_strategies_has_a_gap_of_its_own(rt: HostRuntime) -> Result<(), 
         ),
     ];
     let alloc = rt.alloc();
-    for (name, spot, first, second, third) in cases {
+    for (words, spot, first, second, third) in cases {
         let out = format!(in alloc;
             "scheduler 1\nalloc 1 1 8 32760\nalloc 2 2 8 102\nalloc 3 2 110 14\nalloc 4 2 124 22\nalloc 5 2 146 14\nalloc 6 2 160 22\nalloc 7 2 182 32586\nalloc 8 3 8 14\nalloc 9 3 22 14\nalloc 10 3 36 14\nalloc 11 3 50 32718\nfree 1 done\nalloc 12 1 8 102\nalloc 13 1 110 14\nalloc 14 1 124 22\nalloc 15 1 146 14\nalloc 16 1 160 22\nalloc 17 1 182 32586\nfree 2 done\nfree 4 done\nfree 6 done\nfree 8 done\nfree 10 done\nfree 12 done\nfree 14 done\nfree 16 done\nalloc 18 {spot} 14\ncarrier 1 multi owner 1 employed 1 base 0 pages 64 allocated 326{first}\ncarrier 2 multi owner 1 employed 1 base 64 pages 64 allocated 326{second}\ncarrier 3 multi owner 1 employed 1 base 128 pages 64 allocated 327{third} largest 14\ntotal carriers 3 units 98304 live 97974 queued 0 free 306 header 24\n"
         )?;
@@ -505,7 +535,7 @@ fn each_of_eight_strategies_has_a_gap_of_its_own(rt: HostRuntime) -> Result<(), 
             &rt,
             alloc,
             &Case {
-                words: &["+MHas", name, "+MHlmbcs", "256", "+MHacul", "0"],
+                words,
                 input: EIGHT_GAPS,
                 out: &out,
                 ..FIRST
