@@ -1,6 +1,6 @@
 -- What an operation does to the blocks of held names, and what the scheduler then shows.
 use Rattle.std.proofs.Common.{◌≡◌, ◌≢◌, ℕ, ◌+◌, ◌<◌, ◌≤◌, List, [], ◌∷◌, ◌++◌, length, get_or, set, drop, replicate, sym, ◌∙◌, ap, subst, refl, inl, inr, arith, get_or-set_same, get_or-set_other}
-use Rattle.std.specs.Prelude.{◌⊎◌, Option, Some, None, Ok, Err, IfSome, IsSome, option_map, fold}
+use Rattle.std.specs.Prelude.{◌⊎◌, Option, Some, None, Ok, Err, IsSome, option_map, fold}
 use Rattle.std.proofs.lemmas.Bool.{cases_eq, cases_lt, cases_Bool}
 use Rattle.std.proofs.lemmas.List.{get_or-replicate, get_or_past, length-replicate, drop_more}
 use Rattle.std.proofs.lemmas.Grind.{common_steps}

@@ -20,7 +20,11 @@ pub enum Refusal {
 /// The most megabytes of a super carrier.
 const MAX_MEGABYTES: u32 = 512;
 /// The most kilobytes of a main carrier.
-const MAX_KILOBYTES: u32 = 524_288;
+const MAX_MAIN_KILOBYTES: u32 = 524_288;
+/// The most kilobytes of a largest carrier.
+const MAX_LARGEST_KILOBYTES: u32 = 524_288;
+/// The most gaps of a bin that good fit inspects.
+const MAX_SEARCH_DEPTH: u32 = 1000;
 
 /// The units of a kilobyte.
 const KILOBYTE_UNITS: u32 = 128;
@@ -44,13 +48,17 @@ const DEFAULT_SETTINGS: Settings = Settings {
 };
 
 impl Chosen {
-    /// Where no flag says otherwise: a super carrier of 64 megabytes, and no main carrier.
+    /// Where no flag says otherwise: a super carrier of 64 megabytes, no main carrier, carriers of at most
+    /// 5120 kilobytes, and best fit inside the carrier at the lowest address.
     pub fn new() -> Chosen
         ensures { chosen_of result ≡ defaults }
     {
         Chosen {
-            megabytes: 64,
-            kilobytes: 0,
+            super_carrier: 64,
+            main_carrier: 0,
+            largest_carrier: 5120,
+            search_depth: DEFAULT_SETTINGS.mbsd,
+            strategy: DEFAULT_SETTINGS.strategy,
             off: false,
         }
     }
@@ -61,8 +69,11 @@ impl Chosen {
         ensures { chosen_of self.new ≡ set_by (chosen_of self.old) (setting_of setting) }
     {
         match setting {
-            Setting::SuperCarrier(megabytes) => self.megabytes = megabytes,
-            Setting::MainCarrier(kilobytes) => self.kilobytes = kilobytes,
+            Setting::SuperCarrier(megabytes) => self.super_carrier = megabytes,
+            Setting::MainCarrier(kilobytes) => self.main_carrier = kilobytes,
+            Setting::LargestCarrier(kilobytes) => self.largest_carrier = kilobytes,
+            Setting::SearchDepth(gaps) => self.search_depth = gaps,
+            Setting::Placement(strategy) => self.strategy = strategy,
             Setting::NoMigration => self.off = true,
         }
     }
@@ -73,13 +84,16 @@ impl Chosen {
     {
         Config {
             schedulers: 1,
-            scs: self.megabytes,
+            scs: self.super_carrier,
             b: DEFAULT_SETTINGS,
             d: DEFAULT_SETTINGS,
             e: DEFAULT_SETTINGS,
             h: Settings {
+                strategy: self.strategy,
                 acul: 0,
-                mmbcs: KILOBYTE_UNITS * self.kilobytes,
+                lmbcs: KILOBYTE_UNITS * self.largest_carrier,
+                mmbcs: KILOBYTE_UNITS * self.main_carrier,
+                mbsd: self.search_depth,
                 ..DEFAULT_SETTINGS
             },
             l: DEFAULT_SETTINGS,
@@ -97,7 +111,37 @@ impl Chosen {
 fn is_flag(word: &[u8]) -> bool
     ensures { result ≡ Rattle.ea_model.specs.Flags.is_flag word.now }
 {
-    word == b"+MMscs".as_slice() || word == b"+MHmmbcs".as_slice() || word == b"+MHacul".as_slice()
+    word == b"+MMscs".as_slice()
+        || word == b"+MHmmbcs".as_slice()
+        || word == b"+MHlmbcs".as_slice()
+        || word == b"+MHmbsd".as_slice()
+        || word == b"+MHas".as_slice()
+        || word == b"+MHacul".as_slice()
+}
+
+/// The strategy of this name, if it is one that is built.
+fn strategy_named(name: &[u8]) -> Option<Strategy>
+    ensures { result ≡ Rattle.ea_model.specs.Flags.strategy_named name.now }
+{
+    if name == b"bf".as_slice() {
+        Some(Strategy::Bf)
+    } else if name == b"aobf".as_slice() {
+        Some(Strategy::Aobf)
+    } else if name == b"aoff".as_slice() {
+        Some(Strategy::Aoff)
+    } else if name == b"aoffcbf".as_slice() {
+        Some(Strategy::AoffCbf)
+    } else if name == b"aoffcaobf".as_slice() {
+        Some(Strategy::AoffCaobf)
+    } else if name == b"ageffcaoff".as_slice() {
+        Some(Strategy::AgeffCaoff)
+    } else if name == b"ageffcbf".as_slice() {
+        Some(Strategy::AgeffCbf)
+    } else if name == b"ageffcaobf".as_slice() {
+        Some(Strategy::AgeffCaobf)
+    } else {
+        None
+    }
 }
 
 /// What a flag sets with this value, if the value is one of its own.
@@ -108,7 +152,13 @@ fn setting(flag: &[u8], value: &[u8]) -> Option<Setting>
     if flag == b"+MMscs".as_slice() {
         Some(Setting::SuperCarrier(number(value, 1, MAX_MEGABYTES)?))
     } else if flag == b"+MHmmbcs".as_slice() {
-        Some(Setting::MainCarrier(number(value, 0, MAX_KILOBYTES)?))
+        Some(Setting::MainCarrier(number(value, 0, MAX_MAIN_KILOBYTES)?))
+    } else if flag == b"+MHlmbcs".as_slice() {
+        Some(Setting::LargestCarrier(number(value, 1, MAX_LARGEST_KILOBYTES)?))
+    } else if flag == b"+MHmbsd".as_slice() {
+        Some(Setting::SearchDepth(number(value, 1, MAX_SEARCH_DEPTH)?))
+    } else if flag == b"+MHas".as_slice() {
+        Some(Setting::Placement(strategy_named(value)?))
     } else if value == b"0".as_slice() {
         Some(Setting::NoMigration)
     } else {

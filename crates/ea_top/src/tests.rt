@@ -267,7 +267,7 @@ const THREE_IN_2_MEGABYTES: &str =
 
 #[test]
 fn the_later_of_two_settings_holds_in_any_order(rt: HostRuntime) -> Result<(), Fail> {
-    let cases: [(&[&'static str], &str); 12] = [
+    let cases: [(&[&'static str], &str); 14] = [
         (GOOD, THREE_IN_1_MEGABYTE),
         (&["+MHacul", "0", "+MMscs", "1"], THREE_IN_1_MEGABYTE),
         (&["+MMscs", "01", "+MHacul", "0"], THREE_IN_1_MEGABYTE),
@@ -298,6 +298,17 @@ fn the_later_of_two_settings_holds_in_any_order(rt: HostRuntime) -> Result<(), F
             &["+MMscs", "0000000512", "+MHacul", "0"],
             THREE_IN_2_MEGABYTES,
         ),
+        // How far good fit searches concerns no other strategy.
+        (
+            &["+MHmbsd", "1", "+MMscs", "2", "+MHacul", "0"],
+            THREE_IN_2_MEGABYTES,
+        ),
+        (
+            &[
+                "+MHmbsd", "1000", "+MHmmbcs", "0", "+MHacul", "0", "+MMscs", "2",
+            ],
+            THREE_IN_2_MEGABYTES,
+        ),
     ];
     for (words, out) in cases {
         check(
@@ -314,9 +325,229 @@ fn the_later_of_two_settings_holds_in_any_order(rt: HostRuntime) -> Result<(), F
     Ok(())
 }
 
+const TWO_BLOCKS: &str = "type H\nscheduler 1\nalloc 1 200000\nalloc 2 200000\nschedule\nend\n";
+
+#[test]
+fn the_largest_carrier_bounds_how_carriers_grow(rt: HostRuntime) -> Result<(), Fail> {
+    let cases: [(&[&'static str], &str, &str); 8] = [
+        // It is no smaller than the first carrier.
+        (
+            &["+MHlmbcs", "1", "+MHacul", "0"],
+            "64 allocated 25002 largest 7758",
+            "65536 live 50004 queued 0 free 15516",
+        ),
+        (
+            &["+MHacul", "0", "+MHlmbcs", "256"],
+            "64 allocated 25002 largest 7758",
+            "65536 live 50004 queued 0 free 15516",
+        ),
+        // The second carrier grows by a tenth of what the largest has more than the first.
+        (
+            &["+MHlmbcs", "257", "+MHacul", "0"],
+            "65 allocated 25002 largest 8270",
+            "66048 live 50004 queued 0 free 16028",
+        ),
+        (
+            &["+MHacul", "0", "+MHlmbcs", "5120"],
+            "186 allocated 25002 largest 70222",
+            "128000 live 50004 queued 0 free 77980",
+        ),
+        (
+            &["+MHacul", "0", "+MHlmbcs", "524288"],
+            "13165 allocated 25002 largest 6715470",
+            "6773248 live 50004 queued 0 free 6723228",
+        ),
+        // The later of two holds.
+        (
+            &["+MHlmbcs", "524288", "+MHacul", "0", "+MHlmbcs", "256"],
+            "64 allocated 25002 largest 7758",
+            "65536 live 50004 queued 0 free 15516",
+        ),
+        (
+            &["+MHlmbcs", "256", "+MHlmbcs", "257", "+MHacul", "0"],
+            "65 allocated 25002 largest 8270",
+            "66048 live 50004 queued 0 free 16028",
+        ),
+        // The size of the main carrier is set apart from it.
+        (
+            &["+MHacul", "0", "+MHlmbcs", "256", "+MHmmbcs", "0"],
+            "64 allocated 25002 largest 7758",
+            "65536 live 50004 queued 0 free 15516",
+        ),
+    ];
+    let alloc = rt.alloc();
+    for (words, carrier, total) in cases {
+        let out = format!(in alloc;
+            "scheduler 1\nalloc 1 1 8 25002\nalloc 2 2 8 25002\ncarrier 1 multi owner 1 employed 1 base 0 pages 64 allocated 25002 largest 7758\ncarrier 2 multi owner 1 employed 1 base 64 pages {carrier}\ntotal carriers 2 units {total} header 16\n"
+        )?;
+        check(
+            &rt,
+            alloc,
+            &Case {
+                words,
+                input: TWO_BLOCKS,
+                out: &out,
+                ..FIRST
+            },
+        )?;
+    }
+    Ok(())
+}
+
+const TWO_GAPS: &str =
+    "type H\nscheduler 1\nalloc 1 100\nalloc 2 100\nalloc 3 100\nalloc 4 100\nfree 1\nfree 3\nalloc 5 100\nschedule\nend\n";
+
+const THE_HIGHER_GAP: &str =
+    "scheduler 1\nalloc 1 1 8 14\nalloc 2 1 22 14\nalloc 3 1 36 14\nalloc 4 1 50 14\nfree 1 done\nfree 3 done\nalloc 5 1 36 14\ncarrier 1 multi owner 1 employed 1 base 0 pages 64 allocated 42 largest 32704\ntotal carriers 1 units 32768 live 42 queued 0 free 32718 header 8\n";
+
+const THE_LOWER_GAP: &str =
+    "scheduler 1\nalloc 1 1 8 14\nalloc 2 1 22 14\nalloc 3 1 36 14\nalloc 4 1 50 14\nfree 1 done\nfree 3 done\nalloc 5 1 8 14\ncarrier 1 multi owner 1 employed 1 base 0 pages 64 allocated 42 largest 32704\ntotal carriers 1 units 32768 live 42 queued 0 free 32718 header 8\n";
+
+const REUSED_NUMBER: &str =
+    "type H\nscheduler 1\nalloc 1 200000\nalloc 2 200000\nfree 1\nalloc 3 250000\nalloc 4 100\nschedule\nend\n";
+
+const THE_LOWER_CARRIER: &str =
+    "scheduler 1\nalloc 1 1 8 25002\nalloc 2 2 8 25002\nfree 1 done\nalloc 3 1 8 31252\nalloc 4 1 31260 14\ncarrier 1 multi owner 1 employed 1 base 0 pages 64 allocated 31266 largest 1494\ncarrier 2 multi owner 1 employed 1 base 64 pages 64 allocated 25002 largest 7758\ntotal carriers 2 units 65536 live 56268 queued 0 free 9252 header 16\n";
+
+const THE_OLDER_CARRIER: &str =
+    "scheduler 1\nalloc 1 1 8 25002\nalloc 2 2 8 25002\nfree 1 done\nalloc 3 1 8 31252\nalloc 4 2 25010 14\ncarrier 1 multi owner 1 employed 1 base 0 pages 64 allocated 31252 largest 1508\ncarrier 2 multi owner 1 employed 1 base 64 pages 64 allocated 25016 largest 7744\ntotal carriers 2 units 65536 live 56268 queued 0 free 9252 header 16\n";
+
+#[test]
+fn the_later_of_two_strategies_chooses_the_gap(rt: HostRuntime) -> Result<(), Fail> {
+    let cases: [(&[&'static str], &str, &str); 8] = [
+        (&["+MHas", "bf", "+MHacul", "0"], TWO_GAPS, THE_HIGHER_GAP),
+        (&["+MHas", "aobf", "+MHacul", "0"], TWO_GAPS, THE_LOWER_GAP),
+        (
+            &["+MHas", "aobf", "+MHas", "bf", "+MHacul", "0"],
+            TWO_GAPS,
+            THE_HIGHER_GAP,
+        ),
+        (
+            &["+MHas", "bf", "+MHacul", "0", "+MHas", "aobf"],
+            TWO_GAPS,
+            THE_LOWER_GAP,
+        ),
+        // Without a word on it, it is that of carriers by address, and best fit inside.
+        (&["+MHacul", "0"], TWO_GAPS, THE_HIGHER_GAP),
+        (
+            &["+MHacul", "0", "+MHlmbcs", "256"],
+            REUSED_NUMBER,
+            THE_LOWER_CARRIER,
+        ),
+        (
+            &["+MHacul", "0", "+MHlmbcs", "256", "+MHas", "aoffcbf"],
+            REUSED_NUMBER,
+            THE_LOWER_CARRIER,
+        ),
+        // A carrier whose number was another's before is as old as itself.
+        (
+            &["+MHacul", "0", "+MHlmbcs", "256", "+MHas", "ageffcbf"],
+            REUSED_NUMBER,
+            THE_OLDER_CARRIER,
+        ),
+    ];
+    for (words, input, out) in cases {
+        check(
+            &rt,
+            rt.alloc(),
+            &Case {
+                words,
+                input,
+                out,
+                ..FIRST
+            },
+        )?;
+    }
+    Ok(())
+}
+
+// Three carriers, each with gaps of equal size: carrier 2 is the oldest, carrier 3 has the least gaps, and carrier 1,
+// which was deallocated and created again, has the lowest address.
+const EIGHT_GAPS: &str =
+    "type H\nscheduler 1\nalloc 1 262072\nalloc 2 800\nalloc 3 100\nalloc 4 160\nalloc 5 100\nalloc 6 160\nalloc 7 260680\nalloc 8 100\nalloc 9 100\nalloc 10 100\nalloc 11 261736\nfree 1\nalloc 12 800\nalloc 13 100\nalloc 14 160\nalloc 15 100\nalloc 16 160\nalloc 17 260680\nfree 2\nfree 4\nfree 6\nfree 8\nfree 10\nfree 12\nfree 14\nfree 16\nalloc 18 100\nschedule\nend\n";
+
+#[test]
+fn each_of_eight_strategies_has_a_gap_of_its_own(rt: HostRuntime) -> Result<(), Fail> {
+    let cases: [(&[&'static str], &str, &str, &str, &str); 8] = [
+        (
+            &["+MHas", "bf", "+MHlmbcs", "256", "+MHacul", "0"],
+            "3 36",
+            "14 largest 102",
+            "14 largest 102",
+            "46",
+        ),
+        (
+            &["+MHas", "aobf", "+MHlmbcs", "256", "+MHacul", "0"],
+            "3 8",
+            "14 largest 102",
+            "14 largest 102",
+            "46",
+        ),
+        (
+            &["+MHas", "aoff", "+MHlmbcs", "256", "+MHacul", "0"],
+            "1 8",
+            "28 largest 88",
+            "14 largest 102",
+            "32",
+        ),
+        (
+            &["+MHas", "aoffcbf", "+MHlmbcs", "256", "+MHacul", "0"],
+            "1 160",
+            "28 largest 102",
+            "14 largest 102",
+            "32",
+        ),
+        (
+            &["+MHas", "aoffcaobf", "+MHlmbcs", "256", "+MHacul", "0"],
+            "1 124",
+            "28 largest 102",
+            "14 largest 102",
+            "32",
+        ),
+        (
+            &["+MHas", "ageffcaoff", "+MHlmbcs", "256", "+MHacul", "0"],
+            "2 8",
+            "14 largest 102",
+            "28 largest 88",
+            "32",
+        ),
+        (
+            &["+MHas", "ageffcbf", "+MHlmbcs", "256", "+MHacul", "0"],
+            "2 160",
+            "14 largest 102",
+            "28 largest 102",
+            "32",
+        ),
+        (
+            &["+MHas", "ageffcaobf", "+MHlmbcs", "256", "+MHacul", "0"],
+            "2 124",
+            "14 largest 102",
+            "28 largest 102",
+            "32",
+        ),
+    ];
+    let alloc = rt.alloc();
+    for (words, spot, first, second, third) in cases {
+        let out = format!(in alloc;
+            "scheduler 1\nalloc 1 1 8 32760\nalloc 2 2 8 102\nalloc 3 2 110 14\nalloc 4 2 124 22\nalloc 5 2 146 14\nalloc 6 2 160 22\nalloc 7 2 182 32586\nalloc 8 3 8 14\nalloc 9 3 22 14\nalloc 10 3 36 14\nalloc 11 3 50 32718\nfree 1 done\nalloc 12 1 8 102\nalloc 13 1 110 14\nalloc 14 1 124 22\nalloc 15 1 146 14\nalloc 16 1 160 22\nalloc 17 1 182 32586\nfree 2 done\nfree 4 done\nfree 6 done\nfree 8 done\nfree 10 done\nfree 12 done\nfree 14 done\nfree 16 done\nalloc 18 {spot} 14\ncarrier 1 multi owner 1 employed 1 base 0 pages 64 allocated 326{first}\ncarrier 2 multi owner 1 employed 1 base 64 pages 64 allocated 326{second}\ncarrier 3 multi owner 1 employed 1 base 128 pages 64 allocated 327{third} largest 14\ntotal carriers 3 units 98304 live 97974 queued 0 free 306 header 24\n"
+        )?;
+        check(
+            &rt,
+            alloc,
+            &Case {
+                words,
+                input: EIGHT_GAPS,
+                out: &out,
+                ..FIRST
+            },
+        )?;
+    }
+    Ok(())
+}
+
 #[test]
 fn other_words_are_refused_and_nothing_is_read(rt: HostRuntime) -> Result<(), Fail> {
-    let cases: [(&[&'static str], &str); 27] = [
+    let cases: [(&[&'static str], &str); 44] = [
         // Migration has to be off.
         (&[], WORD_1),
         (&["+MMscs", "1"], WORD_3),
@@ -328,7 +559,10 @@ fn other_words_are_refused_and_nothing_is_read(rt: HostRuntime) -> Result<(), Fa
         (&["+MMscs1", "+MHacul", "0"], WORD_1),
         (&["+MMscs", "1", "+MLacul", "0"], WORD_3),
         (&["+MMscs", "1", "+MHacul", "0", "0"], WORD_5),
-        (&["+MHacul", "0", "+MHas", "bf"], WORD_3),
+        (&["+MHacul", "0", "+MLas", "bf"], WORD_3),
+        (&["+MHAS", "bf", "+MHacul", "0"], WORD_1),
+        (&["+MHacul", "0", "+MHlmbc", "1"], WORD_3),
+        (&["+MHacul", "0", "+MHmbsdx", "1"], WORD_3),
         (
             &[
                 "+MMscs", "1", "+MMscs", "1", "+MMscs", "1", "+MHacul", "0", "x",
@@ -339,6 +573,9 @@ fn other_words_are_refused_and_nothing_is_read(rt: HostRuntime) -> Result<(), Fa
         (&["+MMscs"], WORD_2),
         (&["+MMscs", "1", "+MHacul"], WORD_4),
         (&["+MHacul", "0", "+MHmmbcs"], WORD_4),
+        (&["+MHacul", "0", "+MHlmbcs"], WORD_4),
+        (&["+MHmbsd"], WORD_2),
+        (&["+MHas"], WORD_2),
         // No value of the flag.
         (&["+MMscs", "0", "+MHacul", "0"], WORD_2),
         (&["+MMscs", "513", "+MHacul", "0"], WORD_2),
@@ -346,10 +583,21 @@ fn other_words_are_refused_and_nothing_is_read(rt: HostRuntime) -> Result<(), Fa
         (&["+MMscs", "", "+MHacul", "0"], WORD_2),
         (&["+MHmmbcs", "524289", "+MHacul", "0"], WORD_2),
         (&["+MHmmbcs", "-1", "+MHacul", "0"], WORD_2),
+        (&["+MHlmbcs", "0", "+MHacul", "0"], WORD_2),
+        (&["+MHacul", "0", "+MHlmbcs", "524289"], WORD_4),
+        (&["+MHmbsd", "0", "+MHacul", "0"], WORD_2),
+        (&["+MHacul", "0", "+MHmbsd", "1001"], WORD_4),
+        (&["+MHas", "gf", "+MHacul", "0"], WORD_2),
+        (&["+MHacul", "0", "+MHas", "af"], WORD_4),
+        (&["+MHas", "bf", "+MHas", "BF", "+MHacul", "0"], WORD_4),
+        (&["+MHas", "ageffbf", "+MHacul", "0"], WORD_2),
+        (&["+MHas", "aoffcb", "+MHacul", "0"], WORD_2),
+        (&["+MHas", "", "+MHacul", "0"], WORD_2),
+        (&["+MHas", "3", "+MHacul", "0"], WORD_2),
         (&["+MMscs", "1", "+MHacul", "1"], WORD_4),
         (&["+MMscs", "1", "+MHacul", "00"], WORD_4),
         // The first wrong word is named, also where the main carrier is too large.
-        (&["+MMscs", "x", "+MHas", "bf"], WORD_2),
+        (&["+MMscs", "x", "+MHas", "gf"], WORD_2),
         (&["+MMscs", "1", "+MHmmbcs", "1025", "x"], WORD_5),
         // The main carrier has a page more than the region.
         (
