@@ -151,7 +151,7 @@ block_at-place offset bs d h = find_at (begins offset) bs ∙ slice_get-get_or b
 block_at-here : (at : ℕ) (b : BlockAt) (bs : List BlockAt) → b.offset ≡ at → block_at (b ∷ bs) at ≡ Some b
 block_at-here at b bs e = grind arith
 
-block_at-past : (at : ℕ) (b : BlockAt) (bs : List BlockAt) → b.offset ≢ at → block_at (b ∷ bs) at ≡ block_at bs at
+pub block_at-past : (at : ℕ) (b : BlockAt) (bs : List BlockAt) → b.offset ≢ at → block_at (b ∷ bs) at ≡ block_at bs at
 block_at-past at b bs n = grind arith
 
 -- no block begins before the tiling does

@@ -1,12 +1,12 @@
 //! The carrier and its calls.
 ghost use Rattle.std.specs.Prelude.{◌≡◌, ◌≢◌, ℕ, ◌+◌, ◌%◌, ◌<◌, ◌≤◌, ◌↔◌, [], All, Some, None, IsTrue, IsSome, IsNone, IfSome, OnOk, OnErr, IfOk, length, option_map};
 ghost use Rattle.ea_model.specs.declared.carriers.Kind.TheVariants.{Multi};
-ghost use Rattle.ea_model.specs.Content.{gaps_of, gap_at, block_at, named, taken_of, placed, released, allocated, largest, free_units};
+ghost use Rattle.ea_model.specs.Content.{gaps_of, gap_at, gap_before, gap_behind, block_at, named, taken_of, placed, released, allocated, largest, free_units};
 ghost use Rattle.ea_model.specs.Choice.{before, fitting, choice, IsFirst};
 
 use crate::walks::{
-    allocated_units, best_gap, count_of, find_block, gap_from, insert_block, largest_gap, place_of,
-    taken,
+    allocated_units, best_gap, count_of, find_block, free_before, free_behind, gap_from,
+    insert_block, largest_gap, place_of, taken,
 };
 use ea_model::{Block, BlockAt, Carried, Inner, OutOfMemory};
 use std::alloc::Global;
@@ -152,6 +152,22 @@ impl Mbc {
         ensures { result ≡ gap_at (gaps_of self.now) offset }
     {
         gap_from(self.units, &self.blocks, offset)
+    }
+
+    /// The units of the gap directly behind the block that begins at `offset`, 0 where there is none.
+    pub fn gap_behind(&self, offset: u32) -> u32
+        requires { IsSome (block_at self.now.blocks offset) }
+        ensures { result ≡ gap_behind self.now offset }
+    {
+        free_behind(self.units, &self.blocks, offset)
+    }
+
+    /// The units of the gap directly before the block that begins at `offset`, 0 where there is none.
+    pub fn gap_before(&self, offset: u32) -> u32
+        requires { IsSome (block_at self.now.blocks offset) }
+        ensures { result ≡ gap_before self.now offset }
+    {
+        free_before(self.units, &self.blocks, offset)
     }
 
     /// The units of its largest gap, or 0.
