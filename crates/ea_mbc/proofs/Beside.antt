@@ -62,7 +62,7 @@ gap_at-first a b rest h = grind arith
 gap_at-none : (a b : ℕ) (rest : List Gap) → b ≤ a → gap_at (gap a b ++ rest) a ≡ gap_at rest a
 gap_at-none a b rest h = grind arith
 
-next_of-here : (end offset : ℕ) (b : BlockAt) (bs : List BlockAt) → offset < b.offset → next_of end offset (b ∷ bs) ≡ b.offset
+pub next_of-here : (end offset : ℕ) (b : BlockAt) (bs : List BlockAt) → offset < b.offset → next_of end offset (b ∷ bs) ≡ b.offset
 next_of-here end offset b bs h = grind arith
 
 next_of-past : (end offset : ℕ) (b : BlockAt) (bs : List BlockAt) → b.offset ≤ offset → next_of end offset (b ∷ bs) ≡ next_of end offset bs
@@ -77,7 +77,7 @@ next_of-within at end offset (b ∷ bs) t =
     ]
 
 -- the gap where the tiling begins reaches up to the first block, or the end
-gap_at-front : (at end offset : ℕ) (bs : List BlockAt) → Tiled at end bs → offset < at → at + gap_at (gaps at end bs) at ≡ next_of end offset bs
+pub gap_at-front : (at end offset : ℕ) (bs : List BlockAt) → Tiled at end bs → offset < at → at + gap_at (gaps at end bs) at ≡ next_of end offset bs
 gap_at-front at end offset [] t lt = omega (arith, gap_at-only at end, t.0)
 gap_at-front at end offset (b ∷ bs) t lt =
     let next = next_of-here end offset b bs (omega arith) in
@@ -94,7 +94,7 @@ pub record Lies (at end offset : ℕ) (bs : List BlockAt) (b : BlockAt) : Type 0
   pub up_to : offset + b.size + gap_at (gaps at end bs) (offset + b.size) ≡ next_of end offset bs
   pub within : next_of end offset bs ≤ end
 
-lies_here : (at end offset : ℕ) (b : BlockAt) (bs : List BlockAt) → Tiled at end (b ∷ bs) → b.offset ≡ offset → Lies at end offset (b ∷ bs) b
+pub lies_here : (at end offset : ℕ) (b : BlockAt) (bs : List BlockAt) → Tiled at end (b ∷ bs) → b.offset ≡ offset → Lies at end offset (b ∷ bs) b
 lies_here at end offset b bs t e =
     let ends : b.offset + b.size ≡ offset + b.size = omega arith in
     let front = subst (λ n. n + gap_at (gaps (b.offset + b.size) end bs) n ≡ next_of end offset bs) ends (gap_at-front (b.offset + b.size) end offset bs t.4 (omega arith)) in
@@ -123,10 +123,10 @@ lies_more at end offset x b bs t h =
       within = next_of-within at end offset (x ∷ bs) t;
     }
 
-none_there : (offset : ℕ) (b : BlockAt) → block_at [] offset ≡ Some b → ⊥
+pub none_there : (offset : ℕ) (b : BlockAt) → block_at [] offset ≡ Some b → ⊥
 none_there offset b h = grind arith
 
-same_block : (offset : ℕ) (x b : BlockAt) (bs : List BlockAt) → x.offset ≡ offset → block_at (x ∷ bs) offset ≡ Some b → x ≡ b
+pub same_block : (offset : ℕ) (x b : BlockAt) (bs : List BlockAt) → x.offset ≡ offset → block_at (x ∷ bs) offset ≡ Some b → x ≡ b
 same_block offset x b bs e h = grind arith
 
 pub block_at-Lies : (at end offset : ℕ) (b : BlockAt) (bs : List BlockAt) → Tiled at end bs → block_at bs offset ≡ Some b → Lies at end offset bs b
