@@ -1,6 +1,6 @@
 -- The gaps beside a block.
-use Rattle.std.proofs.Common.{◌≡◌, ◌≢◌, ℕ, ◌+◌, ◌-◌, ◌<◌, ◌≤◌, List, [], ◌∷◌, ◌++◌, length, get_or, drop, refl, sym, ap, ◌∙◌, subst, inl, inr, ◌⊎◌, arith}
-use Rattle.std.specs.Prelude.{Some, None, IsSome}
+use Rattle.std.proofs.Common.{◌≡◌, ◌≢◌, ℕ, ◌+◌, ◌-◌, ◌<◌, ◌≤◌, List, [], ◌∷◌, ◌++◌, length, get_or, drop, sym, ap, ◌∙◌, subst, inl, inr, ◌⊎◌, arith}
+use Rattle.std.specs.Prelude.{Some}
 use Rattle.std.specs.Option.{option_map_or}
 use Rattle.std.proofs.lemmas.List.{drop_more}
 use Rattle.std.proofs.lemmas.Bool.{cases_eq, cases_lt}
@@ -19,7 +19,7 @@ gap_up_to-last : (at end offset : ℕ) → offset ≤ at → gap_up_to (gap at e
 gap_up_to-last at end offset le = grind arith
 
 -- no gap ends before the tiling begins
-pub gap_up_to-early : (at end offset : ℕ) (bs : List BlockAt) → Tiled at end bs → offset ≤ at → gap_up_to (gaps at end bs) offset ≡ 0
+gap_up_to-early : (at end offset : ℕ) (bs : List BlockAt) → Tiled at end bs → offset ≤ at → gap_up_to (gaps at end bs) offset ≡ 0
 gap_up_to-early at end offset [] t le = gap_up_to-last at end offset le
 gap_up_to-early at end offset (b ∷ bs) t le =
     elim (gap_up_to-step at b.offset offset (gaps (b.offset + b.size) end bs)) [
@@ -45,7 +45,7 @@ gap_at-last : (at end offset : ℕ) → offset < at → gap_at (gap at end) offs
 gap_at-last at end offset le = grind arith
 
 -- no gap begins before the tiling does
-pub gap_at-early : (at end offset : ℕ) (bs : List BlockAt) → Tiled at end bs → offset < at → gap_at (gaps at end bs) offset ≡ 0
+gap_at-early : (at end offset : ℕ) (bs : List BlockAt) → Tiled at end bs → offset < at → gap_at (gaps at end bs) offset ≡ 0
 gap_at-early at end offset [] t lt = gap_at-last at end offset lt
 gap_at-early at end offset (b ∷ bs) t lt =
     elim (gap_at-step at b.offset offset (gaps (b.offset + b.size) end bs)) [
@@ -94,7 +94,7 @@ pub record Lies (at end offset : ℕ) (bs : List BlockAt) (b : BlockAt) : Type 0
   pub up_to : offset + b.size + gap_at (gaps at end bs) (offset + b.size) ≡ next_of end offset bs
   pub within : next_of end offset bs ≤ end
 
-pub lies_here : (at end offset : ℕ) (b : BlockAt) (bs : List BlockAt) → Tiled at end (b ∷ bs) → b.offset ≡ offset → Lies at end offset (b ∷ bs) b
+lies_here : (at end offset : ℕ) (b : BlockAt) (bs : List BlockAt) → Tiled at end (b ∷ bs) → b.offset ≡ offset → Lies at end offset (b ∷ bs) b
 lies_here at end offset b bs t e =
     let ends : b.offset + b.size ≡ offset + b.size = omega arith in
     let front = subst (λ n. n + gap_at (gaps (b.offset + b.size) end bs) n ≡ next_of end offset bs) ends (gap_at-front (b.offset + b.size) end offset bs t.4 (omega arith)) in
@@ -129,6 +129,7 @@ none_there offset b h = grind arith
 pub same_block : (offset : ℕ) (x b : BlockAt) (bs : List BlockAt) → x.offset ≡ offset → block_at (x ∷ bs) offset ≡ Some b → x ≡ b
 same_block offset x b bs e h = grind arith
 
+-- a block that is there lies so
 pub block_at-Lies : (at end offset : ℕ) (b : BlockAt) (bs : List BlockAt) → Tiled at end bs → block_at bs offset ≡ Some b → Lies at end offset bs b
 block_at-Lies at end offset b [] t h = absurd (none_there offset b h)
 block_at-Lies at end offset b (x ∷ bs) t h =

@@ -1,9 +1,7 @@
-use Rattle.std.proofs.Common.{◌≡◌, sym, ◌∙◌, ap, subst, refl, get_or, length, ◌<◌}
-use Rattle.std.specs.Prelude.{option_map, Some}
-use Rattle.std.specs.List.{position_or_len}
+use Rattle.std.proofs.Common.{sym, ◌∙◌, ap, subst, refl}
+use Rattle.std.specs.Prelude.{option_map}
 use Rattle.ea_model.specs.declared.carriers.BlockAt.{BlockAt}
 use Rattle.ea_model.specs.Content.{block_at, Tiled}
-use Rattle.ea_mbc.specs.Walks.{begins}
 use Rattle.ea_mbc.proofs.BlockLists.{remove-without, Tiled-released, block_at-removed, block_at-released, block_at-released_other}
 use Rattle.ea_mbc.proofs.Replacing.{released-GapsJoined}
 use Rattle.ea_mbc.proofs.carrier.Mbc.release.Goals as goal
