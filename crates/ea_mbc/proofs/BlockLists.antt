@@ -70,10 +70,10 @@ pub Tiled-earlier : (a at end : ℕ) (bs : List BlockAt) → a ≤ at → IsGapS
 Tiled-earlier a at end [] le g t = (omega arith, IsGapSize-join a at end le t.0 g t.1)
 Tiled-earlier a at end (b ∷ bs) le g t = (omega arith, IsGapSize-join a at b.offset le t.0 g t.1, t.2, t.3, t.4)
 
-filter_at : (offset : ℕ) (b : BlockAt) (bs : List BlockAt) → b.offset ≡ offset → filter (λ b. not (begins offset b)) bs ≡ bs → filter (λ b. not (begins offset b)) (b ∷ bs) ≡ bs
+pub filter_at : (offset : ℕ) (b : BlockAt) (bs : List BlockAt) → b.offset ≡ offset → filter (λ b. not (begins offset b)) bs ≡ bs → filter (λ b. not (begins offset b)) (b ∷ bs) ≡ bs
 filter_at offset b bs e same = grind arith
 
-filter_past : (offset : ℕ) (b : BlockAt) (bs : List BlockAt) → b.offset ≢ offset → filter (λ b. not (begins offset b)) (b ∷ bs) ≡ b ∷ filter (λ b. not (begins offset b)) bs
+pub filter_past : (offset : ℕ) (b : BlockAt) (bs : List BlockAt) → b.offset ≢ offset → filter (λ b. not (begins offset b)) (b ∷ bs) ≡ b ∷ filter (λ b. not (begins offset b)) bs
 filter_past offset b bs e = grind arith
 
 -- still tiled without a block
@@ -90,13 +90,13 @@ Tiled-released at end offset (b ∷ bs) t =
 IsGapSize-zero : (n : ℕ) → n ≡ 0 → IsGapSize n
 IsGapSize-zero n e = record { even = omega arith; whole = λ h. omega arith }
 
-only_gap : (at end offset : ℕ) → at ≤ end → 0 < gap_at (gap at end) offset → (offset ≡ at) × (gap_at (gap at end) offset ≡ end - at)
+pub only_gap : (at end offset : ℕ) → at ≤ end → 0 < gap_at (gap at end) offset → (offset ≡ at) × (gap_at (gap at end) offset ≡ end - at)
 only_gap at end offset t h = grind arith
 
-inserted_here : (x b : BlockAt) (bs : List BlockAt) → x.offset < b.offset → inserted x (b ∷ bs) ≡ x ∷ b ∷ bs
+pub inserted_here : (x b : BlockAt) (bs : List BlockAt) → x.offset < b.offset → inserted x (b ∷ bs) ≡ x ∷ b ∷ bs
 inserted_here x b bs h = grind arith
 
-inserted_past : (x b : BlockAt) (bs : List BlockAt) → b.offset ≤ x.offset → inserted x (b ∷ bs) ≡ b ∷ inserted x bs
+pub inserted_past : (x b : BlockAt) (bs : List BlockAt) → b.offset ≤ x.offset → inserted x (b ∷ bs) ≡ b ∷ inserted x bs
 inserted_past x b bs h = grind arith
 
 -- what a new block needs of the gap of g units that it goes into
@@ -145,13 +145,20 @@ Tiled-inserted at end x (b ∷ bs) t h =
     ]
 
 -- the block at the offset stands at the first place with that offset
-pub block_at-place : (offset : ℕ) (bs : List BlockAt) (d : BlockAt) → position_or_len (begins offset) bs < length bs → block_at bs offset ≡ Some (get_or bs (position_or_len (begins offset) bs) d)
+block_at-place : (offset : ℕ) (bs : List BlockAt) (d : BlockAt) → position_or_len (begins offset) bs < length bs → block_at bs offset ≡ Some (get_or bs (position_or_len (begins offset) bs) d)
 block_at-place offset bs d h = find_at (begins offset) bs ∙ slice_get-get_or bs (position_or_len (begins offset) bs) d h
+
+-- the block that is removed by its place
+pub block_at-removed : (offset n : ℕ) (bs searched : List BlockAt) (b : BlockAt) → n ≡ position_or_len (begins offset) searched → n < length searched → searched ≡ bs → b ≡ get_or bs n b → block_at bs offset ≡ Some b
+block_at-removed offset n bs searched b place within same value =
+    let at = place ∙ ap (position_or_len (begins offset)) same in
+    let inside : position_or_len (begins offset) bs < length bs = subst (λ xs. position_or_len (begins offset) xs < length xs) same (subst (λ m. m < length searched) place within) in
+    block_at-place offset bs b inside ∙ ap Some (sym (value ∙ ap (λ m. get_or bs m b) at))
 
 block_at-here : (at : ℕ) (b : BlockAt) (bs : List BlockAt) → b.offset ≡ at → block_at (b ∷ bs) at ≡ Some b
 block_at-here at b bs e = grind arith
 
-block_at-past : (at : ℕ) (b : BlockAt) (bs : List BlockAt) → b.offset ≢ at → block_at (b ∷ bs) at ≡ block_at bs at
+pub block_at-past : (at : ℕ) (b : BlockAt) (bs : List BlockAt) → b.offset ≢ at → block_at (b ∷ bs) at ≡ block_at bs at
 block_at-past at b bs n = grind arith
 
 -- no block begins before the tiling does

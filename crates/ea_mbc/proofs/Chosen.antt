@@ -12,10 +12,10 @@ use Rattle.ea_model.proofs.First.{first-All, first-none, large-none, none-large}
 use Rattle.ea_model.proofs.Options.{unmapped}
 use Rattle.ea_mbc.proofs.BlockLists.{gap_at-step}
 
-gap_some : (a b : ℕ) → a < b → gap a b ≡ record { offset = a; size = b - a } ∷ []
+pub gap_some : (a b : ℕ) → a < b → gap a b ≡ record { offset = a; size = b - a } ∷ []
 gap_some a b h = grind arith
 
-gap_none : (a b : ℕ) → b ≤ a → gap a b ≡ []
+pub gap_none : (a b : ℕ) → b ≤ a → gap a b ≡ []
 gap_none a b h = grind arith
 
 -- g is the gap of gs that begins at its offset, and that is not before `at`

@@ -1,12 +1,13 @@
 //! The carrier and its calls.
 ghost use Rattle.std.specs.Prelude.{◌≡◌, ◌≢◌, ℕ, ◌+◌, ◌%◌, ◌<◌, ◌≤◌, ◌↔◌, [], All, Some, None, IsTrue, IsSome, IsNone, IfSome, OnOk, OnErr, IfOk, length, option_map};
 ghost use Rattle.ea_model.specs.declared.carriers.Kind.TheVariants.{Multi};
-ghost use Rattle.ea_model.specs.Content.{gaps_of, gap_at, block_at, named, taken_of, placed, released, allocated, largest, free_units};
+ghost use Rattle.ea_model.specs.Content.{gaps_of, gap_at, gap_before, gap_behind, block_at, named, taken_of, placed, released, allocated, largest, free_units};
 ghost use Rattle.ea_model.specs.Choice.{before, fitting, choice, IsFirst};
+ghost use Rattle.ea_mbc.specs.Gaps.{GapTaken, GapsJoined};
 
 use crate::walks::{
-    allocated_units, best_gap, count_of, find_block, gap_from, insert_block, largest_gap, place_of,
-    taken,
+    allocated_units, best_gap, count_of, find_block, free_before, free_behind, gap_from,
+    insert_block, largest_gap, place_of, taken,
 };
 use ea_model::{Block, BlockAt, Carried, Inner, OutOfMemory};
 use std::alloc::Global;
@@ -113,6 +114,9 @@ impl Mbc {
             block_at self.new.blocks offset ≡ Some (record { name = name; offset = offset; size = size })) }
         ensures others { (at : ℕ) → at ≢ offset →
             block_at self.new.blocks at ≡ block_at self.old.blocks at }
+
+        // Of the gaps only that one changes: what the block leaves of it is a gap, if it leaves any.
+        ensures gap_taken { IfOk result (GapTaken self.old self.new offset) }
     {
         let gap = gap_from(self.units, &self.blocks, offset);
         let size = taken(gap, need);
@@ -133,6 +137,9 @@ impl Mbc {
         ensures gone { OnOk result (block_at self.new.blocks offset ≡ None) }
         ensures others { (at : ℕ) → at ≢ offset →
             block_at self.new.blocks at ≡ block_at self.old.blocks at }
+
+        // Of the gaps only those directly before and behind the block change: with it they are one gap.
+        ensures gaps_joined { IfOk result (GapsJoined self.old self.new offset) }
     {
         let index = place_of(&self.blocks, offset);
         let block = self.blocks.remove(index);
@@ -152,6 +159,22 @@ impl Mbc {
         ensures { result ≡ gap_at (gaps_of self.now) offset }
     {
         gap_from(self.units, &self.blocks, offset)
+    }
+
+    /// The units of the gap directly behind the block that begins at `offset`, 0 where there is none.
+    pub fn gap_behind(&self, offset: u32) -> u32
+        requires { IsSome (block_at self.now.blocks offset) }
+        ensures { result ≡ gap_behind self.now offset }
+    {
+        free_behind(self.units, &self.blocks, offset)
+    }
+
+    /// The units of the gap directly before the block that begins at `offset`, 0 where there is none.
+    pub fn gap_before(&self, offset: u32) -> u32
+        requires { IsSome (block_at self.now.blocks offset) }
+        ensures { result ≡ gap_before self.now offset }
+    {
+        free_before(self.units, &self.blocks, offset)
     }
 
     /// The units of its largest gap, or 0.

@@ -30,6 +30,15 @@ fn take_out(carrier: &mut Mbc, offset: u32) -> Result<Option<u32>, OutOfMemory> 
     }
 }
 
+// The gaps before and behind the block that begins at the offset, if one does.
+fn beside(carrier: &Mbc, offset: u32) -> Option<(u32, u32)> {
+    if carrier.block_at(offset).is_some() {
+        Some((carrier.gap_before(offset), carrier.gap_behind(offset)))
+    } else {
+        None
+    }
+}
+
 #[test]
 fn released_neighbours_are_one_gap(rt: HostRuntime) -> Result<(), Fail> {
     let mut carrier = Mbc::new(rt.alloc(), 32768, 0, 1, 1, 1)?;
@@ -79,6 +88,50 @@ fn each_order_takes_its_own_gap(rt: HostRuntime) -> Result<(), Fail> {
             aoff,
             "address order first fit of {need}"
         );
+    }
+    Ok(())
+}
+
+#[test]
+fn a_block_has_a_gap_on_each_side_or_none(rt: HostRuntime) -> Result<(), Fail> {
+    let mut carrier = Mbc::new(rt.alloc(), 512, 0, 1, 1, 1)?;
+    for (name, need) in [(1, 20), (2, 6), (3, 14), (4, 6), (5, 14), (6, 6)] {
+        put(&mut carrier, Inner::Aoff, need, name)?;
+    }
+
+    // From the header on the blocks touch, and the last one ends at 74.
+    for (offset, gaps) in [
+        (8, Some((0, 0))),
+        (28, Some((0, 0))),
+        (68, Some((0, 438))),
+        (74, None),
+    ] {
+        assert_eq!(rt; beside(&carrier, offset), gaps, "touching, at {offset}");
+    }
+
+    // The gaps have 20 units at 8, 14 at 34, 14 at 54 and 438 at 74.
+    for offset in [8, 34, 54] {
+        take_out(&mut carrier, offset)?;
+    }
+    for (offset, gaps) in [
+        (8, None),
+        (28, Some((20, 14))),
+        (48, Some((14, 14))),
+        (68, Some((14, 438))),
+    ] {
+        assert_eq!(rt; beside(&carrier, offset), gaps, "apart, at {offset}");
+    }
+
+    // The first block begins at 8 again and leaves 12 units, and the last one ends with the carrier.
+    assert_eq!(rt; put(&mut carrier, Inner::Aoff, 8, 7)?, Some((8, 8)));
+    assert_eq!(rt; put(&mut carrier, Inner::Aoff, 438, 8)?, Some((74, 438)));
+    for (offset, gaps) in [
+        (8, Some((0, 12))),
+        (28, Some((12, 14))),
+        (68, Some((14, 0))),
+        (74, Some((0, 0))),
+    ] {
+        assert_eq!(rt; beside(&carrier, offset), gaps, "at both ends, at {offset}");
     }
     Ok(())
 }

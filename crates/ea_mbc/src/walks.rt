@@ -1,7 +1,7 @@
 //! Walks over the blocks of a carrier, by rising offset.
 ghost use Rattle.std.specs.Prelude.{◌≡◌, ◌<◌, ◌≤◌, fold, length, IsSome, OnOk, OnErr};
 ghost use Rattle.std.specs.List.{position_or_len};
-ghost use Rattle.ea_model.specs.Content.{gap, gaps, gap_at, allocated, largest, block_at, taken_of, inserted, Tiled};
+ghost use Rattle.ea_model.specs.Content.{gap, gaps, gap_at, gap_up_to, allocated, largest, block_at, end_of, taken_of, inserted, Tiled};
 ghost use Rattle.ea_model.specs.Choice.{before, better, fitting, choice};
 ghost use Rattle.ea_mbc.specs.Walks.{begins, follows, next_of};
 
@@ -148,6 +148,34 @@ pub fn gap_from(units: u32, blocks: &[BlockAt], offset: u32) -> u32
     ensures { result ≡ gap_at (gaps 8 units blocks.now) offset }
 {
     gap_end(units, blocks, offset) - offset
+}
+
+/// The units of the gap directly behind the block that begins at the offset, or 0.
+pub fn free_behind(units: u32, blocks: &[BlockAt], offset: u32) -> u32
+    requires tiled { Tiled 8 units blocks.now }
+    requires begins { IsSome (block_at blocks.now offset) }
+    ensures { result ≡ gap_at (gaps 8 units blocks.now) (end_of blocks.now offset) }
+{
+    match find_block(blocks, offset) {
+        Some(block) => gap_end(units, blocks, offset) - (offset + block.size),
+        None => unreachable!(),
+    }
+}
+
+/// The units of the gap directly before the block that begins at the offset, or 0.
+pub fn free_before(units: u32, blocks: &[BlockAt], offset: u32) -> u32
+    requires tiled { Tiled 8 units blocks.now }
+    requires begins { IsSome (block_at blocks.now offset) }
+    ensures { result ≡ gap_up_to (gaps 8 units blocks.now) offset }
+{
+    let mut at = HEADER_UNITS;
+    for block in blocks {
+        if block.offset == offset {
+            return offset - at;
+        }
+        at = block.offset + block.size;
+    }
+    unreachable!()
 }
 
 /// The units that a block takes of a gap.

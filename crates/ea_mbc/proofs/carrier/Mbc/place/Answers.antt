@@ -1,6 +1,7 @@
-use Rattle.std.proofs.Common.{◌≡◌, ◌≤◌, sym, ◌∙◌, ap, subst}
+use Rattle.std.proofs.Common.{◌≡◌, ◌≤◌, sym, ◌∙◌, ap, subst, arith}
 use Rattle.ea_model.specs.Content.{gap_at, gaps, gaps_of, block_at, taken_of, Tiled}
 use Rattle.ea_mbc.proofs.BlockLists.{gap_at-whole, taken_of-enters, Tiled-inserted, IsFront-gap, block_at-inserted, block_at-inserted_other}
+use Rattle.ea_mbc.proofs.Replacing.{placed-GapTaken}
 use Rattle.ea_mbc.proofs.carrier.Mbc.place.Goals as goal
 
 pub invariant_of-self-2 : goal.invariant_of-self-2
@@ -39,3 +40,7 @@ returns-clause-others c = λ at n.
     ap (λ bs. block_at bs at) c.in_ok-insert_block.ensures.ok
     ∙ block_at-inserted_other at _ c.self.inside.blocks.items n
     ∙ ap (λ m. block_at m.blocks at) c.self.view_is
+
+pub returns-clause-gap_taken : goal.returns-clause-gap_taken
+returns-clause-gap_taken c =
+    placed-GapTaken _ c.args.self.now (record { name = c.args.name; offset = c.args.offset; size = c.taken-size.result }) _ c.self.view_is c.self.invariant (omega (arith, c.requires.fits, c.requires.least)) c.in_ok-insert_block.ensures.ok

@@ -1,10 +1,9 @@
-use Rattle.std.proofs.Common.{◌≡◌, sym, ◌∙◌, ap, subst, refl, get_or, length, ◌<◌}
-use Rattle.std.specs.Prelude.{option_map, Some}
-use Rattle.std.specs.List.{position_or_len}
+use Rattle.std.proofs.Common.{sym, ◌∙◌, ap, subst, refl}
+use Rattle.std.specs.Prelude.{option_map}
 use Rattle.ea_model.specs.declared.carriers.BlockAt.{BlockAt}
 use Rattle.ea_model.specs.Content.{block_at, Tiled}
-use Rattle.ea_mbc.specs.Walks.{begins}
-use Rattle.ea_mbc.proofs.BlockLists.{remove-without, Tiled-released, block_at-place, block_at-released, block_at-released_other}
+use Rattle.ea_mbc.proofs.BlockLists.{remove-without, Tiled-released, block_at-removed, block_at-released, block_at-released_other}
+use Rattle.ea_mbc.proofs.Replacing.{released-GapsJoined}
 use Rattle.ea_mbc.proofs.carrier.Mbc.release.Goals as goal
 
 pub invariant_of-self : goal.invariant_of-self
@@ -14,11 +13,14 @@ invariant_of-self c =
 
 pub returns-clause-size : goal.returns-clause-size
 returns-clause-size c =
-    let at = c.place_of-index.ensures.place ∙ ap (position_or_len (begins c.args.offset)) c.deref.ensures.value in
-    let within : position_or_len (begins c.args.offset) c.self.inside.blocks.items < length c.self.inside.blocks.items = subst (λ xs. position_or_len (begins c.args.offset) xs < length xs) c.deref.ensures.value (subst (λ n. n < length c.deref.result.now) c.place_of-index.ensures.place c.place_of-index.ensures.within) in
-    let e : c.remove-block.result ≡ get_or c.self.inside.blocks.items (position_or_len (begins c.args.offset) c.self.inside.blocks.items) c.remove-block.result = c.remove-block.ensures.value ∙ ap (λ n. get_or c.self.inside.blocks.items n c.remove-block.result) at in
-    let found = block_at-place c.args.offset c.self.inside.blocks.items c.remove-block.result within ∙ ap Some (sym e) in
+    let found = block_at-removed c.args.offset c.place_of-index.result c.self.inside.blocks.items _ c.remove-block.result c.place_of-index.ensures.place c.place_of-index.ensures.within c.deref.ensures.value c.remove-block.ensures.value in
     ap (λ m. option_map (λ (b : BlockAt). b.size) (block_at m.blocks c.args.offset)) (sym c.self.view_is) ∙ ap (option_map (λ (b : BlockAt). b.size)) found
+
+pub returns-clause-gaps_joined : goal.returns-clause-gaps_joined
+returns-clause-gaps_joined c =
+    let found = block_at-removed c.args.offset c.place_of-index.result c.self.inside.blocks.items _ c.remove-block.result c.place_of-index.ensures.place c.place_of-index.ensures.within c.deref.ensures.value c.remove-block.ensures.value in
+    let left = remove-without _ _ _ _ _ _ c.self.invariant c.place_of-index.ensures.place c.deref.ensures.value c.remove-block.ensures.items in
+    released-GapsJoined _ c.args.self.now c.args.offset c.remove-block.result _ c.self.view_is c.self.invariant found left
 
 pub returns-clause-ok : goal.returns-clause-ok
 returns-clause-ok c =
