@@ -1,7 +1,8 @@
 #!/usr/bin/env python3
 """Makes the traces that bench/measure runs: python3 bench/inputs.py FOLDER.
 
-They are the same bytes on every machine, and good under the flags +MMscs 512 +MHacul 0.
+They are the same bytes on every machine, and good under the flags +MMscs 512 +MHacul 0. Those in FOLDER/strategies are
+for +MHlmbcs 256 besides, with any of the strategies: no allocation fails under any of them.
 """
 import os
 import random
@@ -45,14 +46,41 @@ def stacked(count):
     return OPENING + "".join(allocs + frees) + CLOSING
 
 
+def crowded(changes):
+    """5000 blocks held in 250 carriers of 256 kB, with 600 holes, and then so many operations: a random block is freed
+    and a new one is allocated, in turn."""
+    pick = random.Random(4).random
+    lines, held = [], []
+
+    def alloc(name):
+        held.append(name)
+        lines.append(f"alloc {name} {8000 + int(pick() * 7001)}\n")
+
+    def free():
+        at = int(pick() * len(held))
+        held[at], held[-1] = held[-1], held[at]
+        lines.append(f"free {held.pop()}\n")
+
+    for name in range(1, 5601):
+        alloc(name)
+    for _ in range(600):
+        free()
+    for name in range(5601, 5601 + changes // 2):
+        free()
+        alloc(name)
+    return OPENING + "".join(lines) + CLOSING
+
+
 def main(folder):
-    os.makedirs(folder, exist_ok=True)
+    os.makedirs(f"{folder}/strategies", exist_ok=True)
     made = {
         "comments": comments(),
         "growing-5000": mixed(5000, 400, LARGEST, 3),
         "mixed-5000": mixed(5000, 40, SMALL, 1),
         "mixed-200000": mixed(200000, 8, SMALL, 2),
         "stacked-4000": stacked(4000),
+        "strategies/filled": crowded(0),
+        "strategies/changing": crowded(5000),
     }
     for name, text in made.items():
         with open(f"{folder}/{name}.trace", "w", encoding="ascii", newline="\n") as file:
