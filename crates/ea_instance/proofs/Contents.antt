@@ -6,8 +6,8 @@ use Rattle.std.specs.Option.{option_and_then}
 use Rattle.std.proofs.lemmas.Bool.{cases_lt, cases_eq, cases_Bool, cond-true, cond-false}
 use Rattle.std.proofs.lemmas.List.Elements.{All-nil, All-cons, All-head, All-tail}
 use Rattle.ea_model.specs.declared.carriers.BlockAt.{BlockAt}
-use Rattle.ea_model.specs.Content.{Content, block_at}
-use Rattle.ea_model.specs.Instance.{segment_of, segments, with_content, content_of, is_used, is_done, unused_from, changed}
+use Rattle.ea_model.specs.Content.{Content, block_at, is_done}
+use Rattle.ea_model.specs.Instance.{segment_of, segments, with_content, content_of, is_used, unused_from, changed}
 use Rattle.ea_instance.proofs.Unused.{unused_from-zero, unused_from-used, unused_from-free_here}
 use Rattle.ea_instance.specs.Kept.{Rising, is_behind}
 use Rattle.ea_instance.specs.Found.{HaveSameBlocks}

@@ -1,8 +1,8 @@
 -- What calls of an instance answer.
 use Rattle.std.specs.Prelude.{ℕ, Option, Some, None, if◌then◌else◌}
 use Rattle.ea_model.specs.declared.carriers.Spot.{Spot}
-use Rattle.ea_model.specs.Content.{Content}
-use Rattle.ea_model.specs.Instance.{Instance, placing_at, is_done}
+use Rattle.ea_model.specs.Content.{Content, is_done}
+use Rattle.ea_model.specs.Instance.{Instance, placing_at}
 use Rattle.ea_instance.specs.declared.released.Released.{Released}
 use Rattle.ea_instance.specs.declared.released.Released.TheVariants.{Kept, EmptyOwn}
 

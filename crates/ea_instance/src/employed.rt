@@ -1,10 +1,9 @@
 //! A carrier that an instance employs.
 ghost use Rattle.std.specs.Prelude.{◌≡◌, ◌≢◌, ℕ, ◌+◌, ◌*◌, ◌%◌, ◌<◌, ◌≤◌, ◌↔◌, IsTrue, IsSome, IfSome, IfOk, OnOk, OnErr, Some, None, true, length, map, option_map};
-ghost use Rattle.ea_model.specs.Content.{gaps_of, gap_at, block_at, named, taken_of, placed, released, allocated, free_units, largest};
+ghost use Rattle.ea_model.specs.Content.{gaps_of, gap_at, block_at, named, taken_of, placed, released, allocated, free_units, largest, is_done, is_multi};
 ghost use Rattle.ea_model.specs.Choice.{choice};
 ghost use Rattle.ea_model.specs.Strategies.{candidate, candidates_in};
 ghost use Rattle.ea_model.specs.Text.{carrier_line};
-ghost use Rattle.ea_model.specs.Instance.{is_done, is_multi};
 ghost use Rattle.ea_instance.specs.Kinds.{is_shared};
 ghost use Rattle.ea_instance.specs.Listed.{held_of};
 ghost use Rattle.ea_instance.specs.Found.{IsGapOf};

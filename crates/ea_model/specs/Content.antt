@@ -1,7 +1,8 @@
 -- The content of a carrier, and its gaps.
-use Rattle.std.specs.Prelude.{◌≡◌, ℕ, ◌+◌, ◌-◌, ◌%◌, ◌<◌, ◌≤◌, max, not, if◌then◌else◌, nat_lt, nat_le, ◌==◌, List, [], ◌∷◌, ◌++◌, Option, filter, find, sum_by}
+use Rattle.std.specs.Prelude.{◌≡◌, ℕ, ◌+◌, ◌-◌, ◌%◌, ◌<◌, ◌≤◌, max, Bool, true, false, not, ◌&&◌, if◌then◌else◌, nat_lt, nat_le, ◌==◌, List, [], ◌∷◌, ◌++◌, Option, filter, find, sum_by}
 use Rattle.std.specs.Option.{option_map_or}
 use Rattle.ea_model.specs.declared.carriers.Kind.{Kind}
+use Rattle.ea_model.specs.declared.carriers.Kind.TheVariants.{Main, Multi, Single}
 use Rattle.ea_model.specs.declared.carriers.BlockAt.{BlockAt}
 use Rattle.ea_model.specs.declared.carriers.Block.{Block}
 use Rattle.ea_model.specs.declared.carriers.Gap.{Gap}
@@ -85,6 +86,19 @@ placed c offset need name = record c { blocks = inserted (record { name = name; 
 -- the content without the block at the offset
 abbrev pub released : Content → ℕ → Content
 released c offset = record c { blocks = filter (λ b. not (b.offset == offset)) c.blocks }
+
+abbrev pub is_multi : Kind → Bool
+is_multi Main = false
+is_multi Multi = true
+is_multi Single = false
+
+abbrev pub is_nil : List BlockAt → Bool
+is_nil [] = true
+is_nil (b ∷ bs) = false
+
+-- whether a multiblock carrier has no blocks; the main carrier stays
+abbrev pub is_done : Content → Bool
+is_done c = is_multi c.kind && is_nil c.blocks
 
 -- a gap is empty, or has an even number of units, 6 at least
 pub record IsGapSize (n : ℕ) : Type 0 where

@@ -1,7 +1,7 @@
 -- The flags that are built so far, and what they set.
 use Rattle.std.specs.Prelude.{ℕ, ◌+◌, ◌*◌, ◌/◌, Bool, true, false, if◌then◌else◌, nat_lt, List, [], ◌∷◌, Option, Some, None, Result, Ok, Err, codes, bytes_eq, option_map}
 use Rattle.ea_model.specs.declared.settings.Strategy.{Strategy}
-use Rattle.ea_model.specs.declared.settings.Strategy.TheVariants.{Bf, Aobf, Aoff, AoffCbf, AoffCaobf, AgeffCaoff, AgeffCbf, AgeffCaobf}
+use Rattle.ea_model.specs.declared.settings.Strategy.TheVariants.{Bf, Aobf, Aoff, AoffCbf, AoffCaobf, AgeffCaoff, AgeffCbf, AgeffCaobf, Gf, Af}
 use Rattle.ea_model.specs.declared.settings.Settings.{Settings}
 use Rattle.ea_model.specs.declared.settings.Config.{Config}
 use Rattle.ea_model.specs.Words.{number}
@@ -32,6 +32,8 @@ strategy_named name =
     else if bytes_eq name (codes "ageffcaoff") then Some AgeffCaoff
     else if bytes_eq name (codes "ageffcbf") then Some AgeffCbf
     else if bytes_eq name (codes "ageffcaobf") then Some AgeffCaobf
+    else if bytes_eq name (codes "gf") then Some Gf
+    else if bytes_eq name (codes "af") then Some Af
     else None
 
 abbrev pub no_migration : List ℕ → Option Setting

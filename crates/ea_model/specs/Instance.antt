@@ -12,8 +12,8 @@ use Rattle.ea_model.specs.declared.carriers.CarrierPlan.{CarrierPlan}
 use Rattle.ea_model.specs.declared.carriers.Figures.{Figures}
 use Rattle.ea_model.specs.declared.entries.NoCarrier.{NoCarrier}
 use Rattle.ea_model.specs.declared.entries.NoCarrier.TheVariants.{Numbers, Space}
-use Rattle.ea_model.specs.Content.{Content, gaps_of, gap_at, block_at, taken_of, placed, released, allocated}
-use Rattle.ea_model.specs.Strategies.{choice_among, spot_of}
+use Rattle.ea_model.specs.Content.{Content, gaps_of, gap_at, block_at, taken_of, placed, released, allocated, is_multi}
+use Rattle.ea_model.specs.Strategies.{choice_for, spot_of}
 use Rattle.ea_model.specs.Region.{runs, lowest_run, entered}
 
 -- an instance: its number, from 1, its region from page `first` up to `end`, the contents that it employs by rising number, and how many carriers it created
@@ -72,11 +72,6 @@ unfoldable pub unused_from : ℕ → ℕ → List Content → Option ℕ
 unused_from zero number cs = None
 unused_from (suc k) number cs = if is_used number cs then unused_from k (number + 1) cs else Some number
 
-abbrev pub is_multi : Kind → Bool
-is_multi Main = false
-is_multi Multi = true
-is_multi Single = false
-
 -- how many multiblock carriers there are without the main one
 abbrev pub multis : List Content → ℕ
 multis cs = length (filter (λ c. is_multi c.kind) cs)
@@ -131,7 +126,7 @@ changed f number cs = map (λ c. if c.number == number then f c else c) cs
 
 -- the chosen spot for a block of this need
 abbrev pub chosen_spot : Instance → ℕ → Option Spot
-chosen_spot i need = option_map spot_of (choice_among i.settings.strategy need i.contents)
+chosen_spot i need = option_map spot_of (choice_for i.settings need i.contents)
 
 -- the units of a block of this need at a spot
 abbrev pub size_for : Option Content → ℕ → ℕ → ℕ
@@ -160,14 +155,6 @@ clearing i number = record i { contents = without_content number i.contents }
 -- the block at a spot
 abbrev pub block_in : List Content → Spot → Option BlockAt
 block_in cs spot = option_and_then (λ c. block_at c.blocks spot.offset) (content_of cs spot.carrier)
-
-abbrev pub is_nil : List BlockAt → Bool
-is_nil [] = true
-is_nil (b ∷ bs) = false
-
--- whether a multiblock carrier has no blocks; the main carrier stays
-abbrev pub is_done : Content → Bool
-is_done c = is_multi c.kind && is_nil c.blocks
 
 -- blocks and carriers of main and multiblock carriers, with their units
 abbrev pub figures : List Content → Figures

@@ -4,8 +4,8 @@ pub mod Content
 pub mod Choice
 pub mod Region
 pub mod Settings
-pub mod Strategies
 pub mod GoodFit
+pub mod Strategies
 pub mod Instance
 pub mod Flags
 pub mod Words

@@ -8,8 +8,8 @@ use Rattle.ea_model.specs.declared.entries.NoCarrier.{NoCarrier}
 use Rattle.ea_model.specs.declared.entries.Entry.{Entry}
 use Rattle.ea_model.specs.declared.entries.Entry.TheVariants as entry
 use Rattle.ea_model.specs.Units.{need_of}
-use Rattle.ea_model.specs.Content.{Content}
-use Rattle.ea_model.specs.Instance.{Instance, plan, creating, chosen_spot, place_at, placing_at, releasing_at, clearing, content_of, is_done}
+use Rattle.ea_model.specs.Content.{Content, is_done}
+use Rattle.ea_model.specs.Instance.{Instance, plan, creating, chosen_spot, place_at, placing_at, releasing_at, clearing, content_of}
 
 -- a name that the scheduler holds, and where its block begins
 pub record Held : Type 0 where

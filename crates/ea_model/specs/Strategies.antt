@@ -1,5 +1,5 @@
 -- The choice among the gaps of several carriers.
-use Rattle.std.specs.Prelude.{ℕ, ◌+◌, ◌*◌, Bool, ◌&&◌, ◌||◌, nat_lt, nat_le, ◌==◌, List, [], Option, filter, map}
+use Rattle.std.specs.Prelude.{ℕ, ◌+◌, ◌*◌, Bool, true, false, ◌&&◌, ◌||◌, nat_lt, nat_le, ◌==◌, if◌then◌else◌, List, [], ◌∷◌, Option, Some, None, filter, map}
 use Rattle.std.specs.List.{flat_map}
 use Rattle.ea_model.specs.declared.settings.Strategy.{Strategy}
 use Rattle.ea_model.specs.declared.settings.Strategy.TheVariants.{Bf, Aobf, Aoff, AoffCbf, AoffCaobf, AgeffCaoff, AgeffCbf, AgeffCaobf, Gf, Af}
@@ -10,8 +10,10 @@ use Rattle.ea_model.specs.declared.carriers.Kind.TheVariants.{Main, Multi, Singl
 use Rattle.ea_model.specs.declared.carriers.Gap.{Gap}
 use Rattle.ea_model.specs.declared.carriers.Spot.{Spot}
 use Rattle.ea_model.specs.declared.carriers.Candidate.{Candidate}
-use Rattle.ea_model.specs.Content.{Content, gaps_of}
+use Rattle.ea_model.specs.Content.{Content, gaps_of, is_done}
 use Rattle.ea_model.specs.Choice.{first}
+use Rattle.ea_model.specs.GoodFit.{is_inspected}
+use Rattle.ea_model.specs.declared.settings.Settings.{Settings}
 
 -- a gap of a carrier; a page has 512 units
 abbrev pub candidate : Content → Gap → Candidate
@@ -44,7 +46,7 @@ smaller_low a b = less a.size b.size (lower a b)
 abbrev pub older : Candidate → Candidate → Bool → Bool
 older a b rest = less a.birth b.birth (less a.number b.number rest)
 
--- which of two candidates a strategy takes first; good fit and address fit have further rules
+-- which of two candidates a strategy takes first
 abbrev pub takes_first : Strategy → Candidate → Candidate → Bool
 takes_first Bf a b = smaller_high a b
 takes_first Aobf a b = smaller_low a b
@@ -74,9 +76,53 @@ inner_of Af = inner.Aoff
 abbrev pub large_enough : ℕ → List Candidate → List Candidate
 large_enough need xs = filter (λ x. nat_le need x.size) xs
 
--- the chosen gap, for the strategies that compare all gaps
-abbrev pub choice_among : Strategy → ℕ → List Content → Option Candidate
-choice_among s need cs = first (takes_first s) (large_enough need (candidates cs))
+-- the candidate that was found, as a list of at most one
+abbrev pub only : Option Candidate → List Candidate
+only None = []
+only (Some x) = x ∷ []
+
+-- the candidates that a strategy looks at: good fit at the first few of each bin, address fit at the lowest alone, and the others at all
+abbrev pub looked_at : Strategy → ℕ → List Candidate → List Candidate
+looked_at Bf depth xs = xs
+looked_at Aobf depth xs = xs
+looked_at Aoff depth xs = xs
+looked_at AoffCbf depth xs = xs
+looked_at AoffCaobf depth xs = xs
+looked_at AgeffCaoff depth xs = xs
+looked_at AgeffCbf depth xs = xs
+looked_at AgeffCaobf depth xs = xs
+looked_at Gf depth xs = filter (is_inspected (λ x. x.address) (λ x. x.size) depth xs) xs
+looked_at Af depth xs = only (first lower xs)
+
+-- the one that it takes first of those that are large enough
+abbrev pub choice_among : Strategy → ℕ → ℕ → List Content → Option Candidate
+choice_among s depth need cs = first (takes_first s) (large_enough need (looked_at s depth (candidates cs)))
+
+-- whether a strategy may look past a gap that is large enough
+abbrev pub may_miss : Strategy → Bool
+may_miss Bf = false
+may_miss Aobf = false
+may_miss Aoff = false
+may_miss AoffCbf = false
+may_miss AoffCaobf = false
+may_miss AgeffCaoff = false
+may_miss AgeffCbf = false
+may_miss AgeffCaobf = false
+may_miss Gf = true
+may_miss Af = true
+
+-- the gap of the lowest multiblock carrier without blocks that is large enough
+abbrev pub choice_unused : ℕ → List Content → Option Candidate
+choice_unused need cs = first lower (large_enough need (candidates (filter is_done cs)))
+
+-- what was chosen, or what is there otherwise, where it is asked for
+abbrev pub or_else : Bool → Option Candidate → Option Candidate → Option Candidate
+or_else asked (Some x) other = Some x
+or_else asked None other = if asked then other else None
+
+-- the chosen gap; where good fit or address fit looked past all that would fit, a carrier that was created for the block, and has none yet, gives it
+abbrev pub choice_for : Settings → ℕ → List Content → Option Candidate
+choice_for s need cs = or_else (may_miss s.strategy) (choice_among s.strategy s.mbsd need cs) (choice_unused need cs)
 
 abbrev pub spot_of : Candidate → Spot
 spot_of x = record { carrier = x.number; offset = x.offset }

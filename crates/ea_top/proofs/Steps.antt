@@ -12,8 +12,8 @@ use Rattle.ea_model.specs.declared.carriers.CarrierPlan.{CarrierPlan}
 use Rattle.ea_model.specs.declared.settings.Settings.{Settings}
 use Rattle.ea_model.specs.declared.entries.NoCarrier.{NoCarrier}
 use Rattle.ea_model.specs.declared.entries.Entry.TheVariants as entry
-use Rattle.ea_model.specs.Content.{Content}
-use Rattle.ea_model.specs.Instance.{Instance, block_in, chosen_spot, place_at, main_carriers, plan, creating, releasing_at, content_of, is_done}
+use Rattle.ea_model.specs.Content.{Content, is_done}
+use Rattle.ea_model.specs.Instance.{Instance, block_in, chosen_spot, place_at, main_carriers, plan, creating, releasing_at, content_of}
 use Rattle.ea_model.specs.Run.{Run, Held, spot_held, without, step, allocating, with_block, with_carrier, in_new_carrier, tidied, freed_at, freeing}
 use Rattle.ea_instance.specs.Found.{IsOther, IsPlaced, HaveSameBlocks}
 use Rattle.ea_instance.specs.Answers.{placing_if}

@@ -46,3 +46,15 @@ returns-clause-best_fit c = refl
 pub returns-clause-address_order_best_fit : goal.returns-clause-address_order_best_fit
 unfolding digits unused_from
 returns-clause-address_order_best_fit c = refl
+
+pub returns-clause-good_fit_at_one : goal.returns-clause-good_fit_at_one
+unfolding digits unused_from
+returns-clause-good_fit_at_one c = refl
+
+pub returns-clause-good_fit_at_three : goal.returns-clause-good_fit_at_three
+unfolding digits unused_from
+returns-clause-good_fit_at_three c = refl
+
+pub returns-clause-address_fit : goal.returns-clause-address_fit
+unfolding digits unused_from
+returns-clause-address_fit c = refl

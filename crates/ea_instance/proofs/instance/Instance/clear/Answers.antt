@@ -1,6 +1,7 @@
 use Rattle.std.proofs.Common.{◌≡◌, true, ◌/◌, ◌∙◌, ap, sym, subst}
 use Rattle.std.specs.Prelude.{IfSome}
-use Rattle.ea_model.specs.Instance.{Instance, clearing, segments, content_of, block_in, is_done}
+use Rattle.ea_model.specs.Content.{is_done}
+use Rattle.ea_model.specs.Instance.{Instance, clearing, segments, content_of, block_in}
 use Rattle.ea_model.specs.Region.{Region, cut_from}
 use Rattle.ea_instance.specs.Kept.{IsKept}
 use Rattle.ea_space.specs.Pages.{IsTail}
