@@ -1,0 +1,4 @@
+pub mod Bin
+pub mod Found
+pub mod Inspected
+pub mod Lists
