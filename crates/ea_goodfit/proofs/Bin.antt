@@ -76,3 +76,23 @@ either_below size k le = grind arith
 pub bin-below : (size : ℕ) → bin size < 90
 unfolding bin
 bin-below size = either_below size (powers size 6 26) (powers-within size 6 26)
+
+powers-rises : (small great a n : ℕ) → small ≤ great → powers small a n ≤ powers great a n
+powers-rises small great a zero le = omega arith
+powers-rises small great a (suc n) le =
+    let more = powers-rises small great (a + 1) n le in
+    elim (cases_lt small (2 ^ a)) [
+      | inl lt ↦
+          elim (cases_lt great (2 ^ a)) [
+            | inl gt ↦ omega (arith, uncounted small a n lt, uncounted great a n gt)
+            | inr ge ↦ omega (arith, uncounted small a n lt, counted great a n ge)
+          ]
+      | inr ge ↦ omega (arith, counted small a n ge, counted great a n (omega arith))
+    ]
+
+either_rises : (a b k l : ℕ) → a ≤ b → k ≤ l → (if nat_lt a 64 then a else 63 + k) ≤ (if nat_lt b 64 then b else 63 + l)
+either_rises a b k l ab kl = grind arith
+
+-- a greater size has no lower bin
+pub bin_of-rises : (a b : ℕ) → a ≤ b → bin_of a ≤ bin_of b
+bin_of-rises a b le = either_rises a b (powers a 6 26) (powers b 6 26) le (powers-rises a b 6 26 le)

@@ -1,24 +1,22 @@
 -- The gap that a search finds.
 use Rattle.std.proofs.Common.{◌≡◌, ℕ, ◌<◌, ◌≤◌, ◌↔◌, Bool, true, false, List, [], ◌∷◌, refl, sym, ◌∙◌, subst, inl, inr, arith}
-use Rattle.std.specs.Prelude.{None, Option, IfSome, IsNone, IsTrue, filter, nat_le, All, Contains}
+use Rattle.std.specs.Prelude.{Some, None, Option, IfSome, IsNone, IsTrue, filter, nat_le, All, AllPairs, Contains}
 use Rattle.std.specs.Cmp.{IsStrictWeakOrder}
-use Rattle.std.proofs.lemmas.Bool.{cases_Bool, leb-true}
+use Rattle.std.specs.List.Sorted.{IsPermutation}
+use Rattle.std.proofs.lemmas.Bool.{leb-true, le-leb}
 use Rattle.std.proofs.lemmas.List.Elements.{All-nil, All-cons, All-head, All-tail, All-weaker, All-filter, All-contains_itself, filter_passes}
 use Rattle.std.proofs.lemmas.List.Folds.{list_any-from_Any}
 use Rattle.ea_model.specs.Choice.{first, IsFirst}
-use Rattle.ea_model.specs.GoodFit.{is_inspected, good_fit}
+use Rattle.ea_model.specs.GoodFit.{bin_of, is_inspected, good_fit}
 use Rattle.ea_model.proofs.First.{first-All, first-IsFirst, first-none, large-none, none-large}
+use Rattle.ea_model.proofs.Options.{if_some}
 use Rattle.ea_goodfit.specs.declared.gaps.Gap.{Gap}
-use Rattle.ea_goodfit.specs.Gaps.{is_same, is_held, smaller, candidates}
-
-smaller_one_way : (a b : Gap) → smaller a b ≡ true → smaller b a ≡ false
-smaller_one_way a b h = grind arith
-
-smaller_chain : (a b c : Gap) → smaller a b ≡ false → smaller b c ≡ false → smaller a c ≡ false
-smaller_chain a b c h k = grind arith
+use Rattle.ea_goodfit.specs.Gaps.{is_same, is_held, smaller, candidates, IsBelow}
+use Rattle.ea_goodfit.proofs.AnyOrder.{passing-All, All-passing, smaller_low-order, IsApart, good_fit-is, good_fit-permuted}
+use Rattle.ea_goodfit.proofs.Bin.{bin_of-rises}
 
 pub smaller-order : IsStrictWeakOrder smaller
-smaller-order = record { one_way = smaller_one_way; chain = smaller_chain }
+smaller-order = smaller_low-order (λ (g : Gap). g.address) (λ (g : Gap). g.size)
 
 same_self : (g : Gap) → is_same g g ≡ true
 same_self g = grind arith
@@ -28,33 +26,6 @@ held-contained gs g c = list_any-from_Any (is_same g) gs (c.0, g, c.1, c.2, same
 
 all_held : (gs : List Gap) → All (λ g. IsTrue (is_held g gs)) gs
 all_held gs = All-weaker (Contains gs) (λ g. IsTrue (is_held g gs)) (λ g c. held-contained gs g c) gs (All-contains_itself gs)
-
--- what holds of each element that passes holds of each, if it passes
-module _ (p : Gap → Bool) (P : Gap → Type 0) where
-  filter_gone : (g : Gap) (gs : List Gap) → p g ≡ false → filter p (g ∷ gs) ≡ filter p gs
-  filter_gone g gs f = rw f refl
-
-  filter_stays : (g : Gap) (gs : List Gap) → p g ≡ true → filter p (g ∷ gs) ≡ g ∷ filter p gs
-  filter_stays g gs t = rw t refl
-
-  passing-All : (gs : List Gap) → All P (filter p gs) → All (λ g. IsTrue (p g) → P g) gs
-  passing-All [] a = All-nil (λ (x : Gap). IsTrue (p x) → P x)
-  passing-All (g ∷ gs) a =
-      elim (cases_Bool (p g)) [
-        | inl t ↦
-            let b : All P (g ∷ filter p gs) = subst (All P) (filter_stays g gs t) a in
-            All-cons (λ (x : Gap). IsTrue (p x) → P x) g gs (λ _. All-head P g (filter p gs) b) (passing-All gs (All-tail P g (filter p gs) b))
-        | inr f ↦ All-cons (λ (x : Gap). IsTrue (p x) → P x) g gs (λ t. absurd (let e : true ≡ false = sym t ∙ f in cc)) (passing-All gs (subst (All P) (filter_gone g gs f) a))
-      ]
-
-  All-passing : (gs : List Gap) → All (λ g. IsTrue (p g) → P g) gs → All P (filter p gs)
-  All-passing [] a = All-nil P
-  All-passing (g ∷ gs) a =
-      let more = All-passing gs (All-tail (λ (x : Gap). IsTrue (p x) → P x) g gs a) in
-      elim (cases_Bool (p g)) [
-        | inl t ↦ subst (All P) (sym (filter_stays g gs t)) (All-cons P g (filter p gs) (All-head (λ (x : Gap). IsTrue (p x) → P x) g gs a t) more)
-        | inr f ↦ subst (All P) (sym (filter_gone g gs f)) more
-      ]
 
 -- whether a search looks at the gap
 abbrev looked_at : ℕ → List Gap → Gap → Bool
@@ -91,3 +62,27 @@ pub good_fit-fits : (depth need : ℕ) (gs : List Gap) → IfSome (chosen depth 
 good_fit-fits depth need gs =
     first-All (λ g. need ≤ g.size) smaller None (candidates depth need gs) tt
     (All-weaker (λ g. nat_le need g.size ≡ true) (λ g. need ≤ g.size) (λ g t. leb-true need g.size t) (candidates depth need gs) (filter_passes (λ g. nat_le need g.size) (filter (looked_at depth gs) gs)))
+
+not_smaller : (h g : Gap) → smaller h g ≡ false → g.size ≤ h.size
+not_smaller h g f = grind arith
+
+-- no lower bin has an inspected gap that fits
+pub good_fit-bin : (depth need : ℕ) (gs : List Gap) → IfSome (chosen depth need gs) (λ g. All (λ h. IsTrue (looked_at depth gs h) → need ≤ h.size → bin_of g.size ≤ bin_of h.size) gs)
+good_fit-bin depth need gs =
+    let seen = filter (looked_at depth gs) gs in
+    if_some (chosen depth need gs) (IsFirst smaller (candidates depth need gs)) (λ g. All (λ h. IsTrue (looked_at depth gs h) → need ≤ h.size → bin_of g.size ≤ bin_of h.size) gs)
+    (λ g f. passing-All (looked_at depth gs) (λ h. need ≤ h.size → bin_of g.size ≤ bin_of h.size) gs
+    (All-weaker (λ h. IsTrue (nat_le need h.size) → smaller h g ≡ false) (λ h. need ≤ h.size → bin_of g.size ≤ bin_of h.size) (λ h a le. bin_of-rises g.size h.size (not_smaller h g (a (le-leb need h.size le)))) seen
+    (passing-All (λ h. nat_le need h.size) (λ h. smaller h g ≡ false) seen f.least)))
+    (good_fit-IsFirst depth need gs)
+
+below_apart : (gs : List Gap) → AllPairs IsBelow gs → AllPairs (IsApart (λ (g : Gap). g.address) (λ (g : Gap). g.size)) gs
+below_apart gs rise = λ i j d lt within. let below = rise i j d lt within in λ e. omega arith
+
+-- no other gap is first of those inspected that fit
+pub good_fit-only : (depth need : ℕ) (gs : List Gap) → AllPairs IsBelow gs → (g : Gap) → IsFirst smaller (candidates depth need gs) g → chosen depth need gs ≡ Some g
+good_fit-only depth need gs rise g f = good_fit-is (λ (g : Gap). g.address) (λ (g : Gap). g.size) depth need gs g (below_apart gs rise) f
+
+-- the gaps give the same in another order
+pub good_fit-order : (depth need : ℕ) (gs : List Gap) → AllPairs IsBelow gs → (hs : List Gap) → IsPermutation gs hs → chosen depth need gs ≡ chosen depth need hs
+good_fit-order depth need gs rise hs m = sym (good_fit-permuted (λ (g : Gap). g.address) (λ (g : Gap). g.size) depth need gs hs (below_apart gs rise) m)

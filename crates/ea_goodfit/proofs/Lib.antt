@@ -1,3 +1,4 @@
+pub mod AnyOrder
 pub mod Bin
 pub mod Found
 pub mod Inspected

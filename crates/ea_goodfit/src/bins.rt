@@ -1,6 +1,7 @@
 //! The bins and their calls.
-ghost use Rattle.std.specs.Prelude.{◌≡◌, ◌≢◌, ◌+◌, ◌<◌, ◌≤◌, ◌↔◌, [], ◌==◌, ◌&&◌, ◌||◌, not, All, AllPairs, Contains, IsTrue, IsNone, IfSome, OnOk, OnErr, length};
-ghost use Rattle.ea_model.specs.GoodFit.{good_fit, is_inspected};
+ghost use Rattle.std.specs.Prelude.{◌≡◌, ◌≢◌, ◌+◌, ◌<◌, ◌≤◌, ◌↔◌, [], ◌==◌, ◌&&◌, ◌||◌, not, List, Some, All, AllPairs, IsTrue, IsNone, IfSome, OnOk, OnErr, length};
+ghost use Rattle.std.specs.List.Sorted.{IsPermutation};
+ghost use Rattle.ea_model.specs.GoodFit.{bin_of, good_fit, is_inspected};
 ghost use Rattle.ea_model.specs.Choice.{IsFirst};
 ghost use Rattle.ea_goodfit.specs.declared.gaps.Gap.{Gap as TheGap};
 ghost use Rattle.ea_goodfit.specs.Gaps.{is_same, is_held, entered, without, smaller, candidates, IsBelow};
@@ -99,6 +100,13 @@ impl Bins {
         ensures held { IfSome result (λ g. IsTrue (is_held g self.now.held)) }
         ensures inspected { IfSome result (λ g. IsTrue (is_inspected (λ h. h.address) (λ h. h.size) depth self.now.held g)) }
         ensures fits { IfSome result (λ g. need ≤ g.size) }
+
+        // No lower bin has a gap that the search looks at and that fits.
+        ensures bin { IfSome result (λ g. All (λ h. IsTrue (is_inspected (λ x. x.address) (λ x. x.size) depth self.now.held h) → need ≤ h.size → bin_of g.size ≤ bin_of h.size) self.now.held) }
+
+        // No other gap comes first, so the gaps give the same in any order.
+        ensures only { (g : TheGap) → IsFirst smaller (candidates depth need self.now.held) g → result ≡ Some g }
+        ensures order { (gs : List TheGap) → IsPermutation self.now.held gs → result ≡ good_fit (λ g. g.address) (λ g. g.size) depth need gs }
         ensures rising { AllPairs IsBelow self.now.held }
     {
         search(need, depth, &self.held)

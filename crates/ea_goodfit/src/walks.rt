@@ -6,12 +6,18 @@ ghost use Rattle.ea_goodfit.specs.Gaps.{bin, considered, is_above, is_at, IsBelo
 
 use crate::gaps::Gap;
 
-/// The bin of a size.
+/// The least size, in units, that shares its bin with others.
+const SHARED: u32 = 64;
+
+/// How many bins there are.
+const BINS: usize = 90;
+
+/// The bin of a size: the size itself below 64, and 58 + k for the sizes from 2^k on.
 fn bin_of(size: u32) -> usize
     ensures bin { result ≡ bin size }
     ensures within { result < 90 }
 {
-    if size < 64 {
+    if size < SHARED {
         return size as usize;
     }
     58 + size.ilog2() as usize
@@ -36,7 +42,7 @@ pub fn search(need: u32, depth: u32, held: &[Gap]) -> Option<Gap>
     requires { AllPairs IsBelow held.now }
     ensures { result ≡ good_fit (λ g. g.address) (λ g. g.size) depth need held.now }
 {
-    let mut counts = [0u32; 90];
+    let mut counts = [0u32; BINS];
     let mut best = None;
     for gap in held {
         let bin = bin_of(gap.size);

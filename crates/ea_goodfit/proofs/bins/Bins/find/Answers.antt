@@ -1,9 +1,9 @@
 use Rattle.std.proofs.Common.{◌≡◌, ◌<◌, ◌≤◌, ◌↔◌, sym, ap, ◌∙◌, subst}
-use Rattle.std.specs.Prelude.{IfSome, IsNone, IsTrue, All}
+use Rattle.std.specs.Prelude.{IfSome, IsNone, IsTrue, All, AllPairs}
 use Rattle.ea_model.specs.Choice.{IsFirst}
-use Rattle.ea_model.specs.GoodFit.{good_fit, is_inspected}
-use Rattle.ea_goodfit.specs.Gaps.{HeldGaps, is_held, smaller, candidates}
-use Rattle.ea_goodfit.proofs.Found.{good_fit-none, good_fit-IsFirst, good_fit-held, good_fit-inspected, good_fit-fits}
+use Rattle.ea_model.specs.GoodFit.{bin_of, good_fit, is_inspected}
+use Rattle.ea_goodfit.specs.Gaps.{HeldGaps, is_held, smaller, candidates, IsBelow}
+use Rattle.ea_goodfit.proofs.Found.{good_fit-none, good_fit-IsFirst, good_fit-held, good_fit-inspected, good_fit-fits, good_fit-bin, good_fit-only, good_fit-order}
 use Rattle.ea_goodfit.proofs.bins.Bins.find.Goals as goal
 
 -- the answer is the choice
@@ -29,3 +29,16 @@ returns-clause-inspected c =
 
 pub returns-clause-fits : goal.returns-clause-fits
 returns-clause-fits c = subst (λ r. IfSome r (λ g. c.args.need ≤ g.size)) (sym (found c)) (good_fit-fits c.args.depth c.args.need c.args.self.now.held)
+
+pub returns-clause-bin : goal.returns-clause-bin
+returns-clause-bin c =
+    subst (λ r. IfSome r (λ g. All (λ h. IsTrue (is_inspected (λ x. x.address) (λ x. x.size) c.args.depth c.args.self.now.held h) → c.args.need ≤ h.size → bin_of g.size ≤ bin_of h.size) c.args.self.now.held)) (sym (found c)) (good_fit-bin c.args.depth c.args.need c.args.self.now.held)
+
+rising : (c : goal.After-search) → AllPairs IsBelow c.args.self.now.held
+rising c = subst (λ (s : HeldGaps). AllPairs IsBelow s.held) c.self.view_is c.self.invariant
+
+pub returns-clause-only : goal.returns-clause-only
+returns-clause-only c = λ g f. found c ∙ good_fit-only c.args.depth c.args.need c.args.self.now.held (rising c) g f
+
+pub returns-clause-order : goal.returns-clause-order
+returns-clause-order c = λ gs m. found c ∙ good_fit-order c.args.depth c.args.need c.args.self.now.held (rising c) gs m
