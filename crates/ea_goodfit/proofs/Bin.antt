@@ -1,5 +1,5 @@
 -- The bin of a size, by its greatest power of two.
-use Rattle.std.proofs.Common.{zero, suc, ◌≡◌, ℕ, ◌+◌, ◌-◌, ◌<◌, ◌≤◌, true, false, List, [], ◌∷◌, length, sym, ap, ◌∙◌, refl, inl, inr, pow_mono, pow-suc, arith}
+use Rattle.std.proofs.Common.{zero, suc, ◌≡◌, ℕ, ◌+◌, ◌-◌, ◌<◌, ◌≤◌, length, ap, ◌∙◌, inl, inr, pow_mono, pow-suc, arith}
 use Rattle.std.specs.Prelude.{◌^◌, ◌*◌, filter, nat_le, nat_lt, if◌then◌else◌, min}
 use Rattle.std.specs.List.{range_with_len}
 use Rattle.std.proofs.lemmas.Bool.{cases_lt}

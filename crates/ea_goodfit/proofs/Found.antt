@@ -1,10 +1,10 @@
 -- The gap that a search finds.
-use Rattle.std.proofs.Common.{◌≡◌, ℕ, ◌<◌, ◌≤◌, ◌↔◌, Bool, true, false, List, [], ◌∷◌, refl, sym, ◌∙◌, subst, inl, inr, arith}
+use Rattle.std.proofs.Common.{◌≡◌, ℕ, ◌<◌, ◌≤◌, ◌↔◌, Bool, true, false, List, refl, sym, subst, arith}
 use Rattle.std.specs.Prelude.{Some, None, Option, IfSome, IsNone, IsTrue, filter, nat_le, All, AllPairs, Contains}
 use Rattle.std.specs.Cmp.{IsStrictWeakOrder}
 use Rattle.std.specs.List.Sorted.{IsPermutation}
 use Rattle.std.proofs.lemmas.Bool.{leb-true, le-leb}
-use Rattle.std.proofs.lemmas.List.Elements.{All-nil, All-cons, All-head, All-tail, All-weaker, All-filter, All-contains_itself, filter_passes}
+use Rattle.std.proofs.lemmas.List.Elements.{All-weaker, All-filter, All-contains_itself, filter_passes}
 use Rattle.std.proofs.lemmas.List.Folds.{list_any-from_Any}
 use Rattle.ea_model.specs.Choice.{first, IsFirst}
 use Rattle.ea_model.specs.GoodFit.{bin_of, is_inspected, good_fit}
@@ -14,6 +14,7 @@ use Rattle.ea_goodfit.specs.declared.gaps.Gap.{Gap}
 use Rattle.ea_goodfit.specs.Gaps.{is_same, is_held, smaller, candidates, IsBelow}
 use Rattle.ea_goodfit.proofs.AnyOrder.{passing-All, All-passing, smaller_low-order, IsApart, good_fit-is, good_fit-permuted}
 use Rattle.ea_goodfit.proofs.Bin.{bin_of-rises}
+use Rattle.ea_goodfit.proofs.Inspected.{bins_inspected}
 
 pub smaller-order : IsStrictWeakOrder smaller
 smaller-order = smaller_low-order (λ (g : Gap). g.address) (λ (g : Gap). g.size)
@@ -86,3 +87,10 @@ good_fit-only depth need gs rise g f = good_fit-is (λ (g : Gap). g.address) (λ
 -- the gaps give the same in another order
 pub good_fit-order : (depth need : ℕ) (gs : List Gap) → AllPairs IsBelow gs → (hs : List Gap) → IsPermutation gs hs → chosen depth need gs ≡ chosen depth need hs
 good_fit-order depth need gs rise hs m = sym (good_fit-permuted (λ (g : Gap). g.address) (λ (g : Gap). g.size) depth need gs hs (below_apart gs rise) m)
+
+-- where none is found, no gap lies in a bin above that of the need
+pub good_fit-above : (depth need : ℕ) → 1 ≤ depth → (gs : List Gap) → AllPairs IsBelow gs → IsNone (chosen depth need gs) → All (λ g. bin_of g.size ≤ bin_of need) gs
+good_fit-above depth need one gs rise none =
+    bins_inspected (λ b. b ≤ bin_of need) depth one gs rise
+    (All-weaker (λ g. IsTrue (looked_at depth gs g) → g.size < need) (λ g. IsTrue (looked_at depth gs g) → bin_of g.size ≤ bin_of need)
+    (λ g a t. let lt : g.size < need = a t in bin_of-rises g.size need (omega arith)) gs ((good_fit-none depth need gs).0 none))

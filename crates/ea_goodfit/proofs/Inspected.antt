@@ -1,11 +1,11 @@
 -- The gaps that a search inspects, met by rising address with a count for each bin.
-use Rattle.std.proofs.Common.{◌≡◌, ◌≢◌, ℕ, ◌+◌, ◌<◌, ◌≤◌, Bool, true, false, List, [], ◌∷◌, ◌++◌, length, get_or, set, replicate, sym, ap, ◌∙◌, append-nil, fold, subst, refl, inl, inr, arith}
-use Rattle.std.specs.Prelude.{◌&&◌, ◌==◌, if◌then◌else◌, filter, min, nat_lt, nat_le, Option, None, All, AllPairs}
+use Rattle.std.proofs.Common.{◌≡◌, ◌≢◌, ℕ, ◌+◌, ◌<◌, ◌≤◌, Bool, true, false, List, [], ◌∷◌, ◌++◌, length, get_or, set, replicate, sym, ap, ◌∙◌, append-nil, fold, subst, refl, inl, inr, ◌⊎◌, arith}
+use Rattle.std.specs.Prelude.{◌&&◌, ◌==◌, if◌then◌else◌, filter, min, nat_lt, nat_le, Option, None, IsTrue, All, AllPairs}
 use Rattle.std.proofs.lemmas.Grind.{get_or-set_at}
 use Rattle.std.proofs.lemmas.Bool.{cases_lt, cases_eq}
 use Rattle.std.proofs.lemmas.List.{append_assoc, length-append, length-set, get_or-set_other, length-replicate, get_or-replicate}
 use Rattle.std.proofs.lemmas.List.Elements.{All-nil, All-cons, All-head, All-tail, All-push, All-weaker, filter-append}
-use Rattle.ea_model.specs.GoodFit.{is_inspected, good_fit}
+use Rattle.ea_model.specs.GoodFit.{bin_of, is_inspected, good_fit}
 use Rattle.ea_model.specs.Choice.{better, first}
 use Rattle.ea_model.proofs.First.{large-here, large-past}
 use Rattle.ea_goodfit.specs.declared.gaps.Gap.{Gap}
@@ -184,3 +184,31 @@ unfolding inspects
 met-good_fit need depth gs rise =
     considered_fitting need None (met depth (replicate 90 0) gs)
     ∙ ap (λ xs. first smaller (filter (λ g. nat_le need g.size) xs)) (met_inspected depth (replicate 90 0) gs [] gs refl (All-nil (λ h. All (IsBelow h) gs)) rise (Counts-none depth))
+
+-- a gap of the bin was seen before, or none was
+seen_or_none : (Q : ℕ → Type 0) (b : ℕ) (seen : List Gap) → All (λ h. Q (bin h.size)) seen → Q b ⊎ (of_bin b seen ≡ [])
+seen_or_none Q b [] a = inr refl
+seen_or_none Q b (h ∷ hs) a =
+    elim (cases_eq (bin h.size) b) [
+      | inl e ↦ inl (subst Q e (All-head (λ (x : Gap). Q (bin x.size)) h hs a))
+      | inr ne ↦ elim (seen_or_none Q b hs (All-tail (λ (x : Gap). Q (bin x.size)) h hs a)) [ inl q ↦ inl q | inr none ↦ inr (filter_past (λ x. bin x.size == b) h hs (other (bin h.size) b ne) ∙ none) ]
+    ] where
+      other : (a b : ℕ) → a ≢ b → (a == b) ≡ false
+      other a b ne = grind arith
+
+first_of_bin : (depth n : ℕ) → 1 ≤ depth → n ≡ 0 → nat_lt n depth ≡ true
+first_of_bin depth n one none = grind arith
+
+bins_met : (Q : ℕ → Type 0) (depth : ℕ) → 1 ≤ depth → (all seen gs : List Gap) → all ≡ seen ++ gs → All (λ h. All (IsBelow h) gs) seen → AllPairs IsBelow gs → All (λ h. inspects depth all h ≡ true → Q (bin h.size)) gs → All (λ h. Q (bin h.size)) seen → All (λ h. Q (bin h.size)) gs
+bins_met Q depth one all seen [] e before rise a s = All-nil (λ (x : Gap). Q (bin x.size))
+bins_met Q depth one all seen (g ∷ gs) e before rise a s =
+    let after = pairs_head g gs rise in
+    let is : inspects depth all g ≡ nat_lt (length (of_bin (bin g.size) seen)) depth = ap (λ xs. inspects depth xs g) e ∙ inspected_is depth seen g gs (All-weaker (λ h. All (IsBelow h) (g ∷ gs)) (λ h. IsBelow h g) (λ h b. All-head (IsBelow h) g gs b) seen before) after in
+    let here : Q (bin g.size) = elim (seen_or_none Q (bin g.size) seen s) [ inl q ↦ q | inr none ↦ All-head (λ (h : Gap). inspects depth all h ≡ true → Q (bin h.size)) g gs a (is ∙ first_of_bin depth (length (of_bin (bin g.size) seen)) one (ap length none)) ] in
+    All-cons (λ (x : Gap). Q (bin x.size)) g gs here
+    (bins_met Q depth one all (seen ++ g ∷ []) gs (e ∙ sym (append_assoc seen (g ∷ []) gs)) (seen_more seen g gs before after) (pairs_tail g gs rise) (All-tail (λ (h : Gap). inspects depth all h ≡ true → Q (bin h.size)) g gs a) (All-push (λ (x : Gap). Q (bin x.size)) seen g s here))
+
+-- a search that inspects at least one gap of each bin inspects one of the bin of each gap
+pub bins_inspected : (Q : ℕ → Type 0) (depth : ℕ) → 1 ≤ depth → (gs : List Gap) → AllPairs IsBelow gs → All (λ h. IsTrue (is_inspected (λ x. x.address) (λ x. x.size) depth gs h) → Q (bin_of h.size)) gs → All (λ h. Q (bin_of h.size)) gs
+unfolding bin inspects
+bins_inspected Q depth one gs rise a = bins_met Q depth one gs [] gs refl (All-nil (λ (h : Gap). All (IsBelow h) gs)) rise a (All-nil (λ (h : Gap). Q (bin_of h.size)))

@@ -1,8 +1,8 @@
 -- Gaps by rising address, with one more and without one.
 use Rattle.std.proofs.Common.{suc, ◌≡◌, ◌≢◌, ℕ, ◌+◌, ◌<◌, ◌≤◌, Bool, true, false, not, List, [], ◌∷◌, length, sym, ap, ◌∙◌, subst, refl, inl, inr, arith}
-use Rattle.std.specs.Prelude.{insert, remove, ◌&&◌, ◌||◌, ◌==◌, filter, All, AllPairs, IsTrue}
+use Rattle.std.specs.Prelude.{insert, remove, ◌&&◌, ◌||◌, All, AllPairs}
 use Rattle.std.specs.List.{position_or_len, list_any}
-use Rattle.std.proofs.lemmas.Bool.{cases_Bool, cases_lt, cases_eq}
+use Rattle.std.proofs.lemmas.Bool.{cases_Bool, cases_lt}
 use Rattle.std.proofs.lemmas.List.Elements.{All-nil, All-cons, All-head, All-tail, All-weaker, All-filter}
 use Rattle.std.proofs.lemmas.List.Kept.{AllPairs-cons}
 use Rattle.ea_goodfit.specs.declared.gaps.Gap.{Gap}

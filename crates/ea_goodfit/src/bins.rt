@@ -3,7 +3,6 @@ ghost use Rattle.std.specs.Prelude.{◌≡◌, ◌≢◌, ◌+◌, ◌<◌, ◌�
 ghost use Rattle.std.specs.List.Sorted.{IsPermutation};
 ghost use Rattle.ea_model.specs.GoodFit.{bin_of, good_fit, is_inspected};
 ghost use Rattle.ea_model.specs.Choice.{IsFirst};
-ghost use Rattle.ea_goodfit.specs.declared.gaps.Gap.{Gap as TheGap};
 ghost use Rattle.ea_goodfit.specs.Gaps.{is_same, is_held, entered, without, smaller, candidates, IsBelow};
 
 use crate::gaps::Gap;
@@ -46,6 +45,9 @@ impl Bins {
         ensures held { self.new.held ≡ self.old.held }
         ensures room { self.old.room ≤ self.new.room }
         ensures err { OnErr result (self.new ≡ self.old) }
+
+        // It fails only where there is less room than was asked for.
+        ensures full { OnErr result (self.old.room < extra) }
     {
         match self.held.reserve(extra as usize) {
             Ok(()) => Ok(()),
@@ -63,7 +65,7 @@ impl Bins {
         ensures rising { AllPairs IsBelow self.new.held }
 
         // The gap is held now, and the others are as before.
-        ensures gaps { (g : TheGap) → is_held g self.new.held ≡ (is_same g gap || is_held g self.old.held) }
+        ensures gaps { (g : Gap) → is_held g self.new.held ≡ (is_same g gap || is_held g self.old.held) }
     {
         let place = places_up_to(gap.address, &self.held);
         match self.held.insert(place, gap) {
@@ -82,7 +84,7 @@ impl Bins {
 
         // Its address is free now, and the other gaps are as before.
         ensures free { All (λ g. g.address ≢ gap.address) self.new.held }
-        ensures gaps { (g : TheGap) → is_held g self.new.held ≡ (is_held g self.old.held && not (g.address == gap.address)) }
+        ensures gaps { (g : Gap) → is_held g self.new.held ≡ (is_held g self.old.held && not (g.address == gap.address)) }
     {
         let place = place_at(gap.address, &self.held);
         self.held.remove(place);
@@ -104,9 +106,12 @@ impl Bins {
         // No lower bin has a gap that the search looks at and that fits.
         ensures bin { IfSome result (λ g. All (λ h. IsTrue (is_inspected (λ x. x.address) (λ x. x.size) depth self.now.held h) → need ≤ h.size → bin_of g.size ≤ bin_of h.size) self.now.held) }
 
+        // Where it finds none, though it looks at a gap of each bin at least, no gap lies in a bin above that of the need.
+        ensures above { 1 ≤ depth → IsNone result → All (λ g. bin_of g.size ≤ bin_of need) self.now.held }
+
         // No other gap comes first, so the gaps give the same in any order.
-        ensures only { (g : TheGap) → IsFirst smaller (candidates depth need self.now.held) g → result ≡ Some g }
-        ensures order { (gs : List TheGap) → IsPermutation self.now.held gs → result ≡ good_fit (λ g. g.address) (λ g. g.size) depth need gs }
+        ensures only { (g : Gap) → IsFirst smaller (candidates depth need self.now.held) g → result ≡ Some g }
+        ensures order { (gs : List Gap) → IsPermutation self.now.held gs → result ≡ good_fit (λ g. g.address) (λ g. g.size) depth need gs }
         ensures rising { AllPairs IsBelow self.now.held }
     {
         search(need, depth, &self.held)

@@ -1,4 +1,4 @@
-use Rattle.std.proofs.Common.{◌≡◌, fold, drop, length, replicate}
+use Rattle.std.proofs.Common.{◌≡◌, fold, drop, length}
 use Rattle.ea_goodfit.specs.Gaps.{considered}
 use Rattle.ea_goodfit.proofs.Inspected.{met}
 use Rattle.ea_goodfit.proofs.walks.search.Given as goal

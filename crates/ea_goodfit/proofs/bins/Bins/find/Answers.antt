@@ -3,7 +3,7 @@ use Rattle.std.specs.Prelude.{IfSome, IsNone, IsTrue, All, AllPairs}
 use Rattle.ea_model.specs.Choice.{IsFirst}
 use Rattle.ea_model.specs.GoodFit.{bin_of, good_fit, is_inspected}
 use Rattle.ea_goodfit.specs.Gaps.{HeldGaps, is_held, smaller, candidates, IsBelow}
-use Rattle.ea_goodfit.proofs.Found.{good_fit-none, good_fit-IsFirst, good_fit-held, good_fit-inspected, good_fit-fits, good_fit-bin, good_fit-only, good_fit-order}
+use Rattle.ea_goodfit.proofs.Found.{good_fit-none, good_fit-IsFirst, good_fit-held, good_fit-inspected, good_fit-fits, good_fit-bin, good_fit-above, good_fit-only, good_fit-order}
 use Rattle.ea_goodfit.proofs.bins.Bins.find.Goals as goal
 
 -- the answer is the choice
@@ -42,3 +42,6 @@ returns-clause-only c = λ g f. found c ∙ good_fit-only c.args.depth c.args.ne
 
 pub returns-clause-order : goal.returns-clause-order
 returns-clause-order c = λ gs m. found c ∙ good_fit-order c.args.depth c.args.need c.args.self.now.held (rising c) gs m
+
+pub returns-clause-above : goal.returns-clause-above
+returns-clause-above c = λ one none. good_fit-above c.args.depth c.args.need one c.args.self.now.held (rising c) (subst (λ r. IsNone r) (found c) none)

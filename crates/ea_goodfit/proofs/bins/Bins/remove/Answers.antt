@@ -1,8 +1,7 @@
 use Rattle.std.proofs.Common.{◌≡◌, ◌≢◌, ◌<◌, true, length, sym, ap, ◌∙◌, subst}
-use Rattle.std.specs.Prelude.{remove, not, ◌&&◌, ◌==◌, All, AllPairs, IsTrue}
+use Rattle.std.specs.Prelude.{remove, not, ◌&&◌, ◌==◌, All, IsTrue}
 use Rattle.std.specs.List.{position_or_len, list_any}
-use Rattle.std.proofs.lemmas.List.Quantifiers.{all_pairs_remove}
-use Rattle.ea_goodfit.specs.Gaps.{HeldGaps, is_at, is_held, without, IsBelow}
+use Rattle.ea_goodfit.specs.Gaps.{HeldGaps, is_at, is_held, without}
 use Rattle.ea_goodfit.proofs.Lists.{remove-without, without-free, held-without, held-at}
 use Rattle.ea_goodfit.proofs.bins.Bins.remove.Goals as goal
 
