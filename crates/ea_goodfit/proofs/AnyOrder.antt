@@ -16,11 +16,11 @@ use Rattle.ea_model.proofs.Options.{if_some}
 
 -- which elements pass a test
 module _ {A : Type 0} (p : A → Bool) where
-  passed : (x : A) (xs : List A) → p x ≡ true → filter p (x ∷ xs) ≡ x ∷ filter p xs
-  passed x xs t = rw t refl
+  pub filter_here : (x : A) (xs : List A) → p x ≡ true → filter p (x ∷ xs) ≡ x ∷ filter p xs
+  filter_here x xs t = rw t refl
 
-  left_out : (x : A) (xs : List A) → p x ≡ false → filter p (x ∷ xs) ≡ filter p xs
-  left_out x xs f = rw f refl
+  pub filter_past : (x : A) (xs : List A) → p x ≡ false → filter p (x ∷ xs) ≡ filter p xs
+  filter_past x xs f = rw f refl
 
   -- what holds of each element that passes holds of each, if it passes
   pub passing-All : (P : A → Type 0) (xs : List A) → All P (filter p xs) → All (λ x. IsTrue (p x) → P x) xs
@@ -28,9 +28,9 @@ module _ {A : Type 0} (p : A → Bool) where
   passing-All P (x ∷ xs) a =
       elim (cases_Bool (p x)) [
         | inl t ↦
-            let b : All P (x ∷ filter p xs) = subst (All P) (passed x xs t) a in
+            let b : All P (x ∷ filter p xs) = subst (All P) (filter_here x xs t) a in
             All-cons (λ (x : A). IsTrue (p x) → P x) x xs (λ _. All-head P x (filter p xs) b) (passing-All P xs (All-tail P x (filter p xs) b))
-        | inr f ↦ All-cons (λ (x : A). IsTrue (p x) → P x) x xs (λ t. absurd (let e : true ≡ false = sym t ∙ f in cc)) (passing-All P xs (subst (All P) (left_out x xs f) a))
+        | inr f ↦ All-cons (λ (x : A). IsTrue (p x) → P x) x xs (λ t. absurd (let e : true ≡ false = sym t ∙ f in cc)) (passing-All P xs (subst (All P) (filter_past x xs f) a))
       ]
 
   pub All-passing : (P : A → Type 0) (xs : List A) → All (λ x. IsTrue (p x) → P x) xs → All P (filter p xs)
@@ -38,8 +38,8 @@ module _ {A : Type 0} (p : A → Bool) where
   All-passing P (x ∷ xs) a =
       let more = All-passing P xs (All-tail (λ (x : A). IsTrue (p x) → P x) x xs a) in
       elim (cases_Bool (p x)) [
-        | inl t ↦ subst (All P) (sym (passed x xs t)) (All-cons P x (filter p xs) (All-head (λ (x : A). IsTrue (p x) → P x) x xs a t) more)
-        | inr f ↦ subst (All P) (sym (left_out x xs f)) more
+        | inl t ↦ subst (All P) (sym (filter_here x xs t)) (All-cons P x (filter p xs) (All-head (λ (x : A). IsTrue (p x) → P x) x xs a t) more)
+        | inr f ↦ subst (All P) (sym (filter_past x xs f)) more
       ]
 
   Contains-passing : (xs : List A) (x : A) → Contains xs x → p x ≡ true → Contains (filter p xs) x

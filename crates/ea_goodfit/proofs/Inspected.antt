@@ -10,6 +10,7 @@ use Rattle.ea_model.specs.Choice.{better, first}
 use Rattle.ea_model.proofs.First.{large-here, large-past}
 use Rattle.ea_goodfit.specs.declared.gaps.Gap.{Gap}
 use Rattle.ea_goodfit.specs.Gaps.{bin, smaller, considered, IsBelow}
+use Rattle.ea_goodfit.proofs.AnyOrder.{filter_here, filter_past}
 use Rattle.ea_goodfit.proofs.Bin.{bin-below}
 use Rattle.ea_goodfit.proofs.Lists.{pairs_head, pairs_tail}
 
@@ -120,12 +121,6 @@ met_here depth counts g gs lt = grind arith
 
 met_past : (depth : ℕ) (counts : List ℕ) (g : Gap) (gs : List Gap) → depth ≤ get_or counts (bin g.size) 0 → met depth counts (g ∷ gs) ≡ met depth counts gs
 met_past depth counts g gs le = grind arith
-
-filter_here : (p : Gap → Bool) (g : Gap) (gs : List Gap) → p g ≡ true → filter p (g ∷ gs) ≡ g ∷ filter p gs
-filter_here p g gs t = rw t refl
-
-filter_past : (p : Gap → Bool) (g : Gap) (gs : List Gap) → p g ≡ false → filter p (g ∷ gs) ≡ filter p gs
-filter_past p g gs f = rw f refl
 
 more_counted : (count depth n : ℕ) → count ≡ min depth n → count < depth → nat_lt n depth ≡ true
 more_counted count depth n e lt = grind arith

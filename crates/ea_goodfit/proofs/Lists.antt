@@ -3,7 +3,7 @@ use Rattle.std.proofs.Common.{suc, ◌≡◌, ◌≢◌, ℕ, ◌+◌, ◌<◌, 
 use Rattle.std.specs.Prelude.{insert, remove, ◌&&◌, ◌||◌, All, AllPairs}
 use Rattle.std.specs.List.{position_or_len, list_any}
 use Rattle.std.proofs.lemmas.Bool.{cases_Bool, cases_lt}
-use Rattle.std.proofs.lemmas.List.Elements.{All-nil, All-cons, All-head, All-tail, All-weaker, All-filter}
+use Rattle.std.proofs.lemmas.List.Elements.{All-nil, All-cons, All-head, All-tail, All-weaker}
 use Rattle.std.proofs.lemmas.List.Kept.{AllPairs-cons}
 use Rattle.ea_goodfit.specs.declared.gaps.Gap.{Gap}
 use Rattle.ea_goodfit.specs.Gaps.{is_at, is_above, is_same, is_held, entered, without, IsBelow}
@@ -56,14 +56,6 @@ rising-entered x (g ∷ gs) r a =
           (AllPairs-cons IsBelow g (entered x gs) (All-entered (IsBelow g) x gs (omega arith) (pairs_head g gs r)) (rising-entered x gs (pairs_tail g gs r) (All-tail (λ (h : Gap). h.address ≢ x.address) g gs a)))
     ]
 
-pub length-entered : (x : Gap) (gs : List Gap) → length (entered x gs) ≡ length gs + 1
-length-entered x [] = refl
-length-entered x (g ∷ gs) =
-    elim (cases_lt x.address g.address) [
-      | inl lt ↦ ap length (entered_here x g gs lt) ∙ omega arith
-      | inr le ↦ ap length (entered_past x g gs le) ∙ ap suc (length-entered x gs) ∙ omega arith
-    ]
-
 either_order : (a b c : Bool) → (a || (b || c)) ≡ (b || (a || c))
 either_order a b c = grind arith
 
@@ -111,9 +103,6 @@ remove-without a (g ∷ gs) r lt =
           ap (remove (g ∷ gs)) past ∙ remove_cons g gs (position_or_len (is_at a) gs) ∙ ap (λ xs. g ∷ xs) (remove-without a gs (pairs_tail g gs r) (omega arith)) ∙ sym (without_past a g gs f)
     ]
 
-pub All-without : (P : Gap → Type 0) (a : ℕ) (gs : List Gap) → All P gs → All P (without a gs)
-All-without P a gs h = All-filter (λ g. not (is_at a g)) P gs h
-
 free_cons : (a : ℕ) (g : Gap) (gs : List Gap) → is_at a g ≡ false → All (λ h. h.address ≢ a) gs → All (λ h. h.address ≢ a) (g ∷ gs)
 free_cons a g gs f more = All-cons (λ (h : Gap). h.address ≢ a) g gs (grind arith) more
 
@@ -140,9 +129,6 @@ held-without y a (g ∷ gs) =
       | inl t ↦ ap (is_held y) (without_here a g gs t) ∙ held-without y a gs ∙ same_gone a y g (is_held y gs) t
       | inr f ↦ ap (is_held y) (without_past a g gs f) ∙ ap (λ b. is_same y g || b) (held-without y a gs) ∙ same_stays a y g (is_held y gs) f
     ]
-
-same_at : (y g : Gap) (b : Bool) → (b ≡ true → (is_at y.address g || b) ≡ true) → (is_same y g || b) ≡ true → (is_at y.address g || b) ≡ true
-same_at y g b more h = grind arith
 
 at_held : (y g : Gap) (b c : Bool) → (b ≡ true → c ≡ true) → (is_same y g || b) ≡ true → (is_at y.address g || c) ≡ true
 at_held y g b c more h = grind arith
