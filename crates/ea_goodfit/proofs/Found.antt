@@ -1,0 +1,96 @@
+-- The gap that a search finds.
+use Rattle.std.proofs.Common.{◌≡◌, ℕ, ◌<◌, ◌≤◌, ◌↔◌, Bool, true, false, List, refl, sym, subst, arith}
+use Rattle.std.specs.Prelude.{Some, None, Option, IfSome, IsNone, IsTrue, filter, nat_le, All, AllPairs, Contains}
+use Rattle.std.specs.Cmp.{IsStrictWeakOrder}
+use Rattle.std.specs.List.Sorted.{IsPermutation}
+use Rattle.std.proofs.lemmas.Bool.{leb-true, le-leb}
+use Rattle.std.proofs.lemmas.List.Elements.{All-weaker, All-filter, All-contains_itself, filter_passes}
+use Rattle.std.proofs.lemmas.List.Folds.{list_any-from_Any}
+use Rattle.ea_model.specs.Choice.{first, IsFirst}
+use Rattle.ea_model.specs.GoodFit.{bin_of, is_inspected, good_fit}
+use Rattle.ea_model.proofs.First.{first-All, first-IsFirst, first-none, large-none, none-large}
+use Rattle.ea_model.proofs.Options.{if_some}
+use Rattle.ea_goodfit.specs.declared.gaps.Gap.{Gap}
+use Rattle.ea_goodfit.specs.Gaps.{is_same, is_held, smaller, candidates, IsBelow}
+use Rattle.ea_goodfit.proofs.AnyOrder.{passing-All, All-passing, smaller_low-order, IsApart, good_fit-is, good_fit-permuted}
+use Rattle.ea_goodfit.proofs.Bin.{bin_of-rises}
+use Rattle.ea_goodfit.proofs.Inspected.{bins_inspected}
+
+pub smaller-order : IsStrictWeakOrder smaller
+smaller-order = smaller_low-order (λ (g : Gap). g.address) (λ (g : Gap). g.size)
+
+same_self : (g : Gap) → is_same g g ≡ true
+same_self g = grind arith
+
+pub held-contained : (gs : List Gap) (g : Gap) → Contains gs g → IsTrue (is_held g gs)
+held-contained gs g c = list_any-from_Any (is_same g) gs (c.0, g, c.1, c.2, same_self g)
+
+all_held : (gs : List Gap) → All (λ g. IsTrue (is_held g gs)) gs
+all_held gs = All-weaker (Contains gs) (λ g. IsTrue (is_held g gs)) (λ g c. held-contained gs g c) gs (All-contains_itself gs)
+
+-- whether a search looks at the gap
+abbrev looked_at : ℕ → List Gap → Gap → Bool
+looked_at depth gs g = is_inspected (λ h. h.address) (λ h. h.size) depth gs g
+
+abbrev chosen : ℕ → ℕ → List Gap → Option Gap
+chosen depth need gs = good_fit (λ g. g.address) (λ g. g.size) depth need gs
+
+-- none is found exactly where no inspected gap fits
+pub good_fit-none : (depth need : ℕ) (gs : List Gap) → IsNone (chosen depth need gs) ↔ All (λ g. IsTrue (looked_at depth gs g) → g.size < need) gs
+good_fit-none depth need gs =
+    let seen = filter (looked_at depth gs) gs in (
+      λ h. passing-All (looked_at depth gs) (λ g. g.size < need) gs (none-large (λ (x : Gap). x.size) need seen (first-none smaller (candidates depth need gs) h)),
+      λ h. subst (λ xs. IsNone (first smaller xs)) (sym (large-none (λ (x : Gap). x.size) need seen (All-passing (looked_at depth gs) (λ g. g.size < need) gs h))) refl,
+    )
+
+pub good_fit-IsFirst : (depth need : ℕ) (gs : List Gap) → IfSome (chosen depth need gs) (IsFirst smaller (candidates depth need gs))
+good_fit-IsFirst depth need gs = first-IsFirst smaller smaller-order (candidates depth need gs)
+
+-- the gap found is one of them
+pub good_fit-held : (depth need : ℕ) (gs : List Gap) → IfSome (chosen depth need gs) (λ g. IsTrue (is_held g gs))
+good_fit-held depth need gs =
+    first-All (λ g. IsTrue (is_held g gs)) smaller None (candidates depth need gs) tt
+    (All-filter (λ g. nat_le need g.size) (λ g. IsTrue (is_held g gs)) (filter (looked_at depth gs) gs) (All-filter (looked_at depth gs) (λ g. IsTrue (is_held g gs)) gs (all_held gs)))
+
+-- it is one that the search inspects
+pub good_fit-inspected : (depth need : ℕ) (gs : List Gap) → IfSome (chosen depth need gs) (λ g. IsTrue (looked_at depth gs g))
+good_fit-inspected depth need gs =
+    first-All (λ g. IsTrue (looked_at depth gs g)) smaller None (candidates depth need gs) tt
+    (All-filter (λ g. nat_le need g.size) (λ g. IsTrue (looked_at depth gs g)) (filter (looked_at depth gs) gs) (filter_passes (looked_at depth gs) gs))
+
+-- it fits
+pub good_fit-fits : (depth need : ℕ) (gs : List Gap) → IfSome (chosen depth need gs) (λ g. need ≤ g.size)
+good_fit-fits depth need gs =
+    first-All (λ g. need ≤ g.size) smaller None (candidates depth need gs) tt
+    (All-weaker (λ g. nat_le need g.size ≡ true) (λ g. need ≤ g.size) (λ g t. leb-true need g.size t) (candidates depth need gs) (filter_passes (λ g. nat_le need g.size) (filter (looked_at depth gs) gs)))
+
+not_smaller : (h g : Gap) → smaller h g ≡ false → g.size ≤ h.size
+not_smaller h g f = grind arith
+
+-- no lower bin has an inspected gap that fits
+pub good_fit-bin : (depth need : ℕ) (gs : List Gap) → IfSome (chosen depth need gs) (λ g. All (λ h. IsTrue (looked_at depth gs h) → need ≤ h.size → bin_of g.size ≤ bin_of h.size) gs)
+good_fit-bin depth need gs =
+    let seen = filter (looked_at depth gs) gs in
+    if_some (chosen depth need gs) (IsFirst smaller (candidates depth need gs)) (λ g. All (λ h. IsTrue (looked_at depth gs h) → need ≤ h.size → bin_of g.size ≤ bin_of h.size) gs)
+    (λ g f. passing-All (looked_at depth gs) (λ h. need ≤ h.size → bin_of g.size ≤ bin_of h.size) gs
+    (All-weaker (λ h. IsTrue (nat_le need h.size) → smaller h g ≡ false) (λ h. need ≤ h.size → bin_of g.size ≤ bin_of h.size) (λ h a le. bin_of-rises g.size h.size (not_smaller h g (a (le-leb need h.size le)))) seen
+    (passing-All (λ h. nat_le need h.size) (λ h. smaller h g ≡ false) seen f.least)))
+    (good_fit-IsFirst depth need gs)
+
+below_apart : (gs : List Gap) → AllPairs IsBelow gs → AllPairs (IsApart (λ (g : Gap). g.address) (λ (g : Gap). g.size)) gs
+below_apart gs rise = λ i j d lt within. let below = rise i j d lt within in λ e. omega arith
+
+-- no other gap is first of those inspected that fit
+pub good_fit-only : (depth need : ℕ) (gs : List Gap) → AllPairs IsBelow gs → (g : Gap) → IsFirst smaller (candidates depth need gs) g → chosen depth need gs ≡ Some g
+good_fit-only depth need gs rise g f = good_fit-is (λ (g : Gap). g.address) (λ (g : Gap). g.size) depth need gs g (below_apart gs rise) f
+
+-- the gaps give the same in another order
+pub good_fit-order : (depth need : ℕ) (gs : List Gap) → AllPairs IsBelow gs → (hs : List Gap) → IsPermutation gs hs → chosen depth need gs ≡ chosen depth need hs
+good_fit-order depth need gs rise hs m = sym (good_fit-permuted (λ (g : Gap). g.address) (λ (g : Gap). g.size) depth need gs hs (below_apart gs rise) m)
+
+-- where none is found, no gap lies in a bin above that of the need
+pub good_fit-above : (depth need : ℕ) → 1 ≤ depth → (gs : List Gap) → AllPairs IsBelow gs → IsNone (chosen depth need gs) → All (λ g. bin_of g.size ≤ bin_of need) gs
+good_fit-above depth need one gs rise none =
+    bins_inspected (λ b. b ≤ bin_of need) depth one gs rise
+    (All-weaker (λ g. IsTrue (looked_at depth gs g) → g.size < need) (λ g. IsTrue (looked_at depth gs g) → bin_of g.size ≤ bin_of need)
+    (λ g a t. let lt : g.size < need = a t in bin_of-rises g.size need (omega arith)) gs ((good_fit-none depth need gs).0 none))

@@ -1,0 +1,5 @@
+pub mod AnyOrder
+pub mod Bin
+pub mod Found
+pub mod Inspected
+pub mod Lists

@@ -1,0 +1,119 @@
+//! The bins and their calls.
+ghost use Rattle.std.specs.Prelude.{◌≡◌, ◌≢◌, ◌+◌, ◌<◌, ◌≤◌, ◌↔◌, [], ◌==◌, ◌&&◌, ◌||◌, not, List, Some, All, AllPairs, IsTrue, IsNone, IfSome, OnOk, OnErr, length};
+ghost use Rattle.std.specs.List.Sorted.{IsPermutation};
+ghost use Rattle.ea_model.specs.GoodFit.{bin_of, good_fit, is_inspected};
+ghost use Rattle.ea_model.specs.Choice.{IsFirst};
+ghost use Rattle.ea_goodfit.specs.Gaps.{is_same, is_held, entered, without, smaller, candidates, IsBelow};
+
+use crate::gaps::Gap;
+use crate::walks::{place_at, places_up_to, search};
+use ea_model::OutOfMemory;
+use std::alloc::Global;
+use std::marker::Model;
+
+/// The gaps that a search can find. Contracts see them by rising address, and beside them `room`: how many
+/// more can be inserted without taking memory.
+#[derive(Drop)]
+pub struct Bins {
+    held: Vec<Gap>,
+}
+
+impl Model for Bins {
+    ghost use Rattle.std.specs.Prelude.{◌-◌, AllPairs, vec_len, vec_capacity};
+    ghost use Rattle.ea_goodfit.specs.Gaps.{HeldGaps, IsBelow};
+
+    ghost Value = { HeldGaps };
+
+    ghost view = { λ b. record { held = b.held.items; room = vec_capacity b.held - vec_len b.held } };
+
+    ghost invariant = { λ b. AllPairs IsBelow b.held.items };
+}
+
+impl Bins {
+    /// No gaps, and no room. It takes no memory.
+    pub fn new(alloc: Global) -> Bins
+        ensures { result ≡ record { held = []; room = 0 } }
+    {
+        Bins {
+            held: Vec::new(alloc),
+        }
+    }
+
+    /// Makes room for at least `extra` more gaps. The gaps stay, whatever the answer.
+    pub fn reserve(&mut self, extra: u32) -> Result<(), OutOfMemory>
+        ensures ok { OnOk result (extra ≤ self.new.room) }
+        ensures held { self.new.held ≡ self.old.held }
+        ensures room { self.old.room ≤ self.new.room }
+        ensures err { OnErr result (self.new ≡ self.old) }
+
+        // It fails only where there is less room than was asked for.
+        ensures full { OnErr result (self.old.room < extra) }
+    {
+        match self.held.reserve(extra as usize) {
+            Ok(()) => Ok(()),
+            Err(_) => Err(OutOfMemory),
+        }
+    }
+
+    /// Adds a gap, where room was reserved. It takes no memory.
+    pub fn insert(&mut self, gap: Gap)
+        requires room { 0 < self.old.room }
+        requires address { All (λ g. g.address ≢ gap.address) self.old.held }
+        ensures held { self.new.held ≡ entered gap self.old.held }
+        ensures room { self.new.room + 1 ≡ self.old.room }
+        ensures count { length self.new.held ≡ length self.old.held + 1 }
+        ensures rising { AllPairs IsBelow self.new.held }
+
+        // The gap is held now, and the others are as before.
+        ensures gaps { (g : Gap) → is_held g self.new.held ≡ (is_same g gap || is_held g self.old.held) }
+    {
+        let place = places_up_to(gap.address, &self.held);
+        match self.held.insert(place, gap) {
+            Ok(()) => (),
+            Err(_) => unreachable!(),
+        }
+    }
+
+    /// Takes out a gap that is held.
+    pub fn remove(&mut self, gap: Gap)
+        requires { IsTrue (is_held gap self.old.held) }
+        ensures held { self.new.held ≡ without gap.address self.old.held }
+        ensures room { self.new.room ≡ self.old.room + 1 }
+        ensures count { length self.new.held + 1 ≡ length self.old.held }
+        ensures rising { AllPairs IsBelow self.new.held }
+
+        // Its address is free now, and the other gaps are as before.
+        ensures free { All (λ g. g.address ≢ gap.address) self.new.held }
+        ensures gaps { (g : Gap) → is_held g self.new.held ≡ (is_held g self.old.held && not (g.address == gap.address)) }
+    {
+        let place = place_at(gap.address, &self.held);
+        self.held.remove(place);
+    }
+
+    /// The smallest gap of at least `need` units among those that the search looks at, of equals the
+    /// lowest, or None where none of these has so many. It looks at the first `depth` gaps of each bin, by
+    /// address.
+    pub fn find(&self, need: u32, depth: u32) -> Option<Gap>
+        ensures found { result ≡ good_fit (λ g. g.address) (λ g. g.size) depth need self.now.held }
+        ensures none { IsNone result ↔ All (λ g. IsTrue (is_inspected (λ h. h.address) (λ h. h.size) depth self.now.held g) → g.size < need) self.now.held }
+
+        // The gap found is one that the search looks at and that fits, and none of these comes before it.
+        ensures first { IfSome result (IsFirst smaller (candidates depth need self.now.held)) }
+        ensures held { IfSome result (λ g. IsTrue (is_held g self.now.held)) }
+        ensures inspected { IfSome result (λ g. IsTrue (is_inspected (λ h. h.address) (λ h. h.size) depth self.now.held g)) }
+        ensures fits { IfSome result (λ g. need ≤ g.size) }
+
+        // No lower bin has a gap that the search looks at and that fits.
+        ensures bin { IfSome result (λ g. All (λ h. IsTrue (is_inspected (λ x. x.address) (λ x. x.size) depth self.now.held h) → need ≤ h.size → bin_of g.size ≤ bin_of h.size) self.now.held) }
+
+        // Where it finds none, though it looks at a gap of each bin at least, no gap lies in a bin above that of the need.
+        ensures above { 1 ≤ depth → IsNone result → All (λ g. bin_of g.size ≤ bin_of need) self.now.held }
+
+        // No other gap comes first, so the gaps give the same in any order.
+        ensures only { (g : Gap) → IsFirst smaller (candidates depth need self.now.held) g → result ≡ Some g }
+        ensures order { (gs : List Gap) → IsPermutation self.now.held gs → result ≡ good_fit (λ g. g.address) (λ g. g.size) depth need gs }
+        ensures rising { AllPairs IsBelow self.now.held }
+    {
+        search(need, depth, &self.held)
+    }
+}

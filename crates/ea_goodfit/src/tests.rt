@@ -1,0 +1,146 @@
+//! Worked examples.
+ghost use Rattle.std.specs.Prelude.{◌≡◌, ◌≤◌, [], ◌∷◌, IfOk};
+
+use crate::{Bins, Gap};
+use ea_model::OutOfMemory;
+use std::alloc::Global;
+use std::test::Fail;
+
+fn gap(address: u32, size: u32) -> Gap
+    ensures { result ≡ record { address = address; size = size } }
+{
+    Gap { address, size }
+}
+
+/// Gaps of 70 and 100 units, which share a bin, and a great one.
+fn three(alloc: Global) -> Result<Bins, OutOfMemory>
+    ensures { IfOk result (λ b. b.held ≡ record { address = 8; size = 70 } ∷ record { address = 84; size = 100 } ∷ record { address = 190; size = 32578 } ∷ []) }
+{
+    let mut bins = Bins::new(alloc);
+    bins.reserve(3)?;
+    bins.insert(gap(190, 32578));
+    bins.insert(gap(8, 70));
+    bins.insert(gap(84, 100));
+    Ok(bins)
+}
+
+#[test]
+fn a_search_looks_at_the_first_gaps_of_each_bin_until_one_fits(
+    rt: HostRuntime,
+) -> Result<(), Fail> {
+    let bins = three(rt.alloc())?;
+    for (need, depth, found) in [
+        (80, 1, Some(gap(190, 32578))),
+        (80, 2, Some(gap(84, 100))),
+        (80, 3, Some(gap(84, 100))),
+        (70, 1, Some(gap(8, 70))),
+        (71, 1, Some(gap(190, 32578))),
+        (101, 3, Some(gap(190, 32578))),
+        (32578, 1, Some(gap(190, 32578))),
+        (32579, 9, None),
+    ] {
+        assert_eq!(rt; bins.find(need, depth), found);
+    }
+    Ok(())
+}
+
+#[test]
+fn bins_begin_at_64_and_at_128(rt: HostRuntime) -> Result<(), Fail> {
+    let mut bins = Bins::new(rt.alloc());
+    bins.reserve(8)?;
+
+    // 63 | 64, 127 | 128, 255 | 256: by address, the smaller of each bin behind the greater.
+    bins.insert(gap(10, 63));
+    bins.insert(gap(80, 127));
+    bins.insert(gap(210, 64));
+    bins.insert(gap(280, 255));
+    bins.insert(gap(540, 128));
+    bins.insert(gap(670, 256));
+    for (need, depth, found) in [
+        (63, 1, Some(gap(10, 63))),
+        (64, 1, Some(gap(80, 127))),
+        (64, 2, Some(gap(210, 64))),
+        (65, 2, Some(gap(80, 127))),
+        (127, 1, Some(gap(80, 127))),
+        (128, 1, Some(gap(280, 255))),
+        (128, 2, Some(gap(540, 128))),
+        (255, 1, Some(gap(280, 255))),
+        (256, 1, Some(gap(670, 256))),
+        (257, 4, None),
+    ] {
+        assert_eq!(rt; bins.find(need, depth), found);
+    }
+    Ok(())
+}
+
+#[test]
+fn each_size_below_64_has_a_bin(rt: HostRuntime) -> Result<(), Fail> {
+    let mut bins = Bins::new(rt.alloc());
+    bins.reserve(4)?;
+    bins.insert(gap(10, 63));
+    bins.insert(gap(100, 62));
+    bins.insert(gap(200, 6));
+    bins.insert(gap(300, 62));
+    for (need, found) in [
+        (0, Some(gap(200, 6))),
+        (6, Some(gap(200, 6))),
+        (7, Some(gap(100, 62))),
+        (62, Some(gap(100, 62))),
+        (63, Some(gap(10, 63))),
+        (64, None),
+    ] {
+        assert_eq!(rt; bins.find(need, 1), found);
+        assert_eq!(rt; bins.find(need, 4), found);
+    }
+    Ok(())
+}
+
+#[test]
+fn the_lowest_of_equals_is_found(rt: HostRuntime) -> Result<(), Fail> {
+    let mut bins = Bins::new(rt.alloc());
+    bins.reserve(3)?;
+    bins.insert(gap(900, 1000));
+    bins.insert(gap(2000, 1000));
+    bins.insert(gap(40, 700));
+    for (need, depth, found) in [
+        (701, 3, Some(gap(900, 1000))),
+        (701, 2, Some(gap(900, 1000))),
+        (701, 1, None),
+        (1, 3, Some(gap(40, 700))),
+    ] {
+        assert_eq!(rt; bins.find(need, depth), found);
+    }
+    Ok(())
+}
+
+#[test]
+fn the_greatest_size_has_a_bin(rt: HostRuntime) -> Result<(), Fail> {
+    let mut bins = Bins::new(rt.alloc());
+    bins.reserve(1)?;
+    bins.insert(gap(0, u32::MAX));
+    assert_eq!(rt; bins.find(u32::MAX, u32::MAX), Some(gap(0, u32::MAX)));
+    assert_eq!(rt; bins.find(0, 1), Some(gap(0, u32::MAX)));
+    Ok(())
+}
+
+#[test]
+fn a_removed_gap_uncovers_the_next_of_its_bin(rt: HostRuntime) -> Result<(), Fail> {
+    let mut bins = three(rt.alloc())?;
+    bins.remove(gap(8, 70));
+    assert_eq!(rt; bins.find(80, 1), Some(gap(84, 100)));
+    assert_eq!(rt; bins.find(1, 1), Some(gap(84, 100)));
+
+    // Its room is free again, and its address.
+    bins.reserve(1)?;
+    bins.insert(gap(8, 60));
+    assert_eq!(rt; bins.find(1, 1), Some(gap(8, 60)));
+    assert_eq!(rt; bins.find(80, 1), Some(gap(84, 100)));
+    Ok(())
+}
+
+#[test]
+fn empty_bins_find_none(rt: HostRuntime) -> Result<(), Fail> {
+    let bins = Bins::new(rt.alloc());
+    assert_eq!(rt; bins.find(0, 3), None);
+    Ok(())
+}

@@ -1,0 +1,82 @@
+//! Walks over the gaps, by rising address.
+ghost use Rattle.std.specs.Prelude.{◌≡◌, ◌<◌, ◌≤◌, AllPairs, IsTrue, length};
+ghost use Rattle.std.specs.List.{list_any, position_or_len};
+ghost use Rattle.ea_model.specs.GoodFit.{good_fit};
+ghost use Rattle.ea_goodfit.specs.Gaps.{bin, considered, is_above, is_at, IsBelow};
+
+use crate::gaps::Gap;
+
+/// The least size, in units, that shares its bin with others.
+const SHARED: u32 = 64;
+
+/// How many bins there are.
+const BINS: usize = 90;
+
+/// The bin of a size: the size itself below 64, and 58 + k for the sizes from 2^k on.
+fn bin_of(size: u32) -> usize
+    ensures bin { result ≡ bin size }
+    ensures within { result < 90 }
+{
+    if size < SHARED {
+        return size as usize;
+    }
+    58 + size.ilog2() as usize
+}
+
+/// The better of `best` and the gap, where that one fits.
+fn better_of(need: u32, best: Option<Gap>, gap: Gap) -> Option<Gap>
+    ensures { result ≡ considered need best gap }
+{
+    if gap.size < need {
+        return best;
+    }
+    match best {
+        Some(other) if other.size < gap.size => best,
+        Some(other) if other.size == gap.size && other.address <= gap.address => best,
+        _ => Some(gap),
+    }
+}
+
+/// The gap that a search finds which looks at the first `depth` gaps of each bin.
+pub fn search(need: u32, depth: u32, held: &[Gap]) -> Option<Gap>
+    requires { AllPairs IsBelow held.now }
+    ensures { result ≡ good_fit (λ g. g.address) (λ g. g.size) depth need held.now }
+{
+    let mut counts = [0u32; BINS];
+    let mut best = None;
+    for gap in held {
+        let bin = bin_of(gap.size);
+        if counts[bin] < depth {
+            counts[bin] += 1;
+            best = better_of(need, best, *gap);
+        }
+    }
+    best
+}
+
+/// How many gaps lie at the address or below it.
+pub fn places_up_to(address: u32, held: &[Gap]) -> usize
+    ensures place { result ≡ position_or_len (is_above address) held.now }
+    ensures within { result ≤ length held.now }
+{
+    for (place, gap) in held.iter().enumerate() {
+        if address < gap.address {
+            return place;
+        }
+    }
+    held.len()
+}
+
+/// The place of the gap at the address, which is there.
+pub fn place_at(address: u32, held: &[Gap]) -> usize
+    requires { IsTrue (list_any (is_at address) held.now) }
+    ensures place { result ≡ position_or_len (is_at address) held.now }
+    ensures within { result < length held.now }
+{
+    for (place, gap) in held.iter().enumerate() {
+        if gap.address == address {
+            return place;
+        }
+    }
+    unreachable!()
+}
