@@ -1,25 +1,54 @@
--- The carriers of an instance and their set.
-use Rattle.std.specs.Prelude.{◌≡◌, ℕ, true, List, Option, All, map, option_map}
+-- The carriers of an instance, their set, and the bins of their gaps.
+use Rattle.std.specs.Prelude.{◌≡◌, ◌⊎◌, ℕ, ◌+◌, ◌*◌, ◌-◌, ◌≤◌, Bool, true, ◌&&◌, if◌then◌else◌, nat_lt, nat_le, List, [], ◌∷◌, Option, Some, None, All, AllPairs, map, option_map}
 use Rattle.std.specs.Option.{option_and_then}
+use Rattle.std.specs.List.Sorted.{IsPermutation}
+use Rattle.ea_model.specs.declared.settings.Strategy.{Strategy}
+use Rattle.ea_model.specs.declared.settings.Strategy.TheVariants.{Gf}
 use Rattle.ea_model.specs.declared.carriers.Inner.{Inner}
 use Rattle.ea_model.specs.declared.carriers.Candidate.{Candidate}
-use Rattle.ea_model.specs.Content.{Content, gaps_of, largest}
+use Rattle.ea_model.specs.Content.{Content, gaps_of, largest, Tiled}
 use Rattle.ea_model.specs.Choice.{choice}
-use Rattle.ea_model.specs.Strategies.{candidate}
+use Rattle.ea_model.specs.Strategies.{candidate, candidates}
 use Rattle.ea_model.specs.Instance.{content_of}
 use Rattle.ea_cset.specs.declared.keys.Held.{Held}
 use Rattle.ea_cset.specs.Carriers.{Carriers}
+use Rattle.ea_goodfit.specs.declared.gaps.Gap.{Gap}
+use Rattle.ea_goodfit.specs.Gaps.{HeldGaps}
 use Rattle.ea_instance.specs.Kinds.{is_shared}
+
+-- the carriers of an instance by rising number, and the strategy that chooses among their gaps
+pub record CarrierList : Type 0 where
+  pub strategy : Strategy
+  pub contents : List Content
 
 -- what the set knows of a carrier: what tells it from the others, and its largest gap
 abbrev pub held_of : Content → Held
 held_of c = record { key = record { number = c.number; base = c.base; birth = c.birth }; fit = largest (gaps_of c) }
 
--- the set holds the carriers, has room for all numbers, and each is one of many blocks
-pub record IsListed (list : List Content) (set : Carriers) : Type 0 where
+-- what the bins know of a gap
+abbrev pub gap_of : Candidate → Gap
+gap_of x = record { address = x.address; size = x.size }
+
+abbrev pub all_gaps : List Content → List Gap
+all_gaps cs = map gap_of (candidates cs)
+
+-- a carrier may have many blocks, these lie in order, and it ends within 2^26 units, the largest super carrier
+pub record IsSound (c : Content) : Type 0 where
+  pub shared : is_shared c.kind ≡ true
+  pub tiled : Tiled 8 c.units c.blocks
+  pub low : 512 * c.base + c.units ≤ 67108864
+
+-- two carriers don't meet
+abbrev pub IsApartFrom : Content → Content → Type 0
+IsApartFrom c d = (512 * c.base + c.units ≤ 512 * d.base) ⊎ (512 * d.base + d.units ≤ 512 * c.base)
+
+-- the set holds the carriers and has room for all numbers, and under good fit the bins hold all gaps
+pub record IsListed (strategy : Strategy) (list : List Content) (set : Carriers) (bins : HeldGaps) : Type 0 where
   pub held : set.held ≡ map held_of list
   pub room : set.room ≡ 256
-  pub shared : All (λ c. is_shared c.kind ≡ true) list
+  pub sound : All IsSound list
+  pub apart : AllPairs IsApartFrom list
+  pub binned : strategy ≡ Gf → IsPermutation bins.held (all_gaps list)
 
 -- the gap that is chosen in a carrier
 abbrev pub chosen_in : Inner → ℕ → Content → Option Candidate
@@ -28,3 +57,12 @@ chosen_in inner need c = option_map (candidate c) (choice inner need (gaps_of c)
 -- the gap that is chosen in the carrier with the number
 abbrev pub candidate_in : Inner → ℕ → List Content → ℕ → Option Candidate
 candidate_in inner need cs number = option_and_then (chosen_in inner need) (content_of cs number)
+
+-- whether the unit at the address is one of the carrier
+abbrev pub spans : ℕ → Content → Bool
+spans address c = nat_le (512 * c.base) address && nat_lt address (512 * c.base + c.units)
+
+-- the gap at the address, as one of the carrier that spans it
+abbrev pub candidate_at : Gap → List Content → Option Candidate
+candidate_at g [] = None
+candidate_at g (c ∷ cs) = if spans g.address c then Some (record { number = c.number; base = c.base; birth = c.birth; offset = g.address - 512 * c.base; address = g.address; size = g.size }) else candidate_at g cs
