@@ -5,6 +5,7 @@ use Rattle.ea_model.specs.Content.{Content}
 use Rattle.ea_model.specs.Settings.{IsValid}
 use Rattle.ea_model.specs.Instance.{segments, first_number}
 use Rattle.ea_model.specs.Region.{Region, Laid}
+use Rattle.ea_instance.specs.Listed.{CarrierList}
 
 -- the contents stand by rising number, from `low` on and below `high`
 abbrev pub Rising : ℕ → ℕ → List Content → Type 0
@@ -15,13 +16,15 @@ Rising low high (c ∷ cs) = (low ≤ c.number) × (c.number < high) × Rising (
 abbrev pub IsWhole : Content → Type 0
 IsWhole c = (c.units % 512 ≡ 0) × (1 ≤ c.units / 512)
 
--- the carriers' numbers are the instance's own, and their segments are the taken ones of its region
-pub record IsKept (settings : Settings) (number : ℕ) (contents : List Content) (region : Region) : Type 0 where
+-- the carriers' numbers are the instance's own, and their segments are the taken ones of its region, which ends within the largest super carrier
+pub record IsKept (settings : Settings) (number : ℕ) (carriers : CarrierList) (region : Region) : Type 0 where
   pub valid : IsValid settings
+  pub strategy : carriers.strategy ≡ settings.strategy
   pub instance : (1 ≤ number) × (number ≤ 16)
-  pub rising : Rising (first_number number) (first_number number + 256) contents
-  pub whole : All IsWhole contents
-  pub taken : region.taken ≡ segments contents
+  pub rising : Rising (first_number number) (first_number number + 256) carriers.contents
+  pub whole : All IsWhole carriers.contents
+  pub taken : region.taken ≡ segments carriers.contents
+  pub within : region.end ≤ 131072
   pub laid : Laid region.first region.end region.taken
 
 -- the test for a content of a greater number

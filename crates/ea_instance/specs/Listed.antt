@@ -32,6 +32,13 @@ gap_of x = record { address = x.address; size = x.size }
 abbrev pub all_gaps : List Content → List Gap
 all_gaps cs = map gap_of (candidates cs)
 
+-- a gap as a list of at most one: a gap of no units is none
+abbrev pub some_gap : Gap → List Gap
+some_gap g = if nat_lt 0 g.size then g ∷ [] else []
+
+abbrev pub gap_from : ℕ → ℕ → List Gap
+gap_from address size = some_gap (record { address = address; size = size })
+
 -- a carrier may have many blocks, these lie in order, and it ends within 2^26 units, the largest super carrier
 pub record IsSound (c : Content) : Type 0 where
   pub shared : is_shared c.kind ≡ true
@@ -62,7 +69,11 @@ candidate_in inner need cs number = option_and_then (chosen_in inner need) (cont
 abbrev pub spans : ℕ → Content → Bool
 spans address c = nat_le (512 * c.base) address && nat_lt address (512 * c.base + c.units)
 
--- the gap at the address, as one of the carrier that spans it
+-- the gap as one of the carrier
+abbrev pub candidate_of : Gap → Content → Candidate
+candidate_of g c = record { number = c.number; base = c.base; birth = c.birth; offset = g.address - 512 * c.base; address = g.address; size = g.size }
+
+-- the gap as one of the first carrier that spans it
 abbrev pub candidate_at : Gap → List Content → Option Candidate
 candidate_at g [] = None
-candidate_at g (c ∷ cs) = if spans g.address c then Some (record { number = c.number; base = c.base; birth = c.birth; offset = g.address - 512 * c.base; address = g.address; size = g.size }) else candidate_at g cs
+candidate_at g (c ∷ cs) = if spans g.address c then Some (candidate_of g c) else candidate_at g cs

@@ -7,7 +7,7 @@ use Rattle.ea_model.specs.declared.carriers.Inner.TheVariants as inner
 use Rattle.ea_model.specs.declared.carriers.Candidate.{Candidate}
 use Rattle.ea_model.specs.Strategies.{lower, smaller_high, smaller_low}
 use Rattle.ea_instance.specs.declared.strategies.Order.{Order}
-use Rattle.ea_instance.specs.declared.strategies.Order.TheVariants.{Gaps, Address, Age}
+use Rattle.ea_instance.specs.declared.strategies.Order.TheVariants.{Gaps, Address, Age, Bins, Lowest}
 
 abbrev pub order_of : Strategy → Order
 order_of Bf = Gaps
@@ -18,8 +18,8 @@ order_of AoffCaobf = Address
 order_of AgeffCaoff = Age
 order_of AgeffCbf = Age
 order_of AgeffCaobf = Age
-order_of Gf = Gaps
-order_of Af = Gaps
+order_of Gf = Bins
+order_of Af = Lowest
 
 -- which of two gaps is taken first, where gaps of all carriers are compared
 abbrev pub is_better : Inner → Candidate → Candidate → Bool

@@ -1,84 +1,144 @@
 //! The carriers that an instance employs.
-ghost use Rattle.std.specs.Prelude.{◌≡◌, ◌≢◌, ℕ, ◌%◌, ◌<◌, ◌≤◌, [], All, Some, None, true, false, IsSome, IfSome, IfOk, OnOk, OnErr, length, option_map};
+ghost use Rattle.std.specs.Prelude.{◌≡◌, ◌≢◌, ℕ, ◌+◌, ◌*◌, ◌%◌, ◌<◌, ◌≤◌, [], All, Some, None, true, false, IsSome, IfSome, IfOk, OnOk, OnErr, length, option_map};
 ghost use Rattle.std.specs.Option.{option_and_then};
 ghost use Rattle.ea_model.specs.declared.carriers.Spot.{Spot};
 ghost use Rattle.ea_model.specs.Content.{placed, released};
-ghost use Rattle.ea_model.specs.Strategies.{choice_among};
+ghost use Rattle.ea_model.specs.Choice.{first};
+ghost use Rattle.ea_model.specs.Content.{Content};
+ghost use Rattle.ea_model.specs.declared.settings.Strategy.TheVariants.{Gf, Af};
+ghost use Rattle.ea_model.specs.Strategies.{candidates, choice_among, choice_unused, inner_of, large_enough, may_miss, or_else};
 ghost use Rattle.ea_model.specs.Instance.{changed, content_of, block_in, is_used, size_for, with_content, without_content};
 ghost use Rattle.ea_instance.specs.Kinds.{is_shared};
-ghost use Rattle.ea_instance.specs.Listed.{candidate_in};
+ghost use Rattle.ea_instance.specs.Listed.{candidate_in, IsApartFrom};
+ghost use Rattle.ea_instance.specs.Orders.{is_better};
 ghost use Rattle.ea_instance.specs.Found.{HasGap, IsRising, IsOther};
 
+use crate::binned::{cut, join, put_in, take_out};
 use crate::employed::Employed;
 use crate::strategies::{Order, inner_of, order_of};
-use crate::walks::{best_candidate, carrier_of, place_behind, place_of};
+use crate::walks::{
+    best_candidate, candidate_at, carrier_of, lowest_unused, place_behind, place_of,
+};
 use ea_cset::CarrierSet;
-use ea_model::{Candidate, Inner, NUMBERS, OutOfMemory, Strategy};
+use ea_goodfit::{Bins, Gap};
+use ea_model::{Candidate, HEADER_UNITS, Inner, NUMBERS, OutOfMemory, Strategy};
 use std::alloc::Global;
 use std::marker::Model;
 
-/// The main and multiblock carriers that an instance employs, with a set in which a strategy finds the
-/// first of them that fits. Contracts see their contents, by rising number.
+/// The main and multiblock carriers that an instance employs, with what its strategy finds gaps by: a set
+/// of carriers, and under good fit bins of all gaps. Contracts see the strategy, and the carriers' contents
+/// by rising number.
 #[derive(Drop)]
 pub struct Carriers {
+    strategy: Strategy,
     list: Vec<Employed>,
     set: CarrierSet,
+    bins: Bins,
 }
 
 impl Model for Carriers {
-    ghost use Rattle.std.specs.Prelude.{List};
-    ghost use Rattle.ea_model.specs.Content.{Content};
-    ghost use Rattle.ea_instance.specs.Listed.{IsListed};
+    ghost use Rattle.ea_instance.specs.Listed.{CarrierList, IsListed};
 
-    ghost Value = { List Content };
+    ghost Value = { CarrierList };
 
-    ghost view = { λ c. c.list.items };
+    ghost view = { λ c. record { strategy = c.strategy; contents = c.list.items } };
 
-    ghost invariant = { λ c. IsListed c.list.items c.set };
+    ghost invariant = { λ c. IsListed c.strategy c.list.items c.set c.bins };
 }
 
 impl Carriers {
     /// No carriers, and memory for the set of as many as an instance has numbers.
-    pub fn new(alloc: Global) -> Result<Carriers, OutOfMemory>
-        ensures { IfOk result (λ c. c ≡ []) }
+    pub fn new(alloc: Global, strategy: Strategy) -> Result<Carriers, OutOfMemory>
+        ensures { IfOk result (λ c. c ≡ record { strategy = strategy; contents = [] }) }
     {
         let set = CarrierSet::new(alloc, NUMBERS)?;
         Ok(Carriers {
+            strategy,
             list: Vec::new(alloc),
             set,
+            bins: Bins::new(alloc),
         })
     }
 
     /// The carriers, by rising number.
     pub fn as_slice(&self) -> &[Employed]
-        ensures { result.now ≡ self.now }
+        ensures { result.now ≡ self.now.contents }
     {
         &self.list
     }
 
-    /// The candidate that a strategy chooses among the gaps of all carriers.
-    pub fn chosen(&self, strategy: Strategy, need: u32) -> Option<Candidate>
-        requires rising { IsRising self.now }
+    /// The candidate that the strategy chooses among the gaps of all carriers. Good fit looks at `depth`
+    /// gaps of a bin.
+    pub fn chosen(&self, need: u32, depth: u32) -> Option<Candidate>
+        requires rising { IsRising self.now.contents }
         requires some { 1 ≤ need }
-        ensures chosen { result ≡ choice_among strategy need self.now }
-        ensures gap { IfSome result (λ x. HasGap need x.number x.offset self.now) }
+        ensures chosen { result ≡ or_else (may_miss self.now.strategy) (choice_among self.now.strategy depth need self.now.contents) (choice_unused need self.now.contents) }
+        ensures gap { IfSome result (λ x. HasGap need x.number x.offset self.now.contents) }
     {
-        let inner = inner_of(strategy);
-        match order_of(strategy) {
-            Order::Gaps => best_candidate(strategy, need, &self.list),
-            Order::Address => self.candidate_in(self.set.first_by_address(need), inner, need),
-            Order::Age => self.candidate_in(self.set.first_by_age(need), inner, need),
+        match order_of(self.strategy) {
+            Order::Gaps => self.best(need),
+            Order::Address => self.candidate_in(self.set.first_by_address(need), need),
+            Order::Age => self.candidate_in(self.set.first_by_age(need), need),
+            Order::Bins => self.or_unused(self.inspected(need, depth), need),
+            Order::Lowest => self.or_unused(self.lowest(need), need),
         }
     }
 
-    /// The gap that is chosen in the carrier that was found.
-    fn candidate_in(&self, found: Option<u32>, inner: Inner, need: u32) -> Option<Candidate>
-        requires rising { IsRising self.now }
+    /// The gap that is taken first of all.
+    fn best(&self, need: u32) -> Option<Candidate>
+        requires rising { IsRising self.now.contents }
         requires some { 1 ≤ need }
-        ensures candidate { result ≡ option_and_then (candidate_in inner need self.now) found }
-        ensures gap { IfSome result (λ x. HasGap need x.number x.offset self.now) }
+        ensures chosen { result ≡ first (is_better (inner_of self.now.strategy)) (large_enough need (candidates self.now.contents)) }
+        ensures gap { IfSome result (λ x. HasGap need x.number x.offset self.now.contents) }
     {
-        carrier_of(found?, &self.list)?.candidate(inner, need)
+        best_candidate(inner_of(self.strategy), need, &self.list)
+    }
+
+    /// The gap that is chosen in the carrier that was found.
+    fn candidate_in(&self, found: Option<u32>, need: u32) -> Option<Candidate>
+        requires rising { IsRising self.now.contents }
+        requires some { 1 ≤ need }
+        ensures candidate { result ≡ option_and_then (candidate_in (inner_of self.now.strategy) need self.now.contents) found }
+        ensures gap { IfSome result (λ x. HasGap need x.number x.offset self.now.contents) }
+    {
+        carrier_of(found?, &self.list)?.candidate(inner_of(self.strategy), need)
+    }
+
+    /// The gap that good fit chooses of those that it looks at.
+    fn inspected(&self, need: u32, depth: u32) -> Option<Candidate>
+        requires strategy { self.now.strategy ≡ Gf }
+        requires rising { IsRising self.now.contents }
+        ensures chosen { result ≡ choice_among Gf depth need self.now.contents }
+        ensures gap { IfSome result (λ x. HasGap need x.number x.offset self.now.contents) }
+    {
+        candidate_at(self.bins.find(need, depth)?, &self.list)
+    }
+
+    /// The lowest gap, if it has at least `need` units.
+    fn lowest(&self, need: u32) -> Option<Candidate>
+        requires rising { IsRising self.now.contents }
+        ensures chosen { (depth : ℕ) → result ≡ choice_among Af depth need self.now.contents }
+        ensures gap { IfSome result (λ x. HasGap need x.number x.offset self.now.contents) }
+    {
+        let found = best_candidate(Inner::Aoff, 1, &self.list)?;
+        if found.size < need {
+            return None;
+        }
+        Some(found)
+    }
+
+    /// What was found, or else the gap of a carrier that was created where nothing was.
+    fn or_unused(&self, found: Option<Candidate>, need: u32) -> Option<Candidate>
+        requires rising { IsRising self.now.contents }
+        requires some { 1 ≤ need }
+        requires gap { IfSome found (λ x. HasGap need x.number x.offset self.now.contents) }
+        ensures chosen { result ≡ or_else true found (choice_unused need self.now.contents) }
+        ensures gap { IfSome result (λ x. HasGap need x.number x.offset self.now.contents) }
+    {
+        if found.is_some() {
+            return found;
+        }
+        lowest_unused(need, &self.list)
     }
 
     /// Places a block in the carrier with the number, at the front of the gap at the offset, and answers
@@ -90,64 +150,96 @@ impl Carriers {
         need: u32,
         name: u32,
     ) -> Result<u32, OutOfMemory>
-        requires rising { IsRising self.old }
-        requires gap { HasGap need number offset self.old }
+        requires rising { IsRising self.old.contents }
+        requires gap { HasGap need number offset self.old.contents }
         requires even { need % 2 ≡ 0 }
         requires least { 6 ≤ need }
-        ensures size { IfOk result (λ size. size ≡ size_for (content_of self.old number) offset need) }
-        ensures ok { OnOk result (self.new ≡ changed (λ c. placed c offset need name) number self.old) }
+        ensures size { IfOk result (λ size. size ≡ size_for (content_of self.old.contents number) offset need) }
+        ensures ok { OnOk result (self.new ≡ record self.old { contents = changed (λ c. placed c offset need name) number self.old.contents }) }
         ensures err { OnErr result (self.new ≡ self.old) }
-        ensures fresh { block_in self.old (record { carrier = number; offset = offset }) ≡ None }
-        ensures begins { IfOk result (λ size. block_in self.new (record { carrier = number; offset = offset }) ≡ Some (record { name = name; offset = offset; size = size })) }
-        ensures others { (at : Spot) → IsOther number offset at → block_in self.new at ≡ block_in self.old at }
+        ensures fresh { block_in self.old.contents (record { carrier = number; offset = offset }) ≡ None }
+        ensures begins { IfOk result (λ size. block_in self.new.contents (record { carrier = number; offset = offset }) ≡ Some (record { name = name; offset = offset; size = size })) }
+        ensures others { (at : Spot) → IsOther number offset at → block_in self.new.contents at ≡ block_in self.old.contents at }
     {
         let place = place_of(number, &self.list);
+        let whole = self.list[place].gap_at(offset);
         let size = self.list[place].place(offset, need, name)?;
         self.set.update(number, self.list[place].largest());
+        if self.strategy == Strategy::Gf {
+            cut(
+                &mut self.bins,
+                self.list[place].address(offset),
+                whole,
+                size,
+            );
+        }
         Ok(size)
     }
 
     /// Releases the block at the offset in the carrier with the number.
     pub fn release(&mut self, number: u32, offset: u32) -> Result<(), OutOfMemory>
-        requires rising { IsRising self.old }
-        requires block { IsSome (block_in self.old (record { carrier = number; offset = offset })) }
-        ensures ok { OnOk result (self.new ≡ changed (λ c. released c offset) number self.old) }
+        requires rising { IsRising self.old.contents }
+        requires block { IsSome (block_in self.old.contents (record { carrier = number; offset = offset })) }
+        ensures ok { OnOk result (self.new ≡ record self.old { contents = changed (λ c. released c offset) number self.old.contents }) }
         ensures err { OnErr result (self.new ≡ self.old) }
-        ensures others { (at : Spot) → IsOther number offset at → block_in self.new at ≡ block_in self.old at }
+        ensures others { (at : Spot) → IsOther number offset at → block_in self.new.contents at ≡ block_in self.old.contents at }
     {
+        if self.strategy == Strategy::Gf {
+            self.bins.reserve(1)?;
+        }
         let place = place_of(number, &self.list);
-        self.list[place].release(offset)?;
+        let before = self.list[place].gap_before(offset);
+        let behind = self.list[place].gap_behind(offset);
+        let size = self.list[place].release(offset)?;
         self.set.update(number, self.list[place].largest());
+        if self.strategy == Strategy::Gf {
+            let address = self.list[place].address(offset);
+            join(&mut self.bins, address, before, size, behind);
+        }
         Ok(())
     }
 
-    /// Puts a carrier among the others, by its number.
+    /// Puts a carrier without blocks among the others, by its number.
     pub fn enter(&mut self, carrier: Employed) -> Result<(), OutOfMemory>
-        requires room { length self.old < 256 }
-        requires number { is_used carrier.number self.old ≡ false }
-        requires base { All (λ c. c.base ≢ carrier.base) self.old }
+        requires room { length self.old.contents < 256 }
+        requires number { is_used carrier.number self.old.contents ≡ false }
+        requires apart { All (IsApartFrom carrier) self.old.contents }
+        requires low { 512 * carrier.base + carrier.units ≤ 67108864 }
         requires shared { is_shared carrier.kind ≡ true }
-        ensures ok { OnOk result (self.new ≡ with_content carrier self.old) }
+        requires empty { carrier.blocks ≡ [] }
+        ensures ok { OnOk result (self.new ≡ record self.old { contents = with_content carrier self.old.contents }) }
         ensures err { OnErr result (self.new ≡ self.old) }
     {
+        if self.strategy == Strategy::Gf {
+            self.bins.reserve(1)?;
+        }
         let (key, fit) = (carrier.key(), carrier.largest());
+        let address = carrier.address(HEADER_UNITS);
         let place = place_behind(carrier.number(), &self.list);
         if self.list.insert(place, carrier).is_err() {
             return Err(OutOfMemory);
         }
         self.set.add(key, fit);
+        if self.strategy == Strategy::Gf {
+            put_in(&mut self.bins, Gap { address, size: fit });
+        }
         Ok(())
     }
 
-    /// Takes out the carrier with the number.
+    /// Takes out a carrier without blocks.
     pub fn leave(&mut self, number: u32) -> Employed
-        requires rising { IsRising self.old }
-        requires there { IsSome (content_of self.old number) }
-        ensures carrier { content_of self.old number ≡ Some result }
-        ensures rest { self.new ≡ without_content number self.old }
+        requires rising { IsRising self.old.contents }
+        requires there { (c : Content) × (content_of self.old.contents number ≡ Some c) × (c.blocks ≡ []) }
+        ensures carrier { content_of self.old.contents number ≡ Some result }
+        ensures rest { self.new ≡ record self.old { contents = without_content number self.old.contents } }
     {
         self.set.remove(number);
         let place = place_of(number, &self.list);
-        self.list.remove(place)
+        let carrier = self.list.remove(place);
+        if self.strategy == Strategy::Gf {
+            let (address, size) = (carrier.address(HEADER_UNITS), carrier.largest());
+            take_out(&mut self.bins, Gap { address, size });
+        }
+        carrier
     }
 }

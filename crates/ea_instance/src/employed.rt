@@ -1,14 +1,16 @@
 //! A carrier that an instance employs.
 ghost use Rattle.std.specs.Prelude.{◌≡◌, ◌≢◌, ℕ, ◌+◌, ◌*◌, ◌%◌, ◌<◌, ◌≤◌, ◌↔◌, IsTrue, IsSome, IfSome, IfOk, OnOk, OnErr, Some, None, true, length, map, option_map};
-ghost use Rattle.ea_model.specs.Content.{gaps_of, gap_at, block_at, named, taken_of, placed, released, allocated, free_units, largest, is_done, is_multi};
+ghost use Rattle.ea_model.specs.Content.{gaps_of, gap_at, gap_before, gap_behind, block_at, named, taken_of, placed, released, allocated, free_units, largest, Tiled, is_done, is_multi};
+ghost use Rattle.ea_mbc.specs.Gaps.{GapTaken, GapsJoined};
 ghost use Rattle.ea_model.specs.Choice.{choice};
 ghost use Rattle.ea_model.specs.Strategies.{candidate, candidates_in};
 ghost use Rattle.ea_model.specs.Text.{carrier_line};
 ghost use Rattle.ea_instance.specs.Kinds.{is_shared};
-ghost use Rattle.ea_instance.specs.Listed.{held_of};
+ghost use Rattle.ea_instance.specs.Listed.{held_of, spans, candidate_of};
 ghost use Rattle.ea_instance.specs.Found.{IsGapOf};
 
 use ea_cset::CarrierKey;
+use ea_goodfit::Gap;
 use ea_mbc::Mbc;
 use ea_model::{
     Block, Candidate, CarrierLine, HEADER_UNITS, Inner, Kind, OutOfMemory, PAGE_UNITS, Standing,
@@ -75,9 +77,10 @@ impl Employed {
         }
     }
 
-    /// The units of its largest gap, or 0.
+    /// The units of its largest gap, or 0. Its blocks lie in order.
     pub fn largest(&self) -> u32
-        ensures { result ≡ largest (gaps_of self.now) }
+        ensures units { result ≡ largest (gaps_of self.now) }
+        ensures tiled { Tiled 8 self.now.units self.now.blocks }
     {
         self.carrier.largest()
     }
@@ -100,6 +103,63 @@ impl Employed {
         })
     }
 
+    /// The address of its unit at `offset`.
+    pub fn address(&self, offset: u32) -> u32
+        requires low { 512 * self.now.base + self.now.units ≤ 67108864 }
+        requires within { offset ≤ self.now.units }
+        ensures { result ≡ 512 * self.now.base + offset }
+    {
+        self.carrier.base() * PAGE_UNITS + offset
+    }
+
+    /// Whether the unit at the address is one of its own.
+    pub fn spans(&self, address: u32) -> bool
+        requires { 512 * self.now.base + self.now.units ≤ 67108864 }
+        ensures { result ≡ spans address self.now }
+    {
+        self.address(0) <= address && address < self.address(self.carrier.units())
+    }
+
+    /// A gap of its own, as the bins hold it.
+    pub fn candidate_of(&self, gap: Gap) -> Candidate
+        requires low { 512 * self.now.base + self.now.units ≤ 67108864 }
+        requires spans { spans gap.address self.now ≡ true }
+        ensures { result ≡ candidate_of gap self.now }
+    {
+        Candidate {
+            number: self.carrier.number(),
+            base: self.carrier.base(),
+            birth: self.carrier.birth(),
+            offset: gap.address - self.address(0),
+            address: u64::from(gap.address),
+            size: gap.size,
+        }
+    }
+
+    /// The units of the gap that begins at `offset`.
+    pub fn gap_at(&self, offset: u32) -> u32
+        requires { 0 < gap_at (gaps_of self.now) offset }
+        ensures { result ≡ gap_at (gaps_of self.now) offset }
+    {
+        self.carrier.gap_at(offset)
+    }
+
+    /// The units of the gap directly before the block that begins at `offset`, 0 where there is none.
+    pub fn gap_before(&self, offset: u32) -> u32
+        requires { IsSome (block_at self.now.blocks offset) }
+        ensures { result ≡ gap_before self.now offset }
+    {
+        self.carrier.gap_before(offset)
+    }
+
+    /// The units of the gap directly behind the block that begins at `offset`, 0 where there is none.
+    pub fn gap_behind(&self, offset: u32) -> u32
+        requires { IsSome (block_at self.now.blocks offset) }
+        ensures { result ≡ gap_behind self.now offset }
+    {
+        self.carrier.gap_behind(offset)
+    }
+
     /// Places a block at the front of the gap at `offset`, and answers its units.
     pub fn place(&mut self, offset: u32, need: u32, name: u32) -> Result<u32, OutOfMemory>
         requires fits { need ≤ gap_at (gaps_of self.old) offset }
@@ -111,6 +171,7 @@ impl Employed {
         ensures fresh { block_at self.old.blocks offset ≡ None }
         ensures begins { IfOk result (λ size. block_at self.new.blocks offset ≡ Some (record { name = name; offset = offset; size = size })) }
         ensures others { (at : ℕ) → at ≢ offset → block_at self.new.blocks at ≡ block_at self.old.blocks at }
+        ensures gap_taken { IfOk result (GapTaken self.old self.new offset) }
     {
         self.carrier.place(offset, need, name)
     }
@@ -123,6 +184,7 @@ impl Employed {
         ensures ok { OnOk result (self.new ≡ released self.old offset) }
         ensures err { OnErr result (self.new ≡ self.old) }
         ensures others { (at : ℕ) → at ≢ offset → block_at self.new.blocks at ≡ block_at self.old.blocks at }
+        ensures gaps_joined { IfOk result (GapsJoined self.old self.new offset) }
     {
         self.carrier.release(offset)
     }

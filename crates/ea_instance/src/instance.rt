@@ -46,7 +46,7 @@ impl Model for Instance {
 
     ghost Value = { Instance };
 
-    ghost view = { λ i. record { settings = i.settings; number = i.number; first = i.region.first; end = i.region.end; contents = i.carriers; created = i.created } };
+    ghost view = { λ i. record { settings = i.settings; number = i.number; first = i.region.first; end = i.region.end; contents = i.carriers.contents; created = i.created } };
 
     ghost invariant = { λ i. IsKept i.settings i.number i.carriers i.region };
 }
@@ -127,7 +127,7 @@ impl Instance {
         ensures { IfOk result (λ i. i ≡ new_instance settings number first_page pages) }
     {
         let mut region = Region::new(alloc, first_page, pages)?;
-        let mut carriers = Carriers::new(alloc)?;
+        let mut carriers = Carriers::new(alloc, settings.strategy)?;
         let mut created = 0;
         if settings.mmbcs > 0 {
             carriers.enter(main_carrier(alloc, settings, number, first_page)?)?;
@@ -217,7 +217,7 @@ impl Instance {
         ensures err { OnErr result (self.new ≡ self.old) }
         ensures blocks { IfOk result (λ found. IfSome found (λ place. IsPlaced self.old.contents self.new.contents name place)) }
     {
-        let Some(found) = self.carriers.chosen(self.settings.strategy, need) else {
+        let Some(found) = self.carriers.chosen(need, self.settings.mbsd) else {
             return Ok(None);
         };
         let size = self.carriers.place(found.number, found.offset, need, name)?;

@@ -1,6 +1,7 @@
 //! One allocator instance: the carriers that it employs and the pages of its region.
 #![tactic(auto)]
 
+mod binned;
 mod carriers;
 mod employed;
 mod figures;

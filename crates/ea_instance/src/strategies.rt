@@ -15,6 +15,10 @@ pub enum Order {
     Address,
     /// The carriers, of which it takes the oldest.
     Age,
+    /// The gaps of all carriers, of which it looks at the first few of each bin.
+    Bins,
+    /// The gap at the lowest address, and no other.
+    Lowest,
 }
 
 /// What a strategy compares first.
@@ -24,7 +28,9 @@ pub fn order_of(strategy: Strategy) -> Order
     match strategy {
         Strategy::AoffCbf | Strategy::AoffCaobf => Order::Address,
         Strategy::AgeffCaoff | Strategy::AgeffCbf | Strategy::AgeffCaobf => Order::Age,
-        _ => Order::Gaps,
+        Strategy::Bf | Strategy::Aobf | Strategy::Aoff => Order::Gaps,
+        Strategy::Gf => Order::Bins,
+        Strategy::Af => Order::Lowest,
     }
 }
 

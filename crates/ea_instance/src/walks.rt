@@ -1,32 +1,60 @@
 //! Walks over the carriers of an instance, by rising number.
-ghost use Rattle.std.specs.Prelude.{◌≡◌, ◌+◌, ◌^◌, ◌<◌, ◌≤◌, Some, IsSome, IfSome, Any, get_or, length, option_map};
+ghost use Rattle.std.specs.Prelude.{◌≡◌, ◌+◌, ◌^◌, ◌<◌, ◌≤◌, Some, IsSome, IfSome, All, Any, get_or, length, option_map};
 ghost use Rattle.std.specs.List.{position_or_len};
 ghost use Rattle.ea_model.specs.Content.{Content};
-ghost use Rattle.ea_model.specs.Strategies.{choice_among};
+ghost use Rattle.ea_model.specs.Choice.{first};
+ghost use Rattle.ea_model.specs.Strategies.{candidates, choice_unused, large_enough};
 ghost use Rattle.ea_model.specs.Instance.{content_of, unused_from, multis};
 ghost use Rattle.ea_model.specs.Instance as instances;
 ghost use Rattle.ea_instance.specs.Found.{IsGapOf};
 ghost use Rattle.ea_instance.specs.Kept.{is_behind};
-ghost use Rattle.ea_instance.specs.Orders.{order_of};
-ghost use Rattle.ea_instance.specs.declared.strategies.Order.TheVariants.{Gaps};
+ghost use Rattle.ea_instance.specs.Listed.{IsSound};
+ghost use Rattle.ea_instance.specs.Orders.{is_better};
 
 use crate::employed::Employed;
-use crate::strategies::{better_of, inner_of};
-use ea_model::{Candidate, NUMBERS, Strategy};
+use crate::strategies::better_of;
+use ea_goodfit::Gap;
+use ea_model::{Candidate, Inner, NUMBERS};
 
-/// The candidate that a strategy chooses that compares the gaps of all carriers.
-pub fn best_candidate(strategy: Strategy, need: u32, carriers: &[Employed]) -> Option<Candidate>
-    requires order { order_of strategy ≡ Gaps }
-    requires some { 1 ≤ need }
-    ensures chosen { result ≡ choice_among strategy need carriers.now }
+/// The gap of at least `need` units that is taken first of all carriers.
+pub fn best_candidate(inner: Inner, need: u32, carriers: &[Employed]) -> Option<Candidate>
+    requires { 1 ≤ need }
+    ensures chosen { result ≡ first (is_better inner) (large_enough need (candidates carriers.now)) }
     ensures fits { IfSome result (λ x. Any (IsGapOf need x) carriers.now) }
 {
-    let inner = inner_of(strategy);
     let mut best = None;
     for carrier in carriers {
         best = better_of(inner, best, carrier.candidate(inner, need));
     }
     best
+}
+
+/// The gap of at least `need` units of the lowest multiblock carrier without blocks.
+pub fn lowest_unused(need: u32, carriers: &[Employed]) -> Option<Candidate>
+    requires { 1 ≤ need }
+    ensures chosen { result ≡ choice_unused need carriers.now }
+    ensures fits { IfSome result (λ x. Any (IsGapOf need x) carriers.now) }
+{
+    let mut best = None;
+    for carrier in carriers {
+        if carrier.is_done() {
+            best = better_of(Inner::Aoff, best, carrier.candidate(Inner::Aoff, need));
+        }
+    }
+    best
+}
+
+/// The gap of the bins, as one of the carrier that spans it.
+pub fn candidate_at(gap: Gap, carriers: &[Employed]) -> Option<Candidate>
+    requires { All IsSound carriers.now }
+    ensures { result ≡ Rattle.ea_instance.specs.Listed.candidate_at gap carriers.now }
+{
+    for carrier in carriers {
+        if carrier.spans(gap.address) {
+            return Some(carrier.candidate_of(gap));
+        }
+    }
+    None
 }
 
 /// Whether a carrier has the number.

@@ -1,7 +1,7 @@
 //! The carrier and its calls.
 ghost use Rattle.std.specs.Prelude.{◌≡◌, ◌≢◌, ℕ, ◌+◌, ◌%◌, ◌<◌, ◌≤◌, ◌↔◌, [], All, Some, None, IsTrue, IsSome, IsNone, IfSome, OnOk, OnErr, IfOk, length, option_map};
 ghost use Rattle.ea_model.specs.declared.carriers.Kind.TheVariants.{Multi};
-ghost use Rattle.ea_model.specs.Content.{gaps_of, gap_at, gap_before, gap_behind, block_at, named, taken_of, placed, released, allocated, largest, free_units};
+ghost use Rattle.ea_model.specs.Content.{gaps_of, gap_at, gap_before, gap_behind, block_at, named, taken_of, placed, released, allocated, largest, free_units, Tiled};
 ghost use Rattle.ea_model.specs.Choice.{before, fitting, choice, IsFirst};
 ghost use Rattle.ea_mbc.specs.Gaps.{GapTaken, GapsJoined};
 
@@ -179,7 +179,10 @@ impl Mbc {
 
     /// The units of its largest gap, or 0.
     pub fn largest(&self) -> u32
-        ensures { result ≡ largest (gaps_of self.now) }
+        ensures units { result ≡ largest (gaps_of self.now) }
+
+        // Its blocks lie one behind another, with whole gaps between them.
+        ensures tiled { Tiled 8 self.now.units self.now.blocks }
     {
         largest_gap(self.units, &self.blocks)
     }

@@ -119,7 +119,7 @@ fn is_flag(word: &[u8]) -> bool
         || word == b"+MHacul".as_slice()
 }
 
-/// The strategy of this name, if it is one that is built.
+/// The strategy of this name.
 fn strategy_named(name: &[u8]) -> Option<Strategy>
     ensures { result ≡ Rattle.ea_model.specs.Flags.strategy_named name.now }
 {
@@ -139,6 +139,10 @@ fn strategy_named(name: &[u8]) -> Option<Strategy>
         Some(Strategy::AgeffCbf)
     } else if name == b"ageffcaobf".as_slice() {
         Some(Strategy::AgeffCaobf)
+    } else if name == b"gf".as_slice() {
+        Some(Strategy::Gf)
+    } else if name == b"af".as_slice() {
+        Some(Strategy::Af)
     } else {
         None
     }
