@@ -3,8 +3,8 @@
 //! at the first gaps of a bin only, by address, and takes the smallest of these that fits.
 #![tactic(auto)]
 
-mod bins;
-mod gaps;
+pub mod bins;
+pub mod gaps;
 #[cfg(test)]
 mod tests;
 mod walks;
