@@ -3,3 +3,4 @@ pub mod Bin
 pub mod Found
 pub mod Inspected
 pub mod Lists
+pub mod Permuted

@@ -83,13 +83,13 @@ above_other : (a : ℕ) (g h : Gap) → is_at a g ≡ true → IsBelow g h → i
 above_other a g h t b = grind arith
 
 -- the gaps above one at the address lie at other addresses
-others : (a : ℕ) (g : Gap) (gs : List Gap) → AllPairs IsBelow (g ∷ gs) → is_at a g ≡ true → All (λ x. is_at a x ≡ false) gs
+pub others : (a : ℕ) (g : Gap) (gs : List Gap) → AllPairs IsBelow (g ∷ gs) → is_at a g ≡ true → All (λ x. is_at a x ≡ false) gs
 others a g gs r t = All-weaker (IsBelow g) (λ x. is_at a x ≡ false) (λ x b. above_other a g x t b) gs (pairs_head g gs r)
 
-position_first : (a : ℕ) (g : Gap) (gs : List Gap) → is_at a g ≡ true → position_or_len (is_at a) (g ∷ gs) ≡ 0
+pub position_first : (a : ℕ) (g : Gap) (gs : List Gap) → is_at a g ≡ true → position_or_len (is_at a) (g ∷ gs) ≡ 0
 position_first a g gs t = rw t refl
 
-position_past : (a : ℕ) (g : Gap) (gs : List Gap) → is_at a g ≡ false → position_or_len (is_at a) (g ∷ gs) ≡ 1 + position_or_len (is_at a) gs
+pub position_past : (a : ℕ) (g : Gap) (gs : List Gap) → is_at a g ≡ false → position_or_len (is_at a) (g ∷ gs) ≡ 1 + position_or_len (is_at a) gs
 position_past a g gs f = rw f refl
 
 -- taking out the place of the address takes out the gap

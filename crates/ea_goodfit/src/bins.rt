@@ -1,5 +1,5 @@
 //! The bins and their calls.
-ghost use Rattle.std.specs.Prelude.{◌≡◌, ◌≢◌, ◌+◌, ◌<◌, ◌≤◌, ◌↔◌, [], ◌==◌, ◌&&◌, ◌||◌, not, List, Some, All, AllPairs, IsTrue, IsNone, IfSome, OnOk, OnErr, length};
+ghost use Rattle.std.specs.Prelude.{◌≡◌, ◌≢◌, ◌+◌, ◌<◌, ◌≤◌, ◌↔◌, [], ◌∷◌, ◌==◌, ◌&&◌, ◌||◌, not, List, Some, All, AllPairs, IsTrue, IsNone, IfSome, OnOk, OnErr, length};
 ghost use Rattle.std.specs.List.Sorted.{IsPermutation};
 ghost use Rattle.ea_model.specs.GoodFit.{bin_of, good_fit, is_inspected};
 ghost use Rattle.ea_model.specs.Choice.{IsFirst};
@@ -66,6 +66,7 @@ impl Bins {
 
         // The gap is held now, and the others are as before.
         ensures gaps { (g : Gap) → is_held g self.new.held ≡ (is_same g gap || is_held g self.old.held) }
+        ensures order { IsPermutation self.new.held (gap ∷ self.old.held) }
     {
         let place = places_up_to(gap.address, &self.held);
         match self.held.insert(place, gap) {
@@ -85,6 +86,7 @@ impl Bins {
         // Its address is free now, and the other gaps are as before.
         ensures free { All (λ g. g.address ≢ gap.address) self.new.held }
         ensures gaps { (g : Gap) → is_held g self.new.held ≡ (is_held g self.old.held && not (g.address == gap.address)) }
+        ensures order { (rest : List Gap) → IsPermutation self.old.held (gap ∷ rest) → IsPermutation self.new.held rest }
     {
         let place = place_at(gap.address, &self.held);
         self.held.remove(place);

@@ -1,8 +1,10 @@
-use Rattle.std.proofs.Common.{◌≡◌, ◌≢◌, sym, ap, ◌∙◌, subst}
+use Rattle.std.proofs.Common.{◌≡◌, ◌≢◌, ◌∷◌, sym, ap, ◌∙◌, subst}
 use Rattle.std.specs.Prelude.{insert, All, AllPairs, ◌||◌}
 use Rattle.std.specs.List.{position_or_len}
 use Rattle.ea_goodfit.specs.Gaps.{HeldGaps, is_above, is_same, is_held, entered, IsBelow}
 use Rattle.ea_goodfit.proofs.Lists.{insert-entered, rising-entered, held-entered}
+use Rattle.std.specs.List.Sorted.{IsPermutation}
+use Rattle.ea_goodfit.proofs.Permuted.{entered-permuted}
 use Rattle.ea_goodfit.proofs.bins.Bins.insert.Goals as goal
 
 held : (c : goal.In-Ok) → c.insert.new.self.items ≡ entered c.args.gap c.self.inside.held.items
@@ -30,3 +32,8 @@ returns-clause-gaps c = λ g.
     ap (is_held g) (held c)
     ∙ held-entered g c.args.gap c.self.inside.held.items
     ∙ ap (λ (s : HeldGaps). is_same g c.args.gap || is_held g s.held) c.self.view_is
+
+pub returns-clause-order : goal.returns-clause-order
+returns-clause-order c =
+    subst (λ gs. IsPermutation c.insert.new.self.items (c.args.gap ∷ gs)) (ap (λ (s : HeldGaps). s.held) c.self.view_is)
+    (subst (λ gs. IsPermutation gs (c.args.gap ∷ c.self.inside.held.items)) (sym (held c)) (entered-permuted c.args.gap c.self.inside.held.items))

@@ -1,8 +1,10 @@
-use Rattle.std.proofs.Common.{◌≡◌, ◌≢◌, ◌<◌, true, length, sym, ap, ◌∙◌, subst}
+use Rattle.std.proofs.Common.{◌≡◌, ◌≢◌, ◌<◌, ◌∷◌, true, get_or, length, sym, ap, ◌∙◌, subst}
 use Rattle.std.specs.Prelude.{remove, not, ◌&&◌, ◌==◌, All, IsTrue}
 use Rattle.std.specs.List.{position_or_len, list_any}
 use Rattle.ea_goodfit.specs.Gaps.{HeldGaps, is_at, is_held, without}
 use Rattle.ea_goodfit.proofs.Lists.{remove-without, without-free, held-without, held-at}
+use Rattle.std.specs.List.Sorted.{IsPermutation}
+use Rattle.ea_goodfit.proofs.Permuted.{held-position, removed-permuted}
 use Rattle.ea_goodfit.proofs.bins.Bins.remove.Goals as goal
 
 pub place_at-place-requires : goal.place_at-place-requires
@@ -33,3 +35,11 @@ returns-clause-gaps c = λ g.
     ap (is_held g) (held c)
     ∙ held-without g c.args.gap.address c.self.inside.held.items
     ∙ ap (λ (s : HeldGaps). is_held g s.held && not (g.address == c.args.gap.address)) c.self.view_is
+
+pub returns-clause-order : goal.returns-clause-order
+returns-clause-order c = λ rest m.
+    let hs = c.self.inside.held.items in
+    let held = subst (λ (s : HeldGaps). is_held c.args.gap s.held ≡ true) (sym c.self.view_is) c.requires in
+    removed-permuted c.args.gap c.place_at-place.result hs c.remove.new.self.items (within c)
+    (held-position c.args.gap hs c.self.invariant held ∙ ap (λ n. get_or hs n c.args.gap) (sym (place c))) c.remove.ensures.items rest
+    (subst (λ gs. IsPermutation gs (c.args.gap ∷ rest)) (ap (λ (s : HeldGaps). s.held) (sym c.self.view_is)) m)
