@@ -1,3 +1,4 @@
+pub mod HeldGaps
 pub mod ByCarrier
 pub mod Changed
 pub mod Contents
