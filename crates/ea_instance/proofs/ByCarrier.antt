@@ -14,18 +14,19 @@ use Rattle.ea_model.specs.declared.carriers.Candidate.{Candidate}
 use Rattle.ea_model.specs.Content.{Content, gaps_of, largest}
 use Rattle.ea_model.specs.Choice.{before, better, choice, first}
 use Rattle.ea_model.specs.Choice as gaps
-use Rattle.ea_model.specs.Strategies.{candidate, candidates, candidates_in, choice_among, inner_of, large_enough, less, takes_first}
+use Rattle.ea_model.specs.Strategies.{candidate, candidates, candidates_in, inner_of, large_enough, less, takes_first}
 use Rattle.ea_model.specs.Strategies as strategies
 use Rattle.ea_model.specs.Instance.{content_of}
 use Rattle.ea_model.proofs.First.{first-none, large-here, large-none, large-past, none-large}
 use Rattle.ea_cset.specs.declared.keys.Held.{Held}
 use Rattle.ea_cset.proofs.Places.{rising_head, rising_tail}
 use Rattle.ea_cset.specs.Carriers.{Carriers, IsBefore, first_number, fitting, lower, older}
+use Rattle.ea_goodfit.specs.Gaps.{HeldGaps}
 use Rattle.ea_instance.specs.Kinds.{is_shared}
-use Rattle.ea_instance.specs.Listed.{candidate_in, chosen_in, held_of, IsListed}
-use Rattle.ea_instance.specs.declared.strategies.Order.TheVariants.{Gaps, Address, Age}
+use Rattle.ea_instance.specs.Listed.{candidate_in, chosen_in, held_of, IsListed, IsSound}
+use Rattle.ea_instance.specs.declared.strategies.Order.TheVariants.{Address, Age}
 use Rattle.ea_instance.specs.Better.{better_of}
-use Rattle.ea_instance.specs.Orders.{is_better, order_of}
+use Rattle.ea_instance.specs.Orders.{order_of}
 use Rattle.ea_instance.specs.Found.{IsRising}
 use Rattle.ea_instance.proofs.Contents.{content_of-at}
 use Rattle.ea_instance.proofs.Folding.{choice_more}
@@ -75,19 +76,6 @@ age-GoesBy AoffCbf e = absurd cc
 age-GoesBy AoffCaobf e = absurd cc
 age-GoesBy Gf e = absurd cc
 age-GoesBy Af e = absurd cc
-
--- a strategy that compares all gaps compares them as it does inside a carrier
-pub gaps-is_better : (s : Strategy) → order_of s ≡ Gaps → is_better (inner_of s) ≡ takes_first s
-gaps-is_better Bf e = refl
-gaps-is_better Aobf e = refl
-gaps-is_better Aoff e = refl
-gaps-is_better AoffCbf e = absurd cc
-gaps-is_better AoffCaobf e = absurd cc
-gaps-is_better AgeffCaoff e = absurd cc
-gaps-is_better AgeffCbf e = absurd cc
-gaps-is_better AgeffCaobf e = absurd cc
-gaps-is_better Gf e = refl
-gaps-is_better Af e = refl
 
 -- no gap has more units than the largest
 largest-All : (need : ℕ) (gs : List Gap) → largest gs < need → All (λ g. g.size < need) gs
@@ -199,13 +187,13 @@ module _ (s : Strategy) (comes_first : Held → Held → Bool) (goes : GoesBy s 
             ∙ sym (ap chosen_at (held_next None c cs le))
       ]
 
-  choice_first : IsRising all → All (λ c. is_shared c.kind ≡ true) all → AllPairs IsBefore (map held_of all) → choice_among s need all ≡ chosen_at (first comes_first (fitting need (map held_of all)))
-  choice_first rising shared before = starts all before (λ i d within. (content_of-at rising.0 rising.1 i d all rising.2 within, shared i d within))
+  choice_first : IsRising all → All IsSound all → AllPairs IsBefore (map held_of all) → first_gap None all ≡ chosen_at (first comes_first (fitting need (map held_of all)))
+  choice_first rising sound before = starts all before (λ i d within. (content_of-at rising.0 rising.1 i d all rising.2 within, (sound i d within).shared))
 
 -- the choice is made in the first carrier that fits
-pub choice-first : (s : Strategy) (comes_first : Held → Held → Bool) → GoesBy s comes_first → (need : ℕ) → 1 ≤ need → (cs now : List Content) (set : Carriers) → IsListed cs set → cs ≡ now → IsRising now
-    → (inner : Inner) (number : Option ℕ) (found : Option Candidate) → inner ≡ inner_of s → number ≡ first_number comes_first need set.held → AllPairs IsBefore set.held → found ≡ option_and_then (candidate_in inner need now) number → found ≡ choice_among s need now
-choice-first s comes_first goes need some cs now set listed seen rising inner number found inside first_is before is =
+pub choice-first : (s : Strategy) (comes_first : Held → Held → Bool) → GoesBy s comes_first → (need : ℕ) → 1 ≤ need → (cs now : List Content) (set : Carriers) (bins : HeldGaps) → IsListed s cs set bins → cs ≡ now → IsRising now
+    → (number : Option ℕ) (found : Option Candidate) → number ≡ first_number comes_first need set.held → AllPairs IsBefore set.held → found ≡ option_and_then (candidate_in (inner_of s) need now) number → found ≡ first (takes_first s) (large_enough need (candidates now))
+choice-first s comes_first goes need some cs now set bins listed seen rising number found first_is before is =
     let held : set.held ≡ map held_of now = listed.held ∙ ap (map held_of) seen in
-    is ∙ ap (λ i. option_and_then (candidate_in i need now) number) inside ∙ ap (option_and_then (candidate_in (inner_of s) need now)) (first_is ∙ ap (first_number comes_first need) held)
-    ∙ sym (choice_first s comes_first goes need some now rising (subst (All (λ c. is_shared c.kind ≡ true)) seen listed.shared) (subst (AllPairs IsBefore) held before))
+    is ∙ ap (option_and_then (candidate_in (inner_of s) need now)) (first_is ∙ ap (first_number comes_first need) held)
+    ∙ sym (choice_first s comes_first goes need some now rising (subst (All IsSound) seen listed.sound) (subst (AllPairs IsBefore) held before))

@@ -12,7 +12,10 @@ use Rattle.ea_model.specs.declared.settings.Strategy.TheVariants.{Bf, Aobf, Aoff
 use Rattle.ea_model.specs.Content.{Content, gaps_of}
 use Rattle.ea_model.specs.Choice.{before, better, first, fitting, choice}
 use Rattle.ea_model.specs.Strategies.{candidate, candidates, candidates_in, takes_first, inner_of, large_enough, less, lower, older, smaller_high, smaller_low}
+use Rattle.ea_model.specs.declared.carriers.Inner.{Inner}
+use Rattle.ea_model.specs.declared.carriers.Inner.TheVariants as inner
 use Rattle.ea_instance.specs.Better.{better_of}
+use Rattle.ea_instance.specs.Orders.{is_better}
 
 less-true-le : (x y : ℕ) (r : Bool) → less x y r ≡ true → y ≤ x → x ≤ y
 less-true-le x y r h le = grind arith
@@ -222,3 +225,10 @@ pub better_of-either : {A : Type 0} (P : A → Type 0) (t : A → A → Bool) (a
 better_of-either P t a None p q = p
 better_of-either P t None (Some y) p q = q
 better_of-either P t (Some x) (Some y) p q = cond_both (t y x) y x P (λ _. q) (λ _. p)
+
+-- the same of gaps that are compared as inside a carrier
+pub choice_more-inner : (i : Inner) (need : ℕ) (best : Option Candidate) (c : Content) (cs : List Content) → candidates_in c.kind c ≡ map (candidate c) (gaps_of c)
+    → fold (better (is_better i)) best (large_enough need (candidates (c ∷ cs))) ≡ fold (better (is_better i)) (better_of (is_better i) best (option_map (candidate c) (choice i need (gaps_of c)))) (large_enough need (candidates cs))
+choice_more-inner inner.Bf need best c cs shared = choice_more Bf need best c cs shared
+choice_more-inner inner.Aobf need best c cs shared = choice_more Aobf need best c cs shared
+choice_more-inner inner.Aoff need best c cs shared = choice_more Aoff need best c cs shared

@@ -1,6 +1,7 @@
 pub mod HeldGaps
 pub mod ByCarrier
 pub mod Changed
+pub mod Choosing
 pub mod Contents
 pub mod Folding
 pub mod Keeping
