@@ -2,6 +2,7 @@ pub mod ByCarrier
 pub mod Changed
 pub mod Contents
 pub mod Folding
+pub mod Gaps
 pub mod Keeping
 pub mod Listed
 pub mod Refusals
