@@ -5,6 +5,7 @@ pub mod Folding
 pub mod Gaps
 pub mod Keeping
 pub mod Listed
+pub mod Located
 pub mod Refusals
 pub mod Room
 pub mod Segments
