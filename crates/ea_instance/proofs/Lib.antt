@@ -4,8 +4,10 @@ pub mod Changed
 pub mod Choosing
 pub mod Contents
 pub mod Folding
+pub mod Gaps
 pub mod Keeping
 pub mod Listed
+pub mod Located
 pub mod Refusals
 pub mod Room
 pub mod Segments
