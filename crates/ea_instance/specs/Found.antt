@@ -1,9 +1,11 @@
 -- Spots and gaps among the contents of an instance.
-use Rattle.std.specs.Prelude.{◌≡◌, ◌≢◌, ℕ, ◌+◌, ◌<◌, ◌≤◌, true, List, None, Some}
+use Rattle.std.specs.Prelude.{◌≡◌, ◌≢◌, ℕ, ◌+◌, ◌<◌, ◌≤◌, true, List, All, None, Some, filter}
 use Rattle.ea_model.specs.declared.carriers.Spot.{Spot}
 use Rattle.ea_model.specs.declared.carriers.Place.{Place}
 use Rattle.ea_model.specs.declared.carriers.Candidate.{Candidate}
-use Rattle.ea_model.specs.Content.{Content, gaps_of, gap_at}
+use Rattle.ea_model.specs.declared.settings.Settings.{Settings}
+use Rattle.ea_model.specs.Content.{Content, gaps_of, gap_at, is_done}
+use Rattle.ea_model.specs.Strategies.{candidates, looked_at, may_miss}
 use Rattle.ea_model.specs.Instance.{Instance, content_of, block_in, first_number, is_used}
 use Rattle.ea_instance.specs.Kept.{Rising}
 
@@ -32,6 +34,11 @@ pub record IsPlaced (old new : List Content) (name : ℕ) (place : Place) : Type
 -- the same blocks begin at the same spots
 abbrev pub HaveSameBlocks : List Content → List Content → Type 0
 HaveSameBlocks old new = (at : Spot) → block_in new at ≡ block_in old at
+
+-- nothing that the strategy looks at has so many units, nor, where it may miss a gap, has a multiblock carrier without blocks
+abbrev pub FindsNone : Settings → ℕ → List Content → Type 0
+FindsNone s need cs =
+    All (λ x. x.size < need) (looked_at s.strategy s.mbsd (candidates cs)) × (may_miss s.strategy ≡ true → All (λ x. x.size < need) (candidates (filter is_done cs)))
 
 -- all carrier numbers of the instance are in use
 abbrev pub AllUsed : Instance → Type 0

@@ -1,5 +1,5 @@
 //! The instance and its calls.
-ghost use Rattle.std.specs.Prelude.{◌≡◌, ℕ, ◌+◌, ◌*◌, ◌/◌, ◌%◌, ◌^◌, ◌<◌, ◌≤◌, ◌++◌, max, true, Some, None, Ok, Err, Result, All, IsNone, ◌↔◌, IsSome, IfSome, IfOk, OnOk, OnErr, map, sum_by, option_map};
+ghost use Rattle.std.specs.Prelude.{◌≡◌, ℕ, ◌+◌, ◌*◌, ◌/◌, ◌%◌, ◌^◌, ◌<◌, ◌≤◌, ◌++◌, max, true, false, filter, Some, None, Ok, Err, Result, All, IsNone, ◌↔◌, IsSome, IfSome, IfOk, OnOk, OnErr, map, sum_by, option_map};
 ghost use Rattle.ea_model.specs.declared.carriers.Kind.TheVariants.{Multi};
 ghost use Rattle.ea_model.specs.declared.carriers.Spot.{Spot};
 ghost use Rattle.ea_model.specs.declared.carriers.CarrierPlan.{CarrierPlan};
@@ -8,12 +8,12 @@ ghost use Rattle.ea_model.specs.declared.entries.NoCarrier.TheVariants.{Numbers,
 ghost use Rattle.ea_model.specs.Choice.{IsFirst};
 ghost use Rattle.ea_model.specs.Region.{runs};
 ghost use Rattle.ea_model.specs.Settings.{IsValid};
-ghost use Rattle.ea_model.specs.Strategies.{candidates, choice_among, large_enough, takes_first};
+ghost use Rattle.ea_model.specs.Strategies.{candidates, choice_among, choice_unused, large_enough, looked_at, lower, may_miss, takes_first};
 ghost use Rattle.ea_model.specs.Text.{carrier_line};
 ghost use Rattle.ea_model.specs.Instance.{main_content, new_instance, growth, multis, unused_from, plan, created_content, creating, chosen_spot, place_at, releasing_at, clearing, content_of, block_in, segments, least_pages};
 ghost use Rattle.ea_model.specs.Instance as instances;
 ghost use Rattle.ea_instance.specs.Answers.{placing_if, follow_up};
-ghost use Rattle.ea_instance.specs.Found.{AllUsed, HaveSameBlocks, IsOther, IsPlaced};
+ghost use Rattle.ea_instance.specs.Found.{AllUsed, FindsNone, HaveSameBlocks, IsOther, IsPlaced};
 
 use crate::carriers::Carriers;
 use crate::employed::Employed;
@@ -198,10 +198,16 @@ impl Instance {
         ensures ok { OnOk result (self.new ≡ placing_if self.old (chosen_spot self.old need) need name) }
         ensures err { OnErr result (self.new ≡ self.old) }
 
-        // None exactly where no gap has so many units; and of those that have, none comes before the chosen one.
-        ensures none { IfOk result (λ found. IsNone found ↔ All (λ x. x.size < need) (candidates self.old.contents)) }
-        ensures first { IfSome (choice_among self.old.settings.strategy need self.old.contents)
-            (IsFirst (takes_first self.old.settings.strategy) (large_enough need (candidates self.old.contents))) }
+        // None exactly where nothing that the strategy looks at has so many units, and, where it may miss
+        // a gap, no multiblock carrier without blocks has. Good fit and address fit alone may miss one.
+        ensures none { IfOk result (λ found. IsNone found ↔ FindsNone self.old.settings need self.old.contents) }
+        ensures all { may_miss self.old.settings.strategy ≡ false → IfOk result (λ found. IsNone found ↔ All (λ x. x.size < need) (candidates self.old.contents)) }
+
+        // Of what it looks at and that has, none comes before the chosen one; of those carriers, none lies lower.
+        ensures first { IfSome (choice_among self.old.settings.strategy self.old.settings.mbsd need self.old.contents)
+            (IsFirst (takes_first self.old.settings.strategy) (large_enough need (looked_at self.old.settings.strategy self.old.settings.mbsd (candidates self.old.contents)))) }
+        ensures unused { IfSome (choice_unused need self.old.contents)
+            (IsFirst lower (large_enough need (candidates (filter is_done self.old.contents)))) }
 
         // It lies where no block began, and other blocks stay.
         ensures blocks { IfOk result (λ found. IfSome found (λ place. IsPlaced self.old.contents self.new.contents name place)) }
