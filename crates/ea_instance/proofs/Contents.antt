@@ -1,16 +1,17 @@
 -- The contents of an instance, by rising number.
 use Rattle.std.proofs.Common.{suc, zero, ◌≡◌, ◌≢◌, ℕ, ◌+◌, ◌<◌, ◌≤◌, true, false, List, [], ◌∷◌, length, get_or, set, filter, not, All, sym, ap, ◌∙◌, subst, refl, inl, inr, arith}
-use Rattle.std.specs.Prelude.{Option, Some, None, ◌==◌, if◌then◌else◌, option_map, insert, remove}
+use Rattle.std.specs.Prelude.{Option, Some, None, ◌==◌, if◌then◌else◌, option_map, insert, remove, Any}
 use Rattle.std.specs.List.{position_or_len}
 use Rattle.std.specs.Option.{option_and_then}
 use Rattle.std.proofs.lemmas.Bool.{cases_lt, cases_eq, cases_Bool, cond-true, cond-false}
 use Rattle.std.proofs.lemmas.List.Elements.{All-nil, All-cons, All-head, All-tail}
 use Rattle.ea_model.specs.declared.carriers.BlockAt.{BlockAt}
+use Rattle.ea_model.specs.declared.carriers.Candidate.{Candidate}
 use Rattle.ea_model.specs.Content.{Content, block_at, is_done}
 use Rattle.ea_model.specs.Instance.{segment_of, segments, with_content, content_of, is_used, unused_from, changed}
 use Rattle.ea_instance.proofs.Unused.{unused_from-zero, unused_from-used, unused_from-free_here}
 use Rattle.ea_instance.specs.Kept.{Rising, is_behind}
-use Rattle.ea_instance.specs.Found.{HaveSameBlocks}
+use Rattle.ea_instance.specs.Found.{HasGap, HaveSameBlocks, IsGapOf}
 
 unused_here : (k low n : ℕ) (cs : List Content) → is_used low cs ≡ false → unused_from (suc k) low cs ≡ Some n → low ≡ n
 unused_here k low n cs free h = let e : Some low ≡ Some n = sym (unused_from-free_here k low cs free) ∙ h in cc
@@ -268,3 +269,8 @@ same-with x cs unused empty at =
           ∙ ap (λ bs. block_at bs at.offset) empty ∙ sym (ap (block_among at.offset) (ap (content_of cs) same ∙ is_used-content_of x.number cs unused))
       | inr other ↦ ap (block_among at.offset) (content_of-with_content x at.carrier cs unused ∙ cond-false (at.carrier == x.number) (Some x) (content_of cs at.carrier) (grind arith))
     ]
+
+-- a gap of one of the contents is a gap at its carrier's number
+pub found_in : (need low high : ℕ) (x : Candidate) (cs : List Content) → Rising low high cs → Any (IsGapOf need x) cs → HasGap need x.number x.offset cs
+found_in need low high x cs r (k, c, within, at, gap) =
+    (c, ap (content_of cs) (gap.0 ∙ sym (ap (λ (y : Content). y.number) at)) ∙ content_of-at low high k c cs r within ∙ ap Some at, gap.1)

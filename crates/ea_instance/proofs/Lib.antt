@@ -8,6 +8,7 @@ pub mod Gaps
 pub mod Keeping
 pub mod Listed
 pub mod Located
+pub mod Missing
 pub mod Refusals
 pub mod Room
 pub mod Segments
