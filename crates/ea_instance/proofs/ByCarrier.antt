@@ -191,9 +191,9 @@ module _ (s : Strategy) (comes_first : Held → Held → Bool) (goes : GoesBy s 
   choice_first rising sound before = starts all before (λ i d within. (content_of-at rising.0 rising.1 i d all rising.2 within, (sound i d within).shared))
 
 -- the choice is made in the first carrier that fits
-pub choice-first : (s : Strategy) (comes_first : Held → Held → Bool) → GoesBy s comes_first → (need : ℕ) → 1 ≤ need → (cs now : List Content) (set : Carriers) (bins : HeldGaps) → IsListed s cs set bins → cs ≡ now → IsRising now
+pub choice-first : (s : Strategy) (comes_first : Held → Held → Bool) → GoesBy s comes_first → (need : ℕ) → 1 ≤ need → (t : Strategy) (cs now : List Content) (set : Carriers) (bins : HeldGaps) → IsListed t cs set bins → cs ≡ now → IsRising now
     → (number : Option ℕ) (found : Option Candidate) → number ≡ first_number comes_first need set.held → AllPairs IsBefore set.held → found ≡ option_and_then (candidate_in (inner_of s) need now) number → found ≡ first (takes_first s) (large_enough need (candidates now))
-choice-first s comes_first goes need some cs now set bins listed seen rising number found first_is before is =
+choice-first s comes_first goes need some t cs now set bins listed seen rising number found first_is before is =
     let held : set.held ≡ map held_of now = listed.held ∙ ap (map held_of) seen in
     is ∙ ap (option_and_then (candidate_in (inner_of s) need now)) (first_is ∙ ap (first_number comes_first need) held)
     ∙ sym (choice_first s comes_first goes need some now rising (subst (All IsSound) seen listed.sound) (subst (AllPairs IsBefore) held before))
