@@ -1,5 +1,5 @@
 -- The carriers of an instance, their set, and the bins of their gaps.
-use Rattle.std.specs.Prelude.{◌≡◌, ◌⊎◌, ℕ, ◌+◌, ◌*◌, ◌-◌, ◌≤◌, Bool, true, ◌&&◌, if◌then◌else◌, nat_lt, nat_le, List, [], ◌∷◌, Option, Some, None, All, AllPairs, map, option_map}
+use Rattle.std.specs.Prelude.{◌≡◌, ◌⊎◌, ℕ, ◌+◌, ◌*◌, ◌-◌, ◌^◌, ◌<◌, ◌≤◌, Bool, true, ◌&&◌, if◌then◌else◌, nat_lt, nat_le, List, [], ◌∷◌, ◌++◌, ◌≢◌, Option, Some, None, All, AllPairs, map, option_map}
 use Rattle.std.specs.Option.{option_and_then}
 use Rattle.std.specs.List.Sorted.{IsPermutation}
 use Rattle.ea_model.specs.declared.settings.Strategy.{Strategy}
@@ -38,6 +38,22 @@ some_gap g = if nat_lt 0 g.size then g ∷ [] else []
 
 abbrev pub gap_from : ℕ → ℕ → List Gap
 gap_from address size = some_gap (record { address = address; size = size })
+
+-- a gap of `whole` units at the address is held, and no other gap begins where a block of `size` units at its front ends
+pub record CanCut (held : List Gap) (address whole size : ℕ) : Type 0 where
+  pub within : size ≤ whole
+  pub fits : address + whole < 2 ^ 32
+  pub rest : List Gap
+  pub order : IsPermutation held (gap_from address whole ++ rest)
+  pub free : size < whole → All (λ g. g.address ≢ address + size) rest
+
+-- the gaps beside a block of `size` units at the address are held, and no other gap begins where the one before it does
+pub record CanJoin (held : List Gap) (address before size behind : ℕ) : Type 0 where
+  pub within : before ≤ address
+  pub fits : address + size + behind < 2 ^ 32
+  pub rest : List Gap
+  pub order : IsPermutation held (gap_from (address - before) before ++ (gap_from (address + size) behind ++ rest))
+  pub free : All (λ g. g.address ≢ address - before) rest
 
 -- a carrier may have many blocks, these lie in order, and it ends within 2^26 units, the largest super carrier
 pub record IsSound (c : Content) : Type 0 where

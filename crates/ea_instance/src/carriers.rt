@@ -13,7 +13,9 @@ ghost use Rattle.ea_instance.specs.Listed.{candidate_in, IsApartFrom};
 ghost use Rattle.ea_instance.specs.Orders.{is_better};
 ghost use Rattle.ea_instance.specs.Found.{HasGap, IsRising, IsOther};
 
-use crate::binned::{cut, join, put_in, take_out};
+use crate::binned::{
+    gap_in, gaps_beside, make_room, note_entered, note_left, note_placed, note_released,
+};
 use crate::employed::Employed;
 use crate::strategies::{Order, inner_of, order_of};
 use crate::walks::{
@@ -162,17 +164,11 @@ impl Carriers {
         ensures others { (at : Spot) → IsOther number offset at → block_in self.new.contents at ≡ block_in self.old.contents at }
     {
         let place = place_of(number, &self.list);
-        let whole = self.list[place].gap_at(offset);
+        let address = self.list[place].address(offset);
+        let whole = gap_in(self.strategy, &self.list[place], offset);
         let size = self.list[place].place(offset, need, name)?;
         self.set.update(number, self.list[place].largest());
-        if self.strategy == Strategy::Gf {
-            cut(
-                &mut self.bins,
-                self.list[place].address(offset),
-                whole,
-                size,
-            );
-        }
+        note_placed(self.strategy, &mut self.bins, address, whole, size);
         Ok(size)
     }
 
@@ -184,18 +180,13 @@ impl Carriers {
         ensures err { OnErr result (self.new ≡ self.old) }
         ensures others { (at : Spot) → IsOther number offset at → block_in self.new.contents at ≡ block_in self.old.contents at }
     {
-        if self.strategy == Strategy::Gf {
-            self.bins.reserve(1)?;
-        }
         let place = place_of(number, &self.list);
-        let before = self.list[place].gap_before(offset);
-        let behind = self.list[place].gap_behind(offset);
+        let address = self.list[place].address(offset);
+        let beside = gaps_beside(self.strategy, &self.list[place], offset);
+        make_room(self.strategy, &mut self.bins)?;
         let size = self.list[place].release(offset)?;
         self.set.update(number, self.list[place].largest());
-        if self.strategy == Strategy::Gf {
-            let address = self.list[place].address(offset);
-            join(&mut self.bins, address, before, size, behind);
-        }
+        note_released(self.strategy, &mut self.bins, address, beside, size);
         Ok(())
     }
 
@@ -210,9 +201,7 @@ impl Carriers {
         ensures ok { OnOk result (self.new ≡ record self.old { contents = with_content carrier self.old.contents }) }
         ensures err { OnErr result (self.new ≡ self.old) }
     {
-        if self.strategy == Strategy::Gf {
-            self.bins.reserve(1)?;
-        }
+        make_room(self.strategy, &mut self.bins)?;
         let (key, fit) = (carrier.key(), carrier.largest());
         let address = carrier.address(HEADER_UNITS);
         let place = place_behind(carrier.number(), &self.list);
@@ -220,9 +209,7 @@ impl Carriers {
             return Err(OutOfMemory);
         }
         self.set.add(key, fit);
-        if self.strategy == Strategy::Gf {
-            put_in(&mut self.bins, Gap { address, size: fit });
-        }
+        note_entered(self.strategy, &mut self.bins, Gap { address, size: fit });
         Ok(())
     }
 
@@ -236,10 +223,8 @@ impl Carriers {
         self.set.remove(number);
         let place = place_of(number, &self.list);
         let carrier = self.list.remove(place);
-        if self.strategy == Strategy::Gf {
-            let (address, size) = (carrier.address(HEADER_UNITS), carrier.largest());
-            take_out(&mut self.bins, Gap { address, size });
-        }
+        let (address, size) = (carrier.address(HEADER_UNITS), carrier.largest());
+        note_left(self.strategy, &mut self.bins, Gap { address, size });
         carrier
     }
 }
