@@ -1,5 +1,5 @@
 -- The segments of an instance's carriers.
-use Rattle.std.proofs.Common.{suc, ◌≡◌, ◌≢◌, ℕ, ◌+◌, ◌/◌, ◌<◌, ◌≤◌, true, List, [], ◌∷◌, ◌++◌, length, filter, not, All, sym, ap, ◌∙◌, subst, refl, inl, inr, ◌⊎◌, arith}
+use Rattle.std.proofs.Common.{suc, ◌≡◌, ◌≢◌, ℕ, ◌+◌, ◌*◌, ◌/◌, ◌<◌, ◌≤◌, true, List, [], ◌∷◌, ◌++◌, length, filter, not, All, sym, ap, ◌∙◌, subst, refl, inl, inr, ◌⊎◌, arith}
 use Rattle.std.specs.Prelude.{Some, ◌==◌, Any}
 use Rattle.std.proofs.lemmas.Bool.{cases_lt, cases_eq}
 use Rattle.std.proofs.lemmas.List.Elements.{All-nil, All-cons, All-head, All-tail}
@@ -10,6 +10,7 @@ use Rattle.ea_model.specs.Instance.{segment_of, segments, with_content, content_
 use Rattle.ea_space.specs.Pages.{IsBeside, IsApart, IsTailOf, IsTail}
 use Rattle.ea_space.proofs.Segments.{entered_here, entered_past, covers_cases, cut_past, cut_first, stretch_none, Laid-cut, any_cases, IsTail_cases, IsTail_behind}
 use Rattle.ea_instance.specs.Kept.{Rising, IsWhole}
+use Rattle.ea_instance.specs.Listed.{IsApartFrom}
 
 entered_only : (a b : Segment) → a.start ≢ b.start → entered a (b ∷ []) ≡ entered b (a ∷ [])
 entered_only a b h = elim (cases_lt a.start b.start) [ inl p ↦ grind arith | inr q ↦ grind arith ]
@@ -65,6 +66,19 @@ apart-bases start pages (c ∷ cs) some whole apart =
     All-cons (λ (c : Content). c.base ≢ start) c cs
     (apart_base start pages c some (All-head IsWhole c cs whole) both.0)
     (apart-bases start pages cs some (All-tail IsWhole c cs whole) both.1)
+
+apart_from : (x c : Content) (pages : ℕ) → x.units ≡ 512 * pages → IsWhole c → IsBeside x.base pages (segment_of c) → IsApartFrom x c
+apart_from x c pages size whole beside =
+    elim beside [ inl p ↦ inr (omega (arith, whole.0)) | inr q ↦ inl (omega (arith, size)) ]
+
+-- nor does it meet another carrier
+pub apart-contents : (x : Content) (pages : ℕ) (cs : List Content) → x.units ≡ 512 * pages → All IsWhole cs → IsApart x.base pages (segments cs) → All (IsApartFrom x) cs
+apart-contents x pages [] size whole apart = All-nil (IsApartFrom x)
+apart-contents x pages (c ∷ cs) size whole apart =
+    let both = all_entered (IsBeside x.base pages) (segment_of c) (segments cs) apart in
+    All-cons (IsApartFrom x) c cs
+    (apart_from x c pages size (All-head IsWhole c cs whole) both.0)
+    (apart-contents x pages cs size (All-tail IsWhole c cs whole) both.1)
 
 with_here : (x c : Content) (cs : List Content) → x.number < c.number → with_content x (c ∷ cs) ≡ x ∷ c ∷ cs
 with_here x c cs h = grind arith
