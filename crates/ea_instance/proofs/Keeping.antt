@@ -1,5 +1,5 @@
 -- What an instance keeps through its calls.
-use Rattle.std.proofs.Common.{◌≡◌, ℕ, ◌+◌, ◌*◌, ◌/◌, ◌%◌, ◌<◌, ◌≤◌, false, List, length, not, ◌≢◌, All, sym, ap, ◌∙◌, subst, refl, arith}
+use Rattle.std.proofs.Common.{◌≡◌, ℕ, ◌+◌, ◌*◌, ◌/◌, ◌%◌, ◌<◌, ◌≤◌, false, List, length, not, All, sym, ap, ◌∙◌, subst, refl, arith}
 use Rattle.std.specs.Prelude.{Option, Some, None, Ok, Err, IsSome, IfSome, Any, ◌==◌, option_map}
 use Rattle.std.proofs.lemmas.List.Elements.{All-filter}
 use Rattle.ea_model.specs.declared.settings.Settings.{Settings}
@@ -21,7 +21,7 @@ use Rattle.ea_instance.specs.Found.{IsGapOf, HasGap, HaveSameBlocks}
 use Rattle.ea_instance.proofs.Changed.{KeepsPlace, Rising-changed, segments-changed, All-changed}
 use Rattle.ea_instance.proofs.Contents.{content_of-at, Rising-room, Rising-with_content, Rising-without, All-with_content, unused_from-free, same-with}
 use Rattle.ea_instance.proofs.Room.{chosen-created}
-use Rattle.ea_instance.proofs.Segments.{length-segments, apart-bases, apart-contents, segments-with_content, segments-without}
+use Rattle.ea_instance.proofs.Segments.{length-segments, apart-contents, segments-with_content, segments-without}
 
 -- a gap of one of the contents is a gap at its carrier's number
 pub found_in : (need low high : ℕ) (x : Candidate) (cs : List Content) → Rising low high cs → Any (IsGapOf need x) cs → HasGap need x.number x.offset cs
@@ -153,9 +153,6 @@ module _ (s : Settings) (n : ℕ) (ks : CarrierList) (created : ℕ) (r : Region
   pub other-numbers : is_used p.number ks.contents ≡ false
   other-numbers = unused.2
 
-  other_bases : All (λ c. c.base ≢ p.base) ks.contents
-  other_bases = apart-bases p.base p.pages ks.contents some_pages k.whole run_fits.apart
-
   -- it meets no other one, and lies low enough
   pub others-apart : (x : Content) → x ≡ created_content n Multi p → All (IsApartFrom x) ks.contents
   others-apart x is = subst (λ y. All (IsApartFrom y) ks.contents) (sym is) (apart-contents (created_content n Multi p) p.pages ks.contents refl k.whole run_fits.apart)
@@ -192,7 +189,7 @@ module _ (s : Settings) (n : ℕ) (ks : CarrierList) (created : ℕ) (r : Region
         whole = All-with_content IsWhole (created_content n Multi p) ks.contents (whole_pages p.pages, subst (λ m. 1 ≤ m) (sym (pages_of_units p.pages)) some_pages) k.whole;
         taken =
             ap (λ (y : Region). y.taken) e ∙ ap (entered (record { start = p.base; pages = p.pages })) k.taken ∙ ap (λ g. entered g (segments ks.contents)) (sym segment_is)
-            ∙ sym (segments-with_content (created_content n Multi p) ks.contents other_bases);
+            ∙ sym (segments-with_content (created_content n Multi p) ks.contents (omega (arith, some_pages)) k.whole (others-apart (created_content n Multi p) refl));
         within = subst (λ (y : Region). y.end ≤ 131072) (sym e) k.within;
         laid = laid;
       })
