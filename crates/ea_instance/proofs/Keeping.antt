@@ -1,6 +1,6 @@
 -- What an instance keeps through its calls.
-use Rattle.std.proofs.Common.{◌≡◌, ℕ, ◌+◌, ◌*◌, ◌/◌, ◌%◌, ◌<◌, ◌≤◌, false, List, length, not, ◌≢◌, All, sym, ap, ◌∙◌, subst, refl, arith}
-use Rattle.std.specs.Prelude.{Option, Some, None, Ok, Err, IsSome, IfSome, Any, ◌==◌}
+use Rattle.std.proofs.Common.{◌≡◌, ℕ, ◌+◌, ◌*◌, ◌/◌, ◌%◌, ◌<◌, ◌≤◌, false, List, length, not, All, sym, ap, ◌∙◌, subst, refl, arith}
+use Rattle.std.specs.Prelude.{Option, Some, None, Ok, Err, IsSome, IfSome, Any, ◌==◌, option_map}
 use Rattle.std.proofs.lemmas.List.Elements.{All-filter}
 use Rattle.ea_model.specs.declared.settings.Settings.{Settings}
 use Rattle.ea_model.specs.declared.carriers.Candidate.{Candidate}
@@ -8,17 +8,20 @@ use Rattle.ea_model.specs.declared.carriers.Segment.{Segment}
 use Rattle.ea_model.specs.declared.entries.NoCarrier.TheVariants.{Space}
 use Rattle.ea_model.specs.declared.carriers.CarrierPlan.{CarrierPlan}
 use Rattle.ea_model.specs.declared.carriers.Kind.TheVariants.{Multi}
-use Rattle.ea_model.specs.Content.{Content}
+use Rattle.ea_model.specs.Content.{Content, placed}
 use Rattle.ea_model.specs.Region.{Region, Laid, lowest_run, runs, entered, cut_from}
-use Rattle.ea_model.specs.Instance.{Instance, segments, segment_of, first_number, changed, content_of, with_content, unused_from, is_used, free_run, least_pages, next_pages, planned, least_plan, sized_plan, numbered_plan, plan, created_content, creating, without_content, chosen_spot, block_in}
+use Rattle.ea_model.specs.Instance.{Instance, segments, segment_of, first_number, changed, content_of, with_content, unused_from, is_used, free_run, least_pages, next_pages, planned, least_plan, sized_plan, numbered_plan, plan, created_content, creating, without_content, chosen_spot, block_in, size_for, place_at, placing_at}
 use Rattle.ea_model.proofs.Options.{some_holds}
 use Rattle.ea_space.proofs.Runs.{Fits, lowest-Fits}
+use Rattle.ea_model.specs.Strategies.{choice_among, choice_unused, may_miss, or_else, spot_of}
+use Rattle.ea_instance.specs.Answers.{placing_if}
 use Rattle.ea_instance.specs.Kept.{IsKept, IsWhole, Rising}
+use Rattle.ea_instance.specs.Listed.{CarrierList, IsApartFrom}
 use Rattle.ea_instance.specs.Found.{IsGapOf, HasGap, HaveSameBlocks}
 use Rattle.ea_instance.proofs.Changed.{KeepsPlace, Rising-changed, segments-changed, All-changed}
 use Rattle.ea_instance.proofs.Contents.{content_of-at, Rising-room, Rising-with_content, Rising-without, All-with_content, unused_from-free, same-with}
 use Rattle.ea_instance.proofs.Room.{chosen-created}
-use Rattle.ea_instance.proofs.Segments.{length-segments, apart-bases, segments-with_content, segments-without}
+use Rattle.ea_instance.proofs.Segments.{length-segments, apart-contents, segments-with_content, segments-without}
 
 -- a gap of one of the contents is a gap at its carrier's number
 pub found_in : (need low high : ℕ) (x : Candidate) (cs : List Content) → Rising low high cs → Any (IsGapOf need x) cs → HasGap need x.number x.offset cs
@@ -26,15 +29,18 @@ found_in need low high x cs r (k, c, within, at, gap) =
     (c, ap (content_of cs) (gap.0 ∙ sym (ap (λ (y : Content). y.number) at)) ∙ content_of-at low high k c cs r within ∙ ap Some at, gap.1)
 
 -- a change of one content keeps all
-pub IsKept-changed : (f : Content → Content) → KeepsPlace f → (s : Settings) (n m : ℕ) (cs new : List Content) (r : Region) → new ≡ changed f m cs → IsKept s n cs r → IsKept s n new r
-IsKept-changed f keeps s n m cs new r e k = record {
-  valid = k.valid;
-  instance = k.instance;
-  rising = subst (Rising (first_number n) (first_number n + 256)) (sym e) (Rising-changed f keeps m _ _ cs k.rising);
-  whole = subst (All IsWhole) (sym e) (All-changed f keeps m cs k.whole);
-  taken = k.taken ∙ sym (ap segments e ∙ segments-changed f keeps m cs);
-  laid = k.laid;
-}
+pub IsKept-changed : (f : Content → Content) → KeepsPlace f → (s : Settings) (n m : ℕ) (ks new : CarrierList) (r : Region) → new ≡ record ks { contents = changed f m ks.contents } → IsKept s n ks r → IsKept s n new r
+IsKept-changed f keeps s n m ks new r e k =
+    subst (λ xs. IsKept s n xs r) (sym e) (record {
+      valid = k.valid;
+      strategy = k.strategy;
+      instance = k.instance;
+      rising = Rising-changed f keeps m _ _ ks.contents k.rising;
+      whole = All-changed f keeps m ks.contents k.whole;
+      taken = k.taken ∙ sym (segments-changed f keeps m ks.contents);
+      within = k.within;
+      laid = k.laid;
+    })
 
 -- the plan, by what is found
 pub plan-next : (i : Instance) (need number base : ℕ) → unused_from 256 (first_number i.number) i.contents ≡ Some number → free_run i (next_pages i need) ≡ Some base → plan i need ≡ Ok (planned i number base (next_pages i need))
@@ -110,32 +116,56 @@ whole_pages n = omega arith
 pub entering : (n number : ℕ) (p : CarrierPlan) (x carrier : Content) → n ≡ number → carrier ≡ created_content number Multi p → x ≡ record carrier { kind = Multi } → x ≡ created_content n Multi p
 entering n number p x carrier seen is e = e ∙ ap (λ (y : Content). record y { kind = Multi }) is ∙ ap (λ m. created_content m Multi p) (sym seen)
 
+-- a gap that the carriers choose is the one that the instance does
+module _ (s : Settings) (n : ℕ) (ks : CarrierList) (created : ℕ) (r : Region) (need : ℕ) (x : Candidate) (k : IsKept s n ks r) (now : Instance) (seen : seen_as s n ks.contents created r ≡ now)
+    (chosen : Some x ≡ or_else (may_miss ks.strategy) (choice_among ks.strategy s.mbsd need ks.contents) (choice_unused need ks.contents)) where
+  chosen_here : Some (spot_of x) ≡ chosen_spot now need
+  chosen_here =
+      ap (option_map spot_of) (chosen ∙ ap (λ t. or_else (may_miss t) (choice_among t s.mbsd need ks.contents) (choice_unused need ks.contents)) k.strategy)
+      ∙ ap (λ i. chosen_spot i need) seen
+
+  pub place-chosen : (size : ℕ) → size ≡ size_for (content_of ks.contents x.number) x.offset need → Some (record { carrier = x.number; offset = x.offset; size = size }) ≡ option_map (λ spot. place_at now spot need) (chosen_spot now need)
+  place-chosen size is =
+      ap (λ m. Some (record { carrier = x.number; offset = x.offset; size = m })) (is ∙ ap (λ (i : Instance). size_for (content_of i.contents x.number) x.offset need) seen)
+      ∙ ap (option_map (λ spot. place_at now spot need)) chosen_here
+
+  pub seen-chosen : (name : ℕ) (new : CarrierList) → new ≡ record ks { contents = changed (λ c. placed c x.offset need name) x.number ks.contents } → seen_as s n new.contents created r ≡ placing_if now (chosen_spot now need) need name
+  seen-chosen name new is =
+      ap (λ (ys : CarrierList). seen_as s n ys.contents created r) is ∙ ap (λ i. placing_at i (spot_of x) need name) seen ∙ ap (λ o. placing_if now o need name) chosen_here
+
 -- the contents with the carrier of a plan
-module _ (s : Settings) (n : ℕ) (cs : List Content) (created : ℕ) (r : Region) (need : ℕ) (p : CarrierPlan) (k : IsKept s n cs r) (now : Instance) (seen : seen_as s n cs created r ≡ now) (asked : plan now need ≡ Ok p) where
-  planned_here : IsPlanned (seen_as s n cs created r) need p
-  planned_here = plan-IsPlanned (seen_as s n cs created r) need p (ap (λ i. plan i need) seen ∙ asked)
+module _ (s : Settings) (n : ℕ) (ks : CarrierList) (created : ℕ) (r : Region) (need : ℕ) (p : CarrierPlan) (k : IsKept s n ks r) (now : Instance) (seen : seen_as s n ks.contents created r ≡ now) (asked : plan now need ≡ Ok p) where
+  planned_here : IsPlanned (seen_as s n ks.contents created r) need p
+  planned_here = plan-IsPlanned (seen_as s n ks.contents created r) need p (ap (λ i. plan i need) seen ∙ asked)
 
   some_pages : 1 ≤ p.pages
   some_pages = omega (arith, planned_here.enough)
 
-  unused : (first_number n ≤ p.number) × (p.number < first_number n + 256) × (is_used p.number cs ≡ false)
-  unused = unused_from-free 256 (first_number n) p.number cs planned_here.number
+  unused : (first_number n ≤ p.number) × (p.number < first_number n + 256) × (is_used p.number ks.contents ≡ false)
+  unused = unused_from-free 256 (first_number n) p.number ks.contents planned_here.number
 
-  -- the new carrier has a number and a base of its own
-  pub other-numbers : is_used p.number cs ≡ false
+  run_fits : Fits r.first r.end p.base p.pages (segments ks.contents)
+  run_fits =
+      some_holds (lowest_run p.pages (runs r.first r.end (segments ks.contents))) p.base (λ start. Fits r.first r.end start p.pages (segments ks.contents)) planned_here.run
+      (lowest-Fits r.first r.end p.pages (segments ks.contents) (subst (Laid r.first r.end) k.taken k.laid))
+
+  -- the new carrier has a number of its own
+  pub other-numbers : is_used p.number ks.contents ≡ false
   other-numbers = unused.2
 
-  pub other-bases : All (λ c. c.base ≢ p.base) cs
-  other-bases =
-      apart-bases p.base p.pages cs some_pages k.whole
-      (some_holds (lowest_run p.pages (runs r.first r.end (segments cs))) p.base (λ start. Fits r.first r.end start p.pages (segments cs)) planned_here.run (lowest-Fits r.first r.end p.pages (segments cs) (subst (Laid r.first r.end) k.taken k.laid))).apart
+  -- it meets no other one, and lies low enough
+  pub others-apart : (x : Content) → x ≡ created_content n Multi p → All (IsApartFrom x) ks.contents
+  others-apart x is = subst (λ y. All (IsApartFrom y) ks.contents) (sym is) (apart-contents (created_content n Multi p) p.pages ks.contents refl k.whole run_fits.apart)
+
+  pub lies-low : (x : Content) → x ≡ created_content n Multi p → 512 * x.base + x.units ≤ 67108864
+  lies-low x is = subst (λ (y : Content). 512 * y.base + y.units ≤ 67108864) (sym is) (omega (arith, run_fits.before, k.within))
 
   -- there are fewer carriers, and segments, than numbers
-  pub has-number : length cs < 256
-  has-number = omega (arith, Rising-room (first_number n) (first_number n + 256) p.number cs k.rising unused.0 unused.1 unused.2)
+  pub has-number : length ks.contents < 256
+  has-number = omega (arith, Rising-room (first_number n) (first_number n + 256) p.number ks.contents k.rising unused.0 unused.1 unused.2)
 
   pub has_room : length r.taken < 256
-  has_room = omega (arith, has-number, ap length k.taken, length-segments cs)
+  has_room = omega (arith, has-number, ap length k.taken, length-segments ks.contents)
 
   segment_is : segment_of (created_content n Multi p) ≡ record { start = p.base; pages = p.pages }
   segment_is = (let e = pages_of_units p.pages in cc)
@@ -144,46 +174,56 @@ module _ (s : Settings) (n : ℕ) (cs : List Content) (created : ℕ) (r : Regio
   taken_at : (o : Option ℕ) → o ≡ lowest_run p.pages (runs r.first r.end r.taken) → o ≡ Some p.base
   taken_at o found = found ∙ ap (λ t. lowest_run p.pages (runs r.first r.end t)) k.taken ∙ planned_here.run
 
-  pub IsKept-created : (o : Option ℕ) (r2 : Region) (x : Content) (new : List Content) → o ≡ lowest_run p.pages (runs r.first r.end r.taken)
-      → IfSome o (λ start. r2 ≡ record r { taken = entered (record { start = start; pages = p.pages }) r.taken }) → Laid r2.first r2.end r2.taken → x ≡ created_content n Multi p → new ≡ with_content x cs → IsKept s n new r2
+  pub IsKept-created : (o : Option ℕ) (r2 : Region) (x : Content) (new : CarrierList) → o ≡ lowest_run p.pages (runs r.first r.end r.taken)
+      → IfSome o (λ start. r2 ≡ record r { taken = entered (record { start = start; pages = p.pages }) r.taken }) → Laid r2.first r2.end r2.taken → x ≡ created_content n Multi p
+      → new ≡ record ks { contents = with_content x ks.contents } → IsKept s n new r2
   IsKept-created o r2 x new found took laid is same =
       let at = taken_at o found in
       let e = some_holds o p.base (λ start. r2 ≡ record r { taken = entered (record { start = start; pages = p.pages }) r.taken }) at took in
-      let entered_is : new ≡ with_content (created_content n Multi p) cs = same ∙ ap (λ y. with_content y cs) is in
+      let entered_is : new ≡ record ks { contents = with_content (created_content n Multi p) ks.contents } = same ∙ ap (λ y. record ks { contents = with_content y ks.contents }) is in
       subst (λ ys. IsKept s n ys r2) (sym entered_is) (record {
         valid = k.valid;
+        strategy = k.strategy;
         instance = k.instance;
-        rising = Rising-with_content (first_number n) (first_number n + 256) (created_content n Multi p) cs k.rising unused.0 unused.1 unused.2;
-        whole = All-with_content IsWhole (created_content n Multi p) cs (whole_pages p.pages, subst (λ m. 1 ≤ m) (sym (pages_of_units p.pages)) some_pages) k.whole;
+        rising = Rising-with_content (first_number n) (first_number n + 256) (created_content n Multi p) ks.contents k.rising unused.0 unused.1 unused.2;
+        whole = All-with_content IsWhole (created_content n Multi p) ks.contents (whole_pages p.pages, subst (λ m. 1 ≤ m) (sym (pages_of_units p.pages)) some_pages) k.whole;
         taken =
-            ap (λ (y : Region). y.taken) e ∙ ap (entered (record { start = p.base; pages = p.pages })) k.taken ∙ ap (λ g. entered g (segments cs)) (sym segment_is)
-            ∙ sym (segments-with_content (created_content n Multi p) cs other-bases);
+            ap (λ (y : Region). y.taken) e ∙ ap (entered (record { start = p.base; pages = p.pages })) k.taken ∙ ap (λ g. entered g (segments ks.contents)) (sym segment_is)
+            ∙ sym (segments-with_content (created_content n Multi p) ks.contents (omega (arith, some_pages)) k.whole (others-apart (created_content n Multi p) refl));
+        within = subst (λ (y : Region). y.end ≤ 131072) (sym e) k.within;
         laid = laid;
       })
 
   -- and the instance is then the one that employs the carrier
-  pub seen-created : (o : Option ℕ) (r2 : Region) (x : Content) (new : List Content) → o ≡ lowest_run p.pages (runs r.first r.end r.taken)
-      → IfSome o (λ start. r2 ≡ record r { taken = entered (record { start = start; pages = p.pages }) r.taken }) → x ≡ created_content n Multi p → new ≡ with_content x cs → seen_as s n new p.birth r2 ≡ creating now p
+  pub seen-created : (o : Option ℕ) (r2 : Region) (x : Content) (new : CarrierList) → o ≡ lowest_run p.pages (runs r.first r.end r.taken)
+      → IfSome o (λ start. r2 ≡ record r { taken = entered (record { start = start; pages = p.pages }) r.taken }) → x ≡ created_content n Multi p → new ≡ record ks { contents = with_content x ks.contents }
+      → seen_as s n new.contents p.birth r2 ≡ creating now p
   seen-created o r2 x new found took is same =
       let e = some_holds o p.base (λ start. r2 ≡ record r { taken = entered (record { start = start; pages = p.pages }) r.taken }) (taken_at o found) took in
-      ap (λ ys. seen_as s n ys p.birth r2) (same ∙ ap (λ y. with_content y cs) is) ∙ ap (seen_as s n (with_content (created_content n Multi p) cs) p.birth) e ∙ ap (λ i. creating i p) seen
+      ap (λ (ys : CarrierList). seen_as s n ys.contents p.birth r2) (same ∙ ap (λ y. record ks { contents = with_content y ks.contents }) is)
+      ∙ ap (seen_as s n (with_content (created_content n Multi p) ks.contents) p.birth) e ∙ ap (λ i. creating i p) seen
 
   pub chosen-planned : IsSome (chosen_spot (creating now p) need)
   chosen-planned = chosen-created now need p (omega (arith, planned_here.enough)) (omega (arith, some_pages))
 
   -- it has no blocks
-  pub blocks-created : (x : Content) (new : List Content) → x ≡ created_content n Multi p → new ≡ with_content x cs → HaveSameBlocks now.contents new
+  pub blocks-created : (x : Content) (new : CarrierList) → x ≡ created_content n Multi p → new ≡ record ks { contents = with_content x ks.contents } → HaveSameBlocks now.contents new.contents
   blocks-created x new is same at =
-      ap (λ ys. block_in ys at) (same ∙ ap (λ y. with_content y cs) is) ∙ same-with (created_content n Multi p) cs unused.2 refl at ∙ ap (λ i. block_in i.contents at) seen
+      ap (λ (ys : CarrierList). block_in ys.contents at) (same ∙ ap (λ y. record ks { contents = with_content y ks.contents }) is)
+      ∙ same-with (created_content n Multi p) ks.contents unused.2 refl at ∙ ap (λ i. block_in i.contents at) seen
 
 -- the contents without a carrier
-pub IsKept-cleared : (s : Settings) (n number : ℕ) (cs : List Content) (c : Content) (r r2 : Region) → IsKept s n cs r → content_of cs number ≡ Some c → r2 ≡ record r { taken = cut_from c.base r.taken } → Laid r2.first r2.end r2.taken
-    → IsKept s n (without_content number cs) r2
-IsKept-cleared s n number cs c r r2 k there e laid = record {
+pub IsKept-cleared : (s : Settings) (n number : ℕ) (ks : CarrierList) (c : Content) (r r2 : Region) → IsKept s n ks r → content_of ks.contents number ≡ Some c → r2 ≡ record r { taken = cut_from c.base r.taken } → Laid r2.first r2.end r2.taken
+    → IsKept s n (record ks { contents = without_content number ks.contents }) r2
+IsKept-cleared s n number ks c r r2 k there e laid = record {
   valid = k.valid;
+  strategy = k.strategy;
   instance = k.instance;
-  rising = Rising-without (first_number n) (first_number n + 256) number cs k.rising;
-  whole = All-filter (λ x. not (x.number == number)) IsWhole cs k.whole;
-  taken = ap (λ (x : Region). x.taken) e ∙ ap (cut_from c.base) k.taken ∙ sym (segments-without r.first r.end _ _ number c cs (subst (Laid r.first r.end) k.taken k.laid) k.whole k.rising there);
+  rising = Rising-without (first_number n) (first_number n + 256) number ks.contents k.rising;
+  whole = All-filter (λ x. not (x.number == number)) IsWhole ks.contents k.whole;
+  taken =
+      ap (λ (x : Region). x.taken) e ∙ ap (cut_from c.base) k.taken
+      ∙ sym (segments-without r.first r.end _ _ number c ks.contents (subst (Laid r.first r.end) k.taken k.laid) k.whole k.rising there);
+  within = subst (λ (x : Region). x.end ≤ 131072) (sym e) k.within;
   laid = laid;
 }

@@ -1,28 +1,66 @@
 -- Why there is no choice, and why there is no plan.
-use Rattle.std.proofs.Common.{◌≡◌, ◌≢◌, ℕ, zero, suc, ◌+◌, ◌<◌, ◌≤◌, ◌↔◌, true, List, [], ◌∷◌, All, sym, ◌∙◌, ap, subst, refl, inl, inr, arith}
-use Rattle.std.specs.Prelude.{Option, Some, None, IsNone, Err, option_map}
+use Rattle.std.proofs.Common.{◌≡◌, ◌≢◌, ℕ, zero, suc, ◌+◌, ◌<◌, ◌≤◌, ◌↔◌, true, false, List, [], ◌∷◌, filter, All, sym, ◌∙◌, ap, subst, refl, inl, inr, arith}
+use Rattle.std.specs.Prelude.{Bool, Option, Some, None, IsNone, Err, option_map}
 use Rattle.std.proofs.lemmas.Bool.{cases_Bool, cases_eq}
 use Rattle.std.proofs.lemmas.List.Elements.{All-nil, All-cons, All-head, All-tail}
 use Rattle.ea_model.specs.declared.carriers.Candidate.{Candidate}
 use Rattle.ea_model.specs.declared.carriers.Segment.{Segment}
+use Rattle.ea_model.specs.declared.carriers.Spot.{Spot}
 use Rattle.ea_model.specs.declared.entries.NoCarrier.TheVariants.{Numbers, Space}
 use Rattle.ea_model.specs.Choice.{first}
-use Rattle.ea_model.specs.Content.{Content}
+use Rattle.ea_model.specs.Content.{Content, is_done}
 use Rattle.ea_model.specs.Region.{runs}
 use Rattle.ea_model.specs.Instance.{Instance, chosen_spot, unused_from, is_used, first_number, plan, numbered_plan, sized_plan, least_plan, free_run, next_pages, least_pages, segments}
-use Rattle.ea_model.specs.Strategies.{candidates, choice_among, large_enough, takes_first, spot_of}
+use Rattle.ea_model.specs.Strategies.{candidates, choice_among, choice_for, choice_unused, large_enough, looked_at, lower, may_miss, or_else, takes_first, spot_of}
 use Rattle.ea_model.proofs.First.{first-none, large-none, none-large}
 use Rattle.ea_model.proofs.Options.{mapped, unmapped}
 use Rattle.ea_space.proofs.Runs.{lowest-none}
-use Rattle.ea_instance.specs.Found.{AllUsed}
+use Rattle.ea_instance.specs.Found.{AllUsed, FindsNone}
+use Rattle.ea_instance.proofs.Room.{looks-at_all}
 use Rattle.ea_instance.proofs.Unused.{unused_from-zero, unused_from-used, unused_from-free_here}
 
--- there is no choice exactly where no gap is large enough
-pub chosen-none : {B : Type 0} (f : _ → B) (i : Instance) (need : ℕ) → IsNone (option_map f (chosen_spot i need)) ↔ All (λ x. x.size < need) (candidates i.contents)
-chosen-none f i need = (
-  λ h. none-large (λ (x : Candidate). x.size) need (candidates i.contents) (first-none (takes_first i.settings.strategy) (large_enough need (candidates i.contents)) (unmapped spot_of (choice_among i.settings.strategy need i.contents) (unmapped f (chosen_spot i need) h))),
-  λ h. mapped f (chosen_spot i need) (mapped spot_of (choice_among i.settings.strategy need i.contents) (subst (λ xs. IsNone (first (takes_first i.settings.strategy) xs)) (sym (large-none (λ (x : Candidate). x.size) need (candidates i.contents) h)) refl)),
+-- none of them is chosen exactly where none is large enough
+none_large-enough : (t : Candidate → Candidate → Bool) (need : ℕ) (xs : List Candidate) → IsNone (first t (large_enough need xs)) ↔ All (λ x. x.size < need) xs
+none_large-enough t need xs = (
+  λ h. none-large (λ (x : Candidate). x.size) need xs (first-none t (large_enough need xs) h),
+  λ h. subst (λ ys. IsNone (first t ys)) (sym (large-none (λ (x : Candidate). x.size) need xs h)) refl,
 )
+
+neither : (asked : Bool) (found other : Option Candidate) → IsNone (or_else asked found other) → IsNone found × (asked ≡ true → IsNone other)
+neither asked (Some x) other h = absurd cc
+neither true None other h = (refl, λ _. h)
+neither false None other h = (refl, λ e. absurd cc)
+
+none_of_both : (asked : Bool) (found other : Option Candidate) → IsNone found → (asked ≡ true → IsNone other) → IsNone (or_else asked found other)
+none_of_both asked (Some x) other h f = h
+none_of_both true None other h f = f refl
+none_of_both false None other h f = refl
+
+module _ {B : Type 0} (f : Spot → B) (i : Instance) (need : ℕ) where
+  abbrev looked : List Candidate
+  looked = looked_at i.settings.strategy i.settings.mbsd (candidates i.contents)
+
+  abbrev among : Option Candidate
+  among = choice_among i.settings.strategy i.settings.mbsd need i.contents
+
+  -- there is no choice exactly where no gap that is looked at is large enough, nor one of a carrier without blocks
+  pub chosen-none : IsNone (option_map f (chosen_spot i need)) ↔ FindsNone i.settings need i.contents
+  chosen-none = (
+    λ h. let both = neither (may_miss i.settings.strategy) among (choice_unused need i.contents) (unmapped spot_of (choice_for i.settings need i.contents) (unmapped f (chosen_spot i need) h)) in
+        ((none_large-enough (takes_first i.settings.strategy) need looked).0 both.0, λ miss. (none_large-enough lower need (candidates (filter is_done i.contents))).0 (both.1 miss)),
+    λ h. mapped f (chosen_spot i need) (mapped spot_of (choice_for i.settings need i.contents)
+        (none_of_both (may_miss i.settings.strategy) among (choice_unused need i.contents)
+        ((none_large-enough (takes_first i.settings.strategy) need looked).1 h.0)
+        (λ miss. (none_large-enough lower need (candidates (filter is_done i.contents))).1 (h.1 miss)))),
+  )
+
+  -- where the strategy misses no gap, exactly where none is large enough
+  pub chosen-none_at_all : may_miss i.settings.strategy ≡ false → IsNone (option_map f (chosen_spot i need)) ↔ All (λ x. x.size < need) (candidates i.contents)
+  chosen-none_at_all none =
+      let same = looks-at_all i.settings.strategy i.settings.mbsd (candidates i.contents) none in (
+        λ h. subst (All (λ (x : Candidate). x.size < need)) same (chosen-none.0 h).0,
+        λ h. chosen-none.1 (subst (All (λ (x : Candidate). x.size < need)) (sym same) h, λ miss. let never : true ≡ false = sym miss ∙ none in absurd cc),
+      )
 
 -- all of so many numbers are in use exactly where none is found
 all_used : (k low : ℕ) (cs : List Content) → unused_from k low cs ≡ None → (n : ℕ) → low ≤ n → n < low + k → is_used n cs ≡ true

@@ -1,15 +1,17 @@
 -- A carrier with a large enough gap gives the strategy a choice.
-use Rattle.std.proofs.Common.{◌≡◌, ℕ, ◌+◌, ◌*◌, ◌<◌, ◌≤◌, List, [], ◌∷◌, length, cond, ap, ◌∙◌, refl, inl, inr, arith, length-append}
+use Rattle.std.proofs.Common.{◌≡◌, ℕ, ◌+◌, ◌*◌, ◌<◌, ◌≤◌, true, false, List, [], ◌∷◌, length, filter, cond, ap, ◌∙◌, refl, inl, inr, arith, length-append}
 use Rattle.std.specs.Prelude.{Bool, Option, Some, None, IsSome, fold, nat_le, option_map}
-use Rattle.std.proofs.lemmas.Bool.{cases_lt}
+use Rattle.std.proofs.lemmas.Bool.{cases_lt, cases_Bool, cond-true, cond-false}
 use Rattle.std.proofs.lemmas.List.Elements.{filter-append}
+use Rattle.ea_model.specs.declared.settings.Strategy.{Strategy}
+use Rattle.ea_model.specs.declared.settings.Strategy.TheVariants.{Bf, Aobf, Aoff, AoffCbf, AoffCaobf, AgeffCaoff, AgeffCbf, AgeffCaobf, Gf, Af}
 use Rattle.ea_model.specs.declared.carriers.Candidate.{Candidate}
 use Rattle.ea_model.specs.declared.carriers.CarrierPlan.{CarrierPlan}
 use Rattle.ea_model.specs.declared.carriers.Kind.TheVariants.{Multi}
 use Rattle.ea_model.specs.Choice.{better, first}
-use Rattle.ea_model.specs.Content.{Content}
+use Rattle.ea_model.specs.Content.{Content, is_done}
 use Rattle.ea_model.specs.Instance.{Instance, created_content, creating, chosen_spot, with_content}
-use Rattle.ea_model.specs.Strategies.{candidates, candidates_in, choice_among, large_enough, takes_first, spot_of}
+use Rattle.ea_model.specs.Strategies.{candidates, candidates_in, choice_among, choice_for, choice_unused, large_enough, looked_at, lower, may_miss, or_else, takes_first, spot_of}
 use Rattle.ea_instance.proofs.Contents.{with_here, with_past}
 
 still_some : {A : Type 0} (t : A → A → Bool) (x : A) (xs : List A) → IsSome (fold (better t) (Some x) xs)
@@ -41,6 +43,52 @@ counted_with need x (c ∷ cs) =
       | inr le ↦ omega (arith, ap (λ ys. counted need (candidates ys)) (with_past x c cs le), counted_more need c (with_content x cs), counted_with need x cs)
     ]
 
+done_here : (c : Content) (cs : List Content) → is_done c ≡ true → filter is_done (c ∷ cs) ≡ c ∷ filter is_done cs
+done_here c cs done = cond-true (is_done c) (c ∷ filter is_done cs) (filter is_done cs) done
+
+done_past : (c : Content) (cs : List Content) → is_done c ≡ false → filter is_done (c ∷ cs) ≡ filter is_done cs
+done_past c cs done = cond-false (is_done c) (c ∷ filter is_done cs) (filter is_done cs) done
+
+-- how many candidates the carriers without blocks have
+abbrev unused_counted : ℕ → List Content → ℕ
+unused_counted need cs = counted need (candidates (filter is_done cs))
+
+unused_more : (need : ℕ) (c : Content) (cs : List Content) → unused_counted need cs ≤ unused_counted need (c ∷ cs)
+unused_more need c cs =
+    elim (cases_Bool (is_done c)) [
+      | inl t ↦ omega (arith, ap (λ ys. counted need (candidates ys)) (done_here c cs t), counted_more need c (filter is_done cs))
+      | inr f ↦ omega (arith, ap (λ ys. counted need (candidates ys)) (done_past c cs f))
+    ]
+
+unused_at : (need : ℕ) (x : Content) (cs : List Content) → is_done x ≡ true → counted need (candidates_in x.kind x) ≤ unused_counted need (x ∷ cs)
+unused_at need x cs done = omega (arith, ap (λ ys. counted need (candidates ys)) (done_here x cs done), counted_more need x (filter is_done cs))
+
+unused_with : (need : ℕ) (x : Content) (cs : List Content) → is_done x ≡ true → counted need (candidates_in x.kind x) ≤ unused_counted need (with_content x cs)
+unused_with need x [] done = unused_at need x [] done
+unused_with need x (c ∷ cs) done =
+    elim (cases_lt x.number c.number) [
+      | inl lt ↦ omega (arith, ap (unused_counted need) (with_here x c cs lt), unused_at need x (c ∷ cs) done)
+      | inr le ↦ omega (arith, ap (unused_counted need) (with_past x c cs le), unused_more need c (with_content x cs), unused_with need x cs done)
+    ]
+
+-- a strategy that misses no gap looks at all
+pub looks-at_all : (s : Strategy) (depth : ℕ) (xs : List Candidate) → may_miss s ≡ false → looked_at s depth xs ≡ xs
+looks-at_all Bf depth xs e = refl
+looks-at_all Aobf depth xs e = refl
+looks-at_all Aoff depth xs e = refl
+looks-at_all AoffCbf depth xs e = refl
+looks-at_all AoffCaobf depth xs e = refl
+looks-at_all AgeffCaoff depth xs e = refl
+looks-at_all AgeffCbf depth xs e = refl
+looks-at_all AgeffCaobf depth xs e = refl
+looks-at_all Gf depth xs e = absurd cc
+looks-at_all Af depth xs e = absurd cc
+
+or_else-some : (asked : Bool) (found other : Option Candidate) → (asked ≡ false → IsSome found) → IsSome other → IsSome (or_else asked found other)
+or_else-some asked (Some x) other f h = refl
+or_else-some true None other f h = h
+or_else-some false None other f h = f refl
+
 created_fits : (n need : ℕ) (p : CarrierPlan) → need + 8 ≤ 512 * p.pages → 8 < 512 * p.pages → 1 ≤ counted need (candidates_in Multi (created_content n Multi p))
 created_fits n need p room some = grind arith
 
@@ -48,5 +96,11 @@ created_fits n need p room some = grind arith
 pub chosen-created : (i : Instance) (need : ℕ) (p : CarrierPlan) → need + 8 ≤ 512 * p.pages → 8 < 512 * p.pages → IsSome (chosen_spot (creating i p) need)
 chosen-created i need p room some =
     let x = created_content i.number Multi p in
-    mapped_some spot_of (choice_among i.settings.strategy need (with_content x i.contents))
-    (first-some (takes_first i.settings.strategy) (large_enough need (candidates (with_content x i.contents))) (omega (arith, counted_with need x i.contents, created_fits i.number need p room some)))
+    let s = i.settings.strategy in
+    let cs = with_content x i.contents in
+    let fits = created_fits i.number need p room some in
+    mapped_some spot_of (choice_for i.settings need cs)
+    (or_else-some (may_miss s) (choice_among s i.settings.mbsd need cs) (choice_unused need cs)
+    (λ none. first-some (takes_first s) (large_enough need (looked_at s i.settings.mbsd (candidates cs)))
+    (omega (arith, ap (counted need) (looks-at_all s i.settings.mbsd (candidates cs) none), counted_with need x i.contents, fits)))
+    (first-some lower (large_enough need (candidates (filter is_done cs))) (omega (arith, unused_with need x i.contents refl, fits))))

@@ -1,5 +1,5 @@
 -- The segments of an instance's carriers.
-use Rattle.std.proofs.Common.{suc, ◌≡◌, ◌≢◌, ℕ, ◌+◌, ◌/◌, ◌<◌, ◌≤◌, true, List, [], ◌∷◌, ◌++◌, length, filter, not, All, sym, ap, ◌∙◌, subst, refl, inl, inr, ◌⊎◌, arith}
+use Rattle.std.proofs.Common.{suc, ◌≡◌, ◌≢◌, ℕ, ◌+◌, ◌*◌, ◌/◌, ◌<◌, ◌≤◌, true, List, [], ◌∷◌, ◌++◌, length, filter, not, All, sym, ap, ◌∙◌, subst, refl, inl, inr, ◌⊎◌, arith}
 use Rattle.std.specs.Prelude.{Some, ◌==◌, Any}
 use Rattle.std.proofs.lemmas.Bool.{cases_lt, cases_eq}
 use Rattle.std.proofs.lemmas.List.Elements.{All-nil, All-cons, All-head, All-tail}
@@ -10,6 +10,7 @@ use Rattle.ea_model.specs.Instance.{segment_of, segments, with_content, content_
 use Rattle.ea_space.specs.Pages.{IsBeside, IsApart, IsTailOf, IsTail}
 use Rattle.ea_space.proofs.Segments.{entered_here, entered_past, covers_cases, cut_past, cut_first, stretch_none, Laid-cut, any_cases, IsTail_cases, IsTail_behind}
 use Rattle.ea_instance.specs.Kept.{Rising, IsWhole}
+use Rattle.ea_instance.specs.Listed.{IsApartFrom}
 
 entered_only : (a b : Segment) → a.start ≢ b.start → entered a (b ∷ []) ≡ entered b (a ∷ [])
 entered_only a b h = elim (cases_lt a.start b.start) [ inl p ↦ grind arith | inr q ↦ grind arith ]
@@ -53,18 +54,18 @@ all_entered P s (t ∷ ts) h =
           (more.0, All-cons P t ts (All-head P t (entered s ts) k) more.1)
     ]
 
-apart_base : (start pages : ℕ) (c : Content) → 1 ≤ pages → IsWhole c → IsBeside start pages (segment_of c) → c.base ≢ start
-apart_base start pages c some whole beside =
-    elim beside [ inl p ↦ λ e. omega (arith, whole.1) | inr q ↦ λ e. omega arith ]
+apart_from : (x c : Content) (pages : ℕ) → x.units ≡ 512 * pages → IsWhole c → IsBeside x.base pages (segment_of c) → IsApartFrom x c
+apart_from x c pages size whole beside =
+    elim beside [ inl p ↦ inr (omega (arith, whole.0)) | inr q ↦ inl (omega (arith, size)) ]
 
--- a carrier that meets no taken segment begins where no other does
-pub apart-bases : (start pages : ℕ) (cs : List Content) → 1 ≤ pages → All IsWhole cs → IsApart start pages (segments cs) → All (λ c. c.base ≢ start) cs
-apart-bases start pages [] some whole apart = All-nil (λ (c : Content). c.base ≢ start)
-apart-bases start pages (c ∷ cs) some whole apart =
-    let both = all_entered (IsBeside start pages) (segment_of c) (segments cs) apart in
-    All-cons (λ (c : Content). c.base ≢ start) c cs
-    (apart_base start pages c some (All-head IsWhole c cs whole) both.0)
-    (apart-bases start pages cs some (All-tail IsWhole c cs whole) both.1)
+-- a carrier that meets no taken segment meets no other carrier
+pub apart-contents : (x : Content) (pages : ℕ) (cs : List Content) → x.units ≡ 512 * pages → All IsWhole cs → IsApart x.base pages (segments cs) → All (IsApartFrom x) cs
+apart-contents x pages [] size whole apart = All-nil (IsApartFrom x)
+apart-contents x pages (c ∷ cs) size whole apart =
+    let both = all_entered (IsBeside x.base pages) (segment_of c) (segments cs) apart in
+    All-cons (IsApartFrom x) c cs
+    (apart_from x c pages size (All-head IsWhole c cs whole) both.0)
+    (apart-contents x pages cs size (All-tail IsWhole c cs whole) both.1)
 
 with_here : (x c : Content) (cs : List Content) → x.number < c.number → with_content x (c ∷ cs) ≡ x ∷ c ∷ cs
 with_here x c cs h = grind arith
@@ -72,15 +73,18 @@ with_here x c cs h = grind arith
 with_past : (x c : Content) (cs : List Content) → c.number ≤ x.number → with_content x (c ∷ cs) ≡ c ∷ with_content x cs
 with_past x c cs h = grind arith
 
+other_base : (x c : Content) → 1 ≤ x.units → IsWhole c → IsApartFrom x c → c.base ≢ x.base
+other_base x c some whole apart = elim apart [ inl p ↦ λ e. omega (arith, some) | inr q ↦ λ e. omega (arith, whole.1) ]
+
 -- one more carrier is one more segment
-pub segments-with_content : (x : Content) (cs : List Content) → All (λ c. c.base ≢ x.base) cs → segments (with_content x cs) ≡ entered (segment_of x) (segments cs)
-segments-with_content x [] h = refl
-segments-with_content x (c ∷ cs) h =
+pub segments-with_content : (x : Content) (cs : List Content) → 1 ≤ x.units → All IsWhole cs → All (IsApartFrom x) cs → segments (with_content x cs) ≡ entered (segment_of x) (segments cs)
+segments-with_content x [] some whole apart = refl
+segments-with_content x (c ∷ cs) some whole apart =
     elim (cases_lt x.number c.number) [
       | inl p ↦ ap segments (with_here x c cs p)
       | inr q ↦ ap segments (with_past x c cs q)
-          ∙ ap (entered (segment_of c)) (segments-with_content x cs (All-tail (λ (c : Content). c.base ≢ x.base) c cs h))
-          ∙ entered-entered (segment_of c) (segment_of x) (segments cs) (All-head (λ (c : Content). c.base ≢ x.base) c cs h)
+          ∙ ap (entered (segment_of c)) (segments-with_content x cs some (All-tail IsWhole c cs whole) (All-tail (IsApartFrom x) c cs apart))
+          ∙ entered-entered (segment_of c) (segment_of x) (segments cs) (other_base x c some (All-head IsWhole c cs whole) (All-head (IsApartFrom x) c cs apart))
     ]
 
 any_here : (P : Segment → Type 0) (s : Segment) (ts : List Segment) → P s → Any P (s ∷ ts)
