@@ -11,7 +11,7 @@ use Rattle.ea_instance.specs.Orders.{is_better, order_of}
 use Rattle.ea_instance.specs.declared.strategies.Order.TheVariants.{Gaps, Address, Age, Bins, Lowest}
 
 -- a strategy that misses no gap looks at all
-all_looked_at : (s : Strategy) (depth : ℕ) (xs : List Candidate) → may_miss s ≡ false → looked_at s depth xs ≡ xs
+pub all_looked_at : (s : Strategy) (depth : ℕ) (xs : List Candidate) → may_miss s ≡ false → looked_at s depth xs ≡ xs
 all_looked_at Bf depth xs e = refl
 all_looked_at Aobf depth xs e = refl
 all_looked_at Aoff depth xs e = refl

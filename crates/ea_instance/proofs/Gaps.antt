@@ -8,14 +8,14 @@ use Rattle.std.proofs.lemmas.List.Sorted.{IsPermutation-refl, IsPermutation-tran
 use Rattle.ea_model.specs.declared.carriers.Kind.{Kind}
 use Rattle.ea_model.specs.declared.carriers.Kind.TheVariants.{Main, Multi, Single}
 use Rattle.ea_model.specs.declared.carriers.Gap as model
-use Rattle.ea_model.specs.Content.{Content, gaps, gaps_of}
+use Rattle.ea_model.specs.Content.{Content, gap, gaps, gaps_of, largest}
 use Rattle.ea_model.specs.Strategies.{candidate, candidates, candidates_in}
 use Rattle.ea_model.specs.Instance.{changed, content_of, with_content, without_content}
-use Rattle.ea_mbc.proofs.Chosen.{gap_some}
+use Rattle.ea_mbc.proofs.Chosen.{gap_none, gap_some}
 use Rattle.ea_goodfit.specs.declared.gaps.Gap.{Gap}
 use Rattle.ea_instance.specs.Kept.{Rising}
 use Rattle.ea_instance.specs.Kinds.{is_shared}
-use Rattle.ea_instance.specs.Listed.{all_gaps, gap_of}
+use Rattle.ea_instance.specs.Listed.{all_gaps, gap_from, gap_of}
 use Rattle.ea_instance.proofs.Contents.{changed-behind, changed_here, changed_past, content_of_here, content_of_past, with_here, with_past, without-behind, without_here, without_past}
 
 -- the gap of a carrier with this base, as the bins know it
@@ -44,9 +44,28 @@ own_by_kind Single c h = absurd cc
 own_shared : (c : Content) → is_shared c.kind ≡ true → own_gaps c ≡ map (at_base c.base) (gaps_of c)
 own_shared c h = own_by_kind c.kind c h
 
--- a carrier of many blocks without any has one gap, behind its header
-pub unused_gap : (c : Content) → is_shared c.kind ≡ true → c.blocks ≡ [] → 8 < c.units → all_gaps (c ∷ []) ≡ record { address = 512 * c.base + 8; size = c.units - 8 } ∷ []
-unused_gap c shared none some = own_only c ∙ own_shared c shared ∙ ap (map (at_base c.base)) (ap (gaps 8 c.units) none ∙ gap_some 8 c.units some)
+gap_from-some : (address size : ℕ) → 0 < size → gap_from address size ≡ record { address = address; size = size } ∷ []
+gap_from-some address size some = grind arith
+
+gap_from-none : (address size : ℕ) → size ≡ 0 → gap_from address size ≡ []
+gap_from-none address size none = grind arith
+
+-- a run of free units, as the bins hold it
+pub at_gap : (base a b : ℕ) → map (at_base base) (gap a b) ≡ gap_from (512 * base + a) (b - a)
+at_gap base a b =
+    elim (cases_lt a b) [
+      | inl lt ↦ ap (map (at_base base)) (gap_some a b lt) ∙ sym (gap_from-some (512 * base + a) (b - a) (omega arith))
+      | inr le ↦ ap (map (at_base base)) (gap_none a b le) ∙ sym (gap_from-none (512 * base + a) (b - a) (omega arith))
+    ]
+
+largest_gap : (a b : ℕ) → largest (gap a b) ≡ b - a
+largest_gap a b = elim (cases_lt a b) [ inl lt ↦ ap largest (gap_some a b lt) ∙ omega arith | inr le ↦ ap largest (gap_none a b le) ∙ omega arith ]
+
+-- a carrier of many blocks without any has one gap at most, behind its header
+pub unused_gaps : (c : Content) → is_shared c.kind ≡ true → c.blocks ≡ [] → all_gaps (c ∷ []) ≡ gap_from (512 * c.base + 8) (largest (gaps_of c))
+unused_gaps c shared none =
+    let one : gaps_of c ≡ gap 8 c.units = ap (gaps 8 c.units) none in
+    own_only c ∙ own_shared c shared ∙ ap (map (at_base c.base)) one ∙ at_gap c.base 8 c.units ∙ ap (gap_from (512 * c.base + 8)) (sym (ap largest one ∙ largest_gap 8 c.units))
 
 module _ {A : Type 0} where
   as_listed : (xs ys : List A) → xs ≡ ys → IsPermutation xs ys

@@ -23,11 +23,6 @@ use Rattle.ea_instance.proofs.Contents.{content_of-at, Rising-room, Rising-with_
 use Rattle.ea_instance.proofs.Room.{chosen-created}
 use Rattle.ea_instance.proofs.Segments.{length-segments, apart-contents, segments-with_content, segments-without}
 
--- a gap of one of the contents is a gap at its carrier's number
-pub found_in : (need low high : ℕ) (x : Candidate) (cs : List Content) → Rising low high cs → Any (IsGapOf need x) cs → HasGap need x.number x.offset cs
-found_in need low high x cs r (k, c, within, at, gap) =
-    (c, ap (content_of cs) (gap.0 ∙ sym (ap (λ (y : Content). y.number) at)) ∙ content_of-at low high k c cs r within ∙ ap Some at, gap.1)
-
 -- a change of one content keeps all
 pub IsKept-changed : (f : Content → Content) → KeepsPlace f → (s : Settings) (n m : ℕ) (ks new : CarrierList) (r : Region) → new ≡ record ks { contents = changed f m ks.contents } → IsKept s n ks r → IsKept s n new r
 IsKept-changed f keeps s n m ks new r e k =

@@ -62,7 +62,7 @@ module _ {X : Type 0} (R : X → X → Type 0) where
       AllPairs-cons R x (xs ++ ys) (All-append (R x) xs ys (pairs_head x xs p) (All-head (λ (y : X). All (R y) ys) x xs across))
       (pairs_append xs ys (pairs_tail x xs p) q (All-tail (λ (y : X). All (R y) ys) x xs across))
 
-  pairs_map : {Y : Type 0} (f : Y → X) (ys : List Y) → AllPairs (λ a b. R (f a) (f b)) ys → AllPairs R (map f ys)
+  pub pairs_map : {Y : Type 0} (f : Y → X) (ys : List Y) → AllPairs (λ a b. R (f a) (f b)) ys → AllPairs R (map f ys)
   pairs_map f [] p = pairs_nil
   pairs_map f (y ∷ ys) p =
       AllPairs-cons R (f y) (map f ys) (All-map (R (f y)) f ys (λ k d within. p zero (suc k) d (omega arith) (omega arith))) (pairs_map f ys (λ i j d lt within. p (suc i) (suc j) d (omega arith) (omega arith)))

@@ -16,7 +16,7 @@ use Rattle.ea_model.proofs.First.{first-none, large-none, none-large}
 use Rattle.ea_model.proofs.Options.{mapped, unmapped}
 use Rattle.ea_space.proofs.Runs.{lowest-none}
 use Rattle.ea_instance.specs.Found.{AllUsed, FindsNone}
-use Rattle.ea_instance.proofs.Room.{looks-at_all}
+use Rattle.ea_instance.proofs.Choosing.{all_looked_at}
 use Rattle.ea_instance.proofs.Unused.{unused_from-zero, unused_from-used, unused_from-free_here}
 
 -- none of them is chosen exactly where none is large enough
@@ -57,7 +57,7 @@ module _ {B : Type 0} (f : Spot → B) (i : Instance) (need : ℕ) where
   -- where the strategy misses no gap, exactly where none is large enough
   pub chosen-none_at_all : may_miss i.settings.strategy ≡ false → IsNone (option_map f (chosen_spot i need)) ↔ All (λ x. x.size < need) (candidates i.contents)
   chosen-none_at_all none =
-      let same = looks-at_all i.settings.strategy i.settings.mbsd (candidates i.contents) none in (
+      let same = all_looked_at i.settings.strategy i.settings.mbsd (candidates i.contents) none in (
         λ h. subst (All (λ (x : Candidate). x.size < need)) same (chosen-none.0 h).0,
         λ h. chosen-none.1 (subst (All (λ (x : Candidate). x.size < need)) (sym same) h, λ miss. let never : true ≡ false = sym miss ∙ none in absurd cc),
       )

@@ -12,6 +12,7 @@ use Rattle.ea_model.specs.Choice.{better, first}
 use Rattle.ea_model.specs.Content.{Content, is_done}
 use Rattle.ea_model.specs.Instance.{Instance, created_content, creating, chosen_spot, with_content}
 use Rattle.ea_model.specs.Strategies.{candidates, candidates_in, choice_among, choice_for, choice_unused, large_enough, looked_at, lower, may_miss, or_else, takes_first, spot_of}
+use Rattle.ea_instance.proofs.Choosing.{all_looked_at}
 use Rattle.ea_instance.proofs.Contents.{with_here, with_past}
 
 still_some : {A : Type 0} (t : A → A → Bool) (x : A) (xs : List A) → IsSome (fold (better t) (Some x) xs)
@@ -71,19 +72,6 @@ unused_with need x (c ∷ cs) done =
       | inr le ↦ omega (arith, ap (unused_counted need) (with_past x c cs le), unused_more need c (with_content x cs), unused_with need x cs done)
     ]
 
--- a strategy that misses no gap looks at all
-pub looks-at_all : (s : Strategy) (depth : ℕ) (xs : List Candidate) → may_miss s ≡ false → looked_at s depth xs ≡ xs
-looks-at_all Bf depth xs e = refl
-looks-at_all Aobf depth xs e = refl
-looks-at_all Aoff depth xs e = refl
-looks-at_all AoffCbf depth xs e = refl
-looks-at_all AoffCaobf depth xs e = refl
-looks-at_all AgeffCaoff depth xs e = refl
-looks-at_all AgeffCbf depth xs e = refl
-looks-at_all AgeffCaobf depth xs e = refl
-looks-at_all Gf depth xs e = absurd cc
-looks-at_all Af depth xs e = absurd cc
-
 or_else-some : (asked : Bool) (found other : Option Candidate) → (asked ≡ false → IsSome found) → IsSome other → IsSome (or_else asked found other)
 or_else-some asked (Some x) other f h = refl
 or_else-some true None other f h = h
@@ -102,5 +90,5 @@ chosen-created i need p room some =
     mapped_some spot_of (choice_for i.settings need cs)
     (or_else-some (may_miss s) (choice_among s i.settings.mbsd need cs) (choice_unused need cs)
     (λ none. first-some (takes_first s) (large_enough need (looked_at s i.settings.mbsd (candidates cs)))
-    (omega (arith, ap (counted need) (looks-at_all s i.settings.mbsd (candidates cs) none), counted_with need x i.contents, fits)))
+    (omega (arith, ap (counted need) (all_looked_at s i.settings.mbsd (candidates cs) none), counted_with need x i.contents, fits)))
     (first-some lower (large_enough need (candidates (filter is_done cs))) (omega (arith, unused_with need x i.contents refl, fits))))

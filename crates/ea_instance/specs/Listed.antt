@@ -41,6 +41,7 @@ gap_from address size = some_gap (record { address = address; size = size })
 
 -- a gap of `whole` units at the address is held, and no other gap begins where a block of `size` units at its front ends
 pub record CanCut (held : List Gap) (address whole size : ℕ) : Type 0 where
+  pub some : 0 < whole
   pub within : size ≤ whole
   pub fits : address + whole < 2 ^ 32
   pub rest : List Gap
