@@ -44,7 +44,7 @@ own_by_kind Single c h = absurd cc
 own_shared : (c : Content) → is_shared c.kind ≡ true → own_gaps c ≡ map (at_base c.base) (gaps_of c)
 own_shared c h = own_by_kind c.kind c h
 
-gap_from-some : (address size : ℕ) → 0 < size → gap_from address size ≡ record { address = address; size = size } ∷ []
+pub gap_from-some : (address size : ℕ) → 0 < size → gap_from address size ≡ record { address = address; size = size } ∷ []
 gap_from-some address size some = grind arith
 
 gap_from-none : (address size : ℕ) → size ≡ 0 → gap_from address size ≡ []

@@ -5,6 +5,7 @@ pub mod Choosing
 pub mod Contents
 pub mod Folding
 pub mod Gaps
+pub mod Indexed
 pub mod Keeping
 pub mod Listed
 pub mod Located

@@ -1,5 +1,5 @@
 -- The set of the carriers, after a change.
-use Rattle.std.proofs.Common.{◌≡◌, ◌≢◌, ℕ, ◌<◌, ◌≤◌, true, false, List, [], ◌∷◌, get_or, map, All, AllPairs, sym, ap, ◌∙◌, subst, refl, inl, inr, arith}
+use Rattle.std.proofs.Common.{◌≡◌, ◌≢◌, ℕ, ◌<◌, ◌≤◌, true, false, List, [], ◌∷◌, get_or, map, All, AllPairs, sym, ap, ◌∙◌, subst, refl, inl, inr, arith, suc, Bool}
 use Rattle.std.specs.Prelude.{IsSome, Option, None, Some, ◌==◌, if◌then◌else◌}
 use Rattle.std.proofs.lemmas.Bool.{cases_eq, cases_lt, cond_both}
 use Rattle.std.proofs.lemmas.List.Elements.{All-nil, All-cons, All-head, All-tail, All-filter}
@@ -136,7 +136,7 @@ module _ (f : Content → Content) (k : KeepsPlace f) (n : ℕ) (item : Content)
   }
 
 -- with one carrier more
-apart-with : (x : Content) (cs : List Content) → AllPairs IsApartFrom cs → All (IsApartFrom x) cs → AllPairs IsApartFrom (with_content x cs)
+pub apart-with : (x : Content) (cs : List Content) → AllPairs IsApartFrom cs → All (IsApartFrom x) cs → AllPairs IsApartFrom (with_content x cs)
 apart-with x [] p a = AllPairs-cons IsApartFrom x [] (All-nil (IsApartFrom x)) p
 apart-with x (c ∷ cs) p a =
     elim (cases_lt x.number c.number) [
@@ -167,6 +167,10 @@ IsListed-entered s cs new x key fit set after bins left l sound apart is keyed f
   apart = subst (AllPairs IsApartFrom) (sym is) (apart-with x cs l.apart apart);
   binned = λ gf. subst (λ ds. IsPermutation left.held (all_gaps ds)) (sym is) (binned gf);
 }
+
+-- the carrier at a place is sound
+pub sound-at : (cs : List Content) (i n : ℕ) (item : Content) → IsAt cs i n item → All IsSound cs → IsSound item
+sound-at cs i n item at a = subst IsSound (sym at.is) (a i item at.within)
 
 -- the list and the set with one carrier less
 pub IsListed-left : (s : Strategy) (cs new : List Content) (n : ℕ) (set after : Carriers) (bins left : HeldGaps) → IsListed s cs set bins → new ≡ without_content n cs → after ≡ record set { held = without n set.held } → (s ≡ Gf → IsPermutation left.held (all_gaps (without_content n cs))) → IsListed s new after left

@@ -164,10 +164,10 @@ impl Carriers {
         ensures others { (at : Spot) → IsOther number offset at → block_in self.new.contents at ≡ block_in self.old.contents at }
     {
         let place = place_of(number, &self.list);
-        let address = self.list[place].address(offset);
         let whole = gap_in(self.strategy, &self.list[place], offset);
         let size = self.list[place].place(offset, need, name)?;
         self.set.update(number, self.list[place].largest());
+        let address = self.list[place].address(offset);
         note_placed(self.strategy, &mut self.bins, address, whole, size);
         Ok(size)
     }
@@ -181,11 +181,11 @@ impl Carriers {
         ensures others { (at : Spot) → IsOther number offset at → block_in self.new.contents at ≡ block_in self.old.contents at }
     {
         let place = place_of(number, &self.list);
-        let address = self.list[place].address(offset);
         let beside = gaps_beside(self.strategy, &self.list[place], offset);
         make_room(self.strategy, &mut self.bins)?;
         let size = self.list[place].release(offset)?;
         self.set.update(number, self.list[place].largest());
+        let address = self.list[place].address(offset);
         note_released(self.strategy, &mut self.bins, address, beside, size);
         Ok(())
     }
