@@ -25,7 +25,7 @@ use Rattle.ea_instance.specs.Listed.{all_gaps, gap_of, candidate_at, IsSound, Is
 use Rattle.ea_instance.proofs.Contents.{content_of-at}
 
 -- a gap of some units, from `at` on and up to `end`
-record Inside (at end : ℕ) (g : model.Gap) : Type 0 where
+pub record Inside (at end : ℕ) (g : model.Gap) : Type 0 where
   pub behind : at ≤ g.offset
   pub some : 1 ≤ g.size
   pub within : g.offset + g.size ≤ end
@@ -39,7 +39,7 @@ gap_Inside a b at end low high =
       | inr le ↦ All-same (Inside at end) (gap a b) [] (gap_none a b le) (All-nil (Inside at end))
     ]
 
-gaps_Inside : (at end : ℕ) (bs : List BlockAt) → Tiled at end bs → All (Inside at end) (gaps at end bs)
+pub gaps_Inside : (at end : ℕ) (bs : List BlockAt) → Tiled at end bs → All (Inside at end) (gaps at end bs)
 gaps_Inside at end [] t = gap_Inside at end at end (omega arith) (omega arith)
 gaps_Inside at end (b ∷ bs) t =
     let upto = Tiled-allocated (b.offset + b.size) end bs t.4 in
