@@ -1,5 +1,5 @@
 -- The bins after a change of the carriers.
-use Rattle.std.proofs.Common.{◌≡◌, ◌≢◌, ℕ, ◌+◌, ◌*◌, ◌-◌, ◌<◌, ◌≤◌, List, [], ◌∷◌, ◌++◌, map, All, AllPairs, append_assoc, sym, ap, ◌∙◌, subst, arith, inl, inr, refl, zero, suc}
+use Rattle.std.proofs.Common.{◌≡◌, ◌≢◌, ℕ, ◌+◌, ◌*◌, ◌-◌, ◌<◌, ◌≤◌, List, [], ◌∷◌, ◌++◌, map, All, AllPairs, append_assoc, sym, ap, ◌∙◌, subst, arith, inl, inr}
 use Rattle.std.specs.Prelude.{Some}
 use Rattle.std.specs.List.Sorted.{IsPermutation}
 use Rattle.std.proofs.lemmas.List.{map-append}
@@ -196,7 +196,7 @@ placing f k n item new seen c cs i offset need size at rising all pairs there fi
       within = begins-within f k n item cs i at rising all pairs t offset g size within r;
       cut = λ address whole held e w h. subst (λ m. CanCut held address m size) (sym w) (can-cut f k n item cs i at rising all pairs t offset g size within r address held e h);
       binned = λ address whole held left e w h note. cut-binned f k n item cs i at rising all pairs t offset g size within r address held left e h
-      (subst (λ m. (rest : List Gap) → IsPermutation held (gap_from address m ++ rest) → IsPermutation left (gap_from (address + size) (m - size) ++ rest)) w note);
+          (subst (λ m. (rest : List Gap) → IsPermutation held (gap_from address m ++ rest) → IsPermutation left (gap_from (address + size) (m - size) ++ rest)) w note);
     }
 
 -- what follows from a release in a carrier
@@ -220,6 +220,6 @@ releasing f k n item new seen cs i offset size at rising all pairs is shown tile
       within = released-within f k n item cs i at rising all pairs t offset size a b within r;
       join = λ address before behind held e x y h. subst (λ m. CanJoin held address m size behind) (sym x) (subst (λ m. CanJoin held address a size m) (sym y) (can-join f k n item cs i at rising all pairs t offset size a b within r address held e h));
       binned = λ address before behind held left e x y h note. join-binned f k n item cs i at rising all pairs t offset size a b within r address held left e h
-      (subst (λ m. (rest : List Gap) → IsPermutation held (gap_from (address - a) a ++ (gap_from (address + size) m ++ rest)) → IsPermutation left (gap_from (address - a) (a + size + m) ++ rest)) y
-      (subst (λ m. (rest : List Gap) → IsPermutation held (gap_from (address - m) m ++ (gap_from (address + size) behind ++ rest)) → IsPermutation left (gap_from (address - m) (m + size + behind) ++ rest)) x note));
+          (subst (λ m. (rest : List Gap) → IsPermutation held (gap_from (address - a) a ++ (gap_from (address + size) m ++ rest)) → IsPermutation left (gap_from (address - a) (a + size + m) ++ rest)) y
+          (subst (λ m. (rest : List Gap) → IsPermutation held (gap_from (address - m) m ++ (gap_from (address + size) behind ++ rest)) → IsPermutation left (gap_from (address - m) (m + size + behind) ++ rest)) x note));
     }

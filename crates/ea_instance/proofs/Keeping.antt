@@ -1,6 +1,6 @@
 -- What an instance keeps through its calls.
 use Rattle.std.proofs.Common.{◌≡◌, ℕ, ◌+◌, ◌*◌, ◌/◌, ◌%◌, ◌<◌, ◌≤◌, false, List, length, not, All, sym, ap, ◌∙◌, subst, refl, arith}
-use Rattle.std.specs.Prelude.{Option, Some, None, Ok, Err, IsSome, IfSome, Any, ◌==◌, option_map}
+use Rattle.std.specs.Prelude.{Option, Some, None, Ok, Err, IsSome, IfSome, ◌==◌, option_map}
 use Rattle.std.proofs.lemmas.List.Elements.{All-filter}
 use Rattle.ea_model.specs.declared.settings.Settings.{Settings}
 use Rattle.ea_model.specs.declared.carriers.Candidate.{Candidate}
@@ -15,11 +15,11 @@ use Rattle.ea_model.proofs.Options.{some_holds}
 use Rattle.ea_space.proofs.Runs.{Fits, lowest-Fits}
 use Rattle.ea_model.specs.Strategies.{choice_among, choice_unused, may_miss, or_else, spot_of}
 use Rattle.ea_instance.specs.Answers.{placing_if}
-use Rattle.ea_instance.specs.Kept.{IsKept, IsWhole, Rising}
+use Rattle.ea_instance.specs.Kept.{IsKept, IsWhole}
 use Rattle.ea_instance.specs.Listed.{CarrierList, IsApartFrom}
-use Rattle.ea_instance.specs.Found.{IsGapOf, HasGap, HaveSameBlocks}
+use Rattle.ea_instance.specs.Found.{HaveSameBlocks}
 use Rattle.ea_instance.proofs.Changed.{KeepsPlace, Rising-changed, segments-changed, All-changed}
-use Rattle.ea_instance.proofs.Contents.{content_of-at, Rising-room, Rising-with_content, Rising-without, All-with_content, unused_from-free, same-with}
+use Rattle.ea_instance.proofs.Contents.{Rising-room, Rising-with_content, Rising-without, All-with_content, unused_from-free, same-with}
 use Rattle.ea_instance.proofs.Room.{chosen-created}
 use Rattle.ea_instance.proofs.Segments.{length-segments, apart-contents, segments-with_content, segments-without}
 

@@ -148,8 +148,8 @@ apart-with x (c ∷ cs) p a =
           (AllPairs-cons IsApartFrom c (with_content x cs) (All-with_content (IsApartFrom c) x cs (turned x c (All-head (IsApartFrom x) c cs a)) (λ i d within. p 0 (suc i) d (omega arith) (omega arith)))
           (apart-with x cs (λ i j d lt within. p (suc i) (suc j) d (omega arith) (omega arith)) (All-tail (IsApartFrom x) c cs a)))
     ] where
-  turned : (c d : Content) → IsApartFrom c d → IsApartFrom d c
-  turned c d away = elim away [ inl p ↦ inr p | inr q ↦ inl q ]
+      turned : (c d : Content) → IsApartFrom c d → IsApartFrom d c
+      turned c d away = elim away [ inl p ↦ inr p | inr q ↦ inl q ]
 
 -- carriers that don't meet begin at different pages
 pub other-bases : (x : Content) (cs : List Content) → IsSound x → All IsSound cs → All (IsApartFrom x) cs → All (λ c. c.base ≢ x.base) cs

@@ -1,8 +1,7 @@
 -- The choice of good fit and of address fit.
-use Rattle.std.proofs.Common.{◌≡◌, ℕ, ◌<◌, ◌≤◌, List, [], ◌∷◌, All, AllPairs, sym, ap, ◌∙◌, subst, refl, arith}
-use Rattle.std.specs.Prelude.{Option, Some, None, IfSome, Contains, nat_le, filter}
+use Rattle.std.proofs.Common.{◌≡◌, ℕ, ◌<◌, ◌≤◌, List, [], All, AllPairs, ap, ◌∙◌}
+use Rattle.std.specs.Prelude.{Option, Some, None, IfSome, Contains, nat_le}
 use Rattle.std.specs.Option.{option_and_then}
-use Rattle.std.specs.List.Sorted.{IsPermutation}
 use Rattle.std.proofs.lemmas.Bool.{leb-true}
 use Rattle.std.proofs.lemmas.List.Elements.{All-contains_itself, All-filter, filter_passes}
 use Rattle.ea_model.specs.declared.settings.Strategy.TheVariants.{Gf, Af}

@@ -422,6 +422,8 @@ fn each_strategy_takes_its_own_gap_of_two_carriers(rt: HostRuntime) -> Result<()
         (Strategy::AgeffCaoff, (2, 8, 8), (2, 8, 14), (2, 8, 20)),
         (Strategy::AgeffCbf, (2, 54, 8), (2, 54, 14), (2, 8, 20)),
         (Strategy::AgeffCaobf, (2, 34, 8), (2, 34, 14), (2, 8, 20)),
+        (Strategy::Gf, (1, 84, 8), (1, 44, 14), (2, 8, 20)),
+        (Strategy::Af, (1, 8, 8), (1, 8, 14), (1, 8, 16)),
     ] {
         let mut trial = with_gaps(&rt, rt.alloc(), strategy)?;
         for (need, place) in [(8, eight), (14, fourteen), (16, sixteen), (22, (1, 8, 22))] {
@@ -433,6 +435,60 @@ fn each_strategy_takes_its_own_gap_of_two_carriers(rt: HostRuntime) -> Result<()
         }
         trial.step(&rt, rt.alloc(), Put(32, 16, None))?;
     }
+    Ok(())
+}
+
+#[test]
+fn good_fit_looks_at_the_first_gaps_of_a_bin(rt: HostRuntime) -> Result<(), Fail> {
+    for (mbsd, place) in [(1, (1, 190, 80)), (2, (1, 84, 80)), (1000, (1, 84, 80))] {
+        let settings = Settings {
+            strategy: Strategy::Gf,
+            mbsd,
+            ..SETTINGS
+        };
+        let mut trial = Trial::new(rt.alloc(), settings, 1, 0, 10)?;
+        let steps = [
+            Create(6, Ok((1, 0, 2, 1))),
+            Put(70, 1, Some((1, 8, 70))),
+            Put(6, 2, Some((1, 78, 6))),
+            Put(100, 3, Some((1, 84, 100))),
+            Put(6, 4, Some((1, 184, 6))),
+            TakeOut(1, 8, Released::Kept),
+            TakeOut(1, 84, Released::Kept),
+            Put(80, 5, Some(place)),
+            TakeOut(place.0, place.1, Released::Kept),
+            // The gaps of 70 and 100 units are one with that behind them.
+            TakeOut(1, 78, Released::Kept),
+            Put(176, 6, Some((1, 8, 176))),
+        ];
+        trial.steps(&rt, rt.alloc(), &steps)?;
+    }
+    Ok(())
+}
+
+#[test]
+fn a_carrier_made_where_address_fit_finds_nothing_gives_the_block(
+    rt: HostRuntime,
+) -> Result<(), Fail> {
+    let settings = Settings {
+        strategy: Strategy::Af,
+        ..SETTINGS
+    };
+    let mut trial = Trial::new(rt.alloc(), settings, 1, 0, 10)?;
+    let steps = [
+        Create(6, Ok((1, 0, 2, 1))),
+        Put(14, 1, Some((1, 8, 14))),
+        Put(6, 2, Some((1, 22, 6))),
+        TakeOut(1, 8, Released::Kept),
+        Put(26, 3, None),
+        Create(26, Ok((2, 2, 3, 2))),
+        Put(26, 3, Some((2, 8, 26))),
+        // The lowest gap alone is looked at again.
+        Put(26, 4, None),
+        Put(14, 4, Some((1, 8, 14))),
+        Put(26, 5, Some((1, 28, 26))),
+    ];
+    trial.steps(&rt, rt.alloc(), &steps)?;
     Ok(())
 }
 

@@ -1,4 +1,4 @@
-use Rattle.std.proofs.Common.{◌≡◌, ◌+◌, ◌∷◌, true, false, fold, drop, filter, sym, ◌∙◌, ap, subst, IfSome, Any}
+use Rattle.std.proofs.Common.{◌≡◌, ◌+◌, ◌∷◌, fold, drop, filter, sym, ◌∙◌, ap, subst, IfSome, Any}
 use Rattle.std.proofs.lemmas.List.{drop_more}
 use Rattle.std.specs.Prelude.{Option}
 use Rattle.ea_model.specs.declared.carriers.Candidate.{Candidate}

@@ -4,7 +4,7 @@ use Rattle.std.specs.List.{position_or_len}
 use Rattle.std.specs.List.Sorted.{IsPermutation}
 use Rattle.std.proofs.lemmas.List.Elements.{All-map}
 use Rattle.ea_model.specs.Content.{Content}
-use Rattle.ea_model.specs.Instance.{is_used, with_content}
+use Rattle.ea_model.specs.Instance.{with_content}
 use Rattle.ea_cset.specs.declared.keys.CarrierKey.{CarrierKey}
 use Rattle.ea_cset.specs.declared.keys.Held.{Held}
 use Rattle.ea_goodfit.specs.declared.gaps.Gap.{Gap}

@@ -1,9 +1,8 @@
-use Rattle.std.proofs.Common.{◌≡◌, List, All, sym, ap, ◌∙◌, subst}
+use Rattle.std.proofs.Common.{◌≡◌, All, sym, ap, ◌∙◌, subst}
 use Rattle.std.specs.Prelude.{Option, IfSome}
 use Rattle.std.specs.Option.{option_and_then}
 use Rattle.ea_model.specs.declared.settings.Strategy.TheVariants.{Gf}
 use Rattle.ea_model.specs.declared.carriers.Candidate.{Candidate}
-use Rattle.ea_model.specs.Content.{Content}
 use Rattle.ea_model.specs.Strategies.{choice_among}
 use Rattle.ea_instance.specs.Found.{HasGap}
 use Rattle.ea_instance.specs.Listed.{CarrierList, IsSound, candidate_at}

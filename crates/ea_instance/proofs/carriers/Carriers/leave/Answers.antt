@@ -4,7 +4,7 @@ use Rattle.ea_model.specs.Content.{Content}
 use Rattle.ea_model.specs.Instance.{content_of, without_content}
 use Rattle.ea_cset.specs.Carriers.{is_held}
 use Rattle.ea_instance.specs.Found.{IsRising}
-use Rattle.ea_instance.specs.Listed.{CarrierList, all_gaps, IsSound}
+use Rattle.ea_instance.specs.Listed.{CarrierList, all_gaps}
 use Rattle.ea_instance.proofs.Changed.{IsAt, at_place, remove-number}
 use Rattle.ea_instance.proofs.Indexed.{left-binned}
 use Rattle.ea_instance.proofs.Listed.{IsListed-left, held-there, sound-at}
@@ -26,10 +26,11 @@ note_left-requires c = λ gf.
     let cs = c.self.inside.list.items in
     let here = at_place _ _ _ _ _ c.deref.ensures.value c.place_of-place.ensures.found c.place_of-place.ensures.within c.remove-carrier.ensures.value in
     let rising = subst (λ (l : CarrierList). IsRising l.contents) (sym c.self.view_is) c.requires.rising in
-    let none = no_blocks c.args.number c.requires.there.0 c.remove-carrier.result cs (ap (λ (l : CarrierList). content_of l.contents c.args.number) c.self.view_is ∙ c.requires.there.1) here.there c.requires.there.2 in
-    (all_gaps (without_content c.args.number cs),
-    left-binned c.remove-carrier.result (sound-at _ _ _ _ here c.self.invariant.sound) none c.address-address.result c.largest-size.result c.address-address.ensures c.largest-size.ensures.units
-    _ _ c.args.number cs c.self.inside.bins.held rising.2 here.there (c.self.invariant.binned gf))
+    let none = no_blocks c.args.number c.requires.there.0 c.remove-carrier.result cs (ap (λ (l : CarrierList). content_of l.contents c.args.number) c.self.view_is ∙ c.requires.there.1) here.there c.requires.there.2 in (
+      all_gaps (without_content c.args.number cs),
+      left-binned c.remove-carrier.result (sound-at _ _ _ _ here c.self.invariant.sound) none c.address-address.result c.largest-size.result c.address-address.ensures c.largest-size.ensures.units
+          _ _ c.args.number cs c.self.inside.bins.held rising.2 here.there (c.self.invariant.binned gf),
+    )
 
 left : (c : goal.After-note_left) → c.remove-carrier.new.self.items ≡ without_content c.args.number c.self.inside.list.items
 left c = c.remove-carrier.ensures.items ∙ remove-number _ _ _ _ (at c) (subst (λ (l : CarrierList). IsRising l.contents) (sym c.self.view_is) c.requires.rising)

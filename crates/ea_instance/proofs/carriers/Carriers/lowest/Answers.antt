@@ -1,5 +1,5 @@
 use Rattle.std.proofs.Common.{◌≡◌, List, All, sym, ap, ◌∙◌, subst}
-use Rattle.std.specs.Prelude.{Option, Some}
+use Rattle.std.specs.Prelude.{Some}
 use Rattle.ea_model.specs.Choice.{first}
 use Rattle.ea_model.specs.Content.{Content}
 use Rattle.ea_model.specs.Strategies.{candidates, large_enough, lower}

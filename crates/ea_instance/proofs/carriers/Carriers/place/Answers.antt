@@ -1,13 +1,11 @@
 use Rattle.std.proofs.Common.{◌≡◌, ◌≤◌, ◌+◌, ◌*◌, List, refl, ◌∙◌, ap, sym, subst}
 use Rattle.std.specs.Prelude.{slice_set}
-use Rattle.std.specs.List.Sorted.{IsPermutation}
 use Rattle.std.proofs.lemmas.Grind.{get_or-set_at}
 use Rattle.ea_model.specs.Content.{Content, placed, gaps_of, gap_at, largest}
 use Rattle.ea_model.specs.Instance.{block_in, changed, content_of}
 use Rattle.ea_cset.specs.Carriers.{is_held}
-use Rattle.ea_goodfit.specs.declared.gaps.Gap.{Gap}
-use Rattle.ea_instance.specs.Found.{HasGap, IsRising}
-use Rattle.ea_instance.specs.Listed.{CarrierList, all_gaps}
+use Rattle.ea_instance.specs.Found.{IsRising}
+use Rattle.ea_instance.specs.Listed.{CarrierList}
 use Rattle.ea_instance.proofs.Changed.{placed-keeps, IsAt, at_place, set_is_changed, begins-set, others-set}
 use Rattle.ea_instance.proofs.Indexed.{Placing, placing, same-content}
 use Rattle.ea_instance.proofs.Listed.{IsListed-changed, held-there}

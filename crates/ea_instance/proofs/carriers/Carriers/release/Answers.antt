@@ -3,10 +3,10 @@ use Rattle.std.specs.Prelude.{slice_set}
 use Rattle.std.specs.List.Sorted.{IsPermutation}
 use Rattle.std.proofs.lemmas.Grind.{get_or-set_at}
 use Rattle.ea_model.specs.Content.{Content, released, gaps_of, gap_before, gap_behind, largest}
-use Rattle.ea_model.specs.Instance.{block_in, changed, content_of}
+use Rattle.ea_model.specs.Instance.{block_in, changed}
 use Rattle.ea_cset.specs.Carriers.{is_held}
 use Rattle.ea_goodfit.specs.declared.gaps.Gap.{Gap}
-use Rattle.ea_instance.specs.Found.{HasGap, IsRising}
+use Rattle.ea_instance.specs.Found.{IsRising}
 use Rattle.ea_instance.specs.Listed.{CarrierList, all_gaps}
 use Rattle.ea_instance.proofs.Changed.{released-keeps, IsAt, at_place, set_is_changed, others-set}
 use Rattle.ea_instance.proofs.Indexed.{Releasing, releasing, same-content}
