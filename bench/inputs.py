@@ -2,7 +2,8 @@
 """Makes the traces that bench/measure runs: python3 bench/inputs.py FOLDER.
 
 They are the same bytes on every machine, and good under the flags +MMscs 512 +MHacul 0. Those in FOLDER/strategies are
-for +MHlmbcs 256 besides, with any of the strategies: no allocation fails under any of them.
+for +MHlmbcs 256 and a strategy besides. With any strategy but address fit no allocation fails in filled and changing;
+under address fit nearly all do, and equal-filled and equal-changing are for it: there none fails under any strategy.
 """
 import os
 import random
@@ -13,6 +14,9 @@ CLOSING = "schedule\nend\n"
 LARGEST_INPUT = 2**24
 SMALL = 3000
 LARGEST = 524280
+HELD = 4600
+# Twenty blocks of so many bytes fill a carrier of 256 kB to its end.
+TWENTIETH = 13096
 
 
 def comments():
@@ -46,26 +50,26 @@ def stacked(count):
     return OPENING + "".join(allocs + frees) + CLOSING
 
 
-def crowded(changes):
-    """5000 blocks held in 250 carriers of 256 kB, with 600 holes, and then so many operations: a random block is freed
-    and a new one is allocated, in turn."""
+def crowded(filled, least, most, changes):
+    """So many blocks of least to most bytes fill carriers of 256 kB, and random ones are freed until 4600 are held; then
+    so many operations, in which a random block is freed and a new one is allocated, in turn."""
     pick = random.Random(4).random
     lines, held = [], []
 
     def alloc(name):
         held.append(name)
-        lines.append(f"alloc {name} {8000 + int(pick() * 7001)}\n")
+        lines.append(f"alloc {name} {least + int(pick() * (most - least + 1))}\n")
 
     def free():
         at = int(pick() * len(held))
         held[at], held[-1] = held[-1], held[at]
         lines.append(f"free {held.pop()}\n")
 
-    for name in range(1, 5601):
+    for name in range(1, filled + 1):
         alloc(name)
-    for _ in range(600):
+    while len(held) > HELD:
         free()
-    for name in range(5601, 5601 + changes // 2):
+    for name in range(filled + 1, filled + 1 + changes // 2):
         free()
         alloc(name)
     return OPENING + "".join(lines) + CLOSING
@@ -79,8 +83,10 @@ def main(folder):
         "mixed-5000": mixed(5000, 40, SMALL, 1),
         "mixed-200000": mixed(200000, 8, SMALL, 2),
         "stacked-4000": stacked(4000),
-        "strategies/filled": crowded(0),
-        "strategies/changing": crowded(5000),
+        "strategies/filled": crowded(5200, 8000, 15000, 0),
+        "strategies/changing": crowded(5200, 8000, 15000, 5000),
+        "strategies/equal-filled": crowded(5120, TWENTIETH, TWENTIETH, 0),
+        "strategies/equal-changing": crowded(5120, TWENTIETH, TWENTIETH, 5000),
     }
     for name, text in made.items():
         with open(f"{folder}/{name}.trace", "w", encoding="ascii", newline="\n") as file:
