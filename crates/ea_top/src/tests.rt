@@ -414,7 +414,7 @@ const THE_OLDER_CARRIER: &str =
 
 #[test]
 fn the_later_of_two_strategies_chooses_the_gap(rt: HostRuntime) -> Result<(), Fail> {
-    let cases: [(&[&'static str], &str, &str); 8] = [
+    let cases: [(&[&'static str], &str, &str); 14] = [
         (&["+MHas", "bf", "+MHacul", "0"], TWO_GAPS, THE_HIGHER_GAP),
         (&["+MHas", "aobf", "+MHacul", "0"], TWO_GAPS, THE_LOWER_GAP),
         (
@@ -444,6 +444,30 @@ fn the_later_of_two_strategies_chooses_the_gap(rt: HostRuntime) -> Result<(), Fa
             &["+MHacul", "0", "+MHlmbcs", "256", "+MHas", "ageffcbf"],
             REUSED_NUMBER,
             THE_OLDER_CARRIER,
+        ),
+        // Of equal gaps good fit takes the lower one.
+        (&["+MHas", "gf", "+MHacul", "0"], TWO_GAPS, THE_LOWER_GAP),
+        (
+            &["+MHas", "bf", "+MHacul", "0", "+MHas", "gf"],
+            TWO_GAPS,
+            THE_LOWER_GAP,
+        ),
+        (
+            &["+MHas", "gf", "+MHas", "bf", "+MHacul", "0"],
+            TWO_GAPS,
+            THE_HIGHER_GAP,
+        ),
+        // Address fit takes the lowest gap.
+        (&["+MHas", "af", "+MHacul", "0"], TWO_GAPS, THE_LOWER_GAP),
+        (
+            &["+MHas", "bf", "+MHacul", "0", "+MHas", "af"],
+            TWO_GAPS,
+            THE_LOWER_GAP,
+        ),
+        (
+            &["+MHas", "af", "+MHas", "bf", "+MHacul", "0"],
+            TWO_GAPS,
+            THE_HIGHER_GAP,
         ),
     ];
     for (words, input, out) in cases {
@@ -545,9 +569,187 @@ fn each_of_eight_strategies_has_a_gap_of_its_own(rt: HostRuntime) -> Result<(), 
     Ok(())
 }
 
+// A gap of 70 units, and above it one of 100; the rest of the carrier is a gap too.
+const TOO_SMALL_A_GAP_FIRST: &str =
+    "type H\nscheduler 1\nalloc 1 552\nalloc 2 0\nalloc 3 792\nalloc 4 0\nfree 1\nfree 3\nalloc 5 632\nschedule\nend\n";
+
+const THE_SECOND_GAP: &str =
+    "scheduler 1\nalloc 1 1 8 70\nalloc 2 1 78 6\nalloc 3 1 84 100\nalloc 4 1 184 6\nfree 1 done\nfree 3 done\nalloc 5 1 84 80\ncarrier 1 multi owner 1 employed 1 base 0 pages 64 allocated 92 largest 32578\ntotal carriers 1 units 32768 live 92 queued 0 free 32668 header 8\n";
+
+const THE_REST: &str =
+    "scheduler 1\nalloc 1 1 8 70\nalloc 2 1 78 6\nalloc 3 1 84 100\nalloc 4 1 184 6\nfree 1 done\nfree 3 done\nalloc 5 1 190 80\ncarrier 1 multi owner 1 employed 1 base 0 pages 64 allocated 92 largest 32498\ntotal carriers 1 units 32768 live 92 queued 0 free 32668 header 8\n";
+
+// A gap of 100 units, and above it one of 90.
+const THE_SMALLER_GAP_ABOVE: &str =
+    "type H\nscheduler 1\nalloc 1 792\nalloc 2 0\nalloc 3 712\nalloc 4 0\nfree 1\nfree 3\nalloc 5 632\nschedule\nend\n";
+
+const THE_LARGER_GAP: &str =
+    "scheduler 1\nalloc 1 1 8 100\nalloc 2 1 108 6\nalloc 3 1 114 90\nalloc 4 1 204 6\nfree 1 done\nfree 3 done\nalloc 5 1 8 80\ncarrier 1 multi owner 1 employed 1 base 0 pages 64 allocated 92 largest 32558\ntotal carriers 1 units 32768 live 92 queued 0 free 32668 header 8\n";
+
+const THE_SMALLER_GAP: &str =
+    "scheduler 1\nalloc 1 1 8 100\nalloc 2 1 108 6\nalloc 3 1 114 90\nalloc 4 1 204 6\nfree 1 done\nfree 3 done\nalloc 5 1 114 80\ncarrier 1 multi owner 1 employed 1 base 0 pages 64 allocated 92 largest 32558\ntotal carriers 1 units 32768 live 92 queued 0 free 32668 header 8\n";
+
+// Carrier 1 has a gap of 17760 units, and carrier 2 one of 18000.
+const TWO_GAPS_OF_A_BIN: &str =
+    "type H\nscheduler 1\nalloc 1 119992\nalloc 2 143992\nalloc 3 0\nfree 2\nalloc 4 143992\nschedule\nend\n";
+
+const IN_A_NEW_CARRIER: &str =
+    "scheduler 1\nalloc 1 1 8 15000\nalloc 2 2 8 18000\nalloc 3 2 18008 6\nfree 2 done\nalloc 4 3 8 18000\ncarrier 1 multi owner 1 employed 1 base 0 pages 64 allocated 15000 largest 17760\ncarrier 2 multi owner 1 employed 1 base 64 pages 64 allocated 6 largest 18000\ncarrier 3 multi owner 1 employed 1 base 128 pages 64 allocated 18000 largest 14760\ntotal carriers 3 units 98304 live 33006 queued 0 free 65274 header 24\n";
+
+const IN_THE_SECOND_CARRIER: &str =
+    "scheduler 1\nalloc 1 1 8 15000\nalloc 2 2 8 18000\nalloc 3 2 18008 6\nfree 2 done\nalloc 4 2 8 18000\ncarrier 1 multi owner 1 employed 1 base 0 pages 64 allocated 15000 largest 17760\ncarrier 2 multi owner 1 employed 1 base 64 pages 64 allocated 18006 largest 14754\ntotal carriers 2 units 65536 live 33006 queued 0 free 32514 header 16\n";
+
+#[test]
+fn good_fit_inspects_the_lowest_gaps_of_each_bin(rt: HostRuntime) -> Result<(), Fail> {
+    let cases: [(&[&'static str], &str, &str); 14] = [
+        // One of a bin: the next bin is searched where it is too small.
+        (
+            &["+MHas", "gf", "+MHmbsd", "1", "+MHacul", "0"],
+            TOO_SMALL_A_GAP_FIRST,
+            THE_REST,
+        ),
+        (
+            &["+MHas", "gf", "+MHmbsd", "2", "+MHacul", "0"],
+            TOO_SMALL_A_GAP_FIRST,
+            THE_SECOND_GAP,
+        ),
+        (
+            &["+MHas", "gf", "+MHmbsd", "3", "+MHacul", "0"],
+            TOO_SMALL_A_GAP_FIRST,
+            THE_SECOND_GAP,
+        ),
+        (
+            &["+MHmbsd", "1000", "+MHacul", "0", "+MHas", "gf"],
+            TOO_SMALL_A_GAP_FIRST,
+            THE_SECOND_GAP,
+        ),
+        // The later of two numbers holds.
+        (
+            &[
+                "+MHmbsd", "3", "+MHas", "gf", "+MHmbsd", "1", "+MHacul", "0",
+            ],
+            TOO_SMALL_A_GAP_FIRST,
+            THE_REST,
+        ),
+        // Of those that it inspects it takes the smallest.
+        (
+            &["+MHas", "gf", "+MHmbsd", "1", "+MHacul", "0"],
+            THE_SMALLER_GAP_ABOVE,
+            THE_LARGER_GAP,
+        ),
+        (
+            &["+MHas", "gf", "+MHmbsd", "2", "+MHacul", "0"],
+            THE_SMALLER_GAP_ABOVE,
+            THE_SMALLER_GAP,
+        ),
+        // There is a bin of 128 units behind that of 64.
+        (
+            &["+MHas", "gf", "+MHmbsd", "1", "+MHacul", "0"],
+            "type H\nscheduler 1\nalloc 1 552\nalloc 2 0\nalloc 3 792\nalloc 4 0\nalloc 5 1192\nalloc 6 0\nfree 1\nfree 3\nfree 5\nalloc 7 632\nschedule\nend\n",
+            "scheduler 1\nalloc 1 1 8 70\nalloc 2 1 78 6\nalloc 3 1 84 100\nalloc 4 1 184 6\nalloc 5 1 190 150\nalloc 6 1 340 6\nfree 1 done\nfree 3 done\nfree 5 done\nalloc 7 1 190 80\ncarrier 1 multi owner 1 employed 1 base 0 pages 64 allocated 98 largest 32422\ntotal carriers 1 units 32768 live 98 queued 0 free 32662 header 8\n",
+        ),
+        // Each size below 64 units has a bin of its own.
+        (
+            &["+MHas", "gf", "+MHmbsd", "1", "+MHacul", "0"],
+            "type H\nscheduler 1\nalloc 1 100\nalloc 2 0\nalloc 3 120\nalloc 4 0\nfree 1\nfree 3\nalloc 5 120\nschedule\nend\n",
+            "scheduler 1\nalloc 1 1 8 14\nalloc 2 1 22 6\nalloc 3 1 28 16\nalloc 4 1 44 6\nfree 1 done\nfree 3 done\nalloc 5 1 28 16\ncarrier 1 multi owner 1 employed 1 base 0 pages 64 allocated 28 largest 32718\ntotal carriers 1 units 32768 live 28 queued 0 free 32732 header 8\n",
+        ),
+        // Where it passes over the only gap that fits, the block is placed in a new carrier; the gap there
+        // is the third of its bin.
+        (
+            &[
+                "+MHas", "gf", "+MHmbsd", "1", "+MHlmbcs", "256", "+MHacul", "0",
+            ],
+            TWO_GAPS_OF_A_BIN,
+            IN_A_NEW_CARRIER,
+        ),
+        (
+            &[
+                "+MHas", "gf", "+MHmbsd", "2", "+MHlmbcs", "256", "+MHacul", "0",
+            ],
+            TWO_GAPS_OF_A_BIN,
+            IN_THE_SECOND_CARRIER,
+        ),
+        // Without a word on it, it inspects three.
+        (
+            &["+MHas", "gf", "+MHacul", "0"],
+            TOO_SMALL_A_GAP_FIRST,
+            THE_SECOND_GAP,
+        ),
+        (
+            &["+MHas", "gf", "+MHacul", "0"],
+            "type H\nscheduler 1\nalloc 1 552\nalloc 2 0\nalloc 3 552\nalloc 4 0\nalloc 5 792\nalloc 6 0\nfree 1\nfree 3\nfree 5\nalloc 7 632\nschedule\nend\n",
+            "scheduler 1\nalloc 1 1 8 70\nalloc 2 1 78 6\nalloc 3 1 84 70\nalloc 4 1 154 6\nalloc 5 1 160 100\nalloc 6 1 260 6\nfree 1 done\nfree 3 done\nfree 5 done\nalloc 7 1 160 80\ncarrier 1 multi owner 1 employed 1 base 0 pages 64 allocated 98 largest 32502\ntotal carriers 1 units 32768 live 98 queued 0 free 32662 header 8\n",
+        ),
+        (
+            &["+MHas", "gf", "+MHacul", "0"],
+            "type H\nscheduler 1\nalloc 1 552\nalloc 2 0\nalloc 3 552\nalloc 4 0\nalloc 5 552\nalloc 6 0\nalloc 7 792\nalloc 8 0\nfree 1\nfree 3\nfree 5\nfree 7\nalloc 9 632\nschedule\nend\n",
+            "scheduler 1\nalloc 1 1 8 70\nalloc 2 1 78 6\nalloc 3 1 84 70\nalloc 4 1 154 6\nalloc 5 1 160 70\nalloc 6 1 230 6\nalloc 7 1 236 100\nalloc 8 1 336 6\nfree 1 done\nfree 3 done\nfree 5 done\nfree 7 done\nalloc 9 1 342 80\ncarrier 1 multi owner 1 employed 1 base 0 pages 64 allocated 104 largest 32346\ntotal carriers 1 units 32768 live 104 queued 0 free 32656 header 8\n",
+        ),
+    ];
+    for (words, input, out) in cases {
+        check(
+            &rt,
+            rt.alloc(),
+            &Case {
+                words,
+                input,
+                out,
+                ..FIRST
+            },
+        )?;
+    }
+    Ok(())
+}
+
+#[test]
+fn address_fit_looks_at_the_lowest_gap_alone(rt: HostRuntime) -> Result<(), Fail> {
+    let cases: [(&[&'static str], &str, &str); 4] = [
+        // It takes it where it fits, also where a smaller one would.
+        (
+            &["+MHas", "af", "+MHacul", "0"],
+            THE_SMALLER_GAP_ABOVE,
+            THE_LARGER_GAP,
+        ),
+        // Where it is too small, the block is placed in a new carrier, though a higher gap would fit.
+        (
+            &["+MHas", "af", "+MHacul", "0"],
+            "type H\nscheduler 1\nalloc 1 100\nalloc 2 0\nfree 1\nalloc 3 200\nschedule\nend\n",
+            "scheduler 1\nalloc 1 1 8 14\nalloc 2 1 22 6\nfree 1 done\nalloc 3 2 8 26\ncarrier 1 multi owner 1 employed 1 base 0 pages 64 allocated 6 largest 32740\ncarrier 2 multi owner 1 employed 1 base 64 pages 186 allocated 26 largest 95198\ntotal carriers 2 units 128000 live 32 queued 0 free 127952 header 16\n",
+        ),
+        // And each later one too, until one fits the lowest gap.
+        (
+            &["+MHas", "af", "+MHlmbcs", "256", "+MHacul", "0"],
+            "type H\nscheduler 1\nalloc 1 100\nalloc 2 0\nfree 1\nalloc 3 200\nalloc 4 200\nalloc 5 100\nalloc 6 200\nschedule\nend\n",
+            "scheduler 1\nalloc 1 1 8 14\nalloc 2 1 22 6\nfree 1 done\nalloc 3 2 8 26\nalloc 4 3 8 26\nalloc 5 1 8 14\nalloc 6 1 28 26\ncarrier 1 multi owner 1 employed 1 base 0 pages 64 allocated 46 largest 32714\ncarrier 2 multi owner 1 employed 1 base 64 pages 64 allocated 26 largest 32734\ncarrier 3 multi owner 1 employed 1 base 128 pages 64 allocated 26 largest 32734\ntotal carriers 3 units 98304 live 98 queued 0 free 98182 header 24\n",
+        ),
+        // Where no carrier can be created, there is no place for it.
+        (
+            &[
+                "+MHas", "af", "+MMscs", "1", "+MHmmbcs", "1024", "+MHacul", "0",
+            ],
+            "type H\nscheduler 1\nalloc 1 100\nalloc 2 0\nfree 1\nalloc 3 200\nalloc 4 100\nschedule\nend\n",
+            "scheduler 1\nalloc 1 1 8 14\nalloc 2 1 22 6\nfree 1 done\nalloc 3 fail need 26 looked 0 space\nalloc 4 1 8 14\ncarrier 1 main owner 1 employed 1 base 0 pages 256 allocated 20 largest 131044\ntotal carriers 1 units 131072 live 20 queued 0 free 131044 header 8\n",
+        ),
+    ];
+    for (words, input, out) in cases {
+        check(
+            &rt,
+            rt.alloc(),
+            &Case {
+                words,
+                input,
+                out,
+                ..FIRST
+            },
+        )?;
+    }
+    Ok(())
+}
+
 #[test]
 fn other_words_are_refused_and_nothing_is_read(rt: HostRuntime) -> Result<(), Fail> {
-    let cases: [(&[&'static str], &str); 44] = [
+    let cases: [(&[&'static str], &str); 45] = [
         // Migration has to be off.
         (&[], WORD_1),
         (&["+MMscs", "1"], WORD_3),
@@ -587,8 +789,9 @@ fn other_words_are_refused_and_nothing_is_read(rt: HostRuntime) -> Result<(), Fa
         (&["+MHacul", "0", "+MHlmbcs", "524289"], WORD_4),
         (&["+MHmbsd", "0", "+MHacul", "0"], WORD_2),
         (&["+MHacul", "0", "+MHmbsd", "1001"], WORD_4),
-        (&["+MHas", "gf", "+MHacul", "0"], WORD_2),
-        (&["+MHacul", "0", "+MHas", "af"], WORD_4),
+        (&["+MHas", "ff", "+MHacul", "0"], WORD_2),
+        (&["+MHas", "GF", "+MHacul", "0"], WORD_2),
+        (&["+MHacul", "0", "+MHas", "aff"], WORD_4),
         (&["+MHas", "bf", "+MHas", "BF", "+MHacul", "0"], WORD_4),
         (&["+MHas", "ageffbf", "+MHacul", "0"], WORD_2),
         (&["+MHas", "aoffcb", "+MHacul", "0"], WORD_2),
@@ -597,7 +800,7 @@ fn other_words_are_refused_and_nothing_is_read(rt: HostRuntime) -> Result<(), Fa
         (&["+MMscs", "1", "+MHacul", "1"], WORD_4),
         (&["+MMscs", "1", "+MHacul", "00"], WORD_4),
         // The first wrong word is named, also where the main carrier is too large.
-        (&["+MMscs", "x", "+MHas", "gf"], WORD_2),
+        (&["+MMscs", "x", "+MHas", "ff"], WORD_2),
         (&["+MMscs", "1", "+MHmmbcs", "1025", "x"], WORD_5),
         // The main carrier has a page more than the region.
         (
