@@ -1,12 +1,11 @@
 -- The powers of two up to a size, and the gaps that good fit looks at.
-use Rattle.std.proofs.Common.{zero, suc, ◌≡◌, ℕ, ◌+◌, ◌<◌, ◌≤◌, List, refl, sym, ◌∙◌, inl, inr, arith}
+use Rattle.std.proofs.Common.{zero, suc, ◌≡◌, ℕ, ◌+◌, ◌<◌, ◌≤◌, List, refl, sym, arith}
 use Rattle.std.specs.Prelude.{◌^◌, filter, length, nat_le, nat_lt, if◌then◌else◌}
 use Rattle.std.specs.List.{range_with_len}
 use Rattle.ea_model.specs.declared.carriers.Candidate.{Candidate}
 use Rattle.ea_model.specs.declared.settings.Strategy.TheVariants.{Gf}
-use Rattle.ea_model.specs.GoodFit.{bin_of}
 use Rattle.ea_model.specs.Strategies.{looked_at}
-use Rattle.ea_model.specs.Binned.{ahead_of, bin, is_inspected, powers}
+use Rattle.ea_model.specs.Binned.{bin, is_inspected, powers}
 
 counted : (size a n : ℕ) → 2 ^ a ≤ size → powers size a (suc n) ≡ 1 + powers size (a + 1) n
 unfolding powers

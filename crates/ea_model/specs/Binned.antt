@@ -1,5 +1,5 @@
 -- Bins and filters that proofs see through only where they name them.
-use Rattle.std.specs.Prelude.{ℕ, ◌+◌, ◌^◌, Bool, ◌&&◌, if◌then◌else◌, nat_lt, nat_le, ◌==◌, List, [], ◌∷◌, filter, length}
+use Rattle.std.specs.Prelude.{ℕ, ◌^◌, Bool, ◌&&◌, if◌then◌else◌, nat_lt, nat_le, ◌==◌, List, [], ◌∷◌, filter, length}
 use Rattle.std.specs.List.{range_with_len}
 use Rattle.ea_model.specs.GoodFit.{bin_of}
 use Rattle.ea_model.specs.declared.carriers.Candidate.{Candidate}

@@ -1,15 +1,16 @@
 //! The choice of a gap once more, by walks over whole lists: slow, with no index and nothing kept from one
 //! choice to the next. Each contract is the definition itself, and tests compare faster bodies with it.
-ghost use Rattle.std.specs.Prelude.{◌≡◌, ◌+◌, ◌≤◌, ◌++◌, [], ◌∷◌, Some, IfOk, OnOk, filter, length, map};
-ghost use Rattle.ea_model.specs.Content.{gap, gaps_of, is_done};
+ghost use Rattle.std.specs.Prelude.{◌≡◌, ◌+◌, ◌*◌, ◌^◌, ◌<◌, ◌≤◌, ◌==◌, not, ◌++◌, [], ◌∷◌, Some, IfOk, OnOk, OnErr, filter, length, map};
+ghost use Rattle.ea_model.specs.Content.{gap, gap_at, gaps_of, inserted, is_done, placed, released, taken_of};
 ghost use Rattle.ea_model.specs.Choice.{better, first};
 ghost use Rattle.ea_model.specs.Strategies.{candidate, candidates, candidates_in, choice_among, choice_for, choice_unused, large_enough, less, looked_at, lower, only, takes_first};
+ghost use Rattle.ea_model.specs.Instance.{created_content};
 ghost use Rattle.ea_model.specs.Binned.{ahead_of, bin, is_ahead, is_inspected, kept_if, powers};
 
-use crate::carriers::{BlockAt, Candidate, Gap, Kind};
+use crate::carriers::{BlockAt, Candidate, CarrierPlan, Gap, Kind};
 use crate::lists::{List, OutOfMemory};
 use crate::settings::{Settings, Strategy};
-use crate::units::{HEADER_UNITS, PAGE_UNITS};
+use crate::units::{HEADER_UNITS, MIN_BLOCK, PAGE_UNITS};
 use std::alloc::Global;
 use std::marker::Model;
 
@@ -47,7 +48,132 @@ fn put_gap(gaps: &mut List<Gap>, from: u64, to: u32) -> Result<(), OutOfMemory>
     })
 }
 
+/// The units of the gap that begins at the offset, or 0.
+fn gap_at(gaps: &[Gap], offset: u32) -> u32
+    ensures { result ≡ gap_at gaps.now offset }
+{
+    for gap in gaps {
+        if gap.offset == offset {
+            return gap.size;
+        }
+    }
+    0
+}
+
+/// The units that a block takes of a gap.
+fn taken(gap: u32, need: u32) -> u32
+    ensures { result ≡ taken_of gap need }
+{
+    if gap.saturating_sub(need) >= MIN_BLOCK {
+        need
+    } else {
+        gap
+    }
+}
+
+/// The blocks with one more, in front of the first that begins behind it.
+fn inserted(alloc: Global, block: BlockAt, blocks: &[BlockAt]) -> Result<List<BlockAt>, OutOfMemory>
+    ensures { IfOk result (λ list. list.items ≡ inserted block blocks.now) }
+{
+    let mut list = List::new(alloc);
+    for (place, next) in blocks.iter().enumerate() {
+        if block.offset < next.offset {
+            list.push(block)?;
+            list.extend_from_slice(&blocks[place..])?;
+            return Ok(list);
+        }
+        list.push(*next)?;
+    }
+    list.push(block)?;
+    Ok(list)
+}
+
+/// Adds the block, unless it begins at the offset.
+fn put_unless_at(list: &mut List<BlockAt>, offset: u32, block: BlockAt) -> Result<(), OutOfMemory>
+    ensures { OnOk result (list.new.items ≡ list.old.items ++ filter (λ b. not (b.offset == offset)) (block ∷ [])) }
+{
+    if block.offset == offset {
+        return Ok(());
+    }
+    list.push(block)
+}
+
+/// The blocks without the one that begins at the offset.
+fn without(alloc: Global, offset: u32, blocks: &[BlockAt]) -> Result<List<BlockAt>, OutOfMemory>
+    ensures { IfOk result (λ list. list.items ≡ filter (λ b. not (b.offset == offset)) blocks.now) }
+{
+    let mut list = List::new(alloc);
+    for block in blocks {
+        put_unless_at(&mut list, offset, *block)?;
+    }
+    Ok(list)
+}
+
 impl PlainCarrier {
+    /// The carrier of a plan, without blocks.
+    pub fn new(alloc: Global, owner: u32, kind: Kind, plan: CarrierPlan) -> PlainCarrier
+        requires { 512 * plan.pages < 2 ^ 32 }
+        ensures { result ≡ created_content owner kind plan }
+    {
+        PlainCarrier {
+            number: plan.number,
+            owner,
+            base: plan.base,
+            birth: plan.birth,
+            units: PAGE_UNITS * plan.pages,
+            kind,
+            blocks: List::new(alloc),
+        }
+    }
+
+    /// Its own number.
+    pub fn number(&self) -> u32
+        ensures { result ≡ self.now.number }
+    {
+        self.number
+    }
+
+    /// Its first page.
+    pub fn base(&self) -> u32
+        ensures { result ≡ self.now.base }
+    {
+        self.base
+    }
+
+    /// Its blocks, by rising offset.
+    pub fn blocks(&self) -> &[BlockAt]
+        ensures { result.now ≡ self.now.blocks }
+    {
+        self.blocks.as_slice()
+    }
+
+    /// Puts a block of `need` units at the front of the gap at the offset. A rest of fewer than 6 units
+    /// stays in the block.
+    pub fn place(
+        &mut self,
+        alloc: Global,
+        offset: u32,
+        need: u32,
+        name: u32,
+    ) -> Result<(), OutOfMemory>
+        ensures ok { OnOk result (self.new ≡ placed self.old offset need name) }
+        ensures err { OnErr result (self.new ≡ self.old) }
+    {
+        let size = taken(gap_at(self.gaps(alloc)?.as_slice(), offset), need);
+        let block = BlockAt { name, offset, size };
+        self.blocks = inserted(alloc, block, self.blocks.as_slice())?;
+        Ok(())
+    }
+
+    /// Takes out the block at the offset.
+    pub fn release(&mut self, alloc: Global, offset: u32) -> Result<(), OutOfMemory>
+        ensures ok { OnOk result (self.new ≡ released self.old offset) }
+        ensures err { OnErr result (self.new ≡ self.old) }
+    {
+        self.blocks = without(alloc, offset, self.blocks.as_slice())?;
+        Ok(())
+    }
+
     /// Its gaps, by rising offset.
     pub fn gaps(&self, alloc: Global) -> Result<List<Gap>, OutOfMemory>
         ensures { IfOk result (λ gaps. gaps.items ≡ gaps_of self.now) }
@@ -77,7 +203,7 @@ impl PlainCarrier {
     }
 
     /// Whether it is a multiblock carrier without blocks.
-    fn is_done(&self) -> bool
+    pub fn is_done(&self) -> bool
         ensures { result ≡ is_done self.now }
     {
         self.kind == Kind::Multi && self.blocks.len() == 0
@@ -122,7 +248,7 @@ fn is_of_lower_carrier(a: Candidate, b: Candidate, rest: bool) -> bool
 }
 
 /// Whether the strategy takes gap `a` before gap `b`.
-pub fn takes_first(strategy: Strategy, a: Candidate, b: Candidate) -> bool
+fn takes_first(strategy: Strategy, a: Candidate, b: Candidate) -> bool
     ensures { result ≡ takes_first strategy a b }
 {
     match strategy {
