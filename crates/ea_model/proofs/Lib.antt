@@ -1,4 +1,5 @@
 pub mod First
 pub mod Numbers
+pub mod Plainly
 pub mod Options
 pub mod Splits

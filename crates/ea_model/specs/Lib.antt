@@ -5,6 +5,7 @@ pub mod Choice
 pub mod Region
 pub mod Settings
 pub mod GoodFit
+pub mod Binned
 pub mod Strategies
 pub mod Instance
 pub mod Flags

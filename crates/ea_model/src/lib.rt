@@ -6,6 +6,7 @@ pub mod carriers;
 pub mod entries;
 pub mod lists;
 pub mod operations;
+pub mod plain;
 pub mod settings;
 #[cfg(test)]
 mod tests;
