@@ -10,7 +10,8 @@ use Rattle.ea_top.specs.declared.scheduler.Scheduler.{Scheduler}
 use Rattle.ea_top.specs.Holding.{HoldsBlocks}
 use Rattle.ea_top.specs.Running.{Shows, IsChosenPlace, spot_at}
 use Rattle.ea_model.proofs.Options.{some_holds}
-use Rattle.ea_top.proofs.Steps.{holds_placed, placed-chosen, unplaced, shows_here, shows_new}
+use Rattle.ea_instance.proofs.Keeping.{plan-IsPlanned}
+use Rattle.ea_top.proofs.Steps.{holds_placed, placed-chosen, unplaced, shows_failed, shows_here, shows_new}
 use Rattle.ea_top.proofs.scheduler.Scheduler.alloc.Goals as goal
 
 pub hold-requires-clause-blocks : goal.hold-requires-clause-blocks
@@ -65,3 +66,20 @@ returns-in_ok-place-in-Ok-clause-grown c =
     (λ (s : Scheduler). length s.log.items ≤ length c.args.self.log.items + 1)
     (λ s h. omega (arith, ap length h.2, length-append c.args.self.log.items (Alloc c.args.name c.in_ok-place-in-Ok.place ∷ [])))
     c.hold-in-Ok.ensures
+
+pub hold-requires-in-Ok-clause-threshold : goal.hold-requires-in-Ok-clause-threshold
+hold-requires-in-Ok-clause-threshold c =
+    let rest = unplaced c.args.self.instance c.try_alloc.new.self _ c.need-units.result c.args.name refl (sym c.in_ok-place.ensures.place ∙ c.in_default.is) c.in_ok-place.ensures.ok in
+    omega (arith, c.args.self.threshold, ap (λ (i : Instance). i.settings.sbct) rest.1, ap (λ (i : Instance). i.settings.sbct) c.in_ok-place-in-Ok.ensures.ok.3)
+
+pub hold-requires-in-Ok-clause-created : goal.hold-requires-in-Ok-clause-created
+hold-requires-in-Ok-clause-created c =
+    let rest = unplaced c.args.self.instance c.try_alloc.new.self _ c.need-units.result c.args.name refl (sym c.in_ok-place.ensures.place ∙ c.in_default.is) c.in_ok-place.ensures.ok in
+    let birth = (plan-IsPlanned c.try_alloc.new.self c.need-units.result c.in-Ok.plan (sym c.in-Ok.ensures.plan)).birth in
+    omega (arith, c.args.self.created, birth, ap (λ (i : Instance). i.created) rest.1, ap (λ (i : Instance). i.created) c.in_ok-place-in-Ok.ensures.ok.3)
+
+pub returns-in_ok-push-in-Err-clause-shows : goal.returns-in_ok-push-in-Err-clause-shows
+returns-in_ok-push-in-Err-clause-shows c = λ r k.
+    let rest = unplaced c.args.self.instance c.try_alloc.new.self _ c.need-units.result c.args.name refl (sym c.in_ok-place.ensures.place ∙ c.in_default.is) c.in_ok-place.ensures.ok in
+    let planned = ap (λ i. plan i c.need-units.result) (sym rest.1) ∙ sym c.in-Err.ensures.plan in
+    shows_failed r c.args.self _ c.need-units.result (need_of c.args.bytes) c.args.name c.in-Err.why k c.need-units.ensures rest.0 planned rest.1 refl c.in_ok-push-in-Err.ensures.ok
