@@ -2,8 +2,9 @@
 """Makes the traces that bench/measure runs: python3 bench/inputs.py FOLDER.
 
 They are the same bytes on every machine, and good under the flags +MMscs 512 +MHacul 0. Those in FOLDER/strategies are
-for +MHlmbcs 256 and a strategy besides. With any strategy but address fit no allocation fails in filled and changing;
-under address fit nearly all do, and equal-filled and equal-changing are for it: there none fails under any strategy.
+for +MHlmbcs 256 and a strategy besides. In filled and changing no allocation fails under a strategy that looks at all
+gaps. Good fit runs out of carriers there, and has fewer blocks in fewer-filled and fewer-changing; under address fit
+nearly each block would have a carrier, and it has blocks of one size in equal-filled and equal-changing.
 """
 import os
 import random
@@ -14,7 +15,6 @@ CLOSING = "schedule\nend\n"
 LARGEST_INPUT = 2**24
 SMALL = 3000
 LARGEST = 524280
-HELD = 4600
 # Twenty blocks of so many bytes fill a carrier of 256 kB to its end.
 TWENTIETH = 13096
 
@@ -50,9 +50,9 @@ def stacked(count):
     return OPENING + "".join(allocs + frees) + CLOSING
 
 
-def crowded(filled, least, most, changes):
-    """So many blocks of least to most bytes fill carriers of 256 kB, and random ones are freed until 4600 are held; then
-    so many operations, in which a random block is freed and a new one is allocated, in turn."""
+def crowded(filled, kept, least, most, changes):
+    """So many blocks of least to most bytes fill carriers of 256 kB, and random ones are freed until so many are kept;
+    then so many operations, in which a random block is freed and a new one is allocated, in turn."""
     pick = random.Random(4).random
     lines, held = [], []
 
@@ -67,7 +67,7 @@ def crowded(filled, least, most, changes):
 
     for name in range(1, filled + 1):
         alloc(name)
-    while len(held) > HELD:
+    while len(held) > kept:
         free()
     for name in range(filled + 1, filled + 1 + changes // 2):
         free()
@@ -83,10 +83,12 @@ def main(folder):
         "mixed-5000": mixed(5000, 40, SMALL, 1),
         "mixed-200000": mixed(200000, 8, SMALL, 2),
         "stacked-4000": stacked(4000),
-        "strategies/filled": crowded(5200, 8000, 15000, 0),
-        "strategies/changing": crowded(5200, 8000, 15000, 5000),
-        "strategies/equal-filled": crowded(5120, TWENTIETH, TWENTIETH, 0),
-        "strategies/equal-changing": crowded(5120, TWENTIETH, TWENTIETH, 5000),
+        "strategies/filled": crowded(5600, 5000, 8000, 15000, 0),
+        "strategies/changing": crowded(5600, 5000, 8000, 15000, 5000),
+        "strategies/fewer-filled": crowded(5200, 4600, 8000, 15000, 0),
+        "strategies/fewer-changing": crowded(5200, 4600, 8000, 15000, 5000),
+        "strategies/equal-filled": crowded(5120, 4600, TWENTIETH, TWENTIETH, 0),
+        "strategies/equal-changing": crowded(5120, 4600, TWENTIETH, TWENTIETH, 5000),
     }
     for name, text in made.items():
         with open(f"{folder}/{name}.trace", "w", encoding="ascii", newline="\n") as file:

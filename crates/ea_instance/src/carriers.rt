@@ -2,10 +2,9 @@
 ghost use Rattle.std.specs.Prelude.{◌≡◌, ◌≢◌, ℕ, ◌+◌, ◌*◌, ◌%◌, ◌<◌, ◌≤◌, [], All, Some, None, true, false, IsSome, IfSome, IfOk, OnOk, OnErr, length, option_map};
 ghost use Rattle.std.specs.Option.{option_and_then};
 ghost use Rattle.ea_model.specs.declared.carriers.Spot.{Spot};
-ghost use Rattle.ea_model.specs.Content.{placed, released};
-ghost use Rattle.ea_model.specs.Choice.{first};
-ghost use Rattle.ea_model.specs.Content.{Content};
 ghost use Rattle.ea_model.specs.declared.settings.Strategy.TheVariants.{Gf, Af};
+ghost use Rattle.ea_model.specs.Content.{Content, placed, released};
+ghost use Rattle.ea_model.specs.Choice.{first};
 ghost use Rattle.ea_model.specs.Strategies.{candidates, choice_among, choice_unused, inner_of, large_enough, may_miss, or_else};
 ghost use Rattle.ea_model.specs.Instance.{changed, content_of, block_in, is_used, size_for, with_content, without_content};
 ghost use Rattle.ea_instance.specs.Kinds.{is_shared};
