@@ -3,7 +3,7 @@
 
 Blank lines and comments count nowhere. Code is what src/ has besides clauses, ghost lines and tests. A clause is one
 requires or ensures, however many lines it takes. Definitions are the lines of specs/, proof those of proofs/, and
-tests those of each tests.rt and of each module under #[cfg(test)].
+tests those of each module under #[cfg(test)], in a file of its own or not.
 """
 import os
 import re
@@ -70,12 +70,21 @@ def code_and_clauses(lines):
     return code, clauses
 
 
+def test_files(folder):
+    """The names of the files whose modules are under #[cfg(test)]."""
+    names = set()
+    for file in files(f"{folder}/src", ".rt"):
+        names.update(f"{it}.rt" for it in re.findall(r"#\[cfg\(test\)\]\s*mod (\w+);", text_of(file)))
+    return names
+
+
 def counts(crate):
     folder = f"{TOP}/crates/{crate}"
     code = clauses = tests = 0
+    for_tests = test_files(folder)
     for file in files(f"{folder}/src", ".rt"):
         lines = plain_lines(file, "//")
-        if os.path.basename(file) == "tests.rt":
+        if os.path.basename(file) in for_tests:
             tests += len(lines)
             continue
         lines, of_tests = without_tests(lines)
