@@ -1,11 +1,8 @@
--- The powers of two up to a size, and the gaps that good fit looks at.
+-- The powers of two up to a size, and its bin.
 use Rattle.std.proofs.Common.{zero, suc, ◌≡◌, ℕ, ◌+◌, ◌<◌, ◌≤◌, List, refl, sym, arith}
 use Rattle.std.specs.Prelude.{◌^◌, filter, length, nat_le, nat_lt, if◌then◌else◌}
 use Rattle.std.specs.List.{range_with_len}
-use Rattle.ea_model.specs.declared.carriers.Candidate.{Candidate}
-use Rattle.ea_model.specs.declared.settings.Strategy.TheVariants.{Gf}
-use Rattle.ea_model.specs.Strategies.{looked_at}
-use Rattle.ea_model.specs.Binned.{bin, is_inspected, powers}
+use Rattle.ea_model.specs.GoodFit.{bin_of, powers}
 
 counted : (size a n : ℕ) → 2 ^ a ≤ size → powers size a (suc n) ≡ 1 + powers size (a + 1) n
 unfolding powers
@@ -41,14 +38,10 @@ small size k lt = grind arith
 large : (size k : ℕ) → 64 ≤ size → (if nat_lt size 64 then size else k) ≡ k
 large size k le = grind arith
 
-pub bin-small : (size : ℕ) → size < 64 → size ≡ bin size
-unfolding bin
-bin-small size lt = sym (small size (63 + length (filter (λ k. nat_le (2 ^ k) size) (range_with_len 6 26))) lt)
+pub bin_of-small : (size : ℕ) → size < 64 → size ≡ bin_of size
+unfolding bin_of
+bin_of-small size lt = sym (small size (63 + powers size 6 26) lt)
 
-pub bin-large : (size : ℕ) → 64 ≤ size → 63 + powers size 6 26 ≡ bin size
-unfolding bin powers
-bin-large size le = sym (large size (63 + length (filter (λ k. nat_le (2 ^ k) size) (range_with_len 6 26))) le)
-
-pub inspected-looked_at : (depth : ℕ) (xs : List Candidate) → filter (is_inspected depth xs) xs ≡ looked_at Gf depth xs
-unfolding bin
-inspected-looked_at depth xs = refl
+pub bin_of-large : (size : ℕ) → 64 ≤ size → 63 + powers size 6 26 ≡ bin_of size
+unfolding bin_of
+bin_of-large size le = sym (large size (63 + powers size 6 26) le)

@@ -4,10 +4,14 @@ use Rattle.ea_model.specs.declared.carriers.Gap.{Gap}
 use Rattle.ea_model.specs.declared.carriers.Inner.{Inner}
 use Rattle.ea_model.specs.declared.carriers.Inner.TheVariants.{Bf, Aobf, Aoff}
 
+-- a is less than b, or equal with the rest deciding
+abbrev pub less : ℕ → ℕ → Bool → Bool
+less a b rest = nat_lt a b || ((a == b) && rest)
+
 -- which of two gaps of a carrier is taken first
 abbrev pub before : Inner → Gap → Gap → Bool
-before Bf a b = nat_lt a.size b.size || ((a.size == b.size) && nat_lt b.offset a.offset)
-before Aobf a b = nat_lt a.size b.size || ((a.size == b.size) && nat_lt a.offset b.offset)
+before Bf a b = less a.size b.size (nat_lt b.offset a.offset)
+before Aobf a b = less a.size b.size (nat_lt a.offset b.offset)
 before Aoff a b = nat_lt a.offset b.offset
 
 -- the better of the best so far and x: of two that tie the earlier one

@@ -6,6 +6,7 @@ use Rattle.ea_model.specs.declared.carriers.Kind.TheVariants.{Main, Multi, Singl
 use Rattle.ea_model.specs.declared.carriers.BlockAt.{BlockAt}
 use Rattle.ea_model.specs.declared.carriers.Block.{Block}
 use Rattle.ea_model.specs.declared.carriers.Gap.{Gap}
+use Rattle.ea_model.specs.Keyed.{item_at, entered, without}
 
 -- a carrier: what it is, where it lies, and its blocks by rising offset; base counts pages, and units the whole carrier
 pub record Content : Type 0 where
@@ -49,7 +50,7 @@ gap_at gs offset = option_map_or (λ g. g.size) (find (λ g. g.offset == offset)
 
 -- the block that begins at the offset
 abbrev pub block_at : List BlockAt → ℕ → Option BlockAt
-block_at bs offset = find (λ b. b.offset == offset) bs
+block_at bs offset = item_at (λ b. b.offset) bs offset
 
 -- where the block that begins at the offset ends
 abbrev pub end_of : List BlockAt → ℕ → ℕ
@@ -76,8 +77,7 @@ taken_of g need = if nat_le 6 (g - need) then need else g
 
 -- x among the blocks, by its offset
 abbrev pub inserted : BlockAt → List BlockAt → List BlockAt
-inserted x [] = x ∷ []
-inserted x (b ∷ bs) = if nat_lt x.offset b.offset then x ∷ b ∷ bs else b ∷ inserted x bs
+inserted x bs = entered (λ b. b.offset) x bs
 
 -- the content with a block at the front of the gap at the offset
 abbrev pub placed : Content → ℕ → ℕ → ℕ → Content
@@ -85,7 +85,7 @@ placed c offset need name = record c { blocks = inserted (record { name = name; 
 
 -- the content without the block at the offset
 abbrev pub released : Content → ℕ → Content
-released c offset = record c { blocks = filter (λ b. not (b.offset == offset)) c.blocks }
+released c offset = record c { blocks = without (λ b. b.offset) offset c.blocks }
 
 abbrev pub is_multi : Kind → Bool
 is_multi Main = false

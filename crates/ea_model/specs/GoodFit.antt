@@ -1,17 +1,25 @@
 -- Good fit: bins of gaps, of which a search inspects the first few.
-use Rattle.std.specs.Prelude.{ℕ, ◌+◌, ◌^◌, Bool, ◌&&◌, ◌||◌, if◌then◌else◌, nat_lt, nat_le, ◌==◌, List, Option, filter, length}
+use Rattle.std.specs.Prelude.{ℕ, ◌+◌, ◌^◌, Bool, ◌&&◌, if◌then◌else◌, nat_lt, nat_le, ◌==◌, List, Option, filter, length}
 use Rattle.std.specs.List.{range_with_len}
-use Rattle.ea_model.specs.Choice.{first}
+use Rattle.ea_model.specs.Choice.{first, less}
+
+-- how many of the powers of two from 2 ^ a on, n of them, are at most the size
+unfoldable pub powers : ℕ → ℕ → ℕ → ℕ
+powers size a n = length (filter (λ k. nat_le (2 ^ k) size) (range_with_len a n))
 
 -- the bin of a size: one for each size below 64, then one for 64 to 127, one for 128 to 255 and so on, to twice the size each
-abbrev pub bin_of : ℕ → ℕ
-bin_of size = if nat_lt size 64 then size else 63 + length (filter (λ k. nat_le (2 ^ k) size) (range_with_len 6 26))
+unfoldable pub bin_of : ℕ → ℕ
+bin_of size = if nat_lt size 64 then size else 63 + powers size 6 26
 
 -- over gaps of any kind, with the address and the units of each
 module _ {A : Type 0} (address size : A → ℕ) where
+  -- whether h is a gap of the same bin as g, at a lower address
+  abbrev pub is_ahead : A → A → Bool
+  is_ahead g h = (bin_of (size h) == bin_of (size g)) && nat_lt (address h) (address g)
+
   -- the gaps of the same bin at lower addresses
   abbrev pub ahead : List A → A → List A
-  ahead gs g = filter (λ h. (bin_of (size h) == bin_of (size g)) && nat_lt (address h) (address g)) gs
+  ahead gs g = filter (is_ahead g) gs
 
   -- whether a gap is one of the first `depth` of its bin, by address
   abbrev pub is_inspected : ℕ → List A → A → Bool
@@ -19,7 +27,7 @@ module _ {A : Type 0} (address size : A → ℕ) where
 
   -- the smaller, among equals the lower
   abbrev pub smaller_low : A → A → Bool
-  smaller_low a b = nat_lt (size a) (size b) || ((size a == size b) && nat_lt (address a) (address b))
+  smaller_low a b = less (size a) (size b) (nat_lt (address a) (address b))
 
   -- of the gaps that a search inspects and that have at least `need` units, the smallest; a bin has only smaller gaps than the bins behind it, so it lies in the first bin where one of these fits
   abbrev pub good_fit : ℕ → ℕ → List A → Option A

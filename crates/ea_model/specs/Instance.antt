@@ -14,7 +14,9 @@ use Rattle.ea_model.specs.declared.entries.NoCarrier.{NoCarrier}
 use Rattle.ea_model.specs.declared.entries.NoCarrier.TheVariants.{Numbers, Space}
 use Rattle.ea_model.specs.Content.{Content, gaps_of, gap_at, block_at, taken_of, placed, released, allocated, is_multi}
 use Rattle.ea_model.specs.Strategies.{choice_for, spot_of}
-use Rattle.ea_model.specs.Region.{runs, lowest_run, entered}
+use Rattle.ea_model.specs.Region.{runs, lowest_run, with_segment}
+use Rattle.std.specs.List.{list_any}
+use Rattle.ea_model.specs.Keyed.{has_key, item_at, entered, without}
 
 -- an instance: its number, from 1, its region from page `first` up to `end`, the contents that it employs by rising number, and how many carriers it created
 pub record Instance : Type 0 where
@@ -56,16 +58,15 @@ segment_of c = record { start = c.base; pages = c.units / 512 }
 -- the segments of carriers, by rising start
 abbrev pub segments : List Content → List Segment
 segments [] = []
-segments (c ∷ cs) = entered (segment_of c) (segments cs)
+segments (c ∷ cs) = with_segment (segment_of c) (segments cs)
 
 -- the content of a carrier that is employed
 abbrev pub content_of : List Content → ℕ → Option Content
-content_of cs number = find (λ c. c.number == number) cs
+content_of cs number = item_at (λ c. c.number) cs number
 
 -- whether a number is in use
 abbrev pub is_used : ℕ → List Content → Bool
-is_used number [] = false
-is_used number (c ∷ cs) = (c.number == number) || is_used number cs
+is_used number cs = list_any (has_key (λ c. c.number) number) cs
 
 -- the lowest of so many numbers from `number` on that isn't in use
 unfoldable pub unused_from : ℕ → ℕ → List Content → Option ℕ
@@ -113,8 +114,7 @@ plan i need = numbered_plan i need (unused_from 256 (first_number i.number) i.co
 
 -- the contents with one more, by its number
 abbrev pub with_content : Content → List Content → List Content
-with_content x [] = x ∷ []
-with_content x (c ∷ cs) = if nat_lt x.number c.number then x ∷ c ∷ cs else c ∷ with_content x cs
+with_content x cs = entered (λ c. c.number) x cs
 
 -- the instance that employs the carrier of a plan
 abbrev pub creating : Instance → CarrierPlan → Instance
@@ -146,7 +146,7 @@ releasing_at i spot = record i { contents = changed (λ c. released c spot.offse
 
 -- the contents without that of the number
 abbrev pub without_content : ℕ → List Content → List Content
-without_content number cs = filter (λ c. not (c.number == number)) cs
+without_content number cs = without (λ c. c.number) number cs
 
 -- the instance without a carrier
 abbrev pub clearing : Instance → ℕ → Instance

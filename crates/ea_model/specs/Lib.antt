@@ -1,11 +1,11 @@
 pub mod Lists
+pub mod Keyed
 pub mod Units
 pub mod Content
 pub mod Choice
 pub mod Region
 pub mod Settings
 pub mod GoodFit
-pub mod Binned
 pub mod Strategies
 pub mod Instance
 pub mod Flags

@@ -2,6 +2,7 @@
 use Rattle.std.specs.Prelude.{ℕ, ◌+◌, ◌-◌, ◌<◌, ◌≤◌, max, Bool, ◌&&◌, if◌then◌else◌, nat_lt, nat_le, List, [], ◌∷◌, ◌++◌, Option, find, option_map}
 use Rattle.std.specs.List.{flat_map}
 use Rattle.ea_model.specs.declared.carriers.Segment.{Segment}
+use Rattle.ea_model.specs.Keyed.{entered}
 
 -- pages from `first` on, up to `end`, and the taken segments by rising start
 pub record Region : Type 0 where
@@ -32,9 +33,8 @@ longest [] = 0
 longest (r ∷ rs) = max r.pages (longest rs)
 
 -- s among the segments, by its start
-abbrev pub entered : Segment → List Segment → List Segment
-entered s [] = s ∷ []
-entered s (t ∷ ts) = if nat_lt s.start t.start then s ∷ t ∷ ts else t ∷ entered s ts
+abbrev pub with_segment : Segment → List Segment → List Segment
+with_segment s ss = entered (λ t. t.start) s ss
 
 -- whether the page lies in the segment
 abbrev pub covers : ℕ → Segment → Bool

@@ -11,7 +11,7 @@ use Rattle.ea_model.specs.declared.carriers.Gap.{Gap}
 use Rattle.ea_model.specs.declared.carriers.Spot.{Spot}
 use Rattle.ea_model.specs.declared.carriers.Candidate.{Candidate}
 use Rattle.ea_model.specs.Content.{Content, gaps_of, is_done}
-use Rattle.ea_model.specs.Choice.{first}
+use Rattle.ea_model.specs.Choice.{first, less}
 use Rattle.ea_model.specs.GoodFit.{is_inspected}
 use Rattle.ea_model.specs.declared.settings.Settings.{Settings}
 
@@ -27,10 +27,6 @@ candidates_in Single c = []
 
 abbrev pub candidates : List Content → List Candidate
 candidates cs = flat_map (λ c. candidates_in c.kind c) cs
-
--- a is less than b, or equal with the rest deciding
-abbrev pub less : ℕ → ℕ → Bool → Bool
-less a b rest = nat_lt a b || ((a == b) && rest)
 
 abbrev pub lower : Candidate → Candidate → Bool
 lower a b = nat_lt a.address b.address

@@ -4,6 +4,7 @@
 
 pub mod carriers;
 pub mod entries;
+pub mod keyed;
 pub mod lists;
 pub mod operations;
 pub mod plain;

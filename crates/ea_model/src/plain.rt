@@ -1,11 +1,11 @@
 //! The choice of a gap once more, by walks over whole lists: slow, with no index and nothing kept from one
 //! choice to the next. Each contract is the definition itself, and tests compare faster bodies with it.
-ghost use Rattle.std.specs.Prelude.{◌≡◌, ◌+◌, ◌*◌, ◌^◌, ◌<◌, ◌≤◌, ◌==◌, not, ◌++◌, [], ◌∷◌, Some, IfOk, OnOk, OnErr, filter, length, map};
+ghost use Rattle.std.specs.Prelude.{◌≡◌, ◌+◌, ◌*◌, ◌^◌, ◌<◌, ◌≤◌, ◌==◌, not, if◌then◌else◌, ◌++◌, [], ◌∷◌, Some, IfOk, OnOk, OnErr, filter, length, map};
 ghost use Rattle.ea_model.specs.Content.{gap, gap_at, gaps_of, inserted, is_done, placed, released, taken_of};
-ghost use Rattle.ea_model.specs.Choice.{better, first};
-ghost use Rattle.ea_model.specs.Strategies.{candidate, candidates, candidates_in, choice_among, choice_for, choice_unused, large_enough, less, looked_at, lower, only, takes_first};
+ghost use Rattle.ea_model.specs.Choice.{better, first, less};
+ghost use Rattle.ea_model.specs.Strategies.{candidate, candidates, candidates_in, choice_among, choice_for, choice_unused, large_enough, looked_at, lower, only, takes_first};
 ghost use Rattle.ea_model.specs.Instance.{created_content};
-ghost use Rattle.ea_model.specs.Binned.{ahead_of, bin, is_ahead, is_inspected, kept_if, powers};
+ghost use Rattle.ea_model.specs.GoodFit.{ahead, bin_of, is_ahead, is_inspected, powers};
 
 use crate::carriers::{BlockAt, Candidate, CarrierPlan, Gap, Kind};
 use crate::lists::{List, OutOfMemory};
@@ -331,7 +331,7 @@ fn put_if_done(
 
 /// Adds the gap, where it is to be kept.
 fn put_if(list: &mut List<Candidate>, keeps: bool, gap: Candidate) -> Result<(), OutOfMemory>
-    ensures { OnOk result (list.new.items ≡ list.old.items ++ kept_if keeps gap) }
+    ensures { OnOk result (list.new.items ≡ list.old.items ++ (if keeps then gap ∷ [] else [])) }
 {
     if !keeps {
         return Ok(());
@@ -377,7 +377,7 @@ fn better(strategy: Strategy, best: Option<Candidate>, gap: Candidate) -> Candid
 /// The number of a size's bin: the size itself below 64 units, and from there on one more for each power of
 /// two up to the size, 63 of which come before the first.
 fn bin_of(size: u32) -> u32
-    ensures { result ≡ bin size }
+    ensures { result ≡ bin_of size }
 {
     if size < 64 {
         return size;
@@ -400,14 +400,14 @@ fn powers_up_to(size: u32) -> u32
 }
 
 fn is_ahead(gap: Candidate, other: Candidate) -> bool
-    ensures { result ≡ is_ahead gap other }
+    ensures { result ≡ is_ahead (λ x. x.address) (λ x. x.size) gap other }
 {
     bin_of(other.size) == bin_of(gap.size) && other.address < gap.address
 }
 
 /// How many gaps of the same bin lie at lower addresses.
 fn count_ahead(gaps: &[Candidate], gap: Candidate) -> usize
-    ensures { result ≡ length (ahead_of gaps.now gap) }
+    ensures { result ≡ length (ahead (λ x. x.address) (λ x. x.size) gaps.now gap) }
 {
     let mut count = 0;
     for other in gaps {
@@ -420,7 +420,7 @@ fn count_ahead(gaps: &[Candidate], gap: Candidate) -> usize
 
 /// The gaps that good fit looks at, the first `depth` of each bin.
 fn inspected(alloc: Global, depth: u32, gaps: &[Candidate]) -> Result<List<Candidate>, OutOfMemory>
-    ensures { IfOk result (λ list. list.items ≡ filter (is_inspected depth gaps.now) gaps.now) }
+    ensures { IfOk result (λ list. list.items ≡ filter (is_inspected (λ x. x.address) (λ x. x.size) depth gaps.now) gaps.now) }
 {
     let mut list = List::new(alloc);
     for gap in gaps {

@@ -1,5 +1,6 @@
 use Rattle.std.proofs.Common.{refl}
 use Rattle.std.specs.Fmt.{digits}
+use Rattle.ea_model.specs.GoodFit.{bin_of, powers}
 use Rattle.ea_model.specs.Instance.{unused_from}
 use Rattle.ea_model.proofs.worked.worked_inputs.Goals as goal
 
@@ -48,11 +49,11 @@ unfolding digits unused_from
 returns-clause-address_order_best_fit c = refl
 
 pub returns-clause-good_fit_at_one : goal.returns-clause-good_fit_at_one
-unfolding digits unused_from
+unfolding digits unused_from bin_of powers
 returns-clause-good_fit_at_one c = refl
 
 pub returns-clause-good_fit_at_three : goal.returns-clause-good_fit_at_three
-unfolding digits unused_from
+unfolding digits unused_from bin_of powers
 returns-clause-good_fit_at_three c = refl
 
 pub returns-clause-address_fit : goal.returns-clause-address_fit

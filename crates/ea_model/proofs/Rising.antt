@@ -1,0 +1,180 @@
+-- Items by rising key, with one more and without one.
+use Rattle.std.proofs.Common.{suc, ◌≡◌, ◌≢◌, ℕ, ◌+◌, ◌<◌, ◌≤◌, true, false, List, [], ◌∷◌, length, get_or, sym, ap, ◌∙◌, subst, refl, inl, inr, arith}
+use Rattle.std.specs.Prelude.{insert, remove, find, Option, Some, None, IsSome, ◌==◌, if◌then◌else◌, All, AllPairs}
+use Rattle.std.specs.List.{position_or_len, list_any}
+use Rattle.std.proofs.lemmas.Bool.{cases_Bool, cases_lt, cases_eq}
+use Rattle.std.proofs.lemmas.List.Elements.{All-nil, All-cons, All-head, All-tail, All-weaker}
+use Rattle.std.proofs.lemmas.List.Kept.{AllPairs-cons}
+use Rattle.std.proofs.lemmas.List.Folds.{find_at}
+use Rattle.std.proofs.lemmas.Option.{slice_get-get_or}
+use Rattle.ea_model.specs.Keyed.{has_key, is_behind, item_at, entered, without, IsBelow}
+
+-- the pairs of a list with its first item, and without it
+pub pairs_head : {A : Type 0} (R : A → A → Type 0) (x : A) (xs : List A) → AllPairs R (x ∷ xs) → All (R x) xs
+pairs_head R x xs a = λ k d lt. a 0 (suc k) d (omega arith) (omega arith)
+
+pub pairs_tail : {A : Type 0} (R : A → A → Type 0) (x : A) (xs : List A) → AllPairs R (x ∷ xs) → AllPairs R xs
+pairs_tail R x xs a = λ i j d lt le. a (suc i) (suc j) d (omega arith) (omega arith)
+
+insert_cons : {A : Type 0} (x y : A) (ys : List A) (n : ℕ) → insert (y ∷ ys) (1 + n) x ≡ y ∷ insert ys n x
+insert_cons x y ys n = let e : 1 + n ≡ suc n = omega arith in rw e refl
+
+remove_cons : {A : Type 0} (y : A) (ys : List A) (n : ℕ) → remove (y ∷ ys) (1 + n) ≡ y ∷ remove ys n
+remove_cons y ys n = let e : 1 + n ≡ suc n = omega arith in rw e refl
+
+module _ {A : Type 0} (key_of : A → ℕ) where
+  pub entered_here : (x y : A) (ys : List A) → key_of x < key_of y → entered key_of x (y ∷ ys) ≡ x ∷ y ∷ ys
+  entered_here x y ys lt = grind arith
+
+  pub entered_past : (x y : A) (ys : List A) → key_of y ≤ key_of x → entered key_of x (y ∷ ys) ≡ y ∷ entered key_of x ys
+  entered_past x y ys le = grind arith
+
+  behind_first : (key : ℕ) (y : A) (ys : List A) → key < key_of y → position_or_len (is_behind key_of key) (y ∷ ys) ≡ 0
+  behind_first key y ys lt = grind arith
+
+  behind_past : (key : ℕ) (y : A) (ys : List A) → key_of y ≤ key → position_or_len (is_behind key_of key) (y ∷ ys) ≡ 1 + position_or_len (is_behind key_of key) ys
+  behind_past key y ys le = grind arith
+
+  -- putting an item before the first one of a greater key enters it
+  pub insert-entered : (x : A) (ys : List A) → insert ys (position_or_len (is_behind key_of (key_of x)) ys) x ≡ entered key_of x ys
+  insert-entered x [] = refl
+  insert-entered x (y ∷ ys) =
+      elim (cases_lt (key_of x) (key_of y)) [
+        | inl lt ↦ ap (λ n. insert (y ∷ ys) n x) (behind_first (key_of x) y ys lt) ∙ sym (entered_here x y ys lt)
+        | inr le ↦
+            ap (λ n. insert (y ∷ ys) n x) (behind_past (key_of x) y ys le) ∙ insert_cons x y ys (position_or_len (is_behind key_of (key_of x)) ys)
+            ∙ ap (λ zs. y ∷ zs) (insert-entered x ys) ∙ sym (entered_past x y ys le)
+      ]
+
+  pub length-entered : (x : A) (ys : List A) → length (entered key_of x ys) ≡ length ys + 1
+  length-entered x [] = refl
+  length-entered x (y ∷ ys) =
+      elim (cases_lt (key_of x) (key_of y)) [
+        | inl lt ↦ ap length (entered_here x y ys lt) ∙ omega arith
+        | inr le ↦ ap length (entered_past x y ys le) ∙ omega (arith, length-entered x ys)
+      ]
+
+  -- what holds of the item and of the others holds of all
+  pub All-entered : (P : A → Type 0) (x : A) (ys : List A) → P x → All P ys → All P (entered key_of x ys)
+  All-entered P x [] p a = All-cons P x [] p a
+  All-entered P x (y ∷ ys) p a =
+      elim (cases_lt (key_of x) (key_of y)) [
+        | inl lt ↦ subst (All P) (sym (entered_here x y ys lt)) (All-cons P x (y ∷ ys) p a)
+        | inr le ↦ subst (All P) (sym (entered_past x y ys le)) (All-cons P y (entered key_of x ys) (All-head P y ys a) (All-entered P x ys p (All-tail P y ys a)))
+      ]
+
+  -- what holds of the pairs holds also of those with the item, if it holds of the item and each one on either side
+  pub pairs-entered : (R : A → A → Type 0) (x : A) (ys : List A) → AllPairs (IsBelow key_of) ys → AllPairs R ys → All (λ y. key_of x < key_of y → R x y) ys → All (λ y. key_of y ≤ key_of x → R y x) ys → AllPairs R (entered key_of x ys)
+  pairs-entered R x [] rising r behind before = AllPairs-cons R x [] (All-nil (R x)) r
+  pairs-entered R x (y ∷ ys) rising r behind before =
+      let above : All (IsBelow key_of y) ys = pairs_head (IsBelow key_of) y ys rising in
+      elim (cases_lt (key_of x) (key_of y)) [
+        | inl lt ↦ subst (AllPairs R) (sym (entered_here x y ys lt)) (AllPairs-cons R x (y ∷ ys) (All-cons (R x) y ys (behind 0 y (omega arith) lt) (λ i d within. behind (suc i) d (omega arith) (omega (arith, above i d within)))) r)
+        | inr le ↦ subst (AllPairs R) (sym (entered_past x y ys le))
+            (AllPairs-cons R y (entered key_of x ys) (All-entered (R y) x ys (before 0 y (omega arith) le) (pairs_head R y ys r))
+            (pairs-entered R x ys (pairs_tail (IsBelow key_of) y ys rising) (pairs_tail R y ys r) (λ i d within. behind (suc i) d (omega arith)) (λ i d within. before (suc i) d (omega arith))))
+      ]
+
+  -- with an item of a new key the keys rise
+  pub rising-entered : (x : A) (ys : List A) → AllPairs (IsBelow key_of) ys → All (λ y. key_of y ≢ key_of x) ys → AllPairs (IsBelow key_of) (entered key_of x ys)
+  rising-entered x ys rising other = pairs-entered (IsBelow key_of) x ys rising rising (λ i d within lt. lt) (λ i d within le. omega (arith, other i d within))
+
+  pub has_key-is : (key : ℕ) (x : A) → has_key key_of key x ≡ true → key_of x ≡ key
+  has_key-is key x t = grind arith
+
+  pub has_key-here : (key : ℕ) (x : A) → key_of x ≡ key → has_key key_of key x ≡ true
+  has_key-here key x e = grind arith
+
+  pub has_key-past : (key : ℕ) (x : A) → key_of x ≢ key → has_key key_of key x ≡ false
+  has_key-past key x n = grind arith
+
+  pub item_here : (key : ℕ) (x : A) (xs : List A) → has_key key_of key x ≡ true → item_at key_of (x ∷ xs) key ≡ Some x
+  item_here key x xs t = rw t refl
+
+  pub item_past : (key : ℕ) (x : A) (xs : List A) → has_key key_of key x ≡ false → item_at key_of (x ∷ xs) key ≡ item_at key_of xs key
+  item_past key x xs f = rw f refl
+
+  position_first : (key : ℕ) (x : A) (xs : List A) → has_key key_of key x ≡ true → position_or_len (has_key key_of key) (x ∷ xs) ≡ 0
+  position_first key x xs t = rw t refl
+
+  position_past : (key : ℕ) (x : A) (xs : List A) → has_key key_of key x ≡ false → position_or_len (has_key key_of key) (x ∷ xs) ≡ 1 + position_or_len (has_key key_of key) xs
+  position_past key x xs f = rw f refl
+
+  pub without_here : (key : ℕ) (x : A) (xs : List A) → has_key key_of key x ≡ true → without key_of key (x ∷ xs) ≡ without key_of key xs
+  without_here key x xs t = rw t refl
+
+  pub without_past : (key : ℕ) (x : A) (xs : List A) → has_key key_of key x ≡ false → without key_of key (x ∷ xs) ≡ x ∷ without key_of key xs
+  without_past key x xs f = rw f refl
+
+  pub without_others : (key : ℕ) (xs : List A) → All (λ x. has_key key_of key x ≡ false) xs → without key_of key xs ≡ xs
+  without_others key [] a = refl
+  without_others key (x ∷ xs) a =
+      without_past key x xs (All-head (λ y. has_key key_of key y ≡ false) x xs a) ∙ ap (λ ys. x ∷ ys) (without_others key xs (All-tail (λ y. has_key key_of key y ≡ false) x xs a))
+
+  -- the items behind one with the key have other keys
+  pub others : (key : ℕ) (x : A) (xs : List A) → AllPairs (IsBelow key_of) (x ∷ xs) → has_key key_of key x ≡ true → All (λ y. has_key key_of key y ≡ false) xs
+  others key x xs rising t = All-weaker (IsBelow key_of x) (λ y. has_key key_of key y ≡ false) (λ y b. above key x y b t) xs (pairs_head (IsBelow key_of) x xs rising) where
+    above : (key : ℕ) (x y : A) → IsBelow key_of x y → has_key key_of key x ≡ true → has_key key_of key y ≡ false
+    above key x y b t = grind arith
+
+  -- taking out the place of the key takes out the item
+  pub remove-without : (key : ℕ) (xs : List A) → AllPairs (IsBelow key_of) xs → position_or_len (has_key key_of key) xs < length xs → remove xs (position_or_len (has_key key_of key) xs) ≡ without key_of key xs
+  remove-without key [] rising lt = absurd (omega arith)
+  remove-without key (x ∷ xs) rising lt =
+      elim (cases_Bool (has_key key_of key x)) [
+        | inl t ↦ ap (remove (x ∷ xs)) (position_first key x xs t) ∙ sym (without_here key x xs t ∙ without_others key xs (others key x xs rising t))
+        | inr f ↦
+            let past = position_past key x xs f in
+            ap (remove (x ∷ xs)) past ∙ remove_cons x xs (position_or_len (has_key key_of key) xs) ∙ ap (λ ys. x ∷ ys) (remove-without key xs (pairs_tail (IsBelow key_of) x xs rising) (omega arith)) ∙ sym (without_past key x xs f)
+      ]
+
+  -- the item at the place of the key
+  pub item_at-place : (key : ℕ) (xs : List A) (d : A) → position_or_len (has_key key_of key) xs < length xs → item_at key_of xs key ≡ Some (get_or xs (position_or_len (has_key key_of key) xs) d)
+  item_at-place key xs d within = find_at (has_key key_of key) xs ∙ slice_get-get_or xs (position_or_len (has_key key_of key) xs) d within
+
+  -- the item with a key, where another item is entered
+  pub item_at-entered : (key : ℕ) (x : A) (ys : List A) → All (λ y. key_of y ≢ key_of x) ys → item_at key_of (entered key_of x ys) key ≡ (if key == key_of x then Some x else item_at key_of ys key)
+  item_at-entered key x [] a = only key x where
+    only : (key : ℕ) (x : A) → item_at key_of (x ∷ []) key ≡ (if key == key_of x then Some x else item_at key_of [] key)
+    only key x = grind arith
+  item_at-entered key x (y ∷ ys) a = more key x y ys (All-head (λ z. key_of z ≢ key_of x) y ys a) (item_at-entered key x ys (All-tail (λ z. key_of z ≢ key_of x) y ys a)) where
+    more : (key : ℕ) (x y : A) (ys : List A) → key_of y ≢ key_of x → item_at key_of (entered key_of x ys) key ≡ (if key == key_of x then Some x else item_at key_of ys key)
+        → item_at key_of (entered key_of x (y ∷ ys)) key ≡ (if key == key_of x then Some x else item_at key_of (y ∷ ys) key)
+    more key x y ys other e =
+        elim (cases_lt (key_of x) (key_of y)) [
+          | inl lt ↦ elim (cases_eq key (key_of x)) [ inl p ↦ grind arith | inr q ↦ grind arith ]
+          | inr le ↦ elim (cases_eq key (key_of x)) [ inl p ↦ grind arith | inr q ↦ grind arith ]
+        ]
+
+  -- and where the item with a key is taken out
+  pub item_at-without : (key gone : ℕ) (xs : List A) → item_at key_of (without key_of gone xs) key ≡ (if key == gone then None else item_at key_of xs key)
+  item_at-without key gone [] = none key gone where
+    none : (key gone : ℕ) → item_at key_of [] key ≡ (if key == gone then None else item_at key_of [] key)
+    none key gone = grind arith
+  item_at-without key gone (x ∷ xs) =
+      let more = item_at-without key gone xs in
+      elim (cases_Bool (has_key key_of gone x)) [
+        | inl t ↦ ap (λ ys. item_at key_of ys key) (without_here gone x xs t) ∙ more ∙ same key gone x (item_at key_of xs key) t
+        | inr f ↦
+            ap (λ ys. item_at key_of ys key) (without_past gone x xs f)
+            ∙ elim (cases_Bool (has_key key_of key x)) [
+              | inl t ↦ item_here key x (without key_of gone xs) t ∙ stays key gone x f t ∙ ap (λ o. if key == gone then None else o) (sym (item_here key x xs t))
+              | inr g ↦ item_past key x (without key_of gone xs) g ∙ more ∙ ap (λ o. if key == gone then None else o) (sym (item_past key x xs g))
+            ]
+      ] where
+        same : (key gone : ℕ) (x : A) (o : Option A) → has_key key_of gone x ≡ true → (if key == gone then None else o) ≡ (if key == gone then None else (if has_key key_of key x then Some x else o))
+        same key gone x o t = grind arith
+
+        stays : (key gone : ℕ) (x : A) → has_key key_of gone x ≡ false → has_key key_of key x ≡ true → Some x ≡ (if key == gone then None else Some x)
+        stays key gone x f t = grind arith
+
+  -- where one has the key, it is found
+  pub any-item : (key : ℕ) (xs : List A) → list_any (has_key key_of key) xs ≡ true → IsSome (item_at key_of xs key)
+  any-item key [] h = absurd cc
+  any-item key (x ∷ xs) h =
+      elim (cases_Bool (has_key key_of key x)) [
+        | inl t ↦ subst (λ o. IsSome o) (sym (item_here key x xs t)) refl
+        | inr f ↦ subst (λ o. IsSome o) (sym (item_past key x xs f)) (any-item key xs (rest key x xs f h))
+      ] where
+        rest : (key : ℕ) (x : A) (xs : List A) → has_key key_of key x ≡ false → list_any (has_key key_of key) (x ∷ xs) ≡ true → list_any (has_key key_of key) xs ≡ true
+        rest key x xs f h = grind arith

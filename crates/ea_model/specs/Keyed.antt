@@ -1,0 +1,28 @@
+-- Items with a key each, by rising key.
+use Rattle.std.specs.Prelude.{ℕ, ◌<◌, Bool, not, if◌then◌else◌, nat_lt, ◌==◌, List, [], ◌∷◌, Option, filter, find}
+
+module _ {A : Type 0} (key_of : A → ℕ) where
+  -- whether the item has the key
+  abbrev pub has_key : ℕ → A → Bool
+  has_key key x = key_of x == key
+
+  -- whether the item has a greater key
+  abbrev pub is_behind : ℕ → A → Bool
+  is_behind key x = nat_lt key (key_of x)
+
+  -- the item with the key
+  abbrev pub item_at : List A → ℕ → Option A
+  item_at xs key = find (has_key key) xs
+
+  -- x among the items, by its key
+  abbrev pub entered : A → List A → List A
+  entered x [] = x ∷ []
+  entered x (y ∷ ys) = if nat_lt (key_of x) (key_of y) then x ∷ y ∷ ys else y ∷ entered x ys
+
+  -- without the item with the key
+  abbrev pub without : ℕ → List A → List A
+  without key xs = filter (λ x. not (has_key key x)) xs
+
+  -- a has the lower key
+  abbrev pub IsBelow : A → A → Type 0
+  IsBelow a b = key_of a < key_of b

@@ -1,0 +1,87 @@
+//! Items with a key each, which stand by rising key.
+ghost use Rattle.std.specs.Prelude.{◌≡◌, ℕ, ◌+◌, ◌<◌, ◌≤◌, AllPairs, Some, IsSome, OnOk, OnErr, get_or, length, option_map, vec_len, vec_capacity};
+ghost use Rattle.std.specs.List.{position_or_len};
+ghost use Rattle.ea_model.specs.Keyed.{has_key, is_behind, item_at, entered, without, IsBelow};
+
+use crate::lists::OutOfMemory;
+
+/// An item that its key tells from the others.
+pub trait Keyed {
+    // its key
+    ghost key_of: { Self → ℕ };
+
+    /// Its key.
+    fn key(&self) -> u32
+        ensures { result ≡ key_of self.now };
+}
+
+/// The item with the key, if there is one.
+pub fn item_of<T: Keyed>(key: u32, items: &[T]) -> Option<&T>
+    ensures { option_map (λ x. x.now) result ≡ item_at T.key_of items.now key }
+{
+    for item in items {
+        if item.key() == key {
+            return Some(item);
+        }
+    }
+    None
+}
+
+/// The place of the item with the key, which is there.
+pub fn place_of<T: Keyed>(key: u32, items: &[T]) -> usize
+    requires { IsSome (item_at T.key_of items.now key) }
+    ensures place { result ≡ position_or_len (has_key T.key_of key) items.now }
+    ensures within { result < length items.now }
+    ensures item { (d : T) → item_at T.key_of items.now key ≡ Some (get_or items.now result d) }
+{
+    for (place, item) in items.iter().enumerate() {
+        if item.key() == key {
+            return place;
+        }
+    }
+    unreachable!()
+}
+
+/// The place of the first item with a greater key.
+fn place_behind<T: Keyed>(key: u32, items: &[T]) -> usize
+    ensures place { result ≡ position_or_len (is_behind T.key_of key) items.now }
+    ensures within { result ≤ length items.now }
+{
+    for (place, item) in items.iter().enumerate() {
+        if key < item.key() {
+            return place;
+        }
+    }
+    items.len()
+}
+
+/// Puts an item among the others, by its key. Where there is no memory, it is dropped and the others stay.
+pub fn enter<T: Keyed + Drop>(item: T, items: &mut Vec<T>) -> Result<(), OutOfMemory>
+    ensures ok { OnOk result (items.new.items ≡ entered T.key_of item items.old.items) }
+    ensures err { OnErr result (items.new.items ≡ items.old.items) }
+
+    // It fails only where there is no room, and with room it takes no memory.
+    ensures len { OnOk result (vec_len items.new ≡ vec_len items.old + 1) }
+    ensures full { OnErr result (vec_capacity items.old ≤ vec_len items.old) }
+    ensures capacity { vec_capacity items.old ≤ vec_capacity items.new }
+    ensures in_place { vec_len items.old < vec_capacity items.old → vec_capacity items.new ≡ vec_capacity items.old }
+{
+    let place = place_behind(item.key(), items);
+    if items.insert(place, item).is_err() {
+        return Err(OutOfMemory);
+    }
+    Ok(())
+}
+
+/// Takes out the item with the key, which is there.
+pub fn take_out<T: Keyed>(key: u32, items: &mut Vec<T>) -> T
+    requires there { IsSome (item_at T.key_of items.old.items key) }
+    requires rising { AllPairs (IsBelow T.key_of) items.old.items }
+    ensures item { item_at T.key_of items.old.items key ≡ Some result }
+    ensures rest { items.new.items ≡ without T.key_of key items.old.items }
+    ensures len { vec_len items.new + 1 ≡ vec_len items.old }
+    ensures capacity { vec_capacity items.new ≡ vec_capacity items.old }
+{
+    let place = place_of(key, items);
+    items.remove(place)
+}
