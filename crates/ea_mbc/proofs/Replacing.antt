@@ -5,9 +5,11 @@ use Rattle.std.proofs.lemmas.Bool.{cases_eq}
 use Rattle.ea_model.specs.declared.carriers.BlockAt.{BlockAt}
 use Rattle.ea_model.specs.declared.carriers.Gap.{Gap}
 use Rattle.ea_model.specs.Content.{Content, gap, gaps, gaps_of, gap_at, gap_up_to, gap_before, gap_behind, block_at, end_of, inserted, Tiled}
-use Rattle.ea_mbc.specs.Walks.{begins, next_of}
+use Rattle.ea_mbc.specs.Walks.{next_of}
 use Rattle.ea_mbc.specs.Gaps.{Replaced, GapTaken, GapsJoined}
-use Rattle.ea_mbc.proofs.BlockLists.{gap_at-step, gap_at-next, only_gap, inserted_here, inserted_past, filter-behind, filter_at, filter_past, block_at-past}
+use Rattle.ea_mbc.proofs.BlockLists.{offset_of, gap_at-step, gap_at-next, only_gap, without-behind, block_at-past}
+use Rattle.ea_model.specs.Keyed.{without}
+use Rattle.ea_model.proofs.Rising.{entered_here, entered_past, without_here, without_past}
 use Rattle.ea_mbc.proofs.Beside.{gap_up_to-step, gap_up_to-first, gap_at-front, next_of-here, block_at-Lies, none_there, same_block, end_of-block}
 use Rattle.ea_mbc.proofs.Chosen.{gap_some, gap_none}
 
@@ -56,11 +58,11 @@ inserted-Replaced at end g x [] t e some =
 inserted-Replaced at end g x (b ∷ bs) t e some =
     let rest : List Gap = gaps (b.offset + b.size) end bs in
     elim (gap_at-step at b.offset x.offset rest) [
-      | inl p ↦ subst (λ ys. Taken (gap at b.offset ++ rest) (gaps at end ys) x.offset x.size g) (sym (inserted_here x b bs (omega arith)))
+      | inl p ↦ subst (λ ys. Taken (gap at b.offset ++ rest) (gaps at end ys) x.offset x.size g) (sym (entered_here offset_of x b bs (omega arith)))
           (front_taken at b.offset x.offset x.size g rest p.0 p.1 (e ∙ p.2))
       | inr q ↦
           let reach = gap_at-next (b.offset + b.size) end x.offset bs t.4 (omega arith) in
-          subst (λ ys. Taken (gap at b.offset ++ rest) (gaps at end ys) x.offset x.size g) (sym (inserted_past x b bs (omega (arith, reach.behind))))
+          subst (λ ys. Taken (gap at b.offset ++ rest) (gaps at end ys) x.offset x.size g) (sym (entered_past offset_of x b bs (omega (arith, reach.behind))))
           (Replaced-more (gap at b.offset) rest (gaps (b.offset + b.size) end (inserted x bs)) _ _ (inserted-Replaced (b.offset + b.size) end g x bs t.4 (e ∙ q) some))
     ]
 
@@ -92,7 +94,7 @@ before_past at end offset b bs n = elim (gap_up_to-step at b.offset offset (gaps
 behind_past : (at end offset : ℕ) (b : BlockAt) (bs : List BlockAt) → b.offset < offset → gap_at (gaps at end (b ∷ bs)) offset ≡ gap_at (gaps (b.offset + b.size) end bs) offset
 behind_past at end offset b bs lt = elim (gap_at-step at b.offset offset (gaps (b.offset + b.size) end bs)) [ inl p ↦ absurd (omega arith) | inr q ↦ q ]
 
-released_here : (at end offset before behind : ℕ) (b x : BlockAt) (bs : List BlockAt) → Tiled at end (x ∷ bs) → x.offset ≡ offset → x ≡ b → before ≡ gap_up_to (gaps at end (x ∷ bs)) offset → behind ≡ gap_at (gaps at end (x ∷ bs)) (offset + b.size) → Joined (gaps at end (x ∷ bs)) (gaps at end (filter (λ b. not (begins offset b)) (x ∷ bs))) offset before b.size behind
+released_here : (at end offset before behind : ℕ) (b x : BlockAt) (bs : List BlockAt) → Tiled at end (x ∷ bs) → x.offset ≡ offset → x ≡ b → before ≡ gap_up_to (gaps at end (x ∷ bs)) offset → behind ≡ gap_at (gaps at end (x ∷ bs)) (offset + b.size) → Joined (gaps at end (x ∷ bs)) (gaps at end (without offset_of offset (x ∷ bs))) offset before b.size behind
 released_here at end offset before behind b x bs t e same p q =
     let stop : ℕ = x.offset + x.size in
     let size : x.size ≡ b.size = ap (λ (y : BlockAt). y.size) same in
@@ -101,13 +103,13 @@ released_here at end offset before behind b x bs t e same p q =
     let ends : stop ≡ offset + b.size = omega arith in
     let rest : behind ≡ gap_at (gaps stop end bs) stop = q ∙ behind_past at end (offset + b.size) x bs (omega (arith, t.2)) ∙ ap (gap_at (gaps stop end bs)) (sym ends) in
     let was : gaps at end (x ∷ bs) ≡ gap at offset ++ (gap stop until ++ behind_first end bs) = ap (λ n. gap at n ++ gaps stop end bs) e ∙ ap (λ xs. gap at offset ++ xs) (gaps-first stop stop end offset bs t.4 (omega arith)) in
-    let is : gaps at end (filter (λ b. not (begins offset b)) (x ∷ bs)) ≡ gap at until ++ behind_first end bs = ap (gaps at end) (filter_at offset x bs e (filter-behind stop end offset bs t.4 (omega arith))) ∙ gaps-first at stop end offset bs t.4 (omega arith) in
-    subst (λ xs. Joined xs (gaps at end (filter (λ b. not (begins offset b)) (x ∷ bs))) offset before b.size behind) (sym was)
+    let is : gaps at end (without offset_of offset (x ∷ bs)) ≡ gap at until ++ behind_first end bs = ap (gaps at end) (without_here offset_of offset x bs e ∙ without-behind stop end offset bs t.4 (omega arith)) ∙ gaps-first at stop end offset bs t.4 (omega arith) in
+    subst (λ xs. Joined xs (gaps at end (without offset_of offset (x ∷ bs))) offset before b.size behind) (sym was)
     (subst (λ ys. Joined (gap at offset ++ (gap stop until ++ behind_first end bs)) ys offset before b.size behind) (sym is)
     (one_gap at offset stop until before b.size behind (behind_first end bs) (omega arith) (p ∙ gap_up_to-first at end offset x bs t e) (omega arith) ends (omega (arith, front, rest))))
 
 -- the block and the gaps on both sides of it are one gap
-pub released-Replaced : (at end offset before behind : ℕ) (b : BlockAt) (bs : List BlockAt) → Tiled at end bs → block_at bs offset ≡ Some b → before ≡ gap_up_to (gaps at end bs) offset → behind ≡ gap_at (gaps at end bs) (offset + b.size) → Joined (gaps at end bs) (gaps at end (filter (λ b. not (begins offset b)) bs)) offset before b.size behind
+pub released-Replaced : (at end offset before behind : ℕ) (b : BlockAt) (bs : List BlockAt) → Tiled at end bs → block_at bs offset ≡ Some b → before ≡ gap_up_to (gaps at end bs) offset → behind ≡ gap_at (gaps at end bs) (offset + b.size) → Joined (gaps at end bs) (gaps at end (without offset_of offset bs)) offset before b.size behind
 released-Replaced at end offset before behind b [] t h p q = absurd (none_there offset b h)
 released-Replaced at end offset before behind b (x ∷ bs) t h p q =
     elim (cases_eq x.offset offset) [
@@ -115,8 +117,8 @@ released-Replaced at end offset before behind b (x ∷ bs) t h p q =
       | inr n ↦
           let found = sym (block_at-past offset x bs n) ∙ h in
           let lies = block_at-Lies (x.offset + x.size) end offset b bs t.4 found in
-          subst (λ ys. Joined (gaps at end (x ∷ bs)) (gaps at end ys) offset before b.size behind) (sym (filter_past offset x bs n))
-          (Replaced-more (gap at x.offset) (gaps (x.offset + x.size) end bs) (gaps (x.offset + x.size) end (filter (λ b. not (begins offset b)) bs)) _ _
+          subst (λ ys. Joined (gaps at end (x ∷ bs)) (gaps at end ys) offset before b.size behind) (sym (without_past offset_of offset x bs n))
+          (Replaced-more (gap at x.offset) (gaps (x.offset + x.size) end bs) (gaps (x.offset + x.size) end (without offset_of offset bs)) _ _
           (released-Replaced (x.offset + x.size) end offset before behind b bs t.4 found (p ∙ before_past at end offset x bs n) (q ∙ behind_past at end (offset + b.size) x bs (omega (arith, lies.behind)))))
     ]
 
@@ -127,7 +129,7 @@ placed-GapTaken here now x cs same t some e =
     (subst (λ gs. Taken (gaps_of here) gs x.offset x.size (gap_at (gaps_of here) x.offset)) (sym (ap (gaps 8 here.units) e))
     (inserted-Replaced 8 here.units (gap_at (gaps_of here) x.offset) x here.blocks t refl (subst (λ m. 0 < gap_at (gaps_of m) x.offset) (sym same) some)))
 
-pub released-GapsJoined : (here now : Content) (offset : ℕ) (b : BlockAt) (cs : List BlockAt) → here ≡ now → Tiled 8 here.units here.blocks → block_at here.blocks offset ≡ Some b → cs ≡ filter (λ b. not (begins offset b)) here.blocks → GapsJoined now (record here { blocks = cs }) offset b.size
+pub released-GapsJoined : (here now : Content) (offset : ℕ) (b : BlockAt) (cs : List BlockAt) → here ≡ now → Tiled 8 here.units here.blocks → block_at here.blocks offset ≡ Some b → cs ≡ without offset_of offset here.blocks → GapsJoined now (record here { blocks = cs }) offset b.size
 released-GapsJoined here now offset b cs same t found e =
     let lies = block_at-Lies 8 here.units offset b here.blocks t found in
     let ends : end_of here.blocks offset ≡ offset + b.size = end_of-block offset b here.blocks found ∙ ap (λ n. n + b.size) lies.begins in

@@ -6,9 +6,9 @@ ghost use Rattle.ea_model.specs.Choice.{before, fitting, choice, IsFirst};
 ghost use Rattle.ea_mbc.specs.Gaps.{GapTaken, GapsJoined};
 
 use crate::walks::{
-    allocated_units, best_gap, count_of, find_block, free_before, free_behind, gap_from,
-    insert_block, largest_gap, place_of, taken,
+    allocated_units, best_gap, count_of, free_before, free_behind, gap_from, largest_gap, taken,
 };
+use ea_model::keyed::{enter, item_of, take_out};
 use ea_model::{Block, BlockAt, Carried, Inner, OutOfMemory};
 use std::alloc::Global;
 use std::marker::Model;
@@ -120,7 +120,7 @@ impl Mbc {
     {
         let gap = gap_from(self.units, &self.blocks, offset);
         let size = taken(gap, need);
-        insert_block(&mut self.blocks, BlockAt { name, offset, size })?;
+        enter(BlockAt { name, offset, size }, &mut self.blocks)?;
         Ok(size)
     }
 
@@ -141,8 +141,7 @@ impl Mbc {
         // Of the gaps only those directly before and behind the block change: with it they are one gap.
         ensures gaps_joined { IfOk result (GapsJoined self.old self.new offset) }
     {
-        let index = place_of(&self.blocks, offset);
-        let block = self.blocks.remove(index);
+        let block = take_out(offset, &mut self.blocks);
         Ok(block.size)
     }
 
@@ -150,7 +149,11 @@ impl Mbc {
     pub fn block_at(&self, offset: u32) -> Option<Block>
         ensures { result ≡ option_map named (block_at self.now.blocks offset) }
     {
-        find_block(&self.blocks, offset).map(|BlockAt { name, size, .. }| Block { name, size })
+        let block = item_of(offset, &self.blocks)?;
+        Some(Block {
+            name: block.name,
+            size: block.size,
+        })
     }
 
     /// The units of the gap that begins at `offset`.

@@ -3,9 +3,10 @@ ghost use Rattle.std.specs.Prelude.{◌≡◌, ◌<◌, ◌≤◌, fold, length,
 ghost use Rattle.std.specs.List.{position_or_len};
 ghost use Rattle.ea_model.specs.Content.{gap, gaps, gap_at, gap_up_to, allocated, largest, block_at, end_of, taken_of, inserted, Tiled};
 ghost use Rattle.ea_model.specs.Choice.{before, better, fitting, choice};
-ghost use Rattle.ea_mbc.specs.Walks.{begins, follows, next_of};
+ghost use Rattle.ea_mbc.specs.Walks.{next_of};
 
-use ea_model::{BlockAt, Gap, HEADER_UNITS, Inner, MIN_BLOCK, OutOfMemory};
+use ea_model::keyed::item_of;
+use ea_model::{BlockAt, Gap, HEADER_UNITS, Inner, MIN_BLOCK};
 
 /// Whether the choice takes `a` before `b`.
 fn precedes(inner: Inner, a: Gap, b: Gap) -> bool
@@ -90,45 +91,6 @@ pub fn count_of(units: u32, blocks: &[BlockAt]) -> u32
     blocks.len() as u32
 }
 
-/// The block that begins at the offset.
-pub fn find_block(blocks: &[BlockAt], offset: u32) -> Option<BlockAt>
-    ensures { result ≡ block_at blocks.now offset }
-{
-    for block in blocks {
-        if block.offset == offset {
-            return Some(*block);
-        }
-    }
-    None
-}
-
-/// How many blocks begin at the offset or before it.
-fn blocks_up_to(blocks: &[BlockAt], offset: u32) -> usize
-    ensures place { result ≡ position_or_len (follows offset) blocks.now }
-    ensures within { result ≤ length blocks.now }
-{
-    for (i, block) in blocks.iter().enumerate() {
-        if offset < block.offset {
-            return i;
-        }
-    }
-    blocks.len()
-}
-
-/// The place of the block that begins at the offset.
-pub fn place_of(blocks: &[BlockAt], offset: u32) -> usize
-    requires { IsSome (block_at blocks.now offset) }
-    ensures place { result ≡ position_or_len (begins offset) blocks.now }
-    ensures within { result < length blocks.now }
-{
-    for (i, block) in blocks.iter().enumerate() {
-        if block.offset == offset {
-            return i;
-        }
-    }
-    unreachable!()
-}
-
 /// Where the first block behind the offset begins, or the end.
 fn gap_end(units: u32, blocks: &[BlockAt], offset: u32) -> u32
     ensures { result ≡ next_of units offset blocks.now }
@@ -156,7 +118,7 @@ pub fn free_behind(units: u32, blocks: &[BlockAt], offset: u32) -> u32
     requires begins { IsSome (block_at blocks.now offset) }
     ensures { result ≡ gap_at (gaps 8 units blocks.now) (end_of blocks.now offset) }
 {
-    match find_block(blocks, offset) {
+    match item_of(offset, blocks) {
         Some(block) => gap_end(units, blocks, offset) - (offset + block.size),
         None => unreachable!(),
     }
@@ -184,16 +146,4 @@ pub fn taken(gap: u32, need: u32) -> u32
     ensures { result ≡ taken_of gap need }
 {
     if gap - need >= MIN_BLOCK { need } else { gap }
-}
-
-/// Puts the block among the others.
-pub fn insert_block(blocks: &mut Vec<BlockAt>, block: BlockAt) -> Result<(), OutOfMemory>
-    ensures ok { OnOk result (blocks.new.items ≡ inserted block blocks.old.items) }
-    ensures err { OnErr result (blocks.new.items ≡ blocks.old.items) }
-{
-    let index = blocks_up_to(blocks, block.offset);
-    match blocks.insert(index, block) {
-        Ok(()) => Ok(()),
-        Err(_) => Err(OutOfMemory),
-    }
 }

@@ -1,8 +1,8 @@
 -- Items by rising key, with one more and without one.
-use Rattle.std.proofs.Common.{suc, ◌≡◌, ◌≢◌, ℕ, ◌+◌, ◌<◌, ◌≤◌, true, false, List, [], ◌∷◌, length, get_or, sym, ap, ◌∙◌, subst, refl, inl, inr, arith}
-use Rattle.std.specs.Prelude.{insert, remove, find, Option, Some, None, IsSome, ◌==◌, if◌then◌else◌, All, AllPairs}
+use Rattle.std.proofs.Common.{suc, ◌≡◌, ◌≢◌, ℕ, ◌+◌, ◌<◌, ◌≤◌, true, false, cond, List, [], ◌∷◌, length, get_or, sym, ap, ◌∙◌, subst, refl, inl, inr, arith}
+use Rattle.std.specs.Prelude.{insert, remove, Option, Some, None, IsSome, ◌==◌, if◌then◌else◌, All, AllPairs}
 use Rattle.std.specs.List.{position_or_len, list_any}
-use Rattle.std.proofs.lemmas.Bool.{cases_Bool, cases_lt, cases_eq}
+use Rattle.std.proofs.lemmas.Bool.{cases_lt, cases_eq, cond-true, cond-false}
 use Rattle.std.proofs.lemmas.List.Elements.{All-nil, All-cons, All-head, All-tail, All-weaker}
 use Rattle.std.proofs.lemmas.List.Kept.{AllPairs-cons}
 use Rattle.std.proofs.lemmas.List.Folds.{find_at}
@@ -21,6 +21,12 @@ insert_cons x y ys n = let e : 1 + n ≡ suc n = omega arith in rw e refl
 
 remove_cons : {A : Type 0} (y : A) (ys : List A) (n : ℕ) → remove (y ∷ ys) (1 + n) ≡ y ∷ remove ys n
 remove_cons y ys n = let e : 1 + n ≡ suc n = omega arith in rw e refl
+
+if_same : {A : Type 0} (m n : ℕ) (x y : A) → m ≡ n → (if m == n then x else y) ≡ x
+if_same m n x y e = cond-true (m == n) x y (grind arith)
+
+if_other : {A : Type 0} (m n : ℕ) (x y : A) → m ≢ n → (if m == n then x else y) ≡ y
+if_other m n x y e = cond-false (m == n) x y (grind arith)
 
 module _ {A : Type 0} (key_of : A → ℕ) where
   pub entered_here : (x y : A) (ys : List A) → key_of x < key_of y → entered key_of x (y ∷ ys) ≡ x ∷ y ∷ ys
@@ -79,102 +85,123 @@ module _ {A : Type 0} (key_of : A → ℕ) where
   pub rising-entered : (x : A) (ys : List A) → AllPairs (IsBelow key_of) ys → All (λ y. key_of y ≢ key_of x) ys → AllPairs (IsBelow key_of) (entered key_of x ys)
   rising-entered x ys rising other = pairs-entered (IsBelow key_of) x ys rising rising (λ i d within lt. lt) (λ i d within le. omega (arith, other i d within))
 
-  pub has_key-is : (key : ℕ) (x : A) → has_key key_of key x ≡ true → key_of x ≡ key
-  has_key-is key x t = grind arith
-
-  pub has_key-here : (key : ℕ) (x : A) → key_of x ≡ key → has_key key_of key x ≡ true
+  has_key-here : (key : ℕ) (x : A) → key_of x ≡ key → has_key key_of key x ≡ true
   has_key-here key x e = grind arith
 
-  pub has_key-past : (key : ℕ) (x : A) → key_of x ≢ key → has_key key_of key x ≡ false
+  has_key-past : (key : ℕ) (x : A) → key_of x ≢ key → has_key key_of key x ≡ false
   has_key-past key x n = grind arith
 
-  pub item_here : (key : ℕ) (x : A) (xs : List A) → has_key key_of key x ≡ true → item_at key_of (x ∷ xs) key ≡ Some x
-  item_here key x xs t = rw t refl
+  pub item_here : (key : ℕ) (x : A) (xs : List A) → key_of x ≡ key → item_at key_of (x ∷ xs) key ≡ Some x
+  item_here key x xs e = cond-true (has_key key_of key x) (Some x) (item_at key_of xs key) (has_key-here key x e)
 
-  pub item_past : (key : ℕ) (x : A) (xs : List A) → has_key key_of key x ≡ false → item_at key_of (x ∷ xs) key ≡ item_at key_of xs key
-  item_past key x xs f = rw f refl
+  pub item_past : (key : ℕ) (x : A) (xs : List A) → key_of x ≢ key → item_at key_of (x ∷ xs) key ≡ item_at key_of xs key
+  item_past key x xs n = cond-false (has_key key_of key x) (Some x) (item_at key_of xs key) (has_key-past key x n)
 
-  position_first : (key : ℕ) (x : A) (xs : List A) → has_key key_of key x ≡ true → position_or_len (has_key key_of key) (x ∷ xs) ≡ 0
-  position_first key x xs t = rw t refl
+  position_first : (key : ℕ) (x : A) (xs : List A) → key_of x ≡ key → position_or_len (has_key key_of key) (x ∷ xs) ≡ 0
+  position_first key x xs e = let t = has_key-here key x e in rw t refl
 
-  position_past : (key : ℕ) (x : A) (xs : List A) → has_key key_of key x ≡ false → position_or_len (has_key key_of key) (x ∷ xs) ≡ 1 + position_or_len (has_key key_of key) xs
-  position_past key x xs f = rw f refl
+  position_past : (key : ℕ) (x : A) (xs : List A) → key_of x ≢ key → position_or_len (has_key key_of key) (x ∷ xs) ≡ 1 + position_or_len (has_key key_of key) xs
+  position_past key x xs n = let f = has_key-past key x n in rw f refl
 
-  pub without_here : (key : ℕ) (x : A) (xs : List A) → has_key key_of key x ≡ true → without key_of key (x ∷ xs) ≡ without key_of key xs
-  without_here key x xs t = rw t refl
+  pub without_here : (key : ℕ) (x : A) (xs : List A) → key_of x ≡ key → without key_of key (x ∷ xs) ≡ without key_of key xs
+  without_here key x xs e = let t = has_key-here key x e in rw t refl
 
-  pub without_past : (key : ℕ) (x : A) (xs : List A) → has_key key_of key x ≡ false → without key_of key (x ∷ xs) ≡ x ∷ without key_of key xs
-  without_past key x xs f = rw f refl
+  pub without_past : (key : ℕ) (x : A) (xs : List A) → key_of x ≢ key → without key_of key (x ∷ xs) ≡ x ∷ without key_of key xs
+  without_past key x xs n = let f = has_key-past key x n in rw f refl
 
-  pub without_others : (key : ℕ) (xs : List A) → All (λ x. has_key key_of key x ≡ false) xs → without key_of key xs ≡ xs
-  without_others key [] a = refl
-  without_others key (x ∷ xs) a =
-      without_past key x xs (All-head (λ y. has_key key_of key y ≡ false) x xs a) ∙ ap (λ ys. x ∷ ys) (without_others key xs (All-tail (λ y. has_key key_of key y ≡ false) x xs a))
+  pub without_none : (key : ℕ) (xs : List A) → All (λ x. key_of x ≢ key) xs → without key_of key xs ≡ xs
+  without_none key [] a = refl
+  without_none key (x ∷ xs) a =
+      without_past key x xs (All-head (λ y. key_of y ≢ key) x xs a) ∙ ap (λ ys. x ∷ ys) (without_none key xs (All-tail (λ y. key_of y ≢ key) x xs a))
 
   -- the items behind one with the key have other keys
-  pub others : (key : ℕ) (x : A) (xs : List A) → AllPairs (IsBelow key_of) (x ∷ xs) → has_key key_of key x ≡ true → All (λ y. has_key key_of key y ≡ false) xs
-  others key x xs rising t = All-weaker (IsBelow key_of x) (λ y. has_key key_of key y ≡ false) (λ y b. above key x y b t) xs (pairs_head (IsBelow key_of) x xs rising) where
-    above : (key : ℕ) (x y : A) → IsBelow key_of x y → has_key key_of key x ≡ true → has_key key_of key y ≡ false
-    above key x y b t = grind arith
+  pub others : (key : ℕ) (x : A) (xs : List A) → AllPairs (IsBelow key_of) (x ∷ xs) → key_of x ≡ key → All (λ y. key_of y ≢ key) xs
+  others key x xs rising e = All-weaker (IsBelow key_of x) (λ y. key_of y ≢ key) (λ y below same. omega arith) xs (pairs_head (IsBelow key_of) x xs rising)
 
   -- taking out the place of the key takes out the item
   pub remove-without : (key : ℕ) (xs : List A) → AllPairs (IsBelow key_of) xs → position_or_len (has_key key_of key) xs < length xs → remove xs (position_or_len (has_key key_of key) xs) ≡ without key_of key xs
   remove-without key [] rising lt = absurd (omega arith)
   remove-without key (x ∷ xs) rising lt =
-      elim (cases_Bool (has_key key_of key x)) [
-        | inl t ↦ ap (remove (x ∷ xs)) (position_first key x xs t) ∙ sym (without_here key x xs t ∙ without_others key xs (others key x xs rising t))
-        | inr f ↦
-            let past = position_past key x xs f in
-            ap (remove (x ∷ xs)) past ∙ remove_cons x xs (position_or_len (has_key key_of key) xs) ∙ ap (λ ys. x ∷ ys) (remove-without key xs (pairs_tail (IsBelow key_of) x xs rising) (omega arith)) ∙ sym (without_past key x xs f)
+      elim (cases_eq (key_of x) key) [
+        | inl e ↦ ap (remove (x ∷ xs)) (position_first key x xs e) ∙ sym (without_here key x xs e ∙ without_none key xs (others key x xs rising e))
+        | inr n ↦
+            let past = position_past key x xs n in
+            ap (remove (x ∷ xs)) past ∙ remove_cons x xs (position_or_len (has_key key_of key) xs) ∙ ap (λ ys. x ∷ ys) (remove-without key xs (pairs_tail (IsBelow key_of) x xs rising) (omega arith)) ∙ sym (without_past key x xs n)
       ]
 
   -- the item at the place of the key
   pub item_at-place : (key : ℕ) (xs : List A) (d : A) → position_or_len (has_key key_of key) xs < length xs → item_at key_of xs key ≡ Some (get_or xs (position_or_len (has_key key_of key) xs) d)
   item_at-place key xs d within = find_at (has_key key_of key) xs ∙ slice_get-get_or xs (position_or_len (has_key key_of key) xs) d within
 
-  -- the item with a key, where another item is entered
+  item_cons : (key : ℕ) (x : A) (ys zs : List A) → item_at key_of ys key ≡ item_at key_of zs key → item_at key_of (x ∷ ys) key ≡ item_at key_of (x ∷ zs) key
+  item_cons key x ys zs e = ap (λ o. cond (has_key key_of key x) (Some x) o) e
+
+  -- an item of a new key is found by it once it is entered, and those of other keys are found as before
+  pub item_at-new : (x : A) (ys : List A) → All (λ y. key_of y ≢ key_of x) ys → item_at key_of (entered key_of x ys) (key_of x) ≡ Some x
+  item_at-new x [] a = item_here (key_of x) x [] refl
+  item_at-new x (y ∷ ys) a =
+      elim (cases_lt (key_of x) (key_of y)) [
+        | inl lt ↦ ap (λ zs. item_at key_of zs (key_of x)) (entered_here x y ys lt) ∙ item_here (key_of x) x (y ∷ ys) refl
+        | inr le ↦
+            ap (λ zs. item_at key_of zs (key_of x)) (entered_past x y ys le) ∙ item_past (key_of x) y (entered key_of x ys) (All-head (λ z. key_of z ≢ key_of x) y ys a)
+            ∙ item_at-new x ys (All-tail (λ z. key_of z ≢ key_of x) y ys a)
+      ]
+
+  pub item_at-old : (key : ℕ) (x : A) (ys : List A) → key ≢ key_of x → item_at key_of (entered key_of x ys) key ≡ item_at key_of ys key
+  item_at-old key x [] n = item_past key x [] (λ e. n (sym e))
+  item_at-old key x (y ∷ ys) n =
+      elim (cases_lt (key_of x) (key_of y)) [
+        | inl lt ↦ ap (λ zs. item_at key_of zs key) (entered_here x y ys lt) ∙ item_past key x (y ∷ ys) (λ e. n (sym e))
+        | inr le ↦ ap (λ zs. item_at key_of zs key) (entered_past x y ys le) ∙ item_cons key y (entered key_of x ys) ys (item_at-old key x ys n)
+      ]
+
   pub item_at-entered : (key : ℕ) (x : A) (ys : List A) → All (λ y. key_of y ≢ key_of x) ys → item_at key_of (entered key_of x ys) key ≡ (if key == key_of x then Some x else item_at key_of ys key)
-  item_at-entered key x [] a = only key x where
-    only : (key : ℕ) (x : A) → item_at key_of (x ∷ []) key ≡ (if key == key_of x then Some x else item_at key_of [] key)
-    only key x = grind arith
-  item_at-entered key x (y ∷ ys) a = more key x y ys (All-head (λ z. key_of z ≢ key_of x) y ys a) (item_at-entered key x ys (All-tail (λ z. key_of z ≢ key_of x) y ys a)) where
-    more : (key : ℕ) (x y : A) (ys : List A) → key_of y ≢ key_of x → item_at key_of (entered key_of x ys) key ≡ (if key == key_of x then Some x else item_at key_of ys key)
-        → item_at key_of (entered key_of x (y ∷ ys)) key ≡ (if key == key_of x then Some x else item_at key_of (y ∷ ys) key)
-    more key x y ys other e =
-        elim (cases_lt (key_of x) (key_of y)) [
-          | inl lt ↦ elim (cases_eq key (key_of x)) [ inl p ↦ grind arith | inr q ↦ grind arith ]
-          | inr le ↦ elim (cases_eq key (key_of x)) [ inl p ↦ grind arith | inr q ↦ grind arith ]
-        ]
+  item_at-entered key x ys a =
+      elim (cases_eq key (key_of x)) [
+        | inl e ↦ ap (item_at key_of (entered key_of x ys)) e ∙ item_at-new x ys a ∙ sym (if_same key (key_of x) (Some x) (item_at key_of ys key) e)
+        | inr n ↦ item_at-old key x ys n ∙ sym (if_other key (key_of x) (Some x) (item_at key_of ys key) n)
+      ]
 
-  -- and where the item with a key is taken out
+  -- none is found by the key of one that is taken out, and those of other keys are found as before
+  pub item_at-gone : (key : ℕ) (xs : List A) → item_at key_of (without key_of key xs) key ≡ None
+  item_at-gone key [] = refl
+  item_at-gone key (x ∷ xs) =
+      elim (cases_eq (key_of x) key) [
+        | inl e ↦ ap (λ ys. item_at key_of ys key) (without_here key x xs e) ∙ item_at-gone key xs
+        | inr n ↦ ap (λ ys. item_at key_of ys key) (without_past key x xs n) ∙ item_past key x (without key_of key xs) n ∙ item_at-gone key xs
+      ]
+
+  pub item_at-stays : (key gone : ℕ) (xs : List A) → key ≢ gone → item_at key_of (without key_of gone xs) key ≡ item_at key_of xs key
+  item_at-stays key gone [] n = refl
+  item_at-stays key gone (x ∷ xs) n =
+      elim (cases_eq (key_of x) gone) [
+        | inl e ↦ ap (λ ys. item_at key_of ys key) (without_here gone x xs e) ∙ item_at-stays key gone xs n ∙ sym (item_past key x xs (λ p. n (sym p ∙ e)))
+        | inr m ↦ ap (λ ys. item_at key_of ys key) (without_past gone x xs m) ∙ item_cons key x (without key_of gone xs) xs (item_at-stays key gone xs n)
+      ]
+
   pub item_at-without : (key gone : ℕ) (xs : List A) → item_at key_of (without key_of gone xs) key ≡ (if key == gone then None else item_at key_of xs key)
-  item_at-without key gone [] = none key gone where
-    none : (key gone : ℕ) → item_at key_of [] key ≡ (if key == gone then None else item_at key_of [] key)
-    none key gone = grind arith
-  item_at-without key gone (x ∷ xs) =
-      let more = item_at-without key gone xs in
-      elim (cases_Bool (has_key key_of gone x)) [
-        | inl t ↦ ap (λ ys. item_at key_of ys key) (without_here gone x xs t) ∙ more ∙ same key gone x (item_at key_of xs key) t
-        | inr f ↦
-            ap (λ ys. item_at key_of ys key) (without_past gone x xs f)
-            ∙ elim (cases_Bool (has_key key_of key x)) [
-              | inl t ↦ item_here key x (without key_of gone xs) t ∙ stays key gone x f t ∙ ap (λ o. if key == gone then None else o) (sym (item_here key x xs t))
-              | inr g ↦ item_past key x (without key_of gone xs) g ∙ more ∙ ap (λ o. if key == gone then None else o) (sym (item_past key x xs g))
-            ]
-      ] where
-        same : (key gone : ℕ) (x : A) (o : Option A) → has_key key_of gone x ≡ true → (if key == gone then None else o) ≡ (if key == gone then None else (if has_key key_of key x then Some x else o))
-        same key gone x o t = grind arith
-
-        stays : (key gone : ℕ) (x : A) → has_key key_of gone x ≡ false → has_key key_of key x ≡ true → Some x ≡ (if key == gone then None else Some x)
-        stays key gone x f t = grind arith
+  item_at-without key gone xs =
+      elim (cases_eq key gone) [
+        | inl e ↦ ap (item_at key_of (without key_of gone xs)) e ∙ item_at-gone gone xs ∙ sym (if_same key gone None (item_at key_of xs key) e)
+        | inr n ↦ item_at-stays key gone xs n ∙ sym (if_other key gone None (item_at key_of xs key) n)
+      ]
 
   -- where one has the key, it is found
   pub any-item : (key : ℕ) (xs : List A) → list_any (has_key key_of key) xs ≡ true → IsSome (item_at key_of xs key)
   any-item key [] h = absurd cc
   any-item key (x ∷ xs) h =
-      elim (cases_Bool (has_key key_of key x)) [
-        | inl t ↦ subst (λ o. IsSome o) (sym (item_here key x xs t)) refl
-        | inr f ↦ subst (λ o. IsSome o) (sym (item_past key x xs f)) (any-item key xs (rest key x xs f h))
+      elim (cases_eq (key_of x) key) [
+        | inl e ↦ subst (λ o. IsSome o) (sym (item_here key x xs e)) refl
+        | inr n ↦ subst (λ o. IsSome o) (sym (item_past key x xs n)) (any-item key xs (rest key x xs n h))
       ] where
-        rest : (key : ℕ) (x : A) (xs : List A) → has_key key_of key x ≡ false → list_any (has_key key_of key) (x ∷ xs) ≡ true → list_any (has_key key_of key) xs ≡ true
-        rest key x xs f h = grind arith
+        rest : (key : ℕ) (x : A) (xs : List A) → key_of x ≢ key → list_any (has_key key_of key) (x ∷ xs) ≡ true → list_any (has_key key_of key) xs ≡ true
+        rest key x xs n h = grind arith
+
+  -- where none is found, each has another key
+  pub none-other : (key : ℕ) (xs : List A) → item_at key_of xs key ≡ None → All (λ x. key_of x ≢ key) xs
+  none-other key [] h = All-nil (λ x. key_of x ≢ key)
+  none-other key (x ∷ xs) h =
+      elim (cases_eq (key_of x) key) [
+        | inl e ↦ absurd (let some : Some x ≡ None = sym (item_here key x xs e) ∙ h in cc)
+        | inr n ↦ All-cons (λ y. key_of y ≢ key) x xs n (none-other key xs (sym (item_past key x xs n) ∙ h))
+      ]

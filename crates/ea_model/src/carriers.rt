@@ -1,5 +1,7 @@
 //! Carriers, blocks and gaps.
 
+use crate::keyed::Keyed;
+
 /// How a gap is chosen inside a carrier.
 #[derive(Debug, Clone, Copy, PartialEq, Eq)]
 pub enum Inner {
@@ -29,6 +31,14 @@ pub struct BlockAt {
     pub offset: u32,
     /// Its units, the header included.
     pub size: u32,
+}
+
+impl Keyed for BlockAt {
+    ghost key_of = { λ b. b.offset };
+
+    fn key(&self) -> u32 {
+        self.offset
+    }
 }
 
 /// What is known of a block at a given offset.
@@ -66,6 +76,14 @@ pub struct Segment {
     /// Its first page.
     pub start: u32,
     pub pages: u32,
+}
+
+impl Keyed for Segment {
+    ghost key_of = { λ s. s.start };
+
+    fn key(&self) -> u32 {
+        self.start
+    }
 }
 
 /// The kinds of carriers.
