@@ -73,6 +73,19 @@ pub fn enter<T: Keyed + Drop>(item: T, items: &mut Vec<T>) -> Result<(), OutOfMe
     Ok(())
 }
 
+/// Puts an item among the others, by its key, where there is room. It takes no memory.
+pub fn enter_within<T: Keyed + Drop>(item: T, items: &mut Vec<T>)
+    requires { vec_len items.old < vec_capacity items.old }
+    ensures items { items.new.items ≡ entered T.key_of item items.old.items }
+    ensures len { vec_len items.new ≡ vec_len items.old + 1 }
+    ensures capacity { vec_capacity items.new ≡ vec_capacity items.old }
+{
+    match enter(item, items) {
+        Ok(()) => (),
+        Err(_) => unreachable!(),
+    }
+}
+
 /// Takes out the item with the key, which is there.
 pub fn take_out<T: Keyed>(key: u32, items: &mut Vec<T>) -> T
     requires there { IsSome (item_at T.key_of items.old.items key) }

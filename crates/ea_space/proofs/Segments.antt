@@ -1,13 +1,14 @@
 -- Segments that lie one after another.
 use Rattle.std.proofs.Common.{suc, zero, ◌≡◌, ◌≢◌, ℕ, ◌+◌, ◌-◌, ◌<◌, ◌≤◌, true, false, List, [], ◌∷◌, ◌++◌, length, get_or, set, drop, sym, ap, ◌∙◌, subst, refl, inl, inr, ◌⊎◌, arith}
-use Rattle.std.specs.Prelude.{insert, remove, Any}
+use Rattle.std.specs.Prelude.{remove, Any}
 use Rattle.std.specs.List.{position_or_len}
 use Rattle.std.proofs.lemmas.Bool.{cases_lt}
 use Rattle.std.proofs.lemmas.List.{drop_more, get_or_default}
 use Rattle.std.proofs.lemmas.List.Elements.{All-head, All-tail}
 use Rattle.ea_model.specs.declared.carriers.Segment.{Segment}
-use Rattle.ea_model.specs.Region.{stretch, entered, covers, cut_from, Laid}
-use Rattle.ea_space.specs.Pages.{IsBeside, IsApart, IsTailOf, IsTail, follows}
+use Rattle.ea_model.specs.Region.{stretch, with_segment, covers, cut_from, Laid}
+use Rattle.ea_model.proofs.Rising.{entered_here, entered_past}
+use Rattle.ea_space.specs.Pages.{IsBeside, IsApart, IsTailOf, IsTail}
 
 -- the default of an index past the end
 abbrev pub no_segment : Segment
@@ -27,9 +28,6 @@ Laid-earlier a at end (s ∷ ss) le t = (omega arith, t.1, t.2)
 pub Laid-next : (at end : ℕ) (ss : List Segment) (i : ℕ) → i < length ss → Laid at end (drop i ss) → Laid at end (get_or ss i no_segment ∷ drop (i + 1) ss)
 Laid-next at end ss i h t = rw (drop_more ss i no_segment h) at t
 
-insert_cons : (x s : Segment) (ss : List Segment) (n : ℕ) → insert (s ∷ ss) (1 + n) x ≡ s ∷ insert ss n x
-insert_cons x s ss n = let e : 1 + n ≡ suc n = omega arith in rw e refl
-
 remove_cons : (s : Segment) (ss : List Segment) (n : ℕ) → remove (s ∷ ss) (1 + n) ≡ s ∷ remove ss n
 remove_cons s ss n = let e : 1 + n ≡ suc n = omega arith in rw e refl
 
@@ -39,37 +37,17 @@ set_cons x s ss n = let e : 1 + n ≡ suc n = omega arith in rw e refl
 get_or_cons : (s d : Segment) (ss : List Segment) (n : ℕ) → get_or (s ∷ ss) (1 + n) d ≡ get_or ss n d
 get_or_cons s d ss n = let e : 1 + n ≡ suc n = omega arith in rw e refl
 
-entered_more : (x s : Segment) (ss : List Segment) → insert ss (position_or_len (follows x.start) ss) x ≡ entered x ss → insert (s ∷ ss) (position_or_len (follows x.start) (s ∷ ss)) x ≡ entered x (s ∷ ss)
-entered_more x s ss more = elim (cases_lt x.start s.start) [ inl p ↦ grind arith | inr q ↦ grind (arith, insert_cons x s ss (position_or_len (follows x.start) ss)) ]
-
--- a segment is entered before the first one behind its start
-pub insert-entered : (x : Segment) (ss : List Segment) → insert ss (position_or_len (follows x.start) ss) x ≡ entered x ss
-insert-entered x [] = refl
-insert-entered x (s ∷ ss) = entered_more x s ss (insert-entered x ss)
-
-pub entered_here : (x s : Segment) (ss : List Segment) → x.start < s.start → entered x (s ∷ ss) ≡ x ∷ s ∷ ss
-entered_here x s ss h = grind arith
-
-pub entered_past : (x s : Segment) (ss : List Segment) → s.start ≤ x.start → entered x (s ∷ ss) ≡ s ∷ entered x ss
-entered_past x s ss h = grind arith
-
--- there is one segment more
-pub length-entered : (x : Segment) (ss : List Segment) → length (entered x ss) ≡ length ss + 1
-length-entered x [] = refl
-length-entered x (s ∷ ss) =
-    elim (cases_lt x.start s.start) [
-      | inl lt ↦ ap length (entered_here x s ss lt) ∙ omega arith
-      | inr le ↦ ap length (entered_past x s ss le) ∙ omega (arith, length-entered x ss)
-    ]
+abbrev pub start_of : Segment → ℕ
+start_of s = s.start
 
 -- still laid with a segment that meets no other
-pub Laid-entered : (at end : ℕ) (x : Segment) (ss : List Segment) → Laid at end ss → at ≤ x.start → x.start + x.pages ≤ end → 0 < x.pages → IsApart x.start x.pages ss → Laid at end (entered x ss)
+pub Laid-entered : (at end : ℕ) (x : Segment) (ss : List Segment) → Laid at end ss → at ≤ x.start → x.start + x.pages ≤ end → 0 < x.pages → IsApart x.start x.pages ss → Laid at end (with_segment x ss)
 Laid-entered at end x [] t behind before some apart = (behind, some, before)
 Laid-entered at end x (s ∷ ss) t behind before some apart =
     let beside : IsBeside x.start x.pages s = All-head (IsBeside x.start x.pages) s ss apart in
     elim (cases_lt x.start s.start) [
-      | inl lt ↦ subst (Laid at end) (sym (entered_here x s ss lt)) (behind, some, elim beside [ inl p ↦ absurd (omega (arith, t.1)) | inr q ↦ (q, t.1, t.2) ])
-      | inr le ↦ subst (Laid at end) (sym (entered_past x s ss le)) (t.0, t.1, elim beside [ inl p ↦ Laid-entered (s.start + s.pages) end x ss t.2 p before some (All-tail (IsBeside x.start x.pages) s ss apart) | inr q ↦ absurd (omega arith) ])
+      | inl lt ↦ subst (Laid at end) (sym (entered_here start_of x s ss lt)) (behind, some, elim beside [ inl p ↦ absurd (omega (arith, t.1)) | inr q ↦ (q, t.1, t.2) ])
+      | inr le ↦ subst (Laid at end) (sym (entered_past start_of x s ss le)) (t.0, t.1, elim beside [ inl p ↦ Laid-entered (s.start + s.pages) end x ss t.2 p before some (All-tail (IsBeside x.start x.pages) s ss apart) | inr q ↦ absurd (omega arith) ])
     ]
 
 -- a segment covers the page, or it lies beside it

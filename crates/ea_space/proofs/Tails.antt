@@ -3,9 +3,10 @@ use Rattle.std.proofs.Common.{suc, ℕ, ◌+◌, ◌-◌, ◌<◌, ◌≤◌, Li
 use Rattle.std.specs.Prelude.{Any}
 use Rattle.std.proofs.lemmas.Bool.{cases_lt}
 use Rattle.ea_model.specs.declared.carriers.Segment.{Segment}
-use Rattle.ea_model.specs.Region.{stretch, entered, cut_from, Laid}
+use Rattle.ea_model.specs.Region.{stretch, with_segment, cut_from, Laid}
+use Rattle.ea_model.proofs.Rising.{entered_here, entered_past}
 use Rattle.ea_space.specs.Pages.{IsTailOf, IsTail}
-use Rattle.ea_space.proofs.Segments.{covers_cases, stretch_some, stretch_none, cut_first, cut_past, entered_here, entered_past, IsTail_cases, IsTail_behind}
+use Rattle.ea_space.proofs.Segments.{covers_cases, stretch_some, stretch_none, cut_first, cut_past, start_of, IsTail_cases, IsTail_behind}
 
 any_here : {A : Type 0} (P : A → Type 0) (x : A) (xs : List A) → P x → Any P (x ∷ xs)
 any_here P x xs p = (0, x, omega arith, refl, p)
@@ -14,23 +15,23 @@ any_later : {A : Type 0} (P : A → Type 0) (x : A) (xs : List A) → Any P xs �
 any_later P x xs h = (suc h.0, h.1, omega (arith, h.2), h.3, h.4)
 
 -- the whole of a segment that was entered
-pub IsTail-entered : (x : Segment) (ss : List Segment) → 0 < x.pages → IsTail x.start x.pages (entered x ss)
+pub IsTail-entered : (x : Segment) (ss : List Segment) → 0 < x.pages → IsTail x.start x.pages (with_segment x ss)
 IsTail-entered x [] some = any_here (IsTailOf x.start x.pages) x [] (record { within = omega arith; some = some; to_end = refl })
 IsTail-entered x (s ∷ ss) some =
     elim (cases_lt x.start s.start) [
-      | inl lt ↦ subst (IsTail x.start x.pages) (sym (entered_here x s ss lt)) (any_here (IsTailOf x.start x.pages) x (s ∷ ss) (record { within = omega arith; some = some; to_end = refl }))
-      | inr le ↦ subst (IsTail x.start x.pages) (sym (entered_past x s ss le)) (any_later (IsTailOf x.start x.pages) s (entered x ss) (IsTail-entered x ss some))
+      | inl lt ↦ subst (IsTail x.start x.pages) (sym (entered_here start_of x s ss lt)) (any_here (IsTailOf x.start x.pages) x (s ∷ ss) (record { within = omega arith; some = some; to_end = refl }))
+      | inr le ↦ subst (IsTail x.start x.pages) (sym (entered_past start_of x s ss le)) (any_later (IsTailOf x.start x.pages) s (with_segment x ss) (IsTail-entered x ss some))
     ]
 
 -- beside a segment that was entered
-pub IsTail-entered_other : (at n : ℕ) (x : Segment) (ss : List Segment) → IsTail at n ss → IsTail at n (entered x ss)
+pub IsTail-entered_other : (at n : ℕ) (x : Segment) (ss : List Segment) → IsTail at n ss → IsTail at n (with_segment x ss)
 IsTail-entered_other at n x [] h = any_later (IsTailOf at n) x [] h
 IsTail-entered_other at n x (s ∷ ss) h =
     elim (cases_lt x.start s.start) [
-      | inl lt ↦ subst (IsTail at n) (sym (entered_here x s ss lt)) (any_later (IsTailOf at n) x (s ∷ ss) h)
-      | inr le ↦ subst (IsTail at n) (sym (entered_past x s ss le)) (elim (IsTail_cases at n s ss h) [
-        | inl p ↦ any_here (IsTailOf at n) s (entered x ss) p
-        | inr q ↦ any_later (IsTailOf at n) s (entered x ss) (IsTail-entered_other at n x ss q)
+      | inl lt ↦ subst (IsTail at n) (sym (entered_here start_of x s ss lt)) (any_later (IsTailOf at n) x (s ∷ ss) h)
+      | inr le ↦ subst (IsTail at n) (sym (entered_past start_of x s ss le)) (elim (IsTail_cases at n s ss h) [
+        | inl p ↦ any_here (IsTailOf at n) s (with_segment x ss) p
+        | inr q ↦ any_later (IsTailOf at n) s (with_segment x ss) (IsTail-entered_other at n x ss q)
       ])
     ]
 

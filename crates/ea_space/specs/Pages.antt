@@ -1,5 +1,5 @@
 -- Pages beside taken segments, and within one of them.
-use Rattle.std.specs.Prelude.{◌≡◌, ◌⊎◌, ℕ, ◌+◌, ◌<◌, ◌≤◌, Bool, nat_lt, List, All, Any}
+use Rattle.std.specs.Prelude.{◌≡◌, ◌⊎◌, ℕ, ◌+◌, ◌<◌, ◌≤◌, List, All, Any}
 use Rattle.ea_model.specs.declared.carriers.Segment.{Segment}
 
 -- the pages and the segment do not meet
@@ -19,7 +19,3 @@ pub record IsTailOf (start pages : ℕ) (s : Segment) : Type 0 where
 -- the pages are the whole or the tail of one taken segment
 abbrev pub IsTail : ℕ → ℕ → List Segment → Type 0
 IsTail start pages taken = Any (IsTailOf start pages) taken
-
--- whether the segment begins behind the page
-abbrev pub follows : ℕ → Segment → Bool
-follows page s = nat_lt page s.start

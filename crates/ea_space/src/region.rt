@@ -1,9 +1,10 @@
 //! The region and its calls.
 ghost use Rattle.std.specs.Prelude.{◌≡◌, ◌⊎◌, ℕ, ◌+◌, ◌-◌, ◌^◌, ◌<◌, ◌≤◌, ◌↔◌, [], All, IsNone, IfSome, IfNone, IfOk, length};
-ghost use Rattle.ea_model.specs.Region.{runs_of, lowest_run, longest, entered, cut_from, Laid};
+ghost use Rattle.ea_model.specs.Region.{runs_of, lowest_run, longest, with_segment, cut_from, Laid};
 ghost use Rattle.ea_space.specs.Pages.{IsApart, IsTail};
 
-use crate::walks::{enter, longest_run, lowest_start, place_of};
+use crate::walks::{longest_run, lowest_start, place_of};
+use ea_model::keyed::enter_within;
 use ea_model::{OutOfMemory, Segment};
 use std::alloc::Global;
 use std::marker::Model;
@@ -67,7 +68,7 @@ impl Region {
         requires some { 1 ≤ pages }
         requires room { length self.old.taken < 256 }
         ensures found { result ≡ lowest_run pages (runs_of self.old) }
-        ensures taken { IfSome result (λ start. self.new ≡ record self.old { taken = entered (record { start = start; pages = pages }) self.old.taken }) }
+        ensures taken { IfSome result (λ start. self.new ≡ record self.old { taken = with_segment (record { start = start; pages = pages }) self.old.taken }) }
         ensures none { IfNone result (self.new ≡ self.old) }
 
         // The pages taken lie in the region and met no taken segment.
@@ -82,7 +83,7 @@ impl Region {
     {
         match lowest_start(pages, self.first, self.end, &self.taken) {
             Some(start) => {
-                enter(&mut self.taken, Segment { start, pages });
+                enter_within(Segment { start, pages }, &mut self.taken);
                 Some(start)
             }
             None => None,

@@ -1,8 +1,7 @@
 //! Walks over the taken segments, by rising start.
-ghost use Rattle.std.specs.Prelude.{◌≡◌, ◌<◌, ◌≤◌, length, vec_len, vec_capacity, max, is_some};
+ghost use Rattle.std.specs.Prelude.{◌≡◌, ◌<◌, ◌≤◌, length, max, is_some};
 ghost use Rattle.std.specs.List.{position_or_len};
-ghost use Rattle.ea_model.specs.Region.{stretch, runs, lowest_run, longest, entered, covers, Laid};
-ghost use Rattle.ea_space.specs.Pages.{follows};
+ghost use Rattle.ea_model.specs.Region.{stretch, runs, lowest_run, longest, covers, Laid};
 
 use ea_model::Segment;
 
@@ -47,19 +46,6 @@ pub fn longest_run(first: u32, end: u32, taken: &[Segment]) -> u32
     most.max(end - at)
 }
 
-/// How many segments begin at the page or before it.
-fn segments_up_to(taken: &[Segment], page: u32) -> usize
-    ensures place { result ≡ position_or_len (follows page) taken.now }
-    ensures within { result ≤ length taken.now }
-{
-    for (i, segment) in taken.iter().enumerate() {
-        if page < segment.start {
-            return i;
-        }
-    }
-    taken.len()
-}
-
 /// The place of the first segment that covers the page.
 pub fn place_of(taken: &[Segment], page: u32) -> usize
     requires { position_or_len (covers page) taken.now < length taken.now }
@@ -72,17 +58,4 @@ pub fn place_of(taken: &[Segment], page: u32) -> usize
         }
     }
     unreachable!()
-}
-
-/// Puts the segment among the others, for which there is room.
-pub fn enter(taken: &mut Vec<Segment>, segment: Segment)
-    requires { vec_len taken.old < vec_capacity taken.old }
-    ensures items { taken.new.items ≡ entered segment taken.old.items }
-    ensures capacity { vec_capacity taken.old ≤ vec_capacity taken.new }
-{
-    let index = segments_up_to(taken, segment.start);
-    match taken.insert(index, segment) {
-        Ok(()) => (),
-        Err(_) => unreachable!(),
-    }
 }
