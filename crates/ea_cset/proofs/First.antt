@@ -1,6 +1,6 @@
 -- The first carrier that fits.
 use Rattle.std.proofs.Common.{◌≡◌, ℕ, ◌<◌, ◌≤◌, ◌↔◌, Bool, true, false, List, [], ◌∷◌, refl, sym, subst, inl, inr, arith}
-use Rattle.std.specs.Prelude.{None, IfSome, IsNone, IsTrue, option_map, nat_le, All, Contains}
+use Rattle.std.specs.Prelude.{None, IfSome, IsNone, IsTrue, option_map, nat_le, nat_lt, All, Contains}
 use Rattle.std.specs.Cmp.{IsStrictWeakOrder}
 use Rattle.std.proofs.lemmas.Bool.{cases_lt, leb-true}
 use Rattle.std.proofs.lemmas.List.Elements.{All-nil, All-cons, All-head, All-tail, All-filter, All-contains_itself, filter_passes}
@@ -8,26 +8,15 @@ use Rattle.ea_model.specs.Choice.{first}
 use Rattle.ea_model.proofs.First.{IsLeast, first-All, first-IsLeast, first-none, large-here, large-none, large-past, none-large}
 use Rattle.ea_model.proofs.Options.{both_some, some_map, unmapped}
 use Rattle.ea_cset.specs.declared.keys.Held.{Held}
-use Rattle.ea_cset.specs.Carriers.{is_held, lower, older, fitting, first_number, IsFirstOf}
+use Rattle.ea_model.proofs.Orders.{rising-order, less-order}
+use Rattle.ea_cset.specs.Carriers.{number_of, is_held, lower, older, fitting, first_number, IsFirstOf}
 use Rattle.ea_cset.proofs.Found.{all_held}
 
-lower_one_way : (a b : Held) → lower a b ≡ true → lower b a ≡ false
-lower_one_way a b h = grind arith
-
-lower_chain : (a b c : Held) → lower a b ≡ false → lower b c ≡ false → lower a c ≡ false
-lower_chain a b c h k = grind arith
-
 pub lower-order : IsStrictWeakOrder lower
-lower-order = record { one_way = lower_one_way; chain = lower_chain }
-
-older_one_way : (a b : Held) → older a b ≡ true → older b a ≡ false
-older_one_way a b h = grind arith
-
-older_chain : (a b c : Held) → older a b ≡ false → older b c ≡ false → older a c ≡ false
-older_chain a b c h k = grind arith
+lower-order = rising-order (λ (h : Held). h.key.base)
 
 pub older-order : IsStrictWeakOrder older
-older-order = record { one_way = older_one_way; chain = older_chain }
+older-order = less-order (λ (h : Held). h.key.birth) (λ a b. nat_lt a.key.number b.key.number) (rising-order number_of)
 
 -- none is found exactly where no carrier fits
 pub first_number-none : (before : Held → Held → Bool) (need : ℕ) (hs : List Held) → IsNone (first_number before need hs) ↔ All (λ h. h.fit < need) hs

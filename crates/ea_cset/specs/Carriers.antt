@@ -1,7 +1,7 @@
 -- The carriers of a set, and which of them comes first.
-use Rattle.std.specs.Prelude.{◌≡◌, ◌≢◌, ℕ, ◌<◌, ◌≤◌, Bool, false, not, ◌&&◌, ◌||◌, if◌then◌else◌, nat_lt, nat_le, ◌==◌, List, [], ◌∷◌, Option, All, AllPairs, Any, filter, map, length, find, option_map}
-use Rattle.std.specs.List.{list_any}
-use Rattle.ea_model.specs.Choice.{first}
+use Rattle.std.specs.Prelude.{◌≡◌, ◌≢◌, ℕ, ◌<◌, ◌≤◌, Bool, false, if◌then◌else◌, nat_lt, nat_le, List, Option, All, AllPairs, Any, filter, map, length, is_some, option_map}
+use Rattle.ea_model.specs.Choice.{first, less}
+use Rattle.ea_model.specs.Keyed.{has_key, item_at}
 use Rattle.ea_cset.specs.declared.keys.Held.{Held}
 
 -- the carriers by rising number, and how many there is room for
@@ -9,34 +9,21 @@ pub record Carriers : Type 0 where
   pub held : List Held
   pub room : ℕ
 
--- whether it is the carrier with the number
-abbrev pub has_number : ℕ → Held → Bool
-has_number number h = h.key.number == number
-
--- whether the carrier with the number is among them
-abbrev pub is_held : ℕ → List Held → Bool
-is_held number hs = list_any (has_number number) hs
+-- a carrier's number
+abbrev pub number_of : Held → ℕ
+number_of h = h.key.number
 
 -- the carrier with the number
 abbrev pub carrier_of : List Held → ℕ → Option Held
-carrier_of hs number = find (has_number number) hs
+carrier_of hs number = item_at number_of hs number
 
--- x among the carriers, by its number
-abbrev pub entered : Held → List Held → List Held
-entered x [] = x ∷ []
-entered x (h ∷ hs) = if nat_lt x.key.number h.key.number then x ∷ h ∷ hs else h ∷ entered x hs
-
--- the test for a carrier of a greater number
-abbrev pub is_behind : ℕ → Held → Bool
-is_behind number h = nat_lt number h.key.number
-
--- without the carrier with the number
-abbrev pub without : ℕ → List Held → List Held
-without number hs = filter (λ h. not (has_number number h)) hs
+-- whether the carrier with the number is among them
+abbrev pub is_held : ℕ → List Held → Bool
+is_held number hs = is_some (carrier_of hs number)
 
 -- the carrier, with another fit if it has the number
 abbrev pub with_fit : ℕ → ℕ → Held → Held
-with_fit number fit h = if has_number number h then record { key = h.key; fit = fit } else h
+with_fit number fit h = if has_key number_of number h then record { key = h.key; fit = fit } else h
 
 -- with another fit of the carrier with the number
 abbrev pub refitted : ℕ → ℕ → List Held → List Held
@@ -48,7 +35,7 @@ lower a b = nat_lt a.key.base b.key.base
 
 -- whether a is older than b: by birth, among equals by number
 abbrev pub older : Held → Held → Bool
-older a b = nat_lt a.key.birth b.key.birth || ((a.key.birth == b.key.birth) && nat_lt a.key.number b.key.number)
+older a b = less a.key.birth b.key.birth (nat_lt a.key.number b.key.number)
 
 -- the carriers whose largest gap has at least so many units
 abbrev pub fitting : ℕ → List Held → List Held

@@ -1,5 +1,7 @@
 //! What a set knows of a carrier.
 
+use ea_model::keyed::Keyed;
+
 /// What tells a carrier from the others, and stays the same while it is employed.
 #[derive(Debug, Clone, Copy, PartialEq, Eq)]
 pub struct CarrierKey {
@@ -18,4 +20,12 @@ pub struct Held {
     pub key: CarrierKey,
     /// The units of its largest gap.
     pub fit: u32,
+}
+
+impl Keyed for Held {
+    ghost key_of = { λ h. h.key.number };
+
+    fn key(&self) -> u32 {
+        self.key.number
+    }
 }

@@ -1,10 +1,12 @@
 //! The set and its calls.
 ghost use Rattle.std.specs.Prelude.{◌≡◌, ◌≢◌, ℕ, ◌+◌, ◌<◌, ◌↔◌, [], ◌==◌, if◌then◌else◌, All, AllPairs, Some, None, IsTrue, IsNone, IfSome, IfOk, length, option_map};
-ghost use Rattle.ea_cset.specs.Carriers.{is_held, carrier_of, entered, without, with_fit, refitted, lower, older, first_number, IsBefore, IsFirstOf};
+ghost use Rattle.ea_model.specs.Keyed.{entered, without};
+ghost use Rattle.ea_cset.specs.Carriers.{number_of, is_held, carrier_of, with_fit, refitted, lower, older, first_number, IsBefore, IsFirstOf};
 
 use crate::keys::{CarrierKey, Held};
-use crate::walks::{has_carrier, lowest, oldest, place_behind, place_of};
+use crate::walks::{lowest, oldest};
 use ea_model::OutOfMemory;
+use ea_model::keyed::{enter_within, item_of, place_of, take_out};
 use std::alloc::Global;
 use std::marker::Model;
 
@@ -42,7 +44,7 @@ impl CarrierSet {
     pub fn holds(&self, number: u32) -> bool
         ensures { result ≡ is_held number self.now.held }
     {
-        has_carrier(number, &self.held)
+        item_of(number, &self.held).is_some()
     }
 
     /// Adds a carrier whose largest gap has `fit` units.
@@ -50,32 +52,27 @@ impl CarrierSet {
         requires room { length self.old.held < self.old.room }
         requires number { All (λ h. h.key.number ≢ key.number) self.old.held }
         requires base { All (λ h. h.key.base ≢ key.base) self.old.held }
-        ensures added { self.new ≡ record self.old { held = entered (record { key = key; fit = fit }) self.old.held } }
+        ensures added { self.new ≡ record self.old { held = entered number_of (record { key = key; fit = fit }) self.old.held } }
         ensures count { length self.new.held ≡ length self.old.held + 1 }
         ensures rising { AllPairs IsBefore self.new.held }
 
         // The carrier is found by its number now, and the others are as before.
         ensures carriers { (n : ℕ) → carrier_of self.new.held n ≡ (if n == key.number then Some (record { key = key; fit = fit }) else carrier_of self.old.held n) }
     {
-        let place = place_behind(key.number, &self.held);
-        match self.held.insert(place, Held { key, fit }) {
-            Ok(()) => (),
-            Err(_) => unreachable!(),
-        }
+        enter_within(Held { key, fit }, &mut self.held);
     }
 
     /// Takes the carrier with the number out of the set.
     pub fn remove(&mut self, number: u32)
         requires { IsTrue (is_held number self.old.held) }
-        ensures removed { self.new ≡ record self.old { held = without number self.old.held } }
+        ensures removed { self.new ≡ record self.old { held = without number_of number self.old.held } }
         ensures count { length self.new.held + 1 ≡ length self.old.held }
         ensures rising { AllPairs IsBefore self.new.held }
 
         // The number is free now, and the other carriers are as before.
         ensures carriers { (n : ℕ) → carrier_of self.new.held n ≡ (if n == number then None else carrier_of self.old.held n) }
     {
-        let place = place_of(number, &self.held);
-        self.held.remove(place);
+        take_out(number, &mut self.held);
     }
 
     /// Notes that the largest gap of the carrier with the number now has `fit` units.

@@ -1,8 +1,7 @@
 //! Walks over the carriers of a set.
-ghost use Rattle.std.specs.Prelude.{◌≡◌, ◌<◌, ◌≤◌, Some, IsTrue, length};
-ghost use Rattle.std.specs.List.{position_or_len};
+ghost use Rattle.std.specs.Prelude.{◌≡◌, Some};
 ghost use Rattle.ea_model.specs.Choice.{better};
-ghost use Rattle.ea_cset.specs.Carriers.{has_number, is_behind, is_held, lower, older, first_number};
+ghost use Rattle.ea_cset.specs.Carriers.{lower, older, first_number};
 
 use crate::keys::Held;
 
@@ -57,43 +56,4 @@ pub fn oldest(need: u32, held: &[Held]) -> Option<u32>
         }
     }
     best.map(|h: Held| h.key.number)
-}
-
-/// Whether a carrier has the number.
-pub fn has_carrier(number: u32, held: &[Held]) -> bool
-    ensures { result ≡ is_held number held.now }
-{
-    for h in held {
-        if h.key.number == number {
-            return true;
-        }
-    }
-    false
-}
-
-/// The place of the carrier with the number, which is there.
-pub fn place_of(number: u32, held: &[Held]) -> usize
-    requires { IsTrue (is_held number held.now) }
-    ensures place { result ≡ position_or_len (has_number number) held.now }
-    ensures within { result < length held.now }
-{
-    for (place, h) in held.iter().enumerate() {
-        if h.key.number == number {
-            return place;
-        }
-    }
-    unreachable!()
-}
-
-/// The place of the first carrier with a greater number.
-pub fn place_behind(number: u32, held: &[Held]) -> usize
-    ensures place { result ≡ position_or_len (is_behind number) held.now }
-    ensures within { result ≤ length held.now }
-{
-    for (place, h) in held.iter().enumerate() {
-        if number < h.key.number {
-            return place;
-        }
-    }
-    held.len()
 }

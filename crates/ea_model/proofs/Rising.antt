@@ -1,13 +1,13 @@
 -- Items by rising key, with one more and without one.
-use Rattle.std.proofs.Common.{suc, ◌≡◌, ◌≢◌, ℕ, ◌+◌, ◌<◌, ◌≤◌, true, false, cond, List, [], ◌∷◌, length, get_or, sym, ap, ◌∙◌, subst, refl, inl, inr, arith}
-use Rattle.std.specs.Prelude.{insert, remove, Option, Some, None, IsSome, ◌==◌, if◌then◌else◌, All, AllPairs}
-use Rattle.std.specs.List.{position_or_len, list_any}
-use Rattle.std.proofs.lemmas.Bool.{cases_lt, cases_eq, cond-true, cond-false}
+use Rattle.std.proofs.Common.{suc, ◌≡◌, ◌≢◌, ℕ, ◌+◌, ◌<◌, ◌≤◌, true, false, cond, List, [], ◌∷◌, length, get_or, set, sym, ap, ◌∙◌, subst, refl, inl, inr, arith}
+use Rattle.std.specs.Prelude.{insert, remove, Some, None, option_map, ◌==◌, if◌then◌else◌, All, AllPairs}
+use Rattle.std.specs.List.{position_or_len}
+use Rattle.std.proofs.lemmas.Bool.{cases_lt, cases_eq, cond-true, cond-false, cond_both}
 use Rattle.std.proofs.lemmas.List.Elements.{All-nil, All-cons, All-head, All-tail, All-weaker}
 use Rattle.std.proofs.lemmas.List.Kept.{AllPairs-cons}
 use Rattle.std.proofs.lemmas.List.Folds.{find_at}
 use Rattle.std.proofs.lemmas.Option.{slice_get-get_or}
-use Rattle.ea_model.specs.Keyed.{has_key, is_behind, item_at, entered, without, IsBelow}
+use Rattle.ea_model.specs.Keyed.{has_key, is_behind, item_at, entered, without, changed_at, IsBelow}
 
 -- the pairs of a list with its first item, and without it
 pub pairs_head : {A : Type 0} (R : A → A → Type 0) (x : A) (xs : List A) → AllPairs R (x ∷ xs) → All (R x) xs
@@ -27,6 +27,12 @@ if_same m n x y e = cond-true (m == n) x y (grind arith)
 
 if_other : {A : Type 0} (m n : ℕ) (x y : A) → m ≢ n → (if m == n then x else y) ≡ y
 if_other m n x y e = cond-false (m == n) x y (grind arith)
+
+set_cons : {A : Type 0} (x y : A) (ys : List A) (n : ℕ) → set (y ∷ ys) (1 + n) x ≡ y ∷ set ys n x
+set_cons x y ys n = let e : 1 + n ≡ suc n = omega arith in rw e refl
+
+get_or_cons : {A : Type 0} (y d : A) (ys : List A) (n : ℕ) → get_or (y ∷ ys) (1 + n) d ≡ get_or ys n d
+get_or_cons y d ys n = let e : 1 + n ≡ suc n = omega arith in rw e refl
 
 module _ {A : Type 0} (key_of : A → ℕ) where
   pub entered_here : (x y : A) (ys : List A) → key_of x < key_of y → entered key_of x (y ∷ ys) ≡ x ∷ y ∷ ys
@@ -186,17 +192,6 @@ module _ {A : Type 0} (key_of : A → ℕ) where
         | inr n ↦ item_at-stays key gone xs n ∙ sym (if_other key gone None (item_at key_of xs key) n)
       ]
 
-  -- where one has the key, it is found
-  pub any-item : (key : ℕ) (xs : List A) → list_any (has_key key_of key) xs ≡ true → IsSome (item_at key_of xs key)
-  any-item key [] h = absurd cc
-  any-item key (x ∷ xs) h =
-      elim (cases_eq (key_of x) key) [
-        | inl e ↦ subst (λ o. IsSome o) (sym (item_here key x xs e)) refl
-        | inr n ↦ subst (λ o. IsSome o) (sym (item_past key x xs n)) (any-item key xs (rest key x xs n h))
-      ] where
-        rest : (key : ℕ) (x : A) (xs : List A) → key_of x ≢ key → list_any (has_key key_of key) (x ∷ xs) ≡ true → list_any (has_key key_of key) xs ≡ true
-        rest key x xs n h = grind arith
-
   -- where none is found, each has another key
   pub none-other : (key : ℕ) (xs : List A) → item_at key_of xs key ≡ None → All (λ x. key_of x ≢ key) xs
   none-other key [] h = All-nil (λ x. key_of x ≢ key)
@@ -205,3 +200,51 @@ module _ {A : Type 0} (key_of : A → ℕ) where
         | inl e ↦ absurd (let some : Some x ≡ None = sym (item_here key x xs e) ∙ h in cc)
         | inr n ↦ All-cons (λ y. key_of y ≢ key) x xs n (none-other key xs (sym (item_past key x xs n) ∙ h))
       ]
+
+-- a change of the item with a key
+module _ {A : Type 0} (key_of : A → ℕ) (f : A → A) (key : ℕ) where
+  abbrev change : A → A
+  change x = if has_key key_of key x then f x else x
+
+  pub changed_here : (x : A) (xs : List A) → key_of x ≡ key → changed_at key_of f key (x ∷ xs) ≡ f x ∷ changed_at key_of f key xs
+  changed_here x xs e = ap (λ y. y ∷ changed_at key_of f key xs) (cond-true (has_key key_of key x) (f x) x (has_key-here key_of key x e))
+
+  pub changed_past : (x : A) (xs : List A) → key_of x ≢ key → changed_at key_of f key (x ∷ xs) ≡ x ∷ changed_at key_of f key xs
+  changed_past x xs n = ap (λ y. y ∷ changed_at key_of f key xs) (cond-false (has_key key_of key x) (f x) x (has_key-past key_of key x n))
+
+  pub changed_none : (xs : List A) → All (λ x. key_of x ≢ key) xs → changed_at key_of f key xs ≡ xs
+  changed_none [] a = refl
+  changed_none (x ∷ xs) a = changed_past x xs (All-head (λ y. key_of y ≢ key) x xs a) ∙ ap (λ ys. x ∷ ys) (changed_none xs (All-tail (λ y. key_of y ≢ key) x xs a))
+
+  -- a change at the place of the key is the change of the item
+  pub set-changed : (d : A) (xs : List A) → AllPairs (IsBelow key_of) xs → position_or_len (has_key key_of key) xs < length xs
+      → set xs (position_or_len (has_key key_of key) xs) (f (get_or xs (position_or_len (has_key key_of key) xs) d)) ≡ changed_at key_of f key xs
+  set-changed d [] rising lt = absurd (omega arith)
+  set-changed d (x ∷ xs) rising lt =
+      elim (cases_eq (key_of x) key) [
+        | inl e ↦
+            ap (λ k. set (x ∷ xs) k (f (get_or (x ∷ xs) k d))) (position_first key_of key x xs e)
+            ∙ sym (changed_here x xs e ∙ ap (λ ys. f x ∷ ys) (changed_none xs (others key_of key x xs rising e)))
+        | inr n ↦
+            let k = position_or_len (has_key key_of key) xs in
+            let past = position_past key_of key x xs n in
+            ap (λ j. set (x ∷ xs) j (f (get_or (x ∷ xs) j d))) past
+            ∙ ap (λ y. set (x ∷ xs) (1 + k) (f y)) (get_or_cons x d xs k)
+            ∙ set_cons (f (get_or xs k d)) x xs k
+            ∙ ap (λ ys. x ∷ ys) (set-changed d xs (pairs_tail (IsBelow key_of) x xs rising) (omega arith))
+            ∙ sym (changed_past x xs n)
+      ]
+
+  module _ (keeps : (x : A) → key_of (f x) ≡ key_of x) where
+    key_stays : (x : A) → key_of (change x) ≡ key_of x
+    key_stays x = cond_both (has_key key_of key x) (f x) x (λ y. key_of y ≡ key_of x) (λ _. keeps x) (λ _. refl)
+
+    -- the items are found by the same keys
+    pub item_at-changed : (n : ℕ) (xs : List A) → item_at key_of (changed_at key_of f key xs) n ≡ option_map change (item_at key_of xs n)
+    item_at-changed n [] = refl
+    item_at-changed n (x ∷ xs) =
+        let ys = changed_at key_of f key xs in
+        elim (cases_eq (key_of x) n) [
+          | inl e ↦ item_here key_of n (change x) ys (key_stays x ∙ e) ∙ ap (option_map change) (sym (item_here key_of n x xs e))
+          | inr m ↦ item_past key_of n (change x) ys (λ p. m (sym (key_stays x) ∙ p)) ∙ item_at-changed n xs ∙ ap (option_map change) (sym (item_past key_of n x xs m))
+        ]

@@ -1,5 +1,5 @@
 -- An allocator instance: the carriers that it employs, and the carrier that it would create next.
-use Rattle.std.specs.Prelude.{ℕ, zero, suc, ◌+◌, ◌-◌, ◌*◌, ◌/◌, max, Bool, false, not, ◌||◌, if◌then◌else◌, nat_lt, nat_le, ◌==◌, List, [], ◌∷◌, Option, Some, None, Result, Ok, Err, filter, find, map, length, sum_by, option_map}
+use Rattle.std.specs.Prelude.{ℕ, zero, suc, ◌+◌, ◌-◌, ◌*◌, ◌/◌, max, Bool, false, not, ◌||◌, if◌then◌else◌, nat_lt, nat_le, ◌==◌, List, [], ◌∷◌, Option, Some, None, Result, Ok, Err, filter, find, map, length, sum_by, option_map, is_some}
 use Rattle.std.specs.Option.{option_and_then}
 use Rattle.ea_model.specs.declared.settings.Settings.{Settings}
 use Rattle.ea_model.specs.declared.carriers.Kind.{Kind}
@@ -15,8 +15,7 @@ use Rattle.ea_model.specs.declared.entries.NoCarrier.TheVariants.{Numbers, Space
 use Rattle.ea_model.specs.Content.{Content, gaps_of, gap_at, block_at, taken_of, placed, released, allocated, is_multi}
 use Rattle.ea_model.specs.Strategies.{choice_for, spot_of}
 use Rattle.ea_model.specs.Region.{runs, lowest_run, with_segment}
-use Rattle.std.specs.List.{list_any}
-use Rattle.ea_model.specs.Keyed.{has_key, item_at, entered, without}
+use Rattle.ea_model.specs.Keyed.{item_at, entered, without, changed_at}
 
 -- an instance: its number, from 1, its region from page `first` up to `end`, the contents that it employs by rising number, and how many carriers it created
 pub record Instance : Type 0 where
@@ -66,7 +65,7 @@ content_of cs number = item_at (λ c. c.number) cs number
 
 -- whether a number is in use
 abbrev pub is_used : ℕ → List Content → Bool
-is_used number cs = list_any (has_key (λ c. c.number) number) cs
+is_used number cs = is_some (content_of cs number)
 
 -- the lowest of so many numbers from `number` on that isn't in use
 unfoldable pub unused_from : ℕ → ℕ → List Content → Option ℕ
@@ -122,7 +121,7 @@ creating i p = record i { contents = with_content (created_content i.number Mult
 
 -- the contents where that of the number is changed
 abbrev pub changed : (Content → Content) → ℕ → List Content → List Content
-changed f number cs = map (λ c. if c.number == number then f c else c) cs
+changed f number cs = changed_at (λ c. c.number) f number cs
 
 -- the chosen spot for a block of this need
 abbrev pub chosen_spot : Instance → ℕ → Option Spot

@@ -1,5 +1,5 @@
 -- Items with a key each, by rising key.
-use Rattle.std.specs.Prelude.{ℕ, ◌<◌, Bool, not, if◌then◌else◌, nat_lt, ◌==◌, List, [], ◌∷◌, Option, filter, find}
+use Rattle.std.specs.Prelude.{ℕ, ◌<◌, Bool, not, if◌then◌else◌, nat_lt, ◌==◌, List, [], ◌∷◌, Option, filter, find, map}
 
 module _ {A : Type 0} (key_of : A → ℕ) where
   -- whether the item has the key
@@ -22,6 +22,10 @@ module _ {A : Type 0} (key_of : A → ℕ) where
   -- without the item with the key
   abbrev pub without : ℕ → List A → List A
   without key xs = filter (λ x. not (has_key key x)) xs
+
+  -- the items, where the one with the key is changed
+  abbrev pub changed_at : (A → A) → ℕ → List A → List A
+  changed_at f key xs = map (λ x. if has_key key x then f x else x) xs
 
   -- a has the lower key
   abbrev pub IsBelow : A → A → Type 0
