@@ -13,6 +13,7 @@ use Rattle.ea_model.specs.Choice.{first, IsFirst}
 use Rattle.ea_model.specs.GoodFit.{bin_of, is_inspected, smaller_low, good_fit}
 use Rattle.ea_model.proofs.First.{first-IsFirst, first-none}
 use Rattle.ea_model.proofs.Options.{if_some}
+use Rattle.ea_model.proofs.Orders.{rising-order, less-order}
 
 -- which elements pass a test
 module _ {A : Type 0} (p : A → Bool) where
@@ -86,14 +87,8 @@ module _ {A : Type 0} (address size : A → ℕ) where
   abbrev sooner : A → A → Bool
   sooner a b = smaller_low address size a b
 
-  one_way : (a b : A) → sooner a b ≡ true → sooner b a ≡ false
-  one_way a b h = grind arith
-
-  chain : (a b c : A) → sooner a b ≡ false → sooner b c ≡ false → sooner a c ≡ false
-  chain a b c h k = grind arith
-
   pub smaller_low-order : IsStrictWeakOrder sooner
-  smaller_low-order = record { one_way = one_way; chain = chain }
+  smaller_low-order = less-order size (λ a b. nat_lt (address a) (address b)) (rising-order address)
 
   tied : (a b : A) → sooner a b ≡ false → sooner b a ≡ false → address a ≡ address b
   tied a b h k = grind arith

@@ -1,24 +1,13 @@
 -- The bin of a size, by its greatest power of two.
-use Rattle.std.proofs.Common.{zero, suc, ◌≡◌, ℕ, ◌+◌, ◌-◌, ◌<◌, ◌≤◌, length, ap, ◌∙◌, inl, inr, pow_mono, pow-suc, arith}
-use Rattle.std.specs.Prelude.{◌^◌, ◌*◌, filter, nat_le, nat_lt, if◌then◌else◌, min}
-use Rattle.std.specs.List.{range_with_len}
+use Rattle.std.proofs.Common.{zero, suc, ◌≡◌, ℕ, ◌+◌, ◌-◌, ◌<◌, ◌≤◌, sym, ap, ◌∙◌, inl, inr, pow_mono, pow-suc, arith}
+use Rattle.std.specs.Prelude.{◌^◌, ◌*◌, nat_lt, if◌then◌else◌, min}
 use Rattle.std.proofs.lemmas.Bool.{cases_lt}
-use Rattle.ea_model.specs.GoodFit.{bin_of}
-use Rattle.ea_goodfit.specs.Gaps.{bin}
-
--- how many of the powers of two from 2 ^ a on, n of them, are at most the size
-abbrev powers : ℕ → ℕ → ℕ → ℕ
-powers size a n = length (filter (λ k. nat_le (2 ^ k) size) (range_with_len a n))
-
-counted : (size a n : ℕ) → 2 ^ a ≤ size → powers size a (suc n) ≡ suc (powers size (a + 1) n)
-counted size a n le = grind arith
-
-uncounted : (size a n : ℕ) → size < 2 ^ a → powers size a (suc n) ≡ powers size (a + 1) n
-uncounted size a n lt = grind arith
+use Rattle.ea_model.specs.GoodFit.{bin_of, powers}
+use Rattle.ea_model.proofs.Powers.{counted, uncounted, powers-none, bin_of-large}
 
 -- r is the exponent of the greatest power of two that is at most the size
 powers-top : (size r a n : ℕ) → 2 ^ r ≤ size → size < 2 * 2 ^ r → powers size a n ≡ min n (r + 1 - a)
-powers-top size r a zero low high = omega arith
+powers-top size r a zero low high = omega (arith, powers-none size a)
 powers-top size r a (suc n) low high =
     elim (cases_lt r a) [
       | inl lt ↦
@@ -26,31 +15,21 @@ powers-top size r a (suc n) low high =
           uncounted size a n (omega (arith, pow-suc 2 r)) ∙ powers-top size r (a + 1) n low high ∙ none_left n r a lt
       | inr le ↦
           let p : 2 ^ a ≤ 2 ^ r = pow_mono {i = a} {j = r} le in
-          counted size a n (omega arith) ∙ ap (λ k. suc k) (powers-top size r (a + 1) n low high) ∙ one_left n r a le
+          counted size a n (omega arith) ∙ ap (λ k. 1 + k) (powers-top size r (a + 1) n low high) ∙ one_left n r a le
     ] where
       none_left : (n r a : ℕ) → r < a → min n (r + 1 - (a + 1)) ≡ min (suc n) (r + 1 - a)
       none_left n r a lt = omega arith
 
-      one_left : (n r a : ℕ) → a ≤ r → suc (min n (r + 1 - (a + 1))) ≡ min (suc n) (r + 1 - a)
+      one_left : (n r a : ℕ) → a ≤ r → 1 + min n (r + 1 - (a + 1)) ≡ min (suc n) (r + 1 - a)
       one_left n r a le = omega arith
 
 powers-within : (size a n : ℕ) → powers size a n ≤ n
-powers-within size a zero = omega arith
+powers-within size a zero = omega (arith, powers-none size a)
 powers-within size a (suc n) =
     elim (cases_lt size (2 ^ a)) [
       | inl lt ↦ let more = powers-within size (a + 1) n in omega (arith, uncounted size a n lt)
       | inr le ↦ let more = powers-within size (a + 1) n in omega (arith, counted size a n le)
     ]
-
-small : (size k : ℕ) → size < 64 → (if nat_lt size 64 then size else k) ≡ size
-small size k lt = grind arith
-
-large : (size k : ℕ) → 64 ≤ size → (if nat_lt size 64 then size else k) ≡ k
-large size k le = grind arith
-
-pub bin-small : (size : ℕ) → size < 64 → bin size ≡ size
-unfolding bin
-bin-small size lt = small size (63 + powers size 6 26) lt
 
 at_least_six : (size r : ℕ) → 64 ≤ size → size < 2 * 2 ^ r → 6 ≤ r
 at_least_six size r le high =
@@ -64,21 +43,19 @@ at_least_six size r le high =
 least_top : (r : ℕ) → 6 ≤ r → r < 32 → 63 + min 26 (r + 1 - 6) ≡ 58 + r
 least_top r six top = omega arith
 
-pub bin-large : (size r : ℕ) → 64 ≤ size → 2 ^ r ≤ size → size < 2 * 2 ^ r → r < 32 → bin size ≡ 58 + r
-unfolding bin
-bin-large size r le low high top =
-    large size (63 + powers size 6 26) le ∙ ap (λ k. 63 + k) (powers-top size r 6 26 low high) ∙ least_top r (at_least_six size r le high) top
+pub bin_of-top : (size r : ℕ) → 64 ≤ size → 2 ^ r ≤ size → size < 2 * 2 ^ r → r < 32 → bin_of size ≡ 58 + r
+bin_of-top size r le low high top = sym (bin_of-large size le) ∙ ap (λ k. 63 + k) (powers-top size r 6 26 low high) ∙ least_top r (at_least_six size r le high) top
 
 either_below : (size k : ℕ) → k ≤ 26 → (if nat_lt size 64 then size else 63 + k) < 90
 either_below size k le = grind arith
 
 -- there are 90 bins
-pub bin-below : (size : ℕ) → bin size < 90
-unfolding bin
-bin-below size = either_below size (powers size 6 26) (powers-within size 6 26)
+pub bin_of-below : (size : ℕ) → bin_of size < 90
+unfolding bin_of
+bin_of-below size = either_below size (powers size 6 26) (powers-within size 6 26)
 
 powers-rises : (small great a n : ℕ) → small ≤ great → powers small a n ≤ powers great a n
-powers-rises small great a zero le = omega arith
+powers-rises small great a zero le = omega (arith, powers-none small a, powers-none great a)
 powers-rises small great a (suc n) le =
     let more = powers-rises small great (a + 1) n le in
     elim (cases_lt small (2 ^ a)) [
@@ -95,4 +72,5 @@ either_rises a b k l ab kl = grind arith
 
 -- a greater size has no lower bin
 pub bin_of-rises : (a b : ℕ) → a ≤ b → bin_of a ≤ bin_of b
+unfolding bin_of
 bin_of-rises a b le = either_rises a b (powers a 6 26) (powers b 6 26) le (powers-rises a b 6 26 le)

@@ -2,14 +2,16 @@
 use Rattle.std.proofs.Common.{◌≡◌, ℕ, zero, suc, ◌+◌, ◌<◌, ◌≤◌, true, false, cond, List, [], ◌∷◌, length, get_or, sym, ap, ◌∙◌, subst, refl, inl, inr, arith}
 use Rattle.std.specs.Prelude.{if◌then◌else◌, insert, remove, sum_by, All, AllPairs, Bool}
 use Rattle.std.specs.List.Sorted.{IsPermutation}
-use Rattle.std.specs.List.{list_any, position_or_len}
+use Rattle.std.specs.List.{position_or_len}
 use Rattle.std.proofs.lemmas.Bool.{cases_Bool, cond-true, cond-false}
 use Rattle.std.proofs.lemmas.List.Elements.{All-head, All-tail}
 use Rattle.std.proofs.lemmas.List.Sums.{sum_by-cons}
-use Rattle.std.proofs.lemmas.List.Sorted.{IsPermutation-refl, IsPermutation-sym, IsPermutation-trans, IsPermutation-cons, IsPermutation-remove, IsPermutation-insert, sum_by-IsPermutation}
+use Rattle.std.proofs.lemmas.List.Sorted.{IsPermutation-refl, IsPermutation-sym, IsPermutation-trans, IsPermutation-cons, IsPermutation-middle, IsPermutation-remove, IsPermutation-insert, sum_by-IsPermutation}
 use Rattle.ea_goodfit.specs.declared.gaps.Gap.{Gap}
-use Rattle.ea_goodfit.specs.Gaps.{entered, is_above, is_at, is_held, is_same, IsBelow}
-use Rattle.ea_goodfit.proofs.Lists.{held-at, insert-entered, others, pairs_tail, position_first, position_past}
+use Rattle.ea_goodfit.specs.Gaps.{address_of, is_held, is_same, IsBelow}
+use Rattle.ea_model.specs.Keyed.{is_behind, entered, without}
+use Rattle.ea_model.proofs.Rising.{insert-entered, others, pairs_head, pairs_tail, without_here, without_none, without_past}
+use Rattle.ea_goodfit.proofs.Lists.{held_past, same_parts}
 
 -- how often a gap is among them
 abbrev times : Gap → Gap → ℕ
@@ -17,9 +19,6 @@ times p g = if is_same p g then 1 else 0
 
 abbrev count : Gap → List Gap → ℕ
 count p gs = sum_by (times p) gs
-
-same_parts : (p g : Gap) → is_same p g ≡ true → (g.address ≡ p.address) × (g.size ≡ p.size)
-same_parts p g t = grind arith
 
 is_same-gap : (p g : Gap) → is_same p g ≡ true → g ≡ p
 is_same-gap p g t =
@@ -60,46 +59,38 @@ pub IsPermutation-tail : (g : Gap) (xs ys : List Gap) → IsPermutation (g ∷ x
 IsPermutation-tail g xs ys m =
     from_counts xs ys (λ p. omega (arith, sum_by-IsPermutation (times p) (g ∷ xs) (g ∷ ys) m, sum_by-cons (times p) g xs, sum_by-cons (times p) g ys))
 
-at_same : (g h : Gap) → is_same g h ≡ true → is_at g.address h ≡ true
-at_same g h t = grind arith
-
-held_past : (g h : Gap) (gs : List Gap) → is_same g h ≡ false → is_held g (h ∷ gs) ≡ true → is_held g gs ≡ true
-held_past g h gs f t = grind arith
-
-get_or_cons : (h d : Gap) (gs : List Gap) (n : ℕ) → get_or (h ∷ gs) (1 + n) d ≡ get_or gs n d
-get_or_cons h d gs n = let e : 1 + n ≡ suc n = omega arith in rw e refl
-
-list_any_none : (p : Gap → Bool) (gs : List Gap) → All (λ g. p g ≡ false) gs → list_any p gs ≡ false
-list_any_none p [] a = refl
-list_any_none p (g ∷ gs) a =
-    let here = All-head (λ x. p x ≡ false) g gs a in
-    let more = list_any_none p gs (All-tail (λ x. p x ≡ false) g gs a) in
-    rw (here, more) refl
-
 -- with one gap more they are that gap and the others
-pub entered-permuted : (g : Gap) (gs : List Gap) → IsPermutation (entered g gs) (g ∷ gs)
+pub entered-permuted : (g : Gap) (gs : List Gap) → IsPermutation (entered address_of g gs) (g ∷ gs)
 entered-permuted g gs =
-    IsPermutation-sym (g ∷ gs) (entered g gs) (subst (IsPermutation (g ∷ gs)) (insert-entered g gs) (IsPermutation-insert gs (position_or_len (is_above g.address) gs) g))
+    IsPermutation-sym (g ∷ gs) (entered address_of g gs) (subst (IsPermutation (g ∷ gs)) (insert-entered address_of g gs) (IsPermutation-insert gs (position_or_len (is_behind address_of g.address) gs) g))
 
-not_at : (g h : Gap) (gs : List Gap) → is_at g.address h ≡ true → AllPairs IsBelow (h ∷ gs) → list_any (is_at g.address) gs ≡ false
-not_at g h gs t r = list_any_none (is_at g.address) gs (others g.address h gs r t)
-
--- a gap that is held is the one at its address
-pub held-position : (g : Gap) (gs : List Gap) → AllPairs IsBelow gs → is_held g gs ≡ true → g ≡ get_or gs (position_or_len (is_at g.address) gs) g
-held-position g [] r h = refl
-held-position g (h ∷ gs) r held =
-    elim (cases_Bool (is_same g h)) [
-      | inl t ↦ sym (is_same-gap g h t) ∙ sym (ap (λ n. get_or (h ∷ gs) n g) (position_first g.address h gs (at_same g h t)))
-      | inr f ↦
-          let more : is_held g gs ≡ true = held_past g h gs f held in
-          elim (cases_Bool (is_at g.address h)) [
-            | inl t ↦ absurd (let e : true ≡ false = sym (held-at g gs more) ∙ not_at g h gs t r in cc)
-            | inr n ↦ held-position g gs (pairs_tail h gs r) more ∙ sym (ap (λ m. get_or (h ∷ gs) m g) (position_past g.address h gs n) ∙ get_or_cons h g gs (position_or_len (is_at g.address) gs))
-          ]
+-- a gap that is held lies above the first one, or is the first one
+above : (g h : Gap) (gs : List Gap) → All (IsBelow h) gs → is_held g gs ≡ true → h.address < g.address
+above g h [] a t = absurd cc
+above g h (x ∷ gs) a t =
+    elim (cases_Bool (is_same g x)) [
+      | inl s ↦ omega (arith, All-head (IsBelow h) x gs a, (same_parts g x s).0)
+      | inr f ↦ above g h gs (All-tail (IsBelow h) x gs a) (held_past g x gs f t)
     ]
 
--- the gaps that are left where one is taken away
-pub removed-permuted : (g : Gap) (i : ℕ) (gs left : List Gap) → i < length gs → g ≡ get_or gs i g → left ≡ remove gs i → (rest : List Gap) → IsPermutation gs (g ∷ rest) → IsPermutation left rest
-removed-permuted g i gs left within at is rest m =
-    subst (λ xs. IsPermutation xs rest) (sym is)
-    (IsPermutation-tail g (remove gs i) rest (IsPermutation-trans (g ∷ remove gs i) gs (g ∷ rest) (IsPermutation-sym gs (g ∷ remove gs i) (IsPermutation-remove gs i g within at)) m))
+-- they are the gap that is taken out and those that are left
+held-permuted : (g : Gap) (gs : List Gap) → AllPairs IsBelow gs → is_held g gs ≡ true → IsPermutation gs (g ∷ without address_of g.address gs)
+held-permuted g [] r t = absurd cc
+held-permuted g (h ∷ gs) r t =
+    elim (cases_Bool (is_same g h)) [
+      | inl s ↦
+          let left : without address_of g.address (h ∷ gs) ≡ gs = without_here address_of g.address h gs (same_parts g h s).0 ∙ without_none address_of g.address gs (others address_of g.address h gs r (same_parts g h s).0) in
+          subst (λ xs. IsPermutation (h ∷ gs) (g ∷ xs)) (sym left) (subst (λ x. IsPermutation (h ∷ gs) (x ∷ gs)) (is_same-gap g h s) (IsPermutation-refl (h ∷ gs)))
+      | inr f ↦
+          let more : is_held g gs ≡ true = held_past g h gs f t in
+          let over : h.address < g.address = above g h gs (pairs_head IsBelow h gs r) more in
+          subst (λ xs. IsPermutation (h ∷ gs) (g ∷ xs)) (sym (without_past address_of g.address h gs (λ e. omega arith)))
+          (IsPermutation-trans (h ∷ gs) (h ∷ g ∷ without address_of g.address gs) (g ∷ h ∷ without address_of g.address gs)
+          (IsPermutation-cons h gs (g ∷ without address_of g.address gs) (held-permuted g gs (pairs_tail IsBelow h gs r) more)) (IsPermutation-middle (h ∷ []) g (without address_of g.address gs)))
+    ]
+
+-- the gaps that are left where one is taken out
+pub left-permuted : (g : Gap) (gs : List Gap) → AllPairs IsBelow gs → is_held g gs ≡ true → (rest : List Gap) → IsPermutation gs (g ∷ rest) → IsPermutation (without address_of g.address gs) rest
+left-permuted g gs r t rest m =
+    let left = without address_of g.address gs in
+    IsPermutation-tail g left rest (IsPermutation-trans (g ∷ left) gs (g ∷ rest) (IsPermutation-sym gs (g ∷ left) (held-permuted g gs r t)) m)

@@ -2,7 +2,8 @@
 use Rattle.std.specs.Prelude.{ℕ, ◌<◌, Bool, not, ◌&&◌, if◌then◌else◌, nat_lt, nat_le, ◌==◌, List, [], ◌∷◌, Option, filter}
 use Rattle.std.specs.List.{list_any}
 use Rattle.ea_model.specs.Choice.{better}
-use Rattle.ea_model.specs.GoodFit.{bin_of, is_inspected, smaller_low}
+use Rattle.ea_model.specs.GoodFit.{is_inspected, smaller_low}
+use Rattle.ea_model.specs.Keyed as keyed
 use Rattle.ea_goodfit.specs.declared.gaps.Gap.{Gap}
 
 -- the gaps by rising address, and how many more can be inserted without memory
@@ -10,17 +11,12 @@ pub record HeldGaps : Type 0 where
   pub held : List Gap
   pub room : ℕ
 
+abbrev pub address_of : Gap → ℕ
+address_of g = g.address
+
 -- a lies at a lower address than b
 abbrev pub IsBelow : Gap → Gap → Type 0
-IsBelow a b = a.address < b.address
-
--- whether the gap lies at the address
-abbrev pub is_at : ℕ → Gap → Bool
-is_at address g = g.address == address
-
--- whether the gap lies above the address
-abbrev pub is_above : ℕ → Gap → Bool
-is_above address g = nat_lt address g.address
+IsBelow a b = keyed.IsBelow address_of a b
 
 -- whether they are one gap
 abbrev pub is_same : Gap → Gap → Bool
@@ -29,15 +25,6 @@ is_same a b = (a.address == b.address) && (a.size == b.size)
 -- whether the gap is among them
 abbrev pub is_held : Gap → List Gap → Bool
 is_held gap gs = list_any (is_same gap) gs
-
--- with one gap more, in front of the first one that lies above it
-abbrev pub entered : Gap → List Gap → List Gap
-entered gap [] = gap ∷ []
-entered gap (g ∷ gs) = if nat_lt gap.address g.address then gap ∷ g ∷ gs else g ∷ entered gap gs
-
--- without the gap at the address
-abbrev pub without : ℕ → List Gap → List Gap
-without address gs = filter (λ g. not (is_at address g)) gs
 
 -- the smaller, among equals the lower
 abbrev pub smaller : Gap → Gap → Bool
@@ -50,7 +37,3 @@ candidates depth need gs = filter (λ g. nat_le need g.size) (filter (is_inspect
 -- the better of the best so far and a gap, where that one fits
 abbrev pub considered : ℕ → Option Gap → Gap → Option Gap
 considered need best g = if nat_le need g.size then better smaller best g else best
-
--- the bin of a size, which proofs see through only where they name it
-unfoldable pub bin : ℕ → ℕ
-bin size = bin_of size

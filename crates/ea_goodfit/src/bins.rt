@@ -3,11 +3,13 @@ ghost use Rattle.std.specs.Prelude.{◌≡◌, ◌≢◌, ◌+◌, ◌<◌, ◌�
 ghost use Rattle.std.specs.List.Sorted.{IsPermutation};
 ghost use Rattle.ea_model.specs.GoodFit.{bin_of, good_fit, is_inspected};
 ghost use Rattle.ea_model.specs.Choice.{IsFirst};
-ghost use Rattle.ea_goodfit.specs.Gaps.{is_same, is_held, entered, without, smaller, candidates, IsBelow};
+ghost use Rattle.ea_model.specs.Keyed.{entered, without};
+ghost use Rattle.ea_goodfit.specs.Gaps.{address_of, is_same, is_held, smaller, candidates, IsBelow};
 
 use crate::gaps::Gap;
-use crate::walks::{place_at, places_up_to, search};
+use crate::walks::search;
 use ea_model::OutOfMemory;
+use ea_model::keyed::{enter_within, take_out};
 use std::alloc::Global;
 use std::marker::Model;
 
@@ -59,7 +61,7 @@ impl Bins {
     pub fn insert(&mut self, gap: Gap)
         requires room { 0 < self.old.room }
         requires address { All (λ g. g.address ≢ gap.address) self.old.held }
-        ensures held { self.new.held ≡ entered gap self.old.held }
+        ensures held { self.new.held ≡ entered address_of gap self.old.held }
         ensures room { self.new.room + 1 ≡ self.old.room }
         ensures count { length self.new.held ≡ length self.old.held + 1 }
         ensures rising { AllPairs IsBelow self.new.held }
@@ -68,17 +70,13 @@ impl Bins {
         ensures gaps { (g : Gap) → is_held g self.new.held ≡ (is_same g gap || is_held g self.old.held) }
         ensures order { IsPermutation self.new.held (gap ∷ self.old.held) }
     {
-        let place = places_up_to(gap.address, &self.held);
-        match self.held.insert(place, gap) {
-            Ok(()) => (),
-            Err(_) => unreachable!(),
-        }
+        enter_within(gap, &mut self.held);
     }
 
     /// Takes out a gap that is held.
     pub fn remove(&mut self, gap: Gap)
         requires { IsTrue (is_held gap self.old.held) }
-        ensures held { self.new.held ≡ without gap.address self.old.held }
+        ensures held { self.new.held ≡ without address_of gap.address self.old.held }
         ensures room { self.new.room ≡ self.old.room + 1 }
         ensures count { length self.new.held + 1 ≡ length self.old.held }
         ensures rising { AllPairs IsBelow self.new.held }
@@ -88,8 +86,7 @@ impl Bins {
         ensures gaps { (g : Gap) → is_held g self.new.held ≡ (is_held g self.old.held && not (g.address == gap.address)) }
         ensures order { (rest : List Gap) → IsPermutation self.old.held (gap ∷ rest) → IsPermutation self.new.held rest }
     {
-        let place = place_at(gap.address, &self.held);
-        self.held.remove(place);
+        take_out(gap.address, &mut self.held);
     }
 
     /// The smallest gap of at least `need` units among those that the search looks at, of equals the

@@ -1,5 +1,7 @@
 //! A gap of a multiblock carrier.
 
+use ea_model::keyed::Keyed;
+
 /// A maximal run of free units of 8 bytes. No two gaps have the same address.
 #[derive(Debug, Clone, Copy, PartialEq, Eq)]
 pub struct Gap {
@@ -7,4 +9,12 @@ pub struct Gap {
     pub address: u32,
     /// Its units.
     pub size: u32,
+}
+
+impl Keyed for Gap {
+    ghost key_of = { λ g. g.address };
+
+    fn key(&self) -> u32 {
+        self.address
+    }
 }

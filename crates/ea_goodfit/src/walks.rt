@@ -1,8 +1,7 @@
 //! Walks over the gaps, by rising address.
-ghost use Rattle.std.specs.Prelude.{◌≡◌, ◌<◌, ◌≤◌, AllPairs, IsTrue, length};
-ghost use Rattle.std.specs.List.{list_any, position_or_len};
-ghost use Rattle.ea_model.specs.GoodFit.{good_fit};
-ghost use Rattle.ea_goodfit.specs.Gaps.{bin, considered, is_above, is_at, IsBelow};
+ghost use Rattle.std.specs.Prelude.{◌≡◌, ◌<◌, AllPairs};
+ghost use Rattle.ea_model.specs.GoodFit.{bin_of, good_fit};
+ghost use Rattle.ea_goodfit.specs.Gaps.{considered, IsBelow};
 
 use crate::gaps::Gap;
 
@@ -14,7 +13,7 @@ const BINS: usize = 90;
 
 /// The bin of a size: the size itself below 64, and 58 + k for the sizes from 2^k on.
 fn bin_of(size: u32) -> usize
-    ensures bin { result ≡ bin size }
+    ensures bin { result ≡ bin_of size }
     ensures within { result < 90 }
 {
     if size < SHARED {
@@ -52,31 +51,4 @@ pub fn search(need: u32, depth: u32, held: &[Gap]) -> Option<Gap>
         }
     }
     best
-}
-
-/// How many gaps lie at the address or below it.
-pub fn places_up_to(address: u32, held: &[Gap]) -> usize
-    ensures place { result ≡ position_or_len (is_above address) held.now }
-    ensures within { result ≤ length held.now }
-{
-    for (place, gap) in held.iter().enumerate() {
-        if address < gap.address {
-            return place;
-        }
-    }
-    held.len()
-}
-
-/// The place of the gap at the address, which is there.
-pub fn place_at(address: u32, held: &[Gap]) -> usize
-    requires { IsTrue (list_any (is_at address) held.now) }
-    ensures place { result ≡ position_or_len (is_at address) held.now }
-    ensures within { result < length held.now }
-{
-    for (place, gap) in held.iter().enumerate() {
-        if gap.address == address {
-            return place;
-        }
-    }
-    unreachable!()
 }

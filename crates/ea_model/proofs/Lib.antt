@@ -1,7 +1,7 @@
 pub mod First
 pub mod Numbers
-pub mod Plainly
 pub mod Options
 pub mod Orders
+pub mod Powers
 pub mod Rising
 pub mod Splits

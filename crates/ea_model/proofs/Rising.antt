@@ -120,6 +120,15 @@ module _ {A : Type 0} (key_of : A → ℕ) where
   without_none key (x ∷ xs) a =
       without_past key x xs (All-head (λ y. key_of y ≢ key) x xs a) ∙ ap (λ ys. x ∷ ys) (without_none key xs (All-tail (λ y. key_of y ≢ key) x xs a))
 
+  -- no item that is left has the key
+  pub without-free : (key : ℕ) (xs : List A) → All (λ x. key_of x ≢ key) (without key_of key xs)
+  without-free key [] = All-nil (λ x. key_of x ≢ key)
+  without-free key (x ∷ xs) =
+      elim (cases_eq (key_of x) key) [
+        | inl e ↦ subst (All (λ y. key_of y ≢ key)) (sym (without_here key x xs e)) (without-free key xs)
+        | inr n ↦ subst (All (λ y. key_of y ≢ key)) (sym (without_past key x xs n)) (All-cons (λ y. key_of y ≢ key) x (without key_of key xs) n (without-free key xs))
+      ]
+
   -- the items behind one with the key have other keys
   pub others : (key : ℕ) (x : A) (xs : List A) → AllPairs (IsBelow key_of) (x ∷ xs) → key_of x ≡ key → All (λ y. key_of y ≢ key) xs
   others key x xs rising e = All-weaker (IsBelow key_of x) (λ y. key_of y ≢ key) (λ y below same. omega arith) xs (pairs_head (IsBelow key_of) x xs rising)

@@ -1,9 +1,10 @@
 use Rattle.std.proofs.Common.{sym}
-use Rattle.ea_goodfit.proofs.Bin.{bin-small, bin-large}
+use Rattle.ea_model.proofs.Powers.{bin_of-small}
+use Rattle.ea_goodfit.proofs.Bin.{bin_of-top}
 use Rattle.ea_goodfit.proofs.walks.bin_of.Goals as goal
 
 pub returns-then-size-lt-SHARED-clause-bin : goal.returns-then-size-lt-SHARED-clause-bin
-returns-then-size-lt-SHARED-clause-bin c = sym (bin-small c.args.size c.if-size-lt-SHARED.true)
+returns-then-size-lt-SHARED-clause-bin c = bin_of-small c.args.size c.if-size-lt-SHARED.true
 
 pub returns-clause-bin : goal.returns-clause-bin
-returns-clause-bin c = sym (bin-large c.args.size c.ilog2.result c.if-size-lt-SHARED.false c.ilog2.ensures.power_le c.ilog2.ensures.next_power_gt c.ilog2.ensures.bound)
+returns-clause-bin c = sym (bin_of-top c.args.size c.ilog2.result c.if-size-lt-SHARED.false c.ilog2.ensures.power_le c.ilog2.ensures.next_power_gt c.ilog2.ensures.bound)

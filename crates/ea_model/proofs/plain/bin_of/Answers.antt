@@ -1,5 +1,5 @@
 use Rattle.std.proofs.Common.{◌+◌, ap, ◌∙◌}
-use Rattle.ea_model.proofs.Plainly.{bin_of-small, bin_of-large}
+use Rattle.ea_model.proofs.Powers.{bin_of-small, bin_of-large}
 use Rattle.ea_model.proofs.plain.bin_of.Goals as goal
 
 pub returns-then-size-lt64 : goal.returns-then-size-lt64

@@ -1,5 +1,5 @@
 use Rattle.std.proofs.Common.{◌+◌, sym, subst, arith}
-use Rattle.ea_model.proofs.Plainly.{Counts, counted_on, passed_on, all_counted}
+use Rattle.ea_model.proofs.Powers.{Counts, counted_on, passed_on, all_counted}
 use Rattle.ea_model.proofs.plain.powers_up_to.Goals as goal
 use Rattle.ea_model.proofs.plain.powers_up_to.Goals.{then-pow-size, else-pow-size}
 

@@ -1,4 +1,4 @@
-use Rattle.ea_model.proofs.Plainly.{Counts}
+use Rattle.ea_model.proofs.Powers.{Counts}
 use Rattle.ea_model.proofs.plain.powers_up_to.Given as goal
 
 abbrev pub invariant-loop-exponent : goal.invariant-loop-exponent

@@ -1,45 +1,38 @@
-use Rattle.std.proofs.Common.{◌≡◌, ◌≢◌, ◌<◌, ◌∷◌, true, get_or, length, sym, ap, ◌∙◌, subst}
-use Rattle.std.specs.Prelude.{remove, not, ◌&&◌, ◌==◌, All, IsTrue}
-use Rattle.std.specs.List.{position_or_len, list_any}
-use Rattle.ea_goodfit.specs.Gaps.{HeldGaps, is_at, is_held, without}
-use Rattle.ea_goodfit.proofs.Lists.{remove-without, without-free, held-without, held-at}
+use Rattle.std.proofs.Common.{◌≡◌, ◌≢◌, ◌∷◌, true, sym, ap, ◌∙◌, subst}
+use Rattle.std.specs.Prelude.{not, ◌&&◌, ◌==◌, All, AllPairs}
 use Rattle.std.specs.List.Sorted.{IsPermutation}
-use Rattle.ea_goodfit.proofs.Permuted.{held-position, removed-permuted}
+use Rattle.std.proofs.lemmas.List.Kept.{AllPairs-filter}
+use Rattle.ea_model.proofs.Rising.{without-free}
+use Rattle.ea_goodfit.specs.Gaps.{HeldGaps, address_of, is_held, IsBelow}
+use Rattle.ea_goodfit.proofs.Lists.{held-without, held-at}
+use Rattle.ea_goodfit.proofs.Permuted.{left-permuted}
 use Rattle.ea_goodfit.proofs.bins.Bins.remove.Goals as goal
 
-pub place_at-place-requires : goal.place_at-place-requires
-place_at-place-requires c =
-    subst (λ xs. IsTrue (list_any (is_at c.args.gap.address) xs)) (sym c.deref.ensures.value)
-    (held-at c.args.gap c.self.inside.held.items (subst (λ (s : HeldGaps). is_held c.args.gap s.held ≡ true) (sym c.self.view_is) c.requires))
+pub take_out-requires-clause-there : goal.take_out-requires-clause-there
+take_out-requires-clause-there c =
+    held-at c.args.gap c.self.inside.held.items (subst (λ (s : HeldGaps). is_held c.args.gap s.held ≡ true) (sym c.self.view_is) c.requires)
 
-place : (c : goal.After-remove) → c.place_at-place.result ≡ position_or_len (is_at c.args.gap.address) c.self.inside.held.items
-place c = c.place_at-place.ensures.place ∙ ap (position_or_len (is_at c.args.gap.address)) c.deref.ensures.value
+rising : (c : goal.After-take_out) → AllPairs IsBelow c.take_out.new.items.items
+rising c = subst (AllPairs IsBelow) (sym c.take_out.ensures.rest) (AllPairs-filter IsBelow _ c.self.inside.held.items c.self.invariant)
 
-within : (c : goal.After-remove) → c.place_at-place.result < length c.self.inside.held.items
-within c = subst (λ xs. c.place_at-place.result < length xs) c.deref.ensures.value c.place_at-place.ensures.within
+pub invariant_of-self : goal.invariant_of-self
+invariant_of-self c = rising c
 
-held : (c : goal.After-remove) → c.remove.new.self.items ≡ without c.args.gap.address c.self.inside.held.items
-held c =
-    c.remove.ensures.items
-    ∙ ap (remove c.self.inside.held.items) (place c)
-    ∙ remove-without c.args.gap.address c.self.inside.held.items c.self.invariant (subst (λ k. k < length c.self.inside.held.items) (place c) (within c))
-
-pub returns-clause-held : goal.returns-clause-held
-returns-clause-held c = held c ∙ ap (λ (s : HeldGaps). without c.args.gap.address s.held) c.self.view_is
+pub returns-clause-rising : goal.returns-clause-rising
+returns-clause-rising c = rising c
 
 pub returns-clause-free : goal.returns-clause-free
-returns-clause-free c = subst (All (λ g. g.address ≢ c.args.gap.address)) (sym (held c)) (without-free c.args.gap.address c.self.inside.held.items)
+returns-clause-free c = subst (All (λ g. g.address ≢ c.args.gap.address)) (sym c.take_out.ensures.rest) (without-free address_of c.args.gap.address c.self.inside.held.items)
 
 pub returns-clause-gaps : goal.returns-clause-gaps
 returns-clause-gaps c = λ g.
-    ap (is_held g) (held c)
+    ap (is_held g) c.take_out.ensures.rest
     ∙ held-without g c.args.gap.address c.self.inside.held.items
     ∙ ap (λ (s : HeldGaps). is_held g s.held && not (g.address == c.args.gap.address)) c.self.view_is
 
 pub returns-clause-order : goal.returns-clause-order
 returns-clause-order c = λ rest m.
-    let hs = c.self.inside.held.items in
     let held = subst (λ (s : HeldGaps). is_held c.args.gap s.held ≡ true) (sym c.self.view_is) c.requires in
-    removed-permuted c.args.gap c.place_at-place.result hs c.remove.new.self.items (within c)
-    (held-position c.args.gap hs c.self.invariant held ∙ ap (λ n. get_or hs n c.args.gap) (sym (place c))) c.remove.ensures.items rest
-    (subst (λ gs. IsPermutation gs (c.args.gap ∷ rest)) (ap (λ (s : HeldGaps). s.held) (sym c.self.view_is)) m)
+    subst (λ gs. IsPermutation gs rest) (sym c.take_out.ensures.rest)
+    (left-permuted c.args.gap c.self.inside.held.items c.self.invariant held rest
+    (subst (λ gs. IsPermutation gs (c.args.gap ∷ rest)) (ap (λ (s : HeldGaps). s.held) (sym c.self.view_is)) m))

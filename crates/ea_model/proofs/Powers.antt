@@ -4,11 +4,11 @@ use Rattle.std.specs.Prelude.{◌^◌, filter, length, nat_le, nat_lt, if◌then
 use Rattle.std.specs.List.{range_with_len}
 use Rattle.ea_model.specs.GoodFit.{bin_of, powers}
 
-counted : (size a n : ℕ) → 2 ^ a ≤ size → powers size a (suc n) ≡ 1 + powers size (a + 1) n
+pub counted : (size a n : ℕ) → 2 ^ a ≤ size → powers size a (suc n) ≡ 1 + powers size (a + 1) n
 unfolding powers
 counted size a n le = grind arith
 
-uncounted : (size a n : ℕ) → size < 2 ^ a → powers size a (suc n) ≡ powers size (a + 1) n
+pub uncounted : (size a n : ℕ) → size < 2 ^ a → powers size a (suc n) ≡ powers size (a + 1) n
 unfolding powers
 uncounted size a n lt = grind arith
 
