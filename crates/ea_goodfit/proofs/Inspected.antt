@@ -12,7 +12,7 @@ use Rattle.ea_goodfit.specs.declared.gaps.Gap.{Gap}
 use Rattle.ea_goodfit.specs.Gaps.{smaller, considered, IsBelow}
 use Rattle.ea_goodfit.proofs.AnyOrder.{filter_here, filter_past}
 use Rattle.ea_goodfit.proofs.Bin.{bin_of-below}
-use Rattle.ea_model.proofs.Rising.{pairs_head, pairs_tail}
+use Rattle.ea_model.proofs.Pairs.{pairs_head, pairs_tail}
 
 -- the gaps that are inspected, where `counts` of each bin were inspected before
 abbrev pub met : ℕ → List ℕ → List Gap → List Gap

@@ -10,7 +10,8 @@ use Rattle.std.proofs.lemmas.List.Sorted.{IsPermutation-refl, IsPermutation-sym,
 use Rattle.ea_goodfit.specs.declared.gaps.Gap.{Gap}
 use Rattle.ea_goodfit.specs.Gaps.{address_of, is_held, is_same, IsBelow}
 use Rattle.ea_model.specs.Keyed.{is_behind, entered, without}
-use Rattle.ea_model.proofs.Rising.{insert-entered, others, pairs_head, pairs_tail, without_here, without_none, without_past}
+use Rattle.ea_model.proofs.Pairs.{pairs_head, pairs_tail}
+use Rattle.ea_model.proofs.Rising.{insert-entered, others, without_here, without_none, without_past}
 use Rattle.ea_goodfit.proofs.Lists.{held_past, same_parts}
 
 -- how often a gap is among them

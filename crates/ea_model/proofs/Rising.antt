@@ -1,5 +1,5 @@
 -- Items by rising key, with one more and without one.
-use Rattle.std.proofs.Common.{suc, ◌≡◌, ◌≢◌, ℕ, ◌+◌, ◌<◌, ◌≤◌, true, false, cond, List, [], ◌∷◌, length, get_or, set, sym, ap, ◌∙◌, subst, refl, inl, inr, arith}
+use Rattle.std.proofs.Common.{zero, suc, map, ◌≡◌, ◌≢◌, ℕ, ◌+◌, ◌<◌, ◌≤◌, true, false, cond, List, [], ◌∷◌, length, get_or, set, sym, ap, ◌∙◌, subst, refl, inl, inr, arith}
 use Rattle.std.specs.Prelude.{insert, remove, Some, None, option_map, ◌==◌, if◌then◌else◌, All, AllPairs}
 use Rattle.std.specs.List.{position_or_len}
 use Rattle.std.proofs.lemmas.Bool.{cases_lt, cases_eq, cond-true, cond-false, cond_both}
@@ -7,14 +7,8 @@ use Rattle.std.proofs.lemmas.List.Elements.{All-nil, All-cons, All-head, All-tai
 use Rattle.std.proofs.lemmas.List.Kept.{AllPairs-cons}
 use Rattle.std.proofs.lemmas.List.Folds.{find_at}
 use Rattle.std.proofs.lemmas.Option.{slice_get-get_or}
+use Rattle.ea_model.proofs.Pairs.{pairs_head, pairs_tail, pairs_map}
 use Rattle.ea_model.specs.Keyed.{has_key, is_behind, item_at, entered, without, changed_at, IsBelow}
-
--- the pairs of a list with its first item, and without it
-pub pairs_head : {A : Type 0} (R : A → A → Type 0) (x : A) (xs : List A) → AllPairs R (x ∷ xs) → All (R x) xs
-pairs_head R x xs a = λ k d lt. a 0 (suc k) d (omega arith) (omega arith)
-
-pub pairs_tail : {A : Type 0} (R : A → A → Type 0) (x : A) (xs : List A) → AllPairs R (x ∷ xs) → AllPairs R xs
-pairs_tail R x xs a = λ i j d lt le. a (suc i) (suc j) d (omega arith) (omega arith)
 
 insert_cons : {A : Type 0} (x y : A) (ys : List A) (n : ℕ) → insert (y ∷ ys) (1 + n) x ≡ y ∷ insert ys n x
 insert_cons x y ys n = let e : 1 + n ≡ suc n = omega arith in rw e refl
@@ -148,6 +142,23 @@ module _ {A : Type 0} (key_of : A → ℕ) where
   pub item_at-place : (key : ℕ) (xs : List A) (d : A) → position_or_len (has_key key_of key) xs < length xs → item_at key_of xs key ≡ Some (get_or xs (position_or_len (has_key key_of key) xs) d)
   item_at-place key xs d within = find_at (has_key key_of key) xs ∙ slice_get-get_or xs (position_or_len (has_key key_of key) xs) d within
 
+  -- each item is found by its key
+  pub item_at-each : (i : ℕ) (d : A) (xs : List A) → AllPairs (IsBelow key_of) xs → i < length xs → item_at key_of xs (key_of (get_or xs i d)) ≡ Some (get_or xs i d)
+  item_at-each i d [] rising within = absurd (omega arith)
+  item_at-each zero d (x ∷ xs) rising within = item_here (key_of x) x xs refl
+  item_at-each (suc i) d (x ∷ xs) rising within =
+      let below : key_of x < key_of (get_or xs i d) = pairs_head (IsBelow key_of) x xs rising i d (omega arith) in
+      item_past (key_of (get_or xs i d)) x xs (λ e. omega arith) ∙ item_at-each i d xs (pairs_tail (IsBelow key_of) x xs rising) (omega arith)
+
+  -- the item that is found has the key
+  pub item_at-key : (key : ℕ) (x : A) (xs : List A) → item_at key_of xs key ≡ Some x → key_of x ≡ key
+  item_at-key key x [] h = absurd cc
+  item_at-key key x (y ∷ ys) h =
+      elim (cases_eq (key_of y) key) [
+        | inl e ↦ let same : Some y ≡ Some x = sym (item_here key y ys e) ∙ h in let is : y ≡ x = cc in subst (λ z. key_of z ≡ key) is e
+        | inr n ↦ item_at-key key x ys (sym (item_past key y ys n) ∙ h)
+      ]
+
   item_cons : (key : ℕ) (x : A) (ys zs : List A) → item_at key_of ys key ≡ item_at key_of zs key → item_at key_of (x ∷ ys) key ≡ item_at key_of (x ∷ zs) key
   item_cons key x ys zs e = ap (λ o. cond (has_key key_of key x) (Some x) o) e
 
@@ -257,3 +268,51 @@ module _ {A : Type 0} (key_of : A → ℕ) (f : A → A) (key : ℕ) where
           | inl e ↦ item_here key_of n (change x) ys (key_stays x ∙ e) ∙ ap (option_map change) (sym (item_here key_of n x xs e))
           | inr m ↦ item_past key_of n (change x) ys (λ p. m (sym (key_stays x) ∙ p)) ∙ item_at-changed n xs ∙ ap (option_map change) (sym (item_past key_of n x xs m))
         ]
+
+    -- the changed item is found by its key, and those of other keys are found as before
+    pub changed-found : (x : A) (xs : List A) → item_at key_of xs key ≡ Some x → item_at key_of (changed_at key_of f key xs) key ≡ Some (f x)
+    changed-found x xs there =
+        item_at-changed key xs ∙ ap (option_map change) there ∙ ap Some (cond-true (has_key key_of key x) (f x) x (has_key-here key_of key x (item_at-key key_of key x xs there)))
+
+    pub changed-other : (n : ℕ) (xs : List A) → n ≢ key → item_at key_of (changed_at key_of f key xs) n ≡ item_at key_of xs n
+    changed-other n [] other = refl
+    changed-other n (x ∷ xs) other =
+        elim (cases_eq (key_of x) key) [
+          | inl e ↦
+              ap (λ ys. item_at key_of ys n) (changed_here x xs e) ∙ item_past key_of n (f x) (changed_at key_of f key xs) (λ p. other (sym p ∙ keeps x ∙ e))
+              ∙ changed-other n xs other ∙ sym (item_past key_of n x xs (λ p. other (sym p ∙ e)))
+          | inr m ↦ ap (λ ys. item_at key_of ys n) (changed_past x xs m) ∙ item_cons key_of n x (changed_at key_of f key xs) xs (changed-other n xs other)
+        ]
+
+    pub rising-changed : (xs : List A) → AllPairs (IsBelow key_of) xs → AllPairs (IsBelow key_of) (changed_at key_of f key xs)
+    rising-changed xs rising =
+        pairs_map (IsBelow key_of) change xs (λ i j d lt within. omega (arith, rising i j d lt within, key_stays (get_or xs i d), key_stays (get_or xs j d)))
+
+-- items of one kind as items of another
+module _ {A B : Type 0} (key_of : B → ℕ) (g : A → B) where
+  abbrev key_in : A → ℕ
+  key_in x = key_of (g x)
+
+  pub item_at-map : (key : ℕ) (xs : List A) → item_at key_of (map g xs) key ≡ option_map g (item_at key_in xs key)
+  item_at-map key [] = refl
+  item_at-map key (x ∷ xs) =
+      elim (cases_eq (key_of (g x)) key) [
+        | inl e ↦ item_here key_of key (g x) (map g xs) e ∙ ap (option_map g) (sym (item_here key_in key x xs e))
+        | inr n ↦ item_past key_of key (g x) (map g xs) n ∙ item_at-map key xs ∙ ap (option_map g) (sym (item_past key_in key x xs n))
+      ]
+
+  pub entered-map : (x : A) (ys : List A) → entered key_of (g x) (map g ys) ≡ map g (entered key_in x ys)
+  entered-map x [] = refl
+  entered-map x (y ∷ ys) =
+      elim (cases_lt (key_in x) (key_in y)) [
+        | inl lt ↦ entered_here key_of (g x) (g y) (map g ys) lt ∙ sym (ap (map g) (entered_here key_in x y ys lt))
+        | inr le ↦ entered_past key_of (g x) (g y) (map g ys) le ∙ ap (λ zs. g y ∷ zs) (entered-map x ys) ∙ sym (ap (map g) (entered_past key_in x y ys le))
+      ]
+
+  pub without-map : (key : ℕ) (xs : List A) → without key_of key (map g xs) ≡ map g (without key_in key xs)
+  without-map key [] = refl
+  without-map key (x ∷ xs) =
+      elim (cases_eq (key_of (g x)) key) [
+        | inl e ↦ without_here key_of key (g x) (map g xs) e ∙ without-map key xs ∙ sym (ap (map g) (without_here key_in key x xs e))
+        | inr n ↦ without_past key_of key (g x) (map g xs) n ∙ ap (λ ys. g x ∷ ys) (without-map key xs) ∙ sym (ap (map g) (without_past key_in key x xs n))
+      ]
