@@ -12,14 +12,14 @@ use Rattle.ea_model.specs.declared.carriers.Inner.{Inner}
 use Rattle.ea_model.specs.declared.carriers.Gap.{Gap}
 use Rattle.ea_model.specs.declared.carriers.Candidate.{Candidate}
 use Rattle.ea_model.specs.Content.{Content, gaps_of, largest}
-use Rattle.ea_model.specs.Choice.{before, better, choice, first}
+use Rattle.ea_model.specs.Choice.{before, better, choice, first, less}
 use Rattle.ea_model.specs.Choice as gaps
-use Rattle.ea_model.specs.Strategies.{candidate, candidates, candidates_in, inner_of, large_enough, less, takes_first}
+use Rattle.ea_model.specs.Strategies.{candidate, candidates, candidates_in, inner_of, large_enough, takes_first}
 use Rattle.ea_model.specs.Strategies as strategies
 use Rattle.ea_model.specs.Instance.{content_of}
 use Rattle.ea_model.proofs.First.{first-none, large-here, large-none, large-past, none-large}
 use Rattle.ea_cset.specs.declared.keys.Held.{Held}
-use Rattle.ea_cset.proofs.Places.{rising_head, rising_tail}
+use Rattle.ea_model.proofs.Pairs.{pairs_head, pairs_tail}
 use Rattle.ea_cset.specs.Carriers.{Carriers, IsBefore, first_number, fitting, lower, older}
 use Rattle.ea_goodfit.specs.Gaps.{HeldGaps}
 use Rattle.ea_instance.specs.Kinds.{is_shared}
@@ -27,8 +27,8 @@ use Rattle.ea_instance.specs.Listed.{candidate_in, chosen_in, held_of, IsListed,
 use Rattle.ea_instance.specs.declared.strategies.Order.TheVariants.{Address, Age}
 use Rattle.ea_instance.specs.Better.{better_of}
 use Rattle.ea_instance.specs.Orders.{order_of}
-use Rattle.ea_instance.specs.Found.{IsRising}
-use Rattle.ea_instance.proofs.Contents.{content_of-at}
+use Rattle.ea_instance.specs.Kept.{number_of, IsRising}
+use Rattle.ea_model.proofs.Rising.{item_at-each}
 use Rattle.ea_instance.proofs.Folding.{choice_more}
 
 -- the gap is one of the carrier, as the set knows it
@@ -154,7 +154,7 @@ module _ (s : Strategy) (comes_first : Held → Held → Bool) (goes : GoesBy s 
       let here = All-head IsThere c cs there in
       let rest = All-tail IsThere c cs there in
       let later = All-tail (IsBefore h) (held_of c) (map held_of cs) behind in
-      let tail = rising_tail (held_of c) (map held_of cs) rising in
+      let tail = pairs_tail IsBefore (held_of c) (map held_of cs) rising in
       elim (cases_lt (largest (gaps_of c)) need) [
         | inl lt ↦ more (Some x) c cs None here.1 (none_here c lt) ∙ goes_on x h cs at is_of later tail rest ∙ sym (ap chosen_at (held_past (Some h) c cs lt))
         | inr le ↦
@@ -163,7 +163,7 @@ module _ (s : Strategy) (comes_first : Held → Held → Bool) (goes : GoesBy s 
             more (Some x) c cs (Some has.gap) here.1 has.chosen ∙ elim (cases_Bool (takes_first s has.gap x)) [
               | inl t ↦
                   ap (λ y. first_gap (Some y) cs) (cond-true (takes_first s has.gap x) has.gap x t)
-                  ∙ goes_on has.gap (held_of c) cs has.at has.is_of (rising_head (held_of c) (map held_of cs) rising) tail rest
+                  ∙ goes_on has.gap (held_of c) cs has.at has.is_of (pairs_head IsBefore (held_of c) (map held_of cs) rising) tail rest
                   ∙ sym (ap chosen_at (held_next (Some h) c cs le ∙ ap (λ y. first_held (Some y) (map held_of cs)) (cond-true (comes_first (held_of c) h) (held_of c) h (sym same ∙ t))))
               | inr f ↦
                   ap (λ y. first_gap (Some y) cs) (cond-false (takes_first s has.gap x) has.gap x f)
@@ -177,18 +177,18 @@ module _ (s : Strategy) (comes_first : Held → Held → Bool) (goes : GoesBy s 
   starts (c ∷ cs) rising there =
       let here = All-head IsThere c cs there in
       let rest = All-tail IsThere c cs there in
-      let tail = rising_tail (held_of c) (map held_of cs) rising in
+      let tail = pairs_tail IsBefore (held_of c) (map held_of cs) rising in
       elim (cases_lt (largest (gaps_of c)) need) [
         | inl lt ↦ more None c cs None here.1 (none_here c lt) ∙ starts cs tail rest ∙ sym (ap chosen_at (held_past None c cs lt))
         | inr le ↦
             let has = has_choice c here le in
             more None c cs (Some has.gap) here.1 has.chosen
-            ∙ goes_on has.gap (held_of c) cs has.at has.is_of (rising_head (held_of c) (map held_of cs) rising) tail rest
+            ∙ goes_on has.gap (held_of c) cs has.at has.is_of (pairs_head IsBefore (held_of c) (map held_of cs) rising) tail rest
             ∙ sym (ap chosen_at (held_next None c cs le))
       ]
 
   choice_first : IsRising all → All IsSound all → AllPairs IsBefore (map held_of all) → first_gap None all ≡ chosen_at (first comes_first (fitting need (map held_of all)))
-  choice_first rising sound before = starts all before (λ i d within. (content_of-at rising.0 rising.1 i d all rising.2 within, (sound i d within).shared))
+  choice_first rising sound before = starts all before (λ i d within. (item_at-each number_of i d all rising within, (sound i d within).shared))
 
 -- the choice is made in the first carrier that fits
 pub choice-first : (s : Strategy) (comes_first : Held → Held → Bool) → GoesBy s comes_first → (need : ℕ) → 1 ≤ need → (t : Strategy) (cs now : List Content) (set : Carriers) (bins : HeldGaps) → IsListed t cs set bins → cs ≡ now → IsRising now

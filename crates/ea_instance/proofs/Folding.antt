@@ -10,88 +10,28 @@ use Rattle.ea_model.specs.declared.carriers.Candidate.{Candidate}
 use Rattle.ea_model.specs.declared.settings.Strategy.{Strategy}
 use Rattle.ea_model.specs.declared.settings.Strategy.TheVariants.{Bf, Aobf, Aoff, AoffCbf, AoffCaobf, AgeffCaoff, AgeffCbf, AgeffCaobf, Gf, Af}
 use Rattle.ea_model.specs.Content.{Content, gaps_of, is_done}
-use Rattle.ea_model.specs.Choice.{before, better, first, fitting, choice}
-use Rattle.ea_model.specs.Strategies.{candidate, candidates, candidates_in, takes_first, inner_of, large_enough, less, lower, older, smaller_high, smaller_low}
+use Rattle.ea_model.specs.Choice.{before, better, first, fitting, choice, less}
+use Rattle.ea_model.proofs.Orders.{rising-order, falling-order, less-order}
+use Rattle.ea_model.specs.Strategies.{candidate, candidates, candidates_in, takes_first, inner_of, large_enough, lower, older, smaller_high, smaller_low}
 use Rattle.ea_model.specs.declared.carriers.Inner.{Inner}
 use Rattle.ea_model.specs.declared.carriers.Inner.TheVariants as inner
 use Rattle.ea_instance.specs.Better.{better_of}
 use Rattle.ea_instance.specs.Orders.{is_better}
 
-less-true-le : (x y : ℕ) (r : Bool) → less x y r ≡ true → y ≤ x → x ≤ y
-less-true-le x y r h le = grind arith
-
-less-true-rest : (x y : ℕ) (r : Bool) → less x y r ≡ true → y ≤ x → r ≡ true
-less-true-rest x y r h le = grind arith
-
-less-false-same : (x y : ℕ) (r : Bool) → less x y r ≡ false → x ≤ y → (x ≡ y) × (r ≡ false)
-less-false-same x y r h le = grind arith
-
-less-true : (x y : ℕ) (r : Bool) → less x y r ≡ true → (x < y) ⊎ ((x ≡ y) × (r ≡ true))
-less-true x y r h = elim (cases_lt x y) [ inl lt ↦ inl lt | inr le ↦ inr (omega (arith, less-true-le x y r h le), less-true-rest x y r h le) ]
-
-less-false : (x y : ℕ) (r : Bool) → less x y r ≡ false → (y < x) ⊎ ((x ≡ y) × (r ≡ false))
-less-false x y r h = elim (cases_lt y x) [ inl lt ↦ inl lt | inr le ↦ inr (less-false-same x y r h le) ]
-
-less-above : (x y : ℕ) (r : Bool) → y < x → less x y r ≡ false
-less-above x y r h = grind arith
-
-less-same : (x y : ℕ) (r : Bool) → x ≡ y → r ≡ false → less x y r ≡ false
-less-same x y r e h = grind arith
-
--- by a key, and among equals by another order
-module _ (key : Candidate → ℕ) (t : Candidate → Candidate → Bool) (o : IsStrictWeakOrder t) where
-  by_key_one_way : (a b : Candidate) → less (key a) (key b) (t a b) ≡ true → less (key b) (key a) (t b a) ≡ false
-  by_key_one_way a b h =
-      elim (less-true (key a) (key b) (t a b) h) [
-        | inl lt ↦ less-above (key b) (key a) (t b a) lt
-        | inr eq ↦ less-same (key b) (key a) (t b a) (sym eq.0) (o.one_way a b eq.1)
-      ]
-
-  by_key_chain : (a b c : Candidate) → less (key a) (key b) (t a b) ≡ false → less (key b) (key c) (t b c) ≡ false → less (key a) (key c) (t a c) ≡ false
-  by_key_chain a b c h k =
-      elim (less-false (key a) (key b) (t a b) h) [
-        | inl lt ↦ elim (less-false (key b) (key c) (t b c) k) [
-          | inl lt2 ↦ less-above (key a) (key c) (t a c) (omega arith)
-          | inr eq2 ↦ less-above (key a) (key c) (t a c) (omega (arith, eq2.0))
-        ]
-        | inr eq ↦ elim (less-false (key b) (key c) (t b c) k) [
-          | inl lt2 ↦ less-above (key a) (key c) (t a c) (omega (arith, eq.0))
-          | inr eq2 ↦ less-same (key a) (key c) (t a c) (eq.0 ∙ eq2.0) (o.chain a b c eq.1 eq2.1)
-        ]
-      ]
-
-  by_key-order : IsStrictWeakOrder (λ a b. less (key a) (key b) (t a b))
-  by_key-order = record { one_way = by_key_one_way; chain = by_key_chain }
-
-lower_one_way : (a b : Candidate) → lower a b ≡ true → lower b a ≡ false
-lower_one_way a b h = grind arith
-
-lower_chain : (a b c : Candidate) → lower a b ≡ false → lower b c ≡ false → lower a c ≡ false
-lower_chain a b c h k = grind arith
-
 lower-order : IsStrictWeakOrder lower
-lower-order = record { one_way = lower_one_way; chain = lower_chain }
-
-higher_one_way : (a b : Candidate) → nat_lt b.address a.address ≡ true → nat_lt a.address b.address ≡ false
-higher_one_way a b h = grind arith
-
-higher_chain : (a b c : Candidate) → nat_lt b.address a.address ≡ false → nat_lt c.address b.address ≡ false → nat_lt c.address a.address ≡ false
-higher_chain a b c h k = grind arith
-
-higher-order : IsStrictWeakOrder (λ (a b : Candidate). nat_lt b.address a.address)
-higher-order = record { one_way = higher_one_way; chain = higher_chain }
+lower-order = rising-order (λ (x : Candidate). x.address)
 
 smaller_high-order : IsStrictWeakOrder smaller_high
-smaller_high-order = by_key-order (λ x. x.size) (λ a b. nat_lt b.address a.address) higher-order
+smaller_high-order = less-order (λ x. x.size) (λ a b. nat_lt b.address a.address) (falling-order (λ (x : Candidate). x.address))
 
 smaller_low-order : IsStrictWeakOrder smaller_low
-smaller_low-order = by_key-order (λ x. x.size) lower lower-order
+smaller_low-order = less-order (λ x. x.size) lower lower-order
 
 by_base : (t : Candidate → Candidate → Bool) → IsStrictWeakOrder t → IsStrictWeakOrder (λ a b. less a.base b.base (t a b))
-by_base t o = by_key-order (λ x. x.base) t o
+by_base t o = less-order (λ x. x.base) t o
 
 by_age : (t : Candidate → Candidate → Bool) → IsStrictWeakOrder t → IsStrictWeakOrder (λ a b. older a b (t a b))
-by_age t o = by_key-order (λ x. x.birth) (λ a b. less a.number b.number (t a b)) (by_key-order (λ x. x.number) t o)
+by_age t o = less-order (λ x. x.birth) (λ a b. less a.number b.number (t a b)) (less-order (λ x. x.number) t o)
 
 -- each strategy orders the candidates strictly
 pub takes_first-order : (s : Strategy) → IsStrictWeakOrder (takes_first s)

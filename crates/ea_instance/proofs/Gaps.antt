@@ -13,10 +13,12 @@ use Rattle.ea_model.specs.Strategies.{candidate, candidates, candidates_in}
 use Rattle.ea_model.specs.Instance.{changed, content_of, with_content, without_content}
 use Rattle.ea_mbc.proofs.Chosen.{gap_none, gap_some}
 use Rattle.ea_goodfit.specs.declared.gaps.Gap.{Gap}
-use Rattle.ea_instance.specs.Kept.{Rising}
+use Rattle.ea_instance.specs.Kept.{number_of, IsRising}
 use Rattle.ea_instance.specs.Kinds.{is_shared}
 use Rattle.ea_instance.specs.Listed.{all_gaps, gap_from, gap_of}
-use Rattle.ea_instance.proofs.Contents.{changed-behind, changed_here, changed_past, content_of_here, content_of_past, with_here, with_past, without-behind, without_here, without_past}
+use Rattle.ea_model.specs.Keyed.{IsBelow}
+use Rattle.ea_model.proofs.Pairs.{pairs_tail}
+use Rattle.ea_model.proofs.Rising.{changed_here, changed_none, changed_past, entered_here, entered_past, item_here, item_past, others, without_here, without_none, without_past}
 
 -- the gap of a carrier with this base, as the bins know it
 abbrev pub at_base : ℕ → model.Gap → Gap
@@ -85,9 +87,9 @@ with_own : (x : Content) (cs : List Content) → IsPermutation (all_gaps (with_c
 with_own x [] = as_listed (all_gaps (x ∷ [])) (own_gaps x ++ []) (own_and_more x [])
 with_own x (c ∷ cs) =
     elim (cases_lt x.number c.number) [
-      | inl lt ↦ as_listed (all_gaps (with_content x (c ∷ cs))) (own_gaps x ++ all_gaps (c ∷ cs)) (ap all_gaps (with_here x c cs lt) ∙ own_and_more x (c ∷ cs))
+      | inl lt ↦ as_listed (all_gaps (with_content x (c ∷ cs))) (own_gaps x ++ all_gaps (c ∷ cs)) (ap all_gaps (entered_here number_of x c cs lt) ∙ own_and_more x (c ∷ cs))
       | inr le ↦
-          subst (λ l. IsPermutation l (own_gaps x ++ all_gaps (c ∷ cs))) (sym (ap all_gaps (with_past x c cs le) ∙ own_and_more c (with_content x cs)))
+          subst (λ l. IsPermutation l (own_gaps x ++ all_gaps (c ∷ cs))) (sym (ap all_gaps (entered_past number_of x c cs le) ∙ own_and_more c (with_content x cs)))
           (subst (λ l. IsPermutation (own_gaps c ++ all_gaps (with_content x cs)) (own_gaps x ++ l)) (sym (own_and_more c cs)) (fronted (own_gaps c) (all_gaps (with_content x cs)) (own_gaps x) (all_gaps cs) (with_own x cs)))
     ]
 
@@ -96,27 +98,27 @@ pub gaps-with : (x : Content) (cs : List Content) → IsPermutation (all_gaps (w
 gaps-with x cs = subst (λ l. IsPermutation (all_gaps (with_content x cs)) (l ++ all_gaps cs)) (sym (own_only x)) (with_own x cs)
 
 found_here : (n : ℕ) (x c : Content) (xs : List Content) → x.number ≡ n → content_of (x ∷ xs) n ≡ Some c → x ≡ c
-found_here n x c xs e h = let same : Some x ≡ Some c = sym (content_of_here n x xs e) ∙ h in cc
+found_here n x c xs e h = let same : Some x ≡ Some c = sym (item_here number_of n x xs e) ∙ h in cc
 
-without_own : (low high n : ℕ) (c : Content) (cs : List Content) → Rising low high cs → content_of cs n ≡ Some c → IsPermutation (all_gaps cs) (own_gaps c ++ all_gaps (without_content n cs))
-without_own low high n c [] r h = absurd cc
-without_own low high n c (x ∷ xs) r h =
+without_own : (n : ℕ) (c : Content) (cs : List Content) → IsRising cs → content_of cs n ≡ Some c → IsPermutation (all_gaps cs) (own_gaps c ++ all_gaps (without_content n cs))
+without_own n c [] r h = absurd cc
+without_own n c (x ∷ xs) r h =
     elim (cases_eq x.number n) [
       | inl e ↦
-          let gone : without_content n (x ∷ xs) ≡ xs = without_here n x xs e ∙ without-behind (x.number + 1) high n xs r.2 (omega arith) in
+          let gone : without_content n (x ∷ xs) ≡ xs = without_here number_of n x xs e ∙ without_none number_of n xs (others number_of n x xs r e) in
           as_listed (all_gaps (x ∷ xs)) (own_gaps c ++ all_gaps (without_content n (x ∷ xs)))
           (own_and_more x xs ∙ ap (λ y. own_gaps y ++ all_gaps xs) (found_here n x c xs e h) ∙ ap (λ l. own_gaps c ++ all_gaps l) (sym gone))
       | inr o ↦
-          let there : content_of xs n ≡ Some c = sym (content_of_past n x xs o) ∙ h in
-          let stays : all_gaps (without_content n (x ∷ xs)) ≡ own_gaps x ++ all_gaps (without_content n xs) = ap all_gaps (without_past n x xs o) ∙ own_and_more x (without_content n xs) in
+          let there : content_of xs n ≡ Some c = sym (item_past number_of n x xs o) ∙ h in
+          let stays : all_gaps (without_content n (x ∷ xs)) ≡ own_gaps x ++ all_gaps (without_content n xs) = ap all_gaps (without_past number_of n x xs o) ∙ own_and_more x (without_content n xs) in
           subst (λ l. IsPermutation l (own_gaps c ++ all_gaps (without_content n (x ∷ xs)))) (sym (own_and_more x xs))
           (subst (λ l. IsPermutation (own_gaps x ++ all_gaps xs) (own_gaps c ++ l)) (sym stays)
-          (fronted (own_gaps x) (all_gaps xs) (own_gaps c) (all_gaps (without_content n xs)) (without_own (x.number + 1) high n c xs r.2 there)))
+          (fronted (own_gaps x) (all_gaps xs) (own_gaps c) (all_gaps (without_content n xs)) (without_own n c xs (pairs_tail (IsBelow number_of) x xs r) there)))
     ]
 
 -- with one carrier less its gaps are less
-pub gaps-without : (low high n : ℕ) (c : Content) (cs : List Content) → Rising low high cs → content_of cs n ≡ Some c → IsPermutation (all_gaps cs) (all_gaps (c ∷ []) ++ all_gaps (without_content n cs))
-gaps-without low high n c cs r h = subst (λ l. IsPermutation (all_gaps cs) (l ++ all_gaps (without_content n cs))) (sym (own_only c)) (without_own low high n c cs r h)
+pub gaps-without : (n : ℕ) (c : Content) (cs : List Content) → IsRising cs → content_of cs n ≡ Some c → IsPermutation (all_gaps cs) (all_gaps (c ∷ []) ++ all_gaps (without_content n cs))
+gaps-without n c cs r h = subst (λ l. IsPermutation (all_gaps cs) (l ++ all_gaps (without_content n cs))) (sym (own_only c)) (without_own n c cs r h)
 
 -- the gaps of a carrier in three parts, and more gaps: the second part comes to the front
 parted : (base : ℕ) (front mid behind : List model.Gap) (more : List Gap) → IsPermutation (map (at_base base) (front ++ mid ++ behind) ++ more) (map (at_base base) mid ++ ((map (at_base base) front ++ map (at_base base) behind) ++ more))
@@ -154,20 +156,20 @@ module _ (f : Content → Content) (item : Content) (base_is : (f item).base ≡
     subst (λ l. IsPermutation l (map (at_base item.base) made ++ (own_gaps c ++ h.0))) (sym (own_and_more c ys)) (fronted (own_gaps c) (all_gaps ys) (map (at_base item.base) made) h.0 h.2),
   )
 
-  replaced_in : (n : ℕ) (cs : List Content) (low high : ℕ) → Rising low high cs → content_of cs n ≡ Some item → Replaced (all_gaps cs) (all_gaps (changed f n cs))
-  replaced_in n [] low high r there = absurd cc
-  replaced_in n (x ∷ xs) low high r there =
+  replaced_in : (n : ℕ) (cs : List Content) → IsRising cs → content_of cs n ≡ Some item → Replaced (all_gaps cs) (all_gaps (changed f n cs))
+  replaced_in n [] r there = absurd cc
+  replaced_in n (x ∷ xs) r there =
       elim (cases_eq x.number n) [
         | inl e ↦
-            let only : changed f n (x ∷ xs) ≡ f x ∷ xs = changed_here f n x xs e ∙ ap (λ l. f x ∷ l) (changed-behind f (x.number + 1) high n xs r.2 (omega arith)) in
+            let only : changed f n (x ∷ xs) ≡ f x ∷ xs = changed_here number_of f n x xs e ∙ ap (λ l. f x ∷ l) (changed_none number_of f n xs (others number_of n x xs r e)) in
             subst (λ l. Replaced (all_gaps (x ∷ xs)) (all_gaps l)) (sym only) (replaced_here x xs (found_here n x item xs e there))
         | inr o ↦
-            subst (λ l. Replaced (all_gaps (x ∷ xs)) (all_gaps l)) (sym (changed_past f n x xs o))
-            (replaced_more x xs (changed f n xs) (replaced_in n xs (x.number + 1) high r.2 (sym (content_of_past n x xs o) ∙ there)))
+            subst (λ l. Replaced (all_gaps (x ∷ xs)) (all_gaps l)) (sym (changed_past number_of f n x xs o))
+            (replaced_more x xs (changed f n xs) (replaced_in n xs (pairs_tail (IsBelow number_of) x xs r) (sym (item_past number_of n x xs o) ∙ there)))
       ]
 
 -- where the gaps of one carrier change, all gaps change alike
-pub gaps-replaced : (f : Content → Content) (n : ℕ) (item : Content) (cs : List Content) (low high : ℕ) → Rising low high cs → content_of cs n ≡ Some item → ((f item).number ≡ item.number) → ((f item).base ≡ item.base) → ((f item).kind ≡ item.kind) → is_shared item.kind ≡ true
+pub gaps-replaced : (f : Content → Content) (n : ℕ) (item : Content) (cs : List Content) → IsRising cs → content_of cs n ≡ Some item → ((f item).number ≡ item.number) → ((f item).base ≡ item.base) → ((f item).kind ≡ item.kind) → is_shared item.kind ≡ true
     → (gone made front behind : List model.Gap) → gaps_of item ≡ front ++ gone ++ behind → gaps_of (f item) ≡ front ++ made ++ behind
     → (rest : List Gap) × IsPermutation (all_gaps cs) (map (at_base item.base) gone ++ rest) × IsPermutation (all_gaps (changed f n cs)) (map (at_base item.base) made ++ rest)
-gaps-replaced f n item cs low high r there number base kind shared gone made front behind before after = replaced_in f item base kind shared gone made front behind before after n cs low high r there
+gaps-replaced f n item cs r there number base kind shared gone made front behind before after = replaced_in f item base kind shared gone made front behind before after n cs r there

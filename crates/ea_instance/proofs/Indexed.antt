@@ -9,16 +9,15 @@ use Rattle.ea_model.specs.Instance.{changed, content_of, with_content, without_c
 use Rattle.ea_model.specs.declared.carriers.Gap as model
 use Rattle.ea_mbc.specs.Gaps.{GapsJoined, GapTaken, Replaced}
 use Rattle.ea_goodfit.specs.declared.gaps.Gap.{Gap}
-use Rattle.ea_instance.specs.Found.{IsRising}
 use Rattle.ea_instance.specs.Kinds.{is_shared}
-use Rattle.ea_instance.specs.Kept.{Rising}
+use Rattle.ea_instance.specs.Kept.{number_of, IsRising}
 use Rattle.ea_instance.specs.Listed.{all_gaps, gap_from, CanCut, CanJoin, IsApartFrom, IsSound}
 use Rattle.std.proofs.lemmas.Bool.{cases_eq}
 use Rattle.std.proofs.lemmas.List.Elements.{All-head, All-tail}
 use Rattle.ea_instance.proofs.Changed.{KeepsPlace, IsAt}
-use Rattle.ea_instance.proofs.Contents.{All-with_content}
+use Rattle.ea_model.proofs.Rising.{All-entered, item_at-All}
 use Rattle.ea_instance.proofs.Gaps.{at_base, at_gap, gap_from-some, gaps-replaced, gaps-with, gaps-without, unused_gaps}
-use Rattle.ea_instance.proofs.Listed.{all-sound, apart-changed, apart-with, first-alone, sound-at, DifferIn}
+use Rattle.ea_instance.proofs.Listed.{all-sound, apart-changed, apart-with, first-alone, DifferIn}
 use Rattle.ea_instance.proofs.Located.{gaps-distinct, gaps_Inside, Inside}
 
 -- a carrier without blocks and its one gap
@@ -40,14 +39,14 @@ module _ (x : Content) (sound : IsSound x) (none : x.blocks ≡ []) (address fit
   entered-free cs held all pairs apart h some =
       let now = with_content x cs in
       All-permutation (λ g. g.address ≢ address) (all_gaps cs) held (IsPermutation-sym held (all_gaps cs) h)
-      (first-alone (all_gaps now) (record { address = address; size = fit }) (all_gaps cs) (gaps-distinct now (All-with_content IsSound x cs sound all) (apart-with x cs pairs apart))
+      (first-alone (all_gaps now) (record { address = address; size = fit }) (all_gaps cs) (gaps-distinct now (All-entered number_of IsSound x cs sound all) (apart-with x cs pairs apart))
       (subst (λ gs. IsPermutation (all_gaps now) (gs ++ all_gaps cs)) (gap_from-some address fit some) (with_own cs)))
 
   -- and leaves them with it
-  pub left-binned : (low high n : ℕ) (cs : List Content) (held : List Gap) → Rising low high cs → content_of cs n ≡ Some x → IsPermutation held (all_gaps cs) → IsPermutation held (gap_from address fit ++ all_gaps (without_content n cs))
-  left-binned low high n cs held rising there h =
+  pub left-binned : (n : ℕ) (cs : List Content) (held : List Gap) → IsRising cs → content_of cs n ≡ Some x → IsPermutation held (all_gaps cs) → IsPermutation held (gap_from address fit ++ all_gaps (without_content n cs))
+  left-binned n cs held rising there h =
       IsPermutation-trans held (all_gaps cs) (gap_from address fit ++ all_gaps (without_content n cs)) h
-      (subst (λ gs. IsPermutation (all_gaps cs) (gs ++ all_gaps (without_content n cs))) own_gap (gaps-without low high n x cs rising there))
+      (subst (λ gs. IsPermutation (all_gaps cs) (gs ++ all_gaps (without_content n cs))) own_gap (gaps-without n x cs rising there))
 
 mid_All : {A : Type 0} (P : A → Type 0) (front : List A) (x : A) (behind : List A) → All P ((front ++ x ∷ []) ++ behind) → P x
 mid_All P [] x behind a = All-head P x behind a
@@ -64,7 +63,7 @@ gap_up_to-le (g ∷ gs) offset = up_to_more offset g gs (gap_up_to-le gs offset)
 -- a change of one carrier's gaps
 module _ (f : Content → Content) (k : KeepsPlace f) (n : ℕ) (item : Content) (cs : List Content) (i : ℕ) (at : IsAt cs i n item) (rising : IsRising cs) (all : All IsSound cs) (pairs : AllPairs IsApartFrom cs) (tiled : Tiled 8 (f item).units (f item).blocks) where
   here : IsSound item
-  here = sound-at cs i n item at all
+  here = item_at-All number_of IsSound n item cs all at.there
 
   pub changed-sound : IsSound (f item)
   changed-sound = record { shared = ap is_shared (k.kind item) ∙ here.shared; tiled = tiled; low = omega (arith, k.base item, k.units item, here.low) }
@@ -81,7 +80,7 @@ module _ (f : Content → Content) (k : KeepsPlace f) (n : ℕ) (item : Content)
     inside = mid_All (Inside 8 item.units) r.front gone r.behind (subst (All (Inside 8 item.units)) r.was (gaps_Inside 8 item.units item.blocks here.tiled))
 
     replaced : (rest : List Gap) × IsPermutation (all_gaps cs) (map (at_base item.base) (gone ∷ []) ++ rest) × IsPermutation (all_gaps (changed f n cs)) (map (at_base item.base) (gap (offset + size) (offset + whole)) ++ rest)
-    replaced = gaps-replaced f n item cs rising.0 rising.1 rising.2 at.there (k.number item) (k.base item) (k.kind item) here.shared (gone ∷ []) (gap (offset + size) (offset + whole)) r.front r.behind r.was r.is
+    replaced = gaps-replaced f n item cs rising at.there (k.number item) (k.base item) (k.kind item) here.shared (gone ∷ []) (gap (offset + size) (offset + whole)) r.front r.behind r.was r.is
 
     pub begins-within : offset ≤ (f item).units
     begins-within = omega (arith, inside.within, k.units item)
@@ -125,7 +124,7 @@ module _ (f : Content → Content) (k : KeepsPlace f) (n : ℕ) (item : Content)
     joined_inside = mid_All (Inside 8 (f item).units) r.front made r.behind (subst (All (Inside 8 (f item).units)) r.is (gaps_Inside 8 (f item).units (f item).blocks tiled))
 
     joined : (rest : List Gap) × IsPermutation (all_gaps cs) (map (at_base item.base) (gap (offset - before) offset ++ gap (offset + size) (offset + size + behind)) ++ rest) × IsPermutation (all_gaps (changed f n cs)) (map (at_base item.base) (made ∷ []) ++ rest)
-    joined = gaps-replaced f n item cs rising.0 rising.1 rising.2 at.there (k.number item) (k.base item) (k.kind item) here.shared (gap (offset - before) offset ++ gap (offset + size) (offset + size + behind)) (made ∷ []) r.front r.behind r.was r.is
+    joined = gaps-replaced f n item cs rising at.there (k.number item) (k.base item) (k.kind item) here.shared (gap (offset - before) offset ++ gap (offset + size) (offset + size + behind)) (made ∷ []) r.front r.behind r.was r.is
 
     pub released-within : offset ≤ (f item).units
     released-within = omega (arith, joined_inside.within, within)

@@ -9,17 +9,20 @@ use Rattle.ea_model.specs.declared.entries.NoCarrier.TheVariants.{Space}
 use Rattle.ea_model.specs.declared.carriers.CarrierPlan.{CarrierPlan}
 use Rattle.ea_model.specs.declared.carriers.Kind.TheVariants.{Multi}
 use Rattle.ea_model.specs.Content.{Content, placed}
-use Rattle.ea_model.specs.Region.{Region, Laid, lowest_run, runs, entered, cut_from}
+use Rattle.ea_model.specs.Region.{Region, Laid, lowest_run, runs, with_segment, cut_from}
 use Rattle.ea_model.specs.Instance.{Instance, segments, segment_of, first_number, changed, content_of, with_content, unused_from, is_used, free_run, least_pages, next_pages, planned, least_plan, sized_plan, numbered_plan, plan, created_content, creating, without_content, chosen_spot, block_in, size_for, place_at, placing_at}
 use Rattle.ea_model.proofs.Options.{some_holds}
 use Rattle.ea_space.proofs.Runs.{Fits, lowest-Fits}
 use Rattle.ea_model.specs.Strategies.{choice_among, choice_unused, may_miss, or_else, spot_of}
 use Rattle.ea_instance.specs.Answers.{placing_if}
-use Rattle.ea_instance.specs.Kept.{IsKept, IsWhole}
+use Rattle.ea_instance.specs.Kept.{number_of, HasNumberIn, IsKept, IsRising, IsWhole}
 use Rattle.ea_instance.specs.Listed.{CarrierList, IsApartFrom}
 use Rattle.ea_instance.specs.Found.{HaveSameBlocks}
-use Rattle.ea_instance.proofs.Changed.{KeepsPlace, Rising-changed, segments-changed, All-changed}
-use Rattle.ea_instance.proofs.Contents.{Rising-room, Rising-with_content, Rising-without, All-with_content, unused_from-free, same-with}
+use Rattle.ea_instance.proofs.Changed.{KeepsPlace, own-changed, segments-changed, whole-changed}
+use Rattle.ea_instance.proofs.Contents.{rising-length, unused_from-free, unused-All, same-with}
+use Rattle.ea_model.specs.Keyed.{IsBelow}
+use Rattle.ea_model.proofs.Rising.{All-entered, length-entered, rising-changed, rising-entered}
+use Rattle.std.proofs.lemmas.List.Kept.{AllPairs-filter}
 use Rattle.ea_instance.proofs.Room.{chosen-created}
 use Rattle.ea_instance.proofs.Segments.{length-segments, apart-contents, segments-with_content, segments-without}
 
@@ -30,8 +33,9 @@ IsKept-changed f keeps s n m ks new r e k =
       valid = k.valid;
       strategy = k.strategy;
       instance = k.instance;
-      rising = Rising-changed f keeps m _ _ ks.contents k.rising;
-      whole = All-changed f keeps m ks.contents k.whole;
+      rising = rising-changed number_of f m keeps.number ks.contents k.rising;
+      own = own-changed f keeps m _ _ ks.contents k.own;
+      whole = whole-changed f keeps m ks.contents k.whole;
       taken = k.taken ∙ sym (segments-changed f keeps m ks.contents);
       within = k.within;
       laid = k.laid;
@@ -155,9 +159,18 @@ module _ (s : Settings) (n : ℕ) (ks : CarrierList) (created : ℕ) (r : Region
   pub lies-low : (x : Content) → x ≡ created_content n Multi p → 512 * x.base + x.units ≤ 67108864
   lies-low x is = subst (λ (y : Content). 512 * y.base + y.units ≤ 67108864) (sym is) (omega (arith, run_fits.before, k.within))
 
+  abbrev made : Content
+  made = created_content n Multi p
+
+  still-rising : IsRising (with_content made ks.contents)
+  still-rising = rising-entered number_of made ks.contents k.rising (unused-All p.number ks.contents unused.2)
+
+  still-own : All (HasNumberIn (first_number n) (first_number n + 256)) (with_content made ks.contents)
+  still-own = All-entered number_of (HasNumberIn (first_number n) (first_number n + 256)) made ks.contents (unused.0, unused.1) k.own
+
   -- there are fewer carriers, and segments, than numbers
   pub has-number : length ks.contents < 256
-  has-number = omega (arith, Rising-room (first_number n) (first_number n + 256) p.number ks.contents k.rising unused.0 unused.1 unused.2)
+  has-number = omega (arith, length-entered number_of made ks.contents, rising-length (first_number n) (first_number n + 256) (with_content made ks.contents) still-rising still-own)
 
   pub has_room : length r.taken < 256
   has_room = omega (arith, has-number, ap length k.taken, length-segments ks.contents)
@@ -170,20 +183,21 @@ module _ (s : Settings) (n : ℕ) (ks : CarrierList) (created : ℕ) (r : Region
   taken_at o found = found ∙ ap (λ t. lowest_run p.pages (runs r.first r.end t)) k.taken ∙ planned_here.run
 
   pub IsKept-created : (o : Option ℕ) (r2 : Region) (x : Content) (new : CarrierList) → o ≡ lowest_run p.pages (runs r.first r.end r.taken)
-      → IfSome o (λ start. r2 ≡ record r { taken = entered (record { start = start; pages = p.pages }) r.taken }) → Laid r2.first r2.end r2.taken → x ≡ created_content n Multi p
+      → IfSome o (λ start. r2 ≡ record r { taken = with_segment (record { start = start; pages = p.pages }) r.taken }) → Laid r2.first r2.end r2.taken → x ≡ created_content n Multi p
       → new ≡ record ks { contents = with_content x ks.contents } → IsKept s n new r2
   IsKept-created o r2 x new found took laid is same =
       let at = taken_at o found in
-      let e = some_holds o p.base (λ start. r2 ≡ record r { taken = entered (record { start = start; pages = p.pages }) r.taken }) at took in
+      let e = some_holds o p.base (λ start. r2 ≡ record r { taken = with_segment (record { start = start; pages = p.pages }) r.taken }) at took in
       let entered_is : new ≡ record ks { contents = with_content (created_content n Multi p) ks.contents } = same ∙ ap (λ y. record ks { contents = with_content y ks.contents }) is in
       subst (λ ys. IsKept s n ys r2) (sym entered_is) (record {
         valid = k.valid;
         strategy = k.strategy;
         instance = k.instance;
-        rising = Rising-with_content (first_number n) (first_number n + 256) (created_content n Multi p) ks.contents k.rising unused.0 unused.1 unused.2;
-        whole = All-with_content IsWhole (created_content n Multi p) ks.contents (whole_pages p.pages, subst (λ m. 1 ≤ m) (sym (pages_of_units p.pages)) some_pages) k.whole;
+        rising = still-rising;
+        own = still-own;
+        whole = All-entered number_of IsWhole (created_content n Multi p) ks.contents (whole_pages p.pages, subst (λ m. 1 ≤ m) (sym (pages_of_units p.pages)) some_pages) k.whole;
         taken =
-            ap (λ (y : Region). y.taken) e ∙ ap (entered (record { start = p.base; pages = p.pages })) k.taken ∙ ap (λ g. entered g (segments ks.contents)) (sym segment_is)
+            ap (λ (y : Region). y.taken) e ∙ ap (with_segment (record { start = p.base; pages = p.pages })) k.taken ∙ ap (λ g. with_segment g (segments ks.contents)) (sym segment_is)
             ∙ sym (segments-with_content (created_content n Multi p) ks.contents (omega (arith, some_pages)) k.whole (others-apart (created_content n Multi p) refl));
         within = subst (λ (y : Region). y.end ≤ 131072) (sym e) k.within;
         laid = laid;
@@ -191,10 +205,10 @@ module _ (s : Settings) (n : ℕ) (ks : CarrierList) (created : ℕ) (r : Region
 
   -- and the instance is then the one that employs the carrier
   pub seen-created : (o : Option ℕ) (r2 : Region) (x : Content) (new : CarrierList) → o ≡ lowest_run p.pages (runs r.first r.end r.taken)
-      → IfSome o (λ start. r2 ≡ record r { taken = entered (record { start = start; pages = p.pages }) r.taken }) → x ≡ created_content n Multi p → new ≡ record ks { contents = with_content x ks.contents }
+      → IfSome o (λ start. r2 ≡ record r { taken = with_segment (record { start = start; pages = p.pages }) r.taken }) → x ≡ created_content n Multi p → new ≡ record ks { contents = with_content x ks.contents }
       → seen_as s n new.contents p.birth r2 ≡ creating now p
   seen-created o r2 x new found took is same =
-      let e = some_holds o p.base (λ start. r2 ≡ record r { taken = entered (record { start = start; pages = p.pages }) r.taken }) (taken_at o found) took in
+      let e = some_holds o p.base (λ start. r2 ≡ record r { taken = with_segment (record { start = start; pages = p.pages }) r.taken }) (taken_at o found) took in
       ap (λ (ys : CarrierList). seen_as s n ys.contents p.birth r2) (same ∙ ap (λ y. record ks { contents = with_content y ks.contents }) is)
       ∙ ap (seen_as s n (with_content (created_content n Multi p) ks.contents) p.birth) e ∙ ap (λ i. creating i p) seen
 
@@ -214,11 +228,12 @@ IsKept-cleared s n number ks c r r2 k there e laid = record {
   valid = k.valid;
   strategy = k.strategy;
   instance = k.instance;
-  rising = Rising-without (first_number n) (first_number n + 256) number ks.contents k.rising;
-  whole = All-filter (λ x. not (x.number == number)) IsWhole ks.contents k.whole;
+  rising = AllPairs-filter (IsBelow number_of) _ ks.contents k.rising;
+  own = All-filter _ (HasNumberIn (first_number n) (first_number n + 256)) ks.contents k.own;
+  whole = All-filter _ IsWhole ks.contents k.whole;
   taken =
       ap (λ (x : Region). x.taken) e ∙ ap (cut_from c.base) k.taken
-      ∙ sym (segments-without r.first r.end _ _ number c ks.contents (subst (Laid r.first r.end) k.taken k.laid) k.whole k.rising there);
+      ∙ sym (segments-without r.first r.end number c ks.contents (subst (Laid r.first r.end) k.taken k.laid) k.whole k.rising there);
   within = subst (λ (x : Region). x.end ≤ 131072) (sym e) k.within;
   laid = laid;
 }

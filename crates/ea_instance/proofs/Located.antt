@@ -20,9 +20,11 @@ use Rattle.ea_model.proofs.First.{first-All}
 use Rattle.ea_mbc.proofs.Chosen.{Begins, gap_none, gap_some, gaps-Begins}
 use Rattle.ea_mbc.proofs.Tiling.{Tiled-allocated}
 use Rattle.ea_goodfit.specs.declared.gaps.Gap.{Gap}
-use Rattle.ea_instance.specs.Found.{HasGap, IsRising}
+use Rattle.ea_model.proofs.Pairs.{pairs_nil, pairs_head, pairs_tail, pairs_append, pairs_map}
+use Rattle.ea_model.proofs.Rising.{item_at-each}
+use Rattle.ea_instance.specs.Kept.{number_of, IsRising}
+use Rattle.ea_instance.specs.Found.{HasGap}
 use Rattle.ea_instance.specs.Listed.{all_gaps, gap_of, candidate_at, IsSound, IsApartFrom, spans}
-use Rattle.ea_instance.proofs.Contents.{content_of-at}
 
 -- a gap of some units, from `at` on and up to `end`
 pub record Inside (at end : ℕ) (g : model.Gap) : Type 0 where
@@ -45,27 +47,6 @@ gaps_Inside at end (b ∷ bs) t =
     let upto = Tiled-allocated (b.offset + b.size) end bs t.4 in
     All-append (Inside at end) (gap at b.offset) (gaps (b.offset + b.size) end bs) (gap_Inside at b.offset at end (omega arith) (omega arith))
     (All-weaker (Inside (b.offset + b.size) end) (Inside at end) (λ g i. record { behind = omega (arith, i.behind, t.0); some = i.some; within = i.within }) (gaps (b.offset + b.size) end bs) (gaps_Inside (b.offset + b.size) end bs t.4))
-
-module _ {X : Type 0} (R : X → X → Type 0) where
-  pairs_nil : AllPairs R []
-  pairs_nil = λ i j d lt within. absurd (omega arith)
-
-  pairs_head : (x : X) (xs : List X) → AllPairs R (x ∷ xs) → All (R x) xs
-  pairs_head x xs h = λ k d within. h zero (suc k) d (omega arith) (omega arith)
-
-  pairs_tail : (x : X) (xs : List X) → AllPairs R (x ∷ xs) → AllPairs R xs
-  pairs_tail x xs h = λ i j d lt within. h (suc i) (suc j) d (omega arith) (omega arith)
-
-  pairs_append : (xs ys : List X) → AllPairs R xs → AllPairs R ys → All (λ x. All (R x) ys) xs → AllPairs R (xs ++ ys)
-  pairs_append [] ys p q across = q
-  pairs_append (x ∷ xs) ys p q across =
-      AllPairs-cons R x (xs ++ ys) (All-append (R x) xs ys (pairs_head x xs p) (All-head (λ (y : X). All (R y) ys) x xs across))
-      (pairs_append xs ys (pairs_tail x xs p) q (All-tail (λ (y : X). All (R y) ys) x xs across))
-
-  pub pairs_map : {Y : Type 0} (f : Y → X) (ys : List Y) → AllPairs (λ a b. R (f a) (f b)) ys → AllPairs R (map f ys)
-  pairs_map f [] p = pairs_nil
-  pairs_map f (y ∷ ys) p =
-      AllPairs-cons R (f y) (map f ys) (All-map (R (f y)) f ys (λ k d within. p zero (suc k) d (omega arith) (omega arith))) (pairs_map f ys (λ i j d lt within. p (suc i) (suc j) d (omega arith) (omega arith)))
 
 -- the offset of one gap is before that of another
 abbrev IsBefore : model.Gap → model.Gap → Type 0
@@ -256,7 +237,7 @@ owned_All cs rising sound =
     candidates_All (IsOwned cs) cs
     (both_All (λ c. content_of cs c.number ≡ Some c) IsSound (λ c. All (λ g. IsOwned cs (candidate c g)) (gaps_of c))
     (λ c there s. All-weaker (Begins 8 (gaps_of c)) (λ g. IsOwned cs (candidate c g)) (λ g b. (c, there, b.size)) (gaps_of c) (gaps-Begins 8 c.units c.blocks s.tiled))
-    cs (λ i d within. content_of-at rising.0 rising.1 i d cs rising.2 within) sound)
+    cs (λ i d within. item_at-each number_of i d cs rising within) sound)
 
 -- a candidate that is large enough is a gap of its carrier
 pub candidate-HasGap : (need : ℕ) (x : Candidate) (cs : List Content) → IsRising cs → All IsSound cs → Contains (candidates cs) x → need ≤ x.size → HasGap need x.number x.offset cs

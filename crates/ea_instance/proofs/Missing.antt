@@ -13,7 +13,8 @@ use Rattle.ea_model.specs.Strategies.{candidates, choice_among, large_enough, lo
 use Rattle.ea_model.proofs.First.{first-All, large-here, large-past}
 use Rattle.ea_model.proofs.Options.{if_some, some_holds}
 use Rattle.ea_goodfit.specs.declared.gaps.Gap.{Gap}
-use Rattle.ea_instance.specs.Found.{HasGap, IsRising}
+use Rattle.ea_instance.specs.Found.{HasGap}
+use Rattle.ea_instance.specs.Kept.{IsRising}
 use Rattle.ea_instance.specs.Listed.{all_gaps, candidate_at, IsApartFrom, IsSound}
 use Rattle.ea_instance.proofs.Located.{candidate-HasGap, good_fit-at, large-all}
 

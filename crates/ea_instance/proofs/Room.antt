@@ -10,8 +10,10 @@ use Rattle.ea_model.specs.Choice.{better, first}
 use Rattle.ea_model.specs.Content.{Content, is_done}
 use Rattle.ea_model.specs.Instance.{Instance, created_content, creating, chosen_spot, with_content}
 use Rattle.ea_model.specs.Strategies.{candidates, candidates_in, choice_among, choice_for, choice_unused, large_enough, looked_at, lower, may_miss, or_else, takes_first, spot_of}
+use Rattle.ea_model.proofs.Options.{is_some-map}
 use Rattle.ea_instance.proofs.Choosing.{all_looked_at}
-use Rattle.ea_instance.proofs.Contents.{with_here, with_past}
+use Rattle.ea_model.proofs.Rising.{entered_here, entered_past}
+use Rattle.ea_instance.specs.Kept.{number_of}
 
 still_some : {A : Type 0} (t : A → A → Bool) (x : A) (xs : List A) → IsSome (fold (better t) (Some x) xs)
 still_some t x [] = refl
@@ -20,10 +22,6 @@ still_some t x (y ∷ ys) = still_some t (cond (t y x) y x) ys
 first-some : {A : Type 0} (t : A → A → Bool) (xs : List A) → 1 ≤ length xs → IsSome (first t xs)
 first-some t [] h = absurd (omega arith)
 first-some t (x ∷ xs) h = still_some t x xs
-
-mapped_some : {A B : Type 0} (f : A → B) (o : Option A) → IsSome o → IsSome (option_map f o)
-mapped_some f None h = absurd cc
-mapped_some f (Some x) h = refl
 
 -- how many candidates a content has
 abbrev counted : ℕ → List Candidate → ℕ
@@ -38,8 +36,8 @@ counted_with : (need : ℕ) (x : Content) (cs : List Content) → counted need (
 counted_with need x [] = omega (arith, counted_more need x [])
 counted_with need x (c ∷ cs) =
     elim (cases_lt x.number c.number) [
-      | inl lt ↦ omega (arith, ap (λ ys. counted need (candidates ys)) (with_here x c cs lt), counted_more need x (c ∷ cs))
-      | inr le ↦ omega (arith, ap (λ ys. counted need (candidates ys)) (with_past x c cs le), counted_more need c (with_content x cs), counted_with need x cs)
+      | inl lt ↦ omega (arith, ap (λ ys. counted need (candidates ys)) (entered_here number_of x c cs lt), counted_more need x (c ∷ cs))
+      | inr le ↦ omega (arith, ap (λ ys. counted need (candidates ys)) (entered_past number_of x c cs le), counted_more need c (with_content x cs), counted_with need x cs)
     ]
 
 done_here : (c : Content) (cs : List Content) → is_done c ≡ true → filter is_done (c ∷ cs) ≡ c ∷ filter is_done cs
@@ -66,8 +64,8 @@ unused_with : (need : ℕ) (x : Content) (cs : List Content) → is_done x ≡ t
 unused_with need x [] done = unused_at need x [] done
 unused_with need x (c ∷ cs) done =
     elim (cases_lt x.number c.number) [
-      | inl lt ↦ omega (arith, ap (unused_counted need) (with_here x c cs lt), unused_at need x (c ∷ cs) done)
-      | inr le ↦ omega (arith, ap (unused_counted need) (with_past x c cs le), unused_more need c (with_content x cs), unused_with need x cs done)
+      | inl lt ↦ omega (arith, ap (unused_counted need) (entered_here number_of x c cs lt), unused_at need x (c ∷ cs) done)
+      | inr le ↦ omega (arith, ap (unused_counted need) (entered_past number_of x c cs le), unused_more need c (with_content x cs), unused_with need x cs done)
     ]
 
 or_else-some : (asked : Bool) (found other : Option Candidate) → (asked ≡ false → IsSome found) → IsSome other → IsSome (or_else asked found other)
@@ -85,8 +83,8 @@ chosen-created i need p room some =
     let s = i.settings.strategy in
     let cs = with_content x i.contents in
     let fits = created_fits i.number need p room some in
-    mapped_some spot_of (choice_for i.settings need cs)
-    (or_else-some (may_miss s) (choice_among s i.settings.mbsd need cs) (choice_unused need cs)
+    is_some-map spot_of (choice_for i.settings need cs)
+    ∙ or_else-some (may_miss s) (choice_among s i.settings.mbsd need cs) (choice_unused need cs)
     (λ none. first-some (takes_first s) (large_enough need (looked_at s i.settings.mbsd (candidates cs)))
     (omega (arith, ap (counted need) (all_looked_at s i.settings.mbsd (candidates cs) none), counted_with need x i.contents, fits)))
-    (first-some lower (large_enough need (candidates (filter is_done cs))) (omega (arith, unused_with need x i.contents refl, fits))))
+    (first-some lower (large_enough need (candidates (filter is_done cs))) (omega (arith, unused_with need x i.contents refl, fits)))

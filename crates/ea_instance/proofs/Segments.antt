@@ -5,53 +5,48 @@ use Rattle.std.proofs.lemmas.Bool.{cases_lt, cases_eq}
 use Rattle.std.proofs.lemmas.List.Elements.{All-nil, All-cons, All-head, All-tail}
 use Rattle.ea_model.specs.declared.carriers.Segment.{Segment}
 use Rattle.ea_model.specs.Content.{Content}
-use Rattle.ea_model.specs.Region.{stretch, entered, covers, cut_from, Laid}
-use Rattle.ea_model.specs.Instance.{segment_of, segments, with_content, content_of}
+use Rattle.ea_model.specs.Keyed.{IsBelow}
+use Rattle.ea_model.specs.Region.{stretch, with_segment, covers, cut_from, Laid}
+use Rattle.ea_model.specs.Instance.{segment_of, segments, with_content, without_content, content_of}
+use Rattle.ea_model.proofs.Pairs.{pairs_tail}
+use Rattle.ea_model.proofs.Rising.{entered_here, entered_past, length-entered, others, without_here, without_none, without_past}
 use Rattle.ea_space.specs.Pages.{IsBeside, IsApart, IsTailOf, IsTail}
-use Rattle.ea_space.proofs.Segments.{entered_here, entered_past, covers_cases, cut_past, cut_first, stretch_none, Laid-cut, any_cases, IsTail_cases, IsTail_behind}
-use Rattle.ea_instance.specs.Kept.{Rising, IsWhole}
+use Rattle.ea_space.proofs.Segments.{start_of, covers_cases, cut_past, cut_first, stretch_none, Laid-cut, any_cases, IsTail_cases, IsTail_behind}
+use Rattle.ea_instance.specs.Kept.{number_of, IsRising, IsWhole}
 use Rattle.ea_instance.specs.Listed.{IsApartFrom}
 
-entered_only : (a b : Segment) → a.start ≢ b.start → entered a (b ∷ []) ≡ entered b (a ∷ [])
+entered_only : (a b : Segment) → a.start ≢ b.start → with_segment a (b ∷ []) ≡ with_segment b (a ∷ [])
 entered_only a b h = elim (cases_lt a.start b.start) [ inl p ↦ grind arith | inr q ↦ grind arith ]
 
-entered_first : (a b t : Segment) (ts : List Segment) → a.start ≢ b.start → b.start < t.start → entered a (b ∷ t ∷ ts) ≡ entered b (entered a (t ∷ ts))
+entered_first : (a b t : Segment) (ts : List Segment) → a.start ≢ b.start → b.start < t.start → with_segment a (b ∷ t ∷ ts) ≡ with_segment b (with_segment a (t ∷ ts))
 entered_first a b t ts h lt = elim (cases_lt a.start b.start) [ inl p ↦ grind arith | inr q ↦ grind arith ]
 
--- segments that begin at different pages may be entered in either order
-pub entered-entered : (a b : Segment) (ts : List Segment) → a.start ≢ b.start → entered a (entered b ts) ≡ entered b (entered a ts)
+-- segments that begin at different pages may be with_segment in either order
+pub entered-entered : (a b : Segment) (ts : List Segment) → a.start ≢ b.start → with_segment a (with_segment b ts) ≡ with_segment b (with_segment a ts)
 entered-entered a b [] h = entered_only a b h
 entered-entered a b (t ∷ ts) h =
     elim (cases_lt b.start t.start) [
-      | inl p ↦ ap (entered a) (entered_here b t ts p) ∙ entered_first a b t ts h p
+      | inl p ↦ ap (with_segment a) (entered_here start_of b t ts p) ∙ entered_first a b t ts h p
       | inr q ↦ elim (cases_lt a.start t.start) [
-        | inl p ↦ sym (ap (entered b) (entered_here a t ts p) ∙ entered_first b a t ts (λ e. h (sym e)) p)
-        | inr r ↦ ap (entered a) (entered_past b t ts q) ∙ entered_past a t (entered b ts) r ∙ ap (λ xs. t ∷ xs) (entered-entered a b ts h) ∙ sym (ap (entered b) (entered_past a t ts r) ∙ entered_past b t (entered a ts) q)
+        | inl p ↦ sym (ap (with_segment b) (entered_here start_of a t ts p) ∙ entered_first b a t ts (λ e. h (sym e)) p)
+        | inr r ↦ ap (with_segment a) (entered_past start_of b t ts q) ∙ entered_past start_of a t (with_segment b ts) r ∙ ap (λ xs. t ∷ xs) (entered-entered a b ts h) ∙ sym (ap (with_segment b) (entered_past start_of a t ts r) ∙ entered_past start_of b t (with_segment a ts) q)
       ]
-    ]
-
-length_entered : (s : Segment) (ts : List Segment) → length (entered s ts) ≡ suc (length ts)
-length_entered s [] = refl
-length_entered s (t ∷ ts) =
-    elim (cases_lt s.start t.start) [
-      | inl p ↦ ap (λ xs. length xs) (entered_here s t ts p)
-      | inr q ↦ ap (λ xs. length xs) (entered_past s t ts q) ∙ ap suc (length_entered s ts)
     ]
 
 pub length-segments : (cs : List Content) → length (segments cs) ≡ length cs
 length-segments [] = refl
-length-segments (c ∷ cs) = length_entered (segment_of c) (segments cs) ∙ ap suc (length-segments cs)
+length-segments (c ∷ cs) = length-entered start_of (segment_of c) (segments cs) ∙ ap (λ n. n + 1) (length-segments cs) ∙ omega arith
 
--- what holds of all segments holds of the one entered and of the others
-all_entered : (P : Segment → Type 0) (s : Segment) (ts : List Segment) → All P (entered s ts) → P s × All P ts
+-- what holds of all segments holds of the one with_segment and of the others
+all_entered : (P : Segment → Type 0) (s : Segment) (ts : List Segment) → All P (with_segment s ts) → P s × All P ts
 all_entered P s [] h = (All-head P s [] h, All-nil P)
 all_entered P s (t ∷ ts) h =
     elim (cases_lt s.start t.start) [
-      | inl p ↦ let k = subst (All P) (entered_here s t ts p) h in (All-head P s (t ∷ ts) k, All-tail P s (t ∷ ts) k)
+      | inl p ↦ let k = subst (All P) (entered_here start_of s t ts p) h in (All-head P s (t ∷ ts) k, All-tail P s (t ∷ ts) k)
       | inr q ↦
-          let k = subst (All P) (entered_past s t ts q) h in
-          let more = all_entered P s ts (All-tail P t (entered s ts) k) in
-          (more.0, All-cons P t ts (All-head P t (entered s ts) k) more.1)
+          let k = subst (All P) (entered_past start_of s t ts q) h in
+          let more = all_entered P s ts (All-tail P t (with_segment s ts) k) in
+          (more.0, All-cons P t ts (All-head P t (with_segment s ts) k) more.1)
     ]
 
 apart_from : (x c : Content) (pages : ℕ) → x.units ≡ 512 * pages → IsWhole c → IsBeside x.base pages (segment_of c) → IsApartFrom x c
@@ -67,23 +62,17 @@ apart-contents x pages (c ∷ cs) size whole apart =
     (apart_from x c pages size (All-head IsWhole c cs whole) both.0)
     (apart-contents x pages cs size (All-tail IsWhole c cs whole) both.1)
 
-with_here : (x c : Content) (cs : List Content) → x.number < c.number → with_content x (c ∷ cs) ≡ x ∷ c ∷ cs
-with_here x c cs h = grind arith
-
-with_past : (x c : Content) (cs : List Content) → c.number ≤ x.number → with_content x (c ∷ cs) ≡ c ∷ with_content x cs
-with_past x c cs h = grind arith
-
 other_base : (x c : Content) → 1 ≤ x.units → IsWhole c → IsApartFrom x c → c.base ≢ x.base
 other_base x c some whole apart = elim apart [ inl p ↦ λ e. omega (arith, some) | inr q ↦ λ e. omega (arith, whole.1) ]
 
 -- one more carrier is one more segment
-pub segments-with_content : (x : Content) (cs : List Content) → 1 ≤ x.units → All IsWhole cs → All (IsApartFrom x) cs → segments (with_content x cs) ≡ entered (segment_of x) (segments cs)
+pub segments-with_content : (x : Content) (cs : List Content) → 1 ≤ x.units → All IsWhole cs → All (IsApartFrom x) cs → segments (with_content x cs) ≡ with_segment (segment_of x) (segments cs)
 segments-with_content x [] some whole apart = refl
 segments-with_content x (c ∷ cs) some whole apart =
     elim (cases_lt x.number c.number) [
-      | inl p ↦ ap segments (with_here x c cs p)
-      | inr q ↦ ap segments (with_past x c cs q)
-          ∙ ap (entered (segment_of c)) (segments-with_content x cs some (All-tail IsWhole c cs whole) (All-tail (IsApartFrom x) c cs apart))
+      | inl p ↦ ap segments (entered_here number_of x c cs p)
+      | inr q ↦ ap segments (entered_past number_of x c cs q)
+          ∙ ap (with_segment (segment_of c)) (segments-with_content x cs some (All-tail IsWhole c cs whole) (All-tail (IsApartFrom x) c cs apart))
           ∙ entered-entered (segment_of c) (segment_of x) (segments cs) (other_base x c some (All-head IsWhole c cs whole) (All-head (IsApartFrom x) c cs apart))
     ]
 
@@ -93,22 +82,22 @@ any_here P s ts p = (0, s, omega arith, refl, p)
 any_later : (P : Segment → Type 0) (s : Segment) (ts : List Segment) → Any P ts → Any P (s ∷ ts)
 any_later P s ts h = (suc h.0, h.1, omega (arith, h.2), h.3, h.4)
 
-any_entered : (P : Segment → Type 0) (s : Segment) (ts : List Segment) → P s → Any P (entered s ts)
+any_entered : (P : Segment → Type 0) (s : Segment) (ts : List Segment) → P s → Any P (with_segment s ts)
 any_entered P s [] p = any_here P s [] p
 any_entered P s (t ∷ ts) p =
     elim (cases_lt s.start t.start) [
-      | inl lt ↦ subst (Any P) (sym (entered_here s t ts lt)) (any_here P s (t ∷ ts) p)
-      | inr le ↦ subst (Any P) (sym (entered_past s t ts le)) (any_later P t (entered s ts) (any_entered P s ts p))
+      | inl lt ↦ subst (Any P) (sym (entered_here start_of s t ts lt)) (any_here P s (t ∷ ts) p)
+      | inr le ↦ subst (Any P) (sym (entered_past start_of s t ts le)) (any_later P t (with_segment s ts) (any_entered P s ts p))
     ]
 
-any_among : (P : Segment → Type 0) (s : Segment) (ts : List Segment) → Any P ts → Any P (entered s ts)
+any_among : (P : Segment → Type 0) (s : Segment) (ts : List Segment) → Any P ts → Any P (with_segment s ts)
 any_among P s [] h = any_later P s [] h
 any_among P s (t ∷ ts) h =
     elim (cases_lt s.start t.start) [
-      | inl lt ↦ subst (Any P) (sym (entered_here s t ts lt)) (any_later P s (t ∷ ts) h)
-      | inr le ↦ subst (Any P) (sym (entered_past s t ts le)) (elim (any_cases P t ts h.0 h.1 h.2 h.3 h.4) [
-        | inl p ↦ any_here P t (entered s ts) p
-        | inr q ↦ any_later P t (entered s ts) (any_among P s ts q)
+      | inl lt ↦ subst (Any P) (sym (entered_here start_of s t ts lt)) (any_later P s (t ∷ ts) h)
+      | inr le ↦ subst (Any P) (sym (entered_past start_of s t ts le)) (elim (any_cases P t ts h.0 h.1 h.2 h.3 h.4) [
+        | inl p ↦ any_here P t (with_segment s ts) p
+        | inr q ↦ any_later P t (with_segment s ts) (any_among P s ts q)
       ])
     ]
 
@@ -129,13 +118,13 @@ content_of-IsTail number c (x ∷ xs) there whole =
     ]
 
 -- of segments laid with one more, that one begins behind the beginning and has pages, and the others are laid without it
-laid_entered : (at end : ℕ) (s : Segment) (ts : List Segment) → Laid at end (entered s ts) → (at ≤ s.start) × (0 < s.pages) × Laid at end ts
+laid_entered : (at end : ℕ) (s : Segment) (ts : List Segment) → Laid at end (with_segment s ts) → (at ≤ s.start) × (0 < s.pages) × Laid at end ts
 laid_entered at end s [] t = (t.0, t.1, omega (arith, t.0, t.2))
 laid_entered at end s (r ∷ rs) t =
     elim (cases_lt s.start r.start) [
-      | inl lt ↦ let l = subst (Laid at end) (entered_here s r rs lt) t in (l.0, l.1, (omega (arith, l.0), l.2.1, l.2.2))
+      | inl lt ↦ let l = subst (Laid at end) (entered_here start_of s r rs lt) t in (l.0, l.1, (omega (arith, l.0), l.2.1, l.2.2))
       | inr le ↦
-          let l = subst (Laid at end) (entered_past s r rs le) t in
+          let l = subst (Laid at end) (entered_past start_of s r rs le) t in
           let more = laid_entered (r.start + r.pages) end s rs l.2 in
           (omega (arith, l.0), more.1, (l.0, l.1, more.2))
     ]
@@ -147,79 +136,67 @@ cut_whole : (at end : ℕ) (s : Segment) (ts : List Segment) → Laid at end (s 
 cut_whole at end s ts t =
     cut_first at end s.start s ts t (omega (arith, t.1)) (covers_start s t.1) ∙ ap (λ xs. xs ++ ts) (stretch_none s.start s.start (omega arith))
 
--- the segment that was entered is cut out again
-cut_entered : (at end : ℕ) (s : Segment) (ts : List Segment) → Laid at end (entered s ts) → cut_from s.start (entered s ts) ≡ ts
+-- the segment that was with_segment is cut out again
+cut_entered : (at end : ℕ) (s : Segment) (ts : List Segment) → Laid at end (with_segment s ts) → cut_from s.start (with_segment s ts) ≡ ts
 cut_entered at end s [] t = cut_whole at end s [] t
 cut_entered at end s (r ∷ rs) t =
     elim (cases_lt s.start r.start) [
-      | inl lt ↦ ap (cut_from s.start) (entered_here s r rs lt) ∙ cut_whole at end s (r ∷ rs) (subst (Laid at end) (entered_here s r rs lt) t)
+      | inl lt ↦ ap (cut_from s.start) (entered_here start_of s r rs lt) ∙ cut_whole at end s (r ∷ rs) (subst (Laid at end) (entered_here start_of s r rs lt) t)
       | inr le ↦
-          let l = subst (Laid at end) (entered_past s r rs le) t in
+          let l = subst (Laid at end) (entered_past start_of s r rs le) t in
           let behind = (laid_entered (r.start + r.pages) end s rs l.2).0 in
           elim (covers_cases s.start r) [
             | inl p ↦ absurd (omega arith)
-            | inr q ↦ ap (cut_from s.start) (entered_past s r rs le) ∙ cut_past s.start r (entered s rs) q.1 ∙ ap (λ xs. r ∷ xs) (cut_entered (r.start + r.pages) end s rs l.2)
+            | inr q ↦ ap (cut_from s.start) (entered_past start_of s r rs le) ∙ cut_past s.start r (with_segment s rs) q.1 ∙ ap (λ xs. r ∷ xs) (cut_entered (r.start + r.pages) end s rs l.2)
           ]
     ]
 
--- a segment before all others is entered as the first
-entered_front : (at end : ℕ) (s : Segment) (ts : List Segment) → Laid at end ts → s.start < at → entered s ts ≡ s ∷ ts
+-- a segment before all others is with_segment as the first
+entered_front : (at end : ℕ) (s : Segment) (ts : List Segment) → Laid at end ts → s.start < at → with_segment s ts ≡ s ∷ ts
 entered_front at end s [] t h = refl
-entered_front at end s (r ∷ rs) t h = entered_here s r rs (omega (arith, t.0))
+entered_front at end s (r ∷ rs) t h = entered_here start_of s r rs (omega (arith, t.0))
 
-entered_stretch : (a b : ℕ) (s : Segment) (ts : List Segment) → a ≤ s.start → entered s (stretch a b ++ ts) ≡ stretch a b ++ entered s ts
+entered_stretch : (a b : ℕ) (s : Segment) (ts : List Segment) → a ≤ s.start → with_segment s (stretch a b ++ ts) ≡ stretch a b ++ with_segment s ts
 entered_stretch a b s ts h = elim (cases_lt a b) [ inl lt ↦ grind arith | inr le ↦ grind arith ]
 
 -- an entry and the cut of another segment may be done in either order
-cut_other : (at end page pages : ℕ) (s : Segment) (ts : List Segment) → Laid at end (entered s ts) → IsTail page pages ts → cut_from page (entered s ts) ≡ entered s (cut_from page ts)
+cut_other : (at end page pages : ℕ) (s : Segment) (ts : List Segment) → Laid at end (with_segment s ts) → IsTail page pages ts → cut_from page (with_segment s ts) ≡ with_segment s (cut_from page ts)
 cut_other at end page pages s [] t h = absurd (omega (arith, h.2))
 cut_other at end page pages s (r ∷ rs) t h =
     elim (cases_lt s.start r.start) [
       | inl lt ↦
-          let l = subst (Laid at end) (entered_here s r rs lt) t in
+          let l = subst (Laid at end) (entered_here start_of s r rs lt) t in
           let later : Laid r.start end (r ∷ rs) = (omega arith, l.2.1, l.2.2) in
           let behind = IsTail_behind r.start end page pages (r ∷ rs) later h in
           elim (covers_cases page s) [
             | inl p ↦ absurd (omega (arith, l.2.0))
-            | inr q ↦ ap (cut_from page) (entered_here s r rs lt) ∙ cut_past page s (r ∷ rs) q.1 ∙ sym (entered_front r.start end s (cut_from page (r ∷ rs)) (Laid-cut r.start end page (r ∷ rs) later) lt)
+            | inr q ↦ ap (cut_from page) (entered_here start_of s r rs lt) ∙ cut_past page s (r ∷ rs) q.1 ∙ sym (entered_front r.start end s (cut_from page (r ∷ rs)) (Laid-cut r.start end page (r ∷ rs) later) lt)
           ]
       | inr le ↦
-          let l = subst (Laid at end) (entered_past s r rs le) t in
+          let l = subst (Laid at end) (entered_past start_of s r rs le) t in
           elim (covers_cases page r) [
             | inl p ↦
                 let rest : Laid at end (r ∷ rs) = (l.0, l.1, (laid_entered (r.start + r.pages) end s rs l.2).2) in
-                ap (cut_from page) (entered_past s r rs le) ∙ cut_first at end page r (entered s rs) l p.1 p.2 ∙ sym (entered_stretch r.start page s rs le) ∙ ap (entered s) (sym (cut_first at end page r rs rest p.1 p.2))
+                ap (cut_from page) (entered_past start_of s r rs le) ∙ cut_first at end page r (with_segment s rs) l p.1 p.2 ∙ sym (entered_stretch r.start page s rs le) ∙ ap (with_segment s) (sym (cut_first at end page r rs rest p.1 p.2))
             | inr q ↦ elim (IsTail_cases page pages r rs h) [
               | inl p ↦ absurd (elim q.0 [ inl b ↦ omega (arith, p.within) | inr b ↦ omega (arith, p.some, p.to_end) ])
-              | inr more ↦ ap (cut_from page) (entered_past s r rs le) ∙ cut_past page r (entered s rs) q.1 ∙ ap (λ xs. r ∷ xs) (cut_other (r.start + r.pages) end page pages s rs l.2 more) ∙ sym (ap (entered s) (cut_past page r rs q.1) ∙ entered_past s r (cut_from page rs) le)
+              | inr more ↦ ap (cut_from page) (entered_past start_of s r rs le) ∙ cut_past page r (with_segment s rs) q.1 ∙ ap (λ xs. r ∷ xs) (cut_other (r.start + r.pages) end page pages s rs l.2 more) ∙ sym (ap (with_segment s) (cut_past page r rs q.1) ∙ entered_past start_of s r (cut_from page rs) le)
             ]
           ]
     ]
 
-filter_gone : (number : ℕ) (x : Content) (xs : List Content) → x.number ≡ number → filter (λ c. not (c.number == number)) (x ∷ xs) ≡ filter (λ c. not (c.number == number)) xs
-filter_gone number x xs e = grind arith
-
-filter_past : (number : ℕ) (x : Content) (xs : List Content) → x.number ≢ number → filter (λ c. not (c.number == number)) (x ∷ xs) ≡ x ∷ filter (λ c. not (c.number == number)) xs
-filter_past number x xs n = grind arith
-
--- no content has a number below the first one
-filter_behind : (low high number : ℕ) (cs : List Content) → Rising low high cs → number < low → filter (λ c. not (c.number == number)) cs ≡ cs
-filter_behind low high number [] r h = refl
-filter_behind low high number (c ∷ cs) r h =
-    filter_past number c cs (λ e. omega (arith, r.0)) ∙ ap (λ xs. c ∷ xs) (filter_behind (c.number + 1) high number cs r.2 (omega (arith, r.0)))
-
 -- one carrier less is its segment less
-pub segments-without : (first end low high number : ℕ) (c : Content) (cs : List Content) → Laid first end (segments cs) → All IsWhole cs → Rising low high cs → content_of cs number ≡ Some c
-    → segments (filter (λ x. not (x.number == number)) cs) ≡ cut_from c.base (segments cs)
-segments-without first end low high number c [] laid whole rising there = absurd (grind arith)
-segments-without first end low high number c (x ∷ xs) laid whole rising there =
+pub segments-without : (first end number : ℕ) (c : Content) (cs : List Content) → Laid first end (segments cs) → All IsWhole cs → IsRising cs → content_of cs number ≡ Some c
+    → segments (without_content number cs) ≡ cut_from c.base (segments cs)
+segments-without first end number c [] laid whole rising there = absurd (grind arith)
+segments-without first end number c (x ∷ xs) laid whole rising there =
     elim (content_cases number c x xs there) [
       | inl p ↦
           let cut : cut_from c.base (segments (x ∷ xs)) ≡ segments xs = subst (λ y. cut_from y.base (segments (x ∷ xs)) ≡ segments xs) p.1 (cut_entered first end (segment_of x) (segments xs) laid) in
-          ap segments (filter_gone number x xs p.0 ∙ filter_behind (x.number + 1) high number xs rising.2 (omega arith)) ∙ sym cut
+          ap segments (without_here number_of number x xs p.0 ∙ without_none number_of number xs (others number_of number x xs rising p.0)) ∙ sym cut
       | inr q ↦
           let rest = All-tail IsWhole x xs whole in
-          ap segments (filter_past number x xs q.0)
-          ∙ ap (entered (segment_of x)) (segments-without first end (x.number + 1) high number c xs (laid_entered first end (segment_of x) (segments xs) laid).2 rest rising.2 q.1)
+          ap segments (without_past number_of number x xs q.0)
+          ∙ ap (with_segment (segment_of x)) (segments-without first end number c xs (laid_entered first end (segment_of x) (segments xs) laid).2 rest (pairs_tail (IsBelow number_of) x xs rising) q.1)
           ∙ sym (cut_other first end c.base (c.units / 512) (segment_of x) (segments xs) laid (content_of-IsTail number c xs q.1 rest))
     ]

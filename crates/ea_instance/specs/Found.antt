@@ -7,7 +7,6 @@ use Rattle.ea_model.specs.declared.settings.Settings.{Settings}
 use Rattle.ea_model.specs.Content.{Content, gaps_of, gap_at, is_done}
 use Rattle.ea_model.specs.Strategies.{candidates, looked_at, may_miss}
 use Rattle.ea_model.specs.Instance.{Instance, content_of, block_in, first_number, is_used}
-use Rattle.ea_instance.specs.Kept.{Rising}
 
 -- the candidate is a large enough gap of the content
 abbrev pub IsGapOf : ℕ → Candidate → Content → Type 0
@@ -16,10 +15,6 @@ IsGapOf need x c = (x.number ≡ c.number) × (need ≤ gap_at (gaps_of c) x.off
 -- a gap of at least `need` units begins at the spot
 abbrev pub HasGap : ℕ → ℕ → ℕ → List Content → Type 0
 HasGap need number offset cs = (c : Content) × (content_of cs number ≡ Some c) × (need ≤ gap_at (gaps_of c) offset)
-
--- the contents stand by rising number
-abbrev pub IsRising : List Content → Type 0
-IsRising cs = (low high : ℕ) × Rising low high cs
 
 -- the spot is another one
 abbrev pub IsOther : ℕ → ℕ → Spot → Type 0

@@ -10,18 +10,18 @@ ghost use Rattle.ea_model.specs.Instance.{changed, content_of, block_in, is_used
 ghost use Rattle.ea_instance.specs.Kinds.{is_shared};
 ghost use Rattle.ea_instance.specs.Listed.{candidate_in, IsApartFrom};
 ghost use Rattle.ea_instance.specs.Orders.{is_better};
-ghost use Rattle.ea_instance.specs.Found.{HasGap, IsRising, IsOther};
+ghost use Rattle.ea_instance.specs.Found.{HasGap, IsOther};
+ghost use Rattle.ea_instance.specs.Kept.{IsRising};
 
 use crate::binned::{
     gap_in, gaps_beside, make_room, note_entered, note_left, note_placed, note_released,
 };
 use crate::employed::Employed;
 use crate::strategies::{Order, inner_of, order_of};
-use crate::walks::{
-    best_candidate, candidate_at, carrier_of, lowest_unused, place_behind, place_of,
-};
+use crate::walks::{best_candidate, candidate_at, lowest_unused};
 use ea_cset::CarrierSet;
 use ea_goodfit::{Bins, Gap};
+use ea_model::keyed::{enter, item_of, place_of, take_out};
 use ea_model::{Candidate, HEADER_UNITS, Inner, NUMBERS, OutOfMemory, Strategy};
 use std::alloc::Global;
 use std::marker::Model;
@@ -102,7 +102,7 @@ impl Carriers {
         ensures candidate { result ≡ option_and_then (candidate_in (inner_of self.now.strategy) need self.now.contents) found }
         ensures gap { IfSome result (λ x. HasGap need x.number x.offset self.now.contents) }
     {
-        carrier_of(found?, &self.list)?.candidate(inner_of(self.strategy), need)
+        item_of(found?, &self.list)?.candidate(inner_of(self.strategy), need)
     }
 
     /// The gap that good fit chooses of those that it looks at.
@@ -201,12 +201,9 @@ impl Carriers {
         ensures err { OnErr result (self.new ≡ self.old) }
     {
         make_room(self.strategy, &mut self.bins)?;
-        let (key, fit) = (carrier.key(), carrier.largest());
+        let (key, fit) = (carrier.carrier_key(), carrier.largest());
         let address = carrier.address(HEADER_UNITS);
-        let place = place_behind(carrier.number(), &self.list);
-        if self.list.insert(place, carrier).is_err() {
-            return Err(OutOfMemory);
-        }
+        enter(carrier, &mut self.list)?;
         self.set.add(key, fit);
         note_entered(self.strategy, &mut self.bins, Gap { address, size: fit });
         Ok(())
@@ -220,8 +217,7 @@ impl Carriers {
         ensures rest { self.new ≡ record self.old { contents = without_content number self.old.contents } }
     {
         self.set.remove(number);
-        let place = place_of(number, &self.list);
-        let carrier = self.list.remove(place);
+        let carrier = take_out(number, &mut self.list);
         let (address, size) = (carrier.address(HEADER_UNITS), carrier.largest());
         note_left(self.strategy, &mut self.bins, Gap { address, size });
         carrier

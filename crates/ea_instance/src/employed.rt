@@ -12,6 +12,7 @@ ghost use Rattle.ea_instance.specs.Found.{IsGapOf};
 use ea_cset::CarrierKey;
 use ea_goodfit::Gap;
 use ea_mbc::Mbc;
+use ea_model::keyed::Keyed;
 use ea_model::{
     Block, Candidate, CarrierLine, HEADER_UNITS, Inner, Kind, OutOfMemory, PAGE_UNITS, Standing,
 };
@@ -36,6 +37,14 @@ impl Model for Employed {
     ghost invariant = { λ e. is_shared e.kind ≡ true };
 }
 
+impl Keyed for Employed {
+    ghost key_of = { λ c. c.number };
+
+    fn key(&self) -> u32 {
+        self.carrier.number()
+    }
+}
+
 impl Employed {
     /// The carrier as one of this kind, which isn't a singleblock carrier.
     pub fn new(kind: Kind, carrier: Mbc) -> Employed
@@ -43,13 +52,6 @@ impl Employed {
         ensures { result ≡ record carrier { kind = kind } }
     {
         Employed { kind, carrier }
-    }
-
-    /// Its own number.
-    pub fn number(&self) -> u32
-        ensures { result ≡ self.now.number }
-    {
-        self.carrier.number()
     }
 
     /// Its first page.
@@ -67,7 +69,7 @@ impl Employed {
     }
 
     /// What tells it from the others of its instance.
-    pub fn key(&self) -> CarrierKey
+    pub fn carrier_key(&self) -> CarrierKey
         ensures { result ≡ (held_of self.now).key }
     {
         CarrierKey {

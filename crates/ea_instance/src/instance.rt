@@ -19,8 +19,9 @@ use crate::carriers::Carriers;
 use crate::employed::Employed;
 use crate::figures::{figures, free_of};
 use crate::released::Released;
-use crate::walks::{carrier_of, is_used, multi_count, unused_number};
+use crate::walks::{multi_count, unused_number};
 use ea_mbc::Mbc;
+use ea_model::keyed::item_of;
 use ea_model::{
     Block, CarrierLine, CarrierPlan, Figures, HEADER_UNITS, Kind, List, NUMBERS, NoCarrier,
     OutOfMemory, PAGE_UNITS, Place, Settings, Spot,
@@ -104,7 +105,7 @@ fn main_carrier(
 fn follow_up(number: u32, carriers: &[Employed]) -> Released
     ensures { result ≡ Rattle.ea_instance.specs.Answers.follow_up (content_of carriers.now number) }
 {
-    match carrier_of(number, carriers) {
+    match item_of(number, carriers) {
         Some(carrier) if carrier.is_done() => Released::EmptyOwn,
         _ => Released::Kept,
     }
@@ -147,21 +148,21 @@ impl Instance {
     pub fn employs(&self, carrier: u32) -> bool
         ensures { result ≡ instances.is_used carrier self.now.contents }
     {
-        is_used(carrier, self.carriers.as_slice())
+        item_of(carrier, self.carriers.as_slice()).is_some()
     }
 
     /// The block at the spot, if it employs the carrier and a block begins there.
     pub fn block_at(&self, spot: Spot) -> Option<Block>
         ensures { result ≡ option_map named (block_in self.now.contents spot) }
     {
-        carrier_of(spot.carrier, self.carriers.as_slice())?.block_at(spot.offset)
+        item_of(spot.carrier, self.carriers.as_slice())?.block_at(spot.offset)
     }
 
     /// The line of a carrier, if it employs it.
     pub fn carrier_line(&self, carrier: u32) -> Option<CarrierLine>
         ensures { result ≡ option_map carrier_line (content_of self.now.contents carrier) }
     {
-        Some(carrier_of(carrier, self.carriers.as_slice())?.line())
+        Some(item_of(carrier, self.carriers.as_slice())?.line())
     }
 
     /// Adds the lines of all carriers that it employs, by rising number.

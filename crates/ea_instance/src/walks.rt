@@ -1,19 +1,16 @@
 //! Walks over the carriers of an instance, by rising number.
-ghost use Rattle.std.specs.Prelude.{◌≡◌, ◌+◌, ◌^◌, ◌<◌, ◌≤◌, Some, IsSome, IfSome, All, Any, get_or, length, option_map};
-ghost use Rattle.std.specs.List.{position_or_len};
-ghost use Rattle.ea_model.specs.Content.{Content};
+ghost use Rattle.std.specs.Prelude.{◌≡◌, ◌+◌, ◌^◌, ◌<◌, ◌≤◌, IfSome, All, Any, length};
 ghost use Rattle.ea_model.specs.Choice.{first};
 ghost use Rattle.ea_model.specs.Strategies.{candidates, choice_unused, large_enough};
-ghost use Rattle.ea_model.specs.Instance.{content_of, unused_from, multis};
-ghost use Rattle.ea_model.specs.Instance as instances;
+ghost use Rattle.ea_model.specs.Instance.{unused_from, multis};
 ghost use Rattle.ea_instance.specs.Found.{IsGapOf};
-ghost use Rattle.ea_instance.specs.Kept.{is_behind};
 ghost use Rattle.ea_instance.specs.Listed.{IsSound};
 ghost use Rattle.ea_instance.specs.Orders.{is_better};
 
 use crate::employed::Employed;
 use crate::strategies::better_of;
 use ea_goodfit::Gap;
+use ea_model::keyed::item_of;
 use ea_model::{Candidate, Inner, NUMBERS};
 
 /// The gap of at least `need` units that is taken first of all carriers.
@@ -57,64 +54,13 @@ pub fn candidate_at(gap: Gap, carriers: &[Employed]) -> Option<Candidate>
     None
 }
 
-/// Whether a carrier has the number.
-pub fn is_used(number: u32, carriers: &[Employed]) -> bool
-    ensures { result ≡ instances.is_used number carriers.now }
-{
-    for carrier in carriers {
-        if carrier.number() == number {
-            return true;
-        }
-    }
-    false
-}
-
-/// The carrier with the number, if there is one.
-pub fn carrier_of(number: u32, carriers: &[Employed]) -> Option<&Employed>
-    ensures { option_map (λ c. c.now) result ≡ content_of carriers.now number }
-{
-    for carrier in carriers {
-        if carrier.number() == number {
-            return Some(carrier);
-        }
-    }
-    None
-}
-
-/// The place of the carrier with the number, which is there.
-pub fn place_of(number: u32, carriers: &[Employed]) -> usize
-    requires { IsSome (content_of carriers.now number) }
-    ensures found { (d : Content) → content_of carriers.now number ≡ Some (get_or carriers.now result d) }
-    ensures within { result < length carriers.now }
-{
-    for (place, carrier) in carriers.iter().enumerate() {
-        if carrier.number() == number {
-            return place;
-        }
-    }
-    unreachable!()
-}
-
-/// The place of the first carrier with a greater number.
-pub fn place_behind(number: u32, carriers: &[Employed]) -> usize
-    ensures place { result ≡ position_or_len (is_behind number) carriers.now }
-    ensures within { result ≤ length carriers.now }
-{
-    for (place, carrier) in carriers.iter().enumerate() {
-        if number < carrier.number() {
-            return place;
-        }
-    }
-    carriers.len()
-}
-
 /// The lowest of the instance's numbers, from `first` on, that no carrier has.
 pub fn unused_number(first: u32, carriers: &[Employed]) -> Option<u32>
     requires { first + 256 < 2 ^ 32 }
     ensures { result ≡ unused_from 256 first carriers.now }
 {
     for k in 0..NUMBERS {
-        if !is_used(first + k, carriers) {
+        if item_of(first + k, carriers).is_none() {
             return Some(first + k);
         }
     }

@@ -1,6 +1,6 @@
 -- What holds of what is there, if it is there.
-use Rattle.std.proofs.Common.{◌≡◌, subst}
-use Rattle.std.specs.Prelude.{Option, Some, None, IfSome, IsNone, option_map}
+use Rattle.std.proofs.Common.{◌≡◌, subst, refl}
+use Rattle.std.specs.Prelude.{Option, Some, None, IfSome, IsNone, is_some, option_map}
 
 pub if_some : {A : Type 0} (o : Option A) (P Q : A → Type 0) → ((x : A) → P x → Q x) → IfSome o P → IfSome o Q
 if_some None P Q f h = tt
@@ -24,3 +24,7 @@ mapped f (Some x) h = h
 pub unmapped : {A B : Type 0} (f : A → B) (o : Option A) → IsNone (option_map f o) → IsNone o
 unmapped f None h = h
 unmapped f (Some x) h = h
+
+pub is_some-map : {A B : Type 0} (f : A → B) (o : Option A) → is_some (option_map f o) ≡ is_some o
+is_some-map f None = refl
+is_some-map f (Some x) = refl

@@ -159,6 +159,15 @@ module _ {A : Type 0} (key_of : A → ℕ) where
         | inr n ↦ item_at-key key x ys (sym (item_past key y ys n) ∙ h)
       ]
 
+  -- and is one of them
+  pub item_at-All : (P : A → Type 0) (key : ℕ) (x : A) (xs : List A) → All P xs → item_at key_of xs key ≡ Some x → P x
+  item_at-All P key x [] a h = absurd cc
+  item_at-All P key x (y ∷ ys) a h =
+      elim (cases_eq (key_of y) key) [
+        | inl e ↦ let same : Some y ≡ Some x = sym (item_here key y ys e) ∙ h in let is : y ≡ x = cc in subst P is (All-head P y ys a)
+        | inr n ↦ item_at-All P key x ys (All-tail P y ys a) (sym (item_past key y ys n) ∙ h)
+      ]
+
   item_cons : (key : ℕ) (x : A) (ys zs : List A) → item_at key_of ys key ≡ item_at key_of zs key → item_at key_of (x ∷ ys) key ≡ item_at key_of (x ∷ zs) key
   item_cons key x ys zs e = ap (λ o. cond (has_key key_of key x) (Some x) o) e
 

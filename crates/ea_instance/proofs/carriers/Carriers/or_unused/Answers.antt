@@ -10,5 +10,5 @@ use Rattle.ea_instance.proofs.carriers.Carriers.or_unused.Goals as goal
 pub returns-clause-gap : goal.returns-clause-gap
 returns-clause-gap c =
     let now = c.args.self.now.contents in
-    if_some c.lowest_unused.result (λ x. Any (IsGapOf c.args.need x) now) (λ x. HasGap c.args.need x.number x.offset now) (λ x among. found_in c.args.need _ _ x now c.requires.rising.2 among)
+    if_some c.lowest_unused.result (λ x. Any (IsGapOf c.args.need x) now) (λ x. HasGap c.args.need x.number x.offset now) (λ x among. found_in c.args.need x now c.requires.rising among)
     (subst (λ (cs : List Content). IfSome c.lowest_unused.result (λ x. Any (IsGapOf c.args.need x) cs)) (c.deref.ensures.value ∙ ap (λ (l : CarrierList). l.contents) c.self.view_is) c.lowest_unused.ensures.fits)
