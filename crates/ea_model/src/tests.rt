@@ -1,7 +1,10 @@
 //! Calls that succeed, and values that were worked out by hand.
+use crate::keyed::{self, enter, enter_within, item_of, take_out};
 use crate::plain::{PlainCarrier, choice};
 use crate::words::{first_line, first_word, number};
-use crate::{BlockAt, Candidate, CarrierPlan, Kind, List, OutOfMemory, Settings, Strategy, need};
+use crate::{
+    BlockAt, Candidate, CarrierPlan, Kind, List, OutOfMemory, Segment, Settings, Strategy, need,
+};
 use std::alloc::Global;
 use std::test::Fail;
 
@@ -23,6 +26,32 @@ fn a_list_takes_items_and_gives_them_back(rt: HostRuntime) -> Result<(), Fail> {
     let mut again = List::from_vec(items);
     again.push(9)?;
     assert_eq!(rt; again.as_slice(), [3, 1, 4, 1, 5, 9].as_slice());
+    Ok(())
+}
+
+#[test]
+fn items_are_entered_and_found_by_their_keys(rt: HostRuntime) -> Result<(), Fail> {
+    let run = |start: u32, pages: u32| Segment { start, pages };
+    let mut runs = Vec::with_capacity(rt.alloc(), 4)?;
+    enter(run(30, 3), &mut runs)?;
+    enter(run(10, 1), &mut runs)?;
+    enter(run(20, 2), &mut runs)?;
+    assert_eq!(rt;
+        runs.as_slice(),
+        [run(10, 1), run(20, 2), run(30, 3)].as_slice()
+    );
+    assert_eq!(rt; item_of(20, &runs).map(|found| found.pages), Some(2));
+    assert_eq!(rt; keyed::place_of(30, &runs), 2);
+    assert!(rt; item_of(25, &runs).is_none());
+
+    assert_eq!(rt; take_out(20, &mut runs), run(20, 2));
+    enter_within(run(40, 4), &mut runs);
+    assert_eq!(rt;
+        runs.as_slice(),
+        [run(10, 1), run(30, 3), run(40, 4)].as_slice()
+    );
+    assert!(rt; item_of(20, &runs).is_none());
+    assert_eq!(rt; keyed::place_of(30, &runs), 1);
     Ok(())
 }
 
