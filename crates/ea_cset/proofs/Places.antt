@@ -1,5 +1,5 @@
 -- Carriers by rising number.
-use Rattle.std.proofs.Common.{◌≡◌, ◌≢◌, List, sym, arith}
+use Rattle.std.proofs.Common.{◌≢◌, List, sym, arith}
 use Rattle.std.specs.Prelude.{All, AllPairs}
 use Rattle.ea_model.specs.Keyed.{entered, IsBelow}
 use Rattle.ea_model.proofs.Rising.{pairs-entered}

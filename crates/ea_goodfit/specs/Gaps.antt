@@ -1,5 +1,5 @@
 -- The gaps of the bins, by rising address.
-use Rattle.std.specs.Prelude.{ℕ, ◌<◌, Bool, not, ◌&&◌, if◌then◌else◌, nat_lt, nat_le, ◌==◌, List, [], ◌∷◌, Option, filter}
+use Rattle.std.specs.Prelude.{ℕ, Bool, ◌&&◌, if◌then◌else◌, nat_le, ◌==◌, List, Option, filter}
 use Rattle.std.specs.List.{list_any}
 use Rattle.ea_model.specs.Choice.{better}
 use Rattle.ea_model.specs.GoodFit.{is_inspected, smaller_low}

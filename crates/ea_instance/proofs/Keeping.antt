@@ -1,6 +1,6 @@
 -- What an instance keeps through its calls.
-use Rattle.std.proofs.Common.{◌≡◌, ℕ, ◌+◌, ◌*◌, ◌/◌, ◌%◌, ◌<◌, ◌≤◌, false, List, length, not, All, sym, ap, ◌∙◌, subst, refl, arith}
-use Rattle.std.specs.Prelude.{Option, Some, None, Ok, Err, IsSome, IfSome, ◌==◌, option_map}
+use Rattle.std.proofs.Common.{◌≡◌, ℕ, ◌+◌, ◌*◌, ◌/◌, ◌%◌, ◌<◌, ◌≤◌, false, List, length, All, sym, ap, ◌∙◌, subst, refl, arith}
+use Rattle.std.specs.Prelude.{Option, Some, None, Ok, Err, IsSome, IfSome, option_map}
 use Rattle.std.proofs.lemmas.List.Elements.{All-filter}
 use Rattle.ea_model.specs.declared.settings.Settings.{Settings}
 use Rattle.ea_model.specs.declared.carriers.Candidate.{Candidate}

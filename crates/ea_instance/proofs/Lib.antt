@@ -1,10 +1,10 @@
-pub mod HeldGaps
 pub mod ByCarrier
 pub mod Changed
 pub mod Choosing
 pub mod Contents
 pub mod Folding
 pub mod Gaps
+pub mod HeldGaps
 pub mod Indexed
 pub mod Keeping
 pub mod Listed
@@ -13,4 +13,5 @@ pub mod Missing
 pub mod Refusals
 pub mod Room
 pub mod Segments
+pub mod Sums
 pub mod Unused

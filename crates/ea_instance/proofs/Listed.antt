@@ -1,6 +1,6 @@
 -- The set of the carriers, after a change.
-use Rattle.std.proofs.Common.{◌≡◌, ◌≢◌, ℕ, ◌<◌, ◌≤◌, true, false, List, [], ◌∷◌, get_or, map, All, AllPairs, sym, ap, ◌∙◌, subst, refl, inl, inr, arith, suc, Bool}
-use Rattle.std.specs.Prelude.{IsSome, Option, None, Some, ◌==◌, if◌then◌else◌}
+use Rattle.std.proofs.Common.{◌≡◌, ◌≢◌, ℕ, true, false, List, [], ◌∷◌, get_or, map, All, AllPairs, sym, ap, ◌∙◌, subst, refl, inl, inr, arith, suc, Bool}
+use Rattle.std.specs.Prelude.{IsSome, Some, ◌==◌, if◌then◌else◌}
 use Rattle.std.proofs.lemmas.Bool.{cases_eq, cases_lt, cond_both}
 use Rattle.std.proofs.lemmas.List.Elements.{All-nil, All-cons, All-head, All-tail, All-filter}
 use Rattle.ea_model.specs.Content.{Content, gaps_of, largest}

@@ -1,6 +1,6 @@
 -- A carrier with a large enough gap gives the strategy a choice.
 use Rattle.std.proofs.Common.{◌≡◌, ℕ, ◌+◌, ◌*◌, ◌<◌, ◌≤◌, true, false, List, [], ◌∷◌, length, filter, cond, ap, ◌∙◌, refl, inl, inr, arith, length-append}
-use Rattle.std.specs.Prelude.{Bool, Option, Some, None, IsSome, fold, nat_le, option_map}
+use Rattle.std.specs.Prelude.{Bool, Option, Some, None, IsSome, fold, nat_le}
 use Rattle.std.proofs.lemmas.Bool.{cases_lt, cases_Bool, cond-true, cond-false}
 use Rattle.std.proofs.lemmas.List.Elements.{filter-append}
 use Rattle.ea_model.specs.declared.carriers.Candidate.{Candidate}

@@ -8,7 +8,7 @@ ghost use Rattle.ea_model.specs.Choice.{first};
 ghost use Rattle.ea_model.specs.Strategies.{candidates, choice_among, choice_unused, inner_of, large_enough, may_miss, or_else};
 ghost use Rattle.ea_model.specs.Instance.{changed, content_of, block_in, is_used, size_for, with_content, without_content};
 ghost use Rattle.ea_instance.specs.Kinds.{is_shared};
-ghost use Rattle.ea_instance.specs.Listed.{candidate_in, IsApartFrom};
+ghost use Rattle.ea_instance.specs.Listed.{candidate_in, IsApartFrom, IsSound};
 ghost use Rattle.ea_instance.specs.Orders.{is_better};
 ghost use Rattle.ea_instance.specs.Found.{HasGap, IsOther};
 ghost use Rattle.ea_instance.specs.Kept.{IsRising};
@@ -63,7 +63,8 @@ impl Carriers {
 
     /// The carriers, by rising number.
     pub fn as_slice(&self) -> &[Employed]
-        ensures { result.now ≡ self.now.contents }
+        ensures carriers { result.now ≡ self.now.contents }
+        ensures sound { All IsSound self.now.contents }
     {
         &self.list
     }

@@ -1,5 +1,5 @@
 -- The chosen element comes first.
-use Rattle.std.proofs.Common.{◌≡◌, ℕ, true, false, List, arith}
+use Rattle.std.proofs.Common.{ℕ, List}
 use Rattle.std.specs.Prelude.{IfSome, nat_lt}
 use Rattle.std.specs.Cmp.{IsStrictWeakOrder}
 use Rattle.ea_model.specs.declared.carriers.Gap.{Gap}

@@ -1,5 +1,5 @@
 -- The pairs of a list.
-use Rattle.std.proofs.Common.{suc, zero, ◌<◌, ◌≤◌, List, [], ◌∷◌, ◌++◌, map, arith}
+use Rattle.std.proofs.Common.{suc, zero, List, [], ◌∷◌, ◌++◌, map, arith}
 use Rattle.std.specs.Prelude.{All, AllPairs}
 use Rattle.std.proofs.lemmas.List.Elements.{All-append, All-head, All-map, All-tail}
 use Rattle.std.proofs.lemmas.List.Kept.{AllPairs-cons}

@@ -1,7 +1,6 @@
 -- The powers of two up to a size, and its bin.
-use Rattle.std.proofs.Common.{zero, suc, ◌≡◌, ℕ, ◌+◌, ◌<◌, ◌≤◌, List, refl, sym, arith}
-use Rattle.std.specs.Prelude.{◌^◌, filter, length, nat_le, nat_lt, if◌then◌else◌}
-use Rattle.std.specs.List.{range_with_len}
+use Rattle.std.proofs.Common.{zero, suc, ◌≡◌, ℕ, ◌+◌, ◌<◌, ◌≤◌, refl, sym, arith}
+use Rattle.std.specs.Prelude.{◌^◌, nat_lt, if◌then◌else◌}
 use Rattle.ea_model.specs.GoodFit.{bin_of, powers}
 
 pub counted : (size a n : ℕ) → 2 ^ a ≤ size → powers size a (suc n) ≡ 1 + powers size (a + 1) n

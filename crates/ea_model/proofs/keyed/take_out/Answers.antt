@@ -1,4 +1,4 @@
-use Rattle.std.proofs.Common.{◌≡◌, ◌<◌, length, sym, ap, ◌∙◌, subst}
+use Rattle.std.proofs.Common.{◌<◌, length, ap, ◌∙◌, subst}
 use Rattle.std.specs.Prelude.{remove}
 use Rattle.std.specs.List.{position_or_len}
 use Rattle.ea_model.specs.Keyed.{has_key}

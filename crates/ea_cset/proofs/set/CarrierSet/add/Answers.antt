@@ -1,4 +1,4 @@
-use Rattle.std.proofs.Common.{◌≡◌, ◌≢◌, sym, ap, ◌∙◌, subst, refl, All, arith}
+use Rattle.std.proofs.Common.{◌≢◌, sym, ap, ◌∙◌, subst, All, arith}
 use Rattle.std.specs.Prelude.{Some, AllPairs, length, ◌==◌, if◌then◌else◌}
 use Rattle.ea_model.proofs.Rising.{item_at-entered}
 use Rattle.ea_cset.specs.Carriers.{Carriers, number_of, carrier_of, IsBefore}

@@ -1,4 +1,4 @@
-use Rattle.std.proofs.Common.{◌≡◌, ◌≢◌, List, map, All, ◌∙◌, ap, sym, subst}
+use Rattle.std.proofs.Common.{◌≢◌, List, map, All, ◌∙◌, ap, sym, subst}
 use Rattle.std.specs.List.Sorted.{IsPermutation}
 use Rattle.std.proofs.lemmas.List.Elements.{All-map}
 use Rattle.ea_model.specs.Content.{Content}

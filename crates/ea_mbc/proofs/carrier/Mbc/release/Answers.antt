@@ -1,5 +1,4 @@
-use Rattle.std.proofs.Common.{◌≡◌, sym, ◌∙◌, ap, subst}
-use Rattle.std.specs.Prelude.{Some}
+use Rattle.std.proofs.Common.{sym, ◌∙◌, ap, subst}
 use Rattle.ea_model.specs.Content.{block_at, Tiled}
 use Rattle.ea_model.proofs.Rising.{item_at-gone, item_at-stays}
 use Rattle.ea_mbc.proofs.BlockLists.{offset_of, Tiled-released, Tiled-rising}
