@@ -69,7 +69,7 @@ module _ (f : Content → Content) (k : KeepsPlace f) (n : ℕ) (item : Content)
   changed-sound = record { shared = ap is_shared (k.kind item) ∙ here.shared; tiled = tiled; low = omega (arith, k.base item, k.units item, here.low) }
 
   differ : DifferIn (all_gaps (changed f n cs))
-  differ = gaps-distinct (changed f n cs) (all-sound f k n item cs i at rising all changed-sound) (apart-changed f k n item cs pairs)
+  differ = gaps-distinct (changed f n cs) (all-sound f k n item cs at.there rising all changed-sound) (apart-changed f k n item cs pairs)
 
   -- what a block at the front of a gap takes of all gaps
   module _ (offset whole size : ℕ) (within : size ≤ whole) (r : Replaced (gaps_of item) (gaps_of (f item)) (record { offset = offset; size = whole } ∷ []) (gap (offset + size) (offset + whole))) where

@@ -13,10 +13,11 @@ use Rattle.ea_model.specs.Region.{Region, Laid, lowest_run, runs, with_segment, 
 use Rattle.ea_model.specs.Instance.{Instance, segments, segment_of, first_number, changed, content_of, with_content, unused_from, is_used, free_run, least_pages, next_pages, planned, least_plan, sized_plan, numbered_plan, plan, created_content, creating, without_content, chosen_spot, block_in, size_for, place_at, placing_at}
 use Rattle.ea_model.proofs.Options.{some_holds}
 use Rattle.ea_space.proofs.Runs.{Fits, lowest-Fits}
+use Rattle.ea_space.proofs.Segments.{Laid-entered}
 use Rattle.ea_model.specs.Strategies.{choice_among, choice_unused, may_miss, or_else, spot_of}
 use Rattle.ea_instance.specs.Answers.{placing_if}
 use Rattle.ea_instance.specs.Kept.{number_of, HasNumberIn, IsKept, IsRising, IsWhole}
-use Rattle.ea_instance.specs.Listed.{CarrierList, IsApartFrom}
+use Rattle.ea_instance.specs.Listed.{CarrierList, IsApartFrom, IsSound}
 use Rattle.ea_instance.specs.Found.{HaveSameBlocks}
 use Rattle.ea_instance.proofs.Changed.{KeepsPlace, own-changed, segments-changed, whole-changed}
 use Rattle.ea_instance.proofs.Contents.{rising-length, unused_from-free, unused-All, same-with}
@@ -202,6 +203,20 @@ module _ (s : Settings) (n : ℕ) (ks : CarrierList) (created : ℕ) (r : Region
         within = subst (λ (y : Region). y.end ≤ 131072) (sym e) k.within;
         laid = laid;
       })
+
+  -- with the carrier's pages the segments lie apart as before
+  laid-made : Laid r.first r.end (with_segment (record { start = p.base; pages = p.pages }) r.taken)
+  laid-made =
+      subst (λ t. Laid r.first r.end (with_segment (record { start = p.base; pages = p.pages }) t)) (sym k.taken)
+      (Laid-entered r.first r.end (record { start = p.base; pages = p.pages }) (segments ks.contents) (subst (Laid r.first r.end) k.taken k.laid) run_fits.behind run_fits.before some_pages run_fits.apart)
+
+  pub kept-made : IsKept s n (record ks { contents = with_content made ks.contents }) (record r { taken = with_segment (record { start = p.base; pages = p.pages }) r.taken })
+  kept-made =
+      IsKept-created (Some p.base) (record r { taken = with_segment (record { start = p.base; pages = p.pages }) r.taken }) made (record ks { contents = with_content made ks.contents })
+      (sym (ap (λ t. lowest_run p.pages (runs r.first r.end t)) k.taken ∙ planned_here.run)) refl laid-made refl refl
+
+  pub sound-made : IsSound made
+  sound-made = record { shared = refl; tiled = (omega (arith, some_pages), record { even = omega arith; whole = λ _. omega (arith, some_pages) }); low = lies-low made refl }
 
   -- and the instance is then the one that employs the carrier
   pub seen-created : (o : Option ℕ) (r2 : Region) (x : Content) (new : CarrierList) → o ≡ lowest_run p.pages (runs r.first r.end r.taken)

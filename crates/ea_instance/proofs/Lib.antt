@@ -10,6 +10,8 @@ pub mod Keeping
 pub mod Listed
 pub mod Located
 pub mod Missing
+pub mod Moments
+pub mod Ranges
 pub mod Refusals
 pub mod Room
 pub mod Segments

@@ -77,8 +77,8 @@ module _ (f : Content → Content) (k : KeepsPlace f) (n : ℕ) (item : Content)
   pub apart-changed : (cs : List Content) → AllPairs IsApartFrom cs → AllPairs IsApartFrom (changed f n cs)
   apart-changed cs a = pairs_map IsApartFrom (λ c. if c.number == n then f c else c) cs (λ i j d lt within. apart_changed _ _ (a i j d lt within))
 
-  pub all-sound : (cs : List Content) (i : ℕ) → IsAt cs i n item → IsRising cs → All IsSound cs → IsSound (f item) → All IsSound (changed f n cs)
-  all-sound cs i at rising a s = sound_changed cs (only_item cs rising at.there) s a
+  pub all-sound : (cs : List Content) → content_of cs n ≡ Some item → IsRising cs → All IsSound cs → IsSound (f item) → All IsSound (changed f n cs)
+  all-sound cs there rising a s = sound_changed cs (only_item cs rising there) s a
 
   -- the list and the set with a changed carrier
   pub IsListed-changed : (s : Strategy) (cs new : List Content) (i fit : ℕ) (set after : Carriers) (bins left : HeldGaps) → IsAt cs i n item → IsRising cs → IsListed s cs set bins → new ≡ changed f n cs → IsSound (f item) → fit ≡ largest (gaps_of (f item))
@@ -88,7 +88,7 @@ module _ (f : Content → Content) (k : KeepsPlace f) (n : ℕ) (item : Content)
         ap (λ (x : Carriers). x.held) e ∙ ap (refitted n fit) l.held ∙ ap (λ m. refitted n m (map held_of cs)) fits
         ∙ held-changed cs (only_item cs rising at.there) ∙ sym (ap (map held_of) is);
     room = ap (λ (x : Carriers). x.room) e ∙ l.room;
-    sound = subst (All IsSound) (sym is) (all-sound cs i at rising l.sound sound);
+    sound = subst (All IsSound) (sym is) (all-sound cs at.there rising l.sound sound);
     apart = subst (AllPairs IsApartFrom) (sym is) (apart-changed cs l.apart);
     binned = λ gf. subst (λ ds. IsPermutation left.held (all_gaps ds)) (sym is) (binned gf);
   }

@@ -25,10 +25,10 @@ gf-choice depth need cs now o seen sound apart is =
     ap (option_and_then (λ g. candidate_at g cs)) is ∙ good_fit-at depth need cs sound apart ∙ ap (choice_among Gf depth need) seen
 
 -- a candidate of at least so many units
-abbrev IsLarge : ℕ → List Candidate → Candidate → Type 0
+abbrev pub IsLarge : ℕ → List Candidate → Candidate → Type 0
 IsLarge need xs x = Contains xs x × (need ≤ x.size)
 
-large_among : (need : ℕ) (all xs : List Candidate) → All (Contains all) xs → All (IsLarge need all) (large_enough need xs)
+pub large_among : (need : ℕ) (all xs : List Candidate) → All (Contains all) xs → All (IsLarge need all) (large_enough need xs)
 large_among need all xs a =
     let fits = filter_passes (λ (x : Candidate). nat_le need x.size) xs in
     let among = All-filter (λ (x : Candidate). nat_le need x.size) (Contains all) xs a in

@@ -5,3 +5,4 @@ pub mod Listed
 pub mod Kept
 pub mod Answers
 pub mod Found
+pub mod InOrder

@@ -1,5 +1,5 @@
 //! The carriers that an instance employs.
-ghost use Rattle.std.specs.Prelude.{◌≡◌, ◌≢◌, ℕ, ◌+◌, ◌*◌, ◌%◌, ◌<◌, ◌≤◌, [], All, Some, None, true, false, IsSome, IfSome, IfOk, OnOk, OnErr, length, option_map};
+ghost use Rattle.std.specs.Prelude.{◌≡◌, ◌≢◌, ℕ, ◌+◌, ◌*◌, ◌%◌, ◌<◌, ◌≤◌, [], All, AllPairs, Some, None, true, false, IsSome, IfSome, IfOk, OnOk, OnErr, length, option_map};
 ghost use Rattle.std.specs.Option.{option_and_then};
 ghost use Rattle.ea_model.specs.declared.carriers.Spot.{Spot};
 ghost use Rattle.ea_model.specs.declared.settings.Strategy.TheVariants.{Gf, Af};
@@ -65,6 +65,7 @@ impl Carriers {
     pub fn as_slice(&self) -> &[Employed]
         ensures carriers { result.now ≡ self.now.contents }
         ensures sound { All IsSound self.now.contents }
+        ensures apart { AllPairs IsApartFrom self.now.contents }
     {
         &self.list
     }

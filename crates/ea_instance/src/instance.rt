@@ -1,18 +1,19 @@
 //! The instance and its calls.
-ghost use Rattle.std.specs.Prelude.{◌≡◌, ℕ, ◌+◌, ◌*◌, ◌/◌, ◌%◌, ◌^◌, ◌<◌, ◌≤◌, ◌++◌, max, true, false, filter, Some, None, Ok, Err, Result, All, IsNone, ◌↔◌, IsSome, IfSome, IfOk, OnOk, OnErr, map, sum_by, option_map, length};
+ghost use Rattle.std.specs.Prelude.{◌≡◌, ℕ, ◌+◌, ◌*◌, ◌/◌, ◌%◌, ◌^◌, ◌<◌, ◌≤◌, ◌++◌, max, true, false, filter, Some, None, Ok, Err, Result, All, IsNone, ◌↔◌, IsSome, IfSome, IfOk, OnOk, OnErr, map, sum_by, option_map};
 ghost use Rattle.ea_model.specs.declared.carriers.Kind.TheVariants.{Multi};
 ghost use Rattle.ea_model.specs.declared.carriers.Spot.{Spot};
 ghost use Rattle.ea_model.specs.declared.carriers.CarrierPlan.{CarrierPlan};
-ghost use Rattle.ea_model.specs.Content.{named, allocated, free_units, gaps_of, is_done, Tiled};
+ghost use Rattle.ea_model.specs.Content.{named, free_units, gaps_of, is_done};
 ghost use Rattle.ea_model.specs.declared.entries.NoCarrier.TheVariants.{Numbers, Space};
 ghost use Rattle.ea_model.specs.Choice.{IsFirst};
-ghost use Rattle.ea_model.specs.Region.{runs, Laid};
+ghost use Rattle.ea_model.specs.Region.{runs};
 ghost use Rattle.ea_model.specs.Settings.{IsValid};
 ghost use Rattle.ea_model.specs.Strategies.{candidates, choice_among, choice_unused, large_enough, looked_at, lower, may_miss, takes_first};
 ghost use Rattle.ea_model.specs.Text.{carrier_line};
 ghost use Rattle.ea_model.specs.Instance.{main_content, new_instance, growth, multis, unused_from, plan, created_content, creating, chosen_spot, place_at, releasing_at, clearing, content_of, block_in, segments, least_pages};
 ghost use Rattle.ea_model.specs.Instance as instances;
 ghost use Rattle.ea_instance.specs.Answers.{placing_if, follow_up};
+ghost use Rattle.ea_instance.specs.InOrder.{IsInOrder};
 ghost use Rattle.ea_instance.specs.Found.{AllUsed, FindsNone, HaveSameBlocks, IsOther, IsPlaced};
 
 use crate::carriers::Carriers;
@@ -187,11 +188,8 @@ impl Instance {
     pub fn free_units(&self) -> u64
         ensures units { result ≡ sum_by (λ c. free_units (gaps_of c)) self.now.contents }
 
-        // Blocks, gaps and headers are the whole carriers. Each one's blocks lie one behind another, with whole
-        // gaps between them, and the carriers lie apart, inside the region.
-        ensures sum { sum_by (λ c. allocated c.blocks) self.now.contents + result + 8 * length self.now.contents ≡ sum_by (λ c. c.units) self.now.contents }
-        ensures tiled { All (λ c. Tiled 8 c.units c.blocks) self.now.contents }
-        ensures laid { Laid self.now.first self.now.end (segments self.now.contents) }
+        // With blocks and headers they are all units, and blocks and carriers lie apart.
+        ensures order { IsInOrder self.now }
     {
         free_of(self.carriers.as_slice())
     }
