@@ -2,3 +2,4 @@ pub mod InRange
 pub mod Pairs
 pub mod Printing
 pub mod Steps
+pub mod Moments

@@ -7,3 +7,4 @@ pub mod Flags
 pub mod Answers
 pub mod Lines
 pub mod Whys
+pub mod Moments

@@ -1,0 +1,15 @@
+use Rattle.std.proofs.Common.{◌≡◌, sym, ◌∙◌, subst}
+use Rattle.std.specs.Prelude.{Ok}
+use Rattle.ea_model.specs.declared.settings.Config.{Config}
+use Rattle.ea_model.specs.Flags.{Refusal}
+use Rattle.std.specs.Prelude.{Result}
+use Rattle.ea_top.specs.Flags.{IsBuilt}
+use Rattle.ea_top.proofs.Moments.{built-IsInOrder}
+use Rattle.ea_top.proofs.top.attempt.Goals as goal
+
+one_config : (read : Result Config Refusal) (c d : Config) → read ≡ Ok c → read ≡ Ok d → c ≡ d
+one_config read c d e f = let same : Ok c ≡ Ok d = sym e ∙ f in cc
+
+pub returns-clause-moments : goal.returns-clause-moments
+returns-clause-moments g c = λ config e ops.
+    built-IsInOrder config (subst IsBuilt (one_config _ c.in_ok-config.config config c.in_ok-config.ensures.read e) c.in_ok-config.ensures.built) ops
