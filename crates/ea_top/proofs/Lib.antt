@@ -1,5 +1,6 @@
+pub mod Failures
 pub mod InRange
+pub mod Moments
 pub mod Pairs
 pub mod Printing
 pub mod Steps
-pub mod Moments

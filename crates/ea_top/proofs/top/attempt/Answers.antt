@@ -1,9 +1,11 @@
 use Rattle.std.proofs.Common.{◌≡◌, sym, ◌∙◌, subst}
-use Rattle.std.specs.Prelude.{Ok}
 use Rattle.ea_model.specs.declared.settings.Config.{Config}
 use Rattle.ea_model.specs.Flags.{Refusal}
-use Rattle.std.specs.Prelude.{Result}
+use Rattle.std.specs.Prelude.{Result, Ok}
 use Rattle.ea_top.specs.Flags.{IsBuilt}
+use Rattle.ea_model.specs.Run.{run}
+use Rattle.ea_model.specs.Text.{instance_of}
+use Rattle.ea_top.proofs.Failures.{fails-exhausted}
 use Rattle.ea_top.proofs.Moments.{built-IsInOrder}
 use Rattle.ea_top.proofs.top.attempt.Goals as goal
 
@@ -13,3 +15,6 @@ one_config read c d e f = let same : Ok c ≡ Ok d = sym e ∙ f in cc
 pub returns-clause-moments : goal.returns-clause-moments
 returns-clause-moments g c = λ config e ops.
     built-IsInOrder config (subst IsBuilt (one_config _ c.in_ok-config.config config c.in_ok-config.ensures.read e) c.in_ok-config.ensures.built) ops
+
+pub returns-clause-fails : goal.returns-clause-fails
+returns-clause-fails g c = λ config e ops. fails-exhausted (run (instance_of config) ops)
