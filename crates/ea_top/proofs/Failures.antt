@@ -1,5 +1,5 @@
 -- Why an allocation fails.
-use Rattle.std.proofs.Common.{◌≡◌, ℕ, ◌+◌, List, [], ◌∷◌, ◌++◌, length, sym, ap, ◌∙◌, subst, refl, arith}
+use Rattle.std.proofs.Common.{◌≡◌, ℕ, List, [], ◌∷◌, ◌++◌, length, sym, ap, ◌∙◌, subst, refl, arith}
 use Rattle.std.specs.Prelude.{Option, Some, None, Result, Ok, Err, IsNone, option_map}
 use Rattle.std.proofs.lemmas.List.{length-append}
 use Rattle.ea_model.specs.declared.carriers.CarrierPlan.{CarrierPlan}
@@ -8,7 +8,6 @@ use Rattle.ea_model.specs.declared.carriers.Spot.{Spot}
 use Rattle.ea_model.specs.declared.entries.Entry.{Entry}
 use Rattle.ea_model.specs.declared.entries.Entry.TheVariants as entry
 use Rattle.ea_model.specs.declared.entries.NoCarrier.{NoCarrier}
-use Rattle.ea_model.specs.declared.entries.NoCarrier.TheVariants.{Numbers, Space}
 use Rattle.ea_model.specs.Instance.{Instance, chosen_spot, creating, plan}
 use Rattle.ea_model.specs.Run.{Run, allocating, in_new_carrier, with_carrier}
 use Rattle.ea_model.specs.Units.{need_of}
@@ -18,11 +17,11 @@ use Rattle.ea_top.specs.Moments.{IsExhausted, FailsExhausted}
 tail_same : {A : Type 0} (x : A) (ys zs : List A) → x ∷ ys ≡ x ∷ zs → ys ≡ zs
 tail_same x ys zs e = cc
 
-last_same : {A : Type 0} (xs : List A) (a b : A) → xs ++ a ∷ [] ≡ xs ++ b ∷ [] → a ≡ b
+pub last_same : {A : Type 0} (xs : List A) (a b : A) → xs ++ a ∷ [] ≡ xs ++ b ∷ [] → a ≡ b
 last_same [] a b e = cc
 last_same (x ∷ xs) a b e = last_same xs a b (tail_same x (xs ++ a ∷ []) (xs ++ b ∷ []) e)
 
-not_more : {A : Type 0} (xs : List A) (a : A) → xs ≡ xs ++ a ∷ [] → ⊥
+pub not_more : {A : Type 0} (xs : List A) (a : A) → xs ≡ xs ++ a ∷ [] → ⊥
 not_more xs a e = omega (arith, ap length e, length-append xs (a ∷ []))
 
 placed_is_no_failure : (name need : ℕ) (p : Place) (why : NoCarrier) → entry.Alloc name p ≡ entry.AllocFail name need 0 why → ⊥

@@ -2,5 +2,6 @@ pub mod Failures
 pub mod InRange
 pub mod Moments
 pub mod Pairs
+pub mod Placements
 pub mod Printing
 pub mod Steps

@@ -1,7 +1,7 @@
 -- An instance is in order at every moment of a run.
-use Rattle.std.proofs.Common.{◌≡◌, ℕ, ◌+◌, ◌*◌, ◌/◌, ◌%◌, ◌<◌, ◌≤◌, List, [], ◌∷◌, fold, sym, ap, ◌∙◌, subst, refl, inl, inr, arith}
+use Rattle.std.proofs.Common.{◌≡◌, ℕ, ◌+◌, ◌*◌, ◌/◌, ◌%◌, ◌≤◌, List, [], ◌∷◌, fold, sym, subst, refl, arith}
 use Rattle.std.specs.Prelude.{Option, Some, None, Result, Ok, Err, max}
-use Rattle.std.proofs.lemmas.Bool.{cases_lt, cond_both}
+use Rattle.std.proofs.lemmas.Bool.{cond_both}
 use Rattle.ea_model.specs.declared.carriers.CarrierPlan.{CarrierPlan}
 use Rattle.ea_model.specs.declared.carriers.Spot.{Spot}
 use Rattle.ea_model.specs.declared.entries.NoCarrier.{NoCarrier}
@@ -11,7 +11,7 @@ use Rattle.ea_model.specs.declared.settings.Config.{Config}
 use Rattle.ea_model.specs.Content.{Content, is_done}
 use Rattle.ea_model.specs.Flags.{region_pages}
 use Rattle.ea_model.specs.Instance.{Instance, chosen_spot, clearing, content_of, creating, plan, releasing_at}
-use Rattle.ea_model.specs.Run.{Run, allocating, freed_at, freeing, in_new_carrier, run, spot_held, start, step, tidied, with_carrier}
+use Rattle.ea_model.specs.Run.{Run, allocating, freeing, in_new_carrier, run, spot_held, start, step, tidied, with_carrier}
 use Rattle.ea_model.specs.Text.{instance_of}
 use Rattle.ea_model.specs.Units.{even, need_of}
 use Rattle.ea_instance.specs.InOrder.{IsInOrder}

@@ -7,6 +7,7 @@ use Rattle.ea_model.specs.Run.{run}
 use Rattle.ea_model.specs.Text.{instance_of}
 use Rattle.ea_top.proofs.Failures.{fails-exhausted}
 use Rattle.ea_top.proofs.Moments.{built-IsInOrder}
+use Rattle.ea_top.proofs.Placements.{places-first}
 use Rattle.ea_top.proofs.top.attempt.Goals as goal
 
 one_config : (read : Result Config Refusal) (c d : Config) → read ≡ Ok c → read ≡ Ok d → c ≡ d
@@ -18,3 +19,6 @@ returns-clause-moments g c = λ config e ops.
 
 pub returns-clause-fails : goal.returns-clause-fails
 returns-clause-fails g c = λ config e ops. fails-exhausted (run (instance_of config) ops)
+
+pub returns-clause-places : goal.returns-clause-places
+returns-clause-places g c = λ config e ops. places-first (run (instance_of config) ops)
