@@ -1,3 +1,4 @@
+pub mod Blocks
 pub mod ByCarrier
 pub mod Changed
 pub mod Choosing

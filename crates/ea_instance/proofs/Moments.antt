@@ -38,10 +38,10 @@ use Rattle.ea_instance.proofs.Missing.{IsLarge, large_among}
 use Rattle.ea_instance.proofs.Ranges.{blocks-disjoint}
 use Rattle.ea_instance.proofs.Sums.{all-units}
 
-abbrev list_of : Instance → CarrierList
+abbrev pub list_of : Instance → CarrierList
 list_of i = record { strategy = i.settings.strategy; contents = i.contents }
 
-abbrev region_of : Instance → Region
+abbrev pub region_of : Instance → Region
 region_of i = record { first = i.first; end = i.end; taken = segments i.contents }
 
 -- its region is kept, and its carriers are sound and lie apart
@@ -180,12 +180,16 @@ module _ (need : ℕ) (cs : List Content) (rising : IsRising cs) (sound : All Is
   pub chosen-HasGap : (s : Settings) → IfSome (choice_for s need cs) Has
   chosen-HasGap s = either (may_miss s.strategy) (choice_among s.strategy s.mbsd need cs) (choice_unused need cs) (among-HasGap s.strategy s.mbsd) unused-HasGap
 
--- a block is placed at the chosen spot
-pub chosen-Stands : (i : Instance) (need name : ℕ) (spot : Spot) → Stands i → 6 ≤ need → need % 2 ≡ 0 → chosen_spot i need ≡ Some spot → Stands (placing_at i spot need name)
-chosen-Stands i need name spot st least even is =
+-- the chosen spot has a gap that is large enough
+pub chosen_spot-HasGap : (i : Instance) (need : ℕ) (spot : Spot) → Stands i → chosen_spot i need ≡ Some spot → HasGap need spot.carrier spot.offset i.contents
+chosen_spot-HasGap i need spot st is =
     let has : Spot → Type 0 = λ at. HasGap need at.carrier at.offset i.contents in
     let o = choice_for i.settings need i.contents in
-    placing-Stands i spot need name st (some_holds (option_map spot_of o) spot has is (some_map spot_of has o (chosen-HasGap need i.contents st.kept.rising st.sound i.settings))) least even
+    some_holds (option_map spot_of o) spot has is (some_map spot_of has o (chosen-HasGap need i.contents st.kept.rising st.sound i.settings))
+
+-- a block is placed there
+pub chosen-Stands : (i : Instance) (need name : ℕ) (spot : Spot) → Stands i → 6 ≤ need → need % 2 ≡ 0 → chosen_spot i need ≡ Some spot → Stands (placing_at i spot need name)
+chosen-Stands i need name spot st least even is = placing-Stands i spot need name st (chosen_spot-HasGap i need spot st is) least even
 
 -- an instance before its first operation, without a main carrier and with one
 new_without : (s : Settings) (number first pages : ℕ) → IsValid s → (1 ≤ number) × (number ≤ 16) → first + pages ≤ 131072
