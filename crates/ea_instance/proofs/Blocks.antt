@@ -1,5 +1,5 @@
 -- What each change of an instance does to its blocks.
-use Rattle.std.proofs.Common.{◌≡◌, ◌≢◌, ℕ, ◌+◌, ◌<◌, ◌≤◌, List, sym, ap, ◌∙◌, subst, refl, arith}
+use Rattle.std.proofs.Common.{◌≡◌, ℕ, ◌≤◌, sym, ap, ◌∙◌, refl}
 use Rattle.std.specs.Prelude.{Option, Some, None, Ok}
 use Rattle.std.specs.Option.{option_and_then}
 use Rattle.ea_model.specs.declared.carriers.BlockAt.{BlockAt}
@@ -7,7 +7,7 @@ use Rattle.ea_model.specs.declared.carriers.CarrierPlan.{CarrierPlan}
 use Rattle.ea_model.specs.declared.carriers.Kind.TheVariants.{Multi}
 use Rattle.ea_model.specs.declared.carriers.Spot.{Spot}
 use Rattle.ea_model.specs.Content.{Content, block_at, gap_at, gaps_of, placed, released, taken_of}
-use Rattle.ea_model.specs.Instance.{Instance, block_in, changed, content_of, created_content, creating, place_at, placing_at, plan, releasing_at, size_for}
+use Rattle.ea_model.specs.Instance.{Instance, block_in, content_of, created_content, creating, place_at, placing_at, plan, releasing_at, size_for}
 use Rattle.ea_model.proofs.Rising.{changed_none, item_at-All, item_at-new, item_at-old, item_at-stays, none-other}
 use Rattle.ea_mbc.proofs.BlockLists.{offset_of, IsFront-gap}
 use Rattle.ea_instance.specs.Found.{HasGap, HaveSameBlocks, IsOther, IsPlaced}

@@ -1,4 +1,5 @@
 pub mod Failures
+pub mod Held
 pub mod InRange
 pub mod Moments
 pub mod Pairs

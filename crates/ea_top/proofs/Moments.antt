@@ -18,7 +18,7 @@ use Rattle.ea_instance.specs.InOrder.{IsInOrder}
 use Rattle.ea_instance.proofs.Moments.{Stands, Stands-IsInOrder, chosen-Stands, clearing-Stands, creating-Stands, new-Stands, releasing-Stands}
 use Rattle.ea_top.specs.Flags.{IsBuilt}
 
-need-least : (bytes : ℕ) → 6 ≤ need_of bytes
+pub need-least : (bytes : ℕ) → 6 ≤ need_of bytes
 need-least bytes = omega arith
 
 at_least_six : (n : ℕ) → n % 2 ≡ 0 → max 6 n % 2 ≡ 0
@@ -50,7 +50,7 @@ freeing-Stands r name (Some spot) st =
     let i = releasing_at r.instance spot in
     tidied-Stands i spot.carrier (content_of i.contents spot.carrier) refl (releasing-Stands r.instance spot st)
 
-step-Stands : (r : Run) (o : Op) → Stands r.instance → Stands (step r o).instance
+pub step-Stands : (r : Run) (o : Op) → Stands r.instance → Stands (step r o).instance
 step-Stands r (op.Alloc name bytes) st = allocating-Stands r name (need_of bytes) (need-least bytes) (need-even bytes) st (chosen_spot r.instance (need_of bytes)) refl
 step-Stands r (op.Free name) st = freeing-Stands r name (spot_held name r.held) st
 step-Stands r (op.Realloc old fresh bytes) st = st
@@ -66,8 +66,11 @@ run-Stands r (o ∷ ops) st = run-Stands (step r o) ops (step-Stands r o st)
 one_region : (c : Config) → IsBuilt c → region_pages c ≤ 131072
 one_region c built = subst (λ n. c.scs * 256 / n ≤ 131072) (sym built.schedulers) (omega (arith, built.largest))
 
+pub built-Stands : (c : Config) → IsBuilt c → Stands (instance_of c)
+built-Stands c built = new-Stands c.h 1 0 (region_pages c) built.valid (omega arith, omega arith) (omega (arith, one_region c built)) built.main
+
 -- behind any operations under a configuration that is built
 pub built-IsInOrder : (c : Config) → IsBuilt c → (ops : List Op) → IsInOrder (run (instance_of c) ops).instance
 built-IsInOrder c built ops =
     Stands-IsInOrder (run (instance_of c) ops).instance
-    (run-Stands (start (instance_of c)) ops (new-Stands c.h 1 0 (region_pages c) built.valid (omega arith, omega arith) (omega (arith, one_region c built)) built.main))
+    (run-Stands (start (instance_of c)) ops (built-Stands c built))

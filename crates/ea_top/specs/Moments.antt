@@ -1,5 +1,6 @@
 -- The moments of a run.
-use Rattle.std.specs.Prelude.{◌≡◌, ◌⊎◌, ℕ, ◌<◌, List, [], ◌∷◌, ◌++◌, Ok, All, IsNone, filter, true}
+use Rattle.std.specs.Prelude.{◌≡◌, ◌≢◌, ◌⊎◌, ℕ, ◌<◌, true, List, [], ◌∷◌, ◌++◌, Some, Ok, All, AllPairs, IsNone, filter}
+use Rattle.ea_model.specs.declared.carriers.BlockAt.{BlockAt}
 use Rattle.ea_model.specs.declared.carriers.Candidate.{Candidate}
 use Rattle.ea_model.specs.declared.carriers.CarrierPlan.{CarrierPlan}
 use Rattle.ea_model.specs.declared.carriers.Place.{Place}
@@ -13,18 +14,31 @@ use Rattle.ea_model.specs.declared.settings.Settings.{Settings}
 use Rattle.ea_model.specs.Choice.{IsFirst}
 use Rattle.ea_model.specs.Content.{Content, is_done}
 use Rattle.ea_model.specs.Flags.{flags}
-use Rattle.ea_model.specs.Instance.{Instance, chosen_spot, creating, least_pages, plan, segments}
+use Rattle.ea_model.specs.Instance.{Instance, block_in, chosen_spot, creating, least_pages, plan, segments}
 use Rattle.ea_model.specs.Region.{runs}
-use Rattle.ea_model.specs.Run.{Run, run, step}
+use Rattle.ea_model.specs.Run.{Held, Run, run, step}
 use Rattle.ea_model.specs.Strategies.{candidates, choice_among, large_enough, looked_at, lower, may_miss, takes_first}
 use Rattle.ea_model.specs.Text.{instance_of}
 use Rattle.ea_model.specs.Units.{need_of}
 use Rattle.ea_instance.specs.Found.{AllUsed, FindsNone}
 use Rattle.ea_instance.specs.InOrder.{IsInOrder}
 
--- under these words the instance is in order behind any operations, so behind each front of any list of them
-abbrev pub IsInOrderThroughout : List (List ℕ) → Type 0
-IsInOrderThroughout words = (config : Config) → flags words ≡ Ok config → (ops : List Op) → IsInOrder (run (instance_of config) ops).instance
+-- under these words it holds behind any operations, so behind each front of any list of them
+abbrev pub Throughout : (Run → Type 0) → List (List ℕ) → Type 0
+Throughout P words = (config : Config) → flags words ≡ Ok config → (ops : List Op) → P (run (instance_of config) ops)
+
+-- its instance is in order
+abbrev pub HasOrder : Run → Type 0
+HasOrder r = IsInOrder r.instance
+
+-- the block of the name begins at its spot
+abbrev pub IsBlockOf : List Content → Held → Type 0
+IsBlockOf cs h = (b : BlockAt) × (block_in cs h.spot ≡ Some b) × (b.name ≡ h.name)
+
+-- each name that is held has its block, and no two have it at one spot
+pub record HoldsItsBlocks (r : Run) : Type 0 where
+  pub blocks : All (IsBlockOf r.instance.contents) r.held
+  pub apart : AllPairs (λ h k. h.spot ≢ k.spot) r.held
 
 -- nothing that the strategy looks at has so many units; and all carrier numbers are in use, or no run of free pages holds the least carrier, as is said
 pub record IsExhausted (i : Instance) (need : ℕ) (why : NoCarrier) : Type 0 where
@@ -35,10 +49,6 @@ pub record IsExhausted (i : Instance) (need : ℕ) (why : NoCarrier) : Type 0 wh
 -- an allocation is noted as failed only where its instance is exhausted
 abbrev pub FailsExhausted : Run → Type 0
 FailsExhausted r = (name bytes : ℕ) (why : NoCarrier) → (step r (op.Alloc name bytes)).log ≡ r.log ++ entry.AllocFail name (need_of bytes) 0 why ∷ [] → IsExhausted r.instance (need_of bytes) why
-
--- under these words that holds of an allocation behind any operations
-abbrev pub FailsExhaustedThroughout : List (List ℕ) → Type 0
-FailsExhaustedThroughout words = (config : Config) → flags words ≡ Ok config → (ops : List Op) → FailsExhausted (run (instance_of config) ops)
 
 -- of the gaps that the strategy looks at and that are large enough, it takes this one first; or the strategy may miss a gap, none of those is large enough, and this is the lowest of a carrier without blocks
 abbrev pub IsTakenFirst : Settings → ℕ → List Content → Candidate → Type 0
@@ -55,7 +65,3 @@ abbrev pub PlacesFirst : Run → Type 0
 PlacesFirst r = (name bytes : ℕ) (p : Place) → (step r (op.Alloc name bytes)).log ≡ r.log ++ entry.Alloc name p ∷ []
     → IsPlaceOf r.instance (need_of bytes) p
     ⊎ ((q : CarrierPlan) × IsNone (chosen_spot r.instance (need_of bytes)) × (plan r.instance (need_of bytes) ≡ Ok q) × IsPlaceOf (creating r.instance q) (need_of bytes) p)
-
--- under these words that holds of an allocation behind any operations
-abbrev pub PlacesFirstThroughout : List (List ℕ) → Type 0
-PlacesFirstThroughout words = (config : Config) → flags words ≡ Ok config → (ops : List Op) → PlacesFirst (run (instance_of config) ops)
