@@ -1,5 +1,5 @@
 -- The moments of a run.
-use Rattle.std.specs.Prelude.{◌≡◌, ◌≢◌, ◌⊎◌, ℕ, ◌<◌, true, List, [], ◌∷◌, ◌++◌, Some, Ok, All, AllPairs, IsNone, filter}
+use Rattle.std.specs.Prelude.{◌≡◌, ◌≢◌, ◌⊎◌, ℕ, ◌<◌, true, List, [], ◌∷◌, ◌++◌, Some, Ok, All, AllPairs, IsNone, IsSome, filter}
 use Rattle.ea_model.specs.declared.carriers.BlockAt.{BlockAt}
 use Rattle.ea_model.specs.declared.carriers.Candidate.{Candidate}
 use Rattle.ea_model.specs.declared.carriers.CarrierPlan.{CarrierPlan}
@@ -16,7 +16,7 @@ use Rattle.ea_model.specs.Content.{Content, is_done}
 use Rattle.ea_model.specs.Flags.{flags}
 use Rattle.ea_model.specs.Instance.{Instance, block_in, chosen_spot, creating, least_pages, plan, segments}
 use Rattle.ea_model.specs.Region.{runs}
-use Rattle.ea_model.specs.Run.{Held, Run, run, step}
+use Rattle.ea_model.specs.Run.{Held, Run, run, spot_held, step}
 use Rattle.ea_model.specs.Strategies.{candidates, choice_among, large_enough, looked_at, lower, may_miss, takes_first}
 use Rattle.ea_model.specs.Text.{instance_of}
 use Rattle.ea_model.specs.Units.{need_of}
@@ -39,6 +39,12 @@ IsBlockOf cs h = (b : BlockAt) × (block_in cs h.spot ≡ Some b) × (b.name ≡
 pub record HoldsItsBlocks (r : Run) : Type 0 where
   pub blocks : All (IsBlockOf r.instance.contents) r.held
   pub apart : AllPairs (λ h k. h.spot ≢ k.spot) r.held
+
+-- a release is noted as done only of a name that is held, and the name is held no more; a name that isn't held comes to be held only by an allocation under it
+pub record ReleasesOnce (r : Run) : Type 0 where
+  pub held : (name : ℕ) → (step r (op.Free name)).log ≡ r.log ++ entry.Free name ∷ [] → IsSome (spot_held name r.held)
+  pub gone : (name : ℕ) → IsNone (spot_held name (step r (op.Free name)).held)
+  pub again : (name : ℕ) (o : Op) → IsNone (spot_held name r.held) → IsNone (spot_held name (step r o).held) ⊎ ((bytes : ℕ) × (o ≡ op.Alloc name bytes))
 
 -- nothing that the strategy looks at has so many units; and all carrier numbers are in use, or no run of free pages holds the least carrier, as is said
 pub record IsExhausted (i : Instance) (need : ℕ) (why : NoCarrier) : Type 0 where

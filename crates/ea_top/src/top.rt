@@ -8,7 +8,7 @@ ghost use Rattle.ea_model.specs.Text.{output};
 ghost use Rattle.ea_model.specs.Faultline.{faultline};
 ghost use Rattle.ea_top.specs.Flags.{IsBuilt};
 ghost use Rattle.ea_top.specs.Answers.{GoodWords, GoodInput, is_too_long, output_of};
-ghost use Rattle.ea_top.specs.Moments.{Throughout, HasOrder, HoldsItsBlocks, PlacesFirst, FailsExhausted};
+ghost use Rattle.ea_top.specs.Moments.{Throughout, HasOrder, HoldsItsBlocks, ReleasesOnce, PlacesFirst, FailsExhausted};
 ghost use Rattle.ea_top.specs.Whys.{IsWhy, IsReadFault, IsTextFault};
 ghost use Rattle.ea_top.specs.Lines.{status_of, line_of};
 ghost use Rattle.ea_top.specs.declared.faults.Fault.{Fault};
@@ -43,10 +43,12 @@ pub fn run<R: Threads + Sync, S: Source, O: Sink, E: Sink>(
     ensures done { result ≡ 0 → IfSome (S.left source.old) (λ input. GoodInput (map string_bytes words.now) input × Appends (O.taken out.old) (O.taken out.new) (output_of (map string_bytes words.now) input)) }
 
     // And at every moment of every run under such words no two blocks share a unit, carriers lie apart, and blocks,
-    // gaps and headers are all units; each held name has its own block; a block is placed where the strategy takes a gap
-    // first; and an allocation fails only where nothing that is looked at fits and no carrier can be created.
+    // gaps and headers are all units; each held name has its own block, which is released once; a block is placed where
+    // the strategy takes a gap first; and an allocation fails only where nothing that is looked at fits and no carrier
+    // can be created.
     ensures in_order { result ≡ 0 → Throughout HasOrder (map string_bytes words.now) }
     ensures holds { result ≡ 0 → Throughout HoldsItsBlocks (map string_bytes words.now) }
+    ensures releases { result ≡ 0 → Throughout ReleasesOnce (map string_bytes words.now) }
     ensures places { result ≡ 0 → Throughout PlacesFirst (map string_bytes words.now) }
     ensures fails { result ≡ 0 → Throughout FailsExhausted (map string_bytes words.now) }
 
@@ -102,6 +104,7 @@ fn attempt<S: Source, O: Sink>(
         × IfSome (S.left source.old) (λ input. GoodInput (map string_bytes words.now) input × Appends (O.taken out.old) (O.taken out.new) (output_of (map string_bytes words.now) input))) }
     ensures in_order { OnOk result (Throughout HasOrder (map string_bytes words.now)) }
     ensures holds { OnOk result (Throughout HoldsItsBlocks (map string_bytes words.now)) }
+    ensures releases { OnOk result (Throughout ReleasesOnce (map string_bytes words.now)) }
     ensures places { OnOk result (Throughout PlacesFirst (map string_bytes words.now)) }
     ensures fails { OnOk result (Throughout FailsExhausted (map string_bytes words.now)) }
     ensures why { IfErr result (IsWhy (map string_bytes words.now) (S.left source.old) (Rose (S.faults source.old) (S.faults source.new)) (Rose (O.faults out.old) (O.faults out.new))) }
