@@ -5,7 +5,7 @@ use Rattle.std.specs.Cmp.{IsStrictWeakOrder}
 use Rattle.std.proofs.lemmas.Bool.{cases_lt, leb-true}
 use Rattle.std.proofs.lemmas.List.Elements.{All-nil, All-cons, All-head, All-tail, All-filter, All-contains_itself, filter_passes}
 use Rattle.ea_model.specs.Choice.{first}
-use Rattle.ea_model.proofs.First.{IsLeast, first-All, first-IsLeast, first-none, large-here, large-none, large-past, none-large}
+use Rattle.ea_model.proofs.First.{both_All, IsLeast, first-All, first-IsLeast, first-none, large-here, large-none, large-past, none-large}
 use Rattle.ea_model.proofs.Options.{both_some, some_map, unmapped}
 use Rattle.ea_cset.specs.declared.keys.Held.{Held}
 use Rattle.ea_model.proofs.Orders.{rising-order, less-order}
@@ -35,9 +35,6 @@ fitting-All P need (h ∷ hs) a =
           let b : All P (h ∷ fitting need hs) = subst (All P) (large-here (λ (x : Held). x.fit) need h hs le) a in
           All-cons (λ (x : Held). need ≤ x.fit → P x) h hs (λ _. All-head P h (fitting need hs) b) (fitting-All P need hs (All-tail P h (fitting need hs) b))
     ]
-
-both_All : {A : Type 0} (P Q R : A → Type 0) → ((x : A) → P x → Q x → R x) → (xs : List A) → All P xs → All Q xs → All R xs
-both_All P Q R f xs p q = λ k d lt. f _ (p k d lt) (q k d lt)
 
 -- the number found is that of the first carrier that fits
 pub first_number-IsFirstOf : (before : Held → Held → Bool) → IsStrictWeakOrder before → (need : ℕ) (hs : List Held) → IfSome (first_number before need hs) (IsFirstOf before need hs)

@@ -15,7 +15,7 @@ use Rattle.ea_model.specs.Choice.{better, first}
 use Rattle.ea_model.specs.GoodFit.{bin_of, is_inspected, smaller_low, good_fit}
 use Rattle.ea_model.specs.Strategies.{candidate, candidates, candidates_in, large_enough}
 use Rattle.ea_model.specs.Instance.{content_of}
-use Rattle.ea_model.proofs.First.{first-All}
+use Rattle.ea_model.proofs.First.{both_All, first-All}
 use Rattle.ea_mbc.proofs.Chosen.{Begins, gap_none, gap_some, gaps-Begins}
 use Rattle.ea_mbc.proofs.Tiling.{Tiled-allocated}
 use Rattle.ea_goodfit.specs.declared.gaps.Gap.{Gap}
@@ -100,9 +100,6 @@ IsOutside c address = (address < 512 * c.base) ⊎ (512 * c.base + c.units ≤ a
 
 outside : (c d : Content) (address : ℕ) → IsApartFrom c d → 512 * d.base ≤ address → address < 512 * d.base + d.units → IsOutside c address
 outside c d address apart low high = elim apart [ inl le ↦ inr (omega arith) | inr le ↦ inl (omega arith) ]
-
-both_All : {A : Type 0} (P Q R : A → Type 0) → ((x : A) → P x → Q x → R x) → (xs : List A) → All P xs → All Q xs → All R xs
-both_All P Q R f xs p q = λ k d lt. f _ (p k d lt) (q k d lt)
 
 -- the gaps of other carriers lie outside
 others_outside : (c : Content) (cs : List Content) → All IsSound cs → All (IsApartFrom c) cs → All (λ x. IsOutside c x.address) (candidates cs)

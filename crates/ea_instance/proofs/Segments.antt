@@ -1,5 +1,5 @@
 -- The segments of an instance's carriers.
-use Rattle.std.proofs.Common.{suc, ◌≡◌, ◌≢◌, ℕ, ◌+◌, ◌*◌, ◌/◌, ◌<◌, ◌≤◌, true, List, [], ◌∷◌, ◌++◌, length, All, sym, ap, ◌∙◌, subst, refl, inl, inr, ◌⊎◌, arith}
+use Rattle.std.proofs.Common.{◌≡◌, ◌≢◌, ℕ, ◌+◌, ◌*◌, ◌/◌, ◌<◌, ◌≤◌, true, List, [], ◌∷◌, ◌++◌, length, All, sym, ap, ◌∙◌, subst, refl, inl, inr, ◌⊎◌, arith}
 use Rattle.std.specs.Prelude.{Some, Any}
 use Rattle.std.proofs.lemmas.Bool.{cases_lt, cases_eq}
 use Rattle.std.proofs.lemmas.List.Elements.{All-nil, All-cons, All-head, All-tail}
@@ -12,6 +12,7 @@ use Rattle.ea_model.proofs.Pairs.{pairs_tail}
 use Rattle.ea_model.proofs.Rising.{entered_here, entered_past, length-entered, others, without_here, without_none, without_past}
 use Rattle.ea_space.specs.Pages.{IsBeside, IsApart, IsTailOf, IsTail}
 use Rattle.ea_space.proofs.Segments.{start_of, covers_cases, cut_past, cut_first, stretch_none, Laid-cut, any_cases, IsTail_cases, IsTail_behind}
+use Rattle.ea_space.proofs.Tails.{any_here, any_later}
 use Rattle.ea_instance.specs.Kept.{number_of, IsRising, IsWhole}
 use Rattle.ea_instance.specs.Listed.{IsApartFrom}
 
@@ -75,12 +76,6 @@ segments-with_content x (c ∷ cs) some whole apart =
           ∙ ap (with_segment (segment_of c)) (segments-with_content x cs some (All-tail IsWhole c cs whole) (All-tail (IsApartFrom x) c cs apart))
           ∙ entered-entered (segment_of c) (segment_of x) (segments cs) (other_base x c some (All-head IsWhole c cs whole) (All-head (IsApartFrom x) c cs apart))
     ]
-
-any_here : (P : Segment → Type 0) (s : Segment) (ts : List Segment) → P s → Any P (s ∷ ts)
-any_here P s ts p = (0, s, omega arith, refl, p)
-
-any_later : (P : Segment → Type 0) (s : Segment) (ts : List Segment) → Any P ts → Any P (s ∷ ts)
-any_later P s ts h = (suc h.0, h.1, omega (arith, h.2), h.3, h.4)
 
 any_entered : (P : Segment → Type 0) (s : Segment) (ts : List Segment) → P s → Any P (with_segment s ts)
 any_entered P s [] p = any_here P s [] p

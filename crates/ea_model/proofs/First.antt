@@ -7,6 +7,9 @@ use Rattle.std.proofs.lemmas.List.Elements.{All-nil, All-cons, All-head, All-tai
 use Rattle.ea_model.specs.Choice.{better, first, IsFirst}
 use Rattle.ea_model.proofs.Options.{if_some, both_some}
 
+pub both_All : {A : Type 0} (P Q R : A → Type 0) → ((x : A) → P x → Q x → R x) → (xs : List A) → All P xs → All Q xs → All R xs
+both_All P Q R f xs p q = λ k d within. f _ (p k d within) (q k d within)
+
 -- what holds of each element holds of the first one
 pub first-All : {A : Type 0} (P : A → Type 0) (before : A → A → Bool) (best : Option A) (xs : List A) → IfSome best P → All P xs → IfSome (fold (better before) best xs) P
 first-All P before best [] b e = b

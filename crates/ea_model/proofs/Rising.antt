@@ -13,7 +13,7 @@ use Rattle.ea_model.specs.Keyed.{has_key, is_behind, item_at, entered, without, 
 insert_cons : {A : Type 0} (x y : A) (ys : List A) (n : ℕ) → insert (y ∷ ys) (1 + n) x ≡ y ∷ insert ys n x
 insert_cons x y ys n = let e : 1 + n ≡ suc n = omega arith in rw e refl
 
-remove_cons : {A : Type 0} (y : A) (ys : List A) (n : ℕ) → remove (y ∷ ys) (1 + n) ≡ y ∷ remove ys n
+pub remove_cons : {A : Type 0} (y : A) (ys : List A) (n : ℕ) → remove (y ∷ ys) (1 + n) ≡ y ∷ remove ys n
 remove_cons y ys n = let e : 1 + n ≡ suc n = omega arith in rw e refl
 
 if_same : {A : Type 0} (m n : ℕ) (x y : A) → m ≡ n → (if m == n then x else y) ≡ x
@@ -22,10 +22,10 @@ if_same m n x y e = cond-true (m == n) x y (grind arith)
 if_other : {A : Type 0} (m n : ℕ) (x y : A) → m ≢ n → (if m == n then x else y) ≡ y
 if_other m n x y e = cond-false (m == n) x y (grind arith)
 
-set_cons : {A : Type 0} (x y : A) (ys : List A) (n : ℕ) → set (y ∷ ys) (1 + n) x ≡ y ∷ set ys n x
+pub set_cons : {A : Type 0} (x y : A) (ys : List A) (n : ℕ) → set (y ∷ ys) (1 + n) x ≡ y ∷ set ys n x
 set_cons x y ys n = let e : 1 + n ≡ suc n = omega arith in rw e refl
 
-get_or_cons : {A : Type 0} (y d : A) (ys : List A) (n : ℕ) → get_or (y ∷ ys) (1 + n) d ≡ get_or ys n d
+pub get_or_cons : {A : Type 0} (y d : A) (ys : List A) (n : ℕ) → get_or (y ∷ ys) (1 + n) d ≡ get_or ys n d
 get_or_cons y d ys n = let e : 1 + n ≡ suc n = omega arith in rw e refl
 
 module _ {A : Type 0} (key_of : A → ℕ) where

@@ -1,5 +1,5 @@
 -- A run: what the operations do, one after another.
-use Rattle.std.specs.Prelude.{ℕ, not, ◌==◌, List, [], ◌∷◌, ◌++◌, Option, Some, None, Result, Ok, Err, filter, find, fold, if◌then◌else◌, option_map}
+use Rattle.std.specs.Prelude.{ℕ, List, [], ◌∷◌, ◌++◌, Option, Some, None, Result, Ok, Err, fold, if◌then◌else◌, option_map}
 use Rattle.ea_model.specs.declared.carriers.Spot.{Spot}
 use Rattle.ea_model.specs.declared.carriers.CarrierPlan.{CarrierPlan}
 use Rattle.ea_model.specs.declared.operations.Op.{Op}
@@ -8,6 +8,7 @@ use Rattle.ea_model.specs.declared.entries.NoCarrier.{NoCarrier}
 use Rattle.ea_model.specs.declared.entries.Entry.{Entry}
 use Rattle.ea_model.specs.declared.entries.Entry.TheVariants as entry
 use Rattle.ea_model.specs.Units.{need_of}
+use Rattle.ea_model.specs.Keyed as keyed
 use Rattle.ea_model.specs.Content.{Content, is_done}
 use Rattle.ea_model.specs.Instance.{Instance, plan, creating, chosen_spot, place_at, placing_at, releasing_at, clearing, content_of}
 
@@ -28,10 +29,10 @@ start i = record { instance = i; held = []; log = [] }
 
 -- where the name's block begins, if the name is held
 abbrev pub spot_held : ℕ → List Held → Option Spot
-spot_held name held = option_map (λ h. h.spot) (find (λ h. h.name == name) held)
+spot_held name held = option_map (λ h. h.spot) (keyed.item_at (λ h. h.name) held name)
 
 abbrev pub without : ℕ → List Held → List Held
-without name held = filter (λ h. not (h.name == name)) held
+without name held = keyed.without (λ h. h.name) name held
 
 -- a block is placed at a spot of the instance
 abbrev pub with_block : Run → Instance → ℕ → ℕ → Spot → Run

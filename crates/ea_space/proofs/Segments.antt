@@ -7,7 +7,7 @@ use Rattle.std.proofs.lemmas.List.{drop_more, get_or_default}
 use Rattle.std.proofs.lemmas.List.Elements.{All-head, All-tail}
 use Rattle.ea_model.specs.declared.carriers.Segment.{Segment}
 use Rattle.ea_model.specs.Region.{stretch, with_segment, covers, cut_from, Laid}
-use Rattle.ea_model.proofs.Rising.{entered_here, entered_past}
+use Rattle.ea_model.proofs.Rising.{entered_here, entered_past, get_or_cons, remove_cons, set_cons}
 use Rattle.ea_space.specs.Pages.{IsBeside, IsApart, IsTailOf, IsTail}
 
 -- the default of an index past the end
@@ -27,15 +27,6 @@ Laid-earlier a at end (s ∷ ss) le t = (omega arith, t.1, t.2)
 -- the next segment of the rest, and the rest after it
 pub Laid-next : (at end : ℕ) (ss : List Segment) (i : ℕ) → i < length ss → Laid at end (drop i ss) → Laid at end (get_or ss i no_segment ∷ drop (i + 1) ss)
 Laid-next at end ss i h t = rw (drop_more ss i no_segment h) at t
-
-remove_cons : (s : Segment) (ss : List Segment) (n : ℕ) → remove (s ∷ ss) (1 + n) ≡ s ∷ remove ss n
-remove_cons s ss n = let e : 1 + n ≡ suc n = omega arith in rw e refl
-
-set_cons : (x s : Segment) (ss : List Segment) (n : ℕ) → set (s ∷ ss) (1 + n) x ≡ s ∷ set ss n x
-set_cons x s ss n = let e : 1 + n ≡ suc n = omega arith in rw e refl
-
-get_or_cons : (s d : Segment) (ss : List Segment) (n : ℕ) → get_or (s ∷ ss) (1 + n) d ≡ get_or ss n d
-get_or_cons s d ss n = let e : 1 + n ≡ suc n = omega arith in rw e refl
 
 abbrev pub start_of : Segment → ℕ
 start_of s = s.start

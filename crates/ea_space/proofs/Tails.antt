@@ -8,10 +8,10 @@ use Rattle.ea_model.proofs.Rising.{entered_here, entered_past}
 use Rattle.ea_space.specs.Pages.{IsTailOf, IsTail}
 use Rattle.ea_space.proofs.Segments.{covers_cases, stretch_some, stretch_none, cut_first, cut_past, start_of, IsTail_cases, IsTail_behind}
 
-any_here : {A : Type 0} (P : A → Type 0) (x : A) (xs : List A) → P x → Any P (x ∷ xs)
+pub any_here : {A : Type 0} (P : A → Type 0) (x : A) (xs : List A) → P x → Any P (x ∷ xs)
 any_here P x xs p = (0, x, omega arith, refl, p)
 
-any_later : {A : Type 0} (P : A → Type 0) (x : A) (xs : List A) → Any P xs → Any P (x ∷ xs)
+pub any_later : {A : Type 0} (P : A → Type 0) (x : A) (xs : List A) → Any P xs → Any P (x ∷ xs)
 any_later P x xs h = (suc h.0, h.1, omega (arith, h.2), h.3, h.4)
 
 -- the whole of a segment that was entered

@@ -21,6 +21,7 @@ use Rattle.ea_instance.proofs.Contents.{same-without}
 use Rattle.ea_instance.proofs.Moments.{Stands, chosen_spot-HasGap, creating-Stands}
 use Rattle.ea_top.specs.Moments.{IsBlockOf, HoldsItsBlocks}
 use Rattle.ea_top.proofs.Moments.{need-least, step-Stands}
+use Rattle.ea_top.proofs.Steps.{name_of}
 
 same_spot : (a b : Spot) → b.carrier ≡ a.carrier → b.offset ≡ a.offset → a ≡ b
 same_spot a b e f = ap (λ c. record { carrier = c; offset = a.offset }) (sym e) ∙ ap (λ o. record { carrier = b.carrier; offset = o }) (sym f)
@@ -72,10 +73,10 @@ held_among P name spot [] e a = absurd cc
 held_among P name spot (h ∷ hs) e a =
     elim (cases_eq h.name name) [
       | inl same ↦
-          let found : Some h.spot ≡ Some spot = sym (ap (option_map (λ (k : Held). k.spot)) (item_here (λ (k : Held). k.name) name h hs same)) ∙ e in
+          let found : Some h.spot ≡ Some spot = sym (ap (option_map (λ (k : Held). k.spot)) (item_here name_of name h hs same)) ∙ e in
           let is : h.spot ≡ spot = cc in
           subst P is (All-head (λ k. P k.spot) h hs a)
-      | inr other ↦ held_among P name spot hs (sym (ap (option_map (λ (k : Held). k.spot)) (item_past (λ (k : Held). k.name) name h hs other)) ∙ e) (All-tail (λ k. P k.spot) h hs a)
+      | inr other ↦ held_among P name spot hs (sym (ap (option_map (λ (k : Held). k.spot)) (item_past name_of name h hs other)) ∙ e) (All-tail (λ k. P k.spot) h hs a)
     ]
 
 -- the names that are left have their blocks elsewhere
@@ -85,13 +86,13 @@ left_apart name spot (h ∷ hs) apart e =
     let away : All (AreApart h) hs = pairs_head AreApart h hs apart in
     elim (cases_eq h.name name) [
       | inl same ↦
-          let found : Some h.spot ≡ Some spot = sym (ap (option_map (λ (k : Held). k.spot)) (item_here (λ (k : Held). k.name) name h hs same)) ∙ e in
+          let found : Some h.spot ≡ Some spot = sym (ap (option_map (λ (k : Held). k.spot)) (item_here name_of name h hs same)) ∙ e in
           let is : h.spot ≡ spot = cc in
-          subst (All (λ k. spot ≢ k.spot)) (sym (without_here (λ (k : Held). k.name) name h hs same))
+          subst (All (λ k. spot ≢ k.spot)) (sym (without_here name_of name h hs same))
           (All-filter _ (λ k. spot ≢ k.spot) hs (subst (λ s. All (λ (k : Held). s ≢ k.spot) hs) is away))
       | inr other ↦
-          let rest : spot_held name hs ≡ Some spot = sym (ap (option_map (λ (k : Held). k.spot)) (item_past (λ (k : Held). k.name) name h hs other)) ∙ e in
-          subst (All (λ k. spot ≢ k.spot)) (sym (without_past (λ (k : Held). k.name) name h hs other))
+          let rest : spot_held name hs ≡ Some spot = sym (ap (option_map (λ (k : Held). k.spot)) (item_past name_of name h hs other)) ∙ e in
+          subst (All (λ k. spot ≢ k.spot)) (sym (without_past name_of name h hs other))
           (All-cons (λ k. spot ≢ k.spot) h (without name hs) (held_among (λ s. s ≢ h.spot) name spot hs rest (All-weaker (AreApart h) (λ k. k.spot ≢ h.spot) (λ k n p. n (sym p)) hs away)) (left_apart name spot hs (pairs_tail AreApart h hs apart) rest))
     ]
 

@@ -10,14 +10,11 @@ use Rattle.ea_model.specs.declared.operations.Op.{Op}
 use Rattle.ea_model.specs.declared.operations.Op.TheVariants as op
 use Rattle.ea_model.specs.Instance.{Instance, chosen_spot, creating, plan}
 use Rattle.ea_model.specs.Run.{Held, Run, allocating, freeing, in_new_carrier, spot_held, step, with_carrier, without}
-use Rattle.ea_model.specs.Keyed.{item_at}
 use Rattle.ea_model.specs.Units.{need_of}
-use Rattle.ea_model.proofs.Rising.{item_at-gone, item_at-stays, item_past}
+use Rattle.ea_model.proofs.Rising.{item_past}
 use Rattle.ea_top.specs.Moments.{ReleasesOnce}
 use Rattle.ea_top.proofs.Failures.{last_same}
-
-abbrev name_of : Held → ℕ
-name_of h = h.name
+use Rattle.ea_top.proofs.Steps.{name_of, spot_held-without, spot_held-without_other}
 
 abbrev HoldsNone : ℕ → List Held → Type 0
 HoldsNone name hs = IsNone (spot_held name hs)
@@ -31,7 +28,7 @@ was_held r name (Some spot) log = refl
 
 is_gone : (r : Run) (name : ℕ) (o : Option Spot) → spot_held name r.held ≡ o → HoldsNone name (freeing r name o).held
 is_gone r name None e = subst IsNone (sym e) refl
-is_gone r name (Some spot) e = subst IsNone (sym (ap (option_map (λ (h : Held). h.spot)) (item_at-gone name_of name r.held))) refl
+is_gone r name (Some spot) e = subst IsNone (sym (spot_held-without r.held name)) refl
 
 -- another name that comes to be held
 more_none : (name : ℕ) (h : Held) (hs : List Held) → h.name ≢ name → HoldsNone name hs → HoldsNone name (h ∷ hs)
@@ -54,8 +51,8 @@ freeing_none : (r : Run) (name other : ℕ) (o : Option Spot) → HoldsNone name
 freeing_none r name other None none = none
 freeing_none r name other (Some spot) none =
     elim (cases_eq name other) [
-      | inl same ↦ subst IsNone (sym (ap (option_map (λ (h : Held). h.spot)) (subst (λ m. item_at name_of (without m r.held) name ≡ None) same (item_at-gone name_of name r.held)))) refl
-      | inr n ↦ subst IsNone (sym (ap (option_map (λ (h : Held). h.spot)) (item_at-stays name_of name other r.held n))) none
+      | inl same ↦ subst IsNone (sym (subst (λ m. spot_held name (without m r.held) ≡ None) same (spot_held-without r.held name))) refl
+      | inr n ↦ subst IsNone (sym (spot_held-without_other r.held other name n)) none
     ]
 
 held_again : (r : Run) (name : ℕ) (o : Op) → HoldsNone name r.held → HoldsNone name (step r o).held ⊎ ((bytes : ℕ) × (o ≡ op.Alloc name bytes))

@@ -15,6 +15,7 @@ use Rattle.ea_model.specs.declared.entries.Entry.TheVariants as entry
 use Rattle.ea_model.specs.Content.{Content, is_done}
 use Rattle.ea_model.specs.Instance.{Instance, block_in, chosen_spot, place_at, main_carriers, plan, creating, releasing_at, content_of}
 use Rattle.ea_model.specs.Run.{Run, Held, spot_held, without, step, allocating, with_block, with_carrier, in_new_carrier, tidied, freed_at, freeing}
+use Rattle.ea_model.proofs.Rising.{item_at-gone, item_at-stays}
 use Rattle.ea_instance.specs.Found.{IsOther, IsPlaced, HaveSameBlocks}
 use Rattle.ea_instance.specs.Answers.{placing_if}
 use Rattle.ea_top.specs.Holding.{HoldsBlocks, name_in}
@@ -80,21 +81,14 @@ pub spot_held-set : (spots : List (Option Spot)) (held : List Held) (name n : �
 spot_held-set spots held name n spot within was =
     elim (cases_eq name n) [ inl same ↦ grind (arith, common_steps) | inr other ↦ grind (arith, common_steps) ]
 
-spot_held_more : (h : Held) (hs : List Held) (name n : ℕ) → n ≢ name → spot_held n (without name hs) ≡ spot_held n hs → spot_held n (without name (h ∷ hs)) ≡ spot_held n (h ∷ hs)
-spot_held_more h hs name n other more =
-    elim (cases_eq h.name name) [ inl same ↦ grind arith | inr apart ↦ grind arith ]
+abbrev pub name_of : Held → ℕ
+name_of h = h.name
 
-spot_held-without_other : (held : List Held) (name n : ℕ) → n ≢ name → spot_held n (without name held) ≡ spot_held n held
-spot_held-without_other [] name n other = refl
-spot_held-without_other (h ∷ hs) name n other = spot_held_more h hs name n other (spot_held-without_other hs name n other)
+pub spot_held-without_other : (held : List Held) (name n : ℕ) → n ≢ name → spot_held n (without name held) ≡ spot_held n held
+spot_held-without_other held name n other = ap (option_map (λ (h : Held). h.spot)) (item_at-stays name_of n name held other)
 
-spot_held_gone : (h : Held) (hs : List Held) (name : ℕ) → spot_held name (without name hs) ≡ None → spot_held name (without name (h ∷ hs)) ≡ None
-spot_held_gone h hs name more =
-    elim (cases_eq h.name name) [ inl same ↦ grind arith | inr apart ↦ grind arith ]
-
-spot_held-without : (held : List Held) (name : ℕ) → spot_held name (without name held) ≡ None
-spot_held-without [] name = refl
-spot_held-without (h ∷ hs) name = spot_held_gone h hs name (spot_held-without hs name)
+pub spot_held-without : (held : List Held) (name : ℕ) → spot_held name (without name held) ≡ None
+spot_held-without held name = ap (option_map (λ (h : Held). h.spot)) (item_at-gone name_of name held)
 
 -- the held names with one less
 pub spot_held-unset : (spots : List (Option Spot)) (held : List Held) (name n : ℕ) → name < length spots → get_or spots n None ≡ spot_held n held
