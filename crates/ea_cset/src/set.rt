@@ -6,7 +6,7 @@ ghost use Rattle.ea_cset.specs.Carriers.{number_of, is_held, carrier_of, with_fi
 use crate::keys::{CarrierKey, Held};
 use crate::walks::{lowest, oldest};
 use ea_model::OutOfMemory;
-use ea_model::keyed::{enter_within, item_of, place_of, take_out};
+use ea_model::keyed::{enter_within, item_of, index_of, take_out};
 use std::alloc::Global;
 use std::marker::Model;
 
@@ -85,7 +85,7 @@ impl CarrierSet {
         // The carrier keeps its key, and the others are as before.
         ensures carriers { (n : ℕ) → carrier_of self.new.held n ≡ option_map (with_fit number fit) (carrier_of self.old.held n) }
     {
-        let place = place_of(number, &self.held);
+        let place = index_of(number, &self.held);
         self.held[place].fit = fit;
     }
 

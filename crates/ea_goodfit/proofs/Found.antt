@@ -29,18 +29,18 @@ all_held : (gs : List Gap) → All (λ g. IsTrue (is_held g gs)) gs
 all_held gs = All-weaker (Contains gs) (λ g. IsTrue (is_held g gs)) (λ g c. held-contained gs g c) gs (All-contains_itself gs)
 
 -- whether a search looks at the gap
-abbrev looked_at : ℕ → List Gap → Gap → Bool
-looked_at depth gs g = is_inspected (λ h. h.address) (λ h. h.size) depth gs g
+abbrev inspected_by : ℕ → List Gap → Gap → Bool
+inspected_by depth gs g = is_inspected (λ h. h.address) (λ h. h.size) depth gs g
 
 abbrev chosen : ℕ → ℕ → List Gap → Option Gap
 chosen depth need gs = good_fit (λ g. g.address) (λ g. g.size) depth need gs
 
 -- none is found exactly where no inspected gap fits
-pub good_fit-none : (depth need : ℕ) (gs : List Gap) → IsNone (chosen depth need gs) ↔ All (λ g. IsTrue (looked_at depth gs g) → g.size < need) gs
+pub good_fit-none : (depth need : ℕ) (gs : List Gap) → IsNone (chosen depth need gs) ↔ All (λ g. IsTrue (inspected_by depth gs g) → g.size < need) gs
 good_fit-none depth need gs =
-    let seen = filter (looked_at depth gs) gs in (
-      λ h. passing-All (looked_at depth gs) (λ g. g.size < need) gs (none-large (λ (x : Gap). x.size) need seen (first-none smaller (candidates depth need gs) h)),
-      λ h. subst (λ xs. IsNone (first smaller xs)) (sym (large-none (λ (x : Gap). x.size) need seen (All-passing (looked_at depth gs) (λ g. g.size < need) gs h))) refl,
+    let seen = filter (inspected_by depth gs) gs in (
+      λ h. passing-All (inspected_by depth gs) (λ g. g.size < need) gs (none-large (λ (x : Gap). x.size) need seen (first-none smaller (candidates depth need gs) h)),
+      λ h. subst (λ xs. IsNone (first smaller xs)) (sym (large-none (λ (x : Gap). x.size) need seen (All-passing (inspected_by depth gs) (λ g. g.size < need) gs h))) refl,
     )
 
 pub good_fit-IsFirst : (depth need : ℕ) (gs : List Gap) → IfSome (chosen depth need gs) (IsFirst smaller (candidates depth need gs))
@@ -50,29 +50,29 @@ good_fit-IsFirst depth need gs = first-IsFirst smaller smaller-order (candidates
 pub good_fit-held : (depth need : ℕ) (gs : List Gap) → IfSome (chosen depth need gs) (λ g. IsTrue (is_held g gs))
 good_fit-held depth need gs =
     first-All (λ g. IsTrue (is_held g gs)) smaller None (candidates depth need gs) tt
-    (All-filter (λ g. nat_le need g.size) (λ g. IsTrue (is_held g gs)) (filter (looked_at depth gs) gs) (All-filter (looked_at depth gs) (λ g. IsTrue (is_held g gs)) gs (all_held gs)))
+    (All-filter (λ g. nat_le need g.size) (λ g. IsTrue (is_held g gs)) (filter (inspected_by depth gs) gs) (All-filter (inspected_by depth gs) (λ g. IsTrue (is_held g gs)) gs (all_held gs)))
 
 -- it is one that the search inspects
-pub good_fit-inspected : (depth need : ℕ) (gs : List Gap) → IfSome (chosen depth need gs) (λ g. IsTrue (looked_at depth gs g))
+pub good_fit-inspected : (depth need : ℕ) (gs : List Gap) → IfSome (chosen depth need gs) (λ g. IsTrue (inspected_by depth gs g))
 good_fit-inspected depth need gs =
-    first-All (λ g. IsTrue (looked_at depth gs g)) smaller None (candidates depth need gs) tt
-    (All-filter (λ g. nat_le need g.size) (λ g. IsTrue (looked_at depth gs g)) (filter (looked_at depth gs) gs) (filter_passes (looked_at depth gs) gs))
+    first-All (λ g. IsTrue (inspected_by depth gs g)) smaller None (candidates depth need gs) tt
+    (All-filter (λ g. nat_le need g.size) (λ g. IsTrue (inspected_by depth gs g)) (filter (inspected_by depth gs) gs) (filter_passes (inspected_by depth gs) gs))
 
 -- it fits
 pub good_fit-fits : (depth need : ℕ) (gs : List Gap) → IfSome (chosen depth need gs) (λ g. need ≤ g.size)
 good_fit-fits depth need gs =
     first-All (λ g. need ≤ g.size) smaller None (candidates depth need gs) tt
-    (All-weaker (λ g. nat_le need g.size ≡ true) (λ g. need ≤ g.size) (λ g t. leb-true need g.size t) (candidates depth need gs) (filter_passes (λ g. nat_le need g.size) (filter (looked_at depth gs) gs)))
+    (All-weaker (λ g. nat_le need g.size ≡ true) (λ g. need ≤ g.size) (λ g t. leb-true need g.size t) (candidates depth need gs) (filter_passes (λ g. nat_le need g.size) (filter (inspected_by depth gs) gs)))
 
 not_smaller : (h g : Gap) → smaller h g ≡ false → g.size ≤ h.size
 not_smaller h g f = grind arith
 
 -- no lower bin has an inspected gap that fits
-pub good_fit-bin : (depth need : ℕ) (gs : List Gap) → IfSome (chosen depth need gs) (λ g. All (λ h. IsTrue (looked_at depth gs h) → need ≤ h.size → bin_of g.size ≤ bin_of h.size) gs)
+pub good_fit-bin : (depth need : ℕ) (gs : List Gap) → IfSome (chosen depth need gs) (λ g. All (λ h. IsTrue (inspected_by depth gs h) → need ≤ h.size → bin_of g.size ≤ bin_of h.size) gs)
 good_fit-bin depth need gs =
-    let seen = filter (looked_at depth gs) gs in
-    if_some (chosen depth need gs) (IsFirst smaller (candidates depth need gs)) (λ g. All (λ h. IsTrue (looked_at depth gs h) → need ≤ h.size → bin_of g.size ≤ bin_of h.size) gs)
-    (λ g f. passing-All (looked_at depth gs) (λ h. need ≤ h.size → bin_of g.size ≤ bin_of h.size) gs
+    let seen = filter (inspected_by depth gs) gs in
+    if_some (chosen depth need gs) (IsFirst smaller (candidates depth need gs)) (λ g. All (λ h. IsTrue (inspected_by depth gs h) → need ≤ h.size → bin_of g.size ≤ bin_of h.size) gs)
+    (λ g f. passing-All (inspected_by depth gs) (λ h. need ≤ h.size → bin_of g.size ≤ bin_of h.size) gs
     (All-weaker (λ h. IsTrue (nat_le need h.size) → smaller h g ≡ false) (λ h. need ≤ h.size → bin_of g.size ≤ bin_of h.size) (λ h a le. bin_of-rises g.size h.size (not_smaller h g (a (le-leb need h.size le)))) seen
     (passing-All (λ h. nat_le need h.size) (λ h. smaller h g ≡ false) seen f.least)))
     (good_fit-IsFirst depth need gs)
@@ -92,5 +92,5 @@ good_fit-order depth need gs rise hs m = sym (good_fit-permuted (λ (g : Gap). g
 pub good_fit-above : (depth need : ℕ) → 1 ≤ depth → (gs : List Gap) → AllPairs IsBelow gs → IsNone (chosen depth need gs) → All (λ g. bin_of g.size ≤ bin_of need) gs
 good_fit-above depth need one gs rise none =
     bins_inspected (λ b. b ≤ bin_of need) depth one gs rise
-    (All-weaker (λ g. IsTrue (looked_at depth gs g) → g.size < need) (λ g. IsTrue (looked_at depth gs g) → bin_of g.size ≤ bin_of need)
+    (All-weaker (λ g. IsTrue (inspected_by depth gs g) → g.size < need) (λ g. IsTrue (inspected_by depth gs g) → bin_of g.size ≤ bin_of need)
     (λ g a t. let lt : g.size < need = a t in bin_of-rises g.size need (omega arith)) gs ((good_fit-none depth need gs).0 none))

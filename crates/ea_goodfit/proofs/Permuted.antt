@@ -9,7 +9,7 @@ use Rattle.std.proofs.lemmas.List.Sums.{sum_by-cons}
 use Rattle.std.proofs.lemmas.List.Sorted.{IsPermutation-refl, IsPermutation-sym, IsPermutation-trans, IsPermutation-cons, IsPermutation-middle, IsPermutation-remove, IsPermutation-insert, sum_by-IsPermutation}
 use Rattle.ea_goodfit.specs.declared.gaps.Gap.{Gap}
 use Rattle.ea_goodfit.specs.Gaps.{address_of, is_held, is_same, IsBelow}
-use Rattle.ea_model.specs.Keyed.{is_behind, entered, without}
+use Rattle.ea_model.specs.Keyed.{is_after, entered, without}
 use Rattle.ea_model.proofs.Pairs.{pairs_head, pairs_tail}
 use Rattle.ea_model.proofs.Rising.{insert-entered, others, without_here, without_none, without_past}
 use Rattle.ea_goodfit.proofs.Lists.{held_past, same_parts}
@@ -63,7 +63,7 @@ IsPermutation-tail g xs ys m =
 -- with one gap more they are that gap and the others
 pub entered-permuted : (g : Gap) (gs : List Gap) → IsPermutation (entered address_of g gs) (g ∷ gs)
 entered-permuted g gs =
-    IsPermutation-sym (g ∷ gs) (entered address_of g gs) (subst (IsPermutation (g ∷ gs)) (insert-entered address_of g gs) (IsPermutation-insert gs (position_or_len (is_behind address_of g.address) gs) g))
+    IsPermutation-sym (g ∷ gs) (entered address_of g gs) (subst (IsPermutation (g ∷ gs)) (insert-entered address_of g gs) (IsPermutation-insert gs (position_or_len (is_after address_of g.address) gs) g))
 
 -- a gap that is held lies above the first one, or is the first one
 above : (g h : Gap) (gs : List Gap) → All (IsBelow h) gs → is_held g gs ≡ true → h.address < g.address

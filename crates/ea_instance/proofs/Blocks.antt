@@ -10,9 +10,9 @@ use Rattle.ea_model.specs.Content.{Content, block_at, gap_at, gaps_of, placed, r
 use Rattle.ea_model.specs.Instance.{Instance, block_in, content_of, created_content, creating, place_at, placing_at, plan, releasing_at, size_for}
 use Rattle.ea_model.proofs.Rising.{changed_none, item_at-All, item_at-new, item_at-old, item_at-stays, none-other}
 use Rattle.ea_mbc.proofs.BlockLists.{offset_of, IsFront-gap}
-use Rattle.ea_instance.specs.Found.{HasGap, HaveSameBlocks, IsOther, IsPlaced}
-use Rattle.ea_instance.specs.Kept.{number_of}
-use Rattle.ea_instance.specs.Listed.{IsSound}
+use Rattle.ea_laws.specs.Spots.{HasGap, HaveSameBlocks, IsOther, IsPlaced}
+use Rattle.ea_laws.specs.Kept.{number_of}
+use Rattle.ea_laws.specs.Kept.{IsLaidOut}
 use Rattle.ea_instance.proofs.Changed.{block_in-here, block_in-others, placed-keeps, released-keeps}
 use Rattle.ea_instance.proofs.Contents.{same-with}
 use Rattle.ea_instance.proofs.Keeping.{other-numbers}
@@ -21,7 +21,7 @@ use Rattle.ea_instance.proofs.Moments.{Stands, list_of, region_of}
 -- a block at the front of a gap begins where none began, and others stay
 pub placing-IsPlaced : (i : Instance) (spot : Spot) (need name : ℕ) → Stands i → HasGap need spot.carrier spot.offset i.contents → 6 ≤ need → IsPlaced i.contents (placing_at i spot need name).contents name (place_at i spot need)
 placing-IsPlaced i spot need name st (c, there, fits) least =
-    let sound = item_at-All number_of IsSound spot.carrier c i.contents st.sound there in
+    let sound = item_at-All number_of IsLaidOut spot.carrier c i.contents st.sound there in
     let front = IsFront-gap c spot.offset need sound.tiled fits least in
     let size : ℕ = taken_of (gap_at (gaps_of c) spot.offset) need in
     let x : BlockAt = record { name = name; offset = spot.offset; size = size } in

@@ -22,12 +22,13 @@ use Rattle.ea_cset.specs.declared.keys.Held.{Held}
 use Rattle.ea_model.proofs.Pairs.{pairs_head, pairs_tail}
 use Rattle.ea_cset.specs.Carriers.{Carriers, IsBefore, first_number, fitting, lower, older}
 use Rattle.ea_goodfit.specs.Gaps.{HeldGaps}
-use Rattle.ea_instance.specs.Kinds.{is_shared}
-use Rattle.ea_instance.specs.Listed.{candidate_in, chosen_in, held_of, IsListed, IsSound}
+use Rattle.ea_laws.specs.Kinds.{is_shared}
+use Rattle.ea_laws.specs.Kept.{IsLaidOut}
+use Rattle.ea_instance.specs.Listed.{candidate_in, chosen_in, held_of, IsListed}
 use Rattle.ea_instance.specs.declared.strategies.Order.TheVariants.{Address, Age}
 use Rattle.ea_instance.specs.Better.{better_of}
 use Rattle.ea_instance.specs.Orders.{order_of}
-use Rattle.ea_instance.specs.Kept.{number_of, IsRising}
+use Rattle.ea_laws.specs.Kept.{number_of, IsRising}
 use Rattle.ea_model.proofs.Rising.{item_at-each}
 use Rattle.ea_instance.proofs.Folding.{choice_more}
 
@@ -187,7 +188,7 @@ module _ (s : Strategy) (comes_first : Held → Held → Bool) (goes : GoesBy s 
             ∙ sym (ap chosen_at (held_next None c cs le))
       ]
 
-  choice_first : IsRising all → All IsSound all → AllPairs IsBefore (map held_of all) → first_gap None all ≡ chosen_at (first comes_first (fitting need (map held_of all)))
+  choice_first : IsRising all → All IsLaidOut all → AllPairs IsBefore (map held_of all) → first_gap None all ≡ chosen_at (first comes_first (fitting need (map held_of all)))
   choice_first rising sound before = starts all before (λ i d within. (item_at-each number_of i d all rising within, (sound i d within).shared))
 
 -- the choice is made in the first carrier that fits
@@ -196,4 +197,4 @@ pub choice-first : (s : Strategy) (comes_first : Held → Held → Bool) → Goe
 choice-first s comes_first goes need some t cs now set bins listed seen rising number found first_is before is =
     let held : set.held ≡ map held_of now = listed.held ∙ ap (map held_of) seen in
     is ∙ ap (option_and_then (candidate_in (inner_of s) need now)) (first_is ∙ ap (first_number comes_first need) held)
-    ∙ sym (choice_first s comes_first goes need some now rising (subst (All IsSound) seen listed.sound) (subst (AllPairs IsBefore) held before))
+    ∙ sym (choice_first s comes_first goes need some now rising (subst (All IsLaidOut) seen listed.sound) (subst (AllPairs IsBefore) held before))

@@ -12,8 +12,8 @@ use Rattle.ea_model.specs.Region.{with_segment}
 use Rattle.ea_model.specs.Content.{Content, block_at, placed, released}
 use Rattle.ea_model.specs.Instance.{segment_of, segments, content_of, changed, block_in}
 use Rattle.ea_model.proofs.Rising.{changed-found, changed-other, set-changed}
-use Rattle.ea_instance.specs.Kept.{number_of, HasNumberIn, IsRising, IsWhole}
-use Rattle.ea_instance.specs.Found.{IsOther}
+use Rattle.ea_laws.specs.Kept.{number_of, HasNumberIn, IsRising, IsWhole}
+use Rattle.ea_laws.specs.Spots.{IsOther}
 
 pub record KeepsPlace (f : Content → Content) : Type 0 where
   pub number : (c : Content) → (f c).number ≡ c.number

@@ -6,22 +6,22 @@ use Rattle.ea_model.specs.declared.settings.Strategy.TheVariants.{Bf, Aobf, Aoff
 use Rattle.ea_model.specs.declared.carriers.Candidate.{Candidate}
 use Rattle.ea_model.specs.Content.{Content}
 use Rattle.ea_model.specs.Choice.{first}
-use Rattle.ea_model.specs.Strategies.{candidates, choice_among, choice_unused, inner_of, large_enough, looked_at, may_miss, or_else, takes_first}
+use Rattle.ea_model.specs.Strategies.{candidates, choice_among, choice_empty, inner_of, large_enough, inspected_by, may_miss, or_else, takes_first}
 use Rattle.ea_instance.specs.Orders.{is_better, order_of}
 use Rattle.ea_instance.specs.declared.strategies.Order.TheVariants.{Gaps, Address, Age, Bins, Lowest}
 
 -- a strategy that misses no gap looks at all
-pub all_looked_at : (s : Strategy) (depth : ℕ) (xs : List Candidate) → may_miss s ≡ false → looked_at s depth xs ≡ xs
-all_looked_at Bf depth xs e = refl
-all_looked_at Aobf depth xs e = refl
-all_looked_at Aoff depth xs e = refl
-all_looked_at AoffCbf depth xs e = refl
-all_looked_at AoffCaobf depth xs e = refl
-all_looked_at AgeffCaoff depth xs e = refl
-all_looked_at AgeffCbf depth xs e = refl
-all_looked_at AgeffCaobf depth xs e = refl
-all_looked_at Gf depth xs e = absurd cc
-all_looked_at Af depth xs e = absurd cc
+pub all_inspected : (s : Strategy) (depth : ℕ) (xs : List Candidate) → may_miss s ≡ false → inspected_by s depth xs ≡ xs
+all_inspected Bf depth xs e = refl
+all_inspected Aobf depth xs e = refl
+all_inspected Aoff depth xs e = refl
+all_inspected AoffCbf depth xs e = refl
+all_inspected AoffCaobf depth xs e = refl
+all_inspected AgeffCaoff depth xs e = refl
+all_inspected AgeffCbf depth xs e = refl
+all_inspected AgeffCaobf depth xs e = refl
+all_inspected Gf depth xs e = absurd cc
+all_inspected Af depth xs e = absurd cc
 
 pub gaps-is_better : (s : Strategy) → order_of s ≡ Gaps → is_better (inner_of s) ≡ takes_first s
 gaps-is_better Bf e = refl
@@ -100,13 +100,13 @@ or_else-false None other = refl
 or_else-false (Some x) other = refl
 
 -- what such a strategy takes first of all gaps is its choice
-pub choice-all : (s : Strategy) (depth need : ℕ) (cs : List Content) (found : Option Candidate) → may_miss s ≡ false → found ≡ first (takes_first s) (large_enough need (candidates cs)) → found ≡ or_else (may_miss s) (choice_among s depth need cs) (choice_unused need cs)
+pub choice-all : (s : Strategy) (depth need : ℕ) (cs : List Content) (found : Option Candidate) → may_miss s ≡ false → found ≡ first (takes_first s) (large_enough need (candidates cs)) → found ≡ or_else (may_miss s) (choice_among s depth need cs) (choice_empty need cs)
 choice-all s depth need cs found miss is =
-    is ∙ ap (λ xs. first (takes_first s) (large_enough need xs)) (sym (all_looked_at s depth (candidates cs) miss))
-    ∙ sym (ap (λ b. or_else b (choice_among s depth need cs) (choice_unused need cs)) miss ∙ or_else-false (choice_among s depth need cs) (choice_unused need cs))
+    is ∙ ap (λ xs. first (takes_first s) (large_enough need xs)) (sym (all_inspected s depth (candidates cs) miss))
+    ∙ sym (ap (λ b. or_else b (choice_among s depth need cs) (choice_empty need cs)) miss ∙ or_else-false (choice_among s depth need cs) (choice_empty need cs))
 
 -- and another one has a choice besides
-pub choice-else : (s t : Strategy) (depth need : ℕ) (cs : List Content) (found looked : Option Candidate) → s ≡ t → may_miss t ≡ true → looked ≡ choice_among t depth need cs → found ≡ or_else true looked (choice_unused need cs) → found ≡ or_else (may_miss s) (choice_among s depth need cs) (choice_unused need cs)
+pub choice-else : (s t : Strategy) (depth need : ℕ) (cs : List Content) (found looked : Option Candidate) → s ≡ t → may_miss t ≡ true → looked ≡ choice_among t depth need cs → found ≡ or_else true looked (choice_empty need cs) → found ≡ or_else (may_miss s) (choice_among s depth need cs) (choice_empty need cs)
 choice-else s t depth need cs found looked same miss is e =
-    e ∙ ap (λ o. or_else true o (choice_unused need cs)) is ∙ ap (λ b. or_else b (choice_among t depth need cs) (choice_unused need cs)) (sym miss)
-    ∙ ap (λ u. or_else (may_miss u) (choice_among u depth need cs) (choice_unused need cs)) (sym same)
+    e ∙ ap (λ o. or_else true o (choice_empty need cs)) is ∙ ap (λ b. or_else b (choice_among t depth need cs) (choice_empty need cs)) (sym miss)
+    ∙ ap (λ u. or_else (may_miss u) (choice_among u depth need cs) (choice_empty need cs)) (sym same)

@@ -6,14 +6,14 @@ use Rattle.std.proofs.lemmas.Bool.{cases_eq, cases_Bool}
 use Rattle.std.proofs.lemmas.List.Elements.{All-tail}
 use Rattle.ea_model.specs.declared.carriers.BlockAt.{BlockAt}
 use Rattle.ea_model.specs.declared.carriers.Candidate.{Candidate}
-use Rattle.ea_model.specs.Content.{Content, block_at, is_done}
+use Rattle.ea_model.specs.Content.{Content, block_at, is_empty_multi}
 use Rattle.ea_model.specs.Keyed.{IsBelow}
 use Rattle.ea_model.specs.Instance.{with_content, without_content, content_of, is_used, unused_from}
 use Rattle.ea_model.proofs.Pairs.{pairs_head, pairs_tail}
 use Rattle.ea_model.proofs.Rising.{item_at-each, item_at-gone, item_at-new, item_at-old, item_at-stays, none-other}
 use Rattle.ea_instance.proofs.Unused.{unused_from-zero, unused_from-used, unused_from-free_here}
-use Rattle.ea_instance.specs.Kept.{number_of, HasNumberIn, IsRising}
-use Rattle.ea_instance.specs.Found.{HasGap, HaveSameBlocks, IsGapOf}
+use Rattle.ea_laws.specs.Kept.{number_of, HasNumberIn, IsRising}
+use Rattle.ea_laws.specs.Spots.{HasGap, HaveSameBlocks, IsGapOf}
 
 unused_here : (k low n : ℕ) (cs : List Content) → is_used low cs ≡ false → unused_from (suc k) low cs ≡ Some n → low ≡ n
 unused_here k low n cs free h = let e : Some low ≡ Some n = sym (unused_from-free_here k low cs free) ∙ h in cc
@@ -49,7 +49,7 @@ unused-none n cs h = none_there (content_of cs n) h
 pub unused-All : (n : ℕ) (cs : List Content) → is_used n cs ≡ false → All (λ c. c.number ≢ n) cs
 unused-All n cs h = none-other number_of n cs (unused-none n cs h)
 
-no_block : (c : Content) (offset : ℕ) → is_done c ≡ true → block_at c.blocks offset ≡ None
+no_block : (c : Content) (offset : ℕ) → is_empty_multi c ≡ true → block_at c.blocks offset ≡ None
 no_block c offset done = grind arith
 
 -- the block at the offset, if there is a content
@@ -57,7 +57,7 @@ abbrev block_among : ℕ → Option Content → Option BlockAt
 block_among offset o = option_and_then (λ c. block_at c.blocks offset) o
 
 -- a carrier without blocks takes none away
-pub same-without : (number : ℕ) (c : Content) (cs : List Content) → content_of cs number ≡ Some c → is_done c ≡ true → HaveSameBlocks cs (without_content number cs)
+pub same-without : (number : ℕ) (c : Content) (cs : List Content) → content_of cs number ≡ Some c → is_empty_multi c ≡ true → HaveSameBlocks cs (without_content number cs)
 same-without number c cs there done at =
     elim (cases_eq at.carrier number) [
       | inl same ↦

@@ -9,7 +9,7 @@ use Rattle.ea_model.specs.declared.carriers.Gap.{Gap}
 use Rattle.ea_model.specs.declared.carriers.Candidate.{Candidate}
 use Rattle.ea_model.specs.declared.settings.Strategy.{Strategy}
 use Rattle.ea_model.specs.declared.settings.Strategy.TheVariants.{Bf, Aobf, Aoff, AoffCbf, AoffCaobf, AgeffCaoff, AgeffCbf, AgeffCaobf, Gf, Af}
-use Rattle.ea_model.specs.Content.{Content, gaps_of, is_done}
+use Rattle.ea_model.specs.Content.{Content, gaps_of, is_empty_multi}
 use Rattle.ea_model.specs.Choice.{before, better, first, fitting, choice, less}
 use Rattle.ea_model.proofs.Orders.{rising-order, falling-order, less-order}
 use Rattle.ea_model.specs.Strategies.{candidate, candidates, candidates_in, takes_first, inner_of, large_enough, lower, older, smaller_high, smaller_low}
@@ -175,12 +175,12 @@ choice_more-inner inner.Aoff need best c cs shared = choice_more Aoff need best 
 
 -- and of the gaps of carriers without blocks
 module _ (need : ℕ) (best : Option Candidate) (c : Content) (cs : List Content) where
-  abbrev of_unused : List Content → Option Candidate → Option Candidate
-  of_unused ds o = fold (better lower) o (large_enough need (candidates (filter is_done ds)))
+  abbrev of_empty : List Content → Option Candidate → Option Candidate
+  of_empty ds o = fold (better lower) o (large_enough need (candidates (filter is_empty_multi ds)))
 
-  pub unused_more : is_done c ≡ true → candidates_in c.kind c ≡ map (candidate c) (gaps_of c) → of_unused (c ∷ cs) best ≡ of_unused cs (better_of lower best (option_map (candidate c) (choice inner.Aoff need (gaps_of c))))
-  unused_more done shared =
-      ap (λ ds. fold (better lower) best (large_enough need (candidates ds))) (cond-true (is_done c) (c ∷ filter is_done cs) (filter is_done cs) done) ∙ choice_more Aoff need best c (filter is_done cs) shared
+  pub empty_more : is_empty_multi c ≡ true → candidates_in c.kind c ≡ map (candidate c) (gaps_of c) → of_empty (c ∷ cs) best ≡ of_empty cs (better_of lower best (option_map (candidate c) (choice inner.Aoff need (gaps_of c))))
+  empty_more done shared =
+      ap (λ ds. fold (better lower) best (large_enough need (candidates ds))) (cond-true (is_empty_multi c) (c ∷ filter is_empty_multi cs) (filter is_empty_multi cs) done) ∙ choice_more Aoff need best c (filter is_empty_multi cs) shared
 
-  pub unused_past : is_done c ≡ false → of_unused (c ∷ cs) best ≡ of_unused cs best
-  unused_past f = ap (λ ds. fold (better lower) best (large_enough need (candidates ds))) (cond-false (is_done c) (c ∷ filter is_done cs) (filter is_done cs) f)
+  pub empty_past : is_empty_multi c ≡ false → of_empty (c ∷ cs) best ≡ of_empty cs best
+  empty_past f = ap (λ ds. fold (better lower) best (large_enough need (candidates ds))) (cond-false (is_empty_multi c) (c ∷ filter is_empty_multi cs) (filter is_empty_multi cs) f)

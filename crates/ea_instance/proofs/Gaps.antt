@@ -13,8 +13,8 @@ use Rattle.ea_model.specs.Strategies.{candidate, candidates, candidates_in}
 use Rattle.ea_model.specs.Instance.{changed, content_of, with_content, without_content}
 use Rattle.ea_mbc.proofs.Chosen.{gap_none, gap_some}
 use Rattle.ea_goodfit.specs.declared.gaps.Gap.{Gap}
-use Rattle.ea_instance.specs.Kept.{number_of, IsRising}
-use Rattle.ea_instance.specs.Kinds.{is_shared}
+use Rattle.ea_laws.specs.Kept.{number_of, IsRising}
+use Rattle.ea_laws.specs.Kinds.{is_shared}
 use Rattle.ea_instance.specs.Listed.{all_gaps, gap_from, gap_of}
 use Rattle.ea_model.specs.Keyed.{IsBelow}
 use Rattle.ea_model.proofs.Pairs.{pairs_tail}
@@ -64,8 +64,8 @@ largest_gap : (a b : ℕ) → largest (gap a b) ≡ b - a
 largest_gap a b = elim (cases_lt a b) [ inl lt ↦ ap largest (gap_some a b lt) ∙ omega arith | inr le ↦ ap largest (gap_none a b le) ∙ omega arith ]
 
 -- a carrier of many blocks without any has one gap at most, behind its header
-pub unused_gaps : (c : Content) → is_shared c.kind ≡ true → c.blocks ≡ [] → all_gaps (c ∷ []) ≡ gap_from (512 * c.base + 8) (largest (gaps_of c))
-unused_gaps c shared none =
+pub empty_gaps : (c : Content) → is_shared c.kind ≡ true → c.blocks ≡ [] → all_gaps (c ∷ []) ≡ gap_from (512 * c.base + 8) (largest (gaps_of c))
+empty_gaps c shared none =
     let one : gaps_of c ≡ gap 8 c.units = ap (gaps 8 c.units) none in
     own_only c ∙ own_shared c shared ∙ ap (map (at_base c.base)) one ∙ at_gap c.base 8 c.units ∙ ap (gap_from (512 * c.base + 8)) (sym (ap largest one ∙ largest_gap 8 c.units))
 

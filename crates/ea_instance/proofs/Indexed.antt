@@ -9,21 +9,22 @@ use Rattle.ea_model.specs.Instance.{changed, content_of, with_content, without_c
 use Rattle.ea_model.specs.declared.carriers.Gap as model
 use Rattle.ea_mbc.specs.Gaps.{GapsJoined, GapTaken, Replaced}
 use Rattle.ea_goodfit.specs.declared.gaps.Gap.{Gap}
-use Rattle.ea_instance.specs.Kinds.{is_shared}
-use Rattle.ea_instance.specs.Kept.{number_of, IsRising}
-use Rattle.ea_instance.specs.Listed.{all_gaps, gap_from, CanCut, CanJoin, IsApartFrom, IsSound}
+use Rattle.ea_laws.specs.Kinds.{is_shared}
+use Rattle.ea_laws.specs.Kept.{number_of, IsRising}
+use Rattle.ea_laws.specs.Kept.{ContentsApart, IsLaidOut}
+use Rattle.ea_instance.specs.Listed.{all_gaps, gap_from, CanCut, CanJoin}
 use Rattle.std.proofs.lemmas.Bool.{cases_eq}
 use Rattle.std.proofs.lemmas.List.Elements.{All-head, All-tail}
 use Rattle.ea_instance.proofs.Changed.{KeepsPlace, IsAt}
 use Rattle.ea_model.proofs.Rising.{All-entered, item_at-All}
-use Rattle.ea_instance.proofs.Gaps.{at_base, at_gap, gap_from-some, gaps-replaced, gaps-with, gaps-without, unused_gaps}
+use Rattle.ea_instance.proofs.Gaps.{at_base, at_gap, gap_from-some, gaps-replaced, gaps-with, gaps-without, empty_gaps}
 use Rattle.ea_instance.proofs.Listed.{all-sound, apart-changed, apart-with, first-alone, DifferIn}
 use Rattle.ea_instance.proofs.Located.{gaps-distinct, gaps_Inside, Inside}
 
 -- a carrier without blocks and its one gap
-module _ (x : Content) (sound : IsSound x) (none : x.blocks ≡ []) (address fit : ℕ) (at : address ≡ 512 * x.base + 8) (fits : fit ≡ largest (gaps_of x)) where
+module _ (x : Content) (sound : IsLaidOut x) (none : x.blocks ≡ []) (address fit : ℕ) (at : address ≡ 512 * x.base + 8) (fits : fit ≡ largest (gaps_of x)) where
   own_gap : all_gaps (x ∷ []) ≡ gap_from address fit
-  own_gap = unused_gaps x sound.shared none ∙ ap (λ a. gap_from a (largest (gaps_of x))) (sym at) ∙ ap (gap_from address) (sym fits)
+  own_gap = empty_gaps x sound.shared none ∙ ap (λ a. gap_from a (largest (gaps_of x))) (sym at) ∙ ap (gap_from address) (sym fits)
 
   with_own : (cs : List Content) → IsPermutation (all_gaps (with_content x cs)) (gap_from address fit ++ all_gaps cs)
   with_own cs = subst (λ gs. IsPermutation (all_gaps (with_content x cs)) (gs ++ all_gaps cs)) own_gap (gaps-with x cs)
@@ -35,11 +36,11 @@ module _ (x : Content) (sound : IsSound x) (none : x.blocks ≡ []) (address fit
       IsPermutation-trans left (gap ++ held) (all_gaps (with_content x cs)) l
       (IsPermutation-trans (gap ++ held) (gap ++ all_gaps cs) (all_gaps (with_content x cs)) (IsPermutation-append_right gap held (all_gaps cs) h) (IsPermutation-sym (all_gaps (with_content x cs)) (gap ++ all_gaps cs) (with_own cs)))
 
-  pub entered-free : (cs : List Content) (held : List Gap) → All IsSound cs → AllPairs IsApartFrom cs → All (IsApartFrom x) cs → IsPermutation held (all_gaps cs) → 0 < fit → All (λ g. g.address ≢ address) held
+  pub entered-free : (cs : List Content) (held : List Gap) → All IsLaidOut cs → AllPairs ContentsApart cs → All (ContentsApart x) cs → IsPermutation held (all_gaps cs) → 0 < fit → All (λ g. g.address ≢ address) held
   entered-free cs held all pairs apart h some =
       let now = with_content x cs in
       All-permutation (λ g. g.address ≢ address) (all_gaps cs) held (IsPermutation-sym held (all_gaps cs) h)
-      (first-alone (all_gaps now) (record { address = address; size = fit }) (all_gaps cs) (gaps-distinct now (All-entered number_of IsSound x cs sound all) (apart-with x cs pairs apart))
+      (first-alone (all_gaps now) (record { address = address; size = fit }) (all_gaps cs) (gaps-distinct now (All-entered number_of IsLaidOut x cs sound all) (apart-with x cs pairs apart))
       (subst (λ gs. IsPermutation (all_gaps now) (gs ++ all_gaps cs)) (gap_from-some address fit some) (with_own cs)))
 
   -- and leaves them with it
@@ -61,11 +62,11 @@ gap_up_to-le [] offset = omega arith
 gap_up_to-le (g ∷ gs) offset = up_to_more offset g gs (gap_up_to-le gs offset)
 
 -- a change of one carrier's gaps
-module _ (f : Content → Content) (k : KeepsPlace f) (n : ℕ) (item : Content) (cs : List Content) (i : ℕ) (at : IsAt cs i n item) (rising : IsRising cs) (all : All IsSound cs) (pairs : AllPairs IsApartFrom cs) (tiled : Tiled 8 (f item).units (f item).blocks) where
-  here : IsSound item
-  here = item_at-All number_of IsSound n item cs all at.there
+module _ (f : Content → Content) (k : KeepsPlace f) (n : ℕ) (item : Content) (cs : List Content) (i : ℕ) (at : IsAt cs i n item) (rising : IsRising cs) (all : All IsLaidOut cs) (pairs : AllPairs ContentsApart cs) (tiled : Tiled 8 (f item).units (f item).blocks) where
+  here : IsLaidOut item
+  here = item_at-All number_of IsLaidOut n item cs all at.there
 
-  pub changed-sound : IsSound (f item)
+  pub changed-sound : IsLaidOut (f item)
   changed-sound = record { shared = ap is_shared (k.kind item) ∙ here.shared; tiled = tiled; low = omega (arith, k.base item, k.units item, here.low) }
 
   differ : DifferIn (all_gaps (changed f n cs))
@@ -176,13 +177,13 @@ taken-le g need le = grind arith
 
 -- what follows from a placement in a carrier
 pub record Placing (cs : List Content) (n : ℕ) (item : Content) (f : Content → Content) (offset size : ℕ) : Type 0 where
-  pub sound : IsSound (f item)
+  pub sound : IsLaidOut (f item)
   pub within : offset ≤ (f item).units
   pub cut : (address whole : ℕ) (held : List Gap) → address ≡ 512 * item.base + offset → whole ≡ gap_at (gaps_of item) offset → IsPermutation held (all_gaps cs) → CanCut held address whole size
   pub binned : (address whole : ℕ) (held left : List Gap) → address ≡ 512 * item.base + offset → whole ≡ gap_at (gaps_of item) offset → IsPermutation held (all_gaps cs)
       → ((rest : List Gap) → IsPermutation held (gap_from address whole ++ rest) → IsPermutation left (gap_from (address + size) (whole - size) ++ rest)) → IsPermutation left (all_gaps (changed f n cs))
 
-pub placing : (f : Content → Content) → KeepsPlace f → (n : ℕ) (item new seen c : Content) (cs : List Content) (i offset need size : ℕ) → IsAt cs i n item → IsRising cs → All IsSound cs → AllPairs IsApartFrom cs
+pub placing : (f : Content → Content) → KeepsPlace f → (n : ℕ) (item new seen c : Content) (cs : List Content) (i offset need size : ℕ) → IsAt cs i n item → IsRising cs → All IsLaidOut cs → AllPairs ContentsApart cs
     → content_of cs n ≡ Some c → need ≤ gap_at (gaps_of c) offset → size ≡ taken_of (gap_at (gaps_of item) offset) need → new ≡ f item → seen ≡ new → Tiled 8 seen.units seen.blocks → GapTaken item new offset size → Placing cs n item f offset size
 placing f k n item new seen c cs i offset need size at rising all pairs there fits sized is shown tiled taken =
     let g = gap_at (gaps_of item) offset in
@@ -200,13 +201,13 @@ placing f k n item new seen c cs i offset need size at rising all pairs there fi
 
 -- what follows from a release in a carrier
 pub record Releasing (cs : List Content) (n : ℕ) (item : Content) (f : Content → Content) (offset size : ℕ) : Type 0 where
-  pub sound : IsSound (f item)
+  pub sound : IsLaidOut (f item)
   pub within : offset ≤ (f item).units
   pub join : (address before behind : ℕ) (held : List Gap) → address ≡ 512 * item.base + offset → before ≡ gap_before item offset → behind ≡ gap_behind item offset → IsPermutation held (all_gaps cs) → CanJoin held address before size behind
   pub binned : (address before behind : ℕ) (held left : List Gap) → address ≡ 512 * item.base + offset → before ≡ gap_before item offset → behind ≡ gap_behind item offset → IsPermutation held (all_gaps cs)
       → ((rest : List Gap) → IsPermutation held (gap_from (address - before) before ++ (gap_from (address + size) behind ++ rest)) → IsPermutation left (gap_from (address - before) (before + size + behind) ++ rest)) → IsPermutation left (all_gaps (changed f n cs))
 
-pub releasing : (f : Content → Content) → KeepsPlace f → (n : ℕ) (item new seen : Content) (cs : List Content) (i offset size : ℕ) → IsAt cs i n item → IsRising cs → All IsSound cs → AllPairs IsApartFrom cs
+pub releasing : (f : Content → Content) → KeepsPlace f → (n : ℕ) (item new seen : Content) (cs : List Content) (i offset size : ℕ) → IsAt cs i n item → IsRising cs → All IsLaidOut cs → AllPairs ContentsApart cs
     → new ≡ f item → seen ≡ new → Tiled 8 seen.units seen.blocks → GapsJoined item new offset size → Releasing cs n item f offset size
 releasing f k n item new seen cs i offset size at rising all pairs is shown tiled joined =
     let a = gap_before item offset in

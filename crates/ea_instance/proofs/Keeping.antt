@@ -14,11 +14,13 @@ use Rattle.ea_model.specs.Instance.{Instance, segments, segment_of, first_number
 use Rattle.ea_model.proofs.Options.{some_holds}
 use Rattle.ea_space.proofs.Runs.{Fits, lowest-Fits}
 use Rattle.ea_space.proofs.Segments.{Laid-entered}
-use Rattle.ea_model.specs.Strategies.{choice_among, choice_unused, may_miss, or_else, spot_of}
+use Rattle.ea_model.specs.Strategies.{choice_among, choice_empty, may_miss, or_else, spot_of}
 use Rattle.ea_instance.specs.Answers.{placing_if}
-use Rattle.ea_instance.specs.Kept.{number_of, HasNumberIn, IsKept, IsRising, IsWhole}
-use Rattle.ea_instance.specs.Listed.{CarrierList, IsApartFrom, IsSound}
-use Rattle.ea_instance.specs.Found.{HaveSameBlocks}
+use Rattle.ea_laws.specs.Kept.{number_of, HasNumberIn, IsRising, IsWhole}
+use Rattle.ea_instance.specs.Kept.{KeepsCarriers}
+use Rattle.ea_laws.specs.Kept.{ContentsApart, IsLaidOut}
+use Rattle.ea_instance.specs.Listed.{CarrierList}
+use Rattle.ea_laws.specs.Spots.{HaveSameBlocks}
 use Rattle.ea_instance.proofs.Changed.{KeepsPlace, own-changed, segments-changed, whole-changed}
 use Rattle.ea_instance.proofs.Contents.{rising-length, unused_from-free, unused-All, same-with}
 use Rattle.ea_model.specs.Keyed.{IsBelow}
@@ -118,10 +120,10 @@ entering n number p x carrier seen is e = e ∙ ap (λ (y : Content). record y {
 
 -- a gap that the carriers choose is the one that the instance does
 module _ (s : Settings) (n : ℕ) (ks : CarrierList) (created : ℕ) (r : Region) (need : ℕ) (x : Candidate) (k : IsKept s n ks r) (now : Instance) (seen : seen_as s n ks.contents created r ≡ now)
-    (chosen : Some x ≡ or_else (may_miss ks.strategy) (choice_among ks.strategy s.mbsd need ks.contents) (choice_unused need ks.contents)) where
+    (chosen : Some x ≡ or_else (may_miss ks.strategy) (choice_among ks.strategy s.mbsd need ks.contents) (choice_empty need ks.contents)) where
   chosen_here : Some (spot_of x) ≡ chosen_spot now need
   chosen_here =
-      ap (option_map spot_of) (chosen ∙ ap (λ t. or_else (may_miss t) (choice_among t s.mbsd need ks.contents) (choice_unused need ks.contents)) k.strategy)
+      ap (option_map spot_of) (chosen ∙ ap (λ t. or_else (may_miss t) (choice_among t s.mbsd need ks.contents) (choice_empty need ks.contents)) k.strategy)
       ∙ ap (λ i. chosen_spot i need) seen
 
   pub place-chosen : (size : ℕ) → size ≡ size_for (content_of ks.contents x.number) x.offset need → Some (record { carrier = x.number; offset = x.offset; size = size }) ≡ option_map (λ spot. place_at now spot need) (chosen_spot now need)
@@ -146,7 +148,7 @@ module _ (s : Settings) (n : ℕ) (ks : CarrierList) (created : ℕ) (r : Region
 
   run_fits : Fits r.first r.end p.base p.pages (segments ks.contents)
   run_fits =
-      some_holds (lowest_run p.pages (runs r.first r.end (segments ks.contents))) p.base (λ start. Fits r.first r.end start p.pages (segments ks.contents)) planned_here.run
+      some_holds (lowest_run p.pages (runs r.first r.end (segments ks.contents))) p.base (λ base. Fits r.first r.end base p.pages (segments ks.contents)) planned_here.run
       (lowest-Fits r.first r.end p.pages (segments ks.contents) (subst (Laid r.first r.end) k.taken k.laid))
 
   -- the new carrier has a number of its own
@@ -154,8 +156,8 @@ module _ (s : Settings) (n : ℕ) (ks : CarrierList) (created : ℕ) (r : Region
   other-numbers = unused.2
 
   -- it meets no other one, and lies low enough
-  pub others-apart : (x : Content) → x ≡ created_content n Multi p → All (IsApartFrom x) ks.contents
-  others-apart x is = subst (λ y. All (IsApartFrom y) ks.contents) (sym is) (apart-contents (created_content n Multi p) p.pages ks.contents refl k.whole run_fits.apart)
+  pub others-apart : (x : Content) → x ≡ created_content n Multi p → All (ContentsApart x) ks.contents
+  others-apart x is = subst (λ y. All (ContentsApart y) ks.contents) (sym is) (apart-contents (created_content n Multi p) p.pages ks.contents refl k.whole run_fits.apart)
 
   pub lies-low : (x : Content) → x ≡ created_content n Multi p → 512 * x.base + x.units ≤ 67108864
   lies-low x is = subst (λ (y : Content). 512 * y.base + y.units ≤ 67108864) (sym is) (omega (arith, run_fits.before, k.within))
@@ -176,7 +178,7 @@ module _ (s : Settings) (n : ℕ) (ks : CarrierList) (created : ℕ) (r : Region
   pub has_room : length r.taken < 256
   has_room = omega (arith, has-number, ap length k.taken, length-segments ks.contents)
 
-  segment_is : segment_of (created_content n Multi p) ≡ record { start = p.base; pages = p.pages }
+  segment_is : segment_of (created_content n Multi p) ≡ record { base = p.base; pages = p.pages }
   segment_is = (let e = pages_of_units p.pages in cc)
 
   -- what is taken of the region
@@ -184,11 +186,11 @@ module _ (s : Settings) (n : ℕ) (ks : CarrierList) (created : ℕ) (r : Region
   taken_at o found = found ∙ ap (λ t. lowest_run p.pages (runs r.first r.end t)) k.taken ∙ planned_here.run
 
   pub IsKept-created : (o : Option ℕ) (r2 : Region) (x : Content) (new : CarrierList) → o ≡ lowest_run p.pages (runs r.first r.end r.taken)
-      → IfSome o (λ start. r2 ≡ record r { taken = with_segment (record { start = start; pages = p.pages }) r.taken }) → Laid r2.first r2.end r2.taken → x ≡ created_content n Multi p
+      → IfSome o (λ base. r2 ≡ record r { taken = with_segment (record { base = base; pages = p.pages }) r.taken }) → Laid r2.first r2.end r2.taken → x ≡ created_content n Multi p
       → new ≡ record ks { contents = with_content x ks.contents } → IsKept s n new r2
   IsKept-created o r2 x new found took laid is same =
       let at = taken_at o found in
-      let e = some_holds o p.base (λ start. r2 ≡ record r { taken = with_segment (record { start = start; pages = p.pages }) r.taken }) at took in
+      let e = some_holds o p.base (λ base. r2 ≡ record r { taken = with_segment (record { base = base; pages = p.pages }) r.taken }) at took in
       let entered_is : new ≡ record ks { contents = with_content (created_content n Multi p) ks.contents } = same ∙ ap (λ y. record ks { contents = with_content y ks.contents }) is in
       subst (λ ys. IsKept s n ys r2) (sym entered_is) (record {
         valid = k.valid;
@@ -198,32 +200,32 @@ module _ (s : Settings) (n : ℕ) (ks : CarrierList) (created : ℕ) (r : Region
         own = still-own;
         whole = All-entered number_of IsWhole (created_content n Multi p) ks.contents (whole_pages p.pages, subst (λ m. 1 ≤ m) (sym (pages_of_units p.pages)) some_pages) k.whole;
         taken =
-            ap (λ (y : Region). y.taken) e ∙ ap (with_segment (record { start = p.base; pages = p.pages })) k.taken ∙ ap (λ g. with_segment g (segments ks.contents)) (sym segment_is)
+            ap (λ (y : Region). y.taken) e ∙ ap (with_segment (record { base = p.base; pages = p.pages })) k.taken ∙ ap (λ g. with_segment g (segments ks.contents)) (sym segment_is)
             ∙ sym (segments-with_content (created_content n Multi p) ks.contents (omega (arith, some_pages)) k.whole (others-apart (created_content n Multi p) refl));
         within = subst (λ (y : Region). y.end ≤ 131072) (sym e) k.within;
         laid = laid;
       })
 
   -- with the carrier's pages the segments lie apart as before
-  laid-made : Laid r.first r.end (with_segment (record { start = p.base; pages = p.pages }) r.taken)
+  laid-made : Laid r.first r.end (with_segment (record { base = p.base; pages = p.pages }) r.taken)
   laid-made =
-      subst (λ t. Laid r.first r.end (with_segment (record { start = p.base; pages = p.pages }) t)) (sym k.taken)
-      (Laid-entered r.first r.end (record { start = p.base; pages = p.pages }) (segments ks.contents) (subst (Laid r.first r.end) k.taken k.laid) run_fits.behind run_fits.before some_pages run_fits.apart)
+      subst (λ t. Laid r.first r.end (with_segment (record { base = p.base; pages = p.pages }) t)) (sym k.taken)
+      (Laid-entered r.first r.end (record { base = p.base; pages = p.pages }) (segments ks.contents) (subst (Laid r.first r.end) k.taken k.laid) run_fits.behind run_fits.before some_pages run_fits.apart)
 
-  pub kept-made : IsKept s n (record ks { contents = with_content made ks.contents }) (record r { taken = with_segment (record { start = p.base; pages = p.pages }) r.taken })
+  pub kept-made : IsKept s n (record ks { contents = with_content made ks.contents }) (record r { taken = with_segment (record { base = p.base; pages = p.pages }) r.taken })
   kept-made =
-      IsKept-created (Some p.base) (record r { taken = with_segment (record { start = p.base; pages = p.pages }) r.taken }) made (record ks { contents = with_content made ks.contents })
+      IsKept-created (Some p.base) (record r { taken = with_segment (record { base = p.base; pages = p.pages }) r.taken }) made (record ks { contents = with_content made ks.contents })
       (sym (ap (λ t. lowest_run p.pages (runs r.first r.end t)) k.taken ∙ planned_here.run)) refl laid-made refl refl
 
-  pub sound-made : IsSound made
+  pub sound-made : IsLaidOut made
   sound-made = record { shared = refl; tiled = (omega (arith, some_pages), record { even = omega arith; whole = λ _. omega (arith, some_pages) }); low = lies-low made refl }
 
   -- and the instance is then the one that employs the carrier
   pub seen-created : (o : Option ℕ) (r2 : Region) (x : Content) (new : CarrierList) → o ≡ lowest_run p.pages (runs r.first r.end r.taken)
-      → IfSome o (λ start. r2 ≡ record r { taken = with_segment (record { start = start; pages = p.pages }) r.taken }) → x ≡ created_content n Multi p → new ≡ record ks { contents = with_content x ks.contents }
+      → IfSome o (λ base. r2 ≡ record r { taken = with_segment (record { base = base; pages = p.pages }) r.taken }) → x ≡ created_content n Multi p → new ≡ record ks { contents = with_content x ks.contents }
       → seen_as s n new.contents p.birth r2 ≡ creating now p
   seen-created o r2 x new found took is same =
-      let e = some_holds o p.base (λ start. r2 ≡ record r { taken = with_segment (record { start = start; pages = p.pages }) r.taken }) (taken_at o found) took in
+      let e = some_holds o p.base (λ base. r2 ≡ record r { taken = with_segment (record { base = base; pages = p.pages }) r.taken }) (taken_at o found) took in
       ap (λ (ys : CarrierList). seen_as s n ys.contents p.birth r2) (same ∙ ap (λ y. record ks { contents = with_content y ks.contents }) is)
       ∙ ap (seen_as s n (with_content (created_content n Multi p) ks.contents) p.birth) e ∙ ap (λ i. creating i p) seen
 

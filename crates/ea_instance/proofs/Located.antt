@@ -21,9 +21,10 @@ use Rattle.ea_mbc.proofs.Tiling.{Tiled-allocated}
 use Rattle.ea_goodfit.specs.declared.gaps.Gap.{Gap}
 use Rattle.ea_model.proofs.Pairs.{pairs_nil, pairs_head, pairs_tail, pairs_append, pairs_map}
 use Rattle.ea_model.proofs.Rising.{item_at-each}
-use Rattle.ea_instance.specs.Kept.{number_of, IsRising}
-use Rattle.ea_instance.specs.Found.{HasGap}
-use Rattle.ea_instance.specs.Listed.{all_gaps, gap_of, candidate_at, IsSound, IsApartFrom, spans}
+use Rattle.ea_laws.specs.Kept.{number_of, IsRising}
+use Rattle.ea_laws.specs.Spots.{HasGap}
+use Rattle.ea_laws.specs.Kept.{IsLaidOut, ContentsApart}
+use Rattle.ea_instance.specs.Listed.{all_gaps, gap_of, candidate_at, spans}
 
 -- a gap of some units, from `at` on and up to `end`
 pub record Inside (at end : ℕ) (g : model.Gap) : Type 0 where
@@ -80,10 +81,10 @@ candidates_All P (c ∷ cs) h =
     All-append P (candidates_in c.kind c) (candidates cs) (in_kind P c.kind c (All-head each c cs h)) (candidates_All P cs (All-tail each c cs h))
 
 -- no gap is empty
-pub gap-some : (cs : List Content) → All IsSound cs → All (λ x. 1 ≤ x.size) (candidates cs)
+pub gap-some : (cs : List Content) → All IsLaidOut cs → All (λ x. 1 ≤ x.size) (candidates cs)
 gap-some cs sound =
     candidates_All (λ x. 1 ≤ x.size) cs
-    (All-weaker IsSound (λ c. All (λ g. 1 ≤ g.size) (gaps_of c)) (λ c s. All-weaker (Inside 8 c.units) (λ g. 1 ≤ g.size) (λ g i. i.some) (gaps_of c) (gaps_Inside 8 c.units c.blocks s.tiled)) cs sound)
+    (All-weaker IsLaidOut (λ c. All (λ g. 1 ≤ g.size) (gaps_of c)) (λ c s. All-weaker (Inside 8 c.units) (λ g. 1 ≤ g.size) (λ g i. i.some) (gaps_of c) (gaps_Inside 8 c.units c.blocks s.tiled)) cs sound)
 
 passing_all : {A : Type 0} (p : A → Bool) (xs : List A) → All (λ x. p x ≡ true) xs → filter p xs ≡ xs
 passing_all p [] h = refl
@@ -91,21 +92,21 @@ passing_all p (x ∷ xs) h =
     cond-true (p x) (x ∷ filter p xs) (filter p xs) (All-head (λ y. p y ≡ true) x xs h) ∙ ap (λ l. x ∷ l) (passing_all p xs (All-tail (λ y. p y ≡ true) x xs h))
 
 -- so each is large enough for a unit
-pub large-all : (cs : List Content) → All IsSound cs → large_enough 1 (candidates cs) ≡ candidates cs
+pub large-all : (cs : List Content) → All IsLaidOut cs → large_enough 1 (candidates cs) ≡ candidates cs
 large-all cs sound = passing_all (λ x. nat_le 1 x.size) (candidates cs) (All-weaker (λ x. 1 ≤ x.size) (λ x. nat_le 1 x.size ≡ true) (λ x le. le-leb 1 x.size le) (candidates cs) (gap-some cs sound))
 
 -- the address isn't one of the carrier
 abbrev IsOutside : Content → ℕ → Type 0
 IsOutside c address = (address < 512 * c.base) ⊎ (512 * c.base + c.units ≤ address)
 
-outside : (c d : Content) (address : ℕ) → IsApartFrom c d → 512 * d.base ≤ address → address < 512 * d.base + d.units → IsOutside c address
+outside : (c d : Content) (address : ℕ) → ContentsApart c d → 512 * d.base ≤ address → address < 512 * d.base + d.units → IsOutside c address
 outside c d address apart low high = elim apart [ inl le ↦ inr (omega arith) | inr le ↦ inl (omega arith) ]
 
 -- the gaps of other carriers lie outside
-others_outside : (c : Content) (cs : List Content) → All IsSound cs → All (IsApartFrom c) cs → All (λ x. IsOutside c x.address) (candidates cs)
+others_outside : (c : Content) (cs : List Content) → All IsLaidOut cs → All (ContentsApart c) cs → All (λ x. IsOutside c x.address) (candidates cs)
 others_outside c cs sound apart =
     candidates_All (λ x. IsOutside c x.address) cs
-    (both_All IsSound (IsApartFrom c) (λ d. All (λ g. IsOutside c (512 * d.base + g.offset)) (gaps_of d))
+    (both_All IsLaidOut (ContentsApart c) (λ d. All (λ g. IsOutside c (512 * d.base + g.offset)) (gaps_of d))
     (λ d s away. All-weaker (Inside 8 d.units) (λ g. IsOutside c (512 * d.base + g.offset)) (λ g i. outside c d (512 * d.base + g.offset) away (omega arith) (omega (arith, i.within, i.some))) (gaps_of d) (gaps_Inside 8 d.units d.blocks s.tiled))
     cs sound apart)
 
@@ -118,20 +119,20 @@ kind_distinct Main c h = pairs_map IsElsewhere (candidate c) (gaps_of c) (λ i j
 kind_distinct Multi c h = pairs_map IsElsewhere (candidate c) (gaps_of c) (λ i j d lt within e. omega (arith, h i j d lt within, e))
 kind_distinct Single c h = pairs_nil IsElsewhere
 
-candidates_distinct : (cs : List Content) → All IsSound cs → AllPairs IsApartFrom cs → AllPairs IsElsewhere (candidates cs)
+candidates_distinct : (cs : List Content) → All IsLaidOut cs → AllPairs ContentsApart cs → AllPairs IsElsewhere (candidates cs)
 candidates_distinct [] sound apart = pairs_nil IsElsewhere
 candidates_distinct (c ∷ cs) sound apart =
-    let here = All-head IsSound c cs sound in
-    let rest = All-tail IsSound c cs sound in
-    let away = others_outside c cs rest (pairs_head IsApartFrom c cs apart) in
-    pairs_append IsElsewhere (candidates_in c.kind c) (candidates cs) (kind_distinct c.kind c (gaps_rise 8 c.units c.blocks here.tiled)) (candidates_distinct cs rest (pairs_tail IsApartFrom c cs apart))
+    let here = All-head IsLaidOut c cs sound in
+    let rest = All-tail IsLaidOut c cs sound in
+    let away = others_outside c cs rest (pairs_head ContentsApart c cs apart) in
+    pairs_append IsElsewhere (candidates_in c.kind c) (candidates cs) (kind_distinct c.kind c (gaps_rise 8 c.units c.blocks here.tiled)) (candidates_distinct cs rest (pairs_tail ContentsApart c cs apart))
     (in_kind (λ x. All (IsElsewhere x) (candidates cs)) c.kind c
     (All-weaker (Inside 8 c.units) (λ g. All (IsElsewhere (candidate c g)) (candidates cs))
     (λ g i. All-weaker (λ y. IsOutside c y.address) (IsElsewhere (candidate c g)) (λ y out e. elim out [ inl lt ↦ omega (arith, e) | inr le ↦ omega (arith, e, i.within, i.some) ]) (candidates cs) away)
     (gaps_of c) (gaps_Inside 8 c.units c.blocks here.tiled)))
 
 -- no two gaps lie at one address
-pub gaps-distinct : (cs : List Content) → All IsSound cs → AllPairs IsApartFrom cs → AllPairs (λ g h. g.address ≢ h.address) (all_gaps cs)
+pub gaps-distinct : (cs : List Content) → All IsLaidOut cs → AllPairs ContentsApart cs → AllPairs (λ g h. g.address ≢ h.address) (all_gaps cs)
 gaps-distinct cs sound apart = pairs_map (λ (g h : Gap). g.address ≢ h.address) gap_of (candidates cs) (candidates_distinct cs sound apart)
 
 spans_inside : (address : ℕ) (c : Content) → 512 * c.base ≤ address → address < 512 * c.base + c.units → spans address c ≡ true
@@ -151,19 +152,19 @@ found_here c cs g i =
 found_past : (c : Content) (cs : List Content) (x : Candidate) → IsOutside c x.address → candidate_at (gap_of x) cs ≡ Some x → candidate_at (gap_of x) (c ∷ cs) ≡ Some x
 found_past c cs x out e = cond-false (spans x.address c) _ _ (elim out [ inl lt ↦ spans_below x.address c lt | inr le ↦ spans_above x.address c le ]) ∙ e
 
-found_All : (cs : List Content) → All IsSound cs → AllPairs IsApartFrom cs → All (λ x. candidate_at (gap_of x) cs ≡ Some x) (candidates cs)
+found_All : (cs : List Content) → All IsLaidOut cs → AllPairs ContentsApart cs → All (λ x. candidate_at (gap_of x) cs ≡ Some x) (candidates cs)
 found_All [] sound apart = All-nil (λ (x : Candidate). candidate_at (gap_of x) [] ≡ Some x)
 found_All (c ∷ cs) sound apart =
-    let rest = All-tail IsSound c cs sound in
-    let here = All-head IsSound c cs sound in
+    let rest = All-tail IsLaidOut c cs sound in
+    let here = All-head IsLaidOut c cs sound in
     let is_found : Candidate → Type 0 = λ x. candidate_at (gap_of x) (c ∷ cs) ≡ Some x in
     All-append is_found (candidates_in c.kind c) (candidates cs)
     (in_kind is_found c.kind c (All-weaker (Inside 8 c.units) (λ g. is_found (candidate c g)) (found_here c cs) (gaps_of c) (gaps_Inside 8 c.units c.blocks here.tiled)))
     (both_All (λ x. IsOutside c x.address) (λ x. candidate_at (gap_of x) cs ≡ Some x) is_found (found_past c cs) (candidates cs)
-    (others_outside c cs rest (pairs_head IsApartFrom c cs apart)) (found_All cs rest (pairs_tail IsApartFrom c cs apart)))
+    (others_outside c cs rest (pairs_head ContentsApart c cs apart)) (found_All cs rest (pairs_tail ContentsApart c cs apart)))
 
 -- the gap at the address of a candidate is this candidate
-pub candidate_at-found : (x : Candidate) (cs : List Content) → All IsSound cs → AllPairs IsApartFrom cs → Contains (candidates cs) x → candidate_at (gap_of x) cs ≡ Some x
+pub candidate_at-found : (x : Candidate) (cs : List Content) → All IsLaidOut cs → AllPairs ContentsApart cs → Contains (candidates cs) x → candidate_at (gap_of x) cs ≡ Some x
 candidate_at-found x cs sound apart among = All-contains (λ y. candidate_at (gap_of y) cs ≡ Some y) (candidates cs) x (found_All cs sound apart) among
 
 module _ {A B : Type 0} (f : A → B) where
@@ -214,7 +215,7 @@ module _ (cs : List Content) where
   found_back (Some x) h = h
 
 -- the gap that good fit chooses in the bins, as one of its carrier, is the one that it chooses among the candidates
-pub good_fit-at : (depth need : ℕ) (cs : List Content) → All IsSound cs → AllPairs IsApartFrom cs
+pub good_fit-at : (depth need : ℕ) (cs : List Content) → All IsLaidOut cs → AllPairs ContentsApart cs
     → option_and_then (λ g. candidate_at g cs) (good_fit (λ g. g.address) (λ g. g.size) depth need (all_gaps cs)) ≡ good_fit (λ x. x.address) (λ x. x.size) depth need (candidates cs)
 good_fit-at depth need cs sound apart =
     let is_found : Candidate → Type 0 = λ x. candidate_at (gap_of x) cs ≡ Some x in
@@ -228,15 +229,15 @@ good_fit-at depth need cs sound apart =
 abbrev IsOwned : List Content → Candidate → Type 0
 IsOwned cs x = (c : Content) × (content_of cs x.number ≡ Some c) × (gap_at (gaps_of c) x.offset ≡ x.size)
 
-owned_All : (cs : List Content) → IsRising cs → All IsSound cs → All (IsOwned cs) (candidates cs)
+owned_All : (cs : List Content) → IsRising cs → All IsLaidOut cs → All (IsOwned cs) (candidates cs)
 owned_All cs rising sound =
     candidates_All (IsOwned cs) cs
-    (both_All (λ c. content_of cs c.number ≡ Some c) IsSound (λ c. All (λ g. IsOwned cs (candidate c g)) (gaps_of c))
+    (both_All (λ c. content_of cs c.number ≡ Some c) IsLaidOut (λ c. All (λ g. IsOwned cs (candidate c g)) (gaps_of c))
     (λ c there s. All-weaker (Begins 8 (gaps_of c)) (λ g. IsOwned cs (candidate c g)) (λ g b. (c, there, b.size)) (gaps_of c) (gaps-Begins 8 c.units c.blocks s.tiled))
     cs (λ i d within. item_at-each number_of i d cs rising within) sound)
 
 -- a candidate that is large enough is a gap of its carrier
-pub candidate-HasGap : (need : ℕ) (x : Candidate) (cs : List Content) → IsRising cs → All IsSound cs → Contains (candidates cs) x → need ≤ x.size → HasGap need x.number x.offset cs
+pub candidate-HasGap : (need : ℕ) (x : Candidate) (cs : List Content) → IsRising cs → All IsLaidOut cs → Contains (candidates cs) x → need ≤ x.size → HasGap need x.number x.offset cs
 candidate-HasGap need x cs rising sound among fits =
     let owned = All-contains (IsOwned cs) (candidates cs) x (owned_All cs rising sound) among in
     (owned.0, owned.1, omega (arith, owned.2, fits))

@@ -12,13 +12,13 @@ use Rattle.ea_model.specs.declared.carriers.Candidate.{Candidate}
 use Rattle.ea_model.specs.declared.carriers.CarrierPlan.{CarrierPlan}
 use Rattle.ea_model.specs.declared.carriers.Kind.TheVariants.{Multi}
 use Rattle.ea_model.specs.declared.carriers.Spot.{Spot}
-use Rattle.ea_model.specs.Content.{Content, gap_at, gaps_of, is_done, placed, released, taken_of}
+use Rattle.ea_model.specs.Content.{Content, gap_at, gaps_of, is_empty_multi, placed, released, taken_of}
 use Rattle.ea_model.specs.Choice.{first}
 use Rattle.ea_model.specs.GoodFit.{is_inspected}
 use Rattle.ea_model.specs.Keyed.{IsBelow}
 use Rattle.ea_model.specs.Region.{Region, cut_from}
 use Rattle.ea_model.specs.Settings.{IsValid}
-use Rattle.ea_model.specs.Strategies.{candidates, choice_among, choice_for, choice_unused, large_enough, looked_at, lower, may_miss, only, or_else, spot_of, takes_first}
+use Rattle.ea_model.specs.Strategies.{candidates, choice_among, choice_for, choice_empty, large_enough, inspected_by, lower, may_miss, only, or_else, spot_of, takes_first}
 use Rattle.ea_model.specs.Instance.{Instance, changed, chosen_spot, clearing, content_of, created_content, creating, first_number, main_content, new_instance, pages_for, placing_at, plan, releasing_at, segments, with_content, without_content}
 use Rattle.ea_model.proofs.First.{first-All}
 use Rattle.ea_model.proofs.Options.{if_some, some_holds, some_map}
@@ -26,10 +26,12 @@ use Rattle.ea_model.proofs.Pairs.{pairs_nil}
 use Rattle.ea_model.proofs.Rising.{All-entered, changed_none, item_at-All, item_at-each, item_at-key, none-other}
 use Rattle.ea_mbc.proofs.BlockLists.{gap_at-whole, taken_of-enters, Tiled-inserted, Tiled-released}
 use Rattle.ea_space.proofs.Segments.{Laid-cut}
-use Rattle.ea_instance.specs.Found.{HasGap}
-use Rattle.ea_instance.specs.InOrder.{IsInOrder}
-use Rattle.ea_instance.specs.Kept.{number_of, HasNumberIn, IsKept, IsRising, IsWhole}
-use Rattle.ea_instance.specs.Listed.{CarrierList, IsApartFrom, IsSound}
+use Rattle.ea_laws.specs.Spots.{HasGap}
+use Rattle.ea_laws.specs.InOrder.{IsInOrder}
+use Rattle.ea_laws.specs.Kept.{number_of, HasNumberIn, IsRising, IsWhole}
+use Rattle.ea_instance.specs.Kept.{KeepsCarriers}
+use Rattle.ea_laws.specs.Kept.{ContentsApart, IsLaidOut}
+use Rattle.ea_instance.specs.Listed.{CarrierList}
 use Rattle.ea_instance.proofs.Changed.{KeepsPlace, placed-keeps, released-keeps}
 use Rattle.ea_instance.proofs.Keeping.{IsKept-changed, IsKept-cleared, kept-made, others-apart, pages_of_units, seen_as, sound-made, whole_pages}
 use Rattle.ea_instance.proofs.Listed.{all-sound, apart-changed, apart-with}
@@ -47,8 +49,8 @@ region_of i = record { first = i.first; end = i.end; taken = segments i.contents
 -- its region is kept, and its carriers are sound and lie apart
 pub record Stands (i : Instance) : Type 0 where
   pub kept : IsKept i.settings i.number (list_of i) (region_of i)
-  pub sound : All IsSound i.contents
-  pub apart : AllPairs IsApartFrom i.contents
+  pub sound : All IsLaidOut i.contents
+  pub apart : AllPairs ContentsApart i.contents
 
 pub Stands-IsInOrder : (i : Instance) → Stands i → IsInOrder i
 Stands-IsInOrder i st = record {
@@ -64,7 +66,7 @@ seated : (s : Settings) (n : ℕ) (ks : CarrierList) (r : Region) → IsKept s n
 seated s n ks r k = subst (λ t. IsKept s n ks (record r { taken = t })) k.taken k
 
 -- an instance as its fields are kept
-pub kept-Stands : (s : Settings) (n : ℕ) (ks : CarrierList) (created : ℕ) (r : Region) → IsKept s n ks r → All IsSound ks.contents → AllPairs IsApartFrom ks.contents → Stands (seen_as s n ks.contents created r)
+pub kept-Stands : (s : Settings) (n : ℕ) (ks : CarrierList) (created : ℕ) (r : Region) → IsKept s n ks r → All IsLaidOut ks.contents → AllPairs ContentsApart ks.contents → Stands (seen_as s n ks.contents created r)
 kept-Stands s n ks created r k sound apart = record {
   kept = seated s n (record { strategy = s.strategy; contents = ks.contents }) r (subst (λ t. IsKept s n (record { strategy = t; contents = ks.contents }) r) k.strategy k);
   sound = sound;
@@ -72,7 +74,7 @@ kept-Stands s n ks created r k sound apart = record {
 }
 
 -- one carrier changes its blocks
-changed-Stands : (f : Content → Content) → KeepsPlace f → (n : ℕ) (item : Content) (i : Instance) → Stands i → content_of i.contents n ≡ Some item → IsSound (f item) → Stands (record i { contents = changed f n i.contents })
+changed-Stands : (f : Content → Content) → KeepsPlace f → (n : ℕ) (item : Content) (i : Instance) → Stands i → content_of i.contents n ≡ Some item → IsLaidOut (f item) → Stands (record i { contents = changed f n i.contents })
 changed-Stands f keeps n item i st there sound =
     let new : CarrierList = record (list_of i) { contents = changed f n i.contents } in
     record {
@@ -81,8 +83,8 @@ changed-Stands f keeps n item i st there sound =
       apart = apart-changed f keeps n item i.contents st.apart;
     }
 
-placed-IsSound : (c : Content) (offset need name : ℕ) → IsSound c → need ≤ gap_at (gaps_of c) offset → 6 ≤ need → need % 2 ≡ 0 → IsSound (placed c offset need name)
-placed-IsSound c offset need name s fits least even =
+placed-IsLaidOut : (c : Content) (offset need name : ℕ) → IsLaidOut c → need ≤ gap_at (gaps_of c) offset → 6 ≤ need → need % 2 ≡ 0 → IsLaidOut (placed c offset need name)
+placed-IsLaidOut c offset need name s fits least even =
     let g = gap_at (gaps_of c) offset in
     let x : BlockAt = record { name = name; offset = offset; size = taken_of g need } in
     record { shared = s.shared; tiled = Tiled-inserted 8 c.units x c.blocks s.tiled (taken_of-enters x g need fits least even (gap_at-whole 8 c.units offset c.blocks s.tiled) refl); low = s.low }
@@ -91,10 +93,10 @@ placed-IsSound c offset need name s fits least even =
 placing-Stands : (i : Instance) (spot : Spot) (need name : ℕ) → Stands i → HasGap need spot.carrier spot.offset i.contents → 6 ≤ need → need % 2 ≡ 0 → Stands (placing_at i spot need name)
 placing-Stands i spot need name st gap least even =
     changed-Stands (λ c. placed c spot.offset need name) (placed-keeps spot.offset need name) spot.carrier gap.0 i st gap.1
-    (placed-IsSound gap.0 spot.offset need name (item_at-All number_of IsSound spot.carrier gap.0 i.contents st.sound gap.1) gap.2 least even)
+    (placed-IsLaidOut gap.0 spot.offset need name (item_at-All number_of IsLaidOut spot.carrier gap.0 i.contents st.sound gap.1) gap.2 least even)
 
-released-IsSound : (c : Content) (offset : ℕ) → IsSound c → IsSound (released c offset)
-released-IsSound c offset s = record { shared = s.shared; tiled = Tiled-released 8 c.units offset c.blocks s.tiled; low = s.low }
+released-IsLaidOut : (c : Content) (offset : ℕ) → IsLaidOut c → IsLaidOut (released c offset)
+released-IsLaidOut c offset s = record { shared = s.shared; tiled = Tiled-released 8 c.units offset c.blocks s.tiled; low = s.low }
 
 -- a block is released, or no carrier has the number
 releasing_from : (i : Instance) (spot : Spot) (o : Option Content) → content_of i.contents spot.carrier ≡ o → Stands i → Stands (releasing_at i spot)
@@ -102,7 +104,7 @@ releasing_from i spot None e st =
     subst (λ cs. Stands (record i { contents = cs })) (sym (changed_none number_of (λ c. released c spot.offset) spot.carrier i.contents (none-other number_of spot.carrier i.contents e))) st
 releasing_from i spot (Some item) e st =
     changed-Stands (λ c. released c spot.offset) (released-keeps spot.offset) spot.carrier item i st e
-    (released-IsSound item spot.offset (item_at-All number_of IsSound spot.carrier item i.contents st.sound e))
+    (released-IsLaidOut item spot.offset (item_at-All number_of IsLaidOut spot.carrier item i.contents st.sound e))
 
 pub releasing-Stands : (i : Instance) (spot : Spot) → Stands i → Stands (releasing_at i spot)
 releasing-Stands i spot st = releasing_from i spot (content_of i.contents spot.carrier) refl st
@@ -114,8 +116,8 @@ clearing-Stands i number c st there =
     record {
       kept = seated i.settings i.number (record (list_of i) { contents = without_content number i.contents }) cut
           (IsKept-cleared i.settings i.number number (list_of i) c (region_of i) cut st.kept there refl (Laid-cut i.first i.end c.base (segments i.contents) st.kept.laid));
-      sound = All-filter _ IsSound i.contents st.sound;
-      apart = AllPairs-filter IsApartFrom _ i.contents st.apart;
+      sound = All-filter _ IsLaidOut i.contents st.sound;
+      apart = AllPairs-filter ContentsApart _ i.contents st.apart;
     }
 
 -- a planned carrier comes
@@ -126,7 +128,7 @@ creating-Stands i need p st asked =
     let away = others-apart i.settings i.number (list_of i) i.created (region_of i) need p st.kept i refl asked made refl in
     record {
       kept = seated i.settings i.number new _ (kept-made i.settings i.number (list_of i) i.created (region_of i) need p st.kept i refl asked);
-      sound = All-entered number_of IsSound made i.contents (sound-made i.settings i.number (list_of i) i.created (region_of i) need p st.kept i refl asked) st.sound;
+      sound = All-entered number_of IsLaidOut made i.contents (sound-made i.settings i.number (list_of i) i.created (region_of i) need p st.kept i refl asked) st.sound;
       apart = apart-with made i.contents st.apart away;
     }
 
@@ -135,19 +137,19 @@ among_only : (xs : List Candidate) (o : Option Candidate) → IfSome o (Contains
 among_only xs None h = All-nil (Contains xs)
 among_only xs (Some x) h = All-cons (Contains xs) x [] h (All-nil (Contains xs))
 
-looked_at-among : (s : Strategy) (depth : ℕ) (xs : List Candidate) → All (Contains xs) (looked_at s depth xs)
-looked_at-among Bf depth xs = All-contains_itself xs
-looked_at-among Aobf depth xs = All-contains_itself xs
-looked_at-among Aoff depth xs = All-contains_itself xs
-looked_at-among AoffCbf depth xs = All-contains_itself xs
-looked_at-among AoffCaobf depth xs = All-contains_itself xs
-looked_at-among AgeffCaoff depth xs = All-contains_itself xs
-looked_at-among AgeffCbf depth xs = All-contains_itself xs
-looked_at-among AgeffCaobf depth xs = All-contains_itself xs
-looked_at-among Gf depth xs = All-filter (is_inspected (λ x. x.address) (λ x. x.size) depth xs) (Contains xs) xs (All-contains_itself xs)
-looked_at-among Af depth xs = among_only xs (first lower xs) (first-All (Contains xs) lower None xs tt (All-contains_itself xs))
+inspected_by-among : (s : Strategy) (depth : ℕ) (xs : List Candidate) → All (Contains xs) (inspected_by s depth xs)
+inspected_by-among Bf depth xs = All-contains_itself xs
+inspected_by-among Aobf depth xs = All-contains_itself xs
+inspected_by-among Aoff depth xs = All-contains_itself xs
+inspected_by-among AoffCbf depth xs = All-contains_itself xs
+inspected_by-among AoffCaobf depth xs = All-contains_itself xs
+inspected_by-among AgeffCaoff depth xs = All-contains_itself xs
+inspected_by-among AgeffCbf depth xs = All-contains_itself xs
+inspected_by-among AgeffCaobf depth xs = All-contains_itself xs
+inspected_by-among Gf depth xs = All-filter (is_inspected (λ x. x.address) (λ x. x.size) depth xs) (Contains xs) xs (All-contains_itself xs)
+inspected_by-among Af depth xs = among_only xs (first lower xs) (first-All (Contains xs) lower None xs tt (All-contains_itself xs))
 
-module _ (need : ℕ) (cs : List Content) (rising : IsRising cs) (sound : All IsSound cs) where
+module _ (need : ℕ) (cs : List Content) (rising : IsRising cs) (sound : All IsLaidOut cs) where
   abbrev Has : Candidate → Type 0
   Has x = HasGap need x.number x.offset cs
 
@@ -155,7 +157,7 @@ module _ (need : ℕ) (cs : List Content) (rising : IsRising cs) (sound : All Is
   among-HasGap s depth =
       let all = candidates cs in
       if_some (choice_among s depth need cs) (IsLarge need all) Has (λ x large. candidate-HasGap need x cs rising sound large.0 large.1)
-      (first-All (IsLarge need all) (takes_first s) None (large_enough need (looked_at s depth all)) tt (large_among need all (looked_at s depth all) (looked_at-among s depth all)))
+      (first-All (IsLarge need all) (takes_first s) None (large_enough need (inspected_by s depth all)) tt (large_among need all (inspected_by s depth all) (inspected_by-among s depth all)))
 
   -- a gap of one of some carriers is one of all
   still_there : (p : Content → Bool) (number offset : ℕ) → HasGap need number offset (filter p cs) → HasGap need number offset cs
@@ -164,12 +166,12 @@ module _ (need : ℕ) (cs : List Content) (rising : IsRising cs) (sound : All Is
       let is = item_at-key number_of number c (filter p cs) there in
       (c, ap (content_of cs) (sym (ap number_of among.2 ∙ is)) ∙ item_at-each number_of among.0 c cs rising among.1 ∙ ap Some among.2, fits)
 
-  unused-HasGap : IfSome (choice_unused need cs) Has
+  unused-HasGap : IfSome (choice_empty need cs) Has
   unused-HasGap =
-      let some = filter is_done cs in
+      let some = filter is_empty_multi cs in
       let all = candidates some in
-      if_some (choice_unused need cs) (IsLarge need all) Has
-      (λ x large. still_there is_done x.number x.offset (candidate-HasGap need x some (AllPairs-filter (IsBelow number_of) is_done cs rising) (All-filter is_done IsSound cs sound) large.0 large.1))
+      if_some (choice_empty need cs) (IsLarge need all) Has
+      (λ x large. still_there is_empty_multi x.number x.offset (candidate-HasGap need x some (AllPairs-filter (IsBelow number_of) is_empty_multi cs rising) (All-filter is_empty_multi IsLaidOut cs sound) large.0 large.1))
       (first-All (IsLarge need all) lower None (large_enough need all) tt (large_among need all all (All-contains_itself all)))
 
   either : (asked : Bool) (found other : Option Candidate) → IfSome found Has → IfSome other Has → IfSome (or_else asked found other) Has
@@ -178,7 +180,7 @@ module _ (need : ℕ) (cs : List Content) (rising : IsRising cs) (sound : All Is
   either false None other h k = tt
 
   pub chosen-HasGap : (s : Settings) → IfSome (choice_for s need cs) Has
-  chosen-HasGap s = either (may_miss s.strategy) (choice_among s.strategy s.mbsd need cs) (choice_unused need cs) (among-HasGap s.strategy s.mbsd) unused-HasGap
+  chosen-HasGap s = either (may_miss s.strategy) (choice_among s.strategy s.mbsd need cs) (choice_empty need cs) (among-HasGap s.strategy s.mbsd) unused-HasGap
 
 -- the chosen spot has a gap that is large enough
 pub chosen_spot-HasGap : (i : Instance) (need : ℕ) (spot : Spot) → Stands i → chosen_spot i need ≡ Some spot → HasGap need spot.carrier spot.offset i.contents
@@ -206,8 +208,8 @@ new_without s number first pages valid own within = record {
     within = within;
     laid = omega arith;
   };
-  sound = All-nil IsSound;
-  apart = pairs_nil IsApartFrom;
+  sound = All-nil IsLaidOut;
+  apart = pairs_nil ContentsApart;
 }
 
 new_with : (s : Settings) (number first pages : ℕ) → IsValid s → (1 ≤ number) × (number ≤ 16) → first + pages ≤ 131072 → pages_for s.mmbcs ≤ pages → 0 < s.mmbcs
@@ -229,8 +231,8 @@ new_with s number first pages valid own within main some =
         within = within;
         laid = (omega arith, omega (arith, one, same), omega (arith, main, same));
       };
-      sound = All-cons IsSound m [] (record { shared = refl; tiled = (omega (arith, one), record { even = omega arith; whole = λ _. omega (arith, one) }); low = omega (arith, main, within) }) (All-nil IsSound);
-      apart = AllPairs-cons IsApartFrom m [] (All-nil (IsApartFrom m)) (pairs_nil IsApartFrom);
+      sound = All-cons IsLaidOut m [] (record { shared = refl; tiled = (omega (arith, one), record { even = omega arith; whole = λ _. omega (arith, one) }); low = omega (arith, main, within) }) (All-nil IsLaidOut);
+      apart = AllPairs-cons ContentsApart m [] (All-nil (ContentsApart m)) (pairs_nil ContentsApart);
     }
 
 pub new-Stands : (s : Settings) (number first pages : ℕ) → IsValid s → (1 ≤ number) × (number ≤ 16) → first + pages ≤ 131072 → pages_for s.mmbcs ≤ pages → Stands (new_instance s number first pages)

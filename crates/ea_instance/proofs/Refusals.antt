@@ -8,15 +8,15 @@ use Rattle.ea_model.specs.declared.carriers.Segment.{Segment}
 use Rattle.ea_model.specs.declared.carriers.Spot.{Spot}
 use Rattle.ea_model.specs.declared.entries.NoCarrier.TheVariants.{Numbers, Space}
 use Rattle.ea_model.specs.Choice.{first}
-use Rattle.ea_model.specs.Content.{Content, is_done}
+use Rattle.ea_model.specs.Content.{Content, is_empty_multi}
 use Rattle.ea_model.specs.Region.{runs}
 use Rattle.ea_model.specs.Instance.{Instance, chosen_spot, unused_from, is_used, first_number, plan, numbered_plan, sized_plan, least_plan, free_run, next_pages, least_pages, segments}
-use Rattle.ea_model.specs.Strategies.{candidates, choice_among, choice_for, choice_unused, large_enough, looked_at, lower, may_miss, or_else, takes_first, spot_of}
+use Rattle.ea_model.specs.Strategies.{candidates, choice_among, choice_for, choice_empty, large_enough, inspected_by, lower, may_miss, or_else, takes_first, spot_of}
 use Rattle.ea_model.proofs.First.{first-none, large-none, none-large}
 use Rattle.ea_model.proofs.Options.{mapped, unmapped}
 use Rattle.ea_space.proofs.Runs.{lowest-none}
-use Rattle.ea_instance.specs.Found.{AllUsed, FindsNone}
-use Rattle.ea_instance.proofs.Choosing.{all_looked_at}
+use Rattle.ea_laws.specs.Spots.{AllUsed, FindsNone}
+use Rattle.ea_instance.proofs.Choosing.{all_inspected}
 use Rattle.ea_instance.proofs.Unused.{unused_from-zero, unused_from-used, unused_from-free_here}
 
 -- none of them is chosen exactly where none is large enough
@@ -38,7 +38,7 @@ none_of_both false None other h f = refl
 
 module _ {B : Type 0} (f : Spot → B) (i : Instance) (need : ℕ) where
   abbrev looked : List Candidate
-  looked = looked_at i.settings.strategy i.settings.mbsd (candidates i.contents)
+  looked = inspected_by i.settings.strategy i.settings.mbsd (candidates i.contents)
 
   abbrev among : Option Candidate
   among = choice_among i.settings.strategy i.settings.mbsd need i.contents
@@ -46,18 +46,18 @@ module _ {B : Type 0} (f : Spot → B) (i : Instance) (need : ℕ) where
   -- there is no choice exactly where no gap that is looked at is large enough, nor one of a carrier without blocks
   pub chosen-none : IsNone (option_map f (chosen_spot i need)) ↔ FindsNone i.settings need i.contents
   chosen-none = (
-    λ h. let both = neither (may_miss i.settings.strategy) among (choice_unused need i.contents) (unmapped spot_of (choice_for i.settings need i.contents) (unmapped f (chosen_spot i need) h)) in
-        ((none_large-enough (takes_first i.settings.strategy) need looked).0 both.0, λ miss. (none_large-enough lower need (candidates (filter is_done i.contents))).0 (both.1 miss)),
+    λ h. let both = neither (may_miss i.settings.strategy) among (choice_empty need i.contents) (unmapped spot_of (choice_for i.settings need i.contents) (unmapped f (chosen_spot i need) h)) in
+        ((none_large-enough (takes_first i.settings.strategy) need looked).0 both.0, λ miss. (none_large-enough lower need (candidates (filter is_empty_multi i.contents))).0 (both.1 miss)),
     λ h. mapped f (chosen_spot i need) (mapped spot_of (choice_for i.settings need i.contents)
-        (none_of_both (may_miss i.settings.strategy) among (choice_unused need i.contents)
+        (none_of_both (may_miss i.settings.strategy) among (choice_empty need i.contents)
         ((none_large-enough (takes_first i.settings.strategy) need looked).1 h.0)
-        (λ miss. (none_large-enough lower need (candidates (filter is_done i.contents))).1 (h.1 miss)))),
+        (λ miss. (none_large-enough lower need (candidates (filter is_empty_multi i.contents))).1 (h.1 miss)))),
   )
 
   -- where the strategy misses no gap, exactly where none is large enough
   pub chosen-none_at_all : may_miss i.settings.strategy ≡ false → IsNone (option_map f (chosen_spot i need)) ↔ All (λ x. x.size < need) (candidates i.contents)
   chosen-none_at_all none =
-      let same = all_looked_at i.settings.strategy i.settings.mbsd (candidates i.contents) none in (
+      let same = all_inspected i.settings.strategy i.settings.mbsd (candidates i.contents) none in (
         λ h. subst (All (λ (x : Candidate). x.size < need)) same (chosen-none.0 h).0,
         λ h. chosen-none.1 (subst (All (λ (x : Candidate). x.size < need)) (sym same) h, λ miss. let never : true ≡ false = sym miss ∙ none in absurd cc),
       )
@@ -74,9 +74,9 @@ all_used (suc k) low cs e n from below =
       | inr free ↦ let never : Some low ≡ None = sym (unused_from-free_here k low cs free) ∙ e in absurd cc
     ]
 
-none_unused : (k low : ℕ) (cs : List Content) → ((n : ℕ) → low ≤ n → n < low + k → is_used n cs ≡ true) → unused_from k low cs ≡ None
-none_unused zero low cs h = unused_from-zero low cs
-none_unused (suc k) low cs h = unused_from-used k low cs (h low (omega arith) (omega arith)) ∙ none_unused k (low + 1) cs (λ n from below. h n (omega arith) (omega arith))
+all_used : (k low : ℕ) (cs : List Content) → ((n : ℕ) → low ≤ n → n < low + k → is_used n cs ≡ true) → unused_from k low cs ≡ None
+all_used zero low cs h = unused_from-zero low cs
+all_used (suc k) low cs h = unused_from-used k low cs (h low (omega arith) (omega arith)) ∙ all_used k (low + 1) cs (λ n from below. h n (omega arith) (omega arith))
 
 not_numbers_least : (i : Instance) (need number : ℕ) (o : Option ℕ) → least_plan i need number o ≢ Err Numbers
 not_numbers_least i need number None e = absurd cc
@@ -94,7 +94,7 @@ numbered i need (Some number) e = absurd (not_numbers i need number (free_run i 
 pub plan-numbers : (i : Instance) (need : ℕ) → (plan i need ≡ Err Numbers) ↔ AllUsed i
 plan-numbers i need = (
   λ e. all_used 256 (first_number i.number) i.contents (numbered i need (unused_from 256 (first_number i.number) i.contents) e),
-  λ h. ap (numbered_plan i need) (none_unused 256 (first_number i.number) i.contents h),
+  λ h. ap (numbered_plan i need) (all_used 256 (first_number i.number) i.contents h),
 )
 
 no_room : (i : Instance) (need number : ℕ) (o : Option ℕ) → least_plan i need number o ≡ Err Space → IsNone o
@@ -128,7 +128,7 @@ pub plan-space : (i : Instance) (need : ℕ) → (plan i need ≡ Err Space) ↔
 plan-space i need =
     let rs : List Segment = runs i.first i.end (segments i.contents) in (
       λ e. let both = spaced i need (unused_from 256 (first_number i.number) i.contents) e in
-          (λ all. both.0 (none_unused 256 (first_number i.number) i.contents all), (lowest-none (least_pages need) rs).0 both.1),
+          (λ all. both.0 (all_used 256 (first_number i.number) i.contents all), (lowest-none (least_pages need) rs).0 both.1),
       λ h. unplanned i need (unused_from 256 (first_number i.number) i.contents) (λ none. h.0 (all_used 256 (first_number i.number) i.contents none))
           (is_none (free_run i (next_pages i need)) ((lowest-none (next_pages i need) rs).1 (All-more (least_pages need) (next_pages i need) rs (omega arith) h.1)))
           (is_none (free_run i (least_pages need)) ((lowest-none (least_pages need) rs).1 h.1)),

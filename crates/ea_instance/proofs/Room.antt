@@ -7,13 +7,13 @@ use Rattle.ea_model.specs.declared.carriers.Candidate.{Candidate}
 use Rattle.ea_model.specs.declared.carriers.CarrierPlan.{CarrierPlan}
 use Rattle.ea_model.specs.declared.carriers.Kind.TheVariants.{Multi}
 use Rattle.ea_model.specs.Choice.{better, first}
-use Rattle.ea_model.specs.Content.{Content, is_done}
+use Rattle.ea_model.specs.Content.{Content, is_empty_multi}
 use Rattle.ea_model.specs.Instance.{Instance, created_content, creating, chosen_spot, with_content}
-use Rattle.ea_model.specs.Strategies.{candidates, candidates_in, choice_among, choice_for, choice_unused, large_enough, looked_at, lower, may_miss, or_else, takes_first, spot_of}
+use Rattle.ea_model.specs.Strategies.{candidates, candidates_in, choice_among, choice_for, choice_empty, large_enough, inspected_by, lower, may_miss, or_else, takes_first, spot_of}
 use Rattle.ea_model.proofs.Options.{is_some-map}
-use Rattle.ea_instance.proofs.Choosing.{all_looked_at}
+use Rattle.ea_instance.proofs.Choosing.{all_inspected}
 use Rattle.ea_model.proofs.Rising.{entered_here, entered_past}
-use Rattle.ea_instance.specs.Kept.{number_of}
+use Rattle.ea_laws.specs.Kept.{number_of}
 
 still_some : {A : Type 0} (t : A → A → Bool) (x : A) (xs : List A) → IsSome (fold (better t) (Some x) xs)
 still_some t x [] = refl
@@ -40,32 +40,32 @@ counted_with need x (c ∷ cs) =
       | inr le ↦ omega (arith, ap (λ ys. counted need (candidates ys)) (entered_past number_of x c cs le), counted_more need c (with_content x cs), counted_with need x cs)
     ]
 
-done_here : (c : Content) (cs : List Content) → is_done c ≡ true → filter is_done (c ∷ cs) ≡ c ∷ filter is_done cs
-done_here c cs done = cond-true (is_done c) (c ∷ filter is_done cs) (filter is_done cs) done
+done_here : (c : Content) (cs : List Content) → is_empty_multi c ≡ true → filter is_empty_multi (c ∷ cs) ≡ c ∷ filter is_empty_multi cs
+done_here c cs done = cond-true (is_empty_multi c) (c ∷ filter is_empty_multi cs) (filter is_empty_multi cs) done
 
-done_past : (c : Content) (cs : List Content) → is_done c ≡ false → filter is_done (c ∷ cs) ≡ filter is_done cs
-done_past c cs done = cond-false (is_done c) (c ∷ filter is_done cs) (filter is_done cs) done
+done_past : (c : Content) (cs : List Content) → is_empty_multi c ≡ false → filter is_empty_multi (c ∷ cs) ≡ filter is_empty_multi cs
+done_past c cs done = cond-false (is_empty_multi c) (c ∷ filter is_empty_multi cs) (filter is_empty_multi cs) done
 
 -- how many candidates the carriers without blocks have
-abbrev unused_counted : ℕ → List Content → ℕ
-unused_counted need cs = counted need (candidates (filter is_done cs))
+abbrev empty_counted : ℕ → List Content → ℕ
+empty_counted need cs = counted need (candidates (filter is_empty_multi cs))
 
-unused_more : (need : ℕ) (c : Content) (cs : List Content) → unused_counted need cs ≤ unused_counted need (c ∷ cs)
-unused_more need c cs =
-    elim (cases_Bool (is_done c)) [
-      | inl t ↦ omega (arith, ap (λ ys. counted need (candidates ys)) (done_here c cs t), counted_more need c (filter is_done cs))
+empty_more : (need : ℕ) (c : Content) (cs : List Content) → empty_counted need cs ≤ empty_counted need (c ∷ cs)
+empty_more need c cs =
+    elim (cases_Bool (is_empty_multi c)) [
+      | inl t ↦ omega (arith, ap (λ ys. counted need (candidates ys)) (done_here c cs t), counted_more need c (filter is_empty_multi cs))
       | inr f ↦ omega (arith, ap (λ ys. counted need (candidates ys)) (done_past c cs f))
     ]
 
-unused_at : (need : ℕ) (x : Content) (cs : List Content) → is_done x ≡ true → counted need (candidates_in x.kind x) ≤ unused_counted need (x ∷ cs)
-unused_at need x cs done = omega (arith, ap (λ ys. counted need (candidates ys)) (done_here x cs done), counted_more need x (filter is_done cs))
+empty_at : (need : ℕ) (x : Content) (cs : List Content) → is_empty_multi x ≡ true → counted need (candidates_in x.kind x) ≤ empty_counted need (x ∷ cs)
+empty_at need x cs done = omega (arith, ap (λ ys. counted need (candidates ys)) (done_here x cs done), counted_more need x (filter is_empty_multi cs))
 
-unused_with : (need : ℕ) (x : Content) (cs : List Content) → is_done x ≡ true → counted need (candidates_in x.kind x) ≤ unused_counted need (with_content x cs)
-unused_with need x [] done = unused_at need x [] done
-unused_with need x (c ∷ cs) done =
+empty_with : (need : ℕ) (x : Content) (cs : List Content) → is_empty_multi x ≡ true → counted need (candidates_in x.kind x) ≤ empty_counted need (with_content x cs)
+empty_with need x [] done = empty_at need x [] done
+empty_with need x (c ∷ cs) done =
     elim (cases_lt x.number c.number) [
-      | inl lt ↦ omega (arith, ap (unused_counted need) (entered_here number_of x c cs lt), unused_at need x (c ∷ cs) done)
-      | inr le ↦ omega (arith, ap (unused_counted need) (entered_past number_of x c cs le), unused_more need c (with_content x cs), unused_with need x cs done)
+      | inl lt ↦ omega (arith, ap (empty_counted need) (entered_here number_of x c cs lt), empty_at need x (c ∷ cs) done)
+      | inr le ↦ omega (arith, ap (empty_counted need) (entered_past number_of x c cs le), empty_more need c (with_content x cs), empty_with need x cs done)
     ]
 
 or_else-some : (asked : Bool) (found other : Option Candidate) → (asked ≡ false → IsSome found) → IsSome other → IsSome (or_else asked found other)
@@ -84,7 +84,7 @@ chosen-created i need p room some =
     let cs = with_content x i.contents in
     let fits = created_fits i.number need p room some in
     is_some-map spot_of (choice_for i.settings need cs)
-    ∙ or_else-some (may_miss s) (choice_among s i.settings.mbsd need cs) (choice_unused need cs)
-    (λ none. first-some (takes_first s) (large_enough need (looked_at s i.settings.mbsd (candidates cs)))
-    (omega (arith, ap (counted need) (all_looked_at s i.settings.mbsd (candidates cs) none), counted_with need x i.contents, fits)))
-    (first-some lower (large_enough need (candidates (filter is_done cs))) (omega (arith, unused_with need x i.contents refl, fits)))
+    ∙ or_else-some (may_miss s) (choice_among s i.settings.mbsd need cs) (choice_empty need cs)
+    (λ none. first-some (takes_first s) (large_enough need (inspected_by s i.settings.mbsd (candidates cs)))
+    (omega (arith, ap (counted need) (all_inspected s i.settings.mbsd (candidates cs) none), counted_with need x i.contents, fits)))
+    (first-some lower (large_enough need (candidates (filter is_empty_multi cs))) (omega (arith, empty_with need x i.contents refl, fits)))

@@ -10,25 +10,25 @@ use Rattle.ea_model.specs.Region.{stretch, with_segment, covers, cut_from, Laid}
 use Rattle.ea_model.specs.Instance.{segment_of, segments, with_content, without_content, content_of}
 use Rattle.ea_model.proofs.Pairs.{pairs_tail}
 use Rattle.ea_model.proofs.Rising.{entered_here, entered_past, length-entered, others, without_here, without_none, without_past}
-use Rattle.ea_space.specs.Pages.{IsBeside, IsApart, IsTailOf, IsTail}
+use Rattle.ea_model.specs.Region.{SegmentApart, AreFree, IsTailOf, IsTail}
 use Rattle.ea_space.proofs.Segments.{start_of, covers_cases, cut_past, cut_first, stretch_none, Laid-cut, any_cases, IsTail_cases, IsTail_behind}
 use Rattle.ea_space.proofs.Tails.{any_here, any_later}
-use Rattle.ea_instance.specs.Kept.{number_of, IsRising, IsWhole}
-use Rattle.ea_instance.specs.Listed.{IsApartFrom}
+use Rattle.ea_laws.specs.Kept.{number_of, IsRising, IsWhole}
+use Rattle.ea_laws.specs.Kept.{ContentsApart}
 
-entered_only : (a b : Segment) → a.start ≢ b.start → with_segment a (b ∷ []) ≡ with_segment b (a ∷ [])
-entered_only a b h = elim (cases_lt a.start b.start) [ inl p ↦ grind arith | inr q ↦ grind arith ]
+entered_only : (a b : Segment) → a.base ≢ b.base → with_segment a (b ∷ []) ≡ with_segment b (a ∷ [])
+entered_only a b h = elim (cases_lt a.base b.base) [ inl p ↦ grind arith | inr q ↦ grind arith ]
 
-entered_first : (a b t : Segment) (ts : List Segment) → a.start ≢ b.start → b.start < t.start → with_segment a (b ∷ t ∷ ts) ≡ with_segment b (with_segment a (t ∷ ts))
-entered_first a b t ts h lt = elim (cases_lt a.start b.start) [ inl p ↦ grind arith | inr q ↦ grind arith ]
+entered_first : (a b t : Segment) (ts : List Segment) → a.base ≢ b.base → b.base < t.base → with_segment a (b ∷ t ∷ ts) ≡ with_segment b (with_segment a (t ∷ ts))
+entered_first a b t ts h lt = elim (cases_lt a.base b.base) [ inl p ↦ grind arith | inr q ↦ grind arith ]
 
 -- segments that begin at different pages may be with_segment in either order
-pub entered-entered : (a b : Segment) (ts : List Segment) → a.start ≢ b.start → with_segment a (with_segment b ts) ≡ with_segment b (with_segment a ts)
+pub entered-entered : (a b : Segment) (ts : List Segment) → a.base ≢ b.base → with_segment a (with_segment b ts) ≡ with_segment b (with_segment a ts)
 entered-entered a b [] h = entered_only a b h
 entered-entered a b (t ∷ ts) h =
-    elim (cases_lt b.start t.start) [
+    elim (cases_lt b.base t.base) [
       | inl p ↦ ap (with_segment a) (entered_here start_of b t ts p) ∙ entered_first a b t ts h p
-      | inr q ↦ elim (cases_lt a.start t.start) [
+      | inr q ↦ elim (cases_lt a.base t.base) [
         | inl p ↦ sym (ap (with_segment b) (entered_here start_of a t ts p) ∙ entered_first b a t ts (λ e. h (sym e)) p)
         | inr r ↦ ap (with_segment a) (entered_past start_of b t ts q) ∙ entered_past start_of a t (with_segment b ts) r ∙ ap (λ xs. t ∷ xs) (entered-entered a b ts h) ∙ sym (ap (with_segment b) (entered_past start_of a t ts r) ∙ entered_past start_of b t (with_segment a ts) q)
       ]
@@ -42,7 +42,7 @@ length-segments (c ∷ cs) = length-entered start_of (segment_of c) (segments cs
 all_entered : (P : Segment → Type 0) (s : Segment) (ts : List Segment) → All P (with_segment s ts) → P s × All P ts
 all_entered P s [] h = (All-head P s [] h, All-nil P)
 all_entered P s (t ∷ ts) h =
-    elim (cases_lt s.start t.start) [
+    elim (cases_lt s.base t.base) [
       | inl p ↦ let k = subst (All P) (entered_here start_of s t ts p) h in (All-head P s (t ∷ ts) k, All-tail P s (t ∷ ts) k)
       | inr q ↦
           let k = subst (All P) (entered_past start_of s t ts q) h in
@@ -50,37 +50,37 @@ all_entered P s (t ∷ ts) h =
           (more.0, All-cons P t ts (All-head P t (with_segment s ts) k) more.1)
     ]
 
-apart_from : (x c : Content) (pages : ℕ) → x.units ≡ 512 * pages → IsWhole c → IsBeside x.base pages (segment_of c) → IsApartFrom x c
+apart_from : (x c : Content) (pages : ℕ) → x.units ≡ 512 * pages → IsWhole c → SegmentApart x.base pages (segment_of c) → ContentsApart x c
 apart_from x c pages size whole beside =
     elim beside [ inl p ↦ inr (omega (arith, whole.0)) | inr q ↦ inl (omega (arith, size)) ]
 
 -- a carrier that meets no taken segment meets no other carrier
-pub apart-contents : (x : Content) (pages : ℕ) (cs : List Content) → x.units ≡ 512 * pages → All IsWhole cs → IsApart x.base pages (segments cs) → All (IsApartFrom x) cs
-apart-contents x pages [] size whole apart = All-nil (IsApartFrom x)
+pub apart-contents : (x : Content) (pages : ℕ) (cs : List Content) → x.units ≡ 512 * pages → All IsWhole cs → AreFree x.base pages (segments cs) → All (ContentsApart x) cs
+apart-contents x pages [] size whole apart = All-nil (ContentsApart x)
 apart-contents x pages (c ∷ cs) size whole apart =
-    let both = all_entered (IsBeside x.base pages) (segment_of c) (segments cs) apart in
-    All-cons (IsApartFrom x) c cs
+    let both = all_entered (SegmentApart x.base pages) (segment_of c) (segments cs) apart in
+    All-cons (ContentsApart x) c cs
     (apart_from x c pages size (All-head IsWhole c cs whole) both.0)
     (apart-contents x pages cs size (All-tail IsWhole c cs whole) both.1)
 
-other_base : (x c : Content) → 1 ≤ x.units → IsWhole c → IsApartFrom x c → c.base ≢ x.base
+other_base : (x c : Content) → 1 ≤ x.units → IsWhole c → ContentsApart x c → c.base ≢ x.base
 other_base x c some whole apart = elim apart [ inl p ↦ λ e. omega (arith, some) | inr q ↦ λ e. omega (arith, whole.1) ]
 
 -- one more carrier is one more segment
-pub segments-with_content : (x : Content) (cs : List Content) → 1 ≤ x.units → All IsWhole cs → All (IsApartFrom x) cs → segments (with_content x cs) ≡ with_segment (segment_of x) (segments cs)
+pub segments-with_content : (x : Content) (cs : List Content) → 1 ≤ x.units → All IsWhole cs → All (ContentsApart x) cs → segments (with_content x cs) ≡ with_segment (segment_of x) (segments cs)
 segments-with_content x [] some whole apart = refl
 segments-with_content x (c ∷ cs) some whole apart =
     elim (cases_lt x.number c.number) [
       | inl p ↦ ap segments (entered_here number_of x c cs p)
       | inr q ↦ ap segments (entered_past number_of x c cs q)
-          ∙ ap (with_segment (segment_of c)) (segments-with_content x cs some (All-tail IsWhole c cs whole) (All-tail (IsApartFrom x) c cs apart))
-          ∙ entered-entered (segment_of c) (segment_of x) (segments cs) (other_base x c some (All-head IsWhole c cs whole) (All-head (IsApartFrom x) c cs apart))
+          ∙ ap (with_segment (segment_of c)) (segments-with_content x cs some (All-tail IsWhole c cs whole) (All-tail (ContentsApart x) c cs apart))
+          ∙ entered-entered (segment_of c) (segment_of x) (segments cs) (other_base x c some (All-head IsWhole c cs whole) (All-head (ContentsApart x) c cs apart))
     ]
 
 any_entered : (P : Segment → Type 0) (s : Segment) (ts : List Segment) → P s → Any P (with_segment s ts)
 any_entered P s [] p = any_here P s [] p
 any_entered P s (t ∷ ts) p =
-    elim (cases_lt s.start t.start) [
+    elim (cases_lt s.base t.base) [
       | inl lt ↦ subst (Any P) (sym (entered_here start_of s t ts lt)) (any_here P s (t ∷ ts) p)
       | inr le ↦ subst (Any P) (sym (entered_past start_of s t ts le)) (any_later P t (with_segment s ts) (any_entered P s ts p))
     ]
@@ -88,7 +88,7 @@ any_entered P s (t ∷ ts) p =
 any_among : (P : Segment → Type 0) (s : Segment) (ts : List Segment) → Any P ts → Any P (with_segment s ts)
 any_among P s [] h = any_later P s [] h
 any_among P s (t ∷ ts) h =
-    elim (cases_lt s.start t.start) [
+    elim (cases_lt s.base t.base) [
       | inl lt ↦ subst (Any P) (sym (entered_here start_of s t ts lt)) (any_later P s (t ∷ ts) h)
       | inr le ↦ subst (Any P) (sym (entered_past start_of s t ts le)) (elim (any_cases P t ts h.0 h.1 h.2 h.3 h.4) [
         | inl p ↦ any_here P t (with_segment s ts) p
@@ -113,69 +113,69 @@ content_of-IsTail number c (x ∷ xs) there whole =
     ]
 
 -- of segments laid with one more, that one begins behind the beginning and has pages, and the others are laid without it
-laid_entered : (at end : ℕ) (s : Segment) (ts : List Segment) → Laid at end (with_segment s ts) → (at ≤ s.start) × (0 < s.pages) × Laid at end ts
+laid_entered : (at end : ℕ) (s : Segment) (ts : List Segment) → Laid at end (with_segment s ts) → (at ≤ s.base) × (0 < s.pages) × Laid at end ts
 laid_entered at end s [] t = (t.0, t.1, omega (arith, t.0, t.2))
 laid_entered at end s (r ∷ rs) t =
-    elim (cases_lt s.start r.start) [
+    elim (cases_lt s.base r.base) [
       | inl lt ↦ let l = subst (Laid at end) (entered_here start_of s r rs lt) t in (l.0, l.1, (omega (arith, l.0), l.2.1, l.2.2))
       | inr le ↦
           let l = subst (Laid at end) (entered_past start_of s r rs le) t in
-          let more = laid_entered (r.start + r.pages) end s rs l.2 in
+          let more = laid_entered (r.base + r.pages) end s rs l.2 in
           (omega (arith, l.0), more.1, (l.0, l.1, more.2))
     ]
 
-covers_start : (s : Segment) → 0 < s.pages → covers s.start s ≡ true
-covers_start s h = elim (covers_cases s.start s) [ inl p ↦ p.2 | inr q ↦ absurd (elim q.0 [ inl b ↦ omega arith | inr b ↦ omega arith ]) ]
+covers_start : (s : Segment) → 0 < s.pages → covers s.base s ≡ true
+covers_start s h = elim (covers_cases s.base s) [ inl p ↦ p.2 | inr q ↦ absurd (elim q.0 [ inl b ↦ omega arith | inr b ↦ omega arith ]) ]
 
-cut_whole : (at end : ℕ) (s : Segment) (ts : List Segment) → Laid at end (s ∷ ts) → cut_from s.start (s ∷ ts) ≡ ts
+cut_whole : (at end : ℕ) (s : Segment) (ts : List Segment) → Laid at end (s ∷ ts) → cut_from s.base (s ∷ ts) ≡ ts
 cut_whole at end s ts t =
-    cut_first at end s.start s ts t (omega (arith, t.1)) (covers_start s t.1) ∙ ap (λ xs. xs ++ ts) (stretch_none s.start s.start (omega arith))
+    cut_first at end s.base s ts t (omega (arith, t.1)) (covers_start s t.1) ∙ ap (λ xs. xs ++ ts) (stretch_none s.base s.base (omega arith))
 
 -- the segment that was with_segment is cut out again
-cut_entered : (at end : ℕ) (s : Segment) (ts : List Segment) → Laid at end (with_segment s ts) → cut_from s.start (with_segment s ts) ≡ ts
+cut_entered : (at end : ℕ) (s : Segment) (ts : List Segment) → Laid at end (with_segment s ts) → cut_from s.base (with_segment s ts) ≡ ts
 cut_entered at end s [] t = cut_whole at end s [] t
 cut_entered at end s (r ∷ rs) t =
-    elim (cases_lt s.start r.start) [
-      | inl lt ↦ ap (cut_from s.start) (entered_here start_of s r rs lt) ∙ cut_whole at end s (r ∷ rs) (subst (Laid at end) (entered_here start_of s r rs lt) t)
+    elim (cases_lt s.base r.base) [
+      | inl lt ↦ ap (cut_from s.base) (entered_here start_of s r rs lt) ∙ cut_whole at end s (r ∷ rs) (subst (Laid at end) (entered_here start_of s r rs lt) t)
       | inr le ↦
           let l = subst (Laid at end) (entered_past start_of s r rs le) t in
-          let behind = (laid_entered (r.start + r.pages) end s rs l.2).0 in
-          elim (covers_cases s.start r) [
+          let behind = (laid_entered (r.base + r.pages) end s rs l.2).0 in
+          elim (covers_cases s.base r) [
             | inl p ↦ absurd (omega arith)
-            | inr q ↦ ap (cut_from s.start) (entered_past start_of s r rs le) ∙ cut_past s.start r (with_segment s rs) q.1 ∙ ap (λ xs. r ∷ xs) (cut_entered (r.start + r.pages) end s rs l.2)
+            | inr q ↦ ap (cut_from s.base) (entered_past start_of s r rs le) ∙ cut_past s.base r (with_segment s rs) q.1 ∙ ap (λ xs. r ∷ xs) (cut_entered (r.base + r.pages) end s rs l.2)
           ]
     ]
 
 -- a segment before all others is with_segment as the first
-entered_front : (at end : ℕ) (s : Segment) (ts : List Segment) → Laid at end ts → s.start < at → with_segment s ts ≡ s ∷ ts
+entered_front : (at end : ℕ) (s : Segment) (ts : List Segment) → Laid at end ts → s.base < at → with_segment s ts ≡ s ∷ ts
 entered_front at end s [] t h = refl
 entered_front at end s (r ∷ rs) t h = entered_here start_of s r rs (omega (arith, t.0))
 
-entered_stretch : (a b : ℕ) (s : Segment) (ts : List Segment) → a ≤ s.start → with_segment s (stretch a b ++ ts) ≡ stretch a b ++ with_segment s ts
+entered_stretch : (a b : ℕ) (s : Segment) (ts : List Segment) → a ≤ s.base → with_segment s (stretch a b ++ ts) ≡ stretch a b ++ with_segment s ts
 entered_stretch a b s ts h = elim (cases_lt a b) [ inl lt ↦ grind arith | inr le ↦ grind arith ]
 
 -- an entry and the cut of another segment may be done in either order
 cut_other : (at end page pages : ℕ) (s : Segment) (ts : List Segment) → Laid at end (with_segment s ts) → IsTail page pages ts → cut_from page (with_segment s ts) ≡ with_segment s (cut_from page ts)
 cut_other at end page pages s [] t h = absurd (omega (arith, h.2))
 cut_other at end page pages s (r ∷ rs) t h =
-    elim (cases_lt s.start r.start) [
+    elim (cases_lt s.base r.base) [
       | inl lt ↦
           let l = subst (Laid at end) (entered_here start_of s r rs lt) t in
-          let later : Laid r.start end (r ∷ rs) = (omega arith, l.2.1, l.2.2) in
-          let behind = IsTail_behind r.start end page pages (r ∷ rs) later h in
+          let later : Laid r.base end (r ∷ rs) = (omega arith, l.2.1, l.2.2) in
+          let behind = IsTail_behind r.base end page pages (r ∷ rs) later h in
           elim (covers_cases page s) [
             | inl p ↦ absurd (omega (arith, l.2.0))
-            | inr q ↦ ap (cut_from page) (entered_here start_of s r rs lt) ∙ cut_past page s (r ∷ rs) q.1 ∙ sym (entered_front r.start end s (cut_from page (r ∷ rs)) (Laid-cut r.start end page (r ∷ rs) later) lt)
+            | inr q ↦ ap (cut_from page) (entered_here start_of s r rs lt) ∙ cut_past page s (r ∷ rs) q.1 ∙ sym (entered_front r.base end s (cut_from page (r ∷ rs)) (Laid-cut r.base end page (r ∷ rs) later) lt)
           ]
       | inr le ↦
           let l = subst (Laid at end) (entered_past start_of s r rs le) t in
           elim (covers_cases page r) [
             | inl p ↦
-                let rest : Laid at end (r ∷ rs) = (l.0, l.1, (laid_entered (r.start + r.pages) end s rs l.2).2) in
-                ap (cut_from page) (entered_past start_of s r rs le) ∙ cut_first at end page r (with_segment s rs) l p.1 p.2 ∙ sym (entered_stretch r.start page s rs le) ∙ ap (with_segment s) (sym (cut_first at end page r rs rest p.1 p.2))
+                let rest : Laid at end (r ∷ rs) = (l.0, l.1, (laid_entered (r.base + r.pages) end s rs l.2).2) in
+                ap (cut_from page) (entered_past start_of s r rs le) ∙ cut_first at end page r (with_segment s rs) l p.1 p.2 ∙ sym (entered_stretch r.base page s rs le) ∙ ap (with_segment s) (sym (cut_first at end page r rs rest p.1 p.2))
             | inr q ↦ elim (IsTail_cases page pages r rs h) [
               | inl p ↦ absurd (elim q.0 [ inl b ↦ omega (arith, p.within) | inr b ↦ omega (arith, p.some, p.to_end) ])
-              | inr more ↦ ap (cut_from page) (entered_past start_of s r rs le) ∙ cut_past page r (with_segment s rs) q.1 ∙ ap (λ xs. r ∷ xs) (cut_other (r.start + r.pages) end page pages s rs l.2 more) ∙ sym (ap (with_segment s) (cut_past page r rs q.1) ∙ entered_past start_of s r (cut_from page rs) le)
+              | inr more ↦ ap (cut_from page) (entered_past start_of s r rs le) ∙ cut_past page r (with_segment s rs) q.1 ∙ ap (λ xs. r ∷ xs) (cut_other (r.base + r.pages) end page pages s rs l.2 more) ∙ sym (ap (with_segment s) (cut_past page r rs q.1) ∙ entered_past start_of s r (cut_from page rs) le)
             ]
           ]
     ]

@@ -1,7 +1,7 @@
 -- What calls of an instance answer.
 use Rattle.std.specs.Prelude.{ℕ, Option, Some, None, if◌then◌else◌}
 use Rattle.ea_model.specs.declared.carriers.Spot.{Spot}
-use Rattle.ea_model.specs.Content.{Content, is_done}
+use Rattle.ea_model.specs.Content.{Content, is_empty_multi}
 use Rattle.ea_model.specs.Instance.{Instance, placing_at}
 use Rattle.ea_instance.specs.declared.released.Released.{Released}
 use Rattle.ea_instance.specs.declared.released.Released.TheVariants.{Kept, EmptyOwn}
@@ -14,4 +14,4 @@ placing_if i (Some spot) need name = placing_at i spot need name
 -- what is to follow a release in this content: a multiblock carrier without blocks is cleared
 abbrev pub follow_up : Option Content → Released
 follow_up None = Kept
-follow_up (Some c) = if is_done c then EmptyOwn else Kept
+follow_up (Some c) = if is_empty_multi c then EmptyOwn else Kept

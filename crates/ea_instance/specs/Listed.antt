@@ -6,7 +6,7 @@ use Rattle.ea_model.specs.declared.settings.Strategy.{Strategy}
 use Rattle.ea_model.specs.declared.settings.Strategy.TheVariants.{Gf}
 use Rattle.ea_model.specs.declared.carriers.Inner.{Inner}
 use Rattle.ea_model.specs.declared.carriers.Candidate.{Candidate}
-use Rattle.ea_model.specs.Content.{Content, gaps_of, largest, Tiled}
+use Rattle.ea_model.specs.Content.{Content, gaps_of, largest}
 use Rattle.ea_model.specs.Choice.{choice}
 use Rattle.ea_model.specs.Strategies.{candidate, candidates}
 use Rattle.ea_model.specs.Instance.{content_of}
@@ -14,7 +14,7 @@ use Rattle.ea_cset.specs.declared.keys.Held.{Held}
 use Rattle.ea_cset.specs.Carriers.{Carriers}
 use Rattle.ea_goodfit.specs.declared.gaps.Gap.{Gap}
 use Rattle.ea_goodfit.specs.Gaps.{HeldGaps}
-use Rattle.ea_instance.specs.Kinds.{is_shared}
+use Rattle.ea_laws.specs.Kept.{ContentsApart, IsLaidOut}
 
 -- the carriers of an instance by rising number, and the strategy that chooses among their gaps
 pub record CarrierList : Type 0 where
@@ -56,22 +56,12 @@ pub record CanJoin (held : List Gap) (address before size behind : ℕ) : Type 0
   pub order : IsPermutation held (gap_from (address - before) before ++ (gap_from (address + size) behind ++ rest))
   pub free : All (λ g. g.address ≢ address - before) rest
 
--- a carrier may have many blocks, these lie in order, and it ends within 2^26 units, the largest super carrier
-pub record IsSound (c : Content) : Type 0 where
-  pub shared : is_shared c.kind ≡ true
-  pub tiled : Tiled 8 c.units c.blocks
-  pub low : 512 * c.base + c.units ≤ 67108864
-
--- two carriers don't meet
-abbrev pub IsApartFrom : Content → Content → Type 0
-IsApartFrom c d = (512 * c.base + c.units ≤ 512 * d.base) ⊎ (512 * d.base + d.units ≤ 512 * c.base)
-
 -- the set holds the carriers and has room for all numbers, and under good fit the bins hold all gaps
 pub record IsListed (strategy : Strategy) (list : List Content) (set : Carriers) (bins : HeldGaps) : Type 0 where
   pub held : set.held ≡ map held_of list
   pub room : set.room ≡ 256
-  pub sound : All IsSound list
-  pub apart : AllPairs IsApartFrom list
+  pub sound : All IsLaidOut list
+  pub apart : AllPairs ContentsApart list
   pub binned : strategy ≡ Gf → IsPermutation bins.held (all_gaps list)
 
 -- the gap that is chosen in a carrier

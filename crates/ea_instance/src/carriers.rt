@@ -5,23 +5,24 @@ ghost use Rattle.ea_model.specs.declared.carriers.Spot.{Spot};
 ghost use Rattle.ea_model.specs.declared.settings.Strategy.TheVariants.{Gf, Af};
 ghost use Rattle.ea_model.specs.Content.{Content, placed, released};
 ghost use Rattle.ea_model.specs.Choice.{first};
-ghost use Rattle.ea_model.specs.Strategies.{candidates, choice_among, choice_unused, inner_of, large_enough, may_miss, or_else};
+ghost use Rattle.ea_model.specs.Strategies.{candidates, choice_among, choice_empty, inner_of, large_enough, may_miss, or_else};
 ghost use Rattle.ea_model.specs.Instance.{changed, content_of, block_in, is_used, size_for, with_content, without_content};
-ghost use Rattle.ea_instance.specs.Kinds.{is_shared};
-ghost use Rattle.ea_instance.specs.Listed.{candidate_in, IsApartFrom, IsSound};
+ghost use Rattle.ea_laws.specs.Kinds.{is_shared};
+ghost use Rattle.ea_laws.specs.Kept.{ContentsApart, IsLaidOut};
+ghost use Rattle.ea_instance.specs.Listed.{candidate_in};
 ghost use Rattle.ea_instance.specs.Orders.{is_better};
-ghost use Rattle.ea_instance.specs.Found.{HasGap, IsOther};
-ghost use Rattle.ea_instance.specs.Kept.{IsRising};
+ghost use Rattle.ea_laws.specs.Spots.{HasGap, IsOther};
+ghost use Rattle.ea_laws.specs.Kept.{IsRising};
 
 use crate::binned::{
     gap_in, gaps_beside, make_room, note_entered, note_left, note_placed, note_released,
 };
 use crate::employed::Employed;
 use crate::strategies::{Order, inner_of, order_of};
-use crate::walks::{best_candidate, candidate_at, lowest_unused};
+use crate::walks::{best_candidate, candidate_at, lowest_empty};
 use ea_cset::CarrierSet;
 use ea_goodfit::{Bins, Gap};
-use ea_model::keyed::{enter, item_of, place_of, take_out};
+use ea_model::keyed::{enter, item_of, index_of, take_out};
 use ea_model::{Candidate, HEADER_UNITS, Inner, NUMBERS, OutOfMemory, Strategy};
 use std::alloc::Global;
 use std::marker::Model;
@@ -64,8 +65,8 @@ impl Carriers {
     /// The carriers, by rising number.
     pub fn as_slice(&self) -> &[Employed]
         ensures carriers { result.now ≡ self.now.contents }
-        ensures sound { All IsSound self.now.contents }
-        ensures apart { AllPairs IsApartFrom self.now.contents }
+        ensures sound { All IsLaidOut self.now.contents }
+        ensures apart { AllPairs ContentsApart self.now.contents }
     {
         &self.list
     }
@@ -75,15 +76,15 @@ impl Carriers {
     pub fn chosen(&self, need: u32, depth: u32) -> Option<Candidate>
         requires rising { IsRising self.now.contents }
         requires some { 1 ≤ need }
-        ensures chosen { result ≡ or_else (may_miss self.now.strategy) (choice_among self.now.strategy depth need self.now.contents) (choice_unused need self.now.contents) }
+        ensures chosen { result ≡ or_else (may_miss self.now.strategy) (choice_among self.now.strategy depth need self.now.contents) (choice_empty need self.now.contents) }
         ensures gap { IfSome result (λ x. HasGap need x.number x.offset self.now.contents) }
     {
         match order_of(self.strategy) {
             Order::Gaps => self.best(need),
             Order::Address => self.candidate_in(self.set.first_by_address(need), need),
             Order::Age => self.candidate_in(self.set.first_by_age(need), need),
-            Order::Bins => self.or_unused(self.inspected(need, depth), need),
-            Order::Lowest => self.or_unused(self.lowest(need), need),
+            Order::Bins => self.or_empty(self.inspected(need, depth), need),
+            Order::Lowest => self.or_empty(self.lowest(need), need),
         }
     }
 
@@ -131,17 +132,17 @@ impl Carriers {
     }
 
     /// What was found, or else the gap of a carrier that was created where nothing was.
-    fn or_unused(&self, found: Option<Candidate>, need: u32) -> Option<Candidate>
+    fn or_empty(&self, found: Option<Candidate>, need: u32) -> Option<Candidate>
         requires rising { IsRising self.now.contents }
         requires some { 1 ≤ need }
         requires gap { IfSome found (λ x. HasGap need x.number x.offset self.now.contents) }
-        ensures chosen { result ≡ or_else true found (choice_unused need self.now.contents) }
+        ensures chosen { result ≡ or_else true found (choice_empty need self.now.contents) }
         ensures gap { IfSome result (λ x. HasGap need x.number x.offset self.now.contents) }
     {
         if found.is_some() {
             return found;
         }
-        lowest_unused(need, &self.list)
+        lowest_empty(need, &self.list)
     }
 
     /// Places a block in the carrier with the number, at the front of the gap at the offset, and answers
@@ -164,7 +165,7 @@ impl Carriers {
         ensures begins { IfOk result (λ size. block_in self.new.contents (record { carrier = number; offset = offset }) ≡ Some (record { name = name; offset = offset; size = size })) }
         ensures others { (at : Spot) → IsOther number offset at → block_in self.new.contents at ≡ block_in self.old.contents at }
     {
-        let place = place_of(number, &self.list);
+        let place = index_of(number, &self.list);
         let whole = gap_in(self.strategy, &self.list[place], offset);
         let size = self.list[place].place(offset, need, name)?;
         self.set.update(number, self.list[place].largest());
@@ -181,7 +182,7 @@ impl Carriers {
         ensures err { OnErr result (self.new ≡ self.old) }
         ensures others { (at : Spot) → IsOther number offset at → block_in self.new.contents at ≡ block_in self.old.contents at }
     {
-        let place = place_of(number, &self.list);
+        let place = index_of(number, &self.list);
         let beside = gaps_beside(self.strategy, &self.list[place], offset);
         make_room(self.strategy, &mut self.bins)?;
         let size = self.list[place].release(offset)?;
@@ -195,7 +196,7 @@ impl Carriers {
     pub fn enter(&mut self, carrier: Employed) -> Result<(), OutOfMemory>
         requires room { length self.old.contents < 256 }
         requires number { is_used carrier.number self.old.contents ≡ false }
-        requires apart { All (IsApartFrom carrier) self.old.contents }
+        requires apart { All (ContentsApart carrier) self.old.contents }
         requires low { 512 * carrier.base + carrier.units ≤ 67108864 }
         requires shared { is_shared carrier.kind ≡ true }
         requires empty { carrier.blocks ≡ [] }

@@ -1,13 +1,13 @@
 //! A carrier that an instance employs.
 ghost use Rattle.std.specs.Prelude.{◌≡◌, ◌≢◌, ℕ, ◌+◌, ◌*◌, ◌%◌, ◌<◌, ◌≤◌, ◌↔◌, IsTrue, IsSome, IfSome, IfOk, OnOk, OnErr, Some, None, true, length, map, option_map};
-ghost use Rattle.ea_model.specs.Content.{gaps_of, gap_at, gap_before, gap_behind, block_at, named, taken_of, placed, released, allocated, free_units, largest, Tiled, is_done, is_multi};
+ghost use Rattle.ea_model.specs.Content.{gaps_of, gap_at, gap_before, gap_behind, block_at, named, taken_of, placed, released, allocated, free_units, largest, Tiled, is_empty_multi, is_multi};
 ghost use Rattle.ea_mbc.specs.Gaps.{GapTaken, GapsJoined};
 ghost use Rattle.ea_model.specs.Choice.{choice};
 ghost use Rattle.ea_model.specs.Strategies.{candidate, candidates_in};
-ghost use Rattle.ea_model.specs.Text.{carrier_line};
-ghost use Rattle.ea_instance.specs.Kinds.{is_shared};
+ghost use Rattle.ea_model.specs.Instance.{carrier_line};
+ghost use Rattle.ea_laws.specs.Kinds.{is_shared};
 ghost use Rattle.ea_instance.specs.Listed.{held_of, spans, candidate_of};
-ghost use Rattle.ea_instance.specs.Found.{IsGapOf};
+ghost use Rattle.ea_laws.specs.Spots.{IsGapOf};
 
 use ea_cset::CarrierKey;
 use ea_goodfit::Gap;
@@ -28,7 +28,7 @@ pub struct Employed {
 impl Model for Employed {
     ghost use Rattle.std.specs.Prelude.{◌≡◌, true};
     ghost use Rattle.ea_model.specs.Content.{Content};
-    ghost use Rattle.ea_instance.specs.Kinds.{is_shared};
+    ghost use Rattle.ea_laws.specs.Kinds.{is_shared};
 
     ghost Value = { Content };
 
@@ -227,8 +227,8 @@ impl Employed {
     }
 
     /// Whether it is to be deallocated: it has no blocks and isn't the main carrier.
-    pub fn is_done(&self) -> bool
-        ensures { result ≡ is_done self.now }
+    pub fn is_empty_multi(&self) -> bool
+        ensures { result ≡ is_empty_multi self.now }
     {
         self.is_multi() && self.carrier.is_empty()
     }

@@ -3,18 +3,18 @@ ghost use Rattle.std.specs.Prelude.{◌≡◌, ℕ, ◌+◌, ◌*◌, ◌/◌, �
 ghost use Rattle.ea_model.specs.declared.carriers.Kind.TheVariants.{Multi};
 ghost use Rattle.ea_model.specs.declared.carriers.Spot.{Spot};
 ghost use Rattle.ea_model.specs.declared.carriers.CarrierPlan.{CarrierPlan};
-ghost use Rattle.ea_model.specs.Content.{named, free_units, gaps_of, is_done};
+ghost use Rattle.ea_model.specs.Content.{named, free_units, gaps_of, is_empty_multi};
 ghost use Rattle.ea_model.specs.declared.entries.NoCarrier.TheVariants.{Numbers, Space};
 ghost use Rattle.ea_model.specs.Choice.{IsFirst};
 ghost use Rattle.ea_model.specs.Region.{runs};
 ghost use Rattle.ea_model.specs.Settings.{IsValid};
-ghost use Rattle.ea_model.specs.Strategies.{candidates, choice_among, choice_unused, large_enough, looked_at, lower, may_miss, takes_first};
-ghost use Rattle.ea_model.specs.Text.{carrier_line};
+ghost use Rattle.ea_model.specs.Strategies.{candidates, choice_among, choice_empty, large_enough, inspected_by, lower, may_miss, takes_first};
+ghost use Rattle.ea_model.specs.Instance.{carrier_line};
 ghost use Rattle.ea_model.specs.Instance.{main_content, new_instance, growth, multis, unused_from, plan, created_content, creating, chosen_spot, place_at, releasing_at, clearing, content_of, block_in, segments, least_pages};
 ghost use Rattle.ea_model.specs.Instance as instances;
 ghost use Rattle.ea_instance.specs.Answers.{placing_if, follow_up};
-ghost use Rattle.ea_instance.specs.InOrder.{IsInOrder};
-ghost use Rattle.ea_instance.specs.Found.{AllUsed, FindsNone, HaveSameBlocks, IsOther, IsPlaced};
+ghost use Rattle.ea_laws.specs.InOrder.{IsInOrder};
+ghost use Rattle.ea_laws.specs.Spots.{AllUsed, FindsNone, HaveSameBlocks, IsOther, IsPlaced};
 
 use crate::carriers::Carriers;
 use crate::employed::Employed;
@@ -44,7 +44,7 @@ pub struct Instance {
 
 impl Model for Instance {
     ghost use Rattle.ea_model.specs.Instance.{Instance};
-    ghost use Rattle.ea_instance.specs.Kept.{IsKept};
+    ghost use Rattle.ea_instance.specs.Kept.{KeepsCarriers};
 
     ghost Value = { Instance };
 
@@ -107,7 +107,7 @@ fn follow_up(number: u32, carriers: &[Employed]) -> Released
     ensures { result ≡ Rattle.ea_instance.specs.Answers.follow_up (content_of carriers.now number) }
 {
     match item_of(number, carriers) {
-        Some(carrier) if carrier.is_done() => Released::EmptyOwn,
+        Some(carrier) if carrier.is_empty_multi() => Released::EmptyOwn,
         _ => Released::Kept,
     }
 }
@@ -210,9 +210,9 @@ impl Instance {
 
         // Of what it looks at and that has, none comes before the chosen one; of those carriers, none lies lower.
         ensures first { IfSome (choice_among self.old.settings.strategy self.old.settings.mbsd need self.old.contents)
-            (IsFirst (takes_first self.old.settings.strategy) (large_enough need (looked_at self.old.settings.strategy self.old.settings.mbsd (candidates self.old.contents)))) }
-        ensures unused { IfSome (choice_unused need self.old.contents)
-            (IsFirst lower (large_enough need (candidates (filter is_done self.old.contents)))) }
+            (IsFirst (takes_first self.old.settings.strategy) (large_enough need (inspected_by self.old.settings.strategy self.old.settings.mbsd (candidates self.old.contents)))) }
+        ensures unused { IfSome (choice_empty need self.old.contents)
+            (IsFirst lower (large_enough need (candidates (filter is_empty_multi self.old.contents)))) }
 
         // It lies where no block began, and other blocks stay.
         ensures blocks { IfOk result (λ found. IfSome found (λ place. IsPlaced self.old.contents self.new.contents name place)) }
@@ -357,7 +357,7 @@ impl Instance {
 
     /// Deallocates a carrier without blocks other than the main one: its number and pages are free again.
     pub fn clear(&mut self, number: u32)
-        requires { IfSome (content_of self.old.contents number) (λ c. is_done c ≡ true) × IsSome (content_of self.old.contents number) }
+        requires { IfSome (content_of self.old.contents number) (λ c. is_empty_multi c ≡ true) × IsSome (content_of self.old.contents number) }
         ensures cleared { self.new ≡ clearing self.old number }
         ensures blocks { HaveSameBlocks self.old.contents self.new.contents }
     {

@@ -1,8 +1,6 @@
 //! One allocator instance: the carriers that it employs and the pages of its region.
 #![tactic(auto)]
 
-#[cfg(test)]
-mod against_plain;
 mod binned;
 mod carriers;
 mod employed;

@@ -1,10 +1,10 @@
 //! Walks over the carriers of an instance, by rising number.
 ghost use Rattle.std.specs.Prelude.{◌≡◌, ◌+◌, ◌^◌, ◌<◌, ◌≤◌, IfSome, All, Any, length};
 ghost use Rattle.ea_model.specs.Choice.{first};
-ghost use Rattle.ea_model.specs.Strategies.{candidates, choice_unused, large_enough};
+ghost use Rattle.ea_model.specs.Strategies.{candidates, choice_empty, large_enough};
 ghost use Rattle.ea_model.specs.Instance.{unused_from, multis};
-ghost use Rattle.ea_instance.specs.Found.{IsGapOf};
-ghost use Rattle.ea_instance.specs.Listed.{IsSound};
+ghost use Rattle.ea_laws.specs.Spots.{IsGapOf};
+ghost use Rattle.ea_laws.specs.Kept.{IsLaidOut};
 ghost use Rattle.ea_instance.specs.Orders.{is_better};
 
 use crate::employed::Employed;
@@ -27,14 +27,14 @@ pub fn best_candidate(inner: Inner, need: u32, carriers: &[Employed]) -> Option<
 }
 
 /// The gap of at least `need` units of the lowest multiblock carrier without blocks.
-pub fn lowest_unused(need: u32, carriers: &[Employed]) -> Option<Candidate>
+pub fn lowest_empty(need: u32, carriers: &[Employed]) -> Option<Candidate>
     requires { 1 ≤ need }
-    ensures chosen { result ≡ choice_unused need carriers.now }
+    ensures chosen { result ≡ choice_empty need carriers.now }
     ensures fits { IfSome result (λ x. Any (IsGapOf need x) carriers.now) }
 {
     let mut best = None;
     for carrier in carriers {
-        if carrier.is_done() {
+        if carrier.is_empty_multi() {
             best = better_of(Inner::Aoff, best, carrier.candidate(Inner::Aoff, need));
         }
     }
@@ -43,7 +43,7 @@ pub fn lowest_unused(need: u32, carriers: &[Employed]) -> Option<Candidate>
 
 /// The gap of the bins, as one of the carrier that spans it.
 pub fn candidate_at(gap: Gap, carriers: &[Employed]) -> Option<Candidate>
-    requires { All IsSound carriers.now }
+    requires { All IsLaidOut carriers.now }
     ensures { result ≡ Rattle.ea_instance.specs.Listed.candidate_at gap carriers.now }
 {
     for carrier in carriers {

@@ -8,7 +8,7 @@ use Rattle.std.proofs.lemmas.List.Kept.{AllPairs-cons}
 use Rattle.std.proofs.lemmas.List.Folds.{find_at}
 use Rattle.std.proofs.lemmas.Option.{slice_get-get_or}
 use Rattle.ea_model.proofs.Pairs.{pairs_head, pairs_tail, pairs_map}
-use Rattle.ea_model.specs.Keyed.{has_key, is_behind, item_at, entered, without, changed_at, IsBelow}
+use Rattle.ea_model.specs.Keyed.{has_key, is_after, item_at, entered, without, changed_at, IsBelow}
 
 insert_cons : {A : Type 0} (x y : A) (ys : List A) (n : ℕ) → insert (y ∷ ys) (1 + n) x ≡ y ∷ insert ys n x
 insert_cons x y ys n = let e : 1 + n ≡ suc n = omega arith in rw e refl
@@ -35,20 +35,20 @@ module _ {A : Type 0} (key_of : A → ℕ) where
   pub entered_past : (x y : A) (ys : List A) → key_of y ≤ key_of x → entered key_of x (y ∷ ys) ≡ y ∷ entered key_of x ys
   entered_past x y ys le = grind arith
 
-  behind_first : (key : ℕ) (y : A) (ys : List A) → key < key_of y → position_or_len (is_behind key_of key) (y ∷ ys) ≡ 0
+  behind_first : (key : ℕ) (y : A) (ys : List A) → key < key_of y → position_or_len (is_after key_of key) (y ∷ ys) ≡ 0
   behind_first key y ys lt = grind arith
 
-  behind_past : (key : ℕ) (y : A) (ys : List A) → key_of y ≤ key → position_or_len (is_behind key_of key) (y ∷ ys) ≡ 1 + position_or_len (is_behind key_of key) ys
+  behind_past : (key : ℕ) (y : A) (ys : List A) → key_of y ≤ key → position_or_len (is_after key_of key) (y ∷ ys) ≡ 1 + position_or_len (is_after key_of key) ys
   behind_past key y ys le = grind arith
 
   -- putting an item before the first one of a greater key enters it
-  pub insert-entered : (x : A) (ys : List A) → insert ys (position_or_len (is_behind key_of (key_of x)) ys) x ≡ entered key_of x ys
+  pub insert-entered : (x : A) (ys : List A) → insert ys (position_or_len (is_after key_of (key_of x)) ys) x ≡ entered key_of x ys
   insert-entered x [] = refl
   insert-entered x (y ∷ ys) =
       elim (cases_lt (key_of x) (key_of y)) [
         | inl lt ↦ ap (λ n. insert (y ∷ ys) n x) (behind_first (key_of x) y ys lt) ∙ sym (entered_here x y ys lt)
         | inr le ↦
-            ap (λ n. insert (y ∷ ys) n x) (behind_past (key_of x) y ys le) ∙ insert_cons x y ys (position_or_len (is_behind key_of (key_of x)) ys)
+            ap (λ n. insert (y ∷ ys) n x) (behind_past (key_of x) y ys le) ∙ insert_cons x y ys (position_or_len (is_after key_of (key_of x)) ys)
             ∙ ap (λ zs. y ∷ zs) (insert-entered x ys) ∙ sym (entered_past x y ys le)
       ]
 

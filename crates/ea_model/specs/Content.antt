@@ -97,8 +97,8 @@ is_nil [] = true
 is_nil (b ∷ bs) = false
 
 -- whether a multiblock carrier has no blocks; the main carrier stays
-abbrev pub is_done : Content → Bool
-is_done c = is_multi c.kind && is_nil c.blocks
+abbrev pub is_empty_multi : Content → Bool
+is_empty_multi c = is_multi c.kind && is_nil c.blocks
 
 -- a gap is empty, or has an even number of units, 6 at least
 pub record IsGapSize (n : ℕ) : Type 0 where

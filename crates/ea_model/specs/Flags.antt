@@ -5,6 +5,7 @@ use Rattle.ea_model.specs.declared.settings.Strategy.TheVariants.{Bf, Aobf, Aoff
 use Rattle.ea_model.specs.declared.settings.Settings.{Settings}
 use Rattle.ea_model.specs.declared.settings.Config.{Config}
 use Rattle.ea_model.specs.Words.{number}
+use Rattle.ea_model.specs.Settings.{region_pages}
 use Rattle.ea_model.specs.Instance.{pages_for}
 
 -- a flag with its value
@@ -111,10 +112,6 @@ config_of c = record {
   s = default_settings;
   t = record default_settings { acul = 0 };
 }
-
--- the pages of the region of the one instance; a megabyte has 256
-abbrev pub region_pages : Config → ℕ
-region_pages c = c.scs * 256 / c.schedulers
 
 -- the main carrier fits the region
 abbrev pub fitting_config : Config → Result Config Refusal

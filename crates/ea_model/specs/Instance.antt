@@ -1,6 +1,7 @@
 -- An allocator instance: the carriers that it employs, and the carrier that it would create next.
 use Rattle.std.specs.Prelude.{ℕ, zero, suc, ◌+◌, ◌-◌, ◌*◌, ◌/◌, max, Bool, false, if◌then◌else◌, nat_lt, nat_le, List, [], ◌∷◌, Option, Some, None, Result, Ok, Err, filter, length, sum_by, option_map, is_some}
 use Rattle.std.specs.Option.{option_and_then}
+use Rattle.ea_model.specs.declared.settings.Config.{Config}
 use Rattle.ea_model.specs.declared.settings.Settings.{Settings}
 use Rattle.ea_model.specs.declared.carriers.Kind.{Kind}
 use Rattle.ea_model.specs.declared.carriers.Kind.TheVariants.{Main, Multi}
@@ -10,9 +11,13 @@ use Rattle.ea_model.specs.declared.carriers.BlockAt.{BlockAt}
 use Rattle.ea_model.specs.declared.carriers.Segment.{Segment}
 use Rattle.ea_model.specs.declared.carriers.CarrierPlan.{CarrierPlan}
 use Rattle.ea_model.specs.declared.carriers.Figures.{Figures}
+use Rattle.ea_model.specs.declared.carriers.CarrierLine.{CarrierLine}
+use Rattle.ea_model.specs.declared.carriers.Totals.{Totals}
+use Rattle.ea_model.specs.declared.carriers.Standing.TheVariants as standing
+use Rattle.ea_model.specs.Settings.{region_pages}
 use Rattle.ea_model.specs.declared.entries.NoCarrier.{NoCarrier}
 use Rattle.ea_model.specs.declared.entries.NoCarrier.TheVariants.{Numbers, Space}
-use Rattle.ea_model.specs.Content.{Content, gaps_of, gap_at, block_at, taken_of, placed, released, allocated, is_multi}
+use Rattle.ea_model.specs.Content.{Content, gaps_of, gap_at, block_at, taken_of, placed, released, allocated, largest, free_units, is_multi}
 use Rattle.ea_model.specs.Strategies.{choice_for, spot_of}
 use Rattle.ea_model.specs.Region.{runs, lowest_run, with_segment}
 use Rattle.ea_model.specs.Keyed.{item_at, entered, without, changed_at}
@@ -52,9 +57,9 @@ new_instance s instance first pages = record { settings = s; number = instance; 
 
 -- the segment of a carrier
 abbrev pub segment_of : Content → Segment
-segment_of c = record { start = c.base; pages = c.units / 512 }
+segment_of c = record { base = c.base; pages = c.units / 512 }
 
--- the segments of carriers, by rising start
+-- the segments of carriers, by rising base
 abbrev pub segments : List Content → List Segment
 segments [] = []
 segments (c ∷ cs) = with_segment (segment_of c) (segments cs)
@@ -158,3 +163,15 @@ block_in cs spot = option_and_then (λ c. block_at c.blocks spot.offset) (conten
 -- blocks and carriers of main and multiblock carriers, with their units
 abbrev pub figures : List Content → Figures
 figures cs = record { blocks = sum_by (λ c. length c.blocks) cs; blocks_size = sum_by (λ c. allocated c.blocks) cs; carriers = length cs; carriers_size = sum_by (λ c. c.units) cs }
+
+-- a carrier that its owner employs, at the end of a run
+abbrev pub carrier_line : Content → CarrierLine
+carrier_line c = record { number = c.number; kind = c.kind; owner = c.owner; word = standing.Employed; employer = c.owner; base = c.base; pages = c.units / 512; allocated = allocated c.blocks; largest = largest (gaps_of c) }
+
+-- the sums over carriers whose blocks are all held, so that all their units are live; a carrier's header has 8 units
+abbrev pub totals : List Content → Totals
+totals cs = record { carriers = length cs; units = sum_by (λ c. c.units) cs; live = sum_by (λ c. allocated c.blocks) cs; queued = 0; free = sum_by (λ c. free_units (gaps_of c)) cs; header = 8 * length cs }
+
+-- instance 1 as the configuration makes it for allocator H
+abbrev pub instance_of : Config → Instance
+instance_of c = new_instance c.h 1 0 (region_pages c)

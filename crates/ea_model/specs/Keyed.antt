@@ -7,8 +7,8 @@ module _ {A : Type 0} (key_of : A → ℕ) where
   has_key key x = key_of x == key
 
   -- whether the item has a greater key
-  abbrev pub is_behind : ℕ → A → Bool
-  is_behind key x = nat_lt key (key_of x)
+  abbrev pub is_after : ℕ → A → Bool
+  is_after key x = nat_lt key (key_of x)
 
   -- the item with the key
   abbrev pub item_at : List A → ℕ → Option A

@@ -12,7 +12,4 @@ pub mod Flags
 pub mod Words
 pub mod Lines
 pub mod Trace
-pub mod Run
-pub mod Text
 pub mod Faultline
-pub mod Worked

@@ -1,6 +1,7 @@
 -- What one line of a trace says, by itself.
 use Rattle.std.specs.Prelude.{ℕ, ◌≤◌, Bool, true, false, if◌then◌else◌, ◌==◌, List, [], ◌∷◌, Option, Some, None, codes, bytes_eq}
 use Rattle.ea_model.specs.Words.{words, number}
+use Rattle.ea_model.specs.declared.units.TheConstants.{MAX_BYTES, MAX_NAME}
 
 -- everything that is no line of the language is Unreadable
 pub data Line : Type 0 where
@@ -13,13 +14,13 @@ pub data Line : Type 0 where
   End : Line
   Unreadable : Line
 
--- a name, 1 to 262144
+-- a name, from 1 on
 abbrev pub name_in : List ℕ → Option ℕ
-name_in word = number 1 262144 word
+name_in word = number 1 MAX_NAME word
 
 -- the bytes of a request; one above 512 kilobytes less the header's 8 bytes has a carrier of its own, which isn't built
 abbrev pub bytes_in : List ℕ → Option ℕ
-bytes_in word = number 0 524280 word
+bytes_in word = number 0 MAX_BYTES word
 
 abbrev pub alloc_line : Option ℕ → Option ℕ → Line
 alloc_line (Some name) (Some bytes) = Alloc name bytes
@@ -81,7 +82,7 @@ command keyword ws =
     if bytes_eq keyword (codes "type") then letter_line ws else (
     if bytes_eq keyword (codes "scheduler") then one_number scheduler_line 1 1 ws else (
     if bytes_eq keyword (codes "alloc") then alloc_words ws else (
-    if bytes_eq keyword (codes "free") then one_number free_line 1 262144 ws else (
+    if bytes_eq keyword (codes "free") then one_number free_line 1 MAX_NAME ws else (
     if bytes_eq keyword (codes "schedule") then bare_line Schedule ws else (
     if bytes_eq keyword (codes "end") then bare_line End ws else Unreadable)))))
 
@@ -101,6 +102,6 @@ line_of text = line_of_words (words text)
 
 -- the name and the request of a line are in their ranges
 abbrev pub IsLineInRange : Line → Type 0
-IsLineInRange (Alloc name bytes) = (name ≤ 262144) × (bytes ≤ 524280)
-IsLineInRange (Free name) = name ≤ 262144
+IsLineInRange (Alloc name bytes) = (name ≤ MAX_NAME) × (bytes ≤ MAX_BYTES)
+IsLineInRange (Free name) = name ≤ MAX_NAME
 IsLineInRange l = Unit {0}

@@ -10,7 +10,7 @@ use Rattle.ea_model.specs.declared.carriers.Kind.TheVariants.{Main, Multi, Singl
 use Rattle.ea_model.specs.declared.carriers.Gap.{Gap}
 use Rattle.ea_model.specs.declared.carriers.Spot.{Spot}
 use Rattle.ea_model.specs.declared.carriers.Candidate.{Candidate}
-use Rattle.ea_model.specs.Content.{Content, gaps_of, is_done}
+use Rattle.ea_model.specs.Content.{Content, gaps_of, is_empty_multi}
 use Rattle.ea_model.specs.Choice.{first, less}
 use Rattle.ea_model.specs.GoodFit.{is_inspected}
 use Rattle.ea_model.specs.declared.settings.Settings.{Settings}
@@ -78,21 +78,21 @@ only None = []
 only (Some x) = x ∷ []
 
 -- the candidates that a strategy looks at: good fit at the first few of each bin, address fit at the lowest alone, and the others at all
-abbrev pub looked_at : Strategy → ℕ → List Candidate → List Candidate
-looked_at Bf depth xs = xs
-looked_at Aobf depth xs = xs
-looked_at Aoff depth xs = xs
-looked_at AoffCbf depth xs = xs
-looked_at AoffCaobf depth xs = xs
-looked_at AgeffCaoff depth xs = xs
-looked_at AgeffCbf depth xs = xs
-looked_at AgeffCaobf depth xs = xs
-looked_at Gf depth xs = filter (is_inspected (λ x. x.address) (λ x. x.size) depth xs) xs
-looked_at Af depth xs = only (first lower xs)
+abbrev pub inspected_by : Strategy → ℕ → List Candidate → List Candidate
+inspected_by Bf depth xs = xs
+inspected_by Aobf depth xs = xs
+inspected_by Aoff depth xs = xs
+inspected_by AoffCbf depth xs = xs
+inspected_by AoffCaobf depth xs = xs
+inspected_by AgeffCaoff depth xs = xs
+inspected_by AgeffCbf depth xs = xs
+inspected_by AgeffCaobf depth xs = xs
+inspected_by Gf depth xs = filter (is_inspected (λ x. x.address) (λ x. x.size) depth xs) xs
+inspected_by Af depth xs = only (first lower xs)
 
 -- the one that it takes first of those that are large enough
 abbrev pub choice_among : Strategy → ℕ → ℕ → List Content → Option Candidate
-choice_among s depth need cs = first (takes_first s) (large_enough need (looked_at s depth (candidates cs)))
+choice_among s depth need cs = first (takes_first s) (large_enough need (inspected_by s depth (candidates cs)))
 
 -- whether a strategy may look past a gap that is large enough
 abbrev pub may_miss : Strategy → Bool
@@ -108,8 +108,8 @@ may_miss Gf = true
 may_miss Af = true
 
 -- the gap of the lowest multiblock carrier without blocks that is large enough
-abbrev pub choice_unused : ℕ → List Content → Option Candidate
-choice_unused need cs = first lower (large_enough need (candidates (filter is_done cs)))
+abbrev pub choice_empty : ℕ → List Content → Option Candidate
+choice_empty need cs = first lower (large_enough need (candidates (filter is_empty_multi cs)))
 
 -- what was chosen, or what is there otherwise, where it is asked for
 abbrev pub or_else : Bool → Option Candidate → Option Candidate → Option Candidate
@@ -118,7 +118,7 @@ or_else asked None other = if asked then other else None
 
 -- the chosen gap; where good fit or address fit looked past all that would fit, a carrier that was created for the block, and has none yet, gives it
 abbrev pub choice_for : Settings → ℕ → List Content → Option Candidate
-choice_for s need cs = or_else (may_miss s.strategy) (choice_among s.strategy s.mbsd need cs) (choice_unused need cs)
+choice_for s need cs = or_else (may_miss s.strategy) (choice_among s.strategy s.mbsd need cs) (choice_empty need cs)
 
 abbrev pub spot_of : Candidate → Spot
 spot_of x = record { carrier = x.number; offset = x.offset }

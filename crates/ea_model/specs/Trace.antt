@@ -4,6 +4,7 @@ use Rattle.ea_model.specs.Words.{lines}
 use Rattle.ea_model.specs.Lines.{Line, Skipped, Letter, Scheduler, Alloc, Free, Schedule, End, Unreadable, line_of}
 use Rattle.ea_model.specs.declared.operations.Op.{Op}
 use Rattle.ea_model.specs.declared.operations.Op.TheVariants as op
+use Rattle.ea_model.specs.declared.units.TheConstants.{MAX_BYTES, MAX_NAME, MAX_OPS}
 
 -- the part of a trace that has been reached
 pub data Stage : Type 0 where
@@ -65,9 +66,9 @@ names_good earlier (Alloc name bytes) = not (is_made name earlier)
 names_good earlier (Free name) = is_made name earlier
 names_good earlier line = true
 
--- whether a line may follow the earlier ones; a trace has 262144 operations at most
+-- whether a line may follow the earlier ones; a trace has MAX_OPS operations at most
 abbrev pub may_follow : List Line → Line → Bool
-may_follow earlier line = may_stand (stage_after earlier) line && (nat_le (length (operations (line ∷ earlier))) 262144 && names_good earlier line)
+may_follow earlier line = may_stand (stage_after earlier) line && (nat_le (length (operations (line ∷ earlier))) MAX_OPS && names_good earlier line)
 
 -- the operations of a trace that is over
 abbrev pub at_end : Stage → List Op → Option (List Op)
@@ -103,6 +104,6 @@ bytes_of (op.Alloc name bytes) = bytes
 bytes_of (op.Realloc old fresh bytes) = bytes
 bytes_of o = 0
 
--- names are at most 262144, and requests at most 524280 bytes
+-- names and requests are in their ranges
 abbrev pub InRange : Op → Type 0
-InRange o = (name_of o ≤ 262144) × (bytes_of o ≤ 524280)
+InRange o = (name_of o ≤ MAX_NAME) × (bytes_of o ≤ MAX_BYTES)

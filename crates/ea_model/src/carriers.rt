@@ -74,15 +74,15 @@ pub struct Place {
 #[derive(Debug, Clone, Copy, PartialEq, Eq)]
 pub struct Segment {
     /// Its first page.
-    pub start: u32,
+    pub base: u32,
     pub pages: u32,
 }
 
 impl Keyed for Segment {
-    ghost key_of = { λ s. s.start };
+    ghost key_of = { λ s. s.base };
 
     fn key(&self) -> u32 {
-        self.start
+        self.base
     }
 }
 
@@ -157,7 +157,7 @@ pub struct Candidate {
     /// The gap's first unit in the carrier.
     pub offset: u32,
     /// The gap's first unit in the super carrier.
-    pub address: u64,
+    pub address: u32,
     /// The gap's units.
     pub size: u32,
 }

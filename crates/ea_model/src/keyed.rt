@@ -1,7 +1,7 @@
 //! Items with a key each, which stand by rising key.
 ghost use Rattle.std.specs.Prelude.{◌≡◌, ℕ, ◌+◌, ◌<◌, ◌≤◌, AllPairs, Some, IsSome, OnOk, OnErr, get_or, length, option_map, vec_len, vec_capacity};
 ghost use Rattle.std.specs.List.{position_or_len};
-ghost use Rattle.ea_model.specs.Keyed.{has_key, is_behind, item_at, entered, without, IsBelow};
+ghost use Rattle.ea_model.specs.Keyed.{has_key, is_after, item_at, entered, without, IsBelow};
 
 use crate::lists::OutOfMemory;
 
@@ -27,29 +27,29 @@ pub fn item_of<T: Keyed>(key: u32, items: &[T]) -> Option<&T>
     None
 }
 
-/// The place of the item with the key, which is there.
-pub fn place_of<T: Keyed>(key: u32, items: &[T]) -> usize
+/// The index of the item with the key, which is there.
+pub fn index_of<T: Keyed>(key: u32, items: &[T]) -> usize
     requires { IsSome (item_at T.key_of items.now key) }
-    ensures place { result ≡ position_or_len (has_key T.key_of key) items.now }
+    ensures index { result ≡ position_or_len (has_key T.key_of key) items.now }
     ensures within { result < length items.now }
     ensures item { (d : T) → item_at T.key_of items.now key ≡ Some (get_or items.now result d) }
 {
-    for (place, item) in items.iter().enumerate() {
+    for (index, item) in items.iter().enumerate() {
         if item.key() == key {
-            return place;
+            return index;
         }
     }
     unreachable!()
 }
 
-/// The place of the first item with a greater key.
-fn place_behind<T: Keyed>(key: u32, items: &[T]) -> usize
-    ensures place { result ≡ position_or_len (is_behind T.key_of key) items.now }
+/// The index of the first item with a greater key.
+fn index_after<T: Keyed>(key: u32, items: &[T]) -> usize
+    ensures index { result ≡ position_or_len (is_after T.key_of key) items.now }
     ensures within { result ≤ length items.now }
 {
-    for (place, item) in items.iter().enumerate() {
+    for (index, item) in items.iter().enumerate() {
         if key < item.key() {
-            return place;
+            return index;
         }
     }
     items.len()
@@ -66,11 +66,8 @@ pub fn enter<T: Keyed + Drop>(item: T, items: &mut Vec<T>) -> Result<(), OutOfMe
     ensures capacity { vec_capacity items.old ≤ vec_capacity items.new }
     ensures in_place { vec_len items.old < vec_capacity items.old → vec_capacity items.new ≡ vec_capacity items.old }
 {
-    let place = place_behind(item.key(), items);
-    if items.insert(place, item).is_err() {
-        return Err(OutOfMemory);
-    }
-    Ok(())
+    let index = index_after(item.key(), items);
+    Ok(items.insert(index, item)?)
 }
 
 /// Puts an item among the others, by its key, where there is room. It takes no memory.
@@ -95,6 +92,6 @@ pub fn take_out<T: Keyed>(key: u32, items: &mut Vec<T>) -> T
     ensures len { vec_len items.new + 1 ≡ vec_len items.old }
     ensures capacity { vec_capacity items.new ≡ vec_capacity items.old }
 {
-    let place = place_of(key, items);
-    items.remove(place)
+    let index = index_of(key, items);
+    items.remove(index)
 }

@@ -7,13 +7,11 @@ pub mod entries;
 pub mod keyed;
 pub mod lists;
 pub mod operations;
-pub mod plain;
 pub mod settings;
 #[cfg(test)]
 mod tests;
 pub mod units;
 pub mod words;
-pub mod worked;
 
 pub use carriers::{
     Block, BlockAt, Candidate, Carried, CarrierLine, CarrierPlan, Figures, Gap, Inner, Kind, Place,
@@ -24,6 +22,6 @@ pub use lists::{List, OutOfMemory};
 pub use operations::Op;
 pub use settings::{Config, Letter, Settings, Strategy};
 pub use units::{
-    HEADER_UNITS, MAX_INPUT, MAX_NAME, MAX_OPS, MAX_SCHEDULERS, MIN_BLOCK, NUMBERS, PAGE_UNITS,
-    SEARCH_LIMIT, UNIT_BYTES, need,
+    HEADER_UNITS, MAX_BYTES, MAX_INPUT, MAX_NAME, MAX_OPS, MAX_PAGES, MAX_SCHEDULERS, MAX_UNITS,
+    MIN_BLOCK, NUMBERS, PAGE_UNITS, SEARCH_LIMIT, UNIT_BYTES, need,
 };

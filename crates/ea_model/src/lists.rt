@@ -1,12 +1,24 @@
 //! A list over a `Vec`, which contracts see as its items and the room that is left for more.
 ghost use Rattle.std.specs.Prelude.{◌≡◌, ◌+◌, ◌-◌, ◌<◌, ◌≤◌, [], ◌∷◌, ◌++◌, length, slice_index_or, OnOk, OnErr};
 
-use std::alloc::Global;
+use std::alloc::{AllocError, AllocFailed, Global};
 use std::marker::Model;
 
 /// There was no memory.
 #[derive(Debug, Clone, Copy, PartialEq, Eq)]
 pub struct OutOfMemory;
+
+impl From<AllocError> for OutOfMemory {
+    fn from(_: AllocError) -> OutOfMemory {
+        OutOfMemory
+    }
+}
+
+impl<T: Drop> From<AllocFailed<T>> for OutOfMemory {
+    fn from(_: AllocFailed<T>) -> OutOfMemory {
+        OutOfMemory
+    }
+}
 
 /// Items in order. Contracts see `items`, and beside them `room`: how many more can be added without
 /// taking memory.
@@ -39,10 +51,7 @@ impl<T> List<T> {
         ensures items { self.new.items ≡ self.old.items }
         ensures ok { OnOk result (extra ≤ self.new.room) }
     {
-        match self.vec.reserve(extra) {
-            Ok(()) => Ok(()),
-            Err(_) => Err(OutOfMemory),
-        }
+        Ok(self.vec.reserve(extra)?)
     }
 
     /// Adds an item at the end. Where there is no memory, the item is dropped and the others stay.
@@ -52,10 +61,7 @@ impl<T> List<T> {
         ensures ok { OnOk result (self.new.items ≡ self.old.items ++ item ∷ []) }
         ensures err { OnErr result (self.new.items ≡ self.old.items) }
     {
-        match self.vec.push(item) {
-            Ok(()) => Ok(()),
-            Err(_) => Err(OutOfMemory),
-        }
+        Ok(self.vec.push(item)?)
     }
 
     /// Adds an item at the end, where room was reserved. It takes no memory.
@@ -80,10 +86,7 @@ impl<T> List<T> {
         ensures ok { OnOk result (self.new.items ≡ self.old.items ++ items.now) }
         ensures err { OnErr result (self.new.items ≡ self.old.items) }
     {
-        match self.vec.extend_from_slice(items) {
-            Ok(()) => Ok(()),
-            Err(_) => Err(OutOfMemory),
-        }
+        Ok(self.vec.extend_from_slice(items)?)
     }
 
     /// How many items there are.

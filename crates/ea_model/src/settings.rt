@@ -1,6 +1,6 @@
 //! What the emulator flags set.
 ghost use Rattle.std.specs.Prelude.{◌≡◌, ◌*◌, ◌/◌, ◌<◌, ◌≤◌, ◌^◌};
-ghost use Rattle.ea_model.specs.Settings.{settings_of};
+ghost use Rattle.ea_model.specs.Settings.{region_pages, settings_of};
 
 /// How a gap is chosen among the carriers of an instance.
 #[derive(Debug, Clone, Copy, PartialEq, Eq)]
@@ -110,7 +110,7 @@ impl Config {
     pub fn region_pages(&self) -> u32
         requires some { 0 < self.now.schedulers }
         requires size { self.now.scs ≤ 512 }
-        ensures { result ≡ self.now.scs * 256 / self.now.schedulers }
+        ensures { result ≡ region_pages self.now }
     {
         self.scs * 256 / self.schedulers
     }

@@ -6,14 +6,14 @@ use Rattle.std.proofs.lemmas.List.Elements.{All-nil, All-cons, All-head, All-tai
 use Rattle.ea_model.specs.declared.carriers.Segment.{Segment}
 use Rattle.ea_model.specs.Region.{stretch, runs, lowest_run, Laid}
 use Rattle.ea_model.proofs.Options.{if_some}
-use Rattle.ea_space.specs.Pages.{IsBeside, IsApart}
+use Rattle.ea_model.specs.Region.{SegmentApart, AreFree}
 use Rattle.ea_space.proofs.Segments.{Laid-end}
 
 -- the pages lie between the ends and meet no segment
-pub record Fits (at end start pages : ℕ) (ss : List Segment) : Type 0 where
-  pub behind : at ≤ start
-  pub before : start + pages ≤ end
-  pub apart : IsApart start pages ss
+pub record Fits (at end base pages : ℕ) (ss : List Segment) : Type 0 where
+  pub behind : at ≤ base
+  pub before : base + pages ≤ end
+  pub apart : AreFree base pages ss
 
 -- the first run is long enough, or a later one is looked for
 lowest_step : (pages a b : ℕ) (rest : List Segment) → ((a < b) × (pages ≤ b - a) × (lowest_run pages (stretch a b ++ rest) ≡ Some a)) ⊎ (lowest_run pages (stretch a b ++ rest) ≡ lowest_run pages rest)
@@ -23,30 +23,30 @@ lowest_last : (pages a b : ℕ) → ((a < b) × (pages ≤ b - a) × (lowest_run
 lowest_last pages a b = grind arith
 
 -- pages before the segments meet none of them
-apart_before : (at end start pages : ℕ) (ss : List Segment) → Laid at end ss → start + pages ≤ at → IsApart start pages ss
-apart_before at end start pages [] t h = All-nil (IsBeside start pages)
-apart_before at end start pages (s ∷ ss) t h =
-    All-cons (IsBeside start pages) s ss (inr (omega (arith, t.0))) (apart_before (s.start + s.pages) end start pages ss t.2 (omega (arith, t.0)))
+apart_before : (at end base pages : ℕ) (ss : List Segment) → Laid at end ss → base + pages ≤ at → AreFree base pages ss
+apart_before at end base pages [] t h = All-nil (SegmentApart base pages)
+apart_before at end base pages (s ∷ ss) t h =
+    All-cons (SegmentApart base pages) s ss (inr (omega (arith, t.0))) (apart_before (s.base + s.pages) end base pages ss t.2 (omega (arith, t.0)))
 
-pub lowest-Fits : (at end pages : ℕ) (ss : List Segment) → Laid at end ss → IfSome (lowest_run pages (runs at end ss)) (λ start. Fits at end start pages ss)
+pub lowest-Fits : (at end pages : ℕ) (ss : List Segment) → Laid at end ss → IfSome (lowest_run pages (runs at end ss)) (λ base. Fits at end base pages ss)
 lowest-Fits at end pages [] t =
     elim (lowest_last pages at end) [
-      | inl p ↦ subst (λ r. IfSome r (λ start. Fits at end start pages [])) (sym p.2) (record { behind = omega arith; before = omega arith; apart = All-nil (IsBeside at pages) })
-      | inr q ↦ subst (λ r. IfSome r (λ start. Fits at end start pages [])) (sym q) tt
+      | inl p ↦ subst (λ r. IfSome r (λ base. Fits at end base pages [])) (sym p.2) (record { behind = omega arith; before = omega arith; apart = All-nil (SegmentApart at pages) })
+      | inr q ↦ subst (λ r. IfSome r (λ base. Fits at end base pages [])) (sym q) tt
     ]
 lowest-Fits at end pages (s ∷ ss) t =
-    elim (lowest_step pages at s.start (runs (s.start + s.pages) end ss)) [
-      | inl p ↦ subst (λ r. IfSome r (λ start. Fits at end start pages (s ∷ ss))) (sym p.2) (record { behind = omega arith; before = omega (arith, t.1, Laid-end (s.start + s.pages) end ss t.2); apart = apart_before s.start end at pages (s ∷ ss) (omega arith, t.1, t.2) (omega arith) })
-      | inr q ↦ subst (λ r. IfSome r (λ start. Fits at end start pages (s ∷ ss))) (sym q)
-          (if_some _ (λ start. Fits (s.start + s.pages) end start pages ss) (λ start. Fits at end start pages (s ∷ ss))
-          (λ start f. record { behind = omega (arith, t.0, f.behind); before = f.before; apart = All-cons (IsBeside start pages) s ss (inl f.behind) f.apart })
-          (lowest-Fits (s.start + s.pages) end pages ss t.2))
+    elim (lowest_step pages at s.base (runs (s.base + s.pages) end ss)) [
+      | inl p ↦ subst (λ r. IfSome r (λ base. Fits at end base pages (s ∷ ss))) (sym p.2) (record { behind = omega arith; before = omega (arith, t.1, Laid-end (s.base + s.pages) end ss t.2); apart = apart_before s.base end at pages (s ∷ ss) (omega arith, t.1, t.2) (omega arith) })
+      | inr q ↦ subst (λ r. IfSome r (λ base. Fits at end base pages (s ∷ ss))) (sym q)
+          (if_some _ (λ base. Fits (s.base + s.pages) end base pages ss) (λ base. Fits at end base pages (s ∷ ss))
+          (λ base f. record { behind = omega (arith, t.0, f.behind); before = f.before; apart = All-cons (SegmentApart base pages) s ss (inl f.behind) f.apart })
+          (lowest-Fits (s.base + s.pages) end pages ss t.2))
     ]
 
 lowest_past : (pages : ℕ) (r : Segment) (rs : List Segment) → r.pages < pages → lowest_run pages (r ∷ rs) ≡ lowest_run pages rs
 lowest_past pages r rs h = grind arith
 
-lowest_first : (pages : ℕ) (r : Segment) (rs : List Segment) → pages ≤ r.pages → lowest_run pages (r ∷ rs) ≡ Some r.start
+lowest_first : (pages : ℕ) (r : Segment) (rs : List Segment) → pages ≤ r.pages → lowest_run pages (r ∷ rs) ≡ Some r.base
 lowest_first pages r rs h = grind arith
 
 lowest_tail : (pages : ℕ) (r : Segment) (rs : List Segment) → IsNone (lowest_run pages (r ∷ rs)) → (r.pages < pages) × IsNone (lowest_run pages rs)

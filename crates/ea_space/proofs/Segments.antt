@@ -8,16 +8,16 @@ use Rattle.std.proofs.lemmas.List.Elements.{All-head, All-tail}
 use Rattle.ea_model.specs.declared.carriers.Segment.{Segment}
 use Rattle.ea_model.specs.Region.{stretch, with_segment, covers, cut_from, Laid}
 use Rattle.ea_model.proofs.Rising.{entered_here, entered_past, get_or_cons, remove_cons, set_cons}
-use Rattle.ea_space.specs.Pages.{IsBeside, IsApart, IsTailOf, IsTail}
+use Rattle.ea_model.specs.Region.{SegmentApart, AreFree, IsTailOf, IsTail}
 
 -- the default of an index past the end
 abbrev pub no_segment : Segment
-no_segment = record { start = 0; pages = 0 }
+no_segment = record { base = 0; pages = 0 }
 
 -- they end at the end or before it
 pub Laid-end : (at end : ℕ) (ss : List Segment) → Laid at end ss → at ≤ end
 Laid-end at end [] t = t
-Laid-end at end (s ∷ ss) t = omega (arith, t.0, t.1, Laid-end (s.start + s.pages) end ss t.2)
+Laid-end at end (s ∷ ss) t = omega (arith, t.0, t.1, Laid-end (s.base + s.pages) end ss t.2)
 
 -- they may begin earlier
 pub Laid-earlier : (a at end : ℕ) (ss : List Segment) → a ≤ at → Laid at end ss → Laid a end ss
@@ -29,23 +29,23 @@ pub Laid-next : (at end : ℕ) (ss : List Segment) (i : ℕ) → i < length ss �
 Laid-next at end ss i h t = rw (drop_more ss i no_segment h) at t
 
 abbrev pub start_of : Segment → ℕ
-start_of s = s.start
+start_of s = s.base
 
 -- still laid with a segment that meets no other
-pub Laid-entered : (at end : ℕ) (x : Segment) (ss : List Segment) → Laid at end ss → at ≤ x.start → x.start + x.pages ≤ end → 0 < x.pages → IsApart x.start x.pages ss → Laid at end (with_segment x ss)
+pub Laid-entered : (at end : ℕ) (x : Segment) (ss : List Segment) → Laid at end ss → at ≤ x.base → x.base + x.pages ≤ end → 0 < x.pages → AreFree x.base x.pages ss → Laid at end (with_segment x ss)
 Laid-entered at end x [] t behind before some apart = (behind, some, before)
 Laid-entered at end x (s ∷ ss) t behind before some apart =
-    let beside : IsBeside x.start x.pages s = All-head (IsBeside x.start x.pages) s ss apart in
-    elim (cases_lt x.start s.start) [
+    let beside : SegmentApart x.base x.pages s = All-head (SegmentApart x.base x.pages) s ss apart in
+    elim (cases_lt x.base s.base) [
       | inl lt ↦ subst (Laid at end) (sym (entered_here start_of x s ss lt)) (behind, some, elim beside [ inl p ↦ absurd (omega (arith, t.1)) | inr q ↦ (q, t.1, t.2) ])
-      | inr le ↦ subst (Laid at end) (sym (entered_past start_of x s ss le)) (t.0, t.1, elim beside [ inl p ↦ Laid-entered (s.start + s.pages) end x ss t.2 p before some (All-tail (IsBeside x.start x.pages) s ss apart) | inr q ↦ absurd (omega arith) ])
+      | inr le ↦ subst (Laid at end) (sym (entered_past start_of x s ss le)) (t.0, t.1, elim beside [ inl p ↦ Laid-entered (s.base + s.pages) end x ss t.2 p before some (All-tail (SegmentApart x.base x.pages) s ss apart) | inr q ↦ absurd (omega arith) ])
     ]
 
 -- a segment covers the page, or it lies beside it
-pub covers_cases : (page : ℕ) (s : Segment) → ((s.start ≤ page) × (page < s.start + s.pages) × (covers page s ≡ true)) ⊎ (((page < s.start) ⊎ (s.start + s.pages ≤ page)) × (covers page s ≡ false))
+pub covers_cases : (page : ℕ) (s : Segment) → ((s.base ≤ page) × (page < s.base + s.pages) × (covers page s ≡ true)) ⊎ (((page < s.base) ⊎ (s.base + s.pages ≤ page)) × (covers page s ≡ false))
 covers_cases page s = grind arith
 
-cut_here : (page : ℕ) (s : Segment) (ss : List Segment) → covers page s ≡ true → cut_from page (s ∷ ss) ≡ stretch s.start page ++ cut_from page ss
+cut_here : (page : ℕ) (s : Segment) (ss : List Segment) → covers page s ≡ true → cut_from page (s ∷ ss) ≡ stretch s.base page ++ cut_from page ss
 cut_here page s ss h = rw h refl
 
 pub cut_past : (page : ℕ) (s : Segment) (ss : List Segment) → covers page s ≡ false → cut_from page (s ∷ ss) ≡ s ∷ cut_from page ss
@@ -57,29 +57,29 @@ cut-before at end page [] t h = refl
 cut-before at end page (s ∷ ss) t h =
     elim (covers_cases page s) [
       | inl p ↦ absurd (omega (arith, t.0))
-      | inr q ↦ cut_past page s ss q.1 ∙ ap (λ xs. s ∷ xs) (cut-before (s.start + s.pages) end page ss t.2 (omega (arith, t.0)))
+      | inr q ↦ cut_past page s ss q.1 ∙ ap (λ xs. s ∷ xs) (cut-before (s.base + s.pages) end page ss t.2 (omega (arith, t.0)))
     ]
 
-pub stretch_some : (a b : ℕ) → a < b → stretch a b ≡ record { start = a; pages = b - a } ∷ []
+pub stretch_some : (a b : ℕ) → a < b → stretch a b ≡ record { base = a; pages = b - a } ∷ []
 stretch_some a b h = grind arith
 
 pub stretch_none : (a b : ℕ) → b ≤ a → stretch a b ≡ []
 stretch_none a b h = grind arith
 
 -- what is cut of the segments whose first one covers the page
-pub cut_first : (at end page : ℕ) (s : Segment) (ss : List Segment) → Laid at end (s ∷ ss) → page < s.start + s.pages → covers page s ≡ true → cut_from page (s ∷ ss) ≡ stretch s.start page ++ ss
-cut_first at end page s ss t lt c = cut_here page s ss c ∙ ap (λ xs. stretch s.start page ++ xs) (cut-before (s.start + s.pages) end page ss t.2 lt)
+pub cut_first : (at end page : ℕ) (s : Segment) (ss : List Segment) → Laid at end (s ∷ ss) → page < s.base + s.pages → covers page s ≡ true → cut_from page (s ∷ ss) ≡ stretch s.base page ++ ss
+cut_first at end page s ss t lt c = cut_here page s ss c ∙ ap (λ xs. stretch s.base page ++ xs) (cut-before (s.base + s.pages) end page ss t.2 lt)
 
 -- still laid without the pages of a segment from the page on
 pub Laid-cut : (at end page : ℕ) (ss : List Segment) → Laid at end ss → Laid at end (cut_from page ss)
 Laid-cut at end page [] t = t
 Laid-cut at end page (s ∷ ss) t =
     elim (covers_cases page s) [
-      | inl p ↦ subst (Laid at end) (sym (cut_first at end page s ss t p.1 p.2)) (elim (cases_lt s.start page) [
-        | inl lt ↦ subst (λ xs. Laid at end (xs ++ ss)) (sym (stretch_some s.start page lt)) (t.0, omega arith, Laid-earlier (s.start + (page - s.start)) (s.start + s.pages) end ss (omega arith) t.2)
-        | inr le ↦ subst (λ xs. Laid at end (xs ++ ss)) (sym (stretch_none s.start page le)) (Laid-earlier at (s.start + s.pages) end ss (omega (arith, t.0)) t.2)
+      | inl p ↦ subst (Laid at end) (sym (cut_first at end page s ss t p.1 p.2)) (elim (cases_lt s.base page) [
+        | inl lt ↦ subst (λ xs. Laid at end (xs ++ ss)) (sym (stretch_some s.base page lt)) (t.0, omega arith, Laid-earlier (s.base + (page - s.base)) (s.base + s.pages) end ss (omega arith) t.2)
+        | inr le ↦ subst (λ xs. Laid at end (xs ++ ss)) (sym (stretch_none s.base page le)) (Laid-earlier at (s.base + s.pages) end ss (omega (arith, t.0)) t.2)
       ])
-      | inr q ↦ subst (Laid at end) (sym (cut_past page s ss q.1)) (t.0, t.1, Laid-cut (s.start + s.pages) end page ss t.2)
+      | inr q ↦ subst (Laid at end) (sym (cut_past page s ss q.1)) (t.0, t.1, Laid-cut (s.base + s.pages) end page ss t.2)
     ]
 
 position_first : (page : ℕ) (s : Segment) (ss : List Segment) → covers page s ≡ true → position_or_len (covers page) (s ∷ ss) ≡ 0
@@ -89,36 +89,36 @@ position_past : (page : ℕ) (s : Segment) (ss : List Segment) → covers page s
 position_past page s ss h = rw h refl
 
 -- the whole segment that begins at the page is taken out
-pub remove-cut : (at end page : ℕ) (d : Segment) (ss : List Segment) → Laid at end ss → (get_or ss (position_or_len (covers page) ss) d).start ≡ page → position_or_len (covers page) ss < length ss → remove ss (position_or_len (covers page) ss) ≡ cut_from page ss
+pub remove-cut : (at end page : ℕ) (d : Segment) (ss : List Segment) → Laid at end ss → (get_or ss (position_or_len (covers page) ss) d).base ≡ page → position_or_len (covers page) ss < length ss → remove ss (position_or_len (covers page) ss) ≡ cut_from page ss
 remove-cut at end page d [] t h lt = absurd (omega arith)
 remove-cut at end page d (s ∷ ss) t h lt =
     elim (covers_cases page s) [
       | inl p ↦
           let zero = position_first page s ss p.2 in
-          let begins : s.start ≡ page = subst (λ n. (get_or (s ∷ ss) n d).start ≡ page) zero h in
-          ap (remove (s ∷ ss)) zero ∙ sym (cut_first at end page s ss t p.1 p.2 ∙ ap (λ xs. xs ++ ss) (stretch_none s.start page (omega arith)))
+          let begins : s.base ≡ page = subst (λ n. (get_or (s ∷ ss) n d).base ≡ page) zero h in
+          ap (remove (s ∷ ss)) zero ∙ sym (cut_first at end page s ss t p.1 p.2 ∙ ap (λ xs. xs ++ ss) (stretch_none s.base page (omega arith)))
       | inr q ↦
           let n = position_or_len (covers page) ss in
           let past = position_past page s ss q.1 in
-          let there : (get_or ss n d).start ≡ page = subst (λ x. x.start ≡ page) (ap (λ k. get_or (s ∷ ss) k d) past ∙ get_or_cons s d ss n) h in
-          ap (remove (s ∷ ss)) past ∙ remove_cons s ss n ∙ ap (λ xs. s ∷ xs) (remove-cut (s.start + s.pages) end page d ss t.2 there (omega arith)) ∙ sym (cut_past page s ss q.1)
+          let there : (get_or ss n d).base ≡ page = subst (λ x. x.base ≡ page) (ap (λ k. get_or (s ∷ ss) k d) past ∙ get_or_cons s d ss n) h in
+          ap (remove (s ∷ ss)) past ∙ remove_cons s ss n ∙ ap (λ xs. s ∷ xs) (remove-cut (s.base + s.pages) end page d ss t.2 there (omega arith)) ∙ sym (cut_past page s ss q.1)
     ]
 
 -- the pages of a segment from the page on are taken off
-pub set-cut : (at end page : ℕ) (x d : Segment) (ss : List Segment) → Laid at end ss → x.start ≡ (get_or ss (position_or_len (covers page) ss) d).start → x.start + x.pages ≡ page → 0 < x.pages → position_or_len (covers page) ss < length ss → set ss (position_or_len (covers page) ss) x ≡ cut_from page ss
+pub set-cut : (at end page : ℕ) (x d : Segment) (ss : List Segment) → Laid at end ss → x.base ≡ (get_or ss (position_or_len (covers page) ss) d).base → x.base + x.pages ≡ page → 0 < x.pages → position_or_len (covers page) ss < length ss → set ss (position_or_len (covers page) ss) x ≡ cut_from page ss
 set-cut at end page x d [] t begins ends some lt = absurd (omega arith)
 set-cut at end page x d (s ∷ ss) t begins ends some lt =
     elim (covers_cases page s) [
       | inl p ↦
           let zero = position_first page s ss p.2 in
-          let start : x.start ≡ s.start = subst (λ n. x.start ≡ (get_or (s ∷ ss) n d).start) zero begins in
-          let same : x ∷ [] ≡ stretch s.start page = grind arith in
+          let base : x.base ≡ s.base = subst (λ n. x.base ≡ (get_or (s ∷ ss) n d).base) zero begins in
+          let same : x ∷ [] ≡ stretch s.base page = grind arith in
           ap (λ n. set (s ∷ ss) n x) zero ∙ ap (λ xs. xs ++ ss) same ∙ sym (cut_first at end page s ss t p.1 p.2)
       | inr q ↦
           let n = position_or_len (covers page) ss in
           let past = position_past page s ss q.1 in
-          let there : x.start ≡ (get_or ss n d).start = subst (λ y. x.start ≡ y.start) (ap (λ k. get_or (s ∷ ss) k d) past ∙ get_or_cons s d ss n) begins in
-          ap (λ k. set (s ∷ ss) k x) past ∙ set_cons x s ss n ∙ ap (λ xs. s ∷ xs) (set-cut (s.start + s.pages) end page x d ss t.2 there ends some (omega arith)) ∙ sym (cut_past page s ss q.1)
+          let there : x.base ≡ (get_or ss n d).base = subst (λ y. x.base ≡ y.base) (ap (λ k. get_or (s ∷ ss) k d) past ∙ get_or_cons s d ss n) begins in
+          ap (λ k. set (s ∷ ss) k x) past ∙ set_cons x s ss n ∙ ap (λ xs. s ∷ xs) (set-cut (s.base + s.pages) end page x d ss t.2 there ends some (omega arith)) ∙ sym (cut_past page s ss q.1)
     ]
 
 -- what holds of some element holds of the first one or of some later one
@@ -126,66 +126,66 @@ pub any_cases : {A : Type 0} (P : A → Type 0) (x : A) (xs : List A) (k : ℕ) 
 any_cases P x xs zero y lt e p = inl (subst P (sym e) p)
 any_cases P x xs (suc k) y lt e p = inr (k, y, omega arith, e, p)
 
-pub IsTail_cases : (start pages : ℕ) (s : Segment) (ss : List Segment) → IsTail start pages (s ∷ ss) → IsTailOf start pages s ⊎ IsTail start pages ss
-IsTail_cases start pages s ss h = any_cases (IsTailOf start pages) s ss h.0 h.1 h.2 h.3 h.4
+pub IsTail_cases : (base pages : ℕ) (s : Segment) (ss : List Segment) → IsTail base pages (s ∷ ss) → IsTailOf base pages s ⊎ IsTail base pages ss
+IsTail_cases base pages s ss h = any_cases (IsTailOf base pages) s ss h.0 h.1 h.2 h.3 h.4
 
 -- it is not before the first segment
-pub IsTail_behind : (at end start pages : ℕ) (ss : List Segment) → Laid at end ss → IsTail start pages ss → at ≤ start
-IsTail_behind at end start pages [] t h = absurd (omega (arith, h.2))
-IsTail_behind at end start pages (s ∷ ss) t h =
-    elim (IsTail_cases start pages s ss h) [
+pub IsTail_behind : (at end base pages : ℕ) (ss : List Segment) → Laid at end ss → IsTail base pages ss → at ≤ base
+IsTail_behind at end base pages [] t h = absurd (omega (arith, h.2))
+IsTail_behind at end base pages (s ∷ ss) t h =
+    elim (IsTail_cases base pages s ss h) [
       | inl p ↦ omega (arith, t.0, p.within)
-      | inr q ↦ omega (arith, t.0, IsTail_behind (s.start + s.pages) end start pages ss t.2 q)
+      | inr q ↦ omega (arith, t.0, IsTail_behind (s.base + s.pages) end base pages ss t.2 q)
     ]
 
--- the first segment that covers the start of a tail is the one that it is the tail of
-pub record IsTailAt (start pages n : ℕ) (ss : List Segment) : Type 0 where
+-- the first segment that covers the base of a tail is the one that it is the tail of
+pub record IsTailAt (base pages n : ℕ) (ss : List Segment) : Type 0 where
   pub inside : n < length ss
-  pub tail : (d : Segment) → IsTailOf start pages (get_or ss n d)
+  pub tail : (d : Segment) → IsTailOf base pages (get_or ss n d)
 
-pub IsTail-at : (at end start pages : ℕ) (ss : List Segment) → Laid at end ss → IsTail start pages ss → IsTailAt start pages (position_or_len (covers start) ss) ss
-IsTail-at at end start pages [] t h = absurd (omega (arith, h.2))
-IsTail-at at end start pages (s ∷ ss) t h =
-    elim (IsTail_cases start pages s ss h) [
-      | inl p ↦ elim (covers_cases start s) [
-        | inl c ↦ subst (λ n. IsTailAt start pages n (s ∷ ss)) (sym (position_first start s ss c.2)) (record { inside = omega arith; tail = λ d. p })
+pub IsTail-at : (at end base pages : ℕ) (ss : List Segment) → Laid at end ss → IsTail base pages ss → IsTailAt base pages (position_or_len (covers base) ss) ss
+IsTail-at at end base pages [] t h = absurd (omega (arith, h.2))
+IsTail-at at end base pages (s ∷ ss) t h =
+    elim (IsTail_cases base pages s ss h) [
+      | inl p ↦ elim (covers_cases base s) [
+        | inl c ↦ subst (λ n. IsTailAt base pages n (s ∷ ss)) (sym (position_first base s ss c.2)) (record { inside = omega arith; tail = λ d. p })
         | inr n ↦ absurd (elim n.0 [ inl b ↦ omega (arith, p.within) | inr b ↦ omega (arith, p.some, p.to_end) ])
       ]
       | inr q ↦
-          let behind = IsTail_behind (s.start + s.pages) end start pages ss t.2 q in
-          let more = IsTail-at (s.start + s.pages) end start pages ss t.2 q in
-          let n = position_or_len (covers start) ss in
-          elim (covers_cases start s) [
+          let behind = IsTail_behind (s.base + s.pages) end base pages ss t.2 q in
+          let more = IsTail-at (s.base + s.pages) end base pages ss t.2 q in
+          let n = position_or_len (covers base) ss in
+          elim (covers_cases base s) [
             | inl c ↦ absurd (omega arith)
-            | inr c ↦ subst (λ k. IsTailAt start pages k (s ∷ ss)) (sym (position_past start s ss c.1)) (record { inside = omega (arith, more.inside); tail = λ d. subst (IsTailOf start pages) (sym (get_or_cons s d ss n)) (more.tail d) })
+            | inr c ↦ subst (λ k. IsTailAt base pages k (s ∷ ss)) (sym (position_past base s ss c.1)) (record { inside = omega (arith, more.inside); tail = λ d. subst (IsTailOf base pages) (sym (get_or_cons s d ss n)) (more.tail d) })
           ]
     ]
 
 -- s stands at the place n, and the pages are its tail
-pub record Found (start pages n : ℕ) (s : Segment) (ss : List Segment) : Type 0 where
+pub record Found (base pages n : ℕ) (s : Segment) (ss : List Segment) : Type 0 where
   pub inside : n < length ss
-  pub place : n ≡ position_or_len (covers start) ss
+  pub place : n ≡ position_or_len (covers base) ss
   pub element : s ≡ get_or ss n s
-  pub tail : IsTailOf start pages s
+  pub tail : IsTailOf base pages s
 
-pub IsTail-found : (at end start pages n : ℕ) (s : Segment) (ss : List Segment) → Laid at end ss → IsTail start pages ss → n ≡ position_or_len (covers start) ss → s ≡ get_or ss n s → Found start pages n s ss
-IsTail-found at end start pages n s ss t h place element =
-    let found = subst (λ k. IsTailAt start pages k ss) (sym place) (IsTail-at at end start pages ss t h) in
-    record { inside = found.inside; place = place; element = element; tail = subst (IsTailOf start pages) (sym element) (found.tail s) }
+pub IsTail-found : (at end base pages n : ℕ) (s : Segment) (ss : List Segment) → Laid at end ss → IsTail base pages ss → n ≡ position_or_len (covers base) ss → s ≡ get_or ss n s → Found base pages n s ss
+IsTail-found at end base pages n s ss t h place element =
+    let found = subst (λ k. IsTailAt base pages k ss) (sym place) (IsTail-at at end base pages ss t h) in
+    record { inside = found.inside; place = place; element = element; tail = subst (IsTailOf base pages) (sym element) (found.tail s) }
 
 -- the whole segment is given back
-pub remove-found : (at end start pages n : ℕ) (s : Segment) (ss : List Segment) → Laid at end ss → Found start pages n s ss → s.pages ≡ pages → remove ss n ≡ cut_from start ss
-remove-found at end start pages n s ss t f e =
-    let begins : s.start ≡ start = omega (arith, f.tail.to_end) in
-    let there = subst (λ k. (get_or ss k s).start ≡ start) f.place (ap (λ x. x.start) (sym f.element) ∙ begins) in
-    ap (remove ss) f.place ∙ remove-cut at end start s ss t there (subst (λ k. k < length ss) f.place f.inside)
+pub remove-found : (at end base pages n : ℕ) (s : Segment) (ss : List Segment) → Laid at end ss → Found base pages n s ss → s.pages ≡ pages → remove ss n ≡ cut_from base ss
+remove-found at end base pages n s ss t f e =
+    let begins : s.base ≡ base = omega (arith, f.tail.to_end) in
+    let there = subst (λ k. (get_or ss k s).base ≡ base) f.place (ap (λ x. x.base) (sym f.element) ∙ begins) in
+    ap (remove ss) f.place ∙ remove-cut at end base s ss t there (subst (λ k. k < length ss) f.place f.inside)
 
 -- the tail of the segment is given back
-pub set-found : (at end start pages n : ℕ) (s y : Segment) (ss : List Segment) → Laid at end ss → Found start pages n s ss → s.pages ≢ pages → y ≡ get_or ss n y → set ss n (record { start = y.start; pages = s.pages - pages }) ≡ cut_from start ss
-set-found at end start pages n s y ss t f e same =
-    let x : Segment = record { start = y.start; pages = s.pages - pages } in
-    let begins : y.start ≡ s.start = ap (λ z. z.start) (same ∙ get_or_default ss n y s f.inside ∙ sym f.element) in
-    let there = subst (λ k. x.start ≡ (get_or ss k s).start) f.place (begins ∙ ap (λ z. z.start) f.element) in
-    let le : s.start ≤ start = f.tail.within in
-    let to_end : start + pages ≡ s.start + s.pages = f.tail.to_end in
-    ap (λ k. set ss k x) f.place ∙ set-cut at end start x s ss t there (omega arith) (omega arith) (subst (λ k. k < length ss) f.place f.inside)
+pub set-found : (at end base pages n : ℕ) (s y : Segment) (ss : List Segment) → Laid at end ss → Found base pages n s ss → s.pages ≢ pages → y ≡ get_or ss n y → set ss n (record { base = y.base; pages = s.pages - pages }) ≡ cut_from base ss
+set-found at end base pages n s y ss t f e same =
+    let x : Segment = record { base = y.base; pages = s.pages - pages } in
+    let begins : y.base ≡ s.base = ap (λ z. z.base) (same ∙ get_or_default ss n y s f.inside ∙ sym f.element) in
+    let there = subst (λ k. x.base ≡ (get_or ss k s).base) f.place (begins ∙ ap (λ z. z.base) f.element) in
+    let le : s.base ≤ base = f.tail.within in
+    let to_end : base + pages ≡ s.base + s.pages = f.tail.to_end in
+    ap (λ k. set ss k x) f.place ∙ set-cut at end base x s ss t there (omega arith) (omega arith) (subst (λ k. k < length ss) f.place f.inside)

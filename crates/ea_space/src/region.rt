@@ -1,9 +1,9 @@
 //! The region and its calls.
 ghost use Rattle.std.specs.Prelude.{◌≡◌, ◌⊎◌, ℕ, ◌+◌, ◌-◌, ◌^◌, ◌<◌, ◌≤◌, ◌↔◌, [], All, IsNone, IfSome, IfNone, IfOk, length};
 ghost use Rattle.ea_model.specs.Region.{runs_of, lowest_run, longest, with_segment, cut_from, Laid};
-ghost use Rattle.ea_space.specs.Pages.{IsApart, IsTail};
+ghost use Rattle.ea_model.specs.Region.{AreFree, IsTail};
 
-use crate::walks::{longest_run, lowest_start, place_of};
+use crate::walks::{longest_run, lowest_start, index_of};
 use ea_model::keyed::enter_within;
 use ea_model::{OutOfMemory, Segment};
 use std::alloc::Global;
@@ -13,7 +13,7 @@ use std::marker::Model;
 const ROOM: usize = 257;
 
 /// A region of pages, of which some are taken. Contracts see it as its first page, the page after its last
-/// one, and the taken segments by rising start.
+/// one, and the taken segments by rising base.
 #[derive(Drop)]
 pub struct Region {
     first: u32,
@@ -55,8 +55,8 @@ impl Region {
         ensures none { IsNone result ↔ All (λ r. r.pages < pages) (runs_of self.now) }
 
         // The pages found lie in the region and meet no taken segment.
-        ensures inside { IfSome result (λ start. (self.now.first ≤ start) × (start + pages ≤ self.now.end)) }
-        ensures apart { IfSome result (λ start. IsApart start pages self.now.taken) }
+        ensures inside { IfSome result (λ base. (self.now.first ≤ base) × (base + pages ≤ self.now.end)) }
+        ensures apart { IfSome result (λ base. AreFree base pages self.now.taken) }
         ensures laid { Laid self.now.first self.now.end self.now.taken }
     {
         lowest_start(pages, self.first, self.end, &self.taken)
@@ -68,41 +68,41 @@ impl Region {
         requires some { 1 ≤ pages }
         requires room { length self.old.taken < 256 }
         ensures found { result ≡ lowest_run pages (runs_of self.old) }
-        ensures taken { IfSome result (λ start. self.new ≡ record self.old { taken = with_segment (record { start = start; pages = pages }) self.old.taken }) }
+        ensures taken { IfSome result (λ base. self.new ≡ record self.old { taken = with_segment (record { base = base; pages = pages }) self.old.taken }) }
         ensures none { IfNone result (self.new ≡ self.old) }
 
         // The pages taken lie in the region and met no taken segment.
-        ensures inside { IfSome result (λ start. (self.old.first ≤ start) × (start + pages ≤ self.old.end)) }
-        ensures apart { IfSome result (λ start. IsApart start pages self.old.taken) }
+        ensures inside { IfSome result (λ base. (self.old.first ≤ base) × (base + pages ≤ self.old.end)) }
+        ensures apart { IfSome result (λ base. AreFree base pages self.old.taken) }
         ensures laid { Laid self.new.first self.new.end self.new.taken }
         ensures count { length self.new.taken ≤ length self.old.taken + 1 }
 
         // The pages taken can be given back, and so can what could be given back before.
-        ensures whole { IfSome result (λ start. IsTail start pages self.new.taken) }
+        ensures whole { IfSome result (λ base. IsTail base pages self.new.taken) }
         ensures others { (at n : ℕ) → IsTail at n self.old.taken → IsTail at n self.new.taken }
     {
         match lowest_start(pages, self.first, self.end, &self.taken) {
-            Some(start) => {
-                enter_within(Segment { start, pages }, &mut self.taken);
-                Some(start)
+            Some(base) => {
+                enter_within(Segment { base, pages }, &mut self.taken);
+                Some(base)
             }
             None => None,
         }
     }
 
-    /// Makes the `pages` pages from `start` on free again. They are the whole or the tail of one taken
+    /// Makes the `pages` pages from `base` on free again. They are the whole or the tail of one taken
     /// segment, and one page at least.
-    pub fn give_back(&mut self, start: u32, pages: u32)
-        requires { IsTail start pages self.old.taken }
-        ensures cut { self.new ≡ record self.old { taken = cut_from start self.old.taken } }
+    pub fn give_back(&mut self, base: u32, pages: u32)
+        requires { IsTail base pages self.old.taken }
+        ensures cut { self.new ≡ record self.old { taken = cut_from base self.old.taken } }
         ensures laid { Laid self.new.first self.new.end self.new.taken }
         ensures count { length self.new.taken ≤ length self.old.taken }
 
         // What is left of the segment can be given back, and so can other pages as before.
-        ensures front { (at : ℕ) → at < start → IsTail at (start + pages - at) self.old.taken → IsTail at (start - at) self.new.taken }
-        ensures others { (at n : ℕ) → (at + n ≤ start) ⊎ (start + pages ≤ at) → IsTail at n self.old.taken → IsTail at n self.new.taken }
+        ensures front { (at : ℕ) → at < base → IsTail at (base + pages - at) self.old.taken → IsTail at (base - at) self.new.taken }
+        ensures others { (at n : ℕ) → (at + n ≤ base) ⊎ (base + pages ≤ at) → IsTail at n self.old.taken → IsTail at n self.new.taken }
     {
-        let index = place_of(&self.taken, start);
+        let index = index_of(&self.taken, base);
         let segment = self.taken[index];
         if segment.pages == pages {
             self.taken.remove(index);

@@ -1,4 +1,4 @@
-//! Walks over the taken segments, by rising start.
+//! Walks over the taken segments, by rising base.
 ghost use Rattle.std.specs.Prelude.{◌≡◌, ◌<◌, ◌≤◌, length, max, is_some};
 ghost use Rattle.std.specs.List.{position_or_len};
 ghost use Rattle.ea_model.specs.Region.{stretch, runs, lowest_run, longest, covers, Laid};
@@ -20,10 +20,10 @@ pub fn lowest_start(pages: u32, first: u32, end: u32, taken: &[Segment]) -> Opti
 {
     let mut at = first;
     for segment in taken {
-        if holds(pages, at, segment.start) {
+        if holds(pages, at, segment.base) {
             return Some(at);
         }
-        at = segment.start + segment.pages;
+        at = segment.base + segment.pages;
     }
     if holds(pages, at, end) {
         Some(at)
@@ -40,20 +40,20 @@ pub fn longest_run(first: u32, end: u32, taken: &[Segment]) -> u32
     let mut at = first;
     let mut most = 0;
     for segment in taken {
-        most = most.max(segment.start - at);
-        at = segment.start + segment.pages;
+        most = most.max(segment.base - at);
+        at = segment.base + segment.pages;
     }
     most.max(end - at)
 }
 
-/// The place of the first segment that covers the page.
-pub fn place_of(taken: &[Segment], page: u32) -> usize
+/// The index of the first segment that covers the page.
+pub fn index_of(taken: &[Segment], page: u32) -> usize
     requires { position_or_len (covers page) taken.now < length taken.now }
-    ensures place { result ≡ position_or_len (covers page) taken.now }
+    ensures index { result ≡ position_or_len (covers page) taken.now }
     ensures within { result < length taken.now }
 {
     for (i, segment) in taken.iter().enumerate() {
-        if segment.start <= page && page - segment.start < segment.pages {
+        if segment.base <= page && page - segment.base < segment.pages {
             return i;
         }
     }

@@ -9,7 +9,7 @@ use Rattle.ea_model.specs.declared.entries.Entry.{Entry}
 use Rattle.ea_model.specs.declared.entries.Entry.TheVariants as entry
 use Rattle.ea_model.specs.declared.entries.NoCarrier.{NoCarrier}
 use Rattle.ea_model.specs.Instance.{Instance, chosen_spot, creating, plan}
-use Rattle.ea_model.specs.Run.{Run, allocating, in_new_carrier, with_carrier}
+use Rattle.ea_laws.specs.Run.{Run, allocating, in_new_carrier, with_carrier}
 use Rattle.ea_model.specs.Units.{need_of}
 use Rattle.ea_instance.proofs.Refusals.{chosen-none, plan-numbers, plan-space}
 use Rattle.ea_top.specs.Moments.{IsExhausted, FailsExhausted}

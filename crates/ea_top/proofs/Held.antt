@@ -9,13 +9,13 @@ use Rattle.ea_model.specs.declared.carriers.Spot.{Spot}
 use Rattle.ea_model.specs.declared.entries.NoCarrier.{NoCarrier}
 use Rattle.ea_model.specs.declared.operations.Op.{Op}
 use Rattle.ea_model.specs.declared.operations.Op.TheVariants as op
-use Rattle.ea_model.specs.Content.{Content, is_done}
+use Rattle.ea_model.specs.Content.{Content, is_empty_multi}
 use Rattle.ea_model.specs.Instance.{Instance, block_in, chosen_spot, clearing, content_of, creating, plan, releasing_at}
-use Rattle.ea_model.specs.Run.{Held, Run, allocating, freed_at, freeing, in_new_carrier, spot_held, step, tidied, with_block, with_carrier, without}
+use Rattle.ea_laws.specs.Run.{Held, Run, allocating, freed_at, freeing, in_new_carrier, spot_held, step, tidied, with_block, with_carrier, without}
 use Rattle.ea_model.specs.Units.{need_of}
 use Rattle.ea_model.proofs.Pairs.{pairs_head, pairs_tail}
 use Rattle.ea_model.proofs.Rising.{item_here, item_past, without_here, without_past}
-use Rattle.ea_instance.specs.Found.{HasGap, HaveSameBlocks, IsOther}
+use Rattle.ea_laws.specs.Spots.{HasGap, HaveSameBlocks, IsOther}
 use Rattle.ea_instance.proofs.Blocks.{creating-same, placing-IsPlaced, releasing-others}
 use Rattle.ea_instance.proofs.Contents.{same-without}
 use Rattle.ea_instance.proofs.Moments.{Stands, chosen_spot-HasGap, creating-Stands}
@@ -100,9 +100,9 @@ left_apart name spot (h ∷ hs) apart e =
 tidied-same : (i : Instance) (number : ℕ) (o : Option Content) → content_of i.contents number ≡ o → HaveSameBlocks i.contents (tidied i number o).contents
 tidied-same i number None e at = refl
 tidied-same i number (Some c) e at =
-    elim (cases_Bool (is_done c)) [
-      | inl t ↦ ap (λ (j : Instance). block_in j.contents at) (cond-true (is_done c) (clearing i number) i t) ∙ same-without number c i.contents e t at
-      | inr f ↦ ap (λ (j : Instance). block_in j.contents at) (cond-false (is_done c) (clearing i number) i f)
+    elim (cases_Bool (is_empty_multi c)) [
+      | inl t ↦ ap (λ (j : Instance). block_in j.contents at) (cond-true (is_empty_multi c) (clearing i number) i t) ∙ same-without number c i.contents e t at
+      | inr f ↦ ap (λ (j : Instance). block_in j.contents at) (cond-false (is_empty_multi c) (clearing i number) i f)
     ]
 
 freed-others : (i : Instance) (spot at : Spot) → spot ≢ at → block_in (freed_at i spot).contents at ≡ block_in i.contents at

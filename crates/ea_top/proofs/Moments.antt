@@ -8,13 +8,13 @@ use Rattle.ea_model.specs.declared.entries.NoCarrier.{NoCarrier}
 use Rattle.ea_model.specs.declared.operations.Op.{Op}
 use Rattle.ea_model.specs.declared.operations.Op.TheVariants as op
 use Rattle.ea_model.specs.declared.settings.Config.{Config}
-use Rattle.ea_model.specs.Content.{Content, is_done}
-use Rattle.ea_model.specs.Flags.{region_pages}
+use Rattle.ea_model.specs.Content.{Content, is_empty_multi}
+use Rattle.ea_model.specs.Settings.{region_pages}
 use Rattle.ea_model.specs.Instance.{Instance, chosen_spot, clearing, content_of, creating, plan, releasing_at}
-use Rattle.ea_model.specs.Run.{Run, allocating, freeing, in_new_carrier, run, spot_held, start, step, tidied, with_carrier}
-use Rattle.ea_model.specs.Text.{instance_of}
+use Rattle.ea_laws.specs.Run.{Run, allocating, freeing, in_new_carrier, run, spot_held, start, step, tidied, with_carrier}
+use Rattle.ea_model.specs.Instance.{instance_of}
 use Rattle.ea_model.specs.Units.{even, need_of}
-use Rattle.ea_instance.specs.InOrder.{IsInOrder}
+use Rattle.ea_laws.specs.InOrder.{IsInOrder}
 use Rattle.ea_instance.proofs.Moments.{Stands, Stands-IsInOrder, chosen-Stands, clearing-Stands, creating-Stands, new-Stands, releasing-Stands}
 use Rattle.ea_top.specs.Flags.{IsBuilt}
 
@@ -42,7 +42,7 @@ module _ (r : Run) (name need : ℕ) (least : 6 ≤ need) (whole : need % 2 ≡ 
 
 tidied-Stands : (i : Instance) (number : ℕ) (o : Option Content) → content_of i.contents number ≡ o → Stands i → Stands (tidied i number o)
 tidied-Stands i number None e st = st
-tidied-Stands i number (Some c) e st = cond_both (is_done c) (clearing i number) i Stands (λ _. clearing-Stands i number c st e) (λ _. st)
+tidied-Stands i number (Some c) e st = cond_both (is_empty_multi c) (clearing i number) i Stands (λ _. clearing-Stands i number c st e) (λ _. st)
 
 freeing-Stands : (r : Run) (name : ℕ) (o : Option Spot) → Stands r.instance → Stands (freeing r name o).instance
 freeing-Stands r name None st = st

@@ -9,10 +9,10 @@ use Rattle.ea_model.specs.declared.entries.Entry.TheVariants as entry
 use Rattle.ea_model.specs.declared.entries.NoCarrier.{NoCarrier}
 use Rattle.ea_model.specs.declared.settings.Settings.{Settings}
 use Rattle.ea_model.specs.Choice.{IsFirst}
-use Rattle.ea_model.specs.Content.{Content, is_done}
+use Rattle.ea_model.specs.Content.{Content, is_empty_multi}
 use Rattle.ea_model.specs.Instance.{Instance, chosen_spot, creating, place_at, plan}
-use Rattle.ea_model.specs.Run.{Run, allocating, in_new_carrier, with_carrier}
-use Rattle.ea_model.specs.Strategies.{candidates, choice_among, choice_for, choice_unused, large_enough, looked_at, lower, may_miss, or_else, spot_of, takes_first}
+use Rattle.ea_laws.specs.Run.{Run, allocating, in_new_carrier, with_carrier}
+use Rattle.ea_model.specs.Strategies.{candidates, choice_among, choice_for, choice_empty, large_enough, inspected_by, lower, may_miss, or_else, spot_of, takes_first}
 use Rattle.ea_model.specs.Units.{need_of}
 use Rattle.ea_model.proofs.First.{first-IsFirst}
 use Rattle.ea_model.proofs.Options.{some_holds}
@@ -30,11 +30,11 @@ by_else false None other x e = absurd cc
 taken_first : (s : Settings) (need : ℕ) (cs : List Content) (x : Candidate) → choice_for s need cs ≡ Some x → IsTakenFirst s need cs x
 taken_first s need cs x e =
     let among = choice_among s.strategy s.mbsd need cs in
-    let looked = large_enough need (looked_at s.strategy s.mbsd (candidates cs)) in
-    let unused = large_enough need (candidates (filter is_done cs)) in
-    elim (by_else (may_miss s.strategy) among (choice_unused need cs) x e) [
+    let looked = large_enough need (inspected_by s.strategy s.mbsd (candidates cs)) in
+    let unused = large_enough need (candidates (filter is_empty_multi cs)) in
+    elim (by_else (may_miss s.strategy) among (choice_empty need cs) x e) [
       | inl found ↦ inl (some_holds among x (IsFirst (takes_first s.strategy) looked) found (first-IsFirst (takes_first s.strategy) (takes_first-order s.strategy) looked))
-      | inr other ↦ inr (other.0, subst IsNone (sym other.1) refl, some_holds (choice_unused need cs) x (IsFirst lower unused) other.2 (first-IsFirst lower (rising-order (λ (y : Candidate). y.address)) unused))
+      | inr other ↦ inr (other.0, subst IsNone (sym other.1) refl, some_holds (choice_empty need cs) x (IsFirst lower unused) other.2 (first-IsFirst lower (rising-order (λ (y : Candidate). y.address)) unused))
     ]
 
 candidate_for : (o : Option Candidate) (spot : Spot) → option_map spot_of o ≡ Some spot → (x : Candidate) × (o ≡ Some x) × (spot_of x ≡ spot)

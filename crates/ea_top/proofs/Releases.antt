@@ -9,7 +9,7 @@ use Rattle.ea_model.specs.declared.entries.NoCarrier.{NoCarrier}
 use Rattle.ea_model.specs.declared.operations.Op.{Op}
 use Rattle.ea_model.specs.declared.operations.Op.TheVariants as op
 use Rattle.ea_model.specs.Instance.{Instance, chosen_spot, creating, plan}
-use Rattle.ea_model.specs.Run.{Held, Run, allocating, freeing, in_new_carrier, spot_held, step, with_carrier, without}
+use Rattle.ea_laws.specs.Run.{Held, Run, allocating, freeing, in_new_carrier, spot_held, step, with_carrier, without}
 use Rattle.ea_model.specs.Units.{need_of}
 use Rattle.ea_model.proofs.Rising.{item_past}
 use Rattle.ea_top.specs.Moments.{ReleasesOnce}

@@ -12,11 +12,11 @@ use Rattle.ea_model.specs.declared.carriers.CarrierPlan.{CarrierPlan}
 use Rattle.ea_model.specs.declared.settings.Settings.{Settings}
 use Rattle.ea_model.specs.declared.entries.NoCarrier.{NoCarrier}
 use Rattle.ea_model.specs.declared.entries.Entry.TheVariants as entry
-use Rattle.ea_model.specs.Content.{Content, is_done}
+use Rattle.ea_model.specs.Content.{Content, is_empty_multi}
 use Rattle.ea_model.specs.Instance.{Instance, block_in, chosen_spot, place_at, main_carriers, plan, creating, releasing_at, content_of}
-use Rattle.ea_model.specs.Run.{Run, Held, spot_held, without, step, allocating, with_block, with_carrier, in_new_carrier, tidied, freed_at, freeing}
+use Rattle.ea_laws.specs.Run.{Run, Held, spot_held, without, step, allocating, with_block, with_carrier, in_new_carrier, tidied, freed_at, freeing}
 use Rattle.ea_model.proofs.Rising.{item_at-gone, item_at-stays}
-use Rattle.ea_instance.specs.Found.{IsOther, IsPlaced, HaveSameBlocks}
+use Rattle.ea_laws.specs.Spots.{IsOther, IsPlaced, HaveSameBlocks}
 use Rattle.ea_instance.specs.Answers.{placing_if}
 use Rattle.ea_top.specs.Holding.{HoldsBlocks, name_in}
 use Rattle.ea_top.specs.Running.{Shows, IsChosenPlace, spot_at}
@@ -114,7 +114,7 @@ run_more ops i d r h = ap (fold step r) (drop_more ops i d h)
 -- what an instance keeps when a block is released and its carrier perhaps deallocated
 tidied-keeps : (i : Instance) (number : ℕ) (o : Option Content) → ((tidied i number o).settings ≡ i.settings) × ((tidied i number o).created ≡ i.created)
 tidied-keeps i number None = (refl, refl)
-tidied-keeps i number (Some c) = elim (cases_Bool (is_done c)) [ inl d ↦ rw d (refl, refl) | inr k ↦ rw k (refl, refl) ]
+tidied-keeps i number (Some c) = elim (cases_Bool (is_empty_multi c)) [ inl d ↦ rw d (refl, refl) | inr k ↦ rw k (refl, refl) ]
 
 pub freed_at-keeps : (i : Instance) (spot : Spot) → ((freed_at i spot).settings ≡ i.settings) × ((freed_at i spot).created ≡ i.created)
 freed_at-keeps i spot = tidied-keeps (releasing_at i spot) spot.carrier (content_of (releasing_at i spot).contents spot.carrier)

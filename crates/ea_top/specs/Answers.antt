@@ -1,7 +1,7 @@
 -- What the program answers, by its words and its input.
 use Rattle.std.specs.Prelude.{ℕ, ◌<◌, Bool, List, [], length, nat_lt, unwrap_or, IsSome, IsOk}
 use Rattle.ea_model.specs.Flags.{flags}
-use Rattle.ea_model.specs.Text.{output_for}
+use Rattle.ea_top.specs.Output.{output_for}
 
 -- the words are flags that are built
 abbrev pub GoodWords : List (List ℕ) → Type 0

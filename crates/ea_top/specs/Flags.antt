@@ -3,7 +3,8 @@ use Rattle.std.specs.Prelude.{◌≡◌, ◌≤◌, Result, Ok, Err}
 use Rattle.ea_model.specs.declared.settings.Config.{Config}
 use Rattle.ea_model.specs.Settings.{IsValid}
 use Rattle.ea_model.specs.Instance.{pages_for}
-use Rattle.ea_model.specs.Flags.{Setting, Chosen, Refusal, region_pages}
+use Rattle.ea_model.specs.Flags.{Setting, Chosen, Refusal}
+use Rattle.ea_model.specs.Settings.{region_pages}
 use Rattle.ea_model.specs.Flags as flag
 use Rattle.ea_top.specs.declared.chosen.Chosen as chosen
 use Rattle.ea_top.specs.declared.chosen.Setting as code

@@ -1,10 +1,10 @@
 pub mod Says
 pub mod Reads
-pub mod Printed
 pub mod Holding
 pub mod Running
 pub mod Flags
+pub mod Output
 pub mod Answers
 pub mod Lines
 pub mod Whys
-pub mod Moments
+pub mod Throughout

@@ -3,7 +3,7 @@ use Rattle.std.specs.Prelude.{ℕ, ◌≡◌, ◌<◌, None, Some, get_or}
 use Rattle.ea_model.specs.declared.carriers.Spot.{Spot}
 use Rattle.ea_model.specs.declared.carriers.Place.{Place}
 use Rattle.ea_model.specs.Instance.{Instance, chosen_spot, place_at, placing_at}
-use Rattle.ea_model.specs.Run.{Run, spot_held}
+use Rattle.ea_laws.specs.Run.{Run, spot_held}
 use Rattle.ea_top.specs.declared.scheduler.Scheduler.{Scheduler}
 
 -- the scheduler is where the run is

@@ -2,7 +2,7 @@
 use Rattle.std.specs.Prelude.{◌≡◌, ℕ, ◌<◌, Option, None, IfSome, Err, List, length}
 use Rattle.ea_model.specs.declared.settings.Config.{Config}
 use Rattle.ea_model.specs.Flags.{Unsupported, TooSmall, flags}
-use Rattle.ea_model.specs.Text.{output, output_for}
+use Rattle.ea_top.specs.Output.{output, output_for}
 use Rattle.ea_top.specs.declared.faults.Fault.{Fault}
 use Rattle.ea_top.specs.declared.faults.Fault.TheVariants.{Word, SpaceTooSmall, Input, TooLong, ReadFailed, WriteFailed, OutOfMemory}
 use Rattle.ea_top.specs.Answers.{GoodWords, GoodInput}

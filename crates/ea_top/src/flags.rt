@@ -1,7 +1,8 @@
 //! Reads the flags that are built so far.
 ghost use Rattle.std.specs.Prelude.{◌≡◌, ◌+◌, ◌<◌, ◌≤◌, ◌^◌, ◌∷◌, [], ℕ, List, Err, IfOk, IfErr, IfSome, length, map, option_map, string_bytes};
 ghost use Rattle.ea_model.specs.Instance.{pages_for};
-ghost use Rattle.ea_model.specs.Flags.{Chosen as Choice, defaults, set_by, config_of, at_last, pairs_from, region_pages, flags};
+ghost use Rattle.ea_model.specs.Flags.{Chosen as Choice, defaults, set_by, config_of, at_last, pairs_from, flags};
+ghost use Rattle.ea_model.specs.Settings.{region_pages};
 ghost use Rattle.ea_top.specs.Flags.{setting_of, chosen_of, refusal_of, IsInRange, IsBuilt, Chooses, Reads};
 
 use crate::chosen::{Chosen, Setting};

@@ -7,7 +7,6 @@ mod flags;
 mod lines;
 mod outcome;
 mod reader;
-mod report;
 mod scheduler;
 mod seen;
 mod simulation;

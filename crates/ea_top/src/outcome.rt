@@ -1,13 +1,14 @@
 //! What a run leaves: the lines of its carriers, and the totals.
 ghost use Rattle.std.specs.Prelude.{◌≡◌, IfOk};
-ghost use Rattle.ea_model.specs.Text.{totals, run_text};
-ghost use Rattle.ea_model.specs.Run.{Run};
+ghost use Rattle.ea_model.specs.Instance.{totals};
+ghost use Rattle.ea_top.specs.Output.{run_text};
+ghost use Rattle.ea_laws.specs.Run.{Run};
 ghost use Rattle.ea_top.specs.Running.{Shows};
 
-use crate::report::print;
 use crate::scheduler::Scheduler;
 use ea_instance::Instance;
 use ea_model::{HEADER_UNITS, List, OutOfMemory, Totals};
+use ea_report::print;
 use std::alloc::Global;
 
 /// The totals of the carriers of an instance whose blocks are all held.

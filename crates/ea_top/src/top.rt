@@ -4,7 +4,7 @@ ghost use Rattle.std.specs.Io.KnownBytes.{Appends};
 ghost use Rattle.ea_io.specs.Counts.{Rose, Calm};
 ghost use Rattle.ea_io.specs.Fronts.{AppendsFront};
 ghost use Rattle.ea_model.specs.Flags.{flags};
-ghost use Rattle.ea_model.specs.Text.{output};
+ghost use Rattle.ea_top.specs.Output.{output};
 ghost use Rattle.ea_model.specs.Faultline.{faultline};
 ghost use Rattle.ea_top.specs.Flags.{IsBuilt};
 ghost use Rattle.ea_top.specs.Answers.{GoodWords, GoodInput, is_too_long, output_of};

@@ -4,7 +4,7 @@ use Rattle.ea_model.specs.Choice.{better}
 use Rattle.ea_model.specs.Strategies.{candidates, large_enough}
 use Rattle.ea_model.proofs.Options.{if_some}
 use Rattle.ea_instance.specs.Better.{better_of}
-use Rattle.ea_instance.specs.Found.{IsGapOf}
+use Rattle.ea_laws.specs.Spots.{IsGapOf}
 use Rattle.ea_instance.specs.Orders.{is_better}
 use Rattle.ea_instance.proofs.Folding.{choice_more-inner, better_of-either}
 use Rattle.ea_instance.proofs.walks.best_candidate.Goals as goal

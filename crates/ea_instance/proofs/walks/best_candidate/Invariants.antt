@@ -2,7 +2,7 @@ use Rattle.std.proofs.Common.{◌≡◌, fold, drop}
 use Rattle.std.specs.Prelude.{IfSome, Any}
 use Rattle.ea_model.specs.Choice.{better, first}
 use Rattle.ea_model.specs.Strategies.{large_enough, candidates}
-use Rattle.ea_instance.specs.Found.{IsGapOf}
+use Rattle.ea_laws.specs.Spots.{IsGapOf}
 use Rattle.ea_instance.specs.Orders.{is_better}
 use Rattle.ea_instance.proofs.walks.best_candidate.Given as goal
 

@@ -1,5 +1,5 @@
 use Rattle.std.proofs.Common.{sym, ◌∙◌, subst, refl}
-use Rattle.ea_instance.specs.Found.{IsPlaced}
+use Rattle.ea_laws.specs.Spots.{IsPlaced}
 use Rattle.ea_top.specs.Running.{IsChosenPlace}
 use Rattle.ea_model.proofs.Options.{some_holds}
 use Rattle.ea_top.proofs.Steps.{placed-chosen, placed-from}

@@ -1,7 +1,7 @@
 use Rattle.std.proofs.Common.{◌≡◌, ◌≤◌, drop, length}
 use Rattle.std.specs.Prelude.{fold}
-use Rattle.ea_model.specs.Run.{Run, step, run}
-use Rattle.ea_model.specs.Text.{instance_of}
+use Rattle.ea_laws.specs.Run.{Run, step, run}
+use Rattle.ea_model.specs.Instance.{instance_of}
 use Rattle.ea_top.specs.Running.{Shows}
 use Rattle.ea_top.proofs.simulation.simulate.Given as goal
 

@@ -3,8 +3,8 @@ use Rattle.std.specs.Prelude.{Result, Ok}
 use Rattle.std.proofs.lemmas.List.Elements.{All-nil}
 use Rattle.ea_model.specs.declared.settings.Config.{Config}
 use Rattle.ea_model.specs.Flags.{Refusal}
-use Rattle.ea_model.specs.Run.{run, start}
-use Rattle.ea_model.specs.Text.{instance_of}
+use Rattle.ea_laws.specs.Run.{run, start}
+use Rattle.ea_model.specs.Instance.{instance_of}
 use Rattle.ea_model.proofs.Pairs.{pairs_nil}
 use Rattle.ea_top.specs.Flags.{IsBuilt}
 use Rattle.ea_top.specs.Moments.{IsBlockOf}

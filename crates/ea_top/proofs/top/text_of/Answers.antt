@@ -1,7 +1,8 @@
 use Rattle.std.proofs.Common.{sym, ◌∙◌, ap}
 use Rattle.std.specs.Prelude.{Some, option_map}
-use Rattle.ea_model.specs.Run.{run}
-use Rattle.ea_model.specs.Text.{instance_of, run_text}
+use Rattle.ea_laws.specs.Run.{run}
+use Rattle.ea_model.specs.Instance.{instance_of}
+use Rattle.ea_top.specs.Output.{run_text}
 use Rattle.ea_top.proofs.top.text_of.Goals as goal
 
 pub returns-in-Ok-print-clause-ok : goal.returns-in-Ok-print-clause-ok

@@ -8,16 +8,16 @@ use Rattle.ea_cset.specs.Carriers.{Carriers, number_of, carrier_of, with_fit, re
 use Rattle.ea_cset.proofs.Places.{rising}
 use Rattle.ea_cset.proofs.set.CarrierSet.update.Goals as goal
 
-place : (c : goal.After-self-1) → c.place_of-place.result ≡ position_or_len (has_key number_of c.args.number) c.self.inside.held.items
-place c = c.place_of-place.ensures.place ∙ ap (position_or_len (has_key number_of c.args.number)) c.deref.ensures.value
+place : (c : goal.After-self-1) → c.index_of-place.result ≡ position_or_len (has_key number_of c.args.number) c.self.inside.held.items
+place c = c.index_of-place.ensures.place ∙ ap (position_or_len (has_key number_of c.args.number)) c.deref.ensures.value
 
-within : (c : goal.After-self-1) → c.place_of-place.result < length c.self.inside.held.items
-within c = subst (λ xs. c.place_of-place.result < length xs) c.deref.ensures.value c.place_of-place.ensures.within
+within : (c : goal.After-self-1) → c.index_of-place.result < length c.self.inside.held.items
+within c = subst (λ xs. c.index_of-place.result < length xs) c.deref.ensures.value c.index_of-place.ensures.within
 
-updated : (c : goal.After-self-1) → set c.self.inside.held.items c.place_of-place.result (record { key = c.index_mut.result.now.key; fit = c.args.fit }) ≡ refitted c.args.number c.args.fit c.self.inside.held.items
+updated : (c : goal.After-self-1) → set c.self.inside.held.items c.index_of-place.result (record { key = c.index_mut.result.now.key; fit = c.args.fit }) ≡ refitted c.args.number c.args.fit c.self.inside.held.items
 updated c =
     let hs = c.self.inside.held.items in
-    ap (λ (y : Held). set hs c.place_of-place.result (record { key = y.key; fit = c.args.fit })) c.index_mut.ensures.value
+    ap (λ (y : Held). set hs c.index_of-place.result (record { key = y.key; fit = c.args.fit })) c.index_mut.ensures.value
     ∙ ap (λ k. set hs k (record { key = (get_or hs k c.index_mut.result.now).key; fit = c.args.fit })) (place c)
     ∙ set-changed number_of (λ (h : Held). record { key = h.key; fit = c.args.fit }) c.args.number c.index_mut.result.now hs (rising hs c.self.invariant.rising) (subst (λ k. k < length hs) (place c) (within c))
 

@@ -2,7 +2,7 @@ use Rattle.std.proofs.Common.{List, ◌∙◌, ap, subst}
 use Rattle.std.specs.Prelude.{Any, IfSome}
 use Rattle.ea_model.proofs.Options.{if_some}
 use Rattle.ea_model.specs.Content.{Content}
-use Rattle.ea_instance.specs.Found.{IsGapOf, HasGap}
+use Rattle.ea_laws.specs.Spots.{IsGapOf, HasGap}
 use Rattle.ea_instance.specs.Listed.{CarrierList}
 use Rattle.ea_instance.proofs.Contents.{found_in}
 use Rattle.ea_instance.proofs.carriers.Carriers.best.Goals as goal

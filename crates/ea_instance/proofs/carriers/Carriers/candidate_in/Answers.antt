@@ -5,9 +5,9 @@ use Rattle.ea_model.specs.Strategies.{inner_of}
 use Rattle.ea_model.specs.Instance.{content_of}
 use Rattle.ea_model.proofs.Options.{if_some}
 use Rattle.ea_instance.specs.Listed.{CarrierList, candidate_in, chosen_in}
-use Rattle.ea_instance.specs.Found.{IsGapOf, HasGap}
+use Rattle.ea_laws.specs.Spots.{IsGapOf, HasGap}
 use Rattle.ea_model.proofs.Rising.{item_at-key}
-use Rattle.ea_instance.specs.Kept.{number_of}
+use Rattle.ea_laws.specs.Kept.{number_of}
 use Rattle.ea_instance.proofs.carriers.Carriers.candidate_in.Goals as goal
 
 -- the carrier has the number that was found

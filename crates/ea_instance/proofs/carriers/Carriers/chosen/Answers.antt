@@ -37,10 +37,10 @@ pub returns-in-Bins-clause-chosen : goal.returns-in-Bins-clause-chosen
 returns-in-Bins-clause-chosen c =
     let s = c.args.self.now.strategy in
     let order : order_of s ≡ Bins = ap (λ (l : CarrierList). order_of l.strategy) (sym c.self.view_is) ∙ sym c.order_of.ensures ∙ c.in-Bins.is in
-    choice-else s Gf c.args.depth c.args.need c.args.self.now.contents c.or_unused.result c.inspected.result (bins-gf s order) refl c.inspected.ensures.chosen c.or_unused.ensures.chosen
+    choice-else s Gf c.args.depth c.args.need c.args.self.now.contents c.or_empty.result c.inspected.result (bins-gf s order) refl c.inspected.ensures.chosen c.or_empty.ensures.chosen
 
 pub returns-in-Lowest-clause-chosen : goal.returns-in-Lowest-clause-chosen
 returns-in-Lowest-clause-chosen c =
     let s = c.args.self.now.strategy in
     let order : order_of s ≡ Lowest = ap (λ (l : CarrierList). order_of l.strategy) (sym c.self.view_is) ∙ sym c.order_of.ensures ∙ c.in-Lowest.is in
-    choice-else s Af c.args.depth c.args.need c.args.self.now.contents c.or_unused-in-Lowest.result c.lowest.result (lowest-af s order) refl (c.lowest.ensures.chosen c.args.depth) c.or_unused-in-Lowest.ensures.chosen
+    choice-else s Af c.args.depth c.args.need c.args.self.now.contents c.or_empty-in-Lowest.result c.lowest.result (lowest-af s order) refl (c.lowest.ensures.chosen c.args.depth) c.or_empty-in-Lowest.ensures.chosen

@@ -4,8 +4,9 @@ use Rattle.std.specs.Option.{option_and_then}
 use Rattle.ea_model.specs.declared.settings.Strategy.TheVariants.{Gf}
 use Rattle.ea_model.specs.declared.carriers.Candidate.{Candidate}
 use Rattle.ea_model.specs.Strategies.{choice_among}
-use Rattle.ea_instance.specs.Found.{HasGap}
-use Rattle.ea_instance.specs.Listed.{CarrierList, IsSound, candidate_at}
+use Rattle.ea_laws.specs.Spots.{HasGap}
+use Rattle.ea_laws.specs.Kept.{IsLaidOut}
+use Rattle.ea_instance.specs.Listed.{CarrierList, candidate_at}
 use Rattle.ea_instance.proofs.Missing.{gf-choice, gf-HasGap}
 use Rattle.ea_instance.proofs.carriers.Carriers.inspected.Goals as goal
 
@@ -28,4 +29,4 @@ returns-clause-chosen c = chosen c
 pub returns-clause-gap : goal.returns-clause-gap
 returns-clause-gap c =
     subst (λ (o : Option Candidate). IfSome o (λ x. HasGap c.args.need x.number x.offset c.args.self.now.contents)) (sym (chosen c))
-    (gf-HasGap c.args.depth c.args.need c.args.self.now.contents c.requires.rising (subst (λ (l : CarrierList). All IsSound l.contents) c.self.view_is c.self.invariant.sound))
+    (gf-HasGap c.args.depth c.args.need c.args.self.now.contents c.requires.rising (subst (λ (l : CarrierList). All IsLaidOut l.contents) c.self.view_is c.self.invariant.sound))

@@ -3,7 +3,8 @@ use Rattle.std.specs.Prelude.{Some}
 use Rattle.ea_model.specs.Choice.{first}
 use Rattle.ea_model.specs.Content.{Content}
 use Rattle.ea_model.specs.Strategies.{candidates, large_enough, lower}
-use Rattle.ea_instance.specs.Listed.{CarrierList, IsSound}
+use Rattle.ea_laws.specs.Kept.{IsLaidOut}
+use Rattle.ea_instance.specs.Listed.{CarrierList}
 use Rattle.ea_instance.proofs.Missing.{af-none, af-small, af-large, af-HasGap, lowest-is}
 use Rattle.ea_instance.proofs.carriers.Carriers.lowest.Goals as goal
 
@@ -27,4 +28,4 @@ returns-clause-chosen c = λ depth. sym (af-large depth c.args.need c.args.self.
 
 pub returns-clause-gap : goal.returns-clause-gap
 returns-clause-gap c =
-    af-HasGap c.args.need c.args.self.now.contents c.in_ok-found.found c.requires.rising (subst (λ (l : CarrierList). All IsSound l.contents) c.self.view_is c.self.invariant.sound) (lowest c) c.if-found-need.false
+    af-HasGap c.args.need c.args.self.now.contents c.in_ok-found.found c.requires.rising (subst (λ (l : CarrierList). All IsLaidOut l.contents) c.self.view_is c.self.invariant.sound) (lowest c) c.if-found-need.false

@@ -1,11 +1,11 @@
 use Rattle.std.proofs.Common.{◌≡◌, true, ◌/◌, ◌∙◌, ap, sym, subst}
 use Rattle.std.specs.Prelude.{IfSome}
-use Rattle.ea_model.specs.Content.{is_done}
+use Rattle.ea_model.specs.Content.{is_empty_multi}
 use Rattle.ea_model.specs.Instance.{Instance, clearing, segments, content_of, block_in}
 use Rattle.ea_model.specs.Region.{Region, cut_from}
-use Rattle.ea_instance.specs.Kept.{IsKept}
+use Rattle.ea_instance.specs.Kept.{KeepsCarriers}
 use Rattle.ea_instance.specs.Listed.{CarrierList}
-use Rattle.ea_space.specs.Pages.{IsTail}
+use Rattle.ea_model.specs.Region.{IsTail}
 use Rattle.ea_instance.proofs.Contents.{same-without}
 use Rattle.ea_instance.proofs.Segments.{content_of-IsTail}
 use Rattle.ea_instance.proofs.Keeping.{IsKept-cleared, seen_as}
@@ -32,8 +32,8 @@ returns-clause-cleared c =
 
 pub returns-clause-blocks : goal.returns-clause-blocks
 returns-clause-blocks c = λ at.
-    let empty : is_done c.leave-carrier.result ≡ true =
-    subst (λ o. IfSome o (λ x. is_done x ≡ true)) (sym (ap (λ (i : Instance). content_of i.contents c.args.number) c.self.view_is) ∙ c.leave-carrier.ensures.carrier) c.requires.0 in
+    let empty : is_empty_multi c.leave-carrier.result ≡ true =
+    subst (λ o. IfSome o (λ x. is_empty_multi x ≡ true)) (sym (ap (λ (i : Instance). content_of i.contents c.args.number) c.self.view_is) ∙ c.leave-carrier.ensures.carrier) c.requires.0 in
     ap (λ (cs : CarrierList). block_in cs.contents at) c.leave-carrier.ensures.rest
     ∙ same-without c.args.number c.leave-carrier.result c.self.inside.carriers.contents c.leave-carrier.ensures.carrier empty at
     ∙ ap (λ i. block_in i.contents at) c.self.view_is

@@ -1,5 +1,5 @@
 use Rattle.std.proofs.Common.{length, arith, ap, subst}
-use Rattle.ea_instance.specs.InOrder.{IsInOrder}
+use Rattle.ea_laws.specs.InOrder.{IsInOrder}
 use Rattle.ea_instance.proofs.Contents.{rising-length}
 use Rattle.ea_instance.proofs.Moments.{Stands-IsInOrder, kept-Stands}
 use Rattle.ea_instance.proofs.instance.Instance.free_units.Goals as goal

@@ -4,7 +4,7 @@ use Rattle.ea_model.specs.declared.carriers.Segment.{Segment}
 use Rattle.ea_model.specs.declared.entries.NoCarrier.TheVariants.{Numbers, Space}
 use Rattle.ea_model.specs.Region.{runs}
 use Rattle.ea_model.specs.Instance.{least_pages, segments}
-use Rattle.ea_instance.specs.Found.{AllUsed}
+use Rattle.ea_laws.specs.Spots.{AllUsed}
 use Rattle.ea_instance.proofs.Refusals.{plan-numbers, plan-space}
 use Rattle.ea_instance.proofs.instance.Instance.plan_carrier.Goals as goal
 

@@ -1,5 +1,5 @@
 use Rattle.std.proofs.Common.{◌≡◌, ◌++◌, map, take}
-use Rattle.ea_model.specs.Text.{carrier_line}
+use Rattle.ea_model.specs.Instance.{carrier_line}
 use Rattle.ea_instance.proofs.instance.Instance.put_lines.Given as goal
 
 abbrev pub invariant-loop-carrier : goal.invariant-loop-carrier

@@ -4,11 +4,11 @@ use Rattle.std.proofs.lemmas.Result.{IfOk-weaker}
 use Rattle.ea_model.specs.declared.settings.Strategy.TheVariants.{Aoff}
 use Rattle.ea_model.specs.declared.carriers.Place.{Place}
 use Rattle.ea_model.specs.declared.carriers.Candidate.{Candidate}
-use Rattle.ea_model.specs.Content.{is_done}
+use Rattle.ea_model.specs.Content.{is_empty_multi}
 use Rattle.ea_model.specs.Instance.{chosen_spot, place_at}
-use Rattle.ea_model.specs.Strategies.{candidates, large_enough, looked_at, lower, takes_first}
+use Rattle.ea_model.specs.Strategies.{candidates, large_enough, inspected_by, lower, takes_first}
 use Rattle.ea_model.proofs.First.{first-IsFirst}
-use Rattle.ea_instance.specs.Found.{FindsNone}
+use Rattle.ea_laws.specs.Spots.{FindsNone}
 use Rattle.ea_instance.proofs.Folding.{takes_first-order}
 use Rattle.ea_instance.proofs.Refusals.{chosen-none, chosen-none_at_all}
 use Rattle.ea_instance.proofs.instance.Instance.try_alloc.Goals as goal
@@ -30,7 +30,7 @@ returns-clause-all c = λ none.
 pub returns-clause-first : goal.returns-clause-first
 returns-clause-first c =
     let i = c.args.self.now in
-    first-IsFirst (takes_first i.settings.strategy) (takes_first-order i.settings.strategy) (large_enough c.args.need (looked_at i.settings.strategy i.settings.mbsd (candidates i.contents)))
+    first-IsFirst (takes_first i.settings.strategy) (takes_first-order i.settings.strategy) (large_enough c.args.need (inspected_by i.settings.strategy i.settings.mbsd (candidates i.contents)))
 
 pub returns-clause-unused : goal.returns-clause-unused
-returns-clause-unused c = first-IsFirst lower (takes_first-order Aoff) (large_enough c.args.need (candidates (filter is_done c.args.self.now.contents)))
+returns-clause-unused c = first-IsFirst lower (takes_first-order Aoff) (large_enough c.args.need (candidates (filter is_empty_multi c.args.self.now.contents)))

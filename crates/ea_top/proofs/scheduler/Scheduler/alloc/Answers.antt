@@ -2,10 +2,10 @@ use Rattle.std.proofs.Common.{◌≡◌, ◌+◌, ◌≤◌, ◌++◌, ◌∷◌
 use Rattle.std.specs.Prelude.{Some}
 use Rattle.std.proofs.lemmas.Result.{IfOk-weaker}
 use Rattle.ea_model.specs.Units.{need_of}
-use Rattle.ea_model.specs.Run.{Run, allocating}
+use Rattle.ea_laws.specs.Run.{Run, allocating}
 use Rattle.ea_model.specs.Instance.{Instance, chosen_spot, plan, creating}
 use Rattle.ea_model.specs.declared.entries.Entry.TheVariants.{Alloc, AllocFail}
-use Rattle.ea_instance.specs.Found.{IsPlaced}
+use Rattle.ea_laws.specs.Spots.{IsPlaced}
 use Rattle.ea_top.specs.declared.scheduler.Scheduler.{Scheduler}
 use Rattle.ea_top.specs.Holding.{HoldsBlocks}
 use Rattle.ea_top.specs.Running.{Shows, IsChosenPlace, spot_at}

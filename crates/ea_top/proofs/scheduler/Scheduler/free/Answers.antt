@@ -4,7 +4,7 @@ use Rattle.std.proofs.lemmas.List.{get_or_read}
 use Rattle.ea_model.specs.declared.entries.Entry.TheVariants.{Free}
 use Rattle.ea_model.specs.declared.settings.Settings.{Settings}
 use Rattle.ea_model.specs.Instance.{Instance}
-use Rattle.ea_model.specs.Run.{spot_held}
+use Rattle.ea_laws.specs.Run.{spot_held}
 use Rattle.ea_top.proofs.Steps.{some_block, holds_released, shows_freed, freed_at-keeps}
 use Rattle.ea_top.proofs.scheduler.Scheduler.free.Goals as goal
 

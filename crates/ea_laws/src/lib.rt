@@ -1,0 +1,3 @@
+//! Laws that follow from the definitions alone: of carriers, gaps, choices, regions, instances and runs. There
+//! is no code here; each law is a clause of a function that does nothing, so that the check asks for its proof.
+#![tactic(auto)]

@@ -1,0 +1,10 @@
+-- What the words of a line stand for.
+use Rattle.std.specs.Prelude.{ℕ, List, decimal}
+use Rattle.ea_report.specs.declared.lines.Word as code
+use Rattle.ea_report.specs.declared.lines.Word.TheVariants.{Text, Number, Sum}
+
+-- the text of a word
+abbrev pub word_text : code.Word → List ℕ
+word_text (Text t) = t.now
+word_text (Number n) = decimal n
+word_text (Sum n) = decimal n

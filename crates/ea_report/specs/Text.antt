@@ -1,0 +1,86 @@
+-- The output text of a run.
+use Rattle.std.specs.Prelude.{ℕ, ◌*◌, ◌/◌, length, map, sum_by, List, [], ◌∷◌, ◌++◌, Option, None, Result, Ok, Err, codes, decimal}
+use Rattle.std.specs.List.{flat_map}
+use Rattle.std.specs.Option.{option_map}
+use Rattle.ea_model.specs.declared.carriers.Place.{Place}
+use Rattle.ea_model.specs.declared.carriers.Kind.{Kind}
+use Rattle.ea_model.specs.declared.carriers.Kind.TheVariants as kind
+use Rattle.ea_model.specs.declared.carriers.Standing.{Standing}
+use Rattle.ea_model.specs.declared.carriers.Standing.TheVariants as standing
+use Rattle.ea_model.specs.declared.carriers.CarrierLine.{CarrierLine}
+use Rattle.ea_model.specs.declared.carriers.Totals.{Totals}
+use Rattle.ea_model.specs.declared.entries.NoCarrier.{NoCarrier}
+use Rattle.ea_model.specs.declared.entries.NoCarrier.TheVariants as cause
+use Rattle.ea_model.specs.declared.entries.Report.{Report}
+use Rattle.ea_model.specs.declared.entries.Entry.{Entry}
+use Rattle.ea_model.specs.declared.entries.Entry.TheVariants as entry
+use Rattle.ea_model.specs.Content.{Content, gaps_of, allocated, largest, free_units}
+use Rattle.ea_model.specs.Trace.{trace_of}
+use Rattle.ea_model.specs.declared.settings.Config.{Config}
+use Rattle.ea_model.specs.Instance.{Instance, new_instance}
+use Rattle.ea_model.specs.Flags.{Refusal, flags}
+use Rattle.ea_model.specs.Settings.{region_pages}
+use Rattle.ea_laws.specs.Run.{Run, run}
+
+-- a line: a first word, each further word behind a space, and a line feed
+abbrev pub line : List ℕ → List (List ℕ) → List ℕ
+line first words = first ++ flat_map (λ w. 32 ∷ w) words ++ 10 ∷ []
+
+abbrev pub cause_text : NoCarrier → List ℕ
+cause_text cause.Numbers = codes "numbers"
+cause_text cause.Space = codes "space"
+
+abbrev pub report_text : List ℕ → Report → List ℕ
+report_text class r = line (codes "info") (class
+    ∷ codes "blocks" ∷ decimal r.blocks.now ∷ decimal r.blocks.last ∷ decimal r.blocks.ever
+    ∷ codes "blocks_size" ∷ decimal r.blocks_size.now ∷ decimal r.blocks_size.last ∷ decimal r.blocks_size.ever
+    ∷ codes "carriers" ∷ decimal r.carriers.now ∷ decimal r.carriers.last ∷ decimal r.carriers.ever
+    ∷ codes "carriers_size" ∷ decimal r.carriers_size.now ∷ decimal r.carriers_size.last ∷ decimal r.carriers_size.ever ∷ [])
+
+-- the line of a reallocation whose block lies at p, with what came of the old one
+abbrev pub realloc_text : ℕ → ℕ → Place → List (List ℕ) → List ℕ
+realloc_text old fresh p rest = line (codes "realloc") (decimal old ∷ decimal fresh ∷ decimal p.carrier ∷ decimal p.offset ∷ decimal p.size ∷ rest)
+
+-- what stands behind the names of an operation that found no place
+abbrev pub fail_words : ℕ → ℕ → NoCarrier → List (List ℕ)
+fail_words need looked why = codes "fail" ∷ codes "need" ∷ decimal need ∷ codes "looked" ∷ decimal looked ∷ cause_text why ∷ []
+
+-- the line of an entry; the allocator information has two
+abbrev pub entry_text : Entry → List ℕ
+entry_text (entry.Alloc name p) = line (codes "alloc") (decimal name ∷ decimal p.carrier ∷ decimal p.offset ∷ decimal p.size ∷ [])
+entry_text (entry.AllocFail name need looked why) = line (codes "alloc") (decimal name ∷ fail_words need looked why)
+entry_text (entry.Free name) = line (codes "free") (decimal name ∷ codes "done" ∷ [])
+entry_text (entry.FreeQueued name to) = line (codes "free") (decimal name ∷ codes "queued" ∷ decimal to ∷ [])
+entry_text (entry.FreeSkipped name) = line (codes "free") (decimal name ∷ codes "skipped" ∷ [])
+entry_text (entry.ReallocHere old fresh p) = realloc_text old fresh p (codes "here" ∷ [])
+entry_text (entry.ReallocMoved old fresh p) = realloc_text old fresh p (codes "moved" ∷ codes "done" ∷ [])
+entry_text (entry.ReallocQueued old fresh p to) = realloc_text old fresh p (codes "moved" ∷ codes "queued" ∷ decimal to ∷ [])
+entry_text (entry.ReallocFail old fresh need looked why) = line (codes "realloc") (decimal old ∷ decimal fresh ∷ fail_words need looked why)
+entry_text (entry.ReallocSkipped old fresh) = line (codes "realloc") (decimal old ∷ decimal fresh ∷ codes "skipped" ∷ [])
+entry_text (entry.Give name to) = line (codes "give") (decimal name ∷ decimal to ∷ [])
+entry_text (entry.GiveSkipped name to) = line (codes "give") (decimal name ∷ decimal to ∷ codes "skipped" ∷ [])
+entry_text (entry.Take name) = line (codes "take") (decimal name ∷ codes "got" ∷ [])
+entry_text (entry.TakeAbsent name tries) = line (codes "take") (decimal name ∷ codes "absent" ∷ decimal tries ∷ [])
+entry_text (entry.Info mbcs sbcs) = report_text (codes "mbcs") mbcs ++ report_text (codes "sbcs") sbcs
+entry_text entry.Idle = line (codes "idle") []
+
+abbrev pub kind_text : Kind → List ℕ
+kind_text kind.Main = codes "main"
+kind_text kind.Multi = codes "multi"
+kind_text kind.Single = codes "single"
+
+abbrev pub standing_text : Standing → List ℕ
+standing_text standing.Employed = codes "employed"
+standing_text standing.Pooled = codes "pooled"
+standing_text standing.Busy = codes "busy"
+standing_text standing.Returning = codes "returning"
+
+abbrev pub carrier_text : CarrierLine → List ℕ
+carrier_text c = line (codes "carrier") (decimal c.number ∷ kind_text c.kind ∷ codes "owner" ∷ decimal c.owner ∷ standing_text c.word ∷ decimal c.employer ∷ codes "base" ∷ decimal c.base ∷ codes "pages" ∷ decimal c.pages ∷ codes "allocated" ∷ decimal c.allocated ∷ codes "largest" ∷ decimal c.largest ∷ [])
+
+abbrev pub totals_text : Totals → List ℕ
+totals_text t = line (codes "total") (codes "carriers" ∷ decimal t.carriers ∷ codes "units" ∷ decimal t.units ∷ codes "live" ∷ decimal t.live ∷ codes "queued" ∷ decimal t.queued ∷ codes "free" ∷ decimal t.free ∷ codes "header" ∷ decimal t.header ∷ [])
+
+-- the text of scheduler 1's log, the carriers and the totals
+abbrev pub text : List Entry → List CarrierLine → Totals → List ℕ
+text log carriers totals = line (codes "scheduler") (decimal 1 ∷ []) ++ flat_map entry_text log ++ flat_map carrier_text carriers ++ totals_text totals
