@@ -4,6 +4,5 @@ pub mod InRange
 pub mod Moments
 pub mod Pairs
 pub mod Placements
-pub mod Printing
 pub mod Releases
 pub mod Steps
