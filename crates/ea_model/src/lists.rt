@@ -1,12 +1,20 @@
 //! A list over a `Vec`, which contracts see as its items and the room that is left for more.
 ghost use Rattle.std.specs.Prelude.{◌≡◌, ◌+◌, ◌-◌, ◌<◌, ◌≤◌, [], ◌∷◌, ◌++◌, length, slice_index_or, OnOk, OnErr};
 
-use std::alloc::Global;
+use std::alloc::{AllocError, Global};
 use std::marker::Model;
 
 /// There was no memory.
 #[derive(Debug, Clone, Copy, PartialEq, Eq)]
 pub struct OutOfMemory;
+
+impl From<AllocError> for OutOfMemory {
+    ghost from_gives = { λ _ e. e ≡ record {} };
+
+    fn from(_: AllocError) -> OutOfMemory {
+        OutOfMemory
+    }
+}
 
 /// Items in order. Contracts see `items`, and beside them `room`: how many more can be added without
 /// taking memory.
