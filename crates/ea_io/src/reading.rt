@@ -4,9 +4,9 @@ ghost use Rattle.std.specs.Io.KnownBytes.{IsAtEnd};
 ghost use Rattle.ea_io.specs.Calls.{StopsAtFault};
 ghost use Rattle.ea_io.specs.Counts.{Rose};
 ghost use Rattle.ea_io.specs.Fronts.{ConsumesAtMost, ConsumesMany};
-ghost use Rattle.ea_io.specs.declared.reading.ReadAllFault.TheVariants.{ReadFault, OutOfMemory};
+ghost use Rattle.ea_io.specs.declared.reading.ReadAllFault.TheVariants.{OutOfMemory};
 
-use crate::ends::{Failed, Source};
+use crate::ends::Source;
 use ea_model::List;
 use std::alloc::{AllocError, Global};
 use thiserror::Error;
@@ -23,14 +23,6 @@ pub enum ReadAllFault {
     /// There was no memory for the bytes.
     #[error("out of memory")]
     OutOfMemory,
-}
-
-impl From<Failed> for ReadAllFault {
-    ghost from_gives = { λ _ fault. fault ≡ ReadFault };
-
-    fn from(_: Failed) -> ReadAllFault {
-        ReadAllFault::ReadFault
-    }
 }
 
 impl From<AllocError> for ReadAllFault {
@@ -77,7 +69,9 @@ pub fn read_all<S: Source>(
     let mut buffer = [0; PIECE];
     while bytes.len() <= max {
         let want = PIECE.min(max + 1 - bytes.len());
-        let count = source.read(&mut buffer[..want])?;
+        let Ok(count) = source.read(&mut buffer[..want]) else {
+            return Err(ReadAllFault::ReadFault);
+        };
         if count == 0 {
             return Ok(List::from_vec(bytes));
         }
