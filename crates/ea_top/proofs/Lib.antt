@@ -1,9 +1,4 @@
-pub mod Failures
-pub mod Held
 pub mod InRange
-pub mod Moments
 pub mod Pairs
-pub mod Placements
 pub mod Printing
-pub mod Releases
 pub mod Steps

@@ -4,7 +4,7 @@ use Rattle.std.proofs.lemmas.Grind.{common_steps}
 use Rattle.ea_model.specs.Content.{gaps_of, gap_at}
 use Rattle.ea_model.specs.Choice.{choice}
 use Rattle.ea_model.proofs.Options.{some_map}
-use Rattle.ea_mbc.proofs.Chosen.{choice-fits, choice-sized, choice-none}
+use Rattle.ea_laws.proofs.Chosen.{choice-fits, choice-sized, choice-none}
 use Rattle.ea_mbc.proofs.Least.{choice-IsFirst}
 use Rattle.ea_mbc.proofs.carrier.Mbc.choose.Goals as goal
 

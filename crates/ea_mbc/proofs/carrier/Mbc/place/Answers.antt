@@ -1,6 +1,6 @@
 use Rattle.std.proofs.Common.{◌≡◌, ◌≤◌, sym, ◌∙◌, ap, subst, arith}
 use Rattle.ea_model.specs.Content.{gap_at, gaps, gaps_of, block_at, taken_of, Tiled}
-use Rattle.ea_mbc.proofs.BlockLists.{gap_at-whole, taken_of-enters, Tiled-inserted, IsFront-gap, offset_of}
+use Rattle.ea_laws.proofs.BlockLists.{gap_at-whole, taken_of-enters, Tiled-inserted, IsFront-gap, offset_of}
 use Rattle.ea_model.proofs.Rising.{item_at-new, item_at-old, none-other}
 use Rattle.ea_mbc.proofs.Replacing.{placed-GapTaken}
 use Rattle.ea_mbc.proofs.carrier.Mbc.place.Goals as goal

@@ -1,7 +1,7 @@
 use Rattle.std.proofs.Common.{sym, ◌∙◌, ap, subst}
 use Rattle.ea_model.specs.Content.{block_at, Tiled}
 use Rattle.ea_model.proofs.Rising.{item_at-gone, item_at-stays}
-use Rattle.ea_mbc.proofs.BlockLists.{offset_of, Tiled-released, Tiled-rising}
+use Rattle.ea_laws.proofs.BlockLists.{offset_of, Tiled-released, Tiled-rising}
 use Rattle.ea_mbc.proofs.Replacing.{released-GapsJoined}
 use Rattle.ea_mbc.proofs.carrier.Mbc.release.Goals as goal
 

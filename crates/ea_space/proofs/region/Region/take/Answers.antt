@@ -3,10 +3,10 @@ use Rattle.std.specs.Prelude.{IfSome, Some}
 use Rattle.std.proofs.lemmas.Grind.{common_steps}
 use Rattle.ea_model.specs.Region.{runs, lowest_run, with_segment, Laid}
 use Rattle.ea_model.proofs.Rising.{length-entered}
-use Rattle.ea_space.proofs.Segments.{Laid-entered, start_of}
-use Rattle.ea_space.proofs.Tails.{IsTail-entered, IsTail-entered_other}
+use Rattle.ea_laws.proofs.Segments.{Laid-entered, start_of}
+use Rattle.ea_laws.proofs.Tails.{IsTail-entered, IsTail-entered_other}
 use Rattle.ea_model.specs.Region.{IsTail}
-use Rattle.ea_space.proofs.Runs.{Fits, lowest-Fits}
+use Rattle.ea_laws.proofs.FreeRuns.{Fits, lowest-Fits}
 use Rattle.ea_space.proofs.region.Region.take.Goals as goal
 
 -- the answer is the base of the lowest run

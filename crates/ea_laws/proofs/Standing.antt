@@ -1,12 +1,12 @@
 -- What holds of an instance at every moment.
 use Rattle.std.proofs.Common.{◌≡◌, ℕ, ◌+◌, ◌%◌, ◌<◌, ◌≤◌, Bool, true, false, List, [], ◌∷◌, filter, length, sym, ap, ◌∙◌, subst, refl, inl, inr, arith}
-use Rattle.std.specs.Prelude.{Option, Some, None, Ok, IfSome, All, AllPairs, Contains, nat_lt, option_map}
+use Rattle.std.specs.Prelude.{Option, Some, None, Ok, IfSome, All, Contains, nat_lt, option_map}
 use Rattle.std.proofs.lemmas.Bool.{cases_lt, cond-true, cond-false}
 use Rattle.std.proofs.lemmas.List.Elements.{All-nil, All-cons, All-filter, All-contains_itself}
 use Rattle.std.proofs.lemmas.List.Kept.{AllPairs-cons, AllPairs-filter}
 use Rattle.ea_model.specs.declared.settings.Settings.{Settings}
+use Rattle.ea_model.specs.declared.units.TheConstants.{MAX_PAGES}
 use Rattle.ea_model.specs.declared.settings.Strategy.{Strategy}
-use Rattle.ea_model.specs.declared.settings.Strategy.TheVariants.{Bf, Aobf, Aoff, AoffCbf, AoffCaobf, AgeffCaoff, AgeffCbf, AgeffCaobf, Gf, Af}
 use Rattle.ea_model.specs.declared.carriers.BlockAt.{BlockAt}
 use Rattle.ea_model.specs.declared.carriers.Candidate.{Candidate}
 use Rattle.ea_model.specs.declared.carriers.CarrierPlan.{CarrierPlan}
@@ -14,43 +14,25 @@ use Rattle.ea_model.specs.declared.carriers.Kind.TheVariants.{Multi}
 use Rattle.ea_model.specs.declared.carriers.Spot.{Spot}
 use Rattle.ea_model.specs.Content.{Content, gap_at, gaps_of, is_empty_multi, placed, released, taken_of}
 use Rattle.ea_model.specs.Choice.{first}
-use Rattle.ea_model.specs.GoodFit.{is_inspected}
 use Rattle.ea_model.specs.Keyed.{IsBelow}
-use Rattle.ea_model.specs.Region.{Region, cut_from}
 use Rattle.ea_model.specs.Settings.{IsValid}
-use Rattle.ea_model.specs.Strategies.{candidates, choice_among, choice_for, choice_empty, large_enough, inspected_by, lower, may_miss, only, or_else, spot_of, takes_first}
-use Rattle.ea_model.specs.Instance.{Instance, changed, chosen_spot, clearing, content_of, created_content, creating, first_number, main_content, new_instance, pages_for, placing_at, plan, releasing_at, segments, with_content, without_content}
+use Rattle.ea_model.specs.Strategies.{candidates, choice_among, choice_for, choice_empty, large_enough, inspected_by, lower, may_miss, or_else, spot_of, takes_first}
+use Rattle.ea_model.specs.Instance.{Instance, changed, chosen_spot, clearing, content_of, created_content, creating, first_number, main_content, new_instance, pages_for, placing_at, plan, releasing_at}
 use Rattle.ea_model.proofs.First.{first-All}
 use Rattle.ea_model.proofs.Options.{if_some, some_holds, some_map}
 use Rattle.ea_model.proofs.Pairs.{pairs_nil}
 use Rattle.ea_model.proofs.Rising.{All-entered, changed_none, item_at-All, item_at-each, item_at-key, none-other}
-use Rattle.ea_mbc.proofs.BlockLists.{gap_at-whole, taken_of-enters, Tiled-inserted, Tiled-released}
-use Rattle.ea_space.proofs.Segments.{Laid-cut}
+use Rattle.ea_laws.proofs.BlockLists.{gap_at-whole, taken_of-enters, Tiled-inserted, Tiled-released}
 use Rattle.ea_laws.specs.Spots.{HasGap}
 use Rattle.ea_laws.specs.InOrder.{IsInOrder}
-use Rattle.ea_laws.specs.Kept.{number_of, HasNumberIn, IsRising, IsWhole}
-use Rattle.ea_instance.specs.Kept.{KeepsCarriers}
-use Rattle.ea_laws.specs.Kept.{ContentsApart, IsLaidOut}
-use Rattle.ea_instance.specs.Listed.{CarrierList}
-use Rattle.ea_instance.proofs.Changed.{KeepsPlace, placed-keeps, released-keeps}
-use Rattle.ea_instance.proofs.Keeping.{IsKept-changed, IsKept-cleared, kept-made, others-apart, pages_of_units, seen_as, sound-made, whole_pages}
-use Rattle.ea_instance.proofs.Listed.{all-sound, apart-changed, apart-with}
-use Rattle.ea_instance.proofs.Located.{candidate-HasGap}
-use Rattle.ea_instance.proofs.Missing.{IsLarge, large_among}
-use Rattle.ea_instance.proofs.Ranges.{blocks-disjoint}
-use Rattle.ea_instance.proofs.Sums.{all-units}
-
-abbrev pub list_of : Instance → CarrierList
-list_of i = record { strategy = i.settings.strategy; contents = i.contents }
-
-abbrev pub region_of : Instance → Region
-region_of i = record { first = i.first; end = i.end; taken = segments i.contents }
-
--- its region is kept, and its carriers are sound and lie apart
-pub record Stands (i : Instance) : Type 0 where
-  pub kept : IsKept i.settings i.number (list_of i) (region_of i)
-  pub sound : All IsLaidOut i.contents
-  pub apart : AllPairs ContentsApart i.contents
+use Rattle.ea_laws.specs.Kept.{number_of, HasNumberIn, IsRising, IsWhole, ContentsApart, IsLaidOut, Stands}
+use Rattle.ea_laws.proofs.Changed.{KeepsPlace, placed-keeps, released-keeps}
+use Rattle.ea_laws.proofs.Keeping.{IsKept-changed, IsKept-cleared, IsKept-made, IsLaidOut-made, others-apart, pages_of_units, whole_pages}
+use Rattle.ea_laws.proofs.Apart.{all-sound, apart-changed, apart-with}
+use Rattle.ea_laws.proofs.Candidates.{candidate-HasGap, IsLarge, large_among}
+use Rattle.ea_laws.proofs.Inspected.{inspected_by-among}
+use Rattle.ea_laws.proofs.Ranges.{blocks-disjoint}
+use Rattle.ea_laws.proofs.Sums.{all-units}
 
 pub Stands-IsInOrder : (i : Instance) → Stands i → IsInOrder i
 Stands-IsInOrder i st = record {
@@ -61,27 +43,13 @@ Stands-IsInOrder i st = record {
   sum = all-units i.contents st.sound;
 }
 
--- the taken segments are those of the carriers
-seated : (s : Settings) (n : ℕ) (ks : CarrierList) (r : Region) → IsKept s n ks r → IsKept s n ks (record r { taken = segments ks.contents })
-seated s n ks r k = subst (λ t. IsKept s n ks (record r { taken = t })) k.taken k
-
--- an instance as its fields are kept
-pub kept-Stands : (s : Settings) (n : ℕ) (ks : CarrierList) (created : ℕ) (r : Region) → IsKept s n ks r → All IsLaidOut ks.contents → AllPairs ContentsApart ks.contents → Stands (seen_as s n ks.contents created r)
-kept-Stands s n ks created r k sound apart = record {
-  kept = seated s n (record { strategy = s.strategy; contents = ks.contents }) r (subst (λ t. IsKept s n (record { strategy = t; contents = ks.contents }) r) k.strategy k);
-  sound = sound;
-  apart = apart;
-}
-
 -- one carrier changes its blocks
 changed-Stands : (f : Content → Content) → KeepsPlace f → (n : ℕ) (item : Content) (i : Instance) → Stands i → content_of i.contents n ≡ Some item → IsLaidOut (f item) → Stands (record i { contents = changed f n i.contents })
-changed-Stands f keeps n item i st there sound =
-    let new : CarrierList = record (list_of i) { contents = changed f n i.contents } in
-    record {
-      kept = seated i.settings i.number new (region_of i) (IsKept-changed f keeps i.settings i.number n (list_of i) new (region_of i) refl st.kept);
-      sound = all-sound f keeps n item i.contents there st.kept.rising st.sound sound;
-      apart = apart-changed f keeps n item i.contents st.apart;
-    }
+changed-Stands f keeps n item i st there sound = record {
+  kept = IsKept-changed f keeps i.settings i.number n i.first i.end i.contents st.kept;
+  sound = all-sound f keeps n item i.contents there st.kept.rising st.sound sound;
+  apart = apart-changed f keeps n item i.contents st.apart;
+}
 
 placed-IsLaidOut : (c : Content) (offset need name : ℕ) → IsLaidOut c → need ≤ gap_at (gaps_of c) offset → 6 ≤ need → need % 2 ≡ 0 → IsLaidOut (placed c offset need name)
 placed-IsLaidOut c offset need name s fits least even =
@@ -90,7 +58,7 @@ placed-IsLaidOut c offset need name s fits least even =
     record { shared = s.shared; tiled = Tiled-inserted 8 c.units x c.blocks s.tiled (taken_of-enters x g need fits least even (gap_at-whole 8 c.units offset c.blocks s.tiled) refl); low = s.low }
 
 -- a block is placed in a gap that is large enough
-placing-Stands : (i : Instance) (spot : Spot) (need name : ℕ) → Stands i → HasGap need spot.carrier spot.offset i.contents → 6 ≤ need → need % 2 ≡ 0 → Stands (placing_at i spot need name)
+pub placing-Stands : (i : Instance) (spot : Spot) (need name : ℕ) → Stands i → HasGap need spot.carrier spot.offset i.contents → 6 ≤ need → need % 2 ≡ 0 → Stands (placing_at i spot need name)
 placing-Stands i spot need name st gap least even =
     changed-Stands (λ c. placed c spot.offset need name) (placed-keeps spot.offset need name) spot.carrier gap.0 i st gap.1
     (placed-IsLaidOut gap.0 spot.offset need name (item_at-All number_of IsLaidOut spot.carrier gap.0 i.contents st.sound gap.1) gap.2 least even)
@@ -111,43 +79,21 @@ releasing-Stands i spot st = releasing_from i spot (content_of i.contents spot.c
 
 -- a carrier goes
 pub clearing-Stands : (i : Instance) (number : ℕ) (c : Content) → Stands i → content_of i.contents number ≡ Some c → Stands (clearing i number)
-clearing-Stands i number c st there =
-    let cut : Region = record (region_of i) { taken = cut_from c.base (segments i.contents) } in
-    record {
-      kept = seated i.settings i.number (record (list_of i) { contents = without_content number i.contents }) cut
-          (IsKept-cleared i.settings i.number number (list_of i) c (region_of i) cut st.kept there refl (Laid-cut i.first i.end c.base (segments i.contents) st.kept.laid));
-      sound = All-filter _ IsLaidOut i.contents st.sound;
-      apart = AllPairs-filter ContentsApart _ i.contents st.apart;
-    }
+clearing-Stands i number c st there = record {
+  kept = IsKept-cleared i.settings i.number number i.first i.end c i.contents st.kept there;
+  sound = All-filter _ IsLaidOut i.contents st.sound;
+  apart = AllPairs-filter ContentsApart _ i.contents st.apart;
+}
 
 -- a planned carrier comes
 pub creating-Stands : (i : Instance) (need : ℕ) (p : CarrierPlan) → Stands i → plan i need ≡ Ok p → Stands (creating i p)
 creating-Stands i need p st asked =
-    let made : Content = created_content i.number Multi p in
-    let new : CarrierList = record (list_of i) { contents = with_content made i.contents } in
-    let away = others-apart i.settings i.number (list_of i) i.created (region_of i) need p st.kept i refl asked made refl in
+    let x : Content = created_content i.number Multi p in
     record {
-      kept = seated i.settings i.number new _ (kept-made i.settings i.number (list_of i) i.created (region_of i) need p st.kept i refl asked);
-      sound = All-entered number_of IsLaidOut made i.contents (sound-made i.settings i.number (list_of i) i.created (region_of i) need p st.kept i refl asked) st.sound;
-      apart = apart-with made i.contents st.apart away;
+      kept = IsKept-made i need p st.kept asked;
+      sound = All-entered number_of IsLaidOut x i.contents (IsLaidOut-made i need p st.kept asked) st.sound;
+      apart = apart-with x i.contents st.apart (others-apart i need p st.kept asked);
     }
-
--- each candidate that a strategy looks at is one of them
-among_only : (xs : List Candidate) (o : Option Candidate) → IfSome o (Contains xs) → All (Contains xs) (only o)
-among_only xs None h = All-nil (Contains xs)
-among_only xs (Some x) h = All-cons (Contains xs) x [] h (All-nil (Contains xs))
-
-inspected_by-among : (s : Strategy) (depth : ℕ) (xs : List Candidate) → All (Contains xs) (inspected_by s depth xs)
-inspected_by-among Bf depth xs = All-contains_itself xs
-inspected_by-among Aobf depth xs = All-contains_itself xs
-inspected_by-among Aoff depth xs = All-contains_itself xs
-inspected_by-among AoffCbf depth xs = All-contains_itself xs
-inspected_by-among AoffCaobf depth xs = All-contains_itself xs
-inspected_by-among AgeffCaoff depth xs = All-contains_itself xs
-inspected_by-among AgeffCbf depth xs = All-contains_itself xs
-inspected_by-among AgeffCaobf depth xs = All-contains_itself xs
-inspected_by-among Gf depth xs = All-filter (is_inspected (λ x. x.address) (λ x. x.size) depth xs) (Contains xs) xs (All-contains_itself xs)
-inspected_by-among Af depth xs = among_only xs (first lower xs) (first-All (Contains xs) lower None xs tt (All-contains_itself xs))
 
 module _ (need : ℕ) (cs : List Content) (rising : IsRising cs) (sound : All IsLaidOut cs) where
   abbrev Has : Candidate → Type 0
@@ -166,8 +112,8 @@ module _ (need : ℕ) (cs : List Content) (rising : IsRising cs) (sound : All Is
       let is = item_at-key number_of number c (filter p cs) there in
       (c, ap (content_of cs) (sym (ap number_of among.2 ∙ is)) ∙ item_at-each number_of among.0 c cs rising among.1 ∙ ap Some among.2, fits)
 
-  unused-HasGap : IfSome (choice_empty need cs) Has
-  unused-HasGap =
+  empty-HasGap : IfSome (choice_empty need cs) Has
+  empty-HasGap =
       let some = filter is_empty_multi cs in
       let all = candidates some in
       if_some (choice_empty need cs) (IsLarge need all) Has
@@ -180,7 +126,7 @@ module _ (need : ℕ) (cs : List Content) (rising : IsRising cs) (sound : All Is
   either false None other h k = tt
 
   pub chosen-HasGap : (s : Settings) → IfSome (choice_for s need cs) Has
-  chosen-HasGap s = either (may_miss s.strategy) (choice_among s.strategy s.mbsd need cs) (choice_empty need cs) (among-HasGap s.strategy s.mbsd) unused-HasGap
+  chosen-HasGap s = either (may_miss s.strategy) (choice_among s.strategy s.mbsd need cs) (choice_empty need cs) (among-HasGap s.strategy s.mbsd) empty-HasGap
 
 -- the chosen spot has a gap that is large enough
 pub chosen_spot-HasGap : (i : Instance) (need : ℕ) (spot : Spot) → Stands i → chosen_spot i need ≡ Some spot → HasGap need spot.carrier spot.offset i.contents
@@ -194,17 +140,15 @@ pub chosen-Stands : (i : Instance) (need name : ℕ) (spot : Spot) → Stands i 
 chosen-Stands i need name spot st least even is = placing-Stands i spot need name st (chosen_spot-HasGap i need spot st is) least even
 
 -- an instance before its first operation, without a main carrier and with one
-new_without : (s : Settings) (number first pages : ℕ) → IsValid s → (1 ≤ number) × (number ≤ 16) → first + pages ≤ 131072
+new_without : (s : Settings) (number first pages : ℕ) → IsValid s → (1 ≤ number) × (number ≤ 16) → first + pages ≤ MAX_PAGES
     → Stands (record { settings = s; number = number; first = first; end = first + pages; contents = []; created = 0 })
 new_without s number first pages valid own within = record {
   kept = record {
     valid = valid;
-    strategy = refl;
     instance = own;
     rising = pairs_nil (IsBelow number_of);
     own = All-nil (HasNumberIn (first_number number) (first_number number + 256));
     whole = All-nil IsWhole;
-    taken = refl;
     within = within;
     laid = omega arith;
   };
@@ -212,7 +156,7 @@ new_without s number first pages valid own within = record {
   apart = pairs_nil ContentsApart;
 }
 
-new_with : (s : Settings) (number first pages : ℕ) → IsValid s → (1 ≤ number) × (number ≤ 16) → first + pages ≤ 131072 → pages_for s.mmbcs ≤ pages → 0 < s.mmbcs
+new_with : (s : Settings) (number first pages : ℕ) → IsValid s → (1 ≤ number) × (number ≤ 16) → first + pages ≤ MAX_PAGES → pages_for s.mmbcs ≤ pages → 0 < s.mmbcs
     → Stands (record { settings = s; number = number; first = first; end = first + pages; contents = main_content s number first ∷ []; created = 1 })
 new_with s number first pages valid own within main some =
     let m = main_content s number first in
@@ -222,20 +166,18 @@ new_with s number first pages valid own within main some =
     record {
       kept = record {
         valid = valid;
-        strategy = refl;
-        instance = own;
+            instance = own;
         rising = AllPairs-cons (IsBelow number_of) m [] (All-nil (IsBelow number_of m)) (pairs_nil (IsBelow number_of));
         own = All-cons (HasNumberIn (first_number number) (first_number number + 256)) m [] (omega arith, omega arith) (All-nil (HasNumberIn (first_number number) (first_number number + 256)));
         whole = All-cons IsWhole m [] (whole_pages n, omega (arith, one, same)) (All-nil IsWhole);
-        taken = refl;
-        within = within;
+            within = within;
         laid = (omega arith, omega (arith, one, same), omega (arith, main, same));
       };
       sound = All-cons IsLaidOut m [] (record { shared = refl; tiled = (omega (arith, one), record { even = omega arith; whole = λ _. omega (arith, one) }); low = omega (arith, main, within) }) (All-nil IsLaidOut);
       apart = AllPairs-cons ContentsApart m [] (All-nil (ContentsApart m)) (pairs_nil ContentsApart);
     }
 
-pub new-Stands : (s : Settings) (number first pages : ℕ) → IsValid s → (1 ≤ number) × (number ≤ 16) → first + pages ≤ 131072 → pages_for s.mmbcs ≤ pages → Stands (new_instance s number first pages)
+pub new-Stands : (s : Settings) (number first pages : ℕ) → IsValid s → (1 ≤ number) × (number ≤ 16) → first + pages ≤ MAX_PAGES → pages_for s.mmbcs ≤ pages → Stands (new_instance s number first pages)
 new-Stands s number first pages valid own within main =
     let as_list : List Content → Type 0 = λ cs. Stands (record { settings = s; number = number; first = first; end = first + pages; contents = cs; created = length cs }) in
     elim (cases_lt 0 s.mmbcs) [

@@ -11,7 +11,7 @@ use Rattle.ea_model.specs.Keyed.{IsBelow}
 use Rattle.ea_model.specs.Instance.{with_content, without_content, content_of, is_used, unused_from}
 use Rattle.ea_model.proofs.Pairs.{pairs_head, pairs_tail}
 use Rattle.ea_model.proofs.Rising.{item_at-each, item_at-gone, item_at-new, item_at-old, item_at-stays, none-other}
-use Rattle.ea_instance.proofs.Unused.{unused_from-zero, unused_from-used, unused_from-free_here}
+use Rattle.ea_laws.proofs.Unused.{unused_from-zero, unused_from-used, unused_from-free_here}
 use Rattle.ea_laws.specs.Kept.{number_of, HasNumberIn, IsRising}
 use Rattle.ea_laws.specs.Spots.{HasGap, HaveSameBlocks, IsGapOf}
 

@@ -6,15 +6,13 @@ use Rattle.std.proofs.lemmas.List.Elements.{All-nil, All-cons, All-head, All-tai
 use Rattle.ea_model.specs.declared.carriers.Segment.{Segment}
 use Rattle.ea_model.specs.Content.{Content}
 use Rattle.ea_model.specs.Keyed.{IsBelow}
-use Rattle.ea_model.specs.Region.{stretch, with_segment, covers, cut_from, Laid}
+use Rattle.ea_model.specs.Region.{stretch, with_segment, covers, cut_from, Laid, SegmentApart, AreFree, IsTailOf, IsTail}
 use Rattle.ea_model.specs.Instance.{segment_of, segments, with_content, without_content, content_of}
 use Rattle.ea_model.proofs.Pairs.{pairs_tail}
 use Rattle.ea_model.proofs.Rising.{entered_here, entered_past, length-entered, others, without_here, without_none, without_past}
-use Rattle.ea_model.specs.Region.{SegmentApart, AreFree, IsTailOf, IsTail}
-use Rattle.ea_space.proofs.Segments.{start_of, covers_cases, cut_past, cut_first, stretch_none, Laid-cut, any_cases, IsTail_cases, IsTail_behind}
-use Rattle.ea_space.proofs.Tails.{any_here, any_later}
-use Rattle.ea_laws.specs.Kept.{number_of, IsRising, IsWhole}
-use Rattle.ea_laws.specs.Kept.{ContentsApart}
+use Rattle.ea_laws.proofs.Segments.{start_of, covers_cases, cut_past, cut_first, stretch_none, Laid-cut, any_cases, IsTail_cases, IsTail_behind}
+use Rattle.ea_laws.proofs.Tails.{any_here, any_later}
+use Rattle.ea_laws.specs.Kept.{number_of, IsRising, IsWhole, ContentsApart}
 
 entered_only : (a b : Segment) → a.base ≢ b.base → with_segment a (b ∷ []) ≡ with_segment b (a ∷ [])
 entered_only a b h = elim (cases_lt a.base b.base) [ inl p ↦ grind arith | inr q ↦ grind arith ]

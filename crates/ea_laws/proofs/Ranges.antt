@@ -6,7 +6,7 @@ use Rattle.std.proofs.lemmas.List.Kept.{AllPairs-cons}
 use Rattle.ea_model.specs.declared.carriers.BlockAt.{BlockAt}
 use Rattle.ea_model.specs.Content.{Content, Tiled}
 use Rattle.ea_model.proofs.Pairs.{pairs_append, pairs_head, pairs_map, pairs_nil, pairs_tail}
-use Rattle.ea_mbc.proofs.Tiling.{Tiled-allocated}
+use Rattle.ea_laws.proofs.Tiling.{Tiled-allocated}
 use Rattle.ea_laws.specs.InOrder.{Range, ranges_in, ranges, RangesApart}
 use Rattle.ea_laws.specs.Kept.{ContentsApart, IsLaidOut}
 

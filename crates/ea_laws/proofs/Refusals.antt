@@ -14,10 +14,10 @@ use Rattle.ea_model.specs.Instance.{Instance, chosen_spot, unused_from, is_used,
 use Rattle.ea_model.specs.Strategies.{candidates, choice_among, choice_for, choice_empty, large_enough, inspected_by, lower, may_miss, or_else, takes_first, spot_of}
 use Rattle.ea_model.proofs.First.{first-none, large-none, none-large}
 use Rattle.ea_model.proofs.Options.{mapped, unmapped}
-use Rattle.ea_space.proofs.Runs.{lowest-none}
+use Rattle.ea_laws.proofs.FreeRuns.{lowest-none}
 use Rattle.ea_laws.specs.Spots.{AllUsed, FindsNone}
-use Rattle.ea_instance.proofs.Choosing.{all_inspected}
-use Rattle.ea_instance.proofs.Unused.{unused_from-zero, unused_from-used, unused_from-free_here}
+use Rattle.ea_laws.proofs.Inspected.{all_inspected}
+use Rattle.ea_laws.proofs.Unused.{unused_from-zero, unused_from-used, unused_from-free_here}
 
 -- none of them is chosen exactly where none is large enough
 none_large-enough : (t : Candidate → Candidate → Bool) (need : ℕ) (xs : List Candidate) → IsNone (first t (large_enough need xs)) ↔ All (λ x. x.size < need) xs
@@ -74,9 +74,9 @@ all_used (suc k) low cs e n from below =
       | inr free ↦ let never : Some low ≡ None = sym (unused_from-free_here k low cs free) ∙ e in absurd cc
     ]
 
-all_used : (k low : ℕ) (cs : List Content) → ((n : ℕ) → low ≤ n → n < low + k → is_used n cs ≡ true) → unused_from k low cs ≡ None
-all_used zero low cs h = unused_from-zero low cs
-all_used (suc k) low cs h = unused_from-used k low cs (h low (omega arith) (omega arith)) ∙ all_used k (low + 1) cs (λ n from below. h n (omega arith) (omega arith))
+none_unused : (k low : ℕ) (cs : List Content) → ((n : ℕ) → low ≤ n → n < low + k → is_used n cs ≡ true) → unused_from k low cs ≡ None
+none_unused zero low cs h = unused_from-zero low cs
+none_unused (suc k) low cs h = unused_from-used k low cs (h low (omega arith) (omega arith)) ∙ none_unused k (low + 1) cs (λ n from below. h n (omega arith) (omega arith))
 
 not_numbers_least : (i : Instance) (need number : ℕ) (o : Option ℕ) → least_plan i need number o ≢ Err Numbers
 not_numbers_least i need number None e = absurd cc
@@ -94,7 +94,7 @@ numbered i need (Some number) e = absurd (not_numbers i need number (free_run i 
 pub plan-numbers : (i : Instance) (need : ℕ) → (plan i need ≡ Err Numbers) ↔ AllUsed i
 plan-numbers i need = (
   λ e. all_used 256 (first_number i.number) i.contents (numbered i need (unused_from 256 (first_number i.number) i.contents) e),
-  λ h. ap (numbered_plan i need) (all_used 256 (first_number i.number) i.contents h),
+  λ h. ap (numbered_plan i need) (none_unused 256 (first_number i.number) i.contents h),
 )
 
 no_room : (i : Instance) (need number : ℕ) (o : Option ℕ) → least_plan i need number o ≡ Err Space → IsNone o
@@ -128,7 +128,7 @@ pub plan-space : (i : Instance) (need : ℕ) → (plan i need ≡ Err Space) ↔
 plan-space i need =
     let rs : List Segment = runs i.first i.end (segments i.contents) in (
       λ e. let both = spaced i need (unused_from 256 (first_number i.number) i.contents) e in
-          (λ all. both.0 (all_used 256 (first_number i.number) i.contents all), (lowest-none (least_pages need) rs).0 both.1),
+          (λ all. both.0 (none_unused 256 (first_number i.number) i.contents all), (lowest-none (least_pages need) rs).0 both.1),
       λ h. unplanned i need (unused_from 256 (first_number i.number) i.contents) (λ none. h.0 (all_used 256 (first_number i.number) i.contents none))
           (is_none (free_run i (next_pages i need)) ((lowest-none (next_pages i need) rs).1 (All-more (least_pages need) (next_pages i need) rs (omega arith) h.1)))
           (is_none (free_run i (least_pages need)) ((lowest-none (least_pages need) rs).1 h.1)),

@@ -8,9 +8,9 @@ use Rattle.ea_model.specs.declared.carriers.Gap.{Gap}
 use Rattle.ea_model.specs.declared.carriers.Inner.{Inner}
 use Rattle.ea_model.specs.Content.{gap, gaps, gap_at, Tiled}
 use Rattle.ea_model.specs.Choice.{before, first, fitting, choice}
-use Rattle.ea_model.proofs.First.{first-All, first-none, large-none, none-large}
+use Rattle.ea_model.proofs.First.{both_All, first-All, first-none, large-none, none-large}
 use Rattle.ea_model.proofs.Options.{unmapped}
-use Rattle.ea_mbc.proofs.BlockLists.{gap_at-step}
+use Rattle.ea_laws.proofs.BlockLists.{gap_at-step}
 
 pub gap_some : (a b : ℕ) → a < b → gap a b ≡ record { offset = a; size = b - a } ∷ []
 gap_some a b h = grind arith
@@ -48,9 +48,6 @@ gaps-Begins at end (b ∷ bs) t =
     let rest : List Gap = gaps (b.offset + b.size) end bs in
     All-append (Begins at (gap at b.offset ++ rest)) (gap at b.offset) rest (front_Begins at b.offset rest)
     (All-weaker (Begins (b.offset + b.size) rest) (Begins at (gap at b.offset ++ rest)) (Begins_behind at b.offset (b.offset + b.size) rest (omega arith) (omega arith)) rest (gaps-Begins (b.offset + b.size) end bs t.4))
-
-both_All : {A : Type 0} (P Q R : A → Type 0) → ((x : A) → P x → Q x → R x) → (xs : List A) → All P xs → All Q xs → All R xs
-both_All P Q R f xs p q = λ k d lt. f _ (p k d lt) (q k d lt)
 
 -- the chosen gap is one that fits
 pub choice-fits : (inner : Inner) (need at end : ℕ) (bs : List BlockAt) → Tiled at end bs → IfSome (choice inner need (gaps at end bs)) (λ g. need ≤ gap_at (gaps at end bs) g.offset)

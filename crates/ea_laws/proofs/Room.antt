@@ -11,7 +11,7 @@ use Rattle.ea_model.specs.Content.{Content, is_empty_multi}
 use Rattle.ea_model.specs.Instance.{Instance, created_content, creating, chosen_spot, with_content}
 use Rattle.ea_model.specs.Strategies.{candidates, candidates_in, choice_among, choice_for, choice_empty, large_enough, inspected_by, lower, may_miss, or_else, takes_first, spot_of}
 use Rattle.ea_model.proofs.Options.{is_some-map}
-use Rattle.ea_instance.proofs.Choosing.{all_inspected}
+use Rattle.ea_laws.proofs.Inspected.{all_inspected}
 use Rattle.ea_model.proofs.Rising.{entered_here, entered_past}
 use Rattle.ea_laws.specs.Kept.{number_of}
 

@@ -4,10 +4,9 @@ use Rattle.std.specs.Prelude.{Some, None, IfSome, IsNone, All}
 use Rattle.std.proofs.lemmas.Bool.{cases_lt}
 use Rattle.std.proofs.lemmas.List.Elements.{All-nil, All-cons, All-head, All-tail}
 use Rattle.ea_model.specs.declared.carriers.Segment.{Segment}
-use Rattle.ea_model.specs.Region.{stretch, runs, lowest_run, Laid}
+use Rattle.ea_model.specs.Region.{stretch, runs, lowest_run, Laid, SegmentApart, AreFree}
 use Rattle.ea_model.proofs.Options.{if_some}
-use Rattle.ea_model.specs.Region.{SegmentApart, AreFree}
-use Rattle.ea_space.proofs.Segments.{Laid-end}
+use Rattle.ea_laws.proofs.Segments.{Laid-end}
 
 -- the pages lie between the ends and meet no segment
 pub record Fits (at end base pages : ℕ) (ss : List Segment) : Type 0 where

@@ -9,14 +9,12 @@ use Rattle.ea_model.specs.declared.carriers.Spot.{Spot}
 use Rattle.ea_model.specs.Content.{Content, block_at, gap_at, gaps_of, placed, released, taken_of}
 use Rattle.ea_model.specs.Instance.{Instance, block_in, content_of, created_content, creating, place_at, placing_at, plan, releasing_at, size_for}
 use Rattle.ea_model.proofs.Rising.{changed_none, item_at-All, item_at-new, item_at-old, item_at-stays, none-other}
-use Rattle.ea_mbc.proofs.BlockLists.{offset_of, IsFront-gap}
+use Rattle.ea_laws.proofs.BlockLists.{offset_of, IsFront-gap}
 use Rattle.ea_laws.specs.Spots.{HasGap, HaveSameBlocks, IsOther, IsPlaced}
-use Rattle.ea_laws.specs.Kept.{number_of}
-use Rattle.ea_laws.specs.Kept.{IsLaidOut}
-use Rattle.ea_instance.proofs.Changed.{block_in-here, block_in-others, placed-keeps, released-keeps}
-use Rattle.ea_instance.proofs.Contents.{same-with}
-use Rattle.ea_instance.proofs.Keeping.{other-numbers}
-use Rattle.ea_instance.proofs.Moments.{Stands, list_of, region_of}
+use Rattle.ea_laws.specs.Kept.{number_of, IsLaidOut, Stands}
+use Rattle.ea_laws.proofs.Changed.{block_in-here, block_in-others, placed-keeps, released-keeps}
+use Rattle.ea_laws.proofs.Contents.{same-with}
+use Rattle.ea_laws.proofs.Keeping.{other-numbers}
 
 -- a block at the front of a gap begins where none began, and others stay
 pub placing-IsPlaced : (i : Instance) (spot : Spot) (need name : ℕ) → Stands i → HasGap need spot.carrier spot.offset i.contents → 6 ≤ need → IsPlaced i.contents (placing_at i spot need name).contents name (place_at i spot need)
@@ -47,4 +45,4 @@ releasing-others i spot at other = releasing_from i spot (content_of i.contents 
 
 -- a carrier that is created brings no block and takes none away
 pub creating-same : (i : Instance) (need : ℕ) (p : CarrierPlan) → Stands i → plan i need ≡ Ok p → HaveSameBlocks i.contents (creating i p).contents
-creating-same i need p st asked = same-with (created_content i.number Multi p) i.contents (other-numbers i.settings i.number (list_of i) i.created (region_of i) need p st.kept i refl asked) refl
+creating-same i need p st asked = same-with (created_content i.number Multi p) i.contents (other-numbers i need p st.kept asked) refl

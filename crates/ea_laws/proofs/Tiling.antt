@@ -1,24 +1,15 @@
 -- Blocks that lie one after another.
-use Rattle.std.proofs.Common.{◌≡◌, ℕ, ◌+◌, ◌-◌, ◌*◌, ◌<◌, ◌≤◌, List, [], ◌∷◌, ◌++◌, length, get_or, drop, arith}
-use Rattle.std.proofs.lemmas.List.{drop_more}
+use Rattle.std.proofs.Common.{◌≡◌, ℕ, ◌+◌, ◌-◌, ◌*◌, ◌≤◌, List, [], ◌∷◌, ◌++◌, length, arith}
 use Rattle.std.proofs.lemmas.List.Sums.{sum_by-cons, sum_by-append}
 use Rattle.ea_model.specs.declared.carriers.BlockAt.{BlockAt}
 use Rattle.ea_model.specs.declared.carriers.Gap.{Gap}
 use Rattle.ea_model.specs.Content.{gap, gaps, allocated, free_units, Tiled}
-
--- the default of an index past the end
-abbrev pub no_block : BlockAt
-no_block = record { name = 0; offset = 0; size = 0 }
 
 -- the blocks and gaps fit between the ends
 pub Tiled-allocated : (at end : ℕ) (bs : List BlockAt) → Tiled at end bs → at + allocated bs ≤ end
 Tiled-allocated at end [] t = omega arith
 Tiled-allocated at end (b ∷ bs) t =
     omega (arith, sum_by-cons (λ (x : BlockAt). x.size) b bs, Tiled-allocated (b.offset + b.size) end bs t.4)
-
--- the next block of the rest, and the rest after it
-pub Tiled-next : (at end : ℕ) (bs : List BlockAt) (i : ℕ) → i < length bs → Tiled at end (drop i bs) → Tiled at end (get_or bs i no_block ∷ drop (i + 1) bs)
-Tiled-next at end bs i h t = rw (drop_more bs i no_block h) at t
 
 free_units-append : (xs ys : List Gap) → free_units (xs ++ ys) ≡ free_units xs + free_units ys
 free_units-append xs ys = sum_by-append (λ (g : Gap). g.size) xs ys

@@ -4,7 +4,7 @@ use Rattle.std.specs.Prelude.{sum_by}
 use Rattle.std.proofs.lemmas.List.Elements.{All-head, All-tail}
 use Rattle.std.proofs.lemmas.List.Sums.{sum_by-cons}
 use Rattle.ea_model.specs.Content.{Content, allocated, free_units, gaps_of}
-use Rattle.ea_mbc.proofs.Tiling.{allocated-free}
+use Rattle.ea_laws.proofs.Tiling.{allocated-free}
 use Rattle.ea_laws.specs.Kept.{IsLaidOut}
 
 pub all-units : (cs : List Content) → All IsLaidOut cs → sum_by (λ c. allocated c.blocks) cs + sum_by (λ c. free_units (gaps_of c)) cs + 8 * length cs ≡ sum_by (λ c. c.units) cs

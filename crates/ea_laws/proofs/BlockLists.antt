@@ -9,28 +9,22 @@ use Rattle.ea_model.specs.declared.carriers.Gap.{Gap}
 use Rattle.ea_model.specs.Content.{Content, gap, gaps, gaps_of, gap_at, block_at, inserted, taken_of, IsGapSize, Tiled}
 use Rattle.ea_model.specs.Keyed.{without, IsBelow}
 use Rattle.ea_model.proofs.Rising.{entered_here, entered_past, item_past, without_here, without_past, without_none}
-use Rattle.ea_mbc.specs.Walks.{next_of}
 
 -- the first of the gaps is the one at the offset, or another is
 pub gap_at-step : (a b offset : ℕ) (rest : List Gap) → ((a < b) × (offset ≡ a) × (gap_at (gap a b ++ rest) offset ≡ b - a)) ⊎ (gap_at (gap a b ++ rest) offset ≡ gap_at rest offset)
 gap_at-step a b offset rest = grind arith
 
--- where a gap begins, it reaches up to the next block
-pub record Reaches (at end offset : ℕ) (bs : List BlockAt) : Type 0 where
-  pub behind : at ≤ offset
-  pub up_to : offset + gap_at (gaps at end bs) offset ≡ next_of end offset bs
+behind_last : (at end offset : ℕ) → 0 < gap_at (gap at end) offset → at ≤ offset
+behind_last at end offset h = grind arith
 
-reaches_last : (at end offset : ℕ) → at ≤ end → 0 < gap_at (gap at end) offset → Reaches at end offset []
-reaches_last at end offset t h = grind arith
-
-reaches_more : (at end offset : ℕ) (b : BlockAt) (bs : List BlockAt) → at ≤ b.offset → 6 ≤ b.size → 0 < gap_at (gaps at end (b ∷ bs)) offset → (0 < gap_at (gaps (b.offset + b.size) end bs) offset → Reaches (b.offset + b.size) end offset bs) → Reaches at end offset (b ∷ bs)
-reaches_more at end offset b bs le big h more =
-    elim (gap_at-step at b.offset offset (gaps (b.offset + b.size) end bs)) [ inl p ↦ grind arith | inr q ↦ grind arith ]
-
-pub gap_at-next : (at end offset : ℕ) (bs : List BlockAt) → Tiled at end bs → 0 < gap_at (gaps at end bs) offset → Reaches at end offset bs
-gap_at-next at end offset [] t h = reaches_last at end offset t.0 h
-gap_at-next at end offset (b ∷ bs) t h =
-    reaches_more at end offset b bs t.0 t.2 h (λ k. gap_at-next (b.offset + b.size) end offset bs t.4 k)
+-- no gap begins before the tiling does
+pub gap_at-behind : (at end offset : ℕ) (bs : List BlockAt) → Tiled at end bs → 0 < gap_at (gaps at end bs) offset → at ≤ offset
+gap_at-behind at end offset [] t h = behind_last at end offset h
+gap_at-behind at end offset (b ∷ bs) t h =
+    elim (gap_at-step at b.offset offset (gaps (b.offset + b.size) end bs)) [
+      | inl p ↦ omega (arith, p.1)
+      | inr q ↦ omega (arith, t.0, gap_at-behind (b.offset + b.size) end offset bs t.4 (omega (arith, q)))
+    ]
 
 abbrev pub offset_of : BlockAt → ℕ
 offset_of b = b.offset
@@ -121,7 +115,7 @@ Tiled-inserted at end x (b ∷ bs) t h =
       | inl p ↦ subst (Tiled at end) (sym (entered_here offset_of x b bs (omega arith))) (omega arith, IsGapSize-zero (x.offset - at) (omega arith), h.least, h.even, (omega arith, (let e : gap_at (gaps at end (b ∷ bs)) x.offset - x.size ≡ b.offset - (x.offset + x.size) = omega arith in subst IsGapSize e h.rest), t.2, t.3, t.4))
       | inr q ↦
           let into : Enters x (gap_at (gaps (b.offset + b.size) end bs) x.offset) = subst (Enters x) q h in
-          let reach : Reaches (b.offset + b.size) end x.offset bs = gap_at-next (b.offset + b.size) end x.offset bs t.4 (omega arith) in
+          let behind : b.offset + b.size ≤ x.offset = gap_at-behind (b.offset + b.size) end x.offset bs t.4 (omega arith) in
           subst (Tiled at end) (sym (entered_past offset_of x b bs (omega arith))) (t.0, t.1, t.2, t.3, Tiled-inserted (b.offset + b.size) end x bs t.4 into)
     ]
 
@@ -142,8 +136,8 @@ block_at-gap at end offset (b ∷ bs) t h =
       | inl p ↦ block_at-past offset b bs (λ e. omega arith) ∙ block_at-before (b.offset + b.size) end offset bs t.4 (omega arith)
       | inr q ↦
           let more : 0 < gap_at (gaps (b.offset + b.size) end bs) offset = omega arith in
-          let reach : Reaches (b.offset + b.size) end offset bs = gap_at-next (b.offset + b.size) end offset bs t.4 more in
-          block_at-past offset b bs (λ e. omega (arith, reach.behind)) ∙ block_at-gap (b.offset + b.size) end offset bs t.4 more
+          let behind : b.offset + b.size ≤ offset = gap_at-behind (b.offset + b.size) end offset bs t.4 more in
+          block_at-past offset b bs (λ e. omega arith) ∙ block_at-gap (b.offset + b.size) end offset bs t.4 more
     ]
 
 -- where a block is put at the front of a gap: behind the header, and where no block begins
@@ -154,4 +148,4 @@ pub record IsFront (c : Content) (offset : ℕ) : Type 0 where
 pub IsFront-gap : (c : Content) (offset need : ℕ) → Tiled 8 c.units c.blocks → need ≤ gap_at (gaps_of c) offset → 6 ≤ need → IsFront c offset
 IsFront-gap c offset need t fits least =
     let some : 0 < gap_at (gaps_of c) offset = omega arith in
-    record { behind_header = (gap_at-next 8 c.units offset c.blocks t some).behind; fresh = block_at-gap 8 c.units offset c.blocks t some }
+    record { behind_header = gap_at-behind 8 c.units offset c.blocks t some; fresh = block_at-gap 8 c.units offset c.blocks t some }
