@@ -9,12 +9,16 @@ use std::marker::Model;
 pub struct OutOfMemory;
 
 impl From<AllocError> for OutOfMemory {
+    ghost from_gives = { λ _ e. e ≡ record {} };
+
     fn from(_: AllocError) -> OutOfMemory {
         OutOfMemory
     }
 }
 
 impl<T: Drop> From<AllocFailed<T>> for OutOfMemory {
+    ghost from_gives = { λ _ e. e ≡ record {} };
+
     fn from(_: AllocFailed<T>) -> OutOfMemory {
         OutOfMemory
     }
