@@ -8,7 +8,7 @@ use Rattle.ea_model.specs.declared.carriers.Kind.TheVariants.{Multi}
 use Rattle.ea_model.specs.declared.carriers.Spot.{Spot}
 use Rattle.ea_model.specs.Content.{Content, block_at, gap_at, gaps_of, placed, released, taken_of}
 use Rattle.ea_model.specs.Instance.{Instance, block_in, content_of, created_content, creating, place_at, placing_at, plan, releasing_at, size_for}
-use Rattle.ea_model.proofs.Rising.{changed_none, item_at-All, item_at-new, item_at-old, item_at-stays, none-other}
+use Rattle.ea_model.proofs.Rising.{changed_none, item_at-gone, item_at-All, item_at-new, item_at-old, item_at-stays, none-other}
 use Rattle.ea_laws.proofs.BlockLists.{offset_of, IsFront-gap}
 use Rattle.ea_laws.specs.Spots.{HasGap, HaveSameBlocks, IsOther, IsPlaced}
 use Rattle.ea_laws.specs.Kept.{number_of, IsLaidOut, Stands}
@@ -42,6 +42,18 @@ releasing_from i spot (Some c) e at other =
 
 pub releasing-others : (i : Instance) (spot at : Spot) → IsOther spot.carrier spot.offset at → block_in (releasing_at i spot).contents at ≡ block_in i.contents at
 releasing-others i spot at other = releasing_from i spot (content_of i.contents spot.carrier) refl at other
+
+-- no block begins there after it
+gone_from : (i : Instance) (spot : Spot) (o : Option Content) → content_of i.contents spot.carrier ≡ o → block_in (releasing_at i spot).contents spot ≡ None
+gone_from i spot None e =
+    ap (λ cs. block_in cs spot) (changed_none number_of (λ c. released c spot.offset) spot.carrier i.contents (none-other number_of spot.carrier i.contents e))
+    ∙ ap (option_and_then (λ (c : Content). block_at c.blocks spot.offset)) e
+gone_from i spot (Some c) e =
+    block_in-here (λ d. released d spot.offset) (released-keeps spot.offset) spot.carrier i.contents c spot e refl
+    ∙ item_at-gone offset_of spot.offset c.blocks
+
+pub releasing-gone : (i : Instance) (spot : Spot) → block_in (releasing_at i spot).contents spot ≡ None
+releasing-gone i spot = gone_from i spot (content_of i.contents spot.carrier) refl
 
 -- a carrier that is created brings no block and takes none away
 pub creating-same : (i : Instance) (need : ℕ) (p : CarrierPlan) → Stands i → plan i need ≡ Ok p → HaveSameBlocks i.contents (creating i p).contents

@@ -125,7 +125,7 @@ candidates-distinct (c ∷ cs) sound apart =
     (gaps_of c) (gaps_Inside 8 c.units c.blocks here.tiled)))
 
 -- the candidate is the gap that begins at its offset, in the carrier of its number
-abbrev IsOwned : List Content → Candidate → Type 0
+abbrev pub IsOwned : List Content → Candidate → Type 0
 IsOwned cs x = (c : Content) × (content_of cs x.number ≡ Some c) × (gap_at (gaps_of c) x.offset ≡ x.size)
 
 owned_All : (cs : List Content) → IsRising cs → All IsLaidOut cs → All (IsOwned cs) (candidates cs)
@@ -135,10 +135,14 @@ owned_All cs rising sound =
     (λ c there s. All-weaker (Begins 8 (gaps_of c)) (λ g. IsOwned cs (candidate c g)) (λ g b. (c, there, b.size)) (gaps_of c) (gaps-Begins 8 c.units c.blocks s.tiled))
     cs (λ i d within. item_at-each number_of i d cs rising within) sound)
 
--- a candidate that is large enough is a gap of its carrier
+-- each candidate is a gap of its carrier
+pub candidate-IsOwned : (x : Candidate) (cs : List Content) → IsRising cs → All IsLaidOut cs → Contains (candidates cs) x → IsOwned cs x
+candidate-IsOwned x cs rising sound among = All-contains (IsOwned cs) (candidates cs) x (owned_All cs rising sound) among
+
+-- so one that is large enough is a gap of that size at least
 pub candidate-HasGap : (need : ℕ) (x : Candidate) (cs : List Content) → IsRising cs → All IsLaidOut cs → Contains (candidates cs) x → need ≤ x.size → HasGap need x.number x.offset cs
 candidate-HasGap need x cs rising sound among fits =
-    let owned = All-contains (IsOwned cs) (candidates cs) x (owned_All cs rising sound) among in
+    let owned = candidate-IsOwned x cs rising sound among in
     (owned.0, owned.1, omega (arith, owned.2, fits))
 
 -- a candidate of at least so many units

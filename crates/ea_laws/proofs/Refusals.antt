@@ -6,6 +6,7 @@ use Rattle.std.proofs.lemmas.List.Elements.{All-nil, All-cons, All-head, All-tai
 use Rattle.ea_model.specs.declared.carriers.Candidate.{Candidate}
 use Rattle.ea_model.specs.declared.carriers.Segment.{Segment}
 use Rattle.ea_model.specs.declared.carriers.Spot.{Spot}
+use Rattle.ea_model.specs.declared.settings.Settings.{Settings}
 use Rattle.ea_model.specs.declared.entries.NoCarrier.TheVariants.{Numbers, Space}
 use Rattle.ea_model.specs.Choice.{first}
 use Rattle.ea_model.specs.Content.{Content, is_empty_multi}
@@ -36,31 +37,50 @@ none_of_both asked (Some x) other h f = h
 none_of_both true None other h f = f refl
 none_of_both false None other h f = refl
 
-module _ {B : Type 0} (f : Spot → B) (i : Instance) (need : ℕ) where
-  abbrev looked : List Candidate
-  looked = inspected_by i.settings.strategy i.settings.mbsd (candidates i.contents)
+module _ (s : Settings) (need : ℕ) (cs : List Content) where
+  abbrev inspected : List Candidate
+  inspected = inspected_by s.strategy s.mbsd (candidates cs)
 
   abbrev among : Option Candidate
-  among = choice_among i.settings.strategy i.settings.mbsd need i.contents
+  among = choice_among s.strategy s.mbsd need cs
 
-  -- there is no choice exactly where no gap that is looked at is large enough, nor one of a carrier without blocks
-  pub chosen-none : IsNone (option_map f (chosen_spot i need)) ↔ FindsNone i.settings need i.contents
-  chosen-none = (
-    λ h. let both = neither (may_miss i.settings.strategy) among (choice_empty need i.contents) (unmapped spot_of (choice_for i.settings need i.contents) (unmapped f (chosen_spot i need) h)) in
-        ((none_large-enough (takes_first i.settings.strategy) need looked).0 both.0, λ miss. (none_large-enough lower need (candidates (filter is_empty_multi i.contents))).0 (both.1 miss)),
-    λ h. mapped f (chosen_spot i need) (mapped spot_of (choice_for i.settings need i.contents)
-        (none_of_both (may_miss i.settings.strategy) among (choice_empty need i.contents)
-        ((none_large-enough (takes_first i.settings.strategy) need looked).1 h.0)
-        (λ miss. (none_large-enough lower need (candidates (filter is_empty_multi i.contents))).1 (h.1 miss)))),
+  -- there is no choice exactly where no gap that is inspected is large enough, nor one of a carrier without blocks
+  pub choice-none : IsNone (choice_for s need cs) ↔ FindsNone s need cs
+  choice-none = (
+    λ h. let both = neither (may_miss s.strategy) among (choice_empty need cs) h in
+        ((none_large-enough (takes_first s.strategy) need inspected).0 both.0, λ miss. (none_large-enough lower need (candidates (filter is_empty_multi cs))).0 (both.1 miss)),
+    λ h. none_of_both (may_miss s.strategy) among (choice_empty need cs)
+        ((none_large-enough (takes_first s.strategy) need inspected).1 h.0)
+        (λ miss. (none_large-enough lower need (candidates (filter is_empty_multi cs))).1 (h.1 miss)),
   )
 
   -- where the strategy misses no gap, exactly where none is large enough
-  pub chosen-none_at_all : may_miss i.settings.strategy ≡ false → IsNone (option_map f (chosen_spot i need)) ↔ All (λ x. x.size < need) (candidates i.contents)
-  chosen-none_at_all none =
-      let same = all_inspected i.settings.strategy i.settings.mbsd (candidates i.contents) none in (
-        λ h. subst (All (λ (x : Candidate). x.size < need)) same (chosen-none.0 h).0,
-        λ h. chosen-none.1 (subst (All (λ (x : Candidate). x.size < need)) (sym same) h, λ miss. let never : true ≡ false = sym miss ∙ none in absurd cc),
+  pub choice-none_at_all : may_miss s.strategy ≡ false → IsNone (choice_for s need cs) ↔ All (λ x. x.size < need) (candidates cs)
+  choice-none_at_all none =
+      let same = all_inspected s.strategy s.mbsd (candidates cs) none in (
+        λ h. subst (All (λ (x : Candidate). x.size < need)) same (choice-none.0 h).0,
+        λ h. choice-none.1 (subst (All (λ (x : Candidate). x.size < need)) (sym same) h, λ miss. let never : true ≡ false = sym miss ∙ none in absurd cc),
       )
+
+-- the same of the chosen spot, and of what is made of it
+module _ {B : Type 0} (f : Spot → B) (i : Instance) (need : ℕ) where
+  chosen_spot-none : IsNone (option_map f (chosen_spot i need)) ↔ IsNone (choice_for i.settings need i.contents)
+  chosen_spot-none = (
+    λ h. unmapped spot_of (choice_for i.settings need i.contents) (unmapped f (chosen_spot i need) h),
+    λ h. mapped f (chosen_spot i need) (mapped spot_of (choice_for i.settings need i.contents) h),
+  )
+
+  pub chosen-none : IsNone (option_map f (chosen_spot i need)) ↔ FindsNone i.settings need i.contents
+  chosen-none = (
+    λ h. (choice-none i.settings need i.contents).0 (chosen_spot-none.0 h),
+    λ h. chosen_spot-none.1 ((choice-none i.settings need i.contents).1 h),
+  )
+
+  pub chosen-none_at_all : may_miss i.settings.strategy ≡ false → IsNone (option_map f (chosen_spot i need)) ↔ All (λ x. x.size < need) (candidates i.contents)
+  chosen-none_at_all none = (
+    λ h. (choice-none_at_all i.settings need i.contents none).0 (chosen_spot-none.0 h),
+    λ h. chosen_spot-none.1 ((choice-none_at_all i.settings need i.contents none).1 h),
+  )
 
 -- all of so many numbers are in use exactly where none is found
 all_used : (k low : ℕ) (cs : List Content) → unused_from k low cs ≡ None → (n : ℕ) → low ≤ n → n < low + k → is_used n cs ≡ true

@@ -29,7 +29,7 @@ use Rattle.ea_laws.specs.Kept.{number_of, HasNumberIn, IsRising, IsWhole, Conten
 use Rattle.ea_laws.proofs.Changed.{KeepsPlace, placed-keeps, released-keeps}
 use Rattle.ea_laws.proofs.Keeping.{IsKept-changed, IsKept-cleared, IsKept-made, IsLaidOut-made, others-apart, pages_of_units, whole_pages}
 use Rattle.ea_laws.proofs.Apart.{all-sound, apart-changed, apart-with}
-use Rattle.ea_laws.proofs.Candidates.{candidate-HasGap, IsLarge, large_among}
+use Rattle.ea_laws.proofs.Candidates.{candidate-IsOwned, IsOwned, IsLarge, large_among}
 use Rattle.ea_laws.proofs.Inspected.{inspected_by-among}
 use Rattle.ea_laws.proofs.Ranges.{blocks-disjoint}
 use Rattle.ea_laws.proofs.Sums.{all-units}
@@ -95,29 +95,33 @@ creating-Stands i need p st asked =
       apart = apart-with x i.contents st.apart (others-apart i need p st.kept asked);
     }
 
+-- the candidate is a gap of at least `need` units, in the carrier of its number
+abbrev pub IsOwnGap : ℕ → List Content → Candidate → Type 0
+IsOwnGap need cs x = IsOwned cs x × (need ≤ x.size)
+
 module _ (need : ℕ) (cs : List Content) (rising : IsRising cs) (sound : All IsLaidOut cs) where
   abbrev Has : Candidate → Type 0
-  Has x = HasGap need x.number x.offset cs
+  Has x = IsOwnGap need cs x
 
-  among-HasGap : (s : Strategy) (depth : ℕ) → IfSome (choice_among s depth need cs) Has
-  among-HasGap s depth =
+  among-owned : (s : Strategy) (depth : ℕ) → IfSome (choice_among s depth need cs) Has
+  among-owned s depth =
       let all = candidates cs in
-      if_some (choice_among s depth need cs) (IsLarge need all) Has (λ x large. candidate-HasGap need x cs rising sound large.0 large.1)
+      if_some (choice_among s depth need cs) (IsLarge need all) Has (λ x large. (candidate-IsOwned x cs rising sound large.0, large.1))
       (first-All (IsLarge need all) (takes_first s) None (large_enough need (inspected_by s depth all)) tt (large_among need all (inspected_by s depth all) (inspected_by-among s depth all)))
 
   -- a gap of one of some carriers is one of all
-  still_there : (p : Content → Bool) (number offset : ℕ) → HasGap need number offset (filter p cs) → HasGap need number offset cs
-  still_there p number offset (c, there, fits) =
-      let among : Contains cs c = item_at-All number_of (Contains cs) number c (filter p cs) (All-filter p (Contains cs) cs (All-contains_itself cs)) there in
-      let is = item_at-key number_of number c (filter p cs) there in
-      (c, ap (content_of cs) (sym (ap number_of among.2 ∙ is)) ∙ item_at-each number_of among.0 c cs rising among.1 ∙ ap Some among.2, fits)
+  still_there : (p : Content → Bool) (x : Candidate) → IsOwned (filter p cs) x → IsOwned cs x
+  still_there p x (c, there, size) =
+      let among : Contains cs c = item_at-All number_of (Contains cs) x.number c (filter p cs) (All-filter p (Contains cs) cs (All-contains_itself cs)) there in
+      let is = item_at-key number_of x.number c (filter p cs) there in
+      (c, ap (content_of cs) (sym (ap number_of among.2 ∙ is)) ∙ item_at-each number_of among.0 c cs rising among.1 ∙ ap Some among.2, size)
 
-  empty-HasGap : IfSome (choice_empty need cs) Has
-  empty-HasGap =
+  empty-owned : IfSome (choice_empty need cs) Has
+  empty-owned =
       let some = filter is_empty_multi cs in
       let all = candidates some in
       if_some (choice_empty need cs) (IsLarge need all) Has
-      (λ x large. still_there is_empty_multi x.number x.offset (candidate-HasGap need x some (AllPairs-filter (IsBelow number_of) is_empty_multi cs rising) (All-filter is_empty_multi IsLaidOut cs sound) large.0 large.1))
+      (λ x large. (still_there is_empty_multi x (candidate-IsOwned x some (AllPairs-filter (IsBelow number_of) is_empty_multi cs rising) (All-filter is_empty_multi IsLaidOut cs sound) large.0), large.1))
       (first-All (IsLarge need all) lower None (large_enough need all) tt (large_among need all all (All-contains_itself all)))
 
   either : (asked : Bool) (found other : Option Candidate) → IfSome found Has → IfSome other Has → IfSome (or_else asked found other) Has
@@ -125,15 +129,16 @@ module _ (need : ℕ) (cs : List Content) (rising : IsRising cs) (sound : All Is
   either true None other h k = k
   either false None other h k = tt
 
-  pub chosen-HasGap : (s : Settings) → IfSome (choice_for s need cs) Has
-  chosen-HasGap s = either (may_miss s.strategy) (choice_among s.strategy s.mbsd need cs) (choice_empty need cs) (among-HasGap s.strategy s.mbsd) empty-HasGap
+  pub chosen-owned : (s : Settings) → IfSome (choice_for s need cs) Has
+  chosen-owned s = either (may_miss s.strategy) (choice_among s.strategy s.mbsd need cs) (choice_empty need cs) (among-owned s.strategy s.mbsd) empty-owned
 
 -- the chosen spot has a gap that is large enough
 pub chosen_spot-HasGap : (i : Instance) (need : ℕ) (spot : Spot) → Stands i → chosen_spot i need ≡ Some spot → HasGap need spot.carrier spot.offset i.contents
 chosen_spot-HasGap i need spot st is =
     let has : Spot → Type 0 = λ at. HasGap need at.carrier at.offset i.contents in
     let o = choice_for i.settings need i.contents in
-    some_holds (option_map spot_of o) spot has is (some_map spot_of has o (chosen-HasGap need i.contents st.kept.rising st.sound i.settings))
+    let gap = if_some o (IsOwnGap need i.contents) (λ x. has (spot_of x)) (λ x own. (own.0.0, own.0.1, omega (arith, own.0.2, own.1))) (chosen-owned need i.contents st.kept.rising st.sound i.settings) in
+    some_holds (option_map spot_of o) spot has is (some_map spot_of has o gap)
 
 -- a block is placed there
 pub chosen-Stands : (i : Instance) (need name : ℕ) (spot : Spot) → Stands i → 6 ≤ need → need % 2 ≡ 0 → chosen_spot i need ≡ Some spot → Stands (placing_at i spot need name)
