@@ -34,8 +34,11 @@ pub record IsLaidOut (c : Content) : Type 0 where
 abbrev pub ContentsApart : Content → Content → Type 0
 ContentsApart c d = AreApart (512 * c.base) c.units (512 * d.base) d.units
 
--- the carriers of instance `number`, whose region has the pages from `first` up to `end`: their numbers rise and are the instance's own, and their segments lie in the region, which ends within the largest super carrier
-pub record IsKept (settings : Settings) (number first end : ℕ) (contents : List Content) : Type 0 where
+-- the carriers of instance `number`, whose region has the pages from `first` up to `end`: their
+-- numbers rise and are the instance's own, and their segments lie in the region, which ends within
+-- the largest super carrier
+pub record IsKept (settings : Settings) (number first end : ℕ) (contents : List Content) : Type 0
+    where
   pub valid : IsValid settings
   pub instance : (1 ≤ number) × (number ≤ 16)
   pub rising : IsRising contents

@@ -24,7 +24,8 @@ impl<T: Drop> From<AllocFailed<T>> for OutOfMemory {
     }
 }
 
-/// Items in order. Contracts see `items`, and beside them `room`: how many more can be added without
+/// Items in order. Contracts see `items`, and beside them `room`: how many more can be added
+/// without
 /// taking memory.
 #[derive(Drop)]
 pub struct List<T> {

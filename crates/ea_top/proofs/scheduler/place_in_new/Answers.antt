@@ -1,9 +1,9 @@
 use Rattle.std.proofs.Common.{sym, ◌∙◌, subst, refl}
 use Rattle.ea_laws.specs.Spots.{IsPlaced}
-use Rattle.ea_top.specs.Running.{IsChosenPlace}
+use Rattle.ea_top.specs.Holding.{IsChosenPlace}
 use Rattle.ea_model.proofs.Options.{some_holds}
 use Rattle.ea_top.proofs.Steps.{placed-chosen, placed-from}
-use Rattle.ea_top.proofs.simulation.place_in_new.Goals as goal
+use Rattle.ea_top.proofs.scheduler.place_in_new.Goals as goal
 
 pub returns-clause-ok : goal.returns-clause-ok
 returns-clause-ok c =
