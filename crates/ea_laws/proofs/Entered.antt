@@ -44,11 +44,11 @@ enters-one r = λ o built. entered o built where
   entered : (o : Op) → IsBuiltOp o → Enters r o (step r o)
   entered (op.Alloc name bytes) built = by_choice r name bytes (chosen_spot r.instance (need_of bytes))
   entered (op.Free name) built = freed r name (spot_held name r.held)
-  entered (op.Realloc old fresh bytes) built = absurd built
-  entered (op.Give name to) built = absurd built
-  entered (op.Take name tries) built = absurd built
-  entered op.Info built = absurd built
-  entered op.Idle built = absurd built
+  entered (op.Realloc old fresh bytes) built = absurd cc
+  entered (op.Give name to) built = absurd cc
+  entered (op.Take name tries) built = absurd cc
+  entered op.Info built = absurd cc
+  entered op.Idle built = absurd cc
 
 -- operations that are built can all be done
 pub steps-some : (r : Run) (ops : List Op) → All IsBuiltOp ops → IsSome (steps r ops)
