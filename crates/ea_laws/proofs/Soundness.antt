@@ -25,18 +25,24 @@ record Keeps (ops : List Op) (r : Run) : Type 0 where
 at_start : (i : Instance) → Stands i → Keeps [] (start i)
 at_start i st = record {
   stands = st;
-  holds = record { blocks = All-nil (IsBlockOf i.contents); apart = pairs_nil (λ (h k : Held). h.spot ≢ k.spot) };
+  holds = record {
+    blocks = All-nil (IsBlockOf i.contents);
+    apart = pairs_nil
+        (λ (h k : Held). h.spot ≢ k.spot);
+  };
   balances = λ name. omega arith;
 }
 
-step-Keeps : (ops : List Op) (r : Run) (o : Op) (s : Run) → step r o ≡ Some s → Keeps ops r → Keeps (ops ++ o ∷ []) s
+step-Keeps : (ops : List Op) (r : Run) (o : Op) (s : Run) → step r o ≡ Some s → Keeps ops r
+    → Keeps (ops ++ o ∷ []) s
 step-Keeps ops r o s e k = record {
   stands = step-Stands r o s e k.stands;
   holds = step-Holds r o s e k.stands k.holds;
   balances = step-Balances ops r o s e k.balances;
 }
 
-steps-Keeps : (before : List Op) (r : Run) (ops : List Op) (s : Run) → steps r ops ≡ Some s → Keeps before r → Keeps (before ++ ops) s
+steps-Keeps : (before : List Op) (r : Run) (ops : List Op) (s : Run) → steps r ops ≡ Some s
+    → Keeps before r → Keeps (before ++ ops) s
 steps-Keeps before r [] s e k =
     let same : r ≡ s = cc in
     subst (λ xs. Keeps xs s) (sym (append-nil before)) (subst (Keeps before) same k)
@@ -45,7 +51,8 @@ steps-Keeps before r (o ∷ ops) s e k =
     subst (λ xs. Keeps xs s) (append_assoc before (o ∷ []) ops)
     (steps-Keeps (before ++ o ∷ []) next.0 ops s next.2 (step-Keeps before r o next.0 next.1 k))
 
-pub run-Sound : (i : Instance) → Stands i → (ops : List Op) (r : Run) → run i ops ≡ Some r → Sound ops r
+pub run-Sound : (i : Instance) → Stands i → (ops : List Op) (r : Run) → run i ops ≡ Some r
+    → Sound ops r
 run-Sound i st ops r e =
     let k = steps-Keeps [] (start i) ops r e (at_start i st) in
     record {

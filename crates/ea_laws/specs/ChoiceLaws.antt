@@ -16,8 +16,10 @@ Orders = (strategy : Strategy) → IsStrictWeakOrder (takes_first strategy)
 
 -- of what the strategy inspects and that is large enough, none comes before the chosen one
 abbrev pub ChoosesFirst : Type 0
-ChoosesFirst = (strategy : Strategy) (depth need : ℕ) (cs : List Content) → IfSome (choice_among strategy depth need cs)
-    (IsFirst (takes_first strategy) (large_enough need (inspected_by strategy depth (candidates cs))))
+ChoosesFirst = (strategy : Strategy) (depth need : ℕ) (cs : List Content)
+    → IfSome (choice_among strategy depth need cs)
+    (IsFirst (takes_first strategy)
+    (large_enough need (inspected_by strategy depth (candidates cs))))
 
 -- of the carriers without blocks that are large enough, none lies lower than the chosen one
 abbrev pub ChoosesLowestEmpty : Type 0
@@ -26,11 +28,14 @@ ChoosesLowestEmpty = (need : ℕ) (cs : List Content) → IfSome (choice_empty n
 
 -- the choice is the one or the other
 abbrev pub TakesFirst : Type 0
-TakesFirst = (s : Settings) (need : ℕ) (cs : List Content) (x : Candidate) → choice_for s need cs ≡ Some x → IsTakenFirst s need cs x
+TakesFirst = (s : Settings) (need : ℕ) (cs : List Content) (x : Candidate)
+    → choice_for s need cs ≡ Some x → IsTakenFirst s need cs x
 
--- there is none exactly where nothing that is inspected is large enough, nor, where the strategy may miss a gap, a carrier without blocks
+-- there is none exactly where nothing that is inspected is large enough, nor, where the strategy
+-- may miss a gap, a carrier without blocks
 abbrev pub MissesNoneInspected : Type 0
-MissesNoneInspected = (s : Settings) (need : ℕ) (cs : List Content) → IsNone (choice_for s need cs) ↔ FindsNone s need cs
+MissesNoneInspected = (s : Settings) (need : ℕ) (cs : List Content)
+    → IsNone (choice_for s need cs) ↔ FindsNone s need cs
 
 -- under a strategy that may miss none, exactly where no gap is large enough
 abbrev pub MissesNone : Type 0

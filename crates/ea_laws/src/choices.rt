@@ -10,5 +10,4 @@ pub fn choices()
     ensures taken { TakesFirst }
     ensures none { MissesNoneInspected }
     ensures all { MissesNone }
-{
-}
+{}

@@ -6,5 +6,4 @@ ghost use Rattle.ea_laws.specs.RunLaws.{GoesOn, IsSoundThroughout};
 pub fn runs()
     ensures sound { IsSoundThroughout }
     ensures goes_on { GoesOn }
-{
-}
+{}

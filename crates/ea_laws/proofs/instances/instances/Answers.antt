@@ -27,8 +27,11 @@ returns-clause-clears c = λ i number x st there empty.
     (clearing-Stands i number x st there, same-without number x i.contents there empty)
 
 pub returns-clause-creates : goal.returns-clause-creates
-returns-clause-creates c = λ i need p st asked.
-    (creating-Stands i need p st asked, creating-same i need p st asked, chosen-planned i need p asked)
+returns-clause-creates c = λ i need p st asked. (
+  creating-Stands i need p st asked,
+  creating-same i need p st asked,
+  chosen-planned i need p asked,
+)
 
 pub returns-clause-numbers : goal.returns-clause-numbers
 returns-clause-numbers c = plan-numbers
