@@ -1,7 +1,6 @@
 -- The output text of a run.
-use Rattle.std.specs.Prelude.{ℕ, ◌*◌, ◌/◌, length, map, sum_by, List, [], ◌∷◌, ◌++◌, Option, None, Result, Ok, Err, codes, decimal}
+use Rattle.std.specs.Prelude.{ℕ, List, [], ◌∷◌, ◌++◌, codes, decimal}
 use Rattle.std.specs.List.{flat_map}
-use Rattle.std.specs.Option.{option_map}
 use Rattle.ea_model.specs.declared.carriers.Place.{Place}
 use Rattle.ea_model.specs.declared.carriers.Kind.{Kind}
 use Rattle.ea_model.specs.declared.carriers.Kind.TheVariants as kind
@@ -14,15 +13,8 @@ use Rattle.ea_model.specs.declared.entries.NoCarrier.TheVariants as cause
 use Rattle.ea_model.specs.declared.entries.Report.{Report}
 use Rattle.ea_model.specs.declared.entries.Entry.{Entry}
 use Rattle.ea_model.specs.declared.entries.Entry.TheVariants as entry
-use Rattle.ea_model.specs.Content.{Content, gaps_of, allocated, largest, free_units}
-use Rattle.ea_model.specs.Trace.{trace_of}
-use Rattle.ea_model.specs.declared.settings.Config.{Config}
-use Rattle.ea_model.specs.Instance.{Instance, new_instance}
-use Rattle.ea_model.specs.Flags.{Refusal, flags}
-use Rattle.ea_model.specs.Settings.{region_pages}
-use Rattle.ea_laws.specs.Run.{Run, run}
 
--- a line: a first word, each further word behind a space, and a line feed
+-- a line: a first word, each further word after a space, and a line feed
 abbrev pub line : List ℕ → List (List ℕ) → List ℕ
 line first words = first ++ flat_map (λ w. 32 ∷ w) words ++ 10 ∷ []
 
@@ -41,7 +33,7 @@ report_text class r = line (codes "info") (class
 abbrev pub realloc_text : ℕ → ℕ → Place → List (List ℕ) → List ℕ
 realloc_text old fresh p rest = line (codes "realloc") (decimal old ∷ decimal fresh ∷ decimal p.carrier ∷ decimal p.offset ∷ decimal p.size ∷ rest)
 
--- what stands behind the names of an operation that found no place
+-- what stands after the names of an operation that found no place
 abbrev pub fail_words : ℕ → ℕ → NoCarrier → List (List ℕ)
 fail_words need looked why = codes "fail" ∷ codes "need" ∷ decimal need ∷ codes "looked" ∷ decimal looked ∷ cause_text why ∷ []
 
