@@ -50,12 +50,12 @@ gaps-Begins at end (b ∷ bs) t =
     (All-weaker (Begins (b.offset + b.size) rest) (Begins at (gap at b.offset ++ rest)) (Begins_behind at b.offset (b.offset + b.size) rest (omega arith) (omega arith)) rest (gaps-Begins (b.offset + b.size) end bs t.4))
 
 -- the chosen gap is one that fits
-pub choice-fits : (inner : Inner) (need at end : ℕ) (bs : List BlockAt) → Tiled at end bs → IfSome (choice inner need (gaps at end bs)) (λ g. need ≤ gap_at (gaps at end bs) g.offset)
-choice-fits inner need at end bs t =
-    let gs : List Gap = gaps at end bs in
-    first-All (λ g. need ≤ gap_at gs g.offset) (before inner) None (fitting need gs) tt
-    (both_All (λ g. nat_le need g.size ≡ true) (Begins at gs) (λ g. need ≤ gap_at gs g.offset) (λ g f h. omega (arith, leb-true need g.size f, h.size)) (fitting need gs)
-    (filter_passes (λ g. nat_le need g.size) gs) (All-filter (λ g. nat_le need g.size) (Begins at gs) gs (gaps-Begins at end bs t)))
+pub choice-fits : (inner : Inner) (need : ℕ) (gs : List Gap)
+    → IfSome (choice inner need gs) (λ g. need ≤ g.size)
+choice-fits inner need gs =
+    first-All (λ g. need ≤ g.size) (before inner) None (fitting need gs) tt
+    (All-weaker (λ g. nat_le need g.size ≡ true) (λ g. need ≤ g.size)
+    (λ g f. leb-true need g.size f) (fitting need gs) (filter_passes (λ g. nat_le need g.size) gs))
 
 -- the chosen gap is the one that begins at its offset
 pub choice-sized : (inner : Inner) (need at end : ℕ) (bs : List BlockAt) → Tiled at end bs → IfSome (choice inner need (gaps at end bs)) (λ g. gap_at (gaps at end bs) g.offset ≡ g.size)
@@ -65,8 +65,10 @@ choice-sized inner need at end bs t =
     (All-weaker (Begins at gs) (λ g. gap_at gs g.offset ≡ g.size) (λ g h. h.size) (fitting need gs) (All-filter (λ g. nat_le need g.size) (Begins at gs) gs (gaps-Begins at end bs t)))
 
 -- none is chosen exactly where no gap fits
-pub choice-none : (inner : Inner) (need : ℕ) (gs : List Gap) → IsNone (option_map (λ g. g.offset) (choice inner need gs)) ↔ All (λ g. g.size < need) gs
+pub choice-none : (inner : Inner) (need : ℕ) (gs : List Gap)
+    → IsNone (choice inner need gs) ↔ All (λ g. g.size < need) gs
 choice-none inner need gs = (
-  λ h. none-large (λ (g : Gap). g.size) need gs (first-none (before inner) (fitting need gs) (unmapped (λ (g : Gap). g.offset) (choice inner need gs) h)),
-  λ h. subst (λ xs. IsNone (option_map (λ (g : Gap). g.offset) (first (before inner) xs))) (sym (large-none (λ (g : Gap). g.size) need gs h)) refl,
+  λ h. none-large (λ (g : Gap). g.size) need gs (first-none (before inner) (fitting need gs) h),
+  λ h. subst (λ xs. IsNone (first (before inner) xs))
+      (sym (large-none (λ (g : Gap). g.size) need gs h)) refl,
 )
