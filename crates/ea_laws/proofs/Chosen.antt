@@ -1,6 +1,6 @@
 -- The chosen gap is a gap that fits, and none is chosen where none fits.
 use Rattle.std.proofs.Common.{◌≡◌, ℕ, ◌+◌, ◌-◌, ◌<◌, ◌≤◌, ◌↔◌, true, List, [], ◌∷◌, ◌++◌, refl, sym, ◌∙◌, subst, inl, inr, arith, append-nil}
-use Rattle.std.specs.Prelude.{None, IfSome, IsNone, option_map, nat_le, All}
+use Rattle.std.specs.Prelude.{None, IfSome, IsNone, nat_le, All}
 use Rattle.std.proofs.lemmas.Bool.{cases_lt, leb-true}
 use Rattle.std.proofs.lemmas.List.Elements.{All-nil, All-cons, All-append, All-weaker, All-filter, filter_passes, All-same}
 use Rattle.ea_model.specs.declared.carriers.BlockAt.{BlockAt}
@@ -8,8 +8,7 @@ use Rattle.ea_model.specs.declared.carriers.Gap.{Gap}
 use Rattle.ea_model.specs.declared.carriers.Inner.{Inner}
 use Rattle.ea_model.specs.Content.{gap, gaps, gap_at, Tiled}
 use Rattle.ea_model.specs.Choice.{before, first, fitting, choice}
-use Rattle.ea_model.proofs.First.{both_All, first-All, first-none, large-none, none-large}
-use Rattle.ea_model.proofs.Options.{unmapped}
+use Rattle.ea_model.proofs.First.{first-All, first-none, large-none, none-large}
 use Rattle.ea_laws.proofs.BlockLists.{gap_at-step}
 
 pub gap_some : (a b : ℕ) → a < b → gap a b ≡ record { offset = a; size = b - a } ∷ []
@@ -58,15 +57,12 @@ gaps-Begins at end (b ∷ bs) t =
     (gaps-Begins (b.offset + b.size) end bs t.4))
 
 -- the chosen gap is one that fits
-pub choice-fits : (inner : Inner) (need at end : ℕ) (bs : List BlockAt) → Tiled at end bs
-    → IfSome (choice inner need (gaps at end bs)) (λ g. need ≤ gap_at (gaps at end bs) g.offset)
-choice-fits inner need at end bs t =
-    let gs : List Gap = gaps at end bs in
-    first-All (λ g. need ≤ gap_at gs g.offset) (before inner) None (fitting need gs) tt
-    (both_All (λ g. nat_le need g.size ≡ true) (Begins at gs) (λ g. need ≤ gap_at gs g.offset)
-    (λ g f h. omega (arith, leb-true need g.size f, h.size)) (fitting need gs)
-    (filter_passes (λ g. nat_le need g.size) gs)
-    (All-filter (λ g. nat_le need g.size) (Begins at gs) gs (gaps-Begins at end bs t)))
+pub choice-fits : (inner : Inner) (need : ℕ) (gs : List Gap)
+    → IfSome (choice inner need gs) (λ g. need ≤ g.size)
+choice-fits inner need gs =
+    first-All (λ g. need ≤ g.size) (before inner) None (fitting need gs) tt
+    (All-weaker (λ g. nat_le need g.size ≡ true) (λ g. need ≤ g.size)
+    (λ g f. leb-true need g.size f) (fitting need gs) (filter_passes (λ g. nat_le need g.size) gs))
 
 -- the chosen gap is the one that begins at its offset
 pub choice-sized : (inner : Inner) (need at end : ℕ) (bs : List BlockAt) → Tiled at end bs
@@ -79,11 +75,9 @@ choice-sized inner need at end bs t =
 
 -- none is chosen exactly where no gap fits
 pub choice-none : (inner : Inner) (need : ℕ) (gs : List Gap)
-    → IsNone (option_map (λ g. g.offset) (choice inner need gs)) ↔ All (λ g. g.size < need) gs
+    → IsNone (choice inner need gs) ↔ All (λ g. g.size < need) gs
 choice-none inner need gs = (
-  λ h. none-large (λ (g : Gap). g.size) need gs
-      (first-none (before inner) (fitting need gs)
-      (unmapped (λ (g : Gap). g.offset) (choice inner need gs) h)),
-  λ h. subst (λ xs. IsNone (option_map (λ (g : Gap). g.offset) (first (before inner) xs)))
+  λ h. none-large (λ (g : Gap). g.size) need gs (first-none (before inner) (fitting need gs) h),
+  λ h. subst (λ xs. IsNone (first (before inner) xs))
       (sym (large-none (λ (g : Gap). g.size) need gs h)) refl,
 )
