@@ -194,7 +194,8 @@ chosen-Stands i need name spot st least even is = placing-Stands i spot need nam
     (chosen_spot-HasGap i need spot st is) least even
 
 -- an instance before its first operation, without a main carrier and with one
-new_without : (s : Settings) (number first pages : ℕ) → IsValid s → (1 ≤ number) × (number ≤ MAX_SCHEDULERS)
+new_without : (s : Settings) (number first pages : ℕ) → IsValid s
+    → (1 ≤ number) × (number ≤ MAX_SCHEDULERS)
     → first + pages ≤ MAX_PAGES
     → Stands (record {
       settings = s;
@@ -219,7 +220,8 @@ new_without s number first pages valid own within = record {
   apart = pairs_nil ContentsApart;
 }
 
-new_with : (s : Settings) (number first pages : ℕ) → IsValid s → (1 ≤ number) × (number ≤ MAX_SCHEDULERS)
+new_with : (s : Settings) (number first pages : ℕ) → IsValid s
+    → (1 ≤ number) × (number ≤ MAX_SCHEDULERS)
     → first + pages ≤ MAX_PAGES → pages_for s.mmbcs ≤ pages → 0 < s.mmbcs
     → Stands (record {
       settings = s;
@@ -262,7 +264,8 @@ new_with s number first pages valid own within main some =
           (pairs_nil ContentsApart);
     }
 
-pub new-Stands : (s : Settings) (number first pages : ℕ) → IsValid s → (1 ≤ number) × (number ≤ MAX_SCHEDULERS)
+pub new-Stands : (s : Settings) (number first pages : ℕ) → IsValid s
+    → (1 ≤ number) × (number ≤ MAX_SCHEDULERS)
     → first + pages ≤ MAX_PAGES → pages_for s.mmbcs ≤ pages
     → Stands (new_instance s number first pages)
 new-Stands s number first pages valid own within main =

@@ -2,8 +2,8 @@
 ghost use Rattle.ea_laws.specs.InstanceLaws.{StandsAtBeginning, Clears, Creates, Places, RefusesNumbers, RefusesSpace, Releases, StandsInOrder};
 
 /// An instance stands at its beginning, and after each placement, release, creation and clearing.
-/// While it stands it is in order. What each change does to its blocks is said, and that other blocks
-/// stay; and why there is no plan for a carrier.
+/// While it stands it is in order. What each change does to its blocks is said, and that other
+/// blocks stay; and why there is no plan for a carrier.
 pub fn instances()
     ensures begins { StandsAtBeginning }
     ensures order { StandsInOrder }
