@@ -23,12 +23,11 @@ use Rattle.ea_model.proofs.Pairs.{pairs_head, pairs_tail}
 use Rattle.ea_cset.specs.Carriers.{Carriers, IsBefore, first_number, fitting, lower, older}
 use Rattle.ea_goodfit.specs.Gaps.{HeldGaps}
 use Rattle.ea_laws.specs.Kinds.{is_shared}
-use Rattle.ea_laws.specs.Kept.{IsLaidOut}
+use Rattle.ea_laws.specs.Kept.{IsLaidOut, number_of, IsRising}
 use Rattle.ea_instance.specs.Listed.{candidate_in, chosen_in, held_of, IsListed}
 use Rattle.ea_instance.specs.declared.strategies.Order.TheVariants.{Address, Age}
 use Rattle.ea_instance.specs.Better.{better_of}
 use Rattle.ea_instance.specs.Orders.{order_of}
-use Rattle.ea_laws.specs.Kept.{number_of, IsRising}
 use Rattle.ea_model.proofs.Rising.{item_at-each}
 use Rattle.ea_instance.proofs.Folding.{choice_more}
 

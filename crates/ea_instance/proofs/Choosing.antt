@@ -6,22 +6,10 @@ use Rattle.ea_model.specs.declared.settings.Strategy.TheVariants.{Bf, Aobf, Aoff
 use Rattle.ea_model.specs.declared.carriers.Candidate.{Candidate}
 use Rattle.ea_model.specs.Content.{Content}
 use Rattle.ea_model.specs.Choice.{first}
-use Rattle.ea_model.specs.Strategies.{candidates, choice_among, choice_empty, inner_of, large_enough, inspected_by, may_miss, or_else, takes_first}
+use Rattle.ea_model.specs.Strategies.{candidates, choice_among, choice_empty, inner_of, large_enough, may_miss, or_else, takes_first}
+use Rattle.ea_laws.proofs.Inspected.{all_inspected}
 use Rattle.ea_instance.specs.Orders.{is_better, order_of}
 use Rattle.ea_instance.specs.declared.strategies.Order.TheVariants.{Gaps, Address, Age, Bins, Lowest}
-
--- a strategy that misses no gap looks at all
-pub all_inspected : (s : Strategy) (depth : ℕ) (xs : List Candidate) → may_miss s ≡ false → inspected_by s depth xs ≡ xs
-all_inspected Bf depth xs e = refl
-all_inspected Aobf depth xs e = refl
-all_inspected Aoff depth xs e = refl
-all_inspected AoffCbf depth xs e = refl
-all_inspected AoffCaobf depth xs e = refl
-all_inspected AgeffCaoff depth xs e = refl
-all_inspected AgeffCbf depth xs e = refl
-all_inspected AgeffCaobf depth xs e = refl
-all_inspected Gf depth xs e = absurd cc
-all_inspected Af depth xs e = absurd cc
 
 pub gaps-is_better : (s : Strategy) → order_of s ≡ Gaps → is_better (inner_of s) ≡ takes_first s
 gaps-is_better Bf e = refl

@@ -1,6 +1,6 @@
 -- Choosing carrier by carrier is choosing among all gaps.
 use Rattle.std.proofs.Common.{◌≡◌, ℕ, Bool, true, false, cond, List, [], ◌∷◌, fold, filter, map, refl, sym, ◌∙◌, ap, inl, inr, arith}
-use Rattle.std.specs.Prelude.{Option, Some, None, IfSome, option_map, nat_le, nat_lt}
+use Rattle.std.specs.Prelude.{Option, Some, None, IfSome, option_map, nat_le}
 use Rattle.std.specs.Cmp.{IsStrictWeakOrder}
 use Rattle.std.proofs.lemmas.Bool.{cases_Bool, cond-true, cond-false, cond_both}
 use Rattle.std.proofs.lemmas.List.Sums.{fold-append}
@@ -10,41 +10,13 @@ use Rattle.ea_model.specs.declared.carriers.Candidate.{Candidate}
 use Rattle.ea_model.specs.declared.settings.Strategy.{Strategy}
 use Rattle.ea_model.specs.declared.settings.Strategy.TheVariants.{Bf, Aobf, Aoff, AoffCbf, AoffCaobf, AgeffCaoff, AgeffCbf, AgeffCaobf, Gf, Af}
 use Rattle.ea_model.specs.Content.{Content, gaps_of, is_empty_multi}
-use Rattle.ea_model.specs.Choice.{before, better, first, fitting, choice, less}
-use Rattle.ea_model.proofs.Orders.{rising-order, falling-order, less-order}
-use Rattle.ea_model.specs.Strategies.{candidate, candidates, candidates_in, takes_first, inner_of, large_enough, lower, older, smaller_high, smaller_low}
+use Rattle.ea_model.specs.Choice.{before, better, first, fitting, choice}
+use Rattle.ea_laws.proofs.Orders.{takes_first-order}
+use Rattle.ea_model.specs.Strategies.{candidate, candidates, candidates_in, takes_first, inner_of, large_enough, lower}
 use Rattle.ea_model.specs.declared.carriers.Inner.{Inner}
 use Rattle.ea_model.specs.declared.carriers.Inner.TheVariants as inner
 use Rattle.ea_instance.specs.Better.{better_of}
 use Rattle.ea_instance.specs.Orders.{is_better}
-
-lower-order : IsStrictWeakOrder lower
-lower-order = rising-order (λ (x : Candidate). x.address)
-
-smaller_high-order : IsStrictWeakOrder smaller_high
-smaller_high-order = less-order (λ x. x.size) (λ a b. nat_lt b.address a.address) (falling-order (λ (x : Candidate). x.address))
-
-smaller_low-order : IsStrictWeakOrder smaller_low
-smaller_low-order = less-order (λ x. x.size) lower lower-order
-
-by_base : (t : Candidate → Candidate → Bool) → IsStrictWeakOrder t → IsStrictWeakOrder (λ a b. less a.base b.base (t a b))
-by_base t o = less-order (λ x. x.base) t o
-
-by_age : (t : Candidate → Candidate → Bool) → IsStrictWeakOrder t → IsStrictWeakOrder (λ a b. older a b (t a b))
-by_age t o = less-order (λ x. x.birth) (λ a b. less a.number b.number (t a b)) (less-order (λ x. x.number) t o)
-
--- each strategy orders the candidates strictly
-pub takes_first-order : (s : Strategy) → IsStrictWeakOrder (takes_first s)
-takes_first-order Bf = smaller_high-order
-takes_first-order Aobf = smaller_low-order
-takes_first-order Aoff = lower-order
-takes_first-order AoffCbf = by_base smaller_high smaller_high-order
-takes_first-order AoffCaobf = by_base smaller_low smaller_low-order
-takes_first-order AgeffCaoff = by_age lower lower-order
-takes_first-order AgeffCbf = by_age smaller_high smaller_high-order
-takes_first-order AgeffCaobf = by_age smaller_low smaller_low-order
-takes_first-order Gf = smaller_low-order
-takes_first-order Af = lower-order
 
 -- inside a carrier a strategy goes by its inner order
 same_bf : (c : Content) (g h : Gap) → takes_first Bf (candidate c g) (candidate c h) ≡ before (inner_of Bf) g h

@@ -11,7 +11,7 @@ use Rattle.ea_model.specs.declared.carriers.Gap as model
 use Rattle.ea_model.specs.Content.{Content, gap, gaps, gaps_of, largest}
 use Rattle.ea_model.specs.Strategies.{candidate, candidates, candidates_in}
 use Rattle.ea_model.specs.Instance.{changed, content_of, with_content, without_content}
-use Rattle.ea_mbc.proofs.Chosen.{gap_none, gap_some}
+use Rattle.ea_laws.proofs.Chosen.{gap_none, gap_some}
 use Rattle.ea_goodfit.specs.declared.gaps.Gap.{Gap}
 use Rattle.ea_laws.specs.Kept.{number_of, IsRising}
 use Rattle.ea_laws.specs.Kinds.{is_shared}

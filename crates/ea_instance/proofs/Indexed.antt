@@ -10,16 +10,18 @@ use Rattle.ea_model.specs.declared.carriers.Gap as model
 use Rattle.ea_mbc.specs.Gaps.{GapsJoined, GapTaken, Replaced}
 use Rattle.ea_goodfit.specs.declared.gaps.Gap.{Gap}
 use Rattle.ea_laws.specs.Kinds.{is_shared}
-use Rattle.ea_laws.specs.Kept.{number_of, IsRising}
-use Rattle.ea_laws.specs.Kept.{ContentsApart, IsLaidOut}
+use Rattle.ea_laws.specs.Kept.{number_of, IsRising, ContentsApart, IsLaidOut}
 use Rattle.ea_instance.specs.Listed.{all_gaps, gap_from, CanCut, CanJoin}
 use Rattle.std.proofs.lemmas.Bool.{cases_eq}
 use Rattle.std.proofs.lemmas.List.Elements.{All-head, All-tail}
-use Rattle.ea_instance.proofs.Changed.{KeepsPlace, IsAt}
+use Rattle.ea_laws.proofs.Changed.{KeepsPlace}
+use Rattle.ea_instance.proofs.Changed.{IsAt}
 use Rattle.ea_model.proofs.Rising.{All-entered, item_at-All}
 use Rattle.ea_instance.proofs.Gaps.{at_base, at_gap, gap_from-some, gaps-replaced, gaps-with, gaps-without, empty_gaps}
-use Rattle.ea_instance.proofs.Listed.{all-sound, apart-changed, apart-with, first-alone, DifferIn}
-use Rattle.ea_instance.proofs.Located.{gaps-distinct, gaps_Inside, Inside}
+use Rattle.ea_laws.proofs.Apart.{all-sound, apart-changed, apart-with}
+use Rattle.ea_instance.proofs.Listed.{first-alone, DifferIn}
+use Rattle.ea_instance.proofs.Located.{gaps-distinct}
+use Rattle.ea_laws.proofs.Candidates.{gaps_Inside, Inside}
 
 -- a carrier without blocks and its one gap
 module _ (x : Content) (sound : IsLaidOut x) (none : x.blocks ≡ []) (address fit : ℕ) (at : address ≡ 512 * x.base + 8) (fits : fit ≡ largest (gaps_of x)) where

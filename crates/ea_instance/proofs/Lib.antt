@@ -1,8 +1,6 @@
-pub mod Blocks
 pub mod ByCarrier
 pub mod Changed
 pub mod Choosing
-pub mod Contents
 pub mod Folding
 pub mod Gaps
 pub mod HeldGaps
@@ -11,10 +9,3 @@ pub mod Keeping
 pub mod Listed
 pub mod Located
 pub mod Missing
-pub mod Moments
-pub mod Ranges
-pub mod Refusals
-pub mod Room
-pub mod Segments
-pub mod Sums
-pub mod Unused

@@ -1,9 +1,8 @@
 -- The choice of good fit and of address fit.
 use Rattle.std.proofs.Common.{◌≡◌, ℕ, ◌<◌, ◌≤◌, List, [], All, AllPairs, ap, ◌∙◌}
-use Rattle.std.specs.Prelude.{Option, Some, None, IfSome, Contains, nat_le}
+use Rattle.std.specs.Prelude.{Option, Some, None, IfSome, Contains}
 use Rattle.std.specs.Option.{option_and_then}
-use Rattle.std.proofs.lemmas.Bool.{leb-true}
-use Rattle.std.proofs.lemmas.List.Elements.{All-contains_itself, All-filter, filter_passes}
+use Rattle.std.proofs.lemmas.List.Elements.{All-contains_itself, All-filter}
 use Rattle.ea_model.specs.declared.settings.Strategy.TheVariants.{Gf, Af}
 use Rattle.ea_model.specs.declared.carriers.Candidate.{Candidate}
 use Rattle.ea_model.specs.Content.{Content}
@@ -14,26 +13,16 @@ use Rattle.ea_model.proofs.First.{first-All, large-here, large-past}
 use Rattle.ea_model.proofs.Options.{if_some, some_holds}
 use Rattle.ea_goodfit.specs.declared.gaps.Gap.{Gap}
 use Rattle.ea_laws.specs.Spots.{HasGap}
-use Rattle.ea_laws.specs.Kept.{IsRising}
-use Rattle.ea_laws.specs.Kept.{ContentsApart, IsLaidOut}
+use Rattle.ea_laws.specs.Kept.{IsRising, ContentsApart, IsLaidOut}
 use Rattle.ea_instance.specs.Listed.{all_gaps, candidate_at}
-use Rattle.ea_instance.proofs.Located.{candidate-HasGap, good_fit-at, large-all}
+use Rattle.ea_laws.proofs.Candidates.{IsLarge, large_among, candidate-HasGap, large-all}
+use Rattle.ea_instance.proofs.Located.{good_fit-at}
 
 -- the gap that the bins give, in its carrier, is the choice of good fit
 pub gf-choice : (depth need : ℕ) (cs now : List Content) (o : Option Gap) → cs ≡ now → All IsLaidOut cs → AllPairs ContentsApart cs → o ≡ good_fit (λ g. g.address) (λ g. g.size) depth need (all_gaps cs)
     → option_and_then (λ g. candidate_at g cs) o ≡ choice_among Gf depth need now
 gf-choice depth need cs now o seen sound apart is =
     ap (option_and_then (λ g. candidate_at g cs)) is ∙ good_fit-at depth need cs sound apart ∙ ap (choice_among Gf depth need) seen
-
--- a candidate of at least so many units
-abbrev pub IsLarge : ℕ → List Candidate → Candidate → Type 0
-IsLarge need xs x = Contains xs x × (need ≤ x.size)
-
-pub large_among : (need : ℕ) (all xs : List Candidate) → All (Contains all) xs → All (IsLarge need all) (large_enough need xs)
-large_among need all xs a =
-    let fits = filter_passes (λ (x : Candidate). nat_le need x.size) xs in
-    let among = All-filter (λ (x : Candidate). nat_le need x.size) (Contains all) xs a in
-    λ k d within. (among k d within, leb-true need _ (fits k d within))
 
 -- it is a gap of at least the need
 pub gf-HasGap : (depth need : ℕ) (cs : List Content) → IsRising cs → All IsLaidOut cs → IfSome (choice_among Gf depth need cs) (λ x. HasGap need x.number x.offset cs)

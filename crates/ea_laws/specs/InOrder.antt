@@ -1,5 +1,5 @@
 -- An instance at one moment: where its blocks and its carriers lie, and what their units come to.
-use Rattle.std.specs.Prelude.{◌≡◌, ◌⊎◌, ℕ, ◌+◌, ◌*◌, ◌≤◌, List, All, AllPairs, length, map, sum_by}
+use Rattle.std.specs.Prelude.{◌≡◌, ℕ, ◌+◌, ◌*◌, List, All, AllPairs, length, map, sum_by}
 use Rattle.std.specs.List.{flat_map}
 use Rattle.ea_model.specs.Content.{Content, allocated, free_units, gaps_of, Tiled}
 use Rattle.ea_model.specs.Region.{AreApart, Laid}

@@ -80,7 +80,7 @@ abbrev pub FailsExhausted : Run → Type 0
 FailsExhausted r = (name bytes need looked : ℕ) (why : NoCarrier) (s : Run)
     → step r (op.Alloc name bytes) ≡ Some s
     → s.log ≡ r.log ++ entry.AllocFail name need looked why ∷ [] → (need ≡ need_of bytes)
-        × (looked ≡ 0) × IsExhausted r.instance need why
+    × (looked ≡ 0) × IsExhausted r.instance need why
 
 -- of the gaps that the strategy inspects and that are large enough, it takes this one first; or the
 -- strategy may miss a gap, none of those is large enough, and this is the lowest of a carrier
@@ -88,9 +88,9 @@ FailsExhausted r = (name bytes need looked : ℕ) (why : NoCarrier) (s : Run)
 abbrev pub IsTakenFirst : Settings → ℕ → List Content → Candidate → Type 0
 IsTakenFirst s need cs x =
     IsFirst (takes_first s.strategy)
-        (large_enough need (inspected_by s.strategy s.mbsd (candidates cs))) x
+    (large_enough need (inspected_by s.strategy s.mbsd (candidates cs))) x
     ⊎ ((may_miss s.strategy ≡ true) × IsNone (choice_among s.strategy s.mbsd need cs)
-        × IsFirst lower (large_enough need (candidates (filter is_empty_multi cs))) x)
+    × IsFirst lower (large_enough need (candidates (filter is_empty_multi cs))) x)
 
 -- the place is at the front of that gap, with the units that are needed, or the whole gap where
 -- fewer than 6 would be left of it
@@ -105,8 +105,8 @@ PlacesFirst r = (name bytes : ℕ) (p : Place) (s : Run) → step r (op.Alloc na
     → s.log ≡ r.log ++ entry.Alloc name p ∷ []
     → IsPlaceOf r.instance (need_of bytes) p
     ⊎ ((q : CarrierPlan) × IsNone (chosen_spot r.instance (need_of bytes))
-        × (plan r.instance (need_of bytes) ≡ Ok q)
-        × IsPlaceOf (creating r.instance q) (need_of bytes) p)
+    × (plan r.instance (need_of bytes) ≡ Ok q)
+    × IsPlaceOf (creating r.instance q) (need_of bytes) p)
 
 -- the entry of an operation: which ones it may make
 abbrev pub IsEntryOf : Op → Entry → Type 0

@@ -38,8 +38,8 @@ HaveSameBlocks old new = (at : Spot) → block_in new at ≡ block_in old at
 abbrev pub FindsNone : Settings → ℕ → List Content → Type 0
 FindsNone s need cs =
     All (λ x. x.size < need) (inspected_by s.strategy s.mbsd (candidates cs))
-        × (may_miss s.strategy ≡ true
-        → All (λ x. x.size < need) (candidates (filter is_empty_multi cs)))
+    × (may_miss s.strategy ≡ true
+    → All (λ x. x.size < need) (candidates (filter is_empty_multi cs)))
 
 -- all carrier numbers of the instance are in use
 abbrev pub AllUsed : Instance → Type 0

@@ -8,8 +8,9 @@ use Rattle.ea_model.specs.declared.carriers.BlockAt.{BlockAt}
 use Rattle.ea_model.specs.declared.carriers.Gap.{Gap}
 use Rattle.ea_model.specs.Content.{gap, gaps, gap_at, gap_up_to, block_at, end_of, Tiled}
 use Rattle.ea_mbc.specs.Walks.{next_of}
-use Rattle.ea_mbc.proofs.BlockLists.{gap_at-step, block_at-past}
-use Rattle.ea_mbc.proofs.Tiling.{no_block, Tiled-next, Tiled-allocated}
+use Rattle.ea_laws.proofs.BlockLists.{gap_at-step, block_at-past}
+use Rattle.ea_laws.proofs.Tiling.{Tiled-allocated}
+use Rattle.ea_mbc.proofs.Rest.{no_block, Tiled-next}
 
 -- the first of the gaps ends at the offset, or another does
 pub gap_up_to-step : (a b offset : ℕ) (rest : List Gap) → ((a < b) × (offset ≡ b) × (gap_up_to (gap a b ++ rest) offset ≡ b - a)) ⊎ (((b ≤ a) ⊎ (offset ≢ b)) × (gap_up_to (gap a b ++ rest) offset ≡ gap_up_to rest offset))

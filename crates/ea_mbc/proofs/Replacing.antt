@@ -7,11 +7,12 @@ use Rattle.ea_model.specs.declared.carriers.Gap.{Gap}
 use Rattle.ea_model.specs.Content.{Content, gap, gaps, gaps_of, gap_at, gap_up_to, gap_before, gap_behind, block_at, end_of, inserted, Tiled}
 use Rattle.ea_mbc.specs.Walks.{next_of}
 use Rattle.ea_mbc.specs.Gaps.{Replaced, GapTaken, GapsJoined}
-use Rattle.ea_mbc.proofs.BlockLists.{offset_of, gap_at-step, gap_at-next, only_gap, without-behind, block_at-past}
+use Rattle.ea_laws.proofs.BlockLists.{offset_of, gap_at-step, only_gap, without-behind, block_at-past}
+use Rattle.ea_mbc.proofs.Reaching.{gap_at-next}
 use Rattle.ea_model.specs.Keyed.{without}
 use Rattle.ea_model.proofs.Rising.{entered_here, entered_past, without_here, without_past}
 use Rattle.ea_mbc.proofs.Beside.{gap_up_to-step, gap_up_to-first, gap_at-front, next_of-here, block_at-Lies, none_there, same_block, end_of-block}
-use Rattle.ea_mbc.proofs.Chosen.{gap_some, gap_none}
+use Rattle.ea_laws.proofs.Chosen.{gap_some, gap_none}
 
 regroup : (more front run behind : List Gap) → more ++ (front ++ run ++ behind) ≡ (more ++ front) ++ run ++ behind
 regroup more front run behind = sym (append_assoc more (front ++ run) behind) ∙ ap (λ zs. zs ++ behind) (sym (append_assoc more front run))

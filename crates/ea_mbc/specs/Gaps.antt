@@ -17,7 +17,7 @@ GapTaken old new offset size =
     (record { offset = offset; size = gap_at (gaps_of old) offset } ∷ [])
     (gap (offset + size) (offset + gap_at (gaps_of old) offset))
 
--- a block of so many units at the offset is free, and one gap with the gaps directly before and behind it
+-- a block of so many units at the offset is free, and one gap with the gaps directly before and after it
 abbrev pub GapsJoined : Content → Content → ℕ → ℕ → Type 0
 GapsJoined old new offset size =
     Replaced (gaps_of old) (gaps_of new)

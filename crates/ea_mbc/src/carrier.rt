@@ -9,9 +9,20 @@ use crate::walks::{
     allocated_units, best_gap, count_of, free_before, free_behind, gap_from, largest_gap, taken,
 };
 use ea_model::keyed::{enter, item_of, take_out};
-use ea_model::{Block, BlockAt, Carried, Inner, OutOfMemory};
+use ea_model::{Block, BlockAt, Carried, Gap, Inner, OutOfMemory};
 use std::alloc::Global;
 use std::marker::Model;
+
+/// A block that was released, with the gaps directly before and after it, which it joins.
+#[derive(Debug, Clone, Copy, PartialEq, Eq)]
+pub struct Freed {
+    /// The units of the gap before it, or 0.
+    pub before: u32,
+    /// Its own units.
+    pub size: u32,
+    /// The units of the gap after it, or 0.
+    pub after: u32,
+}
 
 /// A carrier of many blocks. Contracts see it as its content: number, owner, base, birth, units and the
 /// blocks by rising offset. A block has an even number of units, 6 at least, and so has a gap.
@@ -82,54 +93,55 @@ impl Mbc {
         })
     }
 
-    /// The offset of the gap that is chosen for `need` units, or None where no gap has so many.
-    pub fn choose(&self, inner: Inner, need: u32) -> Option<u32>
-        ensures chosen { result ≡ option_map (λ g. g.offset) (choice inner need (gaps_of self.now)) }
+    /// The gap that is chosen for `need` units, or None where no gap has so many.
+    pub fn choose(&self, inner: Inner, need: u32) -> Option<Gap>
+        ensures chosen { result ≡ choice inner need (gaps_of self.now) }
         ensures none { IsNone result ↔ All (λ g. g.size < need) (gaps_of self.now) }
-        ensures fits { IfSome result (λ offset. need ≤ gap_at (gaps_of self.now) offset) }
 
         // The chosen gap is one that fits, and none that fits comes before it.
-        ensures first { IfSome (choice inner need (gaps_of self.now))
-            (IsFirst (before inner) (fitting need (gaps_of self.now))) }
-        ensures sized { IfSome (choice inner need (gaps_of self.now)) (λ g.
-            gap_at (gaps_of self.now) g.offset ≡ g.size) }
+        ensures fits { IfSome result (λ g. need ≤ g.size) }
+        ensures gap { IfSome result (λ g. gap_at (gaps_of self.now) g.offset ≡ g.size) }
+        ensures first { IfSome result (IsFirst (before inner) (fitting need (gaps_of self.now))) }
     {
-        best_gap(inner, need, self.units, &self.blocks).map(|gap| gap.offset)
+        best_gap(inner, need, self.units, &self.blocks)
     }
 
-    /// Puts a block at the front of the gap at `offset`, and answers its units: `need`, or the whole gap
+    /// Puts a block at the front of a gap of its own, and answers its units: `need`, or the whole gap
     /// where fewer than 6 units would be left of it. Where there is no memory, nothing changes.
-    pub fn place(&mut self, offset: u32, need: u32, name: u32) -> Result<u32, OutOfMemory>
-        requires fits { need ≤ gap_at (gaps_of self.old) offset }
+    pub fn place(&mut self, gap: Gap, need: u32, name: u32) -> Result<u32, OutOfMemory>
+        requires gap { gap_at (gaps_of self.old) gap.offset ≡ gap.size }
+        requires fits { need ≤ gap.size }
         requires even { need % 2 ≡ 0 }
         requires least { 6 ≤ need }
-        ensures size { IfOk result (λ size. size ≡ taken_of (gap_at (gaps_of self.old) offset) need) }
-        ensures ok { OnOk result (self.new ≡ placed self.old offset need name) }
+        ensures size { IfOk result (λ size. size ≡ taken_of gap.size need) }
+        ensures ok { OnOk result (self.new ≡ placed self.old gap.offset need name) }
         ensures err { OnErr result (self.new ≡ self.old) }
 
         // No block began at the offset, one begins there now, and the others are as before.
-        ensures behind_header { 8 ≤ offset }
-        ensures fresh { block_at self.old.blocks offset ≡ None }
-        ensures begins { IfOk result (λ size.
-            block_at self.new.blocks offset ≡ Some (record { name = name; offset = offset; size = size })) }
-        ensures others { (at : ℕ) → at ≢ offset →
+        ensures behind_header { 8 ≤ gap.offset }
+        ensures fresh { block_at self.old.blocks gap.offset ≡ None }
+        ensures begins { IfOk result (λ size. block_at self.new.blocks gap.offset
+            ≡ Some (record { name = name; offset = gap.offset; size = size })) }
+        ensures others { (at : ℕ) → at ≢ gap.offset →
             block_at self.new.blocks at ≡ block_at self.old.blocks at }
 
         // Of the gaps only that one changes: what the block leaves of it is a gap, if it leaves any.
-        ensures gap_taken { IfOk result (GapTaken self.old self.new offset) }
+        ensures gap_taken { IfOk result (GapTaken self.old self.new gap.offset) }
     {
-        let gap = gap_from(self.units, &self.blocks, offset);
-        let size = taken(gap, need);
+        let size = taken(gap.size, need);
+        let offset = gap.offset;
         enter(BlockAt { name, offset, size }, &mut self.blocks)?;
         Ok(size)
     }
 
-    /// Takes out the block at `offset`, and answers its units, which are free from then on. Where there is
-    /// no memory, nothing changes.
-    pub fn release(&mut self, offset: u32) -> Result<u32, OutOfMemory>
+    /// Takes out the block at `offset`, whose units are free from then on, and answers it with the gaps
+    /// that it joins. Where there is no memory, nothing changes.
+    pub fn release(&mut self, offset: u32) -> Result<Freed, OutOfMemory>
         requires { IsSome (block_at self.old.blocks offset) }
-        ensures size { IfOk result (λ size.
-            option_map (λ b. b.size) (block_at self.old.blocks offset) ≡ Some size) }
+        ensures size { IfOk result (λ f.
+            option_map (λ b. b.size) (block_at self.old.blocks offset) ≡ Some f.size) }
+        ensures gaps { IfOk result (λ f.
+            (f.before ≡ gap_before self.old offset) × (f.after ≡ gap_behind self.old offset)) }
         ensures ok { OnOk result (self.new ≡ released self.old offset) }
         ensures err { OnErr result (self.new ≡ self.old) }
 
@@ -138,11 +150,17 @@ impl Mbc {
         ensures others { (at : ℕ) → at ≢ offset →
             block_at self.new.blocks at ≡ block_at self.old.blocks at }
 
-        // Of the gaps only those directly before and behind the block change: with it they are one gap.
-        ensures gaps_joined { IfOk result (GapsJoined self.old self.new offset) }
+        // Of the gaps only those directly before and after the block change: with it they are one gap.
+        ensures gaps_joined { IfOk result (λ f. GapsJoined self.old self.new offset f.size) }
     {
-        let block = take_out(offset, &mut self.blocks);
-        Ok(block.size)
+        let before = free_before(self.units, &self.blocks, offset);
+        let after = free_behind(self.units, &self.blocks, offset);
+        let size = take_out(offset, &mut self.blocks).size;
+        Ok(Freed {
+            before,
+            size,
+            after,
+        })
     }
 
     /// The block that begins at `offset`, if one does.
@@ -164,7 +182,7 @@ impl Mbc {
         gap_from(self.units, &self.blocks, offset)
     }
 
-    /// The units of the gap directly behind the block that begins at `offset`, 0 where there is none.
+    /// The units of the gap directly after the block that begins at `offset`, 0 where there is none.
     pub fn gap_behind(&self, offset: u32) -> u32
         requires { IsSome (block_at self.now.blocks offset) }
         ensures { result ≡ gap_behind self.now offset }
@@ -184,7 +202,7 @@ impl Mbc {
     pub fn largest(&self) -> u32
         ensures units { result ≡ largest (gaps_of self.now) }
 
-        // Its blocks lie one behind another, with whole gaps between them.
+        // Its blocks lie one after another, with whole gaps between them.
         ensures tiled { Tiled 8 self.now.units self.now.blocks }
     {
         largest_gap(self.units, &self.blocks)

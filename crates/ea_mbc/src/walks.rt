@@ -91,7 +91,7 @@ pub fn count_of(units: u32, blocks: &[BlockAt]) -> u32
     blocks.len() as u32
 }
 
-/// Where the first block behind the offset begins, or the end.
+/// Where the first block after the offset begins, or the end.
 fn gap_end(units: u32, blocks: &[BlockAt], offset: u32) -> u32
     ensures { result ≡ next_of units offset blocks.now }
 {
@@ -112,7 +112,7 @@ pub fn gap_from(units: u32, blocks: &[BlockAt], offset: u32) -> u32
     gap_end(units, blocks, offset) - offset
 }
 
-/// The units of the gap directly behind the block that begins at the offset, or 0.
+/// The units of the gap directly after the block that begins at the offset, or 0.
 pub fn free_behind(units: u32, blocks: &[BlockAt], offset: u32) -> u32
     requires tiled { Tiled 8 units blocks.now }
     requires begins { IsSome (block_at blocks.now offset) }

@@ -1,3 +1,1 @@
-pub mod Runs
-pub mod Segments
-pub mod Tails
+pub mod Indices

@@ -1,5 +1,5 @@
 //! The region and its calls.
-ghost use Rattle.std.specs.Prelude.{◌≡◌, ◌⊎◌, ℕ, ◌+◌, ◌-◌, ◌^◌, ◌<◌, ◌≤◌, ◌↔◌, [], All, IsNone, IfSome, IfNone, IfOk, length};
+ghost use Rattle.std.specs.Prelude.{◌≡◌, ◌⊎◌, ℕ, ◌+◌, ◌-◌, ◌^◌, ◌<◌, ◌≤◌, ◌↔◌, [], All, Some, IsNone, IfSome, IfOk, length};
 ghost use Rattle.ea_model.specs.Region.{runs_of, lowest_run, longest, with_segment, cut_from, Laid};
 ghost use Rattle.ea_model.specs.Region.{AreFree, IsTail};
 
@@ -39,14 +39,11 @@ impl Region {
         requires { first + pages < 2 ^ 32 }
         ensures { IfOk result (λ r. r ≡ record { first = first; end = first + pages; taken = [] }) }
     {
-        match Vec::with_capacity(alloc, ROOM) {
-            Ok(taken) => Ok(Region {
-                first,
-                end: first + pages,
-                taken,
-            }),
-            Err(_) => Err(OutOfMemory),
-        }
+        Ok(Region {
+            first,
+            end: first + pages,
+            taken: Vec::with_capacity(alloc, ROOM)?,
+        })
     }
 
     /// Where the lowest free run of at least `pages` pages begins, or None where no free run has so many.
@@ -62,32 +59,25 @@ impl Region {
         lowest_start(pages, self.first, self.end, &self.taken)
     }
 
-    /// Takes `pages` pages, the front of the lowest free run that has so many, and answers the first of
-    /// them. None where no free run has so many, and then nothing changes.
-    pub fn take(&mut self, pages: u32) -> Option<u32>
+    /// Takes `pages` pages from `base` on, where `find` found them: at the front of the lowest free run
+    /// that has so many.
+    pub fn take(&mut self, base: u32, pages: u32)
         requires some { 1 ≤ pages }
         requires room { length self.old.taken < 256 }
-        ensures found { result ≡ lowest_run pages (runs_of self.old) }
-        ensures taken { IfSome result (λ base. self.new ≡ record self.old { taken = with_segment (record { base = base; pages = pages }) self.old.taken }) }
-        ensures none { IfNone result (self.new ≡ self.old) }
+        requires found { lowest_run pages (runs_of self.old) ≡ Some base }
+        ensures taken { self.new ≡ record self.old { taken = with_segment (record { base = base; pages = pages }) self.old.taken } }
 
         // The pages taken lie in the region and met no taken segment.
-        ensures inside { IfSome result (λ base. (self.old.first ≤ base) × (base + pages ≤ self.old.end)) }
-        ensures apart { IfSome result (λ base. AreFree base pages self.old.taken) }
+        ensures inside { (self.old.first ≤ base) × (base + pages ≤ self.old.end) }
+        ensures apart { AreFree base pages self.old.taken }
         ensures laid { Laid self.new.first self.new.end self.new.taken }
-        ensures count { length self.new.taken ≤ length self.old.taken + 1 }
+        ensures count { length self.new.taken ≡ length self.old.taken + 1 }
 
         // The pages taken can be given back, and so can what could be given back before.
-        ensures whole { IfSome result (λ base. IsTail base pages self.new.taken) }
+        ensures whole { IsTail base pages self.new.taken }
         ensures others { (at n : ℕ) → IsTail at n self.old.taken → IsTail at n self.new.taken }
     {
-        match lowest_start(pages, self.first, self.end, &self.taken) {
-            Some(base) => {
-                enter_within(Segment { base, pages }, &mut self.taken);
-                Some(base)
-            }
-            None => None,
-        }
+        enter_within(Segment { base, pages }, &mut self.taken);
     }
 
     /// Makes the `pages` pages from `base` on free again. They are the whole or the tail of one taken

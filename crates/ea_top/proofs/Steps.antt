@@ -16,21 +16,12 @@ use Rattle.ea_model.specs.declared.entries.Entry.TheVariants as entry
 use Rattle.ea_model.specs.Content.{Content, is_empty_multi}
 use Rattle.ea_model.specs.Instance.{Instance, block_in, chosen_spot, place_at, main_carriers, plan, creating, releasing_at, content_of}
 use Rattle.ea_laws.specs.Run.{Run, Held, spot_held, without, step, steps, allocating, with_block, with_carrier, in_new_carrier, tidied, freed_at, freeing}
-use Rattle.ea_model.proofs.Rising.{item_at-gone, item_at-stays}
 use Rattle.ea_laws.specs.Spots.{IsOther, IsPlaced, HaveSameBlocks}
+use Rattle.ea_laws.proofs.Held.{same_spot, spot_held-without, spot_held-without_other}
 use Rattle.ea_instance.specs.Answers.{placing_if}
 use Rattle.ea_top.specs.Holding.{HoldsBlocks, IsChosenPlace, name_in, spot_at}
 use Rattle.ea_top.specs.Running.{Reaches, Shows}
 use Rattle.ea_top.specs.declared.scheduler.Scheduler.{Scheduler}
-
-abbrev pair : ℕ → ℕ → Spot
-pair carrier offset = record { carrier = carrier; offset = offset }
-
-spot_of_parts : (a b m n : ℕ) → a ≡ b → m ≡ n → pair a m ≡ pair b n
-spot_of_parts a b m n e f = cc
-
-same_spot : (x y : Spot) → x.carrier ≡ y.carrier → x.offset ≡ y.offset → x ≡ y
-same_spot x y e f = spot_of_parts x.carrier y.carrier x.offset y.offset e f
 
 -- a spot is the place's, or another
 same_or_other : (p : Place) (at : Spot) → (at ≡ spot_at p) ⊎ IsOther p.carrier p.offset at
@@ -81,15 +72,6 @@ pub spot_held-set : (spots : List (Option Spot)) (held : List Held) (name n : �
     → get_or (set spots name (Some spot)) n None ≡ spot_held n (record { name = name; spot = spot } ∷ held)
 spot_held-set spots held name n spot within was =
     elim (cases_eq name n) [ inl same ↦ grind (arith, common_steps) | inr other ↦ grind (arith, common_steps) ]
-
-abbrev pub name_of : Held → ℕ
-name_of h = h.name
-
-pub spot_held-without_other : (held : List Held) (name n : ℕ) → n ≢ name → spot_held n (without name held) ≡ spot_held n held
-spot_held-without_other held name n other = ap (option_map (λ (h : Held). h.spot)) (item_at-stays name_of n name held other)
-
-pub spot_held-without : (held : List Held) (name : ℕ) → spot_held name (without name held) ≡ None
-spot_held-without held name = ap (option_map (λ (h : Held). h.spot)) (item_at-gone name_of name held)
 
 -- the held names with one less
 pub spot_held-unset : (spots : List (Option Spot)) (held : List Held) (name n : ℕ) → name < length spots → get_or spots n None ≡ spot_held n held

@@ -1,7 +1,8 @@
 use Rattle.std.proofs.Common.{arith}
 use Rattle.std.proofs.lemmas.List.Sums.{sum_by_more_le}
 use Rattle.ea_model.specs.declared.carriers.BlockAt.{BlockAt}
-use Rattle.ea_mbc.proofs.Tiling.{Tiled-allocated, no_block}
+use Rattle.ea_laws.proofs.Tiling.{Tiled-allocated}
+use Rattle.ea_mbc.proofs.Rest.{no_block}
 use Rattle.ea_mbc.proofs.walks.allocated_units.Goals as goal
 
 pub overflow_add-sum : goal.overflow_add-sum

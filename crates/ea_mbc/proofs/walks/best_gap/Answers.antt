@@ -1,5 +1,6 @@
 use Rattle.std.proofs.Common.{arith}
-use Rattle.ea_mbc.proofs.Tiling.{Tiled-next, Tiled-allocated}
+use Rattle.ea_laws.proofs.Tiling.{Tiled-allocated}
+use Rattle.ea_mbc.proofs.Rest.{Tiled-next}
 use Rattle.ea_mbc.proofs.walks.best_gap.Goals as goal
 
 pub overflow_add-at : goal.overflow_add-at

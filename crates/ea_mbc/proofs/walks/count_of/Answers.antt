@@ -1,5 +1,5 @@
 use Rattle.std.proofs.Common.{arith}
-use Rattle.ea_mbc.proofs.Tiling.{Tiled-length}
+use Rattle.ea_laws.proofs.Tiling.{Tiled-length}
 use Rattle.ea_mbc.proofs.walks.count_of.Goals as goal
 
 pub overflow_cast-result : goal.overflow_cast-result

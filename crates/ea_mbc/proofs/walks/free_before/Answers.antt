@@ -1,5 +1,6 @@
 use Rattle.std.proofs.Common.{◌∙◌, arith}
-use Rattle.ea_mbc.proofs.Tiling.{Tiled-next, Tiled-allocated}
+use Rattle.ea_laws.proofs.Tiling.{Tiled-allocated}
+use Rattle.ea_mbc.proofs.Rest.{Tiled-next}
 use Rattle.ea_mbc.proofs.Beside.{gap_up_to-next}
 use Rattle.ea_mbc.proofs.walks.free_before.Goals as goal
 

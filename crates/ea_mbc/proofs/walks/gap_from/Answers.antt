@@ -1,5 +1,5 @@
 use Rattle.std.proofs.Common.{arith}
-use Rattle.ea_mbc.proofs.BlockLists.{gap_at-next}
+use Rattle.ea_mbc.proofs.Reaching.{gap_at-next}
 use Rattle.ea_mbc.proofs.walks.gap_from.Goals as goal
 
 pub overflow_sub-result : goal.overflow_sub-result

@@ -1,5 +1,6 @@
 use Rattle.std.proofs.Common.{arith}
-use Rattle.ea_space.proofs.Segments.{Laid-next, Laid-end}
+use Rattle.ea_laws.proofs.Segments.{Laid-end}
+use Rattle.ea_space.proofs.Indices.{Laid-next}
 use Rattle.ea_space.proofs.walks.longest_run.Goals as goal
 
 pub overflow_add-at : goal.overflow_add-at

@@ -1,6 +1,6 @@
 use Rattle.std.proofs.Common.{◌≡◌, ◌+◌, subst, ◌∙◌, ap, arith}
 use Rattle.ea_model.specs.Content.{gaps_of, allocated, free_units}
-use Rattle.ea_mbc.proofs.Tiling.{allocated-free}
+use Rattle.ea_laws.proofs.Tiling.{allocated-free}
 use Rattle.ea_mbc.proofs.carrier.Mbc.allocated.Goals as goal
 
 pub returns-clause-sum : goal.returns-clause-sum

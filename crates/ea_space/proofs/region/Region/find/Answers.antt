@@ -4,7 +4,7 @@ use Rattle.std.proofs.lemmas.Grind.{common_steps}
 use Rattle.ea_model.specs.Region.{runs_of, lowest_run, Laid}
 use Rattle.ea_model.specs.Region.{AreFree}
 use Rattle.ea_model.proofs.Options.{if_some}
-use Rattle.ea_space.proofs.Runs.{Fits, lowest-Fits, lowest-none}
+use Rattle.ea_laws.proofs.FreeRuns.{Fits, lowest-Fits, lowest-none}
 use Rattle.ea_space.proofs.region.Region.find.Goals as goal
 
 -- the answer is the base of the lowest run

@@ -3,8 +3,9 @@ use Rattle.std.specs.List.{position_or_len}
 use Rattle.ea_model.specs.declared.carriers.Segment.{Segment}
 use Rattle.ea_model.specs.Region.{covers, cut_from, Laid}
 use Rattle.ea_model.specs.Region.{IsTail}
-use Rattle.ea_space.proofs.Tails.{IsTail-cut_front, IsTail-cut_other}
-use Rattle.ea_space.proofs.Segments.{Laid-cut, IsTail-at, IsTail-found, remove-found, set-found}
+use Rattle.ea_laws.proofs.Tails.{IsTail-cut_front, IsTail-cut_other}
+use Rattle.ea_laws.proofs.Segments.{Laid-cut}
+use Rattle.ea_space.proofs.Indices.{IsTail-at, IsTail-found, remove-found, set-found}
 use Rattle.ea_space.proofs.region.Region.give_back.Goals as goal
 
 pub index_of-index-requires : goal.index_of-index-requires
