@@ -3,7 +3,7 @@ ghost use Rattle.std.specs.Prelude.{◌≡◌, ◌⊎◌, ℕ, ◌+◌, ◌-◌,
 ghost use Rattle.ea_model.specs.Region.{runs_of, lowest_run, longest, with_segment, cut_from, Laid};
 ghost use Rattle.ea_model.specs.Region.{AreFree, IsTail};
 
-use crate::walks::{longest_run, lowest_start, index_of};
+use crate::walks::{index_of, longest_run, lowest_start};
 use ea_model::keyed::enter_within;
 use ea_model::{OutOfMemory, Segment};
 use std::alloc::Global;
