@@ -81,6 +81,7 @@ impl Fault {
 fn write_said<E: Sink>(err: &mut E, said: &str) -> Result<(), Failed>
     ensures whole { OnOk result (Appends (E.taken err.old) (E.taken err.new) (line_with said.now)) }
     ensures front { AppendsFront (E.taken err.old) (E.taken err.new) (line_with said.now) }
+    ensures kept { OnOk result (E.faults err.new ≡ E.faults err.old) }
     ensures stops { OnErr result (StopsAtFault E.taken E.faults err.old err.new) }
 {
     write_texts(err, &["erts_alloc_run: ", said, "\n"])
@@ -89,6 +90,7 @@ fn write_said<E: Sink>(err: &mut E, said: &str) -> Result<(), Failed>
 fn write_line<E: Sink>(err: &mut E, fault: Fault) -> Result<(), Failed>
     ensures whole { OnOk result (Appends (E.taken err.old) (E.taken err.new) (fault_line fault)) }
     ensures front { AppendsFront (E.taken err.old) (E.taken err.new) (fault_line fault) }
+    ensures kept { OnOk result (E.faults err.new ≡ E.faults err.old) }
     ensures stops { OnErr result (StopsAtFault E.taken E.faults err.old err.new) }
 {
     match fault {
@@ -108,8 +110,10 @@ fn write_line<E: Sink>(err: &mut E, fault: Fault) -> Result<(), Failed>
 
 /// Writes the line of a fault. After a fault of `err` nothing more is written.
 pub fn complain<E: Sink>(err: &mut E, fault: Fault)
-    ensures line { Complains (E.taken err.old) (E.taken err.new) (Calm (E.faults err.old) (E.faults err.new)) fault }
-    ensures stops { (E.faults err.new ≡ E.faults err.old) ⊎ StopsAtFault E.taken E.faults err.old err.new }
+    ensures line { Complains (E.taken err.old) (E.taken err.new)
+        (Calm (E.faults err.old) (E.faults err.new)) fault }
+    ensures stops { (E.faults err.new ≡ E.faults err.old)
+        ⊎ StopsAtFault E.taken E.faults err.old err.new }
 {
     let _ = write_line(err, fault);
 }

@@ -7,8 +7,8 @@ ghost use Rattle.ea_model.specs.declared.units.TheConstants.{MAX_NAME};
 ghost use Rattle.ea_top.specs.Says.{said, IsNamed};
 ghost use Rattle.ea_top.specs.declared.lines.Line.TheVariants.{Unreadable};
 
-use ea_model::{MAX_BYTES, MAX_NAME};
 use ea_model::words::{first_word, number};
+use ea_model::{MAX_BYTES, MAX_NAME};
 
 /// What one line says.
 #[derive(Debug, Clone, Copy, PartialEq, Eq)]
@@ -80,7 +80,8 @@ fn alloc(rest: &[u8]) -> Option<Line>
 }
 
 fn free(rest: &[u8]) -> Option<Line>
-    ensures { said (unwrap_or result Unreadable) ≡ one_number free_line 1 MAX_NAME (words rest.now) }
+    ensures { said (unwrap_or result Unreadable) ≡ one_number free_line 1 MAX_NAME
+        (words rest.now) }
 {
     let name = one_word(rest)?;
     Some(Line::Free {

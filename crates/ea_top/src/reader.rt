@@ -5,6 +5,7 @@ ghost use Rattle.ea_model.specs.declared.units.TheConstants.{MAX_OPS};
 ghost use Rattle.ea_laws.specs.Run.{IsBuiltOp};
 ghost use Rattle.ea_top.specs.Says.{said, IsNamed};
 ghost use Rattle.ea_top.specs.Reads.{Gives};
+ghost use Rattle.ea_top.specs.declared.reader.TraceFault.TheVariants as trace;
 
 use crate::lines::{Line, read_line};
 use crate::seen::Seen;
@@ -22,7 +23,7 @@ pub enum TraceFault {
 }
 
 impl From<OutOfMemory> for TraceFault {
-    ghost from_gives = { λ _ fault. fault ≡ OutOfMemory };
+    ghost from_gives = { λ _ fault. fault ≡ trace.OutOfMemory };
 
     fn from(_: OutOfMemory) -> TraceFault {
         TraceFault::OutOfMemory
@@ -30,7 +31,7 @@ impl From<OutOfMemory> for TraceFault {
 }
 
 impl From<AllocError> for TraceFault {
-    ghost from_gives = { λ _ fault. fault ≡ OutOfMemory };
+    ghost from_gives = { λ _ fault. fault ≡ trace.OutOfMemory };
 
     fn from(_: AllocError) -> TraceFault {
         TraceFault::OutOfMemory

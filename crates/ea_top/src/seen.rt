@@ -42,7 +42,8 @@ impl Seen {
     /// Whether the names of a line are good after the lines that were taken.
     fn names_are_good(&self, line: Line) -> bool
         requires { IsNamed line }
-        ensures { (earlier : Lines) → Knows earlier self.now → result ≡ names_good earlier (said line) }
+        ensures { (earlier : Lines) → Knows earlier self.now
+            → result ≡ names_good earlier (said line) }
     {
         match line {
             Line::Alloc { name, .. } => !self.made[name as usize],
@@ -54,8 +55,10 @@ impl Seen {
     /// Whether the operations are few enough with this line.
     fn has_room(&self, line: Line) -> bool
         requires { IsNamed line }
-        ensures known { (earlier : Lines) → Knows earlier self.now → result ≡ nat_le (length (operations (said line ∷ earlier))) MAX_OPS }
-        ensures few { result ≡ nat_le (length self.now.ops.items + length (op_of (said line))) MAX_OPS }
+        ensures known { (earlier : Lines) → Knows earlier self.now
+            → result ≡ nat_le (length (operations (said line ∷ earlier))) MAX_OPS }
+        ensures few { result ≡ nat_le (length self.now.ops.items + length (op_of (said line)))
+            MAX_OPS }
     {
         self.ops.len() <= MAX_OPS as usize - usize::from(line.operation().is_some())
     }
@@ -63,8 +66,10 @@ impl Seen {
     /// Whether a line may follow those that were taken.
     fn may_follow(&self, line: Line) -> bool
         requires { IsNamed line }
-        ensures known { (earlier : Lines) → Knows earlier self.now → result ≡ may_follow earlier (said line) }
-        ensures few { result ≡ true → length self.now.ops.items + length (op_of (said line)) ≤ MAX_OPS }
+        ensures known { (earlier : Lines) → Knows earlier self.now
+            → result ≡ may_follow earlier (said line) }
+        ensures few { result ≡ true
+            → length self.now.ops.items + length (op_of (said line)) ≤ MAX_OPS }
     {
         self.stage.admits(line) && self.has_room(line) && self.names_are_good(line)
     }
@@ -73,7 +78,8 @@ impl Seen {
     fn note(&mut self, line: Line) -> Result<(), OutOfMemory>
         requires named { IsNamed line }
         requires few { length self.old.ops.items + length (op_of (said line)) ≤ MAX_OPS }
-        ensures { OnOk result ((earlier : Lines) → Knows earlier self.old → Knows (said line ∷ earlier) self.new) }
+        ensures { OnOk result ((earlier : Lines) → Knows earlier self.old
+            → Knows (said line ∷ earlier) self.new) }
     {
         if let Some(op) = line.operation() {
             self.ops.push(op)?;
@@ -88,8 +94,10 @@ impl Seen {
     /// Takes the next line, if it may follow.
     pub fn take(&mut self, line: Line) -> Result<(), TraceFault>
         requires { IsNamed line }
-        ensures ok { OnOk result ((earlier : Lines) → Knows earlier self.old → (may_follow earlier (said line) ≡ true) × Knows (said line ∷ earlier) self.new) }
-        ensures err { IfErr result (λ e. (earlier : Lines) → Knows earlier self.old → Refuses e (may_follow earlier (said line))) }
+        ensures ok { OnOk result ((earlier : Lines) → Knows earlier self.old
+            → (may_follow earlier (said line) ≡ true) × Knows (said line ∷ earlier) self.new) }
+        ensures err { IfErr result (λ e. (earlier : Lines) → Knows earlier self.old
+            → Refuses e (may_follow earlier (said line))) }
     {
         if !self.may_follow(line) {
             return Err(TraceFault::NotBuilt);
@@ -99,7 +107,8 @@ impl Seen {
 
     /// The operations, at the end of the input.
     pub fn finish(self) -> Result<List<Op>, TraceFault>
-        ensures given { (earlier : Lines) → Knows earlier self → Gives result (at_end (stage_after earlier) (operations earlier)) }
+        ensures given { (earlier : Lines) → Knows earlier self
+            → Gives result (at_end (stage_after earlier) (operations earlier)) }
         ensures in_range { IfOk result (λ ops. All InRange ops.items) }
         ensures built { IfOk result (λ ops. All IsBuiltOp ops.items) }
         ensures few { IfOk result (λ ops. length ops.items ≤ MAX_OPS) }
