@@ -2,6 +2,8 @@
 //! choice to the next. Tests compare an instance with it, under each strategy.
 #![tactic(auto)]
 
+#[cfg(test)]
+mod against_plain;
 pub mod plain;
 #[cfg(test)]
 mod tests;
