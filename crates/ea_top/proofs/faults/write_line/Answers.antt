@@ -26,12 +26,12 @@ returns-in-Word-clause-front g c =
 
 pub returns-in-SpaceTooSmall-clause-whole : goal.returns-in-SpaceTooSmall-clause-whole
 returns-in-SpaceTooSmall-clause-whole g c =
-    subst (λ f. OnOk c.write_said.result
-    (Appends (g.E.Sink.taken c.args.err.now) (g.E.Sink.taken c.write_said.new.err)
-    (fault_line f))) (sym c.in-SpaceTooSmall.is) c.write_said.ensures.whole
+    subst (λ f. OnOk c.write_with.result
+    (Appends (g.E.Sink.taken c.args.err.now) (g.E.Sink.taken c.write_with.new.err)
+    (fault_line f))) (sym c.in-SpaceTooSmall.is) c.write_with.ensures.whole
 
 pub returns-in-Input-clause-whole : goal.returns-in-Input-clause-whole
 returns-in-Input-clause-whole g c =
-    subst (λ f. OnOk c.write_said-in-Input.result
-    (Appends (g.E.Sink.taken c.args.err.now) (g.E.Sink.taken c.write_said-in-Input.new.err)
-    (fault_line f))) (sym c.in-Input.is) c.write_said-in-Input.ensures.whole
+    subst (λ f. OnOk c.write_with-in-Input.result
+    (Appends (g.E.Sink.taken c.args.err.now) (g.E.Sink.taken c.write_with-in-Input.new.err)
+    (fault_line f))) (sym c.in-Input.is) c.write_with-in-Input.ensures.whole
