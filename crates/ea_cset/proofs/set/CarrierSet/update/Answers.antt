@@ -9,7 +9,7 @@ use Rattle.ea_cset.proofs.Places.{rising}
 use Rattle.ea_cset.proofs.set.CarrierSet.update.Goals as goal
 
 place : (c : goal.After-self-1) → c.index_of-place.result ≡ position_or_len (has_key number_of c.args.number) c.self.inside.held.items
-place c = c.index_of-place.ensures.place ∙ ap (position_or_len (has_key number_of c.args.number)) c.deref.ensures.value
+place c = c.index_of-place.ensures.index ∙ ap (position_or_len (has_key number_of c.args.number)) c.deref.ensures.value
 
 within : (c : goal.After-self-1) → c.index_of-place.result < length c.self.inside.held.items
 within c = subst (λ xs. c.index_of-place.result < length xs) c.deref.ensures.value c.index_of-place.ensures.within
