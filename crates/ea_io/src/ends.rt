@@ -1,11 +1,9 @@
 //! A source of bytes and a sink for bytes.
-ghost use Rattle.std.specs.Prelude.{◌≡◌, ℕ, ◌≤◌, ◌<◌, Option, List, IfOk, OnOk, OnErr, length};
-ghost use Rattle.std.specs.Io.{ReadsAtMost, WritesAtMost};
-ghost use Rattle.std.specs.Io.KnownBytes.{ReadConsumes, WriteAppends};
-ghost use Rattle.ea_io.specs.Counts.{Rose, WriteCounts};
+ghost use Rattle.std.specs.Prelude.{ℕ, Option, List};
+ghost use Rattle.ea_io.specs.Calls.{Reads, Writes};
 
-/// A read or a write failed. The bytes are as they were before that call, and the end's count of
-/// faults rose.
+/// A read or a write failed. The bytes are as they were before that call, and the end counted
+/// one fault more.
 #[derive(Debug, Clone, Copy, PartialEq, Eq)]
 pub struct Failed;
 
@@ -19,13 +17,10 @@ pub trait Source {
 
     /// Puts the next bytes into the front of `buf` and answers how many, from 0 to the length of
     /// `buf`. Where `buf` isn't empty, 0 means that the end was reached. An `Err` comes only where
-    /// the count of faults rose, and takes no byte.
+    /// the count of faults goes up by one, and takes no byte.
     fn read(&mut self, buf: &mut [u8]) -> Result<usize, Failed>
-        ensures bound { ReadsAtMost result buf.new }
-        ensures bytes { ReadConsumes (left self.old) (left self.new) result buf.new }
-        ensures kept { OnOk result (faults self.new ≡ faults self.old) }
-        ensures grows { faults self.old ≤ faults self.new }
-        ensures cause { OnErr result (Rose (faults self.old) (faults self.new)) };
+        ensures { Reads (left self.old) (left self.new) (faults self.old) (faults self.new)
+            result buf.new };
 }
 
 /// Where bytes go. Contracts speak of the bytes that were taken, or at least of how many, where the
@@ -39,13 +34,9 @@ pub trait Sink {
     ghost faults: { Self → ℕ };
 
     /// Takes bytes from the front of `piece` and answers how many: at least one, unless `piece` is
-    /// empty, and at most all. An `Err` comes only where the count of faults rose, and takes nothing.
+    /// empty, and at most all. An `Err` comes only where the count of faults goes up by one, and takes
+    /// nothing.
     fn write(&mut self, piece: &[u8]) -> Result<usize, Failed>
-        ensures bound { WritesAtMost result piece.now }
-        ensures some { IfOk result (λ n. 0 < length piece.now → 0 < n) }
-        ensures bytes { WriteAppends (taken self.old) (taken self.new) result piece.now }
-        ensures counted { WriteCounts (size self.old) (size self.new) result }
-        ensures kept { OnOk result (faults self.new ≡ faults self.old) }
-        ensures grows { faults self.old ≤ faults self.new }
-        ensures cause { OnErr result (Rose (faults self.old) (faults self.new)) };
+        ensures { Writes (taken self.old) (taken self.new) (size self.old) (size self.new)
+            (faults self.old) (faults self.new) result piece.now };
 }

@@ -1,9 +1,8 @@
 //! A source and a sink in memory that work in pieces and fail at chosen calls.
 ghost use Rattle.std.specs.Prelude.{◌≡◌, ◌==◌, ◌+◌, ◌≤◌, ◌<◌, ◌||◌, ◌&&◌, nat_lt, is_err, min, length, Some, None, [], IfOk, OnOk, OnErr};
 ghost use Rattle.std.specs.List.{list_any};
-ghost use Rattle.std.specs.Io.{ReadsAtMost, WritesAtMost};
-ghost use Rattle.std.specs.Io.KnownBytes.{ReadConsumes, WriteAppends};
-ghost use Rattle.ea_io.specs.Counts.{Rose, WriteCounts, next_count};
+ghost use Rattle.ea_io.specs.Calls.{Reads, Writes};
+ghost use Rattle.ea_io.specs.Counts.{next_count};
 
 use crate::ends::{Failed, Sink, Source};
 use crate::pieces::{copy_front, is_listed};
@@ -74,18 +73,14 @@ impl Source for MemSource {
     ghost faults = { λ s. s.faults };
 
     fn read(&mut self, buf: &mut [u8]) -> Result<usize, Failed>
-        ensures bound { ReadsAtMost result buf.new }
-        ensures bytes { ReadConsumes (Some self.old.left) (Some self.new.left) result buf.new }
-        ensures kept { OnOk result (self.new.faults ≡ self.old.faults) }
-        ensures grows { self.old.faults ≤ self.new.faults }
-        ensures cause { OnErr result (Rose self.old.faults self.new.faults) }
+        ensures reads { Reads (Some self.old.left) (Some self.new.left) self.old.faults
+            self.new.faults result buf.new }
         ensures least { IfOk result (λ n.
             n ≡ min (min (length self.old.left) (length buf.old)) self.old.piece) }
         ensures listed { is_err result ≡ list_any (λ n. n == self.new.calls) self.old.failing }
         ensures calls { self.new.calls ≡ next_count self.old.calls }
         ensures failing { self.new.failing ≡ self.old.failing }
         ensures piece { self.new.piece ≡ self.old.piece }
-        ensures once { OnErr result (self.new.faults ≡ next_count self.old.faults) }
     {
         self.calls = self.calls.saturating_add(1);
         if is_listed(self.failing.as_slice(), self.calls) {
@@ -153,11 +148,8 @@ impl MemSink {
         ensures taken { IfOk result (λ s. ⟦<MemSink as Sink>⟧.taken s ≡ Some []) }
         ensures faults { IfOk result (λ s. ⟦<MemSink as Sink>⟧.faults s ≡ 0) }
     {
-        let Ok(taken) = Vec::with_capacity(alloc, room) else {
-            return Err(OutOfMemory);
-        };
         Ok(MemSink {
-            taken,
+            taken: Vec::with_capacity(alloc, room)?,
             room,
             piece,
             failing,
@@ -183,13 +175,8 @@ impl Sink for MemSink {
     ghost faults = { λ s. s.faults };
 
     fn write(&mut self, piece: &[u8]) -> Result<usize, Failed>
-        ensures bound { WritesAtMost result piece.now }
-        ensures some { IfOk result (λ n. 0 < length piece.now → 0 < n) }
-        ensures bytes { WriteAppends (Some self.old.taken) (Some self.new.taken) result piece.now }
-        ensures counted { WriteCounts None None result }
-        ensures kept { OnOk result (self.new.faults ≡ self.old.faults) }
-        ensures grows { self.old.faults ≤ self.new.faults }
-        ensures cause { OnErr result (Rose self.old.faults self.new.faults) }
+        ensures writes { Writes (Some self.old.taken) (Some self.new.taken) None None
+            self.old.faults self.new.faults result piece.now }
         ensures least { IfOk result (λ n.
             n ≡ min (min self.old.room (length piece.now)) self.old.piece) }
         ensures listed { is_err result ≡ (list_any (λ n. n == self.new.calls) self.old.failing
@@ -199,7 +186,6 @@ impl Sink for MemSink {
         ensures calls { self.new.calls ≡ next_count self.old.calls }
         ensures failing { self.new.failing ≡ self.old.failing }
         ensures piece { self.new.piece ≡ self.old.piece }
-        ensures once { OnErr result (self.new.faults ≡ next_count self.old.faults) }
     {
         self.calls = self.calls.saturating_add(1);
         let listed = is_listed(self.failing.as_slice(), self.calls);

@@ -1,8 +1,7 @@
 //! A source and a sink that never fail.
 ghost use Rattle.std.specs.Prelude.{◌≡◌, ◌+◌, ◌<◌, min, length, Ok, Some, None, IfOk};
-ghost use Rattle.std.specs.Io.{ReadsAtMost, WritesAtMost};
-ghost use Rattle.std.specs.Io.KnownBytes.{ReadConsumes, WriteAppends};
-ghost use Rattle.ea_io.specs.Counts.{WriteCounts, last_count};
+ghost use Rattle.ea_io.specs.Calls.{Reads, Writes};
+ghost use Rattle.ea_io.specs.Counts.{last_count};
 
 use crate::ends::{Failed, Sink, Source};
 use crate::pieces::copy_front;
@@ -44,8 +43,7 @@ impl Source for PlainSource {
     ghost faults = { λ _. 0 };
 
     fn read(&mut self, buf: &mut [u8]) -> Result<usize, Failed>
-        ensures bound { ReadsAtMost result buf.new }
-        ensures bytes { ReadConsumes (Some self.old) (Some self.new) result buf.new }
+        ensures reads { Reads (Some self.old) (Some self.new) 0 0 result buf.new }
         ensures all { result ≡ Ok (min (length self.old) (length buf.old)) }
     {
         let bytes = self.bytes.as_slice();
@@ -98,10 +96,8 @@ impl Sink for LengthSink {
     ghost faults = { λ _. 0 };
 
     fn write(&mut self, piece: &[u8]) -> Result<usize, Failed>
-        ensures bound { WritesAtMost result piece.now }
-        ensures some { IfOk result (λ n. 0 < length piece.now → 0 < n) }
-        ensures bytes { WriteAppends None None result piece.now }
-        ensures counted { WriteCounts (Some self.old) (Some self.new) result }
+        ensures writes { Writes None None (Some self.old) (Some self.new) 0 0
+            result piece.now }
         ensures all { result ≡ Ok (length piece.now) }
         ensures length { self.new ≡ min (self.old + length piece.now) last_count }
     {

@@ -1,12 +1,14 @@
 //! Reading a source to its end.
 ghost use Rattle.std.specs.Prelude.{◌≡◌, ℕ, ◌+◌, ◌^◌, ◌<◌, ◌≤◌, IfOk, OnOk, IfSome, IsErrOf, length};
 ghost use Rattle.std.specs.Io.KnownBytes.{IsAtEnd};
+ghost use Rattle.ea_io.specs.Calls.{StopsAtFault};
 ghost use Rattle.ea_io.specs.Counts.{Rose};
 ghost use Rattle.ea_io.specs.Fronts.{ConsumesAtMost, ConsumesMany};
+ghost use Rattle.ea_io.specs.declared.reading.ReadAllFault.TheVariants.{ReadFault, OutOfMemory};
 
-use crate::ends::Source;
+use crate::ends::{Failed, Source};
 use ea_model::List;
-use std::alloc::Global;
+use std::alloc::{AllocError, Global};
 use thiserror::Error;
 
 /// Why a source was not read to its end.
@@ -21,6 +23,22 @@ pub enum ReadAllFault {
     /// There was no memory for the bytes.
     #[error("out of memory")]
     OutOfMemory,
+}
+
+impl From<Failed> for ReadAllFault {
+    ghost from_gives = { λ _ fault. fault ≡ ReadFault };
+
+    fn from(_: Failed) -> ReadAllFault {
+        ReadAllFault::ReadFault
+    }
+}
+
+impl From<AllocError> for ReadAllFault {
+    ghost from_gives = { λ _ fault. fault ≡ OutOfMemory };
+
+    fn from(_: AllocError) -> ReadAllFault {
+        ReadAllFault::OutOfMemory
+    }
 }
 
 // The most bytes that one read asks for: large enough that calls to the system are few, and small
@@ -48,6 +66,8 @@ pub fn read_all<S: Source>(
         Rose (S.faults source.old) (S.faults source.new) }
     ensures read_fault_short { IsErrOf result ReadAllFault.ReadFault →
         ConsumesAtMost (S.left source.old) (S.left source.new) max }
+    ensures read_fault_stops { IsErrOf result ReadAllFault.ReadFault →
+        StopsAtFault S.left S.faults source.old source.new }
     ensures memory_kept { IsErrOf result ReadAllFault.OutOfMemory →
         S.faults source.new ≡ S.faults source.old }
     ensures taken { ConsumesAtMost (S.left source.old) (S.left source.new) (max + 1) }
@@ -57,15 +77,11 @@ pub fn read_all<S: Source>(
     let mut buffer = [0; PIECE];
     while bytes.len() <= max {
         let want = PIECE.min(max + 1 - bytes.len());
-        let Ok(count) = source.read(&mut buffer[..want]) else {
-            return Err(ReadAllFault::ReadFault);
-        };
+        let count = source.read(&mut buffer[..want])?;
         if count == 0 {
             return Ok(List::from_vec(bytes));
         }
-        if bytes.extend_from_slice(&buffer[..count]).is_err() {
-            return Err(ReadAllFault::OutOfMemory);
-        }
+        bytes.extend_from_slice(&buffer[..count])?;
     }
     Err(ReadAllFault::TooLong)
 }

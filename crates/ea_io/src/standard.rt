@@ -1,9 +1,11 @@
 //! The trusted edge: readers and writers of std as a source and a sink. What a real file, terminal or
 //! pipe gives and takes is not proved.
 ghost use Rattle.std.specs.Prelude.{◌≡◌, ◌≤◌, ◌<◌, None, IfOk, OnOk, OnErr, take, length};
-ghost use Rattle.std.specs.Io.{ReadsAtMost, WritesAtMost};
-ghost use Rattle.std.specs.Io.KnownBytes.{ReadConsumes, WriteAppends, Appends};
-ghost use Rattle.ea_io.specs.Counts.{Rose, WriteCounts, next_count};
+ghost use Rattle.std.specs.Io.{WritesAtMost};
+ghost use Rattle.std.specs.Io.KnownBytes.{Appends};
+ghost use Rattle.ea_io.specs.Calls.{Reads, Writes};
+ghost use Rattle.ea_io.specs.Counts.{next_count};
+ghost use Rattle.ea_io.specs.Fronts.{AppendsFront};
 ghost use Rattle.ea_io.specs.Standard.{reader_of, read_faults, writer_of, write_faults};
 
 use crate::ends::{Failed, Sink, Source};
@@ -43,15 +45,7 @@ impl<R: Read> Source for StdSource<R> {
 
     ghost faults = { λ s. read_faults s };
 
-    fn read(&mut self, buf: &mut [u8]) -> Result<usize, Failed>
-        ensures bound { ReadsAtMost result buf.new }
-        ensures bytes { ReadConsumes (R.remaining (reader_of self.old))
-            (R.remaining (reader_of self.new)) result buf.new }
-        ensures kept { OnOk result (read_faults self.new ≡ read_faults self.old) }
-        ensures grows { read_faults self.old ≤ read_faults self.new }
-        ensures cause { OnErr result (Rose (read_faults self.old) (read_faults self.new)) }
-        ensures once { OnErr result (read_faults self.new ≡ next_count (read_faults self.old)) }
-    {
+    fn read(&mut self, buf: &mut [u8]) -> Result<usize, Failed> {
         match self.reader.read(buf) {
             Ok(count) => Ok(count),
             Err(_) => Err(self.fail()),
@@ -82,6 +76,8 @@ impl<W: Write> StdSink<W> {
         ensures bound { WritesAtMost result piece.now }
         ensures handed { IfOk result (λ n. Appends (W.contents (writer_of self.old))
             (W.contents (writer_of self.new)) (take n piece.now)) }
+        ensures front { AppendsFront (W.contents (writer_of self.old))
+            (W.contents (writer_of self.new)) piece.now }
         ensures faults { write_faults self.new ≡ write_faults self.old }
     {
         let count = self.writer.write(piece)?;
@@ -108,16 +104,12 @@ impl<W: Write> Sink for StdSink<W> {
     ghost faults = { λ s. write_faults s };
 
     fn write(&mut self, piece: &[u8]) -> Result<usize, Failed>
-        ensures bound { WritesAtMost result piece.now }
-        ensures some { IfOk result (λ n. 0 < length piece.now → 0 < n) }
-        ensures bytes { WriteAppends None None result piece.now }
-        ensures counted { WriteCounts None None result }
-        ensures kept { OnOk result (write_faults self.new ≡ write_faults self.old) }
-        ensures grows { write_faults self.old ≤ write_faults self.new }
-        ensures cause { OnErr result (Rose (write_faults self.old) (write_faults self.new)) }
-        ensures once { OnErr result (write_faults self.new ≡ next_count (write_faults self.old)) }
+        ensures writes { Writes None None None None (write_faults self.old)
+            (write_faults self.new) result piece.now }
         ensures handed { IfOk result (λ n. Appends (W.contents (writer_of self.old))
             (W.contents (writer_of self.new)) (take n piece.now)) }
+        ensures front { AppendsFront (W.contents (writer_of self.old))
+            (W.contents (writer_of self.new)) piece.now }
     {
         match self.write_through(piece) {
             Ok(count) if count > 0 || piece.is_empty() => Ok(count),

@@ -2,6 +2,7 @@
 ghost use Rattle.std.specs.Prelude.{◌≡◌, ℕ, ◌≤◌, OnOk, OnErr, length};
 ghost use Rattle.std.specs.List.{flat_map};
 ghost use Rattle.std.specs.Io.KnownBytes.{Appends};
+ghost use Rattle.ea_io.specs.Calls.{StopsAtFault};
 ghost use Rattle.ea_io.specs.Counts.{Rose, Grows};
 ghost use Rattle.ea_io.specs.Fronts.{AppendsFront};
 
@@ -16,6 +17,7 @@ pub fn write_all<O: Sink>(sink: &mut O, bytes: &[u8]) -> Result<(), Failed>
     ensures front { AppendsFront (O.taken sink.old) (O.taken sink.new) bytes.now }
     ensures grows { O.faults sink.old ≤ O.faults sink.new }
     ensures cause { OnErr result (Rose (O.faults sink.old) (O.faults sink.new)) }
+    ensures stops { OnErr result (StopsAtFault O.taken O.faults sink.old sink.new) }
 {
     let mut rest = bytes;
     while !rest.is_empty() {
@@ -35,6 +37,7 @@ pub fn write_texts<O: Sink>(sink: &mut O, texts: &[&str]) -> Result<(), Failed>
         (flat_map (λ t. t.now) texts.now) }
     ensures grows { O.faults sink.old ≤ O.faults sink.new }
     ensures cause { OnErr result (Rose (O.faults sink.old) (O.faults sink.new)) }
+    ensures stops { OnErr result (StopsAtFault O.taken O.faults sink.old sink.new) }
 {
     for text in texts {
         write_all(sink, text.as_bytes())?;

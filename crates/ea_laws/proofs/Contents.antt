@@ -15,29 +15,45 @@ use Rattle.ea_laws.proofs.Unused.{unused_from-zero, unused_from-used, unused_fro
 use Rattle.ea_laws.specs.Kept.{number_of, HasNumberIn, IsRising}
 use Rattle.ea_laws.specs.Spots.{HasGap, HaveSameBlocks, IsGapOf}
 
-unused_here : (k low n : ℕ) (cs : List Content) → is_used low cs ≡ false → unused_from (suc k) low cs ≡ Some n → low ≡ n
-unused_here k low n cs free h = let e : Some low ≡ Some n = sym (unused_from-free_here k low cs free) ∙ h in cc
+unused_here : (k low n : ℕ) (cs : List Content) → is_used low cs ≡ false
+    → unused_from (suc k) low cs ≡ Some n → low ≡ n
+unused_here k low n cs free h = let e : Some low ≡ Some n = sym
+    (unused_from-free_here k low cs free) ∙ h in cc
 
-unused_past : (k low n : ℕ) (cs : List Content) → is_used low cs ≡ true → unused_from (suc k) low cs ≡ Some n → unused_from k (low + 1) cs ≡ Some n
+unused_past : (k low n : ℕ) (cs : List Content) → is_used low cs ≡ true
+    → unused_from (suc k) low cs ≡ Some n → unused_from k (low + 1) cs ≡ Some n
 unused_past k low n cs used h = sym (unused_from-used k low cs used) ∙ h
 
 -- the lowest unused number is one of those asked for, and isn't in use
-pub unused_from-free : (k low n : ℕ) (cs : List Content) → unused_from k low cs ≡ Some n → (low ≤ n) × (n < low + k) × (is_used n cs ≡ false)
-unused_from-free zero low n cs h = let e : None ≡ Some n = sym (unused_from-zero low cs) ∙ h in absurd cc
+pub unused_from-free : (k low n : ℕ) (cs : List Content) → unused_from k low cs ≡ Some n → (low ≤ n)
+    × (n < low + k) × (is_used n cs ≡ false)
+unused_from-free zero low n cs h = let e : None ≡ Some n = sym (unused_from-zero low cs)
+    ∙ h in absurd cc
 unused_from-free (suc k) low n cs h =
     elim (cases_Bool (is_used low cs)) [
-      | inl used ↦ let more = unused_from-free k (low + 1) n cs (unused_past k low n cs used h) in (omega arith, omega arith, more.2)
-      | inr free ↦ let e : low ≡ n = unused_here k low n cs free h in (omega arith, omega arith, subst (λ m. is_used m cs ≡ false) e free)
+      | inl used ↦ let more = unused_from-free k (low + 1) n cs (unused_past k low n cs used h) in
+          (omega arith, omega arith, more.2)
+      | inr free ↦ let e : low ≡ n = unused_here k low n cs free h in
+          (omega arith, omega arith, subst (λ m. is_used m cs ≡ false) e free)
     ]
 
 -- there are at most as many contents as numbers
-pub rising-length : (low high : ℕ) (cs : List Content) → IsRising cs → All (HasNumberIn low high) cs → length cs ≤ high - low
+pub rising-length : (low high : ℕ) (cs : List Content) → IsRising cs → All (HasNumberIn low high) cs
+    → length cs ≤ high - low
 rising-length low high [] rising own = omega arith
 rising-length low high (c ∷ cs) rising own =
     let here = own 0 c (omega arith) in
     let above : All (IsBelow number_of c) cs = pairs_head (IsBelow number_of) c cs rising in
-    let rest : All (HasNumberIn (c.number + 1) high) cs = λ i d within. (omega (arith, above i d within), (All-tail (HasNumberIn low high) c cs own i d within).1) in
-    omega (arith, here.0, here.1, rising-length (c.number + 1) high cs (pairs_tail (IsBelow number_of) c cs rising) rest)
+    let rest : All (HasNumberIn (c.number + 1) high) cs = λ i d within.
+    (omega (arith, above i d within), (All-tail (HasNumberIn low high) c cs own i d within).1)
+    in
+    omega (
+      arith,
+      here.0,
+      here.1,
+      rising-length (c.number + 1) high cs
+          (pairs_tail (IsBelow number_of) c cs rising) rest,
+    )
 
 none_there : (o : Option Content) → is_some o ≡ false → o ≡ None
 none_there None h = refl
@@ -57,26 +73,38 @@ abbrev block_among : ℕ → Option Content → Option BlockAt
 block_among offset o = option_and_then (λ c. block_at c.blocks offset) o
 
 -- a carrier without blocks takes none away
-pub same-without : (number : ℕ) (c : Content) (cs : List Content) → content_of cs number ≡ Some c → is_empty_multi c ≡ true → HaveSameBlocks cs (without_content number cs)
+pub same-without : (number : ℕ) (c : Content) (cs : List Content) → content_of cs number ≡ Some c
+    → is_empty_multi c ≡ true → HaveSameBlocks cs (without_content number cs)
 same-without number c cs there done at =
     elim (cases_eq at.carrier number) [
       | inl same ↦
-          ap (block_among at.offset) (ap (content_of (without_content number cs)) same ∙ item_at-gone number_of number cs)
-          ∙ sym (ap (block_among at.offset) (ap (content_of cs) same ∙ there) ∙ no_block c at.offset done)
+          ap (block_among at.offset) (ap (content_of (without_content number cs)) same
+          ∙ item_at-gone number_of number cs)
+          ∙ sym (ap (block_among at.offset) (ap (content_of cs) same ∙ there)
+          ∙ no_block c at.offset done)
       | inr other ↦ ap (block_among at.offset) (item_at-stays number_of at.carrier number cs other)
     ]
 
 -- and brings none
-pub same-with : (x : Content) (cs : List Content) → is_used x.number cs ≡ false → x.blocks ≡ [] → HaveSameBlocks cs (with_content x cs)
+pub same-with : (x : Content) (cs : List Content) → is_used x.number cs ≡ false → x.blocks ≡ []
+    → HaveSameBlocks cs (with_content x cs)
 same-with x cs unused empty at =
     elim (cases_eq at.carrier x.number) [
       | inl same ↦
-          ap (block_among at.offset) (ap (content_of (with_content x cs)) same ∙ item_at-new number_of x cs (unused-All x.number cs unused))
-          ∙ ap (λ bs. block_at bs at.offset) empty ∙ sym (ap (block_among at.offset) (ap (content_of cs) same ∙ unused-none x.number cs unused))
+          ap (block_among at.offset) (ap (content_of (with_content x cs)) same
+          ∙ item_at-new number_of x cs (unused-All x.number cs unused))
+          ∙ ap (λ bs. block_at bs at.offset) empty
+          ∙ sym (ap (block_among at.offset) (ap (content_of cs) same
+          ∙ unused-none x.number cs unused))
       | inr other ↦ ap (block_among at.offset) (item_at-old number_of at.carrier x cs other)
     ]
 
 -- a gap of one of the contents is a gap at its carrier's number
-pub found_in : (need : ℕ) (x : Candidate) (cs : List Content) → IsRising cs → Any (IsGapOf need x) cs → HasGap need x.number x.offset cs
-found_in need x cs rising (k, c, within, at, gap) =
-    (c, ap (content_of cs) (gap.0 ∙ sym (ap number_of at)) ∙ item_at-each number_of k c cs rising within ∙ ap Some at, gap.1)
+pub found_in : (need : ℕ) (x : Candidate) (cs : List Content) → IsRising cs
+    → Any (IsGapOf need x) cs → HasGap need x.number x.offset cs
+found_in need x cs rising (k, c, within, at, gap) = (
+  c,
+  ap (content_of cs) (gap.0 ∙ sym (ap number_of at))
+      ∙ item_at-each number_of k c cs rising within ∙ ap Some at,
+  gap.1,
+)

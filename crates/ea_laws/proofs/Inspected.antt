@@ -10,8 +10,9 @@ use Rattle.ea_model.specs.GoodFit.{is_inspected}
 use Rattle.ea_model.specs.Strategies.{inspected_by, lower, may_miss, only}
 use Rattle.ea_model.proofs.First.{first-All}
 
--- a strategy that misses no gap looks at all
-pub all_inspected : (s : Strategy) (depth : ℕ) (xs : List Candidate) → may_miss s ≡ false → inspected_by s depth xs ≡ xs
+-- a strategy that misses no gap inspects all
+pub all_inspected : (s : Strategy) (depth : ℕ) (xs : List Candidate) → may_miss s ≡ false
+    → inspected_by s depth xs ≡ xs
 all_inspected Bf depth xs e = refl
 all_inspected Aobf depth xs e = refl
 all_inspected Aoff depth xs e = refl
@@ -24,11 +25,13 @@ all_inspected Gf depth xs e = absurd cc
 all_inspected Af depth xs e = absurd cc
 
 -- each candidate that a strategy inspects is one of them
-among_only : (xs : List Candidate) (o : Option Candidate) → IfSome o (Contains xs) → All (Contains xs) (only o)
+among_only : (xs : List Candidate) (o : Option Candidate) → IfSome o (Contains xs)
+    → All (Contains xs) (only o)
 among_only xs None h = All-nil (Contains xs)
 among_only xs (Some x) h = All-cons (Contains xs) x [] h (All-nil (Contains xs))
 
-pub inspected_by-among : (s : Strategy) (depth : ℕ) (xs : List Candidate) → All (Contains xs) (inspected_by s depth xs)
+pub inspected_by-among : (s : Strategy) (depth : ℕ) (xs : List Candidate)
+    → All (Contains xs) (inspected_by s depth xs)
 inspected_by-among Bf depth xs = All-contains_itself xs
 inspected_by-among Aobf depth xs = All-contains_itself xs
 inspected_by-among Aoff depth xs = All-contains_itself xs
@@ -37,5 +40,7 @@ inspected_by-among AoffCaobf depth xs = All-contains_itself xs
 inspected_by-among AgeffCaoff depth xs = All-contains_itself xs
 inspected_by-among AgeffCbf depth xs = All-contains_itself xs
 inspected_by-among AgeffCaobf depth xs = All-contains_itself xs
-inspected_by-among Gf depth xs = All-filter (is_inspected (λ x. x.address) (λ x. x.size) depth xs) (Contains xs) xs (All-contains_itself xs)
-inspected_by-among Af depth xs = among_only xs (first lower xs) (first-All (Contains xs) lower None xs tt (All-contains_itself xs))
+inspected_by-among Gf depth xs = All-filter (is_inspected (λ x. x.address) (λ x. x.size) depth xs)
+    (Contains xs) xs (All-contains_itself xs)
+inspected_by-among Af depth xs = among_only xs (first lower xs)
+    (first-All (Contains xs) lower None xs tt (All-contains_itself xs))

@@ -13,16 +13,20 @@ pub lower-order : IsStrictWeakOrder lower
 lower-order = rising-order (λ (x : Candidate). x.address)
 
 smaller_high-order : IsStrictWeakOrder smaller_high
-smaller_high-order = less-order (λ x. x.size) (λ a b. nat_lt b.address a.address) (falling-order (λ (x : Candidate). x.address))
+smaller_high-order = less-order (λ x. x.size) (λ a b. nat_lt b.address a.address)
+    (falling-order (λ (x : Candidate). x.address))
 
 smaller_low-order : IsStrictWeakOrder smaller_low
 smaller_low-order = less-order (λ x. x.size) lower lower-order
 
-by_base : (t : Candidate → Candidate → Bool) → IsStrictWeakOrder t → IsStrictWeakOrder (λ a b. less a.base b.base (t a b))
+by_base : (t : Candidate → Candidate → Bool) → IsStrictWeakOrder t
+    → IsStrictWeakOrder (λ a b. less a.base b.base (t a b))
 by_base t o = less-order (λ x. x.base) t o
 
-by_age : (t : Candidate → Candidate → Bool) → IsStrictWeakOrder t → IsStrictWeakOrder (λ a b. older a b (t a b))
-by_age t o = less-order (λ x. x.birth) (λ a b. less a.number b.number (t a b)) (less-order (λ x. x.number) t o)
+by_age : (t : Candidate → Candidate → Bool) → IsStrictWeakOrder t
+    → IsStrictWeakOrder (λ a b. older a b (t a b))
+by_age t o = less-order (λ x. x.birth) (λ a b. less a.number b.number (t a b))
+    (less-order (λ x. x.number) t o)
 
 pub takes_first-order : (s : Strategy) → IsStrictWeakOrder (takes_first s)
 takes_first-order Bf = smaller_high-order

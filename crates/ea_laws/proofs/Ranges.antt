@@ -17,8 +17,10 @@ IsWithin at end b = (at ≤ b.offset) × (b.offset + b.size ≤ end)
 blocks_within : (at end : ℕ) (bs : List BlockAt) → Tiled at end bs → All (IsWithin at end) bs
 blocks_within at end [] t = All-nil (IsWithin at end)
 blocks_within at end (b ∷ bs) t =
-    All-cons (IsWithin at end) b bs (t.0, omega (arith, Tiled-allocated (b.offset + b.size) end bs t.4))
-    (All-weaker (IsWithin (b.offset + b.size) end) (IsWithin at end) (λ x h. (omega (arith, h.0, t.0), h.1)) bs (blocks_within (b.offset + b.size) end bs t.4))
+    All-cons (IsWithin at end) b bs
+    (t.0, omega (arith, Tiled-allocated (b.offset + b.size) end bs t.4))
+    (All-weaker (IsWithin (b.offset + b.size) end) (IsWithin at end)
+    (λ x h. (omega (arith, h.0, t.0), h.1)) bs (blocks_within (b.offset + b.size) end bs t.4))
 
 -- the block a ends where b begins, or before
 abbrev IsAhead : BlockAt → BlockAt → Type 0
@@ -27,36 +29,53 @@ IsAhead a b = a.offset + a.size ≤ b.offset
 blocks_ahead : (at end : ℕ) (bs : List BlockAt) → Tiled at end bs → AllPairs IsAhead bs
 blocks_ahead at end [] t = pairs_nil IsAhead
 blocks_ahead at end (b ∷ bs) t =
-    AllPairs-cons IsAhead b bs (All-weaker (IsWithin (b.offset + b.size) end) (IsAhead b) (λ x h. h.0) bs (blocks_within (b.offset + b.size) end bs t.4)) (blocks_ahead (b.offset + b.size) end bs t.4)
+    AllPairs-cons IsAhead b bs
+    (All-weaker (IsWithin (b.offset + b.size) end) (IsAhead b) (λ x h. h.0) bs
+    (blocks_within (b.offset + b.size) end bs t.4))
+    (blocks_ahead (b.offset + b.size) end bs t.4)
 
 abbrev range_of : Content → BlockAt → Range
 range_of c b = record { first = 512 * c.base + b.offset; units = b.size }
 
 in_carrier : (c : Content) → IsLaidOut c → AllPairs RangesApart (ranges_in c)
-in_carrier c sound = pairs_map RangesApart (range_of c) c.blocks (λ i j d lt within. inl (omega (arith, blocks_ahead 8 c.units c.blocks sound.tiled i j d lt within)))
+in_carrier c sound = pairs_map RangesApart (range_of c) c.blocks
+    (λ i j d lt within. inl
+    (omega (arith, blocks_ahead 8 c.units c.blocks sound.tiled i j d lt within)))
 
 -- what holds of each block's units
-ranges_All : (P : Range → Type 0) (cs : List Content) → All (λ c. All (λ b. P (range_of c b)) c.blocks) cs → All P (ranges cs)
+ranges_All : (P : Range → Type 0) (cs : List Content)
+    → All (λ c. All (λ b. P (range_of c b)) c.blocks) cs → All P (ranges cs)
 ranges_All P [] a = All-nil P
 ranges_All P (c ∷ cs) a =
     let each : Content → Type 0 = λ d. All (λ b. P (range_of d b)) d.blocks in
-    All-append P (ranges_in c) (ranges cs) (All-map P (range_of c) c.blocks (All-head each c cs a)) (ranges_All P cs (All-tail each c cs a))
+    All-append P (ranges_in c) (ranges cs) (All-map P (range_of c) c.blocks (All-head each c cs a))
+    (ranges_All P cs (All-tail each c cs a))
 
-across : (c d : Content) (b e : BlockAt) → ContentsApart c d → IsWithin 8 c.units b → IsWithin 8 d.units e → RangesApart (range_of c b) (range_of d e)
-across c d b e away h k = elim away [ inl p ↦ inl (omega (arith, h.1)) | inr q ↦ inr (omega (arith, k.1)) ]
+across : (c d : Content) (b e : BlockAt) → ContentsApart c d → IsWithin 8 c.units b
+    → IsWithin 8 d.units e → RangesApart (range_of c b) (range_of d e)
+across c d b e away h k =
+    elim away [ inl p ↦ inl (omega (arith, h.1)) | inr q ↦ inr (omega (arith, k.1)) ]
 
 -- a block of a carrier, and those of a carrier that lies apart
-across_All : (c d : Content) (b : BlockAt) → IsWithin 8 c.units b → ContentsApart c d → IsLaidOut d → All (λ e. RangesApart (range_of c b) (range_of d e)) d.blocks
+across_All : (c d : Content) (b : BlockAt) → IsWithin 8 c.units b → ContentsApart c d → IsLaidOut d
+    → All (λ e. RangesApart (range_of c b) (range_of d e)) d.blocks
 across_All c d b h away sound =
-    All-weaker (IsWithin 8 d.units) (λ e. RangesApart (range_of c b) (range_of d e)) (λ e k. across c d b e away h k) d.blocks (blocks_within 8 d.units d.blocks sound.tiled)
+    All-weaker (IsWithin 8 d.units) (λ e. RangesApart (range_of c b) (range_of d e))
+    (λ e k. across c d b e away h k) d.blocks (blocks_within 8 d.units d.blocks sound.tiled)
 
-pub blocks-disjoint : (cs : List Content) → All IsLaidOut cs → AllPairs ContentsApart cs → AllPairs RangesApart (ranges cs)
+pub blocks-disjoint : (cs : List Content) → All IsLaidOut cs → AllPairs ContentsApart cs
+    → AllPairs RangesApart (ranges cs)
 blocks-disjoint [] sound apart = pairs_nil RangesApart
 blocks-disjoint (c ∷ cs) sound apart =
     let here = All-head IsLaidOut c cs sound in
     let rest = All-tail IsLaidOut c cs sound in
     let away = pairs_head ContentsApart c cs apart in
-    let others : (b : BlockAt) → IsWithin 8 c.units b → All (RangesApart (range_of c b)) (ranges cs) =
-    λ b h. ranges_All (RangesApart (range_of c b)) cs (λ i d within. across_All c (get_or cs i d) b h (away i d within) (rest i d within)) in
-    pairs_append RangesApart (ranges_in c) (ranges cs) (in_carrier c here) (blocks-disjoint cs rest (pairs_tail ContentsApart c cs apart))
-    (All-map (λ r. All (RangesApart r) (ranges cs)) (range_of c) c.blocks (All-weaker (IsWithin 8 c.units) (λ b. All (RangesApart (range_of c b)) (ranges cs)) others c.blocks (blocks_within 8 c.units c.blocks here.tiled)))
+    let others : (b : BlockAt) → IsWithin 8 c.units b
+    → All (RangesApart (range_of c b)) (ranges cs) =
+    λ b h. ranges_All (RangesApart (range_of c b)) cs
+    (λ i d within. across_All c (get_or cs i d) b h (away i d within) (rest i d within)) in
+    pairs_append RangesApart (ranges_in c) (ranges cs) (in_carrier c here)
+    (blocks-disjoint cs rest (pairs_tail ContentsApart c cs apart))
+    (All-map (λ r. All (RangesApart r) (ranges cs)) (range_of c) c.blocks
+    (All-weaker (IsWithin 8 c.units) (λ b. All (RangesApart (range_of c b)) (ranges cs)) others
+    c.blocks (blocks_within 8 c.units c.blocks here.tiled)))

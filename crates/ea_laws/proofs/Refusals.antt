@@ -6,6 +6,7 @@ use Rattle.std.proofs.lemmas.List.Elements.{All-nil, All-cons, All-head, All-tai
 use Rattle.ea_model.specs.declared.carriers.Candidate.{Candidate}
 use Rattle.ea_model.specs.declared.carriers.Segment.{Segment}
 use Rattle.ea_model.specs.declared.carriers.Spot.{Spot}
+use Rattle.ea_model.specs.declared.settings.Settings.{Settings}
 use Rattle.ea_model.specs.declared.entries.NoCarrier.TheVariants.{Numbers, Space}
 use Rattle.ea_model.specs.Choice.{first}
 use Rattle.ea_model.specs.Content.{Content, is_empty_multi}
@@ -20,116 +21,180 @@ use Rattle.ea_laws.proofs.Inspected.{all_inspected}
 use Rattle.ea_laws.proofs.Unused.{unused_from-zero, unused_from-used, unused_from-free_here}
 
 -- none of them is chosen exactly where none is large enough
-none_large-enough : (t : Candidate → Candidate → Bool) (need : ℕ) (xs : List Candidate) → IsNone (first t (large_enough need xs)) ↔ All (λ x. x.size < need) xs
+none_large-enough : (t : Candidate → Candidate → Bool) (need : ℕ) (xs : List Candidate)
+    → IsNone (first t (large_enough need xs)) ↔ All (λ x. x.size < need) xs
 none_large-enough t need xs = (
   λ h. none-large (λ (x : Candidate). x.size) need xs (first-none t (large_enough need xs) h),
-  λ h. subst (λ ys. IsNone (first t ys)) (sym (large-none (λ (x : Candidate). x.size) need xs h)) refl,
+  λ h. subst (λ ys. IsNone (first t ys)) (sym (large-none (λ (x : Candidate). x.size) need xs h))
+      refl,
 )
 
-neither : (asked : Bool) (found other : Option Candidate) → IsNone (or_else asked found other) → IsNone found × (asked ≡ true → IsNone other)
+neither : (asked : Bool) (found other : Option Candidate) → IsNone (or_else asked found other)
+    → IsNone found × (asked ≡ true → IsNone other)
 neither asked (Some x) other h = absurd cc
 neither true None other h = (refl, λ _. h)
 neither false None other h = (refl, λ e. absurd cc)
 
-none_of_both : (asked : Bool) (found other : Option Candidate) → IsNone found → (asked ≡ true → IsNone other) → IsNone (or_else asked found other)
+none_of_both : (asked : Bool) (found other : Option Candidate) → IsNone found
+    → (asked ≡ true → IsNone other) → IsNone (or_else asked found other)
 none_of_both asked (Some x) other h f = h
 none_of_both true None other h f = f refl
 none_of_both false None other h f = refl
 
-module _ {B : Type 0} (f : Spot → B) (i : Instance) (need : ℕ) where
-  abbrev looked : List Candidate
-  looked = inspected_by i.settings.strategy i.settings.mbsd (candidates i.contents)
+module _ (s : Settings) (need : ℕ) (cs : List Content) where
+  abbrev inspected : List Candidate
+  inspected = inspected_by s.strategy s.mbsd (candidates cs)
 
   abbrev among : Option Candidate
-  among = choice_among i.settings.strategy i.settings.mbsd need i.contents
+  among = choice_among s.strategy s.mbsd need cs
 
-  -- there is no choice exactly where no gap that is looked at is large enough, nor one of a carrier without blocks
-  pub chosen-none : IsNone (option_map f (chosen_spot i need)) ↔ FindsNone i.settings need i.contents
-  chosen-none = (
-    λ h. let both = neither (may_miss i.settings.strategy) among (choice_empty need i.contents) (unmapped spot_of (choice_for i.settings need i.contents) (unmapped f (chosen_spot i need) h)) in
-        ((none_large-enough (takes_first i.settings.strategy) need looked).0 both.0, λ miss. (none_large-enough lower need (candidates (filter is_empty_multi i.contents))).0 (both.1 miss)),
-    λ h. mapped f (chosen_spot i need) (mapped spot_of (choice_for i.settings need i.contents)
-        (none_of_both (may_miss i.settings.strategy) among (choice_empty need i.contents)
-        ((none_large-enough (takes_first i.settings.strategy) need looked).1 h.0)
-        (λ miss. (none_large-enough lower need (candidates (filter is_empty_multi i.contents))).1 (h.1 miss)))),
+  -- there is no choice exactly where no gap that is inspected is large enough, nor one of a carrier
+  -- without blocks
+  pub choice-none : IsNone (choice_for s need cs) ↔ FindsNone s need cs
+  choice-none = (
+    λ h. let both = neither (may_miss s.strategy) among (choice_empty need cs) h in (
+      (none_large-enough (takes_first s.strategy) need inspected).0 both.0,
+      λ miss. (none_large-enough lower need (candidates (filter is_empty_multi cs))).0
+          (both.1 miss),
+    ),
+    λ h. none_of_both (may_miss s.strategy) among (choice_empty need cs)
+        ((none_large-enough (takes_first s.strategy) need inspected).1 h.0)
+        (λ miss. (none_large-enough lower need (candidates (filter is_empty_multi cs))).1
+        (h.1 miss)),
   )
 
   -- where the strategy misses no gap, exactly where none is large enough
-  pub chosen-none_at_all : may_miss i.settings.strategy ≡ false → IsNone (option_map f (chosen_spot i need)) ↔ All (λ x. x.size < need) (candidates i.contents)
-  chosen-none_at_all none =
-      let same = all_inspected i.settings.strategy i.settings.mbsd (candidates i.contents) none in (
-        λ h. subst (All (λ (x : Candidate). x.size < need)) same (chosen-none.0 h).0,
-        λ h. chosen-none.1 (subst (All (λ (x : Candidate). x.size < need)) (sym same) h, λ miss. let never : true ≡ false = sym miss ∙ none in absurd cc),
+  pub choice-none_at_all : may_miss s.strategy ≡ false
+      → IsNone (choice_for s need cs) ↔ All (λ x. x.size < need) (candidates cs)
+  choice-none_at_all none =
+      let same = all_inspected s.strategy s.mbsd (candidates cs) none in (
+        λ h. subst (All (λ (x : Candidate). x.size < need)) same (choice-none.0 h).0,
+        λ h. choice-none.1 (
+          subst (All (λ (x : Candidate). x.size < need)) (sym same) h,
+          λ miss. let never : true ≡ false = sym miss ∙ none in absurd cc,
+        ),
       )
 
--- all of so many numbers are in use exactly where none is found
-all_used : (k low : ℕ) (cs : List Content) → unused_from k low cs ≡ None → (n : ℕ) → low ≤ n → n < low + k → is_used n cs ≡ true
+-- the same of the chosen spot, and of what is made of it
+module _ {B : Type 0} (f : Spot → B) (i : Instance) (need : ℕ) where
+  chosen_spot-none : IsNone (option_map f (chosen_spot i need)) ↔ IsNone
+      (choice_for i.settings need i.contents)
+  chosen_spot-none = (
+    λ h. unmapped spot_of (choice_for i.settings need i.contents)
+        (unmapped f (chosen_spot i need) h),
+    λ h. mapped f (chosen_spot i need) (mapped spot_of (choice_for i.settings need i.contents) h),
+  )
+
+  pub chosen-none : IsNone (option_map f (chosen_spot i need)) ↔ FindsNone i.settings need
+      i.contents
+  chosen-none = (
+    λ h. (choice-none i.settings need i.contents).0 (chosen_spot-none.0 h),
+    λ h. chosen_spot-none.1 ((choice-none i.settings need i.contents).1 h),
+  )
+
+  pub chosen-none_at_all : may_miss i.settings.strategy ≡ false
+      → IsNone (option_map f (chosen_spot i need)) ↔ All (λ x. x.size < need)
+      (candidates i.contents)
+  chosen-none_at_all none = (
+    λ h. (choice-none_at_all i.settings need i.contents none).0 (chosen_spot-none.0 h),
+    λ h. chosen_spot-none.1 ((choice-none_at_all i.settings need i.contents none).1 h),
+  )
+
+-- all of that many numbers are in use exactly where none is found
+all_used : (k low : ℕ) (cs : List Content) → unused_from k low cs ≡ None → (n : ℕ) → low ≤ n
+    → n < low + k → is_used n cs ≡ true
 all_used zero low cs e n from below = absurd (omega arith)
 all_used (suc k) low cs e n from below =
     elim (cases_Bool (is_used low cs)) [
       | inl used ↦ elim (cases_eq n low) [
         | inl same ↦ ap (λ m. is_used m cs) same ∙ used
-        | inr other ↦ all_used k (low + 1) cs (sym (unused_from-used k low cs used) ∙ e) n (omega arith) (omega arith)
+        | inr other ↦ all_used k (low + 1) cs (sym (unused_from-used k low cs used) ∙ e) n
+            (omega arith) (omega arith)
       ]
-      | inr free ↦ let never : Some low ≡ None = sym (unused_from-free_here k low cs free) ∙ e in absurd cc
+      | inr free ↦ let never : Some low ≡ None = sym (unused_from-free_here k low cs free)
+          ∙ e in absurd cc
     ]
 
-none_unused : (k low : ℕ) (cs : List Content) → ((n : ℕ) → low ≤ n → n < low + k → is_used n cs ≡ true) → unused_from k low cs ≡ None
+none_unused : (k low : ℕ) (cs : List Content)
+    → ((n : ℕ) → low ≤ n → n < low + k → is_used n cs ≡ true) → unused_from k low cs ≡ None
 none_unused zero low cs h = unused_from-zero low cs
-none_unused (suc k) low cs h = unused_from-used k low cs (h low (omega arith) (omega arith)) ∙ none_unused k (low + 1) cs (λ n from below. h n (omega arith) (omega arith))
+none_unused (suc k) low cs h = unused_from-used k low cs (h low (omega arith) (omega arith))
+    ∙ none_unused k (low + 1) cs (λ n from below. h n (omega arith) (omega arith))
 
-not_numbers_least : (i : Instance) (need number : ℕ) (o : Option ℕ) → least_plan i need number o ≢ Err Numbers
+not_numbers_least : (i : Instance) (need number : ℕ) (o : Option ℕ)
+    → least_plan i need number o ≢ Err Numbers
 not_numbers_least i need number None e = absurd cc
 not_numbers_least i need number (Some base) e = absurd cc
 
-not_numbers : (i : Instance) (need number : ℕ) (o : Option ℕ) → sized_plan i need number o ≢ Err Numbers
+not_numbers : (i : Instance) (need number : ℕ) (o : Option ℕ)
+    → sized_plan i need number o ≢ Err Numbers
 not_numbers i need number None e = not_numbers_least i need number (free_run i (least_pages need)) e
 not_numbers i need number (Some base) e = absurd cc
 
-numbered : (i : Instance) (need : ℕ) (o : Option ℕ) → numbered_plan i need o ≡ Err Numbers → o ≡ None
+numbered : (i : Instance) (need : ℕ) (o : Option ℕ) → numbered_plan i need o ≡ Err Numbers
+    → o ≡ None
 numbered i need None e = refl
-numbered i need (Some number) e = absurd (not_numbers i need number (free_run i (next_pages i need)) e)
+numbered i need (Some number) e = absurd
+    (not_numbers i need number (free_run i (next_pages i need)) e)
 
 -- the numbers are the cause exactly where all are in use
 pub plan-numbers : (i : Instance) (need : ℕ) → (plan i need ≡ Err Numbers) ↔ AllUsed i
 plan-numbers i need = (
-  λ e. all_used 256 (first_number i.number) i.contents (numbered i need (unused_from 256 (first_number i.number) i.contents) e),
+  λ e. all_used 256 (first_number i.number) i.contents
+      (numbered i need (unused_from 256 (first_number i.number) i.contents) e),
   λ h. ap (numbered_plan i need) (none_unused 256 (first_number i.number) i.contents h),
 )
 
-no_room : (i : Instance) (need number : ℕ) (o : Option ℕ) → least_plan i need number o ≡ Err Space → IsNone o
+no_room : (i : Instance) (need number : ℕ) (o : Option ℕ) → least_plan i need number o ≡ Err Space
+    → IsNone o
 no_room i need number None e = refl
 no_room i need number (Some base) e = absurd cc
 
-no_room_at_all : (i : Instance) (need number : ℕ) (o : Option ℕ) → sized_plan i need number o ≡ Err Space → IsNone (free_run i (least_pages need))
+no_room_at_all : (i : Instance) (need number : ℕ) (o : Option ℕ)
+    → sized_plan i need number o ≡ Err Space → IsNone (free_run i (least_pages need))
 no_room_at_all i need number None e = no_room i need number (free_run i (least_pages need)) e
 no_room_at_all i need number (Some base) e = absurd cc
 
-spaced : (i : Instance) (need : ℕ) (o : Option ℕ) → numbered_plan i need o ≡ Err Space → (o ≢ None) × IsNone (free_run i (least_pages need))
+spaced : (i : Instance) (need : ℕ) (o : Option ℕ) → numbered_plan i need o ≡ Err Space → (o ≢ None)
+    × IsNone (free_run i (least_pages need))
 spaced i need None e = absurd cc
-spaced i need (Some number) e = (λ never. absurd cc, no_room_at_all i need number (free_run i (next_pages i need)) e)
+spaced i need (Some number) e =
+    (λ never. absurd cc, no_room_at_all i need number (free_run i (next_pages i need)) e)
 
 is_none : {A : Type 0} (o : Option A) → IsNone o → o ≡ None
 is_none None h = refl
 is_none (Some x) h = absurd cc
 
 -- no run for the least carrier, and so none for the next one
-All-more : (a b : ℕ) (rs : List Segment) → a ≤ b → All (λ r. r.pages < a) rs → All (λ r. r.pages < b) rs
+All-more : (a b : ℕ) (rs : List Segment) → a ≤ b → All (λ r. r.pages < a) rs
+    → All (λ r. r.pages < b) rs
 All-more a b [] le h = All-nil (λ (r : Segment). r.pages < b)
 All-more a b (r ∷ rs) le h =
-    All-cons (λ (r : Segment). r.pages < b) r rs (omega (arith, All-head (λ (r : Segment). r.pages < a) r rs h)) (All-more a b rs le (All-tail (λ (r : Segment). r.pages < a) r rs h))
+    All-cons (λ (r : Segment). r.pages < b) r rs
+    (omega (arith, All-head (λ (r : Segment). r.pages < a) r rs h))
+    (All-more a b rs le (All-tail (λ (r : Segment). r.pages < a) r rs h))
 
-unplanned : (i : Instance) (need : ℕ) (o : Option ℕ) → o ≢ None → free_run i (next_pages i need) ≡ None → free_run i (least_pages need) ≡ None → numbered_plan i need o ≡ Err Space
+unplanned : (i : Instance) (need : ℕ) (o : Option ℕ) → o ≢ None
+    → free_run i (next_pages i need) ≡ None → free_run i (least_pages need) ≡ None
+    → numbered_plan i need o ≡ Err Space
 unplanned i need None some next least = absurd (some refl)
-unplanned i need (Some number) some next least = ap (sized_plan i need number) next ∙ ap (least_plan i need number) least
+unplanned i need (Some number) some next least = ap (sized_plan i need number) next
+    ∙ ap (least_plan i need number) least
 
 -- the space is the cause exactly where a number is not in use, and no run holds the least carrier
-pub plan-space : (i : Instance) (need : ℕ) → (plan i need ≡ Err Space) ↔ ((AllUsed i → ⊥) × All (λ r. r.pages < least_pages need) (runs i.first i.end (segments i.contents)))
+pub plan-space : (i : Instance) (need : ℕ)
+    → (plan i need ≡ Err Space) ↔ ((AllUsed i → ⊥)
+    × All (λ r. r.pages < least_pages need) (runs i.first i.end (segments i.contents)))
 plan-space i need =
     let rs : List Segment = runs i.first i.end (segments i.contents) in (
-      λ e. let both = spaced i need (unused_from 256 (first_number i.number) i.contents) e in
-          (λ all. both.0 (none_unused 256 (first_number i.number) i.contents all), (lowest-none (least_pages need) rs).0 both.1),
-      λ h. unplanned i need (unused_from 256 (first_number i.number) i.contents) (λ none. h.0 (all_used 256 (first_number i.number) i.contents none))
-          (is_none (free_run i (next_pages i need)) ((lowest-none (next_pages i need) rs).1 (All-more (least_pages need) (next_pages i need) rs (omega arith) h.1)))
+      λ e. let both = spaced i need (unused_from 256 (first_number i.number) i.contents) e in (
+        λ all. both.0 (none_unused 256 (first_number i.number) i.contents all),
+        (lowest-none (least_pages need) rs).0 both.1,
+      ),
+      λ h. unplanned i need (unused_from 256 (first_number i.number) i.contents)
+          (λ none. h.0 (all_used 256 (first_number i.number) i.contents none))
+          (is_none (free_run i (next_pages i need))
+          ((lowest-none (next_pages i need) rs).1
+          (All-more (least_pages need) (next_pages i need) rs (omega arith) h.1)))
           (is_none (free_run i (least_pages need)) ((lowest-none (least_pages need) rs).1 h.1)),
     )

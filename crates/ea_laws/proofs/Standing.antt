@@ -5,7 +5,7 @@ use Rattle.std.proofs.lemmas.Bool.{cases_lt, cond-true, cond-false}
 use Rattle.std.proofs.lemmas.List.Elements.{All-nil, All-cons, All-filter, All-contains_itself}
 use Rattle.std.proofs.lemmas.List.Kept.{AllPairs-cons, AllPairs-filter}
 use Rattle.ea_model.specs.declared.settings.Settings.{Settings}
-use Rattle.ea_model.specs.declared.units.TheConstants.{MAX_PAGES}
+use Rattle.ea_model.specs.declared.units.TheConstants.{MAX_PAGES, MAX_SCHEDULERS}
 use Rattle.ea_model.specs.declared.settings.Strategy.{Strategy}
 use Rattle.ea_model.specs.declared.carriers.BlockAt.{BlockAt}
 use Rattle.ea_model.specs.declared.carriers.Candidate.{Candidate}
@@ -29,7 +29,7 @@ use Rattle.ea_laws.specs.Kept.{number_of, HasNumberIn, IsRising, IsWhole, Conten
 use Rattle.ea_laws.proofs.Changed.{KeepsPlace, placed-keeps, released-keeps}
 use Rattle.ea_laws.proofs.Keeping.{IsKept-changed, IsKept-cleared, IsKept-made, IsLaidOut-made, others-apart, pages_of_units, whole_pages}
 use Rattle.ea_laws.proofs.Apart.{all-sound, apart-changed, apart-with}
-use Rattle.ea_laws.proofs.Candidates.{candidate-HasGap, IsLarge, large_among}
+use Rattle.ea_laws.proofs.Candidates.{candidate-IsOwned, IsOwned, IsLarge, large_among}
 use Rattle.ea_laws.proofs.Inspected.{inspected_by-among}
 use Rattle.ea_laws.proofs.Ranges.{blocks-disjoint}
 use Rattle.ea_laws.proofs.Sums.{all-units}
@@ -44,41 +44,67 @@ Stands-IsInOrder i st = record {
 }
 
 -- one carrier changes its blocks
-changed-Stands : (f : Content → Content) → KeepsPlace f → (n : ℕ) (item : Content) (i : Instance) → Stands i → content_of i.contents n ≡ Some item → IsLaidOut (f item) → Stands (record i { contents = changed f n i.contents })
+changed-Stands : (f : Content → Content) → KeepsPlace f → (n : ℕ) (item : Content) (i : Instance)
+    → Stands i → content_of i.contents n ≡ Some item → IsLaidOut (f item)
+    → Stands (record i { contents = changed f n i.contents })
 changed-Stands f keeps n item i st there sound = record {
   kept = IsKept-changed f keeps i.settings i.number n i.first i.end i.contents st.kept;
   sound = all-sound f keeps n item i.contents there st.kept.rising st.sound sound;
   apart = apart-changed f keeps n item i.contents st.apart;
 }
 
-placed-IsLaidOut : (c : Content) (offset need name : ℕ) → IsLaidOut c → need ≤ gap_at (gaps_of c) offset → 6 ≤ need → need % 2 ≡ 0 → IsLaidOut (placed c offset need name)
+placed-IsLaidOut : (c : Content) (offset need name : ℕ) → IsLaidOut c
+    → need ≤ gap_at (gaps_of c) offset → 6 ≤ need → need % 2 ≡ 0
+    → IsLaidOut (placed c offset need name)
 placed-IsLaidOut c offset need name s fits least even =
     let g = gap_at (gaps_of c) offset in
     let x : BlockAt = record { name = name; offset = offset; size = taken_of g need } in
-    record { shared = s.shared; tiled = Tiled-inserted 8 c.units x c.blocks s.tiled (taken_of-enters x g need fits least even (gap_at-whole 8 c.units offset c.blocks s.tiled) refl); low = s.low }
+    record {
+      shared = s.shared;
+      tiled = Tiled-inserted 8 c.units x c.blocks s.tiled
+          (taken_of-enters x g need fits least even (gap_at-whole 8 c.units offset c.blocks s.tiled)
+          refl);
+      low = s.low;
+    }
 
 -- a block is placed in a gap that is large enough
-pub placing-Stands : (i : Instance) (spot : Spot) (need name : ℕ) → Stands i → HasGap need spot.carrier spot.offset i.contents → 6 ≤ need → need % 2 ≡ 0 → Stands (placing_at i spot need name)
+pub placing-Stands : (i : Instance) (spot : Spot) (need name : ℕ) → Stands i
+    → HasGap need spot.carrier spot.offset i.contents → 6 ≤ need → need % 2 ≡ 0
+    → Stands (placing_at i spot need name)
 placing-Stands i spot need name st gap least even =
-    changed-Stands (λ c. placed c spot.offset need name) (placed-keeps spot.offset need name) spot.carrier gap.0 i st gap.1
-    (placed-IsLaidOut gap.0 spot.offset need name (item_at-All number_of IsLaidOut spot.carrier gap.0 i.contents st.sound gap.1) gap.2 least even)
+    changed-Stands (λ c. placed c spot.offset need name) (placed-keeps spot.offset need name)
+    spot.carrier gap.0 i st gap.1
+    (placed-IsLaidOut gap.0 spot.offset need name
+    (item_at-All number_of IsLaidOut spot.carrier gap.0 i.contents st.sound gap.1) gap.2 least
+    even)
 
 released-IsLaidOut : (c : Content) (offset : ℕ) → IsLaidOut c → IsLaidOut (released c offset)
-released-IsLaidOut c offset s = record { shared = s.shared; tiled = Tiled-released 8 c.units offset c.blocks s.tiled; low = s.low }
+released-IsLaidOut c offset s =
+    record {
+      shared = s.shared;
+      tiled = Tiled-released 8 c.units offset c.blocks s.tiled;
+      low = s.low;
+    }
 
 -- a block is released, or no carrier has the number
-releasing_from : (i : Instance) (spot : Spot) (o : Option Content) → content_of i.contents spot.carrier ≡ o → Stands i → Stands (releasing_at i spot)
+releasing_from : (i : Instance) (spot : Spot) (o : Option Content)
+    → content_of i.contents spot.carrier ≡ o → Stands i → Stands (releasing_at i spot)
 releasing_from i spot None e st =
-    subst (λ cs. Stands (record i { contents = cs })) (sym (changed_none number_of (λ c. released c spot.offset) spot.carrier i.contents (none-other number_of spot.carrier i.contents e))) st
+    subst (λ cs. Stands (record i { contents = cs }))
+    (sym (changed_none number_of (λ c. released c spot.offset) spot.carrier i.contents
+    (none-other number_of spot.carrier i.contents e))) st
 releasing_from i spot (Some item) e st =
-    changed-Stands (λ c. released c spot.offset) (released-keeps spot.offset) spot.carrier item i st e
-    (released-IsLaidOut item spot.offset (item_at-All number_of IsLaidOut spot.carrier item i.contents st.sound e))
+    changed-Stands (λ c. released c spot.offset) (released-keeps spot.offset) spot.carrier item i st
+    e
+    (released-IsLaidOut item spot.offset
+    (item_at-All number_of IsLaidOut spot.carrier item i.contents st.sound e))
 
 pub releasing-Stands : (i : Instance) (spot : Spot) → Stands i → Stands (releasing_at i spot)
 releasing-Stands i spot st = releasing_from i spot (content_of i.contents spot.carrier) refl st
 
 -- a carrier goes
-pub clearing-Stands : (i : Instance) (number : ℕ) (c : Content) → Stands i → content_of i.contents number ≡ Some c → Stands (clearing i number)
+pub clearing-Stands : (i : Instance) (number : ℕ) (c : Content) → Stands i
+    → content_of i.contents number ≡ Some c → Stands (clearing i number)
 clearing-Stands i number c st there = record {
   kept = IsKept-cleared i.settings i.number number i.first i.end c i.contents st.kept there;
   sound = All-filter _ IsLaidOut i.contents st.sound;
@@ -86,62 +112,100 @@ clearing-Stands i number c st there = record {
 }
 
 -- a planned carrier comes
-pub creating-Stands : (i : Instance) (need : ℕ) (p : CarrierPlan) → Stands i → plan i need ≡ Ok p → Stands (creating i p)
+pub creating-Stands : (i : Instance) (need : ℕ) (p : CarrierPlan) → Stands i → plan i need ≡ Ok p
+    → Stands (creating i p)
 creating-Stands i need p st asked =
     let x : Content = created_content i.number Multi p in
     record {
       kept = IsKept-made i need p st.kept asked;
-      sound = All-entered number_of IsLaidOut x i.contents (IsLaidOut-made i need p st.kept asked) st.sound;
+      sound = All-entered number_of IsLaidOut x i.contents (IsLaidOut-made i need p st.kept asked)
+          st.sound;
       apart = apart-with x i.contents st.apart (others-apart i need p st.kept asked);
     }
 
+-- the candidate is a gap of at least `need` units, in the carrier of its number
+abbrev pub IsOwnGap : ℕ → List Content → Candidate → Type 0
+IsOwnGap need cs x = IsOwned cs x × (need ≤ x.size)
+
 module _ (need : ℕ) (cs : List Content) (rising : IsRising cs) (sound : All IsLaidOut cs) where
   abbrev Has : Candidate → Type 0
-  Has x = HasGap need x.number x.offset cs
+  Has x = IsOwnGap need cs x
 
-  among-HasGap : (s : Strategy) (depth : ℕ) → IfSome (choice_among s depth need cs) Has
-  among-HasGap s depth =
+  among-owned : (s : Strategy) (depth : ℕ) → IfSome (choice_among s depth need cs) Has
+  among-owned s depth =
       let all = candidates cs in
-      if_some (choice_among s depth need cs) (IsLarge need all) Has (λ x large. candidate-HasGap need x cs rising sound large.0 large.1)
-      (first-All (IsLarge need all) (takes_first s) None (large_enough need (inspected_by s depth all)) tt (large_among need all (inspected_by s depth all) (inspected_by-among s depth all)))
+      if_some (choice_among s depth need cs) (IsLarge need all) Has
+      (λ x large. (candidate-IsOwned x cs rising sound large.0, large.1))
+      (first-All (IsLarge need all) (takes_first s) None
+      (large_enough need (inspected_by s depth all)) tt
+      (large_among need all (inspected_by s depth all) (inspected_by-among s depth all)))
 
   -- a gap of one of some carriers is one of all
-  still_there : (p : Content → Bool) (number offset : ℕ) → HasGap need number offset (filter p cs) → HasGap need number offset cs
-  still_there p number offset (c, there, fits) =
-      let among : Contains cs c = item_at-All number_of (Contains cs) number c (filter p cs) (All-filter p (Contains cs) cs (All-contains_itself cs)) there in
-      let is = item_at-key number_of number c (filter p cs) there in
-      (c, ap (content_of cs) (sym (ap number_of among.2 ∙ is)) ∙ item_at-each number_of among.0 c cs rising among.1 ∙ ap Some among.2, fits)
+  still_there : (p : Content → Bool) (x : Candidate) → IsOwned (filter p cs) x → IsOwned cs x
+  still_there p x (c, there, size) =
+      let among : Contains cs c = item_at-All number_of (Contains cs) x.number c (filter p cs)
+      (All-filter p (Contains cs) cs (All-contains_itself cs)) there in
+      let is = item_at-key number_of x.number c (filter p cs) there in (
+        c,
+        ap (content_of cs) (sym (ap number_of among.2 ∙ is))
+            ∙ item_at-each number_of among.0 c cs rising among.1 ∙ ap Some among.2,
+        size,
+      )
 
-  empty-HasGap : IfSome (choice_empty need cs) Has
-  empty-HasGap =
+  empty-owned : IfSome (choice_empty need cs) Has
+  empty-owned =
       let some = filter is_empty_multi cs in
       let all = candidates some in
       if_some (choice_empty need cs) (IsLarge need all) Has
-      (λ x large. still_there is_empty_multi x.number x.offset (candidate-HasGap need x some (AllPairs-filter (IsBelow number_of) is_empty_multi cs rising) (All-filter is_empty_multi IsLaidOut cs sound) large.0 large.1))
-      (first-All (IsLarge need all) lower None (large_enough need all) tt (large_among need all all (All-contains_itself all)))
+      (λ x large. (
+        still_there is_empty_multi x
+            (candidate-IsOwned x some (AllPairs-filter (IsBelow number_of) is_empty_multi cs rising)
+            (All-filter is_empty_multi IsLaidOut cs sound) large.0),
+        large.1,
+      ))
+      (first-All (IsLarge need all) lower None (large_enough need all) tt
+      (large_among need all all (All-contains_itself all)))
 
-  either : (asked : Bool) (found other : Option Candidate) → IfSome found Has → IfSome other Has → IfSome (or_else asked found other) Has
+  either : (asked : Bool) (found other : Option Candidate) → IfSome found Has → IfSome other Has
+      → IfSome (or_else asked found other) Has
   either asked (Some x) other h k = h
   either true None other h k = k
   either false None other h k = tt
 
-  pub chosen-HasGap : (s : Settings) → IfSome (choice_for s need cs) Has
-  chosen-HasGap s = either (may_miss s.strategy) (choice_among s.strategy s.mbsd need cs) (choice_empty need cs) (among-HasGap s.strategy s.mbsd) empty-HasGap
+  pub chosen-owned : (s : Settings) → IfSome (choice_for s need cs) Has
+  chosen-owned s = either (may_miss s.strategy) (choice_among s.strategy s.mbsd need cs)
+      (choice_empty need cs) (among-owned s.strategy s.mbsd) empty-owned
 
 -- the chosen spot has a gap that is large enough
-pub chosen_spot-HasGap : (i : Instance) (need : ℕ) (spot : Spot) → Stands i → chosen_spot i need ≡ Some spot → HasGap need spot.carrier spot.offset i.contents
+pub chosen_spot-HasGap : (i : Instance) (need : ℕ) (spot : Spot) → Stands i
+    → chosen_spot i need ≡ Some spot → HasGap need spot.carrier spot.offset i.contents
 chosen_spot-HasGap i need spot st is =
     let has : Spot → Type 0 = λ at. HasGap need at.carrier at.offset i.contents in
     let o = choice_for i.settings need i.contents in
-    some_holds (option_map spot_of o) spot has is (some_map spot_of has o (chosen-HasGap need i.contents st.kept.rising st.sound i.settings))
+    let gap = if_some o (IsOwnGap need i.contents) (λ x. has (spot_of x))
+    (λ x own. (own.0.0, own.0.1, omega (arith, own.0.2, own.1)))
+    (chosen-owned need i.contents st.kept.rising st.sound i.settings) in
+    some_holds (option_map spot_of o) spot has is (some_map spot_of has o gap)
 
 -- a block is placed there
-pub chosen-Stands : (i : Instance) (need name : ℕ) (spot : Spot) → Stands i → 6 ≤ need → need % 2 ≡ 0 → chosen_spot i need ≡ Some spot → Stands (placing_at i spot need name)
-chosen-Stands i need name spot st least even is = placing-Stands i spot need name st (chosen_spot-HasGap i need spot st is) least even
+pub chosen-Stands : (i : Instance) (need name : ℕ) (spot : Spot) → Stands i → 6 ≤ need
+    → need % 2 ≡ 0 → chosen_spot i need ≡ Some spot → Stands (placing_at i spot need name)
+chosen-Stands i need name spot st least even is = placing-Stands i spot need name st
+    (chosen_spot-HasGap i need spot st is) least even
 
 -- an instance before its first operation, without a main carrier and with one
-new_without : (s : Settings) (number first pages : ℕ) → IsValid s → (1 ≤ number) × (number ≤ 16) → first + pages ≤ MAX_PAGES
-    → Stands (record { settings = s; number = number; first = first; end = first + pages; contents = []; created = 0 })
+new_without : (s : Settings) (number first pages : ℕ) → IsValid s
+    → (1 ≤ number) × (number ≤ MAX_SCHEDULERS)
+    → first + pages ≤ MAX_PAGES
+    → Stands (record {
+      settings = s;
+      number = number;
+      first = first;
+      end = first + pages;
+      contents =
+          [];
+      created = 0;
+    })
 new_without s number first pages valid own within = record {
   kept = record {
     valid = valid;
@@ -156,8 +220,18 @@ new_without s number first pages valid own within = record {
   apart = pairs_nil ContentsApart;
 }
 
-new_with : (s : Settings) (number first pages : ℕ) → IsValid s → (1 ≤ number) × (number ≤ 16) → first + pages ≤ MAX_PAGES → pages_for s.mmbcs ≤ pages → 0 < s.mmbcs
-    → Stands (record { settings = s; number = number; first = first; end = first + pages; contents = main_content s number first ∷ []; created = 1 })
+new_with : (s : Settings) (number first pages : ℕ) → IsValid s
+    → (1 ≤ number) × (number ≤ MAX_SCHEDULERS)
+    → first + pages ≤ MAX_PAGES → pages_for s.mmbcs ≤ pages → 0 < s.mmbcs
+    → Stands (record {
+      settings = s;
+      number = number;
+      first = first;
+      end = first + pages;
+      contents =
+          main_content s number first ∷ [];
+      created = 1;
+    })
 new_with s number first pages valid own within main some =
     let m = main_content s number first in
     let n : ℕ = pages_for s.mmbcs in
@@ -166,21 +240,50 @@ new_with s number first pages valid own within main some =
     record {
       kept = record {
         valid = valid;
-            instance = own;
-        rising = AllPairs-cons (IsBelow number_of) m [] (All-nil (IsBelow number_of m)) (pairs_nil (IsBelow number_of));
-        own = All-cons (HasNumberIn (first_number number) (first_number number + 256)) m [] (omega arith, omega arith) (All-nil (HasNumberIn (first_number number) (first_number number + 256)));
+        instance = own;
+        rising = AllPairs-cons (IsBelow number_of) m [] (All-nil (IsBelow number_of m))
+            (pairs_nil (IsBelow number_of));
+        own = All-cons (HasNumberIn (first_number number) (first_number number + 256)) m []
+            (omega arith, omega arith)
+            (All-nil (HasNumberIn (first_number number) (first_number number + 256)));
         whole = All-cons IsWhole m [] (whole_pages n, omega (arith, one, same)) (All-nil IsWhole);
-            within = within;
+        within = within;
         laid = (omega arith, omega (arith, one, same), omega (arith, main, same));
       };
-      sound = All-cons IsLaidOut m [] (record { shared = refl; tiled = (omega (arith, one), record { even = omega arith; whole = λ _. omega (arith, one) }); low = omega (arith, main, within) }) (All-nil IsLaidOut);
-      apart = AllPairs-cons ContentsApart m [] (All-nil (ContentsApart m)) (pairs_nil ContentsApart);
+      sound = All-cons IsLaidOut m []
+          (record {
+            shared = refl;
+            tiled = (
+              omega (arith, one),
+              record { even = omega arith; whole = λ _. omega (arith, one) },
+            );
+            low = omega
+                (arith, main, within);
+          }) (All-nil IsLaidOut);
+      apart = AllPairs-cons ContentsApart m [] (All-nil (ContentsApart m))
+          (pairs_nil ContentsApart);
     }
 
-pub new-Stands : (s : Settings) (number first pages : ℕ) → IsValid s → (1 ≤ number) × (number ≤ 16) → first + pages ≤ MAX_PAGES → pages_for s.mmbcs ≤ pages → Stands (new_instance s number first pages)
+pub new-Stands : (s : Settings) (number first pages : ℕ) → IsValid s
+    → (1 ≤ number) × (number ≤ MAX_SCHEDULERS)
+    → first + pages ≤ MAX_PAGES → pages_for s.mmbcs ≤ pages
+    → Stands (new_instance s number first pages)
 new-Stands s number first pages valid own within main =
-    let as_list : List Content → Type 0 = λ cs. Stands (record { settings = s; number = number; first = first; end = first + pages; contents = cs; created = length cs }) in
+    let as_list : List Content
+    → Type 0 = λ cs. Stands
+    (record {
+      settings = s;
+      number = number;
+      first = first;
+      end = first + pages;
+      contents = cs;
+      created = length cs;
+    }) in
     elim (cases_lt 0 s.mmbcs) [
-      | inl some ↦ subst as_list (sym (cond-true (nat_lt 0 s.mmbcs) (main_content s number first ∷ []) [] (grind arith))) (new_with s number first pages valid own within main some)
-      | inr none ↦ subst as_list (sym (cond-false (nat_lt 0 s.mmbcs) (main_content s number first ∷ []) [] (grind arith))) (new_without s number first pages valid own within)
+      | inl some ↦ subst as_list
+          (sym (cond-true (nat_lt 0 s.mmbcs) (main_content s number first ∷ []) [] (grind arith)))
+          (new_with s number first pages valid own within main some)
+      | inr none ↦ subst as_list
+          (sym (cond-false (nat_lt 0 s.mmbcs) (main_content s number first ∷ []) [] (grind arith)))
+          (new_without s number first pages valid own within)
     ]

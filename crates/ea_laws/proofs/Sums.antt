@@ -7,7 +7,9 @@ use Rattle.ea_model.specs.Content.{Content, allocated, free_units, gaps_of}
 use Rattle.ea_laws.proofs.Tiling.{allocated-free}
 use Rattle.ea_laws.specs.Kept.{IsLaidOut}
 
-pub all-units : (cs : List Content) → All IsLaidOut cs → sum_by (λ c. allocated c.blocks) cs + sum_by (λ c. free_units (gaps_of c)) cs + 8 * length cs ≡ sum_by (λ c. c.units) cs
+pub all-units : (cs : List Content) → All IsLaidOut cs
+    → sum_by (λ c. allocated c.blocks) cs + sum_by (λ c. free_units (gaps_of c)) cs + 8 * length
+    cs ≡ sum_by (λ c. c.units) cs
 all-units [] sound = omega arith
 all-units (c ∷ cs) sound =
     omega (

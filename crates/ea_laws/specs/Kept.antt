@@ -1,7 +1,7 @@
 -- The carriers of an instance: where they lie, and what holds of them at every moment.
 use Rattle.std.specs.Prelude.{◌≡◌, ℕ, ◌+◌, ◌*◌, ◌%◌, ◌/◌, ◌<◌, ◌≤◌, true, List, All, AllPairs}
 use Rattle.ea_model.specs.declared.settings.Settings.{Settings}
-use Rattle.ea_model.specs.declared.units.TheConstants.{MAX_PAGES, MAX_UNITS}
+use Rattle.ea_model.specs.declared.units.TheConstants.{MAX_PAGES, MAX_SCHEDULERS, MAX_UNITS}
 use Rattle.ea_model.specs.Content.{Content, Tiled}
 use Rattle.ea_model.specs.Keyed.{IsBelow}
 use Rattle.ea_model.specs.Settings.{IsValid}
@@ -34,15 +34,18 @@ pub record IsLaidOut (c : Content) : Type 0 where
 abbrev pub ContentsApart : Content → Content → Type 0
 ContentsApart c d = AreApart (512 * c.base) c.units (512 * d.base) d.units
 
--- the carriers of instance `number`, whose region has the pages from `first` up to `end`: their numbers rise and are the instance's own, and their segments lie in the region, which ends within the largest super carrier
-pub record IsKept (settings : Settings) (number first end : ℕ) (contents : List Content) : Type 0 where
-  pub valid : IsValid settings
-  pub instance : (1 ≤ number) × (number ≤ 16)
-  pub rising : IsRising contents
-  pub own : All (HasNumberIn (first_number number) (first_number number + 256)) contents
-  pub whole : All IsWhole contents
-  pub within : end ≤ MAX_PAGES
-  pub laid : Laid first end (segments contents)
+-- the carriers of instance `number`, whose region has the pages from `first` up to `end`: their
+-- numbers rise and are the instance's own, and their segments lie in the region, which ends within
+-- the largest super carrier
+pub record IsKept (settings : Settings) (number first end : ℕ) (contents : List Content) : Type 0
+  where
+    pub valid : IsValid settings
+    pub instance : (1 ≤ number) × (number ≤ MAX_SCHEDULERS)
+    pub rising : IsRising contents
+    pub own : All (HasNumberIn (first_number number) (first_number number + 256)) contents
+    pub whole : All IsWhole contents
+    pub within : end ≤ MAX_PAGES
+    pub laid : Laid first end (segments contents)
 
 -- an instance keeps its carriers, and these are laid out and lie apart
 pub record Stands (i : Instance) : Type 0 where

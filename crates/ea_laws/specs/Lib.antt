@@ -4,3 +4,6 @@ pub mod Spots
 pub mod InOrder
 pub mod Run
 pub mod Moments
+pub mod ChoiceLaws
+pub mod InstanceLaws
+pub mod RunLaws

@@ -1,5 +1,5 @@
 -- A run of one scheduler: what the operations that are built do, one after another.
-use Rattle.std.specs.Prelude.{ℕ, List, [], ◌∷◌, ◌++◌, Option, Some, None, Result, Ok, Err, if◌then◌else◌, option_map}
+use Rattle.std.specs.Prelude.{◌≡◌, ℕ, Bool, true, false, List, [], ◌∷◌, ◌++◌, Option, Some, None, Result, Ok, Err, if◌then◌else◌, option_map}
 use Rattle.std.specs.Option.{option_and_then}
 use Rattle.ea_model.specs.declared.carriers.Spot.{Spot}
 use Rattle.ea_model.specs.declared.carriers.CarrierPlan.{CarrierPlan}
@@ -48,10 +48,13 @@ abbrev pub in_new_carrier : Run → Instance → ℕ → ℕ → Option Spot →
 in_new_carrier r i name need None = None
 in_new_carrier r i name need (Some spot) = Some (with_block r i name need spot)
 
--- a carrier is created as planned, or the allocation fails; nothing was looked at outside the instance
+-- a carrier is created as planned, or the allocation fails; nothing was looked at outside the
+-- instance
 abbrev pub with_carrier : Run → ℕ → ℕ → Result CarrierPlan NoCarrier → Option Run
-with_carrier r name need (Ok p) = in_new_carrier r (creating r.instance p) name need (chosen_spot (creating r.instance p) need)
-with_carrier r name need (Err why) = Some (record r { log = r.log ++ entry.AllocFail name need 0 why ∷ [] })
+with_carrier r name need (Ok p) = in_new_carrier r (creating r.instance p) name need
+    (chosen_spot (creating r.instance p) need)
+with_carrier r name need (Err why) = Some
+    (record r { log = r.log ++ entry.AllocFail name need 0 why ∷ [] })
 
 -- the block is placed in the chosen gap, or a carrier is planned for it
 abbrev pub allocating : Run → ℕ → ℕ → Option Spot → Option Run
@@ -64,7 +67,8 @@ tidied i number None = i
 tidied i number (Some c) = if is_empty_multi c then clearing i number else i
 
 abbrev pub freed_at : Instance → Spot → Instance
-freed_at i spot = tidied (releasing_at i spot) spot.carrier (content_of (releasing_at i spot).contents spot.carrier)
+freed_at i spot = tidied (releasing_at i spot) spot.carrier
+    (content_of (releasing_at i spot).contents spot.carrier)
 
 -- the block of a held name is released; another name is skipped
 abbrev pub freeing : Run → ℕ → Option Spot → Run
@@ -75,19 +79,23 @@ freeing r name (Some spot) = record {
   log = r.log ++ entry.Free name ∷ [];
 }
 
--- the operations that are built
+-- whether the operation is built
+abbrev pub is_built : Op → Bool
+is_built (op.Alloc name bytes) = true
+is_built (op.Free name) = true
+is_built (op.Realloc old fresh bytes) = false
+is_built (op.Give name to) = false
+is_built (op.Take name tries) = false
+is_built op.Info = false
+is_built op.Idle = false
+
 abbrev pub IsBuiltOp : Op → Type 0
-IsBuiltOp (op.Alloc name bytes) = Unit {0}
-IsBuiltOp (op.Free name) = Unit {0}
-IsBuiltOp (op.Realloc old fresh bytes) = ⊥
-IsBuiltOp (op.Give name to) = ⊥
-IsBuiltOp (op.Take name tries) = ⊥
-IsBuiltOp op.Info = ⊥
-IsBuiltOp op.Idle = ⊥
+IsBuiltOp o = is_built o ≡ true
 
 -- what one operation does; none where it isn't built
 abbrev pub step : Run → Op → Option Run
-step r (op.Alloc name bytes) = allocating r name (need_of bytes) (chosen_spot r.instance (need_of bytes))
+step r (op.Alloc name bytes) = allocating r name (need_of bytes)
+    (chosen_spot r.instance (need_of bytes))
 step r (op.Free name) = Some (freeing r name (spot_held name r.held))
 step r (op.Realloc old fresh bytes) = None
 step r (op.Give name to) = None

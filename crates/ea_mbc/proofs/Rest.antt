@@ -9,5 +9,6 @@ abbrev pub no_block : BlockAt
 no_block = record { name = 0; offset = 0; size = 0 }
 
 -- the next block of the rest, and the rest after it
-pub Tiled-next : (at end : ℕ) (bs : List BlockAt) (i : ℕ) → i < length bs → Tiled at end (drop i bs) → Tiled at end (get_or bs i no_block ∷ drop (i + 1) bs)
+pub Tiled-next : (at end : ℕ) (bs : List BlockAt) (i : ℕ) → i < length bs → Tiled at end (drop i bs)
+    → Tiled at end (get_or bs i no_block ∷ drop (i + 1) bs)
 Tiled-next at end bs i h t = rw (drop_more bs i no_block h) at t

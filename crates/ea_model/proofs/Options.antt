@@ -2,19 +2,23 @@
 use Rattle.std.proofs.Common.{◌≡◌, subst, refl}
 use Rattle.std.specs.Prelude.{Option, Some, None, IfSome, IsNone, is_some, option_map}
 
-pub if_some : {A : Type 0} (o : Option A) (P Q : A → Type 0) → ((x : A) → P x → Q x) → IfSome o P → IfSome o Q
+pub if_some : {A : Type 0} (o : Option A) (P Q : A → Type 0) → ((x : A) → P x → Q x) → IfSome o P
+    → IfSome o Q
 if_some None P Q f h = tt
 if_some (Some x) P Q f h = f x h
 
-pub both_some : {A : Type 0} (o : Option A) (P Q R : A → Type 0) → ((x : A) → P x → Q x → R x) → IfSome o P → IfSome o Q → IfSome o R
+pub both_some : {A : Type 0} (o : Option A) (P Q R : A → Type 0) → ((x : A) → P x → Q x → R x)
+    → IfSome o P → IfSome o Q → IfSome o R
 both_some None P Q R f p q = tt
 both_some (Some x) P Q R f p q = f x p q
 
-pub some_map : {A B : Type 0} (f : A → B) (P : B → Type 0) (o : Option A) → IfSome o (λ x. P (f x)) → IfSome (option_map f o) P
+pub some_map : {A B : Type 0} (f : A → B) (P : B → Type 0) (o : Option A) → IfSome o (λ x. P (f x))
+    → IfSome (option_map f o) P
 some_map f P None h = h
 some_map f P (Some x) h = h
 
-pub some_holds : {A : Type 0} (o : Option A) (x : A) (P : A → Type 0) → o ≡ Some x → IfSome o P → P x
+pub some_holds : {A : Type 0} (o : Option A) (x : A) (P : A → Type 0) → o ≡ Some x → IfSome o P
+    → P x
 some_holds o x P e h = subst (λ r. IfSome r P) e h
 
 pub mapped : {A B : Type 0} (f : A → B) (o : Option A) → IsNone o → IsNone (option_map f o)

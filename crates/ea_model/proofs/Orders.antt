@@ -10,14 +10,19 @@ module _ {A : Type 0} (key : A → ℕ) where
   rising_one_way : (a b : A) → nat_lt (key a) (key b) ≡ true → nat_lt (key b) (key a) ≡ false
   rising_one_way a b h = grind arith
 
-  rising_chain : (a b c : A) → nat_lt (key a) (key b) ≡ false → nat_lt (key b) (key c) ≡ false → nat_lt (key a) (key c) ≡ false
+  rising_chain : (a b c : A) → nat_lt (key a) (key b) ≡ false → nat_lt (key b) (key c) ≡ false
+      → nat_lt (key a) (key c) ≡ false
   rising_chain a b c h k = grind arith
 
   pub rising-order : IsStrictWeakOrder (λ a b. nat_lt (key a) (key b))
   rising-order = record { one_way = rising_one_way; chain = rising_chain }
 
   pub falling-order : IsStrictWeakOrder (λ a b. nat_lt (key b) (key a))
-  falling-order = record { one_way = λ a b h. rising_one_way b a h; chain = λ a b c h k. rising_chain c b a k h }
+  falling-order =
+      record {
+        one_way = λ a b h. rising_one_way b a h;
+        chain = λ a b c h k. rising_chain c b a k h;
+      }
 
 less-true-le : (x y : ℕ) (r : Bool) → less x y r ≡ true → y ≤ x → x ≤ y
 less-true-le x y r h le = grind arith
@@ -29,10 +34,16 @@ less-false-same : (x y : ℕ) (r : Bool) → less x y r ≡ false → x ≤ y �
 less-false-same x y r h le = grind arith
 
 less-true : (x y : ℕ) (r : Bool) → less x y r ≡ true → (x < y) ⊎ ((x ≡ y) × (r ≡ true))
-less-true x y r h = elim (cases_lt x y) [ inl lt ↦ inl lt | inr le ↦ inr (omega (arith, less-true-le x y r h le), less-true-rest x y r h le) ]
+less-true x y r h = elim
+    (cases_lt x y) [
+      | inl lt ↦ inl lt
+      | inr le ↦ inr
+          (omega (arith, less-true-le x y r h le), less-true-rest x y r h le)
+    ]
 
 less-false : (x y : ℕ) (r : Bool) → less x y r ≡ false → (y < x) ⊎ ((x ≡ y) × (r ≡ false))
-less-false x y r h = elim (cases_lt y x) [ inl lt ↦ inl lt | inr le ↦ inr (less-false-same x y r h le) ]
+less-false x y r h = elim
+    (cases_lt y x) [ inl lt ↦ inl lt | inr le ↦ inr (less-false-same x y r h le) ]
 
 less-above : (x y : ℕ) (r : Bool) → y < x → less x y r ≡ false
 less-above x y r h = grind arith
@@ -42,14 +53,16 @@ less-same x y r e h = grind arith
 
 -- by a number, and among equals by another order
 module _ {A : Type 0} (key : A → ℕ) (t : A → A → Bool) (o : IsStrictWeakOrder t) where
-  less_one_way : (a b : A) → less (key a) (key b) (t a b) ≡ true → less (key b) (key a) (t b a) ≡ false
+  less_one_way : (a b : A) → less (key a) (key b) (t a b) ≡ true
+      → less (key b) (key a) (t b a) ≡ false
   less_one_way a b h =
       elim (less-true (key a) (key b) (t a b) h) [
         | inl lt ↦ less-above (key b) (key a) (t b a) lt
         | inr eq ↦ less-same (key b) (key a) (t b a) (sym eq.0) (o.one_way a b eq.1)
       ]
 
-  less_chain : (a b c : A) → less (key a) (key b) (t a b) ≡ false → less (key b) (key c) (t b c) ≡ false → less (key a) (key c) (t a c) ≡ false
+  less_chain : (a b c : A) → less (key a) (key b) (t a b) ≡ false
+      → less (key b) (key c) (t b c) ≡ false → less (key a) (key c) (t a c) ≡ false
   less_chain a b c h k =
       elim (less-false (key a) (key b) (t a b) h) [
         | inl lt ↦ elim (less-false (key b) (key c) (t b c) k) [

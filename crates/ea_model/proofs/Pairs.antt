@@ -14,13 +14,19 @@ module _ {A : Type 0} (R : A → A → Type 0) where
   pub pairs_tail : (x : A) (xs : List A) → AllPairs R (x ∷ xs) → AllPairs R xs
   pairs_tail x xs a = λ i j d lt within. a (suc i) (suc j) d (omega arith) (omega arith)
 
-  pub pairs_append : (xs ys : List A) → AllPairs R xs → AllPairs R ys → All (λ x. All (R x) ys) xs → AllPairs R (xs ++ ys)
+  pub pairs_append : (xs ys : List A) → AllPairs R xs → AllPairs R ys → All (λ x. All (R x) ys) xs
+      → AllPairs R (xs ++ ys)
   pairs_append [] ys p q across = q
   pairs_append (x ∷ xs) ys p q across =
-      AllPairs-cons R x (xs ++ ys) (All-append (R x) xs ys (pairs_head x xs p) (All-head (λ (y : A). All (R y) ys) x xs across))
+      AllPairs-cons R x (xs ++ ys)
+      (All-append (R x) xs ys (pairs_head x xs p)
+      (All-head (λ (y : A). All (R y) ys) x xs across))
       (pairs_append xs ys (pairs_tail x xs p) q (All-tail (λ (y : A). All (R y) ys) x xs across))
 
-  pub pairs_map : {B : Type 0} (f : B → A) (ys : List B) → AllPairs (λ a b. R (f a) (f b)) ys → AllPairs R (map f ys)
+  pub pairs_map : {B : Type 0} (f : B → A) (ys : List B) → AllPairs (λ a b. R (f a) (f b)) ys
+      → AllPairs R (map f ys)
   pairs_map f [] p = pairs_nil
   pairs_map f (y ∷ ys) p =
-      AllPairs-cons R (f y) (map f ys) (All-map (R (f y)) f ys (λ k d within. p zero (suc k) d (omega arith) (omega arith))) (pairs_map f ys (λ i j d lt within. p (suc i) (suc j) d (omega arith) (omega arith)))
+      AllPairs-cons R (f y) (map f ys)
+      (All-map (R (f y)) f ys (λ k d within. p zero (suc k) d (omega arith) (omega arith)))
+      (pairs_map f ys (λ i j d lt within. p (suc i) (suc j) d (omega arith) (omega arith)))

@@ -15,17 +15,23 @@ pub powers-none : (size a : ℕ) → powers size a 0 ≡ 0
 unfolding powers
 powers-none size a = refl
 
--- what a walk up to 2 ^ 32 keeps before the power of `a`: those counted and those that are left are all
+-- what a walk up to 2 ^ 32 keeps before the power of `a`: those counted and those that are left are
+-- all
 abbrev pub Counts : ℕ → ℕ → ℕ → Type 0
-Counts size a count = (left : ℕ) × (left + a ≡ 32) × (count + left ≤ 26) × (count + powers size a left ≡ powers size 6 26)
+Counts size a count = (left : ℕ) × (left + a ≡ 32) × (count + left ≤ 26)
+    × (count + powers size a left ≡ powers size 6 26)
 
-pub counted_on : (size a count : ℕ) → a < 32 → 2 ^ a ≤ size → Counts size a count → Counts size (a + 1) (count + 1)
+pub counted_on : (size a count : ℕ) → a < 32 → 2 ^ a ≤ size → Counts size a count
+    → Counts size (a + 1) (count + 1)
 counted_on size a count lt le (zero, end, few, all) = absurd (omega arith)
-counted_on size a count lt le (suc n, end, few, all) = (n, omega arith, omega arith, omega (arith, counted size a n le))
+counted_on size a count lt le (suc n, end, few, all) =
+    (n, omega arith, omega arith, omega (arith, counted size a n le))
 
-pub passed_on : (size a count : ℕ) → a < 32 → size < 2 ^ a → Counts size a count → Counts size (a + 1) count
+pub passed_on : (size a count : ℕ) → a < 32 → size < 2 ^ a → Counts size a count
+    → Counts size (a + 1) count
 passed_on size a count lt gt (zero, end, few, all) = absurd (omega arith)
-passed_on size a count lt gt (suc n, end, few, all) = (n, omega arith, omega arith, omega (arith, uncounted size a n gt))
+passed_on size a count lt gt (suc n, end, few, all) =
+    (n, omega arith, omega arith, omega (arith, uncounted size a n gt))
 
 pub all_counted : (size a count : ℕ) → 32 ≤ a → Counts size a count → count ≡ powers size 6 26
 all_counted size a count ge (zero, end, few, all) = omega (arith, powers-none size a)

@@ -23,7 +23,7 @@ better before (Some best) x = Some (if before x best then x else best)
 abbrev pub first : {A : Type 0} → (A → A → Bool) → List A → Option A
 first before xs = fold (better before) None xs
 
--- the gaps of at least so many units
+-- the gaps of at least that many units
 abbrev pub fitting : ℕ → List Gap → List Gap
 fitting need gs = filter (λ g. nat_le need g.size) gs
 

@@ -8,7 +8,8 @@ use Rattle.ea_model.specs.declared.carriers.Block.{Block}
 use Rattle.ea_model.specs.declared.carriers.Gap.{Gap}
 use Rattle.ea_model.specs.Keyed.{item_at, entered, without}
 
--- a carrier: what it is, where it lies, and its blocks by rising offset; base counts pages, and units the whole carrier
+-- a carrier: what it is, where it lies, and its blocks by rising offset; base counts pages, and
+-- units the whole carrier
 pub record Content : Type 0 where
   pub number : ℕ
   pub owner : ℕ
@@ -60,7 +61,8 @@ end_of bs offset = option_map_or (λ b. b.offset + b.size) (block_at bs offset) 
 abbrev pub gap_up_to : List Gap → ℕ → ℕ
 gap_up_to gs offset = option_map_or (λ g. g.size) (find (λ g. (g.offset + g.size) == offset) gs) 0
 
--- the units of the gap directly before the block at the offset, and of the one directly behind it, or 0
+-- the units of the gap directly before the block at the offset, and of the one directly behind it,
+-- or 0
 abbrev pub gap_before : Content → ℕ → ℕ
 gap_before c offset = gap_up_to (gaps_of c) offset
 
@@ -81,7 +83,12 @@ inserted x bs = entered (λ b. b.offset) x bs
 
 -- the content with a block at the front of the gap at the offset
 abbrev pub placed : Content → ℕ → ℕ → ℕ → Content
-placed c offset need name = record c { blocks = inserted (record { name = name; offset = offset; size = taken_of (gap_at (gaps_of c) offset) need }) c.blocks }
+placed c offset need name =
+    record c {
+      blocks = inserted
+          (record { name = name; offset = offset; size = taken_of (gap_at (gaps_of c) offset) need })
+          c.blocks;
+    }
 
 -- the content without the block at the offset
 abbrev pub released : Content → ℕ → Content
@@ -105,7 +112,9 @@ pub record IsGapSize (n : ℕ) : Type 0 where
   pub even : n % 2 ≡ 0
   pub whole : 0 < n → 6 ≤ n
 
--- the blocks lie one after another from `at` up to `end`, even and of 6 units at least, with whole gaps between them
+-- the blocks lie one after another from `at` up to `end`, even and of 6 units at least, with whole
+-- gaps between them
 abbrev pub Tiled : ℕ → ℕ → List BlockAt → Type 0
 Tiled at end [] = (at ≤ end) × IsGapSize (end - at)
-Tiled at end (b ∷ bs) = (at ≤ b.offset) × IsGapSize (b.offset - at) × (6 ≤ b.size) × (b.size % 2 ≡ 0) × Tiled (b.offset + b.size) end bs
+Tiled at end (b ∷ bs) = (at ≤ b.offset) × IsGapSize (b.offset - at) × (6 ≤ b.size)
+    × (b.size % 2 ≡ 0) × Tiled (b.offset + b.size) end bs

@@ -17,7 +17,8 @@ pub data Setting : Type 0 where
   Placement : (strategy : Strategy) → Setting
   NoMigration : Setting
 
--- why words are refused: the first word that is wrong at its place, or a main carrier larger than the region
+-- why words are refused: the first word that is wrong at its place, or a main carrier larger than
+-- the region
 pub data Refusal : Type 0 where
   Unsupported : (word : ℕ) → Refusal
   TooSmall : Refusal
@@ -53,13 +54,17 @@ is_flag word =
 abbrev pub setting : List ℕ → List ℕ → Option Setting
 setting flag value =
     if bytes_eq flag (codes "+MMscs") then option_map (λ n. SuperCarrier n) (number 1 512 value)
-    else if bytes_eq flag (codes "+MHmmbcs") then option_map (λ n. MainCarrier n) (number 0 524288 value)
-    else if bytes_eq flag (codes "+MHlmbcs") then option_map (λ n. LargestCarrier n) (number 1 524288 value)
-    else if bytes_eq flag (codes "+MHmbsd") then option_map (λ n. SearchDepth n) (number 1 1000 value)
+    else if bytes_eq flag (codes "+MHmmbcs") then option_map (λ n. MainCarrier n)
+    (number 0 524288 value)
+    else if bytes_eq flag (codes "+MHlmbcs") then option_map (λ n. LargestCarrier n)
+    (number 1 524288 value)
+    else if bytes_eq flag (codes "+MHmbsd") then option_map (λ n. SearchDepth n)
+    (number 1 1000 value)
     else if bytes_eq flag (codes "+MHas") then option_map (λ s. Placement s) (strategy_named value)
     else no_migration value
 
--- what has been set: the super carrier in megabytes, the main and the largest carrier in kilobytes, the gaps of a bin that good fit inspects, the strategy, and whether migration was turned off
+-- what has been set: the super carrier in megabytes, the main and the largest carrier in kilobytes,
+-- the gaps of a bin that good fit inspects, the strategy, and whether migration was turned off
 pub record Chosen : Type 0 where
   pub super_carrier : ℕ
   pub main_carrier : ℕ
@@ -79,9 +84,16 @@ set_by c NoMigration = record c { off = true }
 
 -- where no flag says otherwise
 abbrev pub defaults : Chosen
-defaults = record { super_carrier = 64; main_carrier = 0; largest_carrier = 5120; search_depth = 3; strategy = AoffCbf; off = false }
+defaults = record {
+  super_carrier = 64;
+  main_carrier = 0;
+  largest_carrier = 5120;
+  search_depth = 3;
+  strategy = AoffCbf;
+  off = false;
+}
 
--- what is read behind so many words: at the end migration has to be off
+-- what is read after that many words: at the end migration has to be off
 abbrev pub at_last : ℕ → Chosen → Result Chosen Refusal
 at_last n c = if c.off then Ok c else Err (Unsupported (n + 1))
 
@@ -89,15 +101,31 @@ abbrev pub then_set : ℕ → Option Setting → (Setting → Result Chosen Refu
 then_set word None go_on = Err (Unsupported word)
 then_set word (Some s) go_on = go_on s
 
--- what the words behind the first n set; a flag and its value are a pair
+-- what the words after the first n set; a flag and its value are a pair
 abbrev pub pairs_from : ℕ → Chosen → List (List ℕ) → Result Chosen Refusal
 pairs_from n c [] = at_last n c
 pairs_from n c (flag ∷ []) = Err (Unsupported (if is_flag flag then n + 2 else n + 1))
-pairs_from n c (flag ∷ value ∷ words) = if is_flag flag then then_set (n + 2) (setting flag value) (λ s. pairs_from (n + 2) (set_by c s) words) else Err (Unsupported (n + 1))
+pairs_from n c (flag ∷ value ∷ words) = if is_flag flag then then_set (n + 2) (setting flag value)
+    (λ s. pairs_from (n + 2) (set_by c s) words) else Err (Unsupported (n + 1))
 
 -- a kilobyte has 128 units
 abbrev pub default_settings : Settings
-default_settings = record { strategy = AoffCbf; acul = 60; acfml = 0; sbct = 65536; smbcs = 32768; lmbcs = 655360; mbcgs = 10; mmbcs = 0; mbsd = 3; rsbcmt = 80; rmbcmt = 50; rsbcst = 20; asbcst = 131072; ramv = false }
+default_settings = record {
+  strategy = AoffCbf;
+  acul = 60;
+  acfml = 0;
+  sbct = 65536;
+  smbcs = 32768;
+  lmbcs = 655360;
+  mbcgs = 10;
+  mmbcs = 0;
+  mbsd = 3;
+  rsbcmt = 80;
+  rmbcmt = 50;
+  rsbcst = 20;
+  asbcst = 131072;
+  ramv = false;
+}
 
 abbrev pub config_of : Chosen → Config
 config_of c = record {
@@ -106,7 +134,13 @@ config_of c = record {
   b = default_settings;
   d = default_settings;
   e = default_settings;
-  h = record default_settings { strategy = c.strategy; acul = 0; lmbcs = 128 * c.largest_carrier; mmbcs = 128 * c.main_carrier; mbsd = c.search_depth };
+  h = record default_settings {
+    strategy = c.strategy;
+    acul = 0;
+    lmbcs = 128 * c.largest_carrier;
+    mmbcs = 128 * c.main_carrier;
+    mbsd = c.search_depth;
+  };
   l = default_settings;
   r = default_settings;
   s = default_settings;

@@ -7,7 +7,8 @@ use Rattle.ea_model.specs.Choice.{first, less}
 unfoldable pub powers : ℕ → ℕ → ℕ → ℕ
 powers size a n = length (filter (λ k. nat_le (2 ^ k) size) (range_with_len a n))
 
--- the bin of a size: one for each size below 64, then one for 64 to 127, one for 128 to 255 and so on, to twice the size each
+-- the bin of a size: one for each size below 64, then one for 64 to 127, one for 128 to 255 and so
+-- on, to twice the size each
 unfoldable pub bin_of : ℕ → ℕ
 bin_of size = if nat_lt size 64 then size else 63 + powers size 6 26
 
@@ -29,6 +30,8 @@ module _ {A : Type 0} (address size : A → ℕ) where
   abbrev pub smaller_low : A → A → Bool
   smaller_low a b = less (size a) (size b) (nat_lt (address a) (address b))
 
-  -- of the gaps that a search inspects and that have at least `need` units, the smallest; a bin has only smaller gaps than the bins behind it, so it lies in the first bin where one of these fits
+  -- of the gaps that a search inspects and that have at least `need` units, the smallest; a bin has
+  -- only smaller gaps than the bins behind it, so it lies in the first bin where one of these fits
   abbrev pub good_fit : ℕ → ℕ → List A → Option A
-  good_fit depth need gs = first smaller_low (filter (λ g. nat_le need (size g)) (filter (is_inspected depth gs) gs))
+  good_fit depth need gs = first smaller_low
+      (filter (λ g. nat_le need (size g)) (filter (is_inspected depth gs) gs))

@@ -22,7 +22,8 @@ use Rattle.ea_model.specs.Strategies.{choice_for, spot_of}
 use Rattle.ea_model.specs.Region.{runs, lowest_run, with_segment}
 use Rattle.ea_model.specs.Keyed.{item_at, entered, without, changed_at}
 
--- an instance: its number, from 1, its region from page `first` up to `end`, the contents that it employs by rising number, and how many carriers it created
+-- an instance: its number, from 1, its region from page `first` up to `end`, the contents that it
+-- employs by rising number, and how many carriers it created
 pub record Instance : Type 0 where
   pub settings : Settings
   pub number : ℕ
@@ -31,7 +32,7 @@ pub record Instance : Type 0 where
   pub contents : List Content
   pub created : ℕ
 
--- the pages that hold so many units
+-- the pages that hold that many units
 abbrev pub pages_for : ℕ → ℕ
 pages_for units = (units + 511) / 512
 
@@ -41,11 +42,26 @@ first_number instance = 256 * (instance - 1) + 1
 
 -- a new carrier; a page has 512 units
 abbrev pub created_content : ℕ → Kind → CarrierPlan → Content
-created_content instance kind p = record { number = p.number; owner = instance; base = p.base; birth = p.birth; units = 512 * p.pages; kind = kind; blocks = [] }
+created_content instance kind p = record {
+  number = p.number;
+  owner = instance;
+  base = p.base;
+  birth = p.birth;
+  units = 512 * p.pages;
+  kind = kind;
+  blocks = [];
+}
 
 -- the main carrier: the first one that the instance creates, from its region's first page on
 abbrev pub main_content : Settings → ℕ → ℕ → Content
-main_content s instance first = created_content instance Main (record { number = first_number instance; base = first; pages = pages_for s.mmbcs; birth = 1; single = false })
+main_content s instance first = created_content instance Main
+    (record {
+      number = first_number instance;
+      base = first;
+      pages = pages_for s.mmbcs;
+      birth = 1;
+      single = false;
+    })
 
 -- the main carrier, where the settings ask for one
 abbrev pub main_carriers : Settings → ℕ → ℕ → List Content
@@ -53,7 +69,15 @@ main_carriers s instance first = if nat_lt 0 s.mmbcs then main_content s instanc
 
 -- an instance before its first operation
 abbrev pub new_instance : Settings → ℕ → ℕ → ℕ → Instance
-new_instance s instance first pages = record { settings = s; number = instance; first = first; end = first + pages; contents = main_carriers s instance first; created = length (main_carriers s instance first) }
+new_instance s instance first pages = record {
+  settings = s;
+  number = instance;
+  first = first;
+  end = first + pages;
+  contents = main_carriers s instance first;
+  created = length
+      (main_carriers s instance first);
+}
 
 -- the segment of a carrier
 abbrev pub segment_of : Content → Segment
@@ -72,18 +96,21 @@ content_of cs number = item_at (λ c. c.number) cs number
 abbrev pub is_used : ℕ → List Content → Bool
 is_used number cs = is_some (content_of cs number)
 
--- the lowest of so many numbers from `number` on that isn't in use
+-- the lowest of that many numbers from `number` on that isn't in use
 unfoldable pub unused_from : ℕ → ℕ → List Content → Option ℕ
 unused_from zero number cs = None
-unused_from (suc k) number cs = if is_used number cs then unused_from k (number + 1) cs else Some number
+unused_from (suc k) number cs = if is_used number cs then unused_from k (number + 1) cs else Some
+    number
 
 -- how many multiblock carriers there are without the main one
 abbrev pub multis : List Content → ℕ
 multis cs = length (filter (λ c. is_multi c.kind) cs)
 
--- the units of the next multiblock carrier behind so many: they grow from smbcs to lmbcs in mbcgs equal parts
+-- the units of the next multiblock carrier after that many others: they grow from smbcs to lmbcs in
+-- mbcgs equal parts
 abbrev pub growth : Settings → ℕ → ℕ
-growth s n = if nat_le n s.mbcgs then s.smbcs + n * (max s.lmbcs s.smbcs - s.smbcs) / s.mbcgs else max s.lmbcs s.smbcs
+growth s n = if nat_le n s.mbcgs then s.smbcs + n * (max s.lmbcs s.smbcs - s.smbcs) / s.mbcgs else
+    max s.lmbcs s.smbcs
 
 -- the pages of the least carrier that holds a block of this need, and of the next one
 abbrev pub least_pages : ℕ → ℕ
@@ -92,12 +119,18 @@ least_pages need = pages_for (8 + need)
 abbrev pub next_pages : Instance → ℕ → ℕ
 next_pages i need = max (least_pages need) (pages_for (growth i.settings (multis i.contents)))
 
--- where the lowest free run of the region with so many pages begins
+-- where the lowest free run of the region with that many pages begins
 abbrev pub free_run : Instance → ℕ → Option ℕ
 free_run i pages = lowest_run pages (runs i.first i.end (segments i.contents))
 
 abbrev pub planned : Instance → ℕ → ℕ → ℕ → CarrierPlan
-planned i number base pages = record { number = number; base = base; pages = pages; birth = i.created + 1; single = false }
+planned i number base pages = record {
+  number = number;
+  base = base;
+  pages = pages;
+  birth = i.created + 1;
+  single = false;
+}
 
 -- the least carrier, where the next one has no room
 abbrev pub least_plan : Instance → ℕ → ℕ → Option ℕ → Result CarrierPlan NoCarrier
@@ -122,7 +155,10 @@ with_content x cs = entered (λ c. c.number) x cs
 
 -- the instance that employs the carrier of a plan
 abbrev pub creating : Instance → CarrierPlan → Instance
-creating i p = record i { contents = with_content (created_content i.number Multi p) i.contents; created = p.birth }
+creating i p = record i {
+  contents = with_content (created_content i.number Multi p) i.contents;
+  created = p.birth;
+}
 
 -- the contents where that of the number is changed
 abbrev pub changed : (Content → Content) → ℕ → List Content → List Content
@@ -138,15 +174,22 @@ size_for None offset need = 0
 size_for (Some c) offset need = taken_of (gap_at (gaps_of c) offset) need
 
 abbrev pub place_at : Instance → Spot → ℕ → Place
-place_at i spot need = record { carrier = spot.carrier; offset = spot.offset; size = size_for (content_of i.contents spot.carrier) spot.offset need }
+place_at i spot need = record {
+  carrier = spot.carrier;
+  offset = spot.offset;
+  size = size_for
+      (content_of i.contents spot.carrier) spot.offset need;
+}
 
 -- the instance with a block at a spot
 abbrev pub placing_at : Instance → Spot → ℕ → ℕ → Instance
-placing_at i spot need name = record i { contents = changed (λ c. placed c spot.offset need name) spot.carrier i.contents }
+placing_at i spot need name =
+    record i { contents = changed (λ c. placed c spot.offset need name) spot.carrier i.contents }
 
 -- the instance without the block at a spot
 abbrev pub releasing_at : Instance → Spot → Instance
-releasing_at i spot = record i { contents = changed (λ c. released c spot.offset) spot.carrier i.contents }
+releasing_at i spot =
+    record i { contents = changed (λ c. released c spot.offset) spot.carrier i.contents }
 
 -- the contents without that of the number
 abbrev pub without_content : ℕ → List Content → List Content
@@ -162,15 +205,41 @@ block_in cs spot = option_and_then (λ c. block_at c.blocks spot.offset) (conten
 
 -- blocks and carriers of main and multiblock carriers, with their units
 abbrev pub figures : List Content → Figures
-figures cs = record { blocks = sum_by (λ c. length c.blocks) cs; blocks_size = sum_by (λ c. allocated c.blocks) cs; carriers = length cs; carriers_size = sum_by (λ c. c.units) cs }
+figures cs = record {
+  blocks = sum_by (λ c. length c.blocks) cs;
+  blocks_size = sum_by
+      (λ c. allocated c.blocks) cs;
+  carriers = length cs;
+  carriers_size = sum_by (λ c. c.units) cs;
+}
 
 -- a carrier that its owner employs, at the end of a run
 abbrev pub carrier_line : Content → CarrierLine
-carrier_line c = record { number = c.number; kind = c.kind; owner = c.owner; word = standing.Employed; employer = c.owner; base = c.base; pages = c.units / 512; allocated = allocated c.blocks; largest = largest (gaps_of c) }
+carrier_line c = record {
+  number = c.number;
+  kind = c.kind;
+  owner = c.owner;
+  word = standing.Employed;
+  employer = c.owner;
+  base = c.base;
+  pages = c.units / 512;
+  allocated =
+      allocated c.blocks;
+  largest = largest (gaps_of c);
+}
 
--- the sums over carriers whose blocks are all held, so that all their units are live; a carrier's header has 8 units
+-- the sums over carriers whose blocks are all held, so that all their units are live; a carrier's
+-- header has 8 units
 abbrev pub totals : List Content → Totals
-totals cs = record { carriers = length cs; units = sum_by (λ c. c.units) cs; live = sum_by (λ c. allocated c.blocks) cs; queued = 0; free = sum_by (λ c. free_units (gaps_of c)) cs; header = 8 * length cs }
+totals cs = record {
+  carriers = length cs;
+  units = sum_by (λ c. c.units) cs;
+  live = sum_by
+      (λ c. allocated c.blocks) cs;
+  queued = 0;
+  free = sum_by (λ c. free_units (gaps_of c)) cs;
+  header = 8 * length cs;
+}
 
 -- instance 1 as the configuration makes it for allocator H
 abbrev pub instance_of : Config → Instance

@@ -12,4 +12,3 @@ pub mod Flags
 pub mod Words
 pub mod Lines
 pub mod Trace
-pub mod Faultline

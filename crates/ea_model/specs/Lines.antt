@@ -18,7 +18,8 @@ pub data Line : Type 0 where
 abbrev pub name_in : List ℕ → Option ℕ
 name_in word = number 1 MAX_NAME word
 
--- the bytes of a request; one above 512 kilobytes less the header's 8 bytes has a carrier of its own, which isn't built
+-- the bytes of a request; one above 512 kilobytes less the header's 8 bytes has a carrier of its
+-- own, which isn't built
 abbrev pub bytes_in : List ℕ → Option ℕ
 bytes_in word = number 0 MAX_BYTES word
 
@@ -76,7 +77,7 @@ alloc_words (w ∷ []) = Unreadable
 alloc_words (w ∷ v ∷ []) = alloc_line (name_in w) (bytes_in v)
 alloc_words (w ∷ v ∷ u ∷ ws) = Unreadable
 
--- a line by its first word and the words behind it
+-- a line by its first word and the words after it
 abbrev pub command : List ℕ → List (List ℕ) → Line
 command keyword ws =
     if bytes_eq keyword (codes "type") then letter_line ws else (

@@ -23,7 +23,7 @@ runs at end (s ∷ ss) = stretch at s.base ++ runs (s.base + s.pages) end ss
 abbrev pub runs_of : Region → List Segment
 runs_of r = runs r.first r.end r.taken
 
--- where the lowest run of at least so many pages begins
+-- where the lowest run of at least that many pages begins
 abbrev pub lowest_run : ℕ → List Segment → Option ℕ
 lowest_run pages rs = option_map (λ r. r.base) (find (λ r. nat_le pages r.pages) rs)
 

@@ -17,7 +17,8 @@ settings_of c R = c.r
 settings_of c S = c.s
 settings_of c T = c.t
 
--- the pages of an instance's region: an equal part of the super carrier's, of which a megabyte has 256
+-- the pages of an instance's region: an equal part of the super carrier's, of which a megabyte has
+-- 256
 abbrev pub region_pages : Config → ℕ
 region_pages c = c.scs * 256 / c.schedulers
 

@@ -17,7 +17,14 @@ use Rattle.ea_model.specs.declared.settings.Settings.{Settings}
 
 -- a gap of a carrier; a page has 512 units
 abbrev pub candidate : Content → Gap → Candidate
-candidate c g = record { number = c.number; base = c.base; birth = c.birth; offset = g.offset; address = 512 * c.base + g.offset; size = g.size }
+candidate c g = record {
+  number = c.number;
+  base = c.base;
+  birth = c.birth;
+  offset = g.offset;
+  address = 512 * c.base + g.offset;
+  size = g.size;
+}
 
 -- the gaps of main and multiblock carriers
 abbrev pub candidates_in : Kind → Content → List Candidate
@@ -68,7 +75,7 @@ inner_of AgeffCaobf = inner.Aobf
 inner_of Gf = inner.Aobf
 inner_of Af = inner.Aoff
 
--- the candidates of at least so many units
+-- the candidates of at least that many units
 abbrev pub large_enough : ℕ → List Candidate → List Candidate
 large_enough need xs = filter (λ x. nat_le need x.size) xs
 
@@ -77,7 +84,8 @@ abbrev pub only : Option Candidate → List Candidate
 only None = []
 only (Some x) = x ∷ []
 
--- the candidates that a strategy looks at: good fit at the first few of each bin, address fit at the lowest alone, and the others at all
+-- the candidates that a strategy looks at: good fit at the first few of each bin, address fit at
+-- the lowest alone, and the others at all
 abbrev pub inspected_by : Strategy → ℕ → List Candidate → List Candidate
 inspected_by Bf depth xs = xs
 inspected_by Aobf depth xs = xs
@@ -92,7 +100,8 @@ inspected_by Af depth xs = only (first lower xs)
 
 -- the one that it takes first of those that are large enough
 abbrev pub choice_among : Strategy → ℕ → ℕ → List Content → Option Candidate
-choice_among s depth need cs = first (takes_first s) (large_enough need (inspected_by s depth (candidates cs)))
+choice_among s depth need cs = first (takes_first s)
+    (large_enough need (inspected_by s depth (candidates cs)))
 
 -- whether a strategy may look past a gap that is large enough
 abbrev pub may_miss : Strategy → Bool
@@ -116,9 +125,11 @@ abbrev pub or_else : Bool → Option Candidate → Option Candidate → Option C
 or_else asked (Some x) other = Some x
 or_else asked None other = if asked then other else None
 
--- the chosen gap; where good fit or address fit looked past all that would fit, a carrier that was created for the block, and has none yet, gives it
+-- the chosen gap; where good fit or address fit looked past all that would fit, a carrier that was
+-- created for the block, and has none yet, gives it
 abbrev pub choice_for : Settings → ℕ → List Content → Option Candidate
-choice_for s need cs = or_else (may_miss s.strategy) (choice_among s.strategy s.mbsd need cs) (choice_empty need cs)
+choice_for s need cs = or_else (may_miss s.strategy) (choice_among s.strategy s.mbsd need cs)
+    (choice_empty need cs)
 
 abbrev pub spot_of : Candidate → Spot
 spot_of x = record { carrier = x.number; offset = x.offset }

@@ -1,4 +1,5 @@
--- The traces: which lines may follow which, and the operations that they hold. Earlier lines are lists with the newest line first.
+-- The traces: which lines may follow which, and the operations that they hold. Earlier lines are
+-- lists with the newest line first.
 use Rattle.std.specs.Prelude.{ℕ, ◌≤◌, Bool, true, false, ◌&&◌, ◌||◌, not, nat_le, ◌==◌, List, [], ◌∷◌, ◌++◌, length, map, Option, Some, None}
 use Rattle.ea_model.specs.Words.{lines}
 use Rattle.ea_model.specs.Lines.{Line, Skipped, Letter, Scheduler, Alloc, Free, Schedule, End, Unreadable, line_of}
@@ -25,7 +26,7 @@ may_stand Section Schedule = true
 may_stand Turns End = true
 may_stand stage line = false
 
--- the part behind a line that stands there
+-- the part after a line that stands there
 abbrev pub next : Stage → Line → Stage
 next stage Letter = Typed
 next stage Scheduler = Section
@@ -36,7 +37,7 @@ next stage (Alloc name bytes) = stage
 next stage (Free name) = stage
 next stage Unreadable = stage
 
--- the part behind these lines
+-- the part after these lines
 abbrev pub stage_after : List Line → Stage
 stage_after [] = Start
 stage_after (line ∷ older) = next (stage_after older) line
@@ -60,7 +61,7 @@ abbrev pub is_made : ℕ → List Line → Bool
 is_made n [] = false
 is_made n (line ∷ older) = makes n line || is_made n older
 
--- a name is allocated once, and freed only behind its allocation
+-- a name is allocated once, and freed only after its allocation
 abbrev pub names_good : List Line → Line → Bool
 names_good earlier (Alloc name bytes) = not (is_made name earlier)
 names_good earlier (Free name) = is_made name earlier
@@ -68,7 +69,8 @@ names_good earlier line = true
 
 -- whether a line may follow the earlier ones; a trace has MAX_OPS operations at most
 abbrev pub may_follow : List Line → Line → Bool
-may_follow earlier line = may_stand (stage_after earlier) line && (nat_le (length (operations (line ∷ earlier))) MAX_OPS && names_good earlier line)
+may_follow earlier line = may_stand (stage_after earlier) line &&
+    (nat_le (length (operations (line ∷ earlier))) MAX_OPS && names_good earlier line)
 
 -- the operations of a trace that is over
 abbrev pub at_end : Stage → List Op → Option (List Op)
@@ -79,14 +81,16 @@ abbrev pub if_follows : Bool → Option (List Op) → Option (List Op)
 if_follows true read = read
 if_follows false read = None
 
--- the operations of the lines behind the earlier ones; none where a line may not follow, or the end is missing
-abbrev pub read_behind : List Line → List Line → Option (List Op)
-read_behind earlier [] = at_end (stage_after earlier) (operations earlier)
-read_behind earlier (line ∷ later) = if_follows (may_follow earlier line) (read_behind (line ∷ earlier) later)
+-- the operations of the lines after the earlier ones; none where a line may not follow, or the end
+-- is missing
+abbrev pub read_after : List Line → List Line → Option (List Op)
+read_after earlier [] = at_end (stage_after earlier) (operations earlier)
+read_after earlier (line ∷ later) = if_follows (may_follow earlier line)
+    (read_after (line ∷ earlier) later)
 
 -- the operations of a text, if it is a trace
 abbrev pub trace_of : List ℕ → Option (List Op)
-trace_of bytes = read_behind [] (map line_of (lines bytes))
+trace_of bytes = read_after [] (map line_of (lines bytes))
 
 -- the name that an operation speaks of, of a reallocation the new one, or 0
 abbrev pub name_of : Op → ℕ

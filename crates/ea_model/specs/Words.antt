@@ -36,4 +36,6 @@ numeral_value word = fold then_digit 0 word
 
 -- the number from low to high that the word writes
 abbrev pub number : ℕ → ℕ → List ℕ → Option ℕ
-number low high word = if is_numeral word && (nat_le low (numeral_value word) && nat_le (numeral_value word) high) then Some (numeral_value word) else None
+number low high word = if is_numeral word &&
+    (nat_le low (numeral_value word) && nat_le (numeral_value word) high) then Some
+    (numeral_value word) else None

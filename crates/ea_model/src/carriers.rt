@@ -70,7 +70,7 @@ pub struct Place {
     pub size: u32,
 }
 
-/// Pages that lie one behind another: a carrier's segment, or a run of free pages.
+/// Pages that lie one after another: a carrier's segment, or a run of free pages.
 #[derive(Debug, Clone, Copy, PartialEq, Eq)]
 pub struct Segment {
     /// Its first page.

@@ -36,7 +36,8 @@ pub enum Entry {
         name: u32,
         place: Place,
     },
-    /// No block was placed: `need` units were asked for, and `looked` pooled or busy carriers were seen.
+    /// No block was placed: `need` units were asked for, and `looked` pooled or busy carriers were
+    /// seen.
     AllocFail {
         name: u32,
         need: u32,
@@ -102,7 +103,7 @@ pub enum Entry {
     Take {
         name: u32,
     },
-    /// The name was not given at any of so many tries.
+    /// The name was not given at any of that many tries.
     TakeAbsent {
         name: u32,
         tries: u32,

@@ -55,7 +55,8 @@ fn index_after<T: Keyed>(key: u32, items: &[T]) -> usize
     items.len()
 }
 
-/// Puts an item among the others, by its key. Where there is no memory, it is dropped and the others stay.
+/// Puts an item among the others, by its key. Where there is no memory, it is dropped and the
+/// others stay.
 pub fn enter<T: Keyed + Drop>(item: T, items: &mut Vec<T>) -> Result<(), OutOfMemory>
     ensures ok { OnOk result (items.new.items ≡ entered T.key_of item items.old.items) }
     ensures err { OnErr result (items.new.items ≡ items.old.items) }
@@ -64,7 +65,8 @@ pub fn enter<T: Keyed + Drop>(item: T, items: &mut Vec<T>) -> Result<(), OutOfMe
     ensures len { OnOk result (vec_len items.new ≡ vec_len items.old + 1) }
     ensures full { OnErr result (vec_capacity items.old ≤ vec_len items.old) }
     ensures capacity { vec_capacity items.old ≤ vec_capacity items.new }
-    ensures in_place { vec_len items.old < vec_capacity items.old → vec_capacity items.new ≡ vec_capacity items.old }
+    ensures in_place { vec_len items.old < vec_capacity items.old
+        → vec_capacity items.new ≡ vec_capacity items.old }
 {
     let index = index_after(item.key(), items);
     Ok(items.insert(index, item)?)

@@ -9,18 +9,23 @@ use std::marker::Model;
 pub struct OutOfMemory;
 
 impl From<AllocError> for OutOfMemory {
+    ghost from_gives = { λ _ e. e ≡ record {} };
+
     fn from(_: AllocError) -> OutOfMemory {
         OutOfMemory
     }
 }
 
 impl<T: Drop> From<AllocFailed<T>> for OutOfMemory {
+    ghost from_gives = { λ _ e. e ≡ record {} };
+
     fn from(_: AllocFailed<T>) -> OutOfMemory {
         OutOfMemory
     }
 }
 
-/// Items in order. Contracts see `items`, and beside them `room`: how many more can be added without
+/// Items in order. Contracts see `items`, and beside them `room`: how many more can be added
+/// without
 /// taking memory.
 #[derive(Drop)]
 pub struct List<T> {

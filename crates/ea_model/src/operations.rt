@@ -11,7 +11,7 @@ pub enum Op {
     Realloc { old: u32, fresh: u32, bytes: u32 },
     /// Hands a block over to another scheduler.
     Give { name: u32, to: u32 },
-    /// Takes a block that was given, with so many tries.
+    /// Takes a block that was given, with that many tries.
     Take { name: u32, tries: u32 },
     /// Asks for the allocator information.
     Info,

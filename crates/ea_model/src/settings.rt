@@ -45,7 +45,8 @@ pub enum Letter {
 pub struct Settings {
     /// The strategy, of flag `as`.
     pub strategy: Strategy,
-    /// The utilization in percent below which a carrier is abandoned, 0 to 100; 0 turns migration off.
+    /// The utilization in percent below which a carrier is abandoned, 0 to 100; 0 turns migration
+    /// off.
     pub acul: u32,
     /// The least bytes of the largest gap of a carrier that is abandoned.
     pub acfml: u32,
@@ -73,7 +74,8 @@ pub struct Settings {
     pub ramv: bool,
 }
 
-/// What all flags set: the schedulers, the super carrier in megabytes, and each allocator's settings.
+/// What all flags set: the schedulers, the super carrier in megabytes, and each allocator's
+/// settings.
 #[derive(Debug, Clone, Copy, PartialEq, Eq)]
 pub struct Config {
     pub schedulers: u32,
@@ -105,7 +107,8 @@ impl Config {
         }
     }
 
-    /// The pages of each instance's region: an equal part of the super carrier's, of which a megabyte
+    /// The pages of each instance's region: an equal part of the super carrier's, of which a
+    /// megabyte
     /// has 256.
     pub fn region_pages(&self) -> u32
         requires some { 0 < self.now.schedulers }

@@ -20,7 +20,8 @@ pub const MAX_NAME: u32 = 262_144;
 pub const MAX_OPS: u32 = 262_144;
 /// The pooled or busy carriers after which a search of the pool ends.
 pub const SEARCH_LIMIT: u32 = 16;
-/// The most bytes of a request that has no carrier of its own: 512 kilobytes less the block's header.
+/// The most bytes of a request that has no carrier of its own: 512 kilobytes less the block's
+/// header.
 pub const MAX_BYTES: u32 = 524_280;
 /// The pages of the largest super carrier, 512 megabytes.
 pub const MAX_PAGES: u32 = 131_072;
@@ -29,7 +30,8 @@ pub const MAX_UNITS: u32 = 67_108_864;
 /// The most bytes of an input.
 pub const MAX_INPUT: usize = 16_777_216;
 
-/// The units that a request of `bytes` takes: its bytes in whole units and the block's header of one
+/// The units that a request of `bytes` takes: its bytes in whole units and the block's header of
+/// one
 /// unit, rounded up to an even number, and 6 at least.
 pub fn need(bytes: u32) -> u32
     requires { bytes < 2 ^ 30 }

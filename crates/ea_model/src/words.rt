@@ -14,7 +14,8 @@ fn is_space(byte: u8) -> bool
 
 /// The first line, and what follows its line feed.
 pub fn first_line(text: &[u8]) -> (&[u8], Option<&[u8]>)
-    ensures lines { lines text.now ≡ result.0.now ∷ option_map_or (λ rest. lines rest.now) result.1 [] }
+    ensures lines { lines text.now ≡ result.0.now ∷ option_map_or (λ rest. lines rest.now) result.1
+        [] }
     ensures shorter { IfSome result.1 (λ rest. length rest.now < length text.now) }
 {
     for i in 0..text.len() {
@@ -27,7 +28,8 @@ pub fn first_line(text: &[u8]) -> (&[u8], Option<&[u8]>)
 
 /// The first word, and what follows it.
 pub fn first_word(line: &[u8]) -> Option<(&[u8], &[u8])>
-    ensures words { words line.now ≡ option_map_or (λ found. found.0.now ∷ words found.1.now) result [] }
+    ensures words { words line.now ≡ option_map_or (λ found. found.0.now ∷ words found.1.now) result
+        [] }
     ensures shorter { IfSome result (λ found. length found.1.now < length line.now) }
 {
     let mut rest = line;
@@ -43,7 +45,8 @@ pub fn first_word(line: &[u8]) -> Option<(&[u8], &[u8])>
 /// The number that a word of at most 10 bytes writes.
 fn numeral(word: &[u8]) -> Option<u64>
     requires { length word.now ≤ 10 }
-    ensures { result ≡ (if list_all is_ascii_digit word.now then Some (numeral_value word.now) else None) }
+    ensures { result ≡
+        (if list_all is_ascii_digit word.now then Some (numeral_value word.now) else None) }
 {
     let mut value = 0u64;
     for byte in word {

@@ -25,35 +25,49 @@ cause_text cause.Space = codes "space"
 abbrev pub report_text : List ℕ → Report → List ℕ
 report_text class r = line (codes "info") (class
     ∷ codes "blocks" ∷ decimal r.blocks.now ∷ decimal r.blocks.last ∷ decimal r.blocks.ever
-    ∷ codes "blocks_size" ∷ decimal r.blocks_size.now ∷ decimal r.blocks_size.last ∷ decimal r.blocks_size.ever
+    ∷ codes "blocks_size" ∷ decimal r.blocks_size.now ∷ decimal r.blocks_size.last ∷ decimal
+    r.blocks_size.ever
     ∷ codes "carriers" ∷ decimal r.carriers.now ∷ decimal r.carriers.last ∷ decimal r.carriers.ever
-    ∷ codes "carriers_size" ∷ decimal r.carriers_size.now ∷ decimal r.carriers_size.last ∷ decimal r.carriers_size.ever ∷ [])
+    ∷ codes "carriers_size" ∷ decimal r.carriers_size.now ∷ decimal r.carriers_size.last ∷ decimal
+    r.carriers_size.ever ∷ [])
 
 -- the line of a reallocation whose block lies at p, with what came of the old one
 abbrev pub realloc_text : ℕ → ℕ → Place → List (List ℕ) → List ℕ
-realloc_text old fresh p rest = line (codes "realloc") (decimal old ∷ decimal fresh ∷ decimal p.carrier ∷ decimal p.offset ∷ decimal p.size ∷ rest)
+realloc_text old fresh p rest = line (codes "realloc")
+    (decimal old ∷ decimal fresh ∷ decimal p.carrier ∷ decimal p.offset ∷ decimal p.size ∷ rest)
 
 -- what stands after the names of an operation that found no place
 abbrev pub fail_words : ℕ → ℕ → NoCarrier → List (List ℕ)
-fail_words need looked why = codes "fail" ∷ codes "need" ∷ decimal need ∷ codes "looked" ∷ decimal looked ∷ cause_text why ∷ []
+fail_words need looked why = codes "fail" ∷ codes "need" ∷ decimal need ∷ codes "looked" ∷ decimal
+    looked ∷ cause_text why ∷ []
 
 -- the line of an entry; the allocator information has two
 abbrev pub entry_text : Entry → List ℕ
-entry_text (entry.Alloc name p) = line (codes "alloc") (decimal name ∷ decimal p.carrier ∷ decimal p.offset ∷ decimal p.size ∷ [])
-entry_text (entry.AllocFail name need looked why) = line (codes "alloc") (decimal name ∷ fail_words need looked why)
+entry_text (entry.Alloc name p) = line (codes "alloc")
+    (decimal name ∷ decimal p.carrier ∷ decimal p.offset ∷ decimal p.size ∷ [])
+entry_text (entry.AllocFail name need looked why) = line (codes "alloc")
+    (decimal name ∷ fail_words need looked why)
 entry_text (entry.Free name) = line (codes "free") (decimal name ∷ codes "done" ∷ [])
-entry_text (entry.FreeQueued name to) = line (codes "free") (decimal name ∷ codes "queued" ∷ decimal to ∷ [])
+entry_text (entry.FreeQueued name to) = line (codes "free")
+    (decimal name ∷ codes "queued" ∷ decimal to ∷ [])
 entry_text (entry.FreeSkipped name) = line (codes "free") (decimal name ∷ codes "skipped" ∷ [])
 entry_text (entry.ReallocHere old fresh p) = realloc_text old fresh p (codes "here" ∷ [])
-entry_text (entry.ReallocMoved old fresh p) = realloc_text old fresh p (codes "moved" ∷ codes "done" ∷ [])
-entry_text (entry.ReallocQueued old fresh p to) = realloc_text old fresh p (codes "moved" ∷ codes "queued" ∷ decimal to ∷ [])
-entry_text (entry.ReallocFail old fresh need looked why) = line (codes "realloc") (decimal old ∷ decimal fresh ∷ fail_words need looked why)
-entry_text (entry.ReallocSkipped old fresh) = line (codes "realloc") (decimal old ∷ decimal fresh ∷ codes "skipped" ∷ [])
+entry_text (entry.ReallocMoved old fresh p) = realloc_text old fresh p
+    (codes "moved" ∷ codes "done" ∷ [])
+entry_text (entry.ReallocQueued old fresh p to) = realloc_text old fresh p
+    (codes "moved" ∷ codes "queued" ∷ decimal to ∷ [])
+entry_text (entry.ReallocFail old fresh need looked why) = line (codes "realloc")
+    (decimal old ∷ decimal fresh ∷ fail_words need looked why)
+entry_text (entry.ReallocSkipped old fresh) = line (codes "realloc")
+    (decimal old ∷ decimal fresh ∷ codes "skipped" ∷ [])
 entry_text (entry.Give name to) = line (codes "give") (decimal name ∷ decimal to ∷ [])
-entry_text (entry.GiveSkipped name to) = line (codes "give") (decimal name ∷ decimal to ∷ codes "skipped" ∷ [])
+entry_text (entry.GiveSkipped name to) = line (codes "give")
+    (decimal name ∷ decimal to ∷ codes "skipped" ∷ [])
 entry_text (entry.Take name) = line (codes "take") (decimal name ∷ codes "got" ∷ [])
-entry_text (entry.TakeAbsent name tries) = line (codes "take") (decimal name ∷ codes "absent" ∷ decimal tries ∷ [])
-entry_text (entry.Info mbcs sbcs) = report_text (codes "mbcs") mbcs ++ report_text (codes "sbcs") sbcs
+entry_text (entry.TakeAbsent name tries) = line (codes "take")
+    (decimal name ∷ codes "absent" ∷ decimal tries ∷ [])
+entry_text (entry.Info mbcs sbcs) = report_text (codes "mbcs") mbcs ++ report_text
+    (codes "sbcs") sbcs
 entry_text entry.Idle = line (codes "idle") []
 
 abbrev pub kind_text : Kind → List ℕ
@@ -68,11 +82,18 @@ standing_text standing.Busy = codes "busy"
 standing_text standing.Returning = codes "returning"
 
 abbrev pub carrier_text : CarrierLine → List ℕ
-carrier_text c = line (codes "carrier") (decimal c.number ∷ kind_text c.kind ∷ codes "owner" ∷ decimal c.owner ∷ standing_text c.word ∷ decimal c.employer ∷ codes "base" ∷ decimal c.base ∷ codes "pages" ∷ decimal c.pages ∷ codes "allocated" ∷ decimal c.allocated ∷ codes "largest" ∷ decimal c.largest ∷ [])
+carrier_text c = line (codes "carrier")
+    (decimal c.number ∷ kind_text c.kind ∷ codes "owner" ∷ decimal c.owner ∷ standing_text c.word ∷
+    decimal c.employer ∷ codes "base" ∷ decimal c.base ∷ codes "pages" ∷ decimal c.pages ∷ codes
+    "allocated" ∷ decimal c.allocated ∷ codes "largest" ∷ decimal c.largest ∷ [])
 
 abbrev pub totals_text : Totals → List ℕ
-totals_text t = line (codes "total") (codes "carriers" ∷ decimal t.carriers ∷ codes "units" ∷ decimal t.units ∷ codes "live" ∷ decimal t.live ∷ codes "queued" ∷ decimal t.queued ∷ codes "free" ∷ decimal t.free ∷ codes "header" ∷ decimal t.header ∷ [])
+totals_text t = line (codes "total")
+    (codes "carriers" ∷ decimal t.carriers ∷ codes "units" ∷ decimal t.units ∷ codes "live" ∷
+    decimal t.live ∷ codes "queued" ∷ decimal t.queued ∷ codes "free" ∷ decimal t.free ∷ codes
+    "header" ∷ decimal t.header ∷ [])
 
 -- the text of scheduler 1's log, the carriers and the totals
 abbrev pub text : List Entry → List CarrierLine → Totals → List ℕ
-text log carriers totals = line (codes "scheduler") (decimal 1 ∷ []) ++ flat_map entry_text log ++ flat_map carrier_text carriers ++ totals_text totals
+text log carriers totals = line (codes "scheduler") (decimal 1 ∷ []) ++ flat_map entry_text
+    log ++ flat_map carrier_text carriers ++ totals_text totals

@@ -53,7 +53,8 @@ fn put_realloc(
     place: Place,
     rest: &[Word],
 ) -> Result<(), OutOfMemory>
-    ensures { OnOk result (text.new.items ≡ text.old.items ++ realloc_text old fresh place (map word_text rest.now)) }
+    ensures { OnOk result (text.new.items ≡ text.old.items ++ realloc_text old fresh place
+        (map word_text rest.now)) }
 {
     let words = [
         Number(old),
@@ -76,7 +77,8 @@ fn put_alloc_fail(
     looked: u32,
     why: NoCarrier,
 ) -> Result<(), OutOfMemory>
-    ensures { OnOk result (text.new.items ≡ text.old.items ++ entry_text (AllocFail name need looked why)) }
+    ensures { OnOk result
+        (text.new.items ≡ text.old.items ++ entry_text (AllocFail name need looked why)) }
 {
     let words = [
         Number(name),
@@ -99,7 +101,8 @@ fn put_realloc_fail(
     looked: u32,
     why: NoCarrier,
 ) -> Result<(), OutOfMemory>
-    ensures { OnOk result (text.new.items ≡ text.old.items ++ entry_text (ReallocFail old fresh need looked why)) }
+    ensures { OnOk result
+        (text.new.items ≡ text.old.items ++ entry_text (ReallocFail old fresh need looked why)) }
 {
     let words = [
         Number(old),

@@ -1,4 +1,5 @@
-//! Writes the output text: the log of a scheduler, the carriers at the end of a run, and the totals.
+//! Writes the output text: the log of a scheduler, the carriers at the end of a run, and the
+//! totals.
 #![tactic(auto)]
 
 mod carriers;

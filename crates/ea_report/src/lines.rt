@@ -32,7 +32,8 @@ fn put_word(text: &mut List<u8>, word: Word) -> Result<(), OutOfMemory>
 
 /// Adds the words, each after a space.
 pub fn put_words(text: &mut List<u8>, words: &[Word]) -> Result<(), OutOfMemory>
-    ensures { OnOk result (text.new.items ≡ text.old.items ++ flat_map (λ w. 32 ∷ w) (map word_text words.now)) }
+    ensures { OnOk result
+        (text.new.items ≡ text.old.items ++ flat_map (λ w. 32 ∷ w) (map word_text words.now)) }
 {
     for word in words {
         put_word(text, *word)?;
@@ -42,7 +43,8 @@ pub fn put_words(text: &mut List<u8>, words: &[Word]) -> Result<(), OutOfMemory>
 
 /// Adds a line.
 pub fn put_line(text: &mut List<u8>, first: &str, words: &[Word]) -> Result<(), OutOfMemory>
-    ensures { OnOk result (text.new.items ≡ text.old.items ++ line first.now (map word_text words.now)) }
+    ensures { OnOk result
+        (text.new.items ≡ text.old.items ++ line first.now (map word_text words.now)) }
 {
     put_text(text, first)?;
     put_words(text, words)?;

@@ -1,4 +1,3 @@
 pub mod InRange
 pub mod Pairs
-pub mod Printing
 pub mod Steps

@@ -2,13 +2,13 @@
 use Rattle.std.proofs.Common.{◌≡◌, ℕ, ◌+◌, ◌-◌, ◌<◌, ◌≤◌, List, [], ◌∷◌, length, get_or, take, drop, map, refl, ap, ◌∙◌, arith}
 use Rattle.std.proofs.lemmas.List.{take_all, length-drop}
 
--- the rest behind two words
+-- the rest after two words
 rest_of : {A : Type 0} (a b : A) (ws : List A) → take (length (a ∷ b ∷ ws) - 2) ws ≡ ws
 rest_of a b ws = take_all (length (a ∷ b ∷ ws) - 2) ws (omega arith)
 
 -- how many follow two words
-pub length_behind : {A : Type 0} (words : List A) → 2 ≤ length words → 2 + length (take (length words - 2) (drop 2 words)) ≡ length words
-length_behind words le = let rest = take_all (length words - 2) (drop 2 words) (omega (arith, length-drop 2 words)) in rw rest (omega (arith, length-drop 2 words))
+pub length_after : {A : Type 0} (words : List A) → 2 ≤ length words → 2 + length (take (length words - 2) (drop 2 words)) ≡ length words
+length_after words le = let rest = take_all (length words - 2) (drop 2 words) (omega (arith, length-drop 2 words)) in rw rest (omega (arith, length-drop 2 words))
 
 -- the first two words, and what follows them
 pub first_two : {A : Type 0} (f : A → List ℕ) (words : List A) (x y : A) (flag value : List ℕ) → 2 ≤ length words → x ≡ get_or words 0 x → y ≡ get_or words 1 y → flag ≡ f x → value ≡ f y

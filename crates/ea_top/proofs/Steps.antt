@@ -1,6 +1,7 @@
 -- What an operation does to the blocks of held names, and what the scheduler then shows.
 use Rattle.std.proofs.Common.{◌≡◌, ◌≢◌, ℕ, ◌+◌, ◌<◌, ◌≤◌, List, [], ◌∷◌, ◌++◌, length, get_or, set, drop, replicate, sym, ◌∙◌, ap, subst, refl, inl, inr, arith, get_or-set_same, get_or-set_other}
-use Rattle.std.specs.Prelude.{◌⊎◌, Option, Some, None, Ok, Err, IsSome, option_map, fold}
+use Rattle.std.specs.Prelude.{◌⊎◌, Option, Some, None, Ok, Err, IsSome, option_map}
+use Rattle.std.specs.Option.{option_and_then}
 use Rattle.std.proofs.lemmas.Bool.{cases_eq, cases_lt, cases_Bool}
 use Rattle.std.proofs.lemmas.List.{get_or-replicate, get_or_past, length-replicate, drop_more}
 use Rattle.std.proofs.lemmas.Grind.{common_steps}
@@ -14,22 +15,13 @@ use Rattle.ea_model.specs.declared.entries.NoCarrier.{NoCarrier}
 use Rattle.ea_model.specs.declared.entries.Entry.TheVariants as entry
 use Rattle.ea_model.specs.Content.{Content, is_empty_multi}
 use Rattle.ea_model.specs.Instance.{Instance, block_in, chosen_spot, place_at, main_carriers, plan, creating, releasing_at, content_of}
-use Rattle.ea_laws.specs.Run.{Run, Held, spot_held, without, step, allocating, with_block, with_carrier, in_new_carrier, tidied, freed_at, freeing}
-use Rattle.ea_model.proofs.Rising.{item_at-gone, item_at-stays}
+use Rattle.ea_laws.specs.Run.{Run, Held, spot_held, without, step, steps, allocating, with_block, with_carrier, in_new_carrier, tidied, freed_at, freeing}
 use Rattle.ea_laws.specs.Spots.{IsOther, IsPlaced, HaveSameBlocks}
+use Rattle.ea_laws.proofs.Held.{same_spot, spot_held-without, spot_held-without_other}
 use Rattle.ea_instance.specs.Answers.{placing_if}
-use Rattle.ea_top.specs.Holding.{HoldsBlocks, name_in}
-use Rattle.ea_top.specs.Running.{Shows, IsChosenPlace, spot_at}
+use Rattle.ea_top.specs.Holding.{HoldsBlocks, IsChosenPlace, name_in, spot_at}
+use Rattle.ea_top.specs.Running.{Reaches, Shows}
 use Rattle.ea_top.specs.declared.scheduler.Scheduler.{Scheduler}
-
-abbrev pair : ℕ → ℕ → Spot
-pair carrier offset = record { carrier = carrier; offset = offset }
-
-spot_of_parts : (a b m n : ℕ) → a ≡ b → m ≡ n → pair a m ≡ pair b n
-spot_of_parts a b m n e f = cc
-
-same_spot : (x y : Spot) → x.carrier ≡ y.carrier → x.offset ≡ y.offset → x ≡ y
-same_spot x y e f = spot_of_parts x.carrier y.carrier x.offset y.offset e f
 
 -- a spot is the place's, or another
 same_or_other : (p : Place) (at : Spot) → (at ≡ spot_at p) ⊎ IsOther p.carrier p.offset at
@@ -81,15 +73,6 @@ pub spot_held-set : (spots : List (Option Spot)) (held : List Held) (name n : �
 spot_held-set spots held name n spot within was =
     elim (cases_eq name n) [ inl same ↦ grind (arith, common_steps) | inr other ↦ grind (arith, common_steps) ]
 
-abbrev pub name_of : Held → ℕ
-name_of h = h.name
-
-pub spot_held-without_other : (held : List Held) (name n : ℕ) → n ≢ name → spot_held n (without name held) ≡ spot_held n held
-spot_held-without_other held name n other = ap (option_map (λ (h : Held). h.spot)) (item_at-stays name_of n name held other)
-
-pub spot_held-without : (held : List Held) (name : ℕ) → spot_held name (without name held) ≡ None
-spot_held-without held name = ap (option_map (λ (h : Held). h.spot)) (item_at-gone name_of name held)
-
 -- the held names with one less
 pub spot_held-unset : (spots : List (Option Spot)) (held : List Held) (name n : ℕ) → name < length spots → get_or spots n None ≡ spot_held n held
     → get_or (set spots name None) n None ≡ spot_held n (without name held)
@@ -108,8 +91,8 @@ get_or-replicate_none count n =
     ]
 
 -- one operation more
-pub run_more : (ops : List Op) (i : ℕ) (d : Op) (r : Run) → i < length ops → fold step r (drop i ops) ≡ fold step (step r (get_or ops i d)) (drop (i + 1) ops)
-run_more ops i d r h = ap (fold step r) (drop_more ops i d h)
+pub run_more : (ops : List Op) (i : ℕ) (d : Op) (r n : Run) → i < length ops → step r (get_or ops i d) ≡ Some n → steps r (drop i ops) ≡ steps n (drop (i + 1) ops)
+run_more ops i d r n h next = ap (steps r) (drop_more ops i d h) ∙ ap (option_and_then (λ m. steps m (drop (i + 1) ops))) next
 
 -- what an instance keeps when a block is released and its carrier perhaps deallocated
 tidied-keeps : (i : Instance) (number : ℕ) (o : Option Content) → ((tidied i number o).settings ≡ i.settings) × ((tidied i number o).created ≡ i.created)
@@ -143,30 +126,30 @@ module _ (r : Run) (self s : Scheduler) (need name : ℕ) (p : Place) (k : Shows
   }
 
   -- in a carrier that was there
-  pub shows_here : (n : ℕ) (new : Instance) → need ≡ n → IsChosenPlace self.instance new need name p → s.instance ≡ new → Shows (allocating r name n (chosen_spot r.instance n)) s
+  pub shows_here : (n : ℕ) (new : Instance) → need ≡ n → IsChosenPlace self.instance new need name p → s.instance ≡ new → Reaches (allocating r name n (chosen_spot r.instance n)) s
   shows_here n new e c is =
-      subst (λ m. Shows (allocating r name m (chosen_spot r.instance m)) s) e
-      (subst (λ o. Shows (allocating r name need o) s) (sym (ap (λ i. chosen_spot i need) (sym k.instance) ∙ c.1))
-      (subst (λ i. Shows (with_block r i name need c.0) s) k.instance (shown self.instance new c is)))
+      subst (λ m. Reaches (allocating r name m (chosen_spot r.instance m)) s) e
+      (subst (λ o. Reaches (allocating r name need o) s) (sym (ap (λ i. chosen_spot i need) (sym k.instance) ∙ c.1))
+      (subst (λ i. Reaches (Some (with_block r i name need c.0)) s) k.instance (_, refl, shown self.instance new c is)))
 
   -- in a new one
   pub shows_new : (n : ℕ) (new : Instance) (q : CarrierPlan) → need ≡ n → chosen_spot self.instance need ≡ None → plan self.instance need ≡ Ok q → IsChosenPlace (creating self.instance q) new need name p → s.instance ≡ new
-      → Shows (allocating r name n (chosen_spot r.instance n)) s
+      → Reaches (allocating r name n (chosen_spot r.instance n)) s
   shows_new n new q e none planned c is =
-      subst (λ m. Shows (allocating r name m (chosen_spot r.instance m)) s) e
-      (subst (λ o. Shows (allocating r name need o) s) (sym (ap (λ i. chosen_spot i need) (sym k.instance) ∙ none))
-      (subst (λ o. Shows (with_carrier r name need o) s) (sym (ap (λ i. plan i need) (sym k.instance) ∙ planned))
-      (subst (λ o. Shows (in_new_carrier r (creating r.instance q) name need o) s) (sym (ap (λ i. chosen_spot (creating i q) need) (sym k.instance) ∙ c.1))
-      (subst (λ i. Shows (with_block r (creating i q) name need c.0) s) k.instance (shown (creating self.instance q) new c is)))))
+      subst (λ m. Reaches (allocating r name m (chosen_spot r.instance m)) s) e
+      (subst (λ o. Reaches (allocating r name need o) s) (sym (ap (λ i. chosen_spot i need) (sym k.instance) ∙ none))
+      (subst (λ o. Reaches (with_carrier r name need o) s) (sym (ap (λ i. plan i need) (sym k.instance) ∙ planned))
+      (subst (λ o. Reaches (in_new_carrier r (creating r.instance q) name need o) s) (sym (ap (λ i. chosen_spot (creating i q) need) (sym k.instance) ∙ c.1))
+      (subst (λ i. Reaches (Some (with_block r (creating i q) name need c.0)) s) k.instance (_, refl, shown (creating self.instance q) new c is)))))
 
 -- and where there is no carrier for it
 pub shows_failed : (r : Run) (self s : Scheduler) (need n name : ℕ) (why : NoCarrier) → Shows r self → need ≡ n → chosen_spot self.instance need ≡ None → plan self.instance need ≡ Err why → s.instance ≡ self.instance → s.spots.items ≡ self.spots.items
-    → s.log.items ≡ self.log.items ++ entry.AllocFail name need 0 why ∷ [] → Shows (allocating r name n (chosen_spot r.instance n)) s
+    → s.log.items ≡ self.log.items ++ entry.AllocFail name need 0 why ∷ [] → Reaches (allocating r name n (chosen_spot r.instance n)) s
 shows_failed r self s need n name why k e none planned same spots log =
-    subst (λ m. Shows (allocating r name m (chosen_spot r.instance m)) s) e
-    (subst (λ o. Shows (allocating r name need o) s) (sym (ap (λ i. chosen_spot i need) (sym k.instance) ∙ none))
-    (subst (λ o. Shows (with_carrier r name need o) s) (sym (ap (λ i. plan i need) (sym k.instance) ∙ planned))
-    (record {
+    subst (λ m. Reaches (allocating r name m (chosen_spot r.instance m)) s) e
+    (subst (λ o. Reaches (allocating r name need o) s) (sym (ap (λ i. chosen_spot i need) (sym k.instance) ∙ none))
+    (subst (λ o. Reaches (with_carrier r name need o) s) (sym (ap (λ i. plan i need) (sym k.instance) ∙ planned))
+    (_, refl, record {
       instance = same ∙ k.instance;
       held = λ m h. ap (λ xs. get_or xs m None) spots ∙ k.held m h;
       log = log ∙ ap (λ l. l ++ entry.AllocFail name need 0 why ∷ []) k.log;

@@ -1,20 +1,35 @@
 -- What the program answers, by its words and its input.
-use Rattle.std.specs.Prelude.{ℕ, ◌<◌, Bool, List, [], length, nat_lt, unwrap_or, IsSome, IsOk}
+use Rattle.std.specs.Prelude.{◌≡◌, ℕ, ◌≤◌, List, [], Option, IfSome, IsSome, IsOk, length, map, unwrap_or, string_bytes}
+use Rattle.std.specs.Io.KnownBytes.{Appends}
+use Rattle.std.specs.declared.string.String.{String}
+use Rattle.ea_io.specs.Fronts.{AppendsFront}
+use Rattle.ea_model.specs.declared.units.TheConstants.{MAX_INPUT}
 use Rattle.ea_model.specs.Flags.{flags}
 use Rattle.ea_top.specs.Output.{output_for}
 
--- the words are flags that are built
-abbrev pub GoodWords : List (List ℕ) → Type 0
-GoodWords words = IsOk (flags words)
+module _ {Z : Type 0} where
+  -- what the words spell
+  abbrev pub spelled : List (String Z) → List (List ℕ)
+  spelled words = map string_bytes words
 
--- the input has more than 2 ^ 24 bytes
-abbrev pub is_too_long : List ℕ → Bool
-is_too_long input = nat_lt 16777216 (length input)
+  -- the words are flags that are built
+  abbrev pub GoodWords : List (String Z) → Type 0
+  GoodWords words = IsOk (flags (spelled words))
 
--- the input has at most 2 ^ 24 bytes and, under these words, an output
-abbrev pub GoodInput : List (List ℕ) → List ℕ → Type 0
-GoodInput words input = (length input < 16777217) × IsSome (output_for words input)
+  -- the input has MAX_INPUT bytes at most and, under these words, an output
+  abbrev pub GoodInput : List (String Z) → List ℕ → Type 0
+  GoodInput words input = (length input ≤ MAX_INPUT) × IsSome (output_for (spelled words) input)
 
--- the output of a good input
-abbrev pub output_of : List (List ℕ) → List ℕ → List ℕ
-output_of words input = unwrap_or (output_for words input) []
+  -- the output of a good input
+  abbrev pub output_of : List (String Z) → List ℕ → List ℕ
+  output_of words input = unwrap_or (output_for (spelled words) input) []
+
+  -- there is a good input, which is the source's own where it tells its bytes, and its whole output was taken
+  abbrev pub WroteText : List (String Z) → Option (List ℕ) → Option (List ℕ) → Option (List ℕ) → Type 0
+  WroteText words left before after =
+      (input : List ℕ) × IfSome left (λ known. input ≡ known) × GoodInput words input × Appends before after (output_of words input)
+
+  -- or a front of it
+  abbrev pub WroteFront : List (String Z) → Option (List ℕ) → Option (List ℕ) → Option (List ℕ) → Type 0
+  WroteFront words left before after =
+      (input : List ℕ) × IfSome left (λ known. input ≡ known) × GoodInput words input × AppendsFront before after (output_of words input)

@@ -1,9 +1,10 @@
--- The blocks of held names.
+-- The blocks of held names, and where a block got its place.
 use Rattle.std.specs.Prelude.{ℕ, ◌≡◌, List, Option, None, Some, get_or}
 use Rattle.std.specs.Option.{option_map}
 use Rattle.ea_model.specs.declared.carriers.Spot.{Spot}
 use Rattle.ea_model.specs.Content.{Content}
-use Rattle.ea_model.specs.Instance.{block_in}
+use Rattle.ea_model.specs.declared.carriers.Place.{Place}
+use Rattle.ea_model.specs.Instance.{Instance, block_in, chosen_spot, place_at, placing_at}
 
 -- the name of the block at the spot, if one begins there
 abbrev pub name_in : List Content → Spot → Option ℕ
@@ -12,3 +13,11 @@ name_in contents spot = option_map (λ b. b.name) (block_in contents spot)
 -- where a name has a spot, its block begins there
 abbrev pub HoldsBlocks : List Content → List (Option Spot) → Type 0
 HoldsBlocks contents spots = (name : ℕ) (spot : Spot) → get_or spots name None ≡ Some spot → name_in contents spot ≡ Some name
+
+-- the spot of a place
+abbrev pub spot_at : Place → Spot
+spot_at p = record { carrier = p.carrier; offset = p.offset }
+
+-- a block got its place at the chosen spot of the instance
+abbrev pub IsChosenPlace : Instance → Instance → ℕ → ℕ → Place → Type 0
+IsChosenPlace old new need name p = (spot : Spot) × (chosen_spot old need ≡ Some spot) × (p ≡ place_at old spot need) × (new ≡ placing_at old spot need name)

@@ -5,6 +5,6 @@ pub mod Running
 pub mod Flags
 pub mod Output
 pub mod Answers
-pub mod Lines
+pub mod Faults
 pub mod Whys
 pub mod Throughout

@@ -1,5 +1,6 @@
 -- What a reader knows and answers.
-use Rattle.std.specs.Prelude.{ℕ, ◌≡◌, ◌<◌, Bool, false, List, Option, None, Some, Result, Ok, Err, get_or}
+use Rattle.std.specs.Prelude.{ℕ, ◌≡◌, ◌≤◌, Bool, false, List, Option, None, Some, Result, Ok, Err, get_or}
+use Rattle.ea_model.specs.declared.units.TheConstants.{MAX_NAME}
 use Rattle.ea_model.specs.Lists.{Items}
 use Rattle.ea_model.specs.Lines.{Line}
 use Rattle.ea_model.specs.Trace.{stage_after, is_made, operations}
@@ -16,7 +17,7 @@ Lines = List Line
 -- what is known of them
 pub record Knows (earlier : Lines) (s : Seen) : Type 0 where
   pub stage : stage_of s.stage ≡ stage_after earlier
-  pub names : (n : ℕ) → n < 262145 → get_or s.made.items n false ≡ is_made n earlier
+  pub names : (n : ℕ) → n ≤ MAX_NAME → get_or s.made.items n false ≡ is_made n earlier
   pub ops : s.ops.items ≡ operations earlier
 
 -- a line is refused where it may not follow; want of memory says nothing of it

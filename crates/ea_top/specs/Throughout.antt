@@ -1,11 +1,13 @@
 -- What holds at every moment of every run under given words.
 use Rattle.std.specs.Prelude.{◌≡◌, ℕ, List, Some, Ok}
+use Rattle.std.specs.declared.string.String.{String}
 use Rattle.ea_model.specs.declared.operations.Op.{Op}
 use Rattle.ea_model.specs.declared.settings.Config.{Config}
 use Rattle.ea_model.specs.Flags.{flags}
 use Rattle.ea_model.specs.Instance.{instance_of}
 use Rattle.ea_laws.specs.Run.{Run, run}
+use Rattle.ea_top.specs.Answers.{spelled}
 
 -- under these words it holds after any operations that are built, so after each front of any list of them
-abbrev pub Throughout : (List Op → Run → Type 0) → List (List ℕ) → Type 0
-Throughout P words = (config : Config) → flags words ≡ Ok config → (ops : List Op) (r : Run) → run (instance_of config) ops ≡ Some r → P ops r
+abbrev pub Throughout : {Z : Type 0} → (List Op → Run → Type 0) → List (String Z) → Type 0
+Throughout P words = (config : Config) → flags (spelled words) ≡ Ok config → (ops : List Op) (r : Run) → run (instance_of config) ops ≡ Some r → P ops r

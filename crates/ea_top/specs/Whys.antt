@@ -1,31 +1,37 @@
--- What each fault says of the words, the input and the counts of faults.
-use Rattle.std.specs.Prelude.{◌≡◌, ℕ, ◌<◌, Option, None, IfSome, Err, List, length}
+-- What each fault says of the words, the input and the ends.
+use Rattle.std.specs.Prelude.{◌≡◌, ℕ, ◌+◌, ◌<◌, ◌≤◌, Option, None, IfSome, Err, List, length}
+use Rattle.std.specs.Io.KnownBytes.{IsAtEnd}
+use Rattle.std.specs.declared.string.String.{String}
+use Rattle.ea_io.specs.Fronts.{ConsumesAtMost, ConsumesMany}
 use Rattle.ea_model.specs.declared.settings.Config.{Config}
+use Rattle.ea_model.specs.declared.units.TheConstants.{MAX_INPUT}
 use Rattle.ea_model.specs.Flags.{Unsupported, TooSmall, flags}
 use Rattle.ea_top.specs.Output.{output, output_for}
 use Rattle.ea_top.specs.declared.faults.Fault.{Fault}
 use Rattle.ea_top.specs.declared.faults.Fault.TheVariants.{Word, SpaceTooSmall, Input, TooLong, ReadFailed, WriteFailed, OutOfMemory}
-use Rattle.ea_top.specs.Answers.{GoodWords, GoodInput}
+use Rattle.ea_top.specs.Answers.{GoodWords, GoodInput, spelled}
 
--- read and wrote say that the count of the source, and that of out, rose; left is what the source had, where it tells it
-abbrev pub IsWhy : List (List ℕ) → Option (List ℕ) → Type 0 → Type 0 → Fault → Type 0
-IsWhy words left read wrote (Word word) = flags words ≡ Err (Unsupported word)
-IsWhy words left read wrote SpaceTooSmall = flags words ≡ Err TooSmall
-IsWhy words left read wrote Input = GoodWords words × IfSome left (λ input. (length input < 16777217) × (output_for words input ≡ None))
-IsWhy words left read wrote TooLong = GoodWords words × IfSome left (λ input. 16777216 < length input)
-IsWhy words left read wrote ReadFailed = GoodWords words × read
-IsWhy words left read wrote WriteFailed = GoodWords words × IfSome left (GoodInput words) × wrote
-IsWhy words left read wrote OutOfMemory = GoodWords words
+-- before and after are what the source had and has left, where it tells it; read and wrote say that the source, and that out, failed
+abbrev pub IsWhy : {Z : Type 0} → List (String Z) → Option (List ℕ) → Option (List ℕ) → Type 0 → Type 0 → Fault → Type 0
+IsWhy words before after read wrote (Word word) = flags (spelled words) ≡ Err (Unsupported word)
+IsWhy words before after read wrote SpaceTooSmall = flags (spelled words) ≡ Err TooSmall
+IsWhy words before after read wrote Input =
+    GoodWords words × IsAtEnd after × IfSome before (λ input. (length input ≤ MAX_INPUT) × (output_for (spelled words) input ≡ None))
+IsWhy words before after read wrote TooLong =
+    GoodWords words × ConsumesMany before after (MAX_INPUT + 1) × IfSome before (λ input. MAX_INPUT < length input)
+IsWhy words before after read wrote ReadFailed = GoodWords words × ConsumesAtMost before after MAX_INPUT × read
+IsWhy words before after read wrote WriteFailed = GoodWords words × IsAtEnd after × IfSome before (GoodInput words) × wrote
+IsWhy words before after read wrote OutOfMemory = GoodWords words
 
 -- what may be said where the input was not read to its end
-abbrev pub IsReadFault : Option (List ℕ) → Type 0 → Fault → Type 0
-IsReadFault left read (Word word) = ⊥
-IsReadFault left read SpaceTooSmall = ⊥
-IsReadFault left read Input = ⊥
-IsReadFault left read TooLong = IfSome left (λ input. 16777216 < length input)
-IsReadFault left read ReadFailed = read
-IsReadFault left read WriteFailed = ⊥
-IsReadFault left read OutOfMemory = Unit {0}
+abbrev pub IsReadFault : Option (List ℕ) → Option (List ℕ) → Type 0 → Fault → Type 0
+IsReadFault before after read (Word word) = ⊥
+IsReadFault before after read SpaceTooSmall = ⊥
+IsReadFault before after read Input = ⊥
+IsReadFault before after read TooLong = ConsumesMany before after (MAX_INPUT + 1) × IfSome before (λ input. MAX_INPUT < length input)
+IsReadFault before after read ReadFailed = ConsumesAtMost before after MAX_INPUT × read
+IsReadFault before after read WriteFailed = ⊥
+IsReadFault before after read OutOfMemory = Unit {0}
 
 -- what may be said where an input gave no text under a configuration
 abbrev pub IsTextFault : Config → List ℕ → Fault → Type 0

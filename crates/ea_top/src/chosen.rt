@@ -1,7 +1,8 @@
 //! What the flags set.
-ghost use Rattle.std.specs.Prelude.{◌≤◌};
+ghost use Rattle.std.specs.Prelude.{◌≡◌, ◌≤◌};
+ghost use Rattle.ea_model.specs.Flags.{defaults, set_by, config_of};
 
-use ea_model::Strategy;
+use ea_model::{Config, Settings, Strategy};
 
 /// A flag with its value.
 #[derive(Debug, Clone, Copy, PartialEq, Eq)]
@@ -39,4 +40,87 @@ pub struct Chosen {
     ghost main_range: { main_carrier ≤ 524288 },
     ghost largest_range: { (1 ≤ largest_carrier) × (largest_carrier ≤ 524288) },
     ghost depth_range: { (1 ≤ search_depth) × (search_depth ≤ 1000) },
+}
+
+/// The units of a kilobyte.
+const KILOBYTE_UNITS: u32 = 128;
+
+/// The settings of an allocator, where no flag says otherwise.
+const DEFAULT_SETTINGS: Settings = Settings {
+    strategy: Strategy::AoffCbf,
+    acul: 60,
+    acfml: 0,
+    sbct: 65536,
+    smbcs: 32768,
+    lmbcs: 655_360,
+    mbcgs: 10,
+    mmbcs: 0,
+    mbsd: 3,
+    rsbcmt: 80,
+    rmbcmt: 50,
+    rsbcst: 20,
+    asbcst: 131_072,
+    ramv: false,
+};
+
+impl Chosen {
+    ghost use Rattle.ea_top.specs.Flags.{setting_of, chosen_of, IsInRange};
+
+    /// Where no flag says otherwise: a super carrier of 64 megabytes, no main carrier, carriers of at most
+    /// 5120 kilobytes, and best fit inside the carrier at the lowest address.
+    pub fn new() -> Chosen
+        ensures { chosen_of result ≡ defaults }
+    {
+        Chosen {
+            super_carrier: 64,
+            main_carrier: 0,
+            largest_carrier: 5120,
+            search_depth: DEFAULT_SETTINGS.mbsd,
+            strategy: DEFAULT_SETTINGS.strategy,
+            off: false,
+        }
+    }
+
+    /// Sets what a flag and its value say; the later of two settings of one flag holds.
+    pub fn set(&mut self, setting: Setting)
+        requires { IsInRange (setting_of setting) }
+        ensures { chosen_of self.new ≡ set_by (chosen_of self.old) (setting_of setting) }
+    {
+        match setting {
+            Setting::SuperCarrier(megabytes) => self.super_carrier = megabytes,
+            Setting::MainCarrier(kilobytes) => self.main_carrier = kilobytes,
+            Setting::LargestCarrier(kilobytes) => self.largest_carrier = kilobytes,
+            Setting::SearchDepth(gaps) => self.search_depth = gaps,
+            Setting::Placement(strategy) => self.strategy = strategy,
+            Setting::NoMigration => self.off = true,
+        }
+    }
+
+    /// The configuration, for one scheduler.
+    pub fn config(self) -> Config
+        ensures { result ≡ config_of (chosen_of self) }
+    {
+        Config {
+            schedulers: 1,
+            scs: self.super_carrier,
+            b: DEFAULT_SETTINGS,
+            d: DEFAULT_SETTINGS,
+            e: DEFAULT_SETTINGS,
+            h: Settings {
+                strategy: self.strategy,
+                acul: 0,
+                lmbcs: KILOBYTE_UNITS * self.largest_carrier,
+                mmbcs: KILOBYTE_UNITS * self.main_carrier,
+                mbsd: self.search_depth,
+                ..DEFAULT_SETTINGS
+            },
+            l: DEFAULT_SETTINGS,
+            r: DEFAULT_SETTINGS,
+            s: DEFAULT_SETTINGS,
+            t: Settings {
+                acul: 0,
+                ..DEFAULT_SETTINGS
+            },
+        }
+    }
 }

@@ -1,12 +1,16 @@
 //! Why a run has no text, with its status and its line.
-ghost use Rattle.std.specs.Prelude.{◌≡◌, OnOk, OnErr};
+ghost use Rattle.std.specs.Prelude.{◌≡◌, ◌⊎◌, OnOk, OnErr};
 ghost use Rattle.std.specs.Io.KnownBytes.{Appends};
-ghost use Rattle.ea_io.specs.Counts.{Rose, Calm};
+ghost use Rattle.ea_io.specs.Calls.{StopsAtFault};
+ghost use Rattle.ea_io.specs.Counts.{Calm};
 ghost use Rattle.ea_io.specs.Fronts.{AppendsFront};
-ghost use Rattle.ea_top.specs.Lines.{fault_of, status_of, line_with, line_of};
+ghost use Rattle.ea_top.specs.Faults.{fault_of_words, fault_of_trace, status_of, line_with, fault_line, Complains};
+ghost use Rattle.ea_top.specs.declared.faults.Fault.TheVariants as fault;
 
 use crate::flags::Refusal;
+use crate::reader::TraceFault;
 use ea_io::{Failed, Sink, write_texts};
+use ea_model::OutOfMemory;
 use itoa::Buffer;
 
 /// Why a run has no text.
@@ -29,13 +33,32 @@ pub enum Fault {
 }
 
 impl From<Refusal> for Fault {
-    ghost from_gives = { λ refusal fault. fault ≡ fault_of refusal };
+    ghost from_gives = { λ refusal fault. fault ≡ fault_of_words refusal };
 
     fn from(refusal: Refusal) -> Fault {
         match refusal {
             Refusal::Unsupported { word } => Fault::Word { word },
             Refusal::TooSmall => Fault::SpaceTooSmall,
         }
+    }
+}
+
+impl From<TraceFault> for Fault {
+    ghost from_gives = { λ refusal fault. fault ≡ fault_of_trace refusal };
+
+    fn from(refusal: TraceFault) -> Fault {
+        match refusal {
+            TraceFault::NotBuilt => Fault::Input,
+            TraceFault::OutOfMemory => Fault::OutOfMemory,
+        }
+    }
+}
+
+impl From<OutOfMemory> for Fault {
+    ghost from_gives = { λ _ f. f ≡ fault.OutOfMemory };
+
+    fn from(_: OutOfMemory) -> Fault {
+        Fault::OutOfMemory
     }
 }
 
@@ -54,19 +77,19 @@ impl Fault {
     }
 }
 
-/// Writes the line that says this.
+/// Writes the line with this text.
 fn write_said<E: Sink>(err: &mut E, said: &str) -> Result<(), Failed>
     ensures whole { OnOk result (Appends (E.taken err.old) (E.taken err.new) (line_with said.now)) }
     ensures front { AppendsFront (E.taken err.old) (E.taken err.new) (line_with said.now) }
-    ensures cause { OnErr result (Rose (E.faults err.old) (E.faults err.new)) }
+    ensures stops { OnErr result (StopsAtFault E.taken E.faults err.old err.new) }
 {
     write_texts(err, &["erts_alloc_run: ", said, "\n"])
 }
 
 fn write_line<E: Sink>(err: &mut E, fault: Fault) -> Result<(), Failed>
-    ensures whole { OnOk result (Appends (E.taken err.old) (E.taken err.new) (line_of fault)) }
-    ensures front { AppendsFront (E.taken err.old) (E.taken err.new) (line_of fault) }
-    ensures cause { OnErr result (Rose (E.faults err.old) (E.faults err.new)) }
+    ensures whole { OnOk result (Appends (E.taken err.old) (E.taken err.new) (fault_line fault)) }
+    ensures front { AppendsFront (E.taken err.old) (E.taken err.new) (fault_line fault) }
+    ensures stops { OnErr result (StopsAtFault E.taken E.faults err.old err.new) }
 {
     match fault {
         Fault::Word { word } => {
@@ -83,10 +106,10 @@ fn write_line<E: Sink>(err: &mut E, fault: Fault) -> Result<(), Failed>
     }
 }
 
-/// Writes the line of a fault. After the first fault of `err` nothing more is written.
+/// Writes the line of a fault. After a fault of `err` nothing more is written.
 pub fn complain<E: Sink>(err: &mut E, fault: Fault)
-    ensures front { AppendsFront (E.taken err.old) (E.taken err.new) (line_of fault) }
-    ensures whole { Calm (E.faults err.old) (E.faults err.new) → Appends (E.taken err.old) (E.taken err.new) (line_of fault) }
+    ensures line { Complains (E.taken err.old) (E.taken err.new) (Calm (E.faults err.old) (E.faults err.new)) fault }
+    ensures stops { (E.faults err.new ≡ E.faults err.old) ⊎ StopsAtFault E.taken E.faults err.old err.new }
 {
     let _ = write_line(err, fault);
 }

@@ -3,11 +3,12 @@ ghost use Rattle.std.specs.Prelude.{◌≡◌, ◌+◌, ◌<◌, ◌≤◌, ◌^
 ghost use Rattle.ea_model.specs.Instance.{pages_for};
 ghost use Rattle.ea_model.specs.Flags.{Chosen as Choice, defaults, set_by, config_of, at_last, pairs_from, flags};
 ghost use Rattle.ea_model.specs.Settings.{region_pages};
+ghost use Rattle.ea_model.specs.declared.units.TheConstants.{MAX_UNITS};
 ghost use Rattle.ea_top.specs.Flags.{setting_of, chosen_of, refusal_of, IsInRange, IsBuilt, Chooses, Reads};
 
 use crate::chosen::{Chosen, Setting};
 use ea_model::words::number;
-use ea_model::{Config, PAGE_UNITS, Settings, Strategy};
+use ea_model::{Config, PAGE_UNITS, Strategy};
 
 /// Why words are refused.
 #[derive(Debug, Clone, Copy, PartialEq, Eq)]
@@ -26,87 +27,6 @@ const MAX_MAIN_KILOBYTES: u32 = 524_288;
 const MAX_LARGEST_KILOBYTES: u32 = 524_288;
 /// The most gaps of a bin that good fit inspects.
 const MAX_SEARCH_DEPTH: u32 = 1000;
-
-/// The units of a kilobyte.
-const KILOBYTE_UNITS: u32 = 128;
-
-/// The settings of an allocator, where no flag says otherwise.
-const DEFAULT_SETTINGS: Settings = Settings {
-    strategy: Strategy::AoffCbf,
-    acul: 60,
-    acfml: 0,
-    sbct: 65536,
-    smbcs: 32768,
-    lmbcs: 655_360,
-    mbcgs: 10,
-    mmbcs: 0,
-    mbsd: 3,
-    rsbcmt: 80,
-    rmbcmt: 50,
-    rsbcst: 20,
-    asbcst: 131_072,
-    ramv: false,
-};
-
-impl Chosen {
-    /// Where no flag says otherwise: a super carrier of 64 megabytes, no main carrier, carriers of at most
-    /// 5120 kilobytes, and best fit inside the carrier at the lowest address.
-    pub fn new() -> Chosen
-        ensures { chosen_of result ≡ defaults }
-    {
-        Chosen {
-            super_carrier: 64,
-            main_carrier: 0,
-            largest_carrier: 5120,
-            search_depth: DEFAULT_SETTINGS.mbsd,
-            strategy: DEFAULT_SETTINGS.strategy,
-            off: false,
-        }
-    }
-
-    /// Sets what a flag and its value say; the later of two settings of one flag holds.
-    pub fn set(&mut self, setting: Setting)
-        requires { IsInRange (setting_of setting) }
-        ensures { chosen_of self.new ≡ set_by (chosen_of self.old) (setting_of setting) }
-    {
-        match setting {
-            Setting::SuperCarrier(megabytes) => self.super_carrier = megabytes,
-            Setting::MainCarrier(kilobytes) => self.main_carrier = kilobytes,
-            Setting::LargestCarrier(kilobytes) => self.largest_carrier = kilobytes,
-            Setting::SearchDepth(gaps) => self.search_depth = gaps,
-            Setting::Placement(strategy) => self.strategy = strategy,
-            Setting::NoMigration => self.off = true,
-        }
-    }
-
-    /// The configuration, for one scheduler.
-    pub fn config(self) -> Config
-        ensures { result ≡ config_of (chosen_of self) }
-    {
-        Config {
-            schedulers: 1,
-            scs: self.super_carrier,
-            b: DEFAULT_SETTINGS,
-            d: DEFAULT_SETTINGS,
-            e: DEFAULT_SETTINGS,
-            h: Settings {
-                strategy: self.strategy,
-                acul: 0,
-                lmbcs: KILOBYTE_UNITS * self.largest_carrier,
-                mmbcs: KILOBYTE_UNITS * self.main_carrier,
-                mbsd: self.search_depth,
-                ..DEFAULT_SETTINGS
-            },
-            l: DEFAULT_SETTINGS,
-            r: DEFAULT_SETTINGS,
-            s: DEFAULT_SETTINGS,
-            t: Settings {
-                acul: 0,
-                ..DEFAULT_SETTINGS
-            },
-        }
-    }
-}
 
 /// Whether a word is a flag that is built.
 fn is_flag(word: &[u8]) -> bool
@@ -171,7 +91,7 @@ fn setting(flag: &[u8], value: &[u8]) -> Option<Setting>
     }
 }
 
-/// What a flag and its value set, behind so many words.
+/// What a flag and its value set, after that many words.
 fn read_pair(before: u64, flag: &[u8], value: &[u8]) -> Result<Setting, Refusal>
     requires { before < 2 ^ 32 }
     ensures ok { IfOk result (λ s. (c : Choice) (words : List (List ℕ)) → pairs_from before c (flag.now ∷ value.now ∷ words) ≡ pairs_from (before + 2) (set_by c (setting_of s)) words) }
@@ -199,7 +119,7 @@ fn last_refusal(before: u64, word: &[u8]) -> Refusal
     }
 }
 
-/// What has been set, behind so many words and at their end: migration has to be off.
+/// What has been set, after that many words and at their end: migration has to be off.
 fn at_end(before: u64, chosen: Chosen) -> Result<Chosen, Refusal>
     requires { before < 2 ^ 32 }
     ensures { Chooses result (at_last before (chosen_of chosen)) }
@@ -234,7 +154,7 @@ fn read_pairs(words: &[String]) -> Result<Chosen, Refusal>
 fn fitting_config(config: Config) -> Result<Config, Refusal>
     requires schedulers { config.schedulers ≡ 1 }
     requires region { config.scs ≤ 512 }
-    requires main { config.h.mmbcs ≤ 67108864 }
+    requires main { config.h.mmbcs ≤ MAX_UNITS }
     ensures read { Reads result (Rattle.ea_model.specs.Flags.fitting_config config) }
     ensures same { IfOk result (λ c. c ≡ config) }
     ensures fits { IfOk result (λ c. pages_for c.h.mmbcs ≤ region_pages c) }

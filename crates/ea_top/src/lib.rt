@@ -5,7 +5,6 @@ mod chosen;
 mod faults;
 mod flags;
 mod lines;
-mod outcome;
 mod reader;
 mod scheduler;
 mod seen;

@@ -3,10 +3,11 @@ ghost use Rattle.std.specs.Prelude.{◌≡◌, ◌≤◌, ◌∷◌, [], length,
 ghost use Rattle.std.specs.Option.{option_map, unwrap_or};
 ghost use Rattle.ea_model.specs.Words.{words};
 ghost use Rattle.ea_model.specs.Lines.{line_of, command, letter_line, alloc_words, free_line, scheduler_line, one_number, bare_line, is_nil, only_word, both_words};
+ghost use Rattle.ea_model.specs.declared.units.TheConstants.{MAX_NAME};
 ghost use Rattle.ea_top.specs.Says.{said, IsNamed};
 ghost use Rattle.ea_top.specs.declared.lines.Line.TheVariants.{Unreadable};
 
-use ea_model::MAX_NAME;
+use ea_model::{MAX_BYTES, MAX_NAME};
 use ea_model::words::{first_word, number};
 
 /// What one line says.
@@ -26,9 +27,6 @@ pub enum Line {
     /// No line of the language.
     Unreadable,
 }
-
-/// The most bytes of a request: 512 kilobytes less the block's header.
-const MAX_BYTES: u32 = 524_280;
 
 /// Whether no word is left.
 fn is_blank(rest: &[u8]) -> bool
@@ -82,7 +80,7 @@ fn alloc(rest: &[u8]) -> Option<Line>
 }
 
 fn free(rest: &[u8]) -> Option<Line>
-    ensures { said (unwrap_or result Unreadable) ≡ one_number free_line 1 262144 (words rest.now) }
+    ensures { said (unwrap_or result Unreadable) ≡ one_number free_line 1 MAX_NAME (words rest.now) }
 {
     let name = one_word(rest)?;
     Some(Line::Free {
@@ -97,7 +95,7 @@ fn bare(line: Line, rest: &[u8]) -> Option<Line>
     if is_blank(rest) { Some(line) } else { None }
 }
 
-/// The line that a keyword and the words behind it make.
+/// The line that a keyword and the words after it make.
 fn command(keyword: &[u8], rest: &[u8]) -> Option<Line>
     ensures { said (unwrap_or result Unreadable) ≡ command keyword.now (words rest.now) }
 {

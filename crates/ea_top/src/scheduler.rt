@@ -1,9 +1,24 @@
 //! The scheduler of a run: its instance, the names that it holds, and its log.
-ghost use Rattle.std.specs.Prelude.{◌≡◌, ◌+◌, ◌≤◌, length};
-ghost use Rattle.ea_top.specs.Holding.{HoldsBlocks};
+ghost use Rattle.std.specs.Prelude.{◌≡◌, ◌≢◌, ℕ, ◌+◌, ◌<◌, ◌≤◌, ◌%◌, ◌*◌, ◌^◌, ◌++◌, ◌∷◌, [], Some, Ok, IfOk, OnOk, IsSome, length, set};
+ghost use Rattle.ea_model.specs.declared.operations.Op.TheVariants.{Alloc, Free};
+ghost use Rattle.ea_model.specs.declared.entries.Entry.TheVariants as entry;
+ghost use Rattle.ea_model.specs.declared.carriers.Spot.{Spot};
+ghost use Rattle.ea_model.specs.declared.units.TheConstants.{MAX_BYTES, MAX_NAME};
+ghost use Rattle.ea_model.specs.Trace.{InRange};
+ghost use Rattle.ea_model.specs.Instance.{creating, block_in, instance_of, totals};
+ghost use Rattle.ea_model.specs.Instance as instances;
+ghost use Rattle.ea_laws.specs.Run.{Run, IsBuiltOp, start, step, freed_at};
+ghost use Rattle.ea_laws.specs.Spots.{IsOther, IsPlaced};
+ghost use Rattle.ea_top.specs.Flags.{IsBuilt};
+ghost use Rattle.ea_top.specs.Holding.{HoldsBlocks, IsChosenPlace, spot_at};
 
-use ea_instance::Instance;
-use ea_model::{Entry, List, Spot};
+use ea_instance::{Instance, Released};
+use ea_model::{
+    CarrierPlan, Config, Entry, HEADER_UNITS, Letter, List, MAX_NAME, Op, OutOfMemory, Place, Spot,
+    Totals, need,
+};
+use ea_report::print;
+use std::alloc::Global;
 
 /// What a scheduler has.
 #[derive(Drop)]
@@ -12,8 +27,202 @@ pub struct Scheduler {
     /// Where each held name's block begins, by name.
     pub spots: Vec<Option<Spot>>,
     pub log: List<Entry>,
-    ghost names: { length spots.items ≡ 262145 },
+    ghost names: { length spots.items ≡ MAX_NAME + 1 },
     ghost blocks: { HoldsBlocks instance.contents spots.items },
     ghost threshold: { 65536 ≤ instance.settings.sbct },
     ghost created: { instance.created ≤ length log.items + 1 },
+}
+
+/// Creates the carrier of the plan, and places a block in it.
+fn place_in_new(
+    instance: &mut Instance,
+    alloc: Global,
+    plan: CarrierPlan,
+    need: u32,
+    name: u32,
+) -> Result<Place, OutOfMemory>
+    requires even { need % 2 ≡ 0 }
+    requires least { 6 ≤ need }
+    requires plan { instances.plan instance.old need ≡ Ok plan }
+    requires pages { (1 ≤ plan.pages) × (512 * plan.pages < 2 ^ 32) }
+    ensures ok { IfOk result (IsChosenPlace (creating instance.old plan) instance.new need name) }
+    ensures blocks { IfOk result (IsPlaced instance.old.contents instance.new.contents name) }
+{
+    let carrier = instance.prepare(alloc, plan)?;
+    instance.create(plan, need, carrier)?;
+    match instance.try_alloc(need, name)? {
+        Some(place) => Ok(place),
+        None => unreachable!(),
+    }
+}
+
+/// Frees the block at the spot; a multiblock carrier that it leaves without blocks is deallocated.
+fn free_at(instance: &mut Instance, spot: Spot) -> Result<(), OutOfMemory>
+    requires { IsSome (block_in instance.old.contents spot) }
+    ensures ok { OnOk result (instance.new ≡ freed_at instance.old spot) }
+    ensures others { OnOk result ((at : Spot) → IsOther spot.carrier spot.offset at → block_in instance.new.contents at ≡ block_in instance.old.contents at) }
+{
+    let released = instance.release(spot)?;
+    if released == Released::EmptyOwn {
+        instance.clear(spot.carrier);
+    }
+    Ok(())
+}
+
+/// The scheduler that holds one name more, and says so.
+fn hold(
+    instance: Instance,
+    mut spots: Vec<Option<Spot>>,
+    mut log: List<Entry>,
+    name: u32,
+    place: Place,
+) -> Result<Scheduler, OutOfMemory>
+    requires names { length spots.items ≡ MAX_NAME + 1 }
+    requires name { name ≤ MAX_NAME }
+    requires blocks { HoldsBlocks instance.contents (set spots.items name (Some (spot_at place))) }
+    requires threshold { 65536 ≤ instance.settings.sbct }
+    requires created { instance.created ≤ length log.items + 2 }
+    ensures { IfOk result (λ s. (s.instance ≡ instance) × (s.spots.items ≡ set spots.items name (Some (spot_at place))) × (s.log.items ≡ log.items ++ entry.Alloc name place ∷ [])) }
+{
+    spots[name as usize] = Some(Spot {
+        carrier: place.carrier,
+        offset: place.offset,
+    });
+    log.push(Entry::Alloc { name, place })?;
+    Ok(Scheduler {
+        instance,
+        spots,
+        log,
+    })
+}
+
+/// The totals of the carriers of an instance whose blocks are all held.
+fn totals_of(instance: &Instance) -> Totals
+    ensures { result ≡ totals instance.now.contents }
+{
+    let figures = instance.multi_figures();
+    Totals {
+        carriers: figures.carriers as u32,
+        units: figures.carriers_size,
+        live: figures.blocks_size,
+        queued: 0,
+        free: instance.free_units(),
+        header: u64::from(HEADER_UNITS) * figures.carriers,
+    }
+}
+
+impl Scheduler {
+    ghost use Rattle.ea_top.specs.Output.{run_text};
+    ghost use Rattle.ea_top.specs.Running.{Reaches, Shows};
+
+    /// Before the first operation.
+    pub fn new(alloc: Global, config: Config) -> Result<Scheduler, OutOfMemory>
+        requires { IsBuilt config }
+        ensures shows { IfOk result (Shows (start (instance_of config))) }
+        ensures log { IfOk result (λ s. length s.log.items ≡ 0) }
+    {
+        let instance = Instance::new(alloc, config.of(Letter::H), 1, 0, config.region_pages())?;
+        let spots = vec![in alloc; None; MAX_NAME as usize + 1]?;
+        Ok(Scheduler {
+            instance,
+            spots,
+            log: List::new(alloc),
+        })
+    }
+
+    /// Allocates a block of at least `bytes` bytes under a name.
+    fn alloc(self, alloc: Global, name: u32, bytes: u32) -> Result<Scheduler, OutOfMemory>
+        requires name { name ≤ MAX_NAME }
+        requires bytes { bytes ≤ MAX_BYTES }
+        requires log { length self.log.items < 2 ^ 31 }
+        ensures shows { IfOk result (λ s. (r : Run) → Shows r self → Reaches (step r (Alloc name bytes)) s) }
+        ensures grown { IfOk result (λ s. length s.log.items ≤ length self.log.items + 1) }
+    {
+        let Scheduler {
+            mut instance,
+            spots,
+            mut log,
+        } = self;
+        let units = need(bytes);
+        if let Some(place) = instance.try_alloc(units, name)? {
+            return hold(instance, spots, log, name, place);
+        }
+        match instance.plan_carrier(units) {
+            Ok(plan) => {
+                let place = place_in_new(&mut instance, alloc, plan, units, name)?;
+                hold(instance, spots, log, name, place)
+            }
+            Err(why) => {
+                log.push(Entry::AllocFail {
+                    name,
+                    need: units,
+                    looked: 0,
+                    why,
+                })?;
+                Ok(Scheduler {
+                    instance,
+                    spots,
+                    log,
+                })
+            }
+        }
+    }
+
+    /// Frees the block of a name; where the name isn't held, that is only noted.
+    fn free(self, name: u32) -> Result<Scheduler, OutOfMemory>
+        requires name { name ≤ MAX_NAME }
+        ensures shows { IfOk result (λ s. (r : Run) → Shows r self → Reaches (step r (Free name)) s) }
+        ensures grown { IfOk result (λ s. length s.log.items ≤ length self.log.items + 1) }
+    {
+        let Scheduler {
+            mut instance,
+            mut spots,
+            mut log,
+        } = self;
+        let Some(spot) = spots[name as usize] else {
+            log.push(Entry::FreeSkipped { name })?;
+            return Ok(Scheduler {
+                instance,
+                spots,
+                log,
+            });
+        };
+        free_at(&mut instance, spot)?;
+        spots[name as usize] = None;
+        log.push(Entry::Free { name })?;
+        Ok(Scheduler {
+            instance,
+            spots,
+            log,
+        })
+    }
+
+    /// Does one operation.
+    pub fn step(self, alloc: Global, op: Op) -> Result<Scheduler, OutOfMemory>
+        requires range { InRange op }
+        requires built { IsBuiltOp op }
+        requires log { length self.log.items < 2 ^ 31 }
+        ensures shows { IfOk result (λ s. (r : Run) → Shows r self → Reaches (step r op) s) }
+        ensures grown { IfOk result (λ s. length s.log.items ≤ length self.log.items + 1) }
+    {
+        match op {
+            Op::Alloc { name, bytes } => self.alloc(alloc, name, bytes),
+            Op::Free { name } => self.free(name),
+            _ => unreachable!(),
+        }
+    }
+
+    /// The output text of the run.
+    pub fn print(&self, alloc: Global) -> Result<List<u8>, OutOfMemory>
+        ensures { IfOk result (λ text. (r : Run) → Shows r self.now → text.items ≡ run_text r) }
+    {
+        let mut lines = List::new(alloc);
+        self.instance.put_lines(&mut lines)?;
+        print(
+            alloc,
+            self.log.as_slice(),
+            lines.as_slice(),
+            totals_of(&self.instance),
+        )
+    }
 }

@@ -9,11 +9,11 @@ use crate::lines::Line;
 #[derive(Debug, Clone, Copy, PartialEq, Eq)]
 pub enum Stage {
     Start,
-    /// Behind the letter.
+    /// After the letter.
     Typed,
     /// In scheduler 1's section.
     Section,
-    /// Behind the begin of the schedule.
+    /// After the begin of the schedule.
     Turns,
     Ended,
 }
@@ -33,8 +33,8 @@ impl Stage {
         }
     }
 
-    /// The part behind the line.
-    pub fn behind(self, line: Line) -> Stage
+    /// The part after the line.
+    pub fn after(self, line: Line) -> Stage
         ensures { stage_of result ≡ next (stage_of self) (said line) }
     {
         match line {

@@ -878,7 +878,7 @@ fn an_input_outside_the_language_has_no_text(rt: HostRuntime) -> Result<(), Fail
         "type H\nscheduler 1\nalloc 1 00000000100\nschedule\nend\n",
         "type H\nscheduler 1\nalloc 1 -1\nschedule\nend\n",
         "type H\nscheduler 1\nalloc x 100\nschedule\nend\n",
-        // A name is allocated once, and freed only behind its allocation.
+        // A name is allocated once, and freed only after its allocation.
         "type H\nscheduler 1\nalloc 1 100\nalloc 1 100\nschedule\nend\n",
         "type H\nscheduler 1\nalloc 1 100\nfree 1\nalloc 1 100\nschedule\nend\n",
         "type H\nscheduler 1\nfree 1\nschedule\nend\n",

@@ -11,5 +11,7 @@ returns-clause-ok g c =
     let key_of = g.T.Keyed.key_of in
     let items = c.args.items.now.items in
     c.in_ok-insert.ensures.items
-    ∙ ap (λ n. insert items n c.args.item) (c.index_after-index.ensures.index ∙ ap (λ k. position_or_len (is_after key_of k) c.deref.result.now) c.key.ensures ∙ ap (position_or_len (is_after key_of (key_of c.args.item))) c.deref.ensures.value)
+    ∙ ap (λ n. insert items n c.args.item) (c.index_after-index.ensures.index
+    ∙ ap (λ k. position_or_len (is_after key_of k) c.deref.result.now) c.key.ensures
+    ∙ ap (position_or_len (is_after key_of (key_of c.args.item))) c.deref.ensures.value)
     ∙ insert-entered key_of c.args.item items

@@ -8,5 +8,6 @@ invariant-loop-index g l =
     let key_of = g.T.Keyed.key_of in
     record {
       left : item_at key_of (drop l.index l.items) l.key ≡ item_at key_of l.items l.key;
-      index : l.index + position_or_len (has_key key_of l.key) (drop l.index l.items) ≡ position_or_len (has_key key_of l.key) l.items;
+      index : l.index + position_or_len (has_key key_of l.key)
+          (drop l.index l.items) ≡ position_or_len (has_key key_of l.key) l.items;
     }

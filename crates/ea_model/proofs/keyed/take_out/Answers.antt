@@ -9,8 +9,11 @@ pub returns-clause-rest : goal.returns-clause-rest
 returns-clause-rest g c =
     let key_of = g.T.Keyed.key_of in
     let items = c.args.items.now.items in
-    let index = c.index_of-index.ensures.index ∙ ap (position_or_len (has_key key_of c.args.key)) c.deref.ensures.value in
-    let within = subst (λ xs. c.index_of-index.result < length xs) c.deref.ensures.value c.index_of-index.ensures.within in
+    let index = c.index_of-index.ensures.index
+    ∙ ap (position_or_len (has_key key_of c.args.key)) c.deref.ensures.value in
+    let within = subst (λ xs. c.index_of-index.result < length xs) c.deref.ensures.value
+    c.index_of-index.ensures.within in
     c.remove.ensures.items
     ∙ ap (remove items) index
-    ∙ remove-without key_of c.args.key items c.requires.rising (subst (λ k. k < length items) index within)
+    ∙ remove-without key_of c.args.key items c.requires.rising
+    (subst (λ k. k < length items) index within)

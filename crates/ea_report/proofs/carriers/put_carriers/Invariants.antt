@@ -4,4 +4,5 @@ use Rattle.ea_report.specs.Text.{carrier_text}
 use Rattle.ea_report.proofs.carriers.put_carriers.Given as goal
 
 abbrev pub invariant-loop-carrier : goal.invariant-loop-carrier
-invariant-loop-carrier l = l.text.items ≡ l.initial.text.items ++ flat_map carrier_text (take l.carrier-index l.carriers)
+invariant-loop-carrier l = l.text.items ≡ l.initial.text.items ++ flat_map carrier_text
+    (take l.carrier-index l.carriers)

@@ -4,4 +4,5 @@ use Rattle.ea_report.specs.Text.{entry_text}
 use Rattle.ea_report.proofs.entries.put_log.Given as goal
 
 abbrev pub invariant-loop-entry : goal.invariant-loop-entry
-invariant-loop-entry l = l.text.items ≡ l.initial.text.items ++ flat_map entry_text (take l.entry-index l.log)
+invariant-loop-entry l = l.text.items ≡ l.initial.text.items ++ flat_map entry_text
+    (take l.entry-index l.log)

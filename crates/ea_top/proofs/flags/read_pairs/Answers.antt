@@ -2,7 +2,7 @@ use Rattle.std.proofs.Common.{rules, ◌+◌, ◌-◌, length, map, take, drop, 
 use Rattle.std.specs.Prelude.{string_bytes}
 use Rattle.ea_model.specs.Flags.{pairs_from}
 use Rattle.ea_top.specs.Flags.{chosen_of}
-use Rattle.ea_top.proofs.Pairs.{first_two, only_one, length_behind}
+use Rattle.ea_top.proofs.Pairs.{first_two, only_one, length_after}
 use Rattle.ea_top.proofs.flags.read_pairs.Goals as goal
 
 pub returns-in_err-read_pair : goal.returns-in_err-read_pair
@@ -19,7 +19,7 @@ loop-rest-preserved c =
     ∙ sym (c.in_ok-read_pair.ensures.ok (chosen_of c.loop-rest.chosen) rest)
     ∙ sym (ap (pairs_from c.loop-rest.before (chosen_of c.loop-rest.chosen)) split)
     ∙ c.loop-rest.invariant.rest in
-    record { rest = e; before = omega (arith, c.loop-rest.invariant.before, length_behind c.loop-rest.rest.now c.in-len2-up.len_at_least) }
+    record { rest = e; before = omega (arith, c.loop-rest.invariant.before, length_after c.loop-rest.rest.now c.in-len2-up.len_at_least) }
 
 pub returns-in-len1-up : goal.returns-in-len1-up
 returns-in-len1-up c =

@@ -1,5 +1,5 @@
-use Rattle.std.proofs.Common.{◌≡◌, ◌+◌, ◌≤◌, length, sym, ap, ◌∙◌, subst, arith}
-use Rattle.std.specs.Prelude.{IfSome, Some}
+use Rattle.std.proofs.Common.{◌≡◌, ◌+◌, length, sym, ap, ◌∙◌, subst, arith}
+use Rattle.std.specs.Prelude.{IfSome}
 use Rattle.ea_model.specs.Region.{lowest_run, runs_of, with_segment, Laid}
 use Rattle.ea_model.proofs.Rising.{length-entered}
 use Rattle.ea_laws.proofs.Segments.{Laid-entered, start_of}

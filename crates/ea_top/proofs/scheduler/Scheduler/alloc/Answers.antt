@@ -7,10 +7,10 @@ use Rattle.ea_model.specs.Instance.{Instance, chosen_spot, plan, creating}
 use Rattle.ea_model.specs.declared.entries.Entry.TheVariants.{Alloc, AllocFail}
 use Rattle.ea_laws.specs.Spots.{IsPlaced}
 use Rattle.ea_top.specs.declared.scheduler.Scheduler.{Scheduler}
-use Rattle.ea_top.specs.Holding.{HoldsBlocks}
-use Rattle.ea_top.specs.Running.{Shows, IsChosenPlace, spot_at}
+use Rattle.ea_top.specs.Holding.{HoldsBlocks, IsChosenPlace, spot_at}
+use Rattle.ea_top.specs.Running.{Reaches, Shows}
 use Rattle.ea_model.proofs.Options.{some_holds}
-use Rattle.ea_instance.proofs.Keeping.{plan-IsPlanned}
+use Rattle.ea_laws.proofs.Keeping.{plan-IsPlanned}
 use Rattle.ea_top.proofs.Steps.{holds_placed, placed-chosen, unplaced, shows_failed, shows_here, shows_new}
 use Rattle.ea_top.proofs.scheduler.Scheduler.alloc.Goals as goal
 
@@ -23,7 +23,7 @@ pub returns-in-Some-clause-shows : goal.returns-in-Some-clause-shows
 returns-in-Some-clause-shows c =
     let chosen = placed-chosen c.args.self.instance c.try_alloc.new.self _ c.need-units.result c.args.name c.in-Some.place refl (sym c.in_ok-place.ensures.place ∙ c.in-Some.is) c.in_ok-place.ensures.ok in
     IfOk-weaker c.hold.result (λ (s : Scheduler). (s.instance ≡ c.try_alloc.new.self) × (s.spots.items ≡ set c.args.self.spots.items c.args.name (Some (spot_at c.in-Some.place))) × (s.log.items ≡ c.args.self.log.items ++ Alloc c.args.name c.in-Some.place ∷ []))
-    (λ (s : Scheduler). (r : Run) → Shows r c.args.self → Shows (allocating r c.args.name (need_of c.args.bytes) (chosen_spot r.instance (need_of c.args.bytes))) s)
+    (λ (s : Scheduler). (r : Run) → Shows r c.args.self → Reaches (allocating r c.args.name (need_of c.args.bytes) (chosen_spot r.instance (need_of c.args.bytes))) s)
     (λ s h r k. shows_here r c.args.self s c.need-units.result c.args.name c.in-Some.place k (omega (arith, c.args.self.names, c.requires.name)) h.1 h.2 (need_of c.args.bytes) c.try_alloc.new.self c.need-units.ensures chosen h.0)
     c.hold.ensures
 
@@ -56,7 +56,7 @@ returns-in_ok-place-in-Ok-clause-shows c =
     let planned = ap (λ i. plan i c.need-units.result) (sym rest.1) ∙ sym c.in-Ok.ensures.plan in
     let chosen = subst (λ i. IsChosenPlace (creating i c.in-Ok.plan) c.place_in_new.new.instance c.need-units.result c.args.name c.in_ok-place-in-Ok.place) rest.1 c.in_ok-place-in-Ok.ensures.ok in
     IfOk-weaker c.hold-in-Ok.result (λ (s : Scheduler). (s.instance ≡ c.place_in_new.new.instance) × (s.spots.items ≡ set c.args.self.spots.items c.args.name (Some (spot_at c.in_ok-place-in-Ok.place))) × (s.log.items ≡ c.args.self.log.items ++ Alloc c.args.name c.in_ok-place-in-Ok.place ∷ []))
-    (λ (s : Scheduler). (r : Run) → Shows r c.args.self → Shows (allocating r c.args.name (need_of c.args.bytes) (chosen_spot r.instance (need_of c.args.bytes))) s)
+    (λ (s : Scheduler). (r : Run) → Shows r c.args.self → Reaches (allocating r c.args.name (need_of c.args.bytes) (chosen_spot r.instance (need_of c.args.bytes))) s)
     (λ s h r k. shows_new r c.args.self s c.need-units.result c.args.name c.in_ok-place-in-Ok.place k (omega (arith, c.args.self.names, c.requires.name)) h.1 h.2 (need_of c.args.bytes) c.place_in_new.new.instance c.in-Ok.plan c.need-units.ensures rest.0 planned chosen h.0)
     c.hold-in-Ok.ensures
 

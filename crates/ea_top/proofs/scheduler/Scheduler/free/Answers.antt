@@ -27,5 +27,5 @@ invariant_of-result-2 c =
 pub returns-clause-shows : goal.returns-clause-shows
 returns-clause-shows c = λ r k.
     let some : spot_held c.args.name r.held ≡ Some c.in-Some.spot =
-    sym (k.held c.args.name (omega (arith, c.requires.name))) ∙ sym (get_or_read c.args.self.spots.items c.args.name c.index.result.now (omega (arith, c.args.self.names, c.requires.name)) c.index.ensures None) ∙ c.in-Some.is in
-    shows_freed r c.args.self _ c.args.name c.in-Some.spot k some (omega (arith, c.args.self.names, c.requires.name)) c.in_ok-free_at.ensures.ok refl c.in_ok-push-2.ensures.ok
+    sym (k.held c.args.name c.requires.name) ∙ sym (get_or_read c.args.self.spots.items c.args.name c.index.result.now (omega (arith, c.args.self.names, c.requires.name)) c.index.ensures None) ∙ c.in-Some.is in
+    (_, refl, shows_freed r c.args.self _ c.args.name c.in-Some.spot k some (omega (arith, c.args.self.names, c.requires.name)) c.in_ok-free_at.ensures.ok refl c.in_ok-push-2.ensures.ok)

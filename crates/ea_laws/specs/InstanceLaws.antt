@@ -1,0 +1,66 @@
+-- Laws of an instance: that it stands at its beginning and through each change, and what each
+-- change does to its blocks.
+use Rattle.std.specs.Prelude.{◌≡◌, ◌↔◌, ℕ, ◌+◌, ◌%◌, ◌<◌, ◌≤◌, true, None, Some, Ok, Err, All, IsSome}
+use Rattle.ea_model.specs.declared.carriers.CarrierPlan.{CarrierPlan}
+use Rattle.ea_model.specs.declared.carriers.Spot.{Spot}
+use Rattle.ea_model.specs.declared.entries.NoCarrier.TheVariants.{Numbers, Space}
+use Rattle.ea_model.specs.declared.settings.Settings.{Settings}
+use Rattle.ea_model.specs.declared.units.TheConstants.{MAX_PAGES, MAX_SCHEDULERS}
+use Rattle.ea_model.specs.Content.{Content, is_empty_multi}
+use Rattle.ea_model.specs.Instance.{Instance, block_in, chosen_spot, clearing, content_of, creating, least_pages, new_instance, pages_for, place_at, placing_at, plan, releasing_at, segments}
+use Rattle.ea_model.specs.Region.{runs}
+use Rattle.ea_model.specs.Settings.{IsValid}
+use Rattle.ea_laws.specs.InOrder.{IsInOrder}
+use Rattle.ea_laws.specs.Kept.{Stands}
+use Rattle.ea_laws.specs.Spots.{AllUsed, HaveSameBlocks, IsOther, IsPlaced}
+
+-- an instance may begin with these settings, this number and the pages from `first` on: the main
+-- carrier fits
+pub record MayBegin (s : Settings) (number first pages : ℕ) : Type 0 where
+  pub valid : IsValid s
+  pub instance : (1 ≤ number) × (number ≤ MAX_SCHEDULERS)
+  pub within : first + pages ≤ MAX_PAGES
+  pub main : pages_for s.mmbcs ≤ pages
+
+abbrev pub StandsAtBeginning : Type 0
+StandsAtBeginning = (s : Settings) (number first pages : ℕ) → MayBegin s number first pages
+    → Stands (new_instance s number first pages)
+
+abbrev pub StandsInOrder : Type 0
+StandsInOrder = (i : Instance) → Stands i → IsInOrder i
+
+-- a block at the chosen spot, of a need as requests have it
+abbrev pub Places : Type 0
+Places = (i : Instance) (need name : ℕ) (spot : Spot) → Stands i → 6 ≤ need → need % 2 ≡ 0
+    → chosen_spot i need ≡ Some spot
+    → Stands (placing_at i spot need name)
+    × IsPlaced i.contents (placing_at i spot need name).contents name (place_at i spot need)
+
+-- a release leaves no block at the spot, and other blocks as they are
+abbrev pub Releases : Type 0
+Releases = (i : Instance) (spot : Spot) → Stands i
+    → Stands (releasing_at i spot) × (block_in (releasing_at i spot).contents spot ≡ None)
+    × ((at : Spot) → IsOther spot.carrier spot.offset at
+    → block_in (releasing_at i spot).contents at ≡ block_in i.contents at)
+
+-- a multiblock carrier without blocks goes, and no block with it
+abbrev pub Clears : Type 0
+Clears = (i : Instance) (number : ℕ) (c : Content) → Stands i
+    → content_of i.contents number ≡ Some c → is_empty_multi c ≡ true
+    → Stands (clearing i number) × HaveSameBlocks i.contents (clearing i number).contents
+
+-- the planned carrier comes, and no block with it; it has a choice for the need
+abbrev pub Creates : Type 0
+Creates = (i : Instance) (need : ℕ) (p : CarrierPlan) → Stands i → plan i need ≡ Ok p
+    → Stands (creating i p) × HaveSameBlocks i.contents (creating i p).contents
+    × IsSome (chosen_spot (creating i p) need)
+
+-- the numbers are the cause exactly where all are in use
+abbrev pub RefusesNumbers : Type 0
+RefusesNumbers = (i : Instance) (need : ℕ) → (plan i need ≡ Err Numbers) ↔ AllUsed i
+
+-- the space exactly where a number is free, and no run of free pages holds the least carrier
+abbrev pub RefusesSpace : Type 0
+RefusesSpace = (i : Instance) (need : ℕ)
+    → (plan i need ≡ Err Space) ↔ ((AllUsed i → ⊥)
+    × All (λ r. r.pages < least_pages need) (runs i.first i.end (segments i.contents)))

@@ -1,0 +1,50 @@
+-- The status and the line of a fault.
+use Rattle.std.specs.Prelude.{ℕ, List, Option, ◌++◌, codes, decimal}
+use Rattle.std.specs.Io.KnownBytes.{Appends}
+use Rattle.ea_io.specs.Fronts.{AppendsFront}
+use Rattle.ea_top.specs.declared.faults.Fault.{Fault}
+use Rattle.ea_top.specs.declared.faults.Fault.TheVariants.{Word, SpaceTooSmall, Input, TooLong, ReadFailed, WriteFailed, OutOfMemory}
+use Rattle.ea_top.specs.declared.flags.Refusal.{Refusal}
+use Rattle.ea_top.specs.declared.flags.Refusal.TheVariants as refusal
+use Rattle.ea_top.specs.declared.reader.TraceFault.{TraceFault}
+use Rattle.ea_top.specs.declared.reader.TraceFault.TheVariants as trace
+
+-- the fault of refused words
+abbrev pub fault_of_words : Refusal → Fault
+fault_of_words (refusal.Unsupported word) = Word word
+fault_of_words refusal.TooSmall = SpaceTooSmall
+
+-- the fault of a text that gives no operations
+abbrev pub fault_of_trace : TraceFault → Fault
+fault_of_trace trace.NotBuilt = Input
+fault_of_trace trace.OutOfMemory = OutOfMemory
+
+-- the status that a fault ends with
+abbrev pub status_of : Fault → ℕ
+status_of (Word word) = 1
+status_of SpaceTooSmall = 1
+status_of Input = 2
+status_of TooLong = 2
+status_of ReadFailed = 3
+status_of WriteFailed = 4
+status_of OutOfMemory = 5
+
+-- what is printed for a fault after the program's name
+abbrev pub fault_text : Fault → List ℕ
+fault_text (Word word) = codes "word " ++ decimal word ++ codes ": unsupported"
+fault_text SpaceTooSmall = codes "super carrier too small"
+fault_text Input = codes "not built yet"
+fault_text TooLong = codes "input too long"
+fault_text ReadFailed = codes "read failed"
+fault_text WriteFailed = codes "write failed"
+fault_text OutOfMemory = codes "out of memory"
+
+abbrev pub line_with : List ℕ → List ℕ
+line_with text = codes "erts_alloc_run: " ++ text ++ codes "\n"
+
+abbrev pub fault_line : Fault → List ℕ
+fault_line fault = line_with (fault_text fault)
+
+-- what was taken before is followed by a front of the fault's line, and by all of it where all was calm
+abbrev pub Complains : Option (List ℕ) → Option (List ℕ) → Type 0 → Fault → Type 0
+Complains before after calm fault = AppendsFront before after (fault_line fault) × (calm → Appends before after (fault_line fault))
