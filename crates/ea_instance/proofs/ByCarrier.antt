@@ -25,9 +25,9 @@ use Rattle.ea_goodfit.specs.Gaps.{HeldGaps}
 use Rattle.ea_laws.specs.Kinds.{is_shared}
 use Rattle.ea_laws.specs.Kept.{IsLaidOut, number_of, IsRising}
 use Rattle.ea_instance.specs.Listed.{candidate_in, chosen_in, held_of, IsListed}
-use Rattle.ea_instance.specs.declared.strategies.Order.TheVariants.{Address, Age}
+use Rattle.ea_instance.specs.declared.strategies.Search.TheVariants.{Address, Age}
 use Rattle.ea_instance.specs.Better.{better_of}
-use Rattle.ea_instance.specs.Orders.{order_of}
+use Rattle.ea_instance.specs.Searches.{search_of}
 use Rattle.ea_model.proofs.Rising.{item_at-each}
 use Rattle.ea_instance.proofs.Folding.{choice_more}
 
@@ -53,7 +53,7 @@ aoffcaobf-GoesBy x y a b i j o = by_base x.base y.base a.key.base b.key.base _ i
 by_age : (x y : Candidate) (a b : Held) (rest : Bool) → IsOf x a → IsOf y b → a.key.number < b.key.number → strategies.older y x rest ≡ older b a
 by_age x y a b rest i j o = let xn = i.number in let xb = i.birth in let yn = j.number in let yb = j.birth in grind arith
 
-pub address-GoesBy : (s : Strategy) → order_of s ≡ Address → GoesBy s lower
+pub address-GoesBy : (s : Strategy) → search_of s ≡ Address → GoesBy s lower
 address-GoesBy AoffCbf e = aoffcbf-GoesBy
 address-GoesBy AoffCaobf e = aoffcaobf-GoesBy
 address-GoesBy Bf e = absurd cc
@@ -65,7 +65,7 @@ address-GoesBy AgeffCaobf e = absurd cc
 address-GoesBy Gf e = absurd cc
 address-GoesBy Af e = absurd cc
 
-pub age-GoesBy : (s : Strategy) → order_of s ≡ Age → GoesBy s older
+pub age-GoesBy : (s : Strategy) → search_of s ≡ Age → GoesBy s older
 age-GoesBy AgeffCaoff e = λ x y a b i j o. by_age x y a b _ i j o.0
 age-GoesBy AgeffCbf e = λ x y a b i j o. by_age x y a b _ i j o.0
 age-GoesBy AgeffCaobf e = λ x y a b i j o. by_age x y a b _ i j o.0
