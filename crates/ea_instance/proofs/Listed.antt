@@ -1,6 +1,6 @@
 -- The set of the carriers, after a change.
 use Rattle.std.proofs.Common.{◌≡◌, ◌≢◌, ℕ, true, false, List, [], ◌∷◌, map, All, AllPairs, sym, ap, ◌∙◌, subst, refl, inl, inr, arith, suc, Bool}
-use Rattle.std.specs.Prelude.{Option, IsSome, Some, is_some, ◌==◌}
+use Rattle.std.specs.Prelude.{Option, IfSome, IsSome, Some, is_some, ◌==◌}
 use Rattle.std.proofs.lemmas.Bool.{cases_eq}
 use Rattle.std.proofs.lemmas.List.Elements.{All-head, All-tail, All-filter}
 use Rattle.ea_model.specs.Content.{Content, gaps_of, largest}
@@ -8,7 +8,7 @@ use Rattle.ea_model.specs.Instance.{changed, content_of, with_content, without_c
 use Rattle.ea_cset.specs.declared.keys.CarrierKey.{CarrierKey}
 use Rattle.ea_cset.specs.Carriers.{Carriers, is_held, refitted, with_fit, number_of as set_number}
 use Rattle.ea_model.specs.Keyed.{entered, without}
-use Rattle.ea_model.proofs.Options.{is_some-map}
+use Rattle.ea_model.proofs.Options.{if_some, is_some-map}
 use Rattle.ea_model.proofs.Rising.{All-entered, changed_here, changed_past, entered-map, item_at-map, without-map}
 use Rattle.std.specs.List.Sorted.{IsPermutation}
 use Rattle.std.proofs.lemmas.List.Kept.{AllPairs-filter}
@@ -29,6 +29,21 @@ held-some n cs h = subst (λ o. IsSome o) (sym (item_at-map set_number held_of n
 
 pub held-there : (n : ℕ) (c : Content) (cs : List Content) → content_of cs n ≡ Some c → is_held n (map held_of cs) ≡ true
 held-there n c cs there = held-some n cs (subst (λ o. IsSome o) (sym there) refl)
+
+-- and a carrier that is held is listed
+pub held-listed : (n : ℕ) (cs : List Content) → is_held n (map held_of cs) ≡ true
+    → IsSome (content_of cs n)
+held-listed n cs h =
+    sym (is_some-map held_of (content_of cs n))
+    ∙ subst (λ o. IsSome o) (item_at-map set_number held_of n cs) h
+
+pub found-listed : (o : Option ℕ) (cs now : List Content) (set : Carriers)
+    → set.held ≡ map held_of cs → cs ≡ now → IfSome o (λ n. is_held n set.held ≡ true)
+    → IfSome o (λ n. IsSome (content_of now n))
+found-listed o cs now set held seen h =
+    if_some o (λ n. is_held n set.held ≡ true) (λ n. IsSome (content_of now n))
+    (λ n there. held-listed n now
+    (sym (ap (is_held n) (held ∙ ap (map held_of) seen)) ∙ there)) h
 
 module _ (f : Content → Content) (k : KeepsPlace f) (n : ℕ) (item : Content) where
   -- the carrier with another fit is the changed carrier
