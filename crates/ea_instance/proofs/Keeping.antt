@@ -1,6 +1,6 @@
 -- What an instance keeps of its carriers and of its region through its calls.
-use Rattle.std.proofs.Common.{◌≡◌, ℕ, ◌+◌, ◌*◌, ◌%◌, ◌<◌, ◌≤◌, false, List, [], ◌∷◌, length, All, AllPairs, sym, ap, ◌∙◌, subst, refl, arith}
-use Rattle.std.specs.Prelude.{Option, Some, None, Ok, Err, IsSome, option_map}
+use Rattle.std.proofs.Common.{◌≡◌, ℕ, ◌+◌, ◌*◌, ◌%◌, ◌<◌, ◌≤◌, false, List, length, All, sym, ap, ◌∙◌, subst, arith}
+use Rattle.std.specs.Prelude.{Option, Some, None, Result, Ok, Err, OnOk, OnErr, option_map}
 use Rattle.ea_model.specs.declared.settings.Settings.{Settings}
 use Rattle.ea_model.specs.declared.carriers.Candidate.{Candidate}
 use Rattle.ea_model.specs.declared.carriers.Segment.{Segment}
@@ -9,19 +9,19 @@ use Rattle.ea_model.specs.declared.entries.NoCarrier.TheVariants.{Space}
 use Rattle.ea_model.specs.declared.carriers.CarrierPlan.{CarrierPlan}
 use Rattle.ea_model.specs.declared.carriers.Kind.TheVariants.{Multi}
 use Rattle.ea_model.specs.Content.{Content, placed, released}
-use Rattle.ea_model.specs.Region.{Region, lowest_run, runs, with_segment, cut_from, IsTail}
-use Rattle.ea_model.specs.Instance.{Instance, segments, first_number, changed, content_of, with_content, unused_from, is_used, free_run, least_pages, next_pages, planned, plan, created_content, creating, clearing, without_content, chosen_spot, block_in, size_for, place_at, placing_at, releasing_at}
+use Rattle.ea_model.specs.Region.{Region, lowest_run, runs, with_segment, cut_from}
+use Rattle.ea_model.specs.Instance.{Instance, segments, first_number, changed, content_of, with_content, unused_from, is_used, free_run, least_pages, next_pages, planned, plan, created_content, creating, without_content, chosen_spot, block_in, size_for, place_at, placing_at}
 use Rattle.ea_model.specs.Strategies.{choice_among, choice_empty, may_miss, or_else, spot_of}
 use Rattle.ea_instance.specs.Answers.{placing_if}
 use Rattle.ea_instance.specs.Changes.{AreLaid}
-use Rattle.ea_instance.specs.Choices.{candidate_of, IsChoice}
+use Rattle.ea_instance.specs.Choices.{IsChoice}
 use Rattle.ea_instance.specs.declared.choice.Choice.{Choice}
 use Rattle.ea_instance.specs.Kept.{KeepsCarriers, seen_as}
 use Rattle.ea_instance.specs.Listed.{CarrierList}
 use Rattle.ea_instance.proofs.Changed.{at_choice}
 use Rattle.ea_laws.specs.Kept.{ContentsApart}
-use Rattle.ea_laws.specs.Spots.{HasGap, HaveSameBlocks, IsPlaced}
-use Rattle.ea_laws.proofs.Blocks.{creating-same, placing-IsPlaced}
+use Rattle.ea_laws.specs.Spots.{HasGap, HaveSameBlocks, IsOther, IsPlaced}
+use Rattle.ea_laws.proofs.Blocks.{creating-same, placing-IsPlaced, releasing-others}
 use Rattle.ea_laws.proofs.CarrierSegments.{length-segments, segments-without}
 use Rattle.ea_laws.proofs.Contents.{rising-length}
 use Rattle.ea_laws.proofs.Changed.{placed-keeps, released-keeps, segments-changed}
@@ -53,6 +53,14 @@ module _ (i now : Instance) (taken : List Segment) (need number next : ℕ) (see
   found-none least size none nowhere =
       sym (plan-nowhere i need number (sym free) (next_run None none) (ap (free_run i) (sym size) ∙ run_of least None nowhere)) ∙ ap (λ x. plan x need) seen
 
+-- the carrier that enters is the planned one
+pub entering : (n number : ℕ) (p : CarrierPlan) (carrier : Content) → n ≡ number
+    → carrier ≡ created_content number Multi p
+    → record carrier { kind = Multi } ≡ created_content n Multi p
+entering n number p carrier seen is =
+    ap (λ (y : Content). record y { kind = Multi }) is
+    ∙ ap (λ m. created_content m Multi p) (sym seen)
+
 module _ (s : Settings) (n : ℕ) (ks : CarrierList) (created : ℕ) (r : Region)
     (k : KeepsCarriers s n ks created r) where
   abbrev here : Instance
@@ -80,6 +88,27 @@ module _ (s : Settings) (n : ℕ) (ks : CarrierList) (created : ℕ) (r : Region
             (released-keeps spot.offset) spot.carrier ks.contents);
         stands = releasing-Stands here spot k.stands;
       })
+
+  -- or not, where there is no memory
+  pub kept-either : {T E : Type 0} (o : Result T E) (spot : Spot) (new : CarrierList)
+      → OnOk o (new ≡ record ks { contents =
+          changed (λ c. released c spot.offset) spot.carrier ks.contents })
+      → OnErr o (new ≡ ks) → KeepsCarriers s n new created r
+  kept-either (Ok x) spot new ok err = kept-released spot new ok
+  kept-either (Err e) spot new ok err = subst (λ xs. KeepsCarriers s n xs created r) (sym err) k
+
+  pub others-either : {T E : Type 0} (o : Result T E) (spot : Spot) (new : CarrierList)
+      (now : Instance) → seen_as s n ks created r ≡ now
+      → OnOk o (new ≡ record ks { contents =
+          changed (λ c. released c spot.offset) spot.carrier ks.contents })
+      → OnErr o (new ≡ ks) → (at : Spot) → IsOther spot.carrier spot.offset at
+      → block_in new.contents at ≡ block_in now.contents at
+  others-either (Ok x) spot new now seen ok err at other =
+      ap (λ (ys : CarrierList). block_in ys.contents at) ok ∙ releasing-others here spot at other
+      ∙ ap (λ i. block_in i.contents at) seen
+  others-either (Err e) spot new now seen ok err at other =
+      ap (λ (ys : CarrierList). block_in ys.contents at) err
+      ∙ ap (λ i. block_in i.contents at) seen
 
   -- a carrier goes
   pub kept-cleared : (number : ℕ) (c : Content) (new : CarrierList) (r2 : Region)

@@ -2,22 +2,20 @@
 use Rattle.std.proofs.Common.{◌≡◌, ◌≢◌, ℕ, true, false, List, [], ◌∷◌, map, All, AllPairs, sym, ap, ◌∙◌, subst, refl, inl, inr, arith, suc, Bool}
 use Rattle.std.specs.Prelude.{Option, IfSome, IsSome, Some, is_some, ◌==◌}
 use Rattle.std.proofs.lemmas.Bool.{cases_eq}
-use Rattle.std.proofs.lemmas.List.Elements.{All-head, All-tail, All-filter}
+use Rattle.std.proofs.lemmas.List.Elements.{All-head, All-tail}
 use Rattle.ea_model.specs.Content.{Content, gaps_of, largest}
 use Rattle.ea_model.specs.Instance.{changed, content_of, with_content, without_content}
 use Rattle.ea_cset.specs.declared.keys.CarrierKey.{CarrierKey}
 use Rattle.ea_cset.specs.Carriers.{Carriers, is_held, refitted, with_fit, number_of as set_number}
 use Rattle.ea_model.specs.Keyed.{entered, without}
 use Rattle.ea_model.proofs.Options.{if_some, is_some-map}
-use Rattle.ea_model.proofs.Rising.{All-entered, changed_here, changed_past, entered-map, item_at-map, without-map}
+use Rattle.ea_model.proofs.Rising.{changed_here, changed_past, entered-map, item_at-map, without-map}
 use Rattle.std.specs.List.Sorted.{IsPermutation}
-use Rattle.std.proofs.lemmas.List.Kept.{AllPairs-filter}
 use Rattle.std.proofs.lemmas.Map.Keys.{IsDistinct-IsPermutation, IsDistinct-from_apart, apart_from_distinct}
 use Rattle.ea_model.specs.declared.settings.Strategy.{Strategy}
-use Rattle.ea_model.specs.declared.settings.Strategy.TheVariants.{Gf}
 use Rattle.ea_goodfit.specs.declared.gaps.Gap.{Gap}
 use Rattle.ea_goodfit.specs.Gaps.{HeldGaps}
-use Rattle.ea_laws.specs.Kept.{number_of, IsRising, ContentsApart, IsLaidOut}
+use Rattle.ea_laws.specs.Kept.{number_of, IsRising}
 use Rattle.ea_instance.specs.Binned.{Hold}
 use Rattle.ea_instance.specs.Listed.{all_gaps, held_of, IsListed}
 use Rattle.ea_laws.proofs.Changed.{KeepsPlace}

@@ -1,7 +1,6 @@
-use Rattle.std.proofs.Common.{◌≡◌, List, ◌∙◌, ap, sym, subst, refl}
+use Rattle.std.proofs.Common.{◌≡◌, ◌∙◌, ap, subst, refl}
 use Rattle.std.proofs.lemmas.Grind.{get_or-set_at}
 use Rattle.ea_model.specs.Content.{Content, gaps_of, largest, placed}
-use Rattle.ea_model.specs.Instance.{changed}
 use Rattle.ea_mbc.specs.Gaps.{GapTaken}
 use Rattle.ea_instance.specs.Choices.{IsChosenIn}
 use Rattle.ea_instance.proofs.Changed.{at_choice, choice-same, set_is_changed}

@@ -1,8 +1,6 @@
-use Rattle.std.proofs.Common.{◌≡◌, get_or, Some, sym, ap, ◌∙◌, arith}
-use Rattle.std.proofs.lemmas.Grind.{common_steps}
+use Rattle.std.proofs.Common.{◌≡◌, get_or, sym, ap, ◌∙◌}
 use Rattle.std.specs.Option.{option_and_then}
 use Rattle.ea_model.specs.Strategies.{inner_of}
-use Rattle.ea_model.specs.Instance.{content_of}
 use Rattle.ea_instance.specs.Listed.{CarrierList, candidate_in, chosen_in}
 use Rattle.ea_instance.proofs.Changed.{at_index}
 use Rattle.ea_instance.proofs.carriers.Carriers.choice_in.Goals as goal

@@ -1,5 +1,4 @@
-use Rattle.std.proofs.Common.{◌≢◌, ◌<◌, List, map, All, ◌∙◌, ap, sym, subst}
-use Rattle.std.specs.Prelude.{length}
+use Rattle.std.proofs.Common.{◌≢◌, map, All, ◌∙◌, ap, sym, subst}
 use Rattle.std.proofs.lemmas.List.Elements.{All-map}
 use Rattle.ea_model.specs.Content.{Content, gaps_of, largest, Tiled}
 use Rattle.ea_cset.specs.declared.keys.CarrierKey.{CarrierKey}

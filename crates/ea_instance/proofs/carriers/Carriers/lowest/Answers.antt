@@ -1,10 +1,4 @@
-use Rattle.std.proofs.Common.{◌≡◌, List, sym, ap, ◌∙◌, subst}
-use Rattle.std.specs.Prelude.{Option, Some}
-use Rattle.ea_model.specs.declared.carriers.Candidate.{Candidate}
-use Rattle.ea_model.specs.Choice.{first}
-use Rattle.ea_model.specs.Content.{Content}
-use Rattle.ea_model.specs.Strategies.{candidates, large_enough, lower}
-use Rattle.ea_instance.specs.Changes.{AreLaid}
+use Rattle.std.proofs.Common.{sym, ap, ◌∙◌}
 use Rattle.ea_instance.specs.Choices.{candidate_of}
 use Rattle.ea_instance.specs.Listed.{CarrierList}
 use Rattle.ea_instance.proofs.Missing.{af-none, af-small, af-large, lowest-found}

@@ -1,6 +1,5 @@
-use Rattle.std.proofs.Common.{◌≡◌, ◌∙◌, ap, sym, subst}
-use Rattle.ea_model.specs.Content.{Content, placed}
-use Rattle.ea_model.specs.Instance.{content_of, changed, size_for}
+use Rattle.std.proofs.Common.{◌∙◌, ap, sym, subst}
+use Rattle.ea_model.specs.Content.{placed}
 use Rattle.ea_cset.specs.Carriers.{is_held}
 use Rattle.ea_laws.proofs.Changed.{placed-keeps}
 use Rattle.ea_instance.specs.Changes.{AreLaid}

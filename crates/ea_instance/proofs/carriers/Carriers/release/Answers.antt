@@ -1,5 +1,5 @@
-use Rattle.std.proofs.Common.{◌≡◌, ◌∙◌, ap, sym, subst, refl}
-use Rattle.ea_model.specs.Content.{Content, released}
+use Rattle.std.proofs.Common.{◌∙◌, ap, sym, subst, refl}
+use Rattle.ea_model.specs.Content.{released}
 use Rattle.ea_model.specs.Instance.{content_of}
 use Rattle.ea_model.proofs.Rising.{changed-found}
 use Rattle.ea_cset.specs.Carriers.{is_held}
