@@ -24,10 +24,11 @@ use Rattle.ea_cset.specs.Carriers.{Carriers, IsBefore, first_number, fitting, lo
 use Rattle.ea_goodfit.specs.Gaps.{HeldGaps}
 use Rattle.ea_laws.specs.Kinds.{is_shared}
 use Rattle.ea_laws.specs.Kept.{IsLaidOut, number_of, IsRising}
+use Rattle.ea_instance.specs.Changes.{AreLaid}
 use Rattle.ea_instance.specs.Listed.{candidate_in, chosen_in, held_of, IsListed}
-use Rattle.ea_instance.specs.declared.strategies.Order.TheVariants.{Address, Age}
+use Rattle.ea_instance.specs.declared.strategies.Search.TheVariants.{Address, Age}
 use Rattle.ea_instance.specs.Better.{better_of}
-use Rattle.ea_instance.specs.Orders.{order_of}
+use Rattle.ea_instance.specs.Searches.{search_of}
 use Rattle.ea_model.proofs.Rising.{item_at-each}
 use Rattle.ea_instance.proofs.Folding.{choice_more}
 
@@ -53,7 +54,7 @@ aoffcaobf-GoesBy x y a b i j o = by_base x.base y.base a.key.base b.key.base _ i
 by_age : (x y : Candidate) (a b : Held) (rest : Bool) → IsOf x a → IsOf y b → a.key.number < b.key.number → strategies.older y x rest ≡ older b a
 by_age x y a b rest i j o = let xn = i.number in let xb = i.birth in let yn = j.number in let yb = j.birth in grind arith
 
-pub address-GoesBy : (s : Strategy) → order_of s ≡ Address → GoesBy s lower
+pub address-GoesBy : (s : Strategy) → search_of s ≡ Address → GoesBy s lower
 address-GoesBy AoffCbf e = aoffcbf-GoesBy
 address-GoesBy AoffCaobf e = aoffcaobf-GoesBy
 address-GoesBy Bf e = absurd cc
@@ -65,7 +66,7 @@ address-GoesBy AgeffCaobf e = absurd cc
 address-GoesBy Gf e = absurd cc
 address-GoesBy Af e = absurd cc
 
-pub age-GoesBy : (s : Strategy) → order_of s ≡ Age → GoesBy s older
+pub age-GoesBy : (s : Strategy) → search_of s ≡ Age → GoesBy s older
 age-GoesBy AgeffCaoff e = λ x y a b i j o. by_age x y a b _ i j o.0
 age-GoesBy AgeffCbf e = λ x y a b i j o. by_age x y a b _ i j o.0
 age-GoesBy AgeffCaobf e = λ x y a b i j o. by_age x y a b _ i j o.0
@@ -191,9 +192,9 @@ module _ (s : Strategy) (comes_first : Held → Held → Bool) (goes : GoesBy s 
   choice_first rising sound before = starts all before (λ i d within. (item_at-each number_of i d all rising within, (sound i d within).shared))
 
 -- the choice is made in the first carrier that fits
-pub choice-first : (s : Strategy) (comes_first : Held → Held → Bool) → GoesBy s comes_first → (need : ℕ) → 1 ≤ need → (t : Strategy) (cs now : List Content) (set : Carriers) (bins : HeldGaps) → IsListed t cs set bins → cs ≡ now → IsRising now
+pub choice-first : (s : Strategy) (comes_first : Held → Held → Bool) → GoesBy s comes_first → (need : ℕ) → 1 ≤ need → (t : Strategy) (cs now : List Content) (set : Carriers) (bins : Option HeldGaps) → IsListed t cs set bins → cs ≡ now → AreLaid now
     → (number : Option ℕ) (found : Option Candidate) → number ≡ first_number comes_first need set.held → AllPairs IsBefore set.held → found ≡ option_and_then (candidate_in (inner_of s) need now) number → found ≡ first (takes_first s) (large_enough need (candidates now))
-choice-first s comes_first goes need some t cs now set bins listed seen rising number found first_is before is =
+choice-first s comes_first goes need some t cs now set bins listed seen laid number found first_is before is =
     let held : set.held ≡ map held_of now = listed.held ∙ ap (map held_of) seen in
     is ∙ ap (option_and_then (candidate_in (inner_of s) need now)) (first_is ∙ ap (first_number comes_first need) held)
-    ∙ sym (choice_first s comes_first goes need some now rising (subst (All IsLaidOut) seen listed.sound) (subst (AllPairs IsBefore) held before))
+    ∙ sym (choice_first s comes_first goes need some now laid.rising laid.sound (subst (AllPairs IsBefore) held before))

@@ -1,6 +1,6 @@
 -- Choosing carrier by carrier is choosing among all gaps.
-use Rattle.std.proofs.Common.{◌≡◌, ℕ, Bool, true, false, cond, List, [], ◌∷◌, fold, filter, map, refl, sym, ◌∙◌, ap, inl, inr, arith}
-use Rattle.std.specs.Prelude.{Option, Some, None, IfSome, option_map, nat_le}
+use Rattle.std.proofs.Common.{◌≡◌, ℕ, ◌<◌, Bool, true, false, cond, List, [], ◌∷◌, fold, filter, map, refl, sym, ◌∙◌, ap, subst, inl, inr, arith}
+use Rattle.std.specs.Prelude.{Option, Some, None, IfSome, length, option_map, nat_le, slice_index_or}
 use Rattle.std.specs.Cmp.{IsStrictWeakOrder}
 use Rattle.std.proofs.lemmas.Bool.{cases_Bool, cond-true, cond-false, cond_both}
 use Rattle.std.proofs.lemmas.List.Sums.{fold-append}
@@ -16,7 +16,9 @@ use Rattle.ea_model.specs.Strategies.{candidate, candidates, candidates_in, take
 use Rattle.ea_model.specs.declared.carriers.Inner.{Inner}
 use Rattle.ea_model.specs.declared.carriers.Inner.TheVariants as inner
 use Rattle.ea_instance.specs.Better.{better_of}
-use Rattle.ea_instance.specs.Orders.{is_better}
+use Rattle.ea_instance.specs.Choices.{candidate_of, IsChoice, IsChosenIn}
+use Rattle.ea_instance.specs.declared.choice.Choice.{Choice}
+use Rattle.ea_instance.specs.Searches.{is_better}
 
 -- inside a carrier a strategy goes by its inner order
 same_bf : (c : Content) (g h : Gap) → takes_first Bf (candidate c g) (candidate c h) ≡ before (inner_of Bf) g h
@@ -156,3 +158,27 @@ module _ (need : ℕ) (best : Option Candidate) (c : Content) (cs : List Content
 
   pub empty_past : is_empty_multi c ≡ false → of_empty (c ∷ cs) best ≡ of_empty cs best
   empty_past f = ap (λ ds. fold (better lower) best (large_enough need (candidates ds))) (cond-false (is_empty_multi c) (c ∷ filter is_empty_multi cs) (filter is_empty_multi cs) f)
+
+-- the better of two choices has the better candidate
+pub better_of-candidates : (t : Candidate → Candidate → Bool) (best found : Option Choice)
+    → candidate_of (better_of (λ a b. t a.candidate b.candidate) best found)
+        ≡ better_of t (candidate_of best) (candidate_of found)
+better_of-candidates t best None = refl
+better_of-candidates t None (Some x) = refl
+better_of-candidates t (Some y) (Some x) =
+    elim (cases_Bool (t x.candidate y.candidate)) [
+      | inl p ↦ rw p refl
+      | inr q ↦ rw q refl
+    ]
+
+-- what is chosen in the carrier at an index is a choice among all
+pub chosen_here : (need : ℕ) (cs : List Content) (i : ℕ) (item : Content) → i < length cs
+    → slice_index_or cs i item ≡ item → (o : Option Choice) → IfSome o (λ x. x.index ≡ i)
+    → IfSome o (λ x. IsChosenIn need item x.candidate) → IfSome o (IsChoice need cs)
+chosen_here need cs i item within is None at chosen = tt
+chosen_here need cs i item within is (Some x) at chosen = record {
+  content = item;
+  within = subst (λ j. j < length cs) (sym at) within;
+  is = ap (λ j. slice_index_or cs j item) at ∙ is;
+  chosen = chosen;
+}

@@ -101,6 +101,7 @@ impl Mbc {
         // The chosen gap is one that fits, and none that fits comes before it.
         ensures fits { IfSome result (λ g. need ≤ g.size) }
         ensures gap { IfSome result (λ g. gap_at (gaps_of self.now) g.offset ≡ g.size) }
+        ensures within { IfSome result (λ g. g.offset + g.size ≤ self.now.units) }
         ensures first { IfSome result (IsFirst (before inner) (fitting need (gaps_of self.now))) }
     {
         best_gap(inner, need, self.units, &self.blocks)
