@@ -78,7 +78,11 @@ fn each_order_takes_its_own_gap(rt: HostRuntime) -> Result<(), Fail> {
         (438, Some(74), Some(74), Some(74)),
         (440, None, None, None),
     ] {
-        assert_eq!(rt; at(carrier.choose(Inner::Bf, need)), bf, "best fit of {need}");
+        assert_eq!(rt;
+            at(carrier.choose(Inner::Bf, need)),
+            bf,
+            "best fit of {need}"
+        );
         assert_eq!(rt;
             at(carrier.choose(Inner::Aobf, need)),
             aobf,
