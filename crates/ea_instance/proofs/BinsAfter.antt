@@ -136,7 +136,7 @@ module _ (old new : List Gap) (address whole size : ℕ) (cut : IsCut old new ad
 
   pub cut-noted : (left : Option HeldGaps)
       → ((rest : List Gap) → Hold bins (gap_from address whole ++ rest)
-          → Hold left (gap_from (address + size) (whole - size) ++ rest))
+      → Hold left (gap_from (address + size) (whole - size) ++ rest))
       → Hold left new
   cut-noted left note =
       let made : List Gap = gap_from (address + size) (whole - size) ++ cut.rest in
@@ -171,9 +171,9 @@ module _ (old new : List Gap) (address before size after : ℕ)
 
   pub join-noted : (left : Option HeldGaps)
       → ((rest : List Gap)
-          → Hold bins (gap_from (address - before) before
-              ++ (gap_from (address + size) after ++ rest))
-          → Hold left (gap_from (address - before) (before + size + after) ++ rest))
+      → Hold bins (gap_from (address - before) before
+      ++ (gap_from (address + size) after ++ rest))
+      → Hold left (gap_from (address - before) (before + size + after) ++ rest))
       → Hold left new
   join-noted left note =
       let made : List Gap = gap_from (address - before) (before + size + after) ++ join.rest in
@@ -196,8 +196,9 @@ module _ (f : Content → Content) (k : KeepsPlace f) (n : ℕ) (item : Content)
   -- what a block at the front of a gap takes of all gaps
   module _ (address offset whole size : ℕ) (e : address ≡ 512 * item.base + offset)
       (within : size ≤ whole)
-      (r : Replaced (gaps_of item) (gaps_of (f item)) (record { offset = offset; size = whole } ∷ [])
-          (gap (offset + size) (offset + whole))) where
+      (r : Replaced (gaps_of item) (gaps_of (f item))
+      (record { offset = offset; size = whole } ∷ [])
+      (gap (offset + size) (offset + whole))) where
     abbrev gone : model.Gap
     gone = record { offset = offset; size = whole }
 
@@ -209,7 +210,7 @@ module _ (f : Content → Content) (k : KeepsPlace f) (n : ℕ) (item : Content)
     replaced : (rest : List Gap)
         × IsPermutation (all_gaps cs) (map (at_base item.base) (gone ∷ []) ++ rest)
         × IsPermutation (all_gaps (changed f n cs))
-            (map (at_base item.base) (gap (offset + size) (offset + whole)) ++ rest)
+        (map (at_base item.base) (gap (offset + size) (offset + whole)) ++ rest)
     replaced =
         gaps-replaced f n item cs laid.rising there (k.number item) (k.base item) (k.kind item)
         here.shared (gone ∷ []) (gap (offset + size) (offset + whole)) r.front r.behind r.was r.is
@@ -251,8 +252,8 @@ module _ (f : Content → Content) (k : KeepsPlace f) (n : ℕ) (item : Content)
   module _ (address offset before size after : ℕ) (e : address ≡ 512 * item.base + offset)
       (within : before ≤ offset)
       (r : Replaced (gaps_of item) (gaps_of (f item))
-          (gap (offset - before) offset ++ gap (offset + size) (offset + size + after))
-          (record { offset = offset - before; size = before + size + after } ∷ [])) where
+      (gap (offset - before) offset ++ gap (offset + size) (offset + size + after))
+      (record { offset = offset - before; size = before + size + after } ∷ [])) where
     abbrev two : List model.Gap
     two = gap (offset - before) offset ++ gap (offset + size) (offset + size + after)
 
@@ -282,13 +283,13 @@ module _ (f : Content → Content) (k : KeepsPlace f) (n : ℕ) (item : Content)
         map-append (at_base item.base) (gap (offset - before) offset)
         (gap (offset + size) (offset + size + after))
         ∙ ap (λ gs. gs ++ map (at_base item.base) (gap (offset + size) (offset + size + after)))
-            (at_gap item.base (offset - before) offset
-            ∙ ap (λ a. gap_from a (offset - (offset - before))) low
-            ∙ ap (gap_from (address - before)) low_size)
+        (at_gap item.base (offset - before) offset
+        ∙ ap (λ a. gap_from a (offset - (offset - before))) low
+        ∙ ap (gap_from (address - before)) low_size)
         ∙ ap (λ gs. gap_from (address - before) before ++ gs)
-            (at_gap item.base (offset + size) (offset + size + after)
-            ∙ ap (λ a. gap_from a (offset + size + after - (offset + size))) high
-            ∙ ap (gap_from (address + size)) high_size)
+        (at_gap item.base (offset + size) (offset + size + after)
+        ∙ ap (λ a. gap_from a (offset + size + after - (offset + size))) high
+        ∙ ap (gap_from (address + size)) high_size)
 
     abbrev whole_gap : Gap
     whole_gap = record { address = address - before; size = before + size + after }
@@ -321,7 +322,8 @@ taken-le : (g need : ℕ) → need ≤ g → taken_of g need ≤ g
 taken-le g need le = grind arith
 
 -- a placement cuts the gap that was chosen
-pub placing-IsCut : (need name : ℕ) (x : Candidate) (p : Placed) (cs new : List Content) → AreLaid cs
+pub placing-IsCut : (need name : ℕ) (x : Candidate) (p : Placed) (cs new : List Content)
+    → AreLaid cs
     → need % 2 ≡ 0 → 6 ≤ need → IsPlacing need name x p cs new
     → IsCut (all_gaps cs) (all_gaps new) x.address x.size p.size
 placing-IsCut need name x p cs new laid even least w =

@@ -47,7 +47,7 @@ pub at_index : (cs seen : List Content) (i n : ℕ) (item : Content) → seen �
     → IsAt cs i n item
 at_index cs seen i n item same within found is =
     let there = subst (λ ys. content_of ys n ≡ Some (get_or ys i item)) same (found item)
-        ∙ ap Some (sym is) in
+    ∙ ap Some (sym is) in
     record {
       within = subst (λ ys. i < length ys) same within;
       is = is;

@@ -88,13 +88,22 @@ or_else-false None other = refl
 or_else-false (Some x) other = refl
 
 -- what such a strategy takes first of all gaps is its choice
-pub choice-all : (s : Strategy) (depth need : ℕ) (cs : List Content) (found : Option Candidate) → may_miss s ≡ false → found ≡ first (takes_first s) (large_enough need (candidates cs)) → found ≡ or_else (may_miss s) (choice_among s depth need cs) (choice_empty need cs)
+pub choice-all : (s : Strategy) (depth need : ℕ) (cs : List Content) (found : Option Candidate)
+    → may_miss s ≡ false → found ≡ first (takes_first s) (large_enough need (candidates cs))
+    → found ≡ or_else (may_miss s) (choice_among s depth need cs) (choice_empty need cs)
 choice-all s depth need cs found miss is =
-    is ∙ ap (λ xs. first (takes_first s) (large_enough need xs)) (sym (all_inspected s depth (candidates cs) miss))
-    ∙ sym (ap (λ b. or_else b (choice_among s depth need cs) (choice_empty need cs)) miss ∙ or_else-false (choice_among s depth need cs) (choice_empty need cs))
+    is ∙ ap (λ xs. first (takes_first s) (large_enough need xs))
+    (sym (all_inspected s depth (candidates cs) miss))
+    ∙ sym (ap (λ b. or_else b (choice_among s depth need cs) (choice_empty need cs)) miss
+    ∙ or_else-false (choice_among s depth need cs) (choice_empty need cs))
 
 -- and another one has a choice besides
-pub choice-else : (s t : Strategy) (depth need : ℕ) (cs : List Content) (found looked : Option Candidate) → s ≡ t → may_miss t ≡ true → looked ≡ choice_among t depth need cs → found ≡ or_else true looked (choice_empty need cs) → found ≡ or_else (may_miss s) (choice_among s depth need cs) (choice_empty need cs)
+pub choice-else : (s t : Strategy) (depth need : ℕ) (cs : List Content)
+    (found looked : Option Candidate) → s ≡ t → may_miss t ≡ true
+    → looked ≡ choice_among t depth need cs → found ≡ or_else true looked (choice_empty need cs)
+    → found ≡ or_else (may_miss s) (choice_among s depth need cs) (choice_empty need cs)
 choice-else s t depth need cs found looked same miss is e =
-    e ∙ ap (λ o. or_else true o (choice_empty need cs)) is ∙ ap (λ b. or_else b (choice_among t depth need cs) (choice_empty need cs)) (sym miss)
-    ∙ ap (λ u. or_else (may_miss u) (choice_among u depth need cs) (choice_empty need cs)) (sym same)
+    e ∙ ap (λ o. or_else true o (choice_empty need cs)) is
+    ∙ ap (λ b. or_else b (choice_among t depth need cs) (choice_empty need cs)) (sym miss)
+    ∙ ap (λ u. or_else (may_miss u) (choice_among u depth need cs) (choice_empty need cs))
+    (sym same)

@@ -31,27 +31,43 @@ use Rattle.ea_laws.proofs.Standing.{clearing-Stands, creating-Stands, placing-St
 use Rattle.ea_model.specs.declared.units.TheConstants.{MAX_UNITS}
 
 -- what was found in an instance as it is seen
-module _ (i now : Instance) (taken : List Segment) (need number next : ℕ) (seen : i ≡ now) (kept : taken ≡ segments i.contents)
-    (free : Some number ≡ unused_from 256 (first_number i.number) i.contents) (pages : next ≡ next_pages i need) where
+module _ (i now : Instance) (taken : List Segment) (need number next : ℕ) (seen : i ≡ now)
+    (kept : taken ≡ segments i.contents)
+    (free : Some number ≡ unused_from 256 (first_number i.number) i.contents)
+    (pages : next ≡ next_pages i need) where
   run_of : (k : ℕ) (o : Option ℕ) → o ≡ lowest_run k (runs i.first i.end taken) → free_run i k ≡ o
   run_of k o found = sym (found ∙ ap (λ t. lowest_run k (runs i.first i.end t)) kept)
 
-  next_run : (o : Option ℕ) → o ≡ lowest_run next (runs i.first i.end taken) → free_run i (next_pages i need) ≡ o
+  next_run : (o : Option ℕ) → o ≡ lowest_run next (runs i.first i.end taken)
+      → free_run i (next_pages i need) ≡ o
   next_run o found = ap (free_run i) (sym pages) ∙ run_of next o found
 
-  pub found-next : (base : ℕ) (p : CarrierPlan) → Some base ≡ lowest_run next (runs i.first i.end taken) → p ≡ planned now number base next → Ok p ≡ plan now need
+  pub found-next : (base : ℕ) (p : CarrierPlan)
+      → Some base ≡ lowest_run next (runs i.first i.end taken) → p ≡ planned now number base next
+      → Ok p ≡ plan now need
   found-next base p found is =
-      ap Ok (is ∙ ap (λ x. planned x number base next) (sym seen) ∙ ap (planned i number base) pages)
-      ∙ sym (plan-next i need number (sym free) base (next_run (Some base) found)) ∙ ap (λ x. plan x need) seen
+      ap Ok (is ∙ ap (λ x. planned x number base next) (sym seen)
+      ∙ ap (planned i number base) pages)
+      ∙ sym (plan-next i need number (sym free) base (next_run (Some base) found))
+      ∙ ap (λ x. plan x need) seen
 
-  pub found-least : (least base : ℕ) (p : CarrierPlan) → least ≡ least_pages need → None ≡ lowest_run next (runs i.first i.end taken) → Some base ≡ lowest_run least (runs i.first i.end taken) → p ≡ planned now number base least → Ok p ≡ plan now need
+  pub found-least : (least base : ℕ) (p : CarrierPlan) → least ≡ least_pages need
+      → None ≡ lowest_run next (runs i.first i.end taken)
+      → Some base ≡ lowest_run least (runs i.first i.end taken) → p ≡ planned now number base least
+      → Ok p ≡ plan now need
   found-least least base p size none found is =
-      ap Ok (is ∙ ap (λ x. planned x number base least) (sym seen) ∙ ap (planned i number base) size)
-      ∙ sym (plan-least i need number (sym free) base (next_run None none) (ap (free_run i) (sym size) ∙ run_of least (Some base) found)) ∙ ap (λ x. plan x need) seen
+      ap Ok (is ∙ ap (λ x. planned x number base least) (sym seen)
+      ∙ ap (planned i number base) size)
+      ∙ sym (plan-least i need number (sym free) base (next_run None none)
+      (ap (free_run i) (sym size) ∙ run_of least (Some base) found))
+      ∙ ap (λ x. plan x need) seen
 
-  pub found-none : (least : ℕ) → least ≡ least_pages need → None ≡ lowest_run next (runs i.first i.end taken) → None ≡ lowest_run least (runs i.first i.end taken) → Err Space ≡ plan now need
+  pub found-none : (least : ℕ) → least ≡ least_pages need
+      → None ≡ lowest_run next (runs i.first i.end taken)
+      → None ≡ lowest_run least (runs i.first i.end taken) → Err Space ≡ plan now need
   found-none least size none nowhere =
-      sym (plan-nowhere i need number (sym free) (next_run None none) (ap (free_run i) (sym size) ∙ run_of least None nowhere)) ∙ ap (λ x. plan x need) seen
+      sym (plan-nowhere i need number (sym free) (next_run None none) (ap (free_run i) (sym size)
+      ∙ run_of least None nowhere)) ∙ ap (λ x. plan x need) seen
 
 -- the carrier that enters is the planned one
 pub entering : (n number : ℕ) (p : CarrierPlan) (carrier : Content) → n ≡ number
@@ -79,7 +95,9 @@ module _ (s : Settings) (n : ℕ) (ks : CarrierList) (created : ℕ) (r : Region
 
   -- a block is released
   pub kept-released : (spot : Spot) (new : CarrierList)
-      → new ≡ record ks { contents = changed (λ c. released c spot.offset) spot.carrier ks.contents }
+      → new ≡ record ks {
+        contents = changed (λ c. released c spot.offset) spot.carrier ks.contents;
+      }
       → KeepsCarriers s n new created r
   kept-released spot new is =
       subst (λ xs. KeepsCarriers s n xs created r) (sym is) (record {
@@ -91,16 +109,20 @@ module _ (s : Settings) (n : ℕ) (ks : CarrierList) (created : ℕ) (r : Region
 
   -- or not, where there is no memory
   pub kept-either : {T E : Type 0} (o : Result T E) (spot : Spot) (new : CarrierList)
-      → OnOk o (new ≡ record ks { contents =
-          changed (λ c. released c spot.offset) spot.carrier ks.contents })
+      → OnOk o (new ≡ record ks {
+        contents =
+            changed (λ c. released c spot.offset) spot.carrier ks.contents;
+      })
       → OnErr o (new ≡ ks) → KeepsCarriers s n new created r
   kept-either (Ok x) spot new ok err = kept-released spot new ok
   kept-either (Err e) spot new ok err = subst (λ xs. KeepsCarriers s n xs created r) (sym err) k
 
   pub others-either : {T E : Type 0} (o : Result T E) (spot : Spot) (new : CarrierList)
       (now : Instance) → seen_as s n ks created r ≡ now
-      → OnOk o (new ≡ record ks { contents =
-          changed (λ c. released c spot.offset) spot.carrier ks.contents })
+      → OnOk o (new ≡ record ks {
+        contents =
+            changed (λ c. released c spot.offset) spot.carrier ks.contents;
+      })
       → OnErr o (new ≡ ks) → (at : Spot) → IsOther spot.carrier spot.offset at
       → block_in new.contents at ≡ block_in now.contents at
   others-either (Ok x) spot new now seen ok err at other =
@@ -129,7 +151,7 @@ module _ (s : Settings) (n : ℕ) (ks : CarrierList) (created : ℕ) (r : Region
   -- a gap that the carriers choose is the one that the instance does
   module _ (need : ℕ) (found : Choice) (now : Instance) (seen : seen_as s n ks created r ≡ now)
       (chosen : Some found.candidate ≡ or_else (may_miss ks.strategy)
-          (choice_among ks.strategy s.mbsd need ks.contents) (choice_empty need ks.contents))
+      (choice_among ks.strategy s.mbsd need ks.contents) (choice_empty need ks.contents))
       (choice : IsChoice need ks.contents found) where
     abbrev x : Candidate
     x = found.candidate
@@ -142,7 +164,7 @@ module _ (s : Settings) (n : ℕ) (ks : CarrierList) (created : ℕ) (r : Region
 
     pub place-chosen : (size : ℕ) → size ≡ size_for (content_of ks.contents x.number) x.offset need
         → Some (record { carrier = x.number; offset = x.offset; size = size })
-            ≡ option_map (λ spot. place_at now spot need) (chosen_spot now need)
+        ≡ option_map (λ spot. place_at now spot need) (chosen_spot now need)
     place-chosen size is =
         ap (λ m. Some (record { carrier = x.number; offset = x.offset; size = m }))
         (is ∙ ap (λ (i : Instance). size_for (content_of i.contents x.number) x.offset need) seen)
@@ -151,12 +173,14 @@ module _ (s : Settings) (n : ℕ) (ks : CarrierList) (created : ℕ) (r : Region
     has-gap : HasGap need x.number x.offset ks.contents
     has-gap =
         let at = at_choice need ks.contents found choice.content k.stands.kept.rising
-            (sym choice.is) choice in
+        (sym choice.is) choice in
         (choice.content, at.there, omega (arith, choice.chosen.gap, choice.chosen.fits))
 
     module _ (name : ℕ) (even : need % 2 ≡ 0) (least : 6 ≤ need) (new : CarrierList)
-        (is : new ≡ record ks { contents =
-            changed (λ c. placed c x.offset need name) x.number ks.contents }) where
+        (is : new ≡ record ks {
+          contents =
+              changed (λ c. placed c x.offset need name) x.number ks.contents;
+        }) where
       pub seen-placed : seen_as s n new created r ≡ placing_if now (chosen_spot now need) need name
       seen-placed =
           ap (λ ys. seen_as s n ys created r) is
@@ -175,7 +199,7 @@ module _ (s : Settings) (n : ℕ) (ks : CarrierList) (created : ℕ) (r : Region
       pub blocks-placed : (size : ℕ)
           → size ≡ size_for (content_of ks.contents x.number) x.offset need
           → IsPlaced now.contents new.contents name
-              (record { carrier = x.number; offset = x.offset; size = size })
+          (record { carrier = x.number; offset = x.offset; size = size })
       blocks-placed size sized =
           subst (λ (i : Instance). IsPlaced i.contents new.contents name
           (record { carrier = x.number; offset = x.offset; size = size })) seen
@@ -217,10 +241,14 @@ module _ (s : Settings) (n : ℕ) (ks : CarrierList) (created : ℕ) (r : Region
 
     -- after its pages are taken and it has entered, all is kept
     module _ (r2 : Region) (new : CarrierList)
-        (took : r2 ≡ record r { taken =
-            with_segment (record { base = p.base; pages = p.pages }) r.taken })
-        (is : new ≡ record ks { contents =
-            with_content (created_content n Multi p) ks.contents }) where
+        (took : r2 ≡ record r {
+          taken =
+              with_segment (record { base = p.base; pages = p.pages }) r.taken;
+        })
+        (is : new ≡ record ks {
+          contents =
+              with_content (created_content n Multi p) ks.contents;
+        }) where
       pub kept-created : KeepsCarriers s n new p.birth r2
       kept-created =
           subst (λ ys. KeepsCarriers s n ys p.birth r2) (sym is)

@@ -22,10 +22,13 @@ use Rattle.ea_laws.proofs.Changed.{KeepsPlace}
 use Rattle.ea_laws.proofs.Apart.{only_item}
 
 -- a carrier that is listed is held
-pub held-some : (n : ℕ) (cs : List Content) → IsSome (content_of cs n) → is_held n (map held_of cs) ≡ true
-held-some n cs h = subst (λ o. IsSome o) (sym (item_at-map set_number held_of n cs)) (is_some-map held_of (content_of cs n) ∙ h)
+pub held-some : (n : ℕ) (cs : List Content) → IsSome (content_of cs n)
+    → is_held n (map held_of cs) ≡ true
+held-some n cs h = subst (λ o. IsSome o) (sym (item_at-map set_number held_of n cs))
+    (is_some-map held_of (content_of cs n) ∙ h)
 
-pub held-there : (n : ℕ) (c : Content) (cs : List Content) → content_of cs n ≡ Some c → is_held n (map held_of cs) ≡ true
+pub held-there : (n : ℕ) (c : Content) (cs : List Content) → content_of cs n ≡ Some c
+    → is_held n (map held_of cs) ≡ true
 held-there n c cs there = held-some n cs (subst (λ o. IsSome o) (sym there) refl)
 
 -- and a carrier that is held is listed
@@ -45,20 +48,27 @@ found-listed o cs now set held seen h =
 
 module _ (f : Content → Content) (k : KeepsPlace f) (n : ℕ) (item : Content) where
   -- the carrier with another fit is the changed carrier
-  held_changed : (c : Content) → c.number ≡ n → c ≡ item → with_fit n (largest (gaps_of (f item))) (held_of c) ≡ held_of (f c)
-  held_changed c e same = let number = k.number c in let base = k.base c in let birth = k.birth c in grind arith
+  held_changed : (c : Content) → c.number ≡ n → c ≡ item
+      → with_fit n (largest (gaps_of (f item))) (held_of c) ≡ held_of (f c)
+  held_changed c e same = let number = k.number c in let base = k.base c in let birth =
+      k.birth c in grind arith
 
   held_other : (c : Content) (fit : ℕ) → c.number ≢ n → with_fit n fit (held_of c) ≡ held_of c
   held_other c fit o = grind arith
 
-  held-changed : (cs : List Content) → All (λ c. c.number ≡ n → c ≡ item) cs → refitted n (largest (gaps_of (f item))) (map held_of cs) ≡ map held_of (changed f n cs)
+  held-changed : (cs : List Content) → All (λ c. c.number ≡ n → c ≡ item) cs
+      → refitted n (largest (gaps_of (f item))) (map held_of cs) ≡ map held_of (changed f n cs)
   held-changed [] one = refl
   held-changed (c ∷ cs) one =
       let is_item : Content → Type 0 = λ x. x.number ≡ n → x ≡ item in
       let more = held-changed cs (All-tail is_item c cs one) in
       elim (cases_eq c.number n) [
-        | inl e ↦ ap (λ h. h ∷ refitted n (largest (gaps_of (f item))) (map held_of cs)) (held_changed c e (All-head is_item c cs one e)) ∙ ap (λ hs. held_of (f c) ∷ hs) more ∙ sym (ap (map held_of) (changed_here number_of f n c cs e))
-        | inr o ↦ ap (λ h. h ∷ refitted n (largest (gaps_of (f item))) (map held_of cs)) (held_other c (largest (gaps_of (f item))) o) ∙ ap (λ hs. held_of c ∷ hs) more ∙ sym (ap (map held_of) (changed_past number_of f n c cs o))
+        | inl e ↦ ap (λ h. h ∷ refitted n (largest (gaps_of (f item))) (map held_of cs))
+            (held_changed c e (All-head is_item c cs one e)) ∙ ap (λ hs. held_of (f c) ∷ hs) more
+            ∙ sym (ap (map held_of) (changed_here number_of f n c cs e))
+        | inr o ↦ ap (λ h. h ∷ refitted n (largest (gaps_of (f item))) (map held_of cs))
+            (held_other c (largest (gaps_of (f item))) o) ∙ ap (λ hs. held_of c ∷ hs) more
+            ∙ sym (ap (map held_of) (changed_past number_of f n c cs o))
       ]
 
   -- the list, the set and the bins with a changed carrier
@@ -89,7 +99,7 @@ IsListed-entered s cs new x key fit set after bins left l is keyed fits e same g
       ∙ ap (entered set_number (record { key = key; fit = fit })) l.held
       ∙ ap (λ j. entered set_number (record { key = j; fit = fit }) (map held_of cs)) keyed
       ∙ ap (λ m. entered set_number (record { key = (held_of x).key; fit = m }) (map held_of cs))
-          fits
+      fits
       ∙ entered-map set_number held_of x cs ∙ sym (ap (map held_of) is);
   room = ap (λ (c : Carriers). c.room) e ∙ l.room;
   some = (λ gf. same ∙ l.some.0 gf, λ h. l.some.1 (sym same ∙ h));
@@ -128,11 +138,15 @@ turns g h = elim (cases_eq g.address h.address) [ inl e ↦ grind arith | inr n 
 
 differ-permuted : (xs ys : List Gap) → IsPermutation xs ys → DifferIn xs → DifferIn ys
 differ-permuted xs ys m differ =
-    let distinct = IsDistinct-IsPermutation same_address turns xs ys m (IsDistinct-from_apart same_address xs (λ i j d lt within. differ_false _ _ (differ i j d lt within))) in
-    λ i j d lt within. false_differ _ _ (apart_from_distinct same_address ys i j d distinct lt within)
+    let distinct = IsDistinct-IsPermutation same_address turns xs ys m
+    (IsDistinct-from_apart same_address xs
+    (λ i j d lt within. differ_false _ _ (differ i j d lt within))) in
+    λ i j d lt within. false_differ _ _
+    (apart_from_distinct same_address ys i j d distinct lt within)
 
 -- the first of gaps at different addresses has an address of its own
-pub first-alone : (all : List Gap) (g : Gap) (rest : List Gap) → DifferIn all → IsPermutation all (g ∷ rest) → All (λ h. h.address ≢ g.address) rest
+pub first-alone : (all : List Gap) (g : Gap) (rest : List Gap) → DifferIn all
+    → IsPermutation all (g ∷ rest) → All (λ h. h.address ≢ g.address) rest
 first-alone all g rest differ m =
     let pairs = differ-permuted all (g ∷ rest) m differ in
     λ i d within e. pairs 0 (suc i) d (omega arith) (omega arith) (sym e)

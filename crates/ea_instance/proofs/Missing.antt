@@ -23,17 +23,21 @@ use Rattle.ea_instance.specs.declared.choice.Choice.{Choice}
 use Rattle.ea_instance.proofs.Located.{good_fit-at}
 
 -- the gap that the bins give, in its carrier, is the choice of good fit
-pub gf-choice : (depth need : ℕ) (cs now : List Content) (o : Option Gap) → cs ≡ now → All IsLaidOut cs → AllPairs ContentsApart cs → o ≡ good_fit (λ g. g.address) (λ g. g.size) depth need (all_gaps cs)
+pub gf-choice : (depth need : ℕ) (cs now : List Content) (o : Option Gap) → cs ≡ now
+    → All IsLaidOut cs → AllPairs ContentsApart cs
+    → o ≡ good_fit (λ g. g.address) (λ g. g.size) depth need (all_gaps cs)
     → option_and_then (λ g. candidate_at g cs) o ≡ choice_among Gf depth need now
 gf-choice depth need cs now o seen sound apart is =
-    ap (option_and_then (λ g. candidate_at g cs)) is ∙ good_fit-at depth need cs sound apart ∙ ap (choice_among Gf depth need) seen
+    ap (option_and_then (λ g. candidate_at g cs)) is ∙ good_fit-at depth need cs sound apart
+    ∙ ap (choice_among Gf depth need) seen
 
 -- it is a candidate of at least the need
 gf-large : (depth need : ℕ) (cs : List Content)
     → IfSome (choice_among Gf depth need cs) (IsLarge need (candidates cs))
 gf-large depth need cs =
     let all = candidates cs in
-    first-All (IsLarge need all) (takes_first Gf) None (large_enough need (inspected_by Gf depth all))
+    first-All (IsLarge need all) (takes_first Gf) None
+    (large_enough need (inspected_by Gf depth all))
     tt (large_among need all (inspected_by Gf depth all)
     (All-filter (is_inspected (λ x. x.address) (λ x. x.size) depth all) (Contains all) all
     (All-contains_itself all)))
@@ -51,7 +55,7 @@ gf-IsChoice depth need cs (Some x) laid is stands =
     let y = x.candidate in
     let c = stands.content in
     let large = some_holds (choice_among Gf depth need cs) y (IsLarge need (candidates cs)) (sym is)
-        (gf-large depth need cs) in
+    (gf-large depth need cs) in
     let owned = candidate-IsOwned y cs laid.rising laid.sound large.0 in
     let there : content_of cs y.number ≡ Some c =
     ap (content_of cs) (stands.number ∙ sym (ap number_of stands.is))
@@ -78,11 +82,16 @@ lowest-found cs now seen o is laid shown found =
     ∙ ap (first lower) (large-all now laid.sound)
 
 -- address fit chooses it, if it is large enough
-pub af-none : (depth need : ℕ) (cs : List Content) → first lower (candidates cs) ≡ None → choice_among Af depth need cs ≡ None
+pub af-none : (depth need : ℕ) (cs : List Content) → first lower (candidates cs) ≡ None
+    → choice_among Af depth need cs ≡ None
 af-none depth need cs none = ap (λ o. first lower (large_enough need (only o))) none
 
-pub af-small : (depth need : ℕ) (cs : List Content) (x : Candidate) → first lower (candidates cs) ≡ Some x → x.size < need → choice_among Af depth need cs ≡ None
-af-small depth need cs x is lt = ap (λ o. first lower (large_enough need (only o))) is ∙ ap (first lower) (large-past (λ (y : Candidate). y.size) need x [] lt)
+pub af-small : (depth need : ℕ) (cs : List Content) (x : Candidate)
+    → first lower (candidates cs) ≡ Some x → x.size < need → choice_among Af depth need cs ≡ None
+af-small depth need cs x is lt = ap (λ o. first lower (large_enough need (only o))) is
+    ∙ ap (first lower) (large-past (λ (y : Candidate). y.size) need x [] lt)
 
-pub af-large : (depth need : ℕ) (cs : List Content) (x : Candidate) → first lower (candidates cs) ≡ Some x → need ≤ x.size → choice_among Af depth need cs ≡ Some x
-af-large depth need cs x is le = ap (λ o. first lower (large_enough need (only o))) is ∙ ap (first lower) (large-here (λ (y : Candidate). y.size) need x [] le)
+pub af-large : (depth need : ℕ) (cs : List Content) (x : Candidate)
+    → first lower (candidates cs) ≡ Some x → need ≤ x.size → choice_among Af depth need cs ≡ Some x
+af-large depth need cs x is le = ap (λ o. first lower (large_enough need (only o))) is
+    ∙ ap (first lower) (large-here (λ (y : Candidate). y.size) need x [] le)

@@ -17,14 +17,15 @@ pub record AreLaid (cs : List Content) : Type 0 where
   pub apart : AllPairs ContentsApart cs
 
 -- a block was placed in the gap
-pub record IsPlacing (need name : ℕ) (x : Candidate) (p : Placed) (old new : List Content) : Type 0 where
-  pub content : Content
-  pub there : content_of old x.number ≡ Some content
-  pub chosen : IsChosenIn need content x
-  pub is : new ≡ changed (λ c. placed c x.offset need name) x.number old
-  pub size : p.size ≡ taken_of x.size need
-  pub largest : p.largest ≡ largest (gaps_of (placed content x.offset need name))
-  pub taken : GapTaken content (placed content x.offset need name) x.offset p.size
+pub record IsPlacing (need name : ℕ) (x : Candidate) (p : Placed) (old new : List Content) : Type 0
+  where
+    pub content : Content
+    pub there : content_of old x.number ≡ Some content
+    pub chosen : IsChosenIn need content x
+    pub is : new ≡ changed (λ c. placed c x.offset need name) x.number old
+    pub size : p.size ≡ taken_of x.size need
+    pub largest : p.largest ≡ largest (gaps_of (placed content x.offset need name))
+    pub taken : GapTaken content (placed content x.offset need name) x.offset p.size
 
 -- the block at the offset was released
 pub record IsReleasing (number offset : ℕ) (f : Joined) (old new : List Content) : Type 0 where

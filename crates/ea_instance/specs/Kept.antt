@@ -17,8 +17,10 @@ seen_as settings number carriers created region = record {
   created = created;
 }
 
--- the carriers choose by the settings' strategy, their segments are the taken ones of the region, and the instance stands
-pub record KeepsCarriers (settings : Settings) (number : ℕ) (carriers : CarrierList) (created : ℕ) (region : Region) : Type 0 where
+-- the carriers choose by the settings' strategy, their segments are the taken ones of the region,
+-- and the instance stands
+pub record KeepsCarriers (settings : Settings) (number : ℕ) (carriers : CarrierList) (created : ℕ)
+    (region : Region) : Type 0 where
   pub strategy : carriers.strategy ≡ settings.strategy
   pub taken : region.taken ≡ segments carriers.contents
   pub stands : Stands (seen_as settings number carriers created region)

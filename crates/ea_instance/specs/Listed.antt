@@ -24,7 +24,10 @@ pub record CarrierList : Type 0 where
 
 -- what the set knows of a carrier: what tells it from the others, and its largest gap
 abbrev pub held_of : Content → Held
-held_of c = record { key = record { number = c.number; base = c.base; birth = c.birth }; fit = largest (gaps_of c) }
+held_of c = record {
+  key = record { number = c.number; base = c.base; birth = c.birth };
+  fit = largest (gaps_of c);
+}
 
 -- what the bins know of a gap
 abbrev pub gap_of : Candidate → Gap
@@ -40,7 +43,8 @@ some_gap g = if nat_lt 0 g.size then g ∷ [] else []
 abbrev pub gap_from : ℕ → ℕ → List Gap
 gap_from address size = some_gap (record { address = address; size = size })
 
--- a gap of `whole` units at the address is held, and no other gap begins where a block of `size` units at its front ends
+-- a gap of `whole` units at the address is held, and no other gap begins where a block of `size`
+-- units at its front ends
 pub record CanCut (held : List Gap) (address whole size : ℕ) : Type 0 where
   pub some : 0 < whole
   pub within : size ≤ whole
@@ -49,16 +53,20 @@ pub record CanCut (held : List Gap) (address whole size : ℕ) : Type 0 where
   pub order : IsPermutation held (gap_from address whole ++ rest)
   pub free : size < whole → All (λ g. g.address ≢ address + size) rest
 
--- the gaps beside a block of `size` units at the address are held, and no other gap begins where the one before it does
+-- the gaps beside a block of `size` units at the address are held, and no other gap begins where
+-- the one before it does
 pub record CanJoin (held : List Gap) (address before size behind : ℕ) : Type 0 where
   pub within : before ≤ address
   pub fits : address + size + behind < 2 ^ 32
   pub rest : List Gap
-  pub order : IsPermutation held (gap_from (address - before) before ++ (gap_from (address + size) behind ++ rest))
+  pub order : IsPermutation held
+      (gap_from (address - before) before ++ (gap_from (address + size) behind ++ rest))
   pub free : All (λ g. g.address ≢ address - before) rest
 
--- the set holds the carriers and has room for all numbers, and there are bins exactly under good fit, which hold all gaps
-pub record IsListed (strategy : Strategy) (list : List Content) (set : Carriers) (bins : Option HeldGaps) : Type 0 where
+-- the set holds the carriers and has room for all numbers, and there are bins exactly under good
+-- fit, which hold all gaps
+pub record IsListed (strategy : Strategy) (list : List Content) (set : Carriers)
+    (bins : Option HeldGaps) : Type 0 where
   pub held : set.held ≡ map held_of list
   pub room : set.room ≡ NUMBERS
   pub some : (strategy ≡ Gf) ↔ IsSome bins
@@ -78,7 +86,14 @@ spans address c = nat_le (512 * c.base) address && nat_lt address (512 * c.base 
 
 -- the gap as one of the carrier
 abbrev pub located : Gap → Content → Candidate
-located g c = record { number = c.number; base = c.base; birth = c.birth; offset = g.address - 512 * c.base; address = g.address; size = g.size }
+located g c = record {
+  number = c.number;
+  base = c.base;
+  birth = c.birth;
+  offset = g.address - 512 * c.base;
+  address = g.address;
+  size = g.size;
+}
 
 -- the gap as one of the first carrier that spans it
 abbrev pub candidate_at : Gap → List Content → Option Candidate

@@ -1,4 +1,5 @@
-//! The gaps of an instance's carriers in its bins, where its strategy has bins. A gap of no units is none.
+//! The gaps of an instance's carriers in its bins, where its strategy has bins. A gap of no units
+//! is none.
 ghost use Rattle.std.specs.Prelude.{◌≡◌, ◌≢◌, ◌+◌, ◌-◌, ◌^◌, ◌<◌, ◌≤◌, ◌++◌, ◌↔◌, [], List, All, IsSome, IfSome, OnOk, is_some};
 ghost use Rattle.std.specs.List.Sorted.{IsPermutation};
 ghost use Rattle.ea_goodfit.specs.declared.gaps.Gap as gaps;
@@ -55,9 +56,9 @@ pub fn note_released(bins: &mut Option<Bins>, address: u32, freed: Freed)
     ensures some { is_some bins.new ≡ is_some bins.old }
     ensures joined { (rest : List gaps.Gap)
         → Hold bins.old (gap_from (address - freed.before) freed.before
-            ++ (gap_from (address + freed.size) freed.after ++ rest))
+        ++ (gap_from (address + freed.size) freed.after ++ rest))
         → Hold bins.new (gap_from (address - freed.before)
-            (freed.before + freed.size + freed.after) ++ rest) }
+        (freed.before + freed.size + freed.after) ++ rest) }
 {
     if let Some(bins) = bins {
         join(bins, address, freed.before, freed.size, freed.after);
@@ -93,7 +94,8 @@ pub fn note_left(bins: &mut Option<Bins>, gap: Gap)
 /// Takes a gap out of the bins.
 fn take_out(bins: &mut Bins, gap: Gap)
     requires held { (rest : List gaps.Gap) × IsPermutation bins.old.held (some_gap gap ++ rest) }
-    ensures left { (rest : List gaps.Gap) → IsPermutation bins.old.held (some_gap gap ++ rest) → IsPermutation bins.new.held rest }
+    ensures left { (rest : List gaps.Gap) → IsPermutation bins.old.held (some_gap gap ++ rest)
+        → IsPermutation bins.new.held rest }
     ensures room { bins.old.room ≤ bins.new.room }
     ensures freed { 0 < gap.size → bins.old.room < bins.new.room }
 {
@@ -116,7 +118,8 @@ fn put_in(bins: &mut Bins, gap: Gap)
 /// Notes that a block of `size` units stands at the front of a gap of `whole` units.
 fn cut(bins: &mut Bins, address: u32, whole: u32, size: u32)
     requires { CanCut bins.old.held address whole size }
-    ensures { (rest : List gaps.Gap) → IsPermutation bins.old.held (gap_from address whole ++ rest) → IsPermutation bins.new.held (gap_from (address + size) (whole - size) ++ rest) }
+    ensures { (rest : List gaps.Gap) → IsPermutation bins.old.held (gap_from address whole ++ rest)
+        → IsPermutation bins.new.held (gap_from (address + size) (whole - size) ++ rest) }
 {
     take_out(
         bins,
@@ -138,7 +141,10 @@ fn cut(bins: &mut Bins, address: u32, whole: u32, size: u32)
 fn join(bins: &mut Bins, address: u32, before: u32, size: u32, behind: u32)
     requires room { 0 < bins.old.room }
     requires held { CanJoin bins.old.held address before size behind }
-    ensures { (rest : List gaps.Gap) → IsPermutation bins.old.held (gap_from (address - before) before ++ (gap_from (address + size) behind ++ rest)) → IsPermutation bins.new.held (gap_from (address - before) (before + size + behind) ++ rest) }
+    ensures { (rest : List gaps.Gap)
+        → IsPermutation bins.old.held
+        (gap_from (address - before) before ++ (gap_from (address + size) behind ++ rest))
+        → IsPermutation bins.new.held (gap_from (address - before) (before + size + behind) ++ rest) }
 {
     take_out(
         bins,
@@ -162,4 +168,3 @@ fn join(bins: &mut Bins, address: u32, before: u32, size: u32, behind: u32)
         },
     );
 }
-

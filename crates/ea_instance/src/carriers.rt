@@ -15,9 +15,7 @@ ghost use Rattle.ea_instance.specs.Choices.{candidate_of, IsChoice};
 ghost use Rattle.ea_instance.specs.Listed.{candidate_in};
 ghost use Rattle.ea_instance.specs.Searches.{is_better};
 
-use crate::binned::{
-    bins_for, make_room, note_entered, note_left, note_placed, note_released,
-};
+use crate::binned::{bins_for, make_room, note_entered, note_left, note_placed, note_released};
 use crate::changes;
 use crate::choice::Choice;
 use crate::employed::Employed;
@@ -31,8 +29,10 @@ use ea_model::{HEADER_UNITS, Inner, NUMBERS, OutOfMemory, Strategy};
 use std::alloc::Global;
 use std::marker::Model;
 
-/// The main and multiblock carriers that an instance employs, with what its strategy finds gaps by: a set
-/// of carriers, and under good fit bins of all gaps. Contracts see the strategy, and the carriers' contents
+/// The main and multiblock carriers that an instance employs, with what its strategy finds gaps by:
+/// a set
+/// of carriers, and under good fit bins of all gaps. Contracts see the strategy, and the carriers'
+/// contents
 /// by rising number.
 #[derive(Drop)]
 pub struct Carriers {
@@ -73,7 +73,8 @@ impl Carriers {
         &self.list
     }
 
-    /// The gap that the strategy chooses among those of all carriers. Good fit inspects `depth` gaps of a
+    /// The gap that the strategy chooses among those of all carriers. Good fit inspects `depth`
+    /// gaps of a
     /// bin.
     pub fn chosen(&self, need: u32, depth: u32) -> Option<Choice>
         requires laid { AreLaid self.now.contents }
@@ -152,10 +153,12 @@ impl Carriers {
         requires least { 6 ≤ need }
         ensures size { IfOk result (λ size. size
             ≡ size_for (content_of self.old.contents choice.candidate.number)
-                choice.candidate.offset need) }
-        ensures ok { OnOk result (self.new ≡ record self.old { contents =
-            changed (λ c. placed c choice.candidate.offset need name) choice.candidate.number
-                self.old.contents }) }
+            choice.candidate.offset need) }
+        ensures ok { OnOk result (self.new ≡ record self.old {
+          contents =
+              changed (λ c. placed c choice.candidate.offset need name) choice.candidate.number
+              self.old.contents;
+        }) }
         ensures err { OnErr result (self.new ≡ self.old) }
     {
         let gap = choice.candidate;
@@ -171,8 +174,10 @@ impl Carriers {
         requires block { IsSome (block_in self.old.contents
             (record { carrier = number; offset = offset })) }
         ensures answer { IfOk result (λ a. a ≡ follow_up (content_of self.new.contents number)) }
-        ensures ok { OnOk result (self.new ≡ record self.old { contents =
-            changed (λ c. released c offset) number self.old.contents }) }
+        ensures ok { OnOk result (self.new ≡ record self.old {
+          contents =
+              changed (λ c. released c offset) number self.old.contents;
+        }) }
         ensures err { OnErr result (self.new ≡ self.old) }
     {
         make_room(&mut self.bins)?;
@@ -191,8 +196,10 @@ impl Carriers {
         requires low { 512 * employed.base + employed.units ≤ MAX_UNITS }
         requires shared { is_shared employed.kind ≡ true }
         requires empty { employed.blocks ≡ [] }
-        ensures ok { OnOk result (self.new ≡ record self.old { contents =
-            with_content employed self.old.contents }) }
+        ensures ok { OnOk result (self.new ≡ record self.old {
+          contents =
+              with_content employed self.old.contents;
+        }) }
         ensures err { OnErr result (self.new ≡ self.old) }
     {
         make_room(&mut self.bins)?;
@@ -211,8 +218,10 @@ impl Carriers {
         requires there { (c : Content) × (content_of self.old.contents number ≡ Some c)
             × (c.blocks ≡ []) }
         ensures carrier { content_of self.old.contents number ≡ Some result }
-        ensures rest { self.new ≡ record self.old { contents =
-            without_content number self.old.contents } }
+        ensures rest { self.new ≡ record self.old {
+          contents =
+              without_content number self.old.contents;
+        } }
     {
         self.set.remove(number);
         let employed = take_out(number, &mut self.list);

@@ -56,7 +56,8 @@ impl Employed {
         }
     }
 
-    /// The gap that is chosen in it. It stands at the index among the carriers, and lies in the super
+    /// The gap that is chosen in it. It stands at the index among the carriers, and lies in the
+    /// super
     /// carrier.
     pub fn choose(&self, index: usize, inner: Inner, need: u32) -> Option<Choice>
         requires some { 1 ≤ need }

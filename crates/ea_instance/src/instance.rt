@@ -105,8 +105,10 @@ fn main_carrier(
 }
 
 impl Instance {
-    /// An instance before its first operation: instance `number`, from 1, of at most 16, with the region of
-    /// `pages` pages from page `first` on. Where the settings ask for a main carrier, it is created.
+    /// An instance before its first operation: instance `number`, from 1, of at most 16, with the
+    /// region of
+    /// `pages` pages from page `first` on. Where the settings ask for a main carrier, it is
+    /// created.
     pub fn new(
         alloc: Global,
         settings: Settings,
@@ -160,7 +162,8 @@ impl Instance {
         Some(item_of(carrier, self.carriers.as_slice())?.line())
     }
 
-    /// Adds the lines of all carriers that it employs, by rising number. Where there is no memory, the
+    /// Adds the lines of all carriers that it employs, by rising number. Where there is no memory,
+    /// the
     /// list stays as it was.
     pub fn put_lines(&self, lines: &mut List<CarrierLine>) -> Result<(), OutOfMemory>
         ensures ok { OnOk result (lines.new.items
@@ -193,22 +196,32 @@ impl Instance {
         free_of(self.carriers.as_slice())
     }
 
-    /// Places a block of `need` units in the gap that its strategy chooses. None, and nothing changed, where
+    /// Places a block of `need` units in the gap that its strategy chooses. None, and nothing
+    /// changed, where
     /// there is no choice.
     pub fn try_alloc(&mut self, need: u32, name: u32) -> Result<Option<Place>, OutOfMemory>
         requires even { need % 2 ≡ 0 }
         requires least { 6 ≤ need }
-        ensures place { IfOk result (λ place. place ≡ option_map (λ spot. place_at self.old spot need) (chosen_spot self.old need)) }
-        ensures ok { OnOk result (self.new ≡ placing_if self.old (chosen_spot self.old need) need name) }
+        ensures place { IfOk result (λ place. place ≡ option_map (λ spot. place_at self.old spot need)
+            (chosen_spot self.old need)) }
+        ensures ok { OnOk result
+            (self.new ≡ placing_if self.old (chosen_spot self.old need) need name) }
         ensures err { OnErr result (self.new ≡ self.old) }
 
-        // None exactly where nothing that the strategy inspects has that many units, and, where it may miss
-        // a gap, no multiblock carrier without blocks has. Good fit and address fit alone may miss one.
-        ensures none { IfOk result (λ found. IsNone found ↔ FindsNone self.old.settings need self.old.contents) }
-        ensures all { may_miss self.old.settings.strategy ≡ false → IfOk result (λ found. IsNone found ↔ All (λ x. x.size < need) (candidates self.old.contents)) }
+        // None exactly where nothing that the strategy inspects has that many units, and, where it
+        // may miss
+        // a gap, no multiblock carrier without blocks has. Good fit and address fit alone may miss
+        // one.
+        ensures none { IfOk result
+            (λ found. IsNone found ↔ FindsNone self.old.settings need self.old.contents) }
+        ensures all { may_miss self.old.settings.strategy ≡ false
+            → IfOk result
+            (λ found. IsNone found ↔ All (λ x. x.size < need) (candidates self.old.contents)) }
 
         // It lies where no block began, and other blocks stay.
-        ensures blocks { IfOk result (λ found. IfSome found (λ place. IsPlaced self.old.contents self.new.contents name place)) }
+        ensures blocks { IfOk result
+            (λ found. IfSome found
+            (λ place. IsPlaced self.old.contents self.new.contents name place)) }
     {
         self.place_chosen(need, name)
     }
@@ -216,10 +229,14 @@ impl Instance {
     fn place_chosen(&mut self, need: u32, name: u32) -> Result<Option<Place>, OutOfMemory>
         requires even { need % 2 ≡ 0 }
         requires least { 6 ≤ need }
-        ensures place { IfOk result (λ place. place ≡ option_map (λ spot. place_at self.old spot need) (chosen_spot self.old need)) }
-        ensures ok { OnOk result (self.new ≡ placing_if self.old (chosen_spot self.old need) need name) }
+        ensures place { IfOk result (λ place. place ≡ option_map (λ spot. place_at self.old spot need)
+            (chosen_spot self.old need)) }
+        ensures ok { OnOk result
+            (self.new ≡ placing_if self.old (chosen_spot self.old need) need name) }
         ensures err { OnErr result (self.new ≡ self.old) }
-        ensures blocks { IfOk result (λ found. IfSome found (λ place. IsPlaced self.old.contents self.new.contents name place)) }
+        ensures blocks { IfOk result
+            (λ found. IfSome found
+            (λ place. IsPlaced self.old.contents self.new.contents name place)) }
     {
         let Some(choice) = self.carriers.chosen(need, self.settings.mbsd) else {
             return Ok(None);
@@ -235,7 +252,8 @@ impl Instance {
     /// The lowest of its carrier numbers that isn't in use. Its settings are valid.
     fn unused_number(&self) -> Option<u32>
         ensures valid { IsValid self.now.settings }
-        ensures number { result ≡ unused_from NUMBERS (instances.first_number self.now.number) self.now.contents }
+        ensures number { result ≡ unused_from NUMBERS (instances.first_number self.now.number)
+            self.now.contents }
     {
         unused_number(first_number(self.number), self.carriers.as_slice())
     }
@@ -247,25 +265,31 @@ impl Instance {
         self.region.find(pages)
     }
 
-    /// The pages of the next carrier: as many as it would have by its turn, and no fewer than `least`.
+    /// The pages of the next carrier: as many as it would have by its turn, and no fewer than
+    /// `least`.
     fn next_pages(&self, least: u32) -> u32
-        ensures pages { result ≡ max least (instances.pages_for (growth self.now.settings (multis self.now.contents))) }
+        ensures pages { result ≡ max least
+            (instances.pages_for (growth self.now.settings (multis self.now.contents))) }
         ensures small { result ≤ max least MAX_PAGES }
     {
         least.max(pages_for(growth(self.settings, multi_count(self.carriers.as_slice()))))
     }
 
-    /// The multiblock carrier that it would create for a block of `need` units, at most `sbct`, or why it
+    /// The multiblock carrier that it would create for a block of `need` units, at most `sbct`, or
+    /// why it
     /// can't.
     pub fn plan_carrier(&self, need: u32) -> Result<CarrierPlan, NoCarrier>
         requires need { need ≤ self.now.settings.sbct }
         requires created { self.now.created + 1 < 2 ^ 32 }
         ensures plan { result ≡ plan self.now need }
 
-        // Numbers exactly where all its numbers are in use; Space exactly where one is not, and no run holds
+        // Numbers exactly where all its numbers are in use; Space exactly where one is not, and no
+        // run holds
         // the least carrier.
         ensures numbers { (result ≡ Err Numbers) ↔ AllUsed self.now }
-        ensures space { (result ≡ Err Space) ↔ ((AllUsed self.now → ⊥) × All (λ r. r.pages < least_pages need) (runs self.now.first self.now.end (segments self.now.contents))) }
+        ensures space { (result ≡ Err Space) ↔ ((AllUsed self.now → ⊥)
+            × All (λ r. r.pages < least_pages need)
+            (runs self.now.first self.now.end (segments self.now.contents))) }
         ensures pages { IfOk result (λ p. (1 ≤ p.pages) × (512 * p.pages < 2 ^ 32)) }
     {
         self.plan_for(need)
@@ -320,7 +344,8 @@ impl Instance {
         )
     }
 
-    /// Employs the carrier of its present plan for a block of `need` units. Where there is no memory, the
+    /// Employs the carrier of its present plan for a block of `need` units. Where there is no
+    /// memory, the
     /// carrier is dropped and nothing changes.
     pub fn create(&mut self, plan: CarrierPlan, need: u32, carrier: Mbc) -> Result<(), OutOfMemory>
         requires plan { instances.plan self.old need ≡ Ok plan }
@@ -342,15 +367,18 @@ impl Instance {
         requires { IsSome (block_in self.old.contents spot) }
         ensures ok { OnOk result (self.new ≡ releasing_at self.old spot) }
         ensures answer { IfOk result (λ a. a ≡ follow_up (content_of self.new.contents spot.carrier)) }
-        ensures others { (at : Spot) → IsOther spot.carrier spot.offset at → block_in self.new.contents at ≡ block_in self.old.contents at }
+        ensures others { (at : Spot) → IsOther spot.carrier spot.offset at
+            → block_in self.new.contents at ≡ block_in self.old.contents at }
         ensures err { OnErr result (self.new ≡ self.old) }
     {
         self.carriers.release(spot.carrier, spot.offset)
     }
 
-    /// Deallocates a carrier without blocks other than the main one: its number and pages are free again.
+    /// Deallocates a carrier without blocks other than the main one: its number and pages are free
+    /// again.
     pub fn clear(&mut self, number: u32)
-        requires { IfSome (content_of self.old.contents number) (λ c. is_empty_multi c ≡ true) × IsSome (content_of self.old.contents number) }
+        requires { IfSome (content_of self.old.contents number) (λ c. is_empty_multi c ≡ true)
+            × IsSome (content_of self.old.contents number) }
         ensures cleared { self.new ≡ clearing self.old number }
         ensures blocks { HaveSameBlocks self.old.contents self.new.contents }
     {

@@ -13,8 +13,8 @@ use Rattle.ea_instance.proofs.changes.release.Goals as goal
 pub release-requires : goal.release-requires
 release-requires c =
     let at = at_index c.args.carriers.now.items _ _ c.args.number c.index_mut.result.now
-        c.deref.ensures.value c.index_of-index.ensures.within c.index_of-index.ensures.item
-        c.index_mut.ensures.value in
+    c.deref.ensures.value c.index_of-index.ensures.within c.index_of-index.ensures.item
+    c.index_mut.ensures.value in
     subst (λ (m : Content). IsSome (block_at m.blocks c.args.offset))
     (sym c.behind-carriers.view_is)
     (subst (λ o. IsSome (option_and_then (λ (m : Content). block_at m.blocks c.args.offset) o))
@@ -26,13 +26,13 @@ address-requires-clause-within c =
     let kind = c.behind-carriers.inside.kind in
     let item = c.index_mut.result.now in
     let at = at_index c.args.carriers.now.items _ _ c.args.number item c.deref.ensures.value
-        c.index_of-index.ensures.within c.index_of-index.ensures.item
-        c.index_mut.ensures.value in
+    c.index_of-index.ensures.within c.index_of-index.ensures.item
+    c.index_mut.ensures.value in
     let laid = item_at-All number_of IsLaidOut c.args.number item c.args.carriers.now.items
-        c.requires.laid.sound at.there in
+    c.requires.laid.sound at.there in
     let block = subst (λ o.
-        IsSome (option_and_then (λ (m : Content). block_at m.blocks offset) o)) at.there
-        c.requires.block in
+    IsSome (option_and_then (λ (m : Content). block_at m.blocks offset) o)) at.there
+    c.requires.block in
     let made : record c.release.new.self { kind = kind } ≡ released item offset =
     ap (λ (m : Content). record m { kind = kind }) c.in_ok-block.ensures.ok
     ∙ ap (λ m. released m offset) c.behind-carriers.view_is in
@@ -50,8 +50,8 @@ returns-clause-ok c =
     let block = c.in_ok-block.block in
     let f : Content → Content = λ m. released m offset in
     let at = at_index cs _ _ c.args.number item c.deref.ensures.value
-        c.index_of-index.ensures.within c.index_of-index.ensures.item
-        c.index_mut.ensures.value in
+    c.index_of-index.ensures.within c.index_of-index.ensures.item
+    c.index_mut.ensures.value in
     let made : record c.release.new.self { kind = kind } ≡ f item =
     ap (λ (m : Content). record m { kind = kind }) c.in_ok-block.ensures.ok
     ∙ ap f c.behind-carriers.view_is in

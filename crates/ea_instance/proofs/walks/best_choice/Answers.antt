@@ -20,7 +20,7 @@ loop-index-preserved c =
     drop_more all c.loop-index.index item c.loop-index-test.true
     ∙ ap (λ x. x ∷ later) (sym c.index-carriers-index.is) in
     let found : candidate_of c.better_of-best.result
-        ≡ better_of before (candidate_of best) (candidate_of c.choose.result) =
+    ≡ better_of before (candidate_of best) (candidate_of c.choose.result) =
     ap candidate_of c.better_of-best.ensures
     ∙ better_of-candidates before best c.choose.result in
     record {
@@ -30,7 +30,7 @@ loop-index-preserved c =
           ∙ sym (choice_more-inner c.args.inner c.args.need (candidate_of best) item later
           c.choose.ensures.shared)
           ∙ sym (ap (λ cs.
-              fold (better before) (candidate_of best) (large_enough c.args.need (candidates cs)))
+          fold (better before) (candidate_of best) (large_enough c.args.need (candidates cs)))
           next)
           ∙ c.loop-index.invariant.rest;
       choice =

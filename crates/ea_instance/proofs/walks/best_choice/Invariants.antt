@@ -6,7 +6,8 @@ use Rattle.ea_instance.specs.Choices.{candidate_of, IsChoice}
 use Rattle.ea_instance.specs.Searches.{is_better}
 use Rattle.ea_instance.proofs.walks.best_choice.Given as goal
 
--- choosing on among the carriers that are left gives the choice among all, and the best so far is a gap of one of them
+-- choosing on among the carriers that are left gives the choice among all, and the best so far is a
+-- gap of one of them
 abbrev pub invariant-loop-index : goal.invariant-loop-index
 invariant-loop-index l = record {
   rest : fold (better (is_better l.inner)) (candidate_of l.best)

@@ -6,7 +6,8 @@ use Rattle.ea_model.specs.Strategies.{candidates, choice_empty, large_enough, lo
 use Rattle.ea_instance.specs.Choices.{candidate_of, IsChoice}
 use Rattle.ea_instance.proofs.walks.lowest_empty.Given as goal
 
--- choosing on among the carriers that are left gives the choice among all, and the best so far is a gap of one of them
+-- choosing on among the carriers that are left gives the choice among all, and the best so far is a
+-- gap of one of them
 abbrev pub invariant-loop-index : goal.invariant-loop-index
 invariant-loop-index l = record {
   rest : fold (better lower) (candidate_of l.best)

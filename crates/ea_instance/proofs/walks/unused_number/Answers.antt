@@ -13,12 +13,16 @@ loop-k-init c =
 pub loop-k-preserved : goal.loop-k-preserved
 loop-k-preserved c =
     let (left, count, same) = c.loop-k.invariant in
-    goes_on left c.loop-k.k c.args.first c.args.carriers.now _ count c.loop-k-test.true (ap is_some (sym c.item_of.ensures) ∙ is_some-map _ c.item_of.result ∙ c.if-is_none.ensures) same
+    goes_on left c.loop-k.k c.args.first c.args.carriers.now _ count c.loop-k-test.true
+    (ap is_some (sym c.item_of.ensures) ∙ is_some-map _ c.item_of.result ∙ c.if-is_none.ensures)
+    same
 
 pub returns-then-is_none : goal.returns-then-is_none
 returns-then-is_none c =
     let (left, count, same) = c.loop-k.invariant in
-    stops_here left c.loop-k.k c.args.first c.args.carriers.now _ count c.loop-k-test.true (ap is_some (sym c.item_of.ensures) ∙ is_some-map _ c.item_of.result ∙ c.if-is_none.ensures) same
+    stops_here left c.loop-k.k c.args.first c.args.carriers.now _ count c.loop-k-test.true
+    (ap is_some (sym c.item_of.ensures) ∙ is_some-map _ c.item_of.result ∙ c.if-is_none.ensures)
+    same
 
 pub returns : goal.returns
 returns c =

@@ -11,10 +11,11 @@ returns-clause-chosen c =
     let need = c.args.need in
     let item = c.index.result.now in
     let at = at_index now.contents _ _ c.in_ok-found.field-0 item
-        (c.deref.ensures.value ∙ ap (λ (l : CarrierList). l.contents) c.self.view_is)
-        c.index_of-index.ensures.within c.index_of-index.ensures.item
-        (c.index.ensures
-        ∙ ap (λ (l : CarrierList). get_or l.contents c.index_of-index.result item) c.self.view_is) in
+    (c.deref.ensures.value ∙ ap (λ (l : CarrierList). l.contents) c.self.view_is)
+    c.index_of-index.ensures.within c.index_of-index.ensures.item
+    (c.index.ensures
+    ∙ ap (λ (l : CarrierList). get_or l.contents c.index_of-index.result item) c.self.view_is)
+    in
     let inner : c.inner_of.result ≡ inner_of now.strategy =
     c.inner_of.ensures ∙ ap (λ (l : CarrierList). inner_of l.strategy) c.self.view_is in
     c.choose.ensures.found ∙ ap (λ i. chosen_in i need item) inner

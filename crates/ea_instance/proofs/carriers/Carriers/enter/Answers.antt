@@ -38,9 +38,9 @@ add-requires-clause-base c =
       low = c.requires.low;
     } in
     let laid = subst (λ (l : CarrierList). AreLaid l.contents) (sym c.self.view_is)
-        c.requires.laid in
+    c.requires.laid in
     let apart = subst (λ (l : CarrierList). All (ContentsApart x) l.contents)
-        (sym c.self.view_is) c.requires.apart in
+    (sym c.self.view_is) c.requires.apart in
     subst (All (λ (h : Held). h.key.base ≢ c.carrier_key-key.result.base))
     (sym c.self.invariant.held)
     (subst (λ (k : CarrierKey). All (λ (h : Held). h.key.base ≢ k.base) (map held_of cs))
@@ -59,11 +59,12 @@ note_entered-requires-clause-address c = λ some.
       low = c.requires.low;
     } in
     let laid = subst (λ (l : CarrierList). AreLaid l.contents) (sym c.self.view_is)
-        c.requires.laid in
+    c.requires.laid in
     let apart = subst (λ (l : CarrierList). All (ContentsApart x) l.contents)
-        (sym c.self.view_is) c.requires.apart in
+    (sym c.self.view_is) c.requires.apart in
     entered-free x sound c.requires.empty c.address-address.result c.largest-size.result
-    c.address-address.ensures (c.largest-size.ensures.units ∙ ap (λ m. largest (gaps_of m)) c.employed.view_is) _ c.make_room.new.bins laid apart
+    c.address-address.ensures (c.largest-size.ensures.units
+    ∙ ap (λ m. largest (gaps_of m)) c.employed.view_is) _ c.make_room.new.bins laid apart
     (c.make_room.ensures.held _ c.self.invariant.gaps) some
 
 pub invariant_of-self-2 : goal.invariant_of-self-2
@@ -77,9 +78,11 @@ invariant_of-self-2 c =
       low = c.requires.low;
     } in
     IsListed-entered _ _ _ x _ _ _ _ _ _ c.self.invariant c.in_ok-enter.ensures.ok
-    c.carrier_key-key.ensures (c.largest-size.ensures.units ∙ ap (λ m. largest (gaps_of m)) c.employed.view_is) c.add.ensures.added
+    c.carrier_key-key.ensures (c.largest-size.ensures.units
+    ∙ ap (λ m. largest (gaps_of m)) c.employed.view_is) c.add.ensures.added
     (c.note_entered.ensures.some ∙ c.make_room.ensures.some)
     (entered-gaps x sound c.requires.empty c.address-address.result c.largest-size.result
-    c.address-address.ensures (c.largest-size.ensures.units ∙ ap (λ m. largest (gaps_of m)) c.employed.view_is) _ _ c.note_entered.new.bins
+    c.address-address.ensures (c.largest-size.ensures.units
+    ∙ ap (λ m. largest (gaps_of m)) c.employed.view_is) _ _ c.note_entered.new.bins
     c.in_ok-enter.ensures.ok
     (c.note_entered.ensures.entered _ (c.make_room.ensures.held _ c.self.invariant.gaps)))

@@ -15,10 +15,10 @@ pub returns-in_err-find-clause-chosen : goal.returns-in_err-find-clause-chosen
 returns-in_err-find-clause-chosen c =
     let cs = c.self.inside.list.items in
     let laid = subst (λ (l : CarrierList). AreLaid l.contents) (sym c.self.view_is)
-        c.requires.laid in
+    c.requires.laid in
     let held = subst (λ o. Hold o (all_gaps cs)) (sym c.as_ref.ensures.value
-        ∙ ap option_copied c.in_ok-as_ref.was)
-        c.self.invariant.gaps in
+    ∙ ap option_copied c.in_ok-as_ref.was)
+    c.self.invariant.gaps in
     ap candidate_of c.from_residual-in_err-find.ensures
     ∙ ap (option_and_then (λ g. candidate_at g cs)) (sym c.in_err-find.was)
     ∙ gf-choice c.args.depth c.args.need cs _ c.find.result
@@ -27,14 +27,14 @@ returns-in_err-find-clause-chosen c =
 
 chosen : (c : goal.After-choice_at)
     → candidate_of c.choice_at.result
-        ≡ choice_among Gf c.args.depth c.args.need c.args.self.now.contents
+    ≡ choice_among Gf c.args.depth c.args.need c.args.self.now.contents
 chosen c =
     let cs = c.self.inside.list.items in
     let laid = subst (λ (l : CarrierList). AreLaid l.contents) (sym c.self.view_is)
-        c.requires.laid in
+    c.requires.laid in
     let held = subst (λ o. Hold o (all_gaps cs)) (sym c.as_ref.ensures.value
-        ∙ ap option_copied c.in_ok-as_ref.was)
-        c.self.invariant.gaps in
+    ∙ ap option_copied c.in_ok-as_ref.was)
+    c.self.invariant.gaps in
     c.choice_at.ensures.found ∙ ap (candidate_at c.in_ok-find.field-0) c.deref.ensures.value
     ∙ ap (option_and_then (λ g. candidate_at g cs)) (sym c.in_ok-find.was)
     ∙ gf-choice c.args.depth c.args.need cs _ c.find.result

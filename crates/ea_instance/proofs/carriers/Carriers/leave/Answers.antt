@@ -29,7 +29,7 @@ remove-requires c =
 pub address-address-requires-clause-low : goal.address-address-requires-clause-low
 address-address-requires-clause-low c =
     let laid = subst (λ (l : CarrierList). AreLaid l.contents) (sym c.self.view_is)
-        c.requires.laid in
+    c.requires.laid in
     (item_at-All number_of IsLaidOut c.args.number c.take_out-employed.result
     c.self.inside.list.items laid.sound c.take_out-employed.ensures.item).low
 
@@ -39,14 +39,15 @@ note_left-requires c =
     let x = c.take_out-employed.result in
     let there = c.take_out-employed.ensures.item in
     let laid = subst (λ (l : CarrierList). AreLaid l.contents) (sym c.self.view_is)
-        c.requires.laid in
+    c.requires.laid in
     let sound = item_at-All number_of IsLaidOut c.args.number x cs laid.sound there in
     let none = no_blocks c.args.number c.requires.there.0 x cs
-        (ap (λ (l : CarrierList). content_of l.contents c.args.number) c.self.view_is
-        ∙ c.requires.there.1) there c.requires.there.2 in
+    (ap (λ (l : CarrierList). content_of l.contents c.args.number) c.self.view_is
+    ∙ c.requires.there.1) there c.requires.there.2 in
     left-held x sound none c.address-address.result c.largest-size.result
-    c.address-address.ensures 
-    (c.largest-size.ensures.units ∙ ap (λ m. largest (gaps_of m)) c.employed.view_is) c.args.number cs
+    c.address-address.ensures
+    (c.largest-size.ensures.units ∙ ap (λ m. largest (gaps_of m)) c.employed.view_is) c.args.number
+    cs
     c.self.inside.bins laid there c.self.invariant.gaps
 
 pub invariant_of-self : goal.invariant_of-self
@@ -55,17 +56,18 @@ invariant_of-self c =
     let x = c.take_out-employed.result in
     let there = c.take_out-employed.ensures.item in
     let laid = subst (λ (l : CarrierList). AreLaid l.contents) (sym c.self.view_is)
-        c.requires.laid in
+    c.requires.laid in
     let sound = item_at-All number_of IsLaidOut c.args.number x cs laid.sound there in
     let none = no_blocks c.args.number c.requires.there.0 x cs
-        (ap (λ (l : CarrierList). content_of l.contents c.args.number) c.self.view_is
-        ∙ c.requires.there.1) there c.requires.there.2 in
+    (ap (λ (l : CarrierList). content_of l.contents c.args.number) c.self.view_is
+    ∙ c.requires.there.1) there c.requires.there.2 in
     let gone = c.take_out-employed.ensures.rest in
     IsListed-left _ _ _ c.args.number _ _ _ _ c.self.invariant gone c.remove.ensures.removed
     c.note_left.ensures.some
     (subst (λ ys. Hold c.note_left.new.bins (all_gaps ys)) (sym gone)
     (c.note_left.ensures.left (all_gaps (without_content c.args.number cs))
     (left-gaps x sound none c.address-address.result c.largest-size.result
-    c.address-address.ensures 
-    (c.largest-size.ensures.units ∙ ap (λ m. largest (gaps_of m)) c.employed.view_is) c.args.number cs
+    c.address-address.ensures
+    (c.largest-size.ensures.units ∙ ap (λ m. largest (gaps_of m)) c.employed.view_is) c.args.number
+    cs
     c.self.inside.bins laid there c.self.invariant.gaps)))

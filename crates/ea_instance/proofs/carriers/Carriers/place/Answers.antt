@@ -17,7 +17,7 @@ update-requires c =
 pub note_placed-requires : goal.note_placed-requires
 note_placed-requires c =
     let laid = subst (λ (l : CarrierList). AreLaid l.contents) (sym c.self.view_is)
-        c.requires.laid in
+    c.requires.laid in
     can-cut _ _ _ _ _ (placing-IsCut c.args.need c.args.name c.args.choice.candidate
     c.in_ok-placed.placed _ _ laid c.requires.even c.requires.least c.in_ok-placed.ensures.ok)
     c.self.inside.bins c.self.invariant.gaps
@@ -27,9 +27,9 @@ invariant_of-self-2 c =
     let x = c.args.choice.candidate in
     let w = c.in_ok-placed.ensures.ok in
     let laid = subst (λ (l : CarrierList). AreLaid l.contents) (sym c.self.view_is)
-        c.requires.laid in
+    c.requires.laid in
     let cut = placing-IsCut c.args.need c.args.name x c.in_ok-placed.placed _ _ laid
-        c.requires.even c.requires.least w in
+    c.requires.even c.requires.least w in
     IsListed-changed (λ m. placed m x.offset c.args.need c.args.name) (placed-keeps _ _ _)
     x.number w.content _ _ _ _ _ _ _ _ w.there laid.rising c.self.invariant w.is w.largest
     c.update.ensures.updated c.note_placed.ensures.some

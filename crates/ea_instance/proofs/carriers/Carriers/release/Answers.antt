@@ -15,13 +15,13 @@ use Rattle.ea_instance.proofs.carriers.Carriers.release.Goals as goal
 pub update-requires : goal.update-requires
 update-requires c =
     let w = c.in_ok-joined.ensures.ok in
-    ap (is_held c.args.number) c.self.invariant.held 
+    ap (is_held c.args.number) c.self.invariant.held
     ∙ held-there c.args.number w.content c.self.inside.list.items w.there
 
 pub note_released-requires-clause-held : goal.note_released-requires-clause-held
 note_released-requires-clause-held c =
     let laid = subst (λ (l : CarrierList). AreLaid l.contents) (sym c.self.view_is)
-        c.requires.laid in
+    c.requires.laid in
     can-join _ _ _ _ _ _ (releasing-IsJoin c.args.number c.args.offset c.in_ok-joined.joined _ _
     laid c.in_ok-joined.ensures.ok) c.make_room.new.bins
     (c.make_room.ensures.held _ c.self.invariant.gaps)
@@ -30,7 +30,7 @@ pub invariant_of-self-2 : goal.invariant_of-self-2
 invariant_of-self-2 c =
     let w = c.in_ok-joined.ensures.ok in
     let laid = subst (λ (l : CarrierList). AreLaid l.contents) (sym c.self.view_is)
-        c.requires.laid in
+    c.requires.laid in
     let join = releasing-IsJoin c.args.number c.args.offset c.in_ok-joined.joined _ _ laid w in
     IsListed-changed (λ m. released m c.args.offset) (released-keeps _) c.args.number w.content
     _ _ _ _ _ _ _ _ w.there laid.rising c.self.invariant w.is w.largest

@@ -15,7 +15,7 @@ give_back-requires c =
     let base = c.base.ensures ∙ ap (λ (m : Content). m.base) c.carrier.view_is in
     let units = c.units.ensures.units ∙ ap (λ (m : Content). m.units) c.carrier.view_is in
     let tail = content_of-IsTail c.args.number c.leave.result cs c.leave.ensures.carrier
-        c.self.invariant.stands.kept.whole in
+    c.self.invariant.stands.kept.whole in
     subst (IsTail c.base.result (c.units.result / 512)) (sym c.self.invariant.taken)
     (subst (λ b. IsTail b (c.units.result / 512) (segments cs)) (sym base)
     (subst (λ u. IsTail c.leave.result.base (u / 512) (segments cs)) (sym units) tail))

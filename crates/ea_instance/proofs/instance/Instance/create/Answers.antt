@@ -44,7 +44,7 @@ pub invariant_of-self-2 : goal.invariant_of-self-2
 invariant_of-self-2 c =
     let cs = c.self.inside.carriers in
     let carrier = entering c.self.inside.number _ c.args.plan c.args.carrier
-        (ap (λ (i : Instance). i.number) c.self.view_is) c.requires.carrier in
+    (ap (λ (i : Instance). i.number) c.self.view_is) c.requires.carrier in
     kept-created _ _ cs c.self.inside.created c.self.inside.region c.self.invariant c.args.need
     c.args.plan _ c.self.view_is c.requires.plan _ _ c.take.ensures.taken
     (c.in_ok-enter.ensures.ok
@@ -52,12 +52,12 @@ invariant_of-self-2 c =
 
 now_is : (c : goal.After-self-1)
     → seen_as c.self.inside.settings c.self.inside.number c.enter.new.self c.args.plan.birth
-        c.take.new.self
-        ≡ creating c.args.self.now c.args.plan
+    c.take.new.self
+    ≡ creating c.args.self.now c.args.plan
 now_is c =
     let cs = c.self.inside.carriers in
     let carrier = entering c.self.inside.number _ c.args.plan c.args.carrier
-        (ap (λ (i : Instance). i.number) c.self.view_is) c.requires.carrier in
+    (ap (λ (i : Instance). i.number) c.self.view_is) c.requires.carrier in
     seen-created _ _ cs c.self.inside.created c.self.inside.region c.self.invariant c.args.need
     c.args.plan _ c.self.view_is c.requires.plan _ _ c.take.ensures.taken
     (c.in_ok-enter.ensures.ok

@@ -9,5 +9,9 @@ figures-requires c =
 
 pub returns-clause-few : goal.returns-clause-few
 returns-clause-few c =
-    omega (arith, kept-few _ _ _ _ _ c.self.invariant, ap length c.as_slice.ensures,
-    ap (λ (f : Figures). f.carriers) c.figures.ensures)
+    omega (
+      arith,
+      kept-few _ _ _ _ _ c.self.invariant,
+      ap length c.as_slice.ensures,
+      ap (λ (f : Figures). f.carriers) c.figures.ensures,
+    )
