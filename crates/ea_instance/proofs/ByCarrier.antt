@@ -24,10 +24,11 @@ use Rattle.ea_cset.specs.Carriers.{Carriers, IsBefore, first_number, fitting, lo
 use Rattle.ea_goodfit.specs.Gaps.{HeldGaps}
 use Rattle.ea_laws.specs.Kinds.{is_shared}
 use Rattle.ea_laws.specs.Kept.{IsLaidOut, number_of, IsRising}
+use Rattle.ea_instance.specs.Changes.{AreLaid}
 use Rattle.ea_instance.specs.Listed.{candidate_in, chosen_in, held_of, IsListed}
-use Rattle.ea_instance.specs.declared.strategies.Order.TheVariants.{Address, Age}
+use Rattle.ea_instance.specs.declared.strategies.Search.TheVariants.{Address, Age}
 use Rattle.ea_instance.specs.Better.{better_of}
-use Rattle.ea_instance.specs.Orders.{order_of}
+use Rattle.ea_instance.specs.Searches.{search_of}
 use Rattle.ea_model.proofs.Rising.{item_at-each}
 use Rattle.ea_instance.proofs.Folding.{choice_more}
 
@@ -39,7 +40,8 @@ pub record IsOf (x : Candidate) (h : Held) : Type 0 where
 
 -- of the gaps of two carriers the strategy takes first that of the carrier that comes first
 abbrev pub GoesBy : Strategy → (Held → Held → Bool) → Type 0
-GoesBy s comes_first = (x y : Candidate) (a b : Held) → IsOf x a → IsOf y b → IsBefore a b → takes_first s y x ≡ comes_first b a
+GoesBy s comes_first = (x y : Candidate) (a b : Held) → IsOf x a → IsOf y b → IsBefore a b
+    → takes_first s y x ≡ comes_first b a
 
 by_base : (p q r s : ℕ) (rest : Bool) → p ≡ r → q ≡ s → r ≢ s → less q p rest ≡ nat_lt s r
 by_base p q r s rest e f o = grind arith
@@ -50,10 +52,12 @@ aoffcbf-GoesBy x y a b i j o = by_base x.base y.base a.key.base b.key.base _ i.b
 aoffcaobf-GoesBy : GoesBy AoffCaobf lower
 aoffcaobf-GoesBy x y a b i j o = by_base x.base y.base a.key.base b.key.base _ i.base j.base o.1
 
-by_age : (x y : Candidate) (a b : Held) (rest : Bool) → IsOf x a → IsOf y b → a.key.number < b.key.number → strategies.older y x rest ≡ older b a
-by_age x y a b rest i j o = let xn = i.number in let xb = i.birth in let yn = j.number in let yb = j.birth in grind arith
+by_age : (x y : Candidate) (a b : Held) (rest : Bool) → IsOf x a → IsOf y b
+    → a.key.number < b.key.number → strategies.older y x rest ≡ older b a
+by_age x y a b rest i j o = let xn = i.number in let xb = i.birth in let yn = j.number in let yb =
+    j.birth in grind arith
 
-pub address-GoesBy : (s : Strategy) → order_of s ≡ Address → GoesBy s lower
+pub address-GoesBy : (s : Strategy) → search_of s ≡ Address → GoesBy s lower
 address-GoesBy AoffCbf e = aoffcbf-GoesBy
 address-GoesBy AoffCaobf e = aoffcaobf-GoesBy
 address-GoesBy Bf e = absurd cc
@@ -65,7 +69,7 @@ address-GoesBy AgeffCaobf e = absurd cc
 address-GoesBy Gf e = absurd cc
 address-GoesBy Af e = absurd cc
 
-pub age-GoesBy : (s : Strategy) → order_of s ≡ Age → GoesBy s older
+pub age-GoesBy : (s : Strategy) → search_of s ≡ Age → GoesBy s older
 age-GoesBy AgeffCaoff e = λ x y a b i j o. by_age x y a b _ i j o.0
 age-GoesBy AgeffCbf e = λ x y a b i j o. by_age x y a b _ i j o.0
 age-GoesBy AgeffCaobf e = λ x y a b i j o. by_age x y a b _ i j o.0
@@ -80,9 +84,11 @@ age-GoesBy Af e = absurd cc
 -- no gap has more units than the largest
 largest-All : (need : ℕ) (gs : List Gap) → largest gs < need → All (λ g. g.size < need) gs
 largest-All need [] lt = All-nil (λ (g : Gap). g.size < need)
-largest-All need (g ∷ gs) lt = All-cons (λ (x : Gap). x.size < need) g gs (omega arith) (largest-All need gs (omega arith))
+largest-All need (g ∷ gs) lt = All-cons (λ (x : Gap). x.size < need) g gs (omega arith)
+    (largest-All need gs (omega arith))
 
-all-largest : (need : ℕ) (gs : List Gap) → 1 ≤ need → All (λ g. g.size < need) gs → largest gs < need
+all-largest : (need : ℕ) (gs : List Gap) → 1 ≤ need → All (λ g. g.size < need) gs
+    → largest gs < need
 all-largest need [] some a = omega arith
 all-largest need (g ∷ gs) some a =
     let here = All-head (λ (x : Gap). x.size < need) g gs a in
@@ -90,26 +96,36 @@ all-largest need (g ∷ gs) some a =
     omega arith
 
 -- a carrier with a smaller largest gap has none to choose, and another one has
-none_in : (inner : Inner) (need : ℕ) (c : Content) → largest (gaps_of c) < need → choice inner need (gaps_of c) ≡ None
-none_in inner need c lt = ap (first (before inner)) (large-none (λ (g : Gap). g.size) need (gaps_of c) (largest-All need (gaps_of c) lt))
+none_in : (inner : Inner) (need : ℕ) (c : Content) → largest (gaps_of c) < need
+    → choice inner need (gaps_of c) ≡ None
+none_in inner need c lt = ap (first (before inner))
+    (large-none (λ (g : Gap). g.size) need (gaps_of c) (largest-All need (gaps_of c) lt))
 
-none_out : (inner : Inner) (need : ℕ) (c : Content) → 1 ≤ need → choice inner need (gaps_of c) ≡ None → largest (gaps_of c) < need
+none_out : (inner : Inner) (need : ℕ) (c : Content) → 1 ≤ need
+    → choice inner need (gaps_of c) ≡ None → largest (gaps_of c) < need
 none_out inner need c some e =
-    all-largest need (gaps_of c) some (none-large (λ (g : Gap). g.size) need (gaps_of c) (first-none (before inner) (gaps.fitting need (gaps_of c)) (subst (λ o. IsNone o) (sym e) refl)))
+    all-largest need (gaps_of c) some
+    (none-large (λ (g : Gap). g.size) need (gaps_of c)
+    (first-none (before inner) (gaps.fitting need (gaps_of c))
+    (subst (λ o. IsNone o) (sym e) refl)))
 
-shared_in : (k : Kind) (c : Content) → is_shared k ≡ true → candidates_in k c ≡ map (candidate c) (gaps_of c)
+shared_in : (k : Kind) (c : Content) → is_shared k ≡ true
+    → candidates_in k c ≡ map (candidate c) (gaps_of c)
 shared_in Main c h = refl
 shared_in Multi c h = refl
 shared_in Single c h = absurd cc
 
-some_gap : (c : Content) (o : Option Gap) → (o ≡ None → ⊥) → (x : Candidate) × (option_map (candidate c) o ≡ Some x) × IsOf x (held_of c)
+some_gap : (c : Content) (o : Option Gap) → (o ≡ None → ⊥) → (x : Candidate)
+    × (option_map (candidate c) o ≡ Some x) × IsOf x (held_of c)
 some_gap c None h = absurd (h refl)
 some_gap c (Some g) h = (candidate c g, refl, record { number = refl; base = refl; birth = refl })
 
-module _ (s : Strategy) (comes_first : Held → Held → Bool) (goes : GoesBy s comes_first) (need : ℕ) (some : 1 ≤ need) (all : List Content) where
+module _ (s : Strategy) (comes_first : Held → Held → Bool) (goes : GoesBy s comes_first) (need : ℕ)
+    (some : 1 ≤ need) (all : List Content) where
   -- the gap that is chosen in the carrier that was found
   abbrev chosen_at : Option Held → Option Candidate
-  chosen_at o = option_and_then (candidate_in (inner_of s) need all) (option_map (λ h. h.key.number) o)
+  chosen_at o = option_and_then (candidate_in (inner_of s) need all)
+      (option_map (λ h. h.key.number) o)
 
   abbrev first_gap : Option Candidate → List Content → Option Candidate
   first_gap best cs = fold (better (takes_first s)) best (large_enough need (candidates cs))
@@ -131,23 +147,39 @@ module _ (s : Strategy) (comes_first : Held → Held → Bool) (goes : GoesBy s 
 
   has_choice : (c : Content) → IsThere c → need ≤ largest (gaps_of c) → HasChoice c
   has_choice c there le =
-      let found = some_gap c (choice (inner_of s) need (gaps_of c)) (λ none. let lt = none_out (inner_of s) need c some none in omega arith) in
-      record { fits = le; gap = found.0; chosen = found.1; is_of = found.2; at = ap (option_and_then (chosen_in (inner_of s) need)) there.0 ∙ found.1 }
+      let found = some_gap c (choice (inner_of s) need (gaps_of c))
+      (λ none. let lt = none_out (inner_of s) need c some none in omega arith) in
+      record {
+        fits = le;
+        gap = found.0;
+        chosen = found.1;
+        is_of = found.2;
+        at = ap (option_and_then (chosen_in (inner_of s) need)) there.0 ∙ found.1;
+      }
 
-  more : (best : Option Candidate) (c : Content) (cs : List Content) (o : Option Candidate) → is_shared c.kind ≡ true → chosen_in (inner_of s) need c ≡ o → first_gap best (c ∷ cs) ≡ first_gap (better_of (takes_first s) best o) cs
-  more best c cs o shared e = choice_more s need best c cs (shared_in c.kind c shared) ∙ ap (λ r. first_gap (better_of (takes_first s) best r) cs) e
+  more : (best : Option Candidate) (c : Content) (cs : List Content) (o : Option Candidate)
+      → is_shared c.kind ≡ true → chosen_in (inner_of s) need c ≡ o
+      → first_gap best (c ∷ cs) ≡ first_gap (better_of (takes_first s) best o) cs
+  more best c cs o shared e = choice_more s need best c cs (shared_in c.kind c shared)
+      ∙ ap (λ r. first_gap (better_of (takes_first s) best r) cs) e
 
-  held_past : (best : Option Held) (c : Content) (cs : List Content) → largest (gaps_of c) < need → first_held best (map held_of (c ∷ cs)) ≡ first_held best (map held_of cs)
-  held_past best c cs lt = ap (λ hs. fold (better comes_first) best hs) (large-past (λ (h : Held). h.fit) need (held_of c) (map held_of cs) lt)
+  held_past : (best : Option Held) (c : Content) (cs : List Content) → largest (gaps_of c) < need
+      → first_held best (map held_of (c ∷ cs)) ≡ first_held best (map held_of cs)
+  held_past best c cs lt = ap (λ hs. fold (better comes_first) best hs)
+      (large-past (λ (h : Held). h.fit) need (held_of c) (map held_of cs) lt)
 
-  held_next : (best : Option Held) (c : Content) (cs : List Content) → need ≤ largest (gaps_of c) → first_held best (map held_of (c ∷ cs)) ≡ first_held (better comes_first best (held_of c)) (map held_of cs)
-  held_next best c cs le = ap (λ hs. fold (better comes_first) best hs) (large-here (λ (h : Held). h.fit) need (held_of c) (map held_of cs) le)
+  held_next : (best : Option Held) (c : Content) (cs : List Content) → need ≤ largest (gaps_of c)
+      → first_held best (map held_of (c ∷ cs)) ≡ first_held (better comes_first best (held_of c))
+      (map held_of cs)
+  held_next best c cs le = ap (λ hs. fold (better comes_first) best hs)
+      (large-here (λ (h : Held). h.fit) need (held_of c) (map held_of cs) le)
 
   none_here : (c : Content) → largest (gaps_of c) < need → chosen_in (inner_of s) need c ≡ None
   none_here c lt = ap (option_map (candidate c)) (none_in (inner_of s) need c lt)
 
   -- choosing on among the gaps of the carriers that are left, and among these carriers
-  goes_on : (x : Candidate) (h : Held) (cs : List Content) → chosen_at (Some h) ≡ Some x → IsOf x h → All (IsBefore h) (map held_of cs) → AllPairs IsBefore (map held_of cs) → All IsThere cs
+  goes_on : (x : Candidate) (h : Held) (cs : List Content) → chosen_at (Some h) ≡ Some x → IsOf x h
+      → All (IsBefore h) (map held_of cs) → AllPairs IsBefore (map held_of cs) → All IsThere cs
       → first_gap (Some x) cs ≡ chosen_at (first_held (Some h) (map held_of cs))
   goes_on x h [] at is_of behind rising there = sym at
   goes_on x h (c ∷ cs) at is_of behind rising there =
@@ -156,44 +188,67 @@ module _ (s : Strategy) (comes_first : Held → Held → Bool) (goes : GoesBy s 
       let later = All-tail (IsBefore h) (held_of c) (map held_of cs) behind in
       let tail = pairs_tail IsBefore (held_of c) (map held_of cs) rising in
       elim (cases_lt (largest (gaps_of c)) need) [
-        | inl lt ↦ more (Some x) c cs None here.1 (none_here c lt) ∙ goes_on x h cs at is_of later tail rest ∙ sym (ap chosen_at (held_past (Some h) c cs lt))
+        | inl lt ↦ more (Some x) c cs None here.1 (none_here c lt)
+            ∙ goes_on x h cs at is_of later tail rest
+            ∙ sym (ap chosen_at (held_past (Some h) c cs lt))
         | inr le ↦
             let has = has_choice c here le in
-            let same = goes x has.gap h (held_of c) is_of has.is_of (All-head (IsBefore h) (held_of c) (map held_of cs) behind) in
-            more (Some x) c cs (Some has.gap) here.1 has.chosen ∙ elim (cases_Bool (takes_first s has.gap x)) [
+            let same = goes x has.gap h (held_of c) is_of has.is_of
+            (All-head (IsBefore h) (held_of c) (map held_of cs) behind) in
+            more (Some x) c cs (Some has.gap) here.1 has.chosen
+            ∙ elim (cases_Bool (takes_first s has.gap x)) [
               | inl t ↦
                   ap (λ y. first_gap (Some y) cs) (cond-true (takes_first s has.gap x) has.gap x t)
-                  ∙ goes_on has.gap (held_of c) cs has.at has.is_of (pairs_head IsBefore (held_of c) (map held_of cs) rising) tail rest
-                  ∙ sym (ap chosen_at (held_next (Some h) c cs le ∙ ap (λ y. first_held (Some y) (map held_of cs)) (cond-true (comes_first (held_of c) h) (held_of c) h (sym same ∙ t))))
+                  ∙ goes_on has.gap (held_of c) cs has.at has.is_of
+                  (pairs_head IsBefore (held_of c) (map held_of cs) rising) tail rest
+                  ∙ sym (ap chosen_at (held_next (Some h) c cs le
+                  ∙ ap (λ y. first_held (Some y) (map held_of cs))
+                  (cond-true (comes_first (held_of c) h) (held_of c) h (sym same ∙ t))))
               | inr f ↦
                   ap (λ y. first_gap (Some y) cs) (cond-false (takes_first s has.gap x) has.gap x f)
                   ∙ goes_on x h cs at is_of later tail rest
-                  ∙ sym (ap chosen_at (held_next (Some h) c cs le ∙ ap (λ y. first_held (Some y) (map held_of cs)) (cond-false (comes_first (held_of c) h) (held_of c) h (sym same ∙ f))))
+                  ∙ sym (ap chosen_at (held_next (Some h) c cs le
+                  ∙ ap (λ y. first_held (Some y) (map held_of cs))
+                  (cond-false (comes_first (held_of c) h) (held_of c) h (sym same ∙ f))))
             ]
       ]
 
-  starts : (cs : List Content) → AllPairs IsBefore (map held_of cs) → All IsThere cs → first_gap None cs ≡ chosen_at (first_held None (map held_of cs))
+  starts : (cs : List Content) → AllPairs IsBefore (map held_of cs) → All IsThere cs
+      → first_gap None cs ≡ chosen_at (first_held None (map held_of cs))
   starts [] rising there = refl
   starts (c ∷ cs) rising there =
       let here = All-head IsThere c cs there in
       let rest = All-tail IsThere c cs there in
       let tail = pairs_tail IsBefore (held_of c) (map held_of cs) rising in
       elim (cases_lt (largest (gaps_of c)) need) [
-        | inl lt ↦ more None c cs None here.1 (none_here c lt) ∙ starts cs tail rest ∙ sym (ap chosen_at (held_past None c cs lt))
+        | inl lt ↦ more None c cs None here.1 (none_here c lt) ∙ starts cs tail rest
+            ∙ sym (ap chosen_at (held_past None c cs lt))
         | inr le ↦
             let has = has_choice c here le in
             more None c cs (Some has.gap) here.1 has.chosen
-            ∙ goes_on has.gap (held_of c) cs has.at has.is_of (pairs_head IsBefore (held_of c) (map held_of cs) rising) tail rest
+            ∙ goes_on has.gap (held_of c) cs has.at has.is_of
+            (pairs_head IsBefore (held_of c) (map held_of cs) rising) tail rest
             ∙ sym (ap chosen_at (held_next None c cs le))
       ]
 
-  choice_first : IsRising all → All IsLaidOut all → AllPairs IsBefore (map held_of all) → first_gap None all ≡ chosen_at (first comes_first (fitting need (map held_of all)))
-  choice_first rising sound before = starts all before (λ i d within. (item_at-each number_of i d all rising within, (sound i d within).shared))
+  choice_first : IsRising all → All IsLaidOut all → AllPairs IsBefore (map held_of all)
+      → first_gap None all ≡ chosen_at (first comes_first (fitting need (map held_of all)))
+  choice_first rising sound before = starts all before
+      (λ i d within. (item_at-each number_of i d all rising within, (sound i d within).shared))
 
 -- the choice is made in the first carrier that fits
-pub choice-first : (s : Strategy) (comes_first : Held → Held → Bool) → GoesBy s comes_first → (need : ℕ) → 1 ≤ need → (t : Strategy) (cs now : List Content) (set : Carriers) (bins : HeldGaps) → IsListed t cs set bins → cs ≡ now → IsRising now
-    → (number : Option ℕ) (found : Option Candidate) → number ≡ first_number comes_first need set.held → AllPairs IsBefore set.held → found ≡ option_and_then (candidate_in (inner_of s) need now) number → found ≡ first (takes_first s) (large_enough need (candidates now))
-choice-first s comes_first goes need some t cs now set bins listed seen rising number found first_is before is =
+pub choice-first : (s : Strategy) (comes_first : Held → Held → Bool) → GoesBy s comes_first
+    → (need : ℕ) → 1 ≤ need
+    → (t : Strategy) (cs now : List Content) (set : Carriers) (bins : Option HeldGaps)
+    → IsListed t cs set bins → cs ≡ now → AreLaid now
+    → (number : Option ℕ) (found : Option Candidate)
+    → number ≡ first_number comes_first need set.held → AllPairs IsBefore set.held
+    → found ≡ option_and_then (candidate_in (inner_of s) need now) number
+    → found ≡ first (takes_first s) (large_enough need (candidates now))
+choice-first s comes_first goes need some t cs now set bins listed seen laid number found first_is
+    before is =
     let held : set.held ≡ map held_of now = listed.held ∙ ap (map held_of) seen in
-    is ∙ ap (option_and_then (candidate_in (inner_of s) need now)) (first_is ∙ ap (first_number comes_first need) held)
-    ∙ sym (choice_first s comes_first goes need some now rising (subst (All IsLaidOut) seen listed.sound) (subst (AllPairs IsBefore) held before))
+    is ∙ ap (option_and_then (candidate_in (inner_of s) need now)) (first_is
+    ∙ ap (first_number comes_first need) held)
+    ∙ sym (choice_first s comes_first goes need some now laid.rising laid.sound
+    (subst (AllPairs IsBefore) held before))

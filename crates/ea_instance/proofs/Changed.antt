@@ -1,59 +1,96 @@
 -- A change of the content at an index of the carriers.
-use Rattle.std.proofs.Common.{◌≡◌, ◌≢◌, ℕ, ◌<◌, List, length, get_or, set, sym, ap, ◌∙◌, subst, refl}
-use Rattle.std.specs.Prelude.{Some, Result, Ok, Err, IfOk, OnOk, OnErr}
-use Rattle.std.specs.List.{position_or_len}
-use Rattle.std.proofs.lemmas.List.{set-get_or}
-use Rattle.ea_model.specs.declared.carriers.Spot.{Spot}
-use Rattle.ea_model.specs.Keyed.{has_key}
-use Rattle.ea_model.specs.Content.{Content, block_at}
-use Rattle.ea_model.specs.Instance.{content_of, changed, block_in}
-use Rattle.ea_model.proofs.Rising.{set-changed}
+use Rattle.std.proofs.Common.{◌≡◌, ℕ, zero, suc, ◌+◌, ◌<◌, ◌≤◌, List, [], ◌∷◌, length, get_or, set, sym, ap, ◌∙◌, subst, refl, inl, inr, arith}
+use Rattle.std.specs.Prelude.{Some, IsSome}
+use Rattle.std.proofs.lemmas.Bool.{cases_eq}
+use Rattle.ea_model.specs.declared.carriers.BlockAt.{BlockAt}
+use Rattle.ea_model.specs.Keyed.{IsBelow}
+use Rattle.ea_model.specs.Content.{Content, block_at, Tiled}
+use Rattle.ea_model.specs.Instance.{content_of, changed}
+use Rattle.ea_model.proofs.Pairs.{pairs_head, pairs_tail}
+use Rattle.ea_model.proofs.Rising.{changed_here, changed_none, changed_past, item_at-each, item_at-key, others}
 use Rattle.ea_laws.specs.Kept.{number_of, IsRising}
-use Rattle.ea_laws.specs.Spots.{IsOther}
-use Rattle.ea_laws.proofs.Changed.{KeepsPlace, block_in-here, block_in-others}
+use Rattle.ea_laws.proofs.BlockLists.{block_at-past}
+use Rattle.ea_laws.proofs.Tiling.{Tiled-allocated}
+use Rattle.ea_instance.specs.Choices.{IsChoice}
+use Rattle.ea_instance.specs.declared.choice.Choice.{Choice}
 
--- the content at place i, the first one of the number n, is item
+same_at : {A : Type 0} (xs : List A) (i : ℕ) (a b : A) → i < length xs
+    → get_or xs i a ≡ get_or xs i b
+same_at [] i a b lt = absurd (omega arith)
+same_at (x ∷ xs) zero a b lt = refl
+same_at (x ∷ xs) (suc i) a b lt = same_at xs i a b (omega arith)
+
+set-at : (f : Content → Content) (i : ℕ) (d : Content) (cs : List Content) → IsRising cs
+    → i < length cs → set cs i (f (get_or cs i d)) ≡ changed f (get_or cs i d).number cs
+set-at f i d [] rising lt = absurd (omega arith)
+set-at f zero d (c ∷ cs) rising lt =
+    sym (changed_here number_of f c.number c cs refl
+    ∙ ap (λ l. f c ∷ l) (changed_none number_of f c.number cs
+    (others number_of c.number c cs rising refl)))
+set-at f (suc i) d (c ∷ cs) rising lt =
+    let x = get_or cs i d in
+    let below : c.number < x.number =
+    pairs_head (IsBelow number_of) c cs rising i d (omega arith) in
+    ap (λ l. c ∷ l) (set-at f i d cs (pairs_tail (IsBelow number_of) c cs rising) (omega arith))
+    ∙ sym (changed_past number_of f x.number c cs (λ e. omega (arith, below, e)))
+
+-- the content of the number n stands at index i
 pub record IsAt (cs : List Content) (i n : ℕ) (item : Content) : Type 0 where
-  pub place : i ≡ position_or_len (has_key number_of n) cs
   pub within : i < length cs
   pub is : item ≡ get_or cs i item
+  pub number : item.number ≡ n
   pub there : content_of cs n ≡ Some item
 
-pub at_place : (cs seen : List Content) (i n : ℕ) (item : Content) → seen ≡ cs → i ≡ position_or_len (has_key number_of n) seen → i < length seen → ((d : Content) → content_of seen n ≡ Some (get_or seen i d)) → item ≡ get_or cs i item → IsAt cs i n item
-at_place cs seen i n item same place within found is = record {
-  place = place ∙ ap (position_or_len (has_key number_of n)) same;
-  within = subst (λ xs. i < length xs) same within;
-  is = is;
-  there = subst (λ xs. content_of xs n ≡ Some (get_or xs i item)) same (found item) ∙ ap Some (sym is);
-}
+-- that of an index that was found by the number
+pub at_index : (cs seen : List Content) (i n : ℕ) (item : Content) → seen ≡ cs → i < length seen
+    → ((d : Content) → content_of seen n ≡ Some (get_or seen i d)) → item ≡ get_or cs i item
+    → IsAt cs i n item
+at_index cs seen i n item same within found is =
+    let there = subst (λ ys. content_of ys n ≡ Some (get_or ys i item)) same (found item)
+    ∙ ap Some (sym is) in
+    record {
+      within = subst (λ ys. i < length ys) same within;
+      is = is;
+      number = item_at-key number_of n item cs there;
+      there = there;
+    }
 
--- what a call leaves, by its two outcomes
-pub by_outcome : {T E : Type 0} (r : Result T E) (A B G : Type 0) → (A → G) → (B → G) → OnOk r A → OnErr r B → G
-by_outcome (Ok x) A B G f g a b = f a
-by_outcome (Err e) A B G f g a b = g b
+-- that of a choice
+pub choice-same : (need : ℕ) (cs : List Content) (found : Choice) (item : Content)
+    → item ≡ get_or cs found.index item → (w : IsChoice need cs found) → w.content ≡ item
+choice-same need cs found item is w =
+    sym w.is ∙ same_at cs found.index w.content item w.within ∙ sym is
 
-pub ok_both : {T E : Type 0} (r : Result T E) (P : T → Type 0) (A : Type 0) (Q : T → Type 0) → ((x : T) → P x → A → Q x) → IfOk r P → OnOk r A → IfOk r Q
-ok_both (Ok x) P A Q f p a = f x p a
-ok_both (Err e) P A Q f p a = tt
+pub at_choice : (need : ℕ) (cs : List Content) (found : Choice) (item : Content) → IsRising cs
+    → item ≡ get_or cs found.index item → IsChoice need cs found
+    → IsAt cs found.index found.candidate.number item
+at_choice need cs found item rising is w =
+    let number = ap number_of (sym (choice-same need cs found item is w)) ∙ sym w.chosen.number in
+    record {
+      within = w.within;
+      is = is;
+      number = number;
+      there = ap (content_of cs) (sym number ∙ ap number_of is)
+          ∙ item_at-each number_of found.index item cs rising w.within ∙ ap Some (sym is);
+    }
 
-module _ (f : Content → Content) (k : KeepsPlace f) (cs : List Content) (i n : ℕ) (item : Content) (at : IsAt cs i n item) (rising : IsRising cs) where
-  -- a change of the content at the place is a change of the number's content
-  pub set_is_changed : (x : Content) → x ≡ f item → set cs i x ≡ changed f n cs
-  set_is_changed x e =
-      ap (set cs i) (e ∙ ap f at.is) ∙ ap (λ p. set cs p (f (get_or cs p item))) at.place
-      ∙ set-changed number_of f n item cs rising (subst (λ p. p < length cs) at.place at.within)
+-- a change of the content at the index is a change of the number's content
+pub set_is_changed : (f : Content → Content) (cs : List Content) (i n : ℕ) (item x : Content)
+    → IsAt cs i n item → IsRising cs → x ≡ f item → set cs i x ≡ changed f n cs
+set_is_changed f cs i n item x at rising e =
+    ap (set cs i) (e ∙ ap f at.is) ∙ set-at f i item cs rising at.within
+    ∙ ap (λ m. changed f m cs) (ap number_of (sym at.is) ∙ at.number)
 
-  -- the block that begins at the offset of the changed content
-  pub begins-set : (x : Content) (offset : ℕ) → x ≡ f item → block_in (set cs i x) (record { carrier = n; offset = offset }) ≡ block_at x.blocks offset
-  begins-set x offset e =
-      ap (λ ys. block_in ys (record { carrier = n; offset = offset })) (set_is_changed x e)
-      ∙ block_in-here f k n cs item (record { carrier = n; offset = offset }) at.there refl ∙ ap (λ (c : Content). block_at c.blocks offset) (sym e)
+none_there : (offset : ℕ) → IsSome (block_at [] offset) → ⊥
+none_there offset h = grind arith
 
-  -- blocks at other spots stay, whatever the outcome
-  pub others-set : {T E : Type 0} (r : Result T E) (x : Content) (offset : ℕ) → OnOk r (x ≡ f item) → OnErr r (x ≡ item) → ((a : ℕ) → a ≢ offset → block_at x.blocks a ≡ block_at item.blocks a)
-      → (spot : Spot) → IsOther n offset spot → block_in (set cs i x) spot ≡ block_in cs spot
-  others-set r x offset ok err stays spot other =
-      by_outcome r (x ≡ f item) (x ≡ item) (block_in (set cs i x) spot ≡ block_in cs spot)
-      (λ e. ap (λ ys. block_in ys spot) (set_is_changed x e) ∙ block_in-others f k n cs item offset spot at.there (λ a h. ap (λ (c : Content). block_at c.blocks a) (sym e) ∙ stays a h) other)
-      (λ e. ap (λ y. block_in (set cs i y) spot) (e ∙ at.is) ∙ ap (λ ys. block_in ys spot) (set-get_or cs i item))
-      ok err
+-- a block of a carrier begins within it
+pub block-within : (at end offset : ℕ) (bs : List BlockAt) → Tiled at end bs
+    → IsSome (block_at bs offset) → offset ≤ end
+block-within at end offset [] t h = absurd (none_there offset h)
+block-within at end offset (b ∷ bs) t h =
+    elim (cases_eq b.offset offset) [
+      | inl e ↦ omega (arith, e, Tiled-allocated (b.offset + b.size) end bs t.4)
+      | inr n ↦ block-within (b.offset + b.size) end offset bs t.4
+          (subst (λ o. IsSome o) (block_at-past offset b bs n) h)
+    ]

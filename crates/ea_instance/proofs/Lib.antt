@@ -4,7 +4,7 @@ pub mod Choosing
 pub mod Folding
 pub mod Gaps
 pub mod HeldGaps
-pub mod Indexed
+pub mod BinsAfter
 pub mod Keeping
 pub mod Listed
 pub mod Located

@@ -1,5 +1,5 @@
 -- The carriers of an instance, their set, and the bins of their gaps.
-use Rattle.std.specs.Prelude.{◌≡◌, ◌⊎◌, ℕ, ◌+◌, ◌*◌, ◌-◌, ◌^◌, ◌<◌, ◌≤◌, Bool, true, ◌&&◌, if◌then◌else◌, nat_lt, nat_le, List, [], ◌∷◌, ◌++◌, ◌≢◌, Option, Some, None, All, AllPairs, map, option_map}
+use Rattle.std.specs.Prelude.{◌≡◌, ◌↔◌, ℕ, ◌+◌, ◌*◌, ◌-◌, ◌^◌, ◌<◌, ◌≤◌, Bool, ◌&&◌, if◌then◌else◌, nat_lt, nat_le, List, [], ◌∷◌, ◌++◌, ◌≢◌, Option, Some, None, IsSome, All, map, option_map}
 use Rattle.std.specs.Option.{option_and_then}
 use Rattle.std.specs.List.Sorted.{IsPermutation}
 use Rattle.ea_model.specs.declared.settings.Strategy.{Strategy}
@@ -14,7 +14,8 @@ use Rattle.ea_cset.specs.declared.keys.Held.{Held}
 use Rattle.ea_cset.specs.Carriers.{Carriers}
 use Rattle.ea_goodfit.specs.declared.gaps.Gap.{Gap}
 use Rattle.ea_goodfit.specs.Gaps.{HeldGaps}
-use Rattle.ea_laws.specs.Kept.{ContentsApart, IsLaidOut}
+use Rattle.ea_model.specs.declared.units.TheConstants.{NUMBERS}
+use Rattle.ea_instance.specs.Binned.{Hold}
 
 -- the carriers of an instance by rising number, and the strategy that chooses among their gaps
 pub record CarrierList : Type 0 where
@@ -23,7 +24,10 @@ pub record CarrierList : Type 0 where
 
 -- what the set knows of a carrier: what tells it from the others, and its largest gap
 abbrev pub held_of : Content → Held
-held_of c = record { key = record { number = c.number; base = c.base; birth = c.birth }; fit = largest (gaps_of c) }
+held_of c = record {
+  key = record { number = c.number; base = c.base; birth = c.birth };
+  fit = largest (gaps_of c);
+}
 
 -- what the bins know of a gap
 abbrev pub gap_of : Candidate → Gap
@@ -39,7 +43,8 @@ some_gap g = if nat_lt 0 g.size then g ∷ [] else []
 abbrev pub gap_from : ℕ → ℕ → List Gap
 gap_from address size = some_gap (record { address = address; size = size })
 
--- a gap of `whole` units at the address is held, and no other gap begins where a block of `size` units at its front ends
+-- a gap of `whole` units at the address is held, and no other gap begins where a block of `size`
+-- units at its front ends
 pub record CanCut (held : List Gap) (address whole size : ℕ) : Type 0 where
   pub some : 0 < whole
   pub within : size ≤ whole
@@ -48,21 +53,24 @@ pub record CanCut (held : List Gap) (address whole size : ℕ) : Type 0 where
   pub order : IsPermutation held (gap_from address whole ++ rest)
   pub free : size < whole → All (λ g. g.address ≢ address + size) rest
 
--- the gaps beside a block of `size` units at the address are held, and no other gap begins where the one before it does
+-- the gaps beside a block of `size` units at the address are held, and no other gap begins where
+-- the one before it does
 pub record CanJoin (held : List Gap) (address before size behind : ℕ) : Type 0 where
   pub within : before ≤ address
   pub fits : address + size + behind < 2 ^ 32
   pub rest : List Gap
-  pub order : IsPermutation held (gap_from (address - before) before ++ (gap_from (address + size) behind ++ rest))
+  pub order : IsPermutation held
+      (gap_from (address - before) before ++ (gap_from (address + size) behind ++ rest))
   pub free : All (λ g. g.address ≢ address - before) rest
 
--- the set holds the carriers and has room for all numbers, and under good fit the bins hold all gaps
-pub record IsListed (strategy : Strategy) (list : List Content) (set : Carriers) (bins : HeldGaps) : Type 0 where
+-- the set holds the carriers and has room for all numbers, and there are bins exactly under good
+-- fit, which hold all gaps
+pub record IsListed (strategy : Strategy) (list : List Content) (set : Carriers)
+    (bins : Option HeldGaps) : Type 0 where
   pub held : set.held ≡ map held_of list
-  pub room : set.room ≡ 256
-  pub sound : All IsLaidOut list
-  pub apart : AllPairs ContentsApart list
-  pub binned : strategy ≡ Gf → IsPermutation bins.held (all_gaps list)
+  pub room : set.room ≡ NUMBERS
+  pub some : (strategy ≡ Gf) ↔ IsSome bins
+  pub gaps : Hold bins (all_gaps list)
 
 -- the gap that is chosen in a carrier
 abbrev pub chosen_in : Inner → ℕ → Content → Option Candidate
@@ -77,10 +85,17 @@ abbrev pub spans : ℕ → Content → Bool
 spans address c = nat_le (512 * c.base) address && nat_lt address (512 * c.base + c.units)
 
 -- the gap as one of the carrier
-abbrev pub candidate_of : Gap → Content → Candidate
-candidate_of g c = record { number = c.number; base = c.base; birth = c.birth; offset = g.address - 512 * c.base; address = g.address; size = g.size }
+abbrev pub located : Gap → Content → Candidate
+located g c = record {
+  number = c.number;
+  base = c.base;
+  birth = c.birth;
+  offset = g.address - 512 * c.base;
+  address = g.address;
+  size = g.size;
+}
 
 -- the gap as one of the first carrier that spans it
 abbrev pub candidate_at : Gap → List Content → Option Candidate
 candidate_at g [] = None
-candidate_at g (c ∷ cs) = if spans g.address c then Some (candidate_of g c) else candidate_at g cs
+candidate_at g (c ∷ cs) = if spans g.address c then Some (located g c) else candidate_at g cs

@@ -1,43 +1,54 @@
 //! What the carriers of an instance come to.
 ghost use Rattle.std.specs.Prelude.{◌≡◌, ◌≤◌, length, sum_by};
+ghost use Rattle.ea_model.specs.declared.units.TheConstants.{NUMBERS};
 ghost use Rattle.ea_model.specs.Content.{allocated, free_units, gaps_of};
 ghost use Rattle.ea_model.specs.Instance as instances;
 
 use crate::employed::Employed;
-use ea_model::Figures;
+use ea_model::{Figures, HEADER_UNITS};
 
 fn blocks_of(carriers: &[Employed]) -> u64
-    requires { length carriers.now ≤ 256 }
+    requires { length carriers.now ≤ NUMBERS }
     ensures { result ≡ sum_by (λ c. length c.blocks) carriers.now }
 {
-    carriers.iter().map(|c| u64::from(c.len())).sum()
+    carriers.iter().map(|c| u64::from(c.carrier.len())).sum()
 }
 
 fn allocated_of(carriers: &[Employed]) -> u64
-    requires { length carriers.now ≤ 256 }
+    requires { length carriers.now ≤ NUMBERS }
     ensures { result ≡ sum_by (λ c. allocated c.blocks) carriers.now }
 {
-    carriers.iter().map(|c| u64::from(c.allocated())).sum()
+    carriers
+        .iter()
+        .map(|c| u64::from(c.carrier.allocated()))
+        .sum()
 }
 
 fn units_of(carriers: &[Employed]) -> u64
-    requires { length carriers.now ≤ 256 }
+    requires { length carriers.now ≤ NUMBERS }
     ensures { result ≡ sum_by (λ c. c.units) carriers.now }
 {
-    carriers.iter().map(|c| u64::from(c.units())).sum()
+    carriers.iter().map(|c| u64::from(c.carrier.units())).sum()
+}
+
+/// The units of the gaps of a carrier.
+fn free_in(employed: &Employed) -> u32
+    ensures { result ≡ free_units (gaps_of employed.now) }
+{
+    employed.carrier.units() - HEADER_UNITS - employed.carrier.allocated()
 }
 
 /// The units of all gaps.
 pub fn free_of(carriers: &[Employed]) -> u64
-    requires { length carriers.now ≤ 256 }
+    requires { length carriers.now ≤ NUMBERS }
     ensures { result ≡ sum_by (λ c. free_units (gaps_of c)) carriers.now }
 {
-    carriers.iter().map(|c| u64::from(c.free())).sum()
+    carriers.iter().map(|c| u64::from(free_in(c))).sum()
 }
 
 /// Blocks and carriers, and their units.
 pub fn figures(carriers: &[Employed]) -> Figures
-    requires { length carriers.now ≤ 256 }
+    requires { length carriers.now ≤ NUMBERS }
     ensures { result ≡ instances.figures carriers.now }
 {
     Figures {

@@ -1,16 +1,15 @@
 //! The instance and its calls.
-ghost use Rattle.std.specs.Prelude.{◌≡◌, ℕ, ◌+◌, ◌*◌, ◌/◌, ◌%◌, ◌^◌, ◌<◌, ◌≤◌, ◌++◌, max, true, false, filter, Some, None, Ok, Err, Result, All, IsNone, ◌↔◌, IsSome, IfSome, IfOk, OnOk, OnErr, map, sum_by, option_map};
+ghost use Rattle.std.specs.Prelude.{◌≡◌, ℕ, ◌+◌, ◌*◌, ◌/◌, ◌%◌, ◌^◌, ◌<◌, ◌≤◌, ◌++◌, max, true, false, Some, None, Ok, Err, Result, All, IsNone, ◌↔◌, IsSome, IfSome, IfOk, OnOk, OnErr, map, sum_by, option_map};
 ghost use Rattle.ea_model.specs.declared.carriers.Kind.TheVariants.{Multi};
 ghost use Rattle.ea_model.specs.declared.carriers.Spot.{Spot};
 ghost use Rattle.ea_model.specs.declared.carriers.CarrierPlan.{CarrierPlan};
+ghost use Rattle.ea_model.specs.declared.units.TheConstants.{MAX_PAGES, MAX_SCHEDULERS, MAX_UNITS};
 ghost use Rattle.ea_model.specs.Content.{named, free_units, gaps_of, is_empty_multi};
 ghost use Rattle.ea_model.specs.declared.entries.NoCarrier.TheVariants.{Numbers, Space};
-ghost use Rattle.ea_model.specs.Choice.{IsFirst};
 ghost use Rattle.ea_model.specs.Region.{runs};
 ghost use Rattle.ea_model.specs.Settings.{IsValid};
-ghost use Rattle.ea_model.specs.Strategies.{candidates, choice_among, choice_empty, large_enough, inspected_by, lower, may_miss, takes_first};
-ghost use Rattle.ea_model.specs.Instance.{carrier_line};
-ghost use Rattle.ea_model.specs.Instance.{main_content, new_instance, growth, multis, unused_from, plan, created_content, creating, chosen_spot, place_at, releasing_at, clearing, content_of, block_in, segments, least_pages};
+ghost use Rattle.ea_model.specs.Strategies.{candidates, may_miss};
+ghost use Rattle.ea_model.specs.Instance.{carrier_line, main_content, new_instance, growth, multis, unused_from, plan, created_content, creating, chosen_spot, place_at, releasing_at, clearing, content_of, block_in, segments, least_pages};
 ghost use Rattle.ea_model.specs.Instance as instances;
 ghost use Rattle.ea_instance.specs.Answers.{placing_if, follow_up};
 ghost use Rattle.ea_laws.specs.InOrder.{IsInOrder};
@@ -44,16 +43,16 @@ pub struct Instance {
 
 impl Model for Instance {
     ghost use Rattle.ea_model.specs.Instance.{Instance};
-    ghost use Rattle.ea_instance.specs.Kept.{KeepsCarriers};
+    ghost use Rattle.ea_instance.specs.Kept.{KeepsCarriers, seen_as};
 
     ghost Value = { Instance };
 
-    ghost view = { λ i. record { settings = i.settings; number = i.number; first = i.region.first; end = i.region.end; contents = i.carriers.contents; created = i.created } };
+    ghost view = { λ i. seen_as i.settings i.number i.carriers i.created i.region };
 
-    ghost invariant = { λ i. IsKept i.settings i.number i.carriers i.region };
+    ghost invariant = { λ i. KeepsCarriers i.settings i.number i.carriers i.created i.region };
 }
 
-/// The pages that hold so many units.
+/// The pages that hold that many units.
 fn pages_for(units: u32) -> u32
     requires { units ≤ 2 ^ 31 }
     ensures { result ≡ instances.pages_for units }
@@ -61,12 +60,12 @@ fn pages_for(units: u32) -> u32
     units.div_ceil(PAGE_UNITS)
 }
 
-/// The units of the next multiblock carrier behind `count` others.
+/// The units of the next multiblock carrier after `count` others.
 fn growth(settings: Settings, count: usize) -> u32
     requires valid { IsValid settings }
-    requires count { count ≤ 256 }
+    requires count { count ≤ NUMBERS }
     ensures units { result ≡ growth settings count }
-    ensures small { result ≤ 67108864 }
+    ensures small { result ≤ MAX_UNITS }
 {
     let largest = settings.lmbcs.max(settings.smbcs);
     if count > settings.mbcgs as usize {
@@ -78,9 +77,9 @@ fn growth(settings: Settings, count: usize) -> u32
 
 /// The number of the first carrier that an instance creates.
 fn first_number(instance: u32) -> u32
-    requires { (1 ≤ instance) × (instance ≤ 16) }
+    requires { (1 ≤ instance) × (instance ≤ MAX_SCHEDULERS) }
     ensures first { result ≡ instances.first_number instance }
-    ensures fits { result + 256 < 2 ^ 32 }
+    ensures fits { result + NUMBERS < 2 ^ 32 }
 {
     (instance - 1) * NUMBERS + 1
 }
@@ -94,46 +93,41 @@ fn main_carrier(
 ) -> Result<Employed, OutOfMemory>
     requires valid { IsValid settings }
     requires some { 0 < settings.mmbcs }
-    requires instance { (1 ≤ instance) × (instance ≤ 16) }
+    requires instance { (1 ≤ instance) × (instance ≤ MAX_SCHEDULERS) }
     ensures { IfOk result (λ c. c ≡ main_content settings instance page) }
 {
     let units = pages_for(settings.mmbcs) * PAGE_UNITS;
     let carrier = Mbc::new(alloc, units, page, 1, instance, first_number(instance))?;
-    Ok(Employed::new(Kind::Main, carrier))
-}
-
-/// What is to follow a release in the carrier with the number.
-fn follow_up(number: u32, carriers: &[Employed]) -> Released
-    ensures { result ≡ Rattle.ea_instance.specs.Answers.follow_up (content_of carriers.now number) }
-{
-    match item_of(number, carriers) {
-        Some(carrier) if carrier.is_empty_multi() => Released::EmptyOwn,
-        _ => Released::Kept,
-    }
+    Ok(Employed {
+        kind: Kind::Main,
+        carrier,
+    })
 }
 
 impl Instance {
-    /// An instance before its first operation: instance `number`, from 1, of at most 16, with the region of
-    /// `pages` pages from page `first_page` on. Where the settings ask for a main carrier, it is created.
+    /// An instance before its first operation: instance `number`, from 1, of at most 16, with the
+    /// region of
+    /// `pages` pages from page `first` on. Where the settings ask for a main carrier, it is
+    /// created.
     pub fn new(
         alloc: Global,
         settings: Settings,
         number: u32,
-        first_page: u32,
+        first: u32,
         pages: u32,
     ) -> Result<Instance, OutOfMemory>
         requires valid { IsValid settings }
-        requires number { (1 ≤ number) × (number ≤ 16) }
-        requires region { first_page + pages ≤ 131072 }
+        requires number { (1 ≤ number) × (number ≤ MAX_SCHEDULERS) }
+        requires region { first + pages ≤ MAX_PAGES }
         requires main { instances.pages_for settings.mmbcs ≤ pages }
-        ensures { IfOk result (λ i. i ≡ new_instance settings number first_page pages) }
+        ensures { IfOk result (λ i. i ≡ new_instance settings number first pages) }
     {
-        let mut region = Region::new(alloc, first_page, pages)?;
+        let mut region = Region::new(alloc, first, pages)?;
         let mut carriers = Carriers::new(alloc, settings.strategy)?;
         let mut created = 0;
         if settings.mmbcs > 0 {
-            carriers.enter(main_carrier(alloc, settings, number, first_page)?)?;
-            let _base = region.take(pages_for(settings.mmbcs));
+            carriers.enter(main_carrier(alloc, settings, number, first)?)?;
+            region.take(first, pages_for(settings.mmbcs));
             created = 1;
         }
         Ok(Instance {
@@ -156,7 +150,9 @@ impl Instance {
     pub fn block_at(&self, spot: Spot) -> Option<Block>
         ensures { result ≡ option_map named (block_in self.now.contents spot) }
     {
-        item_of(spot.carrier, self.carriers.as_slice())?.block_at(spot.offset)
+        item_of(spot.carrier, self.carriers.as_slice())?
+            .carrier
+            .block_at(spot.offset)
     }
 
     /// The line of a carrier, if it employs it.
@@ -166,12 +162,18 @@ impl Instance {
         Some(item_of(carrier, self.carriers.as_slice())?.line())
     }
 
-    /// Adds the lines of all carriers that it employs, by rising number.
+    /// Adds the lines of all carriers that it employs, by rising number. Where there is no memory,
+    /// the
+    /// list stays as it was.
     pub fn put_lines(&self, lines: &mut List<CarrierLine>) -> Result<(), OutOfMemory>
-        ensures { OnOk result (lines.new.items ≡ lines.old.items ++ map carrier_line self.now.contents) }
+        ensures ok { OnOk result (lines.new.items
+            ≡ lines.old.items ++ map carrier_line self.now.contents) }
+        ensures err { OnErr result (lines.new.items ≡ lines.old.items) }
     {
-        for carrier in self.carriers.as_slice() {
-            lines.push(carrier.line())?;
+        let carriers = self.carriers.as_slice();
+        lines.reserve(carriers.len())?;
+        for carrier in carriers {
+            lines.push_within(carrier.line());
         }
         Ok(())
     }
@@ -179,7 +181,7 @@ impl Instance {
     /// Blocks and carriers of its main and multiblock carriers, and their units.
     pub fn multi_figures(&self) -> Figures
         ensures figures { result ≡ instances.figures self.now.contents }
-        ensures few { result.carriers ≤ 256 }
+        ensures few { result.carriers ≤ NUMBERS }
     {
         figures(self.carriers.as_slice())
     }
@@ -194,28 +196,32 @@ impl Instance {
         free_of(self.carriers.as_slice())
     }
 
-    /// Places a block of `need` units in the gap that its strategy chooses. None, and nothing changed, where
+    /// Places a block of `need` units in the gap that its strategy chooses. None, and nothing
+    /// changed, where
     /// there is no choice.
     pub fn try_alloc(&mut self, need: u32, name: u32) -> Result<Option<Place>, OutOfMemory>
         requires even { need % 2 ≡ 0 }
         requires least { 6 ≤ need }
-        ensures place { IfOk result (λ place. place ≡ option_map (λ spot. place_at self.old spot need) (chosen_spot self.old need)) }
-        ensures ok { OnOk result (self.new ≡ placing_if self.old (chosen_spot self.old need) need name) }
+        ensures place { IfOk result (λ place. place ≡ option_map (λ spot. place_at self.old spot need)
+            (chosen_spot self.old need)) }
+        ensures ok { OnOk result
+            (self.new ≡ placing_if self.old (chosen_spot self.old need) need name) }
         ensures err { OnErr result (self.new ≡ self.old) }
 
-        // None exactly where nothing that the strategy looks at has so many units, and, where it may miss
-        // a gap, no multiblock carrier without blocks has. Good fit and address fit alone may miss one.
-        ensures none { IfOk result (λ found. IsNone found ↔ FindsNone self.old.settings need self.old.contents) }
-        ensures all { may_miss self.old.settings.strategy ≡ false → IfOk result (λ found. IsNone found ↔ All (λ x. x.size < need) (candidates self.old.contents)) }
-
-        // Of what it looks at and that has, none comes before the chosen one; of those carriers, none lies lower.
-        ensures first { IfSome (choice_among self.old.settings.strategy self.old.settings.mbsd need self.old.contents)
-            (IsFirst (takes_first self.old.settings.strategy) (large_enough need (inspected_by self.old.settings.strategy self.old.settings.mbsd (candidates self.old.contents)))) }
-        ensures unused { IfSome (choice_empty need self.old.contents)
-            (IsFirst lower (large_enough need (candidates (filter is_empty_multi self.old.contents)))) }
+        // None exactly where nothing that the strategy inspects has that many units, and, where it
+        // may miss
+        // a gap, no multiblock carrier without blocks has. Good fit and address fit alone may miss
+        // one.
+        ensures none { IfOk result
+            (λ found. IsNone found ↔ FindsNone self.old.settings need self.old.contents) }
+        ensures all { may_miss self.old.settings.strategy ≡ false
+            → IfOk result
+            (λ found. IsNone found ↔ All (λ x. x.size < need) (candidates self.old.contents)) }
 
         // It lies where no block began, and other blocks stay.
-        ensures blocks { IfOk result (λ found. IfSome found (λ place. IsPlaced self.old.contents self.new.contents name place)) }
+        ensures blocks { IfOk result
+            (λ found. IfSome found
+            (λ place. IsPlaced self.old.contents self.new.contents name place)) }
     {
         self.place_chosen(need, name)
     }
@@ -223,18 +229,22 @@ impl Instance {
     fn place_chosen(&mut self, need: u32, name: u32) -> Result<Option<Place>, OutOfMemory>
         requires even { need % 2 ≡ 0 }
         requires least { 6 ≤ need }
-        ensures place { IfOk result (λ place. place ≡ option_map (λ spot. place_at self.old spot need) (chosen_spot self.old need)) }
-        ensures ok { OnOk result (self.new ≡ placing_if self.old (chosen_spot self.old need) need name) }
+        ensures place { IfOk result (λ place. place ≡ option_map (λ spot. place_at self.old spot need)
+            (chosen_spot self.old need)) }
+        ensures ok { OnOk result
+            (self.new ≡ placing_if self.old (chosen_spot self.old need) need name) }
         ensures err { OnErr result (self.new ≡ self.old) }
-        ensures blocks { IfOk result (λ found. IfSome found (λ place. IsPlaced self.old.contents self.new.contents name place)) }
+        ensures blocks { IfOk result
+            (λ found. IfSome found
+            (λ place. IsPlaced self.old.contents self.new.contents name place)) }
     {
-        let Some(found) = self.carriers.chosen(need, self.settings.mbsd) else {
+        let Some(choice) = self.carriers.chosen(need, self.settings.mbsd) else {
             return Ok(None);
         };
-        let size = self.carriers.place(found.number, found.offset, need, name)?;
+        let size = self.carriers.place(choice, need, name)?;
         Ok(Some(Place {
-            carrier: found.number,
-            offset: found.offset,
+            carrier: choice.candidate.number,
+            offset: choice.candidate.offset,
             size,
         }))
     }
@@ -242,37 +252,44 @@ impl Instance {
     /// The lowest of its carrier numbers that isn't in use. Its settings are valid.
     fn unused_number(&self) -> Option<u32>
         ensures valid { IsValid self.now.settings }
-        ensures number { result ≡ unused_from 256 (instances.first_number self.now.number) self.now.contents }
+        ensures number { result ≡ unused_from NUMBERS (instances.first_number self.now.number)
+            self.now.contents }
     {
         unused_number(first_number(self.number), self.carriers.as_slice())
     }
 
-    /// Where the lowest free run of its region with so many pages begins.
+    /// Where the lowest free run of its region with that many pages begins.
     fn free_run(&self, pages: u32) -> Option<u32>
         ensures { result ≡ instances.free_run self.now pages }
     {
         self.region.find(pages)
     }
 
-    /// The pages of the next carrier: as many as it would have by its turn, and no fewer than `least`.
+    /// The pages of the next carrier: as many as it would have by its turn, and no fewer than
+    /// `least`.
     fn next_pages(&self, least: u32) -> u32
-        ensures pages { result ≡ max least (instances.pages_for (growth self.now.settings (multis self.now.contents))) }
-        ensures small { result ≤ max least 131072 }
+        ensures pages { result ≡ max least
+            (instances.pages_for (growth self.now.settings (multis self.now.contents))) }
+        ensures small { result ≤ max least MAX_PAGES }
     {
         least.max(pages_for(growth(self.settings, multi_count(self.carriers.as_slice()))))
     }
 
-    /// The multiblock carrier that it would create for a block of `need` units, at most `sbct`, or why it
+    /// The multiblock carrier that it would create for a block of `need` units, at most `sbct`, or
+    /// why it
     /// can't.
     pub fn plan_carrier(&self, need: u32) -> Result<CarrierPlan, NoCarrier>
         requires need { need ≤ self.now.settings.sbct }
         requires created { self.now.created + 1 < 2 ^ 32 }
         ensures plan { result ≡ plan self.now need }
 
-        // Numbers exactly where all its numbers are in use; Space exactly where one is not, and no run holds
+        // Numbers exactly where all its numbers are in use; Space exactly where one is not, and no
+        // run holds
         // the least carrier.
         ensures numbers { (result ≡ Err Numbers) ↔ AllUsed self.now }
-        ensures space { (result ≡ Err Space) ↔ ((AllUsed self.now → ⊥) × All (λ r. r.pages < least_pages need) (runs self.now.first self.now.end (segments self.now.contents))) }
+        ensures space { (result ≡ Err Space) ↔ ((AllUsed self.now → ⊥)
+            × All (λ r. r.pages < least_pages need)
+            (runs self.now.first self.now.end (segments self.now.contents))) }
         ensures pages { IfOk result (λ p. (1 ≤ p.pages) × (512 * p.pages < 2 ^ 32)) }
     {
         self.plan_for(need)
@@ -327,7 +344,8 @@ impl Instance {
         )
     }
 
-    /// Employs the carrier of its present plan for a block of `need` units. Where there is no memory, the
+    /// Employs the carrier of its present plan for a block of `need` units. Where there is no
+    /// memory, the
     /// carrier is dropped and nothing changes.
     pub fn create(&mut self, plan: CarrierPlan, need: u32, carrier: Mbc) -> Result<(), OutOfMemory>
         requires plan { instances.plan self.old need ≡ Ok plan }
@@ -337,8 +355,9 @@ impl Instance {
         ensures blocks { OnOk result (HaveSameBlocks self.old.contents self.new.contents) }
         ensures err { OnErr result (self.new ≡ self.old) }
     {
-        self.carriers.enter(Employed::new(Kind::Multi, carrier))?;
-        let _base = self.region.take(plan.pages);
+        let kind = Kind::Multi;
+        self.carriers.enter(Employed { kind, carrier })?;
+        self.region.take(plan.base, plan.pages);
         self.created = plan.birth;
         Ok(())
     }
@@ -348,20 +367,22 @@ impl Instance {
         requires { IsSome (block_in self.old.contents spot) }
         ensures ok { OnOk result (self.new ≡ releasing_at self.old spot) }
         ensures answer { IfOk result (λ a. a ≡ follow_up (content_of self.new.contents spot.carrier)) }
-        ensures others { (at : Spot) → IsOther spot.carrier spot.offset at → block_in self.new.contents at ≡ block_in self.old.contents at }
+        ensures others { (at : Spot) → IsOther spot.carrier spot.offset at
+            → block_in self.new.contents at ≡ block_in self.old.contents at }
         ensures err { OnErr result (self.new ≡ self.old) }
     {
-        self.carriers.release(spot.carrier, spot.offset)?;
-        Ok(follow_up(spot.carrier, self.carriers.as_slice()))
+        self.carriers.release(spot.carrier, spot.offset)
     }
 
-    /// Deallocates a carrier without blocks other than the main one: its number and pages are free again.
+    /// Deallocates a carrier without blocks other than the main one: its number and pages are free
+    /// again.
     pub fn clear(&mut self, number: u32)
-        requires { IfSome (content_of self.old.contents number) (λ c. is_empty_multi c ≡ true) × IsSome (content_of self.old.contents number) }
+        requires { IfSome (content_of self.old.contents number) (λ c. is_empty_multi c ≡ true)
+            × IsSome (content_of self.old.contents number) }
         ensures cleared { self.new ≡ clearing self.old number }
         ensures blocks { HaveSameBlocks self.old.contents self.new.contents }
     {
-        let carrier = self.carriers.leave(number);
+        let carrier = self.carriers.leave(number).carrier;
         self.region
             .give_back(carrier.base(), carrier.units() / PAGE_UNITS);
     }

@@ -3,13 +3,13 @@
 
 mod binned;
 mod carriers;
+mod changes;
+mod choice;
 mod employed;
 mod figures;
 mod instance;
 mod released;
 mod strategies;
-#[cfg(test)]
-mod tests;
 mod walks;
 
 pub use ea_model::CarrierPlan;

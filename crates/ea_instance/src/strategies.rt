@@ -1,42 +1,43 @@
-//! How strategies compare gaps.
+//! How strategies search, and how they compare gaps.
 ghost use Rattle.std.specs.Prelude.{◌≡◌};
-ghost use Rattle.ea_model.specs.Strategies.{smaller_high, smaller_low};
+ghost use Rattle.ea_model.specs.Strategies as strategies;
 ghost use Rattle.ea_instance.specs.Better.{better_of};
-ghost use Rattle.ea_instance.specs.Orders.{is_better};
+ghost use Rattle.ea_instance.specs.Searches.{goes_before, is_better, search_of};
 
+use crate::choice::Choice;
 use ea_model::{Candidate, Inner, Strategy};
 
-/// What a strategy compares first.
+/// How a strategy searches the carriers.
 #[derive(Debug, Clone, Copy, PartialEq, Eq)]
-pub enum Order {
-    /// The gaps of all carriers.
+pub enum Search {
+    /// It compares the gaps of all carriers.
     Gaps,
-    /// The carriers, of which it takes the one of the lowest address.
+    /// It takes the carrier of the lowest address that has a gap of the size.
     Address,
-    /// The carriers, of which it takes the oldest.
+    /// It takes the oldest carrier that has a gap of the size.
     Age,
-    /// The gaps of all carriers, of which it looks at the first few of each bin.
+    /// It inspects the first few gaps of each bin.
     Bins,
-    /// The gap at the lowest address, and no other.
+    /// It inspects the gap at the lowest address, and no other.
     Lowest,
 }
 
-/// What a strategy compares first.
-pub fn order_of(strategy: Strategy) -> Order
-    ensures { result ≡ Rattle.ea_instance.specs.Orders.order_of strategy }
+/// How a strategy searches the carriers.
+pub fn search_of(strategy: Strategy) -> Search
+    ensures { result ≡ search_of strategy }
 {
     match strategy {
-        Strategy::AoffCbf | Strategy::AoffCaobf => Order::Address,
-        Strategy::AgeffCaoff | Strategy::AgeffCbf | Strategy::AgeffCaobf => Order::Age,
-        Strategy::Bf | Strategy::Aobf | Strategy::Aoff => Order::Gaps,
-        Strategy::Gf => Order::Bins,
-        Strategy::Af => Order::Lowest,
+        Strategy::AoffCbf | Strategy::AoffCaobf => Search::Address,
+        Strategy::AgeffCaoff | Strategy::AgeffCbf | Strategy::AgeffCaobf => Search::Age,
+        Strategy::Bf | Strategy::Aobf | Strategy::Aoff => Search::Gaps,
+        Strategy::Gf => Search::Bins,
+        Strategy::Af => Search::Lowest,
     }
 }
 
 /// How a strategy compares gaps inside a carrier.
 pub fn inner_of(strategy: Strategy) -> Inner
-    ensures { result ≡ Rattle.ea_model.specs.Strategies.inner_of strategy }
+    ensures { result ≡ strategies.inner_of strategy }
 {
     match strategy {
         Strategy::Bf | Strategy::AoffCbf | Strategy::AgeffCbf => Inner::Bf,
@@ -57,16 +58,12 @@ fn is_better(inner: Inner, a: Candidate, b: Candidate) -> bool
 }
 
 /// The one that is taken first of the best so far and another one.
-pub fn better_of(
-    inner: Inner,
-    best: Option<Candidate>,
-    found: Option<Candidate>,
-) -> Option<Candidate>
-    ensures { result ≡ better_of (is_better inner) best found }
+pub fn better_of(inner: Inner, best: Option<Choice>, found: Option<Choice>) -> Option<Choice>
+    ensures { result ≡ better_of (goes_before inner) best found }
 {
     match (best, found) {
         (Some(best), Some(found)) => {
-            if is_better(inner, found, best) {
+            if is_better(inner, found.candidate, best.candidate) {
                 Some(found)
             } else {
                 Some(best)

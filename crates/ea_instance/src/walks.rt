@@ -1,54 +1,62 @@
 //! Walks over the carriers of an instance, by rising number.
-ghost use Rattle.std.specs.Prelude.{◌≡◌, ◌+◌, ◌^◌, ◌<◌, ◌≤◌, IfSome, All, Any, length};
+ghost use Rattle.std.specs.Prelude.{◌≡◌, ◌+◌, ◌^◌, ◌<◌, ◌≤◌, IfSome, All, length};
 ghost use Rattle.ea_model.specs.Choice.{first};
 ghost use Rattle.ea_model.specs.Strategies.{candidates, choice_empty, large_enough};
 ghost use Rattle.ea_model.specs.Instance.{unused_from, multis};
-ghost use Rattle.ea_laws.specs.Spots.{IsGapOf};
 ghost use Rattle.ea_laws.specs.Kept.{IsLaidOut};
-ghost use Rattle.ea_instance.specs.Orders.{is_better};
+ghost use Rattle.ea_instance.specs.Choices.{candidate_of, IsChoice, StandsAt};
+ghost use Rattle.ea_instance.specs.Listed.{candidate_at};
+ghost use Rattle.ea_instance.specs.Searches.{is_better};
 
+use crate::choice::Choice;
 use crate::employed::Employed;
 use crate::strategies::better_of;
-use ea_goodfit::Gap;
+use ea_goodfit::Gap as BinnedGap;
 use ea_model::keyed::item_of;
-use ea_model::{Candidate, Inner, NUMBERS};
+use ea_model::{Inner, Kind, NUMBERS};
 
 /// The gap of at least `need` units that is taken first of all carriers.
-pub fn best_candidate(inner: Inner, need: u32, carriers: &[Employed]) -> Option<Candidate>
-    requires { 1 ≤ need }
-    ensures chosen { result ≡ first (is_better inner) (large_enough need (candidates carriers.now)) }
-    ensures fits { IfSome result (λ x. Any (IsGapOf need x) carriers.now) }
+pub fn best_choice(inner: Inner, need: u32, carriers: &[Employed]) -> Option<Choice>
+    requires some { 1 ≤ need }
+    requires laid { All IsLaidOut carriers.now }
+    ensures chosen { candidate_of result
+        ≡ first (is_better inner) (large_enough need (candidates carriers.now)) }
+    ensures choice { IfSome result (IsChoice need carriers.now) }
 {
     let mut best = None;
-    for carrier in carriers {
-        best = better_of(inner, best, carrier.candidate(inner, need));
+    for (index, carrier) in carriers.iter().enumerate() {
+        best = better_of(inner, best, carrier.choose(index, inner, need));
     }
     best
 }
 
 /// The gap of at least `need` units of the lowest multiblock carrier without blocks.
-pub fn lowest_empty(need: u32, carriers: &[Employed]) -> Option<Candidate>
-    requires { 1 ≤ need }
-    ensures chosen { result ≡ choice_empty need carriers.now }
-    ensures fits { IfSome result (λ x. Any (IsGapOf need x) carriers.now) }
+pub fn lowest_empty(need: u32, carriers: &[Employed]) -> Option<Choice>
+    requires some { 1 ≤ need }
+    requires laid { All IsLaidOut carriers.now }
+    ensures chosen { candidate_of result ≡ choice_empty need carriers.now }
+    ensures choice { IfSome result (IsChoice need carriers.now) }
 {
     let mut best = None;
-    for carrier in carriers {
+    for (index, carrier) in carriers.iter().enumerate() {
         if carrier.is_empty_multi() {
-            best = better_of(Inner::Aoff, best, carrier.candidate(Inner::Aoff, need));
+            best = better_of(Inner::Aoff, best, carrier.choose(index, Inner::Aoff, need));
         }
     }
     best
 }
 
 /// The gap of the bins, as one of the carrier that spans it.
-pub fn candidate_at(gap: Gap, carriers: &[Employed]) -> Option<Candidate>
+pub fn choice_at(gap: BinnedGap, carriers: &[Employed]) -> Option<Choice>
     requires { All IsLaidOut carriers.now }
-    ensures { result ≡ Rattle.ea_instance.specs.Listed.candidate_at gap carriers.now }
+    ensures found { candidate_of result
+        ≡ candidate_at gap carriers.now }
+    ensures stands { IfSome result (StandsAt carriers.now) }
 {
-    for carrier in carriers {
+    for (index, carrier) in carriers.iter().enumerate() {
         if carrier.spans(gap.address) {
-            return Some(carrier.candidate_of(gap));
+            let candidate = carrier.located(gap);
+            return Some(Choice { index, candidate });
         }
     }
     None
@@ -56,8 +64,8 @@ pub fn candidate_at(gap: Gap, carriers: &[Employed]) -> Option<Candidate>
 
 /// The lowest of the instance's numbers, from `first` on, that no carrier has.
 pub fn unused_number(first: u32, carriers: &[Employed]) -> Option<u32>
-    requires { first + 256 < 2 ^ 32 }
-    ensures { result ≡ unused_from 256 first carriers.now }
+    requires { first + NUMBERS < 2 ^ 32 }
+    ensures { result ≡ unused_from NUMBERS first carriers.now }
 {
     for k in 0..NUMBERS {
         if item_of(first + k, carriers).is_none() {
@@ -74,7 +82,7 @@ pub fn multi_count(carriers: &[Employed]) -> usize
 {
     let mut count = 0;
     for carrier in carriers {
-        if carrier.is_multi() {
+        if carrier.kind == Kind::Multi {
             count += 1;
         }
     }

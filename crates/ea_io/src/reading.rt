@@ -1,5 +1,5 @@
 //! Reading a source to its end.
-ghost use Rattle.std.specs.Prelude.{◌≡◌, ℕ, ◌+◌, ◌^◌, ◌<◌, ◌≤◌, IfOk, OnOk, IfSome, IsErrOf, length};
+ghost use Rattle.std.specs.Prelude.{◌≡◌, ◌+◌, ◌^◌, ◌<◌, ◌≤◌, IfOk, OnOk, IfSome, IsErrOf, length};
 ghost use Rattle.std.specs.Io.KnownBytes.{IsAtEnd};
 ghost use Rattle.ea_io.specs.Calls.{StopsAtFault};
 ghost use Rattle.ea_io.specs.Counts.{Rose};
@@ -38,7 +38,8 @@ impl From<AllocError> for ReadAllFault {
 const PIECE: usize = 4096;
 
 /// All bytes of the source to its end, where there are at most `max`. `TooLong` comes exactly where
-/// the source gave `max + 1` bytes. What was read before a refusal is taken from the source.
+/// the source gave `max + 1` bytes. What was read before a refusal is taken from the source; after
+/// a read that failed nothing more is read.
 pub fn read_all<S: Source>(
     alloc: Global,
     source: &mut S,

@@ -53,7 +53,7 @@ changed-Stands f keeps n item i st there sound = record {
   apart = apart-changed f keeps n item i.contents st.apart;
 }
 
-placed-IsLaidOut : (c : Content) (offset need name : ℕ) → IsLaidOut c
+pub placed-IsLaidOut : (c : Content) (offset need name : ℕ) → IsLaidOut c
     → need ≤ gap_at (gaps_of c) offset → 6 ≤ need → need % 2 ≡ 0
     → IsLaidOut (placed c offset need name)
 placed-IsLaidOut c offset need name s fits least even =
@@ -78,7 +78,7 @@ placing-Stands i spot need name st gap least even =
     (item_at-All number_of IsLaidOut spot.carrier gap.0 i.contents st.sound gap.1) gap.2 least
     even)
 
-released-IsLaidOut : (c : Content) (offset : ℕ) → IsLaidOut c → IsLaidOut (released c offset)
+pub released-IsLaidOut : (c : Content) (offset : ℕ) → IsLaidOut c → IsLaidOut (released c offset)
 released-IsLaidOut c offset s =
     record {
       shared = s.shared;

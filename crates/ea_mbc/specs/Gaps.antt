@@ -10,16 +10,22 @@ pub record Replaced (xs ys gone made : List Gap) : Type 0 where
   pub was : xs ≡ front ++ gone ++ behind
   pub is : ys ≡ front ++ made ++ behind
 
--- a block of so many units stands at the front of the gap at the offset, and what it leaves of it is a gap
+-- a block of so many units stands at the front of the gap at the offset, and what it leaves of it
+-- is a gap
 abbrev pub GapTaken : Content → Content → ℕ → ℕ → Type 0
 GapTaken old new offset size =
     Replaced (gaps_of old) (gaps_of new)
     (record { offset = offset; size = gap_at (gaps_of old) offset } ∷ [])
     (gap (offset + size) (offset + gap_at (gaps_of old) offset))
 
--- a block of so many units at the offset is free, and one gap with the gaps directly before and after it
+-- a block of so many units at the offset is free, and one gap with the gaps directly before and
+-- after it
 abbrev pub GapsJoined : Content → Content → ℕ → ℕ → Type 0
 GapsJoined old new offset size =
     Replaced (gaps_of old) (gaps_of new)
-    (gap (offset - gap_before old offset) offset ++ gap (offset + size) (offset + size + gap_behind old offset))
-    (record { offset = offset - gap_before old offset; size = gap_before old offset + size + gap_behind old offset } ∷ [])
+    (gap (offset - gap_before old offset) offset ++ gap (offset + size)
+    (offset + size + gap_behind old offset))
+    (record {
+      offset = offset - gap_before old offset;
+      size = gap_before old offset + size + gap_behind old offset;
+    } ∷ [])

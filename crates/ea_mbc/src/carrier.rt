@@ -24,7 +24,8 @@ pub struct Freed {
     pub after: u32,
 }
 
-/// A carrier of many blocks. Contracts see it as its content: number, owner, base, birth, units and the
+/// A carrier of many blocks. Contracts see it as its content: number, owner, base, birth, units and
+/// the
 /// blocks by rising offset. A block has an even number of units, 6 at least, and so has a gap.
 #[derive(Drop)]
 pub struct Mbc {
@@ -60,8 +61,10 @@ impl Carried for Mbc {
 }
 
 impl Mbc {
-    /// A carrier without blocks: `units` units, its own header of 8 included, that begin at page `base`.
-    /// `birth` is its number in the order of creation, `owner` the instance that creates it, and `number`
+    /// A carrier without blocks: `units` units, its own header of 8 included, that begin at page
+    /// `base`.
+    /// `birth` is its number in the order of creation, `owner` the instance that creates it, and
+    /// `number`
     /// its own.
     pub fn new(
         alloc: Global,
@@ -101,12 +104,14 @@ impl Mbc {
         // The chosen gap is one that fits, and none that fits comes before it.
         ensures fits { IfSome result (λ g. need ≤ g.size) }
         ensures gap { IfSome result (λ g. gap_at (gaps_of self.now) g.offset ≡ g.size) }
+        ensures within { IfSome result (λ g. g.offset + g.size ≤ self.now.units) }
         ensures first { IfSome result (IsFirst (before inner) (fitting need (gaps_of self.now))) }
     {
         best_gap(inner, need, self.units, &self.blocks)
     }
 
-    /// Puts a block at the front of a gap of its own, and answers its units: `need`, or the whole gap
+    /// Puts a block at the front of a gap of its own, and answers its units: `need`, or the whole
+    /// gap
     /// where fewer than 6 units would be left of it. Where there is no memory, nothing changes.
     pub fn place(&mut self, gap: Gap, need: u32, name: u32) -> Result<u32, OutOfMemory>
         requires gap { gap_at (gaps_of self.old) gap.offset ≡ gap.size }
@@ -125,7 +130,8 @@ impl Mbc {
         ensures others { (at : ℕ) → at ≢ gap.offset →
             block_at self.new.blocks at ≡ block_at self.old.blocks at }
 
-        // Of the gaps only that one changes: what the block leaves of it is a gap, if it leaves any.
+        // Of the gaps only that one changes: what the block leaves of it is a gap, if it leaves
+        // any.
         ensures gap_taken { IfOk result (GapTaken self.old self.new gap.offset) }
     {
         let size = taken(gap.size, need);
@@ -134,7 +140,8 @@ impl Mbc {
         Ok(size)
     }
 
-    /// Takes out the block at `offset`, whose units are free from then on, and answers it with the gaps
+    /// Takes out the block at `offset`, whose units are free from then on, and answers it with the
+    /// gaps
     /// that it joins. Where there is no memory, nothing changes.
     pub fn release(&mut self, offset: u32) -> Result<Freed, OutOfMemory>
         requires { IsSome (block_at self.old.blocks offset) }
@@ -150,7 +157,8 @@ impl Mbc {
         ensures others { (at : ℕ) → at ≢ offset →
             block_at self.new.blocks at ≡ block_at self.old.blocks at }
 
-        // Of the gaps only those directly before and after the block change: with it they are one gap.
+        // Of the gaps only those directly before and after the block change: with it they are one
+        // gap.
         ensures gaps_joined { IfOk result (λ f. GapsJoined self.old self.new offset f.size) }
     {
         let before = free_before(self.units, &self.blocks, offset);
@@ -182,7 +190,8 @@ impl Mbc {
         gap_from(self.units, &self.blocks, offset)
     }
 
-    /// The units of the gap directly after the block that begins at `offset`, 0 where there is none.
+    /// The units of the gap directly after the block that begins at `offset`, 0 where there is
+    /// none.
     pub fn gap_behind(&self, offset: u32) -> u32
         requires { IsSome (block_at self.now.blocks offset) }
         ensures { result ≡ gap_behind self.now offset }
@@ -190,7 +199,8 @@ impl Mbc {
         free_behind(self.units, &self.blocks, offset)
     }
 
-    /// The units of the gap directly before the block that begins at `offset`, 0 where there is none.
+    /// The units of the gap directly before the block that begins at `offset`, 0 where there is
+    /// none.
     pub fn gap_before(&self, offset: u32) -> u32
         requires { IsSome (block_at self.now.blocks offset) }
         ensures { result ≡ gap_before self.now offset }

@@ -12,7 +12,8 @@ use std::marker::Model;
 /// For how many taken segments memory is reserved.
 const ROOM: usize = 257;
 
-/// A region of pages, of which some are taken. Contracts see it as its first page, the page after its last
+/// A region of pages, of which some are taken. Contracts see it as its first page, the page after
+/// its last
 /// one, and the taken segments by rising base.
 #[derive(Drop)]
 pub struct Region {
@@ -33,7 +34,8 @@ impl Model for Region {
 }
 
 impl Region {
-    /// A region of `pages` pages from the page `first` on, all free. It reserves the memory that later
+    /// A region of `pages` pages from the page `first` on, all free. It reserves the memory that
+    /// later
     /// calls need.
     pub fn new(alloc: Global, first: u32, pages: u32) -> Result<Region, OutOfMemory>
         requires { first + pages < 2 ^ 32 }
@@ -46,26 +48,30 @@ impl Region {
         })
     }
 
-    /// Where the lowest free run of at least `pages` pages begins, or None where no free run has so many.
+    /// Where the lowest free run of at least `pages` pages begins, or None where no free run has so
+    /// many.
     pub fn find(&self, pages: u32) -> Option<u32>
         ensures found { result ≡ lowest_run pages (runs_of self.now) }
         ensures none { IsNone result ↔ All (λ r. r.pages < pages) (runs_of self.now) }
 
         // The pages found lie in the region and meet no taken segment.
-        ensures inside { IfSome result (λ base. (self.now.first ≤ base) × (base + pages ≤ self.now.end)) }
+        ensures inside { IfSome result (λ base. (self.now.first ≤ base)
+            × (base + pages ≤ self.now.end)) }
         ensures apart { IfSome result (λ base. AreFree base pages self.now.taken) }
         ensures laid { Laid self.now.first self.now.end self.now.taken }
     {
         lowest_start(pages, self.first, self.end, &self.taken)
     }
 
-    /// Takes `pages` pages from `base` on, where `find` found them: at the front of the lowest free run
+    /// Takes `pages` pages from `base` on, where `find` found them: at the front of the lowest free
+    /// run
     /// that has so many.
     pub fn take(&mut self, base: u32, pages: u32)
         requires some { 1 ≤ pages }
         requires room { length self.old.taken < 256 }
         requires found { lowest_run pages (runs_of self.old) ≡ Some base }
-        ensures taken { self.new ≡ record self.old { taken = with_segment (record { base = base; pages = pages }) self.old.taken } }
+        ensures taken { self.new ≡ record self.old
+            { taken = with_segment (record { base = base; pages = pages }) self.old.taken } }
 
         // The pages taken lie in the region and met no taken segment.
         ensures inside { (self.old.first ≤ base) × (base + pages ≤ self.old.end) }
@@ -80,7 +86,8 @@ impl Region {
         enter_within(Segment { base, pages }, &mut self.taken);
     }
 
-    /// Makes the `pages` pages from `base` on free again. They are the whole or the tail of one taken
+    /// Makes the `pages` pages from `base` on free again. They are the whole or the tail of one
+    /// taken
     /// segment, and one page at least.
     pub fn give_back(&mut self, base: u32, pages: u32)
         requires { IsTail base pages self.old.taken }
@@ -89,8 +96,10 @@ impl Region {
         ensures count { length self.new.taken ≤ length self.old.taken }
 
         // What is left of the segment can be given back, and so can other pages as before.
-        ensures front { (at : ℕ) → at < base → IsTail at (base + pages - at) self.old.taken → IsTail at (base - at) self.new.taken }
-        ensures others { (at n : ℕ) → (at + n ≤ base) ⊎ (base + pages ≤ at) → IsTail at n self.old.taken → IsTail at n self.new.taken }
+        ensures front { (at : ℕ) → at < base → IsTail at (base + pages - at) self.old.taken
+            → IsTail at (base - at) self.new.taken }
+        ensures others { (at n : ℕ) → (at + n ≤ base) ⊎ (base + pages ≤ at)
+            → IsTail at n self.old.taken → IsTail at n self.new.taken }
     {
         let index = index_of(&self.taken, base);
         let segment = self.taken[index];

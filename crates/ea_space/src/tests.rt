@@ -10,7 +10,9 @@ fn take(region: &mut Region, pages: u32) -> Option<u32>
     requires some { 1 ≤ pages }
     requires room { length region.old.taken < 256 }
     ensures found { result ≡ lowest_run pages (runs_of region.old) }
-    ensures taken { IfSome result (λ base. region.new ≡ record region.old { taken = with_segment (record { base = base; pages = pages }) region.old.taken }) }
+    ensures taken { IfSome result
+        (λ base. region.new ≡ record region.old
+        { taken = with_segment (record { base = base; pages = pages }) region.old.taken }) }
     ensures none { IfNone result (region.new ≡ region.old) }
     ensures count { length region.new.taken ≤ length region.old.taken + 1 }
     ensures whole { IfSome result (λ base. IsTail base pages region.new.taken) }

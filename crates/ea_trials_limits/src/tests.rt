@@ -72,14 +72,17 @@ fn put_line(text: &mut List<u8>, words: &[(&str, u64)]) -> Result<(), OutOfMemor
     put_text(text, "\n")
 }
 
-// 257 blocks that fill a carrier each, and one more where a carrier went.
+// 257 blocks that fill a carrier each, and two more where two carriers went.
 fn carriers_input(alloc: Global) -> Result<List<u8>, OutOfMemory> {
     let mut input = List::new(alloc);
     put_text(&mut input, "type H\nscheduler 1\n")?;
     for name in 1..258 {
         put_line(&mut input, &[("alloc ", name), (" ", 262_072)])?;
     }
-    put_text(&mut input, "free 49\nalloc 258 262072\nschedule\nend\n")?;
+    put_text(
+        &mut input,
+        "free 200\nfree 100\nalloc 258 262072\nalloc 259 262072\nschedule\nend\n",
+    )?;
     Ok(input)
 }
 
@@ -91,7 +94,8 @@ fn carriers_text(alloc: Global) -> Result<List<u8>, OutOfMemory> {
     }
     put_text(
         &mut text,
-        "alloc 257 fail need 32760 looked 0 numbers\nfree 49 done\nalloc 258 49 8 32760\n",
+        "alloc 257 fail need 32760 looked 0 numbers\nfree 200 done\nfree 100 done\n\
+        alloc 258 100 8 32760\nalloc 259 200 8 32760\n",
     )?;
     for (number, base) in (1..257).zip((0..16_384).step_by(64)) {
         put_line(

@@ -1,4 +1,5 @@
-//! Which gap a strategy takes, and where it passes over gaps that fit.
+//! Where blocks are placed: which gap a strategy takes, where it passes over gaps that fit, and how
+//! an instance grows in its region.
 #![tactic(auto)]
 
 #[cfg(test)]

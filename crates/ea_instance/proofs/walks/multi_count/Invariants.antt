@@ -3,4 +3,5 @@ use Rattle.ea_model.specs.Instance.{multis}
 use Rattle.ea_instance.proofs.walks.multi_count.Given as goal
 
 abbrev pub invariant-loop-carrier : goal.invariant-loop-carrier
-invariant-loop-carrier l = (l.count + multis (drop l.carrier-index l.carriers) ≡ multis l.carriers) × (l.count ≤ l.carrier-index)
+invariant-loop-carrier l = (l.count + multis (drop l.carrier-index l.carriers) ≡ multis l.carriers)
+    × (l.count ≤ l.carrier-index)

@@ -2,7 +2,7 @@ use Rattle.std.proofs.Common.{◌≡◌, ◌+◌, sym, ap, ◌∙◌, refl, arit
 use Rattle.std.specs.Prelude.{is_some}
 use Rattle.ea_model.specs.Instance.{unused_from}
 use Rattle.ea_model.proofs.Options.{is_some-map}
-use Rattle.ea_instance.proofs.Unused.{stops_here, goes_on, ends}
+use Rattle.ea_laws.proofs.Unused.{stops_here, goes_on, ends}
 use Rattle.ea_instance.proofs.walks.unused_number.Goals as goal
 
 pub loop-k-init : goal.loop-k-init
@@ -13,12 +13,16 @@ loop-k-init c =
 pub loop-k-preserved : goal.loop-k-preserved
 loop-k-preserved c =
     let (left, count, same) = c.loop-k.invariant in
-    goes_on left c.loop-k.k c.args.first c.args.carriers.now _ count c.loop-k-test.true (ap is_some (sym c.item_of.ensures) ∙ is_some-map _ c.item_of.result ∙ c.if-is_none.ensures) same
+    goes_on left c.loop-k.k c.args.first c.args.carriers.now _ count c.loop-k-test.true
+    (ap is_some (sym c.item_of.ensures) ∙ is_some-map _ c.item_of.result ∙ c.if-is_none.ensures)
+    same
 
 pub returns-then-is_none : goal.returns-then-is_none
 returns-then-is_none c =
     let (left, count, same) = c.loop-k.invariant in
-    stops_here left c.loop-k.k c.args.first c.args.carriers.now _ count c.loop-k-test.true (ap is_some (sym c.item_of.ensures) ∙ is_some-map _ c.item_of.result ∙ c.if-is_none.ensures) same
+    stops_here left c.loop-k.k c.args.first c.args.carriers.now _ count c.loop-k-test.true
+    (ap is_some (sym c.item_of.ensures) ∙ is_some-map _ c.item_of.result ∙ c.if-is_none.ensures)
+    same
 
 pub returns : goal.returns
 returns c =

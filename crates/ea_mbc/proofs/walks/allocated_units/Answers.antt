@@ -7,4 +7,10 @@ use Rattle.ea_mbc.proofs.walks.allocated_units.Goals as goal
 
 pub overflow_add-sum : goal.overflow_add-sum
 overflow_add-sum c =
-    omega (arith, sum_by_more_le (λ (b : BlockAt). b.size) c.args.blocks.now c.loop-block.block-index no_block c.loop-block-test.true, Tiled-allocated _ _ _ c.requires, c.loop-block.invariant)
+    omega (
+      arith,
+      sum_by_more_le (λ (b : BlockAt). b.size) c.args.blocks.now
+          c.loop-block.block-index no_block c.loop-block-test.true,
+      Tiled-allocated _ _ _ c.requires,
+      c.loop-block.invariant,
+    )

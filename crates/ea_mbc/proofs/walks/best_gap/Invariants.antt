@@ -7,5 +7,7 @@ use Rattle.ea_mbc.proofs.walks.best_gap.Given as goal
 abbrev pub invariant-loop-block : goal.invariant-loop-block
 invariant-loop-block l = record {
   tiled : Tiled l.at l.units (drop l.block-index l.blocks);
-  rest : fold (better (before l.inner)) l.best (fitting l.need (gaps l.at l.units (drop l.block-index l.blocks))) ≡ choice l.inner l.need (gaps 8 l.units l.blocks);
+  rest : fold (better (before l.inner)) l.best
+      (fitting l.need (gaps l.at l.units (drop l.block-index l.blocks))) ≡ choice l.inner l.need
+      (gaps 8 l.units l.blocks);
 }

@@ -7,5 +7,6 @@ abbrev pub invariant-loop-block : goal.invariant-loop-block
 invariant-loop-block l = record {
   tiled : Tiled l.at l.units (drop l.block-index l.blocks);
   found : block_at (drop l.block-index l.blocks) l.offset ≡ block_at l.blocks l.offset;
-  rest : gap_up_to (gaps l.at l.units (drop l.block-index l.blocks)) l.offset ≡ gap_up_to (gaps 8 l.units l.blocks) l.offset;
+  rest : gap_up_to (gaps l.at l.units (drop l.block-index l.blocks)) l.offset ≡ gap_up_to
+      (gaps 8 l.units l.blocks) l.offset;
 }

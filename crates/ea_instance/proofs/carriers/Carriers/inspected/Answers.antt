@@ -1,32 +1,53 @@
-use Rattle.std.proofs.Common.{◌≡◌, All, sym, ap, ◌∙◌, subst}
-use Rattle.std.specs.Prelude.{Option, IfSome}
-use Rattle.std.specs.Option.{option_and_then}
+use Rattle.std.proofs.Common.{◌≡◌, List, sym, ap, ◌∙◌, subst}
+use Rattle.std.specs.Prelude.{IfSome}
+use Rattle.std.specs.Option.{option_and_then, option_copied}
 use Rattle.ea_model.specs.declared.settings.Strategy.TheVariants.{Gf}
-use Rattle.ea_model.specs.declared.carriers.Candidate.{Candidate}
+use Rattle.ea_model.specs.Content.{Content}
 use Rattle.ea_model.specs.Strategies.{choice_among}
-use Rattle.ea_laws.specs.Spots.{HasGap}
-use Rattle.ea_laws.specs.Kept.{IsLaidOut}
-use Rattle.ea_instance.specs.Listed.{CarrierList, candidate_at}
-use Rattle.ea_instance.proofs.Missing.{gf-choice, gf-HasGap}
+use Rattle.ea_instance.specs.Binned.{Hold}
+use Rattle.ea_instance.specs.Changes.{AreLaid}
+use Rattle.ea_instance.specs.Choices.{candidate_of, StandsAt}
+use Rattle.ea_instance.specs.Listed.{CarrierList, all_gaps, candidate_at}
+use Rattle.ea_instance.proofs.Missing.{gf-choice, gf-IsChoice}
 use Rattle.ea_instance.proofs.carriers.Carriers.inspected.Goals as goal
 
 pub returns-in_err-find-clause-chosen : goal.returns-in_err-find-clause-chosen
 returns-in_err-find-clause-chosen c =
-    c.from_residual.ensures ∙ ap (option_and_then (λ g. candidate_at g c.self.inside.list.items)) (sym c.in_err-find.was)
-    ∙ gf-choice c.args.depth c.args.need _ _ c.find.result (ap (λ (l : CarrierList). l.contents) c.self.view_is) c.self.invariant.sound c.self.invariant.apart
-    (c.find.ensures.order _ (c.self.invariant.binned (ap (λ (l : CarrierList). l.strategy) c.self.view_is ∙ c.requires.strategy)))
+    let cs = c.self.inside.list.items in
+    let laid = subst (λ (l : CarrierList). AreLaid l.contents) (sym c.self.view_is)
+    c.requires.laid in
+    let held = subst (λ o. Hold o (all_gaps cs)) (sym c.as_ref.ensures.value
+    ∙ ap option_copied c.in_ok-as_ref.was)
+    c.self.invariant.gaps in
+    ap candidate_of c.from_residual-in_err-find.ensures
+    ∙ ap (option_and_then (λ g. candidate_at g cs)) (sym c.in_err-find.was)
+    ∙ gf-choice c.args.depth c.args.need cs _ c.find.result
+    (ap (λ (l : CarrierList). l.contents) c.self.view_is) laid.sound laid.apart
+    (c.find.ensures.order _ held)
 
-chosen : (c : goal.After-candidate_at) → c.candidate_at.result ≡ choice_among Gf c.args.depth c.args.need c.args.self.now.contents
+chosen : (c : goal.After-choice_at)
+    → candidate_of c.choice_at.result
+    ≡ choice_among Gf c.args.depth c.args.need c.args.self.now.contents
 chosen c =
-    c.candidate_at.ensures ∙ ap (candidate_at c.in_ok-find.field-0) c.deref.ensures.value
-    ∙ ap (option_and_then (λ g. candidate_at g c.self.inside.list.items)) (sym c.in_ok-find.was)
-    ∙ gf-choice c.args.depth c.args.need _ _ c.find.result (ap (λ (l : CarrierList). l.contents) c.self.view_is) c.self.invariant.sound c.self.invariant.apart
-    (c.find.ensures.order _ (c.self.invariant.binned (ap (λ (l : CarrierList). l.strategy) c.self.view_is ∙ c.requires.strategy)))
+    let cs = c.self.inside.list.items in
+    let laid = subst (λ (l : CarrierList). AreLaid l.contents) (sym c.self.view_is)
+    c.requires.laid in
+    let held = subst (λ o. Hold o (all_gaps cs)) (sym c.as_ref.ensures.value
+    ∙ ap option_copied c.in_ok-as_ref.was)
+    c.self.invariant.gaps in
+    c.choice_at.ensures.found ∙ ap (candidate_at c.in_ok-find.field-0) c.deref.ensures.value
+    ∙ ap (option_and_then (λ g. candidate_at g cs)) (sym c.in_ok-find.was)
+    ∙ gf-choice c.args.depth c.args.need cs _ c.find.result
+    (ap (λ (l : CarrierList). l.contents) c.self.view_is) laid.sound laid.apart
+    (c.find.ensures.order _ held)
 
 pub returns-clause-chosen : goal.returns-clause-chosen
 returns-clause-chosen c = chosen c
 
-pub returns-clause-gap : goal.returns-clause-gap
-returns-clause-gap c =
-    subst (λ (o : Option Candidate). IfSome o (λ x. HasGap c.args.need x.number x.offset c.args.self.now.contents)) (sym (chosen c))
-    (gf-HasGap c.args.depth c.args.need c.args.self.now.contents c.requires.rising (subst (λ (l : CarrierList). All IsLaidOut l.contents) c.self.view_is c.self.invariant.sound))
+pub returns-clause-choice : goal.returns-clause-choice
+returns-clause-choice c =
+    gf-IsChoice c.args.depth c.args.need c.args.self.now.contents c.choice_at.result
+    c.requires.laid (chosen c)
+    (subst (λ (cs : List Content). IfSome c.choice_at.result (StandsAt cs))
+    (c.deref.ensures.value ∙ ap (λ (l : CarrierList). l.contents) c.self.view_is)
+    c.choice_at.ensures.stands)

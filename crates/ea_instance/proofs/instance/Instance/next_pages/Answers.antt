@@ -1,6 +1,12 @@
 use Rattle.std.proofs.Common.{length, arith, ap}
-use Rattle.ea_instance.proofs.Contents.{rising-length}
+use Rattle.ea_instance.proofs.Keeping.{kept-few}
 use Rattle.ea_instance.proofs.instance.Instance.next_pages.Goals as goal
 
 pub growth-requires-clause-count : goal.growth-requires-clause-count
-growth-requires-clause-count c = omega (arith, rising-length _ _ _ c.self.invariant.rising c.self.invariant.own, c.multi_count.ensures.within, ap length c.as_slice.ensures.carriers)
+growth-requires-clause-count c =
+    omega (
+      arith,
+      kept-few _ _ _ _ _ c.self.invariant,
+      c.multi_count.ensures.within,
+      ap length c.as_slice.ensures,
+    )

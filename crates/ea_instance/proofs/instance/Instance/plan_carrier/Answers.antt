@@ -5,13 +5,18 @@ use Rattle.ea_model.specs.declared.entries.NoCarrier.TheVariants.{Numbers, Space
 use Rattle.ea_model.specs.Region.{runs}
 use Rattle.ea_model.specs.Instance.{least_pages, segments}
 use Rattle.ea_laws.specs.Spots.{AllUsed}
-use Rattle.ea_instance.proofs.Refusals.{plan-numbers, plan-space}
+use Rattle.ea_laws.proofs.Refusals.{plan-numbers, plan-space}
 use Rattle.ea_instance.proofs.instance.Instance.plan_carrier.Goals as goal
 
 pub returns-clause-numbers : goal.returns-clause-numbers
-returns-clause-numbers c = subst (λ r. (r ≡ Err Numbers) ↔ AllUsed c.args.self.now) (sym c.plan_for.ensures.plan) (plan-numbers c.args.self.now c.args.need)
+returns-clause-numbers c =
+    subst (λ r. (r ≡ Err Numbers) ↔ AllUsed c.args.self.now) (sym c.plan_for.ensures.plan)
+    (plan-numbers c.args.self.now c.args.need)
 
 pub returns-clause-space : goal.returns-clause-space
 returns-clause-space c =
-    subst (λ r. (r ≡ Err Space) ↔ ((AllUsed c.args.self.now → ⊥) × All (λ (s : Segment). s.pages < least_pages c.args.need) (runs c.args.self.now.first c.args.self.now.end (segments c.args.self.now.contents)))) (sym c.plan_for.ensures.plan)
-    (plan-space c.args.self.now c.args.need)
+    let i = c.args.self.now in
+    subst (λ r. (r ≡ Err Space) ↔ ((AllUsed i → ⊥)
+    × All (λ (s : Segment). s.pages < least_pages c.args.need)
+    (runs i.first i.end (segments i.contents)))) (sym c.plan_for.ensures.plan)
+    (plan-space i c.args.need)

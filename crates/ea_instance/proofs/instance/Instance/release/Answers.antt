@@ -1,8 +1,14 @@
-use Rattle.ea_model.specs.Content.{released}
-use Rattle.ea_instance.proofs.Changed.{released-keeps}
-use Rattle.ea_instance.proofs.Keeping.{IsKept-changed}
+use Rattle.ea_instance.proofs.Keeping.{kept-either, others-either}
 use Rattle.ea_instance.proofs.instance.Instance.release.Goals as goal
 
-pub invariant_of-self-2 : goal.invariant_of-self-2
-invariant_of-self-2 c =
-    IsKept-changed (λ x. released x c.args.spot.offset) (released-keeps _) _ _ c.args.spot.carrier c.self.inside.carriers _ _ c.in_ok-release.ensures.ok c.self.invariant
+pub invariant_of-self : goal.invariant_of-self
+invariant_of-self c =
+    kept-either _ _ c.self.inside.carriers c.self.inside.created c.self.inside.region
+    c.self.invariant c.release.result c.args.spot c.release.new.self c.release.ensures.ok
+    c.release.ensures.err
+
+pub returns-clause-others : goal.returns-clause-others
+returns-clause-others c =
+    others-either _ _ c.self.inside.carriers c.self.inside.created c.self.inside.region
+    c.self.invariant c.release.result c.args.spot c.release.new.self _ c.self.view_is
+    c.release.ensures.ok c.release.ensures.err

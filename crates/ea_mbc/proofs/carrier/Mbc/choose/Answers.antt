@@ -1,10 +1,10 @@
-use Rattle.std.proofs.Common.{◌≡◌, ◌<◌, ◌≤◌, ◌↔◌, All, sym, subst, arith}
+use Rattle.std.proofs.Common.{◌≡◌, ◌+◌, ◌<◌, ◌≤◌, ◌↔◌, All, sym, subst, arith}
 use Rattle.std.specs.Prelude.{IfSome, IsNone}
 use Rattle.std.proofs.lemmas.Grind.{common_steps}
 use Rattle.ea_model.specs.Content.{gaps_of, gap_at}
 use Rattle.ea_model.specs.Choice.{before, fitting, choice, IsFirst}
 use Rattle.ea_laws.proofs.Chosen.{choice-fits, choice-sized, choice-none}
-use Rattle.ea_mbc.proofs.Least.{choice-IsFirst}
+use Rattle.ea_mbc.proofs.Least.{choice-IsFirst, choice-within}
 use Rattle.ea_mbc.proofs.carrier.Mbc.choose.Goals as goal
 
 chosen : (c : goal.After-best_gap)
@@ -35,3 +35,11 @@ returns-clause-first c =
     let gs = gaps_of c.args.self.now in
     subst (λ r. IfSome r (IsFirst (before c.args.inner) (fitting c.args.need gs))) (sym (chosen c))
     (choice-IsFirst c.args.inner c.args.need gs)
+
+pub returns-clause-within : goal.returns-clause-within
+returns-clause-within c =
+    subst (λ r. IfSome r (λ g. g.offset + g.size ≤ c.args.self.now.units)) (sym (chosen c))
+    (subst (λ m. IfSome (choice c.args.inner c.args.need (gaps_of m))
+    (λ g. g.offset + g.size ≤ m.units)) c.self.view_is
+    (choice-within c.args.inner c.args.need 8 c.self.inside.units c.self.inside.blocks.items
+    c.self.invariant))

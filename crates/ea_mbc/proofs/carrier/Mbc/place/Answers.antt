@@ -46,7 +46,8 @@ returns-clause-begins c =
     let blocks = c.self.inside.blocks.items in
     ap (λ bs. block_at bs c.args.gap.offset) c.in_ok-enter.ensures.ok
     ∙ item_at-new offset_of _ blocks (none-other offset_of c.args.gap.offset blocks
-    (ap (λ m. block_at m.blocks c.args.gap.offset) c.self.view_is ∙ (front _ _ _ _ _ c.self.view_is c.self.invariant
+    (ap (λ m. block_at m.blocks c.args.gap.offset) c.self.view_is
+    ∙ (front _ _ _ _ _ c.self.view_is c.self.invariant
     c.requires.gap c.requires.fits c.requires.least).fresh))
 
 pub returns-clause-others : goal.returns-clause-others

@@ -6,14 +6,18 @@ use Rattle.ea_mbc.proofs.Replacing.{released-GapsJoined}
 use Rattle.ea_mbc.proofs.carrier.Mbc.release.Goals as goal
 
 pub take_out-size-requires-clause-rising : goal.take_out-size-requires-clause-rising
-take_out-size-requires-clause-rising c = Tiled-rising 8 c.self.inside.units c.self.inside.blocks.items c.self.invariant
+take_out-size-requires-clause-rising c = Tiled-rising 8 c.self.inside.units
+    c.self.inside.blocks.items c.self.invariant
 
 pub invariant_of-self : goal.invariant_of-self
 invariant_of-self c =
-    subst (Tiled 8 c.self.inside.units) (sym c.take_out-size.ensures.rest) (Tiled-released 8 c.self.inside.units c.args.offset c.self.inside.blocks.items c.self.invariant)
+    subst (Tiled 8 c.self.inside.units) (sym c.take_out-size.ensures.rest)
+    (Tiled-released 8 c.self.inside.units c.args.offset c.self.inside.blocks.items
+    c.self.invariant)
 
 pub returns-clause-gone : goal.returns-clause-gone
-returns-clause-gone c = ap (λ bs. block_at bs c.args.offset) c.take_out-size.ensures.rest ∙ item_at-gone offset_of c.args.offset c.self.inside.blocks.items
+returns-clause-gone c = ap (λ bs. block_at bs c.args.offset) c.take_out-size.ensures.rest
+    ∙ item_at-gone offset_of c.args.offset c.self.inside.blocks.items
 
 pub returns-clause-others : goal.returns-clause-others
 returns-clause-others c = λ at n.
@@ -23,4 +27,5 @@ returns-clause-others c = λ at n.
 
 pub returns-clause-gaps_joined : goal.returns-clause-gaps_joined
 returns-clause-gaps_joined c =
-    released-GapsJoined _ c.args.self.now c.args.offset c.take_out-size.result _ c.self.view_is c.self.invariant c.take_out-size.ensures.item c.take_out-size.ensures.rest
+    released-GapsJoined _ c.args.self.now c.args.offset c.take_out-size.result _ c.self.view_is
+    c.self.invariant c.take_out-size.ensures.item c.take_out-size.ensures.rest
