@@ -10,8 +10,8 @@ use Rattle.ea_top.proofs.scheduler.Scheduler.new.Goals as goal
 
 pub invariant_of-result : goal.invariant_of-result
 invariant_of-result c =
-    let empty : c.in-Ok.spots.items ≡ replicate {A = Option Spot} (MAX_NAME + 1) None =
-    c.in-Ok.ensures.items_if_clones_equal (search rules) in
+    let empty : c.in_ok-spots.spots.items ≡ replicate {A = Option Spot} (MAX_NAME + 1) None =
+    c.in_ok-spots.ensures.items_if_clones_equal (search rules) in
     record {
       names = ap length empty ∙ length-replicate {A = Option Spot} (MAX_NAME + 1) None;
       blocks = λ name spot e. let f : None ≡ Some spot = sym (ap (λ xs. get_or xs name None) empty
@@ -31,8 +31,8 @@ invariant_of-result c =
 
 pub returns-clause-shows : goal.returns-clause-shows
 returns-clause-shows c =
-    let empty : c.in-Ok.spots.items ≡ replicate {A = Option Spot} (MAX_NAME + 1) None =
-    c.in-Ok.ensures.items_if_clones_equal (search rules) in
+    let empty : c.in_ok-spots.spots.items ≡ replicate {A = Option Spot} (MAX_NAME + 1) None =
+    c.in_ok-spots.ensures.items_if_clones_equal (search rules) in
     record {
       instance = c.in_ok-instance.ensures
           ∙ ap (λ s. new_instance s 1 0 c.region_pages.result) c.of.ensures
