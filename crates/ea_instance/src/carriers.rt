@@ -2,7 +2,7 @@
 ghost use Rattle.std.specs.Prelude.{◌≡◌, ℕ, ◌*◌, ◌+◌, ◌%◌, ◌<◌, ◌≤◌, [], All, Some, None, true, false, IsSome, IfSome, IfOk, OnOk, OnErr, length};
 ghost use Rattle.std.specs.Option.{option_and_then};
 ghost use Rattle.ea_model.specs.declared.settings.Strategy.TheVariants.{Gf, Af};
-ghost use Rattle.ea_model.specs.declared.units.TheConstants.{MAX_UNITS};
+ghost use Rattle.ea_model.specs.declared.units.TheConstants.{MAX_UNITS, PAGE_UNITS};
 ghost use Rattle.ea_model.specs.Content.{Content, placed, released};
 ghost use Rattle.ea_model.specs.Choice.{first};
 ghost use Rattle.ea_model.specs.Strategies.{candidates, choice_among, choice_empty, inner_of, large_enough, may_miss, or_else};
@@ -30,10 +30,8 @@ use std::alloc::Global;
 use std::marker::Model;
 
 /// The main and multiblock carriers that an instance employs, with what its strategy finds gaps by:
-/// a set
-/// of carriers, and under good fit bins of all gaps. Contracts see the strategy, and the carriers'
-/// contents
-/// by rising number.
+/// a set of carriers, and under good fit bins of all gaps. Contracts see the strategy, and the
+/// carriers' contents by rising number.
 #[derive(Drop)]
 pub struct Carriers {
     strategy: Strategy,
@@ -74,8 +72,7 @@ impl Carriers {
     }
 
     /// The gap that the strategy chooses among those of all carriers. Good fit inspects `depth`
-    /// gaps of a
-    /// bin.
+    /// gaps of a bin.
     pub fn chosen(&self, need: u32, depth: u32) -> Option<Choice>
         requires laid { AreLaid self.now.contents }
         requires some { 1 ≤ need }
@@ -99,7 +96,8 @@ impl Carriers {
         requires some { 1 ≤ need }
         requires there { IfSome found (λ n. IsSome (content_of self.now.contents n)) }
         ensures chosen { candidate_of result
-            ≡ option_and_then (candidate_in (inner_of self.now.strategy) need self.now.contents) found }
+            ≡ option_and_then
+            (candidate_in (inner_of self.now.strategy) need self.now.contents) found }
         ensures choice { IfSome result (IsChoice need self.now.contents) }
     {
         let index = index_of(found?, &self.list);
@@ -193,7 +191,7 @@ impl Carriers {
         requires room { length self.old.contents < NUMBERS }
         requires number { is_used employed.number self.old.contents ≡ false }
         requires apart { All (ContentsApart employed) self.old.contents }
-        requires low { 512 * employed.base + employed.units ≤ MAX_UNITS }
+        requires low { PAGE_UNITS * employed.base + employed.units ≤ MAX_UNITS }
         requires shared { is_shared employed.kind ≡ true }
         requires empty { employed.blocks ≡ [] }
         ensures ok { OnOk result (self.new ≡ record self.old {

@@ -57,11 +57,10 @@ impl Employed {
     }
 
     /// The gap that is chosen in it. It stands at the index among the carriers, and lies in the
-    /// super
-    /// carrier.
+    /// super carrier.
     pub fn choose(&self, index: usize, inner: Inner, need: u32) -> Option<Choice>
         requires some { 1 ≤ need }
-        requires low { 512 * self.now.base + self.now.units ≤ MAX_UNITS }
+        requires low { PAGE_UNITS * self.now.base + self.now.units ≤ MAX_UNITS }
         ensures found { candidate_of result ≡ chosen_in inner need self.now }
         ensures index { IfSome result (λ x. x.index ≡ index) }
         ensures chosen { IfSome result (λ x. IsChosenIn need self.now x.candidate) }
@@ -82,16 +81,16 @@ impl Employed {
 
     /// The address of its unit at `offset`.
     pub fn address(&self, offset: u32) -> u32
-        requires low { 512 * self.now.base + self.now.units ≤ MAX_UNITS }
+        requires low { PAGE_UNITS * self.now.base + self.now.units ≤ MAX_UNITS }
         requires within { offset ≤ self.now.units }
-        ensures { result ≡ 512 * self.now.base + offset }
+        ensures { result ≡ PAGE_UNITS * self.now.base + offset }
     {
         self.carrier.base() * PAGE_UNITS + offset
     }
 
     /// Whether the unit at the address is one of its own.
     pub fn spans(&self, address: u32) -> bool
-        requires { 512 * self.now.base + self.now.units ≤ MAX_UNITS }
+        requires { PAGE_UNITS * self.now.base + self.now.units ≤ MAX_UNITS }
         ensures { result ≡ spans address self.now }
     {
         self.address(0) <= address && address < self.address(self.carrier.units())
@@ -99,7 +98,7 @@ impl Employed {
 
     /// A gap of its own, as the bins hold it.
     pub fn located(&self, gap: BinnedGap) -> Candidate
-        requires low { 512 * self.now.base + self.now.units ≤ MAX_UNITS }
+        requires low { PAGE_UNITS * self.now.base + self.now.units ≤ MAX_UNITS }
         requires spans { spans gap.address self.now ≡ true }
         ensures { result ≡ located gap self.now }
     {

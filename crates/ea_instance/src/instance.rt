@@ -106,9 +106,8 @@ fn main_carrier(
 
 impl Instance {
     /// An instance before its first operation: instance `number`, from 1, of at most 16, with the
-    /// region of
-    /// `pages` pages from page `first` on. Where the settings ask for a main carrier, it is
-    /// created.
+    /// region of `pages` pages from page `first` on. Where the settings ask for a main carrier, it
+    /// is created.
     pub fn new(
         alloc: Global,
         settings: Settings,
@@ -163,8 +162,7 @@ impl Instance {
     }
 
     /// Adds the lines of all carriers that it employs, by rising number. Where there is no memory,
-    /// the
-    /// list stays as it was.
+    /// the list stays as it was.
     pub fn put_lines(&self, lines: &mut List<CarrierLine>) -> Result<(), OutOfMemory>
         ensures ok { OnOk result (lines.new.items
             ≡ lines.old.items ++ map carrier_line self.now.contents) }
@@ -197,46 +195,42 @@ impl Instance {
     }
 
     /// Places a block of `need` units in the gap that its strategy chooses. None, and nothing
-    /// changed, where
-    /// there is no choice.
+    /// changed, where there is no choice.
     pub fn try_alloc(&mut self, need: u32, name: u32) -> Result<Option<Place>, OutOfMemory>
         requires even { need % 2 ≡ 0 }
         requires least { 6 ≤ need }
-        ensures place { IfOk result (λ place. place ≡ option_map (λ spot. place_at self.old spot need)
-            (chosen_spot self.old need)) }
+        ensures place { IfOk result (λ place. place
+            ≡ option_map (λ spot. place_at self.old spot need) (chosen_spot self.old need)) }
         ensures ok { OnOk result
             (self.new ≡ placing_if self.old (chosen_spot self.old need) need name) }
         ensures err { OnErr result (self.new ≡ self.old) }
 
         // None exactly where nothing that the strategy inspects has that many units, and, where it
-        // may miss
-        // a gap, no multiblock carrier without blocks has. Good fit and address fit alone may miss
-        // one.
-        ensures none { IfOk result
-            (λ found. IsNone found ↔ FindsNone self.old.settings need self.old.contents) }
-        ensures all { may_miss self.old.settings.strategy ≡ false
-            → IfOk result
-            (λ found. IsNone found ↔ All (λ x. x.size < need) (candidates self.old.contents)) }
+        // may miss a gap, no multiblock carrier without blocks has. Good fit and address fit alone
+        // may miss one.
+        ensures none { IfOk result (λ found.
+            IsNone found ↔ FindsNone self.old.settings need self.old.contents) }
+        ensures all { may_miss self.old.settings.strategy ≡ false → IfOk result (λ found.
+            IsNone found ↔ All (λ x. x.size < need) (candidates self.old.contents)) }
 
         // It lies where no block began, and other blocks stay.
-        ensures blocks { IfOk result
-            (λ found. IfSome found
-            (λ place. IsPlaced self.old.contents self.new.contents name place)) }
+        ensures blocks { IfOk result (λ found. IfSome found (λ place.
+            IsPlaced self.old.contents self.new.contents name place)) }
     {
         self.place_chosen(need, name)
     }
 
+    /// Places the block as `try_alloc` does.
     fn place_chosen(&mut self, need: u32, name: u32) -> Result<Option<Place>, OutOfMemory>
         requires even { need % 2 ≡ 0 }
         requires least { 6 ≤ need }
-        ensures place { IfOk result (λ place. place ≡ option_map (λ spot. place_at self.old spot need)
-            (chosen_spot self.old need)) }
+        ensures place { IfOk result (λ place. place
+            ≡ option_map (λ spot. place_at self.old spot need) (chosen_spot self.old need)) }
         ensures ok { OnOk result
             (self.new ≡ placing_if self.old (chosen_spot self.old need) need name) }
         ensures err { OnErr result (self.new ≡ self.old) }
-        ensures blocks { IfOk result
-            (λ found. IfSome found
-            (λ place. IsPlaced self.old.contents self.new.contents name place)) }
+        ensures blocks { IfOk result (λ found. IfSome found (λ place.
+            IsPlaced self.old.contents self.new.contents name place)) }
     {
         let Some(choice) = self.carriers.chosen(need, self.settings.mbsd) else {
             return Ok(None);
@@ -276,30 +270,29 @@ impl Instance {
     }
 
     /// The multiblock carrier that it would create for a block of `need` units, at most `sbct`, or
-    /// why it
-    /// can't.
+    /// why it can't.
     pub fn plan_carrier(&self, need: u32) -> Result<CarrierPlan, NoCarrier>
         requires need { need ≤ self.now.settings.sbct }
         requires created { self.now.created + 1 < 2 ^ 32 }
         ensures plan { result ≡ plan self.now need }
 
         // Numbers exactly where all its numbers are in use; Space exactly where one is not, and no
-        // run holds
-        // the least carrier.
+        // run holds the least carrier.
         ensures numbers { (result ≡ Err Numbers) ↔ AllUsed self.now }
-        ensures space { (result ≡ Err Space) ↔ ((AllUsed self.now → ⊥)
-            × All (λ r. r.pages < least_pages need)
+        ensures space { (result ≡ Err Space)
+            ↔ ((AllUsed self.now → ⊥) × All (λ r. r.pages < least_pages need)
             (runs self.now.first self.now.end (segments self.now.contents))) }
-        ensures pages { IfOk result (λ p. (1 ≤ p.pages) × (512 * p.pages < 2 ^ 32)) }
+        ensures pages { IfOk result (λ p. (1 ≤ p.pages) × (PAGE_UNITS * p.pages < 2 ^ 32)) }
     {
         self.plan_for(need)
     }
 
+    /// Plans the carrier as `plan_carrier` does.
     fn plan_for(&self, need: u32) -> Result<CarrierPlan, NoCarrier>
         requires need { need ≤ self.now.settings.sbct }
         requires created { self.now.created + 1 < 2 ^ 32 }
         ensures plan { result ≡ plan self.now need }
-        ensures pages { IfOk result (λ p. (1 ≤ p.pages) × (512 * p.pages < 2 ^ 32)) }
+        ensures pages { IfOk result (λ p. (1 ≤ p.pages) × (PAGE_UNITS * p.pages < 2 ^ 32)) }
     {
         let Some(number) = self.unused_number() else {
             return Err(NoCarrier::Numbers);
@@ -331,7 +324,7 @@ impl Instance {
 
     /// The carrier of a plan, without blocks. It isn't employed yet.
     pub fn prepare(&self, alloc: Global, plan: CarrierPlan) -> Result<Mbc, OutOfMemory>
-        requires { (1 ≤ plan.pages) × (512 * plan.pages < 2 ^ 32) }
+        requires { (1 ≤ plan.pages) × (PAGE_UNITS * plan.pages < 2 ^ 32) }
         ensures { IfOk result (λ carrier. carrier ≡ created_content self.now.number Multi plan) }
     {
         Mbc::new(
@@ -345,8 +338,7 @@ impl Instance {
     }
 
     /// Employs the carrier of its present plan for a block of `need` units. Where there is no
-    /// memory, the
-    /// carrier is dropped and nothing changes.
+    /// memory, the carrier is dropped and nothing changes.
     pub fn create(&mut self, plan: CarrierPlan, need: u32, carrier: Mbc) -> Result<(), OutOfMemory>
         requires plan { instances.plan self.old need ≡ Ok plan }
         requires carrier { carrier ≡ created_content self.old.number Multi plan }
@@ -366,7 +358,8 @@ impl Instance {
     pub fn release(&mut self, spot: Spot) -> Result<Released, OutOfMemory>
         requires { IsSome (block_in self.old.contents spot) }
         ensures ok { OnOk result (self.new ≡ releasing_at self.old spot) }
-        ensures answer { IfOk result (λ a. a ≡ follow_up (content_of self.new.contents spot.carrier)) }
+        ensures answer { IfOk result (λ next. next
+            ≡ follow_up (content_of self.new.contents spot.carrier)) }
         ensures others { (at : Spot) → IsOther spot.carrier spot.offset at
             → block_in self.new.contents at ≡ block_in self.old.contents at }
         ensures err { OnErr result (self.new ≡ self.old) }

@@ -10,7 +10,7 @@ pub record Replaced (xs ys gone made : List Gap) : Type 0 where
   pub was : xs ≡ front ++ gone ++ behind
   pub is : ys ≡ front ++ made ++ behind
 
--- a block of so many units stands at the front of the gap at the offset, and what it leaves of it
+-- a block of that many units stands at the front of the gap at the offset, and what it leaves of it
 -- is a gap
 abbrev pub GapTaken : Content → Content → ℕ → ℕ → Type 0
 GapTaken old new offset size =
@@ -18,7 +18,7 @@ GapTaken old new offset size =
     (record { offset = offset; size = gap_at (gaps_of old) offset } ∷ [])
     (gap (offset + size) (offset + gap_at (gaps_of old) offset))
 
--- a block of so many units at the offset is free, and one gap with the gaps directly before and
+-- a block of that many units at the offset is free, and one gap with the gaps directly before and
 -- after it
 abbrev pub GapsJoined : Content → Content → ℕ → ℕ → Type 0
 GapsJoined old new offset size =

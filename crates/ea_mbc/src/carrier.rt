@@ -1,6 +1,7 @@
 //! The carrier and its calls.
 ghost use Rattle.std.specs.Prelude.{◌≡◌, ◌≢◌, ℕ, ◌+◌, ◌%◌, ◌<◌, ◌≤◌, ◌↔◌, [], All, Some, None, IsTrue, IsSome, IsNone, IfSome, OnOk, OnErr, IfOk, length, option_map};
 ghost use Rattle.ea_model.specs.declared.carriers.Kind.TheVariants.{Multi};
+ghost use Rattle.ea_model.specs.declared.units.TheConstants.{PAGE_UNITS};
 ghost use Rattle.ea_model.specs.Content.{gaps_of, gap_at, gap_before, gap_behind, block_at, named, taken_of, placed, released, allocated, largest, free_units, Tiled};
 ghost use Rattle.ea_model.specs.Choice.{before, fitting, choice, IsFirst};
 ghost use Rattle.ea_mbc.specs.Gaps.{GapTaken, GapsJoined};
@@ -25,8 +26,7 @@ pub struct Freed {
 }
 
 /// A carrier of many blocks. Contracts see it as its content: number, owner, base, birth, units and
-/// the
-/// blocks by rising offset. A block has an even number of units, 6 at least, and so has a gap.
+/// the blocks by rising offset. A block has an even number of units, 6 at least, and so has a gap.
 #[derive(Drop)]
 pub struct Mbc {
     number: u32,
@@ -62,10 +62,8 @@ impl Carried for Mbc {
 
 impl Mbc {
     /// A carrier without blocks: `units` units, its own header of 8 included, that begin at page
-    /// `base`.
-    /// `birth` is its number in the order of creation, `owner` the instance that creates it, and
-    /// `number`
-    /// its own.
+    /// `base`. `birth` is its number in the order of creation, `owner` the instance that creates
+    /// it, and `number` its own.
     pub fn new(
         alloc: Global,
         units: u32,
@@ -75,7 +73,7 @@ impl Mbc {
         number: u32,
     ) -> Result<Mbc, OutOfMemory>
         requires some { 0 < units }
-        requires pages { units % 512 ≡ 0 }
+        requires pages { units % PAGE_UNITS ≡ 0 }
         ensures { IfOk result (λ m. m ≡ record {
           number = number;
           owner = owner;
@@ -96,7 +94,7 @@ impl Mbc {
         })
     }
 
-    /// The gap that is chosen for `need` units, or None where no gap has so many.
+    /// The gap that is chosen for `need` units, or None where no gap has that many.
     pub fn choose(&self, inner: Inner, need: u32) -> Option<Gap>
         ensures chosen { result ≡ choice inner need (gaps_of self.now) }
         ensures none { IsNone result ↔ All (λ g. g.size < need) (gaps_of self.now) }
@@ -111,8 +109,7 @@ impl Mbc {
     }
 
     /// Puts a block at the front of a gap of its own, and answers its units: `need`, or the whole
-    /// gap
-    /// where fewer than 6 units would be left of it. Where there is no memory, nothing changes.
+    /// gap where fewer than 6 units would be left of it. Where there is no memory, nothing changes.
     pub fn place(&mut self, gap: Gap, need: u32, name: u32) -> Result<u32, OutOfMemory>
         requires gap { gap_at (gaps_of self.old) gap.offset ≡ gap.size }
         requires fits { need ≤ gap.size }
@@ -141,8 +138,7 @@ impl Mbc {
     }
 
     /// Takes out the block at `offset`, whose units are free from then on, and answers it with the
-    /// gaps
-    /// that it joins. Where there is no memory, nothing changes.
+    /// gaps that it joins. Where there is no memory, nothing changes.
     pub fn release(&mut self, offset: u32) -> Result<Freed, OutOfMemory>
         requires { IsSome (block_at self.old.blocks offset) }
         ensures size { IfOk result (λ f.

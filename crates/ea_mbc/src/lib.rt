@@ -1,6 +1,5 @@
 //! A multiblock carrier, kept as the sorted list of its blocks. Its gaps are what the blocks leave
-//! free,
-//! so neighbouring free units are always one gap.
+//! free, so neighbouring free units are always one gap.
 #![tactic(auto)]
 
 pub mod carrier;

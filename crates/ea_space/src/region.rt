@@ -1,5 +1,6 @@
 //! The region and its calls.
 ghost use Rattle.std.specs.Prelude.{◌≡◌, ◌⊎◌, ℕ, ◌+◌, ◌-◌, ◌^◌, ◌<◌, ◌≤◌, ◌↔◌, [], All, Some, IsNone, IfSome, IfOk, length};
+ghost use Rattle.ea_model.specs.declared.units.TheConstants.{NUMBERS};
 ghost use Rattle.ea_model.specs.Region.{runs_of, lowest_run, longest, with_segment, cut_from, Laid};
 ghost use Rattle.ea_model.specs.Region.{AreFree, IsTail};
 
@@ -13,8 +14,7 @@ use std::marker::Model;
 const ROOM: usize = 257;
 
 /// A region of pages, of which some are taken. Contracts see it as its first page, the page after
-/// its last
-/// one, and the taken segments by rising base.
+/// its last one, and the taken segments by rising base.
 #[derive(Drop)]
 pub struct Region {
     first: u32,
@@ -30,13 +30,15 @@ impl Model for Region {
 
     ghost view = { λ r. record { first = r.first; end = r.end; taken = r.taken.items } };
 
-    ghost invariant = { λ r. record { room : 257 ≤ vec_capacity r.taken; laid : Laid r.first r.end r.taken.items } };
+    ghost invariant = { λ r. record {
+      room : 257 ≤ vec_capacity r.taken;
+      laid : Laid r.first r.end r.taken.items;
+    } };
 }
 
 impl Region {
     /// A region of `pages` pages from the page `first` on, all free. It reserves the memory that
-    /// later
-    /// calls need.
+    /// later calls need.
     pub fn new(alloc: Global, first: u32, pages: u32) -> Result<Region, OutOfMemory>
         requires { first + pages < 2 ^ 32 }
         ensures { IfOk result (λ r. r ≡ record { first = first; end = first + pages; taken = [] }) }
@@ -64,11 +66,10 @@ impl Region {
     }
 
     /// Takes `pages` pages from `base` on, where `find` found them: at the front of the lowest free
-    /// run
-    /// that has so many.
+    /// run that has that many.
     pub fn take(&mut self, base: u32, pages: u32)
         requires some { 1 ≤ pages }
-        requires room { length self.old.taken < 256 }
+        requires room { length self.old.taken < NUMBERS }
         requires found { lowest_run pages (runs_of self.old) ≡ Some base }
         ensures taken { self.new ≡ record self.old
             { taken = with_segment (record { base = base; pages = pages }) self.old.taken } }
@@ -87,8 +88,7 @@ impl Region {
     }
 
     /// Makes the `pages` pages from `base` on free again. They are the whole or the tail of one
-    /// taken
-    /// segment, and one page at least.
+    /// taken segment, and one page at least.
     pub fn give_back(&mut self, base: u32, pages: u32)
         requires { IsTail base pages self.old.taken }
         ensures cut { self.new ≡ record self.old { taken = cut_from base self.old.taken } }

@@ -5,7 +5,7 @@ ghost use Rattle.ea_model.specs.Region.{stretch, runs, lowest_run, longest, cove
 
 use ea_model::Segment;
 
-/// Whether the pages from `from` up to `to` are a run of at least so many pages.
+/// Whether the pages from `from` up to `to` are a run of at least that many pages.
 fn holds(pages: u32, from: u32, to: u32) -> bool
     requires { from ≤ to }
     ensures { result ≡ is_some (lowest_run pages (stretch from to)) }
@@ -13,7 +13,7 @@ fn holds(pages: u32, from: u32, to: u32) -> bool
     from < to && pages <= to - from
 }
 
-/// Where the lowest run of at least so many pages begins.
+/// Where the lowest run of at least that many pages begins.
 pub fn lowest_start(pages: u32, first: u32, end: u32, taken: &[Segment]) -> Option<u32>
     requires { Laid first end taken.now }
     ensures { result ≡ lowest_run pages (runs first end taken.now) }
