@@ -1,6 +1,7 @@
 //! Worked inputs with their outputs, computed from the definitions alone: what no body can break, and
 //! what shows that the definitions mean what was worked out by hand.
 #![tactic(auto)]
+
 ghost use Rattle.std.specs.Prelude.{◌≡◌, codes, Ok, Err, Some, None, [], ◌∷◌};
 ghost use Rattle.ea_model.specs.Flags.{Unsupported, TooSmall, flags};
 ghost use Rattle.ea_top.specs.Output.{output_for};
