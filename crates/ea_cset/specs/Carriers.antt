@@ -37,7 +37,7 @@ lower a b = nat_lt a.key.base b.key.base
 abbrev pub older : CarrierFit → CarrierFit → Bool
 older a b = less a.key.birth b.key.birth (nat_lt a.key.number b.key.number)
 
--- the carriers whose largest gap has at least so many units
+-- the carriers whose largest gap has at least that many units
 abbrev pub fitting : ℕ → List CarrierFit → List CarrierFit
 fitting need hs = filter (λ h. nat_le need h.fit) hs
 

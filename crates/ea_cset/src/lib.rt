@@ -1,6 +1,5 @@
 //! The set of the carriers that an allocator instance employs. A strategy finds in it the first
-//! carrier
-//! whose largest gap is great enough.
+//! carrier whose largest gap is great enough.
 #![tactic(auto)]
 
 pub mod keys;

@@ -11,8 +11,7 @@ use std::alloc::Global;
 use std::marker::Model;
 
 /// A set of carriers, of which no two have the same number or the same base. Contracts see it as
-/// its
-/// carriers by rising number, and how many carriers it has room for.
+/// its carriers by rising number, and how many carriers it has room for.
 #[derive(Drop)]
 pub struct CarrierSet {
     room: u32,
@@ -98,8 +97,7 @@ impl CarrierSet {
     }
 
     /// The number of the carrier of the lowest base whose largest gap has at least `need` units, or
-    /// None
-    /// where no carrier's has so many.
+    /// None where no carrier's has that many.
     pub fn first_by_address(&self, need: u32) -> Option<u32>
         ensures found { result ≡ first_number lower need self.now.held }
         ensures none { IsNone result ↔ All (λ h. h.fit < need) self.now.held }
@@ -113,9 +111,8 @@ impl CarrierSet {
     }
 
     /// The number of the oldest carrier whose largest gap has at least `need` units, or None where
-    /// no
-    /// carrier's has so many. The oldest is the one of the least birth, among equals of the least
-    /// number.
+    /// no carrier's has that many. The oldest is the one of the least birth, among equals of the
+    /// least number.
     pub fn first_by_age(&self, need: u32) -> Option<u32>
         ensures found { result ≡ first_number older need self.now.held }
         ensures none { IsNone result ↔ All (λ h. h.fit < need) self.now.held }

@@ -14,8 +14,7 @@ use std::alloc::Global;
 use std::marker::Model;
 
 /// The gaps that a search can find. Contracts see them by rising address, and beside them `room`:
-/// how many
-/// more can be inserted without taking memory.
+/// how many more can be inserted without taking memory.
 #[derive(Drop)]
 pub struct Bins {
     held: Vec<BinnedGap>,
@@ -115,8 +114,7 @@ impl Bins {
     }
 
     /// Notes that a block of `size` units stands at the front of the gap of `whole` units at
-    /// `address`: what
-    /// is left of the gap is a gap, if anything is.
+    /// `address`: what is left of the gap is a gap, if anything is.
     pub fn cut(&mut self, address: u32, whole: u32, size: u32)
         requires { CanCut self.old.held address whole size }
         ensures { (rest : List BinnedGap)
@@ -134,8 +132,7 @@ impl Bins {
     }
 
     /// Notes that the block of `size` units at `address` is free: with the gaps of `before` and
-    /// `behind` units
-    /// on its two sides it is one gap.
+    /// `behind` units on its two sides it is one gap.
     pub fn join(&mut self, address: u32, before: u32, size: u32, behind: u32)
         requires room { 0 < self.old.room }
         requires held { CanJoin self.old.held address before size behind }
@@ -158,10 +155,8 @@ impl Bins {
     }
 
     /// The smallest gap of at least `need` units among those that the search inspects, of equals
-    /// the
-    /// lowest, or None where none of these has so many. It inspects the first `depth` gaps of each
-    /// bin, by
-    /// address.
+    /// the lowest, or None where none of these has that many. It inspects the first `depth` gaps of
+    /// each bin, by address.
     pub fn find(&self, need: u32, depth: u32) -> Option<BinnedGap>
         ensures found { result ≡ good_fit (λ g. g.address) (λ g. g.size) depth need self.now.held }
         ensures none { IsNone result ↔ All

@@ -51,7 +51,7 @@ fn bins_begin_at_64_and_at_128(rt: HostRuntime) -> Result<(), Fail> {
     let mut bins = Bins::new(rt.alloc());
     bins.reserve(8)?;
 
-    // 63 | 64, 127 | 128, 255 | 256: by address, the smaller of each bin behind the greater.
+    // 63 | 64, 127 | 128, 255 | 256: by address, the smaller of each bin after the greater.
     bins.insert(gap(10, 63));
     bins.insert(gap(80, 127));
     bins.insert(gap(210, 64));

@@ -36,7 +36,7 @@ fn better_of(need: u32, best: Option<BinnedGap>, gap: BinnedGap) -> Option<Binne
     }
 }
 
-/// The gap that a search finds which looks at the first `depth` gaps of each bin.
+/// The gap that a search finds which inspects the first `depth` gaps of each bin.
 pub fn search(need: u32, depth: u32, held: &[BinnedGap]) -> Option<BinnedGap>
     requires { AllPairs IsBelow held.now }
     ensures { result ≡ good_fit (λ g. g.address) (λ g. g.size) depth need held.now }

@@ -31,7 +31,8 @@ use Rattle.ea_instance.proofs.Listed.{first-alone, DifferIn}
 use Rattle.ea_instance.proofs.Located.{gaps-distinct}
 
 -- bins that hold gaps hold them in any order
-pub Hold-permuted : (bins : Option HeldGaps) (xs ys : List BinnedGap) → IsPermutation xs ys → Hold bins xs
+pub Hold-permuted : (bins : Option HeldGaps) (xs ys : List BinnedGap) → IsPermutation xs ys
+    → Hold bins xs
     → Hold bins ys
 Hold-permuted bins xs ys m h =
     if_some bins (λ b. IsPermutation b.held xs) (λ b. IsPermutation b.held ys)
@@ -88,7 +89,8 @@ module _ (x : Content) (sound : IsLaidOut x) (none : x.blocks ≡ []) (address f
 
   pub left-held : (n : ℕ) (cs : List Content) (bins : Option HeldGaps) → AreLaid cs
       → content_of cs n ≡ Some x → Hold bins (all_gaps cs)
-      → IfSome bins (λ b. (rest : List BinnedGap) × IsPermutation b.held (gap_from address fit ++ rest))
+      → IfSome bins (λ b. (rest : List BinnedGap)
+      × IsPermutation b.held (gap_from address fit ++ rest))
   left-held n cs bins laid there h =
       let rest = all_gaps (without_content n cs) in
       if_some bins (λ b. IsPermutation b.held (gap_from address fit ++ rest))
@@ -121,7 +123,8 @@ pub record IsCut (old new : List BinnedGap) (address whole size : ℕ) : Type 0 
   pub is : IsPermutation new (gap_from (address + size) (whole - size) ++ rest)
   pub free : size < whole → All (λ g. g.address ≢ address + size) rest
 
-module _ (old new : List BinnedGap) (address whole size : ℕ) (cut : IsCut old new address whole size)
+module _ (old new : List BinnedGap) (address whole size : ℕ)
+    (cut : IsCut old new address whole size)
     (bins : Option HeldGaps) (held : Hold bins old) where
   pub can-cut : IfSome bins (λ b. CanCut b.held address whole size)
   can-cut =
@@ -177,7 +180,8 @@ module _ (old new : List BinnedGap) (address before size after : ℕ)
       → Hold left (gap_from (address - before) (before + size + after) ++ rest))
       → Hold left new
   join-noted left note =
-      let made : List BinnedGap = gap_from (address - before) (before + size + after) ++ join.rest in
+      let made : List BinnedGap = gap_from (address - before) (before + size + after) ++ join.rest
+      in
       Hold-permuted left made new (IsPermutation-sym new made join.is)
       (note join.rest (Hold-permuted bins old
       (gap_from (address - before) before ++ (gap_from (address + size) after ++ join.rest))

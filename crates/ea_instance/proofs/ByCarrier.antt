@@ -120,7 +120,8 @@ some_gap : (c : Content) (o : Option Gap) → (o ≡ None → ⊥) → (x : Cand
 some_gap c None h = absurd (h refl)
 some_gap c (Some g) h = (candidate c g, refl, record { number = refl; base = refl; birth = refl })
 
-module _ (s : Strategy) (comes_first : CarrierFit → CarrierFit → Bool) (goes : GoesBy s comes_first) (need : ℕ)
+module _ (s : Strategy) (comes_first : CarrierFit → CarrierFit → Bool) (goes : GoesBy s comes_first)
+    (need : ℕ)
     (some : 1 ≤ need) (all : List Content) where
   -- the gap that is chosen in the carrier that was found
   abbrev chosen_at : Option CarrierFit → Option Candidate
@@ -163,12 +164,14 @@ module _ (s : Strategy) (comes_first : CarrierFit → CarrierFit → Bool) (goes
   more best c cs o shared e = choice_more s need best c cs (shared_in c.kind c shared)
       ∙ ap (λ r. first_gap (better_of (takes_first s) best r) cs) e
 
-  held_past : (best : Option CarrierFit) (c : Content) (cs : List Content) → largest (gaps_of c) < need
+  held_past : (best : Option CarrierFit) (c : Content) (cs : List Content)
+      → largest (gaps_of c) < need
       → first_held best (map held_of (c ∷ cs)) ≡ first_held best (map held_of cs)
   held_past best c cs lt = ap (λ hs. fold (better comes_first) best hs)
       (large-past (λ (h : CarrierFit). h.fit) need (held_of c) (map held_of cs) lt)
 
-  held_next : (best : Option CarrierFit) (c : Content) (cs : List Content) → need ≤ largest (gaps_of c)
+  held_next : (best : Option CarrierFit) (c : Content) (cs : List Content)
+      → need ≤ largest (gaps_of c)
       → first_held best (map held_of (c ∷ cs)) ≡ first_held (better comes_first best (held_of c))
       (map held_of cs)
   held_next best c cs le = ap (λ hs. fold (better comes_first) best hs)
@@ -178,7 +181,8 @@ module _ (s : Strategy) (comes_first : CarrierFit → CarrierFit → Bool) (goes
   none_here c lt = ap (option_map (candidate c)) (none_in (inner_of s) need c lt)
 
   -- choosing on among the gaps of the carriers that are left, and among these carriers
-  goes_on : (x : Candidate) (h : CarrierFit) (cs : List Content) → chosen_at (Some h) ≡ Some x → IsOf x h
+  goes_on : (x : Candidate) (h : CarrierFit) (cs : List Content) → chosen_at (Some h) ≡ Some x
+      → IsOf x h
       → All (IsBefore h) (map held_of cs) → AllPairs IsBefore (map held_of cs) → All IsThere cs
       → first_gap (Some x) cs ≡ chosen_at (first_held (Some h) (map held_of cs))
   goes_on x h [] at is_of behind rising there = sym at
@@ -237,7 +241,8 @@ module _ (s : Strategy) (comes_first : CarrierFit → CarrierFit → Bool) (goes
       (λ i d within. (item_at-each number_of i d all rising within, (sound i d within).shared))
 
 -- the choice is made in the first carrier that fits
-pub choice-first : (s : Strategy) (comes_first : CarrierFit → CarrierFit → Bool) → GoesBy s comes_first
+pub choice-first : (s : Strategy) (comes_first : CarrierFit → CarrierFit → Bool)
+    → GoesBy s comes_first
     → (need : ℕ) → 1 ≤ need
     → (t : Strategy) (cs now : List Content) (set : Carriers) (bins : Option HeldGaps)
     → IsListed t cs set bins → cs ≡ now → AreLaid now

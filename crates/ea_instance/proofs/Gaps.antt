@@ -182,7 +182,8 @@ module _ (f : Content → Content) (item : Content) (base_is : (f item).base ≡
     (after : gaps_of (f item) ≡ front ++ made ++ behind) where
   -- both lists of gaps are the rest and the part that changes
   abbrev Replaced : List BinnedGap → List BinnedGap → Type 0
-  Replaced old new = (rest : List BinnedGap) × IsPermutation old (map (at_base item.base) gone ++ rest)
+  Replaced old new = (rest : List BinnedGap)
+      × IsPermutation old (map (at_base item.base) gone ++ rest)
       × IsPermutation new (map (at_base item.base) made ++ rest)
 
   replaced_here : (x : Content) (xs : List Content) → x ≡ item

@@ -86,7 +86,11 @@ abbrev pub placed : Content → ℕ → ℕ → ℕ → Content
 placed c offset need name =
     record c {
       blocks = inserted
-          (record { name = name; offset = offset; size = taken_of (gap_at (gaps_of c) offset) need })
+          (record {
+            name = name;
+            offset = offset;
+            size = taken_of (gap_at (gaps_of c) offset) need;
+          })
           c.blocks;
     }
 

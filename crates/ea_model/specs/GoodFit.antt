@@ -31,7 +31,7 @@ module _ {A : Type 0} (address size : A → ℕ) where
   smaller_low a b = less (size a) (size b) (nat_lt (address a) (address b))
 
   -- of the gaps that a search inspects and that have at least `need` units, the smallest; a bin has
-  -- only smaller gaps than the bins behind it, so it lies in the first bin where one of these fits
+  -- only smaller gaps than the bins after it, so it lies in the first bin where one of these fits
   abbrev pub good_fit : ℕ → ℕ → List A → Option A
   good_fit depth need gs = first smaller_low
       (filter (λ g. nat_le need (size g)) (filter (is_inspected depth gs) gs))

@@ -84,7 +84,7 @@ abbrev pub only : Option Candidate → List Candidate
 only None = []
 only (Some x) = x ∷ []
 
--- the candidates that a strategy looks at: good fit at the first few of each bin, address fit at
+-- the candidates that a strategy inspects: good fit at the first few of each bin, address fit at
 -- the lowest alone, and the others at all
 abbrev pub inspected_by : Strategy → ℕ → List Candidate → List Candidate
 inspected_by Bf depth xs = xs

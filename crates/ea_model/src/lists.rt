@@ -23,8 +23,7 @@ impl<T: Drop> From<AllocFailed<T>> for OutOfMemory {
 }
 
 /// Items in order. Contracts see `items`, and beside them `room`: how many more can be added
-/// without
-/// taking memory.
+/// without taking memory.
 #[derive(Drop)]
 pub struct List<T> {
     vec: Vec<T>,

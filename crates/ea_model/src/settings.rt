@@ -108,8 +108,7 @@ impl Config {
     }
 
     /// The pages of each instance's region: an equal part of the super carrier's, of which a
-    /// megabyte
-    /// has 256.
+    /// megabyte has 256.
     pub fn region_pages(&self) -> u32
         requires some { 0 < self.now.schedulers }
         requires size { self.now.scs ≤ 512 }

@@ -83,9 +83,9 @@ fn a_line_ends_at_a_line_feed(rt: HostRuntime) {
         (b"\n\na", b"", Some(b"\na")),
     ];
     for (text, line, rest) in cases {
-        let (got, behind) = first_line(text);
+        let (got, after) = first_line(text);
         assert_eq!(rt; got, line, "of {text:?}");
-        assert_eq!(rt; behind, rest, "of {text:?}");
+        assert_eq!(rt; after, rest, "of {text:?}");
     }
 }
 

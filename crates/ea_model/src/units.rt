@@ -31,8 +31,7 @@ pub const MAX_UNITS: u32 = 67_108_864;
 pub const MAX_INPUT: usize = 16_777_216;
 
 /// The units that a request of `bytes` takes: its bytes in whole units and the block's header of
-/// one
-/// unit, rounded up to an even number, and 6 at least.
+/// one unit, rounded up to an even number, and 6 at least.
 pub fn need(bytes: u32) -> u32
     requires { bytes < 2 ^ 30 }
     ensures { result ≡ need_of bytes }

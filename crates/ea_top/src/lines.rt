@@ -63,7 +63,8 @@ fn letter(rest: &[u8]) -> Option<Line>
 }
 
 fn scheduler(rest: &[u8]) -> Option<Line>
-    ensures { meaning_of (unwrap_or result Unreadable) ≡ one_number scheduler_line 1 1 (words rest.now) }
+    ensures { meaning_of (unwrap_or result Unreadable) ≡ one_number scheduler_line 1 1
+        (words rest.now) }
 {
     number(one_word(rest)?, 1, 1)?;
     Some(Line::Scheduler)
@@ -91,7 +92,8 @@ fn free(rest: &[u8]) -> Option<Line>
 
 /// A line that is its keyword alone.
 fn bare(line: Line, rest: &[u8]) -> Option<Line>
-    ensures { meaning_of (unwrap_or result Unreadable) ≡ bare_line (meaning_of line) (words rest.now) }
+    ensures { meaning_of (unwrap_or result Unreadable) ≡ bare_line (meaning_of line)
+        (words rest.now) }
 {
     if is_blank(rest) { Some(line) } else { None }
 }

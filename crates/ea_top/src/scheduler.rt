@@ -175,7 +175,8 @@ impl Scheduler {
     /// Frees the block of a name; where the name isn't held, that is only noted.
     fn free(self, name: u32) -> Result<Scheduler, OutOfMemory>
         requires name { name ≤ MAX_NAME }
-        ensures shows { IfOk result (λ s. (r : Run) → Shows r self → Reaches (step r (Free name)) s) }
+        ensures shows { IfOk result (λ s. (r : Run) → Shows r self
+            → Reaches (step r (Free name)) s) }
         ensures grown { IfOk result (λ s. length s.log.items ≤ length self.log.items + 1) }
     {
         let Scheduler {
