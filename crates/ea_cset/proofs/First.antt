@@ -7,49 +7,80 @@ use Rattle.std.proofs.lemmas.List.Elements.{All-nil, All-cons, All-head, All-tai
 use Rattle.ea_model.specs.Choice.{first}
 use Rattle.ea_model.proofs.First.{both_All, IsLeast, first-All, first-IsLeast, first-none, large-here, large-none, large-past, none-large}
 use Rattle.ea_model.proofs.Options.{both_some, some_map, unmapped}
-use Rattle.ea_cset.specs.declared.keys.Held.{Held}
+use Rattle.ea_cset.specs.declared.keys.CarrierFit.{CarrierFit}
 use Rattle.ea_model.proofs.Orders.{rising-order, less-order}
 use Rattle.ea_cset.specs.Carriers.{number_of, is_held, lower, older, fitting, first_number, IsFirstOf}
 use Rattle.ea_cset.proofs.Found.{all_held}
 
 pub lower-order : IsStrictWeakOrder lower
-lower-order = rising-order (λ (h : Held). h.key.base)
+lower-order = rising-order (λ (h : CarrierFit). h.key.base)
 
 pub older-order : IsStrictWeakOrder older
-older-order = less-order (λ (h : Held). h.key.birth) (λ a b. nat_lt a.key.number b.key.number) (rising-order number_of)
+older-order = less-order (λ (h : CarrierFit). h.key.birth) (λ a b. nat_lt a.key.number b.key.number)
+    (rising-order number_of)
 
 -- none is found exactly where no carrier fits
-pub first_number-none : (before : Held → Held → Bool) (need : ℕ) (hs : List Held) → IsNone (first_number before need hs) ↔ All (λ h. h.fit < need) hs
+pub first_number-none : (before : CarrierFit → CarrierFit → Bool) (need : ℕ) (hs : List CarrierFit)
+    → IsNone (first_number before need hs) ↔ All (λ h. h.fit < need) hs
 first_number-none before need hs = (
-  λ h. none-large (λ (x : Held). x.fit) need hs (first-none before (fitting need hs) (unmapped (λ (x : Held). x.key.number) (first before (fitting need hs)) h)),
-  λ h. subst (λ xs. IsNone (option_map (λ (x : Held). x.key.number) (first before xs))) (sym (large-none (λ (x : Held). x.fit) need hs h)) refl,
+  λ h. none-large (λ (x : CarrierFit). x.fit) need hs
+      (first-none before (fitting need hs)
+      (unmapped (λ (x : CarrierFit). x.key.number) (first before (fitting need hs)) h)),
+  λ h. subst (λ xs. IsNone (option_map (λ (x : CarrierFit). x.key.number) (first before xs)))
+      (sym (large-none (λ (x : CarrierFit). x.fit) need hs h)) refl,
 )
 
 -- what holds of each carrier that is left holds of each that fits
-fitting-All : (P : Held → Type 0) (need : ℕ) (hs : List Held) → All P (fitting need hs) → All (λ h. need ≤ h.fit → P h) hs
-fitting-All P need [] a = All-nil (λ (x : Held). need ≤ x.fit → P x)
+fitting-All : (P : CarrierFit → Type 0) (need : ℕ) (hs : List CarrierFit) → All P (fitting need hs)
+    → All (λ h. need ≤ h.fit → P h) hs
+fitting-All P need [] a = All-nil (λ (x : CarrierFit). need ≤ x.fit → P x)
 fitting-All P need (h ∷ hs) a =
     elim (cases_lt h.fit need) [
-      | inl lt ↦ All-cons (λ (x : Held). need ≤ x.fit → P x) h hs (λ le. absurd (omega arith)) (fitting-All P need hs (subst (All P) (large-past (λ (x : Held). x.fit) need h hs lt) a))
+      | inl lt ↦ All-cons (λ (x : CarrierFit). need ≤ x.fit → P x) h hs (λ le. absurd (omega arith))
+          (fitting-All P need hs
+          (subst (All P) (large-past (λ (x : CarrierFit). x.fit) need h hs lt) a))
       | inr le ↦
-          let b : All P (h ∷ fitting need hs) = subst (All P) (large-here (λ (x : Held). x.fit) need h hs le) a in
-          All-cons (λ (x : Held). need ≤ x.fit → P x) h hs (λ _. All-head P h (fitting need hs) b) (fitting-All P need hs (All-tail P h (fitting need hs) b))
+          let b : All P (h ∷ fitting need hs) = subst (All P)
+          (large-here (λ (x : CarrierFit). x.fit) need h hs le) a in
+          All-cons (λ (x : CarrierFit). need ≤ x.fit → P x) h hs
+          (λ _. All-head P h (fitting need hs) b)
+          (fitting-All P need hs (All-tail P h (fitting need hs) b))
     ]
 
 -- the number found is that of the first carrier that fits
-pub first_number-IsFirstOf : (before : Held → Held → Bool) → IsStrictWeakOrder before → (need : ℕ) (hs : List Held) → IfSome (first_number before need hs) (IsFirstOf before need hs)
+pub first_number-IsFirstOf : (before : CarrierFit → CarrierFit → Bool) → IsStrictWeakOrder before
+    → (need : ℕ) (hs : List CarrierFit)
+    → IfSome (first_number before need hs) (IsFirstOf before need hs)
 first_number-IsFirstOf before o need hs =
     let found = first before (fitting need hs) in
-    some_map (λ (h : Held). h.key.number) (IsFirstOf before need hs) found
-    (both_some found (λ h. Contains hs h × (need ≤ h.fit)) (IsLeast before (fitting need hs)) (λ h. IsFirstOf before need hs h.key.number)
-    (λ h c l. (c.0.0, h, c.0.1, c.0.2, record { number_is = refl; fits = c.1; least = fitting-All (λ y. before y h ≡ false) need hs l }))
+    some_map (λ (h : CarrierFit). h.key.number) (IsFirstOf before need hs) found
+    (both_some found (λ h. Contains hs h × (need ≤ h.fit)) (IsLeast before (fitting need hs))
+    (λ h. IsFirstOf before need hs h.key.number)
+    (λ h c l. (
+      c.0.0,
+      h,
+      c.0.1,
+      c.0.2,
+      record {
+        number_is = refl;
+        fits = c.1;
+        least = fitting-All (λ y. before y h ≡ false) need hs
+            l;
+      },
+    ))
     (first-All (λ h. Contains hs h × (need ≤ h.fit)) before None (fitting need hs) tt
-    (both_All (Contains hs) (λ h. nat_le need h.fit ≡ true) (λ h. Contains hs h × (need ≤ h.fit)) (λ h c f. (c, leb-true need h.fit f)) (fitting need hs)
-    (All-filter (λ h. nat_le need h.fit) (Contains hs) hs (All-contains_itself hs)) (filter_passes (λ h. nat_le need h.fit) hs)))
+    (both_All (Contains hs) (λ h. nat_le need h.fit ≡ true) (λ h. Contains hs h × (need ≤ h.fit))
+    (λ h c f. (c, leb-true need h.fit f)) (fitting need hs)
+    (All-filter (λ h. nat_le need h.fit) (Contains hs) hs (All-contains_itself hs))
+    (filter_passes (λ h. nat_le need h.fit) hs)))
     (first-IsLeast before o (fitting need hs)))
 
 -- the number found is held
-pub first_number-held : (before : Held → Held → Bool) (need : ℕ) (hs : List Held) → IfSome (first_number before need hs) (λ number. IsTrue (is_held number hs))
+pub first_number-held : (before : CarrierFit → CarrierFit → Bool) (need : ℕ) (hs : List CarrierFit)
+    → IfSome (first_number before need hs) (λ number. IsTrue (is_held number hs))
 first_number-held before need hs =
-    some_map (λ (h : Held). h.key.number) (λ number. IsTrue (is_held number hs)) (first before (fitting need hs))
-    (first-All (λ h. is_held h.key.number hs ≡ true) before None (fitting need hs) tt (All-filter (λ h. nat_le need h.fit) (λ h. is_held h.key.number hs ≡ true) hs (all_held hs)))
+    some_map (λ (h : CarrierFit). h.key.number) (λ number. IsTrue (is_held number hs))
+    (first before (fitting need hs))
+    (first-All (λ h. is_held h.key.number hs ≡ true) before None (fitting need hs) tt
+    (All-filter (λ h. nat_le need h.fit) (λ h. is_held h.key.number hs ≡ true) hs
+    (all_held hs)))

@@ -2,65 +2,67 @@
 use Rattle.std.specs.Prelude.{◌≡◌, ◌≢◌, ℕ, ◌<◌, ◌≤◌, Bool, false, if◌then◌else◌, nat_lt, nat_le, List, Option, All, AllPairs, Any, filter, map, length, is_some, option_map}
 use Rattle.ea_model.specs.Choice.{first, less}
 use Rattle.ea_model.specs.Keyed.{has_key, item_at}
-use Rattle.ea_cset.specs.declared.keys.Held.{Held}
+use Rattle.ea_cset.specs.declared.keys.CarrierFit.{CarrierFit}
 
 -- the carriers by rising number, and how many there is room for
 pub record Carriers : Type 0 where
-  pub held : List Held
+  pub held : List CarrierFit
   pub room : ℕ
 
 -- a carrier's number
-abbrev pub number_of : Held → ℕ
+abbrev pub number_of : CarrierFit → ℕ
 number_of h = h.key.number
 
 -- the carrier with the number
-abbrev pub carrier_of : List Held → ℕ → Option Held
+abbrev pub carrier_of : List CarrierFit → ℕ → Option CarrierFit
 carrier_of hs number = item_at number_of hs number
 
 -- whether the carrier with the number is among them
-abbrev pub is_held : ℕ → List Held → Bool
+abbrev pub is_held : ℕ → List CarrierFit → Bool
 is_held number hs = is_some (carrier_of hs number)
 
 -- the carrier, with another fit if it has the number
-abbrev pub with_fit : ℕ → ℕ → Held → Held
+abbrev pub with_fit : ℕ → ℕ → CarrierFit → CarrierFit
 with_fit number fit h = if has_key number_of number h then record { key = h.key; fit = fit } else h
 
 -- with another fit of the carrier with the number
-abbrev pub refitted : ℕ → ℕ → List Held → List Held
+abbrev pub refitted : ℕ → ℕ → List CarrierFit → List CarrierFit
 refitted number fit hs = map (with_fit number fit) hs
 
 -- whether a lies at a lower address than b
-abbrev pub lower : Held → Held → Bool
+abbrev pub lower : CarrierFit → CarrierFit → Bool
 lower a b = nat_lt a.key.base b.key.base
 
 -- whether a is older than b: by birth, among equals by number
-abbrev pub older : Held → Held → Bool
+abbrev pub older : CarrierFit → CarrierFit → Bool
 older a b = less a.key.birth b.key.birth (nat_lt a.key.number b.key.number)
 
 -- the carriers whose largest gap has at least so many units
-abbrev pub fitting : ℕ → List Held → List Held
+abbrev pub fitting : ℕ → List CarrierFit → List CarrierFit
 fitting need hs = filter (λ h. nat_le need h.fit) hs
 
 -- the number of the first carrier that fits
-abbrev pub first_number : (Held → Held → Bool) → ℕ → List Held → Option ℕ
+abbrev pub first_number : (CarrierFit → CarrierFit → Bool) → ℕ → List CarrierFit → Option ℕ
 first_number before need hs = option_map (λ h. h.key.number) (first before (fitting need hs))
 
 -- a has the lower number, and they have different bases
-abbrev pub IsBefore : Held → Held → Type 0
+abbrev pub IsBefore : CarrierFit → CarrierFit → Type 0
 IsBefore a b = (a.key.number < b.key.number) × (a.key.base ≢ b.key.base)
 
 -- h has the number and fits, and no carrier that fits comes before it
-pub record IsAhead (before : Held → Held → Bool) (need : ℕ) (hs : List Held) (number : ℕ) (h : Held) : Type 0 where
+pub record IsAhead (before : CarrierFit → CarrierFit → Bool) (need : ℕ) (hs : List CarrierFit)
+    (number : ℕ) (h : CarrierFit) : Type 0 where
   pub number_is : h.key.number ≡ number
   pub fits : need ≤ h.fit
   pub least : All (λ other. need ≤ other.fit → before other h ≡ false) hs
 
 -- the number is that of a held carrier that fits, and no carrier that fits comes before it
-abbrev pub IsFirstOf : (Held → Held → Bool) → ℕ → List Held → ℕ → Type 0
+abbrev pub IsFirstOf : (CarrierFit → CarrierFit → Bool) → ℕ → List CarrierFit → ℕ → Type 0
 IsFirstOf before need hs number = Any (IsAhead before need hs number) hs
 
--- the carriers stand by rising number and have different bases, there is room for them, and memory for the room
-pub record IsKept (room capacity : ℕ) (hs : List Held) : Type 0 where
+-- the carriers stand by rising number and have different bases, there is room for them, and memory
+-- for the room
+pub record IsKept (room capacity : ℕ) (hs : List CarrierFit) : Type 0 where
   pub rising : AllPairs IsBefore hs
   pub within : length hs ≤ room
   pub reserved : room ≤ capacity

@@ -15,14 +15,14 @@ pub struct CarrierKey {
 
 /// A carrier of a set, as its contracts see it.
 #[derive(Debug, Clone, Copy, PartialEq, Eq)]
-pub struct Held {
+pub struct CarrierFit {
     /// What tells it from the others.
     pub key: CarrierKey,
     /// The units of its largest gap.
     pub fit: u32,
 }
 
-impl Keyed for Held {
+impl Keyed for CarrierFit {
     ghost key_of = { λ h. h.key.number };
 
     fn key(&self) -> u32 {

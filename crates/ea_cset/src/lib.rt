@@ -1,4 +1,5 @@
-//! The set of the carriers that an allocator instance employs. A strategy finds in it the first carrier
+//! The set of the carriers that an allocator instance employs. A strategy finds in it the first
+//! carrier
 //! whose largest gap is great enough.
 #![tactic(auto)]
 
@@ -8,5 +9,5 @@ pub mod set;
 mod tests;
 mod walks;
 
-pub use keys::{CarrierKey, Held};
+pub use keys::{CarrierFit, CarrierKey};
 pub use set::CarrierSet;

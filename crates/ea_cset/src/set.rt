@@ -3,19 +3,20 @@ ghost use Rattle.std.specs.Prelude.{◌≡◌, ◌≢◌, ℕ, ◌+◌, ◌<◌,
 ghost use Rattle.ea_model.specs.Keyed.{entered, without};
 ghost use Rattle.ea_cset.specs.Carriers.{number_of, is_held, carrier_of, with_fit, refitted, lower, older, first_number, IsBefore, IsFirstOf};
 
-use crate::keys::{CarrierKey, Held};
+use crate::keys::{CarrierFit, CarrierKey};
 use crate::walks::{lowest, oldest};
 use ea_model::OutOfMemory;
-use ea_model::keyed::{enter_within, item_of, index_of, take_out};
+use ea_model::keyed::{enter_within, index_of, item_of, take_out};
 use std::alloc::Global;
 use std::marker::Model;
 
-/// A set of carriers, of which no two have the same number or the same base. Contracts see it as its
+/// A set of carriers, of which no two have the same number or the same base. Contracts see it as
+/// its
 /// carriers by rising number, and how many carriers it has room for.
 #[derive(Drop)]
 pub struct CarrierSet {
     room: u32,
-    held: Vec<Held>,
+    held: Vec<CarrierFit>,
 }
 
 impl Model for CarrierSet {
@@ -34,10 +35,10 @@ impl CarrierSet {
     pub fn new(alloc: Global, room: u32) -> Result<CarrierSet, OutOfMemory>
         ensures { IfOk result (λ s. s ≡ record { held = []; room = room }) }
     {
-        match Vec::with_capacity(alloc, room as usize) {
-            Ok(held) => Ok(CarrierSet { room, held }),
-            Err(_) => Err(OutOfMemory),
-        }
+        Ok(CarrierSet {
+            room,
+            held: Vec::with_capacity(alloc, room as usize)?,
+        })
     }
 
     /// Whether the carrier with the number is in the set.
@@ -52,14 +53,18 @@ impl CarrierSet {
         requires room { length self.old.held < self.old.room }
         requires number { All (λ h. h.key.number ≢ key.number) self.old.held }
         requires base { All (λ h. h.key.base ≢ key.base) self.old.held }
-        ensures added { self.new ≡ record self.old { held = entered number_of (record { key = key; fit = fit }) self.old.held } }
+        ensures added { self.new ≡ record self.old
+            { held = entered number_of (record { key = key; fit = fit }) self.old.held } }
         ensures count { length self.new.held ≡ length self.old.held + 1 }
         ensures rising { AllPairs IsBefore self.new.held }
 
         // The carrier is found by its number now, and the others are as before.
-        ensures carriers { (n : ℕ) → carrier_of self.new.held n ≡ (if n == key.number then Some (record { key = key; fit = fit }) else carrier_of self.old.held n) }
+        ensures carriers { (n : ℕ)
+            → carrier_of self.new.held n ≡
+            (if n == key.number then Some (record { key = key; fit = fit }) else carrier_of
+            self.old.held n) }
     {
-        enter_within(Held { key, fit }, &mut self.held);
+        enter_within(CarrierFit { key, fit }, &mut self.held);
     }
 
     /// Takes the carrier with the number out of the set.
@@ -70,7 +75,9 @@ impl CarrierSet {
         ensures rising { AllPairs IsBefore self.new.held }
 
         // The number is free now, and the other carriers are as before.
-        ensures carriers { (n : ℕ) → carrier_of self.new.held n ≡ (if n == number then None else carrier_of self.old.held n) }
+        ensures carriers { (n : ℕ)
+            → carrier_of self.new.held n ≡
+            (if n == number then None else carrier_of self.old.held n) }
     {
         take_out(number, &mut self.held);
     }
@@ -83,13 +90,15 @@ impl CarrierSet {
         ensures rising { AllPairs IsBefore self.new.held }
 
         // The carrier keeps its key, and the others are as before.
-        ensures carriers { (n : ℕ) → carrier_of self.new.held n ≡ option_map (with_fit number fit) (carrier_of self.old.held n) }
+        ensures carriers { (n : ℕ) → carrier_of self.new.held n ≡ option_map (with_fit number fit)
+            (carrier_of self.old.held n) }
     {
-        let place = index_of(number, &self.held);
-        self.held[place].fit = fit;
+        let index = index_of(number, &self.held);
+        self.held[index].fit = fit;
     }
 
-    /// The number of the carrier of the lowest base whose largest gap has at least `need` units, or None
+    /// The number of the carrier of the lowest base whose largest gap has at least `need` units, or
+    /// None
     /// where no carrier's has so many.
     pub fn first_by_address(&self, need: u32) -> Option<u32>
         ensures found { result ≡ first_number lower need self.now.held }
@@ -103,8 +112,10 @@ impl CarrierSet {
         lowest(need, &self.held)
     }
 
-    /// The number of the oldest carrier whose largest gap has at least `need` units, or None where no
-    /// carrier's has so many. The oldest is the one of the least birth, among equals of the least number.
+    /// The number of the oldest carrier whose largest gap has at least `need` units, or None where
+    /// no
+    /// carrier's has so many. The oldest is the one of the least birth, among equals of the least
+    /// number.
     pub fn first_by_age(&self, need: u32) -> Option<u32>
         ensures found { result ≡ first_number older need self.now.held }
         ensures none { IsNone result ↔ All (λ h. h.fit < need) self.now.held }

@@ -18,7 +18,11 @@ fn key(number: u32, base: u32, birth: u32) -> CarrierKey
 
 /// Four carriers, whose order by number is neither that by base nor that by age.
 fn four(alloc: Global) -> Result<CarrierSet, OutOfMemory>
-    ensures { IfOk result (λ s. s.held ≡ record { key = record { number = 1; base = 300; birth = 9 }; fit = 40 } ∷ record { key = record { number = 3; base = 0; birth = 2 }; fit = 10 } ∷ record { key = record { number = 5; base = 100; birth = 7 }; fit = 20 } ∷ record { key = record { number = 258; base = 900; birth = 2 }; fit = 60 } ∷ []) }
+    ensures { IfOk result
+        (λ s. s.held ≡ record { key = record { number = 1; base = 300; birth = 9 }; fit = 40 } ∷
+        record { key = record { number = 3; base = 0; birth = 2 }; fit = 10 } ∷ record
+        { key = record { number = 5; base = 100; birth = 7 }; fit = 20 } ∷ record
+        { key = record { number = 258; base = 900; birth = 2 }; fit = 60 } ∷ []) }
 {
     let mut set = CarrierSet::new(alloc, 4)?;
     set.add(key(1, 300, 9), 40);

@@ -3,10 +3,10 @@ ghost use Rattle.std.specs.Prelude.{◌≡◌, Some};
 ghost use Rattle.ea_model.specs.Choice.{better};
 ghost use Rattle.ea_cset.specs.Carriers.{lower, older, first_number};
 
-use crate::keys::Held;
+use crate::keys::CarrierFit;
 
 /// The lower of the best so far and the next carrier.
-fn lower_of(best: Option<Held>, next: Held) -> Held
+fn lower_of(best: Option<CarrierFit>, next: CarrierFit) -> CarrierFit
     ensures { Some result ≡ better lower best next }
 {
     match best {
@@ -16,7 +16,7 @@ fn lower_of(best: Option<Held>, next: Held) -> Held
 }
 
 /// The older of the best so far and the next carrier.
-fn older_of(best: Option<Held>, next: Held) -> Held
+fn older_of(best: Option<CarrierFit>, next: CarrierFit) -> CarrierFit
     ensures { Some result ≡ better older best next }
 {
     match best {
@@ -33,7 +33,7 @@ fn older_of(best: Option<Held>, next: Held) -> Held
 }
 
 /// The number of the lowest carrier that fits.
-pub fn lowest(need: u32, held: &[Held]) -> Option<u32>
+pub fn lowest(need: u32, held: &[CarrierFit]) -> Option<u32>
     ensures { result ≡ first_number lower need held.now }
 {
     let mut best = None;
@@ -42,11 +42,11 @@ pub fn lowest(need: u32, held: &[Held]) -> Option<u32>
             best = Some(lower_of(best, *next));
         }
     }
-    best.map(|h: Held| h.key.number)
+    best.map(|h: CarrierFit| h.key.number)
 }
 
 /// The number of the oldest carrier that fits.
-pub fn oldest(need: u32, held: &[Held]) -> Option<u32>
+pub fn oldest(need: u32, held: &[CarrierFit]) -> Option<u32>
     ensures { result ≡ first_number older need held.now }
 {
     let mut best = None;
@@ -55,5 +55,5 @@ pub fn oldest(need: u32, held: &[Held]) -> Option<u32>
             best = Some(older_of(best, *next));
         }
     }
-    best.map(|h: Held| h.key.number)
+    best.map(|h: CarrierFit| h.key.number)
 }

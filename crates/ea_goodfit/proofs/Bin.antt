@@ -6,16 +6,19 @@ use Rattle.ea_model.specs.GoodFit.{bin_of, powers}
 use Rattle.ea_model.proofs.Powers.{counted, uncounted, powers-none, bin_of-large}
 
 -- r is the exponent of the greatest power of two that is at most the size
-powers-top : (size r a n : ℕ) → 2 ^ r ≤ size → size < 2 * 2 ^ r → powers size a n ≡ min n (r + 1 - a)
+powers-top : (size r a n : ℕ) → 2 ^ r ≤ size → size < 2 * 2 ^ r
+    → powers size a n ≡ min n (r + 1 - a)
 powers-top size r a zero low high = omega (arith, powers-none size a)
 powers-top size r a (suc n) low high =
     elim (cases_lt r a) [
       | inl lt ↦
           let p : 2 ^ suc r ≤ 2 ^ a = pow_mono {i = suc r} {j = a} (omega arith) in
-          uncounted size a n (omega (arith, pow-suc 2 r)) ∙ powers-top size r (a + 1) n low high ∙ none_left n r a lt
+          uncounted size a n (omega (arith, pow-suc 2 r)) ∙ powers-top size r (a + 1) n low high
+          ∙ none_left n r a lt
       | inr le ↦
           let p : 2 ^ a ≤ 2 ^ r = pow_mono {i = a} {j = r} le in
-          counted size a n (omega arith) ∙ ap (λ k. 1 + k) (powers-top size r (a + 1) n low high) ∙ one_left n r a le
+          counted size a n (omega arith) ∙ ap (λ k. 1 + k) (powers-top size r (a + 1) n low high)
+          ∙ one_left n r a le
     ] where
       none_left : (n r a : ℕ) → r < a → min n (r + 1 - (a + 1)) ≡ min (suc n) (r + 1 - a)
       none_left n r a lt = omega arith
@@ -43,8 +46,11 @@ at_least_six size r le high =
 least_top : (r : ℕ) → 6 ≤ r → r < 32 → 63 + min 26 (r + 1 - 6) ≡ 58 + r
 least_top r six top = omega arith
 
-pub bin_of-top : (size r : ℕ) → 64 ≤ size → 2 ^ r ≤ size → size < 2 * 2 ^ r → r < 32 → bin_of size ≡ 58 + r
-bin_of-top size r le low high top = sym (bin_of-large size le) ∙ ap (λ k. 63 + k) (powers-top size r 6 26 low high) ∙ least_top r (at_least_six size r le high) top
+pub bin_of-top : (size r : ℕ) → 64 ≤ size → 2 ^ r ≤ size → size < 2 * 2 ^ r → r < 32
+    → bin_of size ≡ 58 + r
+bin_of-top size r le low high top = sym (bin_of-large size le)
+    ∙ ap (λ k. 63 + k) (powers-top size r 6 26 low high)
+    ∙ least_top r (at_least_six size r le high) top
 
 either_below : (size k : ℕ) → k ≤ 26 → (if nat_lt size 64 then size else 63 + k) < 90
 either_below size k le = grind arith
@@ -67,7 +73,8 @@ powers-rises small great a (suc n) le =
       | inr ge ↦ omega (arith, counted small a n ge, counted great a n (omega arith))
     ]
 
-either_rises : (a b k l : ℕ) → a ≤ b → k ≤ l → (if nat_lt a 64 then a else 63 + k) ≤ (if nat_lt b 64 then b else 63 + l)
+either_rises : (a b k l : ℕ) → a ≤ b → k ≤ l
+    → (if nat_lt a 64 then a else 63 + k) ≤ (if nat_lt b 64 then b else 63 + l)
 either_rises a b k l ab kl = grind arith
 
 -- a greater size has no lower bin

@@ -4,3 +4,4 @@ pub mod Found
 pub mod Inspected
 pub mod Lists
 pub mod Permuted
+pub mod SomeGaps

@@ -1,39 +1,68 @@
 -- The gaps of the bins, by rising address.
-use Rattle.std.specs.Prelude.{ℕ, Bool, ◌&&◌, if◌then◌else◌, nat_le, ◌==◌, List, Option, filter}
+use Rattle.std.specs.Prelude.{◌≡◌, ◌≢◌, ℕ, ◌+◌, ◌-◌, ◌^◌, ◌<◌, ◌≤◌, Bool, ◌&&◌, if◌then◌else◌, nat_le, nat_lt, ◌==◌, List, [], ◌∷◌, ◌++◌, All, Option, filter}
 use Rattle.std.specs.List.{list_any}
+use Rattle.std.specs.List.Sorted.{IsPermutation}
 use Rattle.ea_model.specs.Choice.{better}
 use Rattle.ea_model.specs.GoodFit.{is_inspected, smaller_low}
 use Rattle.ea_model.specs.Keyed as keyed
-use Rattle.ea_goodfit.specs.declared.gaps.Gap.{Gap}
+use Rattle.ea_goodfit.specs.declared.gaps.BinnedGap.{BinnedGap}
 
 -- the gaps by rising address, and how many more can be inserted without memory
 pub record HeldGaps : Type 0 where
-  pub held : List Gap
+  pub held : List BinnedGap
   pub room : ℕ
 
-abbrev pub address_of : Gap → ℕ
+abbrev pub address_of : BinnedGap → ℕ
 address_of g = g.address
 
 -- a lies at a lower address than b
-abbrev pub IsBelow : Gap → Gap → Type 0
+abbrev pub IsBelow : BinnedGap → BinnedGap → Type 0
 IsBelow a b = keyed.IsBelow address_of a b
 
 -- whether they are one gap
-abbrev pub is_same : Gap → Gap → Bool
+abbrev pub is_same : BinnedGap → BinnedGap → Bool
 is_same a b = (a.address == b.address) && (a.size == b.size)
 
 -- whether the gap is among them
-abbrev pub is_held : Gap → List Gap → Bool
+abbrev pub is_held : BinnedGap → List BinnedGap → Bool
 is_held gap gs = list_any (is_same gap) gs
 
 -- the smaller, among equals the lower
-abbrev pub smaller : Gap → Gap → Bool
+abbrev pub smaller : BinnedGap → BinnedGap → Bool
 smaller = smaller_low (λ g. g.address) (λ g. g.size)
 
 -- the gaps of at least `need` units among those that a search inspects
-abbrev pub candidates : ℕ → ℕ → List Gap → List Gap
-candidates depth need gs = filter (λ g. nat_le need g.size) (filter (is_inspected (λ h. h.address) (λ h. h.size) depth gs) gs)
+abbrev pub inspected_fitting : ℕ → ℕ → List BinnedGap → List BinnedGap
+inspected_fitting depth need gs = filter (λ g. nat_le need g.size)
+    (filter (is_inspected (λ h. h.address) (λ h. h.size) depth gs) gs)
 
 -- the better of the best so far and a gap, where that one fits
-abbrev pub considered : ℕ → Option Gap → Gap → Option Gap
+abbrev pub considered : ℕ → Option BinnedGap → BinnedGap → Option BinnedGap
 considered need best g = if nat_le need g.size then better smaller best g else best
+
+-- a gap as a list of at most one: a gap of no units is none
+abbrev pub some_gap : BinnedGap → List BinnedGap
+some_gap g = if nat_lt 0 g.size then g ∷ [] else []
+
+abbrev pub gap_from : ℕ → ℕ → List BinnedGap
+gap_from address size = some_gap (record { address = address; size = size })
+
+-- a gap of `whole` units at the address is held, and no other gap begins where a block of `size`
+-- units at its front ends
+pub record CanCut (held : List BinnedGap) (address whole size : ℕ) : Type 0 where
+  pub some : 0 < whole
+  pub within : size ≤ whole
+  pub fits : address + whole < 2 ^ 32
+  pub rest : List BinnedGap
+  pub order : IsPermutation held (gap_from address whole ++ rest)
+  pub free : size < whole → All (λ g. g.address ≢ address + size) rest
+
+-- the gaps beside a block of `size` units at the address are held, and no other gap begins where
+-- the one before it does
+pub record CanJoin (held : List BinnedGap) (address before size behind : ℕ) : Type 0 where
+  pub within : before ≤ address
+  pub fits : address + size + behind < 2 ^ 32
+  pub rest : List BinnedGap
+  pub order : IsPermutation held
+      (gap_from (address - before) before ++ (gap_from (address + size) behind ++ rest))
+  pub free : All (λ g. g.address ≢ address - before) rest

@@ -1,23 +1,24 @@
 //! The bins and their calls.
-ghost use Rattle.std.specs.Prelude.{◌≡◌, ◌≢◌, ◌+◌, ◌<◌, ◌≤◌, ◌↔◌, [], ◌∷◌, ◌==◌, ◌&&◌, ◌||◌, not, List, Some, All, AllPairs, IsTrue, IsNone, IfSome, OnOk, OnErr, length};
+ghost use Rattle.std.specs.Prelude.{◌≡◌, ◌≢◌, ◌+◌, ◌-◌, ◌<◌, ◌≤◌, ◌↔◌, [], ◌∷◌, ◌++◌, ◌==◌, ◌&&◌, ◌||◌, not, List, Some, All, AllPairs, IsTrue, IsNone, IfSome, OnOk, OnErr, length};
 ghost use Rattle.std.specs.List.Sorted.{IsPermutation};
 ghost use Rattle.ea_model.specs.GoodFit.{bin_of, good_fit, is_inspected};
 ghost use Rattle.ea_model.specs.Choice.{IsFirst};
 ghost use Rattle.ea_model.specs.Keyed.{entered, without};
-ghost use Rattle.ea_goodfit.specs.Gaps.{address_of, is_same, is_held, smaller, candidates, IsBelow};
+ghost use Rattle.ea_goodfit.specs.Gaps.{address_of, is_same, is_held, smaller, inspected_fitting, some_gap, gap_from, CanCut, CanJoin, IsBelow};
 
-use crate::gaps::Gap;
+use crate::gaps::BinnedGap;
 use crate::walks::search;
 use ea_model::OutOfMemory;
 use ea_model::keyed::{enter_within, take_out};
 use std::alloc::Global;
 use std::marker::Model;
 
-/// The gaps that a search can find. Contracts see them by rising address, and beside them `room`: how many
+/// The gaps that a search can find. Contracts see them by rising address, and beside them `room`:
+/// how many
 /// more can be inserted without taking memory.
 #[derive(Drop)]
 pub struct Bins {
-    held: Vec<Gap>,
+    held: Vec<BinnedGap>,
 }
 
 impl Model for Bins {
@@ -51,14 +52,11 @@ impl Bins {
         // It fails only where there is less room than was asked for.
         ensures full { OnErr result (self.old.room < extra) }
     {
-        match self.held.reserve(extra as usize) {
-            Ok(()) => Ok(()),
-            Err(_) => Err(OutOfMemory),
-        }
+        Ok(self.held.reserve(extra as usize)?)
     }
 
     /// Adds a gap, where room was reserved. It takes no memory.
-    pub fn insert(&mut self, gap: Gap)
+    pub fn insert(&mut self, gap: BinnedGap)
         requires room { 0 < self.old.room }
         requires address { All (λ g. g.address ≢ gap.address) self.old.held }
         ensures held { self.new.held ≡ entered address_of gap self.old.held }
@@ -67,14 +65,15 @@ impl Bins {
         ensures rising { AllPairs IsBelow self.new.held }
 
         // The gap is held now, and the others are as before.
-        ensures gaps { (g : Gap) → is_held g self.new.held ≡ (is_same g gap || is_held g self.old.held) }
+        ensures gaps { (g : BinnedGap)
+            → is_held g self.new.held ≡ (is_same g gap || is_held g self.old.held) }
         ensures order { IsPermutation self.new.held (gap ∷ self.old.held) }
     {
         enter_within(gap, &mut self.held);
     }
 
     /// Takes out a gap that is held.
-    pub fn remove(&mut self, gap: Gap)
+    pub fn remove(&mut self, gap: BinnedGap)
         requires { IsTrue (is_held gap self.old.held) }
         ensures held { self.new.held ≡ without address_of gap.address self.old.held }
         ensures room { self.new.room ≡ self.old.room + 1 }
@@ -83,34 +82,116 @@ impl Bins {
 
         // Its address is free now, and the other gaps are as before.
         ensures free { All (λ g. g.address ≢ gap.address) self.new.held }
-        ensures gaps { (g : Gap) → is_held g self.new.held ≡ (is_held g self.old.held && not (g.address == gap.address)) }
-        ensures order { (rest : List Gap) → IsPermutation self.old.held (gap ∷ rest) → IsPermutation self.new.held rest }
+        ensures gaps { (g : BinnedGap)
+            → is_held g self.new.held ≡ (is_held g self.old.held && not (g.address == gap.address)) }
+        ensures order { (rest : List BinnedGap) → IsPermutation self.old.held (gap ∷ rest)
+            → IsPermutation self.new.held rest }
     {
         take_out(gap.address, &mut self.held);
     }
 
-    /// The smallest gap of at least `need` units among those that the search looks at, of equals the
-    /// lowest, or None where none of these has so many. It looks at the first `depth` gaps of each bin, by
-    /// address.
-    pub fn find(&self, need: u32, depth: u32) -> Option<Gap>
-        ensures found { result ≡ good_fit (λ g. g.address) (λ g. g.size) depth need self.now.held }
-        ensures none { IsNone result ↔ All (λ g. IsTrue (is_inspected (λ h. h.address) (λ h. h.size) depth self.now.held g) → g.size < need) self.now.held }
+    /// Adds a gap, where room was reserved; one of no units is none. It takes no memory.
+    pub fn put(&mut self, gap: BinnedGap)
+        requires room { 0 < self.old.room }
+        requires address { 0 < gap.size → All (λ g. g.address ≢ gap.address) self.old.held }
+        ensures { IsPermutation self.new.held (some_gap gap ++ self.old.held) }
+    {
+        if gap.size > 0 {
+            self.insert(gap);
+        }
+    }
 
-        // The gap found is one that the search looks at and that fits, and none of these comes before it.
-        ensures first { IfSome result (IsFirst smaller (candidates depth need self.now.held)) }
+    /// Takes out a gap that is held; one of no units is none.
+    pub fn take(&mut self, gap: BinnedGap)
+        requires { (rest : List BinnedGap) × IsPermutation self.old.held (some_gap gap ++ rest) }
+        ensures order { (rest : List BinnedGap) → IsPermutation self.old.held (some_gap gap ++ rest)
+            → IsPermutation self.new.held rest }
+        ensures room { self.old.room ≤ self.new.room }
+        ensures freed { 0 < gap.size → self.old.room < self.new.room }
+    {
+        if gap.size > 0 {
+            self.remove(gap);
+        }
+    }
+
+    /// Notes that a block of `size` units stands at the front of the gap of `whole` units at
+    /// `address`: what
+    /// is left of the gap is a gap, if anything is.
+    pub fn cut(&mut self, address: u32, whole: u32, size: u32)
+        requires { CanCut self.old.held address whole size }
+        ensures { (rest : List BinnedGap)
+            → IsPermutation self.old.held (gap_from address whole ++ rest)
+            → IsPermutation self.new.held (gap_from (address + size) (whole - size) ++ rest) }
+    {
+        self.take(BinnedGap {
+            address,
+            size: whole,
+        });
+        self.put(BinnedGap {
+            address: address + size,
+            size: whole - size,
+        });
+    }
+
+    /// Notes that the block of `size` units at `address` is free: with the gaps of `before` and
+    /// `behind` units
+    /// on its two sides it is one gap.
+    pub fn join(&mut self, address: u32, before: u32, size: u32, behind: u32)
+        requires room { 0 < self.old.room }
+        requires held { CanJoin self.old.held address before size behind }
+        ensures { (rest : List BinnedGap) → IsPermutation self.old.held
+            (gap_from (address - before) before ++ (gap_from (address + size) behind ++ rest))
+            → IsPermutation self.new.held (gap_from (address - before) (before + size + behind) ++ rest) }
+    {
+        self.take(BinnedGap {
+            address: address - before,
+            size: before,
+        });
+        self.take(BinnedGap {
+            address: address + size,
+            size: behind,
+        });
+        self.put(BinnedGap {
+            address: address - before,
+            size: before + size + behind,
+        });
+    }
+
+    /// The smallest gap of at least `need` units among those that the search inspects, of equals
+    /// the
+    /// lowest, or None where none of these has so many. It inspects the first `depth` gaps of each
+    /// bin, by
+    /// address.
+    pub fn find(&self, need: u32, depth: u32) -> Option<BinnedGap>
+        ensures found { result ≡ good_fit (λ g. g.address) (λ g. g.size) depth need self.now.held }
+        ensures none { IsNone result ↔ All
+            (λ g. IsTrue (is_inspected (λ h. h.address) (λ h. h.size) depth self.now.held g)
+            → g.size < need) self.now.held }
+
+        // The gap found is one that the search inspects and that fits, and none of these comes
+        // before it.
+        ensures first { IfSome result (IsFirst smaller (inspected_fitting depth need self.now.held)) }
         ensures held { IfSome result (λ g. IsTrue (is_held g self.now.held)) }
-        ensures inspected { IfSome result (λ g. IsTrue (is_inspected (λ h. h.address) (λ h. h.size) depth self.now.held g)) }
+        ensures inspected { IfSome result
+            (λ g. IsTrue (is_inspected (λ h. h.address) (λ h. h.size) depth self.now.held g)) }
         ensures fits { IfSome result (λ g. need ≤ g.size) }
 
-        // No lower bin has a gap that the search looks at and that fits.
-        ensures bin { IfSome result (λ g. All (λ h. IsTrue (is_inspected (λ x. x.address) (λ x. x.size) depth self.now.held h) → need ≤ h.size → bin_of g.size ≤ bin_of h.size) self.now.held) }
+        // No lower bin has a gap that the search inspects and that fits.
+        ensures bin { IfSome result
+            (λ g. All (λ h. IsTrue
+            (is_inspected (λ x. x.address) (λ x. x.size) depth self.now.held h) → need ≤ h.size
+            → bin_of g.size ≤ bin_of h.size) self.now.held) }
 
-        // Where it finds none, though it looks at a gap of each bin at least, no gap lies in a bin above that of the need.
-        ensures above { 1 ≤ depth → IsNone result → All (λ g. bin_of g.size ≤ bin_of need) self.now.held }
+        // Where it finds none, though it inspects a gap of each bin at least, no gap lies in a bin
+        // above that of the need.
+        ensures above { 1 ≤ depth → IsNone result
+            → All (λ g. bin_of g.size ≤ bin_of need) self.now.held }
 
         // No other gap comes first, so the gaps give the same in any order.
-        ensures only { (g : Gap) → IsFirst smaller (candidates depth need self.now.held) g → result ≡ Some g }
-        ensures order { (gs : List Gap) → IsPermutation self.now.held gs → result ≡ good_fit (λ g. g.address) (λ g. g.size) depth need gs }
+        ensures only { (g : BinnedGap)
+            → IsFirst smaller (inspected_fitting depth need self.now.held) g → result ≡ Some g }
+        ensures order { (gs : List BinnedGap) → IsPermutation self.now.held gs
+            → result ≡ good_fit (λ g. g.address) (λ g. g.size) depth need gs }
         ensures rising { AllPairs IsBelow self.now.held }
     {
         search(need, depth, &self.held)

@@ -1,20 +1,22 @@
 //! Worked examples.
 ghost use Rattle.std.specs.Prelude.{◌≡◌, ◌≤◌, [], ◌∷◌, IfOk};
 
-use crate::{Bins, Gap};
+use crate::{BinnedGap, Bins};
 use ea_model::OutOfMemory;
 use std::alloc::Global;
 use std::test::Fail;
 
-fn gap(address: u32, size: u32) -> Gap
+fn gap(address: u32, size: u32) -> BinnedGap
     ensures { result ≡ record { address = address; size = size } }
 {
-    Gap { address, size }
+    BinnedGap { address, size }
 }
 
 /// Gaps of 70 and 100 units, which share a bin, and a great one.
 fn three(alloc: Global) -> Result<Bins, OutOfMemory>
-    ensures { IfOk result (λ b. b.held ≡ record { address = 8; size = 70 } ∷ record { address = 84; size = 100 } ∷ record { address = 190; size = 32578 } ∷ []) }
+    ensures { IfOk result
+        (λ b. b.held ≡ record { address = 8; size = 70 } ∷ record { address = 84; size = 100 } ∷
+        record { address = 190; size = 32578 } ∷ []) }
 {
     let mut bins = Bins::new(alloc);
     bins.reserve(3)?;

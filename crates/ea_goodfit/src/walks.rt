@@ -3,7 +3,7 @@ ghost use Rattle.std.specs.Prelude.{◌≡◌, ◌<◌, AllPairs};
 ghost use Rattle.ea_model.specs.GoodFit.{bin_of, good_fit};
 ghost use Rattle.ea_goodfit.specs.Gaps.{considered, IsBelow};
 
-use crate::gaps::Gap;
+use crate::gaps::BinnedGap;
 
 /// The least size, in units, that shares its bin with others.
 const SHARED: u32 = 64;
@@ -23,7 +23,7 @@ fn bin_of(size: u32) -> usize
 }
 
 /// The better of `best` and the gap, where that one fits.
-fn better_of(need: u32, best: Option<Gap>, gap: Gap) -> Option<Gap>
+fn better_of(need: u32, best: Option<BinnedGap>, gap: BinnedGap) -> Option<BinnedGap>
     ensures { result ≡ considered need best gap }
 {
     if gap.size < need {
@@ -37,7 +37,7 @@ fn better_of(need: u32, best: Option<Gap>, gap: Gap) -> Option<Gap>
 }
 
 /// The gap that a search finds which looks at the first `depth` gaps of each bin.
-pub fn search(need: u32, depth: u32, held: &[Gap]) -> Option<Gap>
+pub fn search(need: u32, depth: u32, held: &[BinnedGap]) -> Option<BinnedGap>
     requires { AllPairs IsBelow held.now }
     ensures { result ≡ good_fit (λ g. g.address) (λ g. g.size) depth need held.now }
 {

@@ -9,7 +9,7 @@ use Rattle.ea_model.specs.Content.{Content, gap, gaps_of, gap_at, gap_before, ga
 use Rattle.ea_model.specs.Instance.{changed, content_of, with_content, without_content}
 use Rattle.ea_model.specs.declared.carriers.Gap as model
 use Rattle.ea_mbc.specs.Gaps.{Replaced}
-use Rattle.ea_goodfit.specs.declared.gaps.Gap.{Gap}
+use Rattle.ea_goodfit.specs.declared.gaps.BinnedGap.{BinnedGap}
 use Rattle.ea_goodfit.specs.Gaps.{HeldGaps}
 use Rattle.ea_laws.specs.Kept.{number_of, ContentsApart, IsLaidOut}
 use Rattle.ea_laws.proofs.Apart.{all-sound, apart-changed, apart-with}
@@ -22,7 +22,8 @@ use Rattle.std.proofs.lemmas.Bool.{cases_eq}
 use Rattle.std.proofs.lemmas.List.Elements.{All-head, All-tail}
 use Rattle.ea_instance.specs.Binned.{Hold}
 use Rattle.ea_instance.specs.Changes.{AreLaid, IsPlacing, IsReleasing}
-use Rattle.ea_instance.specs.Listed.{all_gaps, gap_from, CanCut, CanJoin}
+use Rattle.ea_goodfit.specs.Gaps.{gap_from, CanCut, CanJoin}
+use Rattle.ea_instance.specs.Listed.{all_gaps}
 use Rattle.ea_instance.specs.declared.changes.Joined.{Joined}
 use Rattle.ea_instance.specs.declared.changes.Placed.{Placed}
 use Rattle.ea_instance.proofs.Gaps.{at_base, at_gap, gap_from-some, gaps-replaced, gaps-with, gaps-without, empty_gaps}
@@ -30,7 +31,7 @@ use Rattle.ea_instance.proofs.Listed.{first-alone, DifferIn}
 use Rattle.ea_instance.proofs.Located.{gaps-distinct}
 
 -- bins that hold gaps hold them in any order
-pub Hold-permuted : (bins : Option HeldGaps) (xs ys : List Gap) → IsPermutation xs ys → Hold bins xs
+pub Hold-permuted : (bins : Option HeldGaps) (xs ys : List BinnedGap) → IsPermutation xs ys → Hold bins xs
     → Hold bins ys
 Hold-permuted bins xs ys m h =
     if_some bins (λ b. IsPermutation b.held xs) (λ b. IsPermutation b.held ys)
@@ -65,7 +66,7 @@ module _ (x : Content) (sound : IsLaidOut x) (none : x.blocks ≡ []) (address f
       → IfSome bins (λ b. All (λ g. g.address ≢ address) b.held)
   entered-free cs bins laid apart h some =
       let now = with_content x cs in
-      let alone : All (λ (g : Gap). g.address ≢ address) (all_gaps cs) =
+      let alone : All (λ (g : BinnedGap). g.address ≢ address) (all_gaps cs) =
       first-alone (all_gaps now) (record { address = address; size = fit }) (all_gaps cs)
       (gaps-distinct now (All-entered number_of IsLaidOut x cs sound laid.sound)
       (apart-with x cs laid.apart apart))
@@ -87,11 +88,11 @@ module _ (x : Content) (sound : IsLaidOut x) (none : x.blocks ≡ []) (address f
 
   pub left-held : (n : ℕ) (cs : List Content) (bins : Option HeldGaps) → AreLaid cs
       → content_of cs n ≡ Some x → Hold bins (all_gaps cs)
-      → IfSome bins (λ b. (rest : List Gap) × IsPermutation b.held (gap_from address fit ++ rest))
+      → IfSome bins (λ b. (rest : List BinnedGap) × IsPermutation b.held (gap_from address fit ++ rest))
   left-held n cs bins laid there h =
       let rest = all_gaps (without_content n cs) in
       if_some bins (λ b. IsPermutation b.held (gap_from address fit ++ rest))
-      (λ b. (rest : List Gap) × IsPermutation b.held (gap_from address fit ++ rest))
+      (λ b. (rest : List BinnedGap) × IsPermutation b.held (gap_from address fit ++ rest))
       (λ b held. (rest, held)) (left-gaps n cs bins laid there h)
 
 mid_All : {A : Type 0} (P : A → Type 0) (front : List A) (x : A) (behind : List A)
@@ -111,16 +112,16 @@ gap_up_to-le [] offset = omega arith
 gap_up_to-le (g ∷ gs) offset = up_to_more offset g gs (gap_up_to-le gs offset)
 
 -- of the gaps `old` one is cut: a block takes its front
-pub record IsCut (old new : List Gap) (address whole size : ℕ) : Type 0 where
+pub record IsCut (old new : List BinnedGap) (address whole size : ℕ) : Type 0 where
   pub some : 0 < whole
   pub within : size ≤ whole
   pub fits : address + whole < 2 ^ 32
-  pub rest : List Gap
+  pub rest : List BinnedGap
   pub was : IsPermutation old (gap_from address whole ++ rest)
   pub is : IsPermutation new (gap_from (address + size) (whole - size) ++ rest)
   pub free : size < whole → All (λ g. g.address ≢ address + size) rest
 
-module _ (old new : List Gap) (address whole size : ℕ) (cut : IsCut old new address whole size)
+module _ (old new : List BinnedGap) (address whole size : ℕ) (cut : IsCut old new address whole size)
     (bins : Option HeldGaps) (held : Hold bins old) where
   pub can-cut : IfSome bins (λ b. CanCut b.held address whole size)
   can-cut =
@@ -135,25 +136,25 @@ module _ (old new : List Gap) (address whole size : ℕ) (cut : IsCut old new ad
       }) held
 
   pub cut-noted : (left : Option HeldGaps)
-      → ((rest : List Gap) → Hold bins (gap_from address whole ++ rest)
+      → ((rest : List BinnedGap) → Hold bins (gap_from address whole ++ rest)
       → Hold left (gap_from (address + size) (whole - size) ++ rest))
       → Hold left new
   cut-noted left note =
-      let made : List Gap = gap_from (address + size) (whole - size) ++ cut.rest in
+      let made : List BinnedGap = gap_from (address + size) (whole - size) ++ cut.rest in
       Hold-permuted left made new (IsPermutation-sym new made cut.is)
       (note cut.rest (Hold-permuted bins old (gap_from address whole ++ cut.rest) cut.was held))
 
 -- of the gaps `old` two become one with the block between them
-pub record IsJoin (old new : List Gap) (address before size after : ℕ) : Type 0 where
+pub record IsJoin (old new : List BinnedGap) (address before size after : ℕ) : Type 0 where
   pub within : before ≤ address
   pub fits : address + size + after < 2 ^ 32
-  pub rest : List Gap
+  pub rest : List BinnedGap
   pub was : IsPermutation old
       (gap_from (address - before) before ++ (gap_from (address + size) after ++ rest))
   pub is : IsPermutation new (gap_from (address - before) (before + size + after) ++ rest)
   pub free : All (λ g. g.address ≢ address - before) rest
 
-module _ (old new : List Gap) (address before size after : ℕ)
+module _ (old new : List BinnedGap) (address before size after : ℕ)
     (join : IsJoin old new address before size after) (bins : Option HeldGaps)
     (held : Hold bins old) where
   pub can-join : IfSome bins (λ b. CanJoin b.held address before size after)
@@ -170,13 +171,13 @@ module _ (old new : List Gap) (address before size after : ℕ)
       }) held
 
   pub join-noted : (left : Option HeldGaps)
-      → ((rest : List Gap)
+      → ((rest : List BinnedGap)
       → Hold bins (gap_from (address - before) before
       ++ (gap_from (address + size) after ++ rest))
       → Hold left (gap_from (address - before) (before + size + after) ++ rest))
       → Hold left new
   join-noted left note =
-      let made : List Gap = gap_from (address - before) (before + size + after) ++ join.rest in
+      let made : List BinnedGap = gap_from (address - before) (before + size + after) ++ join.rest in
       Hold-permuted left made new (IsPermutation-sym new made join.is)
       (note join.rest (Hold-permuted bins old
       (gap_from (address - before) before ++ (gap_from (address + size) after ++ join.rest))
@@ -207,7 +208,7 @@ module _ (f : Content → Content) (k : KeepsPlace f) (n : ℕ) (item : Content)
         mid_All (Inside 8 item.units) r.front gone r.behind
         (subst (All (Inside 8 item.units)) r.was (gaps_Inside 8 item.units item.blocks here.tiled))
 
-    replaced : (rest : List Gap)
+    replaced : (rest : List BinnedGap)
         × IsPermutation (all_gaps cs) (map (at_base item.base) (gone ∷ []) ++ rest)
         × IsPermutation (all_gaps (changed f n cs))
         (map (at_base item.base) (gap (offset + size) (offset + whole)) ++ rest)
@@ -266,7 +267,7 @@ module _ (f : Content → Content) (k : KeepsPlace f) (n : ℕ) (item : Content)
         (subst (All (Inside 8 (f item).units)) r.is
         (gaps_Inside 8 (f item).units (f item).blocks sound.tiled))
 
-    joined : (rest : List Gap)
+    joined : (rest : List BinnedGap)
         × IsPermutation (all_gaps cs) (map (at_base item.base) two ++ rest)
         × IsPermutation (all_gaps (changed f n cs)) (map (at_base item.base) (made ∷ []) ++ rest)
     joined =
@@ -291,7 +292,7 @@ module _ (f : Content → Content) (k : KeepsPlace f) (n : ℕ) (item : Content)
         ∙ ap (λ a. gap_from a (offset + size + after - (offset + size))) high
         ∙ ap (gap_from (address + size)) high_size)
 
-    abbrev whole_gap : Gap
+    abbrev whole_gap : BinnedGap
     whole_gap = record { address = address - before; size = before + size + after }
 
     one : map (at_base item.base) (made ∷ []) ≡ whole_gap ∷ []

@@ -18,7 +18,7 @@ use Rattle.ea_model.specs.Strategies.{candidate, candidates, candidates_in, inne
 use Rattle.ea_model.specs.Strategies as strategies
 use Rattle.ea_model.specs.Instance.{content_of}
 use Rattle.ea_model.proofs.First.{first-none, large-here, large-none, large-past, none-large}
-use Rattle.ea_cset.specs.declared.keys.Held.{Held}
+use Rattle.ea_cset.specs.declared.keys.CarrierFit.{CarrierFit}
 use Rattle.ea_model.proofs.Pairs.{pairs_head, pairs_tail}
 use Rattle.ea_cset.specs.Carriers.{Carriers, IsBefore, first_number, fitting, lower, older}
 use Rattle.ea_goodfit.specs.Gaps.{HeldGaps}
@@ -33,14 +33,14 @@ use Rattle.ea_model.proofs.Rising.{item_at-each}
 use Rattle.ea_instance.proofs.Folding.{choice_more}
 
 -- the gap is one of the carrier, as the set knows it
-pub record IsOf (x : Candidate) (h : Held) : Type 0 where
+pub record IsOf (x : Candidate) (h : CarrierFit) : Type 0 where
   pub number : x.number ≡ h.key.number
   pub base : x.base ≡ h.key.base
   pub birth : x.birth ≡ h.key.birth
 
 -- of the gaps of two carriers the strategy takes first that of the carrier that comes first
-abbrev pub GoesBy : Strategy → (Held → Held → Bool) → Type 0
-GoesBy s comes_first = (x y : Candidate) (a b : Held) → IsOf x a → IsOf y b → IsBefore a b
+abbrev pub GoesBy : Strategy → (CarrierFit → CarrierFit → Bool) → Type 0
+GoesBy s comes_first = (x y : Candidate) (a b : CarrierFit) → IsOf x a → IsOf y b → IsBefore a b
     → takes_first s y x ≡ comes_first b a
 
 by_base : (p q r s : ℕ) (rest : Bool) → p ≡ r → q ≡ s → r ≢ s → less q p rest ≡ nat_lt s r
@@ -52,7 +52,7 @@ aoffcbf-GoesBy x y a b i j o = by_base x.base y.base a.key.base b.key.base _ i.b
 aoffcaobf-GoesBy : GoesBy AoffCaobf lower
 aoffcaobf-GoesBy x y a b i j o = by_base x.base y.base a.key.base b.key.base _ i.base j.base o.1
 
-by_age : (x y : Candidate) (a b : Held) (rest : Bool) → IsOf x a → IsOf y b
+by_age : (x y : Candidate) (a b : CarrierFit) (rest : Bool) → IsOf x a → IsOf y b
     → a.key.number < b.key.number → strategies.older y x rest ≡ older b a
 by_age x y a b rest i j o = let xn = i.number in let xb = i.birth in let yn = j.number in let yb =
     j.birth in grind arith
@@ -120,17 +120,17 @@ some_gap : (c : Content) (o : Option Gap) → (o ≡ None → ⊥) → (x : Cand
 some_gap c None h = absurd (h refl)
 some_gap c (Some g) h = (candidate c g, refl, record { number = refl; base = refl; birth = refl })
 
-module _ (s : Strategy) (comes_first : Held → Held → Bool) (goes : GoesBy s comes_first) (need : ℕ)
+module _ (s : Strategy) (comes_first : CarrierFit → CarrierFit → Bool) (goes : GoesBy s comes_first) (need : ℕ)
     (some : 1 ≤ need) (all : List Content) where
   -- the gap that is chosen in the carrier that was found
-  abbrev chosen_at : Option Held → Option Candidate
+  abbrev chosen_at : Option CarrierFit → Option Candidate
   chosen_at o = option_and_then (candidate_in (inner_of s) need all)
       (option_map (λ h. h.key.number) o)
 
   abbrev first_gap : Option Candidate → List Content → Option Candidate
   first_gap best cs = fold (better (takes_first s)) best (large_enough need (candidates cs))
 
-  abbrev first_held : Option Held → List Held → Option Held
+  abbrev first_held : Option CarrierFit → List CarrierFit → Option CarrierFit
   first_held best hs = fold (better comes_first) best (fitting need hs)
 
   -- the carrier is found by its number, and has many blocks
@@ -163,22 +163,22 @@ module _ (s : Strategy) (comes_first : Held → Held → Bool) (goes : GoesBy s 
   more best c cs o shared e = choice_more s need best c cs (shared_in c.kind c shared)
       ∙ ap (λ r. first_gap (better_of (takes_first s) best r) cs) e
 
-  held_past : (best : Option Held) (c : Content) (cs : List Content) → largest (gaps_of c) < need
+  held_past : (best : Option CarrierFit) (c : Content) (cs : List Content) → largest (gaps_of c) < need
       → first_held best (map held_of (c ∷ cs)) ≡ first_held best (map held_of cs)
   held_past best c cs lt = ap (λ hs. fold (better comes_first) best hs)
-      (large-past (λ (h : Held). h.fit) need (held_of c) (map held_of cs) lt)
+      (large-past (λ (h : CarrierFit). h.fit) need (held_of c) (map held_of cs) lt)
 
-  held_next : (best : Option Held) (c : Content) (cs : List Content) → need ≤ largest (gaps_of c)
+  held_next : (best : Option CarrierFit) (c : Content) (cs : List Content) → need ≤ largest (gaps_of c)
       → first_held best (map held_of (c ∷ cs)) ≡ first_held (better comes_first best (held_of c))
       (map held_of cs)
   held_next best c cs le = ap (λ hs. fold (better comes_first) best hs)
-      (large-here (λ (h : Held). h.fit) need (held_of c) (map held_of cs) le)
+      (large-here (λ (h : CarrierFit). h.fit) need (held_of c) (map held_of cs) le)
 
   none_here : (c : Content) → largest (gaps_of c) < need → chosen_in (inner_of s) need c ≡ None
   none_here c lt = ap (option_map (candidate c)) (none_in (inner_of s) need c lt)
 
   -- choosing on among the gaps of the carriers that are left, and among these carriers
-  goes_on : (x : Candidate) (h : Held) (cs : List Content) → chosen_at (Some h) ≡ Some x → IsOf x h
+  goes_on : (x : Candidate) (h : CarrierFit) (cs : List Content) → chosen_at (Some h) ≡ Some x → IsOf x h
       → All (IsBefore h) (map held_of cs) → AllPairs IsBefore (map held_of cs) → All IsThere cs
       → first_gap (Some x) cs ≡ chosen_at (first_held (Some h) (map held_of cs))
   goes_on x h [] at is_of behind rising there = sym at
@@ -237,7 +237,7 @@ module _ (s : Strategy) (comes_first : Held → Held → Bool) (goes : GoesBy s 
       (λ i d within. (item_at-each number_of i d all rising within, (sound i d within).shared))
 
 -- the choice is made in the first carrier that fits
-pub choice-first : (s : Strategy) (comes_first : Held → Held → Bool) → GoesBy s comes_first
+pub choice-first : (s : Strategy) (comes_first : CarrierFit → CarrierFit → Bool) → GoesBy s comes_first
     → (need : ℕ) → 1 ≤ need
     → (t : Strategy) (cs now : List Content) (set : Carriers) (bins : Option HeldGaps)
     → IsListed t cs set bins → cs ≡ now → AreLaid now

@@ -12,20 +12,21 @@ use Rattle.ea_model.specs.Content.{Content, gap, gaps, gaps_of, largest}
 use Rattle.ea_model.specs.Strategies.{candidate, candidates, candidates_in}
 use Rattle.ea_model.specs.Instance.{changed, content_of, with_content, without_content}
 use Rattle.ea_laws.proofs.Chosen.{gap_none, gap_some}
-use Rattle.ea_goodfit.specs.declared.gaps.Gap.{Gap}
+use Rattle.ea_goodfit.specs.declared.gaps.BinnedGap.{BinnedGap}
 use Rattle.ea_laws.specs.Kept.{number_of, IsRising}
 use Rattle.ea_laws.specs.Kinds.{is_shared}
-use Rattle.ea_instance.specs.Listed.{all_gaps, gap_from, gap_of}
+use Rattle.ea_goodfit.specs.Gaps.{gap_from}
+use Rattle.ea_instance.specs.Listed.{all_gaps, gap_of}
 use Rattle.ea_model.specs.Keyed.{IsBelow}
 use Rattle.ea_model.proofs.Pairs.{pairs_tail}
 use Rattle.ea_model.proofs.Rising.{changed_here, changed_none, changed_past, entered_here, entered_past, item_here, item_past, others, without_here, without_none, without_past}
 
 -- the gap of a carrier with this base, as the bins know it
-abbrev pub at_base : ℕ → model.Gap → Gap
+abbrev pub at_base : ℕ → model.Gap → BinnedGap
 at_base base g = record { address = 512 * base + g.offset; size = g.size }
 
 -- the gaps of one carrier, as the bins know them
-abbrev own_gaps : Content → List Gap
+abbrev own_gaps : Content → List BinnedGap
 own_gaps c = map gap_of (candidates_in c.kind c)
 
 own_and_more : (c : Content) (cs : List Content) → all_gaps (c ∷ cs) ≡ own_gaps c ++ all_gaps cs
@@ -156,7 +157,7 @@ gaps-without n c cs r h = subst
     (without_own n c cs r h)
 
 -- the gaps of a carrier in three parts, and more gaps: the second part comes to the front
-parted : (base : ℕ) (front mid behind : List model.Gap) (more : List Gap)
+parted : (base : ℕ) (front mid behind : List model.Gap) (more : List BinnedGap)
     → IsPermutation (map (at_base base) (front ++ mid ++ behind) ++ more)
     (map (at_base base) mid ++ ((map (at_base base) front ++ map (at_base base) behind) ++ more))
 parted base front mid behind more =
@@ -180,8 +181,8 @@ module _ (f : Content → Content) (item : Content) (base_is : (f item).base ≡
     (gone made front behind : List model.Gap) (before : gaps_of item ≡ front ++ gone ++ behind)
     (after : gaps_of (f item) ≡ front ++ made ++ behind) where
   -- both lists of gaps are the rest and the part that changes
-  abbrev Replaced : List Gap → List Gap → Type 0
-  Replaced old new = (rest : List Gap) × IsPermutation old (map (at_base item.base) gone ++ rest)
+  abbrev Replaced : List BinnedGap → List BinnedGap → Type 0
+  Replaced old new = (rest : List BinnedGap) × IsPermutation old (map (at_base item.base) gone ++ rest)
       × IsPermutation new (map (at_base item.base) made ++ rest)
 
   replaced_here : (x : Content) (xs : List Content) → x ≡ item
@@ -198,7 +199,7 @@ module _ (f : Content → Content) (item : Content) (base_is : (f item).base ≡
       ∙ ap (λ l. l ++ all_gaps xs) (own_shared (f item) (ap is_shared kind_is ∙ shared)
       ∙ ap (λ b. map (at_base b) (gaps_of (f item))) base_is
       ∙ ap (map (at_base item.base)) after) in
-      let rest : List Gap = (map (at_base item.base) front ++ map (at_base item.base) behind)
+      let rest : List BinnedGap = (map (at_base item.base) front ++ map (at_base item.base) behind)
       ++ all_gaps xs in (
         rest,
         subst (λ l. IsPermutation l (map (at_base item.base) gone ++ rest)) (sym old)
@@ -243,7 +244,7 @@ pub gaps-replaced : (f : Content → Content) (n : ℕ) (item : Content) (cs : L
     → ((f item).base ≡ item.base) → ((f item).kind ≡ item.kind) → is_shared item.kind ≡ true
     → (gone made front behind : List model.Gap) → gaps_of item ≡ front ++ gone ++ behind
     → gaps_of (f item) ≡ front ++ made ++ behind
-    → (rest : List Gap) × IsPermutation (all_gaps cs) (map (at_base item.base) gone ++ rest)
+    → (rest : List BinnedGap) × IsPermutation (all_gaps cs) (map (at_base item.base) gone ++ rest)
     × IsPermutation (all_gaps (changed f n cs)) (map (at_base item.base) made ++ rest)
 gaps-replaced f n item cs r there number base kind shared gone made front behind before after =
     replaced_in f item base kind shared gone made front behind before after n cs r there

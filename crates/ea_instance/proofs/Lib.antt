@@ -3,7 +3,6 @@ pub mod Changed
 pub mod Choosing
 pub mod Folding
 pub mod Gaps
-pub mod HeldGaps
 pub mod BinsAfter
 pub mod Keeping
 pub mod Listed

@@ -13,7 +13,7 @@ use Rattle.ea_model.proofs.Rising.{changed_here, changed_past, entered-map, item
 use Rattle.std.specs.List.Sorted.{IsPermutation}
 use Rattle.std.proofs.lemmas.Map.Keys.{IsDistinct-IsPermutation, IsDistinct-from_apart, apart_from_distinct}
 use Rattle.ea_model.specs.declared.settings.Strategy.{Strategy}
-use Rattle.ea_goodfit.specs.declared.gaps.Gap.{Gap}
+use Rattle.ea_goodfit.specs.declared.gaps.BinnedGap.{BinnedGap}
 use Rattle.ea_goodfit.specs.Gaps.{HeldGaps}
 use Rattle.ea_laws.specs.Kept.{number_of, IsRising}
 use Rattle.ea_instance.specs.Binned.{Hold}
@@ -121,10 +121,10 @@ IsListed-left s cs new n set after bins left l is e same gaps = record {
 }
 
 -- gaps at different addresses stay so in another order
-abbrev pub DifferIn : List Gap → Type 0
+abbrev pub DifferIn : List BinnedGap → Type 0
 DifferIn gs = AllPairs (λ g h. g.address ≢ h.address) gs
 
-abbrev same_address : Gap → Gap → Bool
+abbrev same_address : BinnedGap → BinnedGap → Bool
 same_address g h = g.address == h.address
 
 differ_false : (a b : ℕ) → a ≢ b → (a == b) ≡ false
@@ -133,10 +133,10 @@ differ_false a b n = grind arith
 false_differ : (a b : ℕ) → (a == b) ≡ false → a ≢ b
 false_differ a b f = grind arith
 
-turns : (g h : Gap) → same_address g h ≡ same_address h g
+turns : (g h : BinnedGap) → same_address g h ≡ same_address h g
 turns g h = elim (cases_eq g.address h.address) [ inl e ↦ grind arith | inr n ↦ grind arith ]
 
-differ-permuted : (xs ys : List Gap) → IsPermutation xs ys → DifferIn xs → DifferIn ys
+differ-permuted : (xs ys : List BinnedGap) → IsPermutation xs ys → DifferIn xs → DifferIn ys
 differ-permuted xs ys m differ =
     let distinct = IsDistinct-IsPermutation same_address turns xs ys m
     (IsDistinct-from_apart same_address xs
@@ -145,7 +145,7 @@ differ-permuted xs ys m differ =
     (apart_from_distinct same_address ys i j d distinct lt within)
 
 -- the first of gaps at different addresses has an address of its own
-pub first-alone : (all : List Gap) (g : Gap) (rest : List Gap) → DifferIn all
+pub first-alone : (all : List BinnedGap) (g : BinnedGap) (rest : List BinnedGap) → DifferIn all
     → IsPermutation all (g ∷ rest) → All (λ h. h.address ≢ g.address) rest
 first-alone all g rest differ m =
     let pairs = differ-permuted all (g ∷ rest) m differ in

@@ -12,7 +12,7 @@ use Rattle.ea_model.specs.Choice.{better, first}
 use Rattle.ea_model.specs.GoodFit.{bin_of, is_inspected, smaller_low, good_fit}
 use Rattle.ea_model.specs.Strategies.{candidate, candidates, candidates_in}
 use Rattle.ea_model.proofs.First.{both_All, first-All}
-use Rattle.ea_goodfit.specs.declared.gaps.Gap.{Gap}
+use Rattle.ea_goodfit.specs.declared.gaps.BinnedGap.{BinnedGap}
 use Rattle.ea_model.proofs.Pairs.{pairs_head, pairs_tail, pairs_map}
 use Rattle.ea_laws.specs.Kept.{IsLaidOut, ContentsApart}
 use Rattle.ea_instance.specs.Listed.{all_gaps, gap_of, candidate_at, spans}
@@ -21,7 +21,7 @@ use Rattle.ea_laws.proofs.Candidates.{Inside, IsOutside, gaps_Inside, candidates
 -- no two gaps lie at one address
 pub gaps-distinct : (cs : List Content) → All IsLaidOut cs → AllPairs ContentsApart cs
     → AllPairs (λ g h. g.address ≢ h.address) (all_gaps cs)
-gaps-distinct cs sound apart = pairs_map (λ (g h : Gap). g.address ≢ h.address) gap_of
+gaps-distinct cs sound apart = pairs_map (λ (g h : BinnedGap). g.address ≢ h.address) gap_of
     (candidates cs) (candidates-distinct cs sound apart)
 
 spans_inside : (address : ℕ) (c : Content) → 512 * c.base ≤ address

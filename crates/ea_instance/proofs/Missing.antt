@@ -13,7 +13,7 @@ use Rattle.ea_model.specs.GoodFit.{good_fit, is_inspected}
 use Rattle.ea_model.specs.Strategies.{candidates, choice_among, large_enough, inspected_by, lower, only, takes_first}
 use Rattle.ea_model.proofs.First.{first-All, large-here, large-past}
 use Rattle.ea_model.proofs.Options.{some_holds}
-use Rattle.ea_goodfit.specs.declared.gaps.Gap.{Gap}
+use Rattle.ea_goodfit.specs.declared.gaps.BinnedGap.{BinnedGap}
 use Rattle.ea_laws.specs.Kept.{number_of, ContentsApart, IsLaidOut}
 use Rattle.ea_instance.specs.Listed.{all_gaps, candidate_at}
 use Rattle.ea_laws.proofs.Candidates.{IsLarge, large_among, candidate-IsOwned, large-all}
@@ -23,7 +23,7 @@ use Rattle.ea_instance.specs.declared.choice.Choice.{Choice}
 use Rattle.ea_instance.proofs.Located.{good_fit-at}
 
 -- the gap that the bins give, in its carrier, is the choice of good fit
-pub gf-choice : (depth need : ℕ) (cs now : List Content) (o : Option Gap) → cs ≡ now
+pub gf-choice : (depth need : ℕ) (cs now : List Content) (o : Option BinnedGap) → cs ≡ now
     → All IsLaidOut cs → AllPairs ContentsApart cs
     → o ≡ good_fit (λ g. g.address) (λ g. g.size) depth need (all_gaps cs)
     → option_and_then (λ g. candidate_at g cs) o ≡ choice_among Gf depth need now

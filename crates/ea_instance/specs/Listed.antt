@@ -10,9 +10,9 @@ use Rattle.ea_model.specs.Content.{Content, gaps_of, largest}
 use Rattle.ea_model.specs.Choice.{choice}
 use Rattle.ea_model.specs.Strategies.{candidate, candidates}
 use Rattle.ea_model.specs.Instance.{content_of}
-use Rattle.ea_cset.specs.declared.keys.Held.{Held}
+use Rattle.ea_cset.specs.declared.keys.CarrierFit.{CarrierFit}
 use Rattle.ea_cset.specs.Carriers.{Carriers}
-use Rattle.ea_goodfit.specs.declared.gaps.Gap.{Gap}
+use Rattle.ea_goodfit.specs.declared.gaps.BinnedGap.{BinnedGap}
 use Rattle.ea_goodfit.specs.Gaps.{HeldGaps}
 use Rattle.ea_model.specs.declared.units.TheConstants.{NUMBERS}
 use Rattle.ea_instance.specs.Binned.{Hold}
@@ -23,45 +23,18 @@ pub record CarrierList : Type 0 where
   pub contents : List Content
 
 -- what the set knows of a carrier: what tells it from the others, and its largest gap
-abbrev pub held_of : Content → Held
+abbrev pub held_of : Content → CarrierFit
 held_of c = record {
   key = record { number = c.number; base = c.base; birth = c.birth };
   fit = largest (gaps_of c);
 }
 
 -- what the bins know of a gap
-abbrev pub gap_of : Candidate → Gap
+abbrev pub gap_of : Candidate → BinnedGap
 gap_of x = record { address = x.address; size = x.size }
 
-abbrev pub all_gaps : List Content → List Gap
+abbrev pub all_gaps : List Content → List BinnedGap
 all_gaps cs = map gap_of (candidates cs)
-
--- a gap as a list of at most one: a gap of no units is none
-abbrev pub some_gap : Gap → List Gap
-some_gap g = if nat_lt 0 g.size then g ∷ [] else []
-
-abbrev pub gap_from : ℕ → ℕ → List Gap
-gap_from address size = some_gap (record { address = address; size = size })
-
--- a gap of `whole` units at the address is held, and no other gap begins where a block of `size`
--- units at its front ends
-pub record CanCut (held : List Gap) (address whole size : ℕ) : Type 0 where
-  pub some : 0 < whole
-  pub within : size ≤ whole
-  pub fits : address + whole < 2 ^ 32
-  pub rest : List Gap
-  pub order : IsPermutation held (gap_from address whole ++ rest)
-  pub free : size < whole → All (λ g. g.address ≢ address + size) rest
-
--- the gaps beside a block of `size` units at the address are held, and no other gap begins where
--- the one before it does
-pub record CanJoin (held : List Gap) (address before size behind : ℕ) : Type 0 where
-  pub within : before ≤ address
-  pub fits : address + size + behind < 2 ^ 32
-  pub rest : List Gap
-  pub order : IsPermutation held
-      (gap_from (address - before) before ++ (gap_from (address + size) behind ++ rest))
-  pub free : All (λ g. g.address ≢ address - before) rest
 
 -- the set holds the carriers and has room for all numbers, and there are bins exactly under good
 -- fit, which hold all gaps
@@ -85,7 +58,7 @@ abbrev pub spans : ℕ → Content → Bool
 spans address c = nat_le (512 * c.base) address && nat_lt address (512 * c.base + c.units)
 
 -- the gap as one of the carrier
-abbrev pub located : Gap → Content → Candidate
+abbrev pub located : BinnedGap → Content → Candidate
 located g c = record {
   number = c.number;
   base = c.base;
@@ -96,6 +69,6 @@ located g c = record {
 }
 
 -- the gap as one of the first carrier that spans it
-abbrev pub candidate_at : Gap → List Content → Option Candidate
+abbrev pub candidate_at : BinnedGap → List Content → Option Candidate
 candidate_at g [] = None
 candidate_at g (c ∷ cs) = if spans g.address c then Some (located g c) else candidate_at g cs

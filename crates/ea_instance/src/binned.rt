@@ -2,12 +2,12 @@
 //! is none.
 ghost use Rattle.std.specs.Prelude.{◌≡◌, ◌≢◌, ◌+◌, ◌-◌, ◌^◌, ◌<◌, ◌≤◌, ◌++◌, ◌↔◌, [], List, All, IsSome, IfSome, OnOk, is_some};
 ghost use Rattle.std.specs.List.Sorted.{IsPermutation};
-ghost use Rattle.ea_goodfit.specs.declared.gaps.Gap as gaps;
+ghost use Rattle.ea_goodfit.specs.declared.gaps.BinnedGap as gaps;
 ghost use Rattle.ea_model.specs.declared.settings.Strategy.TheVariants.{Gf};
-ghost use Rattle.ea_instance.specs.Listed.{some_gap, gap_from, CanCut, CanJoin};
+ghost use Rattle.ea_goodfit.specs.Gaps.{some_gap, gap_from, CanCut, CanJoin};
 ghost use Rattle.ea_instance.specs.Binned.{Hold, HaveRoom};
 
-use ea_goodfit::{Bins, Gap};
+use ea_goodfit::{BinnedGap, Bins};
 use ea_mbc::Freed;
 use ea_model::{OutOfMemory, Strategy};
 use std::alloc::Global;
@@ -27,7 +27,7 @@ pub fn bins_for(alloc: Global, strategy: Strategy) -> Option<Bins>
 /// Makes room for one more gap.
 pub fn make_room(bins: &mut Option<Bins>) -> Result<(), OutOfMemory>
     ensures some { is_some bins.new ≡ is_some bins.old }
-    ensures held { (gs : List gaps.Gap) → Hold bins.old gs → Hold bins.new gs }
+    ensures held { (gs : List gaps.BinnedGap) → Hold bins.old gs → Hold bins.new gs }
     ensures room { OnOk result (HaveRoom bins.new) }
 {
     match bins {
@@ -40,11 +40,11 @@ pub fn make_room(bins: &mut Option<Bins>) -> Result<(), OutOfMemory>
 pub fn note_placed(bins: &mut Option<Bins>, address: u32, whole: u32, size: u32)
     requires { IfSome bins.old (λ b. CanCut b.held address whole size) }
     ensures some { is_some bins.new ≡ is_some bins.old }
-    ensures cut { (rest : List gaps.Gap) → Hold bins.old (gap_from address whole ++ rest)
+    ensures cut { (rest : List gaps.BinnedGap) → Hold bins.old (gap_from address whole ++ rest)
         → Hold bins.new (gap_from (address + size) (whole - size) ++ rest) }
 {
     if let Some(bins) = bins {
-        cut(bins, address, whole, size);
+        bins.cut(address, whole, size);
     }
 }
 
@@ -54,117 +54,40 @@ pub fn note_released(bins: &mut Option<Bins>, address: u32, freed: Freed)
     requires held { IfSome bins.old
         (λ b. CanJoin b.held address freed.before freed.size freed.after) }
     ensures some { is_some bins.new ≡ is_some bins.old }
-    ensures joined { (rest : List gaps.Gap)
+    ensures joined { (rest : List gaps.BinnedGap)
         → Hold bins.old (gap_from (address - freed.before) freed.before
         ++ (gap_from (address + freed.size) freed.after ++ rest))
         → Hold bins.new (gap_from (address - freed.before)
         (freed.before + freed.size + freed.after) ++ rest) }
 {
     if let Some(bins) = bins {
-        join(bins, address, freed.before, freed.size, freed.after);
+        bins.join(address, freed.before, freed.size, freed.after);
     }
 }
 
 /// Notes the one gap of a carrier that has no blocks and is entered.
-pub fn note_entered(bins: &mut Option<Bins>, gap: Gap)
+pub fn note_entered(bins: &mut Option<Bins>, gap: BinnedGap)
     requires room { HaveRoom bins.old }
     requires address { 0 < gap.size
         → IfSome bins.old (λ b. All (λ g. g.address ≢ gap.address) b.held) }
     ensures some { is_some bins.new ≡ is_some bins.old }
-    ensures entered { (held : List gaps.Gap) → Hold bins.old held
+    ensures entered { (held : List gaps.BinnedGap) → Hold bins.old held
         → Hold bins.new (some_gap gap ++ held) }
 {
     if let Some(bins) = bins {
-        put_in(bins, gap);
+        bins.put(gap);
     }
 }
 
 /// Notes that a carrier without blocks is gone, and its one gap with it.
-pub fn note_left(bins: &mut Option<Bins>, gap: Gap)
+pub fn note_left(bins: &mut Option<Bins>, gap: BinnedGap)
     requires { IfSome bins.old
-        (λ b. (rest : List gaps.Gap) × IsPermutation b.held (some_gap gap ++ rest)) }
+        (λ b. (rest : List gaps.BinnedGap) × IsPermutation b.held (some_gap gap ++ rest)) }
     ensures some { is_some bins.new ≡ is_some bins.old }
-    ensures left { (rest : List gaps.Gap) → Hold bins.old (some_gap gap ++ rest)
+    ensures left { (rest : List gaps.BinnedGap) → Hold bins.old (some_gap gap ++ rest)
         → Hold bins.new rest }
 {
     if let Some(bins) = bins {
-        take_out(bins, gap);
+        bins.take(gap);
     }
-}
-/// Takes a gap out of the bins.
-fn take_out(bins: &mut Bins, gap: Gap)
-    requires held { (rest : List gaps.Gap) × IsPermutation bins.old.held (some_gap gap ++ rest) }
-    ensures left { (rest : List gaps.Gap) → IsPermutation bins.old.held (some_gap gap ++ rest)
-        → IsPermutation bins.new.held rest }
-    ensures room { bins.old.room ≤ bins.new.room }
-    ensures freed { 0 < gap.size → bins.old.room < bins.new.room }
-{
-    if gap.size > 0 {
-        bins.remove(gap);
-    }
-}
-
-/// Puts a gap into the bins.
-fn put_in(bins: &mut Bins, gap: Gap)
-    requires room { 0 < bins.old.room }
-    requires address { 0 < gap.size → All (λ g. g.address ≢ gap.address) bins.old.held }
-    ensures { IsPermutation bins.new.held (some_gap gap ++ bins.old.held) }
-{
-    if gap.size > 0 {
-        bins.insert(gap);
-    }
-}
-
-/// Notes that a block of `size` units stands at the front of a gap of `whole` units.
-fn cut(bins: &mut Bins, address: u32, whole: u32, size: u32)
-    requires { CanCut bins.old.held address whole size }
-    ensures { (rest : List gaps.Gap) → IsPermutation bins.old.held (gap_from address whole ++ rest)
-        → IsPermutation bins.new.held (gap_from (address + size) (whole - size) ++ rest) }
-{
-    take_out(
-        bins,
-        Gap {
-            address,
-            size: whole,
-        },
-    );
-    put_in(
-        bins,
-        Gap {
-            address: address + size,
-            size: whole - size,
-        },
-    );
-}
-
-/// Notes that a block of `size` units is free, between gaps of `before` and `behind` units.
-fn join(bins: &mut Bins, address: u32, before: u32, size: u32, behind: u32)
-    requires room { 0 < bins.old.room }
-    requires held { CanJoin bins.old.held address before size behind }
-    ensures { (rest : List gaps.Gap)
-        → IsPermutation bins.old.held
-        (gap_from (address - before) before ++ (gap_from (address + size) behind ++ rest))
-        → IsPermutation bins.new.held (gap_from (address - before) (before + size + behind) ++ rest) }
-{
-    take_out(
-        bins,
-        Gap {
-            address: address - before,
-            size: before,
-        },
-    );
-    take_out(
-        bins,
-        Gap {
-            address: address + size,
-            size: behind,
-        },
-    );
-    put_in(
-        bins,
-        Gap {
-            address: address - before,
-            size: before + size + behind,
-        },
-    );
 }

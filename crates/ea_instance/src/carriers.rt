@@ -23,7 +23,7 @@ use crate::released::Released;
 use crate::strategies::{Search, inner_of, search_of};
 use crate::walks::{best_choice, choice_at, lowest_empty};
 use ea_cset::CarrierSet;
-use ea_goodfit::{Bins, Gap};
+use ea_goodfit::{BinnedGap, Bins};
 use ea_model::keyed::{enter, index_of, take_out};
 use ea_model::{HEADER_UNITS, Inner, NUMBERS, OutOfMemory, Strategy};
 use std::alloc::Global;
@@ -206,7 +206,7 @@ impl Carriers {
         let address = employed.address(HEADER_UNITS);
         enter(employed, &mut self.list)?;
         self.set.add(key, size);
-        note_entered(&mut self.bins, Gap { address, size });
+        note_entered(&mut self.bins, BinnedGap { address, size });
         Ok(())
     }
 
@@ -225,7 +225,7 @@ impl Carriers {
         let employed = take_out(number, &mut self.list);
         let address = employed.address(HEADER_UNITS);
         let size = employed.carrier.largest();
-        note_left(&mut self.bins, Gap { address, size });
+        note_left(&mut self.bins, BinnedGap { address, size });
         employed
     }
 }

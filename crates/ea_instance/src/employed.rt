@@ -10,7 +10,7 @@ ghost use Rattle.ea_instance.specs.Listed.{chosen_in, held_of, located, spans};
 
 use crate::choice::Choice;
 use ea_cset::CarrierKey;
-use ea_goodfit::Gap as BinnedGap;
+use ea_goodfit::BinnedGap;
 use ea_mbc::Mbc;
 use ea_model::keyed::Keyed;
 use ea_model::{Candidate, CarrierLine, Inner, Kind, PAGE_UNITS, Standing};

@@ -11,7 +11,7 @@ ghost use Rattle.ea_instance.specs.Searches.{is_better};
 use crate::choice::Choice;
 use crate::employed::Employed;
 use crate::strategies::better_of;
-use ea_goodfit::Gap as BinnedGap;
+use ea_goodfit::BinnedGap;
 use ea_model::keyed::item_of;
 use ea_model::{Inner, Kind, NUMBERS};
 

@@ -1,24 +1,38 @@
 -- Lists of bytes that were cut.
-use Rattle.std.proofs.Common.{◌≡◌, ℕ, ◌+◌, ◌-◌, ◌<◌, List, ◌++◌, length, take, drop, get_or, sym, ap, ◌∙◌, take-append-drop, append_assoc, Bor}
+use Rattle.std.proofs.Common.{◌≡◌, ℕ, ◌+◌, ◌-◌, ◌<◌, List, ◌++◌, length, take, drop, get_or, Bor}
+use Rattle.std.proofs.Common.{sym, ap, ◌∙◌, take-append-drop, append_assoc}
 use Rattle.std.proofs.lemmas.List.{take_rest, drop_more}
 use Rattle.std.proofs.lemmas.List.Concat.{flat_map-cons}
 use Rattle.std.specs.List.{flat_map}
 
 -- a write took n bytes of the rest
-pub moves_front : (all done rest : List ℕ) (n : ℕ) → all ≡ done ++ rest → all ≡ (done ++ take n rest) ++ take (length rest - n) (drop n rest)
-moves_front all done rest n e = e ∙ ap (λ l. done ++ l) (sym (take-append-drop n rest)) ∙ sym (append_assoc done (take n rest) (drop n rest)) ∙ ap (λ l. (done ++ take n rest) ++ l) (sym (take_rest rest n))
+pub moves_front : (all done rest : List ℕ) (n : ℕ) → all ≡ done ++ rest
+    → all ≡ (done ++ take n rest) ++ take (length rest - n) (drop n rest)
+moves_front all done rest n e =
+    e
+    ∙ ap (λ l. done ++ l) (sym (take-append-drop n rest))
+    ∙ sym (append_assoc done (take n rest) (drop n rest))
+    ∙ ap (λ l. (done ++ take n rest) ++ l) (sym (take_rest rest n))
 
 -- a piece was written
-pub moves_on : (all done tail piece more : List ℕ) → all ≡ done ++ tail → tail ≡ piece ++ more → all ≡ (done ++ piece) ++ more
-moves_on all done tail piece more e f = e ∙ ap (λ l. done ++ l) f ∙ sym (append_assoc done piece more)
+pub moves_on : (all done tail piece more : List ℕ) → all ≡ done ++ tail → tail ≡ piece ++ more
+    → all ≡ (done ++ piece) ++ more
+moves_on all done tail piece more e f =
+    e ∙ ap (λ l. done ++ l) f ∙ sym (append_assoc done piece more)
 
 -- a piece was written in part
-pub broke_off : (all done tail piece more front rest : List ℕ) → all ≡ done ++ tail → tail ≡ piece ++ more → piece ≡ front ++ rest → all ≡ (done ++ front) ++ (rest ++ more)
+pub broke_off : (all done tail piece more front rest : List ℕ) → all ≡ done ++ tail
+    → tail ≡ piece ++ more → piece ≡ front ++ rest → all ≡ (done ++ front) ++ (rest ++ more)
 broke_off all done tail piece more front rest e f g =
-    e ∙ ap (λ l. done ++ l) (f ∙ ap (λ l. l ++ more) g ∙ append_assoc front rest more) ∙ sym (append_assoc done front (rest ++ more))
+    e
+    ∙ ap (λ l. done ++ l) (f ∙ ap (λ l. l ++ more) g ∙ append_assoc front rest more)
+    ∙ sym (append_assoc done front (rest ++ more))
 
 -- the next of several texts
-pub next_text : (texts : List (Bor (List ℕ))) (i : ℕ) (d : Bor (List ℕ)) (piece : List ℕ) → i < length texts → piece ≡ (get_or texts i d).now
+pub next_text : (texts : List (Bor (List ℕ))) (i : ℕ) (d : Bor (List ℕ)) (piece : List ℕ)
+    → i < length texts → piece ≡ (get_or texts i d).now
     → flat_map (λ t. t.now) (drop i texts) ≡ piece ++ flat_map (λ t. t.now) (drop (i + 1) texts)
 next_text texts i d piece h e =
-    ap (flat_map (λ t. t.now)) (drop_more texts i d h) ∙ flat_map-cons (λ t. t.now) (get_or texts i d) (drop (i + 1) texts) ∙ ap (λ l. l ++ flat_map (λ t. t.now) (drop (i + 1) texts)) (sym e)
+    ap (flat_map (λ t. t.now)) (drop_more texts i d h)
+    ∙ flat_map-cons (λ t. t.now) (get_or texts i d) (drop (i + 1) texts)
+    ∙ ap (λ l. l ++ flat_map (λ t. t.now) (drop (i + 1) texts)) (sym e)

@@ -9,7 +9,8 @@ pub record Giving : Type 0 where
   pub calls : ℕ
   pub faults : ℕ
 
--- the bytes taken, the room for more, the most bytes that a call takes, the calls that fail, the calls made, the faults
+-- the bytes taken, the room for more, the most bytes that a call takes, the calls that fail, the
+-- calls made, the faults
 pub record Taking : Type 0 where
   pub taken : List ℕ
   pub room : ℕ

@@ -34,8 +34,8 @@ pub trait Sink {
     ghost faults: { Self → ℕ };
 
     /// Takes bytes from the front of `piece` and answers how many: at least one, unless `piece` is
-    /// empty, and at most all. An `Err` comes only where the count of faults goes up by one, and takes
-    /// nothing.
+    /// empty, and at most all. An `Err` comes only where the count of faults goes up by one, and
+    /// takes nothing.
     fn write(&mut self, piece: &[u8]) -> Result<usize, Failed>
         ensures { Writes (taken self.old) (taken self.new) (size self.old) (size self.new)
             (faults self.old) (faults self.new) result piece.now };

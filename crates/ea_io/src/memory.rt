@@ -1,5 +1,6 @@
 //! A source and a sink in memory that work in pieces and fail at chosen calls.
-ghost use Rattle.std.specs.Prelude.{◌≡◌, ◌==◌, ◌+◌, ◌≤◌, ◌<◌, ◌||◌, ◌&&◌, nat_lt, is_err, min, length, Some, None, [], IfOk, OnOk, OnErr};
+ghost use Rattle.std.specs.Prelude.{◌≡◌, ◌==◌, ◌+◌, ◌≤◌, ◌||◌, ◌&&◌, nat_lt, min, length, []};
+ghost use Rattle.std.specs.Prelude.{Some, None, is_err, IfOk, OnErr};
 ghost use Rattle.std.specs.List.{list_any};
 ghost use Rattle.ea_io.specs.Calls.{Reads, Writes};
 ghost use Rattle.ea_io.specs.Counts.{next_count};
@@ -10,9 +11,9 @@ use ea_model::{List, OutOfMemory};
 use std::alloc::Global;
 use std::marker::Model;
 
-/// A source of given bytes, which come in pieces. Calls that its maker chose fail. Contracts see the
-/// bytes left, the most bytes that a call gives, the numbers of the calls that fail, how many calls
-/// were made and how many of them failed.
+/// A source of given bytes, which come in pieces. Calls that its maker chose fail. Contracts see
+/// the bytes left, the most bytes that a call gives, the numbers of the calls that fail, how many
+/// calls were made and how many of them failed.
 #[derive(Drop)]
 pub struct MemSource {
     bytes: List<u8>,
@@ -41,9 +42,9 @@ impl Model for MemSource {
 }
 
 impl MemSource {
-    /// A source of these bytes. The calls numbered in `failing`, from 1, fail and give nothing; each
-    /// other call gives the least of `piece`, the buffer's length and the number of bytes left.
-    /// It takes no memory.
+    /// A source of these bytes. The calls numbered in `failing`, from 1, fail and give nothing;
+    /// each other call gives the least of `piece`, the buffer's length and the number of bytes
+    /// left. It takes no memory.
     pub fn new(bytes: List<u8>, piece: usize, failing: List<u32>) -> MemSource
         requires { 1 ≤ piece }
         ensures made { result ≡ record {
@@ -96,8 +97,8 @@ impl Source for MemSource {
 
 /// A sink that keeps the bytes that it takes, in pieces, up to a given number of bytes. Calls that
 /// its maker chose fail. Contracts see the bytes taken, for how many more there is room, the most
-/// bytes that a call takes, the numbers of the calls that fail, how many calls were made and how many
-/// of them failed.
+/// bytes that a call takes, the numbers of the calls that fail, how many calls were made and how
+/// many of them failed.
 #[derive(Drop)]
 pub struct MemSink {
     taken: Vec<u8>,

@@ -1,5 +1,5 @@
 //! A source and a sink that never fail.
-ghost use Rattle.std.specs.Prelude.{◌≡◌, ◌+◌, ◌<◌, min, length, Ok, Some, None, IfOk};
+ghost use Rattle.std.specs.Prelude.{◌≡◌, ◌+◌, min, length, Ok, Some, None};
 ghost use Rattle.ea_io.specs.Calls.{Reads, Writes};
 ghost use Rattle.ea_io.specs.Counts.{last_count};
 
@@ -8,8 +8,8 @@ use crate::pieces::copy_front;
 use ea_model::List;
 use std::marker::Model;
 
-/// A source of given bytes that gives at each call all that there is room for. It never fails, and its
-/// count of faults is 0. Contracts see it as the bytes that are left.
+/// A source of given bytes that gives at each call all that there is room for. It never fails, and
+/// its count of faults is 0. Contracts see it as the bytes that are left.
 #[derive(Drop)]
 pub struct PlainSource {
     bytes: List<u8>,

@@ -1,12 +1,12 @@
 //! Reading a source to its end.
-ghost use Rattle.std.specs.Prelude.{◌≡◌, ℕ, ◌+◌, ◌^◌, ◌<◌, ◌≤◌, IfOk, OnOk, IfSome, IsErrOf, length};
+ghost use Rattle.std.specs.Prelude.{◌≡◌, ◌+◌, ◌^◌, ◌<◌, ◌≤◌, IfOk, OnOk, IfSome, IsErrOf, length};
 ghost use Rattle.std.specs.Io.KnownBytes.{IsAtEnd};
 ghost use Rattle.ea_io.specs.Calls.{StopsAtFault};
 ghost use Rattle.ea_io.specs.Counts.{Rose};
 ghost use Rattle.ea_io.specs.Fronts.{ConsumesAtMost, ConsumesMany};
-ghost use Rattle.ea_io.specs.declared.reading.ReadAllFault.TheVariants.{ReadFault, OutOfMemory};
+ghost use Rattle.ea_io.specs.declared.reading.ReadAllFault.TheVariants.{OutOfMemory};
 
-use crate::ends::{Failed, Source};
+use crate::ends::Source;
 use ea_model::List;
 use std::alloc::{AllocError, Global};
 use thiserror::Error;
@@ -25,14 +25,6 @@ pub enum ReadAllFault {
     OutOfMemory,
 }
 
-impl From<Failed> for ReadAllFault {
-    ghost from_gives = { λ _ fault. fault ≡ ReadFault };
-
-    fn from(_: Failed) -> ReadAllFault {
-        ReadAllFault::ReadFault
-    }
-}
-
 impl From<AllocError> for ReadAllFault {
     ghost from_gives = { λ _ fault. fault ≡ OutOfMemory };
 
@@ -46,7 +38,8 @@ impl From<AllocError> for ReadAllFault {
 const PIECE: usize = 4096;
 
 /// All bytes of the source to its end, where there are at most `max`. `TooLong` comes exactly where
-/// the source gave `max + 1` bytes. What was read before a refusal is taken from the source.
+/// the source gave `max + 1` bytes. What was read before a refusal is taken from the source; after
+/// a read that failed nothing more is read.
 pub fn read_all<S: Source>(
     alloc: Global,
     source: &mut S,
@@ -77,7 +70,9 @@ pub fn read_all<S: Source>(
     let mut buffer = [0; PIECE];
     while bytes.len() <= max {
         let want = PIECE.min(max + 1 - bytes.len());
-        let count = source.read(&mut buffer[..want])?;
+        let Ok(count) = source.read(&mut buffer[..want]) else {
+            return Err(ReadAllFault::ReadFault);
+        };
         if count == 0 {
             return Ok(List::from_vec(bytes));
         }

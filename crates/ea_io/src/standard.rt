@@ -1,9 +1,9 @@
-//! The trusted edge: readers and writers of std as a source and a sink. What a real file, terminal or
-//! pipe gives and takes is not proved.
-ghost use Rattle.std.specs.Prelude.{◌≡◌, ◌≤◌, ◌<◌, None, IfOk, OnOk, OnErr, take, length};
+//! The trusted edge: readers and writers of std as a source and a sink. What a real file, terminal
+//! or pipe gives and takes is not proved.
+ghost use Rattle.std.specs.Prelude.{◌≡◌, ◌≤◌, None, IfOk, take};
 ghost use Rattle.std.specs.Io.{WritesAtMost};
 ghost use Rattle.std.specs.Io.KnownBytes.{Appends};
-ghost use Rattle.ea_io.specs.Calls.{Reads, Writes};
+ghost use Rattle.ea_io.specs.Calls.{Writes};
 ghost use Rattle.ea_io.specs.Counts.{next_count};
 ghost use Rattle.ea_io.specs.Fronts.{AppendsFront};
 ghost use Rattle.ea_io.specs.Standard.{reader_of, read_faults, writer_of, write_faults};
@@ -53,9 +53,9 @@ impl<R: Read> Source for StdSource<R> {
     }
 }
 
-/// A writer as a sink, flushed after each write. Each `Err` of a write or a flush, and each write that
-/// takes nothing of a nonempty piece, raises its count of faults, which stays at 2^64-1 once it is
-/// there. It tells nothing of the bytes: after a failed flush nobody knows how many arrived.
+/// A writer as a sink, flushed after each write. Each `Err` of a write or a flush, and each write
+/// that takes nothing of a nonempty piece, raises its count of faults, which stays at 2^64-1 once
+/// it is there. It tells nothing of the bytes: after a failed flush nobody knows how many arrived.
 #[derive(Drop)]
 pub struct StdSink<W> {
     writer: W,

@@ -8,8 +8,9 @@ ghost use Rattle.ea_io.specs.Fronts.{AppendsFront};
 
 use crate::ends::{Failed, Sink};
 
-/// Writes all these bytes; each write offers all that are left. An `Err` comes only where the sink's
-/// count of faults rose; it took a front of the bytes then. It takes no memory.
+/// Writes all these bytes; each write offers all that are left. An `Err` comes only where the
+/// sink's count of faults rose; it took a front of the bytes then, and nothing more is written. It
+/// takes no memory.
 pub fn write_all<O: Sink>(sink: &mut O, bytes: &[u8]) -> Result<(), Failed>
     ensures whole { OnOk result (Appends (O.taken sink.old) (O.taken sink.new) bytes.now) }
     ensures counted { OnOk result (Grows (O.size sink.old) (O.size sink.new) (length bytes.now)) }
@@ -27,8 +28,8 @@ pub fn write_all<O: Sink>(sink: &mut O, bytes: &[u8]) -> Result<(), Failed>
     Ok(())
 }
 
-/// Writes these texts, one after the other. After a fault nothing more is written, and the sink took
-/// a front of the joined texts. It takes no memory.
+/// Writes these texts, one after the other. After a fault nothing more is written, and the sink
+/// took a front of the joined texts. It takes no memory.
 pub fn write_texts<O: Sink>(sink: &mut O, texts: &[&str]) -> Result<(), Failed>
     ensures whole { OnOk result (Appends (O.taken sink.old) (O.taken sink.new)
         (flat_map (λ t. t.now) texts.now)) }

@@ -9,8 +9,6 @@ use std::marker::Model;
 pub struct OutOfMemory;
 
 impl From<AllocError> for OutOfMemory {
-    ghost from_gives = { λ _ e. e ≡ record {} };
-
     fn from(_: AllocError) -> OutOfMemory {
         OutOfMemory
     }

@@ -29,7 +29,7 @@ fn standing_word(word: Standing) -> &'static str
 }
 
 /// Adds the line of a carrier.
-fn put_carrier(text: &mut List<u8>, carrier: CarrierLine) -> Result<(), OutOfMemory>
+pub fn put_carrier(text: &mut List<u8>, carrier: CarrierLine) -> Result<(), OutOfMemory>
     ensures { OnOk result (text.new.items ≡ text.old.items ++ carrier_text carrier) }
 {
     let words = [

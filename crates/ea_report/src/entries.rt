@@ -139,7 +139,7 @@ fn put_info(text: &mut List<u8>, mbcs: Report, sbcs: Report) -> Result<(), OutOf
 }
 
 /// Adds the line of an entry; the allocator information has two.
-fn put_entry(text: &mut List<u8>, entry: Entry) -> Result<(), OutOfMemory>
+pub fn put_entry(text: &mut List<u8>, entry: Entry) -> Result<(), OutOfMemory>
     ensures { OnOk result (text.new.items ≡ text.old.items ++ entry_text entry) }
 {
     match entry {

@@ -1,5 +1,6 @@
 //! The line of each kind of entry, and the words of carriers.
-use super::{put_carrier, put_entry};
+use crate::carriers::put_carrier;
+use crate::entries::put_entry;
 use ea_model::{CarrierLine, Entry, Kind, List, NoCarrier, Place, Report, Standing, Triple};
 use std::test::Fail;
 

@@ -24,12 +24,17 @@ module _ {Z : Type 0} where
   abbrev pub output_of : List (String Z) → List ℕ → List ℕ
   output_of words input = unwrap_or (output_for (spelled words) input) []
 
-  -- there is a good input, which is the source's own where it tells its bytes, and its whole output was taken
-  abbrev pub WroteText : List (String Z) → Option (List ℕ) → Option (List ℕ) → Option (List ℕ) → Type 0
+  -- there is a good input, which is the source's own where it tells its bytes, and its whole output
+  -- was taken
+  abbrev pub WroteText : List (String Z) → Option (List ℕ) → Option (List ℕ) → Option (List ℕ)
+      → Type 0
   WroteText words left before after =
-      (input : List ℕ) × IfSome left (λ known. input ≡ known) × GoodInput words input × Appends before after (output_of words input)
+      (input : List ℕ) × IfSome left (λ known. input ≡ known) × GoodInput words input
+      × Appends before after (output_of words input)
 
   -- or a front of it
-  abbrev pub WroteFront : List (String Z) → Option (List ℕ) → Option (List ℕ) → Option (List ℕ) → Type 0
+  abbrev pub WroteFront : List (String Z) → Option (List ℕ) → Option (List ℕ) → Option (List ℕ)
+      → Type 0
   WroteFront words left before after =
-      (input : List ℕ) × IfSome left (λ known. input ≡ known) × GoodInput words input × AppendsFront before after (output_of words input)
+      (input : List ℕ) × IfSome left (λ known. input ≡ known) × GoodInput words input
+      × AppendsFront before after (output_of words input)

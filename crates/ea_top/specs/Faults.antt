@@ -45,6 +45,8 @@ line_with text = codes "erts_alloc_run: " ++ text ++ codes "\n"
 abbrev pub fault_line : Fault → List ℕ
 fault_line fault = line_with (fault_text fault)
 
--- what was taken before is followed by a front of the fault's line, and by all of it where all was calm
+-- what was taken before is followed by a front of the fault's line, and by all of it where all was
+-- calm
 abbrev pub Complains : Option (List ℕ) → Option (List ℕ) → Type 0 → Fault → Type 0
-Complains before after calm fault = AppendsFront before after (fault_line fault) × (calm → Appends before after (fault_line fault))
+Complains before after calm fault = AppendsFront before after (fault_line fault)
+    × (calm → Appends before after (fault_line fault))

@@ -21,7 +21,14 @@ setting_of (Placement strategy) = flag.Placement strategy
 setting_of NoMigration = flag.NoMigration
 
 abbrev pub chosen_of : chosen.Chosen → Chosen
-chosen_of c = record { super_carrier = c.super_carrier; main_carrier = c.main_carrier; largest_carrier = c.largest_carrier; search_depth = c.search_depth; strategy = c.strategy; off = c.off }
+chosen_of c = record {
+  super_carrier = c.super_carrier;
+  main_carrier = c.main_carrier;
+  largest_carrier = c.largest_carrier;
+  search_depth = c.search_depth;
+  strategy = c.strategy;
+  off = c.off;
+}
 
 abbrev pub refusal_of : refusal.Refusal → Refusal
 refusal_of (Unsupported word) = flag.Unsupported word
@@ -46,7 +53,8 @@ abbrev pub Reads : Result Config refusal.Refusal → Result Config Refusal → T
 Reads (Ok c) read = read ≡ Ok c
 Reads (Err e) read = read ≡ Err (refusal_of e)
 
--- what is built: one scheduler, whose allocator H keeps its carriers, and a main carrier that fits the region
+-- what is built: one scheduler, whose allocator H keeps its carriers, and a main carrier that fits
+-- the region
 pub record IsBuilt (c : Config) : Type 0 where
   pub schedulers : c.schedulers ≡ 1
   pub smallest : 1 ≤ c.scs

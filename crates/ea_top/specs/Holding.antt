@@ -12,7 +12,8 @@ name_in contents spot = option_map (λ b. b.name) (block_in contents spot)
 
 -- where a name has a spot, its block begins there
 abbrev pub HoldsBlocks : List Content → List (Option Spot) → Type 0
-HoldsBlocks contents spots = (name : ℕ) (spot : Spot) → get_or spots name None ≡ Some spot → name_in contents spot ≡ Some name
+HoldsBlocks contents spots = (name : ℕ) (spot : Spot) → get_or spots name None ≡ Some spot
+    → name_in contents spot ≡ Some name
 
 -- the spot of a place
 abbrev pub spot_at : Place → Spot
@@ -20,4 +21,5 @@ spot_at p = record { carrier = p.carrier; offset = p.offset }
 
 -- a block got its place at the chosen spot of the instance
 abbrev pub IsChosenPlace : Instance → Instance → ℕ → ℕ → Place → Type 0
-IsChosenPlace old new need name p = (spot : Spot) × (chosen_spot old need ≡ Some spot) × (p ≡ place_at old spot need) × (new ≡ placing_at old spot need name)
+IsChosenPlace old new need name p = (spot : Spot) × (chosen_spot old need ≡ Some spot)
+    × (p ≡ place_at old spot need) × (new ≡ placing_at old spot need name)

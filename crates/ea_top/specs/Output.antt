@@ -13,12 +13,14 @@ run_text r = text r.log (map carrier_line r.instance.contents) (totals r.instanc
 
 -- the output for an input under a configuration; none where it is no trace
 abbrev pub output : Config → List ℕ → Option (List ℕ)
-output c input = option_and_then (λ ops. option_map run_text (run (instance_of c) ops)) (trace_of input)
+output c input = option_and_then (λ ops. option_map run_text (run (instance_of c) ops))
+    (trace_of input)
 
 abbrev pub output_under : Result Config Refusal → List ℕ → Option (List ℕ)
 output_under (Ok c) input = output c input
 output_under (Err e) input = None
 
--- the output for an input under the configuration that the words ask for; none where they are refused
+-- the output for an input under the configuration that the words ask for; none where they are
+-- refused
 abbrev pub output_for : List (List ℕ) → List ℕ → Option (List ℕ)
 output_for words input = output_under (flags words) input

@@ -11,11 +11,11 @@ use Rattle.ea_top.specs.declared.reader.TraceFault.TheVariants.{NotBuilt, OutOfM
 use Rattle.ea_top.specs.Says.{stage_of}
 
 -- the lines that were taken, newest first
-abbrev pub Lines : Type 0
-Lines = List Line
+abbrev pub Taken : Type 0
+Taken = List Line
 
 -- what is known of them
-pub record Knows (earlier : Lines) (s : Seen) : Type 0 where
+pub record Knows (earlier : Taken) (s : Seen) : Type 0 where
   pub stage : stage_of s.stage ≡ stage_after earlier
   pub names : (n : ℕ) → n ≤ MAX_NAME → get_or s.made.items n false ≡ is_made n earlier
   pub ops : s.ops.items ≡ operations earlier

@@ -9,15 +9,15 @@ use Rattle.ea_top.specs.declared.stages.Stage as stages
 use Rattle.ea_top.specs.declared.stages.Stage.TheVariants.{Start, Typed, Section, Turns, Ended}
 
 -- what a line says
-abbrev pub said : code.Line → Line
-said Skipped = line.Skipped
-said Letter = line.Letter
-said Scheduler = line.Scheduler
-said (Alloc name bytes) = line.Alloc name bytes
-said (Free name) = line.Free name
-said Schedule = line.Schedule
-said End = line.End
-said Unreadable = line.Unreadable
+abbrev pub meaning_of : code.Line → Line
+meaning_of Skipped = line.Skipped
+meaning_of Letter = line.Letter
+meaning_of Scheduler = line.Scheduler
+meaning_of (Alloc name bytes) = line.Alloc name bytes
+meaning_of (Free name) = line.Free name
+meaning_of Schedule = line.Schedule
+meaning_of End = line.End
+meaning_of Unreadable = line.Unreadable
 
 abbrev pub stage_of : stages.Stage → Stage
 stage_of Start = part.Start
@@ -28,4 +28,4 @@ stage_of Ended = part.Ended
 
 -- the name and the request of a line are in their ranges
 abbrev pub IsNamed : code.Line → Type 0
-IsNamed l = IsLineInRange (said l)
+IsNamed l = IsLineInRange (meaning_of l)

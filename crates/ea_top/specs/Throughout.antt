@@ -8,6 +8,8 @@ use Rattle.ea_model.specs.Instance.{instance_of}
 use Rattle.ea_laws.specs.Run.{Run, run}
 use Rattle.ea_top.specs.Answers.{spelled}
 
--- under these words it holds after any operations that are built, so after each front of any list of them
+-- under these words it holds after any operations that are built, so after each front of any list
+-- of them
 abbrev pub Throughout : {Z : Type 0} → (List Op → Run → Type 0) → List (String Z) → Type 0
-Throughout P words = (config : Config) → flags (spelled words) ≡ Ok config → (ops : List Op) (r : Run) → run (instance_of config) ops ≡ Some r → P ops r
+Throughout P words = (config : Config) → flags (spelled words) ≡ Ok config
+    → (ops : List Op) (r : Run) → run (instance_of config) ops ≡ Some r → P ops r

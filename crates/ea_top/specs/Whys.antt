@@ -11,16 +11,23 @@ use Rattle.ea_top.specs.declared.faults.Fault.{Fault}
 use Rattle.ea_top.specs.declared.faults.Fault.TheVariants.{Word, SpaceTooSmall, Input, TooLong, ReadFailed, WriteFailed, OutOfMemory}
 use Rattle.ea_top.specs.Answers.{GoodWords, GoodInput, spelled}
 
--- before and after are what the source had and has left, where it tells it; read and wrote say that the source, and that out, failed
-abbrev pub IsWhy : {Z : Type 0} → List (String Z) → Option (List ℕ) → Option (List ℕ) → Type 0 → Type 0 → Fault → Type 0
+-- before and after are what the source had and has left, where it tells it; read and wrote say that
+-- the source, and that out, failed
+abbrev pub IsWhy : {Z : Type 0} → List (String Z) → Option (List ℕ) → Option (List ℕ) → Type 0
+    → Type 0 → Fault → Type 0
 IsWhy words before after read wrote (Word word) = flags (spelled words) ≡ Err (Unsupported word)
 IsWhy words before after read wrote SpaceTooSmall = flags (spelled words) ≡ Err TooSmall
 IsWhy words before after read wrote Input =
-    GoodWords words × IsAtEnd after × IfSome before (λ input. (length input ≤ MAX_INPUT) × (output_for (spelled words) input ≡ None))
+    GoodWords words × IsAtEnd after
+    × IfSome before (λ input. (length input ≤ MAX_INPUT)
+    × (output_for (spelled words) input ≡ None))
 IsWhy words before after read wrote TooLong =
-    GoodWords words × ConsumesMany before after (MAX_INPUT + 1) × IfSome before (λ input. MAX_INPUT < length input)
-IsWhy words before after read wrote ReadFailed = GoodWords words × ConsumesAtMost before after MAX_INPUT × read
-IsWhy words before after read wrote WriteFailed = GoodWords words × IsAtEnd after × IfSome before (GoodInput words) × wrote
+    GoodWords words × ConsumesMany before after (MAX_INPUT + 1)
+    × IfSome before (λ input. MAX_INPUT < length input)
+IsWhy words before after read wrote ReadFailed = GoodWords words
+    × ConsumesAtMost before after MAX_INPUT × read
+IsWhy words before after read wrote WriteFailed = GoodWords words × IsAtEnd after
+    × IfSome before (GoodInput words) × wrote
 IsWhy words before after read wrote OutOfMemory = GoodWords words
 
 -- what may be said where the input was not read to its end
@@ -28,7 +35,8 @@ abbrev pub IsReadFault : Option (List ℕ) → Option (List ℕ) → Type 0 → 
 IsReadFault before after read (Word word) = ⊥
 IsReadFault before after read SpaceTooSmall = ⊥
 IsReadFault before after read Input = ⊥
-IsReadFault before after read TooLong = ConsumesMany before after (MAX_INPUT + 1) × IfSome before (λ input. MAX_INPUT < length input)
+IsReadFault before after read TooLong = ConsumesMany before after (MAX_INPUT + 1)
+    × IfSome before (λ input. MAX_INPUT < length input)
 IsReadFault before after read ReadFailed = ConsumesAtMost before after MAX_INPUT × read
 IsReadFault before after read WriteFailed = ⊥
 IsReadFault before after read OutOfMemory = Unit {0}

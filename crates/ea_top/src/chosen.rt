@@ -66,7 +66,8 @@ const DEFAULT_SETTINGS: Settings = Settings {
 impl Chosen {
     ghost use Rattle.ea_top.specs.Flags.{setting_of, chosen_of, IsInRange};
 
-    /// Where no flag says otherwise: a super carrier of 64 megabytes, no main carrier, carriers of at most
+    /// Where no flag says otherwise: a super carrier of 64 megabytes, no main carrier, carriers of
+    /// at most
     /// 5120 kilobytes, and best fit inside the carrier at the lowest address.
     pub fn new() -> Chosen
         ensures { chosen_of result ≡ defaults }

@@ -78,17 +78,19 @@ impl Fault {
 }
 
 /// Writes the line with this text.
-fn write_said<E: Sink>(err: &mut E, said: &str) -> Result<(), Failed>
-    ensures whole { OnOk result (Appends (E.taken err.old) (E.taken err.new) (line_with said.now)) }
-    ensures front { AppendsFront (E.taken err.old) (E.taken err.new) (line_with said.now) }
+fn write_with<E: Sink>(err: &mut E, text: &str) -> Result<(), Failed>
+    ensures whole { OnOk result (Appends (E.taken err.old) (E.taken err.new) (line_with text.now)) }
+    ensures front { AppendsFront (E.taken err.old) (E.taken err.new) (line_with text.now) }
+    ensures kept { OnOk result (E.faults err.new ≡ E.faults err.old) }
     ensures stops { OnErr result (StopsAtFault E.taken E.faults err.old err.new) }
 {
-    write_texts(err, &["erts_alloc_run: ", said, "\n"])
+    write_texts(err, &["erts_alloc_run: ", text, "\n"])
 }
 
 fn write_line<E: Sink>(err: &mut E, fault: Fault) -> Result<(), Failed>
     ensures whole { OnOk result (Appends (E.taken err.old) (E.taken err.new) (fault_line fault)) }
     ensures front { AppendsFront (E.taken err.old) (E.taken err.new) (fault_line fault) }
+    ensures kept { OnOk result (E.faults err.new ≡ E.faults err.old) }
     ensures stops { OnErr result (StopsAtFault E.taken E.faults err.old err.new) }
 {
     match fault {
@@ -97,19 +99,21 @@ fn write_line<E: Sink>(err: &mut E, fault: Fault) -> Result<(), Failed>
             let number = buffer.format(word);
             write_texts(err, &["erts_alloc_run: word ", number, ": unsupported\n"])
         }
-        Fault::SpaceTooSmall => write_said(err, "super carrier too small"),
-        Fault::Input => write_said(err, "not built yet"),
-        Fault::TooLong => write_said(err, "input too long"),
-        Fault::ReadFailed => write_said(err, "read failed"),
-        Fault::WriteFailed => write_said(err, "write failed"),
-        Fault::OutOfMemory => write_said(err, "out of memory"),
+        Fault::SpaceTooSmall => write_with(err, "super carrier too small"),
+        Fault::Input => write_with(err, "not built yet"),
+        Fault::TooLong => write_with(err, "input too long"),
+        Fault::ReadFailed => write_with(err, "read failed"),
+        Fault::WriteFailed => write_with(err, "write failed"),
+        Fault::OutOfMemory => write_with(err, "out of memory"),
     }
 }
 
 /// Writes the line of a fault. After a fault of `err` nothing more is written.
 pub fn complain<E: Sink>(err: &mut E, fault: Fault)
-    ensures line { Complains (E.taken err.old) (E.taken err.new) (Calm (E.faults err.old) (E.faults err.new)) fault }
-    ensures stops { (E.faults err.new ≡ E.faults err.old) ⊎ StopsAtFault E.taken E.faults err.old err.new }
+    ensures line { Complains (E.taken err.old) (E.taken err.new)
+        (Calm (E.faults err.old) (E.faults err.new)) fault }
+    ensures stops { (E.faults err.new ≡ E.faults err.old)
+        ⊎ StopsAtFault E.taken E.faults err.old err.new }
 {
     let _ = write_line(err, fault);
 }

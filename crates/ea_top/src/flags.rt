@@ -71,7 +71,8 @@ fn strategy_named(name: &[u8]) -> Option<Strategy>
 
 /// What a flag sets with this value, if the value is one of its own.
 fn setting(flag: &[u8], value: &[u8]) -> Option<Setting>
-    ensures set { option_map setting_of result ≡ Rattle.ea_model.specs.Flags.setting flag.now value.now }
+    ensures set { option_map setting_of result ≡ Rattle.ea_model.specs.Flags.setting flag.now
+        value.now }
     ensures in_range { IfSome result (λ s. IsInRange (setting_of s)) }
 {
     if flag == b"+MMscs".as_slice() {
@@ -94,8 +95,11 @@ fn setting(flag: &[u8], value: &[u8]) -> Option<Setting>
 /// What a flag and its value set, after that many words.
 fn read_pair(before: u64, flag: &[u8], value: &[u8]) -> Result<Setting, Refusal>
     requires { before < 2 ^ 32 }
-    ensures ok { IfOk result (λ s. (c : Choice) (words : List (List ℕ)) → pairs_from before c (flag.now ∷ value.now ∷ words) ≡ pairs_from (before + 2) (set_by c (setting_of s)) words) }
-    ensures err { IfErr result (λ e. (c : Choice) (words : List (List ℕ)) → pairs_from before c (flag.now ∷ value.now ∷ words) ≡ Err (refusal_of e)) }
+    ensures ok { IfOk result (λ s. (c : Choice) (words : List (List ℕ))
+        → pairs_from before c (flag.now ∷ value.now ∷ words) ≡ pairs_from (before + 2)
+        (set_by c (setting_of s)) words) }
+    ensures err { IfErr result (λ e. (c : Choice) (words : List (List ℕ))
+        → pairs_from before c (flag.now ∷ value.now ∷ words) ≡ Err (refusal_of e)) }
     ensures in_range { IfOk result (λ s. IsInRange (setting_of s)) }
 {
     if !is_flag(flag) {
@@ -107,7 +111,8 @@ fn read_pair(before: u64, flag: &[u8], value: &[u8]) -> Result<Setting, Refusal>
     }
 }
 
-/// The refusal of a last word that is no value: a flag lacks its value, and another word is no flag.
+/// The refusal of a last word that is no value: a flag lacks its value, and another word is no
+/// flag.
 fn last_refusal(before: u64, word: &[u8]) -> Refusal
     requires { before < 2 ^ 32 }
     ensures { (c : Choice) → pairs_from before c (word.now ∷ []) ≡ Err (refusal_of result) }

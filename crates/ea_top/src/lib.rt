@@ -10,8 +10,6 @@ mod scheduler;
 mod seen;
 mod simulation;
 mod stages;
-#[cfg(test)]
-mod tests;
 mod top;
 
 pub use faults::Fault;

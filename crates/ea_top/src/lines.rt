@@ -4,11 +4,11 @@ ghost use Rattle.std.specs.Option.{option_map, unwrap_or};
 ghost use Rattle.ea_model.specs.Words.{words};
 ghost use Rattle.ea_model.specs.Lines.{line_of, command, letter_line, alloc_words, free_line, scheduler_line, one_number, bare_line, is_nil, only_word, both_words};
 ghost use Rattle.ea_model.specs.declared.units.TheConstants.{MAX_NAME};
-ghost use Rattle.ea_top.specs.Says.{said, IsNamed};
+ghost use Rattle.ea_top.specs.Says.{meaning_of, IsNamed};
 ghost use Rattle.ea_top.specs.declared.lines.Line.TheVariants.{Unreadable};
 
-use ea_model::{MAX_BYTES, MAX_NAME};
 use ea_model::words::{first_word, number};
+use ea_model::{MAX_BYTES, MAX_NAME};
 
 /// What one line says.
 #[derive(Debug, Clone, Copy, PartialEq, Eq)]
@@ -53,7 +53,7 @@ fn two_words(rest: &[u8]) -> Option<(&[u8], &[u8])>
 }
 
 fn letter(rest: &[u8]) -> Option<Line>
-    ensures { said (unwrap_or result Unreadable) ≡ letter_line (words rest.now) }
+    ensures { meaning_of (unwrap_or result Unreadable) ≡ letter_line (words rest.now) }
 {
     if one_word(rest)? == b"H".as_slice() {
         Some(Line::Letter)
@@ -63,14 +63,14 @@ fn letter(rest: &[u8]) -> Option<Line>
 }
 
 fn scheduler(rest: &[u8]) -> Option<Line>
-    ensures { said (unwrap_or result Unreadable) ≡ one_number scheduler_line 1 1 (words rest.now) }
+    ensures { meaning_of (unwrap_or result Unreadable) ≡ one_number scheduler_line 1 1 (words rest.now) }
 {
     number(one_word(rest)?, 1, 1)?;
     Some(Line::Scheduler)
 }
 
 fn alloc(rest: &[u8]) -> Option<Line>
-    ensures { said (unwrap_or result Unreadable) ≡ alloc_words (words rest.now) }
+    ensures { meaning_of (unwrap_or result Unreadable) ≡ alloc_words (words rest.now) }
 {
     let (name, bytes) = two_words(rest)?;
     Some(Line::Alloc {
@@ -80,7 +80,8 @@ fn alloc(rest: &[u8]) -> Option<Line>
 }
 
 fn free(rest: &[u8]) -> Option<Line>
-    ensures { said (unwrap_or result Unreadable) ≡ one_number free_line 1 MAX_NAME (words rest.now) }
+    ensures { meaning_of (unwrap_or result Unreadable) ≡ one_number free_line 1 MAX_NAME
+        (words rest.now) }
 {
     let name = one_word(rest)?;
     Some(Line::Free {
@@ -90,14 +91,14 @@ fn free(rest: &[u8]) -> Option<Line>
 
 /// A line that is its keyword alone.
 fn bare(line: Line, rest: &[u8]) -> Option<Line>
-    ensures { said (unwrap_or result Unreadable) ≡ bare_line (said line) (words rest.now) }
+    ensures { meaning_of (unwrap_or result Unreadable) ≡ bare_line (meaning_of line) (words rest.now) }
 {
     if is_blank(rest) { Some(line) } else { None }
 }
 
 /// The line that a keyword and the words after it make.
 fn command(keyword: &[u8], rest: &[u8]) -> Option<Line>
-    ensures { said (unwrap_or result Unreadable) ≡ command keyword.now (words rest.now) }
+    ensures { meaning_of (unwrap_or result Unreadable) ≡ command keyword.now (words rest.now) }
 {
     if keyword == b"type".as_slice() {
         letter(rest)
@@ -124,7 +125,7 @@ fn is_comment(word: &[u8]) -> bool
 }
 
 fn line_at(text: &[u8]) -> Line
-    ensures { said result ≡ line_of text.now }
+    ensures { meaning_of result ≡ line_of text.now }
 {
     match first_word(text) {
         None => Line::Skipped,
@@ -140,7 +141,7 @@ fn line_at(text: &[u8]) -> Line
 
 /// What a line says; its name, if it has one, is at most `MAX_NAME`, and its request fits.
 pub fn read_line(text: &[u8]) -> Line
-    ensures line { said result ≡ line_of text.now }
+    ensures line { meaning_of result ≡ line_of text.now }
     ensures in_range { IsNamed result }
 {
     line_at(text)

@@ -3,8 +3,9 @@ ghost use Rattle.std.specs.Prelude.{◌≡◌, ◌≤◌, All, IfSome, IfOk, len
 ghost use Rattle.ea_model.specs.Trace.{op_of, trace_of, InRange};
 ghost use Rattle.ea_model.specs.declared.units.TheConstants.{MAX_OPS};
 ghost use Rattle.ea_laws.specs.Run.{IsBuiltOp};
-ghost use Rattle.ea_top.specs.Says.{said, IsNamed};
+ghost use Rattle.ea_top.specs.Says.{meaning_of, IsNamed};
 ghost use Rattle.ea_top.specs.Reads.{Gives};
+ghost use Rattle.ea_top.specs.declared.reader.TraceFault.TheVariants as trace;
 
 use crate::lines::{Line, read_line};
 use crate::seen::Seen;
@@ -22,7 +23,7 @@ pub enum TraceFault {
 }
 
 impl From<OutOfMemory> for TraceFault {
-    ghost from_gives = { λ _ fault. fault ≡ OutOfMemory };
+    ghost from_gives = { λ _ fault. fault ≡ trace.OutOfMemory };
 
     fn from(_: OutOfMemory) -> TraceFault {
         TraceFault::OutOfMemory
@@ -30,7 +31,7 @@ impl From<OutOfMemory> for TraceFault {
 }
 
 impl From<AllocError> for TraceFault {
-    ghost from_gives = { λ _ fault. fault ≡ OutOfMemory };
+    ghost from_gives = { λ _ fault. fault ≡ trace.OutOfMemory };
 
     fn from(_: AllocError) -> TraceFault {
         TraceFault::OutOfMemory
@@ -41,7 +42,7 @@ impl Line {
     /// The operation that a line holds.
     pub fn operation(self) -> Option<Op>
         requires { IsNamed self }
-        ensures op { option_to_list result ≡ op_of (said self) }
+        ensures op { option_to_list result ≡ op_of (meaning_of self) }
         ensures in_range { IfSome result InRange }
         ensures built { IfSome result IsBuiltOp }
     {

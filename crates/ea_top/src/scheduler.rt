@@ -60,7 +60,8 @@ fn place_in_new(
 fn free_at(instance: &mut Instance, spot: Spot) -> Result<(), OutOfMemory>
     requires { IsSome (block_in instance.old.contents spot) }
     ensures ok { OnOk result (instance.new ≡ freed_at instance.old spot) }
-    ensures others { OnOk result ((at : Spot) → IsOther spot.carrier spot.offset at → block_in instance.new.contents at ≡ block_in instance.old.contents at) }
+    ensures others { OnOk result ((at : Spot) → IsOther spot.carrier spot.offset at
+        → block_in instance.new.contents at ≡ block_in instance.old.contents at) }
 {
     let released = instance.release(spot)?;
     if released == Released::EmptyOwn {
@@ -82,7 +83,9 @@ fn hold(
     requires blocks { HoldsBlocks instance.contents (set spots.items name (Some (spot_at place))) }
     requires threshold { 65536 ≤ instance.settings.sbct }
     requires created { instance.created ≤ length log.items + 2 }
-    ensures { IfOk result (λ s. (s.instance ≡ instance) × (s.spots.items ≡ set spots.items name (Some (spot_at place))) × (s.log.items ≡ log.items ++ entry.Alloc name place ∷ [])) }
+    ensures { IfOk result (λ s. (s.instance ≡ instance)
+        × (s.spots.items ≡ set spots.items name (Some (spot_at place)))
+        × (s.log.items ≡ log.items ++ entry.Alloc name place ∷ [])) }
 {
     spots[name as usize] = Some(Spot {
         carrier: place.carrier,
@@ -135,7 +138,8 @@ impl Scheduler {
         requires name { name ≤ MAX_NAME }
         requires bytes { bytes ≤ MAX_BYTES }
         requires log { length self.log.items < 2 ^ 31 }
-        ensures shows { IfOk result (λ s. (r : Run) → Shows r self → Reaches (step r (Alloc name bytes)) s) }
+        ensures shows { IfOk result (λ s. (r : Run) → Shows r self
+            → Reaches (step r (Alloc name bytes)) s) }
         ensures grown { IfOk result (λ s. length s.log.items ≤ length self.log.items + 1) }
     {
         let Scheduler {

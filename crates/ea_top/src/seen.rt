@@ -3,7 +3,7 @@ ghost use Rattle.std.specs.Prelude.{◌≡◌, ◌+◌, ◌≤◌, ◌∷◌, []
 ghost use Rattle.ea_model.specs.Trace.{may_follow, names_good, operations, op_of, at_end, stage_after, InRange};
 ghost use Rattle.ea_model.specs.declared.units.TheConstants.{MAX_NAME, MAX_OPS};
 ghost use Rattle.ea_laws.specs.Run.{IsBuiltOp};
-ghost use Rattle.ea_top.specs.Says.{said, IsNamed};
+ghost use Rattle.ea_top.specs.Says.{meaning_of, IsNamed};
 
 use crate::lines::Line;
 use crate::reader::TraceFault;
@@ -26,7 +26,7 @@ pub struct Seen {
 }
 
 impl Seen {
-    ghost use Rattle.ea_top.specs.Reads.{Lines, Knows, Refuses, Gives};
+    ghost use Rattle.ea_top.specs.Reads.{Taken, Knows, Refuses, Gives};
 
     /// Before the first line.
     pub fn new(alloc: Global) -> Result<Seen, AllocError>
@@ -42,7 +42,8 @@ impl Seen {
     /// Whether the names of a line are good after the lines that were taken.
     fn names_are_good(&self, line: Line) -> bool
         requires { IsNamed line }
-        ensures { (earlier : Lines) → Knows earlier self.now → result ≡ names_good earlier (said line) }
+        ensures { (earlier : Taken) → Knows earlier self.now
+            → result ≡ names_good earlier (meaning_of line) }
     {
         match line {
             Line::Alloc { name, .. } => !self.made[name as usize],
@@ -54,8 +55,10 @@ impl Seen {
     /// Whether the operations are few enough with this line.
     fn has_room(&self, line: Line) -> bool
         requires { IsNamed line }
-        ensures known { (earlier : Lines) → Knows earlier self.now → result ≡ nat_le (length (operations (said line ∷ earlier))) MAX_OPS }
-        ensures few { result ≡ nat_le (length self.now.ops.items + length (op_of (said line))) MAX_OPS }
+        ensures known { (earlier : Taken) → Knows earlier self.now
+            → result ≡ nat_le (length (operations (meaning_of line ∷ earlier))) MAX_OPS }
+        ensures few { result ≡ nat_le (length self.now.ops.items + length (op_of (meaning_of line)))
+            MAX_OPS }
     {
         self.ops.len() <= MAX_OPS as usize - usize::from(line.operation().is_some())
     }
@@ -63,8 +66,10 @@ impl Seen {
     /// Whether a line may follow those that were taken.
     fn may_follow(&self, line: Line) -> bool
         requires { IsNamed line }
-        ensures known { (earlier : Lines) → Knows earlier self.now → result ≡ may_follow earlier (said line) }
-        ensures few { result ≡ true → length self.now.ops.items + length (op_of (said line)) ≤ MAX_OPS }
+        ensures known { (earlier : Taken) → Knows earlier self.now
+            → result ≡ may_follow earlier (meaning_of line) }
+        ensures few { result ≡ true
+            → length self.now.ops.items + length (op_of (meaning_of line)) ≤ MAX_OPS }
     {
         self.stage.admits(line) && self.has_room(line) && self.names_are_good(line)
     }
@@ -72,8 +77,9 @@ impl Seen {
     /// Notes a line.
     fn note(&mut self, line: Line) -> Result<(), OutOfMemory>
         requires named { IsNamed line }
-        requires few { length self.old.ops.items + length (op_of (said line)) ≤ MAX_OPS }
-        ensures { OnOk result ((earlier : Lines) → Knows earlier self.old → Knows (said line ∷ earlier) self.new) }
+        requires few { length self.old.ops.items + length (op_of (meaning_of line)) ≤ MAX_OPS }
+        ensures { OnOk result ((earlier : Taken) → Knows earlier self.old
+            → Knows (meaning_of line ∷ earlier) self.new) }
     {
         if let Some(op) = line.operation() {
             self.ops.push(op)?;
@@ -88,8 +94,10 @@ impl Seen {
     /// Takes the next line, if it may follow.
     pub fn take(&mut self, line: Line) -> Result<(), TraceFault>
         requires { IsNamed line }
-        ensures ok { OnOk result ((earlier : Lines) → Knows earlier self.old → (may_follow earlier (said line) ≡ true) × Knows (said line ∷ earlier) self.new) }
-        ensures err { IfErr result (λ e. (earlier : Lines) → Knows earlier self.old → Refuses e (may_follow earlier (said line))) }
+        ensures ok { OnOk result ((earlier : Taken) → Knows earlier self.old
+            → (may_follow earlier (meaning_of line) ≡ true) × Knows (meaning_of line ∷ earlier) self.new) }
+        ensures err { IfErr result (λ e. (earlier : Taken) → Knows earlier self.old
+            → Refuses e (may_follow earlier (meaning_of line))) }
     {
         if !self.may_follow(line) {
             return Err(TraceFault::NotBuilt);
@@ -99,7 +107,8 @@ impl Seen {
 
     /// The operations, at the end of the input.
     pub fn finish(self) -> Result<List<Op>, TraceFault>
-        ensures given { (earlier : Lines) → Knows earlier self → Gives result (at_end (stage_after earlier) (operations earlier)) }
+        ensures given { (earlier : Taken) → Knows earlier self
+            → Gives result (at_end (stage_after earlier) (operations earlier)) }
         ensures in_range { IfOk result (λ ops. All InRange ops.items) }
         ensures built { IfOk result (λ ops. All IsBuiltOp ops.items) }
         ensures few { IfOk result (λ ops. length ops.items ≤ MAX_OPS) }

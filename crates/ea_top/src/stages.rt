@@ -1,7 +1,7 @@
 //! The parts of a trace.
 ghost use Rattle.std.specs.Prelude.{◌≡◌};
 ghost use Rattle.ea_model.specs.Trace.{may_stand, next};
-ghost use Rattle.ea_top.specs.Says.{said, stage_of};
+ghost use Rattle.ea_top.specs.Says.{meaning_of, stage_of};
 
 use crate::lines::Line;
 
@@ -21,7 +21,7 @@ pub enum Stage {
 impl Stage {
     /// Whether a line may stand here.
     pub fn admits(self, line: Line) -> bool
-        ensures { result ≡ may_stand (stage_of self) (said line) }
+        ensures { result ≡ may_stand (stage_of self) (meaning_of line) }
     {
         match line {
             Line::Skipped => true,
@@ -35,7 +35,7 @@ impl Stage {
 
     /// The part after the line.
     pub fn after(self, line: Line) -> Stage
-        ensures { stage_of result ≡ next (stage_of self) (said line) }
+        ensures { stage_of result ≡ next (stage_of self) (meaning_of line) }
     {
         match line {
             Line::Letter => Stage::Typed,

@@ -26,8 +26,10 @@ use std::thread::Threads;
 /// Reads the words, then the whole input, runs its operations, and writes the text to `out` in one
 /// piece. Where there is no text, one line on `err` says why.
 ///
-/// The status is 0 where the text was written; 1 where the words aren't flags that are built, or their
-/// main carrier is larger than the region; 2 where the input has more than 2^24 bytes or isn't a trace; 3
+/// The status is 0 where the text was written; 1 where the words aren't flags that are built, or
+/// their
+/// main carrier is larger than the region; 2 where the input has more than 2^24 bytes or isn't a
+/// trace; 3
 /// where the source failed; 4 where `out` failed; 5 where there was no memory.
 pub fn run<R: Threads + Sync, S: Source, O: Sink, E: Sink>(
     _rt: &R,
@@ -41,13 +43,18 @@ pub fn run<R: Threads + Sync, S: Source, O: Sink, E: Sink>(
     ensures statuses { result ≤ 5 }
 
     // 0: the whole text of an input in the language, which was read to its end.
-    ensures done { result ≡ 0 → WroteText words.now (S.left source.old) (O.taken out.old) (O.taken out.new) }
+    ensures done { result ≡ 0
+        → WroteText words.now (S.left source.old) (O.taken out.old) (O.taken out.new) }
     ensures end { result ≡ 0 → IsAtEnd (S.left source.new) }
 
-    // And at every moment of every run under such words: no two blocks share a unit, carriers lie apart, and blocks,
-    // gaps and headers are all units; each held name has its own block; a name's block is released at most as often as
-    // the name was allocated; a block is placed where the strategy takes a gap first; an allocation fails only where
-    // nothing that is inspected fits and no carrier can be created; and each operation has one entry.
+    // And at every moment of every run under such words: no two blocks share a unit, carriers lie
+    // apart, and blocks,
+    // gaps and headers are all units; each held name has its own block; a name's block is released
+    // at most as often as
+    // the name was allocated; a block is placed where the strategy takes a gap first; an allocation
+    // fails only where
+    // nothing that is inspected fits and no carrier can be created; and each operation has one
+    // entry.
     ensures sound { result ≡ 0 → Throughout Sound words.now }
 
     // 1: exactly for other words, and nothing was read.
@@ -56,33 +63,39 @@ pub fn run<R: Threads + Sync, S: Source, O: Sink, E: Sink>(
     ensures unread { result ≡ 1 → source.new ≡ source.old }
 
     // 2: only for an input that isn't good; and such an input gives 2, unless its source fails.
-    ensures bad_input { result ≡ 2 → IfSome (S.left source.old) (λ input. GoodInput words.now input → ⊥) }
+    ensures bad_input { result ≡ 2 → IfSome (S.left source.old) (λ input. GoodInput words.now input
+        → ⊥) }
     ensures refuses { GoodWords words.now → Calm (S.faults source.old) (S.faults source.new)
         → IfSome (S.left source.old) (λ input. (GoodInput words.now input → ⊥) → (result ≡ 2) ⊎ (result ≡ 5)) }
 
     // At most one byte more than the limit is read.
     ensures taken { ConsumesAtMost (S.left source.old) (S.left source.new) (MAX_INPUT + 1) }
 
-    // 3 and 4: only where that end failed, after which nothing more was read or written, and wherever it did; at 4 a
+    // 3 and 4: only where that end failed, after which nothing more was read or written, and
+    // wherever it did; at 4 a
     // front of the text was written.
     ensures read_failed { result ≡ 3 → StopsAtFault S.left S.faults source.old source.new }
     ensures read_told { S.faults source.old < S.faults source.new → result ≡ 3 }
     ensures write_failed { result ≡ 4 → StopsAtFault O.taken O.faults out.old out.new }
     ensures write_told { O.faults out.old < O.faults out.new → result ≡ 4 }
-    ensures front { result ≡ 4 → WroteFront words.now (S.left source.old) (O.taken out.old) (O.taken out.new) }
+    ensures front { result ≡ 4 → WroteFront words.now (S.left source.old) (O.taken out.old)
+        (O.taken out.new) }
     ensures untouched { result ≢ 0 → result ≢ 4 → out.new ≡ out.old }
 
     // Good words, good input and no fault give 0, or 5.
-    ensures complete { GoodWords words.now → Calm (S.faults source.old) (S.faults source.new) → Calm (O.faults out.old) (O.faults out.new)
+    ensures complete { GoodWords words.now → Calm (S.faults source.old) (S.faults source.new)
+        → Calm (O.faults out.old) (O.faults out.new)
         → IfSome (S.left source.old) (λ input. GoodInput words.now input → (result ≡ 0) ⊎ (result ≡ 5)) }
 
-    // err: nothing at 0, else the line of a fault that has this status and is why there is no text. This says also how
+    // err: nothing at 0, else the line of a fault that has this status and is why there is no text.
+    // This says also how
     // far the source was read, and speaks where the source does not tell its bytes, too.
     ensures quiet { result ≡ 0 → err.new ≡ err.old }
     ensures reason { result ≢ 0 → (fault : Fault) × (result ≡ status_of fault)
         × Complains (E.taken err.old) (E.taken err.new) (Calm (E.faults err.old) (E.faults err.new)) fault
         × IsWhy words.now (S.left source.old) (S.left source.new) (StopsAtFault S.left S.faults source.old source.new) (StopsAtFault O.taken O.faults out.old out.new) fault }
-    ensures stops { (E.faults err.new ≡ E.faults err.old) ⊎ StopsAtFault E.taken E.faults err.old err.new }
+    ensures stops { (E.faults err.new ≡ E.faults err.old)
+        ⊎ StopsAtFault E.taken E.faults err.old err.new }
 {
     match attempt(alloc, words, source, out) {
         Ok(()) => 0,
@@ -104,13 +117,20 @@ fn attempt<S: Source, O: Sink>(
     ensures done { OnOk result (WroteText words.now (S.left source.old) (O.taken out.old) (O.taken out.new)) }
     ensures end { OnOk result (IsAtEnd (S.left source.new)) }
     ensures sound { OnOk result (Throughout Sound words.now) }
-    ensures why { IfErr result (IsWhy words.now (S.left source.old) (S.left source.new) (StopsAtFault S.left S.faults source.old source.new) (StopsAtFault O.taken O.faults out.old out.new)) }
+    ensures why { IfErr result
+        (IsWhy words.now (S.left source.old) (S.left source.new)
+        (StopsAtFault S.left S.faults source.old source.new)
+        (StopsAtFault O.taken O.faults out.old out.new)) }
     ensures taken { ConsumesAtMost (S.left source.old) (S.left source.new) (MAX_INPUT + 1) }
     ensures unread { IfErr result (λ f. status_of f ≡ 1 → source.new ≡ source.old) }
     ensures untouched { IfErr result (λ f. f ≢ Fault.WriteFailed → out.new ≡ out.old) }
-    ensures read_told { S.faults source.old < S.faults source.new → IsErrOf result Fault.ReadFailed }
+    ensures read_told { S.faults source.old < S.faults source.new
+        → IsErrOf result Fault.ReadFailed }
     ensures write_told { O.faults out.old < O.faults out.new → IsErrOf result Fault.WriteFailed }
-    ensures front { IsErrOf result Fault.WriteFailed → WroteFront words.now (S.left source.old) (O.taken out.old) (O.taken out.new) }
+    ensures write_stops { IsErrOf result Fault.WriteFailed
+        → StopsAtFault O.taken O.faults out.old out.new }
+    ensures front { IsErrOf result Fault.WriteFailed
+        → WroteFront words.now (S.left source.old) (O.taken out.old) (O.taken out.new) }
 {
     let config = read_flags(words)?;
     let bytes = input_of(alloc, source)?;
@@ -128,7 +148,9 @@ fn input_of<S: Source>(alloc: Global, source: &mut S) -> Result<List<u8>, Fault>
     ensures end { OnOk result (IsAtEnd (S.left source.new)) }
     ensures taken { ConsumesAtMost (S.left source.old) (S.left source.new) (MAX_INPUT + 1) }
     ensures told { S.faults source.old < S.faults source.new → IsErrOf result Fault.ReadFailed }
-    ensures why { IfErr result (IsReadFault (S.left source.old) (S.left source.new) (StopsAtFault S.left S.faults source.old source.new)) }
+    ensures why { IfErr result
+        (IsReadFault (S.left source.old) (S.left source.new)
+        (StopsAtFault S.left S.faults source.old source.new)) }
 {
     match read_all(alloc, source, MAX_INPUT) {
         Ok(bytes) => Ok(bytes),

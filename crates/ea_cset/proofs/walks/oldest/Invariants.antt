@@ -5,4 +5,5 @@ use Rattle.ea_cset.proofs.walks.oldest.Given as goal
 
 -- going on from the best so far among the carriers that are left gives the first of all
 abbrev pub invariant-loop-next : goal.invariant-loop-next
-invariant-loop-next l = fold (better older) l.best (fitting l.need (drop l.next-index l.held)) ≡ first older (fitting l.need l.held)
+invariant-loop-next l = fold (better older) l.best
+    (fitting l.need (drop l.next-index l.held)) ≡ first older (fitting l.need l.held)

@@ -7,4 +7,6 @@ pub returns-then-size-lt-SHARED-clause-bin : goal.returns-then-size-lt-SHARED-cl
 returns-then-size-lt-SHARED-clause-bin c = bin_of-small c.args.size c.if-size-lt-SHARED.true
 
 pub returns-clause-bin : goal.returns-clause-bin
-returns-clause-bin c = sym (bin_of-top c.args.size c.ilog2.result c.if-size-lt-SHARED.false c.ilog2.ensures.power_le c.ilog2.ensures.next_power_gt c.ilog2.ensures.bound)
+returns-clause-bin c = sym
+    (bin_of-top c.args.size c.ilog2.result c.if-size-lt-SHARED.false c.ilog2.ensures.power_le
+    c.ilog2.ensures.next_power_gt c.ilog2.ensures.bound)

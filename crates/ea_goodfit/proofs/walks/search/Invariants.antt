@@ -7,5 +7,6 @@ use Rattle.ea_goodfit.proofs.walks.search.Given as goal
 abbrev pub invariant-loop-gap : goal.invariant-loop-gap
 invariant-loop-gap l = record {
   bins : length l.counts ≡ 90;
-  rest : fold (considered l.need) l.best (met l.depth l.counts (drop l.gap-index l.held)) ≡ fold (considered l.need) l.initial.best (met l.depth l.initial.counts l.held);
+  rest : fold (considered l.need) l.best (met l.depth l.counts (drop l.gap-index l.held)) ≡ fold
+      (considered l.need) l.initial.best (met l.depth l.initial.counts l.held);
 }

@@ -6,12 +6,15 @@ use Rattle.ea_io.proofs.writing.write_all.Goals as goal
 
 pub loop-rest-preserved : goal.loop-rest-preserved
 loop-rest-preserved g c =
-    let (done, split, appended, grown, kept) = c.loop-rest.invariant in (
-      done ++ take c.in_ok-count.count c.loop-rest.rest.now,
-      moves_front _ done c.loop-rest.rest.now c.in_ok-count.count split,
-      Appends-trans _ _ _ _ _ appended c.in_ok-count.ensures.bytes,
-      more _ _ _ done c.loop-rest.rest.now c.in_ok-count.count c.in_ok-count.ensures.bound grown c.in_ok-count.ensures.counted,
-      c.in_ok-count.ensures.kept ∙ kept,
+    let (done, split, appended, grown, kept) = c.loop-rest.invariant in
+    let rest = c.loop-rest.rest.now in
+    let count = c.in_ok-count.count in
+    let wrote = c.in_ok-count.ensures in (
+      done ++ take count rest,
+      moves_front _ done rest count split,
+      Appends-trans _ _ _ _ _ appended wrote.bytes,
+      more _ _ _ done rest count wrote.bound grown wrote.counted,
+      wrote.kept ∙ kept,
     )
 
 pub loop-rest-init : goal.loop-rest-init

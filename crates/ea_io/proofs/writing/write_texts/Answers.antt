@@ -6,10 +6,17 @@ use Rattle.ea_io.proofs.writing.write_texts.Goals as goal
 pub loop-text-preserved : goal.loop-text-preserved
 loop-text-preserved g c =
     let (done, split, appended, kept) = c.loop-text.invariant in
-    (_, moves_on _ _ _ _ _ split (next_text _ _ _ _ c.loop-text-test.true c.as_bytes.ensures.value), Appends-trans _ _ _ _ _ appended c.in_ok-write_all.ensures.whole, c.in_ok-write_all.ensures.kept ∙ kept)
+    let next = next_text _ _ _ _ c.loop-text-test.true c.as_bytes.ensures.value in
+    let wrote = c.in_ok-write_all.ensures in (
+      _,
+      moves_on _ _ _ _ _ split next,
+      Appends-trans _ _ _ _ _ appended wrote.whole,
+      wrote.kept ∙ kept,
+    )
 
 pub returns-in_err-write_all-clause-front : goal.returns-in_err-write_all-clause-front
 returns-in_err-write_all-clause-front g c =
     let (done, split, appended, kept) = c.loop-text.invariant in
     let (front, rest, whole, more) = c.in_err-write_all.ensures.front in
-    (_, _, broke_off _ _ _ _ _ _ _ split (next_text _ _ _ _ c.loop-text-test.true c.as_bytes.ensures.value) whole, Appends-trans _ _ _ _ _ appended more)
+    let next = next_text _ _ _ _ c.loop-text-test.true c.as_bytes.ensures.value in
+    (_, _, broke_off _ _ _ _ _ _ _ split next whole, Appends-trans _ _ _ _ _ appended more)

@@ -7,7 +7,8 @@ use Rattle.ea_top.proofs.flags.read_pairs.Given as goal
 -- the words that are left set, upon what was set, what the whole list sets
 abbrev pub invariant-loop-rest : goal.invariant-loop-rest
 invariant-loop-rest l = record {
-  rest : pairs_from l.before (chosen_of l.chosen) (map string_bytes l.rest) ≡ pairs_from 0 defaults (map string_bytes l.fn.words);
+  rest : pairs_from l.before (chosen_of l.chosen) (map string_bytes l.rest) ≡ pairs_from 0 defaults
+      (map string_bytes l.fn.words);
   before : l.before + length l.rest ≡ length l.fn.words;
 }
 

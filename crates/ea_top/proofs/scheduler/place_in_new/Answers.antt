@@ -7,10 +7,15 @@ use Rattle.ea_top.proofs.scheduler.place_in_new.Goals as goal
 
 pub returns-clause-ok : goal.returns-clause-ok
 returns-clause-ok c =
-    subst (λ i. IsChosenPlace i c.try_alloc.new.self c.args.need c.args.name c.in-Some.place) c.in_ok-create.ensures.ok
-    (placed-chosen c.create.new.self c.try_alloc.new.self _ c.args.need c.args.name c.in-Some.place refl (sym c.in_ok-place.ensures.place ∙ c.in-Some.is) c.in_ok-place.ensures.ok)
+    subst (λ i. IsChosenPlace i c.try_alloc.new.self c.args.need c.args.name c.in-Some.place)
+    c.in_ok-create.ensures.ok
+    (placed-chosen c.create.new.self c.try_alloc.new.self _ c.args.need c.args.name c.in-Some.place
+    refl (sym c.in_ok-place.ensures.place ∙ c.in-Some.is) c.in_ok-place.ensures.ok)
 
 pub returns-clause-blocks : goal.returns-clause-blocks
 returns-clause-blocks c =
-    placed-from _ c.create.new.self.contents _ c.args.name c.in-Some.place c.in_ok-create.ensures.blocks
-    (some_holds _ c.in-Some.place (IsPlaced c.create.new.self.contents c.try_alloc.new.self.contents c.args.name) c.in-Some.is c.in_ok-place.ensures.blocks)
+    placed-from _ c.create.new.self.contents _ c.args.name c.in-Some.place
+    c.in_ok-create.ensures.blocks
+    (some_holds _ c.in-Some.place
+    (IsPlaced c.create.new.self.contents c.try_alloc.new.self.contents c.args.name) c.in-Some.is
+    c.in_ok-place.ensures.blocks)

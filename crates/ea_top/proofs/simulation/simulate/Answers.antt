@@ -5,5 +5,10 @@ use Rattle.ea_top.proofs.simulation.simulate.Goals as goal
 pub loop-op-preserved : goal.loop-op-preserved
 loop-op-preserved c =
     let (r, shows, rest, grown) = c.loop-op.invariant in
-    let (n, next, there) = c.in_ok-scheduler-2.ensures.shows r shows in
-    (n, there, sym (run_more c.args.ops.now c.loop-op.op-index _ r n c.loop-op-test.true next) ∙ rest, omega (arith, grown, c.in_ok-scheduler-2.ensures.grown))
+    let (n, next, there) = c.in_ok-scheduler-2.ensures.shows r shows in (
+      n,
+      there,
+      sym (run_more c.args.ops.now c.loop-op.op-index _ r n c.loop-op-test.true next)
+          ∙ rest,
+      omega (arith, grown, c.in_ok-scheduler-2.ensures.grown),
+    )

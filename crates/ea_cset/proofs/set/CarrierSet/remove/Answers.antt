@@ -10,7 +10,8 @@ pub take_out-requires-clause-rising : goal.take_out-requires-clause-rising
 take_out-requires-clause-rising c = rising c.self.inside.held.items c.self.invariant.rising
 
 still_rising : (c : goal.After-take_out) → AllPairs IsBefore c.take_out.new.items.items
-still_rising c = subst (AllPairs IsBefore) (sym c.take_out.ensures.rest) (AllPairs-filter IsBefore _ c.self.inside.held.items c.self.invariant.rising)
+still_rising c = subst (AllPairs IsBefore) (sym c.take_out.ensures.rest)
+    (AllPairs-filter IsBefore _ c.self.inside.held.items c.self.invariant.rising)
 
 pub invariant_of-self : goal.invariant_of-self
 invariant_of-self c = record {

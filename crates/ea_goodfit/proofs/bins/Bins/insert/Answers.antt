@@ -10,7 +10,9 @@ use Rattle.ea_goodfit.proofs.bins.Bins.insert.Goals as goal
 rising : (c : goal.After-enter_within) → AllPairs IsBelow c.enter_within.new.items.items
 rising c =
     subst (AllPairs IsBelow) (sym c.enter_within.ensures.items)
-    (rising-entered address_of c.args.gap c.self.inside.held.items c.self.invariant (subst (λ (s : HeldGaps). All (λ g. g.address ≢ c.args.gap.address) s.held) (sym c.self.view_is) c.requires.address))
+    (rising-entered address_of c.args.gap c.self.inside.held.items c.self.invariant
+    (subst (λ (s : HeldGaps). All (λ g. g.address ≢ c.args.gap.address) s.held)
+    (sym c.self.view_is) c.requires.address))
 
 pub invariant_of-self : goal.invariant_of-self
 invariant_of-self c = rising c
@@ -26,5 +28,7 @@ returns-clause-gaps c = λ g.
 
 pub returns-clause-order : goal.returns-clause-order
 returns-clause-order c =
-    subst (λ gs. IsPermutation c.enter_within.new.items.items (c.args.gap ∷ gs)) (ap (λ (s : HeldGaps). s.held) c.self.view_is)
-    (subst (λ gs. IsPermutation gs (c.args.gap ∷ c.self.inside.held.items)) (sym c.enter_within.ensures.items) (entered-permuted c.args.gap c.self.inside.held.items))
+    subst (λ gs. IsPermutation c.enter_within.new.items.items (c.args.gap ∷ gs))
+    (ap (λ (s : HeldGaps). s.held) c.self.view_is)
+    (subst (λ gs. IsPermutation gs (c.args.gap ∷ c.self.inside.held.items))
+    (sym c.enter_within.ensures.items) (entered-permuted c.args.gap c.self.inside.held.items))

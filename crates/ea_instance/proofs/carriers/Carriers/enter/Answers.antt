@@ -2,7 +2,7 @@ use Rattle.std.proofs.Common.{◌≢◌, map, All, ◌∙◌, ap, sym, subst}
 use Rattle.std.proofs.lemmas.List.Elements.{All-map}
 use Rattle.ea_model.specs.Content.{Content, gaps_of, largest, Tiled}
 use Rattle.ea_cset.specs.declared.keys.CarrierKey.{CarrierKey}
-use Rattle.ea_cset.specs.declared.keys.Held.{Held}
+use Rattle.ea_cset.specs.declared.keys.CarrierFit.{CarrierFit}
 use Rattle.ea_laws.specs.Kept.{ContentsApart, IsLaidOut}
 use Rattle.ea_laws.proofs.Apart.{other-bases}
 use Rattle.ea_laws.proofs.Contents.{unused-All}
@@ -18,11 +18,11 @@ add-requires-clause-number c =
     let cs = c.self.inside.list.items in
     let other : CarrierList → Type 0 =
     λ l. All (λ (y : Content). y.number ≢ x.number) l.contents in
-    subst (All (λ (h : Held). h.key.number ≢ c.carrier_key-key.result.number))
+    subst (All (λ (h : CarrierFit). h.key.number ≢ c.carrier_key-key.result.number))
     (sym c.self.invariant.held)
-    (subst (λ (k : CarrierKey). All (λ (h : Held). h.key.number ≢ k.number) (map held_of cs))
+    (subst (λ (k : CarrierKey). All (λ (h : CarrierFit). h.key.number ≢ k.number) (map held_of cs))
     (sym c.carrier_key-key.ensures)
-    (All-map (λ (h : Held). h.key.number ≢ x.number) held_of cs
+    (All-map (λ (h : CarrierFit). h.key.number ≢ x.number) held_of cs
     (subst other (sym c.self.view_is)
     (unused-All x.number c.args.self.now.contents c.requires.number))))
 
@@ -41,11 +41,11 @@ add-requires-clause-base c =
     c.requires.laid in
     let apart = subst (λ (l : CarrierList). All (ContentsApart x) l.contents)
     (sym c.self.view_is) c.requires.apart in
-    subst (All (λ (h : Held). h.key.base ≢ c.carrier_key-key.result.base))
+    subst (All (λ (h : CarrierFit). h.key.base ≢ c.carrier_key-key.result.base))
     (sym c.self.invariant.held)
-    (subst (λ (k : CarrierKey). All (λ (h : Held). h.key.base ≢ k.base) (map held_of cs))
+    (subst (λ (k : CarrierKey). All (λ (h : CarrierFit). h.key.base ≢ k.base) (map held_of cs))
     (sym c.carrier_key-key.ensures)
-    (All-map (λ (h : Held). h.key.base ≢ x.base) held_of cs
+    (All-map (λ (h : CarrierFit). h.key.base ≢ x.base) held_of cs
     (other-bases x cs sound laid.sound apart)))
 
 pub note_entered-requires-clause-address : goal.note_entered-requires-clause-address

@@ -10,22 +10,49 @@ use Rattle.ea_top.proofs.scheduler.Scheduler.free.Goals as goal
 
 pub free_at-requires : goal.free_at-requires
 free_at-requires c =
-    some_block _ c.args.name (c.args.self.blocks c.args.name c.in-Some.spot (sym (get_or_read c.args.self.spots.items c.args.name c.index.result.now (omega (arith, c.args.self.names, c.requires.name)) c.index.ensures None) ∙ c.in-Some.is))
+    some_block _ c.args.name
+    (c.args.self.blocks c.args.name c.in-Some.spot
+    (sym (get_or_read c.args.self.spots.items c.args.name c.index.result.now
+    (omega (arith, c.args.self.names, c.requires.name)) c.index.ensures None) ∙ c.in-Some.is))
 
 pub invariant_of-result-2 : goal.invariant_of-result-2
 invariant_of-result-2 c =
-    let here = sym (get_or_read c.args.self.spots.items c.args.name c.index.result.now (omega (arith, c.args.self.names, c.requires.name)) c.index.ensures None) ∙ c.in-Some.is in
+    let here = sym (get_or_read c.args.self.spots.items c.args.name c.index.result.now
+    (omega (arith, c.args.self.names, c.requires.name)) c.index.ensures None) ∙ c.in-Some.is in
     let left = c.in_ok-free_at.ensures.ok in
     let keeps = freed_at-keeps c.args.self.instance c.in-Some.spot in
     record {
       names = search rules;
-      blocks = holds_released c.args.self.instance.contents c.free_at.new.instance.contents c.args.self.spots.items c.args.name c.in-Some.spot (omega (arith, c.args.self.names, c.requires.name)) here c.in_ok-free_at.ensures.others c.args.self.blocks;
-      threshold = omega (arith, c.args.self.threshold, ap (λ (i : Instance). i.settings.sbct) left, ap (λ (s : Settings). s.sbct) keeps.0);
-      created = omega (arith, c.args.self.created, ap (λ (i : Instance). i.created) left, keeps.1, ap length c.in_ok-push-2.ensures.ok, length-append c.args.self.log.items (Free c.args.name ∷ []));
+      blocks = holds_released c.args.self.instance.contents c.free_at.new.instance.contents
+          c.args.self.spots.items c.args.name c.in-Some.spot
+          (omega (arith, c.args.self.names, c.requires.name)) here c.in_ok-free_at.ensures.others
+          c.args.self.blocks;
+      threshold = omega (
+        arith,
+        c.args.self.threshold,
+        ap (λ (i : Instance). i.settings.sbct) left,
+        ap (λ (s : Settings). s.sbct) keeps.0,
+      );
+      created = omega (
+        arith,
+        c.args.self.created,
+        ap (λ (i : Instance). i.created) left,
+        keeps.1,
+        ap length c.in_ok-push-2.ensures.ok,
+        length-append c.args.self.log.items
+            (Free c.args.name ∷ []),
+      );
     }
 
 pub returns-clause-shows : goal.returns-clause-shows
 returns-clause-shows c = λ r k.
     let some : spot_held c.args.name r.held ≡ Some c.in-Some.spot =
-    sym (k.held c.args.name c.requires.name) ∙ sym (get_or_read c.args.self.spots.items c.args.name c.index.result.now (omega (arith, c.args.self.names, c.requires.name)) c.index.ensures None) ∙ c.in-Some.is in
-    (_, refl, shows_freed r c.args.self _ c.args.name c.in-Some.spot k some (omega (arith, c.args.self.names, c.requires.name)) c.in_ok-free_at.ensures.ok refl c.in_ok-push-2.ensures.ok)
+    sym (k.held c.args.name c.requires.name)
+    ∙ sym (get_or_read c.args.self.spots.items c.args.name c.index.result.now
+    (omega (arith, c.args.self.names, c.requires.name)) c.index.ensures None) ∙ c.in-Some.is in (
+      _,
+      refl,
+      shows_freed r c.args.self _ c.args.name c.in-Some.spot k some
+          (omega (arith, c.args.self.names, c.requires.name)) c.in_ok-free_at.ensures.ok refl
+          c.in_ok-push-2.ensures.ok,
+    )

@@ -10,19 +10,34 @@ use Rattle.ea_top.proofs.scheduler.Scheduler.new.Goals as goal
 
 pub invariant_of-result : goal.invariant_of-result
 invariant_of-result c =
-    let empty : c.in-Ok.spots.items ≡ replicate {A = Option Spot} (MAX_NAME + 1) None = c.in-Ok.ensures.items_if_clones_equal (search rules) in
+    let empty : c.in_ok-spots.spots.items ≡ replicate {A = Option Spot} (MAX_NAME + 1) None =
+    c.in_ok-spots.ensures.items_if_clones_equal (search rules) in
     record {
       names = ap length empty ∙ length-replicate {A = Option Spot} (MAX_NAME + 1) None;
-      blocks = λ name spot e. let f : None ≡ Some spot = sym (ap (λ xs. get_or xs name None) empty ∙ get_or-replicate_none (MAX_NAME + 1) name) ∙ e in absurd cc;
-      threshold = omega (arith, ap (λ (i : Instance). i.settings.sbct) c.in_ok-instance.ensures, ap (λ (s : Settings). s.sbct) c.of.ensures, c.requires.threshold);
-      created = omega (arith, ap (λ (i : Instance). i.created) c.in_ok-instance.ensures, main_few c.of.result 1 0);
+      blocks = λ name spot e. let f : None ≡ Some spot = sym (ap (λ xs. get_or xs name None) empty
+          ∙ get_or-replicate_none (MAX_NAME + 1) name) ∙ e in absurd cc;
+      threshold = omega (
+        arith,
+        ap (λ (i : Instance). i.settings.sbct) c.in_ok-instance.ensures,
+        ap (λ (s : Settings). s.sbct) c.of.ensures,
+        c.requires.threshold,
+      );
+      created = omega (
+        arith,
+        ap (λ (i : Instance). i.created) c.in_ok-instance.ensures,
+        main_few c.of.result 1 0,
+      );
     }
 
 pub returns-clause-shows : goal.returns-clause-shows
 returns-clause-shows c =
-    let empty : c.in-Ok.spots.items ≡ replicate {A = Option Spot} (MAX_NAME + 1) None = c.in-Ok.ensures.items_if_clones_equal (search rules) in
+    let empty : c.in_ok-spots.spots.items ≡ replicate {A = Option Spot} (MAX_NAME + 1) None =
+    c.in_ok-spots.ensures.items_if_clones_equal (search rules) in
     record {
-      instance = c.in_ok-instance.ensures ∙ ap (λ s. new_instance s 1 0 c.region_pages.result) c.of.ensures ∙ ap (new_instance c.args.config.h 1 0) c.region_pages.ensures;
-      held = λ name h. ap (λ xs. get_or xs name None) empty ∙ get_or-replicate_none (MAX_NAME + 1) name;
+      instance = c.in_ok-instance.ensures
+          ∙ ap (λ s. new_instance s 1 0 c.region_pages.result) c.of.ensures
+          ∙ ap (new_instance c.args.config.h 1 0) c.region_pages.ensures;
+      held = λ name h. ap (λ xs. get_or xs name None) empty
+          ∙ get_or-replicate_none (MAX_NAME + 1) name;
       log = c.new-2.ensures;
     }

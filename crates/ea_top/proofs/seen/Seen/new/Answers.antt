@@ -6,6 +6,8 @@ use Rattle.ea_top.proofs.seen.Seen.new.Goals as goal
 pub returns : goal.returns
 returns c = record {
   stage = refl;
-  names = λ n h. ap (λ xs. get_or xs n false) (c.in_ok-vec.ensures.items_if_clones_equal (search rules)) ∙ get_or-replicate (MAX_NAME + 1) n false false (omega arith);
+  names = λ n h. ap (λ xs. get_or xs n false)
+      (c.in_ok-vec.ensures.items_if_clones_equal (search rules))
+      ∙ get_or-replicate (MAX_NAME + 1) n false false (omega arith);
   ops = c.new.ensures;
 }

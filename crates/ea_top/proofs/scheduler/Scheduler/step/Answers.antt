@@ -1,0 +1,16 @@
+use Rattle.std.proofs.Common.{sym, subst}
+use Rattle.std.specs.Prelude.{IfOk}
+use Rattle.ea_laws.specs.Run.{Run, step}
+use Rattle.ea_top.specs.Running.{Reaches, Shows}
+use Rattle.ea_top.specs.declared.scheduler.Scheduler.{Scheduler}
+use Rattle.ea_top.proofs.scheduler.Scheduler.step.Goals as goal
+
+pub returns-in-Alloc-clause-shows : goal.returns-in-Alloc-clause-shows
+returns-in-Alloc-clause-shows c =
+    subst (λ o. IfOk c.alloc.result (λ (s : Scheduler). (r : Run) → Shows r c.args.self
+    → Reaches (step r o) s)) (sym c.in-Alloc.is) c.alloc.ensures.shows
+
+pub returns-in-Free-clause-shows : goal.returns-in-Free-clause-shows
+returns-in-Free-clause-shows c =
+    subst (λ o. IfOk c.free.result (λ (s : Scheduler). (r : Run) → Shows r c.args.self
+    → Reaches (step r o) s)) (sym c.in-Free.is) c.free.ensures.shows

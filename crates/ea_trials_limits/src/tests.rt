@@ -1,0 +1,129 @@
+use ea_io::{LengthSink, MemSink, PlainSource, put_number, put_text};
+use ea_model::{List, OutOfMemory};
+use ea_trials::{NotRun, run_words};
+use std::alloc::Global;
+use std::test::Fail;
+use std::thread::Threads;
+
+const WORDS: &str = "+MMscs 1 +MHacul 0";
+
+// The most bytes of an input.
+const MOST_BYTES: usize = 16_777_216;
+
+// The status, the length of the text, and the error line.
+fn measure<R: Threads + Sync>(
+    rt: &R,
+    alloc: Global,
+    input: Vec<u8>,
+) -> Result<(u8, u64, MemSink), NotRun> {
+    let mut source = PlainSource::new(List::from_vec(input));
+    let mut out = LengthSink::new();
+    let mut err = MemSink::new(alloc, 100, 16, List::new(alloc))?;
+    let status = run_words(rt, alloc, WORDS, &mut source, &mut out, &mut err)?;
+    Ok((status, out.len(), err))
+}
+
+#[test]
+fn an_input_has_16_megabytes_at_most(rt: HostRuntime) -> Result<(), Fail> {
+    let trace = b"\ntype H\nscheduler 1\nalloc 1 100\nschedule\nend\n";
+    // A comment takes the rest of the bytes, and the text has 171.
+    let cases = [
+        (MOST_BYTES - 45, 0, 171, ""),
+        (MOST_BYTES - 44, 2, 0, "erts_alloc_run: input too long\n"),
+    ];
+    for (comment, wanted, text, line) in cases {
+        let mut input = vec![in rt.alloc(); b'#'; comment]?;
+        input.extend_from_slice(trace)?;
+        let (status, length, err) = measure(&rt, rt.alloc(), input)?;
+        assert_eq!(rt; status, wanted, "with {comment}");
+        assert_eq!(rt; length, text, "with {comment}");
+        assert_eq!(rt; err.taken(), line.as_bytes(), "with {comment}");
+    }
+    Ok(())
+}
+
+#[test]
+fn a_trace_has_262144_operations_at_most(rt: HostRuntime) -> Result<(), Fail> {
+    // 12 bytes of the section's line, 14 of the block, 12 of its free, 15 of each other, 57 of the
+    // totals.
+    let cases = [
+        (262_143, 0, 95 + 15 * 262_142, ""),
+        (262_144, 2, 0, "erts_alloc_run: not built yet\n"),
+    ];
+    for (frees, wanted, text, line) in cases {
+        let mut input = Vec::from_slice(rt.alloc(), b"type H\nscheduler 1\nalloc 1 0\n")?;
+        let all = b"free 1\n".repeat(rt.alloc(), frees)?;
+        input.extend_from_slice(&all)?;
+        input.extend_from_slice(b"schedule\nend\n")?;
+        let (status, length, err) = measure(&rt, rt.alloc(), input)?;
+        assert_eq!(rt; status, wanted, "after {frees} frees");
+        assert_eq!(rt; length, text, "after {frees} frees");
+        assert_eq!(rt; err.taken(), line.as_bytes(), "after {frees} frees");
+    }
+    Ok(())
+}
+
+// Adds words and numbers in turn, and a line feed.
+fn put_line(text: &mut List<u8>, words: &[(&str, u64)]) -> Result<(), OutOfMemory> {
+    for (word, number) in words {
+        put_text(text, word)?;
+        put_number(text, *number)?;
+    }
+    put_text(text, "\n")
+}
+
+// 257 blocks that fill a carrier each, and two more where two carriers went.
+fn carriers_input(alloc: Global) -> Result<List<u8>, OutOfMemory> {
+    let mut input = List::new(alloc);
+    put_text(&mut input, "type H\nscheduler 1\n")?;
+    for name in 1..258 {
+        put_line(&mut input, &[("alloc ", name), (" ", 262_072)])?;
+    }
+    put_text(
+        &mut input,
+        "free 200\nfree 100\nalloc 258 262072\nalloc 259 262072\nschedule\nend\n",
+    )?;
+    Ok(input)
+}
+
+fn carriers_text(alloc: Global) -> Result<List<u8>, OutOfMemory> {
+    let mut text = List::new(alloc);
+    put_text(&mut text, "scheduler 1\n")?;
+    for name in 1..257 {
+        put_line(&mut text, &[("alloc ", name), (" ", name), (" 8 ", 32_760)])?;
+    }
+    put_text(
+        &mut text,
+        "alloc 257 fail need 32760 looked 0 numbers\nfree 200 done\nfree 100 done\n\
+        alloc 258 100 8 32760\nalloc 259 200 8 32760\n",
+    )?;
+    for (number, base) in (1..257).zip((0..16_384).step_by(64)) {
+        put_line(
+            &mut text,
+            &[
+                ("carrier ", number),
+                (" multi owner 1 employed 1 base ", base),
+                (" pages 64 allocated 32760 largest ", 0),
+            ],
+        )?;
+    }
+    put_text(
+        &mut text,
+        "total carriers 256 units 8388608 live 8386560 queued 0 free 0 header 2048\n",
+    )?;
+    Ok(text)
+}
+
+#[test]
+fn an_instance_has_256_carriers_at_most(rt: HostRuntime) -> Result<(), Fail> {
+    let alloc = rt.alloc();
+    let mut source = PlainSource::new(carriers_input(alloc)?);
+    let mut out = MemSink::new(alloc, 40_000, 4096, List::new(alloc))?;
+    let mut err = MemSink::new(alloc, 100, 16, List::new(alloc))?;
+    let words = "+MMscs 512 +MHlmbcs 256 +MHacul 0";
+    let status = run_words(&rt, alloc, words, &mut source, &mut out, &mut err)?;
+    assert_eq!(rt; status, 0);
+    assert_eq!(rt; out.taken(), carriers_text(alloc)?.as_slice());
+    assert_eq!(rt; err.taken(), b"".as_slice());
+    Ok(())
+}
