@@ -98,13 +98,3 @@ same-with x cs unused empty at =
           ∙ unused-none x.number cs unused))
       | inr other ↦ ap (block_among at.offset) (item_at-old number_of at.carrier x cs other)
     ]
-
--- a gap of one of the contents is a gap at its carrier's number
-pub found_in : (need : ℕ) (x : Candidate) (cs : List Content) → IsRising cs
-    → Any (IsGapOf need x) cs → HasGap need x.number x.offset cs
-found_in need x cs rising (k, c, within, at, gap) = (
-  c,
-  ap (content_of cs) (gap.0 ∙ sym (ap number_of at))
-      ∙ item_at-each number_of k c cs rising within ∙ ap Some at,
-  gap.1,
-)

@@ -71,10 +71,6 @@ lowest_past : (pages : ℕ) (r : Segment) (rs : List Segment) → r.pages < page
     → lowest_run pages (r ∷ rs) ≡ lowest_run pages rs
 lowest_past pages r rs h = grind arith
 
-lowest_first : (pages : ℕ) (r : Segment) (rs : List Segment) → pages ≤ r.pages
-    → lowest_run pages (r ∷ rs) ≡ Some r.base
-lowest_first pages r rs h = grind arith
-
 lowest_tail : (pages : ℕ) (r : Segment) (rs : List Segment) → IsNone (lowest_run pages (r ∷ rs))
     → (r.pages < pages) × IsNone (lowest_run pages rs)
 lowest_tail pages r rs h = elim (cases_lt r.pages pages)

@@ -8,10 +8,6 @@ use Rattle.ea_model.specs.Content.{Content, gaps_of, gap_at, is_empty_multi}
 use Rattle.ea_model.specs.Strategies.{candidates, inspected_by, may_miss}
 use Rattle.ea_model.specs.Instance.{Instance, content_of, block_in, first_number, is_used}
 
--- the candidate is a large enough gap of the content
-abbrev pub IsGapOf : ℕ → Candidate → Content → Type 0
-IsGapOf need x c = (x.number ≡ c.number) × (need ≤ gap_at (gaps_of c) x.offset)
-
 -- a gap of at least `need` units begins at the spot
 abbrev pub HasGap : ℕ → ℕ → ℕ → List Content → Type 0
 HasGap need number offset cs = (c : Content) × (content_of cs number ≡ Some c)

@@ -1,5 +1,5 @@
 -- What holds at every moment of every run under given words.
-use Rattle.std.specs.Prelude.{◌≡◌, ℕ, List, Some, Ok}
+use Rattle.std.specs.Prelude.{◌≡◌, List, Some, Ok}
 use Rattle.std.specs.declared.string.String.{String}
 use Rattle.ea_model.specs.declared.operations.Op.{Op}
 use Rattle.ea_model.specs.declared.settings.Config.{Config}

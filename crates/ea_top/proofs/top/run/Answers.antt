@@ -1,4 +1,4 @@
-use Rattle.std.proofs.Common.{◌≡◌, ℕ, sym, ◌∙◌, ap, refl}
+use Rattle.std.proofs.Common.{◌≡◌, sym, ◌∙◌, ap, refl}
 use Rattle.std.specs.Prelude.{Err}
 use Rattle.ea_top.specs.declared.faults.Fault.{Fault}
 use Rattle.ea_top.specs.declared.faults.Fault.TheVariants.{Word, SpaceTooSmall, Input, TooLong, ReadFailed, WriteFailed, OutOfMemory}
