@@ -1,19 +1,18 @@
 -- The contents of an instance, by rising number.
 use Rattle.std.proofs.Common.{suc, zero, ◌≡◌, ◌≢◌, ℕ, ◌+◌, ◌-◌, ◌<◌, ◌≤◌, true, false, List, [], ◌∷◌, length, All, sym, ap, ◌∙◌, subst, refl, inl, inr, arith}
-use Rattle.std.specs.Prelude.{Option, Some, None, is_some, Any}
+use Rattle.std.specs.Prelude.{Option, Some, None, is_some}
 use Rattle.std.specs.Option.{option_and_then}
 use Rattle.std.proofs.lemmas.Bool.{cases_eq, cases_Bool}
 use Rattle.std.proofs.lemmas.List.Elements.{All-tail}
 use Rattle.ea_model.specs.declared.carriers.BlockAt.{BlockAt}
-use Rattle.ea_model.specs.declared.carriers.Candidate.{Candidate}
 use Rattle.ea_model.specs.Content.{Content, block_at, is_empty_multi}
 use Rattle.ea_model.specs.Keyed.{IsBelow}
 use Rattle.ea_model.specs.Instance.{with_content, without_content, content_of, is_used, unused_from}
 use Rattle.ea_model.proofs.Pairs.{pairs_head, pairs_tail}
-use Rattle.ea_model.proofs.Rising.{item_at-each, item_at-gone, item_at-new, item_at-old, item_at-stays, none-other}
+use Rattle.ea_model.proofs.Rising.{item_at-gone, item_at-new, item_at-old, item_at-stays, none-other}
 use Rattle.ea_laws.proofs.Unused.{unused_from-zero, unused_from-used, unused_from-free_here}
 use Rattle.ea_laws.specs.Kept.{number_of, HasNumberIn, IsRising}
-use Rattle.ea_laws.specs.Spots.{HasGap, HaveSameBlocks, IsGapOf}
+use Rattle.ea_laws.specs.Spots.{HaveSameBlocks}
 
 unused_here : (k low n : ℕ) (cs : List Content) → is_used low cs ≡ false
     → unused_from (suc k) low cs ≡ Some n → low ≡ n
