@@ -2,6 +2,7 @@
 use Rattle.std.specs.Prelude.{ℕ, zero, suc, ◌+◌, ◌-◌, ◌*◌, ◌/◌, max, Bool, false, if◌then◌else◌, nat_lt, nat_le, List, [], ◌∷◌, Option, Some, None, Result, Ok, Err, filter, length, sum_by, option_map, is_some}
 use Rattle.std.specs.Option.{option_and_then}
 use Rattle.ea_model.specs.declared.settings.Config.{Config}
+use Rattle.ea_model.specs.declared.settings.Letter.{Letter}
 use Rattle.ea_model.specs.declared.settings.Settings.{Settings}
 use Rattle.ea_model.specs.declared.carriers.Kind.{Kind}
 use Rattle.ea_model.specs.declared.carriers.Kind.TheVariants.{Main, Multi}
@@ -14,7 +15,8 @@ use Rattle.ea_model.specs.declared.carriers.Figures.{Figures}
 use Rattle.ea_model.specs.declared.carriers.CarrierLine.{CarrierLine}
 use Rattle.ea_model.specs.declared.carriers.Totals.{Totals}
 use Rattle.ea_model.specs.declared.carriers.Standing.TheVariants as standing
-use Rattle.ea_model.specs.Settings.{region_pages}
+use Rattle.ea_model.specs.Settings.{region_pages, settings_of}
+use Rattle.ea_model.specs.Units.{pages_for}
 use Rattle.ea_model.specs.declared.entries.NoCarrier.{NoCarrier}
 use Rattle.ea_model.specs.declared.entries.NoCarrier.TheVariants.{Numbers, Space}
 use Rattle.ea_model.specs.Content.{Content, gaps_of, gap_at, block_at, taken_of, placed, released, allocated, largest, free_units, is_multi}
@@ -31,10 +33,6 @@ pub record Instance : Type 0 where
   pub end : ℕ
   pub contents : List Content
   pub created : ℕ
-
--- the pages that hold that many units
-abbrev pub pages_for : ℕ → ℕ
-pages_for units = (units + 511) / 512
 
 -- the first of the 256 carrier numbers of an instance
 abbrev pub first_number : ℕ → ℕ
@@ -241,6 +239,6 @@ totals cs = record {
   header = 8 * length cs;
 }
 
--- instance 1 as the configuration makes it for allocator H
-abbrev pub instance_of : Config → Instance
-instance_of c = new_instance c.h 1 0 (region_pages c)
+-- instance 1 of an allocator, as the configuration makes it
+abbrev pub instance_of : Config → Letter → Instance
+instance_of c letter = new_instance (settings_of c letter) 1 0 (region_pages c)

@@ -8,7 +8,5 @@ pub mod Settings
 pub mod GoodFit
 pub mod Strategies
 pub mod Instance
-pub mod Flags
 pub mod Words
-pub mod Lines
-pub mod Trace
+pub mod Operations

@@ -1,10 +1,13 @@
--- What the emulator flags set, and the settings that are valid.
-use Rattle.std.specs.Prelude.{ℕ, ◌*◌, ◌/◌, ◌≤◌}
+-- What the emulator flags set, and the configurations that are valid.
+use Rattle.std.specs.Prelude.{◌≡◌, ℕ, ◌*◌, ◌/◌, ◌<◌, ◌≤◌, Bool, true, false}
 use Rattle.ea_model.specs.declared.settings.Letter.{Letter}
 use Rattle.ea_model.specs.declared.settings.Letter.TheVariants.{B, D, E, H, L, R, S, T}
+use Rattle.ea_model.specs.declared.settings.Strategy.{Strategy}
+use Rattle.ea_model.specs.declared.settings.Strategy.TheVariants.{Bf, Aobf, Aoff, AoffCbf, AoffCaobf, AgeffCaoff, AgeffCbf, AgeffCaobf, Gf, Af}
 use Rattle.ea_model.specs.declared.settings.Settings.{Settings}
 use Rattle.ea_model.specs.declared.settings.Config.{Config}
-use Rattle.ea_model.specs.declared.units.TheConstants.{MAX_UNITS}
+use Rattle.ea_model.specs.declared.units.TheConstants.{KILOBYTE_UNITS, MAX_BYTES, MAX_GROWTH_CARRIERS, MAX_MEGABYTES, MAX_PERCENT, MAX_SCHEDULERS, MAX_SEARCH_DEPTH, MAX_UNITS, MEGABYTE_PAGES}
+use Rattle.ea_model.specs.Units.{pages_for}
 
 -- the settings of an allocator
 abbrev pub settings_of : Config → Letter → Settings
@@ -17,15 +20,49 @@ settings_of c R = c.r
 settings_of c S = c.s
 settings_of c T = c.t
 
--- the pages of an instance's region: an equal part of the super carrier's, of which a megabyte has
--- 256
+-- the pages of an instance's region: an equal part of the super carrier's
 abbrev pub region_pages : Config → ℕ
-region_pages c = c.scs * 256 / c.schedulers
+region_pages c = c.scs * MEGABYTE_PAGES / c.schedulers
 
--- the sizes and counts lie in the ranges of their flags; 524288 kilobytes are MAX_UNITS units
+-- whether carriers can migrate under the strategy
+abbrev pub can_migrate : Strategy → Bool
+can_migrate Bf = false
+can_migrate Aobf = false
+can_migrate Aoff = true
+can_migrate AoffCbf = true
+can_migrate AoffCaobf = true
+can_migrate AgeffCaoff = true
+can_migrate AgeffCbf = true
+can_migrate AgeffCaobf = true
+can_migrate Gf = false
+can_migrate Af = false
+
+-- a size of at least a kilobyte
+abbrev pub IsSize : ℕ → Type 0
+IsSize units = (KILOBYTE_UNITS ≤ units) × (units ≤ MAX_UNITS)
+
+-- the settings lie in the ranges of their flags, and carriers migrate only under a strategy that
+-- lets them
 pub record IsValid (s : Settings) : Type 0 where
-  pub threshold : s.sbct ≤ MAX_UNITS
-  pub smallest : s.smbcs ≤ MAX_UNITS
-  pub largest : s.lmbcs ≤ MAX_UNITS
+  pub utilization : s.acul ≤ MAX_PERCENT
+  pub least_gap : s.acfml ≤ MAX_BYTES
+  pub threshold : IsSize s.sbct
+  pub smallest : IsSize s.smbcs
+  pub largest : IsSize s.lmbcs
+  pub growth : (1 ≤ s.mbcgs) × (s.mbcgs ≤ MAX_GROWTH_CARRIERS)
   pub main : s.mmbcs ≤ MAX_UNITS
-  pub growth : (1 ≤ s.mbcgs) × (s.mbcgs ≤ 10000)
+  pub depth : (1 ≤ s.mbsd) × (s.mbsd ≤ MAX_SEARCH_DEPTH)
+  pub single_move : s.rsbcmt ≤ MAX_PERCENT
+  pub multi_move : s.rmbcmt ≤ MAX_PERCENT
+  pub single_shrink : s.rsbcst ≤ MAX_PERCENT
+  pub single_shrink_units : s.asbcst ≤ MAX_UNITS
+  pub migrates : 0 < s.acul → can_migrate s.strategy ≡ true
+
+-- a configuration is in the ranges of its flags, each main carrier fits an instance's region, and
+-- carriers of temp_alloc don't migrate
+pub record IsValidConfig (c : Config) : Type 0 where
+  pub schedulers : (1 ≤ c.schedulers) × (c.schedulers ≤ MAX_SCHEDULERS)
+  pub space : (1 ≤ c.scs) × (c.scs ≤ MAX_MEGABYTES)
+  pub settings : (letter : Letter) → IsValid (settings_of c letter)
+  pub main_carriers : (letter : Letter) → pages_for (settings_of c letter).mmbcs ≤ region_pages c
+  pub temporary : c.t.acul ≡ 0

@@ -9,3 +9,7 @@ even n = n + n % 2
 -- at least
 abbrev pub need_of : ℕ → ℕ
 need_of bytes = max 6 (even (1 + (bytes + 7) / 8))
+
+-- the pages that hold that many units
+abbrev pub pages_for : ℕ → ℕ
+pages_for units = (units + 511) / 512

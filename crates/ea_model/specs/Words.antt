@@ -34,8 +34,15 @@ is_numeral word = is_word word && (nat_le (length word) 10 && list_all is_ascii_
 abbrev pub numeral_value : List ℕ → ℕ
 numeral_value word = fold then_digit 0 word
 
+-- the number that the word writes
+abbrev pub numeral : List ℕ → Option ℕ
+numeral word = if is_numeral word then Some (numeral_value word) else None
+
+-- a number from low to high
+abbrev pub from_to : ℕ → ℕ → Option ℕ → Option ℕ
+from_to low high None = None
+from_to low high (Some n) = if nat_le low n && nat_le n high then Some n else None
+
 -- the number from low to high that the word writes
 abbrev pub number : ℕ → ℕ → List ℕ → Option ℕ
-number low high word = if is_numeral word &&
-    (nat_le low (numeral_value word) && nat_le (numeral_value word) high) then Some
-    (numeral_value word) else None
+number low high word = from_to low high (numeral word)

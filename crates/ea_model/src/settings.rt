@@ -1,6 +1,9 @@
 //! What the emulator flags set.
-ghost use Rattle.std.specs.Prelude.{◌≡◌, ◌*◌, ◌/◌, ◌<◌, ◌≤◌, ◌^◌};
+ghost use Rattle.std.specs.Prelude.{◌≡◌, ◌≤◌};
+ghost use Rattle.ea_model.specs.declared.units.TheConstants.{MAX_MEGABYTES};
 ghost use Rattle.ea_model.specs.Settings.{region_pages, settings_of};
+
+use crate::units::MEGABYTE_PAGES;
 
 /// How a gap is chosen among the carriers of an instance.
 #[derive(Debug, Clone, Copy, PartialEq, Eq)]
@@ -43,7 +46,7 @@ pub enum Letter {
 /// The settings of one allocator. Sizes of carriers and thresholds are in units, 128 a kilobyte.
 #[derive(Debug, Clone, Copy, PartialEq, Eq)]
 pub struct Settings {
-    /// The strategy, of flag `as`.
+    /// The strategy.
     pub strategy: Strategy,
     /// The utilization in percent below which a carrier is abandoned, 0 to 100; 0 turns migration
     /// off.
@@ -110,10 +113,10 @@ impl Config {
     /// The pages of each instance's region: an equal part of the super carrier's, of which a
     /// megabyte has 256.
     pub fn region_pages(&self) -> u32
-        requires some { 0 < self.now.schedulers }
-        requires size { self.now.scs ≤ 512 }
+        requires schedulers { 1 ≤ self.now.schedulers }
+        requires size { self.now.scs ≤ MAX_MEGABYTES }
         ensures { result ≡ region_pages self.now }
     {
-        self.scs * 256 / self.schedulers
+        self.scs * MEGABYTE_PAGES / self.schedulers
     }
 }

@@ -1,6 +1,6 @@
 //! Calls that succeed, and values that were worked out by hand.
 use crate::keyed::{self, enter, enter_within, item_of, take_out};
-use crate::words::{first_line, first_word, number};
+use crate::words::{first_line, first_word, number, numeral};
 use crate::{List, Segment, need};
 use std::test::Fail;
 
@@ -102,6 +102,21 @@ fn a_word_ends_at_a_space_a_tab_or_a_carriage_return(rt: HostRuntime) {
     ];
     for (text, found) in cases {
         assert_eq!(rt; first_word(text), found, "of {text:?}");
+    }
+}
+
+#[test]
+fn a_numeral_has_one_to_ten_digits(rt: HostRuntime) {
+    let cases: [(&[u8], Option<u64>); 6] = [
+        (b"0", Some(0)),
+        (b"9999999999", Some(9_999_999_999)),
+        (b"0000000012", Some(12)),
+        (b"00000000012", None),
+        (b"", None),
+        (b"1x", None),
+    ];
+    for (word, value) in cases {
+        assert_eq!(rt; numeral(word), value, "of {word:?}");
     }
 }
 

@@ -4,8 +4,12 @@ ghost use Rattle.ea_model.specs.Units.{need_of};
 
 /// The bytes of a unit.
 pub const UNIT_BYTES: u32 = 8;
+/// The units of a kilobyte.
+pub const KILOBYTE_UNITS: u32 = 128;
 /// The units of a page. Segments are whole pages.
 pub const PAGE_UNITS: u32 = 512;
+/// The pages of a megabyte.
+pub const MEGABYTE_PAGES: u32 = 256;
 /// The units at the front of a carrier that hold its own header.
 pub const HEADER_UNITS: u32 = 8;
 /// The fewest units of a block, its header included.
@@ -20,9 +24,24 @@ pub const MAX_NAME: u32 = 262_144;
 pub const MAX_OPS: u32 = 262_144;
 /// The pooled or busy carriers after which a search of the pool ends.
 pub const SEARCH_LIMIT: u32 = 16;
-/// The most bytes of a request that has no carrier of its own: 512 kilobytes less the block's
-/// header.
-pub const MAX_BYTES: u32 = 524_280;
+/// The most bytes of a request.
+pub const MAX_BYTES: u32 = 1_073_741_823;
+/// The most tries of one take.
+pub const MAX_TRIES: u32 = 10_000_000;
+/// The most tries of all takes of a trace.
+pub const MAX_ALL_TRIES: u32 = 100_000_000;
+/// The most turns of a schedule.
+pub const MAX_TURNS: u32 = 100_000_000;
+/// The greatest seed of a generated trace.
+pub const MAX_SEED: u32 = 2_147_483_647;
+/// The greatest percentage of a setting.
+pub const MAX_PERCENT: u32 = 100;
+/// The most carriers over which the size of multiblock carriers grows.
+pub const MAX_GROWTH_CARRIERS: u32 = 10_000;
+/// The most gaps of a bin that good fit inspects.
+pub const MAX_SEARCH_DEPTH: u32 = 1000;
+/// The megabytes of the largest super carrier.
+pub const MAX_MEGABYTES: u32 = 512;
 /// The pages of the largest super carrier, 512 megabytes.
 pub const MAX_PAGES: u32 = 131_072;
 /// The units of the largest super carrier, 512 megabytes.

@@ -42,14 +42,14 @@ pub fn first_word(line: &[u8]) -> Option<(&[u8], &[u8])>
     None
 }
 
-/// The number that a word of at most 10 bytes writes.
-fn numeral(word: &[u8]) -> Option<u64>
-    requires { length word.now ≤ 10 }
+/// The number that these digits write, 10 at most.
+fn value_of(digits: &[u8]) -> Option<u64>
+    requires { length digits.now ≤ 10 }
     ensures { result ≡
-        (if list_all is_ascii_digit word.now then Some (numeral_value word.now) else None) }
+        (if list_all is_ascii_digit digits.now then Some (numeral_value digits.now) else None) }
 {
     let mut value = 0u64;
-    for byte in word {
+    for byte in digits {
         if !byte.is_ascii_digit() {
             return None;
         }
@@ -58,13 +58,20 @@ fn numeral(word: &[u8]) -> Option<u64>
     Some(value)
 }
 
-/// The number from `low` to `high` that a word writes.
-pub fn number(word: &[u8], low: u32, high: u32) -> Option<u32>
-    ensures { result ≡ Rattle.ea_model.specs.Words.number low high word.now }
+/// The number that a word of 1 to 10 digits writes.
+pub fn numeral(word: &[u8]) -> Option<u64>
+    ensures { result ≡ Rattle.ea_model.specs.Words.numeral word.now }
 {
     if word.is_empty() || word.len() > 10 {
         return None;
     }
+    value_of(word)
+}
+
+/// The number from `low` to `high` that a word writes.
+pub fn number(word: &[u8], low: u32, high: u32) -> Option<u32>
+    ensures { result ≡ Rattle.ea_model.specs.Words.number low high word.now }
+{
     match numeral(word) {
         Some(value) if u64::from(low) <= value && value <= u64::from(high) => Some(value as u32),
         _ => None,

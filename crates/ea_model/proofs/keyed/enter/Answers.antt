@@ -1,7 +1,6 @@
-use Rattle.std.proofs.Common.{◌≡◌, true, false, sym, ap, ◌∙◌}
-use Rattle.std.specs.Prelude.{Bool, Result, Ok, Err, insert, if◌then◌else◌}
+use Rattle.std.proofs.Common.{ap, ◌∙◌}
+use Rattle.std.specs.Prelude.{insert}
 use Rattle.std.specs.List.{position_or_len}
-use Rattle.std.specs.Result.{is_ok, is_err}
 use Rattle.ea_model.specs.Keyed.{is_after}
 use Rattle.ea_model.proofs.Rising.{insert-entered}
 use Rattle.ea_model.proofs.keyed.enter.Goals as goal

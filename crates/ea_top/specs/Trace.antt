@@ -1,11 +1,11 @@
 -- The traces: which lines may follow which, and the operations that they hold. Earlier lines are
 -- lists with the newest line first.
-use Rattle.std.specs.Prelude.{ℕ, ◌≤◌, Bool, true, false, ◌&&◌, ◌||◌, not, nat_le, ◌==◌, List, [], ◌∷◌, ◌++◌, length, map, Option, Some, None}
+use Rattle.std.specs.Prelude.{ℕ, Bool, true, false, ◌&&◌, ◌||◌, not, nat_le, ◌==◌, List, [], ◌∷◌, ◌++◌, length, map, Option, Some, None}
 use Rattle.ea_model.specs.Words.{lines}
-use Rattle.ea_model.specs.Lines.{Line, Skipped, Letter, Scheduler, Alloc, Free, Schedule, End, Unreadable, line_of}
+use Rattle.ea_top.specs.Lines.{Line, Skipped, Letter, Scheduler, Alloc, Free, Schedule, End, Unreadable, line_of}
 use Rattle.ea_model.specs.declared.operations.Op.{Op}
 use Rattle.ea_model.specs.declared.operations.Op.TheVariants as op
-use Rattle.ea_model.specs.declared.units.TheConstants.{MAX_BYTES, MAX_NAME, MAX_OPS}
+use Rattle.ea_model.specs.declared.units.TheConstants.{MAX_OPS}
 
 -- the part of a trace that has been reached
 pub data Stage : Type 0 where
@@ -91,23 +91,3 @@ read_after earlier (line ∷ later) = if_follows (may_follow earlier line)
 -- the operations of a text, if it is a trace
 abbrev pub trace_of : List ℕ → Option (List Op)
 trace_of bytes = read_after [] (map line_of (lines bytes))
-
--- the name that an operation speaks of, of a reallocation the new one, or 0
-abbrev pub name_of : Op → ℕ
-name_of (op.Alloc name bytes) = name
-name_of (op.Free name) = name
-name_of (op.Realloc old fresh bytes) = fresh
-name_of (op.Give name to) = name
-name_of (op.Take name tries) = name
-name_of op.Info = 0
-name_of op.Idle = 0
-
--- the bytes that an operation asks for
-abbrev pub bytes_of : Op → ℕ
-bytes_of (op.Alloc name bytes) = bytes
-bytes_of (op.Realloc old fresh bytes) = bytes
-bytes_of o = 0
-
--- names and requests are in their ranges
-abbrev pub InRange : Op → Type 0
-InRange o = (name_of o ≤ MAX_NAME) × (bytes_of o ≤ MAX_BYTES)

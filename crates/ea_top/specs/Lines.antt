@@ -18,8 +18,7 @@ pub data Line : Type 0 where
 abbrev pub name_in : List ℕ → Option ℕ
 name_in word = number 1 MAX_NAME word
 
--- the bytes of a request; one above 512 kilobytes less the header's 8 bytes has a carrier of its
--- own, which isn't built
+-- the bytes of a request
 abbrev pub bytes_in : List ℕ → Option ℕ
 bytes_in word = number 0 MAX_BYTES word
 
