@@ -1,0 +1,4 @@
+mod Ranges
+mod InRange
+mod Valid
+mod Pairs

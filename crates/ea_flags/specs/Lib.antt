@@ -1,0 +1,5 @@
+pub mod Words
+pub mod Values
+pub mod Ranges
+pub mod Configs
+pub mod Flags
