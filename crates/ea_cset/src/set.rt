@@ -69,7 +69,8 @@ impl CarrierSet {
     /// Takes the carrier with the number out of the set.
     pub fn remove(&mut self, number: u32)
         requires { IsTrue (is_held number self.old.held) }
-        ensures removed { self.new ≡ record self.old { held = without number_of number self.old.held } }
+        ensures removed { self.new ≡ record self.old
+            { held = without number_of number self.old.held } }
         ensures count { length self.new.held + 1 ≡ length self.old.held }
         ensures rising { AllPairs IsBefore self.new.held }
 

@@ -29,7 +29,7 @@ all_held : (gs : List BinnedGap) → All (λ g. IsTrue (is_held g gs)) gs
 all_held gs = All-weaker (Contains gs) (λ g. IsTrue (is_held g gs)) (λ g c. held-contained gs g c)
     gs (All-contains_itself gs)
 
--- whether a search looks at the gap
+-- whether a search inspects the gap
 abbrev inspected_by : ℕ → List BinnedGap → BinnedGap → Bool
 inspected_by depth gs g = is_inspected (λ h. h.address) (λ h. h.size) depth gs g
 

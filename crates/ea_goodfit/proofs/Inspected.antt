@@ -255,11 +255,13 @@ seen_or_none Q b [] a = inr refl
 seen_or_none Q b (h ∷ hs) a =
     elim (cases_eq (bin_of h.size) b) [
       | inl e ↦ inl (subst Q e (All-head (λ (x : BinnedGap). Q (bin_of x.size)) h hs a))
-      | inr ne ↦ elim (seen_or_none Q b hs (All-tail (λ (x : BinnedGap). Q (bin_of x.size)) h hs a)) [
-        | inl q ↦ inl q
-        | inr none ↦ inr
-            (filter_past (λ x. bin_of x.size == b) h hs (other (bin_of h.size) b ne) ∙ none)
-      ]
+      | inr ne ↦
+          let rest = All-tail (λ (x : BinnedGap). Q (bin_of x.size)) h hs a in
+          elim (seen_or_none Q b hs rest) [
+            | inl q ↦ inl q
+            | inr none ↦ inr
+                (filter_past (λ x. bin_of x.size == b) h hs (other (bin_of h.size) b ne) ∙ none)
+          ]
     ] where
       other : (a b : ℕ) → a ≢ b → (a == b) ≡ false
       other a b ne = grind arith

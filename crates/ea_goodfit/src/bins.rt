@@ -26,7 +26,10 @@ impl Model for Bins {
 
     ghost Value = { HeldGaps };
 
-    ghost view = { λ b. record { held = b.held.items; room = vec_capacity b.held - vec_len b.held } };
+    ghost view = { λ b. record {
+      held = b.held.items;
+      room = vec_capacity b.held - vec_len b.held;
+    } };
 
     ghost invariant = { λ b. AllPairs IsBelow b.held.items };
 }
@@ -81,8 +84,8 @@ impl Bins {
 
         // Its address is free now, and the other gaps are as before.
         ensures free { All (λ g. g.address ≢ gap.address) self.new.held }
-        ensures gaps { (g : BinnedGap)
-            → is_held g self.new.held ≡ (is_held g self.old.held && not (g.address == gap.address)) }
+        ensures gaps { (g : BinnedGap) → is_held g self.new.held
+            ≡ (is_held g self.old.held && not (g.address == gap.address)) }
         ensures order { (rest : List BinnedGap) → IsPermutation self.old.held (gap ∷ rest)
             → IsPermutation self.new.held rest }
     {
@@ -138,7 +141,8 @@ impl Bins {
         requires held { CanJoin self.old.held address before size behind }
         ensures { (rest : List BinnedGap) → IsPermutation self.old.held
             (gap_from (address - before) before ++ (gap_from (address + size) behind ++ rest))
-            → IsPermutation self.new.held (gap_from (address - before) (before + size + behind) ++ rest) }
+            → IsPermutation self.new.held
+            (gap_from (address - before) (before + size + behind) ++ rest) }
     {
         self.take(BinnedGap {
             address: address - before,
@@ -165,7 +169,8 @@ impl Bins {
 
         // The gap found is one that the search inspects and that fits, and none of these comes
         // before it.
-        ensures first { IfSome result (IsFirst smaller (inspected_fitting depth need self.now.held)) }
+        ensures first { IfSome result
+            (IsFirst smaller (inspected_fitting depth need self.now.held)) }
         ensures held { IfSome result (λ g. IsTrue (is_held g self.now.held)) }
         ensures inspected { IfSome result
             (λ g. IsTrue (is_inspected (λ h. h.address) (λ h. h.size) depth self.now.held g)) }

@@ -8,6 +8,7 @@ ghost use Rattle.ea_model.specs.Content.{named, free_units, gaps_of, is_empty_mu
 ghost use Rattle.ea_model.specs.declared.entries.NoCarrier.TheVariants.{Numbers, Space};
 ghost use Rattle.ea_model.specs.Region.{runs};
 ghost use Rattle.ea_model.specs.Settings.{IsValid};
+ghost use Rattle.ea_model.specs.Units.{pages_for};
 ghost use Rattle.ea_model.specs.Strategies.{candidates, may_miss};
 ghost use Rattle.ea_model.specs.Instance.{carrier_line, main_content, new_instance, growth, multis, unused_from, plan, created_content, creating, chosen_spot, place_at, releasing_at, clearing, content_of, block_in, segments, least_pages};
 ghost use Rattle.ea_model.specs.Instance as instances;
@@ -55,7 +56,7 @@ impl Model for Instance {
 /// The pages that hold that many units.
 fn pages_for(units: u32) -> u32
     requires { units ≤ 2 ^ 31 }
-    ensures { result ≡ instances.pages_for units }
+    ensures { result ≡ pages_for units }
 {
     units.div_ceil(PAGE_UNITS)
 }
@@ -118,7 +119,7 @@ impl Instance {
         requires valid { IsValid settings }
         requires number { (1 ≤ number) × (number ≤ MAX_SCHEDULERS) }
         requires region { first + pages ≤ MAX_PAGES }
-        requires main { instances.pages_for settings.mmbcs ≤ pages }
+        requires main { pages_for settings.mmbcs ≤ pages }
         ensures { IfOk result (λ i. i ≡ new_instance settings number first pages) }
     {
         let mut region = Region::new(alloc, first, pages)?;
@@ -263,7 +264,7 @@ impl Instance {
     /// `least`.
     fn next_pages(&self, least: u32) -> u32
         ensures pages { result ≡ max least
-            (instances.pages_for (growth self.now.settings (multis self.now.contents))) }
+            (pages_for (growth self.now.settings (multis self.now.contents))) }
         ensures small { result ≤ max least MAX_PAGES }
     {
         least.max(pages_for(growth(self.settings, multi_count(self.carriers.as_slice()))))

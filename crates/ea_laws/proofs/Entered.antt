@@ -14,6 +14,7 @@ use Rattle.ea_model.specs.Units.{need_of}
 use Rattle.ea_laws.specs.Moments.{EntersOne, IsEntryOf}
 use Rattle.ea_laws.specs.Run.{IsBuiltOp, Run, allocating, freeing, in_new_carrier, spot_held, step, steps, with_carrier}
 use Rattle.ea_laws.proofs.Keeping.{chosen-planned}
+use Rattle.ea_laws.proofs.Steps.{step-alloc, step-settings}
 
 -- the next state has this operation's entry
 abbrev Enters : Run → Op → Option Run → Type 0
@@ -45,9 +46,10 @@ freed r name (Some spot) = (_, refl, (_, refl, inl refl))
 
 pub enters-one : (r : Run) → EntersOne r
 enters-one r = λ o built. entered o built where
-  entered : (o : Op) → IsBuiltOp o → Enters r o (step r o)
-  entered (op.Alloc name bytes) built = by_choice r name bytes
-      (chosen_spot r.instance (need_of bytes))
+  entered : (o : Op) → IsBuiltOp r.instance.settings o → Enters r o (step r o)
+  entered (op.Alloc name bytes) built = subst (Enters r (op.Alloc name bytes))
+      (sym (step-alloc r name bytes built))
+      (by_choice r name bytes (chosen_spot r.instance (need_of bytes)))
   entered (op.Free name) built = freed r name (spot_held name r.held)
   entered (op.Realloc old fresh bytes) built = absurd cc
   entered (op.Give name to) built = absurd cc
@@ -56,9 +58,13 @@ enters-one r = λ o built. entered o built where
   entered op.Idle built = absurd cc
 
 -- operations that are built can all be done
-pub steps-some : (r : Run) (ops : List Op) → All IsBuiltOp ops → IsSome (steps r ops)
+pub steps-some : (r : Run) (ops : List Op) → All (IsBuiltOp r.instance.settings) ops
+    → IsSome (steps r ops)
 steps-some r [] built = refl
 steps-some r (o ∷ ops) built =
-    let next = enters-one r o (All-head IsBuiltOp o ops built) in
+    let may : Op → Type 0 = IsBuiltOp r.instance.settings in
+    let next = enters-one r o (All-head may o ops built) in
     subst (λ m. IsSome (option_and_then (λ s. steps s ops) m)) (sym next.1)
-    (steps-some next.0 ops (All-tail IsBuiltOp o ops built))
+    (steps-some next.0 ops
+    (subst (λ s. All (IsBuiltOp s) ops) (sym (step-settings r o next.0 next.1))
+    (All-tail may o ops built)))

@@ -16,8 +16,9 @@ use Rattle.ea_model.specs.Content.{Content, gap_at, gaps_of, is_empty_multi, pla
 use Rattle.ea_model.specs.Choice.{first}
 use Rattle.ea_model.specs.Keyed.{IsBelow}
 use Rattle.ea_model.specs.Settings.{IsValid}
+use Rattle.ea_model.specs.Units.{pages_for}
 use Rattle.ea_model.specs.Strategies.{candidates, choice_among, choice_for, choice_empty, large_enough, inspected_by, lower, may_miss, or_else, spot_of, takes_first}
-use Rattle.ea_model.specs.Instance.{Instance, changed, chosen_spot, clearing, content_of, created_content, creating, first_number, main_content, new_instance, pages_for, placing_at, plan, releasing_at}
+use Rattle.ea_model.specs.Instance.{Instance, changed, chosen_spot, clearing, content_of, created_content, creating, first_number, main_content, new_instance, placing_at, plan, releasing_at}
 use Rattle.ea_model.proofs.First.{first-All}
 use Rattle.ea_model.proofs.Options.{if_some, some_holds, some_map}
 use Rattle.ea_model.proofs.Pairs.{pairs_nil}

@@ -1,8 +1,9 @@
--- What one operation does, by its cases, and that the instance stands after it.
-use Rattle.std.proofs.Common.{◌≡◌, ℕ, ◌+◌, ◌/◌, ◌%◌, ◌≤◌, [], ◌∷◌, ◌++◌, sym, subst, refl, inl, inr, ◌⊎◌, arith}
+-- What one operation does, by its cases; that the instance stands after it, and that it keeps its
+-- settings and its number.
+use Rattle.std.proofs.Common.{◌≡◌, ℕ, ◌+◌, ◌/◌, ◌%◌, ◌≤◌, List, [], ◌∷◌, ◌++◌, sym, ap, ◌∙◌, subst, refl, inl, inr, ◌⊎◌, arith}
 use Rattle.std.specs.Prelude.{Option, Some, None, Result, Ok, Err, max}
 use Rattle.std.specs.Option.{option_and_then}
-use Rattle.std.proofs.lemmas.Bool.{cond_both}
+use Rattle.std.proofs.lemmas.Bool.{cases_Bool, cond_both, cond-false, cond-true}
 use Rattle.ea_model.specs.declared.carriers.CarrierPlan.{CarrierPlan}
 use Rattle.ea_model.specs.declared.carriers.Spot.{Spot}
 use Rattle.ea_model.specs.declared.entries.Entry.TheVariants as entry
@@ -13,7 +14,7 @@ use Rattle.ea_model.specs.Content.{Content, is_empty_multi}
 use Rattle.ea_model.specs.Instance.{Instance, chosen_spot, clearing, content_of, creating, plan, releasing_at}
 use Rattle.ea_model.specs.Units.{even, need_of}
 use Rattle.ea_laws.specs.Kept.{Stands}
-use Rattle.ea_laws.specs.Run.{Run, allocating, freeing, in_new_carrier, spot_held, step, tidied, with_block, with_carrier}
+use Rattle.ea_laws.specs.Run.{IsBuiltOp, Run, allocating, doing, freeing, in_new_carrier, is_built, spot_held, step, steps, tidied, with_block, with_carrier}
 use Rattle.ea_laws.proofs.Standing.{chosen-Stands, clearing-Stands, creating-Stands, releasing-Stands}
 
 pub need-least : (bytes : ℕ) → 6 ≤ need_of bytes
@@ -49,6 +50,10 @@ abbrev pub Outcome : Run → ℕ → ℕ → Run → Type 0
 Outcome r name need s = PlacesIn r name need s r.instance
     ⊎ (PlacesInNew r name need s ⊎ Fails r name need s)
 
+-- what isn't built has no next state
+pub unbuilt : {A : Type 0} (s : Run) → None ≡ Some s → A
+unbuilt s e = absurd cc
+
 module _ (r : Run) (name need : ℕ) (s : Run) where
   in_new : (i : Instance) (o : Option Spot) → chosen_spot i need ≡ o
       → in_new_carrier r i name need o ≡ Some s → PlacesIn r name need s i
@@ -73,20 +78,35 @@ module _ (r : Run) (name need : ℕ) (s : Run) where
   by_choice None e h = inr (with_plan e (plan r.instance need) refl h)
   by_choice (Some spot) e h = inl (record { spot = spot; chosen = e; is = cc })
 
+-- an operation that is built is done, and one that is done is built
+pub step-built : (r : Run) (o : Op) → IsBuiltOp r.instance.settings o → step r o ≡ doing r o
+step-built r o built = cond-true (is_built r.instance.settings o) (doing r o) None built
+
+pub step-done : (r : Run) (o : Op) (s : Run) → step r o ≡ Some s
+    → IsBuiltOp r.instance.settings o × (doing r o ≡ Some s)
+step-done r o s e =
+    elim (cases_Bool (is_built r.instance.settings o)) [
+      | inl built ↦ (built, sym (step-built r o built) ∙ e)
+      | inr not ↦ unbuilt s (sym (cond-false (is_built r.instance.settings o) (doing r o) None not)
+          ∙ e)
+    ]
+
+-- an allocation that is built
+pub step-alloc : (r : Run) (name bytes : ℕ) → IsBuiltOp r.instance.settings (op.Alloc name bytes)
+    → step r (op.Alloc name bytes)
+    ≡ allocating r name (need_of bytes) (chosen_spot r.instance (need_of bytes))
+step-alloc r name bytes built = step-built r (op.Alloc name bytes) built
+
 -- what an allocation does
 pub alloc-Outcome : (r : Run) (name bytes : ℕ) (s : Run) → step r (op.Alloc name bytes) ≡ Some s
     → Outcome r name (need_of bytes) s
 alloc-Outcome r name bytes s e = by_choice r name (need_of bytes) s
-    (chosen_spot r.instance (need_of bytes)) refl e
+    (chosen_spot r.instance (need_of bytes)) refl (step-done r (op.Alloc name bytes) s e).1
 
 -- what a free does
 pub free-is : (r : Run) (name : ℕ) (s : Run) → step r (op.Free name) ≡ Some s
     → s ≡ freeing r name (spot_held name r.held)
 free-is r name s e = cc
-
--- no other operation is built
-pub unbuilt : {A : Type 0} (s : Run) → None ≡ Some s → A
-unbuilt s e = absurd cc
 
 -- what is there after a step that may have none
 pub next-of : {A B : Type 0} (o : Option A) (f : A → Option B) (b : B)
@@ -139,3 +159,73 @@ step-Stands r (op.Give name to) s e st = unbuilt s e
 step-Stands r (op.Take name tries) s e st = unbuilt s e
 step-Stands r op.Info s e st = unbuilt s e
 step-Stands r op.Idle s e st = unbuilt s e
+
+-- what is the same whatever the carriers are: the settings, the number, the region
+module _ {A : Type 0} (of : Instance → A)
+    (keeps : (i : Instance) (cs : List Content) (n : ℕ)
+    → of (record i { contents = cs; created = n }) ≡ of i) where
+  places-same : (r : Run) (name need : ℕ) (s : Run) (i : Instance) → of i ≡ of r.instance
+      → PlacesIn r name need s i → of s.instance ≡ of r.instance
+  places-same r name need s i same p = ap (λ (t : Run). of t.instance) p.is ∙ keeps i _ i.created
+      ∙ same
+
+  alloc-same : (r : Run) (name need : ℕ) (s : Run) → Outcome r name need s
+      → of s.instance ≡ of r.instance
+  alloc-same r name need s o =
+      elim o [
+        | inl here ↦ places-same r name need s r.instance refl here
+        | inr rest ↦ elim rest [
+          | inl new ↦ places-same r name need s (creating r.instance new.plan_is)
+              (keeps r.instance _ new.plan_is.birth) new.places
+          | inr fails ↦ ap (λ (t : Run). of t.instance) fails.is
+        ]
+      ]
+
+  tidied-same : (i : Instance) (number : ℕ) (o : Option Content) → of (tidied i number o) ≡ of i
+  tidied-same i number None = refl
+  tidied-same i number (Some c) = cond_both (is_empty_multi c) (clearing i number) i
+      (λ j. of j ≡ of i) (λ _. keeps i _ i.created) (λ _. refl)
+
+  freeing-same : (r : Run) (name : ℕ) (o : Option Spot)
+      → of (freeing r name o).instance ≡ of r.instance
+  freeing-same r name None = refl
+  freeing-same r name (Some spot) =
+      let i = releasing_at r.instance spot in
+      tidied-same i spot.carrier (content_of i.contents spot.carrier)
+      ∙ keeps r.instance _ r.instance.created
+
+  pub step-same : (r : Run) (o : Op) (s : Run) → step r o ≡ Some s → of s.instance ≡ of r.instance
+  step-same r (op.Alloc name bytes) s e = alloc-same r name (need_of bytes) s
+      (alloc-Outcome r name bytes s e)
+  step-same r (op.Free name) s e = ap (λ (t : Run). of t.instance) (free-is r name s e)
+      ∙ freeing-same r name (spot_held name r.held)
+  step-same r (op.Realloc old fresh bytes) s e = unbuilt s e
+  step-same r (op.Give name to) s e = unbuilt s e
+  step-same r (op.Take name tries) s e = unbuilt s e
+  step-same r op.Info s e = unbuilt s e
+  step-same r op.Idle s e = unbuilt s e
+
+  pub steps-same : (r : Run) (ops : List Op) (s : Run) → steps r ops ≡ Some s
+      → of s.instance ≡ of r.instance
+  steps-same r [] s e = let same : r ≡ s = cc in ap (λ (t : Run). of t.instance) (sym same)
+  steps-same r (o ∷ ops) s e =
+      let next = next-of (step r o) (λ t. steps t ops) s e in
+      steps-same next.0 ops s next.2 ∙ step-same r o next.0 next.1
+
+-- one operation keeps the instance's settings and its number
+pub step-settings : (r : Run) (o : Op) (s : Run) → step r o ≡ Some s
+    → s.instance.settings ≡ r.instance.settings
+step-settings r o s e = step-same (λ i. i.settings) (λ i cs n. refl) r o s e
+
+pub step-number : (r : Run) (o : Op) (s : Run) → step r o ≡ Some s
+    → s.instance.number ≡ r.instance.number
+step-number r o s e = step-same (λ i. i.number) (λ i cs n. refl) r o s e
+
+-- so do the operations of a run
+pub steps-settings : (r : Run) (ops : List Op) (s : Run) → steps r ops ≡ Some s
+    → s.instance.settings ≡ r.instance.settings
+steps-settings r ops s e = steps-same (λ i. i.settings) (λ i cs n. refl) r ops s e
+
+pub steps-number : (r : Run) (ops : List Op) (s : Run) → steps r ops ≡ Some s
+    → s.instance.number ≡ r.instance.number
+steps-number r ops s e = steps-same (λ i. i.number) (λ i cs n. refl) r ops s e

@@ -7,9 +7,10 @@ use Rattle.ea_model.specs.declared.entries.NoCarrier.TheVariants.{Numbers, Space
 use Rattle.ea_model.specs.declared.settings.Settings.{Settings}
 use Rattle.ea_model.specs.declared.units.TheConstants.{MAX_PAGES, MAX_SCHEDULERS}
 use Rattle.ea_model.specs.Content.{Content, is_empty_multi}
-use Rattle.ea_model.specs.Instance.{Instance, block_in, chosen_spot, clearing, content_of, creating, least_pages, new_instance, pages_for, place_at, placing_at, plan, releasing_at, segments}
+use Rattle.ea_model.specs.Instance.{Instance, block_in, chosen_spot, clearing, content_of, creating, least_pages, new_instance, place_at, placing_at, plan, releasing_at, segments}
 use Rattle.ea_model.specs.Region.{runs}
 use Rattle.ea_model.specs.Settings.{IsValid}
+use Rattle.ea_model.specs.Units.{pages_for}
 use Rattle.ea_laws.specs.InOrder.{IsInOrder}
 use Rattle.ea_laws.specs.Kept.{Stands}
 use Rattle.ea_laws.specs.Spots.{AllUsed, HaveSameBlocks, IsOther, IsPlaced}

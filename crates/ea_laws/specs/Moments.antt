@@ -119,10 +119,10 @@ IsEntryOf (op.Take name tries) e = ⊥
 IsEntryOf op.Info e = ⊥
 IsEntryOf op.Idle e = ⊥
 
--- each operation that is built has a next state, whose log has one entry more, which is the
--- operation's
+-- each operation that is built under its settings has a next state, whose log has one entry more,
+-- which is the operation's
 abbrev pub EntersOne : Run → Type 0
-EntersOne r = (o : Op) → IsBuiltOp o → (s : Run) × (step r o ≡ Some s)
+EntersOne r = (o : Op) → IsBuiltOp r.instance.settings o → (s : Run) × (step r o ≡ Some s)
     × ((e : Entry) × (s.log ≡ r.log ++ e ∷ []) × IsEntryOf o e)
 
 -- what holds at each moment, after these operations

@@ -1,10 +1,11 @@
 -- A run of one scheduler: what the operations that are built do, one after another.
-use Rattle.std.specs.Prelude.{◌≡◌, ℕ, Bool, true, false, List, [], ◌∷◌, ◌++◌, Option, Some, None, Result, Ok, Err, if◌then◌else◌, option_map}
+use Rattle.std.specs.Prelude.{◌≡◌, ℕ, Bool, true, false, nat_le, List, [], ◌∷◌, ◌++◌, Option, Some, None, Result, Ok, Err, if◌then◌else◌, option_map}
 use Rattle.std.specs.Option.{option_and_then}
 use Rattle.ea_model.specs.declared.carriers.Spot.{Spot}
 use Rattle.ea_model.specs.declared.carriers.CarrierPlan.{CarrierPlan}
 use Rattle.ea_model.specs.declared.operations.Op.{Op}
 use Rattle.ea_model.specs.declared.operations.Op.TheVariants as op
+use Rattle.ea_model.specs.declared.settings.Settings.{Settings}
 use Rattle.ea_model.specs.declared.entries.NoCarrier.{NoCarrier}
 use Rattle.ea_model.specs.declared.entries.Entry.{Entry}
 use Rattle.ea_model.specs.declared.entries.Entry.TheVariants as entry
@@ -79,29 +80,34 @@ freeing r name (Some spot) = record {
   log = r.log ++ entry.Free name ∷ [];
 }
 
--- whether the operation is built
-abbrev pub is_built : Op → Bool
-is_built (op.Alloc name bytes) = true
-is_built (op.Free name) = true
-is_built (op.Realloc old fresh bytes) = false
-is_built (op.Give name to) = false
-is_built (op.Take name tries) = false
-is_built op.Info = false
-is_built op.Idle = false
+-- whether the operation is built under these settings; a block above the singleblock threshold
+-- would have a carrier of its own, which isn't built
+abbrev pub is_built : Settings → Op → Bool
+is_built s (op.Alloc name bytes) = nat_le (need_of bytes) s.sbct
+is_built s (op.Free name) = true
+is_built s (op.Realloc old fresh bytes) = false
+is_built s (op.Give name to) = false
+is_built s (op.Take name tries) = false
+is_built s op.Info = false
+is_built s op.Idle = false
 
-abbrev pub IsBuiltOp : Op → Type 0
-IsBuiltOp o = is_built o ≡ true
+abbrev pub IsBuiltOp : Settings → Op → Type 0
+IsBuiltOp s o = is_built s o ≡ true
+
+-- what an operation does, whatever the threshold; none for the kinds that aren't built
+abbrev pub doing : Run → Op → Option Run
+doing r (op.Alloc name bytes) = allocating r name (need_of bytes)
+    (chosen_spot r.instance (need_of bytes))
+doing r (op.Free name) = Some (freeing r name (spot_held name r.held))
+doing r (op.Realloc old fresh bytes) = None
+doing r (op.Give name to) = None
+doing r (op.Take name tries) = None
+doing r op.Info = None
+doing r op.Idle = None
 
 -- what one operation does; none where it isn't built
 abbrev pub step : Run → Op → Option Run
-step r (op.Alloc name bytes) = allocating r name (need_of bytes)
-    (chosen_spot r.instance (need_of bytes))
-step r (op.Free name) = Some (freeing r name (spot_held name r.held))
-step r (op.Realloc old fresh bytes) = None
-step r (op.Give name to) = None
-step r (op.Take name tries) = None
-step r op.Info = None
-step r op.Idle = None
+step r o = if is_built r.instance.settings o then doing r o else None
 
 -- what the operations do, in order
 abbrev pub steps : Run → List Op → Option Run

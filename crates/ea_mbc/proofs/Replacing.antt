@@ -30,13 +30,14 @@ Replaced-more more xs ys gone made r =
       is = ap (λ zs. more ++ zs) r.is ∙ regroup more r.front made r.behind;
     }
 
--- ys are the gaps xs with a block of so many units at the front of the gap of g units at the offset
+-- ys are the gaps xs with a block of that many units at the front of the gap of g units at the
+-- offset
 abbrev Taken : List Gap → List Gap → ℕ → ℕ → ℕ → Type 0
 Taken xs ys offset size g = Replaced xs ys (record { offset = offset; size = g } ∷ [])
     (gap (offset + size) (offset + g))
 
--- ys are the gaps xs with the block of so many units at the offset, and the gaps before and behind
--- it, as one gap
+-- ys are the gaps xs with the block of that many units at the offset, and the gaps before and
+-- behind it, as one gap
 abbrev Joined : List Gap → List Gap → ℕ → ℕ → ℕ → ℕ → Type 0
 Joined xs ys offset before size behind = Replaced xs ys
     (gap (offset - before) offset ++ gap (offset + size) (offset + size + behind))

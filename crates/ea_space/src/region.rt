@@ -50,8 +50,8 @@ impl Region {
         })
     }
 
-    /// Where the lowest free run of at least `pages` pages begins, or None where no free run has so
-    /// many.
+    /// Where the lowest free run of at least `pages` pages begins, or None where no free run has
+    /// that many.
     pub fn find(&self, pages: u32) -> Option<u32>
         ensures found { result ≡ lowest_run pages (runs_of self.now) }
         ensures none { IsNone result ↔ All (λ r. r.pages < pages) (runs_of self.now) }

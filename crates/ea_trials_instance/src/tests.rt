@@ -1,7 +1,7 @@
 ghost use Rattle.std.specs.Prelude.{◌≡◌, ◌+◌, ◌≤◌};
 ghost use Rattle.ea_model.specs.declared.units.TheConstants.{MAX_PAGES, MAX_SCHEDULERS};
 ghost use Rattle.ea_model.specs.Settings.{IsValid};
-ghost use Rattle.ea_model.specs.Instance.{pages_for};
+ghost use Rattle.ea_model.specs.Units.{pages_for};
 
 use crate::tests::Step::{BlockAt, Create, Employs, FreeUnits, MultiFigures, Plan, Put, TakeOut};
 use ea_instance::{CarrierPlan, Instance, Released};
