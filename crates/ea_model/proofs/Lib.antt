@@ -6,3 +6,4 @@ pub mod Pairs
 pub mod Powers
 pub mod Rising
 pub mod Splits
+pub mod Traces

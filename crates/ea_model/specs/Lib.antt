@@ -10,3 +10,4 @@ pub mod Strategies
 pub mod Instance
 pub mod Words
 pub mod Operations
+pub mod Trace

@@ -10,6 +10,7 @@ pub mod operations;
 pub mod settings;
 #[cfg(test)]
 mod tests;
+pub mod trace;
 pub mod units;
 pub mod words;
 
@@ -21,6 +22,7 @@ pub use entries::{Entry, NoCarrier, Report, Triple};
 pub use lists::{List, OutOfMemory};
 pub use operations::Op;
 pub use settings::{Config, Letter, Settings, Strategy};
+pub use trace::{Mode, Trace, Turns};
 pub use units::{
     HEADER_UNITS, KILOBYTE_UNITS, MAX_ALL_TRIES, MAX_BYTES, MAX_GROWTH_CARRIERS, MAX_INPUT,
     MAX_MEGABYTES, MAX_NAME, MAX_OPS, MAX_PAGES, MAX_PERCENT, MAX_SCHEDULERS, MAX_SEARCH_DEPTH,

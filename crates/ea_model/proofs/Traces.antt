@@ -1,0 +1,72 @@
+-- A trace and what a definition answers for it say the same.
+use Rattle.std.proofs.Common.{◌≡◌, ℕ, ◌+◌, ◌≤◌, true, List, [], ◌∷◌, length, map, refl, sym, ap, subst, ◌∙◌}
+use Rattle.std.specs.List.{All, count_by, flat_map, list_any, sum_by}
+use Rattle.ea_model.specs.Lists.{Items}
+use Rattle.ea_model.specs.declared.operations.Op.{Op}
+use Rattle.ea_model.specs.declared.trace.Mode.{Mode}
+use Rattle.ea_model.specs.declared.trace.Mode.TheVariants.{Threads, Schedule, Generated}
+use Rattle.ea_model.specs.declared.trace.Trace.{Trace}
+use Rattle.ea_model.specs.declared.units.TheConstants.{MAX_ALL_TRIES, MAX_OPS}
+use Rattle.ea_model.specs.Trace.{BringsBefore, HasTexts, IsOperation, IsValidMode, IsValidTrace, gives, gives_to, greatest_of, listed, makes, plain, plain_mode, takes, text_at, texts_of, tries_of}
+
+same_items : (texts : List (Items Op))
+    → map (λ text. text.items) (map (λ text. listed text.items) texts) ≡ map (λ text. text.items) texts
+same_items [] = refl
+same_items (text ∷ texts) = ap (λ rest. text.items ∷ rest) (same_items texts)
+
+pub plain-texts : (t : Trace) → texts_of (plain t) ≡ texts_of t
+plain-texts t = same_items t.texts.items
+
+has_texts : (n : ℕ) (m : Mode) (texts : List (List Op)) → HasTexts n (plain_mode m) texts
+    → HasTexts n m texts
+has_texts n Threads texts h = h
+has_texts n (Schedule turns) texts h = h
+has_texts n (Generated seed count) texts h = h
+
+has_plain_texts : (n : ℕ) (m : Mode) (texts : List (List Op)) → HasTexts n m texts
+    → HasTexts n (plain_mode m) texts
+has_plain_texts n Threads texts h = h
+has_plain_texts n (Schedule turns) texts h = h
+has_plain_texts n (Generated seed count) texts h = h
+
+valid_mode : (n : ℕ) (m : Mode) → IsValidMode n (plain_mode m) → IsValidMode n m
+valid_mode n Threads h = h
+valid_mode n (Schedule turns) h = h
+valid_mode n (Generated seed count) h = h
+
+valid_plain_mode : (n : ℕ) (m : Mode) → IsValidMode n m → IsValidMode n (plain_mode m)
+valid_plain_mode n Threads h = h
+valid_plain_mode n (Schedule turns) h = h
+valid_plain_mode n (Generated seed count) h = h
+
+abbrev all_of : List (List Op) → List Op
+all_of texts = flat_map (λ text. text) texts
+
+-- validity speaks of the texts alone, beside the mode and the greatest name
+alike : (n : ℕ) (s t : Trace) → texts_of s ≡ texts_of t → s.greatest ≡ t.greatest
+    → HasTexts n t.mode (texts_of t) → IsValidMode n t.mode → IsValidTrace n s → IsValidTrace n t
+alike n s t e g texts mode v = record {
+  texts = texts;
+  mode = mode;
+  operations = subst (λ xs. All (IsOperation n) (all_of xs)) e v.operations;
+  few = subst (λ xs. length (all_of xs) ≤ MAX_OPS) e v.few;
+  tries = subst (λ xs. sum_by tries_of (all_of xs) ≤ MAX_ALL_TRIES) e v.tries;
+  made_once = λ name. subst (λ xs. count_by (makes name) (all_of xs) ≤ 1) e (v.made_once name);
+  given_once = λ name. subst (λ xs. count_by (gives name) (all_of xs) ≤ 1) e (v.given_once name);
+  held = λ i. subst (λ xs. BringsBefore (text_at i xs)) e (v.held i);
+  addressed = λ i name. subst (λ xs. list_any (takes name) (text_at i xs) ≡ true
+      → list_any (gives_to name (i + 1)) (all_of xs) ≡ true) e (v.addressed i name);
+  greatest = sym g ∙ v.greatest ∙ ap (λ xs. greatest_of (all_of xs)) e;
+}
+
+pub valid_from_plain : (n : ℕ) (t : Trace) → IsValidTrace n (plain t) → IsValidTrace n t
+valid_from_plain n t v = alike n (plain t) t (plain-texts t) refl
+    (has_texts n t.mode (texts_of t)
+    (subst (HasTexts n (plain_mode t.mode)) (plain-texts t) v.texts))
+    (valid_mode n t.mode v.mode) v
+
+pub plain_valid : (n : ℕ) (t : Trace) → IsValidTrace n t → IsValidTrace n (plain t)
+plain_valid n t v = alike n t (plain t) (sym (plain-texts t)) refl
+    (subst (HasTexts n (plain_mode t.mode)) (sym (plain-texts t))
+    (has_plain_texts n t.mode (texts_of t) v.texts))
+    (valid_plain_mode n t.mode v.mode) v

@@ -1,0 +1,41 @@
+//! A trace: what each scheduler is to do, and whose turn it is.
+
+use crate::lists::List;
+use crate::operations::Op;
+use crate::settings::Letter;
+
+/// Turns of one scheduler in a row.
+#[derive(Debug, Clone, Copy, PartialEq, Eq)]
+pub struct Turns {
+    /// The scheduler, from 1.
+    pub scheduler: u32,
+    /// How many turns, 1 to 100000000.
+    pub count: u32,
+}
+
+/// How the texts of a trace come about, and how they run.
+#[derive(Drop)]
+pub enum Mode {
+    /// Each scheduler has a thread of its own.
+    Threads,
+    /// The schedulers take these turns, and then each runs to its end. There are 100000000 turns at
+    /// most.
+    Schedule { turns: List<Turns> },
+    /// Each scheduler has `count` operations, which follow from the seed and its number. The seed
+    /// is 0 to 2147483647.
+    Generated { seed: u32, count: u32 },
+}
+
+/// What the schedulers are to do.
+#[derive(Drop)]
+pub struct Trace {
+    /// The allocator whose settings hold.
+    pub letter: Letter,
+    /// The operations of each scheduler in order, scheduler 1's first. A generated trace has none
+    /// before they are made.
+    pub texts: List<List<Op>>,
+    /// How the texts run.
+    pub mode: Mode,
+    /// The greatest name of an operation, 0 where there is none.
+    pub greatest: u32,
+}
