@@ -3,7 +3,7 @@ use Rattle.std.proofs.Common.{ℕ, ◌≤◌, List, [], ◌∷◌, arith}
 use Rattle.std.specs.Prelude.{Option, None, Some, IfSome, codes, bytes_eq}
 use Rattle.std.proofs.lemmas.Bool.{cond_both}
 use Rattle.ea_model.specs.Words.{words, number}
-use Rattle.ea_model.specs.Lines.{Skipped, Letter, Schedule, End, Unreadable, line_of, line_of_words, command, is_comment, letter_line, one_number, scheduler_line, free_line, alloc_words, alloc_line, name_in, bytes_in, bare_line, IsLineInRange}
+use Rattle.ea_top.specs.Lines.{Skipped, Letter, Schedule, End, Unreadable, line_of, line_of_words, command, is_comment, letter_line, one_number, scheduler_line, free_line, alloc_words, alloc_line, name_in, bytes_in, bare_line, IsLineInRange}
 
 number-high : (low high : ℕ) (word : List ℕ) → IfSome (number low high word) (λ n. n ≤ high)
 number-high low high word = grind arith
@@ -37,7 +37,7 @@ free_in_range [] = tt
 free_in_range (w ∷ []) = free_is (number 1 262144 w) (number-high 1 262144 w)
 free_in_range (w ∷ v ∷ ws) = tt
 
-alloc_is : (n b : Option ℕ) → IfSome n (λ k. k ≤ 262144) → IfSome b (λ k. k ≤ 524280)
+alloc_is : (n b : Option ℕ) → IfSome n (λ k. k ≤ 262144) → IfSome b (λ k. k ≤ 1073741823)
     → IsLineInRange (alloc_line n b)
 alloc_is None b h k = tt
 alloc_is (Some n) None h k = tt
@@ -47,7 +47,7 @@ alloc_in_range : (ws : List (List ℕ)) → IsLineInRange (alloc_words ws)
 alloc_in_range [] = tt
 alloc_in_range (w ∷ []) = tt
 alloc_in_range (w ∷ v ∷ []) = alloc_is (name_in w) (bytes_in v) (number-high 1 262144 w)
-    (number-high 0 524280 v)
+    (number-high 0 1073741823 v)
 alloc_in_range (w ∷ v ∷ u ∷ ws) = tt
 
 command_in_range : (w : List ℕ) (ws : List (List ℕ)) → IsLineInRange (command w ws)

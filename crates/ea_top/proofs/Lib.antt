@@ -1,3 +1,3 @@
 pub mod InRange
-pub mod Pairs
+pub mod Regions
 pub mod Steps

@@ -1,40 +1,49 @@
 -- What the program answers, by its words and its input.
-use Rattle.std.specs.Prelude.{◌≡◌, ℕ, ◌≤◌, List, [], Option, IfSome, IsSome, IsOk, length, map, unwrap_or, string_bytes}
+use Rattle.std.specs.Prelude.{◌≡◌, ℕ, ◌≤◌, true, List, [], Option, IfSome, IsSome, IsOk, length, map, unwrap_or, string_bytes}
 use Rattle.std.specs.Io.KnownBytes.{Appends}
 use Rattle.std.specs.declared.string.String.{String}
 use Rattle.ea_io.specs.Fronts.{AppendsFront}
+use Rattle.ea_flags.specs.Flags.{flags}
 use Rattle.ea_model.specs.declared.units.TheConstants.{MAX_INPUT}
-use Rattle.ea_model.specs.Flags.{flags}
-use Rattle.ea_top.specs.Output.{output_for}
+use Rattle.ea_top.specs.Output.{is_built_for, output_for}
+use Rattle.ea_top.specs.Trace.{trace_of}
+
+-- the input is a trace, of MAX_INPUT bytes at most
+abbrev pub GoodInput : List ℕ → Type 0
+GoodInput input = (length input ≤ MAX_INPUT) × IsSome (trace_of input)
 
 module _ {Z : Type 0} where
   -- what the words spell
   abbrev pub spelled : List (String Z) → List (List ℕ)
   spelled words = map string_bytes words
 
-  -- the words are flags that are built
+  -- the words are accepted
   abbrev pub GoodWords : List (String Z) → Type 0
   GoodWords words = IsOk (flags (spelled words))
 
-  -- the input has MAX_INPUT bytes at most and, under these words, an output
-  abbrev pub GoodInput : List (String Z) → List ℕ → Type 0
-  GoodInput words input = (length input ≤ MAX_INPUT) × IsSome (output_for (spelled words) input)
+  -- the run that words and input ask for is built
+  abbrev pub IsBuiltFor : List (String Z) → List ℕ → Type 0
+  IsBuiltFor words input = is_built_for (spelled words) input ≡ true
 
-  -- the output of a good input
+  -- the input has MAX_INPUT bytes at most and, under these words, an output
+  abbrev pub HasOutput : List (String Z) → List ℕ → Type 0
+  HasOutput words input = (length input ≤ MAX_INPUT) × IsSome (output_for (spelled words) input)
+
+  -- that output
   abbrev pub output_of : List (String Z) → List ℕ → List ℕ
   output_of words input = unwrap_or (output_for (spelled words) input) []
 
-  -- there is a good input, which is the source's own where it tells its bytes, and its whole output
-  -- was taken
+  -- there is an input with an output, which is the source's own where it tells its bytes, and its
+  -- whole output was taken
   abbrev pub WroteText : List (String Z) → Option (List ℕ) → Option (List ℕ) → Option (List ℕ)
       → Type 0
   WroteText words left before after =
-      (input : List ℕ) × IfSome left (λ known. input ≡ known) × GoodInput words input
+      (input : List ℕ) × IfSome left (λ known. input ≡ known) × HasOutput words input
       × Appends before after (output_of words input)
 
   -- or a front of it
   abbrev pub WroteFront : List (String Z) → Option (List ℕ) → Option (List ℕ) → Option (List ℕ)
       → Type 0
   WroteFront words left before after =
-      (input : List ℕ) × IfSome left (λ known. input ≡ known) × GoodInput words input
+      (input : List ℕ) × IfSome left (λ known. input ≡ known) × HasOutput words input
       × AppendsFront before after (output_of words input)

@@ -2,17 +2,12 @@
 use Rattle.std.specs.Prelude.{ℕ, List, Option, ◌++◌, codes, decimal}
 use Rattle.std.specs.Io.KnownBytes.{Appends}
 use Rattle.ea_io.specs.Fronts.{AppendsFront}
+use Rattle.ea_flags.specs.declared.fault.FlagFault.{FlagFault}
+use Rattle.ea_flags.specs.declared.fault.FlagFault.TheVariants.{Unknown, NoValue, BadValue, Unsupported, SpaceTooSmall}
 use Rattle.ea_top.specs.declared.faults.Fault.{Fault}
-use Rattle.ea_top.specs.declared.faults.Fault.TheVariants.{Word, SpaceTooSmall, Input, TooLong, ReadFailed, WriteFailed, OutOfMemory}
-use Rattle.ea_top.specs.declared.flags.Refusal.{Refusal}
-use Rattle.ea_top.specs.declared.flags.Refusal.TheVariants as refusal
+use Rattle.ea_top.specs.declared.faults.Fault.TheVariants.{Words, Input, TooLong, NotBuilt, ReadFailed, WriteFailed, OutOfMemory}
 use Rattle.ea_top.specs.declared.reader.TraceFault.{TraceFault}
 use Rattle.ea_top.specs.declared.reader.TraceFault.TheVariants as trace
-
--- the fault of refused words
-abbrev pub fault_of_words : Refusal → Fault
-fault_of_words (refusal.Unsupported word) = Word word
-fault_of_words refusal.TooSmall = SpaceTooSmall
 
 -- the fault of a text that gives no operations
 abbrev pub fault_of_trace : TraceFault → Fault
@@ -21,23 +16,34 @@ fault_of_trace trace.OutOfMemory = OutOfMemory
 
 -- the status that a fault ends with
 abbrev pub status_of : Fault → ℕ
-status_of (Word word) = 1
-status_of SpaceTooSmall = 1
+status_of (Words refusal) = 1
 status_of Input = 2
 status_of TooLong = 2
 status_of ReadFailed = 3
 status_of WriteFailed = 4
 status_of OutOfMemory = 5
+status_of NotBuilt = 6
+
+abbrev pub word_text : ℕ → List ℕ → List ℕ
+word_text word what = codes "word " ++ decimal word ++ codes ": " ++ what
+
+-- what is printed for refused words after the program's name
+abbrev pub flag_text : FlagFault → List ℕ
+flag_text (Unknown word) = word_text word (codes "unknown flag")
+flag_text (NoValue word) = word_text word (codes "value missing")
+flag_text (BadValue word) = word_text word (codes "bad value")
+flag_text (Unsupported word) = word_text word (codes "unsupported")
+flag_text SpaceTooSmall = codes "super carrier too small"
 
 -- what is printed for a fault after the program's name
 abbrev pub fault_text : Fault → List ℕ
-fault_text (Word word) = codes "word " ++ decimal word ++ codes ": unsupported"
-fault_text SpaceTooSmall = codes "super carrier too small"
+fault_text (Words refusal) = flag_text refusal
 fault_text Input = codes "not built yet"
 fault_text TooLong = codes "input too long"
 fault_text ReadFailed = codes "read failed"
 fault_text WriteFailed = codes "write failed"
 fault_text OutOfMemory = codes "out of memory"
+fault_text NotBuilt = codes "not built yet"
 
 abbrev pub line_with : List ℕ → List ℕ
 line_with text = codes "erts_alloc_run: " ++ text ++ codes "\n"

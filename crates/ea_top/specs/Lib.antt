@@ -2,7 +2,9 @@ pub mod Says
 pub mod Reads
 pub mod Holding
 pub mod Running
-pub mod Flags
+pub mod Lines
+pub mod Trace
+pub mod Built
 pub mod Output
 pub mod Answers
 pub mod Faults

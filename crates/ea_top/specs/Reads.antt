@@ -2,8 +2,8 @@
 use Rattle.std.specs.Prelude.{ℕ, ◌≡◌, ◌≤◌, Bool, false, List, Option, None, Some, Result, Ok, Err, get_or}
 use Rattle.ea_model.specs.declared.units.TheConstants.{MAX_NAME}
 use Rattle.ea_model.specs.Lists.{Items}
-use Rattle.ea_model.specs.Lines.{Line}
-use Rattle.ea_model.specs.Trace.{stage_after, is_made, operations}
+use Rattle.ea_top.specs.Lines.{Line}
+use Rattle.ea_top.specs.Trace.{stage_after, is_made, operations}
 use Rattle.ea_model.specs.declared.operations.Op.{Op}
 use Rattle.ea_top.specs.declared.seen.Seen.{Seen}
 use Rattle.ea_top.specs.declared.reader.TraceFault.{TraceFault}

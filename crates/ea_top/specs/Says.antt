@@ -1,8 +1,8 @@
 -- What the code's lines and stages stand for.
-use Rattle.ea_model.specs.Lines.{Line, IsLineInRange}
-use Rattle.ea_model.specs.Lines as line
-use Rattle.ea_model.specs.Trace.{Stage}
-use Rattle.ea_model.specs.Trace as part
+use Rattle.ea_top.specs.Lines.{Line, IsLineInRange}
+use Rattle.ea_top.specs.Lines as line
+use Rattle.ea_top.specs.Trace.{Stage}
+use Rattle.ea_top.specs.Trace as part
 use Rattle.ea_top.specs.declared.lines.Line as code
 use Rattle.ea_top.specs.declared.lines.Line.TheVariants.{Skipped, Letter, Scheduler, Alloc, Free, Schedule, End, Unreadable}
 use Rattle.ea_top.specs.declared.stages.Stage as stages

@@ -1,15 +1,18 @@
 -- What holds at every moment of every run under given words.
-use Rattle.std.specs.Prelude.{◌≡◌, List, Some, Ok}
+use Rattle.std.specs.Prelude.{◌≡◌, true, List, Some, Ok}
 use Rattle.std.specs.declared.string.String.{String}
+use Rattle.ea_flags.specs.Flags.{flags}
 use Rattle.ea_model.specs.declared.operations.Op.{Op}
 use Rattle.ea_model.specs.declared.settings.Config.{Config}
-use Rattle.ea_model.specs.Flags.{flags}
+use Rattle.ea_model.specs.declared.settings.Letter.TheVariants.{H}
 use Rattle.ea_model.specs.Instance.{instance_of}
 use Rattle.ea_laws.specs.Run.{Run, run}
 use Rattle.ea_top.specs.Answers.{spelled}
+use Rattle.ea_top.specs.Built.{is_built_config}
 
--- under these words it holds after any operations that are built, so after each front of any list
--- of them
+-- under these words, where they are built, it holds after any operations that are built, so after
+-- each front of any list of them
 abbrev pub Throughout : {Z : Type 0} → (List Op → Run → Type 0) → List (String Z) → Type 0
 Throughout P words = (config : Config) → flags (spelled words) ≡ Ok config
-    → (ops : List Op) (r : Run) → run (instance_of config) ops ≡ Some r → P ops r
+    → is_built_config config H ≡ true → (ops : List Op) (r : Run)
+    → run (instance_of config H) ops ≡ Some r → P ops r

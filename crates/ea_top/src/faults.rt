@@ -4,11 +4,11 @@ ghost use Rattle.std.specs.Io.KnownBytes.{Appends};
 ghost use Rattle.ea_io.specs.Calls.{StopsAtFault};
 ghost use Rattle.ea_io.specs.Counts.{Calm};
 ghost use Rattle.ea_io.specs.Fronts.{AppendsFront};
-ghost use Rattle.ea_top.specs.Faults.{fault_of_words, fault_of_trace, status_of, line_with, fault_line, Complains};
+ghost use Rattle.ea_top.specs.Faults.{fault_of_trace, flag_text, status_of, word_text, line_with, fault_line, Complains};
 ghost use Rattle.ea_top.specs.declared.faults.Fault.TheVariants as fault;
 
-use crate::flags::Refusal;
 use crate::reader::TraceFault;
+use ea_flags::FlagFault;
 use ea_io::{Failed, Sink, write_texts};
 use ea_model::OutOfMemory;
 use itoa::Buffer;
@@ -16,14 +16,14 @@ use itoa::Buffer;
 /// Why a run has no text.
 #[derive(Debug, Clone, Copy, PartialEq, Eq)]
 pub enum Fault {
-    /// The word of this number, from 1, is wrong at its place, or is missing there.
-    Word { word: u64 },
-    /// The main carrier is larger than the region.
-    SpaceTooSmall,
+    /// The words are refused.
+    Words(FlagFault),
     /// The input isn't in the language that is built.
     Input,
     /// The input has more than 2^24 bytes.
     TooLong,
+    /// The run isn't built.
+    NotBuilt,
     /// The source failed.
     ReadFailed,
     /// The sink of the text failed.
@@ -32,14 +32,11 @@ pub enum Fault {
     OutOfMemory,
 }
 
-impl From<Refusal> for Fault {
-    ghost from_gives = { λ refusal fault. fault ≡ fault_of_words refusal };
+impl From<FlagFault> for Fault {
+    ghost from_gives = { λ refusal f. f ≡ fault.Words refusal };
 
-    fn from(refusal: Refusal) -> Fault {
-        match refusal {
-            Refusal::Unsupported { word } => Fault::Word { word },
-            Refusal::TooSmall => Fault::SpaceTooSmall,
-        }
+    fn from(refusal: FlagFault) -> Fault {
+        Fault::Words(refusal)
     }
 }
 
@@ -68,11 +65,12 @@ impl Fault {
         ensures { result ≡ status_of self }
     {
         match self {
-            Fault::Word { .. } | Fault::SpaceTooSmall => 1,
+            Fault::Words(_) => 1,
             Fault::Input | Fault::TooLong => 2,
             Fault::ReadFailed => 3,
             Fault::WriteFailed => 4,
             Fault::OutOfMemory => 5,
+            Fault::NotBuilt => 6,
         }
     }
 }
@@ -87,6 +85,35 @@ fn write_with<E: Sink>(err: &mut E, text: &str) -> Result<(), Failed>
     write_texts(err, &["erts_alloc_run: ", text, "\n"])
 }
 
+/// Writes the line that names a word, and says what is wrong with it.
+fn write_word<E: Sink>(err: &mut E, word: u32, what: &str) -> Result<(), Failed>
+    ensures whole { OnOk result
+        (Appends (E.taken err.old) (E.taken err.new) (line_with (word_text word what.now))) }
+    ensures front { AppendsFront (E.taken err.old) (E.taken err.new) (line_with (word_text word what.now)) }
+    ensures kept { OnOk result (E.faults err.new ≡ E.faults err.old) }
+    ensures stops { OnErr result (StopsAtFault E.taken E.faults err.old err.new) }
+{
+    let mut buffer = Buffer::new();
+    let number = buffer.format(word);
+    write_texts(err, &["erts_alloc_run: word ", number, ": ", what, "\n"])
+}
+
+fn write_refusal<E: Sink>(err: &mut E, refusal: FlagFault) -> Result<(), Failed>
+    ensures whole { OnOk result
+        (Appends (E.taken err.old) (E.taken err.new) (line_with (flag_text refusal))) }
+    ensures front { AppendsFront (E.taken err.old) (E.taken err.new) (line_with (flag_text refusal)) }
+    ensures kept { OnOk result (E.faults err.new ≡ E.faults err.old) }
+    ensures stops { OnErr result (StopsAtFault E.taken E.faults err.old err.new) }
+{
+    match refusal {
+        FlagFault::Unknown { word } => write_word(err, word, "unknown flag"),
+        FlagFault::NoValue { word } => write_word(err, word, "value missing"),
+        FlagFault::BadValue { word } => write_word(err, word, "bad value"),
+        FlagFault::Unsupported { word } => write_word(err, word, "unsupported"),
+        FlagFault::SpaceTooSmall => write_with(err, "super carrier too small"),
+    }
+}
+
 fn write_line<E: Sink>(err: &mut E, fault: Fault) -> Result<(), Failed>
     ensures whole { OnOk result (Appends (E.taken err.old) (E.taken err.new) (fault_line fault)) }
     ensures front { AppendsFront (E.taken err.old) (E.taken err.new) (fault_line fault) }
@@ -94,14 +121,10 @@ fn write_line<E: Sink>(err: &mut E, fault: Fault) -> Result<(), Failed>
     ensures stops { OnErr result (StopsAtFault E.taken E.faults err.old err.new) }
 {
     match fault {
-        Fault::Word { word } => {
-            let mut buffer = Buffer::new();
-            let number = buffer.format(word);
-            write_texts(err, &["erts_alloc_run: word ", number, ": unsupported\n"])
-        }
-        Fault::SpaceTooSmall => write_with(err, "super carrier too small"),
+        Fault::Words(refusal) => write_refusal(err, refusal),
         Fault::Input => write_with(err, "not built yet"),
         Fault::TooLong => write_with(err, "input too long"),
+        Fault::NotBuilt => write_with(err, "not built yet"),
         Fault::ReadFailed => write_with(err, "read failed"),
         Fault::WriteFailed => write_with(err, "write failed"),
         Fault::OutOfMemory => write_with(err, "out of memory"),

@@ -1,9 +1,8 @@
 //! The top call: words and input in, text and status out.
 #![tactic(auto)]
 
-mod chosen;
+mod built;
 mod faults;
-mod flags;
 mod lines;
 mod reader;
 mod scheduler;

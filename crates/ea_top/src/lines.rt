@@ -2,7 +2,7 @@
 ghost use Rattle.std.specs.Prelude.{◌≡◌, ◌≤◌, ◌∷◌, [], length, map};
 ghost use Rattle.std.specs.Option.{option_map, unwrap_or};
 ghost use Rattle.ea_model.specs.Words.{words};
-ghost use Rattle.ea_model.specs.Lines.{line_of, command, letter_line, alloc_words, free_line, scheduler_line, one_number, bare_line, is_nil, only_word, both_words};
+ghost use Rattle.ea_top.specs.Lines.{line_of, command, letter_line, alloc_words, free_line, scheduler_line, one_number, bare_line, is_nil, only_word, both_words};
 ghost use Rattle.ea_model.specs.declared.units.TheConstants.{MAX_NAME};
 ghost use Rattle.ea_top.specs.Says.{meaning_of, IsNamed};
 ghost use Rattle.ea_top.specs.declared.lines.Line.TheVariants.{Unreadable};
@@ -121,7 +121,7 @@ fn command(keyword: &[u8], rest: &[u8]) -> Option<Line>
 
 /// Whether a word begins a comment.
 fn is_comment(word: &[u8]) -> bool
-    ensures { result ≡ Rattle.ea_model.specs.Lines.is_comment word.now }
+    ensures { result ≡ Rattle.ea_top.specs.Lines.is_comment word.now }
 {
     matches!(word, [b'#', ..])
 }

@@ -1,8 +1,8 @@
 //! Reads a trace line by line.
 ghost use Rattle.std.specs.Prelude.{◌≡◌, ◌≤◌, All, IfSome, IfOk, length, option_to_list};
-ghost use Rattle.ea_model.specs.Trace.{op_of, trace_of, InRange};
+ghost use Rattle.ea_model.specs.Operations.{InRange};
+ghost use Rattle.ea_top.specs.Trace.{op_of, trace_of};
 ghost use Rattle.ea_model.specs.declared.units.TheConstants.{MAX_OPS};
-ghost use Rattle.ea_laws.specs.Run.{IsBuiltOp};
 ghost use Rattle.ea_top.specs.Says.{meaning_of, IsNamed};
 ghost use Rattle.ea_top.specs.Reads.{Gives};
 ghost use Rattle.ea_top.specs.declared.reader.TraceFault.TheVariants as trace;
@@ -44,7 +44,6 @@ impl Line {
         requires { IsNamed self }
         ensures op { option_to_list result ≡ op_of (meaning_of self) }
         ensures in_range { IfSome result InRange }
-        ensures built { IfSome result IsBuiltOp }
     {
         match self {
             Line::Alloc { name, bytes } => Some(Op::Alloc { name, bytes }),
@@ -58,7 +57,6 @@ impl Line {
 pub fn read_trace(alloc: Global, bytes: &[u8]) -> Result<List<Op>, TraceFault>
     ensures given { Gives result (trace_of bytes.now) }
     ensures in_range { IfOk result (λ ops. All InRange ops.items) }
-    ensures built { IfOk result (λ ops. All IsBuiltOp ops.items) }
     ensures few { IfOk result (λ ops. length ops.items ≤ MAX_OPS) }
 {
     let mut seen = Seen::new(alloc)?;

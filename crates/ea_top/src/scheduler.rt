@@ -4,12 +4,12 @@ ghost use Rattle.ea_model.specs.declared.operations.Op.TheVariants.{Alloc, Free}
 ghost use Rattle.ea_model.specs.declared.entries.Entry.TheVariants as entry;
 ghost use Rattle.ea_model.specs.declared.carriers.Spot.{Spot};
 ghost use Rattle.ea_model.specs.declared.units.TheConstants.{MAX_BYTES, MAX_NAME};
-ghost use Rattle.ea_model.specs.Trace.{InRange};
+ghost use Rattle.ea_model.specs.Operations.{InRange};
+ghost use Rattle.ea_model.specs.Settings.{IsValidConfig};
 ghost use Rattle.ea_model.specs.Instance.{creating, block_in, instance_of, totals};
 ghost use Rattle.ea_model.specs.Instance as instances;
-ghost use Rattle.ea_laws.specs.Run.{Run, IsBuiltOp, start, step, freed_at};
+ghost use Rattle.ea_laws.specs.Run.{Run, IsBuiltOp, doing, start, step, freed_at};
 ghost use Rattle.ea_laws.specs.Spots.{IsOther, IsPlaced};
-ghost use Rattle.ea_top.specs.Flags.{IsBuilt};
 ghost use Rattle.ea_top.specs.Holding.{HoldsBlocks, IsChosenPlace, spot_at};
 
 use ea_instance::{Instance, Released};
@@ -29,7 +29,6 @@ pub struct Scheduler {
     pub log: List<Entry>,
     ghost names: { length spots.items ≡ MAX_NAME + 1 },
     ghost blocks: { HoldsBlocks instance.contents spots.items },
-    ghost threshold: { 65536 ≤ instance.settings.sbct },
     ghost created: { instance.created ≤ length log.items + 1 },
 }
 
@@ -81,7 +80,6 @@ fn hold(
     requires names { length spots.items ≡ MAX_NAME + 1 }
     requires name { name ≤ MAX_NAME }
     requires blocks { HoldsBlocks instance.contents (set spots.items name (Some (spot_at place))) }
-    requires threshold { 65536 ≤ instance.settings.sbct }
     requires created { instance.created ≤ length log.items + 2 }
     ensures { IfOk result (λ s. (s.instance ≡ instance)
         × (s.spots.items ≡ set spots.items name (Some (spot_at place)))
@@ -119,12 +117,12 @@ impl Scheduler {
     ghost use Rattle.ea_top.specs.Running.{Reaches, Shows};
 
     /// Before the first operation.
-    pub fn new(alloc: Global, config: Config) -> Result<Scheduler, OutOfMemory>
-        requires { IsBuilt config }
-        ensures shows { IfOk result (Shows (start (instance_of config))) }
+    pub fn new(alloc: Global, config: Config, letter: Letter) -> Result<Scheduler, OutOfMemory>
+        requires { IsValidConfig config }
+        ensures shows { IfOk result (Shows (start (instance_of config letter))) }
         ensures log { IfOk result (λ s. length s.log.items ≡ 0) }
     {
-        let instance = Instance::new(alloc, config.of(Letter::H), 1, 0, config.region_pages())?;
+        let instance = Instance::new(alloc, config.of(letter), 1, 0, config.region_pages())?;
         let spots = vec![in alloc; None; MAX_NAME as usize + 1]?;
         Ok(Scheduler {
             instance,
@@ -137,9 +135,10 @@ impl Scheduler {
     fn alloc(self, alloc: Global, name: u32, bytes: u32) -> Result<Scheduler, OutOfMemory>
         requires name { name ≤ MAX_NAME }
         requires bytes { bytes ≤ MAX_BYTES }
+        requires built { IsBuiltOp self.instance.settings (Alloc name bytes) }
         requires log { length self.log.items < 2 ^ 31 }
         ensures shows { IfOk result (λ s. (r : Run) → Shows r self
-            → Reaches (step r (Alloc name bytes)) s) }
+            → Reaches (doing r (Alloc name bytes)) s) }
         ensures grown { IfOk result (λ s. length s.log.items ≤ length self.log.items + 1) }
     {
         let Scheduler {
@@ -176,7 +175,7 @@ impl Scheduler {
     fn free(self, name: u32) -> Result<Scheduler, OutOfMemory>
         requires name { name ≤ MAX_NAME }
         ensures shows { IfOk result (λ s. (r : Run) → Shows r self
-            → Reaches (step r (Free name)) s) }
+            → Reaches (doing r (Free name)) s) }
         ensures grown { IfOk result (λ s. length s.log.items ≤ length self.log.items + 1) }
     {
         let Scheduler {
@@ -205,7 +204,7 @@ impl Scheduler {
     /// Does one operation.
     pub fn step(self, alloc: Global, op: Op) -> Result<Scheduler, OutOfMemory>
         requires range { InRange op }
-        requires built { IsBuiltOp op }
+        requires built { IsBuiltOp self.instance.settings op }
         requires log { length self.log.items < 2 ^ 31 }
         ensures shows { IfOk result (λ s. (r : Run) → Shows r self → Reaches (step r op) s) }
         ensures grown { IfOk result (λ s. length s.log.items ≤ length self.log.items + 1) }

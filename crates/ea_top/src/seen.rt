@@ -1,8 +1,8 @@
 //! What a reader knows of the lines that it took.
 ghost use Rattle.std.specs.Prelude.{◌≡◌, ◌+◌, ◌≤◌, ◌∷◌, [], true, All, length, nat_le, OnOk, IfOk, IfErr};
-ghost use Rattle.ea_model.specs.Trace.{may_follow, names_good, operations, op_of, at_end, stage_after, InRange};
+ghost use Rattle.ea_model.specs.Operations.{InRange};
+ghost use Rattle.ea_top.specs.Trace.{may_follow, names_good, operations, op_of, at_end, stage_after};
 ghost use Rattle.ea_model.specs.declared.units.TheConstants.{MAX_NAME, MAX_OPS};
-ghost use Rattle.ea_laws.specs.Run.{IsBuiltOp};
 ghost use Rattle.ea_top.specs.Says.{meaning_of, IsNamed};
 
 use crate::lines::Line;
@@ -21,7 +21,6 @@ pub struct Seen {
     pub ops: List<Op>,
     ghost names: { length made.items ≡ MAX_NAME + 1 },
     ghost in_range: { All InRange ops.items },
-    ghost built: { All IsBuiltOp ops.items },
     ghost few: { length ops.items ≤ MAX_OPS },
 }
 
@@ -110,7 +109,6 @@ impl Seen {
         ensures given { (earlier : Taken) → Knows earlier self
             → Gives result (at_end (stage_after earlier) (operations earlier)) }
         ensures in_range { IfOk result (λ ops. All InRange ops.items) }
-        ensures built { IfOk result (λ ops. All IsBuiltOp ops.items) }
         ensures few { IfOk result (λ ops. length ops.items ≤ MAX_OPS) }
     {
         if self.stage == Stage::Ended {

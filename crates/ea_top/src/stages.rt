@@ -1,6 +1,6 @@
 //! The parts of a trace.
 ghost use Rattle.std.specs.Prelude.{◌≡◌};
-ghost use Rattle.ea_model.specs.Trace.{may_stand, next};
+ghost use Rattle.ea_top.specs.Trace.{may_stand, next};
 ghost use Rattle.ea_top.specs.Says.{meaning_of, stage_of};
 
 use crate::lines::Line;

@@ -1,34 +1,37 @@
 //! The top call.
-ghost use Rattle.std.specs.Prelude.{◌≡◌, ◌≢◌, ℕ, ◌+◌, ◌^◌, ◌<◌, ◌≤◌, ◌⊎◌, ◌↔◌, Some, None, IfOk, IfErr, IfSome, OnOk, IsErrOf, length};
+ghost use Rattle.std.specs.Prelude.{◌≡◌, ◌≢◌, ℕ, ◌+◌, ◌^◌, ◌<◌, ◌≤◌, ◌⊎◌, ◌↔◌, Some, Ok, IfOk, IfErr, IfSome, OnOk, IsErrOf, length};
 ghost use Rattle.std.specs.Io.KnownBytes.{IsAtEnd};
 ghost use Rattle.ea_io.specs.Calls.{StopsAtFault};
 ghost use Rattle.ea_io.specs.Counts.{Calm};
 ghost use Rattle.ea_io.specs.Fronts.{ConsumesAtMost};
 ghost use Rattle.ea_model.specs.declared.units.TheConstants.{MAX_INPUT};
 ghost use Rattle.ea_laws.specs.Moments.{Sound};
-ghost use Rattle.ea_top.specs.Output.{output};
-ghost use Rattle.ea_top.specs.Flags.{IsBuilt};
-ghost use Rattle.ea_top.specs.Answers.{GoodWords, GoodInput, WroteText, WroteFront};
+ghost use Rattle.ea_model.specs.Settings.{IsValidConfig};
+ghost use Rattle.ea_top.specs.Output.{output_under};
+ghost use Rattle.ea_top.specs.Trace.{trace_of};
+ghost use Rattle.ea_top.specs.Answers.{GoodWords, GoodInput, IsBuiltFor, WroteText, WroteFront};
 ghost use Rattle.ea_top.specs.Throughout.{Throughout};
 ghost use Rattle.ea_top.specs.Whys.{IsWhy, IsReadFault, IsTextFault};
 ghost use Rattle.ea_top.specs.Faults.{Complains, status_of};
 ghost use Rattle.ea_top.specs.declared.faults.Fault.{Fault};
 
+use crate::built::is_built;
 use crate::faults::{Fault, complain};
-use crate::flags::read_flags;
 use crate::reader::read_trace;
 use crate::simulation::simulate;
+use ea_flags::read_flags;
 use ea_io::{ReadAllFault, Sink, Source, read_all, write_all};
-use ea_model::{Config, List, MAX_INPUT};
+use ea_model::{Config, Letter, List, MAX_INPUT};
 use std::alloc::Global;
 use std::thread::Threads;
 
 /// Reads the words, then the whole input, runs its operations, and writes the text to `out` in one
 /// piece. Where there is no text, one line on `err` says why.
 ///
-/// The status is 0 where the text was written; 1 where the words aren't flags that are built, or
-/// their main carrier is larger than the region; 2 where the input has more than 2^24 bytes or
-/// isn't a trace; 3 where the source failed; 4 where `out` failed; 5 where there was no memory.
+/// The status is 0 where the text was written; 1 where the words are refused; 2 where the input has
+/// more than 2^24 bytes or isn't a trace; 3 where the source failed; 4 where `out` failed; 5 where
+/// there was no memory; 6 where words and input are accepted, and the run isn't built: it has more
+/// schedulers than one, its carriers would migrate, or a block would have a carrier of its own.
 pub fn run<R: Threads + Sync, S: Source, O: Sink, E: Sink>(
     _rt: &R,
     alloc: Global,
@@ -38,7 +41,7 @@ pub fn run<R: Threads + Sync, S: Source, O: Sink, E: Sink>(
     err: &mut E,
 ) -> u8
     requires { length words.now < 2 ^ 32 }
-    ensures statuses { result ≤ 5 }
+    ensures statuses { result ≤ 6 }
 
     // 0: the whole text of an input in the language, which was read to its end.
     ensures done { result ≡ 0
@@ -52,17 +55,24 @@ pub fn run<R: Threads + Sync, S: Source, O: Sink, E: Sink>(
     // no carrier can be created; and each operation has one entry.
     ensures sound { result ≡ 0 → Throughout Sound words.now }
 
-    // 1: exactly for other words, and nothing was read.
+    // 1: exactly for words that are refused, and nothing was read.
     ensures bad_words { (result ≡ 1) ↔ (GoodWords words.now → ⊥) }
     ensures good_words { result ≢ 1 → GoodWords words.now }
     ensures unread { result ≡ 1 → source.new ≡ source.old }
 
     // 2: only for an input that isn't good; and such an input gives 2, unless its source fails.
-    ensures bad_input { result ≡ 2
-        → IfSome (S.left source.old) (λ input. GoodInput words.now input → ⊥) }
+    ensures bad_input { result ≡ 2 → IfSome (S.left source.old) (λ input. GoodInput input → ⊥) }
     ensures refuses { GoodWords words.now → Calm (S.faults source.old) (S.faults source.new)
-        → IfSome (S.left source.old) (λ input. (GoodInput words.now input → ⊥)
+        → IfSome (S.left source.old) (λ input. (GoodInput input → ⊥)
         → (result ≡ 2) ⊎ (result ≡ 5)) }
+
+    // 6: only for a good input whose run isn't built; and such an input gives 6, unless its source
+    // fails.
+    ensures not_built { result ≡ 6 → IfSome (S.left source.old) (λ input. GoodInput input
+        × (IsBuiltFor words.now input → ⊥)) }
+    ensures leaves { GoodWords words.now → Calm (S.faults source.old) (S.faults source.new)
+        → IfSome (S.left source.old) (λ input. GoodInput input → (IsBuiltFor words.now input → ⊥)
+        → (result ≡ 6) ⊎ (result ≡ 5)) }
 
     // At most one byte more than the limit is read.
     ensures taken { ConsumesAtMost (S.left source.old) (S.left source.new) (MAX_INPUT + 1) }
@@ -77,10 +87,10 @@ pub fn run<R: Threads + Sync, S: Source, O: Sink, E: Sink>(
         → WroteFront words.now (S.left source.old) (O.taken out.old) (O.taken out.new) }
     ensures untouched { result ≢ 0 → result ≢ 4 → out.new ≡ out.old }
 
-    // Good words, good input and no fault give 0, or 5.
+    // Good words, a good input whose run is built, and no fault give 0, or 5.
     ensures complete { GoodWords words.now → Calm (S.faults source.old) (S.faults source.new)
         → Calm (O.faults out.old) (O.faults out.new)
-        → IfSome (S.left source.old) (λ input. GoodInput words.now input
+        → IfSome (S.left source.old) (λ input. GoodInput input → IsBuiltFor words.now input
         → (result ≡ 0) ⊎ (result ≡ 5)) }
 
     // err: nothing at 0, else the line of a fault that has this status and is why there is no text.
@@ -162,10 +172,14 @@ fn input_of<S: Source>(alloc: Global, source: &mut S) -> Result<List<u8>, Fault>
 
 /// The output text for an input under a configuration.
 fn text_of(alloc: Global, config: Config, input: &[u8]) -> Result<List<u8>, Fault>
-    requires { IsBuilt config }
-    ensures ok { IfOk result (λ text. output config input.now ≡ Some text.items) }
+    requires { IsValidConfig config }
+    ensures ok { IfOk result (λ text. output_under (Ok config) (trace_of input.now)
+        ≡ Some text.items) }
     ensures err { IfErr result (IsTextFault config input.now) }
 {
     let ops = read_trace(alloc, input)?;
-    Ok(simulate(alloc, config, ops.as_slice())?.print(alloc)?)
+    if !is_built(config, Letter::H, ops.as_slice()) {
+        return Err(Fault::NotBuilt);
+    }
+    Ok(simulate(alloc, config, Letter::H, ops.as_slice())?.print(alloc)?)
 }

@@ -1,5 +1,5 @@
 use Rattle.std.proofs.Common.{sym, subst}
-use Rattle.ea_model.specs.Lines.{IsLineInRange}
+use Rattle.ea_top.specs.Lines.{IsLineInRange}
 use Rattle.ea_top.proofs.InRange.{line_of-in_range}
 use Rattle.ea_top.proofs.lines.read_line.Goals as goal
 

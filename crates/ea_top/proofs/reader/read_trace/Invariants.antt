@@ -1,8 +1,8 @@
 use Rattle.std.proofs.Common.{◌≡◌, ◌+◌, [], List, length, map}
 use Rattle.std.specs.Option.{option_map_or}
 use Rattle.ea_model.specs.Words.{lines}
-use Rattle.ea_model.specs.Lines.{Line, line_of}
-use Rattle.ea_model.specs.Trace.{read_after, trace_of}
+use Rattle.ea_top.specs.Lines.{Line, line_of}
+use Rattle.ea_top.specs.Trace.{read_after, trace_of}
 use Rattle.ea_top.specs.Reads.{Knows}
 use Rattle.ea_top.proofs.reader.read_trace.Given as goal
 

@@ -70,8 +70,6 @@ invariant_of-result c =
       names = c.args.self.names;
       blocks = subst (λ (i : Instance). HoldsBlocks i.contents c.args.self.spots.items)
           (sym rest.1) c.args.self.blocks;
-      threshold = omega
-          (arith, c.args.self.threshold, ap (λ (i : Instance). i.settings.sbct) rest.1);
       created = omega (
         arith,
         c.args.self.created,
@@ -117,17 +115,6 @@ returns-in_ok-place-in-Ok-clause-grown c =
           (Alloc c.args.name c.in_ok-place-in-Ok.place ∷ []),
     ))
     c.hold-in-Ok.ensures
-
-pub hold-requires-in-Ok-clause-threshold : goal.hold-requires-in-Ok-clause-threshold
-hold-requires-in-Ok-clause-threshold c =
-    let rest = unplaced c.args.self.instance c.try_alloc.new.self _ c.need-units.result c.args.name
-    refl (sym c.in_ok-place.ensures.place ∙ c.in_default.is) c.in_ok-place.ensures.ok in
-    omega (
-      arith,
-      c.args.self.threshold,
-      ap (λ (i : Instance). i.settings.sbct) rest.1,
-      ap (λ (i : Instance). i.settings.sbct) c.in_ok-place-in-Ok.ensures.ok.3,
-    )
 
 pub hold-requires-in-Ok-clause-created : goal.hold-requires-in-Ok-clause-created
 hold-requires-in-Ok-clause-created c =

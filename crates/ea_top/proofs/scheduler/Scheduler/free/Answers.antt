@@ -2,7 +2,6 @@ use Rattle.std.proofs.Common.{◌≡◌, sym, ap, ◌∙◌, ◌∷◌, [], leng
 use Rattle.std.specs.Prelude.{Some, None}
 use Rattle.std.proofs.lemmas.List.{get_or_read}
 use Rattle.ea_model.specs.declared.entries.Entry.TheVariants.{Free}
-use Rattle.ea_model.specs.declared.settings.Settings.{Settings}
 use Rattle.ea_model.specs.Instance.{Instance}
 use Rattle.ea_laws.specs.Run.{spot_held}
 use Rattle.ea_top.proofs.Steps.{some_block, holds_released, shows_freed, freed_at-keeps}
@@ -27,12 +26,6 @@ invariant_of-result-2 c =
           c.args.self.spots.items c.args.name c.in-Some.spot
           (omega (arith, c.args.self.names, c.requires.name)) here c.in_ok-free_at.ensures.others
           c.args.self.blocks;
-      threshold = omega (
-        arith,
-        c.args.self.threshold,
-        ap (λ (i : Instance). i.settings.sbct) left,
-        ap (λ (s : Settings). s.sbct) keeps.0,
-      );
       created = omega (
         arith,
         c.args.self.created,

@@ -2,8 +2,8 @@ use Rattle.std.proofs.Common.{◌≡◌, ◌+◌, rules, get_or, replicate, sym,
 use Rattle.std.specs.Prelude.{Option, Some, None}
 use Rattle.std.proofs.lemmas.List.{length-replicate}
 use Rattle.ea_model.specs.declared.carriers.Spot.{Spot}
-use Rattle.ea_model.specs.declared.settings.Settings.{Settings}
 use Rattle.ea_model.specs.declared.units.TheConstants.{MAX_NAME}
+use Rattle.ea_model.specs.Settings.{settings_of}
 use Rattle.ea_model.specs.Instance.{Instance, new_instance}
 use Rattle.ea_top.proofs.Steps.{get_or-replicate_none, main_few}
 use Rattle.ea_top.proofs.scheduler.Scheduler.new.Goals as goal
@@ -16,12 +16,6 @@ invariant_of-result c =
       names = ap length empty ∙ length-replicate {A = Option Spot} (MAX_NAME + 1) None;
       blocks = λ name spot e. let f : None ≡ Some spot = sym (ap (λ xs. get_or xs name None) empty
           ∙ get_or-replicate_none (MAX_NAME + 1) name) ∙ e in absurd cc;
-      threshold = omega (
-        arith,
-        ap (λ (i : Instance). i.settings.sbct) c.in_ok-instance.ensures,
-        ap (λ (s : Settings). s.sbct) c.of.ensures,
-        c.requires.threshold,
-      );
       created = omega (
         arith,
         ap (λ (i : Instance). i.created) c.in_ok-instance.ensures,
@@ -36,7 +30,8 @@ returns-clause-shows c =
     record {
       instance = c.in_ok-instance.ensures
           ∙ ap (λ s. new_instance s 1 0 c.region_pages.result) c.of.ensures
-          ∙ ap (new_instance c.args.config.h 1 0) c.region_pages.ensures;
+          ∙ ap (new_instance (settings_of c.args.config c.args.letter) 1 0)
+          c.region_pages.ensures;
       held = λ name h. ap (λ xs. get_or xs name None) empty
           ∙ get_or-replicate_none (MAX_NAME + 1) name;
       log = c.new-2.ensures;

@@ -1,16 +1,35 @@
 use Rattle.std.proofs.Common.{sym, subst}
 use Rattle.std.specs.Prelude.{IfOk}
-use Rattle.ea_laws.specs.Run.{Run, step}
+use Rattle.std.proofs.lemmas.Result.{IfOk-weaker}
+use Rattle.ea_model.specs.declared.operations.Op.{Op}
+use Rattle.ea_laws.specs.Run.{IsBuiltOp, Run, doing, step}
+use Rattle.ea_laws.proofs.Steps.{step-built}
 use Rattle.ea_top.specs.Running.{Reaches, Shows}
 use Rattle.ea_top.specs.declared.scheduler.Scheduler.{Scheduler}
 use Rattle.ea_top.proofs.scheduler.Scheduler.step.Goals as goal
 
+-- where an operation is built, what it does is a step
+reaches_step : (o : Op) (self s : Scheduler) → IsBuiltOp self.instance.settings o
+    → ((r : Run) → Shows r self → Reaches (doing r o) s)
+    → (r : Run) → Shows r self → Reaches (step r o) s
+reaches_step o self s built done r k =
+    let here = subst (λ i. IsBuiltOp i.settings o) k.instance built in
+    subst (λ next. Reaches next s) (sym (step-built r o here)) (done r k)
+
 pub returns-in-Alloc-clause-shows : goal.returns-in-Alloc-clause-shows
 returns-in-Alloc-clause-shows c =
-    subst (λ o. IfOk c.alloc.result (λ (s : Scheduler). (r : Run) → Shows r c.args.self
-    → Reaches (step r o) s)) (sym c.in-Alloc.is) c.alloc.ensures.shows
+    let done = subst (λ o. IfOk c.alloc.result (λ (s : Scheduler). (r : Run) → Shows r c.args.self
+    → Reaches (doing r o) s)) (sym c.in-Alloc.is) c.alloc.ensures.shows in
+    IfOk-weaker c.alloc.result
+    (λ (s : Scheduler). (r : Run) → Shows r c.args.self → Reaches (doing r c.args.op) s)
+    (λ (s : Scheduler). (r : Run) → Shows r c.args.self → Reaches (step r c.args.op) s)
+    (λ s h. reaches_step c.args.op c.args.self s c.requires.built h) done
 
 pub returns-in-Free-clause-shows : goal.returns-in-Free-clause-shows
 returns-in-Free-clause-shows c =
-    subst (λ o. IfOk c.free.result (λ (s : Scheduler). (r : Run) → Shows r c.args.self
-    → Reaches (step r o) s)) (sym c.in-Free.is) c.free.ensures.shows
+    let done = subst (λ o. IfOk c.free.result (λ (s : Scheduler). (r : Run) → Shows r c.args.self
+    → Reaches (doing r o) s)) (sym c.in-Free.is) c.free.ensures.shows in
+    IfOk-weaker c.free.result
+    (λ (s : Scheduler). (r : Run) → Shows r c.args.self → Reaches (doing r c.args.op) s)
+    (λ (s : Scheduler). (r : Run) → Shows r c.args.self → Reaches (step r c.args.op) s)
+    (λ s h. reaches_step c.args.op c.args.self s c.requires.built h) done

@@ -1,0 +1,48 @@
+//! Which runs are built.
+ghost use Rattle.std.specs.Prelude.{◌≡◌, All};
+ghost use Rattle.std.specs.List.{list_all};
+ghost use Rattle.ea_model.specs.Operations.{InRange};
+ghost use Rattle.ea_laws.specs.Run as laws;
+ghost use Rattle.ea_top.specs.Built as built;
+
+use ea_model::{Config, Letter, Op, Settings, need};
+
+/// Whether the operation is built under these settings.
+fn is_built_op(settings: Settings, op: Op) -> bool
+    requires { InRange op }
+    ensures { result ≡ laws.is_built settings op }
+{
+    match op {
+        Op::Alloc { bytes, .. } => need(bytes) <= settings.sbct,
+        Op::Free { .. } => true,
+        _ => false,
+    }
+}
+
+/// Whether all these operations are built under these settings.
+fn are_built(settings: Settings, ops: &[Op]) -> bool
+    requires { All InRange ops.now }
+    ensures { result ≡ list_all (laws.is_built settings) ops.now }
+{
+    for op in ops {
+        if !is_built_op(settings, *op) {
+            return false;
+        }
+    }
+    true
+}
+
+/// Whether there is one scheduler, whose carriers don't migrate.
+fn is_built_config(config: Config, letter: Letter) -> bool
+    ensures { result ≡ built.is_built_config config letter }
+{
+    config.schedulers == 1 && config.of(letter).acul == 0
+}
+
+/// Whether a run of these operations is built.
+pub fn is_built(config: Config, letter: Letter, ops: &[Op]) -> bool
+    requires { All InRange ops.now }
+    ensures { result ≡ built.is_built_run config letter ops.now }
+{
+    is_built_config(config, letter) && are_built(config.of(letter), ops)
+}
