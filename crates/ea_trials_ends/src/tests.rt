@@ -82,8 +82,11 @@ fn cut_line<R: Threads + Sync + Abort>(
 fn an_error_line_ends_where_its_write_fails(rt: HostRuntime) -> Result<(), Fail> {
     let cases = [
         (
-            Case { words: "", ..GOOD },
-            (1, "", "erts_alloc_run: word 1: unsupported\n"),
+            Case {
+                words: "+MHacul",
+                ..GOOD
+            },
+            (1, "", "erts_alloc_run: word 1: value missing\n"),
         ),
         (
             Case {
@@ -98,6 +101,10 @@ fn an_error_line_ends_where_its_write_fails(rt: HostRuntime) -> Result<(), Fail>
                 ..GOOD
             },
             (2, "", "erts_alloc_run: not built yet\n"),
+        ),
+        (
+            Case { words: "", ..GOOD },
+            (6, "", "erts_alloc_run: not built yet\n"),
         ),
         (
             Case {

@@ -104,8 +104,6 @@ fn an_input_outside_the_language_has_no_text(rt: HostRuntime) -> Result<(), Fail
         // A name is allocated once, and freed only after its allocation.
         "type H\nscheduler 1\nalloc 1 100\nfree 1\nalloc 1 100\nschedule\nend\n",
         "type H\nscheduler 1\nfree 1\nalloc 1 100\nschedule\nend\n",
-        // A block above the threshold.
-        "type H\nscheduler 1\nalloc 1 1073741823\nschedule\nend\n",
     ];
     for input in cases {
         let case = Case {

@@ -1,74 +1,28 @@
 use ea_trials::{Case, PLAIN};
 use std::test::Fail;
 
-const WORD_1: &str = "erts_alloc_run: word 1: unsupported\n";
-
-const WORD_2: &str = "erts_alloc_run: word 2: unsupported\n";
-
-const WORD_3: &str = "erts_alloc_run: word 3: unsupported\n";
-
-const WORD_4: &str = "erts_alloc_run: word 4: unsupported\n";
-
-const WORD_5: &str = "erts_alloc_run: word 5: unsupported\n";
-
-const WORD_9: &str = "erts_alloc_run: word 9: unsupported\n";
-
-const TOO_SMALL: &str = "erts_alloc_run: super carrier too small\n";
-
 #[test]
-fn other_words_are_refused_by_their_place(rt: HostRuntime) -> Result<(), Fail> {
+fn refused_words_are_named_and_nothing_is_read(rt: HostRuntime) -> Result<(), Fail> {
     let cases = [
-        // Migration has to be off.
-        ("", WORD_1),
-        ("+MMscs 1", WORD_3),
-        ("+MHmmbcs 0 +MMscs 1", WORD_5),
-        // No flag.
-        ("'' '' '' ''", WORD_1),
-        ("1", WORD_1),
-        ("+MMSCS 1 +MHacul 0", WORD_1),
-        ("+MMscs1 +MHacul 0", WORD_1),
-        ("+MMscs 1 +MLacul 0", WORD_3),
-        ("+MMscs 1 +MHacul 0 0", WORD_5),
-        ("+MHacul 0 +MLas bf", WORD_3),
-        ("+MHAS bf +MHacul 0", WORD_1),
-        ("+MHacul 0 +MHlmbc 1", WORD_3),
-        ("+MHacul 0 +MHmbsdx 1", WORD_3),
-        ("+MMscs 1 +MMscs 1 +MMscs 1 +MHacul 0 x", WORD_9),
-        // A value is missing.
-        ("+MMscs", WORD_2),
-        ("+MMscs 1 +MHacul", WORD_4),
-        ("+MHacul 0 +MHmmbcs", WORD_4),
-        ("+MHacul 0 +MHlmbcs", WORD_4),
-        ("+MHmbsd", WORD_2),
-        ("+MHas", WORD_2),
-        // No value of the flag.
-        ("+MMscs 0 +MHacul 0", WORD_2),
-        ("+MMscs 513 +MHacul 0", WORD_2),
-        ("+MMscs 00000000001 +MHacul 0", WORD_2),
-        ("+MMscs '' +MHacul 0", WORD_2),
-        ("+MHmmbcs 524289 +MHacul 0", WORD_2),
-        ("+MHmmbcs -1 +MHacul 0", WORD_2),
-        ("+MHlmbcs 0 +MHacul 0", WORD_2),
-        ("+MHacul 0 +MHlmbcs 524289", WORD_4),
-        ("+MHmbsd 0 +MHacul 0", WORD_2),
-        ("+MHacul 0 +MHmbsd 1001", WORD_4),
-        ("+MHas ff +MHacul 0", WORD_2),
-        ("+MHas GF +MHacul 0", WORD_2),
-        ("+MHacul 0 +MHas aff", WORD_4),
-        ("+MHas bf +MHas BF +MHacul 0", WORD_4),
-        ("+MHas ageffbf +MHacul 0", WORD_2),
-        ("+MHas aoffcb +MHacul 0", WORD_2),
-        ("+MHas '' +MHacul 0", WORD_2),
-        ("+MHas 3 +MHacul 0", WORD_2),
-        ("+MMscs 1 +MHacul 1", WORD_4),
-        ("+MMscs 1 +MHacul 00", WORD_4),
-        // The first wrong word is named, also where the main carrier is too large.
-        ("+MMscs x +MHas ff", WORD_2),
-        ("+MMscs 1 +MHmmbcs 1025 x", WORD_5),
-        // The main carrier has a page more than the region.
-        ("+MHmmbcs 523265 +MMscs 511 +MHacul 0", TOO_SMALL),
-        // Without a word on it the super carrier has 64 megabytes.
-        ("+MHacul 0 +MHmmbcs 65537", TOO_SMALL),
+        ("+MHac 0", "erts_alloc_run: word 1: unknown flag\n"),
+        ("''", "erts_alloc_run: word 1: unknown flag\n"),
+        (
+            "+MMscs 1 +MHacul",
+            "erts_alloc_run: word 3: value missing\n",
+        ),
+        ("+MMscs 513", "erts_alloc_run: word 2: bad value\n"),
+        (
+            "+MMscs 1 +MHacul 0 +S 17",
+            "erts_alloc_run: word 6: bad value\n",
+        ),
+        (
+            "+MHacul 0 +Mea r9c",
+            "erts_alloc_run: word 3: unsupported\n",
+        ),
+        (
+            "+MHacul 0 +MHmmbcs 65537",
+            "erts_alloc_run: super carrier too small\n",
+        ),
     ];
     for (words, line) in cases {
         let case = Case {
@@ -79,6 +33,48 @@ fn other_words_are_refused_by_their_place(rt: HostRuntime) -> Result<(), Fail> {
         };
         let ran = case.run(&rt, rt.alloc())?;
         assert_eq!(rt; ran.told(), (1, "", line), "of {words}");
+    }
+    Ok(())
+}
+
+const FIRST_BLOCK: &str = "type H\nscheduler 1\nalloc 1 100\nschedule\nend\n";
+
+const NO_TRACE: &str = "type H\nscheduler 1\nschedule\n";
+
+// A need of 66 units, and one of 128, as many as a kilobyte has.
+const HALF_A_KILOBYTE: &str = "type H\nscheduler 1\nalloc 1 520\nschedule\nend\n";
+
+const A_KILOBYTE: &str = "type H\nscheduler 1\nalloc 1 520\nalloc 2 1017\nschedule\nend\n";
+
+#[test]
+fn a_run_that_is_not_built_has_a_status_of_its_own(rt: HostRuntime) -> Result<(), Fail> {
+    let cases = [
+        // Carriers would migrate.
+        ("", FIRST_BLOCK, 6),
+        ("+MHas bf", FIRST_BLOCK, 6),
+        ("+MHacul 0 +MHacul de", FIRST_BLOCK, 6),
+        ("+MLacul 0", FIRST_BLOCK, 6),
+        // There are more schedulers than one.
+        ("+MHacul 0 +S 2", FIRST_BLOCK, 6),
+        // A block would have a carrier of its own.
+        ("+MHacul 0 +MHsbct 1", A_KILOBYTE, 6),
+        // No trace is no trace of a run that is built or not.
+        ("", NO_TRACE, 2),
+        ("+MHacul 0 +S 2", NO_TRACE, 2),
+    ];
+    for (words, input, status) in cases {
+        let case = Case {
+            words,
+            input,
+            failing_writes: &[1],
+            ..PLAIN
+        };
+        let ran = case.run(&rt, rt.alloc())?;
+        assert_eq!(rt;
+            ran.told(),
+            (status, "", "erts_alloc_run: not built yet\n"),
+            "of {words}"
+        );
     }
     Ok(())
 }
@@ -120,6 +116,25 @@ const IN_13165_PAGES: &str = "scheduler 1\nalloc 1 1 8 25002\nalloc 2 2 8 25002\
     carrier 1 multi owner 1 employed 1 base 0 pages 64 allocated 25002 largest 7758\n\
     carrier 2 multi owner 1 employed 1 base 64 pages 13165 allocated 25002 largest 6715470\n\
     total carriers 2 units 6773248 live 50004 queued 0 free 6723228 header 16\n";
+
+const IN_1280_PAGES: &str = "scheduler 1\nalloc 1 1 8 25002\nalloc 2 2 8 25002\n\
+    carrier 1 multi owner 1 employed 1 base 0 pages 64 allocated 25002 largest 7758\n\
+    carrier 2 multi owner 1 employed 1 base 64 pages 1280 allocated 25002 largest 630350\n\
+    total carriers 2 units 688128 live 50004 queued 0 free 638108 header 16\n";
+
+const IN_ONE_CARRIER: &str = "scheduler 1\nalloc 1 1 8 25002\nalloc 2 1 25010 25002\n\
+    carrier 1 multi owner 1 employed 1 base 0 pages 128 allocated 50004 largest 15524\n\
+    total carriers 1 units 65536 live 50004 queued 0 free 15524 header 8\n";
+
+const SMALL_BLOCK: &str = "scheduler 1\nalloc 1 1 8 66\n\
+    carrier 1 multi owner 1 employed 1 base 0 pages 64 allocated 66 largest 32694\n\
+    total carriers 1 units 32768 live 66 queued 0 free 32694 header 8\n";
+
+const LARGE_BLOCK: &str = "type H\nscheduler 1\nalloc 1 600000\nschedule\nend\n";
+
+const IN_147_PAGES: &str = "scheduler 1\nalloc 1 1 8 75002\n\
+    carrier 1 multi owner 1 employed 1 base 0 pages 147 allocated 75002 largest 254\n\
+    total carriers 1 units 75264 live 75002 queued 0 free 254 header 8\n";
 
 // Block 5 has a lower and a higher gap of its size.
 const TWO_GAPS: &str =
@@ -212,6 +227,24 @@ fn the_later_of_two_settings_holds_in_any_order(rt: HostRuntime) -> Result<(), F
         ),
         // The size of the main carrier is set apart from it.
         ("+MHacul 0 +MHlmbcs 256 +MHmmbcs 0", TWO_BLOCKS, IN_64_PAGES),
+        // With one step of growth the second carrier has the largest size.
+        ("+MHacul 0 +MHmbcgs 1", TWO_BLOCKS, IN_1280_PAGES),
+        ("+MHacul 0 +MHsmbcs 512", TWO_BLOCKS, IN_ONE_CARRIER),
+        // A block up to the threshold lies in a multiblock carrier.
+        ("+MHacul 0 +MHsbct 1", HALF_A_KILOBYTE, SMALL_BLOCK),
+        ("+MHsbct 1024 +MHacul 0", LARGE_BLOCK, IN_147_PAGES),
+        // One letter, all letters, and settings that have no effect yet.
+        ("+Muacul 0 +MHlmbcs 256", TWO_BLOCKS, IN_64_PAGES),
+        (
+            "+MHacul 60 +Muacul 0 +MHlmbcs 256 +MLsmbcs 512",
+            TWO_BLOCKS,
+            IN_64_PAGES,
+        ),
+        (
+            "+MHacul 0 +MHlmbcs 256 +MHramv true +MHacfml 8 +MHacnl 1000 +MHt true +MMsco true",
+            TWO_BLOCKS,
+            IN_64_PAGES,
+        ),
         ("+MHas aobf +MHas bf +MHacul 0", TWO_GAPS, THE_HIGHER_GAP),
         ("+MHas bf +MHacul 0 +MHas aobf", TWO_GAPS, THE_LOWER_GAP),
         ("+MHas bf +MHacul 0 +MHas gf", TWO_GAPS, THE_LOWER_GAP),
