@@ -1,6 +1,6 @@
-//! The flag language on worked words: what the definition gives for them, computed from it alone, and
-//! what the reader gives. All that is expected was worked out by hand from the description of the
-//! flags in docs/FORMATS.md.
+//! The flag language on worked words: what its definition gives for them, computed from it alone,
+//! and what the reader gives. All that is expected was worked out by hand from the description of
+//! the flags in docs/FORMATS.md.
 #![tactic(auto)]
 
 ghost use Rattle.std.specs.Prelude.{◌≡◌, codes, true, []};
@@ -26,8 +26,8 @@ pub fn refused_words()
     ensures schedulers_missing { flags (words (codes "+S")) ≡ no_value 1 }
     ensures no_schedulers { flags (words (codes "+S 0")) ≡ bad_value 2 }
     ensures too_many_schedulers { flags (words (codes "+S 17")) ≡ bad_value 2 }
-    ensures eleven_digits { flags (words (codes "+S 00000000016")) ≡ bad_value 2 }
-    ensures great_number { flags (words (codes "+MHacnl 10000000000")) ≡ bad_value 2 }
+    ensures zeros_are_digits { flags (words (codes "+S 00000000016")) ≡ bad_value 2 }
+    ensures eleven_digits { flags (words (codes "+MHacnl 10000000000")) ≡ bad_value 2 }
     ensures no_number { flags (words (codes "+MHacfml 1x")) ≡ bad_value 2 }
     ensures great_super_carrier { flags (words (codes "+MMscs 513")) ≡ bad_value 2 }
     ensures threshold_zero { flags (words (codes "+MHsbct 0")) ≡ bad_value 2 }

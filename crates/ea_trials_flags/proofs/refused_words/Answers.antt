@@ -37,11 +37,11 @@ returns-clause-no_schedulers c = refl
 pub returns-clause-too_many_schedulers : goal.returns-clause-too_many_schedulers
 returns-clause-too_many_schedulers c = refl
 
+pub returns-clause-zeros_are_digits : goal.returns-clause-zeros_are_digits
+returns-clause-zeros_are_digits c = refl
+
 pub returns-clause-eleven_digits : goal.returns-clause-eleven_digits
 returns-clause-eleven_digits c = refl
-
-pub returns-clause-great_number : goal.returns-clause-great_number
-returns-clause-great_number c = refl
 
 pub returns-clause-no_number : goal.returns-clause-no_number
 returns-clause-no_number c = refl
