@@ -117,7 +117,11 @@ fn each_kind_of_entry_has_its_line(rt: HostRuntime) -> Result<(), Fail> {
                 mbcs: report(1),
                 sbcs: report(4_294_967_296),
             },
-            "info mbcs blocks 1 2 3 blocks_size 4 5 6 carriers 7 8 9 carriers_size 10 11 12\ninfo sbcs blocks 4294967296 4294967297 4294967298 blocks_size 4294967299 4294967300 4294967301 carriers 4294967302 4294967303 4294967304 carriers_size 4294967305 4294967306 4294967307\n",
+            "info mbcs blocks 1 2 3 blocks_size 4 5 6 carriers 7 8 9 carriers_size 10 11 12\n\
+            info sbcs blocks 4294967296 4294967297 4294967298 \
+            blocks_size 4294967299 4294967300 4294967301 \
+            carriers 4294967302 4294967303 4294967304 \
+            carriers_size 4294967305 4294967306 4294967307\n",
         ),
         (Entry::Idle, "idle\n"),
     ];

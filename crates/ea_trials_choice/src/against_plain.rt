@@ -5,7 +5,8 @@ ghost use Rattle.ea_model.specs.Settings.{IsValid};
 use crate::plain::{NoChoice, PlainCarrier, choice};
 use ea_instance::{Instance, Released};
 use ea_model::{
-    BlockAt, Candidate, CarrierPlan, Gap, Kind, List, OutOfMemory, Place, Settings, Spot, Strategy,
+    BlockAt, Candidate, CarrierPlan, Gap, Kind, List, MAX_SEARCH_DEPTH, OutOfMemory, Place,
+    Settings, Spot, Strategy,
 };
 use std::alloc::Global;
 use std::process::Abort;
@@ -338,6 +339,7 @@ fn each_strategy_chooses_as_plain_walks_do(rt: HostRuntime) -> Result<(), Fail> 
         (Strategy::Gf, 3),
         (Strategy::Af, 1),
     ] {
+        assert!(rt; 1 <= mbsd && mbsd <= MAX_SEARCH_DEPTH);
         for seed in 0..LISTS {
             let settings = Settings {
                 strategy,
