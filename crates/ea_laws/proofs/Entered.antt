@@ -55,7 +55,7 @@ enters-one r = λ o built. entered o built where
   entered (op.Give name to) built = absurd cc
   entered (op.Take name tries) built = absurd cc
   entered op.Info built = absurd cc
-  entered op.Idle built = absurd cc
+  entered op.Idle built = (_, refl, (_, refl, refl))
 
 -- operations that are built can all be done
 pub steps-some : (r : Run) (ops : List Op) → All (IsBuiltOp r.instance.settings) ops

@@ -19,7 +19,7 @@ use Rattle.ea_laws.specs.Spots.{HasGap, HaveSameBlocks, IsOther}
 use Rattle.ea_laws.proofs.Blocks.{creating-same, placing-IsPlaced, releasing-others}
 use Rattle.ea_laws.proofs.Contents.{same-without}
 use Rattle.ea_laws.proofs.Standing.{chosen_spot-HasGap, creating-Stands}
-use Rattle.ea_laws.proofs.Steps.{PlacesIn, Outcome, alloc-Outcome, free-is, need-least, unbuilt}
+use Rattle.ea_laws.proofs.Steps.{PlacesIn, Outcome, alloc-Outcome, free-is, need-least, unbuilt, idle-is}
 
 abbrev pub name_of : Held → ℕ
 name_of h = h.name
@@ -177,4 +177,5 @@ step-Holds r (op.Realloc old fresh bytes) s e st holds = unbuilt s e
 step-Holds r (op.Give name to) s e st holds = unbuilt s e
 step-Holds r (op.Take name tries) s e st holds = unbuilt s e
 step-Holds r op.Info s e st holds = unbuilt s e
-step-Holds r op.Idle s e st holds = unbuilt s e
+step-Holds r op.Idle s e st holds = subst HoldsItsBlocks (sym (idle-is r s e))
+    (record { blocks = holds.blocks; apart = holds.apart })

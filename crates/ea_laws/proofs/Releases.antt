@@ -14,7 +14,7 @@ use Rattle.ea_model.proofs.Rising.{item_past}
 use Rattle.ea_laws.specs.Moments.{FreesHeldNames, allocations, is_allocation, is_release, releases}
 use Rattle.ea_laws.specs.Run.{Held, Run, freeing, spot_held, step, without}
 use Rattle.ea_laws.proofs.Held.{name_of, spot_held-without, spot_held-without_other}
-use Rattle.ea_laws.proofs.Steps.{PlacesIn, Outcome, alloc-Outcome, free-is, unbuilt}
+use Rattle.ea_laws.proofs.Steps.{PlacesIn, Outcome, alloc-Outcome, free-is, unbuilt, idle-is}
 
 abbrev HoldsNone : ℕ → List Held → Type 0
 HoldsNone name hs = IsNone (spot_held name hs)
@@ -88,7 +88,8 @@ held_again r name (op.Realloc old fresh bytes) s e none = unbuilt s e
 held_again r name (op.Give other to) s e none = unbuilt s e
 held_again r name (op.Take other tries) s e none = unbuilt s e
 held_again r name op.Info s e none = unbuilt s e
-held_again r name op.Idle s e none = unbuilt s e
+held_again r name op.Idle s e none = inl (subst (λ (t : Run). HoldsNone name t.held)
+    (sym (idle-is r s e)) none)
 
 pub frees-held-names : (r : Run) → FreesHeldNames r
 frees-held-names r = record {
@@ -215,4 +216,5 @@ step-Balances ops r (op.Realloc old fresh bytes) s e b = unbuilt s e
 step-Balances ops r (op.Give name to) s e b = unbuilt s e
 step-Balances ops r (op.Take name tries) s e b = unbuilt s e
 step-Balances ops r op.Info s e b = unbuilt s e
-step-Balances ops r op.Idle s e b = unbuilt s e
+step-Balances ops r op.Idle s e b = subst (Balances (ops ++ op.Idle ∷ [])) (sym (idle-is r s e))
+    (noted ops r b op.Idle entry.Idle (λ n. refl))

@@ -14,7 +14,7 @@ use Rattle.ea_model.specs.Content.{Content, is_empty_multi}
 use Rattle.ea_model.specs.Instance.{Instance, chosen_spot, clearing, content_of, creating, plan, releasing_at}
 use Rattle.ea_model.specs.Units.{even, need_of}
 use Rattle.ea_laws.specs.Kept.{Stands}
-use Rattle.ea_laws.specs.Run.{IsBuiltOp, Run, allocating, doing, freeing, in_new_carrier, is_built, spot_held, step, steps, tidied, with_block, with_carrier}
+use Rattle.ea_laws.specs.Run.{IsBuiltOp, Run, allocating, doing, freeing, idling, in_new_carrier, is_built, spot_held, step, steps, tidied, with_block, with_carrier}
 use Rattle.ea_laws.proofs.Standing.{chosen-Stands, clearing-Stands, creating-Stands, releasing-Stands}
 
 pub need-least : (bytes : ℕ) → 6 ≤ need_of bytes
@@ -108,6 +108,10 @@ pub free-is : (r : Run) (name : ℕ) (s : Run) → step r (op.Free name) ≡ Som
     → s ≡ freeing r name (spot_held name r.held)
 free-is r name s e = cc
 
+-- what an idle operation does
+pub idle-is : (r : Run) (s : Run) → step r op.Idle ≡ Some s → s ≡ idling r
+idle-is r s e = cc
+
 -- what is there after a step that may have none
 pub next-of : {A B : Type 0} (o : Option A) (f : A → Option B) (b : B)
     → option_and_then f o ≡ Some b → (a : A) × (o ≡ Some a) × (f a ≡ Some b)
@@ -158,7 +162,7 @@ step-Stands r (op.Realloc old fresh bytes) s e st = unbuilt s e
 step-Stands r (op.Give name to) s e st = unbuilt s e
 step-Stands r (op.Take name tries) s e st = unbuilt s e
 step-Stands r op.Info s e st = unbuilt s e
-step-Stands r op.Idle s e st = unbuilt s e
+step-Stands r op.Idle s e st = subst (λ (t : Run). Stands t.instance) (sym (idle-is r s e)) st
 
 -- what is the same whatever the carriers are: the settings, the number, the region
 module _ {A : Type 0} (of : Instance → A)
@@ -203,7 +207,7 @@ module _ {A : Type 0} (of : Instance → A)
   step-same r (op.Give name to) s e = unbuilt s e
   step-same r (op.Take name tries) s e = unbuilt s e
   step-same r op.Info s e = unbuilt s e
-  step-same r op.Idle s e = unbuilt s e
+  step-same r op.Idle s e = ap (λ (t : Run). of t.instance) (idle-is r s e)
 
   pub steps-same : (r : Run) (ops : List Op) (s : Run) → steps r ops ≡ Some s
       → of s.instance ≡ of r.instance

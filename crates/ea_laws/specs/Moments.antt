@@ -117,7 +117,7 @@ IsEntryOf (op.Realloc old fresh bytes) e = ⊥
 IsEntryOf (op.Give name to) e = ⊥
 IsEntryOf (op.Take name tries) e = ⊥
 IsEntryOf op.Info e = ⊥
-IsEntryOf op.Idle e = ⊥
+IsEntryOf op.Idle e = e ≡ entry.Idle
 
 -- each operation that is built under its settings has a next state, whose log has one entry more,
 -- which is the operation's

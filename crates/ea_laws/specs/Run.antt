@@ -80,6 +80,10 @@ freeing r name (Some spot) = record {
   log = r.log ++ entry.Free name ∷ [];
 }
 
+-- nothing is done, and the log says so
+abbrev pub idling : Run → Run
+idling r = record r { log = r.log ++ entry.Idle ∷ [] }
+
 -- whether the operation is built under these settings; a block above the singleblock threshold
 -- would have a carrier of its own, which isn't built
 abbrev pub is_built : Settings → Op → Bool
@@ -89,7 +93,7 @@ is_built s (op.Realloc old fresh bytes) = false
 is_built s (op.Give name to) = false
 is_built s (op.Take name tries) = false
 is_built s op.Info = false
-is_built s op.Idle = false
+is_built s op.Idle = true
 
 abbrev pub IsBuiltOp : Settings → Op → Type 0
 IsBuiltOp s o = is_built s o ≡ true
@@ -103,7 +107,7 @@ doing r (op.Realloc old fresh bytes) = None
 doing r (op.Give name to) = None
 doing r (op.Take name tries) = None
 doing r op.Info = None
-doing r op.Idle = None
+doing r op.Idle = Some (idling r)
 
 -- what one operation does; none where it isn't built
 abbrev pub step : Run → Op → Option Run
