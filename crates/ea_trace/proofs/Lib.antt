@@ -1,0 +1,3 @@
+pub mod Stars
+pub mod Ranges
+pub mod Noted

@@ -1,0 +1,6 @@
+pub mod Lines
+pub mod Language
+pub mod Says
+pub mod Ranges
+pub mod Knows
+pub mod TurnLines

@@ -1,0 +1,188 @@
+-- What one line of a trace says, by itself.
+use Rattle.std.specs.Prelude.{ℕ, min, Bool, false, if◌then◌else◌, ◌==◌, List, [], ◌∷◌, Option, Some, None, codes, bytes_eq, option_and_then, option_map, unwrap_or}
+use Rattle.std.specs.List.{slice_split}
+use Rattle.ea_model.specs.Words.{from_to, number, numeral, words}
+use Rattle.ea_model.specs.declared.operations.Op.{Op}
+use Rattle.ea_model.specs.declared.operations.Op.TheVariants.{Alloc, Free, Realloc, Give, Take, Info, Idle}
+use Rattle.ea_model.specs.declared.settings.Letter.{Letter}
+use Rattle.ea_model.specs.declared.settings.Letter.TheVariants as letter
+use Rattle.ea_model.specs.declared.trace.Turns as model
+use Rattle.ea_model.specs.declared.units.TheConstants.{MAX_BYTES, MAX_NAME, MAX_SEED, MAX_TRIES, MAX_TURNS}
+use Rattle.ea_trace.specs.declared.lines.Line.{Line}
+use Rattle.ea_trace.specs.declared.lines.Line.TheVariants as line
+use Rattle.ea_trace.specs.declared.lines.TheConstants.{MAX_READ}
+
+-- a line, with the list of its turns
+abbrev pub Said : Type 0
+Said = Line (List model.Turns)
+
+-- a name, from 1 on
+abbrev pub name_in : List ℕ → Option ℕ
+name_in word = number 1 MAX_NAME word
+
+-- the bytes of a request
+abbrev pub bytes_in : List ℕ → Option ℕ
+bytes_in word = number 0 MAX_BYTES word
+
+-- the number of a scheduler, be there one or not
+abbrev pub scheduler_in : List ℕ → Option ℕ
+scheduler_in word = option_map (min MAX_READ) (numeral word)
+
+-- how many operations each scheduler has in a generated trace, from 1 on
+abbrev pub count_in : List ℕ → Option ℕ
+count_in word = from_to 1 MAX_READ (scheduler_in word)
+
+abbrev pub pair : {X : Type 0} → (ℕ → ℕ → X) → Option ℕ → Option ℕ → Option X
+pair f (Some a) (Some b) = Some (f a b)
+pair f (Some a) None = None
+pair f None b = None
+
+abbrev pub triple : {X : Type 0} → (ℕ → ℕ → ℕ → X) → Option ℕ → Option ℕ → Option ℕ → Option X
+triple f (Some a) b c = pair (f a) b c
+triple f None b c = None
+
+-- the word of a list of one
+abbrev pub only_word : List (List ℕ) → Option (List ℕ)
+only_word [] = None
+only_word (w ∷ []) = Some w
+only_word (w ∷ v ∷ ws) = None
+
+-- the words of a list of two
+abbrev pub both_words : List (List ℕ) → Option (List ℕ × List ℕ)
+both_words [] = None
+both_words (w ∷ []) = None
+both_words (w ∷ v ∷ []) = Some (w, v)
+both_words (w ∷ v ∷ u ∷ ws) = None
+
+-- the words of a list of three
+abbrev pub three_words : List (List ℕ) → Option (List ℕ × List ℕ × List ℕ)
+three_words [] = None
+three_words (w ∷ []) = None
+three_words (w ∷ v ∷ []) = None
+three_words (w ∷ v ∷ u ∷ []) = Some (w, v, u)
+three_words (w ∷ v ∷ u ∷ t ∷ ws) = None
+
+-- what a line that is its keyword alone says
+abbrev pub bare : {X : Type 0} → X → List (List ℕ) → Option X
+bare x [] = Some x
+bare x (w ∷ ws) = None
+
+abbrev pub alloc_in : List (List ℕ) → Option Op
+alloc_in ws = option_and_then (λ w. pair Alloc (name_in w.0) (bytes_in w.1)) (both_words ws)
+
+abbrev pub free_in : List (List ℕ) → Option Op
+free_in ws = option_map Free (option_and_then name_in (only_word ws))
+
+abbrev pub realloc_in : List (List ℕ) → Option Op
+realloc_in ws = option_and_then
+    (λ w. triple Realloc (name_in w.0) (name_in w.1) (bytes_in w.2)) (three_words ws)
+
+abbrev pub give_in : List (List ℕ) → Option Op
+give_in ws = option_and_then (λ w. pair Give (name_in w.0) (scheduler_in w.1)) (both_words ws)
+
+abbrev pub take_in : List (List ℕ) → Option Op
+take_in ws = option_and_then
+    (λ w. pair Take (name_in w.0) (number 1 MAX_TRIES w.1)) (both_words ws)
+
+-- an operation by its keyword and the words after it
+abbrev pub operation_in : List ℕ → List (List ℕ) → Option Op
+operation_in keyword ws =
+    if bytes_eq keyword (codes "alloc") then alloc_in ws else (
+    if bytes_eq keyword (codes "free") then free_in ws else (
+    if bytes_eq keyword (codes "realloc") then realloc_in ws else (
+    if bytes_eq keyword (codes "give") then give_in ws else (
+    if bytes_eq keyword (codes "take") then take_in ws else (
+    if bytes_eq keyword (codes "info") then bare Info ws else (
+    if bytes_eq keyword (codes "idle") then bare Idle ws else None))))))
+
+-- the letter of an allocator
+abbrev pub letter_in : List ℕ → Option Letter
+letter_in w =
+    if bytes_eq w (codes "B") then Some letter.B else (
+    if bytes_eq w (codes "D") then Some letter.D else (
+    if bytes_eq w (codes "E") then Some letter.E else (
+    if bytes_eq w (codes "H") then Some letter.H else (
+    if bytes_eq w (codes "L") then Some letter.L else (
+    if bytes_eq w (codes "R") then Some letter.R else (
+    if bytes_eq w (codes "S") then Some letter.S else (
+    if bytes_eq w (codes "T") then Some letter.T else None)))))))
+
+-- a star
+abbrev pub is_star : ℕ → Bool
+is_star b = b == 42
+
+abbrev pub turns_from : ℕ → ℕ → model.Turns
+turns_from s k = record { scheduler = s; count = k }
+
+-- one turn, S, or several, S*K
+abbrev pub turns_of_parts : List (List ℕ) → Option model.Turns
+turns_of_parts [] = None
+turns_of_parts (s ∷ []) = pair turns_from (scheduler_in s) (Some 1)
+turns_of_parts (s ∷ k ∷ []) = pair turns_from (scheduler_in s) (number 1 MAX_TURNS k)
+turns_of_parts (s ∷ k ∷ j ∷ parts) = None
+
+abbrev pub turns_at : List ℕ → Option model.Turns
+turns_at word = turns_of_parts (slice_split is_star word)
+
+abbrev pub and_turns : Option model.Turns → Option (List model.Turns) → Option (List model.Turns)
+and_turns (Some t) (Some ts) = Some (t ∷ ts)
+and_turns (Some t) None = None
+and_turns None ts = None
+
+-- the turns that these words spell, if each spells some
+abbrev pub turns_in : List (List ℕ) → Option (List model.Turns)
+turns_in [] = Some []
+turns_in (w ∷ ws) = and_turns (turns_at w) (turns_in ws)
+
+abbrev pub letter_line : Letter → Said
+letter_line l = line.Letter l
+
+abbrev pub section_line : ℕ → Said
+section_line n = line.Section n
+
+abbrev pub generate_line : ℕ → ℕ → Said
+generate_line seed count = line.Generate seed count
+
+abbrev pub turns_line : List model.Turns → Said
+turns_line ts = line.Turns ts
+
+abbrev pub type_in : List (List ℕ) → Option Said
+type_in ws = option_map letter_line (option_and_then letter_in (only_word ws))
+
+abbrev pub section_in : List (List ℕ) → Option Said
+section_in ws = option_map section_line (option_and_then scheduler_in (only_word ws))
+
+abbrev pub generate_in : List (List ℕ) → Option Said
+generate_in ws = option_and_then
+    (λ w. pair generate_line (number 0 MAX_SEED w.0) (count_in w.1)) (both_words ws)
+
+-- an operation, or else turns
+abbrev pub one_of : Option Op → Option (List model.Turns) → Option Said
+one_of (Some o) ts = Some (line.Operation o)
+one_of None ts = option_map turns_line ts
+
+-- a line by its first word and the words after it
+abbrev pub command : List ℕ → List (List ℕ) → Option Said
+command keyword ws =
+    if bytes_eq keyword (codes "threads") then bare line.Threads ws else (
+    if bytes_eq keyword (codes "schedule") then bare line.Schedule ws else (
+    if bytes_eq keyword (codes "end") then bare line.End ws else (
+    if bytes_eq keyword (codes "type") then type_in ws else (
+    if bytes_eq keyword (codes "scheduler") then section_in ws else (
+    if bytes_eq keyword (codes "generate") then generate_in ws
+    else one_of (operation_in keyword ws) (turns_in (keyword ∷ ws)))))))
+
+-- a word that begins with '#'
+abbrev pub is_comment : List ℕ → Bool
+is_comment [] = false
+is_comment (b ∷ bs) = b == 35
+
+-- a line by its words; one without words and a comment are skipped
+abbrev pub line_of_words : List (List ℕ) → Said
+line_of_words [] = line.Skipped
+line_of_words (w ∷ ws) = if is_comment w then line.Skipped
+    else unwrap_or (command w ws) line.Unreadable
+
+-- what a line says
+abbrev pub line_of : List ℕ → Said
+line_of text = line_of_words (words text)

@@ -1,0 +1,55 @@
+//! Why a text is no trace.
+ghost use Rattle.std.specs.Prelude.{◌≡◌};
+ghost use Rattle.ea_trace.specs.declared.fault.TraceFault.TheVariants as fault;
+
+use ea_model::OutOfMemory;
+use std::alloc::AllocError;
+use thiserror::Error;
+
+/// Why a text is no trace. Lines count from 1. The first refused line decides; of one line the
+/// first of `Syntax`, `BadScheduler`, `TooMany`, `NameReused` and `NotHeld` that holds.
+#[derive(Debug, Clone, Copy, PartialEq, Eq, Error)]
+pub enum TraceFault {
+    /// The line isn't one that may stand there, or is malformed, or a number that isn't a
+    /// scheduler's is out of its range.
+    #[error("line {line}: syntax")]
+    Syntax { line: u32 },
+    /// The line begins another section than the next due, names a scheduler that isn't there, or
+    /// ends the sections too early.
+    #[error("line {line}: bad scheduler")]
+    BadScheduler { line: u32 },
+    /// The line makes a name that an earlier line made, or gives a name that an earlier line gave.
+    #[error("line {line}: name reused")]
+    NameReused { line: u32 },
+    /// The line needs a name that no earlier line of its section made or took.
+    #[error("line {line}: name not held")]
+    NotHeld { line: u32 },
+    /// No line gives the name that the line takes to its scheduler.
+    #[error("line {line}: name not addressed")]
+    NotAddressed { line: u32 },
+    /// With this line the operations, the tries or the turns are more than a trace may have.
+    #[error("line {line}: too many")]
+    TooMany { line: u32 },
+    /// The text ends before an `end` line.
+    #[error("no end line")]
+    NoEnd,
+    /// There was no memory.
+    #[error("out of memory")]
+    OutOfMemory,
+}
+
+impl From<OutOfMemory> for TraceFault {
+    ghost from_gives = { λ _ f. f ≡ fault.OutOfMemory };
+
+    fn from(_: OutOfMemory) -> TraceFault {
+        TraceFault::OutOfMemory
+    }
+}
+
+impl From<AllocError> for TraceFault {
+    ghost from_gives = { λ _ f. f ≡ fault.OutOfMemory };
+
+    fn from(_: AllocError) -> TraceFault {
+        TraceFault::OutOfMemory
+    }
+}

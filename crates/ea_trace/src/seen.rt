@@ -1,0 +1,50 @@
+//! What is known of the lines that were taken.
+ghost use Rattle.std.specs.Prelude.{◌≡◌, ◌+◌, ◌≤◌, All, length};
+ghost use Rattle.ea_model.specs.declared.units.TheConstants.{MAX_ALL_TRIES, MAX_NAME, MAX_OPS, MAX_SCHEDULERS, MAX_TURNS};
+ghost use Rattle.ea_trace.specs.Ranges.{IsNamed};
+
+use crate::stages::Stage;
+use crate::takes::TakeLine;
+use ea_model::{Letter, List, Mode, Op, Turns};
+
+/// What is known of the lines that were taken.
+#[derive(Drop)]
+pub struct Seen {
+    /// How many sections there are to be.
+    pub schedulers: u32,
+    pub stage: Stage,
+    /// How many sections have begun.
+    pub section: u32,
+    pub letter: Option<Letter>,
+    /// The mode, without the turns of the schedule.
+    pub mode: Option<Mode>,
+    /// Whether each name was made, by name.
+    pub made: Vec<bool>,
+    /// The last section that made or took each name, or 0.
+    pub holder: Vec<u32>,
+    /// The scheduler to which each name was given, or 0.
+    pub addressee: Vec<u32>,
+    /// How many operations there are.
+    pub count: u32,
+    /// How many tries there are.
+    pub tries: u32,
+    /// How many turns there are.
+    pub turn_count: u32,
+    /// The greatest name, or 0.
+    pub greatest: u32,
+    pub takes: Vec<TakeLine>,
+    /// The texts of the sections that are over.
+    pub texts: List<List<Op>>,
+    /// The text of the section that was begun last.
+    pub text: List<Op>,
+    pub turns: List<Turns>,
+    ghost made_names: { length made.items ≡ MAX_NAME + 1 },
+    ghost held_names: { length holder.items ≡ MAX_NAME + 1 },
+    ghost given_names: { length addressee.items ≡ MAX_NAME + 1 },
+    ghost takes_named: { All IsNamed takes.items },
+    ghost few_sections: { section ≤ schedulers },
+    ghost few_schedulers: { schedulers ≤ MAX_SCHEDULERS },
+    ghost few_operations: { count ≤ MAX_OPS },
+    ghost few_tries: { tries ≤ MAX_ALL_TRIES },
+    ghost few_turns: { turn_count ≤ MAX_TURNS },
+}

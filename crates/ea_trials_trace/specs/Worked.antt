@@ -1,0 +1,40 @@
+-- Worked texts: in short what the language says of them.
+use Rattle.std.specs.Prelude.{ℕ, List, Option, Some, None, Result, Ok, Err, take, map}
+use Rattle.std.specs.List.{range_with_len}
+use Rattle.ea_model.specs.Trace.{listed}
+use Rattle.ea_model.specs.declared.operations.Op.{Op}
+use Rattle.ea_model.specs.declared.settings.Letter.{Letter}
+use Rattle.ea_model.specs.declared.trace.Mode.{Mode}
+use Rattle.ea_model.specs.declared.trace.Mode.TheVariants.{Schedule}
+use Rattle.ea_model.specs.declared.trace.Trace.{Trace}
+use Rattle.ea_model.specs.declared.trace.Turns.{Turns}
+use Rattle.ea_trace.specs.Language.{trace}
+use Rattle.ea_trace.specs.declared.fault.TraceFault.{TraceFault}
+
+abbrev pub fault_of : Result Trace TraceFault → Option TraceFault
+fault_of (Ok t) = None
+fault_of (Err f) = Some f
+
+-- why a text is no trace for n schedulers, if it is none
+abbrev pub refused : ℕ → List ℕ → Option TraceFault
+refused n text = fault_of (trace text n)
+
+-- the same of the first bytes of a text: none of them, one, two, up to so many less one
+abbrev pub refused_cuts : ℕ → List ℕ → ℕ → List (Option TraceFault)
+refused_cuts n text cuts = map (λ k. refused n (take k text)) (range_with_len 0 cuts)
+
+-- a trace with these texts, and this greatest name
+abbrev pub is_trace : Letter → Mode → List (List Op) → ℕ → Result Trace TraceFault
+is_trace letter mode texts greatest = Ok (record {
+  letter = letter;
+  texts = listed (map (λ text. listed text) texts);
+  mode = mode;
+  greatest = greatest;
+})
+
+abbrev pub turns : ℕ → ℕ → Turns
+turns scheduler count = record { scheduler = scheduler; count = count }
+
+-- the mode of a trace with these turns
+abbrev pub in_turns : List Turns → Mode
+in_turns ts = Schedule (listed ts)

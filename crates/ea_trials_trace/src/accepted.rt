@@ -1,0 +1,44 @@
+//! Texts that are traces, with what they hold, and every cut of a text.
+ghost use Rattle.std.specs.Prelude.{◌≡◌, codes, ◌++◌, [], ◌∷◌, Some, None, replicate};
+ghost use Rattle.ea_model.specs.declared.operations.Op.TheVariants.{Alloc, Free, Realloc, Give, Take, Info, Idle};
+ghost use Rattle.ea_model.specs.declared.settings.Letter.TheVariants.{B, D, H, T};
+ghost use Rattle.ea_model.specs.declared.trace.Mode.TheVariants.{Threads, Generated};
+ghost use Rattle.ea_trace.specs.Language.{trace};
+ghost use Rattle.ea_trace.specs.declared.fault.TraceFault.TheVariants as fault;
+ghost use Rattle.ea_trials_trace.specs.Worked.{in_turns, is_trace, refused, refused_cuts, turns};
+
+/// A trace of each mode, with each operation.
+pub fn worked_traces()
+    ensures schedule { trace (codes "type H\nscheduler 1\nalloc 1 100\nschedule\nend\n") 1
+        ≡ is_trace H (in_turns []) ((Alloc 1 100 ∷ []) ∷ []) 1 }
+    ensures two_sections { trace
+        (codes "type B\nscheduler 1\nalloc 2 0\ngive 2 2\nidle\nscheduler 2\ntake 2 3\nfree 2\nschedule\nend")
+        2 ≡ is_trace B (in_turns [])
+        ((Alloc 2 0 ∷ Give 2 2 ∷ Idle ∷ []) ∷ (Take 2 3 ∷ Free 2 ∷ []) ∷ []) 2 }
+    ensures turns_on_lines { trace
+        (codes "type D\nscheduler 1\nscheduler 2\nschedule\n1*518 2*514\n\n# c\n1\n2 1*7\nend\n# c\n\n") 2
+        ≡ is_trace D (in_turns
+        (turns 1 518 ∷ turns 2 514 ∷ turns 1 1 ∷ turns 2 1 ∷ turns 1 7 ∷ [])) ([] ∷ [] ∷ []) 0 }
+    ensures threads { trace
+        (codes "type T\nscheduler 1\nalloc 9 1\nrealloc 9 4 2\ninfo\nscheduler 2\nthreads\nend\n") 2
+        ≡ is_trace T Threads ((Alloc 9 1 ∷ Realloc 9 4 2 ∷ Info ∷ []) ∷ [] ∷ []) 9 }
+    ensures generated { trace (codes "type H\ngenerate 7 20\nend\n") 16
+        ≡ is_trace H (Generated 7 20) [] 0 }
+    ensures spaces_and_zeros { trace
+        (codes "# c\n\ttype  H\r\n\nscheduler 01\n alloc\t1 0000000100 \n#end\nschedule\r\n\t\nend") 1
+        ≡ is_trace H (in_turns []) ((Alloc 1 100 ∷ []) ∷ []) 1 }
+    ensures other_bytes { refused 1 (codes "type H\nscheduler 1\n" ++ 255 ∷ codes "\n")
+        ≡ Some (fault.Syntax 3) }
+{}
+
+/// The first 0 to 43 bytes of a trace: only the whole of it is one.
+pub fn every_cut()
+    ensures { refused_cuts 1 (codes "type H\nscheduler 1\nalloc 1 100\nschedule\nend") 44
+        ≡ (Some fault.NoEnd ∷ []) ++ replicate 5 (Some (fault.Syntax 1))
+        ++ replicate 2 (Some fault.NoEnd) ++ replicate 7 (Some (fault.Syntax 2))
+        ++ (Some (fault.BadScheduler 2) ∷ []) ++ replicate 2 (Some (fault.Syntax 2))
+        ++ replicate 2 (Some fault.NoEnd) ++ replicate 8 (Some (fault.Syntax 3))
+        ++ replicate 4 (Some fault.NoEnd) ++ replicate 7 (Some (fault.Syntax 4))
+        ++ replicate 2 (Some fault.NoEnd) ++ replicate 2 (Some (fault.Syntax 5))
+        ++ (None ∷ []) }
+{}
