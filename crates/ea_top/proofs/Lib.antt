@@ -1,3 +1,2 @@
-pub mod InRange
 pub mod Regions
 pub mod Steps

@@ -5,12 +5,7 @@ use Rattle.std.specs.declared.string.String.{String}
 use Rattle.ea_io.specs.Fronts.{AppendsFront}
 use Rattle.ea_flags.specs.Flags.{flags}
 use Rattle.ea_model.specs.declared.units.TheConstants.{MAX_INPUT}
-use Rattle.ea_top.specs.Output.{is_built_for, output_for}
-use Rattle.ea_top.specs.Trace.{trace_of}
-
--- the input is a trace, of MAX_INPUT bytes at most
-abbrev pub GoodInput : List ℕ → Type 0
-GoodInput input = (length input ≤ MAX_INPUT) × IsSome (trace_of input)
+use Rattle.ea_top.specs.Output.{is_built_for, output_for, read_for}
 
 module _ {Z : Type 0} where
   -- what the words spell
@@ -20,6 +15,10 @@ module _ {Z : Type 0} where
   -- the words are accepted
   abbrev pub GoodWords : List (String Z) → Type 0
   GoodWords words = IsOk (flags (spelled words))
+
+  -- under these words the input is a trace, of MAX_INPUT bytes at most
+  abbrev pub GoodInput : List (String Z) → List ℕ → Type 0
+  GoodInput words input = (length input ≤ MAX_INPUT) × IsSome (read_for (spelled words) input)
 
   -- the run that words and input ask for is built
   abbrev pub IsBuiltFor : List (String Z) → List ℕ → Type 0

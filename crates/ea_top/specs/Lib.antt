@@ -1,9 +1,5 @@
-pub mod Says
-pub mod Reads
 pub mod Holding
 pub mod Running
-pub mod Lines
-pub mod Trace
 pub mod Built
 pub mod Output
 pub mod Answers

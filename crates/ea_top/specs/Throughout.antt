@@ -4,15 +4,15 @@ use Rattle.std.specs.declared.string.String.{String}
 use Rattle.ea_flags.specs.Flags.{flags}
 use Rattle.ea_model.specs.declared.operations.Op.{Op}
 use Rattle.ea_model.specs.declared.settings.Config.{Config}
-use Rattle.ea_model.specs.declared.settings.Letter.TheVariants.{H}
+use Rattle.ea_model.specs.declared.settings.Letter.{Letter}
 use Rattle.ea_model.specs.Instance.{instance_of}
 use Rattle.ea_laws.specs.Run.{Run, run}
 use Rattle.ea_top.specs.Answers.{spelled}
 use Rattle.ea_top.specs.Built.{is_built_config}
 
--- under these words, where they are built, it holds after any operations that are built, so after
--- each front of any list of them
+-- under these words it holds for each allocator that they build, after any operations that are
+-- built, so after each front of any list of them
 abbrev pub Throughout : {Z : Type 0} → (List Op → Run → Type 0) → List (String Z) → Type 0
-Throughout P words = (config : Config) → flags (spelled words) ≡ Ok config
-    → is_built_config config H ≡ true → (ops : List Op) (r : Run)
-    → run (instance_of config H) ops ≡ Some r → P ops r
+Throughout P words = (config : Config) → flags (spelled words) ≡ Ok config → (letter : Letter)
+    → is_built_config config letter ≡ true → (ops : List Op) (r : Run)
+    → run (instance_of config letter) ops ≡ Some r → P ops r

@@ -2,10 +2,11 @@
 ghost use Rattle.std.specs.Prelude.{◌≡◌, All};
 ghost use Rattle.std.specs.List.{list_all};
 ghost use Rattle.ea_model.specs.Operations.{InRange};
+ghost use Rattle.ea_model.specs.Trace.{IsValidTrace};
 ghost use Rattle.ea_laws.specs.Run as laws;
 ghost use Rattle.ea_top.specs.Built as built;
 
-use ea_model::{Config, Letter, Op, Settings, need};
+use ea_model::{Config, Letter, Mode, Op, Settings, Trace, need};
 
 /// Whether the operation is built under these settings.
 fn is_built_op(settings: Settings, op: Op) -> bool
@@ -14,7 +15,7 @@ fn is_built_op(settings: Settings, op: Op) -> bool
 {
     match op {
         Op::Alloc { bytes, .. } => need(bytes) <= settings.sbct,
-        Op::Free { .. } => true,
+        Op::Free { .. } | Op::Idle => true,
         _ => false,
     }
 }
@@ -32,6 +33,22 @@ fn are_built(settings: Settings, ops: &[Op]) -> bool
     true
 }
 
+fn is_built_mode(mode: &Mode) -> bool
+    ensures { result ≡ built.is_built_mode mode.now }
+{
+    matches!(mode, Mode::Schedule { .. })
+}
+
+/// The operations of scheduler 1; none where there is no text.
+pub fn first_text(trace: &Trace) -> &[Op]
+    ensures { result.now ≡ built.first_text trace.now }
+{
+    match trace.texts.as_slice() {
+        [text, ..] => text.as_slice(),
+        [] => &[],
+    }
+}
+
 /// Whether there is one scheduler, whose carriers don't migrate.
 fn is_built_config(config: Config, letter: Letter) -> bool
     ensures { result ≡ built.is_built_config config letter }
@@ -39,10 +56,12 @@ fn is_built_config(config: Config, letter: Letter) -> bool
     config.schedulers == 1 && config.of(letter).acul == 0
 }
 
-/// Whether a run of these operations is built.
-pub fn is_built(config: Config, letter: Letter, ops: &[Op]) -> bool
-    requires { All InRange ops.now }
-    ensures { result ≡ built.is_built_run config letter ops.now }
+/// Whether the run of a trace is built.
+pub fn is_built(config: Config, trace: &Trace) -> bool
+    requires { IsValidTrace config.schedulers trace.now }
+    ensures { result ≡ built.is_built_run config trace.now }
 {
-    is_built_config(config, letter) && are_built(config.of(letter), ops)
+    is_built_config(config, trace.letter)
+        && is_built_mode(&trace.mode)
+        && are_built(config.of(trace.letter), first_text(trace))
 }

@@ -4,13 +4,13 @@ ghost use Rattle.std.specs.Io.KnownBytes.{Appends};
 ghost use Rattle.ea_io.specs.Calls.{StopsAtFault};
 ghost use Rattle.ea_io.specs.Counts.{Calm};
 ghost use Rattle.ea_io.specs.Fronts.{AppendsFront};
-ghost use Rattle.ea_top.specs.Faults.{fault_of_trace, flag_text, status_of, word_text, line_with, fault_line, Complains};
+ghost use Rattle.ea_top.specs.Faults.{flag_text, trace_text, status_of, numbered_text, line_with, fault_line, Complains};
 ghost use Rattle.ea_top.specs.declared.faults.Fault.TheVariants as fault;
 
-use crate::reader::TraceFault;
 use ea_flags::FlagFault;
 use ea_io::{Failed, Sink, write_texts};
 use ea_model::OutOfMemory;
+use ea_trace::TraceFault;
 use itoa::Buffer;
 
 /// Why a run has no text.
@@ -18,8 +18,8 @@ use itoa::Buffer;
 pub enum Fault {
     /// The words are refused.
     Words(FlagFault),
-    /// The input isn't in the language that is built.
-    Input,
+    /// The input gives no trace.
+    Trace(TraceFault),
     /// The input has more than 2^24 bytes.
     TooLong,
     /// The run isn't built.
@@ -41,13 +41,10 @@ impl From<FlagFault> for Fault {
 }
 
 impl From<TraceFault> for Fault {
-    ghost from_gives = { λ refusal fault. fault ≡ fault_of_trace refusal };
+    ghost from_gives = { λ refusal f. f ≡ fault.Trace refusal };
 
     fn from(refusal: TraceFault) -> Fault {
-        match refusal {
-            TraceFault::NotBuilt => Fault::Input,
-            TraceFault::OutOfMemory => Fault::OutOfMemory,
-        }
+        Fault::Trace(refusal)
     }
 }
 
@@ -66,10 +63,10 @@ impl Fault {
     {
         match self {
             Fault::Words(_) => 1,
-            Fault::Input | Fault::TooLong => 2,
+            Fault::Trace(TraceFault::OutOfMemory) | Fault::OutOfMemory => 5,
+            Fault::Trace(_) | Fault::TooLong => 2,
             Fault::ReadFailed => 3,
             Fault::WriteFailed => 4,
-            Fault::OutOfMemory => 5,
             Fault::NotBuilt => 6,
         }
     }
@@ -85,32 +82,59 @@ fn write_with<E: Sink>(err: &mut E, text: &str) -> Result<(), Failed>
     write_texts(err, &["erts_alloc_run: ", text, "\n"])
 }
 
-/// Writes the line that names a word, and says what is wrong with it.
-fn write_word<E: Sink>(err: &mut E, word: u32, what: &str) -> Result<(), Failed>
-    ensures whole { OnOk result
-        (Appends (E.taken err.old) (E.taken err.new) (line_with (word_text word what.now))) }
-    ensures front { AppendsFront (E.taken err.old) (E.taken err.new) (line_with (word_text word what.now)) }
+/// Writes the line that names a word or a line by its number, and says what is wrong with it.
+fn write_numbered<E: Sink>(err: &mut E, thing: &str, number: u32, what: &str) -> Result<(), Failed>
+    ensures whole { OnOk result (Appends (E.taken err.old) (E.taken err.new)
+        (line_with (numbered_text thing.now number what.now))) }
+    ensures front { AppendsFront (E.taken err.old) (E.taken err.new)
+        (line_with (numbered_text thing.now number what.now)) }
     ensures kept { OnOk result (E.faults err.new ≡ E.faults err.old) }
     ensures stops { OnErr result (StopsAtFault E.taken E.faults err.old err.new) }
 {
     let mut buffer = Buffer::new();
-    let number = buffer.format(word);
-    write_texts(err, &["erts_alloc_run: word ", number, ": ", what, "\n"])
+    let digits = buffer.format(number);
+    write_texts(
+        err,
+        &["erts_alloc_run: ", thing, " ", digits, ": ", what, "\n"],
+    )
 }
 
-fn write_refusal<E: Sink>(err: &mut E, refusal: FlagFault) -> Result<(), Failed>
+fn write_flag_fault<E: Sink>(err: &mut E, refusal: FlagFault) -> Result<(), Failed>
     ensures whole { OnOk result
         (Appends (E.taken err.old) (E.taken err.new) (line_with (flag_text refusal))) }
-    ensures front { AppendsFront (E.taken err.old) (E.taken err.new) (line_with (flag_text refusal)) }
+    ensures front
+        { AppendsFront (E.taken err.old) (E.taken err.new) (line_with (flag_text refusal)) }
     ensures kept { OnOk result (E.faults err.new ≡ E.faults err.old) }
     ensures stops { OnErr result (StopsAtFault E.taken E.faults err.old err.new) }
 {
     match refusal {
-        FlagFault::Unknown { word } => write_word(err, word, "unknown flag"),
-        FlagFault::NoValue { word } => write_word(err, word, "value missing"),
-        FlagFault::BadValue { word } => write_word(err, word, "bad value"),
-        FlagFault::Unsupported { word } => write_word(err, word, "unsupported"),
+        FlagFault::Unknown { word } => write_numbered(err, "word", word, "unknown flag"),
+        FlagFault::NoValue { word } => write_numbered(err, "word", word, "value missing"),
+        FlagFault::BadValue { word } => write_numbered(err, "word", word, "bad value"),
+        FlagFault::Unsupported { word } => write_numbered(err, "word", word, "unsupported"),
         FlagFault::SpaceTooSmall => write_with(err, "super carrier too small"),
+    }
+}
+
+fn write_trace_fault<E: Sink>(err: &mut E, refusal: TraceFault) -> Result<(), Failed>
+    ensures whole { OnOk result
+        (Appends (E.taken err.old) (E.taken err.new) (line_with (trace_text refusal))) }
+    ensures front
+        { AppendsFront (E.taken err.old) (E.taken err.new) (line_with (trace_text refusal)) }
+    ensures kept { OnOk result (E.faults err.new ≡ E.faults err.old) }
+    ensures stops { OnErr result (StopsAtFault E.taken E.faults err.old err.new) }
+{
+    match refusal {
+        TraceFault::Syntax { line } => write_numbered(err, "line", line, "syntax"),
+        TraceFault::BadScheduler { line } => write_numbered(err, "line", line, "bad scheduler"),
+        TraceFault::NameReused { line } => write_numbered(err, "line", line, "name reused"),
+        TraceFault::NotHeld { line } => write_numbered(err, "line", line, "name not held"),
+        TraceFault::NotAddressed { line } => {
+            write_numbered(err, "line", line, "name not addressed")
+        }
+        TraceFault::TooMany { line } => write_numbered(err, "line", line, "too many"),
+        TraceFault::NoEnd => write_with(err, "no end line"),
+        TraceFault::OutOfMemory => write_with(err, "out of memory"),
     }
 }
 
@@ -121,8 +145,8 @@ fn write_line<E: Sink>(err: &mut E, fault: Fault) -> Result<(), Failed>
     ensures stops { OnErr result (StopsAtFault E.taken E.faults err.old err.new) }
 {
     match fault {
-        Fault::Words(refusal) => write_refusal(err, refusal),
-        Fault::Input => write_with(err, "not built yet"),
+        Fault::Words(refusal) => write_flag_fault(err, refusal),
+        Fault::Trace(refusal) => write_trace_fault(err, refusal),
         Fault::TooLong => write_with(err, "input too long"),
         Fault::NotBuilt => write_with(err, "not built yet"),
         Fault::ReadFailed => write_with(err, "read failed"),

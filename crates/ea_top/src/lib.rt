@@ -3,12 +3,8 @@
 
 mod built;
 mod faults;
-mod lines;
-mod reader;
 mod scheduler;
-mod seen;
 mod simulation;
-mod stages;
 mod top;
 
 pub use faults::Fault;

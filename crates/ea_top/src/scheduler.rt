@@ -1,6 +1,6 @@
 //! The scheduler of a run: its instance, the names that it holds, and its log.
 ghost use Rattle.std.specs.Prelude.{◌≡◌, ◌≢◌, ℕ, ◌+◌, ◌<◌, ◌≤◌, ◌%◌, ◌*◌, ◌^◌, ◌++◌, ◌∷◌, [], Some, Ok, IfOk, OnOk, IsSome, length, set};
-ghost use Rattle.ea_model.specs.declared.operations.Op.TheVariants.{Alloc, Free};
+ghost use Rattle.ea_model.specs.declared.operations.Op.TheVariants.{Alloc, Free, Idle};
 ghost use Rattle.ea_model.specs.declared.entries.Entry.TheVariants as entry;
 ghost use Rattle.ea_model.specs.declared.carriers.Spot.{Spot};
 ghost use Rattle.ea_model.specs.declared.units.TheConstants.{MAX_BYTES, MAX_NAME};
@@ -201,6 +201,24 @@ impl Scheduler {
         })
     }
 
+    /// Does nothing, and notes it.
+    fn idle(self) -> Result<Scheduler, OutOfMemory>
+        ensures shows { IfOk result (λ s. (r : Run) → Shows r self → Reaches (doing r Idle) s) }
+        ensures grown { IfOk result (λ s. length s.log.items ≤ length self.log.items + 1) }
+    {
+        let Scheduler {
+            instance,
+            spots,
+            mut log,
+        } = self;
+        log.push(Entry::Idle)?;
+        Ok(Scheduler {
+            instance,
+            spots,
+            log,
+        })
+    }
+
     /// Does one operation.
     pub fn step(self, alloc: Global, op: Op) -> Result<Scheduler, OutOfMemory>
         requires range { InRange op }
@@ -212,6 +230,7 @@ impl Scheduler {
         match op {
             Op::Alloc { name, bytes } => self.alloc(alloc, name, bytes),
             Op::Free { name } => self.free(name),
+            Op::Idle => self.idle(),
             _ => unreachable!(),
         }
     }

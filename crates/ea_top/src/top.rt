@@ -1,5 +1,6 @@
 //! The top call.
 ghost use Rattle.std.specs.Prelude.{◌≡◌, ◌≢◌, ℕ, ◌+◌, ◌^◌, ◌<◌, ◌≤◌, ◌⊎◌, ◌↔◌, Some, Ok, IfOk, IfErr, IfSome, OnOk, IsErrOf, length};
+ghost use Rattle.std.specs.Result.{result_ok};
 ghost use Rattle.std.specs.Io.KnownBytes.{IsAtEnd};
 ghost use Rattle.ea_io.specs.Calls.{StopsAtFault};
 ghost use Rattle.ea_io.specs.Counts.{Calm};
@@ -7,8 +8,8 @@ ghost use Rattle.ea_io.specs.Fronts.{ConsumesAtMost};
 ghost use Rattle.ea_model.specs.declared.units.TheConstants.{MAX_INPUT};
 ghost use Rattle.ea_laws.specs.Moments.{Sound};
 ghost use Rattle.ea_model.specs.Settings.{IsValidConfig};
+ghost use Rattle.ea_trace.specs.Language as language;
 ghost use Rattle.ea_top.specs.Output.{output_under};
-ghost use Rattle.ea_top.specs.Trace.{trace_of};
 ghost use Rattle.ea_top.specs.Answers.{GoodWords, GoodInput, IsBuiltFor, WroteText, WroteFront};
 ghost use Rattle.ea_top.specs.Throughout.{Throughout};
 ghost use Rattle.ea_top.specs.Whys.{IsWhy, IsReadFault, IsTextFault};
@@ -17,11 +18,11 @@ ghost use Rattle.ea_top.specs.declared.faults.Fault.{Fault};
 
 use crate::built::is_built;
 use crate::faults::{Fault, complain};
-use crate::reader::read_trace;
 use crate::simulation::simulate;
 use ea_flags::read_flags;
 use ea_io::{ReadAllFault, Sink, Source, read_all, write_all};
-use ea_model::{Config, Letter, List, MAX_INPUT};
+use ea_model::{Config, List, MAX_INPUT};
+use ea_trace::read_trace;
 use std::alloc::Global;
 use std::thread::Threads;
 
@@ -31,7 +32,8 @@ use std::thread::Threads;
 /// The status is 0 where the text was written; 1 where the words are refused; 2 where the input has
 /// more than 2^24 bytes or isn't a trace; 3 where the source failed; 4 where `out` failed; 5 where
 /// there was no memory; 6 where words and input are accepted, and the run isn't built: it has more
-/// schedulers than one, its carriers would migrate, or a block would have a carrier of its own.
+/// schedulers than one, its carriers would migrate, its mode isn't a schedule, a block would have a
+/// carrier of its own, or it has operations other than `alloc`, `free` and `idle`.
 pub fn run<R: Threads + Sync, S: Source, O: Sink, E: Sink>(
     _rt: &R,
     alloc: Global,
@@ -61,17 +63,17 @@ pub fn run<R: Threads + Sync, S: Source, O: Sink, E: Sink>(
     ensures unread { result ≡ 1 → source.new ≡ source.old }
 
     // 2: only for an input that isn't good; and such an input gives 2, unless its source fails.
-    ensures bad_input { result ≡ 2 → IfSome (S.left source.old) (λ input. GoodInput input → ⊥) }
+    ensures bad_input { result ≡ 2 → IfSome (S.left source.old) (λ input. GoodInput words.now input → ⊥) }
     ensures refuses { GoodWords words.now → Calm (S.faults source.old) (S.faults source.new)
-        → IfSome (S.left source.old) (λ input. (GoodInput input → ⊥)
+        → IfSome (S.left source.old) (λ input. (GoodInput words.now input → ⊥)
         → (result ≡ 2) ⊎ (result ≡ 5)) }
 
     // 6: only for a good input whose run isn't built; and such an input gives 6, unless its source
     // fails.
-    ensures not_built { result ≡ 6 → IfSome (S.left source.old) (λ input. GoodInput input
+    ensures not_built { result ≡ 6 → IfSome (S.left source.old) (λ input. GoodInput words.now input
         × (IsBuiltFor words.now input → ⊥)) }
     ensures leaves { GoodWords words.now → Calm (S.faults source.old) (S.faults source.new)
-        → IfSome (S.left source.old) (λ input. GoodInput input → (IsBuiltFor words.now input → ⊥)
+        → IfSome (S.left source.old) (λ input. GoodInput words.now input → (IsBuiltFor words.now input → ⊥)
         → (result ≡ 6) ⊎ (result ≡ 5)) }
 
     // At most one byte more than the limit is read.
@@ -90,7 +92,7 @@ pub fn run<R: Threads + Sync, S: Source, O: Sink, E: Sink>(
     // Good words, a good input whose run is built, and no fault give 0, or 5.
     ensures complete { GoodWords words.now → Calm (S.faults source.old) (S.faults source.new)
         → Calm (O.faults out.old) (O.faults out.new)
-        → IfSome (S.left source.old) (λ input. GoodInput input → IsBuiltFor words.now input
+        → IfSome (S.left source.old) (λ input. GoodInput words.now input → IsBuiltFor words.now input
         → (result ≡ 0) ⊎ (result ≡ 5)) }
 
     // err: nothing at 0, else the line of a fault that has this status and is why there is no text.
@@ -172,14 +174,16 @@ fn input_of<S: Source>(alloc: Global, source: &mut S) -> Result<List<u8>, Fault>
 
 /// The output text for an input under a configuration.
 fn text_of(alloc: Global, config: Config, input: &[u8]) -> Result<List<u8>, Fault>
-    requires { IsValidConfig config }
-    ensures ok { IfOk result (λ text. output_under (Ok config) (trace_of input.now)
+    requires config { IsValidConfig config }
+    requires short { length input.now ≤ MAX_INPUT }
+    ensures ok { IfOk result (λ text.
+        output_under (Ok config) (result_ok (language.trace input.now config.schedulers))
         ≡ Some text.items) }
     ensures err { IfErr result (IsTextFault config input.now) }
 {
-    let ops = read_trace(alloc, input)?;
-    if !is_built(config, Letter::H, ops.as_slice()) {
+    let trace = read_trace(alloc, input, config.schedulers)?;
+    if !is_built(config, &trace) {
         return Err(Fault::NotBuilt);
     }
-    Ok(simulate(alloc, config, Letter::H, ops.as_slice())?.print(alloc)?)
+    Ok(simulate(alloc, config, &trace)?.print(alloc)?)
 }

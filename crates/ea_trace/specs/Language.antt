@@ -219,35 +219,38 @@ trace_from letter mode lines = record {
   greatest = greatest_of (operations lines);
 }
 
+-- a trace, or why there is none
+abbrev pub Answer : Type 0
+Answer = Result Trace TraceFault
+
 -- the first line that takes what nobody gives to its scheduler is refused
-abbrev pub addressed_or : Option TakeLine → Trace → Result Trace TraceFault
+abbrev pub addressed_or : Option TakeLine → Trace → Answer
 addressed_or None t = Ok t
 addressed_or (Some take) t = Err (fault.NotAddressed take.line)
 
 -- what the lines give at the end of the text
-abbrev pub at_end : Stage → Option settings.Letter → Option Mode → List Said
-    → Result Trace TraceFault
+abbrev pub at_end : Stage → Option settings.Letter → Option Mode → List Said → Answer
 at_end at.Ended (Some letter) (Some mode) lines = addressed_or
     (find (is_unaddressed lines) (takes_in lines)) (trace_from letter mode lines)
 at_end stage letter mode lines = Err fault.NoEnd
 
-abbrev pub refused_or : Option TraceFault → Result Trace TraceFault → Result Trace TraceFault
+abbrev pub refused_or : Option TraceFault → Answer → Answer
 refused_or None read = read
 refused_or (Some f) read = Err f
 
 -- what the lines after the earlier ones give, oldest first: the first refused line decides
-abbrev pub read_after : ℕ → List Said → List Said → Result Trace TraceFault
+abbrev pub read_after : ℕ → List Said → List Said → Answer
 read_after n earlier [] = at_end (stage_after earlier) (letter_after earlier) (mode_after earlier)
     earlier
 read_after n earlier (line ∷ later) = refused_or (refusal n earlier line)
     (read_after n (line ∷ earlier) later)
 
 -- the trace of a text for n schedulers, or its first refusal
-abbrev pub trace : List ℕ → ℕ → Result Trace TraceFault
+abbrev pub trace : List ℕ → ℕ → Answer
 trace bytes n = read_after n [] (map line_of (lines bytes))
 
 -- an answer is what the text gives, or there was no memory
-abbrev pub Gives : Result Trace TraceFault → Result Trace TraceFault → Type 0
+abbrev pub Gives : Answer → Answer → Type 0
 Gives (Ok t) read = read ≡ Ok (plain t)
 Gives (Err fault.OutOfMemory) read = Unit {0}
 Gives (Err f) read = read ≡ Err f

@@ -6,6 +6,7 @@ mod fault;
 mod judging;
 mod lines;
 mod noting;
+mod reader;
 mod seen;
 mod stages;
 mod takes;
@@ -13,3 +14,4 @@ mod turns;
 mod words;
 
 pub use fault::TraceFault;
+pub use reader::read_trace;

@@ -150,7 +150,7 @@ impl Seen {
     }
 
     /// Notes a line that isn't refused.
-    fn add(&mut self, alloc: Global, number: u32, line: Line<&[u8]>) -> Result<(), OutOfMemory>
+    pub fn add(&mut self, alloc: Global, number: u32, line: Line<&[u8]>) -> Result<(), OutOfMemory>
         requires range { InRange (said line) }
         requires stands { Stands self.old.schedulers self.old.section line }
         requires good { is_bad_scheduler self.old.schedulers self.old.section (said line) ≡ false }
