@@ -1,2 +1,4 @@
 pub mod Regions
+pub mod Texts
+pub mod Leaving
 pub mod Steps

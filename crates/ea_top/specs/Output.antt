@@ -1,5 +1,5 @@
 -- The output of a run, and of an input.
-use Rattle.std.specs.Prelude.{ℕ, Bool, true, false, if◌then◌else◌, map, List, Option, None, Some, Result, Ok, Err, option_map}
+use Rattle.std.specs.Prelude.{ℕ, Bool, false, if◌then◌else◌, map, List, Option, None, Some, Result, Ok, Err, option_map}
 use Rattle.std.specs.Result.{result_ok}
 use Rattle.ea_flags.specs.declared.fault.FlagFault.{FlagFault}
 use Rattle.ea_flags.specs.Flags.{flags}

@@ -61,7 +61,11 @@ pub fn is_built(config: Config, trace: &Trace) -> bool
     requires { IsValidTrace config.schedulers trace.now }
     ensures { result ≡ built.is_built_run config trace.now }
 {
-    is_built_config(config, trace.letter)
-        && is_built_mode(&trace.mode)
-        && are_built(config.of(trace.letter), first_text(trace))
+    if !is_built_config(config, trace.letter) {
+        return false;
+    }
+    if !is_built_mode(&trace.mode) {
+        return false;
+    }
+    are_built(config.of(trace.letter), first_text(trace))
 }

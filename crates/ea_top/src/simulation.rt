@@ -13,11 +13,7 @@ use ea_model::{Config, OutOfMemory, Trace};
 use std::alloc::Global;
 
 /// Runs the operations of scheduler 1 under a configuration.
-pub fn simulate(
-    alloc: Global,
-    config: Config,
-    trace: &Trace,
-) -> Result<Scheduler, OutOfMemory>
+pub fn simulate(alloc: Global, config: Config, trace: &Trace) -> Result<Scheduler, OutOfMemory>
     requires config { IsValidConfig config }
     requires trace { IsValidTrace config.schedulers trace.now }
     requires built { is_built_run config trace.now ≡ true }

@@ -3,12 +3,6 @@ use Rattle.std.specs.Io.KnownBytes.{Appends}
 use Rattle.ea_top.specs.Faults.{fault_line}
 use Rattle.ea_top.proofs.faults.write_line.Goals as goal
 
-pub returns-in-Input-clause-whole : goal.returns-in-Input-clause-whole
-returns-in-Input-clause-whole g c =
-    subst (λ f. OnOk c.write_with.result
-    (Appends (g.E.Sink.taken c.args.err.now) (g.E.Sink.taken c.write_with.new.err)
-    (fault_line f))) (sym c.in-Input.is) c.write_with.ensures.whole
-
 pub returns-in-NotBuilt-clause-whole : goal.returns-in-NotBuilt-clause-whole
 returns-in-NotBuilt-clause-whole g c =
     subst (λ f. OnOk c.write_with-in-NotBuilt.result

@@ -1,7 +1,10 @@
-use Rattle.std.proofs.Common.{sym, ap, ◌∙◌, arith}
+use Rattle.std.proofs.Common.{length, slice_index_or, sym, ap, subst, ◌∙◌, arith}
+use Rattle.ea_model.specs.declared.operations.Op.TheVariants.{Alloc}
+use Rattle.ea_model.specs.Operations.{InRange}
 use Rattle.ea_model.specs.Instance.{Instance}
 use Rattle.ea_laws.proofs.Steps.{step-settings}
 use Rattle.ea_top.proofs.Steps.{run_more}
+use Rattle.ea_top.proofs.Texts.{first-InRange, first-few}
 use Rattle.ea_top.proofs.simulation.simulate.Goals as goal
 
 pub loop-op-preserved : goal.loop-op-preserved
@@ -10,9 +13,25 @@ loop-op-preserved c =
     let (n, next, there) = c.in_ok-scheduler-2.ensures.shows r shows in (
       n,
       there,
-      sym (run_more c.args.ops.now c.loop-op.op-index _ r n c.loop-op-test.true next)
+      sym (run_more _ c.loop-op.op-index _ r n c.loop-op-test.true next)
           ∙ rest,
       ap (λ (i : Instance). i.settings) there.instance ∙ step-settings r _ n next
           ∙ sym (ap (λ (i : Instance). i.settings) shows.instance) ∙ settings,
       omega (arith, grown, c.in_ok-scheduler-2.ensures.grown),
     )
+
+pub step-requires-clause-range : goal.step-requires-clause-range
+step-requires-clause-range c =
+    let same = c.first_text-op-items.ensures in
+    subst (λ ops. InRange (slice_index_or ops c.loop-op.op-index (Alloc 0 0))) (sym same)
+    (first-InRange c.args.config.schedulers c.args.trace.now c.requires.trace c.loop-op.op-index (Alloc 0 0)
+    (omega (arith, c.loop-op-test.true, ap length same)))
+
+pub step-requires-clause-log : goal.step-requires-clause-log
+step-requires-clause-log c = omega (
+  arith,
+  c.loop-op.invariant.4,
+  c.loop-op-test.true,
+  ap length c.first_text-op-items.ensures,
+  first-few c.args.config.schedulers c.args.trace.now c.requires.trace,
+)

@@ -9,6 +9,7 @@ use Rattle.ea_top.proofs.simulation.simulate.Given as goal
 -- settings, and each added at most one entry
 abbrev pub invariant-loop-op : goal.invariant-loop-op
 invariant-loop-op l = (r : Run) × Shows r l.scheduler
-    × (steps r (drop l.op-index l.ops) ≡ run (instance_of l.fn.config l.fn.letter) l.ops)
-    × (l.scheduler.instance.settings ≡ settings_of l.fn.config l.fn.letter)
+    × (steps r (drop l.op-index l.op-items)
+    ≡ run (instance_of l.fn.config l.fn.trace.letter) l.op-items)
+    × (l.scheduler.instance.settings ≡ settings_of l.fn.config l.fn.trace.letter)
     × (length l.scheduler.log.items ≤ l.op-index)

@@ -1,9 +1,9 @@
 use Rattle.std.proofs.Common.{◌≡◌, sym, ◌∙◌, subst, arith}
 use Rattle.std.specs.Prelude.{Result, Ok}
 use Rattle.ea_model.specs.declared.settings.Config.{Config}
-use Rattle.ea_model.specs.declared.settings.Letter.TheVariants.{H}
+use Rattle.ea_model.specs.declared.settings.Letter.{Letter}
 use Rattle.ea_model.specs.Instance.{instance_of}
-use Rattle.ea_model.specs.Settings.{IsValidConfig, region_pages}
+use Rattle.ea_model.specs.Settings.{IsValidConfig, region_pages, settings_of}
 use Rattle.ea_laws.specs.Kept.{Stands}
 use Rattle.ea_laws.proofs.Soundness.{run-Sound}
 use Rattle.ea_laws.proofs.Standing.{new-Stands}
@@ -19,14 +19,14 @@ still_valid read c d e f valid =
     let is : c ≡ d = cc in
     subst IsValidConfig is valid
 
-valid-Stands : (c : Config) → IsValidConfig c → Stands (instance_of c H)
-valid-Stands c valid =
-    new-Stands c.h 1 0 (region_pages c) (valid.settings H) (omega arith, omega arith)
-    (omega (arith, region-small c valid)) (valid.main_carriers H)
+valid-Stands : (c : Config) (letter : Letter) → IsValidConfig c → Stands (instance_of c letter)
+valid-Stands c letter valid =
+    new-Stands (settings_of c letter) 1 0 (region_pages c) (valid.settings letter)
+    (omega arith, omega arith) (omega (arith, region-small c valid)) (valid.main_carriers letter)
 
 pub returns-clause-sound : goal.returns-clause-sound
-returns-clause-sound g c = λ config e built ops r.
+returns-clause-sound g c = λ config e letter built ops r.
     let read = c.in_ok-config.ensures in
-    run-Sound (instance_of config H)
-    (valid-Stands config (still_valid _ c.in_ok-config.config config (sym read.config) e read.valid))
+    run-Sound (instance_of config letter)
+    (valid-Stands config letter (still_valid _ c.in_ok-config.config config (sym read.config) e read.valid))
     ops r

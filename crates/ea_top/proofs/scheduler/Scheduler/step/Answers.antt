@@ -33,3 +33,12 @@ returns-in-Free-clause-shows c =
     (λ (s : Scheduler). (r : Run) → Shows r c.args.self → Reaches (doing r c.args.op) s)
     (λ (s : Scheduler). (r : Run) → Shows r c.args.self → Reaches (step r c.args.op) s)
     (λ s h. reaches_step c.args.op c.args.self s c.requires.built h) done
+
+pub returns-in-Idle-clause-shows : goal.returns-in-Idle-clause-shows
+returns-in-Idle-clause-shows c =
+    let done = subst (λ o. IfOk c.idle.result (λ (s : Scheduler). (r : Run) → Shows r c.args.self
+    → Reaches (doing r o) s)) (sym c.in-Idle.is) c.idle.ensures.shows in
+    IfOk-weaker c.idle.result
+    (λ (s : Scheduler). (r : Run) → Shows r c.args.self → Reaches (doing r c.args.op) s)
+    (λ (s : Scheduler). (r : Run) → Shows r c.args.self → Reaches (step r c.args.op) s)
+    (λ s h. reaches_step c.args.op c.args.self s c.requires.built h) done
