@@ -10,7 +10,8 @@ use Rattle.ea_model.specs.declared.units.TheConstants.{MAX_ALL_TRIES, MAX_OPS}
 use Rattle.ea_model.specs.Trace.{BringsBefore, HasTexts, IsOperation, IsValidMode, IsValidTrace, gives, gives_to, greatest_of, listed, makes, plain, plain_mode, takes, text_at, texts_of, tries_of}
 
 same_items : (texts : List (Items Op))
-    → map (λ text. text.items) (map (λ text. listed text.items) texts) ≡ map (λ text. text.items) texts
+    → map (λ text. text.items) (map (λ text. listed text.items) texts)
+    ≡ map (λ text. text.items) texts
 same_items [] = refl
 same_items (text ∷ texts) = ap (λ rest. text.items ∷ rest) (same_items texts)
 

@@ -1,5 +1,5 @@
 -- What holds after lines of which none is refused.
-use Rattle.std.proofs.Common.{◌≡◌, ℕ, ◌+◌, ◌-◌, ◌*◌, ◌<◌, ◌≤◌, ◌⊎◌, inl, inr, Bool, true, false, ◌||◌, ◌&&◌, not, nat_lt, ◌==◌, cond, if◌then◌else◌, List, [], ◌∷◌, ◌++◌, Option, Some, None, length, reverse, map, refl, sym, ap, subst, ◌∙◌, arith, rules, tests, append-nil, append_assoc}
+use Rattle.std.proofs.Common.{◌≡◌, ℕ, ◌+◌, ◌-◌, ◌*◌, ◌<◌, ◌≤◌, Bool, true, false, ◌||◌, ◌&&◌, not, nat_lt, ◌==◌, if◌then◌else◌, List, [], ◌∷◌, ◌++◌, Option, Some, None, length, reverse, refl, sym, ap, subst, ◌∙◌, arith, rules, tests, append-nil, append_assoc}
 use Rattle.std.specs.List.{All, AllByRecursion, count_by, flat_map, list_any, sum_by}
 use Rattle.std.proofs.lemmas.Grind.{flat_map-append}
 use Rattle.std.proofs.lemmas.List.{length-append}
@@ -17,7 +17,6 @@ use Rattle.ea_model.specs.declared.units.TheConstants.{MAX_ALL_TRIES, MAX_OPS, M
 use Rattle.ea_trace.specs.Language.{Earlier, all_turns, and_last, gives_outside, is_bad_scheduler, is_given, is_held, is_made, is_many, is_not_held, is_outside, is_reused, lacks, may_stand, mode_after, operations, refusal, reuses, section_operations, sections, stage_after, texts_after, texts_before, turns_after}
 use Rattle.ea_trace.specs.Lines.{Said}
 use Rattle.ea_trace.specs.Ranges.{HasRanges, InRange, IsCount}
-use Rattle.ea_trace.specs.declared.fault.TraceFault.{TraceFault}
 use Rattle.ea_trace.specs.declared.lines.Line.TheVariants.{Skipped, Letter, Section, Operation, Threads, Schedule, Turns, Generate, End, Unreadable}
 use Rattle.ea_trace.specs.declared.stages.Stage.{Stage}
 use Rattle.ea_trace.specs.declared.stages.Stage.TheVariants as at
@@ -33,7 +32,8 @@ pub record Passes (n : ℕ) (older : Earlier) (line : Said) : Type 0 where
 
 module _ {A : Type 0} where
   pub first_none : (a b c d e : Bool) (f g h i j : A)
-      → (if not a then Some f else (if b then Some g else (if c then Some h else (if d then Some i else (if e then Some j else None))))) ≡ None
+      → (if not a then Some f else (if b then Some g else (if c then Some h else (
+      if d then Some i else (if e then Some j else None))))) ≡ None
       → (a ≡ true) × (b ≡ false) × (c ≡ false) × (d ≡ false) × (e ≡ false)
   first_none false b c d e f g h i j k = absurd cc
   first_none true true c d e f g h i j k = absurd cc
@@ -42,9 +42,12 @@ module _ {A : Type 0} where
   first_none true false false false true f g h i j k = absurd cc
   first_none true false false false false f g h i j k = (refl, refl, refl, refl, refl)
 
-pub passes : (n : ℕ) (older : Earlier) (line : Said) → refusal n older line ≡ None → Passes n older line
+pub passes : (n : ℕ) (older : Earlier) (line : Said) → refusal n older line ≡ None
+    → Passes n older line
 passes n older line h =
-    let t = first_none (may_stand n (stage_after older) (sections older) line) (is_bad_scheduler n (sections older) line) (is_many n older line) (is_reused older line) (is_not_held older line) _ _ _ _ _ h in
+    let t = first_none (may_stand n (stage_after older) (sections older) line)
+    (is_bad_scheduler n (sections older) line) (is_many n older line) (is_reused older line)
+    (is_not_held older line) _ _ _ _ _ h in
     record { stands = t.0; good = t.1; few = t.2; fresh = t.3; held = t.4 }
 
 -- none of the lines is refused, and their numbers are in their ranges
@@ -53,7 +56,8 @@ Followed n [] = Unit {0}
 Followed n (line ∷ older) = Followed n older × Passes n older line × InRange line
 
 -- an operation stands in a section
-begun : (n : ℕ) (stage : Stage) (section : ℕ) (op : Op) → may_stand n stage section (Operation op) ≡ true → gives_outside n op ≡ false → 0 < section
+begun : (n : ℕ) (stage : Stage) (section : ℕ) (op : Op) → may_stand n stage section (Operation op)
+    ≡ true → gives_outside n op ≡ false → 0 < section
 begun n at.Start section op h g = absurd cc
 begun n at.Opening section op h g = grind arith
 begun n at.Turns section op h g = absurd cc
@@ -71,7 +75,8 @@ abbrev pub Fits : ℕ → ℕ → Option Mode → Type 0
 Fits n section None = section ≤ n
 Fits n section (Some mode.Threads) = section ≡ n
 Fits n section (Some (mode.Schedule turns)) = section ≡ n
-Fits n section (Some (mode.Generated seed count)) = (section ≡ 0) × (seed ≤ MAX_SEED) × (1 ≤ count) × (n * count ≤ MAX_OPS)
+Fits n section (Some (mode.Generated seed count)) = (section ≡ 0) × (seed ≤ MAX_SEED) × (1 ≤ count)
+    × (n * count ≤ MAX_OPS)
 
 early_letter : (n : ℕ) (stage : Stage) (section : ℕ) (m : Option Mode) (l : Letter.Letter)
     → may_stand n stage section (Letter l) ≡ true → Early stage m → m ≡ None
@@ -113,7 +118,8 @@ early_generate n at.Turns section m seed count h e = absurd cc
 early_generate n at.Closing section m seed count h e = absurd cc
 early_generate n at.Ended section m seed count h e = absurd cc
 
-no_section : (n : ℕ) (stage : Stage) (section seed count : ℕ) → may_stand n stage section (Generate seed count) ≡ true → section ≡ 0
+no_section : (n : ℕ) (stage : Stage) (section seed count : ℕ)
+    → may_stand n stage section (Generate seed count) ≡ true → section ≡ 0
 no_section n at.Start section seed count h = absurd cc
 no_section n at.Opening section seed count h = grind arith
 no_section n at.Turns section seed count h = absurd cc
@@ -141,25 +147,56 @@ stays n [] f = record { early = refl; fits = omega arith }
 stays n (Skipped ∷ older) f = let h = stays n older f.0 in record { early = h.early; fits = h.fits }
 stays n (Letter l ∷ older) f =
     let h = stays n older f.0 in
-    record { early = early_letter n (stage_after older) (sections older) (mode_after older) l f.1.stands h.early; fits = h.fits }
+    record {
+      early = early_letter n (stage_after older) (sections older)
+          (mode_after older) l f.1.stands h.early;
+      fits = h.fits;
+    }
 stays n (Section k ∷ older) f =
     let h = stays n older f.0 in
-    let none = early_section n (stage_after older) (sections older) (mode_after older) k f.1.stands h.early in
-    record { early = h.early; fits = subst (Fits n (sections older + 1)) (sym none) (due n (sections older) k f.1.good) }
-stays n (Operation op ∷ older) f = let h = stays n older f.0 in record { early = h.early; fits = h.fits }
+    let none = early_section n (stage_after older) (sections older)
+    (mode_after older) k f.1.stands h.early in
+    record {
+      early = h.early;
+      fits = subst (Fits n (sections older + 1)) (sym none)
+          (due n (sections older) k f.1.good);
+    }
+stays n (Operation op ∷ older) f =
+    let h = stays n older f.0 in record { early = h.early; fits = h.fits }
 stays n (Threads ∷ older) f =
     let h = stays n older f.0 in
-    let none = early_threads n (stage_after older) (sections older) (mode_after older) f.1.stands h.early in
-    record { early = tt; fits = all_begun n (sections older) f.1.good (none_yet n (sections older) (mode_after older) none h.fits) }
+    let none = early_threads n (stage_after older) (sections older)
+    (mode_after older) f.1.stands h.early in
+    record {
+      early = tt;
+      fits = all_begun n (sections older) f.1.good
+          (none_yet n (sections older) (mode_after older) none h.fits);
+    }
 stays n (Schedule ∷ older) f =
     let h = stays n older f.0 in
-    let none = early_schedule n (stage_after older) (sections older) (mode_after older) f.1.stands h.early in
-    record { early = tt; fits = all_begun n (sections older) f.1.good (none_yet n (sections older) (mode_after older) none h.fits) }
-stays n (Turns ts ∷ older) f = let h = stays n older f.0 in record { early = h.early; fits = h.fits }
+    let none = early_schedule n (stage_after older) (sections older)
+    (mode_after older) f.1.stands h.early in
+    record {
+      early = tt;
+      fits = all_begun n (sections older) f.1.good
+          (none_yet n (sections older) (mode_after older) none h.fits);
+    }
+stays n (Turns ts ∷ older) f =
+    let h = stays n older f.0 in record { early = h.early; fits = h.fits }
 stays n (Generate seed count ∷ older) f =
-    record { early = tt; fits = (no_section n (stage_after older) (sections older) seed count f.1.stands, f.2.0, f.2.1, few_made n count f.1.few) }
+    record {
+      early = tt;
+      fits = (
+        no_section n (stage_after older)
+            (sections older) seed count f.1.stands,
+        f.2.0,
+        f.2.1,
+        few_made n count f.1.few,
+      );
+    }
 stays n (End ∷ older) f = let h = stays n older f.0 in record { early = tt; fits = h.fits }
-stays n (Unreadable ∷ older) f = let h = stays n older f.0 in record { early = h.early; fits = h.fits }
+stays n (Unreadable ∷ older) f =
+    let h = stays n older f.0 in record { early = h.early; fits = h.fits }
 
 -- the texts so far
 
@@ -168,8 +205,10 @@ all_of texts = flat_map (λ text. text) texts
 
 last_cases : (b : Bool) (texts : List (List Op)) (last : List Op) → (b ≡ false → last ≡ [])
     → all_of (if b then texts ++ last ∷ [] else texts) ≡ all_of texts ++ last
-last_cases true texts last h = flat_map-append (λ text. text) texts (last ∷ []) ∙ ap (λ xs. all_of texts ++ xs) (append-nil last)
-last_cases false texts last h = sym (append-nil (all_of texts)) ∙ ap (λ xs. all_of texts ++ xs) (sym (h refl))
+last_cases true texts last h = flat_map-append (λ text. text) texts (last ∷ [])
+    ∙ ap (λ xs. all_of texts ++ xs) (append-nil last)
+last_cases false texts last h = sym (append-nil (all_of texts))
+    ∙ ap (λ xs. all_of texts ++ xs) (sym (h refl))
 
 nothing_begun : (section : ℕ) → nat_lt 0 section ≡ false → section ≡ 0
 nothing_begun section h = grind arith
@@ -189,23 +228,31 @@ pub length_cases : (section : ℕ) (texts : List (List Op)) (last : List Op)
 length_cases section texts last h = length_of (nat_lt 0 section) section texts last refl h
 
 pub record Laid (lines : Earlier) : Type 0 where
-  pub all : all_of (texts_before lines) ++ reverse (section_operations lines) ≡ reverse (operations lines)
+  pub all : all_of (texts_before lines) ++ reverse (section_operations lines)
+      ≡ reverse (operations lines)
   pub none : sections lines ≡ 0 → section_operations lines ≡ []
   pub count : length (texts_before lines) ≡ sections lines - 1
 
-pub laid_last : (lines : Earlier) → Laid lines → all_of (texts_after lines) ≡ reverse (operations lines)
-laid_last lines h = last_cases (nat_lt 0 (sections lines)) (texts_before lines) (reverse (section_operations lines)) (λ e. ap reverse (h.none (nothing_begun (sections lines) e))) ∙ h.all
+pub laid_last : (lines : Earlier) → Laid lines → all_of (texts_after lines)
+    ≡ reverse (operations lines)
+laid_last lines h = last_cases (nat_lt 0 (sections lines)) (texts_before lines)
+    (reverse (section_operations lines)) (λ e. ap reverse
+    (h.none (nothing_begun (sections lines) e))) ∙ h.all
 
 laid_section : (k : ℕ) (older : Earlier) → Laid older → Laid (Section k ∷ older)
 laid_section k older h = record {
   all = append-nil (all_of (texts_after older)) ∙ laid_last older h;
   none = λ e. refl;
-  count = length_cases (sections older) (texts_before older) (reverse (section_operations older)) h.count ∙ omega arith;
+  count = length_cases (sections older) (texts_before older)
+      (reverse (section_operations older)) h.count ∙ omega arith;
 }
 
-laid_operation : (op : Op) (older : Earlier) → 0 < sections older → Laid older → Laid (Operation op ∷ older)
+laid_operation : (op : Op) (older : Earlier) → 0 < sections older → Laid older
+    → Laid (Operation op ∷ older)
 laid_operation op older begun h = record {
-  all = ap (λ xs. all_of (texts_before older) ++ xs) (turned_more op (section_operations older)) ∙ sym (append_assoc (all_of (texts_before older)) (reverse (section_operations older)) (op ∷ []))
+  all = ap (λ xs. all_of (texts_before older) ++ xs) (turned_more op (section_operations older))
+      ∙ sym (append_assoc (all_of (texts_before older)) (reverse (section_operations older))
+      (op ∷ []))
       ∙ ap (λ xs. xs ++ op ∷ []) h.all ∙ sym (turned_more op (operations older));
   none = λ e. absurd (omega arith);
   count = h.count;
@@ -213,16 +260,25 @@ laid_operation op older begun h = record {
 
 pub laid : (n : ℕ) (lines : Earlier) → Followed n lines → Laid lines
 laid n [] f = record { all = refl; none = λ e. refl; count = refl }
-laid n (Skipped ∷ older) f = let h = laid n older f.0 in record { all = h.all; none = h.none; count = h.count }
-laid n (Letter l ∷ older) f = let h = laid n older f.0 in record { all = h.all; none = h.none; count = h.count }
+laid n (Skipped ∷ older) f =
+    let h = laid n older f.0 in record { all = h.all; none = h.none; count = h.count }
+laid n (Letter l ∷ older) f =
+    let h = laid n older f.0 in record { all = h.all; none = h.none; count = h.count }
 laid n (Section k ∷ older) f = laid_section k older (laid n older f.0)
-laid n (Operation op ∷ older) f = laid_operation op older (begun n (stage_after older) (sections older) op f.1.stands f.1.good) (laid n older f.0)
-laid n (Threads ∷ older) f = let h = laid n older f.0 in record { all = h.all; none = h.none; count = h.count }
-laid n (Schedule ∷ older) f = let h = laid n older f.0 in record { all = h.all; none = h.none; count = h.count }
-laid n (Turns ts ∷ older) f = let h = laid n older f.0 in record { all = h.all; none = h.none; count = h.count }
-laid n (Generate seed count ∷ older) f = let h = laid n older f.0 in record { all = h.all; none = h.none; count = h.count }
-laid n (End ∷ older) f = let h = laid n older f.0 in record { all = h.all; none = h.none; count = h.count }
-laid n (Unreadable ∷ older) f = let h = laid n older f.0 in record { all = h.all; none = h.none; count = h.count }
+laid n (Operation op ∷ older) f = laid_operation op older
+    (begun n (stage_after older) (sections older) op f.1.stands f.1.good) (laid n older f.0)
+laid n (Threads ∷ older) f =
+    let h = laid n older f.0 in record { all = h.all; none = h.none; count = h.count }
+laid n (Schedule ∷ older) f =
+    let h = laid n older f.0 in record { all = h.all; none = h.none; count = h.count }
+laid n (Turns ts ∷ older) f =
+    let h = laid n older f.0 in record { all = h.all; none = h.none; count = h.count }
+laid n (Generate seed count ∷ older) f =
+    let h = laid n older f.0 in record { all = h.all; none = h.none; count = h.count }
+laid n (End ∷ older) f =
+    let h = laid n older f.0 in record { all = h.all; none = h.none; count = h.count }
+laid n (Unreadable ∷ older) f =
+    let h = laid n older f.0 in record { all = h.all; none = h.none; count = h.count }
 
 -- each name that an operation of a text needs was brought by an earlier one
 
@@ -247,9 +303,11 @@ brought n [] f = brings_none
 brought n (Skipped ∷ older) f = brought n older f.0
 brought n (Letter l ∷ older) f = brought n older f.0
 brought n (Section k ∷ older) f = brings_none
-brought n (Operation op ∷ older) f = subst BringsBefore (sym (turned_more op (section_operations older)))
+brought n (Operation op ∷ older) f = subst BringsBefore
+    (sym (turned_more op (section_operations older)))
     (brings_more (reverse (section_operations older)) op (brought n older f.0)
-    (λ name e. any_turned (brings name) (section_operations older) ∙ needed older op f.1.held name e))
+    (λ name e. any_turned (brings name) (section_operations older)
+    ∙ needed older op f.1.held name e))
 brought n (Threads ∷ older) f = brought n older f.0
 brought n (Schedule ∷ older) f = brought n older f.0
 brought n (Turns ts ∷ older) f = brought n older f.0
@@ -263,8 +321,10 @@ pub each_last : (P : ℕ → List Op → Type 0) (section : ℕ) (texts : List (
     → (0 < section → P (section - 1) last) → (i : ℕ) → P i (text_at i (and_last section texts last))
 each_last P section texts last e none h k = each_of (nat_lt 0 section) refl
   where
-    each_of : (b : Bool) → nat_lt 0 section ≡ b → (i : ℕ) → P i (text_at i (if b then texts ++ last ∷ [] else texts))
-    each_of true t = each_more P texts last none h (subst (λ j. P j last) (sym e) (k (some_begun section t)))
+    each_of : (b : Bool) → nat_lt 0 section ≡ b → (i : ℕ)
+        → P i (text_at i (if b then texts ++ last ∷ [] else texts))
+    each_of true t = each_more P texts last none h (subst (λ j. P j last) (sym e)
+        (k (some_begun section t)))
     each_of false t = h
 
 pub brought_before : (n : ℕ) (lines : Earlier) → Followed n lines → (i : ℕ)
@@ -273,7 +333,8 @@ brought_before n [] f i = brings_none
 brought_before n (Skipped ∷ older) f i = brought_before n older f.0 i
 brought_before n (Letter l ∷ older) f i = brought_before n older f.0 i
 brought_before n (Section k ∷ older) f i = each_last (λ j text. BringsBefore text) (sections older)
-    (texts_before older) (reverse (section_operations older)) (laid n older f.0).count (λ j. brings_none)
+    (texts_before older) (reverse (section_operations older)) (laid n older f.0).count
+    (λ j. brings_none)
     (brought_before n older f.0) (λ b. brought n older f.0) i
 brought_before n (Operation op ∷ older) f i = brought_before n older f.0 i
 brought_before n (Threads ∷ older) f i = brought_before n older f.0 i
@@ -286,7 +347,8 @@ brought_before n (Unreadable ∷ older) f i = brought_before n older f.0 i
 pub brought_each : (n : ℕ) (lines : Earlier) → Followed n lines → (i : ℕ)
     → BringsBefore (text_at i (texts_after lines))
 brought_each n lines f i = each_last (λ j text. BringsBefore text) (sections lines)
-    (texts_before lines) (reverse (section_operations lines)) (laid n lines f).count (λ j. brings_none)
+    (texts_before lines) (reverse (section_operations lines)) (laid n lines f).count
+    (λ j. brings_none)
     (brought_before n lines f) (λ b. brought n lines f) i
 
 -- a name is made once at most, and given once at most
@@ -375,7 +437,13 @@ counts_more n op older p r h =
     }
 
 pub counts : (n : ℕ) (lines : Earlier) → Followed n lines → Counts n lines
-counts n [] f = record { good = All-nil (IsOperation n); few = omega arith; tries = omega arith; made_once = λ name. omega arith; given_once = λ name. omega arith }
+counts n [] f = record {
+  good = All-nil (IsOperation n);
+  few = omega arith;
+  tries = omega arith;
+  made_once = λ name. omega arith;
+  given_once = λ name. omega arith;
+}
 counts n (Skipped ∷ older) f = same_counts n (Skipped ∷ older) older refl (counts n older f.0)
 counts n (Letter l ∷ older) f = same_counts n (Letter l ∷ older) older refl (counts n older f.0)
 counts n (Section k ∷ older) f = same_counts n (Section k ∷ older) older refl (counts n older f.0)
@@ -383,7 +451,8 @@ counts n (Operation op ∷ older) f = counts_more n op older f.1 f.2 (counts n o
 counts n (Threads ∷ older) f = same_counts n (Threads ∷ older) older refl (counts n older f.0)
 counts n (Schedule ∷ older) f = same_counts n (Schedule ∷ older) older refl (counts n older f.0)
 counts n (Turns ts ∷ older) f = same_counts n (Turns ts ∷ older) older refl (counts n older f.0)
-counts n (Generate seed count ∷ older) f = same_counts n (Generate seed count ∷ older) older refl (counts n older f.0)
+counts n (Generate seed count ∷ older) f = same_counts n (Generate seed count ∷ older) older refl
+    (counts n older f.0)
 counts n (End ∷ older) f = same_counts n (End ∷ older) older refl (counts n older f.0)
 counts n (Unreadable ∷ older) f = same_counts n (Unreadable ∷ older) older refl (counts n older f.0)
 
@@ -398,7 +467,8 @@ turns_good n ts h c = All-from_recursion (IsTurns n) ts
         → AllByRecursion IsCount us → AllByRecursion (IsTurns n) us
     each_good [] e a = tt
     each_good (u ∷ us) e a =
-        let parts = or_false (is_outside n u.scheduler) (list_any (λ t. is_outside n t.scheduler) us) e in
+        let parts = or_false (is_outside n u.scheduler)
+        (list_any (λ t. is_outside n t.scheduler) us) e in
         ((somebody n u.scheduler parts.0, a.0.0, a.0.1), each_good us parts.1 a.1)
 
 pub record GoodTurns (n : ℕ) (ts : List model.Turns) : Type 0 where

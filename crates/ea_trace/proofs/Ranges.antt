@@ -1,5 +1,5 @@
 -- The numbers of each line that a text says are in their ranges.
-use Rattle.std.proofs.Common.{◌≡◌, ℕ, ◌≤◌, min, Bool, true, false, if◌then◌else◌, ◌&&◌, nat_le, List, [], ◌∷◌, Option, Some, None, IfSome, bytes_eq, codes, refl, sym, arith, tests, rules}
+use Rattle.std.proofs.Common.{◌≡◌, ℕ, ◌≤◌, Bool, true, false, if◌then◌else◌, ◌&&◌, nat_le, List, [], ◌∷◌, Option, Some, None, IfSome, bytes_eq, codes, refl, arith, tests, rules}
 use Rattle.std.specs.List.{All, slice_split}
 use Rattle.std.specs.Option.{option_and_then, option_map, unwrap_or}
 use Rattle.std.proofs.lemmas.List.Elements.{All-cons, All-nil}
@@ -10,7 +10,7 @@ use Rattle.ea_model.specs.declared.operations.Op.TheVariants.{Alloc, Free, Reall
 use Rattle.ea_model.specs.declared.settings.Letter.{Letter}
 use Rattle.ea_model.specs.declared.trace.Turns as model
 use Rattle.ea_model.specs.declared.units.TheConstants.{MAX_BYTES, MAX_NAME, MAX_SEED, MAX_TRIES, MAX_TURNS}
-use Rattle.ea_trace.specs.Lines.{Said, and_turns, alloc_in, bare, both_words, bytes_in, command, count_in, free_in, generate_in, generate_line, give_in, is_comment, is_star, letter_line, line_of, line_of_words, name_in, one_of, only_word, operation_in, pair, realloc_in, scheduler_in, section_in, section_line, take_in, three_words, triple, turns_at, turns_from, turns_in, turns_line, turns_of_parts, type_in}
+use Rattle.ea_trace.specs.Lines.{Said, and_turns, alloc_in, bare, both_words, command, free_in, generate_in, generate_line, give_in, is_comment, is_star, letter_line, line_of, line_of_words, name_in, one_of, only_word, operation_in, pair, realloc_in, scheduler_in, section_in, section_line, take_in, three_words, triple, turns_at, turns_from, turns_in, turns_line, turns_of_parts, type_in}
 use Rattle.ea_trace.specs.Ranges.{HasRanges, InRange, IsCount}
 use Rattle.ea_trace.specs.declared.lines.Line.TheVariants as line
 use Rattle.ea_trace.specs.declared.lines.TheConstants.{MAX_READ}
@@ -18,7 +18,8 @@ use Rattle.ea_trace.specs.declared.lines.TheConstants.{MAX_READ}
 abbrev pub Within : ℕ → ℕ → ℕ → Type 0
 Within low high n = (low ≤ n) × (n ≤ high)
 
-guarded : (P : ℕ → Type 0) (n : ℕ) (a b : Bool) → (a ≡ true → b ≡ true → P n) → IfSome (if a && b then Some n else None) P
+guarded : (P : ℕ → Type 0) (n : ℕ) (a b : Bool) → (a ≡ true → b ≡ true → P n)
+    → IfSome (if a && b then Some n else None) P
 guarded P n true true f = f refl refl
 guarded P n true false f = tt
 guarded P n false b f = tt
@@ -28,28 +29,35 @@ within low high n a b = (search (rules, tests), search (rules, tests))
 
 from_to_within : (low high : ℕ) (o : Option ℕ) → IfSome (from_to low high o) (Within low high)
 from_to_within low high None = tt
-from_to_within low high (Some n) = guarded (Within low high) n (nat_le low n) (nat_le n high) (within low high n)
+from_to_within low high (Some n) = guarded (Within low high) n (nat_le low n) (nat_le n high)
+    (within low high n)
 
 module _ {X Y : Type 0} where
-  mapped : (f : X → Y) (o : Option X) (P : X → Type 0) (R : Y → Type 0) → IfSome o P → ((x : X) → P x → R (f x)) → IfSome (option_map f o) R
+  mapped : (f : X → Y) (o : Option X) (P : X → Type 0) (R : Y → Type 0) → IfSome o P
+      → ((x : X) → P x → R (f x)) → IfSome (option_map f o) R
   mapped f None P R h g = tt
   mapped f (Some x) P R h g = g x h
 
-  chained : (f : X → Option Y) (o : Option X) (R : Y → Type 0) → ((x : X) → IfSome (f x) R) → IfSome (option_and_then f o) R
+  chained : (f : X → Option Y) (o : Option X) (R : Y → Type 0) → ((x : X) → IfSome (f x) R)
+      → IfSome (option_and_then f o) R
   chained f None R g = tt
   chained f (Some x) R g = g x
 
 module _ {X : Type 0} where
-  either : (b : Bool) (x y : Option X) (P : X → Type 0) → IfSome x P → IfSome y P → IfSome (if b then x else y) P
+  either : (b : Bool) (x y : Option X) (P : X → Type 0) → IfSome x P → IfSome y P
+      → IfSome (if b then x else y) P
   either true x y P h k = h
   either false x y P h k = k
 
-  paired : (f : ℕ → ℕ → X) (a b : Option ℕ) (P Q : ℕ → Type 0) (R : X → Type 0) → IfSome a P → IfSome b Q → ((x y : ℕ) → P x → Q y → R (f x y)) → IfSome (pair f a b) R
+  paired : (f : ℕ → ℕ → X) (a b : Option ℕ) (P Q : ℕ → Type 0) (R : X → Type 0) → IfSome a P
+      → IfSome b Q → ((x y : ℕ) → P x → Q y → R (f x y)) → IfSome (pair f a b) R
   paired f None b P Q R h k g = tt
   paired f (Some x) None P Q R h k g = tt
   paired f (Some x) (Some y) P Q R h k g = g x y h k
 
-  tripled : (f : ℕ → ℕ → ℕ → X) (a b c : Option ℕ) (P Q S : ℕ → Type 0) (R : X → Type 0) → IfSome a P → IfSome b Q → IfSome c S → ((x y z : ℕ) → P x → Q y → S z → R (f x y z)) → IfSome (triple f a b c) R
+  tripled : (f : ℕ → ℕ → ℕ → X) (a b c : Option ℕ) (P Q S : ℕ → Type 0) (R : X → Type 0)
+      → IfSome a P → IfSome b Q → IfSome c S → ((x y z : ℕ) → P x → Q y → S z → R (f x y z))
+      → IfSome (triple f a b c) R
   tripled f None b c P Q S R h k l g = tt
   tripled f (Some x) b c P Q S R h k l g = paired (f x) b c Q S R k l (λ y z. g x y z h)
 
@@ -72,39 +80,55 @@ IsRequest n = n ≤ MAX_BYTES
 
 upper : (high : ℕ) (o : Option ℕ) → IfSome (from_to 0 high o) (λ n. n ≤ high)
 upper high None = tt
-upper high (Some n) = guarded (λ n. n ≤ high) n (nat_le 0 n) (nat_le n high) (λ a b. (within 0 high n a b).1)
+upper high (Some n) = guarded (λ n. n ≤ high) n (nat_le 0 n) (nat_le n high)
+    (λ a b. (within 0 high n a b).1)
 
-pub operation_ranges : (keyword : List ℕ) (ws : List (List ℕ)) → IfSome (operation_in keyword ws) HasRanges
+pub operation_ranges : (keyword : List ℕ) (ws : List (List ℕ))
+    → IfSome (operation_in keyword ws) HasRanges
 operation_ranges keyword ws =
     either (bytes_eq keyword (codes "alloc")) (alloc_in ws) _ HasRanges
-    (chained _ (both_words ws) HasRanges (λ w. paired Alloc _ _ IsName IsRequest HasRanges (name_within w.0) (upper MAX_BYTES (numeral w.1)) (λ x y h k. (h, k)))) (
+    (chained _ (both_words ws) HasRanges (λ w. paired Alloc _ _ IsName IsRequest HasRanges
+    (name_within w.0) (upper MAX_BYTES (numeral w.1)) (λ x y h k. (h, k)))) (
     either (bytes_eq keyword (codes "free")) (free_in ws) _ HasRanges
-    (mapped Free _ IsName HasRanges (chained name_in (only_word ws) IsName name_within) (λ x h. h)) (
+    (mapped Free _ IsName HasRanges (chained name_in (only_word ws) IsName name_within) (λ x h. h))
+    (
     either (bytes_eq keyword (codes "realloc")) (realloc_in ws) _ HasRanges
-    (chained _ (three_words ws) HasRanges (λ w. tripled Realloc _ _ _ IsName IsName IsRequest HasRanges (name_within w.0) (name_within w.1) (upper MAX_BYTES (numeral w.2)) (λ x y z h k l. (h, k, l)))) (
+    (chained _ (three_words ws) HasRanges (λ w. tripled Realloc _ _ _ IsName IsName IsRequest
+    HasRanges (name_within w.0) (name_within w.1) (upper MAX_BYTES (numeral w.2))
+    (λ x y z h k l. (h, k, l)))) (
     either (bytes_eq keyword (codes "give")) (give_in ws) _ HasRanges
-    (chained _ (both_words ws) HasRanges (λ w. paired Give _ _ IsName Any HasRanges (name_within w.0) (any (scheduler_in w.1)) (λ x y h k. h))) (
+    (chained _ (both_words ws) HasRanges (λ w. paired Give _ _ IsName Any HasRanges
+    (name_within w.0) (any (scheduler_in w.1)) (λ x y h k. h))) (
     either (bytes_eq keyword (codes "take")) (take_in ws) _ HasRanges
-    (chained _ (both_words ws) HasRanges (λ w. paired Take _ _ IsName (Within 1 MAX_TRIES) HasRanges (name_within w.0) (from_to_within 1 MAX_TRIES (numeral w.1)) (λ x y h k. (h, k.0, k.1)))) (
-    either (bytes_eq keyword (codes "info")) (bare Info ws) _ HasRanges (bare_in Info ws HasRanges tt) (
-    either (bytes_eq keyword (codes "idle")) (bare Idle ws) None HasRanges (bare_in Idle ws HasRanges tt) tt))))))
+    (chained _ (both_words ws) HasRanges (λ w. paired Take _ _ IsName (Within 1 MAX_TRIES) HasRanges
+    (name_within w.0) (from_to_within 1 MAX_TRIES (numeral w.1)) (λ x y h k. (h, k.0, k.1)))) (
+    either (bytes_eq keyword (codes "info")) (bare Info ws) _ HasRanges
+    (bare_in Info ws HasRanges tt) (
+    either (bytes_eq keyword (codes "idle")) (bare Idle ws) None HasRanges
+    (bare_in Idle ws HasRanges tt) tt))))))
 
 parts_count : (parts : List (List ℕ)) → IfSome (turns_of_parts parts) IsCount
 parts_count [] = tt
-parts_count (s ∷ []) = paired turns_from (scheduler_in s) (Some 1) Any (Within 1 MAX_TURNS) IsCount (any (scheduler_in s)) (omega arith, omega arith) (λ x y h k. (k.0, k.1))
-parts_count (s ∷ k ∷ []) = paired turns_from (scheduler_in s) (number 1 MAX_TURNS k) Any (Within 1 MAX_TURNS) IsCount (any (scheduler_in s)) (from_to_within 1 MAX_TURNS (numeral k)) (λ x y h l. (l.0, l.1))
+parts_count (s ∷ []) = paired turns_from (scheduler_in s) (Some 1) Any (Within 1 MAX_TURNS) IsCount
+    (any (scheduler_in s)) (omega arith, omega arith) (λ x y h k. (k.0, k.1))
+parts_count (s ∷ k ∷ []) = paired turns_from (scheduler_in s) (number 1 MAX_TURNS k) Any
+    (Within 1 MAX_TURNS) IsCount (any (scheduler_in s)) (from_to_within 1 MAX_TURNS (numeral k))
+    (λ x y h l. (l.0, l.1))
 parts_count (s ∷ k ∷ j ∷ parts) = tt
 
-all_more : (o : Option model.Turns) (os : Option (List model.Turns)) → IfSome o IsCount → IfSome os (All IsCount) → IfSome (and_turns o os) (All IsCount)
+all_more : (o : Option model.Turns) (os : Option (List model.Turns)) → IfSome o IsCount
+    → IfSome os (All IsCount) → IfSome (and_turns o os) (All IsCount)
 all_more None os h k = tt
 all_more (Some t) None h k = tt
 all_more (Some t) (Some ts) h k = All-cons IsCount t ts h k
 
 pub turns_ranges : (ws : List (List ℕ)) → IfSome (turns_in ws) (All IsCount)
 turns_ranges [] = All-nil IsCount
-turns_ranges (w ∷ ws) = all_more (turns_at w) (turns_in ws) (parts_count (slice_split is_star w)) (turns_ranges ws)
+turns_ranges (w ∷ ws) = all_more (turns_at w) (turns_in ws) (parts_count (slice_split is_star w))
+    (turns_ranges ws)
 
-one_ranges : (o : Option Op) (ts : Option (List model.Turns)) → IfSome o HasRanges → IfSome ts (All IsCount) → IfSome (one_of o ts) InRange
+one_ranges : (o : Option Op) (ts : Option (List model.Turns)) → IfSome o HasRanges
+    → IfSome ts (All IsCount) → IfSome (one_of o ts) InRange
 one_ranges None ts h k = mapped turns_line ts (All IsCount) InRange k (λ x l. l)
 one_ranges (Some o) ts h k = h
 
@@ -140,7 +164,8 @@ skipped_or false l h = h
 
 words_ranges : (ws : List (List ℕ)) → InRange (line_of_words ws)
 words_ranges [] = tt
-words_ranges (w ∷ ws) = skipped_or (is_comment w) (unwrap_or (command w ws) line.Unreadable) (or_unreadable (command w ws) (command_ranges w ws))
+words_ranges (w ∷ ws) = skipped_or (is_comment w) (unwrap_or (command w ws) line.Unreadable)
+    (or_unreadable (command w ws) (command_ranges w ws))
 
 pub line_ranges : (text : List ℕ) → InRange (line_of text)
 line_ranges text = words_ranges (words text)

@@ -1,5 +1,5 @@
 -- A line that passes each test, and the trace that the lines make.
-use Rattle.std.proofs.Common.{◌≡◌, ℕ, ◌+◌, ◌++◌, Bool, true, false, List, [], ◌∷◌, None, map, refl, ap}
+use Rattle.std.proofs.Common.{◌≡◌, ℕ, Bool, true, false, List, [], ◌∷◌, None, map, refl, ap}
 use Rattle.std.specs.List.{find, AllByRecursion}
 use Rattle.ea_model.specs.Lists.{Items}
 use Rattle.ea_model.specs.Trace.{greatest_of, listed, plain, plain_mode}
@@ -26,7 +26,8 @@ find_same P p q f (t ∷ ts) h = rw (f t h.0, find_same P p q f ts h.1) refl
 
 -- lists, without their room
 pub listed-items : {A : Type 0} (texts : List (Items A))
-    → map (λ text. listed text.items) texts ≡ map (λ text. listed text) (map (λ text. text.items) texts)
+    → map (λ text. listed text.items) texts ≡ map (λ text. listed text)
+    (map (λ text. text.items) texts)
 listed-items [] = refl
 listed-items (text ∷ texts) = ap (λ rest. listed text.items ∷ rest) (listed-items texts)
 

@@ -1,5 +1,5 @@
 -- A text has a part before its first star.
-use Rattle.std.proofs.Common.{◌≡◌, ℕ, Bool, true, false, cond, List, [], ◌∷◌, refl}
+use Rattle.std.proofs.Common.{ℕ, Bool, true, false, cond, List, [], ◌∷◌, refl}
 use Rattle.std.specs.List.{slice_split, onto_first}
 use Rattle.ea_trace.specs.Lines.{is_star}
 use Rattle.ea_trace.specs.TurnLines.{HasPart}

@@ -1,11 +1,10 @@
 -- What a list and the same list from its end have in common, and lists with one more at the end.
-use Rattle.std.proofs.Common.{◌≡◌, ℕ, ◌+◌, ◌-◌, ◌<◌, ◌≤◌, ◌⊎◌, inl, inr, zero, suc, max, Bool, true, false, cond, ◌||◌, ◌&&◌, not, nat_lt, List, [], ◌∷◌, ◌++◌, Option, Some, None, length, reverse, map, get_or, refl, sym, ap, subst, ◌∙◌, arith, append-nil, append_assoc}
-use Rattle.std.specs.List.{All, count_by, find, flat_map, list_any, sum_by}
-use Rattle.std.specs.List.Sorted.{IsPermutation}
-use Rattle.std.proofs.lemmas.List.{length-append, length-reverse, reverse-append}
+use Rattle.std.proofs.Common.{◌≡◌, ℕ, ◌+◌, ◌≤◌, ◌⊎◌, inl, inr, zero, suc, max, Bool, true, false, cond, ◌||◌, List, [], ◌∷◌, ◌++◌, Option, Some, None, length, reverse, refl, sym, ap, subst, ◌∙◌, arith}
+use Rattle.std.specs.List.{All, count_by, find, list_any, sum_by}
+use Rattle.std.proofs.lemmas.List.{reverse-append}
 use Rattle.std.proofs.lemmas.List.Sums.{sum_by-cons}
 use Rattle.std.proofs.lemmas.List.Sorted.{All-permutation, IsPermutation-reverse, list_any-IsPermutation, sum_by-IsPermutation}
-use Rattle.ea_model.specs.Trace.{BringsBefore, brings, greatest_in, greatest_of, needs, text_at}
+use Rattle.ea_model.specs.Trace.{BringsBefore, brings, greatest_of, needs, text_at}
 use Rattle.ea_model.specs.declared.operations.Op.{Op}
 
 none_of : (b c : Bool) (k : ℕ) → (b || c) ≡ false → (c ≡ false → k ≡ 0) → cond b 1 0 + k ≡ 0
@@ -43,12 +42,14 @@ module _ {X : Type 0} where
       ∙ none_of (p x) (list_any p xs) (count_by p xs) h (counts_none p xs)
 
   -- an element that passes is the first one that does
-  pub counts_one : (p : X → Bool) (x : X) (xs : List X) → count_by p xs ≤ 1 → (p x ≡ true → list_any p xs ≡ false) → count_by p (x ∷ xs) ≤ 1
+  pub counts_one : (p : X → Bool) (x : X) (xs : List X) → count_by p xs ≤ 1
+      → (p x ≡ true → list_any p xs ≡ false) → count_by p (x ∷ xs) ≤ 1
   counts_one p x xs h f = subst (λ k. k ≤ 1) (sym (sum_by-cons (λ y. cond (p y) 1 0) x xs))
       (one_of (p x) (list_any p xs) (count_by p xs) h f (counts_none p xs))
 
   -- where the first test finds nothing, what the second test finds fails the first
-  pub found_none : (p q : X → Bool) (r : Bool) → ((x : X) → q x ≡ true → p x ≡ false → r ≡ true) → (xs : List X) → find p xs ≡ None → list_any q xs ≡ true → r ≡ true
+  pub found_none : (p q : X → Bool) (r : Bool) → ((x : X) → q x ≡ true → p x ≡ false → r ≡ true)
+      → (xs : List X) → find p xs ≡ None → list_any q xs ≡ true → r ≡ true
   found_none p q r f [] n h = absurd cc
   found_none p q r f (x ∷ xs) n h = found_at (p x) (q x) (list_any q xs) r (find p xs) x n h (f x)
       (found_none p q r f xs)
@@ -75,14 +76,21 @@ greatest_append (x ∷ xs) ys = omega (arith, greatest_append xs ys)
 
 pub greatest_turned : (xs : List Op) → greatest_of (reverse xs) ≡ greatest_of xs
 greatest_turned [] = refl
-greatest_turned (x ∷ xs) = omega (arith, ap greatest_of (turned_more x xs), greatest_append (reverse xs) (x ∷ []), greatest_turned xs)
+greatest_turned (x ∷ xs) = omega (
+  arith,
+  ap greatest_of (turned_more x xs),
+  greatest_append
+      (reverse xs) (x ∷ []),
+  greatest_turned xs,
+)
 
 -- one more operation, which needs only what was brought before
 pub brings_more : (text : List Op) (op : Op) → BringsBefore text
     → ((name : ℕ) → needs name op ≡ true → list_any (brings name) text ≡ true)
     → BringsBefore (text ++ op ∷ [])
 brings_more text op h f = λ before after o name e need. elim (last_split text before after op o e) [
-  | inl k ↦ subst (λ xs. list_any (brings name) xs ≡ true) k.1 (f name (subst (λ p. needs name p ≡ true) (sym k.0) need))
+  | inl k ↦ subst (λ xs. list_any (brings name) xs ≡ true) k.1
+      (f name (subst (λ p. needs name p ≡ true) (sym k.0) need))
   | inr k ↦ h before k.0 o name k.1 need
 ]
 
@@ -94,9 +102,12 @@ brings_none = λ before after o name e need. absurd (nothing before after o e)
     nothing (b ∷ before) after o e = cc
 
 -- what holds of each text, with one more at the end
-pub each_more : (P : ℕ → List Op → Type 0) (texts : List (List Op)) (last : List Op) → ((i : ℕ) → P i [])
-    → ((i : ℕ) → P i (text_at i texts)) → P (length texts) last → (i : ℕ) → P i (text_at i (texts ++ last ∷ []))
+pub each_more : (P : ℕ → List Op → Type 0) (texts : List (List Op)) (last : List Op)
+    → ((i : ℕ) → P i [])
+    → ((i : ℕ) → P i (text_at i texts)) → P (length texts) last → (i : ℕ)
+    → P i (text_at i (texts ++ last ∷ []))
 each_more P [] last none h k zero = k
 each_more P [] last none h k (suc i) = none (suc i)
 each_more P (text ∷ texts) last none h k zero = h 0
-each_more P (text ∷ texts) last none h k (suc i) = each_more (λ j. P (suc j)) texts last (λ j. none (suc j)) (λ j. h (suc j)) k i
+each_more P (text ∷ texts) last none h k (suc i) = each_more (λ j. P (suc j)) texts last
+    (λ j. none (suc j)) (λ j. h (suc j)) k i

@@ -7,7 +7,7 @@ use Rattle.ea_model.specs.declared.units.TheConstants.{MAX_ALL_TRIES, MAX_NAME, 
 use Rattle.ea_trace.specs.Language.{all_turns, gives_outside, is_given, is_given_to, is_held, is_made, letter_after, mode_after, operations, section_operations, sections, stage_after, takes_in, texts_before, turns_after}
 use Rattle.ea_trace.specs.Lines.{Said, turns_in}
 use Rattle.ea_trace.specs.declared.lines.Line.{Line}
-use Rattle.ea_trace.specs.declared.lines.Line.TheVariants.{Skipped, Letter, Section, Operation, Threads, Schedule, Turns, Generate, End, Unreadable}
+use Rattle.ea_trace.specs.declared.lines.Line.TheVariants.{Section, Operation, Turns}
 use Rattle.ea_trace.specs.declared.seen.Seen.{Seen}
 
 -- what is known of the names

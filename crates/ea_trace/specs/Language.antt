@@ -108,7 +108,8 @@ all_turns ts = sum_by (λ t. t.count) ts
 abbrev pub is_many : ℕ → List Said → Said → Bool
 is_many n earlier (Operation op) = nat_lt MAX_OPS (length (operations earlier) + 1)
     || nat_lt MAX_ALL_TRIES (sum_by tries_of (operations earlier) + tries_of op)
-is_many n earlier (Turns turns) = nat_lt MAX_TURNS (all_turns (turns_after earlier) + all_turns turns)
+is_many n earlier (Turns turns) =
+    nat_lt MAX_TURNS (all_turns (turns_after earlier) + all_turns turns)
 is_many n earlier (Generate seed count) = nat_lt MAX_OPS (n * count)
 is_many n earlier line = false
 

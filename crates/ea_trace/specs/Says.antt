@@ -1,5 +1,5 @@
 -- What a line of the code says: its turns are those that its text spells.
-use Rattle.std.specs.Prelude.{ℕ, List, Option, Some, None, option_map}
+use Rattle.std.specs.Prelude.{ℕ, List, Option, Some, None}
 use Rattle.std.specs.Borrow.{Bor}
 use Rattle.ea_model.specs.Words.{words}
 use Rattle.ea_model.specs.declared.trace.Turns as model

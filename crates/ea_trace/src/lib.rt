@@ -10,6 +10,8 @@ mod reader;
 mod seen;
 mod stages;
 mod takes;
+#[cfg(test)]
+mod tests;
 mod turns;
 mod words;
 

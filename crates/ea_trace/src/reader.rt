@@ -89,7 +89,8 @@ impl Seen {
         requires { InRange (said line) }
         ensures ok { OnOk result ((n : ℕ) (earlier : Earlier) → Knows n earlier self.old
             → length earlier + 1 ≡ number
-            → (refusal n earlier (said line.entry) ≡ None) × Knows n (said line.entry ∷ earlier) self.new) }
+            → (refusal n earlier (said line.entry) ≡ None)
+            × Knows n (said line.entry ∷ earlier) self.new) }
         ensures err { IfErr result (λ fault. (n : ℕ) (earlier : Earlier) (read : Answer)
             → Knows n earlier self.old → length earlier + 1 ≡ number
             → Gives (Err fault) (refused_or (refusal n earlier (said line.entry)) read)) }

@@ -1,5 +1,5 @@
 -- Worked texts: in short what the language says of them.
-use Rattle.std.specs.Prelude.{ℕ, List, Option, Some, None, Result, Ok, Err, take, map}
+use Rattle.std.specs.Prelude.{ℕ, zero, suc, List, [], ◌++◌, Option, Some, None, Result, Ok, Err, take, map}
 use Rattle.std.specs.List.{range_with_len}
 use Rattle.ea_model.specs.Trace.{listed}
 use Rattle.ea_model.specs.declared.operations.Op.{Op}
@@ -38,3 +38,8 @@ turns scheduler count = record { scheduler = scheduler; count = count }
 -- the mode of a trace with these turns
 abbrev pub in_turns : List Turns → Mode
 in_turns ts = Schedule (listed ts)
+
+-- a text so many times
+abbrev pub times : ℕ → List ℕ → List ℕ
+times zero text = []
+times (suc n) text = text ++ times n text

@@ -12,11 +12,13 @@ pub fn worked_traces()
     ensures schedule { trace (codes "type H\nscheduler 1\nalloc 1 100\nschedule\nend\n") 1
         ≡ is_trace H (in_turns []) ((Alloc 1 100 ∷ []) ∷ []) 1 }
     ensures two_sections { trace
-        (codes "type B\nscheduler 1\nalloc 2 0\ngive 2 2\nidle\nscheduler 2\ntake 2 3\nfree 2\nschedule\nend")
+        (codes "type B\nscheduler 1\nalloc 2 0\ngive 2 2\nidle\n"
+        ++ codes "scheduler 2\ntake 2 3\nfree 2\nschedule\nend")
         2 ≡ is_trace B (in_turns [])
         ((Alloc 2 0 ∷ Give 2 2 ∷ Idle ∷ []) ∷ (Take 2 3 ∷ Free 2 ∷ []) ∷ []) 2 }
     ensures turns_on_lines { trace
-        (codes "type D\nscheduler 1\nscheduler 2\nschedule\n1*518 2*514\n\n# c\n1\n2 1*7\nend\n# c\n\n") 2
+        (codes "type D\nscheduler 1\n"
+        ++ codes "scheduler 2\nschedule\n1*518 2*514\n\n# c\n1\n2 1*7\nend\n# c\n\n") 2
         ≡ is_trace D (in_turns
         (turns 1 518 ∷ turns 2 514 ∷ turns 1 1 ∷ turns 2 1 ∷ turns 1 7 ∷ [])) ([] ∷ [] ∷ []) 0 }
     ensures threads { trace
@@ -25,7 +27,8 @@ pub fn worked_traces()
     ensures generated { trace (codes "type H\ngenerate 7 20\nend\n") 16
         ≡ is_trace H (Generated 7 20) [] 0 }
     ensures spaces_and_zeros { trace
-        (codes "# c\n\ttype  H\r\n\nscheduler 01\n alloc\t1 0000000100 \n#end\nschedule\r\n\t\nend") 1
+        (codes "# c\n\ttype  H\r\n\nscheduler 01\n"
+        ++ codes " alloc\t1 0000000100 \n#end\nschedule\r\n\t\nend") 1
         ≡ is_trace H (in_turns []) ((Alloc 1 100 ∷ []) ∷ []) 1 }
     ensures other_bytes { refused 1 (codes "type H\nscheduler 1\n" ++ 255 ∷ codes "\n")
         ≡ Some (fault.Syntax 3) }

@@ -4,3 +4,5 @@
 
 pub mod accepted;
 pub mod refused;
+#[cfg(test)]
+mod tests;

@@ -1,7 +1,7 @@
 //! Texts that are no traces, with the first refusal.
-ghost use Rattle.std.specs.Prelude.{◌≡◌, codes, Some};
+ghost use Rattle.std.specs.Prelude.{◌≡◌, ◌++◌, codes, Some};
 ghost use Rattle.ea_trace.specs.declared.fault.TraceFault.TheVariants as fault;
-ghost use Rattle.ea_trials_trace.specs.Worked.{refused};
+ghost use Rattle.ea_trials_trace.specs.Worked.{refused, times};
 
 /// Names that are used again, and names that the section does not hold.
 pub fn refused_names()
@@ -149,10 +149,11 @@ pub fn refused_numbers()
     ensures count_of_ten_digits { refused 1 (codes "type H\ngenerate 1 9999999999\n")
         ≡ Some (fault.TooMany 2) }
     ensures all_tries { refused 1
-        (codes "type H\nscheduler 1\ntake 1 10000000\ntake 1 10000000\ntake 1 10000000\ntake 1 10000000\ntake 1 10000000\ntake 1 10000000\ntake 1 10000000\ntake 1 10000000\ntake 1 10000000\ntake 1 10000000\n")
+        (codes "type H\nscheduler 1\n" ++ times 10 (codes "take 1 10000000\n"))
         ≡ Some fault.NoEnd }
     ensures all_tries_and_more { refused 1
-        (codes "type H\nscheduler 1\ntake 1 10000000\ntake 1 10000000\ntake 1 10000000\ntake 1 10000000\ntake 1 10000000\ntake 1 10000000\ntake 1 10000000\ntake 1 10000000\ntake 1 10000000\ntake 1 10000000\ntake 1 1\n")
+        (codes "type H\nscheduler 1\n"
+        ++ times 10 (codes "take 1 10000000\n") ++ codes "take 1 1\n")
         ≡ Some (fault.TooMany 13) }
     ensures count_of_eleven_digits { refused 1 (codes "type H\ngenerate 1 10000000000\n")
         ≡ Some (fault.Syntax 2) }
@@ -217,13 +218,15 @@ pub fn refused_ends()
         (codes "type H\nscheduler 1\nalloc 1 100\ntake 1 1\nschedule\nend\n")
         ≡ Some (fault.NotAddressed 4) }
     ensures addressed_to_another { refused 2
-        (codes "type H\nscheduler 1\nalloc 1 1\ngive 1 2\ntake 1 1\nscheduler 2\ntake 1 1\nthreads\nend\n")
+        (codes "type H\nscheduler 1\nalloc 1 1\ngive 1 2\ntake 1 1\n"
+        ++ codes "scheduler 2\ntake 1 1\nthreads\nend\n")
         ≡ Some (fault.NotAddressed 5) }
     ensures first_of_two { refused 2
         (codes "type H\nscheduler 1\n# c\ntake 7 1\ntake 8 1\nscheduler 2\nthreads\nend\n")
         ≡ Some (fault.NotAddressed 4) }
     ensures second_of_two { refused 2
-        (codes "type H\nscheduler 1\ntake 7 1\ntake 8 1\nscheduler 2\nalloc 7 1\ngive 7 1\nthreads\nend\n")
+        (codes "type H\nscheduler 1\ntake 7 1\ntake 8 1\n"
+        ++ codes "scheduler 2\nalloc 7 1\ngive 7 1\nthreads\nend\n")
         ≡ Some (fault.NotAddressed 4) }
     ensures end_before_addressed { refused 1 (codes "type H\nscheduler 1\ntake 7 1\nthreads\n")
         ≡ Some fault.NoEnd }

@@ -1,4 +1,4 @@
-use Rattle.std.proofs.Common.{◌≡◌, sym, subst}
+use Rattle.std.proofs.Common.{sym, subst}
 use Rattle.ea_trace.specs.Ranges.{InRange}
 use Rattle.ea_trace.proofs.Ranges.{line_ranges}
 use Rattle.ea_trace.proofs.lines.read_line.Goals as goal

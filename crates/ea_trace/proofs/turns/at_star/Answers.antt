@@ -1,4 +1,4 @@
-use Rattle.std.proofs.Common.{◌≡◌, ◌∷◌, ◌+◌, ◌-◌, take, drop, length, arith, rules, tests}
+use Rattle.std.proofs.Common.{◌+◌, ◌-◌, take, drop, length, rules, tests}
 use Rattle.ea_model.proofs.Splits.{split_none, split_first, rest_all, list_any_end}
 use Rattle.ea_trace.specs.Lines.{is_star}
 use Rattle.ea_trace.proofs.Stars.{has_part}

@@ -1,18 +1,17 @@
-use Rattle.std.proofs.Common.{◌≡◌, ◌+◌, ◌∷◌, false, length, sym}
 use Rattle.std.proofs.lemmas.Result.{on_ok_weaker}
-use Rattle.ea_trace.specs.Language.{Earlier, is_reused}
-use Rattle.ea_trace.specs.Knows.{Knows}
-use Rattle.ea_trace.specs.Says.{said}
 use Rattle.ea_trace.proofs.seen.Seen.add.Goals as goal
 
 pub returns-in-Section : goal.returns-in-Section
-returns-in-Section c = on_ok_weaker c.begin.result (λ d n earlier k fresh number. rw c.in-Section.is (d n c.in-Section.number earlier k)) c.begin.ensures
+returns-in-Section c = on_ok_weaker c.begin.result (λ d n earlier k fresh number. rw c.in-Section.is
+    (d n c.in-Section.number earlier k)) c.begin.ensures
 
 pub returns-in-Operation : goal.returns-in-Operation
-returns-in-Operation c = on_ok_weaker c.note.result (λ d n earlier k fresh number. rw c.in-Operation.is (d n earlier k (rw c.in-Operation.is at fresh) number)) c.note.ensures
+returns-in-Operation c = on_ok_weaker c.note.result (λ d n earlier k fresh number. rw
+    c.in-Operation.is (d n earlier k (rw c.in-Operation.is at fresh) number)) c.note.ensures
 
 pub returns-in-Turns : goal.returns-in-Turns
-returns-in-Turns c = on_ok_weaker c.note_turns.result (λ d n earlier k fresh number. rw c.in-Turns.is (d n earlier k)) c.note_turns.ensures
+returns-in-Turns c = on_ok_weaker c.note_turns.result (λ d n earlier k fresh number. rw
+    c.in-Turns.is (d n earlier k)) c.note_turns.ensures
 
 pub returns-in_default : goal.returns-in_default
 returns-in_default c = λ n earlier k fresh number. c.pass.ensures n earlier k

@@ -1,4 +1,4 @@
-use Rattle.std.proofs.Common.{◌≡◌, ◌+◌, ◌<◌, ◌≤◌, false, get_or, List, length, ℕ, map, nat_lt, ◌==◌, arith, refl, sym, ap, ◌∙◌, replicate, tests, rules}
+use Rattle.std.proofs.Common.{◌≡◌, ◌≤◌, false, get_or, List, ℕ, map, nat_lt, ◌==◌, arith, refl, ap, ◌∙◌, replicate}
 use Rattle.std.proofs.lemmas.List.{get_or-replicate}
 use Rattle.ea_trace.proofs.seen.Seen.new.Goals as goal
 

@@ -1,4 +1,4 @@
-use Rattle.std.proofs.Common.{◌≡◌, ◌+◌, ◌∷◌, ◌++◌, ◌∙◌, [], ℕ, List, map, reverse, sum_by, refl, sym, ap, arith}
+use Rattle.std.proofs.Common.{◌∷◌, ◌++◌, ◌∙◌, [], map, sym, ap, arith}
 use Rattle.std.specs.Option.{option_map}
 use Rattle.std.proofs.lemmas.List.{reverse-append}
 use Rattle.std.proofs.lemmas.List.Sums.{sum_by-cons}
@@ -26,10 +26,18 @@ returns c = on_ok_weaker c.push.result (λ pushed n earlier k fresh number.
         takes = names.takes;
       };
       count = omega (arith, r.count, k.count);
-      tries = omega (arith, r.tries, k.tries, c.tries_of.ensures, sum_by-cons tries_of c.args.op (operations earlier));
+      tries = omega (
+        arith,
+        r.tries,
+        k.tries,
+        c.tries_of.ensures,
+        sum_by-cons tries_of c.args.op
+            (operations earlier),
+      );
       turn_count = r.turn_count ∙ k.turn_count;
       greatest = omega (arith, r.greatest, k.greatest, c.greatest_in.ensures, c.max-self.ensures);
-      text = pushed ∙ ap (λ xs. xs ++ c.args.op ∷ []) (r.text ∙ k.text) ∙ sym (reverse-append (c.args.op ∷ []) (section_operations earlier));
+      text = pushed ∙ ap (λ xs. xs ++ c.args.op ∷ []) (r.text ∙ k.text)
+          ∙ sym (reverse-append (c.args.op ∷ []) (section_operations earlier));
       texts = ap (map (λ text. text.items)) r.texts ∙ k.texts;
       turns = r.turns ∙ k.turns;
     }) c.push.ensures.ok

@@ -1,4 +1,4 @@
-use Rattle.std.proofs.Common.{◌≡◌, ◌+◌, ◌∷◌, length, true, false, refl, sym, ◌∙◌, arith}
+use Rattle.std.proofs.Common.{◌≡◌, true, false, sym, ◌∙◌}
 use Rattle.ea_trace.specs.Language.{is_bad_scheduler, is_reused, may_stand, sections, stage_after}
 use Rattle.ea_trace.specs.Says.{said}
 use Rattle.ea_trace.proofs.Reading.{accepted}

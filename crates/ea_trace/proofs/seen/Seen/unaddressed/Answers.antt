@@ -1,8 +1,8 @@
-use Rattle.std.proofs.Common.{◌≡◌, ◌≤◌, ◌==◌, List, get_or, ap, sym, ◌∙◌, arith, rules}
+use Rattle.std.proofs.Common.{◌==◌, get_or, ap, ◌∙◌}
 use Rattle.std.specs.Prelude.{not}
 use Rattle.std.specs.List.{find}
 use Rattle.std.proofs.lemmas.List.Elements.{recursion_from_All}
-use Rattle.ea_trace.specs.Language.{is_given_to, is_unaddressed, takes_in}
+use Rattle.ea_trace.specs.Language.{is_unaddressed}
 use Rattle.ea_trace.specs.Ranges.{IsNamed}
 use Rattle.ea_trace.proofs.Reading.{find_same}
 use Rattle.ea_trace.proofs.seen.Seen.unaddressed.Goals as goal

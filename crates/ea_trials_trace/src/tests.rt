@@ -1,0 +1,244 @@
+//! Inputs at the edge of the language, and large ones.
+use ea_trace::{TraceFault, read_trace};
+use std::alloc::Global;
+use std::test::Fail;
+
+#[test]
+fn an_input_is_refused_at_its_first_bad_line(rt: HostRuntime) {
+    let cases: [(u32, &[u8], TraceFault); 24] = [
+        // Bytes that are no letters, digits or spaces.
+        (
+            1,
+            b"type H\nscheduler 1\n\0\n",
+            TraceFault::Syntax { line: 3 },
+        ),
+        (1, b"type\0H\n", TraceFault::Syntax { line: 1 }),
+        (
+            1,
+            b"type H\nscheduler 1\nalloc 1 1\x80\n",
+            TraceFault::Syntax { line: 3 },
+        ),
+        (
+            1,
+            b"type H\nscheduler 1\n\xff\xfe\n",
+            TraceFault::Syntax { line: 3 },
+        ),
+        (
+            1,
+            b"type H\nscheduler 1\nalloc\x0b1 1\n",
+            TraceFault::Syntax { line: 3 },
+        ),
+        // Carriage returns are spaces, and the last line needs no line feed.
+        (
+            1,
+            b"type H\r\nscheduler 1\r\nfree 1\r\n",
+            TraceFault::NotHeld { line: 3 },
+        ),
+        (
+            1,
+            b"type H\nscheduler 1\nfree 1",
+            TraceFault::NotHeld { line: 3 },
+        ),
+        (
+            1,
+            b"type H\rscheduler 1\rfree 1\r",
+            TraceFault::Syntax { line: 1 },
+        ),
+        // Words that are no numbers of the language.
+        (1, b"type H\nscheduler +1\n", TraceFault::Syntax { line: 2 }),
+        (
+            1,
+            b"type H\nscheduler 1\nalloc 1 -1\n",
+            TraceFault::Syntax { line: 3 },
+        ),
+        (
+            1,
+            b"type H\nscheduler 1\nalloc 1 1.5\n",
+            TraceFault::Syntax { line: 3 },
+        ),
+        (
+            1,
+            b"type H\nscheduler 1\nalloc 0x10 1\n",
+            TraceFault::Syntax { line: 3 },
+        ),
+        (
+            1,
+            b"type H\nscheduler 1\ntake 1 00000000001\n",
+            TraceFault::Syntax { line: 3 },
+        ),
+        (
+            1,
+            b"type H\nscheduler 1\nfree 0\n",
+            TraceFault::Syntax { line: 3 },
+        ),
+        (
+            1,
+            b"type H\nscheduler 1\nrealloc 1 262145 1\n",
+            TraceFault::Syntax { line: 3 },
+        ),
+        (
+            1,
+            b"type H\nscheduler 1\nALLOC 1 1\n",
+            TraceFault::Syntax { line: 3 },
+        ),
+        // Sections that are missing, or begin twice.
+        (
+            3,
+            b"type H\nscheduler 1\nscheduler 3\n",
+            TraceFault::BadScheduler { line: 3 },
+        ),
+        (
+            2,
+            b"type H\nscheduler 1\nscheduler 1\n",
+            TraceFault::BadScheduler { line: 3 },
+        ),
+        (
+            2,
+            b"type H\nscheduler 1\nthreads\n",
+            TraceFault::BadScheduler { line: 3 },
+        ),
+        (
+            16,
+            b"type H\nscheduler 17\n",
+            TraceFault::BadScheduler { line: 2 },
+        ),
+        // After the schedule.
+        (
+            1,
+            b"type H\nscheduler 1\nschedule\nidle\n",
+            TraceFault::Syntax { line: 4 },
+        ),
+        (
+            1,
+            b"type H\nscheduler 1\nschedule\n1 2*3\n",
+            TraceFault::BadScheduler { line: 4 },
+        ),
+        (
+            1,
+            b"type H\nscheduler 1\nschedule\n1 2*x\n",
+            TraceFault::Syntax { line: 4 },
+        ),
+        (
+            1,
+            b"type H\nscheduler 1\nschedule\nend\n# c\n\nend\n",
+            TraceFault::Syntax { line: 7 },
+        ),
+    ];
+    for (schedulers, input, fault) in cases {
+        let read = read_trace(rt.alloc(), input, schedulers).err();
+        assert_eq!(rt; read, Some(fault), "of {input:?}");
+    }
+}
+
+// A first text, so many times a line, and the last text.
+fn repeated(
+    alloc: Global,
+    first: &[u8],
+    line: &[u8],
+    times: usize,
+    last: &[u8],
+) -> Result<Vec<u8>, Fail> {
+    let mut input = Vec::from_slice(alloc, first)?;
+    let all = line.repeat(alloc, times)?;
+    input.extend_from_slice(&all)?;
+    input.extend_from_slice(last)?;
+    Ok(input)
+}
+
+#[test]
+fn limits_are_exact(rt: HostRuntime) -> Result<(), Fail> {
+    let cases: [(&[u8], &[u8], usize, &[u8], Option<TraceFault>); 7] = [
+        (
+            b"type H\nscheduler 1\n",
+            b"idle\n",
+            262_144,
+            b"threads\nend\n",
+            None,
+        ),
+        (
+            b"type H\nscheduler 1\n",
+            b"idle\n",
+            262_145,
+            b"threads\nend\n",
+            Some(TraceFault::TooMany { line: 262_147 }),
+        ),
+        (
+            b"type H\nscheduler 1\nalloc 1 1\ngive 1 1\n",
+            b"take 1 10000000\n",
+            10,
+            b"schedule\nend\n",
+            None,
+        ),
+        (
+            b"type H\nscheduler 1\nalloc 1 1\ngive 1 1\n",
+            b"take 1 10000000\n",
+            10,
+            b"take 1 1\nschedule\nend\n",
+            Some(TraceFault::TooMany { line: 15 }),
+        ),
+        (
+            b"type H\nscheduler 1\nschedule\n",
+            b"1*1000000\n",
+            100,
+            b"end\n",
+            None,
+        ),
+        (
+            b"type H\nscheduler 1\nschedule\n",
+            b"1*1000000 ",
+            100,
+            b"1\nend\n",
+            Some(TraceFault::TooMany { line: 4 }),
+        ),
+        (
+            b"type H\nscheduler 1\n",
+            b"alloc 262144 1\n",
+            1,
+            b"threads\nend\n",
+            None,
+        ),
+    ];
+    for (first, line, times, last, fault) in cases {
+        let input = repeated(rt.alloc(), first, line, times, last)?;
+        assert!(rt; input.len() < 1 << 24);
+        let read = read_trace(rt.alloc(), &input, 1).err();
+        assert_eq!(rt; read, fault, "with {times} of {line:?}");
+    }
+    Ok(())
+}
+
+#[test]
+fn large_inputs_are_read(rt: HostRuntime) -> Result<(), Fail> {
+    let cases: [(&[u8], &[u8], usize, &[u8], Option<TraceFault>); 5] = [
+        (b"", b"# c\n", 4_194_300, b"", Some(TraceFault::NoEnd)),
+        (b"#", b"x y ", 4_194_300, b"", Some(TraceFault::NoEnd)),
+        (
+            b"",
+            b"xxxx",
+            4_194_300,
+            b"",
+            Some(TraceFault::Syntax { line: 1 }),
+        ),
+        (
+            b"",
+            b"\n",
+            16_777_200,
+            b"x",
+            Some(TraceFault::Syntax { line: 16_777_201 }),
+        ),
+        (
+            b"type H\nscheduler 1\nschedule\n",
+            b"1 1 ",
+            4_194_290,
+            b"\nend\n",
+            None,
+        ),
+    ];
+    for (first, line, times, last, fault) in cases {
+        let input = repeated(rt.alloc(), first, line, times, last)?;
+        assert!(rt; input.len() <= 1 << 24);
+        let read = read_trace(rt.alloc(), &input, 1).err();
+        assert_eq!(rt; read, fault, "with {times} of {line:?}");
+    }
+    Ok(())
+}
