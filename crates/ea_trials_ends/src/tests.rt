@@ -100,7 +100,7 @@ fn an_error_line_ends_where_its_write_fails(rt: HostRuntime) -> Result<(), Fail>
                 input: "end\n",
                 ..GOOD
             },
-            (2, "", "erts_alloc_run: not built yet\n"),
+            (2, "", "erts_alloc_run: line 1: syntax\n"),
         ),
         (
             Case { words: "", ..GOOD },

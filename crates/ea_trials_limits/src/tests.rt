@@ -48,7 +48,7 @@ fn a_trace_has_262144_operations_at_most(rt: HostRuntime) -> Result<(), Fail> {
     // totals.
     let cases = [
         (262_143, 0, 95 + 15 * 262_142, ""),
-        (262_144, 2, 0, "erts_alloc_run: not built yet\n"),
+        (262_144, 2, 0, "erts_alloc_run: line 262147: too many\n"),
     ];
     for (frees, wanted, text, line) in cases {
         let mut input = Vec::from_slice(rt.alloc(), b"type H\nscheduler 1\nalloc 1 0\n")?;

@@ -34,6 +34,13 @@ fn a_trace_gives_its_text_in_pieces_of_any_size(rt: HostRuntime) -> Result<(), F
              # end",
             FIRST_TEXT,
         ),
+        // What is idle is noted, and turns change nothing.
+        (
+            "type H\nscheduler 1\nidle\nalloc 1 100\nidle\nschedule\n1*2 1\n1*100000\nend\n",
+            "scheduler 1\nidle\nalloc 1 1 8 14\nidle\n\
+            carrier 1 multi owner 1 employed 1 base 0 pages 64 allocated 14 largest 32746\n\
+            total carriers 1 units 32768 live 14 queued 0 free 32746 header 8\n",
+        ),
         // The last line needs no line feed.
         (
             "type H\nscheduler 1\nalloc 1 100\nschedule\nend",
@@ -60,52 +67,62 @@ fn a_trace_gives_its_text_in_pieces_of_any_size(rt: HostRuntime) -> Result<(), F
 }
 
 #[test]
-fn an_input_outside_the_language_has_no_text(rt: HostRuntime) -> Result<(), Fail> {
+fn each_letter_runs_with_its_own_settings(rt: HostRuntime) -> Result<(), Fail> {
+    let lone = "scheduler 1\nalloc 1 1 8 14\n\
+        carrier 1 main owner 1 employed 1 base 0 pages 25 allocated 14 largest 12778\n\
+        total carriers 1 units 12800 live 14 queued 0 free 12778 header 8\n";
     let cases = [
-        // The end is missing, or something stands after it.
-        "",
-        "type H\nscheduler 1\nschedule\n",
-        "type H\nscheduler 1\nschedule\nend\nend\n",
-        "type H\nscheduler 1\nschedule\nend # over\n",
-        // A line stands where it may not.
-        "scheduler 1\nschedule\nend\n",
-        "type H\ntype H\nscheduler 1\nschedule\nend\n",
-        "type H\nalloc 1 100\nscheduler 1\nschedule\nend\n",
-        "type H\nschedule\nend\n",
-        "type H\nscheduler 1\nscheduler 1\nschedule\nend\n",
-        "type H\nscheduler 1\nschedule\nalloc 1 100\nend\n",
-        "type H\nscheduler 1\nend\n",
-        // Other letters, schedulers and lines.
-        "type L\nscheduler 1\nschedule\nend\n",
-        "type h\nscheduler 1\nschedule\nend\n",
-        "type H\nscheduler 2\nschedule\nend\n",
-        "type H\nscheduler 1\ninfo\nschedule\nend\n",
-        "type H\nscheduler 1\nALLOC 1 100\nschedule\nend\n",
-        "type H\nscheduler 1\nalloc\x0b1 100\nschedule\nend\n",
-        "type H\nscheduler 1\nschedule\n1*5\nend\n",
-        // Too few words, or too many.
-        "type\nscheduler 1\nschedule\nend\n",
-        "type H H\nscheduler 1\nschedule\nend\n",
-        "type H\nscheduler\nschedule\nend\n",
-        "type H\nscheduler 1\nalloc 1\nschedule\nend\n",
-        "type H\nscheduler 1\nalloc 1 100 1\nschedule\nend\n",
-        "type H\nscheduler 1\nalloc 1 100\nfree\nschedule\nend\n",
-        "type H\nscheduler 1\nalloc 1 100\nfree 1 1\nschedule\nend\n",
-        "type H\nscheduler 1\nschedule 1\nend\n",
-        // No number of the range.
-        "type H\nscheduler 1\nalloc 0 100\nschedule\nend\n",
-        "type H\nscheduler 1\nalloc 262145 100\nschedule\nend\n",
-        "type H\nscheduler 1\nfree 0\nschedule\nend\n",
-        "type H\nscheduler 1\nfree 262145\nschedule\nend\n",
-        "type H\nscheduler 1\nalloc 1 1073741824\nschedule\nend\n",
-        "type H\nscheduler 1\nalloc 1 00000000100\nschedule\nend\n",
-        "type H\nscheduler 1\nalloc 1 -1\nschedule\nend\n",
-        "type H\nscheduler 1\nalloc x 100\nschedule\nend\n",
-        // A name is allocated once, and freed only after its allocation.
-        "type H\nscheduler 1\nalloc 1 100\nfree 1\nalloc 1 100\nschedule\nend\n",
-        "type H\nscheduler 1\nfree 1\nalloc 1 100\nschedule\nend\n",
+        ("B", "+MMscs 1 +MBacul 0", FIRST_TEXT),
+        ("D", "+MMscs 1 +MDacul 0", FIRST_TEXT),
+        ("E", "+MMscs 1 +MEacul 0", FIRST_TEXT),
+        ("H", "+MMscs 1 +MHacul 0", FIRST_TEXT),
+        ("L", "+MMscs 1 +MLacul 0", FIRST_TEXT),
+        ("R", "+MMscs 1 +MRacul 0", FIRST_TEXT),
+        ("S", "+MMscs 1 +MSacul 0", FIRST_TEXT),
+        ("S", "+MMscs 1 +Muacul 0 +MSmmbcs 100", lone),
+        ("L", "+MMscs 1 +Muacul 0 +MSmmbcs 100", FIRST_TEXT),
+        // Carriers of temp_alloc don't migrate, whatever is set.
+        ("T", "+MMscs 1", FIRST_TEXT),
+        ("T", "+MMscs 1 +MTacul 60", FIRST_TEXT),
     ];
-    for input in cases {
+    for (letter, words, out) in cases {
+        let mut input = String::from_str(rt.alloc(), "type ")?;
+        input.push_str(letter)?;
+        input.push_str("\nscheduler 1\nalloc 1 100\nschedule\nend\n")?;
+        let case = Case {
+            words,
+            input: &input,
+            ..PLAIN
+        };
+        let ran = case.run(&rt, rt.alloc())?;
+        assert_eq!(rt; ran.told(), (0, out, ""), "of {letter} and {words}");
+    }
+    Ok(())
+}
+
+#[test]
+fn an_input_that_is_no_trace_is_refused_with_its_line(rt: HostRuntime) -> Result<(), Fail> {
+    let cases = [
+        ("type H\nscheduler 1\nfrob\n", "line 3: syntax\n"),
+        ("# a comment\n\ntype h\n", "line 3: syntax\n"),
+        (
+            "type H\nscheduler 2\nschedule\nend\n",
+            "line 2: bad scheduler\n",
+        ),
+        (
+            "type H\nscheduler 1\nalloc 1 8\nalloc 1 8\n",
+            "line 4: name reused\n",
+        ),
+        ("type H\nscheduler 1\nfree 1\n", "line 3: name not held\n"),
+        (
+            "type H\nscheduler 1\ntake 1 1\nthreads\nend\n",
+            "line 3: name not addressed\n",
+        ),
+        ("type H\ngenerate 1 262145\nend\n", "line 2: too many\n"),
+        ("", "no end line\n"),
+        ("type H\nscheduler 1\nschedule\n", "no end line\n"),
+    ];
+    for (input, line) in cases {
         let case = Case {
             words: WORDS,
             input,
@@ -113,11 +130,9 @@ fn an_input_outside_the_language_has_no_text(rt: HostRuntime) -> Result<(), Fail
             ..PLAIN
         };
         let ran = case.run(&rt, rt.alloc())?;
-        assert_eq!(rt;
-            ran.told(),
-            (2, "", "erts_alloc_run: not built yet\n"),
-            "of {input:?}"
-        );
+        let mut wanted = String::from_str(rt.alloc(), "erts_alloc_run: ")?;
+        wanted.push_str(line)?;
+        assert_eq!(rt; ran.told(), (2, "", wanted.as_str()), "of {input:?}");
     }
     Ok(())
 }

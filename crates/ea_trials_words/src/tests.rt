@@ -39,30 +39,39 @@ fn refused_words_are_named_and_nothing_is_read(rt: HostRuntime) -> Result<(), Fa
 
 const FIRST_BLOCK: &str = "type H\nscheduler 1\nalloc 1 100\nschedule\nend\n";
 
-const NO_TRACE: &str = "type H\nscheduler 1\nschedule\n";
-
 // A need of 66 units, and one of 128, as many as a kilobyte has.
 const HALF_A_KILOBYTE: &str = "type H\nscheduler 1\nalloc 1 520\nschedule\nend\n";
 
 const A_KILOBYTE: &str = "type H\nscheduler 1\nalloc 1 520\nalloc 2 1017\nschedule\nend\n";
 
+const IN_THREADS: &str = "type H\nscheduler 1\nalloc 1 100\nthreads\nend\n";
+
+const GENERATED: &str = "type H\ngenerate 1 100\nend\n";
+
+const REALLOCATED: &str = "type H\nscheduler 1\nalloc 1 100\nrealloc 1 2 200\nschedule\nend\n";
+
 #[test]
 fn a_run_that_is_not_built_has_a_status_of_its_own(rt: HostRuntime) -> Result<(), Fail> {
     let cases = [
         // Carriers would migrate.
-        ("", FIRST_BLOCK, 6),
-        ("+MHas bf", FIRST_BLOCK, 6),
-        ("+MHacul 0 +MHacul de", FIRST_BLOCK, 6),
-        ("+MLacul 0", FIRST_BLOCK, 6),
+        ("", FIRST_BLOCK),
+        ("+MHas bf", FIRST_BLOCK),
+        ("+MHacul 0 +MHacul de", FIRST_BLOCK),
+        ("+MLacul 0", FIRST_BLOCK),
         // There are more schedulers than one.
-        ("+MHacul 0 +S 2", FIRST_BLOCK, 6),
+        (
+            "+MHacul 0 +S 2",
+            "type H\nscheduler 1\nscheduler 2\nschedule\nend\n",
+        ),
         // A block would have a carrier of its own.
-        ("+MHacul 0 +MHsbct 1", A_KILOBYTE, 6),
-        // No trace is no trace of a run that is built or not.
-        ("", NO_TRACE, 2),
-        ("+MHacul 0 +S 2", NO_TRACE, 2),
+        ("+MHacul 0 +MHsbct 1", A_KILOBYTE),
+        // The mode is another, or an operation.
+        ("+MHacul 0", IN_THREADS),
+        ("+MHacul 0", GENERATED),
+        ("+MHacul 0", REALLOCATED),
+        ("+MHacul 0", "type H\nscheduler 1\ninfo\nschedule\nend\n"),
     ];
-    for (words, input, status) in cases {
+    for (words, input) in cases {
         let case = Case {
             words,
             input,
@@ -72,8 +81,8 @@ fn a_run_that_is_not_built_has_a_status_of_its_own(rt: HostRuntime) -> Result<()
         let ran = case.run(&rt, rt.alloc())?;
         assert_eq!(rt;
             ran.told(),
-            (status, "", "erts_alloc_run: not built yet\n"),
-            "of {words}"
+            (6, "", "erts_alloc_run: not built yet\n"),
+            "of {words} and {input:?}"
         );
     }
     Ok(())

@@ -56,8 +56,15 @@ pub fn worked_inputs()
         ≡ None }
     ensures above_threshold { is_built_for small (codes "type H\nscheduler 1\nalloc 1 524281\nschedule\nend\n")
         ≡ false }
-    ensures two_schedulers { is_built_for (words (codes "+S 2 +MHacul 0")) (codes "type H\nscheduler 1\nschedule\nend\n")
-        ≡ false }
+    ensures two_schedulers { is_built_for (words (codes "+S 2 +MHacul 0"))
+        (codes "type H\nscheduler 1\nscheduler 2\nschedule\nend\n") ≡ false }
     ensures migration { is_built_for [] (codes "type H\nscheduler 1\nschedule\nend\n")
         ≡ false }
+    ensures threads { is_built_for small (codes "type H\nscheduler 1\nthreads\nend\n") ≡ false }
+    ensures generated { is_built_for small (codes "type H\ngenerate 1 3\nend\n") ≡ false }
+    ensures information { is_built_for small
+        (codes "type H\nscheduler 1\ninfo\nschedule\nend\n") ≡ false }
+    ensures temp_alloc { output_for (words (codes "+MMscs 1"))
+        (codes "type T\nscheduler 1\nidle\nalloc 1 100\nschedule\n1*2 1\nend\n")
+        ≡ Some (codes "scheduler 1\nidle\nalloc 1 1 8 14\ncarrier 1 multi owner 1 employed 1 base 0 pages 64 allocated 14 largest 32746\ntotal carriers 1 units 32768 live 14 queued 0 free 32746 header 8\n") }
 {}

@@ -59,3 +59,7 @@ returns-clause-good_fit_at_three c = refl
 pub returns-clause-address_fit : goal.returns-clause-address_fit
 unfolding digits unused_from
 returns-clause-address_fit c = refl
+
+pub returns-clause-temp_alloc : goal.returns-clause-temp_alloc
+unfolding digits unused_from
+returns-clause-temp_alloc c = refl
