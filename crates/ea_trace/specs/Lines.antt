@@ -24,11 +24,12 @@ name_in word = number 1 MAX_NAME word
 abbrev pub bytes_in : List ℕ → Option ℕ
 bytes_in word = number 0 MAX_BYTES word
 
--- the number of a scheduler, be there one or not
+-- the number of a scheduler, be there one or not; a greater one than MAX_READ is read as that
 abbrev pub scheduler_in : List ℕ → Option ℕ
 scheduler_in word = option_map (min MAX_READ) (numeral word)
 
--- how many operations each scheduler has in a generated trace, from 1 on
+-- how many operations each scheduler of a generated trace has, from 1 on; a greater number than
+-- MAX_READ is read as that
 abbrev pub count_in : List ℕ → Option ℕ
 count_in word = from_to 1 MAX_READ (scheduler_in word)
 

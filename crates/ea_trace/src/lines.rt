@@ -18,19 +18,19 @@ pub enum Line<T> {
     Skipped,
     /// `type X`: whose settings hold.
     Letter { letter: Letter },
-    /// `scheduler I`: a section begins.
+    /// `scheduler I`: a section begins. The number is 0 to `MAX_READ`.
     Section { number: u32 },
     /// An operation of the section.
     Operation { op: Op },
-    /// `threads`
+    /// `threads`: each scheduler is to have a thread.
     Threads,
     /// `schedule`: lines of turns may follow.
     Schedule,
     /// Turns of the schedule.
     Turns { turns: T },
-    /// `generate SEED COUNT`
+    /// `generate SEED COUNT`: the seed is 0 to 2147483647, the count 1 to `MAX_READ`.
     Generate { seed: u32, count: u32 },
-    /// `end`
+    /// `end`: nothing but lines that are skipped may follow.
     End,
     /// No line of the language.
     Unreadable,

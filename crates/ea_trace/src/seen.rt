@@ -12,11 +12,13 @@ use ea_model::{Letter, List, Mode, Op, Turns};
 pub struct Seen {
     /// How many sections there are to be.
     pub schedulers: u32,
+    /// The part that has been reached.
     pub stage: Stage,
     /// How many sections have begun.
     pub section: u32,
+    /// The letter of the `type` line.
     pub letter: Option<Letter>,
-    /// The mode, without the turns of the schedule.
+    /// The mode, if a line has said it; without the turns of the schedule.
     pub mode: Option<Mode>,
     /// Whether each name was made, by name.
     pub made: Vec<bool>,
@@ -32,11 +34,13 @@ pub struct Seen {
     pub turn_count: u32,
     /// The greatest name, or 0.
     pub greatest: u32,
+    /// The lines that take a name, in order.
     pub takes: Vec<TakeLine>,
     /// The texts of the sections that are over.
     pub texts: List<List<Op>>,
     /// The text of the section that was begun last.
     pub text: List<Op>,
+    /// The turns of the schedule, in order.
     pub turns: List<Turns>,
     ghost made_names: { length made.items ≡ MAX_NAME + 1 },
     ghost held_names: { length holder.items ≡ MAX_NAME + 1 },

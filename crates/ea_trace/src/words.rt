@@ -62,7 +62,7 @@ pub fn bytes(word: &[u8]) -> Option<u32>
     number(word, 0, MAX_BYTES)
 }
 
-/// The number of a scheduler that a word spells, be there one or not.
+/// The number of a scheduler that a word spells, be there one or not; `MAX_READ` for a greater one.
 pub fn scheduler(word: &[u8]) -> Option<u32>
     ensures { result ≡ scheduler_in word.now }
 {
@@ -70,7 +70,7 @@ pub fn scheduler(word: &[u8]) -> Option<u32>
     Some(value.min(u64::from(MAX_READ)) as u32)
 }
 
-/// The count of operations that a word spells, from 1 on.
+/// The count of operations that a word spells, from 1 on; `MAX_READ` for a greater one.
 pub fn count(word: &[u8]) -> Option<u32>
     ensures { result ≡ count_in word.now }
 {
