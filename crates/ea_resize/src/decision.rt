@@ -1,0 +1,134 @@
+//! The decision.
+ghost use Rattle.std.specs.Prelude.{◌≡◌, ◌+◌, ◌*◌, nat_le, nat_lt};
+ghost use Rattle.ea_model.specs.declared.units.TheConstants.{HEADER_UNITS};
+ghost use Rattle.ea_model.specs.Units.{pages_for};
+ghost use Rattle.ea_resize.specs.Decision.{decision, in_multi, in_place, in_single};
+
+use ea_model::{HEADER_UNITS, MIN_BLOCK, PAGE_UNITS, Settings};
+
+/// Where a block lies.
+#[derive(Debug, Clone, Copy, PartialEq, Eq)]
+pub enum Where {
+    /// In a carrier that the instance doesn't employ.
+    Foreign,
+    /// In a multiblock carrier, with a gap of `behind` units directly behind it, 0 for none.
+    Multi { behind: u32 },
+    /// In a singleblock carrier of that many units.
+    Single { units: u32 },
+}
+
+/// What a reallocation decides.
+#[derive(Debug, Clone, Copy, PartialEq, Eq)]
+pub enum Decision {
+    /// The block stays, with the units that it has.
+    Stay,
+    /// It stays, with fewer units.
+    ShrinkHere,
+    /// It stays, with more units.
+    GrowHere,
+    /// It stays, with fewer units, and its singleblock carrier has that many pages from now on.
+    ShrinkCarrier { pages: u32 },
+    /// It is allocated anew and then freed.
+    Move,
+}
+
+/// The least pages of a carrier that holds a block of that many units.
+fn least_pages(units: u32) -> u32
+    ensures { result ≡ pages_for (HEADER_UNITS + units) }
+{
+    (u64::from(HEADER_UNITS) + u64::from(units)).div_ceil(u64::from(PAGE_UNITS)) as u32
+}
+
+/// Whether that many units are more than that percentage of a whole.
+fn is_above(units: u32, percent: u32, whole: u32) -> bool
+    ensures { result ≡ nat_lt (percent * whole) (100 * units) }
+{
+    100 * u64::from(units) > u64::from(percent) * u64::from(whole)
+}
+
+/// Whether they are at least that percentage of it.
+fn is_at_least(units: u32, percent: u32, whole: u32) -> bool
+    ensures { result ≡ nat_le (percent * whole) (100 * units) }
+{
+    100 * u64::from(units) >= u64::from(percent) * u64::from(whole)
+}
+
+/// Decides for a block in a multiblock carrier.
+fn decide_multi(settings: Settings, old: u32, fresh: u32, behind: u32) -> Decision
+    ensures { result ≡ in_multi settings old fresh behind }
+{
+    if fresh > settings.sbct {
+        Decision::Move
+    } else if fresh == old {
+        Decision::Stay
+    } else if fresh > old {
+        if u64::from(fresh) <= u64::from(old) + u64::from(behind) {
+            Decision::GrowHere
+        } else {
+            Decision::Move
+        }
+    } else if old - fresh < MIN_BLOCK {
+        Decision::Stay
+    } else if is_above(old - fresh, settings.rmbcmt, old) {
+        Decision::Move
+    } else {
+        Decision::ShrinkHere
+    }
+}
+
+/// Decides for a block whose carrier stays as it is.
+fn decide_in_place(old: u32, fresh: u32) -> Decision
+    ensures { result ≡ in_place old fresh }
+{
+    if fresh == old {
+        Decision::Stay
+    } else if fresh < old {
+        Decision::ShrinkHere
+    } else {
+        Decision::GrowHere
+    }
+}
+
+/// Decides for a block in a singleblock carrier.
+fn decide_single(settings: Settings, old: u32, fresh: u32, units: u32) -> Decision
+    ensures { result ≡ in_single settings old fresh units }
+{
+    if u64::from(HEADER_UNITS) + u64::from(fresh) > u64::from(units) {
+        return Decision::Move;
+    }
+    let tail = units - HEADER_UNITS - fresh;
+    if fresh <= settings.sbct {
+        if is_at_least(tail, settings.rsbcmt, units) {
+            return Decision::Move;
+        }
+        return decide_in_place(old, fresh);
+    }
+    let pages = least_pages(fresh);
+    if fresh < old
+        && pages < units.div_ceil(PAGE_UNITS)
+        && tail >= settings.asbcst
+        && is_at_least(tail, settings.rsbcst, units)
+    {
+        return Decision::ShrinkCarrier { pages };
+    }
+    decide_in_place(old, fresh)
+}
+
+/// Decides what a reallocation does with a block of `old` units that is to have `fresh`, by the
+/// settings `sbct`, `ramv`, `rmbcmt`, `rsbcmt`, `rsbcst` and `asbcst`. It takes no memory.
+///
+/// The thresholds are those of Erlang/OTP's 'erts_alloc', section 'Flags for Configuration of
+/// Allocators Based on alloc_util'; in which order they are asked, and how percentages are compared
+/// in whole numbers, is this simulator's.
+pub fn decide(settings: Settings, old: u32, fresh: u32, at: Where) -> Decision
+    ensures { result ≡ decision settings old fresh at }
+{
+    if settings.ramv {
+        return Decision::Move;
+    }
+    match at {
+        Where::Foreign => Decision::Move,
+        Where::Multi { behind } => decide_multi(settings, old, fresh, behind),
+        Where::Single { units } => decide_single(settings, old, fresh, units),
+    }
+}

@@ -1,0 +1,39 @@
+//! A carrier whose block grows and shrinks.
+use crate::Sbc;
+use ea_model::Block;
+
+#[test]
+fn a_carrier_has_one_block_and_its_tail(rt: HostRuntime) {
+    let mut carrier = Sbc::new(258, 2, 3, 640, 130, 66_000, 7);
+    assert_eq!(rt; carrier.number(), 258);
+    assert_eq!(rt; carrier.owner(), 2);
+    assert_eq!(rt; carrier.birth(), 3);
+    assert_eq!(rt; carrier.base(), 640);
+    assert_eq!(rt; carrier.units(), 66_560);
+    assert_eq!(rt; carrier.tail(), 552);
+
+    carrier.resize(66_552, 8);
+    let block = carrier.block();
+    assert_eq!(rt;
+        block,
+        Block {
+            name: 8,
+            size: 66_552
+        }
+    );
+    assert_eq!(rt; carrier.tail(), 0);
+
+    carrier.resize(65_600, 9);
+    assert_eq!(rt; carrier.tail(), 952);
+    carrier.shrink_to(129);
+    assert_eq!(rt; carrier.units(), 66_048);
+    assert_eq!(rt; carrier.tail(), 440);
+    let block = carrier.block();
+    assert_eq!(rt;
+        block,
+        Block {
+            name: 9,
+            size: 65_600
+        }
+    );
+}
