@@ -19,12 +19,30 @@ LARGEST = 524280
 TWENTIETH = 13096
 
 
+def filled_up(front, piece, rest, back):
+    """Pieces between front and back up to the most bytes that an input may have, and rest for the last few bytes."""
+    pieces, left = divmod(LARGEST_INPUT - len(front) - len(back), len(piece))
+    return front + piece * pieces + rest * left + back
+
+
 def comments():
     """A small trace, and then comment lines up to the most bytes that an input may have."""
-    text = OPENING + "alloc 1 100\n" + CLOSING
-    line = "# " + "-" * 61 + "\n"
-    lines, rest = divmod(LARGEST_INPUT - len(text), len(line))
-    return text + line * lines + "#" * rest
+    return filled_up(OPENING + "alloc 1 100\n" + CLOSING, "# " + "-" * 61 + "\n", "#", "")
+
+
+def long_comment():
+    """The same with one line of a comment."""
+    return filled_up(OPENING + "alloc 1 100\n" + CLOSING, "#", "#", "")
+
+
+def turns():
+    """A small trace, and then lines of 32 turns up to the most bytes that an input may have."""
+    return filled_up(OPENING + "alloc 1 100\nschedule\n", "1 " * 31 + "1\n", "\n", "end\n")
+
+
+def line_of_turns():
+    """The same with one line of turns."""
+    return filled_up(OPENING + "alloc 1 100\nschedule\n", "1 ", " ", "\nend\n")
 
 
 def mixed(count, most_held, largest, seed):
@@ -79,9 +97,13 @@ def main(folder):
     os.makedirs(f"{folder}/strategies", exist_ok=True)
     made = {
         "comments": comments(),
+        "long-comment": long_comment(),
+        "turns": turns(),
+        "line-of-turns": line_of_turns(),
         "growing-5000": mixed(5000, 400, LARGEST, 3),
         "mixed-5000": mixed(5000, 40, SMALL, 1),
         "mixed-200000": mixed(200000, 8, SMALL, 2),
+        "mixed-262144": mixed(262144, 8, SMALL, 5),
         "stacked-4000": stacked(4000),
         "strategies/filled": crowded(5600, 5000, 8000, 15000, 0),
         "strategies/changing": crowded(5600, 5000, 8000, 15000, 5000),
