@@ -15,7 +15,7 @@ CLOSING = "schedule\nend\n"
 LARGEST_INPUT = 2**24
 SMALL = 3000
 LARGEST = 524280
-# Twenty blocks of so many bytes fill a carrier of 256 kB to its end.
+# Twenty blocks of that many bytes fill a carrier of 256 kB to its end.
 TWENTIETH = 13096
 
 
@@ -69,8 +69,8 @@ def stacked(count):
 
 
 def crowded(filled, kept, least, most, changes):
-    """So many blocks of least to most bytes fill carriers of 256 kB, and random ones are freed until so many are kept;
-    then so many operations, in which a random block is freed and a new one is allocated, in turn."""
+    """`filled` blocks of least to most bytes fill carriers of 256 kB, and random ones are freed until `kept` are left;
+    then come `changes` operations, in which a random block is freed and a new one is allocated, in turn."""
     pick = random.Random(4).random
     lines, held = [], []
 

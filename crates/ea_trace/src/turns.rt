@@ -76,7 +76,7 @@ pub fn any_outside(line: &[u8], schedulers: u32) -> bool
     outside
 }
 
-/// Whether there is no scheduler with that number, of so many.
+/// Whether none of the schedulers 1 to `schedulers` has that number.
 pub fn is_nobody(schedulers: u32, number: u32) -> bool
     ensures { result ≡ is_outside schedulers number }
 {

@@ -19,7 +19,7 @@ fault_of (Err f) = Some f
 abbrev pub refused : ℕ → List ℕ → Option TraceFault
 refused n text = fault_of (trace text n)
 
--- the same of the first bytes of a text: none of them, one, two, up to so many less one
+-- the same of the first bytes of a text: none of them, one, two, up to one less than that many
 abbrev pub refused_cuts : ℕ → List ℕ → ℕ → List (Option TraceFault)
 refused_cuts n text cuts = map (λ k. refused n (take k text)) (range_with_len 0 cuts)
 
@@ -39,7 +39,7 @@ turns scheduler count = record { scheduler = scheduler; count = count }
 abbrev pub in_turns : List Turns → Mode
 in_turns ts = Schedule (listed ts)
 
--- a text so many times
+-- a text that many times
 abbrev pub times : ℕ → List ℕ → List ℕ
 times zero text = []
 times (suc n) text = text ++ times n text

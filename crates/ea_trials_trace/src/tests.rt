@@ -130,7 +130,7 @@ fn an_input_is_refused_at_its_first_bad_line(rt: HostRuntime) {
     }
 }
 
-// A first text, so many times a line, and the last text.
+// A first text, a line that many times, and the last text.
 fn repeated(
     alloc: Global,
     first: &[u8],

@@ -1,8 +1,6 @@
 //! The program: words from the command line, the trace from standard input, the text to standard
-//! output.
-//! It ends with the status of the run, or with 5 where the words could not be had for want of
-//! memory, or
-//! with 8 where they could not be had for another cause, or are 2^32 or more.
+//! output. It ends with the status of the run, or with 5 where the words could not be had for want
+//! of memory, or with 8 where they could not be had for another cause, or are 2^32 or more.
 #![tactic(auto)]
 
 use ea_io::{StdSink, StdSource};
