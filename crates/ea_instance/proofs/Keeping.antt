@@ -1,16 +1,15 @@
--- What an instance keeps of its carriers and of its region through its calls.
+-- What an instance keeps of its carriers through its calls.
 use Rattle.std.proofs.Common.{◌≡◌, ℕ, ◌+◌, ◌*◌, ◌%◌, ◌<◌, ◌≤◌, false, List, length, All, sym, ap, ◌∙◌, subst, arith}
 use Rattle.std.specs.Prelude.{Option, Some, None, Result, Ok, Err, OnOk, OnErr, option_map}
+use Rattle.std.proofs.lemmas.List.{length-map}
 use Rattle.ea_model.specs.declared.settings.Settings.{Settings}
 use Rattle.ea_model.specs.declared.carriers.Candidate.{Candidate}
-use Rattle.ea_model.specs.declared.carriers.Segment.{Segment}
 use Rattle.ea_model.specs.declared.carriers.Spot.{Spot}
 use Rattle.ea_model.specs.declared.entries.NoCarrier.TheVariants.{Space}
 use Rattle.ea_model.specs.declared.carriers.CarrierPlan.{CarrierPlan}
 use Rattle.ea_model.specs.declared.carriers.Kind.TheVariants.{Multi}
 use Rattle.ea_model.specs.Content.{Content, placed, released}
-use Rattle.ea_model.specs.Region.{Region, lowest_run, runs, with_segment, cut_from}
-use Rattle.ea_model.specs.Instance.{Instance, segments, first_number, changed, content_of, with_content, unused_from, is_used, free_run, least_pages, next_pages, planned, plan, created_content, creating, without_content, chosen_spot, block_in, size_for, place_at, placing_at}
+use Rattle.ea_model.specs.Instance.{Instance, first_number, changed, content_of, has_content, own_at, own_of, planned_own, with_content, with_own, without_own, unused_from, is_used, free_run, least_pages, next_pages, planned, plan, created_content, creating, without_content, chosen_spot, block_in, size_for, place_at, placing_at}
 use Rattle.ea_model.specs.Strategies.{choice_among, choice_empty, may_miss, or_else, spot_of}
 use Rattle.ea_instance.specs.Answers.{placing_if}
 use Rattle.ea_instance.specs.Changes.{AreLaid}
@@ -18,56 +17,15 @@ use Rattle.ea_instance.specs.Choices.{IsChoice}
 use Rattle.ea_instance.specs.declared.choice.Choice.{Choice}
 use Rattle.ea_instance.specs.Kept.{KeepsCarriers, seen_as}
 use Rattle.ea_instance.specs.Listed.{CarrierList}
+use Rattle.ea_instance.specs.Own.{OwnList}
 use Rattle.ea_instance.proofs.Changed.{at_choice}
-use Rattle.ea_laws.specs.Kept.{ContentsApart}
+use Rattle.ea_laws.specs.Kept.{ContentsApart, IsWhole}
 use Rattle.ea_laws.specs.Spots.{HasGap, HaveSameBlocks, IsOther, IsPlaced}
 use Rattle.ea_laws.proofs.Blocks.{creating-same, placing-IsPlaced, releasing-others}
-use Rattle.ea_laws.proofs.CarrierSegments.{length-segments, segments-without}
-use Rattle.ea_laws.proofs.Contents.{rising-length}
-use Rattle.ea_laws.proofs.Changed.{placed-keeps, released-keeps, segments-changed}
-use Rattle.ea_laws.proofs.Keeping.{plan-least, plan-next, plan-nowhere, plan-IsPlanned, segments-made}
-use Rattle.ea_laws.proofs.Keeping as laws
-use Rattle.ea_laws.proofs.Standing.{clearing-Stands, creating-Stands, placing-Stands, releasing-Stands}
+use Rattle.ea_laws.proofs.Keeping.{IsLaidOut-made, has-number, lies-low, other-numbers, plan-IsPlanned}
+use Rattle.ea_laws.proofs.Owned.{rising-length}
+use Rattle.ea_laws.proofs.Standing.{clearing-Stands, creating-Stands, employed-few, employed-own, placing-Stands, planned-apart, planned-new, releasing-Stands}
 use Rattle.ea_model.specs.declared.units.TheConstants.{MAX_UNITS}
-
--- what was found in an instance as it is seen
-module _ (i now : Instance) (taken : List Segment) (need number next : ℕ) (seen : i ≡ now)
-    (kept : taken ≡ segments i.contents)
-    (free : Some number ≡ unused_from 256 (first_number i.number) i.contents)
-    (pages : next ≡ next_pages i need) where
-  run_of : (k : ℕ) (o : Option ℕ) → o ≡ lowest_run k (runs i.first i.end taken) → free_run i k ≡ o
-  run_of k o found = sym (found ∙ ap (λ t. lowest_run k (runs i.first i.end t)) kept)
-
-  next_run : (o : Option ℕ) → o ≡ lowest_run next (runs i.first i.end taken)
-      → free_run i (next_pages i need) ≡ o
-  next_run o found = ap (free_run i) (sym pages) ∙ run_of next o found
-
-  pub found-next : (base : ℕ) (p : CarrierPlan)
-      → Some base ≡ lowest_run next (runs i.first i.end taken) → p ≡ planned now number base next
-      → Ok p ≡ plan now need
-  found-next base p found is =
-      ap Ok (is ∙ ap (λ x. planned x number base next) (sym seen)
-      ∙ ap (planned i number base) pages)
-      ∙ sym (plan-next i need number (sym free) base (next_run (Some base) found))
-      ∙ ap (λ x. plan x need) seen
-
-  pub found-least : (least base : ℕ) (p : CarrierPlan) → least ≡ least_pages need
-      → None ≡ lowest_run next (runs i.first i.end taken)
-      → Some base ≡ lowest_run least (runs i.first i.end taken) → p ≡ planned now number base least
-      → Ok p ≡ plan now need
-  found-least least base p size none found is =
-      ap Ok (is ∙ ap (λ x. planned x number base least) (sym seen)
-      ∙ ap (planned i number base) size)
-      ∙ sym (plan-least i need number (sym free) base (next_run None none)
-      (ap (free_run i) (sym size) ∙ run_of least (Some base) found))
-      ∙ ap (λ x. plan x need) seen
-
-  pub found-none : (least : ℕ) → least ≡ least_pages need
-      → None ≡ lowest_run next (runs i.first i.end taken)
-      → None ≡ lowest_run least (runs i.first i.end taken) → Err Space ≡ plan now need
-  found-none least size none nowhere =
-      sym (plan-nowhere i need number (sym free) (next_run None none) (ap (free_run i) (sym size)
-      ∙ run_of least None nowhere)) ∙ ap (λ x. plan x need) seen
 
 -- the carrier that enters is the planned one
 pub entering : (n number : ℕ) (p : CarrierPlan) (carrier : Content) → n ≡ number
@@ -77,33 +35,32 @@ entering n number p carrier seen is =
     ap (λ (y : Content). record y { kind = Multi }) is
     ∙ ap (λ m. created_content m Multi p) (sym seen)
 
-module _ (s : Settings) (n : ℕ) (ks : CarrierList) (created : ℕ) (r : Region)
-    (k : KeepsCarriers s n ks created r) where
+module _ (s : Settings) (n : ℕ) (own : OwnList) (ks : CarrierList) (created : ℕ)
+    (k : KeepsCarriers s n own ks created) where
   abbrev here : Instance
-  here = seen_as s n ks created r
+  here = seen_as s n own ks created
 
   pub kept-laid : AreLaid ks.contents
-  kept-laid = record {
-    rising = k.stands.kept.rising;
-    sound = k.stands.sound;
-    apart = k.stands.apart;
-  }
+  kept-laid = record { rising = k.stands.rising; sound = k.stands.sound; apart = k.stands.apart }
 
   -- there are no more carriers than numbers
   pub kept-few : length ks.contents ≤ 256
-  kept-few = omega (arith, rising-length _ _ ks.contents k.stands.kept.rising k.stands.kept.own)
+  kept-few = omega (
+    arith,
+    rising-length _ _ own.carriers k.stands.kept.rising k.stands.kept.numbers,
+    ap length k.stands.agrees,
+    length-map ks.contents own_of,
+  )
 
   -- a block is released
   pub kept-released : (spot : Spot) (new : CarrierList)
       → new ≡ record ks {
         contents = changed (λ c. released c spot.offset) spot.carrier ks.contents;
       }
-      → KeepsCarriers s n new created r
+      → KeepsCarriers s n own new created
   kept-released spot new is =
-      subst (λ xs. KeepsCarriers s n xs created r) (sym is) (record {
+      subst (λ xs. KeepsCarriers s n own xs created) (sym is) (record {
         strategy = k.strategy;
-        taken = k.taken ∙ sym (segments-changed (λ c. released c spot.offset)
-            (released-keeps spot.offset) spot.carrier ks.contents);
         stands = releasing-Stands here spot k.stands;
       })
 
@@ -113,12 +70,12 @@ module _ (s : Settings) (n : ℕ) (ks : CarrierList) (created : ℕ) (r : Region
         contents =
             changed (λ c. released c spot.offset) spot.carrier ks.contents;
       })
-      → OnErr o (new ≡ ks) → KeepsCarriers s n new created r
+      → OnErr o (new ≡ ks) → KeepsCarriers s n own new created
   kept-either (Ok x) spot new ok err = kept-released spot new ok
-  kept-either (Err e) spot new ok err = subst (λ xs. KeepsCarriers s n xs created r) (sym err) k
+  kept-either (Err e) spot new ok err = subst (λ xs. KeepsCarriers s n own xs created) (sym err) k
 
   pub others-either : {T E : Type 0} (o : Result T E) (spot : Spot) (new : CarrierList)
-      (now : Instance) → seen_as s n ks created r ≡ now
+      (now : Instance) → seen_as s n own ks created ≡ now
       → OnOk o (new ≡ record ks {
         contents =
             changed (λ c. released c spot.offset) spot.carrier ks.contents;
@@ -132,24 +89,27 @@ module _ (s : Settings) (n : ℕ) (ks : CarrierList) (created : ℕ) (r : Region
       ap (λ (ys : CarrierList). block_in ys.contents at) err
       ∙ ap (λ i. block_in i.contents at) seen
 
+  -- the instance owns what it employs
+  pub kept-own : (number : ℕ) (c : Content) → content_of ks.contents number ≡ Some c
+      → own_at own.carriers number ≡ Some (own_of c)
+  kept-own number c there = employed-own here number c k.stands there
+
   -- a carrier goes
-  pub kept-cleared : (number : ℕ) (c : Content) (new : CarrierList) (r2 : Region)
+  pub kept-cleared : (number : ℕ) (c : Content) (new : CarrierList) (left : OwnList)
       → content_of ks.contents number ≡ Some c
       → new ≡ record ks { contents = without_content number ks.contents }
-      → r2 ≡ record r { taken = cut_from c.base r.taken } → KeepsCarriers s n new created r2
-  kept-cleared number c new r2 there is cut =
-      subst (λ xs. KeepsCarriers s n xs created r2) (sym is)
-      (subst (KeepsCarriers s n (record ks { contents = without_content number ks.contents })
-      created) (sym cut) (record {
+      → left ≡ record own { carriers = without_own number own.carriers }
+      → KeepsCarriers s n left new created
+  kept-cleared number c new left there is gone =
+      subst (λ xs. KeepsCarriers s n left xs created) (sym is)
+      (subst (λ os. KeepsCarriers s n os
+      (record ks { contents = without_content number ks.contents }) created) (sym gone) (record {
         strategy = k.strategy;
-        taken = ap (cut_from c.base) k.taken
-            ∙ sym (segments-without r.first r.end number c ks.contents k.stands.kept.laid
-            k.stands.kept.whole k.stands.kept.rising there);
         stands = clearing-Stands here number c k.stands there;
       }))
 
   -- a gap that the carriers choose is the one that the instance does
-  module _ (need : ℕ) (found : Choice) (now : Instance) (seen : seen_as s n ks created r ≡ now)
+  module _ (need : ℕ) (found : Choice) (now : Instance) (seen : seen_as s n own ks created ≡ now)
       (chosen : Some found.candidate ≡ or_else (may_miss ks.strategy)
       (choice_among ks.strategy s.mbsd need ks.contents) (choice_empty need ks.contents))
       (choice : IsChoice need ks.contents found) where
@@ -172,7 +132,7 @@ module _ (s : Settings) (n : ℕ) (ks : CarrierList) (created : ℕ) (r : Region
 
     has-gap : HasGap need x.number x.offset ks.contents
     has-gap =
-        let at = at_choice need ks.contents found choice.content k.stands.kept.rising
+        let at = at_choice need ks.contents found choice.content k.stands.rising
         (sym choice.is) choice in
         (choice.content, at.there, omega (arith, choice.chosen.gap, choice.chosen.fits))
 
@@ -181,18 +141,16 @@ module _ (s : Settings) (n : ℕ) (ks : CarrierList) (created : ℕ) (r : Region
           contents =
               changed (λ c. placed c x.offset need name) x.number ks.contents;
         }) where
-      pub seen-placed : seen_as s n new created r ≡ placing_if now (chosen_spot now need) need name
+      pub seen-placed : seen_as s n own new created ≡ placing_if now (chosen_spot now need) need name
       seen-placed =
-          ap (λ ys. seen_as s n ys created r) is
+          ap (λ ys. seen_as s n own ys created) is
           ∙ ap (λ i. placing_at i (spot_of x) need name) seen
           ∙ ap (λ o. placing_if now o need name) chosen_here
 
-      pub kept-placed : KeepsCarriers s n new created r
+      pub kept-placed : KeepsCarriers s n own new created
       kept-placed =
-          subst (λ xs. KeepsCarriers s n xs created r) (sym is) (record {
+          subst (λ xs. KeepsCarriers s n own xs created) (sym is) (record {
             strategy = k.strategy;
-            taken = k.taken ∙ sym (segments-changed (λ c. placed c x.offset need name)
-                (placed-keeps x.offset need name) x.number ks.contents);
             stands = placing-Stands here (spot_of x) need name k.stands has-gap least even;
           })
 
@@ -210,64 +168,63 @@ module _ (s : Settings) (n : ℕ) (ks : CarrierList) (created : ℕ) (r : Region
           (placing-IsPlaced here (spot_of x) need name k.stands has-gap least)))
 
   -- a carrier comes by a plan
-  module _ (need : ℕ) (p : CarrierPlan) (now : Instance) (seen : seen_as s n ks created r ≡ now)
+  module _ (need : ℕ) (p : CarrierPlan) (now : Instance) (seen : seen_as s n own ks created ≡ now)
       (asked : plan now need ≡ Ok p) where
     asked_here : plan here need ≡ Ok p
     asked_here = ap (λ i. plan i need) seen ∙ asked
 
-    -- the new carrier has a number of its own
-    pub other-numbers : is_used p.number ks.contents ≡ false
-    other-numbers = laws.other-numbers here need p k.stands.kept asked_here
+    -- the new carrier has a number of its own, also among those that are employed
+    pub unused-number : is_used p.number own.carriers ≡ false
+    unused-number = other-numbers here need p k.stands.kept asked_here
 
-    -- it meets no other one, and lies low enough
+    pub new-number : has_content p.number ks.contents ≡ false
+    new-number = planned-new here need p k.stands asked_here
+
+    -- it meets no other one, lies low enough and has whole pages
     pub others-apart : All (ContentsApart (created_content n Multi p)) ks.contents
-    others-apart = laws.others-apart here need p k.stands.kept asked_here
+    others-apart = planned-apart here need p k.stands asked_here
 
-    pub lies-low : 512 * p.base + 512 * p.pages ≤ MAX_UNITS
-    lies-low = laws.lies-low here need p k.stands.kept asked_here
+    pub low-enough : 512 * p.base + 512 * p.pages ≤ MAX_UNITS
+    low-enough = lies-low here need p k.stands.kept asked_here
 
-    -- there are fewer carriers, and segments, than numbers
-    pub has-number : length ks.contents < 256
-    has-number = laws.has-number here need p k.stands.kept asked_here
+    pub whole-pages : IsWhole (created_content n Multi p)
+    whole-pages = (IsLaidOut-made here need p k.stands.kept asked_here).whole
 
-    pub has-room : length r.taken < 256
-    has-room = omega (arith, has-number, ap length k.taken, length-segments ks.contents)
+    -- there are fewer carriers than numbers
+    pub few-employed : length ks.contents < 256
+    few-employed = employed-few here need p k.stands asked_here
+
+    pub few-own : length own.carriers < 256
+    few-own = has-number here need p k.stands.kept asked_here
 
     -- its pages are the lowest free run of the region that holds them
-    pub free-run : lowest_run p.pages (runs r.first r.end r.taken) ≡ Some p.base
-    free-run =
-        ap (λ t. lowest_run p.pages (runs r.first r.end t)) k.taken
-        ∙ (plan-IsPlanned here need p asked_here).run
+    pub free-run : free_run here p.pages ≡ Some p.base
+    free-run = (plan-IsPlanned here need p asked_here).run
 
-    -- after its pages are taken and it has entered, all is kept
-    module _ (r2 : Region) (new : CarrierList)
-        (took : r2 ≡ record r {
-          taken =
-              with_segment (record { base = p.base; pages = p.pages }) r.taken;
-        })
+    -- after it was added and has entered, all is kept
+    module _ (more : OwnList) (new : CarrierList)
+        (added : more ≡ record own { carriers = with_own (planned_own p) own.carriers })
         (is : new ≡ record ks {
           contents =
               with_content (created_content n Multi p) ks.contents;
         }) where
-      pub kept-created : KeepsCarriers s n new p.birth r2
+      pub kept-created : KeepsCarriers s n more new p.birth
       kept-created =
-          subst (λ ys. KeepsCarriers s n ys p.birth r2) (sym is)
-          (subst (KeepsCarriers s n
+          subst (λ ys. KeepsCarriers s n more ys p.birth) (sym is)
+          (subst (λ os. KeepsCarriers s n os
           (record ks { contents = with_content (created_content n Multi p) ks.contents }) p.birth)
-          (sym took) (record {
+          (sym added) (record {
             strategy = k.strategy;
-            taken = ap (with_segment (record { base = p.base; pages = p.pages })) k.taken
-                ∙ sym (segments-made here need p k.stands.kept asked_here);
             stands = creating-Stands here need p k.stands asked_here;
           }))
 
-      -- and the instance is then the one that employs the carrier
-      pub seen-created : seen_as s n new p.birth r2 ≡ creating now p
+      -- and the instance is then the one that owns and employs the carrier
+      pub seen-created : seen_as s n more new p.birth ≡ creating now p
       seen-created =
-          ap (λ ys. seen_as s n ys p.birth r2) is
-          ∙ ap (seen_as s n
+          ap (λ ys. seen_as s n more ys p.birth) is
+          ∙ ap (λ os. seen_as s n os
           (record ks { contents = with_content (created_content n Multi p) ks.contents }) p.birth)
-          took ∙ ap (λ i. creating i p) seen
+          added ∙ ap (λ i. creating i p) seen
 
     pub blocks-created : HaveSameBlocks now.contents (creating now p).contents
     blocks-created =

@@ -8,3 +8,4 @@ pub mod Keeping
 pub mod Listed
 pub mod Located
 pub mod Missing
+pub mod Owned

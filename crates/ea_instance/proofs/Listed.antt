@@ -1,5 +1,5 @@
 -- The set of the carriers, after a change.
-use Rattle.std.proofs.Common.{◌≡◌, ◌≢◌, ℕ, true, false, List, [], ◌∷◌, map, All, AllPairs, sym, ap, ◌∙◌, subst, refl, inl, inr, arith, suc, Bool}
+use Rattle.std.proofs.Common.{◌≡◌, ◌≤◌, ◌≢◌, ℕ, true, false, List, [], ◌∷◌, map, All, AllPairs, sym, ap, ◌∙◌, subst, refl, inl, inr, arith, suc, Bool}
 use Rattle.std.specs.Prelude.{Option, IfSome, IsSome, Some, is_some, ◌==◌}
 use Rattle.std.proofs.lemmas.Bool.{cases_eq}
 use Rattle.std.proofs.lemmas.List.Elements.{All-head, All-tail}
@@ -82,7 +82,7 @@ module _ (f : Content → Content) (k : KeepsPlace f) (n : ℕ) (item : Content)
         ap (λ (x : Carriers). x.held) e ∙ ap (refitted n fit) l.held
         ∙ ap (λ m. refitted n m (map held_of cs)) fits
         ∙ held-changed cs (only_item f k n item cs rising there) ∙ sym (ap (map held_of) is);
-    room = ap (λ (x : Carriers). x.room) e ∙ l.room;
+    room = subst (λ (x : Carriers). 256 ≤ x.room) (sym e) l.room;
     some = (λ gf. same ∙ l.some.0 gf, λ h. l.some.1 (sym same ∙ h));
     gaps = gaps;
   }
@@ -101,7 +101,7 @@ IsListed-entered s cs new x key fit set after bins left l is keyed fits e same g
       ∙ ap (λ m. entered set_number (record { key = (held_of x).key; fit = m }) (map held_of cs))
       fits
       ∙ entered-map set_number held_of x cs ∙ sym (ap (map held_of) is);
-  room = ap (λ (c : Carriers). c.room) e ∙ l.room;
+  room = subst (λ (c : Carriers). 256 ≤ c.room) (sym e) l.room;
   some = (λ gf. same ∙ l.some.0 gf, λ h. l.some.1 (sym same ∙ h));
   gaps = gaps;
 }
@@ -115,7 +115,7 @@ IsListed-left s cs new n set after bins left l is e same gaps = record {
   held =
       ap (λ (c : Carriers). c.held) e ∙ ap (without set_number n) l.held
       ∙ without-map set_number held_of n cs ∙ sym (ap (map held_of) is);
-  room = ap (λ (c : Carriers). c.room) e ∙ l.room;
+  room = subst (λ (c : Carriers). 256 ≤ c.room) (sym e) l.room;
   some = (λ gf. same ∙ l.some.0 gf, λ h. l.some.1 (sym same ∙ h));
   gaps = gaps;
 }

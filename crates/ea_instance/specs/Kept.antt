@@ -1,26 +1,25 @@
--- What an instance keeps of its carriers and of its region.
+-- What an instance keeps of its carriers.
 use Rattle.std.specs.Prelude.{◌≡◌, ℕ}
 use Rattle.ea_model.specs.declared.settings.Settings.{Settings}
-use Rattle.ea_model.specs.Instance.{Instance, segments}
-use Rattle.ea_model.specs.Region.{Region}
+use Rattle.ea_model.specs.Instance.{Instance}
 use Rattle.ea_laws.specs.Kept.{Stands}
 use Rattle.ea_instance.specs.Listed.{CarrierList}
+use Rattle.ea_instance.specs.Own.{OwnList}
 
 -- the instance of these fields
-abbrev pub seen_as : Settings → ℕ → CarrierList → ℕ → Region → Instance
-seen_as settings number carriers created region = record {
+abbrev pub seen_as : Settings → ℕ → OwnList → CarrierList → ℕ → Instance
+seen_as settings number own carriers created = record {
   settings = settings;
   number = number;
-  first = region.first;
-  end = region.end;
+  first = own.first;
+  end = own.end;
+  own = own.carriers;
   contents = carriers.contents;
   created = created;
 }
 
--- the carriers choose by the settings' strategy, their segments are the taken ones of the region,
--- and the instance stands
-pub record KeepsCarriers (settings : Settings) (number : ℕ) (carriers : CarrierList) (created : ℕ)
-    (region : Region) : Type 0 where
+-- the carriers choose by the settings' strategy, and the instance stands
+pub record KeepsCarriers (settings : Settings) (number : ℕ) (own : OwnList)
+    (carriers : CarrierList) (created : ℕ) : Type 0 where
   pub strategy : carriers.strategy ≡ settings.strategy
-  pub taken : region.taken ≡ segments carriers.contents
-  pub stands : Stands (seen_as settings number carriers created region)
+  pub stands : Stands (seen_as settings number own carriers created)

@@ -4,5 +4,6 @@ pub mod Choices
 pub mod Changes
 pub mod Binned
 pub mod Listed
+pub mod Own
 pub mod Kept
 pub mod Answers

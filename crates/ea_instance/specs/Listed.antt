@@ -1,5 +1,5 @@
 -- The carriers of an instance, their set, and the bins of their gaps.
-use Rattle.std.specs.Prelude.{◌≡◌, ◌↔◌, ℕ, ◌+◌, ◌*◌, ◌-◌, Bool, ◌&&◌, if◌then◌else◌, nat_lt, nat_le, List, [], ◌∷◌, Option, Some, None, IsSome, map, option_map}
+use Rattle.std.specs.Prelude.{◌≡◌, ◌↔◌, ℕ, ◌+◌, ◌*◌, ◌-◌, ◌≤◌, Bool, ◌&&◌, if◌then◌else◌, nat_lt, nat_le, List, [], ◌∷◌, Option, Some, None, IsSome, map, option_map}
 use Rattle.std.specs.Option.{option_and_then}
 use Rattle.ea_model.specs.declared.settings.Strategy.{Strategy}
 use Rattle.ea_model.specs.declared.settings.Strategy.TheVariants.{Gf}
@@ -35,12 +35,12 @@ gap_of x = record { address = x.address; size = x.size }
 abbrev pub all_gaps : List Content → List BinnedGap
 all_gaps cs = map gap_of (candidates cs)
 
--- the set holds the carriers and has room for all numbers, and there are bins exactly under good
+-- the set holds the carriers and has room for as many as an instance has numbers, and there are bins exactly under good
 -- fit, which hold all gaps
 pub record IsListed (strategy : Strategy) (list : List Content) (set : Carriers)
     (bins : Option HeldGaps) : Type 0 where
   pub held : set.held ≡ map held_of list
-  pub room : set.room ≡ NUMBERS
+  pub room : NUMBERS ≤ set.room
   pub some : (strategy ≡ Gf) ↔ IsSome bins
   pub gaps : Hold bins (all_gaps list)
 

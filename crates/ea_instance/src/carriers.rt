@@ -2,13 +2,13 @@
 ghost use Rattle.std.specs.Prelude.{◌≡◌, ℕ, ◌*◌, ◌+◌, ◌%◌, ◌<◌, ◌≤◌, [], All, Some, None, true, false, IsSome, IfSome, IfOk, OnOk, OnErr, length};
 ghost use Rattle.std.specs.Option.{option_and_then};
 ghost use Rattle.ea_model.specs.declared.settings.Strategy.TheVariants.{Gf, Af};
-ghost use Rattle.ea_model.specs.declared.units.TheConstants.{MAX_UNITS, PAGE_UNITS};
+ghost use Rattle.ea_model.specs.declared.units.TheConstants.{MAX_UNITS, NUMBERS, PAGE_UNITS};
 ghost use Rattle.ea_model.specs.Content.{Content, placed, released};
 ghost use Rattle.ea_model.specs.Choice.{first};
 ghost use Rattle.ea_model.specs.Strategies.{candidates, choice_among, choice_empty, inner_of, large_enough, may_miss, or_else};
-ghost use Rattle.ea_model.specs.Instance.{changed, content_of, block_in, is_used, size_for, with_content, without_content};
+ghost use Rattle.ea_model.specs.Instance.{changed, content_of, block_in, has_content, size_for, with_content, without_content};
 ghost use Rattle.ea_laws.specs.Kinds.{is_shared};
-ghost use Rattle.ea_laws.specs.Kept.{ContentsApart};
+ghost use Rattle.ea_laws.specs.Kept.{ContentsApart, IsWhole};
 ghost use Rattle.ea_instance.specs.Answers.{follow_up};
 ghost use Rattle.ea_instance.specs.Changes.{AreLaid};
 ghost use Rattle.ea_instance.specs.Choices.{candidate_of, IsChoice};
@@ -25,7 +25,7 @@ use crate::walks::{best_choice, choice_at, lowest_empty};
 use ea_cset::CarrierSet;
 use ea_goodfit::{BinnedGap, Bins};
 use ea_model::keyed::{enter, index_of, take_out};
-use ea_model::{HEADER_UNITS, Inner, NUMBERS, OutOfMemory, Strategy};
+use ea_model::{HEADER_UNITS, Inner, OutOfMemory, Strategy};
 use std::alloc::Global;
 use std::marker::Model;
 
@@ -51,11 +51,12 @@ impl Model for Carriers {
 }
 
 impl Carriers {
-    /// No carriers, and memory for the set of as many as an instance has numbers.
-    pub fn new(alloc: Global, strategy: Strategy) -> Result<Carriers, OutOfMemory>
+    /// No carriers, and memory for a set of that many.
+    pub fn new(alloc: Global, strategy: Strategy, room: u32) -> Result<Carriers, OutOfMemory>
+        requires { NUMBERS ≤ room }
         ensures { IfOk result (λ c. c ≡ record { strategy = strategy; contents = [] }) }
     {
-        let set = CarrierSet::new(alloc, NUMBERS)?;
+        let set = CarrierSet::new(alloc, room)?;
         Ok(Carriers {
             strategy,
             list: Vec::new(alloc),
@@ -189,9 +190,10 @@ impl Carriers {
     pub fn enter(&mut self, employed: Employed) -> Result<(), OutOfMemory>
         requires laid { AreLaid self.old.contents }
         requires room { length self.old.contents < NUMBERS }
-        requires number { is_used employed.number self.old.contents ≡ false }
+        requires number { has_content employed.number self.old.contents ≡ false }
         requires apart { All (ContentsApart employed) self.old.contents }
         requires low { PAGE_UNITS * employed.base + employed.units ≤ MAX_UNITS }
+        requires whole { IsWhole employed }
         requires shared { is_shared employed.kind ≡ true }
         requires empty { employed.blocks ≡ [] }
         ensures ok { OnOk result (self.new ≡ record self.old {

@@ -10,7 +10,7 @@ ghost use Rattle.ea_model.specs.Region.{runs};
 ghost use Rattle.ea_model.specs.Settings.{IsValid};
 ghost use Rattle.ea_model.specs.Units.{pages_for};
 ghost use Rattle.ea_model.specs.Strategies.{candidates, may_miss};
-ghost use Rattle.ea_model.specs.Instance.{carrier_line, main_content, new_instance, growth, multis, unused_from, plan, created_content, creating, chosen_spot, place_at, releasing_at, clearing, content_of, block_in, segments, least_pages};
+ghost use Rattle.ea_model.specs.Instance.{carrier_line, main_content, new_instance, growth, multis, unused_from, plan, created_content, creating, chosen_spot, place_at, releasing_at, clearing, content_of, block_in, has_content, segments, least_pages};
 ghost use Rattle.ea_model.specs.Instance as instances;
 ghost use Rattle.ea_instance.specs.Answers.{placing_if, follow_up};
 ghost use Rattle.ea_laws.specs.InOrder.{IsInOrder};
@@ -19,27 +19,27 @@ ghost use Rattle.ea_laws.specs.Spots.{AllUsed, FindsNone, HaveSameBlocks, IsOthe
 use crate::carriers::Carriers;
 use crate::employed::Employed;
 use crate::figures::{figures, free_of};
+use crate::own::OwnCarriers;
 use crate::released::Released;
-use crate::walks::{multi_count, unused_number};
+use crate::walks::multi_count;
 use ea_mbc::Mbc;
 use ea_model::keyed::item_of;
 use ea_model::{
     Block, CarrierLine, CarrierPlan, Figures, HEADER_UNITS, Kind, List, NUMBERS, NoCarrier,
-    OutOfMemory, PAGE_UNITS, Place, Settings, Spot,
+    OutOfMemory, OwnCarrier, PAGE_UNITS, Place, Settings, Spot,
 };
-use ea_space::Region;
 use std::alloc::Global;
 use std::marker::Model;
 
-/// An allocator instance. Contracts see its settings, its number, its region, the contents that it
-/// employs by rising number, and how many carriers it created.
+/// An allocator instance. Contracts see its settings, its number, its region, the carriers that it
+/// owns and the contents that it employs, both by rising number, and how many carriers it created.
 #[derive(Drop)]
 pub struct Instance {
     settings: Settings,
     number: u32,
+    own: OwnCarriers,
     carriers: Carriers,
     created: u32,
-    region: Region,
 }
 
 impl Model for Instance {
@@ -48,9 +48,9 @@ impl Model for Instance {
 
     ghost Value = { Instance };
 
-    ghost view = { λ i. seen_as i.settings i.number i.carriers i.created i.region };
+    ghost view = { λ i. seen_as i.settings i.number i.own i.carriers i.created };
 
-    ghost invariant = { λ i. KeepsCarriers i.settings i.number i.carriers i.created i.region };
+    ghost invariant = { λ i. KeepsCarriers i.settings i.number i.own i.carriers i.created };
 }
 
 /// The pages that hold that many units.
@@ -106,42 +106,57 @@ fn main_carrier(
 }
 
 impl Instance {
-    /// An instance before its first operation: instance `number`, from 1, of at most 16, with the
-    /// region of `pages` pages from page `first` on. Where the settings ask for a main carrier, it
-    /// is created.
+    /// An instance before its first operation: instance `number` of `schedulers`, with the region of
+    /// `pages` pages from page `first` on. Where the settings ask for a main carrier, it is created.
+    /// Carriers don't migrate: `acul` is 0. It takes the memory for as many carriers as all
+    /// instances have numbers.
     pub fn new(
         alloc: Global,
         settings: Settings,
+        schedulers: u32,
         number: u32,
         first: u32,
         pages: u32,
     ) -> Result<Instance, OutOfMemory>
         requires valid { IsValid settings }
-        requires number { (1 ≤ number) × (number ≤ MAX_SCHEDULERS) }
+        requires stays { settings.acul ≡ 0 }
+        requires schedulers { schedulers ≤ MAX_SCHEDULERS }
+        requires number { (1 ≤ number) × (number ≤ schedulers) }
         requires region { first + pages ≤ MAX_PAGES }
         requires main { pages_for settings.mmbcs ≤ pages }
         ensures { IfOk result (λ i. i ≡ new_instance settings number first pages) }
     {
-        let mut region = Region::new(alloc, first, pages)?;
-        let mut carriers = Carriers::new(alloc, settings.strategy)?;
+        let mut own = OwnCarriers::new(alloc, first, pages)?;
+        let mut carriers = Carriers::new(alloc, settings.strategy, NUMBERS * schedulers)?;
         let mut created = 0;
         if settings.mmbcs > 0 {
             carriers.enter(main_carrier(alloc, settings, number, first)?)?;
-            region.take(first, pages_for(settings.mmbcs));
+            own.add(OwnCarrier {
+                number: first_number(number),
+                base: first,
+                pages: pages_for(settings.mmbcs),
+            });
             created = 1;
         }
         Ok(Instance {
             settings,
             number,
+            own,
             carriers,
             created,
-            region,
         })
+    }
+
+    /// How many carriers it created.
+    pub fn created(&self) -> u32
+        ensures { result ≡ self.now.created }
+    {
+        self.created
     }
 
     /// Whether it employs the carrier.
     pub fn employs(&self, carrier: u32) -> bool
-        ensures { result ≡ instances.is_used carrier self.now.contents }
+        ensures { result ≡ has_content carrier self.now.contents }
     {
         item_of(carrier, self.carriers.as_slice()).is_some()
     }
@@ -248,16 +263,16 @@ impl Instance {
     fn unused_number(&self) -> Option<u32>
         ensures valid { IsValid self.now.settings }
         ensures number { result ≡ unused_from NUMBERS (instances.first_number self.now.number)
-            self.now.contents }
+            self.now.own }
     {
-        unused_number(first_number(self.number), self.carriers.as_slice())
+        self.own.unused_number(first_number(self.number))
     }
 
     /// Where the lowest free run of its region with that many pages begins.
     fn free_run(&self, pages: u32) -> Option<u32>
         ensures { result ≡ instances.free_run self.now pages }
     {
-        self.region.find(pages)
+        self.own.free_run(pages)
     }
 
     /// The pages of the next carrier: as many as it would have by its turn, and no fewer than
@@ -282,7 +297,7 @@ impl Instance {
         ensures numbers { (result ≡ Err Numbers) ↔ AllUsed self.now }
         ensures space { (result ≡ Err Space)
             ↔ ((AllUsed self.now → ⊥) × All (λ r. r.pages < least_pages need)
-            (runs self.now.first self.now.end (segments self.now.contents))) }
+            (runs self.now.first self.now.end (segments self.now.own))) }
         ensures pages { IfOk result (λ p. (1 ≤ p.pages) × (PAGE_UNITS * p.pages < 2 ^ 32)) }
     {
         self.plan_for(need)
@@ -350,7 +365,11 @@ impl Instance {
     {
         let kind = Kind::Multi;
         self.carriers.enter(Employed { kind, carrier })?;
-        self.region.take(plan.base, plan.pages);
+        self.own.add(OwnCarrier {
+            number: plan.number,
+            base: plan.base,
+            pages: plan.pages,
+        });
         self.created = plan.birth;
         Ok(())
     }
@@ -376,8 +395,7 @@ impl Instance {
         ensures cleared { self.new ≡ clearing self.old number }
         ensures blocks { HaveSameBlocks self.old.contents self.new.contents }
     {
-        let carrier = self.carriers.leave(number).carrier;
-        self.region
-            .give_back(carrier.base(), carrier.units() / PAGE_UNITS);
+        self.carriers.leave(number);
+        self.own.remove(number);
     }
 }

@@ -1,4 +1,5 @@
-//! One allocator instance: the carriers that it employs and the pages of its region.
+//! One allocator instance: the carriers that it owns with the pages of its region, and those that it
+//! employs.
 #![tactic(auto)]
 
 mod binned;
@@ -8,6 +9,7 @@ mod choice;
 mod employed;
 mod figures;
 mod instance;
+mod own;
 mod released;
 mod strategies;
 mod walks;

@@ -1,8 +1,8 @@
 //! Walks over the carriers of an instance, by rising number.
-ghost use Rattle.std.specs.Prelude.{◌≡◌, ◌+◌, ◌^◌, ◌<◌, ◌≤◌, IfSome, All, length};
+ghost use Rattle.std.specs.Prelude.{◌≡◌, ◌≤◌, IfSome, All, length};
 ghost use Rattle.ea_model.specs.Choice.{first};
 ghost use Rattle.ea_model.specs.Strategies.{candidates, choice_empty, large_enough};
-ghost use Rattle.ea_model.specs.Instance.{unused_from, multis};
+ghost use Rattle.ea_model.specs.Instance.{multis};
 ghost use Rattle.ea_laws.specs.Kept.{IsLaidOut};
 ghost use Rattle.ea_instance.specs.Choices.{candidate_of, IsChoice, StandsAt};
 ghost use Rattle.ea_instance.specs.Listed.{candidate_at};
@@ -12,8 +12,7 @@ use crate::choice::Choice;
 use crate::employed::Employed;
 use crate::strategies::better_of;
 use ea_goodfit::BinnedGap;
-use ea_model::keyed::item_of;
-use ea_model::{Inner, Kind, NUMBERS};
+use ea_model::{Inner, Kind};
 
 /// The gap of at least `need` units that is taken first of all carriers.
 pub fn best_choice(inner: Inner, need: u32, carriers: &[Employed]) -> Option<Choice>
@@ -57,19 +56,6 @@ pub fn choice_at(gap: BinnedGap, carriers: &[Employed]) -> Option<Choice>
         if carrier.spans(gap.address) {
             let candidate = carrier.located(gap);
             return Some(Choice { index, candidate });
-        }
-    }
-    None
-}
-
-/// The lowest of the instance's numbers, from `first` on, that no carrier has.
-pub fn unused_number(first: u32, carriers: &[Employed]) -> Option<u32>
-    requires { first + NUMBERS < 2 ^ 32 }
-    ensures { result ≡ unused_from NUMBERS first carriers.now }
-{
-    for k in 0..NUMBERS {
-        if item_of(first + k, carriers).is_none() {
-            return Some(first + k);
         }
     }
     None

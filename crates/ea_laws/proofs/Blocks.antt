@@ -14,7 +14,7 @@ use Rattle.ea_laws.specs.Spots.{HasGap, HaveSameBlocks, IsOther, IsPlaced}
 use Rattle.ea_laws.specs.Kept.{number_of, IsLaidOut, Stands}
 use Rattle.ea_laws.proofs.Changed.{block_in-here, block_in-others, placed-keeps, released-keeps}
 use Rattle.ea_laws.proofs.Contents.{same-with}
-use Rattle.ea_laws.proofs.Keeping.{other-numbers}
+use Rattle.ea_laws.proofs.Standing.{planned-new}
 
 -- a block at the front of a gap begins where none began, and others stay
 pub placing-IsPlaced : (i : Instance) (spot : Spot) (need name : ℕ) → Stands i
@@ -79,4 +79,4 @@ releasing-gone i spot = gone_from i spot (content_of i.contents spot.carrier) re
 pub creating-same : (i : Instance) (need : ℕ) (p : CarrierPlan) → Stands i → plan i need ≡ Ok p
     → HaveSameBlocks i.contents (creating i p).contents
 creating-same i need p st asked = same-with (created_content i.number Multi p) i.contents
-    (other-numbers i need p st.kept asked) refl
+    (planned-new i need p st asked) refl

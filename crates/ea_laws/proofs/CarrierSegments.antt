@@ -1,18 +1,18 @@
 -- The segments of an instance's carriers.
-use Rattle.std.proofs.Common.{◌≡◌, ◌≢◌, ℕ, ◌+◌, ◌*◌, ◌/◌, ◌<◌, ◌≤◌, true, List, [], ◌∷◌, ◌++◌, length, All, sym, ap, ◌∙◌, subst, refl, inl, inr, ◌⊎◌, arith}
+use Rattle.std.proofs.Common.{◌≡◌, ◌≢◌, ℕ, ◌+◌, ◌<◌, ◌≤◌, true, List, [], ◌∷◌, ◌++◌, length, All, sym, ap, ◌∙◌, subst, refl, inl, inr, ◌⊎◌, arith}
 use Rattle.std.specs.Prelude.{Some, Any}
 use Rattle.std.proofs.lemmas.Bool.{cases_lt, cases_eq}
 use Rattle.std.proofs.lemmas.List.Elements.{All-nil, All-cons, All-head, All-tail}
 use Rattle.ea_model.specs.declared.carriers.Segment.{Segment}
-use Rattle.ea_model.specs.Content.{Content}
+use Rattle.ea_model.specs.declared.carriers.OwnCarrier.{OwnCarrier}
 use Rattle.ea_model.specs.Keyed.{IsBelow}
 use Rattle.ea_model.specs.Region.{stretch, with_segment, covers, cut_from, Laid, SegmentApart, AreFree, IsTailOf, IsTail}
-use Rattle.ea_model.specs.Instance.{segment_of, segments, with_content, without_content, content_of}
+use Rattle.ea_model.specs.Instance.{segment_of, segments, with_own, without_own, own_at}
 use Rattle.ea_model.proofs.Pairs.{pairs_tail}
 use Rattle.ea_model.proofs.Rising.{entered_here, entered_past, length-entered, others, without_here, without_none, without_past}
 use Rattle.ea_laws.proofs.Segments.{start_of, covers_cases, cut_past, cut_first, stretch_none, Laid-cut, any_cases, IsTail_cases, IsTail_behind}
 use Rattle.ea_laws.proofs.Tails.{any_here, any_later}
-use Rattle.ea_laws.specs.Kept.{number_of, IsRising, IsWhole, ContentsApart}
+use Rattle.ea_laws.specs.Kept.{own_number, HasPages, IsRisingOwn}
 
 entered_only : (a b : Segment) → a.base ≢ b.base → with_segment a (b ∷ []) ≡ with_segment b (a ∷ [])
 entered_only a b h = elim (cases_lt a.base b.base) [ inl p ↦ grind arith | inr q ↦ grind arith ]
@@ -40,13 +40,13 @@ entered-entered a b (t ∷ ts) h =
       ]
     ]
 
-pub length-segments : (cs : List Content) → length (segments cs) ≡ length cs
+pub length-segments : (os : List OwnCarrier) → length (segments os) ≡ length os
 length-segments [] = refl
-length-segments (c ∷ cs) = length-entered start_of (segment_of c) (segments cs)
-    ∙ ap (λ n. n + 1) (length-segments cs) ∙ omega arith
+length-segments (o ∷ os) = length-entered start_of (segment_of o) (segments os)
+    ∙ ap (λ n. n + 1) (length-segments os) ∙ omega arith
 
 -- what holds of all segments holds of the one that was entered and of the others
-all_entered : (P : Segment → Type 0) (s : Segment) (ts : List Segment) → All P (with_segment s ts)
+pub all_entered : (P : Segment → Type 0) (s : Segment) (ts : List Segment) → All P (with_segment s ts)
     → P s × All P ts
 all_entered P s [] h = (All-head P s [] h, All-nil P)
 all_entered P s (t ∷ ts) h =
@@ -59,43 +59,26 @@ all_entered P s (t ∷ ts) h =
           (more.0, All-cons P t ts (All-head P t (with_segment s ts) k) more.1)
     ]
 
-apart_from : (x c : Content) (pages : ℕ) → x.units ≡ 512 * pages → IsWhole c
-    → SegmentApart x.base pages (segment_of c) → ContentsApart x c
-apart_from x c pages size whole beside =
-    elim beside [ inl p ↦ inr (omega (arith, whole.0)) | inr q ↦ inl (omega (arith, size)) ]
-
--- a carrier that meets no taken segment meets no other carrier
-pub apart-contents : (x : Content) (pages : ℕ) (cs : List Content) → x.units ≡ 512 * pages
-    → All IsWhole cs → AreFree x.base pages (segments cs) → All (ContentsApart x) cs
-apart-contents x pages [] size whole apart = All-nil (ContentsApart x)
-apart-contents x pages (c ∷ cs) size whole apart =
-    let both = all_entered (SegmentApart x.base pages) (segment_of c) (segments cs) apart in
-    All-cons (ContentsApart x) c cs
-    (apart_from x c pages size (All-head IsWhole c cs whole) both.0)
-    (apart-contents x pages cs size (All-tail IsWhole c cs whole) both.1)
-
-other_base : (x c : Content) → 1 ≤ x.units → IsWhole c → ContentsApart x c → c.base ≢ x.base
-other_base x c some whole apart = elim apart [
-  | inl p ↦ λ e. omega (arith, some)
-  | inr q ↦ λ e. omega
-      (arith, whole.1)
-]
+other_base : (x o : OwnCarrier) → HasPages x → HasPages o → SegmentApart x.base x.pages (segment_of o)
+    → o.base ≢ x.base
+other_base x o some pages apart =
+    elim apart [ inl p ↦ λ e. omega (arith, pages) | inr q ↦ λ e. omega (arith, some) ]
 
 -- one more carrier is one more segment
-pub segments-with_content : (x : Content) (cs : List Content) → 1 ≤ x.units → All IsWhole cs
-    → All (ContentsApart x) cs → segments (with_content x cs) ≡ with_segment (segment_of x)
-    (segments cs)
-segments-with_content x [] some whole apart = refl
-segments-with_content x (c ∷ cs) some whole apart =
-    elim (cases_lt x.number c.number) [
-      | inl p ↦ ap segments (entered_here number_of x c cs p)
-      | inr q ↦ ap segments (entered_past number_of x c cs q)
-          ∙ ap (with_segment (segment_of c))
-          (segments-with_content x cs some (All-tail IsWhole c cs whole)
-          (All-tail (ContentsApart x) c cs apart))
-          ∙ entered-entered (segment_of c) (segment_of x) (segments cs)
-          (other_base x c some (All-head IsWhole c cs whole)
-          (All-head (ContentsApart x) c cs apart))
+pub segments-with_own : (x : OwnCarrier) (os : List OwnCarrier) → HasPages x → All HasPages os
+    → AreFree x.base x.pages (segments os)
+    → segments (with_own x os) ≡ with_segment (segment_of x) (segments os)
+segments-with_own x [] some pages apart = refl
+segments-with_own x (o ∷ os) some pages apart =
+    elim (cases_lt x.number o.number) [
+      | inl p ↦ ap segments (entered_here own_number x o os p)
+      | inr q ↦
+          let both = all_entered (SegmentApart x.base x.pages) (segment_of o) (segments os) apart in
+          ap segments (entered_past own_number x o os q)
+          ∙ ap (with_segment (segment_of o))
+          (segments-with_own x os some (All-tail HasPages o os pages) both.1)
+          ∙ entered-entered (segment_of o) (segment_of x) (segments os)
+          (other_base x o some (All-head HasPages o os pages) both.0)
     ]
 
 any_entered : (P : Segment → Type 0) (s : Segment) (ts : List Segment) → P s
@@ -121,27 +104,27 @@ any_among P s (t ∷ ts) h =
           ])
     ]
 
--- the content of a number is the first one, or it is among the others
-content_cases : (number : ℕ) (c x : Content) (xs : List Content)
-    → content_of (x ∷ xs) number ≡ Some c → ((x.number ≡ number) × (x ≡ c))
-    ⊎ ((x.number ≢ number) × (content_of xs number ≡ Some c))
-content_cases number c x xs h = elim (cases_eq x.number number)
+-- the carrier of a number is the first one, or it is among the others
+own_cases : (number : ℕ) (o x : OwnCarrier) (xs : List OwnCarrier)
+    → own_at (x ∷ xs) number ≡ Some o → ((x.number ≡ number) × (x ≡ o))
+    ⊎ ((x.number ≢ number) × (own_at xs number ≡ Some o))
+own_cases number o x xs h = elim (cases_eq x.number number)
     [ inl e ↦ inl (e, grind arith) | inr n ↦ inr (n, grind arith) ]
 
 -- a carrier's segment is one of the taken ones
-pub content_of-IsTail : (number : ℕ) (c : Content) (cs : List Content)
-    → content_of cs number ≡ Some c → All IsWhole cs → IsTail c.base (c.units / 512) (segments cs)
-content_of-IsTail number c [] there whole = absurd (grind arith)
-content_of-IsTail number c (x ∷ xs) there whole =
-    let is_tail : Segment → Type 0 = IsTailOf c.base (c.units / 512) in
-    elim (content_cases number c x xs there) [
+pub own_at-IsTail : (number : ℕ) (o : OwnCarrier) (os : List OwnCarrier)
+    → own_at os number ≡ Some o → All HasPages os → IsTail o.base o.pages (segments os)
+own_at-IsTail number o [] there pages = absurd (grind arith)
+own_at-IsTail number o (x ∷ xs) there pages =
+    let is_tail : Segment → Type 0 = IsTailOf o.base o.pages in
+    elim (own_cases number o x xs there) [
       | inl p ↦
-          let here : IsWhole c = subst IsWhole p.1 (All-head IsWhole x xs whole) in
+          let here : HasPages o = subst HasPages p.1 (All-head HasPages x xs pages) in
           any_entered is_tail (segment_of x) (segments xs)
           (subst (λ y. is_tail (segment_of y)) (sym p.1)
-          (record { within = omega arith; some = here.1; to_end = refl }))
+          (record { within = omega arith; some = here; to_end = refl }))
       | inr q ↦ any_among is_tail (segment_of x) (segments xs)
-          (content_of-IsTail number c xs q.1 (All-tail IsWhole x xs whole))
+          (own_at-IsTail number o xs q.1 (All-tail HasPages x xs pages))
     ]
 
 -- of segments laid with one more, that one begins after the beginning and has pages, and the
@@ -243,26 +226,26 @@ cut_other at end page pages s (r ∷ rs) t h =
     ]
 
 -- one carrier less is its segment less
-pub segments-without : (first end number : ℕ) (c : Content) (cs : List Content)
-    → Laid first end (segments cs) → All IsWhole cs → IsRising cs → content_of cs number ≡ Some c
-    → segments (without_content number cs) ≡ cut_from c.base (segments cs)
-segments-without first end number c [] laid whole rising there = absurd (grind arith)
-segments-without first end number c (x ∷ xs) laid whole rising there =
-    elim (content_cases number c x xs there) [
+pub segments-without : (first end number : ℕ) (o : OwnCarrier) (os : List OwnCarrier)
+    → Laid first end (segments os) → All HasPages os → IsRisingOwn os → own_at os number ≡ Some o
+    → segments (without_own number os) ≡ cut_from o.base (segments os)
+segments-without first end number o [] laid pages rising there = absurd (grind arith)
+segments-without first end number o (x ∷ xs) laid pages rising there =
+    elim (own_cases number o x xs there) [
       | inl p ↦
-          let cut : cut_from c.base (segments (x ∷ xs)) ≡ segments xs = subst
+          let cut : cut_from o.base (segments (x ∷ xs)) ≡ segments xs = subst
           (λ y. cut_from y.base (segments (x ∷ xs)) ≡ segments xs) p.1
           (cut_entered first end (segment_of x) (segments xs) laid) in
-          ap segments (without_here number_of number x xs p.0
-          ∙ without_none number_of number xs (others number_of number x xs rising p.0))
+          ap segments (without_here own_number number x xs p.0
+          ∙ without_none own_number number xs (others own_number number x xs rising p.0))
           ∙ sym cut
       | inr q ↦
-          let rest = All-tail IsWhole x xs whole in
-          ap segments (without_past number_of number x xs q.0)
+          let rest = All-tail HasPages x xs pages in
+          ap segments (without_past own_number number x xs q.0)
           ∙ ap (with_segment (segment_of x))
-          (segments-without first end number c xs
+          (segments-without first end number o xs
           (laid_entered first end (segment_of x) (segments xs) laid).2 rest
-          (pairs_tail (IsBelow number_of) x xs rising) q.1)
-          ∙ sym (cut_other first end c.base (c.units / 512) (segment_of x) (segments xs) laid
-          (content_of-IsTail number c xs q.1 rest))
+          (pairs_tail (IsBelow own_number) x xs rising) q.1)
+          ∙ sym (cut_other first end o.base o.pages (segment_of x) (segments xs) laid
+          (own_at-IsTail number o xs q.1 rest))
     ]

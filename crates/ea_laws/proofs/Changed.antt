@@ -1,15 +1,13 @@
 -- A change of one content that keeps its number, base and units.
-use Rattle.std.proofs.Common.{◌≡◌, ◌≢◌, ℕ, ◌/◌, ◌%◌, ◌<◌, ◌≤◌, List, [], ◌∷◌, All, sym, ap, ◌∙◌, subst, refl, inl, inr}
-use Rattle.std.specs.Prelude.{Some, ◌==◌, if◌then◌else◌}
+use Rattle.std.proofs.Common.{◌≡◌, ◌≢◌, ℕ, List, sym, ap, ◌∙◌, refl, inl, inr}
+use Rattle.std.specs.Prelude.{Some}
 use Rattle.std.specs.Option.{option_and_then}
-use Rattle.std.proofs.lemmas.Bool.{cond_both, cases_eq}
-use Rattle.std.proofs.lemmas.List.Elements.{All-map, All-weaker}
+use Rattle.std.proofs.lemmas.Bool.{cases_eq}
 use Rattle.ea_model.specs.declared.carriers.Spot.{Spot}
-use Rattle.ea_model.specs.Region.{with_segment}
 use Rattle.ea_model.specs.Content.{Content, block_at, placed, released}
-use Rattle.ea_model.specs.Instance.{segment_of, segments, content_of, changed, block_in}
+use Rattle.ea_model.specs.Instance.{content_of, changed, block_in}
 use Rattle.ea_model.proofs.Rising.{changed-found, changed-other}
-use Rattle.ea_laws.specs.Kept.{number_of, HasNumberIn, IsWhole}
+use Rattle.ea_laws.specs.Kept.{number_of}
 use Rattle.ea_laws.specs.Spots.{IsOther}
 
 pub record KeepsPlace (f : Content → Content) : Type 0 where
@@ -39,34 +37,6 @@ released-keeps offset = record {
 }
 
 module _ (f : Content → Content) (k : KeepsPlace f) (n : ℕ) where
-  abbrev change : Content → Content
-  change c = if c.number == n then f c else c
-
-  -- what holds of each content holds of each one after the change, if the change keeps it
-  pub All-changed : (P : Content → Type 0) → ((c : Content) → P c → P (f c)) → (cs : List Content)
-      → All P cs → All P (changed f n cs)
-  All-changed P keeps cs a = All-map P change cs
-      (All-weaker P (λ c. P (change c)) (λ c p. cond_both (c.number == n) (f c) c P (λ _. keeps c p)
-      (λ _. p)) cs a)
-
-  pub whole-changed : (cs : List Content) → All IsWhole cs → All IsWhole (changed f n cs)
-  whole-changed cs a = All-changed IsWhole
-      (λ c w. subst (λ u. (u % 512 ≡ 0) × (1 ≤ u / 512)) (sym (k.units c)) w) cs a
-
-  pub own-changed : (low high : ℕ) (cs : List Content) → All (HasNumberIn low high) cs
-      → All (HasNumberIn low high) (changed f n cs)
-  own-changed low high cs a = All-changed (HasNumberIn low high)
-      (λ c h. subst (λ m. (low ≤ m) × (m < high)) (sym (k.number c)) h) cs a
-
-  one-segment : (c : Content) → segment_of (change c) ≡ segment_of c
-  one-segment c = cond_both (c.number == n) (f c) c (λ x. segment_of x ≡ segment_of c)
-      (λ _. (let b = k.base c in let u = k.units c in cc)) (λ _. refl)
-
-  pub segments-changed : (cs : List Content) → segments (changed f n cs) ≡ segments cs
-  segments-changed [] = refl
-  segments-changed (c ∷ cs) = ap (λ s. with_segment s (segments (changed f n cs))) (one-segment c)
-      ∙ ap (with_segment (segment_of c)) (segments-changed cs)
-
   -- the block at a spot of the changed content
   pub block_in-here : (cs : List Content) (c : Content) (spot : Spot) → content_of cs n ≡ Some c
       → spot.carrier ≡ n → block_in (changed f n cs) spot ≡ block_at (f c).blocks spot.offset

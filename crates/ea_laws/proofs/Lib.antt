@@ -13,6 +13,7 @@ pub mod Held
 pub mod Inspected
 pub mod Keeping
 pub mod Orders
+pub mod Owned
 pub mod Placements
 pub mod Ranges
 pub mod Refusals

@@ -58,7 +58,7 @@ module _ (i : Instance) (need : ℕ) (st : Stands i) (x : Candidate)
     (chosen : choice_for i.settings need i.contents ≡ Some x) where
   owned : IsOwnGap need i.contents x
   owned = some_holds (choice_for i.settings need i.contents) x (IsOwnGap need i.contents) chosen
-      (chosen-owned need i.contents st.kept.rising st.sound i.settings)
+      (chosen-owned need i.contents st.rising st.sound i.settings)
 
   sized : (place_at i (spot_of x) need).size ≡ taken_of x.size need
   sized = ap (λ o. size_for o x.offset need) owned.0.1 ∙ ap (λ g. taken_of g need) owned.0.2

@@ -4,6 +4,7 @@ use Rattle.std.specs.Prelude.{Bool, Option, Some, None, IsNone, Err, option_map}
 use Rattle.std.proofs.lemmas.Bool.{cases_Bool, cases_eq}
 use Rattle.std.proofs.lemmas.List.Elements.{All-nil, All-cons, All-head, All-tail}
 use Rattle.ea_model.specs.declared.carriers.Candidate.{Candidate}
+use Rattle.ea_model.specs.declared.carriers.OwnCarrier.{OwnCarrier}
 use Rattle.ea_model.specs.declared.carriers.Segment.{Segment}
 use Rattle.ea_model.specs.declared.carriers.Spot.{Spot}
 use Rattle.ea_model.specs.declared.settings.Settings.{Settings}
@@ -101,25 +102,25 @@ module _ {B : Type 0} (f : Spot → B) (i : Instance) (need : ℕ) where
   )
 
 -- all of that many numbers are in use exactly where none is found
-all_used : (k low : ℕ) (cs : List Content) → unused_from k low cs ≡ None → (n : ℕ) → low ≤ n
-    → n < low + k → is_used n cs ≡ true
-all_used zero low cs e n from below = absurd (omega arith)
-all_used (suc k) low cs e n from below =
-    elim (cases_Bool (is_used low cs)) [
+all_used : (k low : ℕ) (os : List OwnCarrier) → unused_from k low os ≡ None → (n : ℕ) → low ≤ n
+    → n < low + k → is_used n os ≡ true
+all_used zero low os e n from below = absurd (omega arith)
+all_used (suc k) low os e n from below =
+    elim (cases_Bool (is_used low os)) [
       | inl used ↦ elim (cases_eq n low) [
-        | inl same ↦ ap (λ m. is_used m cs) same ∙ used
-        | inr other ↦ all_used k (low + 1) cs (sym (unused_from-used k low cs used) ∙ e) n
+        | inl same ↦ ap (λ m. is_used m os) same ∙ used
+        | inr other ↦ all_used k (low + 1) os (sym (unused_from-used k low os used) ∙ e) n
             (omega arith) (omega arith)
       ]
-      | inr free ↦ let never : Some low ≡ None = sym (unused_from-free_here k low cs free)
+      | inr free ↦ let never : Some low ≡ None = sym (unused_from-free_here k low os free)
           ∙ e in absurd cc
     ]
 
-none_unused : (k low : ℕ) (cs : List Content)
-    → ((n : ℕ) → low ≤ n → n < low + k → is_used n cs ≡ true) → unused_from k low cs ≡ None
-none_unused zero low cs h = unused_from-zero low cs
-none_unused (suc k) low cs h = unused_from-used k low cs (h low (omega arith) (omega arith))
-    ∙ none_unused k (low + 1) cs (λ n from below. h n (omega arith) (omega arith))
+none_unused : (k low : ℕ) (os : List OwnCarrier)
+    → ((n : ℕ) → low ≤ n → n < low + k → is_used n os ≡ true) → unused_from k low os ≡ None
+none_unused zero low os h = unused_from-zero low os
+none_unused (suc k) low os h = unused_from-used k low os (h low (omega arith) (omega arith))
+    ∙ none_unused k (low + 1) os (λ n from below. h n (omega arith) (omega arith))
 
 not_numbers_least : (i : Instance) (need number : ℕ) (o : Option ℕ)
     → least_plan i need number o ≢ Err Numbers
@@ -140,9 +141,9 @@ numbered i need (Some number) e = absurd
 -- the numbers are the cause exactly where all are in use
 pub plan-numbers : (i : Instance) (need : ℕ) → (plan i need ≡ Err Numbers) ↔ AllUsed i
 plan-numbers i need = (
-  λ e. all_used 256 (first_number i.number) i.contents
-      (numbered i need (unused_from 256 (first_number i.number) i.contents) e),
-  λ h. ap (numbered_plan i need) (none_unused 256 (first_number i.number) i.contents h),
+  λ e. all_used 256 (first_number i.number) i.own
+      (numbered i need (unused_from 256 (first_number i.number) i.own) e),
+  λ h. ap (numbered_plan i need) (none_unused 256 (first_number i.number) i.own h),
 )
 
 no_room : (i : Instance) (need number : ℕ) (o : Option ℕ) → least_plan i need number o ≡ Err Space
@@ -184,15 +185,15 @@ unplanned i need (Some number) some next least = ap (sized_plan i need number) n
 -- the space is the cause exactly where a number is not in use, and no run holds the least carrier
 pub plan-space : (i : Instance) (need : ℕ)
     → (plan i need ≡ Err Space) ↔ ((AllUsed i → ⊥)
-    × All (λ r. r.pages < least_pages need) (runs i.first i.end (segments i.contents)))
+    × All (λ r. r.pages < least_pages need) (runs i.first i.end (segments i.own)))
 plan-space i need =
-    let rs : List Segment = runs i.first i.end (segments i.contents) in (
-      λ e. let both = spaced i need (unused_from 256 (first_number i.number) i.contents) e in (
-        λ all. both.0 (none_unused 256 (first_number i.number) i.contents all),
+    let rs : List Segment = runs i.first i.end (segments i.own) in (
+      λ e. let both = spaced i need (unused_from 256 (first_number i.number) i.own) e in (
+        λ all. both.0 (none_unused 256 (first_number i.number) i.own all),
         (lowest-none (least_pages need) rs).0 both.1,
       ),
-      λ h. unplanned i need (unused_from 256 (first_number i.number) i.contents)
-          (λ none. h.0 (all_used 256 (first_number i.number) i.contents none))
+      λ h. unplanned i need (unused_from 256 (first_number i.number) i.own)
+          (λ none. h.0 (all_used 256 (first_number i.number) i.own none))
           (is_none (free_run i (next_pages i need))
           ((lowest-none (next_pages i need) rs).1
           (All-more (least_pages need) (next_pages i need) rs (omega arith) h.1)))

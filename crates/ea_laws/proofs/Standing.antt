@@ -1,8 +1,9 @@
 -- What holds of an instance at every moment.
-use Rattle.std.proofs.Common.{◌≡◌, ℕ, ◌+◌, ◌%◌, ◌<◌, ◌≤◌, Bool, true, false, List, [], ◌∷◌, filter, length, sym, ap, ◌∙◌, subst, refl, inl, inr, arith}
+use Rattle.std.proofs.Common.{◌≡◌, ℕ, ◌+◌, ◌%◌, ◌<◌, ◌≤◌, Bool, true, false, List, [], ◌∷◌, filter, length, map, sym, ap, ◌∙◌, subst, refl, inl, inr, arith}
 use Rattle.std.specs.Prelude.{Option, Some, None, Ok, IfSome, All, Contains, nat_lt, option_map}
 use Rattle.std.proofs.lemmas.Bool.{cases_lt, cond-true, cond-false}
-use Rattle.std.proofs.lemmas.List.Elements.{All-nil, All-cons, All-filter, All-contains_itself}
+use Rattle.std.proofs.lemmas.List.{length-map}
+use Rattle.std.proofs.lemmas.List.Elements.{All-nil, All-cons, All-filter, All-contains_itself, All-weaker}
 use Rattle.std.proofs.lemmas.List.Kept.{AllPairs-cons, AllPairs-filter}
 use Rattle.ea_model.specs.declared.settings.Settings.{Settings}
 use Rattle.ea_model.specs.declared.units.TheConstants.{MAX_PAGES, MAX_SCHEDULERS}
@@ -15,20 +16,23 @@ use Rattle.ea_model.specs.declared.carriers.Spot.{Spot}
 use Rattle.ea_model.specs.Content.{Content, gap_at, gaps_of, is_empty_multi, placed, released, taken_of}
 use Rattle.ea_model.specs.Choice.{first}
 use Rattle.ea_model.specs.Keyed.{IsBelow}
+use Rattle.ea_model.specs.Region.{AreFree}
 use Rattle.ea_model.specs.Settings.{IsValid}
 use Rattle.ea_model.specs.Units.{pages_for}
 use Rattle.ea_model.specs.Strategies.{candidates, choice_among, choice_for, choice_empty, large_enough, inspected_by, lower, may_miss, or_else, spot_of, takes_first}
-use Rattle.ea_model.specs.Instance.{Instance, changed, chosen_spot, clearing, content_of, created_content, creating, first_number, main_content, new_instance, placing_at, plan, releasing_at}
+use Rattle.ea_model.specs.Instance.{Instance, changed, chosen_spot, clearing, content_of, created_content, creating, first_number, has_content, is_used, main_content, new_instance, own_at, own_of, placing_at, plan, releasing_at, segments, with_own, without_own}
 use Rattle.ea_model.proofs.First.{first-All}
 use Rattle.ea_model.proofs.Options.{if_some, some_holds, some_map}
 use Rattle.ea_model.proofs.Pairs.{pairs_nil}
-use Rattle.ea_model.proofs.Rising.{All-entered, changed_none, item_at-All, item_at-each, item_at-key, none-other}
+use Rattle.ea_model.proofs.Rising.{All-entered, changed_none, item_at-All, item_at-each, item_at-key, none-other, rising-changed, rising-entered}
 use Rattle.ea_laws.proofs.BlockLists.{gap_at-whole, taken_of-enters, Tiled-inserted, Tiled-released}
 use Rattle.ea_laws.specs.Spots.{HasGap}
 use Rattle.ea_laws.specs.InOrder.{IsInOrder}
-use Rattle.ea_laws.specs.Kept.{number_of, HasNumberIn, IsRising, IsWhole, ContentsApart, IsLaidOut, Stands}
+use Rattle.ea_laws.specs.Kept.{number_of, own_number, HasNumberIn, HasPages, IsRising, IsWhole, ContentsApart, IsLaidOut, Stands}
 use Rattle.ea_laws.proofs.Changed.{KeepsPlace, placed-keeps, released-keeps}
-use Rattle.ea_laws.proofs.Keeping.{IsKept-changed, IsKept-cleared, IsKept-made, IsLaidOut-made, others-apart, pages_of_units, whole_pages}
+use Rattle.ea_laws.proofs.Contents.{absent-All}
+use Rattle.ea_laws.proofs.Keeping.{IsKept-cleared, IsKept-made, IsLaidOut-made, has-number, other-numbers, own_of-made, pages_of_units, planned-free, whole_pages}
+use Rattle.ea_laws.proofs.Owned.{apart-contents, own-changed, own-found, own-with, own-without, unused-content}
 use Rattle.ea_laws.proofs.Apart.{all-sound, apart-changed, apart-with}
 use Rattle.ea_laws.proofs.Candidates.{candidate-IsOwned, IsOwned, IsLarge, large_among}
 use Rattle.ea_laws.proofs.Inspected.{inspected_by-among}
@@ -40,7 +44,8 @@ Stands-IsInOrder i st = record {
   disjoint = blocks-disjoint i.contents st.sound st.apart;
   tiled = λ k d within. (st.sound k d within).tiled;
   laid = st.kept.laid;
-  numbers = st.kept.rising;
+  numbers = st.rising;
+  own = st.agrees;
   sum = all-units i.contents st.sound;
 }
 
@@ -49,8 +54,10 @@ changed-Stands : (f : Content → Content) → KeepsPlace f → (n : ℕ) (item 
     → Stands i → content_of i.contents n ≡ Some item → IsLaidOut (f item)
     → Stands (record i { contents = changed f n i.contents })
 changed-Stands f keeps n item i st there sound = record {
-  kept = IsKept-changed f keeps i.settings i.number n i.first i.end i.contents st.kept;
-  sound = all-sound f keeps n item i.contents there st.kept.rising st.sound sound;
+  kept = st.kept;
+  agrees = st.agrees ∙ sym (own-changed f keeps n i.contents);
+  rising = rising-changed number_of f n keeps.number i.contents st.rising;
+  sound = all-sound f keeps n item i.contents there st.rising st.sound sound;
   apart = apart-changed f keeps n item i.contents st.apart;
 }
 
@@ -61,6 +68,7 @@ placed-IsLaidOut c offset need name s fits least even =
     let g = gap_at (gaps_of c) offset in
     let x : BlockAt = record { name = name; offset = offset; size = taken_of g need } in
     record {
+      whole = s.whole;
       shared = s.shared;
       tiled = Tiled-inserted 8 c.units x c.blocks s.tiled
           (taken_of-enters x g need fits least even (gap_at-whole 8 c.units offset c.blocks s.tiled)
@@ -82,6 +90,7 @@ placing-Stands i spot need name st gap least even =
 pub released-IsLaidOut : (c : Content) (offset : ℕ) → IsLaidOut c → IsLaidOut (released c offset)
 released-IsLaidOut c offset s =
     record {
+      whole = s.whole;
       shared = s.shared;
       tiled = Tiled-released 8 c.units offset c.blocks s.tiled;
       low = s.low;
@@ -103,26 +112,63 @@ releasing_from i spot (Some item) e st =
 pub releasing-Stands : (i : Instance) (spot : Spot) → Stands i → Stands (releasing_at i spot)
 releasing-Stands i spot st = releasing_from i spot (content_of i.contents spot.carrier) refl st
 
+-- the instance owns the carrier that it employs
+pub employed-own : (i : Instance) (number : ℕ) (c : Content) → Stands i
+    → content_of i.contents number ≡ Some c → own_at i.own number ≡ Some (own_of c)
+employed-own i number c st there = ap (λ os. own_at os number) st.agrees
+    ∙ own-found number i.contents ∙ ap (option_map own_of) there
+
 -- a carrier goes
 pub clearing-Stands : (i : Instance) (number : ℕ) (c : Content) → Stands i
     → content_of i.contents number ≡ Some c → Stands (clearing i number)
 clearing-Stands i number c st there = record {
-  kept = IsKept-cleared i.settings i.number number i.first i.end c i.contents st.kept there;
+  kept = IsKept-cleared i.settings i.number number i.first i.end (own_of c) i.own st.kept
+      (employed-own i number c st there);
+  agrees = ap (without_own number) st.agrees ∙ own-without number i.contents;
+  rising = AllPairs-filter (IsBelow number_of) _ i.contents st.rising;
   sound = All-filter _ IsLaidOut i.contents st.sound;
   apart = AllPairs-filter ContentsApart _ i.contents st.apart;
 }
 
--- a planned carrier comes
-pub creating-Stands : (i : Instance) (need : ℕ) (p : CarrierPlan) → Stands i → plan i need ≡ Ok p
-    → Stands (creating i p)
-creating-Stands i need p st asked =
-    let x : Content = created_content i.number Multi p in
-    record {
-      kept = IsKept-made i need p st.kept asked;
-      sound = All-entered number_of IsLaidOut x i.contents (IsLaidOut-made i need p st.kept asked)
-          st.sound;
-      apart = apart-with x i.contents st.apart (others-apart i need p st.kept asked);
-    }
+-- the carrier of a plan is none that is employed, and meets none
+module _ (i : Instance) (need : ℕ) (p : CarrierPlan) (st : Stands i) (asked : plan i need ≡ Ok p)
+  where
+    pub planned-new : has_content p.number i.contents ≡ false
+    planned-new = unused-content p.number i.contents
+        (subst (λ os. is_used p.number os ≡ false) st.agrees
+        (other-numbers i need p st.kept asked))
+
+    pub planned-apart : All (ContentsApart (created_content i.number Multi p)) i.contents
+    planned-apart =
+        apart-contents (created_content i.number Multi p) p.pages i.contents refl
+        (All-weaker IsLaidOut IsWhole (λ c laid. laid.whole) i.contents st.sound)
+        (subst (λ os. AreFree p.base p.pages (segments os)) st.agrees
+        (planned-free i need p st.kept asked))
+
+    -- there are fewer carriers than numbers
+    pub employed-few : length i.contents < 256
+    employed-few = omega (
+      arith,
+      has-number i need p st.kept asked,
+      ap length st.agrees,
+      length-map i.contents own_of,
+    )
+
+    -- a planned carrier comes
+    pub creating-Stands : Stands (creating i p)
+    creating-Stands =
+        let x : Content = created_content i.number Multi p in
+        record {
+          kept = IsKept-made i need p st.kept asked;
+          agrees =
+              ap (λ o. with_own o i.own) (sym (own_of-made i need p st.kept asked))
+              ∙ ap (with_own (own_of x)) st.agrees ∙ own-with x i.contents;
+          rising = rising-entered number_of x i.contents st.rising
+              (absent-All p.number i.contents planned-new);
+          sound = All-entered number_of IsLaidOut x i.contents
+              (IsLaidOut-made i need p st.kept asked) st.sound;
+          apart = apart-with x i.contents st.apart planned-apart;
+        }
 
 -- the candidate is a gap of at least `need` units, in the carrier of its number
 abbrev pub IsOwnGap : ℕ → List Content → Candidate → Type 0
@@ -185,7 +231,7 @@ chosen_spot-HasGap i need spot st is =
     let o = choice_for i.settings need i.contents in
     let gap = if_some o (IsOwnGap need i.contents) (λ x. has (spot_of x))
     (λ x own. (own.0.0, own.0.1, omega (arith, own.0.2, own.1)))
-    (chosen-owned need i.contents st.kept.rising st.sound i.settings) in
+    (chosen-owned need i.contents st.rising st.sound i.settings) in
     some_holds (option_map spot_of o) spot has is (some_map spot_of has o gap)
 
 -- a block is placed there
@@ -203,20 +249,22 @@ new_without : (s : Settings) (number first pages : ℕ) → IsValid s
       number = number;
       first = first;
       end = first + pages;
-      contents =
-          [];
+      own = [];
+      contents = [];
       created = 0;
     })
 new_without s number first pages valid own within = record {
   kept = record {
     valid = valid;
     instance = own;
-    rising = pairs_nil (IsBelow number_of);
-    own = All-nil (HasNumberIn (first_number number) (first_number number + 256));
-    whole = All-nil IsWhole;
+    rising = pairs_nil (IsBelow own_number);
+    numbers = All-nil (HasNumberIn (first_number number) (first_number number + 256));
+    pages = All-nil HasPages;
     within = within;
     laid = omega arith;
   };
+  agrees = refl;
+  rising = pairs_nil (IsBelow number_of);
   sound = All-nil IsLaidOut;
   apart = pairs_nil ContentsApart;
 }
@@ -229,12 +277,13 @@ new_with : (s : Settings) (number first pages : ℕ) → IsValid s
       number = number;
       first = first;
       end = first + pages;
-      contents =
-          main_content s number first ∷ [];
+      own = map own_of (main_content s number first ∷ []);
+      contents = main_content s number first ∷ [];
       created = 1;
     })
 new_with s number first pages valid own within main some =
     let m = main_content s number first in
+    let o = own_of m in
     let n : ℕ = pages_for s.mmbcs in
     let one : 1 ≤ n = omega arith in
     let same = pages_of_units n in
@@ -242,24 +291,27 @@ new_with s number first pages valid own within main some =
       kept = record {
         valid = valid;
         instance = own;
-        rising = AllPairs-cons (IsBelow number_of) m [] (All-nil (IsBelow number_of m))
-            (pairs_nil (IsBelow number_of));
-        own = All-cons (HasNumberIn (first_number number) (first_number number + 256)) m []
+        rising = AllPairs-cons (IsBelow own_number) o [] (All-nil (IsBelow own_number o))
+            (pairs_nil (IsBelow own_number));
+        numbers = All-cons (HasNumberIn (first_number number) (first_number number + 256)) o []
             (omega arith, omega arith)
             (All-nil (HasNumberIn (first_number number) (first_number number + 256)));
-        whole = All-cons IsWhole m [] (whole_pages n, omega (arith, one, same)) (All-nil IsWhole);
+        pages = All-cons HasPages o [] (omega (arith, one, same)) (All-nil HasPages);
         within = within;
         laid = (omega arith, omega (arith, one, same), omega (arith, main, same));
       };
+      agrees = refl;
+      rising = AllPairs-cons (IsBelow number_of) m [] (All-nil (IsBelow number_of m))
+          (pairs_nil (IsBelow number_of));
       sound = All-cons IsLaidOut m []
           (record {
+            whole = (whole_pages n, omega (arith, one, same));
             shared = refl;
             tiled = (
               omega (arith, one),
               record { even = omega arith; whole = λ _. omega (arith, one) },
             );
-            low = omega
-                (arith, main, within);
+            low = omega (arith, main, within);
           }) (All-nil IsLaidOut);
       apart = AllPairs-cons ContentsApart m [] (All-nil (ContentsApart m))
           (pairs_nil ContentsApart);
@@ -277,6 +329,7 @@ new-Stands s number first pages valid own within main =
       number = number;
       first = first;
       end = first + pages;
+      own = map own_of cs;
       contents = cs;
       created = length cs;
     }) in

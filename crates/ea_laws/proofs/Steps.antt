@@ -1,6 +1,5 @@
--- What one operation does, by its cases; that the instance stands after it, and that it keeps its
--- settings and its number.
-use Rattle.std.proofs.Common.{◌≡◌, ℕ, ◌+◌, ◌/◌, ◌%◌, ◌≤◌, List, [], ◌∷◌, ◌++◌, sym, ap, ◌∙◌, subst, refl, inl, inr, ◌⊎◌, arith}
+-- What one operation does, by its cases; that the instance stands after it, and keeps its settings.
+use Rattle.std.proofs.Common.{◌≡◌, ℕ, ◌+◌, ◌/◌, ◌%◌, ◌≤◌, [], ◌∷◌, ◌++◌, sym, ap, ◌∙◌, subst, refl, inl, inr, ◌⊎◌, arith}
 use Rattle.std.specs.Prelude.{Option, Some, None, Result, Ok, Err, max}
 use Rattle.std.specs.Option.{option_and_then}
 use Rattle.std.proofs.lemmas.Bool.{cases_Bool, cond_both, cond-false, cond-true}
@@ -14,7 +13,7 @@ use Rattle.ea_model.specs.Content.{Content, is_empty_multi}
 use Rattle.ea_model.specs.Instance.{Instance, chosen_spot, clearing, content_of, creating, plan, releasing_at}
 use Rattle.ea_model.specs.Units.{even, need_of}
 use Rattle.ea_laws.specs.Kept.{Stands}
-use Rattle.ea_laws.specs.Run.{IsBuiltOp, Run, allocating, doing, freeing, idling, in_new_carrier, is_built, spot_held, step, steps, tidied, with_block, with_carrier}
+use Rattle.ea_laws.specs.Run.{IsBuiltOp, Run, allocating, doing, freeing, idling, in_new_carrier, is_built, spot_held, step, tidied, with_block, with_carrier}
 use Rattle.ea_laws.proofs.Standing.{chosen-Stands, clearing-Stands, creating-Stands, releasing-Stands}
 
 pub need-least : (bytes : ℕ) → 6 ≤ need_of bytes
@@ -164,72 +163,39 @@ step-Stands r (op.Take name tries) s e st = unbuilt s e
 step-Stands r op.Info s e st = unbuilt s e
 step-Stands r op.Idle s e st = subst (λ (t : Run). Stands t.instance) (sym (idle-is r s e)) st
 
--- what is the same whatever the carriers are: the settings, the number, the region
-module _ {A : Type 0} (of : Instance → A)
-    (keeps : (i : Instance) (cs : List Content) (n : ℕ)
-    → of (record i { contents = cs; created = n }) ≡ of i) where
-  places-same : (r : Run) (name need : ℕ) (s : Run) (i : Instance) → of i ≡ of r.instance
-      → PlacesIn r name need s i → of s.instance ≡ of r.instance
-  places-same r name need s i same p = ap (λ (t : Run). of t.instance) p.is ∙ keeps i _ i.created
-      ∙ same
+-- the settings stay
+tidied-settings : (i : Instance) (number : ℕ) (o : Option Content)
+    → (tidied i number o).settings ≡ i.settings
+tidied-settings i number None = refl
+tidied-settings i number (Some c) = cond_both (is_empty_multi c) (clearing i number) i
+    (λ j. j.settings ≡ i.settings) (λ _. refl) (λ _. refl)
 
-  alloc-same : (r : Run) (name need : ℕ) (s : Run) → Outcome r name need s
-      → of s.instance ≡ of r.instance
-  alloc-same r name need s o =
-      elim o [
-        | inl here ↦ places-same r name need s r.instance refl here
-        | inr rest ↦ elim rest [
-          | inl new ↦ places-same r name need s (creating r.instance new.plan_is)
-              (keeps r.instance _ new.plan_is.birth) new.places
-          | inr fails ↦ ap (λ (t : Run). of t.instance) fails.is
-        ]
+freeing-settings : (r : Run) (name : ℕ) (o : Option Spot)
+    → (freeing r name o).instance.settings ≡ r.instance.settings
+freeing-settings r name None = refl
+freeing-settings r name (Some spot) =
+    let i = releasing_at r.instance spot in
+    tidied-settings i spot.carrier (content_of i.contents spot.carrier)
+
+alloc-settings : (r : Run) (name need : ℕ) (s : Run) → Outcome r name need s
+    → s.instance.settings ≡ r.instance.settings
+alloc-settings r name need s o =
+    elim o [
+      | inl here ↦ ap (λ (t : Run). t.instance.settings) here.is
+      | inr rest ↦ elim rest [
+        | inl new ↦ ap (λ (t : Run). t.instance.settings) new.places.is
+        | inr fails ↦ ap (λ (t : Run). t.instance.settings) fails.is
       ]
+    ]
 
-  tidied-same : (i : Instance) (number : ℕ) (o : Option Content) → of (tidied i number o) ≡ of i
-  tidied-same i number None = refl
-  tidied-same i number (Some c) = cond_both (is_empty_multi c) (clearing i number) i
-      (λ j. of j ≡ of i) (λ _. keeps i _ i.created) (λ _. refl)
-
-  freeing-same : (r : Run) (name : ℕ) (o : Option Spot)
-      → of (freeing r name o).instance ≡ of r.instance
-  freeing-same r name None = refl
-  freeing-same r name (Some spot) =
-      let i = releasing_at r.instance spot in
-      tidied-same i spot.carrier (content_of i.contents spot.carrier)
-      ∙ keeps r.instance _ r.instance.created
-
-  pub step-same : (r : Run) (o : Op) (s : Run) → step r o ≡ Some s → of s.instance ≡ of r.instance
-  step-same r (op.Alloc name bytes) s e = alloc-same r name (need_of bytes) s
-      (alloc-Outcome r name bytes s e)
-  step-same r (op.Free name) s e = ap (λ (t : Run). of t.instance) (free-is r name s e)
-      ∙ freeing-same r name (spot_held name r.held)
-  step-same r (op.Realloc old fresh bytes) s e = unbuilt s e
-  step-same r (op.Give name to) s e = unbuilt s e
-  step-same r (op.Take name tries) s e = unbuilt s e
-  step-same r op.Info s e = unbuilt s e
-  step-same r op.Idle s e = ap (λ (t : Run). of t.instance) (idle-is r s e)
-
-  pub steps-same : (r : Run) (ops : List Op) (s : Run) → steps r ops ≡ Some s
-      → of s.instance ≡ of r.instance
-  steps-same r [] s e = let same : r ≡ s = cc in ap (λ (t : Run). of t.instance) (sym same)
-  steps-same r (o ∷ ops) s e =
-      let next = next-of (step r o) (λ t. steps t ops) s e in
-      steps-same next.0 ops s next.2 ∙ step-same r o next.0 next.1
-
--- one operation keeps the instance's settings and its number
 pub step-settings : (r : Run) (o : Op) (s : Run) → step r o ≡ Some s
     → s.instance.settings ≡ r.instance.settings
-step-settings r o s e = step-same (λ i. i.settings) (λ i cs n. refl) r o s e
-
-pub step-number : (r : Run) (o : Op) (s : Run) → step r o ≡ Some s
-    → s.instance.number ≡ r.instance.number
-step-number r o s e = step-same (λ i. i.number) (λ i cs n. refl) r o s e
-
--- so do the operations of a run
-pub steps-settings : (r : Run) (ops : List Op) (s : Run) → steps r ops ≡ Some s
-    → s.instance.settings ≡ r.instance.settings
-steps-settings r ops s e = steps-same (λ i. i.settings) (λ i cs n. refl) r ops s e
-
-pub steps-number : (r : Run) (ops : List Op) (s : Run) → steps r ops ≡ Some s
-    → s.instance.number ≡ r.instance.number
-steps-number r ops s e = steps-same (λ i. i.number) (λ i cs n. refl) r ops s e
+step-settings r (op.Alloc name bytes) s e = alloc-settings r name (need_of bytes) s
+    (alloc-Outcome r name bytes s e)
+step-settings r (op.Free name) s e = ap (λ (t : Run). t.instance.settings) (free-is r name s e)
+    ∙ freeing-settings r name (spot_held name r.held)
+step-settings r (op.Realloc old fresh bytes) s e = unbuilt s e
+step-settings r (op.Give name to) s e = unbuilt s e
+step-settings r (op.Take name tries) s e = unbuilt s e
+step-settings r op.Info s e = unbuilt s e
+step-settings r op.Idle s e = ap (λ (t : Run). t.instance.settings) (idle-is r s e)

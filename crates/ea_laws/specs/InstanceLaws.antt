@@ -64,4 +64,4 @@ RefusesNumbers = (i : Instance) (need : ℕ) → (plan i need ≡ Err Numbers) �
 abbrev pub RefusesSpace : Type 0
 RefusesSpace = (i : Instance) (need : ℕ)
     → (plan i need ≡ Err Space) ↔ ((AllUsed i → ⊥)
-    × All (λ r. r.pages < least_pages need) (runs i.first i.end (segments i.contents)))
+    × All (λ r. r.pages < least_pages need) (runs i.first i.end (segments i.own)))

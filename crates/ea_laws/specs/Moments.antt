@@ -73,7 +73,7 @@ pub record IsExhausted (i : Instance) (need : ℕ) (why : NoCarrier) : Type 0 wh
   pub gaps : FindsNone i.settings need i.contents
   pub numbers : why ≡ Numbers → AllUsed i
   pub space : why ≡ Space → (AllUsed i → ⊥)
-      × All (λ r. r.pages < least_pages need) (runs i.first i.end (segments i.contents))
+      × All (λ r. r.pages < least_pages need) (runs i.first i.end (segments i.own))
 
 -- an allocation is noted as failed only where its instance is exhausted
 abbrev pub FailsExhausted : Run → Type 0

@@ -39,4 +39,4 @@ FindsNone s need cs =
 -- all carrier numbers of the instance are in use
 abbrev pub AllUsed : Instance → Type 0
 AllUsed i = (n : ℕ) → first_number i.number ≤ n → n < first_number i.number + 256
-    → is_used n i.contents ≡ true
+    → is_used n i.own ≡ true

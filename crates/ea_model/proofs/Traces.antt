@@ -24,21 +24,10 @@ has_texts n Threads texts h = h
 has_texts n (Schedule turns) texts h = h
 has_texts n (Generated seed count) texts h = h
 
-has_plain_texts : (n : ℕ) (m : Mode) (texts : List (List Op)) → HasTexts n m texts
-    → HasTexts n (plain_mode m) texts
-has_plain_texts n Threads texts h = h
-has_plain_texts n (Schedule turns) texts h = h
-has_plain_texts n (Generated seed count) texts h = h
-
 valid_mode : (n : ℕ) (m : Mode) → IsValidMode n (plain_mode m) → IsValidMode n m
 valid_mode n Threads h = h
 valid_mode n (Schedule turns) h = h
 valid_mode n (Generated seed count) h = h
-
-valid_plain_mode : (n : ℕ) (m : Mode) → IsValidMode n m → IsValidMode n (plain_mode m)
-valid_plain_mode n Threads h = h
-valid_plain_mode n (Schedule turns) h = h
-valid_plain_mode n (Generated seed count) h = h
 
 abbrev all_of : List (List Op) → List Op
 all_of texts = flat_map (λ text. text) texts
@@ -65,9 +54,3 @@ valid_from_plain n t v = alike n (plain t) t (plain-texts t) refl
     (has_texts n t.mode (texts_of t)
     (subst (HasTexts n (plain_mode t.mode)) (plain-texts t) v.texts))
     (valid_mode n t.mode v.mode) v
-
-pub plain_valid : (n : ℕ) (t : Trace) → IsValidTrace n t → IsValidTrace n (plain t)
-plain_valid n t v = alike n t (plain t) (sym (plain-texts t)) refl
-    (subst (HasTexts n (plain_mode t.mode)) (sym (plain-texts t))
-    (has_plain_texts n t.mode (texts_of t) v.texts))
-    (valid_plain_mode n t.mode v.mode) v

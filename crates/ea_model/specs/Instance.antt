@@ -1,5 +1,6 @@
--- An allocator instance: the carriers that it employs, and the carrier that it would create next.
-use Rattle.std.specs.Prelude.{ℕ, zero, suc, ◌+◌, ◌-◌, ◌*◌, ◌/◌, max, Bool, false, if◌then◌else◌, nat_lt, nat_le, List, [], ◌∷◌, Option, Some, None, Result, Ok, Err, filter, length, sum_by, option_map, is_some}
+-- An allocator instance: the carriers that it owns, those that it employs, and the carrier that it
+-- would create next.
+use Rattle.std.specs.Prelude.{ℕ, zero, suc, ◌+◌, ◌-◌, ◌*◌, ◌/◌, max, Bool, false, if◌then◌else◌, nat_lt, nat_le, List, [], ◌∷◌, Option, Some, None, Result, Ok, Err, filter, length, map, sum_by, option_map, is_some}
 use Rattle.std.specs.Option.{option_and_then}
 use Rattle.ea_model.specs.declared.settings.Config.{Config}
 use Rattle.ea_model.specs.declared.settings.Letter.{Letter}
@@ -11,6 +12,7 @@ use Rattle.ea_model.specs.declared.carriers.Place.{Place}
 use Rattle.ea_model.specs.declared.carriers.BlockAt.{BlockAt}
 use Rattle.ea_model.specs.declared.carriers.Segment.{Segment}
 use Rattle.ea_model.specs.declared.carriers.CarrierPlan.{CarrierPlan}
+use Rattle.ea_model.specs.declared.carriers.OwnCarrier.{OwnCarrier}
 use Rattle.ea_model.specs.declared.carriers.Figures.{Figures}
 use Rattle.ea_model.specs.declared.carriers.CarrierLine.{CarrierLine}
 use Rattle.ea_model.specs.declared.carriers.Totals.{Totals}
@@ -24,13 +26,15 @@ use Rattle.ea_model.specs.Strategies.{choice_for, spot_of}
 use Rattle.ea_model.specs.Region.{runs, lowest_run, with_segment}
 use Rattle.ea_model.specs.Keyed.{item_at, entered, without, changed_at}
 
--- an instance: its number, from 1, its region from page `first` up to `end`, the contents that it
--- employs by rising number, and how many carriers it created
+-- an instance: its number, from 1, its region from page `first` up to `end`, the carriers that it
+-- owns and the contents that it employs, both by rising number, and how many carriers it created. It
+-- owns the carriers that it created and that aren't deallocated, whoever employs them
 pub record Instance : Type 0 where
   pub settings : Settings
   pub number : ℕ
   pub first : ℕ
   pub end : ℕ
+  pub own : List OwnCarrier
   pub contents : List Content
   pub created : ℕ
 
@@ -65,6 +69,10 @@ main_content s instance first = created_content instance Main
 abbrev pub main_carriers : Settings → ℕ → ℕ → List Content
 main_carriers s instance first = if nat_lt 0 s.mmbcs then main_content s instance first ∷ [] else []
 
+-- what its owner knows of a carrier; a page has 512 units
+abbrev pub own_of : Content → OwnCarrier
+own_of c = record { number = c.number; base = c.base; pages = c.units / 512 }
+
 -- an instance before its first operation
 abbrev pub new_instance : Settings → ℕ → ℕ → ℕ → Instance
 new_instance s instance first pages = record {
@@ -72,33 +80,41 @@ new_instance s instance first pages = record {
   number = instance;
   first = first;
   end = first + pages;
+  own = map own_of (main_carriers s instance first);
   contents = main_carriers s instance first;
-  created = length
-      (main_carriers s instance first);
+  created = length (main_carriers s instance first);
 }
 
 -- the segment of a carrier
-abbrev pub segment_of : Content → Segment
-segment_of c = record { base = c.base; pages = c.units / 512 }
+abbrev pub segment_of : OwnCarrier → Segment
+segment_of o = record { base = o.base; pages = o.pages }
 
 -- the segments of carriers, by rising base
-abbrev pub segments : List Content → List Segment
+abbrev pub segments : List OwnCarrier → List Segment
 segments [] = []
-segments (c ∷ cs) = with_segment (segment_of c) (segments cs)
+segments (o ∷ os) = with_segment (segment_of o) (segments os)
+
+-- the own carrier with the number
+abbrev pub own_at : List OwnCarrier → ℕ → Option OwnCarrier
+own_at os number = item_at (λ o. o.number) os number
+
+-- whether a number is in use
+abbrev pub is_used : ℕ → List OwnCarrier → Bool
+is_used number os = is_some (own_at os number)
+
+-- the lowest of that many numbers from `number` on that isn't in use
+unfoldable pub unused_from : ℕ → ℕ → List OwnCarrier → Option ℕ
+unused_from zero number os = None
+unused_from (suc k) number os = if is_used number os then unused_from k (number + 1) os else Some
+    number
 
 -- the content of a carrier that is employed
 abbrev pub content_of : List Content → ℕ → Option Content
 content_of cs number = item_at (λ c. c.number) cs number
 
--- whether a number is in use
-abbrev pub is_used : ℕ → List Content → Bool
-is_used number cs = is_some (content_of cs number)
-
--- the lowest of that many numbers from `number` on that isn't in use
-unfoldable pub unused_from : ℕ → ℕ → List Content → Option ℕ
-unused_from zero number cs = None
-unused_from (suc k) number cs = if is_used number cs then unused_from k (number + 1) cs else Some
-    number
+-- whether one of the contents has the number
+abbrev pub has_content : ℕ → List Content → Bool
+has_content number cs = is_some (content_of cs number)
 
 -- how many multiblock carriers there are without the main one
 abbrev pub multis : List Content → ℕ
@@ -119,7 +135,7 @@ next_pages i need = max (least_pages need) (pages_for (growth i.settings (multis
 
 -- where the lowest free run of the region with that many pages begins
 abbrev pub free_run : Instance → ℕ → Option ℕ
-free_run i pages = lowest_run pages (runs i.first i.end (segments i.contents))
+free_run i pages = lowest_run pages (runs i.first i.end (segments i.own))
 
 abbrev pub planned : Instance → ℕ → ℕ → ℕ → CarrierPlan
 planned i number base pages = record {
@@ -145,15 +161,23 @@ numbered_plan i need (Some number) = sized_plan i need number (free_run i (next_
 
 -- the multiblock carrier that would be created for a block of this need, or why there is none
 abbrev pub plan : Instance → ℕ → Result CarrierPlan NoCarrier
-plan i need = numbered_plan i need (unused_from 256 (first_number i.number) i.contents)
+plan i need = numbered_plan i need (unused_from 256 (first_number i.number) i.own)
 
 -- the contents with one more, by its number
 abbrev pub with_content : Content → List Content → List Content
 with_content x cs = entered (λ c. c.number) x cs
 
--- the instance that employs the carrier of a plan
+-- the own carriers with the one of a plan, by its number
+abbrev pub planned_own : CarrierPlan → OwnCarrier
+planned_own p = record { number = p.number; base = p.base; pages = p.pages }
+
+abbrev pub with_own : OwnCarrier → List OwnCarrier → List OwnCarrier
+with_own x os = entered (λ o. o.number) x os
+
+-- the instance that owns and employs the carrier of a plan
 abbrev pub creating : Instance → CarrierPlan → Instance
 creating i p = record i {
+  own = with_own (planned_own p) i.own;
   contents = with_content (created_content i.number Multi p) i.contents;
   created = p.birth;
 }
@@ -193,9 +217,16 @@ releasing_at i spot =
 abbrev pub without_content : ℕ → List Content → List Content
 without_content number cs = without (λ c. c.number) number cs
 
+-- the own carriers without that of the number
+abbrev pub without_own : ℕ → List OwnCarrier → List OwnCarrier
+without_own number os = without (λ o. o.number) number os
+
 -- the instance without a carrier
 abbrev pub clearing : Instance → ℕ → Instance
-clearing i number = record i { contents = without_content number i.contents }
+clearing i number = record i {
+  own = without_own number i.own;
+  contents = without_content number i.contents;
+}
 
 -- the block at a spot
 abbrev pub block_in : List Content → Spot → Option BlockAt

@@ -175,6 +175,23 @@ pub struct CarrierPlan {
     pub single: bool,
 }
 
+/// What an instance knows of a carrier that it created, wherever its content is.
+#[derive(Debug, Clone, Copy, PartialEq, Eq)]
+pub struct OwnCarrier {
+    pub number: u32,
+    /// Its first page.
+    pub base: u32,
+    pub pages: u32,
+}
+
+impl Keyed for OwnCarrier {
+    ghost key_of = { λ o. o.number };
+
+    fn key(&self) -> u32 {
+        self.number
+    }
+}
+
 /// How many blocks and carriers an instance has, and their units.
 #[derive(Debug, Clone, Copy, PartialEq, Eq)]
 pub struct Figures {

@@ -15,8 +15,8 @@ pub mod units;
 pub mod words;
 
 pub use carriers::{
-    Block, BlockAt, Candidate, Carried, CarrierLine, CarrierPlan, Figures, Gap, Inner, Kind, Place,
-    Segment, Spot, Standing, Totals,
+    Block, BlockAt, Candidate, Carried, CarrierLine, CarrierPlan, Figures, Gap, Inner, Kind,
+    OwnCarrier, Place, Segment, Spot, Standing, Totals,
 };
 pub use entries::{Entry, NoCarrier, Report, Triple};
 pub use lists::{List, OutOfMemory};

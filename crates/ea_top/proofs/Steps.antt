@@ -1,8 +1,8 @@
 -- What an operation does to the blocks of held names, and what the scheduler then shows.
-use Rattle.std.proofs.Common.{◌≡◌, ℕ, ◌+◌, ◌<◌, ◌≤◌, List, [], ◌∷◌, ◌++◌, length, get_or, set, drop, replicate, sym, ◌∙◌, ap, subst, refl, inl, inr, arith, get_or-set_same, get_or-set_other}
+use Rattle.std.proofs.Common.{◌≡◌, ℕ, ◌+◌, ◌<◌, List, [], ◌∷◌, ◌++◌, length, get_or, set, drop, replicate, sym, ◌∙◌, ap, subst, refl, inl, inr, arith, get_or-set_same, get_or-set_other}
 use Rattle.std.specs.Prelude.{◌⊎◌, Option, Some, None, Ok, Err, IsSome, option_map}
 use Rattle.std.specs.Option.{option_and_then}
-use Rattle.std.proofs.lemmas.Bool.{cases_eq, cases_lt, cases_Bool}
+use Rattle.std.proofs.lemmas.Bool.{cases_eq, cases_lt}
 use Rattle.std.proofs.lemmas.List.{get_or-replicate, get_or_past, length-replicate, drop_more}
 use Rattle.std.proofs.lemmas.Grind.{common_steps}
 use Rattle.ea_model.specs.declared.carriers.Spot.{Spot}
@@ -10,12 +10,11 @@ use Rattle.ea_model.specs.declared.carriers.Place.{Place}
 use Rattle.ea_model.specs.declared.carriers.BlockAt.{BlockAt}
 use Rattle.ea_model.specs.declared.operations.Op.{Op}
 use Rattle.ea_model.specs.declared.carriers.CarrierPlan.{CarrierPlan}
-use Rattle.ea_model.specs.declared.settings.Settings.{Settings}
 use Rattle.ea_model.specs.declared.entries.NoCarrier.{NoCarrier}
 use Rattle.ea_model.specs.declared.entries.Entry.TheVariants as entry
-use Rattle.ea_model.specs.Content.{Content, is_empty_multi}
-use Rattle.ea_model.specs.Instance.{Instance, block_in, chosen_spot, place_at, main_carriers, plan, creating, releasing_at, content_of}
-use Rattle.ea_laws.specs.Run.{Run, Held, spot_held, without, step, steps, allocating, with_block, with_carrier, in_new_carrier, tidied, freed_at, freeing}
+use Rattle.ea_model.specs.Content.{Content}
+use Rattle.ea_model.specs.Instance.{Instance, block_in, chosen_spot, place_at, plan, creating}
+use Rattle.ea_laws.specs.Run.{Run, Held, spot_held, without, step, steps, allocating, with_block, with_carrier, in_new_carrier, freed_at, freeing}
 use Rattle.ea_laws.specs.Spots.{IsOther, IsPlaced, HaveSameBlocks}
 use Rattle.ea_laws.proofs.Held.{same_spot, spot_held-without, spot_held-without_other}
 use Rattle.ea_instance.specs.Answers.{placing_if}
@@ -126,18 +125,6 @@ pub run_more : (ops : List Op) (i : ℕ) (d : Op) (r n : Run) → i < length ops
 run_more ops i d r n h next = ap (steps r) (drop_more ops i d h)
     ∙ ap (option_and_then (λ m. steps m (drop (i + 1) ops))) next
 
--- what an instance keeps when a block is released and its carrier perhaps deallocated
-tidied-keeps : (i : Instance) (number : ℕ) (o : Option Content)
-    → ((tidied i number o).settings ≡ i.settings) × ((tidied i number o).created ≡ i.created)
-tidied-keeps i number None = (refl, refl)
-tidied-keeps i number (Some c) = elim (cases_Bool (is_empty_multi c))
-    [ inl d ↦ rw d (refl, refl) | inr k ↦ rw k (refl, refl) ]
-
-pub freed_at-keeps : (i : Instance) (spot : Spot) → ((freed_at i spot).settings ≡ i.settings)
-    × ((freed_at i spot).created ≡ i.created)
-freed_at-keeps i spot = tidied-keeps (releasing_at i spot) spot.carrier
-    (content_of (releasing_at i spot).contents spot.carrier)
-
 -- the answer of a placement, by the chosen spot
 pub placed-chosen : (i new : Instance) (o : Option Spot) (need name : ℕ) (p : Place)
     → chosen_spot i need ≡ o → option_map (λ spot. place_at i spot need) o ≡ Some p
@@ -238,7 +225,3 @@ shows_freed r self s name spot k some within same spots log =
           ∙ spot_held-unset self.spots.items r.held name n within (k.held n h);
       log = log ∙ ap (λ l. l ++ entry.Free name ∷ []) k.log;
     })
-
--- a new instance has created at most the main carrier
-pub main_few : (s : Settings) (n first : ℕ) → length (main_carriers s n first) ≤ 1
-main_few s n first = elim (cases_lt 0 s.mmbcs) [ inl h ↦ grind arith | inr h ↦ grind arith ]

@@ -1,5 +1,5 @@
 -- The operations of scheduler 1 in a trace that is valid.
-use Rattle.std.proofs.Common.{◌≡◌, ℕ, ◌≤◌, List, [], ◌∷◌, All, length, length-append, refl, ap, subst, arith}
+use Rattle.std.proofs.Common.{◌≡◌, ℕ, List, [], ◌∷◌, All, length-append, refl, ap, subst, arith}
 use Rattle.std.specs.List.{flat_map}
 use Rattle.std.proofs.lemmas.List.{get_or_append_left}
 use Rattle.std.proofs.lemmas.List.Elements.{All-weaker}
@@ -9,7 +9,6 @@ use Rattle.ea_model.specs.declared.settings.Config.{Config}
 use Rattle.ea_model.specs.declared.trace.Mode.{Mode}
 use Rattle.ea_model.specs.declared.trace.Mode.TheVariants.{Threads, Schedule, Generated}
 use Rattle.ea_model.specs.declared.trace.Trace.{Trace}
-use Rattle.ea_model.specs.declared.units.TheConstants.{MAX_OPS}
 use Rattle.ea_model.specs.Operations.{InRange}
 use Rattle.ea_model.specs.Trace.{IsOperation, IsValidTrace, plain, plain_mode, text_at, texts_of}
 use Rattle.ea_model.proofs.Traces.{plain-texts}
@@ -24,11 +23,6 @@ first_within P (text ∷ texts) h = λ k d lt.
     let rest = flat_map (λ t. t) texts in
     subst P (get_or_append_left text rest d k lt) (h k d (omega (arith, length-append text rest, lt)))
 
-first_shorter : (texts : List (List Op))
-    → length (text_at 0 texts) ≤ length (flat_map (λ text. text) texts)
-first_shorter [] = omega arith
-first_shorter (text ∷ texts) = omega (arith, length-append text (flat_map (λ t. t) texts))
-
 in_range : (n : ℕ) (o : Op) → IsOperation n o → InRange o
 in_range n (Alloc name bytes) h = (h.0.1, h.1)
 in_range n (Free name) h = (h.1, omega arith)
@@ -41,9 +35,6 @@ in_range n Idle h = (omega arith, omega arith)
 pub first-InRange : (n : ℕ) (t : Trace) → IsValidTrace n t → All InRange (first_text t)
 first-InRange n t valid = All-weaker (IsOperation n) InRange (in_range n) (first_text t)
     (first_within (IsOperation n) (texts_of t) valid.operations)
-
-pub first-few : (n : ℕ) (t : Trace) → IsValidTrace n t → length (first_text t) ≤ MAX_OPS
-first-few n t valid = omega (arith, first_shorter (texts_of t), valid.few)
 
 -- a trace as a definition answers it has the same run
 same_mode : (m : Mode) → is_built_mode (plain_mode m) ≡ is_built_mode m

@@ -1,5 +1,5 @@
 //! The scheduler of a run: its instance, the names that it holds, and its log.
-ghost use Rattle.std.specs.Prelude.{◌≡◌, ◌≢◌, ℕ, ◌+◌, ◌<◌, ◌≤◌, ◌%◌, ◌*◌, ◌^◌, ◌++◌, ◌∷◌, [], Some, Ok, IfOk, OnOk, IsSome, length, set};
+ghost use Rattle.std.specs.Prelude.{◌≡◌, ◌≢◌, ℕ, ◌+◌, ◌<◌, ◌≤◌, ◌%◌, ◌*◌, ◌^◌, ◌++◌, ◌∷◌, [], Some, Ok, IfOk, OnOk, IsSome, length, set, true};
 ghost use Rattle.ea_model.specs.declared.operations.Op.TheVariants.{Alloc, Free, Idle};
 ghost use Rattle.ea_model.specs.declared.entries.Entry.TheVariants as entry;
 ghost use Rattle.ea_model.specs.declared.carriers.Spot.{Spot};
@@ -10,6 +10,7 @@ ghost use Rattle.ea_model.specs.Instance.{creating, block_in, instance_of, total
 ghost use Rattle.ea_model.specs.Instance as instances;
 ghost use Rattle.ea_laws.specs.Run.{Run, IsBuiltOp, doing, start, step, freed_at};
 ghost use Rattle.ea_laws.specs.Spots.{IsOther, IsPlaced};
+ghost use Rattle.ea_top.specs.Built.{is_built_config};
 ghost use Rattle.ea_top.specs.Holding.{HoldsBlocks, IsChosenPlace, spot_at};
 
 use ea_instance::{Instance, Released};
@@ -29,7 +30,6 @@ pub struct Scheduler {
     pub log: List<Entry>,
     ghost names: { length spots.items ≡ MAX_NAME + 1 },
     ghost blocks: { HoldsBlocks instance.contents spots.items },
-    ghost created: { instance.created ≤ length log.items + 1 },
 }
 
 /// Creates the carrier of the plan, and places a block in it.
@@ -80,7 +80,6 @@ fn hold(
     requires names { length spots.items ≡ MAX_NAME + 1 }
     requires name { name ≤ MAX_NAME }
     requires blocks { HoldsBlocks instance.contents (set spots.items name (Some (spot_at place))) }
-    requires created { instance.created ≤ length log.items + 2 }
     ensures { IfOk result (λ s. (s.instance ≡ instance)
         × (s.spots.items ≡ set spots.items name (Some (spot_at place)))
         × (s.log.items ≡ log.items ++ entry.Alloc name place ∷ [])) }
@@ -118,11 +117,12 @@ impl Scheduler {
 
     /// Before the first operation.
     pub fn new(alloc: Global, config: Config, letter: Letter) -> Result<Scheduler, OutOfMemory>
-        requires { IsValidConfig config }
-        ensures shows { IfOk result (Shows (start (instance_of config letter))) }
-        ensures log { IfOk result (λ s. length s.log.items ≡ 0) }
+        requires config { IsValidConfig config }
+        requires built { is_built_config config letter ≡ true }
+        ensures { IfOk result (Shows (start (instance_of config letter))) }
     {
-        let instance = Instance::new(alloc, config.of(letter), 1, 0, config.region_pages())?;
+        let pages = config.region_pages();
+        let instance = Instance::new(alloc, config.of(letter), 1, 1, 0, pages)?;
         let spots = vec![in alloc; None; MAX_NAME as usize + 1]?;
         Ok(Scheduler {
             instance,
@@ -131,15 +131,14 @@ impl Scheduler {
         })
     }
 
-    /// Allocates a block of at least `bytes` bytes under a name.
+    /// Allocates a block of at least `bytes` bytes under a name. A count of carriers that has no
+    /// greater number counts as want of memory.
     fn alloc(self, alloc: Global, name: u32, bytes: u32) -> Result<Scheduler, OutOfMemory>
         requires name { name ≤ MAX_NAME }
         requires bytes { bytes ≤ MAX_BYTES }
         requires built { IsBuiltOp self.instance.settings (Alloc name bytes) }
-        requires log { length self.log.items < 2 ^ 31 }
-        ensures shows { IfOk result (λ s. (r : Run) → Shows r self
+        ensures { IfOk result (λ s. (r : Run) → Shows r self
             → Reaches (doing r (Alloc name bytes)) s) }
-        ensures grown { IfOk result (λ s. length s.log.items ≤ length self.log.items + 1) }
     {
         let Scheduler {
             mut instance,
@@ -149,6 +148,9 @@ impl Scheduler {
         let units = need(bytes);
         if let Some(place) = instance.try_alloc(units, name)? {
             return hold(instance, spots, log, name, place);
+        }
+        if instance.created() == u32::MAX {
+            return Err(OutOfMemory);
         }
         match instance.plan_carrier(units) {
             Ok(plan) => {
@@ -174,9 +176,8 @@ impl Scheduler {
     /// Frees the block of a name; where the name isn't held, that is only noted.
     fn free(self, name: u32) -> Result<Scheduler, OutOfMemory>
         requires name { name ≤ MAX_NAME }
-        ensures shows { IfOk result (λ s. (r : Run) → Shows r self
+        ensures { IfOk result (λ s. (r : Run) → Shows r self
             → Reaches (doing r (Free name)) s) }
-        ensures grown { IfOk result (λ s. length s.log.items ≤ length self.log.items + 1) }
     {
         let Scheduler {
             mut instance,
@@ -203,8 +204,7 @@ impl Scheduler {
 
     /// Does nothing, and notes it.
     fn idle(self) -> Result<Scheduler, OutOfMemory>
-        ensures shows { IfOk result (λ s. (r : Run) → Shows r self → Reaches (doing r Idle) s) }
-        ensures grown { IfOk result (λ s. length s.log.items ≤ length self.log.items + 1) }
+        ensures { IfOk result (λ s. (r : Run) → Shows r self → Reaches (doing r Idle) s) }
     {
         let Scheduler {
             instance,
@@ -223,9 +223,7 @@ impl Scheduler {
     pub fn step(self, alloc: Global, op: Op) -> Result<Scheduler, OutOfMemory>
         requires range { InRange op }
         requires built { IsBuiltOp self.instance.settings op }
-        requires log { length self.log.items < 2 ^ 31 }
-        ensures shows { IfOk result (λ s. (r : Run) → Shows r self → Reaches (step r op) s) }
-        ensures grown { IfOk result (λ s. length s.log.items ≤ length self.log.items + 1) }
+        ensures { IfOk result (λ s. (r : Run) → Shows r self → Reaches (step r op) s) }
     {
         match op {
             Op::Alloc { name, bytes } => self.alloc(alloc, name, bytes),

@@ -132,21 +132,20 @@ fn greatest(gaps: &[Gap]) -> u32 {
     most
 }
 
-// An instance, the same carriers as lists of blocks, and how many carriers were created at most.
+// An instance, and the same carriers as lists of blocks.
 #[derive(Drop)]
 struct Sides {
     settings: Settings,
     instance: Instance,
     carriers: Vec<PlainCarrier>,
     live: Vec<Spot>,
-    created: u32,
     ghost threshold: { instance.settings.sbct ≡ settings.sbct },
-    ghost counted: { instance.created ≤ created },
 }
 
 impl Sides {
     fn new(alloc: Global, settings: Settings) -> Result<Sides, OutOfMemory>
         requires valid { IsValid settings }
+        requires stays { settings.acul ≡ 0 }
         requires main { settings.mmbcs ≤ 512 }
     {
         let mut carriers = Vec::new(alloc);
@@ -162,10 +161,9 @@ impl Sides {
         }
         Ok(Sides {
             settings,
-            instance: Instance::new(alloc, settings, 1, 0, PAGES)?,
+            instance: Instance::new(alloc, settings, 1, 1, 0, PAGES)?,
             carriers,
             live: Vec::new(alloc),
-            created: 1,
         })
     }
 
@@ -213,14 +211,13 @@ impl Sides {
 
     // Creates a carrier for a block of `need` units, where one can be.
     fn create(&mut self, rt: &impl Abort, alloc: Global, need: u32) -> Result<bool, OutOfMemory> {
-        assert!(rt; need <= self.settings.sbct && self.created < 1000);
+        assert!(rt; need <= self.settings.sbct && self.instance.created() < 1000);
         let Ok(plan) = self.instance.plan_carrier(need) else {
             return Ok(false);
         };
         assert!(rt; 1 <= plan.pages && plan.pages <= PAGES);
         let carrier = self.instance.prepare(alloc, plan)?;
         self.instance.create(plan, need, carrier)?;
-        self.created = plan.birth;
         push_carrier(
             &mut self.carriers,
             PlainCarrier::new(alloc, 1, Kind::Multi, plan),
@@ -312,6 +309,7 @@ fn main_units(seed: u64) -> u32
 // turn.
 fn run_list(rt: &impl Abort, alloc: Global, settings: Settings, seed: u64) -> Result<(), NoChoice>
     requires valid { IsValid settings }
+    requires stays { settings.acul ≡ 0 }
     requires main { settings.mmbcs ≤ 512 }
 {
     let mut numbers = Numbers { state: seed };

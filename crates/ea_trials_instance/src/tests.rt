@@ -52,14 +52,12 @@ enum Step {
     MultiFigures(Figures),
 }
 
-// An instance, its threshold, and how many carriers it created at most.
+// An instance and its threshold.
 #[derive(Drop)]
 struct Trial {
     instance: Instance,
     sbct: u32,
-    created: u32,
     ghost threshold: { instance.settings.sbct ≡ sbct },
-    ghost counted: { instance.created ≤ created },
 }
 
 impl Trial {
@@ -71,14 +69,14 @@ impl Trial {
         pages: u32,
     ) -> Result<Trial, OutOfMemory>
         requires valid { IsValid settings }
+        requires stays { settings.acul ≡ 0 }
         requires number { (1 ≤ number) × (number ≤ MAX_SCHEDULERS) }
         requires region { first_page + pages ≤ MAX_PAGES }
         requires main { pages_for settings.mmbcs ≤ pages }
     {
         Ok(Trial {
-            instance: Instance::new(alloc, settings, number, first_page, pages)?,
+            instance: Instance::new(alloc, settings, 16, number, first_page, pages)?,
             sbct: settings.sbct,
-            created: 1,
         })
     }
 
@@ -88,7 +86,7 @@ impl Trial {
         alloc: Global,
         need: u32,
     ) -> Result<Result<CarrierPlan, NoCarrier>, OutOfMemory> {
-        assert!(rt; need <= self.sbct && self.created < 1000);
+        assert!(rt; need <= self.sbct && self.instance.created() < 1000);
         let plan = match self.instance.plan_carrier(need) {
             Ok(plan) => plan,
             Err(cause) => return Ok(Err(cause)),
@@ -96,7 +94,6 @@ impl Trial {
         assert!(rt; 1 <= plan.pages && plan.pages <= MAX_PAGES);
         let carrier = self.instance.prepare(alloc, plan)?;
         self.instance.create(plan, need, carrier)?;
-        self.created = plan.birth;
         Ok(Ok(plan))
     }
 
@@ -113,7 +110,7 @@ impl Trial {
     fn step(&mut self, rt: &impl Abort, alloc: Global, step: Step) -> Result<(), OutOfMemory> {
         match step {
             Plan(need, plan) => {
-                assert!(rt; need <= self.sbct && self.created < 1000);
+                assert!(rt; need <= self.sbct && self.instance.created() < 1000);
                 assert_eq!(rt;
                     self.instance.plan_carrier(need),
                     plan.map(plan_of),

@@ -4,20 +4,19 @@ use Rattle.ea_model.specs.Operations.{InRange}
 use Rattle.ea_model.specs.Instance.{Instance}
 use Rattle.ea_laws.proofs.Steps.{step-settings}
 use Rattle.ea_top.proofs.Steps.{run_more}
-use Rattle.ea_top.proofs.Texts.{first-InRange, first-few}
+use Rattle.ea_top.proofs.Texts.{first-InRange}
 use Rattle.ea_top.proofs.simulation.simulate.Goals as goal
 
 pub loop-op-preserved : goal.loop-op-preserved
 loop-op-preserved c =
-    let (r, shows, rest, settings, grown) = c.loop-op.invariant in
-    let (n, next, there) = c.in_ok-scheduler-2.ensures.shows r shows in (
+    let (r, shows, rest, settings) = c.loop-op.invariant in
+    let (n, next, there) = c.in_ok-scheduler-2.ensures r shows in (
       n,
       there,
       sym (run_more _ c.loop-op.op-index _ r n c.loop-op-test.true next)
           ∙ rest,
       ap (λ (i : Instance). i.settings) there.instance ∙ step-settings r _ n next
           ∙ sym (ap (λ (i : Instance). i.settings) shows.instance) ∙ settings,
-      omega (arith, grown, c.in_ok-scheduler-2.ensures.grown),
     )
 
 pub step-requires-clause-range : goal.step-requires-clause-range
@@ -27,11 +26,3 @@ step-requires-clause-range c =
     (first-InRange c.args.config.schedulers c.args.trace.now c.requires.trace c.loop-op.op-index (Alloc 0 0)
     (omega (arith, c.loop-op-test.true, ap length same)))
 
-pub step-requires-clause-log : goal.step-requires-clause-log
-step-requires-clause-log c = omega (
-  arith,
-  c.loop-op.invariant.4,
-  c.loop-op-test.true,
-  ap length c.first_text-op-items.ensures,
-  first-few c.args.config.schedulers c.args.trace.now c.requires.trace,
-)

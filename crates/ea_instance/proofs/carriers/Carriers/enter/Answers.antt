@@ -5,7 +5,7 @@ use Rattle.ea_cset.specs.declared.keys.CarrierKey.{CarrierKey}
 use Rattle.ea_cset.specs.declared.keys.CarrierFit.{CarrierFit}
 use Rattle.ea_laws.specs.Kept.{ContentsApart, IsLaidOut}
 use Rattle.ea_laws.proofs.Apart.{other-bases}
-use Rattle.ea_laws.proofs.Contents.{unused-All}
+use Rattle.ea_laws.proofs.Contents.{absent-All}
 use Rattle.ea_instance.specs.Changes.{AreLaid}
 use Rattle.ea_instance.specs.Listed.{CarrierList, held_of}
 use Rattle.ea_instance.proofs.BinsAfter.{entered-free, entered-gaps}
@@ -24,7 +24,7 @@ add-requires-clause-number c =
     (sym c.carrier_key-key.ensures)
     (All-map (λ (h : CarrierFit). h.key.number ≢ x.number) held_of cs
     (subst other (sym c.self.view_is)
-    (unused-All x.number c.args.self.now.contents c.requires.number))))
+    (absent-All x.number c.args.self.now.contents c.requires.number))))
 
 pub add-requires-clause-base : goal.add-requires-clause-base
 add-requires-clause-base c =
@@ -32,6 +32,7 @@ add-requires-clause-base c =
     let cs = c.self.inside.list.items in
     let sound : IsLaidOut x =
     record {
+      whole = c.requires.whole;
       shared = c.requires.shared;
       tiled = subst (λ (m : Content). Tiled 8 m.units m.blocks) c.employed.view_is
           c.largest-size.ensures.tiled;
@@ -53,6 +54,7 @@ note_entered-requires-clause-address c = λ some.
     let x = c.args.employed in
     let sound : IsLaidOut x =
     record {
+      whole = c.requires.whole;
       shared = c.requires.shared;
       tiled = subst (λ (m : Content). Tiled 8 m.units m.blocks) c.employed.view_is
           c.largest-size.ensures.tiled;
@@ -72,6 +74,7 @@ invariant_of-self-2 c =
     let x = c.args.employed in
     let sound : IsLaidOut x =
     record {
+      whole = c.requires.whole;
       shared = c.requires.shared;
       tiled = subst (λ (m : Content). Tiled 8 m.units m.blocks) c.employed.view_is
           c.largest-size.ensures.tiled;

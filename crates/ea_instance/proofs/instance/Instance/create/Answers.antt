@@ -2,42 +2,58 @@ use Rattle.std.proofs.Common.{◌≡◌, ◌+◌, ◌*◌, ◌≤◌, false, All
 use Rattle.std.specs.Prelude.{IsSome}
 use Rattle.ea_model.specs.declared.units.TheConstants.{MAX_UNITS}
 use Rattle.ea_model.specs.Content.{Content}
-use Rattle.ea_model.specs.Instance.{Instance, chosen_spot, creating, is_used, with_content}
-use Rattle.ea_laws.specs.Kept.{ContentsApart}
+use Rattle.ea_model.specs.Instance.{Instance, chosen_spot, creating, has_content, with_content}
+use Rattle.ea_laws.specs.Kept.{ContentsApart, IsWhole}
 use Rattle.ea_laws.specs.Spots.{HaveSameBlocks}
 use Rattle.ea_laws.proofs.Keeping.{chosen-planned}
 use Rattle.ea_instance.specs.Kept.{seen_as}
-use Rattle.ea_instance.proofs.Keeping.{blocks-created, entering, has-number, has-room, kept-created, lies-low, other-numbers, others-apart, seen-created}
+use Rattle.ea_instance.proofs.Keeping.{blocks-created, entering, few-employed, few-own, free-run, kept-created, low-enough, new-number, others-apart, seen-created, unused-number, whole-pages}
 use Rattle.ea_instance.proofs.instance.Instance.create.Goals as goal
 
 pub enter-requires-clause-room : goal.enter-requires-clause-room
 enter-requires-clause-room c =
-    has-number _ _ c.self.inside.carriers c.self.inside.created c.self.inside.region
+    few-employed _ _ c.self.inside.own c.self.inside.carriers c.self.inside.created
     c.self.invariant c.args.need c.args.plan _ c.self.view_is c.requires.plan
 
 pub enter-requires-clause-number : goal.enter-requires-clause-number
 enter-requires-clause-number c =
-    subst (λ (x : Content). is_used x.number c.self.inside.carriers.contents ≡ false)
+    subst (λ (x : Content). has_content x.number c.self.inside.carriers.contents ≡ false)
     (sym c.requires.carrier)
-    (other-numbers _ _ c.self.inside.carriers c.self.inside.created c.self.inside.region
+    (new-number _ _ c.self.inside.own c.self.inside.carriers c.self.inside.created
     c.self.invariant c.args.need c.args.plan _ c.self.view_is c.requires.plan)
 
 pub enter-requires-clause-apart : goal.enter-requires-clause-apart
 enter-requires-clause-apart c =
     subst (λ (x : Content). All (ContentsApart x) c.self.inside.carriers.contents)
     (sym c.requires.carrier)
-    (others-apart _ _ c.self.inside.carriers c.self.inside.created c.self.inside.region
+    (others-apart _ _ c.self.inside.own c.self.inside.carriers c.self.inside.created
     c.self.invariant c.args.need c.args.plan _ c.self.view_is c.requires.plan)
 
 pub enter-requires-clause-low : goal.enter-requires-clause-low
 enter-requires-clause-low c =
     subst (λ (x : Content). 512 * x.base + x.units ≤ MAX_UNITS) (sym c.requires.carrier)
-    (lies-low _ _ c.self.inside.carriers c.self.inside.created c.self.inside.region
+    (low-enough _ _ c.self.inside.own c.self.inside.carriers c.self.inside.created
     c.self.invariant c.args.need c.args.plan _ c.self.view_is c.requires.plan)
 
-pub take-requires-clause-room : goal.take-requires-clause-room
-take-requires-clause-room c =
-    has-room _ _ c.self.inside.carriers c.self.inside.created c.self.inside.region
+pub enter-requires-clause-whole : goal.enter-requires-clause-whole
+enter-requires-clause-whole c =
+    subst IsWhole (sym c.requires.carrier)
+    (whole-pages _ _ c.self.inside.own c.self.inside.carriers c.self.inside.created
+    c.self.invariant c.args.need c.args.plan _ c.self.view_is c.requires.plan)
+
+pub add-requires-clause-room : goal.add-requires-clause-room
+add-requires-clause-room c =
+    few-own _ _ c.self.inside.own c.self.inside.carriers c.self.inside.created
+    c.self.invariant c.args.need c.args.plan _ c.self.view_is c.requires.plan
+
+pub add-requires-clause-number : goal.add-requires-clause-number
+add-requires-clause-number c =
+    unused-number _ _ c.self.inside.own c.self.inside.carriers c.self.inside.created
+    c.self.invariant c.args.need c.args.plan _ c.self.view_is c.requires.plan
+
+pub add-requires-clause-found : goal.add-requires-clause-found
+add-requires-clause-found c =
+    free-run _ _ c.self.inside.own c.self.inside.carriers c.self.inside.created
     c.self.invariant c.args.need c.args.plan _ c.self.view_is c.requires.plan
 
 pub invariant_of-self-2 : goal.invariant_of-self-2
@@ -45,21 +61,21 @@ invariant_of-self-2 c =
     let cs = c.self.inside.carriers in
     let carrier = entering c.self.inside.number _ c.args.plan c.args.carrier
     (ap (λ (i : Instance). i.number) c.self.view_is) c.requires.carrier in
-    kept-created _ _ cs c.self.inside.created c.self.inside.region c.self.invariant c.args.need
-    c.args.plan _ c.self.view_is c.requires.plan _ _ c.take.ensures.taken
+    kept-created _ _ c.self.inside.own cs c.self.inside.created c.self.invariant c.args.need
+    c.args.plan _ c.self.view_is c.requires.plan _ _ c.add.ensures
     (c.in_ok-enter.ensures.ok
     ∙ ap (λ x. record cs { contents = with_content x cs.contents }) carrier)
 
 now_is : (c : goal.After-self-1)
-    → seen_as c.self.inside.settings c.self.inside.number c.enter.new.self c.args.plan.birth
-    c.take.new.self
+    → seen_as c.self.inside.settings c.self.inside.number c.add.new.self c.enter.new.self
+    c.args.plan.birth
     ≡ creating c.args.self.now c.args.plan
 now_is c =
     let cs = c.self.inside.carriers in
     let carrier = entering c.self.inside.number _ c.args.plan c.args.carrier
     (ap (λ (i : Instance). i.number) c.self.view_is) c.requires.carrier in
-    seen-created _ _ cs c.self.inside.created c.self.inside.region c.self.invariant c.args.need
-    c.args.plan _ c.self.view_is c.requires.plan _ _ c.take.ensures.taken
+    seen-created _ _ c.self.inside.own cs c.self.inside.created c.self.invariant c.args.need
+    c.args.plan _ c.self.view_is c.requires.plan _ _ c.add.ensures
     (c.in_ok-enter.ensures.ok
     ∙ ap (λ x. record cs { contents = with_content x cs.contents }) carrier)
 
@@ -71,5 +87,5 @@ returns-clause-choice c =
 pub returns-clause-blocks : goal.returns-clause-blocks
 returns-clause-blocks c =
     subst (λ (i : Instance). HaveSameBlocks c.args.self.now.contents i.contents) (sym (now_is c))
-    (blocks-created _ _ c.self.inside.carriers c.self.inside.created c.self.inside.region
+    (blocks-created _ _ c.self.inside.own c.self.inside.carriers c.self.inside.created
     c.self.invariant c.args.need c.args.plan _ c.self.view_is c.requires.plan)

@@ -18,5 +18,5 @@ returns-clause-space c =
     let i = c.args.self.now in
     subst (λ r. (r ≡ Err Space) ↔ ((AllUsed i → ⊥)
     × All (λ (s : Segment). s.pages < least_pages c.args.need)
-    (runs i.first i.end (segments i.contents)))) (sym c.plan_for.ensures.plan)
+    (runs i.first i.end (segments i.own)))) (sym c.plan_for.ensures.plan)
     (plan-space i c.args.need)

@@ -1,16 +1,15 @@
-use Rattle.std.proofs.Common.{◌≡◌, ◌+◌, ◌≤◌, ◌++◌, ◌∷◌, [], set, length, length-append, sym, ap, ◌∙◌, subst, arith, refl}
+use Rattle.std.proofs.Common.{◌≡◌, ◌++◌, ◌∷◌, [], set, sym, ap, ◌∙◌, subst, arith, refl}
 use Rattle.std.specs.Prelude.{Some}
 use Rattle.std.proofs.lemmas.Result.{IfOk-weaker}
 use Rattle.ea_model.specs.Units.{need_of}
 use Rattle.ea_laws.specs.Run.{Run, allocating}
 use Rattle.ea_model.specs.Instance.{Instance, chosen_spot, plan, creating}
-use Rattle.ea_model.specs.declared.entries.Entry.TheVariants.{Alloc, AllocFail}
+use Rattle.ea_model.specs.declared.entries.Entry.TheVariants.{Alloc}
 use Rattle.ea_laws.specs.Spots.{IsPlaced}
 use Rattle.ea_top.specs.declared.scheduler.Scheduler.{Scheduler}
 use Rattle.ea_top.specs.Holding.{HoldsBlocks, IsChosenPlace, spot_at}
 use Rattle.ea_top.specs.Running.{Reaches, Shows}
 use Rattle.ea_model.proofs.Options.{some_holds}
-use Rattle.ea_laws.proofs.Keeping.{plan-IsPlanned}
 use Rattle.ea_top.proofs.Steps.{holds_placed, placed-chosen, unplaced, shows_failed, shows_here, shows_new}
 use Rattle.ea_top.proofs.scheduler.Scheduler.alloc.Goals as goal
 
@@ -22,8 +21,8 @@ hold-requires-clause-blocks c =
     (IsPlaced c.args.self.instance.contents c.try_alloc.new.self.contents c.args.name)
     c.in-Some.is c.in_ok-place.ensures.blocks) c.args.self.blocks
 
-pub returns-in-Some-clause-shows : goal.returns-in-Some-clause-shows
-returns-in-Some-clause-shows c =
+pub returns-in-Some : goal.returns-in-Some
+returns-in-Some c =
     let chosen = placed-chosen c.args.self.instance c.try_alloc.new.self _ c.need-units.result
     c.args.name c.in-Some.place refl (sym c.in_ok-place.ensures.place
     ∙ c.in-Some.is) c.in_ok-place.ensures.ok in
@@ -36,20 +35,6 @@ returns-in-Some-clause-shows c =
     (λ s h r k. shows_here r c.args.self s c.need-units.result c.args.name c.in-Some.place k
     (omega (arith, c.args.self.names, c.requires.name)) h.1 h.2 (need_of c.args.bytes)
     c.try_alloc.new.self c.need-units.ensures chosen h.0)
-    c.hold.ensures
-
-pub returns-in-Some-clause-grown : goal.returns-in-Some-clause-grown
-returns-in-Some-clause-grown c =
-    IfOk-weaker c.hold.result (λ (s : Scheduler). (s.instance ≡ c.try_alloc.new.self)
-    × (s.spots.items ≡ set c.args.self.spots.items c.args.name (Some (spot_at c.in-Some.place)))
-    × (s.log.items ≡ c.args.self.log.items ++ Alloc c.args.name c.in-Some.place ∷ []))
-    (λ (s : Scheduler). length s.log.items ≤ length c.args.self.log.items + 1)
-    (λ s h. omega (
-      arith,
-      ap length h.2,
-      length-append c.args.self.log.items
-          (Alloc c.args.name c.in-Some.place ∷ []),
-    ))
     c.hold.ensures
 
 pub hold-requires-in-Ok-clause-blocks : goal.hold-requires-in-Ok-clause-blocks
@@ -70,18 +55,10 @@ invariant_of-result c =
       names = c.args.self.names;
       blocks = subst (λ (i : Instance). HoldsBlocks i.contents c.args.self.spots.items)
           (sym rest.1) c.args.self.blocks;
-      created = omega (
-        arith,
-        c.args.self.created,
-        ap (λ (i : Instance). i.created) rest.1,
-        ap length c.in_ok-push-in-Err.ensures.ok,
-        length-append c.args.self.log.items
-            (AllocFail c.args.name c.need-units.result 0 c.in-Err.why ∷ []),
-      );
     }
 
-pub returns-in_ok-place-in-Ok-clause-shows : goal.returns-in_ok-place-in-Ok-clause-shows
-returns-in_ok-place-in-Ok-clause-shows c =
+pub returns-in_ok-place-in-Ok : goal.returns-in_ok-place-in-Ok
+returns-in_ok-place-in-Ok c =
     let rest = unplaced c.args.self.instance c.try_alloc.new.self _ c.need-units.result c.args.name
     refl (sym c.in_ok-place.ensures.place ∙ c.in_default.is) c.in_ok-place.ensures.ok in
     let planned = ap (λ i. plan i c.need-units.result) (sym rest.1) ∙ sym c.in-Ok.ensures.plan in
@@ -101,37 +78,8 @@ returns-in_ok-place-in-Ok-clause-shows c =
     c.place_in_new.new.instance c.in-Ok.plan c.need-units.ensures rest.0 planned chosen h.0)
     c.hold-in-Ok.ensures
 
-pub returns-in_ok-place-in-Ok-clause-grown : goal.returns-in_ok-place-in-Ok-clause-grown
-returns-in_ok-place-in-Ok-clause-grown c =
-    IfOk-weaker c.hold-in-Ok.result (λ (s : Scheduler). (s.instance ≡ c.place_in_new.new.instance)
-    × (s.spots.items ≡ set c.args.self.spots.items c.args.name
-    (Some (spot_at c.in_ok-place-in-Ok.place)))
-    × (s.log.items ≡ c.args.self.log.items ++ Alloc c.args.name c.in_ok-place-in-Ok.place ∷ []))
-    (λ (s : Scheduler). length s.log.items ≤ length c.args.self.log.items + 1)
-    (λ s h. omega (
-      arith,
-      ap length h.2,
-      length-append c.args.self.log.items
-          (Alloc c.args.name c.in_ok-place-in-Ok.place ∷ []),
-    ))
-    c.hold-in-Ok.ensures
-
-pub hold-requires-in-Ok-clause-created : goal.hold-requires-in-Ok-clause-created
-hold-requires-in-Ok-clause-created c =
-    let rest = unplaced c.args.self.instance c.try_alloc.new.self _ c.need-units.result c.args.name
-    refl (sym c.in_ok-place.ensures.place ∙ c.in_default.is) c.in_ok-place.ensures.ok in
-    let birth = (plan-IsPlanned c.try_alloc.new.self c.need-units.result c.in-Ok.plan
-    (sym c.in-Ok.ensures.plan)).birth in
-    omega (
-      arith,
-      c.args.self.created,
-      birth,
-      ap (λ (i : Instance). i.created) rest.1,
-      ap (λ (i : Instance). i.created) c.in_ok-place-in-Ok.ensures.ok.3,
-    )
-
-pub returns-in_ok-push-in-Err-clause-shows : goal.returns-in_ok-push-in-Err-clause-shows
-returns-in_ok-push-in-Err-clause-shows c = λ r k.
+pub returns-in_ok-push-in-Err : goal.returns-in_ok-push-in-Err
+returns-in_ok-push-in-Err c = λ r k.
     let rest = unplaced c.args.self.instance c.try_alloc.new.self _ c.need-units.result c.args.name
     refl (sym c.in_ok-place.ensures.place ∙ c.in_default.is) c.in_ok-place.ensures.ok in
     let planned = ap (λ i. plan i c.need-units.result) (sym rest.1) ∙ sym c.in-Err.ensures.plan in

@@ -1,10 +1,8 @@
-use Rattle.std.proofs.Common.{◌≡◌, sym, ap, ◌∙◌, ◌∷◌, [], length, length-append, refl, arith, rules}
+use Rattle.std.proofs.Common.{◌≡◌, sym, ◌∙◌, refl, arith, rules}
 use Rattle.std.specs.Prelude.{Some, None}
 use Rattle.std.proofs.lemmas.List.{get_or_read}
-use Rattle.ea_model.specs.declared.entries.Entry.TheVariants.{Free}
-use Rattle.ea_model.specs.Instance.{Instance}
 use Rattle.ea_laws.specs.Run.{spot_held}
-use Rattle.ea_top.proofs.Steps.{some_block, holds_released, shows_freed, freed_at-keeps}
+use Rattle.ea_top.proofs.Steps.{some_block, holds_released, shows_freed}
 use Rattle.ea_top.proofs.scheduler.Scheduler.free.Goals as goal
 
 pub free_at-requires : goal.free_at-requires
@@ -18,27 +16,16 @@ pub invariant_of-result-2 : goal.invariant_of-result-2
 invariant_of-result-2 c =
     let here = sym (get_or_read c.args.self.spots.items c.args.name c.index.result.now
     (omega (arith, c.args.self.names, c.requires.name)) c.index.ensures None) ∙ c.in-Some.is in
-    let left = c.in_ok-free_at.ensures.ok in
-    let keeps = freed_at-keeps c.args.self.instance c.in-Some.spot in
     record {
       names = search rules;
       blocks = holds_released c.args.self.instance.contents c.free_at.new.instance.contents
           c.args.self.spots.items c.args.name c.in-Some.spot
           (omega (arith, c.args.self.names, c.requires.name)) here c.in_ok-free_at.ensures.others
           c.args.self.blocks;
-      created = omega (
-        arith,
-        c.args.self.created,
-        ap (λ (i : Instance). i.created) left,
-        keeps.1,
-        ap length c.in_ok-push-2.ensures.ok,
-        length-append c.args.self.log.items
-            (Free c.args.name ∷ []),
-      );
     }
 
-pub returns-clause-shows : goal.returns-clause-shows
-returns-clause-shows c = λ r k.
+pub returns : goal.returns
+returns c = λ r k.
     let some : spot_held c.args.name r.held ≡ Some c.in-Some.spot =
     sym (k.held c.args.name c.requires.name)
     ∙ sym (get_or_read c.args.self.spots.items c.args.name c.index.result.now

@@ -16,28 +16,28 @@ reaches_step o self s built done r k =
     let here = subst (λ i. IsBuiltOp i.settings o) k.instance built in
     subst (λ next. Reaches next s) (sym (step-built r o here)) (done r k)
 
-pub returns-in-Alloc-clause-shows : goal.returns-in-Alloc-clause-shows
-returns-in-Alloc-clause-shows c =
+pub returns-in-Alloc : goal.returns-in-Alloc
+returns-in-Alloc c =
     let done = subst (λ o. IfOk c.alloc.result (λ (s : Scheduler). (r : Run) → Shows r c.args.self
-    → Reaches (doing r o) s)) (sym c.in-Alloc.is) c.alloc.ensures.shows in
+    → Reaches (doing r o) s)) (sym c.in-Alloc.is) c.alloc.ensures in
     IfOk-weaker c.alloc.result
     (λ (s : Scheduler). (r : Run) → Shows r c.args.self → Reaches (doing r c.args.op) s)
     (λ (s : Scheduler). (r : Run) → Shows r c.args.self → Reaches (step r c.args.op) s)
     (λ s h. reaches_step c.args.op c.args.self s c.requires.built h) done
 
-pub returns-in-Free-clause-shows : goal.returns-in-Free-clause-shows
-returns-in-Free-clause-shows c =
+pub returns-in-Free : goal.returns-in-Free
+returns-in-Free c =
     let done = subst (λ o. IfOk c.free.result (λ (s : Scheduler). (r : Run) → Shows r c.args.self
-    → Reaches (doing r o) s)) (sym c.in-Free.is) c.free.ensures.shows in
+    → Reaches (doing r o) s)) (sym c.in-Free.is) c.free.ensures in
     IfOk-weaker c.free.result
     (λ (s : Scheduler). (r : Run) → Shows r c.args.self → Reaches (doing r c.args.op) s)
     (λ (s : Scheduler). (r : Run) → Shows r c.args.self → Reaches (step r c.args.op) s)
     (λ s h. reaches_step c.args.op c.args.self s c.requires.built h) done
 
-pub returns-in-Idle-clause-shows : goal.returns-in-Idle-clause-shows
-returns-in-Idle-clause-shows c =
+pub returns-in-Idle : goal.returns-in-Idle
+returns-in-Idle c =
     let done = subst (λ o. IfOk c.idle.result (λ (s : Scheduler). (r : Run) → Shows r c.args.self
-    → Reaches (doing r o) s)) (sym c.in-Idle.is) c.idle.ensures.shows in
+    → Reaches (doing r o) s)) (sym c.in-Idle.is) c.idle.ensures in
     IfOk-weaker c.idle.result
     (λ (s : Scheduler). (r : Run) → Shows r c.args.self → Reaches (doing r c.args.op) s)
     (λ (s : Scheduler). (r : Run) → Shows r c.args.self → Reaches (step r c.args.op) s)

@@ -6,28 +6,20 @@ use Rattle.ea_model.specs.Instance.{Instance, chosen_spot}
 use Rattle.ea_instance.specs.Answers.{placing_if}
 use Rattle.ea_trials_choice.proofs.against_plain.Sides.place.Goals as goal
 
--- a block more changes neither the settings nor how many carriers were created
+-- a block more doesn't change the settings
 same_settings : (i : Instance) (o : Option Spot) (need name : ℕ)
     → (placing_if i o need name).settings ≡ i.settings
 same_settings i None need name = refl
 same_settings i (Some spot) need name = refl
-
-same_created : (i : Instance) (o : Option Spot) (need name : ℕ)
-    → (placing_if i o need name).created ≡ i.created
-same_created i None need name = refl
-same_created i (Some spot) need name = refl
 
 pub invariant_of-self-2 : goal.invariant_of-self-2
 invariant_of-self-2 g c =
     let old = c.args.self.now.instance in
     let spot = chosen_spot old c.args.need in
     let placed = c.in_ok-got.ensures.ok in
-    let same = same_created old spot c.args.need c.args.name in
     record {
       threshold =
           ap (λ (i : Instance). i.settings.sbct) placed
           ∙ ap (λ (s : Settings). s.sbct) (same_settings old spot c.args.need c.args.name)
           ∙ c.args.self.now.threshold;
-      counted = subst (λ n. n ≤ c.args.self.now.created)
-          (sym (ap (λ (i : Instance). i.created) placed ∙ same)) c.args.self.now.counted;
     }

@@ -6,28 +6,20 @@ use Rattle.ea_model.specs.Instance.{Instance, chosen_spot}
 use Rattle.ea_instance.specs.Answers.{placing_if}
 use Rattle.ea_trials_instance.proofs.tests.Trial.step.Goals as goal
 
--- a block more changes neither the settings nor how many carriers were created
+-- a block more doesn't change the settings
 same_settings : (i : Instance) (o : Option Spot) (need name : ℕ)
     → (placing_if i o need name).settings ≡ i.settings
 same_settings i None need name = refl
 same_settings i (Some spot) need name = refl
-
-same_created : (i : Instance) (o : Option Spot) (need name : ℕ)
-    → (placing_if i o need name).created ≡ i.created
-same_created i None need name = refl
-same_created i (Some spot) need name = refl
 
 pub invariant_of-self-in-Put : goal.invariant_of-self-in-Put
 invariant_of-self-in-Put g c =
     let old = c.args.self.now.instance in
     let spot = chosen_spot old c.in-Put.need in
     let placed = c.in_ok-try_alloc-in-Put.ensures.ok in
-    let same = same_created old spot c.in-Put.need c.in-Put.name in
     record {
       threshold =
           ap (λ (i : Instance). i.settings.sbct) placed
           ∙ ap (λ (s : Settings). s.sbct) (same_settings old spot c.in-Put.need c.in-Put.name)
           ∙ c.args.self.now.threshold;
-      counted = subst (λ n. n ≤ c.args.self.now.created)
-          (sym (ap (λ (i : Instance). i.created) placed ∙ same)) c.args.self.now.counted;
     }

@@ -1,6 +1,6 @@
 use Rattle.std.proofs.Common.{◌≡◌, ℕ, ◌+◌}
 use Rattle.ea_model.specs.Instance.{unused_from}
-use Rattle.ea_instance.proofs.walks.unused_number.Given as goal
+use Rattle.ea_instance.proofs.own.unused_number.Given as goal
 
 -- the lowest unused number of those that are left is the lowest of all
 abbrev pub invariant-loop-k : goal.invariant-loop-k

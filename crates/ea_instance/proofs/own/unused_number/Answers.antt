@@ -3,7 +3,7 @@ use Rattle.std.specs.Prelude.{is_some}
 use Rattle.ea_model.specs.Instance.{unused_from}
 use Rattle.ea_model.proofs.Options.{is_some-map}
 use Rattle.ea_laws.proofs.Unused.{stops_here, goes_on, ends}
-use Rattle.ea_instance.proofs.walks.unused_number.Goals as goal
+use Rattle.ea_instance.proofs.own.unused_number.Goals as goal
 
 pub loop-k-init : goal.loop-k-init
 loop-k-init c =

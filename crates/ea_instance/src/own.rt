@@ -1,0 +1,105 @@
+//! The carriers that an instance owns, and the pages of its region that they have.
+ghost use Rattle.std.specs.Prelude.{◌≡◌, ◌+◌, ◌^◌, ◌<◌, ◌≤◌, [], IfOk, IsSome, Some, false, length};
+ghost use Rattle.ea_model.specs.declared.units.TheConstants.{NUMBERS};
+ghost use Rattle.ea_model.specs.Instance.{is_used, own_at, segments, unused_from, with_own, without_own};
+ghost use Rattle.ea_model.specs.Region.{lowest_run, runs};
+
+use ea_model::keyed::{enter_within, item_of, take_out};
+use ea_model::{NUMBERS, OutOfMemory, OwnCarrier};
+use ea_space::Region;
+use std::alloc::Global;
+use std::marker::Model;
+
+/// The carriers that an instance owns, and its region, of which they have the taken pages.
+/// Contracts see the region's first page, the page after its last one, and the carriers by rising
+/// number.
+#[derive(Drop)]
+pub struct OwnCarriers {
+    list: Vec<OwnCarrier>,
+    region: Region,
+}
+
+impl Model for OwnCarriers {
+    ghost use Rattle.std.specs.Prelude.{vec_capacity};
+    ghost use Rattle.ea_instance.specs.Own.{OwnList, HaveSegments};
+
+    ghost Value = { OwnList };
+
+    ghost view = { λ o. record {
+      first = o.region.first;
+      end = o.region.end;
+      carriers = o.list.items;
+    } };
+
+    ghost invariant = { λ o. HaveSegments (vec_capacity o.list) o.list.items o.region };
+}
+
+/// The lowest of an instance's numbers, from `first` on, that no carrier has.
+fn unused_number(first: u32, carriers: &[OwnCarrier]) -> Option<u32>
+    requires { first + NUMBERS < 2 ^ 32 }
+    ensures { result ≡ unused_from NUMBERS first carriers.now }
+{
+    for k in 0..NUMBERS {
+        if item_of(first + k, carriers).is_none() {
+            return Some(first + k);
+        }
+    }
+    None
+}
+
+impl OwnCarriers {
+    /// No carriers, and a region of `pages` pages from page `first` on. It takes the memory for as
+    /// many carriers as an instance has numbers.
+    pub fn new(alloc: Global, first: u32, pages: u32) -> Result<OwnCarriers, OutOfMemory>
+        requires { first + pages < 2 ^ 32 }
+        ensures { IfOk result (λ o. o ≡ record {
+          first = first;
+          end = first + pages;
+          carriers = [];
+        }) }
+    {
+        let region = Region::new(alloc, first, pages)?;
+        Ok(OwnCarriers {
+            list: Vec::with_capacity(alloc, NUMBERS as usize)?,
+            region,
+        })
+    }
+
+    /// The lowest of the instance's numbers, from `first` on, that isn't in use.
+    pub fn unused_number(&self, first: u32) -> Option<u32>
+        requires { first + NUMBERS < 2 ^ 32 }
+        ensures { result ≡ unused_from NUMBERS first self.now.carriers }
+    {
+        unused_number(first, &self.list)
+    }
+
+    /// Where the lowest free run with that many pages begins.
+    pub fn free_run(&self, pages: u32) -> Option<u32>
+        ensures { result ≡ lowest_run pages
+            (runs self.now.first self.now.end (segments self.now.carriers)) }
+    {
+        self.region.find(pages)
+    }
+
+    /// Adds a carrier, where `free_run` finds its pages.
+    pub fn add(&mut self, carrier: OwnCarrier)
+        requires some { 1 ≤ carrier.pages }
+        requires room { length self.old.carriers < NUMBERS }
+        requires number { is_used carrier.number self.old.carriers ≡ false }
+        requires found { lowest_run carrier.pages
+            (runs self.old.first self.old.end (segments self.old.carriers)) ≡ Some carrier.base }
+        ensures { self.new ≡ record self.old { carriers = with_own carrier self.old.carriers } }
+    {
+        self.region.take(carrier.base, carrier.pages);
+        enter_within(carrier, &mut self.list);
+    }
+
+    /// Takes out the carrier with the number, which is there. Its pages are free again.
+    pub fn remove(&mut self, number: u32)
+        requires { IsSome (own_at self.old.carriers number) }
+        ensures { self.new ≡ record self.old { carriers = without_own number self.old.carriers } }
+    {
+        let carrier = take_out(number, &mut self.list);
+        self.region.give_back(carrier.base, carrier.pages);
+    }
+}
