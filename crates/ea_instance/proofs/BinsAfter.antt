@@ -12,11 +12,12 @@ use Rattle.ea_mbc.specs.Gaps.{Replaced}
 use Rattle.ea_goodfit.specs.declared.gaps.BinnedGap.{BinnedGap}
 use Rattle.ea_goodfit.specs.Gaps.{HeldGaps}
 use Rattle.ea_laws.specs.Kept.{number_of, ContentsApart, IsLaidOut}
-use Rattle.ea_laws.proofs.Apart.{all-sound, apart-changed, apart-with}
+use Rattle.ea_laws.proofs.Apart.{apart-changed, changed-All, turned-apart}
+use Rattle.ea_model.proofs.Merged.{entered-with}
 use Rattle.ea_laws.proofs.Candidates.{gaps_Inside, Inside}
 use Rattle.ea_laws.proofs.Changed.{KeepsPlace, placed-keeps, released-keeps}
 use Rattle.ea_laws.proofs.Standing.{placed-IsLaidOut, released-IsLaidOut}
-use Rattle.ea_model.proofs.Options.{if_some}
+use Rattle.ea_model.proofs.Options.{if_some, same-some}
 use Rattle.ea_model.proofs.Rising.{All-entered, item_at-All}
 use Rattle.std.proofs.lemmas.Bool.{cases_eq}
 use Rattle.std.proofs.lemmas.List.Elements.{All-head, All-tail}
@@ -70,7 +71,7 @@ module _ (x : Content) (sound : IsLaidOut x) (none : x.blocks ≡ []) (address f
       let alone : All (λ (g : BinnedGap). g.address ≢ address) (all_gaps cs) =
       first-alone (all_gaps now) (record { address = address; size = fit }) (all_gaps cs)
       (gaps-distinct now (All-entered number_of IsLaidOut x cs sound laid.sound)
-      (apart-with x cs laid.apart apart))
+      (entered-with number_of ContentsApart turned-apart x cs laid.apart apart))
       (subst (λ gs. IsPermutation (all_gaps now) (gs ++ all_gaps cs))
       (gap_from-some address fit some) (with_own cs)) in
       if_some bins (λ b. IsPermutation b.held (all_gaps cs))
@@ -195,8 +196,9 @@ module _ (f : Content → Content) (k : KeepsPlace f) (n : ℕ) (item : Content)
 
   differ : DifferIn (all_gaps (changed f n cs))
   differ =
-      gaps-distinct (changed f n cs) (all-sound f k n item cs there laid.rising laid.sound sound)
-      (apart-changed f k n item cs laid.apart)
+      gaps-distinct (changed f n cs) (changed-All IsLaidOut f n cs laid.rising laid.sound
+      (λ c at. subst (λ d. IsLaidOut (f d)) (same-some (content_of cs n) item c there at) sound))
+      (apart-changed f k n cs laid.apart)
 
   -- what a block at the front of a gap takes of all gaps
   module _ (address offset whole size : ℕ) (e : address ≡ 512 * item.base + offset)

@@ -1,11 +1,13 @@
 -- A change of the content at an index of the carriers.
-use Rattle.std.proofs.Common.{◌≡◌, ℕ, zero, suc, ◌+◌, ◌<◌, ◌≤◌, List, [], ◌∷◌, length, get_or, set, sym, ap, ◌∙◌, subst, refl, inl, inr, arith}
-use Rattle.std.specs.Prelude.{Some, IsSome}
+use Rattle.std.proofs.Common.{◌≡◌, ℕ, zero, suc, ◌+◌, ◌<◌, ◌≤◌, List, [], ◌∷◌, All, length, get_or, map, set, sym, ap, ◌∙◌, subst, refl, inl, inr, arith}
+use Rattle.std.specs.Prelude.{Option, Some, IsSome}
+use Rattle.std.specs.Option.{option_and_then}
 use Rattle.std.proofs.lemmas.Bool.{cases_eq}
+use Rattle.std.proofs.lemmas.List.Elements.{All-head, All-tail}
 use Rattle.ea_model.specs.declared.carriers.BlockAt.{BlockAt}
 use Rattle.ea_model.specs.Keyed.{IsBelow}
 use Rattle.ea_model.specs.Content.{Content, block_at, Tiled}
-use Rattle.ea_model.specs.Instance.{content_of, changed}
+use Rattle.ea_model.specs.Instance.{block_in, content_of, changed}
 use Rattle.ea_model.proofs.Pairs.{pairs_head, pairs_tail}
 use Rattle.ea_model.proofs.Rising.{changed_here, changed_none, changed_past, item_at-each, item_at-key, others}
 use Rattle.ea_laws.specs.Kept.{number_of, IsRising}
@@ -14,11 +16,11 @@ use Rattle.ea_laws.proofs.Tiling.{Tiled-allocated}
 use Rattle.ea_instance.specs.Choices.{IsChoice}
 use Rattle.ea_instance.specs.declared.choice.Choice.{Choice}
 
-same_at : {A : Type 0} (xs : List A) (i : ℕ) (a b : A) → i < length xs
+pub same-at : {A : Type 0} (xs : List A) (i : ℕ) (a b : A) → i < length xs
     → get_or xs i a ≡ get_or xs i b
-same_at [] i a b lt = absurd (omega arith)
-same_at (x ∷ xs) zero a b lt = refl
-same_at (x ∷ xs) (suc i) a b lt = same_at xs i a b (omega arith)
+same-at [] i a b lt = absurd (omega arith)
+same-at (x ∷ xs) zero a b lt = refl
+same-at (x ∷ xs) (suc i) a b lt = same-at xs i a b (omega arith)
 
 set-at : (f : Content → Content) (i : ℕ) (d : Content) (cs : List Content) → IsRising cs
     → i < length cs → set cs i (f (get_or cs i d)) ≡ changed f (get_or cs i d).number cs
@@ -59,7 +61,7 @@ at_index cs seen i n item same within found is =
 pub choice-same : (need : ℕ) (cs : List Content) (found : Choice) (item : Content)
     → item ≡ get_or cs found.index item → (w : IsChoice need cs found) → w.content ≡ item
 choice-same need cs found item is w =
-    sym w.is ∙ same_at cs found.index w.content item w.within ∙ sym is
+    sym w.is ∙ same-at cs found.index w.content item w.within ∙ sym is
 
 pub at_choice : (need : ℕ) (cs : List Content) (found : Choice) (item : Content) → IsRising cs
     → item ≡ get_or cs found.index item → IsChoice need cs found
@@ -80,6 +82,30 @@ pub set_is_changed : (f : Content → Content) (cs : List Content) (i n : ℕ) (
 set_is_changed f cs i n item x at rising e =
     ap (set cs i) (e ∙ ap f at.is) ∙ set-at f i item cs rising at.within
     ∙ ap (λ m. changed f m cs) (ap number_of (sym at.is) ∙ at.number)
+
+-- what holds of the block at a spot holds of that at the offset in the content of the number
+pub block-there : (P : Option BlockAt → Type 0) (cs : List Content) (n offset : ℕ) (item : Content)
+    → content_of cs n ≡ Some item → P (block_in cs (record { carrier = n; offset = offset }))
+    → P (block_at item.blocks offset)
+block-there P cs n offset item there h =
+    subst (λ o. P (option_and_then (λ (c : Content). block_at c.blocks offset) o)) there h
+
+-- what is the same of the changed content is the same of all
+pub map-kept : {B : Type 0} (g : Content → B) (f : Content → Content) (n : ℕ) (item : Content)
+    (cs : List Content) → All (λ c. c.number ≡ n → c ≡ item) cs → g (f item) ≡ g item
+    → map g (changed f n cs) ≡ map g cs
+map-kept g f n item [] one same = refl
+map-kept g f n item (c ∷ cs) one same =
+    let is_item : Content → Type 0 = λ x. x.number ≡ n → x ≡ item in
+    let more = map-kept g f n item cs (All-tail is_item c cs one) same in
+    elim (cases_eq c.number n) [
+      | inl e ↦
+          ap (map g) (changed_here number_of f n c cs e)
+          ∙ ap (λ y. y ∷ map g (changed f n cs))
+          (subst (λ x. g (f x) ≡ g x) (sym (All-head is_item c cs one e)) same)
+          ∙ ap (λ ys. g c ∷ ys) more
+      | inr o ↦ ap (map g) (changed_past number_of f n c cs o) ∙ ap (λ ys. g c ∷ ys) more
+    ]
 
 none_there : (offset : ℕ) → IsSome (block_at [] offset) → ⊥
 none_there offset h = grind arith

@@ -209,10 +209,6 @@ module _ (need : ℕ) (best : Option Candidate) (c : Content) (cs : List Content
       (cond-true (is_empty_multi c) (c ∷ filter is_empty_multi cs) (filter is_empty_multi cs)
       done) ∙ choice_more Aoff need best c (filter is_empty_multi cs) shared
 
-  pub empty_past : is_empty_multi c ≡ false → of_empty (c ∷ cs) best ≡ of_empty cs best
-  empty_past f = ap (λ ds. fold (better lower) best (large_enough need (candidates ds)))
-      (cond-false (is_empty_multi c) (c ∷ filter is_empty_multi cs) (filter is_empty_multi cs) f)
-
 -- the better of two choices has the better candidate
 pub better_of-candidates : (t : Candidate → Candidate → Bool) (best found : Option Choice)
     → candidate_of (better_of (λ a b. t a.candidate b.candidate) best found)

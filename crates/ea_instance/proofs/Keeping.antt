@@ -1,31 +1,33 @@
 -- What an instance keeps of its carriers through its calls.
-use Rattle.std.proofs.Common.{◌≡◌, ℕ, ◌+◌, ◌*◌, ◌%◌, ◌<◌, ◌≤◌, false, List, length, All, sym, ap, ◌∙◌, subst, arith}
-use Rattle.std.specs.Prelude.{Option, Some, None, Result, Ok, Err, OnOk, OnErr, option_map}
-use Rattle.std.proofs.lemmas.List.{length-map}
+use Rattle.std.proofs.Common.{◌≡◌, ℕ, ◌+◌, ◌*◌, ◌%◌, ◌<◌, ◌≤◌, true, false, List, length, All, sym, ap, ◌∙◌, subst, refl, arith}
+use Rattle.std.specs.Prelude.{Option, Some, None, Result, Ok, Err, IfOk, is_some, option_map}
 use Rattle.ea_model.specs.declared.settings.Settings.{Settings}
 use Rattle.ea_model.specs.declared.carriers.Candidate.{Candidate}
 use Rattle.ea_model.specs.declared.carriers.Spot.{Spot}
-use Rattle.ea_model.specs.declared.entries.NoCarrier.TheVariants.{Space}
 use Rattle.ea_model.specs.declared.carriers.CarrierPlan.{CarrierPlan}
+use Rattle.ea_model.specs.declared.entries.NoCarrier.{NoCarrier}
 use Rattle.ea_model.specs.declared.carriers.Kind.TheVariants.{Multi}
-use Rattle.ea_model.specs.Content.{Content, placed, released}
-use Rattle.ea_model.specs.Instance.{Instance, first_number, changed, content_of, has_content, own_at, own_of, planned_own, with_content, with_own, without_own, unused_from, is_used, free_run, least_pages, next_pages, planned, plan, created_content, creating, without_content, chosen_spot, block_in, size_for, place_at, placing_at}
+use Rattle.ea_model.specs.Content.{Content, block_at, placed, released}
+use Rattle.ea_model.specs.Instance.{Instance, block_in, changed, changing, chosen_spot, clearing, content_of, created_content, created_single, creating, creating_single, employed, free_run, has_content, is_used, own_at, own_of, place_at, placing_at, plan, planned_own, releasing_at, single_place, size_for, with_content, with_own, without_content, without_own}
 use Rattle.ea_model.specs.Strategies.{choice_among, choice_empty, may_miss, or_else, spot_of}
 use Rattle.ea_instance.specs.Answers.{placing_if}
-use Rattle.ea_instance.specs.Changes.{AreLaid}
 use Rattle.ea_instance.specs.Choices.{IsChoice}
 use Rattle.ea_instance.specs.declared.choice.Choice.{Choice}
 use Rattle.ea_instance.specs.Kept.{KeepsCarriers, seen_as}
 use Rattle.ea_instance.specs.Listed.{CarrierList}
 use Rattle.ea_instance.specs.Own.{OwnList}
 use Rattle.ea_instance.proofs.Changed.{at_choice}
-use Rattle.ea_laws.specs.Kept.{ContentsApart, IsWhole}
-use Rattle.ea_laws.specs.Spots.{HasGap, HaveSameBlocks, IsOther, IsPlaced}
-use Rattle.ea_laws.proofs.Blocks.{creating-same, placing-IsPlaced, releasing-others}
+use Rattle.ea_laws.specs.Kept.{number_of, ContentsApart, IsWhole, Stands}
+use Rattle.ea_laws.specs.Spots.{HasGap, HaveSameBlocks, IsPlaced}
+use Rattle.ea_laws.proofs.Blocks.{creating-same, creating_single-IsPlaced, placing-IsPlaced}
 use Rattle.ea_laws.proofs.Keeping.{IsLaidOut-made, has-number, lies-low, other-numbers, plan-IsPlanned}
-use Rattle.ea_laws.proofs.Owned.{rising-length}
-use Rattle.ea_laws.proofs.Standing.{clearing-Stands, creating-Stands, employed-few, employed-own, placing-Stands, planned-apart, planned-new, releasing-Stands}
-use Rattle.ea_model.specs.declared.units.TheConstants.{MAX_UNITS}
+use Rattle.ea_laws.proofs.Standing.{clearing-Stands, creating-Stands, creating_single-Stands, employed-few, employed-multi, employed-own, employed-rising, multi-apart, placing-Stands, planned-alone, planned-apart, planned-few, planned-new, releasing-Stands}
+use Rattle.ea_model.specs.declared.units.TheConstants.{MAX_PAGES, MAX_UNITS}
+use Rattle.ea_laws.proofs.Changed.{KeepsPlace, released-keeps}
+use Rattle.ea_laws.proofs.Contents.{absent-among}
+use Rattle.ea_model.proofs.Merged.{merged-apart, merged-second}
+use Rattle.ea_model.proofs.Rising.{changed_none, none-other, without_none}
+use Rattle.std.specs.Option.{option_and_then}
 
 -- the carrier that enters is the planned one
 pub entering : (n number : ℕ) (p : CarrierPlan) (carrier : Content) → n ≡ number
@@ -35,81 +37,222 @@ entering n number p carrier seen is =
     ap (λ (y : Content). record y { kind = Multi }) is
     ∙ ap (λ m. created_content m Multi p) (sym seen)
 
-module _ (s : Settings) (n : ℕ) (own : OwnList) (ks : CarrierList) (created : ℕ)
-    (k : KeepsCarriers s n own ks created) where
-  abbrev here : Instance
-  here = seen_as s n own ks created
+-- a plan has pages, as many as the largest super carrier at most
+pub planned-pages : (i : Instance) (need : ℕ) → Stands i → (r : Result CarrierPlan NoCarrier)
+    → r ≡ plan i need → IfOk r (λ p. (1 ≤ p.pages) × (p.pages ≤ MAX_PAGES))
+planned-pages i need st (Err why) is = tt
+planned-pages i need st (Ok p) is = (
+  omega (arith, (plan-IsPlanned i need p (sym is)).enough),
+  omega (arith, lies-low i need p st.kept (sym is)),
+)
 
-  pub kept-laid : AreLaid ks.contents
-  kept-laid = record { rising = k.stands.rising; sound = k.stands.sound; apart = k.stands.apart }
+-- an instance that stands is kept
+pub keeping : (s : Settings) (n : ℕ) (own : OwnList) (ks : CarrierList) (ss : List Content)
+    (created : ℕ) → ks.strategy ≡ s.strategy → Stands (seen_as s n own ks ss created)
+    → KeepsCarriers s n own ks ss created
+keeping s n own ks ss created strategy stands =
+    let i = seen_as s n own ks ss created in
+    record {
+      strategy = strategy;
+      laid = record {
+        rising = stands.rising;
+        sound = stands.sound;
+        apart = multi-apart i stands;
+      };
+      stands = stands;
+    }
+
+-- what there is of two, the first before the second
+abbrev pub either : {A : Type 0} → Option A → Option A → Option A
+either None q = q
+either (Some x) q = Some x
+
+pub either-some : {A : Type 0} (p q : Option A) → is_some p ≡ true → is_some (either p q) ≡ true
+either-some None q h = absurd cc
+either-some (Some x) q h = refl
+
+pub either-none : {A : Type 0} (p q : Option A) → is_some p ≡ false → either p q ≡ q
+either-none None q h = refl
+either-none (Some x) q h = absurd cc
+
+pub is-none : {A : Type 0} (o : Option A) → is_some o ≡ false → o ≡ None
+is-none None h = refl
+is-none (Some x) h = absurd cc
+
+module _ (s : Settings) (n : ℕ) (own : OwnList) (ks : CarrierList) (ss : List Content)
+    (created : ℕ) (k : KeepsCarriers s n own ks ss created) where
+  abbrev here : Instance
+  here = seen_as s n own ks ss created
 
   -- there are no more carriers than numbers
-  pub kept-few : length ks.contents ≤ 256
-  kept-few = omega (
-    arith,
-    rising-length _ _ own.carriers k.stands.kept.rising k.stands.kept.numbers,
-    ap length k.stands.agrees,
-    length-map ks.contents own_of,
-  )
+  pub kept-few : length ks.contents + length ss ≤ 256
+  kept-few = employed-few here k.stands
 
-  -- a block is released
-  pub kept-released : (spot : Spot) (new : CarrierList)
-      → new ≡ record ks {
-        contents = changed (λ c. released c spot.offset) spot.carrier ks.contents;
-      }
-      → KeepsCarriers s n own new created
-  kept-released spot new is =
-      subst (λ xs. KeepsCarriers s n own xs created) (sym is) (record {
-        strategy = k.strategy;
-        stands = releasing-Stands here spot k.stands;
-      })
+  -- a content of a multiblock carrier, or else of a singleblock one, is one of all
+  pub all-multi : (number : ℕ) (c : Content) → content_of ks.contents number ≡ Some c
+      → content_of (employed here) number ≡ Some c
+  all-multi number c there = employed-multi here number c k.stands there
 
-  -- or not, where there is no memory
-  pub kept-either : {T E : Type 0} (o : Result T E) (spot : Spot) (new : CarrierList)
-      → OnOk o (new ≡ record ks {
-        contents =
-            changed (λ c. released c spot.offset) spot.carrier ks.contents;
-      })
-      → OnErr o (new ≡ ks) → KeepsCarriers s n own new created
-  kept-either (Ok x) spot new ok err = kept-released spot new ok
-  kept-either (Err e) spot new ok err = subst (λ xs. KeepsCarriers s n own xs created) (sym err) k
+  pub all-single : (number : ℕ) → content_of ks.contents number ≡ None
+      → content_of (employed here) number ≡ content_of ss number
+  all-single number none = merged-second number_of number ks.contents ss none
 
-  pub others-either : {T E : Type 0} (o : Result T E) (spot : Spot) (new : CarrierList)
-      (now : Instance) → seen_as s n own ks created ≡ now
-      → OnOk o (new ≡ record ks {
-        contents =
-            changed (λ c. released c spot.offset) spot.carrier ks.contents;
-      })
-      → OnErr o (new ≡ ks) → (at : Spot) → IsOther spot.carrier spot.offset at
-      → block_in new.contents at ≡ block_in now.contents at
-  others-either (Ok x) spot new now seen ok err at other =
-      ap (λ (ys : CarrierList). block_in ys.contents at) ok ∙ releasing-others here spot at other
-      ∙ ap (λ i. block_in i.contents at) seen
-  others-either (Err e) spot new now seen ok err at other =
-      ap (λ (ys : CarrierList). block_in ys.contents at) err
-      ∙ ap (λ i. block_in i.contents at) seen
+  -- the content with a number is one of the multiblock carriers' or one of the others'
+  by_list : (number : ℕ) (o : Option Content) → content_of ks.contents number ≡ o
+      → content_of (employed here) number ≡ either o (content_of ss number)
+  by_list number None e = all-single number e
+  by_list number (Some c) e = all-multi number c e
+
+  -- so it is found, in the one list or in the other
+  module _ (now : Instance) (seen : here ≡ now) (number : ℕ) where
+    pub seen-found : content_of (employed now) number
+        ≡ either (content_of ks.contents number) (content_of ss number)
+    seen-found = sym (ap (λ i. content_of (employed i) number) seen)
+        ∙ by_list number (content_of ks.contents number) refl
+
+    pub found-multi : (c : Content) → content_of ks.contents number ≡ Some c
+        → content_of (employed now) number ≡ Some c
+    found-multi c there = seen-found ∙ ap (λ o. either o (content_of ss number)) there
+
+    pub found-single : content_of ks.contents number ≡ None
+        → content_of (employed now) number ≡ content_of ss number
+    found-single none = seen-found ∙ ap (λ o. either o (content_of ss number)) none
+
+  -- a carrier changes its blocks
+  module _ (f : Content → Content) (keeps : KeepsPlace f) (number : ℕ) where
+    -- a multiblock one
+    pub changed-multi : (c : Content) → content_of ks.contents number ≡ Some c
+        → seen_as s n own (record ks { contents = changed f number ks.contents }) ss created
+        ≡ changing here f number
+    changed-multi c there =
+        ap (λ xs. seen_as s n own (record ks { contents = changed f number ks.contents }) xs
+        created) (sym (changed_none number_of f number ss
+        (merged-apart number_of number c ks.contents ss (employed-rising here k.stands) there)))
+
+    -- a singleblock one
+    pub changed-single : content_of ks.contents number ≡ None
+        → seen_as s n own ks (changed f number ss) created ≡ changing here f number
+    changed-single none =
+        ap (λ xs. seen_as s n own (record ks { contents = xs }) (changed f number ss) created)
+        (sym (changed_none number_of f number ks.contents
+        (none-other number_of number ks.contents none)))
+
+  -- the blocks of a carrier are those of the instance
+  pub block-multi : (spot : Spot) (c : Content) → content_of ks.contents spot.carrier ≡ Some c
+      → block_in (employed here) spot ≡ block_in ks.contents spot
+  block-multi spot c there =
+      ap (option_and_then (λ (x : Content). block_at x.blocks spot.offset))
+      (all-multi spot.carrier c there ∙ sym there)
+
+  pub block-single : (spot : Spot) → content_of ks.contents spot.carrier ≡ None
+      → block_in (employed here) spot ≡ block_in ss spot
+  block-single spot none =
+      ap (option_and_then (λ (x : Content). block_at x.blocks spot.offset))
+      (all-single spot.carrier none)
+
+  -- after a release in a multiblock carrier
+  module _ (spot : Spot) (now : Instance) (seen : here ≡ now) where
+    abbrev f : Content → Content
+    f c = released c spot.offset
+
+    module _ (c : Content) (there : content_of ks.contents spot.carrier ≡ Some c)
+        (new : CarrierList)
+        (is : new ≡ record ks { contents = changed f spot.carrier ks.contents }) where
+      pub seen-released : seen_as s n own new ss created ≡ releasing_at now spot
+      seen-released =
+          ap (λ xs. seen_as s n own xs ss created) is
+          ∙ changed-multi f (released-keeps spot.offset) spot.carrier c there
+          ∙ ap (λ i. releasing_at i spot) seen
+
+      pub kept-released : KeepsCarriers s n own new ss created
+      kept-released =
+          subst (λ xs. KeepsCarriers s n own xs ss created) (sym is) (keeping _ _ _ _ _ _ k.strategy
+          (subst Stands
+          (sym (changed-multi f (released-keeps spot.offset) spot.carrier c there))
+          (releasing-Stands here spot k.stands)))
+
+    -- after one in a singleblock carrier
+    module _ (none : content_of ks.contents spot.carrier ≡ None) (new : List Content)
+        (is : new ≡ changed f spot.carrier ss) where
+      pub seen-single-released : seen_as s n own ks new created ≡ releasing_at now spot
+      seen-single-released =
+          ap (λ xs. seen_as s n own ks xs created) is
+          ∙ changed-single f (released-keeps spot.offset) spot.carrier none
+          ∙ ap (λ i. releasing_at i spot) seen
+
+      pub kept-single-released : KeepsCarriers s n own ks new created
+      kept-single-released =
+          subst (λ xs. KeepsCarriers s n own ks xs created) (sym is) (keeping _ _ _ _ _ _ k.strategy
+          (subst Stands
+          (sym (changed-single f (released-keeps spot.offset) spot.carrier none))
+          (releasing-Stands here spot k.stands)))
 
   -- the instance owns what it employs
-  pub kept-own : (number : ℕ) (c : Content) → content_of ks.contents number ≡ Some c
+  pub kept-own : (number : ℕ) (c : Content) → content_of (employed here) number ≡ Some c
       → own_at own.carriers number ≡ Some (own_of c)
   kept-own number c there = employed-own here number c k.stands there
 
   -- a carrier goes
-  pub kept-cleared : (number : ℕ) (c : Content) (new : CarrierList) (left : OwnList)
-      → content_of ks.contents number ≡ Some c
-      → new ≡ record ks { contents = without_content number ks.contents }
-      → left ≡ record own { carriers = without_own number own.carriers }
-      → KeepsCarriers s n left new created
-  kept-cleared number c new left there is gone =
-      subst (λ xs. KeepsCarriers s n left xs created) (sym is)
-      (subst (λ os. KeepsCarriers s n os
-      (record ks { contents = without_content number ks.contents }) created) (sym gone) (record {
-        strategy = k.strategy;
-        stands = clearing-Stands here number c k.stands there;
-      }))
+  module _ (number : ℕ) (c : Content) (there : content_of (employed here) number ≡ Some c)
+      (left : OwnList) (gone : left ≡ record own { carriers = without_own number own.carriers })
+    where
+      abbrev cleared : Instance
+      cleared = clearing here number
+
+      kept_cleared : (new : CarrierList) (rest : List Content)
+          → new ≡ record ks { contents = without_content number ks.contents }
+          → rest ≡ without_content number ss → KeepsCarriers s n left new rest created
+      kept_cleared new rest is lacks =
+          subst (λ xs. KeepsCarriers s n left xs rest created) (sym is)
+          (subst (λ ys. KeepsCarriers s n left
+          (record ks { contents = without_content number ks.contents }) ys created) (sym lacks)
+          (subst (λ os. KeepsCarriers s n os
+          (record ks { contents = without_content number ks.contents })
+          (without_content number ss) created) (sym gone) (keeping _ _ _ _ _ _ k.strategy
+          (clearing-Stands here number c k.stands there))))
+
+      seen_cleared : (now : Instance) → here ≡ now → (new : CarrierList) (rest : List Content)
+          → new ≡ record ks { contents = without_content number ks.contents }
+          → rest ≡ without_content number ss
+          → seen_as s n left new rest created ≡ clearing now number
+      seen_cleared now seen new rest is lacks =
+          ap (λ xs. seen_as s n left xs rest created) is
+          ∙ ap (λ ys. seen_as s n left
+          (record ks { contents = without_content number ks.contents }) ys created) lacks
+          ∙ ap (λ os. seen_as s n os (record ks { contents = without_content number ks.contents })
+          (without_content number ss) created) gone ∙ ap (λ i. clearing i number) seen
+
+      -- a multiblock one
+      module _ (x : Content) (multi : content_of ks.contents number ≡ Some x) (new : CarrierList)
+          (is : new ≡ record ks { contents = without_content number ks.contents }) where
+        others : ss ≡ without_content number ss
+        others = sym (without_none number_of number ss
+            (merged-apart number_of number x ks.contents ss (employed-rising here k.stands) multi))
+
+        pub kept-cleared : KeepsCarriers s n left new ss created
+        kept-cleared = kept_cleared new ss is others
+
+        pub seen-cleared : (now : Instance) → here ≡ now
+            → seen_as s n left new ss created ≡ clearing now number
+        seen-cleared now seen = seen_cleared now seen new ss is others
+
+      -- a singleblock one
+      module _ (none : content_of ks.contents number ≡ None) (rest : List Content)
+          (lacks : rest ≡ without_content number ss) where
+        same_list : ks ≡ record ks { contents = without_content number ks.contents }
+        same_list = ap (λ xs. record ks { contents = xs })
+            (sym (without_none number_of number ks.contents
+            (none-other number_of number ks.contents none)))
+
+        pub kept-single-cleared : KeepsCarriers s n left ks rest created
+        kept-single-cleared = kept_cleared ks rest same_list lacks
+
+        pub seen-single-cleared : (now : Instance) → here ≡ now
+            → seen_as s n left ks rest created ≡ clearing now number
+        seen-single-cleared now seen = seen_cleared now seen ks rest same_list lacks
 
   -- a gap that the carriers choose is the one that the instance does
-  module _ (need : ℕ) (found : Choice) (now : Instance) (seen : seen_as s n own ks created ≡ now)
+  module _ (need : ℕ) (found : Choice) (now : Instance) (seen : here ≡ now)
       (chosen : Some found.candidate ≡ or_else (may_miss ks.strategy)
       (choice_among ks.strategy s.mbsd need ks.contents) (choice_empty need ks.contents))
       (choice : IsChoice need ks.contents found) where
@@ -141,44 +284,48 @@ module _ (s : Settings) (n : ℕ) (own : OwnList) (ks : CarrierList) (created : 
           contents =
               changed (λ c. placed c x.offset need name) x.number ks.contents;
         }) where
-      pub seen-placed : seen_as s n own new created ≡ placing_if now (chosen_spot now need) need name
+      pub seen-placed : seen_as s n own new ss created
+          ≡ placing_if now (chosen_spot now need) need name
       seen-placed =
-          ap (λ ys. seen_as s n own ys created) is
+          ap (λ ys. seen_as s n own ys ss created) is
           ∙ ap (λ i. placing_at i (spot_of x) need name) seen
           ∙ ap (λ o. placing_if now o need name) chosen_here
 
-      pub kept-placed : KeepsCarriers s n own new created
+      pub kept-placed : KeepsCarriers s n own new ss created
       kept-placed =
-          subst (λ xs. KeepsCarriers s n own xs created) (sym is) (record {
-            strategy = k.strategy;
-            stands = placing-Stands here (spot_of x) need name k.stands has-gap least even;
-          })
+          subst (λ xs. KeepsCarriers s n own xs ss created) (sym is) (keeping _ _ _ _ _ _ k.strategy
+          (placing-Stands here (spot_of x) need name k.stands has-gap least even))
 
       pub blocks-placed : (size : ℕ)
           → size ≡ size_for (content_of ks.contents x.number) x.offset need
-          → IsPlaced now.contents new.contents name
+          → IsPlaced (employed now) (employed (seen_as s n own new ss created)) name
           (record { carrier = x.number; offset = x.offset; size = size })
       blocks-placed size sized =
-          subst (λ (i : Instance). IsPlaced i.contents new.contents name
+          subst (λ (i : Instance). IsPlaced (employed i)
+          (employed (seen_as s n own new ss created)) name
           (record { carrier = x.number; offset = x.offset; size = size })) seen
-          (subst (λ (ys : CarrierList). IsPlaced ks.contents ys.contents name
+          (subst (λ (ys : CarrierList). IsPlaced (employed here)
+          (employed (seen_as s n own ys ss created)) name
           (record { carrier = x.number; offset = x.offset; size = size })) (sym is)
-          (subst (λ m. IsPlaced ks.contents (placing_at here (spot_of x) need name).contents name
-          (record { carrier = x.number; offset = x.offset; size = m })) (sym sized)
+          (subst (λ m. IsPlaced (employed here) (employed (placing_at here (spot_of x) need name))
+          name (record { carrier = x.number; offset = x.offset; size = m })) (sym sized)
           (placing-IsPlaced here (spot_of x) need name k.stands has-gap least)))
 
   -- a carrier comes by a plan
-  module _ (need : ℕ) (p : CarrierPlan) (now : Instance) (seen : seen_as s n own ks created ≡ now)
+  module _ (need : ℕ) (p : CarrierPlan) (now : Instance) (seen : here ≡ now)
       (asked : plan now need ≡ Ok p) where
     asked_here : plan here need ≡ Ok p
     asked_here = ap (λ i. plan i need) seen ∙ asked
 
-    -- the new carrier has a number of its own, also among those that are employed
+    -- it has a number of its own, also among those that are employed
     pub unused-number : is_used p.number own.carriers ≡ false
     unused-number = other-numbers here need p k.stands.kept asked_here
 
-    pub new-number : has_content p.number ks.contents ≡ false
-    new-number = planned-new here need p k.stands asked_here
+    pub new-multi : has_content p.number ks.contents ≡ false
+    new-multi = absent-among p.number ks.contents (planned-new here need p k.stands asked_here)
+
+    pub new-single : has_content p.number ss ≡ false
+    new-single = absent-among p.number ss (planned-alone here need p k.stands asked_here)
 
     -- it meets no other one, lies low enough and has whole pages
     pub others-apart : All (ContentsApart (created_content n Multi p)) ks.contents
@@ -191,8 +338,8 @@ module _ (s : Settings) (n : ℕ) (own : OwnList) (ks : CarrierList) (created : 
     whole-pages = (IsLaidOut-made here need p k.stands.kept asked_here).whole
 
     -- there are fewer carriers than numbers
-    pub few-employed : length ks.contents < 256
-    few-employed = employed-few here need p k.stands asked_here
+    pub few-employed : length ks.contents + length ss < 256
+    few-employed = planned-few here need p k.stands asked_here
 
     pub few-own : length own.carriers < 256
     few-own = has-number here need p k.stands.kept asked_here
@@ -201,32 +348,57 @@ module _ (s : Settings) (n : ℕ) (own : OwnList) (ks : CarrierList) (created : 
     pub free-run : free_run here p.pages ≡ Some p.base
     free-run = (plan-IsPlanned here need p asked_here).run
 
-    -- after it was added and has entered, all is kept
-    module _ (more : OwnList) (new : CarrierList)
-        (added : more ≡ record own { carriers = with_own (planned_own p) own.carriers })
-        (is : new ≡ record ks {
-          contents =
-              with_content (created_content n Multi p) ks.contents;
-        }) where
-      pub kept-created : KeepsCarriers s n more new p.birth
-      kept-created =
-          subst (λ ys. KeepsCarriers s n more ys p.birth) (sym is)
-          (subst (λ os. KeepsCarriers s n os
-          (record ks { contents = with_content (created_content n Multi p) ks.contents }) p.birth)
-          (sym added) (record {
-            strategy = k.strategy;
-            stands = creating-Stands here need p k.stands asked_here;
-          }))
+    pub pages-most : p.pages ≤ MAX_PAGES
+    pages-most = omega (arith, low-enough)
 
-      -- and the instance is then the one that owns and employs the carrier
-      pub seen-created : seen_as s n more new p.birth ≡ creating now p
-      seen-created =
-          ap (λ ys. seen_as s n more ys p.birth) is
-          ∙ ap (λ os. seen_as s n os
-          (record ks { contents = with_content (created_content n Multi p) ks.contents }) p.birth)
-          added ∙ ap (λ i. creating i p) seen
+    module _ (more : OwnList)
+        (added : more ≡ record own { carriers = with_own (planned_own p) own.carriers }) where
+      -- a multiblock one
+      module _ (new : CarrierList)
+          (is : new ≡ record ks {
+            contents = with_content (created_content n Multi p) ks.contents;
+          }) where
+        pub kept-created : KeepsCarriers s n more new ss p.birth
+        kept-created =
+            subst (λ ys. KeepsCarriers s n more ys ss p.birth) (sym is)
+            (subst (λ os. KeepsCarriers s n os
+            (record ks { contents = with_content (created_content n Multi p) ks.contents }) ss
+            p.birth) (sym added) (keeping _ _ _ _ _ _ k.strategy
+            (creating-Stands here need p k.stands asked_here)))
 
-    pub blocks-created : HaveSameBlocks now.contents (creating now p).contents
+        pub seen-created : seen_as s n more new ss p.birth ≡ creating now p
+        seen-created =
+            ap (λ ys. seen_as s n more ys ss p.birth) is
+            ∙ ap (λ os. seen_as s n os
+            (record ks { contents = with_content (created_content n Multi p) ks.contents }) ss
+            p.birth) added ∙ ap (λ i. creating i p) seen
+
+      -- a singleblock one
+      module _ (name : ℕ) (least : 6 ≤ need) (even : need % 2 ≡ 0) (new : List Content)
+          (is : new ≡ with_content (created_single n p need name) ss) where
+        pub kept-single-created : KeepsCarriers s n more ks new p.birth
+        kept-single-created =
+            subst (λ ys. KeepsCarriers s n more ks ys p.birth) (sym is)
+            (subst (λ os. KeepsCarriers s n os ks
+            (with_content (created_single n p need name) ss) p.birth) (sym added) (keeping _ _ _ _ _ _ k.strategy
+            (creating_single-Stands here need p k.stands asked_here name least even)))
+
+        pub seen-single-created : seen_as s n more ks new p.birth
+            ≡ creating_single now p need name
+        seen-single-created =
+            ap (λ ys. seen_as s n more ks ys p.birth) is
+            ∙ ap (λ os. seen_as s n os ks (with_content (created_single n p need name) ss)
+            p.birth) added ∙ ap (λ i. creating_single i p need name) seen
+
+    pub blocks-created : HaveSameBlocks (employed now) (employed (creating now p))
     blocks-created =
-        subst (λ i. HaveSameBlocks i.contents (creating i p).contents) seen
+        subst (λ i. HaveSameBlocks (employed i) (employed (creating i p))) seen
         (creating-same here need p k.stands asked_here)
+
+    pub blocks-single : (name : ℕ)
+        → IsPlaced (employed now) (employed (creating_single now p need name)) name
+        (single_place p need)
+    blocks-single name =
+        subst (λ i. IsPlaced (employed i) (employed (creating_single i p need name)) name
+        (single_place p need)) seen
+        (creating_single-IsPlaced here need name p k.stands asked_here)

@@ -2,10 +2,14 @@ pub mod ByCarrier
 pub mod Changed
 pub mod Choosing
 pub mod Folding
+pub mod Following
 pub mod Gaps
 pub mod BinsAfter
 pub mod Keeping
 pub mod Listed
 pub mod Located
+pub mod Merging
 pub mod Missing
 pub mod Owned
+pub mod Reallocating
+pub mod Resizing

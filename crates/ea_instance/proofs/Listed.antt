@@ -19,7 +19,7 @@ use Rattle.ea_laws.specs.Kept.{number_of, IsRising}
 use Rattle.ea_instance.specs.Binned.{Hold}
 use Rattle.ea_instance.specs.Listed.{all_gaps, held_of, IsListed}
 use Rattle.ea_laws.proofs.Changed.{KeepsPlace}
-use Rattle.ea_laws.proofs.Apart.{only_item}
+use Rattle.ea_laws.proofs.Apart.{only-item}
 
 -- a carrier that is listed is held
 pub held-some : (n : ℕ) (cs : List Content) → IsSome (content_of cs n)
@@ -81,7 +81,7 @@ module _ (f : Content → Content) (k : KeepsPlace f) (n : ℕ) (item : Content)
     held =
         ap (λ (x : Carriers). x.held) e ∙ ap (refitted n fit) l.held
         ∙ ap (λ m. refitted n m (map held_of cs)) fits
-        ∙ held-changed cs (only_item f k n item cs rising there) ∙ sym (ap (map held_of) is);
+        ∙ held-changed cs (only-item n item cs rising there) ∙ sym (ap (map held_of) is);
     room = subst (λ (x : Carriers). 256 ≤ x.room) (sym e) l.room;
     some = (λ gf. same ∙ l.some.0 gf, λ h. l.some.1 (sym same ∙ h));
     gaps = gaps;

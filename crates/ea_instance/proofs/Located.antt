@@ -1,10 +1,10 @@
 -- A gap is found by its address.
 use Rattle.std.proofs.Common.{◌≡◌, ◌≢◌, ℕ, ◌+◌, ◌*◌, ◌<◌, ◌≤◌, Bool, true, false, List, [], ◌∷◌, length, map, refl, ap, ◌∙◌, inl, inr, arith}
-use Rattle.std.specs.Prelude.{Option, None, Some, IfSome, All, AllPairs, Contains, filter, fold, option_map, nat_le, nat_lt, ◌==◌, ◌&&◌, if◌then◌else◌}
+use Rattle.std.specs.Prelude.{Option, None, Some, IfSome, All, AllPairs, filter, fold, option_map, nat_le, nat_lt, ◌==◌, ◌&&◌, if◌then◌else◌}
 use Rattle.std.specs.Option.{option_and_then}
 use Rattle.std.proofs.lemmas.Bool.{cond-true, cond-false}
 use Rattle.std.proofs.lemmas.List.{length-map}
-use Rattle.std.proofs.lemmas.List.Elements.{All-nil, All-head, All-tail, All-append, All-weaker, All-filter, All-contains, filter_agree}
+use Rattle.std.proofs.lemmas.List.Elements.{All-nil, All-head, All-tail, All-append, All-weaker, All-filter, filter_agree}
 use Rattle.ea_model.specs.declared.carriers.Candidate.{Candidate}
 use Rattle.ea_model.specs.declared.carriers.Gap as model
 use Rattle.ea_model.specs.Content.{Content, gaps_of}
@@ -69,12 +69,6 @@ found_All (c ∷ cs) sound apart =
     (found_past c cs) (candidates cs)
     (others_outside c cs rest (pairs_head ContentsApart c cs apart))
     (found_All cs rest (pairs_tail ContentsApart c cs apart)))
-
--- the gap at the address of a candidate is this candidate
-pub candidate_at-found : (x : Candidate) (cs : List Content) → All IsLaidOut cs
-    → AllPairs ContentsApart cs → Contains (candidates cs) x → candidate_at (gap_of x) cs ≡ Some x
-candidate_at-found x cs sound apart among = All-contains (λ y. candidate_at (gap_of y) cs ≡ Some y)
-    (candidates cs) x (found_All cs sound apart) among
 
 module _ {A B : Type 0} (f : A → B) where
   filter_mapped : (p : B → Bool) (xs : List A)

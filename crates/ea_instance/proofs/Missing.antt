@@ -12,7 +12,7 @@ use Rattle.ea_model.specs.Choice.{first}
 use Rattle.ea_model.specs.GoodFit.{good_fit, is_inspected}
 use Rattle.ea_model.specs.Strategies.{candidates, choice_among, large_enough, inspected_by, lower, only, takes_first}
 use Rattle.ea_model.proofs.First.{first-All, large-here, large-past}
-use Rattle.ea_model.proofs.Options.{some_holds}
+use Rattle.ea_model.proofs.Options.{same-some, some_holds}
 use Rattle.ea_goodfit.specs.declared.gaps.BinnedGap.{BinnedGap}
 use Rattle.ea_laws.specs.Kept.{number_of, ContentsApart, IsLaidOut}
 use Rattle.ea_instance.specs.Listed.{all_gaps, candidate_at}
@@ -42,10 +42,6 @@ gf-large depth need cs =
     (All-filter (is_inspected (λ x. x.address) (λ x. x.size) depth all) (Contains all) all
     (All-contains_itself all)))
 
-same_one : (n : ℕ) (c d : Content) (cs : List Content) → content_of cs n ≡ Some c
-    → content_of cs n ≡ Some d → c ≡ d
-same_one n c d cs at there = let same : Some c ≡ Some d = sym at ∙ there in cc
-
 -- so it is a choice, where it stands in the carrier of its number
 pub gf-IsChoice : (depth need : ℕ) (cs : List Content) (o : Option Choice) → AreLaid cs
     → candidate_of o ≡ choice_among Gf depth need cs → IfSome o (StandsAt cs)
@@ -60,7 +56,7 @@ gf-IsChoice depth need cs (Some x) laid is stands =
     let there : content_of cs y.number ≡ Some c =
     ap (content_of cs) (stands.number ∙ sym (ap number_of stands.is))
     ∙ item_at-each number_of x.index c cs laid.rising stands.within ∙ ap Some stands.is in
-    let same = same_one y.number owned.0 c cs owned.1 there in
+    let same = same-some (content_of cs y.number) owned.0 c owned.1 there in
     record {
       content = c;
       within = stands.within;

@@ -1,14 +1,15 @@
 -- What a call makes of one carrier of an instance.
-use Rattle.std.specs.Prelude.{◌≡◌, ℕ, ◌+◌, ◌*◌, List, Some, AllPairs, All}
+use Rattle.std.specs.Prelude.{◌≡◌, ℕ, ◌+◌, ◌*◌, List, Some, IsSome, AllPairs, All}
 use Rattle.ea_model.specs.declared.carriers.Candidate.{Candidate}
-use Rattle.ea_model.specs.Content.{Content, gaps_of, gap_before, gap_behind, largest, placed, released, taken_of}
+use Rattle.ea_model.specs.Content.{Content, block_at, gaps_of, gap_before, gap_behind, largest, placed, released, resized, size_of, taken_of, Tiled}
 use Rattle.ea_model.specs.Instance.{changed, content_of}
-use Rattle.ea_mbc.specs.Gaps.{GapTaken, GapsJoined}
+use Rattle.ea_mbc.specs.Gaps.{GapResized, GapTaken, GapsJoined}
 use Rattle.ea_laws.specs.Kept.{ContentsApart, IsLaidOut, IsRising}
 use Rattle.ea_instance.specs.Answers.{follow_up}
 use Rattle.ea_instance.specs.Choices.{IsChosenIn}
 use Rattle.ea_instance.specs.declared.changes.Placed.{Placed}
 use Rattle.ea_instance.specs.declared.changes.Joined.{Joined}
+use Rattle.ea_instance.specs.declared.employed.Resized.{Resized}
 
 -- the carriers stand by rising number, are laid out and lie apart
 pub record AreLaid (cs : List Content) : Type 0 where
@@ -38,3 +39,34 @@ pub record IsReleasing (number offset : ℕ) (f : Joined) (old new : List Conten
   pub largest : f.largest ≡ largest (gaps_of (released content offset))
   pub joined : GapsJoined content (released content offset) offset f.block.size
   pub next : f.next ≡ follow_up (Some (released content offset))
+
+-- the block at the offset has that many units and this name
+pub record IsResized (offset units name : ℕ) (r : Resized) (old new : Content) : Type 0 where
+  pub block : IsSome (block_at old.blocks offset)
+  pub is : new ≡ resized old offset units name
+  pub address : r.was.address ≡ 512 * old.base + offset
+  pub was : r.was.size ≡ size_of (block_at old.blocks offset)
+  pub after : r.was.after ≡ gap_behind old offset
+  pub size : r.size ≡ units
+  pub largest : r.largest ≡ largest (gaps_of new)
+  pub tiled : Tiled 8 new.units new.blocks
+  pub gap : GapResized old new offset r.was.size r.size
+
+-- the block at the offset of the carrier with the number has this name, and as many units as the
+-- carrier gives it
+pub record IsResizing (number offset : ℕ) (units : Content → ℕ) (name : ℕ) (r : Resized)
+    (old new : List Content) : Type 0 where
+  pub content : Content
+  pub there : content_of old number ≡ Some content
+  pub is : new ≡ changed (λ c. resized c offset (units c) name) number old
+  pub block : IsResized offset (units content) name r content
+      (resized content offset (units content) name)
+
+-- the block at the offset of the carrier with the number has this name, and the gaps stay
+pub record IsRenaming (number offset name : ℕ) (old new : List Content) : Type 0 where
+  pub content : Content
+  pub there : content_of old number ≡ Some content
+  pub is : new
+      ≡ changed (λ c. resized c offset (size_of (block_at c.blocks offset)) name) number old
+  pub gaps : gaps_of (resized content offset (size_of (block_at content.blocks offset)) name)
+      ≡ gaps_of content

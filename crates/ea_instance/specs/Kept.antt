@@ -1,25 +1,29 @@
 -- What an instance keeps of its carriers.
-use Rattle.std.specs.Prelude.{◌≡◌, ℕ}
+use Rattle.std.specs.Prelude.{◌≡◌, ℕ, List}
 use Rattle.ea_model.specs.declared.settings.Settings.{Settings}
+use Rattle.ea_model.specs.Content.{Content}
 use Rattle.ea_model.specs.Instance.{Instance}
 use Rattle.ea_laws.specs.Kept.{Stands}
+use Rattle.ea_instance.specs.Changes.{AreLaid}
 use Rattle.ea_instance.specs.Listed.{CarrierList}
 use Rattle.ea_instance.specs.Own.{OwnList}
 
 -- the instance of these fields
-abbrev pub seen_as : Settings → ℕ → OwnList → CarrierList → ℕ → Instance
-seen_as settings number own carriers created = record {
+abbrev pub seen_as : Settings → ℕ → OwnList → CarrierList → List Content → ℕ → Instance
+seen_as settings number own carriers singles created = record {
   settings = settings;
   number = number;
   first = own.first;
   end = own.end;
   own = own.carriers;
   contents = carriers.contents;
+  singles = singles;
   created = created;
 }
 
--- the carriers choose by the settings' strategy, and the instance stands
+-- the carriers choose by the settings' strategy and are laid out, and the instance stands
 pub record KeepsCarriers (settings : Settings) (number : ℕ) (own : OwnList)
-    (carriers : CarrierList) (created : ℕ) : Type 0 where
+    (carriers : CarrierList) (singles : List Content) (created : ℕ) : Type 0 where
   pub strategy : carriers.strategy ≡ settings.strategy
-  pub stands : Stands (seen_as settings number own carriers created)
+  pub laid : AreLaid carriers.contents
+  pub stands : Stands (seen_as settings number own carriers singles created)

@@ -5,5 +5,6 @@ pub mod Changes
 pub mod Binned
 pub mod Listed
 pub mod Own
+pub mod Merging
 pub mod Kept
 pub mod Answers

@@ -1,5 +1,5 @@
 -- The carriers that an instance owns, and its region.
-use Rattle.std.specs.Prelude.{◌≡◌, ℕ, ◌≤◌, List, All}
+use Rattle.std.specs.Prelude.{◌≡◌, ℕ, ◌^◌, ◌<◌, ◌≤◌, List, All}
 use Rattle.ea_model.specs.declared.carriers.OwnCarrier.{OwnCarrier}
 use Rattle.ea_model.specs.declared.units.TheConstants.{NUMBERS}
 use Rattle.ea_model.specs.Instance.{segments}
@@ -20,3 +20,4 @@ pub record HaveSegments (capacity : ℕ) (own : List OwnCarrier) (region : Regio
   pub pages : All HasPages own
   pub taken : region.taken ≡ segments own
   pub laid : Laid region.first region.end region.taken
+  pub low : region.end < 2 ^ 32

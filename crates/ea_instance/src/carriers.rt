@@ -2,11 +2,12 @@
 ghost use Rattle.std.specs.Prelude.{◌≡◌, ℕ, ◌*◌, ◌+◌, ◌%◌, ◌<◌, ◌≤◌, [], All, Some, None, true, false, IsSome, IfSome, IfOk, OnOk, OnErr, length};
 ghost use Rattle.std.specs.Option.{option_and_then};
 ghost use Rattle.ea_model.specs.declared.settings.Strategy.TheVariants.{Gf, Af};
-ghost use Rattle.ea_model.specs.declared.units.TheConstants.{MAX_UNITS, NUMBERS, PAGE_UNITS};
-ghost use Rattle.ea_model.specs.Content.{Content, placed, released};
+ghost use Rattle.ea_model.specs.declared.units.TheConstants.{MAX_UNITS, MIN_BLOCK, NUMBERS, PAGE_UNITS};
+ghost use Rattle.ea_model.specs.Content.{Content, block_at, placed, released, resized, size_of, taken_of};
 ghost use Rattle.ea_model.specs.Choice.{first};
 ghost use Rattle.ea_model.specs.Strategies.{candidates, choice_among, choice_empty, inner_of, large_enough, may_miss, or_else};
 ghost use Rattle.ea_model.specs.Instance.{changed, content_of, block_in, has_content, size_for, with_content, without_content};
+ghost use Rattle.ea_mbc.specs.Gaps.{room_at};
 ghost use Rattle.ea_laws.specs.Kinds.{is_shared};
 ghost use Rattle.ea_laws.specs.Kept.{ContentsApart, IsWhole};
 ghost use Rattle.ea_instance.specs.Answers.{follow_up};
@@ -24,6 +25,7 @@ use crate::strategies::{Search, inner_of, search_of};
 use crate::walks::{best_choice, choice_at, lowest_empty};
 use ea_cset::CarrierSet;
 use ea_goodfit::{BinnedGap, Bins};
+use ea_mbc::Freed;
 use ea_model::keyed::{enter, index_of, take_out};
 use ea_model::{HEADER_UNITS, Inner, OutOfMemory, Strategy};
 use std::alloc::Global;
@@ -184,6 +186,81 @@ impl Carriers {
         self.set.update(number, joined.largest);
         note_released(&mut self.bins, joined.address, joined.block);
         Ok(joined.next)
+    }
+
+    /// The block at the offset in the carrier with the number has this name from now on. It takes
+    /// no memory.
+    pub fn rename(&mut self, number: u32, offset: u32, name: u32)
+        requires laid { AreLaid self.old.contents }
+        requires block { IsSome (block_in self.old.contents
+            (record { carrier = number; offset = offset })) }
+        ensures { self.new ≡ record self.old {
+          contents = changed (λ c. resized c offset (size_of (block_at c.blocks offset)) name)
+              number self.old.contents;
+        } }
+    {
+        changes::rename(&mut self.list, number, offset, name);
+    }
+
+    /// The block at the offset in the carrier with the number has `need` units and this name from
+    /// now on. It gives back at least 6 units.
+    pub fn shrink(
+        &mut self,
+        number: u32,
+        offset: u32,
+        need: u32,
+        name: u32,
+    ) -> Result<(), OutOfMemory>
+        requires laid { AreLaid self.old.contents }
+        requires block { IsSome (block_in self.old.contents
+            (record { carrier = number; offset = offset })) }
+        requires fewer { need + MIN_BLOCK ≤ size_of (block_in self.old.contents
+            (record { carrier = number; offset = offset })) }
+        requires even { need % 2 ≡ 0 }
+        requires least { MIN_BLOCK ≤ need }
+        ensures ok { OnOk result (self.new ≡ record self.old {
+          contents = changed (λ c. resized c offset need name) number self.old.contents;
+        }) }
+        ensures err { OnErr result (self.new ≡ self.old) }
+    {
+        make_room(&mut self.bins)?;
+        let block = changes::shrink(&mut self.list, number, offset, need, name);
+        self.set.update(number, block.largest);
+        let freed = Freed {
+            before: 0,
+            size: block.was.size - block.size,
+            after: block.was.after,
+        };
+        note_released(&mut self.bins, block.was.address + block.size, freed);
+        Ok(())
+    }
+
+    /// The block at the offset in the carrier with the number takes of the gap directly after it
+    /// what it needs to have `need` units, or the whole gap where fewer than 6 units would be left
+    /// of it, and has this name from now on. It takes no memory.
+    pub fn grow(&mut self, number: u32, offset: u32, need: u32, name: u32)
+        requires laid { AreLaid self.old.contents }
+        requires block { IsSome (block_in self.old.contents
+            (record { carrier = number; offset = offset })) }
+        requires more { size_of (block_in self.old.contents
+            (record { carrier = number; offset = offset })) < need }
+        requires fits { IfSome (content_of self.old.contents number)
+            (λ c. need ≤ room_at c offset) }
+        requires even { need % 2 ≡ 0 }
+        ensures { self.new ≡ record self.old {
+          contents = changed (λ c. resized c offset (taken_of (room_at c offset) need) name)
+              number self.old.contents;
+        } }
+    {
+        let block = changes::grow(&mut self.list, number, offset, need, name);
+        self.set.update(number, block.largest);
+        let end = block.was.address + block.was.size;
+        note_placed(
+            &mut self.bins,
+            end,
+            block.was.after,
+            block.size - block.was.size,
+        );
     }
 
     /// Puts a carrier without blocks among the others, by its number.

@@ -1,12 +1,14 @@
 //! Changes of one of an instance's carriers.
-ghost use Rattle.std.specs.Prelude.{◌≡◌, ◌%◌, ◌≤◌, IsSome, IfOk, OnErr, Some};
-ghost use Rattle.ea_model.specs.Instance.{block_in};
-ghost use Rattle.ea_instance.specs.Answers as answers;
+ghost use Rattle.std.specs.Prelude.{◌≡◌, ◌+◌, ◌%◌, ◌<◌, ◌≤◌, IsSome, IfOk, IfSome, OnErr, Some};
+ghost use Rattle.ea_model.specs.declared.units.TheConstants.{MAX_UNITS, MIN_BLOCK};
+ghost use Rattle.ea_model.specs.Content.{Content, block_at, gaps_of, resized, size_of, taken_of};
+ghost use Rattle.ea_model.specs.Instance.{block_in, changed, content_of};
+ghost use Rattle.ea_mbc.specs.Gaps.{room_at};
 ghost use Rattle.ea_instance.specs.Choices.{IsChoice};
-ghost use Rattle.ea_instance.specs.Changes.{AreLaid, IsPlacing, IsReleasing};
+ghost use Rattle.ea_instance.specs.Changes.{AreLaid, IsPlacing, IsReleasing, IsRenaming, IsResizing};
 
 use crate::choice::Choice;
-use crate::employed::Employed;
+use crate::employed::{Employed, Resized};
 use crate::released::Released;
 use ea_mbc::Freed;
 use ea_model::keyed::index_of;
@@ -57,17 +59,6 @@ pub fn place(
     Ok(Placed { size, largest })
 }
 
-/// What is to follow a release in the carrier.
-fn follow_up(employed: &Employed) -> Released
-    ensures { result ≡ answers.follow_up (Some employed.now) }
-{
-    if employed.is_empty_multi() {
-        Released::EmptyOwn
-    } else {
-        Released::Kept
-    }
-}
-
 /// Releases the block at the offset in the carrier with the number.
 pub fn release(
     carriers: &mut Vec<Employed>,
@@ -88,6 +79,63 @@ pub fn release(
         address: employed.address(offset),
         block,
         largest: employed.carrier.largest(),
-        next: follow_up(employed),
+        next: employed.follow_up(),
     })
+}
+
+/// The block at the offset in the carrier with the number has `need` units and this name from now
+/// on. It gives back at least 6 units.
+pub fn shrink(
+    carriers: &mut Vec<Employed>,
+    number: u32,
+    offset: u32,
+    need: u32,
+    name: u32,
+) -> Resized
+    requires laid { AreLaid carriers.old.items }
+    requires block { IsSome (block_in carriers.old.items
+        (record { carrier = number; offset = offset })) }
+    requires fewer { need + MIN_BLOCK ≤ size_of (block_in carriers.old.items
+        (record { carrier = number; offset = offset })) }
+    requires even { need % 2 ≡ 0 }
+    requires least { MIN_BLOCK ≤ need }
+    ensures resized { IsResizing number offset (λ c. need) name result
+        carriers.old.items carriers.new.items }
+    ensures fewer { result.size + MIN_BLOCK ≤ result.was.size }
+    ensures low { result.was.address + result.was.size + result.was.after ≤ MAX_UNITS }
+{
+    let index = index_of(number, carriers);
+    carriers[index].shrink(offset, need, name)
+}
+
+/// The block at the offset in the carrier with the number takes of the gap directly after it what
+/// it needs to have `need` units, and has this name from now on.
+pub fn grow(carriers: &mut Vec<Employed>, number: u32, offset: u32, need: u32, name: u32) -> Resized
+    requires laid { AreLaid carriers.old.items }
+    requires block { IsSome (block_in carriers.old.items
+        (record { carrier = number; offset = offset })) }
+    requires more { size_of (block_in carriers.old.items
+        (record { carrier = number; offset = offset })) < need }
+    requires fits { IfSome (content_of carriers.old.items number)
+        (λ c. need ≤ room_at c offset) }
+    requires even { need % 2 ≡ 0 }
+    ensures resized { IsResizing number offset (λ c. taken_of (room_at c offset) need) name result
+        carriers.old.items carriers.new.items }
+    ensures more { result.was.size < result.size }
+    ensures fits { result.size ≤ result.was.size + result.was.after }
+    ensures low { result.was.address + result.was.size + result.was.after ≤ MAX_UNITS }
+{
+    let index = index_of(number, carriers);
+    carriers[index].grow(offset, need, name)
+}
+
+/// The block at the offset in the carrier with the number has this name from now on.
+pub fn rename(carriers: &mut Vec<Employed>, number: u32, offset: u32, name: u32)
+    requires laid { AreLaid carriers.old.items }
+    requires block { IsSome (block_in carriers.old.items
+        (record { carrier = number; offset = offset })) }
+    ensures { IsRenaming number offset name carriers.old.items carriers.new.items }
+{
+    let index = index_of(number, carriers);
+    carriers[index].rename(offset, name);
 }

@@ -6,6 +6,7 @@ ghost use Rattle.ea_model.specs.Instance as instances;
 
 use crate::employed::Employed;
 use ea_model::{Figures, HEADER_UNITS};
+use ea_sbc::Sbc;
 
 fn blocks_of(carriers: &[Employed]) -> u64
     requires { length carriers.now ≤ NUMBERS }
@@ -46,7 +47,7 @@ pub fn free_of(carriers: &[Employed]) -> u64
     carriers.iter().map(|c| u64::from(free_in(c))).sum()
 }
 
-/// Blocks and carriers, and their units.
+/// Blocks and carriers of multiblock carriers, and their units.
 pub fn figures(carriers: &[Employed]) -> Figures
     requires { length carriers.now ≤ NUMBERS }
     ensures { result ≡ instances.figures carriers.now }
@@ -56,5 +57,47 @@ pub fn figures(carriers: &[Employed]) -> Figures
         blocks_size: allocated_of(carriers),
         carriers: carriers.len() as u64,
         carriers_size: units_of(carriers),
+    }
+}
+
+fn single_blocks_of(carriers: &[Sbc]) -> u64
+    requires { length carriers.now ≤ NUMBERS }
+    ensures { result ≡ sum_by (λ c. length c.blocks) carriers.now }
+{
+    carriers.iter().map(|c| u64::from(c.len())).sum()
+}
+
+fn single_allocated_of(carriers: &[Sbc]) -> u64
+    requires { length carriers.now ≤ NUMBERS }
+    ensures { result ≡ sum_by (λ c. allocated c.blocks) carriers.now }
+{
+    carriers.iter().map(|c| u64::from(c.allocated())).sum()
+}
+
+fn single_units_of(carriers: &[Sbc]) -> u64
+    requires { length carriers.now ≤ NUMBERS }
+    ensures { result ≡ sum_by (λ c. c.units) carriers.now }
+{
+    carriers.iter().map(|c| u64::from(c.units())).sum()
+}
+
+/// The units of all tails.
+pub fn single_free_of(carriers: &[Sbc]) -> u64
+    requires { length carriers.now ≤ NUMBERS }
+    ensures { result ≡ sum_by (λ c. free_units (gaps_of c)) carriers.now }
+{
+    carriers.iter().map(|c| u64::from(c.tail())).sum()
+}
+
+/// Blocks and carriers of singleblock carriers, and their units.
+pub fn single_figures(carriers: &[Sbc]) -> Figures
+    requires { length carriers.now ≤ NUMBERS }
+    ensures { result ≡ instances.figures carriers.now }
+{
+    Figures {
+        blocks: single_blocks_of(carriers),
+        blocks_size: single_allocated_of(carriers),
+        carriers: carriers.len() as u64,
+        carriers_size: single_units_of(carriers),
     }
 }

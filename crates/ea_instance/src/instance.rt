@@ -1,44 +1,52 @@
 //! The instance and its calls.
-ghost use Rattle.std.specs.Prelude.{◌≡◌, ℕ, ◌+◌, ◌*◌, ◌/◌, ◌%◌, ◌^◌, ◌<◌, ◌≤◌, ◌++◌, max, true, false, Some, None, Ok, Err, Result, All, IsNone, ◌↔◌, IsSome, IfSome, IfOk, OnOk, OnErr, map, sum_by, option_map};
+ghost use Rattle.std.specs.Prelude.{◌≡◌, ◌≢◌, ℕ, ◌+◌, ◌*◌, ◌/◌, ◌%◌, ◌^◌, ◌<◌, ◌≤◌, ◌++◌, max, true, false, Some, None, Ok, Err, Result, All, IsNone, ◌↔◌, IsSome, IfSome, IfOk, OnOk, OnErr, map, sum_by, option_map};
 ghost use Rattle.ea_model.specs.declared.carriers.Kind.TheVariants.{Multi};
 ghost use Rattle.ea_model.specs.declared.carriers.Spot.{Spot};
 ghost use Rattle.ea_model.specs.declared.carriers.CarrierPlan.{CarrierPlan};
+ghost use Rattle.ea_model.specs.declared.reallocation.Decision.TheVariants.{Move};
 ghost use Rattle.ea_model.specs.declared.units.TheConstants.{MAX_PAGES, MAX_SCHEDULERS, MAX_UNITS};
-ghost use Rattle.ea_model.specs.Content.{named, free_units, gaps_of, is_empty_multi};
+ghost use Rattle.ea_model.specs.Content.{named, free_units, gaps_of, is_vacant};
 ghost use Rattle.ea_model.specs.declared.entries.NoCarrier.TheVariants.{Numbers, Space};
 ghost use Rattle.ea_model.specs.Region.{runs};
 ghost use Rattle.ea_model.specs.Settings.{IsValid};
 ghost use Rattle.ea_model.specs.Units.{pages_for};
 ghost use Rattle.ea_model.specs.Strategies.{candidates, may_miss};
-ghost use Rattle.ea_model.specs.Instance.{carrier_line, main_content, new_instance, growth, multis, unused_from, plan, created_content, creating, chosen_spot, place_at, releasing_at, clearing, content_of, block_in, has_content, segments, least_pages};
+ghost use Rattle.ea_model.specs.Instance.{carrier_line, main_content, new_instance, growth, is_alone, multis, unused_from, plan, created_content, creating, creating_single, chosen_spot, employed, single_place, place_at, releasing_at, resized_to, resizing_at, decision_at, clearing, content_of, block_in, has_content, segments, least_pages};
 ghost use Rattle.ea_model.specs.Instance as instances;
 ghost use Rattle.ea_instance.specs.Answers.{placing_if, follow_up};
 ghost use Rattle.ea_laws.specs.InOrder.{IsInOrder};
+ghost use Rattle.ea_laws.specs.Kept.{Stands};
 ghost use Rattle.ea_laws.specs.Spots.{AllUsed, FindsNone, HaveSameBlocks, IsOther, IsPlaced};
 
 use crate::carriers::Carriers;
 use crate::employed::Employed;
-use crate::figures::{figures, free_of};
+use crate::figures::{figures, free_of, single_figures, single_free_of};
+use crate::lines::{put_merged, single_line};
 use crate::own::OwnCarriers;
 use crate::released::Released;
+use crate::singles::Singles;
 use crate::walks::multi_count;
 use ea_mbc::Mbc;
 use ea_model::keyed::item_of;
 use ea_model::{
-    Block, CarrierLine, CarrierPlan, Figures, HEADER_UNITS, Kind, List, NUMBERS, NoCarrier,
-    OutOfMemory, OwnCarrier, PAGE_UNITS, Place, Settings, Spot,
+    Block, CarrierLine, CarrierPlan, Decision, Figures, HEADER_UNITS, Kind, List, NUMBERS,
+    NoCarrier, OutOfMemory, PAGE_UNITS, Place, Settings, Spot, Where, least_pages,
 };
+use ea_resize::decide;
+use ea_sbc::Sbc;
 use std::alloc::Global;
 use std::marker::Model;
 
 /// An allocator instance. Contracts see its settings, its number, its region, the carriers that it
-/// owns and the contents that it employs, both by rising number, and how many carriers it created.
+/// owns, the contents of multiblock and of singleblock carriers that it employs, each by rising
+/// number, and how many carriers it created.
 #[derive(Drop)]
 pub struct Instance {
     settings: Settings,
     number: u32,
     own: OwnCarriers,
     carriers: Carriers,
+    singles: Singles,
     created: u32,
 }
 
@@ -48,9 +56,9 @@ impl Model for Instance {
 
     ghost Value = { Instance };
 
-    ghost view = { λ i. seen_as i.settings i.number i.own i.carriers i.created };
+    ghost view = { λ i. seen_as i.settings i.number i.own i.carriers i.singles i.created };
 
-    ghost invariant = { λ i. KeepsCarriers i.settings i.number i.own i.carriers i.created };
+    ghost invariant = { λ i. KeepsCarriers i.settings i.number i.own i.carriers i.singles i.created };
 }
 
 /// The pages that hold that many units.
@@ -85,24 +93,29 @@ fn first_number(instance: u32) -> u32
     (instance - 1) * NUMBERS + 1
 }
 
-/// The main carrier of an instance.
-fn main_carrier(
-    alloc: Global,
-    settings: Settings,
-    instance: u32,
-    page: u32,
-) -> Result<Employed, OutOfMemory>
+/// The plan of an instance's main carrier: the first one that it creates, from its region's first
+/// page on.
+fn main_plan(settings: Settings, instance: u32, first: u32) -> CarrierPlan
     requires valid { IsValid settings }
-    requires some { 0 < settings.mmbcs }
     requires instance { (1 ≤ instance) × (instance ≤ MAX_SCHEDULERS) }
-    ensures { IfOk result (λ c. c ≡ main_content settings instance page) }
+    ensures { result ≡ instances.main_plan settings instance first }
 {
-    let units = pages_for(settings.mmbcs) * PAGE_UNITS;
-    let carrier = Mbc::new(alloc, units, page, 1, instance, first_number(instance))?;
-    Ok(Employed {
-        kind: Kind::Main,
-        carrier,
-    })
+    CarrierPlan {
+        number: first_number(instance),
+        base: first,
+        pages: pages_for(settings.mmbcs),
+        birth: 1,
+        single: false,
+    }
+}
+
+/// The carrier of a plan, without blocks.
+fn planned_carrier(alloc: Global, plan: CarrierPlan, owner: u32) -> Result<Mbc, OutOfMemory>
+    requires { (1 ≤ plan.pages) × (plan.pages ≤ MAX_PAGES) }
+    ensures { IfOk result (λ carrier. carrier ≡ created_content owner Multi plan) }
+{
+    let units = plan.pages * PAGE_UNITS;
+    Mbc::new(alloc, units, plan.base, plan.birth, owner, plan.number)
 }
 
 impl Instance {
@@ -128,21 +141,22 @@ impl Instance {
     {
         let mut own = OwnCarriers::new(alloc, first, pages)?;
         let mut carriers = Carriers::new(alloc, settings.strategy, NUMBERS * schedulers)?;
+        let singles = Singles::new(alloc)?;
         let mut created = 0;
         if settings.mmbcs > 0 {
-            carriers.enter(main_carrier(alloc, settings, number, first)?)?;
-            own.add(OwnCarrier {
-                number: first_number(number),
-                base: first,
-                pages: pages_for(settings.mmbcs),
-            });
-            created = 1;
+            let plan = main_plan(settings, number, first);
+            let carrier = planned_carrier(alloc, plan, number)?;
+            let kind = Kind::Main;
+            carriers.enter(Employed { kind, carrier })?;
+            own.add(plan);
+            created = plan.birth;
         }
         Ok(Instance {
             settings,
             number,
             own,
             carriers,
+            singles,
             created,
         })
     }
@@ -156,6 +170,13 @@ impl Instance {
 
     /// Whether it employs the carrier.
     pub fn employs(&self, carrier: u32) -> bool
+        ensures { result ≡ has_content carrier (employed self.now) }
+    {
+        self.has_multi(carrier) || item_of(carrier, self.singles.as_slice()).is_some()
+    }
+
+    /// Whether it employs the carrier, and it is a main or multiblock carrier.
+    fn has_multi(&self, carrier: u32) -> bool
         ensures { result ≡ has_content carrier self.now.contents }
     {
         item_of(carrier, self.carriers.as_slice()).is_some()
@@ -163,32 +184,41 @@ impl Instance {
 
     /// The block at the spot, if it employs the carrier and a block begins there.
     pub fn block_at(&self, spot: Spot) -> Option<Block>
-        ensures { result ≡ option_map named (block_in self.now.contents spot) }
+        ensures { result ≡ option_map named (block_in (employed self.now) spot) }
     {
-        item_of(spot.carrier, self.carriers.as_slice())?
-            .carrier
-            .block_at(spot.offset)
+        if let Some(multi) = item_of(spot.carrier, self.carriers.as_slice()) {
+            return multi.block_at(spot.offset);
+        }
+        match item_of(spot.carrier, self.singles.as_slice()) {
+            Some(single) => single.block_at(spot.offset),
+            None => None,
+        }
     }
 
     /// The line of a carrier, if it employs it.
     pub fn carrier_line(&self, carrier: u32) -> Option<CarrierLine>
-        ensures { result ≡ option_map carrier_line (content_of self.now.contents carrier) }
+        ensures { result ≡ option_map carrier_line (content_of (employed self.now) carrier) }
     {
-        Some(item_of(carrier, self.carriers.as_slice())?.line())
+        if let Some(multi) = item_of(carrier, self.carriers.as_slice()) {
+            return Some(multi.line());
+        }
+        match item_of(carrier, self.singles.as_slice()) {
+            Some(single) => Some(single_line(single)),
+            None => None,
+        }
     }
 
     /// Adds the lines of all carriers that it employs, by rising number. Where there is no memory,
     /// the list stays as it was.
     pub fn put_lines(&self, lines: &mut List<CarrierLine>) -> Result<(), OutOfMemory>
         ensures ok { OnOk result (lines.new.items
-            ≡ lines.old.items ++ map carrier_line self.now.contents) }
+            ≡ lines.old.items ++ map carrier_line (employed self.now)) }
         ensures err { OnErr result (lines.new.items ≡ lines.old.items) }
     {
-        let carriers = self.carriers.as_slice();
-        lines.reserve(carriers.len())?;
-        for carrier in carriers {
-            lines.push_within(carrier.line());
-        }
+        let multis = self.carriers.as_slice();
+        let singles = self.singles.as_slice();
+        lines.reserve(multis.len() + singles.len())?;
+        put_merged(multis, singles, lines);
         Ok(())
     }
 
@@ -196,18 +226,30 @@ impl Instance {
     pub fn multi_figures(&self) -> Figures
         ensures figures { result ≡ instances.figures self.now.contents }
         ensures few { result.carriers ≤ NUMBERS }
+        ensures small { (result.blocks_size ≤ MAX_UNITS * NUMBERS)
+            × (result.carriers_size ≤ MAX_UNITS * NUMBERS) }
     {
         figures(self.carriers.as_slice())
     }
 
+    /// Blocks and carriers of its singleblock carriers, and their units.
+    pub fn single_figures(&self) -> Figures
+        ensures figures { result ≡ instances.figures self.now.singles }
+        ensures few { result.carriers ≤ NUMBERS }
+        ensures small { (result.blocks_size ≤ MAX_UNITS * NUMBERS)
+            × (result.carriers_size ≤ MAX_UNITS * NUMBERS) }
+    {
+        single_figures(self.singles.as_slice())
+    }
+
     /// The units of all gaps of its carriers.
     pub fn free_units(&self) -> u64
-        ensures units { result ≡ sum_by (λ c. free_units (gaps_of c)) self.now.contents }
+        ensures units { result ≡ sum_by (λ c. free_units (gaps_of c)) (employed self.now) }
 
         // With blocks and headers they are all units, and blocks and carriers lie apart.
         ensures order { IsInOrder self.now }
     {
-        free_of(self.carriers.as_slice())
+        free_of(self.carriers.as_slice()) + single_free_of(self.singles.as_slice())
     }
 
     /// Places a block of `need` units in the gap that its strategy chooses. None, and nothing
@@ -231,7 +273,7 @@ impl Instance {
 
         // It lies where no block began, and other blocks stay.
         ensures blocks { IfOk result (λ found. IfSome found (λ place.
-            IsPlaced self.old.contents self.new.contents name place)) }
+            IsPlaced (employed self.old) (employed self.new) name place)) }
     {
         self.place_chosen(need, name)
     }
@@ -246,7 +288,7 @@ impl Instance {
             (self.new ≡ placing_if self.old (chosen_spot self.old need) need name) }
         ensures err { OnErr result (self.new ≡ self.old) }
         ensures blocks { IfOk result (λ found. IfSome found (λ place.
-            IsPlaced self.old.contents self.new.contents name place)) }
+            IsPlaced (employed self.old) (employed self.new) name place)) }
     {
         let Some(choice) = self.carriers.chosen(need, self.settings.mbsd) else {
             return Ok(None);
@@ -259,9 +301,10 @@ impl Instance {
         }))
     }
 
-    /// The lowest of its carrier numbers that isn't in use. Its settings are valid.
+    /// The lowest of its carrier numbers that isn't in use. What holds of an instance at every
+    /// moment holds of this one.
     fn unused_number(&self) -> Option<u32>
-        ensures valid { IsValid self.now.settings }
+        ensures stands { Stands self.now }
         ensures number { result ≡ unused_from NUMBERS (instances.first_number self.now.number)
             self.now.own }
     {
@@ -275,21 +318,26 @@ impl Instance {
         self.own.free_run(pages)
     }
 
-    /// The pages of the next carrier: as many as it would have by its turn, and no fewer than
-    /// `least`.
+    /// The pages of the next multiblock carrier: as many as it would have by its turn, and no fewer
+    /// than `least`.
     fn next_pages(&self, least: u32) -> u32
-        ensures pages { result ≡ max least
+        ensures { result ≡ max least
             (pages_for (growth self.now.settings (multis self.now.contents))) }
-        ensures small { result ≤ max least MAX_PAGES }
     {
         least.max(pages_for(growth(self.settings, multi_count(self.carriers.as_slice()))))
     }
 
-    /// The multiblock carrier that it would create for a block of `need` units, at most `sbct`, or
-    /// why it can't.
+    /// Whether a block of `need` units has a carrier of its own: it is above the threshold `sbct`.
+    pub fn is_alone(&self, need: u32) -> bool
+        ensures { result ≡ is_alone self.now need }
+    {
+        need > self.settings.sbct
+    }
+
+    /// The carrier that it would create for a block of `need` units, or why it can't: up to the
+    /// threshold `sbct` a multiblock carrier, and above it a singleblock carrier of the least pages.
     pub fn plan_carrier(&self, need: u32) -> Result<CarrierPlan, NoCarrier>
-        requires need { need ≤ self.now.settings.sbct }
-        requires created { self.now.created + 1 < 2 ^ 32 }
+        requires { self.now.created + 1 < 2 ^ 32 }
         ensures plan { result ≡ plan self.now need }
 
         // Numbers exactly where all its numbers are in use; Space exactly where one is not, and no
@@ -298,104 +346,253 @@ impl Instance {
         ensures space { (result ≡ Err Space)
             ↔ ((AllUsed self.now → ⊥) × All (λ r. r.pages < least_pages need)
             (runs self.now.first self.now.end (segments self.now.own))) }
-        ensures pages { IfOk result (λ p. (1 ≤ p.pages) × (PAGE_UNITS * p.pages < 2 ^ 32)) }
+        ensures pages { IfOk result (λ p. (1 ≤ p.pages) × (p.pages ≤ MAX_PAGES)) }
+        ensures single { IfOk result (λ p. p.single ≡ is_alone self.now need) }
     {
         self.plan_for(need)
     }
 
     /// Plans the carrier as `plan_carrier` does.
     fn plan_for(&self, need: u32) -> Result<CarrierPlan, NoCarrier>
-        requires need { need ≤ self.now.settings.sbct }
-        requires created { self.now.created + 1 < 2 ^ 32 }
+        requires { self.now.created + 1 < 2 ^ 32 }
         ensures plan { result ≡ plan self.now need }
-        ensures pages { IfOk result (λ p. (1 ≤ p.pages) × (PAGE_UNITS * p.pages < 2 ^ 32)) }
+        ensures stands { Stands self.now }
     {
         let Some(number) = self.unused_number() else {
             return Err(NoCarrier::Numbers);
         };
-        let least = pages_for(HEADER_UNITS + need);
-        let next = self.next_pages(least);
-        match self.free_run(next) {
-            Some(base) => Ok(self.planned(number, base, next)),
+        let single = self.is_alone(need);
+        let least = least_pages(need);
+        let wanted = if single {
+            least
+        } else {
+            self.next_pages(least)
+        };
+        match self.free_run(wanted) {
+            Some(base) => Ok(self.planned(number, base, wanted, single)),
             None => match self.free_run(least) {
-                Some(base) => Ok(self.planned(number, base, least)),
+                Some(base) => Ok(self.planned(number, base, least, single)),
                 None => Err(NoCarrier::Space),
             },
         }
     }
 
     /// The next carrier that it creates, with this number and these pages.
-    fn planned(&self, number: u32, base: u32, pages: u32) -> CarrierPlan
+    fn planned(&self, number: u32, base: u32, pages: u32, single: bool) -> CarrierPlan
         requires { self.now.created + 1 < 2 ^ 32 }
-        ensures { result ≡ instances.planned self.now number base pages }
+        ensures { result ≡ record {
+          number = number;
+          base = base;
+          pages = pages;
+          birth = self.now.created + 1;
+          single = single;
+        } }
     {
         CarrierPlan {
             number,
             base,
             pages,
             birth: self.created + 1,
-            single: false,
+            single,
         }
     }
 
-    /// The carrier of a plan, without blocks. It isn't employed yet.
+    /// The multiblock carrier of a plan, without blocks. It isn't employed yet.
     pub fn prepare(&self, alloc: Global, plan: CarrierPlan) -> Result<Mbc, OutOfMemory>
-        requires { (1 ≤ plan.pages) × (PAGE_UNITS * plan.pages < 2 ^ 32) }
+        requires pages { (1 ≤ plan.pages) × (plan.pages ≤ MAX_PAGES) }
+        requires multi { plan.single ≡ false }
         ensures { IfOk result (λ carrier. carrier ≡ created_content self.now.number Multi plan) }
     {
-        Mbc::new(
-            alloc,
-            plan.pages * PAGE_UNITS,
-            plan.base,
-            plan.birth,
-            self.number,
-            plan.number,
-        )
+        planned_carrier(alloc, plan, self.number)
     }
 
-    /// Employs the carrier of its present plan for a block of `need` units. Where there is no
-    /// memory, the carrier is dropped and nothing changes.
+    /// Employs the multiblock carrier of its present plan for a block of `need` units. Where there
+    /// is no memory, the carrier is dropped and nothing changes.
     pub fn create(&mut self, plan: CarrierPlan, need: u32, carrier: Mbc) -> Result<(), OutOfMemory>
         requires plan { instances.plan self.old need ≡ Ok plan }
+        requires multi { plan.single ≡ false }
         requires carrier { carrier ≡ created_content self.old.number Multi plan }
         ensures ok { OnOk result (self.new ≡ creating self.old plan) }
         ensures choice { OnOk result (IsSome (chosen_spot self.new need)) }
-        ensures blocks { OnOk result (HaveSameBlocks self.old.contents self.new.contents) }
+        ensures blocks { OnOk result (HaveSameBlocks (employed self.old) (employed self.new)) }
         ensures err { OnErr result (self.new ≡ self.old) }
     {
         let kind = Kind::Multi;
         self.carriers.enter(Employed { kind, carrier })?;
-        self.own.add(OwnCarrier {
-            number: plan.number,
-            base: plan.base,
-            pages: plan.pages,
-        });
+        self.own.add(plan);
         self.created = plan.birth;
         Ok(())
     }
 
-    /// Releases the block at the spot, and says what is to follow.
+    /// Employs the singleblock carrier of its present plan with a block of `need` units, and answers
+    /// the block's place.
+    pub fn create_single(&mut self, plan: CarrierPlan, need: u32, name: u32) -> Place
+        requires even { need % 2 ≡ 0 }
+        requires least { 6 ≤ need }
+        requires plan { instances.plan self.old need ≡ Ok plan }
+        requires single { plan.single ≡ true }
+        ensures created { self.new ≡ creating_single self.old plan need name }
+        ensures place { result ≡ single_place plan need }
+        ensures blocks { IsPlaced (employed self.old) (employed self.new) name result }
+    {
+        self.singles.enter(Sbc::new(
+            plan.number,
+            self.number,
+            plan.birth,
+            plan.base,
+            plan.pages,
+            need,
+            name,
+        ));
+        self.own.add(plan);
+        self.created = plan.birth;
+        Place {
+            carrier: plan.number,
+            offset: HEADER_UNITS,
+            size: need,
+        }
+    }
+
+    /// Releases the block at the spot, and says what is to follow. The carrier stays employed until
+    /// it is cleared.
     pub fn release(&mut self, spot: Spot) -> Result<Released, OutOfMemory>
-        requires { IsSome (block_in self.old.contents spot) }
+        requires { IsSome (block_in (employed self.old) spot) }
         ensures ok { OnOk result (self.new ≡ releasing_at self.old spot) }
         ensures answer { IfOk result (λ next. next
-            ≡ follow_up (content_of self.new.contents spot.carrier)) }
+            ≡ follow_up (content_of (employed self.new) spot.carrier)) }
+        ensures gone { OnOk result (block_in (employed self.new) spot ≡ None) }
         ensures others { (at : Spot) → IsOther spot.carrier spot.offset at
-            → block_in self.new.contents at ≡ block_in self.old.contents at }
+            → block_in (employed self.new) at ≡ block_in (employed self.old) at }
         ensures err { OnErr result (self.new ≡ self.old) }
     {
-        self.carriers.release(spot.carrier, spot.offset)
+        if self.has_multi(spot.carrier) {
+            let next = self.carriers.release(spot.carrier, spot.offset)?;
+            return Ok(next);
+        }
+        self.singles.release(spot.carrier, spot.offset);
+        Ok(Released::SingleGone)
+    }
+
+    /// Resizes the block at the spot as is decided for `need` units, with this name from now on.
+    /// Where the decision is that it is to move, nothing changes.
+    pub fn resize(&mut self, spot: Spot, need: u32, name: u32) -> Result<Decision, OutOfMemory>
+        requires block { IsSome (block_in (employed self.old) spot) }
+        requires even { need % 2 ≡ 0 }
+        requires least { 6 ≤ need }
+        ensures decision { IfOk result (λ decision. decision ≡ decision_at self.old spot need) }
+        ensures ok { OnOk result (self.new ≡ resizing_at self.old spot need name) }
+        ensures begins { IfOk result (λ decision. decision ≢ Move
+            → block_in (employed self.new) spot ≡ Some (record {
+              name = name;
+              offset = spot.offset;
+              size = resized_to self.old spot need;
+            })) }
+        ensures others { (at : Spot) → IsOther spot.carrier spot.offset at
+            → block_in (employed self.new) at ≡ block_in (employed self.old) at }
+        ensures err { OnErr result (self.new ≡ self.old) }
+    {
+        let decision = self.decided(spot, need);
+        if self.has_multi(spot.carrier) {
+            self.resize_multi(decision, spot, need, name)?;
+            return Ok(decision);
+        }
+        self.resize_single(decision, spot, need, name);
+        Ok(decision)
+    }
+
+    /// What is decided where the block at the spot is to have `need` units.
+    fn decided(&self, spot: Spot, need: u32) -> Decision
+        requires { IsSome (block_in (employed self.now) spot) }
+        ensures { result ≡ decision_at self.now spot need }
+    {
+        if let Some(multi) = item_of(spot.carrier, self.carriers.as_slice()) {
+            let block = multi.extent(spot.offset);
+            let behind = block.after;
+            return decide(self.settings, block.size, need, Where::Multi { behind });
+        }
+        match item_of(spot.carrier, self.singles.as_slice()) {
+            Some(single) => {
+                let units = single.units();
+                decide(
+                    self.settings,
+                    single.allocated(),
+                    need,
+                    Where::Single { units },
+                )
+            }
+            None => unreachable!(),
+        }
+    }
+
+    /// Carries out the decision for a block of a multiblock carrier.
+    fn resize_multi(
+        &mut self,
+        decision: Decision,
+        spot: Spot,
+        need: u32,
+        name: u32,
+    ) -> Result<(), OutOfMemory>
+        requires block { IsSome (block_in (employed self.old) spot) }
+        requires multi { has_content spot.carrier self.old.contents ≡ true }
+        requires decision { decision ≡ decision_at self.old spot need }
+        requires even { need % 2 ≡ 0 }
+        requires least { 6 ≤ need }
+        ensures ok { OnOk result (self.new ≡ resizing_at self.old spot need name) }
+        ensures err { OnErr result (self.new ≡ self.old) }
+    {
+        let Spot { carrier, offset } = spot;
+        match decision {
+            Decision::Stay => {
+                self.carriers.rename(carrier, offset, name);
+                Ok(())
+            }
+            Decision::ShrinkHere => {
+                self.carriers.shrink(carrier, offset, need, name)?;
+                Ok(())
+            }
+            Decision::GrowHere => {
+                self.carriers.grow(carrier, offset, need, name);
+                Ok(())
+            }
+            Decision::ShrinkCarrier { .. } => unreachable!(),
+            Decision::Move => Ok(()),
+        }
+    }
+
+    /// Carries out the decision for the block of a singleblock carrier.
+    fn resize_single(&mut self, decision: Decision, spot: Spot, need: u32, name: u32)
+        requires block { IsSome (block_in (employed self.old) spot) }
+        requires single { has_content spot.carrier self.old.contents ≡ false }
+        requires decision { decision ≡ decision_at self.old spot need }
+        requires even { need % 2 ≡ 0 }
+        requires least { 6 ≤ need }
+        ensures { self.new ≡ resizing_at self.old spot need name }
+    {
+        match decision {
+            Decision::Move => {}
+            Decision::ShrinkCarrier { pages } => {
+                self.singles.resize(spot.carrier, need, name);
+                self.singles.shorten(spot.carrier, pages);
+                self.own.shorten(spot.carrier, pages);
+            }
+            _ => self.singles.resize(spot.carrier, need, name),
+        }
     }
 
     /// Deallocates a carrier without blocks other than the main one: its number and pages are free
     /// again.
     pub fn clear(&mut self, number: u32)
-        requires { IfSome (content_of self.old.contents number) (λ c. is_empty_multi c ≡ true)
-            × IsSome (content_of self.old.contents number) }
+        requires there { IsSome (content_of (employed self.old) number) }
+        requires vacant { IfSome (content_of (employed self.old) number) (λ c. is_vacant c ≡ true) }
         ensures cleared { self.new ≡ clearing self.old number }
-        ensures blocks { HaveSameBlocks self.old.contents self.new.contents }
+        ensures blocks { HaveSameBlocks (employed self.old) (employed self.new) }
     {
-        self.carriers.leave(number);
+        let multi = self.has_multi(number);
         self.own.remove(number);
+        if multi {
+            self.carriers.leave(number);
+        } else {
+            self.singles.leave(number);
+        }
     }
 }

@@ -9,8 +9,10 @@ mod choice;
 mod employed;
 mod figures;
 mod instance;
+mod lines;
 mod own;
 mod released;
+mod singles;
 mod strategies;
 mod walks;
 

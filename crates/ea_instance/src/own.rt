@@ -1,11 +1,12 @@
 //! The carriers that an instance owns, and the pages of its region that they have.
-ghost use Rattle.std.specs.Prelude.{◌≡◌, ◌+◌, ◌^◌, ◌<◌, ◌≤◌, [], IfOk, IsSome, Some, false, length};
+ghost use Rattle.std.specs.Prelude.{◌≡◌, ◌+◌, ◌^◌, ◌<◌, ◌≤◌, [], IfOk, IfSome, IsSome, Some, false, length};
 ghost use Rattle.ea_model.specs.declared.units.TheConstants.{NUMBERS};
-ghost use Rattle.ea_model.specs.Instance.{is_used, own_at, segments, unused_from, with_own, without_own};
+ghost use Rattle.ea_model.specs.Instance.{is_used, own_at, planned_own, segments, unused_from, with_own, without_own};
+ghost use Rattle.ea_model.specs.Keyed.{changed_at};
 ghost use Rattle.ea_model.specs.Region.{lowest_run, runs};
 
-use ea_model::keyed::{enter_within, item_of, take_out};
-use ea_model::{NUMBERS, OutOfMemory, OwnCarrier};
+use ea_model::keyed::{enter_within, index_of, item_of, take_out};
+use ea_model::{CarrierPlan, NUMBERS, OutOfMemory, OwnCarrier};
 use ea_space::Region;
 use std::alloc::Global;
 use std::marker::Model;
@@ -81,16 +82,23 @@ impl OwnCarriers {
         self.region.find(pages)
     }
 
-    /// Adds a carrier, where `free_run` finds its pages.
-    pub fn add(&mut self, carrier: OwnCarrier)
-        requires some { 1 ≤ carrier.pages }
+    /// Adds the carrier of a plan, where `free_run` finds its pages.
+    pub fn add(&mut self, plan: CarrierPlan)
+        requires some { 1 ≤ plan.pages }
         requires room { length self.old.carriers < NUMBERS }
-        requires number { is_used carrier.number self.old.carriers ≡ false }
-        requires found { lowest_run carrier.pages
-            (runs self.old.first self.old.end (segments self.old.carriers)) ≡ Some carrier.base }
-        ensures { self.new ≡ record self.old { carriers = with_own carrier self.old.carriers } }
+        requires number { is_used plan.number self.old.carriers ≡ false }
+        requires found { lowest_run plan.pages
+            (runs self.old.first self.old.end (segments self.old.carriers)) ≡ Some plan.base }
+        ensures { self.new ≡ record self.old {
+          carriers = with_own (planned_own plan) self.old.carriers;
+        } }
     {
-        self.region.take(carrier.base, carrier.pages);
+        self.region.take(plan.base, plan.pages);
+        let carrier = OwnCarrier {
+            number: plan.number,
+            base: plan.base,
+            pages: plan.pages,
+        };
         enter_within(carrier, &mut self.list);
     }
 
@@ -101,5 +109,23 @@ impl OwnCarriers {
     {
         let carrier = take_out(number, &mut self.list);
         self.region.give_back(carrier.base, carrier.pages);
+    }
+
+    /// The carrier with the number has that many pages from now on, which are fewer. Its last pages
+    /// are free again.
+    pub fn shorten(&mut self, number: u32, pages: u32)
+        requires there { IsSome (own_at self.old.carriers number) }
+        requires some { 1 ≤ pages }
+        requires fewer { IfSome (own_at self.old.carriers number) (λ o. pages < o.pages) }
+        ensures { self.new ≡ record self.old {
+          carriers = changed_at (λ o. o.number) (λ o. record o { pages = pages }) number
+              self.old.carriers;
+        } }
+    {
+        let index = index_of(number, &self.list);
+        let carrier = self.list[index];
+        self.region
+            .give_back(carrier.base + pages, carrier.pages - pages);
+        self.list[index].pages = pages;
     }
 }

@@ -1,84 +1,95 @@
--- Carriers that are laid out and lie apart, after a change.
-use Rattle.std.proofs.Common.{◌≡◌, ◌≢◌, ℕ, List, [], ◌∷◌, get_or, All, AllPairs, sym, ap, ◌∙◌, subst, refl, inl, inr, arith, suc}
-use Rattle.std.specs.Prelude.{Some, ◌==◌, if◌then◌else◌}
-use Rattle.std.proofs.lemmas.Bool.{cases_eq, cases_lt, cond_both}
-use Rattle.std.proofs.lemmas.List.Elements.{All-nil, All-cons, All-head, All-tail}
+-- Contents after a change of one of them.
+use Rattle.std.proofs.Common.{◌≡◌, ◌≢◌, ℕ, List, [], ◌∷◌, get_or, All, AllPairs, sym, ap, ◌∙◌, subst, refl, inl, inr, arith}
+use Rattle.std.specs.Prelude.{Option, None, Some, ◌==◌, if◌then◌else◌}
+use Rattle.std.proofs.lemmas.Bool.{cases_eq, cond_both}
+use Rattle.std.proofs.lemmas.List.Elements.{All-nil, All-cons, All-head, All-map, All-tail, All-weaker}
 use Rattle.ea_model.specs.Content.{Content}
-use Rattle.ea_model.specs.Instance.{changed, content_of, with_content}
+use Rattle.ea_model.specs.Instance.{changed, content_of}
 use Rattle.ea_model.proofs.Pairs.{pairs_map}
-use Rattle.ea_model.proofs.Rising.{All-entered, changed_here, changed_past, entered_here, entered_past, item_at-each}
-use Rattle.std.proofs.lemmas.List.Kept.{AllPairs-cons}
-use Rattle.ea_laws.proofs.Tiling.{Tiled-allocated}
-use Rattle.ea_laws.specs.Kept.{number_of, IsRising, ContentsApart, IsLaidOut}
+use Rattle.ea_model.proofs.Rising.{changed_here, changed_none, changed_past, item_at-each, none-other}
 use Rattle.ea_laws.proofs.Changed.{KeepsPlace}
+use Rattle.ea_laws.proofs.Tiling.{Tiled-allocated}
+use Rattle.ea_laws.specs.Kept.{number_of, BornApart, ContentsApart, IsBornBy, IsLaidOut, IsRising}
 
--- one content is changed
-module _ (f : Content → Content) (k : KeepsPlace f) (n : ℕ) (item : Content) where
-  -- the content of the number is the only one that has it
-  pub only_item : (cs : List Content) → IsRising cs → content_of cs n ≡ Some item
-      → All (λ c. c.number ≡ n → c ≡ item) cs
-  only_item cs rising there = λ i d within e. is_item (get_or cs i d)
-      (sym (item_at-each number_of i d cs rising within) ∙ ap (content_of cs) e ∙ there) where
-        is_item : (c : Content) → Some c ≡ Some item → c ≡ item
-        is_item c e = cc
+-- the content of a number is the only one that has it
+pub only-item : (n : ℕ) (item : Content) (cs : List Content) → IsRising cs
+    → content_of cs n ≡ Some item → All (λ c. c.number ≡ n → c ≡ item) cs
+only-item n item cs rising there = λ i d within e. is_item (get_or cs i d)
+    (sym (item_at-each number_of i d cs rising within) ∙ ap (content_of cs) e ∙ there) where
+      is_item : (c : Content) → Some c ≡ Some item → c ≡ item
+      is_item c e = cc
 
-  sound_changed : (cs : List Content) → All (λ c. c.number ≡ n → c ≡ item) cs → IsLaidOut (f item)
-      → All IsLaidOut cs → All IsLaidOut (changed f n cs)
-  sound_changed [] one s a = All-nil IsLaidOut
-  sound_changed (c ∷ cs) one s a =
+module _ (P : Content → Type 0) (f : Content → Content) (n : ℕ) where
+  with_item : (item : Content) (cs : List Content) → All (λ c. c.number ≡ n → c ≡ item) cs
+      → P (f item) → All P cs → All P (changed f n cs)
+  with_item item [] one s a = All-nil P
+  with_item item (c ∷ cs) one s a =
       let is_item : Content → Type 0 = λ x. x.number ≡ n → x ≡ item in
-      let more = sound_changed cs (All-tail is_item c cs one) s (All-tail IsLaidOut c cs a) in
+      let more = with_item item cs (All-tail is_item c cs one) s (All-tail P c cs a) in
       elim (cases_eq c.number n) [
-        | inl e ↦ subst (All IsLaidOut) (sym (changed_here number_of f n c cs e))
-            (All-cons IsLaidOut (f c) (changed f n cs)
-            (subst (λ x. IsLaidOut (f x)) (sym (All-head is_item c cs one e)) s) more)
-        | inr o ↦ subst (All IsLaidOut) (sym (changed_past number_of f n c cs o))
-            (All-cons IsLaidOut c (changed f n cs) (All-head IsLaidOut c cs a) more)
+        | inl e ↦ subst (All P) (sym (changed_here number_of f n c cs e))
+            (All-cons P (f c) (changed f n cs)
+            (subst (λ x. P (f x)) (sym (All-head is_item c cs one e)) s) more)
+        | inr o ↦ subst (All P) (sym (changed_past number_of f n c cs o))
+            (All-cons P c (changed f n cs) (All-head P c cs a) more)
       ]
 
-  same_extent : (c : Content) → ((if c.number == n then f c else c).base ≡ c.base)
-      × ((if c.number == n then f c else c).units ≡ c.units)
+  by_item : (o : Option Content) (cs : List Content) → content_of cs n ≡ o → IsRising cs
+      → All P cs → ((c : Content) → content_of cs n ≡ Some c → P (f c)) → All P (changed f n cs)
+  by_item None cs e rising a keeps = subst (All P)
+      (sym (changed_none number_of f n cs (none-other number_of n cs e))) a
+  by_item (Some c) cs e rising a keeps =
+      with_item c cs (only-item n c cs rising e) (keeps c e) a
+
+  -- what holds of each content, and of the changed one, holds of each one after the change
+  pub changed-All : (cs : List Content) → IsRising cs → All P cs
+      → ((c : Content) → content_of cs n ≡ Some c → P (f c)) → All P (changed f n cs)
+  changed-All cs rising a keeps = by_item (content_of cs n) cs refl rising a keeps
+
+-- the content, changed if it has the number
+abbrev altered : (Content → Content) → ℕ → Content → Content
+altered f n c = if c.number == n then f c else c
+
+module _ (f : Content → Content) (k : KeepsPlace f) (n : ℕ) where
+  same_extent : (c : Content) → ((altered f n c).base ≡ c.base) × ((altered f n c).units ≡ c.units)
   same_extent c = cond_both (c.number == n) (f c) c (λ x. (x.base ≡ c.base) × (x.units ≡ c.units))
       (λ _. (k.base c, k.units c)) (λ _. (refl, refl))
 
-  apart_changed : (c d : Content) → ContentsApart c d
-      → ContentsApart (if c.number == n then f c else c) (if d.number == n then f d else d)
-  apart_changed c d away =
+  still_apart : (c d : Content) → ContentsApart c d → ContentsApart (altered f n c) (altered f n d)
+  still_apart c d away =
       let e = same_extent c in
       let g = same_extent d in
       elim away [
-        | inl p ↦ inl (omega (arith, e.0, e.1, g.0))
-        | inr q ↦ inr
-            (omega (arith, e.0, g.0, g.1))
+        | inl p ↦ inl (omega (arith, p, e.0, e.1, g.0))
+        | inr q ↦ inr (omega (arith, q, e.0, g.0, g.1))
       ]
 
+  -- carriers still lie apart
   pub apart-changed : (cs : List Content) → AllPairs ContentsApart cs
       → AllPairs ContentsApart (changed f n cs)
-  apart-changed cs a = pairs_map ContentsApart (λ c. if c.number == n then f c else c) cs
-      (λ i j d lt within. apart_changed _ _ (a i j d lt within))
+  apart-changed cs a = pairs_map ContentsApart (altered f n) cs
+      (λ i j d lt within. still_apart (get_or cs i d) (get_or cs j d) (a i j d lt within))
 
-  pub all-sound : (cs : List Content) → content_of cs n ≡ Some item → IsRising cs → All IsLaidOut cs
-      → IsLaidOut (f item) → All IsLaidOut (changed f n cs)
-  all-sound cs there rising a s = sound_changed cs (only_item cs rising there) s a
+module _ (f : Content → Content) (birth : (c : Content) → (f c).birth ≡ c.birth) (n : ℕ) where
+  same_birth : (c : Content) → (altered f n c).birth ≡ c.birth
+  same_birth c = cond_both (c.number == n) (f c) c (λ x. x.birth ≡ c.birth) (λ _. birth c)
+      (λ _. refl)
 
--- with one carrier more
-pub apart-with : (x : Content) (cs : List Content) → AllPairs ContentsApart cs
-    → All (ContentsApart x) cs → AllPairs ContentsApart (with_content x cs)
-apart-with x [] p a = AllPairs-cons ContentsApart x [] (All-nil (ContentsApart x)) p
-apart-with x (c ∷ cs) p a =
-    elim (cases_lt x.number c.number) [
-      | inl lt ↦ subst (AllPairs ContentsApart) (sym (entered_here number_of x c cs lt))
-          (AllPairs-cons ContentsApart x (c ∷ cs) a p)
-      | inr le ↦ subst (AllPairs ContentsApart) (sym (entered_past number_of x c cs le))
-          (AllPairs-cons ContentsApart c (with_content x cs)
-          (All-entered number_of (ContentsApart c) x cs
-          (turned x c (All-head (ContentsApart x) c cs a))
-          (λ i d within. p 0 (suc i) d (omega arith) (omega arith)))
-          (apart-with x cs (λ i j d lt within. p (suc i) (suc j) d (omega arith) (omega arith))
-          (All-tail (ContentsApart x) c cs a)))
-    ] where
-      turned : (c d : Content) → ContentsApart c d → ContentsApart d c
-      turned c d away = elim away [ inl p ↦ inr p | inr q ↦ inl q ]
+  -- the births stay
+  pub births-changed : (cs : List Content) → AllPairs BornApart cs
+      → AllPairs BornApart (changed f n cs)
+  births-changed cs a = pairs_map BornApart (altered f n) cs
+      (λ i j d lt within e. a i j d lt within
+      (sym (same_birth (get_or cs i d)) ∙ e ∙ same_birth (get_or cs j d)))
+
+  pub born-changed : (created : ℕ) (cs : List Content) → All (IsBornBy created) cs
+      → All (IsBornBy created) (changed f n cs)
+  born-changed created cs a = All-map (IsBornBy created) (altered f n) cs
+      (All-weaker (IsBornBy created) (λ c. IsBornBy created (altered f n c))
+      (λ c b. (omega (arith, b.0, same_birth c), omega (arith, b.1, same_birth c))) cs a)
+
+pub turned-apart : (c d : Content) → ContentsApart c d → ContentsApart d c
+turned-apart c d away = elim away [ inl p ↦ inr p | inr q ↦ inl q ]
 
 -- carriers that don't meet begin at different pages
 pub other-bases : (x : Content) (cs : List Content) → IsLaidOut x → All IsLaidOut cs

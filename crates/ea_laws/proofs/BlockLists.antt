@@ -38,7 +38,7 @@ abbrev pub offset_of : BlockAt → ℕ
 offset_of b = b.offset
 
 -- no block begins before the tiling does
-Tiled-behind : (at end : ℕ) (bs : List BlockAt) → Tiled at end bs → All (λ b. at ≤ b.offset) bs
+pub Tiled-behind : (at end : ℕ) (bs : List BlockAt) → Tiled at end bs → All (λ b. at ≤ b.offset) bs
 Tiled-behind at end [] t = All-nil (λ (b : BlockAt). at ≤ b.offset)
 Tiled-behind at end (b ∷ bs) t =
     All-cons (λ (x : BlockAt). at ≤ x.offset) b bs t.0

@@ -17,7 +17,6 @@ use Rattle.ea_laws.proofs.Tiling.{Tiled-allocated}
 use Rattle.ea_model.proofs.Pairs.{pairs_nil, pairs_head, pairs_tail, pairs_append, pairs_map}
 use Rattle.ea_model.proofs.Rising.{item_at-each}
 use Rattle.ea_laws.specs.Kept.{number_of, IsRising, IsLaidOut, ContentsApart}
-use Rattle.ea_laws.specs.Spots.{HasGap}
 
 -- a gap of some units, from `at` on and up to `end`
 pub record Inside (at end : ℕ) (g : Gap) : Type 0 where
@@ -79,7 +78,7 @@ in_kind P Multi c h = All-map P (candidate c) (gaps_of c) h
 in_kind P Single c h = All-nil P
 
 -- what holds of the gaps of each carrier holds of all candidates
-candidates_All : (P : Candidate → Type 0) (cs : List Content)
+pub candidates_All : (P : Candidate → Type 0) (cs : List Content)
     → All (λ c. All (λ g. P (candidate c g)) (gaps_of c)) cs → All P (candidates cs)
 candidates_All P [] h = All-nil P
 candidates_All P (c ∷ cs) h =
@@ -181,14 +180,6 @@ pub candidate-IsOwned : (x : Candidate) (cs : List Content) → IsRising cs → 
     → Contains (candidates cs) x → IsOwned cs x
 candidate-IsOwned x cs rising sound among = All-contains (IsOwned cs) (candidates cs) x
     (owned_All cs rising sound) among
-
--- so one that is large enough is a gap of that size at least
-pub candidate-HasGap : (need : ℕ) (x : Candidate) (cs : List Content) → IsRising cs
-    → All IsLaidOut cs → Contains (candidates cs) x → need ≤ x.size
-    → HasGap need x.number x.offset cs
-candidate-HasGap need x cs rising sound among fits =
-    let owned = candidate-IsOwned x cs rising sound among in
-    (owned.0, owned.1, omega (arith, owned.2, fits))
 
 -- a candidate of at least that many units
 abbrev pub IsLarge : ℕ → List Candidate → Candidate → Type 0

@@ -1,63 +1,26 @@
 -- The segments of an instance's carriers.
-use Rattle.std.proofs.Common.{◌≡◌, ◌≢◌, ℕ, ◌+◌, ◌<◌, ◌≤◌, true, List, [], ◌∷◌, ◌++◌, length, All, sym, ap, ◌∙◌, subst, refl, inl, inr, ◌⊎◌, arith}
-use Rattle.std.specs.Prelude.{Some, Any}
+use Rattle.std.proofs.Common.{◌≡◌, ◌≢◌, ℕ, ◌+◌, ◌-◌, ◌<◌, ◌≤◌, true, List, [], ◌∷◌, ◌++◌, length, All, sym, ap, ◌∙◌, subst, refl, inl, inr, ◌⊎◌, arith}
+use Rattle.std.specs.Prelude.{Some, AllPairs, Any}
 use Rattle.std.proofs.lemmas.Bool.{cases_lt, cases_eq}
 use Rattle.std.proofs.lemmas.List.Elements.{All-nil, All-cons, All-head, All-tail}
+use Rattle.std.proofs.lemmas.List.Kept.{AllPairs-cons}
 use Rattle.ea_model.specs.declared.carriers.Segment.{Segment}
 use Rattle.ea_model.specs.declared.carriers.OwnCarrier.{OwnCarrier}
-use Rattle.ea_model.specs.Keyed.{IsBelow}
+use Rattle.ea_model.specs.Keyed.{IsBelow, changed_at}
 use Rattle.ea_model.specs.Region.{stretch, with_segment, covers, cut_from, Laid, SegmentApart, AreFree, IsTailOf, IsTail}
 use Rattle.ea_model.specs.Instance.{segment_of, segments, with_own, without_own, own_at}
-use Rattle.ea_model.proofs.Pairs.{pairs_tail}
-use Rattle.ea_model.proofs.Rising.{entered_here, entered_past, length-entered, others, without_here, without_none, without_past}
-use Rattle.ea_laws.proofs.Segments.{start_of, covers_cases, cut_past, cut_first, stretch_none, Laid-cut, any_cases, IsTail_cases, IsTail_behind}
+use Rattle.ea_model.proofs.Merged.{entered-All, entered-entered}
+use Rattle.ea_model.proofs.Pairs.{pairs_nil, pairs_tail}
+use Rattle.ea_model.proofs.Rising.{changed_here, changed_none, changed_past, entered_here, entered_past, item_at-All, length-entered, others, without_here, without_none, without_past}
+use Rattle.ea_laws.proofs.FreeRuns.{apart-before}
+use Rattle.ea_laws.proofs.Segments.{start_of, covers_cases, cut_past, cut_first, stretch_none, stretch_some, Laid-cut, any_cases, IsTail_cases, IsTail_behind}
 use Rattle.ea_laws.proofs.Tails.{any_here, any_later}
 use Rattle.ea_laws.specs.Kept.{own_number, HasPages, IsRisingOwn}
-
-entered_only : (a b : Segment) → a.base ≢ b.base → with_segment a (b ∷ []) ≡ with_segment b (a ∷ [])
-entered_only a b h = elim (cases_lt a.base b.base) [ inl p ↦ grind arith | inr q ↦ grind arith ]
-
-entered_first : (a b t : Segment) (ts : List Segment) → a.base ≢ b.base → b.base < t.base
-    → with_segment a (b ∷ t ∷ ts) ≡ with_segment b (with_segment a (t ∷ ts))
-entered_first a b t ts h lt = elim (cases_lt a.base b.base)
-    [ inl p ↦ grind arith | inr q ↦ grind arith ]
-
--- segments that begin at different pages may be entered in either order
-pub entered-entered : (a b : Segment) (ts : List Segment) → a.base ≢ b.base
-    → with_segment a (with_segment b ts) ≡ with_segment b (with_segment a ts)
-entered-entered a b [] h = entered_only a b h
-entered-entered a b (t ∷ ts) h =
-    elim (cases_lt b.base t.base) [
-      | inl p ↦ ap (with_segment a) (entered_here start_of b t ts p) ∙ entered_first a b t ts h p
-      | inr q ↦ elim (cases_lt a.base t.base) [
-        | inl p ↦ sym (ap (with_segment b) (entered_here start_of a t ts p)
-            ∙ entered_first b a t ts (λ e. h (sym e)) p)
-        | inr r ↦ ap (with_segment a) (entered_past start_of b t ts q)
-            ∙ entered_past start_of a t (with_segment b ts) r
-            ∙ ap (λ xs. t ∷ xs) (entered-entered a b ts h)
-            ∙ sym (ap (with_segment b) (entered_past start_of a t ts r)
-            ∙ entered_past start_of b t (with_segment a ts) q)
-      ]
-    ]
 
 pub length-segments : (os : List OwnCarrier) → length (segments os) ≡ length os
 length-segments [] = refl
 length-segments (o ∷ os) = length-entered start_of (segment_of o) (segments os)
     ∙ ap (λ n. n + 1) (length-segments os) ∙ omega arith
-
--- what holds of all segments holds of the one that was entered and of the others
-pub all_entered : (P : Segment → Type 0) (s : Segment) (ts : List Segment) → All P (with_segment s ts)
-    → P s × All P ts
-all_entered P s [] h = (All-head P s [] h, All-nil P)
-all_entered P s (t ∷ ts) h =
-    elim (cases_lt s.base t.base) [
-      | inl p ↦ let k = subst (All P) (entered_here start_of s t ts p) h in
-          (All-head P s (t ∷ ts) k, All-tail P s (t ∷ ts) k)
-      | inr q ↦
-          let k = subst (All P) (entered_past start_of s t ts q) h in
-          let more = all_entered P s ts (All-tail P t (with_segment s ts) k) in
-          (more.0, All-cons P t ts (All-head P t (with_segment s ts) k) more.1)
-    ]
 
 other_base : (x o : OwnCarrier) → HasPages x → HasPages o → SegmentApart x.base x.pages (segment_of o)
     → o.base ≢ x.base
@@ -73,11 +36,11 @@ segments-with_own x (o ∷ os) some pages apart =
     elim (cases_lt x.number o.number) [
       | inl p ↦ ap segments (entered_here own_number x o os p)
       | inr q ↦
-          let both = all_entered (SegmentApart x.base x.pages) (segment_of o) (segments os) apart in
+          let both = entered-All start_of (SegmentApart x.base x.pages) (segment_of o) (segments os) apart in
           ap segments (entered_past own_number x o os q)
           ∙ ap (with_segment (segment_of o))
           (segments-with_own x os some (All-tail HasPages o os pages) both.1)
-          ∙ entered-entered (segment_of o) (segment_of x) (segments os)
+          ∙ entered-entered start_of (segment_of o) (segment_of x) (segments os)
           (other_base x o some (All-head HasPages o os pages) both.0)
     ]
 
@@ -111,21 +74,35 @@ own_cases : (number : ℕ) (o x : OwnCarrier) (xs : List OwnCarrier)
 own_cases number o x xs h = elim (cases_eq x.number number)
     [ inl e ↦ inl (e, grind arith) | inr n ↦ inr (n, grind arith) ]
 
+-- the tail of a carrier's segment is that of one of the taken ones
+tail_among : (base pages number : ℕ) (o : OwnCarrier) (os : List OwnCarrier)
+    → own_at os number ≡ Some o → IsTailOf base pages (segment_of o)
+    → IsTail base pages (segments os)
+tail_among base pages number o [] there tail = absurd (grind arith)
+tail_among base pages number o (x ∷ xs) there tail =
+    let is_tail : Segment → Type 0 = IsTailOf base pages in
+    elim (own_cases number o x xs there) [
+      | inl p ↦ any_entered is_tail (segment_of x) (segments xs)
+          (subst (λ y. is_tail (segment_of y)) (sym p.1) tail)
+      | inr q ↦ any_among is_tail (segment_of x) (segments xs)
+          (tail_among base pages number o xs q.1 tail)
+    ]
+
 -- a carrier's segment is one of the taken ones
 pub own_at-IsTail : (number : ℕ) (o : OwnCarrier) (os : List OwnCarrier)
     → own_at os number ≡ Some o → All HasPages os → IsTail o.base o.pages (segments os)
-own_at-IsTail number o [] there pages = absurd (grind arith)
-own_at-IsTail number o (x ∷ xs) there pages =
-    let is_tail : Segment → Type 0 = IsTailOf o.base o.pages in
-    elim (own_cases number o x xs there) [
-      | inl p ↦
-          let here : HasPages o = subst HasPages p.1 (All-head HasPages x xs pages) in
-          any_entered is_tail (segment_of x) (segments xs)
-          (subst (λ y. is_tail (segment_of y)) (sym p.1)
-          (record { within = omega arith; some = here; to_end = refl }))
-      | inr q ↦ any_among is_tail (segment_of x) (segments xs)
-          (own_at-IsTail number o xs q.1 (All-tail HasPages x xs pages))
-    ]
+own_at-IsTail number o os there pages =
+    let some : HasPages o = item_at-All own_number HasPages number o os pages there in
+    tail_among o.base o.pages number o os there
+    (record { within = omega arith; some = some; to_end = refl })
+
+-- and its last pages are the tail of one of them
+pub shortened-IsTail : (number pages : ℕ) (o : OwnCarrier) (os : List OwnCarrier)
+    → own_at os number ≡ Some o → pages < o.pages
+    → IsTail (o.base + pages) (o.pages - pages) (segments os)
+shortened-IsTail number pages o os there fewer =
+    tail_among (o.base + pages) (o.pages - pages) number o os there
+    (record { within = omega arith; some = omega arith; to_end = omega arith })
 
 -- of segments laid with one more, that one begins after the beginning and has pages, and the
 -- others are laid without it
@@ -141,6 +118,39 @@ laid_entered at end s (r ∷ rs) t =
           let more = laid_entered (r.base + r.pages) end s rs l.2 in
           (omega (arith, l.0), more.1, (l.0, l.1, more.2))
     ]
+
+-- and none of them meets it
+laid_apart : (at end : ℕ) (s : Segment) (ts : List Segment) → Laid at end (with_segment s ts)
+    → AreFree s.base s.pages ts
+laid_apart at end s [] t = All-nil (SegmentApart s.base s.pages)
+laid_apart at end s (r ∷ rs) t =
+    elim (cases_lt s.base r.base) [
+      | inl lt ↦ let l = subst (Laid at end) (entered_here start_of s r rs lt) t in
+          apart-before (s.base + s.pages) end s.base s.pages (r ∷ rs) l.2 (omega arith)
+      | inr le ↦
+          let l = subst (Laid at end) (entered_past start_of s r rs le) t in
+          All-cons (SegmentApart s.base s.pages) r rs
+          (inl (laid_entered (r.base + r.pages) end s rs l.2).0)
+          (laid_apart (r.base + r.pages) end s rs l.2)
+    ]
+
+-- pages that meet no segment meet none of the carriers
+pub free-own : (base pages : ℕ) (os : List OwnCarrier) → AreFree base pages (segments os)
+    → All (λ o. SegmentApart base pages (segment_of o)) os
+free-own base pages [] free = All-nil (λ o. SegmentApart base pages (segment_of o))
+free-own base pages (o ∷ os) free =
+    let both = entered-All start_of (SegmentApart base pages) (segment_of o) (segments os) free in
+    All-cons (λ x. SegmentApart base pages (segment_of x)) o os both.0
+    (free-own base pages os both.1)
+
+-- no two carriers have a page in common
+pub own-apart : (at end : ℕ) (os : List OwnCarrier) → Laid at end (segments os)
+    → AllPairs (λ x o. SegmentApart x.base x.pages (segment_of o)) os
+own-apart at end [] laid = pairs_nil (λ x o. SegmentApart x.base x.pages (segment_of o))
+own-apart at end (o ∷ os) laid =
+    AllPairs-cons (λ x y. SegmentApart x.base x.pages (segment_of y)) o os
+    (free-own o.base o.pages os (laid_apart at end (segment_of o) (segments os) laid))
+    (own-apart at end os (laid_entered at end (segment_of o) (segments os) laid).2)
 
 covers_start : (s : Segment) → 0 < s.pages → covers s.base s ≡ true
 covers_start s h = elim (covers_cases s.base s)
@@ -248,4 +258,73 @@ segments-without first end number o (x ∷ xs) laid pages rising there =
           (pairs_tail (IsBelow own_number) x xs rising) q.1)
           ∙ sym (cut_other first end o.base o.pages (segment_of x) (segments xs) laid
           (own_at-IsTail number o xs q.1 rest))
+    ]
+
+cut_end : (at end pages : ℕ) (s : Segment) (ts : List Segment) → Laid at end (s ∷ ts)
+    → 1 ≤ pages → pages < s.pages
+    → cut_from (s.base + pages) (s ∷ ts) ≡ record { base = s.base; pages = pages } ∷ ts
+cut_end at end pages s ts t some fewer =
+    elim (covers_cases (s.base + pages) s) [
+      | inl p ↦ cut_first at end (s.base + pages) s ts t p.1 p.2
+          ∙ ap (λ xs. xs ++ ts) (stretch_some s.base (s.base + pages) (omega arith))
+          ∙ (let e : s.base + pages - s.base ≡ pages = omega arith in
+          ap (λ n. record { base = s.base; pages = n } ∷ ts) e)
+      | inr q ↦ absurd (elim q.0 [ inl b ↦ omega arith | inr b ↦ omega arith ])
+    ]
+
+-- the segment that was entered has fewer pages once its last ones are cut off
+cut_shorter : (at end pages : ℕ) (s : Segment) (ts : List Segment)
+    → Laid at end (with_segment s ts) → 1 ≤ pages → pages < s.pages
+    → cut_from (s.base + pages) (with_segment s ts)
+    ≡ with_segment (record { base = s.base; pages = pages }) ts
+cut_shorter at end pages s [] t some fewer = cut_end at end pages s [] t some fewer
+cut_shorter at end pages s (r ∷ rs) t some fewer =
+    let less : Segment = record { base = s.base; pages = pages } in
+    elim (cases_lt s.base r.base) [
+      | inl lt ↦ ap (cut_from (s.base + pages)) (entered_here start_of s r rs lt)
+          ∙ cut_end at end pages s (r ∷ rs)
+          (subst (Laid at end) (entered_here start_of s r rs lt) t) some fewer
+          ∙ sym (entered_here start_of less r rs lt)
+      | inr le ↦
+          let l = subst (Laid at end) (entered_past start_of s r rs le) t in
+          let behind = (laid_entered (r.base + r.pages) end s rs l.2).0 in
+          elim (covers_cases (s.base + pages) r) [
+            | inl p ↦ absurd (omega (arith, p.1, behind))
+            | inr q ↦ ap (cut_from (s.base + pages)) (entered_past start_of s r rs le)
+                ∙ cut_past (s.base + pages) r (with_segment s rs) q.1
+                ∙ ap (λ xs. r ∷ xs)
+                (cut_shorter (r.base + r.pages) end pages s rs l.2 some fewer)
+                ∙ sym (entered_past start_of less r rs le)
+          ]
+    ]
+
+-- the own carriers where that of the number has that many pages
+abbrev pub with_pages : ℕ → ℕ → List OwnCarrier → List OwnCarrier
+with_pages number pages os = changed_at own_number (λ o. record o { pages = pages }) number os
+
+-- a carrier of fewer pages has its segment without the last ones
+pub segments-shortened : (first end number : ℕ) (o : OwnCarrier) (os : List OwnCarrier)
+    (pages : ℕ) → Laid first end (segments os) → IsRisingOwn os → own_at os number ≡ Some o
+    → 1 ≤ pages → pages < o.pages
+    → segments (with_pages number pages os) ≡ cut_from (o.base + pages) (segments os)
+segments-shortened first end number o [] pages laid rising there some fewer =
+    absurd (grind arith)
+segments-shortened first end number o (x ∷ xs) pages laid rising there some fewer =
+    let f : OwnCarrier → OwnCarrier = λ y. record y { pages = pages } in
+    elim (own_cases number o x xs there) [
+      | inl p ↦
+          let less : pages < x.pages = subst (λ y. pages < y.pages) (sym p.1) fewer in
+          ap segments (changed_here own_number f number x xs p.0
+          ∙ ap (λ ys. f x ∷ ys)
+          (changed_none own_number f number xs (others own_number number x xs rising p.0)))
+          ∙ sym (cut_shorter first end pages (segment_of x) (segments xs) laid some less)
+          ∙ ap (λ y. cut_from (y.base + pages) (segments (x ∷ xs))) p.1
+      | inr q ↦
+          ap segments (changed_past own_number f number x xs q.0)
+          ∙ ap (with_segment (segment_of x))
+          (segments-shortened first end number o xs pages
+          (laid_entered first end (segment_of x) (segments xs) laid).2
+          (pairs_tail (IsBelow own_number) x xs rising) q.1 some fewer)
+          ∙ sym (cut_other first end (o.base + pages) (o.pages - pages) (segment_of x)
+          (segments xs) laid (shortened-IsTail number pages o xs q.1 fewer))
     ]

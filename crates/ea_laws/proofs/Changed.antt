@@ -4,7 +4,7 @@ use Rattle.std.specs.Prelude.{Some}
 use Rattle.std.specs.Option.{option_and_then}
 use Rattle.std.proofs.lemmas.Bool.{cases_eq}
 use Rattle.ea_model.specs.declared.carriers.Spot.{Spot}
-use Rattle.ea_model.specs.Content.{Content, block_at, placed, released}
+use Rattle.ea_model.specs.Content.{Content, block_at, placed, released, resized}
 use Rattle.ea_model.specs.Instance.{content_of, changed, block_in}
 use Rattle.ea_model.proofs.Rising.{changed-found, changed-other}
 use Rattle.ea_laws.specs.Kept.{number_of}
@@ -29,6 +29,16 @@ placed-keeps offset need name = record {
 
 pub released-keeps : (offset : ℕ) → KeepsPlace (λ c. released c offset)
 released-keeps offset = record {
+  number = λ _. refl;
+  base = λ _. refl;
+  birth = λ _. refl;
+  units = λ _. refl;
+  kind = λ _. refl;
+}
+
+-- and so does another size of a block
+pub resized-keeps : (offset size name : ℕ) → KeepsPlace (λ c. resized c offset size name)
+resized-keeps offset size name = record {
   number = λ _. refl;
   base = λ _. refl;
   birth = λ _. refl;

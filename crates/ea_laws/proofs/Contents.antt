@@ -1,12 +1,13 @@
 -- The contents that an instance employs, by rising number.
-use Rattle.std.proofs.Common.{◌≡◌, ◌≢◌, ℕ, true, false, List, [], All, sym, ap, ◌∙◌, refl, inl, inr, arith}
+use Rattle.std.proofs.Common.{◌≡◌, ◌≢◌, ℕ, true, false, List, [], ◌∷◌, All, sym, ap, ◌∙◌, refl, inl, inr, arith}
 use Rattle.std.specs.Prelude.{Option, Some, None, is_some}
 use Rattle.std.specs.Option.{option_and_then}
 use Rattle.std.proofs.lemmas.Bool.{cases_eq}
+use Rattle.std.proofs.lemmas.List.Elements.{All-head, All-tail}
 use Rattle.ea_model.specs.declared.carriers.BlockAt.{BlockAt}
-use Rattle.ea_model.specs.Content.{Content, block_at, is_empty_multi}
+use Rattle.ea_model.specs.Content.{Content, block_at, is_vacant}
 use Rattle.ea_model.specs.Instance.{with_content, without_content, content_of, has_content}
-use Rattle.ea_model.proofs.Rising.{item_at-gone, item_at-new, item_at-old, item_at-stays, none-other}
+use Rattle.ea_model.proofs.Rising.{item_at-gone, item_at-new, item_at-old, item_at-stays, item_past, none-other}
 use Rattle.ea_laws.specs.Kept.{number_of}
 use Rattle.ea_laws.specs.Spots.{HaveSameBlocks}
 
@@ -20,16 +21,23 @@ absent-none n cs h = none_there (content_of cs n) h
 pub absent-All : (n : ℕ) (cs : List Content) → has_content n cs ≡ false → All (λ c. c.number ≢ n) cs
 absent-All n cs h = none-other number_of n cs (absent-none n cs h)
 
-no_block : (c : Content) (offset : ℕ) → is_empty_multi c ≡ true → block_at c.blocks offset ≡ None
+pub absent-among : (n : ℕ) (cs : List Content) → All (λ c. c.number ≢ n) cs
+    → has_content n cs ≡ false
+absent-among n [] others = refl
+absent-among n (c ∷ cs) others =
+    ap is_some (item_past number_of n c cs (All-head (λ x. x.number ≢ n) c cs others))
+    ∙ absent-among n cs (All-tail (λ x. x.number ≢ n) c cs others)
+
+no_block : (c : Content) (offset : ℕ) → is_vacant c ≡ true → block_at c.blocks offset ≡ None
 no_block c offset done = grind arith
 
 -- the block at the offset, if there is a content
-abbrev block_among : ℕ → Option Content → Option BlockAt
+abbrev pub block_among : ℕ → Option Content → Option BlockAt
 block_among offset o = option_and_then (λ c. block_at c.blocks offset) o
 
 -- a carrier without blocks takes none away
 pub same-without : (number : ℕ) (c : Content) (cs : List Content) → content_of cs number ≡ Some c
-    → is_empty_multi c ≡ true → HaveSameBlocks cs (without_content number cs)
+    → is_vacant c ≡ true → HaveSameBlocks cs (without_content number cs)
 same-without number c cs there done at =
     elim (cases_eq at.carrier number) [
       | inl same ↦

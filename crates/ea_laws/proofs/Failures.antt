@@ -1,11 +1,11 @@
 -- Why an allocation fails.
-use Rattle.std.proofs.Common.{◌≡◌, ℕ, [], ◌∷◌, ◌++◌, sym, ap, ◌∙◌, subst, refl, inl, inr}
+use Rattle.std.proofs.Common.{◌≡◌, ℕ, ◌≤◌, false, arith, [], ◌∷◌, ◌++◌, sym, ap, ◌∙◌, subst, refl, inl, inr}
 use Rattle.std.specs.Prelude.{None, Err, IsNone, option_map}
 use Rattle.ea_model.specs.declared.carriers.Place.{Place}
 use Rattle.ea_model.specs.declared.carriers.Spot.{Spot}
 use Rattle.ea_model.specs.declared.entries.Entry.TheVariants as entry
 use Rattle.ea_model.specs.declared.entries.NoCarrier.{NoCarrier}
-use Rattle.ea_model.specs.Instance.{Instance, chosen_spot, creating, plan}
+use Rattle.ea_model.specs.Instance.{Instance, chosen_spot, creating, is_alone, plan}
 use Rattle.ea_model.specs.Units.{need_of}
 use Rattle.ea_laws.specs.Moments.{IsExhausted, FailsExhausted}
 use Rattle.ea_laws.specs.Run.{Run}
@@ -17,14 +17,19 @@ placed_is_no_failure : {A : Type 0} (name need looked : ℕ) (p : Place) (why : 
     → entry.Alloc name p ≡ entry.AllocFail name need looked why → A
 placed_is_no_failure name need looked p why e = absurd cc
 
--- an instance without a choice and without a plan is exhausted
-exhausted : (i : Instance) (need : ℕ) (why : NoCarrier) → chosen_spot i need ≡ None
-    → plan i need ≡ Err why → IsExhausted i need why
+-- a need that asks for a choice is none above the threshold
+asks : (i : Instance) (need : ℕ) → need ≤ i.settings.sbct → is_alone i need ≡ false
+asks i need le = grind arith
+
+-- an instance without a choice, where one is asked for, and without a plan is exhausted
+exhausted : (i : Instance) (need : ℕ) (why : NoCarrier)
+    → (is_alone i need ≡ false → chosen_spot i need ≡ None) → plan i need ≡ Err why
+    → IsExhausted i need why
 exhausted i need why unchosen unplanned =
-    let none : IsNone (option_map (λ (s : Spot). s) (chosen_spot i need)) = subst
-    (λ o. IsNone (option_map (λ (s : Spot). s) o)) (sym unchosen) refl in
     record {
-      gaps = (chosen-none (λ (s : Spot). s) i need).0 none;
+      gaps = λ le. (chosen-none (λ (s : Spot). s) i need).0
+          (subst (λ o. IsNone (option_map (λ (s : Spot). s) o)) (sym (unchosen (asks i need le)))
+          refl);
       numbers = λ is. (plan-numbers i need).0 (unplanned ∙ ap Err is);
       space = λ is. (plan-space i need).0 (unplanned ∙ ap Err is);
     }
@@ -56,10 +61,15 @@ module _ (r : Run) (name bytes need looked : ℕ) (why : NoCarrier) (s : Run)
   explained : Outcome r name (need_of bytes) s → IsExplained
   explained o =
       elim o [
-        | inl here ↦ not_placed r.instance here
+        | inl here ↦ not_placed r.instance here.places
         | inr rest ↦ elim rest [
           | inl new ↦ not_placed (creating r.instance new.plan_is) new.places
-          | inr fails ↦ failed fails
+          | inr last ↦ elim last [
+            | inl own ↦ placed_is_no_failure name need looked _ why
+                (last_same r.log _ (entry.AllocFail name need looked why)
+                (sym (ap (λ (t : Run). t.log) own.is) ∙ log))
+            | inr fails ↦ failed fails
+          ]
         ]
       ]
 

@@ -26,12 +26,12 @@ lowest_last : (pages a b : ℕ)
 lowest_last pages a b = grind arith
 
 -- pages before the segments meet none of them
-apart_before : (at end base pages : ℕ) (ss : List Segment) → Laid at end ss → base + pages ≤ at
+pub apart-before : (at end base pages : ℕ) (ss : List Segment) → Laid at end ss → base + pages ≤ at
     → AreFree base pages ss
-apart_before at end base pages [] t h = All-nil (SegmentApart base pages)
-apart_before at end base pages (s ∷ ss) t h =
+apart-before at end base pages [] t h = All-nil (SegmentApart base pages)
+apart-before at end base pages (s ∷ ss) t h =
     All-cons (SegmentApart base pages) s ss (inr (omega (arith, t.0)))
-    (apart_before (s.base + s.pages) end base pages ss t.2 (omega (arith, t.0)))
+    (apart-before (s.base + s.pages) end base pages ss t.2 (omega (arith, t.0)))
 
 pub lowest-Fits : (at end pages : ℕ) (ss : List Segment) → Laid at end ss
     → IfSome (lowest_run pages (runs at end ss)) (λ base. Fits at end base pages ss)
@@ -53,7 +53,7 @@ lowest-Fits at end pages (s ∷ ss) t =
             behind = omega arith;
             before = omega
                 (arith, t.1, Laid-end (s.base + s.pages) end ss t.2);
-            apart = apart_before s.base end at
+            apart = apart-before s.base end at
                 pages (s ∷ ss) (omega arith, t.1, t.2) (omega arith);
           })
       | inr q ↦ subst (λ r. IfSome r (λ base. Fits at end base pages (s ∷ ss))) (sym q)

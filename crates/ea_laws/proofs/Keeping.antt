@@ -1,7 +1,8 @@
 -- What an instance keeps of its carriers through each change.
 use Rattle.std.proofs.Common.{◌≡◌, ℕ, ◌+◌, ◌*◌, ◌/◌, ◌%◌, ◌<◌, ◌≤◌, false, List, length, All, sym, subst, refl, arith}
-use Rattle.std.specs.Prelude.{Option, Some, None, Ok, IsSome}
-use Rattle.std.proofs.lemmas.List.Elements.{All-filter}
+use Rattle.std.specs.Prelude.{Option, Some, None, Ok, IsSome, ◌==◌}
+use Rattle.std.proofs.lemmas.Bool.{cond_both}
+use Rattle.std.proofs.lemmas.List.Elements.{All-filter, All-map, All-weaker}
 use Rattle.std.proofs.lemmas.List.Kept.{AllPairs-filter}
 use Rattle.ea_model.specs.declared.settings.Settings.{Settings}
 use Rattle.ea_model.specs.declared.units.TheConstants.{MAX_UNITS}
@@ -11,15 +12,15 @@ use Rattle.ea_model.specs.declared.carriers.Kind.TheVariants.{Multi}
 use Rattle.ea_model.specs.Content.{Content}
 use Rattle.ea_model.specs.Keyed.{IsBelow}
 use Rattle.ea_model.specs.Region.{AreFree, Laid, lowest_run, runs, with_segment}
-use Rattle.ea_model.specs.Instance.{Instance, segments, segment_of, first_number, own_at, own_of, planned_own, with_own, without_own, unused_from, is_used, free_run, least_pages, next_pages, planned, least_plan, sized_plan, numbered_plan, plan, created_content, creating, chosen_spot}
+use Rattle.ea_model.specs.Instance.{Instance, segments, segment_of, first_number, own_at, own_of, planned_own, with_own, without_own, unused_from, is_used, free_run, is_alone, least_pages, next_pages, wanted_pages, planned, least_plan, sized_plan, numbered_plan, plan, created_content, creating, chosen_spot}
 use Rattle.ea_model.proofs.Options.{some_holds}
-use Rattle.ea_model.proofs.Rising.{All-entered, length-entered, rising-entered}
+use Rattle.ea_model.proofs.Rising.{All-entered, change, key_stays, length-entered, rising-changed, rising-entered}
 use Rattle.ea_laws.specs.Kept.{own_number, HasNumberIn, HasPages, IsRisingOwn, IsKept, IsLaidOut}
 use Rattle.ea_laws.proofs.FreeRuns.{Fits, lowest-Fits}
 use Rattle.ea_laws.proofs.Segments.{Laid-cut, Laid-entered}
 use Rattle.ea_laws.proofs.Owned.{rising-length, unused_from-free, unused-All}
 use Rattle.ea_laws.proofs.Room.{chosen-created}
-use Rattle.ea_laws.proofs.CarrierSegments.{segments-with_own, segments-without}
+use Rattle.ea_laws.proofs.CarrierSegments.{segments-shortened, segments-with_own, segments-without, with_pages}
 
 -- the own carriers without one of them
 pub IsKept-cleared : (s : Settings) (n number first end : ℕ) (o : OwnCarrier)
@@ -37,35 +38,85 @@ IsKept-cleared s n number first end o os k there = record {
       (Laid-cut first end o.base (segments os) k.laid);
 }
 
+-- the own carriers where one of them has fewer pages
+module _ (s : Settings) (n number first end pages : ℕ) (o : OwnCarrier) (os : List OwnCarrier)
+    (k : IsKept s n first end os) (there : own_at os number ≡ Some o) (some : 1 ≤ pages)
+    (fewer : pages < o.pages) where
+  abbrev shorter : OwnCarrier → OwnCarrier
+  shorter x = record x { pages = pages }
+
+  numbers_stay : (x : OwnCarrier) → own_number (change own_number shorter number x) ≡ x.number
+  numbers_stay x = key_stays own_number shorter number (λ _. refl) x
+
+  pub IsKept-shortened : IsKept s n first end (with_pages number pages os)
+  IsKept-shortened =
+      let owns = HasNumberIn (first_number n) (first_number n + 256) in
+      let less = change own_number shorter number in
+      record {
+        valid = k.valid;
+        instance = k.instance;
+        rising = rising-changed own_number shorter number (λ _. refl) os k.rising;
+        numbers = All-map owns less os
+            (All-weaker owns (λ x. owns (less x))
+            (λ x has. (omega (arith, has.0, numbers_stay x), omega (arith, has.1, numbers_stay x)))
+            os k.numbers);
+        pages = All-map HasPages less os
+            (All-weaker HasPages (λ x. HasPages (less x))
+            (λ x has. cond_both (x.number == number) (shorter x) x HasPages (λ _. some) (λ _. has))
+            os k.pages);
+        within = k.within;
+        laid = subst (Laid first end)
+            (sym (segments-shortened first end number o os pages k.laid k.rising there some fewer))
+            (Laid-cut first end (o.base + pages) (segments os) k.laid);
+      }
+
 -- what a plan says
 pub record IsPlanned (i : Instance) (need : ℕ) (p : CarrierPlan) : Type 0 where
   pub number : unused_from 256 (first_number i.number) i.own ≡ Some p.number
   pub run : free_run i p.pages ≡ Some p.base
   pub birth : p.birth ≡ i.created + 1
+  pub single : p.single ≡ is_alone i need
   pub enough : least_pages need ≤ p.pages
+
+-- the wanted pages are enough
+pub wanted-enough : (i : Instance) (need : ℕ) → least_pages need ≤ wanted_pages i need
+wanted-enough i need = cond_both (is_alone i need) (least_pages need) (next_pages i need)
+    (λ n. least_pages need ≤ n) (λ _. omega arith) (λ _. omega arith)
 
 at_least : (i : Instance) (need number : ℕ) (p : CarrierPlan) (o : Option ℕ)
     → unused_from 256 (first_number i.number) i.own ≡ Some number
     → free_run i (least_pages need) ≡ o → least_plan i need number o ≡ Ok p → IsPlanned i need p
 at_least i need number p None n f e = absurd cc
 at_least i need number p (Some base) n f e =
-    let is : planned i number base (least_pages need) ≡ p = cc in
-    subst (IsPlanned i need) is (record { number = n; run = f; birth = refl; enough = omega arith })
+    let is : planned i need number base (least_pages need) ≡ p = cc in
+    subst (IsPlanned i need) is (record {
+      number = n;
+      run = f;
+      birth = refl;
+      single = refl;
+      enough = omega arith;
+    })
 
 at_size : (i : Instance) (need number : ℕ) (p : CarrierPlan) (o : Option ℕ)
     → unused_from 256 (first_number i.number) i.own ≡ Some number
-    → free_run i (next_pages i need) ≡ o → sized_plan i need number o ≡ Ok p → IsPlanned i need p
+    → free_run i (wanted_pages i need) ≡ o → sized_plan i need number o ≡ Ok p → IsPlanned i need p
 at_size i need number p None n f e = at_least i need number p (free_run i (least_pages need)) n refl
     e
 at_size i need number p (Some base) n f e =
-    let is : planned i number base (next_pages i need) ≡ p = cc in
-    subst (IsPlanned i need) is (record { number = n; run = f; birth = refl; enough = omega arith })
+    let is : planned i need number base (wanted_pages i need) ≡ p = cc in
+    subst (IsPlanned i need) is (record {
+      number = n;
+      run = f;
+      birth = refl;
+      single = refl;
+      enough = wanted-enough i need;
+    })
 
 at_number : (i : Instance) (need : ℕ) (p : CarrierPlan) (o : Option ℕ)
     → unused_from 256 (first_number i.number) i.own ≡ o → numbered_plan i need o ≡ Ok p
     → IsPlanned i need p
 at_number i need p None n e = absurd cc
-at_number i need p (Some number) n e = at_size i need number p (free_run i (next_pages i need)) n
+at_number i need p (Some number) n e = at_size i need number p (free_run i (wanted_pages i need)) n
     refl e
 
 pub plan-IsPlanned : (i : Instance) (need : ℕ) (p : CarrierPlan) → plan i need ≡ Ok p

@@ -1,8 +1,7 @@
 -- Where a block is placed.
-use Rattle.std.proofs.Common.{◌≡◌, ℕ, Bool, true, false, List, [], ◌∷◌, ◌++◌, filter, sym, ap, ◌∙◌, subst, refl, inl, inr, ◌⊎◌}
-use Rattle.std.specs.Prelude.{Option, Some, None, Ok, IsNone, option_map}
+use Rattle.std.proofs.Common.{◌≡◌, ℕ, ◌<◌, ◌≤◌, arith, Bool, true, false, List, [], ◌∷◌, ◌++◌, filter, sym, ap, ◌∙◌, subst, refl, inl, inr, ◌⊎◌}
+use Rattle.std.specs.Prelude.{Option, Some, None, IsNone, option_map}
 use Rattle.ea_model.specs.declared.carriers.Candidate.{Candidate}
-use Rattle.ea_model.specs.declared.carriers.CarrierPlan.{CarrierPlan}
 use Rattle.ea_model.specs.declared.carriers.Place.{Place}
 use Rattle.ea_model.specs.declared.carriers.Spot.{Spot}
 use Rattle.ea_model.specs.declared.entries.Entry.TheVariants as entry
@@ -10,14 +9,15 @@ use Rattle.ea_model.specs.declared.entries.NoCarrier.{NoCarrier}
 use Rattle.ea_model.specs.declared.settings.Settings.{Settings}
 use Rattle.ea_model.specs.Choice.{IsFirst}
 use Rattle.ea_model.specs.Content.{Content, is_empty_multi, taken_of}
-use Rattle.ea_model.specs.Instance.{Instance, chosen_spot, creating, place_at, plan, size_for}
+use Rattle.ea_model.specs.Instance.{Instance, chosen_spot, creating, is_alone, place_at, size_for, single_place}
 use Rattle.ea_model.specs.Strategies.{candidates, choice_among, choice_for, choice_empty, large_enough, inspected_by, lower, may_miss, or_else, spot_of, takes_first}
 use Rattle.ea_model.specs.Units.{need_of}
 use Rattle.ea_model.proofs.First.{first-IsFirst}
 use Rattle.ea_model.proofs.Options.{some_holds}
 use Rattle.ea_laws.specs.Kept.{Stands}
-use Rattle.ea_laws.specs.Moments.{IsTakenFirst, IsPlaceOf, PlacesFirst}
+use Rattle.ea_laws.specs.Moments.{IsChosenPlace, IsPlaceOf, IsSinglePlace, IsTakenFirst, PlacesFirst}
 use Rattle.ea_laws.specs.Run.{Run}
+use Rattle.ea_laws.proofs.Keeping.{plan-IsPlanned}
 use Rattle.ea_laws.proofs.Orders.{lower-order, takes_first-order}
 use Rattle.ea_laws.proofs.Releases.{last_same}
 use Rattle.ea_laws.proofs.Standing.{IsOwnGap, chosen-owned, creating-Stands}
@@ -84,38 +84,64 @@ module _ (r : Run) (st : Stands r.instance) (name bytes : ℕ) (p : Place) (s : 
   abbrev need : ℕ
   need = need_of bytes
 
-  -- the place is there, or with the carrier of the plan
-  abbrev IsThere : Type 0
-  IsThere = IsPlaceOf r.instance need p
-      ⊎ ((q : CarrierPlan) × IsNone (chosen_spot r.instance need) × (plan r.instance need ≡ Ok q)
-      × IsPlaceOf (creating r.instance q) need p)
+  abbrev i : Instance
+  i = r.instance
 
-  placed_in : (i : Instance) → Stands i → PlacesIn r name need s i → IsPlaceOf i need p
-  placed_in i stands h =
-      let same = last_same r.log (entry.Alloc name (place_at i h.spot need)) (entry.Alloc name p)
-      (sym (ap (λ (t : Run). t.log) h.is) ∙ log) in
-      subst (IsPlaceOf i need) (same_place name (place_at i h.spot need) p same)
-      (place-is i need h.spot stands h.chosen)
+  -- the place is there, by its need
+  abbrev IsThere : Type 0
+  IsThere = ((need ≤ i.settings.sbct) × IsChosenPlace i need p)
+      ⊎ ((i.settings.sbct < need) × IsSinglePlace i need p)
+
+  same_entry : (q : Place) → s.log ≡ r.log ++ entry.Alloc name q ∷ [] → q ≡ p
+  same_entry q is = same_place name q p
+      (last_same r.log (entry.Alloc name q) (entry.Alloc name p) (sym is ∙ log))
+
+  placed_in : (j : Instance) → Stands j → PlacesIn r name need s j → IsPlaceOf j need p
+  placed_in j stands h =
+      subst (IsPlaceOf j need)
+      (same_entry (place_at j h.spot need) (ap (λ (t : Run). t.log) h.is))
+      (place-is j need h.spot stands h.chosen)
 
   not_failed : Fails r name need s → IsThere
   not_failed f = failure_is_no_place name need p f.why
       (last_same r.log _ (entry.Alloc name p) (sym (ap (λ (t : Run). t.log) f.is) ∙ log))
 
+  up_to : is_alone i need ≡ false → need ≤ i.settings.sbct
+  up_to shared = grind arith
+
+  above : is_alone i need ≡ true → i.settings.sbct < need
+  above alone = grind arith
+
   placed_by : Outcome r name need s → IsThere
   placed_by o =
       elim o [
-        | inl here ↦ inl (placed_in r.instance st here)
+        | inl here ↦ inl (up_to here.shared, inl (placed_in i st here.places))
         | inr rest ↦ elim rest [
           | inl new ↦
               let q = new.plan_is in
-              inr (
-                q,
-                subst IsNone (sym new.none) refl,
-                new.asked,
-                placed_in (creating r.instance q)
-                    (creating-Stands r.instance need q st new.asked) new.places,
+              inl (
+                up_to new.shared,
+                inr (
+                  q,
+                  subst IsNone (sym new.none) refl,
+                  new.asked,
+                  placed_in (creating i q) (creating-Stands i need q st new.asked) new.places,
+                ),
               )
-          | inr fails ↦ not_failed fails
+          | inr last ↦ elim last [
+            | inl own ↦
+                let q = own.plan_is in
+                inr (
+                  above own.alone,
+                  (
+                    q,
+                    own.asked,
+                    (plan-IsPlanned i need q own.asked).single ∙ own.alone,
+                    sym (same_entry (single_place q need) (ap (λ (t : Run). t.log) own.is)),
+                  ),
+                )
+            | inr fails ↦ not_failed fails
+          ]
         ]
       ]
 

@@ -4,43 +4,47 @@ use Rattle.std.specs.Prelude.{All, AllPairs}
 use Rattle.std.proofs.lemmas.List.Elements.{All-nil, All-cons, All-head, All-tail, All-append, All-map, All-weaker}
 use Rattle.std.proofs.lemmas.List.Kept.{AllPairs-cons}
 use Rattle.ea_model.specs.declared.carriers.BlockAt.{BlockAt}
-use Rattle.ea_model.specs.Content.{Content, Tiled}
+use Rattle.ea_model.specs.Content.{Content}
 use Rattle.ea_model.proofs.Pairs.{pairs_append, pairs_head, pairs_map, pairs_nil, pairs_tail}
-use Rattle.ea_laws.proofs.Tiling.{Tiled-allocated}
+use Rattle.ea_laws.proofs.Tiling.{Ordered, Ordered-allocated}
 use Rattle.ea_laws.specs.InOrder.{Range, ranges_in, ranges, RangesApart}
-use Rattle.ea_laws.specs.Kept.{ContentsApart, IsLaidOut}
+use Rattle.ea_laws.specs.Kept.{ContentsApart}
+
+-- the blocks of a carrier lie one after another, behind its header
+abbrev pub IsOrdered : Content → Type 0
+IsOrdered c = Ordered 8 c.units c.blocks
 
 -- the block lies between the ends
-abbrev IsWithin : ℕ → ℕ → BlockAt → Type 0
+abbrev pub IsWithin : ℕ → ℕ → BlockAt → Type 0
 IsWithin at end b = (at ≤ b.offset) × (b.offset + b.size ≤ end)
 
-blocks_within : (at end : ℕ) (bs : List BlockAt) → Tiled at end bs → All (IsWithin at end) bs
+pub blocks_within : (at end : ℕ) (bs : List BlockAt) → Ordered at end bs → All (IsWithin at end) bs
 blocks_within at end [] t = All-nil (IsWithin at end)
 blocks_within at end (b ∷ bs) t =
     All-cons (IsWithin at end) b bs
-    (t.0, omega (arith, Tiled-allocated (b.offset + b.size) end bs t.4))
+    (t.0, omega (arith, Ordered-allocated (b.offset + b.size) end bs t.2))
     (All-weaker (IsWithin (b.offset + b.size) end) (IsWithin at end)
-    (λ x h. (omega (arith, h.0, t.0), h.1)) bs (blocks_within (b.offset + b.size) end bs t.4))
+    (λ x h. (omega (arith, h.0, t.0), h.1)) bs (blocks_within (b.offset + b.size) end bs t.2))
 
 -- the block a ends where b begins, or before
 abbrev IsAhead : BlockAt → BlockAt → Type 0
 IsAhead a b = a.offset + a.size ≤ b.offset
 
-blocks_ahead : (at end : ℕ) (bs : List BlockAt) → Tiled at end bs → AllPairs IsAhead bs
+blocks_ahead : (at end : ℕ) (bs : List BlockAt) → Ordered at end bs → AllPairs IsAhead bs
 blocks_ahead at end [] t = pairs_nil IsAhead
 blocks_ahead at end (b ∷ bs) t =
     AllPairs-cons IsAhead b bs
     (All-weaker (IsWithin (b.offset + b.size) end) (IsAhead b) (λ x h. h.0) bs
-    (blocks_within (b.offset + b.size) end bs t.4))
-    (blocks_ahead (b.offset + b.size) end bs t.4)
+    (blocks_within (b.offset + b.size) end bs t.2))
+    (blocks_ahead (b.offset + b.size) end bs t.2)
 
 abbrev range_of : Content → BlockAt → Range
 range_of c b = record { first = 512 * c.base + b.offset; units = b.size }
 
-in_carrier : (c : Content) → IsLaidOut c → AllPairs RangesApart (ranges_in c)
+in_carrier : (c : Content) → IsOrdered c → AllPairs RangesApart (ranges_in c)
 in_carrier c sound = pairs_map RangesApart (range_of c) c.blocks
     (λ i j d lt within. inl
-    (omega (arith, blocks_ahead 8 c.units c.blocks sound.tiled i j d lt within)))
+    (omega (arith, blocks_ahead 8 c.units c.blocks sound i j d lt within)))
 
 -- what holds of each block's units
 ranges_All : (P : Range → Type 0) (cs : List Content)
@@ -57,18 +61,18 @@ across c d b e away h k =
     elim away [ inl p ↦ inl (omega (arith, h.1)) | inr q ↦ inr (omega (arith, k.1)) ]
 
 -- a block of a carrier, and those of a carrier that lies apart
-across_All : (c d : Content) (b : BlockAt) → IsWithin 8 c.units b → ContentsApart c d → IsLaidOut d
+across_All : (c d : Content) (b : BlockAt) → IsWithin 8 c.units b → ContentsApart c d → IsOrdered d
     → All (λ e. RangesApart (range_of c b) (range_of d e)) d.blocks
 across_All c d b h away sound =
     All-weaker (IsWithin 8 d.units) (λ e. RangesApart (range_of c b) (range_of d e))
-    (λ e k. across c d b e away h k) d.blocks (blocks_within 8 d.units d.blocks sound.tiled)
+    (λ e k. across c d b e away h k) d.blocks (blocks_within 8 d.units d.blocks sound)
 
-pub blocks-disjoint : (cs : List Content) → All IsLaidOut cs → AllPairs ContentsApart cs
+pub blocks-disjoint : (cs : List Content) → All IsOrdered cs → AllPairs ContentsApart cs
     → AllPairs RangesApart (ranges cs)
 blocks-disjoint [] sound apart = pairs_nil RangesApart
 blocks-disjoint (c ∷ cs) sound apart =
-    let here = All-head IsLaidOut c cs sound in
-    let rest = All-tail IsLaidOut c cs sound in
+    let here = All-head IsOrdered c cs sound in
+    let rest = All-tail IsOrdered c cs sound in
     let away = pairs_head ContentsApart c cs apart in
     let others : (b : BlockAt) → IsWithin 8 c.units b
     → All (RangesApart (range_of c b)) (ranges cs) =
@@ -78,4 +82,4 @@ blocks-disjoint (c ∷ cs) sound apart =
     (blocks-disjoint cs rest (pairs_tail ContentsApart c cs apart))
     (All-map (λ r. All (RangesApart r) (ranges cs)) (range_of c) c.blocks
     (All-weaker (IsWithin 8 c.units) (λ b. All (RangesApart (range_of c b)) (ranges cs)) others
-    c.blocks (blocks_within 8 c.units c.blocks here.tiled)))
+    c.blocks (blocks_within 8 c.units c.blocks here)))

@@ -12,13 +12,14 @@ use Rattle.ea_model.specs.declared.entries.NoCarrier.TheVariants.{Numbers, Space
 use Rattle.ea_model.specs.Choice.{first}
 use Rattle.ea_model.specs.Content.{Content, is_empty_multi}
 use Rattle.ea_model.specs.Region.{runs}
-use Rattle.ea_model.specs.Instance.{Instance, chosen_spot, unused_from, is_used, first_number, plan, numbered_plan, sized_plan, least_plan, free_run, next_pages, least_pages, segments}
+use Rattle.ea_model.specs.Instance.{Instance, chosen_spot, unused_from, is_used, first_number, plan, numbered_plan, sized_plan, least_plan, free_run, wanted_pages, least_pages, segments}
 use Rattle.ea_model.specs.Strategies.{candidates, choice_among, choice_for, choice_empty, large_enough, inspected_by, lower, may_miss, or_else, takes_first, spot_of}
 use Rattle.ea_model.proofs.First.{first-none, large-none, none-large}
 use Rattle.ea_model.proofs.Options.{mapped, unmapped}
 use Rattle.ea_laws.proofs.FreeRuns.{lowest-none}
 use Rattle.ea_laws.specs.Spots.{AllUsed, FindsNone}
 use Rattle.ea_laws.proofs.Inspected.{all_inspected}
+use Rattle.ea_laws.proofs.Keeping.{wanted-enough}
 use Rattle.ea_laws.proofs.Unused.{unused_from-zero, unused_from-used, unused_from-free_here}
 
 -- none of them is chosen exactly where none is large enough
@@ -136,7 +137,7 @@ numbered : (i : Instance) (need : ℕ) (o : Option ℕ) → numbered_plan i need
     → o ≡ None
 numbered i need None e = refl
 numbered i need (Some number) e = absurd
-    (not_numbers i need number (free_run i (next_pages i need)) e)
+    (not_numbers i need number (free_run i (wanted_pages i need)) e)
 
 -- the numbers are the cause exactly where all are in use
 pub plan-numbers : (i : Instance) (need : ℕ) → (plan i need ≡ Err Numbers) ↔ AllUsed i
@@ -160,13 +161,13 @@ spaced : (i : Instance) (need : ℕ) (o : Option ℕ) → numbered_plan i need o
     × IsNone (free_run i (least_pages need))
 spaced i need None e = absurd cc
 spaced i need (Some number) e =
-    (λ never. absurd cc, no_room_at_all i need number (free_run i (next_pages i need)) e)
+    (λ never. absurd cc, no_room_at_all i need number (free_run i (wanted_pages i need)) e)
 
 is_none : {A : Type 0} (o : Option A) → IsNone o → o ≡ None
 is_none None h = refl
 is_none (Some x) h = absurd cc
 
--- no run for the least carrier, and so none for the next one
+-- no run for the least carrier, and so none for the wanted one
 All-more : (a b : ℕ) (rs : List Segment) → a ≤ b → All (λ r. r.pages < a) rs
     → All (λ r. r.pages < b) rs
 All-more a b [] le h = All-nil (λ (r : Segment). r.pages < b)
@@ -176,7 +177,7 @@ All-more a b (r ∷ rs) le h =
     (All-more a b rs le (All-tail (λ (r : Segment). r.pages < a) r rs h))
 
 unplanned : (i : Instance) (need : ℕ) (o : Option ℕ) → o ≢ None
-    → free_run i (next_pages i need) ≡ None → free_run i (least_pages need) ≡ None
+    → free_run i (wanted_pages i need) ≡ None → free_run i (least_pages need) ≡ None
     → numbered_plan i need o ≡ Err Space
 unplanned i need None some next least = absurd (some refl)
 unplanned i need (Some number) some next least = ap (sized_plan i need number) next
@@ -194,8 +195,8 @@ plan-space i need =
       ),
       λ h. unplanned i need (unused_from 256 (first_number i.number) i.own)
           (λ none. h.0 (all_used 256 (first_number i.number) i.own none))
-          (is_none (free_run i (next_pages i need))
-          ((lowest-none (next_pages i need) rs).1
-          (All-more (least_pages need) (next_pages i need) rs (omega arith) h.1)))
+          (is_none (free_run i (wanted_pages i need))
+          ((lowest-none (wanted_pages i need) rs).1
+          (All-more (least_pages need) (wanted_pages i need) rs (wanted-enough i need) h.1)))
           (is_none (free_run i (least_pages need)) ((lowest-none (least_pages need) rs).1 h.1)),
     )

@@ -3,12 +3,13 @@ use Rattle.std.proofs.Common.{◌≡◌, ◌≢◌, ℕ, ◌+◌, ◌≤◌, Lis
 use Rattle.std.specs.Prelude.{Option, Some, None, IsNone, IsSome, option_map}
 use Rattle.std.proofs.lemmas.Bool.{cases_eq}
 use Rattle.std.proofs.lemmas.List.Elements.{filter-append}
+use Rattle.ea_model.specs.declared.carriers.Place.{Place}
 use Rattle.ea_model.specs.declared.carriers.Spot.{Spot}
 use Rattle.ea_model.specs.declared.entries.Entry.{Entry}
 use Rattle.ea_model.specs.declared.entries.Entry.TheVariants as entry
 use Rattle.ea_model.specs.declared.operations.Op.{Op}
 use Rattle.ea_model.specs.declared.operations.Op.TheVariants as op
-use Rattle.ea_model.specs.Instance.{Instance, creating, place_at}
+use Rattle.ea_model.specs.Instance.{Instance, creating, place_at, single_place}
 use Rattle.ea_model.specs.Units.{need_of}
 use Rattle.ea_model.proofs.Rising.{item_past}
 use Rattle.ea_laws.specs.Moments.{FreesHeldNames, allocations, is_allocation, is_release, releases}
@@ -47,18 +48,24 @@ held_past name h hs other = ap (option_map (λ (k : Held). k.spot))
 
 module _ (r : Run) (name other need : ℕ) (s : Run) (n : other ≢ name) (none : HoldsNone name r.held)
   where
+    one_none : (spot : Spot) → HoldsNone name (record { name = other; spot = spot } ∷ r.held)
+    one_none spot =
+        subst IsNone (sym (held_past name (record { name = other; spot = spot }) r.held n)) none
+
     places_none : (i : Instance) → PlacesIn r other need s i → HoldsNone name s.held
-    places_none i p =
-        subst (λ (t : Run). HoldsNone name t.held) (sym p.is)
-        (subst IsNone (sym (held_past name (record { name = other; spot = p.spot }) r.held n)) none)
+    places_none i p = subst (λ (t : Run). HoldsNone name t.held) (sym p.is) (one_none p.spot)
 
     alloc_none : Outcome r other need s → HoldsNone name s.held
     alloc_none o =
         elim o [
-          | inl here ↦ places_none r.instance here
+          | inl here ↦ places_none r.instance here.places
           | inr rest ↦ elim rest [
             | inl new ↦ places_none (creating r.instance new.plan_is) new.places
-            | inr fails ↦ subst (λ (t : Run). HoldsNone name t.held) (sym fails.is) none
+            | inr last ↦ elim last [
+              | inl own ↦ subst (λ (t : Run). HoldsNone name t.held) (sym own.is)
+                  (one_none (record { carrier = own.plan_is.number; offset = 8 }))
+              | inr fails ↦ subst (λ (t : Run). HoldsNone name t.held) (sym fails.is) none
+            ]
           ]
         ]
 
@@ -141,15 +148,17 @@ module _ (ops : List Op) (r : Run) (b : Balances ops r) where
     abbrev after : List Op
     after = ops ++ op.Alloc name bytes ∷ []
 
-    places_balance : (i : Instance) → PlacesIn r name (need_of bytes) s i → Balances after s
-    places_balance i p =
-        let x : Held = record { name = name; spot = p.spot } in
-        subst (Balances after) (sym p.is) (λ n. elim (cases_eq name n) [
+    -- an entry of a place, and the name more
+    one_more : (place : Place) (spot : Spot) (n : ℕ)
+        → releases n (r.log ++ entry.Alloc name place ∷ [])
+        + one (spot_held n (record { name = name; spot = spot } ∷ r.held)) ≤ allocations n after
+    one_more place spot n =
+        let x : Held = record { name = name; spot = spot } in
+        elim (cases_eq name n) [
           | inl same ↦ omega (
             arith,
             b n,
-            releases_more n r.log
-                (entry.Alloc name (place_at i p.spot (need_of bytes))),
+            releases_more n r.log (entry.Alloc name place),
             one_most (spot_held n (x ∷ r.held)),
             allocations_more n ops (op.Alloc name bytes),
             allocated_once n name bytes same,
@@ -157,22 +166,30 @@ module _ (ops : List Op) (r : Run) (b : Balances ops r) where
           | inr other ↦ omega (
             arith,
             b n,
-            releases_more n r.log
-                (entry.Alloc name (place_at i p.spot (need_of bytes))),
+            releases_more n r.log (entry.Alloc name place),
             ap one (held_past n x r.held other),
             allocations_more n ops (op.Alloc name bytes),
           )
-        ])
+        ]
+
+    places_balance : (i : Instance) → PlacesIn r name (need_of bytes) s i → Balances after s
+    places_balance i p = subst (Balances after) (sym p.is)
+        (one_more (place_at i p.spot (need_of bytes)) p.spot)
 
     alloc_balance : Outcome r name (need_of bytes) s → Balances after s
     alloc_balance o =
         elim o [
-          | inl here ↦ places_balance r.instance here
+          | inl here ↦ places_balance r.instance here.places
           | inr rest ↦ elim rest [
             | inl new ↦ places_balance (creating r.instance new.plan_is) new.places
-            | inr fails ↦ subst (Balances after) (sym fails.is)
-                (noted (op.Alloc name bytes) (entry.AllocFail name (need_of bytes) 0 fails.why)
-                (λ n. refl))
+            | inr last ↦ elim last [
+              | inl own ↦ subst (Balances after) (sym own.is)
+                  (one_more (single_place own.plan_is (need_of bytes))
+                  (record { carrier = own.plan_is.number; offset = 8 }))
+              | inr fails ↦ subst (Balances after) (sym fails.is)
+                  (noted (op.Alloc name bytes) (entry.AllocFail name (need_of bytes) 0 fails.why)
+                  (λ n. refl))
+            ]
           ]
         ]
 

@@ -1,7 +1,7 @@
 -- What holds of an instance at every moment.
-use Rattle.std.proofs.Common.{◌≡◌, ℕ, ◌+◌, ◌%◌, ◌<◌, ◌≤◌, Bool, true, false, List, [], ◌∷◌, filter, length, map, sym, ap, ◌∙◌, subst, refl, inl, inr, arith}
-use Rattle.std.specs.Prelude.{Option, Some, None, Ok, IfSome, All, Contains, nat_lt, option_map}
-use Rattle.std.proofs.lemmas.Bool.{cases_lt, cond-true, cond-false}
+use Rattle.std.proofs.Common.{◌≡◌, ◌≢◌, ℕ, ◌+◌, ◌%◌, ◌<◌, ◌≤◌, Bool, true, false, List, [], ◌∷◌, filter, length, map, sym, ap, ◌∙◌, subst, refl, inl, inr, arith}
+use Rattle.std.specs.Prelude.{Option, Some, None, Ok, IfSome, All, AllPairs, Contains, nat_lt, option_map}
+use Rattle.std.proofs.lemmas.Bool.{cases_eq, cases_lt, cond-true, cond-false}
 use Rattle.std.proofs.lemmas.List.{length-map}
 use Rattle.std.proofs.lemmas.List.Elements.{All-nil, All-cons, All-filter, All-contains_itself, All-weaker}
 use Rattle.std.proofs.lemmas.List.Kept.{AllPairs-cons, AllPairs-filter}
@@ -13,53 +13,128 @@ use Rattle.ea_model.specs.declared.carriers.Candidate.{Candidate}
 use Rattle.ea_model.specs.declared.carriers.CarrierPlan.{CarrierPlan}
 use Rattle.ea_model.specs.declared.carriers.Kind.TheVariants.{Multi}
 use Rattle.ea_model.specs.declared.carriers.Spot.{Spot}
-use Rattle.ea_model.specs.Content.{Content, gap_at, gaps_of, is_empty_multi, placed, released, taken_of}
+use Rattle.ea_model.specs.Content.{Content, gap_at, gaps_of, is_empty_multi, is_vacant, placed, released, taken_of}
 use Rattle.ea_model.specs.Choice.{first}
-use Rattle.ea_model.specs.Keyed.{IsBelow}
-use Rattle.ea_model.specs.Region.{AreFree}
+use Rattle.ea_model.specs.Keyed.{IsBelow, merged, without}
+use Rattle.ea_model.specs.Region.{AreFree, Laid}
 use Rattle.ea_model.specs.Settings.{IsValid}
 use Rattle.ea_model.specs.Units.{pages_for}
 use Rattle.ea_model.specs.Strategies.{candidates, choice_among, choice_for, choice_empty, large_enough, inspected_by, lower, may_miss, or_else, spot_of, takes_first}
-use Rattle.ea_model.specs.Instance.{Instance, changed, chosen_spot, clearing, content_of, created_content, creating, first_number, has_content, is_used, main_content, new_instance, own_at, own_of, placing_at, plan, releasing_at, segments, with_own, without_own}
+use Rattle.ea_model.specs.Instance.{Instance, changing, chosen_spot, clearing, content_of, created_content, created_single, creating, creating_single, employed, first_number, has_content, is_used, main_content, new_instance, own_at, own_of, placing_at, plan, planned_own, releasing_at, segments, with_content, with_own, without_own}
 use Rattle.ea_model.proofs.First.{first-All}
-use Rattle.ea_model.proofs.Options.{if_some, some_holds, some_map}
+use Rattle.ea_model.proofs.Options.{if_some, same-some, some_holds, some_map}
 use Rattle.ea_model.proofs.Pairs.{pairs_nil}
-use Rattle.ea_model.proofs.Rising.{All-entered, changed_none, item_at-All, item_at-each, item_at-key, none-other, rising-changed, rising-entered}
+use Rattle.ea_model.proofs.Merged.{entered-with, length-merged, merged-All, merged-apart, merged-each, merged-first, merged-pairs}
+use Rattle.ea_model.proofs.Rising.{All-entered, item_at-All, item_at-each, item_at-key, rising-changed, rising-entered, without_here, without_past}
 use Rattle.ea_laws.proofs.BlockLists.{gap_at-whole, taken_of-enters, Tiled-inserted, Tiled-released}
 use Rattle.ea_laws.specs.Spots.{HasGap}
 use Rattle.ea_laws.specs.InOrder.{IsInOrder}
-use Rattle.ea_laws.specs.Kept.{number_of, own_number, HasNumberIn, HasPages, IsRising, IsWhole, ContentsApart, IsLaidOut, Stands}
+use Rattle.ea_laws.specs.Kept.{number_of, own_number, BornApart, ContentsApart, HasNumberIn, HasOneBlock, HasPages, IsBornBy, IsLaidOut, IsLaidOutAlone, IsRising, IsRisingOwn, IsWhole, Stands}
 use Rattle.ea_laws.proofs.Changed.{KeepsPlace, placed-keeps, released-keeps}
 use Rattle.ea_laws.proofs.Contents.{absent-All}
-use Rattle.ea_laws.proofs.Keeping.{IsKept-cleared, IsKept-made, IsLaidOut-made, has-number, other-numbers, own_of-made, pages_of_units, planned-free, whole_pages}
-use Rattle.ea_laws.proofs.Owned.{apart-contents, own-changed, own-found, own-with, own-without, unused-content}
-use Rattle.ea_laws.proofs.Apart.{all-sound, apart-changed, apart-with}
+use Rattle.ea_laws.proofs.Keeping.{IsKept-cleared, IsKept-made, IsLaidOut-made, has-number, other-numbers, own_of-made, pages_of_units, plan-IsPlanned, planned-free, whole_pages}
+use Rattle.ea_laws.proofs.Employed.{employed-changed, employed-cleared, employed-created, employed-single, placing-is}
+use Rattle.ea_laws.proofs.Owned.{apart-contents, contents-apart, contents-rising, own-changed, own-found, own-with, own-without, rising-length, unused-content}
+use Rattle.ea_laws.proofs.Apart.{births-changed, born-changed, changed-All, turned-apart}
 use Rattle.ea_laws.proofs.Candidates.{candidate-IsOwned, IsOwned, IsLarge, large_among}
 use Rattle.ea_laws.proofs.Inspected.{inspected_by-among}
-use Rattle.ea_laws.proofs.Ranges.{blocks-disjoint}
-use Rattle.ea_laws.proofs.Sums.{all-units}
+use Rattle.ea_laws.proofs.Ranges.{IsOrdered, blocks-disjoint}
+use Rattle.ea_laws.proofs.Sums.{IsSmall, all-units}
+use Rattle.ea_laws.proofs.Tiling.{Tiled-Ordered, one-Ordered}
+
+-- the numbers of all contents rise, and these lie apart
+pub employed-rising : (i : Instance) → Stands i → IsRising (employed i)
+employed-rising i st = contents-rising (employed i) (subst IsRisingOwn st.agrees st.kept.rising)
+
+laid_whole : (cs : List Content) → All IsLaidOut cs → All IsWhole cs
+laid_whole cs sound = All-weaker IsLaidOut IsWhole (λ c laid. laid.whole) cs sound
+
+alone_whole : (cs : List Content) → All IsLaidOutAlone cs → All IsWhole cs
+alone_whole cs sound = All-weaker IsLaidOutAlone IsWhole (λ c laid. laid.whole) cs sound
+
+pub employed-whole : (i : Instance) → Stands i → All IsWhole (employed i)
+employed-whole i st = merged-All number_of IsWhole i.contents i.singles
+    (laid_whole i.contents st.sound) (alone_whole i.singles st.alone)
+
+pub employed-apart : (i : Instance) → Stands i → AllPairs ContentsApart (employed i)
+employed-apart i st = contents-apart i.first i.end (employed i) (employed-whole i st)
+    (subst (λ os. Laid i.first i.end (segments os)) st.agrees st.kept.laid)
+
+pub multi-apart : (i : Instance) → Stands i → AllPairs ContentsApart i.contents
+multi-apart i st = (merged-pairs number_of ContentsApart turned-apart i.contents i.singles
+    (employed-apart i st)).0
+
+-- there are no more of them than numbers
+pub employed-few : (i : Instance) → Stands i → length i.contents + length i.singles ≤ 256
+employed-few i st = omega (
+  arith,
+  rising-length _ _ i.own st.kept.rising st.kept.numbers,
+  ap length st.agrees,
+  length-map (employed i) own_of,
+  length-merged number_of i.contents i.singles,
+)
+
+laid-ordered : (c : Content) → IsLaidOut c → IsOrdered c
+laid-ordered c laid = Tiled-Ordered 8 c.units c.blocks laid.tiled
+
+alone-ordered : (c : Content) → IsLaidOutAlone c → IsOrdered c
+alone-ordered c laid = one-Ordered c.units c.blocks (omega (arith, laid.whole.1)) laid.block
+
+-- their blocks lie in order, and their units are bounded
+pub multi-bounded : (i : Instance) → Stands i → All IsOrdered i.contents × All IsSmall i.contents
+multi-bounded i st = (
+  All-weaker IsLaidOut IsOrdered laid-ordered i.contents st.sound,
+  All-weaker IsLaidOut IsSmall (λ c laid. omega (arith, laid.low)) i.contents st.sound,
+)
+
+pub single-bounded : (i : Instance) → Stands i → All IsOrdered i.singles × All IsSmall i.singles
+single-bounded i st = (
+  All-weaker IsLaidOutAlone IsOrdered alone-ordered i.singles st.alone,
+  All-weaker IsLaidOutAlone IsSmall (λ c laid. omega (arith, laid.low)) i.singles st.alone,
+)
 
 pub Stands-IsInOrder : (i : Instance) → Stands i → IsInOrder i
-Stands-IsInOrder i st = record {
-  disjoint = blocks-disjoint i.contents st.sound st.apart;
-  tiled = λ k d within. (st.sound k d within).tiled;
-  laid = st.kept.laid;
-  numbers = st.rising;
-  own = st.agrees;
-  sum = all-units i.contents st.sound;
-}
+Stands-IsInOrder i st =
+    let ordered = merged-All number_of IsOrdered i.contents i.singles (multi-bounded i st).0
+    (single-bounded i st).0 in
+    record {
+      disjoint = blocks-disjoint (employed i) ordered (employed-apart i st);
+      tiled = λ k d within. (st.sound k d within).tiled;
+      single = λ k d within. (st.alone k d within).block;
+      whole = employed-whole i st;
+      numbers = employed-rising i st;
+      births = st.births;
+      own = st.agrees;
+      owned = st.kept.numbers;
+      laid = st.kept.laid;
+      sum = all-units (employed i) ordered;
+    }
+
+-- a content of a number among those of multiblock carriers, or of singleblock ones
+pub employed-multi : (i : Instance) (number : ℕ) (c : Content) → Stands i
+    → content_of i.contents number ≡ Some c → content_of (employed i) number ≡ Some c
+employed-multi i number c st there =
+    merged-first number_of number c i.contents i.singles (employed-rising i st) there
 
 -- one carrier changes its blocks
-changed-Stands : (f : Content → Content) → KeepsPlace f → (n : ℕ) (item : Content) (i : Instance)
-    → Stands i → content_of i.contents n ≡ Some item → IsLaidOut (f item)
-    → Stands (record i { contents = changed f n i.contents })
-changed-Stands f keeps n item i st there sound = record {
-  kept = st.kept;
-  agrees = st.agrees ∙ sym (own-changed f keeps n i.contents);
-  rising = rising-changed number_of f n keeps.number i.contents st.rising;
-  sound = all-sound f keeps n item i.contents there st.rising st.sound sound;
-  apart = apart-changed f keeps n item i.contents st.apart;
-}
+pub changing-Stands : (f : Content → Content) → KeepsPlace f → (n : ℕ) (i : Instance) → Stands i
+    → ((c : Content) → content_of i.contents n ≡ Some c → IsLaidOut (f c))
+    → ((c : Content) → content_of i.singles n ≡ Some c → IsLaidOutAlone (f c))
+    → Stands (changing i f n)
+changing-Stands f keeps n i st sound alone =
+    let is = employed-changed f keeps n i in
+    record {
+      kept = st.kept;
+      agrees = st.agrees ∙ sym (ap (map own_of) is ∙ own-changed f keeps n (employed i));
+      rising = rising-changed number_of f n keeps.number i.contents st.rising;
+      rising_singles = rising-changed number_of f n keeps.number i.singles st.rising_singles;
+      sound = changed-All IsLaidOut f n i.contents st.rising st.sound sound;
+      alone = changed-All IsLaidOutAlone f n i.singles st.rising_singles st.alone alone;
+      births = subst (AllPairs BornApart) (sym is)
+          (births-changed f keeps.birth n (employed i) st.births);
+      born = subst (All (IsBornBy i.created)) (sym is)
+          (born-changed f keeps.birth n i.created (employed i) st.born);
+    }
 
 pub placed-IsLaidOut : (c : Content) (offset need name : ℕ) → IsLaidOut c
     → need ≤ gap_at (gaps_of c) offset → 6 ≤ need → need % 2 ≡ 0
@@ -81,11 +156,18 @@ pub placing-Stands : (i : Instance) (spot : Spot) (need name : ℕ) → Stands i
     → HasGap need spot.carrier spot.offset i.contents → 6 ≤ need → need % 2 ≡ 0
     → Stands (placing_at i spot need name)
 placing-Stands i spot need name st gap least even =
-    changed-Stands (λ c. placed c spot.offset need name) (placed-keeps spot.offset need name)
-    spot.carrier gap.0 i st gap.1
+    let n = spot.carrier in
+    let rising = employed-rising i st in
+    subst Stands (sym (placing-is i spot need name gap.0 rising gap.1))
+    (changing-Stands (λ c. placed c spot.offset need name) (placed-keeps spot.offset need name) n
+    i st
+    (λ c there. subst (λ x. IsLaidOut (placed x spot.offset need name))
+    (same-some (content_of i.contents n) gap.0 c gap.1 there)
     (placed-IsLaidOut gap.0 spot.offset need name
-    (item_at-All number_of IsLaidOut spot.carrier gap.0 i.contents st.sound gap.1) gap.2 least
-    even)
+    (item_at-All number_of IsLaidOut n gap.0 i.contents st.sound gap.1) gap.2 least even))
+    (λ c there. absurd (item_at-All number_of (λ x. x.number ≢ n) n c i.singles
+    (merged-apart number_of n gap.0 i.contents i.singles rising gap.1) there
+    (item_at-key number_of n c i.singles there))))
 
 pub released-IsLaidOut : (c : Content) (offset : ℕ) → IsLaidOut c → IsLaidOut (released c offset)
 released-IsLaidOut c offset s =
@@ -96,78 +178,168 @@ released-IsLaidOut c offset s =
       low = s.low;
     }
 
--- a block is released, or no carrier has the number
-releasing_from : (i : Instance) (spot : Spot) (o : Option Content)
-    → content_of i.contents spot.carrier ≡ o → Stands i → Stands (releasing_at i spot)
-releasing_from i spot None e st =
-    subst (λ cs. Stands (record i { contents = cs }))
-    (sym (changed_none number_of (λ c. released c spot.offset) spot.carrier i.contents
-    (none-other number_of spot.carrier i.contents e))) st
-releasing_from i spot (Some item) e st =
-    changed-Stands (λ c. released c spot.offset) (released-keeps spot.offset) spot.carrier item i st
-    e
-    (released-IsLaidOut item spot.offset
-    (item_at-All number_of IsLaidOut spot.carrier item i.contents st.sound e))
+one_less : (units offset : ℕ) (bs : List BlockAt) → HasOneBlock units bs
+    → HasOneBlock units (without (λ b. b.offset) offset bs)
+one_less units offset [] h = h
+one_less units offset (b ∷ []) h =
+    elim (cases_eq b.offset offset) [
+      | inl e ↦ subst (HasOneBlock units) (sym (without_here (λ x. x.offset) offset b [] e)) tt
+      | inr n ↦ subst (HasOneBlock units) (sym (without_past (λ x. x.offset) offset b [] n)) h
+    ]
+one_less units offset (b ∷ c ∷ bs) h = absurd h
+
+released_alone : (c : Content) (offset : ℕ) → IsLaidOutAlone c → IsLaidOutAlone (released c offset)
+released_alone c offset s =
+    record {
+      whole = s.whole;
+      single = s.single;
+      block = one_less c.units offset c.blocks s.block;
+      low = s.low;
+    }
 
 pub releasing-Stands : (i : Instance) (spot : Spot) → Stands i → Stands (releasing_at i spot)
-releasing-Stands i spot st = releasing_from i spot (content_of i.contents spot.carrier) refl st
+releasing-Stands i spot st =
+    changing-Stands (λ c. released c spot.offset) (released-keeps spot.offset) spot.carrier i st
+    (λ c there. released-IsLaidOut c spot.offset
+    (item_at-All number_of IsLaidOut spot.carrier c i.contents st.sound there))
+    (λ c there. released_alone c spot.offset
+    (item_at-All number_of IsLaidOutAlone spot.carrier c i.singles st.alone there))
 
 -- the instance owns the carrier that it employs
 pub employed-own : (i : Instance) (number : ℕ) (c : Content) → Stands i
-    → content_of i.contents number ≡ Some c → own_at i.own number ≡ Some (own_of c)
+    → content_of (employed i) number ≡ Some c → own_at i.own number ≡ Some (own_of c)
 employed-own i number c st there = ap (λ os. own_at os number) st.agrees
-    ∙ own-found number i.contents ∙ ap (option_map own_of) there
+    ∙ own-found number (employed i) ∙ ap (option_map own_of) there
 
 -- a carrier goes
 pub clearing-Stands : (i : Instance) (number : ℕ) (c : Content) → Stands i
-    → content_of i.contents number ≡ Some c → Stands (clearing i number)
-clearing-Stands i number c st there = record {
-  kept = IsKept-cleared i.settings i.number number i.first i.end (own_of c) i.own st.kept
-      (employed-own i number c st there);
-  agrees = ap (without_own number) st.agrees ∙ own-without number i.contents;
-  rising = AllPairs-filter (IsBelow number_of) _ i.contents st.rising;
-  sound = All-filter _ IsLaidOut i.contents st.sound;
-  apart = AllPairs-filter ContentsApart _ i.contents st.apart;
-}
+    → content_of (employed i) number ≡ Some c → Stands (clearing i number)
+clearing-Stands i number c st there =
+    let is = employed-cleared i number (employed-rising i st) in
+    record {
+      kept = IsKept-cleared i.settings i.number number i.first i.end (own_of c) i.own st.kept
+          (employed-own i number c st there);
+      agrees = ap (without_own number) st.agrees ∙ own-without number (employed i)
+          ∙ sym (ap (map own_of) is);
+      rising = AllPairs-filter (IsBelow number_of) _ i.contents st.rising;
+      rising_singles = AllPairs-filter (IsBelow number_of) _ i.singles st.rising_singles;
+      sound = All-filter _ IsLaidOut i.contents st.sound;
+      alone = All-filter _ IsLaidOutAlone i.singles st.alone;
+      births = subst (AllPairs BornApart) (sym is)
+          (AllPairs-filter BornApart _ (employed i) st.births);
+      born = subst (All (IsBornBy i.created)) (sym is)
+          (All-filter _ (IsBornBy i.created) (employed i) st.born);
+    }
 
 -- the carrier of a plan is none that is employed, and meets none
 module _ (i : Instance) (need : ℕ) (p : CarrierPlan) (st : Stands i) (asked : plan i need ≡ Ok p)
   where
-    pub planned-new : has_content p.number i.contents ≡ false
-    planned-new = unused-content p.number i.contents
+    pub planned-absent : has_content p.number (employed i) ≡ false
+    planned-absent = unused-content p.number (employed i)
         (subst (λ os. is_used p.number os ≡ false) st.agrees
         (other-numbers i need p st.kept asked))
 
-    pub planned-apart : All (ContentsApart (created_content i.number Multi p)) i.contents
-    planned-apart =
-        apart-contents (created_content i.number Multi p) p.pages i.contents refl
-        (All-weaker IsLaidOut IsWhole (λ c laid. laid.whole) i.contents st.sound)
+    new_number : All (λ c. c.number ≢ p.number) (employed i)
+    new_number = absent-All p.number (employed i) planned-absent
+
+    each_new : All (λ c. c.number ≢ p.number) i.contents × All (λ c. c.number ≢ p.number) i.singles
+    each_new = merged-each number_of (λ c. c.number ≢ p.number) i.contents i.singles new_number
+
+    pub planned-new : All (λ c. c.number ≢ p.number) i.contents
+    planned-new = each_new.0
+
+    pub planned-alone : All (λ c. c.number ≢ p.number) i.singles
+    planned-alone = each_new.1
+
+    meets_none : All (ContentsApart (created_content i.number Multi p)) (employed i)
+    meets_none =
+        apart-contents (created_content i.number Multi p) p.pages (employed i) refl
+        (employed-whole i st)
         (subst (λ os. AreFree p.base p.pages (segments os)) st.agrees
         (planned-free i need p st.kept asked))
 
+    pub planned-apart : All (ContentsApart (created_content i.number Multi p)) i.contents
+    planned-apart = (merged-each number_of (ContentsApart (created_content i.number Multi p))
+        i.contents i.singles meets_none).0
+
     -- there are fewer carriers than numbers
-    pub employed-few : length i.contents < 256
-    employed-few = omega (
+    pub planned-few : length i.contents + length i.singles < 256
+    planned-few = omega (
       arith,
       has-number i need p st.kept asked,
       ap length st.agrees,
-      length-map i.contents own_of,
+      length-map (employed i) own_of,
+      length-merged number_of i.contents i.singles,
     )
 
-    -- a planned carrier comes
+    -- one that comes is the youngest
+    module _ (x : Content) (number : x.number ≡ p.number) (birth : x.birth ≡ p.birth)
+        (own : own_of x ≡ planned_own p) where
+      born_now : p.birth ≡ i.created + 1
+      born_now = (plan-IsPlanned i need p asked).birth
+
+      pub more-agrees : with_own (planned_own p) i.own ≡ map own_of (with_content x (employed i))
+      more-agrees = ap (λ o. with_own o i.own) (sym own) ∙ ap (with_own (own_of x)) st.agrees
+          ∙ own-with x (employed i)
+
+      pub more-births : AllPairs BornApart (with_content x (employed i))
+      more-births =
+          entered-with number_of BornApart (λ c d n e. n (sym e)) x (employed i) st.births
+          (λ k d within e. omega (arith, e, (st.born k d within).1, birth, born_now))
+
+      pub more-born : All (IsBornBy p.birth) (with_content x (employed i))
+      more-born =
+          All-entered number_of (IsBornBy p.birth) x (employed i)
+          (omega (arith, birth, born_now), omega (arith, birth))
+          (All-weaker (IsBornBy i.created) (IsBornBy p.birth)
+          (λ c b. (b.0, omega (arith, b.1, born_now))) (employed i) st.born)
+
+    -- a planned multiblock carrier comes
     pub creating-Stands : Stands (creating i p)
     creating-Stands =
         let x : Content = created_content i.number Multi p in
+        let own = own_of-made i need p st.kept asked in
+        let is = employed-created i p planned-new in
         record {
           kept = IsKept-made i need p st.kept asked;
-          agrees =
-              ap (λ o. with_own o i.own) (sym (own_of-made i need p st.kept asked))
-              ∙ ap (with_own (own_of x)) st.agrees ∙ own-with x i.contents;
-          rising = rising-entered number_of x i.contents st.rising
-              (absent-All p.number i.contents planned-new);
+          agrees = more-agrees x refl refl own ∙ sym (ap (map own_of) is);
+          rising = rising-entered number_of x i.contents st.rising planned-new;
+          rising_singles = st.rising_singles;
           sound = All-entered number_of IsLaidOut x i.contents
               (IsLaidOut-made i need p st.kept asked) st.sound;
-          apart = apart-with x i.contents st.apart planned-apart;
+          alone = st.alone;
+          births = subst (AllPairs BornApart) (sym is) (more-births x refl refl own);
+          born = subst (All (IsBornBy p.birth)) (sym is) (more-born x refl refl own);
+        }
+
+    -- a planned singleblock carrier comes with its block
+    pub creating_single-Stands : (name : ℕ) → 6 ≤ need → need % 2 ≡ 0
+        → Stands (creating_single i p need name)
+    creating_single-Stands name least even =
+        let x : Content = created_single i.number p need name in
+        let made = IsLaidOut-made i need p st.kept asked in
+        let own = own_of-made i need p st.kept asked in
+        let is = employed-single i p need name planned-new in
+        record {
+          kept = IsKept-made i need p st.kept asked;
+          agrees = more-agrees x refl refl own ∙ sym (ap (map own_of) is);
+          rising = st.rising;
+          rising_singles = rising-entered number_of x i.singles st.rising_singles planned-alone;
+          sound = st.sound;
+          alone = All-entered number_of IsLaidOutAlone x i.singles
+              (record {
+                whole = made.whole;
+                single = refl;
+                block = (
+                  refl,
+                  least,
+                  even,
+                  omega (arith, (plan-IsPlanned i need p asked).enough),
+                );
+                low = made.low;
+              }) st.alone;
+          births = subst (AllPairs BornApart) (sym is) (more-births x refl refl own);
+          born = subst (All (IsBornBy p.birth)) (sym is) (more-born x refl refl own);
         }
 
 -- the candidate is a gap of at least `need` units, in the carrier of its number
@@ -251,6 +423,7 @@ new_without : (s : Settings) (number first pages : ℕ) → IsValid s
       end = first + pages;
       own = [];
       contents = [];
+      singles = [];
       created = 0;
     })
 new_without s number first pages valid own within = record {
@@ -265,8 +438,11 @@ new_without s number first pages valid own within = record {
   };
   agrees = refl;
   rising = pairs_nil (IsBelow number_of);
+  rising_singles = pairs_nil (IsBelow number_of);
   sound = All-nil IsLaidOut;
-  apart = pairs_nil ContentsApart;
+  alone = All-nil IsLaidOutAlone;
+  births = pairs_nil BornApart;
+  born = All-nil (IsBornBy 0);
 }
 
 new_with : (s : Settings) (number first pages : ℕ) → IsValid s
@@ -279,6 +455,7 @@ new_with : (s : Settings) (number first pages : ℕ) → IsValid s
       end = first + pages;
       own = map own_of (main_content s number first ∷ []);
       contents = main_content s number first ∷ [];
+      singles = [];
       created = 1;
     })
 new_with s number first pages valid own within main some =
@@ -303,6 +480,7 @@ new_with s number first pages valid own within main some =
       agrees = refl;
       rising = AllPairs-cons (IsBelow number_of) m [] (All-nil (IsBelow number_of m))
           (pairs_nil (IsBelow number_of));
+      rising_singles = pairs_nil (IsBelow number_of);
       sound = All-cons IsLaidOut m []
           (record {
             whole = (whole_pages n, omega (arith, one, same));
@@ -313,8 +491,9 @@ new_with s number first pages valid own within main some =
             );
             low = omega (arith, main, within);
           }) (All-nil IsLaidOut);
-      apart = AllPairs-cons ContentsApart m [] (All-nil (ContentsApart m))
-          (pairs_nil ContentsApart);
+      alone = All-nil IsLaidOutAlone;
+      births = AllPairs-cons BornApart m [] (All-nil (BornApart m)) (pairs_nil BornApart);
+      born = All-cons (IsBornBy 1) m [] (omega arith, omega arith) (All-nil (IsBornBy 1));
     }
 
 pub new-Stands : (s : Settings) (number first pages : ℕ) → IsValid s
@@ -331,6 +510,7 @@ new-Stands s number first pages valid own within main =
       end = first + pages;
       own = map own_of cs;
       contents = cs;
+      singles = [];
       created = length cs;
     }) in
     elim (cases_lt 0 s.mmbcs) [
@@ -340,4 +520,19 @@ new-Stands s number first pages valid own within main =
       | inr none ↦ subst as_list
           (sym (cond-false (nat_lt 0 s.mmbcs) (main_content s number first ∷ []) [] (grind arith)))
           (new_without s number first pages valid own within)
+    ]
+
+-- it has no carrier without blocks but the main one
+pub new-occupied : (s : Settings) (number first pages : ℕ)
+    → All (λ c. is_vacant c ≡ false) (employed (new_instance s number first pages))
+new-occupied s number first pages =
+    let stays : Content → Type 0 = λ c. is_vacant c ≡ false in
+    let all : List Content → Type 0 = λ cs. All stays (merged number_of cs []) in
+    elim (cases_lt 0 s.mmbcs) [
+      | inl some ↦ subst all
+          (sym (cond-true (nat_lt 0 s.mmbcs) (main_content s number first ∷ []) [] (grind arith)))
+          (All-cons stays (main_content s number first) [] refl (All-nil stays))
+      | inr none ↦ subst all
+          (sym (cond-false (nat_lt 0 s.mmbcs) (main_content s number first ∷ []) [] (grind arith)))
+          (All-nil stays)
     ]

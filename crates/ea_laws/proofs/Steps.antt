@@ -1,20 +1,21 @@
--- What one operation does, by its cases; that the instance stands after it, and keeps its settings.
+-- What one operation does, by its cases, and that the instance stands after it.
 use Rattle.std.proofs.Common.{◌≡◌, ℕ, ◌+◌, ◌/◌, ◌%◌, ◌≤◌, [], ◌∷◌, ◌++◌, sym, ap, ◌∙◌, subst, refl, inl, inr, ◌⊎◌, arith}
-use Rattle.std.specs.Prelude.{Option, Some, None, Result, Ok, Err, max}
+use Rattle.std.specs.Prelude.{Bool, true, false, if◌then◌else◌, Option, Some, None, Result, Ok, Err, max}
 use Rattle.std.specs.Option.{option_and_then}
-use Rattle.std.proofs.lemmas.Bool.{cases_Bool, cond_both, cond-false, cond-true}
+use Rattle.std.proofs.lemmas.Bool.{cond_both}
 use Rattle.ea_model.specs.declared.carriers.CarrierPlan.{CarrierPlan}
 use Rattle.ea_model.specs.declared.carriers.Spot.{Spot}
 use Rattle.ea_model.specs.declared.entries.Entry.TheVariants as entry
 use Rattle.ea_model.specs.declared.entries.NoCarrier.{NoCarrier}
 use Rattle.ea_model.specs.declared.operations.Op.{Op}
 use Rattle.ea_model.specs.declared.operations.Op.TheVariants as op
-use Rattle.ea_model.specs.Content.{Content, is_empty_multi}
-use Rattle.ea_model.specs.Instance.{Instance, chosen_spot, clearing, content_of, creating, plan, releasing_at}
+use Rattle.ea_model.specs.Content.{Content, is_vacant}
+use Rattle.ea_model.specs.Instance.{Instance, chosen_spot, clearing, content_of, creating, employed, is_alone, plan, releasing_at}
 use Rattle.ea_model.specs.Units.{even, need_of}
 use Rattle.ea_laws.specs.Kept.{Stands}
-use Rattle.ea_laws.specs.Run.{IsBuiltOp, Run, allocating, doing, freeing, idling, in_new_carrier, is_built, spot_held, step, tidied, with_block, with_carrier}
-use Rattle.ea_laws.proofs.Standing.{chosen-Stands, clearing-Stands, creating-Stands, releasing-Stands}
+use Rattle.ea_laws.specs.Run.{Run, allocating, freeing, idling, in_new_carrier, in_planned, spot_held, step, tidied, with_block, with_carrier, with_single}
+use Rattle.ea_laws.proofs.Keeping.{plan-IsPlanned}
+use Rattle.ea_laws.proofs.Standing.{chosen-Stands, clearing-Stands, creating-Stands, creating_single-Stands, releasing-Stands}
 
 pub need-least : (bytes : ℕ) → 6 ≤ need_of bytes
 need-least bytes = omega arith
@@ -31,23 +32,36 @@ pub record PlacesIn (r : Run) (name need : ℕ) (s : Run) (i : Instance) : Type 
   pub chosen : chosen_spot i need ≡ Some spot
   pub is : s ≡ with_block r i name need spot
 
+-- it is placed in the instance as it is
+pub record PlacesHere (r : Run) (name need : ℕ) (s : Run) : Type 0 where
+  pub shared : is_alone r.instance need ≡ false
+  pub places : PlacesIn r name need s r.instance
+
 -- it is placed in the instance with the carrier of its plan
 pub record PlacesInNew (r : Run) (name need : ℕ) (s : Run) : Type 0 where
+  pub shared : is_alone r.instance need ≡ false
   pub none : chosen_spot r.instance need ≡ None
   pub plan_is : CarrierPlan
   pub asked : plan r.instance need ≡ Ok plan_is
   pub places : PlacesIn r name need s (creating r.instance plan_is)
 
--- there is neither a choice nor a plan
+-- it has the singleblock carrier of its plan
+pub record PlacesAlone (r : Run) (name need : ℕ) (s : Run) : Type 0 where
+  pub alone : is_alone r.instance need ≡ true
+  pub plan_is : CarrierPlan
+  pub asked : plan r.instance need ≡ Ok plan_is
+  pub is : s ≡ with_single r plan_is name need
+
+-- there is neither a choice, where one is asked for, nor a plan
 pub record Fails (r : Run) (name need : ℕ) (s : Run) : Type 0 where
-  pub none : chosen_spot r.instance need ≡ None
+  pub none : is_alone r.instance need ≡ false → chosen_spot r.instance need ≡ None
   pub why : NoCarrier
   pub asked : plan r.instance need ≡ Err why
   pub is : s ≡ record r { log = r.log ++ entry.AllocFail name need 0 why ∷ [] }
 
 abbrev pub Outcome : Run → ℕ → ℕ → Run → Type 0
-Outcome r name need s = PlacesIn r name need s r.instance
-    ⊎ (PlacesInNew r name need s ⊎ Fails r name need s)
+Outcome r name need s = PlacesHere r name need s
+    ⊎ (PlacesInNew r name need s ⊎ (PlacesAlone r name need s ⊎ Fails r name need s))
 
 -- what isn't built has no next state
 pub unbuilt : {A : Type 0} (s : Run) → None ≡ Some s → A
@@ -59,48 +73,66 @@ module _ (r : Run) (name need : ℕ) (s : Run) where
   in_new i None e h = absurd cc
   in_new i (Some spot) e h = record { spot = spot; chosen = e; is = cc }
 
-  with_plan : chosen_spot r.instance need ≡ None → (o : Result CarrierPlan NoCarrier)
-      → plan r.instance need ≡ o → with_carrier r name need o ≡ Some s → PlacesInNew r name need s
-      ⊎ Fails r name need s
-  with_plan none (Ok p) e h = inl
+  planned_shared : (p : CarrierPlan) → plan r.instance need ≡ Ok p
+      → is_alone r.instance need ≡ false → in_planned r name need p p.single ≡ Some s
+      → PlacesIn r name need s (creating r.instance p)
+  planned_shared p e shared h =
+      let single = (plan-IsPlanned r.instance need p e).single ∙ shared in
+      in_new (creating r.instance p) (chosen_spot (creating r.instance p) need) refl
+      (sym (ap (in_planned r name need p) single) ∙ h)
+
+  planned_alone : (p : CarrierPlan) → plan r.instance need ≡ Ok p
+      → is_alone r.instance need ≡ true → in_planned r name need p p.single ≡ Some s
+      → s ≡ with_single r p name need
+  planned_alone p e alone h =
+      let single = (plan-IsPlanned r.instance need p e).single ∙ alone in
+      let is : Some (with_single r p name need) ≡ Some s =
+      sym (ap (in_planned r name need p) single) ∙ h in
+      cc
+
+  with_plan : is_alone r.instance need ≡ false → chosen_spot r.instance need ≡ None
+      → (o : Result CarrierPlan NoCarrier) → plan r.instance need ≡ o
+      → with_carrier r name need o ≡ Some s → Outcome r name need s
+  with_plan shared none (Ok p) e h = inr (inl
       (record {
+        shared = shared;
         none = none;
         plan_is = p;
         asked = e;
-        places = in_new (creating r.instance p)
-            (chosen_spot (creating r.instance p) need) refl h;
-      })
-  with_plan none (Err why) e h = inr (record { none = none; why = why; asked = e; is = cc })
+        places = planned_shared p e shared h;
+      }))
+  with_plan shared none (Err why) e h =
+      inr (inr (inr (record { none = λ _. none; why = why; asked = e; is = cc })))
 
-  by_choice : (o : Option Spot) → chosen_spot r.instance need ≡ o
-      → allocating r name need o ≡ Some s → Outcome r name need s
-  by_choice None e h = inr (with_plan e (plan r.instance need) refl h)
-  by_choice (Some spot) e h = inl (record { spot = spot; chosen = e; is = cc })
+  by_choice : is_alone r.instance need ≡ false → (o : Option Spot)
+      → chosen_spot r.instance need ≡ o → allocating r name need o ≡ Some s
+      → Outcome r name need s
+  by_choice shared None e h = with_plan shared e (plan r.instance need) refl h
+  by_choice shared (Some spot) e h = inl
+      (record { shared = shared; places = record { spot = spot; chosen = e; is = cc } })
 
--- an operation that is built is done, and one that is done is built
-pub step-built : (r : Run) (o : Op) → IsBuiltOp r.instance.settings o → step r o ≡ doing r o
-step-built r o built = cond-true (is_built r.instance.settings o) (doing r o) None built
+  not_shared : {A : Type 0} → is_alone r.instance need ≡ true → is_alone r.instance need ≡ false
+      → A
+  not_shared alone shared = let never : true ≡ false = sym alone ∙ shared in absurd cc
 
-pub step-done : (r : Run) (o : Op) (s : Run) → step r o ≡ Some s
-    → IsBuiltOp r.instance.settings o × (doing r o ≡ Some s)
-step-done r o s e =
-    elim (cases_Bool (is_built r.instance.settings o)) [
-      | inl built ↦ (built, sym (step-built r o built) ∙ e)
-      | inr not ↦ unbuilt s (sym (cond-false (is_built r.instance.settings o) (doing r o) None not)
-          ∙ e)
-    ]
+  with_own_plan : is_alone r.instance need ≡ true → (o : Result CarrierPlan NoCarrier)
+      → plan r.instance need ≡ o → with_carrier r name need o ≡ Some s → Outcome r name need s
+  with_own_plan alone (Ok p) e h = inr (inr (inl
+      (record { alone = alone; plan_is = p; asked = e; is = planned_alone p e alone h })))
+  with_own_plan alone (Err why) e h = inr (inr (inr
+      (record { none = λ shared. not_shared alone shared; why = why; asked = e; is = cc })))
 
--- an allocation that is built
-pub step-alloc : (r : Run) (name bytes : ℕ) → IsBuiltOp r.instance.settings (op.Alloc name bytes)
-    → step r (op.Alloc name bytes)
-    ≡ allocating r name (need_of bytes) (chosen_spot r.instance (need_of bytes))
-step-alloc r name bytes built = step-built r (op.Alloc name bytes) built
+  by_need : (b : Bool) → is_alone r.instance need ≡ b
+      → allocating r name need (if b then None else chosen_spot r.instance need) ≡ Some s
+      → Outcome r name need s
+  by_need true e h = with_own_plan e (plan r.instance need) refl h
+  by_need false e h = by_choice e (chosen_spot r.instance need) refl h
 
 -- what an allocation does
 pub alloc-Outcome : (r : Run) (name bytes : ℕ) (s : Run) → step r (op.Alloc name bytes) ≡ Some s
     → Outcome r name (need_of bytes) s
-alloc-Outcome r name bytes s e = by_choice r name (need_of bytes) s
-    (chosen_spot r.instance (need_of bytes)) refl (step-done r (op.Alloc name bytes) s e).1
+alloc-Outcome r name bytes s e =
+    by_need r name (need_of bytes) s (is_alone r.instance (need_of bytes)) refl e
 
 -- what a free does
 pub free-is : (r : Run) (name : ℕ) (s : Run) → step r (op.Free name) ≡ Some s
@@ -129,18 +161,23 @@ alloc-Stands : (r : Run) (name bytes : ℕ) (s : Run) → Stands r.instance
     → Outcome r name (need_of bytes) s → Stands s.instance
 alloc-Stands r name bytes s st o =
     elim o [
-      | inl here ↦ places-Stands r name bytes s r.instance st here
+      | inl here ↦ places-Stands r name bytes s r.instance st here.places
       | inr rest ↦ elim rest [
         | inl new ↦ places-Stands r name bytes s (creating r.instance new.plan_is)
             (creating-Stands r.instance (need_of bytes) new.plan_is st new.asked) new.places
-        | inr fails ↦ subst (λ (t : Run). Stands t.instance) (sym fails.is) st
+        | inr last ↦ elim last [
+          | inl own ↦ subst (λ (t : Run). Stands t.instance) (sym own.is)
+              (creating_single-Stands r.instance (need_of bytes) own.plan_is st own.asked name
+              (need-least bytes) (need-even bytes))
+          | inr fails ↦ subst (λ (t : Run). Stands t.instance) (sym fails.is) st
+        ]
       ]
     ]
 
-tidied-Stands : (i : Instance) (number : ℕ) (o : Option Content) → content_of i.contents number ≡ o
-    → Stands i → Stands (tidied i number o)
+tidied-Stands : (i : Instance) (number : ℕ) (o : Option Content)
+    → content_of (employed i) number ≡ o → Stands i → Stands (tidied i number o)
 tidied-Stands i number None e st = st
-tidied-Stands i number (Some c) e st = cond_both (is_empty_multi c) (clearing i number) i Stands
+tidied-Stands i number (Some c) e st = cond_both (is_vacant c) (clearing i number) i Stands
     (λ _. clearing-Stands i number c st e) (λ _. st)
 
 freeing-Stands : (r : Run) (name : ℕ) (o : Option Spot) → Stands r.instance
@@ -148,7 +185,7 @@ freeing-Stands : (r : Run) (name : ℕ) (o : Option Spot) → Stands r.instance
 freeing-Stands r name None st = st
 freeing-Stands r name (Some spot) st =
     let i = releasing_at r.instance spot in
-    tidied-Stands i spot.carrier (content_of i.contents spot.carrier) refl
+    tidied-Stands i spot.carrier (content_of (employed i) spot.carrier) refl
     (releasing-Stands r.instance spot st)
 
 pub step-Stands : (r : Run) (o : Op) (s : Run) → step r o ≡ Some s → Stands r.instance
@@ -162,40 +199,3 @@ step-Stands r (op.Give name to) s e st = unbuilt s e
 step-Stands r (op.Take name tries) s e st = unbuilt s e
 step-Stands r op.Info s e st = unbuilt s e
 step-Stands r op.Idle s e st = subst (λ (t : Run). Stands t.instance) (sym (idle-is r s e)) st
-
--- the settings stay
-tidied-settings : (i : Instance) (number : ℕ) (o : Option Content)
-    → (tidied i number o).settings ≡ i.settings
-tidied-settings i number None = refl
-tidied-settings i number (Some c) = cond_both (is_empty_multi c) (clearing i number) i
-    (λ j. j.settings ≡ i.settings) (λ _. refl) (λ _. refl)
-
-freeing-settings : (r : Run) (name : ℕ) (o : Option Spot)
-    → (freeing r name o).instance.settings ≡ r.instance.settings
-freeing-settings r name None = refl
-freeing-settings r name (Some spot) =
-    let i = releasing_at r.instance spot in
-    tidied-settings i spot.carrier (content_of i.contents spot.carrier)
-
-alloc-settings : (r : Run) (name need : ℕ) (s : Run) → Outcome r name need s
-    → s.instance.settings ≡ r.instance.settings
-alloc-settings r name need s o =
-    elim o [
-      | inl here ↦ ap (λ (t : Run). t.instance.settings) here.is
-      | inr rest ↦ elim rest [
-        | inl new ↦ ap (λ (t : Run). t.instance.settings) new.places.is
-        | inr fails ↦ ap (λ (t : Run). t.instance.settings) fails.is
-      ]
-    ]
-
-pub step-settings : (r : Run) (o : Op) (s : Run) → step r o ≡ Some s
-    → s.instance.settings ≡ r.instance.settings
-step-settings r (op.Alloc name bytes) s e = alloc-settings r name (need_of bytes) s
-    (alloc-Outcome r name bytes s e)
-step-settings r (op.Free name) s e = ap (λ (t : Run). t.instance.settings) (free-is r name s e)
-    ∙ freeing-settings r name (spot_held name r.held)
-step-settings r (op.Realloc old fresh bytes) s e = unbuilt s e
-step-settings r (op.Give name to) s e = unbuilt s e
-step-settings r (op.Take name tries) s e = unbuilt s e
-step-settings r op.Info s e = unbuilt s e
-step-settings r op.Idle s e = ap (λ (t : Run). t.instance.settings) (idle-is r s e)

@@ -3,8 +3,8 @@ use Rattle.std.specs.Prelude.{◌≡◌, ℕ, ◌+◌, ◌*◌, List, All, AllPa
 use Rattle.std.specs.List.{flat_map}
 use Rattle.ea_model.specs.Content.{Content, allocated, free_units, gaps_of, Tiled}
 use Rattle.ea_model.specs.Region.{AreApart, Laid}
-use Rattle.ea_model.specs.Instance.{Instance, own_of, segments}
-use Rattle.ea_laws.specs.Kept.{IsRising}
+use Rattle.ea_model.specs.Instance.{Instance, employed, first_number, own_of, segments}
+use Rattle.ea_laws.specs.Kept.{BornApart, HasNumberIn, HasOneBlock, IsRising, IsWhole}
 
 -- units of the super carrier, from the first one on
 pub record Range : Type 0 where
@@ -22,15 +22,21 @@ ranges cs = flat_map ranges_in cs
 abbrev pub RangesApart : Range → Range → Type 0
 RangesApart a b = AreApart a.first a.units b.first b.units
 
--- no two blocks have a unit in common; in each carrier they lie one after another, after its header
--- and with whole gaps between them; the carriers have a number each and are those that the instance
--- owns, and these lie apart, inside the region; blocks, gaps and headers are all units of the
--- carriers
+-- no two blocks have a unit in common; in a multiblock carrier they lie one after another, after its
+-- header and with whole gaps between them, and a singleblock carrier has one at most; each carrier
+-- has whole pages, a number of its own and a birth of its own; the carriers are those that the
+-- instance owns, whose numbers are the instance's and whose segments lie apart, inside its region;
+-- blocks, gaps and headers are all units of the carriers
 pub record IsInOrder (i : Instance) : Type 0 where
-  pub disjoint : AllPairs RangesApart (ranges i.contents)
+  pub disjoint : AllPairs RangesApart (ranges (employed i))
   pub tiled : All (λ c. Tiled 8 c.units c.blocks) i.contents
+  pub single : All (λ c. HasOneBlock c.units c.blocks) i.singles
+  pub whole : All IsWhole (employed i)
+  pub numbers : IsRising (employed i)
+  pub births : AllPairs BornApart (employed i)
+  pub own : i.own ≡ map own_of (employed i)
+  pub owned : All (HasNumberIn (first_number i.number) (first_number i.number + 256)) i.own
   pub laid : Laid i.first i.end (segments i.own)
-  pub numbers : IsRising i.contents
-  pub own : i.own ≡ map own_of i.contents
-  pub sum : sum_by (λ c. allocated c.blocks) i.contents + sum_by (λ c. free_units (gaps_of c))
-      i.contents + 8 * length i.contents ≡ sum_by (λ c. c.units) i.contents
+  pub sum : sum_by (λ c. allocated c.blocks) (employed i)
+      + sum_by (λ c. free_units (gaps_of c)) (employed i)
+      + 8 * length (employed i) ≡ sum_by (λ c. c.units) (employed i)

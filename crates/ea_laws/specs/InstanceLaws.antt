@@ -1,13 +1,14 @@
 -- Laws of an instance: that it stands at its beginning and through each change, and what each
 -- change does to its blocks.
-use Rattle.std.specs.Prelude.{◌≡◌, ◌↔◌, ℕ, ◌+◌, ◌%◌, ◌<◌, ◌≤◌, true, None, Some, Ok, Err, All, IsSome}
+use Rattle.std.specs.Prelude.{◌≡◌, ◌↔◌, ℕ, ◌+◌, ◌%◌, ◌≢◌, ◌<◌, ◌≤◌, true, None, Some, Ok, Err, All, IsSome}
 use Rattle.ea_model.specs.declared.carriers.CarrierPlan.{CarrierPlan}
 use Rattle.ea_model.specs.declared.carriers.Spot.{Spot}
 use Rattle.ea_model.specs.declared.entries.NoCarrier.TheVariants.{Numbers, Space}
+use Rattle.ea_model.specs.declared.reallocation.Decision.TheVariants.{Move}
 use Rattle.ea_model.specs.declared.settings.Settings.{Settings}
 use Rattle.ea_model.specs.declared.units.TheConstants.{MAX_PAGES, MAX_SCHEDULERS}
-use Rattle.ea_model.specs.Content.{Content, is_empty_multi}
-use Rattle.ea_model.specs.Instance.{Instance, block_in, chosen_spot, clearing, content_of, creating, least_pages, new_instance, place_at, placing_at, plan, releasing_at, segments}
+use Rattle.ea_model.specs.Content.{Content, is_vacant}
+use Rattle.ea_model.specs.Instance.{Instance, block_in, chosen_spot, clearing, content_of, creating, creating_single, decision_at, employed, least_pages, new_instance, place_at, placing_at, plan, releasing_at, resized_to, resizing_at, segments, single_place}
 use Rattle.ea_model.specs.Region.{runs}
 use Rattle.ea_model.specs.Settings.{IsValid}
 use Rattle.ea_model.specs.Units.{pages_for}
@@ -35,26 +36,43 @@ abbrev pub Places : Type 0
 Places = (i : Instance) (need name : ℕ) (spot : Spot) → Stands i → 6 ≤ need → need % 2 ≡ 0
     → chosen_spot i need ≡ Some spot
     → Stands (placing_at i spot need name)
-    × IsPlaced i.contents (placing_at i spot need name).contents name (place_at i spot need)
+    × IsPlaced (employed i) (employed (placing_at i spot need name)) name (place_at i spot need)
 
 -- a release leaves no block at the spot, and other blocks as they are
 abbrev pub Releases : Type 0
 Releases = (i : Instance) (spot : Spot) → Stands i
-    → Stands (releasing_at i spot) × (block_in (releasing_at i spot).contents spot ≡ None)
+    → Stands (releasing_at i spot) × (block_in (employed (releasing_at i spot)) spot ≡ None)
     × ((at : Spot) → IsOther spot.carrier spot.offset at
-    → block_in (releasing_at i spot).contents at ≡ block_in i.contents at)
+    → block_in (employed (releasing_at i spot)) at ≡ block_in (employed i) at)
 
--- a multiblock carrier without blocks goes, and no block with it
+-- a carrier without blocks goes, and no block with it
 abbrev pub Clears : Type 0
 Clears = (i : Instance) (number : ℕ) (c : Content) → Stands i
-    → content_of i.contents number ≡ Some c → is_empty_multi c ≡ true
-    → Stands (clearing i number) × HaveSameBlocks i.contents (clearing i number).contents
+    → content_of (employed i) number ≡ Some c → is_vacant c ≡ true
+    → Stands (clearing i number) × HaveSameBlocks (employed i) (employed (clearing i number))
 
--- the planned carrier comes, and no block with it; it has a choice for the need
+-- a planned multiblock carrier comes, and no block with it; it has a choice for the need
 abbrev pub Creates : Type 0
 Creates = (i : Instance) (need : ℕ) (p : CarrierPlan) → Stands i → plan i need ≡ Ok p
-    → Stands (creating i p) × HaveSameBlocks i.contents (creating i p).contents
+    → Stands (creating i p) × HaveSameBlocks (employed i) (employed (creating i p))
     × IsSome (chosen_spot (creating i p) need)
+
+-- a planned singleblock carrier comes with its block
+abbrev pub CreatesSingle : Type 0
+CreatesSingle = (i : Instance) (need name : ℕ) (p : CarrierPlan) → Stands i → 6 ≤ need
+    → need % 2 ≡ 0 → plan i need ≡ Ok p
+    → Stands (creating_single i p need name)
+    × IsPlaced (employed i) (employed (creating_single i p need name)) name (single_place p need)
+
+-- a block that isn't to move has the units that are decided and the new name, and other blocks stay
+abbrev pub Resizes : Type 0
+Resizes = (i : Instance) (spot : Spot) (need name : ℕ) → Stands i → 6 ≤ need → need % 2 ≡ 0
+    → IsSome (block_in (employed i) spot) → decision_at i spot need ≢ Move
+    → Stands (resizing_at i spot need name)
+    × (block_in (employed (resizing_at i spot need name)) spot
+    ≡ Some (record { name = name; offset = spot.offset; size = resized_to i spot need }))
+    × ((at : Spot) → IsOther spot.carrier spot.offset at
+    → block_in (employed (resizing_at i spot need name)) at ≡ block_in (employed i) at)
 
 -- the numbers are the cause exactly where all are in use
 abbrev pub RefusesNumbers : Type 0

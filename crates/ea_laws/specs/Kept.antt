@@ -1,13 +1,15 @@
 -- The carriers of an instance: those that it owns, those that it employs, where they lie, and what
 -- holds of them at every moment.
-use Rattle.std.specs.Prelude.{◌≡◌, ℕ, ◌+◌, ◌*◌, ◌%◌, ◌/◌, ◌<◌, ◌≤◌, true, List, All, AllPairs, map}
+use Rattle.std.specs.Prelude.{◌≡◌, ℕ, ◌+◌, ◌*◌, ◌%◌, ◌/◌, ◌≢◌, ◌<◌, ◌≤◌, true, List, [], ◌∷◌, All, AllPairs, map}
+use Rattle.ea_model.specs.declared.carriers.BlockAt.{BlockAt}
+use Rattle.ea_model.specs.declared.carriers.Kind.TheVariants.{Single}
 use Rattle.ea_model.specs.declared.carriers.OwnCarrier.{OwnCarrier}
 use Rattle.ea_model.specs.declared.settings.Settings.{Settings}
 use Rattle.ea_model.specs.declared.units.TheConstants.{MAX_PAGES, MAX_SCHEDULERS, MAX_UNITS}
 use Rattle.ea_model.specs.Content.{Content, Tiled}
 use Rattle.ea_model.specs.Keyed.{IsBelow}
 use Rattle.ea_model.specs.Settings.{IsValid}
-use Rattle.ea_model.specs.Instance.{Instance, segments, first_number, own_of}
+use Rattle.ea_model.specs.Instance.{Instance, employed, segments, first_number, own_of}
 use Rattle.ea_model.specs.Region.{AreApart, Laid}
 use Rattle.ea_laws.specs.Kinds.{is_shared}
 
@@ -35,13 +37,31 @@ HasPages o = 1 ≤ o.pages
 abbrev pub IsWhole : Content → Type 0
 IsWhole c = (c.units % 512 ≡ 0) × (1 ≤ c.units / 512)
 
--- a carrier has whole pages, may have many blocks, these lie in order, and it ends within the
--- largest super carrier
+-- a carrier ends within the largest super carrier
+abbrev pub IsLow : Content → Type 0
+IsLow c = 512 * c.base + c.units ≤ MAX_UNITS
+
+-- a carrier has whole pages, may have many blocks, these lie in order, and it lies low enough
 pub record IsLaidOut (c : Content) : Type 0 where
   pub whole : IsWhole c
   pub shared : is_shared c.kind ≡ true
   pub tiled : Tiled 8 c.units c.blocks
-  pub low : 512 * c.base + c.units ≤ MAX_UNITS
+  pub low : IsLow c
+
+-- a singleblock carrier of that many units has one block, directly behind its header, and none once
+-- that was released
+abbrev pub HasOneBlock : ℕ → List BlockAt → Type 0
+HasOneBlock units [] = Unit {0}
+HasOneBlock units (b ∷ []) = (b.offset ≡ 8) × (6 ≤ b.size) × (b.size % 2 ≡ 0)
+    × (8 + b.size ≤ units)
+HasOneBlock units (b ∷ c ∷ bs) = ⊥
+
+-- a singleblock carrier has whole pages and its block, and lies low enough
+pub record IsLaidOutAlone (c : Content) : Type 0 where
+  pub whole : IsWhole c
+  pub single : c.kind ≡ Single
+  pub block : HasOneBlock c.units c.blocks
+  pub low : IsLow c
 
 -- two carriers have no unit in common
 abbrev pub ContentsApart : Content → Content → Type 0
@@ -60,11 +80,22 @@ pub record IsKept (settings : Settings) (number first end : ℕ) (own : List Own
     pub within : end ≤ MAX_PAGES
     pub laid : Laid first end (segments own)
 
--- an instance keeps its carriers, it employs those that it owns, and these are laid out and lie
--- apart
+-- two carriers were not created at once
+abbrev pub BornApart : Content → Content → Type 0
+BornApart c d = c.birth ≢ d.birth
+
+-- the carrier is one of the first that were created
+abbrev pub IsBornBy : ℕ → Content → Type 0
+IsBornBy created c = (1 ≤ c.birth) × (c.birth ≤ created)
+
+-- an instance keeps its carriers, it employs those that it owns, these are laid out, and each was
+-- created by itself
 pub record Stands (i : Instance) : Type 0 where
   pub kept : IsKept i.settings i.number i.first i.end i.own
-  pub agrees : i.own ≡ map own_of i.contents
+  pub agrees : i.own ≡ map own_of (employed i)
   pub rising : IsRising i.contents
+  pub rising_singles : IsRising i.singles
   pub sound : All IsLaidOut i.contents
-  pub apart : AllPairs ContentsApart i.contents
+  pub alone : All IsLaidOutAlone i.singles
+  pub births : AllPairs BornApart (employed i)
+  pub born : All (IsBornBy i.created) (employed i)

@@ -12,8 +12,8 @@ use Rattle.ea_model.specs.declared.operations.Op.{Op}
 use Rattle.ea_model.specs.declared.operations.Op.TheVariants as op
 use Rattle.ea_model.specs.declared.settings.Settings.{Settings}
 use Rattle.ea_model.specs.Choice.{IsFirst}
-use Rattle.ea_model.specs.Content.{Content, is_empty_multi, taken_of}
-use Rattle.ea_model.specs.Instance.{Instance, block_in, chosen_spot, creating, least_pages, plan, segments}
+use Rattle.ea_model.specs.Content.{Content, is_empty_multi, is_vacant, taken_of}
+use Rattle.ea_model.specs.Instance.{Instance, block_in, chosen_spot, creating, employed, least_pages, plan, segments, single_place}
 use Rattle.ea_model.specs.Region.{runs}
 use Rattle.ea_model.specs.Strategies.{candidates, choice_among, inspected_by, large_enough, lower, may_miss, takes_first}
 use Rattle.ea_model.specs.Units.{need_of}
@@ -39,9 +39,13 @@ HasOrder r = IsInOrder r.instance
 abbrev pub IsBlockOf : List Content → Held → Type 0
 IsBlockOf cs h = (b : BlockAt) × (block_in cs h.spot ≡ Some b) × (b.name ≡ h.name)
 
+-- no carrier but the main one is without a block
+abbrev pub HasNoVacant : Run → Type 0
+HasNoVacant r = All (λ c. is_vacant c ≡ false) (employed r.instance)
+
 -- each name that is held has its block, and no two have it at one spot
 pub record HoldsItsBlocks (r : Run) : Type 0 where
-  pub blocks : All (IsBlockOf r.instance.contents) r.held
+  pub blocks : All (IsBlockOf (employed r.instance)) r.held
   pub apart : AllPairs (λ h k. h.spot ≢ k.spot) r.held
 
 -- how often the log says that the name's block was released, and how often these operations
@@ -67,10 +71,11 @@ pub record FreesHeldNames (r : Run) : Type 0 where
   pub again : (name : ℕ) (o : Op) (s : Run) → step r o ≡ Some s → IsNone (spot_held name r.held)
       → IsNone (spot_held name s.held) ⊎ ((bytes : ℕ) × (o ≡ op.Alloc name bytes))
 
--- nothing that the strategy inspects has that many units; and all carrier numbers are in use, or
--- one is free and no run of free pages holds the least carrier, as is said
+-- up to the singleblock threshold nothing that the strategy inspects has that many units; and all
+-- carrier numbers are in use, or one is free and no run of free pages holds the least carrier, as is
+-- said
 pub record IsExhausted (i : Instance) (need : ℕ) (why : NoCarrier) : Type 0 where
-  pub gaps : FindsNone i.settings need i.contents
+  pub gaps : need ≤ i.settings.sbct → FindsNone i.settings need i.contents
   pub numbers : why ≡ Numbers → AllUsed i
   pub space : why ≡ Space → (AllUsed i → ⊥)
       × All (λ r. r.pages < least_pages need) (runs i.first i.end (segments i.own))
@@ -98,15 +103,25 @@ abbrev pub IsPlaceOf : Instance → ℕ → Place → Type 0
 IsPlaceOf i need p = (x : Candidate) × (p.carrier ≡ x.number) × (p.offset ≡ x.offset)
     × (p.size ≡ taken_of x.size need) × IsTakenFirst i.settings need i.contents x
 
--- a block is noted as placed only there, in the instance as it is, or where that has no choice,
--- with the carrier of its plan
+-- it is there in the instance as it is, or where that has no choice, with the carrier of its plan
+abbrev pub IsChosenPlace : Instance → ℕ → Place → Type 0
+IsChosenPlace i need p =
+    IsPlaceOf i need p
+    ⊎ ((q : CarrierPlan) × IsNone (chosen_spot i need) × (plan i need ≡ Ok q)
+    × IsPlaceOf (creating i q) need p)
+
+-- it is that of the one block of a singleblock carrier, which is planned
+abbrev pub IsSinglePlace : Instance → ℕ → Place → Type 0
+IsSinglePlace i need p = (q : CarrierPlan) × (plan i need ≡ Ok q) × (q.single ≡ true)
+    × (p ≡ single_place q need)
+
+-- a block is noted as placed only there: up to the singleblock threshold where the strategy chooses,
+-- and above it in a carrier of its own
 abbrev pub PlacesFirst : Run → Type 0
 PlacesFirst r = (name bytes : ℕ) (p : Place) (s : Run) → step r (op.Alloc name bytes) ≡ Some s
     → s.log ≡ r.log ++ entry.Alloc name p ∷ []
-    → IsPlaceOf r.instance (need_of bytes) p
-    ⊎ ((q : CarrierPlan) × IsNone (chosen_spot r.instance (need_of bytes))
-    × (plan r.instance (need_of bytes) ≡ Ok q)
-    × IsPlaceOf (creating r.instance q) (need_of bytes) p)
+    → ((need_of bytes ≤ r.instance.settings.sbct) × IsChosenPlace r.instance (need_of bytes) p)
+    ⊎ ((r.instance.settings.sbct < need_of bytes) × IsSinglePlace r.instance (need_of bytes) p)
 
 -- the entry of an operation: which ones it may make
 abbrev pub IsEntryOf : Op → Entry → Type 0
@@ -119,15 +134,16 @@ IsEntryOf (op.Take name tries) e = ⊥
 IsEntryOf op.Info e = ⊥
 IsEntryOf op.Idle e = e ≡ entry.Idle
 
--- each operation that is built under its settings has a next state, whose log has one entry more,
--- which is the operation's
+-- each operation that is built has a next state, whose log has one entry more, which is the
+-- operation's
 abbrev pub EntersOne : Run → Type 0
-EntersOne r = (o : Op) → IsBuiltOp r.instance.settings o → (s : Run) × (step r o ≡ Some s)
+EntersOne r = (o : Op) → IsBuiltOp o → (s : Run) × (step r o ≡ Some s)
     × ((e : Entry) × (s.log ≡ r.log ++ e ∷ []) × IsEntryOf o e)
 
 -- what holds at each moment, after these operations
 pub record Sound (ops : List Op) (r : Run) : Type 0 where
   pub order : HasOrder r
+  pub occupied : HasNoVacant r
   pub holds : HoldsItsBlocks r
   pub frees : FreesHeldNames r
   pub once : ReleasesAtMost ops r

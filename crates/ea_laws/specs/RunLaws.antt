@@ -12,6 +12,6 @@ abbrev pub IsSoundThroughout : Type 0
 IsSoundThroughout = (s : Settings) (number first pages : ℕ) → MayBegin s number first pages
     → (ops : List Op) (r : Run) → run (new_instance s number first pages) ops ≡ Some r → Sound ops r
 
--- operations that are built under the settings can all be done, one after another
+-- operations that are built can all be done, one after another
 abbrev pub GoesOn : Type 0
-GoesOn = (i : Instance) (ops : List Op) → All (IsBuiltOp i.settings) ops → IsSome (run i ops)
+GoesOn = (i : Instance) (ops : List Op) → All IsBuiltOp ops → IsSome (run i ops)

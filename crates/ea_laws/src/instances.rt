@@ -1,9 +1,9 @@
 //! Laws of an instance.
-ghost use Rattle.ea_laws.specs.InstanceLaws.{StandsAtBeginning, Clears, Creates, Places, RefusesNumbers, RefusesSpace, Releases, StandsInOrder};
+ghost use Rattle.ea_laws.specs.InstanceLaws.{StandsAtBeginning, Clears, Creates, CreatesSingle, Places, RefusesNumbers, RefusesSpace, Releases, Resizes, StandsInOrder};
 
-/// An instance stands at its beginning, and after each placement, release, creation and clearing.
-/// While it stands it is in order. What each change does to its blocks is said, and that other
-/// blocks stay; and why there is no plan for a carrier.
+/// An instance stands at its beginning, and after each placement, release, creation, clearing and
+/// reallocation in place. While it stands it is in order. What each change does to its blocks is
+/// said, and that other blocks stay; and why there is no plan for a carrier.
 pub fn instances()
     ensures begins { StandsAtBeginning }
     ensures order { StandsInOrder }
@@ -11,6 +11,8 @@ pub fn instances()
     ensures releases { Releases }
     ensures clears { Clears }
     ensures creates { Creates }
+    ensures creates_single { CreatesSingle }
+    ensures resizes { Resizes }
     ensures numbers { RefusesNumbers }
     ensures space { RefusesSpace }
 {}

@@ -1,14 +1,15 @@
 -- The gaps beside a block.
-use Rattle.std.proofs.Common.{◌≡◌, ◌≢◌, ℕ, ◌+◌, ◌-◌, ◌<◌, ◌≤◌, List, [], ◌∷◌, ◌++◌, length, get_or, drop, sym, ap, ◌∙◌, subst, inl, inr, ◌⊎◌, arith}
-use Rattle.std.specs.Prelude.{Some}
-use Rattle.std.specs.Option.{option_map_or}
+use Rattle.std.proofs.Common.{◌≡◌, ◌≢◌, ℕ, ◌+◌, ◌-◌, ◌<◌, ◌≤◌, List, [], ◌∷◌, ◌++◌, length, get_or, drop, sym, ap, ◌∙◌, subst, refl, inl, inr, ◌⊎◌, arith}
+use Rattle.std.specs.Prelude.{Some, IsSome}
 use Rattle.std.proofs.lemmas.List.{drop_more}
 use Rattle.std.proofs.lemmas.Bool.{cases_eq, cases_lt}
 use Rattle.ea_model.specs.declared.carriers.BlockAt.{BlockAt}
 use Rattle.ea_model.specs.declared.carriers.Gap.{Gap}
-use Rattle.ea_model.specs.Content.{gap, gaps, gap_at, gap_up_to, block_at, end_of, Tiled}
+use Rattle.ea_model.specs.Content.{gap, gaps, gap_at, gap_up_to, block_at, end_of, size_of, Tiled}
 use Rattle.ea_mbc.specs.Walks.{next_of}
+use Rattle.ea_model.proofs.Options.{some_value}
 use Rattle.ea_laws.proofs.BlockLists.{gap_at-step, block_at-past}
+use Rattle.ea_laws.proofs.Resized.{first_at, gap_at-first, none_there, same_block, end_of-block}
 use Rattle.ea_laws.proofs.Tiling.{Tiled-allocated}
 use Rattle.ea_mbc.proofs.Rest.{no_block, Tiled-next}
 
@@ -54,29 +55,7 @@ gap_up_to-next at end offset bs i h t e =
     (Tiled-next at end bs i h t) e in
     sym first ∙ ap (λ xs. gap_up_to (gaps at end xs) offset) (sym (drop_more bs i no_block h))
 
-gap_at-last : (at end offset : ℕ) → offset < at → gap_at (gap at end) offset ≡ 0
-gap_at-last at end offset le = grind arith
-
--- no gap begins before the tiling does
-gap_at-early : (at end offset : ℕ) (bs : List BlockAt) → Tiled at end bs → offset < at
-    → gap_at (gaps at end bs) offset ≡ 0
-gap_at-early at end offset [] t lt = gap_at-last at end offset lt
-gap_at-early at end offset (b ∷ bs) t lt =
-    elim (gap_at-step at b.offset offset (gaps (b.offset + b.size) end bs)) [
-      | inl p ↦ absurd (omega arith)
-      | inr q ↦ q ∙ gap_at-early (b.offset + b.size) end offset bs t.4 (omega arith)
-    ]
-
-gap_at-only : (at end : ℕ) → gap_at (gap at end) at ≡ end - at
-gap_at-only at end = grind arith
-
-gap_at-first : (a b : ℕ) (rest : List Gap) → a < b → gap_at (gap a b ++ rest) a ≡ b - a
-gap_at-first a b rest h = grind arith
-
-gap_at-none : (a b : ℕ) (rest : List Gap) → b ≤ a → gap_at (gap a b ++ rest) a ≡ gap_at rest a
-gap_at-none a b rest h = grind arith
-
-pub next_of-here : (end offset : ℕ) (b : BlockAt) (bs : List BlockAt) → offset < b.offset
+next_of-here : (end offset : ℕ) (b : BlockAt) (bs : List BlockAt) → offset < b.offset
     → next_of end offset (b ∷ bs) ≡ b.offset
 next_of-here end offset b bs h = grind arith
 
@@ -99,23 +78,16 @@ next_of-within at end offset (b ∷ bs) t =
       )
     ]
 
--- the gap where the tiling begins reaches up to the first block, or the end
-pub gap_at-front : (at end offset : ℕ) (bs : List BlockAt) → Tiled at end bs → offset < at
+next_of-first : (at end offset : ℕ) (bs : List BlockAt) → Tiled at end bs → offset < at
+    → next_of end offset bs ≡ first_at end bs
+next_of-first at end offset [] t lt = refl
+next_of-first at end offset (b ∷ bs) t lt = next_of-here end offset b bs (omega arith)
+
+-- the gap where the tiling begins reaches up to the next block
+gap_at-front : (at end offset : ℕ) (bs : List BlockAt) → Tiled at end bs → offset < at
     → at + gap_at (gaps at end bs) at ≡ next_of end offset bs
-gap_at-front at end offset [] t lt = omega (arith, gap_at-only at end, t.0)
-gap_at-front at end offset (b ∷ bs) t lt =
-    let next = next_of-here end offset b bs (omega arith) in
-    elim (cases_lt at b.offset) [
-      | inl some ↦ omega
-          (arith, next, gap_at-first at b.offset (gaps (b.offset + b.size) end bs) some)
-      | inr none ↦ omega (
-        arith,
-        next,
-        t.0,
-        gap_at-none at b.offset (gaps (b.offset + b.size) end bs) none,
-        gap_at-early (b.offset + b.size) end at bs t.4 (omega arith),
-      )
-    ]
+gap_at-front at end offset bs t lt = gap_at-first at end bs t
+    ∙ sym (next_of-first at end offset bs t lt)
 
 -- the block b begins at the offset, and the gap behind it reaches up to the next block
 pub record Lies (at end offset : ℕ) (bs : List BlockAt) (b : BlockAt) : Type 0 where
@@ -157,13 +129,6 @@ lies_more at end offset x b bs t h =
       within = next_of-within at end offset (x ∷ bs) t;
     }
 
-pub none_there : (offset : ℕ) (b : BlockAt) → block_at [] offset ≡ Some b → ⊥
-none_there offset b h = grind arith
-
-pub same_block : (offset : ℕ) (x b : BlockAt) (bs : List BlockAt) → x.offset ≡ offset
-    → block_at (x ∷ bs) offset ≡ Some b → x ≡ b
-same_block offset x b bs e h = grind arith
-
 -- a block that is there lies so
 pub block_at-Lies : (at end offset : ℕ) (b : BlockAt) (bs : List BlockAt) → Tiled at end bs
     → block_at bs offset ≡ Some b → Lies at end offset bs b
@@ -177,6 +142,14 @@ block_at-Lies at end offset b (x ∷ bs) t h =
           ∙ h))
     ]
 
-pub end_of-block : (offset : ℕ) (b : BlockAt) (bs : List BlockAt) → block_at bs offset ≡ Some b
-    → end_of bs offset ≡ b.offset + b.size
-end_of-block offset b bs h = ap (λ o. option_map_or (λ (b : BlockAt). b.offset + b.size) o 0) h
+-- the block at the offset and the gap behind it reach up to the next block
+pub room-next : (at end offset : ℕ) (bs : List BlockAt) → Tiled at end bs
+    → IsSome (block_at bs offset)
+    → offset + (size_of (block_at bs offset) + gap_at (gaps at end bs) (end_of bs offset))
+    ≡ next_of end offset bs
+room-next at end offset bs t there =
+    let block = some_value (block_at bs offset) there in
+    let lies = block_at-Lies at end offset block.0 bs t block.1 in
+    let stop : end_of bs offset ≡ offset + block.0.size = end_of-block offset block.0 bs block.1
+    ∙ ap (λ n. n + block.0.size) lies.begins in
+    omega (arith, lies.up_to, ap size_of block.1, ap (gap_at (gaps at end bs)) stop)

@@ -5,19 +5,14 @@ use Rattle.std.proofs.lemmas.Bool.{cases_eq}
 use Rattle.ea_model.specs.declared.carriers.BlockAt.{BlockAt}
 use Rattle.ea_model.specs.declared.carriers.Gap.{Gap}
 use Rattle.ea_model.specs.Content.{Content, gap, gaps, gaps_of, gap_at, gap_up_to, gap_before, gap_behind, block_at, end_of, inserted, Tiled}
-use Rattle.ea_mbc.specs.Walks.{next_of}
 use Rattle.ea_mbc.specs.Gaps.{Replaced, GapTaken, GapsJoined}
 use Rattle.ea_laws.proofs.BlockLists.{offset_of, gap_at-step, only_gap, without-behind, block_at-past}
 use Rattle.ea_mbc.proofs.Reaching.{gap_at-next}
 use Rattle.ea_model.specs.Keyed.{without}
 use Rattle.ea_model.proofs.Rising.{entered_here, entered_past, without_here, without_past}
-use Rattle.ea_mbc.proofs.Beside.{gap_up_to-step, gap_up_to-first, gap_at-front, next_of-here, block_at-Lies, none_there, same_block, end_of-block}
+use Rattle.ea_laws.proofs.Resized.{first_at, behind_first, gaps-first, gap_at-first, gap_at-past, none_there, same_block, end_of-block, regroup}
+use Rattle.ea_mbc.proofs.Beside.{gap_up_to-step, gap_up_to-first, block_at-Lies}
 use Rattle.ea_laws.proofs.Chosen.{gap_some, gap_none}
-
-regroup : (more front run behind : List Gap)
-    → more ++ (front ++ run ++ behind) ≡ (more ++ front) ++ run ++ behind
-regroup more front run behind = sym (append_assoc more (front ++ run) behind)
-    ∙ ap (λ zs. zs ++ behind) (sym (append_assoc more front run))
 
 -- more gaps before the others
 Replaced-more : (more xs ys gone made : List Gap) → Replaced xs ys gone made
@@ -88,18 +83,6 @@ inserted-Replaced at end g x (b ∷ bs) t e some =
           (inserted-Replaced (b.offset + b.size) end g x bs t.4 (e ∙ q) some))
     ]
 
--- the gaps behind the first block
-abbrev behind_first : ℕ → List BlockAt → List Gap
-behind_first end [] = []
-behind_first end (b ∷ bs) = gaps (b.offset + b.size) end bs
-
--- the gaps are the one up to the first block, or the end, and those behind that block
-gaps-first : (at start end offset : ℕ) (bs : List BlockAt) → Tiled start end bs → offset < start
-    → gaps at end bs ≡ gap at (next_of end offset bs) ++ behind_first end bs
-gaps-first at start end offset [] t lt = sym (append-nil (gap at end))
-gaps-first at start end offset (b ∷ bs) t lt = ap (λ n. gap at n ++ gaps (b.offset + b.size) end bs)
-    (sym (next_of-here end offset b bs (omega arith)))
-
 -- two gaps and what lies between them are one gap
 one_gap : (a offset stop n before size behind : ℕ) (rest : List Gap) → offset < stop
     → before ≡ offset - a → a ≤ offset → stop ≡ offset + size → n ≡ stop + behind
@@ -124,12 +107,6 @@ before_past at end offset b bs n = elim
     (gap_up_to-step at b.offset offset (gaps (b.offset + b.size) end bs))
     [ inl p ↦ absurd (n (sym p.1)) | inr q ↦ q.1 ]
 
-behind_past : (at end offset : ℕ) (b : BlockAt) (bs : List BlockAt) → b.offset < offset
-    → gap_at (gaps at end (b ∷ bs)) offset ≡ gap_at (gaps (b.offset + b.size) end bs) offset
-behind_past at end offset b bs lt = elim
-    (gap_at-step at b.offset offset (gaps (b.offset + b.size) end bs))
-    [ inl p ↦ absurd (omega arith) | inr q ↦ q ]
-
 released_here : (at end offset before behind : ℕ) (b x : BlockAt) (bs : List BlockAt)
     → Tiled at end (x ∷ bs) → x.offset ≡ offset → x ≡ b
     → before ≡ gap_up_to (gaps at end (x ∷ bs)) offset
@@ -139,20 +116,19 @@ released_here : (at end offset before behind : ℕ) (b x : BlockAt) (bs : List B
 released_here at end offset before behind b x bs t e same p q =
     let stop : ℕ = x.offset + x.size in
     let size : x.size ≡ b.size = ap (λ (y : BlockAt). y.size) same in
-    let until : ℕ = next_of end offset bs in
-    let front : stop + gap_at (gaps stop end bs) stop ≡ until = gap_at-front stop end offset bs t.4
-    (omega arith) in
+    let until : ℕ = first_at end bs in
+    let front : stop + gap_at (gaps stop end bs) stop ≡ until = gap_at-first stop end bs t.4 in
     let ends : stop ≡ offset + b.size = omega arith in
     let rest : behind ≡ gap_at (gaps stop end bs) stop = q
-    ∙ behind_past at end (offset + b.size) x bs (omega (arith, t.2))
+    ∙ gap_at-past at end (offset + b.size) x bs (omega (arith, t.2))
     ∙ ap (gap_at (gaps stop end bs)) (sym ends) in
     let was : gaps at end (x ∷ bs) ≡ gap at offset ++ (gap stop until ++ behind_first end bs) = ap
     (λ n. gap at n ++ gaps stop end bs) e
-    ∙ ap (λ xs. gap at offset ++ xs) (gaps-first stop stop end offset bs t.4 (omega arith)) in
+    ∙ ap (λ xs. gap at offset ++ xs) (gaps-first stop end bs) in
     let is : gaps at end (without offset_of offset (x ∷ bs)) ≡ gap at until ++ behind_first end bs =
     ap (gaps at end) (without_here offset_of offset x bs e
     ∙ without-behind stop end offset bs t.4 (omega arith))
-    ∙ gaps-first at stop end offset bs t.4 (omega arith) in
+    ∙ gaps-first at end bs in
     subst (λ xs. Joined xs (gaps at end (without offset_of offset (x ∷ bs))) offset before b.size
     behind) (sym was)
     (subst (λ ys. Joined (gap at offset ++ (gap stop until ++ behind_first end bs)) ys offset before
@@ -180,7 +156,7 @@ released-Replaced at end offset before behind b (x ∷ bs) t h p q =
           (gaps (x.offset + x.size) end (without offset_of offset bs)) _ _
           (released-Replaced (x.offset + x.size) end offset before behind b bs t.4 found (p
           ∙ before_past at end offset x bs n) (q
-          ∙ behind_past at end (offset + b.size) x bs (omega (arith, lies.behind)))))
+          ∙ gap_at-past at end (offset + b.size) x bs (omega (arith, lies.behind)))))
     ]
 
 -- the same of a whole carrier, whose content is known as `now`

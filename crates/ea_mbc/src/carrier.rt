@@ -1,15 +1,17 @@
 //! The carrier and its calls.
 ghost use Rattle.std.specs.Prelude.{◌≡◌, ◌≢◌, ℕ, ◌+◌, ◌%◌, ◌<◌, ◌≤◌, ◌↔◌, [], All, Some, None, IsTrue, IsSome, IsNone, IfSome, OnOk, OnErr, IfOk, length, option_map};
+ghost use Rattle.std.specs.Bool.{OnTrue, OnFalse};
 ghost use Rattle.ea_model.specs.declared.carriers.Kind.TheVariants.{Multi};
-ghost use Rattle.ea_model.specs.declared.units.TheConstants.{PAGE_UNITS};
-ghost use Rattle.ea_model.specs.Content.{gaps_of, gap_at, gap_before, gap_behind, block_at, named, taken_of, placed, released, allocated, largest, free_units, Tiled};
+ghost use Rattle.ea_model.specs.declared.units.TheConstants.{MIN_BLOCK, PAGE_UNITS};
+ghost use Rattle.ea_model.specs.Content.{gaps_of, gap_at, gap_before, gap_behind, block_at, size_of, named, taken_of, placed, released, resized, allocated, largest, free_units, Tiled};
 ghost use Rattle.ea_model.specs.Choice.{before, fitting, choice, IsFirst};
-ghost use Rattle.ea_mbc.specs.Gaps.{GapTaken, GapsJoined};
+ghost use Rattle.ea_mbc.specs.Gaps.{room_at, GapTaken, GapsJoined, GapResized};
 
 use crate::walks::{
-    allocated_units, best_gap, count_of, free_before, free_behind, gap_from, largest_gap, taken,
+    allocated_units, best_gap, count_of, free_before, free_behind, gap_from, largest_gap, resize,
+    room_from, taken,
 };
-use ea_model::keyed::{enter, item_of, take_out};
+use ea_model::keyed::{enter, index_of, item_of, take_out};
 use ea_model::{Block, BlockAt, Carried, Gap, Inner, OutOfMemory};
 use std::alloc::Global;
 use std::marker::Model;
@@ -165,6 +167,91 @@ impl Mbc {
             size,
             after,
         })
+    }
+
+    /// The block at `offset` has `need` units and this name from now on. What it gives back, at
+    /// least 6 units, is one gap with the gap directly after it. It takes no memory.
+    pub fn shrink(&mut self, offset: u32, need: u32, name: u32)
+        requires begins { IsSome (block_at self.old.blocks offset) }
+        requires fewer { need + MIN_BLOCK ≤ size_of (block_at self.old.blocks offset) }
+        requires even { need % 2 ≡ 0 }
+        requires least { MIN_BLOCK ≤ need }
+        ensures shrunk { self.new ≡ resized self.old offset need name }
+
+        // The block has that many units now, and the others are as before.
+        ensures begins { block_at self.new.blocks offset
+            ≡ Some (record { name = name; offset = offset; size = need }) }
+        ensures others { (at : ℕ) → at ≢ offset →
+            block_at self.new.blocks at ≡ block_at self.old.blocks at }
+
+        // Of the gaps only that after the block changes: it begins where the block ends now.
+        ensures gap_resized { GapResized self.old self.new offset
+            (size_of (block_at self.old.blocks offset)) need }
+    {
+        resize(offset, need, name, &mut self.blocks);
+    }
+
+    /// The block at `offset` takes of the gap directly after it what it needs to have `need` units,
+    /// or the whole gap where fewer than 6 units would be left of it, and has this name from now
+    /// on. Returns false, and changes nothing, exactly when block and gap have fewer than `need`
+    /// units. It takes no memory.
+    pub fn grow(&mut self, offset: u32, need: u32, name: u32) -> bool
+        requires begins { IsSome (block_at self.old.blocks offset) }
+        requires more { size_of (block_at self.old.blocks offset) < need }
+        requires even { need % 2 ≡ 0 }
+        ensures fits { IsTrue result ↔ (need ≤ room_at self.old offset) }
+        ensures refused { OnFalse result (self.new ≡ self.old) }
+        ensures grown { OnTrue result
+            (self.new ≡ resized self.old offset (taken_of (room_at self.old offset) need) name) }
+
+        // The block has that many units then, and the others are as before.
+        ensures begins { OnTrue result (block_at self.new.blocks offset ≡ Some (record {
+          name = name;
+          offset = offset;
+          size = taken_of (room_at self.old offset) need;
+        })) }
+        ensures others { (at : ℕ) → at ≢ offset →
+            block_at self.new.blocks at ≡ block_at self.old.blocks at }
+
+        // Of the gaps only that after the block changes: it begins where the block ends then.
+        ensures gap_resized { OnTrue result (GapResized self.old self.new offset
+            (size_of (block_at self.old.blocks offset))
+            (taken_of (room_at self.old offset) need)) }
+    {
+        let room = self.room(offset);
+        if room < need {
+            return false;
+        }
+        resize(offset, taken(room, need), name, &mut self.blocks);
+        true
+    }
+
+    /// The units of the block at `offset` and of the gap directly after it.
+    fn room(&self, offset: u32) -> u32
+        requires { IsSome (block_at self.now.blocks offset) }
+        ensures { result ≡ room_at self.now offset }
+    {
+        room_from(self.units, &self.blocks, offset)
+    }
+
+    /// The block at `offset` has this name from now on. It takes no memory.
+    pub fn rename(&mut self, offset: u32, name: u32)
+        requires { IsSome (block_at self.old.blocks offset) }
+        ensures renamed { self.new
+            ≡ resized self.old offset (size_of (block_at self.old.blocks offset)) name }
+
+        // The block has the units that it had, and the others and the gaps are as before.
+        ensures begins { block_at self.new.blocks offset ≡ Some (record {
+          name = name;
+          offset = offset;
+          size = size_of (block_at self.old.blocks offset);
+        }) }
+        ensures others { (at : ℕ) → at ≢ offset →
+            block_at self.new.blocks at ≡ block_at self.old.blocks at }
+        ensures gaps { gaps_of self.new ≡ gaps_of self.old }
+    {
+        let index = index_of(offset, &self.blocks);
+        self.blocks[index].name = name;
     }
 
     /// The block that begins at `offset`, if one does.

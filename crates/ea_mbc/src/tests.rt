@@ -3,6 +3,7 @@ ghost use Rattle.std.specs.Prelude.{◌≡◌, ◌%◌, ◌≤◌};
 
 use crate::{Freed, Mbc};
 use ea_model::{Block, Gap, Inner, OutOfMemory};
+use std::alloc::Global;
 use std::test::Fail;
 
 // Puts a block where the choice is, and answers its offset and size.
@@ -113,5 +114,116 @@ fn a_carrier_fills_up(rt: HostRuntime) -> Result<(), Fail> {
     assert_eq!(rt; put(&mut carrier, Inner::Bf, 6, 4)?, Some((506, 6)));
     assert_eq!(rt; carrier.largest(), 0);
     assert_eq!(rt; carrier.allocated(), 504);
+    Ok(())
+}
+
+// A block of 20 units at 8, a gap of 12, blocks of 14 at 40 and of 6 at 54, and a gap of 452 up to
+// the end. The blocks are called 1, 3 and 4.
+fn with_two_gaps(alloc: Global) -> Result<Mbc, OutOfMemory> {
+    let mut carrier = Mbc::new(alloc, 512, 0, 1, 1, 1)?;
+    for (name, need) in [(1, 20), (2, 12), (3, 14), (4, 6)] {
+        put(&mut carrier, Inner::Aoff, need, name)?;
+    }
+    take_out(&mut carrier, 28)?;
+    Ok(carrier)
+}
+
+// Name and units of the block at the offset, and the units of the gap after it.
+fn at_offset(carrier: &Mbc, offset: u32) -> Option<(u32, u32, u32)> {
+    let block = carrier.block_at(offset)?;
+    Some((block.name, block.size, carrier.gap_behind(offset)))
+}
+
+// Lets the block at the offset grow, if there is one that has fewer units. The units are even.
+fn grow(carrier: &mut Mbc, offset: u32, need: u32, name: u32) -> Option<bool> {
+    let block = carrier.block_at(offset)?;
+    if need % 2 != 0 || need <= block.size {
+        return None;
+    }
+    Some(carrier.grow(offset, need, name))
+}
+
+// Shrinks the block at the offset, if there is one that gives back 6 units at least. The units are
+// even, and 6 at least.
+fn shrink(carrier: &mut Mbc, offset: u32, need: u32, name: u32) -> Option<()> {
+    let block = carrier.block_at(offset)?;
+    if need % 2 != 0 || need < 6 || block.size < need || block.size - need < 6 {
+        return None;
+    }
+    carrier.shrink(offset, need, name);
+    Some(())
+}
+
+// Renames the block at the offset, if there is one.
+fn rename(carrier: &mut Mbc, offset: u32, name: u32) -> Option<()> {
+    carrier.block_at(offset)?;
+    carrier.rename(offset, name);
+    Some(())
+}
+
+#[test]
+fn a_block_grows_into_the_gap_after_it(rt: HostRuntime) -> Result<(), Fail> {
+    for (offset, need, grown, then) in [
+        // A rest of 6 units is a gap, and one of 4, 2 or 0 stays in the block.
+        (8, 26, true, (9, 26, 6)),
+        (8, 28, true, (9, 32, 0)),
+        (8, 30, true, (9, 32, 0)),
+        (8, 32, true, (9, 32, 0)),
+        (8, 34, false, (1, 20, 12)),
+        // There is no gap.
+        (40, 16, false, (3, 14, 0)),
+        // The gap ends with the carrier.
+        (54, 452, true, (9, 452, 6)),
+        (54, 454, true, (9, 458, 0)),
+        (54, 458, true, (9, 458, 0)),
+        (54, 460, false, (4, 6, 452)),
+    ] {
+        let mut carrier = with_two_gaps(rt.alloc())?;
+        assert_eq!(rt;
+            grow(&mut carrier, offset, need, 9),
+            Some(grown),
+            "{offset} to {need}"
+        );
+        assert_eq!(rt;
+            at_offset(&carrier, offset),
+            Some(then),
+            "{offset} to {need}"
+        );
+    }
+    Ok(())
+}
+
+#[test]
+fn a_block_shrinks_and_is_renamed_in_its_place(rt: HostRuntime) -> Result<(), Fail> {
+    for (offset, need, after) in [
+        // What is given back, 6 and 14 units, and the gap of 12 units are one gap.
+        (8, 14, 18),
+        (8, 6, 26),
+        // There was no gap.
+        (40, 8, 6),
+    ] {
+        let mut carrier = with_two_gaps(rt.alloc())?;
+        assert_eq!(rt;
+            shrink(&mut carrier, offset, need, 9),
+            Some(()),
+            "{offset} to {need}"
+        );
+        assert_eq!(rt;
+            at_offset(&carrier, offset),
+            Some((9, need, after)),
+            "{offset} to {need}"
+        );
+        assert_eq!(rt;
+            at_offset(&carrier, 54),
+            Some((4, 6, 452)),
+            "{offset} to {need}"
+        );
+    }
+
+    let mut carrier = with_two_gaps(rt.alloc())?;
+    assert_eq!(rt; rename(&mut carrier, 40, 9), Some(()));
+    assert_eq!(rt; at_offset(&carrier, 8), Some((1, 20, 12)));
+    assert_eq!(rt; at_offset(&carrier, 40), Some((9, 14, 0)));
+    assert_eq!(rt; at_offset(&carrier, 54), Some((4, 6, 452)));
     Ok(())
 }

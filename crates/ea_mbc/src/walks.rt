@@ -1,11 +1,12 @@
 //! Walks over the blocks of a carrier, by rising offset.
-ghost use Rattle.std.specs.Prelude.{◌≡◌, ◌<◌, ◌≤◌, fold, length, IsSome, OnOk, OnErr};
+ghost use Rattle.std.specs.Prelude.{◌≡◌, ◌+◌, ◌<◌, ◌≤◌, fold, length, AllPairs, IsSome};
 ghost use Rattle.std.specs.List.{position_or_len};
-ghost use Rattle.ea_model.specs.Content.{gap, gaps, gap_at, gap_up_to, allocated, largest, block_at, end_of, taken_of, inserted, Tiled};
+ghost use Rattle.ea_model.specs.Content.{gap, gaps, gap_at, gap_up_to, allocated, largest, block_at, end_of, size_of, taken_of, Tiled};
+ghost use Rattle.ea_model.specs.Keyed.{changed_at, IsBelow};
 ghost use Rattle.ea_model.specs.Choice.{before, better, fitting, choice};
 ghost use Rattle.ea_mbc.specs.Walks.{next_of};
 
-use ea_model::keyed::item_of;
+use ea_model::keyed::{index_of, item_of};
 use ea_model::{BlockAt, Gap, HEADER_UNITS, Inner, MIN_BLOCK};
 
 /// Whether the choice takes `a` before `b`.
@@ -146,4 +147,25 @@ pub fn taken(gap: u32, need: u32) -> u32
     ensures { result ≡ taken_of gap need }
 {
     if gap - need >= MIN_BLOCK { need } else { gap }
+}
+
+/// The units of the block that begins at the offset and of the gap directly after it.
+pub fn room_from(units: u32, blocks: &[BlockAt], offset: u32) -> u32
+    requires tiled { Tiled 8 units blocks.now }
+    requires begins { IsSome (block_at blocks.now offset) }
+    ensures { result ≡ size_of (block_at blocks.now offset)
+        + gap_at (gaps 8 units blocks.now) (end_of blocks.now offset) }
+{
+    gap_end(units, blocks, offset) - offset
+}
+
+/// Gives the block that begins at the offset that many units and this name.
+pub fn resize(offset: u32, size: u32, name: u32, blocks: &mut [BlockAt])
+    requires begins { IsSome (block_at blocks.old offset) }
+    requires rising { AllPairs (IsBelow (λ b. b.offset)) blocks.old }
+    ensures { blocks.new ≡ changed_at (λ b. b.offset)
+        (λ b. record { name = name; offset = b.offset; size = size }) offset blocks.old }
+{
+    let index = index_of(offset, blocks);
+    blocks[index] = BlockAt { name, offset, size };
 }

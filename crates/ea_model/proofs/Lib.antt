@@ -1,4 +1,5 @@
 pub mod First
+pub mod Merged
 pub mod Numbers
 pub mod Options
 pub mod Orders

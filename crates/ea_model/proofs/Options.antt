@@ -1,6 +1,6 @@
 -- What holds of what is there, if it is there.
-use Rattle.std.proofs.Common.{◌≡◌, subst, refl}
-use Rattle.std.specs.Prelude.{Option, Some, None, IfSome, IsNone, is_some, option_map}
+use Rattle.std.proofs.Common.{◌≡◌, ◌∙◌, subst, sym, refl}
+use Rattle.std.specs.Prelude.{Option, Some, None, IfSome, IsSome, IsNone, is_some, option_map}
 
 pub if_some : {A : Type 0} (o : Option A) (P Q : A → Type 0) → ((x : A) → P x → Q x) → IfSome o P
     → IfSome o Q
@@ -17,9 +17,18 @@ pub some_map : {A B : Type 0} (f : A → B) (P : B → Type 0) (o : Option A) �
 some_map f P None h = h
 some_map f P (Some x) h = h
 
+-- the value that is there
+pub some_value : {A : Type 0} (o : Option A) → IsSome o → (x : A) × (o ≡ Some x)
+some_value None h = absurd cc
+some_value (Some x) h = (x, refl)
+
 pub some_holds : {A : Type 0} (o : Option A) (x : A) (P : A → Type 0) → o ≡ Some x → IfSome o P
     → P x
 some_holds o x P e h = subst (λ r. IfSome r P) e h
+
+-- there is one at most
+pub same-some : {A : Type 0} (o : Option A) (x y : A) → o ≡ Some x → o ≡ Some y → x ≡ y
+same-some o x y e f = let same : Some x ≡ Some y = sym e ∙ f in cc
 
 pub mapped : {A B : Type 0} (f : A → B) (o : Option A) → IsNone o → IsNone (option_map f o)
 mapped f None h = h

@@ -1,8 +1,14 @@
 -- The pairs of a list.
 use Rattle.std.proofs.Common.{suc, zero, List, [], ◌∷◌, ◌++◌, map, arith}
 use Rattle.std.specs.Prelude.{All, AllPairs}
-use Rattle.std.proofs.lemmas.List.Elements.{All-append, All-head, All-map, All-tail}
+use Rattle.std.proofs.lemmas.List.Elements.{All-append, All-cons, All-head, All-map, All-nil, All-tail}
 use Rattle.std.proofs.lemmas.List.Kept.{AllPairs-cons}
+
+pub all_unmap : {A B : Type 0} (P : A → Type 0) (f : B → A) (ys : List B) → All P (map f ys)
+    → All (λ y. P (f y)) ys
+all_unmap P f [] a = All-nil (λ y. P (f y))
+all_unmap P f (y ∷ ys) a = All-cons (λ z. P (f z)) y ys (All-head P (f y) (map f ys) a)
+    (all_unmap P f ys (All-tail P (f y) (map f ys) a))
 
 module _ {A : Type 0} (R : A → A → Type 0) where
   pub pairs_nil : AllPairs R []
@@ -30,3 +36,12 @@ module _ {A : Type 0} (R : A → A → Type 0) where
       AllPairs-cons R (f y) (map f ys)
       (All-map (R (f y)) f ys (λ k d within. p zero (suc k) d (omega arith) (omega arith)))
       (pairs_map f ys (λ i j d lt within. p (suc i) (suc j) d (omega arith) (omega arith)))
+
+  -- what holds of the pairs of images holds so of the pairs
+  pub pairs_unmap : {B : Type 0} (f : B → A) (ys : List B) → AllPairs R (map f ys)
+      → AllPairs (λ a b. R (f a) (f b)) ys
+  pairs_unmap f [] p = λ i j d lt within. absurd (omega arith)
+  pairs_unmap f (y ∷ ys) p =
+      AllPairs-cons (λ a b. R (f a) (f b)) y ys
+      (all_unmap (R (f y)) f ys (pairs_head (f y) (map f ys) p))
+      (pairs_unmap f ys (pairs_tail (f y) (map f ys) p))

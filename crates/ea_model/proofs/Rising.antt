@@ -310,7 +310,7 @@ module _ {A : Type 0} (key_of : A → ℕ) where
 
 -- a change of the item with a key
 module _ {A : Type 0} (key_of : A → ℕ) (f : A → A) (key : ℕ) where
-  abbrev change : A → A
+  abbrev pub change : A → A
   change x = if has_key key_of key x then f x else x
 
   pub changed_here : (x : A) (xs : List A) → key_of x ≡ key
@@ -352,7 +352,7 @@ module _ {A : Type 0} (key_of : A → ℕ) (f : A → A) (key : ℕ) where
       ]
 
   module _ (keeps : (x : A) → key_of (f x) ≡ key_of x) where
-    key_stays : (x : A) → key_of (change x) ≡ key_of x
+    pub key_stays : (x : A) → key_of (change x) ≡ key_of x
     key_stays x = cond_both (has_key key_of key x) (f x) x (λ y. key_of y ≡ key_of x) (λ _. keeps x)
         (λ _. refl)
 

@@ -60,7 +60,3 @@ words_first line i some lt h t =
     ap (filter is_word) (split_first is_space line i lt h t)
     ∙ cond-true (is_word (take i line)) (take i line ∷ words (drop (i + 1) line))
     (words (drop (i + 1) line)) (is_word-some (take i line) (omega (arith, length-take i line)))
-
--- a space in front changes no word
-pub words_space : (b : ℕ) (line : List ℕ) → is_space b ≡ true → words (b ∷ line) ≡ words line
-words_space b line t = ap (filter is_word) (slice_split-cons_yes is_space b line t)

@@ -6,7 +6,7 @@ use Rattle.ea_model.specs.declared.carriers.Kind.TheVariants.{Main, Multi, Singl
 use Rattle.ea_model.specs.declared.carriers.BlockAt.{BlockAt}
 use Rattle.ea_model.specs.declared.carriers.Block.{Block}
 use Rattle.ea_model.specs.declared.carriers.Gap.{Gap}
-use Rattle.ea_model.specs.Keyed.{item_at, entered, without}
+use Rattle.ea_model.specs.Keyed.{item_at, entered, without, changed_at}
 
 -- a carrier: what it is, where it lies, and its blocks by rising offset; base counts pages, and
 -- units the whole carrier
@@ -53,6 +53,10 @@ gap_at gs offset = option_map_or (λ g. g.size) (find (λ g. g.offset == offset)
 abbrev pub block_at : List BlockAt → ℕ → Option BlockAt
 block_at bs offset = item_at (λ b. b.offset) bs offset
 
+-- the units of a block, or 0
+abbrev pub size_of : Option BlockAt → ℕ
+size_of b = option_map_or (λ x. x.size) b 0
+
 -- where the block that begins at the offset ends
 abbrev pub end_of : List BlockAt → ℕ → ℕ
 end_of bs offset = option_map_or (λ b. b.offset + b.size) (block_at bs offset) 0
@@ -98,10 +102,25 @@ placed c offset need name =
 abbrev pub released : Content → ℕ → Content
 released c offset = record c { blocks = without (λ b. b.offset) offset c.blocks }
 
+-- the content where the block at the offset has that many units and this name
+abbrev pub resized : Content → ℕ → ℕ → ℕ → Content
+resized c offset size name =
+    record c {
+      blocks =
+          changed_at (λ b. b.offset)
+          (λ b. record { name = name; offset = b.offset; size = size }) offset c.blocks;
+    }
+
 abbrev pub is_multi : Kind → Bool
 is_multi Main = false
 is_multi Multi = true
 is_multi Single = false
+
+-- whether a carrier of the kind is ever deallocated
+abbrev pub can_go : Kind → Bool
+can_go Main = false
+can_go Multi = true
+can_go Single = true
 
 abbrev pub is_nil : List BlockAt → Bool
 is_nil [] = true
@@ -110,6 +129,10 @@ is_nil (b ∷ bs) = false
 -- whether a multiblock carrier has no blocks; the main carrier stays
 abbrev pub is_empty_multi : Content → Bool
 is_empty_multi c = is_multi c.kind && is_nil c.blocks
+
+-- whether a carrier is to be deallocated: it has no blocks and isn't the main one
+abbrev pub is_vacant : Content → Bool
+is_vacant c = can_go c.kind && is_nil c.blocks
 
 -- a gap is empty, or has an even number of units, 6 at least
 pub record IsGapSize (n : ℕ) : Type 0 where

@@ -6,7 +6,7 @@ use Rattle.ea_model.specs.declared.settings.Config.{Config}
 use Rattle.ea_model.specs.declared.settings.Letter.{Letter}
 use Rattle.ea_model.specs.declared.settings.Settings.{Settings}
 use Rattle.ea_model.specs.declared.carriers.Kind.{Kind}
-use Rattle.ea_model.specs.declared.carriers.Kind.TheVariants.{Main, Multi}
+use Rattle.ea_model.specs.declared.carriers.Kind.TheVariants.{Main, Multi, Single}
 use Rattle.ea_model.specs.declared.carriers.Spot.{Spot}
 use Rattle.ea_model.specs.declared.carriers.Place.{Place}
 use Rattle.ea_model.specs.declared.carriers.BlockAt.{BlockAt}
@@ -19,16 +19,22 @@ use Rattle.ea_model.specs.declared.carriers.Totals.{Totals}
 use Rattle.ea_model.specs.declared.carriers.Standing.TheVariants as standing
 use Rattle.ea_model.specs.Settings.{region_pages, settings_of}
 use Rattle.ea_model.specs.Units.{pages_for}
+use Rattle.ea_model.specs.declared.reallocation.Decision.{Decision}
+use Rattle.ea_model.specs.declared.reallocation.Decision.TheVariants.{Stay, ShrinkHere, GrowHere, ShrinkCarrier, Move}
+use Rattle.ea_model.specs.declared.reallocation.Where.{Where}
+use Rattle.ea_model.specs.declared.reallocation.Where.TheVariants as whereabouts
 use Rattle.ea_model.specs.declared.entries.NoCarrier.{NoCarrier}
 use Rattle.ea_model.specs.declared.entries.NoCarrier.TheVariants.{Numbers, Space}
-use Rattle.ea_model.specs.Content.{Content, gaps_of, gap_at, block_at, taken_of, placed, released, allocated, largest, free_units, is_multi}
+use Rattle.ea_model.specs.Content.{Content, gaps_of, gap_at, gap_behind, block_at, size_of, taken_of, placed, released, resized, allocated, largest, free_units, is_multi}
+use Rattle.ea_model.specs.Decision.{decision, size_after}
 use Rattle.ea_model.specs.Strategies.{choice_for, spot_of}
 use Rattle.ea_model.specs.Region.{runs, lowest_run, with_segment}
-use Rattle.ea_model.specs.Keyed.{item_at, entered, without, changed_at}
+use Rattle.ea_model.specs.Keyed.{item_at, entered, merged, without, changed_at}
 
 -- an instance: its number, from 1, its region from page `first` up to `end`, the carriers that it
--- owns and the contents that it employs, both by rising number, and how many carriers it created. It
--- owns the carriers that it created and that aren't deallocated, whoever employs them
+-- owns, the contents of main and multiblock carriers that it employs and those of singleblock
+-- carriers, each by rising number, and how many carriers it created. It owns the carriers that it
+-- created and that aren't deallocated, whoever employs them
 pub record Instance : Type 0 where
   pub settings : Settings
   pub number : ℕ
@@ -36,6 +42,7 @@ pub record Instance : Type 0 where
   pub end : ℕ
   pub own : List OwnCarrier
   pub contents : List Content
+  pub singles : List Content
   pub created : ℕ
 
 -- the first of the 256 carrier numbers of an instance
@@ -54,16 +61,19 @@ created_content instance kind p = record {
   blocks = [];
 }
 
--- the main carrier: the first one that the instance creates, from its region's first page on
+-- the plan of the main carrier: the first one that the instance creates, from its region's first
+-- page on
+abbrev pub main_plan : Settings → ℕ → ℕ → CarrierPlan
+main_plan s instance first = record {
+  number = first_number instance;
+  base = first;
+  pages = pages_for s.mmbcs;
+  birth = 1;
+  single = false;
+}
+
 abbrev pub main_content : Settings → ℕ → ℕ → Content
-main_content s instance first = created_content instance Main
-    (record {
-      number = first_number instance;
-      base = first;
-      pages = pages_for s.mmbcs;
-      birth = 1;
-      single = false;
-    })
+main_content s instance first = created_content instance Main (main_plan s instance first)
 
 -- the main carrier, where the settings ask for one
 abbrev pub main_carriers : Settings → ℕ → ℕ → List Content
@@ -82,8 +92,13 @@ new_instance s instance first pages = record {
   end = first + pages;
   own = map own_of (main_carriers s instance first);
   contents = main_carriers s instance first;
+  singles = [];
   created = length (main_carriers s instance first);
 }
+
+-- all contents that an instance employs, by rising number
+abbrev pub employed : Instance → List Content
+employed i = merged (λ c. c.number) i.contents i.singles
 
 -- the segment of a carrier
 abbrev pub segment_of : OwnCarrier → Segment
@@ -137,29 +152,38 @@ next_pages i need = max (least_pages need) (pages_for (growth i.settings (multis
 abbrev pub free_run : Instance → ℕ → Option ℕ
 free_run i pages = lowest_run pages (runs i.first i.end (segments i.own))
 
-abbrev pub planned : Instance → ℕ → ℕ → ℕ → CarrierPlan
-planned i number base pages = record {
+-- whether a block of this need has a carrier of its own
+abbrev pub is_alone : Instance → ℕ → Bool
+is_alone i need = nat_lt i.settings.sbct need
+
+-- the pages that the carrier for a block of this need should have: a singleblock carrier has the
+-- least
+abbrev pub wanted_pages : Instance → ℕ → ℕ
+wanted_pages i need = if is_alone i need then least_pages need else next_pages i need
+
+abbrev pub planned : Instance → ℕ → ℕ → ℕ → ℕ → CarrierPlan
+planned i need number base pages = record {
   number = number;
   base = base;
   pages = pages;
   birth = i.created + 1;
-  single = false;
+  single = is_alone i need;
 }
 
--- the least carrier, where the next one has no room
+-- the least carrier, where the wanted one has no room
 abbrev pub least_plan : Instance → ℕ → ℕ → Option ℕ → Result CarrierPlan NoCarrier
 least_plan i need number None = Err Space
-least_plan i need number (Some base) = Ok (planned i number base (least_pages need))
+least_plan i need number (Some base) = Ok (planned i need number base (least_pages need))
 
 abbrev pub sized_plan : Instance → ℕ → ℕ → Option ℕ → Result CarrierPlan NoCarrier
 sized_plan i need number None = least_plan i need number (free_run i (least_pages need))
-sized_plan i need number (Some base) = Ok (planned i number base (next_pages i need))
+sized_plan i need number (Some base) = Ok (planned i need number base (wanted_pages i need))
 
 abbrev pub numbered_plan : Instance → ℕ → Option ℕ → Result CarrierPlan NoCarrier
 numbered_plan i need None = Err Numbers
-numbered_plan i need (Some number) = sized_plan i need number (free_run i (next_pages i need))
+numbered_plan i need (Some number) = sized_plan i need number (free_run i (wanted_pages i need))
 
--- the multiblock carrier that would be created for a block of this need, or why there is none
+-- the carrier that would be created for a block of this need, or why there is none
 abbrev pub plan : Instance → ℕ → Result CarrierPlan NoCarrier
 plan i need = numbered_plan i need (unused_from 256 (first_number i.number) i.own)
 
@@ -179,6 +203,25 @@ abbrev pub creating : Instance → CarrierPlan → Instance
 creating i p = record i {
   own = with_own (planned_own p) i.own;
   contents = with_content (created_content i.number Multi p) i.contents;
+  created = p.birth;
+}
+
+-- a new singleblock carrier: its block stands directly behind its header of 8 units
+abbrev pub created_single : ℕ → CarrierPlan → ℕ → ℕ → Content
+created_single instance p size name =
+    record (created_content instance Single p) {
+      blocks = record { name = name; offset = 8; size = size } ∷ [];
+    }
+
+-- the place of its block
+abbrev pub single_place : CarrierPlan → ℕ → Place
+single_place p size = record { carrier = p.number; offset = 8; size = size }
+
+-- the instance that owns and employs the singleblock carrier of a plan, with a block of this need
+abbrev pub creating_single : Instance → CarrierPlan → ℕ → ℕ → Instance
+creating_single i p need name = record i {
+  own = with_own (planned_own p) i.own;
+  singles = with_content (created_single i.number p need name) i.singles;
   created = p.birth;
 }
 
@@ -208,10 +251,16 @@ abbrev pub placing_at : Instance → Spot → ℕ → ℕ → Instance
 placing_at i spot need name =
     record i { contents = changed (λ c. placed c spot.offset need name) spot.carrier i.contents }
 
+-- the instance where the content of a number is changed
+abbrev pub changing : Instance → (Content → Content) → ℕ → Instance
+changing i f number = record i {
+  contents = changed f number i.contents;
+  singles = changed f number i.singles;
+}
+
 -- the instance without the block at a spot
 abbrev pub releasing_at : Instance → Spot → Instance
-releasing_at i spot =
-    record i { contents = changed (λ c. released c spot.offset) spot.carrier i.contents }
+releasing_at i spot = changing i (λ c. released c spot.offset) spot.carrier
 
 -- the contents without that of the number
 abbrev pub without_content : ℕ → List Content → List Content
@@ -226,13 +275,63 @@ abbrev pub clearing : Instance → ℕ → Instance
 clearing i number = record i {
   own = without_own number i.own;
   contents = without_content number i.contents;
+  singles = without_content number i.singles;
 }
 
 -- the block at a spot
 abbrev pub block_in : List Content → Spot → Option BlockAt
 block_in cs spot = option_and_then (λ c. block_at c.blocks spot.offset) (content_of cs spot.carrier)
 
--- blocks and carriers of main and multiblock carriers, with their units
+-- where the block at the offset lies, by the content of its carrier, if it is among the main and
+-- multiblock carriers or else among the singleblock ones
+abbrev pub where_in : ℕ → Option Content → Option Content → Where
+where_in offset (Some c) single = whereabouts.Multi (gap_behind c offset)
+where_in offset None (Some c) = whereabouts.Single c.units
+where_in offset None None = whereabouts.Foreign
+
+abbrev pub where_at : Instance → Spot → Where
+where_at i spot = where_in spot.offset (content_of i.contents spot.carrier)
+    (content_of i.singles spot.carrier)
+
+-- the units of the block at a spot, or 0
+abbrev pub size_at : Instance → Spot → ℕ
+size_at i spot = size_of (block_in (employed i) spot)
+
+-- what is decided where the block at a spot is to have `need` units
+abbrev pub decision_at : Instance → Spot → ℕ → Decision
+decision_at i spot need = decision i.settings (size_at i spot) need (where_at i spot)
+
+-- the units that it has then
+abbrev pub resized_to : Instance → Spot → ℕ → ℕ
+resized_to i spot need = size_after (decision_at i spot need) (size_at i spot) need
+    (where_at i spot)
+
+-- the block at a spot has that many units and this name
+abbrev pub resized_in : Instance → Spot → ℕ → ℕ → Instance
+resized_in i spot size name = changing i (λ c. resized c spot.offset size name) spot.carrier
+
+-- its singleblock carrier has that many pages
+abbrev pub shortened : Instance → ℕ → ℕ → Instance
+shortened i number pages = record i {
+  own = changed_at (λ o. o.number) (λ o. record o { pages = pages }) number i.own;
+  singles = changed (λ c. record c { units = 512 * pages }) number i.singles;
+}
+
+-- a decision is carried out; where the block is to move nothing is done
+abbrev pub resized_by : Decision → Instance → Spot → ℕ → ℕ → Instance
+resized_by Stay i spot size name = resized_in i spot size name
+resized_by ShrinkHere i spot size name = resized_in i spot size name
+resized_by GrowHere i spot size name = resized_in i spot size name
+resized_by (ShrinkCarrier pages) i spot size name =
+    shortened (resized_in i spot size name) spot.carrier pages
+resized_by Move i spot size name = i
+
+-- the block at a spot is to have `need` units and this name
+abbrev pub resizing_at : Instance → Spot → ℕ → ℕ → Instance
+resizing_at i spot need name =
+    resized_by (decision_at i spot need) i spot (resized_to i spot need) name
+
+-- blocks and carriers, with their units
 abbrev pub figures : List Content → Figures
 figures cs = record {
   blocks = sum_by (λ c. length c.blocks) cs;

@@ -19,6 +19,11 @@ module _ {A : Type 0} (key_of : A → ℕ) where
   entered x [] = x ∷ []
   entered x (y ∷ ys) = if nat_lt (key_of x) (key_of y) then x ∷ y ∷ ys else y ∷ entered x ys
 
+  -- the items of two lists as one, by their keys
+  abbrev pub merged : List A → List A → List A
+  merged [] ys = ys
+  merged (x ∷ xs) ys = entered x (merged xs ys)
+
   -- without the item with the key
   abbrev pub without : ℕ → List A → List A
   without key xs = filter (λ x. not (has_key key x)) xs

@@ -7,6 +7,7 @@ pub mod Region
 pub mod Settings
 pub mod GoodFit
 pub mod Strategies
+pub mod Decision
 pub mod Instance
 pub mod Words
 pub mod Operations

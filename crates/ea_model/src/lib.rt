@@ -7,6 +7,7 @@ pub mod entries;
 pub mod keyed;
 pub mod lists;
 pub mod operations;
+pub mod reallocation;
 pub mod settings;
 #[cfg(test)]
 mod tests;
@@ -21,11 +22,12 @@ pub use carriers::{
 pub use entries::{Entry, NoCarrier, Report, Triple};
 pub use lists::{List, OutOfMemory};
 pub use operations::Op;
+pub use reallocation::{Decision, Where};
 pub use settings::{Config, Letter, Settings, Strategy};
 pub use trace::{Mode, Trace, Turns};
 pub use units::{
     HEADER_UNITS, KILOBYTE_UNITS, MAX_ALL_TRIES, MAX_BYTES, MAX_GROWTH_CARRIERS, MAX_INPUT,
     MAX_MEGABYTES, MAX_NAME, MAX_OPS, MAX_PAGES, MAX_PERCENT, MAX_SCHEDULERS, MAX_SEARCH_DEPTH,
     MAX_SEED, MAX_TRIES, MAX_TURNS, MAX_UNITS, MEGABYTE_PAGES, MIN_BLOCK, NUMBERS, PAGE_UNITS,
-    SEARCH_LIMIT, UNIT_BYTES, need,
+    SEARCH_LIMIT, UNIT_BYTES, least_pages, need,
 };

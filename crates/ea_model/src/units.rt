@@ -1,6 +1,6 @@
 //! Sizes and limits. A unit is 8 bytes; carriers, blocks and gaps are counted in units.
-ghost use Rattle.std.specs.Prelude.{◌≡◌, ◌^◌, ◌<◌};
-ghost use Rattle.ea_model.specs.Units.{need_of};
+ghost use Rattle.std.specs.Prelude.{◌≡◌, ◌+◌, ◌^◌, ◌<◌};
+ghost use Rattle.ea_model.specs.Units.{need_of, pages_for};
 
 /// The bytes of a unit.
 pub const UNIT_BYTES: u32 = 8;
@@ -58,4 +58,11 @@ pub fn need(bytes: u32) -> u32
     let units = 1 + bytes.div_ceil(UNIT_BYTES);
     let even = units + units % 2;
     even.max(MIN_BLOCK)
+}
+
+/// The pages of the least carrier that holds a block of that many units, and its own header.
+pub fn least_pages(units: u32) -> u32
+    ensures { result ≡ pages_for (HEADER_UNITS + units) }
+{
+    (u64::from(HEADER_UNITS) + u64::from(units)).div_ceil(u64::from(PAGE_UNITS)) as u32
 }

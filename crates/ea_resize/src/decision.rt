@@ -1,43 +1,8 @@
 //! The decision.
-ghost use Rattle.std.specs.Prelude.{◌≡◌, ◌+◌, ◌*◌, nat_le, nat_lt};
-ghost use Rattle.ea_model.specs.declared.units.TheConstants.{HEADER_UNITS};
-ghost use Rattle.ea_model.specs.Units.{pages_for};
-ghost use Rattle.ea_resize.specs.Decision.{decision, in_multi, in_place, in_single};
+ghost use Rattle.std.specs.Prelude.{◌≡◌, ◌*◌, nat_le, nat_lt};
+ghost use Rattle.ea_model.specs.Decision.{decision, in_multi, in_place, in_single};
 
-use ea_model::{HEADER_UNITS, MIN_BLOCK, PAGE_UNITS, Settings};
-
-/// Where a block lies.
-#[derive(Debug, Clone, Copy, PartialEq, Eq)]
-pub enum Where {
-    /// In a carrier that the instance doesn't employ.
-    Foreign,
-    /// In a multiblock carrier, with a gap of `behind` units directly behind it, 0 for none.
-    Multi { behind: u32 },
-    /// In a singleblock carrier of that many units.
-    Single { units: u32 },
-}
-
-/// What a reallocation decides.
-#[derive(Debug, Clone, Copy, PartialEq, Eq)]
-pub enum Decision {
-    /// The block stays, with the units that it has.
-    Stay,
-    /// It stays, with fewer units.
-    ShrinkHere,
-    /// It stays, with more units.
-    GrowHere,
-    /// It stays, with fewer units, and its singleblock carrier has that many pages from now on.
-    ShrinkCarrier { pages: u32 },
-    /// It is allocated anew and then freed.
-    Move,
-}
-
-/// The least pages of a carrier that holds a block of that many units.
-fn least_pages(units: u32) -> u32
-    ensures { result ≡ pages_for (HEADER_UNITS + units) }
-{
-    (u64::from(HEADER_UNITS) + u64::from(units)).div_ceil(u64::from(PAGE_UNITS)) as u32
-}
+use ea_model::{Decision, HEADER_UNITS, MIN_BLOCK, PAGE_UNITS, Settings, Where, least_pages};
 
 /// Whether that many units are more than that percentage of a whole.
 fn is_above(units: u32, percent: u32, whole: u32) -> bool

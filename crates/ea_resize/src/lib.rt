@@ -5,4 +5,5 @@ mod decision;
 #[cfg(test)]
 mod tests;
 
-pub use decision::{Decision, Where, decide};
+pub use decision::decide;
+pub use ea_model::{Decision, Where};

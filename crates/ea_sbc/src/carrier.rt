@@ -1,16 +1,18 @@
 //! The carrier and its calls.
-ghost use Rattle.std.specs.Prelude.{◌≡◌, ◌+◌, ◌-◌, ◌*◌, ◌≤◌, ◌∷◌, []};
-ghost use Rattle.ea_model.specs.declared.carriers.BlockAt.{BlockAt};
+ghost use Rattle.std.specs.Prelude.{◌≡◌, ◌+◌, ◌-◌, ◌*◌, ◌≤◌, Some, IsSome, [], length, option_map};
+ghost use Rattle.ea_model.specs.declared.carriers.Block.{Block};
 ghost use Rattle.ea_model.specs.declared.carriers.Kind.TheVariants.{Single};
 ghost use Rattle.ea_model.specs.declared.units.TheConstants.{HEADER_UNITS, MAX_PAGES, MAX_UNITS, PAGE_UNITS};
-ghost use Rattle.ea_model.specs.Content.{allocated, gaps_of, largest};
+ghost use Rattle.ea_model.specs.Content.{allocated, block_at, free_units, gaps_of, largest, named, released, resized};
+ghost use Rattle.ea_sbc.specs.Blocks.{blocks_of};
 
+use ea_model::keyed::Keyed;
 use ea_model::{Block, HEADER_UNITS, PAGE_UNITS};
 use std::marker::Model;
 
 /// A carrier of one block. Contracts see it as its content: number, owner, base, birth, units and
-/// the one block, which begins at unit 8. What the block leaves of the carrier is its tail, its one
-/// gap, in which nothing is ever placed.
+/// the one block, which begins at unit 8, until it is released. What the block leaves of the
+/// carrier is its tail, its one gap, in which nothing is ever placed.
 #[derive(Drop)]
 pub struct Sbc {
     number: u32,
@@ -18,16 +20,15 @@ pub struct Sbc {
     base: u32,
     birth: u32,
     pages: u32,
-    size: u32,
-    name: u32,
+    block: Option<Block>,
 }
 
 impl Model for Sbc {
-    ghost use Rattle.std.specs.Prelude.{◌+◌, ◌*◌, ◌≤◌, ◌∷◌, []};
-    ghost use Rattle.ea_model.specs.declared.carriers.BlockAt.{BlockAt};
+    ghost use Rattle.std.specs.Prelude.{◌+◌, ◌*◌, ◌≤◌};
     ghost use Rattle.ea_model.specs.declared.carriers.Kind.TheVariants.{Single};
     ghost use Rattle.ea_model.specs.declared.units.TheConstants.{HEADER_UNITS, MAX_PAGES, PAGE_UNITS};
-    ghost use Rattle.ea_model.specs.Content.{Content};
+    ghost use Rattle.ea_model.specs.Content.{Content, allocated};
+    ghost use Rattle.ea_sbc.specs.Blocks.{blocks_of};
 
     ghost Value = { Content };
 
@@ -38,10 +39,19 @@ impl Model for Sbc {
       birth = c.birth;
       units = PAGE_UNITS * c.pages;
       kind = Single;
-      blocks = record { name = c.name; offset = HEADER_UNITS; size = c.size } ∷ [];
+      blocks = blocks_of c.block;
     } };
 
-    ghost invariant = { λ c. (HEADER_UNITS + c.size ≤ PAGE_UNITS * c.pages) × (c.pages ≤ MAX_PAGES) };
+    ghost invariant = { λ c. (HEADER_UNITS + allocated (blocks_of c.block) ≤ PAGE_UNITS * c.pages)
+        × (c.pages ≤ MAX_PAGES) };
+}
+
+impl Keyed for Sbc {
+    ghost key_of = { λ c. c.number };
+
+    fn key(&self) -> u32 {
+        self.number
+    }
 }
 
 impl Sbc {
@@ -65,7 +75,7 @@ impl Sbc {
           birth = birth;
           units = PAGE_UNITS * pages;
           kind = Single;
-          blocks = record { name = name; offset = HEADER_UNITS; size = size } ∷ [];
+          blocks = blocks_of (Some (record { name = name; size = size }));
         } }
     {
         Sbc {
@@ -74,20 +84,20 @@ impl Sbc {
             base,
             birth,
             pages,
-            size,
-            name,
+            block: Some(Block { name, size }),
         }
     }
 
     /// Its block has that many units and this name from now on.
     pub fn resize(&mut self, size: u32, name: u32)
         requires { HEADER_UNITS + size ≤ self.old.units }
-        ensures { self.new ≡ record self.old {
-          blocks = record { name = name; offset = HEADER_UNITS; size = size } ∷ [];
+        ensures block { self.new ≡ record self.old {
+          blocks = blocks_of (Some (record { name = name; size = size }));
         } }
+        ensures resized { IsSome (block_at self.old.blocks HEADER_UNITS)
+            → self.new ≡ resized self.old HEADER_UNITS size name }
     {
-        self.size = size;
-        self.name = name;
+        self.block = Some(Block { name, size });
     }
 
     /// It has that many pages from now on: its block still fits, and they aren't more.
@@ -97,6 +107,15 @@ impl Sbc {
         ensures { self.new ≡ record self.old { units = PAGE_UNITS * pages } }
     {
         self.pages = pages;
+    }
+
+    /// Takes out its block, which begins at `offset`.
+    pub fn release(&mut self, offset: u32)
+        requires { IsSome (block_at self.old.blocks offset) }
+        ensures released { self.new ≡ released self.old offset }
+        ensures gone { self.new.blocks ≡ [] }
+    {
+        self.block = None;
     }
 
     pub fn number(&self) -> u32
@@ -128,22 +147,45 @@ impl Sbc {
     /// The units of the whole carrier.
     pub fn units(&self) -> u32
         ensures units { result ≡ self.now.units }
+        ensures header { HEADER_UNITS ≤ result }
         ensures small { result ≤ MAX_UNITS }
+        ensures kind { self.now.kind ≡ Single }
     {
         self.pages * PAGE_UNITS
     }
 
-    /// Its block.
-    pub fn block(&self) -> Block
-        ensures { self.now.blocks ≡ record {
-          name = result.name;
-          offset = HEADER_UNITS;
-          size = result.size;
-        } ∷ [] }
+    /// Its block, if it wasn't released.
+    pub fn block(&self) -> Option<Block>
+        ensures { self.now.blocks ≡ blocks_of result }
     {
-        Block {
-            name: self.name,
-            size: self.size,
+        self.block
+    }
+
+    /// The block that begins at `offset`, if one does.
+    pub fn block_at(&self, offset: u32) -> Option<Block>
+        ensures { result ≡ option_map named (block_at self.now.blocks offset) }
+    {
+        if offset == HEADER_UNITS {
+            self.block
+        } else {
+            None
+        }
+    }
+
+    /// How many blocks it has.
+    pub fn len(&self) -> u32
+        ensures { result ≡ length self.now.blocks }
+    {
+        if self.block.is_some() { 1 } else { 0 }
+    }
+
+    /// The units of its block, or 0.
+    pub fn allocated(&self) -> u32
+        ensures { result ≡ allocated self.now.blocks }
+    {
+        match self.block {
+            Some(block) => block.size,
+            None => 0,
         }
     }
 
@@ -151,7 +193,8 @@ impl Sbc {
     pub fn tail(&self) -> u32
         ensures units { result ≡ self.now.units - HEADER_UNITS - allocated self.now.blocks }
         ensures gap { result ≡ largest (gaps_of self.now) }
+        ensures free { result ≡ free_units (gaps_of self.now) }
     {
-        self.pages * PAGE_UNITS - HEADER_UNITS - self.size
+        self.pages * PAGE_UNITS - HEADER_UNITS - self.allocated()
     }
 }

@@ -3,7 +3,7 @@ use crate::Sbc;
 use ea_model::Block;
 
 #[test]
-fn a_carrier_has_one_block_and_its_tail(rt: HostRuntime) {
+fn a_carrier_has_one_block_and_its_tail_until_it_is_released(rt: HostRuntime) {
     let mut carrier = Sbc::new(258, 2, 3, 640, 130, 66_000, 7);
     assert_eq!(rt; carrier.number(), 258);
     assert_eq!(rt; carrier.owner(), 2);
@@ -13,14 +13,13 @@ fn a_carrier_has_one_block_and_its_tail(rt: HostRuntime) {
     assert_eq!(rt; carrier.tail(), 552);
 
     carrier.resize(66_552, 8);
-    let block = carrier.block();
-    assert_eq!(rt;
-        block,
-        Block {
-            name: 8,
-            size: 66_552
-        }
-    );
+    let whole = Block {
+        name: 8,
+        size: 66_552,
+    };
+    assert_eq!(rt; carrier.block(), Some(whole));
+    assert_eq!(rt; carrier.block_at(8), Some(whole));
+    assert_eq!(rt; carrier.block_at(10), None);
     assert_eq!(rt; carrier.tail(), 0);
 
     carrier.resize(65_600, 9);
@@ -28,12 +27,20 @@ fn a_carrier_has_one_block_and_its_tail(rt: HostRuntime) {
     carrier.shrink_to(129);
     assert_eq!(rt; carrier.units(), 66_048);
     assert_eq!(rt; carrier.tail(), 440);
-    let block = carrier.block();
-    assert_eq!(rt;
-        block,
-        Block {
-            name: 9,
-            size: 65_600
-        }
-    );
+    let shorter = Block {
+        name: 9,
+        size: 65_600,
+    };
+    assert_eq!(rt; carrier.block(), Some(shorter));
+    assert_eq!(rt; carrier.allocated(), 65_600);
+    assert_eq!(rt; carrier.len(), 1);
+
+    if carrier.block_at(8).is_some() {
+        carrier.release(8);
+    }
+    assert_eq!(rt; carrier.block(), None);
+    assert_eq!(rt; carrier.block_at(8), None);
+    assert_eq!(rt; carrier.len(), 0);
+    assert_eq!(rt; carrier.allocated(), 0);
+    assert_eq!(rt; carrier.tail(), 66_040);
 }

@@ -2,3 +2,4 @@ pub mod Regions
 pub mod Texts
 pub mod Leaving
 pub mod Steps
+pub mod Sums

@@ -1,6 +1,6 @@
 -- What an operation does to the blocks of held names, and what the scheduler then shows.
 use Rattle.std.proofs.Common.{◌≡◌, ℕ, ◌+◌, ◌<◌, List, [], ◌∷◌, ◌++◌, length, get_or, set, drop, replicate, sym, ◌∙◌, ap, subst, refl, inl, inr, arith, get_or-set_same, get_or-set_other}
-use Rattle.std.specs.Prelude.{◌⊎◌, Option, Some, None, Ok, Err, IsSome, option_map}
+use Rattle.std.specs.Prelude.{◌⊎◌, Bool, true, false, if◌then◌else◌, Option, Some, None, Ok, Err, IsSome, option_map}
 use Rattle.std.specs.Option.{option_and_then}
 use Rattle.std.proofs.lemmas.Bool.{cases_eq, cases_lt}
 use Rattle.std.proofs.lemmas.List.{get_or-replicate, get_or_past, length-replicate, drop_more}
@@ -9,16 +9,18 @@ use Rattle.ea_model.specs.declared.carriers.Spot.{Spot}
 use Rattle.ea_model.specs.declared.carriers.Place.{Place}
 use Rattle.ea_model.specs.declared.carriers.BlockAt.{BlockAt}
 use Rattle.ea_model.specs.declared.operations.Op.{Op}
+use Rattle.ea_model.specs.declared.operations.Op.TheVariants as op
 use Rattle.ea_model.specs.declared.carriers.CarrierPlan.{CarrierPlan}
 use Rattle.ea_model.specs.declared.entries.NoCarrier.{NoCarrier}
 use Rattle.ea_model.specs.declared.entries.Entry.TheVariants as entry
 use Rattle.ea_model.specs.Content.{Content}
-use Rattle.ea_model.specs.Instance.{Instance, block_in, chosen_spot, place_at, plan, creating}
-use Rattle.ea_laws.specs.Run.{Run, Held, spot_held, without, step, steps, allocating, with_block, with_carrier, in_new_carrier, freed_at, freeing}
+use Rattle.ea_model.specs.Units.{need_of}
+use Rattle.ea_model.specs.Instance.{Instance, block_in, chosen_spot, creating, creating_single, is_alone, place_at, plan, single_place}
+use Rattle.ea_laws.specs.Run.{Run, Held, spot_held, without, step, steps, allocating, asked_spot, with_block, with_carrier, with_single, in_new_carrier, in_planned, freed_at, freeing}
 use Rattle.ea_laws.specs.Spots.{IsOther, IsPlaced, HaveSameBlocks}
 use Rattle.ea_laws.proofs.Held.{same_spot, spot_held-without, spot_held-without_other}
 use Rattle.ea_instance.specs.Answers.{placing_if}
-use Rattle.ea_top.specs.Holding.{HoldsBlocks, IsChosenPlace, name_in, spot_at}
+use Rattle.ea_top.specs.Holding.{HoldsBlocks, IsChosenPlace, IsPlacedAs, IsPlannedPlace, name_in, spot_at}
 use Rattle.ea_top.specs.Running.{Reaches, Shows}
 use Rattle.ea_top.specs.declared.scheduler.Scheduler.{Scheduler}
 
@@ -165,43 +167,54 @@ module _ (r : Run) (self s : Scheduler) (need name : ℕ) (p : Place) (k : Shows
         ∙ ap (λ q. r.log ++ entry.Alloc name q ∷ []) c.2;
   }
 
+  shown_alone : (q : CarrierPlan) → s.instance ≡ creating_single self.instance q need name
+      → p ≡ single_place q need → Shows (with_single r q name need) s
+  shown_alone q is place = record {
+    instance = is ∙ ap (λ i. creating_single i q need name) k.instance;
+    held = λ n h.
+        ap (λ xs. get_or xs n None) spots
+        ∙ ap (λ (t : Place). get_or (set self.spots.items name (Some (spot_at t))) n None) place
+        ∙ spot_held-set self.spots.items r.held name n (spot_at (single_place q need)) within
+        (k.held n h);
+    log = log ∙ ap (λ l. l ++ entry.Alloc name p ∷ []) k.log
+        ∙ ap (λ t. r.log ++ entry.Alloc name t ∷ []) place;
+  }
+
   -- in a carrier that was there
-  pub shows_here : (n : ℕ) (new : Instance) → need ≡ n → IsChosenPlace self.instance new need name p
-      → s.instance ≡ new → Reaches (allocating r name n (chosen_spot r.instance n)) s
-  shows_here n new e c is =
-      subst (λ m. Reaches (allocating r name m (chosen_spot r.instance m)) s) e
-      (subst (λ o. Reaches (allocating r name need o) s)
+  pub shows_here : (new : Instance) → IsChosenPlace self.instance new need name p
+      → s.instance ≡ new → Reaches (allocating r name need (chosen_spot r.instance need)) s
+  shows_here new c is =
+      subst (λ o. Reaches (allocating r name need o) s)
       (sym (ap (λ i. chosen_spot i need) (sym k.instance) ∙ c.1))
       (subst (λ i. Reaches (Some (with_block r i name need c.0)) s) k.instance
-      (_, refl, shown self.instance new c is)))
+      (_, refl, shown self.instance new c is))
 
   -- in a new one
-  pub shows_new : (n : ℕ) (new : Instance) (q : CarrierPlan) → need ≡ n
-      → chosen_spot self.instance need ≡ None → plan self.instance need ≡ Ok q
-      → IsChosenPlace (creating self.instance q) new need name p → s.instance ≡ new
-      → Reaches (allocating r name n (chosen_spot r.instance n)) s
-  shows_new n new q e none planned c is =
-      subst (λ m. Reaches (allocating r name m (chosen_spot r.instance m)) s) e
-      (subst (λ o. Reaches (allocating r name need o) s)
-      (sym (ap (λ i. chosen_spot i need) (sym k.instance) ∙ none))
-      (subst (λ o. Reaches (with_carrier r name need o) s)
-      (sym (ap (λ i. plan i need) (sym k.instance) ∙ planned))
-      (subst (λ o. Reaches (in_new_carrier r (creating r.instance q) name need o) s)
+  in_new : (q : CarrierPlan) (single : Bool) (new : Instance)
+      → IsPlacedAs single self.instance q new need name p → s.instance ≡ new
+      → Reaches (in_planned r name need q single) s
+  in_new q true new c is = (_, refl, shown_alone q (is ∙ c.1) c.0)
+  in_new q false new c is =
+      subst (λ o. Reaches (in_new_carrier r (creating r.instance q) name need o) s)
       (sym (ap (λ i. chosen_spot (creating i q) need) (sym k.instance) ∙ c.1))
       (subst (λ i. Reaches (Some (with_block r (creating i q) name need c.0)) s) k.instance
-      (_, refl, shown (creating self.instance q) new c is)))))
+      (_, refl, shown (creating self.instance q) new c is))
+
+  pub shows_new : (new : Instance) (q : CarrierPlan) → plan self.instance need ≡ Ok q
+      → IsPlannedPlace self.instance q new need name p → s.instance ≡ new
+      → Reaches (with_carrier r name need (plan r.instance need)) s
+  shows_new new q planned c is =
+      subst (λ o. Reaches (with_carrier r name need o) s)
+      (sym (ap (λ i. plan i need) (sym k.instance) ∙ planned)) (in_new q q.single new c is)
 
 -- and where there is no carrier for it
-pub shows_failed : (r : Run) (self s : Scheduler) (need n name : ℕ) (why : NoCarrier) → Shows r self
-    → need ≡ n → chosen_spot self.instance need ≡ None → plan self.instance need ≡ Err why
-    → s.instance ≡ self.instance → s.spots.items ≡ self.spots.items
+pub shows_failed : (r : Run) (self s : Scheduler) (need name : ℕ) (why : NoCarrier) → Shows r self
+    → plan self.instance need ≡ Err why → s.instance ≡ self.instance
+    → s.spots.items ≡ self.spots.items
     → s.log.items ≡ self.log.items ++ entry.AllocFail name need 0 why ∷ []
-    → Reaches (allocating r name n (chosen_spot r.instance n)) s
-shows_failed r self s need n name why k e none planned same spots log =
-    subst (λ m. Reaches (allocating r name m (chosen_spot r.instance m)) s) e
-    (subst (λ o. Reaches (allocating r name need o) s)
-    (sym (ap (λ i. chosen_spot i need) (sym k.instance) ∙ none))
-    (subst (λ o. Reaches (with_carrier r name need o) s)
+    → Reaches (with_carrier r name need (plan r.instance need)) s
+shows_failed r self s need name why k planned same spots log =
+    subst (λ o. Reaches (with_carrier r name need o) s)
     (sym (ap (λ i. plan i need) (sym k.instance) ∙ planned)) (
       _,
       refl,
@@ -210,7 +223,35 @@ shows_failed r self s need n name why k e none planned same spots log =
         held = λ m h. ap (λ xs. get_or xs m None) spots ∙ k.held m h;
         log = log ∙ ap (λ l. l ++ entry.AllocFail name need 0 why ∷ []) k.log;
       },
-    )))
+    )
+
+-- a need that has no choice has a new carrier; so has one that asks for none
+module _ (r : Run) (self s : Scheduler) (name : ℕ) (k : Shows r self) where
+  pub shows_unchosen : (need : ℕ) → chosen_spot self.instance need ≡ None
+      → Reaches (with_carrier r name need (plan r.instance need)) s
+      → Reaches (allocating r name need (chosen_spot r.instance need)) s
+  shows_unchosen need none done =
+      subst (λ o. Reaches (allocating r name need o) s)
+      (sym (ap (λ i. chosen_spot i need) (sym k.instance) ∙ none)) done
+
+  asked : (need : ℕ) (alone : Bool) → is_alone self.instance need ≡ alone
+      → asked_spot r.instance need ≡ (if alone then None else chosen_spot r.instance need)
+  asked need alone e = ap (λ b. if b then None else chosen_spot r.instance need)
+      (ap (λ i. is_alone i need) (sym k.instance) ∙ e)
+
+  pub shows_alone : (need bytes : ℕ) → need ≡ need_of bytes → is_alone self.instance need ≡ true
+      → Reaches (with_carrier r name need (plan r.instance need)) s
+      → Reaches (step r (op.Alloc name bytes)) s
+  shows_alone need bytes e alone done =
+      subst (λ n. Reaches (allocating r name n (asked_spot r.instance n)) s) e
+      (subst (λ o. Reaches (allocating r name need o) s) (sym (asked need true alone)) done)
+
+  pub shows_shared : (need bytes : ℕ) → need ≡ need_of bytes → is_alone self.instance need ≡ false
+      → Reaches (allocating r name need (chosen_spot r.instance need)) s
+      → Reaches (step r (op.Alloc name bytes)) s
+  shows_shared need bytes e shared done =
+      subst (λ n. Reaches (allocating r name n (asked_spot r.instance n)) s) e
+      (subst (λ o. Reaches (allocating r name need o) s) (sym (asked need false shared)) done)
 
 -- what a scheduler that holds one name less shows
 pub shows_freed : (r : Run) (self s : Scheduler) (name : ℕ) (spot : Spot) → Shows r self

@@ -27,4 +27,4 @@ first_text t = text_at 0 (texts_of t)
 -- and a schedule, under which it does operations that are all built
 abbrev pub is_built_run : Config → Trace → Bool
 is_built_run c t = is_built_config c t.letter && (is_built_mode t.mode
-    && list_all (is_built (settings_of c t.letter)) (first_text t))
+    && list_all is_built (first_text t))

@@ -5,14 +5,14 @@ use Rattle.ea_flags.specs.declared.fault.FlagFault.{FlagFault}
 use Rattle.ea_flags.specs.Flags.{flags}
 use Rattle.ea_model.specs.declared.settings.Config.{Config}
 use Rattle.ea_model.specs.declared.trace.Trace.{Trace}
-use Rattle.ea_model.specs.Instance.{carrier_line, instance_of, totals}
+use Rattle.ea_model.specs.Instance.{carrier_line, employed, instance_of, totals}
 use Rattle.ea_laws.specs.Run.{Run, run}
 use Rattle.ea_report.specs.Text.{text}
 use Rattle.ea_trace.specs.Language.{trace}
 use Rattle.ea_top.specs.Built.{first_text, is_built_run}
 
 abbrev pub run_text : Run → List ℕ
-run_text r = text r.log (map carrier_line r.instance.contents) (totals r.instance.contents)
+run_text r = text r.log (map carrier_line (employed r.instance)) (totals (employed r.instance))
 
 -- the output of a trace under a configuration; none where its run isn't built. With one scheduler
 -- the turns of a schedule have no effect

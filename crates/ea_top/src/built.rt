@@ -1,32 +1,24 @@
 //! Which runs are built.
-ghost use Rattle.std.specs.Prelude.{◌≡◌, All};
+ghost use Rattle.std.specs.Prelude.{◌≡◌};
 ghost use Rattle.std.specs.List.{list_all};
-ghost use Rattle.ea_model.specs.Operations.{InRange};
-ghost use Rattle.ea_model.specs.Trace.{IsValidTrace};
 ghost use Rattle.ea_laws.specs.Run as laws;
 ghost use Rattle.ea_top.specs.Built as built;
 
-use ea_model::{Config, Letter, Mode, Op, Settings, Trace, need};
+use ea_model::{Config, Letter, Mode, Op, Trace};
 
-/// Whether the operation is built under these settings.
-fn is_built_op(settings: Settings, op: Op) -> bool
-    requires { InRange op }
-    ensures { result ≡ laws.is_built settings op }
+/// Whether the operation is built.
+fn is_built_op(op: Op) -> bool
+    ensures { result ≡ laws.is_built op }
 {
-    match op {
-        Op::Alloc { bytes, .. } => need(bytes) <= settings.sbct,
-        Op::Free { .. } | Op::Idle => true,
-        _ => false,
-    }
+    matches!(op, Op::Alloc { .. } | Op::Free { .. } | Op::Idle)
 }
 
-/// Whether all these operations are built under these settings.
-fn are_built(settings: Settings, ops: &[Op]) -> bool
-    requires { All InRange ops.now }
-    ensures { result ≡ list_all (laws.is_built settings) ops.now }
+/// Whether all these operations are built.
+fn are_built(ops: &[Op]) -> bool
+    ensures { result ≡ list_all laws.is_built ops.now }
 {
     for op in ops {
-        if !is_built_op(settings, *op) {
+        if !is_built_op(*op) {
             return false;
         }
     }
@@ -58,7 +50,6 @@ fn is_built_config(config: Config, letter: Letter) -> bool
 
 /// Whether the run of a trace is built.
 pub fn is_built(config: Config, trace: &Trace) -> bool
-    requires { IsValidTrace config.schedulers trace.now }
     ensures { result ≡ built.is_built_run config trace.now }
 {
     if !is_built_config(config, trace.letter) {
@@ -67,5 +58,5 @@ pub fn is_built(config: Config, trace: &Trace) -> bool
     if !is_built_mode(&trace.mode) {
         return false;
     }
-    are_built(config.of(trace.letter), first_text(trace))
+    are_built(first_text(trace))
 }

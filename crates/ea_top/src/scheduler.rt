@@ -3,15 +3,15 @@ ghost use Rattle.std.specs.Prelude.{◌≡◌, ◌≢◌, ℕ, ◌+◌, ◌<◌,
 ghost use Rattle.ea_model.specs.declared.operations.Op.TheVariants.{Alloc, Free, Idle};
 ghost use Rattle.ea_model.specs.declared.entries.Entry.TheVariants as entry;
 ghost use Rattle.ea_model.specs.declared.carriers.Spot.{Spot};
-ghost use Rattle.ea_model.specs.declared.units.TheConstants.{MAX_BYTES, MAX_NAME};
+ghost use Rattle.ea_model.specs.declared.units.TheConstants.{MAX_BYTES, MAX_NAME, MAX_PAGES};
 ghost use Rattle.ea_model.specs.Operations.{InRange};
 ghost use Rattle.ea_model.specs.Settings.{IsValidConfig};
-ghost use Rattle.ea_model.specs.Instance.{creating, block_in, instance_of, totals};
+ghost use Rattle.ea_model.specs.Instance.{block_in, chosen_spot, employed, instance_of, plan, totals};
 ghost use Rattle.ea_model.specs.Instance as instances;
-ghost use Rattle.ea_laws.specs.Run.{Run, IsBuiltOp, doing, start, step, freed_at};
+ghost use Rattle.ea_laws.specs.Run.{Run, IsBuiltOp, allocating, start, step, freed_at, with_carrier};
 ghost use Rattle.ea_laws.specs.Spots.{IsOther, IsPlaced};
 ghost use Rattle.ea_top.specs.Built.{is_built_config};
-ghost use Rattle.ea_top.specs.Holding.{HoldsBlocks, IsChosenPlace, spot_at};
+ghost use Rattle.ea_top.specs.Holding.{HoldsBlocks, IsPlannedPlace, is_gone, spot_at};
 
 use ea_instance::{Instance, Released};
 use ea_model::{
@@ -29,7 +29,7 @@ pub struct Scheduler {
     pub spots: Vec<Option<Spot>>,
     pub log: List<Entry>,
     ghost names: { length spots.items ≡ MAX_NAME + 1 },
-    ghost blocks: { HoldsBlocks instance.contents spots.items },
+    ghost blocks: { HoldsBlocks (employed instance) spots.items },
 }
 
 /// Creates the carrier of the plan, and places a block in it.
@@ -43,10 +43,14 @@ fn place_in_new(
     requires even { need % 2 ≡ 0 }
     requires least { 6 ≤ need }
     requires plan { instances.plan instance.old need ≡ Ok plan }
-    requires pages { (1 ≤ plan.pages) × (512 * plan.pages < 2 ^ 32) }
-    ensures ok { IfOk result (IsChosenPlace (creating instance.old plan) instance.new need name) }
-    ensures blocks { IfOk result (IsPlaced instance.old.contents instance.new.contents name) }
+    requires pages { (1 ≤ plan.pages) × (plan.pages ≤ MAX_PAGES) }
+    ensures ok { IfOk result (IsPlannedPlace instance.old plan instance.new need name) }
+    ensures blocks { IfOk result
+        (IsPlaced (employed instance.old) (employed instance.new) name) }
 {
+    if plan.single {
+        return Ok(instance.create_single(plan, need, name));
+    }
     let carrier = instance.prepare(alloc, plan)?;
     instance.create(plan, need, carrier)?;
     match instance.try_alloc(need, name)? {
@@ -55,15 +59,23 @@ fn place_in_new(
     }
 }
 
-/// Frees the block at the spot; a multiblock carrier that it leaves without blocks is deallocated.
+/// Whether the carrier is to be deallocated.
+fn is_gone(next: Released) -> bool
+    ensures { result ≡ is_gone next }
+{
+    matches!(next, Released::EmptyOwn | Released::SingleGone)
+}
+
+/// Frees the block at the spot; a carrier that it leaves without blocks, other than the main one, is
+/// deallocated.
 fn free_at(instance: &mut Instance, spot: Spot) -> Result<(), OutOfMemory>
-    requires { IsSome (block_in instance.old.contents spot) }
+    requires { IsSome (block_in (employed instance.old) spot) }
     ensures ok { OnOk result (instance.new ≡ freed_at instance.old spot) }
     ensures others { OnOk result ((at : Spot) → IsOther spot.carrier spot.offset at
-        → block_in instance.new.contents at ≡ block_in instance.old.contents at) }
+        → block_in (employed instance.new) at ≡ block_in (employed instance.old) at) }
 {
-    let released = instance.release(spot)?;
-    if released == Released::EmptyOwn {
+    let next = instance.release(spot)?;
+    if is_gone(next) {
         instance.clear(spot.carrier);
     }
     Ok(())
@@ -79,7 +91,8 @@ fn hold(
 ) -> Result<Scheduler, OutOfMemory>
     requires names { length spots.items ≡ MAX_NAME + 1 }
     requires name { name ≤ MAX_NAME }
-    requires blocks { HoldsBlocks instance.contents (set spots.items name (Some (spot_at place))) }
+    requires blocks { HoldsBlocks (employed instance)
+        (set spots.items name (Some (spot_at place))) }
     ensures { IfOk result (λ s. (s.instance ≡ instance)
         × (s.spots.items ≡ set spots.items name (Some (spot_at place)))
         × (s.log.items ≡ log.items ++ entry.Alloc name place ∷ [])) }
@@ -98,16 +111,18 @@ fn hold(
 
 /// The totals of the carriers of an instance whose blocks are all held.
 fn totals_of(instance: &Instance) -> Totals
-    ensures { result ≡ totals instance.now.contents }
+    ensures { result ≡ totals (employed instance.now) }
 {
-    let figures = instance.multi_figures();
+    let multi = instance.multi_figures();
+    let single = instance.single_figures();
+    let carriers = multi.carriers + single.carriers;
     Totals {
-        carriers: figures.carriers as u32,
-        units: figures.carriers_size,
-        live: figures.blocks_size,
+        carriers: carriers as u32,
+        units: multi.carriers_size + single.carriers_size,
+        live: multi.blocks_size + single.blocks_size,
         queued: 0,
         free: instance.free_units(),
-        header: u64::from(HEADER_UNITS) * figures.carriers,
+        header: u64::from(HEADER_UNITS) * carriers,
     }
 }
 
@@ -131,36 +146,32 @@ impl Scheduler {
         })
     }
 
-    /// Allocates a block of at least `bytes` bytes under a name. A count of carriers that has no
-    /// greater number counts as want of memory.
-    fn alloc(self, alloc: Global, name: u32, bytes: u32) -> Result<Scheduler, OutOfMemory>
+    /// Allocates a block of `need` units under a name, in a carrier that is created for it. A count
+    /// of carriers that has no greater number counts as want of memory.
+    fn alloc_in_new(self, alloc: Global, name: u32, need: u32) -> Result<Scheduler, OutOfMemory>
         requires name { name ≤ MAX_NAME }
-        requires bytes { bytes ≤ MAX_BYTES }
-        requires built { IsBuiltOp self.instance.settings (Alloc name bytes) }
+        requires even { need % 2 ≡ 0 }
+        requires least { 6 ≤ need }
         ensures { IfOk result (λ s. (r : Run) → Shows r self
-            → Reaches (doing r (Alloc name bytes)) s) }
+            → Reaches (with_carrier r name need (plan r.instance need)) s) }
     {
         let Scheduler {
             mut instance,
             spots,
             mut log,
         } = self;
-        let units = need(bytes);
-        if let Some(place) = instance.try_alloc(units, name)? {
-            return hold(instance, spots, log, name, place);
-        }
         if instance.created() == u32::MAX {
             return Err(OutOfMemory);
         }
-        match instance.plan_carrier(units) {
+        match instance.plan_carrier(need) {
             Ok(plan) => {
-                let place = place_in_new(&mut instance, alloc, plan, units, name)?;
+                let place = place_in_new(&mut instance, alloc, plan, need, name)?;
                 hold(instance, spots, log, name, place)
             }
             Err(why) => {
                 log.push(Entry::AllocFail {
                     name,
-                    need: units,
+                    need,
                     looked: 0,
                     why,
                 })?;
@@ -173,11 +184,50 @@ impl Scheduler {
         }
     }
 
+    /// Allocates a block of `need` units under a name, in the gap that is chosen, or else in a new
+    /// carrier.
+    fn alloc_shared(self, alloc: Global, name: u32, need: u32) -> Result<Scheduler, OutOfMemory>
+        requires name { name ≤ MAX_NAME }
+        requires even { need % 2 ≡ 0 }
+        requires least { 6 ≤ need }
+        ensures { IfOk result (λ s. (r : Run) → Shows r self
+            → Reaches (allocating r name need (chosen_spot r.instance need)) s) }
+    {
+        let Scheduler {
+            mut instance,
+            spots,
+            log,
+        } = self;
+        match instance.try_alloc(need, name)? {
+            Some(place) => hold(instance, spots, log, name, place),
+            None => Scheduler {
+                instance,
+                spots,
+                log,
+            }
+            .alloc_in_new(alloc, name, need),
+        }
+    }
+
+    /// Allocates a block of at least `bytes` bytes under a name.
+    fn alloc(self, alloc: Global, name: u32, bytes: u32) -> Result<Scheduler, OutOfMemory>
+        requires name { name ≤ MAX_NAME }
+        requires bytes { bytes ≤ MAX_BYTES }
+        ensures { IfOk result (λ s. (r : Run) → Shows r self
+            → Reaches (step r (Alloc name bytes)) s) }
+    {
+        let units = need(bytes);
+        if self.instance.is_alone(units) {
+            return self.alloc_in_new(alloc, name, units);
+        }
+        self.alloc_shared(alloc, name, units)
+    }
+
     /// Frees the block of a name; where the name isn't held, that is only noted.
     fn free(self, name: u32) -> Result<Scheduler, OutOfMemory>
         requires name { name ≤ MAX_NAME }
         ensures { IfOk result (λ s. (r : Run) → Shows r self
-            → Reaches (doing r (Free name)) s) }
+            → Reaches (step r (Free name)) s) }
     {
         let Scheduler {
             mut instance,
@@ -204,7 +254,7 @@ impl Scheduler {
 
     /// Does nothing, and notes it.
     fn idle(self) -> Result<Scheduler, OutOfMemory>
-        ensures { IfOk result (λ s. (r : Run) → Shows r self → Reaches (doing r Idle) s) }
+        ensures { IfOk result (λ s. (r : Run) → Shows r self → Reaches (step r Idle) s) }
     {
         let Scheduler {
             instance,
@@ -222,7 +272,7 @@ impl Scheduler {
     /// Does one operation.
     pub fn step(self, alloc: Global, op: Op) -> Result<Scheduler, OutOfMemory>
         requires range { InRange op }
-        requires built { IsBuiltOp self.instance.settings op }
+        requires built { IsBuiltOp op }
         ensures { IfOk result (λ s. (r : Run) → Shows r self → Reaches (step r op) s) }
     {
         match op {

@@ -32,8 +32,8 @@ use std::thread::Threads;
 /// The status is 0 where the text was written; 1 where the words are refused; 2 where the input has
 /// more than 2^24 bytes or isn't a trace; 3 where the source failed; 4 where `out` failed; 5 where
 /// there was no memory; 6 where words and input are accepted, and the run isn't built: it has more
-/// schedulers than one, its carriers would migrate, its mode isn't a schedule, a block would have a
-/// carrier of its own, or it has operations other than `alloc`, `free` and `idle`.
+/// schedulers than one, its carriers would migrate, its mode isn't a schedule, or it has operations
+/// other than `alloc`, `free` and `idle`.
 pub fn run<R: Threads + Sync, S: Source, O: Sink, E: Sink>(
     _rt: &R,
     alloc: Global,
@@ -51,10 +51,12 @@ pub fn run<R: Threads + Sync, S: Source, O: Sink, E: Sink>(
     ensures end { result ≡ 0 → IsAtEnd (S.left source.new) }
 
     // And at every moment of every run under such words: no two blocks share a unit, carriers lie
-    // apart, and blocks, gaps and headers are all units; each held name has its own block; a name's
-    // block is released at most as often as the name was allocated; a block is placed where the
-    // strategy takes a gap first; an allocation fails only where nothing that is inspected fits and
-    // no carrier can be created; and each operation has one entry.
+    // apart, and blocks, gaps and headers are all units; a singleblock carrier has its one block,
+    // and no carrier but the main one is without a block; each held name has its own block; a name's
+    // block is released at most as often as the name was allocated; a block up to the threshold is
+    // placed where the strategy takes a gap first, and a larger one in a singleblock carrier of its
+    // own; an allocation fails only where no carrier can be created and, up to the threshold,
+    // nothing that is inspected fits; and each operation has one entry.
     ensures sound { result ≡ 0 → Throughout Sound words.now }
 
     // 1: exactly for words that are refused, and nothing was read.

@@ -139,7 +139,6 @@ struct Sides {
     instance: Instance,
     carriers: Vec<PlainCarrier>,
     live: Vec<Spot>,
-    ghost threshold: { instance.settings.sbct ≡ settings.sbct },
 }
 
 impl Sides {
@@ -211,11 +210,11 @@ impl Sides {
 
     // Creates a carrier for a block of `need` units, where one can be.
     fn create(&mut self, rt: &impl Abort, alloc: Global, need: u32) -> Result<bool, OutOfMemory> {
-        assert!(rt; need <= self.settings.sbct && self.instance.created() < 1000);
+        assert!(rt; self.instance.created() < 1000);
         let Ok(plan) = self.instance.plan_carrier(need) else {
             return Ok(false);
         };
-        assert!(rt; 1 <= plan.pages && plan.pages <= PAGES);
+        assert!(rt; !plan.single);
         let carrier = self.instance.prepare(alloc, plan)?;
         self.instance.create(plan, need, carrier)?;
         push_carrier(

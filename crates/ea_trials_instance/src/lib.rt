@@ -1,5 +1,5 @@
-//! One allocator instance through its public calls: plans, placements, releases and figures that
-//! were worked out by hand.
+//! One allocator instance through its public calls: plans, placements, releases, figures and lines
+//! that were worked out by hand.
 #![tactic(auto)]
 
 #[cfg(test)]

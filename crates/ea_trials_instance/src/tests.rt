@@ -3,10 +3,14 @@ ghost use Rattle.ea_model.specs.declared.units.TheConstants.{MAX_PAGES, MAX_SCHE
 ghost use Rattle.ea_model.specs.Settings.{IsValid};
 ghost use Rattle.ea_model.specs.Units.{pages_for};
 
-use crate::tests::Step::{BlockAt, Create, Employs, FreeUnits, MultiFigures, Plan, Put, TakeOut};
+use crate::tests::Step::{
+    BlockAt, Create, Created, Employs, FreeUnits, IsAlone, MultiFigures, Plan, PlanSingle, Put,
+    PutSingle, Resize, SingleFigures, TakeOut,
+};
 use ea_instance::{CarrierPlan, Instance, Released};
 use ea_model::{
-    Block, Figures, MAX_PAGES, NoCarrier, OutOfMemory, Place, Settings, Spot, Strategy,
+    Block, CarrierLine, Decision, Figures, Kind, List, NoCarrier, OutOfMemory, Place, Settings,
+    Spot, Standing, Strategy,
 };
 use std::alloc::Global;
 use std::process::Abort;
@@ -36,28 +40,38 @@ type Planned = Result<(u32, u32, u32, u32), NoCarrier>;
 // A call and its answer.
 #[derive(Debug, Clone, Copy)]
 enum Step {
-    // The plan for a block of this need.
+    // Whether a block of this need has a carrier of its own.
+    IsAlone(u32, bool),
+    // The plan of a multiblock carrier for a block of this need.
     Plan(u32, Planned),
-    // The plan for a block of this need, whose carrier is created.
+    // The plan of a singleblock carrier for a block of this need.
+    PlanSingle(u32, Planned),
+    // The plan of a multiblock carrier for a block of this need, which is created.
     Create(u32, Planned),
     // A block of this need and name is placed: its carrier, offset and size.
     Put(u32, u32, Option<(u32, u32, u32)>),
+    // A block of this need and name has a singleblock carrier of this plan: the block's carrier,
+    // offset and size.
+    PutSingle(u32, u32, (u32, u32, u32, u32), (u32, u32, u32)),
     // The block of the carrier at the offset is released, and the carrier cleared where that is to
     // follow.
     TakeOut(u32, u32, Released),
+    // The block of the carrier at the offset is resized for this need, under this name.
+    Resize(u32, u32, u32, u32, Decision),
     // The name and size of the block of the carrier at the offset.
     BlockAt(u32, u32, Option<(u32, u32)>),
     Employs(u32, bool),
+    // How many carriers were created.
+    Created(u32),
     FreeUnits(u64),
     MultiFigures(Figures),
+    SingleFigures(Figures),
 }
 
-// An instance and its threshold.
+// An instance that steps are tried on.
 #[derive(Drop)]
 struct Trial {
     instance: Instance,
-    sbct: u32,
-    ghost threshold: { instance.settings.sbct ≡ sbct },
 }
 
 impl Trial {
@@ -76,8 +90,12 @@ impl Trial {
     {
         Ok(Trial {
             instance: Instance::new(alloc, settings, 16, number, first_page, pages)?,
-            sbct: settings.sbct,
         })
+    }
+
+    fn plan(&self, rt: &impl Abort, need: u32) -> Result<CarrierPlan, NoCarrier> {
+        assert!(rt; self.instance.created() < 1000);
+        self.instance.plan_carrier(need)
     }
 
     fn create(
@@ -86,36 +104,62 @@ impl Trial {
         alloc: Global,
         need: u32,
     ) -> Result<Result<CarrierPlan, NoCarrier>, OutOfMemory> {
-        assert!(rt; need <= self.sbct && self.instance.created() < 1000);
+        assert!(rt; self.instance.created() < 1000);
         let plan = match self.instance.plan_carrier(need) {
             Ok(plan) => plan,
             Err(cause) => return Ok(Err(cause)),
         };
-        assert!(rt; 1 <= plan.pages && plan.pages <= MAX_PAGES);
+        assert!(rt; !plan.single);
         let carrier = self.instance.prepare(alloc, plan)?;
         self.instance.create(plan, need, carrier)?;
         Ok(Ok(plan))
+    }
+
+    // The plan of the block's singleblock carrier, and the block's place.
+    fn put_single(
+        &mut self,
+        rt: &impl Abort,
+        need: u32,
+        name: u32,
+    ) -> Result<(CarrierPlan, Place), NoCarrier> {
+        assert!(rt; need >= 6 && need % 2 == 0 && self.instance.created() < 1000);
+        let plan = self.instance.plan_carrier(need)?;
+        assert!(rt; plan.single);
+        let place = self.instance.create_single(plan, need, name);
+        Ok((plan, place))
     }
 
     fn take_out(&mut self, rt: &impl Abort, spot: Spot) -> Result<Released, OutOfMemory> {
         assert!(rt; self.instance.block_at(spot).is_some());
         let released = self.instance.release(spot)?;
         match released {
-            Released::EmptyOwn => self.instance.clear(spot.carrier),
+            Released::EmptyOwn | Released::SingleGone => self.instance.clear(spot.carrier),
             _ => {}
         }
         Ok(released)
     }
 
+    fn resize(
+        &mut self,
+        rt: &impl Abort,
+        spot: Spot,
+        need: u32,
+        name: u32,
+    ) -> Result<Decision, OutOfMemory> {
+        assert!(rt; need >= 6 && need % 2 == 0 && self.instance.block_at(spot).is_some());
+        self.instance.resize(spot, need, name)
+    }
+
     fn step(&mut self, rt: &impl Abort, alloc: Global, step: Step) -> Result<(), OutOfMemory> {
         match step {
+            IsAlone(need, alone) => {
+                assert_eq!(rt; self.instance.is_alone(need), alone, "{step:?}");
+            }
             Plan(need, plan) => {
-                assert!(rt; need <= self.sbct && self.instance.created() < 1000);
-                assert_eq!(rt;
-                    self.instance.plan_carrier(need),
-                    plan.map(plan_of),
-                    "{step:?}"
-                );
+                assert_eq!(rt; self.plan(rt, need), plan.map(plan_of), "{step:?}");
+            }
+            PlanSingle(need, plan) => {
+                assert_eq!(rt; self.plan(rt, need), plan.map(single_plan_of), "{step:?}");
             }
             Create(need, plan) => {
                 assert_eq!(rt;
@@ -132,12 +176,23 @@ impl Trial {
                     "{step:?}"
                 );
             }
+            PutSingle(need, name, plan, place) => {
+                assert_eq!(rt;
+                    self.put_single(rt, need, name),
+                    Ok((single_plan_of(plan), place_of(place))),
+                    "{step:?}"
+                );
+            }
             TakeOut(carrier, offset, released) => {
                 assert_eq!(rt;
                     self.take_out(rt, Spot { carrier, offset })?,
                     released,
                     "{step:?}"
                 );
+            }
+            Resize(carrier, offset, need, name, decision) => {
+                let spot = Spot { carrier, offset };
+                assert_eq!(rt; self.resize(rt, spot, need, name)?, decision, "{step:?}");
             }
             BlockAt(carrier, offset, block) => {
                 let found = self.instance.block_at(Spot { carrier, offset });
@@ -150,8 +205,10 @@ impl Trial {
             Employs(carrier, employs) => {
                 assert_eq!(rt; self.instance.employs(carrier), employs, "{step:?}");
             }
+            Created(count) => assert_eq!(rt; self.instance.created(), count),
             FreeUnits(units) => assert_eq!(rt; self.instance.free_units(), units),
             MultiFigures(figures) => assert_eq!(rt; self.instance.multi_figures(), figures),
+            SingleFigures(figures) => assert_eq!(rt; self.instance.single_figures(), figures),
         }
         Ok(())
     }
@@ -172,6 +229,13 @@ fn plan_of(plan: (u32, u32, u32, u32)) -> CarrierPlan {
         pages,
         birth,
         single: false,
+    }
+}
+
+fn single_plan_of(plan: (u32, u32, u32, u32)) -> CarrierPlan {
+    CarrierPlan {
+        single: true,
+        ..plan_of(plan)
     }
 }
 
@@ -292,5 +356,385 @@ fn an_empty_carrier_is_cleared_but_for_the_main_one(rt: HostRuntime) -> Result<(
     ];
     trial.steps(&rt, rt.alloc(), &steps)?;
     assert_eq!(rt; trial.instance.carrier_line(2), None);
+    Ok(())
+}
+
+// An instance where a block of more than 400 units has a carrier of its own.
+const LOW_THRESHOLD: Settings = Settings {
+    sbct: 400,
+    ..SETTINGS
+};
+
+#[test]
+fn a_block_above_the_threshold_has_a_carrier_of_its_own(rt: HostRuntime) -> Result<(), Fail> {
+    let mut trial = Trial::new(rt.alloc(), LOW_THRESHOLD, 2, 128, 100)?;
+    let steps = [
+        IsAlone(400, false),
+        IsAlone(402, true),
+        // A multiblock carrier has 1024 units at first, a singleblock carrier as few pages as hold
+        // the block and the header.
+        Plan(400, Ok((257, 128, 2, 1))),
+        PlanSingle(402, Ok((257, 128, 1, 1))),
+        PlanSingle(504, Ok((257, 128, 1, 1))),
+        PlanSingle(506, Ok((257, 128, 2, 1))),
+        PutSingle(506, 1, (257, 128, 2, 1), (257, 8, 506)),
+        // A tail of 2 units doesn't make the block larger.
+        PutSingle(502, 2, (258, 130, 1, 2), (258, 8, 502)),
+        BlockAt(257, 8, Some((1, 506))),
+        BlockAt(258, 8, Some((2, 502))),
+        BlockAt(258, 510, None),
+        Employs(257, true),
+        Employs(258, true),
+        Employs(259, false),
+        Created(2),
+    ];
+    trial.steps(&rt, rt.alloc(), &steps)?;
+    Ok(())
+}
+
+#[test]
+fn a_tail_is_free(rt: HostRuntime) -> Result<(), Fail> {
+    let none = Figures {
+        blocks: 0,
+        blocks_size: 0,
+        carriers: 0,
+        carriers_size: 0,
+    };
+    let one = Figures {
+        blocks: 1,
+        blocks_size: 600,
+        carriers: 1,
+        carriers_size: 1024,
+    };
+    let mut trial = Trial::new(rt.alloc(), LOW_THRESHOLD, 1, 0, 100)?;
+    let steps = [
+        SingleFigures(none),
+        PutSingle(600, 1, (1, 0, 2, 1), (1, 8, 600)),
+        FreeUnits(416),
+        SingleFigures(one),
+        MultiFigures(none),
+        Create(20, Ok((2, 2, 2, 2))),
+        FreeUnits(1432),
+        Put(20, 2, Some((2, 8, 20))),
+        FreeUnits(1412),
+        SingleFigures(one),
+        MultiFigures(Figures {
+            blocks: 1,
+            blocks_size: 20,
+            carriers: 1,
+            carriers_size: 1024,
+        }),
+        TakeOut(1, 8, Released::SingleGone),
+        SingleFigures(none),
+        FreeUnits(996),
+    ];
+    trial.steps(&rt, rt.alloc(), &steps)?;
+    Ok(())
+}
+
+#[test]
+fn growth_counts_multiblock_carriers_alone(rt: HostRuntime) -> Result<(), Fail> {
+    let settings = Settings {
+        mmbcs: 1000,
+        ..LOW_THRESHOLD
+    };
+    let mut trial = Trial::new(rt.alloc(), settings, 1, 0, 100)?;
+    let steps = [
+        PutSingle(600, 1, (2, 2, 2, 2), (2, 8, 600)),
+        // The first after the main carrier and a singleblock carrier has 1024 units, the second
+        // 1536.
+        Create(20, Ok((3, 4, 2, 3))),
+        PutSingle(600, 2, (4, 6, 2, 4), (4, 8, 600)),
+        Create(20, Ok((5, 8, 3, 5))),
+    ];
+    trial.steps(&rt, rt.alloc(), &steps)?;
+    Ok(())
+}
+
+#[test]
+fn no_strategy_places_a_block_in_a_tail(rt: HostRuntime) -> Result<(), Fail> {
+    for strategy in [
+        Strategy::Bf,
+        Strategy::Aobf,
+        Strategy::Aoff,
+        Strategy::AoffCbf,
+        Strategy::AoffCaobf,
+        Strategy::AgeffCaoff,
+        Strategy::AgeffCbf,
+        Strategy::AgeffCaobf,
+        Strategy::Gf,
+        Strategy::Af,
+    ] {
+        let settings = Settings {
+            strategy,
+            ..LOW_THRESHOLD
+        };
+        let mut trial = Trial::new(rt.alloc(), settings, 1, 0, 100)?;
+        let steps = [
+            PutSingle(600, 1, (1, 0, 2, 1), (1, 8, 600)),
+            FreeUnits(416),
+            Put(6, 2, None),
+            // The tail is smaller and lower than the gap of the new carrier, and its carrier older.
+            Create(6, Ok((2, 2, 2, 2))),
+            Put(6, 2, Some((2, 8, 6))),
+            BlockAt(1, 608, None),
+        ];
+        trial.steps(&rt, rt.alloc(), &steps)?;
+    }
+    Ok(())
+}
+
+#[test]
+fn a_singleblock_carrier_is_cleared_after_its_block(rt: HostRuntime) -> Result<(), Fail> {
+    let mut trial = Trial::new(rt.alloc(), LOW_THRESHOLD, 1, 0, 5)?;
+    let steps = [
+        PutSingle(600, 1, (1, 0, 2, 1), (1, 8, 600)),
+        PutSingle(1100, 2, (2, 2, 3, 2), (2, 8, 1100)),
+        PlanSingle(402, Err(NoCarrier::Space)),
+        TakeOut(1, 8, Released::SingleGone),
+        Employs(1, false),
+        BlockAt(1, 8, None),
+        BlockAt(2, 8, Some((2, 1100))),
+        // Its number and both its pages are free again, for a carrier of either kind.
+        PlanSingle(1016, Ok((1, 0, 2, 3))),
+        PlanSingle(1018, Err(NoCarrier::Space)),
+        Create(20, Ok((1, 0, 2, 3))),
+        Put(20, 3, Some((1, 8, 20))),
+        TakeOut(2, 8, Released::SingleGone),
+        PutSingle(1528, 4, (2, 2, 3, 4), (2, 8, 1528)),
+        Created(4),
+    ];
+    trial.steps(&rt, rt.alloc(), &steps)?;
+    Ok(())
+}
+
+#[test]
+fn a_singleblock_carrier_needs_a_run_that_holds_it(rt: HostRuntime) -> Result<(), Fail> {
+    let mut trial = Trial::new(rt.alloc(), LOW_THRESHOLD, 1, 0, 6)?;
+    let steps = [
+        Create(20, Ok((1, 0, 2, 1))),
+        PlanSingle(2040, Ok((2, 2, 4, 2))),
+        PlanSingle(2042, Err(NoCarrier::Space)),
+        PutSingle(1500, 1, (2, 2, 3, 2), (2, 8, 1500)),
+        PlanSingle(504, Ok((3, 5, 1, 3))),
+        PlanSingle(506, Err(NoCarrier::Space)),
+        PutSingle(504, 2, (3, 5, 1, 3), (3, 8, 504)),
+        PlanSingle(402, Err(NoCarrier::Space)),
+    ];
+    trial.steps(&rt, rt.alloc(), &steps)?;
+    Ok(())
+}
+
+#[test]
+fn multiblock_and_singleblock_carriers_share_256_numbers(rt: HostRuntime) -> Result<(), Fail> {
+    let settings = Settings {
+        smbcs: 512,
+        lmbcs: 512,
+        ..LOW_THRESHOLD
+    };
+    let mut trial = Trial::new(rt.alloc(), settings, 1, 0, 300)?;
+    for k in 0..128 {
+        let steps = [
+            PutSingle(
+                504,
+                k,
+                (2 * k + 1, 2 * k, 1, 2 * k + 1),
+                (2 * k + 1, 8, 504),
+            ),
+            Create(20, Ok((2 * k + 2, 2 * k + 1, 1, 2 * k + 2))),
+        ];
+        trial.steps(&rt, rt.alloc(), &steps)?;
+    }
+    // Pages are left, and numbers are not.
+    let steps = [
+        PlanSingle(504, Err(NoCarrier::Numbers)),
+        Plan(20, Err(NoCarrier::Numbers)),
+        TakeOut(101, 8, Released::SingleGone),
+        Plan(20, Ok((101, 100, 1, 257))),
+        PlanSingle(504, Ok((101, 100, 1, 257))),
+        PlanSingle(506, Ok((101, 256, 2, 257))),
+        Created(256),
+    ];
+    trial.steps(&rt, rt.alloc(), &steps)?;
+    Ok(())
+}
+
+// The line of a carrier of instance 1: its number, kind, first page, pages, and the units of its
+// blocks and of its largest gap.
+fn line_of(line: (u32, Kind, u32, u32, u32, u32)) -> CarrierLine {
+    let (number, kind, base, pages, allocated, largest) = line;
+    CarrierLine {
+        number,
+        kind,
+        owner: 1,
+        word: Standing::Employed,
+        employer: 1,
+        base,
+        pages,
+        allocated,
+        largest,
+    }
+}
+
+#[test]
+fn lines_of_carriers_of_any_kind_stand_by_rising_number(rt: HostRuntime) -> Result<(), Fail> {
+    let settings = Settings {
+        mmbcs: 1000,
+        ..LOW_THRESHOLD
+    };
+    let mut trial = Trial::new(rt.alloc(), settings, 1, 0, 100)?;
+    let steps = [
+        PutSingle(600, 1, (2, 2, 2, 2), (2, 8, 600)),
+        Create(20, Ok((3, 4, 2, 3))),
+        PutSingle(504, 2, (4, 6, 1, 4), (4, 8, 504)),
+        Put(20, 3, Some((3, 8, 20))),
+        PutSingle(410, 4, (5, 7, 1, 5), (5, 8, 410)),
+        // A multiblock carrier takes the number of a singleblock carrier that is gone, before that
+        // of the two others.
+        TakeOut(2, 8, Released::SingleGone),
+        Create(20, Ok((2, 8, 3, 6))),
+    ];
+    trial.steps(&rt, rt.alloc(), &steps)?;
+    let wanted = [
+        (1, Kind::Main, 0, 2, 0, 1016),
+        (2, Kind::Multi, 8, 3, 0, 1528),
+        (3, Kind::Multi, 4, 2, 20, 996),
+        (4, Kind::Single, 6, 1, 504, 0),
+        (5, Kind::Single, 7, 1, 410, 94),
+    ];
+    let mut lines = List::new(rt.alloc());
+    trial.instance.put_lines(&mut lines)?;
+    assert_eq!(rt; lines.as_slice(), wanted.map(line_of).as_slice());
+    for line in wanted.map(line_of) {
+        assert!(rt; trial.instance.employs(line.number));
+        assert_eq!(rt; trial.instance.carrier_line(line.number), Some(line));
+    }
+    assert_eq!(rt; trial.instance.carrier_line(6), None);
+    Ok(())
+}
+
+#[test]
+fn a_block_of_a_multiblock_carrier_is_resized_in_its_place(rt: HostRuntime) -> Result<(), Fail> {
+    // The set of carriers is asked under the last of these, and bins under good fit.
+    for strategy in [Strategy::Bf, Strategy::Gf, Strategy::AgeffCaobf] {
+        let settings = Settings {
+            strategy,
+            ..SETTINGS
+        };
+        let mut trial = Trial::new(rt.alloc(), settings, 1, 0, 100)?;
+        let steps = [
+            Create(20, Ok((1, 0, 2, 1))),
+            Put(100, 1, Some((1, 8, 100))),
+            Put(100, 2, Some((1, 108, 100))),
+            // It gives back fewer than 6 units, and so none.
+            Resize(1, 8, 100, 3, Decision::Stay),
+            BlockAt(1, 8, Some((3, 100))),
+            Resize(1, 8, 96, 4, Decision::Stay),
+            BlockAt(1, 8, Some((4, 100))),
+            // What it gives back is a gap, in which a block is placed and released.
+            Resize(1, 8, 94, 5, Decision::ShrinkHere),
+            BlockAt(1, 8, Some((5, 94))),
+            Put(6, 6, Some((1, 102, 6))),
+            TakeOut(1, 102, Released::Kept),
+            // It takes the gap back, and the next block lies elsewhere.
+            Resize(1, 8, 100, 7, Decision::GrowHere),
+            BlockAt(1, 8, Some((7, 100))),
+            Put(6, 8, Some((1, 208, 6))),
+            TakeOut(1, 208, Released::Kept),
+            // Of a large gap it takes the front.
+            Resize(1, 108, 108, 9, Decision::GrowHere),
+            BlockAt(1, 108, Some((9, 108))),
+            Put(6, 10, Some((1, 216, 6))),
+            TakeOut(1, 216, Released::Kept),
+            // A rest of 4 units stays in the block, and no gap is left.
+            Resize(1, 108, 912, 11, Decision::GrowHere),
+            BlockAt(1, 108, Some((11, 916))),
+            FreeUnits(0),
+            Put(6, 12, None),
+            // More than half of it would be given back, and then just half.
+            Resize(1, 108, 456, 13, Decision::Move),
+            BlockAt(1, 108, Some((11, 916))),
+            Resize(1, 108, 458, 14, Decision::ShrinkHere),
+            FreeUnits(458),
+            Put(458, 15, Some((1, 566, 458))),
+            BlockAt(1, 8, Some((7, 100))),
+        ];
+        trial.steps(&rt, rt.alloc(), &steps)?;
+    }
+    Ok(())
+}
+
+#[test]
+fn a_block_of_a_singleblock_carrier_is_resized_in_its_place(rt: HostRuntime) -> Result<(), Fail> {
+    let mut trial = Trial::new(rt.alloc(), LOW_THRESHOLD, 1, 0, 100)?;
+    let steps = [
+        PutSingle(600, 1, (1, 0, 2, 1), (1, 8, 600)),
+        // It fills its carrier, and has two units too many.
+        Resize(1, 8, 1016, 2, Decision::GrowHere),
+        FreeUnits(0),
+        Resize(1, 8, 1018, 3, Decision::Move),
+        BlockAt(1, 8, Some((2, 1016))),
+        Resize(1, 8, 500, 4, Decision::ShrinkHere),
+        FreeUnits(516),
+        Resize(1, 8, 500, 5, Decision::Stay),
+        BlockAt(1, 8, Some((5, 500))),
+        // It would have a multiblock carrier if it left four fifths of this one.
+        Resize(1, 8, 196, 6, Decision::Move),
+        Resize(1, 8, 198, 7, Decision::ShrinkHere),
+        BlockAt(1, 8, Some((7, 198))),
+        FreeUnits(818),
+    ];
+    trial.steps(&rt, rt.alloc(), &steps)?;
+    Ok(())
+}
+
+#[test]
+fn a_singleblock_carrier_gives_back_pages_with_its_block(rt: HostRuntime) -> Result<(), Fail> {
+    let settings = Settings {
+        asbcst: 0,
+        ..LOW_THRESHOLD
+    };
+    let mut trial = Trial::new(rt.alloc(), settings, 1, 0, 8)?;
+    let steps = [
+        PutSingle(2000, 1, (1, 0, 4, 1), (1, 8, 2000)),
+        PutSingle(600, 2, (2, 4, 2, 2), (2, 8, 600)),
+        PlanSingle(1018, Err(NoCarrier::Space)),
+        Resize(1, 8, 500, 3, Decision::ShrinkCarrier { pages: 1 }),
+        BlockAt(1, 8, Some((3, 500))),
+        BlockAt(2, 8, Some((2, 600))),
+        FreeUnits(420),
+        SingleFigures(Figures {
+            blocks: 2,
+            blocks_size: 1100,
+            carriers: 2,
+            carriers_size: 1536,
+        }),
+        // Its last three pages are free again, and no more of them.
+        PutSingle(1528, 4, (3, 1, 3, 3), (3, 8, 1528)),
+        PlanSingle(1018, Err(NoCarrier::Space)),
+        TakeOut(1, 8, Released::SingleGone),
+        PlanSingle(504, Ok((1, 0, 1, 4))),
+    ];
+    trial.steps(&rt, rt.alloc(), &steps)?;
+    Ok(())
+}
+
+#[test]
+fn each_block_is_to_move_where_the_settings_say_so(rt: HostRuntime) -> Result<(), Fail> {
+    let settings = Settings {
+        ramv: true,
+        ..LOW_THRESHOLD
+    };
+    let mut trial = Trial::new(rt.alloc(), settings, 1, 0, 100)?;
+    let steps = [
+        Create(20, Ok((1, 0, 2, 1))),
+        Put(100, 1, Some((1, 8, 100))),
+        PutSingle(600, 2, (2, 2, 2, 2), (2, 8, 600)),
+        Resize(1, 8, 100, 3, Decision::Move),
+        Resize(2, 8, 600, 4, Decision::Move),
+        BlockAt(1, 8, Some((1, 100))),
+        BlockAt(2, 8, Some((2, 600))),
+    ];
+    trial.steps(&rt, rt.alloc(), &steps)?;
     Ok(())
 }

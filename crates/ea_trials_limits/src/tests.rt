@@ -114,16 +114,82 @@ fn carriers_text(alloc: Global) -> Result<List<u8>, OutOfMemory> {
     Ok(text)
 }
 
+// The status, the text and the error line.
+fn told<R: Threads + Sync>(
+    rt: &R,
+    alloc: Global,
+    words: &str,
+    input: List<u8>,
+) -> Result<(u8, MemSink, MemSink), NotRun> {
+    let mut source = PlainSource::new(input);
+    let mut out = MemSink::new(alloc, 40_000, 4096, List::new(alloc))?;
+    let mut err = MemSink::new(alloc, 100, 16, List::new(alloc))?;
+    let status = run_words(rt, alloc, words, &mut source, &mut out, &mut err)?;
+    Ok((status, out, err))
+}
+
 #[test]
 fn an_instance_has_256_carriers_at_most(rt: HostRuntime) -> Result<(), Fail> {
     let alloc = rt.alloc();
-    let mut source = PlainSource::new(carriers_input(alloc)?);
-    let mut out = MemSink::new(alloc, 40_000, 4096, List::new(alloc))?;
-    let mut err = MemSink::new(alloc, 100, 16, List::new(alloc))?;
     let words = "+MMscs 512 +MHlmbcs 256 +MHacul 0";
-    let status = run_words(&rt, alloc, words, &mut source, &mut out, &mut err)?;
+    let (status, out, err) = told(&rt, alloc, words, carriers_input(alloc)?)?;
     assert_eq!(rt; status, 0);
     assert_eq!(rt; out.taken(), carriers_text(alloc)?.as_slice());
+    assert_eq!(rt; err.taken(), b"".as_slice());
+    Ok(())
+}
+
+// 257 blocks above the threshold and one below it; two more where two carriers went.
+fn singles_input(alloc: Global) -> Result<List<u8>, OutOfMemory> {
+    let mut input = List::new(alloc);
+    put_text(&mut input, "type H\nscheduler 1\n")?;
+    for name in 1..258 {
+        put_line(&mut input, &[("alloc ", name), (" ", 1017)])?;
+    }
+    put_text(
+        &mut input,
+        "alloc 258 100\nfree 256\nfree 255\nalloc 259 100\nalloc 260 1017\nschedule\nend\n",
+    )?;
+    Ok(input)
+}
+
+fn singles_text(alloc: Global) -> Result<List<u8>, OutOfMemory> {
+    let mut text = List::new(alloc);
+    put_text(&mut text, "scheduler 1\n")?;
+    for name in 1..257 {
+        put_line(&mut text, &[("alloc ", name), (" ", name), (" 8 ", 130)])?;
+    }
+    put_text(
+        &mut text,
+        "alloc 257 fail need 130 looked 0 numbers\nalloc 258 fail need 14 looked 0 numbers\n\
+        free 256 done\nfree 255 done\nalloc 259 255 8 14\nalloc 260 256 8 130\n",
+    )?;
+    for (number, base) in (1..255).zip(0..254) {
+        put_line(
+            &mut text,
+            &[
+                ("carrier ", number),
+                (" single owner 1 employed 1 base ", base),
+                (" pages 1 allocated 130 largest ", 374),
+            ],
+        )?;
+    }
+    put_text(
+        &mut text,
+        "carrier 255 multi owner 1 employed 1 base 254 pages 64 allocated 14 largest 32746\n\
+        carrier 256 single owner 1 employed 1 base 318 pages 1 allocated 130 largest 374\n\
+        total carriers 256 units 163328 live 33164 queued 0 free 128116 header 2048\n",
+    )?;
+    Ok(text)
+}
+
+#[test]
+fn singleblock_carriers_are_among_the_256(rt: HostRuntime) -> Result<(), Fail> {
+    let alloc = rt.alloc();
+    let words = "+MMscs 2 +MHsbct 1 +MHacul 0";
+    let (status, out, err) = told(&rt, alloc, words, singles_input(alloc)?)?;
+    assert_eq!(rt; status, 0);
+    assert_eq!(rt; out.taken(), singles_text(alloc)?.as_slice());
     assert_eq!(rt; err.taken(), b"".as_slice());
     Ok(())
 }

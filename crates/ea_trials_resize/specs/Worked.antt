@@ -2,9 +2,9 @@
 use Rattle.std.specs.Prelude.{ℕ, false}
 use Rattle.ea_model.specs.declared.settings.Settings.{Settings}
 use Rattle.ea_model.specs.declared.settings.Strategy.TheVariants.{AoffCbf}
-use Rattle.ea_resize.specs.Decision.{decision}
-use Rattle.ea_resize.specs.declared.decision.Decision.{Decision}
-use Rattle.ea_resize.specs.declared.decision.Where.TheVariants.{Multi, Single}
+use Rattle.ea_model.specs.Decision.{decision}
+use Rattle.ea_model.specs.declared.reallocation.Decision.{Decision}
+use Rattle.ea_model.specs.declared.reallocation.Where.TheVariants.{Multi, Single}
 
 -- a block above 65536 units has a singleblock carrier, which shrinks where 131072 units are left
 abbrev pub usual : Settings

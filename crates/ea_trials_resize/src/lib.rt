@@ -3,9 +3,9 @@
 
 ghost use Rattle.std.specs.Prelude.{◌≡◌, true};
 ghost use Rattle.ea_model.specs.declared.units.TheConstants.{MAX_UNITS};
-ghost use Rattle.ea_resize.specs.Decision.{decision};
-ghost use Rattle.ea_resize.specs.declared.decision.Decision.TheVariants.{Stay, ShrinkHere, GrowHere, ShrinkCarrier, Move};
-ghost use Rattle.ea_resize.specs.declared.decision.Where.TheVariants.{Foreign, Multi, Single};
+ghost use Rattle.ea_model.specs.Decision.{decision};
+ghost use Rattle.ea_model.specs.declared.reallocation.Decision.TheVariants.{Stay, ShrinkHere, GrowHere, ShrinkCarrier, Move};
+ghost use Rattle.ea_model.specs.declared.reallocation.Where.TheVariants.{Foreign, Multi, Single};
 ghost use Rattle.ea_trials_resize.specs.Worked.{multi, single, usual};
 
 /// Each line of the definition in its order, and its borders from both sides.

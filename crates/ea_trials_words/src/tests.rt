@@ -39,11 +39,6 @@ fn refused_words_are_named_and_nothing_is_read(rt: HostRuntime) -> Result<(), Fa
 
 const FIRST_BLOCK: &str = "type H\nscheduler 1\nalloc 1 100\nschedule\nend\n";
 
-// A need of 66 units, and one of 128, as many as a kilobyte has.
-const HALF_A_KILOBYTE: &str = "type H\nscheduler 1\nalloc 1 520\nschedule\nend\n";
-
-const A_KILOBYTE: &str = "type H\nscheduler 1\nalloc 1 520\nalloc 2 1017\nschedule\nend\n";
-
 const IN_THREADS: &str = "type H\nscheduler 1\nalloc 1 100\nthreads\nend\n";
 
 const GENERATED: &str = "type H\ngenerate 1 100\nend\n";
@@ -63,8 +58,6 @@ fn a_run_that_is_not_built_has_a_status_of_its_own(rt: HostRuntime) -> Result<()
             "+MHacul 0 +S 2",
             "type H\nscheduler 1\nscheduler 2\nschedule\nend\n",
         ),
-        // A block would have a carrier of its own.
-        ("+MHacul 0 +MHsbct 1", A_KILOBYTE),
         // The mode is another, or an operation.
         ("+MHacul 0", IN_THREADS),
         ("+MHacul 0", GENERATED),
@@ -135,9 +128,16 @@ const IN_ONE_CARRIER: &str = "scheduler 1\nalloc 1 1 8 25002\nalloc 2 1 25010 25
     carrier 1 multi owner 1 employed 1 base 0 pages 128 allocated 50004 largest 15524\n\
     total carriers 1 units 65536 live 50004 queued 0 free 15524 header 8\n";
 
-const SMALL_BLOCK: &str = "scheduler 1\nalloc 1 1 8 66\n\
-    carrier 1 multi owner 1 employed 1 base 0 pages 64 allocated 66 largest 32694\n\
-    total carriers 1 units 32768 live 66 queued 0 free 32694 header 8\n";
+// A need of 130 units, two more than a kilobyte has.
+const OVER_A_KILOBYTE: &str = "type H\nscheduler 1\nalloc 1 1017\nschedule\nend\n";
+
+const IN_A_MULTIBLOCK_CARRIER: &str = "scheduler 1\nalloc 1 1 8 130\n\
+    carrier 1 multi owner 1 employed 1 base 0 pages 64 allocated 130 largest 32630\n\
+    total carriers 1 units 32768 live 130 queued 0 free 32630 header 8\n";
+
+const IN_A_SINGLEBLOCK_CARRIER: &str = "scheduler 1\nalloc 1 1 8 130\n\
+    carrier 1 single owner 1 employed 1 base 0 pages 1 allocated 130 largest 374\n\
+    total carriers 1 units 512 live 130 queued 0 free 374 header 8\n";
 
 const LARGE_BLOCK: &str = "type H\nscheduler 1\nalloc 1 600000\nschedule\nend\n";
 
@@ -239,8 +239,17 @@ fn the_later_of_two_settings_holds_in_any_order(rt: HostRuntime) -> Result<(), F
         // With one step of growth the second carrier has the largest size.
         ("+MHacul 0 +MHmbcgs 1", TWO_BLOCKS, IN_1280_PAGES),
         ("+MHacul 0 +MHsmbcs 512", TWO_BLOCKS, IN_ONE_CARRIER),
-        // A block up to the threshold lies in a multiblock carrier.
-        ("+MHacul 0 +MHsbct 1", HALF_A_KILOBYTE, SMALL_BLOCK),
+        // A block up to the threshold lies in a multiblock carrier, and a larger one has its own.
+        (
+            "+MHsbct 1 +MHacul 0 +MHsbct 2",
+            OVER_A_KILOBYTE,
+            IN_A_MULTIBLOCK_CARRIER,
+        ),
+        (
+            "+MHsbct 2 +MHacul 0 +MHsbct 1",
+            OVER_A_KILOBYTE,
+            IN_A_SINGLEBLOCK_CARRIER,
+        ),
         ("+MHsbct 1024 +MHacul 0", LARGE_BLOCK, IN_147_PAGES),
         // One letter, all letters, and settings that have no effect yet.
         ("+Muacul 0 +MHlmbcs 256", TWO_BLOCKS, IN_64_PAGES),

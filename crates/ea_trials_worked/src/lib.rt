@@ -21,6 +21,11 @@ pub fn worked_inputs()
         ≡ Some (codes "scheduler 1\nalloc 1 1 8 14\nalloc 2 1 22 14\nalloc 3 1 36 14\nfree 1 done\nfree 2 done\nalloc 4 1 8 28\ncarrier 1 multi owner 1 employed 1 base 0 pages 64 allocated 42 largest 32718\ntotal carriers 1 units 32768 live 42 queued 0 free 32718 header 8\n") }
     ensures exactly_threshold { output_for small (codes "type H\nscheduler 1\nalloc 1 524280\nschedule\nend\n")
         ≡ Some (codes "scheduler 1\nalloc 1 1 8 65536\ncarrier 1 multi owner 1 employed 1 base 0 pages 129 allocated 65536 largest 504\ntotal carriers 1 units 66048 live 65536 queued 0 free 504 header 8\n") }
+    ensures above_threshold { output_for small (codes "type H\nscheduler 1\nalloc 1 524281\nschedule\nend\n")
+        ≡ Some (codes "scheduler 1\nalloc 1 1 8 65538\ncarrier 1 single owner 1 employed 1 base 0 pages 129 allocated 65538 largest 502\ntotal carriers 1 units 66048 live 65538 queued 0 free 502 header 8\n") }
+    ensures both_kinds { output_for (words (codes "+MHsbct 1 +MHacul 0"))
+        (codes "type H\nscheduler 1\nalloc 1 1017\nalloc 2 5000\nfree 1\nalloc 3 100\nalloc 4 1017\nschedule\nend\n")
+        ≡ Some (codes "scheduler 1\nalloc 1 1 8 130\nalloc 2 2 8 626\nfree 1 done\nalloc 3 1 8 14\nalloc 4 3 8 130\ncarrier 1 multi owner 1 employed 1 base 3 pages 64 allocated 14 largest 32746\ncarrier 2 single owner 1 employed 1 base 1 pages 2 allocated 626 largest 390\ncarrier 3 single owner 1 employed 1 base 0 pages 1 allocated 130 largest 374\ntotal carriers 3 units 34304 live 770 queued 0 free 33510 header 24\n") }
     ensures space_refused { output_for small
         (codes "type H\nscheduler 1\nalloc 1 524280\nalloc 2 524280\nalloc 3 100\nschedule\nend\n")
         ≡ Some (codes "scheduler 1\nalloc 1 1 8 65536\nalloc 2 fail need 65536 looked 0 space\nalloc 3 1 65544 14\ncarrier 1 multi owner 1 employed 1 base 0 pages 129 allocated 65550 largest 490\ntotal carriers 1 units 66048 live 65550 queued 0 free 490 header 8\n") }
@@ -54,12 +59,12 @@ pub fn worked_inputs()
         ≡ None }
     ensures never_made { output_for small (codes "type H\nscheduler 1\nfree 1\nschedule\nend\n")
         ≡ None }
-    ensures above_threshold { is_built_for small (codes "type H\nscheduler 1\nalloc 1 524281\nschedule\nend\n")
-        ≡ false }
     ensures two_schedulers { is_built_for (words (codes "+S 2 +MHacul 0"))
         (codes "type H\nscheduler 1\nscheduler 2\nschedule\nend\n") ≡ false }
     ensures migration { is_built_for [] (codes "type H\nscheduler 1\nschedule\nend\n")
         ≡ false }
+    ensures reallocation { is_built_for small
+        (codes "type H\nscheduler 1\nalloc 1 100\nrealloc 1 2 100\nschedule\nend\n") ≡ false }
     ensures threads { is_built_for small (codes "type H\nscheduler 1\nthreads\nend\n") ≡ false }
     ensures generated { is_built_for small (codes "type H\ngenerate 1 3\nend\n") ≡ false }
     ensures information { is_built_for small

@@ -24,6 +24,14 @@ pub returns-clause-exactly_threshold : goal.returns-clause-exactly_threshold
 unfolding digits unused_from
 returns-clause-exactly_threshold c = refl
 
+pub returns-clause-above_threshold : goal.returns-clause-above_threshold
+unfolding digits unused_from
+returns-clause-above_threshold c = refl
+
+pub returns-clause-both_kinds : goal.returns-clause-both_kinds
+unfolding digits unused_from
+returns-clause-both_kinds c = refl
+
 pub returns-clause-space_refused : goal.returns-clause-space_refused
 unfolding digits unused_from
 returns-clause-space_refused c = refl

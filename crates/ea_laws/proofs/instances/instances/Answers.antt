@@ -1,8 +1,8 @@
-use Rattle.ea_laws.proofs.Blocks.{creating-same, placing-IsPlaced, releasing-gone, releasing-others}
-use Rattle.ea_laws.proofs.Contents.{same-without}
+use Rattle.ea_laws.proofs.Blocks.{clearing-same, creating-same, creating_single-IsPlaced, placing-IsPlaced, releasing-gone, releasing-others}
 use Rattle.ea_laws.proofs.Keeping.{chosen-planned}
+use Rattle.ea_laws.proofs.Reallocating.{resizing-Stands, resizing-begins, resizing-others}
 use Rattle.ea_laws.proofs.Refusals.{plan-numbers, plan-space}
-use Rattle.ea_laws.proofs.Standing.{Stands-IsInOrder, chosen-Stands, chosen_spot-HasGap, clearing-Stands, creating-Stands, new-Stands, releasing-Stands}
+use Rattle.ea_laws.proofs.Standing.{Stands-IsInOrder, chosen-Stands, chosen_spot-HasGap, clearing-Stands, creating-Stands, creating_single-Stands, new-Stands, releasing-Stands}
 use Rattle.ea_laws.proofs.instances.instances.Goals as goal
 
 pub returns-clause-begins : goal.returns-clause-begins
@@ -23,14 +23,27 @@ returns-clause-releases c = λ i spot st.
     (releasing-Stands i spot st, releasing-gone i spot, releasing-others i spot)
 
 pub returns-clause-clears : goal.returns-clause-clears
-returns-clause-clears c = λ i number x st there empty.
-    (clearing-Stands i number x st there, same-without number x i.contents there empty)
+returns-clause-clears c = λ i number x st there vacant.
+    (clearing-Stands i number x st there, clearing-same i number x st there vacant)
 
 pub returns-clause-creates : goal.returns-clause-creates
 returns-clause-creates c = λ i need p st asked. (
   creating-Stands i need p st asked,
   creating-same i need p st asked,
   chosen-planned i need p asked,
+)
+
+pub returns-clause-creates_single : goal.returns-clause-creates_single
+returns-clause-creates_single c = λ i need name p st least even asked. (
+  creating_single-Stands i need p st asked name least even,
+  creating_single-IsPlaced i need name p st asked,
+)
+
+pub returns-clause-resizes : goal.returns-clause-resizes
+returns-clause-resizes c = λ i spot need name st least even some stays. (
+  resizing-Stands i spot need name st least even some,
+  resizing-begins i spot need name some stays,
+  resizing-others i spot need name some,
 )
 
 pub returns-clause-numbers : goal.returns-clause-numbers

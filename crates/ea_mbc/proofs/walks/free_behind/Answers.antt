@@ -1,7 +1,8 @@
 use Rattle.std.proofs.Common.{◌≡◌, ◌+◌, ◌-◌, sym, ◌∙◌, ap, subst, arith}
 use Rattle.std.specs.Prelude.{Some, option_map}
 use Rattle.ea_model.specs.Content.{gaps, gap_at, block_at}
-use Rattle.ea_mbc.proofs.Beside.{block_at-Lies, end_of-block}
+use Rattle.ea_laws.proofs.Resized.{end_of-block}
+use Rattle.ea_mbc.proofs.Beside.{block_at-Lies}
 use Rattle.ea_mbc.proofs.walks.free_behind.Goals as goal
 
 found : (c : goal.After-gap_end)

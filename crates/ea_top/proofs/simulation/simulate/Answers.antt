@@ -1,22 +1,17 @@
 use Rattle.std.proofs.Common.{length, slice_index_or, sym, ap, subst, ◌∙◌, arith}
 use Rattle.ea_model.specs.declared.operations.Op.TheVariants.{Alloc}
 use Rattle.ea_model.specs.Operations.{InRange}
-use Rattle.ea_model.specs.Instance.{Instance}
-use Rattle.ea_laws.proofs.Steps.{step-settings}
 use Rattle.ea_top.proofs.Steps.{run_more}
 use Rattle.ea_top.proofs.Texts.{first-InRange}
 use Rattle.ea_top.proofs.simulation.simulate.Goals as goal
 
 pub loop-op-preserved : goal.loop-op-preserved
 loop-op-preserved c =
-    let (r, shows, rest, settings) = c.loop-op.invariant in
+    let (r, shows, rest) = c.loop-op.invariant in
     let (n, next, there) = c.in_ok-scheduler-2.ensures r shows in (
       n,
       there,
-      sym (run_more _ c.loop-op.op-index _ r n c.loop-op-test.true next)
-          ∙ rest,
-      ap (λ (i : Instance). i.settings) there.instance ∙ step-settings r _ n next
-          ∙ sym (ap (λ (i : Instance). i.settings) shows.instance) ∙ settings,
+      sym (run_more _ c.loop-op.op-index _ r n c.loop-op-test.true next) ∙ rest,
     )
 
 pub step-requires-clause-range : goal.step-requires-clause-range
@@ -25,4 +20,3 @@ step-requires-clause-range c =
     subst (λ ops. InRange (slice_index_or ops c.loop-op.op-index (Alloc 0 0))) (sym same)
     (first-InRange c.args.config.schedulers c.args.trace.now c.requires.trace c.loop-op.op-index (Alloc 0 0)
     (omega (arith, c.loop-op-test.true, ap length same)))
-

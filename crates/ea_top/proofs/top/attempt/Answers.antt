@@ -6,7 +6,7 @@ use Rattle.ea_model.specs.Instance.{instance_of}
 use Rattle.ea_model.specs.Settings.{IsValidConfig, region_pages, settings_of}
 use Rattle.ea_laws.specs.Kept.{Stands}
 use Rattle.ea_laws.proofs.Soundness.{run-Sound}
-use Rattle.ea_laws.proofs.Standing.{new-Stands}
+use Rattle.ea_laws.proofs.Standing.{new-Stands, new-occupied}
 use Rattle.ea_flags.specs.declared.fault.FlagFault.{FlagFault}
 use Rattle.ea_top.proofs.Regions.{region-small}
 use Rattle.ea_top.proofs.top.attempt.Goals as goal
@@ -29,4 +29,4 @@ returns-clause-sound g c = λ config e letter built ops r.
     let read = c.in_ok-config.ensures in
     run-Sound (instance_of config letter)
     (valid-Stands config letter (still_valid _ c.in_ok-config.config config (sym read.config) e read.valid))
-    ops r
+    (new-occupied (settings_of config letter) 1 0 (region_pages config)) ops r

@@ -1,59 +1,70 @@
-use Rattle.std.proofs.Common.{◌≡◌, ◌+◌, ◌*◌, ◌≤◌, false, All, ◌∙◌, ap, sym, subst}
+use Rattle.std.proofs.Common.{◌≡◌, ◌+◌, ◌*◌, ◌≤◌, arith, false, All, ◌∙◌, ap, sym, subst}
 use Rattle.std.specs.Prelude.{IsSome}
 use Rattle.ea_model.specs.declared.units.TheConstants.{MAX_UNITS}
 use Rattle.ea_model.specs.Content.{Content}
-use Rattle.ea_model.specs.Instance.{Instance, chosen_spot, creating, has_content, with_content}
+use Rattle.ea_model.specs.Instance.{Instance, chosen_spot, creating, employed, has_content, with_content}
 use Rattle.ea_laws.specs.Kept.{ContentsApart, IsWhole}
 use Rattle.ea_laws.specs.Spots.{HaveSameBlocks}
 use Rattle.ea_laws.proofs.Keeping.{chosen-planned}
 use Rattle.ea_instance.specs.Kept.{seen_as}
-use Rattle.ea_instance.proofs.Keeping.{blocks-created, entering, few-employed, few-own, free-run, kept-created, low-enough, new-number, others-apart, seen-created, unused-number, whole-pages}
+use Rattle.ea_instance.proofs.Keeping.{blocks-created, entering, few-employed, few-own, free-run, kept-created, low-enough, new-multi, others-apart, seen-created, unused-number, whole-pages}
 use Rattle.ea_instance.proofs.instance.Instance.create.Goals as goal
 
 pub enter-requires-clause-room : goal.enter-requires-clause-room
 enter-requires-clause-room c =
-    few-employed _ _ c.self.inside.own c.self.inside.carriers c.self.inside.created
-    c.self.invariant c.args.need c.args.plan _ c.self.view_is c.requires.plan
+    omega (
+      arith,
+      few-employed _ _ c.self.inside.own c.self.inside.carriers c.self.inside.singles
+          c.self.inside.created c.self.invariant c.args.need c.args.plan _ c.self.view_is
+          c.requires.plan,
+    )
 
 pub enter-requires-clause-number : goal.enter-requires-clause-number
 enter-requires-clause-number c =
     subst (λ (x : Content). has_content x.number c.self.inside.carriers.contents ≡ false)
     (sym c.requires.carrier)
-    (new-number _ _ c.self.inside.own c.self.inside.carriers c.self.inside.created
+    (new-multi _ _ c.self.inside.own c.self.inside.carriers c.self.inside.singles
+    c.self.inside.created
     c.self.invariant c.args.need c.args.plan _ c.self.view_is c.requires.plan)
 
 pub enter-requires-clause-apart : goal.enter-requires-clause-apart
 enter-requires-clause-apart c =
     subst (λ (x : Content). All (ContentsApart x) c.self.inside.carriers.contents)
     (sym c.requires.carrier)
-    (others-apart _ _ c.self.inside.own c.self.inside.carriers c.self.inside.created
+    (others-apart _ _ c.self.inside.own c.self.inside.carriers c.self.inside.singles
+    c.self.inside.created
     c.self.invariant c.args.need c.args.plan _ c.self.view_is c.requires.plan)
 
 pub enter-requires-clause-low : goal.enter-requires-clause-low
 enter-requires-clause-low c =
     subst (λ (x : Content). 512 * x.base + x.units ≤ MAX_UNITS) (sym c.requires.carrier)
-    (low-enough _ _ c.self.inside.own c.self.inside.carriers c.self.inside.created
+    (low-enough _ _ c.self.inside.own c.self.inside.carriers c.self.inside.singles
+    c.self.inside.created
     c.self.invariant c.args.need c.args.plan _ c.self.view_is c.requires.plan)
 
 pub enter-requires-clause-whole : goal.enter-requires-clause-whole
 enter-requires-clause-whole c =
     subst IsWhole (sym c.requires.carrier)
-    (whole-pages _ _ c.self.inside.own c.self.inside.carriers c.self.inside.created
+    (whole-pages _ _ c.self.inside.own c.self.inside.carriers c.self.inside.singles
+    c.self.inside.created
     c.self.invariant c.args.need c.args.plan _ c.self.view_is c.requires.plan)
 
 pub add-requires-clause-room : goal.add-requires-clause-room
 add-requires-clause-room c =
-    few-own _ _ c.self.inside.own c.self.inside.carriers c.self.inside.created
+    few-own _ _ c.self.inside.own c.self.inside.carriers c.self.inside.singles
+    c.self.inside.created
     c.self.invariant c.args.need c.args.plan _ c.self.view_is c.requires.plan
 
 pub add-requires-clause-number : goal.add-requires-clause-number
 add-requires-clause-number c =
-    unused-number _ _ c.self.inside.own c.self.inside.carriers c.self.inside.created
+    unused-number _ _ c.self.inside.own c.self.inside.carriers c.self.inside.singles
+    c.self.inside.created
     c.self.invariant c.args.need c.args.plan _ c.self.view_is c.requires.plan
 
 pub add-requires-clause-found : goal.add-requires-clause-found
 add-requires-clause-found c =
-    free-run _ _ c.self.inside.own c.self.inside.carriers c.self.inside.created
+    free-run _ _ c.self.inside.own c.self.inside.carriers c.self.inside.singles
+    c.self.inside.created
     c.self.invariant c.args.need c.args.plan _ c.self.view_is c.requires.plan
 
 pub invariant_of-self-2 : goal.invariant_of-self-2
@@ -61,21 +72,21 @@ invariant_of-self-2 c =
     let cs = c.self.inside.carriers in
     let carrier = entering c.self.inside.number _ c.args.plan c.args.carrier
     (ap (λ (i : Instance). i.number) c.self.view_is) c.requires.carrier in
-    kept-created _ _ c.self.inside.own cs c.self.inside.created c.self.invariant c.args.need
-    c.args.plan _ c.self.view_is c.requires.plan _ _ c.add.ensures
+    kept-created _ _ c.self.inside.own cs c.self.inside.singles c.self.inside.created c.self.invariant c.args.need
+    c.args.plan _ c.self.view_is c.requires.plan _ c.add.ensures _
     (c.in_ok-enter.ensures.ok
     ∙ ap (λ x. record cs { contents = with_content x cs.contents }) carrier)
 
 now_is : (c : goal.After-self-1)
     → seen_as c.self.inside.settings c.self.inside.number c.add.new.self c.enter.new.self
-    c.args.plan.birth
+    c.self.inside.singles c.args.plan.birth
     ≡ creating c.args.self.now c.args.plan
 now_is c =
     let cs = c.self.inside.carriers in
     let carrier = entering c.self.inside.number _ c.args.plan c.args.carrier
     (ap (λ (i : Instance). i.number) c.self.view_is) c.requires.carrier in
-    seen-created _ _ c.self.inside.own cs c.self.inside.created c.self.invariant c.args.need
-    c.args.plan _ c.self.view_is c.requires.plan _ _ c.add.ensures
+    seen-created _ _ c.self.inside.own cs c.self.inside.singles c.self.inside.created c.self.invariant c.args.need
+    c.args.plan _ c.self.view_is c.requires.plan _ c.add.ensures _
     (c.in_ok-enter.ensures.ok
     ∙ ap (λ x. record cs { contents = with_content x cs.contents }) carrier)
 
@@ -86,6 +97,7 @@ returns-clause-choice c =
 
 pub returns-clause-blocks : goal.returns-clause-blocks
 returns-clause-blocks c =
-    subst (λ (i : Instance). HaveSameBlocks c.args.self.now.contents i.contents) (sym (now_is c))
-    (blocks-created _ _ c.self.inside.own c.self.inside.carriers c.self.inside.created
+    subst (λ (i : Instance). HaveSameBlocks (employed c.args.self.now) (employed i)) (sym (now_is c))
+    (blocks-created _ _ c.self.inside.own c.self.inside.carriers c.self.inside.singles
+    c.self.inside.created
     c.self.invariant c.args.need c.args.plan _ c.self.view_is c.requires.plan)

@@ -6,7 +6,7 @@ pub growth-requires-clause-count : goal.growth-requires-clause-count
 growth-requires-clause-count c =
     omega (
       arith,
-      kept-few _ _ _ _ _ c.self.invariant,
+      kept-few _ _ _ _ _ _ c.self.invariant,
       c.multi_count.ensures.within,
       ap length c.as_slice.ensures,
     )

@@ -1,6 +1,7 @@
 use Rattle.std.proofs.Common.{◌≡◌, sym, ◌∙◌, refl, arith, rules}
 use Rattle.std.specs.Prelude.{Some, None}
 use Rattle.std.proofs.lemmas.List.{get_or_read}
+use Rattle.ea_model.specs.Instance.{employed}
 use Rattle.ea_laws.specs.Run.{spot_held}
 use Rattle.ea_top.proofs.Steps.{some_block, holds_released, shows_freed}
 use Rattle.ea_top.proofs.scheduler.Scheduler.free.Goals as goal
@@ -18,7 +19,7 @@ invariant_of-result-2 c =
     (omega (arith, c.args.self.names, c.requires.name)) c.index.ensures None) ∙ c.in-Some.is in
     record {
       names = search rules;
-      blocks = holds_released c.args.self.instance.contents c.free_at.new.instance.contents
+      blocks = holds_released (employed c.args.self.instance) (employed c.free_at.new.instance)
           c.args.self.spots.items c.args.name c.in-Some.spot
           (omega (arith, c.args.self.names, c.requires.name)) here c.in_ok-free_at.ensures.others
           c.args.self.blocks;

@@ -1,0 +1,103 @@
+//! The singleblock carriers that an instance employs.
+ghost use Rattle.std.specs.Prelude.{◌≡◌, ◌+◌, ◌*◌, ◌<◌, ◌≤◌, [], IfOk, IfSome, IsSome, false, length};
+ghost use Rattle.ea_model.specs.declared.units.TheConstants.{HEADER_UNITS, NUMBERS, PAGE_UNITS};
+ghost use Rattle.ea_model.specs.Content.{allocated, released, resized};
+ghost use Rattle.ea_model.specs.Instance.{block_in, changed, content_of, has_content, with_content, without_content};
+
+use ea_model::keyed::{enter_within, index_of, take_out};
+use ea_model::{NUMBERS, OutOfMemory};
+use ea_sbc::Sbc;
+use std::alloc::Global;
+use std::marker::Model;
+
+/// The singleblock carriers that an instance employs. Contracts see their contents by rising
+/// number.
+#[derive(Drop)]
+pub struct Singles {
+    list: Vec<Sbc>,
+}
+
+impl Model for Singles {
+    ghost use Rattle.std.specs.Prelude.{◌≤◌, List, vec_capacity};
+    ghost use Rattle.ea_model.specs.declared.units.TheConstants.{NUMBERS};
+    ghost use Rattle.ea_model.specs.Content.{Content};
+    ghost use Rattle.ea_laws.specs.Kept.{IsRising};
+
+    ghost Value = { List Content };
+
+    ghost view = { λ s. s.list.items };
+
+    ghost invariant = { λ s. record {
+      room : NUMBERS ≤ vec_capacity s.list;
+      rising : IsRising s.list.items;
+    } };
+}
+
+impl Singles {
+    /// No carriers. It takes the memory for as many as an instance has numbers.
+    pub fn new(alloc: Global) -> Result<Singles, OutOfMemory>
+        ensures { IfOk result (λ s. s ≡ []) }
+    {
+        Ok(Singles {
+            list: Vec::with_capacity(alloc, NUMBERS as usize)?,
+        })
+    }
+
+    /// The carriers, by rising number.
+    pub fn as_slice(&self) -> &[Sbc]
+        ensures { result.now ≡ self.now }
+    {
+        &self.list
+    }
+
+    /// Puts a carrier among the others, by its number.
+    pub fn enter(&mut self, carrier: Sbc)
+        requires room { length self.old < NUMBERS }
+        requires number { has_content carrier.number self.old ≡ false }
+        ensures { self.new ≡ with_content carrier self.old }
+    {
+        enter_within(carrier, &mut self.list);
+    }
+
+    /// Releases the block at the offset in the carrier with the number.
+    pub fn release(&mut self, number: u32, offset: u32)
+        requires { IsSome (block_in self.old (record { carrier = number; offset = offset })) }
+        ensures { self.new ≡ changed (λ c. released c offset) number self.old }
+    {
+        let index = index_of(number, &self.list);
+        self.list[index].release(offset);
+    }
+
+    /// The block of the carrier with the number has that many units and this name from now on.
+    pub fn resize(&mut self, number: u32, size: u32, name: u32)
+        requires block { IsSome (block_in self.old
+            (record { carrier = number; offset = HEADER_UNITS })) }
+        requires fits { IfSome (content_of self.old number) (λ c. HEADER_UNITS + size ≤ c.units) }
+        ensures { self.new ≡ changed (λ c. resized c HEADER_UNITS size name) number self.old }
+    {
+        let index = index_of(number, &self.list);
+        self.list[index].resize(size, name);
+    }
+
+    /// The carrier with the number has that many pages from now on: its block still fits, and they
+    /// aren't more.
+    pub fn shorten(&mut self, number: u32, pages: u32)
+        requires there { IsSome (content_of self.old number) }
+        requires fits { IfSome (content_of self.old number)
+            (λ c. HEADER_UNITS + allocated c.blocks ≤ PAGE_UNITS * pages) }
+        requires fewer { IfSome (content_of self.old number) (λ c. PAGE_UNITS * pages ≤ c.units) }
+        ensures { self.new
+            ≡ changed (λ c. record c { units = PAGE_UNITS * pages }) number self.old }
+    {
+        let index = index_of(number, &self.list);
+        self.list[index].shrink_to(pages);
+    }
+
+    /// Takes out the carrier with the number, which is there.
+    pub fn leave(&mut self, number: u32)
+        requires { IsSome (content_of self.old number) }
+        ensures { self.new ≡ without_content number self.old }
+    {
+        take_out(number, &mut self.list);
+    }
+}

@@ -1,0 +1,438 @@
+-- What a reallocation in place keeps, and what it changes.
+use Rattle.std.proofs.Common.{◌≡◌, ◌≢◌, ℕ, ◌+◌, ◌*◌, ◌%◌, ◌/◌, ◌<◌, ◌≤◌, List, [], ◌∷◌, All, AllPairs, map, sym, ap, ◌∙◌, subst, refl, inl, inr, arith}
+use Rattle.std.specs.Prelude.{Option, Some, None, IsSome, option_map}
+use Rattle.std.proofs.lemmas.Bool.{cases_eq, cond_both}
+use Rattle.ea_model.specs.declared.carriers.BlockAt.{BlockAt}
+use Rattle.ea_model.specs.declared.carriers.Spot.{Spot}
+use Rattle.ea_model.specs.declared.reallocation.Decision.{Decision}
+use Rattle.ea_model.specs.declared.reallocation.Decision.TheVariants.{Stay, ShrinkHere, GrowHere, ShrinkCarrier, Move}
+use Rattle.ea_model.specs.declared.reallocation.Where.TheVariants.{Multi, Single}
+use Rattle.ea_model.specs.declared.settings.Settings.{Settings}
+use Rattle.ea_model.specs.Content.{Content, Tiled, block_at, gap_behind, resized, size_of}
+use Rattle.ea_model.specs.Decision.{decision, size_after}
+use Rattle.ea_model.specs.Instance.{Instance, block_in, changed, content_of, decision_at, employed, own_of, resized_by, resized_in, resized_to, resizing_at, shortened, size_at, where_at, where_in}
+use Rattle.ea_model.specs.Keyed.{changed_at, has_key}
+use Rattle.ea_model.specs.Units.{pages_for}
+use Rattle.ea_model.proofs.Merged.{merged-apart, merged-second}
+use Rattle.ea_model.proofs.Options.{same-some, some_value}
+use Rattle.ea_model.proofs.Rising.{change, changed-found, changed_here, item_at-All, item_at-changed, item_at-key, item_past, none-other, rising-changed}
+use Rattle.ea_laws.specs.Kept.{number_of, BornApart, HasOneBlock, IsBornBy, IsLaidOut, IsLaidOutAlone, Stands}
+use Rattle.ea_laws.specs.Spots.{HaveSameBlocks, IsOther}
+use Rattle.ea_laws.proofs.Apart.{births-changed, born-changed, changed-All}
+use Rattle.ea_laws.proofs.BlockLists.{offset_of}
+use Rattle.ea_laws.proofs.CarrierSegments.{with_pages}
+use Rattle.ea_laws.proofs.Changed.{KeepsPlace, block_in-here, block_in-others, resized-keeps}
+use Rattle.ea_laws.proofs.Contents.{block_among}
+use Rattle.ea_laws.proofs.Employed.{employed-changed, employed-shortened}
+use Rattle.ea_laws.proofs.Keeping.{IsKept-shortened}
+use Rattle.ea_laws.proofs.Owned.{own-shortened, with_units}
+use Rattle.ea_laws.proofs.Resized.{grown-tiled, renamed-tiled, resized-begins, resized-others, shrunk-tiled, with_size}
+use Rattle.ea_laws.proofs.Standing.{changing-Stands, employed-multi, employed-own, employed-rising}
+
+-- what is decided of a block of `old` units in a multiblock carrier that is to have `fresh`
+abbrev DecidesMulti : ℕ → ℕ → ℕ → Decision → Type 0
+DecidesMulti old fresh behind Stay = Unit {0}
+DecidesMulti old fresh behind ShrinkHere = fresh + 6 ≤ old
+DecidesMulti old fresh behind GrowHere = (old < fresh) × (fresh ≤ old + behind)
+DecidesMulti old fresh behind (ShrinkCarrier pages) = ⊥
+DecidesMulti old fresh behind Move = Unit {0}
+
+-- and of one in a singleblock carrier
+abbrev DecidesSingle : ℕ → ℕ → ℕ → Decision → Type 0
+DecidesSingle old fresh units Stay = (fresh ≡ old) × (8 + fresh ≤ units)
+DecidesSingle old fresh units ShrinkHere = (fresh < old) × (8 + fresh ≤ units)
+DecidesSingle old fresh units GrowHere = (old < fresh) × (8 + fresh ≤ units)
+DecidesSingle old fresh units (ShrinkCarrier pages) =
+    (pages ≡ pages_for (8 + fresh)) × (pages < pages_for units)
+DecidesSingle old fresh units Move = Unit {0}
+
+decides_multi : (s : Settings) (old fresh behind : ℕ)
+    → DecidesMulti old fresh behind (decision s old fresh (Multi behind))
+decides_multi s old fresh behind = grind arith
+
+decides_single : (s : Settings) (old fresh units : ℕ)
+    → DecidesSingle old fresh units (decision s old fresh (Single units))
+decides_single s old fresh units = grind arith
+
+-- a singleblock carrier that still holds its block has fewer pages
+module _ (i : Instance) (number pages : ℕ) (c : Content) (st : Stands i)
+    (others : content_of i.contents number ≡ None) (there : content_of i.singles number ≡ Some c)
+    (some : 1 ≤ pages) (fewer : 512 * pages < c.units)
+    (holds : HasOneBlock (512 * pages) c.blocks) where
+  alone_in : IsLaidOutAlone c
+  alone_in = item_at-All number_of IsLaidOutAlone number c i.singles st.alone there
+
+  employed_in : content_of (employed i) number ≡ Some c
+  employed_in = merged-second number_of number i.contents i.singles others ∙ there
+
+  less_alone : (d : Content) → content_of i.singles number ≡ Some d
+      → IsLaidOutAlone (with_units pages d)
+  less_alone d is =
+      subst (λ x. IsLaidOutAlone (with_units pages x))
+      (same-some (content_of i.singles number) c d there is)
+      (record {
+        whole = (omega arith, omega (arith, some));
+        single = alone_in.single;
+        block = holds;
+        low = omega (arith, fewer, alone_in.low);
+      })
+
+  pub shortened-Stands : Stands (shortened i number pages)
+  shortened-Stands =
+      let f = with_units pages in
+      let is = employed-shortened i number pages (none-other number_of number i.contents others) in
+      record {
+        kept = IsKept-shortened i.settings i.number number i.first i.end pages (own_of c) i.own
+            st.kept (employed-own i number c st employed_in) some
+            (omega (arith, fewer, alone_in.whole.0));
+        agrees = ap (with_pages number pages) st.agrees ∙ own-shortened number pages (employed i)
+            ∙ sym (ap (map own_of) is);
+        rising = st.rising;
+        rising_singles = rising-changed number_of f number (λ _. refl) i.singles st.rising_singles;
+        sound = st.sound;
+        alone = changed-All IsLaidOutAlone f number i.singles st.rising_singles st.alone less_alone;
+        births = subst (AllPairs BornApart) (sym is)
+            (births-changed f (λ _. refl) number (employed i) st.births);
+        born = subst (All (IsBornBy i.created)) (sym is)
+            (born-changed f (λ _. refl) number i.created (employed i) st.born);
+      }
+
+-- a block of a multiblock carrier
+module _ (i : Instance) (spot : Spot) (need : ℕ) (c : Content) (b : BlockAt) (st : Stands i)
+    (there : content_of i.contents spot.carrier ≡ Some c)
+    (found : block_at c.blocks spot.offset ≡ Some b) where
+  -- its size, and what is decided of it
+  pub multi-size : size_at i spot ≡ b.size
+  multi-size = ap (λ o. size_of (block_among spot.offset o))
+      (employed-multi i spot.carrier c st there)
+      ∙ ap size_of found
+
+  pub multi-where : where_at i spot ≡ Multi (gap_behind c spot.offset)
+  multi-where = ap (λ o. where_in spot.offset o (content_of i.singles spot.carrier)) there
+
+  pub multi-decided : decision_at i spot need
+      ≡ decision i.settings b.size need (Multi (gap_behind c spot.offset))
+  multi-decided = ap (λ n. decision i.settings n need (where_at i spot)) multi-size
+      ∙ ap (decision i.settings b.size need) multi-where
+
+  pub multi-resized_to : resized_to i spot need
+      ≡ size_after (decision_at i spot need) b.size need (Multi (gap_behind c spot.offset))
+  multi-resized_to =
+      ap (λ n. size_after (decision_at i spot need) n need (where_at i spot)) multi-size
+      ∙ ap (size_after (decision_at i spot need) b.size need) multi-where
+
+  multi_decides : (d : Decision) → decision_at i spot need ≡ d
+      → DecidesMulti b.size need (gap_behind c spot.offset) d
+  multi_decides d e = subst (DecidesMulti b.size need (gap_behind c spot.offset))
+      (sym multi-decided ∙ e) (decides_multi i.settings b.size need (gap_behind c spot.offset))
+
+  -- it shrinks by 6 units at least, it grows into the gap behind it, and its carrier keeps its
+  -- pages
+  pub multi-shrinks : decision_at i spot need ≡ ShrinkHere → need + 6 ≤ b.size
+  multi-shrinks e = multi_decides ShrinkHere e
+
+  pub multi-grows : decision_at i spot need ≡ GrowHere
+      → (b.size < need) × (need ≤ b.size + gap_behind c spot.offset)
+  multi-grows e = multi_decides GrowHere e
+
+  module _ (name : ℕ) (least : 6 ≤ need) (even : need % 2 ≡ 0) where
+    laid_in : IsLaidOut c
+    laid_in = item_at-All number_of IsLaidOut spot.carrier c i.contents st.sound there
+
+    multi_resized : (size : ℕ) → Tiled 8 c.units (resized c spot.offset size name).blocks
+        → Stands (resized_in i spot size name)
+    multi_resized size tiled =
+        let n = spot.carrier in
+        changing-Stands (λ x. resized x spot.offset size name) (resized-keeps spot.offset size name)
+        n i st
+        (λ d is. subst (λ x. IsLaidOut (resized x spot.offset size name))
+        (same-some (content_of i.contents n) c d there is)
+        (record {
+          whole = laid_in.whole;
+          shared = laid_in.shared;
+          tiled = tiled;
+          low = laid_in.low;
+        }))
+        (λ d is. absurd (item_at-All number_of (λ x. x.number ≢ n) n d i.singles
+        (merged-apart number_of n c i.contents i.singles (employed-rising i st) there) is
+        (item_at-key number_of n d i.singles is)))
+
+    multi_by : (d : Decision) → DecidesMulti b.size need (gap_behind c spot.offset) d
+        → Stands (resized_by d i spot
+        (size_after d b.size need (Multi (gap_behind c spot.offset))) name)
+    multi_by Stay h = multi_resized b.size
+        (renamed-tiled c spot.offset name b laid_in.tiled found)
+    multi_by ShrinkHere h = multi_resized need
+        (shrunk-tiled c spot.offset need name b laid_in.tiled found h even least)
+    multi_by GrowHere h = multi_resized _
+        (grown-tiled c spot.offset need name b laid_in.tiled found h.0 even h.1)
+    multi_by (ShrinkCarrier pages) h = absurd h
+    multi_by Move h = st
+
+    pub multi-Stands : Stands (resizing_at i spot need name)
+    multi-Stands =
+        let d = decision_at i spot need in
+        subst (λ n. Stands (resized_by d i spot n name)) (sym multi-resized_to)
+        (multi_by d (multi_decides d refl))
+
+-- a block alone that gets a size that fits
+one_resized : (units more offset size name : ℕ) (b : BlockAt) (bs : List BlockAt)
+    → HasOneBlock units bs → block_at bs offset ≡ Some b → 6 ≤ size → size % 2 ≡ 0
+    → 8 + size ≤ more → HasOneBlock more (changed_at offset_of (with_size size name) offset bs)
+one_resized units more offset size name b [] h found least even fits = tt
+one_resized units more offset size name b (x ∷ []) h found least even fits =
+    elim (cases_eq x.offset offset) [
+      | inl e ↦ subst (HasOneBlock more)
+          (sym (changed_here offset_of (with_size size name) offset x [] e))
+          (h.0, least, even, fits)
+      | inr n ↦ absurd
+          (let e : None ≡ Some b = sym (item_past offset_of offset x [] n) ∙ found in cc)
+    ]
+one_resized units more offset size name b (x ∷ y ∷ bs) h found least even fits = absurd h
+
+-- the block of a singleblock carrier
+module _ (i : Instance) (spot : Spot) (need : ℕ) (c : Content) (b : BlockAt) (st : Stands i)
+    (others : content_of i.contents spot.carrier ≡ None)
+    (there : content_of i.singles spot.carrier ≡ Some c)
+    (found : block_at c.blocks spot.offset ≡ Some b) where
+  -- its size, and what is decided of it
+  pub single-size : size_at i spot ≡ b.size
+  single-size = ap (λ o. size_of (block_among spot.offset o))
+      (merged-second number_of spot.carrier i.contents i.singles others ∙ there) ∙ ap size_of found
+
+  pub single-where : where_at i spot ≡ Single c.units
+  single-where = ap (λ o. where_in spot.offset o (content_of i.singles spot.carrier)) others
+      ∙ ap (where_in spot.offset None) there
+
+  pub single-decided : decision_at i spot need
+      ≡ decision i.settings b.size need (Single c.units)
+  single-decided = ap (λ n. decision i.settings n need (where_at i spot)) single-size
+      ∙ ap (decision i.settings b.size need) single-where
+
+  pub single-resized_to : resized_to i spot need
+      ≡ size_after (decision_at i spot need) b.size need (Single c.units)
+  single-resized_to =
+      ap (λ n. size_after (decision_at i spot need) n need (where_at i spot)) single-size
+      ∙ ap (size_after (decision_at i spot need) b.size need) single-where
+
+  single_decides : (d : Decision) → decision_at i spot need ≡ d
+      → DecidesSingle b.size need c.units d
+  single_decides d e = subst (DecidesSingle b.size need c.units)
+      (sym single-decided ∙ e) (decides_single i.settings b.size need c.units)
+
+  laid_alone : IsLaidOutAlone c
+  laid_alone = item_at-All number_of IsLaidOutAlone spot.carrier c i.singles st.alone there
+
+  -- it stays where it has the units already, and its carrier holds what it is to have
+  pub single-stays : decision_at i spot need ≡ Stay → need ≡ b.size
+  single-stays e = (single_decides Stay e).0
+
+  fits_by : (d : Decision) → d ≢ Move → DecidesSingle b.size need c.units d → 8 + need ≤ c.units
+  fits_by Stay not h = h.1
+  fits_by ShrinkHere not h = h.1
+  fits_by GrowHere not h = h.1
+  fits_by (ShrinkCarrier pages) not h = omega (arith, h.0, h.1, laid_alone.whole.0)
+  fits_by Move not h = absurd (not refl)
+
+  pub single-fits : decision_at i spot need ≢ Move → 8 + need ≤ c.units
+  single-fits not = fits_by (decision_at i spot need) not
+      (single_decides (decision_at i spot need) refl)
+
+  -- its carrier has fewer pages then, as many as it needs
+  pub single-shortens : (pages : ℕ) → decision_at i spot need ≡ ShrinkCarrier pages
+      → (pages ≡ pages_for (8 + need)) × (1 ≤ pages) × (512 * pages < c.units)
+      × (pages < c.units / 512) × (8 + need ≤ 512 * pages)
+  single-shortens pages e =
+      let h = single_decides (ShrinkCarrier pages) e in (
+        h.0,
+        omega (arith, h.0),
+        omega (arith, h.1, laid_alone.whole.0),
+        omega (arith, h.1, laid_alone.whole.0),
+        omega (arith, h.0),
+      )
+
+  module _ (name : ℕ) (least : 6 ≤ need) (even : need % 2 ≡ 0) where
+    one_in : (units size : ℕ) → 6 ≤ size → size % 2 ≡ 0 → 8 + size ≤ units
+        → HasOneBlock units (resized c spot.offset size name).blocks
+    one_in units size =
+        one_resized c.units units spot.offset size name b c.blocks laid_alone.block found
+
+    -- its block has a size that fits
+    single_resized : (size : ℕ) → 6 ≤ size → size % 2 ≡ 0 → 8 + size ≤ c.units
+        → Stands (resized_in i spot size name)
+    single_resized size least even fits =
+        let n = spot.carrier in
+        changing-Stands (λ x. resized x spot.offset size name) (resized-keeps spot.offset size name)
+        n i st
+        (λ d is. absurd (let e : None ≡ Some d = sym others ∙ is in cc))
+        (λ d is. subst (λ x. IsLaidOutAlone (resized x spot.offset size name))
+        (same-some (content_of i.singles n) c d there is)
+        (record {
+          whole = laid_alone.whole;
+          single = laid_alone.single;
+          block = one_in c.units size least even fits;
+          low = laid_alone.low;
+        }))
+
+    -- and its carrier has fewer pages
+    single_shortened : (pages : ℕ) → decision_at i spot need ≡ ShrinkCarrier pages
+        → Stands (shortened (resized_in i spot need name) spot.carrier pages)
+    single_shortened pages e =
+        let n = spot.carrier in
+        let f : Content → Content = λ x. resized x spot.offset need name in
+        let less = single-shortens pages e in
+        shortened-Stands (resized_in i spot need name) n pages (f c)
+        (single_resized need least even (omega (arith, less.2, less.4)))
+        (item_at-changed number_of f n (λ _. refl) n i.contents
+        ∙ ap (option_map (change number_of f n)) others)
+        (changed-found number_of f n (λ _. refl) c i.singles there) less.1 less.2
+        (one_in (512 * pages) need least even less.4)
+
+    single_by : (d : Decision) → decision_at i spot need ≡ d
+        → Stands (resized_by d i spot (size_after d b.size need (Single c.units)) name)
+    single_by Stay e =
+        let h = single_decides Stay e in
+        subst (λ n. Stands (resized_in i spot n name)) h.0 (single_resized need least even h.1)
+    single_by ShrinkHere e = single_resized need least even (single_decides ShrinkHere e).1
+    single_by GrowHere e = single_resized need least even (single_decides GrowHere e).1
+    single_by (ShrinkCarrier pages) e = single_shortened pages e
+    single_by Move e = st
+
+    pub single-Stands : Stands (resizing_at i spot need name)
+    single-Stands =
+        let d = decision_at i spot need in
+        subst (λ n. Stands (resized_by d i spot n name)) (sym single-resized_to)
+        (single_by d refl)
+
+-- the content and the block that are there
+found_in : (offset : ℕ) (o : Option Content) → IsSome (block_among offset o)
+    → (c : Content) × (b : BlockAt) × (o ≡ Some c) × (block_at c.blocks offset ≡ Some b)
+found_in offset None h = absurd cc
+found_in offset (Some c) h =
+    let v = some_value (block_at c.blocks offset) h in (c, v.0, refl, v.1)
+
+-- an instance stands after a reallocation in place, and after one that is to move
+module _ (i : Instance) (spot : Spot) (need name : ℕ) (st : Stands i) (least : 6 ≤ need)
+    (even : need % 2 ≡ 0) (some : IsSome (block_in (employed i) spot)) where
+  stands_by : (o : Option Content) → content_of i.contents spot.carrier ≡ o
+      → Stands (resizing_at i spot need name)
+  stands_by (Some c) there =
+      let has : IsSome (block_at c.blocks spot.offset) = subst
+      (λ o. IsSome (block_among spot.offset o)) (employed-multi i spot.carrier c st there) some in
+      let v = some_value (block_at c.blocks spot.offset) has in
+      multi-Stands i spot need c v.0 st there v.1 name least even
+  stands_by None others =
+      let has : IsSome (block_among spot.offset (content_of i.singles spot.carrier)) = subst
+      (λ o. IsSome (block_among spot.offset o))
+      (merged-second number_of spot.carrier i.contents i.singles others) some in
+      let v = found_in spot.offset (content_of i.singles spot.carrier) has in
+      single-Stands i spot need v.0 v.1 st others v.2 v.3 name least even
+
+  pub resizing-Stands : Stands (resizing_at i spot need name)
+  resizing-Stands = stands_by (content_of i.contents spot.carrier) refl
+
+-- only a singleblock carrier has fewer pages
+alone_by : (i : Instance) (spot : Spot) (need pages : ℕ) (o : Option Content)
+    → content_of i.contents spot.carrier ≡ o → decision_at i spot need ≡ ShrinkCarrier pages
+    → o ≡ None
+alone_by i spot need pages None e d = refl
+alone_by i spot need pages (Some c) e d =
+    let old = size_at i spot in
+    let gap = gap_behind c spot.offset in
+    let multi : where_at i spot ≡ Multi gap =
+    ap (λ o. where_in spot.offset o (content_of i.singles spot.carrier)) e in
+    absurd (subst (DecidesMulti old need gap)
+    (sym (ap (decision i.settings old need) multi) ∙ d) (decides_multi i.settings old need gap))
+
+pub shortened-alone : (i : Instance) (spot : Spot) (need pages : ℕ)
+    → decision_at i spot need ≡ ShrinkCarrier pages → content_of i.contents spot.carrier ≡ None
+shortened-alone i spot need pages d =
+    alone_by i spot need pages (content_of i.contents spot.carrier) refl d
+
+-- no block changes where a carrier has other units
+same_block : (offset number pages : ℕ) (o : Option Content)
+    → block_among offset (option_map (change number_of (with_units pages) number) o)
+    ≡ block_among offset o
+same_block offset number pages None = refl
+same_block offset number pages (Some c) =
+    cond_both (has_key number_of number c) (with_units pages c) c
+    (λ x. block_at x.blocks offset ≡ block_at c.blocks offset) (λ _. refl) (λ _. refl)
+
+same_blocks : (number pages : ℕ) (cs : List Content)
+    → HaveSameBlocks cs (changed (with_units pages) number cs)
+same_blocks number pages cs at =
+    ap (block_among at.offset)
+    (item_at-changed number_of (with_units pages) number (λ _. refl) at.carrier cs)
+    ∙ same_block at.offset number pages (content_of cs at.carrier)
+
+-- a reallocation in place changes one block alone
+module _ (i : Instance) (spot : Spot) (size name : ℕ) where
+  abbrev with_new : Content → Content
+  with_new c = resized c spot.offset size name
+
+  keeps_in : KeepsPlace with_new
+  keeps_in = resized-keeps spot.offset size name
+
+  blocks_by : (d : Decision) → d ≢ Move
+      → ((pages : ℕ) → d ≡ ShrinkCarrier pages → content_of i.contents spot.carrier ≡ None)
+      → HaveSameBlocks (changed with_new spot.carrier (employed i))
+      (employed (resized_by d i spot size name))
+  blocks_by Stay stays alone at =
+      ap (λ cs. block_in cs at) (employed-changed with_new keeps_in spot.carrier i)
+  blocks_by ShrinkHere stays alone at =
+      ap (λ cs. block_in cs at) (employed-changed with_new keeps_in spot.carrier i)
+  blocks_by GrowHere stays alone at =
+      ap (λ cs. block_in cs at) (employed-changed with_new keeps_in spot.carrier i)
+  blocks_by (ShrinkCarrier pages) stays alone at =
+      let j = resized_in i spot size name in
+      let others : content_of j.contents spot.carrier ≡ None =
+      item_at-changed number_of with_new spot.carrier (λ _. refl) spot.carrier i.contents
+      ∙ ap (option_map (change number_of with_new spot.carrier)) (alone pages refl) in
+      ap (λ cs. block_in cs at) (employed-shortened j spot.carrier pages
+      (none-other number_of spot.carrier j.contents others))
+      ∙ same_blocks spot.carrier pages (employed j) at
+      ∙ ap (λ cs. block_in cs at) (employed-changed with_new keeps_in spot.carrier i)
+  blocks_by Move stays alone at = absurd (stays refl)
+
+module _ (i : Instance) (spot : Spot) (need name : ℕ)
+    (some : IsSome (block_in (employed i) spot)) where
+  found_here : (c : Content) × (b : BlockAt) × (content_of (employed i) spot.carrier ≡ Some c)
+      × (block_at c.blocks spot.offset ≡ Some b)
+  found_here = found_in spot.offset (content_of (employed i) spot.carrier) some
+
+  abbrev size_then : ℕ
+  size_then = resized_to i spot need
+
+  blocks_then : decision_at i spot need ≢ Move
+      → HaveSameBlocks (changed (with_new i spot size_then name) spot.carrier (employed i))
+      (employed (resizing_at i spot need name))
+  blocks_then stays = blocks_by i spot size_then name (decision_at i spot need) stays
+      (λ pages. shortened-alone i spot need pages)
+
+  -- the block has the units that are decided and the new name
+  pub resizing-begins : decision_at i spot need ≢ Move
+      → block_in (employed (resizing_at i spot need name)) spot
+      ≡ Some (record { name = name; offset = spot.offset; size = resized_to i spot need })
+  resizing-begins stays =
+      let v = found_here in
+      blocks_then stays spot
+      ∙ block_in-here (with_new i spot size_then name) (keeps_in i spot size_then name) spot.carrier
+      (employed i) v.0 spot v.2 refl
+      ∙ resized-begins v.0 spot.offset size_then name v.1 v.3
+
+  -- and other blocks stay
+  others_by : (d : Decision) → decision_at i spot need ≡ d → (at : Spot)
+      → IsOther spot.carrier spot.offset at
+      → block_in (employed (resizing_at i spot need name)) at ≡ block_in (employed i) at
+  others_by Move e at other =
+      ap (λ d. block_in (employed (resized_by d i spot size_then name)) at) e
+  others_by d e at other =
+      let v = found_here in
+      blocks_then (λ m. absurd (let f : d ≡ Move = sym e ∙ m in cc)) at
+      ∙ block_in-others (with_new i spot size_then name) (keeps_in i spot size_then name)
+      spot.carrier (employed i) v.0 spot.offset at v.2
+      (λ offset n. resized-others v.0 spot.offset size_then name offset n) other
+
+  pub resizing-others : (at : Spot) → IsOther spot.carrier spot.offset at
+      → block_in (employed (resizing_at i spot need name)) at ≡ block_in (employed i) at
+  resizing-others at other = others_by (decision_at i spot need) refl at other
