@@ -1,0 +1,94 @@
+-- Where blocks are placed.
+use Rattle.std.specs.Prelude.{◌≡◌, ◌≢◌, ◌⊎◌, ℕ, ◌<◌, ◌≤◌, true, false, List, [], ◌∷◌, ◌++◌, None, Some, Ok}
+use Rattle.ea_model.specs.declared.carriers.CarrierPlan.{CarrierPlan}
+use Rattle.ea_model.specs.declared.carriers.Place.{Place}
+use Rattle.ea_model.specs.declared.carriers.Spot.{Spot}
+use Rattle.ea_model.specs.declared.reallocation.Decision.TheVariants.{Move}
+use Rattle.ea_model.specs.Content.{Content}
+use Rattle.ea_model.specs.Instance.{Instance, chosen_spot, creating, decision_at, place_at, plan, resized_to, single_place}
+use Rattle.ea_machine.specs.declared.owners.OwnerWord.{OwnerWord}
+use Rattle.ea_machine.specs.Nodes.{Named, named_at}
+use Rattle.ea_machine.specs.Setup.{Setup, migration}
+use Rattle.ea_machine.specs.Actor.{Ask, Creating, Fetching}
+use Rattle.ea_machine.specs.State.{State}
+use Rattle.ea_machine.specs.Rows.{Won}
+use Rattle.ea_machine.specs.Employment.{employing}
+use Rattle.ea_machine.specs.Machine.{run}
+use Rattle.ea_machine.specs.Turns.{IsBegun, advanced, answered, log_after}
+use Rattle.ea_machine.specs.Needs.{HasNeed}
+
+-- the carrier that is created for a block of this need, in a step of s: with migration on in a step of
+-- its own, from the plan that was made for it; with migration off in the step in which the begin of
+-- the operation is over. It is still the plan of the instance then
+pub data Creates (setup : Setup) (state : State) (s need : ℕ) (i : Instance) (p : CarrierPlan)
+    : Type 0 where
+  ByItself : (on : migration setup ≡ true) (ask : Ask)
+      (at : (state.actors s).stage ≡ Creating ask p) (asks : ask.need ≡ need)
+      (is : i ≡ (state.actors s).instance) (planned : plan i need ≡ Ok p)
+      → Creates setup state s need i p
+  AtOnce : (off : migration setup ≡ false) (begins : IsBegun setup state s)
+      (is : i ≡ (advanced setup state s).instance) (planned : plan i need ≡ Ok p)
+      → Creates setup state s need i p
+
+-- the instance of s as it is just before it places a block of this need: as it is once the begin of
+-- the operation is over; or, where it has no choice, with a carrier that it fetched, or one that it
+-- created
+pub data IsJustBefore (setup : Setup) (state : State) (s need : ℕ) (i : Instance) : Type 0 where
+  Had : (begins : IsBegun setup state s) (is : i ≡ (advanced setup state s).instance)
+      → IsJustBefore setup state s need i
+  Fetched : (ask : Ask) (at looked : ℕ) (seen : OwnerWord) (x : Content)
+      (stage : (state.actors s).stage ≡ Fetching ask at looked seen) (asks : ask.need ≡ need)
+      (none : chosen_spot (state.actors s).instance need ≡ None)
+      (won : answered state s ≡ Won x) (is : i ≡ employing (state.actors s).instance x)
+      → IsJustBefore setup state s need i
+  Created : (old : Instance) (p : CarrierPlan) (creates : Creates setup state s need old p)
+      (none : chosen_spot old need ≡ None) (is : i ≡ creating old p)
+      → IsJustBefore setup state s need i
+
+-- the place is the strategy's choice among the carriers that s employs just before, with the units
+-- that the block takes of that gap
+pub record IsChosen (setup : Setup) (state : State) (s need : ℕ) (place : Place) : Type 0 where
+  pub instance : Instance
+  pub before : IsJustBefore setup state s need instance
+  pub spot : Spot
+  pub chosen : chosen_spot instance need ≡ Some spot
+  pub is : place ≡ place_at instance spot need
+
+-- the place is that of the one block of a new singleblock carrier
+pub record IsAlone (setup : Setup) (state : State) (s need : ℕ) (place : Place) : Type 0 where
+  pub instance : Instance
+  pub plan : CarrierPlan
+  pub creates : Creates setup state s need instance plan
+  pub single : plan.single ≡ true
+  pub is : place ≡ single_place plan need
+
+-- a block up to the singleblock threshold is placed where the strategy chooses, and a larger one in a
+-- carrier of its own
+abbrev pub IsPlacedAt : Setup → State → ℕ → ℕ → Place → Type 0
+IsPlacedAt setup state s need place =
+    ((need ≤ setup.settings.sbct) × IsChosen setup state s need place)
+    ⊎ ((setup.settings.sbct < need) × IsAlone setup state s need place)
+
+-- s placed a block in its step after `before`, for the operation of which it has made the entry in its
+-- step after the steps `turns`: the same step, or, where the old block of a reallocation went then, an
+-- earlier one
+pub record IsPlacement (setup : Setup) (turns : List ℕ) (s : ℕ) (place : Place) : Type 0 where
+  pub before : List ℕ
+  pub since : List ℕ
+  pub split : turns ++ s ∷ [] ≡ before ++ s ∷ since
+  pub same : log_after setup before s ≡ log_after setup turns s
+  pub need : ℕ
+  pub asks : HasNeed ((run setup before).actors s).todo need
+  pub placed : IsPlacedAt setup (run setup before) s need place
+
+-- a block that is reallocated in its place keeps its spot, and has the units that are decided
+pub record IsResized (setup : Setup) (state : State) (s old : ℕ) (place : Place) : Type 0 where
+  pub begins : IsBegun setup state s
+  pub need : ℕ
+  pub asks : HasNeed (advanced setup state s).todo need
+  pub named : Named
+  pub held : named_at old (advanced setup state s).held ≡ Some named
+  pub stays : decision_at (advanced setup state s).instance named.spot need ≢ Move
+  pub carrier : place.carrier ≡ named.spot.carrier
+  pub offset : place.offset ≡ named.spot.offset
+  pub size : place.size ≡ resized_to (advanced setup state s).instance named.spot need

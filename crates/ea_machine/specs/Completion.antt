@@ -1,0 +1,114 @@
+-- The turns until every scheduler has ended.
+use Rattle.std.specs.Prelude.{ℕ, zero, suc, ◌+◌, ◌*◌, List, [], ◌∷◌, ◌++◌, Option, None, Some, flat_map, length, replicate, sum_by}
+use Rattle.ea_model.specs.declared.operations.Op.{Op}
+use Rattle.ea_model.specs.declared.operations.Op.TheVariants as op
+use Rattle.ea_model.specs.declared.trace.Mode.{Mode}
+use Rattle.ea_model.specs.Trace.{turns_of}
+use Rattle.ea_machine.specs.declared.nodes.Node.{Node}
+use Rattle.ea_machine.specs.Setup.{Setup, greatest_number}
+use Rattle.ea_machine.specs.Actor.{Actor, Walk, For, Route, Looking, Trying, Settling, Abandoning, Sending, Clearing, Pushing, Linking, Stage, Begin, Routed, Collecting, Searching, Fetching, Creating, Giving, Taking, Ended, Ready}
+use Rattle.ea_machine.specs.State.{State}
+use Rattle.ea_machine.specs.Tasks.{later}
+use Rattle.ea_machine.specs.Machine.{run, run_on, step}
+
+-- the rows of a release route that are left, at most
+abbrev pub route_rows : Route → ℕ
+route_rows (Looking hand) = 6
+route_rows (Trying hand seen) = 5
+route_rows (Settling x) = 4
+route_rows (Abandoning x) = 1
+route_rows (Sending x) = 3
+route_rows (Clearing x) = 1
+route_rows (Pushing node to) = 2
+route_rows (Linking node to) = 1
+
+-- those of nodes that were passed: to collect a carrier, or the route of a block
+abbrev pub passed_rows : List Node → ℕ
+passed_rows nodes = 8 * length nodes
+
+-- those of the next node: one more, since it is to be passed
+abbrev pub next_rows : Option Node → ℕ
+next_rows None = 0
+next_rows (Some node) = 9
+
+-- those of a begin itself, which may find a next node in the queue
+abbrev pub begin_rows : Option Node → ℕ
+begin_rows None = 11
+begin_rows (Some node) = 1
+
+module _ (setup : Setup) where
+  -- those of a search, which looks at each number and tries to fetch some carriers, and of what
+  -- follows
+  abbrev pub search_rows : ℕ
+  search_rows = 2 * greatest_number setup + 10
+
+  -- those of an operation once its begin is over
+  abbrev pub operation_rows : Op → ℕ
+  operation_rows (op.Alloc name bytes) = search_rows
+  operation_rows (op.Free name) = 6
+  operation_rows (op.Realloc old fresh bytes) = search_rows
+  operation_rows (op.Give name to) = 1
+  operation_rows (op.Take name tries) = tries
+  operation_rows op.Info = 0
+  operation_rows op.Idle = 0
+
+  -- those of whole operations
+  abbrev pub text_rows : List Op → ℕ
+  text_rows ops = sum_by (λ o. operation_rows o + 12) ops
+
+  -- those of the operations after the present one, and of the begin that follows it
+  abbrev pub later_rows : List Op → ℕ
+  later_rows ops = text_rows (later ops) + 12
+
+  -- those of the operations left, by where the scheduler is in the present one
+  abbrev pub stage_rows : Option Node → List Op → Stage → ℕ
+  stage_rows next ops Begin = text_rows ops + begin_rows next
+  stage_rows next ops (Routed r Walk gone) = text_rows ops + route_rows r
+  stage_rows next ops (Routed r (For task) gone) = later_rows ops + route_rows r
+  stage_rows next ops (Collecting number) = text_rows ops + 1
+  stage_rows next ops (Searching ask at looked) = later_rows ops + (2 * at + 10)
+  stage_rows next ops (Fetching ask at looked seen) = later_rows ops + (2 * at + 9)
+  stage_rows next ops (Creating ask p) = later_rows ops + 8
+  stage_rows next ops (Giving given to) = later_rows ops + 1
+  stage_rows next ops (Taking name tries left) = later_rows ops + left
+  stage_rows next ops Ended = 0
+  stage_rows next ops Ready = text_rows ops
+
+  -- those of a scheduler, without the nodes that it shares
+  abbrev pub actor_rows : Actor → ℕ
+  actor_rows a = passed_rows a.passed + next_rows a.next + stage_rows a.next a.todo a.stage
+
+  -- the steps that a scheduler takes until it has ended, at most, if no other one steps
+  abbrev pub work : State → ℕ → ℕ
+  work w me = 9 * length (w.shared.queues me) + 9 * length (w.shared.rests me)
+      + actor_rows (w.actors me)
+
+  -- its turns until it has ended, but not more than that many
+  abbrev pub ending : ℕ → State → ℕ → Stage → List ℕ
+  ending most w me Ended = []
+  ending zero w me stage = []
+  ending (suc most) w me stage =
+      let v = step setup w me in me ∷ ending most v me (v.actors me).stage
+
+  -- its turns until it has ended
+  abbrev pub finishing : State → ℕ → List ℕ
+  finishing w me = ending (work w me) w me (w.actors me).stage
+
+  -- the turns until each of `count` schedulers from `me` on has ended, one after another
+  abbrev pub completing : ℕ → ℕ → State → List ℕ
+  completing zero me w = []
+  completing (suc count) me w = finishing w me
+      ++ completing count (suc me) (run_on setup w (finishing w me))
+
+  -- the turns of a schedule, then those of scheduler 1 until it has ended, then of scheduler 2, up
+  -- to the last one
+  abbrev pub complete : List ℕ → List ℕ
+  complete turns = turns ++ completing setup.schedulers 1 (run setup turns)
+
+-- the turns of a schedule, one number for each; another mode has none
+abbrev pub turns_in : Mode → List ℕ
+turns_in mode = flat_map (λ t. replicate t.count t.scheduler) (turns_of mode)
+
+-- the state in which the run of a trace ends that has a schedule or is generated
+abbrev pub end_of : Setup → Mode → State
+end_of setup mode = run setup (complete setup (turns_in mode))

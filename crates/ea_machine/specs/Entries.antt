@@ -1,0 +1,97 @@
+-- What the log of a scheduler says of its operations.
+use Rattle.std.specs.Prelude.{◌≡◌, ◌⊎◌, ℕ, List, [], ◌∷◌, ◌++◌, None}
+use Rattle.std.specs.List.{AllZip}
+use Rattle.ea_model.specs.declared.entries.Entry.{Entry}
+use Rattle.ea_model.specs.declared.entries.Entry.TheVariants as entry
+use Rattle.ea_model.specs.declared.operations.Op.{Op}
+use Rattle.ea_model.specs.declared.operations.Op.TheVariants as op
+use Rattle.ea_model.specs.Units.{need_of}
+use Rattle.ea_machine.specs.Nodes.{named_at}
+use Rattle.ea_machine.specs.Setup.{Setup}
+use Rattle.ea_machine.specs.Actor.{Actor}
+use Rattle.ea_machine.specs.State.{State}
+use Rattle.ea_machine.specs.Machine.{run}
+use Rattle.ea_machine.specs.Turns.{IsBegun, advanced, begun, log_after}
+use Rattle.ea_machine.specs.Chosen.{IsPlacement, IsResized}
+use Rattle.ea_machine.specs.Exhausted.{IsExhausted}
+
+-- an operation makes an entry of its own kind, with its own names and numbers
+abbrev pub Makes : Op → Entry → Type 0
+Makes (op.Alloc name bytes) (entry.Alloc n place) = n ≡ name
+Makes (op.Alloc name bytes) (entry.AllocFail n need looked why) = (n ≡ name)
+    × (need ≡ need_of bytes)
+Makes (op.Free name) (entry.Free n) = n ≡ name
+Makes (op.Free name) (entry.FreeQueued n to) = n ≡ name
+Makes (op.Free name) (entry.FreeSkipped n) = n ≡ name
+Makes (op.Realloc old fresh bytes) (entry.ReallocHere o n place) = (o ≡ old) × (n ≡ fresh)
+Makes (op.Realloc old fresh bytes) (entry.ReallocMoved o n place) = (o ≡ old) × (n ≡ fresh)
+Makes (op.Realloc old fresh bytes) (entry.ReallocQueued o n place to) = (o ≡ old) × (n ≡ fresh)
+Makes (op.Realloc old fresh bytes) (entry.ReallocFail o n need looked why) = (o ≡ old)
+    × (n ≡ fresh) × (need ≡ need_of bytes)
+Makes (op.Realloc old fresh bytes) (entry.ReallocSkipped o n) = (o ≡ old) × (n ≡ fresh)
+Makes (op.Give name to) (entry.Give n i) = (n ≡ name) × (i ≡ to)
+Makes (op.Give name to) (entry.GiveSkipped n i) = (n ≡ name) × (i ≡ to)
+Makes (op.Take name tries) (entry.Take n) = n ≡ name
+Makes (op.Take name tries) (entry.TakeAbsent n t) = (n ≡ name) × (t ≡ tries)
+Makes op.Info (entry.Info mbcs sbcs) = Unit {0}
+Makes op.Idle entry.Idle = Unit {0}
+Makes o x = ⊥
+
+-- the log of a scheduler has one entry for each of the operations that are done, in order, and the
+-- others are left
+pub record LogsEach (setup : Setup) (state : State) (i : ℕ) : Type 0 where
+  pub done : List Op
+  pub split : setup.texts i ≡ done ++ (state.actors i).todo
+  pub each : AllZip Makes done (state.actors i).log
+
+-- the name isn't held when the operation itself begins, in this step
+pub record IsSkipped (setup : Setup) (state : State) (s name : ℕ) : Type 0 where
+  pub begins : IsBegun setup state s
+  pub absent : named_at name (advanced setup state s).held ≡ None
+
+-- what an entry tells, which s made in its step after the steps `turns`: a block was placed where the
+-- strategy chooses, or in a carrier of its own; a block keeps its spot; no place was found; a name
+-- isn't held
+abbrev pub Tells : Setup → List ℕ → ℕ → Entry → Type 0
+Tells setup turns s (entry.Alloc name place) = IsPlacement setup turns s place
+Tells setup turns s (entry.AllocFail name need looked why) =
+    IsExhausted setup turns s (entry.AllocFail name need looked why) need looked why
+Tells setup turns s (entry.Free name) = Unit {0}
+Tells setup turns s (entry.FreeQueued name to) = Unit {0}
+Tells setup turns s (entry.FreeSkipped name) = IsSkipped setup (run setup turns) s name
+Tells setup turns s (entry.ReallocHere old fresh place) =
+    IsResized setup (run setup turns) s old place
+Tells setup turns s (entry.ReallocMoved old fresh place) = IsPlacement setup turns s place
+Tells setup turns s (entry.ReallocQueued old fresh place to) = IsPlacement setup turns s place
+Tells setup turns s (entry.ReallocFail old fresh need looked why) =
+    IsExhausted setup turns s (entry.ReallocFail old fresh need looked why) need looked why
+Tells setup turns s (entry.ReallocSkipped old fresh) = IsSkipped setup (run setup turns) s old
+Tells setup turns s (entry.Give name to) = Unit {0}
+Tells setup turns s (entry.GiveSkipped name to) = IsSkipped setup (run setup turns) s name
+Tells setup turns s (entry.Take name) = Unit {0}
+Tells setup turns s (entry.TakeAbsent name tries) = Unit {0}
+Tells setup turns s (entry.Info mbcs sbcs) = Unit {0}
+Tells setup turns s entry.Idle = Unit {0}
+
+-- a step of s makes at most one entry, in its own log, and this entry tells how it came about
+abbrev pub EntersOne : Setup → Type 0
+EntersOne setup = (turns : List ℕ) (s i : ℕ)
+    → (log_after setup (turns ++ s ∷ []) i ≡ log_after setup turns i)
+    ⊎ ((i ≡ s) × ((x : Entry) × (log_after setup (turns ++ s ∷ []) s
+    ≡ log_after setup turns s ++ x ∷ []) × Tells setup turns s x))
+
+-- if the name of a scheduler's operation isn't held when that begins, this is its log afterwards
+abbrev pub HasSkipped : Actor → List Op → List Entry → Type 0
+HasSkipped a (op.Free name ∷ ops) log = named_at name a.held ≡ None
+    → log ≡ a.log ++ entry.FreeSkipped name ∷ []
+HasSkipped a (op.Realloc old fresh bytes ∷ ops) log = named_at old a.held ≡ None
+    → log ≡ a.log ++ entry.ReallocSkipped old fresh ∷ []
+HasSkipped a (op.Give name to ∷ ops) log = named_at name a.held ≡ None
+    → log ≡ a.log ++ entry.GiveSkipped name to ∷ []
+HasSkipped a _ log = Unit {0}
+
+-- an operation is skipped where its name isn't held
+abbrev pub SkipsUnheld : Setup → Type 0
+SkipsUnheld setup = (turns : List ℕ) (s : ℕ) → IsBegun setup (run setup turns) s
+    → HasSkipped (begun setup turns s) (begun setup turns s).todo
+    (log_after setup (turns ++ s ∷ []) s)

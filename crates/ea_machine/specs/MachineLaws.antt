@@ -1,0 +1,59 @@
+-- Laws of the machine: what holds of each run of a valid trace under a valid configuration, whatever
+-- steps its schedulers take.
+use Rattle.std.specs.Prelude.{◌≡◌, ℕ, List}
+use Rattle.ea_model.specs.declared.settings.Config.{Config}
+use Rattle.ea_model.specs.declared.trace.Trace.{Trace}
+use Rattle.ea_model.specs.Settings.{IsValidConfig}
+use Rattle.ea_model.specs.Trace.{IsValidTrace}
+use Rattle.ea_machine.specs.Setup.{Setup, setup_of}
+use Rattle.ea_machine.specs.Actor.{Ended}
+use Rattle.ea_machine.specs.State.{State}
+use Rattle.ea_machine.specs.Machine.{run}
+use Rattle.ea_machine.specs.Completion.{complete}
+use Rattle.ea_machine.specs.Units.{PrintsSums}
+use Rattle.ea_machine.specs.Sound.{Sound}
+use Rattle.ea_machine.specs.Released.{KeepsPlaces, ReleasesOnce, StaysGone}
+use Rattle.ea_machine.specs.Exhausted.{FailsIfExhausted}
+use Rattle.ea_machine.specs.Entries.{EntersOne, LogsEach, SkipsUnheld}
+use Rattle.ea_machine.specs.Fetches.{FetchesFit}
+use Rattle.ea_machine.specs.Guarded.{IsGuarded}
+use Rattle.ea_machine.specs.Heard.{HearsNoOther}
+
+-- it holds at each moment: after any list of steps
+abbrev pub AtEachMoment : (Setup → State → Type 0) → Setup → Type 0
+AtEachMoment P setup = (turns : List ℕ) → P setup (run setup turns)
+
+-- the log of each scheduler is that of its operations
+abbrev pub LogEach : Setup → State → Type 0
+LogEach setup state = (i : ℕ) → LogsEach setup state i
+
+-- after the turns that complete a schedule, every scheduler has ended
+abbrev pub EndsAll : Setup → Type 0
+EndsAll setup = (turns : List ℕ) (s : ℕ)
+    → ((run setup (complete setup turns)).actors s).stage ≡ Ended
+
+-- each moment is sound, and what is printed of it are the sums of soundness; no scheduler does a row
+-- that it may not do, and some answers never come; a carrier that is fetched fits; each operation
+-- makes one entry, of its own kind, which tells how it came about: placements are chosen, and fails
+-- are exhausted; where no place is found an operation fails, and where its name isn't held it is
+-- skipped; no name is released twice, and a released or failed one stays so; a block keeps its place
+-- and its units; and a completed schedule ends
+pub record Protocol (setup : Setup) : Type 0 where
+  pub sound : AtEachMoment Sound setup
+  pub prints : AtEachMoment PrintsSums setup
+  pub guarded : AtEachMoment IsGuarded setup
+  pub hears : AtEachMoment HearsNoOther setup
+  pub fetches : AtEachMoment FetchesFit setup
+  pub logs : AtEachMoment LogEach setup
+  pub enters : EntersOne setup
+  pub fails : FailsIfExhausted setup
+  pub skips : SkipsUnheld setup
+  pub once : ReleasesOnce setup
+  pub gone : StaysGone setup
+  pub places : KeepsPlaces setup
+  pub ends : EndsAll setup
+
+-- it holds of each setup that a valid trace has under a valid configuration
+abbrev pub Always : (Setup → Type 0) → Type 0
+Always P = (c : Config) (t : Trace) → IsValidConfig c → IsValidTrace c.schedulers t
+    → P (setup_of c t)

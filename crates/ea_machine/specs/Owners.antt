@@ -1,0 +1,40 @@
+-- Carriers as schedulers share them: their owners, where they are, and their owner words.
+use Rattle.std.specs.Prelude.{ℕ, ◌+◌, ◌-◌, ◌/◌, Bool, true, false, ◌&&◌, ◌==◌}
+use Rattle.ea_model.specs.declared.units.TheConstants.{NUMBERS}
+use Rattle.ea_model.specs.Content.{Content}
+use Rattle.ea_machine.specs.declared.owners.OwnerWord.{OwnerWord}
+use Rattle.ea_machine.specs.declared.owners.OwnerWord.TheVariants as word
+
+-- the instance that owns a carrier, by its number: each has 256 of them, instance 1 the lowest
+abbrev pub owner_of : ℕ → ℕ
+owner_of number = (number - 1) / NUMBERS + 1
+
+-- where a carrier is; a content beside the word is at home, where no scheduler has it
+pub data CarrierAt : Type 0 where
+  -- no carrier has the number
+  Absent : CarrierAt
+  -- an instance allocates in it, and has its content
+  Employed : (instance : ℕ) → CarrierAt
+  -- the instance that abandoned it releases its blocks; its largest gap is recorded
+  Pooled : (instance largest : ℕ) (content : Content) → CarrierAt
+  -- that instance has taken its content, to release a block
+  Busy : (instance : ℕ) → CarrierAt
+  -- it is empty, and on its way to its owner
+  Returning : (instance : ℕ) (content : Content) → CarrierAt
+
+-- its owner word
+abbrev pub word_of : CarrierAt → OwnerWord
+word_of Absent = word.Absent
+word_of (Employed i) = word.Employed i
+word_of (Pooled i largest x) = word.Pooled i largest
+word_of (Busy i) = word.Busy i
+word_of (Returning i x) = word.Returning i
+
+-- whether two owner words are the same
+abbrev pub same_word : OwnerWord → OwnerWord → Bool
+same_word word.Absent word.Absent = true
+same_word (word.Employed i) (word.Employed j) = i == j
+same_word (word.Pooled i g) (word.Pooled j h) = (i == j) && (g == h)
+same_word (word.Busy i) (word.Busy j) = i == j
+same_word (word.Returning i) (word.Returning j) = i == j
+same_word _ _ = false

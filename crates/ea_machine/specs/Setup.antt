@@ -1,0 +1,50 @@
+-- What stays the same in a run.
+use Rattle.std.specs.Prelude.{ℕ, zero, suc, ◌-◌, ◌*◌, Bool, nat_lt, nat_le, ◌&&◌, List, []}
+use Rattle.ea_model.specs.declared.settings.Config.{Config}
+use Rattle.ea_model.specs.declared.settings.Settings.{Settings}
+use Rattle.ea_model.specs.declared.operations.Op.{Op}
+use Rattle.ea_model.specs.declared.trace.Trace.{Trace}
+use Rattle.ea_model.specs.declared.units.TheConstants.{NUMBERS}
+use Rattle.ea_model.specs.Settings.{region_pages, settings_of}
+use Rattle.ea_model.specs.Trace.{text_at, texts_of}
+
+-- what all schedulers know
+pub record Setup : Type 0 where
+  -- how many there are, from 1 on; the instance of each has its number
+  pub schedulers : ℕ
+  -- the settings of all instances
+  pub settings : Settings
+  -- the pages of an instance's region
+  pub pages : ℕ
+  -- the operations of each scheduler
+  pub texts : ℕ → List Op
+
+-- the operations of scheduler i, of texts that begin with scheduler 1's
+abbrev pub text_for : List (List Op) → ℕ → List Op
+text_for texts zero = []
+text_for texts (suc i) = text_at i texts
+
+-- the setup of a trace under a configuration: the settings of its letter hold
+abbrev pub setup_of : Config → Trace → Setup
+setup_of c t = record {
+  schedulers = c.schedulers;
+  settings = settings_of c t.letter;
+  pages = region_pages c;
+  texts = text_for (texts_of t);
+}
+
+-- whether a number is a scheduler's
+abbrev pub is_scheduler : Setup → ℕ → Bool
+is_scheduler setup i = nat_lt 0 i && nat_le i setup.schedulers
+
+-- whether carriers migrate
+abbrev pub migration : Setup → Bool
+migration setup = nat_lt 0 setup.settings.acul
+
+-- the first page of an instance's region
+abbrev pub first_page : Setup → ℕ → ℕ
+first_page setup i = (i - 1) * setup.pages
+
+-- the greatest carrier number
+abbrev pub greatest_number : Setup → ℕ
+greatest_number setup = setup.schedulers * NUMBERS

@@ -1,0 +1,12 @@
+//! What stands in an instance's queue.
+
+use ea_model::Spot;
+
+/// A node of a queue. Names are 1 to 262144, and carrier numbers 1 to 4096.
+#[derive(Debug, Clone, Copy, PartialEq, Eq)]
+pub enum Node {
+    /// A block that the instance is to release.
+    Block { name: u32, spot: Spot },
+    /// An empty carrier of the instance's own that it is to deallocate.
+    Carrier { number: u32 },
+}
