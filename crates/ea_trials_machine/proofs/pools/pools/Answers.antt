@@ -1,0 +1,131 @@
+use Rattle.std.proofs.Common.{refl}
+use Rattle.std.specs.Fmt.{digits}
+use Rattle.ea_model.specs.GoodFit.{bin_of, powers}
+use Rattle.ea_model.specs.Instance.{unused_from}
+use Rattle.ea_machine.specs.Table.{answer, effect}
+use Rattle.ea_machine.specs.Machine.{after, step_at}
+use Rattle.ea_trials_machine.proofs.pools.pools.Goals as goal
+
+pub returns-clause-abandon_and_fetch : goal.returns-clause-abandon_and_fetch
+unfolding digits unused_from bin_of powers answer effect after step_at
+returns-clause-abandon_and_fetch c = refl
+
+pub returns-clause-abandoned_at_the_end : goal.returns-clause-abandoned_at_the_end
+unfolding digits unused_from bin_of powers answer effect after step_at
+returns-clause-abandoned_at_the_end c = refl
+
+pub returns-clause-returned_carrier : goal.returns-clause-returned_carrier
+unfolding digits unused_from bin_of powers answer effect after step_at
+returns-clause-returned_carrier c = refl
+
+pub returns-clause-forwarded_block : goal.returns-clause-forwarded_block
+unfolding digits unused_from bin_of powers answer effect after step_at
+returns-clause-forwarded_block c = refl
+
+pub returns-clause-busy_carrier_skipped : goal.returns-clause-busy_carrier_skipped
+unfolding digits unused_from bin_of powers answer effect after step_at
+returns-clause-busy_carrier_skipped c = refl
+
+pub returns-clause-search_limit : goal.returns-clause-search_limit
+unfolding digits unused_from bin_of powers answer effect after step_at
+returns-clause-search_limit c = refl
+
+pub returns-clause-sixteen_schedulers : goal.returns-clause-sixteen_schedulers
+unfolding digits unused_from bin_of powers answer effect after step_at
+returns-clause-sixteen_schedulers c = refl
+
+pub returns-clause-four_under_age_order : goal.returns-clause-four_under_age_order
+unfolding digits unused_from bin_of powers answer effect after step_at
+returns-clause-four_under_age_order c = refl
+
+pub returns-clause-three_under_address_fit : goal.returns-clause-three_under_address_fit
+unfolding digits unused_from bin_of powers answer effect after step_at
+returns-clause-three_under_address_fit c = refl
+
+pub returns-clause-two_under_good_fit : goal.returns-clause-two_under_good_fit
+unfolding digits unused_from bin_of powers answer effect after step_at
+returns-clause-two_under_good_fit c = refl
+
+pub returns-clause-two_under_best_fit : goal.returns-clause-two_under_best_fit
+unfolding digits unused_from bin_of powers answer effect after step_at
+returns-clause-two_under_best_fit c = refl
+
+pub returns-clause-singles_above_a_kilobyte : goal.returns-clause-singles_above_a_kilobyte
+unfolding digits unused_from bin_of powers answer effect after step_at
+returns-clause-singles_above_a_kilobyte c = refl
+
+pub returns-clause-carriers_of_one_page_by_age : goal.returns-clause-carriers_of_one_page_by_age
+unfolding digits unused_from bin_of powers answer effect after step_at
+returns-clause-carriers_of_one_page_by_age c = refl
+
+pub returns-clause-three_under_age_order : goal.returns-clause-three_under_age_order
+unfolding digits unused_from bin_of powers answer effect after step_at
+returns-clause-three_under_age_order c = refl
+
+pub returns-clause-carriers_of_one_page : goal.returns-clause-carriers_of_one_page
+unfolding digits unused_from bin_of powers answer effect after step_at
+returns-clause-carriers_of_one_page c = refl
+
+pub returns-clause-three_with_many_singles : goal.returns-clause-three_with_many_singles
+unfolding digits unused_from bin_of powers answer effect after step_at
+returns-clause-three_with_many_singles c = refl
+
+pub returns-clause-two_by_age_with_singles : goal.returns-clause-two_by_age_with_singles
+unfolding digits unused_from bin_of powers answer effect after step_at
+returns-clause-two_by_age_with_singles c = refl
+
+pub returns-clause-four_under_address_order_best_fit : goal.returns-clause-four_under_address_order_best_fit
+unfolding digits unused_from bin_of powers answer effect after step_at
+returns-clause-four_under_address_order_best_fit c = refl
+
+pub returns-clause-two_by_age_with_a_least_gap : goal.returns-clause-two_by_age_with_a_least_gap
+unfolding digits unused_from bin_of powers answer effect after step_at
+returns-clause-two_by_age_with_a_least_gap c = refl
+
+pub returns-clause-two_by_default : goal.returns-clause-two_by_default
+unfolding digits unused_from bin_of powers answer effect after step_at
+returns-clause-two_by_default c = refl
+
+pub returns-clause-two_in_a_megabyte : goal.returns-clause-two_in_a_megabyte
+unfolding digits unused_from bin_of powers answer effect after step_at
+returns-clause-two_in_a_megabyte c = refl
+
+pub returns-clause-two_always_moving : goal.returns-clause-two_always_moving
+unfolding digits unused_from bin_of powers answer effect after step_at
+returns-clause-two_always_moving c = refl
+
+pub returns-clause-carriers_of_one_size : goal.returns-clause-carriers_of_one_size
+unfolding digits unused_from bin_of powers answer effect after step_at
+returns-clause-carriers_of_one_size c = refl
+
+pub returns-clause-three_always_moving : goal.returns-clause-three_always_moving
+unfolding digits unused_from bin_of powers answer effect after step_at
+returns-clause-three_always_moving c = refl
+
+pub returns-clause-at_half_utilization : goal.returns-clause-at_half_utilization
+unfolding digits unused_from bin_of powers answer effect after step_at
+returns-clause-at_half_utilization c = refl
+
+pub returns-clause-five_with_carriers_of_one_page : goal.returns-clause-five_with_carriers_of_one_page
+unfolding digits unused_from bin_of powers answer effect after step_at
+returns-clause-five_with_carriers_of_one_page c = refl
+
+pub returns-clause-moved_and_queued : goal.returns-clause-moved_and_queued
+unfolding digits unused_from bin_of powers answer effect after step_at
+returns-clause-moved_and_queued c = refl
+
+pub returns-clause-two_in_address_order : goal.returns-clause-two_in_address_order
+unfolding digits unused_from bin_of powers answer effect after step_at
+returns-clause-two_in_address_order c = refl
+
+pub returns-clause-four_with_singles : goal.returns-clause-four_with_singles
+unfolding digits unused_from bin_of powers answer effect after step_at
+returns-clause-four_with_singles c = refl
+
+pub returns-clause-employed_by_the_other : goal.returns-clause-employed_by_the_other
+unfolding digits unused_from bin_of powers answer effect after step_at
+returns-clause-employed_by_the_other c = refl
+
+pub returns-clause-five_under_best_fit : goal.returns-clause-five_under_best_fit
+unfolding digits unused_from bin_of powers answer effect after step_at
+returns-clause-five_under_best_fit c = refl

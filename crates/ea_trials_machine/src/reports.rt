@@ -1,0 +1,611 @@
+//! Allocator information: the figures now, since the last report, and ever.
+
+ghost use Rattle.std.specs.Prelude.{◌≡◌, ◌++◌, codes, Some, []};
+ghost use Rattle.ea_model.specs.Words.{words};
+ghost use Rattle.ea_trials_machine.specs.Worked.{text_of};
+
+/// What the machine gives for worked words and inputs.
+pub fn reports()
+    ensures four_schedulers { text_of
+        (words (codes "+MHas ageffcbf +MBacul 0 +Musbct 1024 +MHsmbcs 512 +S 4"))
+        (codes "type H\nscheduler 1\nalloc 1 233\nalloc 2 4096\nrealloc 1 3 300\ngive 3 2\n"
+        ++ codes "free 2\ninfo\nscheduler 2\nalloc 4 1048576\ntake 3 1\nfree 3\nscheduler 3\n"
+        ++ codes "alloc 5 64\nscheduler 4\nschedule\nend\n")
+        ≡ Some
+        (codes "scheduler 1\nalloc 1 1 8 32\nalloc 2 1 40 514\nrealloc 1 3 1 554 40 moved done\n"
+        ++ codes "give 3 2\nfree 2 done\n"
+        ++ codes "info mbcs blocks 0 3 3 blocks_size 0 586 586 "
+        ++ codes "carriers 0 1 1 carriers_size 0 65536 65536\n"
+        ++ codes "info sbcs blocks 0 0 0 blocks_size 0 0 0 carriers 0 0 0 carriers_size 0 0 0\n"
+        ++ codes "scheduler 2\nalloc 4 257 8 131074\ntake 3 got\nfree 3 queued 1\nscheduler 3\n"
+        ++ codes "alloc 5 1 8 10\nscheduler 4\n"
+        ++ codes "carrier 1 multi owner 1 employed 3 base 0 pages 128 allocated 50 largest 64942\n"
+        ++ codes "carrier 257 single owner 2 employed 2 base 4096 pages 257 "
+        ++ codes "allocated 131074 largest 502\n"
+        ++ codes "total carriers 2 units 197120 live 131084 queued 40 free 65980 header 16\n") }
+    ensures always_moving { text_of
+        (words (codes "+MHsbct 1 +MHacfml 1 +MHmbsd 1000 +MHacul 0 +MHrsbcmt 100 +MHrmbcmt 10 "
+        ++ codes "+MHas aoffcaobf +MHramv true +MMscs 8"))
+        (codes "type H\nscheduler 1\nalloc 1 152176\nrealloc 1 2 76777\nfree 2\nfree 1\ninfo\n"
+        ++ codes "schedule\n1*3 1*3\nend\n")
+        ≡ Some
+        (codes "scheduler 1\nalloc 1 1 8 19024\nrealloc 1 2 2 8 9600 moved done\nfree 2 done\n"
+        ++ codes "free 1 skipped\n"
+        ++ codes "info mbcs blocks 0 0 0 blocks_size 0 0 0 carriers 0 0 0 carriers_size 0 0 0\n"
+        ++ codes "info sbcs blocks 0 1 1 blocks_size 0 19024 19024 "
+        ++ codes "carriers 0 1 1 carriers_size 0 19456 19456\n"
+        ++ codes "total carriers 0 units 0 live 0 queued 0 free 0 header 0\n") }
+    ensures six_moves { text_of
+        (words (codes "+MTsbct 4 +MTasbcst 4 +MTrsbcmt 0 +MTrmbcmt 75 +MTrsbcst 100 +MTsmbcs "
+        ++ codes "4 +MTas aoffcaobf +MMscs 2"))
+        (codes "type T\nscheduler 1\nalloc 1 4081\nrealloc 1 2 103\nrealloc 2 3 4104\n"
+        ++ codes "alloc 4 4105\nrealloc 3 5 8215\nrealloc 5 6 0\nrealloc 6 7 40\nrealloc 4 8 4136\n"
+        ++ codes "realloc 8 9 4041\nrealloc 7 10 4039\ninfo\nschedule\nend\n")
+        ≡ Some
+        (codes "scheduler 1\nalloc 1 1 8 512\nrealloc 1 2 1 520 14 moved done\n"
+        ++ codes "realloc 2 3 2 8 514 moved done\nalloc 4 1 8 516\n"
+        ++ codes "realloc 3 5 3 8 1028 moved done\nrealloc 5 6 2 8 6 moved done\n"
+        ++ codes "realloc 6 7 2 8 6 here\nrealloc 4 8 1 8 518 here\n"
+        ++ codes "realloc 8 9 3 8 508 moved done\nrealloc 7 10 3 516 506 moved done\n"
+        ++ codes "info mbcs blocks 2 2 2 blocks_size 1014 1014 1014 "
+        ++ codes "carriers 1 2 2 carriers_size 66048 66560 66560\n"
+        ++ codes "info sbcs blocks 0 2 2 blocks_size 0 1544 1544 "
+        ++ codes "carriers 0 2 2 carriers_size 0 2560 2560\n"
+        ++ codes "carrier 3 multi owner 1 employed 1 base 3 pages 129 "
+        ++ codes "allocated 1014 largest 65026\n"
+        ++ codes "total carriers 1 units 66048 live 1014 queued 0 free 65026 header 8\n") }
+    ensures beside_a_single { text_of
+        (words (codes "+MTsbct 1 +MTasbcst 4 +MTrsbcmt 80 +MTrmbcmt 0 +MTrsbcst 1 +MTsmbcs 16 "
+        ++ codes "+MMscs 2"))
+        (codes "type T\nscheduler 1\nalloc 1 3185\nrealloc 1 2 3121\nfree 2\nalloc 3 7985\n"
+        ++ codes "realloc 3 4 4039\nrealloc 4 5 8056\nrealloc 5 6 8040\nfree 6\nalloc 7 12216\n"
+        ++ codes "alloc 8 39\ninfo\nschedule\nend\n")
+        ≡ Some
+        (codes "scheduler 1\nalloc 1 1 8 400\nrealloc 1 2 1 8 392 here\nfree 2 done\n"
+        ++ codes "alloc 3 1 8 1000\nrealloc 3 4 1 8 506 here\nrealloc 4 5 1 8 1008 here\n"
+        ++ codes "realloc 5 6 1 8 1006 here\nfree 6 done\nalloc 7 1 8 1528\nalloc 8 2 8 6\n"
+        ++ codes "info mbcs blocks 1 1 1 blocks_size 6 6 6 "
+        ++ codes "carriers 1 1 1 carriers_size 2048 2048 2048\n"
+        ++ codes "info sbcs blocks 1 1 1 blocks_size 1528 1528 1528 "
+        ++ codes "carriers 1 1 1 carriers_size 1536 1536 1536\n"
+        ++ codes "carrier 1 single owner 1 employed 1 base 0 pages 3 allocated 1528 largest 0\n"
+        ++ codes "carrier 2 multi owner 1 employed 1 base 3 pages 4 allocated 6 largest 2034\n"
+        ++ codes "total carriers 2 units 3584 live 1534 queued 0 free 2034 header 16\n") }
+    ensures freed_before { text_of
+        (words (codes "+MLlmbcs 164 +MTacfml 1 +MHas aoffcaobf +MHacul 0 +MHrsbcst 99 "
+        ++ codes "+MHrmbcmt 99"))
+        (codes "type H\nscheduler 1\nalloc 1 156784\nfree 1\ninfo\nfree 1\nschedule\n1*3\n1*2\n"
+        ++ codes "end\n")
+        ≡ Some
+        (codes "scheduler 1\nalloc 1 1 8 19600\nfree 1 done\n"
+        ++ codes "info mbcs blocks 0 1 1 blocks_size 0 19600 19600 "
+        ++ codes "carriers 0 1 1 carriers_size 0 32768 32768\n"
+        ++ codes "info sbcs blocks 0 0 0 blocks_size 0 0 0 carriers 0 0 0 carriers_size 0 0 0\n"
+        ++ codes "free 1 skipped\ntotal carriers 0 units 0 live 0 queued 0 free 0 header 0\n") }
+    ensures eight_in_place { text_of
+        (words (codes "+MTsbct 3 +MTasbcst 4 +MTrsbcmt 10 +MTrmbcmt 50 +MTrsbcst 0 +MTsmbcs 8 "
+        ++ codes "+MMscs 1"))
+        (codes "type T\nscheduler 1\nalloc 1 16312\nrealloc 1 2 12216\nrealloc 2 3 12135\n"
+        ++ codes "realloc 3 4 12145\nrealloc 4 5 12136\nrealloc 5 6 12152\nalloc 7 313\n"
+        ++ codes "realloc 7 8 376\nrealloc 8 9 375\nrealloc 9 10 312\ninfo\nschedule\nend")
+        ≡ Some
+        (codes "scheduler 1\nalloc 1 1 8 2040\nrealloc 1 2 1 8 1528 here\n"
+        ++ codes "realloc 2 3 1 8 1518 here\nrealloc 3 4 1 8 1520 here\nrealloc 4 5 1 8 1518 here\n"
+        ++ codes "realloc 5 6 1 8 1520 here\nalloc 7 2 8 42\nrealloc 7 8 2 8 48 here\n"
+        ++ codes "realloc 8 9 2 8 48 here\nrealloc 9 10 2 8 40 here\n"
+        ++ codes "info mbcs blocks 1 1 1 blocks_size 40 48 48 "
+        ++ codes "carriers 1 1 1 carriers_size 1024 1024 1024\n"
+        ++ codes "info sbcs blocks 1 1 1 blocks_size 1520 2040 2040 "
+        ++ codes "carriers 1 1 1 carriers_size 1536 2048 2048\n"
+        ++ codes "carrier 1 single owner 1 employed 1 base 0 pages 3 allocated 1520 largest 8\n"
+        ++ codes "carrier 2 multi owner 1 employed 1 base 3 pages 2 allocated 40 largest 976\n"
+        ++ codes "total carriers 2 units 2560 live 1560 queued 0 free 984 header 16\n") }
+    ensures three_under_age_order { text_of
+        (words (codes "+MTacfml 0 +MMscs 3 +MTacul 0 +MHmbcgs 2 +MTlmbcs 20 +S 3 +MTas "
+        ++ codes "ageffcaoff +MSmbsd 50 +MTsbct 1 +MTsmbcs 2"))
+        (codes "type T\nscheduler 1\nalloc 1 945\nalloc 4 761\nalloc 5 381\n  \nalloc 6 2600\n"
+        ++ codes "alloc 7 845\nalloc 9 85\nfree 4\n  free 1\nrealloc 5 12 1048\nscheduler 2\n"
+        ++ codes "alloc 2 3509\nalloc 3 1608\nalloc 10 80\nalloc 11 233\ngive 11 3\nscheduler 3\n"
+        ++ codes "alloc 8 1008\ninfo\ngive 8 2\nfree 8\nschedule\n2*7 1*3 3*6\nend\n")
+        ≡ Some
+        (codes "scheduler 1\nalloc 1 1 8 120\nalloc 4 1 128 98\nalloc 5 1 226 50\n"
+        ++ codes "alloc 6 2 8 326\nalloc 7 1 276 108\nalloc 9 1 384 12\nfree 4 done\nfree 1 done\n"
+        ++ codes "realloc 5 12 3 8 132 moved done\nscheduler 2\nalloc 2 257 8 440\n"
+        ++ codes "alloc 3 258 8 202\nalloc 10 259 8 12\nalloc 11 259 20 32\ngive 11 3\n"
+        ++ codes "scheduler 3\nalloc 8 513 8 128\n"
+        ++ codes "info mbcs blocks 1 1 1 blocks_size 128 128 128 "
+        ++ codes "carriers 1 1 1 carriers_size 512 512 512\n"
+        ++ codes "info sbcs blocks 0 0 0 blocks_size 0 0 0 carriers 0 0 0 carriers_size 0 0 0\n"
+        ++ codes "give 8 2\nfree 8 skipped\n"
+        ++ codes "carrier 1 multi owner 1 employed 1 base 0 pages 1 allocated 120 largest 268\n"
+        ++ codes "carrier 2 single owner 1 employed 1 base 1 pages 1 allocated 326 largest 178\n"
+        ++ codes "carrier 3 single owner 1 employed 1 base 2 pages 1 allocated 132 largest 372\n"
+        ++ codes "carrier 257 single owner 2 employed 2 base 256 pages 1 allocated 440 largest 64\n"
+        ++ codes "carrier 258 single owner 2 employed 2 base 257 pages 1 "
+        ++ codes "allocated 202 largest 302\n"
+        ++ codes "carrier 259 multi owner 2 employed 2 base 258 pages 1 allocated 44 largest 460\n"
+        ++ codes "carrier 513 multi owner 3 employed 3 base 512 pages 1 allocated 128 largest 376\n"
+        ++ codes "total carriers 7 units 3584 live 1392 queued 0 free 2136 header 56\n") }
+    ensures three_under_good_fit { text_of
+        (words (codes "+MSas gf +MSacfml 4000 +MSrsbcmt 1 +MSrsbcst 25 +S 3 +MSsmbcs 12 "
+        ++ codes "+MSacul 0 +MSlmbcs 12 +MSmbsd 5 +MSasbcst 0"))
+        (codes "type S\nscheduler 1\nalloc 2 4041\nalloc 3 2360\nalloc 4 526680\ngive 4 3\n"
+        ++ codes "alloc 7 6789\nscheduler 2\nalloc 5 10416\nscheduler 3\nalloc 1 40\nalloc 6 9056\n"
+        ++ codes "info\nschedule\nend\n")
+        ≡ Some
+        (codes "scheduler 1\nalloc 2 1 8 508\nalloc 3 1 516 296\nalloc 4 2 8 65836\ngive 4 3\n"
+        ++ codes "alloc 7 3 8 850\nscheduler 2\nalloc 5 257 8 1304\nscheduler 3\nalloc 1 513 8 6\n"
+        ++ codes "alloc 6 513 14 1134\n"
+        ++ codes "info mbcs blocks 2 2 2 blocks_size 1140 1140 1140 "
+        ++ codes "carriers 1 1 1 carriers_size 1536 1536 1536\n"
+        ++ codes "info sbcs blocks 0 0 0 blocks_size 0 0 0 carriers 0 0 0 carriers_size 0 0 0\n"
+        ++ codes "carrier 1 multi owner 1 employed 1 base 0 pages 3 allocated 804 largest 724\n"
+        ++ codes "carrier 2 single owner 1 employed 1 base 3 pages 129 "
+        ++ codes "allocated 65836 largest 204\n"
+        ++ codes "carrier 3 multi owner 1 employed 1 base 132 pages 3 allocated 850 largest 678\n"
+        ++ codes "carrier 257 multi owner 2 employed 2 base 5461 pages 3 "
+        ++ codes "allocated 1304 largest 224\n"
+        ++ codes "carrier 513 multi owner 3 employed 3 base 10922 pages 3 "
+        ++ codes "allocated 1140 largest 388\n"
+        ++ codes "total carriers 5 units 72192 live 69934 queued 0 free 2218 header 40\n") }
+    ensures five_main_carriers { text_of
+        (words (codes "+MHmbcgs 1 +MHas ageffcaobf +MHacul 0 +MHrmbcmt 50 +MBramv false "
+        ++ codes "+MMscs 1 +MHmmbcs 16 +S 0000000005"))
+        (codes "type H\nscheduler 1\nscheduler 2\nidle\nscheduler 3\ninfo\nscheduler 4\n"
+        ++ codes "alloc 1 163521\ngive 1 2\nalloc 3 251280\nscheduler 5\nalloc 2 67096\nidle\n"
+        ++ codes "schedule\n3*2 2*2 5*3\n1*1 4*5\nend\n")
+        ≡ Some
+        (codes "scheduler 1\nscheduler 2\nidle\nscheduler 3\n"
+        ++ codes "info mbcs blocks 0 0 0 blocks_size 0 0 0 "
+        ++ codes "carriers 1 1 1 carriers_size 2048 2048 2048\n"
+        ++ codes "info sbcs blocks 0 0 0 blocks_size 0 0 0 carriers 0 0 0 carriers_size 0 0 0\n"
+        ++ codes "scheduler 4\nalloc 1 770 8 20442\ngive 1 2\n"
+        ++ codes "alloc 3 fail need 31412 looked 0 space\nscheduler 5\nalloc 2 1026 8 8388\nidle\n"
+        ++ codes "carrier 1 main owner 1 employed 1 base 0 pages 4 allocated 0 largest 2040\n"
+        ++ codes "carrier 257 main owner 2 employed 2 base 51 pages 4 allocated 0 largest 2040\n"
+        ++ codes "carrier 513 main owner 3 employed 3 base 102 pages 4 allocated 0 largest 2040\n"
+        ++ codes "carrier 769 main owner 4 employed 4 base 153 pages 4 allocated 0 largest 2040\n"
+        ++ codes "carrier 770 multi owner 4 employed 4 base 157 pages 40 "
+        ++ codes "allocated 20442 largest 30\n"
+        ++ codes "carrier 1025 main owner 5 employed 5 base 204 pages 4 allocated 0 largest 2040\n"
+        ++ codes "carrier 1026 multi owner 5 employed 5 base 208 pages 17 "
+        ++ codes "allocated 8388 largest 308\n"
+        ++ codes "total carriers 7 units 39424 live 28830 queued 0 free 10538 header 56\n") }
+    ensures three_main_carriers { text_of
+        (words (codes "+S 03 +MEsbct 8 +MMscs 1 +MEmmbcs 1 +MEacul 0 +MRrsbcmt 100 +MEmbsd 5 "
+        ++ codes "+MEas bf"))
+        (codes "type E\nscheduler 1\nalloc 1 32\nalloc 6 149\nrealloc 1 7 3141\nfree 7\n"
+        ++ codes "scheduler 2\nalloc 2 152\nfree 2\ngive 2 1\ninfo\nscheduler 3\nalloc 3 8168\n"
+        ++ codes "alloc 4 63848\nalloc 5 57832\nschedule\n1*2 2*5 3*2\nend\n")
+        ≡ Some
+        (codes "scheduler 1\nalloc 1 1 8 6\nalloc 6 1 14 20\nrealloc 1 7 1 34 394 moved done\n"
+        ++ codes "free 7 done\nscheduler 2\nalloc 2 257 8 20\nfree 2 done\ngive 2 1 skipped\n"
+        ++ codes "info mbcs blocks 0 1 1 blocks_size 0 20 20 "
+        ++ codes "carriers 1 1 1 carriers_size 512 512 512\n"
+        ++ codes "info sbcs blocks 0 0 0 blocks_size 0 0 0 carriers 0 0 0 carriers_size 0 0 0\n"
+        ++ codes "scheduler 3\nalloc 3 514 8 1022\nalloc 4 515 8 7982\n"
+        ++ codes "alloc 5 fail need 7230 looked 0 space\n"
+        ++ codes "carrier 1 main owner 1 employed 1 base 0 pages 1 allocated 20 largest 478\n"
+        ++ codes "carrier 257 main owner 2 employed 2 base 85 pages 1 allocated 0 largest 504\n"
+        ++ codes "carrier 513 main owner 3 employed 3 base 170 pages 1 allocated 0 largest 504\n"
+        ++ codes "carrier 514 multi owner 3 employed 3 base 171 pages 64 "
+        ++ codes "allocated 1022 largest 31738\n"
+        ++ codes "carrier 515 single owner 3 employed 3 base 235 pages 16 "
+        ++ codes "allocated 7982 largest 202\n"
+        ++ codes "total carriers 5 units 42496 live 9024 queued 0 free 33432 header 40\n") }
+    ensures four_main_carriers { text_of
+        (words (codes "+MMsco true +MHsbct 2 +MHmbsd 3 +MHmbcgs 1 +MHsmbcs 4 +MHmmbcs 1 +S 04 "
+        ++ codes "+MHacul 0 +MHas aoffcaobf +MHlmbcs 1 +MHasbcst 1024"))
+        (codes "type H\nscheduler 1\nalloc 4 152\ngive 4 2\nalloc 17 2680\ngive 17 1\nidle\n"
+        ++ codes "scheduler 2\nalloc 2 0\nalloc 3 701\nalloc 12 319992\nalloc 14 152\nfree 12\n"
+        ++ codes "info\nalloc 16 3925\nalloc 18 149\ntake 4 40\ngive 3 4\nrealloc 16 20 1640\n"
+        ++ codes "scheduler 3\nalloc 1 88\nalloc 8 4024\nalloc 9 197\nalloc 13 45\n"
+        ++ codes "realloc 1 19 464\nfree 9\nscheduler 4\nalloc 5 2016\nalloc 6 1216\nalloc 7 1937\n"
+        ++ codes "alloc 10 48\nrealloc 10 11 88\nrealloc 7 15 905\nschedule\n2*53 1*8 4*7 3*1 3*6\n"
+        ++ codes "end\n")
+        ≡ Some
+        (codes "scheduler 1\nalloc 4 1 8 20\ngive 4 2\nalloc 17 2 8 336\ngive 17 1\nidle\n"
+        ++ codes "scheduler 2\nalloc 2 257 8 6\nalloc 3 257 14 90\nalloc 12 258 8 40000\n"
+        ++ codes "alloc 14 257 104 20\nfree 12 done\n"
+        ++ codes "info mbcs blocks 3 3 3 blocks_size 116 116 116 "
+        ++ codes "carriers 1 1 1 carriers_size 512 512 512\n"
+        ++ codes "info sbcs blocks 0 1 1 blocks_size 0 40000 40000 "
+        ++ codes "carriers 0 1 1 carriers_size 0 40448 40448\nalloc 16 258 8 492\n"
+        ++ codes "alloc 18 257 124 20\ntake 4 absent 40\ngive 3 4\nrealloc 16 20 258 8 206 here\n"
+        ++ codes "scheduler 3\nalloc 1 513 8 12\nalloc 8 514 8 504\nalloc 9 513 20 26\n"
+        ++ codes "alloc 13 513 46 8\nrealloc 1 19 513 54 60 moved done\nfree 9 done\nscheduler 4\n"
+        ++ codes "alloc 5 769 8 254\nalloc 6 769 262 154\nalloc 7 770 8 244\nalloc 10 769 416 8\n"
+        ++ codes "realloc 10 11 769 416 12 here\nrealloc 7 15 770 252 116 moved done\n"
+        ++ codes "carrier 1 main owner 1 employed 1 base 0 pages 1 allocated 20 largest 484\n"
+        ++ codes "carrier 2 single owner 1 employed 1 base 1 pages 1 allocated 336 largest 168\n"
+        ++ codes "carrier 257 main owner 2 employed 2 base 4096 pages 1 allocated 136 largest 368\n"
+        ++ codes "carrier 258 single owner 2 employed 2 base 4097 pages 1 "
+        ++ codes "allocated 206 largest 298\n"
+        ++ codes "carrier 513 main owner 3 employed 3 base 8192 pages 1 allocated 68 largest 398\n"
+        ++ codes "carrier 514 single owner 3 employed 3 base 8193 pages 1 allocated 504 largest 0\n"
+        ++ codes "carrier 769 main owner 4 employed 4 base 12288 pages 1 allocated 420 largest 84\n"
+        ++ codes "carrier 770 multi owner 4 employed 4 base 12289 pages 1 "
+        ++ codes "allocated 116 largest 244\n"
+        ++ codes "total carriers 8 units 4096 live 1806 queued 0 free 2226 header 64\n") }
+    ensures gaps_never_large_enough { text_of
+        (words (codes "+Muas aoff +S 03 +Mursbcst 50 +Mumbsd 1 +Musmbcs 4 +MMsco true "
+        ++ codes "+Mulmbcs 1 +Muacfml 1073741823 +MMscs 2 +Muacul de"))
+        (codes "type T\nscheduler 1\nalloc 3 800\ninfo\nscheduler 2\nalloc 4 233\nscheduler 3\n"
+        ++ codes "alloc 1 101\nrealloc 1 2 101\ninfo\nschedule\n3 3*3\n2 2*1 1*3\nend\n")
+        ≡ Some
+        (codes "scheduler 1\nalloc 3 1 8 102\n"
+        ++ codes "info mbcs blocks 1 1 1 blocks_size 102 102 102 "
+        ++ codes "carriers 1 1 1 carriers_size 512 512 512\n"
+        ++ codes "info sbcs blocks 0 0 0 blocks_size 0 0 0 carriers 0 0 0 carriers_size 0 0 0\n"
+        ++ codes "scheduler 2\nalloc 4 257 8 32\nscheduler 3\nalloc 1 513 8 14\n"
+        ++ codes "realloc 1 2 513 8 14 here\n"
+        ++ codes "info mbcs blocks 1 1 1 blocks_size 14 14 14 "
+        ++ codes "carriers 1 1 1 carriers_size 512 512 512\n"
+        ++ codes "info sbcs blocks 0 0 0 blocks_size 0 0 0 carriers 0 0 0 carriers_size 0 0 0\n"
+        ++ codes "carrier 1 multi owner 1 employed 1 base 0 pages 1 allocated 102 largest 402\n"
+        ++ codes "carrier 257 multi owner 2 employed 2 base 170 pages 1 allocated 32 largest 472\n"
+        ++ codes "carrier 513 multi owner 3 employed 3 base 340 pages 1 allocated 14 largest 490\n"
+        ++ codes "total carriers 3 units 1536 live 148 queued 0 free 1364 header 24\n") }
+    ensures five_that_idle { text_of
+        (words (codes "+S 5 +MHasbcst 4 +MHrmbcmt 0 +MHrsbcmt 0 +MHas aoffcaobf +MHacul 0 "
+        ++ codes "+MMscs 8"))
+        (codes "type H\nscheduler 1\nalloc 2 247128\nfree 2\nalloc 3 233\nrealloc 3 216 156248\n"
+        ++ codes "alloc 220 101\nrealloc 216 222 79233\nfree 220\nscheduler 2\nalloc 215 32\n"
+        ++ codes "alloc  217  32\nalloc 223 101\nfree 223\nidle\nscheduler 3\nidle\nscheduler 4\n"
+        ++ codes "alloc 1 13869\nalloc 218 104\ninfo\nfree 1\nalloc 221 27221\nalloc 224 49\nidle\n"
+        ++ codes "scheduler 5\nalloc 219 43261\ngive 219 3\nalloc 225 75032\nidle\nschedule\n"
+        ++ codes "end\n")
+        ≡ Some
+        (codes "scheduler 1\nalloc 2 1 8 30892\nfree 2 done\nalloc 3 1 8 32\n"
+        ++ codes "realloc 3 216 1 8 19532 here\nalloc 220 1 19540 14\n"
+        ++ codes "realloc 216 222 1 19554 9906 moved done\nfree 220 done\nscheduler 2\n"
+        ++ codes "alloc 215 257 8 6\nalloc 217 257 14 6\nalloc 223 257 20 14\nfree 223 done\nidle\n"
+        ++ codes "scheduler 3\nidle\nscheduler 4\nalloc 1 769 8 1736\nalloc 218 769 1744 14\n"
+        ++ codes "info mbcs blocks 2 2 2 blocks_size 1750 1750 1750 "
+        ++ codes "carriers 1 1 1 carriers_size 32768 32768 32768\n"
+        ++ codes "info sbcs blocks 0 0 0 blocks_size 0 0 0 carriers 0 0 0 carriers_size 0 0 0\n"
+        ++ codes "free 1 done\nalloc 221 769 1758 3404\nalloc 224 769 8 8\nidle\nscheduler 5\n"
+        ++ codes "alloc 219 1025 8 5410\ngive 219 3\nalloc 225 1025 5418 9380\nidle\n"
+        ++ codes "carrier 1 multi owner 1 employed 1 base 0 pages 64 allocated 9906 largest 19546\n"
+        ++ codes "carrier 257 multi owner 2 employed 2 base 409 pages 64 "
+        ++ codes "allocated 12 largest 32748\n"
+        ++ codes "carrier 769 multi owner 4 employed 4 base 1227 pages 64 "
+        ++ codes "allocated 3426 largest 27606\n"
+        ++ codes "carrier 1025 multi owner 5 employed 5 base 1636 pages 64 "
+        ++ codes "allocated 14790 largest 17970\n"
+        ++ codes "total carriers 4 units 131072 live 28134 queued 0 free 102906 header 32\n") }
+    ensures three_always_moving { text_of
+        (words (codes "+MDacul 0 +MDsmbcs 16 +MDmbsd 3 +S 0000000003 +MMscs 1 +MDramv true "
+        ++ codes "+MDlmbcs 50 +MDrsbcst 1"))
+        (codes "type D\nscheduler 1\nalloc 2 49\ngive 2 2\nfree 2\nalloc 5 6032\ninfo\n"
+        ++ codes "scheduler 2\nalloc 1 9849\nalloc 4 7673\nscheduler 3\nalloc 3 32\nalloc 6 3328\n"
+        ++ codes "give 3 3\nidle\nschedule\n3*1 1 3*5 2*3\n1*6\nend")
+        ≡ Some
+        (codes "scheduler 1\nalloc 2 1 8 8\ngive 2 2\nfree 2 skipped\nalloc 5 1 16 756\n"
+        ++ codes "info mbcs blocks 2 2 2 blocks_size 764 764 764 "
+        ++ codes "carriers 1 1 1 carriers_size 2048 2048 2048\n"
+        ++ codes "info sbcs blocks 0 0 0 blocks_size 0 0 0 carriers 0 0 0 carriers_size 0 0 0\n"
+        ++ codes "scheduler 2\nalloc 1 257 8 1234\nalloc 4 258 8 962\nscheduler 3\n"
+        ++ codes "alloc 3 513 8 6\nalloc 6 513 14 418\ngive 3 3\nidle\n"
+        ++ codes "carrier 1 multi owner 1 employed 1 base 0 pages 4 allocated 764 largest 1276\n"
+        ++ codes "carrier 257 multi owner 2 employed 2 base 85 pages 4 allocated 1234 largest 806\n"
+        ++ codes "carrier 258 multi owner 2 employed 2 base 89 pages 5 allocated 962 largest 1590\n"
+        ++ codes "carrier 513 multi owner 3 employed 3 base 170 pages 4 "
+        ++ codes "allocated 424 largest 1616\n"
+        ++ codes "total carriers 4 units 8704 live 3384 queued 0 free 5288 header 32\n") }
+    ensures three_of_temporary_blocks { text_of
+        (words (codes "+MTlmbcs 50 +MTrsbcst 99 +MTsbct 1 +MTas aobf +MTacul 60 +MMsco true "
+        ++ codes "+MTmbsd 2 +MRrsbcst 100 +S 3 +MTsmbcs 16"))
+        (codes "type T\nscheduler 1\nscheduler 2\nalloc 1 39989\ninfo\ngive 1 3\nscheduler 3\n"
+        ++ codes "alloc 2 152\nschedule\n3*2 2*5 1\nend\n")
+        ≡ Some
+        (codes "scheduler 1\nscheduler 2\nalloc 1 257 8 5000\n"
+        ++ codes "info mbcs blocks 0 0 0 blocks_size 0 0 0 carriers 0 0 0 carriers_size 0 0 0\n"
+        ++ codes "info sbcs blocks 1 1 1 blocks_size 5000 5000 5000 "
+        ++ codes "carriers 1 1 1 carriers_size 5120 5120 5120\ngive 1 3\nscheduler 3\n"
+        ++ codes "alloc 2 513 8 20\n"
+        ++ codes "carrier 257 single owner 2 employed 2 base 5461 pages 10 "
+        ++ codes "allocated 5000 largest 112\n"
+        ++ codes "carrier 513 multi owner 3 employed 3 base 10922 pages 4 "
+        ++ codes "allocated 20 largest 2020\n"
+        ++ codes "total carriers 2 units 7168 live 5020 queued 0 free 2132 header 16\n") }
+    ensures three_under_best_fit { text_of
+        (words (codes "+Mumbcgs 10 +Mulmbcs 32 +Muacul de +Muas bf +S 3 +Musmbcs 16 +Musbct "
+        ++ codes "600"))
+        (codes "type S\nscheduler 1\nalloc 9 29\nalloc 11 2016\nfree 11\nfree 9\nscheduler 2\n"
+        ++ codes "alloc 3 120\ninfo\ngive 3 2\nalloc 10 2808\nalloc 14 3048\nscheduler 3\n"
+        ++ codes "alloc 1 11792\nalloc 2 4352\nalloc 4 16376\nalloc 5 7304\nalloc 6 2481\n"
+        ++ codes "realloc 2 7 5208\nalloc 8 1893\nfree 7\nrealloc 1 12 1264\nrealloc 12 13 152\n"
+        ++ codes "schedule\n2 2*3 2*772 3*2325 1*262 1*5\nend\n")
+        ≡ Some
+        (codes "scheduler 1\nalloc 9 513 1722 6\nalloc 11 513 1728 254\nfree 11 done\n"
+        ++ codes "free 9 done\nscheduler 2\nalloc 3 257 8 16\n"
+        ++ codes "info mbcs blocks 1 1 1 blocks_size 16 16 16 "
+        ++ codes "carriers 1 1 1 carriers_size 2048 2048 2048\n"
+        ++ codes "info sbcs blocks 0 0 0 blocks_size 0 0 0 carriers 0 0 0 carriers_size 0 0 0\n"
+        ++ codes "give 3 2\nalloc 10 257 24 352\nalloc 14 257 376 382\nscheduler 3\n"
+        ++ codes "alloc 1 513 8 1476\nalloc 2 513 1484 546\nalloc 4 514 8 2048\nalloc 5 515 8 914\n"
+        ++ codes "alloc 6 514 2056 312\nrealloc 2 7 515 922 652 moved done\nalloc 8 513 1484 238\n"
+        ++ codes "free 7 done\nrealloc 1 12 513 1722 160 moved done\n"
+        ++ codes "realloc 12 13 514 2368 20 moved done\n"
+        ++ codes "carrier 257 multi owner 2 employed 2 base 5461 pages 4 "
+        ++ codes "allocated 750 largest 1290\n"
+        ++ codes "carrier 513 multi owner 3 pooled 1 base 10922 pages 4 "
+        ++ codes "allocated 238 largest 1476\n"
+        ++ codes "carrier 514 multi owner 3 employed 3 base 10926 pages 5 "
+        ++ codes "allocated 2380 largest 172\n"
+        ++ codes "carrier 515 multi owner 3 employed 3 base 10931 pages 5 "
+        ++ codes "allocated 914 largest 1638\n"
+        ++ codes "total carriers 4 units 9216 live 4282 queued 0 free 4902 header 32\n") }
+    ensures four_with_small_carriers { text_of
+        (words (codes "+MLsmbcs 4 +MLrsbcst 10 +MMscs 4 +MLlmbcs 8 +S 4 +MLacfml 2000"))
+        (codes "type L\nscheduler 1\nalloc 4 3152\nalloc 7 1489\nalloc 11 320\ngive 11 1\n"
+        ++ codes "alloc 17 524272\nalloc 19 152\nfree 7\nalloc 24 80\nfree 17\nalloc 27 672\n"
+        ++ codes "scheduler 2\nalloc 3 29\nalloc 5 32\nalloc 6 1008\nalloc 9 32\nrealloc 5 15 88\n"
+        ++ codes " give 3 1 \ngive 15 3\nalloc 21 2496\nalloc  26  2993\nrealloc 26 29 1296\n"
+        ++ codes "scheduler 3\nalloc 1 405\nalloc 8 524280\nalloc 14 1520\nalloc 16 1360\n"
+        ++ codes "alloc 20 29\nidle\nrealloc 16 22 85\nalloc 25 1021\nalloc 28 104\nfree 22\n"
+        ++ codes "scheduler 4\nalloc 2 41\ngive 2 2\nalloc 10 1113\nalloc 12 33\nalloc 13 1249\n"
+        ++ codes "alloc 18 2672\nfree 18\nalloc 23 48\ninfo\nfree 10\ngive 12 1\nschedule\n"
+        ++ codes "end\n")
+        ≡ Some
+        (codes "scheduler 1\nalloc 4 1 8 396\nalloc 7 2 8 188\nalloc 11 1 404 42\ngive 11 1\n"
+        ++ codes "alloc 17 3 8 65536\nalloc 19 1 446 20\nfree 7 done\nalloc 24 1 466 12\n"
+        ++ codes "free 17 done\nalloc 27 2 8 86\nscheduler 2\nalloc 3 257 8 6\nalloc 5 257 14 6\n"
+        ++ codes "alloc 6 257 20 128\nalloc 9 257 148 6\nrealloc 5 15 257 154 12 moved done\n"
+        ++ codes "give 3 1\ngive 15 3\nalloc 21 257 166 314\nalloc 26 258 8 376\n"
+        ++ codes "realloc 26 29 258 384 164 moved done\nscheduler 3\nalloc 1 258 8 52\n"
+        ++ codes "alloc 8 513 8 65536\nalloc 14 258 60 192\nalloc 16 258 548 172\n"
+        ++ codes "alloc 20 258 252 6\nidle\nrealloc 16 22 258 258 12 moved done\n"
+        ++ codes "alloc 25 258 548 130\nalloc 28 258 270 14\nfree 22 done\nscheduler 4\n"
+        ++ codes "alloc 2 769 8 8\ngive 2 2\nalloc 10 769 16 142\nalloc 12 769 158 6\n"
+        ++ codes "alloc 13 769 164 158\nalloc 18 770 8 336\nfree 18 done\nalloc 23 769 322 8\n"
+        ++ codes "info mbcs blocks 5 5 5 blocks_size 322 650 650 "
+        ++ codes "carriers 1 2 2 carriers_size 512 1536 1536\n"
+        ++ codes "info sbcs blocks 0 0 0 blocks_size 0 0 0 carriers 0 0 0 carriers_size 0 0 0\n"
+        ++ codes "free 10 done\ngive 12 1\n"
+        ++ codes "carrier 1 multi owner 1 employed 1 base 0 pages 1 allocated 470 largest 34\n"
+        ++ codes "carrier 2 multi owner 1 employed 1 base 1 pages 2 allocated 86 largest 930\n"
+        ++ codes "carrier 257 multi owner 2 employed 2 base 256 pages 1 allocated 466 largest 32\n"
+        ++ codes "carrier 258 multi owner 2 employed 3 base 257 pages 2 allocated 558 largest 346\n"
+        ++ codes "carrier 513 multi owner 3 employed 3 base 512 pages 129 "
+        ++ codes "allocated 65536 largest 504\n"
+        ++ codes "carrier 769 multi owner 4 employed 4 base 768 pages 1 allocated 180 largest 182\n"
+        ++ codes "total carriers 6 units 69632 live 67296 queued 0 free 2288 header 48\n") }
+    ensures four_under_age_order { text_of
+        (words (codes "+MMscs 8 +MHacfml 4000 +MHmbcgs 10 +S 4 +MHas ageffcaobf +MHrsbcst 78 "
+        ++ codes "+MHacul 100"))
+        (codes "type H\nscheduler 1\nalloc 48 260952\nalloc 49 8528\nalloc 50 232\ngive 50 1\n"
+        ++ codes "free 49\nalloc 53 230192\nrealloc 48 58 103717\nscheduler 2\nalloc 51 32224\n"
+        ++ codes "alloc 52 104\nfree 51\nalloc 55 32\nfree 55\nalloc 57 40\ngive 52 2\n"
+        ++ codes "scheduler 3\nalloc 1 174400\ngive 1 4\nfree 1\nfree 1\ninfo\nalloc 54 19664\n"
+        ++ codes "free 54\nidle\nscheduler 4\nalloc 2 74296\nfree 2\ninfo\ngive 2 2\n"
+        ++ codes "realloc 2 56 40797\ntake 1 1\ngive 56 1\nalloc 59 152793\nschedule\n"
+        ++ codes "4*1028 4*1025 1*3088 2*2 3 2*10 4*9\n2*2564 3*1027 3*7 3*2\nend")
+        ≡ Some
+        (codes "scheduler 1\nalloc 48 1 8 32620\nalloc 49 2 8 1068\nalloc 50 1 32628 30\n"
+        ++ codes "give 50 1\nfree 49 done\nalloc 53 2 8 28776\n"
+        ++ codes "realloc 48 58 2 28784 12966 moved done\nscheduler 2\nalloc 51 257 8 4030\n"
+        ++ codes "alloc 52 257 4038 14\nfree 51 done\nalloc 55 257 8 6\nfree 55 done\n"
+        ++ codes "alloc 57 257 8 6\ngive 52 2\nscheduler 3\nalloc 1 513 8 21802\ngive 1 4\n"
+        ++ codes "free 1 skipped\nfree 1 skipped\n"
+        ++ codes "info mbcs blocks 1 1 1 blocks_size 21802 21802 21802 "
+        ++ codes "carriers 1 1 1 carriers_size 32768 32768 32768\n"
+        ++ codes "info sbcs blocks 0 0 0 blocks_size 0 0 0 carriers 0 0 0 carriers_size 0 0 0\n"
+        ++ codes "alloc 54 513 21810 2460\nfree 54 done\nidle\nscheduler 4\nalloc 2 769 8 9288\n"
+        ++ codes "free 2 done\n"
+        ++ codes "info mbcs blocks 0 1 1 blocks_size 0 9288 9288 "
+        ++ codes "carriers 0 1 1 carriers_size 0 32768 32768\n"
+        ++ codes "info sbcs blocks 0 0 0 blocks_size 0 0 0 carriers 0 0 0 carriers_size 0 0 0\n"
+        ++ codes "give 2 2 skipped\nrealloc 2 56 skipped\ntake 1 absent 1\ngive 56 1 skipped\n"
+        ++ codes "alloc 59 1 8 19102\n"
+        ++ codes "carrier 1 multi owner 1 employed 4 base 0 pages 64 "
+        ++ codes "allocated 19132 largest 13518\n"
+        ++ codes "carrier 2 multi owner 1 employed 1 base 64 pages 186 "
+        ++ codes "allocated 41742 largest 53482\n"
+        ++ codes "carrier 257 multi owner 2 employed 2 base 512 pages 64 "
+        ++ codes "allocated 20 largest 28716\n"
+        ++ codes "carrier 513 multi owner 3 pooled 3 base 1024 pages 64 "
+        ++ codes "allocated 21802 largest 10958\n"
+        ++ codes "total carriers 4 units 193536 live 82696 queued 0 free 110808 header 32\n") }
+    ensures four_that_give_and_take { text_of
+        (words (codes "+MMscs 4 +MRrsbcmt 1 +MRacul 75 +S 0000000004 +MRmbsd 1"))
+        (codes "type R\nscheduler 1\nalloc 1 71088\nalloc 5 153\nrealloc 1 9 50557\n"
+        ++ codes "alloc 201 152\ngive 201 2\nfree 5\nrealloc 9 208 32\nrealloc 9 210 88\n"
+        ++ codes "alloc 213 152\nrealloc 213 214 49577\ngive 208 2\nscheduler  2\nalloc 4 40321\n"
+        ++ codes "alloc 6 38624\nalloc 8 229\nfree 8\nrealloc 6 200 68069\nalloc 205 32\n"
+        ++ codes "alloc 206 175016\nfree 4\nalloc 212 44368\ntake 201 1\ntake 201 40\n"
+        ++ codes "alloc 215 152\ngive 200 1\nscheduler 3\nalloc 7 0\nrealloc 7 11 60745\nfree 11\n"
+        ++ codes "realloc 11 209 85\nfree 7\ninfo\nscheduler 4\nalloc 2 0\nrealloc 2 3 41789\n"
+        ++ codes "alloc 10 153\nrealloc 3 12 84357\nalloc 202 48\nalloc 203 35056\nalloc 204 0\n"
+        ++ codes "give 204 4\nfree 10\nfree 12\nalloc 207 80469\nalloc 211 153\ntake 204 5\n"
+        ++ codes "alloc 216 31408\nfree 203\nalloc 217 33472\nschedule\n3*3 1*1027\n"
+        ++ codes "1*2066 2*2 2*1026\n2 4*1026 3*1027 2*4 2*2617 4*798 3*4\nend\n")
+        ≡ Some
+        (codes "scheduler 1\nalloc 1 1 8 8888\nalloc 5 1 8896 22\nrealloc 1 9 1 8 6322 here\n"
+        ++ codes "alloc 201 1 6330 20\ngive 201 2\nfree 5 done\nrealloc 9 208 1 6350 6 moved done\n"
+        ++ codes "realloc 9 210 skipped\nalloc 213 1 8 20\nrealloc 213 214 1 8 6200 here\n"
+        ++ codes "give 208 2\nscheduler 2\nalloc 4 257 8 5042\nalloc 6 257 5050 4830\n"
+        ++ codes "alloc 8 257 9880 30\nfree 8 done\nrealloc 6 200 257 9880 8510 moved done\n"
+        ++ codes "alloc 205 257 5050 6\nalloc 206 258 8 21878\nfree 4 done\n"
+        ++ codes "alloc 212 258 21886 5548\ntake 201 got\ntake 201 absent 40\n"
+        ++ codes "alloc 215 258 27434 20\ngive 200 1\nscheduler 3\nalloc 7 513 8 6\n"
+        ++ codes "realloc 7 11 513 8 7596 here\nfree 11 done\nrealloc 11 209 skipped\n"
+        ++ codes "free 7 skipped\n"
+        ++ codes "info mbcs blocks 0 1 1 blocks_size 0 7596 7596 "
+        ++ codes "carriers 0 1 1 carriers_size 0 32768 32768\n"
+        ++ codes "info sbcs blocks 0 0 0 blocks_size 0 0 0 carriers 0 0 0 carriers_size 0 0 0\n"
+        ++ codes "scheduler 4\nalloc 2 769 8 6\nrealloc 2 3 769 8 5226 here\nalloc 10 769 5234 22\n"
+        ++ codes "realloc 3 12 769 5256 10546 moved done\nalloc 202 769 8 8\n"
+        ++ codes "alloc 203 769 16 4384\nalloc 204 769 4400 6\ngive 204 4\nfree 10 done\n"
+        ++ codes "free 12 done\nalloc 207 769 4406 10060\nalloc 211 769 14466 22\ntake 204 got\n"
+        ++ codes "alloc 216 769 14488 3928\nfree 203 done\nalloc 217 769 16 4186\n"
+        ++ codes "carrier 1 multi owner 1 employed 1 base 0 pages 64 allocated 6226 largest 26412\n"
+        ++ codes "carrier 257 multi owner 2 pooled 2 base 256 pages 64 "
+        ++ codes "allocated 8516 largest 14378\n"
+        ++ codes "carrier 258 multi owner 2 employed 2 base 320 pages 186 "
+        ++ codes "allocated 27446 largest 67778\n"
+        ++ codes "carrier 769 multi owner 4 employed 4 base 768 pages 64 "
+        ++ codes "allocated 18210 largest 14352\n"
+        ++ codes "total carriers 4 units 193536 live 60398 queued 0 free 133106 header 32\n") }
+    ensures two_that_queue { text_of
+        (words (codes "+S 2 +MMscs 2 +Musmbcs 16 +Mulmbcs 1 +Muacul 90"))
+        (codes "type D\nscheduler 1\nalloc 1 0\nalloc 4 720\ntake 2 1\ninfo\nfree 2\ntake 3 2\n"
+        ++ codes "take 8 2\ntake 7 2\ntake 6 1\nrealloc 6 20 10936\nalloc 21 120\nfree 8\nfree 7\n"
+        ++ codes "take 10 2\ngive 21 2\nfree 3\nfree 10\nfree 1\nalloc 22 3976\nalloc 23 5808\n"
+        ++ codes "give 23 2\nalloc 24 232\nrealloc 20 25 360\nfree 4\nrealloc 22 26 152\n"
+        ++ codes "scheduler 2\nalloc 2 104\ngive 2 1\nalloc 3 1312\nalloc 5 4872\nfree 5\n"
+        ++ codes "alloc 6 7120\ngive 3 1\nalloc 7 40\nalloc 8 7352\nalloc 9 3296\nalloc 10 5552\n"
+        ++ codes "give 7 1\nfree 9\nalloc 11 2152\ngive 10 1\nalloc 12 56\nalloc 13 1368\n"
+        ++ codes "alloc 14 0\ngive 6 1\ngive 8 1\nalloc 15 6872\nalloc 16 2480\nalloc 17 72\n"
+        ++ codes "alloc 18 2448\nalloc 19 56\nschedule\n2*516 1*515 2*781 1*3 2*268 2*2 2*516\n"
+        ++ codes "2*3 1*2\n2*2 1*19\n1*6 1*2\n1*525 1*520 1*2 1*2 1*2 1*3\nend\n")
+        ≡ Some
+        (codes "scheduler 1\nalloc 1 1 8 6\nalloc 4 1 14 92\ntake 2 got\n"
+        ++ codes "info mbcs blocks 2 2 2 blocks_size 98 98 98 "
+        ++ codes "carriers 1 1 1 carriers_size 2048 2048 2048\n"
+        ++ codes "info sbcs blocks 0 0 0 blocks_size 0 0 0 carriers 0 0 0 carriers_size 0 0 0\n"
+        ++ codes "free 2 queued 2\ntake 3 got\ntake 8 got\ntake 7 got\ntake 6 got\n"
+        ++ codes "realloc 6 20 1 106 1368 moved queued 2\nalloc 21 1 1474 16\nfree 8 queued 2\n"
+        ++ codes "free 7 queued 2\ntake 10 got\ngive 21 2\nfree 3 queued 2\nfree 10 queued 2\n"
+        ++ codes "free 1 done\nalloc 22 1 1490 498\nalloc 23 2 8 728\ngive 23 2\n"
+        ++ codes "alloc 24 1 1988 30\nrealloc 20 25 2 736 46 moved done\nfree 4 done\n"
+        ++ codes "realloc 22 26 2 782 20 moved done\nscheduler 2\nalloc 2 257 8 14\ngive 2 1\n"
+        ++ codes "alloc 3 257 22 166\nalloc 5 257 188 610\nfree 5 done\nalloc 6 257 188 892\n"
+        ++ codes "give 3 1\nalloc 7 257 1080 6\nalloc 8 257 1086 920\nalloc 9 258 8 414\n"
+        ++ codes "alloc 10 258 422 696\ngive 7 1\nfree 9 done\nalloc 11 258 8 270\ngive 10 1\n"
+        ++ codes "alloc 12 257 2006 8\nalloc 13 258 1118 172\nalloc 14 257 2014 6\ngive 6 1\n"
+        ++ codes "give 8 1\nalloc 15 259 8 860\nalloc 16 258 1290 312\nalloc 17 257 2020 10\n"
+        ++ codes "alloc 18 258 1602 308\nalloc 19 257 2030 8\n"
+        ++ codes "carrier 1 multi owner 1 pooled 1 base 0 pages 4 allocated 46 largest 1466\n"
+        ++ codes "carrier 2 multi owner 1 employed 1 base 4 pages 4 allocated 794 largest 1246\n"
+        ++ codes "carrier 257 multi owner 2 employed 2 base 256 pages 4 allocated 2030 largest 10\n"
+        ++ codes "carrier 258 multi owner 2 employed 2 base 260 pages 4 "
+        ++ codes "allocated 1758 largest 144\n"
+        ++ codes "carrier 259 multi owner 2 employed 2 base 264 pages 4 "
+        ++ codes "allocated 860 largest 1180\n"
+        ++ codes "total carriers 5 units 10240 live 2794 queued 2694 free 4712 header 40\n") }
+    ensures two_under_address_order_best_fit { text_of
+        (words (codes "+S 2 +MMscs 2 +MHsmbcs 16 +MHlmbcs 40 +MHacul 100 +MHas aobf"))
+        (codes "type H\nscheduler 1\nalloc 1 3320\nalloc 7 6392\nalloc 8 15864\nalloc 9 8440\n"
+        ++ codes "alloc 10 2808\nfree 10\nalloc 11 504\nalloc 12 0\nalloc 13 3832\nfree 1\nfree 7\n"
+        ++ codes "free 8\ngive 9 2\nalloc 19 9464\nfree 12\nscheduler 2\nalloc 2 4088\n"
+        ++ codes "alloc 3 248\nalloc 4 3064\nalloc 5 7416\nalloc 6 6392\ninfo\nfree 5\nfree 4\n"
+        ++ codes "realloc 2 14 8184\nfree 3\nalloc 15 5112\n free 6\nalloc 16 1528\nalloc 17 2040\n"
+        ++ codes "alloc 18 1528\nschedule\n2*517 2*515\n1*512 1*3 2*2 1*1037 2*1\n2*4\n"
+        ++ codes "1*7 2*13 2*1 2*259 1*3\n  1*1 1*2 1*5 \nend\n")
+        ≡ Some
+        (codes "scheduler 1\nalloc 1 1 8 416\nalloc 7 1 424 800\nalloc 8 2 8 1984\n"
+        ++ codes "alloc 9 3 8 1056\nalloc 10 1 1224 352\nfree 10 done\nalloc 11 2 1992 64\n"
+        ++ codes "alloc 12 2 2056 6\nalloc 13 2 2062 480\nfree 1 done\nfree 7 done\nfree 8 done\n"
+        ++ codes "give 9 2\nalloc 19 3 1064 1184\nfree 12 done\nscheduler 2\nalloc 2 257 8 512\n"
+        ++ codes "alloc 3 257 520 32\nalloc 4 257 552 384\nalloc 5 257 936 928\nalloc 6 258 8 800\n"
+        ++ codes "info mbcs blocks 5 5 5 blocks_size 2656 2656 2656 "
+        ++ codes "carriers 2 2 2 carriers_size 4608 4608 4608\n"
+        ++ codes "info sbcs blocks 0 0 0 blocks_size 0 0 0 carriers 0 0 0 carriers_size 0 0 0\n"
+        ++ codes "free 5 done\nfree 4 done\nrealloc 2 14 258 808 1024 moved done\nfree 3 done\n"
+        ++ codes "alloc 15 258 1832 640\nfree 6 done\nalloc 16 258 8 192\nalloc 17 258 200 256\n"
+        ++ codes "alloc 18 258 456 192\n"
+        ++ codes "carrier 2 multi owner 1 pooled 1 base 4 pages 5 allocated 544 largest 1984\n"
+        ++ codes "carrier 3 multi owner 1 employed 1 base 9 pages 6 allocated 2240 largest 824\n"
+        ++ codes "carrier 258 multi owner 2 employed 2 base 260 pages 5 "
+        ++ codes "allocated 2304 largest 160\n"
+        ++ codes "total carriers 3 units 8192 live 5088 queued 0 free 3080 header 24\n") }
+    ensures two_in_address_order { text_of
+        (words (codes "+MHsmbcs 64 +S 02 +MHas aoff +MHlmbcs 128 +MTrsbcst 1 +MHmbsd 1 +MMscs "
+        ++ codes "2"))
+        (codes "type H\nscheduler 1\nalloc 1 51301\nfree 1\nfree 1\nalloc 2 9600\nfree 2\n"
+        ++ codes "free 2\nalloc 3 101\ninfo\ngive 3 2\nalloc 8 15365\nalloc 9 1544\nalloc 11 49\n"
+        ++ codes "free 11\nscheduler 2\nalloc 4 55481\nalloc 5 152\n  \nalloc 6 17401\n"
+        ++ codes "alloc 7 1909\nalloc 10 2657\nalloc 76 232\nschedule\nend\n")
+        ≡ Some
+        (codes "scheduler 1\nalloc 1 1 8 6414\nfree 1 done\nfree 1 skipped\nalloc 2 1 8 1202\n"
+        ++ codes "free 2 done\nfree 2 skipped\nalloc 3 1 8 14\n"
+        ++ codes "info mbcs blocks 1 1 1 blocks_size 14 6414 6414 "
+        ++ codes "carriers 1 1 1 carriers_size 8192 8192 8192\n"
+        ++ codes "info sbcs blocks 0 0 0 blocks_size 0 0 0 carriers 0 0 0 carriers_size 0 0 0\n"
+        ++ codes "give 3 2\nalloc 8 1 22 1922\nalloc 9 1 1944 194\nalloc 11 1 2138 8\n"
+        ++ codes "free 11 done\nscheduler 2\nalloc 4 257 8 6938\nalloc 5 257 6946 20\n"
+        ++ codes "alloc 6 1 2138 2178\nalloc 7 1 4316 240\nalloc 10 1 4556 334\n"
+        ++ codes "alloc 76 1 4890 30\n"
+        ++ codes "carrier 1 multi owner 1 employed 2 base 0 pages 16 allocated 4912 largest 3272\n"
+        ++ codes "carrier 257 multi owner 2 employed 2 base 256 pages 16 "
+        ++ codes "allocated 6958 largest 1226\n"
+        ++ codes "total carriers 2 units 16384 live 11870 queued 0 free 4498 header 16\n") }
+    ensures three_under_address_fit { text_of
+        (words (codes "+MTrsbcmt 66 +MHramv false +S 3 +MHas af +MHrsbcst 0 +MHsmbcs 12 "
+        ++ codes "+MHlmbcs 20 +MHasbcst 0 +MHmbsd 1"))
+        (codes "type H\nscheduler 1\nalloc 1 33\nfree 1\nalloc 6 7568\ninfo\nscheduler 2\n"
+        ++ codes "alloc 3 248\nrealloc 3 4 0\nscheduler 3\nalloc 2 280\nfree 2\nfree 2\n"
+        ++ codes "alloc 5 233\ninfo\nschedule\n3*7 2*774 3*1027 1*770 1*3\n1\n1*769 1*2\nend\n")
+        ≡ Some
+        (codes "scheduler 1\nalloc 1 1 8 6\nfree 1 done\nalloc 6 1 8 948\n"
+        ++ codes "info mbcs blocks 1 1 1 blocks_size 948 948 948 "
+        ++ codes "carriers 1 1 1 carriers_size 1536 1536 1536\n"
+        ++ codes "info sbcs blocks 0 0 0 blocks_size 0 0 0 carriers 0 0 0 carriers_size 0 0 0\n"
+        ++ codes "scheduler 2\nalloc 3 257 8 32\nrealloc 3 4 257 40 6 moved done\nscheduler 3\n"
+        ++ codes "alloc 2 257 46 36\nfree 2 done\nfree 2 skipped\nalloc 5 257 8 32\n"
+        ++ codes "info mbcs blocks 2 2 2 blocks_size 38 42 42 "
+        ++ codes "carriers 1 1 1 carriers_size 1536 1536 1536\n"
+        ++ codes "info sbcs blocks 0 0 0 blocks_size 0 0 0 carriers 0 0 0 carriers_size 0 0 0\n"
+        ++ codes "carrier 1 multi owner 1 employed 1 base 0 pages 3 allocated 948 largest 580\n"
+        ++ codes "carrier 257 multi owner 2 employed 3 base 5461 pages 3 "
+        ++ codes "allocated 38 largest 1490\n"
+        ++ codes "total carriers 2 units 3072 live 986 queued 0 free 2070 header 16\n") }
+    ensures four_in_address_order { text_of
+        (words (codes "+MLrsbcst 1 +S 0000000004 +Muas aoff +Muacul 100 +MMscs 1 +Muacfml 64 "
+        ++ codes "+Musmbcs 4 +Mulmbcs 1"))
+        (codes "type H\nscheduler 1\nalloc 1 1073\ngive 1 4\nrealloc 1 8 113\nscheduler 2\n"
+        ++ codes "alloc 3 232\ngive 3 3\nfree 3\nfree 3\ninfo\nalloc 6 3533\nalloc 7 45\ninfo\n"
+        ++ codes "alloc 9 233\nfree 7\nscheduler 3\nalloc 2 960\nalloc 4 32\nfree 4\nalloc 5 1253\n"
+        ++ codes "give 2 1\nscheduler 4\nschedule\n2*2064 4*1 3*10 3*1017 1*1030 3*256\n3*264\n"
+        ++ codes "end\n")
+        ≡ Some
+        (codes "scheduler 1\nalloc 1 1 8 136\ngive 1 4\nrealloc 1 8 skipped\nscheduler 2\n"
+        ++ codes "alloc 3 257 8 30\ngive 3 3\nfree 3 skipped\nfree 3 skipped\n"
+        ++ codes "info mbcs blocks 1 1 1 blocks_size 30 30 30 "
+        ++ codes "carriers 1 1 1 carriers_size 512 512 512\n"
+        ++ codes "info sbcs blocks 0 0 0 blocks_size 0 0 0 carriers 0 0 0 carriers_size 0 0 0\n"
+        ++ codes "alloc 6 257 38 444\nalloc 7 257 482 8\n"
+        ++ codes "info mbcs blocks 3 3 3 blocks_size 482 482 482 "
+        ++ codes "carriers 1 1 1 carriers_size 512 512 512\n"
+        ++ codes "info sbcs blocks 0 0 0 blocks_size 0 0 0 carriers 0 0 0 carriers_size 0 0 0\n"
+        ++ codes "alloc 9 258 8 32\nfree 7 done\nscheduler 3\nalloc 2 513 8 122\n"
+        ++ codes "alloc 4 513 130 6\nfree 4 done\nalloc 5 513 130 158\ngive 2 1\nscheduler 4\n"
+        ++ codes "carrier 1 multi owner 1 employed 1 base 0 pages 1 allocated 136 largest 368\n"
+        ++ codes "carrier 257 multi owner 2 pooled 2 base 64 pages 1 allocated 474 largest 30\n"
+        ++ codes "carrier 258 multi owner 2 employed 2 base 65 pages 1 allocated 32 largest 472\n"
+        ++ codes "carrier 513 multi owner 3 employed 3 base 128 pages 1 allocated 280 largest 224\n"
+        ++ codes "total carriers 4 units 2048 live 922 queued 0 free 1094 header 32\n") }
+    ensures both_blocks_observed { text_of (words (codes "+MHramv true"))
+        (codes "type H\nscheduler 1\nalloc 1 100\nrealloc 1 2 100\ninfo\nschedule\nend\n")
+        ≡ Some
+        (codes "scheduler 1\nalloc 1 1 8 14\nrealloc 1 2 1 22 14 moved done\n"
+        ++ codes "info mbcs blocks 0 2 2 blocks_size 0 28 28 "
+        ++ codes "carriers 0 1 1 carriers_size 0 32768 32768\n"
+        ++ codes "info sbcs blocks 0 0 0 blocks_size 0 0 0 carriers 0 0 0 carriers_size 0 0 0\n"
+        ++ codes "carrier 1 multi owner 1 pooled 1 base 0 pages 64 allocated 14 largest 32732\n"
+        ++ codes "total carriers 1 units 32768 live 14 queued 0 free 32746 header 8\n") }
+    ensures one_block_observed { text_of (words (codes "+MHramv true +MHacul 0"))
+        (codes "type H\nscheduler 1\nalloc 1 100\nrealloc 1 2 100\ninfo\nschedule\nend\n")
+        ≡ Some
+        (codes "scheduler 1\nalloc 1 1 8 14\nrealloc 1 2 1 22 14 moved done\n"
+        ++ codes "info mbcs blocks 1 1 1 blocks_size 14 14 14 "
+        ++ codes "carriers 1 1 1 carriers_size 32768 32768 32768\n"
+        ++ codes "info sbcs blocks 0 0 0 blocks_size 0 0 0 carriers 0 0 0 carriers_size 0 0 0\n"
+        ++ codes "carrier 1 multi owner 1 employed 1 base 0 pages 64 allocated 14 largest 32732\n"
+        ++ codes "total carriers 1 units 32768 live 14 queued 0 free 32746 header 8\n") }
+    ensures emptied_in_the_pool { text_of []
+        (codes "type H\nscheduler 1\nalloc 1 100\nalloc 2 100\nfree 1\ninfo\nfree 2\ninfo\n"
+        ++ codes "schedule\nend\n")
+        ≡ Some
+        (codes "scheduler 1\nalloc 1 1 8 14\nalloc 2 1 22 14\nfree 1 done\n"
+        ++ codes "info mbcs blocks 0 2 2 blocks_size 0 28 28 "
+        ++ codes "carriers 0 1 1 carriers_size 0 32768 32768\n"
+        ++ codes "info sbcs blocks 0 0 0 blocks_size 0 0 0 carriers 0 0 0 carriers_size 0 0 0\n"
+        ++ codes "free 2 done\n"
+        ++ codes "info mbcs blocks 0 0 2 blocks_size 0 0 28 "
+        ++ codes "carriers 0 1 1 carriers_size 0 32768 32768\n"
+        ++ codes "info sbcs blocks 0 0 0 blocks_size 0 0 0 carriers 0 0 0 carriers_size 0 0 0\n"
+        ++ codes "total carriers 0 units 0 live 0 queued 0 free 0 header 0\n") }
+{}

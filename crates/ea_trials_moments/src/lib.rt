@@ -1,0 +1,8 @@
+//! Moments of worked runs: what stands after given turns, computed from the definitions of the
+//! machine alone. Each value was worked out by hand.
+#![tactic(auto)]
+
+pub mod abandoning;
+pub mod queues;
+pub mod returning;
+pub mod tries;

@@ -1,0 +1,4 @@
+mod Exhausted
+mod Placed
+mod Searched
+mod Setups

@@ -1,0 +1,113 @@
+-- A worked placement, from what is computed of the run.
+use Rattle.std.proofs.Common.{◌≡◌, ◌≤◌, ◌<◌, ℕ, true, List, [], ◌∷◌, ◌++◌, None, Some, Ok, refl, sym, ◌∙◌, inl, inr}
+use Rattle.ea_model.specs.declared.carriers.CarrierPlan.{CarrierPlan}
+use Rattle.ea_model.specs.declared.carriers.Place.{Place}
+use Rattle.ea_model.specs.declared.carriers.Spot.{Spot}
+use Rattle.ea_model.specs.declared.entries.Entry.{Entry}
+use Rattle.ea_model.specs.Content.{Content}
+use Rattle.ea_model.specs.Instance.{chosen_spot, creating, place_at, plan, single_place}
+use Rattle.ea_machine.specs.declared.owners.OwnerWord.{OwnerWord}
+use Rattle.ea_machine.specs.Actor.{Ask, Creating, Fetching}
+use Rattle.ea_machine.specs.Chosen.{ByItself, Created, Fetched, IsPlacement}
+use Rattle.ea_machine.specs.Employment.{employing}
+use Rattle.ea_machine.specs.Machine.{run}
+use Rattle.ea_machine.specs.Needs.{HasNeed}
+use Rattle.ea_machine.specs.Rows.{Won}
+use Rattle.ea_machine.specs.Setup.{Setup, migration}
+use Rattle.ea_machine.specs.Turns.{actor_after, answered, log_after}
+
+-- a block is placed in a carrier that was fetched, and its entry made in the same step
+pub fetched-placement : (setup : Setup) (turns : List ℕ) (s : ℕ) (place : Place) (ask : Ask)
+    (at looked : ℕ) (seen : OwnerWord) (x : Content) (spot : Spot)
+    → ask.need ≤ setup.settings.sbct
+    → HasNeed (actor_after setup turns s).todo ask.need
+    → (actor_after setup turns s).stage ≡ Fetching ask at looked seen
+    → chosen_spot (actor_after setup turns s).instance ask.need ≡ None
+    → answered (run setup turns) s ≡ Won x
+    → chosen_spot (employing (actor_after setup turns s).instance x) ask.need ≡ Some spot
+    → place_at (employing (actor_after setup turns s).instance x) spot ask.need ≡ place
+    → IsPlacement setup turns s place
+fetched-placement setup turns s place ask at looked seen x spot small asks stage none won chosen
+    is =
+    record {
+      before = turns;
+      since = [];
+      split = refl;
+      same = refl;
+      need = ask.need;
+      asks = asks;
+      placed = inl (
+        small,
+        record {
+          instance = employing (actor_after setup turns s).instance x;
+          before = Fetched ask at looked seen x stage refl none won refl;
+          spot = spot;
+          chosen = chosen;
+          is = sym is;
+        },
+      );
+    }
+
+-- a block is placed in a carrier that was created, and its entry made in a later step
+pub created-placement : (setup : Setup) (turns : List ℕ) (s : ℕ) (place : Place)
+    (before since : List ℕ) (log : List Entry) (ask : Ask) (p : CarrierPlan) (spot : Spot)
+    → turns ++ s ∷ [] ≡ before ++ s ∷ since
+    → log_after setup before s ≡ log
+    → log_after setup turns s ≡ log
+    → migration setup ≡ true
+    → ask.need ≤ setup.settings.sbct
+    → HasNeed (actor_after setup before s).todo ask.need
+    → (actor_after setup before s).stage ≡ Creating ask p
+    → plan (actor_after setup before s).instance ask.need ≡ Ok p
+    → chosen_spot (actor_after setup before s).instance ask.need ≡ None
+    → chosen_spot (creating (actor_after setup before s).instance p) ask.need ≡ Some spot
+    → place_at (creating (actor_after setup before s).instance p) spot ask.need ≡ place
+    → IsPlacement setup turns s place
+created-placement setup turns s place before since log ask p spot split then now on small asks stage
+    planned none chosen is = record {
+      before = before;
+      since = since;
+      split = split;
+      same = then ∙ sym now;
+      need = ask.need;
+      asks = asks;
+      placed = inl (
+        small,
+        record {
+          instance = creating (actor_after setup before s).instance p;
+          before = Created (actor_after setup before s).instance p
+              (ByItself on ask stage refl refl planned) none refl;
+          spot = spot;
+          chosen = chosen;
+          is = sym is;
+        },
+      );
+    }
+
+-- a large block is placed in a carrier of its own, and its entry made in the same step
+pub single-placement : (setup : Setup) (turns : List ℕ) (s : ℕ) (ask : Ask) (p : CarrierPlan)
+    → migration setup ≡ true
+    → setup.settings.sbct < ask.need
+    → HasNeed (actor_after setup turns s).todo ask.need
+    → (actor_after setup turns s).stage ≡ Creating ask p
+    → plan (actor_after setup turns s).instance ask.need ≡ Ok p
+    → p.single ≡ true
+    → IsPlacement setup turns s (single_place p ask.need)
+single-placement setup turns s ask p on large asks stage planned single = record {
+  before = turns;
+  since = [];
+  split = refl;
+  same = refl;
+  need = ask.need;
+  asks = asks;
+  placed = inr (
+    large,
+    record {
+      instance = (actor_after setup turns s).instance;
+      plan = p;
+      creates = ByItself on ask stage refl refl planned;
+      single = single;
+      is = refl;
+    },
+  );
+}

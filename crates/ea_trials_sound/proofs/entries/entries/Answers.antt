@@ -1,0 +1,67 @@
+use Rattle.std.proofs.Common.{refl, true, false, codes, Some, None, [], ◌∷◌, ◌++◌, arith}
+use Rattle.ea_model.specs.declared.entries.Entry.TheVariants as entry
+use Rattle.ea_model.specs.declared.entries.NoCarrier.TheVariants.{Space}
+use Rattle.ea_model.specs.Instance.{unused_from}
+use Rattle.ea_machine.specs.declared.owners.OwnerWord.TheVariants as word
+use Rattle.ea_machine.specs.Table.{answer, effect}
+use Rattle.ea_machine.specs.Machine.{after, step_at}
+use Rattle.ea_trials_moments.specs.Runs.{carrier_with, named, usual}
+use Rattle.ea_trials_sound.specs.Courses.{turns}
+use Rattle.ea_trials_sound.specs.Entries.{absent_from, full_region, place}
+use Rattle.ea_trials_sound.proofs.Placed.{created-placement, fetched-placement, single-placement}
+use Rattle.ea_trials_sound.proofs.Setups.{full_instance, full_setup, moving_setup, under-setup}
+use Rattle.ea_trials_sound.proofs.Exhausted.{exhausted}
+use Rattle.ea_machine.specs.Exhausted.{IsExhausted}
+use Rattle.ea_machine.specs.Searches.{Missed, Shown}
+use Rattle.ea_trials_sound.specs.Runs.{moved_away, named_in}
+use Rattle.ea_machine.specs.Chosen.{IsPlacement}
+use Rattle.ea_trials_sound.proofs.entries.entries.Goals as goal
+
+pub returns-clause-sights : goal.returns-clause-sights
+unfolding unused_from answer effect after step_at
+returns-clause-sights c = refl
+
+pub returns-clause-failed : goal.returns-clause-failed
+unfolding unused_from answer effect after step_at
+returns-clause-failed c = refl
+
+pub returns-clause-exhausted : goal.returns-clause-exhausted
+unfolding unused_from answer effect after step_at
+returns-clause-exhausted c = under-setup
+    (λ setup. IsExhausted setup (turns (codes "1*518 2*514 2*513 1*3")) 2
+    (entry.AllocFail 5 12502 1 Space) 12502 1 Space)
+    full_setup (full_region []) refl
+    (exhausted full_setup (turns (codes "1*518 2*514 2*513 1*3")) 2
+    (entry.AllocFail 5 12502 1 Space) 12502 1 Space (turns (codes "1*518 2*514"))
+    (turns (codes "2*512 1*3 2"))
+    (absent_from 512 255 ++ Shown 257 (word.Employed 2) ∷ absent_from 256 255
+    ++ Shown 1 (word.Pooled 1 25002) ∷ Missed 1 (word.Busy 1) ∷ [])
+    (entry.Alloc 4 (place 257 8 62502) ∷ []) full_instance (named_in 257 4 8 ∷ []) refl refl refl
+    refl refl refl (omega arith) refl refl refl refl refl refl refl refl refl refl)
+
+pub returns-clause-in_a_fetched_carrier : goal.returns-clause-in_a_fetched_carrier
+unfolding unused_from answer effect after step_at
+returns-clause-in_a_fetched_carrier c = fetched-placement _ _ _ _
+    (record { name = 3; need = 14; old = None }) 1 1 (word.Pooled 1 32728)
+    (carrier_with (usual 2 26 ∷ [])) (record { carrier = 1; offset = 8 }) (omega arith) refl refl
+    refl refl refl refl
+
+pub returns-clause-in_a_new_carrier : goal.returns-clause-in_a_new_carrier
+unfolding unused_from answer effect after step_at
+returns-clause-in_a_new_carrier c = under-setup
+    (λ setup. IsPlacement setup (turns (codes "1*518 2*514 1*513 1*3 2*4")) 1 (place 2 8 26))
+    moving_setup (moved_away []) refl
+    (created-placement moving_setup (turns (codes "1*518 2*514 1*513 1*3 2*4")) 1 (place 2 8 26)
+    (turns (codes "1*518 2*514 1*513")) (turns (codes "1*2 2*4 1"))
+    (entry.Alloc 1 (place 1 8 14) ∷ entry.Alloc 2 (place 1 22 14) ∷ entry.Free 1 ∷ [])
+    (record { name = 4; need = 26; old = Some (named 2 22) })
+    (record { number = 2; base = 64; pages = 64; birth = 2; single = false })
+    (record { carrier = 2; offset = 8 }) refl refl refl refl (omega arith) refl refl refl refl refl
+    refl)
+
+pub returns-clause-in_a_carrier_of_its_own : goal.returns-clause-in_a_carrier_of_its_own
+unfolding unused_from answer effect after step_at
+returns-clause-in_a_carrier_of_its_own c = single-placement _ _ _
+    (record { name = 1; need = 75002; old = None })
+    (record { number = 1; base = 0; pages = 147; birth = 1; single = true }) refl (omega arith)
+    refl refl refl refl

@@ -1,0 +1,49 @@
+-- The moments of a run, one after another.
+use Rattle.std.specs.Prelude.{ℕ, Bool, true, false, List, [], ◌∷◌, ◌++◌, Option, None, Some, flat_map, replicate}
+use Rattle.ea_model.specs.declared.trace.Turns.{Turns}
+use Rattle.ea_model.specs.Words.{words}
+use Rattle.ea_trace.specs.Lines.{turns_in}
+use Rattle.ea_machine.specs.Actor.{Stage, Searching}
+use Rattle.ea_machine.specs.Machine.{step}
+use Rattle.ea_machine.specs.Setup.{Setup}
+use Rattle.ea_machine.specs.State.{State}
+use Rattle.ea_trials_moments.specs.Moments.{Moment}
+
+-- a run from one moment on: that moment, and the schedulers that step after it
+pub record Course : Type 0 where
+  pub moment : Moment
+  pub turns : List ℕ
+
+abbrev pub turns_of : Option (List Turns) → List ℕ
+turns_of None = []
+turns_of (Some turns) = flat_map (λ t. replicate t.count t.scheduler) turns
+
+-- the schedulers that step by a line of a schedule, one for each turn
+abbrev pub turns : List ℕ → List ℕ
+turns line = turns_of (turns_in (words line))
+
+-- the run, from a moment on, by the turns that a line of a schedule gives
+abbrev pub from : Option Moment → List ℕ → Option Course
+from None line = None
+from (Some m) line = Some (record { moment = m; turns = turns line })
+
+-- whether a scheduler looks at owner words; nothing else changes by that
+abbrev pub is_searching : Stage → Bool
+is_searching (Searching ask at looked) = true
+is_searching _ = false
+
+-- the state, unless it is within a search
+abbrev pub unless : Bool → State → List State
+unless true state = []
+unless false state = state ∷ []
+
+module _ (setup : Setup) where
+  -- the states after each of these turns, without those within a search of who stepped
+  abbrev pub states_after : State → List ℕ → List State
+  states_after state [] = []
+  states_after state (s ∷ ss) = let next = step setup state s in
+      unless (is_searching (next.actors s).stage) next ++ states_after next ss
+
+-- the states of a course, without those within a search
+abbrev pub states_of : Course → List State
+states_of c = c.moment.state ∷ states_after c.moment.setup c.moment.state c.turns

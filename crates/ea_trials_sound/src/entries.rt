@@ -1,0 +1,26 @@
+//! A block that finds no place, and blocks that find one.
+
+ghost use Rattle.std.specs.Prelude.{◌≡◌, ◌++◌, codes, Some, [], ◌∷◌};
+ghost use Rattle.ea_model.specs.declared.entries.Entry.TheVariants as entry;
+ghost use Rattle.ea_model.specs.declared.entries.NoCarrier.TheVariants.{Space};
+ghost use Rattle.ea_machine.specs.declared.owners.OwnerWord.TheVariants as word;
+ghost use Rattle.ea_machine.specs.Searches.{Missed, Shown};
+ghost use Rattle.ea_trials_moments.specs.Runs.{single_block};
+ghost use Rattle.ea_trials_sound.specs.Entries.{FindsNone, FindsPlace, absent_from, full_region, log_of, place, sights_of, two_gaps};
+ghost use Rattle.ea_trials_sound.specs.Runs.{moved_away};
+
+/// What a search saw, and that the entries say what is so.
+pub fn entries()
+    ensures sights { sights_of full_region 2 (codes "1*518 2*514") (codes "2*512 1*3 2")
+        ≡ Some
+        (absent_from 512 255 ++ Shown 257 (word.Employed 2) ∷ absent_from 256 255
+        ++ Shown 1 (word.Pooled 1 25002) ∷ Missed 1 (word.Busy 1) ∷ []) }
+    ensures failed { log_of full_region 2 (codes "1*518 2*514 2*513 1*3 2")
+        ≡ Some (entry.Alloc 4 (place 257 8 62502) ∷ entry.AllocFail 5 12502 1 Space ∷ []) }
+    ensures exhausted { FindsNone full_region (codes "1*518 2*514 2*513 1*3") 2
+        (entry.AllocFail 5 12502 1 Space) 12502 1 Space }
+    ensures in_a_fetched_carrier { FindsPlace two_gaps (codes "1*519") 1 (place 1 8 18) }
+    ensures in_a_new_carrier { FindsPlace moved_away (codes "1*518 2*514 1*513 1*3 2*4") 1
+        (place 2 8 26) }
+    ensures in_a_carrier_of_its_own { FindsPlace single_block (codes "1") 1 (place 1 8 75002) }
+{}
