@@ -1,0 +1,79 @@
+-- The begin of an operation leaves the operations left, the log and the settings alone.
+use Rattle.std.proofs.Common.{◌≢◌, ℕ, List, [], ◌∷◌, refl}
+use Rattle.std.specs.Prelude.{Option, Some, None}
+use Rattle.ea_machine.specs.declared.nodes.Node.{Node}
+use Rattle.ea_machine.specs.declared.nodes.Node.TheVariants.{Block, Carrier}
+use Rattle.ea_machine.specs.Actor.{Actor, Gone, Route, Stage, Begin, Routed, Collecting, Searching, Fetching, Creating, Giving, Taking, Ended, Ready, Walk, For}
+use Rattle.ea_machine.specs.Machine.{after_row}
+use Rattle.ea_machine.specs.Releases.{looked, route_of, turned}
+use Rattle.ea_machine.specs.Rows.{Answer, Done, Head, Rests, Passes, Saw, Won, Lost, Home, Got}
+use Rattle.ea_machine.specs.Setup.{Setup}
+use Rattle.ea_machine.specs.Tasks.{carried}
+use Rattle.ea_machine.specs.Walks.{after_route, begun, with_passed, worked_off}
+use Rattle.ea_sound.proofs.ShortRoutes.{Keeps, keeps-on, keeps-same, route-keeps, turned-keeps}
+
+-- where the walk of a begin may be, and after it
+abbrev pub IsInBegin : Stage → Type 0
+IsInBegin Begin = Unit {0}
+IsInBegin (Routed r Walk g) = Unit {0}
+IsInBegin (Routed r (For task) g) = ⊥
+IsInBegin (Collecting c) = Unit {0}
+IsInBegin (Searching ask at looked) = ⊥
+IsInBegin (Fetching ask at looked seen) = ⊥
+IsInBegin (Creating ask p) = ⊥
+IsInBegin (Giving h to) = ⊥
+IsInBegin (Taking n tries left) = ⊥
+IsInBegin Ended = Unit {0}
+IsInBegin Ready = Unit {0}
+
+abbrev pub Walks : Actor → Actor → Type 0
+Walks a b = Keeps a b × IsInBegin b.stage
+
+module _ (e : Setup) (me : ℕ) (a : Actor) where
+  carried-walks : (over : Gone → Actor → Actor) (r : Option Route) (g : Gone) (b : Actor)
+      → Keeps a b → ((h : Gone) (c : Actor) → Keeps a c → Walks a (over h c))
+      → Walks a (carried Walk over (record { actor = b; route = r; gone = g }))
+  carried-walks over None g b k f = f g b k
+  carried-walks over (Some r) g b k f = (k, tt)
+
+  worked-walks : (ns : List Node) (b : Actor) → Keeps a b → Walks a (worked_off e me ns b)
+  worked-walks [] b k = (k, tt)
+  worked-walks (Carrier c ∷ ns) b k = (k, tt)
+  worked-walks (Block n p ∷ ns) b k =
+      let t = route_of e me (record { name = n; spot = p }) (record b { passed = ns }) in
+      carried-walks (λ gone d. worked_off e me ns d) t.route t.gone t.actor
+      (keeps-on a b t.actor
+      (route-keeps e me (record { name = n; spot = p }) (record b { passed = ns })) k)
+      (λ h d l. worked-walks ns d l)
+
+  begun-walks : (r : Answer) → Walks a (begun e me a r)
+  begun-walks (Head None) = (keeps-same a, tt)
+  begun-walks (Head (Some n)) = (keeps-same a, tt)
+  begun-walks Rests = (keeps-same a, tt)
+  begun-walks (Passes None) =
+      worked-walks (with_passed a.next a.passed) (record a { next = None }) (refl, refl, refl)
+  begun-walks (Passes (Some n)) = (keeps-same a, tt)
+  begun-walks Done = (keeps-same a, tt)
+  begun-walks (Saw v) = (keeps-same a, tt)
+  begun-walks (Won x) = (keeps-same a, tt)
+  begun-walks (Lost v) = (keeps-same a, tt)
+  begun-walks (Home x) = (keeps-same a, tt)
+  begun-walks (Got p) = (keeps-same a, tt)
+
+  -- a row of the begin leaves a stage of the begin, or the begin is over
+  pub walks : (st : Stage) (r : Answer) → IsInBegin st → st ≢ Ended → st ≢ Ready
+      → Walks a (after_row e me a r st)
+  walks Begin r w ne nr = begun-walks r
+  walks (Routed z Walk g) r w ne nr =
+      let t = turned e me z g a r in
+      carried-walks (after_route e me Walk) t.route t.gone t.actor (turned-keeps e me z g a r)
+      (λ h d l. worked-walks d.passed d l)
+  walks (Collecting c) r w ne nr = worked-walks a.passed _ (refl, refl, refl)
+  walks Ended r w ne nr = absurd (ne refl)
+  walks Ready r w ne nr = absurd (nr refl)
+  walks (Routed z (For task) g) r w ne nr = absurd w
+  walks (Searching ask at looked) r w ne nr = absurd w
+  walks (Fetching ask at looked seen) r w ne nr = absurd w
+  walks (Creating ask p) r w ne nr = absurd w
+  walks (Giving h to) r w ne nr = absurd w
+  walks (Taking n tries left) r w ne nr = absurd w

@@ -1,0 +1,298 @@
+-- What the turns so far say of a scheduler, by where it is in its operation.
+use Rattle.std.proofs.Common.{◌≡◌, ◌≢◌, ℕ, ◌<◌, ◌≤◌, List, [], ◌∷◌, ◌++◌, Bool, true, false, refl, sym, ap, ◌∙◌, subst, arith}
+use Rattle.std.specs.Prelude.{Option, Some, None, Ok, ◌==◌, count_by, length}
+use Rattle.std.proofs.lemmas.List.{append-nil, length-append}
+use Rattle.ea_model.specs.declared.carriers.CarrierPlan.{CarrierPlan}
+use Rattle.ea_model.specs.declared.carriers.Place.{Place}
+use Rattle.ea_model.specs.declared.entries.Entry.{Entry}
+use Rattle.ea_model.specs.declared.entries.Entry.TheVariants as entry
+use Rattle.ea_model.specs.declared.entries.NoCarrier.{NoCarrier}
+use Rattle.ea_model.specs.declared.operations.Op.{Op}
+use Rattle.ea_model.specs.declared.operations.Op.TheVariants as op
+use Rattle.ea_model.specs.declared.units.TheConstants.{SEARCH_LIMIT}
+use Rattle.ea_model.specs.Instance.{chosen_spot, plan}
+use Rattle.ea_machine.specs.declared.owners.OwnerWord.{OwnerWord}
+use Rattle.ea_machine.specs.Actor.{Actor, Ask, Gone, Open, Here, Queued, Stage, Begin, Routed, Collecting, Searching, Fetching, Creating, Giving, Taking, Ended, Ready, Task, Freeing, Moving, Why, Walk, For}
+use Rattle.ea_machine.specs.Chosen.{IsPlacedAt}
+use Rattle.ea_machine.specs.Entries.{Makes}
+use Rattle.ea_machine.specs.Exhausted.{IsFailOf, seen_since}
+use Rattle.ea_machine.specs.Machine.{run}
+use Rattle.ea_machine.specs.Needs.{AsksFor, HasNeed}
+use Rattle.ea_machine.specs.Nodes.{Named}
+use Rattle.ea_machine.specs.Placements.{counted, failed, fits}
+use Rattle.ea_machine.specs.Searches.{Searched, Shown, Sight, sight_if}
+use Rattle.ea_machine.specs.Setup.{Setup, greatest_number, migration}
+use Rattle.ea_machine.specs.State.{State}
+use Rattle.ea_machine.specs.Sums.{one_if}
+use Rattle.ea_machine.specs.Tasks.{entry_of}
+use Rattle.ea_machine.specs.Turns.{IsBegun, answered, begun, log_after}
+use Rattle.ea_sound.specs.Present.{OfAsk, OfTask}
+use Rattle.ea_sound.proofs.SearchLists.{count-snoc, sights-snoc}
+use Rattle.ea_sound.proofs.TurnLists.{longer, run-since}
+
+-- b has the log, the operations left, the instance and the held names of a
+abbrev pub IsSame : Actor → Actor → Type 0
+IsSame a b = (b.log ≡ a.log) × (b.todo ≡ a.todo) × (b.instance ≡ a.instance) × (b.held ≡ a.held)
+
+-- the begin of its operation was over in a turn of L, nothing was to be chosen then, it was as R
+-- says, and what it saw since then, with each of its steps, is as P says
+pub record Underway (e : Setup) (L : List ℕ) (s need : ℕ) (R : Actor → Type 0)
+    (P : List Sight → Type 0) : Type 0 where
+  pub before : List ℕ
+  pub since : List ℕ
+  pub split : L ≡ before ++ s ∷ since
+  pub begins : IsBegun e (run e before) s
+  pub same : R (begun e before s)
+  pub asks : AsksFor (begun e before s) (begun e before s).todo need
+  pub none : chosen_spot (begun e before s).instance need ≡ None
+  pub saw : P (seen_since e before s since)
+  pub steps : count_by (λ j. j == s) since ≡ length (seen_since e before s since)
+
+pub record Searches (e : Setup) (L : List ℕ) (s : ℕ) (a : Actor) (ask : Ask) (at looked : ℕ)
+    : Type 0 where
+  pub of : OfAsk ask a.todo
+  pub on : migration e ≡ true
+  pub small : ask.need ≤ e.settings.sbct
+  pub low : 0 < at
+  pub room : looked < SEARCH_LIMIT
+  pub way : Underway e L s ask.need (λ b. IsSame b a)
+      (Searched ask.need (greatest_number e) 0 at looked)
+
+-- the last sight showed the word that is tried
+abbrev pub AndShown : Setup → ℕ → ℕ → ℕ → OwnerWord → List Sight → Type 0
+AndShown e need at looked seen xs = (ys : List Sight) × (xs ≡ ys ++ Shown at seen ∷ [])
+    × Searched need (greatest_number e) 0 at looked ys
+
+pub record Fetches (e : Setup) (L : List ℕ) (s : ℕ) (a : Actor) (ask : Ask) (at looked : ℕ)
+    (seen : OwnerWord) : Type 0 where
+  pub of : OfAsk ask a.todo
+  pub on : migration e ≡ true
+  pub small : ask.need ≤ e.settings.sbct
+  pub low : 0 < at
+  pub old : ℕ
+  pub room : old < SEARCH_LIMIT
+  pub counts : looked ≡ counted seen old
+  pub fit : fits ask.need seen ≡ true
+  pub way : Underway e L s ask.need (λ b. IsSame b a) (AndShown e ask.need at old seen)
+
+pub record Creates (e : Setup) (a : Actor) (ask : Ask) (p : CarrierPlan) : Type 0 where
+  pub of : OfAsk ask a.todo
+  pub on : migration e ≡ true
+  pub planned : plan a.instance ask.need ≡ Ok p
+  pub none : ask.need ≤ e.settings.sbct → chosen_spot a.instance ask.need ≡ None
+
+-- s placed a block in a turn of L, when its log was this
+pub record Placement (e : Setup) (L : List ℕ) (s : ℕ) (log : List Entry) (place : Place) : Type 0
+  where
+    pub before : List ℕ
+    pub since : List ℕ
+    pub split : L ≡ before ++ s ∷ since
+    pub same : log_after e before s ≡ log
+    pub need : ℕ
+    pub asks : HasNeed ((run e before).actors s).todo need
+    pub placed : IsPlacedAt e (run e before) s need place
+
+abbrev pub Placing : Setup → List ℕ → ℕ → List Entry → Task → Type 0
+Placing e L s log (Freeing n) = Unit {0}
+Placing e L s log (Moving o n p) = Placement e L s log p
+
+abbrev pub OnTask : Setup → List ℕ → ℕ → Actor → Why → Type 0
+OnTask e L s a Walk = Unit {0}
+OnTask e L s a (For task) = OfTask task a.todo × Placing e L s a.log task
+
+-- what the turns L say of s, which is a
+abbrev pub SoFar : Setup → List ℕ → ℕ → Actor → Stage → Type 0
+SoFar e L s a Begin = Unit {0}
+SoFar e L s a (Routed r why g) = OnTask e L s a why
+SoFar e L s a (Collecting c) = Unit {0}
+SoFar e L s a (Searching ask at looked) = Searches e L s a ask at looked
+SoFar e L s a (Fetching ask at looked seen) = Fetches e L s a ask at looked seen
+SoFar e L s a (Creating ask p) = Creates e a ask p
+SoFar e L s a (Giving h to) = (ops : List Op) × (a.todo ≡ op.Give h.name to ∷ ops)
+SoFar e L s a (Taking n tries left) = (ops : List Op) × (a.todo ≡ op.Take n tries ∷ ops)
+SoFar e L s a Ended = Unit {0}
+SoFar e L s a Ready = ⊥
+
+-- one turn more, of s or of another
+pub further : (e : Setup) (L : List ℕ) (s j need : ℕ) (R : Actor → Type 0)
+    (P Q : List Sight → Type 0) (b : Bool) → (j == s) ≡ b
+    → length (sight_if b ((run e L).actors s).stage (answered (run e L) s)) ≡ one_if b
+    → ((xs : List Sight) → P xs
+    → Q (xs ++ sight_if b ((run e L).actors s).stage (answered (run e L) s)))
+    → Underway e L s need R P → Underway e (L ++ j ∷ []) s need R Q
+further e L s j need R P Q b d one f u = record {
+  before = u.before;
+  since = u.since ++ j ∷ [];
+  split = longer L u.before u.since s j u.split;
+  begins = u.begins;
+  same = u.same;
+  asks = u.asks;
+  none = u.none;
+  saw = subst Q (sym sees) (f xs u.saw);
+  steps = count-snoc s u.since j
+      ∙ omega (
+        arith,
+        u.steps,
+        ap (λ (c : Bool). one_if c) d,
+        one,
+        ap length sees,
+        length-append xs (sight_if b ((run e L).actors s).stage (answered (run e L) s)),
+      );
+}
+  where
+    xs : List Sight
+    xs = seen_since e u.before s u.since
+
+    sees : seen_since e u.before s (u.since ++ j ∷ [])
+        ≡ xs ++ sight_if b ((run e L).actors s).stage (answered (run e L) s)
+    sees = sights-snoc e (run e (u.before ++ s ∷ [])) s u.since j
+        ∙ ap (λ (w : State). xs ++ sight_if (j == s) (w.actors s).stage (answered w s))
+        (run-since e L u.before u.since s u.split)
+        ∙ ap (λ c. xs ++ sight_if c ((run e L).actors s).stage (answered (run e L) s)) d
+
+pub placing-longer : (e : Setup) (L : List ℕ) (s j : ℕ) (log : List Entry) (task : Task)
+    → Placing e L s log task → Placing e (L ++ j ∷ []) s log task
+placing-longer e L s j log (Freeing n) h = h
+placing-longer e L s j log (Moving o n p) h = record {
+  before = h.before;
+  since = h.since ++ j ∷ [];
+  split = longer L h.before h.since s j h.split;
+  same = h.same;
+  need = h.need;
+  asks = h.asks;
+  placed = h.placed;
+}
+
+-- a turn of another scheduler adds nothing
+module _ (e : Setup) (L : List ℕ) (s j : ℕ) (ne : j ≢ s) where
+  away : (need : ℕ) (R : Actor → Type 0) (P : List Sight → Type 0) → Underway e L s need R P
+      → Underway e (L ++ j ∷ []) s need R P
+  away need R P u =
+      let d : (j == s) ≡ false = grind (arith, ne) in
+      further e L s j need R P P false d refl (λ xs p. subst P (sym (append-nil xs)) p) u
+
+  pub other-so_far : (a : Actor) (st : Stage) → SoFar e L s a st → SoFar e (L ++ j ∷ []) s a st
+  other-so_far a (Searching ask at looked) h = record {
+    of = h.of;
+    on = h.on;
+    small = h.small;
+    low = h.low;
+    room = h.room;
+    way = away ask.need (λ b. IsSame b a) _ h.way;
+  }
+  other-so_far a (Fetching ask at looked seen) h = record {
+    of = h.of;
+    on = h.on;
+    small = h.small;
+    low = h.low;
+    old = h.old;
+    room = h.room;
+    counts = h.counts;
+    fit = h.fit;
+    way = away ask.need (λ b. IsSame b a) _ h.way;
+  }
+  other-so_far a (Creating ask p) h = h
+  other-so_far a (Routed r Walk g) h = h
+  other-so_far a (Routed r (For task) g) h = (h.0, placing-longer e L s j a.log task h.1)
+  other-so_far a Begin h = h
+  other-so_far a (Collecting c) h = h
+  other-so_far a (Giving g to) h = h
+  other-so_far a (Taking n tries left) h = h
+  other-so_far a Ended h = h
+  other-so_far a Ready h = h
+
+-- an entry is of the first of these operations
+pub record IsOfFirst (ops : List Op) (x : Entry) : Type 0 where
+  pub first : Op
+  pub others : List Op
+  pub is : ops ≡ first ∷ others
+  pub makes : Makes first x
+
+some-same : {A : Type 0} (x y : A) → Some x ≡ Some y → x ≡ y
+some-same x y q = cc
+
+pub ask-need : (ask : Ask) (ops : List Op) → OfAsk ask ops → HasNeed ops ask.need
+ask-need ask (op.Alloc n b ∷ ops) h = h.1
+ask-need ask (op.Realloc o n b ∷ ops) h = h.1
+ask-need ask [] h = absurd h
+ask-need ask (op.Free n ∷ ops) h = absurd h
+ask-need ask (op.Give n to ∷ ops) h = absurd h
+ask-need ask (op.Take n tries ∷ ops) h = absurd h
+ask-need ask (op.Info ∷ ops) h = absurd h
+ask-need ask (op.Idle ∷ ops) h = absurd h
+
+module _ (ask : Ask) where
+  pub failed-is : (looked : ℕ) (why : NoCarrier) (ops : List Op) → OfAsk ask ops
+      → IsFailOf ops ask.need looked why (failed ask looked why ask.old)
+  failed-is looked why (op.Alloc n b ∷ ops) h = ap (failed ask looked why) h.2
+      ∙ ap (λ k. entry.AllocFail k ask.need looked why) h.0
+  failed-is looked why (op.Realloc o n b ∷ ops) h = ap (failed ask looked why) h.2.1
+      ∙ ap (λ k. entry.ReallocFail h.2.0.name k ask.need looked why) h.0
+      ∙ ap (λ k. entry.ReallocFail k n ask.need looked why) h.2.2
+  failed-is looked why [] h = absurd h
+  failed-is looked why (op.Free n ∷ ops) h = absurd h
+  failed-is looked why (op.Give n to ∷ ops) h = absurd h
+  failed-is looked why (op.Take n tries ∷ ops) h = absurd h
+  failed-is looked why (op.Info ∷ ops) h = absurd h
+  failed-is looked why (op.Idle ∷ ops) h = absurd h
+
+  -- of the operation that asks: a fail, and an entry or a task of a placement
+  module _ (looked : ℕ) (why : NoCarrier) (place : Place) where
+    abbrev pub Outcomes : List Op → Option Named → Type 0
+    Outcomes ops None = IsOfFirst ops (failed ask looked why None)
+        × IsOfFirst ops (entry.Alloc ask.name place)
+    Outcomes ops (Some h) = IsOfFirst ops (failed ask looked why (Some h))
+        × OfTask (Moving h.name ask.name place) ops
+
+    pub outcomes : (ops : List Op) → OfAsk ask ops → (old : Option Named) → ask.old ≡ old
+        → Outcomes ops old
+    outcomes (op.Alloc n b ∷ ops) h None q = (
+      record { first = op.Alloc n b; others = ops; is = refl; makes = (h.0, h.1) },
+      record { first = op.Alloc n b; others = ops; is = refl; makes = h.0 },
+    )
+    outcomes (op.Alloc n b ∷ ops) h (Some x) q = absurd (let r = sym q ∙ h.2 in cc)
+    outcomes (op.Realloc o n b ∷ ops) h None q = absurd (let r = sym q ∙ h.2.1 in cc)
+    outcomes (op.Realloc o n b ∷ ops) h (Some x) q =
+        let same : x ≡ h.2.0 = some-same x h.2.0 (sym q ∙ h.2.1) in
+        let r : x.name ≡ o = ap (λ (y : Named). y.name) same ∙ h.2.2 in (
+          record { first = op.Realloc o n b; others = ops; is = refl; makes = (r, h.0, h.1) },
+          (r, h.0),
+        )
+    outcomes [] h old q = absurd h
+    outcomes (op.Free n ∷ ops) h old q = absurd h
+    outcomes (op.Give n to ∷ ops) h old q = absurd h
+    outcomes (op.Take n tries ∷ ops) h old q = absurd h
+    outcomes (op.Info ∷ ops) h old q = absurd h
+    outcomes (op.Idle ∷ ops) h old q = absurd h
+
+task-makes : (task : Task) (g : Gone) (o : Op) (ops : List Op) → OfTask task (o ∷ ops)
+    → Makes o (entry_of task g)
+task-makes (Freeing n) Open (op.Free m) ops h = h
+task-makes (Freeing n) Here (op.Free m) ops h = h
+task-makes (Freeing n) (Queued to) (op.Free m) ops h = h
+task-makes (Moving k n p) Open (op.Realloc o m b) ops h = h
+task-makes (Moving k n p) Here (op.Realloc o m b) ops h = h
+task-makes (Moving k n p) (Queued to) (op.Realloc o m b) ops h = h
+task-makes (Freeing n) g (op.Alloc m b) ops h = absurd h
+task-makes (Freeing n) g (op.Realloc o m b) ops h = absurd h
+task-makes (Freeing n) g (op.Give m to) ops h = absurd h
+task-makes (Freeing n) g (op.Take m tries) ops h = absurd h
+task-makes (Freeing n) g op.Info ops h = absurd h
+task-makes (Freeing n) g op.Idle ops h = absurd h
+task-makes (Moving k n p) g (op.Alloc m b) ops h = absurd h
+task-makes (Moving k n p) g (op.Free m) ops h = absurd h
+task-makes (Moving k n p) g (op.Give m to) ops h = absurd h
+task-makes (Moving k n p) g (op.Take m tries) ops h = absurd h
+task-makes (Moving k n p) g op.Info ops h = absurd h
+task-makes (Moving k n p) g op.Idle ops h = absurd h
+
+pub task-first : (task : Task) (g : Gone) (ops : List Op) → OfTask task ops
+    → IsOfFirst ops (entry_of task g)
+task-first task g (o ∷ ops) h = record {
+  first = o;
+  others = ops;
+  is = refl;
+  makes = task-makes task g o ops h;
+}
+task-first (Freeing n) g [] h = absurd h
+task-first (Moving k n p) g [] h = absurd h

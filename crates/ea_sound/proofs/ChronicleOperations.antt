@@ -1,0 +1,195 @@
+-- An operation itself, once its begin is over: what it makes of what the turns before say.
+use Rattle.std.proofs.Common.{◌≡◌, ◌≢◌, ◌⊎◌, ℕ, ◌<◌, ◌≤◌, List, [], ◌∷◌, Bool, true, false, refl, sym, ap, ◌∙◌, subst, inl, inr, arith}
+use Rattle.std.specs.Prelude.{Option, Some, None, ◌==◌, count_by}
+use Rattle.ea_model.specs.declared.carriers.Figures.{Figures}
+use Rattle.ea_model.specs.declared.carriers.Spot.{Spot}
+use Rattle.ea_model.specs.declared.entries.Entry.{Entry}
+use Rattle.ea_model.specs.declared.entries.Entry.TheVariants as entry
+use Rattle.ea_model.specs.declared.operations.Op.{Op}
+use Rattle.ea_model.specs.declared.operations.Op.TheVariants as op
+use Rattle.ea_model.specs.declared.reallocation.Decision.{Decision}
+use Rattle.ea_model.specs.declared.reallocation.Decision.TheVariants.{Stay, ShrinkHere, GrowHere, ShrinkCarrier, Move}
+use Rattle.ea_model.specs.Instance.{chosen_spot, decision_at, figures, is_alone, plan, resizing_at}
+use Rattle.ea_model.specs.Units.{need_of}
+use Rattle.ea_model.proofs.Rising.{item_at-key}
+use Rattle.ea_machine.specs.Actor.{Actor, Ask, Ready, Freeing}
+use Rattle.ea_machine.specs.Chosen.{AtOnce, Had}
+use Rattle.ea_machine.specs.Entries.{Makes}
+use Rattle.ea_machine.specs.NamePlaces.{name_of}
+use Rattle.ea_machine.specs.Needs.{AsksFor, HasNeed, IsToMove}
+use Rattle.ea_machine.specs.Nodes.{Named, named_at}
+use Rattle.ea_machine.specs.Operations.{freed, giving, itself}
+use Rattle.ea_machine.specs.Placements.{chosen_by, holding, new_carrier, search_if, seek, seek_by}
+use Rattle.ea_machine.specs.Reallocations.{reallocated, reallocated_by, resized_here, resized_place}
+use Rattle.ea_machine.specs.Setup.{Setup, greatest_number, migration}
+use Rattle.ea_machine.specs.Statistics.{employed_multis, employed_singles, observed, report, reported, restarted}
+use Rattle.ea_machine.specs.Tasks.{let_go}
+use Rattle.ea_machine.specs.Turns.{actor_after, begun}
+use Rattle.ea_sound.specs.Present.{OfAsk, OfTask}
+use Rattle.ea_sound.proofs.Chronicle.{IsOfFirst}
+use Rattle.ea_sound.proofs.Orderly.{resizing-fixed}
+use Rattle.ea_sound.proofs.ShortRoutes.{Keeps}
+use Rattle.ea_sound.proofs.Weights.{sum_by-sum_over}
+use Rattle.ea_machine.specs.Sums.{one_if}
+use Rattle.ea_sound.proofs.ChroniclePlaces.{Fine as IsFine, choice-fine, logged-fine, planned-fine, search-fine, task-fine, big, little, fails}
+
+module _ (e : Setup) (L : List ℕ) (me : ℕ) where
+  abbrev acting : Actor
+  acting = actor_after e L me
+
+  abbrev mid : Actor
+  mid = begun e L me
+
+  abbrev Fine : Actor → Type 0
+  Fine = IsFine e L me
+
+  module _ (set : acting.instance.settings ≡ e.settings)
+      (ready : mid.stage ≡ Ready) (k : Keeps acting mid) where
+    no-steps : count_by (λ j. j == me) [] ≡ 0
+    no-steps = sum_by-sum_over (λ j. one_if (j == me)) []
+
+    plan-fine : (ask : Ask) → OfAsk ask acting.todo → AsksFor mid mid.todo ask.need
+        → (ask.need ≤ e.settings.sbct → chosen_spot mid.instance ask.need ≡ None)
+        → ((migration e ≡ false) ⊎ (e.settings.sbct < ask.need))
+        → Fine (new_carrier e me ask 0 mid)
+    plan-fine ask o asks none un =
+        planned-fine e L me set ask 0 mid (plan mid.instance ask.need) refl k o
+        (λ why r. fails e L me set ask 0 why mid L [] refl (refl, refl, refl, refl)
+        (subst (OfAsk ask) (sym k.1) o)
+        (record {
+          begins = ready;
+          asks = asks;
+          none = none;
+          sought = inl (un, refl, refl);
+          steps = no-steps;
+          refused = r;
+        }))
+        none (λ off p r. AtOnce off ready refl r)
+
+    no_choice-fine : (ask : Ask) (on : Bool) → migration e ≡ on → OfAsk ask acting.todo
+        → AsksFor mid mid.todo ask.need → ask.need ≤ e.settings.sbct
+        → chosen_spot mid.instance ask.need ≡ None → Fine (search_if e me ask mid on)
+    no_choice-fine ask true m o asks small c =
+        search-fine e L me set ask (greatest_number e) 0 mid k o m small (omega arith)
+        (record {
+          before = L;
+          since = [];
+          split = refl;
+          begins = ready;
+          same = (refl, refl, refl, refl);
+          asks = asks;
+          none = c;
+          saw = (refl, refl);
+          steps = no-steps;
+        })
+    no_choice-fine ask false m o asks small c = plan-fine ask o asks (λ s. c) (inl m)
+
+    chosen-fine : (ask : Ask) (s : Option Spot) → chosen_spot mid.instance ask.need ≡ s
+        → OfAsk ask acting.todo → AsksFor mid mid.todo ask.need → ask.need ≤ e.settings.sbct
+        → Fine (chosen_by e me ask mid s)
+    chosen-fine ask (Some spot) c o asks small =
+        choice-fine e L me set ask mid (Some spot) c k o small (Had ready refl)
+    chosen-fine ask None c o asks small = no_choice-fine ask (migration e) refl o asks small c
+
+    seek-fine : (ask : Ask) → OfAsk ask acting.todo → AsksFor mid mid.todo ask.need
+        → Fine (seek e me ask mid)
+    seek-fine ask o asks = by (is_alone mid.instance ask.need) refl
+      where
+        by : (b : Bool) → is_alone mid.instance ask.need ≡ b → Fine (seek_by e me ask mid b)
+        by true t = let l = big e L me set mid (k.2 ∙ set) ask.need t in
+            plan-fine ask o asks (λ s. absurd (omega (arith, l, s))) (inr l)
+        by false t = chosen-fine ask (chosen_spot mid.instance ask.need) refl o asks
+            (little e L me set mid (k.2 ∙ set) ask.need t)
+
+    first-is : (o : Op) (ops : List Op) (x : Entry) → mid.todo ≡ o ∷ ops → Makes o x
+        → IsOfFirst acting.todo x
+    first-is o ops x q m = record { first = o; others = ops; is = sym k.1 ∙ q; makes = m }
+
+    -- a reallocation
+    module _ (old fresh bytes : ℕ) (ops : List Op)
+        (todo : mid.todo ≡ op.Realloc old fresh bytes ∷ ops) where
+      abbrev asked : Named → Ask
+      asked h = record { name = fresh; need = need_of bytes; old = Some h }
+
+      resized-fine : (h : Named) (d : Decision) → named_at old mid.held ≡ Some h → h.name ≡ old
+          → decision_at mid.instance h.spot (need_of bytes) ≡ d → d ≢ Move
+          → Fine (resized_here h fresh (need_of bytes) mid)
+      resized-fine h d i nm dec ne =
+          logged-fine e L me set
+          (entry.ReallocHere h.name fresh (resized_place mid.instance h.spot (need_of bytes)))
+          (holding fresh h.spot (let_go h.name
+          (record mid { instance = resizing_at mid.instance h.spot (need_of bytes) fresh })))
+          (k.0, k.1, (resizing-fixed mid.instance h.spot (need_of bytes) fresh).0 ∙ k.2)
+          (first-is (op.Realloc old fresh bytes) ops _ todo (nm, refl))
+          (λ now. record {
+            begins = ready;
+            need = need_of bytes;
+            asks = subst (λ os. HasNeed os (need_of bytes)) (sym todo) refl;
+            named = h;
+            held = subst (λ n. named_at n mid.held ≡ Some h) (sym nm) i;
+            stays = subst (λ d. d ≢ Move) (sym dec) ne;
+            carrier = refl;
+            offset = refl;
+            size = refl;
+          })
+
+      decided-fine : (h : Named) (d : Decision) → named_at old mid.held ≡ Some h → h.name ≡ old
+          → decision_at mid.instance h.spot (need_of bytes) ≡ d
+          → Fine (reallocated_by e me h fresh (need_of bytes) mid d)
+      decided-fine h Move i nm dec = seek-fine (asked h)
+          (subst (OfAsk (asked h)) (sym todo ∙ k.1) (refl, refl, (h, refl, nm)))
+          (subst (λ os. AsksFor mid os (need_of bytes)) (sym todo)
+          (refl, subst (IsToMove mid.instance (need_of bytes)) (sym i) dec))
+      decided-fine h Stay i nm dec = resized-fine h Stay i nm dec (λ q. absurd (cc))
+      decided-fine h ShrinkHere i nm dec = resized-fine h ShrinkHere i nm dec (λ q. absurd (cc))
+      decided-fine h GrowHere i nm dec = resized-fine h GrowHere i nm dec (λ q. absurd (cc))
+      decided-fine h (ShrinkCarrier pages) i nm dec =
+          resized-fine h (ShrinkCarrier pages) i nm dec (λ q. absurd (cc))
+
+      realloc-fine : (h : Option Named) → named_at old mid.held ≡ h
+          → Fine (reallocated e me old fresh (need_of bytes) mid h)
+      realloc-fine None i = logged-fine e L me set (entry.ReallocSkipped old fresh) mid k
+          (first-is (op.Realloc old fresh bytes) ops _ todo (refl, refl))
+          (λ now. record { begins = ready; absent = i })
+      realloc-fine (Some h) i = decided-fine h (decision_at mid.instance h.spot (need_of bytes)) i
+          (item_at-key name_of old h mid.held i) refl
+
+    free-fine : (n : ℕ) (ops : List Op) (h : Option Named) → mid.todo ≡ op.Free n ∷ ops
+        → named_at n mid.held ≡ h → Fine (freed e me n mid h)
+    free-fine n ops None q i = logged-fine e L me set (entry.FreeSkipped n) mid k
+        (first-is (op.Free n) ops _ q refl) (λ now. record { begins = ready; absent = i })
+    free-fine n ops (Some h) q i = task-fine e L me set (Freeing n) h mid k
+        (subst (OfTask (Freeing n)) (sym q ∙ k.1) refl) tt
+
+    give-fine : (n to : ℕ) (ops : List Op) (h : Option Named) → mid.todo ≡ op.Give n to ∷ ops
+        → named_at n mid.held ≡ h → Fine (giving n to mid h)
+    give-fine n to ops None q i = logged-fine e L me set (entry.GiveSkipped n to) mid k
+        (first-is (op.Give n to) ops _ q (refl, refl))
+        (λ now. record { begins = ready; absent = i })
+    give-fine n to ops (Some h) q i = (
+      (ops, q ∙ ap (λ m. op.Give m to ∷ ops) (sym (item_at-key name_of n h mid.held i))),
+      k.2 ∙ set,
+      λ now. inl (k.0, k.1),
+    )
+
+    reported-fine : (mbcs sbcs : Figures) (b : Actor) (ops : List Op) → mid.todo ≡ op.Info ∷ ops
+        → Keeps acting b → Fine (reported mbcs sbcs b)
+    reported-fine mbcs sbcs b ops q l =
+        logged-fine e L me set (entry.Info (report mbcs b.mbcs) (report sbcs b.sbcs))
+        (record b { mbcs = restarted mbcs b.mbcs; sbcs = restarted sbcs b.sbcs }) l
+        (first-is op.Info ops _ q tt) (λ now. tt)
+
+    pub itself-fine : (ops : List Op) → mid.todo ≡ ops → Fine (itself e me mid ops)
+    itself-fine [] q = (tt, k.2 ∙ set, λ now. inl (k.0, k.1))
+    itself-fine (op.Alloc n b ∷ ops) q =
+        let ask : Ask = record { name = n; need = need_of b; old = None } in
+        seek-fine ask (subst (OfAsk ask) (sym q ∙ k.1) (refl, refl, refl))
+        (subst (λ os. AsksFor mid os (need_of b)) (sym q) refl)
+    itself-fine (op.Free n ∷ ops) q = free-fine n ops (named_at n mid.held) q refl
+    itself-fine (op.Realloc o n b ∷ ops) q = realloc-fine o n b ops q (named_at o mid.held) refl
+    itself-fine (op.Give n to ∷ ops) q = give-fine n to ops (named_at n mid.held) q refl
+    itself-fine (op.Take n tries ∷ ops) q = ((ops, q), k.2 ∙ set, λ now. inl (k.0, k.1))
+    itself-fine (op.Info ∷ ops) q = reported-fine (figures (employed_multis mid))
+        (figures (employed_singles mid)) (observed mid) ops q k
+    itself-fine (op.Idle ∷ ops) q =
+        logged-fine e L me set entry.Idle mid k (first-is op.Idle ops _ q tt) (λ now. tt)

@@ -1,0 +1,284 @@
+-- A turn of a scheduler that places a block, plans a carrier or searches for one: what it makes of
+-- what the turns before say.
+use Rattle.std.proofs.Common.{◌≡◌, ◌⊎◌, ℕ, zero, suc, ◌<◌, ◌≤◌, List, [], ◌∷◌, ◌++◌, Bool, true, false, refl, sym, ap, ◌∙◌, subst, inl, inr, arith}
+use Rattle.std.specs.Prelude.{Option, Some, None, Result, Ok, Err, ◌&&◌, nat_lt}
+use Rattle.ea_model.specs.declared.carriers.CarrierPlan.{CarrierPlan}
+use Rattle.ea_model.specs.declared.carriers.Place.{Place}
+use Rattle.ea_model.specs.declared.carriers.Spot.{Spot}
+use Rattle.ea_model.specs.declared.entries.Entry.{Entry}
+use Rattle.ea_model.specs.declared.entries.Entry.TheVariants as entry
+use Rattle.ea_model.specs.declared.entries.NoCarrier.{NoCarrier}
+use Rattle.ea_model.specs.declared.entries.NoCarrier.TheVariants.{Space}
+use Rattle.ea_model.specs.declared.units.TheConstants.{SEARCH_LIMIT}
+use Rattle.ea_model.specs.Instance.{chosen_spot, creating, is_alone, place_at, plan, single_place}
+use Rattle.ea_laws.proofs.Keeping.{plan-IsPlanned}
+use Rattle.ea_machine.specs.Actor.{Actor, Ask, Gone, Open, Here, Queued, Route, Task, Freeing, Moving, For}
+use Rattle.ea_machine.specs.Chosen.{Created, Creates, IsJustBefore, IsPlacedAt, IsPlacement}
+use Rattle.ea_machine.specs.Entries.{Tells}
+use Rattle.ea_machine.specs.Exhausted.{FindsNoPlace, IsExhausted, IsFailOf}
+use Rattle.ea_machine.specs.Machine.{run}
+use Rattle.ea_machine.specs.Nodes.{Named}
+use Rattle.ea_machine.specs.Placements.{created, created_by, failed, making, new_carrier_by, placed_at, placed_by, search_at, searched_by, stands}
+use Rattle.ea_machine.specs.Releases.{route_of}
+use Rattle.ea_machine.specs.Searches.{Searched}
+use Rattle.ea_machine.specs.Setup.{Setup, greatest_number, migration}
+use Rattle.ea_machine.specs.Statistics.{observed}
+use Rattle.ea_machine.specs.Tasks.{carried, entry_of, hands_over, later, let_go, logged, task_over}
+use Rattle.ea_machine.specs.Turns.{actor_after, begun}
+use Rattle.ea_sound.specs.Present.{OfAsk, OfTask}
+use Rattle.ea_sound.proofs.Chronicle.{IsOfFirst, IsSame, Outcomes, Placement, Placing, SoFar, Underway, ask-need, failed-is, outcomes, task-first}
+use Rattle.ea_sound.proofs.ShortRoutes.{Keeps, keeps-on, route-keeps}
+
+module _ (e : Setup) (L : List ℕ) (me : ℕ) where
+  abbrev pub acting : Actor
+  acting = actor_after e L me
+
+  abbrev pub mid : Actor
+  mid = begun e L me
+
+  abbrev pub turn : List ℕ
+  turn = L ++ me ∷ []
+
+  -- the log and the operations left are as they were
+  abbrev pub Stays : Actor → Type 0
+  Stays b = (b.log ≡ acting.log) × (b.todo ≡ acting.todo)
+
+  -- the first operation made an entry that tells
+  pub record OneMore (b : Actor) : Type 0 where
+    pub entry : Entry
+    pub of : IsOfFirst acting.todo entry
+    pub left : b.todo ≡ later acting.todo
+    pub log : b.log ≡ acting.log ++ entry ∷ []
+    pub tells : Tells e L me entry
+
+  -- the scheduler is this one after the turn
+  abbrev pub IsNow : Actor → Type 0
+  IsNow b = observed b ≡ actor_after e turn me
+
+  abbrev pub Fine : Actor → Type 0
+  Fine b = SoFar e turn me (observed b) b.stage × (b.instance.settings ≡ e.settings)
+      × (IsNow b → Stays b ⊎ OneMore b)
+
+  module _ (set : acting.instance.settings ≡ e.settings) where
+    pub logged-fine : (x : Entry) (b : Actor) → Keeps acting b → IsOfFirst acting.todo x
+        → (IsNow (logged x b) → Tells e L me x) → Fine (logged x b)
+    logged-fine x b k o t = (
+      tt,
+      k.2 ∙ set,
+      λ now. inr (record {
+        entry = x;
+        of = o;
+        left = ap later k.1;
+        log = ap (λ l. l ++ x ∷ []) k.0;
+        tells = t now;
+      }),
+    )
+
+    placed : (place : Place) → Placement e turn me acting.log place → IsPlacement e L me place
+    placed place h = record {
+      before = h.before;
+      since = h.since;
+      split = h.split;
+      same = h.same;
+      need = h.need;
+      asks = h.asks;
+      placed = h.placed;
+    }
+
+    entry-tells : (task : Task) (g : Gone) → Placing e turn me acting.log task
+        → Tells e L me (entry_of task g)
+    entry-tells (Freeing n) Open h = tt
+    entry-tells (Freeing n) Here h = tt
+    entry-tells (Freeing n) (Queued to) h = tt
+    entry-tells (Moving o n p) Open h = placed p h
+    entry-tells (Moving o n p) Here h = placed p h
+    entry-tells (Moving o n p) (Queued to) h = placed p h
+
+    pub carried-fine : (task : Task) (r : Option Route) (g : Gone) (b : Actor) → Keeps acting b
+        → OfTask task acting.todo → Placing e turn me acting.log task
+        → Fine (carried (For task) (task_over task) (record { actor = b; route = r; gone = g }))
+    carried-fine task None g b k o h = logged-fine (entry_of task g) b k
+        (task-first task g acting.todo o) (λ now. entry-tells task g h)
+    carried-fine task (Some r) g b k o h = (
+      (subst (OfTask task) (sym k.1) o, subst (λ l. Placing e turn me l task) (sym k.0) h),
+      k.2 ∙ set,
+      λ now. inl (k.0, k.1),
+    )
+
+    pub task-fine : (task : Task) (h : Named) (b : Actor) → Keeps acting b → OfTask task acting.todo
+        → Placing e turn me acting.log task → Fine (hands_over e me task h b)
+    task-fine task h b k o p =
+        let t = route_of e me h (let_go h.name b) in
+        carried-fine task t.route t.gone t.actor
+        (keeps-on acting (let_go h.name b) t.actor (route-keeps e me h (let_go h.name b)) k) o p
+
+    -- a block is placed
+    stands-fine : (ask : Ask) (place : Place) (b : Actor) → Keeps acting b
+        → OfAsk ask acting.todo → IsPlacedAt e (run e L) me ask.need place
+        → Fine (stands e me ask.name place ask.old b)
+    stands-fine ask place b k o p =
+        by ask.old refl (outcomes ask 0 Space place acting.todo o ask.old refl)
+      where
+        here : Placement e turn me acting.log place
+        here = record {
+          before = L;
+          since = [];
+          split = refl;
+          same = refl;
+          need = ask.need;
+          asks = ask-need ask acting.todo o;
+          placed = p;
+        }
+
+        by : (old : Option Named) → ask.old ≡ old → Outcomes ask 0 Space place acting.todo old
+            → Fine (stands e me ask.name place old b)
+        by None q f = logged-fine (entry.Alloc ask.name place) b k f.1 (λ now. placed place here)
+        by (Some h) q f = task-fine (Moving h.name ask.name place) h b k f.1 here
+
+    placed_at-fine : (ask : Ask) (b : Actor) (spot : Spot) → Keeps acting b → OfAsk ask acting.todo
+        → IsPlacedAt e (run e L) me ask.need (place_at b.instance spot ask.need)
+        → Fine (placed_at e me ask b spot)
+    placed_at-fine ask b spot k o p = stands-fine ask (place_at b.instance spot ask.need) _ k o p
+
+    pub choice-fine : (ask : Ask) (b : Actor) (o : Option Spot)
+        → chosen_spot b.instance ask.need ≡ o → Keeps acting b → OfAsk ask acting.todo
+        → ask.need ≤ e.settings.sbct
+        → IsJustBefore e (run e L) me ask.need b.instance → Fine (placed_by e me ask b o)
+    choice-fine ask b None c k o small g = (tt, k.2 ∙ set, λ now. inl (k.0, k.1))
+    choice-fine ask b (Some spot) c k o small g = placed_at-fine ask b spot k o
+        (inl (
+          small,
+          record { instance = b.instance; before = g; spot = spot; chosen = c; is = refl },
+        ))
+
+    -- whether a need is above the threshold
+    module _ (b : Actor) (sets : b.instance.settings ≡ e.settings) (need : ℕ) where
+      pub big : is_alone b.instance need ≡ true → e.settings.sbct < need
+      big t = let s = ap (λ s. s.sbct) sets in grind (arith, t, s)
+
+      pub little : is_alone b.instance need ≡ false → need ≤ e.settings.sbct
+      little t = let s = ap (λ s. s.sbct) sets in grind (arith, t, s)
+
+    -- in a new carrier
+    pub created-fine : (ask : Ask) (p : CarrierPlan) (b : Actor) → Keeps acting b
+        → OfAsk ask acting.todo → plan b.instance ask.need ≡ Ok p
+        → Creates e (run e L) me ask.need b.instance p
+        → (ask.need ≤ e.settings.sbct → chosen_spot b.instance ask.need ≡ None)
+        → Fine (created e me ask p b)
+    created-fine ask p b k o planned c none = by p.single refl
+      where
+        alone : p.single ≡ is_alone b.instance ask.need
+        alone = (plan-IsPlanned b.instance ask.need p planned).single
+
+        by : (t : Bool) → p.single ≡ t → Fine (created_by e me ask p b t)
+        by true s = stands-fine ask (single_place p ask.need) _ k o
+            (inr (
+              big b (k.2 ∙ set) ask.need (sym alone ∙ s),
+              record { instance = b.instance; plan = p; creates = c; single = s; is = refl },
+            ))
+        by false s =
+            let small = little b (k.2 ∙ set) ask.need (sym alone ∙ s) in
+            choice-fine ask (record b { instance = creating b.instance p })
+            (chosen_spot (creating b.instance p) ask.need) refl k o small
+            (Created b.instance p c (none small) refl)
+
+    -- no carrier can be created, or one is
+    pub planned-fine : (ask : Ask) (looked : ℕ) (b : Actor) (o : Result CarrierPlan NoCarrier)
+        → plan b.instance ask.need ≡ o → Keeps acting b → OfAsk ask acting.todo
+        → ((why : NoCarrier) → plan b.instance ask.need ≡ Err why
+        → IsNow (logged (failed ask looked why ask.old) b)
+        → IsExhausted e L me (failed ask looked why ask.old) ask.need looked why)
+        → (ask.need ≤ e.settings.sbct → chosen_spot b.instance ask.need ≡ None)
+        → (migration e ≡ false → (p : CarrierPlan) → plan b.instance ask.need ≡ Ok p
+        → Creates e (run e L) me ask.need b.instance p)
+        → Fine (new_carrier_by e me ask looked b o)
+    planned-fine ask looked b (Err why) q k o x none f =
+        by ask.old refl (outcomes ask looked why (record { carrier = 0; offset = 0; size = 0 })
+        acting.todo o ask.old refl)
+      where
+        by : (old : Option Named) → ask.old ≡ old
+            → Outcomes ask looked why (record { carrier = 0; offset = 0; size = 0 }) acting.todo old
+            → Fine (logged (failed ask looked why ask.old) b)
+        by None r f = logged-fine (failed ask looked why ask.old) b k
+            (subst (λ o. IsOfFirst acting.todo (failed ask looked why o)) (sym r) f.0)
+            (λ now. subst (λ o. Tells e L me (failed ask looked why o)) (sym r)
+            (subst (λ o. IsExhausted e L me (failed ask looked why o) ask.need looked why) r
+            (x why q now)))
+        by (Some h) r f = logged-fine (failed ask looked why ask.old) b k
+            (subst (λ o. IsOfFirst acting.todo (failed ask looked why o)) (sym r) f.0)
+            (λ now. subst (λ o. Tells e L me (failed ask looked why o)) (sym r)
+            (subst (λ o. IsExhausted e L me (failed ask looked why o) ask.need looked why) r
+            (x why q now)))
+    planned-fine ask looked b (Ok p) q k o x none f = by (migration e) refl
+      where
+        by : (on : Bool) → migration e ≡ on → Fine (making e me ask p b on)
+        by true m = (
+          record { of = subst (OfAsk ask) (sym k.1) o; on = m; planned = q; none = none },
+          k.2 ∙ set,
+          λ now. inl (k.0, k.1),
+        )
+        by false m = created-fine ask p b k o q (f m p q) none
+
+    -- the fail of an operation that is under way
+    pub fails : (ask : Ask) (looked : ℕ) (why : NoCarrier) (b : Actor) (before since : List ℕ)
+        → turn ≡ before ++ me ∷ since → IsSame (begun e before me) b → OfAsk ask b.todo
+        → FindsNoPlace e before me since ask.need looked why
+        → IsNow (logged (failed ask looked why ask.old) b)
+        → IsExhausted e L me (failed ask looked why ask.old) ask.need looked why
+    fails ask looked why b before since split same o finds now = record {
+      before = before;
+      since = since;
+      split = split;
+      finds = finds;
+      fails = subst (λ ops. IsFailOf ops ask.need looked why (failed ask looked why ask.old)) same.1
+          (failed-is ask looked why b.todo o);
+      log = sym (ap (λ (a : Actor). a.log) now)
+          ∙ ap (λ l. l ++ failed ask looked why ask.old ∷ []) same.0;
+      instance = sym (ap (λ (a : Actor). a.instance) now) ∙ same.2;
+      held = sym (ap (λ (a : Actor). a.held) now) ∙ same.3;
+    }
+
+    -- the search goes on, or no number or no word is left
+    pub search-fine : (ask : Ask) (at looked : ℕ) (b : Actor) → Keeps acting b
+        → OfAsk ask acting.todo → migration e ≡ true → ask.need ≤ e.settings.sbct
+        → looked ≤ SEARCH_LIMIT
+        → Underway e turn me ask.need (λ c. IsSame c b)
+        (Searched ask.need (greatest_number e) 0 at looked)
+        → Fine (search_at e me ask at looked b)
+    search-fine ask at looked b k o on small most u =
+        by (nat_lt 0 at && nat_lt looked SEARCH_LIMIT) refl
+      where
+        ends : (at looked limit : ℕ) → looked ≤ limit → (nat_lt 0 at && nat_lt looked limit) ≡ false
+            → (at ≡ 0) ⊎ (looked ≡ limit)
+        ends zero looked limit m t = inl refl
+        ends (suc at) looked limit m t = inr (grind (arith, m, t))
+
+        none : chosen_spot b.instance ask.need ≡ None
+        none = ap (λ i. chosen_spot i ask.need) u.same.2 ∙ u.none
+
+        by : (t : Bool) → (nat_lt 0 at && nat_lt looked SEARCH_LIMIT) ≡ t
+            → Fine (searched_by e me ask at looked b t)
+        by true t = (
+          record {
+            of = subst (OfAsk ask) (sym k.1) o;
+            on = on;
+            small = small;
+            low = grind (arith, t);
+            room = grind (arith, t);
+            way = u;
+          },
+          k.2 ∙ set,
+          λ now. inl (k.0, k.1),
+        )
+        by false t = planned-fine ask looked b (plan b.instance ask.need) refl k o
+            (λ why r. fails ask looked why b u.before u.since u.split u.same
+            (subst (OfAsk ask) (sym k.1) o)
+            (record {
+              begins = u.begins;
+              asks = u.asks;
+              none = λ s. u.none;
+              sought = inr (on, small, (at, u.saw, ends at looked SEARCH_LIMIT most t));
+              steps = u.steps;
+              refused = ap (λ i. plan i ask.need) (sym u.same.2) ∙ r;
+            }))
+            (λ s. none) (λ off p r. absurd (let no : true ≡ false = sym on ∙ off in cc))

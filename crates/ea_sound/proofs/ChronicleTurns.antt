@@ -1,0 +1,242 @@
+-- A turn of a scheduler: what it makes of what the turns before say.
+use Rattle.std.proofs.Common.{◌≡◌, ◌≢◌, ◌⊎◌, ℕ, zero, suc, ◌-◌, List, [], ◌∷◌, ◌++◌, Bool, true, false, refl, sym, ap, ◌∙◌, subst, inl, inr, arith}
+use Rattle.std.specs.Prelude.{Some, None, length}
+use Rattle.std.proofs.lemmas.List.{append_assoc}
+use Rattle.ea_model.specs.declared.entries.Entry.TheVariants as entry
+use Rattle.ea_model.specs.declared.operations.Op.{Op}
+use Rattle.ea_model.specs.declared.operations.Op.TheVariants as op
+use Rattle.ea_model.specs.declared.units.TheConstants.{SEARCH_LIMIT}
+use Rattle.ea_model.specs.Instance.{chosen_spot}
+use Rattle.ea_machine.specs.declared.owners.OwnerWord.{OwnerWord}
+use Rattle.ea_machine.specs.Actor.{Actor, Ask, Stage, Begin, Routed, Collecting, Searching, Fetching, Creating, Giving, Taking, Ended, Ready, Walk, For}
+use Rattle.ea_machine.specs.Chosen.{ByItself, Fetched}
+use Rattle.ea_machine.specs.Employment.{employing}
+use Rattle.ea_machine.specs.Machine.{after_row, onward, onward_at, run}
+use Rattle.ea_machine.specs.Operations.{took}
+use Rattle.ea_machine.specs.Placements.{counted, fetched, fits, holding, saw_by, search_at, searched}
+use Rattle.ea_machine.specs.Releases.{turned}
+use Rattle.ea_machine.specs.Rows.{Answer, Done, Head, Rests, Passes, Saw, Won, Lost, Home, Got}
+use Rattle.ea_machine.specs.Searches.{Missed, Searched, Shown, Sight, sight, sight_if}
+use Rattle.ea_machine.specs.Setup.{Setup, greatest_number}
+use Rattle.ea_machine.specs.Statistics.{observed}
+use Rattle.ea_machine.specs.Tasks.{halted, logged, let_go}
+use Rattle.ea_machine.specs.Turns.{actor_after, answered, begun}
+use Rattle.ea_sound.proofs.Chronicle.{AndShown, Fetches, IsSame, Searches, SoFar, Underway, further, placing-longer}
+use Rattle.ea_sound.proofs.SearchLists.{counted-most, searched-look, searched-lost, searched-on}
+use Rattle.ea_sound.proofs.BeginTurns.{IsInBegin, Walks, walks}
+use Rattle.ea_sound.proofs.ShortRoutes.{Keeps, keeps-same, turned-keeps}
+use Rattle.ea_sound.proofs.ChroniclePlaces.{Fine as IsFine, carried-fine, choice-fine, created-fine, logged-fine, search-fine}
+use Rattle.ea_sound.proofs.ChronicleOperations.{itself-fine}
+
+module _ (e : Setup) (L : List ℕ) (me : ℕ) where
+  abbrev acting : Actor
+  acting = actor_after e L me
+
+  abbrev mid : Actor
+  mid = begun e L me
+
+  abbrev turn : List ℕ
+  turn = L ++ me ∷ []
+
+  abbrev Fine : Actor → Type 0
+  Fine = IsFine e L me
+
+  module _ (set : acting.instance.settings ≡ e.settings) where
+    -- a scheduler that made no entry
+    rests-fine : (b : Actor) (st : Stage) → b.stage ≡ st → SoFar e turn me (observed b) st
+        → Keeps acting b → Fine b
+    rests-fine b st q h k =
+        (subst (SoFar e turn me (observed b)) (sym q) h, k.2 ∙ set, λ now. inl (k.0, k.1))
+
+    -- an answer that never comes
+    halted-fine : Fine (halted acting)
+    halted-fine = rests-fine (halted acting) Ended refl tt (keeps-same acting)
+
+    -- a walk, then perhaps the operation
+    walk-fine : (st : Stage) → mid.stage ≡ st → IsInBegin st → Keeps acting mid
+        → Fine (onward_at e me mid st)
+    walk-fine Ready q w k = itself-fine e L me set q k mid.todo refl
+    walk-fine Begin q w k = rests-fine mid Begin q tt k
+    walk-fine (Collecting c) q w k = rests-fine mid (Collecting c) q tt k
+    walk-fine (Routed r Walk g) q w k = rests-fine mid (Routed r Walk g) q tt k
+    walk-fine Ended q w k = rests-fine mid Ended q tt k
+    walk-fine (Routed r (For task) g) q w k = absurd w
+    walk-fine (Searching ask at looked) q w k = absurd w
+    walk-fine (Fetching ask at looked seen) q w k = absurd w
+    walk-fine (Creating ask p) q w k = absurd w
+    walk-fine (Giving h to) q w k = absurd w
+    walk-fine (Taking n tries left) q w k = absurd w
+
+    -- a scheduler is as now, and what it sees in this turn
+    abbrev IsStill : Actor → Type 0
+    IsStill b = IsSame b acting
+
+    abbrev saw : List Sight
+    saw = sight_if true acting.stage (answered (run e L) me)
+
+    turn-of : (need : ℕ) (st : Stage) (r : Answer) (x : Sight) (R : Actor → Type 0)
+        (P Q : List Sight → Type 0)
+        → acting.stage ≡ st → answered (run e L) me ≡ r → sight st r ≡ x ∷ []
+        → ((xs : List Sight) → P xs → Q (xs ++ x ∷ [])) → Underway e L me need R P
+        → Underway e turn me need R Q
+    turn-of need st r x R P Q q a is f u =
+        let sees : saw ≡ x ∷ [] = ap (λ st. sight st (answered (run e L) me)) q
+        ∙ ap (λ r. sight st r) a ∙ is in
+        further e L me me need R P Q true (grind arith) (ap length sees)
+        (λ xs p. subst (λ ys. Q (xs ++ ys)) (sym sees) (f xs p)) u
+
+    searched-fine : (ask : Ask) (at looked : ℕ) (r : Answer)
+        → acting.stage ≡ Searching ask at looked → answered (run e L) me ≡ r
+        → Searches e L me acting ask at looked → Fine (searched e me ask at looked acting r)
+    searched-fine ask at looked (Saw v) st ans h = by (fits ask.need v) refl
+      where
+        by : (t : Bool) → fits ask.need v ≡ t
+            → Fine (saw_by e me ask at (counted v looked) acting v t)
+        by true t = (
+          record {
+            of = h.of;
+            on = h.on;
+            small = h.small;
+            low = h.low;
+            old = looked;
+            room = h.room;
+            counts = refl;
+            fit = t;
+            way = turn-of ask.need (Searching ask at looked) (Saw v) (Shown at v) IsStill _
+                (AndShown e ask.need at looked v) st ans refl (λ xs p. (xs, refl, p)) h.way;
+          },
+          set,
+          λ now. inl (refl, refl),
+        )
+        by false t = search-fine e L me set ask (at - 1) (counted v looked) acting
+            (keeps-same acting) h.of h.on h.small (counted-most looked SEARCH_LIMIT v h.room)
+            (turn-of ask.need (Searching ask at looked) (Saw v) (Shown at v) IsStill _
+            (Searched ask.need (greatest_number e) 0 (at - 1) (counted v looked)) st ans refl
+            (λ xs p. searched-on ask.need (greatest_number e) 0 at looked (at - 1)
+            (counted v looked) xs (Shown at v ∷ []) p
+            (searched-look ask.need at looked v h.low h.room t)) h.way)
+    searched-fine ask at looked Done st ans h = halted-fine
+    searched-fine ask at looked (Head x) st ans h = halted-fine
+    searched-fine ask at looked Rests st ans h = halted-fine
+    searched-fine ask at looked (Passes x) st ans h = halted-fine
+    searched-fine ask at looked (Won x) st ans h = halted-fine
+    searched-fine ask at looked (Lost x) st ans h = halted-fine
+    searched-fine ask at looked (Home x) st ans h = halted-fine
+    searched-fine ask at looked (Got x) st ans h = halted-fine
+
+    fetched-fine : (ask : Ask) (at looked : ℕ) (seen : OwnerWord) (r : Answer)
+        → acting.stage ≡ Fetching ask at looked seen → answered (run e L) me ≡ r
+        → Fetches e L me acting ask at looked seen → Fine (fetched e me ask at looked acting r)
+    fetched-fine ask at looked seen (Won x) st ans h =
+        choice-fine e L me set ask (record acting { instance = employing acting.instance x })
+        (chosen_spot (employing acting.instance x) ask.need) refl (refl, refl, refl) h.of h.small
+        (Fetched ask at looked seen x st refl
+        (ap (λ i. chosen_spot i ask.need) h.way.same.2 ∙ h.way.none) ans refl)
+    fetched-fine ask at looked seen (Lost u) st ans h =
+        subst (λ k. Fine (search_at e me ask (at - 1) k acting)) (sym h.counts)
+        (search-fine e L me set ask (at - 1) (counted seen h.old) acting (keeps-same acting) h.of
+        h.on h.small (counted-most h.old SEARCH_LIMIT seen h.room)
+        (turn-of ask.need (Fetching ask at looked seen) (Lost u) (Missed at u) IsStill _
+        (Searched ask.need (greatest_number e) 0 (at - 1) (counted seen h.old)) st ans refl
+        (λ xs p. subst (Searched ask.need (greatest_number e) 0 (at - 1) (counted seen h.old))
+        (sym (ap (λ l. l ++ Missed at u ∷ []) p.1
+        ∙ append_assoc p.0 (Shown at seen ∷ []) (Missed at u ∷ [])))
+        (searched-on ask.need (greatest_number e) 0 at h.old (at - 1) (counted seen h.old) p.0
+        (Shown at seen ∷ Missed at u ∷ []) p.2
+        (searched-lost ask.need at h.old seen u h.low h.room h.fit))) h.way))
+    fetched-fine ask at looked seen Done st ans h = halted-fine
+    fetched-fine ask at looked seen (Head x) st ans h = halted-fine
+    fetched-fine ask at looked seen Rests st ans h = halted-fine
+    fetched-fine ask at looked seen (Passes x) st ans h = halted-fine
+    fetched-fine ask at looked seen (Saw x) st ans h = halted-fine
+    fetched-fine ask at looked seen (Home x) st ans h = halted-fine
+    fetched-fine ask at looked seen (Got x) st ans h = halted-fine
+
+    absent-fine : (n tries : ℕ) (ops : List Op) → acting.todo ≡ op.Take n tries ∷ ops
+        → Fine (logged (entry.TakeAbsent n tries) acting)
+    absent-fine n tries ops q =
+        logged-fine e L me set (entry.TakeAbsent n tries) acting (keeps-same acting)
+        (record { first = op.Take n tries; others = ops; is = q; makes = (refl, refl) })
+        (λ now. tt)
+
+    took-fine : (n tries left : ℕ) (r : Answer) (ops : List Op)
+        → acting.todo ≡ op.Take n tries ∷ ops → Fine (took n tries left acting r)
+    took-fine n tries left (Got (Some spot)) ops q =
+        logged-fine e L me set (entry.Take n) (holding n spot acting) (refl, refl, refl)
+        (record { first = op.Take n tries; others = ops; is = q; makes = refl })
+        (λ now. tt)
+    took-fine n tries zero (Got None) ops q = absent-fine n tries ops q
+    took-fine n tries (suc zero) (Got None) ops q = absent-fine n tries ops q
+    took-fine n tries (suc (suc left)) (Got None) ops q = ((ops, q), set, λ now. inl (refl, refl))
+    took-fine n tries left Done ops q = halted-fine
+    took-fine n tries left (Head x) ops q = halted-fine
+    took-fine n tries left Rests ops q = halted-fine
+    took-fine n tries left (Passes x) ops q = halted-fine
+    took-fine n tries left (Saw x) ops q = halted-fine
+    took-fine n tries left (Won x) ops q = halted-fine
+    took-fine n tries left (Lost x) ops q = halted-fine
+    took-fine n tries left (Home x) ops q = halted-fine
+
+    -- what isn't Ready is done with
+    onward-by : (b : Actor) (st : Stage) → b.stage ≡ st → Fine b → Fine (onward_at e me b st)
+    onward-by b Ready q h = absurd (subst (SoFar e turn me (observed b)) q h.0)
+    onward-by b Begin q h = h
+    onward-by b (Routed r y g) q h = h
+    onward-by b (Collecting c) q h = h
+    onward-by b (Searching ask at looked) q h = h
+    onward-by b (Fetching ask at looked seen) q h = h
+    onward-by b (Creating ask p) q h = h
+    onward-by b (Giving g to) q h = h
+    onward-by b (Taking n tries left) q h = h
+    onward-by b Ended q h = h
+
+    abbrev Then : Stage → Actor
+    Then st = after_row e me acting (answered (run e L) me) st
+
+    -- what the row of me leaves, by its stage before: a stage of the begin, or what is fine
+    row-fine : (st : Stage) → acting.stage ≡ st → SoFar e L me acting st → st ≢ Ended
+        → Walks acting (Then st) ⊎ Fine (Then st)
+    row-fine Begin q h ne =
+        inl (walks e me acting Begin (answered (run e L) me) tt ne (λ r. absurd (cc)))
+    row-fine (Routed r Walk g) q h ne =
+        inl (walks e me acting (Routed r Walk g) (answered (run e L) me) tt ne (λ r. absurd (cc)))
+    row-fine (Collecting c) q h ne =
+        inl (walks e me acting (Collecting c) (answered (run e L) me) tt ne (λ r. absurd (cc)))
+    row-fine (Routed r (For task) g) q h ne =
+        let t = turned e me r g acting (answered (run e L) me) in
+        inr (carried-fine e L me set task t.route t.gone t.actor
+        (turned-keeps e me r g acting (answered (run e L) me)) h.0
+        (placing-longer e L me me acting.log task h.1))
+    row-fine (Searching ask at looked) q h ne =
+        inr (searched-fine ask at looked (answered (run e L) me) q refl h)
+    row-fine (Fetching ask at looked seen) q h ne =
+        inr (fetched-fine ask at looked seen (answered (run e L) me) q refl h)
+    row-fine (Creating ask p) q h ne =
+        inr (created-fine e L me set ask p acting (keeps-same acting) h.of h.planned
+        (ByItself h.on ask q refl refl h.planned) h.none)
+    row-fine (Giving g to) q h ne =
+        inr (logged-fine e L me set (entry.Give g.name to) (let_go g.name acting) (refl, refl, refl)
+        (record { first = op.Give g.name to; others = h.0; is = h.1; makes = (refl, refl) })
+        (λ now. tt))
+    row-fine (Taking n tries left) q h ne =
+        inr (took-fine n tries left (answered (run e L) me) h.0 h.1)
+    row-fine Ended q h ne = absurd (ne refl)
+    row-fine Ready q h ne = absurd h
+
+    -- the turn of me
+    pub turn-fine : SoFar e L me acting acting.stage → acting.stage ≢ Ended
+        → Fine (onward e me mid)
+    turn-fine h ne =
+        elim (row-fine acting.stage refl h ne) [
+          | inl w ↦ walk-fine mid.stage refl w.1 w.0
+          | inr f ↦ onward-by mid mid.stage refl f
+        ]
+
+    -- where the begin is over, nothing happened to the log and the operations left
+    pub begun-keeps : SoFar e L me acting acting.stage → acting.stage ≢ Ended → mid.stage ≡ Ready
+        → Keeps acting mid
+    begun-keeps h ne r =
+        elim (row-fine acting.stage refl h ne) [
+          | inl w ↦ w.0
+          | inr f ↦ absurd (subst (SoFar e turn me (observed mid)) r f.0)
+        ]

@@ -1,0 +1,382 @@
+-- A schedule that is completed ends every scheduler.
+use Rattle.std.proofs.Common.{◌≡◌, ◌≢◌, ◌⊎◌, ℕ, zero, suc, ◌+◌, ◌*◌, ◌<◌, ◌≤◌, List, [], ◌∷◌, ◌++◌, Bool, true, false, refl, sym, ap, ◌∙◌, subst, inl, inr, arith}
+use Rattle.std.specs.Prelude.{Option, Some, None, length}
+use Rattle.std.proofs.lemmas.Bool.{cases_eq}
+use Rattle.ea_model.specs.declared.entries.Entry.TheVariants as entry
+use Rattle.ea_machine.specs.declared.nodes.Node.{Node}
+use Rattle.ea_machine.specs.declared.nodes.Node.TheVariants.{Block, Carrier}
+use Rattle.ea_machine.specs.Actor.{Actor, Gone, Route, Looking, Trying, Settling, Abandoning, Sending, Clearing, Pushing, Linking, Stage, Begin, Routed, Collecting, Searching, Fetching, Creating, Giving, Taking, Ended, Ready, Why, Walk, For}
+use Rattle.ea_machine.specs.Completion.{actor_rows, begin_rows, completing, ending, finishing, next_rows, passed_rows, stage_rows, work}
+use Rattle.ea_machine.specs.Machine.{after_row, begins, first_stage, run, run_on, start, step, wants_at, wants_on}
+use Rattle.ea_machine.specs.MachineLaws.{EndsAll}
+use Rattle.ea_machine.specs.Nodes.{Mark, first_node, link_in, pushed}
+use Rattle.ea_machine.specs.Owners.{CarrierAt, Employed, Busy}
+use Rattle.ea_machine.specs.Releases.{disowned}
+use Rattle.ea_machine.specs.Rows.{Answer, Done, Head, Rests, Passes, Saw, Won, Lost, Home, Got}
+use Rattle.ea_machine.specs.Setup.{Setup, is_scheduler}
+use Rattle.ea_machine.specs.Shared.{Shared, put}
+use Rattle.ea_machine.specs.State.{State}
+use Rattle.ea_machine.specs.Table.{answer, effect, link_answer, link_read, moved_if, rest_after, rest_by, tried_at}
+use Rattle.ea_machine.specs.Tasks.{let_go}
+use Rattle.ea_machine.specs.Turns.{advanced}
+use Rattle.ea_machine.specs.Walks.{begun, with_passed}
+use Rattle.ea_sound.specs.Present.{Fits, FitsRoute, Rule}
+use Rattle.ea_sound.proofs.Chronicled.{so_far}
+use Rattle.ea_sound.proofs.Chronicle.{SoFar}
+use Rattle.ea_sound.proofs.Ending.{created-less, fetched-less, logged-less, onward-less, searched-less, task-route, took-less, walk-route, walk_rows, whole_rows, worked-less}
+use Rattle.ea_sound.proofs.Totals.{put-here, put-other}
+use Rattle.ea_sound.proofs.TurnLists.{by-turns, ended-or, run-append, run-snoc, step-ended, step-mine, step-other, step-shared}
+
+-- a node is pushed to another scheduler's queue
+abbrev pub PushesElsewhere : ℕ → Stage → Type 0
+PushesElsewhere s (Routed (Pushing node to) why gone) = to ≢ s
+PushesElsewhere s stage = Unit {0}
+
+module _ (e : Setup) (me : ℕ) where
+  -- the marks in my queue and in what is left of my walk
+  abbrev marks : Shared → ℕ
+  marks s = 9 * length (s.queues me) + 9 * length (s.rests me)
+
+  link-marks : (n : Node) (ms : List Mark) → length (link_in n ms) ≡ length ms
+  link-marks n [] = refl
+  link-marks n (m ∷ ms) = ap suc (link-marks n ms)
+
+  linked-marks : (n : Node) (to : ℕ) (f : ℕ → List Mark)
+      → length (put f to (link_in n (f to)) me) ≡ length (f me)
+  linked-marks n to f =
+      elim (cases_eq me to) [
+        | inl q ↦ ap length (put-here f to (link_in n (f to)) me q) ∙ link-marks n (f to)
+            ∙ ap (λ k. length (f k)) (sym q)
+        | inr ne ↦ ap length (put-other f to (link_in n (f to)) me ne)
+      ]
+
+  moved-marks : (r : Answer) (c : ℕ) (p : CarrierAt) (s : Shared)
+      → marks (moved_if r c p s) ≡ marks s
+  moved-marks (Won x) c p s = refl
+  moved-marks Done c p s = refl
+  moved-marks (Head x) c p s = refl
+  moved-marks Rests c p s = refl
+  moved-marks (Passes x) c p s = refl
+  moved-marks (Saw x) c p s = refl
+  moved-marks (Lost x) c p s = refl
+  moved-marks (Home x) c p s = refl
+  moved-marks (Got x) c p s = refl
+
+  -- a row of a route adds no mark of mine, unless it pushes to me
+  route-marks : (r : Route) (y : Why) (g : Gone) (s : Shared) → PushesElsewhere me (Routed r y g)
+      → marks (effect me (wants_on r) s) ≡ marks s
+  unfolding effect
+  route-marks (Looking h) y g s f = refl
+  route-marks (Trying h seen) y g s f =
+      moved-marks (tried_at seen (s.places h.spot.carrier)) h.spot.carrier (Busy me) s
+  route-marks (Settling x) y g s f = refl
+  route-marks (Abandoning x) y g s f = refl
+  route-marks (Sending x) y g s f = refl
+  route-marks (Clearing x) y g s f = refl
+  route-marks (Pushing node to) y g s f = omega (
+    arith,
+    ap length (put-other s.queues to (pushed node ∷ s.queues to) me (λ q. f (sym q))),
+  )
+  route-marks (Linking node to) y g s f =
+      omega (arith, linked-marks node to s.queues, linked-marks node to s.rests)
+
+  plain-marks : (next : Option Node) (st : Stage) (s : Shared) → PushesElsewhere me st → st ≢ Begin
+      → marks (effect me (wants_at next st) s) ≡ marks s
+  unfolding effect
+  plain-marks next Begin s f ne = absurd (ne refl)
+  plain-marks next (Routed r y g) s f ne = route-marks r y g s f
+  plain-marks next (Collecting c) s f ne = refl
+  plain-marks next (Searching ask n looked) s f ne = refl
+  plain-marks next (Fetching ask n looked seen) s f ne =
+      moved-marks (tried_at seen (s.places n)) n (Employed me) s
+  plain-marks next (Creating ask p) s f ne = refl
+  plain-marks next (Giving h to) s f ne = refl
+  plain-marks next (Taking n tries left) s f ne = refl
+  plain-marks next Ended s f ne = refl
+  plain-marks next Ready s f ne = refl
+
+  -- the begin: the next link of the walk
+  link-less : (n : Node) (a : Actor) (ms : List Mark) → a.next ≡ Some n
+      → 9 * length (rest_after ms) + actor_rows e (begun e me a (link_answer ms))
+      < 9 * length ms + (whole_rows e me a + 1)
+  link-less n a [] q = omega (
+    arith,
+    worked-less e me (with_passed a.next a.passed) (record a { next = None }),
+    ap (λ o. passed_rows (with_passed o a.passed)) q,
+    ap next_rows q,
+  )
+  link-less n a (m ∷ ms) q = by m.linked ms
+    where
+      by : (b : Bool) (ms : List Mark)
+          → 9 * length (rest_by b m ms) + actor_rows e (begun e me a (link_read b ms))
+          < 9 * suc (length ms) + (whole_rows e me a + 1)
+      by false ms = omega arith
+      by true [] = omega (
+        arith,
+        worked-less e me (with_passed a.next a.passed) (record a { next = None }),
+        ap (λ o. passed_rows (with_passed o a.passed)) q,
+        ap next_rows q,
+      )
+      by true (k ∷ ms) = omega (
+        arith,
+        ap (λ o. passed_rows (with_passed o a.passed)) q,
+        ap next_rows q,
+      )
+
+  head-less : (a : Actor) (ms : List Mark) → a.next ≡ None
+      → 9 * length ms + actor_rows e (begun e me a (Head (first_node ms)))
+      < 9 * length ms + (whole_rows e me a + 11)
+  head-less a [] q = omega arith
+  head-less a (m ∷ ms) q = omega (arith, ap next_rows q)
+
+  begin-less : (a : Actor) (s : Shared) (o : Option Node) → a.next ≡ o
+      → marks (effect me (begins o) s) + actor_rows e (begun e me a (answer me (begins o) s))
+      < marks s + (whole_rows e me a + begin_rows o)
+  unfolding effect answer
+  begin-less a s None q = omega (
+    arith,
+    head-less a (s.queues me) q,
+    ap length (put-here s.queues me [] me refl),
+    ap length (put-here s.rests me (s.queues me) me refl),
+  )
+  begin-less a s (Some n) q = omega (
+    arith,
+    link-less n a (s.rests me) q,
+    ap length (put-here s.rests me (rest_after (s.rests me)) me refl),
+  )
+
+  -- each row, with the work after it
+  row-less : (a : Actor) (s : Shared) (st : Stage) → st ≢ Ended → st ≢ Ready
+      → PushesElsewhere me st
+      → marks (effect me (wants_at a.next st) s)
+      + actor_rows e (after_row e me a (answer me (wants_at a.next st) s) st)
+      < marks s + (walk_rows e me a + stage_rows e a.next a.todo st)
+  row-less a s Begin ne nr f = omega (arith, begin-less a s a.next refl)
+  row-less a s (Routed r Walk g) ne nr f =
+      omega (
+        arith,
+        plain-marks a.next (Routed r Walk g) s f (λ q. absurd (cc)),
+        walk-route e me r g a (answer me (wants_at a.next (Routed r Walk g)) s),
+      )
+  row-less a s (Routed r (For task) g) ne nr f =
+      omega (
+        arith,
+        plain-marks a.next (Routed r (For task) g) s f (λ q. absurd (cc)),
+        task-route e me r task g a (answer me (wants_at a.next (Routed r (For task) g)) s),
+      )
+  row-less a s (Collecting c) ne nr f =
+      omega (
+        arith,
+        plain-marks a.next (Collecting c) s f (λ q. absurd (cc)),
+        worked-less e me a.passed (disowned c a),
+      )
+  row-less a s (Searching ask n looked) ne nr f =
+      omega (
+        arith,
+        plain-marks a.next (Searching ask n looked) s f (λ q. absurd (cc)),
+        searched-less e me ask n looked a (answer me (wants_at a.next (Searching ask n looked)) s),
+      )
+  row-less a s (Fetching ask n looked seen) ne nr f =
+      omega (
+        arith,
+        plain-marks a.next (Fetching ask n looked seen) s f (λ q. absurd (cc)),
+        fetched-less e me ask n looked a
+            (answer me (wants_at a.next (Fetching ask n looked seen)) s),
+      )
+  row-less a s (Creating ask p) ne nr f =
+      omega (
+        arith,
+        plain-marks a.next (Creating ask p) s f (λ q. absurd (cc)),
+        created-less e me ask p a p.single,
+      )
+  row-less a s (Giving h to) ne nr f =
+      omega (
+        arith,
+        plain-marks a.next (Giving h to) s f (λ q. absurd (cc)),
+        logged-less e me (entry.Give h.name to) (let_go h.name a),
+      )
+  row-less a s (Taking n tries left) ne nr f =
+      omega (
+        arith,
+        plain-marks a.next (Taking n tries left) s f (λ q. absurd (cc)),
+        took-less e me n tries left a (answer me (wants_at a.next (Taking n tries left)) s),
+      )
+  row-less a s Ended ne nr f = absurd (ne refl)
+  row-less a s Ready ne nr f = absurd (nr refl)
+
+module _ (e : Setup) where
+  -- a turn of a scheduler that hasn't ended leaves it less work
+  step-less : (w : State) (s : ℕ) → (w.actors s).stage ≢ Ended → (w.actors s).stage ≢ Ready
+      → PushesElsewhere s (w.actors s).stage → work e (step e w s) s < work e w s
+  step-less w s ne nr f = omega (
+    arith,
+    ap (marks e s) (step-shared e w s ne),
+    ap (actor_rows e) (step-mine e w s ne),
+    row-less e s (w.actors s) w.shared (w.actors s).stage ne nr f,
+    onward-less e s (advanced e w s),
+  )
+
+  -- running to the end
+  abbrev Reached : State → Type 0
+  Reached w = (L : List ℕ) × (w ≡ run e L)
+
+  reached-step : (w : State) (s : ℕ) → Reached w → Reached (step e w s)
+  reached-step w s r = (r.0 ++ s ∷ [], ap (λ v. step e v s) r.1 ∙ sym (run-snoc e r.0 s))
+
+  reached-run : (w : State) (js : List ℕ) → Reached w → Reached (run_on e w js)
+  reached-run w [] r = r
+  reached-run w (j ∷ js) r = reached-run (step e w j) js (reached-step w j r)
+
+  ending-none : (most : ℕ) (w : State) (s : ℕ) → ending e most w s Ended ≡ []
+  ending-none zero w s = refl
+  ending-none (suc most) w s = refl
+
+  ending-one : (most : ℕ) (w : State) (s : ℕ) (st : Stage) → st ≢ Ended
+      → ending e (suc most) w s st
+      ≡ s ∷ ending e most (step e w s) s ((step e w s).actors s).stage
+  ending-one most w s Ended ne = absurd (ne refl)
+  ending-one most w s Begin ne = refl
+  ending-one most w s (Routed r y g) ne = refl
+  ending-one most w s (Collecting c) ne = refl
+  ending-one most w s (Searching ask n looked) ne = refl
+  ending-one most w s (Fetching ask n looked seen) ne = refl
+  ending-one most w s (Creating ask p) ne = refl
+  ending-one most w s (Giving h to) ne = refl
+  ending-one most w s (Taking n tries left) ne = refl
+  ending-one most w s Ready ne = refl
+
+  ending-zero : (w : State) (s : ℕ) (st : Stage) → ending e zero w s st ≡ []
+  ending-zero w s Ended = refl
+  ending-zero w s Begin = refl
+  ending-zero w s (Routed r y g) = refl
+  ending-zero w s (Collecting c) = refl
+  ending-zero w s (Searching ask n looked) = refl
+  ending-zero w s (Fetching ask n looked seen) = refl
+  ending-zero w s (Creating ask p) = refl
+  ending-zero w s (Giving h to) = refl
+  ending-zero w s (Taking n tries left) = refl
+  ending-zero w s Ready = refl
+
+  -- nobody else steps meanwhile
+  ending-others : (most : ℕ) (w : State) (s j : ℕ) (st : Stage) → j ≢ s
+      → (run_on e w (ending e most w s st)).actors j ≡ w.actors j
+  ending-others zero w s j st ne = ap (λ js. (run_on e w js).actors j) (ending-zero w s st)
+  ending-others (suc most) w s j st ne =
+      elim (ended-or st) [
+        | inl q ↦ ap (λ t. (run_on e w (ending e (suc most) w s t)).actors j) q
+            ∙ ap (λ js. (run_on e w js).actors j) (ending-none (suc most) w s)
+        | inr n ↦ ap (λ js. (run_on e w js).actors j) (ending-one most w s st n)
+            ∙ ending-others most (step e w s) s j ((step e w s).actors s).stage ne
+            ∙ step-other e w s j ne
+      ]
+
+  never-ready : (w : State) (s : ℕ) → Reached w → (w.actors s).stage ≢ Ready
+  never-ready w s r q = subst (SoFar e r.0 s ((run e r.0).actors s))
+      (sym (ap (λ (v : State). (v.actors s).stage) r.1) ∙ q) (so_far e r.0 s).0
+
+  -- who is no scheduler has ended from the start
+  outside : (s : ℕ) → is_scheduler e s ≡ false → (L : List ℕ)
+      → ((run e L).actors s).stage ≡ Ended
+  outside s o = by-turns (λ L. ((run e L).actors s).stage ≡ Ended)
+      (λ L j q. elim (cases_eq j s) [
+        | inl i ↦ ap (λ (w : State). (w.actors s).stage)
+            (run-snoc e L j ∙ ap (step e (run e L)) i ∙ step-ended e (run e L) s q) ∙ q
+        | inr ne ↦ ap (λ (w : State). (w.actors s).stage) (run-snoc e L j)
+            ∙ ap (λ (a : Actor). a.stage) (step-other e (run e L) j s (λ i. ne (sym i))) ∙ q
+      ])
+      (ap (first_stage e) o)
+
+  module _ (elsewhere : (L : List ℕ) (s : ℕ) → PushesElsewhere s ((run e L).actors s).stage) where
+    pushes : (w : State) (s : ℕ) → Reached w → PushesElsewhere s (w.actors s).stage
+    pushes w s r =
+        subst (λ (v : State). PushesElsewhere s (v.actors s).stage) (sym r.1) (elsewhere r.0 s)
+
+    ends : (most : ℕ) (w : State) (s : ℕ) → Reached w → work e w s ≤ most
+        → ((run_on e w (ending e most w s (w.actors s).stage)).actors s).stage ≡ Ended
+    ends zero w s r l =
+        elim (ended-or (w.actors s).stage) [
+          | inl q ↦ ap (λ js. ((run_on e w js).actors s).stage)
+              (ending-zero w s (w.actors s).stage) ∙ q
+          | inr n ↦ absurd (omega (
+            arith,
+            l,
+            step-less w s n (never-ready w s r) (pushes w s r),
+          ))
+        ]
+    ends (suc most) w s r l =
+        elim (ended-or (w.actors s).stage) [
+          | inl q ↦ ap (λ t. ((run_on e w (ending e (suc most) w s t)).actors s).stage) q
+              ∙ ap (λ js. ((run_on e w js).actors s).stage) (ending-none (suc most) w s) ∙ q
+          | inr n ↦ ap (λ js. ((run_on e w js).actors s).stage)
+              (ending-one most w s (w.actors s).stage n)
+              ∙ ends most (step e w s) s (reached-step w s r)
+              (omega (arith, l, step-less w s n (never-ready w s r) (pushes w s r)))
+        ]
+
+    -- a scheduler that alone steps has ended after as many turns as it has work, at most
+    finishes : (w : State) (s : ℕ) → Reached w
+        → ((run_on e w (finishing e w s)).actors s).stage ≡ Ended
+    finishes w s r = ends (work e w s) w s r (omega arith)
+
+    completes : (count s : ℕ) (w : State) (j : ℕ) → Reached w
+        → ((w.actors j).stage ≡ Ended) ⊎ ((s ≤ j) × (j < s + count))
+        → ((run_on e w (completing e count s w)).actors j).stage ≡ Ended
+    completes zero s w j r (inl q) = q
+    completes zero s w j r (inr l) = absurd (omega (arith, l.0, l.1))
+    completes (suc count) s w j r h =
+        let v = run_on e w (finishing e w s) in
+        ap (λ (u : State). (u.actors j).stage)
+        (run-append e w (finishing e w s) (completing e count (suc s) v))
+        ∙ completes count (suc s) v j (reached-run w (finishing e w s) r)
+        (elim (cases_eq j s) [
+          | inl q ↦ inl (subst (λ i. ((run_on e w (finishing e w s)).actors i).stage ≡ Ended)
+              (sym q) (finishes w s r))
+          | inr ne ↦ elim h [
+            | inl q ↦ inl (ap (λ (a : Actor). a.stage)
+                (ending-others (work e w s) w s j (w.actors s).stage ne) ∙ q)
+            | inr l ↦ inr (omega (arith, l.0, ne), omega (arith, l.1))
+          ]
+        ])
+
+    -- after the schedule and then one scheduler after another, all have ended
+    ends-all : EndsAll e
+    ends-all turns s =
+        ap (λ (w : State). (w.actors s).stage)
+        (run-append e (start e) turns (completing e e.schedulers 1 (run e turns)))
+        ∙ completes e.schedulers 1 (run e turns) s (turns, refl) (by (is_scheduler e s) refl)
+      where
+        by : (b : Bool) → is_scheduler e s ≡ b
+            → (((run e turns).actors s).stage ≡ Ended) ⊎ ((1 ≤ s) × (s < 1 + e.schedulers))
+        by true t = inr (grind (arith, t), grind (arith, t))
+        by false t = inl (outside s t turns)
+
+-- by the rule pushes go elsewhere
+module _ (e : Setup) (w : State) (s : ℕ) where
+  route-elsewhere : (r : Route) (y : Why) (g : Gone) → FitsRoute e w.shared s r
+      → PushesElsewhere s (Routed r y g)
+  route-elsewhere (Looking h) y g f = tt
+  route-elsewhere (Trying h seen) y g f = tt
+  route-elsewhere (Settling x) y g f = tt
+  route-elsewhere (Abandoning x) y g f = tt
+  route-elsewhere (Sending x) y g f = tt
+  route-elsewhere (Clearing x) y g f = tt
+  route-elsewhere (Pushing (Block n p) to) y g f = f.0
+  route-elsewhere (Pushing (Carrier c) to) y g f = f.1
+  route-elsewhere (Linking node to) y g f = tt
+
+  fits-elsewhere : (a : Actor) (st : Stage) → Fits e w s a st → PushesElsewhere s st
+  fits-elsewhere a Begin f = tt
+  fits-elsewhere a (Routed r y g) f = route-elsewhere r y g f.0
+  fits-elsewhere a (Collecting c) f = tt
+  fits-elsewhere a (Searching ask n looked) f = tt
+  fits-elsewhere a (Fetching ask n looked seen) f = tt
+  fits-elsewhere a (Creating ask p) f = tt
+  fits-elsewhere a (Giving h to) f = tt
+  fits-elsewhere a (Taking n tries left) f = tt
+  fits-elsewhere a Ended f = tt
+  fits-elsewhere a Ready f = tt
+
+pub rule-ends_all : (e : Setup) → ((turns : List ℕ) → Rule e (run e turns)) → EndsAll e
+rule-ends_all e rule = ends-all e (λ L s.
+    fits-elsewhere e (run e L) s ((run e L).actors s) ((run e L).actors s).stage
+    ((rule L).present.fits s))

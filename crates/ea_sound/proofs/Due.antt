@@ -1,0 +1,53 @@
+-- A carrier that is due stays so when it comes into the hand.
+use Rattle.std.proofs.Common.{◌≡◌, ◌≢◌, ℕ, List, ◌∷◌, Bool, true, ◌&&◌, refl, sym, ap, ◌∙◌, arith}
+use Rattle.std.specs.Prelude.{Option, Some, None, not, sum_by}
+use Rattle.ea_model.specs.declared.carriers.Kind.TheVariants.{Multi, Single}
+use Rattle.ea_model.specs.declared.settings.Settings.{Settings}
+use Rattle.ea_model.specs.Content.{Content, allocated, is_multi, is_nil}
+use Rattle.ea_model.specs.Instance.{Instance, content_of, employed, figures, without_content}
+use Rattle.ea_model.proofs.Options.{same-some}
+use Rattle.ea_model.proofs.Rising.{item_at-All}
+use Rattle.ea_laws.specs.Kept.{number_of, IsLaidOutAlone, IsRising}
+use Rattle.ea_machine.specs.Abandonment.{has_large_gap, is_due, is_sparse, is_sparse_carrier}
+use Rattle.ea_sound.specs.Orderly.{IsOrderly}
+use Rattle.ea_sound.proofs.KeyedWeights.{sum-without, times-once}
+use Rattle.ea_sound.proofs.Orderly.{employed-alone, employed-many}
+use Rattle.ea_sound.proofs.Weights.{sum_by-sum_over}
+
+-- the carrier in front of the others weighs as among them
+module _ (f : Content → ℕ) (x : Content) (cs : List Content) (rising : IsRising cs)
+    (there : content_of cs x.number ≡ Some x) where
+  sum-front : sum_by f (x ∷ without_content x.number cs) ≡ sum_by f cs
+  sum-front = omega (
+    arith,
+    sum_by-sum_over f (x ∷ without_content x.number cs),
+    sum_by-sum_over f cs,
+    sum-without number_of f x.number x cs (times-once number_of x.number cs rising) there,
+  )
+
+-- whether it is due by the units of all
+abbrev due_by : Settings → Content → ℕ → ℕ → Bool
+due_by s x used units = is_multi x.kind && not (is_nil x.blocks)
+    && (is_sparse_carrier s x && is_sparse s used units && has_large_gap s x)
+
+pub due-in_hand : (s : Settings) (x : Content) (cs : List Content) → IsRising cs
+    → content_of cs x.number ≡ Some x → is_due s cs x ≡ true
+    → is_due s (x ∷ without_content x.number cs) x ≡ true
+due-in_hand s x cs rising there due =
+    let front = figures (x ∷ without_content x.number cs) in
+    ap (λ used. due_by s x used front.carriers_size)
+    (sum-front (λ c. allocated c.blocks) x cs rising there)
+    ∙ ap (due_by s x (figures cs).blocks_size) (sum-front (λ c. c.units) x cs rising there) ∙ due
+
+-- a multiblock carrier that is found is among those of many blocks
+pub multi-found : (i : Instance) (n : ℕ) (x : Content) → IsOrderly i → x.kind ≡ Multi
+    → content_of (employed i) n ≡ Some x → content_of i.contents n ≡ Some x
+multi-found i n x order multi there = by (content_of i.contents n) refl where
+  no : Single ≢ Multi
+  no q = cc
+
+  by : (o : Option Content) → content_of i.contents n ≡ o → o ≡ Some x
+  by (Some y) q =
+      ap Some (same-some (content_of (employed i) n) y x (employed-many i n y order q) there)
+  by None q = absurd (no (sym (item_at-All number_of IsLaidOutAlone n x i.singles order.alone
+      (sym (employed-alone i n q) ∙ there)).single ∙ multi))

@@ -1,0 +1,351 @@
+-- Each row that a scheduler does leaves it less work.
+use Rattle.std.proofs.Common.{◌≡◌, ℕ, zero, suc, ◌+◌, ◌-◌, ◌*◌, ◌<◌, ◌≤◌, List, [], ◌∷◌, Bool, true, false, refl, sym, ap, subst, arith}
+use Rattle.std.specs.Prelude.{Option, Some, None, Result, Ok, Err, ◌&&◌, nat_lt}
+use Rattle.std.proofs.lemmas.List.Sums.{sum_by-cons}
+use Rattle.ea_model.specs.declared.carriers.CarrierPlan.{CarrierPlan}
+use Rattle.ea_model.specs.declared.carriers.Place.{Place}
+use Rattle.ea_model.specs.declared.carriers.Spot.{Spot}
+use Rattle.ea_model.specs.declared.entries.Entry.{Entry}
+use Rattle.ea_model.specs.declared.entries.Entry.TheVariants as entry
+use Rattle.ea_model.specs.declared.entries.NoCarrier.{NoCarrier}
+use Rattle.ea_model.specs.declared.operations.Op.{Op}
+use Rattle.ea_model.specs.declared.operations.Op.TheVariants as op
+use Rattle.ea_model.specs.declared.reallocation.Decision.{Decision}
+use Rattle.ea_model.specs.declared.reallocation.Decision.TheVariants.{Stay, ShrinkHere, GrowHere, ShrinkCarrier, Move}
+use Rattle.ea_model.specs.declared.units.TheConstants.{SEARCH_LIMIT}
+use Rattle.ea_model.specs.Instance.{chosen_spot, creating, creating_single, decision_at, is_alone, place_at, placing_at, plan, single_place}
+use Rattle.ea_model.specs.Units.{need_of}
+use Rattle.ea_machine.specs.declared.nodes.Node.{Node}
+use Rattle.ea_machine.specs.declared.nodes.Node.TheVariants.{Block, Carrier}
+use Rattle.ea_machine.specs.declared.owners.OwnerWord.{OwnerWord}
+use Rattle.ea_machine.specs.Actor.{Actor, Ask, Gone, Route, Looking, Trying, Settling, Abandoning, Sending, Clearing, Pushing, Linking, Stage, Begin, Routed, Collecting, Searching, Fetching, Creating, Giving, Taking, Ended, Ready, Task, Freeing, Moving, Walk, For}
+use Rattle.ea_machine.specs.Completion.{actor_rows, begin_rows, next_rows, operation_rows, passed_rows, route_rows, search_rows, stage_rows, text_rows}
+use Rattle.ea_machine.specs.Employment.{employing}
+use Rattle.ea_machine.specs.Machine.{after_row, onward, onward_at}
+use Rattle.ea_machine.specs.Nodes.{Named, named_at}
+use Rattle.ea_machine.specs.Operations.{freed, giving, itself, took}
+use Rattle.ea_machine.specs.Placements.{chosen_by, counted, created_by, failed, fetched, fits, holding, making, new_carrier, new_carrier_by, placed_by, saw_by, search_at, search_if, searched, searched_by, seek, seek_by, spot_of_place, stands}
+use Rattle.ea_machine.specs.Reallocations.{reallocated, reallocated_by, resized_here}
+use Rattle.ea_machine.specs.Releases.{looked, route_of, turned}
+use Rattle.ea_machine.specs.Rows.{Answer, Done, Head, Rests, Passes, Saw, Won, Lost, Home, Got}
+use Rattle.ea_machine.specs.Setup.{Setup, greatest_number, migration}
+use Rattle.ea_machine.specs.Tasks.{carried, entry_of, hands_over, later, let_go, logged, task_over}
+use Rattle.ea_machine.specs.Walks.{after_route, worked_off}
+use Rattle.ea_sound.proofs.ShortRoutes.{Same, route-short, some_rows, turned-short}
+
+module _ (e : Setup) (me : ℕ) where
+  -- the work but for the operation and the stage
+  abbrev pub walk_rows : Actor → ℕ
+  walk_rows a = passed_rows a.passed + next_rows a.next
+
+  -- with the operations after this one
+  abbrev rest_rows : Actor → ℕ
+  rest_rows a = walk_rows a + text_rows e (later a.todo)
+
+  -- with all operations left
+  abbrev pub whole_rows : Actor → ℕ
+  whole_rows a = walk_rows a + text_rows e a.todo
+
+  same-rest : (a b : Actor) → Same a b → rest_rows b ≡ rest_rows a
+  same-rest a b s = omega (
+    arith,
+    ap passed_rows s.0,
+    ap next_rows s.1,
+    ap (λ ops. text_rows e (later ops)) s.2,
+  )
+
+  same-whole : (a b : Actor) → Same a b → whole_rows b ≡ whole_rows a
+  same-whole a b s = omega (arith, ap passed_rows s.0, ap next_rows s.1, ap (text_rows e) s.2)
+
+  begin-most : (n : Option Node) → begin_rows n ≤ 11
+  begin-most None = omega arith
+  begin-most (Some n) = omega arith
+
+  pub logged-less : (x : Entry) (a : Actor) → actor_rows e (logged x a) ≤ rest_rows a + 11
+  logged-less x a = omega (arith, begin-most a.next)
+
+  carried-less : (task : Task) (r : Option Route) (g : Gone) (b : Actor) (k : ℕ)
+      → some_rows r ≤ k
+      → actor_rows e (carried (For task) (task_over task)
+      (record { actor = b; route = r; gone = g })) ≤ rest_rows b + 12 + k
+  carried-less task None g b k l = omega (arith, logged-less (entry_of task g) b)
+  carried-less task (Some r) g b k l = omega (arith, l)
+
+  task-less : (task : Task) (h : Named) (b : Actor)
+      → actor_rows e (hands_over e me task h b) ≤ rest_rows b + 18
+  task-less task h b =
+      let t = route_of e me h (let_go h.name b) in let s = route-short e me h (let_go h.name b) in
+      omega (
+        arith,
+        carried-less task t.route t.gone t.actor 6 s.0,
+        same-rest (let_go h.name b) t.actor s.1,
+      )
+
+  stands-less : (n : ℕ) (q : Place) (old : Option Named) (b : Actor)
+      → actor_rows e (stands e me n q old b) ≤ rest_rows b + 18
+  stands-less n q None b = omega (arith, logged-less (entry.Alloc n q) b)
+  stands-less n q (Some h) b = task-less (Moving h.name n q) h b
+
+  placed-less : (ask : Ask) (b : Actor) (o : Option Spot)
+      → actor_rows e (placed_by e me ask b o) ≤ rest_rows b + 18
+  placed-less ask b None = omega arith
+  placed-less ask b (Some spot) = stands-less ask.name (place_at b.instance spot ask.need) ask.old
+      (holding ask.name spot
+      (record b { instance = placing_at b.instance spot ask.need ask.name }))
+
+  pub created-less : (ask : Ask) (p : CarrierPlan) (b : Actor) (t : Bool)
+      → actor_rows e (created_by e me ask p b t) ≤ rest_rows b + 18
+  created-less ask p b true = stands-less ask.name (single_place p ask.need) ask.old
+      (holding ask.name (spot_of_place (single_place p ask.need))
+      (record b { instance = creating_single b.instance p ask.need ask.name }))
+  created-less ask p b false = placed-less ask (record b { instance = creating b.instance p })
+      (chosen_spot (creating b.instance p) ask.need)
+
+  making-less : (ask : Ask) (p : CarrierPlan) (b : Actor) (on : Bool)
+      → actor_rows e (making e me ask p b on) ≤ rest_rows b + 20
+  making-less ask p b true = omega arith
+  making-less ask p b false = omega (arith, created-less ask p b p.single)
+
+  planned-less : (ask : Ask) (looked : ℕ) (b : Actor) (o : Result CarrierPlan NoCarrier)
+      → actor_rows e (new_carrier_by e me ask looked b o) ≤ rest_rows b + 20
+  planned-less ask looked b (Err why) = omega (arith, logged-less (failed ask looked why ask.old) b)
+  planned-less ask looked b (Ok p) = making-less ask p b (migration e)
+
+  new_carrier-less : (ask : Ask) (looked : ℕ) (b : Actor)
+      → actor_rows e (new_carrier e me ask looked b) ≤ rest_rows b + 20
+  new_carrier-less ask looked b = planned-less ask looked b (plan b.instance ask.need)
+
+  searched_by-less : (ask : Ask) (n looked : ℕ) (b : Actor) (t : Bool)
+      → actor_rows e (searched_by e me ask n looked b t) ≤ rest_rows b + 12 + (2 * n + 10)
+  searched_by-less ask n looked b true = omega arith
+  searched_by-less ask n looked b false = omega (arith, new_carrier-less ask looked b)
+
+  search-less : (ask : Ask) (n looked : ℕ) (b : Actor)
+      → actor_rows e (search_at e me ask n looked b) ≤ rest_rows b + 12 + (2 * n + 10)
+  search-less ask n looked b =
+      searched_by-less ask n looked b (nat_lt 0 n && nat_lt looked SEARCH_LIMIT)
+
+  -- before the next number
+  search-next : (ask : Ask) (n looked : ℕ) (b : Actor)
+      → actor_rows e (search_at e me ask (n - 1) looked b) ≤ rest_rows b + 12 + (2 * n + 8)
+  search-next ask zero looked b = omega (arith, new_carrier-less ask looked b)
+  search-next ask (suc n) looked b =
+      let m : suc n - 1 ≡ n = omega arith in
+      subst (λ k. actor_rows e (search_at e me ask k looked b) ≤ rest_rows b + 12 + (2 * suc n + 8))
+      (sym m) (omega (arith, search-less ask n looked b))
+
+  search_if-less : (ask : Ask) (a : Actor) (on : Bool)
+      → actor_rows e (search_if e me ask a on) ≤ rest_rows a + 12 + search_rows e
+  search_if-less ask a true = search-less ask (greatest_number e) 0 a
+  search_if-less ask a false = omega (arith, new_carrier-less ask 0 a)
+
+  chosen-less : (ask : Ask) (a : Actor) (o : Option Spot)
+      → actor_rows e (chosen_by e me ask a o) ≤ rest_rows a + 12 + search_rows e
+  chosen-less ask a (Some spot) = omega (arith, placed-less ask a (Some spot))
+  chosen-less ask a None = search_if-less ask a (migration e)
+
+  seek_by-less : (ask : Ask) (a : Actor) (b : Bool)
+      → actor_rows e (seek_by e me ask a b) ≤ rest_rows a + 12 + search_rows e
+  seek_by-less ask a true = omega (arith, new_carrier-less ask 0 a)
+  seek_by-less ask a false = chosen-less ask a (chosen_spot a.instance ask.need)
+
+  seek-less : (ask : Ask) (a : Actor)
+      → actor_rows e (seek e me ask a) ≤ rest_rows a + 12 + search_rows e
+  seek-less ask a = seek_by-less ask a (is_alone a.instance ask.need)
+
+  resized-less : (h : Named) (fresh need : ℕ) (a : Actor)
+      → actor_rows e (resized_here h fresh need a) ≤ rest_rows a + 12 + search_rows e
+  resized-less h fresh need a = omega (arith, begin-most a.next)
+
+  decided-less : (h : Named) (fresh need : ℕ) (a : Actor) (d : Decision)
+      → actor_rows e (reallocated_by e me h fresh need a d) ≤ rest_rows a + 12 + search_rows e
+  decided-less h fresh need a Move =
+      seek-less (record { name = fresh; need = need; old = Some h }) a
+  decided-less h fresh need a Stay = resized-less h fresh need a
+  decided-less h fresh need a ShrinkHere = resized-less h fresh need a
+  decided-less h fresh need a GrowHere = resized-less h fresh need a
+  decided-less h fresh need a (ShrinkCarrier pages) = resized-less h fresh need a
+
+  realloc-less : (o fresh need : ℕ) (a : Actor) (h : Option Named)
+      → actor_rows e (reallocated e me o fresh need a h) ≤ rest_rows a + 12 + search_rows e
+  realloc-less o fresh need a None = omega (arith, logged-less (entry.ReallocSkipped o fresh) a)
+  realloc-less o fresh need a (Some h) =
+      decided-less h fresh need a (decision_at a.instance h.spot need)
+
+  free-less : (n : ℕ) (a : Actor) (h : Option Named)
+      → actor_rows e (freed e me n a h) ≤ rest_rows a + 18
+  free-less n a None = omega (arith, logged-less (entry.FreeSkipped n) a)
+  free-less n a (Some h) = task-less (Freeing n) h a
+
+  give-less : (n to : ℕ) (a : Actor) (h : Option Named)
+      → actor_rows e (giving n to a h) ≤ rest_rows a + 13
+  give-less n to a None = omega (arith, logged-less (entry.GiveSkipped n to) a)
+  give-less n to a (Some h) = omega arith
+
+  -- the rows of a text, operation by operation
+  text-cons : (a : Actor) (o : Op) (ops : List Op) → a.todo ≡ o ∷ ops
+      → whole_rows a ≡ rest_rows a + operation_rows e o + 12
+  text-cons a o ops q =
+      let c = sum_by-cons (λ o. operation_rows e o + 12) o ops in
+      omega (arith, ap (text_rows e) q, ap (λ os. text_rows e (later os)) q, c)
+
+  -- the operation itself takes no more than is counted for it
+  itself-less : (a : Actor) (ops : List Op) → a.todo ≡ ops
+      → actor_rows e (itself e me a ops) ≤ whole_rows a
+  itself-less a [] q = omega arith
+  itself-less a (op.Alloc n b ∷ ops) q =
+      omega (
+        arith,
+        seek-less (record { name = n; need = need_of b; old = None }) a,
+        text-cons a (op.Alloc n b) ops q,
+      )
+  itself-less a (op.Free n ∷ ops) q =
+      omega (arith, free-less n a (named_at n a.held), text-cons a (op.Free n) ops q)
+  itself-less a (op.Realloc o n b ∷ ops) q =
+      omega (
+        arith,
+        realloc-less o n (need_of b) a (named_at o a.held),
+        text-cons a (op.Realloc o n b) ops q,
+      )
+  itself-less a (op.Give n to ∷ ops) q =
+      omega (arith, give-less n to a (named_at n a.held), text-cons a (op.Give n to) ops q)
+  itself-less a (op.Take n tries ∷ ops) q = omega (arith, text-cons a (op.Take n tries) ops q)
+  itself-less a (op.Info ∷ ops) q =
+      omega (arith, begin-most a.next, text-cons a op.Info ops q)
+  itself-less a (op.Idle ∷ ops) q =
+      omega (arith, logged-less entry.Idle a, text-cons a op.Idle ops q)
+
+  onward-by : (b : Actor) (st : Stage) → b.stage ≡ st
+      → actor_rows e (onward_at e me b st) ≤ actor_rows e b
+  onward-by b Ready q =
+      omega (arith, itself-less b b.todo refl, ap (stage_rows e b.next b.todo) q)
+  onward-by b Begin q = omega arith
+  onward-by b (Routed r y g) q = omega arith
+  onward-by b (Collecting c) q = omega arith
+  onward-by b (Searching ask n looked) q = omega arith
+  onward-by b (Fetching ask n looked seen) q = omega arith
+  onward-by b (Creating ask p) q = omega arith
+  onward-by b (Giving g to) q = omega arith
+  onward-by b (Taking n tries left) q = omega arith
+  onward-by b Ended q = omega arith
+
+  pub onward-less : (b : Actor) → actor_rows e (onward e me b) ≤ actor_rows e b
+  onward-less b = onward-by b b.stage refl
+
+  -- a walk
+  carried-walk : (over : Gone → Actor → Actor) (r : Option Route) (g : Gone) (b : Actor) (k : ℕ)
+      → some_rows r ≤ k → actor_rows e (over g b) ≤ whole_rows b
+      → actor_rows e (carried Walk over (record { actor = b; route = r; gone = g }))
+      ≤ whole_rows b + k
+  carried-walk over None g b k l h = omega (arith, h)
+  carried-walk over (Some r) g b k l h = omega (arith, l)
+
+  pub worked-less : (ns : List Node) (b : Actor) → actor_rows e (worked_off e me ns b)
+      ≤ passed_rows ns + next_rows b.next + text_rows e b.todo
+  worked-less [] b = omega arith
+  worked-less (Carrier c ∷ ns) b = omega arith
+  worked-less (Block n p ∷ ns) b =
+      let t = route_of e me (record { name = n; spot = p }) (record b { passed = ns }) in
+      let s = route-short e me (record { name = n; spot = p }) (record b { passed = ns }) in
+      omega (
+        arith,
+        carried-walk (λ gone d. worked_off e me ns d) t.route t.gone t.actor 6 s.0
+            (omega (arith, worked-less ns t.actor, ap passed_rows s.1.0)),
+        ap passed_rows s.1.0,
+        ap next_rows s.1.1,
+        ap (text_rows e) s.1.2,
+      )
+
+  route-some : (r : Route) → 1 ≤ route_rows r
+  route-some (Looking h) = omega arith
+  route-some (Trying h seen) = omega arith
+  route-some (Settling x) = omega arith
+  route-some (Abandoning x) = omega arith
+  route-some (Sending x) = omega arith
+  route-some (Clearing x) = omega arith
+  route-some (Pushing node to) = omega arith
+  route-some (Linking node to) = omega arith
+
+  pub walk-route : (r : Route) (g : Gone) (a : Actor) (z : Answer)
+      → actor_rows e (after_row e me a z (Routed r Walk g)) < whole_rows a + route_rows r
+  walk-route r g a z =
+      let t = turned e me r g a z in
+      let s = turned-short e me r g a z in
+      by t.route t.gone t.actor (omega (arith, s.0)) (worked-less t.actor.passed t.actor)
+      (same-whole a t.actor s.1)
+    where
+      by : (o : Option Route) (h : Gone) (b : Actor) → some_rows o < route_rows r
+          → actor_rows e (worked_off e me b.passed b)
+          ≤ passed_rows b.passed + next_rows b.next + text_rows e b.todo
+          → whole_rows b ≡ whole_rows a
+          → actor_rows e (carried Walk (after_route e me Walk)
+          (record { actor = b; route = o; gone = h })) < whole_rows a + route_rows r
+      by None h b l k q = omega (arith, k, q, route-some r)
+      by (Some o) h b l k q = omega (arith, l, q)
+
+  pub task-route : (r : Route) (task : Task) (g : Gone) (a : Actor) (z : Answer)
+      → actor_rows e (after_row e me a z (Routed r (For task) g))
+      < rest_rows a + 12 + route_rows r
+  task-route r task g a z =
+      let t = turned e me r g a z in
+      let s = turned-short e me r g a z in
+      by t.route t.gone t.actor (omega (arith, s.0)) (same-rest a t.actor s.1)
+    where
+      by : (o : Option Route) (h : Gone) (b : Actor) → some_rows o < route_rows r
+          → rest_rows b ≡ rest_rows a
+          → actor_rows e (carried (For task) (task_over task)
+          (record { actor = b; route = o; gone = h })) < rest_rows a + 12 + route_rows r
+      by None h b l q = omega (arith, logged-less (entry_of task h) b, q, route-some r)
+      by (Some o) h b l q = omega (arith, l, q)
+
+  saw-less : (ask : Ask) (n looked : ℕ) (a : Actor) (v : OwnerWord) (t : Bool)
+      → actor_rows e (saw_by e me ask n looked a v t) < rest_rows a + 12 + (2 * n + 10)
+  saw-less ask n looked a v true = omega arith
+  saw-less ask n looked a v false = omega (arith, search-next ask n looked a)
+
+  pub searched-less : (ask : Ask) (n looked : ℕ) (a : Actor) (r : Answer)
+      → actor_rows e (searched e me ask n looked a r) < rest_rows a + 12 + (2 * n + 10)
+  searched-less ask n looked a (Saw v) =
+      saw-less ask n (counted v looked) a v (fits ask.need v)
+  searched-less ask n looked a Done = omega arith
+  searched-less ask n looked a (Head x) = omega arith
+  searched-less ask n looked a Rests = omega arith
+  searched-less ask n looked a (Passes x) = omega arith
+  searched-less ask n looked a (Won x) = omega arith
+  searched-less ask n looked a (Lost x) = omega arith
+  searched-less ask n looked a (Home x) = omega arith
+  searched-less ask n looked a (Got x) = omega arith
+
+  pub fetched-less : (ask : Ask) (n looked : ℕ) (a : Actor) (r : Answer)
+      → actor_rows e (fetched e me ask n looked a r) < rest_rows a + 12 + (2 * n + 9)
+  fetched-less ask n looked a (Won x) =
+      omega (
+        arith,
+        placed-less ask (record a { instance = employing a.instance x })
+            (chosen_spot (employing a.instance x) ask.need),
+      )
+  fetched-less ask n looked a (Lost u) = omega (arith, search-next ask n looked a)
+  fetched-less ask n looked a Done = omega arith
+  fetched-less ask n looked a (Head x) = omega arith
+  fetched-less ask n looked a Rests = omega arith
+  fetched-less ask n looked a (Passes x) = omega arith
+  fetched-less ask n looked a (Saw x) = omega arith
+  fetched-less ask n looked a (Home x) = omega arith
+  fetched-less ask n looked a (Got x) = omega arith
+
+  pub took-less : (n tries left : ℕ) (a : Actor) (r : Answer)
+      → actor_rows e (took n tries left a r) < rest_rows a + 12 + left
+  took-less n tries left a (Got (Some spot)) =
+      omega (arith, logged-less (entry.Take n) (holding n spot a))
+  took-less n tries zero a (Got None) = omega (arith, logged-less (entry.TakeAbsent n tries) a)
+  took-less n tries (suc zero) a (Got None) =
+      omega (arith, logged-less (entry.TakeAbsent n tries) a)
+  took-less n tries (suc (suc left)) a (Got None) = omega arith
+  took-less n tries left a Done = omega arith
+  took-less n tries left a (Head x) = omega arith
+  took-less n tries left a Rests = omega arith
+  took-less n tries left a (Passes x) = omega arith
+  took-less n tries left a (Saw x) = omega arith
+  took-less n tries left a (Won x) = omega arith
+  took-less n tries left a (Lost x) = omega arith
+  took-less n tries left a (Home x) = omega arith

@@ -1,0 +1,324 @@
+-- Where no place is found, an operation fails.
+use Rattle.std.proofs.Common.{◌≡◌, ◌≢◌, ◌⊎◌, ℕ, zero, suc, ◌-◌, ◌<◌, ◌≤◌, List, [], ◌∷◌, ◌++◌, Bool, true, false, refl, sym, ap, ◌∙◌, subst, inl, inr, arith}
+use Rattle.std.specs.Prelude.{Option, Some, None, Err, ◌==◌, ◌&&◌, count_by, length, nat_lt}
+use Rattle.std.proofs.lemmas.Bool.{cases_eq}
+use Rattle.std.proofs.lemmas.List.{length-append}
+use Rattle.ea_model.specs.declared.entries.Entry.{Entry}
+use Rattle.ea_model.specs.declared.entries.NoCarrier.{NoCarrier}
+use Rattle.ea_model.specs.declared.operations.Op.{Op}
+use Rattle.ea_model.specs.declared.operations.Op.TheVariants as op
+use Rattle.ea_model.specs.declared.units.TheConstants.{SEARCH_LIMIT}
+use Rattle.ea_model.specs.Instance.{chosen_spot, is_alone, plan}
+use Rattle.ea_model.specs.Units.{need_of}
+use Rattle.ea_model.proofs.Rising.{item_at-key}
+use Rattle.ea_machine.specs.declared.owners.OwnerWord.{OwnerWord}
+use Rattle.ea_machine.specs.Actor.{Actor, Ask, Searching, Fetching, Ended}
+use Rattle.ea_machine.specs.Exhausted.{FailsIfExhausted, FindsNoPlace, IsFailOf, seen_since}
+use Rattle.ea_machine.specs.Machine.{after_row, onward, run, run_on, step, wants_at}
+use Rattle.ea_machine.specs.Needs.{AsksFor, IsToMove}
+use Rattle.ea_machine.specs.NamePlaces.{name_of}
+use Rattle.ea_machine.specs.Nodes.{Named, named_at}
+use Rattle.ea_machine.specs.Operations.{itself}
+use Rattle.ea_machine.specs.Owners.{word_of}
+use Rattle.ea_machine.specs.Placements.{chosen_by, counted, failed, fetched, fits, new_carrier, new_carrier_by, saw_by, search_at, search_if, searched, searched_by, seek, seek_by}
+use Rattle.ea_machine.specs.Reallocations.{reallocated, reallocated_by}
+use Rattle.ea_machine.specs.Rows.{Answer, Saw, Won, Lost}
+use Rattle.ea_machine.specs.Searches.{IsNextLook, IsSought, IsUnsought, Missed, Searched, Shown, Sight, sight, sights}
+use Rattle.ea_machine.specs.Setup.{Setup, greatest_number, migration}
+use Rattle.ea_machine.specs.State.{State}
+use Rattle.ea_machine.specs.Statistics.{observed}
+use Rattle.ea_machine.specs.Table.{answer, tried_at}
+use Rattle.ea_machine.specs.Tasks.{logged}
+use Rattle.ea_machine.specs.Turns.{IsBegun, actor_after, advanced, answered, begun, log_after}
+use Rattle.ea_sound.specs.Moments.{at}
+use Rattle.ea_sound.specs.Present.{OfAsk}
+use Rattle.ea_sound.proofs.Chronicle.{failed-is}
+use Rattle.ea_sound.proofs.Chronicled.{begun-now, begun-settings}
+use Rattle.ea_sound.proofs.TurnLists.{run-since, step-mine, step-other}
+use Rattle.ea_sound.proofs.SearchTurns.{Next, WonOrLost, count-mine, count-other, fetch-tries, look-saw, next, sight-most, sights-mine, sights-most, sights-other, tails, won-or_lost}
+
+-- an operation that asks for a place seeks one
+record Seeks (e : Setup) (s : ℕ) (b : Actor) (need : ℕ) : Type 0 where
+  ask : Ask
+  of : OfAsk ask b.todo
+  needs : need ≡ ask.need
+  is : itself e s b b.todo ≡ seek e s ask b
+
+seeks : (e : Setup) (s : ℕ) (b : Actor) (need : ℕ) (ops : List Op) → b.todo ≡ ops
+    → AsksFor b ops need → Seeks e s b need
+seeks e s b need (op.Alloc n bytes ∷ ops) q h = record {
+  ask = record { name = n; need = need_of bytes; old = None };
+  of = subst (OfAsk (record { name = n; need = need_of bytes; old = None })) (sym q)
+      (refl, refl, refl);
+  needs = h;
+  is = ap (itself e s b) q;
+}
+seeks e s b need (op.Realloc o n bytes ∷ ops) q h =
+    by (named_at o b.held) refl (subst (λ n. IsToMove b.instance n (named_at o b.held)) h.0 h.1)
+  where
+    by : (x : Option Named) → named_at o b.held ≡ x → IsToMove b.instance (need_of bytes) x
+        → Seeks e s b need
+    by None i m = absurd m
+    by (Some x) i m = record {
+      ask = record { name = n; need = need_of bytes; old = Some x };
+      of = subst (OfAsk (record { name = n; need = need_of bytes; old = Some x })) (sym q)
+          (refl, refl, (x, refl, item_at-key name_of o x b.held i));
+      needs = h.0;
+      is = ap (itself e s b) q ∙ ap (reallocated e s o n (need_of bytes) b) i
+          ∙ ap (reallocated_by e s x n (need_of bytes) b) m;
+    }
+seeks e s b need [] q h = absurd h
+seeks e s b need (op.Free n ∷ ops) q h = absurd h
+seeks e s b need (op.Give n to ∷ ops) q h = absurd h
+seeks e s b need (op.Take n tries ∷ ops) q h = absurd h
+seeks e s b need (op.Info ∷ ops) q h = absurd h
+seeks e s b need (op.Idle ∷ ops) q h = absurd h
+
+never : (n looked m : ℕ) → (n ≡ 0) ⊎ (SEARCH_LIMIT ≤ looked) → IsNextLook n looked m → ⊥
+never n looked m (inl z) l = absurd (omega (arith, z, l.1))
+never n looked m (inr z) l = absurd (omega (arith, z, l.2))
+
+-- where a search stands that goes on, or has ended
+module _ (e : Setup) (s : ℕ) (b : Actor) (ask : Ask) (last sum : ℕ) (why : NoCarrier)
+    (refused : plan b.instance ask.need ≡ Err why) (over : (last ≡ 0) ⊎ (sum ≡ SEARCH_LIMIT)) where
+  abbrev IsStill : Actor → Type 0
+  IsStill a = (a.log ≡ b.log) × (a.instance ≡ b.instance)
+
+  abbrev fail : Entry
+  fail = failed ask sum why ask.old
+
+  data Waits (a : Actor) (xs : List Sight) : Type 0 where
+    Looks : (n looked : ℕ) (stage : a.stage ≡ Searching ask n looked) (still : IsStill a)
+        (low : 0 < n) (room : looked < SEARCH_LIMIT)
+        (saw : Searched ask.need n looked last sum xs) → Waits a xs
+    Tries : (n looked : ℕ) (seen : OwnerWord) (stage : a.stage ≡ Fetching ask n looked seen)
+        (still : IsStill a) (p : ℕ) (u : OwnerWord) (ys : List Sight) (is : xs ≡ Missed p u ∷ ys)
+        (saw : Searched ask.need (n - 1) looked last sum ys) → Waits a xs
+    Failed : (log : a.log ≡ b.log ++ fail ∷ []) (none : xs ≡ []) → Waits a xs
+
+  -- a search goes on, or fails
+  abbrev Found : ℕ → ℕ → Actor → Actor → Type 0
+  Found n looked c r = ((0 < n) × (looked < SEARCH_LIMIT) × (r ≡ at (Searching ask n looked) c))
+      ⊎ (((n ≡ 0) ⊎ (SEARCH_LIMIT ≤ looked)) × (r ≡ logged (failed ask looked why ask.old) c))
+
+  found : (n looked : ℕ) (c : Actor) → IsStill c → Found n looked c (search_at e s ask n looked c)
+  found n looked c still = by (nat_lt 0 n && nat_lt looked SEARCH_LIMIT) refl
+    where
+      ends : (n looked limit : ℕ) → (nat_lt 0 n && nat_lt looked limit) ≡ false
+          → (n ≡ 0) ⊎ (limit ≤ looked)
+      ends zero looked limit t = inl refl
+      ends (suc n) looked limit t = inr (grind (arith, t))
+
+      by : (t : Bool) → (nat_lt 0 n && nat_lt looked SEARCH_LIMIT) ≡ t
+          → Found n looked c (searched_by e s ask n looked c t)
+      by true t = inl (grind (arith, t), grind (arith, t), refl)
+      by false t = inr (
+        ends n looked SEARCH_LIMIT t,
+        ap (new_carrier_by e s ask looked c)
+            (ap (λ i. plan i ask.need) still.1 ∙ refused),
+      )
+
+  waits : (n looked : ℕ) (c r a : Actor) (xs : List Sight) → IsStill c → Found n looked c r
+      → a ≡ observed r → Searched ask.need n looked last sum xs → Waits a xs
+  waits n looked c r a xs still (inl f) q saw =
+      let is : a ≡ observed (at (Searching ask n looked) c) = q ∙ ap observed f.2 in
+      Looks n looked (ap (λ (a : Actor). a.stage) is)
+      (ap (λ (a : Actor). a.log) is ∙ still.0, ap (λ (a : Actor). a.instance) is ∙ still.1) f.0 f.1
+      saw
+  waits n looked c r a [] still (inr f) q saw =
+      Failed (ap (λ (a : Actor). a.log) (q ∙ ap observed f.1)
+      ∙ ap (λ l. l ++ failed ask looked why ask.old ∷ []) still.0
+      ∙ ap (λ k. b.log ++ failed ask k why ask.old ∷ []) saw.1) refl
+  waits n looked c r a (Missed p u ∷ xs) still f q saw = absurd saw
+  waits n looked c r a (Shown m v ∷ []) still (inr f) q saw = absurd (never n looked m f.0 saw.0)
+  waits n looked c r a (Shown m v ∷ Shown p u ∷ xs) still (inr f) q saw =
+      absurd (never n looked m f.0 saw.0)
+  waits n looked c r a (Shown m v ∷ Missed p u ∷ xs) still (inr f) q saw =
+      absurd (never n looked m f.0 saw.0)
+
+  found-onward : (n looked : ℕ) (c r : Actor) → Found n looked c r
+      → Found n looked c (onward e s r)
+  found-onward n looked c r (inl f) = inl (f.0, f.1, ap (onward e s) f.2)
+  found-onward n looked c r (inr f) = inr (f.0, ap (onward e s) f.1)
+
+  module _ (w : State) (rest : List Sight)
+      (one : length (sight (w.actors s).stage (answered w s)) ≡ 1) where
+    abbrev a : Actor
+    a = w.actors s
+
+    abbrev now : Actor
+    now = (step e w s).actors s
+
+    -- a search goes on from here
+    goes-on : (n looked : ℕ) → a.stage ≢ Ended → IsStill a
+        → advanced e w s ≡ search_at e s ask n looked a
+        → Searched ask.need n looked last sum rest → Waits now rest
+    goes-on n looked ne still q saw =
+        waits n looked a (onward e s (search_at e s ask n looked a)) now rest still
+        (found-onward n looked a (search_at e s ask n looked a) (found n looked a still))
+        (step-mine e w s ne ∙ ap (λ c. observed (onward e s c)) q) saw
+
+    more : Waits a (sight a.stage (answered w s) ++ rest) → Waits now rest
+    more (Looks n looked stage still low room saw) = by (next ask.need n looked last sum n v rest
+        (subst (λ xs. Searched ask.need n looked last sum (xs ++ rest)) sees saw))
+      where
+        v : OwnerWord
+        v = word_of (w.shared.places n)
+
+        ans : answered w s ≡ Saw v
+        ans = ap (λ st. answer s (wants_at a.next st) w.shared) stage ∙ look-saw s n w.shared
+
+        sees : sight a.stage (answered w s) ≡ Shown n v ∷ []
+        sees = ap (λ st. sight st (answered w s)) stage ∙ ap (sight (Searching ask n looked)) ans
+
+        going : a.stage ≢ Ended
+        going q = let t : Searching ask n looked ≡ Ended = sym stage ∙ q in absurd (cc)
+
+        is : advanced e w s ≡ saw_by e s ask n (counted v looked) a v (fits ask.need v)
+        is = ap (after_row e s a (answered w s)) stage ∙ ap (searched e s ask n looked a) ans
+
+        by : Next ask.need n looked last sum v rest → Waits now rest
+        by (inl f) = goes-on (n - 1) (counted v looked) going still
+            (is ∙ ap (saw_by e s ask n (counted v looked) a v) f.0) f.1
+        by (inr f) =
+            let q : now ≡ observed (at (Fetching ask n (counted v looked) v) a) =
+            step-mine e w s going ∙ ap (λ c. observed (onward e s c))
+            (is ∙ ap (saw_by e s ask n (counted v looked) a v) f.0) in
+            Tries n (counted v looked) v (ap (λ (a : Actor). a.stage) q)
+            (ap (λ (a : Actor). a.log) q ∙ still.0, ap (λ (a : Actor). a.instance) q ∙ still.1)
+            f.1.number f.1.present f.1.later f.1.is f.1.saw
+    more (Tries n looked seen stage still p u ys is saw) =
+        by (subst WonOrLost (sym ans) (won-or_lost seen (w.shared.places n)))
+      where
+        ans : answered w s ≡ tried_at seen (w.shared.places n)
+        ans = ap (λ st. answer s (wants_at a.next st) w.shared) stage
+            ∙ fetch-tries s n seen w.shared
+
+        going : a.stage ≢ Ended
+        going q = let t : Fetching ask n looked seen ≡ Ended = sym stage ∙ q in absurd (cc)
+
+        sees : (r : Answer) → answered w s ≡ r
+            → sight a.stage (answered w s) ≡ sight (Fetching ask n looked seen) r
+        sees r q = ap (λ st. sight st (answered w s)) stage
+            ∙ ap (sight (Fetching ask n looked seen)) q
+
+        by : WonOrLost (answered w s) → Waits now rest
+        by (inl x) = absurd (omega (arith, one, ap length (sees (Won x.0) x.1)))
+        by (inr x) = goes-on (n - 1) looked going still
+            (ap (after_row e s a (answered w s)) stage ∙ ap (fetched e s ask n looked a) x.1)
+            (subst (Searched ask.need (n - 1) looked last sum)
+            (sym (tails (Missed n x.0) (Missed p u) rest ys
+            (sym (ap (λ xs. xs ++ rest) (sees (Lost x.0) x.1)) ∙ is))) saw)
+    more (Failed log none) = absurd (omega (
+      arith,
+      one,
+      ap length none,
+      length-append (sight a.stage (answered w s)) rest,
+    ))
+
+  -- along all its turns
+  goes : (js : List ℕ) (w : State) → Waits (w.actors s) (sights e w s js)
+      → count_by (λ i. i == s) js ≡ length (sights e w s js)
+      → ((run_on e w js).actors s).log ≡ b.log ++ fail ∷ []
+  goes [] w (Looks n looked stage still low room saw) c = absurd (past over)
+    where
+      past : (last ≡ 0) ⊎ (sum ≡ SEARCH_LIMIT) → ⊥
+      past (inl z) = absurd (omega (arith, z, low, saw.0))
+      past (inr z) = absurd (omega (arith, z, room, saw.1))
+  goes [] w (Tries n looked seen stage still p u ys is saw) c = absurd (cc)
+  goes [] w (Failed log none) c = log
+  goes (j ∷ js) w h c =
+      elim (cases_eq j s) [
+        | inl q ↦
+            let len = length-append (sight (w.actors s).stage (answered w s))
+            (sights e (step e w j) s js) in
+            let most = sights-most e s (step e w j) js in
+            let once = sight-most (w.actors s).stage (answered w s) in
+            let sees = ap length (sights-mine e s w j js q) in
+            let count = count-mine e s j js q in
+            goes js (step e w j)
+            (subst (λ i. Waits ((step e w i).actors s) (sights e (step e w j) s js)) (sym q)
+            (more w (sights e (step e w j) s js) (omega (arith, c, len, most, once, sees, count))
+            (subst (Waits (w.actors s)) (sights-mine e s w j js q) h)))
+            (omega (arith, c, len, most, once, sees, count))
+        | inr ne ↦ goes js (step e w j)
+            (subst (λ a. Waits a (sights e (step e w j) s js))
+            (sym (step-other e w j s (λ q. ne (sym q))))
+            (subst (Waits (w.actors s)) (sights-other e s w j js ne) h))
+            (omega (arith, c, ap length (sights-other e s w j js ne), count-other e s j js ne))
+      ]
+
+module _ (e : Setup) (before : List ℕ) (s : ℕ) where
+  abbrev mid : Actor
+  mid = begun e before s
+
+  module _ (begins : IsBegun e (run e before) s) (ask : Ask)
+      (none : ask.need ≤ e.settings.sbct → chosen_spot mid.instance ask.need ≡ None) where
+    threshold : mid.instance.settings.sbct ≡ e.settings.sbct
+    threshold = ap (λ s. s.sbct) (begun-settings e before s begins)
+
+    -- a block that isn't searched for, and one that is
+    unsought : (migration e ≡ false) ⊎ (e.settings.sbct < ask.need)
+        → seek e s ask mid ≡ new_carrier e s ask 0 mid
+    unsought un = by (is_alone mid.instance ask.need) refl un
+      where
+        by : (b : Bool) → is_alone mid.instance ask.need ≡ b
+            → (migration e ≡ false) ⊎ (e.settings.sbct < ask.need)
+            → seek_by e s ask mid b ≡ new_carrier e s ask 0 mid
+        by true t un = refl
+        by false t (inl off) = ap (chosen_by e s ask mid)
+            (none (let q = threshold in grind (arith, t, q))) ∙ ap (search_if e s ask mid) off
+        by false t (inr big) = absurd (let q = threshold in
+            let l : ask.need ≤ e.settings.sbct = grind (arith, t, q) in omega (arith, big, l))
+
+    sought : migration e ≡ true → ask.need ≤ e.settings.sbct
+        → seek e s ask mid ≡ search_at e s ask (greatest_number e) 0 mid
+    sought on small =
+        let q = threshold in
+        let alone : is_alone mid.instance ask.need ≡ false = grind (arith, small, q) in
+        ap (seek_by e s ask mid) alone ∙ ap (chosen_by e s ask mid) (none small)
+        ∙ ap (search_if e s ask mid) on
+
+  fails : (ask : Ask) (since : List ℕ) (looked : ℕ) (why : NoCarrier)
+      → itself e s mid mid.todo ≡ seek e s ask mid
+      → FindsNoPlace e before s since ask.need looked why
+      → log_after e (before ++ s ∷ since) s
+      ≡ mid.log ++ failed ask looked why ask.old ∷ []
+  fails ask since looked why is f = by f.sought
+    where
+      now : (r : Actor) → seek e s ask mid ≡ r → actor_after e (before ++ s ∷ []) s ≡ observed r
+      now r q = begun-now e before s f.begins ∙ ap observed (is ∙ q)
+
+      all : run_on e (run e (before ++ s ∷ [])) since ≡ run e (before ++ s ∷ since)
+      all = run-since e (before ++ s ∷ since) before since s refl
+
+      by : IsUnsought e ask.need looked (seen_since e before s since)
+          ⊎ IsSought e ask.need looked (seen_since e before s since)
+          → log_after e (before ++ s ∷ since) s ≡ mid.log ++ failed ask looked why ask.old ∷ []
+      by (inl u) =
+          let q = now (logged (failed ask 0 why ask.old) mid)
+          (unsought f.begins ask f.none u.0 ∙ ap (new_carrier_by e s ask 0 mid) f.refused) in
+          sym (ap (λ (w : State). (w.actors s).log) all)
+          ∙ goes e s mid ask 0 looked why f.refused (inl refl) since (run e (before ++ s ∷ []))
+          (Failed (ap (λ (a : Actor). a.log) q
+          ∙ ap (λ k. mid.log ++ failed ask k why ask.old ∷ []) (sym u.2)) u.1) f.steps
+      by (inr h) =
+          sym (ap (λ (w : State). (w.actors s).log) all)
+          ∙ goes e s mid ask h.2.0 looked why f.refused h.2.2 since (run e (before ++ s ∷ []))
+          (waits e s mid ask h.2.0 looked why f.refused h.2.2 (greatest_number e) 0 mid
+          (search_at e s ask (greatest_number e) 0 mid) (actor_after e (before ++ s ∷ []) s)
+          (seen_since e before s since) (refl, refl)
+          (found e s mid ask h.2.0 looked why f.refused h.2.2 (greatest_number e) 0 mid
+          (refl, refl))
+          (now _ (sought f.begins ask f.none h.0 h.1)) h.2.1) f.steps
+
+pub fails-if_exhausted : (e : Setup) → FailsIfExhausted e
+fails-if_exhausted e before s since need looked why f =
+    let k = seeks e s (begun e before s) need (begun e before s).todo refl f.asks in (
+      failed k.ask looked why k.ask.old,
+      subst (λ n. IsFailOf (begun e before s).todo n looked why
+          (failed k.ask looked why k.ask.old)) (sym k.needs)
+          (failed-is k.ask looked why (begun e before s).todo k.of),
+      fails e before s k.ask since looked why k.is
+          (subst (λ n. FindsNoPlace e before s since n looked why) k.needs f),
+    )

@@ -1,0 +1,291 @@
+-- What the release of a block, and the way of its carrier, leave to a scheduler.
+use Rattle.std.proofs.Common.{◌≡◌, ◌≢◌, ◌⊎◌, ℕ, ◌+◌, ◌≤◌, List, [], ◌∷◌, Bool, true, false, ◌&&◌, refl, sym, ap, ◌∙◌, subst, inl, inr, arith}
+use Rattle.std.specs.Prelude.{Option, None, Some, ◌==◌}
+use Rattle.std.proofs.lemmas.Bool.{cases_Bool, eqb-false, eqb-true, true≢false}
+use Rattle.ea_model.specs.declared.carriers.BlockAt.{BlockAt}
+use Rattle.ea_model.specs.declared.carriers.Kind.{Kind}
+use Rattle.ea_model.specs.declared.carriers.Kind.TheVariants.{Main, Multi, Single}
+use Rattle.ea_model.specs.declared.carriers.Spot.{Spot}
+use Rattle.ea_model.specs.declared.operations.Op.{Op}
+use Rattle.ea_model.specs.Content.{Content, can_go, is_nil, is_vacant, released}
+use Rattle.ea_model.specs.Instance.{Instance, content_of, employed, releasing_at}
+use Rattle.ea_model.proofs.Options.{same-some}
+use Rattle.ea_model.proofs.Rising.{item_at-key}
+use Rattle.ea_laws.specs.Kept.{number_of}
+use Rattle.ea_laws.proofs.Changed.{released-keeps}
+use Rattle.ea_laws.proofs.Employed.{employed-changed}
+use Rattle.ea_laws.proofs.Standing.{releasing-Stands}
+use Rattle.ea_machine.specs.Abandonment.{is_due}
+use Rattle.ea_machine.specs.Actor.{Actor, Gone, Open, Here, Why}
+use Rattle.ea_machine.specs.Employment.{dismissing}
+use Rattle.ea_machine.specs.Names.{unplaced_by}
+use Rattle.ea_machine.specs.Nodes.{Named}
+use Rattle.ea_machine.specs.Owners.{owner_of}
+use Rattle.ea_machine.specs.Releases.{Turned, abandoned_if, after_release, after_release_by, dismissed, disowned, first_gone, leaving, leaving_by, lightened, owned_by, release_here, route_of, routed, sent_to}
+use Rattle.ea_machine.specs.Setup.{Setup, is_scheduler, migration}
+use Rattle.ea_machine.specs.Shared.{Shared}
+use Rattle.ea_sound.specs.Present.{OfWhy}
+use Rattle.ea_sound.specs.Rule.{Standing}
+use Rattle.ea_sound.proofs.Assembly.{nil-is}
+use Rattle.ea_sound.proofs.EmployedWeights.{employed_sum-dismissing}
+use Rattle.ea_sound.proofs.FewBlocks.{Counting, all_named, blocks_named, releasing-fewer}
+use Rattle.ea_sound.proofs.KeyedWeights.{changed-missing}
+use Rattle.ea_sound.proofs.Orderly.{changing-found, disowning-IsOrderly, dismissing-IsOrderly, releasing-IsOrderly}
+use Rattle.ea_sound.proofs.Staying.{AllStay, AllStayBut, dismissing-stay, here-stay, releasing-stay}
+use Rattle.ea_sound.proofs.Suits.{Bare, CoreOf, TurnedGood}
+use Rattle.ea_sound.proofs.Unmoved.{due-unmoved, employed-owner, leaving-Stands}
+
+not_nil-is : (bs : List BlockAt) → is_nil bs ≡ false → bs ≢ []
+not_nil-is [] e = absurd cc
+not_nil-is (b ∷ bs) e = λ q. cc
+
+-- what is known of the carrier of a block before the release: a scheduler owns a singleblock
+-- carrier, and what it employs where carriers don't migrate; and the one block of a singleblock
+-- carrier goes
+abbrev pub IsOwn : Setup → ℕ → Spot → Instance → Type 0
+IsOwn e me p i = (z : Content) → content_of (employed i) p.carrier ≡ Some z
+    → (z.kind ≡ Single) ⊎ (migration e ≡ false) → owner_of z.number ≡ me
+
+abbrev pub IsEmptied : Setup → Spot → Instance → Type 0
+IsEmptied e p i = (z : Content) → content_of (employed i) p.carrier ≡ Some z → z.kind ≡ Single
+    → migration e ≡ true → (released z p.offset).blocks ≡ []
+
+-- the carrier that is found after a release was there before
+found-released : (i : Instance) (spot : Spot) (x : Content)
+    → content_of (employed (releasing_at i spot)) spot.carrier ≡ Some x
+    → (z : Content) × (content_of (employed i) spot.carrier ≡ Some z)
+    × (x ≡ released z spot.offset)
+found-released i spot x is = by (content_of (employed i) spot.carrier) refl where
+  f : Content → Content
+  f z = released z spot.offset
+
+  no : None ≡ Some x → ⊥
+  no q = cc
+
+  by : (o : Option Content) → content_of (employed i) spot.carrier ≡ o
+      → (z : Content) × (content_of (employed i) spot.carrier ≡ Some z)
+      × (x ≡ released z spot.offset)
+  by None none = absurd (no (sym none
+      ∙ ap (λ cs. content_of cs spot.carrier)
+      (sym (employed-changed f (released-keeps spot.offset) spot.carrier i
+      ∙ changed-missing number_of f spot.carrier (employed i) none)) ∙ is))
+  by (Some z) there = (
+    z,
+    there,
+    same-some (content_of (employed (releasing_at i spot)) spot.carrier) x (f z) is
+        (changing-found f (released-keeps spot.offset) spot.carrier i z there),
+  )
+
+module _ (e : Setup) (s : Shared) (me : ℕ) (home bound : Counting → ℕ) (y : Why) where
+  abbrev left : Actor → List Op
+  left a = unplaced_by y a.todo
+
+  -- with the content in the hand
+  abbrev HasHand : Content → Actor → Type 0
+  HasHand x a = CoreOf e s me home bound (left a) (λ n. blocks_named n x) a
+
+  abbrev IsBare : Actor → Type 0
+  IsBare a = Bare e s me home bound (left a) a
+
+  abbrev IsGood : Turned → Type 0
+  IsGood t = TurnedGood e s me home bound y t
+
+  -- an emptied carrier leaves: where carriers migrate its content is in the hand, and where they
+  -- don't its owner no longer has it
+  pub leaving-good : (own on : Bool) (x : Content) (g : Gone) (a : Actor)
+      → (owner_of x.number == me) ≡ own → migration e ≡ on → can_go x.kind ≡ true
+      → (own ≡ false → (x.kind ≡ Multi) × (on ≡ true)) → (on ≡ true → x.blocks ≡ [])
+      → (on ≡ true → HasHand x a) → (on ≡ false → IsBare (disowned x.number a)) → OfWhy y a.todo
+      → IsGood (leaving_by e me own on x g a)
+  leaving-good false on x g a o m go multi empty hand bare why =
+      let t = multi refl in (
+        hand t.1,
+        ((t.0, empty t.1, eqb-false (owner_of x.number) me o, m ∙ t.1), why),
+      )
+  leaving-good true true x g a o m go multi empty hand bare why =
+      (hand refl, ((go, empty refl, eqb-true (owner_of x.number) me o, m), why))
+  leaving-good true false x g a o m go multi empty hand bare why = (bare refl, why)
+
+  -- a block is released in a carrier that is employed
+  module _ (h : Named) (a : Actor) (b : IsBare a) (why : OfWhy y a.todo) where
+    abbrev c : ℕ
+    c = h.spot.carrier
+
+    abbrev i : Instance
+    i = a.instance
+
+    abbrev j : Instance
+    j = releasing_at a.instance h.spot
+
+    abbrev after : Actor
+    after = record a { instance = releasing_at a.instance h.spot }
+
+    in_order : Standing e me j
+    in_order = record {
+      settings = b.own.settings;
+      number = b.own.number;
+      first = b.own.first;
+      end = b.own.end;
+      order = releasing-IsOrderly i h.spot b.own.order;
+    }
+
+    but : AllStayBut me c j
+    but = releasing-stay me i h.spot b.core.stay
+
+    -- where it isn't vacant then, it stays
+    kept : ((x : Content) → content_of (employed j) c ≡ Some x → is_vacant x ≡ false) → IsBare after
+    kept full = record {
+      core = record {
+        stay = here-stay me c j in_order.order but full;
+        history = b.core.history;
+        walking = b.core.walking;
+        few = λ n. omega (arith, b.core.few n, releasing-fewer n i h.spot);
+        rising = b.core.rising;
+        names = b.core.names;
+        stands = λ off. releasing-Stands i h.spot (b.core.stands off);
+      };
+      own = in_order;
+    }
+
+    module _ (x : Content) (there : content_of (employed j) c ≡ Some x) where
+      number : x.number ≡ c
+      number = item_at-key number_of c x (employed j) there
+
+      by_number : content_of (employed j) x.number ≡ Some x
+      by_number = ap (content_of (employed j)) number ∙ there
+
+      stay-dismissed : AllStay me (dismissing j x.number)
+      stay-dismissed = dismissing-stay me x.number j in_order.order
+          (subst (λ n. AllStayBut me n j) (sym number) but)
+
+      fewer : (n : Counting)
+          → all_named n (dismissing j x.number) + blocks_named n x ≤ all_named n i
+      fewer n = omega (
+        arith,
+        employed_sum-dismissing (blocks_named n) j x.number x in_order.order by_number,
+        releasing-fewer n i h.spot,
+      )
+
+      in_hand : migration e ≡ true → HasHand x (dismissed x.number after)
+      in_hand on = record {
+        stay = stay-dismissed;
+        history = b.core.history;
+        walking = b.core.walking;
+        few = λ n. omega (arith, b.core.few n, fewer n);
+        rising = b.core.rising;
+        names = b.core.names;
+        stands = λ off. absurd (true≢false (sym on ∙ off));
+      }
+
+      cleared : migration e ≡ false → IsBare (disowned x.number (dismissed x.number after))
+      cleared off = record {
+        core = record {
+          stay = stay-dismissed;
+          history = b.core.history;
+          walking = b.core.walking;
+          few = λ n. omega (arith, b.core.few n, fewer n);
+          rising = b.core.rising;
+          names = b.core.names;
+          stands = λ off. leaving-Stands j (releasing-Stands i h.spot (b.core.stands off))
+              x.number x by_number;
+        };
+        own = record {
+          settings = b.own.settings;
+          number = b.own.number;
+          first = b.own.first;
+          end = b.own.end;
+          order = disowning-IsOrderly (dismissing j x.number) x.number
+              (dismissing-IsOrderly j x.number in_order.order);
+        };
+      }
+
+      only_x : (z : Content) → content_of (employed j) c ≡ Some z → x ≡ z
+      only_x z is = same-some (content_of (employed j) c) x z there is
+
+      stays : is_vacant x ≡ false → IsBare after
+      stays full = kept (λ z is. subst (λ v. is_vacant v ≡ false) (only_x z is) full)
+
+      abandoned-good : (due : Bool) (g : Gone) → is_due e.settings j.contents x ≡ due
+          → x.kind ≡ Multi → is_nil x.blocks ≡ false → IsGood (abandoned_if due x g after)
+      abandoned-good true g due multi full =
+          let on : migration e ≡ true = elim (cases_Bool (migration e)) [
+            | inl on ↦ on
+            | inr off ↦ absurd (true≢false (sym due ∙ due-unmoved e j.contents x off))
+          ] in
+          (in_hand on, ((multi, not_nil-is x.blocks full, on), why))
+      abandoned-good false g due multi full =
+          (stays (ap (λ k. can_go k && is_nil x.blocks) multi ∙ full), why)
+
+      module _ (own : (x.kind ≡ Single) ⊎ (migration e ≡ false) → owner_of x.number ≡ me) where
+        leaves : (g : Gone) → can_go x.kind ≡ true
+            → ((owner_of x.number == me) ≡ false → (x.kind ≡ Multi) × (migration e ≡ true))
+            → (migration e ≡ true → x.blocks ≡ [])
+            → IsGood (leaving e me x g (dismissed x.number after))
+        leaves g go multi empty = leaving-good (owner_of x.number == me) (migration e) x g
+            (dismissed x.number after) refl refl go multi empty in_hand cleared why
+
+        lightened-good : (empty : Bool) (g : Gone) → is_nil x.blocks ≡ empty → x.kind ≡ Multi
+            → IsGood (lightened e me empty x g after)
+        lightened-good true g nil multi = leaves g (ap can_go multi)
+            (λ other. elim (cases_Bool (migration e)) [
+              | inl on ↦ (multi, on)
+              | inr off ↦ absurd (eqb-false (owner_of x.number) me other (own (inr off)))
+            ]) (λ on. nil-is x.blocks nil)
+        lightened-good false g nil multi = abandoned-good _ g refl multi nil
+
+        released-good : (k : Kind) (g : Gone) → x.kind ≡ k
+            → (x.kind ≡ Single → migration e ≡ true → x.blocks ≡ [])
+            → IsGood (after_release_by e me k x g after)
+        released-good Main g kind empty = (stays (ap (λ k. can_go k && is_nil x.blocks) kind), why)
+        released-good Multi g kind empty = lightened-good (is_nil x.blocks) g refl kind
+        released-good Single g kind empty = leaves g (ap can_go kind)
+            (λ other. absurd (eqb-false (owner_of x.number) me other (own (inl kind))))
+            (empty kind)
+
+    at-good : (g : Gone) (o : Option Content) → content_of (employed j) c ≡ o
+        → IsOwn e me h.spot i → IsEmptied e h.spot i
+        → IsGood (after_release e me g after o)
+    at-good g None is own empty = (kept (λ x there. absurd (no x (sym is ∙ there))), why) where
+      no : (x : Content) → None ≡ Some x → ⊥
+      no x q = cc
+    at-good g (Some x) is own empty =
+        let t = found-released i h.spot x is in
+        released-good x is (λ k. by t.0 x t.2 (own t.0 t.1) k) x.kind (first_gone g Here) refl
+        (λ k on. ap (λ (v : Content). v.blocks) t.2
+        ∙ empty t.0 t.1 (sym (ap (λ (v : Content). v.kind) t.2) ∙ k) on) where
+          by : (z x : Content) → x ≡ released z h.spot.offset
+              → ((z.kind ≡ Single) ⊎ (migration e ≡ false) → owner_of z.number ≡ me)
+              → (x.kind ≡ Single) ⊎ (migration e ≡ false) → owner_of x.number ≡ me
+          by z x q own (inl k) = ap (λ (v : Content). owner_of v.number) q
+              ∙ own (inl (sym (ap (λ (v : Content). v.kind) q) ∙ k))
+          by z x q own (inr off) = ap (λ (v : Content). owner_of v.number) q ∙ own (inr off)
+
+    pub here-good : (g : Gone) → IsOwn e me h.spot i → IsEmptied e h.spot i
+        → IsGood (release_here e me h g a)
+    here-good g own empty = at-good g (content_of (employed j) c) refl own empty
+
+  pub sent-good : (h : Named) (to : ℕ) (g : Gone) (a : Actor) → to ≢ me
+      → (is_scheduler e to ≡ true) ⊎ ((migration e ≡ false) × (to ≡ owner_of h.spot.carrier))
+      → IsBare a → OfWhy y a.todo → IsGood (sent_to h to g a)
+  sent-good h to g a other seat b why = (b.core, ((other, seat), why))
+
+  owned-good : (own : Bool) (h : Named) (a : Actor) → migration e ≡ false
+      → (owner_of h.spot.carrier == me) ≡ own → IsBare a → OfWhy y a.todo
+      → IsGood (owned_by e me own h a)
+  owned-good true h a off o b why = here-good h a b why Open
+      (λ z there single. employed-owner a.instance (b.core.stands off) h.spot.carrier z there
+      ∙ b.own.number)
+      (λ z there single on. absurd (true≢false (sym on ∙ off)))
+  owned-good false h a off o b why =
+      sent-good h (owner_of h.spot.carrier) Open a (eqb-false (owner_of h.spot.carrier) me o)
+      (inr (off, refl)) b why
+
+  routed-good : (on : Bool) (h : Named) (a : Actor) → migration e ≡ on → IsBare a → OfWhy y a.todo
+      → IsGood (routed e me on h a)
+  routed-good true h a m b why = (b.core, (m, why))
+  routed-good false h a m b why = owned-good (owner_of h.spot.carrier == me) h a m refl b why
+
+  -- a block that has just come into the hand goes its route
+  pub route-good : (h : Named) (a : Actor) → IsBare a → OfWhy y a.todo
+      → IsGood (route_of e me h a)
+  route-good h a b why = routed-good (migration e) h a refl b why

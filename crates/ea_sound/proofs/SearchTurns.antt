@@ -1,0 +1,150 @@
+-- What turns see of a search, step by step.
+use Rattle.std.proofs.Common.{◌≡◌, ◌≢◌, ◌⊎◌, ℕ, suc, ◌+◌, ◌-◌, ◌≤◌, List, [], ◌∷◌, ◌++◌, Bool, true, false, refl, sym, ap, ◌∙◌, inl, inr, arith}
+use Rattle.std.specs.Prelude.{◌==◌, count_by, length}
+use Rattle.std.proofs.lemmas.Bool.{cases_eq}
+use Rattle.std.proofs.lemmas.List.{length-append}
+use Rattle.ea_model.specs.Content.{Content}
+use Rattle.ea_machine.specs.declared.owners.OwnerWord.{OwnerWord}
+use Rattle.ea_machine.specs.Actor.{Begin, Routed, Collecting, Searching, Fetching, Creating, Giving, Taking, Ended, Ready, Stage}
+use Rattle.ea_machine.specs.Machine.{step}
+use Rattle.ea_machine.specs.Owners.{CarrierAt, Absent, Employed, Pooled, Busy, Returning, same_word, word_of}
+use Rattle.ea_machine.specs.Placements.{counted, fits}
+use Rattle.ea_machine.specs.Rows.{Answer, Done, Head, Rests, Passes, Saw, Won, Lost, Home, Got, FetchTry, Look}
+use Rattle.ea_machine.specs.Searches.{Missed, Searched, Shown, Sight, sight, sight_if, sights}
+use Rattle.ea_machine.specs.Setup.{Setup}
+use Rattle.ea_machine.specs.Shared.{Shared}
+use Rattle.ea_machine.specs.State.{State}
+use Rattle.ea_machine.specs.Sums.{one_if}
+use Rattle.ea_machine.specs.Table.{answer, tried_at, won_if}
+use Rattle.ea_machine.specs.Turns.{answered}
+use Rattle.ea_sound.proofs.Weights.{sum_by-sum_over}
+
+-- a step sees one thing at most
+pub sight-most : (st : Stage) (r : Answer) → length (sight st r) ≤ 1
+sight-most (Searching ask n looked) Done = omega arith
+sight-most (Searching ask n looked) (Head x) = omega arith
+sight-most (Searching ask n looked) Rests = omega arith
+sight-most (Searching ask n looked) (Passes x) = omega arith
+sight-most (Searching ask n looked) (Saw x) = omega arith
+sight-most (Searching ask n looked) (Won x) = omega arith
+sight-most (Searching ask n looked) (Lost x) = omega arith
+sight-most (Searching ask n looked) (Home x) = omega arith
+sight-most (Searching ask n looked) (Got x) = omega arith
+sight-most (Fetching ask n looked seen) Done = omega arith
+sight-most (Fetching ask n looked seen) (Head x) = omega arith
+sight-most (Fetching ask n looked seen) Rests = omega arith
+sight-most (Fetching ask n looked seen) (Passes x) = omega arith
+sight-most (Fetching ask n looked seen) (Saw x) = omega arith
+sight-most (Fetching ask n looked seen) (Won x) = omega arith
+sight-most (Fetching ask n looked seen) (Lost x) = omega arith
+sight-most (Fetching ask n looked seen) (Home x) = omega arith
+sight-most (Fetching ask n looked seen) (Got x) = omega arith
+sight-most Begin z = omega arith
+sight-most (Routed r y g) z = omega arith
+sight-most (Collecting c) z = omega arith
+sight-most (Creating ask p) z = omega arith
+sight-most (Giving h to) z = omega arith
+sight-most (Taking n tries left) z = omega arith
+sight-most Ended z = omega arith
+sight-most Ready z = omega arith
+
+module _ (e : Setup) (s : ℕ) where
+  count-cons : (j : ℕ) (js : List ℕ) → count_by (λ i. i == s) (j ∷ js)
+      ≡ one_if (j == s) + count_by (λ i. i == s) js
+  count-cons j js =
+      let f : ℕ → ℕ = λ i. one_if (i == s) in
+      sum_by-sum_over f (j ∷ js) ∙ ap (λ n. one_if (j == s) + n) (sym (sum_by-sum_over f js))
+
+  self-is : (j : ℕ) → j ≡ s → (j == s) ≡ true
+  self-is j q = grind (arith, q)
+
+  other-is : (j : ℕ) → j ≢ s → (j == s) ≡ false
+  other-is j ne = grind (arith, ne)
+
+  -- what a step of s saw, and then the others
+  pub sights-mine : (w : State) (j : ℕ) (js : List ℕ) → j ≡ s → sights e w s (j ∷ js)
+      ≡ sight (w.actors s).stage (answered w s) ++ sights e (step e w j) s js
+  sights-mine w j js q = ap (λ b. sight_if b (w.actors s).stage (answered w s)
+      ++ sights e (step e w j) s js) (self-is j q)
+
+  pub sights-other : (w : State) (j : ℕ) (js : List ℕ) → j ≢ s
+      → sights e w s (j ∷ js) ≡ sights e (step e w j) s js
+  sights-other w j js ne = ap (λ b. sight_if b (w.actors s).stage (answered w s)
+      ++ sights e (step e w j) s js) (other-is j ne)
+
+  pub count-mine : (j : ℕ) (js : List ℕ) → j ≡ s → count_by (λ i. i == s) (j ∷ js)
+      ≡ suc (count_by (λ i. i == s) js)
+  count-mine j js q = count-cons j js ∙ omega (arith, ap (λ b. one_if b) (self-is j q))
+
+  pub count-other : (j : ℕ) (js : List ℕ) → j ≢ s
+      → count_by (λ i. i == s) (j ∷ js) ≡ count_by (λ i. i == s) js
+  count-other j js ne = count-cons j js ∙ omega (arith, ap (λ b. one_if b) (other-is j ne))
+
+  pub sights-most : (w : State) (js : List ℕ) → length (sights e w s js) ≤ count_by (λ i. i == s) js
+  sights-most w [] = omega arith
+  sights-most w (j ∷ js) =
+      elim (cases_eq j s) [
+        | inl q ↦ omega (
+          arith,
+          ap length (sights-mine w j js q),
+          count-mine j js q,
+          sights-most (step e w j) js,
+          sight-most (w.actors s).stage (answered w s),
+          length-append (sight (w.actors s).stage (answered w s)) (sights e (step e w j) s js),
+        )
+        | inr ne ↦ omega (
+          arith,
+          ap length (sights-other w j js ne),
+          count-other j js ne,
+          sights-most (step e w j) js,
+        )
+      ]
+
+-- the answers of a look and of a try to fetch a carrier
+pub look-saw : (me number : ℕ) (s : Shared)
+    → answer me (Look number) s ≡ Saw (word_of (s.places number))
+unfolding answer
+look-saw me number s = refl
+
+pub fetch-tries : (me number : ℕ) (seen : OwnerWord) (s : Shared)
+    → answer me (FetchTry number seen) s ≡ tried_at seen (s.places number)
+unfolding answer
+fetch-tries me number seen s = refl
+
+-- such a try is won or lost
+abbrev pub WonOrLost : Answer → Type 0
+WonOrLost r = ((x : Content) × (r ≡ Won x)) ⊎ ((u : OwnerWord) × (r ≡ Lost u))
+
+pub won-or_lost : (seen : OwnerWord) (p : CarrierAt) → WonOrLost (tried_at seen p)
+won-or_lost seen p = by (same_word (word_of p) seen) p
+  where
+    by : (b : Bool) (p : CarrierAt) → WonOrLost (won_if b p)
+    by true (Pooled i g x) = inl (x, refl)
+    by true Absent = inr (word_of Absent, refl)
+    by true (Employed i) = inr (word_of (Employed i), refl)
+    by true (Busy i) = inr (word_of (Busy i), refl)
+    by true (Returning i x) = inr (word_of (Returning i x), refl)
+    by false p = inr (word_of p, refl)
+
+-- after a look: the word doesn't fit, or the try that follows is lost
+pub record ThenMissed (need n looked last sum : ℕ) (rest : List Sight) : Type 0 where
+  pub number : ℕ
+  pub present : OwnerWord
+  pub later : List Sight
+  pub is : rest ≡ Missed number present ∷ later
+  pub saw : Searched need (n - 1) looked last sum later
+
+abbrev pub Next : ℕ → ℕ → ℕ → ℕ → ℕ → OwnerWord → List Sight → Type 0
+Next need n looked last sum v rest =
+    ((fits need v ≡ false) × Searched need (n - 1) (counted v looked) last sum rest)
+    ⊎ ((fits need v ≡ true) × ThenMissed need n (counted v looked) last sum rest)
+
+pub next : (need n looked last sum m : ℕ) (v : OwnerWord) (rest : List Sight)
+    → Searched need n looked last sum (Shown m v ∷ rest) → Next need n looked last sum v rest
+next need n looked last sum m v [] h = inl (h.1, h.2)
+next need n looked last sum m v (Shown p u ∷ rest) h = inl (h.1, h.2)
+next need n looked last sum m v (Missed p u ∷ rest) h = inr
+    (h.1, record { number = p; present = u; later = rest; is = refl; saw = h.3 })
+
+pub tails : (x y : Sight) (xs ys : List Sight) → x ∷ xs ≡ y ∷ ys → xs ≡ ys
+tails x y xs ys q = cc

@@ -1,0 +1,52 @@
+-- The operations of all texts, scheduler by scheduler.
+use Rattle.std.proofs.Common.{◌≡◌, ℕ, zero, suc, ◌+◌, ◌≤◌, List, [], ◌∷◌, refl, sym, ◌∙◌, arith}
+use Rattle.std.specs.Prelude.{flat_map, count_by, cond}
+use Rattle.ea_model.specs.declared.operations.Op.{Op}
+use Rattle.ea_model.specs.Trace.{makes, text_at}
+use Rattle.ea_machine.specs.Names.{made_in}
+use Rattle.ea_machine.specs.Setup.{text_for}
+use Rattle.ea_machine.specs.Sums.{sum_over, total}
+use Rattle.ea_sound.proofs.Totals.{total-none}
+use Rattle.ea_sound.proofs.Weights.{sum-append, sum_by-sum_over}
+
+-- a total from its first number on
+total-first : {A : Type 0} (f : A → ℕ) (m : ℕ → A) (n : ℕ)
+    → total (suc n) f m ≡ f (m 0) + total n f (λ i. m (suc i))
+total-first f m zero = omega arith
+total-first f m (suc n) = omega (arith, total-first f m n)
+
+module _ (f : List Op → ℕ) (none : f [] ≡ 0) where
+  total-texts : (texts : List (List Op)) (n : ℕ)
+      → total n f (λ i. text_at i texts) ≤ sum_over f texts
+  total-texts [] n = omega (arith, total-none f (λ i. text_at i []) n (λ i l. none))
+  total-texts (text ∷ texts) zero = omega arith
+  total-texts (text ∷ texts) (suc n) = omega (
+    arith,
+    total-first f (λ i. text_at i (text ∷ texts)) n,
+    total-texts texts n,
+  )
+
+  pub total-text_for : (texts : List (List Op)) (n : ℕ)
+      → total (suc n) f (text_for texts) ≤ sum_over f texts
+  total-text_for texts n = omega (
+    arith,
+    total-first f (text_for texts) n,
+    none,
+    total-texts texts n,
+  )
+
+-- the operations that make a name, text by text
+pub made-each : (name : ℕ) (texts : List (List Op))
+    → sum_over (made_in name) texts ≡ count_by (makes name) (flat_map (λ text. text) texts)
+made-each name texts =
+    by texts ∙ sym (sum_by-sum_over (λ o. cond (makes name o) 1 0) (flat_map (λ text. text) texts))
+  where
+    by : (texts : List (List Op))
+        → sum_over (made_in name) texts
+        ≡ sum_over (λ o. cond (makes name o) 1 0) (flat_map (λ text. text) texts)
+    by [] = refl
+    by (text ∷ texts) = omega (
+      arith,
+      by texts,
+      sum-append (λ o. cond (makes name o) 1 0) text (flat_map (λ text. text) texts),
+    )

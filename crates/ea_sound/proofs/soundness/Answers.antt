@@ -1,0 +1,5 @@
+use Rattle.ea_sound.proofs.Protocols.{always-protocol}
+use Rattle.ea_sound.proofs.soundness.Goals as goal
+
+pub returns : goal.returns
+returns c = record { protocol = always-protocol }

@@ -1,0 +1,13 @@
+-- States in the middle of a step.
+use Rattle.std.specs.Prelude.{ℕ}
+use Rattle.ea_machine.specs.Actor.{Actor, Stage}
+use Rattle.ea_machine.specs.Shared.{Shared, put}
+use Rattle.ea_machine.specs.State.{State}
+
+-- the state where what is shared is `s`, and scheduler `me` is `a`
+abbrev pub with_actor : State → Shared → ℕ → Actor → State
+with_actor w s me a = record { shared = s; actors = put w.actors me a }
+
+-- the scheduler at a stage
+abbrev pub at : Stage → Actor → Actor
+at stage a = record a { stage = stage }

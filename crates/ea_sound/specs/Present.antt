@@ -1,0 +1,133 @@
+-- What every scheduler is in the middle of, at every moment of every run.
+use Rattle.std.specs.Prelude.{◌≡◌, ◌≢◌, ◌⊎◌, ℕ, ◌+◌, ◌<◌, ◌≤◌, true, false, List, [], ◌∷◌, Option, None, Some, Ok, All, AllPairs}
+use Rattle.ea_model.specs.declared.carriers.Kind.TheVariants.{Multi}
+use Rattle.ea_model.specs.declared.operations.Op.{Op}
+use Rattle.ea_model.specs.declared.operations.Op.TheVariants as op
+use Rattle.ea_model.specs.declared.units.TheConstants.{SEARCH_LIMIT}
+use Rattle.ea_model.specs.Content.{can_go}
+use Rattle.ea_model.specs.Instance.{chosen_spot, plan}
+use Rattle.ea_model.specs.Keyed.{IsBelow}
+use Rattle.ea_model.specs.Units.{need_of}
+use Rattle.ea_laws.specs.Kept.{Stands}
+use Rattle.ea_machine.specs.declared.nodes.Node.TheVariants.{Block, Carrier}
+use Rattle.ea_machine.specs.declared.owners.OwnerWord.{OwnerWord}
+use Rattle.ea_machine.specs.declared.owners.OwnerWord.TheVariants as word
+use Rattle.ea_machine.specs.Actor.{Actor, Ask, Route, Looking, Trying, Settling, Abandoning, Sending, Clearing, Pushing, Linking, Stage, Begin, Routed, Collecting, Searching, Fetching, Creating, Giving, Taking, Ended, Ready, Task, Freeing, Moving, Why, Walk, For}
+use Rattle.ea_machine.specs.Entries.{LogsEach}
+use Rattle.ea_machine.specs.Names.{allocated, only, to_make}
+use Rattle.ea_machine.specs.NamePlaces.{name_of}
+use Rattle.ea_machine.specs.Nodes.{Named, first_node, named_at}
+use Rattle.ea_machine.specs.Owners.{CarrierAt, Absent, Employed, Pooled, Busy, Returning, owner_of, word_of}
+use Rattle.ea_machine.specs.Places.{MayStay}
+use Rattle.ea_machine.specs.Setup.{Setup, greatest_number, is_scheduler, migration}
+use Rattle.ea_machine.specs.Shared.{Shared}
+use Rattle.ea_machine.specs.Sound.{HasNothing}
+use Rattle.ea_machine.specs.State.{State}
+use Rattle.ea_sound.specs.Rule.{Kept}
+
+-- the operation whose block is on its route
+abbrev pub OfTask : Task → List Op → Type 0
+OfTask (Freeing name) (op.Free n ∷ ops) = name ≡ n
+OfTask (Moving old fresh place) (op.Realloc o n bytes ∷ ops) = (old ≡ o) × (fresh ≡ n)
+OfTask task ops = ⊥
+
+abbrev pub OfWhy : Why → List Op → Type 0
+OfWhy Walk ops = Unit {0}
+OfWhy (For task) ops = OfTask task ops
+
+-- the operation that asks for a place
+abbrev pub OfAsk : Ask → List Op → Type 0
+OfAsk ask (op.Alloc name bytes ∷ ops) =
+    (ask.name ≡ name) × (ask.need ≡ need_of bytes) × (ask.old ≡ None)
+OfAsk ask (op.Realloc old name bytes ∷ ops) = (ask.name ≡ name) × (ask.need ≡ need_of bytes)
+    × ((h : Named) × (ask.old ≡ Some h) × (h.name ≡ old))
+OfAsk ask ops = ⊥
+
+abbrev pub OldHeld : Option Named → List Named → Type 0
+OldHeld None held = Unit {0}
+OldHeld (Some old) held = named_at old.name held ≡ Some old
+
+-- the carrier of a block in the hand of a scheduler has an employer, and isn't busy by the
+-- scheduler
+abbrev pub HasEmployer : ℕ → CarrierAt → Type 0
+HasEmployer me Absent = ⊥
+HasEmployer me (Employed i) = Unit {0}
+HasEmployer me (Pooled i largest x) = Unit {0}
+HasEmployer me (Busy i) = i ≢ me
+HasEmployer me (Returning i x) = ⊥
+
+-- it has another employer
+abbrev pub HasOther : ℕ → CarrierAt → Type 0
+HasOther me Absent = ⊥
+HasOther me (Employed i) = i ≢ me
+HasOther me (Pooled i largest x) = i ≢ me
+HasOther me (Busy i) = i ≢ me
+HasOther me (Returning i x) = ⊥
+
+-- the word that was seen, pooled by the scheduler, still stands
+abbrev pub StillPooled : ℕ → OwnerWord → CarrierAt → Type 0
+StillPooled me seen p = (word_of p ≡ seen)
+    × ((largest : ℕ) × (seen ≡ word.Pooled me largest))
+
+-- where a route may rest
+abbrev pub FitsRoute : Setup → Shared → ℕ → Route → Type 0
+FitsRoute e s me (Looking hand) =
+    HasEmployer me (s.places hand.spot.carrier) × (migration e ≡ true)
+FitsRoute e s me (Trying hand seen) = StillPooled me seen (s.places hand.spot.carrier)
+    ⊎ HasOther me (s.places hand.spot.carrier)
+FitsRoute e s me (Settling x) = (x.kind ≡ Multi) × (migration e ≡ true)
+FitsRoute e s me (Abandoning x) = (x.kind ≡ Multi) × (x.blocks ≢ []) × (migration e ≡ true)
+FitsRoute e s me (Sending x) = (x.kind ≡ Multi) × (x.blocks ≡ []) × (owner_of x.number ≢ me)
+    × (migration e ≡ true)
+FitsRoute e s me (Clearing x) = (can_go x.kind ≡ true) × (x.blocks ≡ [])
+    × (owner_of x.number ≡ me) × (migration e ≡ true)
+FitsRoute e s me (Pushing (Block name spot) to) = (to ≢ me) × (is_scheduler e to ≡ true)
+FitsRoute e s me (Pushing (Carrier number) to) = (to ≡ owner_of number) × (to ≢ me)
+FitsRoute e s me (Linking node to) = Unit {0}
+
+-- what is asked for is the operation's, and the name stands nowhere
+pub record Asked (e : Setup) (w : State) (a : Actor) (ask : Ask) : Type 0 where
+  pub of : OfAsk ask a.todo
+  pub old : OldHeld ask.old a.held
+  pub fresh : allocated e (only ask.name) w ≡ 0
+
+-- where a scheduler may be in its operation
+abbrev pub Fits : Setup → State → ℕ → Actor → Stage → Type 0
+Fits e w me a Begin = Unit {0}
+Fits e w me a (Routed route why gone) = FitsRoute e w.shared me route × OfWhy why a.todo
+Fits e w me a (Collecting number) = owner_of number ≡ me
+Fits e w me a (Searching ask at looked) = Asked e w a ask × (0 < at) × (at ≤ greatest_number e)
+    × (looked < SEARCH_LIMIT) × (chosen_spot a.instance ask.need ≡ None) × (migration e ≡ true)
+Fits e w me a (Fetching ask at looked seen) = Asked e w a ask × (0 < at) × (at ≤ greatest_number e)
+    × (looked ≤ SEARCH_LIMIT) × (chosen_spot a.instance ask.need ≡ None) × (migration e ≡ true)
+    × ((i largest : ℕ) × (seen ≡ word.Pooled i largest) × (ask.need ≤ largest))
+Fits e w me a (Creating ask p) = Asked e w a ask × (plan a.instance ask.need ≡ Ok p)
+    × (migration e ≡ true) × ((p.single ≡ true) ⊎ (chosen_spot a.instance ask.need ≡ None))
+Fits e w me a (Giving given to) = (named_at given.name a.held ≡ Some given)
+    × ((ops : List Op) × (a.todo ≡ op.Give given.name to ∷ ops))
+Fits e w me a (Taking name tries left) =
+    (left ≤ tries) × ((ops : List Op) × (a.todo ≡ op.Take name tries ∷ ops))
+Fits e w me a Ended = a.todo ≡ []
+Fits e w me a Ready = ⊥
+
+-- the next node of a walk is the first of its rest; a scheduler is where its operation allows, what
+-- it employs may stay, and its log is that of the operations done; a name that is still to be made
+-- stands nowhere; held and given names stand by rising name; and where carriers don't migrate, each
+-- instance employs what it owns
+pub record Present (e : Setup) (w : State) : Type 0 where
+  pub walking : (i : ℕ) → (w.actors i).next ≡ first_node (w.shared.rests i)
+  pub fits : (i : ℕ) → Fits e w i (w.actors i) (w.actors i).stage
+  pub contents : (i : ℕ) → All (MayStay i) (w.actors i).instance.contents
+  pub singles : (i : ℕ) → All (MayStay i) (w.actors i).instance.singles
+  pub history : (i : ℕ) → LogsEach e w i
+  pub later : (n : ℕ) → allocated e (only n) w + to_make e n w ≤ 1
+  pub held : (i : ℕ) → AllPairs (IsBelow name_of) (w.actors i).held
+  pub given : AllPairs (IsBelow name_of) w.shared.given
+  pub nobody : (i : ℕ) → is_scheduler e i ≡ false → HasNothing i w
+  pub stands : migration e ≡ false → (i : ℕ) → is_scheduler e i ≡ true
+      → Stands (w.actors i).instance
+
+-- the whole rule
+pub record Rule (e : Setup) (w : State) : Type 0 where
+  pub kept : Kept e w
+  pub present : Present e w

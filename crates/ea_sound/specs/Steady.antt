@@ -1,0 +1,60 @@
+-- What the steps of a scheduler keep of its walk and of its route, whatever the others do.
+use Rattle.std.specs.Prelude.{◌≡◌, ℕ, Bool, true, false, List, [], ◌∷◌, None}
+use Rattle.ea_model.specs.Content.{Content}
+use Rattle.ea_machine.specs.declared.owners.OwnerWord.TheVariants as word
+use Rattle.ea_machine.specs.Abandonment.{is_due}
+use Rattle.ea_machine.specs.Actor.{Actor, Route, Looking, Trying, Settling, Abandoning, Sending, Clearing, Pushing, Linking, Stage, Begin, Routed, Collecting, Searching, Fetching, Creating, Giving, Taking, Ended, Ready, Why, Walk, For}
+use Rattle.ea_machine.specs.Setup.{Setup}
+use Rattle.ea_machine.specs.State.{State}
+
+-- whether a route is that of a node of the walk
+abbrev pub is_walked : Why → Bool
+is_walked Walk = true
+is_walked (For task) = false
+
+-- whether the passed nodes are being worked off
+abbrev pub works_off : Stage → Bool
+works_off Begin = false
+works_off (Routed route why gone) = is_walked why
+works_off (Collecting number) = true
+works_off (Searching ask at looked) = false
+works_off (Fetching ask at looked seen) = false
+works_off (Creating ask p) = false
+works_off (Giving given to) = false
+works_off (Taking name tries left) = false
+works_off Ended = false
+works_off Ready = false
+
+module _ (e : Setup) (me : ℕ) (employs : List Content) where
+  -- the word that was seen of a carrier that is to be busy is that of an own pooled one, and a
+  -- carrier that is to be abandoned is due
+  abbrev pub IsSteadyRoute : Route → Type 0
+  IsSteadyRoute (Looking hand) = Unit {0}
+  IsSteadyRoute (Trying hand seen) = (largest : ℕ) × (seen ≡ word.Pooled me largest)
+  IsSteadyRoute (Settling x) = Unit {0}
+  IsSteadyRoute (Abandoning x) = is_due e.settings (x ∷ employs) x ≡ true
+  IsSteadyRoute (Sending x) = Unit {0}
+  IsSteadyRoute (Clearing x) = Unit {0}
+  IsSteadyRoute (Pushing node to) = Unit {0}
+  IsSteadyRoute (Linking node to) = Unit {0}
+
+  abbrev pub IsSteadyStage : Stage → Type 0
+  IsSteadyStage Begin = Unit {0}
+  IsSteadyStage (Routed route why gone) = IsSteadyRoute route
+  IsSteadyStage (Collecting number) = Unit {0}
+  IsSteadyStage (Searching ask at looked) = Unit {0}
+  IsSteadyStage (Fetching ask at looked seen) = Unit {0}
+  IsSteadyStage (Creating ask p) = Unit {0}
+  IsSteadyStage (Giving given to) = Unit {0}
+  IsSteadyStage (Taking name tries left) = Unit {0}
+  IsSteadyStage Ended = Unit {0}
+  IsSteadyStage Ready = Unit {0}
+
+-- where a walk is at its end and nothing is worked off, nothing is left of what it passed
+pub record IsSteady (e : Setup) (me : ℕ) (a : Actor) : Type 0 where
+  pub walk : works_off a.stage ≡ false → a.next ≡ None → a.passed ≡ []
+  pub route : IsSteadyStage e me a.instance.contents a.stage
+
+-- so is each scheduler
+abbrev pub AreSteady : Setup → State → Type 0
+AreSteady e w = (i : ℕ) → IsSteady e i (w.actors i)

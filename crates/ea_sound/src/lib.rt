@@ -1,0 +1,18 @@
+//! The protocol of atomic steps is sound: what the machine's laws say holds of each run, whatever
+//! steps its schedulers take. There is no code here; the law is a clause of a function that does
+//! nothing, so that the check asks for its proof.
+//!
+//! The proof goes by a rule that each step keeps. `Rule` has what is kept whatever a scheduler is in
+//! the middle of: where contents lie and carriers are, whose names stand where, and which nodes are
+//! on their way; each as a balance of sums. `Present` has what each scheduler is in the middle of,
+//! and `Leaves` what a row leaves to the local work that follows it.
+#![tactic(auto)]
+
+ghost use Rattle.ea_machine.specs.MachineLaws.{Always, Protocol};
+
+/// In each run of a valid trace under a valid configuration, after any list of steps: every moment is
+/// sound, what is printed of it adds up, no scheduler does a row that it may not do, each entry of a
+/// log tells how it came about, no block is released twice, and a completed schedule ends.
+pub fn soundness()
+    ensures protocol { Always Protocol }
+{}
