@@ -11,7 +11,8 @@ ghost use Rattle.ea_model.specs.Settings.{IsValidConfig};
 ghost use Rattle.ea_trace.specs.Language as language;
 ghost use Rattle.ea_top.specs.Output.{output_under};
 ghost use Rattle.ea_top.specs.Answers.{GoodWords, GoodInput, IsBuiltFor, WroteText, WroteFront};
-ghost use Rattle.ea_top.specs.Throughout.{Throughout};
+ghost use Rattle.ea_machine.specs.MachineLaws.{Protocol};
+ghost use Rattle.ea_top.specs.Throughout.{ForEachTrace, Throughout};
 ghost use Rattle.ea_top.specs.Whys.{IsWhy, IsReadFault, IsTextFault};
 ghost use Rattle.ea_top.specs.Faults.{Complains, status_of};
 ghost use Rattle.ea_top.specs.declared.faults.Fault.{Fault};
@@ -58,6 +59,11 @@ pub fn run<R: Threads + Sync, S: Source, O: Sink, E: Sink>(
     // own; an allocation fails only where no carrier can be created and, up to the threshold,
     // nothing that is inspected fits; and each operation has one entry.
     ensures sound { result ≡ 0 → Throughout Sound words.now }
+
+    // And the machine of atomic steps keeps its protocol for any number of schedulers and whether
+    // carriers migrate or not, under such words, for every valid trace and every list of steps. No
+    // run takes these steps yet.
+    ensures protocol { (result ≡ 0) ⊎ (result ≡ 6) → ForEachTrace Protocol words.now }
 
     // 1: exactly for words that are refused, and nothing was read.
     ensures bad_words { (result ≡ 1) ↔ (GoodWords words.now → ⊥) }
@@ -131,6 +137,8 @@ fn attempt<S: Source, O: Sink>(
         (WroteText words.now (S.left source.old) (O.taken out.old) (O.taken out.new)) }
     ensures end { OnOk result (IsAtEnd (S.left source.new)) }
     ensures sound { OnOk result (Throughout Sound words.now) }
+    ensures protocol { OnOk result (ForEachTrace Protocol words.now) }
+    ensures protocol_left { IsErrOf result Fault.NotBuilt → ForEachTrace Protocol words.now }
     ensures why { IfErr result
         (IsWhy words.now (S.left source.old) (S.left source.new)
         (StopsAtFault S.left S.faults source.old source.new)

@@ -8,6 +8,7 @@ use Rattle.ea_laws.specs.Kept.{Stands}
 use Rattle.ea_laws.proofs.Soundness.{run-Sound}
 use Rattle.ea_laws.proofs.Standing.{new-Stands, new-occupied}
 use Rattle.ea_flags.specs.declared.fault.FlagFault.{FlagFault}
+use Rattle.ea_sound.proofs.Protocols.{always-protocol}
 use Rattle.ea_top.proofs.Regions.{region-small}
 use Rattle.ea_top.proofs.top.attempt.Goals as goal
 
@@ -30,3 +31,15 @@ returns-clause-sound g c = λ config e letter built ops r.
     run-Sound (instance_of config letter)
     (valid-Stands config letter (still_valid _ c.in_ok-config.config config (sym read.config) e read.valid))
     (new-occupied (settings_of config letter) 1 0 (region_pages config)) ops r
+
+pub returns-clause-protocol : goal.returns-clause-protocol
+returns-clause-protocol g c = λ config e t valid.
+    let read = c.in_ok-config.ensures in
+    always-protocol config t
+    (still_valid _ c.in_ok-config.config config (sym read.config) e read.valid) valid
+
+pub returns-in_err-text-clause-protocol_left : goal.returns-in_err-text-clause-protocol_left
+returns-in_err-text-clause-protocol_left g c = λ not_built config e t valid.
+    let read = c.in_ok-config.ensures in
+    always-protocol config t
+    (still_valid _ c.in_ok-config.config config (sym read.config) e read.valid) valid
