@@ -2,6 +2,7 @@
 use Rattle.std.specs.Prelude.{◌≡◌, ◌⊎◌, ℕ, ◌-◌, ◌<◌, ◌≤◌, Bool, true, false, ◌==◌, List, [], ◌∷◌, ◌++◌}
 use Rattle.ea_model.specs.declared.units.TheConstants.{SEARCH_LIMIT}
 use Rattle.ea_machine.specs.declared.owners.OwnerWord.{OwnerWord}
+use Rattle.ea_machine.specs.Owners.{same_word}
 use Rattle.ea_machine.specs.Setup.{Setup, greatest_number, migration}
 use Rattle.ea_machine.specs.Actor.{Fetching, Searching, Stage}
 use Rattle.ea_machine.specs.State.{State}
@@ -38,7 +39,8 @@ IsNextLook at looked m = (m ≡ at) × (0 < at) × (looked < SEARCH_LIMIT)
 
 -- a search that stood before the number `at`, with `looked` words counted, saw this, and then stands
 -- before the number `last`, with `sum` words counted. It looks at one number after another, downwards.
--- No word that it saw fits, or the try to fetch the carrier, which follows directly, was lost
+-- No word that it saw fits, or the try to fetch the carrier, which follows directly, was lost: another
+-- word was there
 abbrev pub Searched : ℕ → ℕ → ℕ → ℕ → ℕ → List Sight → Type 0
 Searched need at looked last sum [] = (at ≡ last) × (looked ≡ sum)
 Searched need at looked last sum (Missed m w ∷ xs) = ⊥
@@ -47,7 +49,8 @@ Searched need at looked last sum (Shown m w ∷ []) = IsNextLook at looked m
 Searched need at looked last sum (Shown m w ∷ Shown p v ∷ xs) = IsNextLook at looked m
     × (fits need w ≡ false) × Searched need (at - 1) (counted w looked) last sum (Shown p v ∷ xs)
 Searched need at looked last sum (Shown m w ∷ Missed p v ∷ xs) = IsNextLook at looked m
-    × (fits need w ≡ true) × (p ≡ at) × Searched need (at - 1) (counted w looked) last sum xs
+    × (fits need w ≡ true) × (p ≡ at) × (same_word v w ≡ false)
+    × Searched need (at - 1) (counted w looked) last sum xs
 
 -- a block above the singleblock threshold isn't searched for, nor is any with migration off
 abbrev pub IsUnsought : Setup → ℕ → ℕ → List Sight → Type 0

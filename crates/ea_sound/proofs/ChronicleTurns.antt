@@ -11,7 +11,7 @@ use Rattle.ea_machine.specs.declared.owners.OwnerWord.{OwnerWord}
 use Rattle.ea_machine.specs.Actor.{Actor, Ask, Stage, Begin, Routed, Collecting, Searching, Fetching, Creating, Giving, Taking, Ended, Ready, Walk, For}
 use Rattle.ea_machine.specs.Chosen.{ByItself, Fetched}
 use Rattle.ea_machine.specs.Employment.{employing}
-use Rattle.ea_machine.specs.Machine.{after_row, onward, onward_at, run}
+use Rattle.ea_machine.specs.Machine.{after_row, onward, onward_at, run, wants_at}
 use Rattle.ea_machine.specs.Operations.{took}
 use Rattle.ea_machine.specs.Placements.{counted, fetched, fits, holding, saw_by, search_at, searched}
 use Rattle.ea_machine.specs.Releases.{turned}
@@ -19,10 +19,12 @@ use Rattle.ea_machine.specs.Rows.{Answer, Done, Head, Rests, Passes, Saw, Won, L
 use Rattle.ea_machine.specs.Searches.{Missed, Searched, Shown, Sight, sight, sight_if}
 use Rattle.ea_machine.specs.Setup.{Setup, greatest_number}
 use Rattle.ea_machine.specs.Statistics.{observed}
+use Rattle.ea_machine.specs.Table.{answer}
 use Rattle.ea_machine.specs.Tasks.{halted, logged, let_go}
 use Rattle.ea_machine.specs.Turns.{actor_after, answered, begun}
 use Rattle.ea_sound.proofs.Chronicle.{AndShown, Fetches, IsSame, Searches, SoFar, Underway, further, placing-longer}
 use Rattle.ea_sound.proofs.SearchLists.{counted-most, searched-look, searched-lost, searched-on}
+use Rattle.ea_sound.proofs.SearchTurns.{fetch-tries, lost-other}
 use Rattle.ea_sound.proofs.BeginTurns.{IsInBegin, Walks, walks}
 use Rattle.ea_sound.proofs.ShortRoutes.{Keeps, keeps-same, turned-keeps}
 use Rattle.ea_sound.proofs.ChroniclePlaces.{Fine as IsFine, carried-fine, choice-fine, created-fine, logged-fine, search-fine}
@@ -143,7 +145,10 @@ module _ (e : Setup) (L : List ℕ) (me : ℕ) where
         ∙ append_assoc p.0 (Shown at seen ∷ []) (Missed at u ∷ [])))
         (searched-on ask.need (greatest_number e) 0 at h.old (at - 1) (counted seen h.old) p.0
         (Shown at seen ∷ Missed at u ∷ []) p.2
-        (searched-lost ask.need at h.old seen u h.low h.room h.fit))) h.way))
+        (searched-lost ask.need at h.old seen u h.low h.room h.fit
+        (lost-other ask.need seen u ((run e L).shared.places at) h.fit
+        (sym (ap (λ stage. answer me (wants_at acting.next stage) (run e L).shared) st
+        ∙ fetch-tries me at seen (run e L).shared) ∙ ans))))) h.way))
     fetched-fine ask at looked seen Done st ans h = halted-fine
     fetched-fine ask at looked seen (Head x) st ans h = halted-fine
     fetched-fine ask at looked seen Rests st ans h = halted-fine

@@ -4,6 +4,7 @@ use Rattle.std.specs.Prelude.{◌==◌, count_by}
 use Rattle.std.proofs.lemmas.List.{append_assoc, append-nil}
 use Rattle.ea_machine.specs.declared.owners.OwnerWord.{OwnerWord}
 use Rattle.ea_machine.specs.Machine.{run_on, step}
+use Rattle.ea_machine.specs.Owners.{same_word}
 use Rattle.ea_machine.specs.Placements.{counted, counted_by, counts, fits}
 use Rattle.ea_machine.specs.Searches.{Missed, Searched, Shown, Sight, sight_if, sights}
 use Rattle.ea_machine.specs.Setup.{Setup}
@@ -21,7 +22,7 @@ searched-on need at looked mid sum last more [] ys s t =
     (subst (λ (n : ℕ). Searched need mid n last more ys) (sym s.1) t)
 searched-on need at looked mid sum last more (Missed m v ∷ xs) ys s t = absurd s
 searched-on need at looked mid sum last more (Shown m v ∷ Missed p u ∷ xs) ys s t =
-    (s.0, s.1, s.2, searched-on need (at - 1) (counted v looked) mid sum last more xs ys s.3 t)
+    (s.0, s.1, s.2, s.3, searched-on need (at - 1) (counted v looked) mid sum last more xs ys s.4 t)
 searched-on need at looked mid sum last more (Shown m v ∷ Shown p u ∷ xs) ys s t = (
   s.0,
   s.1,
@@ -43,9 +44,9 @@ searched-look need at looked v p l f = ((refl, p, l), f, (refl, refl))
 
 -- one look that fits, and the lost try to fetch the carrier
 pub searched-lost : (need at looked : ℕ) (v u : OwnerWord) → 0 < at → looked < SEARCH_LIMIT
-    → fits need v ≡ true
+    → fits need v ≡ true → same_word u v ≡ false
     → Searched need at looked (at - 1) (counted v looked) (Shown at v ∷ Missed at u ∷ [])
-searched-lost need at looked v u p l f = ((refl, p, l), f, refl, (refl, refl))
+searched-lost need at looked v u p l f d = ((refl, p, l), f, refl, d, (refl, refl))
 
 pub counted-most : (looked limit : ℕ) (v : OwnerWord) → looked < limit → counted v looked ≤ limit
 counted-most looked limit v l = by (counts v)

@@ -5,6 +5,7 @@ use Rattle.std.proofs.lemmas.Bool.{cases_eq}
 use Rattle.std.proofs.lemmas.List.{length-append}
 use Rattle.ea_model.specs.Content.{Content}
 use Rattle.ea_machine.specs.declared.owners.OwnerWord.{OwnerWord}
+use Rattle.ea_machine.specs.declared.owners.OwnerWord.TheVariants as word
 use Rattle.ea_machine.specs.Actor.{Begin, Routed, Collecting, Searching, Fetching, Creating, Giving, Taking, Ended, Ready, Stage}
 use Rattle.ea_machine.specs.Machine.{step}
 use Rattle.ea_machine.specs.Owners.{CarrierAt, Absent, Employed, Pooled, Busy, Returning, same_word, word_of}
@@ -126,6 +127,37 @@ won-or_lost seen p = by (same_word (word_of p) seen) p
     by true (Returning i x) = inr (word_of (Returning i x), refl)
     by false p = inr (word_of p, refl)
 
+-- of two words that are the same both fit
+same-fits : (need : ℕ) (v w : OwnerWord) → same_word v w ≡ true → fits need w ≡ true
+    → fits need v ≡ true
+same-fits need v word.Absent s f = absurd cc
+same-fits need v (word.Employed j) s f = absurd cc
+same-fits need v (word.Busy j) s f = absurd cc
+same-fits need v (word.Returning j) s f = absurd cc
+same-fits need word.Absent (word.Pooled j h) s f = absurd cc
+same-fits need (word.Employed i) (word.Pooled j h) s f = absurd cc
+same-fits need (word.Busy i) (word.Pooled j h) s f = absurd cc
+same-fits need (word.Returning i) (word.Pooled j h) s f = absurd cc
+same-fits need (word.Pooled i g) (word.Pooled j h) s f = grind (arith, s, f)
+
+-- a lost try for a word that fits found another one
+pub lost-other : (need : ℕ) (seen u : OwnerWord) (p : CarrierAt) → fits need seen ≡ true
+    → tried_at seen p ≡ Lost u → same_word u seen ≡ false
+lost-other need seen u p fit lost = by (same_word (word_of p) seen) p refl lost
+  where
+    none : (v : OwnerWord) → same_word v seen ≡ true → fits need v ≡ false → ⊥
+    none v s f = let t : true ≡ false = sym (same-fits need v seen s fit) ∙ f in cc
+
+    by : (b : Bool) (q : CarrierAt) → same_word (word_of q) seen ≡ b → won_if b q ≡ Lost u
+        → same_word u seen ≡ false
+    by false q s l =
+        let is : word_of q ≡ u = cc in ap (λ (v : OwnerWord). same_word v seen) (sym is) ∙ s
+    by true (Pooled i g x) s l = absurd cc
+    by true Absent s l = absurd (none word.Absent s refl)
+    by true (Employed i) s l = absurd (none (word.Employed i) s refl)
+    by true (Busy i) s l = absurd (none (word.Busy i) s refl)
+    by true (Returning i x) s l = absurd (none (word.Returning i) s refl)
+
 -- after a look: the word doesn't fit, or the try that follows is lost
 pub record ThenMissed (need n looked last sum : ℕ) (rest : List Sight) : Type 0 where
   pub number : ℕ
@@ -144,7 +176,7 @@ pub next : (need n looked last sum m : ℕ) (v : OwnerWord) (rest : List Sight)
 next need n looked last sum m v [] h = inl (h.1, h.2)
 next need n looked last sum m v (Shown p u ∷ rest) h = inl (h.1, h.2)
 next need n looked last sum m v (Missed p u ∷ rest) h = inr
-    (h.1, record { number = p; present = u; later = rest; is = refl; saw = h.3 })
+    (h.1, record { number = p; present = u; later = rest; is = refl; saw = h.4 })
 
 pub tails : (x y : Sight) (xs ys : List Sight) → x ∷ xs ≡ y ∷ ys → xs ≡ ys
 tails x y xs ys q = cc

@@ -60,9 +60,9 @@ pub fn run<R: Threads + Sync, S: Source, O: Sink, E: Sink>(
     // nothing that is inspected fits; and each operation has one entry.
     ensures sound { result ≡ 0 → Throughout Sound words.now }
 
-    // And the machine of atomic steps keeps its protocol for any number of schedulers and whether
-    // carriers migrate or not, under such words, for every valid trace and every list of steps. No
-    // run takes these steps yet.
+    // And the machine of atomic steps keeps its protocol with as many schedulers and with the
+    // settings that such words ask for, for every valid trace and every list of steps. No run takes
+    // these steps yet.
     ensures protocol { (result ≡ 0) ⊎ (result ≡ 6) → ForEachTrace Protocol words.now }
 
     // 1: exactly for words that are refused, and nothing was read.

@@ -1,6 +1,7 @@
 -- What a search saw, as a test.
 use Rattle.std.proofs.Common.{◌≡◌, ℕ, ◌-◌, Bool, true, false, ◌==◌, ◌&&◌, not, nat_lt, List, [], ◌∷◌, refl, arith}
 use Rattle.ea_model.specs.declared.units.TheConstants.{SEARCH_LIMIT}
+use Rattle.ea_machine.specs.Owners.{same_word}
 use Rattle.ea_machine.specs.Placements.{counted, fits}
 use Rattle.ea_machine.specs.Searches.{IsNextLook, Missed, Searched, Shown, Sight}
 
@@ -16,7 +17,8 @@ is_searched need at looked last sum (Shown m w ∷ []) = is_next at looked m
 is_searched need at looked last sum (Shown m w ∷ Shown p v ∷ xs) = is_next at looked m
     && (not (fits need w) && is_searched need (at - 1) (counted w looked) last sum (Shown p v ∷ xs))
 is_searched need at looked last sum (Shown m w ∷ Missed p v ∷ xs) = is_next at looked m
-    && (fits need w && ((p == at) && is_searched need (at - 1) (counted w looked) last sum xs))
+    && (fits need w && ((p == at) && (not (same_word v w)
+    && is_searched need (at - 1) (counted w looked) last sum xs)))
 
 both : (a b : Bool) → (a && b) ≡ true → (a ≡ true) × (b ≡ true)
 both true b q = (refl, q)
@@ -47,5 +49,6 @@ searched need at looked last sum (Shown m w ∷ Missed n v ∷ xs) q =
     let p = both (is_next at looked m) _ q in
     let r = both (fits need w) _ p.1 in
     let t = both (n == at) _ r.1 in
-    let later = searched need (at - 1) (counted w looked) last sum xs t.1 in
-    (next at looked m p.0, r.0, grind (arith, t.0), later)
+    let d = both (not (same_word v w)) _ t.1 in
+    let later = searched need (at - 1) (counted w looked) last sum xs d.1 in
+    (next at looked m p.0, r.0, grind (arith, t.0), no (same_word v w) d.0, later)
