@@ -16,13 +16,14 @@ use Rattle.ea_machine.specs.Turns.{advanced, answered}
 abbrev pub with_fetched : State → ℕ → Content → Instance
 with_fetched state s x = employing (state.actors s).instance x
 
--- the carrier has a gap for the block that it was fetched for, so that the strategy has a choice, and
--- the block is placed there in the same step
+-- the carrier has a gap for the block that it was fetched for, so that the strategy has a choice,
+-- which is in this carrier, and the block is placed there in the same step
 pub record FetchFits (setup : Setup) (state : State) (s : ℕ) (ask : Ask) (x : Content) : Type 0
   where
     pub gap : Any (λ g. ask.need ≤ g.size) (gaps_of x)
     pub spot : Spot
     pub chosen : chosen_spot (with_fetched state s x) ask.need ≡ Some spot
+    pub there : spot.carrier ≡ x.number
     pub placed : advanced setup state s ≡ placed_at setup s ask
         (record (state.actors s) { instance = with_fetched state s x }) spot
 

@@ -1,6 +1,6 @@
 -- The guards of the table: what holds whenever a scheduler wants a row.
 use Rattle.std.specs.Prelude.{◌≡◌, ◌≢◌, ◌⊎◌, ℕ, true, false, [], ◌∷◌, None, Some, All, Contains}
-use Rattle.ea_model.specs.Content.{Content}
+use Rattle.ea_model.specs.Content.{Content, can_go}
 use Rattle.ea_machine.specs.declared.nodes.Node.{Node}
 use Rattle.ea_machine.specs.declared.owners.OwnerWord.{OwnerWord}
 use Rattle.ea_machine.specs.declared.owners.OwnerWord.TheVariants as word
@@ -24,12 +24,14 @@ abbrev pub IsUnlinkedAt : Node → ℕ → Shared → Type 0
 IsUnlinkedAt node to s = Contains (s.queues to) (pushed node) ⊎ Contains (s.rests to) (pushed node)
 
 module _ (setup : Setup) (me : ℕ) (a : Actor) (s : Shared) where
-  -- the scheduler employs a carrier, and has its content in its hand, without blocks
+  -- the scheduler employs a carrier, and has its content in its hand, without blocks; it is not a
+  -- main carrier
   pub record IsEmptied (number : ℕ) : Type 0 where
     pub content : Content
     pub in_hand : leaving_at a.stage ≡ content ∷ []
     pub is : content.number ≡ number
     pub empty : content.blocks ≡ []
+    pub leaves : can_go content.kind ≡ true
     pub employed : s.places number ≡ Employed me
 
   -- a carrier came home to it, and it had the node in its walk

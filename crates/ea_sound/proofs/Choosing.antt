@@ -176,6 +176,16 @@ chosen-fetched i need c sure shared some fits =
     is_some-map spot_of (choice_for i.settings need (with_content c i.contents))
     ∙ choice-with i.settings need c i.contents sure shared some fits
 
+-- and where it had none without the carrier, the spot is one of that carrier
+pub chosen-in_fetched : (i : Instance) (need : ℕ) (c : Content) (spot : Spot)
+    → may_miss i.settings.strategy ≡ false → chosen_spot i need ≡ None
+    → chosen_spot (employing i c) need ≡ Some spot → spot.carrier ≡ c.number
+chosen-in_fetched i need c spot sure none is =
+    let x = candidate_at (choice_for i.settings need (employing i c).contents) spot is in
+    ap (λ (at : Spot). at.carrier) (sym x.2)
+    ∙ choice-in_it i.settings need c i.contents sure x.0
+    (unmapped spot_of (choice_for i.settings need i.contents) (subst IsNone (sym none) refl)) x.1
+
 -- where an instance had no choice, and none of its multiblock carriers is empty, the spot that is
 -- chosen with a planned carrier is one of that carrier; under a strategy that may miss a gap no
 -- carriers migrate, so that the instance has but its own
@@ -186,10 +196,5 @@ pub chosen-in_planned : (i : Instance) (need : ℕ) (p : CarrierPlan) (spot : Sp
 chosen-in_planned i need p spot stands none full is =
     elim (cases_Bool (may_miss i.settings.strategy)) [
       | inl t ↦ chosen-in-new i need p spot (stands t) none full is
-      | inr f ↦
-          let x = candidate_at (choice_for i.settings need (creating i p).contents) spot is in
-          ap (λ (at : Spot). at.carrier) (sym x.2)
-          ∙ choice-in_it i.settings need (created_content i.number Multi p) i.contents f x.0
-          (unmapped spot_of (choice_for i.settings need i.contents) (subst IsNone (sym none) refl))
-          x.1
+      | inr f ↦ chosen-in_fetched i need (created_content i.number Multi p) spot f none is
     ]

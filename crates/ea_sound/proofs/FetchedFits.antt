@@ -19,6 +19,8 @@ use Rattle.ea_machine.specs.State.{State}
 use Rattle.ea_machine.specs.Table.{answer, tried_at, won_if}
 use Rattle.ea_machine.specs.Turns.{answered}
 use Rattle.ea_sound.specs.Present.{Fits, Rule}
+use Rattle.ea_sound.proofs.Choosing.{chosen-in_fetched}
+use Rattle.ea_sound.proofs.Created.{sure-strategy}
 use Rattle.ea_sound.proofs.Entries.{ask-least}
 use Rattle.ea_sound.proofs.Global.{working-scheduler}
 use Rattle.ea_sound.proofs.RowLeaves.{fetched-chosen, seen-room}
@@ -76,6 +78,8 @@ module _ (e : Setup) (w : State) (rule : Rule e w) (s at looked : ℕ) (ask : As
         gap = large-gap ask.need (gaps_of x) least (omega (arith, room, pooled.3));
         spot = chosen.0;
         chosen = chosen.1;
+        there = chosen-in_fetched a.instance ask.need x chosen.0
+            (sure-strategy e s a.instance (rule.kept.ranges.instances s is) fits.5) fits.4 chosen.1;
         placed = ap (λ (r : Answer). after_row e s a r a.stage) won
             ∙ ap (after_row e s a (Won x)) now
             ∙ ap (placed_by e s ask with_carrier) chosen.1;

@@ -121,6 +121,7 @@ module _ (e : Setup) (w : State) (rule : Rule e w) (steady : AreSteady e w) (me 
         in_hand = ap leaving_at now;
         is = refl;
         empty = fit.1;
+        leaves = fit.0;
         employed = hand-employed x (Routed (Clearing x) why gone) now fit.3 refl;
       }),
     )
