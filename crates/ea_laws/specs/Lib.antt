@@ -2,8 +2,5 @@ pub mod Kinds
 pub mod Kept
 pub mod Spots
 pub mod InOrder
-pub mod Run
-pub mod Moments
 pub mod ChoiceLaws
 pub mod InstanceLaws
-pub mod RunLaws

@@ -1,8 +1,7 @@
-//! Laws that follow from the definitions alone: of carriers, gaps, choices, regions, instances and
-//! runs. There is no code here; each law is a clause of a function that does nothing, so that the
-//! check asks for its proof.
+//! Laws that follow from the definitions alone: of carriers, gaps, choices, regions and instances.
+//! There is no code here; each law is a clause of a function that does nothing, so that the check
+//! asks for its proof.
 #![tactic(auto)]
 
 pub mod choices;
 pub mod instances;
-pub mod runs;

@@ -7,9 +7,10 @@ use Rattle.ea_model.specs.declared.operations.Op.{Op}
 use Rattle.ea_model.specs.declared.entries.Entry.{Entry}
 use Rattle.ea_model.specs.Content.{Content}
 use Rattle.ea_model.specs.Instance.{Instance}
+use Rattle.ea_machine.specs.declared.asks.Ask.{Ask}
 use Rattle.ea_machine.specs.declared.nodes.Node.{Node}
 use Rattle.ea_machine.specs.declared.owners.OwnerWord.{OwnerWord}
-use Rattle.ea_machine.specs.Nodes.{Named}
+use Rattle.ea_machine.specs.declared.nodes.Named.{Named}
 
 -- the release route of a block, by the row that is next; a content on it is in the scheduler's hand
 pub data Route : Type 0 where
@@ -46,13 +47,6 @@ pub data Gone : Type 0 where
   Open : Gone
   Here : Gone
   Queued : (to : ℕ) → Gone
-
--- a block of this need is to be placed under a name; for a reallocation that moves, with the old
--- name
-pub record Ask : Type 0 where
-  pub name : ℕ
-  pub need : ℕ
-  pub old : Option Named
 
 -- where a scheduler is in its operation
 pub data Stage : Type 0 where

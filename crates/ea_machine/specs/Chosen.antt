@@ -7,9 +7,11 @@ use Rattle.ea_model.specs.declared.reallocation.Decision.TheVariants.{Move}
 use Rattle.ea_model.specs.Content.{Content}
 use Rattle.ea_model.specs.Instance.{Instance, chosen_spot, creating, decision_at, place_at, plan, resized_to, single_place}
 use Rattle.ea_machine.specs.declared.owners.OwnerWord.{OwnerWord}
-use Rattle.ea_machine.specs.Nodes.{Named, named_at}
+use Rattle.ea_machine.specs.Nodes.{named_at}
+use Rattle.ea_machine.specs.declared.nodes.Named.{Named}
 use Rattle.ea_machine.specs.Setup.{Setup, migration}
-use Rattle.ea_machine.specs.Actor.{Ask, Creating, Fetching}
+use Rattle.ea_machine.specs.Actor.{Creating, Fetching}
+use Rattle.ea_machine.specs.declared.asks.Ask.{Ask}
 use Rattle.ea_machine.specs.State.{State}
 use Rattle.ea_machine.specs.Rows.{Won}
 use Rattle.ea_machine.specs.Employment.{employing}

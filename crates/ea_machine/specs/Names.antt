@@ -8,7 +8,8 @@ use Rattle.ea_model.specs.Content.{Content}
 use Rattle.ea_model.specs.Trace.{makes}
 use Rattle.ea_machine.specs.declared.nodes.Node.{Node}
 use Rattle.ea_machine.specs.declared.nodes.Node.TheVariants.{Block, Carrier}
-use Rattle.ea_machine.specs.Nodes.{Named, Mark, same_spot}
+use Rattle.ea_machine.specs.Nodes.{Mark, same_spot}
+use Rattle.ea_machine.specs.declared.nodes.Named.{Named}
 use Rattle.ea_machine.specs.Setup.{Setup}
 use Rattle.ea_machine.specs.Actor.{Actor, Route, Looking, Trying, Settling, Abandoning, Sending, Clearing, Pushing, Linking, Freeing, Moving, Why, Walk, For, Stage, Routed, on_route}
 use Rattle.ea_machine.specs.State.{State}

@@ -5,7 +5,8 @@ use Rattle.ea_model.specs.declared.operations.Op.TheVariants as op
 use Rattle.ea_model.specs.declared.reallocation.Decision.TheVariants.{Move}
 use Rattle.ea_model.specs.Instance.{Instance, decision_at}
 use Rattle.ea_model.specs.Units.{need_of}
-use Rattle.ea_machine.specs.Nodes.{Named, named_at}
+use Rattle.ea_machine.specs.Nodes.{named_at}
+use Rattle.ea_machine.specs.declared.nodes.Named.{Named}
 use Rattle.ea_machine.specs.Actor.{Actor}
 
 -- the first of these operations is an allocation or a reallocation of that need

@@ -2,13 +2,9 @@
 use Rattle.std.specs.Prelude.{ℕ, Bool, true, false, ◌&&◌, ◌==◌, if◌then◌else◌, List, [], ◌∷◌, Option, None, Some, option_map}
 use Rattle.ea_model.specs.declared.carriers.Spot.{Spot}
 use Rattle.ea_model.specs.Keyed as keyed
+use Rattle.ea_machine.specs.declared.nodes.Named.{Named}
 use Rattle.ea_machine.specs.declared.nodes.Node.{Node}
 use Rattle.ea_machine.specs.declared.nodes.Node.TheVariants.{Block, Carrier}
-
--- a name, and where its block begins
-pub record Named : Type 0 where
-  pub name : ℕ
-  pub spot : Spot
 
 -- the names with one more, by rising name
 abbrev pub with_name : Named → List Named → List Named

@@ -6,11 +6,12 @@ use Rattle.ea_model.specs.declared.carriers.CarrierLine.{CarrierLine}
 use Rattle.ea_model.specs.declared.carriers.Totals.{Totals}
 use Rattle.ea_model.specs.declared.carriers.Standing.{Standing}
 use Rattle.ea_model.specs.declared.carriers.Standing.TheVariants as standing
-use Rattle.ea_model.specs.declared.entries.Entry.{Entry}
+use Rattle.ea_model.specs.declared.outcome.Outcome.{Outcome}
 use Rattle.ea_model.specs.declared.trace.Mode.{Mode}
 use Rattle.ea_model.specs.declared.trace.Trace.{Trace}
 use Rattle.ea_model.specs.declared.settings.Config.{Config}
 use Rattle.ea_model.specs.Content.{Content, size_of}
+use Rattle.ea_model.specs.Trace.{listed, plain_mode}
 use Rattle.ea_model.specs.Instance.{block_in, carrier_line, content_of, is_used, totals}
 use Rattle.ea_machine.specs.declared.nodes.Node.{Node}
 use Rattle.ea_machine.specs.declared.nodes.Node.TheVariants.{Block, Carrier}
@@ -21,16 +22,6 @@ use Rattle.ea_machine.specs.Actor.{Actor, Route, Looking, Trying, Settling, Aban
 use Rattle.ea_machine.specs.State.{State}
 use Rattle.ea_machine.specs.Completion.{end_of}
 use Rattle.ea_machine.specs.Statistics.{employed_multis, employed_singles}
-
--- what is printed
-pub record Outcome : Type 0 where
-  -- scheduler 1's first
-  pub logs : List (List Entry)
-  -- the carriers that are there, by number
-  pub carriers : List CarrierLine
-  pub totals : Totals
-  -- the mode of the trace, by which the text has whole logs or counts
-  pub mode : Mode
 
 -- the content in the hand of a carrier that was made busy
 abbrev pub settling_on : Route → Option Content
@@ -146,12 +137,12 @@ module _ (setup : Setup) (w : State) where
   -- what is printed of the state, for a trace of that mode
   abbrev pub outcome : Mode → Outcome
   outcome mode = record {
-    logs = map (λ a. a.log) actors_of;
-    carriers = map line_of present;
+    logs = listed (map (λ a. listed a.log) actors_of);
+    carriers = listed (map line_of present);
     totals = totals_of (map (λ p. p.content) present);
     mode = mode;
   }
 
 -- what is printed of the run of a trace that has a schedule or is generated
 abbrev pub outcome_of : Config → Trace → Outcome
-outcome_of c t = outcome (setup_of c t) (end_of (setup_of c t) t.mode) t.mode
+outcome_of c t = outcome (setup_of c t) (end_of (setup_of c t) t.mode) (plain_mode t.mode)

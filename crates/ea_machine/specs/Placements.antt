@@ -10,9 +10,11 @@ use Rattle.ea_model.specs.declared.units.TheConstants.{SEARCH_LIMIT}
 use Rattle.ea_model.specs.Instance.{chosen_spot, creating, creating_single, is_alone, place_at, placing_at, plan, single_place}
 use Rattle.ea_machine.specs.declared.owners.OwnerWord.{OwnerWord}
 use Rattle.ea_machine.specs.declared.owners.OwnerWord.TheVariants as word
-use Rattle.ea_machine.specs.Nodes.{Named, with_name}
+use Rattle.ea_machine.specs.Nodes.{with_name}
+use Rattle.ea_machine.specs.declared.nodes.Named.{Named}
 use Rattle.ea_machine.specs.Setup.{Setup, greatest_number, migration}
-use Rattle.ea_machine.specs.Actor.{Actor, Ask, Moving, Creating, Fetching, Searching}
+use Rattle.ea_machine.specs.Actor.{Actor, Moving, Creating, Fetching, Searching}
+use Rattle.ea_machine.specs.declared.asks.Ask.{Ask}
 use Rattle.ea_machine.specs.Rows.{Answer, Saw, Won, Lost}
 use Rattle.ea_machine.specs.Employment.{employing}
 use Rattle.ea_machine.specs.Tasks.{halted, hands_over, logged}

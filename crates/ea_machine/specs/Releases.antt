@@ -9,7 +9,8 @@ use Rattle.ea_model.specs.Instance.{content_of, employed, releasing_at}
 use Rattle.ea_machine.specs.declared.nodes.Node.TheVariants.{Carrier}
 use Rattle.ea_machine.specs.declared.owners.OwnerWord.{OwnerWord}
 use Rattle.ea_machine.specs.declared.owners.OwnerWord.TheVariants as word
-use Rattle.ea_machine.specs.Nodes.{Named, block_node}
+use Rattle.ea_machine.specs.Nodes.{block_node}
+use Rattle.ea_machine.specs.declared.nodes.Named.{Named}
 use Rattle.ea_machine.specs.Owners.{owner_of}
 use Rattle.ea_machine.specs.Setup.{Setup, migration}
 use Rattle.ea_machine.specs.Actor.{Actor, Gone, Open, Here, Queued, Route, Looking, Trying, Settling, Abandoning, Sending, Clearing, Pushing, Linking}

@@ -1,6 +1,7 @@
 -- What schedulers share.
 use Rattle.std.specs.Prelude.{ℕ, ◌==◌, if◌then◌else◌, List}
-use Rattle.ea_machine.specs.Nodes.{Named, Mark}
+use Rattle.ea_machine.specs.Nodes.{Mark}
+use Rattle.ea_machine.specs.declared.nodes.Named.{Named}
 use Rattle.ea_machine.specs.Owners.{CarrierAt}
 
 -- what schedulers share

@@ -3,7 +3,8 @@ use Rattle.std.specs.Prelude.{ℕ, List, [], ◌∷◌, ◌++◌, Option, None, 
 use Rattle.ea_model.specs.declared.operations.Op.{Op}
 use Rattle.ea_model.specs.declared.entries.Entry.{Entry}
 use Rattle.ea_model.specs.declared.entries.Entry.TheVariants as entry
-use Rattle.ea_machine.specs.Nodes.{Named, without_name}
+use Rattle.ea_machine.specs.Nodes.{without_name}
+use Rattle.ea_machine.specs.declared.nodes.Named.{Named}
 use Rattle.ea_machine.specs.Setup.{Setup}
 use Rattle.ea_machine.specs.Actor.{Actor, Begin, Ended, Routed, Gone, Open, Here, Queued, Route, Task, Freeing, Moving, Why, For}
 use Rattle.ea_machine.specs.Releases.{Turned, route_of}

@@ -1,6 +1,13 @@
-//! What stands in an instance's queue.
+//! Names with the spots of their blocks, and what stands in an instance's queue.
 
 use ea_model::Spot;
+
+/// A name, 1 to 262144, and where its block begins.
+#[derive(Debug, Clone, Copy, PartialEq, Eq)]
+pub struct Named {
+    pub name: u32,
+    pub spot: Spot,
+}
 
 /// A node of a queue. Names are 1 to 262144, and carrier numbers 1 to 4096.
 #[derive(Debug, Clone, Copy, PartialEq, Eq)]

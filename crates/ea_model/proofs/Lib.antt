@@ -1,5 +1,6 @@
 pub mod First
 pub mod Merged
+pub mod Needs
 pub mod Numbers
 pub mod Options
 pub mod Orders

@@ -10,5 +10,5 @@ pub mod Strategies
 pub mod Decision
 pub mod Instance
 pub mod Words
-pub mod Operations
 pub mod Trace
+pub mod Outcome

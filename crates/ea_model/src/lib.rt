@@ -7,6 +7,7 @@ pub mod entries;
 pub mod keyed;
 pub mod lists;
 pub mod operations;
+pub mod outcome;
 pub mod reallocation;
 pub mod settings;
 #[cfg(test)]
@@ -22,6 +23,7 @@ pub use carriers::{
 pub use entries::{Entry, NoCarrier, Report, Triple};
 pub use lists::{List, OutOfMemory};
 pub use operations::Op;
+pub use outcome::Outcome;
 pub use reallocation::{Decision, Where};
 pub use settings::{Config, Letter, Settings, Strategy};
 pub use trace::{Mode, Trace, Turns};

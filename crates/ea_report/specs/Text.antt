@@ -1,5 +1,5 @@
 -- The output text of a run.
-use Rattle.std.specs.Prelude.{ℕ, List, [], ◌∷◌, ◌++◌, codes, decimal}
+use Rattle.std.specs.Prelude.{ℕ, ◌+◌, List, [], ◌∷◌, ◌++◌, codes, decimal}
 use Rattle.std.specs.List.{flat_map}
 use Rattle.ea_model.specs.declared.carriers.Place.{Place}
 use Rattle.ea_model.specs.declared.carriers.Kind.{Kind}
@@ -8,11 +8,13 @@ use Rattle.ea_model.specs.declared.carriers.Standing.{Standing}
 use Rattle.ea_model.specs.declared.carriers.Standing.TheVariants as standing
 use Rattle.ea_model.specs.declared.carriers.CarrierLine.{CarrierLine}
 use Rattle.ea_model.specs.declared.carriers.Totals.{Totals}
+use Rattle.ea_model.specs.declared.outcome.Outcome.{Outcome}
 use Rattle.ea_model.specs.declared.entries.NoCarrier.{NoCarrier}
 use Rattle.ea_model.specs.declared.entries.NoCarrier.TheVariants as cause
 use Rattle.ea_model.specs.declared.entries.Report.{Report}
 use Rattle.ea_model.specs.declared.entries.Entry.{Entry}
 use Rattle.ea_model.specs.declared.entries.Entry.TheVariants as entry
+use Rattle.ea_model.specs.Outcome.{logs_of}
 
 -- a line: a first word, each further word after a space, and a line feed
 abbrev pub line : List ℕ → List (List ℕ) → List ℕ
@@ -93,7 +95,13 @@ totals_text t = line (codes "total")
     decimal t.live ∷ codes "queued" ∷ decimal t.queued ∷ codes "free" ∷ decimal t.free ∷ codes
     "header" ∷ decimal t.header ∷ [])
 
--- the text of scheduler 1's log, the carriers and the totals
-abbrev pub text : List Entry → List CarrierLine → Totals → List ℕ
-text log carriers totals = line (codes "scheduler") (decimal 1 ∷ []) ++ flat_map entry_text
-    log ++ flat_map carrier_text carriers ++ totals_text totals
+-- the logs of schedulers from that number on, each after a line with its number
+abbrev pub logs_text : ℕ → List (List Entry) → List ℕ
+logs_text i [] = []
+logs_text i (log ∷ logs) = line (codes "scheduler") (decimal i ∷ []) ++ flat_map entry_text log
+    ++ logs_text (i + 1) logs
+
+-- the text of an outcome: the log of each scheduler, the carriers and the totals
+abbrev pub outcome_text : Outcome → List ℕ
+outcome_text o = logs_text 1 (logs_of o) ++ flat_map carrier_text o.carriers.items
+    ++ totals_text o.totals

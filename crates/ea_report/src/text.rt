@@ -1,28 +1,38 @@
 //! The whole text.
-ghost use Rattle.std.specs.Prelude.{◌≡◌, IfOk};
-ghost use Rattle.ea_report.specs.Text.{text};
+ghost use Rattle.std.specs.Prelude.{◌≡◌, ◌<◌, ◌+◌, ◌^◌, ◌++◌, IfOk, OnOk, length, map};
+ghost use Rattle.ea_report.specs.Text.{logs_text, outcome_text};
 
 use crate::carriers::{put_carriers, put_totals};
 use crate::entries::put_log;
 use crate::lines::Word::Number;
 use crate::lines::put_line;
-use ea_model::{CarrierLine, Entry, List, OutOfMemory, Totals};
+use ea_model::{Entry, List, MAX_SCHEDULERS, Outcome, OutOfMemory};
 use std::alloc::Global;
 
-/// The output text: the log of scheduler 1, the carriers by rising number and the totals.
+/// Adds the logs, each after a line with the number of its scheduler.
+fn put_logs(text: &mut List<u8>, logs: &[List<Entry>]) -> Result<(), OutOfMemory>
+    requires { length logs.now < 2 ^ 32 }
+    ensures { OnOk result
+        (text.new.items ≡ text.old.items ++ logs_text 1 (map (λ log. log.items) logs.now)) }
+{
+    let mut scheduler = 1;
+    for log in logs {
+        put_line(text, "scheduler", &[Number(scheduler)])?;
+        put_log(text, log.as_slice())?;
+        scheduler += 1;
+    }
+    Ok(())
+}
+
+/// The output text: the log of each scheduler, the carriers by rising number and the totals.
 /// An `Err` says that there was no memory.
-pub fn print(
-    alloc: Global,
-    log: &[Entry],
-    carriers: &[CarrierLine],
-    totals: Totals,
-) -> Result<List<u8>, OutOfMemory>
-    ensures { IfOk result (λ printed. printed.items ≡ text log.now carriers.now totals) }
+pub fn print(alloc: Global, outcome: &Outcome) -> Result<List<u8>, OutOfMemory>
+    requires { length outcome.now.logs.items < 2 ^ 32 }
+    ensures { IfOk result (λ printed. printed.items ≡ outcome_text outcome.now) }
 {
     let mut text = List::new(alloc);
-    put_line(&mut text, "scheduler", &[Number(1)])?;
-    put_log(&mut text, log)?;
-    put_carriers(&mut text, carriers)?;
-    put_totals(&mut text, totals)?;
+    put_logs(&mut text, outcome.logs.as_slice())?;
+    put_carriers(&mut text, outcome.carriers.as_slice())?;
+    put_totals(&mut text, outcome.totals)?;
     Ok(text)
 }

@@ -15,7 +15,8 @@ use Rattle.ea_machine.specs.declared.nodes.Node.TheVariants.{Block, Carrier}
 use Rattle.ea_machine.specs.declared.owners.OwnerWord.{OwnerWord}
 use Rattle.ea_machine.specs.declared.owners.OwnerWord.TheVariants as word
 use Rattle.ea_machine.specs.Actor.{Actor, Gone, Open, Here as HereGone, Queued, Route, Looking, Trying, Settling, Abandoning, Sending, Clearing, Pushing, Linking, Begin, Routed, Collecting, Ready, Task, Why, Walk, For}
-use Rattle.ea_machine.specs.Nodes.{Named, block_node, named_at}
+use Rattle.ea_machine.specs.Nodes.{block_node, named_at}
+use Rattle.ea_machine.specs.declared.nodes.Named.{Named}
 use Rattle.ea_machine.specs.Owners.{owner_of}
 use Rattle.ea_machine.specs.Releases.{Turned, dismissed, disowned, employed_by, first_gone, forwarded, after_release, after_release_by, leaving_by, lightened, looked, looked_at, owned_by, pooled_by, release_here, route_of, routed, sent_to, settled, abandoned_if, tried, turned}
 use Rattle.ea_machine.specs.Rows.{Answer, Done, Head, Rests, Passes, Saw, Won, Lost, Home, Got}

@@ -22,7 +22,7 @@ use Rattle.ea_machine.specs.Actor.{Actor, Gone, Looking, Abandoning, Begin, Rout
 use Rattle.ea_machine.specs.Employment.{dismissing}
 use Rattle.ea_machine.specs.Contents.{hand_sum}
 use Rattle.ea_machine.specs.Names.{of_block, of_content, only}
-use Rattle.ea_machine.specs.Nodes.{Named}
+use Rattle.ea_machine.specs.declared.nodes.Named.{Named}
 use Rattle.ea_machine.specs.Owners.{owner_of}
 use Rattle.ea_machine.specs.Ranges.{IsLaidOutAsKind}
 use Rattle.ea_machine.specs.Releases.{dismissed, disowned}

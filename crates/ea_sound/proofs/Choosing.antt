@@ -27,7 +27,7 @@ use Rattle.ea_machine.specs.Employment.{employing}
 use Rattle.ea_laws.proofs.Candidates.{IsLarge, in_kind, large_among}
 use Rattle.ea_laws.proofs.Inspected.{inspected_by-among}
 use Rattle.ea_laws.proofs.InNew.{chosen-in-new}
-use Rattle.ea_laws.proofs.Placements.{taken-first}
+use Rattle.ea_laws.proofs.Taken.{taken-first}
 use Rattle.ea_laws.proofs.Refusals.{choice-none_at_all}
 use Rattle.ea_laws.proofs.Standing.{IsOwnGap, chosen-owned}
 

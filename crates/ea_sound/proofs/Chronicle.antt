@@ -12,13 +12,14 @@ use Rattle.ea_model.specs.declared.operations.Op.TheVariants as op
 use Rattle.ea_model.specs.declared.units.TheConstants.{SEARCH_LIMIT}
 use Rattle.ea_model.specs.Instance.{chosen_spot, plan}
 use Rattle.ea_machine.specs.declared.owners.OwnerWord.{OwnerWord}
-use Rattle.ea_machine.specs.Actor.{Actor, Ask, Gone, Open, Here, Queued, Stage, Begin, Routed, Collecting, Searching, Fetching, Creating, Giving, Taking, Ended, Ready, Task, Freeing, Moving, Why, Walk, For}
+use Rattle.ea_machine.specs.Actor.{Actor, Gone, Open, Here, Queued, Stage, Begin, Routed, Collecting, Searching, Fetching, Creating, Giving, Taking, Ended, Ready, Task, Freeing, Moving, Why, Walk, For}
+use Rattle.ea_machine.specs.declared.asks.Ask.{Ask}
 use Rattle.ea_machine.specs.Chosen.{IsPlacedAt}
 use Rattle.ea_machine.specs.Entries.{Makes}
 use Rattle.ea_machine.specs.Exhausted.{IsFailOf, seen_since}
 use Rattle.ea_machine.specs.Machine.{run}
 use Rattle.ea_machine.specs.Needs.{AsksFor, HasNeed}
-use Rattle.ea_machine.specs.Nodes.{Named}
+use Rattle.ea_machine.specs.declared.nodes.Named.{Named}
 use Rattle.ea_machine.specs.Placements.{counted, failed, fits}
 use Rattle.ea_machine.specs.Searches.{Searched, Shown, Sight, sight_if}
 use Rattle.ea_machine.specs.Setup.{Setup, greatest_number, migration}

@@ -12,12 +12,13 @@ use Rattle.ea_model.specs.declared.entries.NoCarrier.TheVariants.{Space}
 use Rattle.ea_model.specs.declared.units.TheConstants.{SEARCH_LIMIT}
 use Rattle.ea_model.specs.Instance.{chosen_spot, creating, is_alone, place_at, plan, single_place}
 use Rattle.ea_laws.proofs.Keeping.{plan-IsPlanned}
-use Rattle.ea_machine.specs.Actor.{Actor, Ask, Gone, Open, Here, Queued, Route, Task, Freeing, Moving, For}
+use Rattle.ea_machine.specs.Actor.{Actor, Gone, Open, Here, Queued, Route, Task, Freeing, Moving, For}
+use Rattle.ea_machine.specs.declared.asks.Ask.{Ask}
 use Rattle.ea_machine.specs.Chosen.{Created, Creates, IsJustBefore, IsPlacedAt, IsPlacement}
 use Rattle.ea_machine.specs.Entries.{Tells}
 use Rattle.ea_machine.specs.Exhausted.{FindsNoPlace, IsExhausted, IsFailOf}
 use Rattle.ea_machine.specs.Machine.{run}
-use Rattle.ea_machine.specs.Nodes.{Named}
+use Rattle.ea_machine.specs.declared.nodes.Named.{Named}
 use Rattle.ea_machine.specs.Placements.{created, created_by, failed, making, new_carrier_by, placed_at, placed_by, search_at, searched_by, stands}
 use Rattle.ea_machine.specs.Releases.{route_of}
 use Rattle.ea_machine.specs.Searches.{Searched}

@@ -9,11 +9,12 @@ use Rattle.ea_model.specs.declared.entries.NoCarrier.{NoCarrier}
 use Rattle.ea_model.specs.declared.operations.Op.{Op}
 use Rattle.ea_model.specs.declared.operations.Op.TheVariants as op
 use Rattle.ea_model.proofs.Options.{same-some}
-use Rattle.ea_laws.proofs.Steps.{need-even, need-least}
-use Rattle.ea_machine.specs.Actor.{Ask, Gone, Open, Here, Queued, Task, Freeing, Moving, For}
+use Rattle.ea_model.proofs.Needs.{need-even, need-least}
+use Rattle.ea_machine.specs.Actor.{Gone, Open, Here, Queued, Task, Freeing, Moving, For}
+use Rattle.ea_machine.specs.declared.asks.Ask.{Ask}
 use Rattle.ea_machine.specs.Entries.{Makes}
 use Rattle.ea_machine.specs.Names.{made_in, unplaced_by}
-use Rattle.ea_machine.specs.Nodes.{Named}
+use Rattle.ea_machine.specs.declared.nodes.Named.{Named}
 use Rattle.ea_machine.specs.Placements.{failed}
 use Rattle.ea_machine.specs.Sums.{one_if}
 use Rattle.ea_machine.specs.Tasks.{entry_of, later}

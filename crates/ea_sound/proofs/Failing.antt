@@ -12,12 +12,14 @@ use Rattle.ea_model.specs.Instance.{chosen_spot, is_alone, plan}
 use Rattle.ea_model.specs.Units.{need_of}
 use Rattle.ea_model.proofs.Rising.{item_at-key}
 use Rattle.ea_machine.specs.declared.owners.OwnerWord.{OwnerWord}
-use Rattle.ea_machine.specs.Actor.{Actor, Ask, Searching, Fetching, Ended}
+use Rattle.ea_machine.specs.Actor.{Actor, Searching, Fetching, Ended}
+use Rattle.ea_machine.specs.declared.asks.Ask.{Ask}
 use Rattle.ea_machine.specs.Exhausted.{FailsIfExhausted, FindsNoPlace, IsFailOf, seen_since}
 use Rattle.ea_machine.specs.Machine.{after_row, onward, run, run_on, step, wants_at}
 use Rattle.ea_machine.specs.Needs.{AsksFor, IsToMove}
 use Rattle.ea_machine.specs.NamePlaces.{name_of}
-use Rattle.ea_machine.specs.Nodes.{Named, named_at}
+use Rattle.ea_machine.specs.Nodes.{named_at}
+use Rattle.ea_machine.specs.declared.nodes.Named.{Named}
 use Rattle.ea_machine.specs.Operations.{itself}
 use Rattle.ea_machine.specs.Owners.{word_of}
 use Rattle.ea_machine.specs.Placements.{chosen_by, counted, failed, fetched, fits, new_carrier, new_carrier_by, saw_by, search_at, search_if, searched, searched_by, seek, seek_by}

@@ -7,7 +7,8 @@ use Rattle.ea_model.specs.Content.{Content, gaps_of, largest}
 use Rattle.ea_laws.proofs.Tails.{any_here, any_later}
 use Rattle.ea_machine.specs.declared.owners.OwnerWord.{OwnerWord}
 use Rattle.ea_machine.specs.declared.owners.OwnerWord.TheVariants as word
-use Rattle.ea_machine.specs.Actor.{Actor, Ask, Ended, Fetching, Stage}
+use Rattle.ea_machine.specs.Actor.{Actor, Ended, Fetching, Stage}
+use Rattle.ea_machine.specs.declared.asks.Ask.{Ask}
 use Rattle.ea_machine.specs.Employment.{employing}
 use Rattle.ea_machine.specs.Fetches.{FetchFits, FetchesFit}
 use Rattle.ea_machine.specs.Machine.{after_row, wants_at}

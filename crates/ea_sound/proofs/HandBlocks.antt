@@ -6,7 +6,7 @@ use Rattle.ea_model.specs.Content.{Content}
 use Rattle.ea_machine.specs.Actor.{Stage}
 use Rattle.ea_machine.specs.Contents.{hand_sum}
 use Rattle.ea_machine.specs.Names.{allocated, of_hand, only_at}
-use Rattle.ea_machine.specs.Nodes.{Named}
+use Rattle.ea_machine.specs.declared.nodes.Named.{Named}
 use Rattle.ea_machine.specs.Owners.{owner_of}
 use Rattle.ea_machine.specs.Places.{has_number, none}
 use Rattle.ea_machine.specs.Setup.{Setup, is_scheduler, migration}

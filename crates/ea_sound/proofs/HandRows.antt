@@ -8,7 +8,7 @@ use Rattle.ea_laws.specs.Kept.{IsLaidOut}
 use Rattle.ea_machine.specs.declared.nodes.Node.{Node}
 use Rattle.ea_machine.specs.declared.nodes.Node.TheVariants.{Carrier}
 use Rattle.ea_machine.specs.declared.owners.OwnerWord.{OwnerWord}
-use Rattle.ea_machine.specs.Nodes.{Named}
+use Rattle.ea_machine.specs.declared.nodes.Named.{Named}
 use Rattle.ea_laws.proofs.Standing.{released-IsLaidOut}
 use Rattle.ea_machine.specs.Actor.{Abandoning, Begin, Gone, Pushing, Routed, Sending, Settling, Stage, Trying, Why}
 use Rattle.ea_machine.specs.Contents.{InHand, hand_sum, home_sum, slots}

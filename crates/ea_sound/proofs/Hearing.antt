@@ -10,7 +10,8 @@ use Rattle.ea_machine.specs.Contents.{seats}
 use Rattle.ea_machine.specs.Heard.{HearsNoOther, NamesAnother, NamesEmployer, on_its_way}
 use Rattle.ea_machine.specs.Machine.{wants_at}
 use Rattle.ea_machine.specs.Names.{allocated, of_block, of_content, of_hand, of_node, only, only_at}
-use Rattle.ea_machine.specs.Nodes.{Named, same_spot}
+use Rattle.ea_machine.specs.Nodes.{same_spot}
+use Rattle.ea_machine.specs.declared.nodes.Named.{Named}
 use Rattle.ea_machine.specs.Owners.{CarrierAt, Absent, Employed, Pooled, Busy, Returning, same_word, word_of}
 use Rattle.ea_machine.specs.Rows.{Lost, Saw}
 use Rattle.ea_machine.specs.Setup.{Setup, is_scheduler}

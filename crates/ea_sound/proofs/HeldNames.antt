@@ -6,7 +6,8 @@ use Rattle.ea_model.specs.declared.carriers.Spot.{Spot}
 use Rattle.ea_model.specs.Keyed.{IsBelow}
 use Rattle.ea_model.proofs.Rising.{rising-entered}
 use Rattle.ea_machine.specs.NamePlaces.{name_of}
-use Rattle.ea_machine.specs.Nodes.{Named, with_name, without_name}
+use Rattle.ea_machine.specs.Nodes.{with_name, without_name}
+use Rattle.ea_machine.specs.declared.nodes.Named.{Named}
 use Rattle.ea_machine.specs.Sums.{one_if}
 use Rattle.ea_sound.proofs.KeyedWeights.{counts, sum-entered, sum-without_less, times, times-others}
 use Rattle.ea_sound.proofs.Weights.{one-itself}

@@ -11,7 +11,8 @@ use Rattle.ea_laws.specs.Kept.{number_of}
 use Rattle.ea_machine.specs.Actor.{Actor}
 use Rattle.ea_machine.specs.Contents.{actor_sum, hand_sum, seats}
 use Rattle.ea_machine.specs.Names.{allocated, of_content, only_at}
-use Rattle.ea_machine.specs.Nodes.{Named, named_at}
+use Rattle.ea_machine.specs.Nodes.{named_at}
+use Rattle.ea_machine.specs.declared.nodes.Named.{Named}
 use Rattle.ea_machine.specs.Setup.{Setup, is_scheduler}
 use Rattle.ea_machine.specs.State.{State}
 use Rattle.ea_sound.specs.Here.{Here}

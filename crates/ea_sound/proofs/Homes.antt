@@ -11,7 +11,7 @@ use Rattle.ea_machine.specs.Actor.{Actor}
 use Rattle.ea_machine.specs.Contents.{AtHome, actor_sum, home_sum, seats, slots, sum_everywhere}
 use Rattle.ea_machine.specs.Names.{of_content, of_named, only_at}
 use Rattle.ea_machine.specs.NodePlaces.{anywhere}
-use Rattle.ea_machine.specs.Nodes.{Named}
+use Rattle.ea_machine.specs.declared.nodes.Named.{Named}
 use Rattle.ea_machine.specs.Owners.{CarrierAt, Absent, Employed, Pooled, Busy, Returning}
 use Rattle.ea_machine.specs.Places.{has_number, is_there}
 use Rattle.ea_machine.specs.Setup.{Setup, migration}

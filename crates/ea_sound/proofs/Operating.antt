@@ -6,11 +6,13 @@ use Rattle.ea_model.specs.declared.carriers.Spot.{Spot}
 use Rattle.ea_model.specs.declared.entries.Entry.TheVariants as entry
 use Rattle.ea_model.specs.Instance.{creating, resizing_at}
 use Rattle.ea_model.proofs.Rising.{item_at-old}
-use Rattle.ea_machine.specs.Actor.{Actor, Ask, Begin, Stage}
+use Rattle.ea_machine.specs.Actor.{Actor, Begin, Stage}
+use Rattle.ea_machine.specs.declared.asks.Ask.{Ask}
 use Rattle.ea_machine.specs.Machine.{after}
 use Rattle.ea_machine.specs.NamePlaces.{name_of}
 use Rattle.ea_machine.specs.Names.{of_content, of_named, only}
-use Rattle.ea_machine.specs.Nodes.{Named, named_at}
+use Rattle.ea_machine.specs.Nodes.{named_at}
+use Rattle.ea_machine.specs.declared.nodes.Named.{Named}
 use Rattle.ea_machine.specs.Placements.{holding}
 use Rattle.ea_machine.specs.Reallocations.{resized_place}
 use Rattle.ea_machine.specs.Rows.{Answer}

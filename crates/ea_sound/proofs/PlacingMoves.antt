@@ -12,7 +12,8 @@ use Rattle.ea_model.proofs.Rising.{All-entered, item_at-All, item_at-key}
 use Rattle.ea_laws.specs.Kept.{number_of, own_number}
 use Rattle.ea_laws.specs.Spots.{HasGap}
 use Rattle.ea_laws.proofs.Apart.{changed-All}
-use Rattle.ea_machine.specs.Actor.{Actor, Ask, Begin}
+use Rattle.ea_machine.specs.Actor.{Actor, Begin}
+use Rattle.ea_machine.specs.declared.asks.Ask.{Ask}
 use Rattle.ea_machine.specs.NamePlaces.{name_of}
 use Rattle.ea_machine.specs.Names.{allocated, of_content, of_named, only}
 use Rattle.ea_machine.specs.Setup.{Setup, is_scheduler, migration}

@@ -17,10 +17,11 @@ use Rattle.ea_model.proofs.Options.{some_value}
 use Rattle.ea_laws.proofs.Keeping.{chosen-planned}
 use Rattle.ea_laws.specs.Kept.{Stands}
 use Rattle.ea_laws.proofs.Standing.{chosen-Stands, creating-Stands, creating_single-Stands}
-use Rattle.ea_machine.specs.Actor.{Actor, Ask, Gone, Route, Task, Moving, Why, For}
+use Rattle.ea_machine.specs.Actor.{Actor, Gone, Route, Task, Moving, Why, For}
+use Rattle.ea_machine.specs.declared.asks.Ask.{Ask}
 use Rattle.ea_machine.specs.Entries.{Makes}
 use Rattle.ea_machine.specs.Names.{made_in, unplaced_by}
-use Rattle.ea_machine.specs.Nodes.{Named}
+use Rattle.ea_machine.specs.declared.nodes.Named.{Named}
 use Rattle.ea_machine.specs.Places.{MayStay}
 use Rattle.ea_machine.specs.Sums.{one_if}
 use Rattle.ea_machine.specs.Placements.{created, created_by, holding, placed_at, placed_by, spot_of_place, stands}

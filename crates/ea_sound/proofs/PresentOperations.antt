@@ -15,12 +15,14 @@ use Rattle.ea_model.specs.Instance.{chosen_spot, decision_at, figures, is_alone,
 use Rattle.ea_model.specs.Units.{need_of}
 use Rattle.ea_model.proofs.Rising.{item_at-key}
 use Rattle.ea_laws.proofs.Keeping.{plan-IsPlanned}
-use Rattle.ea_laws.proofs.Steps.{need-even, need-least}
-use Rattle.ea_machine.specs.Actor.{Actor, Ask, Freeing}
+use Rattle.ea_model.proofs.Needs.{need-even, need-least}
+use Rattle.ea_machine.specs.Actor.{Actor, Freeing}
+use Rattle.ea_machine.specs.declared.asks.Ask.{Ask}
 use Rattle.ea_machine.specs.Entries.{Makes}
 use Rattle.ea_machine.specs.NamePlaces.{name_of}
 use Rattle.ea_machine.specs.Names.{made_in}
-use Rattle.ea_machine.specs.Nodes.{Named, named_at}
+use Rattle.ea_machine.specs.Nodes.{named_at}
+use Rattle.ea_machine.specs.declared.nodes.Named.{Named}
 use Rattle.ea_machine.specs.Operations.{freed, giving, itself}
 use Rattle.ea_machine.specs.Placements.{chosen_by, failed, holding, making, new_carrier, new_carrier_by, search_at, search_if, searched_by, seek, seek_by}
 use Rattle.ea_machine.specs.Reallocations.{reallocated, reallocated_by, resized_here, resized_place}

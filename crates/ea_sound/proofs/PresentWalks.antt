@@ -7,7 +7,7 @@ use Rattle.ea_machine.specs.Actor.{Actor, Gone, Stage, Begin, Routed, Collecting
 use Rattle.ea_machine.specs.Contents.{hand_sum}
 use Rattle.ea_machine.specs.Machine.{onward, onward_at}
 use Rattle.ea_machine.specs.Names.{unplaced, unplaced_by}
-use Rattle.ea_machine.specs.Nodes.{Named}
+use Rattle.ea_machine.specs.declared.nodes.Named.{Named}
 use Rattle.ea_machine.specs.Releases.{route_of}
 use Rattle.ea_machine.specs.Setup.{Setup}
 use Rattle.ea_machine.specs.Shared.{Shared}

@@ -19,7 +19,7 @@ use Rattle.ea_machine.specs.Abandonment.{is_due}
 use Rattle.ea_machine.specs.Actor.{Actor, Gone, Open, Here, Why}
 use Rattle.ea_machine.specs.Employment.{dismissing}
 use Rattle.ea_machine.specs.Names.{unplaced_by}
-use Rattle.ea_machine.specs.Nodes.{Named}
+use Rattle.ea_machine.specs.declared.nodes.Named.{Named}
 use Rattle.ea_machine.specs.Owners.{owner_of}
 use Rattle.ea_machine.specs.Releases.{Turned, abandoned_if, after_release, after_release_by, dismissed, disowned, first_gone, leaving, leaving_by, lightened, owned_by, release_here, route_of, routed, sent_to}
 use Rattle.ea_machine.specs.Setup.{Setup, is_scheduler, migration}

@@ -8,7 +8,7 @@ use Rattle.ea_machine.specs.declared.owners.OwnerWord.TheVariants as word
 use Rattle.ea_machine.specs.Actor.{Actor, Gone, Here as HereGone, Route, Looking, Trying, Settling, Abandoning, Sending, Clearing, Pushing, Linking, Begin, Routed, Ready, Why}
 use Rattle.ea_machine.specs.Contents.{hand_sum, seats, slots}
 use Rattle.ea_machine.specs.Machine.{wants_on}
-use Rattle.ea_machine.specs.Nodes.{Named}
+use Rattle.ea_machine.specs.declared.nodes.Named.{Named}
 use Rattle.ea_machine.specs.Owners.{CarrierAt, Absent, Employed, Pooled, Busy, Returning, owner_of, same_word, word_of}
 use Rattle.ea_machine.specs.Places.{has_number, none}
 use Rattle.ea_machine.specs.Releases.{disowned, first_gone}

@@ -13,7 +13,7 @@ use Rattle.ea_machine.specs.Actor.{Actor, Gone, Route, Looking, Trying, Settling
 use Rattle.ea_machine.specs.Contents.{home_sum, slots}
 use Rattle.ea_machine.specs.Machine.{wants_on}
 use Rattle.ea_machine.specs.Names.{of_hand, only_at, unplaced_by}
-use Rattle.ea_machine.specs.Nodes.{Named}
+use Rattle.ea_machine.specs.declared.nodes.Named.{Named}
 use Rattle.ea_machine.specs.Owners.{CarrierAt, Absent, Employed, Pooled, Busy, Returning, owner_of, same_word, word_of}
 use Rattle.ea_machine.specs.Releases.{Turned, employed_by, looked, pooled_by, sent_to, settled, tried, turned}
 use Rattle.ea_machine.specs.Setup.{Setup, is_scheduler, migration}

@@ -10,13 +10,15 @@ use Rattle.ea_laws.specs.Kinds.{is_shared}
 use Rattle.ea_machine.specs.declared.nodes.Node.{Node}
 use Rattle.ea_machine.specs.declared.owners.OwnerWord.{OwnerWord}
 use Rattle.ea_machine.specs.declared.owners.OwnerWord.TheVariants as word
-use Rattle.ea_machine.specs.Actor.{Actor, Ask, Begin, Collecting, Creating, Ended, Fetching, Giving, Gone, Ready, Route, Routed, Searching, Stage, Taking, Why, Walk, For}
+use Rattle.ea_machine.specs.Actor.{Actor, Begin, Collecting, Creating, Ended, Fetching, Giving, Gone, Ready, Route, Routed, Searching, Stage, Taking, Why, Walk, For}
+use Rattle.ea_machine.specs.declared.asks.Ask.{Ask}
 use Rattle.ea_machine.specs.Contents.{hand_sum, home_sum, seats, slots}
 use Rattle.ea_machine.specs.Employment.{employing}
 use Rattle.ea_machine.specs.Machine.{begins, wants_at, wants_on}
 use Rattle.ea_machine.specs.Names.{allocated, made_in, of_content, of_mark, only, unplaced}
 use Rattle.ea_machine.specs.NodePlaces.{of_carrier_mark, of_unlinked}
-use Rattle.ea_machine.specs.Nodes.{Mark, Named, first_node, named_at}
+use Rattle.ea_machine.specs.Nodes.{Mark, first_node, named_at}
+use Rattle.ea_machine.specs.declared.nodes.Named.{Named}
 use Rattle.ea_machine.specs.Owners.{CarrierAt, Absent, Employed, Pooled, Busy, Returning, same_word, word_of}
 use Rattle.ea_machine.specs.Placements.{holding}
 use Rattle.ea_machine.specs.Releases.{disowned}

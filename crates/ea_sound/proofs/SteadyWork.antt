@@ -16,10 +16,12 @@ use Rattle.ea_model.specs.Units.{need_of}
 use Rattle.ea_machine.specs.declared.nodes.Node.{Node}
 use Rattle.ea_machine.specs.declared.nodes.Node.TheVariants.{Block, Carrier}
 use Rattle.ea_machine.specs.declared.owners.OwnerWord.{OwnerWord}
-use Rattle.ea_machine.specs.Actor.{Actor, Ask, Freeing, Moving, Gone, Route, Stage, Begin, Routed, Collecting, Searching, Fetching, Creating, Giving, Taking, Ended, Ready, Task, Why, Walk, For}
+use Rattle.ea_machine.specs.Actor.{Actor, Freeing, Moving, Gone, Route, Stage, Begin, Routed, Collecting, Searching, Fetching, Creating, Giving, Taking, Ended, Ready, Task, Why, Walk, For}
+use Rattle.ea_machine.specs.declared.asks.Ask.{Ask}
 use Rattle.ea_machine.specs.Employment.{employing}
 use Rattle.ea_machine.specs.Machine.{after, after_row, onward_at}
-use Rattle.ea_machine.specs.Nodes.{Named, named_at}
+use Rattle.ea_machine.specs.Nodes.{named_at}
+use Rattle.ea_machine.specs.declared.nodes.Named.{Named}
 use Rattle.ea_machine.specs.Operations.{freed, gave, giving, itself, took, took_by}
 use Rattle.ea_machine.specs.Placements.{chosen_by, counted, created_by, fetched, fits, holding, making, new_carrier, new_carrier_by, placed_by, placed_in_choice, saw_by, search_at, search_if, searched, searched_by, seek, seek_by, stands}
 use Rattle.ea_machine.specs.Reallocations.{reallocated, reallocated_by}

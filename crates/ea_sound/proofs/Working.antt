@@ -16,11 +16,13 @@ use Rattle.ea_model.specs.Units.{need_of}
 use Rattle.ea_model.proofs.Options.{some_value}
 use Rattle.ea_model.proofs.Rising.{item_at-key}
 use Rattle.ea_laws.proofs.Keeping.{chosen-planned}
-use Rattle.ea_laws.proofs.Steps.{need-even, need-least}
+use Rattle.ea_model.proofs.Needs.{need-even, need-least}
 use Rattle.ea_machine.specs.declared.owners.OwnerWord.{OwnerWord}
-use Rattle.ea_machine.specs.Actor.{Actor, Ask, Stage, Begin, Searching, Fetching, Creating, Giving, Taking, Ended, Freeing, Moving}
+use Rattle.ea_machine.specs.Actor.{Actor, Stage, Begin, Searching, Fetching, Creating, Giving, Taking, Ended, Freeing, Moving}
+use Rattle.ea_machine.specs.declared.asks.Ask.{Ask}
 use Rattle.ea_machine.specs.NamePlaces.{name_of}
-use Rattle.ea_machine.specs.Nodes.{Named, named_at}
+use Rattle.ea_machine.specs.Nodes.{named_at}
+use Rattle.ea_machine.specs.declared.nodes.Named.{Named}
 use Rattle.ea_machine.specs.Operations.{freed, giving, itself}
 use Rattle.ea_machine.specs.Placements.{chosen_by, created, failed, holding, making as making_by, placed_at, placed_by, created_by, placed_in_choice, new_carrier, new_carrier_by, saw_by, search_at, search_if, searched_by, seek, seek_by, spot_of_place, stands}
 use Rattle.ea_machine.specs.Reallocations.{reallocated, reallocated_by, resized_here}

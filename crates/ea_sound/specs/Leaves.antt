@@ -7,7 +7,8 @@ use Rattle.ea_model.specs.Instance.{chosen_spot, creating, creating_single, plac
 use Rattle.ea_machine.specs.declared.nodes.Node.TheVariants.{Carrier}
 use Rattle.ea_machine.specs.declared.owners.OwnerWord.{OwnerWord}
 use Rattle.ea_machine.specs.declared.owners.OwnerWord.TheVariants as word
-use Rattle.ea_machine.specs.Actor.{Actor, Ask, Gone, Here as HereGone, Route, Looking, Trying, Settling, Abandoning, Sending, Clearing, Pushing, Linking, Stage, Begin, Routed, Collecting, Searching, Fetching, Creating, Giving, Taking, Ended, Ready, Why, Walk, For}
+use Rattle.ea_machine.specs.Actor.{Actor, Gone, Here as HereGone, Route, Looking, Trying, Settling, Abandoning, Sending, Clearing, Pushing, Linking, Stage, Begin, Routed, Collecting, Searching, Fetching, Creating, Giving, Taking, Ended, Ready, Why, Walk, For}
+use Rattle.ea_machine.specs.declared.asks.Ask.{Ask}
 use Rattle.ea_machine.specs.Employment.{employing}
 use Rattle.ea_machine.specs.Names.{allocated, made_in, only}
 use Rattle.ea_machine.specs.Owners.{owner_of}

@@ -6,20 +6,10 @@ use Rattle.ea_flags.specs.declared.fault.FlagFault.{FlagFault}
 use Rattle.ea_flags.specs.Flags.{flags}
 use Rattle.ea_model.specs.declared.settings.Config.{Config}
 use Rattle.ea_model.specs.declared.trace.Trace.{Trace}
-use Rattle.ea_model.specs.declared.entries.Entry.{Entry}
 use Rattle.ea_model.specs.Words as model
-use Rattle.ea_report.specs.Text.{line, entry_text, carrier_text, totals_text}
+use Rattle.ea_report.specs.Text.{outcome_text}
 use Rattle.ea_trace.specs.Language.{trace}
-use Rattle.ea_machine.specs.Outcome.{Outcome, outcome_of}
-
--- the logs of schedulers from that number on
-abbrev pub logs_text : ℕ → List (List Entry) → List ℕ
-logs_text i [] = []
-logs_text i (log ∷ logs) = line (codes "scheduler") (decimal i ∷ []) ++ flat_map entry_text log
-    ++ logs_text (i + 1) logs
-
-abbrev pub outcome_text : Outcome → List ℕ
-outcome_text o = logs_text 1 o.logs ++ flat_map carrier_text o.carriers ++ totals_text o.totals
+use Rattle.ea_machine.specs.Outcome.{outcome_of}
 
 -- once the turns of the schedule are taken, each scheduler goes on until it has ended
 abbrev pub trace_text : Config → Trace → List ℕ

@@ -14,7 +14,8 @@ use Rattle.ea_machine.specs.declared.owners.OwnerWord.{OwnerWord}
 use Rattle.ea_machine.specs.Actor.{Actor}
 use Rattle.ea_machine.specs.Completion.{turns_in}
 use Rattle.ea_machine.specs.Machine.{run, wants}
-use Rattle.ea_machine.specs.Nodes.{Mark, Named}
+use Rattle.ea_machine.specs.Nodes.{Mark}
+use Rattle.ea_machine.specs.declared.nodes.Named.{Named}
 use Rattle.ea_machine.specs.Outcome.{totals_of, present}
 use Rattle.ea_machine.specs.Owners.{word_of}
 use Rattle.ea_machine.specs.Rows.{Row}

@@ -7,7 +7,8 @@ use Rattle.ea_model.specs.Content.{Content}
 use Rattle.ea_model.specs.Words.{words}
 use Rattle.ea_machine.specs.declared.nodes.Node.{Node}
 use Rattle.ea_machine.specs.declared.nodes.Node.TheVariants.{Block}
-use Rattle.ea_machine.specs.Nodes.{Mark, Named}
+use Rattle.ea_machine.specs.Nodes.{Mark}
+use Rattle.ea_machine.specs.declared.nodes.Named.{Named}
 use Rattle.ea_trials_moments.specs.Moments.{Moment, moment}
 
 -- the operations, and a schedule of these turns

@@ -7,7 +7,7 @@ use Rattle.ea_model.specs.Instance.{Instance, chosen_spot, plan}
 use Rattle.ea_machine.specs.Exhausted.{IsExhausted, IsFailOf, seen_since}
 use Rattle.ea_machine.specs.Machine.{run}
 use Rattle.ea_machine.specs.Needs.{AsksFor}
-use Rattle.ea_machine.specs.Nodes.{Named}
+use Rattle.ea_machine.specs.declared.nodes.Named.{Named}
 use Rattle.ea_machine.specs.Searches.{Searched, Sight}
 use Rattle.ea_machine.specs.Setup.{Setup, greatest_number, migration}
 use Rattle.ea_machine.specs.Turns.{IsBegun, actor_after, begun, log_after}

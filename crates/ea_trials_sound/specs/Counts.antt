@@ -12,7 +12,8 @@ use Rattle.ea_machine.specs.Actor.{Actor}
 use Rattle.ea_machine.specs.Contents.{actor_sum, seats, sum_everywhere}
 use Rattle.ea_machine.specs.Names.{allocated, only, only_at, standing, to_make}
 use Rattle.ea_machine.specs.NodePlaces.{anywhere, at_instance, before_link, carrier_nodes, is_returning, unlinked_at}
-use Rattle.ea_machine.specs.Nodes.{Named, same_spot}
+use Rattle.ea_machine.specs.Nodes.{same_spot}
+use Rattle.ea_machine.specs.declared.nodes.Named.{Named}
 use Rattle.ea_machine.specs.Outcome.{outcome, place_of}
 use Rattle.ea_machine.specs.Owners.{CarrierAt, Absent, Employed, Pooled, Busy, Returning, owner_of}
 use Rattle.ea_machine.specs.Places.{busy_count, employed_count, has_number, is_there, owned_as, same_own}

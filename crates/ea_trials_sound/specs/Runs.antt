@@ -2,7 +2,7 @@
 use Rattle.std.specs.Prelude.{ℕ, List, [], ◌∷◌, ◌++◌, Option, codes}
 use Rattle.ea_model.specs.declared.carriers.OwnCarrier.{OwnCarrier}
 use Rattle.ea_model.specs.Words.{words}
-use Rattle.ea_machine.specs.Nodes.{Named}
+use Rattle.ea_machine.specs.declared.nodes.Named.{Named}
 use Rattle.ea_trials_moments.specs.Moments.{Moment, moment}
 use Rattle.ea_trials_moments.specs.Runs.{forwarded_block, named, pooled_twice, returned_carrier, scheduled, two_freed}
 use Rattle.ea_trials_sound.specs.Counts.{Seen}

@@ -3,7 +3,7 @@ use Rattle.ea_model.specs.Content.{is_empty_multi}
 use Rattle.ea_model.specs.Strategies.{candidates, inspected_by, large_enough, lower, takes_first}
 use Rattle.ea_model.proofs.First.{first-IsFirst}
 use Rattle.ea_laws.proofs.Orders.{lower-order, takes_first-order}
-use Rattle.ea_laws.proofs.Placements.{taken-first}
+use Rattle.ea_laws.proofs.Taken.{taken-first}
 use Rattle.ea_laws.proofs.Refusals.{choice-none, choice-none_at_all}
 use Rattle.ea_laws.proofs.choices.choices.Goals as goal
 
