@@ -11,7 +11,7 @@ use Rattle.ea_machine.specs.Setup.{Setup}
 use Rattle.ea_machine.specs.Actor.{Actor}
 use Rattle.ea_machine.specs.State.{State}
 use Rattle.ea_machine.specs.Machine.{run}
-use Rattle.ea_machine.specs.Turns.{IsBegun, advanced, begun, log_after}
+use Rattle.ea_machine.specs.Turns.{IsBegun, actor_after, begun, log_after}
 use Rattle.ea_machine.specs.Chosen.{IsPlacement, IsResized}
 use Rattle.ea_machine.specs.Exhausted.{IsExhausted}
 
@@ -44,30 +44,34 @@ pub record LogsEach (setup : Setup) (state : State) (i : ℕ) : Type 0 where
   pub split : setup.texts i ≡ done ++ (state.actors i).todo
   pub each : AllZip Makes done (state.actors i).log
 
--- the name isn't held when the operation itself begins, in this step
-pub record IsSkipped (setup : Setup) (state : State) (s name : ℕ) : Type 0 where
-  pub begins : IsBegun setup state s
-  pub absent : named_at name (advanced setup state s).held ≡ None
+-- the name isn't held when the operation itself begins, in the step of s after the steps `turns`; and
+-- s employs, owns and holds after this step what it did then
+pub record IsSkipped (setup : Setup) (turns : List ℕ) (s name : ℕ) : Type 0 where
+  pub begins : IsBegun setup (run setup turns) s
+  pub absent : named_at name (begun setup turns s).held ≡ None
+  pub instance : (actor_after setup (turns ++ s ∷ []) s).instance
+      ≡ (begun setup turns s).instance
+  pub held : (actor_after setup (turns ++ s ∷ []) s).held ≡ (begun setup turns s).held
 
 -- what an entry tells, which s made in its step after the steps `turns`: a block was placed where the
 -- strategy chooses, or in a carrier of its own; a block keeps its spot; no place was found; a name
--- isn't held
+-- isn't held, and nothing changes
 abbrev pub Tells : Setup → List ℕ → ℕ → Entry → Type 0
 Tells setup turns s (entry.Alloc name place) = IsPlacement setup turns s place
 Tells setup turns s (entry.AllocFail name need looked why) =
     IsExhausted setup turns s (entry.AllocFail name need looked why) need looked why
 Tells setup turns s (entry.Free name) = Unit {0}
 Tells setup turns s (entry.FreeQueued name to) = Unit {0}
-Tells setup turns s (entry.FreeSkipped name) = IsSkipped setup (run setup turns) s name
+Tells setup turns s (entry.FreeSkipped name) = IsSkipped setup turns s name
 Tells setup turns s (entry.ReallocHere old fresh place) =
     IsResized setup (run setup turns) s old place
 Tells setup turns s (entry.ReallocMoved old fresh place) = IsPlacement setup turns s place
 Tells setup turns s (entry.ReallocQueued old fresh place to) = IsPlacement setup turns s place
 Tells setup turns s (entry.ReallocFail old fresh need looked why) =
     IsExhausted setup turns s (entry.ReallocFail old fresh need looked why) need looked why
-Tells setup turns s (entry.ReallocSkipped old fresh) = IsSkipped setup (run setup turns) s old
+Tells setup turns s (entry.ReallocSkipped old fresh) = IsSkipped setup turns s old
 Tells setup turns s (entry.Give name to) = Unit {0}
-Tells setup turns s (entry.GiveSkipped name to) = IsSkipped setup (run setup turns) s name
+Tells setup turns s (entry.GiveSkipped name to) = IsSkipped setup turns s name
 Tells setup turns s (entry.Take name) = Unit {0}
 Tells setup turns s (entry.TakeAbsent name tries) = Unit {0}
 Tells setup turns s (entry.Info mbcs sbcs) = Unit {0}

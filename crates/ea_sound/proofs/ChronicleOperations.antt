@@ -15,7 +15,7 @@ use Rattle.ea_model.proofs.Rising.{item_at-key}
 use Rattle.ea_machine.specs.Actor.{Actor, Ready, Freeing}
 use Rattle.ea_machine.specs.declared.asks.Ask.{Ask}
 use Rattle.ea_machine.specs.Chosen.{AtOnce, Had}
-use Rattle.ea_machine.specs.Entries.{Makes}
+use Rattle.ea_machine.specs.Entries.{IsSkipped, Makes}
 use Rattle.ea_machine.specs.NamePlaces.{name_of}
 use Rattle.ea_machine.specs.Needs.{AsksFor, HasNeed, IsToMove}
 use Rattle.ea_machine.specs.Nodes.{named_at}
@@ -25,7 +25,7 @@ use Rattle.ea_machine.specs.Placements.{chosen_by, holding, new_carrier, search_
 use Rattle.ea_machine.specs.Reallocations.{reallocated, reallocated_by, resized_here, resized_place}
 use Rattle.ea_machine.specs.Setup.{Setup, greatest_number, migration}
 use Rattle.ea_machine.specs.Statistics.{employed_multis, employed_singles, observed, report, reported, restarted}
-use Rattle.ea_machine.specs.Tasks.{let_go}
+use Rattle.ea_machine.specs.Tasks.{let_go, logged}
 use Rattle.ea_machine.specs.Turns.{actor_after, begun}
 use Rattle.ea_sound.specs.Present.{OfAsk, OfTask}
 use Rattle.ea_sound.proofs.Chronicle.{IsOfFirst}
@@ -33,7 +33,7 @@ use Rattle.ea_sound.proofs.Orderly.{resizing-fixed}
 use Rattle.ea_sound.proofs.ShortRoutes.{Keeps}
 use Rattle.ea_sound.proofs.Weights.{sum_by-sum_over}
 use Rattle.ea_machine.specs.Sums.{one_if}
-use Rattle.ea_sound.proofs.ChroniclePlaces.{Fine as IsFine, choice-fine, logged-fine, planned-fine, search-fine, task-fine, big, little, fails}
+use Rattle.ea_sound.proofs.ChroniclePlaces.{Fine as IsFine, IsNow, choice-fine, logged-fine, planned-fine, search-fine, task-fine, big, little, fails}
 
 module _ (e : Setup) (L : List ℕ) (me : ℕ) where
   abbrev acting : Actor
@@ -107,6 +107,16 @@ module _ (e : Setup) (L : List ℕ) (me : ℕ) where
         → IsOfFirst acting.todo x
     first-is o ops x q m = record { first = o; others = ops; is = sym k.1 ∙ q; makes = m }
 
+    -- an operation whose name isn't held
+    skipped : (n : ℕ) (x : Entry) → named_at n mid.held ≡ None → IsNow e L me (logged x mid)
+        → IsSkipped e L me n
+    skipped n x i now = record {
+      begins = ready;
+      absent = i;
+      instance = sym (ap (λ (a : Actor). a.instance) now);
+      held = sym (ap (λ (a : Actor). a.held) now);
+    }
+
     -- a reallocation
     module _ (old fresh bytes : ℕ) (ops : List Op)
         (todo : mid.todo ≡ op.Realloc old fresh bytes ∷ ops) where
@@ -152,14 +162,14 @@ module _ (e : Setup) (L : List ℕ) (me : ℕ) where
           → Fine (reallocated e me old fresh (need_of bytes) mid h)
       realloc-fine None i = logged-fine e L me set (entry.ReallocSkipped old fresh) mid k
           (first-is (op.Realloc old fresh bytes) ops _ todo (refl, refl))
-          (λ now. record { begins = ready; absent = i })
+          (skipped old (entry.ReallocSkipped old fresh) i)
       realloc-fine (Some h) i = decided-fine h (decision_at mid.instance h.spot (need_of bytes)) i
           (item_at-key name_of old h mid.held i) refl
 
     free-fine : (n : ℕ) (ops : List Op) (h : Option Named) → mid.todo ≡ op.Free n ∷ ops
         → named_at n mid.held ≡ h → Fine (freed e me n mid h)
     free-fine n ops None q i = logged-fine e L me set (entry.FreeSkipped n) mid k
-        (first-is (op.Free n) ops _ q refl) (λ now. record { begins = ready; absent = i })
+        (first-is (op.Free n) ops _ q refl) (skipped n (entry.FreeSkipped n) i)
     free-fine n ops (Some h) q i = task-fine e L me set (Freeing n) h mid k
         (subst (OfTask (Freeing n)) (sym q ∙ k.1) refl) tt
 
@@ -167,7 +177,7 @@ module _ (e : Setup) (L : List ℕ) (me : ℕ) where
         → named_at n mid.held ≡ h → Fine (giving n to mid h)
     give-fine n to ops None q i = logged-fine e L me set (entry.GiveSkipped n to) mid k
         (first-is (op.Give n to) ops _ q (refl, refl))
-        (λ now. record { begins = ready; absent = i })
+        (skipped n (entry.GiveSkipped n to) i)
     give-fine n to ops (Some h) q i = (
       (ops, q ∙ ap (λ m. op.Give m to ∷ ops) (sym (item_at-key name_of n h mid.held i))),
       k.2 ∙ set,
