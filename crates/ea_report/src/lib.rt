@@ -1,4 +1,4 @@
-//! Writes the output text: the log of a scheduler, the carriers at the end of a run, and the
+//! Writes the output text of a run: the log of each scheduler, the carriers at its end, and the
 //! totals.
 #![tactic(auto)]
 

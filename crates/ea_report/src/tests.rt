@@ -1,7 +1,12 @@
-//! The line of each kind of entry, and the words of carriers.
+//! The line of each kind of entry, the words of carriers, and whole texts.
 use crate::carriers::put_carrier;
 use crate::entries::put_entry;
-use ea_model::{CarrierLine, Entry, Kind, List, NoCarrier, Place, Report, Standing, Triple};
+use crate::print;
+use ea_model::{
+    CarrierLine, Entry, Kind, List, Mode, NoCarrier, OutOfMemory, Outcome, Place, Report, Standing,
+    Totals, Triple,
+};
+use std::alloc::Global;
 use std::test::Fail;
 
 // Three figures from `first` on.
@@ -177,6 +182,99 @@ fn a_carrier_has_its_kind_and_its_standing(rt: HostRuntime) -> Result<(), Fail> 
         let mut text = List::new(rt.alloc());
         put_carrier(&mut text, carrier)?;
         assert_eq!(rt; text.as_slice(), line.as_bytes(), "of {kind:?} {word:?}");
+    }
+    Ok(())
+}
+
+// The outcome of a run with these logs, which left these carriers.
+fn outcome(
+    alloc: Global,
+    logs: &[&[Entry]],
+    carriers: &[CarrierLine],
+) -> Result<Outcome, OutOfMemory> {
+    let mut outcome = Outcome {
+        logs: List::new(alloc),
+        carriers: List::new(alloc),
+        totals: Totals {
+            carriers: 1,
+            units: 16_384,
+            live: 14,
+            queued: 28,
+            free: 16_334,
+            header: 8,
+        },
+        mode: Mode::Threads,
+    };
+    for log in logs {
+        let mut entries = List::new(alloc);
+        entries.extend_from_slice(log)?;
+        outcome.logs.push(entries)?;
+    }
+    outcome.carriers.extend_from_slice(carriers)?;
+    Ok(outcome)
+}
+
+const PLACED: &[Entry] = &[
+    Entry::Alloc {
+        name: 1,
+        place: Place {
+            carrier: 1,
+            offset: 8,
+            size: 14,
+        },
+    },
+    Entry::Idle,
+];
+
+const FREED: &[Entry] = &[
+    Entry::Take { name: 5 },
+    Entry::FreeQueued { name: 5, to: 1 },
+    Entry::FreeSkipped { name: 5 },
+];
+
+const CARRIER: CarrierLine = CarrierLine {
+    number: 1,
+    kind: Kind::Multi,
+    owner: 1,
+    word: Standing::Employed,
+    employer: 2,
+    base: 0,
+    pages: 32,
+    allocated: 42,
+    largest: 16_300,
+};
+
+#[test]
+fn each_log_stands_after_the_number_of_its_scheduler(rt: HostRuntime) -> Result<(), Fail> {
+    let cases: [(&[&[Entry]], &[CarrierLine], &str); 3] = [
+        (
+            &[PLACED, FREED],
+            &[CARRIER],
+            "scheduler 1\nalloc 1 1 8 14\nidle\n\
+            scheduler 2\ntake 5 got\nfree 5 queued 1\nfree 5 skipped\n\
+            carrier 1 multi owner 1 employed 2 base 0 pages 32 allocated 42 largest 16300\n\
+            total carriers 1 units 16384 live 14 queued 28 free 16334 header 8\n",
+        ),
+        (
+            &[FREED, PLACED],
+            &[CARRIER, CARRIER],
+            "scheduler 1\ntake 5 got\nfree 5 queued 1\nfree 5 skipped\n\
+            scheduler 2\nalloc 1 1 8 14\nidle\n\
+            carrier 1 multi owner 1 employed 2 base 0 pages 32 allocated 42 largest 16300\n\
+            carrier 1 multi owner 1 employed 2 base 0 pages 32 allocated 42 largest 16300\n\
+            total carriers 1 units 16384 live 14 queued 28 free 16334 header 8\n",
+        ),
+        (
+            &[&[], &[], PLACED],
+            &[],
+            "scheduler 1\nscheduler 2\nscheduler 3\nalloc 1 1 8 14\nidle\n\
+            total carriers 1 units 16384 live 14 queued 28 free 16334 header 8\n",
+        ),
+    ];
+    for (logs, carriers, text) in cases {
+        let outcome = outcome(rt.alloc(), logs, carriers)?;
+        let printed = print(rt.alloc(), &outcome)?;
+        assert_eq!(rt; printed.as_slice(), text.as_bytes());
     }
     Ok(())
 }

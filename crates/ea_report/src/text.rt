@@ -1,25 +1,22 @@
 //! The whole text.
-ghost use Rattle.std.specs.Prelude.{◌≡◌, ◌<◌, ◌+◌, ◌^◌, ◌++◌, IfOk, OnOk, length, map};
+ghost use Rattle.std.specs.Prelude.{◌≡◌, ◌++◌, IfOk, OnOk, map};
 ghost use Rattle.ea_report.specs.Text.{logs_text, outcome_text};
 
 use crate::carriers::{put_carriers, put_totals};
 use crate::entries::put_log;
-use crate::lines::Word::Number;
+use crate::lines::Word::Sum;
 use crate::lines::put_line;
-use ea_model::{Entry, List, MAX_SCHEDULERS, Outcome, OutOfMemory};
+use ea_model::{Entry, List, OutOfMemory, Outcome};
 use std::alloc::Global;
 
 /// Adds the logs, each after a line with the number of its scheduler.
 fn put_logs(text: &mut List<u8>, logs: &[List<Entry>]) -> Result<(), OutOfMemory>
-    requires { length logs.now < 2 ^ 32 }
     ensures { OnOk result
         (text.new.items ≡ text.old.items ++ logs_text 1 (map (λ log. log.items) logs.now)) }
 {
-    let mut scheduler = 1;
-    for log in logs {
-        put_line(text, "scheduler", &[Number(scheduler)])?;
+    for (index, log) in logs.iter().enumerate() {
+        put_line(text, "scheduler", &[Sum(index as u64 + 1)])?;
         put_log(text, log.as_slice())?;
-        scheduler += 1;
     }
     Ok(())
 }
@@ -27,7 +24,6 @@ fn put_logs(text: &mut List<u8>, logs: &[List<Entry>]) -> Result<(), OutOfMemory
 /// The output text: the log of each scheduler, the carriers by rising number and the totals.
 /// An `Err` says that there was no memory.
 pub fn print(alloc: Global, outcome: &Outcome) -> Result<List<u8>, OutOfMemory>
-    requires { length outcome.now.logs.items < 2 ^ 32 }
     ensures { IfOk result (λ printed. printed.items ≡ outcome_text outcome.now) }
 {
     let mut text = List::new(alloc);
