@@ -1,1 +1,3 @@
 pub mod NamesTable
+pub mod PresentCarriers
+pub mod PresentNumbers

@@ -1,0 +1,196 @@
+-- Where carriers don't migrate, those that are there are those that the instances employ.
+use Rattle.std.proofs.Common.{◌≡◌, ℕ, ◌+◌, ◌<◌, ◌≤◌, Bool, true, false, List, [], ◌∷◌, ◌++◌, map, map-id, get_or, refl, sym, ap, ◌∙◌, subst, arith}
+use Rattle.std.specs.Prelude.{Option, None, Some, All, filter, flat_map, is_some, not}
+use Rattle.std.specs.Option.{option_or}
+use Rattle.std.specs.List.{range_with_len}
+use Rattle.std.proofs.lemmas.Bool.{false≢true}
+use Rattle.std.proofs.lemmas.List.Elements.{All-head, All-tail}
+use Rattle.std.proofs.lemmas.List.Folds.{find-append}
+use Rattle.ea_model.specs.declared.carriers.OwnCarrier.{OwnCarrier}
+use Rattle.ea_model.specs.declared.carriers.Standing.TheVariants as standing
+use Rattle.ea_model.specs.Content.{Content}
+use Rattle.ea_model.specs.Instance.{Instance, carrier_line, content_of, employed, first_number, is_used, own_at, own_of}
+use Rattle.ea_model.specs.Keyed.{has_key, merged}
+use Rattle.ea_model.proofs.Merged.{merged-All, merged-first, merged-second}
+use Rattle.ea_model.proofs.Options.{is_some-map}
+use Rattle.ea_model.proofs.Pairs.{all_unmap}
+use Rattle.ea_model.proofs.Rising.{item_at-map}
+use Rattle.ea_laws.specs.Kept.{HasNumberIn, IsRising, Stands, number_of, own_number}
+use Rattle.ea_machine.specs.Actor.{Actor, Route, Looking, Trying, Settling, Abandoning, Sending, Clearing, Pushing, Linking, Stage, Begin, Routed, Collecting, Searching, Fetching, Creating, Giving, Taking, Ended, Ready}
+use Rattle.ea_machine.specs.Outcome.{Present, line_of, owned_place, place_in, place_of, present, present_at, present_if}
+use Rattle.ea_machine.specs.Owners.{owner_of}
+use Rattle.ea_machine.specs.Setup.{Setup, is_scheduler, migration}
+use Rattle.ea_machine.specs.State.{State}
+use Rattle.ea_machine.specs.Statistics.{employed_multis, employed_singles, is_single, leaving_at, leaving_on}
+use Rattle.ea_sound.specs.Present.{Fits, FitsRoute, Rule}
+use Rattle.ea_sound.specs.Rule.{Belongs, Standing}
+use Rattle.ea_sound.proofs.Created.{scheduler-number}
+use Rattle.ea_sound.proofs.Plans.{numbered-owner}
+use Rattle.ea_sound.proofs.SoundRanges.{number-scheduler}
+use Rattle.ea_sched.proofs.PresentNumbers.{HasKeyIn, all-items, each-range, flat_map-same, if_there, in-parts, map-flat_map}
+
+-- of two lists as one, one after the other or by rising number, the same item is found
+found-merged : (xs ys : List Content) (c : ℕ) → IsRising (merged number_of xs ys)
+    → content_of (xs ++ ys) c ≡ content_of (merged number_of xs ys) c
+found-merged xs ys c once = find-append (has_key number_of c) xs ys ∙ by (content_of xs c) refl
+  where
+    by : (o : Option Content) → content_of xs c ≡ o
+        → option_or (content_of xs c) (content_of ys c) ≡ content_of (merged number_of xs ys) c
+    by None none = ap (λ o. option_or o (content_of ys c)) none
+        ∙ sym (merged-second number_of c xs ys none)
+    by (Some x) there = ap (λ o. option_or o (content_of ys c)) there
+        ∙ sym (merged-first number_of c x xs ys once there)
+
+-- a carrier that instance i owns and employs
+abbrev pub at_home : ℕ → Content → Present
+at_home i x = record { content = x; word = standing.Employed; employer = i }
+
+contents-home : (i : ℕ) (xs : List Content) → map (λ p. p.content) (map (at_home i) xs) ≡ xs
+contents-home i [] = refl
+contents-home i (x ∷ xs) = ap (λ ys. x ∷ ys) (contents-home i xs)
+
+line-home : (i : ℕ) (x : Content) → x.owner ≡ i → line_of (at_home i x) ≡ carrier_line x
+line-home i x own = ap (λ k. line_of (at_home k x)) (sym own)
+
+lines-home : (i : ℕ) (xs : List Content) → All (λ x. x.owner ≡ i) xs
+    → map line_of (map (at_home i) xs) ≡ map carrier_line xs
+lines-home i [] own = refl
+lines-home i (x ∷ xs) own =
+    ap (λ l. l ∷ map line_of (map (at_home i) xs))
+    (line-home i x (All-head (λ x. x.owner ≡ i) x xs own))
+    ∙ ap (λ ls. carrier_line x ∷ ls) (lines-home i xs (All-tail (λ x. x.owner ≡ i) x xs own))
+
+module _ (e : Setup) (w : State) (rule : Rule e w) (off : migration e ≡ false) where
+  not_on : migration e ≡ true → ⊥
+  not_on on = false≢true (sym off ∙ on)
+
+  route-leaves_none : (i : ℕ) (r : Route) → FitsRoute e w.shared i r → leaving_on r ≡ []
+  route-leaves_none i (Looking hand) fits = refl
+  route-leaves_none i (Trying hand seen) fits = refl
+  route-leaves_none i (Settling x) fits = refl
+  route-leaves_none i (Abandoning x) fits = absurd (not_on fits.2)
+  route-leaves_none i (Sending x) fits = absurd (not_on fits.3)
+  route-leaves_none i (Clearing x) fits = absurd (not_on fits.3)
+  route-leaves_none i (Pushing node to) fits = refl
+  route-leaves_none i (Linking node to) fits = refl
+
+  -- no carrier is on its way from its employer
+  leaves-none : (i : ℕ) (a : Actor) (s : Stage) → Fits e w i a s → leaving_at s ≡ []
+  leaves-none i a Begin fits = refl
+  leaves-none i a (Routed r why gone) fits = route-leaves_none i r fits.0
+  leaves-none i a (Collecting number) fits = refl
+  leaves-none i a (Searching ask at looked) fits = refl
+  leaves-none i a (Fetching ask at looked seen) fits = refl
+  leaves-none i a (Creating ask p) fits = refl
+  leaves-none i a (Giving given to) fits = refl
+  leaves-none i a (Taking name tries left) fits = refl
+  leaves-none i a Ended fits = refl
+  leaves-none i a Ready fits = refl
+
+  -- the carriers of a scheduler
+  module _ (i : ℕ) (is : is_scheduler e i ≡ true) where
+    abbrev a : Actor
+    a = w.actors i
+
+    abbrev j : Instance
+    j = a.instance
+
+    stands : Stands j
+    stands = rule.present.stands off i is
+
+    standing_at : Standing e i j
+    standing_at = rule.kept.ranges.instances i is
+
+    listed : employed_multis a ++ employed_singles a ≡ j.contents ++ j.singles
+    listed = ap (λ left. (filter (λ x. not (is_single x.kind)) left ++ j.contents)
+        ++ (filter (λ x. is_single x.kind) left ++ j.singles))
+        (leaves-none i a a.stage (rule.present.fits i))
+
+    found : (c : ℕ) → content_of (employed_multis a ++ employed_singles a) c
+        ≡ content_of (employed j) c
+    found c = ap (λ xs. content_of xs c) listed
+        ∙ found-merged j.contents j.singles c standing_at.order.once
+
+    used : (c : ℕ) → is_used c j.own ≡ is_some (content_of (employed j) c)
+    used c = ap (is_used c) stands.agrees
+        ∙ ap is_some (item_at-map own_number own_of c (employed j))
+        ∙ is_some-map own_of (content_of (employed j) c)
+
+    place : (c : ℕ) → owner_of c ≡ i
+        → place_of e w c ≡ owned_place e w (is_some (content_of (employed j) c)) i
+    place c own = ap (λ b. place_in e w b c) off
+        ∙ ap (λ k. owned_place e w (is_used c (w.actors k).instance.own) k) own
+        ∙ ap (λ b. owned_place e w b i) (used c)
+
+    shown : (c : ℕ) (o : Option Content)
+        → content_of (employed_multis a ++ employed_singles a) c ≡ o
+        → present_at e w c (owned_place e w (is_some o) i) ≡ if_there (at_home i) o
+    shown c None none = refl
+    shown c (Some x) there = ap (λ o. present_if o standing.Employed i) there
+
+    numbers : All (HasKeyIn number_of (first_number i) 256) (employed j)
+    numbers = subst (λ n. All (HasKeyIn number_of (first_number n) 256) (employed j))
+        standing_at.number
+        (all_unmap (HasNumberIn (first_number j.number) (first_number j.number + 256)) own_of
+        (employed j) (subst (λ os. All (HasNumberIn (first_number j.number)
+        (first_number j.number + 256)) os) stands.agrees stands.kept.numbers))
+
+    -- under its numbers they are all that it employs
+    pub present-scheduler : flat_map (λ c. present_at e w c (place_of e w c))
+        (range_with_len (first_number i) 256) ≡ map (at_home i) (employed j)
+    present-scheduler = all-items number_of (at_home i)
+        (λ c. present_at e w c (place_of e w c)) 256 (first_number i) (employed j)
+        standing_at.order.once numbers
+        (λ c from below. ap (present_at e w c)
+        (place c (numbered-owner i c (scheduler-number e i is).0 from below))
+        ∙ shown c (content_of (employed j) c) (found c))
+
+    -- it owns them all
+    owned : All (λ x. x.owner ≡ i) (employed j)
+    owned k d within =
+        let x = get_or (employed j) k d in
+        let number = numbers k d within in
+        (merged-All number_of (Belongs e i) j.contents j.singles (rule.kept.ranges.contents i)
+        (rule.kept.ranges.singles i) k d within).owner
+        ∙ numbered-owner i x.number (scheduler-number e i is).0 number.0 number.1
+
+  -- all carriers that are there, instance by instance
+  pub present-all : present e w
+      ≡ flat_map (λ i. map (at_home i) (employed (w.actors i).instance))
+      (range_with_len 1 e.schedulers)
+  present-all =
+      let shows = λ (c : ℕ). present_at e w c (place_of e w c) in
+      in-parts shows first_number 256 e.schedulers (λ i. omega arith)
+      ∙ flat_map-same (λ i. flat_map shows (range_with_len (first_number i) 256))
+      (λ i. map (at_home i) (employed (w.actors i).instance)) (range_with_len 1 e.schedulers)
+      (each-range e.schedulers _
+      (λ i some most. present-scheduler i (number-scheduler e i (some, most))))
+
+  -- what the instances employ, instance by instance
+  abbrev pub all_employed : List Content
+  all_employed = flat_map (λ i. employed (w.actors i).instance) (range_with_len 1 e.schedulers)
+
+  module _ {B : Type 0} (f : Present → B) (g : Content → B)
+      (same : (i : ℕ) → is_scheduler e i ≡ true
+      → map f (map (at_home i) (employed (w.actors i).instance))
+      ≡ map g (employed (w.actors i).instance)) where
+    map-present : map f (present e w) ≡ map g all_employed
+    map-present =
+        let each = λ (i : ℕ). employed (w.actors i).instance in
+        let seated = range_with_len 1 e.schedulers in
+        ap (map f) present-all
+        ∙ map-flat_map f (λ i. map (at_home i) (each i)) seated
+        ∙ flat_map-same (λ i. map f (map (at_home i) (each i))) (λ i. map g (each i)) seated
+        (each-range e.schedulers _ (λ i some most. same i (number-scheduler e i (some, most))))
+        ∙ sym (map-flat_map g each seated)
+
+  -- their contents are those
+  pub present-contents : map (λ p. p.content) (present e w) ≡ all_employed
+  present-contents = map-present (λ p. p.content) (λ x. x)
+      (λ i is. contents-home i (employed (w.actors i).instance) ∙ sym (map-id _))
+      ∙ map-id all_employed
+
+  -- and their lines are those of carriers with their owners
+  pub present-lines : map line_of (present e w) ≡ map carrier_line all_employed
+  present-lines = map-present line_of carrier_line
+      (λ i is. lines-home i (employed (w.actors i).instance) (owned i is))
