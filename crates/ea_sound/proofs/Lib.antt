@@ -107,3 +107,4 @@ pub mod SharedRows
 pub mod Ending
 pub mod PresentStep
 pub mod Completing
+pub mod Asked

@@ -30,7 +30,7 @@ module _ (c : Config) (t : Trace) (valid : IsValidConfig c)
   e = setup_of c t
 
   -- the rule holds at every moment
-  rule-run : (turns : List ℕ) → Rule e (run e turns)
+  pub rule-run : (turns : List ℕ) → Rule e (run e turns)
   rule-run = by-turns (λ L. Rule e (run e L))
       (λ L me rule. subst (Rule e) (sym (run-snoc e L me)) (step-rule e (run e L) me rule))
       (start-Rule c t valid made)
