@@ -1,12 +1,13 @@
--- What the calls of a scheduler ask for, in each reached state: of its instance, of the names that it
--- holds and of those that it is to make, and of the operations left.
+-- What the calls of a scheduler ask for, in each reached state: of its instance, of the names that
+-- it holds and of those that it is to make, and of the operations left.
 use Rattle.std.proofs.Common.{◌≡◌, ℕ, zero, suc, ◌+◌, ◌<◌, ◌≤◌, List, [], ◌∷◌, ◌++◌, true, false, length, length-append, get_or, sym, ap, ◌∙◌, subst, refl, inr, arith}
 use Rattle.std.specs.List.{AllZip}
-use Rattle.std.specs.Prelude.{All, Option, Some, None, flat_map, ◌==◌}
+use Rattle.std.specs.Prelude.{option_map, IsSome, All, Option, Some, None, flat_map, ◌==◌}
 use Rattle.std.specs.Option.{option_and_then}
 use Rattle.std.proofs.lemmas.Bool.{true≢false}
 use Rattle.std.proofs.lemmas.List.Elements.{All-nil, All-cons, All-head, All-tail, All-weaker}
 use Rattle.ea_model.specs.declared.carriers.BlockAt.{BlockAt}
+use Rattle.ea_model.specs.declared.carriers.Spot.{Spot}
 use Rattle.ea_model.specs.declared.operations.Op.{Op}
 use Rattle.ea_model.specs.declared.operations.Op.TheVariants as op
 use Rattle.ea_model.specs.declared.settings.Config.{Config}
@@ -15,6 +16,7 @@ use Rattle.ea_model.specs.Content.{Content, block_at}
 use Rattle.ea_model.specs.Instance.{block_in, employed}
 use Rattle.ea_model.specs.Settings.{IsValidConfig, settings_of}
 use Rattle.ea_model.specs.Trace.{IsOperation, IsScheduler, IsValidTrace, greatest_in, greatest_of, makes, operations_of, texts_of}
+use Rattle.ea_model.proofs.Options.{same-some}
 use Rattle.ea_model.proofs.Rising.{item_at-key}
 use Rattle.ea_machine.specs.declared.nodes.Named.{Named}
 use Rattle.ea_machine.specs.Actor.{Actor, Route, Looking, Trying, Settling, Abandoning, Sending, Clearing, Pushing, Linking, Stage, Begin, Routed, Collecting, Searching, Fetching, Creating, Giving, Taking, Ended, Ready}
@@ -23,7 +25,7 @@ use Rattle.ea_machine.specs.Entries.{LogsEach, Makes}
 use Rattle.ea_machine.specs.Machine.{IsReached}
 use Rattle.ea_machine.specs.NamePlaces.{name_of}
 use Rattle.ea_machine.specs.Names.{allocated, made_in, of_content, only, only_at, unplaced}
-use Rattle.ea_machine.specs.Nodes.{named_at}
+use Rattle.ea_machine.specs.Nodes.{named_at, spot_named}
 use Rattle.ea_machine.specs.Owners.{owner_of}
 use Rattle.ea_machine.specs.Setup.{Setup, is_scheduler, migration, setup_of, text_for}
 use Rattle.ea_machine.specs.State.{State}
@@ -39,11 +41,13 @@ use Rattle.ea_sound.proofs.StandingBlocks.{block-owner}
 use Rattle.ea_sound.proofs.Totals.{total-part}
 use Rattle.ea_sound.proofs.Weights.{one-itself}
 
--- a scheduler of a trace under a configuration: its instance is its own; where carriers don't migrate
--- it has the block of a name that it holds, if it owns the carrier, whose owner is a scheduler; a name
--- that its operation makes isn't held when that begins; and with the entries of its log the operations
--- left are its text, with numbers in their ranges
+-- what is known of one of the schedulers of a trace under a configuration: its instance has its
+-- number and the settings of the trace; the carrier of each name that it holds has a scheduler for
+-- its owner, and where carriers don't migrate the owner has the block; a name that its operation is
+-- to make isn't held when that begins; and its text is as long as its log and the operations left,
+-- whose numbers are in their ranges and whose names are no greater than the greatest of the trace
 pub record Facts (c : Config) (t : Trace) (me : ℕ) (a : Actor) : Type 0 where
+  pub scheduler : IsScheduler c.schedulers me
   pub settings : a.instance.settings ≡ settings_of c t.letter
   pub number : a.instance.number ≡ me
   pub name : (n : ℕ) (x : Named) → named_at n a.held ≡ Some x → x.name ≡ n
@@ -52,9 +56,9 @@ pub record Facts (c : Config) (t : Trace) (me : ℕ) (a : Actor) : Type 0 where
   pub block : migration (setup_of c t) ≡ false → (n : ℕ) (x : Named) → named_at n a.held ≡ Some x
       → owner_of x.spot.carrier ≡ me
       → (b : BlockAt) × (block_in (employed a.instance) x.spot ≡ Some b) × (b.name ≡ n)
-  pub allocated : a.stage ≡ Begin → (name bytes : ℕ) (ops : List Op)
+  pub fresh_alloc : a.stage ≡ Begin → (name bytes : ℕ) (ops : List Op)
       → a.todo ≡ op.Alloc name bytes ∷ ops → named_at name a.held ≡ None
-  pub reallocated : a.stage ≡ Begin → (old fresh bytes : ℕ) (ops : List Op)
+  pub fresh_realloc : a.stage ≡ Begin → (old fresh bytes : ℕ) (ops : List Op)
       → a.todo ≡ op.Realloc old fresh bytes ∷ ops → named_at fresh a.held ≡ None
   pub left : length a.log + length a.todo ≡ length ((setup_of c t).texts me)
   pub operations : All (IsOperation c.schedulers) a.todo
@@ -205,7 +209,7 @@ module _ (c : Config) (t : Trace) (valid : IsValidConfig c)
   abbrev setup : Setup
   setup = setup_of c t
 
-  reached-rule : Rule setup w
+  pub reached-rule : Rule setup w
   reached-rule = subst (Rule setup) (sym reached.1) (rule-run c t valid made reached.0)
 
   todo-all : (me : ℕ) → is_scheduler setup me ≡ true → (P : Op → Type 0) → All P (operations_of t)
@@ -218,15 +222,16 @@ module _ (c : Config) (t : Trace) (valid : IsValidConfig c)
       let is = number-scheduler setup me number in
       let stands = reached-rule.kept.ranges.instances me is in
       record {
+        scheduler = number;
         settings = stands.settings;
         number = stands.number;
         name = held-name setup w reached-rule me is;
         owner = λ n x held. scheduler-number setup (owner_of x.spot.carrier)
             (held-owner setup w reached-rule me is n x held);
         block = λ off n x held. held-block setup w reached-rule me is n x held off;
-        allocated = λ begins name bytes ops first. fresh-first setup w reached-rule me is name
+        fresh_alloc = λ begins name bytes ops first. fresh-first setup w reached-rule me is name
             (op.Alloc name bytes) ops begins first (one-itself name);
-        reallocated = λ begins old fresh bytes ops first. fresh-first setup w reached-rule me is
+        fresh_realloc = λ begins old fresh bytes ops first. fresh-first setup w reached-rule me is
             fresh (op.Realloc old fresh bytes) ops begins first (one-itself fresh);
         left = left-over setup w reached-rule me is;
         operations = todo-all me is (IsOperation c.schedulers) made.operations;
@@ -234,3 +239,47 @@ module _ (c : Config) (t : Trace) (valid : IsValidConfig c)
             (subst (λ n. All (λ o. greatest_in o ≤ n) (operations_of t)) (sym made.greatest)
             (all-greatest (operations_of t)));
       }
+
+-- a name whose spot is found is held with it, and one whose spot isn't found isn't held
+pub named-spot : (n : ℕ) (p : Spot) (held : List Named) → spot_named n held ≡ Some p
+    → named_at n held ≡ Some (record { name = n; spot = p })
+named-spot n p held found = by (named_at n held) refl where
+  by : (o : Option Named) → named_at n held ≡ o
+      → named_at n held ≡ Some (record { name = n; spot = p })
+  by None q = absurd (let none = ap (option_map (λ (x : Named). x.spot)) q in cc)
+  by (Some x) q =
+      let name = item_at-key name_of n x held q in
+      let spot = same-some (spot_named n held) x.spot p
+      (ap (option_map (λ (y : Named). y.spot)) q) found in
+      q ∙ ap (λ m. Some (record { name = m; spot = x.spot })) name
+      ∙ ap (λ r. Some (record { name = n; spot = r })) spot
+
+pub unnamed-spot : (n : ℕ) (held : List Named) → spot_named n held ≡ None
+    → named_at n held ≡ None
+unnamed-spot n held none = by (named_at n held) refl where
+  by : (o : Option Named) → named_at n held ≡ o → named_at n held ≡ None
+  by None q = q
+  by (Some x) q = absurd (let some = ap (option_map (λ (y : Named). y.spot)) q in cc)
+
+module _ (c : Config) (t : Trace) (me : ℕ) (a : Actor) (facts : Facts c t me a) where
+  module _ (n : ℕ) (x : Named) (held : named_at n a.held ≡ Some x) where
+    -- where there is one scheduler, it owns the carriers of its blocks
+    pub alone-owner : c.schedulers ≡ 1 → owner_of x.spot.carrier ≡ me
+    alone-owner one = omega (arith, one, facts.owner n x held, facts.scheduler)
+
+    -- and has the blocks
+    pub alone-there : c.schedulers ≡ 1 → migration (setup_of c t) ≡ false
+        → IsSome (block_in (employed a.instance) x.spot)
+    alone-there one off =
+        let there = facts.block off n x held (alone-owner one) in
+        subst IsSome (sym there.1) refl
+
+  -- the numbers of the first operation left are in their ranges
+  pub first-operation : (o : Op) (ops : List Op) → a.todo ≡ o ∷ ops
+      → IsOperation c.schedulers o × (greatest_in o ≤ t.greatest)
+  first-operation o ops first = (
+    All-head (IsOperation c.schedulers) o ops
+        (subst (All (IsOperation c.schedulers)) first facts.operations),
+    All-head (λ p. greatest_in p ≤ t.greatest) o ops
+        (subst (All (λ p. greatest_in p ≤ t.greatest)) first facts.names),
+  )
