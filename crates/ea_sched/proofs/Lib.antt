@@ -1,3 +1,5 @@
 pub mod NamesTable
 pub mod PresentCarriers
+pub mod PresentLive
+pub mod PresentNames
 pub mod PresentNumbers

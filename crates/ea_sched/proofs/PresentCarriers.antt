@@ -5,7 +5,7 @@ use Rattle.std.specs.Option.{option_or}
 use Rattle.std.specs.List.{range_with_len}
 use Rattle.std.proofs.lemmas.Bool.{false≢true}
 use Rattle.std.proofs.lemmas.List.Elements.{All-head, All-tail}
-use Rattle.std.proofs.lemmas.List.Folds.{find-append}
+use Rattle.std.proofs.lemmas.List.Folds.{find-append, flat_map-map}
 use Rattle.ea_model.specs.declared.carriers.OwnCarrier.{OwnCarrier}
 use Rattle.ea_model.specs.declared.carriers.Standing.TheVariants as standing
 use Rattle.ea_model.specs.Content.{Content}
@@ -17,7 +17,7 @@ use Rattle.ea_model.proofs.Pairs.{all_unmap}
 use Rattle.ea_model.proofs.Rising.{item_at-map}
 use Rattle.ea_laws.specs.Kept.{HasNumberIn, IsRising, Stands, number_of, own_number}
 use Rattle.ea_machine.specs.Actor.{Actor, Route, Looking, Trying, Settling, Abandoning, Sending, Clearing, Pushing, Linking, Stage, Begin, Routed, Collecting, Searching, Fetching, Creating, Giving, Taking, Ended, Ready}
-use Rattle.ea_machine.specs.Outcome.{Present, line_of, owned_place, place_in, place_of, present, present_at, present_if}
+use Rattle.ea_machine.specs.Outcome.{Present, actors_of, line_of, owned_place, place_in, place_of, present, present_at, present_if}
 use Rattle.ea_machine.specs.Owners.{owner_of}
 use Rattle.ea_machine.specs.Setup.{Setup, is_scheduler, migration}
 use Rattle.ea_machine.specs.State.{State}
@@ -27,6 +27,7 @@ use Rattle.ea_sound.specs.Rule.{Belongs, Standing}
 use Rattle.ea_sound.proofs.Created.{scheduler-number}
 use Rattle.ea_sound.proofs.Plans.{numbered-owner}
 use Rattle.ea_sound.proofs.SoundRanges.{number-scheduler}
+use Rattle.ea_sched.specs.Resting.{all_employed}
 use Rattle.ea_sched.proofs.PresentNumbers.{HasKeyIn, all-items, each-range, flat_map-same, if_there, in-parts, map-flat_map}
 
 -- of two lists as one, one after the other or by rising number, the same item is found
@@ -166,15 +167,11 @@ module _ (e : Setup) (w : State) (rule : Rule e w) (off : migration e ≡ false)
       (each-range e.schedulers _
       (λ i some most. present-scheduler i (number-scheduler e i (some, most))))
 
-  -- what the instances employ, instance by instance
-  abbrev pub all_employed : List Content
-  all_employed = flat_map (λ i. employed (w.actors i).instance) (range_with_len 1 e.schedulers)
-
   module _ {B : Type 0} (f : Present → B) (g : Content → B)
       (same : (i : ℕ) → is_scheduler e i ≡ true
       → map f (map (at_home i) (employed (w.actors i).instance))
       ≡ map g (employed (w.actors i).instance)) where
-    map-present : map f (present e w) ≡ map g all_employed
+    map-present : map f (present e w) ≡ map g (all_employed (actors_of e w))
     map-present =
         let each = λ (i : ℕ). employed (w.actors i).instance in
         let seated = range_with_len 1 e.schedulers in
@@ -183,14 +180,15 @@ module _ (e : Setup) (w : State) (rule : Rule e w) (off : migration e ≡ false)
         ∙ flat_map-same (λ i. map f (map (at_home i) (each i))) (λ i. map g (each i)) seated
         (each-range e.schedulers _ (λ i some most. same i (number-scheduler e i (some, most))))
         ∙ sym (map-flat_map g each seated)
+        ∙ ap (map g) (sym (flat_map-map (λ (a : Actor). employed a.instance) w.actors seated))
 
-  -- their contents are those
-  pub present-contents : map (λ p. p.content) (present e w) ≡ all_employed
+  -- their contents are those that the schedulers employ
+  pub present-contents : map (λ p. p.content) (present e w) ≡ all_employed (actors_of e w)
   present-contents = map-present (λ p. p.content) (λ x. x)
       (λ i is. contents-home i (employed (w.actors i).instance) ∙ sym (map-id _))
-      ∙ map-id all_employed
+      ∙ map-id (all_employed (actors_of e w))
 
   -- and their lines are those of carriers with their owners
-  pub present-lines : map line_of (present e w) ≡ map carrier_line all_employed
+  pub present-lines : map line_of (present e w) ≡ map carrier_line (all_employed (actors_of e w))
   present-lines = map-present line_of carrier_line
       (λ i is. lines-home i (employed (w.actors i).instance) (owned i is))
