@@ -1,2 +1,6 @@
 pub mod Holding
 pub mod Resting
+pub mod Built
+pub mod Releasing
+pub mod Acting
+pub mod Steps

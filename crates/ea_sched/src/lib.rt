@@ -1,6 +1,13 @@
 //! One scheduler: an operation as atomic steps, and the run of a given schedule.
 #![tactic(auto)]
 
+mod built;
 mod names;
+mod scheduler;
+mod stage;
+mod state;
 
+pub use built::is_built;
 pub use names::Names;
+pub use stage::Stage;
+pub use state::Scheduler;

@@ -1,0 +1,41 @@
+-- A scheduler as an actor of the machine.
+use Rattle.std.specs.Prelude.{◌≡◌, Bool, true, false, [], None, drop}
+use Rattle.ea_machine.specs.Setup.{Setup, setup_of}
+use Rattle.ea_machine.specs.Actor as actor
+use Rattle.ea_sched.specs.declared.stage.Stage.{Stage}
+use Rattle.ea_sched.specs.declared.stage.Stage.TheVariants.{Begin, Ended}
+use Rattle.ea_sched.specs.declared.state.Scheduler.{Scheduler}
+
+-- the setup of the run
+abbrev pub setup_for : Scheduler → Setup
+setup_for s = setup_of s.config s.trace.now
+
+abbrev pub stage_of : Stage → actor.Stage
+stage_of Begin = actor.Begin
+stage_of Ended = actor.Ended
+
+abbrev pub is_ended : Stage → Bool
+is_ended Begin = false
+is_ended Ended = true
+
+-- where no node is queued no walk has any
+abbrev pub actor_of : Scheduler → actor.Actor
+actor_of s = record {
+  instance = s.instance;
+  held = s.names.held;
+  todo = drop s.done s.text.now;
+  stage = stage_of s.stage;
+  passed = [];
+  next = None;
+  mbcs = s.mbcs;
+  sbcs = s.sbcs;
+  log = s.log.items;
+}
+
+-- it is the same scheduler, in the same run
+pub record IsSame (s t : Scheduler) : Type 0 where
+  pub config : t.config ≡ s.config
+  pub trace : t.trace ≡ s.trace
+  pub number : t.number ≡ s.number
+  pub text : t.text ≡ s.text
+  pub failed : t.failed ≡ s.failed

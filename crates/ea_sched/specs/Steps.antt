@@ -1,0 +1,43 @@
+-- A scheduler in a run, and its step there.
+use Rattle.std.specs.Prelude.{◌≡◌, ◌⊎◌, ℕ, Option, None, Some, IfSome, IsSome}
+use Rattle.ea_model.specs.declared.settings.Config.{Config}
+use Rattle.ea_model.specs.declared.trace.Trace.{Trace}
+use Rattle.ea_model.specs.Settings.{IsValidConfig}
+use Rattle.ea_model.specs.Trace.{IsValidTrace}
+use Rattle.ea_machine.specs.Setup.{Setup, setup_of}
+use Rattle.ea_machine.specs.Shared.{Shared}
+use Rattle.ea_machine.specs.Actor.{Actor}
+use Rattle.ea_machine.specs.State.{State}
+use Rattle.ea_machine.specs.Machine.{IsReached, step}
+use Rattle.ea_shared.specs.Calls.{Caller}
+
+-- a scheduler, as the caller of a row
+abbrev pub caller_of : Setup → ℕ → Actor → Caller
+caller_of setup me a = record { setup = setup; number = me; actor = a }
+
+-- scheduler `me` stands so in a reached state of a run of a valid trace under a valid configuration;
+-- what is shared is as it is told, or the caller that is told is this scheduler, or both
+pub record Ready (c : Config) (t : Trace) (me : ℕ) (a : Actor) (shared : Option Shared)
+    (caller : Option Caller) : Type 0 where
+  pub config : IsValidConfig c
+  pub trace : IsValidTrace c.schedulers t
+  pub state : State
+  pub reached : IsReached (setup_of c t) state
+  pub actor : state.actors me ≡ a
+  pub shares : IfSome shared (λ s. s ≡ state.shared)
+  pub calls : IfSome caller (λ x. x ≡ caller_of (setup_of c t) me a)
+  pub told : IsSome shared ⊎ IsSome caller
+
+-- scheduler `me`, which stood so in a reached state, has taken its step there: it is as it is after the
+-- step, and so is what is shared, where that is told, and the caller, where that is told
+pub record Stepped (c : Config) (t : Trace) (me : ℕ) (a b : Actor) (shared after : Option Shared)
+    (caller now : Option Caller) : Type 0 where
+  pub state : State
+  pub reached : IsReached (setup_of c t) state
+  pub actor : state.actors me ≡ a
+  pub is : b ≡ (step (setup_of c t) state me).actors me
+  pub shares : IfSome shared (λ s. (s ≡ state.shared)
+      × (after ≡ Some (step (setup_of c t) state me).shared))
+  pub shares_untold : shared ≡ None → after ≡ None
+  pub calls : IfSome caller (λ x. now ≡ Some (caller_of (setup_of c t) me b))
+  pub calls_untold : caller ≡ None → now ≡ None

@@ -1,0 +1,37 @@
+//! What a scheduler keeps.
+ghost use Rattle.std.specs.Prelude.{◌≡◌, ◌+◌, ◌≤◌, true, length};
+ghost use Rattle.ea_model.specs.Trace.{texts_of};
+ghost use Rattle.ea_machine.specs.Setup.{text_for};
+ghost use Rattle.ea_sched.specs.Built.{is_built_run};
+
+use crate::names::Names;
+use crate::stage::Stage;
+use ea_instance::Instance;
+use ea_model::{Config, Entry, List, Op, Trace};
+use ea_stats::Stats;
+
+/// Scheduler `number` in the run of a trace. Of the run it knows the configuration and the trace; for
+/// itself it keeps its text, how many of its operations are done, its allocator instance, the names
+/// that it holds, where it is in its operation, the statistics of its multiblock and of its
+/// singleblock carriers, and its log. Once it had no memory it has failed.
+#[derive(Drop)]
+pub struct Scheduler<'t> {
+    pub config: Config,
+    pub trace: &'t Trace,
+    pub number: u32,
+    pub text: &'t [Op],
+    pub done: usize,
+    pub instance: Instance,
+    pub names: Names,
+    pub stage: Stage,
+    pub mbcs: Stats,
+    pub sbcs: Stats,
+    pub log: List<Entry>,
+    pub failed: bool,
+    ghost built: { is_built_run config trace.now ≡ true },
+    ghost number_from: { 1 ≤ number },
+    ghost number_to: { number ≤ config.schedulers },
+    ghost text_is: { text.now ≡ text_for (texts_of trace.now) number },
+    ghost names_upto: { names.greatest ≡ trace.now.greatest },
+    ghost log_room: { length text.now ≤ done + log.room },
+}
