@@ -3,3 +3,4 @@ pub mod PresentCarriers
 pub mod PresentLive
 pub mod PresentNames
 pub mod PresentNumbers
+pub mod Texts

@@ -9,7 +9,7 @@ use Rattle.ea_model.specs.declared.trace.Mode.{Mode}
 use Rattle.ea_model.specs.declared.trace.Mode.TheVariants.{Threads, Schedule, Generated}
 use Rattle.ea_model.specs.declared.trace.Trace.{Trace}
 use Rattle.ea_model.specs.Settings.{settings_of}
-use Rattle.ea_model.specs.Trace.{operations_of}
+use Rattle.ea_model.specs.Trace.{texts_of}
 
 -- every operation but those that hand a block over
 abbrev pub is_built : Op → Bool
@@ -33,4 +33,4 @@ is_built_mode (Generated seed count) = false
 -- and a schedule, under which it does operations that are all built
 abbrev pub is_built_run : Config → Trace → Bool
 is_built_run c t = is_built_config c t.letter && (is_built_mode t.mode
-    && list_all is_built (operations_of t))
+    && list_all (list_all is_built) (texts_of t))

@@ -1,6 +1,6 @@
 //! Which runs are built.
 ghost use Rattle.std.specs.Prelude.{◌≡◌, map};
-ghost use Rattle.std.specs.List.{flat_map, list_all};
+ghost use Rattle.std.specs.List.{list_all};
 ghost use Rattle.ea_sched.specs.Built as built;
 
 use ea_model::{Config, Letter, List, Mode, Op, Trace};
@@ -25,8 +25,7 @@ fn are_built(ops: &[Op]) -> bool
 }
 
 fn are_all_built(texts: &[List<Op>]) -> bool
-    ensures { result ≡ list_all built.is_built
-        (flat_map (λ text. text) (map (λ text. text.items) texts.now)) }
+    ensures { result ≡ list_all (list_all built.is_built) (map (λ text. text.items) texts.now) }
 {
     for text in texts {
         if !are_built(text.as_slice()) {

@@ -1,0 +1,66 @@
+-- The texts of a trace whose run is built.
+use Rattle.std.proofs.Common.{◌≡◌, ℕ, zero, suc, ◌+◌, ◌-◌, ◌<◌, ◌≤◌, Bool, true, false, ◌&&◌, List, [], ◌∷◌, map, length, slice_index_or, refl, sym, ap, ◌∙◌, arith}
+use Rattle.std.specs.List.{list_all}
+use Rattle.ea_model.specs.declared.operations.Op.{Op}
+use Rattle.ea_model.specs.declared.settings.Config.{Config}
+use Rattle.ea_model.specs.declared.trace.Mode.{Mode}
+use Rattle.ea_model.specs.declared.trace.Mode.TheVariants.{Threads, Schedule, Generated}
+use Rattle.ea_model.specs.declared.trace.Trace.{Trace}
+use Rattle.ea_model.specs.Lists.{Items}
+use Rattle.ea_model.specs.Trace.{HasTexts, IsValidTrace, texts_of}
+use Rattle.ea_machine.specs.Setup.{text_for}
+use Rattle.ea_sched.specs.Built.{is_built, is_built_mode, is_built_run}
+
+if_last : (b : Bool) → (b && false) ≡ false
+if_last true = refl
+if_last false = refl
+
+-- one text that isn't built
+pub all_built-stop : (texts : List (Items Op)) (i : ℕ) (text : Items Op) → i < length texts
+    → text ≡ slice_index_or texts i text → list_all is_built text.items ≡ false
+    → list_all (list_all is_built) (map (λ t. t.items) texts) ≡ false
+all_built-stop [] i text h e f = absurd (omega (arith, h))
+all_built-stop (t ∷ texts) zero text h e f =
+    ap (λ (x : Items Op). list_all is_built x.items && list_all (list_all is_built) (map (λ u. u.items) texts)) (sym e)
+    ∙ ap (λ b. b && list_all (list_all is_built) (map (λ u. u.items) texts)) f
+all_built-stop (t ∷ texts) (suc i) text h e f =
+    ap (λ b. list_all is_built t.items && b) (all_built-stop texts i text (omega (arith, h)) e f)
+    ∙ if_last (list_all is_built t.items)
+
+texts_many : (n : ℕ) (m : Mode) (texts : List (List Op)) → is_built_mode m ≡ true → HasTexts n m texts
+    → length texts ≡ n
+texts_many n Threads texts e h = h
+texts_many n (Schedule turns) texts e h = h
+texts_many n (Generated seed count) texts e h = absurd cc
+
+length-texts : (texts : List (Items Op)) → length (map (λ t. t.items) texts) ≡ length texts
+length-texts [] = refl
+length-texts (t ∷ texts) = ap suc (length-texts texts)
+
+second_of : (a b c : Bool) → (a && (b && c)) ≡ true → b ≡ true
+second_of true true c e = refl
+second_of true false c e = e
+second_of false b c e = absurd cc
+
+pub mode-built : (c : Config) (t : Trace) → is_built_run c t ≡ true → is_built_mode t.mode ≡ true
+mode-built c t e = second_of _ (is_built_mode t.mode) _ e
+
+-- each scheduler has a text
+pub texts-many : (c : Config) (t : Trace) → is_built_run c t ≡ true → IsValidTrace c.schedulers t
+    → length t.texts.items ≡ c.schedulers
+texts-many c t built valid = sym (length-texts t.texts.items)
+    ∙ texts_many c.schedulers t.mode (texts_of t) (mode-built c t built) valid.texts
+
+text_in : (texts : List (Items Op)) (i : ℕ) (text : Items Op) → i < length texts
+    → text ≡ slice_index_or texts i text → text.items ≡ text_for (map (λ t. t.items) texts) (suc i)
+text_in [] i text h e = absurd (omega (arith, h))
+text_in (t ∷ texts) zero text h e = ap (λ (x : Items Op). x.items) e
+text_in (t ∷ texts) (suc i) text h e = text_in texts i text (omega (arith, h)) e
+
+-- the text of a scheduler
+pub text-is : (texts : List (Items Op)) (number : ℕ) (text : Items Op) → 1 ≤ number
+    → number ≤ length texts → text ≡ slice_index_or texts (number - 1) text
+    → text.items ≡ text_for (map (λ t. t.items) texts) number
+text-is texts zero text from to e = absurd (omega (arith, from))
+text-is texts (suc i) text from to e =
+    text_in texts i text (omega (arith, to)) (e ∙ ap (λ k. slice_index_or texts k text) (omega arith))
