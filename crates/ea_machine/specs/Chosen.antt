@@ -16,7 +16,8 @@ use Rattle.ea_machine.specs.State.{State}
 use Rattle.ea_machine.specs.Rows.{Won}
 use Rattle.ea_machine.specs.Employment.{employing}
 use Rattle.ea_machine.specs.Machine.{run}
-use Rattle.ea_machine.specs.Turns.{IsBegun, advanced, answered, log_after}
+use Rattle.ea_machine.specs.Released.{LiesAt}
+use Rattle.ea_machine.specs.Turns.{IsBegun, advanced, answered, begun, log_after}
 use Rattle.ea_machine.specs.Needs.{HasNeed}
 
 -- the carrier that is created for a block of this need, in a step of s: with migration on in a step of
@@ -73,24 +74,29 @@ IsPlacedAt setup state s need place =
 
 -- s placed a block in its step after `before`, for the operation of which it has made the entry in its
 -- step after the steps `turns`: the same step, or, where the old block of a reallocation went then, an
--- earlier one
-pub record IsPlacement (setup : Setup) (turns : List ℕ) (s : ℕ) (place : Place) : Type 0 where
-  pub before : List ℕ
-  pub since : List ℕ
-  pub split : turns ++ s ∷ [] ≡ before ++ s ∷ since
-  pub same : log_after setup before s ≡ log_after setup turns s
-  pub need : ℕ
-  pub asks : HasNeed ((run setup before).actors s).todo need
-  pub placed : IsPlacedAt setup (run setup before) s need place
+-- earlier one. Once it is placed, a block of that name lies there
+pub record IsPlacement (setup : Setup) (turns : List ℕ) (s name : ℕ) (place : Place) : Type 0
+  where
+    pub before : List ℕ
+    pub since : List ℕ
+    pub split : turns ++ s ∷ [] ≡ before ++ s ∷ since
+    pub same : log_after setup before s ≡ log_after setup turns s
+    pub need : ℕ
+    pub asks : HasNeed ((run setup before).actors s).todo need
+    pub placed : IsPlacedAt setup (run setup before) s need place
+    pub there : LiesAt setup name place (run setup (before ++ s ∷ []))
 
--- a block that is reallocated in its place keeps its spot, and has the units that are decided
-pub record IsResized (setup : Setup) (state : State) (s old : ℕ) (place : Place) : Type 0 where
-  pub begins : IsBegun setup state s
-  pub need : ℕ
-  pub asks : HasNeed (advanced setup state s).todo need
-  pub named : Named
-  pub held : named_at old (advanced setup state s).held ≡ Some named
-  pub stays : decision_at (advanced setup state s).instance named.spot need ≢ Move
-  pub carrier : place.carrier ≡ named.spot.carrier
-  pub offset : place.offset ≡ named.spot.offset
-  pub size : place.size ≡ resized_to (advanced setup state s).instance named.spot need
+-- a block that is reallocated in its place, in the step of s after the steps `turns`, keeps its spot,
+-- and has the units that are decided. After this step a block of the new name lies there
+pub record IsResized (setup : Setup) (turns : List ℕ) (s old fresh : ℕ) (place : Place) : Type 0
+  where
+    pub begins : IsBegun setup (run setup turns) s
+    pub need : ℕ
+    pub asks : HasNeed (begun setup turns s).todo need
+    pub named : Named
+    pub held : named_at old (begun setup turns s).held ≡ Some named
+    pub stays : decision_at (begun setup turns s).instance named.spot need ≢ Move
+    pub carrier : place.carrier ≡ named.spot.carrier
+    pub offset : place.offset ≡ named.spot.offset
+    pub size : place.size ≡ resized_to (begun setup turns s).instance named.spot need
+    pub there : LiesAt setup fresh place (run setup (turns ++ s ∷ []))

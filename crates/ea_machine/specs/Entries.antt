@@ -57,16 +57,16 @@ pub record IsSkipped (setup : Setup) (turns : List ℕ) (s name : ℕ) : Type 0 
 -- strategy chooses, or in a carrier of its own; a block keeps its spot; no place was found; a name
 -- isn't held, and nothing changes
 abbrev pub Tells : Setup → List ℕ → ℕ → Entry → Type 0
-Tells setup turns s (entry.Alloc name place) = IsPlacement setup turns s place
+Tells setup turns s (entry.Alloc name place) = IsPlacement setup turns s name place
 Tells setup turns s (entry.AllocFail name need looked why) =
     IsExhausted setup turns s (entry.AllocFail name need looked why) need looked why
 Tells setup turns s (entry.Free name) = Unit {0}
 Tells setup turns s (entry.FreeQueued name to) = Unit {0}
 Tells setup turns s (entry.FreeSkipped name) = IsSkipped setup turns s name
 Tells setup turns s (entry.ReallocHere old fresh place) =
-    IsResized setup (run setup turns) s old place
-Tells setup turns s (entry.ReallocMoved old fresh place) = IsPlacement setup turns s place
-Tells setup turns s (entry.ReallocQueued old fresh place to) = IsPlacement setup turns s place
+    IsResized setup turns s old fresh place
+Tells setup turns s (entry.ReallocMoved old fresh place) = IsPlacement setup turns s fresh place
+Tells setup turns s (entry.ReallocQueued old fresh place to) = IsPlacement setup turns s fresh place
 Tells setup turns s (entry.ReallocFail old fresh need looked why) =
     IsExhausted setup turns s (entry.ReallocFail old fresh need looked why) need looked why
 Tells setup turns s (entry.ReallocSkipped old fresh) = IsSkipped setup turns s old

@@ -64,10 +64,14 @@ abbrev pub is_block : ℕ → Place → ℕ → BlockAt → Bool
 is_block name place number b = (b.name == name) && ((number == place.carrier)
     && ((b.offset == place.offset) && (b.size == place.size)))
 
--- a block of the name lies at the place, wherever its carrier is
-abbrev pub LiesAt : Setup → ℕ → Place → State → Type 0
-LiesAt setup name place state = 0 < sum_everywhere setup
+-- how many blocks of the name lie at the place, wherever its carrier is
+abbrev pub blocks_at : Setup → ℕ → Place → State → ℕ
+blocks_at setup name place state = sum_everywhere setup
     (λ x. sum_over (λ b. one_if (is_block name place x.number b)) x.blocks) state
+
+-- a block of the name lies at the place
+abbrev pub LiesAt : Setup → ℕ → Place → State → Type 0
+LiesAt setup name place state = 0 < blocks_at setup name place state
 
 -- as long as a name has a block, that keeps its place and its units
 abbrev pub KeepsPlaces : Setup → Type 0

@@ -30,6 +30,7 @@ use Rattle.ea_machine.specs.Turns.{IsBegun, answered, begun, log_after}
 use Rattle.ea_sound.specs.Present.{OfAsk, OfTask}
 use Rattle.ea_sound.proofs.SearchLists.{count-snoc, sights-snoc}
 use Rattle.ea_sound.proofs.TurnLists.{longer, run-since}
+use Rattle.ea_machine.specs.Released.{LiesAt}
 
 -- b has the log, the operations left, the instance and the held names of a
 abbrev pub IsSame : Actor → Actor → Type 0
@@ -83,19 +84,20 @@ pub record Creates (e : Setup) (a : Actor) (ask : Ask) (p : CarrierPlan) : Type 
   pub none : ask.need ≤ e.settings.sbct → chosen_spot a.instance ask.need ≡ None
 
 -- s placed a block in a turn of L, when its log was this
-pub record Placement (e : Setup) (L : List ℕ) (s : ℕ) (log : List Entry) (place : Place) : Type 0
-  where
-    pub before : List ℕ
-    pub since : List ℕ
-    pub split : L ≡ before ++ s ∷ since
-    pub same : log_after e before s ≡ log
-    pub need : ℕ
-    pub asks : HasNeed ((run e before).actors s).todo need
-    pub placed : IsPlacedAt e (run e before) s need place
+pub record Placement (e : Setup) (L : List ℕ) (s : ℕ) (log : List Entry) (name : ℕ)
+    (place : Place) : Type 0 where
+  pub before : List ℕ
+  pub since : List ℕ
+  pub split : L ≡ before ++ s ∷ since
+  pub same : log_after e before s ≡ log
+  pub need : ℕ
+  pub asks : HasNeed ((run e before).actors s).todo need
+  pub placed : IsPlacedAt e (run e before) s need place
+  pub there : LiesAt e name place (run e (before ++ s ∷ []))
 
 abbrev pub Placing : Setup → List ℕ → ℕ → List Entry → Task → Type 0
 Placing e L s log (Freeing n) = Unit {0}
-Placing e L s log (Moving o n p) = Placement e L s log p
+Placing e L s log (Moving o n p) = Placement e L s log n p
 
 abbrev pub OnTask : Setup → List ℕ → ℕ → Actor → Why → Type 0
 OnTask e L s a Walk = Unit {0}
@@ -162,6 +164,7 @@ placing-longer e L s j log (Moving o n p) h = record {
   need = h.need;
   asks = h.asks;
   placed = h.placed;
+  there = h.there;
 }
 
 -- a turn of another scheduler adds nothing

@@ -33,9 +33,27 @@ use Rattle.ea_sound.proofs.Orderly.{resizing-fixed}
 use Rattle.ea_sound.proofs.ShortRoutes.{Keeps}
 use Rattle.ea_sound.proofs.Weights.{sum_by-sum_over}
 use Rattle.ea_machine.specs.Sums.{one_if}
-use Rattle.ea_sound.proofs.ChroniclePlaces.{Fine as IsFine, IsNow, choice-fine, logged-fine, planned-fine, search-fine, task-fine, big, little, fails}
+use Rattle.ea_sound.proofs.ChroniclePlaces.{Fine as IsFine, IsNow, IsWanted as Wants, landed, shared, choice-fine, logged-fine, planned-fine, search-fine, task-fine, big, little, fails}
+use Rattle.ea_model.specs.Trace.{makes}
+use Rattle.ea_model.proofs.Needs.{need-even, need-least}
+use Rattle.ea_machine.specs.Actor.{Begin}
+use Rattle.ea_machine.specs.Machine.{run}
+use Rattle.ea_machine.specs.Names.{made_in}
+use Rattle.ea_machine.specs.Setup.{is_scheduler}
+use Rattle.ea_machine.specs.Shared.{Shared}
+use Rattle.ea_sound.specs.Leaves.{InOperation, InWalk, IsFresh}
+use Rattle.ea_sound.specs.Moments.{at, with_actor}
+use Rattle.ea_sound.specs.Present.{Rule}
+use Rattle.ea_sound.proofs.Alike.{lies-with}
+use Rattle.ea_sound.proofs.Hits.{held-stands}
+use Rattle.ea_sound.proofs.LyingBlocks.{LiesWith, resizing-lies}
+use Rattle.ea_sound.proofs.Numbered.{scheduler-seat}
+use Rattle.ea_sound.proofs.Operating.{closed-operation}
+use Rattle.ea_sound.proofs.Orderly.{stays-employed}
+use Rattle.ea_sound.proofs.StandingBlocks.{hit-found}
+use Rattle.ea_sound.proofs.Totals.{put-here}
 
-module _ (e : Setup) (L : List ℕ) (me : ℕ) where
+module _ (e : Setup) (rules : (L : List ℕ) → Rule e (run e L)) (L : List ℕ) (me : ℕ) where
   abbrev acting : Actor
   acting = actor_after e L me
 
@@ -43,20 +61,36 @@ module _ (e : Setup) (L : List ℕ) (me : ℕ) where
   mid = begun e L me
 
   abbrev Fine : Actor → Type 0
-  Fine = IsFine e L me
+  Fine = IsFine e rules L me
 
-  module _ (set : acting.instance.settings ≡ e.settings)
-      (ready : mid.stage ≡ Ready) (k : Keeps acting mid) where
+  abbrev IsWanted : Ask → Type 0
+  IsWanted ask = Wants e rules L me mid ask
+
+  abbrev s : Shared
+  s = shared e rules L me
+
+  module _ (set : acting.instance.settings ≡ e.settings) (is : is_scheduler e me ≡ true)
+      (ready : mid.stage ≡ Ready) (k : Keeps acting mid)
+      (walk : InWalk e (run e L) s me (at Begin mid)) where
+    going : InOperation e (run e L) s me (at Begin mid)
+    going = record { kept = walk.kept; busy = λ q. absurd cc }
+
+    -- the name that the operation makes stands nowhere
+    fresh-name : (n : ℕ) (o : Op) (ops : List Op) → mid.todo ≡ o ∷ ops → makes n o ≡ true
+        → IsFresh e (run e L) s me n (at Begin mid)
+    fresh-name n o ops q m = walk.fresh n (omega (arith, ap (made_in n) q, ap one_if m))
+
     no-steps : count_by (λ j. j == me) [] ≡ 0
     no-steps = sum_by-sum_over (λ j. one_if (j == me)) []
 
-    plan-fine : (ask : Ask) → OfAsk ask acting.todo → AsksFor mid mid.todo ask.need
+    plan-fine : (ask : Ask) → OfAsk ask acting.todo → IsWanted ask
+        → AsksFor mid mid.todo ask.need
         → (ask.need ≤ e.settings.sbct → chosen_spot mid.instance ask.need ≡ None)
         → ((migration e ≡ false) ⊎ (e.settings.sbct < ask.need))
         → Fine (new_carrier e me ask 0 mid)
-    plan-fine ask o asks none un =
-        planned-fine e L me set ask 0 mid (plan mid.instance ask.need) refl k o
-        (λ why r. fails e L me set ask 0 why mid L [] refl (refl, refl, refl, refl)
+    plan-fine ask o want asks none un =
+        planned-fine e rules L me set is ask 0 mid (plan mid.instance ask.need) refl k o
+        (λ why r. fails e rules L me set is ask 0 why mid L [] refl (refl, refl, refl, refl)
         (subst (OfAsk ask) (sym k.1) o)
         (record {
           begins = ready;
@@ -66,13 +100,18 @@ module _ (e : Setup) (L : List ℕ) (me : ℕ) where
           steps = no-steps;
           refused = r;
         }))
-        none (λ off p r. AtOnce off ready refl r)
+        none
+        (λ off p r. (
+          AtOnce off ready refl r,
+          want,
+          (closed-operation e (run e L) s me is).make ask p mid want r off going,
+        ))
 
     no_choice-fine : (ask : Ask) (on : Bool) → migration e ≡ on → OfAsk ask acting.todo
-        → AsksFor mid mid.todo ask.need → ask.need ≤ e.settings.sbct
+        → IsWanted ask → AsksFor mid mid.todo ask.need → ask.need ≤ e.settings.sbct
         → chosen_spot mid.instance ask.need ≡ None → Fine (search_if e me ask mid on)
-    no_choice-fine ask true m o asks small c =
-        search-fine e L me set ask (greatest_number e) 0 mid k o m small (omega arith)
+    no_choice-fine ask true m o want asks small c =
+        search-fine e rules L me set is ask (greatest_number e) 0 mid k o m small (omega arith)
         (record {
           before = L;
           since = [];
@@ -84,31 +123,33 @@ module _ (e : Setup) (L : List ℕ) (me : ℕ) where
           saw = (refl, refl);
           steps = no-steps;
         })
-    no_choice-fine ask false m o asks small c = plan-fine ask o asks (λ s. c) (inl m)
+    no_choice-fine ask false m o want asks small c = plan-fine ask o want asks (λ s. c) (inl m)
 
     chosen-fine : (ask : Ask) (s : Option Spot) → chosen_spot mid.instance ask.need ≡ s
-        → OfAsk ask acting.todo → AsksFor mid mid.todo ask.need → ask.need ≤ e.settings.sbct
-        → Fine (chosen_by e me ask mid s)
-    chosen-fine ask (Some spot) c o asks small =
-        choice-fine e L me set ask mid (Some spot) c k o small (Had ready refl)
-    chosen-fine ask None c o asks small = no_choice-fine ask (migration e) refl o asks small c
+        → OfAsk ask acting.todo → IsWanted ask → AsksFor mid mid.todo ask.need
+        → ask.need ≤ e.settings.sbct → Fine (chosen_by e me ask mid s)
+    chosen-fine ask (Some spot) c o want asks small =
+        choice-fine e rules L me set is ask mid (Some spot) c k o small (Had ready refl) want going
+    chosen-fine ask None c o want asks small =
+        no_choice-fine ask (migration e) refl o want asks small c
 
-    seek-fine : (ask : Ask) → OfAsk ask acting.todo → AsksFor mid mid.todo ask.need
+    seek-fine : (ask : Ask) → OfAsk ask acting.todo → IsWanted ask
+        → AsksFor mid mid.todo ask.need
         → Fine (seek e me ask mid)
-    seek-fine ask o asks = by (is_alone mid.instance ask.need) refl
+    seek-fine ask o want asks = by (is_alone mid.instance ask.need) refl
       where
         by : (b : Bool) → is_alone mid.instance ask.need ≡ b → Fine (seek_by e me ask mid b)
-        by true t = let l = big e L me set mid (k.2 ∙ set) ask.need t in
-            plan-fine ask o asks (λ s. absurd (omega (arith, l, s))) (inr l)
-        by false t = chosen-fine ask (chosen_spot mid.instance ask.need) refl o asks
-            (little e L me set mid (k.2 ∙ set) ask.need t)
+        by true t = let l = big e rules L me set is mid (k.2 ∙ set) ask.need t in
+            plan-fine ask o want asks (λ s. absurd (omega (arith, l, s))) (inr l)
+        by false t = chosen-fine ask (chosen_spot mid.instance ask.need) refl o want asks
+            (little e rules L me set is mid (k.2 ∙ set) ask.need t)
 
     first-is : (o : Op) (ops : List Op) (x : Entry) → mid.todo ≡ o ∷ ops → Makes o x
         → IsOfFirst acting.todo x
     first-is o ops x q m = record { first = o; others = ops; is = sym k.1 ∙ q; makes = m }
 
     -- an operation whose name isn't held
-    skipped : (n : ℕ) (x : Entry) → named_at n mid.held ≡ None → IsNow e L me (logged x mid)
+    skipped : (n : ℕ) (x : Entry) → named_at n mid.held ≡ None → IsNow e rules L me (logged x mid)
         → IsSkipped e L me n
     skipped n x i now = record {
       begins = ready;
@@ -123,11 +164,31 @@ module _ (e : Setup) (L : List ℕ) (me : ℕ) where
       abbrev asked : Named → Ask
       asked h = record { name = fresh; need = need_of bytes; old = Some h }
 
+      itself-held : (h : Named) → named_at old mid.held ≡ Some h → h.name ≡ old
+          → named_at h.name mid.held ≡ Some h
+      itself-held h i nm = subst (λ n. named_at n mid.held ≡ Some h) (sym nm) i
+
+      -- the block that is resized lies with the scheduler
+      resized-lies : (h : Named) → named_at h.name mid.held ≡ Some h
+          → decision_at mid.instance h.spot (need_of bytes) ≢ Move
+          → LiesWith fresh (resized_place mid.instance h.spot (need_of bytes))
+          (resizing_at mid.instance h.spot (need_of bytes) fresh)
+      resized-lies h held stays =
+          let lie = lies-with e (run e L) s me is (at Begin mid) walk.kept in
+          let order = (lie.instance is).order in
+          let found = stays-employed mid.instance h.spot (need_of bytes) order stays in
+          let block = hit-found e (with_actor (run e L) s me (at Begin mid)) walk.kept me
+          (scheduler-seat e me is) (at Begin mid)
+          (put-here (run e L).actors me (at Begin mid) me refl) h.name h.spot
+          (held-stands h.name h (at Begin mid) held) found.0 found.1 in
+          resizing-lies mid.instance h.spot (need_of bytes) fresh order stays found.0 found.1
+          block.0 block.1
+
       resized-fine : (h : Named) (d : Decision) → named_at old mid.held ≡ Some h → h.name ≡ old
           → decision_at mid.instance h.spot (need_of bytes) ≡ d → d ≢ Move
           → Fine (resized_here h fresh (need_of bytes) mid)
       resized-fine h d i nm dec ne =
-          logged-fine e L me set
+          logged-fine e rules L me set is
           (entry.ReallocHere h.name fresh (resized_place mid.instance h.spot (need_of bytes)))
           (holding fresh h.spot (let_go h.name
           (record mid { instance = resizing_at mid.instance h.spot (need_of bytes) fresh })))
@@ -143,6 +204,12 @@ module _ (e : Setup) (L : List ℕ) (me : ℕ) where
             carrier = refl;
             offset = refl;
             size = refl;
+            there = landed e rules L me set is fresh
+                (resized_place mid.instance h.spot (need_of bytes))
+                (holding fresh h.spot (let_go h.name
+                (record mid { instance = resizing_at mid.instance h.spot (need_of bytes) fresh })))
+                (resized-lies h (itself-held h i nm) (subst (λ d. d ≢ Move) (sym dec) ne))
+                (ap (λ (a : Actor). a.instance) now);
           })
 
       decided-fine : (h : Named) (d : Decision) → named_at old mid.held ≡ Some h → h.name ≡ old
@@ -150,6 +217,12 @@ module _ (e : Setup) (L : List ℕ) (me : ℕ) where
           → Fine (reallocated_by e me h fresh (need_of bytes) mid d)
       decided-fine h Move i nm dec = seek-fine (asked h)
           (subst (OfAsk (asked h)) (sym todo ∙ k.1) (refl, refl, (h, refl, nm)))
+          (record {
+            fresh = fresh-name fresh (op.Realloc old fresh bytes) ops todo (grind arith);
+            least = need-least bytes;
+            even = need-even bytes;
+            old = itself-held h i nm;
+          })
           (subst (λ os. AsksFor mid os (need_of bytes)) (sym todo)
           (refl, subst (IsToMove mid.instance (need_of bytes)) (sym i) dec))
       decided-fine h Stay i nm dec = resized-fine h Stay i nm dec (λ q. absurd (cc))
@@ -160,7 +233,7 @@ module _ (e : Setup) (L : List ℕ) (me : ℕ) where
 
       realloc-fine : (h : Option Named) → named_at old mid.held ≡ h
           → Fine (reallocated e me old fresh (need_of bytes) mid h)
-      realloc-fine None i = logged-fine e L me set (entry.ReallocSkipped old fresh) mid k
+      realloc-fine None i = logged-fine e rules L me set is (entry.ReallocSkipped old fresh) mid k
           (first-is (op.Realloc old fresh bytes) ops _ todo (refl, refl))
           (skipped old (entry.ReallocSkipped old fresh) i)
       realloc-fine (Some h) i = decided-fine h (decision_at mid.instance h.spot (need_of bytes)) i
@@ -168,40 +241,50 @@ module _ (e : Setup) (L : List ℕ) (me : ℕ) where
 
     free-fine : (n : ℕ) (ops : List Op) (h : Option Named) → mid.todo ≡ op.Free n ∷ ops
         → named_at n mid.held ≡ h → Fine (freed e me n mid h)
-    free-fine n ops None q i = logged-fine e L me set (entry.FreeSkipped n) mid k
+    free-fine n ops None q i = logged-fine e rules L me set is (entry.FreeSkipped n) mid k
         (first-is (op.Free n) ops _ q refl) (skipped n (entry.FreeSkipped n) i)
-    free-fine n ops (Some h) q i = task-fine e L me set (Freeing n) h mid k
-        (subst (OfTask (Freeing n)) (sym q ∙ k.1) refl) tt
+    free-fine n ops (Some h) q i = task-fine e rules L me set is (Freeing n) h mid k
+        (subst (OfTask (Freeing n)) (sym q ∙ k.1) refl) (λ now. tt)
 
     give-fine : (n to : ℕ) (ops : List Op) (h : Option Named) → mid.todo ≡ op.Give n to ∷ ops
         → named_at n mid.held ≡ h → Fine (giving n to mid h)
-    give-fine n to ops None q i = logged-fine e L me set (entry.GiveSkipped n to) mid k
+    give-fine n to ops None q i = logged-fine e rules L me set is (entry.GiveSkipped n to) mid k
         (first-is (op.Give n to) ops _ q (refl, refl))
         (skipped n (entry.GiveSkipped n to) i)
     give-fine n to ops (Some h) q i = (
-      (ops, q ∙ ap (λ m. op.Give m to ∷ ops) (sym (item_at-key name_of n h mid.held i))),
+      (λ r. absurd cc),
       k.2 ∙ set,
-      λ now. inl (k.0, k.1),
+      λ now. (
+        (ops, q ∙ ap (λ m. op.Give m to ∷ ops) (sym (item_at-key name_of n h mid.held i))),
+        inl (k.0, k.1),
+      ),
     )
 
     reported-fine : (mbcs sbcs : Figures) (b : Actor) (ops : List Op) → mid.todo ≡ op.Info ∷ ops
         → Keeps acting b → Fine (reported mbcs sbcs b)
     reported-fine mbcs sbcs b ops q l =
-        logged-fine e L me set (entry.Info (report mbcs b.mbcs) (report sbcs b.sbcs))
+        logged-fine e rules L me set is (entry.Info (report mbcs b.mbcs) (report sbcs b.sbcs))
         (record b { mbcs = restarted mbcs b.mbcs; sbcs = restarted sbcs b.sbcs }) l
         (first-is op.Info ops _ q tt) (λ now. tt)
 
     pub itself-fine : (ops : List Op) → mid.todo ≡ ops → Fine (itself e me mid ops)
-    itself-fine [] q = (tt, k.2 ∙ set, λ now. inl (k.0, k.1))
+    itself-fine [] q = ((λ r. absurd cc), k.2 ∙ set, λ now. (tt, inl (k.0, k.1)))
     itself-fine (op.Alloc n b ∷ ops) q =
         let ask : Ask = record { name = n; need = need_of b; old = None } in
         seek-fine ask (subst (OfAsk ask) (sym q ∙ k.1) (refl, refl, refl))
+        (record {
+          fresh = fresh-name n (op.Alloc n b) ops q (grind arith);
+          least = need-least b;
+          even = need-even b;
+          old = tt;
+        })
         (subst (λ os. AsksFor mid os (need_of b)) (sym q) refl)
     itself-fine (op.Free n ∷ ops) q = free-fine n ops (named_at n mid.held) q refl
     itself-fine (op.Realloc o n b ∷ ops) q = realloc-fine o n b ops q (named_at o mid.held) refl
     itself-fine (op.Give n to ∷ ops) q = give-fine n to ops (named_at n mid.held) q refl
-    itself-fine (op.Take n tries ∷ ops) q = ((ops, q), k.2 ∙ set, λ now. inl (k.0, k.1))
+    itself-fine (op.Take n tries ∷ ops) q =
+        ((λ r. absurd cc), k.2 ∙ set, λ now. ((ops, q), inl (k.0, k.1)))
     itself-fine (op.Info ∷ ops) q = reported-fine (figures (employed_multis mid))
         (figures (employed_singles mid)) (observed mid) ops q k
     itself-fine (op.Idle ∷ ops) q =
-        logged-fine e L me set entry.Idle mid k (first-is op.Idle ops _ q tt) (λ now. tt)
+        logged-fine e rules L me set is entry.Idle mid k (first-is op.Idle ops _ q tt) (λ now. tt)

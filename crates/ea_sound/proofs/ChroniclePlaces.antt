@@ -29,8 +29,32 @@ use Rattle.ea_machine.specs.Turns.{actor_after, begun}
 use Rattle.ea_sound.specs.Present.{OfAsk, OfTask}
 use Rattle.ea_sound.proofs.Chronicle.{IsOfFirst, IsSame, Outcomes, Placement, Placing, SoFar, Underway, ask-need, failed-is, outcomes, task-first}
 use Rattle.ea_sound.proofs.ShortRoutes.{Keeps, keeps-on, route-keeps}
+use Rattle.std.proofs.Common.{◌≢◌}
+use Rattle.ea_model.specs.Instance.{creating_single, placing_at}
+use Rattle.ea_machine.specs.Actor.{Begin, Ready}
+use Rattle.ea_machine.specs.Contents.{actor_sum, seats}
+use Rattle.ea_machine.specs.Machine.{wants}
+use Rattle.ea_machine.specs.Nodes.{named_at}
+use Rattle.ea_machine.specs.Owners.{owner_of}
+use Rattle.ea_machine.specs.Placements.{holding, spot_of_place}
+use Rattle.ea_machine.specs.Released.{LiesAt}
+use Rattle.ea_machine.specs.Setup.{is_scheduler}
+use Rattle.ea_machine.specs.Shared.{Shared}
+use Rattle.ea_machine.specs.Table.{effect}
+use Rattle.ea_sound.specs.Leaves.{InOperation, Wanted, making as with_carrier}
+use Rattle.ea_sound.specs.Moments.{at, with_actor}
+use Rattle.ea_sound.specs.Orderly.{IsOrderly}
+use Rattle.ea_sound.specs.Present.{OldHeld, Rule}
+use Rattle.ea_sound.proofs.Alike.{lies-with}
+use Rattle.ea_sound.proofs.Choosing.{chosen-gap}
+use Rattle.ea_sound.proofs.FewBlocks.{blocks_named}
+use Rattle.ea_sound.proofs.Hits.{HasBlock, held-stands, hit}
+use Rattle.ea_sound.proofs.LyingBlocks.{LiesWith, lying, placing-lies, route-lies, single-lies}
+use Rattle.ea_sound.proofs.Numbered.{scheduler-seat}
+use Rattle.ea_sound.proofs.Operating.{closed-operation, held-other, held-stays, made-wanted}
+use Rattle.ea_sound.proofs.Totals.{put-here, total-part}
 
-module _ (e : Setup) (L : List ℕ) (me : ℕ) where
+module _ (e : Setup) (rules : (L : List ℕ) → Rule e (run e L)) (L : List ℕ) (me : ℕ) where
   abbrev pub acting : Actor
   acting = actor_after e L me
 
@@ -57,26 +81,55 @@ module _ (e : Setup) (L : List ℕ) (me : ℕ) where
   IsNow b = observed b ≡ actor_after e turn me
 
   abbrev pub Fine : Actor → Type 0
-  Fine b = SoFar e turn me (observed b) b.stage × (b.instance.settings ≡ e.settings)
-      × (IsNow b → Stays b ⊎ OneMore b)
+  Fine b = (b.stage ≢ Ready) × (b.instance.settings ≡ e.settings)
+      × (IsNow b → SoFar e turn me (observed b) b.stage × (Stays b ⊎ OneMore b))
 
-  module _ (set : acting.instance.settings ≡ e.settings) where
+  -- the row of this turn is done on what is shared
+  abbrev pub shared : Shared
+  shared = effect me (wants acting) (run e L).shared
+
+  -- in the middle of the turn the rule holds, and what is asked for may be placed
+  abbrev pub IsGoing : Actor → Type 0
+  IsGoing b = InOperation e (run e L) shared me (at Begin b)
+
+  abbrev pub IsWanted : Actor → Ask → Type 0
+  IsWanted b ask = Wanted e (run e L) shared me b ask
+
+  module _ (set : acting.instance.settings ≡ e.settings) (is : is_scheduler e me ≡ true) where
+    abbrev pub IsAfter : Actor → Type 0
+    IsAfter b = b.instance ≡ (actor_after e turn me).instance
+
+    -- a block that the scheduler's instance has lies there
+    pub landed : (n : ℕ) (p : Place) (b : Actor) → LiesWith n p b.instance → IsAfter b
+        → LiesAt e n p (run e turn)
+    landed n p b has q =
+        let f = blocks_named (lying n p) in
+        omega (
+          arith,
+          subst (LiesWith n p) q has,
+          total-part (actor_sum f f) (run e turn).actors me (seats e) (scheduler-seat e me is),
+        )
+
     pub logged-fine : (x : Entry) (b : Actor) → Keeps acting b → IsOfFirst acting.todo x
         → (IsNow (logged x b) → Tells e L me x) → Fine (logged x b)
     logged-fine x b k o t = (
-      tt,
+      (λ q. absurd cc),
       k.2 ∙ set,
-      λ now. inr (record {
-        entry = x;
-        of = o;
-        left = ap later k.1;
-        log = ap (λ l. l ++ x ∷ []) k.0;
-        tells = t now;
-      }),
+      λ now. (
+        tt,
+        inr (record {
+          entry = x;
+          of = o;
+          left = ap later k.1;
+          log = ap (λ l. l ++ x ∷ []) k.0;
+          tells = t now;
+        }),
+      ),
     )
 
-    placed : (place : Place) → Placement e turn me acting.log place → IsPlacement e L me place
-    placed place h = record {
+    placed : (name : ℕ) (place : Place) → Placement e turn me acting.log name place
+        → IsPlacement e L me name place
+    placed name place h = record {
       before = h.before;
       since = h.since;
       split = h.split;
@@ -84,6 +137,7 @@ module _ (e : Setup) (L : List ℕ) (me : ℕ) where
       need = h.need;
       asks = h.asks;
       placed = h.placed;
+      there = h.there;
     }
 
     entry-tells : (task : Task) (g : Gone) → Placing e turn me acting.log task
@@ -91,37 +145,68 @@ module _ (e : Setup) (L : List ℕ) (me : ℕ) where
     entry-tells (Freeing n) Open h = tt
     entry-tells (Freeing n) Here h = tt
     entry-tells (Freeing n) (Queued to) h = tt
-    entry-tells (Moving o n p) Open h = placed p h
-    entry-tells (Moving o n p) Here h = placed p h
-    entry-tells (Moving o n p) (Queued to) h = placed p h
+    entry-tells (Moving o n p) Open h = placed n p h
+    entry-tells (Moving o n p) Here h = placed n p h
+    entry-tells (Moving o n p) (Queued to) h = placed n p h
 
     pub carried-fine : (task : Task) (r : Option Route) (g : Gone) (b : Actor) → Keeps acting b
-        → OfTask task acting.todo → Placing e turn me acting.log task
+        → OfTask task acting.todo → (IsAfter b → Placing e turn me acting.log task)
         → Fine (carried (For task) (task_over task) (record { actor = b; route = r; gone = g }))
     carried-fine task None g b k o h = logged-fine (entry_of task g) b k
-        (task-first task g acting.todo o) (λ now. entry-tells task g h)
+        (task-first task g acting.todo o)
+        (λ now. entry-tells task g (h (ap (λ (a : Actor). a.instance) now)))
     carried-fine task (Some r) g b k o h = (
-      (subst (OfTask task) (sym k.1) o, subst (λ l. Placing e turn me l task) (sym k.0) h),
+      (λ q. absurd cc),
       k.2 ∙ set,
-      λ now. inl (k.0, k.1),
+      λ now. (
+        (
+          subst (OfTask task) (sym k.1) o,
+          subst (λ l. Placing e turn me l task) (sym k.0)
+              (h (ap (λ (a : Actor). a.instance) now)),
+        ),
+        inl (k.0, k.1),
+      ),
     )
 
     pub task-fine : (task : Task) (h : Named) (b : Actor) → Keeps acting b → OfTask task acting.todo
-        → Placing e turn me acting.log task → Fine (hands_over e me task h b)
+        → (IsAfter (route_of e me h (let_go h.name b)).actor → Placing e turn me acting.log task)
+        → Fine (hands_over e me task h b)
     task-fine task h b k o p =
         let t = route_of e me h (let_go h.name b) in
         carried-fine task t.route t.gone t.actor
         (keeps-on acting (let_go h.name b) t.actor (route-keeps e me h (let_go h.name b)) k) o p
 
+    -- where the name is held, so that the rule holds
+    module _ (n : ℕ) (spot : Spot) (c : Actor) (g : IsGoing (holding n spot c)) where
+      abbrev b : Actor
+      b = holding n spot c
+
+      in_order : IsOrderly c.instance
+      in_order = ((lies-with e (run e L) shared me is (at Begin b) g.kept).instance is).order
+
+      -- the old block stands at its spot
+      old-stands : (h : Named) → named_at h.name c.held ≡ Some h → migration e ≡ false
+          → owner_of h.spot.carrier ≡ me → HasBlock c.instance h.name h.spot
+      old-stands h held off own =
+          hit e (with_actor (run e L) shared me (at Begin b)) me (scheduler-seat e me is) g.kept
+          (at Begin b) (put-here (run e L).actors me (at Begin b) me refl) h.name h.spot
+          (inr (off, own))
+          (held-stands h.name h (at Begin b)
+          (held-stays e (run e L) shared me is n spot h c held g))
+          refl
+
     -- a block is placed
-    stands-fine : (ask : Ask) (place : Place) (b : Actor) → Keeps acting b
+    stands-fine : (ask : Ask) (place : Place) (spot : Spot) (c : Actor) → Keeps acting c
         → OfAsk ask acting.todo → IsPlacedAt e (run e L) me ask.need place
-        → Fine (stands e me ask.name place ask.old b)
-    stands-fine ask place b k o p =
-        by ask.old refl (outcomes ask 0 Space place acting.todo o ask.old refl)
+        → OldHeld ask.old c.held → LiesWith ask.name place c.instance
+        → IsGoing (holding ask.name spot c)
+        → Fine (stands e me ask.name place ask.old (holding ask.name spot c))
+    stands-fine ask place spot c k o p held has g =
+        by ask.old refl held (outcomes ask 0 Space place acting.todo o ask.old refl)
       where
-        here : Placement e turn me acting.log place
-        here = record {
+        here : LiesAt e ask.name place (run e turn)
+            → Placement e turn me acting.log ask.name place
+        here lies = record {
           before = L;
           since = [];
           split = refl;
@@ -129,28 +214,51 @@ module _ (e : Setup) (L : List ℕ) (me : ℕ) where
           need = ask.need;
           asks = ask-need ask acting.todo o;
           placed = p;
+          there = lies;
         }
 
-        by : (old : Option Named) → ask.old ≡ old → Outcomes ask 0 Space place acting.todo old
-            → Fine (stands e me ask.name place old b)
-        by None q f = logged-fine (entry.Alloc ask.name place) b k f.1 (λ now. placed place here)
-        by (Some h) q f = task-fine (Moving h.name ask.name place) h b k f.1 here
+        by : (old : Option Named) → ask.old ≡ old → OldHeld old c.held
+            → Outcomes ask 0 Space place acting.todo old
+            → Fine (stands e me ask.name place old (holding ask.name spot c))
+        by None q h f =
+            let b = holding ask.name spot c in
+            logged-fine (entry.Alloc ask.name place) b k f.1
+            (λ now. placed ask.name place
+            (here (landed ask.name place b has (ap (λ (a : Actor). a.instance) now))))
+        by (Some h) q old f =
+            let b = holding ask.name spot c in
+            let t = route_of e me h (let_go h.name b) in
+            task-fine (Moving h.name ask.name place) h b k f.1
+            (λ now. here (landed ask.name place t.actor
+            (route-lies e me ask.name place h
+            (held-other e (run e L) shared me is ask.name spot h c old g) (let_go h.name b) has
+            (λ off own. (in_order ask.name spot c g, old-stands ask.name spot c g h old off own)))
+            now))
 
     placed_at-fine : (ask : Ask) (b : Actor) (spot : Spot) → Keeps acting b → OfAsk ask acting.todo
         → IsPlacedAt e (run e L) me ask.need (place_at b.instance spot ask.need)
+        → chosen_spot b.instance ask.need ≡ Some spot → IsWanted b ask → IsGoing b
         → Fine (placed_at e me ask b spot)
-    placed_at-fine ask b spot k o p = stands-fine ask (place_at b.instance spot ask.need) _ k o p
+    placed_at-fine ask b spot k o p chosen want g =
+        let order = ((lies-with e (run e L) shared me is (at Begin b) g.kept).instance is).order in
+        let gap = chosen-gap b.instance ask.need spot order.rising order.laid chosen in
+        stands-fine ask (place_at b.instance spot ask.need) spot
+        (record b { instance = placing_at b.instance spot ask.need ask.name }) k o p want.old
+        (placing-lies b.instance spot ask.need ask.name gap.0 gap.1)
+        ((closed-operation e (run e L) shared me is).place ask spot b want chosen g)
 
     pub choice-fine : (ask : Ask) (b : Actor) (o : Option Spot)
         → chosen_spot b.instance ask.need ≡ o → Keeps acting b → OfAsk ask acting.todo
         → ask.need ≤ e.settings.sbct
-        → IsJustBefore e (run e L) me ask.need b.instance → Fine (placed_by e me ask b o)
-    choice-fine ask b None c k o small g = (tt, k.2 ∙ set, λ now. inl (k.0, k.1))
-    choice-fine ask b (Some spot) c k o small g = placed_at-fine ask b spot k o
+        → IsJustBefore e (run e L) me ask.need b.instance → IsWanted b ask → IsGoing b
+        → Fine (placed_by e me ask b o)
+    choice-fine ask b None c k o small j want g =
+        ((λ q. absurd cc), k.2 ∙ set, λ now. (tt, inl (k.0, k.1)))
+    choice-fine ask b (Some spot) c k o small j want g = placed_at-fine ask b spot k o
         (inl (
           small,
-          record { instance = b.instance; before = g; spot = spot; chosen = c; is = refl },
-        ))
+          record { instance = b.instance; before = j; spot = spot; chosen = c; is = refl },
+        )) c want g
 
     -- whether a need is above the threshold
     module _ (b : Actor) (sets : b.instance.settings ≡ e.settings) (need : ℕ) where
@@ -165,23 +273,28 @@ module _ (e : Setup) (L : List ℕ) (me : ℕ) where
         → OfAsk ask acting.todo → plan b.instance ask.need ≡ Ok p
         → Creates e (run e L) me ask.need b.instance p
         → (ask.need ≤ e.settings.sbct → chosen_spot b.instance ask.need ≡ None)
+        → IsWanted b ask → IsGoing (with_carrier ask p b p.single)
         → Fine (created e me ask p b)
-    created-fine ask p b k o planned c none = by p.single refl
+    created-fine ask p b k o planned c none want going = by p.single refl going
       where
         alone : p.single ≡ is_alone b.instance ask.need
         alone = (plan-IsPlanned b.instance ask.need p planned).single
 
-        by : (t : Bool) → p.single ≡ t → Fine (created_by e me ask p b t)
-        by true s = stands-fine ask (single_place p ask.need) _ k o
+        by : (t : Bool) → p.single ≡ t → IsGoing (with_carrier ask p b t)
+            → Fine (created_by e me ask p b t)
+        by true s g = stands-fine ask (single_place p ask.need)
+            (spot_of_place (single_place p ask.need))
+            (record b { instance = creating_single b.instance p ask.need ask.name }) k o
             (inr (
               big b (k.2 ∙ set) ask.need (sym alone ∙ s),
               record { instance = b.instance; plan = p; creates = c; single = s; is = refl },
-            ))
-        by false s =
+            )) want.old (single-lies b.instance p ask.need ask.name) g
+        by false s g =
             let small = little b (k.2 ∙ set) ask.need (sym alone ∙ s) in
             choice-fine ask (record b { instance = creating b.instance p })
             (chosen_spot (creating b.instance p) ask.need) refl k o small
             (Created b.instance p c (none small) refl)
+            (made-wanted e (run e L) shared me is ask p b want) g
 
     -- no carrier can be created, or one is
     pub planned-fine : (ask : Ask) (looked : ℕ) (b : Actor) (o : Result CarrierPlan NoCarrier)
@@ -191,7 +304,8 @@ module _ (e : Setup) (L : List ℕ) (me : ℕ) where
         → IsExhausted e L me (failed ask looked why ask.old) ask.need looked why)
         → (ask.need ≤ e.settings.sbct → chosen_spot b.instance ask.need ≡ None)
         → (migration e ≡ false → (p : CarrierPlan) → plan b.instance ask.need ≡ Ok p
-        → Creates e (run e L) me ask.need b.instance p)
+        → Creates e (run e L) me ask.need b.instance p
+        × IsWanted b ask × IsGoing (with_carrier ask p b p.single))
         → Fine (new_carrier_by e me ask looked b o)
     planned-fine ask looked b (Err why) q k o x none f =
         by ask.old refl (outcomes ask looked why (record { carrier = 0; offset = 0; size = 0 })
@@ -214,11 +328,15 @@ module _ (e : Setup) (L : List ℕ) (me : ℕ) where
       where
         by : (on : Bool) → migration e ≡ on → Fine (making e me ask p b on)
         by true m = (
-          record { of = subst (OfAsk ask) (sym k.1) o; on = m; planned = q; none = none },
+          (λ r. absurd cc),
           k.2 ∙ set,
-          λ now. inl (k.0, k.1),
+          λ now. (
+            record { of = subst (OfAsk ask) (sym k.1) o; on = m; planned = q; none = none },
+            inl (k.0, k.1),
+          ),
         )
-        by false m = created-fine ask p b k o q (f m p q) none
+        by false m =
+            let c = f m p q in created-fine ask p b k o q c.0 none c.1 c.2
 
     -- the fail of an operation that is under way
     pub fails : (ask : Ask) (looked : ℕ) (why : NoCarrier) (b : Actor) (before since : List ℕ)
@@ -260,16 +378,19 @@ module _ (e : Setup) (L : List ℕ) (me : ℕ) where
         by : (t : Bool) → (nat_lt 0 at && nat_lt looked SEARCH_LIMIT) ≡ t
             → Fine (searched_by e me ask at looked b t)
         by true t = (
-          record {
-            of = subst (OfAsk ask) (sym k.1) o;
-            on = on;
-            small = small;
-            low = grind (arith, t);
-            room = grind (arith, t);
-            way = u;
-          },
+          (λ q. absurd cc),
           k.2 ∙ set,
-          λ now. inl (k.0, k.1),
+          λ now. (
+            record {
+              of = subst (OfAsk ask) (sym k.1) o;
+              on = on;
+              small = small;
+              low = grind (arith, t);
+              room = grind (arith, t);
+              way = u;
+            },
+            inl (k.0, k.1),
+          ),
         )
         by false t = planned-fine ask looked b (plan b.instance ask.need) refl k o
             (λ why r. fails ask looked why b u.before u.since u.split u.same

@@ -30,8 +30,15 @@ use Rattle.ea_sound.proofs.BeginTurns.{IsInBegin, Walks, walks}
 use Rattle.ea_sound.proofs.ShortRoutes.{Keeps, keeps-same, turned-keeps}
 use Rattle.ea_sound.proofs.ChroniclePlaces.{Fine as IsFine, carried-fine, choice-fine, created-fine, logged-fine, search-fine}
 use Rattle.ea_sound.proofs.ChronicleOperations.{itself-fine}
+use Rattle.ea_machine.specs.Setup.{is_scheduler}
+use Rattle.ea_machine.specs.Shared.{Shared}
+use Rattle.ea_sound.specs.Leaves.{Leaves}
+use Rattle.ea_sound.specs.Present.{Rule}
+use Rattle.ea_sound.proofs.ChroniclePlaces.{shared}
+use Rattle.ea_sound.proofs.Operating.{begun-kept}
+use Rattle.ea_sound.proofs.RowLeaves.{row-left}
 
-module _ (e : Setup) (L : List ℕ) (me : ℕ) where
+module _ (e : Setup) (rules : (L : List ℕ) → Rule e (run e L)) (L : List ℕ) (me : ℕ) where
   abbrev acting : Actor
   acting = actor_after e L me
 
@@ -42,33 +49,53 @@ module _ (e : Setup) (L : List ℕ) (me : ℕ) where
   turn = L ++ me ∷ []
 
   abbrev Fine : Actor → Type 0
-  Fine = IsFine e L me
+  Fine = IsFine e rules L me
 
-  module _ (set : acting.instance.settings ≡ e.settings) where
+  module _ (set : acting.instance.settings ≡ e.settings) (is : is_scheduler e me ≡ true) where
+    abbrev s : Shared
+    s = shared e rules L me
+
+    abbrev LeftAt : Stage → Answer → Type 0
+    LeftAt = Leaves e (run e L) s me acting
+
+    -- what the row leaves
+    left : (st : Stage) (r : Answer) → acting.stage ≡ st → acting.stage ≢ Ended
+        → answered (run e L) me ≡ r → LeftAt st r
+    left st r q ne ans = subst (LeftAt st) ans
+        (subst (λ st. LeftAt st (answered (run e L) me)) q
+        (row-left e (run e L) me is (rules L) acting.stage ne refl))
+
     -- a scheduler that made no entry
-    rests-fine : (b : Actor) (st : Stage) → b.stage ≡ st → SoFar e turn me (observed b) st
-        → Keeps acting b → Fine b
-    rests-fine b st q h k =
-        (subst (SoFar e turn me (observed b)) (sym q) h, k.2 ∙ set, λ now. inl (k.0, k.1))
+    rests-fine : (b : Actor) (st : Stage) → b.stage ≡ st → st ≢ Ready
+        → SoFar e turn me (observed b) st → Keeps acting b → Fine b
+    rests-fine b st q ne h k = (
+      (λ r. ne (sym q ∙ r)),
+      k.2 ∙ set,
+      λ now. (subst (SoFar e turn me (observed b)) (sym q) h, inl (k.0, k.1)),
+    )
 
     -- an answer that never comes
     halted-fine : Fine (halted acting)
-    halted-fine = rests-fine (halted acting) Ended refl tt (keeps-same acting)
+    halted-fine = rests-fine (halted acting) Ended refl (λ q. absurd cc) tt (keeps-same acting)
 
     -- a walk, then perhaps the operation
     walk-fine : (st : Stage) → mid.stage ≡ st → IsInBegin st → Keeps acting mid
-        → Fine (onward_at e me mid st)
-    walk-fine Ready q w k = itself-fine e L me set q k mid.todo refl
-    walk-fine Begin q w k = rests-fine mid Begin q tt k
-    walk-fine (Collecting c) q w k = rests-fine mid (Collecting c) q tt k
-    walk-fine (Routed r Walk g) q w k = rests-fine mid (Routed r Walk g) q tt k
-    walk-fine Ended q w k = rests-fine mid Ended q tt k
-    walk-fine (Routed r (For task) g) q w k = absurd w
-    walk-fine (Searching ask at looked) q w k = absurd w
-    walk-fine (Fetching ask at looked seen) q w k = absurd w
-    walk-fine (Creating ask p) q w k = absurd w
-    walk-fine (Giving h to) q w k = absurd w
-    walk-fine (Taking n tries left) q w k = absurd w
+        → acting.stage ≢ Ended → Fine (onward_at e me mid st)
+    walk-fine Ready q w k ne = itself-fine e rules L me set is q k
+        (begun-kept e (run e L) s me is acting (answered (run e L) me) acting.stage
+        (left acting.stage (answered (run e L) me) refl ne refl) q) mid.todo refl
+    walk-fine Begin q w k ne = rests-fine mid Begin q (λ r. absurd cc) tt k
+    walk-fine (Collecting c) q w k ne =
+        rests-fine mid (Collecting c) q (λ r. absurd cc) tt k
+    walk-fine (Routed r Walk g) q w k ne =
+        rests-fine mid (Routed r Walk g) q (λ r. absurd cc) tt k
+    walk-fine Ended q w k ne = rests-fine mid Ended q (λ r. absurd cc) tt k
+    walk-fine (Routed r (For task) g) q w k ne = absurd w
+    walk-fine (Searching ask at looked) q w k ne = absurd w
+    walk-fine (Fetching ask at looked seen) q w k ne = absurd w
+    walk-fine (Creating ask p) q w k ne = absurd w
+    walk-fine (Giving h to) q w k ne = absurd w
+    walk-fine (Taking n tries left) q w k ne = absurd w
 
     -- a scheduler is as now, and what it sees in this turn
     abbrev IsStill : Actor → Type 0
@@ -96,22 +123,25 @@ module _ (e : Setup) (L : List ℕ) (me : ℕ) where
         by : (t : Bool) → fits ask.need v ≡ t
             → Fine (saw_by e me ask at (counted v looked) acting v t)
         by true t = (
-          record {
-            of = h.of;
-            on = h.on;
-            small = h.small;
-            low = h.low;
-            old = looked;
-            room = h.room;
-            counts = refl;
-            fit = t;
-            way = turn-of ask.need (Searching ask at looked) (Saw v) (Shown at v) IsStill _
-                (AndShown e ask.need at looked v) st ans refl (λ xs p. (xs, refl, p)) h.way;
-          },
+          (λ q. absurd cc),
           set,
-          λ now. inl (refl, refl),
+          λ now. (
+            record {
+              of = h.of;
+              on = h.on;
+              small = h.small;
+              low = h.low;
+              old = looked;
+              room = h.room;
+              counts = refl;
+              fit = t;
+              way = turn-of ask.need (Searching ask at looked) (Saw v) (Shown at v) IsStill _
+                  (AndShown e ask.need at looked v) st ans refl (λ xs p. (xs, refl, p)) h.way;
+            },
+            inl (refl, refl),
+          ),
         )
-        by false t = search-fine e L me set ask (at - 1) (counted v looked) acting
+        by false t = search-fine e rules L me set is ask (at - 1) (counted v looked) acting
             (keeps-same acting) h.of h.on h.small (counted-most looked SEARCH_LIMIT v h.room)
             (turn-of ask.need (Searching ask at looked) (Saw v) (Shown at v) IsStill _
             (Searched ask.need (greatest_number e) 0 (at - 1) (counted v looked)) st ans refl
@@ -129,16 +159,18 @@ module _ (e : Setup) (L : List ℕ) (me : ℕ) where
 
     fetched-fine : (ask : Ask) (at looked : ℕ) (seen : OwnerWord) (r : Answer)
         → acting.stage ≡ Fetching ask at looked seen → answered (run e L) me ≡ r
-        → Fetches e L me acting ask at looked seen → Fine (fetched e me ask at looked acting r)
-    fetched-fine ask at looked seen (Won x) st ans h =
-        choice-fine e L me set ask (record acting { instance = employing acting.instance x })
+        → LeftAt (Fetching ask at looked seen) r → Fetches e L me acting ask at looked seen
+        → Fine (fetched e me ask at looked acting r)
+    fetched-fine ask at looked seen (Won x) st ans l h =
+        choice-fine e rules L me set is ask
+        (record acting { instance = employing acting.instance x })
         (chosen_spot (employing acting.instance x) ask.need) refl (refl, refl, refl) h.of h.small
         (Fetched ask at looked seen x st refl
-        (ap (λ i. chosen_spot i ask.need) h.way.same.2 ∙ h.way.none) ans refl)
-    fetched-fine ask at looked seen (Lost u) st ans h =
+        (ap (λ i. chosen_spot i ask.need) h.way.same.2 ∙ h.way.none) ans refl) l.0 l.2
+    fetched-fine ask at looked seen (Lost u) st ans l h =
         subst (λ k. Fine (search_at e me ask (at - 1) k acting)) (sym h.counts)
-        (search-fine e L me set ask (at - 1) (counted seen h.old) acting (keeps-same acting) h.of
-        h.on h.small (counted-most h.old SEARCH_LIMIT seen h.room)
+        (search-fine e rules L me set is ask (at - 1) (counted seen h.old) acting
+        (keeps-same acting) h.of h.on h.small (counted-most h.old SEARCH_LIMIT seen h.room)
         (turn-of ask.need (Fetching ask at looked seen) (Lost u) (Missed at u) IsStill _
         (Searched ask.need (greatest_number e) 0 (at - 1) (counted seen h.old)) st ans refl
         (λ xs p. subst (Searched ask.need (greatest_number e) 0 (at - 1) (counted seen h.old))
@@ -150,30 +182,31 @@ module _ (e : Setup) (L : List ℕ) (me : ℕ) where
         (lost-other ask.need seen u ((run e L).shared.places at) h.fit
         (sym (ap (λ stage. answer me (wants_at acting.next stage) (run e L).shared) st
         ∙ fetch-tries me at seen (run e L).shared) ∙ ans))))) h.way))
-    fetched-fine ask at looked seen Done st ans h = halted-fine
-    fetched-fine ask at looked seen (Head x) st ans h = halted-fine
-    fetched-fine ask at looked seen Rests st ans h = halted-fine
-    fetched-fine ask at looked seen (Passes x) st ans h = halted-fine
-    fetched-fine ask at looked seen (Saw x) st ans h = halted-fine
-    fetched-fine ask at looked seen (Home x) st ans h = halted-fine
-    fetched-fine ask at looked seen (Got x) st ans h = halted-fine
+    fetched-fine ask at looked seen Done st ans l h = halted-fine
+    fetched-fine ask at looked seen (Head x) st ans l h = halted-fine
+    fetched-fine ask at looked seen Rests st ans l h = halted-fine
+    fetched-fine ask at looked seen (Passes x) st ans l h = halted-fine
+    fetched-fine ask at looked seen (Saw x) st ans l h = halted-fine
+    fetched-fine ask at looked seen (Home x) st ans l h = halted-fine
+    fetched-fine ask at looked seen (Got x) st ans l h = halted-fine
 
     absent-fine : (n tries : ℕ) (ops : List Op) → acting.todo ≡ op.Take n tries ∷ ops
         → Fine (logged (entry.TakeAbsent n tries) acting)
     absent-fine n tries ops q =
-        logged-fine e L me set (entry.TakeAbsent n tries) acting (keeps-same acting)
+        logged-fine e rules L me set is (entry.TakeAbsent n tries) acting (keeps-same acting)
         (record { first = op.Take n tries; others = ops; is = q; makes = (refl, refl) })
         (λ now. tt)
 
     took-fine : (n tries left : ℕ) (r : Answer) (ops : List Op)
         → acting.todo ≡ op.Take n tries ∷ ops → Fine (took n tries left acting r)
     took-fine n tries left (Got (Some spot)) ops q =
-        logged-fine e L me set (entry.Take n) (holding n spot acting) (refl, refl, refl)
+        logged-fine e rules L me set is (entry.Take n) (holding n spot acting) (refl, refl, refl)
         (record { first = op.Take n tries; others = ops; is = q; makes = refl })
         (λ now. tt)
     took-fine n tries zero (Got None) ops q = absent-fine n tries ops q
     took-fine n tries (suc zero) (Got None) ops q = absent-fine n tries ops q
-    took-fine n tries (suc (suc left)) (Got None) ops q = ((ops, q), set, λ now. inl (refl, refl))
+    took-fine n tries (suc (suc left)) (Got None) ops q =
+        ((λ r. absurd cc), set, λ now. ((ops, q), inl (refl, refl)))
     took-fine n tries left Done ops q = halted-fine
     took-fine n tries left (Head x) ops q = halted-fine
     took-fine n tries left Rests ops q = halted-fine
@@ -185,7 +218,7 @@ module _ (e : Setup) (L : List ℕ) (me : ℕ) where
 
     -- what isn't Ready is done with
     onward-by : (b : Actor) (st : Stage) → b.stage ≡ st → Fine b → Fine (onward_at e me b st)
-    onward-by b Ready q h = absurd (subst (SoFar e turn me (observed b)) q h.0)
+    onward-by b Ready q h = absurd (h.0 q)
     onward-by b Begin q h = h
     onward-by b (Routed r y g) q h = h
     onward-by b (Collecting c) q h = h
@@ -210,18 +243,21 @@ module _ (e : Setup) (L : List ℕ) (me : ℕ) where
         inl (walks e me acting (Collecting c) (answered (run e L) me) tt ne (λ r. absurd (cc)))
     row-fine (Routed r (For task) g) q h ne =
         let t = turned e me r g acting (answered (run e L) me) in
-        inr (carried-fine e L me set task t.route t.gone t.actor
+        inr (carried-fine e rules L me set is task t.route t.gone t.actor
         (turned-keeps e me r g acting (answered (run e L) me)) h.0
-        (placing-longer e L me me acting.log task h.1))
+        (λ now. placing-longer e L me me acting.log task h.1))
     row-fine (Searching ask at looked) q h ne =
         inr (searched-fine ask at looked (answered (run e L) me) q refl h)
     row-fine (Fetching ask at looked seen) q h ne =
-        inr (fetched-fine ask at looked seen (answered (run e L) me) q refl h)
+        inr (fetched-fine ask at looked seen (answered (run e L) me) q refl
+        (left (Fetching ask at looked seen) (answered (run e L) me) q (λ r. ne (sym q ∙ r)) refl) h)
     row-fine (Creating ask p) q h ne =
-        inr (created-fine e L me set ask p acting (keeps-same acting) h.of h.planned
-        (ByItself h.on ask q refl refl h.planned) h.none)
+        let l = left (Creating ask p) (answered (run e L) me) q (λ r. ne (sym q ∙ r)) refl in
+        inr (created-fine e rules L me set is ask p acting (keeps-same acting) h.of h.planned
+        (ByItself h.on ask q refl refl h.planned) h.none l.0 l.2)
     row-fine (Giving g to) q h ne =
-        inr (logged-fine e L me set (entry.Give g.name to) (let_go g.name acting) (refl, refl, refl)
+        inr (logged-fine e rules L me set is (entry.Give g.name to) (let_go g.name acting)
+        (refl, refl, refl)
         (record { first = op.Give g.name to; others = h.0; is = h.1; makes = (refl, refl) })
         (λ now. tt))
     row-fine (Taking n tries left) q h ne =
@@ -234,7 +270,7 @@ module _ (e : Setup) (L : List ℕ) (me : ℕ) where
         → Fine (onward e me mid)
     turn-fine h ne =
         elim (row-fine acting.stage refl h ne) [
-          | inl w ↦ walk-fine mid.stage refl w.1 w.0
+          | inl w ↦ walk-fine mid.stage refl w.1 w.0 ne
           | inr f ↦ onward-by mid mid.stage refl f
         ]
 
@@ -244,5 +280,5 @@ module _ (e : Setup) (L : List ℕ) (me : ℕ) where
     begun-keeps h ne r =
         elim (row-fine acting.stage refl h ne) [
           | inl w ↦ w.0
-          | inr f ↦ absurd (subst (SoFar e turn me (observed mid)) r f.0)
+          | inr f ↦ absurd (f.0 r)
         ]

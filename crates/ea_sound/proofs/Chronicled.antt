@@ -17,21 +17,54 @@ use Rattle.ea_machine.specs.State.{State}
 use Rattle.ea_machine.specs.Statistics.{observed}
 use Rattle.ea_machine.specs.Tasks.{later}
 use Rattle.ea_machine.specs.Turns.{IsBegun, actor_after, answered, begun, log_after}
+use Rattle.ea_sound.specs.Present.{Rule}
 use Rattle.ea_sound.proofs.Chronicle.{SoFar, other-so_far}
 use Rattle.ea_sound.proofs.ChroniclePlaces.{OneMore, Stays}
 use Rattle.ea_sound.proofs.ChronicleTurns.{begun-keeps, turn-fine}
+use Rattle.ea_sound.proofs.Global.{working-scheduler}
 use Rattle.ea_sound.proofs.TurnLists.{by-turns, ended-or, run-snoc, step-ended, step-mine, step-other}
 
 module _ (e : Setup) where
+  -- where the begin is over, the operation itself follows in the same step
+  begun-going : (L : List ℕ) (s : ℕ) → IsBegun e (run e L) s → (actor_after e L s).stage ≢ Ended
+  begun-going L s b q =
+      let t : Ended ≡ Ready = sym q ∙ subst (λ st. (after_row e s (actor_after e L s)
+      (answered (run e L) s) st).stage ≡ Ready) q b in absurd (cc)
+
+  pub begun-now : (L : List ℕ) (s : ℕ) → IsBegun e (run e L) s
+      → actor_after e (L ++ s ∷ []) s
+      ≡ observed (itself e s (begun e L s) (begun e L s).todo)
+  begun-now L s b = ap (λ (w : State). w.actors s) (run-snoc e L s)
+      ∙ step-mine e (run e L) s (begun-going L s b)
+      ∙ ap (λ st. observed (onward_at e s (begun e L s) st)) b
+
+  pub skips-unheld : SkipsUnheld e
+  skips-unheld turns s b = subst (λ (a : Actor). HasSkipped mid mid.todo a.log)
+      (sym (begun-now turns s b)) (by mid.todo)
+    where
+      mid : Actor
+      mid = begun e turns s
+
+      by : (ops : List Op) → HasSkipped mid ops (itself e s mid ops).log
+      by [] = tt
+      by (op.Alloc n k ∷ ops) = tt
+      by (op.Free n ∷ ops) = λ q. ap (λ h. (freed e s n mid h).log) q
+      by (op.Realloc o n k ∷ ops) = λ q. ap (λ h. (reallocated e s o n (need_of k) mid h).log) q
+      by (op.Give n to ∷ ops) = λ q. ap (λ h. (giving n to mid h).log) q
+      by (op.Take n tries ∷ ops) = tt
+      by (op.Info ∷ ops) = tt
+      by (op.Idle ∷ ops) = tt
+
+module _ (e : Setup) (rules : (L : List ℕ) → Rule e (run e L)) where
   -- what the turns say of a scheduler, which has the settings of the run
   abbrev pub Holds : List ℕ → ℕ → Actor → Type 0
   Holds L s a = SoFar e L s a a.stage × (a.instance.settings ≡ e.settings)
 
   abbrev MyTurn : List ℕ → ℕ → Actor → Type 0
-  MyTurn L s now = Holds (L ++ s ∷ []) s now × (Stays e L s now ⊎ OneMore e L s now)
+  MyTurn L s now = Holds (L ++ s ∷ []) s now × (Stays e rules L s now ⊎ OneMore e rules L s now)
 
-  observed-one : (L : List ℕ) (s : ℕ) (b : Actor) → Stays e L s b ⊎ OneMore e L s b
-      → Stays e L s (observed b) ⊎ OneMore e L s (observed b)
+  observed-one : (L : List ℕ) (s : ℕ) (b : Actor) → Stays e rules L s b ⊎ OneMore e rules L s b
+      → Stays e rules L s (observed b) ⊎ OneMore e rules L s (observed b)
   observed-one L s b (inl q) = inl q
   observed-one L s b (inr m) = inr (record {
     entry = m.entry;
@@ -53,9 +86,11 @@ module _ (e : Setup) where
         | inr ne ↦
             let now : actor_after e (L ++ s ∷ []) s ≡ observed (onward e s (begun e L s)) =
             ap (λ (w : State). w.actors s) (run-snoc e L s) ∙ step-mine e (run e L) s ne in
-            let f = turn-fine e L s h.1 h.0 ne in
+            let is = working-scheduler e (run e L) (rules L).kept s ne in
+            let f = turn-fine e rules L s h.1 is h.0 ne in
+            let t = f.2 (sym now) in
             subst (MyTurn L s) (sym now)
-            ((f.0, f.1), observed-one L s (onward e s (begun e L s)) (f.2 (sym now)))
+            ((t.0, f.1), observed-one L s (onward e s (begun e L s)) t.1)
       ]
 
   other-turn : (L : List ℕ) (s j : ℕ) → j ≢ s → actor_after e (L ++ j ∷ []) s ≡ actor_after e L s
@@ -84,8 +119,8 @@ module _ (e : Setup) where
   so_far = by-turns (λ L. (s : ℕ) → Holds L s (actor_after e L s)) next-so_far started
 
   -- a turn of a scheduler leaves its log, or makes one entry that tells
-  turn-told : (L : List ℕ) (s : ℕ) → Stays e L s (actor_after e (L ++ s ∷ []) s)
-      ⊎ OneMore e L s (actor_after e (L ++ s ∷ []) s)
+  turn-told : (L : List ℕ) (s : ℕ) → Stays e rules L s (actor_after e (L ++ s ∷ []) s)
+      ⊎ OneMore e rules L s (actor_after e (L ++ s ∷ []) s)
   turn-told L s = (my-turn L s (so_far L s)).1
 
   pub enters-one : EntersOne e
@@ -141,37 +176,10 @@ module _ (e : Setup) where
   pub logs-each : (turns : List ℕ) (i : ℕ) → LogsEach e (run e turns) i
   logs-each = by-turns (λ L. (i : ℕ) → Logged L i) next-logged first-logged
 
-  -- where the begin is over, the operation itself follows in the same step
-  begun-going : (L : List ℕ) (s : ℕ) → IsBegun e (run e L) s → (actor_after e L s).stage ≢ Ended
-  begun-going L s b q =
-      let t : Ended ≡ Ready = sym q ∙ subst (λ st. (after_row e s (actor_after e L s)
-      (answered (run e L) s) st).stage ≡ Ready) q b in absurd (cc)
-
   pub begun-settings : (L : List ℕ) (s : ℕ) → IsBegun e (run e L) s
       → (begun e L s).instance.settings ≡ e.settings
   begun-settings L s b =
-      let h = so_far L s in (begun-keeps e L s h.1 h.0 (begun-going L s b) b).2 ∙ h.1
-
-  pub begun-now : (L : List ℕ) (s : ℕ) → IsBegun e (run e L) s
-      → actor_after e (L ++ s ∷ []) s
-      ≡ observed (itself e s (begun e L s) (begun e L s).todo)
-  begun-now L s b = ap (λ (w : State). w.actors s) (run-snoc e L s)
-      ∙ step-mine e (run e L) s (begun-going L s b)
-      ∙ ap (λ st. observed (onward_at e s (begun e L s) st)) b
-
-  pub skips-unheld : SkipsUnheld e
-  skips-unheld turns s b = subst (λ (a : Actor). HasSkipped mid mid.todo a.log)
-      (sym (begun-now turns s b)) (by mid.todo)
-    where
-      mid : Actor
-      mid = begun e turns s
-
-      by : (ops : List Op) → HasSkipped mid ops (itself e s mid ops).log
-      by [] = tt
-      by (op.Alloc n k ∷ ops) = tt
-      by (op.Free n ∷ ops) = λ q. ap (λ h. (freed e s n mid h).log) q
-      by (op.Realloc o n k ∷ ops) = λ q. ap (λ h. (reallocated e s o n (need_of k) mid h).log) q
-      by (op.Give n to ∷ ops) = λ q. ap (λ h. (giving n to mid h).log) q
-      by (op.Take n tries ∷ ops) = tt
-      by (op.Info ∷ ops) = tt
-      by (op.Idle ∷ ops) = tt
+      let h = so_far L s in
+      let ne = begun-going e L s b in
+      let is = working-scheduler e (run e L) (rules L).kept s ne in
+      (begun-keeps e rules L s h.1 is h.0 ne b).2 ∙ h.1

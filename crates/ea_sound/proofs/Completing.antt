@@ -21,8 +21,6 @@ use Rattle.ea_machine.specs.Tasks.{let_go}
 use Rattle.ea_machine.specs.Turns.{advanced}
 use Rattle.ea_machine.specs.Walks.{begun, with_passed}
 use Rattle.ea_sound.specs.Present.{Fits, FitsRoute, Rule}
-use Rattle.ea_sound.proofs.Chronicled.{so_far}
-use Rattle.ea_sound.proofs.Chronicle.{SoFar}
 use Rattle.ea_sound.proofs.Ending.{created-less, fetched-less, logged-less, onward-less, searched-less, task-route, took-less, walk-route, walk_rows, whole_rows, worked-less}
 use Rattle.ea_sound.proofs.Totals.{put-here, put-other}
 use Rattle.ea_sound.proofs.TurnLists.{by-turns, ended-or, run-append, run-snoc, step-ended, step-mine, step-other, step-shared}
@@ -270,10 +268,6 @@ module _ (e : Setup) where
             ∙ step-other e w s j ne
       ]
 
-  never-ready : (w : State) (s : ℕ) → Reached w → (w.actors s).stage ≢ Ready
-  never-ready w s r q = subst (SoFar e r.0 s ((run e r.0).actors s))
-      (sym (ap (λ (v : State). (v.actors s).stage) r.1) ∙ q) (so_far e r.0 s).0
-
   -- who is no scheduler has ended from the start
   outside : (s : ℕ) → is_scheduler e s ≡ false → (L : List ℕ)
       → ((run e L).actors s).stage ≡ Ended
@@ -286,7 +280,12 @@ module _ (e : Setup) where
       ])
       (ap (first_stage e) o)
 
-  module _ (elsewhere : (L : List ℕ) (s : ℕ) → PushesElsewhere s ((run e L).actors s).stage) where
+  module _ (resting : (L : List ℕ) (s : ℕ) → ((run e L).actors s).stage ≢ Ready)
+      (elsewhere : (L : List ℕ) (s : ℕ) → PushesElsewhere s ((run e L).actors s).stage) where
+    never-ready : (w : State) (s : ℕ) → Reached w → (w.actors s).stage ≢ Ready
+    never-ready w s r =
+        subst (λ (v : State). (v.actors s).stage ≢ Ready) (sym r.1) (resting r.0 s)
+
     pushes : (w : State) (s : ℕ) → Reached w → PushesElsewhere s (w.actors s).stage
     pushes w s r =
         subst (λ (v : State). PushesElsewhere s (v.actors s).stage) (sym r.1) (elsewhere r.0 s)
@@ -377,6 +376,7 @@ module _ (e : Setup) (w : State) (s : ℕ) where
   fits-elsewhere a Ready f = tt
 
 pub rule-ends_all : (e : Setup) → ((turns : List ℕ) → Rule e (run e turns)) → EndsAll e
-rule-ends_all e rule = ends-all e (λ L s.
+rule-ends_all e rule = ends-all e
+    (λ L s q. subst (Fits e (run e L) s ((run e L).actors s)) q ((rule L).present.fits s)) (λ L s.
     fits-elsewhere e (run e L) s ((run e L).actors s) ((run e L).actors s).stage
     ((rule L).present.fits s))

@@ -33,7 +33,7 @@ use Rattle.ea_machine.specs.Table.{answer, tried_at}
 use Rattle.ea_machine.specs.Tasks.{logged}
 use Rattle.ea_machine.specs.Turns.{IsBegun, actor_after, advanced, answered, begun, log_after}
 use Rattle.ea_sound.specs.Moments.{at}
-use Rattle.ea_sound.specs.Present.{OfAsk}
+use Rattle.ea_sound.specs.Present.{OfAsk, Rule}
 use Rattle.ea_sound.proofs.Chronicle.{failed-is}
 use Rattle.ea_sound.proofs.Chronicled.{begun-now, begun-settings}
 use Rattle.ea_sound.proofs.TurnLists.{run-since, step-mine, step-other}
@@ -250,14 +250,14 @@ module _ (e : Setup) (s : ℕ) (b : Actor) (ask : Ask) (last sum : ℕ) (why : N
             (omega (arith, c, ap length (sights-other e s w j js ne), count-other e s j js ne))
       ]
 
-module _ (e : Setup) (before : List ℕ) (s : ℕ) where
+module _ (e : Setup) (rules : (L : List ℕ) → Rule e (run e L)) (before : List ℕ) (s : ℕ) where
   abbrev mid : Actor
   mid = begun e before s
 
   module _ (begins : IsBegun e (run e before) s) (ask : Ask)
       (none : ask.need ≤ e.settings.sbct → chosen_spot mid.instance ask.need ≡ None) where
     threshold : mid.instance.settings.sbct ≡ e.settings.sbct
-    threshold = ap (λ s. s.sbct) (begun-settings e before s begins)
+    threshold = ap (λ s. s.sbct) (begun-settings e rules before s begins)
 
     -- a block that isn't searched for, and one that is
     unsought : (migration e ≡ false) ⊎ (e.settings.sbct < ask.need)
@@ -314,13 +314,13 @@ module _ (e : Setup) (before : List ℕ) (s : ℕ) where
           (refl, refl))
           (now _ (sought f.begins ask f.none h.0 h.1)) h.2.1) f.steps
 
-pub fails-if_exhausted : (e : Setup) → FailsIfExhausted e
-fails-if_exhausted e before s since need looked why f =
+pub fails-if_exhausted : (e : Setup) → ((L : List ℕ) → Rule e (run e L)) → FailsIfExhausted e
+fails-if_exhausted e rules before s since need looked why f =
     let k = seeks e s (begun e before s) need (begun e before s).todo refl f.asks in (
       failed k.ask looked why k.ask.old,
       subst (λ n. IsFailOf (begun e before s).todo n looked why
           (failed k.ask looked why k.ask.old)) (sym k.needs)
           (failed-is k.ask looked why (begun e before s).todo k.of),
-      fails e before s k.ask since looked why k.is
+      fails e rules before s k.ask since looked why k.is
           (subst (λ n. FindsNoPlace e before s since n looked why) k.needs f),
     )

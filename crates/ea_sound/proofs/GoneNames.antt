@@ -108,7 +108,7 @@ module _ (e : Setup) (rules : (L : List ℕ) → Rule e (run e L)) where
   said-more : (says : Entry → Bool) (K : List ℕ) (j i : ℕ)
       → list_any says (log_after e K i) ≡ true
       → list_any says (log_after e (K ++ j ∷ []) i) ≡ true
-  said-more says K j i is = elim (enters-one e K j i) [
+  said-more says K j i is = elim (enters-one e rules K j i) [
     | inl same ↦ ap (list_any says) same ∙ is
     | inr more ↦
         let x = more.1.0 in

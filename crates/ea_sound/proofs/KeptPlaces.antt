@@ -8,7 +8,7 @@ use Rattle.ea_model.specs.declared.carriers.Place.{Place}
 use Rattle.ea_machine.specs.Contents.{sum_everywhere}
 use Rattle.ea_machine.specs.Machine.{run}
 use Rattle.ea_machine.specs.Places.{none}
-use Rattle.ea_machine.specs.Released.{KeepsPlaces, LiesAt, is_block}
+use Rattle.ea_machine.specs.Released.{KeepsPlaces, LiesAt}
 use Rattle.ea_machine.specs.Setup.{Setup}
 use Rattle.ea_machine.specs.State.{State}
 use Rattle.ea_machine.specs.Sums.{one_if, sum_over}
@@ -17,24 +17,15 @@ use Rattle.ea_sound.specs.Rule.{Kept}
 use Rattle.ea_sound.proofs.ActorWeights.{everywhere-less}
 use Rattle.ea_sound.proofs.Anywhere.{everywhere}
 use Rattle.ea_sound.proofs.Fading.{stays-gone}
-use Rattle.ea_sound.proofs.FewBlocks.{Counting, all_of, blocks_named}
+use Rattle.ea_sound.proofs.FewBlocks.{all_of, blocks_named}
+use Rattle.ea_sound.proofs.LyingBlocks.{lies, lying}
 use Rattle.ea_sound.proofs.SumParts.{AreParts, sum-nothing, sum-parts}
 use Rattle.ea_sound.proofs.Weights.{sum-both, sum-less}
 
 module _ (n : ℕ) where
-  -- the block of the name at a place
-  abbrev lies : Place → ℕ → BlockAt → ℕ
-  lies p c b = one_if (is_block n p c b)
-
-  lies-small : (p : Place) (c : ℕ) (b : BlockAt) → lies p c b ≤ one_if (b.name == n)
-  lies-small p c b = grind arith
-
-  abbrev lying : Place → Counting
-  lying p = record { name = n; counts = lies p; small = lies-small p }
-
   -- no block lies at two places
   abbrev AreTwo : Place → Place → Type 0
-  AreTwo p q = (c : ℕ) (b : BlockAt) → lies p c b + lies q c b ≤ one_if (b.name == n)
+  AreTwo p q = (c : ℕ) (b : BlockAt) → lies n p c b + lies n q c b ≤ one_if (b.name == n)
 
   other-carriers : (p q : Place) → p.carrier ≢ q.carrier → AreTwo p q
   other-carriers p q other c b = grind (arith, other)

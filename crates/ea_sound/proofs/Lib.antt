@@ -33,6 +33,7 @@ pub mod SoundNodes
 pub mod Homes
 pub mod HandRows
 pub mod ListRows
+pub mod LyingBlocks
 pub mod CarrierRows
 pub mod Marks
 pub mod Created

@@ -1,14 +1,14 @@
 -- The local work after a row keeps what every moment keeps.
-use Rattle.std.proofs.Common.{◌≡◌, ℕ, true, refl, ◌∙◌, arith}
+use Rattle.std.proofs.Common.{◌≡◌, ◌≢◌, ℕ, true, refl, ◌∙◌, arith}
 use Rattle.std.specs.Prelude.{Some}
 use Rattle.ea_model.specs.declared.carriers.CarrierPlan.{CarrierPlan}
 use Rattle.ea_model.specs.declared.carriers.Spot.{Spot}
 use Rattle.ea_model.specs.declared.entries.Entry.TheVariants as entry
 use Rattle.ea_model.specs.Instance.{creating, resizing_at}
 use Rattle.ea_model.proofs.Rising.{item_at-old}
-use Rattle.ea_machine.specs.Actor.{Actor, Begin, Stage}
+use Rattle.ea_machine.specs.Actor.{Actor, Begin, Ready, Stage}
 use Rattle.ea_machine.specs.declared.asks.Ask.{Ask}
-use Rattle.ea_machine.specs.Machine.{after}
+use Rattle.ea_machine.specs.Machine.{after, after_row}
 use Rattle.ea_machine.specs.NamePlaces.{name_of}
 use Rattle.ea_machine.specs.Names.{of_content, of_named, only}
 use Rattle.ea_machine.specs.Nodes.{named_at}
@@ -32,7 +32,7 @@ use Rattle.ea_sound.proofs.Numbered.{scheduler-seat}
 use Rattle.ea_sound.proofs.PlacingMoves.{make-kept, place-kept}
 use Rattle.ea_sound.proofs.ResizingMoves.{resize-kept}
 use Rattle.ea_sound.proofs.StageMoves.{closed-walk, inform-goes, observe-goes, rest-goes}
-use Rattle.ea_sound.proofs.Stepping.{after-holds}
+use Rattle.ea_sound.proofs.Stepping.{after-holds, begun-walk}
 use Rattle.ea_sound.proofs.StillMoves.{keeps-operation, keeps-walk, log-goes}
 use Rattle.ea_sound.proofs.Totals.{put-here}
 use Rattle.ea_sound.proofs.Working.{ClosedOperation}
@@ -42,7 +42,7 @@ module _ (e : Setup) (w : State) (s : Shared) (me : ℕ) (is : is_scheduler e me
   G = InOperation e w s me
 
   -- a fresh name stays so where an empty carrier is made
-  made-wanted : (ask : Ask) (p : CarrierPlan) (a : Actor) → Wanted e w s me a ask
+  pub made-wanted : (ask : Ask) (p : CarrierPlan) (a : Actor) → Wanted e w s me a ask
       → Wanted e w s me (record a { instance = creating a.instance p }) ask
   made-wanted ask p a want = record {
     fresh = omega (
@@ -57,14 +57,14 @@ module _ (e : Setup) (w : State) (s : Shared) (me : ℕ) (is : is_scheduler e me
     old = want.old;
   }
 
-  -- a held name stays held beside a new one, which is another
-  held-stays : (n : ℕ) (spot : Spot) (h : Named) (a : Actor) → named_at h.name a.held ≡ Some h
-      → G (at Begin (holding n spot a)) → named_at h.name (holding n spot a).held ≡ Some h
-  held-stays n spot h a there g =
+  -- a held name is another than one that is new beside it
+  pub held-other : (n : ℕ) (spot : Spot) (h : Named) (a : Actor) → named_at h.name a.held ≡ Some h
+      → G (at Begin (holding n spot a)) → h.name ≢ n
+  held-other n spot h a there g q =
       let x : Named = record { name = n; spot = spot } in
       let b = at Begin (holding n spot a) in
       let v = with_actor w s me b in
-      item_at-old name_of h.name x a.held (λ q. omega (
+      omega (
         arith,
         stands-allocated e v me (scheduler-seat e me is) g.kept b (put-here w.actors me b me refl)
             (only n),
@@ -73,11 +73,18 @@ module _ (e : Setup) (w : State) (s : Shared) (me : ℕ) (is : is_scheduler e me
         sum-item name_of (of_named (only n)) h.name h a.held there,
         only-itself n h.name q,
         only-itself n n refl,
-      )) ∙ there where
+      ) where
         only-itself : (n m : ℕ) → m ≡ n → only n m spot ≡ 1
         only-itself n m q = grind (arith, q)
 
-  closed-operation : ClosedOperation e w s me
+  -- so it stays held
+  pub held-stays : (n : ℕ) (spot : Spot) (h : Named) (a : Actor) → named_at h.name a.held ≡ Some h
+      → G (at Begin (holding n spot a)) → named_at h.name (holding n spot a).held ≡ Some h
+  held-stays n spot h a there g =
+      item_at-old name_of h.name (record { name = n; spot = spot }) a.held
+      (held-other n spot h a there g) ∙ there
+
+  pub closed-operation : ClosedOperation e w s me
   closed-operation = record {
     rest = rest-goes e w s me is;
     inform = inform-goes e w s me is;
@@ -110,3 +117,11 @@ module _ (e : Setup) (w : State) (s : Shared) (me : ℕ) (is : is_scheduler e me
       (after-holds e w s me (closed e w s me is (InWalk e w s me) (keeps-walk e w s me is))
       (closed-walk e w s me is) (closed e w s me is G (keeps-operation e w s me is))
       closed-operation a r st l).kept
+
+  -- where the begin of the operation is over by that row, the operation itself begins with this
+  pub begun-kept : (a : Actor) (r : Answer) (st : Stage) → Leaves e w s me a st r
+      → (after_row e me a r st).stage ≡ Ready → InWalk e w s me (at Begin (after_row e me a r st))
+  begun-kept a r st l ready =
+      begun-walk e w s me (closed e w s me is (InWalk e w s me) (keeps-walk e w s me is))
+      (closed-walk e w s me is) (closed e w s me is G (keeps-operation e w s me is))
+      closed-operation a r st l ready

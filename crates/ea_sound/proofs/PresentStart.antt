@@ -23,7 +23,6 @@ use Rattle.ea_machine.specs.Sound.{HasNothing}
 use Rattle.ea_machine.specs.Contents.{seats}
 use Rattle.ea_machine.specs.Sums.{total}
 use Rattle.ea_sound.specs.Present.{Fits, Present, Rule}
-use Rattle.ea_sound.proofs.Chronicled.{logs-each}
 use Rattle.ea_sound.proofs.StartKept.{all-none, main_of, setup-MayStart, start-Kept}
 use Rattle.ea_sound.proofs.TextTotals.{made-each, total-text_for}
 
@@ -117,7 +116,7 @@ module _ (c : Config) (t : Trace) (valid : IsValidConfig c) (trace : IsValidTrac
       fits = start-fits;
       contents = λ i. (start-stays i).0;
       singles = λ i. (start-stays i).1;
-      history = logs-each e [];
+      history = λ i. record { done = []; split = refl; each = tt };
       later = λ n. omega (arith, all-none e (only n), start-later n);
       held = λ i. pairs_nil (IsBelow name_of);
       given = pairs_nil (IsBelow name_of);

@@ -48,9 +48,9 @@ module _ (c : Config) (t : Trace) (valid : IsValidConfig c)
     guarded = λ turns. is-guarded e (run e turns) (rule-run turns) (steady-run turns);
     hears = λ turns. hears-no_other e (run e turns) (rule-run turns);
     fetches = λ turns. rule-FetchesFit e (run e turns) (rule-run turns);
-    logs = logs-each e;
-    enters = enters-one e;
-    fails = fails-if_exhausted e;
+    logs = logs-each e rule-run;
+    enters = enters-one e rule-run;
+    fails = fails-if_exhausted e rule-run;
     skips = skips-unheld e;
     once = releases-once e rule-run;
     gone = names-stay_gone e rule-run;

@@ -145,6 +145,14 @@ module _ (e : Setup) (w : State) (s : Shared) (me : ℕ)
   begins : (a : Actor) → a.stage ≡ Ready → V a → V (at Begin a)
   begins a q h = walk.begin a (subst (λ st. V (at st a)) q h)
 
+  pub begun-walk : (a : Actor) (r : Answer) (st : Stage) → LeavesAt a st r
+      → (after_row e me a r st).stage ≡ Ready → V (at Begin (after_row e me a r st))
+  begun-walk a r st l ready =
+      elim (after_row-holds a r st l) [
+        | inl h ↦ begins (after_row e me a r st) ready h
+        | inr g ↦ absurd (g.busy ready)
+      ]
+
   walked : (a : Actor) → V a → a.stage ≢ Ready → G a
   walked a h busy = record { kept = h.kept; busy = busy }
 

@@ -1,5 +1,5 @@
 -- A worked placement, from what is computed of the run.
-use Rattle.std.proofs.Common.{◌≡◌, ◌≤◌, ◌<◌, ℕ, true, List, [], ◌∷◌, ◌++◌, None, Some, Ok, refl, sym, ◌∙◌, inl, inr}
+use Rattle.std.proofs.Common.{◌≡◌, ◌≤◌, ◌<◌, ℕ, true, List, [], ◌∷◌, ◌++◌, None, Some, Ok, refl, sym, ◌∙◌, inl, inr, arith}
 use Rattle.ea_model.specs.declared.carriers.CarrierPlan.{CarrierPlan}
 use Rattle.ea_model.specs.declared.carriers.Place.{Place}
 use Rattle.ea_model.specs.declared.carriers.Spot.{Spot}
@@ -13,12 +13,13 @@ use Rattle.ea_machine.specs.Chosen.{ByItself, Created, Fetched, IsPlacement}
 use Rattle.ea_machine.specs.Employment.{employing}
 use Rattle.ea_machine.specs.Machine.{run}
 use Rattle.ea_machine.specs.Needs.{HasNeed}
+use Rattle.ea_machine.specs.Released.{blocks_at}
 use Rattle.ea_machine.specs.Rows.{Won}
 use Rattle.ea_machine.specs.Setup.{Setup, migration}
 use Rattle.ea_machine.specs.Turns.{actor_after, answered, log_after}
 
 -- a block is placed in a carrier that was fetched, and its entry made in the same step
-pub fetched-placement : (setup : Setup) (turns : List ℕ) (s : ℕ) (place : Place) (ask : Ask)
+pub fetched-placement : (setup : Setup) (turns : List ℕ) (s name : ℕ) (place : Place) (ask : Ask)
     (at looked : ℕ) (seen : OwnerWord) (x : Content) (spot : Spot)
     → ask.need ≤ setup.settings.sbct
     → HasNeed (actor_after setup turns s).todo ask.need
@@ -27,9 +28,10 @@ pub fetched-placement : (setup : Setup) (turns : List ℕ) (s : ℕ) (place : Pl
     → answered (run setup turns) s ≡ Won x
     → chosen_spot (employing (actor_after setup turns s).instance x) ask.need ≡ Some spot
     → place_at (employing (actor_after setup turns s).instance x) spot ask.need ≡ place
-    → IsPlacement setup turns s place
-fetched-placement setup turns s place ask at looked seen x spot small asks stage none won chosen
-    is =
+    → blocks_at setup name place (run setup (turns ++ s ∷ [])) ≡ 1
+    → IsPlacement setup turns s name place
+fetched-placement setup turns s name place ask at looked seen x spot small asks stage none won
+    chosen is lies =
     record {
       before = turns;
       since = [];
@@ -47,10 +49,11 @@ fetched-placement setup turns s place ask at looked seen x spot small asks stage
           is = sym is;
         },
       );
+      there = omega (arith, lies);
     }
 
 -- a block is placed in a carrier that was created, and its entry made in a later step
-pub created-placement : (setup : Setup) (turns : List ℕ) (s : ℕ) (place : Place)
+pub created-placement : (setup : Setup) (turns : List ℕ) (s name : ℕ) (place : Place)
     (before since : List ℕ) (log : List Entry) (ask : Ask) (p : CarrierPlan) (spot : Spot)
     → turns ++ s ∷ [] ≡ before ++ s ∷ since
     → log_after setup before s ≡ log
@@ -63,9 +66,10 @@ pub created-placement : (setup : Setup) (turns : List ℕ) (s : ℕ) (place : Pl
     → chosen_spot (actor_after setup before s).instance ask.need ≡ None
     → chosen_spot (creating (actor_after setup before s).instance p) ask.need ≡ Some spot
     → place_at (creating (actor_after setup before s).instance p) spot ask.need ≡ place
-    → IsPlacement setup turns s place
-created-placement setup turns s place before since log ask p spot split then now on small asks stage
-    planned none chosen is = record {
+    → blocks_at setup name place (run setup (before ++ s ∷ [])) ≡ 1
+    → IsPlacement setup turns s name place
+created-placement setup turns s name place before since log ask p spot split then now on small asks
+    stage planned none chosen is lies = record {
       before = before;
       since = since;
       split = split;
@@ -83,18 +87,20 @@ created-placement setup turns s place before since log ask p spot split then now
           is = sym is;
         },
       );
+      there = omega (arith, lies);
     }
 
 -- a large block is placed in a carrier of its own, and its entry made in the same step
-pub single-placement : (setup : Setup) (turns : List ℕ) (s : ℕ) (ask : Ask) (p : CarrierPlan)
+pub single-placement : (setup : Setup) (turns : List ℕ) (s name : ℕ) (ask : Ask) (p : CarrierPlan)
     → migration setup ≡ true
     → setup.settings.sbct < ask.need
     → HasNeed (actor_after setup turns s).todo ask.need
     → (actor_after setup turns s).stage ≡ Creating ask p
     → plan (actor_after setup turns s).instance ask.need ≡ Ok p
     → p.single ≡ true
-    → IsPlacement setup turns s (single_place p ask.need)
-single-placement setup turns s ask p on large asks stage planned single = record {
+    → blocks_at setup name (single_place p ask.need) (run setup (turns ++ s ∷ [])) ≡ 1
+    → IsPlacement setup turns s name (single_place p ask.need)
+single-placement setup turns s name ask p on large asks stage planned single lies = record {
   before = turns;
   since = [];
   split = refl;
@@ -111,4 +117,5 @@ single-placement setup turns s ask p on large asks stage planned single = record
       is = refl;
     },
   );
+  there = omega (arith, lies);
 }

@@ -48,10 +48,11 @@ abbrev pub FindsNone : (List ℕ → Option Moment) → List ℕ → ℕ → Ent
 FindsNone run after s x need looked why =
     IfSome (run []) (λ m. IsExhausted m.setup (turns after) s x need looked why)
 
--- the block for which s makes the entry in its step after these turns was placed there, as it is to
--- be
-abbrev pub FindsPlace : (List ℕ → Option Moment) → List ℕ → ℕ → Place → Type 0
-FindsPlace run after s place = IfSome (run []) (λ m. IsPlacement m.setup (turns after) s place)
+-- the block of this name for which s makes the entry in its step after these turns was placed
+-- there, as it is to be
+abbrev pub FindsPlace : (List ℕ → Option Moment) → List ℕ → ℕ → ℕ → Place → Type 0
+FindsPlace run after s name place =
+    IfSome (run []) (λ m. IsPlacement m.setup (turns after) s name place)
 
 -- a place in a carrier
 abbrev pub place : ℕ → ℕ → ℕ → Place

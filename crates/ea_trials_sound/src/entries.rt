@@ -19,8 +19,8 @@ pub fn entries()
         ≡ Some (entry.Alloc 4 (place 257 8 62502) ∷ entry.AllocFail 5 12502 1 Space ∷ []) }
     ensures exhausted { FindsNone full_region (codes "1*518 2*514 2*513 1*3") 2
         (entry.AllocFail 5 12502 1 Space) 12502 1 Space }
-    ensures in_a_fetched_carrier { FindsPlace two_gaps (codes "1*519") 1 (place 1 8 18) }
-    ensures in_a_new_carrier { FindsPlace moved_away (codes "1*518 2*514 1*513 1*3 2*4") 1
+    ensures in_a_fetched_carrier { FindsPlace two_gaps (codes "1*519") 1 3 (place 1 8 18) }
+    ensures in_a_new_carrier { FindsPlace moved_away (codes "1*518 2*514 1*513 1*3 2*4") 1 4
         (place 2 8 26) }
-    ensures in_a_carrier_of_its_own { FindsPlace single_block (codes "1") 1 (place 1 8 75002) }
+    ensures in_a_carrier_of_its_own { FindsPlace single_block (codes "1") 1 1 (place 1 8 75002) }
 {}

@@ -41,27 +41,27 @@ returns-clause-exhausted c = under-setup
 
 pub returns-clause-in_a_fetched_carrier : goal.returns-clause-in_a_fetched_carrier
 unfolding unused_from answer effect after step_at
-returns-clause-in_a_fetched_carrier c = fetched-placement _ _ _ _
+returns-clause-in_a_fetched_carrier c = fetched-placement _ _ _ _ _
     (record { name = 3; need = 14; old = None }) 1 1 (word.Pooled 1 32728)
     (carrier_with (usual 2 26 ∷ [])) (record { carrier = 1; offset = 8 }) (omega arith) refl refl
-    refl refl refl refl
+    refl refl refl refl refl
 
 pub returns-clause-in_a_new_carrier : goal.returns-clause-in_a_new_carrier
 unfolding unused_from answer effect after step_at
 returns-clause-in_a_new_carrier c = under-setup
-    (λ setup. IsPlacement setup (turns (codes "1*518 2*514 1*513 1*3 2*4")) 1 (place 2 8 26))
+    (λ setup. IsPlacement setup (turns (codes "1*518 2*514 1*513 1*3 2*4")) 1 4 (place 2 8 26))
     moving_setup (moved_away []) refl
-    (created-placement moving_setup (turns (codes "1*518 2*514 1*513 1*3 2*4")) 1 (place 2 8 26)
+    (created-placement moving_setup (turns (codes "1*518 2*514 1*513 1*3 2*4")) 1 4 (place 2 8 26)
     (turns (codes "1*518 2*514 1*513")) (turns (codes "1*2 2*4 1"))
     (entry.Alloc 1 (place 1 8 14) ∷ entry.Alloc 2 (place 1 22 14) ∷ entry.Free 1 ∷ [])
     (record { name = 4; need = 26; old = Some (named 2 22) })
     (record { number = 2; base = 64; pages = 64; birth = 2; single = false })
     (record { carrier = 2; offset = 8 }) refl refl refl refl (omega arith) refl refl refl refl refl
-    refl)
+    refl refl)
 
 pub returns-clause-in_a_carrier_of_its_own : goal.returns-clause-in_a_carrier_of_its_own
 unfolding unused_from answer effect after step_at
-returns-clause-in_a_carrier_of_its_own c = single-placement _ _ _
+returns-clause-in_a_carrier_of_its_own c = single-placement _ _ _ _
     (record { name = 1; need = 75002; old = None })
     (record { number = 1; base = 0; pages = 147; birth = 1; single = true }) refl (omega arith)
-    refl refl refl refl
+    refl refl refl refl refl
