@@ -1,4 +1,5 @@
 pub mod NamesTable
+pub mod Paths
 pub mod PresentCarriers
 pub mod PresentLive
 pub mod PresentNames
