@@ -3,6 +3,7 @@ use Rattle.std.specs.Prelude.{◌≡◌, ◌≢◌, ◌⊎◌, ℕ, ◌<◌, ◌
 use Rattle.ea_model.specs.declared.carriers.CarrierPlan.{CarrierPlan}
 use Rattle.ea_model.specs.declared.carriers.Place.{Place}
 use Rattle.ea_model.specs.declared.carriers.Spot.{Spot}
+use Rattle.ea_model.specs.declared.entries.Entry.{Entry}
 use Rattle.ea_model.specs.declared.reallocation.Decision.TheVariants.{Move}
 use Rattle.ea_model.specs.Content.{Content}
 use Rattle.ea_model.specs.Instance.{Instance, chosen_spot, creating, decision_at, place_at, plan, resized_to, single_place}
@@ -18,7 +19,7 @@ use Rattle.ea_machine.specs.Employment.{employing}
 use Rattle.ea_machine.specs.Machine.{run}
 use Rattle.ea_machine.specs.Released.{LiesAt}
 use Rattle.ea_machine.specs.Turns.{IsBegun, advanced, answered, begun, log_after}
-use Rattle.ea_machine.specs.Needs.{HasNeed}
+use Rattle.ea_machine.specs.Needs.{AsksFor, HasNeed}
 
 -- the carrier that is created for a block of this need, in a step of s: with migration on in a step of
 -- its own, from the plan that was made for it; with migration off in the step in which the begin of
@@ -72,6 +73,16 @@ IsPlacedAt setup state s need place =
     ((need ≤ setup.settings.sbct) × IsChosen setup state s need place)
     ⊎ ((setup.settings.sbct < need) × IsAlone setup state s need place)
 
+-- the begin of an operation of s was over in a step among these turns, with this log, and the
+-- operation asks for a place for a block of this need: so a block that is reallocated is to move
+pub record HasAsked (setup : Setup) (turns : List ℕ) (s need : ℕ) (log : List Entry) : Type 0 where
+  pub before : List ℕ
+  pub since : List ℕ
+  pub split : turns ≡ before ++ s ∷ since
+  pub begins : IsBegun setup (run setup before) s
+  pub asks : AsksFor (begun setup before s) (begun setup before s).todo need
+  pub same : (begun setup before s).log ≡ log
+
 -- s placed a block in its step after `before`, for the operation of which it has made the entry in its
 -- step after the steps `turns`: the same step, or, where the old block of a reallocation went then, an
 -- earlier one. Once it is placed, a block of that name lies there
@@ -82,7 +93,7 @@ pub record IsPlacement (setup : Setup) (turns : List ℕ) (s name : ℕ) (place 
     pub split : turns ++ s ∷ [] ≡ before ++ s ∷ since
     pub same : log_after setup before s ≡ log_after setup turns s
     pub need : ℕ
-    pub asks : HasNeed ((run setup before).actors s).todo need
+    pub asked : HasAsked setup (before ++ s ∷ []) s need (log_after setup turns s)
     pub placed : IsPlacedAt setup (run setup before) s need place
     pub there : LiesAt setup name place (run setup (before ++ s ∷ []))
 

@@ -14,11 +14,11 @@ use Rattle.ea_model.specs.Instance.{chosen_spot, plan}
 use Rattle.ea_machine.specs.declared.owners.OwnerWord.{OwnerWord}
 use Rattle.ea_machine.specs.Actor.{Actor, Gone, Open, Here, Queued, Stage, Begin, Routed, Collecting, Searching, Fetching, Creating, Giving, Taking, Ended, Ready, Task, Freeing, Moving, Why, Walk, For}
 use Rattle.ea_machine.specs.declared.asks.Ask.{Ask}
-use Rattle.ea_machine.specs.Chosen.{IsPlacedAt}
+use Rattle.ea_machine.specs.Chosen.{HasAsked, IsPlacedAt}
 use Rattle.ea_machine.specs.Entries.{Makes}
 use Rattle.ea_machine.specs.Exhausted.{IsFailOf, seen_since}
 use Rattle.ea_machine.specs.Machine.{run}
-use Rattle.ea_machine.specs.Needs.{AsksFor, HasNeed}
+use Rattle.ea_machine.specs.Needs.{AsksFor}
 use Rattle.ea_machine.specs.declared.nodes.Named.{Named}
 use Rattle.ea_machine.specs.Placements.{counted, failed, fits}
 use Rattle.ea_machine.specs.Searches.{Searched, Shown, Sight, sight_if}
@@ -77,9 +77,10 @@ pub record Fetches (e : Setup) (L : List ℕ) (s : ℕ) (a : Actor) (ask : Ask) 
   pub fit : fits ask.need seen ≡ true
   pub way : Underway e L s ask.need (λ b. IsSame b a) (AndShown e ask.need at old seen)
 
-pub record Creates (e : Setup) (a : Actor) (ask : Ask) (p : CarrierPlan) : Type 0 where
+pub record Creates (e : Setup) (L : List ℕ) (s : ℕ) (a : Actor) (ask : Ask) (p : CarrierPlan) : Type 0 where
   pub of : OfAsk ask a.todo
   pub on : migration e ≡ true
+  pub asked : HasAsked e L s ask.need a.log
   pub planned : plan a.instance ask.need ≡ Ok p
   pub none : ask.need ≤ e.settings.sbct → chosen_spot a.instance ask.need ≡ None
 
@@ -91,7 +92,7 @@ pub record Placement (e : Setup) (L : List ℕ) (s : ℕ) (log : List Entry) (na
   pub split : L ≡ before ++ s ∷ since
   pub same : log_after e before s ≡ log
   pub need : ℕ
-  pub asks : HasNeed ((run e before).actors s).todo need
+  pub asked : HasAsked e (before ++ s ∷ []) s need log
   pub placed : IsPlacedAt e (run e before) s need place
   pub there : LiesAt e name place (run e (before ++ s ∷ []))
 
@@ -110,7 +111,7 @@ SoFar e L s a (Routed r why g) = OnTask e L s a why
 SoFar e L s a (Collecting c) = Unit {0}
 SoFar e L s a (Searching ask at looked) = Searches e L s a ask at looked
 SoFar e L s a (Fetching ask at looked seen) = Fetches e L s a ask at looked seen
-SoFar e L s a (Creating ask p) = Creates e a ask p
+SoFar e L s a (Creating ask p) = Creates e L s a ask p
 SoFar e L s a (Giving h to) = (ops : List Op) × (a.todo ≡ op.Give h.name to ∷ ops)
 SoFar e L s a (Taking n tries left) = (ops : List Op) × (a.todo ≡ op.Take n tries ∷ ops)
 SoFar e L s a Ended = Unit {0}
@@ -153,6 +154,29 @@ further e L s j need R P Q b d one f u = record {
         (run-since e L u.before u.since s u.split)
         ∙ ap (λ c. xs ++ sight_if c ((run e L).actors s).stage (answered (run e L) s)) d
 
+-- the operation has asked for a place
+pub asked-longer : (e : Setup) (L : List ℕ) (s j need : ℕ) (log : List Entry)
+    → HasAsked e L s need log → HasAsked e (L ++ j ∷ []) s need log
+asked-longer e L s j need log h = record {
+  before = h.before;
+  since = h.since ++ j ∷ [];
+  split = longer L h.before h.since s j h.split;
+  begins = h.begins;
+  asks = h.asks;
+  same = h.same;
+}
+
+pub way-asked : (e : Setup) (L : List ℕ) (s need : ℕ) (a : Actor) (P : List Sight → Type 0)
+    → Underway e L s need (λ b. IsSame b a) P → HasAsked e L s need a.log
+way-asked e L s need a P u = record {
+  before = u.before;
+  since = u.since;
+  split = u.split;
+  begins = u.begins;
+  asks = u.asks;
+  same = sym u.same.0;
+}
+
 pub placing-longer : (e : Setup) (L : List ℕ) (s j : ℕ) (log : List Entry) (task : Task)
     → Placing e L s log task → Placing e (L ++ j ∷ []) s log task
 placing-longer e L s j log (Freeing n) h = h
@@ -162,7 +186,7 @@ placing-longer e L s j log (Moving o n p) h = record {
   split = longer L h.before h.since s j h.split;
   same = h.same;
   need = h.need;
-  asks = h.asks;
+  asked = h.asked;
   placed = h.placed;
   there = h.there;
 }
@@ -195,7 +219,13 @@ module _ (e : Setup) (L : List ℕ) (s j : ℕ) (ne : j ≢ s) where
     fit = h.fit;
     way = away ask.need (λ b. IsSame b a) _ h.way;
   }
-  other-so_far a (Creating ask p) h = h
+  other-so_far a (Creating ask p) h = record {
+    of = h.of;
+    on = h.on;
+    asked = asked-longer e L s j ask.need a.log h.asked;
+    planned = h.planned;
+    none = h.none;
+  }
   other-so_far a (Routed r Walk g) h = h
   other-so_far a (Routed r (For task) g) h = (h.0, placing-longer e L s j a.log task h.1)
   other-so_far a Begin h = h
@@ -214,16 +244,6 @@ pub record IsOfFirst (ops : List Op) (x : Entry) : Type 0 where
 
 some-same : {A : Type 0} (x y : A) → Some x ≡ Some y → x ≡ y
 some-same x y q = cc
-
-pub ask-need : (ask : Ask) (ops : List Op) → OfAsk ask ops → HasNeed ops ask.need
-ask-need ask (op.Alloc n b ∷ ops) h = h.1
-ask-need ask (op.Realloc o n b ∷ ops) h = h.1
-ask-need ask [] h = absurd h
-ask-need ask (op.Free n ∷ ops) h = absurd h
-ask-need ask (op.Give n to ∷ ops) h = absurd h
-ask-need ask (op.Take n tries ∷ ops) h = absurd h
-ask-need ask (op.Info ∷ ops) h = absurd h
-ask-need ask (op.Idle ∷ ops) h = absurd h
 
 module _ (ask : Ask) where
   pub failed-is : (looked : ℕ) (why : NoCarrier) (ops : List Op) → OfAsk ask ops

@@ -33,7 +33,7 @@ use Rattle.ea_sound.proofs.Orderly.{resizing-fixed}
 use Rattle.ea_sound.proofs.ShortRoutes.{Keeps}
 use Rattle.ea_sound.proofs.Weights.{sum_by-sum_over}
 use Rattle.ea_machine.specs.Sums.{one_if}
-use Rattle.ea_sound.proofs.ChroniclePlaces.{Fine as IsFine, IsNow, IsWanted as Wants, landed, shared, choice-fine, logged-fine, planned-fine, search-fine, task-fine, big, little, fails}
+use Rattle.ea_sound.proofs.ChroniclePlaces.{Fine as IsFine, IsAsking, IsNow, IsWanted as Wants, landed, shared, choice-fine, logged-fine, planned-fine, search-fine, task-fine, big, little, fails}
 use Rattle.ea_model.specs.Trace.{makes}
 use Rattle.ea_model.proofs.Needs.{need-even, need-least}
 use Rattle.ea_machine.specs.Actor.{Begin}
@@ -83,13 +83,28 @@ module _ (e : Setup) (rules : (L : List ℕ) → Rule e (run e L)) (L : List ℕ
     no-steps : count_by (λ j. j == me) [] ≡ 0
     no-steps = sum_by-sum_over (λ j. one_if (j == me)) []
 
+    -- the operation asks for a place
+    asked-now : (ask : Ask) → OfAsk ask acting.todo → AsksFor mid mid.todo ask.need
+        → IsAsking e rules L me ask
+    asked-now ask o asks = (
+      o,
+      record {
+        before = L;
+        since = [];
+        split = refl;
+        begins = ready;
+        asks = asks;
+        same = k.0;
+      },
+    )
+
     plan-fine : (ask : Ask) → OfAsk ask acting.todo → IsWanted ask
         → AsksFor mid mid.todo ask.need
         → (ask.need ≤ e.settings.sbct → chosen_spot mid.instance ask.need ≡ None)
         → ((migration e ≡ false) ⊎ (e.settings.sbct < ask.need))
         → Fine (new_carrier e me ask 0 mid)
     plan-fine ask o want asks none un =
-        planned-fine e rules L me set is ask 0 mid (plan mid.instance ask.need) refl k o
+        planned-fine e rules L me set is ask 0 mid (plan mid.instance ask.need) refl k (asked-now ask o asks)
         (λ why r. fails e rules L me set is ask 0 why mid L [] refl (refl, refl, refl, refl)
         (subst (OfAsk ask) (sym k.1) o)
         (record {
@@ -111,7 +126,8 @@ module _ (e : Setup) (rules : (L : List ℕ) → Rule e (run e L)) (L : List ℕ
         → IsWanted ask → AsksFor mid mid.todo ask.need → ask.need ≤ e.settings.sbct
         → chosen_spot mid.instance ask.need ≡ None → Fine (search_if e me ask mid on)
     no_choice-fine ask true m o want asks small c =
-        search-fine e rules L me set is ask (greatest_number e) 0 mid k o m small (omega arith)
+        search-fine e rules L me set is ask (greatest_number e) 0 mid k
+        (asked-now ask o asks) m small (omega arith)
         (record {
           before = L;
           since = [];
@@ -129,7 +145,8 @@ module _ (e : Setup) (rules : (L : List ℕ) → Rule e (run e L)) (L : List ℕ
         → OfAsk ask acting.todo → IsWanted ask → AsksFor mid mid.todo ask.need
         → ask.need ≤ e.settings.sbct → Fine (chosen_by e me ask mid s)
     chosen-fine ask (Some spot) c o want asks small =
-        choice-fine e rules L me set is ask mid (Some spot) c k o small (Had ready refl) want going
+        choice-fine e rules L me set is ask mid (Some spot) c k (asked-now ask o asks) small (Had ready refl)
+        want going
     chosen-fine ask None c o want asks small =
         no_choice-fine ask (migration e) refl o want asks small c
 

@@ -14,7 +14,7 @@ use Rattle.ea_model.specs.Instance.{chosen_spot, creating, is_alone, place_at, p
 use Rattle.ea_laws.proofs.Keeping.{plan-IsPlanned}
 use Rattle.ea_machine.specs.Actor.{Actor, Gone, Open, Here, Queued, Route, Task, Freeing, Moving, For}
 use Rattle.ea_machine.specs.declared.asks.Ask.{Ask}
-use Rattle.ea_machine.specs.Chosen.{Created, Creates, IsJustBefore, IsPlacedAt, IsPlacement}
+use Rattle.ea_machine.specs.Chosen.{Created, Creates, HasAsked, IsJustBefore, IsPlacedAt, IsPlacement}
 use Rattle.ea_machine.specs.Entries.{Tells}
 use Rattle.ea_machine.specs.Exhausted.{FindsNoPlace, IsExhausted, IsFailOf}
 use Rattle.ea_machine.specs.Machine.{run}
@@ -27,7 +27,7 @@ use Rattle.ea_machine.specs.Statistics.{observed}
 use Rattle.ea_machine.specs.Tasks.{carried, entry_of, hands_over, later, let_go, logged, task_over}
 use Rattle.ea_machine.specs.Turns.{actor_after, begun}
 use Rattle.ea_sound.specs.Present.{OfAsk, OfTask}
-use Rattle.ea_sound.proofs.Chronicle.{IsOfFirst, IsSame, Outcomes, Placement, Placing, SoFar, Underway, ask-need, failed-is, outcomes, task-first}
+use Rattle.ea_sound.proofs.Chronicle.{IsOfFirst, IsSame, Outcomes, Placement, Placing, SoFar, Underway, failed-is, outcomes, task-first}
 use Rattle.ea_sound.proofs.ShortRoutes.{Keeps, keeps-on, route-keeps}
 use Rattle.std.proofs.Common.{◌≢◌}
 use Rattle.ea_model.specs.Instance.{creating_single, placing_at}
@@ -53,6 +53,12 @@ use Rattle.ea_sound.proofs.LyingBlocks.{LiesWith, lying, placing-lies, route-lie
 use Rattle.ea_sound.proofs.Numbered.{scheduler-seat}
 use Rattle.ea_sound.proofs.Operating.{closed-operation, held-other, held-stays, made-wanted}
 use Rattle.ea_sound.proofs.Totals.{put-here, total-part}
+
+-- a search that goes on no more
+ends : (n looked limit : ℕ) → looked ≤ limit → (nat_lt 0 n && nat_lt looked limit) ≡ false
+    → (n ≡ 0) ⊎ (looked ≡ limit)
+ends zero looked limit m t = inl refl
+ends (suc n) looked limit m t = inr (grind (arith, m, t))
 
 module _ (e : Setup) (rules : (L : List ℕ) → Rule e (run e L)) (L : List ℕ) (me : ℕ) where
   abbrev pub acting : Actor
@@ -91,6 +97,10 @@ module _ (e : Setup) (rules : (L : List ℕ) → Rule e (run e L)) (L : List ℕ
   -- in the middle of the turn the rule holds, and what is asked for may be placed
   abbrev pub IsGoing : Actor → Type 0
   IsGoing b = InOperation e (run e L) shared me (at Begin b)
+
+  -- it is what the operation asks for
+  abbrev pub IsAsking : Ask → Type 0
+  IsAsking ask = OfAsk ask acting.todo × HasAsked e turn me ask.need acting.log
 
   abbrev pub IsWanted : Actor → Ask → Type 0
   IsWanted b ask = Wanted e (run e L) shared me b ask
@@ -135,7 +145,7 @@ module _ (e : Setup) (rules : (L : List ℕ) → Rule e (run e L)) (L : List ℕ
       split = h.split;
       same = h.same;
       need = h.need;
-      asks = h.asks;
+      asked = h.asked;
       placed = h.placed;
       there = h.there;
     }
@@ -197,12 +207,12 @@ module _ (e : Setup) (rules : (L : List ℕ) → Rule e (run e L)) (L : List ℕ
 
     -- a block is placed
     stands-fine : (ask : Ask) (place : Place) (spot : Spot) (c : Actor) → Keeps acting c
-        → OfAsk ask acting.todo → IsPlacedAt e (run e L) me ask.need place
+        → IsAsking ask → IsPlacedAt e (run e L) me ask.need place
         → OldHeld ask.old c.held → LiesWith ask.name place c.instance
         → IsGoing (holding ask.name spot c)
         → Fine (stands e me ask.name place ask.old (holding ask.name spot c))
     stands-fine ask place spot c k o p held has g =
-        by ask.old refl held (outcomes ask 0 Space place acting.todo o ask.old refl)
+        by ask.old refl held (outcomes ask 0 Space place acting.todo o.0 ask.old refl)
       where
         here : LiesAt e ask.name place (run e turn)
             → Placement e turn me acting.log ask.name place
@@ -212,7 +222,7 @@ module _ (e : Setup) (rules : (L : List ℕ) → Rule e (run e L)) (L : List ℕ
           split = refl;
           same = refl;
           need = ask.need;
-          asks = ask-need ask acting.todo o;
+          asked = o.1;
           placed = p;
           there = lies;
         }
@@ -235,7 +245,7 @@ module _ (e : Setup) (rules : (L : List ℕ) → Rule e (run e L)) (L : List ℕ
             (λ off own. (in_order ask.name spot c g, old-stands ask.name spot c g h old off own)))
             now))
 
-    placed_at-fine : (ask : Ask) (b : Actor) (spot : Spot) → Keeps acting b → OfAsk ask acting.todo
+    placed_at-fine : (ask : Ask) (b : Actor) (spot : Spot) → Keeps acting b → IsAsking ask
         → IsPlacedAt e (run e L) me ask.need (place_at b.instance spot ask.need)
         → chosen_spot b.instance ask.need ≡ Some spot → IsWanted b ask → IsGoing b
         → Fine (placed_at e me ask b spot)
@@ -248,7 +258,7 @@ module _ (e : Setup) (rules : (L : List ℕ) → Rule e (run e L)) (L : List ℕ
         ((closed-operation e (run e L) shared me is).place ask spot b want chosen g)
 
     pub choice-fine : (ask : Ask) (b : Actor) (o : Option Spot)
-        → chosen_spot b.instance ask.need ≡ o → Keeps acting b → OfAsk ask acting.todo
+        → chosen_spot b.instance ask.need ≡ o → Keeps acting b → IsAsking ask
         → ask.need ≤ e.settings.sbct
         → IsJustBefore e (run e L) me ask.need b.instance → IsWanted b ask → IsGoing b
         → Fine (placed_by e me ask b o)
@@ -270,7 +280,7 @@ module _ (e : Setup) (rules : (L : List ℕ) → Rule e (run e L)) (L : List ℕ
 
     -- in a new carrier
     pub created-fine : (ask : Ask) (p : CarrierPlan) (b : Actor) → Keeps acting b
-        → OfAsk ask acting.todo → plan b.instance ask.need ≡ Ok p
+        → IsAsking ask → plan b.instance ask.need ≡ Ok p
         → Creates e (run e L) me ask.need b.instance p
         → (ask.need ≤ e.settings.sbct → chosen_spot b.instance ask.need ≡ None)
         → IsWanted b ask → IsGoing (with_carrier ask p b p.single)
@@ -298,7 +308,7 @@ module _ (e : Setup) (rules : (L : List ℕ) → Rule e (run e L)) (L : List ℕ
 
     -- no carrier can be created, or one is
     pub planned-fine : (ask : Ask) (looked : ℕ) (b : Actor) (o : Result CarrierPlan NoCarrier)
-        → plan b.instance ask.need ≡ o → Keeps acting b → OfAsk ask acting.todo
+        → plan b.instance ask.need ≡ o → Keeps acting b → IsAsking ask
         → ((why : NoCarrier) → plan b.instance ask.need ≡ Err why
         → IsNow (logged (failed ask looked why ask.old) b)
         → IsExhausted e L me (failed ask looked why ask.old) ask.need looked why)
@@ -309,7 +319,7 @@ module _ (e : Setup) (rules : (L : List ℕ) → Rule e (run e L)) (L : List ℕ
         → Fine (new_carrier_by e me ask looked b o)
     planned-fine ask looked b (Err why) q k o x none f =
         by ask.old refl (outcomes ask looked why (record { carrier = 0; offset = 0; size = 0 })
-        acting.todo o ask.old refl)
+        acting.todo o.0 ask.old refl)
       where
         by : (old : Option Named) → ask.old ≡ old
             → Outcomes ask looked why (record { carrier = 0; offset = 0; size = 0 }) acting.todo old
@@ -331,7 +341,13 @@ module _ (e : Setup) (rules : (L : List ℕ) → Rule e (run e L)) (L : List ℕ
           (λ r. absurd cc),
           k.2 ∙ set,
           λ now. (
-            record { of = subst (OfAsk ask) (sym k.1) o; on = m; planned = q; none = none },
+            record {
+              of = subst (OfAsk ask) (sym k.1) o.0;
+              on = m;
+              asked = subst (HasAsked e turn me ask.need) (sym k.0) o.1;
+              planned = q;
+              none = none;
+            },
             inl (k.0, k.1),
           ),
         )
@@ -359,7 +375,7 @@ module _ (e : Setup) (rules : (L : List ℕ) → Rule e (run e L)) (L : List ℕ
 
     -- the search goes on, or no number or no word is left
     pub search-fine : (ask : Ask) (at looked : ℕ) (b : Actor) → Keeps acting b
-        → OfAsk ask acting.todo → migration e ≡ true → ask.need ≤ e.settings.sbct
+        → IsAsking ask → migration e ≡ true → ask.need ≤ e.settings.sbct
         → looked ≤ SEARCH_LIMIT
         → Underway e turn me ask.need (λ c. IsSame c b)
         (Searched ask.need (greatest_number e) 0 at looked)
@@ -367,11 +383,6 @@ module _ (e : Setup) (rules : (L : List ℕ) → Rule e (run e L)) (L : List ℕ
     search-fine ask at looked b k o on small most u =
         by (nat_lt 0 at && nat_lt looked SEARCH_LIMIT) refl
       where
-        ends : (at looked limit : ℕ) → looked ≤ limit → (nat_lt 0 at && nat_lt looked limit) ≡ false
-            → (at ≡ 0) ⊎ (looked ≡ limit)
-        ends zero looked limit m t = inl refl
-        ends (suc at) looked limit m t = inr (grind (arith, m, t))
-
         none : chosen_spot b.instance ask.need ≡ None
         none = ap (λ i. chosen_spot i ask.need) u.same.2 ∙ u.none
 
@@ -382,7 +393,7 @@ module _ (e : Setup) (rules : (L : List ℕ) → Rule e (run e L)) (L : List ℕ
           k.2 ∙ set,
           λ now. (
             record {
-              of = subst (OfAsk ask) (sym k.1) o;
+              of = subst (OfAsk ask) (sym k.1) o.0;
               on = on;
               small = small;
               low = grind (arith, t);
@@ -394,7 +405,7 @@ module _ (e : Setup) (rules : (L : List ℕ) → Rule e (run e L)) (L : List ℕ
         )
         by false t = planned-fine ask looked b (plan b.instance ask.need) refl k o
             (λ why r. fails ask looked why b u.before u.since u.split u.same
-            (subst (OfAsk ask) (sym k.1) o)
+            (subst (OfAsk ask) (sym k.1) o.0)
             (record {
               begins = u.begins;
               asks = u.asks;

@@ -23,17 +23,17 @@ use Rattle.ea_machine.specs.Statistics.{observed}
 use Rattle.ea_machine.specs.Table.{answer}
 use Rattle.ea_machine.specs.Tasks.{halted, logged, let_go}
 use Rattle.ea_machine.specs.Turns.{actor_after, answered, begun}
-use Rattle.ea_sound.proofs.Chronicle.{AndShown, Fetches, IsSame, Searches, SoFar, Underway, further, placing-longer}
+use Rattle.ea_sound.proofs.Chronicle.{AndShown, Fetches, IsSame, Searches, SoFar, Underway, asked-longer, further, placing-longer, way-asked}
 use Rattle.ea_sound.proofs.SearchLists.{counted-most, searched-look, searched-lost, searched-on}
 use Rattle.ea_sound.proofs.SearchTurns.{fetch-tries, lost-other}
 use Rattle.ea_sound.proofs.BeginTurns.{IsInBegin, Walks, walks}
 use Rattle.ea_sound.proofs.ShortRoutes.{Keeps, keeps-same, turned-keeps}
-use Rattle.ea_sound.proofs.ChroniclePlaces.{Fine as IsFine, carried-fine, choice-fine, created-fine, logged-fine, search-fine}
+use Rattle.ea_sound.proofs.ChroniclePlaces.{Fine as IsFine, IsAsking, carried-fine, choice-fine, created-fine, logged-fine, search-fine}
 use Rattle.ea_sound.proofs.ChronicleOperations.{itself-fine}
 use Rattle.ea_machine.specs.Setup.{is_scheduler}
 use Rattle.ea_machine.specs.Shared.{Shared}
 use Rattle.ea_sound.specs.Leaves.{Leaves}
-use Rattle.ea_sound.specs.Present.{Rule}
+use Rattle.ea_sound.specs.Present.{OfAsk, Rule}
 use Rattle.ea_sound.proofs.ChroniclePlaces.{shared}
 use Rattle.ea_sound.proofs.Operating.{begun-kept}
 use Rattle.ea_sound.proofs.RowLeaves.{row-left}
@@ -115,6 +115,11 @@ module _ (e : Setup) (rules : (L : List ℕ) → Rule e (run e L)) (L : List ℕ
         further e L me me need R P Q true (grind arith) (ap length sees)
         (λ xs p. subst (λ ys. Q (xs ++ ys)) (sym sees) (f xs p)) u
 
+    asking : (ask : Ask) (P : List Sight → Type 0) → OfAsk ask acting.todo
+        → Underway e L me ask.need IsStill P → IsAsking e rules L me ask
+    asking ask P o u =
+        (o, asked-longer e L me me ask.need acting.log (way-asked e L me ask.need acting P u))
+
     searched-fine : (ask : Ask) (at looked : ℕ) (r : Answer)
         → acting.stage ≡ Searching ask at looked → answered (run e L) me ≡ r
         → Searches e L me acting ask at looked → Fine (searched e me ask at looked acting r)
@@ -142,7 +147,7 @@ module _ (e : Setup) (rules : (L : List ℕ) → Rule e (run e L)) (L : List ℕ
           ),
         )
         by false t = search-fine e rules L me set is ask (at - 1) (counted v looked) acting
-            (keeps-same acting) h.of h.on h.small (counted-most looked SEARCH_LIMIT v h.room)
+            (keeps-same acting) (asking ask _ h.of h.way) h.on h.small (counted-most looked SEARCH_LIMIT v h.room)
             (turn-of ask.need (Searching ask at looked) (Saw v) (Shown at v) IsStill _
             (Searched ask.need (greatest_number e) 0 (at - 1) (counted v looked)) st ans refl
             (λ xs p. searched-on ask.need (greatest_number e) 0 at looked (at - 1)
@@ -164,13 +169,14 @@ module _ (e : Setup) (rules : (L : List ℕ) → Rule e (run e L)) (L : List ℕ
     fetched-fine ask at looked seen (Won x) st ans l h =
         choice-fine e rules L me set is ask
         (record acting { instance = employing acting.instance x })
-        (chosen_spot (employing acting.instance x) ask.need) refl (refl, refl, refl) h.of h.small
+        (chosen_spot (employing acting.instance x) ask.need) refl (refl, refl, refl)
+        (asking ask _ h.of h.way) h.small
         (Fetched ask at looked seen x st refl
         (ap (λ i. chosen_spot i ask.need) h.way.same.2 ∙ h.way.none) ans refl) l.0 l.2
     fetched-fine ask at looked seen (Lost u) st ans l h =
         subst (λ k. Fine (search_at e me ask (at - 1) k acting)) (sym h.counts)
         (search-fine e rules L me set is ask (at - 1) (counted seen h.old) acting
-        (keeps-same acting) h.of h.on h.small (counted-most h.old SEARCH_LIMIT seen h.room)
+        (keeps-same acting) (asking ask _ h.of h.way) h.on h.small (counted-most h.old SEARCH_LIMIT seen h.room)
         (turn-of ask.need (Fetching ask at looked seen) (Lost u) (Missed at u) IsStill _
         (Searched ask.need (greatest_number e) 0 (at - 1) (counted seen h.old)) st ans refl
         (λ xs p. subst (Searched ask.need (greatest_number e) 0 (at - 1) (counted seen h.old))
@@ -253,7 +259,8 @@ module _ (e : Setup) (rules : (L : List ℕ) → Rule e (run e L)) (L : List ℕ
         (left (Fetching ask at looked seen) (answered (run e L) me) q (λ r. ne (sym q ∙ r)) refl) h)
     row-fine (Creating ask p) q h ne =
         let l = left (Creating ask p) (answered (run e L) me) q (λ r. ne (sym q ∙ r)) refl in
-        inr (created-fine e rules L me set is ask p acting (keeps-same acting) h.of h.planned
+        inr (created-fine e rules L me set is ask p acting (keeps-same acting)
+        (h.of, asked-longer e L me me ask.need acting.log h.asked) h.planned
         (ByItself h.on ask q refl refl h.planned) h.none l.0 l.2)
     row-fine (Giving g to) q h ne =
         inr (logged-fine e rules L me set is (entry.Give g.name to) (let_go g.name acting)

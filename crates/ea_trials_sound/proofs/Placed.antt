@@ -9,20 +9,37 @@ use Rattle.ea_model.specs.Instance.{chosen_spot, creating, place_at, plan, singl
 use Rattle.ea_machine.specs.declared.owners.OwnerWord.{OwnerWord}
 use Rattle.ea_machine.specs.Actor.{Creating, Fetching}
 use Rattle.ea_machine.specs.declared.asks.Ask.{Ask}
-use Rattle.ea_machine.specs.Chosen.{ByItself, Created, Fetched, IsPlacement}
+use Rattle.ea_machine.specs.Chosen.{ByItself, Created, Fetched, HasAsked, IsPlacement}
 use Rattle.ea_machine.specs.Employment.{employing}
 use Rattle.ea_machine.specs.Machine.{run}
-use Rattle.ea_machine.specs.Needs.{HasNeed}
+use Rattle.ea_machine.specs.Needs.{AsksFor}
 use Rattle.ea_machine.specs.Released.{blocks_at}
 use Rattle.ea_machine.specs.Rows.{Won}
 use Rattle.ea_machine.specs.Setup.{Setup, migration}
-use Rattle.ea_machine.specs.Turns.{actor_after, answered, log_after}
+use Rattle.ea_machine.specs.Turns.{IsBegun, actor_after, answered, begun, log_after}
+
+-- the operation asked for a place in one of these turns
+pub asked : (setup : Setup) (turns before since : List ℕ) (s need : ℕ) (then now : List Entry)
+    → turns ≡ before ++ s ∷ since
+    → IsBegun setup (run setup before) s
+    → AsksFor (begun setup before s) (begun setup before s).todo need
+    → (begun setup before s).log ≡ then
+    → now ≡ then
+    → HasAsked setup turns s need now
+asked setup turns before since s need then now split begins asks was is = record {
+  before = before;
+  since = since;
+  split = split;
+  begins = begins;
+  asks = asks;
+  same = was ∙ sym is;
+}
 
 -- a block is placed in a carrier that was fetched, and its entry made in the same step
 pub fetched-placement : (setup : Setup) (turns : List ℕ) (s name : ℕ) (place : Place) (ask : Ask)
     (at looked : ℕ) (seen : OwnerWord) (x : Content) (spot : Spot)
     → ask.need ≤ setup.settings.sbct
-    → HasNeed (actor_after setup turns s).todo ask.need
+    → HasAsked setup (turns ++ s ∷ []) s ask.need (log_after setup turns s)
     → (actor_after setup turns s).stage ≡ Fetching ask at looked seen
     → chosen_spot (actor_after setup turns s).instance ask.need ≡ None
     → answered (run setup turns) s ≡ Won x
@@ -38,7 +55,7 @@ fetched-placement setup turns s name place ask at looked seen x spot small asks 
       split = refl;
       same = refl;
       need = ask.need;
-      asks = asks;
+      asked = asks;
       placed = inl (
         small,
         record {
@@ -60,7 +77,7 @@ pub created-placement : (setup : Setup) (turns : List ℕ) (s name : ℕ) (place
     → log_after setup turns s ≡ log
     → migration setup ≡ true
     → ask.need ≤ setup.settings.sbct
-    → HasNeed (actor_after setup before s).todo ask.need
+    → HasAsked setup (before ++ s ∷ []) s ask.need (log_after setup turns s)
     → (actor_after setup before s).stage ≡ Creating ask p
     → plan (actor_after setup before s).instance ask.need ≡ Ok p
     → chosen_spot (actor_after setup before s).instance ask.need ≡ None
@@ -75,7 +92,7 @@ created-placement setup turns s name place before since log ask p spot split the
       split = split;
       same = then ∙ sym now;
       need = ask.need;
-      asks = asks;
+      asked = asks;
       placed = inl (
         small,
         record {
@@ -94,7 +111,7 @@ created-placement setup turns s name place before since log ask p spot split the
 pub single-placement : (setup : Setup) (turns : List ℕ) (s name : ℕ) (ask : Ask) (p : CarrierPlan)
     → migration setup ≡ true
     → setup.settings.sbct < ask.need
-    → HasNeed (actor_after setup turns s).todo ask.need
+    → HasAsked setup (turns ++ s ∷ []) s ask.need (log_after setup turns s)
     → (actor_after setup turns s).stage ≡ Creating ask p
     → plan (actor_after setup turns s).instance ask.need ≡ Ok p
     → p.single ≡ true
@@ -106,7 +123,7 @@ single-placement setup turns s name ask p on large asks stage planned single lie
   split = refl;
   same = refl;
   need = ask.need;
-  asks = asks;
+  asked = asks;
   placed = inr (
     large,
     record {

@@ -8,7 +8,7 @@ use Rattle.ea_machine.specs.Machine.{after, step_at}
 use Rattle.ea_trials_moments.specs.Runs.{carrier_with, named, usual}
 use Rattle.ea_trials_sound.specs.Courses.{turns}
 use Rattle.ea_trials_sound.specs.Entries.{absent_from, full_region, place}
-use Rattle.ea_trials_sound.proofs.Placed.{created-placement, fetched-placement, single-placement}
+use Rattle.ea_trials_sound.proofs.Placed.{asked, created-placement, fetched-placement, single-placement}
 use Rattle.ea_trials_sound.proofs.Setups.{full_instance, full_setup, moving_setup, under-setup}
 use Rattle.ea_trials_sound.proofs.Exhausted.{exhausted}
 use Rattle.ea_machine.specs.Exhausted.{IsExhausted}
@@ -43,7 +43,10 @@ pub returns-clause-in_a_fetched_carrier : goal.returns-clause-in_a_fetched_carri
 unfolding unused_from answer effect after step_at
 returns-clause-in_a_fetched_carrier c = fetched-placement _ _ _ _ _
     (record { name = 3; need = 14; old = None }) 1 1 (word.Pooled 1 32728)
-    (carrier_with (usual 2 26 ∷ [])) (record { carrier = 1; offset = 8 }) (omega arith) refl refl
+    (carrier_with (usual 2 26 ∷ [])) (record { carrier = 1; offset = 8 }) (omega arith)
+    (asked _ _ (turns (codes "1*262")) (turns (codes "1*257")) 1 14
+    (entry.Alloc 1 (place 1 8 18) ∷ entry.Alloc 2 (place 1 26 14) ∷ entry.Free 1 ∷ []) _ refl refl
+    refl refl refl) refl
     refl refl refl refl refl
 
 pub returns-clause-in_a_new_carrier : goal.returns-clause-in_a_new_carrier
@@ -56,7 +59,10 @@ returns-clause-in_a_new_carrier c = under-setup
     (entry.Alloc 1 (place 1 8 14) ∷ entry.Alloc 2 (place 1 22 14) ∷ entry.Free 1 ∷ [])
     (record { name = 4; need = 26; old = Some (named 2 22) })
     (record { number = 2; base = 64; pages = 64; birth = 2; single = false })
-    (record { carrier = 2; offset = 8 }) refl refl refl refl (omega arith) refl refl refl refl refl
+    (record { carrier = 2; offset = 8 }) refl refl refl refl (omega arith)
+    (asked moving_setup _ (turns (codes "1*518 2*514")) (turns (codes "1*513")) 1 26
+    (entry.Alloc 1 (place 1 8 14) ∷ entry.Alloc 2 (place 1 22 14) ∷ entry.Free 1 ∷ []) _ refl refl
+    (refl, refl) refl refl) refl refl refl refl
     refl refl)
 
 pub returns-clause-in_a_carrier_of_its_own : goal.returns-clause-in_a_carrier_of_its_own
@@ -64,4 +70,4 @@ unfolding unused_from answer effect after step_at
 returns-clause-in_a_carrier_of_its_own c = single-placement _ _ _ _
     (record { name = 1; need = 75002; old = None })
     (record { number = 1; base = 0; pages = 147; birth = 1; single = true }) refl (omega arith)
-    refl refl refl refl refl
+    (asked _ _ [] (1 ∷ []) 1 75002 [] _ refl refl refl refl refl) refl refl refl refl
