@@ -1,3 +1,4 @@
+pub mod Freed
 pub mod NamesTable
 pub mod Paths
 pub mod PresentCarriers
