@@ -1,6 +1,7 @@
-//! One scheduler whose carriers don't migrate: where blocks lie, which carriers there are.
+//! One scheduler whose carriers don't migrate: where blocks lie, which carriers there are; and
+//! words and inputs that have no text.
 
-ghost use Rattle.std.specs.Prelude.{◌≡◌, ◌++◌, codes, Some, [], ◌∷◌, true};
+ghost use Rattle.std.specs.Prelude.{◌≡◌, ◌++◌, codes, None, Some, [], ◌∷◌, true};
 ghost use Rattle.ea_model.specs.Words.{words};
 ghost use Rattle.ea_trials_machine.specs.Worked.{shows, text_of};
 
@@ -37,6 +38,12 @@ pub fn one_scheduler()
         (codes "scheduler 1\nalloc 1 1 8 14\n"
         ++ codes "carrier 1 multi owner 1 employed 1 base 0 pages 64 allocated 14 largest 32746\n"
         ++ codes "total carriers 1 units 32768 live 14 queued 0 free 32746 header 8\n") }
+    ensures spaces_and_comments { text_of (words (codes "+MMscs 1 +MHacul 0"))
+        (codes "# c\n\ttype  H\r\n\nscheduler 01\n alloc\t1 0000000100 \nschedule\nend\n#")
+        ≡ Some
+        (codes "scheduler 1\nalloc 1 1 8 14\n"
+        ++ codes "carrier 1 multi owner 1 employed 1 base 0 pages 64 allocated 14 largest 32746\n"
+        ++ codes "total carriers 1 units 32768 live 14 queued 0 free 32746 header 8\n") }
     ensures no_line_feed_at_the_end { text_of (words (codes "+MMscs 1 +MHacul 0"))
         (codes "type H\nscheduler 1\nalloc 1 100\nschedule\nend")
         ≡ Some
@@ -56,6 +63,16 @@ pub fn one_scheduler()
         ++ codes "carrier 1 single owner 1 employed 1 base 0 pages 129 "
         ++ codes "allocated 65538 largest 502\n"
         ++ codes "total carriers 1 units 66048 live 65538 queued 0 free 502 header 8\n") }
+    ensures both_kinds { text_of (words (codes "+MHsbct 1 +MHacul 0"))
+        (codes "type H\nscheduler 1\nalloc 1 1017\nalloc 2 5000\nfree 1\nalloc 3 100\n"
+        ++ codes "alloc 4 1017\nschedule\nend\n")
+        ≡ Some
+        (codes "scheduler 1\nalloc 1 1 8 130\nalloc 2 2 8 626\nfree 1 done\nalloc 3 1 8 14\n"
+        ++ codes "alloc 4 3 8 130\n"
+        ++ codes "carrier 1 multi owner 1 employed 1 base 3 pages 64 allocated 14 largest 32746\n"
+        ++ codes "carrier 2 single owner 1 employed 1 base 1 pages 2 allocated 626 largest 390\n"
+        ++ codes "carrier 3 single owner 1 employed 1 base 0 pages 1 allocated 130 largest 374\n"
+        ++ codes "total carriers 3 units 34304 live 770 queued 0 free 33510 header 24\n") }
     ensures space_refused { text_of (words (codes "+MMscs 1 +MHacul 0"))
         (codes "type H\nscheduler 1\nalloc 1 524280\nalloc 2 524280\nalloc 3 100\nschedule\n"
         ++ codes "end\n")
@@ -138,6 +155,12 @@ pub fn one_scheduler()
         (codes "type H\nscheduler 1\nalloc 1 200000\nalloc 2 200000\nfree 1\nalloc 3 250000\n"
         ++ codes "alloc 4 100\nschedule\nend\n"))
         ≡ true }
+    ensures temporary_without_a_flag { text_of (words (codes "+MMscs 1"))
+        (codes "type T\nscheduler 1\nidle\nalloc 1 100\nschedule\n1*2 1\nend\n")
+        ≡ Some
+        (codes "scheduler 1\nidle\nalloc 1 1 8 14\n"
+        ++ codes "carrier 1 multi owner 1 employed 1 base 0 pages 64 allocated 14 largest 32746\n"
+        ++ codes "total carriers 1 units 32768 live 14 queued 0 free 32746 header 8\n") }
     ensures temporary_blocks_stay { text_of []
         (codes "type T\nscheduler 1\nalloc 1 100\nalloc 2 100\nfree 1\nschedule\nend\n")
         ≡ Some
@@ -150,4 +173,12 @@ pub fn one_scheduler()
         (codes "scheduler 1\nalloc 1 1 8 14\nalloc 2 1 22 14\nfree 1 done\n"
         ++ codes "carrier 1 multi owner 1 employed 1 base 0 pages 64 allocated 14 largest 32732\n"
         ++ codes "total carriers 1 units 32768 live 14 queued 0 free 32746 header 8\n") }
+    ensures cut_end { text_of (words (codes "+MMscs 1 +MHacul 0"))
+        (codes "type H\nscheduler 1\nschedule\nen") ≡ None }
+    ensures made_twice { text_of (words (codes "+MMscs 1 +MHacul 0"))
+        (codes "type H\nscheduler 1\nalloc 1 100\nalloc 1 100\nschedule\nend\n") ≡ None }
+    ensures never_made { text_of (words (codes "+MMscs 1 +MHacul 0"))
+        (codes "type H\nscheduler 1\nfree 1\nschedule\nend\n") ≡ None }
+    ensures refused_word { text_of (words (codes "+MHsbct x"))
+        (codes "type H\nscheduler 1\nschedule\nend\n") ≡ None }
 {}

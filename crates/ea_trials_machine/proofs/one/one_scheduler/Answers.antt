@@ -26,6 +26,10 @@ pub returns-clause-spaces_and_carriage_returns : goal.returns-clause-spaces_and_
 unfolding digits unused_from bin_of powers answer effect after step_at
 returns-clause-spaces_and_carriage_returns c = refl
 
+pub returns-clause-spaces_and_comments : goal.returns-clause-spaces_and_comments
+unfolding digits unused_from bin_of powers answer effect after step_at
+returns-clause-spaces_and_comments c = refl
+
 pub returns-clause-no_line_feed_at_the_end : goal.returns-clause-no_line_feed_at_the_end
 unfolding digits unused_from bin_of powers answer effect after step_at
 returns-clause-no_line_feed_at_the_end c = refl
@@ -37,6 +41,10 @@ returns-clause-exactly_threshold c = refl
 pub returns-clause-above_threshold : goal.returns-clause-above_threshold
 unfolding digits unused_from bin_of powers answer effect after step_at
 returns-clause-above_threshold c = refl
+
+pub returns-clause-both_kinds : goal.returns-clause-both_kinds
+unfolding digits unused_from bin_of powers answer effect after step_at
+returns-clause-both_kinds c = refl
 
 pub returns-clause-space_refused : goal.returns-clause-space_refused
 unfolding digits unused_from bin_of powers answer effect after step_at
@@ -82,10 +90,31 @@ pub returns-clause-reused_number_by_age : goal.returns-clause-reused_number_by_a
 unfolding digits unused_from bin_of powers answer effect after step_at
 returns-clause-reused_number_by_age c = refl
 
+pub returns-clause-temporary_without_a_flag : goal.returns-clause-temporary_without_a_flag
+unfolding digits unused_from bin_of powers answer effect after step_at
+returns-clause-temporary_without_a_flag c = refl
+
 pub returns-clause-temporary_blocks_stay : goal.returns-clause-temporary_blocks_stay
 unfolding digits unused_from bin_of powers answer effect after step_at
 returns-clause-temporary_blocks_stay c = refl
 
-pub returns-clause-temporary_blocks_stay_whatever_was_set : goal.returns-clause-temporary_blocks_stay_whatever_was_set
+pub returns-clause-temporary_blocks_stay_whatever_was_set
+    : goal.returns-clause-temporary_blocks_stay_whatever_was_set
 unfolding digits unused_from bin_of powers answer effect after step_at
 returns-clause-temporary_blocks_stay_whatever_was_set c = refl
+
+pub returns-clause-cut_end : goal.returns-clause-cut_end
+unfolding digits unused_from bin_of powers answer effect after step_at
+returns-clause-cut_end c = refl
+
+pub returns-clause-made_twice : goal.returns-clause-made_twice
+unfolding digits unused_from bin_of powers answer effect after step_at
+returns-clause-made_twice c = refl
+
+pub returns-clause-never_made : goal.returns-clause-never_made
+unfolding digits unused_from bin_of powers answer effect after step_at
+returns-clause-never_made c = refl
+
+pub returns-clause-refused_word : goal.returns-clause-refused_word
+unfolding digits unused_from bin_of powers answer effect after step_at
+returns-clause-refused_word c = refl
