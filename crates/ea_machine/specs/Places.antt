@@ -1,9 +1,9 @@
 -- Where carriers are.
-use Rattle.std.specs.Prelude.{◌≡◌, ◌≢◌, ◌⊎◌, ℕ, ◌≤◌, Bool, true, false, ◌&&◌, ◌==◌, [], All}
-use Rattle.ea_model.specs.declared.carriers.Kind.TheVariants.{Multi}
+use Rattle.std.specs.Prelude.{◌≡◌, ◌≢◌, ◌⊎◌, ℕ, ◌<◌, ◌≤◌, Bool, true, false, ◌&&◌, ◌==◌, [], Some, All}
+use Rattle.ea_model.specs.declared.carriers.Kind.TheVariants.{Main, Multi}
 use Rattle.ea_model.specs.declared.carriers.OwnCarrier.{OwnCarrier}
 use Rattle.ea_model.specs.Content.{Content, gaps_of, is_vacant, largest}
-use Rattle.ea_model.specs.Instance.{own_of}
+use Rattle.ea_model.specs.Instance.{Instance, content_of, first_number, own_of}
 use Rattle.ea_model.specs.Trace.{IsScheduler}
 use Rattle.ea_laws.specs.Kept.{IsRising}
 use Rattle.ea_machine.specs.Owners.{CarrierAt, Absent, Employed, Pooled, Busy, Returning, owner_of}
@@ -96,10 +96,21 @@ pub record OwnTheirCarriers (setup : Setup) (state : State) : Type 0 where
   pub contents : (i : ℕ) → IsRising (state.actors i).instance.contents
   pub singles : (i : ℕ) → IsRising (state.actors i).instance.singles
 
+-- the main carrier of an instance is among the contents that it employs
+abbrev pub HasMain : ℕ → Instance → Type 0
+HasMain i instance = (x : Content) × (content_of instance.contents (first_number i) ≡ Some x)
+    × (x.kind ≡ Main)
+
+-- where the settings ask for a main carrier, it is there, and stays with its owner
+abbrev pub KeepsMains : Setup → State → Type 0
+KeepsMains setup state = 0 < setup.settings.mmbcs → (i : ℕ) → IsScheduler setup.schedulers i
+    → HasMain i (state.actors i).instance
+
 pub record PlacesCarriers (setup : Setup) (state : State) : Type 0 where
   pub one : AreInOnePlace setup state
   pub stay : StayWithOwners state
   pub own : OwnTheirCarriers setup state
+  pub main : KeepsMains setup state
 
 -- a pooled carrier has a block, and its recorded largest gap is the largest gap that it has
 abbrev pub RecordsGaps : State → Type 0

@@ -52,6 +52,7 @@ module _ (e : Setup) (w : State) (me : ℕ) (is : is_scheduler e me ≡ true) (r
           rising = rule.present.held me;
           names = names e w me is rule Begin now;
           stands = λ off. rule.present.stands off me is;
+          main = rule.present.main me is;
         }
 
     taken-good : (o : Option Node) → a.next ≡ None → o ≡ first_node (s.rests me)

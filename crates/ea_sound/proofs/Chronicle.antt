@@ -77,7 +77,8 @@ pub record Fetches (e : Setup) (L : List ℕ) (s : ℕ) (a : Actor) (ask : Ask) 
   pub fit : fits ask.need seen ≡ true
   pub way : Underway e L s ask.need (λ b. IsSame b a) (AndShown e ask.need at old seen)
 
-pub record Creates (e : Setup) (L : List ℕ) (s : ℕ) (a : Actor) (ask : Ask) (p : CarrierPlan) : Type 0 where
+pub record Creates (e : Setup) (L : List ℕ) (s : ℕ) (a : Actor) (ask : Ask) (p : CarrierPlan)
+    : Type 0 where
   pub of : OfAsk ask a.todo
   pub on : migration e ≡ true
   pub asked : HasAsked e L s ask.need a.log

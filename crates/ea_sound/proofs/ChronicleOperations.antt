@@ -104,7 +104,8 @@ module _ (e : Setup) (rules : (L : List ℕ) → Rule e (run e L)) (L : List ℕ
         → ((migration e ≡ false) ⊎ (e.settings.sbct < ask.need))
         → Fine (new_carrier e me ask 0 mid)
     plan-fine ask o want asks none un =
-        planned-fine e rules L me set is ask 0 mid (plan mid.instance ask.need) refl k (asked-now ask o asks)
+        planned-fine e rules L me set is ask 0 mid (plan mid.instance ask.need) refl k
+        (asked-now ask o asks)
         (λ why r. fails e rules L me set is ask 0 why mid L [] refl (refl, refl, refl, refl)
         (subst (OfAsk ask) (sym k.1) o)
         (record {
@@ -145,8 +146,8 @@ module _ (e : Setup) (rules : (L : List ℕ) → Rule e (run e L)) (L : List ℕ
         → OfAsk ask acting.todo → IsWanted ask → AsksFor mid mid.todo ask.need
         → ask.need ≤ e.settings.sbct → Fine (chosen_by e me ask mid s)
     chosen-fine ask (Some spot) c o want asks small =
-        choice-fine e rules L me set is ask mid (Some spot) c k (asked-now ask o asks) small (Had ready refl)
-        want going
+        choice-fine e rules L me set is ask mid (Some spot) c k (asked-now ask o asks) small
+        (Had ready refl) want going
     chosen-fine ask None c o want asks small =
         no_choice-fine ask (migration e) refl o want asks small c
 

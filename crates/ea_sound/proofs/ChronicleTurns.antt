@@ -147,7 +147,8 @@ module _ (e : Setup) (rules : (L : List ℕ) → Rule e (run e L)) (L : List ℕ
           ),
         )
         by false t = search-fine e rules L me set is ask (at - 1) (counted v looked) acting
-            (keeps-same acting) (asking ask _ h.of h.way) h.on h.small (counted-most looked SEARCH_LIMIT v h.room)
+            (keeps-same acting) (asking ask _ h.of h.way) h.on h.small
+            (counted-most looked SEARCH_LIMIT v h.room)
             (turn-of ask.need (Searching ask at looked) (Saw v) (Shown at v) IsStill _
             (Searched ask.need (greatest_number e) 0 (at - 1) (counted v looked)) st ans refl
             (λ xs p. searched-on ask.need (greatest_number e) 0 at looked (at - 1)
@@ -176,7 +177,8 @@ module _ (e : Setup) (rules : (L : List ℕ) → Rule e (run e L)) (L : List ℕ
     fetched-fine ask at looked seen (Lost u) st ans l h =
         subst (λ k. Fine (search_at e me ask (at - 1) k acting)) (sym h.counts)
         (search-fine e rules L me set is ask (at - 1) (counted seen h.old) acting
-        (keeps-same acting) (asking ask _ h.of h.way) h.on h.small (counted-most h.old SEARCH_LIMIT seen h.room)
+        (keeps-same acting) (asking ask _ h.of h.way) h.on h.small
+        (counted-most h.old SEARCH_LIMIT seen h.room)
         (turn-of ask.need (Fetching ask at looked seen) (Lost u) (Missed at u) IsStill _
         (Searched ask.need (greatest_number e) 0 (at - 1) (counted seen h.old)) st ans refl
         (λ xs p. subst (Searched ask.need (greatest_number e) 0 (at - 1) (counted seen h.old))

@@ -34,6 +34,7 @@ pub mod Homes
 pub mod HandRows
 pub mod ListRows
 pub mod LyingBlocks
+pub mod MainCarriers
 pub mod CarrierRows
 pub mod Marks
 pub mod Created

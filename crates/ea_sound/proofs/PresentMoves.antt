@@ -29,6 +29,7 @@ use Rattle.ea_machine.specs.Releases.{route_of}
 use Rattle.ea_machine.specs.Setup.{Setup, migration}
 use Rattle.ea_machine.specs.Shared.{Shared}
 use Rattle.ea_machine.specs.Tasks.{carried_by, entry_of, hands_over, later, let_go, logged, task_over}
+use Rattle.ea_sound.specs.Blocks.{EmploysMain}
 use Rattle.ea_sound.specs.Present.{OfAsk, OfTask, OfWhy}
 use Rattle.ea_sound.specs.Rule.{Standing}
 use Rattle.ea_sound.proofs.Choosing.{chosen-gap, chosen-in_planned}
@@ -36,6 +37,7 @@ use Rattle.ea_sound.proofs.Created.{sure-strategy}
 use Rattle.ea_sound.proofs.Entries.{OfFirst, append-one, ask-allocated, ask-even, ask-least, ask-made, ask-moving, entries-more, task-entry, task-made}
 use Rattle.ea_sound.proofs.FewBlocks.{Counting, all_named, creating-fewer, creating_single-fewer, placing-fewer}
 use Rattle.ea_sound.proofs.HeldNames.{holding-names, holding-rising, let_go-rising, let_go-times, times_held, turned-equal}
+use Rattle.ea_sound.proofs.MainCarriers.{creating-main, creating_single-main, placing-main}
 use Rattle.ea_sound.proofs.Orderly.{creating-IsOrderly, creating_single-IsOrderly, placing-IsOrderly}
 use Rattle.ea_sound.proofs.ReleaseRoutes.{route-good}
 use Rattle.ea_sound.proofs.Staying.{AllStay, AllStayBut, but-stay, creating-stay, creating_single-stay, placing-stay, vacant-empty}
@@ -66,6 +68,7 @@ module _ (e : Setup) (s : Shared) (me : ℕ) (home bound : Counting → ℕ) (R 
       rising = c.rising;
       names = λ n. omega (arith, c.names n, fewer n);
       stands = c.stands;
+      main = c.main;
     };
     suits = tt;
   } where
@@ -109,6 +112,7 @@ module _ (e : Setup) (s : Shared) (me : ℕ) (home bound : Counting → ℕ) (R 
           rising = let_go-rising h.name a.held b.core.rising;
           names = λ n. omega (arith, b.core.names n, let_go-times h.name n a.held);
           stands = b.core.stands;
+          main = b.core.main;
         };
         own = b.own;
       }) of)
@@ -126,10 +130,10 @@ module _ (e : Setup) (s : Shared) (me : ℕ) (home bound : Counting → ℕ) (R 
   module _ (ask : Ask) (a : Actor) (of : OfAsk ask a.todo) (c : CoreIs a.todo a) where
     held-good : (i : Instance) (spot : Spot) (place : Place) → Standing e me i → AllStay me i
         → ((n : Counting) → all_named n i ≤ one_if (ask.name == n.name) + all_named n a.instance)
-        → (migration e ≡ false → Stands i)
+        → (migration e ≡ false → Stands i) → EmploysMain e me i
         → IsGood (stands e me ask.name place ask.old
         (holding ask.name spot (record a { instance = i })))
-    held-good i spot place own stay few off =
+    held-good i spot place own stay few off main =
         let left : ℕ → ℕ = λ n. made_in n (later a.todo) in
         let names : (n : ℕ)
         → times_held n a.held + (one_if (n == ask.name) + made_in n (later a.todo)) ≤ 1 =
@@ -150,6 +154,7 @@ module _ (e : Setup) (s : Shared) (me : ℕ) (home bound : Counting → ℕ) (R 
             rising = holding-rising ask.name spot a.held left names c.rising;
             names = holding-names ask.name spot a.held left names;
             stands = off;
+            main = main;
           };
           own = own;
         })
@@ -158,9 +163,9 @@ module _ (e : Setup) (s : Shared) (me : ℕ) (home bound : Counting → ℕ) (R 
     choice-good : (i : Instance) (spot : Spot) → chosen_spot i ask.need ≡ Some spot
         → Standing e me i → AllStayBut me spot.carrier i → All (MayStay me) i.singles
         → ((n : Counting) → all_named n i ≤ all_named n a.instance)
-        → (migration e ≡ false → Stands i)
+        → (migration e ≡ false → Stands i) → EmploysMain e me i
         → IsGood (placed_at e me ask (record a { instance = i }) spot)
-    choice-good i spot is own but one few off =
+    choice-good i spot is own but one few off main =
         let least = ask-least ask a.todo of in
         let even = ask-even ask a.todo of in
         let gap = chosen-gap i ask.need spot own.order.rising own.order.laid is in
@@ -175,11 +180,12 @@ module _ (e : Setup) (s : Shared) (me : ℕ) (home bound : Counting → ℕ) (R 
         (placing-stay me i spot ask.need ask.name but one)
         (λ n. omega (arith, few n, placing-fewer n i spot ask.need ask.name own.order gap))
         (λ m. chosen-Stands i ask.need ask.name spot (off m) least even is)
+        (placing-main e me i main spot ask.need ask.name)
 
     pub placed-good : (spot : Spot) → chosen_spot a.instance ask.need ≡ Some spot
         → Standing e me a.instance → IsGood (placed_at e me ask a spot)
     placed-good spot is own = choice-good a.instance spot is own
-        (but-stay me spot.carrier a.instance c.stay) c.stay.1 (λ n. omega arith) c.stands
+        (but-stay me spot.carrier a.instance c.stay) c.stay.1 (λ n. omega arith) c.stands c.main
 
     -- in the carrier of a plan
     module _ (p : CarrierPlan) (asked : plan a.instance ask.need ≡ Ok p)
@@ -210,6 +216,7 @@ module _ (e : Setup) (s : Shared) (me : ℕ) (home bound : Counting → ℕ) (R 
           (λ n. creating_single-fewer n a.instance p ask.need ask.name)
           (λ off. creating_single-Stands a.instance ask.need p (c.stands off) asked ask.name least
           even)
+          (creating_single-main e me a.instance c.main p ask.need ask.name)
       created_by-good false multi =
           let i = creating a.instance p in
           let t = some_value (chosen_spot i ask.need)
@@ -233,7 +240,8 @@ module _ (e : Setup) (s : Shared) (me : ℕ) (home bound : Counting → ℕ) (R 
           })
           (subst (λ n. AllStayBut me n i) (sym at) (creating-stay me a.instance p c.stay)) c.stay.1
           (λ n. creating-fewer n a.instance p)
-          (λ off. creating-Stands a.instance ask.need p (c.stands off) asked))
+          (λ off. creating-Stands a.instance ask.need p (c.stands off) asked)
+          (creating-main e me a.instance c.main p))
 
       pub created-good : IsGood (created e me ask p a)
       created-good = created_by-good p.single refl

@@ -35,6 +35,7 @@ use Rattle.ea_sound.specs.Present.{OfAsk, OfTask}
 use Rattle.ea_sound.proofs.Entries.{OfFirst, ask-failed, later-made}
 use Rattle.ea_sound.proofs.FewBlocks.{Counting, resizing-fewer}
 use Rattle.ea_sound.proofs.HeldNames.{holding-names, holding-rising, let_go-rising, let_go-times, times_held, turned-equal}
+use Rattle.ea_sound.proofs.MainCarriers.{resizing-main}
 use Rattle.ea_sound.proofs.PresentMoves.{created-good, hands-good, log-good, placed-good}
 use Rattle.ea_sound.proofs.Staying.{resizing-stay}
 use Rattle.ea_sound.proofs.Suits.{Bare, CoreOf, Good, Wants}
@@ -164,6 +165,7 @@ module _ (e : Setup) (s : Shared) (me : ℕ) (home bound : Counting → ℕ) (R 
             names = holding-names fresh old.spot held left names;
             stands = λ off. always-Stands i old.spot need fresh (b.core.stands off)
                 (need-least bytes) (need-even bytes);
+            main = resizing-main e me i b.core.main old.spot need fresh;
           })
           (subst
           (λ os. OfFirst os

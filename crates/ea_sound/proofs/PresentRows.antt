@@ -39,6 +39,7 @@ use Rattle.ea_sound.proofs.EmployedWeights.{employed_sum-employing}
 use Rattle.ea_sound.proofs.HeldNames.{holding-names, holding-rising, let_go-rising, let_go-times, times_held, turned-equal}
 use Rattle.ea_sound.proofs.Homes.{pooled-slot}
 use Rattle.ea_sound.proofs.KeyedWeights.{sum-item}
+use Rattle.ea_sound.proofs.MainCarriers.{employing-main}
 use Rattle.ea_sound.proofs.NodeSeats.{collecting-home, returning-on}
 use Rattle.ea_sound.proofs.Staying.{employing-stay}
 use Rattle.ea_sound.proofs.PresentMoves.{carried-good, created-good, placed-good}
@@ -180,6 +181,7 @@ module _ (e : Setup) (w : State) (me : ℕ) (is : is_scheduler e me ≡ true) (r
             rising = c.rising;
             names = c.names;
             stands = λ off. absurd (true≢false (sym f.5 ∙ off));
+            main = employing-main e me a.instance c.main x;
           })
           leaves.1.0 leaves.1.1
           (subst (λ (d : Actor). Standing e me d.instance) (put-here w.actors me _ me refl)
@@ -231,6 +233,7 @@ module _ (e : Setup) (w : State) (me : ℕ) (is : is_scheduler e me ≡ true) (r
         rising = let_go-rising given.name a.held c.rising;
         names = λ n. omega (arith, c.names n, let_go-times given.name n a.held);
         stands = c.stands;
+        main = c.main;
       })
 
   -- a name that is given isn't held, and isn't to be made
@@ -277,6 +280,7 @@ module _ (e : Setup) (w : State) (me : ℕ) (is : is_scheduler e me ≡ true) (r
           rising = holding-rising name h.spot a.held (λ n. made_in n a.todo) names c.rising;
           names = holding-names name h.spot a.held (λ n. made_in n a.todo) names;
           stands = c.stands;
+          main = c.main;
         })
     by zero None there few = absent
     by (suc zero) None there few = absent

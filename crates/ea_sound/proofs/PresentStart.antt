@@ -22,6 +22,8 @@ use Rattle.ea_machine.specs.Setup.{Setup, is_scheduler, setup_of, text_for}
 use Rattle.ea_machine.specs.Sound.{HasNothing}
 use Rattle.ea_machine.specs.Contents.{seats}
 use Rattle.ea_machine.specs.Sums.{total}
+use Rattle.ea_sound.specs.Blocks.{EmploysMain}
+use Rattle.ea_sound.proofs.MainCarriers.{first-main}
 use Rattle.ea_sound.specs.Present.{Fits, Present, Rule}
 use Rattle.ea_sound.proofs.StartKept.{all-none, main_of, setup-MayStart, start-Kept}
 use Rattle.ea_sound.proofs.TextTotals.{made-each, total-text_for}
@@ -123,6 +125,7 @@ module _ (c : Config) (t : Trace) (valid : IsValidConfig c) (trace : IsValidTrac
       nobody = start-nothing;
       stands = λ off i is. subst (λ b. Stands (instance_by e b i)) (sym is)
           (setup-MayStart c t valid i is);
+      main = λ i is. subst (λ b. EmploysMain e i (instance_by e b i)) (sym is) (first-main e i);
     }
 
     pub start-Rule : Rule e (start e)

@@ -22,6 +22,7 @@ use Rattle.ea_machine.specs.Shared.{Shared, put}
 use Rattle.ea_machine.specs.Sound.{HasNothing}
 use Rattle.ea_machine.specs.State.{State}
 use Rattle.ea_machine.specs.Table.{answer, effect}
+use Rattle.ea_sound.specs.Blocks.{EmploysMain}
 use Rattle.ea_sound.specs.Moments.{with_actor}
 use Rattle.ea_sound.specs.Present.{Fits, Present, Rule}
 use Rattle.ea_sound.specs.Rule.{Kept, names_of}
@@ -221,6 +222,8 @@ module _ (e : Setup) (w : State) (me : ℕ) (rule : Rule e w) (is : is_scheduler
     nobody = nothing;
     stands = λ off. each (λ i c. is_scheduler e i ≡ true → Stands c.instance)
         (λ _. good.core.stands off) (λ i other. rule.present.stands off i);
+    main = each (λ i c. is_scheduler e i ≡ true → EmploysMain e i c.instance)
+        (λ _. good.core.main) (λ i other. rule.present.main i);
   }
 
 step-present : (e : Setup) (w : State) (me : ℕ) → Rule e w → Present e (step e w me)

@@ -24,12 +24,14 @@ use Rattle.ea_machine.specs.Owners.{owner_of}
 use Rattle.ea_machine.specs.Releases.{Turned, abandoned_if, after_release, after_release_by, dismissed, disowned, first_gone, leaving, leaving_by, lightened, owned_by, release_here, route_of, routed, sent_to}
 use Rattle.ea_machine.specs.Setup.{Setup, is_scheduler, migration}
 use Rattle.ea_machine.specs.Shared.{Shared}
+use Rattle.ea_sound.specs.Blocks.{EmploysMain}
 use Rattle.ea_sound.specs.Present.{OfWhy}
 use Rattle.ea_sound.specs.Rule.{Standing}
 use Rattle.ea_sound.proofs.Assembly.{nil-is}
 use Rattle.ea_sound.proofs.EmployedWeights.{employed_sum-dismissing}
 use Rattle.ea_sound.proofs.FewBlocks.{Counting, all_named, blocks_named, releasing-fewer}
 use Rattle.ea_sound.proofs.KeyedWeights.{changed-missing}
+use Rattle.ea_sound.proofs.MainCarriers.{dismissing-main, releasing-main}
 use Rattle.ea_sound.proofs.Orderly.{changing-found, disowning-IsOrderly, dismissing-IsOrderly, releasing-IsOrderly}
 use Rattle.ea_sound.proofs.Staying.{AllStay, AllStayBut, dismissing-stay, here-stay, releasing-stay}
 use Rattle.ea_sound.proofs.Suits.{Bare, CoreOf, TurnedGood}
@@ -143,6 +145,7 @@ module _ (e : Setup) (s : Shared) (me : ℕ) (home bound : Counting → ℕ) (y 
         rising = b.core.rising;
         names = b.core.names;
         stands = λ off. releasing-Stands i h.spot (b.core.stands off);
+        main = releasing-main e me i b.core.main h.spot;
       };
       own = in_order;
     }
@@ -166,8 +169,13 @@ module _ (e : Setup) (s : Shared) (me : ℕ) (home bound : Counting → ℕ) (y 
         releasing-fewer n i h.spot,
       )
 
-      in_hand : migration e ≡ true → HasHand x (dismissed x.number after)
-      in_hand on = record {
+      -- the main carrier stays
+      main : can_go x.kind ≡ true → EmploysMain e me (dismissing j x.number)
+      main go = dismissing-main e me j (releasing-main e me i b.core.main h.spot) x in_order.order
+          by_number go
+
+      in_hand : can_go x.kind ≡ true → migration e ≡ true → HasHand x (dismissed x.number after)
+      in_hand go on = record {
         stay = stay-dismissed;
         history = b.core.history;
         walking = b.core.walking;
@@ -175,10 +183,12 @@ module _ (e : Setup) (s : Shared) (me : ℕ) (home bound : Counting → ℕ) (y 
         rising = b.core.rising;
         names = b.core.names;
         stands = λ off. absurd (true≢false (sym on ∙ off));
+        main = main go;
       }
 
-      cleared : migration e ≡ false → IsBare (disowned x.number (dismissed x.number after))
-      cleared off = record {
+      cleared : can_go x.kind ≡ true → migration e ≡ false
+          → IsBare (disowned x.number (dismissed x.number after))
+      cleared go off = record {
         core = record {
           stay = stay-dismissed;
           history = b.core.history;
@@ -188,6 +198,7 @@ module _ (e : Setup) (s : Shared) (me : ℕ) (home bound : Counting → ℕ) (y 
           names = b.core.names;
           stands = λ off. leaving-Stands j (releasing-Stands i h.spot (b.core.stands off))
               x.number x by_number;
+          main = main go;
         };
         own = record {
           settings = b.own.settings;
@@ -212,7 +223,7 @@ module _ (e : Setup) (s : Shared) (me : ℕ) (home bound : Counting → ℕ) (y 
             | inl on ↦ on
             | inr off ↦ absurd (true≢false (sym due ∙ due-unmoved e j.contents x off))
           ] in
-          (in_hand on, ((multi, not_nil-is x.blocks full, on), why))
+          (in_hand (ap can_go multi) on, ((multi, not_nil-is x.blocks full, on), why))
       abandoned-good false g due multi full =
           (stays (ap (λ k. can_go k && is_nil x.blocks) multi ∙ full), why)
 
@@ -222,7 +233,7 @@ module _ (e : Setup) (s : Shared) (me : ℕ) (home bound : Counting → ℕ) (y 
             → (migration e ≡ true → x.blocks ≡ [])
             → IsGood (leaving e me x g (dismissed x.number after))
         leaves g go multi empty = leaving-good (owner_of x.number == me) (migration e) x g
-            (dismissed x.number after) refl refl go multi empty in_hand cleared why
+            (dismissed x.number after) refl refl go multi empty (in_hand go) (cleared go) why
 
         lightened-good : (empty : Bool) (g : Gone) → is_nil x.blocks ≡ empty → x.kind ≡ Multi
             → IsGood (lightened e me empty x g after)

@@ -55,6 +55,7 @@ disowned-bare e s me home bound left c a on b = record {
     rising = b.core.rising;
     names = b.core.names;
     stands = λ off. absurd (true≢false (sym on ∙ off));
+    main = b.core.main;
   };
   own = record {
     settings = b.own.settings;
@@ -119,6 +120,7 @@ module _ (e : Setup) (w : State) (me : ℕ) (is : is_scheduler e me ≡ true) (r
         rising = rule.present.held me;
         names = names stage now;
         stands = λ off. rule.present.stands off me is;
+        main = rule.present.main me is;
       }
 
   -- a row that leaves places and rests

@@ -16,6 +16,8 @@ use Rattle.ea_sound.specs.Present.{FitsRoute, Fits, Rule}
 use Rattle.ea_sound.specs.Rule.{Belongs, Kept, numbers_of}
 use Rattle.ea_sound.proofs.Created.{scheduler-number}
 use Rattle.ea_sound.proofs.Employers.{busy-once, busy-scheduler, employed-once, employed-owner, employed-scheduler, nothing, nothing-only}
+use Rattle.ea_sound.proofs.MainCarriers.{main-there}
+use Rattle.ea_sound.proofs.SoundRanges.{number-scheduler}
 use Rattle.ea_sound.proofs.Global.{anywhere-only, nobody-weighs, weighs-scheduler}
 use Rattle.ea_sound.proofs.Homes.{sum-there}
 use Rattle.ea_sound.proofs.Numbered.{no_scheduler-beyond, numbered-off, total_at-exact}
@@ -184,4 +186,8 @@ module _ (e : Setup) (w : State) (rule : Rule e w) where
     one = sound-place e w rule.kept;
     stay = sound-stay;
     own = sound-own e w rule.kept;
+    main = λ some i is.
+        let scheduler = number-scheduler e i is in
+        main-there e i (w.actors i).instance (rule.present.main i scheduler)
+        (rule.kept.ranges.instances i scheduler).order some;
   }

@@ -24,6 +24,7 @@ use Rattle.ea_machine.specs.Owners.{owner_of}
 use Rattle.ea_machine.specs.Releases.{Turned}
 use Rattle.ea_machine.specs.Setup.{Setup, greatest_number, is_scheduler, migration}
 use Rattle.ea_machine.specs.Shared.{Shared}
+use Rattle.ea_sound.specs.Blocks.{EmploysMain}
 use Rattle.ea_sound.specs.Present.{FitsRoute, OfAsk, OfWhy, OldHeld}
 use Rattle.ea_sound.specs.Rule.{Standing}
 use Rattle.ea_sound.proofs.FewBlocks.{Counting, all_named, blocks_named}
@@ -81,6 +82,7 @@ module _ (e : Setup) (s : Shared) (me : ℕ) where
       pub rising : AllPairs (IsBelow name_of) held
       pub names : (n : ℕ) → times name_of n held + made_in n left ≤ 1
       pub stands : migration e ≡ false → Stands i
+      pub main : EmploysMain e me i
 
     abbrev pub nothing : Counting → ℕ
     nothing n = 0

@@ -25,6 +25,7 @@ use Rattle.ea_machine.specs.Setup.{Setup, greatest_number, is_scheduler, migrati
 use Rattle.ea_machine.specs.Shared.{Shared}
 use Rattle.ea_machine.specs.Sound.{HasNothing}
 use Rattle.ea_machine.specs.State.{State}
+use Rattle.ea_sound.specs.Blocks.{EmploysMain}
 use Rattle.ea_sound.specs.Rule.{Kept}
 
 -- the operation whose block is on its route
@@ -114,8 +115,8 @@ Fits e w me a Ready = ⊥
 
 -- the next node of a walk is the first of its rest; a scheduler is where its operation allows, what
 -- it employs may stay, and its log is that of the operations done; a name that is still to be made
--- stands nowhere; held and given names stand by rising name; and where carriers don't migrate, each
--- instance employs what it owns
+-- stands nowhere; held and given names stand by rising name; where carriers don't migrate, each
+-- instance employs what it owns; and each employs its main carrier
 pub record Present (e : Setup) (w : State) : Type 0 where
   pub walking : (i : ℕ) → (w.actors i).next ≡ first_node (w.shared.rests i)
   pub fits : (i : ℕ) → Fits e w i (w.actors i) (w.actors i).stage
@@ -128,6 +129,7 @@ pub record Present (e : Setup) (w : State) : Type 0 where
   pub nobody : (i : ℕ) → is_scheduler e i ≡ false → HasNothing i w
   pub stands : migration e ≡ false → (i : ℕ) → is_scheduler e i ≡ true
       → Stands (w.actors i).instance
+  pub main : (i : ℕ) → is_scheduler e i ≡ true → EmploysMain e i (w.actors i).instance
 
 -- the whole rule
 pub record Rule (e : Setup) (w : State) : Type 0 where
