@@ -57,6 +57,10 @@ at_index cs seen i n item same within found is =
       there = there;
     }
 
+pub same-item : (cs : List Content) (i n : ℕ) (a b : Content) → IsAt cs i n a → IsAt cs i n b
+    → a ≡ b
+same-item cs i n a b p q = let same : Some a ≡ Some b = sym p.there ∙ q.there in cc
+
 -- that of a choice
 pub choice-same : (need : ℕ) (cs : List Content) (found : Choice) (item : Content)
     → item ≡ get_or cs found.index item → (w : IsChoice need cs found) → w.content ≡ item
@@ -120,3 +124,11 @@ block-within at end offset (b ∷ bs) t h =
       | inr n ↦ block-within (b.offset + b.size) end offset bs t.4
           (subst (λ o. IsSome o) (block_at-past offset b bs n) h)
     ]
+
+-- what is found by the number without blocks has none
+pub no_blocks : (n : ℕ) (c d : Content) (cs : List Content) → content_of cs n ≡ Some c
+    → content_of cs n ≡ Some d → c.blocks ≡ [] → d.blocks ≡ []
+no_blocks n c d cs at there none =
+    let same : Some c ≡ Some d = sym at ∙ there in
+    let e : c ≡ d = cc in
+    subst (λ (x : Content). x.blocks ≡ []) e none

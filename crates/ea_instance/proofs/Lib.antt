@@ -1,6 +1,7 @@
 pub mod ByCarrier
 pub mod Changed
 pub mod Choosing
+pub mod Counting
 pub mod Folding
 pub mod Following
 pub mod Gaps

@@ -33,6 +33,8 @@ pub record IsReleasing (number offset : ℕ) (f : Joined) (old new : List Conten
   pub content : Content
   pub there : content_of old number ≡ Some content
   pub is : new ≡ changed (λ c. released c offset) number old
+  pub block : IsSome (block_at content.blocks offset)
+  pub size : f.block.size ≡ size_of (block_at content.blocks offset)
   pub address : f.address ≡ 512 * content.base + offset
   pub before : f.block.before ≡ gap_before content offset
   pub after : f.block.after ≡ gap_behind content offset

@@ -2,6 +2,7 @@ pub mod Better
 pub mod Searches
 pub mod Choices
 pub mod Changes
+pub mod Counted
 pub mod Binned
 pub mod Listed
 pub mod Own

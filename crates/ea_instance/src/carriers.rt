@@ -7,6 +7,7 @@ ghost use Rattle.ea_model.specs.Content.{Content, block_at, placed, released, re
 ghost use Rattle.ea_model.specs.Choice.{first};
 ghost use Rattle.ea_model.specs.Strategies.{candidates, choice_among, choice_empty, inner_of, large_enough, may_miss, or_else};
 ghost use Rattle.ea_model.specs.Instance.{changed, content_of, block_in, has_content, size_for, with_content, without_content};
+ghost use Rattle.ea_model.specs.Instance as instances;
 ghost use Rattle.ea_mbc.specs.Gaps.{room_at};
 ghost use Rattle.ea_laws.specs.Kinds.{is_shared};
 ghost use Rattle.ea_laws.specs.Kept.{ContentsApart, IsWhole};
@@ -20,6 +21,9 @@ use crate::binned::{bins_for, make_room, note_entered, note_left, note_placed, n
 use crate::changes;
 use crate::choice::Choice;
 use crate::employed::Employed;
+use crate::figures::{
+    no_figures, with_block, with_carrier, with_size, without_block, without_carrier,
+};
 use crate::released::Released;
 use crate::strategies::{Search, inner_of, search_of};
 use crate::walks::{best_choice, choice_at, lowest_empty};
@@ -27,29 +31,35 @@ use ea_cset::CarrierSet;
 use ea_goodfit::{BinnedGap, Bins};
 use ea_mbc::Freed;
 use ea_model::keyed::{enter, index_of, take_out};
-use ea_model::{HEADER_UNITS, Inner, OutOfMemory, Strategy};
+use ea_model::{Figures, HEADER_UNITS, Inner, OutOfMemory, Strategy};
 use std::alloc::Global;
 use std::marker::Model;
 
 /// The main and multiblock carriers that an instance employs, with what its strategy finds gaps by:
-/// a set of carriers, and under good fit bins of all gaps. Contracts see the strategy, and the
-/// carriers' contents by rising number.
+/// a set of carriers, and under good fit bins of all gaps; and their figures. Contracts see the
+/// strategy, and the carriers' contents by rising number.
 #[derive(Drop)]
 pub struct Carriers {
     strategy: Strategy,
     list: Vec<Employed>,
     set: CarrierSet,
     bins: Option<Bins>,
+    figures: Figures,
 }
 
 impl Model for Carriers {
+    ghost use Rattle.std.specs.Prelude.{◌≡◌};
+    ghost use Rattle.ea_model.specs.Instance as instances;
     ghost use Rattle.ea_instance.specs.Listed.{CarrierList, IsListed};
 
     ghost Value = { CarrierList };
 
     ghost view = { λ c. record { strategy = c.strategy; contents = c.list.items } };
 
-    ghost invariant = { λ c. IsListed c.strategy c.list.items c.set c.bins };
+    ghost invariant = { λ c. record {
+      listed : IsListed c.strategy c.list.items c.set c.bins;
+      counted : c.figures ≡ instances.figures c.list.items;
+    } };
 }
 
 impl Carriers {
@@ -64,6 +74,7 @@ impl Carriers {
             list: Vec::new(alloc),
             set,
             bins: bins_for(alloc, strategy),
+            figures: no_figures(),
         })
     }
 
@@ -72,6 +83,13 @@ impl Carriers {
         ensures { result.now ≡ self.now.contents }
     {
         &self.list
+    }
+
+    /// Blocks and carriers, and their units.
+    pub fn figures(&self) -> Figures
+        ensures { result ≡ instances.figures self.now.contents }
+    {
+        self.figures
     }
 
     /// The gap that the strategy chooses among those of all carriers. Good fit inspects `depth`
@@ -149,6 +167,7 @@ impl Carriers {
     /// Places a block in the chosen gap, and answers its units.
     pub fn place(&mut self, choice: Choice, need: u32, name: u32) -> Result<u32, OutOfMemory>
         requires laid { AreLaid self.old.contents }
+        requires few { length self.old.contents ≤ NUMBERS }
         requires choice { IsChoice need self.old.contents choice }
         requires even { need % 2 ≡ 0 }
         requires least { 6 ≤ need }
@@ -166,6 +185,7 @@ impl Carriers {
         let placed = changes::place(&mut self.list, choice, need, name)?;
         self.set.update(gap.number, placed.largest);
         note_placed(&mut self.bins, gap.address, gap.size, placed.size);
+        self.figures = with_block(self.figures, placed.size);
         Ok(placed.size)
     }
 
@@ -185,6 +205,7 @@ impl Carriers {
         let joined = changes::release(&mut self.list, number, offset)?;
         self.set.update(number, joined.largest);
         note_released(&mut self.bins, joined.address, joined.block);
+        self.figures = without_block(self.figures, joined.block.size);
         Ok(joined.next)
     }
 
@@ -232,6 +253,7 @@ impl Carriers {
             after: block.was.after,
         };
         note_released(&mut self.bins, block.was.address + block.size, freed);
+        self.figures = with_size(self.figures, block.was.size, block.size);
         Ok(())
     }
 
@@ -240,6 +262,7 @@ impl Carriers {
     /// of it, and has this name from now on. It takes no memory.
     pub fn grow(&mut self, number: u32, offset: u32, need: u32, name: u32)
         requires laid { AreLaid self.old.contents }
+        requires few { length self.old.contents ≤ NUMBERS }
         requires block { IsSome (block_in self.old.contents
             (record { carrier = number; offset = offset })) }
         requires more { size_of (block_in self.old.contents
@@ -261,6 +284,7 @@ impl Carriers {
             block.was.after,
             block.size - block.was.size,
         );
+        self.figures = with_size(self.figures, block.was.size, block.size);
     }
 
     /// Puts a carrier without blocks among the others, by its number.
@@ -283,9 +307,11 @@ impl Carriers {
         let key = employed.carrier_key();
         let size = employed.carrier.largest();
         let address = employed.address(HEADER_UNITS);
+        let units = employed.carrier.units();
         enter(employed, &mut self.list)?;
         self.set.add(key, size);
         note_entered(&mut self.bins, BinnedGap { address, size });
+        self.figures = with_carrier(self.figures, units);
         Ok(())
     }
 
@@ -305,6 +331,7 @@ impl Carriers {
         let address = employed.address(HEADER_UNITS);
         let size = employed.carrier.largest();
         note_left(&mut self.bins, BinnedGap { address, size });
+        self.figures = without_carrier(self.figures, employed.carrier.units());
         employed
     }
 }

@@ -1,103 +1,87 @@
-//! What the carriers of an instance come to.
-ghost use Rattle.std.specs.Prelude.{◌≡◌, ◌≤◌, length, sum_by};
-ghost use Rattle.ea_model.specs.declared.units.TheConstants.{NUMBERS};
-ghost use Rattle.ea_model.specs.Content.{allocated, free_units, gaps_of};
+//! What the carriers of an instance come to: kept, and not counted anew.
+ghost use Rattle.std.specs.Prelude.{◌≡◌, ◌+◌, ◌-◌, ◌*◌, ◌^◌, ◌<◌, ◌≤◌, []};
+ghost use Rattle.ea_model.specs.declared.units.TheConstants.{HEADER_UNITS};
 ghost use Rattle.ea_model.specs.Instance as instances;
+ghost use Rattle.ea_instance.specs.Counted.{with_block, with_carrier};
 
-use crate::employed::Employed;
 use ea_model::{Figures, HEADER_UNITS};
-use ea_sbc::Sbc;
 
-fn blocks_of(carriers: &[Employed]) -> u64
-    requires { length carriers.now ≤ NUMBERS }
-    ensures { result ≡ sum_by (λ c. length c.blocks) carriers.now }
-{
-    carriers.iter().map(|c| u64::from(c.carrier.len())).sum()
-}
-
-fn allocated_of(carriers: &[Employed]) -> u64
-    requires { length carriers.now ≤ NUMBERS }
-    ensures { result ≡ sum_by (λ c. allocated c.blocks) carriers.now }
-{
-    carriers
-        .iter()
-        .map(|c| u64::from(c.carrier.allocated()))
-        .sum()
-}
-
-fn units_of(carriers: &[Employed]) -> u64
-    requires { length carriers.now ≤ NUMBERS }
-    ensures { result ≡ sum_by (λ c. c.units) carriers.now }
-{
-    carriers.iter().map(|c| u64::from(c.carrier.units())).sum()
-}
-
-/// The units of the gaps of a carrier.
-fn free_in(employed: &Employed) -> u32
-    ensures { result ≡ free_units (gaps_of employed.now) }
-{
-    employed.carrier.units() - HEADER_UNITS - employed.carrier.allocated()
-}
-
-/// The units of all gaps.
-pub fn free_of(carriers: &[Employed]) -> u64
-    requires { length carriers.now ≤ NUMBERS }
-    ensures { result ≡ sum_by (λ c. free_units (gaps_of c)) carriers.now }
-{
-    carriers.iter().map(|c| u64::from(free_in(c))).sum()
-}
-
-/// Blocks and carriers of multiblock carriers, and their units.
-pub fn figures(carriers: &[Employed]) -> Figures
-    requires { length carriers.now ≤ NUMBERS }
-    ensures { result ≡ instances.figures carriers.now }
+/// The figures of no carriers.
+pub fn no_figures() -> Figures
+    ensures { result ≡ instances.figures [] }
 {
     Figures {
-        blocks: blocks_of(carriers),
-        blocks_size: allocated_of(carriers),
-        carriers: carriers.len() as u64,
-        carriers_size: units_of(carriers),
+        blocks: 0,
+        blocks_size: 0,
+        carriers: 0,
+        carriers_size: 0,
     }
 }
 
-fn single_blocks_of(carriers: &[Sbc]) -> u64
-    requires { length carriers.now ≤ NUMBERS }
-    ensures { result ≡ sum_by (λ c. length c.blocks) carriers.now }
-{
-    carriers.iter().map(|c| u64::from(c.len())).sum()
-}
-
-fn single_allocated_of(carriers: &[Sbc]) -> u64
-    requires { length carriers.now ≤ NUMBERS }
-    ensures { result ≡ sum_by (λ c. allocated c.blocks) carriers.now }
-{
-    carriers.iter().map(|c| u64::from(c.allocated())).sum()
-}
-
-fn single_units_of(carriers: &[Sbc]) -> u64
-    requires { length carriers.now ≤ NUMBERS }
-    ensures { result ≡ sum_by (λ c. c.units) carriers.now }
-{
-    carriers.iter().map(|c| u64::from(c.units())).sum()
-}
-
-/// The units of all tails.
-pub fn single_free_of(carriers: &[Sbc]) -> u64
-    requires { length carriers.now ≤ NUMBERS }
-    ensures { result ≡ sum_by (λ c. free_units (gaps_of c)) carriers.now }
-{
-    carriers.iter().map(|c| u64::from(c.tail())).sum()
-}
-
-/// Blocks and carriers of singleblock carriers, and their units.
-pub fn single_figures(carriers: &[Sbc]) -> Figures
-    requires { length carriers.now ≤ NUMBERS }
-    ensures { result ≡ instances.figures carriers.now }
+/// The figures with a block of that many units more.
+pub fn with_block(figures: Figures, size: u32) -> Figures
+    requires { (figures.blocks + 1 < 2 ^ 64) × (figures.blocks_size + size < 2 ^ 64) }
+    ensures { result ≡ with_block size figures }
 {
     Figures {
-        blocks: single_blocks_of(carriers),
-        blocks_size: single_allocated_of(carriers),
-        carriers: carriers.len() as u64,
-        carriers_size: single_units_of(carriers),
+        blocks: figures.blocks + 1,
+        blocks_size: figures.blocks_size + u64::from(size),
+        ..figures
     }
+}
+
+/// The figures without a block of that many units.
+pub fn without_block(figures: Figures, size: u32) -> Figures
+    requires { (1 ≤ figures.blocks) × (size ≤ figures.blocks_size) }
+    ensures { with_block size result ≡ figures }
+{
+    Figures {
+        blocks: figures.blocks - 1,
+        blocks_size: figures.blocks_size - u64::from(size),
+        ..figures
+    }
+}
+
+/// The figures where a block that had `was` units has that many.
+pub fn with_size(figures: Figures, was: u32, size: u32) -> Figures
+    requires { (was ≤ figures.blocks_size) × (figures.blocks_size - was + size < 2 ^ 64) }
+    ensures { with_block was result ≡ with_block size figures }
+{
+    Figures {
+        blocks_size: figures.blocks_size - u64::from(was) + u64::from(size),
+        ..figures
+    }
+}
+
+/// The figures with a carrier of that many units more, without blocks.
+pub fn with_carrier(figures: Figures, units: u32) -> Figures
+    requires { (figures.carriers + 1 < 2 ^ 64) × (figures.carriers_size + units < 2 ^ 64) }
+    ensures { result ≡ with_carrier units figures }
+{
+    Figures {
+        carriers: figures.carriers + 1,
+        carriers_size: figures.carriers_size + u64::from(units),
+        ..figures
+    }
+}
+
+/// The figures without a carrier of that many units, which has no blocks.
+pub fn without_carrier(figures: Figures, units: u32) -> Figures
+    requires { (1 ≤ figures.carriers) × (units ≤ figures.carriers_size) }
+    ensures { with_carrier units result ≡ figures }
+{
+    Figures {
+        carriers: figures.carriers - 1,
+        carriers_size: figures.carriers_size - u64::from(units),
+        ..figures
+    }
+}
+
+/// The units that blocks and headers leave of the carriers.
+pub fn free_of(figures: Figures) -> u64
+    requires { figures.blocks_size + HEADER_UNITS * figures.carriers ≤ figures.carriers_size }
+    ensures { result + figures.blocks_size + HEADER_UNITS * figures.carriers
+        ≡ figures.carriers_size }
+{
+    figures.carriers_size - figures.blocks_size - u64::from(HEADER_UNITS) * figures.carriers
 }

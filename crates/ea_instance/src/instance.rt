@@ -20,7 +20,7 @@ ghost use Rattle.ea_laws.specs.Spots.{AllUsed, FindsNone, HaveSameBlocks, IsOthe
 
 use crate::carriers::Carriers;
 use crate::employed::Employed;
-use crate::figures::{figures, free_of, single_figures, single_free_of};
+use crate::figures::free_of;
 use crate::lines::{put_merged, single_line};
 use crate::own::OwnCarriers;
 use crate::released::Released;
@@ -229,7 +229,7 @@ impl Instance {
         ensures small { (result.blocks_size ≤ MAX_UNITS * NUMBERS)
             × (result.carriers_size ≤ MAX_UNITS * NUMBERS) }
     {
-        figures(self.carriers.as_slice())
+        self.carriers.figures()
     }
 
     /// Blocks and carriers of its singleblock carriers, and their units.
@@ -239,7 +239,7 @@ impl Instance {
         ensures small { (result.blocks_size ≤ MAX_UNITS * NUMBERS)
             × (result.carriers_size ≤ MAX_UNITS * NUMBERS) }
     {
-        single_figures(self.singles.as_slice())
+        self.singles.figures()
     }
 
     /// The units of all gaps of its carriers.
@@ -249,7 +249,7 @@ impl Instance {
         // With blocks and headers they are all units, and blocks and carriers lie apart.
         ensures order { IsInOrder self.now }
     {
-        free_of(self.carriers.as_slice()) + single_free_of(self.singles.as_slice())
+        free_of(self.carriers.figures()) + free_of(self.singles.figures())
     }
 
     /// Places a block of `need` units in the gap that its strategy chooses. None, and nothing

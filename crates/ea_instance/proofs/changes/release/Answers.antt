@@ -1,14 +1,20 @@
-use Rattle.std.proofs.Common.{◌≡◌, ◌+◌, ◌*◌, ◌≤◌, ◌∙◌, ap, sym, subst, refl}
-use Rattle.std.specs.Prelude.{Some, IsSome}
+use Rattle.std.proofs.Common.{◌≡◌, ℕ, ◌+◌, ◌*◌, ◌≤◌, ◌∙◌, ap, sym, subst, refl}
+use Rattle.std.specs.Prelude.{Option, Some, None, IsSome, option_map}
 use Rattle.std.specs.Option.{option_and_then}
 use Rattle.std.proofs.lemmas.Grind.{get_or-set_at}
-use Rattle.ea_model.specs.Content.{Content, block_at, gap_before, gap_behind, gaps_of, largest, released}
+use Rattle.ea_model.specs.declared.carriers.BlockAt.{BlockAt}
+use Rattle.ea_model.specs.Content.{Content, block_at, gap_before, gap_behind, gaps_of, largest, released, size_of}
 use Rattle.ea_mbc.specs.Gaps.{GapsJoined}
 use Rattle.ea_model.proofs.Rising.{item_at-All}
 use Rattle.ea_laws.specs.Kept.{number_of, IsLaidOut}
 use Rattle.ea_instance.specs.Answers.{follow_up}
 use Rattle.ea_instance.proofs.Changed.{at_index, block-within, set_is_changed}
 use Rattle.ea_instance.proofs.changes.release.Goals as goal
+
+with_size : (o : Option BlockAt) (n : ℕ) → option_map (λ b. b.size) o ≡ Some n
+    → IsSome o × (n ≡ size_of o)
+with_size None n is = absurd cc
+with_size (Some b) n is = (refl, cc)
 
 pub release-requires : goal.release-requires
 release-requires c =
@@ -59,10 +65,15 @@ returns-clause-ok c =
     let joined : GapsJoined carrier (f carrier) offset block.size =
     subst (λ m. GapsJoined carrier m offset block.size) c.in_ok-block.ensures.ok
     c.in_ok-block.ensures.gaps_joined in
+    let sized = with_size (block_at item.blocks offset) block.size
+    (ap (λ (m : Content). option_map (λ b. b.size) (block_at m.blocks offset))
+    (sym c.behind-carriers.view_is) ∙ c.in_ok-block.ensures.size) in
     record {
       content = item;
       there = at.there;
       is = set_is_changed f cs _ c.args.number item _ at c.requires.laid.rising made;
+      block = sized.0;
+      size = sized.1;
       address = c.address.ensures ∙ ap (λ (m : Content). 512 * m.base + offset) now;
       before = c.in_ok-block.ensures.gaps.0
           ∙ ap (λ m. gap_before m offset) c.behind-carriers.view_is;

@@ -31,12 +31,12 @@ returns-in-Gaps-clause-chosen c =
 
 pub choice_in-requires-clause-there : goal.choice_in-requires-clause-there
 choice_in-requires-clause-there c =
-    found-listed c.first_by_address.result _ _ c.self.inside.set c.self.invariant.held
+    found-listed c.first_by_address.result _ _ c.self.inside.set c.self.invariant.listed.held
     (ap (λ (l : CarrierList). l.contents) c.self.view_is) c.first_by_address.ensures.held
 
 pub choice_in-requires-in-Age-clause-there : goal.choice_in-requires-in-Age-clause-there
 choice_in-requires-in-Age-clause-there c =
-    found-listed c.first_by_age.result _ _ c.self.inside.set c.self.invariant.held
+    found-listed c.first_by_age.result _ _ c.self.inside.set c.self.invariant.listed.held
     (ap (λ (l : CarrierList). l.contents) c.self.view_is) c.first_by_age.ensures.held
 
 pub returns-in-Address-clause-chosen : goal.returns-in-Address-clause-chosen
@@ -47,7 +47,7 @@ returns-in-Address-clause-chosen c =
     choice-all s c.args.depth c.args.need c.args.self.now.contents (candidate_of c.choice_in.result)
     (address-miss_none s search)
     (choice-first s lower (address-GoesBy s search) c.args.need c.requires.some _ _ _ _ _
-    c.self.invariant (ap (λ (l : CarrierList). l.contents) c.self.view_is) c.requires.laid
+    c.self.invariant.listed (ap (λ (l : CarrierList). l.contents) c.self.view_is) c.requires.laid
     c.first_by_address.result (candidate_of c.choice_in.result) c.first_by_address.ensures.found
     c.first_by_address.ensures.rising c.choice_in.ensures.chosen)
 
@@ -59,7 +59,7 @@ returns-in-Age-clause-chosen c =
     choice-all s c.args.depth c.args.need c.args.self.now.contents
     (candidate_of c.choice_in-in-Age.result) (age-miss_none s search)
     (choice-first s older (age-GoesBy s search) c.args.need c.requires.some _ _ _ _ _
-    c.self.invariant (ap (λ (l : CarrierList). l.contents) c.self.view_is) c.requires.laid
+    c.self.invariant.listed (ap (λ (l : CarrierList). l.contents) c.self.view_is) c.requires.laid
     c.first_by_age.result (candidate_of c.choice_in-in-Age.result) c.first_by_age.ensures.found
     c.first_by_age.ensures.rising c.choice_in-in-Age.ensures.chosen)
 

@@ -18,7 +18,7 @@ returns-in_err-find-clause-chosen c =
     c.requires.laid in
     let held = subst (λ o. Hold o (all_gaps cs)) (sym c.as_ref.ensures.value
     ∙ ap option_copied c.in_ok-as_ref.was)
-    c.self.invariant.gaps in
+    c.self.invariant.listed.gaps in
     ap candidate_of c.from_residual-in_err-find.ensures
     ∙ ap (option_and_then (λ g. candidate_at g cs)) (sym c.in_err-find.was)
     ∙ gf-choice c.args.depth c.args.need cs _ c.find.result
@@ -34,7 +34,7 @@ chosen c =
     c.requires.laid in
     let held = subst (λ o. Hold o (all_gaps cs)) (sym c.as_ref.ensures.value
     ∙ ap option_copied c.in_ok-as_ref.was)
-    c.self.invariant.gaps in
+    c.self.invariant.listed.gaps in
     c.choice_at.ensures.found ∙ ap (candidate_at c.in_ok-find.field-0) c.deref.ensures.value
     ∙ ap (option_and_then (λ g. candidate_at g cs)) (sym c.in_ok-find.was)
     ∙ gf-choice c.args.depth c.args.need cs _ c.find.result

@@ -1,17 +1,20 @@
-use Rattle.std.proofs.Common.{◌∙◌, ap, sym, subst}
-use Rattle.ea_model.specs.Content.{placed}
+use Rattle.std.proofs.Common.{arith, length, ◌∙◌, ap, sym, subst}
+use Rattle.ea_model.specs.Content.{placed, taken_of}
+use Rattle.ea_model.specs.Instance.{figures}
 use Rattle.ea_cset.specs.Carriers.{is_held}
 use Rattle.ea_laws.proofs.Changed.{placed-keeps}
 use Rattle.ea_instance.specs.Changes.{AreLaid}
+use Rattle.ea_instance.specs.Counted.{with_block}
 use Rattle.ea_instance.specs.Listed.{CarrierList}
 use Rattle.ea_instance.proofs.BinsAfter.{can-cut, cut-noted, placing-IsCut}
+use Rattle.ea_instance.proofs.Counting.{figures-placed, laid-figures, placed-most, AreBounded}
 use Rattle.ea_instance.proofs.Listed.{IsListed-changed, held-there}
 use Rattle.ea_instance.proofs.carriers.Carriers.place.Goals as goal
 
 pub update-requires : goal.update-requires
 update-requires c =
     let w = c.in_ok-placed.ensures.ok in
-    ap (is_held c.args.choice.candidate.number) c.self.invariant.held
+    ap (is_held c.args.choice.candidate.number) c.self.invariant.listed.held
     ∙ held-there c.args.choice.candidate.number w.content c.self.inside.list.items w.there
 
 pub note_placed-requires : goal.note_placed-requires
@@ -20,7 +23,7 @@ note_placed-requires c =
     c.requires.laid in
     can-cut _ _ _ _ _ (placing-IsCut c.args.need c.args.name c.args.choice.candidate
     c.in_ok-placed.placed _ _ laid c.requires.even c.requires.least c.in_ok-placed.ensures.ok)
-    c.self.inside.bins c.self.invariant.gaps
+    c.self.inside.bins c.self.invariant.listed.gaps
 
 pub invariant_of-self-2 : goal.invariant_of-self-2
 invariant_of-self-2 c =
@@ -30,8 +33,28 @@ invariant_of-self-2 c =
     c.requires.laid in
     let cut = placing-IsCut c.args.need c.args.name x c.in_ok-placed.placed _ _ laid
     c.requires.even c.requires.least w in
-    IsListed-changed (λ m. placed m x.offset c.args.need c.args.name) (placed-keeps _ _ _)
-    x.number w.content _ _ _ _ _ _ _ _ w.there laid.rising c.self.invariant w.is w.largest
-    c.update.ensures.updated c.note_placed.ensures.some
-    (cut-noted _ _ _ _ _ cut c.self.inside.bins c.self.invariant.gaps c.note_placed.new.bins
-    c.note_placed.ensures.cut)
+    record {
+      listed =
+          IsListed-changed (λ m. placed m x.offset c.args.need c.args.name) (placed-keeps _ _ _)
+          x.number w.content _ _ _ _ _ _ _ _ w.there laid.rising c.self.invariant.listed w.is
+          w.largest c.update.ensures.updated c.note_placed.ensures.some
+          (cut-noted _ _ _ _ _ cut c.self.inside.bins c.self.invariant.listed.gaps
+          c.note_placed.new.bins c.note_placed.ensures.cut);
+      counted =
+          c.with_block-self-inside.ensures
+          ∙ ap (with_block c.in_ok-placed.placed.size) c.self.invariant.counted
+          ∙ sym (ap figures w.is
+          ∙ figures-placed x.number w.content _ x.offset c.args.need c.args.name _ laid.rising
+          w.there (w.size ∙ ap (λ g. taken_of g c.args.need) (sym w.chosen.gap)));
+    }
+
+pub with_block-self-inside-requires : goal.with_block-self-inside-requires
+with_block-self-inside-requires c =
+    let laid = subst (λ (l : CarrierList). AreLaid l.contents) (sym c.self.view_is)
+    c.requires.laid in
+    let few = ap (λ (l : CarrierList). length l.contents) c.self.view_is in
+    let bounded = subst AreBounded (sym c.self.invariant.counted)
+    (laid-figures c.self.inside.list.items laid (omega (arith, few, c.requires.few))) in
+    let most = placed-most c.args.need c.args.name c.args.choice.candidate c.in_ok-placed.placed _ _
+    laid c.requires.even c.requires.least c.in_ok-placed.ensures.ok in
+    (omega (arith, bounded.blocks), omega (arith, bounded.blocks_size, most))

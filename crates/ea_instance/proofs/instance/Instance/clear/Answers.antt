@@ -77,9 +77,12 @@ leave-requires-else-multi c =
     let (x, at, v) = going c.args.self.now number c.requires.there c.requires.vacant in
     let none = is-none (content_of c.self.inside.carriers.contents number)
     (ap (λ i. has_content number i.contents) c.self.view_is
-    ∙ sym c.has_multi-multi.ensures ∙ c.if-multi.false) in
-    subst IsSome (sym (sym (found-single _ _ c.self.inside.own c.self.inside.carriers c.self.inside.singles
-    c.self.inside.created c.self.invariant _ c.self.view_is number none) ∙ at)) refl
+    ∙ sym c.has_multi-multi.ensures ∙ c.if-multi.false) in (
+      x,
+      sym (found-single _ _ c.self.inside.own c.self.inside.carriers c.self.inside.singles
+          c.self.inside.created c.self.invariant _ c.self.view_is number none) ∙ at,
+      no-blocks x v,
+    )
 
 pub invariant_of-self-else-multi : goal.invariant_of-self-else-multi
 invariant_of-self-else-multi c =

@@ -1,12 +1,14 @@
-use Rattle.std.proofs.Common.{ℕ, List, length, arith, ap, ◌∙◌, subst}
+use Rattle.std.proofs.Common.{ℕ, List, arith, ap, subst}
 use Rattle.std.specs.Prelude.{sum_by}
+use Rattle.ea_model.specs.declared.carriers.Figures.{Figures}
 use Rattle.ea_model.specs.Content.{Content, free_units, gaps_of}
 use Rattle.ea_model.specs.Instance.{Instance, employed}
 use Rattle.ea_model.proofs.Merged.{sum-merged}
 use Rattle.ea_laws.specs.InOrder.{IsInOrder}
 use Rattle.ea_laws.specs.Kept.{number_of}
 use Rattle.ea_laws.proofs.Standing.{Stands-IsInOrder, multi-bounded, single-bounded}
-use Rattle.ea_laws.proofs.Sums.{all-units, units-most}
+use Rattle.ea_laws.proofs.Sums.{units-most}
+use Rattle.ea_instance.proofs.Counting.{free-left}
 use Rattle.ea_instance.proofs.Keeping.{kept-few}
 use Rattle.ea_instance.proofs.instance.Instance.free_units.Goals as goal
 
@@ -17,18 +19,16 @@ pub free_of-requires : goal.free_of-requires
 free_of-requires c =
     omega (
       arith,
-      kept-few _ _ c.self.inside.own c.self.inside.carriers c.self.inside.singles
-          c.self.inside.created c.self.invariant,
-      ap length c.as_slice.ensures,
+      free-left c.self.inside.carriers.contents (multi-bounded _ c.self.invariant.stands).0 _
+          c.figures.ensures,
     )
 
-pub single_free_of-requires : goal.single_free_of-requires
-single_free_of-requires c =
+pub free_of-requires-2 : goal.free_of-requires-2
+free_of-requires-2 c =
     omega (
       arith,
-      kept-few _ _ c.self.inside.own c.self.inside.carriers c.self.inside.singles
-          c.self.inside.created c.self.invariant,
-      ap length c.as_slice-2.ensures,
+      free-left c.self.inside.singles (single-bounded _ c.self.invariant.stands).0 _
+          c.figures-2.ensures,
     )
 
 pub overflow_add-result : goal.overflow_add-result
@@ -40,11 +40,11 @@ overflow_add-result c =
       arith,
       kept-few _ _ c.self.inside.own c.self.inside.carriers c.self.inside.singles
           c.self.inside.created c.self.invariant,
-      c.free_of.ensures ∙ ap free_in c.as_slice.ensures,
-      c.single_free_of.ensures ∙ ap free_in c.as_slice-2.ensures,
-      all-units cs (multi-bounded _ st).0,
+      c.free_of.ensures,
+      c.free_of-2.ensures,
+      ap (λ (f : Figures). f.carriers_size) c.figures.ensures,
+      ap (λ (f : Figures). f.carriers_size) c.figures-2.ensures,
       units-most cs (multi-bounded _ st).1,
-      all-units ss (single-bounded _ st).0,
       units-most ss (single-bounded _ st).1,
     )
 
@@ -54,8 +54,10 @@ returns-clause-units c =
     let ss = c.self.inside.singles in
     omega (
       arith,
-      c.free_of.ensures ∙ ap free_in c.as_slice.ensures,
-      c.single_free_of.ensures ∙ ap free_in c.as_slice-2.ensures,
+      c.free_of.ensures,
+      c.free_of-2.ensures,
+      free-left cs (multi-bounded _ c.self.invariant.stands).0 _ c.figures.ensures,
+      free-left ss (single-bounded _ c.self.invariant.stands).0 _ c.figures-2.ensures,
       sum-merged number_of (λ (x : Content). free_units (gaps_of x)) cs ss,
       ap (λ (i : Instance). free_in (employed i)) c.self.view_is,
     )

@@ -1,19 +1,9 @@
-use Rattle.std.proofs.Common.{length, arith, ap, ◌∙◌}
+use Rattle.std.proofs.Common.{arith, ap}
 use Rattle.ea_model.specs.declared.carriers.Figures.{Figures}
-use Rattle.ea_model.specs.Instance.{figures}
 use Rattle.ea_laws.proofs.Standing.{multi-bounded}
 use Rattle.ea_laws.proofs.Sums.{allocated-most, units-most}
 use Rattle.ea_instance.proofs.Keeping.{kept-few}
 use Rattle.ea_instance.proofs.instance.Instance.multi_figures.Goals as goal
-
-pub figures-requires : goal.figures-requires
-figures-requires c =
-    omega (
-      arith,
-      kept-few _ _ c.self.inside.own c.self.inside.carriers c.self.inside.singles
-          c.self.inside.created c.self.invariant,
-      ap length c.as_slice.ensures,
-    )
 
 pub returns-clause-few : goal.returns-clause-few
 returns-clause-few c =
@@ -21,7 +11,6 @@ returns-clause-few c =
       arith,
       kept-few _ _ c.self.inside.own c.self.inside.carriers c.self.inside.singles
           c.self.inside.created c.self.invariant,
-      ap length c.as_slice.ensures,
       ap (λ (f : Figures). f.carriers) c.figures.ensures,
     )
 
@@ -29,13 +18,17 @@ pub returns-clause-small : goal.returns-clause-small
 returns-clause-small c =
     let both = multi-bounded _ c.self.invariant.stands in
     let few = kept-few _ _ c.self.inside.own c.self.inside.carriers c.self.inside.singles
-    c.self.inside.created c.self.invariant in
-    let is = c.figures.ensures ∙ ap figures c.as_slice.ensures in (
+    c.self.inside.created c.self.invariant in (
       omega (
         arith,
         few,
-        ap (λ (f : Figures). f.blocks_size) is,
+        ap (λ (f : Figures). f.blocks_size) c.figures.ensures,
         allocated-most c.self.inside.carriers.contents both.0 both.1,
       ),
-      omega (arith, few, ap (λ (f : Figures). f.carriers_size) is, units-most c.self.inside.carriers.contents both.1),
+      omega (
+        arith,
+        few,
+        ap (λ (f : Figures). f.carriers_size) c.figures.ensures,
+        units-most c.self.inside.carriers.contents both.1,
+      ),
     )

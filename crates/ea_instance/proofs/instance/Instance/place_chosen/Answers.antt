@@ -1,5 +1,14 @@
-use Rattle.ea_instance.proofs.Keeping.{blocks-placed, kept-placed, place-chosen, seen-placed}
+use Rattle.std.proofs.Common.{arith}
+use Rattle.ea_instance.proofs.Keeping.{blocks-placed, kept-few, kept-placed, place-chosen, seen-placed}
 use Rattle.ea_instance.proofs.instance.Instance.place_chosen.Goals as goal
+
+pub place-requires-clause-few : goal.place-requires-clause-few
+place-requires-clause-few c =
+    omega (
+      arith,
+      kept-few _ _ c.self.inside.own c.self.inside.carriers c.self.inside.singles
+          c.self.inside.created c.self.invariant,
+    )
 
 pub invariant_of-self-2 : goal.invariant_of-self-2
 invariant_of-self-2 c =

@@ -80,8 +80,8 @@ returns-then-has_multi-clause-others c = λ at other.
     c.self.inside.created c.self.invariant spot _ c.self.view_is x there _ c.in_ok-next.ensures.ok)
     ∙ releasing-others c.args.self.now spot at other
 
-pub release-requires-2 : goal.release-requires-2
-release-requires-2 c =
+pub release-requires-2-clause-block : goal.release-requires-2-clause-block
+release-requires-2-clause-block c =
     let spot = c.args.spot in
     let none = is-none (content_of c.self.inside.carriers.contents spot.carrier)
     (ap (λ i. has_content spot.carrier i.contents) c.self.view_is

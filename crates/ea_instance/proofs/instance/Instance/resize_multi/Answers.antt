@@ -1,7 +1,8 @@
-use Rattle.std.proofs.Common.{◌∙◌, ap}
+use Rattle.std.proofs.Common.{arith, ◌∙◌, ap}
 use Rattle.ea_model.specs.declared.reallocation.Decision.TheVariants.{GrowHere, ShrinkHere, Stay}
 use Rattle.ea_model.specs.Instance.{content_of, has_content}
 use Rattle.ea_model.proofs.Options.{some_value}
+use Rattle.ea_instance.proofs.Keeping.{kept-few}
 use Rattle.ea_instance.proofs.Reallocating.{block-multi, grows-fits, grows-more, kept-multi, seen-multi, shrinks}
 use Rattle.ea_instance.proofs.instance.Instance.resize_multi.Goals as goal
 
@@ -62,6 +63,14 @@ returns-in_ok-shrink-in-ShrinkHere-clause-ok c =
     c.self.invariant c.args.spot c.args.need _ c.self.view_is c.requires.block x there c.args.decision
     c.requires.decision c.args.name c.requires.least c.requires.even ShrinkHere c.in-ShrinkHere.is tt
     c.shrink.new.self c.in_ok-shrink-in-ShrinkHere.ensures.ok
+
+pub grow-requires-clause-few : goal.grow-requires-clause-few
+grow-requires-clause-few c =
+    omega (
+      arith,
+      kept-few _ _ c.self.inside.own c.self.inside.carriers c.self.inside.singles
+          c.self.inside.created c.self.invariant,
+    )
 
 pub grow-requires-clause-block : goal.grow-requires-clause-block
 grow-requires-clause-block c =

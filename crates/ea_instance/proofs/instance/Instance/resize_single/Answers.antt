@@ -1,8 +1,16 @@
-use Rattle.std.proofs.Common.{◌∙◌, ap}
+use Rattle.std.proofs.Common.{arith, ◌∙◌, ap}
 use Rattle.ea_model.specs.Instance.{content_of, has_content}
-use Rattle.ea_instance.proofs.Keeping.{is-none}
+use Rattle.ea_instance.proofs.Keeping.{is-none, kept-few}
 use Rattle.ea_instance.proofs.Reallocating.{block-header, fewer-own, fewer-then, fits-single, fits-then, in-place, kept-less, kept-single, seen-less, seen-single, there-own, there-then}
 use Rattle.ea_instance.proofs.instance.Instance.resize_single.Goals as goal
+
+pub resize-requires-clause-few : goal.resize-requires-clause-few
+resize-requires-clause-few c =
+    omega (
+      arith,
+      kept-few _ _ c.self.inside.own c.self.inside.carriers c.self.inside.singles
+          c.self.inside.created c.self.invariant,
+    )
 
 pub resize-requires-clause-block : goal.resize-requires-clause-block
 resize-requires-clause-block c =
@@ -83,6 +91,12 @@ resize-requires-in_default c =
     let none = is-none (content_of c.self.inside.carriers.contents c.args.spot.carrier)
     (ap (λ i. has_content c.args.spot.carrier i.contents) c.self.view_is ∙ c.requires.single) in
     record {
+      laid = c.self.invariant.stands.alone;
+      few = omega (
+        arith,
+        kept-few _ _ c.self.inside.own c.self.inside.carriers c.self.inside.singles
+            c.self.inside.created c.self.invariant,
+      );
       block = block-header _ _ c.self.inside.own c.self.inside.carriers c.self.inside.singles c.self.inside.created
           c.self.invariant c.args.spot c.args.need _ c.self.view_is c.requires.block none;
       fits = fits-single _ _ c.self.inside.own c.self.inside.carriers c.self.inside.singles c.self.inside.created

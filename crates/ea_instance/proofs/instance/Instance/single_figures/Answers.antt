@@ -1,19 +1,9 @@
-use Rattle.std.proofs.Common.{length, arith, ap, ◌∙◌}
+use Rattle.std.proofs.Common.{arith, ap}
 use Rattle.ea_model.specs.declared.carriers.Figures.{Figures}
-use Rattle.ea_model.specs.Instance.{figures}
 use Rattle.ea_laws.proofs.Standing.{single-bounded}
 use Rattle.ea_laws.proofs.Sums.{allocated-most, units-most}
 use Rattle.ea_instance.proofs.Keeping.{kept-few}
 use Rattle.ea_instance.proofs.instance.Instance.single_figures.Goals as goal
-
-pub single_figures-requires : goal.single_figures-requires
-single_figures-requires c =
-    omega (
-      arith,
-      kept-few _ _ c.self.inside.own c.self.inside.carriers c.self.inside.singles
-          c.self.inside.created c.self.invariant,
-      ap length c.as_slice.ensures,
-    )
 
 pub returns-clause-few : goal.returns-clause-few
 returns-clause-few c =
@@ -21,21 +11,24 @@ returns-clause-few c =
       arith,
       kept-few _ _ c.self.inside.own c.self.inside.carriers c.self.inside.singles
           c.self.inside.created c.self.invariant,
-      ap length c.as_slice.ensures,
-      ap (λ (f : Figures). f.carriers) c.single_figures.ensures,
+      ap (λ (f : Figures). f.carriers) c.figures.ensures,
     )
 
 pub returns-clause-small : goal.returns-clause-small
 returns-clause-small c =
     let both = single-bounded _ c.self.invariant.stands in
     let few = kept-few _ _ c.self.inside.own c.self.inside.carriers c.self.inside.singles
-    c.self.inside.created c.self.invariant in
-    let is = c.single_figures.ensures ∙ ap figures c.as_slice.ensures in (
+    c.self.inside.created c.self.invariant in (
       omega (
         arith,
         few,
-        ap (λ (f : Figures). f.blocks_size) is,
+        ap (λ (f : Figures). f.blocks_size) c.figures.ensures,
         allocated-most c.self.inside.singles both.0 both.1,
       ),
-      omega (arith, few, ap (λ (f : Figures). f.carriers_size) is, units-most c.self.inside.singles both.1),
+      omega (
+        arith,
+        few,
+        ap (λ (f : Figures). f.carriers_size) c.figures.ensures,
+        units-most c.self.inside.singles both.1,
+      ),
     )

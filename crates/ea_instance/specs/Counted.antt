@@ -1,0 +1,14 @@
+-- The figures of carriers, with a block or a carrier more.
+use Rattle.std.specs.Prelude.{ℕ, ◌+◌}
+use Rattle.ea_model.specs.declared.carriers.Figures.{Figures}
+
+-- with a block of that many units more
+abbrev pub with_block : ℕ → Figures → Figures
+with_block size f = record f { blocks = f.blocks + 1; blocks_size = f.blocks_size + size }
+
+-- with a carrier of that many units more
+abbrev pub with_carrier : ℕ → Figures → Figures
+with_carrier units f = record f {
+  carriers = f.carriers + 1;
+  carriers_size = f.carriers_size + units;
+}
