@@ -1,3 +1,4 @@
+pub mod Doing
 pub mod Freed
 pub mod NamesTable
 pub mod Paths

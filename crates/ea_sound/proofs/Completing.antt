@@ -7,7 +7,7 @@ use Rattle.ea_machine.specs.declared.nodes.Node.{Node}
 use Rattle.ea_machine.specs.declared.nodes.Node.TheVariants.{Block, Carrier}
 use Rattle.ea_machine.specs.Actor.{Actor, Gone, Route, Looking, Trying, Settling, Abandoning, Sending, Clearing, Pushing, Linking, Stage, Begin, Routed, Collecting, Searching, Fetching, Creating, Giving, Taking, Ended, Ready, Why, Walk, For}
 use Rattle.ea_machine.specs.Completion.{actor_rows, begin_rows, completing, ending, finishing, next_rows, passed_rows, stage_rows, work}
-use Rattle.ea_machine.specs.Machine.{after_row, begins, first_stage, run, run_on, start, step, wants_at, wants_on}
+use Rattle.ea_machine.specs.Machine.{IsReached, after_row, begins, first_stage, run, run_on, start, step, wants_at, wants_on}
 use Rattle.ea_machine.specs.MachineLaws.{EndsAll}
 use Rattle.ea_machine.specs.Nodes.{Mark, first_node, link_in, pushed}
 use Rattle.ea_machine.specs.Owners.{CarrierAt, Employed, Busy}
@@ -32,7 +32,7 @@ PushesElsewhere s stage = Unit {0}
 
 module _ (e : Setup) (me : ℕ) where
   -- the marks in my queue and in what is left of my walk
-  abbrev marks : Shared → ℕ
+  abbrev pub marks : Shared → ℕ
   marks s = 9 * length (s.queues me) + 9 * length (s.rests me)
 
   link-marks : (n : Node) (ms : List Mark) → length (link_in n ms) ≡ length ms
@@ -78,8 +78,8 @@ module _ (e : Setup) (me : ℕ) where
   route-marks (Linking node to) y g s f =
       omega (arith, linked-marks node to s.queues, linked-marks node to s.rests)
 
-  plain-marks : (next : Option Node) (st : Stage) (s : Shared) → PushesElsewhere me st → st ≢ Begin
-      → marks (effect me (wants_at next st) s) ≡ marks s
+  pub plain-marks : (next : Option Node) (st : Stage) (s : Shared) → PushesElsewhere me st
+      → st ≢ Begin → marks (effect me (wants_at next st) s) ≡ marks s
   unfolding effect
   plain-marks next Begin s f ne = absurd (ne refl)
   plain-marks next (Routed r y g) s f ne = route-marks r y g s f
@@ -215,13 +215,10 @@ module _ (e : Setup) where
   )
 
   -- running to the end
-  abbrev Reached : State → Type 0
-  Reached w = (L : List ℕ) × (w ≡ run e L)
-
-  reached-step : (w : State) (s : ℕ) → Reached w → Reached (step e w s)
+  pub reached-step : (w : State) (s : ℕ) → IsReached e w → IsReached e (step e w s)
   reached-step w s r = (r.0 ++ s ∷ [], ap (λ v. step e v s) r.1 ∙ sym (run-snoc e r.0 s))
 
-  reached-run : (w : State) (js : List ℕ) → Reached w → Reached (run_on e w js)
+  reached-run : (w : State) (js : List ℕ) → IsReached e w → IsReached e (run_on e w js)
   reached-run w [] r = r
   reached-run w (j ∷ js) r = reached-run (step e w j) js (reached-step w j r)
 
@@ -282,15 +279,15 @@ module _ (e : Setup) where
 
   module _ (resting : (L : List ℕ) (s : ℕ) → ((run e L).actors s).stage ≢ Ready)
       (elsewhere : (L : List ℕ) (s : ℕ) → PushesElsewhere s ((run e L).actors s).stage) where
-    never-ready : (w : State) (s : ℕ) → Reached w → (w.actors s).stage ≢ Ready
+    never-ready : (w : State) (s : ℕ) → IsReached e w → (w.actors s).stage ≢ Ready
     never-ready w s r =
         subst (λ (v : State). (v.actors s).stage ≢ Ready) (sym r.1) (resting r.0 s)
 
-    pushes : (w : State) (s : ℕ) → Reached w → PushesElsewhere s (w.actors s).stage
+    pushes : (w : State) (s : ℕ) → IsReached e w → PushesElsewhere s (w.actors s).stage
     pushes w s r =
         subst (λ (v : State). PushesElsewhere s (v.actors s).stage) (sym r.1) (elsewhere r.0 s)
 
-    ends : (most : ℕ) (w : State) (s : ℕ) → Reached w → work e w s ≤ most
+    ends : (most : ℕ) (w : State) (s : ℕ) → IsReached e w → work e w s ≤ most
         → ((run_on e w (ending e most w s (w.actors s).stage)).actors s).stage ≡ Ended
     ends zero w s r l =
         elim (ended-or (w.actors s).stage) [
@@ -313,11 +310,11 @@ module _ (e : Setup) where
         ]
 
     -- a scheduler that alone steps has ended after as many turns as it has work, at most
-    finishes : (w : State) (s : ℕ) → Reached w
+    finishes : (w : State) (s : ℕ) → IsReached e w
         → ((run_on e w (finishing e w s)).actors s).stage ≡ Ended
     finishes w s r = ends (work e w s) w s r (omega arith)
 
-    completes : (count s : ℕ) (w : State) (j : ℕ) → Reached w
+    completes : (count s : ℕ) (w : State) (j : ℕ) → IsReached e w
         → ((w.actors j).stage ≡ Ended) ⊎ ((s ≤ j) × (j < s + count))
         → ((run_on e w (completing e count s w)).actors j).stage ≡ Ended
     completes zero s w j r (inl q) = q
@@ -363,7 +360,7 @@ module _ (e : Setup) (w : State) (s : ℕ) where
   route-elsewhere (Pushing (Carrier c) to) y g f = f.1
   route-elsewhere (Linking node to) y g f = tt
 
-  fits-elsewhere : (a : Actor) (st : Stage) → Fits e w s a st → PushesElsewhere s st
+  pub fits-elsewhere : (a : Actor) (st : Stage) → Fits e w s a st → PushesElsewhere s st
   fits-elsewhere a Begin f = tt
   fits-elsewhere a (Routed r y g) f = route-elsewhere r y g f.0
   fits-elsewhere a (Collecting c) f = tt

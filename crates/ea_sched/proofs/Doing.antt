@@ -1,0 +1,197 @@
+-- What a scheduler may ask of what is told, and where a step leaves it.
+use Rattle.std.specs.Prelude.{◌≡◌, ◌≢◌, ◌⊎◌, ℕ, true, false, [], ◌∷◌, List, Option, None, Some, IfSome, IsSome}
+use Rattle.std.proofs.Common.{refl, sym, ap, ◌∙◌, subst, inl, inr}
+use Rattle.ea_model.specs.declared.settings.Config.{Config}
+use Rattle.ea_model.specs.declared.trace.Trace.{Trace}
+use Rattle.ea_model.specs.Settings.{IsValidConfig}
+use Rattle.ea_model.specs.Trace.{IsValidTrace}
+use Rattle.ea_model.proofs.Options.{if_some}
+use Rattle.ea_machine.specs.Actor.{Actor, Begin, Ended}
+use Rattle.ea_machine.specs.Machine.{after, after_row, onward, step, wants, wants_at}
+use Rattle.ea_machine.specs.declared.nodes.Node.{Node}
+use Rattle.ea_machine.specs.Nodes.{Mark, first_node}
+use Rattle.ea_machine.specs.Rows.{Answer, Head, Row, TakeAll}
+use Rattle.ea_machine.specs.Setup.{Setup, setup_of}
+use Rattle.ea_machine.specs.Shared.{Shared}
+use Rattle.ea_machine.specs.State.{State}
+use Rattle.ea_machine.specs.Statistics.{observed}
+use Rattle.ea_machine.specs.Table.{answer, effect}
+use Rattle.ea_shared.specs.Calls.{Caller, Did, IsWanted, TookStep, WantsRow}
+use Rattle.ea_sound.proofs.Asked.{reached-rule}
+use Rattle.ea_sound.proofs.Completing.{reached-step}
+use Rattle.ea_sound.proofs.TurnLists.{step-ended, step-mine, step-shared}
+use Rattle.ea_sched.specs.Steps.{Ready, Stepped, caller_of}
+
+-- where no node is next, nothing is left of a walk
+rest-none : (marks : List Mark) → first_node marks ≡ None → marks ≡ []
+rest-none [] none = refl
+rest-none (m ∷ ms) none = absurd (cc)
+
+-- what is told is told again
+same-told : {A : Type 0} (o : Option A) (x : A) → IfSome o (λ y. y ≡ x)
+    → IfSome o (λ y. (y ≡ x) × (o ≡ Some x))
+same-told None x same = tt
+same-told (Some y) x same = (same, ap Some same)
+
+module _ {A B : Type 0} where
+  -- what is told after a step, by whether anything was told before
+  told-after : (o : Option A) (p : Option B) (x : B) → IfSome o (λ y. p ≡ Some x)
+      → (o ≡ None → p ≡ None) → IfSome p (λ y. y ≡ x)
+  told-after None p x some none = subst (λ q. IfSome q (λ y. y ≡ x)) (sym (none refl)) tt
+  told-after (Some y) p x some none = subst (λ q. IfSome q (λ z. z ≡ x)) (sym some) refl
+
+  still-told : (o : Option A) (p : Option B) (x : B) → IfSome o (λ y. p ≡ Some x) → IsSome o
+      → IsSome p
+  still-told None p x some is = absurd (let no : false ≡ true = is in cc)
+  still-told (Some y) p x some is = subst IsSome (sym some) refl
+
+-- a step of a scheduler that hasn't ended and wants a row
+module _ (e : Setup) (w : State) (me : ℕ) (a : Actor) (at : w.actors me ≡ a) (row : Row)
+    (want : wants a ≡ row) (goes : a.stage ≢ Ended) where
+  not_ended : (w.actors me).stage ≢ Ended
+  not_ended = subst (λ (x : Actor). x.stage ≢ Ended) (sym at) goes
+
+  step-own : (step e w me).actors me ≡ after e me a (answer me row w.shared) a.stage
+  unfolding after
+  step-own = step-mine e w me not_ended
+      ∙ ap (λ (x : Actor). observed (onward e me
+      (after_row e me x (answer me (wants x) w.shared) x.stage))) at
+      ∙ ap (λ r. observed (onward e me (after_row e me a (answer me r w.shared) a.stage))) want
+
+  step-part : (step e w me).shared ≡ effect me row w.shared
+  step-part = step-shared e w me not_ended
+      ∙ ap (λ (x : Actor). effect me (wants x) w.shared) at
+      ∙ ap (λ r. effect me r w.shared) want
+
+module _ (c : Config) (t : Trace) (me : ℕ) (a : Actor) where
+  abbrev e : Setup
+  e = setup_of c t
+
+  begin-wants : a.stage ≡ Begin → a.next ≡ None → wants a ≡ TakeAll
+  begin-wants begin none = ap (wants_at a.next) begin ∙ ap (λ next. wants_at next Begin) none
+
+  -- a row that it wants is done
+  module _ (b : Actor) (row : Row) (got : Answer) (want : wants a ≡ row) (goes : a.stage ≢ Ended)
+      (is : b ≡ after e me a got a.stage) where
+    own : (w : State) → w.actors me ≡ a → got ≡ answer me row w.shared
+        → b ≡ (step e w me).actors me
+    own w at answered = is ∙ ap (λ r. after e me a r a.stage) answered
+        ∙ sym (step-own e w me a at row want goes)
+
+    part : (w : State) → w.actors me ≡ a → (s : Shared) (new : Option Shared)
+        → s ≡ w.shared → new ≡ Some (effect me row s) → new ≡ Some (step e w me).shared
+    part w at s new same became = became
+        ∙ ap Some (ap (effect me row) same ∙ sym (step-part e w me a at row want goes))
+
+    told : (caller now : Option Caller) → IfSome caller (λ x. x ≡ caller_of e me a)
+        → IfSome caller (TookStep me row got now)
+        → IfSome caller (λ x. now ≡ Some (caller_of e me b))
+    told None now same took = tt
+    told (Some x) now same took =
+        let mine = subst (TookStep me row got now) same took in
+        mine.4 ∙ ap (λ y. Some (caller_of e me y)) (sym (own mine.0 mine.2 mine.3))
+
+    pub stepped : (shared new : Option Shared) (caller now : Option Caller)
+        → Ready c t me a shared caller → Did me row got shared new caller now
+        → Stepped c t me a b shared new caller now
+    stepped (Some s) new caller now h did =
+        let effects = did.shared in
+        record {
+          state = h.state;
+          reached = h.reached;
+          actor = h.actor;
+          is = own h.state h.actor (effects.0 ∙ ap (answer me row) h.shares);
+          shares = (h.shares, part h.state h.actor s new h.shares effects.1);
+          shares_untold = did.shared_untold;
+          calls = told caller now h.calls did.caller;
+          calls_untold = did.caller_untold;
+        }
+    stepped None new (Some x) now h did =
+        let mine = subst (TookStep me row got now) h.calls did.caller in
+        record {
+          state = mine.0;
+          reached = mine.1;
+          actor = mine.2;
+          is = own mine.0 mine.2 mine.3;
+          shares = tt;
+          shares_untold = did.shared_untold;
+          calls = told (Some x) now h.calls did.caller;
+          calls_untold = did.caller_untold;
+        }
+    stepped None new None now h did = absurd (elim h.told [
+      | inl q ↦ let no : false ≡ true = q in cc
+      | inr q ↦ let no : false ≡ true = q in cc
+    ])
+
+  -- where an operation begins, and where all are done
+  module _ (shared : Option Shared) (caller : Option Caller)
+      (h : Ready c t me a shared caller) where
+    -- nothing is left of its walk
+    pub asks-shared : a.next ≡ None → IfSome shared (λ s. s.rests me ≡ [])
+    asks-shared none =
+        let walking = (reached-rule c t h.config h.trace h.state h.reached).present.walking me in
+        let rest = rest-none (h.state.shared.rests me)
+        (sym walking ∙ ap (λ (x : Actor). x.next) h.actor ∙ none) in
+        if_some shared (λ s. s ≡ h.state.shared) (λ s. s.rests me ≡ [])
+        (λ s same. ap (λ (x : Shared). x.rests me) same ∙ rest) h.shares
+
+    -- it wants its queue
+    pub asks-caller : a.stage ≡ Begin → a.next ≡ None → IsWanted me TakeAll caller
+    asks-caller begin none =
+        if_some caller (λ x. x ≡ caller_of e me a) (WantsRow me TakeAll)
+        (λ x same. subst (WantsRow me TakeAll) (sym same) (refl, begin-wants begin none)) h.calls
+
+    -- its queue is taken
+    pub begun-stepped : (b : Actor) (got : Option Node) (new : Option Shared) (now : Option Caller)
+        → a.stage ≡ Begin → a.next ≡ None → Did me TakeAll (Head got) shared new caller now
+        → b ≡ after e me a (Head got) Begin → Stepped c t me a b shared new caller now
+    begun-stepped b got new now begin none did is =
+        stepped b TakeAll (Head got) (begin-wants begin none)
+        (λ ended. let no : Begin ≡ Ended = sym begin ∙ ended in cc)
+        (is ∙ ap (after e me a (Head got)) (sym begin)) shared new caller now h did
+
+    -- an ended scheduler stays as it is
+    pub ended-stepped : a.stage ≡ Ended → Stepped c t me a a shared shared caller caller
+    ended-stepped ended =
+        let w = h.state in
+        let stays = step-ended e w me (ap (λ (x : Actor). x.stage) h.actor ∙ ended) in
+        record {
+          state = w;
+          reached = h.reached;
+          actor = h.actor;
+          is = sym (ap (λ (v : State). v.actors me) stays ∙ h.actor);
+          shares = subst (λ (v : State). IfSome shared
+              (λ s. (s ≡ w.shared) × (shared ≡ Some v.shared))) (sym stays)
+              (same-told shared w.shared h.shares);
+          shares_untold = λ none. none;
+          calls = if_some caller
+              (λ x. (x ≡ caller_of e me a) × (caller ≡ Some (caller_of e me a)))
+              (λ x. caller ≡ Some (caller_of e me a)) (λ x both. both.1)
+              (same-told caller (caller_of e me a) h.calls);
+          calls_untold = λ none. none;
+        }
+
+-- after a step it stands in a reached state again
+module _ (c : Config) (t : Trace) (me : ℕ) (a b : Actor) (shared new : Option Shared)
+    (caller now : Option Caller) where
+  pub ready-again : IsValidConfig c → IsValidTrace c.schedulers t → IsSome shared ⊎ IsSome caller
+      → Stepped c t me a b shared new caller now → Ready c t me b new now
+  ready-again valid made told o =
+      let e = setup_of c t in
+      let then = step e o.state me in
+      let mine = caller_of e me b in
+      let shares = if_some shared (λ s. (s ≡ o.state.shared) × (new ≡ Some then.shared))
+      (λ s. new ≡ Some then.shared) (λ s both. both.1) o.shares in
+      record {
+        config = valid;
+        trace = made;
+        state = then;
+        reached = reached-step e o.state me o.reached;
+        actor = sym o.is;
+        shares = told-after shared new then.shared shares o.shares_untold;
+        calls = told-after caller now mine o.calls o.calls_untold;
+        told = elim told [
+          | inl is ↦ inl (still-told shared new then.shared shares is)
+          | inr is ↦ inr (still-told caller now mine o.calls is)
+        ];
+      }
