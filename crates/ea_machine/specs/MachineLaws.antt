@@ -12,7 +12,7 @@ use Rattle.ea_machine.specs.Machine.{run}
 use Rattle.ea_machine.specs.Completion.{complete}
 use Rattle.ea_machine.specs.Units.{PrintsSums}
 use Rattle.ea_machine.specs.Sound.{Sound}
-use Rattle.ea_machine.specs.Released.{KeepsPlaces, ReleasesOnce, StaysGone}
+use Rattle.ea_machine.specs.Released.{FailedHaveNone, KeepsPlaces, ReleasesOnce, StaysGone}
 use Rattle.ea_machine.specs.Exhausted.{FailsIfExhausted}
 use Rattle.ea_machine.specs.Entries.{EntersOne, LogsEach, SkipsUnheld}
 use Rattle.ea_machine.specs.Fetches.{FetchesFit}
@@ -36,8 +36,8 @@ EndsAll setup = (turns : List ℕ) (s : ℕ)
 -- that it may not do, and some answers never come; a carrier that is fetched fits; each operation
 -- makes one entry, of its own kind, which tells how it came about: placements are chosen, and fails
 -- are exhausted; where no place is found an operation fails, and where its name isn't held it is
--- skipped; no name is released twice, and a released or failed one stays so; a block keeps its place
--- and its units; and a completed schedule ends
+-- skipped; no name is released twice, one that failed has no block, and both stay so; a block keeps
+-- its place and its units; and a completed schedule ends
 pub record Protocol (setup : Setup) : Type 0 where
   pub sound : AtEachMoment Sound setup
   pub prints : AtEachMoment PrintsSums setup
@@ -49,6 +49,7 @@ pub record Protocol (setup : Setup) : Type 0 where
   pub fails : FailsIfExhausted setup
   pub skips : SkipsUnheld setup
   pub once : ReleasesOnce setup
+  pub failed : AtEachMoment FailedHaveNone setup
   pub gone : StaysGone setup
   pub places : KeepsPlaces setup
   pub ends : EndsAll setup

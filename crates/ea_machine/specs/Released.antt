@@ -53,6 +53,11 @@ IsReleased setup name state = IsGone setup (says_made name) name state
 abbrev pub HasFailed : Setup → ℕ → State → Type 0
 HasFailed setup name state = IsGone setup (says_failed name) name state
 
+-- a name of which an entry says that it failed has no block
+abbrev pub FailedHaveNone : Setup → State → Type 0
+FailedHaveNone setup state = (name i : ℕ)
+    → list_any (says_failed name) (state.actors i).log ≡ true → blocks_named setup name state ≡ 0
+
 -- a released name stays so whatever steps follow, and a failed one
 abbrev pub StaysGone : Setup → Type 0
 StaysGone setup = (name : ℕ) (turns more : List ℕ)

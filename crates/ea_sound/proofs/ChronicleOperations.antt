@@ -35,6 +35,8 @@ use Rattle.ea_sound.proofs.Weights.{sum_by-sum_over}
 use Rattle.ea_machine.specs.Sums.{one_if}
 use Rattle.ea_sound.proofs.ChroniclePlaces.{Fine as IsFine, IsAsking, IsNow, IsWanted as Wants, landed, shared, choice-fine, logged-fine, planned-fine, search-fine, task-fine, big, little, fails}
 use Rattle.ea_model.specs.Trace.{makes}
+use Rattle.std.proofs.lemmas.Bool.{eqb-true}
+use Rattle.ea_machine.specs.Actor.{Ended}
 use Rattle.ea_model.proofs.Needs.{need-even, need-least}
 use Rattle.ea_machine.specs.Actor.{Begin}
 use Rattle.ea_machine.specs.Machine.{run}
@@ -70,6 +72,7 @@ module _ (e : Setup) (rules : (L : List ℕ) → Rule e (run e L)) (L : List ℕ
   s = shared e rules L me
 
   module _ (set : acting.instance.settings ≡ e.settings) (is : is_scheduler e me ≡ true)
+      (works : acting.stage ≢ Ended)
       (ready : mid.stage ≡ Ready) (k : Keeps acting mid)
       (walk : InWalk e (run e L) s me (at Begin mid)) where
     going : InOperation e (run e L) s me (at Begin mid)
@@ -104,9 +107,9 @@ module _ (e : Setup) (rules : (L : List ℕ) → Rule e (run e L)) (L : List ℕ
         → ((migration e ≡ false) ⊎ (e.settings.sbct < ask.need))
         → Fine (new_carrier e me ask 0 mid)
     plan-fine ask o want asks none un =
-        planned-fine e rules L me set is ask 0 mid (plan mid.instance ask.need) refl k
+        planned-fine e rules L me set is works ask 0 mid (plan mid.instance ask.need) refl k
         (asked-now ask o asks)
-        (λ why r. fails e rules L me set is ask 0 why mid L [] refl (refl, refl, refl, refl)
+        (λ why r. fails e rules L me set is works ask 0 why mid L [] refl (refl, refl, refl, refl)
         (subst (OfAsk ask) (sym k.1) o)
         (record {
           begins = ready;
@@ -116,10 +119,9 @@ module _ (e : Setup) (rules : (L : List ℕ) → Rule e (run e L)) (L : List ℕ
           steps = no-steps;
           refused = r;
         }))
-        none
+        none want
         (λ off p r. (
           AtOnce off ready refl r,
-          want,
           (closed-operation e (run e L) s me is).make ask p mid want r off going,
         ))
 
@@ -127,8 +129,8 @@ module _ (e : Setup) (rules : (L : List ℕ) → Rule e (run e L)) (L : List ℕ
         → IsWanted ask → AsksFor mid mid.todo ask.need → ask.need ≤ e.settings.sbct
         → chosen_spot mid.instance ask.need ≡ None → Fine (search_if e me ask mid on)
     no_choice-fine ask true m o want asks small c =
-        search-fine e rules L me set is ask (greatest_number e) 0 mid k
-        (asked-now ask o asks) m small (omega arith)
+        search-fine e rules L me set is works ask (greatest_number e) 0 mid k
+        (asked-now ask o asks) m small (omega arith) want
         (record {
           before = L;
           since = [];
@@ -146,7 +148,7 @@ module _ (e : Setup) (rules : (L : List ℕ) → Rule e (run e L)) (L : List ℕ
         → OfAsk ask acting.todo → IsWanted ask → AsksFor mid mid.todo ask.need
         → ask.need ≤ e.settings.sbct → Fine (chosen_by e me ask mid s)
     chosen-fine ask (Some spot) c o want asks small =
-        choice-fine e rules L me set is ask mid (Some spot) c k (asked-now ask o asks) small
+        choice-fine e rules L me set is works ask mid (Some spot) c k (asked-now ask o asks) small
         (Had ready refl) want going
     chosen-fine ask None c o want asks small =
         no_choice-fine ask (migration e) refl o want asks small c
@@ -157,10 +159,10 @@ module _ (e : Setup) (rules : (L : List ℕ) → Rule e (run e L)) (L : List ℕ
     seek-fine ask o want asks = by (is_alone mid.instance ask.need) refl
       where
         by : (b : Bool) → is_alone mid.instance ask.need ≡ b → Fine (seek_by e me ask mid b)
-        by true t = let l = big e rules L me set is mid (k.2 ∙ set) ask.need t in
+        by true t = let l = big e rules L me set is works mid (k.2 ∙ set) ask.need t in
             plan-fine ask o want asks (λ s. absurd (omega (arith, l, s))) (inr l)
         by false t = chosen-fine ask (chosen_spot mid.instance ask.need) refl o want asks
-            (little e rules L me set is mid (k.2 ∙ set) ask.need t)
+            (little e rules L me set is works mid (k.2 ∙ set) ask.need t)
 
     first-is : (o : Op) (ops : List Op) (x : Entry) → mid.todo ≡ o ∷ ops → Makes o x
         → IsOfFirst acting.todo x
@@ -206,12 +208,13 @@ module _ (e : Setup) (rules : (L : List ℕ) → Rule e (run e L)) (L : List ℕ
           → decision_at mid.instance h.spot (need_of bytes) ≡ d → d ≢ Move
           → Fine (resized_here h fresh (need_of bytes) mid)
       resized-fine h d i nm dec ne =
-          logged-fine e rules L me set is
+          logged-fine e rules L me set is works
           (entry.ReallocHere h.name fresh (resized_place mid.instance h.spot (need_of bytes)))
           (holding fresh h.spot (let_go h.name
           (record mid { instance = resizing_at mid.instance h.spot (need_of bytes) fresh })))
           (k.0, k.1, (resizing-fixed mid.instance h.spot (need_of bytes) fresh).0 ∙ k.2)
           (first-is (op.Realloc old fresh bytes) ops _ todo (nm, refl))
+          (λ n q. absurd cc)
           (λ now. record {
             begins = ready;
             need = need_of bytes;
@@ -222,7 +225,7 @@ module _ (e : Setup) (rules : (L : List ℕ) → Rule e (run e L)) (L : List ℕ
             carrier = refl;
             offset = refl;
             size = refl;
-            there = landed e rules L me set is fresh
+            there = landed e rules L me set is works fresh
                 (resized_place mid.instance h.spot (need_of bytes))
                 (holding fresh h.spot (let_go h.name
                 (record mid { instance = resizing_at mid.instance h.spot (need_of bytes) fresh })))
@@ -251,24 +254,29 @@ module _ (e : Setup) (rules : (L : List ℕ) → Rule e (run e L)) (L : List ℕ
 
       realloc-fine : (h : Option Named) → named_at old mid.held ≡ h
           → Fine (reallocated e me old fresh (need_of bytes) mid h)
-      realloc-fine None i = logged-fine e rules L me set is (entry.ReallocSkipped old fresh) mid k
+      realloc-fine None i =
+          logged-fine e rules L me set is works (entry.ReallocSkipped old fresh) mid k
           (first-is (op.Realloc old fresh bytes) ops _ todo (refl, refl))
+          (λ n said. subst (λ m. IsFresh e (run e L) s me m (at Begin mid))
+          (sym (eqb-true n fresh said))
+          (fresh-name fresh (op.Realloc old fresh bytes) ops todo (grind arith)))
           (skipped old (entry.ReallocSkipped old fresh) i)
       realloc-fine (Some h) i = decided-fine h (decision_at mid.instance h.spot (need_of bytes)) i
           (item_at-key name_of old h mid.held i) refl
 
     free-fine : (n : ℕ) (ops : List Op) (h : Option Named) → mid.todo ≡ op.Free n ∷ ops
         → named_at n mid.held ≡ h → Fine (freed e me n mid h)
-    free-fine n ops None q i = logged-fine e rules L me set is (entry.FreeSkipped n) mid k
-        (first-is (op.Free n) ops _ q refl) (skipped n (entry.FreeSkipped n) i)
-    free-fine n ops (Some h) q i = task-fine e rules L me set is (Freeing n) h mid k
+    free-fine n ops None q i = logged-fine e rules L me set is works (entry.FreeSkipped n) mid k
+        (first-is (op.Free n) ops _ q refl) (λ n q. absurd cc) (skipped n (entry.FreeSkipped n) i)
+    free-fine n ops (Some h) q i = task-fine e rules L me set is works (Freeing n) h mid k
         (subst (OfTask (Freeing n)) (sym q ∙ k.1) refl) (λ now. tt)
 
     give-fine : (n to : ℕ) (ops : List Op) (h : Option Named) → mid.todo ≡ op.Give n to ∷ ops
         → named_at n mid.held ≡ h → Fine (giving n to mid h)
-    give-fine n to ops None q i = logged-fine e rules L me set is (entry.GiveSkipped n to) mid k
+    give-fine n to ops None q i =
+        logged-fine e rules L me set is works (entry.GiveSkipped n to) mid k
         (first-is (op.Give n to) ops _ q (refl, refl))
-        (skipped n (entry.GiveSkipped n to) i)
+        (λ n q. absurd cc) (skipped n (entry.GiveSkipped n to) i)
     give-fine n to ops (Some h) q i = (
       (λ r. absurd cc),
       k.2 ∙ set,
@@ -281,9 +289,9 @@ module _ (e : Setup) (rules : (L : List ℕ) → Rule e (run e L)) (L : List ℕ
     reported-fine : (mbcs sbcs : Figures) (b : Actor) (ops : List Op) → mid.todo ≡ op.Info ∷ ops
         → Keeps acting b → Fine (reported mbcs sbcs b)
     reported-fine mbcs sbcs b ops q l =
-        logged-fine e rules L me set is (entry.Info (report mbcs b.mbcs) (report sbcs b.sbcs))
+        logged-fine e rules L me set is works (entry.Info (report mbcs b.mbcs) (report sbcs b.sbcs))
         (record b { mbcs = restarted mbcs b.mbcs; sbcs = restarted sbcs b.sbcs }) l
-        (first-is op.Info ops _ q tt) (λ now. tt)
+        (first-is op.Info ops _ q tt) (λ n q. absurd cc) (λ now. tt)
 
     pub itself-fine : (ops : List Op) → mid.todo ≡ ops → Fine (itself e me mid ops)
     itself-fine [] q = ((λ r. absurd cc), k.2 ∙ set, λ now. (tt, inl (k.0, k.1)))
@@ -305,4 +313,5 @@ module _ (e : Setup) (rules : (L : List ℕ) → Rule e (run e L)) (L : List ℕ
     itself-fine (op.Info ∷ ops) q = reported-fine (figures (employed_multis mid))
         (figures (employed_singles mid)) (observed mid) ops q k
     itself-fine (op.Idle ∷ ops) q =
-        logged-fine e rules L me set is entry.Idle mid k (first-is op.Idle ops _ q tt) (λ now. tt)
+        logged-fine e rules L me set is works entry.Idle mid k (first-is op.Idle ops _ q tt)
+        (λ n q. absurd cc) (λ now. tt)

@@ -37,15 +37,22 @@ use Rattle.ea_machine.specs.Machine.{wants}
 use Rattle.ea_machine.specs.Nodes.{named_at}
 use Rattle.ea_machine.specs.Owners.{owner_of}
 use Rattle.ea_machine.specs.Placements.{holding, spot_of_place}
-use Rattle.ea_machine.specs.Released.{LiesAt}
+use Rattle.ea_machine.specs.Released.{LiesAt, blocks_named as blocks_of_name, says_failed}
+use Rattle.ea_machine.specs.Names.{allocated, only}
+use Rattle.ea_machine.specs.State.{State}
+use Rattle.std.proofs.lemmas.Bool.{eqb-true}
+use Rattle.std.specs.Prelude.{◌==◌}
+use Rattle.ea_sound.specs.Rule.{blocks_of}
+use Rattle.ea_sound.proofs.TurnLists.{run-snoc, step-is}
+use Rattle.ea_machine.specs.Actor.{Ended}
 use Rattle.ea_machine.specs.Setup.{is_scheduler}
 use Rattle.ea_machine.specs.Shared.{Shared}
 use Rattle.ea_machine.specs.Table.{effect}
-use Rattle.ea_sound.specs.Leaves.{InOperation, Wanted, making as with_carrier}
+use Rattle.ea_sound.specs.Leaves.{InOperation, IsFresh, Wanted, making as with_carrier}
 use Rattle.ea_sound.specs.Moments.{at, with_actor}
 use Rattle.ea_sound.specs.Orderly.{IsOrderly}
 use Rattle.ea_sound.specs.Present.{OldHeld, Rule}
-use Rattle.ea_sound.proofs.Alike.{lies-with}
+use Rattle.ea_sound.proofs.Alike.{allocated-with, lies-with}
 use Rattle.ea_sound.proofs.Choosing.{chosen-gap}
 use Rattle.ea_sound.proofs.FewBlocks.{blocks_named}
 use Rattle.ea_sound.proofs.Hits.{HasBlock, held-stands, hit}
@@ -53,6 +60,12 @@ use Rattle.ea_sound.proofs.LyingBlocks.{LiesWith, lying, placing-lies, route-lie
 use Rattle.ea_sound.proofs.Numbered.{scheduler-seat}
 use Rattle.ea_sound.proofs.Operating.{closed-operation, held-other, held-stays, made-wanted}
 use Rattle.ea_sound.proofs.Totals.{put-here, total-part}
+
+-- the name of which a fail says so
+failed-says : (n : ℕ) (ask : Ask) (looked : ℕ) (why : NoCarrier) (old : Option Named)
+    → says_failed n (failed ask looked why old) ≡ (n == ask.name)
+failed-says n ask looked why None = refl
+failed-says n ask looked why (Some h) = refl
 
 -- a search that goes on no more
 ends : (n looked limit : ℕ) → looked ≤ limit → (nat_lt 0 n && nat_lt looked limit) ≡ false
@@ -81,6 +94,7 @@ module _ (e : Setup) (rules : (L : List ℕ) → Rule e (run e L)) (L : List ℕ
     pub left : b.todo ≡ later acting.todo
     pub log : b.log ≡ acting.log ++ entry ∷ []
     pub tells : Tells e L me entry
+    pub none : (n : ℕ) → says_failed n entry ≡ true → blocks_of_name e n (run e turn) ≡ 0
 
   -- the scheduler is this one after the turn
   abbrev pub IsNow : Actor → Type 0
@@ -105,7 +119,8 @@ module _ (e : Setup) (rules : (L : List ℕ) → Rule e (run e L)) (L : List ℕ
   abbrev pub IsWanted : Actor → Ask → Type 0
   IsWanted b ask = Wanted e (run e L) shared me b ask
 
-  module _ (set : acting.instance.settings ≡ e.settings) (is : is_scheduler e me ≡ true) where
+  module _ (set : acting.instance.settings ≡ e.settings) (is : is_scheduler e me ≡ true)
+      (works : acting.stage ≢ Ended) where
     abbrev pub IsAfter : Actor → Type 0
     IsAfter b = b.instance ≡ (actor_after e turn me).instance
 
@@ -120,9 +135,31 @@ module _ (e : Setup) (rules : (L : List ℕ) → Rule e (run e L)) (L : List ℕ
           total-part (actor_sum f f) (run e turn).actors me (seats e) (scheduler-seat e me is),
         )
 
+    -- a name stands nowhere
+    abbrev pub IsAbsent : ℕ → Actor → Type 0
+    IsAbsent n b = IsFresh e (run e L) shared me n (at Begin b)
+
+    -- and still doesn't where the turn ends with an entry
+    absent-now : (n : ℕ) (x : Entry) (b : Actor) → IsAbsent n b → IsNow (logged x b)
+        → blocks_of_name e n (run e turn) ≡ 0
+    absent-now n x b none now =
+        let t = step-is e (run e L) me works in
+        let q : run e turn ≡ with_actor (run e L) shared me t.0 = run-snoc e L me ∙ t.1 in
+        let v : t.0 ≡ observed (logged x b) =
+        sym (put-here (run e L).actors me t.0 me refl)
+        ∙ sym (ap (λ (w : State). w.actors me) q) ∙ sym now in
+        omega (
+          arith,
+          none,
+          ap (allocated e (only n)) q,
+          allocated-with e (run e L) shared me is (only n) (at Begin b) t.0,
+          ap (blocks_of (only n)) v,
+        )
+
     pub logged-fine : (x : Entry) (b : Actor) → Keeps acting b → IsOfFirst acting.todo x
+        → ((n : ℕ) → says_failed n x ≡ true → IsAbsent n b)
         → (IsNow (logged x b) → Tells e L me x) → Fine (logged x b)
-    logged-fine x b k o t = (
+    logged-fine x b k o f t = (
       (λ q. absurd cc),
       k.2 ∙ set,
       λ now. (
@@ -133,6 +170,7 @@ module _ (e : Setup) (rules : (L : List ℕ) → Rule e (run e L)) (L : List ℕ
           left = ap later k.1;
           log = ap (λ l. l ++ x ∷ []) k.0;
           tells = t now;
+          none = λ n said. absent-now n x b (f n said) now;
         }),
       ),
     )
@@ -159,11 +197,21 @@ module _ (e : Setup) (rules : (L : List ℕ) → Rule e (run e L)) (L : List ℕ
     entry-tells (Moving o n p) Here h = placed n p h
     entry-tells (Moving o n p) (Queued to) h = placed n p h
 
+    -- an operation that releases a block didn't fail
+    task-made : (task : Task) (g : Gone) (b : Actor) (n : ℕ)
+        → says_failed n (entry_of task g) ≡ true → IsAbsent n b
+    task-made (Freeing m) Open b n q = absurd cc
+    task-made (Freeing m) Here b n q = absurd cc
+    task-made (Freeing m) (Queued to) b n q = absurd cc
+    task-made (Moving o m p) Open b n q = absurd cc
+    task-made (Moving o m p) Here b n q = absurd cc
+    task-made (Moving o m p) (Queued to) b n q = absurd cc
+
     pub carried-fine : (task : Task) (r : Option Route) (g : Gone) (b : Actor) → Keeps acting b
         → OfTask task acting.todo → (IsAfter b → Placing e turn me acting.log task)
         → Fine (carried (For task) (task_over task) (record { actor = b; route = r; gone = g }))
     carried-fine task None g b k o h = logged-fine (entry_of task g) b k
-        (task-first task g acting.todo o)
+        (task-first task g acting.todo o) (task-made task g b)
         (λ now. entry-tells task g (h (ap (λ (a : Actor). a.instance) now)))
     carried-fine task (Some r) g b k o h = (
       (λ q. absurd cc),
@@ -232,7 +280,7 @@ module _ (e : Setup) (rules : (L : List ℕ) → Rule e (run e L)) (L : List ℕ
             → Fine (stands e me ask.name place old (holding ask.name spot c))
         by None q h f =
             let b = holding ask.name spot c in
-            logged-fine (entry.Alloc ask.name place) b k f.1
+            logged-fine (entry.Alloc ask.name place) b k f.1 (λ n q. absurd cc)
             (λ now. placed ask.name place
             (here (landed ask.name place b has (ap (λ (a : Actor). a.instance) now))))
         by (Some h) q old f =
@@ -306,6 +354,13 @@ module _ (e : Setup) (rules : (L : List ℕ) → Rule e (run e L)) (L : List ℕ
             (Created b.instance p c (none small) refl)
             (made-wanted e (run e L) shared me is ask p b want) g
 
+    -- the name of an operation that fails stands nowhere
+    fail-absent : (ask : Ask) (looked : ℕ) (why : NoCarrier) (b : Actor) → IsWanted b ask
+        → (n : ℕ) → says_failed n (failed ask looked why ask.old) ≡ true → IsAbsent n b
+    fail-absent ask looked why b want n said = subst (λ m. IsAbsent m b)
+        (sym (eqb-true n ask.name (sym (failed-says n ask looked why ask.old) ∙ said)))
+        want.fresh
+
     -- no carrier can be created, or one is
     pub planned-fine : (ask : Ask) (looked : ℕ) (b : Actor) (o : Result CarrierPlan NoCarrier)
         → plan b.instance ask.need ≡ o → Keeps acting b → IsAsking ask
@@ -313,11 +368,12 @@ module _ (e : Setup) (rules : (L : List ℕ) → Rule e (run e L)) (L : List ℕ
         → IsNow (logged (failed ask looked why ask.old) b)
         → IsExhausted e L me (failed ask looked why ask.old) ask.need looked why)
         → (ask.need ≤ e.settings.sbct → chosen_spot b.instance ask.need ≡ None)
+        → IsWanted b ask
         → (migration e ≡ false → (p : CarrierPlan) → plan b.instance ask.need ≡ Ok p
         → Creates e (run e L) me ask.need b.instance p
-        × IsWanted b ask × IsGoing (with_carrier ask p b p.single))
+        × IsGoing (with_carrier ask p b p.single))
         → Fine (new_carrier_by e me ask looked b o)
-    planned-fine ask looked b (Err why) q k o x none f =
+    planned-fine ask looked b (Err why) q k o x none want f =
         by ask.old refl (outcomes ask looked why (record { carrier = 0; offset = 0; size = 0 })
         acting.todo o.0 ask.old refl)
       where
@@ -326,15 +382,17 @@ module _ (e : Setup) (rules : (L : List ℕ) → Rule e (run e L)) (L : List ℕ
             → Fine (logged (failed ask looked why ask.old) b)
         by None r f = logged-fine (failed ask looked why ask.old) b k
             (subst (λ o. IsOfFirst acting.todo (failed ask looked why o)) (sym r) f.0)
+            (fail-absent ask looked why b want)
             (λ now. subst (λ o. Tells e L me (failed ask looked why o)) (sym r)
             (subst (λ o. IsExhausted e L me (failed ask looked why o) ask.need looked why) r
             (x why q now)))
         by (Some h) r f = logged-fine (failed ask looked why ask.old) b k
             (subst (λ o. IsOfFirst acting.todo (failed ask looked why o)) (sym r) f.0)
+            (fail-absent ask looked why b want)
             (λ now. subst (λ o. Tells e L me (failed ask looked why o)) (sym r)
             (subst (λ o. IsExhausted e L me (failed ask looked why o) ask.need looked why) r
             (x why q now)))
-    planned-fine ask looked b (Ok p) q k o x none f = by (migration e) refl
+    planned-fine ask looked b (Ok p) q k o x none want f = by (migration e) refl
       where
         by : (on : Bool) → migration e ≡ on → Fine (making e me ask p b on)
         by true m = (
@@ -352,7 +410,7 @@ module _ (e : Setup) (rules : (L : List ℕ) → Rule e (run e L)) (L : List ℕ
           ),
         )
         by false m =
-            let c = f m p q in created-fine ask p b k o q c.0 none c.1 c.2
+            let c = f m p q in created-fine ask p b k o q c.0 none want c.1
 
     -- the fail of an operation that is under way
     pub fails : (ask : Ask) (looked : ℕ) (why : NoCarrier) (b : Actor) (before since : List ℕ)
@@ -376,11 +434,11 @@ module _ (e : Setup) (rules : (L : List ℕ) → Rule e (run e L)) (L : List ℕ
     -- the search goes on, or no number or no word is left
     pub search-fine : (ask : Ask) (at looked : ℕ) (b : Actor) → Keeps acting b
         → IsAsking ask → migration e ≡ true → ask.need ≤ e.settings.sbct
-        → looked ≤ SEARCH_LIMIT
+        → looked ≤ SEARCH_LIMIT → IsWanted b ask
         → Underway e turn me ask.need (λ c. IsSame c b)
         (Searched ask.need (greatest_number e) 0 at looked)
         → Fine (search_at e me ask at looked b)
-    search-fine ask at looked b k o on small most u =
+    search-fine ask at looked b k o on small most want u =
         by (nat_lt 0 at && nat_lt looked SEARCH_LIMIT) refl
       where
         none : chosen_spot b.instance ask.need ≡ None
@@ -414,4 +472,4 @@ module _ (e : Setup) (rules : (L : List ℕ) → Rule e (run e L)) (L : List ℕ
               steps = u.steps;
               refused = ap (λ i. plan i ask.need) (sym u.same.2) ∙ r;
             }))
-            (λ s. none) (λ off p r. absurd (let no : true ≡ false = sym on ∙ off in cc))
+            (λ s. none) want (λ off p r. absurd (let no : true ≡ false = sym on ∙ off in cc))

@@ -51,7 +51,8 @@ module _ (e : Setup) (rules : (L : List ℕ) → Rule e (run e L)) (L : List ℕ
   abbrev Fine : Actor → Type 0
   Fine = IsFine e rules L me
 
-  module _ (set : acting.instance.settings ≡ e.settings) (is : is_scheduler e me ≡ true) where
+  module _ (set : acting.instance.settings ≡ e.settings) (is : is_scheduler e me ≡ true)
+      (works : acting.stage ≢ Ended) where
     abbrev s : Shared
     s = shared e rules L me
 
@@ -81,7 +82,7 @@ module _ (e : Setup) (rules : (L : List ℕ) → Rule e (run e L)) (L : List ℕ
     -- a walk, then perhaps the operation
     walk-fine : (st : Stage) → mid.stage ≡ st → IsInBegin st → Keeps acting mid
         → acting.stage ≢ Ended → Fine (onward_at e me mid st)
-    walk-fine Ready q w k ne = itself-fine e rules L me set is q k
+    walk-fine Ready q w k ne = itself-fine e rules L me set is works q k
         (begun-kept e (run e L) s me is acting (answered (run e L) me) acting.stage
         (left acting.stage (answered (run e L) me) refl ne refl) q) mid.todo refl
     walk-fine Begin q w k ne = rests-fine mid Begin q (λ r. absurd cc) tt k
@@ -122,8 +123,9 @@ module _ (e : Setup) (rules : (L : List ℕ) → Rule e (run e L)) (L : List ℕ
 
     searched-fine : (ask : Ask) (at looked : ℕ) (r : Answer)
         → acting.stage ≡ Searching ask at looked → answered (run e L) me ≡ r
-        → Searches e L me acting ask at looked → Fine (searched e me ask at looked acting r)
-    searched-fine ask at looked (Saw v) st ans h = by (fits ask.need v) refl
+        → LeftAt (Searching ask at looked) r → Searches e L me acting ask at looked
+        → Fine (searched e me ask at looked acting r)
+    searched-fine ask at looked (Saw v) st ans l h = by (fits ask.need v) refl
       where
         by : (t : Bool) → fits ask.need v ≡ t
             → Fine (saw_by e me ask at (counted v looked) acting v t)
@@ -146,29 +148,29 @@ module _ (e : Setup) (rules : (L : List ℕ) → Rule e (run e L)) (L : List ℕ
             inl (refl, refl),
           ),
         )
-        by false t = search-fine e rules L me set is ask (at - 1) (counted v looked) acting
+        by false t = search-fine e rules L me set is works ask (at - 1) (counted v looked) acting
             (keeps-same acting) (asking ask _ h.of h.way) h.on h.small
-            (counted-most looked SEARCH_LIMIT v h.room)
+            (counted-most looked SEARCH_LIMIT v h.room) l.0
             (turn-of ask.need (Searching ask at looked) (Saw v) (Shown at v) IsStill _
             (Searched ask.need (greatest_number e) 0 (at - 1) (counted v looked)) st ans refl
             (λ xs p. searched-on ask.need (greatest_number e) 0 at looked (at - 1)
             (counted v looked) xs (Shown at v ∷ []) p
             (searched-look ask.need at looked v h.low h.room t)) h.way)
-    searched-fine ask at looked Done st ans h = halted-fine
-    searched-fine ask at looked (Head x) st ans h = halted-fine
-    searched-fine ask at looked Rests st ans h = halted-fine
-    searched-fine ask at looked (Passes x) st ans h = halted-fine
-    searched-fine ask at looked (Won x) st ans h = halted-fine
-    searched-fine ask at looked (Lost x) st ans h = halted-fine
-    searched-fine ask at looked (Home x) st ans h = halted-fine
-    searched-fine ask at looked (Got x) st ans h = halted-fine
+    searched-fine ask at looked Done st ans l h = halted-fine
+    searched-fine ask at looked (Head x) st ans l h = halted-fine
+    searched-fine ask at looked Rests st ans l h = halted-fine
+    searched-fine ask at looked (Passes x) st ans l h = halted-fine
+    searched-fine ask at looked (Won x) st ans l h = halted-fine
+    searched-fine ask at looked (Lost x) st ans l h = halted-fine
+    searched-fine ask at looked (Home x) st ans l h = halted-fine
+    searched-fine ask at looked (Got x) st ans l h = halted-fine
 
     fetched-fine : (ask : Ask) (at looked : ℕ) (seen : OwnerWord) (r : Answer)
         → acting.stage ≡ Fetching ask at looked seen → answered (run e L) me ≡ r
         → LeftAt (Fetching ask at looked seen) r → Fetches e L me acting ask at looked seen
         → Fine (fetched e me ask at looked acting r)
     fetched-fine ask at looked seen (Won x) st ans l h =
-        choice-fine e rules L me set is ask
+        choice-fine e rules L me set is works ask
         (record acting { instance = employing acting.instance x })
         (chosen_spot (employing acting.instance x) ask.need) refl (refl, refl, refl)
         (asking ask _ h.of h.way) h.small
@@ -176,9 +178,9 @@ module _ (e : Setup) (rules : (L : List ℕ) → Rule e (run e L)) (L : List ℕ
         (ap (λ i. chosen_spot i ask.need) h.way.same.2 ∙ h.way.none) ans refl) l.0 l.2
     fetched-fine ask at looked seen (Lost u) st ans l h =
         subst (λ k. Fine (search_at e me ask (at - 1) k acting)) (sym h.counts)
-        (search-fine e rules L me set is ask (at - 1) (counted seen h.old) acting
+        (search-fine e rules L me set is works ask (at - 1) (counted seen h.old) acting
         (keeps-same acting) (asking ask _ h.of h.way) h.on h.small
-        (counted-most h.old SEARCH_LIMIT seen h.room)
+        (counted-most h.old SEARCH_LIMIT seen h.room) l.0
         (turn-of ask.need (Fetching ask at looked seen) (Lost u) (Missed at u) IsStill _
         (Searched ask.need (greatest_number e) 0 (at - 1) (counted seen h.old)) st ans refl
         (λ xs p. subst (Searched ask.need (greatest_number e) 0 (at - 1) (counted seen h.old))
@@ -201,16 +203,17 @@ module _ (e : Setup) (rules : (L : List ℕ) → Rule e (run e L)) (L : List ℕ
     absent-fine : (n tries : ℕ) (ops : List Op) → acting.todo ≡ op.Take n tries ∷ ops
         → Fine (logged (entry.TakeAbsent n tries) acting)
     absent-fine n tries ops q =
-        logged-fine e rules L me set is (entry.TakeAbsent n tries) acting (keeps-same acting)
+        logged-fine e rules L me set is works (entry.TakeAbsent n tries) acting (keeps-same acting)
         (record { first = op.Take n tries; others = ops; is = q; makes = (refl, refl) })
-        (λ now. tt)
+        (λ n q. absurd cc) (λ now. tt)
 
     took-fine : (n tries left : ℕ) (r : Answer) (ops : List Op)
         → acting.todo ≡ op.Take n tries ∷ ops → Fine (took n tries left acting r)
     took-fine n tries left (Got (Some spot)) ops q =
-        logged-fine e rules L me set is (entry.Take n) (holding n spot acting) (refl, refl, refl)
+        logged-fine e rules L me set is works (entry.Take n) (holding n spot acting)
+        (refl, refl, refl)
         (record { first = op.Take n tries; others = ops; is = q; makes = refl })
-        (λ now. tt)
+        (λ n q. absurd cc) (λ now. tt)
     took-fine n tries zero (Got None) ops q = absent-fine n tries ops q
     took-fine n tries (suc zero) (Got None) ops q = absent-fine n tries ops q
     took-fine n tries (suc (suc left)) (Got None) ops q =
@@ -251,24 +254,25 @@ module _ (e : Setup) (rules : (L : List ℕ) → Rule e (run e L)) (L : List ℕ
         inl (walks e me acting (Collecting c) (answered (run e L) me) tt ne (λ r. absurd (cc)))
     row-fine (Routed r (For task) g) q h ne =
         let t = turned e me r g acting (answered (run e L) me) in
-        inr (carried-fine e rules L me set is task t.route t.gone t.actor
+        inr (carried-fine e rules L me set is works task t.route t.gone t.actor
         (turned-keeps e me r g acting (answered (run e L) me)) h.0
         (λ now. placing-longer e L me me acting.log task h.1))
     row-fine (Searching ask at looked) q h ne =
-        inr (searched-fine ask at looked (answered (run e L) me) q refl h)
+        inr (searched-fine ask at looked (answered (run e L) me) q refl
+        (left (Searching ask at looked) (answered (run e L) me) q (λ r. ne (sym q ∙ r)) refl) h)
     row-fine (Fetching ask at looked seen) q h ne =
         inr (fetched-fine ask at looked seen (answered (run e L) me) q refl
         (left (Fetching ask at looked seen) (answered (run e L) me) q (λ r. ne (sym q ∙ r)) refl) h)
     row-fine (Creating ask p) q h ne =
         let l = left (Creating ask p) (answered (run e L) me) q (λ r. ne (sym q ∙ r)) refl in
-        inr (created-fine e rules L me set is ask p acting (keeps-same acting)
+        inr (created-fine e rules L me set is works ask p acting (keeps-same acting)
         (h.of, asked-longer e L me me ask.need acting.log h.asked) h.planned
         (ByItself h.on ask q refl refl h.planned) h.none l.0 l.2)
     row-fine (Giving g to) q h ne =
-        inr (logged-fine e rules L me set is (entry.Give g.name to) (let_go g.name acting)
+        inr (logged-fine e rules L me set is works (entry.Give g.name to) (let_go g.name acting)
         (refl, refl, refl)
         (record { first = op.Give g.name to; others = h.0; is = h.1; makes = (refl, refl) })
-        (λ now. tt))
+        (λ n q. absurd cc) (λ now. tt))
     row-fine (Taking n tries left) q h ne =
         inr (took-fine n tries left (answered (run e L) me) h.0 h.1)
     row-fine Ended q h ne = absurd (ne refl)

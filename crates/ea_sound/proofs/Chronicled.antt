@@ -72,6 +72,7 @@ module _ (e : Setup) (rules : (L : List ℕ) → Rule e (run e L)) where
     left = m.left;
     log = m.log;
     tells = m.tells;
+    none = m.none;
   })
 
   my-turn : (L : List ℕ) (s : ℕ) → Holds L s (actor_after e L s)
@@ -87,13 +88,14 @@ module _ (e : Setup) (rules : (L : List ℕ) → Rule e (run e L)) where
             let now : actor_after e (L ++ s ∷ []) s ≡ observed (onward e s (begun e L s)) =
             ap (λ (w : State). w.actors s) (run-snoc e L s) ∙ step-mine e (run e L) s ne in
             let is = working-scheduler e (run e L) (rules L).kept s ne in
-            let f = turn-fine e rules L s h.1 is h.0 ne in
+            let f = turn-fine e rules L s h.1 is ne h.0 ne in
             let t = f.2 (sym now) in
             subst (MyTurn L s) (sym now)
             ((t.0, f.1), observed-one L s (onward e s (begun e L s)) t.1)
       ]
 
-  other-turn : (L : List ℕ) (s j : ℕ) → j ≢ s → actor_after e (L ++ j ∷ []) s ≡ actor_after e L s
+  pub other-turn : (L : List ℕ) (s j : ℕ) → j ≢ s
+      → actor_after e (L ++ j ∷ []) s ≡ actor_after e L s
   other-turn L s j ne = ap (λ (w : State). w.actors s) (run-snoc e L j)
       ∙ step-other e (run e L) j s (λ q. ne (sym q))
 
@@ -119,7 +121,7 @@ module _ (e : Setup) (rules : (L : List ℕ) → Rule e (run e L)) where
   so_far = by-turns (λ L. (s : ℕ) → Holds L s (actor_after e L s)) next-so_far started
 
   -- a turn of a scheduler leaves its log, or makes one entry that tells
-  turn-told : (L : List ℕ) (s : ℕ) → Stays e rules L s (actor_after e (L ++ s ∷ []) s)
+  pub turn-told : (L : List ℕ) (s : ℕ) → Stays e rules L s (actor_after e (L ++ s ∷ []) s)
       ⊎ OneMore e rules L s (actor_after e (L ++ s ∷ []) s)
   turn-told L s = (my-turn L s (so_far L s)).1
 
@@ -182,4 +184,4 @@ module _ (e : Setup) (rules : (L : List ℕ) → Rule e (run e L)) where
       let h = so_far L s in
       let ne = begun-going e L s b in
       let is = working-scheduler e (run e L) (rules L).kept s ne in
-      (begun-keeps e rules L s h.1 is h.0 ne b).2 ∙ h.1
+      (begun-keeps e rules L s h.1 is ne h.0 ne b).2 ∙ h.1

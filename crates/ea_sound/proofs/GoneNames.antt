@@ -2,7 +2,7 @@
 use Rattle.std.proofs.Common.{◌≡◌, ℕ, zero, suc, ◌+◌, ◌<◌, ◌≤◌, List, [], ◌∷◌, ◌++◌, Bool, true, false, refl, sym, ap, ◌∙◌, subst, inl, inr, arith}
 use Rattle.std.specs.Prelude.{◌||◌}
 use Rattle.std.specs.List.{AllZip, list_any}
-use Rattle.std.proofs.lemmas.Bool.{cases_Bool}
+use Rattle.std.proofs.lemmas.Bool.{cases_Bool, cases_eq}
 use Rattle.std.proofs.lemmas.List.{append_assoc}
 use Rattle.std.proofs.lemmas.List.Folds.{list_any-append}
 use Rattle.ea_model.specs.declared.entries.Entry.{Entry}
@@ -14,17 +14,17 @@ use Rattle.ea_machine.specs.Contents.{seats}
 use Rattle.ea_machine.specs.Entries.{LogsEach, Makes}
 use Rattle.ea_machine.specs.Machine.{first_stage, run}
 use Rattle.ea_machine.specs.Names.{made_in, to_make, unplaced}
-use Rattle.ea_machine.specs.Released.{IsGone, ReleasesOnce, StaysGone, blocks_named, says_failed, says_made}
+use Rattle.ea_machine.specs.Released.{FailedHaveNone, IsGone, ReleasesOnce, StaysGone, blocks_named, says_failed, says_made}
 use Rattle.ea_machine.specs.Setup.{Setup, is_scheduler}
 use Rattle.ea_machine.specs.Sums.{one_if, total}
 use Rattle.ea_sound.specs.Present.{Fits, Rule}
-use Rattle.ea_sound.proofs.Chronicled.{enters-one}
+use Rattle.ea_sound.proofs.Chronicled.{enters-one, other-turn, turn-told}
 use Rattle.ea_sound.proofs.Fading.{make-fades, stays-gone}
 use Rattle.ea_sound.proofs.FewBlocks.{all_of}
 use Rattle.ea_sound.proofs.Numbered.{scheduler-seat}
 use Rattle.ea_sound.proofs.StillMoves.{todo-later}
 use Rattle.ea_sound.proofs.Totals.{total-part}
-use Rattle.ea_sound.proofs.TurnLists.{on-from, run-snoc}
+use Rattle.ea_sound.proofs.TurnLists.{by-turns, on-from, run-snoc}
 use Rattle.ea_sound.proofs.Weights.{sum-append}
 
 -- an entry that says that a name was made, or that it wasn't, is of an operation that makes it
@@ -182,3 +182,49 @@ module _ (e : Setup) (rules : (L : List ℕ) → Rule e (run e L)) where
     (λ gone. goes-on n (says_made n) (made-makes n) L gone M),
     λ gone. goes-on n (says_failed n) (failed-makes n) L gone M,
   )
+
+  -- a name that failed has no block
+  abbrev HasNone : List ℕ → ℕ → ℕ → Type 0
+  HasNone L n i = list_any (says_failed n) (log_after e L i) ≡ true
+      → blocks_named e n (run e L) ≡ 0
+
+  -- where an entry said so before
+  none-later : (L : List ℕ) (j n i : ℕ) → HasNone L n i
+      → list_any (says_failed n) (log_after e L i) ≡ true
+      → blocks_named e n (run e (L ++ j ∷ [])) ≡ 0
+  none-later L j n i none said =
+      ((names-stay_gone n L (j ∷ [])).1
+      (record { scheduler = i; said = said; none = none said })).none
+
+  none-next : (L : List ℕ) (j n i : ℕ) → HasNone L n i → HasNone (L ++ j ∷ []) n i
+  none-next L j n i none said =
+      elim (cases_eq j i) [
+        | inr ne ↦ none-later L j n i none
+            (ap (λ (a : Actor). list_any (says_failed n) a.log)
+            (sym (other-turn e rules L i j ne)) ∙ said)
+        | inl q ↦ elim (turn-told e rules L j) [
+          | inl same ↦ none-later L j n i none
+              (ap (list_any (says_failed n)) (sym (subst (λ k. log_after e (L ++ j ∷ []) k
+              ≡ log_after e L k) q same.0)) ∙ said)
+          | inr m ↦ by m.entry (m.none n)
+              (subst (λ k. log_after e (L ++ j ∷ []) k ≡ log_after e L k ++ m.entry ∷ []) q m.log)
+              (list_any (says_failed n) (log_after e L i)) refl
+        ]
+      ] where
+        by : (x : Entry)
+            → (says_failed n x ≡ true → blocks_named e n (run e (L ++ j ∷ [])) ≡ 0)
+            → log_after e (L ++ j ∷ []) i ≡ log_after e L i ++ x ∷ []
+            → (b : Bool) → list_any (says_failed n) (log_after e L i) ≡ b
+            → blocks_named e n (run e (L ++ j ∷ [])) ≡ 0
+        by x now log true before = none-later L j n i none before
+        by x now log false before = now (last (says_failed n x)
+            (sym (list_any-append (says_failed n) (log_after e L i) (x ∷ [])
+            ∙ ap (λ b. b || list_any (says_failed n) (x ∷ [])) before)
+            ∙ ap (list_any (says_failed n)) (sym log) ∙ said)) where
+              last : (b : Bool) → (false || (b || false)) ≡ true → b ≡ true
+              last true q = refl
+              last false q = absurd cc
+
+  pub failed-none : (L : List ℕ) → FailedHaveNone e (run e L)
+  failed-none = by-turns (λ L. FailedHaveNone e (run e L))
+      (λ L j none n i. none-next L j n i (none n i)) (λ n i said. absurd cc)

@@ -40,7 +40,8 @@ module _ (e : Setup) (me : ℕ) (i : Instance) (has : EmploysMain e me i) where
   f = main_count me
 
   -- carriers that change keep their numbers and kinds
-  changed-same : (g : Content → Content) (n : ℕ) → ((x : Content) → main_count me (g x) ≡ main_count me x)
+  changed-same : (g : Content → Content) (n : ℕ)
+      → ((x : Content) → main_count me (g x) ≡ main_count me x)
       → (xs : List Content) → sum_over f (changed_at number_of g n xs) ≡ sum_over f xs
   changed-same g n same [] = refl
   changed-same g n same (x ∷ xs) = elim (cases_eq x.number n) [
@@ -72,7 +73,8 @@ module _ (e : Setup) (me : ℕ) (i : Instance) (has : EmploysMain e me i) where
     changed-same (λ x. released x spot.offset) spot.carrier (λ x. refl) i.singles,
   )
 
-  pub resizing-main : (spot : Spot) (need name : ℕ) → EmploysMain e me (resizing_at i spot need name)
+  pub resizing-main : (spot : Spot) (need name : ℕ)
+      → EmploysMain e me (resizing_at i spot need name)
   resizing-main spot need name =
       by (decision_at i spot need) (resized_to i spot need) where
         in_place : (size : ℕ) → EmploysMain e me (resized_in i spot size name)

@@ -13,7 +13,7 @@ use Rattle.ea_sound.proofs.Chronicled.{enters-one, logs-each, skips-unheld}
 use Rattle.ea_sound.proofs.Completing.{rule-ends_all}
 use Rattle.ea_sound.proofs.FetchedFits.{rule-FetchesFit}
 use Rattle.ea_sound.proofs.Failing.{fails-if_exhausted}
-use Rattle.ea_sound.proofs.GoneNames.{names-stay_gone, releases-once}
+use Rattle.ea_sound.proofs.GoneNames.{failed-none, names-stay_gone, releases-once}
 use Rattle.ea_sound.proofs.Guarding.{is-guarded}
 use Rattle.ea_sound.proofs.Hearing.{hears-no_other}
 use Rattle.ea_sound.proofs.KeptPlaces.{keeps-places}
@@ -53,6 +53,7 @@ module _ (c : Config) (t : Trace) (valid : IsValidConfig c)
     fails = fails-if_exhausted e rule-run;
     skips = skips-unheld e;
     once = releases-once e rule-run;
+    failed = failed-none e rule-run;
     gone = names-stay_gone e rule-run;
     places = keeps-places e rule-run;
     ends = rule-ends_all e rule-run;

@@ -1,7 +1,7 @@
 -- Lists of turns, and what a step leaves alone.
 use Rattle.std.proofs.Common.{◌≡◌, ◌≢◌, ◌⊎◌, ℕ, List, [], ◌∷◌, ◌++◌, refl, sym, ap, ◌∙◌, subst, inl, inr}
 use Rattle.std.proofs.lemmas.List.{append_assoc, append-nil}
-use Rattle.ea_machine.specs.Actor.{Stage, Begin, Routed, Collecting, Searching, Fetching, Creating, Giving, Taking, Ended, Ready}
+use Rattle.ea_machine.specs.Actor.{Actor, Stage, Begin, Routed, Collecting, Searching, Fetching, Creating, Giving, Taking, Ended, Ready}
 use Rattle.ea_machine.specs.Machine.{after, after_row, onward, run, run_on, start, step, step_at, wants_at}
 use Rattle.ea_machine.specs.Releases.{looked}
 use Rattle.ea_machine.specs.Setup.{Setup}
@@ -9,6 +9,7 @@ use Rattle.ea_machine.specs.State.{State}
 use Rattle.ea_machine.specs.Statistics.{observed}
 use Rattle.ea_machine.specs.Table.{answer, effect}
 use Rattle.ea_machine.specs.Turns.{advanced}
+use Rattle.ea_sound.specs.Moments.{with_actor}
 use Rattle.ea_sound.proofs.Totals.{put-here, put-other}
 
 -- runs of lists
@@ -111,6 +112,25 @@ module _ (e : Setup) (w : State) (s : ℕ) where
   shared-at (Giving h to) ne = refl
   shared-at (Taking n tries left) ne = refl
   shared-at Ready ne = refl
+
+  -- the state then, with the scheduler as it is
+  is-at : (st : Stage) → st ≢ Ended → (a : Actor) × (step_at e w s st
+      ≡ with_actor w (effect s (wants_at (w.actors s).next st) w.shared) s a)
+  unfolding step_at
+  is-at Ended ne = absurd (ne refl)
+  is-at Begin ne = (_, refl)
+  is-at (Routed r y g) ne = (_, refl)
+  is-at (Collecting c) ne = (_, refl)
+  is-at (Searching ask at looked) ne = (_, refl)
+  is-at (Fetching ask at looked seen) ne = (_, refl)
+  is-at (Creating ask p) ne = (_, refl)
+  is-at (Giving h to) ne = (_, refl)
+  is-at (Taking n tries left) ne = (_, refl)
+  is-at Ready ne = (_, refl)
+
+  pub step-is : (w.actors s).stage ≢ Ended → (a : Actor) × (step e w s
+      ≡ with_actor w (effect s (wants_at (w.actors s).next (w.actors s).stage) w.shared) s a)
+  step-is ne = is-at (w.actors s).stage ne
 
   pub step-shared : (w.actors s).stage ≢ Ended
       → (step e w s).shared ≡ effect s (wants_at (w.actors s).next (w.actors s).stage) w.shared
