@@ -5,7 +5,7 @@ use Rattle.ea_model.specs.declared.settings.Config.{Config}
 use Rattle.ea_model.specs.declared.trace.Trace.{Trace}
 use Rattle.ea_model.specs.Settings.{IsValidConfig}
 use Rattle.ea_model.specs.Trace.{IsValidTrace}
-use Rattle.ea_model.proofs.Options.{if_some}
+use Rattle.ea_model.proofs.Options.{if_some, some_value}
 use Rattle.ea_machine.specs.Actor.{Actor, Begin, Ended}
 use Rattle.ea_machine.specs.Machine.{after, after_row, onward, step, wants, wants_at}
 use Rattle.ea_machine.specs.declared.nodes.Node.{Node}
@@ -32,6 +32,12 @@ same-told : {A : Type 0} (o : Option A) (x : A) → IfSome o (λ y. y ≡ x)
     → IfSome o (λ y. (y ≡ x) × (o ≡ Some x))
 same-told None x same = tt
 same-told (Some y) x same = (same, ap Some same)
+
+-- something is told
+pub none-told : (shared : Option Shared) (caller : Option Caller) → shared ≡ None → caller ≡ None
+    → IsSome shared ⊎ IsSome caller → ⊥
+none-told shared caller unshared uncalled (inl is) = let some = (some_value shared is).1 in cc
+none-told shared caller unshared uncalled (inr is) = let some = (some_value caller is).1 in cc
 
 module _ {A B : Type 0} where
   -- what is told after a step, by whether anything was told before
@@ -118,10 +124,7 @@ module _ (c : Config) (t : Trace) (me : ℕ) (a : Actor) where
           calls = told (Some x) now h.calls did.caller;
           calls_untold = did.caller_untold;
         }
-    stepped None new None now h did = absurd (elim h.told [
-      | inl q ↦ let no : false ≡ true = q in cc
-      | inr q ↦ let no : false ≡ true = q in cc
-    ])
+    stepped None new None now h did = absurd (none-told None None refl refl h.told)
 
   -- where an operation begins, and where all are done
   module _ (shared : Option Shared) (caller : Option Caller)
