@@ -2,6 +2,7 @@
 use Rattle.std.specs.Prelude.{◌≡◌, Bool, true, false, [], None, drop}
 use Rattle.ea_machine.specs.Setup.{Setup, setup_of}
 use Rattle.ea_machine.specs.Actor as actor
+use Rattle.ea_machine.specs.Walks.{ready}
 use Rattle.ea_sched.specs.declared.stage.Stage.{Stage}
 use Rattle.ea_sched.specs.declared.stage.Stage.TheVariants.{Begin, Ended}
 use Rattle.ea_sched.specs.declared.state.Scheduler.{Scheduler}
@@ -31,6 +32,10 @@ actor_of s = record {
   sbcs = s.sbcs;
   log = s.log.items;
 }
+
+-- the scheduler once the begin of its operation is over
+abbrev pub ready_of : Scheduler → actor.Actor
+ready_of s = ready (actor_of s)
 
 -- it is the same scheduler, in the same run
 pub record IsSame (s t : Scheduler) : Type 0 where

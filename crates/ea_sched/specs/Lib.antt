@@ -4,3 +4,4 @@ pub mod Built
 pub mod Releasing
 pub mod Acting
 pub mod Steps
+pub mod Asking

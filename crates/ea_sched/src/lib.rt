@@ -3,6 +3,9 @@
 
 mod built;
 mod names;
+mod operations;
+mod placements;
+mod releases;
 mod scheduler;
 mod stage;
 mod state;

@@ -1,0 +1,133 @@
+//! The operations themselves, once their begin is over.
+ghost use Rattle.std.specs.Prelude.{◌≡◌, ◌≢◌, ◌≤◌, ◌+◌, ◌%◌, ◌∷◌, Some, OnOk, drop};
+ghost use Rattle.ea_model.specs.declared.reallocation.Decision.TheVariants.{Move};
+ghost use Rattle.ea_model.specs.declared.carriers.BlockAt.{BlockAt};
+ghost use Rattle.ea_model.specs.declared.units.TheConstants.{MAX_BYTES};
+ghost use Rattle.ea_model.specs.Instance.{block_in, decision_at, employed, resized_to, resizing_at};
+ghost use Rattle.ea_model.specs.Units.{need_of};
+ghost use Rattle.ea_machine.specs.Nodes as nodes;
+ghost use Rattle.ea_machine.specs.Operations as operations;
+ghost use Rattle.ea_machine.specs.Reallocations as reallocations;
+ghost use Rattle.ea_machine.specs.Statistics as statistics;
+ghost use Rattle.ea_machine.specs.Tasks as tasks;
+ghost use Rattle.ea_sched.specs.Acting.{IsSame, actor_of, ready_of, setup_for};
+ghost use Rattle.ea_sched.specs.Asking.{HasMore, HasName, IsFresh, IsHere, Suits};
+
+use crate::stage::Stage;
+use crate::state::Scheduler;
+use ea_machine::{Ask, Named};
+use ea_model::{Decision, Entry, Op, OutOfMemory, Place, need};
+use std::alloc::Global;
+
+impl<'t> Scheduler<'t> {
+    /// Reallocates the block of a name that is held.
+    fn reallocate(
+        &mut self,
+        alloc: Global,
+        old: Named,
+        fresh: u32,
+        need: u32,
+    ) -> Result<(), OutOfMemory>
+        requires more { HasMore self.old }
+        requires here { IsHere self.old old }
+        requires held { nodes.named_at old.name self.old.names.held ≡ Some old }
+        requires fresh { IsFresh self.old fresh }
+        requires even { need % 2 ≡ 0 }
+        requires least { 6 ≤ need }
+        ensures actor { OnOk result (actor_of self.new ≡ reallocations.reallocated_by
+            (setup_for self.old) self.old.number old fresh need (ready_of self.old)
+            (decision_at self.old.instance old.spot need)) }
+        ensures same { IsSame self.old self.new }
+    {
+        if self.instance.resize(old.spot, need, fresh)? == Decision::Move {
+            let ask = Ask {
+                name: fresh,
+                need,
+                old: Some(old),
+            };
+            return self.seek(alloc, ask);
+        }
+        let Some(block) = self.instance.block_at(old.spot) else {
+            unreachable!()
+        };
+        self.names.let_go(old.name);
+        self.names.hold(fresh, old.spot);
+        let place = Place {
+            carrier: old.spot.carrier,
+            offset: old.spot.offset,
+            size: block.size,
+        };
+        self.finish(Entry::ReallocHere {
+            old: old.name,
+            fresh,
+            place,
+        });
+        Ok(())
+    }
+
+    /// Reallocates the block of a name; one that isn't held is skipped.
+    fn realloc(
+        &mut self,
+        alloc: Global,
+        old: u32,
+        fresh: u32,
+        bytes: u32,
+    ) -> Result<(), OutOfMemory>
+        requires more { HasMore self.old }
+        requires old { HasName self.old old }
+        requires fresh { IsFresh self.old fresh }
+        requires bytes { bytes ≤ MAX_BYTES }
+        ensures actor { OnOk result (actor_of self.new ≡ reallocations.reallocated
+            (setup_for self.old) self.old.number old fresh (need_of bytes) (ready_of self.old)
+            (nodes.named_at old self.old.names.held)) }
+        ensures same { IsSame self.old self.new }
+    {
+        match self.names.spot_of(old) {
+            Some(spot) => self.reallocate(alloc, Named { name: old, spot }, fresh, need(bytes)),
+            None => {
+                self.finish(Entry::ReallocSkipped { old, fresh });
+                Ok(())
+            }
+        }
+    }
+
+    /// Reports the allocator information.
+    fn inform(&mut self)
+        requires { HasMore self.old }
+        ensures actor { actor_of self.new ≡ statistics.informed (ready_of self.old) }
+        ensures same { IsSame self.old self.new }
+    {
+        let mbcs = self.mbcs.report(self.instance.multi_figures());
+        let sbcs = self.sbcs.report(self.instance.single_figures());
+        self.finish(Entry::Info { mbcs, sbcs });
+    }
+
+    /// Does an operation, once its begin is over.
+    fn operate(&mut self, alloc: Global, op: Op) -> Result<(), OutOfMemory>
+        requires more { HasMore self.old }
+        requires fits { Suits self.old op }
+        ensures actor { OnOk result (actor_of self.new ≡ operations.itself
+            (setup_for self.old) self.old.number (ready_of self.old)
+            (op ∷ drop (self.old.done + 1) self.old.text.now)) }
+        ensures same { IsSame self.old self.new }
+    {
+        match op {
+            Op::Alloc { name, bytes } => {
+                let need = need(bytes);
+                let old = None;
+                self.seek(alloc, Ask { name, need, old })
+            }
+            Op::Free { name } => self.free(name),
+            Op::Realloc { old, fresh, bytes } => self.realloc(alloc, old, fresh, bytes),
+            Op::Info => {
+                self.inform();
+                Ok(())
+            }
+            Op::Idle => {
+                self.finish(Entry::Idle);
+                Ok(())
+            }
+            Op::Give { .. } | Op::Take { .. } => unreachable!(),
+        }
+    }
+}
