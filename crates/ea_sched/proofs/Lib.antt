@@ -1,5 +1,6 @@
 pub mod Alone
 pub mod Doing
+pub mod Acts
 pub mod Freed
 pub mod NamesTable
 pub mod Paths

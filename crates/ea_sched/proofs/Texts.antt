@@ -1,5 +1,5 @@
 -- The texts of a trace whose run is built.
-use Rattle.std.proofs.Common.{◌≡◌, ℕ, zero, suc, ◌+◌, ◌-◌, ◌<◌, ◌≤◌, Bool, true, false, ◌&&◌, List, [], ◌∷◌, map, length, slice_index_or, refl, sym, ap, ◌∙◌, arith}
+use Rattle.std.proofs.Common.{◌≡◌, ℕ, zero, suc, ◌+◌, ◌-◌, ◌<◌, ◌≤◌, Bool, true, false, ◌&&◌, ◌==◌, nat_lt, eqb-eq, List, [], ◌∷◌, map, drop, length, slice_index_or, refl, sym, ap, ◌∙◌, arith}
 use Rattle.std.specs.List.{list_all}
 use Rattle.ea_model.specs.declared.operations.Op.{Op}
 use Rattle.ea_model.specs.declared.settings.Config.{Config}
@@ -7,9 +7,11 @@ use Rattle.ea_model.specs.declared.trace.Mode.{Mode}
 use Rattle.ea_model.specs.declared.trace.Mode.TheVariants.{Threads, Schedule, Generated}
 use Rattle.ea_model.specs.declared.trace.Trace.{Trace}
 use Rattle.ea_model.specs.Lists.{Items}
+use Rattle.ea_model.specs.Settings.{settings_of}
 use Rattle.ea_model.specs.Trace.{HasTexts, IsValidTrace, texts_of}
-use Rattle.ea_machine.specs.Setup.{text_for}
-use Rattle.ea_sched.specs.Built.{is_built, is_built_mode, is_built_run}
+use Rattle.ea_machine.specs.Setup.{migration, setup_of, text_for}
+use Rattle.ea_machine.specs.Tasks.{later}
+use Rattle.ea_sched.specs.Built.{is_built, is_built_config, is_built_mode, is_built_run}
 
 if_last : (b : Bool) → (b && false) ≡ false
 if_last true = refl
@@ -64,3 +66,31 @@ pub text-is : (texts : List (Items Op)) (number : ℕ) (text : Items Op) → 1 �
 text-is texts zero text from to e = absurd (omega (arith, from))
 text-is texts (suc i) text from to e =
     text_in texts i text (omega (arith, to)) (e ∙ ap (λ k. slice_index_or texts k text) (omega arith))
+
+-- the operations that are left after one more
+pub drop-later : (k : ℕ) (ops : List Op) → drop (k + 1) ops ≡ later (drop k ops)
+drop-later k ops = let e : k + 1 ≡ suc k = omega arith in ap (λ n. drop n ops) e ∙ by k ops
+  where
+  by : (k : ℕ) (ops : List Op) → drop (suc k) ops ≡ later (drop k ops)
+  by zero [] = refl
+  by zero (o ∷ ops) = refl
+  by (suc k) [] = refl
+  by (suc k) (o ∷ ops) = by k ops
+
+first_of : (a b : Bool) → (a && b) ≡ true → a ≡ true
+first_of true b e = refl
+first_of false b e = absurd cc
+
+last_of : (a b : Bool) → (a && b) ≡ true → b ≡ true
+last_of true b e = e
+last_of false b e = absurd cc
+
+-- carriers don't migrate
+pub off-built : (c : Config) (t : Trace) → is_built_run c t ≡ true
+    → migration (setup_of c t) ≡ false
+off-built c t e = let acul : (settings_of c t.letter).acul ≡ 0 = eqb-eq _ _ (last_of (c.schedulers == 1) _ (first_of (is_built_config c t.letter) _ e)) in
+    ap (λ n. nat_lt 0 n) acul
+
+-- and there is one scheduler
+pub one-built : (c : Config) (t : Trace) → is_built_run c t ≡ true → c.schedulers ≡ 1
+one-built c t e = eqb-eq _ _ (first_of (c.schedulers == 1) _ (first_of (is_built_config c t.letter) _ e))

@@ -2,7 +2,7 @@
 ghost use Rattle.std.specs.Prelude.{◌≡◌, [], IfSome, IsSome, OnOk};
 ghost use Rattle.ea_model.specs.declared.carriers.Kind.TheVariants.{Single};
 ghost use Rattle.ea_model.specs.Instance.{block_in, content_of, employed, releasing_at};
-ghost use Rattle.ea_machine.specs.Nodes.{spot_named};
+ghost use Rattle.ea_machine.specs.Actor.{Here, Task};
 ghost use Rattle.ea_machine.specs.Operations as operations;
 ghost use Rattle.ea_machine.specs.Nodes as nodes;
 ghost use Rattle.ea_machine.specs.Tasks as tasks;
@@ -51,16 +51,14 @@ impl<'t> Scheduler<'t> {
         self.stage = Stage::Begin;
     }
 
-    /// The name is held no longer, and its block is released; with that the operation is over.
+    /// The name is held no longer, and its block is released; with that the operation is over, and
+    /// this is its entry.
     pub fn hand_over(&mut self, hand: Named, entry: Entry) -> Result<(), OutOfMemory>
         requires more { HasMore self.old }
         requires here { IsHere self.old hand }
-        ensures actor { OnOk result (actor_of self.new ≡ tasks.logged entry
-            (record (tasks.let_go hand.name (ready_of self.old)) {
-            instance = releasing.freed_at self.old.instance hand.spot })) }
-        ensures emptied { OnOk result
-            (IfSome (content_of (employed (releasing_at self.old.instance hand.spot))
-            hand.spot.carrier) (λ c. c.kind ≡ Single → c.blocks ≡ [])) }
+        ensures actor { OnOk result ((task : Task) → entry ≡ tasks.entry_of task Here
+            → actor_of self.new ≡ tasks.hands_over (setup_for self.old) self.old.number task hand
+            (ready_of self.old)) }
         ensures same { IsSame self.old self.new }
     {
         self.names.let_go(hand.name);
