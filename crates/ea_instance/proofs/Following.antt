@@ -63,6 +63,28 @@ pub single-gone : (c : Content) (offset : ℕ) → IsLaidOutAlone c → IsSome (
 single-gone c offset alone some =
     one_less c.kind c.units offset c.blocks alone.single alone.block some
 
+one_gone : (units offset : ℕ) (bs : List BlockAt) → HasOneBlock units bs
+    → IsSome (block_at bs offset) → without (λ b. b.offset) offset bs ≡ []
+one_gone units offset [] one some = refl
+one_gone units offset (b ∷ []) one some = elim (cases_eq b.offset offset) [
+  | inl e ↦ without_here (λ x. x.offset) offset b [] e
+  | inr n ↦
+      let none : block_at (b ∷ []) offset ≡ None = item_past (λ x. x.offset) offset b [] n in
+      let never : false ≡ true = sym (ap is_some none) ∙ some in absurd cc
+]
+one_gone units offset (b ∷ c ∷ bs) one some = absurd one
+
+-- and has no blocks then
+pub single-emptied : (c : Content) (offset : ℕ) → IsLaidOutAlone c
+    → IsSome (block_at c.blocks offset) → (released c offset).blocks ≡ []
+single-emptied c offset alone some = one_gone c.units offset c.blocks alone.block some
+
+-- a carrier of many blocks is no singleblock carrier
+pub shared-not_single : (k : Kind) → is_shared k ≡ true → k ≡ Single → ⊥
+shared-not_single Main shared e = absurd cc
+shared-not_single Multi shared e = absurd cc
+shared-not_single Single shared e = absurd cc
+
 -- where a block is, there is its carrier
 pub some-content : (cs : List Content) (spot : Spot) → IsSome (block_in cs spot)
     → (c : Content) × (content_of cs spot.carrier ≡ Some c)

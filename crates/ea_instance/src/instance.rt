@@ -1,6 +1,6 @@
 //! The instance and its calls.
-ghost use Rattle.std.specs.Prelude.{◌≡◌, ◌≢◌, ℕ, ◌+◌, ◌*◌, ◌/◌, ◌%◌, ◌^◌, ◌<◌, ◌≤◌, ◌++◌, max, true, false, Some, None, Ok, Err, Result, All, IsNone, ◌↔◌, IsSome, IfSome, IfOk, OnOk, OnErr, map, sum_by, option_map};
-ghost use Rattle.ea_model.specs.declared.carriers.Kind.TheVariants.{Multi};
+ghost use Rattle.std.specs.Prelude.{◌≡◌, [], ◌≢◌, ℕ, ◌+◌, ◌*◌, ◌/◌, ◌%◌, ◌^◌, ◌<◌, ◌≤◌, ◌++◌, max, true, false, Some, None, Ok, Err, Result, All, IsNone, ◌↔◌, IsSome, IfSome, IfOk, OnOk, OnErr, map, sum_by, option_map};
+ghost use Rattle.ea_model.specs.declared.carriers.Kind.TheVariants.{Multi, Single};
 ghost use Rattle.ea_model.specs.declared.carriers.Spot.{Spot};
 ghost use Rattle.ea_model.specs.declared.carriers.CarrierPlan.{CarrierPlan};
 ghost use Rattle.ea_model.specs.declared.reallocation.Decision.TheVariants.{Move};
@@ -460,6 +460,8 @@ impl Instance {
         ensures ok { OnOk result (self.new ≡ releasing_at self.old spot) }
         ensures answer { IfOk result (λ next. next
             ≡ follow_up (content_of (employed self.new) spot.carrier)) }
+        ensures emptied { OnOk result (IfSome (content_of (employed self.new) spot.carrier)
+            (λ c. c.kind ≡ Single → c.blocks ≡ [])) }
         ensures gone { OnOk result (block_in (employed self.new) spot ≡ None) }
         ensures others { (at : Spot) → IsOther spot.carrier spot.offset at
             → block_in (employed self.new) at ≡ block_in (employed self.old) at }

@@ -1,16 +1,21 @@
 use Rattle.std.proofs.Common.{◌≡◌, ◌∙◌, ap, refl, sym, subst}
-use Rattle.std.specs.Prelude.{IsSome, Some}
+use Rattle.std.specs.Prelude.{[], IfSome, IsSome, Option, Some}
+use Rattle.ea_model.specs.declared.carriers.Kind.TheVariants.{Single}
 use Rattle.ea_model.specs.Content.{Content, released}
 use Rattle.ea_model.specs.Instance.{block_in, content_of, employed, has_content}
 use Rattle.ea_model.proofs.Options.{some_value}
 use Rattle.ea_model.proofs.Rising.{changed-found, item_at-All}
-use Rattle.ea_laws.specs.Kept.{number_of, IsLaidOutAlone}
+use Rattle.ea_laws.specs.Kept.{number_of, IsLaidOut, IsLaidOutAlone}
 use Rattle.ea_laws.proofs.Blocks.{releasing-gone, releasing-others}
 use Rattle.ea_instance.specs.Answers.{follow_up}
 use Rattle.ea_instance.specs.Listed.{CarrierList}
-use Rattle.ea_instance.proofs.Following.{single-gone, some-content}
+use Rattle.ea_instance.proofs.Following.{shared-not_single, single-emptied, single-gone, some-content}
 use Rattle.ea_instance.proofs.Keeping.{block-multi, block-single, found-multi, found-single, is-none, kept-released, kept-single-released, seen-released, seen-single-released}
 use Rattle.ea_instance.proofs.instance.Instance.release.Goals as goal
+
+-- a singleblock carrier is left without blocks
+abbrev IsEmptied : Option Content → Type 0
+IsEmptied o = IfSome o (λ c. c.kind ≡ Single → c.blocks ≡ [])
 
 pub release-requires-clause-block : goal.release-requires-clause-block
 release-requires-clause-block c =
@@ -57,6 +62,26 @@ returns-then-has_multi-clause-answer c =
     c.in_ok-next.ensures.answer
     ∙ ap follow_up (now ∙ sym (found-multi _ _ c.self.inside.own c.release.new.self
     c.self.inside.singles c.self.inside.created kept _ refl spot.carrier (f x) now))
+
+pub returns-then-has_multi-clause-emptied : goal.returns-then-has_multi-clause-emptied
+returns-then-has_multi-clause-emptied c =
+    let spot = c.args.spot in
+    let ks = c.self.inside.carriers in
+    let (x, there) = some_value (content_of ks.contents spot.carrier)
+    (ap (λ i. has_content spot.carrier i.contents) c.self.view_is
+    ∙ sym c.has_multi.ensures ∙ c.if-has_multi.true) in
+    let f : Content → Content = λ y. released y spot.offset in
+    let now : content_of c.release.new.self.contents spot.carrier ≡ Some (f x) =
+    ap (λ (l : CarrierList). content_of l.contents spot.carrier) c.in_ok-next.ensures.ok
+    ∙ changed-found number_of f spot.carrier (λ y. refl) x ks.contents there in
+    let kept = kept-released _ _ c.self.inside.own c.self.inside.carriers c.self.inside.singles
+    c.self.inside.created c.self.invariant spot _ c.self.view_is x there _ c.in_ok-next.ensures.ok in
+    let laid = item_at-All number_of IsLaidOut spot.carrier x ks.contents
+    c.self.invariant.stands.sound there in
+    subst IsEmptied
+    (sym (found-multi _ _ c.self.inside.own c.release.new.self c.self.inside.singles
+    c.self.inside.created kept _ refl spot.carrier (f x) now))
+    (λ single. absurd (shared-not_single x.kind laid.shared single))
 
 pub returns-then-has_multi-clause-gone : goal.returns-then-has_multi-clause-gone
 returns-then-has_multi-clause-gone c =
@@ -132,6 +157,31 @@ returns-clause-answer c =
     c.self.invariant.stands.alone there) block
     ∙ ap follow_up (sym (found-single _ _ c.self.inside.own c.self.inside.carriers
     c.release-2.new.self c.self.inside.created kept _ refl spot.carrier none ∙ now))
+
+pub returns-clause-emptied : goal.returns-clause-emptied
+returns-clause-emptied c =
+    let spot = c.args.spot in
+    let ss = c.self.inside.singles in
+    let none = is-none (content_of c.self.inside.carriers.contents spot.carrier)
+    (ap (λ i. has_content spot.carrier i.contents) c.self.view_is
+    ∙ sym c.has_multi.ensures ∙ c.if-has_multi.false) in
+    let some = subst IsSome
+    (sym (ap (λ i. block_in (employed i) spot) c.self.view_is)
+    ∙ block-single _ _ c.self.inside.own c.self.inside.carriers c.self.inside.singles
+    c.self.inside.created c.self.invariant spot none) c.requires in
+    let (y, there, block) = some-content ss spot some in
+    let f : Content → Content = λ x. released x spot.offset in
+    let now : content_of c.release-2.new.self spot.carrier ≡ Some (f y) =
+    ap (λ cs. content_of cs spot.carrier) c.release-2.ensures
+    ∙ changed-found number_of f spot.carrier (λ x. refl) y ss there in
+    let kept = kept-single-released _ _ c.self.inside.own c.self.inside.carriers c.self.inside.singles
+    c.self.inside.created c.self.invariant spot _ c.self.view_is none _ c.release-2.ensures in
+    subst IsEmptied
+    (sym (found-single _ _ c.self.inside.own c.self.inside.carriers c.release-2.new.self
+    c.self.inside.created kept _ refl spot.carrier none ∙ now))
+    (λ single. single-emptied y spot.offset
+    (item_at-All number_of IsLaidOutAlone spot.carrier y ss
+    c.self.invariant.stands.alone there) block)
 
 pub returns-clause-gone : goal.returns-clause-gone
 returns-clause-gone c =
