@@ -1,16 +1,21 @@
 -- What the log of a scheduler says of its operations.
-use Rattle.std.specs.Prelude.{◌≡◌, ◌⊎◌, ℕ, List, [], ◌∷◌, ◌++◌, None}
+use Rattle.std.specs.Prelude.{◌≡◌, ◌≢◌, ◌⊎◌, ℕ, List, [], ◌∷◌, ◌++◌, None}
 use Rattle.std.specs.List.{AllZip}
 use Rattle.ea_model.specs.declared.entries.Entry.{Entry}
 use Rattle.ea_model.specs.declared.entries.Entry.TheVariants as entry
+use Rattle.ea_model.specs.declared.entries.Report.{Report}
 use Rattle.ea_model.specs.declared.operations.Op.{Op}
 use Rattle.ea_model.specs.declared.operations.Op.TheVariants as op
+use Rattle.ea_model.specs.Content.{Content}
+use Rattle.ea_model.specs.Instance.{figures}
+use Rattle.ea_model.specs.Trace.{IsScheduler}
 use Rattle.ea_model.specs.Units.{need_of}
 use Rattle.ea_machine.specs.Nodes.{named_at}
 use Rattle.ea_machine.specs.Setup.{Setup}
 use Rattle.ea_machine.specs.Actor.{Actor}
 use Rattle.ea_machine.specs.State.{State}
 use Rattle.ea_machine.specs.Machine.{run}
+use Rattle.ea_machine.specs.Statistics.{employed_multis, employed_singles}
 use Rattle.ea_machine.specs.Turns.{IsBegun, actor_after, begun, log_after}
 use Rattle.ea_machine.specs.Chosen.{IsPlacement, IsResized}
 use Rattle.ea_machine.specs.Exhausted.{IsExhausted}
@@ -53,20 +58,31 @@ pub record IsSkipped (setup : Setup) (turns : List ℕ) (s name : ℕ) : Type 0 
       ≡ (begun setup turns s).instance
   pub held : (actor_after setup (turns ++ s ∷ []) s).held ≡ (begun setup turns s).held
 
+-- it is another scheduler than s
+abbrev pub IsAnother : Setup → ℕ → ℕ → Type 0
+IsAnother setup s to = IsScheduler setup.schedulers to × (to ≢ s)
+
+-- the figures that a report has as they are now are those of these carriers
+abbrev pub Reports : Report → List Content → Type 0
+Reports r xs = (r.blocks.now ≡ (figures xs).blocks) × (r.blocks_size.now ≡ (figures xs).blocks_size)
+    × (r.carriers.now ≡ (figures xs).carriers) × (r.carriers_size.now ≡ (figures xs).carriers_size)
+
 -- what an entry tells, which s made in its step after the steps `turns`: a block was placed where the
 -- strategy chooses, or in a carrier of its own; a block keeps its spot; no place was found; a name
--- isn't held, and nothing changes
+-- isn't held, and nothing changes; a block went to the queue of another scheduler; and what carriers
+-- are employed then
 abbrev pub Tells : Setup → List ℕ → ℕ → Entry → Type 0
 Tells setup turns s (entry.Alloc name place) = IsPlacement setup turns s name place
 Tells setup turns s (entry.AllocFail name need looked why) =
     IsExhausted setup turns s (entry.AllocFail name need looked why) need looked why
 Tells setup turns s (entry.Free name) = Unit {0}
-Tells setup turns s (entry.FreeQueued name to) = Unit {0}
+Tells setup turns s (entry.FreeQueued name to) = IsAnother setup s to
 Tells setup turns s (entry.FreeSkipped name) = IsSkipped setup turns s name
 Tells setup turns s (entry.ReallocHere old fresh place) =
     IsResized setup turns s old fresh place
 Tells setup turns s (entry.ReallocMoved old fresh place) = IsPlacement setup turns s fresh place
-Tells setup turns s (entry.ReallocQueued old fresh place to) = IsPlacement setup turns s fresh place
+Tells setup turns s (entry.ReallocQueued old fresh place to) =
+    IsPlacement setup turns s fresh place × IsAnother setup s to
 Tells setup turns s (entry.ReallocFail old fresh need looked why) =
     IsExhausted setup turns s (entry.ReallocFail old fresh need looked why) need looked why
 Tells setup turns s (entry.ReallocSkipped old fresh) = IsSkipped setup turns s old
@@ -74,7 +90,9 @@ Tells setup turns s (entry.Give name to) = Unit {0}
 Tells setup turns s (entry.GiveSkipped name to) = IsSkipped setup turns s name
 Tells setup turns s (entry.Take name) = Unit {0}
 Tells setup turns s (entry.TakeAbsent name tries) = Unit {0}
-Tells setup turns s (entry.Info mbcs sbcs) = Unit {0}
+Tells setup turns s (entry.Info mbcs sbcs) =
+    Reports mbcs (employed_multis (actor_after setup (turns ++ s ∷ []) s))
+    × Reports sbcs (employed_singles (actor_after setup (turns ++ s ∷ []) s))
 Tells setup turns s entry.Idle = Unit {0}
 
 -- a step of s makes at most one entry, in its own log, and this entry tells how it came about

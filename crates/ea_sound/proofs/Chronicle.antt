@@ -15,7 +15,7 @@ use Rattle.ea_machine.specs.declared.owners.OwnerWord.{OwnerWord}
 use Rattle.ea_machine.specs.Actor.{Actor, Gone, Open, Here, Queued, Stage, Begin, Routed, Collecting, Searching, Fetching, Creating, Giving, Taking, Ended, Ready, Task, Freeing, Moving, Why, Walk, For}
 use Rattle.ea_machine.specs.declared.asks.Ask.{Ask}
 use Rattle.ea_machine.specs.Chosen.{HasAsked, IsPlacedAt}
-use Rattle.ea_machine.specs.Entries.{Makes}
+use Rattle.ea_machine.specs.Entries.{IsAnother, Makes}
 use Rattle.ea_machine.specs.Exhausted.{IsFailOf, seen_since}
 use Rattle.ea_machine.specs.Machine.{run}
 use Rattle.ea_machine.specs.Needs.{AsksFor}
@@ -101,14 +101,21 @@ abbrev pub Placing : Setup → List ℕ → ℕ → List Entry → Task → Type
 Placing e L s log (Freeing n) = Unit {0}
 Placing e L s log (Moving o n p) = Placement e L s log n p
 
-abbrev pub OnTask : Setup → List ℕ → ℕ → Actor → Why → Type 0
-OnTask e L s a Walk = Unit {0}
-OnTask e L s a (For task) = OfTask task a.todo × Placing e L s a.log task
+-- a block that was queued went to another scheduler
+abbrev pub WentTo : Setup → ℕ → Gone → Type 0
+WentTo e s Open = Unit {0}
+WentTo e s Here = Unit {0}
+WentTo e s (Queued to) = IsAnother e s to
+
+abbrev pub OnTask : Setup → List ℕ → ℕ → Actor → Why → Gone → Type 0
+OnTask e L s a Walk g = Unit {0}
+OnTask e L s a (For task) g =
+    OfTask task a.todo × Placing e L s a.log task × WentTo e s g
 
 -- what the turns L say of s, which is a
 abbrev pub SoFar : Setup → List ℕ → ℕ → Actor → Stage → Type 0
 SoFar e L s a Begin = Unit {0}
-SoFar e L s a (Routed r why g) = OnTask e L s a why
+SoFar e L s a (Routed r why g) = OnTask e L s a why g
 SoFar e L s a (Collecting c) = Unit {0}
 SoFar e L s a (Searching ask at looked) = Searches e L s a ask at looked
 SoFar e L s a (Fetching ask at looked seen) = Fetches e L s a ask at looked seen
@@ -228,7 +235,8 @@ module _ (e : Setup) (L : List ℕ) (s j : ℕ) (ne : j ≢ s) where
     none = h.none;
   }
   other-so_far a (Routed r Walk g) h = h
-  other-so_far a (Routed r (For task) g) h = (h.0, placing-longer e L s j a.log task h.1)
+  other-so_far a (Routed r (For task) g) h =
+      (h.0, placing-longer e L s j a.log task h.1, h.2)
   other-so_far a Begin h = h
   other-so_far a (Collecting c) h = h
   other-so_far a (Giving g to) h = h

@@ -24,7 +24,7 @@ use Rattle.ea_machine.specs.Operations.{freed, giving, itself}
 use Rattle.ea_machine.specs.Placements.{chosen_by, holding, new_carrier, search_if, seek, seek_by}
 use Rattle.ea_machine.specs.Reallocations.{reallocated, reallocated_by, resized_here, resized_place}
 use Rattle.ea_machine.specs.Setup.{Setup, greatest_number, migration}
-use Rattle.ea_machine.specs.Statistics.{employed_multis, employed_singles, observed, report, reported, restarted}
+use Rattle.ea_machine.specs.Statistics.{employed_multis, employed_singles, informed, is_single, leaving_at, observed, report, restarted}
 use Rattle.ea_machine.specs.Tasks.{let_go, logged}
 use Rattle.ea_machine.specs.Turns.{actor_after, begun}
 use Rattle.ea_sound.specs.Present.{OfAsk, OfTask}
@@ -54,6 +54,12 @@ use Rattle.ea_sound.proofs.Operating.{closed-operation}
 use Rattle.ea_sound.proofs.Orderly.{stays-employed}
 use Rattle.ea_sound.proofs.StandingBlocks.{hit-found}
 use Rattle.ea_sound.proofs.Totals.{put-here}
+use Rattle.std.specs.Prelude.{filter, not}
+use Rattle.std.proofs.Common.{◌++◌}
+use Rattle.ea_model.specs.Content.{Content}
+use Rattle.ea_model.specs.Instance.{Instance}
+use Rattle.ea_machine.specs.Actor.{Stat}
+use Rattle.ea_machine.specs.Entries.{Reports}
 
 module _ (e : Setup) (rules : (L : List ℕ) → Rule e (run e L)) (L : List ℕ) (me : ℕ) where
   abbrev acting : Actor
@@ -286,12 +292,47 @@ module _ (e : Setup) (rules : (L : List ℕ) → Rule e (run e L)) (L : List ℕ
       ),
     )
 
-    reported-fine : (mbcs sbcs : Figures) (b : Actor) (ops : List Op) → mid.todo ≡ op.Info ∷ ops
-        → Keeps acting b → Fine (reported mbcs sbcs b)
-    reported-fine mbcs sbcs b ops q l =
+    -- the carriers that are reported are those that are employed
+    multis-now : (b : Actor) → b.stage ≡ Begin → b.instance ≡ mid.instance
+        → employed_multis b ≡ employed_multis mid
+    multis-now b begin same = let many : Content → Bool = λ x. not (is_single x.kind) in
+        ap (λ st. filter many (leaving_at st) ++ b.instance.contents) begin
+        ∙ ap (λ (i : Instance). i.contents) same
+        ∙ sym (ap (λ st. filter many (leaving_at st) ++ mid.instance.contents) ready)
+
+    singles-now : (b : Actor) → b.stage ≡ Begin → b.instance ≡ mid.instance
+        → employed_singles b ≡ employed_singles mid
+    singles-now b begin same = let one : Content → Bool = λ x. is_single x.kind in
+        ap (λ st. filter one (leaving_at st) ++ b.instance.singles) begin
+        ∙ ap (λ (i : Instance). i.singles) same
+        ∙ sym (ap (λ st. filter one (leaving_at st) ++ mid.instance.singles) ready)
+
+    itself-reports : (now : Figures) (s : Stat) (xs : List Content) → now ≡ figures xs
+        → Reports (report now s) xs
+    itself-reports now s xs q = (
+      ap (λ (f : Figures). f.blocks) q,
+      ap (λ (f : Figures). f.blocks_size) q,
+      ap (λ (f : Figures). f.carriers) q,
+      ap (λ (f : Figures). f.carriers_size) q,
+    )
+
+    informed-fine : (ops : List Op) → mid.todo ≡ op.Info ∷ ops → Fine (informed mid)
+    informed-fine ops q =
+        let mbcs = figures (employed_multis mid) in
+        let sbcs = figures (employed_singles mid) in
+        let b = observed mid in
         logged-fine e rules L me set is works (entry.Info (report mbcs b.mbcs) (report sbcs b.sbcs))
-        (record b { mbcs = restarted mbcs b.mbcs; sbcs = restarted sbcs b.sbcs }) l
-        (first-is op.Info ops _ q tt) (λ n q. absurd cc) (λ now. tt)
+        (record b { mbcs = restarted mbcs b.mbcs; sbcs = restarted sbcs b.sbcs }) k
+        (first-is op.Info ops _ q tt) (λ n q. absurd cc)
+        (λ now.
+        let a = actor_after e (L ++ me ∷ []) me in
+        let begin : a.stage ≡ Begin = sym (ap (λ (a : Actor). a.stage) now) in
+        let same : a.instance ≡ mid.instance = sym (ap (λ (a : Actor). a.instance) now) in (
+          itself-reports mbcs b.mbcs (employed_multis a)
+              (ap figures (sym (multis-now a begin same))),
+          itself-reports sbcs b.sbcs (employed_singles a)
+              (ap figures (sym (singles-now a begin same))),
+        ))
 
     pub itself-fine : (ops : List Op) → mid.todo ≡ ops → Fine (itself e me mid ops)
     itself-fine [] q = ((λ r. absurd cc), k.2 ∙ set, λ now. (tt, inl (k.0, k.1)))
@@ -310,8 +351,7 @@ module _ (e : Setup) (rules : (L : List ℕ) → Rule e (run e L)) (L : List ℕ
     itself-fine (op.Give n to ∷ ops) q = give-fine n to ops (named_at n mid.held) q refl
     itself-fine (op.Take n tries ∷ ops) q =
         ((λ r. absurd cc), k.2 ∙ set, λ now. ((ops, q), inl (k.0, k.1)))
-    itself-fine (op.Info ∷ ops) q = reported-fine (figures (employed_multis mid))
-        (figures (employed_singles mid)) (observed mid) ops q k
+    itself-fine (op.Info ∷ ops) q = informed-fine ops q
     itself-fine (op.Idle ∷ ops) q =
         logged-fine e rules L me set is works entry.Idle mid k (first-is op.Idle ops _ q tt)
         (λ n q. absurd cc) (λ now. tt)

@@ -60,6 +60,13 @@ use Rattle.ea_sound.proofs.LyingBlocks.{LiesWith, lying, placing-lies, route-lie
 use Rattle.ea_sound.proofs.Numbered.{scheduler-seat}
 use Rattle.ea_sound.proofs.Operating.{closed-operation, held-other, held-stays, made-wanted}
 use Rattle.ea_sound.proofs.Totals.{put-here, total-part}
+use Rattle.ea_machine.specs.Actor.{Pushing, Routed, Why}
+use Rattle.ea_machine.specs.Entries.{IsAnother}
+use Rattle.ea_machine.specs.Nodes.{block_node}
+use Rattle.ea_sound.specs.Present.{Fits}
+use Rattle.ea_sound.proofs.Chronicle.{WentTo}
+use Rattle.ea_sound.proofs.Created.{scheduler-number}
+use Rattle.ea_sound.proofs.GoneRoutes.{route-queued}
 
 -- the name of which a fail says so
 failed-says : (n : ℕ) (ask : Ask) (looked : ℕ) (why : NoCarrier) (old : Option Named)
@@ -189,13 +196,47 @@ module _ (e : Setup) (rules : (L : List ℕ) → Rule e (run e L)) (L : List ℕ
     }
 
     entry-tells : (task : Task) (g : Gone) → Placing e turn me acting.log task
-        → Tells e L me (entry_of task g)
-    entry-tells (Freeing n) Open h = tt
-    entry-tells (Freeing n) Here h = tt
-    entry-tells (Freeing n) (Queued to) h = tt
-    entry-tells (Moving o n p) Open h = placed n p h
-    entry-tells (Moving o n p) Here h = placed n p h
-    entry-tells (Moving o n p) (Queued to) h = placed n p h
+        → WentTo e me g → Tells e L me (entry_of task g)
+    entry-tells (Freeing n) Open h w = tt
+    entry-tells (Freeing n) Here h w = tt
+    entry-tells (Freeing n) (Queued to) h w = w
+    entry-tells (Moving o n p) Open h w = placed n p h
+    entry-tells (Moving o n p) Here h w = placed n p h
+    entry-tells (Moving o n p) (Queued to) h w = (placed n p h, w)
+
+    -- where a block is queued, by the route that is left
+    abbrev pub Queues : Gone → Option Route → Type 0
+    Queues g r = (to : ℕ) → g ≡ Queued to
+        → IsAnother e me to ⊎ ((h : Named) × (r ≡ Some (Pushing (block_node h) to)))
+
+    ended-went : (g : Gone) → Queues g None → WentTo e me g
+    ended-went Open w = tt
+    ended-went Here w = tt
+    ended-went (Queued to) w = elim (w to refl) [
+      | inl other ↦ other
+      | inr pushes ↦ absurd (let q = pushes.1 in cc)
+    ]
+
+    -- a node is pushed to another scheduler
+    pushes-another : (h : Named) (to : ℕ) (y : Why) (g : Gone)
+        → (actor_after e turn me).stage ≡ Routed (Pushing (block_node h) to) y g
+        → IsAnother e me to
+    pushes-another h to y g now =
+        let f = subst (Fits e (run e turn) me (actor_after e turn me)) now
+        ((rules turn).present.fits me) in
+        (scheduler-number e to f.0.1, f.0.0)
+
+    routed-went : (r : Route) (y : Why) (g : Gone) → Queues g (Some r)
+        → (actor_after e turn me).stage ≡ Routed r y g → WentTo e me g
+    routed-went r y Open w now = tt
+    routed-went r y Here w now = tt
+    routed-went r y (Queued to) w now = elim (w to refl) [
+      | inl other ↦ other
+      | inr pushes ↦ pushes-another pushes.0 to y (Queued to)
+          (now ∙ ap (λ p. Routed p y (Queued to)) (some_route pushes.1))
+    ] where
+      some_route : {p q : Route} → Some p ≡ Some q → p ≡ q
+      some_route q = cc
 
     -- an operation that releases a block didn't fail
     task-made : (task : Task) (g : Gone) (b : Actor) (n : ℕ)
@@ -208,12 +249,13 @@ module _ (e : Setup) (rules : (L : List ℕ) → Rule e (run e L)) (L : List ℕ
     task-made (Moving o m p) (Queued to) b n q = absurd cc
 
     pub carried-fine : (task : Task) (r : Option Route) (g : Gone) (b : Actor) → Keeps acting b
-        → OfTask task acting.todo → (IsAfter b → Placing e turn me acting.log task)
+        → OfTask task acting.todo → Queues g r
+        → (IsAfter b → Placing e turn me acting.log task)
         → Fine (carried (For task) (task_over task) (record { actor = b; route = r; gone = g }))
-    carried-fine task None g b k o h = logged-fine (entry_of task g) b k
+    carried-fine task None g b k o w h = logged-fine (entry_of task g) b k
         (task-first task g acting.todo o) (task-made task g b)
-        (λ now. entry-tells task g (h (ap (λ (a : Actor). a.instance) now)))
-    carried-fine task (Some r) g b k o h = (
+        (λ now. entry-tells task g (h (ap (λ (a : Actor). a.instance) now)) (ended-went g w))
+    carried-fine task (Some r) g b k o w h = (
       (λ q. absurd cc),
       k.2 ∙ set,
       λ now. (
@@ -221,6 +263,7 @@ module _ (e : Setup) (rules : (L : List ℕ) → Rule e (run e L)) (L : List ℕ
           subst (OfTask task) (sym k.1) o,
           subst (λ l. Placing e turn me l task) (sym k.0)
               (h (ap (λ (a : Actor). a.instance) now)),
+          routed-went r (For task) g w (sym (ap (λ (a : Actor). a.stage) now)),
         ),
         inl (k.0, k.1),
       ),
@@ -232,7 +275,11 @@ module _ (e : Setup) (rules : (L : List ℕ) → Rule e (run e L)) (L : List ℕ
     task-fine task h b k o p =
         let t = route_of e me h (let_go h.name b) in
         carried-fine task t.route t.gone t.actor
-        (keeps-on acting (let_go h.name b) t.actor (route-keeps e me h (let_go h.name b)) k) o p
+        (keeps-on acting (let_go h.name b) t.actor (route-keeps e me h (let_go h.name b)) k) o
+        (λ to q. elim (route-queued e me h (let_go h.name b) to q) [
+          | inl none ↦ absurd (let never : Open ≡ Queued to = none in cc)
+          | inr pushes ↦ inr pushes
+        ]) p
 
     -- where the name is held, so that the rule holds
     module _ (n : ℕ) (spot : Spot) (c : Actor) (g : IsGoing (holding n spot c)) where

@@ -37,6 +37,8 @@ use Rattle.ea_sound.specs.Present.{OfAsk, Rule}
 use Rattle.ea_sound.proofs.ChroniclePlaces.{shared}
 use Rattle.ea_sound.proofs.Operating.{begun-kept}
 use Rattle.ea_sound.proofs.RowLeaves.{row-left}
+use Rattle.ea_sound.proofs.Chronicle.{WentTo}
+use Rattle.ea_sound.proofs.GoneRoutes.{turned-queued}
 
 module _ (e : Setup) (rules : (L : List ℕ) → Rule e (run e L)) (L : List ℕ) (me : ℕ) where
   abbrev acting : Actor
@@ -256,6 +258,10 @@ module _ (e : Setup) (rules : (L : List ℕ) → Rule e (run e L)) (L : List ℕ
         let t = turned e me r g acting (answered (run e L) me) in
         inr (carried-fine e rules L me set is works task t.route t.gone t.actor
         (turned-keeps e me r g acting (answered (run e L) me)) h.0
+        (λ to q. elim (turned-queued e me r g acting (answered (run e L) me) to q) [
+          | inl before ↦ inl (subst (WentTo e me) before h.2)
+          | inr pushes ↦ inr pushes
+        ])
         (λ now. placing-longer e L me me acting.log task h.1))
     row-fine (Searching ask at looked) q h ne =
         inr (searched-fine ask at looked (answered (run e L) me) q refl

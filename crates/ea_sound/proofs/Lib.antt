@@ -53,6 +53,7 @@ pub mod SoundPlaces
 pub mod CarrierMoves
 pub mod TurnLists
 pub mod ShortRoutes
+pub mod GoneRoutes
 pub mod BeginTurns
 pub mod SearchLists
 pub mod SoundRanges

@@ -1,0 +1,161 @@
+-- What first became of a block on its route: where it was queued, its node is what is pushed next.
+use Rattle.std.proofs.Common.{◌≡◌, ◌⊎◌, ℕ, Bool, true, false, refl, sym, ap, ◌∙◌, inl, inr}
+use Rattle.std.specs.Prelude.{Option, None, Some, ◌==◌}
+use Rattle.ea_model.specs.declared.carriers.Kind.{Kind}
+use Rattle.ea_model.specs.declared.carriers.Kind.TheVariants.{Main, Multi, Single}
+use Rattle.ea_model.specs.Content.{Content, is_nil}
+use Rattle.ea_model.specs.Instance.{content_of, employed, releasing_at}
+use Rattle.ea_machine.specs.Abandonment.{is_due}
+use Rattle.ea_machine.specs.Actor.{Actor, Gone, Open, Here, Queued, Route, Looking, Trying, Settling, Abandoning, Sending, Clearing, Pushing, Linking}
+use Rattle.ea_machine.specs.declared.nodes.Named.{Named}
+use Rattle.ea_machine.specs.declared.owners.OwnerWord.{OwnerWord}
+use Rattle.ea_machine.specs.declared.owners.OwnerWord.TheVariants as word
+use Rattle.ea_machine.specs.Nodes.{block_node}
+use Rattle.ea_machine.specs.Owners.{owner_of}
+use Rattle.ea_machine.specs.Releases.{Turned, abandoned_if, after_release, after_release_by, dismissed, employed_by, first_gone, forwarded, leaving_by, lightened, looked, looked_at, owned_by, pooled_by, release_here, route_of, routed, sent_to, settled, tried, turned}
+use Rattle.ea_machine.specs.Rows.{Answer, Done, Head, Rests, Passes, Saw, Won, Lost, Home, Got}
+use Rattle.ea_machine.specs.Setup.{Setup, migration}
+
+-- the block was queued there before, or its node is to be pushed there
+abbrev pub IsQueuedBy : Gone → Turned → Type 0
+IsQueuedBy g t = (to : ℕ) → t.gone ≡ Queued to
+    → (g ≡ Queued to) ⊎ ((h : Named) × (t.route ≡ Some (Pushing (block_node h) to)))
+
+first-queued : (g now : Gone) (to : ℕ) → first_gone g now ≡ Queued to
+    → (g ≡ Queued to) ⊎ (now ≡ Queued to)
+first-queued Open now to q = inr q
+first-queued Here now to q = absurd cc
+first-queued (Queued i) now to q = inl q
+
+-- nothing became of it, or it was released here
+still : (g : Gone) (t : Turned) → t.gone ≡ g → IsQueuedBy g t
+still g t same to q = inl (sym same ∙ q)
+
+released : (g : Gone) (t : Turned) → t.gone ≡ first_gone g Here → IsQueuedBy g t
+released g t same to q = elim (first-queued g Here to (sym same ∙ q)) [
+  | inl before ↦ inl before
+  | inr now ↦ absurd (let never : Here ≡ Queued to = now in cc)
+]
+
+sent-queued : (h : Named) (i : ℕ) (g : Gone) (a : Actor) → IsQueuedBy g (sent_to h i g a)
+sent-queued h i g a to q = elim (first-queued g (Queued i) to q) [
+  | inl before ↦ inl before
+  | inr now ↦ inr (h, ap (λ j. Some (Pushing (block_node h) j)) (target now))
+] where
+  target : {i j : ℕ} → Queued i ≡ Queued j → i ≡ j
+  target q = cc
+
+module _ (e : Setup) (me : ℕ) where
+  leaving-gone : (own on : Bool) (x : Content) (g : Gone) (a : Actor)
+      → (leaving_by e me own on x g a).gone ≡ g
+  leaving-gone false on x g a = refl
+  leaving-gone true true x g a = refl
+  leaving-gone true false x g a = refl
+
+  abandoned-gone : (due : Bool) (x : Content) (g : Gone) (a : Actor)
+      → (abandoned_if due x g a).gone ≡ g
+  abandoned-gone true x g a = refl
+  abandoned-gone false x g a = refl
+
+  lightened-gone : (empty : Bool) (x : Content) (g : Gone) (a : Actor)
+      → (lightened e me empty x g a).gone ≡ g
+  lightened-gone true x g a =
+      leaving-gone (owner_of x.number == me) (migration e) x g (dismissed x.number a)
+  lightened-gone false x g a =
+      abandoned-gone (is_due e.settings a.instance.contents x) x g a
+
+  by_kind-gone : (k : Kind) (x : Content) (g : Gone) (a : Actor)
+      → (after_release_by e me k x g a).gone ≡ g
+  by_kind-gone Main x g a = refl
+  by_kind-gone Multi x g a = lightened-gone (is_nil x.blocks) x g a
+  by_kind-gone Single x g a =
+      leaving-gone (owner_of x.number == me) (migration e) x g (dismissed x.number a)
+
+  after-queued : (g : Gone) (a : Actor) (o : Option Content)
+      → IsQueuedBy g (after_release e me g a o)
+  after-queued g a None = still g (after_release e me g a None) refl
+  after-queued g a (Some x) = released g (after_release e me g a (Some x))
+      (by_kind-gone x.kind x (first_gone g Here) a)
+
+  here-queued : (h : Named) (g : Gone) (a : Actor) → IsQueuedBy g (release_here e me h g a)
+  here-queued h g a =
+      let b : Actor = record a { instance = releasing_at a.instance h.spot } in
+      after-queued g b (content_of (employed b.instance) h.spot.carrier)
+
+  employed-queued : (mine : Bool) (i : ℕ) (h : Named) (g : Gone) (a : Actor)
+      → IsQueuedBy g (employed_by e me mine i h g a)
+  employed-queued true i h g a = here-queued h g a
+  employed-queued false i h g a = sent-queued h i g a
+
+  pooled-queued : (mine : Bool) (i l : ℕ) (h : Named) (g : Gone) (a : Actor)
+      → IsQueuedBy g (pooled_by mine i l h g a)
+  pooled-queued true i l h g a = still g (pooled_by true i l h g a) refl
+  pooled-queued false i l h g a = sent-queued h i g a
+
+  looked-queued : (h : Named) (g : Gone) (a : Actor) (v : OwnerWord)
+      → IsQueuedBy g (looked e me h g a v)
+  looked-queued h g a word.Absent = still g (looked e me h g a word.Absent) refl
+  looked-queued h g a (word.Employed i) = employed-queued (i == me) i h g a
+  looked-queued h g a (word.Pooled i l) = pooled-queued (i == me) i l h g a
+  looked-queued h g a (word.Busy i) = sent-queued h i g a
+  looked-queued h g a (word.Returning i) = still g (looked e me h g a (word.Returning i)) refl
+
+  forwarded-queued : (h : Named) (g : Gone) (a : Actor) (v : OwnerWord)
+      → IsQueuedBy g (forwarded h g a v)
+  forwarded-queued h g a word.Absent = still g (forwarded h g a word.Absent) refl
+  forwarded-queued h g a (word.Employed i) = sent-queued h i g a
+  forwarded-queued h g a (word.Pooled i l) = sent-queued h i g a
+  forwarded-queued h g a (word.Busy i) = sent-queued h i g a
+  forwarded-queued h g a (word.Returning i) = still g (forwarded h g a (word.Returning i)) refl
+
+  looked_at-queued : (h : Named) (g : Gone) (a : Actor) (r : Answer)
+      → IsQueuedBy g (looked_at e me h g a r)
+  looked_at-queued h g a (Saw v) = looked-queued h g a v
+  looked_at-queued h g a Done = still g (looked_at e me h g a Done) refl
+  looked_at-queued h g a (Head n) = still g (looked_at e me h g a (Head n)) refl
+  looked_at-queued h g a Rests = still g (looked_at e me h g a Rests) refl
+  looked_at-queued h g a (Passes n) = still g (looked_at e me h g a (Passes n)) refl
+  looked_at-queued h g a (Won x) = still g (looked_at e me h g a (Won x)) refl
+  looked_at-queued h g a (Lost v) = still g (looked_at e me h g a (Lost v)) refl
+  looked_at-queued h g a (Home x) = still g (looked_at e me h g a (Home x)) refl
+  looked_at-queued h g a (Got p) = still g (looked_at e me h g a (Got p)) refl
+
+  tried-queued : (h : Named) (g : Gone) (a : Actor) (r : Answer) → IsQueuedBy g (tried h g a r)
+  tried-queued h g a (Won x) = released g (tried h g a (Won x)) refl
+  tried-queued h g a (Lost v) = forwarded-queued h g a v
+  tried-queued h g a (Saw v) = still g (tried h g a (Saw v)) refl
+  tried-queued h g a Done = still g (tried h g a Done) refl
+  tried-queued h g a (Head n) = still g (tried h g a (Head n)) refl
+  tried-queued h g a Rests = still g (tried h g a Rests) refl
+  tried-queued h g a (Passes n) = still g (tried h g a (Passes n)) refl
+  tried-queued h g a (Home x) = still g (tried h g a (Home x)) refl
+  tried-queued h g a (Got p) = still g (tried h g a (Got p)) refl
+
+  settled-gone : (empty : Bool) (x : Content) (g : Gone) (a : Actor)
+      → (settled e me empty x g a).gone ≡ g
+  settled-gone true x g a = leaving-gone (owner_of x.number == me) (migration e) x g a
+  settled-gone false x g a = refl
+
+  -- once a row of the route is answered
+  pub turned-queued : (r : Route) (g : Gone) (a : Actor) (z : Answer)
+      → IsQueuedBy g (turned e me r g a z)
+  turned-queued (Looking h) g a z = looked_at-queued h g a z
+  turned-queued (Trying h seen) g a z = tried-queued h g a z
+  turned-queued (Settling x) g a z = still g (turned e me (Settling x) g a z)
+      (settled-gone (is_nil x.blocks) x g a)
+  turned-queued (Abandoning x) g a z = still g (turned e me (Abandoning x) g a z) refl
+  turned-queued (Sending x) g a z = still g (turned e me (Sending x) g a z) refl
+  turned-queued (Clearing x) g a z = still g (turned e me (Clearing x) g a z) refl
+  turned-queued (Pushing node to) g a z = still g (turned e me (Pushing node to) g a z) refl
+  turned-queued (Linking node to) g a z = still g (turned e me (Linking node to) g a z) refl
+
+  -- where the block has just come into the hand
+  pub route-queued : (h : Named) (a : Actor) → IsQueuedBy Open (route_of e me h a)
+  route-queued h a = by (migration e) where
+    owned : (own : Bool) → IsQueuedBy Open (owned_by e me own h a)
+    owned true = here-queued h Open a
+    owned false = sent-queued h (owner_of h.spot.carrier) Open a
+
+    by : (on : Bool) → IsQueuedBy Open (routed e me on h a)
+    by true = still Open (routed e me true h a) refl
+    by false = owned (owner_of h.spot.carrier == me)
