@@ -1,6 +1,7 @@
 -- Where there is one scheduler, nothing is ever in its queue.
 use Rattle.std.specs.Prelude.{◌≡◌, ◌≢◌, ℕ, Bool, true, false, [], ◌∷◌, List, Option, None, Some, length}
 use Rattle.std.proofs.Common.{refl, sym, ap, ◌∙◌, subst, inl, inr, arith}
+use Rattle.std.proofs.lemmas.List.{nil_from_length}
 use Rattle.ea_model.specs.declared.settings.Config.{Config}
 use Rattle.ea_model.specs.declared.trace.Trace.{Trace}
 use Rattle.ea_model.specs.Settings.{IsValidConfig}
@@ -27,10 +28,6 @@ use Rattle.ea_sched.proofs.Doing.{none-told}
 rest-still : (ms : List Mark) → length ms ≡ 0 → length (rest_after ms) ≡ 0
 rest-still [] none = refl
 rest-still (m ∷ ms) none = absurd (omega (arith, none))
-
-list-none : {A : Type 0} (xs : List A) → length xs ≡ 0 → xs ≡ []
-list-none [] none = refl
-list-none (x ∷ xs) none = absurd (omega (arith, none))
 
 -- a scheduler without a mark in its queue and its walk that pushes elsewhere has none after a row
 module _ (e : Setup) (me : ℕ) where
@@ -92,7 +89,7 @@ module _ (c : Config) (t : Trace) (valid : IsValidConfig c) (made : IsValidTrace
 
   -- nobody queues a node
   pub queue-none : (w : State) → IsReached (setup_of c t) w → w.shared.queues me ≡ []
-  queue-none w reached = list-none (w.shared.queues me) (omega (
+  queue-none w reached = nil_from_length (w.shared.queues me) (omega (
     arith,
     none-marked reached.0,
     ap (λ (v : State). marks e me v.shared) reached.1,

@@ -1,5 +1,5 @@
 -- What a scheduler may ask of what is told, and where a step leaves it.
-use Rattle.std.specs.Prelude.{◌≡◌, ◌≢◌, ◌⊎◌, ℕ, true, false, [], ◌∷◌, List, Option, None, Some, IfSome, IsSome}
+use Rattle.std.specs.Prelude.{◌≡◌, ◌≢◌, ◌⊎◌, ℕ, true, false, [], Option, None, Some, IfSome, IsSome}
 use Rattle.std.proofs.Common.{refl, sym, ap, ◌∙◌, subst, inl, inr}
 use Rattle.ea_model.specs.declared.settings.Config.{Config}
 use Rattle.ea_model.specs.declared.trace.Trace.{Trace}
@@ -9,7 +9,6 @@ use Rattle.ea_model.proofs.Options.{if_some, some_value}
 use Rattle.ea_machine.specs.Actor.{Actor, Begin, Ended}
 use Rattle.ea_machine.specs.Machine.{after, after_row, onward, step, wants, wants_at}
 use Rattle.ea_machine.specs.declared.nodes.Node.{Node}
-use Rattle.ea_machine.specs.Nodes.{Mark, first_node}
 use Rattle.ea_machine.specs.Rows.{Answer, Head, Row, TakeAll}
 use Rattle.ea_machine.specs.Setup.{Setup, setup_of}
 use Rattle.ea_machine.specs.Shared.{Shared}
@@ -19,13 +18,9 @@ use Rattle.ea_machine.specs.Table.{answer, effect}
 use Rattle.ea_shared.specs.Calls.{Caller, Did, IsWanted, TookStep, WantsRow}
 use Rattle.ea_sound.proofs.Asked.{reached-rule}
 use Rattle.ea_sound.proofs.Completing.{reached-step}
+use Rattle.ea_sound.proofs.RowLeaves.{no_first}
 use Rattle.ea_sound.proofs.TurnLists.{step-ended, step-mine, step-shared}
 use Rattle.ea_sched.specs.Steps.{Ready, Stepped, caller_of}
-
--- where no node is next, nothing is left of a walk
-rest-none : (marks : List Mark) → first_node marks ≡ None → marks ≡ []
-rest-none [] none = refl
-rest-none (m ∷ ms) none = absurd (cc)
 
 -- what is told is told again
 same-told : {A : Type 0} (o : Option A) (x : A) → IfSome o (λ y. y ≡ x)
@@ -133,7 +128,7 @@ module _ (c : Config) (t : Trace) (me : ℕ) (a : Actor) where
     pub asks-shared : a.next ≡ None → IfSome shared (λ s. s.rests me ≡ [])
     asks-shared none =
         let walking = (reached-rule c t h.config h.trace h.state h.reached).present.walking me in
-        let rest = rest-none (h.state.shared.rests me)
+        let rest = no_first (h.state.shared.rests me)
         (sym walking ∙ ap (λ (x : Actor). x.next) h.actor ∙ none) in
         if_some shared (λ s. s ≡ h.state.shared) (λ s. s.rests me ≡ [])
         (λ s same. ap (λ (x : Shared). x.rests me) same ∙ rest) h.shares
