@@ -1,6 +1,6 @@
 -- An operation itself, once its begin is over: what it makes of what the turns before say.
-use Rattle.std.proofs.Common.{◌≡◌, ◌≢◌, ◌⊎◌, ℕ, ◌<◌, ◌≤◌, List, [], ◌∷◌, Bool, true, false, refl, sym, ap, ◌∙◌, subst, inl, inr, arith}
-use Rattle.std.specs.Prelude.{Option, Some, None, ◌==◌, count_by}
+use Rattle.std.proofs.Common.{◌≡◌, ◌≢◌, ◌⊎◌, ℕ, ◌<◌, ◌≤◌, List, [], ◌∷◌, Bool, true, false, refl, sym, ap, ◌∙◌, subst, inl, inr, arith, ◌++◌}
+use Rattle.std.specs.Prelude.{Option, Some, None, ◌==◌, count_by, filter, not}
 use Rattle.ea_model.specs.declared.carriers.Figures.{Figures}
 use Rattle.ea_model.specs.declared.carriers.Spot.{Spot}
 use Rattle.ea_model.specs.declared.entries.Entry.{Entry}
@@ -9,13 +9,13 @@ use Rattle.ea_model.specs.declared.operations.Op.{Op}
 use Rattle.ea_model.specs.declared.operations.Op.TheVariants as op
 use Rattle.ea_model.specs.declared.reallocation.Decision.{Decision}
 use Rattle.ea_model.specs.declared.reallocation.Decision.TheVariants.{Stay, ShrinkHere, GrowHere, ShrinkCarrier, Move}
-use Rattle.ea_model.specs.Instance.{chosen_spot, decision_at, figures, is_alone, plan, resizing_at}
+use Rattle.ea_model.specs.Instance.{chosen_spot, decision_at, figures, is_alone, plan, resizing_at, Instance}
 use Rattle.ea_model.specs.Units.{need_of}
 use Rattle.ea_model.proofs.Rising.{item_at-key}
-use Rattle.ea_machine.specs.Actor.{Actor, Ready, Freeing}
+use Rattle.ea_machine.specs.Actor.{Actor, Ready, Freeing, Ended, Begin, Stat}
 use Rattle.ea_machine.specs.declared.asks.Ask.{Ask}
 use Rattle.ea_machine.specs.Chosen.{AtOnce, Had}
-use Rattle.ea_machine.specs.Entries.{IsSkipped, Makes}
+use Rattle.ea_machine.specs.Entries.{IsSkipped, Makes, Reports}
 use Rattle.ea_machine.specs.NamePlaces.{name_of}
 use Rattle.ea_machine.specs.Needs.{AsksFor, HasNeed, IsToMove}
 use Rattle.ea_machine.specs.Nodes.{named_at}
@@ -23,43 +23,33 @@ use Rattle.ea_machine.specs.declared.nodes.Named.{Named}
 use Rattle.ea_machine.specs.Operations.{freed, giving, itself}
 use Rattle.ea_machine.specs.Placements.{chosen_by, holding, new_carrier, search_if, seek, seek_by}
 use Rattle.ea_machine.specs.Reallocations.{reallocated, reallocated_by, resized_here, resized_place}
-use Rattle.ea_machine.specs.Setup.{Setup, greatest_number, migration}
+use Rattle.ea_machine.specs.Setup.{Setup, greatest_number, migration, is_scheduler}
 use Rattle.ea_machine.specs.Statistics.{employed_multis, employed_singles, informed, is_single, leaving_at, observed, report, restarted}
 use Rattle.ea_machine.specs.Tasks.{let_go, logged}
 use Rattle.ea_machine.specs.Turns.{actor_after, begun}
-use Rattle.ea_sound.specs.Present.{OfAsk, OfTask}
+use Rattle.ea_sound.specs.Present.{OfAsk, OfTask, Rule}
 use Rattle.ea_sound.proofs.Chronicle.{IsOfFirst}
-use Rattle.ea_sound.proofs.Orderly.{resizing-fixed}
+use Rattle.ea_sound.proofs.Orderly.{resizing-fixed, stays-employed}
 use Rattle.ea_sound.proofs.ShortRoutes.{Keeps}
 use Rattle.ea_sound.proofs.Weights.{sum_by-sum_over}
 use Rattle.ea_machine.specs.Sums.{one_if}
 use Rattle.ea_sound.proofs.ChroniclePlaces.{Fine as IsFine, IsAsking, IsNow, IsWanted as Wants, landed, shared, choice-fine, logged-fine, planned-fine, search-fine, task-fine, big, little, fails}
 use Rattle.ea_model.specs.Trace.{makes}
 use Rattle.std.proofs.lemmas.Bool.{eqb-true}
-use Rattle.ea_machine.specs.Actor.{Ended}
 use Rattle.ea_model.proofs.Needs.{need-even, need-least}
-use Rattle.ea_machine.specs.Actor.{Begin}
 use Rattle.ea_machine.specs.Machine.{run}
 use Rattle.ea_machine.specs.Names.{made_in}
-use Rattle.ea_machine.specs.Setup.{is_scheduler}
 use Rattle.ea_machine.specs.Shared.{Shared}
 use Rattle.ea_sound.specs.Leaves.{InOperation, InWalk, IsFresh}
 use Rattle.ea_sound.specs.Moments.{at, with_actor}
-use Rattle.ea_sound.specs.Present.{Rule}
 use Rattle.ea_sound.proofs.Alike.{lies-with}
 use Rattle.ea_sound.proofs.Hits.{held-stands}
 use Rattle.ea_sound.proofs.LyingBlocks.{LiesWith, resizing-lies}
 use Rattle.ea_sound.proofs.Numbered.{scheduler-seat}
 use Rattle.ea_sound.proofs.Operating.{closed-operation}
-use Rattle.ea_sound.proofs.Orderly.{stays-employed}
 use Rattle.ea_sound.proofs.StandingBlocks.{hit-found}
 use Rattle.ea_sound.proofs.Totals.{put-here}
-use Rattle.std.specs.Prelude.{filter, not}
-use Rattle.std.proofs.Common.{◌++◌}
 use Rattle.ea_model.specs.Content.{Content}
-use Rattle.ea_model.specs.Instance.{Instance}
-use Rattle.ea_machine.specs.Actor.{Stat}
-use Rattle.ea_machine.specs.Entries.{Reports}
 
 module _ (e : Setup) (rules : (L : List ℕ) → Rule e (run e L)) (L : List ℕ) (me : ℕ) where
   abbrev acting : Actor

@@ -1,7 +1,7 @@
 -- A turn of a scheduler that places a block, plans a carrier or searches for one: what it makes of
 -- what the turns before say.
-use Rattle.std.proofs.Common.{◌≡◌, ◌⊎◌, ℕ, zero, suc, ◌<◌, ◌≤◌, List, [], ◌∷◌, ◌++◌, Bool, true, false, refl, sym, ap, ◌∙◌, subst, inl, inr, arith}
-use Rattle.std.specs.Prelude.{Option, Some, None, Result, Ok, Err, ◌&&◌, nat_lt}
+use Rattle.std.proofs.Common.{◌≡◌, ◌⊎◌, ℕ, zero, suc, ◌<◌, ◌≤◌, List, [], ◌∷◌, ◌++◌, Bool, true, false, refl, sym, ap, ◌∙◌, subst, inl, inr, arith, ◌≢◌}
+use Rattle.std.specs.Prelude.{Option, Some, None, Result, Ok, Err, ◌&&◌, nat_lt, ◌==◌}
 use Rattle.ea_model.specs.declared.carriers.CarrierPlan.{CarrierPlan}
 use Rattle.ea_model.specs.declared.carriers.Place.{Place}
 use Rattle.ea_model.specs.declared.carriers.Spot.{Spot}
@@ -10,48 +10,39 @@ use Rattle.ea_model.specs.declared.entries.Entry.TheVariants as entry
 use Rattle.ea_model.specs.declared.entries.NoCarrier.{NoCarrier}
 use Rattle.ea_model.specs.declared.entries.NoCarrier.TheVariants.{Space}
 use Rattle.ea_model.specs.declared.units.TheConstants.{SEARCH_LIMIT}
-use Rattle.ea_model.specs.Instance.{chosen_spot, creating, is_alone, place_at, plan, single_place}
+use Rattle.ea_model.specs.Instance.{chosen_spot, creating, is_alone, place_at, plan, single_place, creating_single, placing_at}
 use Rattle.ea_laws.proofs.Keeping.{plan-IsPlanned}
-use Rattle.ea_machine.specs.Actor.{Actor, Gone, Open, Here, Queued, Route, Task, Freeing, Moving, For}
+use Rattle.ea_machine.specs.Actor.{Actor, Gone, Open, Here, Queued, Route, Task, Freeing, Moving, For, Begin, Ready, Ended, Pushing, Routed, Why}
 use Rattle.ea_machine.specs.declared.asks.Ask.{Ask}
 use Rattle.ea_machine.specs.Chosen.{Created, Creates, HasAsked, IsJustBefore, IsPlacedAt, IsPlacement}
-use Rattle.ea_machine.specs.Entries.{Tells}
+use Rattle.ea_machine.specs.Entries.{Tells, IsAnother}
 use Rattle.ea_machine.specs.Exhausted.{FindsNoPlace, IsExhausted, IsFailOf}
-use Rattle.ea_machine.specs.Machine.{run}
+use Rattle.ea_machine.specs.Machine.{run, wants}
 use Rattle.ea_machine.specs.declared.nodes.Named.{Named}
-use Rattle.ea_machine.specs.Placements.{created, created_by, failed, making, new_carrier_by, placed_at, placed_by, search_at, searched_by, stands}
+use Rattle.ea_machine.specs.Placements.{created, created_by, failed, making, new_carrier_by, placed_at, placed_by, search_at, searched_by, stands, holding, spot_of_place}
 use Rattle.ea_machine.specs.Releases.{route_of}
 use Rattle.ea_machine.specs.Searches.{Searched}
-use Rattle.ea_machine.specs.Setup.{Setup, greatest_number, migration}
+use Rattle.ea_machine.specs.Setup.{Setup, greatest_number, migration, is_scheduler}
 use Rattle.ea_machine.specs.Statistics.{observed}
 use Rattle.ea_machine.specs.Tasks.{carried, entry_of, hands_over, later, let_go, logged, task_over}
 use Rattle.ea_machine.specs.Turns.{actor_after, begun}
-use Rattle.ea_sound.specs.Present.{OfAsk, OfTask}
-use Rattle.ea_sound.proofs.Chronicle.{IsOfFirst, IsSame, Outcomes, Placement, Placing, SoFar, Underway, failed-is, outcomes, task-first}
+use Rattle.ea_sound.specs.Present.{OfAsk, OfTask, OldHeld, Rule, Fits}
+use Rattle.ea_sound.proofs.Chronicle.{IsOfFirst, IsSame, Outcomes, Placement, Placing, SoFar, Underway, failed-is, outcomes, task-first, WentTo}
 use Rattle.ea_sound.proofs.ShortRoutes.{Keeps, keeps-on, route-keeps}
-use Rattle.std.proofs.Common.{◌≢◌}
-use Rattle.ea_model.specs.Instance.{creating_single, placing_at}
-use Rattle.ea_machine.specs.Actor.{Begin, Ready}
 use Rattle.ea_machine.specs.Contents.{actor_sum, seats}
-use Rattle.ea_machine.specs.Machine.{wants}
-use Rattle.ea_machine.specs.Nodes.{named_at}
+use Rattle.ea_machine.specs.Nodes.{named_at, block_node}
 use Rattle.ea_machine.specs.Owners.{owner_of}
-use Rattle.ea_machine.specs.Placements.{holding, spot_of_place}
 use Rattle.ea_machine.specs.Released.{LiesAt, blocks_named as blocks_of_name, says_failed}
 use Rattle.ea_machine.specs.Names.{allocated, only}
 use Rattle.ea_machine.specs.State.{State}
 use Rattle.std.proofs.lemmas.Bool.{eqb-true}
-use Rattle.std.specs.Prelude.{◌==◌}
 use Rattle.ea_sound.specs.Rule.{blocks_of}
 use Rattle.ea_sound.proofs.TurnLists.{run-snoc, step-is}
-use Rattle.ea_machine.specs.Actor.{Ended}
-use Rattle.ea_machine.specs.Setup.{is_scheduler}
 use Rattle.ea_machine.specs.Shared.{Shared}
 use Rattle.ea_machine.specs.Table.{effect}
 use Rattle.ea_sound.specs.Leaves.{InOperation, IsFresh, Wanted, making as with_carrier}
 use Rattle.ea_sound.specs.Moments.{at, with_actor}
 use Rattle.ea_sound.specs.Orderly.{IsOrderly}
-use Rattle.ea_sound.specs.Present.{OldHeld, Rule}
 use Rattle.ea_sound.proofs.Alike.{allocated-with, lies-with}
 use Rattle.ea_sound.proofs.Choosing.{chosen-gap}
 use Rattle.ea_sound.proofs.FewBlocks.{blocks_named}
@@ -60,11 +51,6 @@ use Rattle.ea_sound.proofs.LyingBlocks.{LiesWith, lying, placing-lies, route-lie
 use Rattle.ea_sound.proofs.Numbered.{scheduler-seat}
 use Rattle.ea_sound.proofs.Operating.{closed-operation, held-other, held-stays, made-wanted}
 use Rattle.ea_sound.proofs.Totals.{put-here, total-part}
-use Rattle.ea_machine.specs.Actor.{Pushing, Routed, Why}
-use Rattle.ea_machine.specs.Entries.{IsAnother}
-use Rattle.ea_machine.specs.Nodes.{block_node}
-use Rattle.ea_sound.specs.Present.{Fits}
-use Rattle.ea_sound.proofs.Chronicle.{WentTo}
 use Rattle.ea_sound.proofs.Created.{scheduler-number}
 use Rattle.ea_sound.proofs.GoneRoutes.{route-queued}
 

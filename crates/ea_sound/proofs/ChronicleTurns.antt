@@ -18,26 +18,23 @@ use Rattle.ea_machine.specs.Placements.{counted, fetched, fits, holding, saw_by,
 use Rattle.ea_machine.specs.Releases.{turned}
 use Rattle.ea_machine.specs.Rows.{Answer, Done, Head, Rests, Passes, Saw, Won, Lost, Home, Got}
 use Rattle.ea_machine.specs.Searches.{Missed, Searched, Shown, Sight, sight, sight_if}
-use Rattle.ea_machine.specs.Setup.{Setup, greatest_number}
+use Rattle.ea_machine.specs.Setup.{Setup, greatest_number, is_scheduler}
 use Rattle.ea_machine.specs.Statistics.{observed}
 use Rattle.ea_machine.specs.Table.{answer}
 use Rattle.ea_machine.specs.Tasks.{halted, logged, let_go}
 use Rattle.ea_machine.specs.Turns.{actor_after, answered, begun}
-use Rattle.ea_sound.proofs.Chronicle.{AndShown, Fetches, IsSame, Searches, SoFar, Underway, asked-longer, further, placing-longer, way-asked}
+use Rattle.ea_sound.proofs.Chronicle.{AndShown, Fetches, IsSame, Searches, SoFar, Underway, asked-longer, further, placing-longer, way-asked, WentTo}
 use Rattle.ea_sound.proofs.SearchLists.{counted-most, searched-look, searched-lost, searched-on}
 use Rattle.ea_sound.proofs.SearchTurns.{fetch-tries, lost-other}
 use Rattle.ea_sound.proofs.BeginTurns.{IsInBegin, Walks, walks}
 use Rattle.ea_sound.proofs.ShortRoutes.{Keeps, keeps-same, turned-keeps}
-use Rattle.ea_sound.proofs.ChroniclePlaces.{Fine as IsFine, IsAsking, carried-fine, choice-fine, created-fine, logged-fine, search-fine}
+use Rattle.ea_sound.proofs.ChroniclePlaces.{Fine as IsFine, IsAsking, carried-fine, choice-fine, created-fine, logged-fine, search-fine, shared}
 use Rattle.ea_sound.proofs.ChronicleOperations.{itself-fine}
-use Rattle.ea_machine.specs.Setup.{is_scheduler}
 use Rattle.ea_machine.specs.Shared.{Shared}
 use Rattle.ea_sound.specs.Leaves.{Leaves}
 use Rattle.ea_sound.specs.Present.{OfAsk, Rule}
-use Rattle.ea_sound.proofs.ChroniclePlaces.{shared}
 use Rattle.ea_sound.proofs.Operating.{begun-kept}
 use Rattle.ea_sound.proofs.RowLeaves.{row-left}
-use Rattle.ea_sound.proofs.Chronicle.{WentTo}
 use Rattle.ea_sound.proofs.GoneRoutes.{turned-queued}
 
 module _ (e : Setup) (rules : (L : List ℕ) → Rule e (run e L)) (L : List ℕ) (me : ℕ) where

@@ -5,8 +5,7 @@ use Rattle.std.specs.Prelude.{Some}
 use Rattle.ea_model.specs.declared.carriers.BlockAt.{BlockAt}
 use Rattle.ea_model.specs.declared.carriers.Spot.{Spot}
 use Rattle.ea_model.specs.Content.{Content, block_at, released}
-use Rattle.ea_laws.specs.Kept.{IsLaidOut}
-use Rattle.ea_laws.specs.Kept.{number_of}
+use Rattle.ea_laws.specs.Kept.{IsLaidOut, number_of}
 use Rattle.ea_machine.specs.Actor.{Actor}
 use Rattle.ea_machine.specs.Contents.{AtHome, actor_sum, home_sum, seats, slots, sum_everywhere}
 use Rattle.ea_machine.specs.Names.{of_content, of_named, only_at}
