@@ -3,6 +3,8 @@ pub mod Doing
 pub mod Acts
 pub mod Freed
 pub mod NamesTable
+pub mod OutcomeGiven
+pub mod OutcomeSums
 pub mod Paths
 pub mod PresentCarriers
 pub mod PresentLive

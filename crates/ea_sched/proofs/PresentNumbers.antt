@@ -29,7 +29,7 @@ range-parts a (suc m) n = ap (range_with_len a) (next m n)
       moved : (a m : ℕ) → a + 1 + m ≡ a + suc m
       moved a m = omega arith
 
-range-last : (n : ℕ) → range_with_len 1 (suc n) ≡ range_with_len 1 n ++ suc n ∷ []
+pub range-last : (n : ℕ) → range_with_len 1 (suc n) ≡ range_with_len 1 n ++ suc n ∷ []
 range-last n = ap (range_with_len 1) (more n) ∙ range-parts 1 n 1
     ∙ ap (λ b. range_with_len 1 n ++ b ∷ []) (next n) where
       more : (n : ℕ) → suc n ≡ n + 1

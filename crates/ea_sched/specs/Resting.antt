@@ -1,13 +1,37 @@
 -- Schedulers in a state in which nobody steps.
-use Rattle.std.specs.Prelude.{ℕ, ◌+◌, List, flat_map, sum_by}
-use Rattle.ea_model.specs.Content.{Content}
+use Rattle.std.specs.Prelude.{◌≡◌, ℕ, ◌+◌, ◌-◌, ◌*◌, ◌≤◌, List, All, AllPairs, flat_map, length, map, sum_by}
+use Rattle.ea_model.specs.declared.carriers.Totals.{Totals}
+use Rattle.ea_model.specs.declared.outcome.Outcome.{Outcome}
+use Rattle.ea_model.specs.declared.settings.Config.{Config}
+use Rattle.ea_model.specs.declared.trace.Trace.{Trace}
+use Rattle.ea_model.specs.Content.{Content, free_units, gaps_of}
 use Rattle.ea_model.specs.Instance.{Instance, employed, size_at}
-use Rattle.ea_machine.specs.Actor.{Actor}
+use Rattle.ea_model.specs.Keyed.{IsBelow}
+use Rattle.ea_model.specs.Outcome.{plain_outcome}
+use Rattle.ea_model.specs.Trace.{plain_mode}
 use Rattle.ea_machine.specs.declared.nodes.Named.{Named}
+use Rattle.ea_machine.specs.Actor.{Actor}
+use Rattle.ea_machine.specs.Machine.{IsReached}
+use Rattle.ea_machine.specs.NamePlaces.{name_of}
+use Rattle.ea_machine.specs.Outcome as machine
+use Rattle.ea_machine.specs.Setup.{setup_of}
+use Rattle.ea_machine.specs.Shared.{Shared}
+use Rattle.ea_machine.specs.State.{State}
+use Rattle.ea_sched.specs.declared.state.Scheduler.{Scheduler}
+use Rattle.ea_sched.specs.Acting.{actor_of}
 
 -- the contents that schedulers employ, one scheduler's after another's
 abbrev pub all_employed : List Actor → List Content
 all_employed actors = flat_map (λ a. employed a.instance) actors
+
+-- the sum of what f gives for them, scheduler by scheduler
+abbrev pub sum_employed : (Content → ℕ) → List Scheduler → ℕ
+sum_employed f schedulers = sum_by (λ s. sum_by f (employed s.instance)) schedulers
+
+-- given names stand by rising name, from 1 up to the greatest
+pub record AreGiven (greatest : ℕ) (given : List Named) : Type 0 where
+  pub rising : AllPairs (IsBelow name_of) given
+  pub within : All (λ n. (1 ≤ n.name) × (n.name ≤ greatest)) given
 
 -- the units of the blocks that an instance has at the spots of names; a name whose block it doesn't
 -- have adds none
@@ -21,3 +45,45 @@ live_in actors given i = sum_by (λ a. units_named i a.held) actors + units_name
 -- of all live names, whatever instance has their blocks
 abbrev pub all_live : List Actor → List Named → ℕ
 all_live actors given = sum_by (λ a. live_in actors given a.instance) actors
+
+-- how many contents schedulers employ
+abbrev pub count_employed : List Scheduler → ℕ
+count_employed schedulers = sum_by (λ s. length (employed s.instance)) schedulers
+
+-- the totals of schedulers among which these names are given, where carriers don't migrate: blocks
+-- that no name has are on their way to be released; a carrier's header has 8 units
+abbrev pub totals_by : List Scheduler → List Named → Totals
+totals_by schedulers given =
+    let units = sum_employed (λ c. c.units) schedulers in
+    let live = all_live (map actor_of schedulers) given in
+    let free = sum_employed (λ c. free_units (gaps_of c)) schedulers in
+    let header = 8 * count_employed schedulers in
+    record {
+      carriers = count_employed schedulers;
+      units = units;
+      live = live;
+      queued = units - live - free - header;
+      free = free;
+      header = header;
+    }
+
+-- live blocks, gaps and headers are no more than all units
+abbrev pub HaveParts : Totals → Type 0
+HaveParts t = t.live + t.free + t.header ≤ t.units
+
+module _ (c : Config) (t : Trace) (schedulers : List Scheduler) (shared : Shared) where
+  -- the schedulers are those of a reached state, in order, and what they share is what is shared
+  -- there
+  pub record StandIn (state : State) : Type 0 where
+    pub reached : IsReached (setup_of c t) state
+    pub actors : map actor_of schedulers ≡ machine.actors_of (setup_of c t) state
+    pub shares : shared ≡ state.shared
+
+  -- there is such a state
+  abbrev pub Stand : Type 0
+  Stand = (state : State) × StandIn state
+
+  -- it is what is printed of each such state
+  abbrev pub IsOutcome : Outcome → Type 0
+  IsOutcome outcome = (state : State) → StandIn state
+      → plain_outcome outcome ≡ machine.outcome (setup_of c t) state (plain_mode t.mode)

@@ -4,6 +4,7 @@
 mod built;
 mod names;
 mod operations;
+mod outcome;
 mod placements;
 mod releases;
 mod scheduler;
@@ -12,5 +13,6 @@ mod state;
 
 pub use built::is_built;
 pub use names::Names;
+pub use outcome::outcome_of;
 pub use stage::Stage;
 pub use state::Scheduler;

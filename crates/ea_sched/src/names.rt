@@ -33,7 +33,7 @@ impl Model for Names {
 }
 
 /// The units of the block that the instance has at the spot, or 0.
-fn units_at(instance: &Instance, spot: Spot) -> u64
+pub fn units_at(instance: &Instance, spot: Spot) -> u64
     ensures units { result ≡ size_at instance.now spot }
     ensures small { result < 2 ^ 32 }
 {

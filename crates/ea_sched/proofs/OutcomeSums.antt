@@ -1,0 +1,198 @@
+-- What is printed of a state is what its schedulers come to, where their carriers don't migrate.
+use Rattle.std.proofs.Common.{◌≡◌, ℕ, ◌+◌, ◌*◌, ◌<◌, ◌≤◌, Bool, true, false, List, length, map, refl, sym, ap, ◌∙◌, subst, arith}
+use Rattle.std.specs.Prelude.{All, AllPairs, flat_map, nat_lt, sum_by, ◌&&◌, ◌==◌}
+use Rattle.std.specs.List.{list_all, range_with_len}
+use Rattle.std.proofs.Math.Path.{fun_ext}
+use Rattle.std.proofs.lemmas.List.{length-map}
+use Rattle.std.proofs.lemmas.Simd.{map-map}
+use Rattle.std.proofs.lemmas.List.Concat.{length-flat_map}
+use Rattle.std.proofs.lemmas.List.Folds.{flat_map-map}
+use Rattle.std.proofs.lemmas.List.FromFn.{length-map-range_with_len}
+use Rattle.ea_model.specs.declared.carriers.CarrierLine.{CarrierLine}
+use Rattle.ea_model.specs.declared.carriers.Totals.{Totals}
+use Rattle.ea_model.specs.declared.entries.Entry.{Entry}
+use Rattle.ea_model.specs.declared.outcome.Outcome.{Outcome}
+use Rattle.ea_model.specs.declared.settings.Config.{Config}
+use Rattle.ea_model.specs.declared.trace.Mode.{Mode}
+use Rattle.ea_model.specs.declared.trace.Trace.{Trace}
+use Rattle.ea_model.specs.declared.units.TheConstants.{MAX_SCHEDULERS}
+use Rattle.ea_model.specs.Content.{Content, free_units, gaps_of}
+use Rattle.ea_model.specs.Instance.{carrier_line, employed}
+use Rattle.ea_model.specs.Keyed.{IsBelow}
+use Rattle.ea_model.specs.Lists.{Items}
+use Rattle.ea_model.specs.Outcome.{plain_outcome}
+use Rattle.ea_model.specs.Settings.{IsValidConfig, settings_of}
+use Rattle.ea_model.specs.Trace.{IsValidTrace, listed, plain_mode, texts_of}
+use Rattle.ea_machine.specs.Actor.{Actor}
+use Rattle.ea_machine.specs.Machine.{run}
+use Rattle.ea_machine.specs.NamePlaces.{name_of}
+use Rattle.ea_machine.specs.Outcome.{actors_of, line_of, outcome, present}
+use Rattle.ea_machine.specs.Setup.{Setup, migration, setup_of}
+use Rattle.ea_machine.specs.Shared as shares
+use Rattle.ea_machine.specs.State.{State}
+use Rattle.ea_machine.specs.Sums.{sum_over}
+use Rattle.ea_sound.specs.Present.{Rule}
+use Rattle.ea_sound.proofs.Asked.{reached-rule}
+use Rattle.ea_sound.proofs.PrintedSums.{prints-sums}
+use Rattle.ea_sound.proofs.Protocols.{rule-run}
+use Rattle.ea_sound.proofs.Ranged.{sum-flat}
+use Rattle.ea_sound.proofs.SoundUnits.{sound-sums}
+use Rattle.ea_sound.proofs.Weights.{sum_by-sum_over}
+use Rattle.ea_sched.specs.declared.state.Scheduler.{Scheduler}
+use Rattle.ea_sched.specs.Acting.{actor_of}
+use Rattle.ea_sched.specs.Built.{is_built, is_built_mode, is_built_run}
+use Rattle.ea_sched.specs.Resting.{AreGiven, HaveParts, StandIn, all_employed, all_live, count_employed, sum_employed, totals_by}
+use Rattle.ea_sched.proofs.PresentCarriers.{present-contents, present-lines}
+use Rattle.ea_sched.proofs.PresentLive.{live-printed}
+use Rattle.ea_sched.proofs.PresentNames.{given-range}
+use Rattle.ea_sched.proofs.PresentNumbers.{HasKeyIn, map-flat_map}
+
+-- carriers of a run that is built don't migrate
+stays-built : (one rest : Bool) (acul : ℕ) → ((one && (acul == 0)) && rest) ≡ true
+    → nat_lt 0 acul ≡ false
+stays-built one rest acul built = grind (arith, built)
+
+-- outcomes with the same parts
+abbrev IsOutcome : Outcome → Outcome → Type 0
+IsOutcome o p = o ≡ p
+
+same_outcome : (a b : Items (Items Entry)) (c d : Items CarrierLine) (s t : Totals) (m n : Mode)
+    → a ≡ b → c ≡ d → s ≡ t → m ≡ n
+    → IsOutcome (record { logs = a; carriers = c; totals = s; mode = m })
+    (record { logs = b; carriers = d; totals = t; mode = n })
+same_outcome a b c d s t m n p q r u = cc
+
+-- totals that are the same, one by one
+abbrev IsTotals : Totals → Totals → Type 0
+IsTotals s t = s ≡ t
+
+same_totals : (a b c d f h i j k l m n : ℕ) → a ≡ i → b ≡ j → c ≡ k → d ≡ l → f ≡ m → h ≡ n
+    → IsTotals
+    (record { carriers = a; units = b; live = c; queued = d; free = f; header = h })
+    (record { carriers = i; units = j; live = k; queued = l; free = m; header = n })
+same_totals a b c d f h i j k l m n p q r s t u = cc
+
+built-off : (c : Config) (t : Trace) → is_built_run c t ≡ true
+    → migration (setup_of c t) ≡ false
+built-off c t built = stays-built (c.schedulers == 1)
+    (is_built_mode t.mode && list_all (list_all is_built) (texts_of t))
+    (settings_of c t.letter).acul built
+
+sum_by-flat : {A B : Type 0} (f : B → ℕ) (g : A → List B) (xs : List A)
+    → sum_by f (flat_map g xs) ≡ sum_by (λ x. sum_by f (g x)) xs
+sum_by-flat f g xs =
+    sum_by-sum_over f (flat_map g xs) ∙ sum-flat f g xs
+    ∙ sym (sum_by-sum_over (λ x. sum_by f (g x)) xs
+    ∙ ap (λ h. sum_over h xs) (fun_ext (λ x. sum_by-sum_over f (g x))))
+
+module _ (c : Config) (t : Trace) (valid : IsValidConfig c) (made : IsValidTrace c.schedulers t)
+    (built : is_built_run c t ≡ true) (ss : List Scheduler) (shared : shares.Shared) (w : State)
+    (stand : StandIn c t ss shared w) where
+  abbrev e : Setup
+  e = setup_of c t
+
+  rule : Rule e w
+  rule = reached-rule c t valid made w stand.reached
+
+  off : migration e ≡ false
+  off = built-off c t built
+
+  -- the schedulers are few
+  pub few-schedulers : length ss ≤ MAX_SCHEDULERS
+  few-schedulers = omega (
+    arith,
+    length-map ss actor_of,
+    ap length stand.actors,
+    length-map-range_with_len w.actors 1 c.schedulers,
+    valid.schedulers.1,
+  )
+
+  -- given names are in their range
+  ranged : All (HasKeyIn name_of 1 t.greatest) shared.given
+  ranged = subst (λ (s : shares.Shared). All (HasKeyIn name_of 1 t.greatest) s.given)
+      (sym (stand.shares ∙ ap (λ (v : State). v.shared) stand.reached.1))
+      (given-range c t made (rule-run c t valid made) stand.reached.0)
+
+  pub are-given : AreGiven t.greatest shared.given
+  are-given = record {
+    rising = subst (λ (s : shares.Shared). AllPairs (IsBelow name_of) s.given) (sym stand.shares)
+        rule.present.given;
+    within = λ k d within. let at = ranged k d within in (at.0, omega (arith, at.1));
+  }
+
+  -- the contents that are printed are those that the schedulers employ
+  printed : map (λ p. p.content) (present e w) ≡ flat_map (λ s. employed s.instance) ss
+  printed = present-contents e w rule off ∙ ap all_employed (sym stand.actors)
+      ∙ flat_map-map (λ (a : Actor). employed a.instance) actor_of ss
+
+  lines-printed : map line_of (present e w)
+      ≡ flat_map (λ s. map carrier_line (employed s.instance)) ss
+  lines-printed = present-lines e w rule off
+      ∙ ap (λ actors. map carrier_line (all_employed actors)) (sym stand.actors)
+      ∙ ap (map carrier_line) (flat_map-map (λ (a : Actor). employed a.instance) actor_of ss)
+      ∙ map-flat_map carrier_line (λ (s : Scheduler). employed s.instance) ss
+
+  module _ (mode : Mode) where
+    abbrev totals : Totals
+    totals = (outcome e w mode).totals
+
+    carriers-printed : totals.carriers ≡ count_employed ss
+    carriers-printed = ap length printed
+        ∙ length-flat_map (λ (s : Scheduler). employed s.instance) ss
+
+    sum-printed : (f : Content → ℕ)
+        → sum_by f (map (λ p. p.content) (present e w)) ≡ sum_employed f ss
+    sum-printed f = ap (sum_by f) printed
+        ∙ sum_by-flat f (λ (s : Scheduler). employed s.instance) ss
+
+    units-printed : totals.units ≡ sum_employed (λ x. x.units) ss
+    units-printed = sum-printed (λ x. x.units)
+
+    free-printed : totals.free ≡ sum_employed (λ x. free_units (gaps_of x)) ss
+    free-printed = sum-printed (λ x. free_units (gaps_of x))
+
+    live-is : totals.live ≡ all_live (map actor_of ss) shared.given
+    live-is = live-printed e w rule off mode
+        ∙ ap (λ actors. all_live actors w.shared.given) (sym stand.actors)
+        ∙ ap (λ (s : shares.Shared). all_live (map actor_of ss) s.given) (sym stand.shares)
+
+    -- the totals add up
+    totals-sum : totals.live + totals.queued + totals.free + totals.header ≡ totals.units
+    totals-sum =
+        let sums = prints-sums e w rule in
+        omega (
+          arith,
+          sums.live mode,
+          sums.queued mode,
+          sums.free mode,
+          sums.header mode,
+          sums.units mode,
+          sound-sums e w rule,
+        )
+
+    -- so they are those of the schedulers
+    pub have-parts : HaveParts (totals_by ss shared.given)
+    have-parts =
+        omega (arith, carriers-printed, units-printed, free-printed, live-is, totals-sum)
+
+    totals-printed : totals_by ss shared.given ≡ totals
+    totals-printed = same_totals _ _ _ _ _ _ _ _ _ _ _ _
+        (sym carriers-printed) (sym units-printed) (sym live-is)
+        (omega (arith, carriers-printed, units-printed, free-printed, live-is, totals-sum))
+        (sym free-printed) (ap (λ n. 8 * n) (sym carriers-printed))
+
+  module _ (o : Outcome) (logs : map (λ log. log.items) o.logs.items ≡ map (λ s. s.log.items) ss)
+      (lines : o.carriers.items ≡ flat_map (λ s. map carrier_line (employed s.instance)) ss)
+      (sums : o.totals ≡ totals_by ss shared.given) (mode : plain_mode o.mode ≡ plain_mode t.mode)
+    where
+      logs-are : listed (map listed (map (λ log. log.items) o.logs.items))
+          ≡ listed (map (λ (a : Actor). listed a.log) (actors_of e w))
+      logs-are = ap (λ ls. listed (map listed ls)) logs
+          ∙ ap listed (map-map listed (λ (s : Scheduler). s.log.items) ss
+          ∙ sym (map-map (λ (a : Actor). listed a.log) actor_of ss)
+          ∙ ap (map (λ (a : Actor). listed a.log)) stand.actors)
+
+      -- an outcome with these parts is what is printed
+      pub outcome-is : plain_outcome o ≡ outcome e w (plain_mode t.mode)
+      outcome-is = same_outcome _ _ _ _ _ _ _ _ logs-are
+          (ap listed (lines ∙ sym lines-printed)) (sums ∙ totals-printed (plain_mode t.mode)) mode

@@ -1,0 +1,30 @@
+use Rattle.std.proofs.Common.{sym, ap, ◌∙◌, arith}
+use Rattle.ea_model.specs.Instance.{size_at}
+use Rattle.ea_sched.proofs.OutcomeGiven.{given-sum, missing, next-summed, of_name, of_spot}
+use Rattle.ea_sched.proofs.outcome.given_in.Goals as goal
+use Rattle.ea_sched.proofs.outcome.given_in.Goals.{in-Some, in_default}
+
+pub loop-before-preserved : goal.loop-before-preserved
+loop-before-preserved g c =
+    let size = size_at c.args.instance.now in
+    let given = (g.H.Rested.rested c.args.shared.now).given in
+    let l = c.loop-before in
+    elim c.match-given.branch [
+      | in-Some w ↦
+          let found = w.units_at-units in
+          next-summed (of_name size given) l.before l.units found.result
+          c.match-given.units l.invariant found.ensures.small
+          (found.ensures.units ∙ ap (of_spot size) (sym w.in-Some.is ∙ c.given.ensures)) w.units-is
+      | in_default w ↦
+          next-summed (of_name size given) l.before l.units 0
+          c.match-given.units l.invariant (omega arith)
+          (ap (of_spot size) (sym (missing c.given.result w.in_default.not-Some) ∙ c.given.ensures))
+          (w.units-is ∙ omega arith)
+    ]
+
+pub returns : goal.returns
+returns g c =
+    c.loop-before.invariant.1
+    ∙ given-sum (size_at c.args.instance.now) c.args.greatest
+    (g.H.Rested.rested c.args.shared.now).given c.requires.given c.loop-before.before
+    (omega (arith, c.loop-before-test.false, c.loop-before.auto.before-end))

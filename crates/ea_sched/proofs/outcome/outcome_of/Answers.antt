@@ -1,0 +1,49 @@
+use Rattle.std.proofs.Common.{length, sym, ap, ◌∙◌, subst, arith}
+use Rattle.std.specs.Prelude.{flat_map, map}
+use Rattle.ea_model.specs.Instance.{carrier_line, employed}
+use Rattle.ea_model.specs.Trace.{plain_mode}
+use Rattle.ea_sched.specs.Resting.{HaveParts, totals_by}
+use Rattle.ea_sched.proofs.OutcomeSums.{are-given, few-schedulers, have-parts, outcome-is}
+use Rattle.ea_sched.proofs.outcome.outcome_of.Goals as goal
+
+pub totals_of-requires-clause-few : goal.totals_of-requires-clause-few
+totals_of-requires-clause-few g c =
+    let (w, stand) = c.requires.stand in
+    omega (
+      arith,
+      ap length c.as_slice-schedulers.ensures,
+      few-schedulers c.args.config c.args.trace.now c.requires.config c.requires.trace
+          c.requires.built c.args.schedulers.now.items (g.H.Rested.rested c.args.shared.now) w
+          stand,
+    )
+
+pub totals_of-requires-clause-given : goal.totals_of-requires-clause-given
+totals_of-requires-clause-given g c =
+    let (w, stand) = c.requires.stand in
+    are-given c.args.config c.args.trace.now c.requires.config c.requires.trace c.requires.built
+    c.args.schedulers.now.items (g.H.Rested.rested c.args.shared.now) w stand
+
+pub totals_of-requires-clause-parts : goal.totals_of-requires-clause-parts
+totals_of-requires-clause-parts g c =
+    let (w, stand) = c.requires.stand in
+    let shared = g.H.Rested.rested c.args.shared.now in
+    subst (λ ss. HaveParts (totals_by ss shared.given)) (sym c.as_slice-schedulers.ensures)
+    (have-parts c.args.config c.args.trace.now c.requires.config c.requires.trace c.requires.built
+    c.args.schedulers.now.items shared w stand (plain_mode c.args.trace.now.mode))
+
+pub returns : goal.returns
+returns g c = λ w stand.
+    let ss = c.as_slice-schedulers.ensures in
+    let shared = g.H.Rested.rested c.args.shared.now in
+    outcome-is c.args.config c.args.trace.now c.requires.config c.requires.trace c.requires.built
+    c.args.schedulers.now.items shared w stand
+    (record {
+      logs = c.in_ok-logs_of.field-0;
+      carriers = c.in_ok-lines_of.field-0;
+      totals = c.totals_of.result;
+      mode = c.in_ok-copy.field-0;
+    })
+    (c.in_ok-logs_of.ensures ∙ ap (map (λ s. s.log.items)) ss)
+    (c.in_ok-lines_of.ensures ∙ ap (flat_map (λ s. map carrier_line (employed s.instance))) ss)
+    (c.totals_of.ensures ∙ ap (λ l. totals_by l shared.given) ss)
+    c.in_ok-copy.ensures

@@ -1,0 +1,202 @@
+//! The outcome of a run in which nobody steps any more.
+ghost use Rattle.std.specs.Prelude.{◌≡◌, ◌*◌, ◌^◌, ◌<◌, ◌≤◌, true, IfOk, flat_map, length, map, sum_by};
+ghost use Rattle.ea_model.specs.declared.units.TheConstants.{MAX_SCHEDULERS, MAX_UNITS, NUMBERS};
+ghost use Rattle.ea_model.specs.Content.{free_units, gaps_of};
+ghost use Rattle.ea_model.specs.Instance.{carrier_line, employed};
+ghost use Rattle.ea_model.specs.Settings.{IsValidConfig};
+ghost use Rattle.ea_model.specs.Trace.{IsValidTrace};
+ghost use Rattle.ea_sched.specs.Acting.{actor_of};
+ghost use Rattle.ea_sched.specs.Built.{is_built_run};
+ghost use Rattle.ea_sched.specs.Resting.{AreGiven, HaveParts, IsOutcome, Stand, all_live, count_employed, sum_employed, totals_by, units_named};
+ghost use Rattle.ea_sched.specs.Resting as resting;
+
+use crate::names::units_at;
+use crate::state::Scheduler;
+use ea_instance::Instance;
+use ea_mbc::Mbc;
+use ea_model::{
+    CarrierLine, Config, Entry, HEADER_UNITS, List, OutOfMemory, Outcome, Totals, Trace,
+};
+use ea_shared::Rested;
+use std::alloc::Global;
+
+/// The log once more.
+fn copy_of(alloc: Global, log: &List<Entry>) -> Result<List<Entry>, OutOfMemory>
+    ensures { IfOk result (λ copy. copy.items ≡ log.now.items) }
+{
+    let mut copy = List::new(alloc);
+    copy.extend_from_slice(log.as_slice())?;
+    Ok(copy)
+}
+
+/// The logs of the schedulers.
+fn logs_of(alloc: Global, schedulers: &[Scheduler<'_>]) -> Result<List<List<Entry>>, OutOfMemory>
+    ensures { IfOk result (λ logs. map (λ log. log.items) logs.items
+        ≡ map (λ s. s.log.items) schedulers.now) }
+{
+    let mut logs = List::new(alloc);
+    for scheduler in schedulers {
+        logs.push(copy_of(alloc, &scheduler.log)?)?;
+    }
+    Ok(logs)
+}
+
+/// The lines of the carriers that the schedulers employ.
+fn lines_of(alloc: Global, schedulers: &[Scheduler<'_>]) -> Result<List<CarrierLine>, OutOfMemory>
+    ensures { IfOk result (λ lines. lines.items
+        ≡ flat_map (λ s. map carrier_line (employed s.instance)) schedulers.now) }
+{
+    let mut lines = List::new(alloc);
+    for scheduler in schedulers {
+        scheduler.instance.put_lines(&mut lines)?;
+    }
+    Ok(lines)
+}
+
+/// How many carriers an instance employs.
+fn carriers_in(instance: &Instance) -> u32
+    ensures carriers { result ≡ length (employed instance.now) }
+    ensures few { result ≤ 2 * NUMBERS }
+{
+    let multi = instance.multi_figures();
+    let single = instance.single_figures();
+    (multi.carriers + single.carriers) as u32
+}
+
+/// The units of the carriers that an instance employs.
+fn units_in(instance: &Instance) -> u64
+    ensures units { result ≡ sum_by (λ c. c.units) (employed instance.now) }
+    ensures small { result ≤ 2 * MAX_UNITS * NUMBERS }
+{
+    let multi = instance.multi_figures();
+    let single = instance.single_figures();
+    multi.carriers_size + single.carriers_size
+}
+
+fn carriers_of(schedulers: &[Scheduler<'_>]) -> u32
+    requires { length schedulers.now ≤ MAX_SCHEDULERS }
+    ensures { result ≡ count_employed schedulers.now }
+{
+    schedulers.iter().map(|s| carriers_in(&s.instance)).sum()
+}
+
+fn units_of(schedulers: &[Scheduler<'_>]) -> u64
+    requires { length schedulers.now ≤ MAX_SCHEDULERS }
+    ensures { result ≡ sum_employed (λ c. c.units) schedulers.now }
+{
+    schedulers.iter().map(|s| units_in(&s.instance)).sum()
+}
+
+fn free_of(schedulers: &[Scheduler<'_>]) -> u64
+    requires { sum_employed (λ c. free_units (gaps_of c)) schedulers.now < 2 ^ 64 }
+    ensures { result ≡ sum_employed (λ c. free_units (gaps_of c)) schedulers.now }
+{
+    let mut units = 0;
+    for scheduler in schedulers {
+        units += scheduler.instance.free_units();
+    }
+    units
+}
+
+/// The units of the blocks of given names that an instance has.
+fn given_in<H: Rested<Content = Mbc>>(shared: &H, greatest: u32, instance: &Instance) -> u64
+    requires greatest { greatest ≡ H.greatest shared.now }
+    requires given { AreGiven greatest (H.rested shared.now).given }
+    ensures { result ≡ units_named instance.now (H.rested shared.now).given }
+{
+    let mut units = 0;
+    for before in 0..greatest {
+        if let Some(spot) = shared.given(before + 1) {
+            units += units_at(instance, spot);
+        }
+    }
+    units
+}
+
+/// The units of the blocks of held and of given names that an instance has.
+fn live_in<H: Rested<Content = Mbc>>(
+    schedulers: &[Scheduler<'_>],
+    shared: &H,
+    greatest: u32,
+    instance: &Instance,
+) -> u64
+    requires greatest { greatest ≡ H.greatest shared.now }
+    requires given { AreGiven greatest (H.rested shared.now).given }
+    requires fits { resting.live_in (map actor_of schedulers.now) (H.rested shared.now).given
+        instance.now < 2 ^ 64 }
+    ensures { result ≡ resting.live_in (map actor_of schedulers.now) (H.rested shared.now).given
+        instance.now }
+{
+    let mut units = given_in(shared, greatest, instance);
+    for scheduler in schedulers {
+        units += scheduler.names.units_in(instance);
+    }
+    units
+}
+
+/// The units of the blocks of held and of given names.
+fn live_of<H: Rested<Content = Mbc>>(schedulers: &[Scheduler<'_>], shared: &H, greatest: u32) -> u64
+    requires greatest { greatest ≡ H.greatest shared.now }
+    requires given { AreGiven greatest (H.rested shared.now).given }
+    requires fits { all_live (map actor_of schedulers.now) (H.rested shared.now).given < 2 ^ 64 }
+    ensures { result ≡ all_live (map actor_of schedulers.now) (H.rested shared.now).given }
+{
+    let mut units = 0;
+    for scheduler in schedulers {
+        units += live_in(schedulers, shared, greatest, &scheduler.instance);
+    }
+    units
+}
+
+/// The totals of schedulers that share this, live and queued blocks told apart.
+fn totals_of<H: Rested<Content = Mbc>>(
+    schedulers: &[Scheduler<'_>],
+    shared: &H,
+    greatest: u32,
+) -> Totals
+    requires few { length schedulers.now ≤ MAX_SCHEDULERS }
+    requires greatest { greatest ≡ H.greatest shared.now }
+    requires given { AreGiven greatest (H.rested shared.now).given }
+    requires parts { HaveParts (totals_by schedulers.now (H.rested shared.now).given) }
+    ensures { result ≡ totals_by schedulers.now (H.rested shared.now).given }
+{
+    let carriers = carriers_of(schedulers);
+    let units = units_of(schedulers);
+    let live = live_of(schedulers, shared, greatest);
+    let free = free_of(schedulers);
+    let header = u64::from(HEADER_UNITS) * u64::from(carriers);
+    Totals {
+        carriers,
+        units,
+        live,
+        queued: units - live - free - header,
+        free,
+        header,
+    }
+}
+
+/// What is printed of a run in which nobody steps any more: of whatever state it is in which its
+/// schedulers, in order, and what they share stand so. Carriers don't migrate. It fails only where
+/// there is no memory.
+pub fn outcome_of<H: Rested<Content = Mbc>>(
+    alloc: Global,
+    config: Config,
+    trace: &Trace,
+    schedulers: &List<Scheduler<'_>>,
+    shared: &H,
+) -> Result<Outcome, OutOfMemory>
+    requires config { IsValidConfig config }
+    requires trace { IsValidTrace config.schedulers trace.now }
+    requires built { is_built_run config trace.now ≡ true }
+    requires greatest { trace.now.greatest ≡ H.greatest shared.now }
+    requires stand { Stand config trace.now schedulers.now.items (H.rested shared.now) }
+    ensures { IfOk result (IsOutcome config trace.now schedulers.now.items (H.rested shared.now)) }
+{
+    let schedulers = schedulers.as_slice();
+    Ok(Outcome {
+        logs: logs_of(alloc, schedulers)?,
+        carriers: lines_of(alloc, schedulers)?,
+        totals: totals_of(schedulers, shared, trace.greatest),
+        mode: trace.mode.copy(alloc)?,
+    })
+}
