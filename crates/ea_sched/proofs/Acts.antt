@@ -1,8 +1,21 @@
 -- What the local work makes of an actor, by what it changes.
-use Rattle.std.proofs.Common.{◌≡◌, ℕ, List, [], ◌∷◌, ◌++◌, ap, ◌∙◌}
+use Rattle.std.proofs.Common.{◌≡◌, ℕ, List, [], ◌∷◌, ◌++◌, inl, inr, refl, sym, ap, ◌∙◌}
+use Rattle.std.specs.Prelude.{Option, None, Some, option_map}
+use Rattle.std.proofs.lemmas.Bool.{cases_eq}
+use Rattle.ea_model.specs.declared.carriers.Place.{Place}
+use Rattle.ea_model.specs.declared.carriers.Spot.{Spot}
 use Rattle.ea_model.specs.declared.entries.Entry.{Entry}
 use Rattle.ea_model.specs.declared.operations.Op.{Op}
-use Rattle.ea_model.specs.Instance.{Instance}
+use Rattle.ea_model.specs.Instance.{Instance, place_at, placing_at}
+use Rattle.ea_model.specs.Keyed.{item_at}
+use Rattle.ea_model.proofs.Rising.{item_at-gone, item_at-stays}
+use Rattle.ea_instance.specs.Answers.{placing_if}
+use Rattle.ea_machine.specs.Setup.{Setup}
+use Rattle.ea_machine.specs.NamePlaces.{name_of}
+use Rattle.ea_machine.specs.Nodes.{spot_named, without_name}
+use Rattle.ea_machine.specs.Placements.{holding, placed_at, spot_of_place, stands}
+use Rattle.ea_machine.specs.declared.asks.Ask.{Ask}
+use Rattle.ea_sound.proofs.Asked.{unnamed-spot}
 use Rattle.ea_machine.specs.declared.nodes.Named.{Named}
 use Rattle.ea_machine.specs.Actor.{Actor, Begin}
 use Rattle.ea_machine.specs.Tasks.{later, logged}
@@ -21,3 +34,47 @@ handed a x y i j h k e f g =
     ap (λ z. logged z (record a { instance = i; held = h })) e
     ∙ ap (λ z. logged y (record a { instance = z; held = h })) f
     ∙ ap (λ z. logged y (record a { instance = j; held = z })) g
+
+-- where a block was placed
+pub chosen-place : (i new : Instance) (o : Option Spot) (need name : ℕ) (p : Place)
+    → option_map (λ spot. place_at i spot need) o ≡ Some p → new ≡ placing_if i o need name
+    → (spot : Spot) × (o ≡ Some spot) × (p ≡ place_at i spot need)
+    × (new ≡ placing_at i spot need name)
+chosen-place i new None need name p e f = absurd cc
+chosen-place i new (Some spot) need name p e f =
+    let same : place_at i spot need ≡ p = cc in (spot, refl, sym same, f)
+
+-- it was not placed
+pub unplaced : (i new : Instance) (o : Option Spot) (need name : ℕ)
+    → option_map (λ spot. place_at i spot need) o ≡ None → new ≡ placing_if i o need name
+    → (o ≡ None) × (new ≡ i)
+unplaced i new None need name e f = (refl, f)
+unplaced i new (Some spot) need name e f = absurd cc
+
+module _ (setup : Setup) (me : ℕ) (a : Actor) (ask : Ask) where
+  -- a block that stands at its place, in the instance `new`
+  abbrev pub stood : Place → Instance → Actor
+  stood p new = stands setup me ask.name p ask.old
+      (holding ask.name (spot_of_place p) (record a { instance = new }))
+
+  pub stood-placed : (new : Instance) (spot : Spot) (p : Place)
+      → p ≡ place_at a.instance spot ask.need
+      → new ≡ placing_at a.instance spot ask.need ask.name
+      → stood p new ≡ placed_at setup me ask a spot
+  stood-placed new spot p e f = ap (λ q. stood q new) e
+      ∙ ap (stood (place_at a.instance spot ask.need)) f
+
+  pub stood-as : (p q : Place) (i j : Instance) → p ≡ q → i ≡ j → stood p i ≡ stood q j
+  stood-as p q i j e f = ap (λ r. stood r i) e ∙ ap (stood q) f
+
+-- a name that isn't held, once another is let go
+pub unheld-let_go : (n name : ℕ) (held : List Named) → spot_named n held ≡ None
+    → spot_named n (without_name name held) ≡ None
+unheld-let_go n name held e =
+    let none = unnamed-spot n held e in
+    elim (cases_eq n name) [
+      | inl same ↦ ap (option_map (λ (x : Named). x.spot))
+          (ap (item_at name_of (without_name name held)) same ∙ item_at-gone name_of name held)
+      | inr other ↦ ap (option_map (λ (x : Named). x.spot))
+          (item_at-stays name_of n name held other ∙ none)
+    ]

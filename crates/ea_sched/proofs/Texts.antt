@@ -1,5 +1,5 @@
 -- The texts of a trace whose run is built.
-use Rattle.std.proofs.Common.{◌≡◌, ℕ, zero, suc, ◌+◌, ◌-◌, ◌<◌, ◌≤◌, Bool, true, false, ◌&&◌, ◌==◌, nat_lt, eqb-eq, List, [], ◌∷◌, map, drop, length, slice_index_or, refl, sym, ap, ◌∙◌, arith}
+use Rattle.std.proofs.Common.{◌≡◌, ℕ, zero, suc, ◌+◌, ◌-◌, ◌<◌, ◌≤◌, Bool, true, false, ◌&&◌, ◌==◌, nat_lt, eqb-true, List, [], ◌∷◌, map, drop, length, slice_index_or, refl, sym, ap, ◌∙◌, arith}
 use Rattle.std.specs.List.{list_all}
 use Rattle.ea_model.specs.declared.operations.Op.{Op}
 use Rattle.ea_model.specs.declared.settings.Config.{Config}
@@ -88,9 +88,12 @@ last_of false b e = absurd cc
 -- carriers don't migrate
 pub off-built : (c : Config) (t : Trace) → is_built_run c t ≡ true
     → migration (setup_of c t) ≡ false
-off-built c t e = let acul : (settings_of c t.letter).acul ≡ 0 = eqb-eq _ _ (last_of (c.schedulers == 1) _ (first_of (is_built_config c t.letter) _ e)) in
+off-built c t e = let acul : (settings_of c t.letter).acul ≡ 0 =
+    eqb-true (settings_of c t.letter).acul 0
+    (last_of (c.schedulers == 1) _ (first_of (is_built_config c t.letter) _ e)) in
     ap (λ n. nat_lt 0 n) acul
 
 -- and there is one scheduler
 pub one-built : (c : Config) (t : Trace) → is_built_run c t ≡ true → c.schedulers ≡ 1
-one-built c t e = eqb-eq _ _ (first_of (c.schedulers == 1) _ (first_of (is_built_config c t.letter) _ e))
+one-built c t e = eqb-true c.schedulers 1
+    (first_of (c.schedulers == 1) _ (first_of (is_built_config c t.letter) _ e))
