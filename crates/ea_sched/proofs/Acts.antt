@@ -1,18 +1,24 @@
 -- What the local work makes of an actor, by what it changes.
-use Rattle.std.proofs.Common.{◌≡◌, ℕ, List, [], ◌∷◌, ◌++◌, inl, inr, refl, sym, ap, ◌∙◌}
+use Rattle.std.proofs.Common.{◌≡◌, ◌≢◌, ℕ, true, false, List, [], ◌∷◌, ◌++◌, inl, inr, refl, sym, ap, ◌∙◌}
 use Rattle.std.specs.Prelude.{Option, None, Some, option_map}
 use Rattle.std.proofs.lemmas.Bool.{cases_eq}
+use Rattle.ea_model.specs.declared.carriers.Block.{Block}
 use Rattle.ea_model.specs.declared.carriers.Place.{Place}
 use Rattle.ea_model.specs.declared.carriers.Spot.{Spot}
 use Rattle.ea_model.specs.declared.entries.Entry.{Entry}
 use Rattle.ea_model.specs.declared.operations.Op.{Op}
-use Rattle.ea_model.specs.Instance.{Instance, place_at, placing_at}
+use Rattle.ea_model.specs.Instance.{Instance, place_at, placing_at, resizing_at}
 use Rattle.ea_model.specs.Keyed.{item_at}
 use Rattle.ea_model.proofs.Rising.{item_at-gone, item_at-stays}
+use Rattle.ea_model.specs.declared.entries.Entry.TheVariants as entry
+use Rattle.ea_model.specs.declared.reallocation.Decision.{Decision}
+use Rattle.ea_model.specs.declared.reallocation.Decision.TheVariants.{Stay, ShrinkHere, GrowHere, ShrinkCarrier, Move}
+use Rattle.ea_machine.specs.Reallocations.{resized_here, resized_place}
+use Rattle.ea_sched.specs.Deciding.{is_move}
 use Rattle.ea_instance.specs.Answers.{placing_if}
 use Rattle.ea_machine.specs.Setup.{Setup}
 use Rattle.ea_machine.specs.NamePlaces.{name_of}
-use Rattle.ea_machine.specs.Nodes.{spot_named, without_name}
+use Rattle.ea_machine.specs.Nodes.{spot_named, with_name, without_name}
 use Rattle.ea_machine.specs.Placements.{holding, placed_at, spot_of_place, stands}
 use Rattle.ea_machine.specs.declared.asks.Ask.{Ask}
 use Rattle.ea_sound.proofs.Asked.{unnamed-spot}
@@ -78,3 +84,36 @@ unheld-let_go n name held e =
       | inr other ↦ ap (option_map (λ (x : Named). x.spot))
           (item_at-stays name_of n name held other ∙ none)
     ]
+
+-- a decision
+pub is-Move : (d : Decision) → is_move d ≡ true → d ≡ Move
+is-Move Stay e = absurd cc
+is-Move ShrinkHere e = absurd cc
+is-Move GrowHere e = absurd cc
+is-Move (ShrinkCarrier pages) e = absurd cc
+is-Move Move e = refl
+
+pub not-Move : (d : Decision) → is_move d ≡ false → d ≢ Move
+not-Move d e same = let f : true ≡ false = sym (ap is_move same) ∙ e in absurd cc
+
+-- a block that is reallocated in its place
+module _ (a : Actor) (old : Named) (fresh need : ℕ) where
+  abbrev pub kept_as : Place → Instance → List Named → Actor
+  kept_as p i held = logged (entry.ReallocHere old.name fresh p)
+      (record a { instance = i; held = held })
+
+  pub kept-resized : (p : Place) (i : Instance) (held : List Named)
+      → p ≡ resized_place a.instance old.spot need
+      → i ≡ resizing_at a.instance old.spot need fresh
+      → held ≡ with_name (record { name = fresh; spot = old.spot }) (without_name old.name a.held)
+      → kept_as p i held ≡ resized_here old fresh need a
+  kept-resized p i held e f g =
+      ap (λ q. kept_as q i held) e
+      ∙ ap (λ j. kept_as (resized_place a.instance old.spot need) j held) f
+      ∙ ap (kept_as (resized_place a.instance old.spot need)
+      (resizing_at a.instance old.spot need fresh)) g
+
+-- the units of a block that was found
+abbrev pub size_found : Option Block → ℕ
+size_found None = 0
+size_found (Some b) = b.size

@@ -1,5 +1,5 @@
 -- What the local work of a scheduler asks for.
-use Rattle.std.specs.Prelude.{◌≡◌, ℕ, ◌%◌, ◌<◌, ◌≤◌, Option, None, IfSome, IsSome, length}
+use Rattle.std.specs.Prelude.{◌≡◌, ℕ, ◌%◌, ◌<◌, ◌≤◌, List, ◌∷◌, Option, None, IfSome, IsSome, drop, length}
 use Rattle.ea_model.specs.declared.operations.Op.{Op}
 use Rattle.ea_model.specs.declared.operations.Op.TheVariants.{Alloc, Free, Realloc, Give, Take, Info, Idle}
 use Rattle.ea_model.specs.declared.units.TheConstants.{MAX_BYTES}
@@ -45,3 +45,7 @@ Suits s (Give name to) = ⊥
 Suits s (Take name tries) = ⊥
 Suits s Info = Unit {0}
 Suits s Idle = Unit {0}
+
+-- the next operation may be the next one, if one is left
+abbrev pub SuitsNext : Scheduler → Type 0
+SuitsNext s = (o : Op) (ops : List Op) → drop s.done s.text.now ≡ o ∷ ops → Suits s o

@@ -5,3 +5,4 @@ pub mod Releasing
 pub mod Acting
 pub mod Steps
 pub mod Asking
+pub mod Deciding

@@ -10,9 +10,11 @@ mod releases;
 mod scheduler;
 mod stage;
 mod state;
+mod step;
 
 pub use built::is_built;
 pub use names::Names;
 pub use outcome::outcome_of;
 pub use stage::Stage;
 pub use state::Scheduler;
+pub use step::Progress;

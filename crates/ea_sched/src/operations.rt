@@ -11,6 +11,7 @@ ghost use Rattle.ea_machine.specs.Reallocations as reallocations;
 ghost use Rattle.ea_machine.specs.Statistics as statistics;
 ghost use Rattle.ea_machine.specs.Tasks as tasks;
 ghost use Rattle.ea_sched.specs.Acting.{IsSame, actor_of, ready_of, setup_for};
+ghost use Rattle.ea_sched.specs.Deciding as deciding;
 ghost use Rattle.ea_sched.specs.Asking.{HasMore, HasName, IsFresh, IsHere, Suits};
 
 use crate::stage::Stage;
@@ -18,6 +19,13 @@ use crate::state::Scheduler;
 use ea_machine::{Ask, Named};
 use ea_model::{Decision, Entry, Op, OutOfMemory, Place, need};
 use std::alloc::Global;
+
+/// Whether the block is to move.
+fn is_move(decision: Decision) -> bool
+    ensures { result ≡ deciding.is_move decision }
+{
+    matches!(decision, Decision::Move)
+}
 
 impl<'t> Scheduler<'t> {
     /// Reallocates the block of a name that is held.
@@ -39,7 +47,8 @@ impl<'t> Scheduler<'t> {
             (decision_at self.old.instance old.spot need)) }
         ensures same { IsSame self.old self.new }
     {
-        if self.instance.resize(old.spot, need, fresh)? == Decision::Move {
+        let decision = self.instance.resize(old.spot, need, fresh)?;
+        if is_move(decision) {
             let ask = Ask {
                 name: fresh,
                 need,
@@ -103,7 +112,7 @@ impl<'t> Scheduler<'t> {
     }
 
     /// Does an operation, once its begin is over.
-    fn operate(&mut self, alloc: Global, op: Op) -> Result<(), OutOfMemory>
+    pub fn operate(&mut self, alloc: Global, op: Op) -> Result<(), OutOfMemory>
         requires more { HasMore self.old }
         requires fits { Suits self.old op }
         ensures actor { OnOk result (actor_of self.new ≡ operations.itself

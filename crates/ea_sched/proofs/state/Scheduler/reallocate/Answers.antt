@@ -1,23 +1,25 @@
-use Rattle.std.proofs.Common.{◌≡◌, refl, sym, ap, ◌∙◌}
-use Rattle.std.specs.Prelude.{Some}
+use Rattle.std.proofs.Common.{◌≡◌, ◌≢◌, refl, sym, ap, ◌∙◌}
+use Rattle.std.specs.Prelude.{Some, option_map}
 use Rattle.std.proofs.lemmas.Result.{on_ok_weaker}
 use Rattle.ea_model.specs.declared.reallocation.Decision.TheVariants.{Move}
+use Rattle.ea_model.specs.Content.{named}
 use Rattle.ea_model.specs.Instance.{decision_at, resized_by, resized_to}
-use Rattle.ea_machine.specs.Nodes.{spot_named}
+use Rattle.ea_machine.specs.Nodes.{spot_named, with_name}
 use Rattle.ea_machine.specs.Placements.{seek}
 use Rattle.ea_sched.specs.Acting.{ready_of, setup_for}
-use Rattle.ea_sched.proofs.Acts.{unheld-let_go}
-use Rattle.ea_sched.proofs.Paths.{moves}
+use Rattle.ea_sched.proofs.Acts.{is-Move, kept-resized, not-Move, size_found, unheld-let_go}
+use Rattle.ea_sched.proofs.Paths.{moves, resized}
 use Rattle.ea_sched.proofs.state.Scheduler.reallocate.Goals as goal
 
-pub returns-then-eq-clause-actor : goal.returns-then-eq-clause-actor
-returns-then-eq-clause-actor c =
+pub returns-then-is_move-clause-actor : goal.returns-then-is_move-clause-actor
+returns-then-is_move-clause-actor c =
     let s = c.args.self.now in
     let old = c.args.old in
     let need = c.args.need in
     let fresh = c.args.fresh in
-    let goes : decision_at s.instance old.spot need ≡ Move = ? in
-    let same = c.in_ok-resize.ensures.ok
+    let goes : decision_at s.instance old.spot need ≡ Move = sym c.in_ok-decision.ensures.decision
+    ∙ is-Move c.in_ok-decision.decision (sym c.is_move.ensures ∙ c.if-is_move.true) in
+    let same = c.in_ok-decision.ensures.ok
     ∙ ap (λ d. resized_by d s.instance old.spot (resized_to s.instance old.spot need) fresh) goes in
     on_ok_weaker c.seek.result
     (λ is. is
@@ -30,3 +32,25 @@ pub hold-requires-clause-fresh : goal.hold-requires-clause-fresh
 hold-requires-clause-fresh c =
     ap (λ held. spot_named c.args.fresh held) c.let_go.ensures.held
     ∙ unheld-let_go c.args.fresh c.args.old.name c.args.self.now.names.held c.requires.fresh.fresh
+
+pub returns-clause-actor : goal.returns-clause-actor
+returns-clause-actor c =
+    let s = c.args.self.now in
+    let old = c.args.old in
+    let need = c.args.need in
+    let fresh = c.args.fresh in
+    let d = c.in_ok-decision.decision in
+    let stays : d ≢ Move = not-Move d (sym c.is_move.ensures ∙ c.if-is_move.false) in
+    let size : c.in-Some.block.size ≡ resized_to s.instance old.spot need =
+    ap size_found (sym c.in-Some.is ∙ c.block_at.ensures
+    ∙ ap (option_map named) (c.in_ok-decision.ensures.begins stays)) in
+    c.finish.ensures.actor
+    ∙ kept-resized (ready_of s) old fresh need
+    (record { carrier = old.spot.carrier; offset = old.spot.offset; size = c.in-Some.block.size })
+    c.resize.new.self c.hold.new.self.held
+    (ap (λ n. record { carrier = old.spot.carrier; offset = old.spot.offset; size = n }) size)
+    c.in_ok-decision.ensures.ok
+    (c.hold.ensures.held
+    ∙ ap (with_name (record { name = fresh; spot = old.spot })) c.let_go.ensures.held)
+    ∙ sym (resized (setup_for s) s.number (ready_of s) old fresh need d
+    (sym c.in_ok-decision.ensures.decision) stays)
