@@ -1,6 +1,7 @@
 -- What the local work makes of an actor, by what it changes.
 use Rattle.std.proofs.Common.{◌≡◌, ◌≢◌, ℕ, true, false, List, [], ◌∷◌, ◌++◌, inl, inr, refl, sym, ap, ◌∙◌}
-use Rattle.std.specs.Prelude.{Option, None, Some, option_map}
+use Rattle.std.specs.Prelude.{Option, None, Some, option_map, Result, Ok, Err, OnOk}
+use Rattle.std.specs.Result.{is_err}
 use Rattle.std.proofs.lemmas.Bool.{cases_eq}
 use Rattle.ea_model.specs.declared.carriers.Block.{Block}
 use Rattle.ea_model.specs.declared.carriers.Place.{Place}
@@ -117,3 +118,8 @@ module _ (a : Actor) (old : Named) (fresh need : ℕ) where
 abbrev pub size_found : Option Block → ℕ
 size_found None = 0
 size_found (Some b) = b.size
+
+-- a call that didn't fail
+pub went : {T E P : Type 0} (r : Result T E) → OnOk r P → false ≡ is_err r → P
+went (Ok x) h e = h
+went (Err x) h e = absurd cc

@@ -11,3 +11,4 @@ pub mod PresentLive
 pub mod PresentNames
 pub mod PresentNumbers
 pub mod Texts
+pub mod Suiting

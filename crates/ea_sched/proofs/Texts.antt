@@ -98,3 +98,9 @@ off-built c t e = let acul : (settings_of c t.letter).acul ≡ 0 =
 pub one-built : (c : Config) (t : Trace) → is_built_run c t ≡ true → c.schedulers ≡ 1
 one-built c t e = eqb-true c.schedulers 1
     (first_of (c.schedulers == 1) _ (first_of (is_built_config c t.letter) _ e))
+
+-- all operations are built
+pub texts-built : (c : Config) (t : Trace) → is_built_run c t ≡ true
+    → list_all (list_all is_built) (texts_of t) ≡ true
+texts-built c t e = last_of (is_built_mode t.mode) _
+    (last_of (is_built_config c t.letter) _ e)

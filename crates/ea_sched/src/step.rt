@@ -2,9 +2,9 @@
 ghost use Rattle.std.specs.Prelude.{◌≡◌, ◌↔◌, true, false, IfOk, OnErr, OnOk, Ok, Err};
 ghost use Rattle.ea_machine.specs.Operations as operations;
 ghost use Rattle.ea_machine.specs.Statistics as statistics;
-ghost use Rattle.ea_machine.specs.Actor.{Begin};
 ghost use Rattle.ea_sched.specs.Acting.{IsSame, actor_of, is_ended, ready_of, setup_for};
 ghost use Rattle.ea_sched.specs.Asking.{SuitsNext};
+ghost use Rattle.ea_sched.specs.declared.step.Progress.TheVariants as progress;
 ghost use Rattle.ea_sched.specs.Steps.{Ready, Stepped};
 
 use crate::stage::Stage;
@@ -41,10 +41,13 @@ impl<'t> Scheduler<'t> {
             (actor_of self.old).todo)) }
         ensures same { IsSame self.old self.new }
     {
-        match self.text.get(self.done) {
-            Some(op) => self.operate(alloc, *op)?,
-            None => self.stage = Stage::Ended,
+        if self.done >= self.text.len() {
+            self.stage = Stage::Ended;
+            self.observe();
+            return Ok(());
         }
+        let op = self.text[self.done];
+        self.operate(alloc, op)?;
         self.observe();
         Ok(())
     }
@@ -67,8 +70,8 @@ impl<'t> Scheduler<'t> {
             (actor_of self.old) (actor_of self.new) (S.shared shared.old) (S.shared shared.new)
             (S.caller shared.old) (S.caller shared.new)) }
         ensures goes { OnOk result (self.old.failed ≡ false × self.new.failed ≡ false) }
-        ensures ended { IfOk result (λ p. (p ≡ Ended) ↔ (is_ended self.old.stage ≡ true)) }
-        ensures rests { IfOk result (λ p. p ≡ Ended → (self.new ≡ self.old)
+        ensures ended { IfOk result (λ p. (p ≡ progress.Ended) ↔ (is_ended self.old.stage ≡ true)) }
+        ensures rests { IfOk result (λ p. p ≡ progress.Ended → (self.new ≡ self.old)
             × (shared.new ≡ shared.old)) }
         ensures fails { OnErr result (self.new.failed ≡ true) }
         ensures failed { self.old.failed ≡ true → (result ≡ Err (record {}))
@@ -77,8 +80,9 @@ impl<'t> Scheduler<'t> {
         if self.failed {
             return Err(OutOfMemory);
         }
-        if let Stage::Ended = self.stage {
-            return Ok(Progress::Ended);
+        match self.stage {
+            Stage::Ended => return Ok(Progress::Ended),
+            Stage::Begin => (),
         }
         match shared.take_all(self.number) {
             None => (),
