@@ -1,7 +1,6 @@
 -- What is printed of a state is what its schedulers come to, where their carriers don't migrate.
-use Rattle.std.proofs.Common.{◌≡◌, ℕ, ◌+◌, ◌*◌, ◌<◌, ◌≤◌, Bool, true, false, List, length, map, refl, sym, ap, ◌∙◌, subst, arith}
-use Rattle.std.specs.Prelude.{All, AllPairs, flat_map, nat_lt, sum_by, ◌&&◌, ◌==◌}
-use Rattle.std.specs.List.{list_all, range_with_len}
+use Rattle.std.proofs.Common.{◌≡◌, ℕ, ◌+◌, ◌*◌, ◌≤◌, true, false, List, length, map, sym, ap, ◌∙◌, subst, arith}
+use Rattle.std.specs.Prelude.{All, AllPairs, flat_map, sum_by}
 use Rattle.std.proofs.Math.Path.{fun_ext}
 use Rattle.std.proofs.lemmas.List.{length-map}
 use Rattle.std.proofs.lemmas.Simd.{map-map}
@@ -21,10 +20,9 @@ use Rattle.ea_model.specs.Instance.{carrier_line, employed}
 use Rattle.ea_model.specs.Keyed.{IsBelow}
 use Rattle.ea_model.specs.Lists.{Items}
 use Rattle.ea_model.specs.Outcome.{plain_outcome}
-use Rattle.ea_model.specs.Settings.{IsValidConfig, settings_of}
-use Rattle.ea_model.specs.Trace.{IsValidTrace, listed, plain_mode, texts_of}
+use Rattle.ea_model.specs.Settings.{IsValidConfig}
+use Rattle.ea_model.specs.Trace.{IsValidTrace, listed, plain_mode}
 use Rattle.ea_machine.specs.Actor.{Actor}
-use Rattle.ea_machine.specs.Machine.{run}
 use Rattle.ea_machine.specs.NamePlaces.{name_of}
 use Rattle.ea_machine.specs.Outcome.{actors_of, line_of, outcome, present}
 use Rattle.ea_machine.specs.Setup.{Setup, migration, setup_of}
@@ -40,17 +38,13 @@ use Rattle.ea_sound.proofs.SoundUnits.{sound-sums}
 use Rattle.ea_sound.proofs.Weights.{sum_by-sum_over}
 use Rattle.ea_sched.specs.declared.state.Scheduler.{Scheduler}
 use Rattle.ea_sched.specs.Acting.{actor_of}
-use Rattle.ea_sched.specs.Built.{is_built, is_built_mode, is_built_run}
+use Rattle.ea_sched.specs.Built.{is_built_run}
 use Rattle.ea_sched.specs.Resting.{AreGiven, HaveParts, StandIn, all_employed, all_live, count_employed, sum_employed, totals_by}
 use Rattle.ea_sched.proofs.PresentCarriers.{present-contents, present-lines}
 use Rattle.ea_sched.proofs.PresentLive.{live-printed}
 use Rattle.ea_sched.proofs.PresentNames.{given-range}
 use Rattle.ea_sched.proofs.PresentNumbers.{HasKeyIn, map-flat_map}
-
--- carriers of a run that is built don't migrate
-stays-built : (one rest : Bool) (acul : ℕ) → ((one && (acul == 0)) && rest) ≡ true
-    → nat_lt 0 acul ≡ false
-stays-built one rest acul built = grind (arith, built)
+use Rattle.ea_sched.proofs.Texts.{off-built}
 
 -- outcomes with the same parts
 abbrev IsOutcome : Outcome → Outcome → Type 0
@@ -72,12 +66,6 @@ same_totals : (a b c d f h i j k l m n : ℕ) → a ≡ i → b ≡ j → c ≡ 
     (record { carriers = i; units = j; live = k; queued = l; free = m; header = n })
 same_totals a b c d f h i j k l m n p q r s t u = cc
 
-built-off : (c : Config) (t : Trace) → is_built_run c t ≡ true
-    → migration (setup_of c t) ≡ false
-built-off c t built = stays-built (c.schedulers == 1)
-    (is_built_mode t.mode && list_all (list_all is_built) (texts_of t))
-    (settings_of c t.letter).acul built
-
 sum_by-flat : {A B : Type 0} (f : B → ℕ) (g : A → List B) (xs : List A)
     → sum_by f (flat_map g xs) ≡ sum_by (λ x. sum_by f (g x)) xs
 sum_by-flat f g xs =
@@ -95,7 +83,7 @@ module _ (c : Config) (t : Trace) (valid : IsValidConfig c) (made : IsValidTrace
   rule = reached-rule c t valid made w stand.reached
 
   off : migration e ≡ false
-  off = built-off c t built
+  off = off-built c t built
 
   -- the schedulers are few
   pub few-schedulers : length ss ≤ MAX_SCHEDULERS

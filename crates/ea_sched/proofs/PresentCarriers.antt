@@ -1,15 +1,14 @@
 -- Where carriers don't migrate, those that are there are those that the instances employ.
-use Rattle.std.proofs.Common.{◌≡◌, ℕ, ◌+◌, ◌<◌, ◌≤◌, Bool, true, false, List, [], ◌∷◌, ◌++◌, map, map-id, get_or, refl, sym, ap, ◌∙◌, subst, arith}
+use Rattle.std.proofs.Common.{◌≡◌, ℕ, ◌+◌, true, false, List, [], ◌∷◌, ◌++◌, map, map-id, get_or, refl, sym, ap, ◌∙◌, subst, arith}
 use Rattle.std.specs.Prelude.{Option, None, Some, All, filter, flat_map, is_some, not}
 use Rattle.std.specs.Option.{option_or}
 use Rattle.std.specs.List.{range_with_len}
 use Rattle.std.proofs.lemmas.Bool.{false≢true}
 use Rattle.std.proofs.lemmas.List.Elements.{All-head, All-tail}
 use Rattle.std.proofs.lemmas.List.Folds.{find-append, flat_map-map}
-use Rattle.ea_model.specs.declared.carriers.OwnCarrier.{OwnCarrier}
 use Rattle.ea_model.specs.declared.carriers.Standing.TheVariants as standing
 use Rattle.ea_model.specs.Content.{Content}
-use Rattle.ea_model.specs.Instance.{Instance, carrier_line, content_of, employed, first_number, is_used, own_at, own_of}
+use Rattle.ea_model.specs.Instance.{Instance, carrier_line, content_of, employed, first_number, is_used, own_of}
 use Rattle.ea_model.specs.Keyed.{has_key, merged}
 use Rattle.ea_model.proofs.Merged.{merged-All, merged-first, merged-second}
 use Rattle.ea_model.proofs.Options.{is_some-map}

@@ -1,5 +1,5 @@
 -- Where carriers don't migrate, the units of live blocks are summed instance by instance.
-use Rattle.std.proofs.Common.{◌≡◌, ℕ, ◌+◌, ◌≤◌, false, List, [], ◌∷◌, ◌++◌, map, get_or, refl, sym, ap, ◌∙◌, arith}
+use Rattle.std.proofs.Common.{◌≡◌, ℕ, ◌+◌, ◌≤◌, false, List, [], ◌∷◌, map, get_or, refl, sym, ap, ◌∙◌, arith}
 use Rattle.std.specs.Prelude.{Option, None, Some, All, flat_map, sum_by}
 use Rattle.std.specs.List.{range_with_len}
 use Rattle.std.specs.Option.{option_and_then}
@@ -9,12 +9,12 @@ use Rattle.ea_model.specs.declared.carriers.BlockAt.{BlockAt}
 use Rattle.ea_model.specs.declared.carriers.Spot.{Spot}
 use Rattle.ea_model.specs.declared.trace.Mode.{Mode}
 use Rattle.ea_model.specs.Content.{Content, block_at, size_of}
-use Rattle.ea_model.specs.Instance.{Instance, block_in, content_of, employed, size_at}
+use Rattle.ea_model.specs.Instance.{block_in, content_of, employed, size_at}
 use Rattle.ea_model.proofs.Rising.{item_at-key}
 use Rattle.ea_laws.specs.Kept.{number_of}
 use Rattle.ea_machine.specs.declared.nodes.Named.{Named}
 use Rattle.ea_machine.specs.Actor.{Actor}
-use Rattle.ea_machine.specs.Outcome.{actors_of, live_spots, outcome, present, units_at}
+use Rattle.ea_machine.specs.Outcome.{actors_of, live_spots, outcome, units_at}
 use Rattle.ea_machine.specs.Places.{has_number}
 use Rattle.ea_machine.specs.Setup.{Setup, migration}
 use Rattle.ea_machine.specs.State.{State}

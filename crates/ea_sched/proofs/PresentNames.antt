@@ -1,13 +1,12 @@
 -- Names that stand are names of the trace's operations.
-use Rattle.std.proofs.Common.{◌≡◌, ◌≢◌, ℕ, zero, suc, ◌+◌, ◌<◌, ◌≤◌, Bool, true, false, List, [], ◌∷◌, get_or, refl, sym, ap, ◌∙◌, inl, inr, arith}
+use Rattle.std.proofs.Common.{◌≡◌, ℕ, ◌<◌, ◌≤◌, Bool, true, false, List, [], ◌∷◌, get_or, refl, ap, ◌∙◌, inl, inr, arith}
 use Rattle.std.proofs.lemmas.Bool.{cases_lt}
-use Rattle.std.specs.Prelude.{All, flat_map, length}
+use Rattle.std.specs.Prelude.{All, length}
 use Rattle.std.proofs.lemmas.List.Elements.{All-head, All-tail}
 use Rattle.ea_model.specs.declared.operations.Op.{Op}
 use Rattle.ea_model.specs.declared.operations.Op.TheVariants.{Alloc, Free, Realloc, Give, Take, Info, Idle}
 use Rattle.ea_model.specs.declared.settings.Config.{Config}
 use Rattle.ea_model.specs.declared.trace.Trace.{Trace}
-use Rattle.ea_model.specs.Settings.{IsValidConfig}
 use Rattle.ea_model.specs.Trace.{IsOperation, IsValidTrace, greatest_in, greatest_of, makes, operations_of, texts_of}
 use Rattle.ea_model.proofs.Rising.{item_at-each}
 use Rattle.ea_machine.specs.Actor.{Actor}
@@ -16,7 +15,7 @@ use Rattle.ea_machine.specs.Machine.{first_stage, run, start}
 use Rattle.ea_machine.specs.NamePlaces.{name_of}
 use Rattle.ea_machine.specs.Names.{allocated, made_in, of_named, only, to_make, unplaced}
 use Rattle.ea_machine.specs.Setup.{Setup, is_scheduler, setup_of, text_for}
-use Rattle.ea_machine.specs.Sums.{one_if, sum_over, total}
+use Rattle.ea_machine.specs.Sums.{one_if}
 use Rattle.ea_machine.specs.declared.nodes.Named.{Named}
 use Rattle.ea_sound.specs.Present.{Rule}
 use Rattle.ea_sound.proofs.Fading.{stays-gone}
