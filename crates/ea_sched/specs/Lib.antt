@@ -6,3 +6,4 @@ pub mod Acting
 pub mod Steps
 pub mod Asking
 pub mod Deciding
+pub mod Running

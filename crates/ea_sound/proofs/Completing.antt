@@ -222,11 +222,11 @@ module _ (e : Setup) where
   reached-run w [] r = r
   reached-run w (j ∷ js) r = reached-run (step e w j) js (reached-step w j r)
 
-  ending-none : (most : ℕ) (w : State) (s : ℕ) → ending e most w s Ended ≡ []
+  pub ending-none : (most : ℕ) (w : State) (s : ℕ) → ending e most w s Ended ≡ []
   ending-none zero w s = refl
   ending-none (suc most) w s = refl
 
-  ending-one : (most : ℕ) (w : State) (s : ℕ) (st : Stage) → st ≢ Ended
+  pub ending-one : (most : ℕ) (w : State) (s : ℕ) (st : Stage) → st ≢ Ended
       → ending e (suc most) w s st
       ≡ s ∷ ending e most (step e w s) s ((step e w s).actors s).stage
   ending-one most w s Ended ne = absurd (ne refl)
@@ -371,6 +371,14 @@ module _ (e : Setup) (w : State) (s : ℕ) where
   fits-elsewhere a (Taking n tries left) f = tt
   fits-elsewhere a Ended f = tt
   fits-elsewhere a Ready f = tt
+
+-- a turn of a scheduler that hasn't ended leaves it less work
+pub rule-less : (e : Setup) (w : State) (s : ℕ) → Rule e w → (w.actors s).stage ≢ Ended
+    → work e (step e w s) s < work e w s
+rule-less e w s rule ne =
+    let fits = rule.present.fits s in
+    step-less e w s ne (λ ready. subst (Fits e w s (w.actors s)) ready fits)
+    (fits-elsewhere e w s (w.actors s) (w.actors s).stage fits)
 
 pub rule-ends_all : (e : Setup) → ((turns : List ℕ) → Rule e (run e turns)) → EndsAll e
 rule-ends_all e rule = ends-all e
