@@ -11,10 +11,8 @@ use Rattle.ea_model.specs.Settings.{IsValidConfig}
 use Rattle.ea_model.specs.declared.trace.Mode.{Mode}
 use Rattle.ea_model.specs.declared.trace.Mode.TheVariants.{Threads, Schedule, Generated}
 use Rattle.ea_model.specs.Trace.{IsValidMode, IsValidTrace, turns_of}
-use Rattle.ea_machine.specs.Actor.{Actor}
 use Rattle.ea_machine.specs.Completion.{complete, completing, end_of, finishing, turns_in}
 use Rattle.ea_machine.specs.Machine.{IsReached, first_actor, run, run_on, start}
-use Rattle.ea_machine.specs.Outcome.{actors_of}
 use Rattle.ea_machine.specs.Setup.{Setup, setup_of}
 use Rattle.ea_machine.specs.State.{State}
 use Rattle.ea_sound.proofs.TurnLists.{run-append}
@@ -94,7 +92,7 @@ module _ (c : Config) (t : Trace) (one : c.schedulers ≡ 1) (s : Scheduler)
   end-is u same =
       let turns = turns_in t.mode in
       let f : Setup → Setup → ℕ → State = λ a b k.
-          run_on b (run a turns) (finishing b (run a turns) k) in
+      run_on b (run a turns) (finishing b (run a turns) k) in
       let e = setup_of c t in
       as-run u s (record { config = sym same.config; trace = sym same.trace; number = sym same.number })
       (λ b k. f (setup_for s) b k ≡ f (setup_for s) (setup_for s) s.number) refl

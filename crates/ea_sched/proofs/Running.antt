@@ -1,16 +1,16 @@
 -- A scheduler takes its turns on plain memory.
-use Rattle.std.proofs.Common.{◌≡◌, ◌≢◌, ℕ, zero, suc, ◌+◌, ◌*◌, ◌<◌, ◌≤◌, length, ◌++◌, Bool, true, false, ◌&&◌, List, [], ◌∷◌, ◌⊎◌, inl, inr, append-nil, refl, sym, ap, subst, ◌∙◌, arith}
-use Rattle.std.specs.Prelude.{Option, None, Some, IfSome, replicate}
+use Rattle.std.proofs.Common.{◌≡◌, ◌≢◌, ℕ, zero, suc, ◌<◌, ◌≤◌, length, ◌++◌, true, false, ◌&&◌, List, [], inl, inr, refl, sym, ap, subst, ◌∙◌, arith}
+use Rattle.std.specs.Prelude.{None, Some}
 use Rattle.std.proofs.Math.Path.{fun_ext}
 use Rattle.std.proofs.Common.{Bor}
 use Rattle.ea_model.specs.declared.settings.Config.{Config}
 use Rattle.ea_model.specs.declared.trace.Trace.{Trace}
 use Rattle.ea_model.specs.Settings.{IsValidConfig}
 use Rattle.ea_model.specs.Trace.{IsValidTrace}
-use Rattle.ea_machine.specs.Actor.{Actor, Begin, Ended}
+use Rattle.ea_machine.specs.Actor.{Actor, Ended}
 use Rattle.ea_machine.specs.Completion.{actor_rows, ending, finishing, work}
 use Rattle.ea_machine.specs.Machine.{IsReached, after_row, is_main, onward, place_by, run_on, start, step, wants}
-use Rattle.ea_machine.specs.Owners.{CarrierAt, Absent, owner_of}
+use Rattle.ea_machine.specs.Owners.{CarrierAt, owner_of}
 use Rattle.ea_machine.specs.Setup.{Setup, migration, setup_of}
 use Rattle.ea_machine.specs.Shared.{Shared}
 use Rattle.ea_machine.specs.State.{State}
@@ -47,17 +47,17 @@ module _ (e : Setup) (me : ℕ) (v w : State) (same : v.actors me ≡ w.actors m
       × ((step e v me).shared ≡ (step e w me).shared)
   step-alike = elim (ended-or (v.actors me).stage) [
     | inl ended ↦ (
-        ap (λ (u : State). u.actors me) (step-ended e v me ended) ∙ same
-        ∙ sym (ap (λ (u : State). u.actors me) (step-ended e w me (sym alike_stage ∙ ended))),
-        ap (λ (u : State). u.shared) (step-ended e v me ended) ∙ shares
-        ∙ sym (ap (λ (u : State). u.shared) (step-ended e w me (sym alike_stage ∙ ended))),
-      )
+      ap (λ (u : State). u.actors me) (step-ended e v me ended) ∙ same
+          ∙ sym (ap (λ (u : State). u.actors me) (step-ended e w me (sym alike_stage ∙ ended))),
+      ap (λ (u : State). u.shared) (step-ended e v me ended) ∙ shares
+          ∙ sym (ap (λ (u : State). u.shared) (step-ended e w me (sym alike_stage ∙ ended))),
+    )
     | inr going ↦
         let also : (w.actors me).stage ≢ Ended = λ ended. going (alike_stage ∙ ended) in (
           step-mine e v me going ∙ ap (λ a. goes a v.shared) same
-          ∙ ap (goes (w.actors me)) shares ∙ sym (step-mine e w me also),
+              ∙ ap (goes (w.actors me)) shares ∙ sym (step-mine e w me also),
           step-shared e v me going ∙ ap (λ a. effect me (wants a) v.shared) same
-          ∙ ap (effect me (wants (w.actors me))) shares ∙ sym (step-shared e w me also),
+              ∙ ap (effect me (wants (w.actors me))) shares ∙ sym (step-shared e w me also),
         )
   ]
 
@@ -124,7 +124,7 @@ module _ {C : Type 0} where
       let e = setup_for s in
       let v = step e w s.number in
       let alike = step-alike e s.number took.state w (took.actor ∙ sym at.actor)
-          (sym took.shares.0 ∙ at.shares) in
+      (sym took.shares.0 ∙ at.shares) in
       let became : nothing_shared ≡ (step e took.state s.number).shared = cc in
       record {
         config = subst IsValidConfig (sym same.config) at.config;
@@ -168,10 +168,9 @@ module _ {C : Type 0} where
       let v = step e w s.number in
       let less = stands-less s m w at going in
       let left : work e v s.number ≡ actor_rows (setup_for t) (actor_of t) =
-          as-run s t same (λ u k. work u v k ≡ actor_rows (setup_for t) (actor_of t))
-          (work-left t n v now) in
+      as-run s t same (λ u k. work u v k ≡ actor_rows (setup_for t) (actor_of t))
+      (work-left t n v now) in
       omega (arith, less, left, work-left s m w at)
-
 
 module _ {C : Type 0} where
   -- turns after turns

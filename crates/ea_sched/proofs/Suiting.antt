@@ -1,5 +1,5 @@
 -- A scheduler may do its next operation.
-use Rattle.std.proofs.Common.{◌≡◌, ℕ, zero, suc, ◌≤◌, Bool, true, false, ◌&&◌, List, [], ◌∷◌, drop, refl, sym, ap, subst, ◌∙◌, arith}
+use Rattle.std.proofs.Common.{◌≡◌, ℕ, zero, suc, ◌≤◌, Bool, true, false, ◌&&◌, List, [], ◌∷◌, drop, refl, sym, ap, ◌∙◌, arith}
 use Rattle.std.specs.Prelude.{Option, None, Some, IfSome, option_map}
 use Rattle.std.specs.List.{list_all}
 use Rattle.ea_model.specs.declared.operations.Op.{Op}
@@ -45,13 +45,13 @@ module _ (s : Scheduler) (facts : Facts s.config s.trace.now s.number (actor_of 
   has_name : (name : ℕ) → name ≤ s.trace.now.greatest → HasName s name
   has_name name upto = (omega (arith, upto, s.names_upto), by (named_at name s.names.held) refl)
     where
-    by : (o : Option Named) → named_at name s.names.held ≡ o → IfSome o (IsHere s)
-    by None e = tt
-    by (Some x) e = record {
-      name = omega (arith, facts.name name x e, upto, s.names_upto);
-      own = alone-owner s.config s.trace.now s.number (actor_of s) facts name x e (one-built s.config s.trace.now s.built);
-      block = alone-there s.config s.trace.now s.number (actor_of s) facts name x e (one-built s.config s.trace.now s.built) (off-built s.config s.trace.now s.built);
-    }
+      by : (o : Option Named) → named_at name s.names.held ≡ o → IfSome o (IsHere s)
+      by None e = tt
+      by (Some x) e = record {
+        name = omega (arith, facts.name name x e, upto, s.names_upto);
+        own = alone-owner s.config s.trace.now s.number (actor_of s) facts name x e (one-built s.config s.trace.now s.built);
+        block = alone-there s.config s.trace.now s.number (actor_of s) facts name x e (one-built s.config s.trace.now s.built) (off-built s.config s.trace.now s.built);
+      }
 
   is_fresh : (name : ℕ) → name ≤ s.trace.now.greatest → named_at name s.names.held ≡ None → IsFresh s name
   is_fresh name upto none = record {

@@ -72,11 +72,11 @@ text-is texts (suc i) text from to e =
 pub drop-later : (k : ℕ) (ops : List Op) → drop (k + 1) ops ≡ later (drop k ops)
 drop-later k ops = let e : k + 1 ≡ suc k = omega arith in ap (λ n. drop n ops) e ∙ by k ops
   where
-  by : (k : ℕ) (ops : List Op) → drop (suc k) ops ≡ later (drop k ops)
-  by zero [] = refl
-  by zero (o ∷ ops) = refl
-  by (suc k) [] = refl
-  by (suc k) (o ∷ ops) = by k ops
+    by : (k : ℕ) (ops : List Op) → drop (suc k) ops ≡ later (drop k ops)
+    by zero [] = refl
+    by zero (o ∷ ops) = refl
+    by (suc k) [] = refl
+    by (suc k) (o ∷ ops) = by k ops
 
 first_of : (a b : Bool) → (a && b) ≡ true → a ≡ true
 first_of true b e = refl

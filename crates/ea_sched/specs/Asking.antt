@@ -1,5 +1,5 @@
 -- What the local work of a scheduler asks for.
-use Rattle.std.specs.Prelude.{◌≡◌, ℕ, ◌%◌, ◌<◌, ◌≤◌, List, ◌∷◌, Option, None, IfSome, IsSome, drop, length}
+use Rattle.std.specs.Prelude.{◌≡◌, ℕ, ◌%◌, ◌<◌, ◌≤◌, List, ◌∷◌, None, IfSome, IsSome, drop, length}
 use Rattle.ea_model.specs.declared.operations.Op.{Op}
 use Rattle.ea_model.specs.declared.operations.Op.TheVariants.{Alloc, Free, Realloc, Give, Take, Info, Idle}
 use Rattle.ea_model.specs.declared.units.TheConstants.{MAX_BYTES}

@@ -45,7 +45,9 @@ impl<'t> Scheduler<'t> {
         ensures same { IsSame self.old self.new }
     {
         let Place {
-            carrier, offset, ..
+            carrier,
+            offset,
+            ..
         } = place;
         let name = ask.name;
         self.names.hold(name, Spot { carrier, offset });

@@ -1,6 +1,5 @@
 -- Where nothing is shared, a queue that is taken leaves nothing.
 use Rattle.std.proofs.Common.{◌≡◌, ℕ, Bool, true, false, if◌then◌else◌, ◌==◌, List, [], None, Some, refl, sym, ap}
-use Rattle.std.proofs.lemmas.Bool.{cases_Bool}
 use Rattle.ea_machine.specs.Nodes.{Mark}
 use Rattle.ea_machine.specs.Owners.{Absent}
 use Rattle.ea_machine.specs.Shared.{Shared, put}

@@ -1,7 +1,6 @@
 use Rattle.std.proofs.Common.{◌≡◌, [], ◌∷◌, ◌++◌, List, sym, ap, subst, ◌∙◌}
-use Rattle.std.specs.Prelude.{All, IfOk, flat_map, replicate}
+use Rattle.std.specs.Prelude.{All}
 use Rattle.std.proofs.lemmas.Result.{IfOk-weaker}
-use Rattle.ea_model.specs.declared.outcome.Outcome.{Outcome}
 use Rattle.ea_model.specs.declared.trace.Turns.{Turns}
 use Rattle.ea_model.specs.Outcome.{plain_outcome}
 use Rattle.ea_model.specs.Trace.{plain_mode, turns_of}

@@ -1,10 +1,9 @@
-use Rattle.std.proofs.Common.{◌≡◌, ◌≢◌, true, false, sym, ap, subst, ◌∙◌}
-use Rattle.ea_machine.specs.Actor.{Ended}
+use Rattle.std.proofs.Common.{sym, ◌∙◌}
 use Rattle.ea_machine.specs.Completion.{finishing}
 use Rattle.ea_machine.specs.Machine.{run_on, step}
-use Rattle.ea_sched.specs.Acting.{actor_of, is_ended, setup_for}
+use Rattle.ea_sched.specs.Acting.{setup_for}
 use Rattle.ea_sched.specs.Running.{LeadsTo}
-use Rattle.ea_sched.proofs.Running.{as-run, going-stage, leads-next, same-back, same-on, stands-going, stands-less, turn-less}
+use Rattle.ea_sched.proofs.Running.{as-run, leads-next, same-back, same-on, stands-going, stands-less, turn-less}
 use Rattle.ea_sched.proofs.run.run_out.Goals as goal
 
 pub loop-alloc-smaller : goal.loop-alloc-smaller

@@ -1,4 +1,3 @@
-use Rattle.std.specs.Prelude.{ℕ}
 use Rattle.ea_machine.specs.State.{State}
 use Rattle.ea_machine.specs.Completion.{actor_rows, finishing}
 use Rattle.ea_machine.specs.Machine.{run_on}

@@ -1,4 +1,4 @@
-use Rattle.std.proofs.Common.{◌≡◌, ◌+◌, ◌++◌, get_or, take, ap, sym, ◌∙◌, subst}
+use Rattle.std.proofs.Common.{◌≡◌, ◌+◌, ◌++◌, get_or, take, sym, subst}
 use Rattle.std.specs.Prelude.{All, flat_map, replicate}
 use Rattle.ea_sched.proofs.Ends.{turns-more}
 use Rattle.ea_sched.proofs.Running.{same-on, took-as, took-both}

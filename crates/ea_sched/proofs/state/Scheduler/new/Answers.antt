@@ -1,4 +1,4 @@
-use Rattle.std.proofs.Common.{◌≡◌, ◌≤◌, length, arith, ◌∙◌}
+use Rattle.std.proofs.Common.{arith, ◌∙◌}
 use Rattle.ea_sched.proofs.Texts.{texts-many, text-is}
 use Rattle.ea_sched.proofs.state.Scheduler.new.Goals as goal
 

@@ -1,13 +1,10 @@
 use Rattle.std.proofs.Common.{◌≡◌, refl, sym, ap, subst, ◌∙◌}
 use Rattle.std.specs.Prelude.{None, Some}
-use Rattle.ea_machine.specs.Setup.{setup_of}
-use Rattle.ea_machine.specs.Rows.{Head, TakeAll}
-use Rattle.ea_shared.specs.Calls.{Did}
 use Rattle.ea_sound.proofs.Asked.{Facts, reached-facts}
 use Rattle.ea_sched.specs.Acting.{actor_of, setup_for, stage_of}
 use Rattle.ea_sched.proofs.Acts.{went}
 use Rattle.ea_sched.proofs.Alone.{head-none}
-use Rattle.ea_sched.proofs.Doing.{asks-shared, asks-caller, begun-stepped, ended-stepped}
+use Rattle.ea_sched.proofs.Doing.{asks-shared, begun-stepped, ended-stepped}
 use Rattle.ea_sched.proofs.Paths.{begun-none}
 use Rattle.ea_sched.proofs.Suiting.{suits-next}
 use Rattle.ea_sched.proofs.Texts.{one-built}
