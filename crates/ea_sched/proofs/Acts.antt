@@ -36,7 +36,8 @@ finished a x todo log e f =
 
 -- a name is let go, and its block released
 pub handed : (a : Actor) (x y : Entry) (i j : Instance) (h k : List Named) → x ≡ y → i ≡ j → h ≡ k
-    → logged x (record a { instance = i; held = h }) ≡ logged y (record a { instance = j; held = k })
+    → logged x (record a { instance = i; held = h })
+    ≡ logged y (record a { instance = j; held = k })
 handed a x y i j h k e f g =
     ap (λ z. logged z (record a { instance = i; held = h })) e
     ∙ ap (λ z. logged y (record a { instance = z; held = h })) f

@@ -22,7 +22,7 @@ use Rattle.ea_sched.specs.declared.state.Scheduler.{Scheduler}
 use Rattle.ea_sched.specs.Acting.{actor_of, setup_for}
 use Rattle.ea_sched.specs.Resting.{StandIn}
 use Rattle.ea_sched.specs.Running.{IsSameRun, StandsAt}
-use Rattle.ea_sched.proofs.Running.{as-run, start-nothing}
+use Rattle.ea_sched.proofs.Running.{as-run, same-back, start-nothing}
 use Rattle.ea_sched.proofs.Texts.{off-built}
 
 abbrev pub turns_from : List Turns → List ℕ
@@ -94,7 +94,7 @@ module _ (c : Config) (t : Trace) (one : c.schedulers ≡ 1) (s : Scheduler)
       let f : Setup → Setup → ℕ → State = λ a b k.
       run_on b (run a turns) (finishing b (run a turns) k) in
       let e = setup_of c t in
-      as-run u s (record { config = sym same.config; trace = sym same.trace; number = sym same.number })
+      as-run u s (same-back s u same)
       (λ b k. f (setup_for s) b k ≡ f (setup_for s) (setup_for s) s.number) refl
       ∙ ap (f (setup_for s) (setup_for s)) first ∙ ap (λ a. f a a 1) same-setup
       ∙ sym (completed e turns one)

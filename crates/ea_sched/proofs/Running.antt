@@ -118,7 +118,8 @@ module _ {C : Type 0} where
   -- and stands in the next one after it
   pub stepped-stands : (s t : Scheduler) (m n : MemShared C) (w : State) → StandsAt s m w
       → IsSameRun s t → n.schedulers ≡ m.schedulers → n.greatest ≡ m.greatest
-      → t.failed ≡ false → Stepped s.config s.trace.now s.number (actor_of s) (actor_of t) (Some nothing_shared)
+      → t.failed ≡ false
+      → Stepped s.config s.trace.now s.number (actor_of s) (actor_of t) (Some nothing_shared)
       (Some nothing_shared) None None → StandsAt t n (step (setup_for s) w s.number)
   stepped-stands s t m n w at same made names going took =
       let e = setup_for s in
@@ -174,7 +175,8 @@ module _ {C : Type 0} where
 
 module _ {C : Type 0} where
   -- turns after turns
-  pub took-both : (s t u : Scheduler) (m n p : MemShared C) (first then : List ℕ) → IsSameRun s t → Took (λ w. first) s m t n
+  pub took-both : (s t u : Scheduler) (m n p : MemShared C) (first then : List ℕ)
+      → IsSameRun s t → Took (λ w. first) s m t n
       → Took (λ w. then) t n u p → Took (λ w. first ++ then) s m u p
   took-both s t u m n p first then same a b w at =
       let v = run_on (setup_for s) w first in
@@ -184,7 +186,8 @@ module _ {C : Type 0} where
       (b v (a w at))
 
   -- the same turns
-  pub took-as : (s t : Scheduler) (m n : MemShared C) (turns also : List ℕ) → turns ≡ also → Took (λ w. turns) s m t n
+  pub took-as : (s t : Scheduler) (m n : MemShared C) (turns also : List ℕ)
+      → turns ≡ also → Took (λ w. turns) s m t n
       → Took (λ w. also) s m t n
   took-as s t m n turns also e = subst (λ (xs : List ℕ). Took (λ w. xs) s m t n) e
 

@@ -25,7 +25,8 @@ text_built : (texts : List (List Op)) (i : ℕ) → list_all (list_all is_built)
     → list_all is_built (text_for texts i) ≡ true
 text_built texts zero e = refl
 text_built [] (suc i) e = refl
-text_built (t ∷ texts) (suc zero) e = (both (list_all is_built t) (list_all (list_all is_built) texts) e).0
+text_built (t ∷ texts) (suc zero) e =
+    (both (list_all is_built t) (list_all (list_all is_built) texts) e).0
 text_built (t ∷ texts) (suc (suc i)) e =
     text_built texts (suc i) (both (list_all is_built t) (list_all (list_all is_built) texts) e).1
 
@@ -33,10 +34,14 @@ left_built : (k : ℕ) (ops : List Op) (o : Op) (more : List Op) → list_all is
     → drop k ops ≡ o ∷ more → is_built o ≡ true
 left_built zero [] o more e f = absurd cc
 left_built (suc k) [] o more e f = absurd cc
-left_built zero (x ∷ ops) o more e f = let same : x ≡ o = cc in ap is_built (sym same) ∙ (both (is_built x) (list_all is_built ops) e).0
-left_built (suc k) (x ∷ ops) o more e f = left_built k ops o more (both (is_built x) (list_all is_built ops) e).1 f
+left_built zero (x ∷ ops) o more e f =
+    let same : x ≡ o = cc in
+    ap is_built (sym same) ∙ (both (is_built x) (list_all is_built ops) e).0
+left_built (suc k) (x ∷ ops) o more e f =
+    left_built k ops o more (both (is_built x) (list_all is_built ops) e).1 f
 
-module _ (s : Scheduler) (facts : Facts s.config s.trace.now s.number (actor_of s)) (begin : (actor_of s).stage ≡ Begin) where
+module _ (s : Scheduler) (facts : Facts s.config s.trace.now s.number (actor_of s))
+    (begin : (actor_of s).stage ≡ Begin) where
   built-next : (o : Op) (ops : List Op) → drop s.done s.text.now ≡ o ∷ ops → is_built o ≡ true
   built-next o ops e = left_built s.done s.text.now o ops
       (ap (list_all is_built) s.text_is
@@ -49,26 +54,39 @@ module _ (s : Scheduler) (facts : Facts s.config s.trace.now s.number (actor_of 
       by None e = tt
       by (Some x) e = record {
         name = omega (arith, facts.name name x e, upto, s.names_upto);
-        own = alone-owner s.config s.trace.now s.number (actor_of s) facts name x e (one-built s.config s.trace.now s.built);
-        block = alone-there s.config s.trace.now s.number (actor_of s) facts name x e (one-built s.config s.trace.now s.built) (off-built s.config s.trace.now s.built);
+        own = alone-owner s.config s.trace.now s.number (actor_of s) facts name x e
+            (one-built s.config s.trace.now s.built);
+        block = alone-there s.config s.trace.now s.number (actor_of s) facts name x e
+            (one-built s.config s.trace.now s.built) (off-built s.config s.trace.now s.built);
       }
 
-  is_fresh : (name : ℕ) → name ≤ s.trace.now.greatest → named_at name s.names.held ≡ None → IsFresh s name
+  is_fresh : (name : ℕ) → name ≤ s.trace.now.greatest → named_at name s.names.held ≡ None
+      → IsFresh s name
   is_fresh name upto none = record {
     place = omega (arith, upto, s.names_upto);
     fresh = ap (option_map (λ (x : Named). x.spot)) none;
   }
 
-  suits : (o : Op) (ops : List Op) → drop s.done s.text.now ≡ o ∷ ops → is_built o ≡ true → Suits s o
+  suits : (o : Op) (ops : List Op) → drop s.done s.text.now ≡ o ∷ ops → is_built o ≡ true
+      → Suits s o
   suits (op.Alloc name bytes) ops e b =
-      let first = first-operation s.config s.trace.now s.number (actor_of s) facts (op.Alloc name bytes) ops e in
+      let first = first-operation s.config s.trace.now s.number (actor_of s) facts
+      (op.Alloc name bytes) ops e in
       (is_fresh name first.1 (facts.fresh_alloc begin name bytes ops e), first.0.1)
   suits (op.Free name) ops e b =
-      let first = first-operation s.config s.trace.now s.number (actor_of s) facts (op.Free name) ops e in
+      let first = first-operation s.config s.trace.now s.number (actor_of s) facts
+      (op.Free name) ops e in
       has_name name first.1
   suits (op.Realloc old fresh bytes) ops e b =
-      let first = first-operation s.config s.trace.now s.number (actor_of s) facts (op.Realloc old fresh bytes) ops e in
-      (has_name old (omega (arith, first.1)), (is_fresh fresh (omega (arith, first.1)) (facts.fresh_realloc begin old fresh bytes ops e), first.0.2))
+      let first = first-operation s.config s.trace.now s.number (actor_of s) facts
+      (op.Realloc old fresh bytes) ops e in (
+        has_name old (omega (arith, first.1)),
+        (
+          is_fresh fresh (omega (arith, first.1))
+              (facts.fresh_realloc begin old fresh bytes ops e),
+          first.0.2,
+        ),
+      )
   suits (op.Give name to) ops e b = absurd cc
   suits (op.Take name tries) ops e b = absurd cc
   suits op.Info ops e b = tt

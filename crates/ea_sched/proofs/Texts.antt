@@ -24,13 +24,15 @@ pub all_built-stop : (texts : List (Items Op)) (i : ℕ) (text : Items Op) → i
     → list_all (list_all is_built) (map (λ t. t.items) texts) ≡ false
 all_built-stop [] i text h e f = absurd (omega (arith, h))
 all_built-stop (t ∷ texts) zero text h e f =
-    ap (λ (x : Items Op). list_all is_built x.items && list_all (list_all is_built) (map (λ u. u.items) texts)) (sym e)
+    ap (λ (x : Items Op). list_all is_built x.items
+    && list_all (list_all is_built) (map (λ u. u.items) texts)) (sym e)
     ∙ ap (λ b. b && list_all (list_all is_built) (map (λ u. u.items) texts)) f
 all_built-stop (t ∷ texts) (suc i) text h e f =
     ap (λ b. list_all is_built t.items && b) (all_built-stop texts i text (omega (arith, h)) e f)
     ∙ if_last (list_all is_built t.items)
 
-texts_many : (n : ℕ) (m : Mode) (texts : List (List Op)) → is_built_mode m ≡ true → HasTexts n m texts
+texts_many : (n : ℕ) (m : Mode) (texts : List (List Op)) → is_built_mode m ≡ true
+    → HasTexts n m texts
     → length texts ≡ n
 texts_many n Threads texts e h = h
 texts_many n (Schedule turns) texts e h = h
@@ -66,7 +68,8 @@ pub text-is : (texts : List (Items Op)) (number : ℕ) (text : Items Op) → 1 �
     → text.items ≡ text_for (map (λ t. t.items) texts) number
 text-is texts zero text from to e = absurd (omega (arith, from))
 text-is texts (suc i) text from to e =
-    text_in texts i text (omega (arith, to)) (e ∙ ap (λ k. slice_index_or texts k text) (omega arith))
+    text_in texts i text (omega (arith, to))
+    (e ∙ ap (λ k. slice_index_or texts k text) (omega arith))
 
 -- the operations that are left after one more
 pub drop-later : (k : ℕ) (ops : List Op) → drop (k + 1) ops ≡ later (drop k ops)

@@ -19,8 +19,8 @@ abbrev pub cleared_if : Bool → Instance → ℕ → Instance
 cleared_if true i number = clearing i number
 cleared_if false i number = i
 
--- the instance without the block at the spot, and without its carrier if that is left empty and isn't
--- the main one
+-- the instance without the block at the spot, and without its carrier if that is left empty and
+-- isn't the main one
 abbrev pub freed_at : Instance → Spot → Instance
 freed_at i spot = cleared_if
     (is_gone (follow_up (content_of (employed (releasing_at i spot)) spot.carrier)))

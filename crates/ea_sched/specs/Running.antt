@@ -12,8 +12,8 @@ use Rattle.ea_sched.specs.declared.state.Scheduler.{Scheduler}
 use Rattle.ea_sched.specs.Acting.{actor_of, setup_for}
 
 module _ {C : Type 0} where
-  -- the scheduler stands so in a state of its run, and had memory so far; what is shared there is in
-  -- the memory
+  -- the scheduler stands so in a state of its run, and had memory so far; what is shared there is
+  -- in the memory
   pub record StandsAt (s : Scheduler) (shared : MemShared C) (state : State) : Type 0 where
     pub config : IsValidConfig s.config
     pub trace : IsValidTrace s.config.schedulers s.trace.now

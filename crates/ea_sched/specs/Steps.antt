@@ -15,8 +15,9 @@ use Rattle.ea_shared.specs.Calls.{Caller}
 abbrev pub caller_of : Setup → ℕ → Actor → Caller
 caller_of setup me a = record { setup = setup; number = me; actor = a }
 
--- scheduler `me` stands so in a reached state of a run of a valid trace under a valid configuration;
--- what is shared is as it is told, or the caller that is told is this scheduler, or both
+-- scheduler `me` stands so in a reached state of a run of a valid trace under a valid
+-- configuration; what is shared is as it is told, or the caller that is told is this scheduler, or
+-- both
 pub record Ready (c : Config) (t : Trace) (me : ℕ) (a : Actor) (shared : Option Shared)
     (caller : Option Caller) : Type 0 where
   pub config : IsValidConfig c
@@ -28,8 +29,8 @@ pub record Ready (c : Config) (t : Trace) (me : ℕ) (a : Actor) (shared : Optio
   pub calls : IfSome caller (λ x. x ≡ caller_of (setup_of c t) me a)
   pub told : IsSome shared ⊎ IsSome caller
 
--- scheduler `me`, which stood so in a reached state, has taken its step there: it is as it is after the
--- step, and so is what is shared, where that is told, and the caller, where that is told
+-- scheduler `me`, which stood so in a reached state, has taken its step there: it is as it is after
+-- the step, and so is what is shared, where that is told, and the caller, where that is told
 pub record Stepped (c : Config) (t : Trace) (me : ℕ) (a b : Actor) (shared after : Option Shared)
     (caller now : Option Caller) : Type 0 where
   pub state : State

@@ -89,7 +89,7 @@ impl<'t> Scheduler<'t> {
         }
     }
 
-    /// Places the block in a carrier that is created for it; where none can be, the operation fails.
+    /// Places the block in a carrier that is created for it; if none can be, the operation fails.
     /// A count of carriers that has no greater number counts as want of memory.
     fn seek_new(&mut self, alloc: Global, ask: Ask) -> Result<(), OutOfMemory>
         requires more { HasMore self.old }

@@ -23,8 +23,8 @@ fn is_gone(next: Released) -> bool
     matches!(next, Released::EmptyOwn | Released::SingleGone)
 }
 
-/// Releases the block at the spot; a carrier that it leaves without blocks, other than the main one,
-/// is deallocated.
+/// Releases the block at the spot; a carrier that it leaves without blocks, other than the main
+/// one, is deallocated.
 fn free_at(instance: &mut Instance, spot: Spot) -> Result<(), OutOfMemory>
     requires { IsSome (block_in (employed instance.old) spot) }
     ensures ok { OnOk result (instance.new ≡ releasing.freed_at instance.old spot) }

@@ -10,8 +10,8 @@ use ea_instance::Instance;
 use ea_model::{Config, Entry, List, Op, Trace};
 use ea_stats::Stats;
 
-/// Scheduler `number` in the run of a trace. Of the run it knows the configuration and the trace; for
-/// itself it keeps its text, how many of its operations are done, its allocator instance, the names
+/// Scheduler `number` in the run of a trace. Of the run it knows the configuration and the trace;
+/// for itself it keeps its text, how many of its operations are done, its allocator instance, the names
 /// that it holds, where it is in its operation, the statistics of its multiblock and of its
 /// singleblock carriers, and its log. Once it had no memory it has failed.
 #[derive(Drop)]

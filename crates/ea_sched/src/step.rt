@@ -53,8 +53,8 @@ impl<'t> Scheduler<'t> {
     }
 
     /// Takes one atomic step on what is shared, and does all up to the next one: where an operation
-    /// begins it takes its queue, and goes on with the operation itself. An `Err` says that there was
-    /// no memory; from then on it is all that this scheduler answers.
+    /// begins it takes its queue, and goes on with the operation itself. An `Err` says that there
+    /// was no memory; from then on it is all that this scheduler answers.
     pub fn step<S: Shared<Content = Mbc>>(
         &mut self,
         alloc: Global,

@@ -8,8 +8,8 @@ use Rattle.ea_machine.specs.Rows.{Answer, Row}
 use Rattle.ea_machine.specs.Table.{answer, effect}
 use Rattle.ea_machine.specs.Machine.{IsReached, step, wants}
 
--- the scheduler that calls, where the object tells it: its number, and how it stands in a run of the
--- setup
+-- the scheduler that calls, where the object tells it: its number, and how it stands in a run of
+-- the setup
 pub record Caller : Type 0 where
   pub setup : Setup
   pub number : ℕ
@@ -28,14 +28,14 @@ abbrev pub HasEffect : ℕ → Row → Answer → Option Shared → Shared → T
 HasEffect me row got after before = (got ≡ answer me row before)
     × (after ≡ Some (effect me row before))
 
--- the caller stood in a reached state, in which the row is answered so, and has taken its step there
+-- the caller stood in a reached state, in which the row is answered so, and took its step there
 abbrev pub TookStep : ℕ → Row → Answer → Option Caller → Caller → Type 0
 TookStep me row got after before = (state : State) × IsReached before.setup state
     × (state.actors me ≡ before.actor) × (got ≡ answer me row state.shared)
     × (after ≡ Some (record before { actor = (step before.setup state me).actors me }))
 
--- the row was done, with this answer: on what is shared, where that is told, and by the caller, where
--- that is told. What isn't told before a call isn't told after it
+-- the row was done, with this answer: on what is shared, where that is told, and by the caller,
+-- where that is told. What isn't told before a call isn't told after it
 pub record Did (me : ℕ) (row : Row) (got : Answer) (before after : Option Shared)
     (old new : Option Caller) : Type 0 where
   pub shared : IfSome before (HasEffect me row got after)

@@ -101,8 +101,8 @@ returns c =
     let end = run_on (setup_for t) v (finishing (setup_for t) v t.number) in
     let items : c.push.new.self.items ≡ u ∷ [] = c.in_ok-push.ensures.ok
     ∙ ap (λ xs. xs ++ u ∷ []) c.new-schedulers.ensures in
-    let stands = subst (λ xs. StandIn c.args.config c.args.trace.now xs nothing_shared end) (sym items)
-    (stands-alone c.args.config c.args.trace.now one u (same.config ∙ e.config)
+    let stands = subst (λ xs. StandIn c.args.config c.args.trace.now xs nothing_shared end)
+    (sym items) (stands-alone c.args.config c.args.trace.now one u (same.config ∙ e.config)
     (ap (λ x. x.now) same.trace ∙ e.trace) (same.number ∙ e.number) c.run_out.new.shared end at) in
     let mode = plain_mode c.args.trace.now.mode in
     let setup = setup_of c.args.config c.args.trace.now in

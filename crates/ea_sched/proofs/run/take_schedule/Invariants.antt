@@ -6,5 +6,5 @@ abbrev pub invariant-loop-turns : goal.invariant-loop-turns
 invariant-loop-turns l =
     let s = l.initial.scheduler in
     IsSameRun s l.scheduler
-    × Took (λ state. flat_map (λ t. replicate t.count t.scheduler) (take l.turns-index l.schedule)) s
-    l.initial.shared l.scheduler l.shared
+    × Took (λ state. flat_map (λ t. replicate t.count t.scheduler)
+    (take l.turns-index l.schedule)) s l.initial.shared l.scheduler l.shared

@@ -9,4 +9,5 @@ returns-clause-took c = λ state at.
       trace = c.in_ok-step.ensures.run.1;
       number = c.in_ok-step.ensures.run.2;
     })
-    c.in_ok-step.ensures.stays.0 c.in_ok-step.ensures.stays.1 c.in_ok-step.ensures.goes.1 c.in_ok-step.ensures.step
+    c.in_ok-step.ensures.stays.0 c.in_ok-step.ensures.stays.1 c.in_ok-step.ensures.goes.1
+    c.in_ok-step.ensures.step
