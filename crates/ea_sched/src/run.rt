@@ -5,7 +5,9 @@ ghost use Rattle.ea_model.specs.Settings.{IsValidConfig};
 ghost use Rattle.ea_model.specs.Trace.{IsTurns, IsValidTrace};
 ghost use Rattle.ea_model.specs.Trace as traces;
 ghost use Rattle.ea_machine.specs.Completion.{finishing};
+ghost use Rattle.ea_machine.specs.MachineLaws.{Protocol};
 ghost use Rattle.ea_machine.specs.Outcome as machine;
+ghost use Rattle.ea_machine.specs.Setup.{setup_of};
 ghost use Rattle.ea_sched.specs.Acting.{setup_for};
 ghost use Rattle.ea_sched.specs.Built.{is_built_run};
 ghost use Rattle.ea_sched.specs.Running.{IsSameRun, Stands, Took};
@@ -98,10 +100,8 @@ fn run_out(
     Ok(())
 }
 
-/// Runs a trace that has a schedule: the schedulers take its turns, each one atomic step, and then
-/// each goes on until it has ended. Answers what is printed of the state then; it fails only where
-/// there is no memory.
-pub fn run_given(alloc: Global, config: Config, trace: &Trace) -> Result<Outcome, OutOfMemory>
+/// Runs a trace whose run is built, from its start to its end.
+fn run_alone(alloc: Global, config: Config, trace: &Trace) -> Result<Outcome, OutOfMemory>
     requires config { IsValidConfig config }
     requires trace { IsValidTrace config.schedulers trace.now }
     requires built { is_built_run config trace.now ≡ true }
@@ -114,4 +114,19 @@ pub fn run_given(alloc: Global, config: Config, trace: &Trace) -> Result<Outcome
     let mut schedulers = List::new(alloc);
     schedulers.push(scheduler)?;
     outcome_of(alloc, config, trace, &schedulers, &shared)
+}
+
+/// Runs a trace that has a schedule: the schedulers take its turns, each one atomic step, and then
+/// each goes on until it has ended. Answers what is printed of the state then; it fails only where
+/// there is no memory. Whatever it answers, each run of the trace keeps the machine's protocol,
+/// whatever steps its schedulers take.
+pub fn run_given(alloc: Global, config: Config, trace: &Trace) -> Result<Outcome, OutOfMemory>
+    requires config { IsValidConfig config }
+    requires trace { IsValidTrace config.schedulers trace.now }
+    requires built { is_built_run config trace.now ≡ true }
+    ensures outcome { IfOk result (λ outcome.
+        plain_outcome outcome ≡ machine.outcome_of config trace.now) }
+    ensures protocol { Protocol (setup_of config trace.now) }
+{
+    run_alone(alloc, config, trace)
 }
