@@ -1,6 +1,6 @@
 -- A good input whose run isn't built ends with 6, unless there was no memory.
 use Rattle.std.proofs.Common.{◌≡◌, ℕ, true, List, inl, inr, refl, subst, ◌∙◌, arith}
-use Rattle.std.specs.Prelude.{◌⊎◌, Option, None, Some, Result, Ok, Err, IsOk, IsSome, IfSome, if◌then◌else◌, option_map}
+use Rattle.std.specs.Prelude.{◌⊎◌, Option, None, Some, Result, Ok, Err, IsOk, IsSome, IfSome, if◌then◌else◌}
 use Rattle.std.specs.Result.{result_ok}
 use Rattle.std.specs.declared.string.String.{String}
 use Rattle.std.proofs.lemmas.Bool.{cases_Bool}
@@ -14,9 +14,7 @@ use Rattle.ea_trace.specs.Language.{Answer}
 use Rattle.ea_top.specs.declared.faults.Fault.{Fault}
 use Rattle.ea_top.specs.declared.faults.Fault.TheVariants.{Words, Trace, TooLong, NotBuilt, ReadFailed, WriteFailed, OutOfMemory}
 use Rattle.ea_top.specs.Answers.{GoodWords, GoodInput, IsBuiltFor, spelled}
-use Rattle.ea_laws.specs.Run.{run}
-use Rattle.ea_model.specs.Instance.{instance_of}
-use Rattle.ea_top.specs.Built.{first_text, is_built_run}
+use Rattle.ea_sched.specs.Built.{is_built_run}
 use Rattle.ea_top.specs.Faults.{status_of, trace_status}
 use Rattle.ea_top.specs.Output.{is_built_under, output, output_under, read_for, read_under, run_text}
 use Rattle.ea_top.specs.Whys.{IsRefused, IsWhy}
@@ -44,8 +42,8 @@ output_built c t s =
     elim (cases_Bool (is_built_run c t)) [
       | inl built ↦ built
       | inr not ↦
-          let text = option_map run_text (run (instance_of c t.letter) (first_text t)) in
-          let bad = subst (λ b. IsSome (if b then text else None)) not s in absurd cc
+          let bad = subst (λ b. IsSome (if b then Some (run_text c t) else None)) not s in
+          absurd cc
     ]
 
 has_run : (r : Result Config FlagFault) (t : Option model.Trace) → IsSome (output_under r t)

@@ -1,8 +1,5 @@
-pub mod Holding
-pub mod Running
-pub mod Built
 pub mod Output
 pub mod Answers
 pub mod Faults
 pub mod Whys
-pub mod Throughout
+pub mod EachTrace

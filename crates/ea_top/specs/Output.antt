@@ -1,24 +1,23 @@
 -- The output of a run, and of an input.
-use Rattle.std.specs.Prelude.{ℕ, Bool, false, if◌then◌else◌, map, List, Option, None, Some, Result, Ok, Err, option_map}
+use Rattle.std.specs.Prelude.{ℕ, Bool, false, if◌then◌else◌, List, Option, None, Some, Result, Ok, Err}
 use Rattle.std.specs.Result.{result_ok}
 use Rattle.ea_flags.specs.declared.fault.FlagFault.{FlagFault}
 use Rattle.ea_flags.specs.Flags.{flags}
 use Rattle.ea_model.specs.declared.settings.Config.{Config}
 use Rattle.ea_model.specs.declared.trace.Trace.{Trace}
-use Rattle.ea_model.specs.Instance.{carrier_line, employed, instance_of, totals}
-use Rattle.ea_laws.specs.Run.{Run, run}
-use Rattle.ea_report.specs.Text.{text}
+use Rattle.ea_machine.specs.Outcome.{outcome_of}
+use Rattle.ea_report.specs.Text.{outcome_text}
+use Rattle.ea_sched.specs.Built.{is_built_run}
 use Rattle.ea_trace.specs.Language.{trace}
-use Rattle.ea_top.specs.Built.{first_text, is_built_run}
 
-abbrev pub run_text : Run → List ℕ
-run_text r = text r.log (map carrier_line (employed r.instance)) (totals (employed r.instance))
+-- the text of the end of a run: of the logs, carriers and totals once the turns of the schedule are
+-- taken, and each scheduler has gone on until it has ended
+abbrev pub run_text : Config → Trace → List ℕ
+run_text c t = outcome_text (outcome_of c t)
 
--- the output of a trace under a configuration; none where its run isn't built. With one scheduler
--- the turns of a schedule have no effect
+-- the output of a trace under a configuration; none where its run isn't built
 abbrev pub output : Config → Trace → Option (List ℕ)
-output c t = if is_built_run c t then option_map run_text (run (instance_of c t.letter) (first_text t))
-    else None
+output c t = if is_built_run c t then Some (run_text c t) else None
 
 abbrev pub read_under : Result Config FlagFault → List ℕ → Option Trace
 read_under (Ok c) input = result_ok (trace input c.schedulers)

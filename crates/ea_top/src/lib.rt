@@ -1,10 +1,7 @@
 //! The top call: words and input in, text and status out.
 #![tactic(auto)]
 
-mod built;
 mod faults;
-mod scheduler;
-mod simulation;
 mod top;
 
 pub use faults::Fault;

@@ -6,23 +6,22 @@ ghost use Rattle.ea_io.specs.Calls.{StopsAtFault};
 ghost use Rattle.ea_io.specs.Counts.{Calm};
 ghost use Rattle.ea_io.specs.Fronts.{ConsumesAtMost};
 ghost use Rattle.ea_model.specs.declared.units.TheConstants.{MAX_INPUT};
-ghost use Rattle.ea_laws.specs.Moments.{Sound};
 ghost use Rattle.ea_model.specs.Settings.{IsValidConfig};
 ghost use Rattle.ea_trace.specs.Language as language;
 ghost use Rattle.ea_top.specs.Output.{output_under};
 ghost use Rattle.ea_top.specs.Answers.{GoodWords, GoodInput, IsBuiltFor, WroteText, WroteFront};
 ghost use Rattle.ea_machine.specs.MachineLaws.{Protocol};
-ghost use Rattle.ea_top.specs.Throughout.{ForEachTrace, Throughout};
+ghost use Rattle.ea_top.specs.EachTrace.{ForEachTrace};
 ghost use Rattle.ea_top.specs.Whys.{IsWhy, IsReadFault, IsTextFault};
 ghost use Rattle.ea_top.specs.Faults.{Complains, status_of};
 ghost use Rattle.ea_top.specs.declared.faults.Fault.{Fault};
 
-use crate::built::is_built;
 use crate::faults::{Fault, complain};
-use crate::simulation::simulate;
 use ea_flags::read_flags;
 use ea_io::{ReadAllFault, Sink, Source, read_all, write_all};
 use ea_model::{Config, List, MAX_INPUT};
+use ea_report::print;
+use ea_sched::{is_built, run_given};
 use ea_trace::read_trace;
 use std::alloc::Global;
 use std::thread::Threads;
@@ -33,8 +32,8 @@ use std::thread::Threads;
 /// The status is 0 where the text was written; 1 where the words are refused; 2 where the input has
 /// more than 2^24 bytes or isn't a trace; 3 where the source failed; 4 where `out` failed; 5 where
 /// there was no memory; 6 where words and input are accepted, and the run isn't built: it has more
-/// schedulers than one, its carriers would migrate, its mode isn't a schedule, or it has operations
-/// other than `alloc`, `free` and `idle`.
+/// schedulers than one, its carriers would migrate, its mode isn't a schedule, or it hands blocks
+/// over (`give`, `take`).
 pub fn run<R: Threads + Sync, S: Source, O: Sink, E: Sink>(
     _rt: &R,
     alloc: Global,
@@ -46,23 +45,21 @@ pub fn run<R: Threads + Sync, S: Source, O: Sink, E: Sink>(
     requires { length words.now < 2 ^ 32 }
     ensures statuses { result ≤ 6 }
 
-    // 0: the whole text of an input in the language, which was read to its end.
+    // 0: the whole text of an input in the language, which was read to its end. It is the text of the
+    // steps that were taken, and these are exactly the completed schedule: the turns that the input
+    // asks for, and then those of each scheduler until it has ended. A source that doesn't tell its
+    // bytes, as a terminal, had some such input.
     ensures done { result ≡ 0
         → WroteText words.now (S.left source.old) (O.taken out.old) (O.taken out.new) }
     ensures end { result ≡ 0 → IsAtEnd (S.left source.new) }
 
-    // And at every moment of every run under such words: no two blocks share a unit, carriers lie
-    // apart, and blocks, gaps and headers are all units; a singleblock carrier has its one block,
-    // and no carrier but the main one is without a block; each held name has its own block; a name's
-    // block is released at most as often as the name was allocated; a block up to the threshold is
-    // placed where the strategy takes a gap first, and a larger one in a singleblock carrier of its
-    // own; an allocation fails only where no carrier can be created and, up to the threshold,
-    // nothing that is inspected fits; and each operation has one entry.
-    ensures sound { result ≡ 0 → Throughout Sound words.now }
-
-    // And the machine of atomic steps keeps its protocol with as many schedulers and with the
-    // settings that such words ask for, for every valid trace and every list of steps. No run takes
-    // these steps yet.
+    // And at every moment of every list of steps, of this run and of that of each other valid trace
+    // under such words: no two blocks share a unit, and carriers lie apart; each carrier is in one
+    // place, and each name; blocks, gaps and headers are all units. Each operation has one entry, of
+    // its own kind: a block is placed where the strategy takes a gap first, or in a carrier of its
+    // own if it is above the threshold; an allocation fails only where nothing that is looked at fits
+    // and no carrier can be created, and then it does; what isn't held is skipped. No block is
+    // released twice, and none changes its place. A completed schedule has ended all schedulers.
     ensures protocol { (result ≡ 0) ⊎ (result ≡ 6) → ForEachTrace Protocol words.now }
 
     // 1: exactly for words that are refused, and nothing was read.
@@ -136,7 +133,6 @@ fn attempt<S: Source, O: Sink>(
     ensures done { OnOk result
         (WroteText words.now (S.left source.old) (O.taken out.old) (O.taken out.new)) }
     ensures end { OnOk result (IsAtEnd (S.left source.new)) }
-    ensures sound { OnOk result (Throughout Sound words.now) }
     ensures protocol { OnOk result (ForEachTrace Protocol words.now) }
     ensures protocol_left { IsErrOf result Fault.NotBuilt → ForEachTrace Protocol words.now }
     ensures why { IfErr result
@@ -195,5 +191,6 @@ fn text_of(alloc: Global, config: Config, input: &[u8]) -> Result<List<u8>, Faul
     if !is_built(config, &trace) {
         return Err(Fault::NotBuilt);
     }
-    Ok(simulate(alloc, config, &trace)?.print(alloc)?)
+    let outcome = run_given(alloc, config, &trace)?;
+    Ok(print(alloc, &outcome)?)
 }

@@ -139,7 +139,8 @@ fn an_instance_has_256_carriers_at_most(rt: HostRuntime) -> Result<(), Fail> {
     Ok(())
 }
 
-// 257 blocks above the threshold and one below it; two more where two carriers went.
+// 257 blocks above the threshold and one below it, and one that would move; two more where two
+// carriers went.
 fn singles_input(alloc: Global) -> Result<List<u8>, OutOfMemory> {
     let mut input = List::new(alloc);
     put_text(&mut input, "type H\nscheduler 1\n")?;
@@ -148,7 +149,8 @@ fn singles_input(alloc: Global) -> Result<List<u8>, OutOfMemory> {
     }
     put_text(
         &mut input,
-        "alloc 258 100\nfree 256\nfree 255\nalloc 259 100\nalloc 260 1017\nschedule\nend\n",
+        "alloc 258 100\nrealloc 1 261 5000\nfree 256\nfree 255\nalloc 259 100\nalloc 260 1017\n\
+        schedule\nend\n",
     )?;
     Ok(input)
 }
@@ -162,6 +164,7 @@ fn singles_text(alloc: Global) -> Result<List<u8>, OutOfMemory> {
     put_text(
         &mut text,
         "alloc 257 fail need 130 looked 0 numbers\nalloc 258 fail need 14 looked 0 numbers\n\
+        realloc 1 261 fail need 626 looked 0 numbers\n\
         free 256 done\nfree 255 done\nalloc 259 255 8 14\nalloc 260 256 8 130\n",
     )?;
     for (number, base) in (1..255).zip(0..254) {

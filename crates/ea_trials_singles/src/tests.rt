@@ -165,6 +165,83 @@ fn a_freed_block_gives_back_its_carrier_with_its_number_and_its_pages(
 }
 
 #[test]
+fn a_reallocated_block_keeps_its_carrier_or_leaves_it(rt: HostRuntime) -> Result<(), Fail> {
+    let cases = [
+        // It grows and shrinks as far as its carrier has room, and moves where it has none.
+        (
+            SMALL,
+            "type H\nscheduler 1\nalloc 1 1017\nrealloc 1 2 4024\nrealloc 2 3 1025\nrealloc 3 4 4025\n\
+            schedule\nend\n",
+            "scheduler 1\nalloc 1 1 8 130\nrealloc 1 2 1 8 504 here\nrealloc 2 3 1 8 130 here\n\
+            realloc 3 4 2 8 506 moved done\n\
+            carrier 2 single owner 1 employed 1 base 1 pages 2 allocated 506 largest 510\n\
+            total carriers 1 units 1024 live 506 queued 0 free 510 header 8\n",
+        ),
+        // Its carrier gives back the pages that it no longer needs. A block that no longer is above
+        // the threshold leaves it.
+        (
+            "+MMscs 8 +MHacul 0",
+            "type H\nscheduler 1\nalloc 1 4000000\nrealloc 1 2 2000000\nrealloc 2 3 100\nschedule\n\
+            end\n",
+            "scheduler 1\nalloc 1 1 8 500002\nrealloc 1 2 1 8 250002 here\n\
+            realloc 2 3 2 8 14 moved done\n\
+            carrier 2 multi owner 1 employed 1 base 489 pages 64 allocated 14 largest 32746\n\
+            total carriers 1 units 32768 live 14 queued 0 free 32746 header 8\n",
+        ),
+        // The carrier that comes next takes the pages that were given back.
+        (
+            "+MMscs 8 +MHacul 0",
+            "type H\nscheduler 1\nalloc 1 4000000\nrealloc 1 2 2000000\nalloc 3 4000000\nschedule\n\
+            end\n",
+            "scheduler 1\nalloc 1 1 8 500002\nrealloc 1 2 1 8 250002 here\nalloc 3 2 8 500002\n\
+            carrier 1 single owner 1 employed 1 base 0 pages 489 allocated 250002 largest 358\n\
+            carrier 2 single owner 1 employed 1 base 489 pages 977 allocated 500002 largest 214\n\
+            total carriers 2 units 750592 live 750004 queued 0 free 572 header 16\n",
+        ),
+        // It does so where enough of it is left over, in kilobytes and in percent.
+        (
+            "+MHsbct 1 +MHacul 0 +MHasbcst 5",
+            "type H\nscheduler 1\nalloc 1 8100\nrealloc 1 2 3000\nschedule\nend\n",
+            "scheduler 1\nalloc 1 1 8 1014\nrealloc 1 2 1 8 376 here\n\
+            carrier 1 single owner 1 employed 1 base 0 pages 1 allocated 376 largest 128\n\
+            total carriers 1 units 512 live 376 queued 0 free 128 header 8\n",
+        ),
+        (
+            "+MHsbct 1 +MHacul 0 +MHasbcst 5",
+            "type H\nscheduler 1\nalloc 1 8100\nrealloc 1 2 3001\nschedule\nend\n",
+            "scheduler 1\nalloc 1 1 8 1014\nrealloc 1 2 1 8 378 here\n\
+            carrier 1 single owner 1 employed 1 base 0 pages 2 allocated 378 largest 638\n\
+            total carriers 1 units 1024 live 378 queued 0 free 638 header 8\n",
+        ),
+        (
+            "+MHsbct 1 +MHacul 0 +MHasbcst 0 +MHrsbcst 63",
+            "type H\nscheduler 1\nalloc 1 8100\nrealloc 1 2 3000\nschedule\nend\n",
+            "scheduler 1\nalloc 1 1 8 1014\nrealloc 1 2 1 8 376 here\n\
+            carrier 1 single owner 1 employed 1 base 0 pages 2 allocated 376 largest 640\n\
+            total carriers 1 units 1024 live 376 queued 0 free 640 header 8\n",
+        ),
+        // A block that is small may stay in it, if so set.
+        (
+            "+MHacul 0 +MHrsbcmt 100",
+            "type H\nscheduler 1\nalloc 1 600000\nrealloc 1 2 100\nschedule\nend\n",
+            "scheduler 1\nalloc 1 1 8 75002\nrealloc 1 2 1 8 14 here\n\
+            carrier 1 single owner 1 employed 1 base 0 pages 147 allocated 14 largest 75242\n\
+            total carriers 1 units 75264 live 14 queued 0 free 75242 header 8\n",
+        ),
+    ];
+    for (words, input, out) in cases {
+        let case = Case {
+            words,
+            input,
+            ..PLAIN
+        };
+        let ran = case.run(&rt, rt.alloc())?;
+        assert_eq!(rt; ran.told(), (0, out, ""), "of {words}, {input:?}");
+    }
+    Ok(())
+}
+
+#[test]
 fn an_allocation_fails_where_no_free_run_holds_the_carrier_of_its_block(
     rt: HostRuntime,
 ) -> Result<(), Fail> {

@@ -43,7 +43,10 @@ const IN_THREADS: &str = "type H\nscheduler 1\nalloc 1 100\nthreads\nend\n";
 
 const GENERATED: &str = "type H\ngenerate 1 100\nend\n";
 
-const REALLOCATED: &str = "type H\nscheduler 1\nalloc 1 100\nrealloc 1 2 200\nschedule\nend\n";
+const GIVEN: &str = "type H\nscheduler 1\nalloc 1 100\ngive 1 1\nschedule\nend\n";
+
+const TAKEN: &str =
+    "type H\nscheduler 1\nalloc 1 100\ngive 1 1\ntake 1 5\nfree 1\nschedule\n1*9\nend\n";
 
 #[test]
 fn a_run_that_is_not_built_has_a_status_of_its_own(rt: HostRuntime) -> Result<(), Fail> {
@@ -58,11 +61,12 @@ fn a_run_that_is_not_built_has_a_status_of_its_own(rt: HostRuntime) -> Result<()
             "+MHacul 0 +S 2",
             "type H\nscheduler 1\nscheduler 2\nschedule\nend\n",
         ),
-        // The mode is another, or an operation.
+        // The mode is another.
         ("+MHacul 0", IN_THREADS),
         ("+MHacul 0", GENERATED),
-        ("+MHacul 0", REALLOCATED),
-        ("+MHacul 0", "type H\nscheduler 1\ninfo\nschedule\nend\n"),
+        // Blocks are handed over.
+        ("+MHacul 0", GIVEN),
+        ("+MHacul 0", TAKEN),
     ];
     for (words, input) in cases {
         let case = Case {

@@ -1,11 +1,10 @@
 use Rattle.std.proofs.Common.{◌≡◌, true, refl, sym, subst, ap, ◌∙◌}
-use Rattle.std.specs.Prelude.{Some, Ok, None, IsOk, if◌then◌else◌, option_map}
+use Rattle.std.specs.Prelude.{Some, Ok, None, IsOk, if◌then◌else◌}
 use Rattle.std.specs.Result.{result_ok}
-use Rattle.ea_laws.specs.Run.{run}
-use Rattle.ea_model.specs.Instance.{instance_of}
-use Rattle.ea_top.specs.Built.{first_text, is_built_run}
+use Rattle.ea_report.specs.Text.{outcome_text}
+use Rattle.ea_sched.specs.Built.{is_built_run}
 use Rattle.ea_top.specs.Output.{is_built_under, output_under, run_text}
-use Rattle.ea_top.proofs.Texts.{same_built, same_output}
+use Rattle.ea_top.proofs.Texts.{same_built, same_output, same_text}
 use Rattle.ea_top.proofs.top.text_of.Goals as goal
 
 pub returns-then-not-is_built-clause-err : goal.returns-then-not-is_built-clause-err
@@ -21,12 +20,10 @@ returns-then-not-is_built-clause-err c =
 pub returns-clause-ok : goal.returns-clause-ok
 returns-clause-ok c =
     let t = c.in_ok-trace.trace in
-    let i = instance_of c.args.config t.letter in
+    let o = c.in_ok-outcome.outcome in
     let built : is_built_run c.args.config t ≡ true = sym c.is_built.ensures
     ∙ c.if-not-is_built.false in
-    let (r, reached, shows) = c.in_ok-simulate.ensures in
     ap (λ answer. output_under (Ok c.args.config) (result_ok answer)) c.in_ok-trace.ensures.given
     ∙ same_output c.args.config t
-    ∙ ap (λ b. if b then option_map run_text (run i (first_text t)) else None) built
-    ∙ ap (option_map run_text) reached
-    ∙ ap Some (sym (c.in_ok-print.ensures r shows))
+    ∙ ap (λ b. if b then Some (run_text c.args.config t) else None) built
+    ∙ ap Some (ap outcome_text (sym c.in_ok-outcome.ensures) ∙ same_text o ∙ sym c.in_ok-print.ensures)
