@@ -26,4 +26,5 @@ returns-clause-ok c =
     ap (λ answer. output_under (Ok c.args.config) (result_ok answer)) c.in_ok-trace.ensures.given
     ∙ same_output c.args.config t
     ∙ ap (λ b. if b then Some (run_text c.args.config t) else None) built
-    ∙ ap Some (ap outcome_text (sym c.in_ok-outcome.ensures) ∙ same_text o ∙ sym c.in_ok-print.ensures)
+    ∙ ap Some (ap outcome_text (sym c.in_ok-outcome.ensures.outcome) ∙ same_text o
+    ∙ sym c.in_ok-print.ensures)
