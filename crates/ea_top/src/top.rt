@@ -45,21 +45,21 @@ pub fn run<R: Threads + Sync, S: Source, O: Sink, E: Sink>(
     requires { length words.now < 2 ^ 32 }
     ensures statuses { result ≤ 6 }
 
-    // 0: the whole text of an input in the language, which was read to its end. It is the text of the
-    // steps that were taken, and these are exactly the completed schedule: the turns that the input
-    // asks for, and then those of each scheduler until it has ended. A source that doesn't tell its
-    // bytes, as a terminal, had some such input.
+    // 0: the whole text of an input in the language, which was read to its end. It is the text of
+    // the steps that were taken, and these are exactly the completed schedule: the turns that the
+    // input asks for, and then those of each scheduler until it has ended. Where the source doesn't
+    // tell its bytes, as a terminal, this holds of some input.
     ensures done { result ≡ 0
         → WroteText words.now (S.left source.old) (O.taken out.old) (O.taken out.new) }
     ensures end { result ≡ 0 → IsAtEnd (S.left source.new) }
 
     // And at every moment of every list of steps, of this run and of that of each other valid trace
     // under such words: no two blocks share a unit, and carriers lie apart; each carrier is in one
-    // place, and each name; blocks, gaps and headers are all units. Each operation has one entry, of
-    // its own kind: a block is placed where the strategy takes a gap first, or in a carrier of its
-    // own if it is above the threshold; an allocation fails only where nothing that is looked at fits
-    // and no carrier can be created, and then it does; what isn't held is skipped. No block is
-    // released twice, and none changes its place. A completed schedule has ended all schedulers.
+    // place, and each name; blocks, gaps and headers are all units. Each operation has one entry,
+    // of its own kind: a block is placed where the strategy takes a gap first, or in a carrier of
+    // its own if it is above the threshold; an allocation fails only where nothing that is looked
+    // at fits and no carrier can be created, and then it does; what isn't held is skipped. No block
+    // is released twice, and none changes its place. A completed schedule has ended all schedulers.
     ensures protocol { (result ≡ 0) ⊎ (result ≡ 6) → ForEachTrace Protocol words.now }
 
     // 1: exactly for words that are refused, and nothing was read.
