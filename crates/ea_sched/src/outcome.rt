@@ -20,23 +20,14 @@ use ea_model::{
 use ea_shared::Rested;
 use std::alloc::Global;
 
-/// The log once more.
-fn copy_of(alloc: Global, log: &List<Entry>) -> Result<List<Entry>, OutOfMemory>
-    ensures { IfOk result (λ copy. copy.items ≡ log.now.items) }
-{
-    let mut copy = List::new(alloc);
-    copy.extend_from_slice(log.as_slice())?;
-    Ok(copy)
-}
-
-/// The logs of the schedulers.
-fn logs_of(alloc: Global, schedulers: &[Scheduler<'_>]) -> Result<List<List<Entry>>, OutOfMemory>
+/// The logs of the schedulers. None is copied.
+fn logs_of(alloc: Global, schedulers: List<Scheduler<'_>>) -> Result<List<List<Entry>>, OutOfMemory>
     ensures { IfOk result (λ logs. map (λ log. log.items) logs.items
-        ≡ map (λ s. s.log.items) schedulers.now) }
+        ≡ map (λ s. s.log.items) schedulers.entry.items) }
 {
     let mut logs = List::new(alloc);
-    for scheduler in schedulers {
-        logs.push(copy_of(alloc, &scheduler.log)?)?;
+    for scheduler in schedulers.into_vec() {
+        logs.push(scheduler.log)?;
     }
     Ok(logs)
 }
@@ -182,21 +173,20 @@ pub fn outcome_of<H: Rested<Content = Mbc>>(
     alloc: Global,
     config: Config,
     trace: &Trace,
-    schedulers: &List<Scheduler<'_>>,
+    schedulers: List<Scheduler<'_>>,
     shared: &H,
 ) -> Result<Outcome, OutOfMemory>
     requires config { IsValidConfig config }
     requires trace { IsValidTrace config.schedulers trace.now }
     requires built { is_built_run config trace.now ≡ true }
     requires greatest { trace.now.greatest ≡ H.greatest shared.now }
-    requires stand { Stand config trace.now schedulers.now.items (H.rested shared.now) }
-    ensures { IfOk result (IsOutcome config trace.now schedulers.now.items (H.rested shared.now)) }
+    requires stand { Stand config trace.now schedulers.items (H.rested shared.now) }
+    ensures { IfOk result (IsOutcome config trace.now schedulers.entry.items (H.rested shared.now)) }
 {
-    let schedulers = schedulers.as_slice();
     Ok(Outcome {
-        logs: logs_of(alloc, schedulers)?,
-        carriers: lines_of(alloc, schedulers)?,
-        totals: totals_of(schedulers, shared, trace.greatest),
+        carriers: lines_of(alloc, schedulers.as_slice())?,
+        totals: totals_of(schedulers.as_slice(), shared, trace.greatest),
         mode: trace.mode.copy(alloc)?,
+        logs: logs_of(alloc, schedulers)?,
     })
 }

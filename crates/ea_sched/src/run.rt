@@ -113,7 +113,7 @@ fn run_alone(alloc: Global, config: Config, trace: &Trace) -> Result<Outcome, Ou
     run_out(&mut scheduler, alloc, &mut shared)?;
     let mut schedulers = List::new(alloc);
     schedulers.push(scheduler)?;
-    outcome_of(alloc, config, trace, &schedulers, &shared)
+    outcome_of(alloc, config, trace, schedulers, &shared)
 }
 
 /// Runs a trace that has a schedule: the schedulers take its turns, each one atomic step, and then
