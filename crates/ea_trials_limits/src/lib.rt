@@ -1,4 +1,4 @@
-//! The longest input, the most operations, the most carriers, and one more of each.
+//! The longest input, the most operations, turns and carriers, and one more of each.
 #![tactic(auto)]
 
 #[cfg(test)]

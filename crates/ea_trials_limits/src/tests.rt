@@ -63,6 +63,33 @@ fn a_trace_has_262144_operations_at_most(rt: HostRuntime) -> Result<(), Fail> {
     Ok(())
 }
 
+#[test]
+fn a_schedule_has_100000000_turns_at_most(rt: HostRuntime) -> Result<(), Fail> {
+    // The one operation is done in the first turn.
+    let cases = [
+        ("1*100000000\n", 0, 171, ""),
+        (
+            "1*99999999 1*2\n",
+            2,
+            0,
+            "erts_alloc_run: line 5: too many\n",
+        ),
+    ];
+    for (turns, wanted, text, line) in cases {
+        let mut input = Vec::from_slice(
+            rt.alloc(),
+            b"type H\nscheduler 1\nalloc 1 100\nschedule\n",
+        )?;
+        input.extend_from_slice(turns.as_bytes())?;
+        input.extend_from_slice(b"end\n")?;
+        let (status, length, err) = measure(&rt, rt.alloc(), input)?;
+        assert_eq!(rt; status, wanted, "with {turns:?}");
+        assert_eq!(rt; length, text, "with {turns:?}");
+        assert_eq!(rt; err.taken(), line.as_bytes(), "with {turns:?}");
+    }
+    Ok(())
+}
+
 // Adds words and numbers in turn, and a line feed.
 fn put_line(text: &mut List<u8>, words: &[(&str, u64)]) -> Result<(), OutOfMemory> {
     for (word, number) in words {
