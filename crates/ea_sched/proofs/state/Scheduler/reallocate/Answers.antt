@@ -31,7 +31,7 @@ returns-then-is_move-clause-actor c =
 pub hold-requires-clause-fresh : goal.hold-requires-clause-fresh
 hold-requires-clause-fresh c =
     ap (λ held. spot_named c.args.fresh held) c.let_go.ensures.held
-    ∙ unheld-let_go c.args.fresh c.args.old.name c.args.self.now.names.held c.requires.fresh.fresh
+    ∙ unheld-let_go c.args.fresh _ c.args.self.now.names.held c.requires.fresh.fresh
 
 pub returns-clause-actor : goal.returns-clause-actor
 returns-clause-actor c =
