@@ -1,0 +1,4 @@
+pub mod AlikeNodes
+pub mod ChainLaws
+pub mod ListSums
+pub mod QueueMoves

@@ -1,0 +1,21 @@
+use Rattle.ea_queues.proofs.QueueMoves.{becomes-laid, becomes-queues, becomes-rests, newest, taken}
+use Rattle.ea_queues.proofs.queues.Queues.take_all.Goals as goal
+
+pub invariant_of-self : goal.invariant_of-self
+invariant_of-self c = becomes-laid _ _ _ _ _ _ _
+    (taken _ _ _ _ _ c.self.view_is c.self.invariant _ _ c.requires.scheduler
+    c.index-newest.ensures c.requires.walked)
+
+pub returns-clause-node : goal.returns-clause-node
+returns-clause-node c = newest _ _ _ _ _ c.self.view_is c.self.invariant _ _
+    c.requires.scheduler c.index-newest.ensures
+
+pub returns-clause-queues : goal.returns-clause-queues
+returns-clause-queues c = becomes-queues _ _ _ _ _ _ _
+    (taken _ _ _ _ _ c.self.view_is c.self.invariant _ _ c.requires.scheduler
+    c.index-newest.ensures c.requires.walked)
+
+pub returns-clause-rests : goal.returns-clause-rests
+returns-clause-rests c = becomes-rests _ _ _ _ _ _ _
+    (taken _ _ _ _ _ c.self.view_is c.self.invariant _ _ c.requires.scheduler
+    c.index-newest.ensures c.requires.walked)

@@ -1,0 +1,153 @@
+//! The queues, and what is left of walks.
+ghost use Rattle.std.specs.Prelude.{◌≡◌, ◌⊎◌, ◌+◌, ◌≤◌, [], ◌∷◌, Some, None, IfOk, Contains, replicate};
+ghost use Rattle.ea_machine.specs.Nodes.{first_node, link_in, pushed};
+ghost use Rattle.ea_machine.specs.Rows.{Passes};
+ghost use Rattle.ea_machine.specs.Shared.{put};
+ghost use Rattle.ea_machine.specs.Table.{link_answer, rest_after};
+ghost use Rattle.ea_queues.specs.Alike.{IsNode};
+ghost use Rattle.ea_queues.specs.Links.{told_by};
+ghost use Rattle.ea_queues.specs.Chains.{HasSameCounts, marks_of, standing_in};
+
+use crate::cells::{Cell, Cells};
+use crate::link::Link;
+use ea_machine::Node;
+use ea_model::OutOfMemory;
+use std::alloc::Global;
+use std::marker::Model;
+
+/// The queues of instances, and what is left of their walks. There is a cell for each node, so no
+/// call but `new` takes memory. Contracts see the nodes, newest first, by instance from 0 on; how
+/// many schedulers there are, from 1 on; and the greatest name.
+#[derive(Drop)]
+pub struct Queues {
+    heads: Vec<Option<Node>>,
+    rests: Vec<Option<Node>>,
+    cells: Cells,
+}
+
+impl Model for Queues {
+    ghost use Rattle.ea_queues.specs.Chains.{Queueing, StandFor, queueing_of};
+
+    ghost Value = { Queueing };
+
+    ghost view = { λ q. queueing_of q.heads.items q.rests.items q.cells.names.items
+        q.cells.carriers.items };
+
+    ghost invariant = { λ q. StandFor q.heads.items q.rests.items q.cells.names.items
+        q.cells.carriers.items (queueing_of q.heads.items q.rests.items q.cells.names.items
+        q.cells.carriers.items) };
+}
+
+/// What a walk learns when it passes a node, by the node that is next.
+fn passed(next: Option<Node>) -> Link
+    ensures { told_by result ≡ Passes next }
+{
+    match next {
+        Some(node) => Link::Next { node },
+        None => Link::End,
+    }
+}
+
+impl Queues {
+    /// Empty queues of that many schedulers, for nodes of names up to `greatest` and of the
+    /// carriers that these may own.
+    pub fn new(alloc: Global, schedulers: u32, greatest: u32) -> Result<Queues, OutOfMemory>
+        ensures { IfOk result (λ q. q ≡ record {
+          queues = replicate (schedulers + 1) [];
+          rests = replicate (schedulers + 1) [];
+          schedulers = schedulers;
+          greatest = greatest;
+        }) }
+    {
+        let instances = schedulers as usize + 1;
+        let heads = vec![in alloc; None; instances]?;
+        let rests = vec![in alloc; None; instances]?;
+        let cells = Cells::new(alloc, schedulers, greatest)?;
+        Ok(Queues {
+            heads,
+            rests,
+            cells,
+        })
+    }
+
+    /// Makes the whole queue of `me` its walk: answers its newest node.
+    pub fn take_all(&mut self, me: u32) -> Option<Node>
+        requires scheduler { me ≤ self.old.schedulers }
+        requires walked { marks_of self.old.rests me ≡ [] }
+        ensures node { result ≡ first_node (marks_of self.old.queues me) }
+        ensures queues { marks_of self.new.queues ≡ put (marks_of self.old.queues) me [] }
+        ensures rests { marks_of self.new.rests
+            ≡ put (marks_of self.old.rests) me (marks_of self.old.queues me) }
+        ensures same { HasSameCounts self.old self.new }
+    {
+        let newest = self.heads[me as usize];
+        self.heads[me as usize] = None;
+        self.rests[me as usize] = newest;
+        newest
+    }
+
+    /// Reads the link of the node, the first of the walk of `me`, and passes the node if it is
+    /// linked.
+    pub fn take_link(&mut self, me: u32, node: Node) -> Link
+        requires scheduler { me ≤ self.old.schedulers }
+        requires node { IsNode self.old.schedulers self.old.greatest node }
+        requires next { first_node (marks_of self.old.rests me) ≡ Some node }
+        ensures link { told_by result ≡ link_answer (marks_of self.old.rests me) }
+        ensures queues { marks_of self.new.queues ≡ marks_of self.old.queues }
+        ensures rests { marks_of self.new.rests
+            ≡ put (marks_of self.old.rests) me (rest_after (marks_of self.old.rests me)) }
+        ensures same { HasSameCounts self.old self.new }
+    {
+        let cell = self.cells.at(node);
+        if !cell.linked {
+            return Link::Rest;
+        }
+        self.rests[me as usize] = cell.older;
+        passed(cell.older)
+    }
+
+    /// Puts the node in front of the queue of `to`, not linked: answers the node that was newest.
+    pub fn push(&mut self, to: u32, node: Node) -> Option<Node>
+        requires scheduler { to ≤ self.old.schedulers }
+        requires node { IsNode self.old.schedulers self.old.greatest node }
+        requires nowhere { standing_in self.old node ≡ 0 }
+        ensures node { result ≡ first_node (marks_of self.old.queues to) }
+        ensures queues { marks_of self.new.queues
+            ≡ put (marks_of self.old.queues) to (pushed node ∷ marks_of self.old.queues to) }
+        ensures rests { marks_of self.new.rests ≡ marks_of self.old.rests }
+        ensures same { HasSameCounts self.old self.new }
+    {
+        let older = self.heads[to as usize];
+        self.cells.put(
+            node,
+            Cell {
+                older,
+                linked: false,
+            },
+        );
+        self.heads[to as usize] = Some(node);
+        older
+    }
+
+    /// Links the node, which stands in the queue of `to` or in what is left of its walk.
+    pub fn link(&mut self, to: u32, node: Node)
+        requires scheduler { to ≤ self.old.schedulers }
+        requires node { IsNode self.old.schedulers self.old.greatest node }
+        requires unlinked { Contains (marks_of self.old.queues to) (pushed node)
+            ⊎ Contains (marks_of self.old.rests to) (pushed node) }
+        ensures queues { marks_of self.new.queues
+            ≡ put (marks_of self.old.queues) to (link_in node (marks_of self.old.queues to)) }
+        ensures rests { marks_of self.new.rests
+            ≡ put (marks_of self.old.rests) to (link_in node (marks_of self.old.rests to)) }
+        ensures same { HasSameCounts self.old self.new }
+    {
+        let cell = self.cells.at(node);
+        self.cells.put(
+            node,
+            Cell {
+                linked: true,
+                ..cell
+            },
+        );
+    }
+}
