@@ -1,6 +1,5 @@
 -- A scheduler: what it keeps for itself, and where it is in its operation.
 use Rattle.std.specs.Prelude.{ℕ, List, Option}
-use Rattle.ea_model.specs.declared.carriers.Place.{Place}
 use Rattle.ea_model.specs.declared.carriers.CarrierPlan.{CarrierPlan}
 use Rattle.ea_model.specs.declared.carriers.Figures.{Figures}
 use Rattle.ea_model.specs.declared.operations.Op.{Op}
@@ -10,6 +9,8 @@ use Rattle.ea_model.specs.Instance.{Instance}
 use Rattle.ea_machine.specs.declared.asks.Ask.{Ask}
 use Rattle.ea_machine.specs.declared.nodes.Node.{Node}
 use Rattle.ea_machine.specs.declared.owners.OwnerWord.{OwnerWord}
+use Rattle.ea_machine.specs.declared.tasks.Gone.{Gone}
+use Rattle.ea_machine.specs.declared.tasks.Why.{Why}
 use Rattle.ea_machine.specs.declared.nodes.Named.{Named}
 
 -- the release route of a block, by the row that is next; a content on it is in the scheduler's hand
@@ -30,23 +31,6 @@ pub data Route : Type 0 where
   Pushing : (node : Node) (to : ℕ) → Route
   -- the node was pushed there, and is to be linked
   Linking : (node : Node) (to : ℕ) → Route
-
--- an operation that releases a block: a free, or a reallocation that has placed its new block
-pub data Task : Type 0 where
-  Freeing : (name : ℕ) → Task
-  Moving : (old fresh : ℕ) (place : Place) → Task
-
--- why a block is released: it stood in the walk, or for an operation
-pub data Why : Type 0 where
-  Walk : Why
-  For : (task : Task) → Why
-
--- what first became of a block on its route: nothing yet, it was released here, or it was queued to
--- that instance
-pub data Gone : Type 0 where
-  Open : Gone
-  Here : Gone
-  Queued : (to : ℕ) → Gone
 
 -- where a scheduler is in its operation
 pub data Stage : Type 0 where

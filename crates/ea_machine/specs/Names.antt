@@ -11,7 +11,10 @@ use Rattle.ea_machine.specs.declared.nodes.Node.TheVariants.{Block, Carrier}
 use Rattle.ea_machine.specs.Nodes.{Mark, same_spot}
 use Rattle.ea_machine.specs.declared.nodes.Named.{Named}
 use Rattle.ea_machine.specs.Setup.{Setup}
-use Rattle.ea_machine.specs.Actor.{Actor, Route, Looking, Trying, Settling, Abandoning, Sending, Clearing, Pushing, Linking, Freeing, Moving, Why, Walk, For, Stage, Routed, on_route}
+use Rattle.ea_machine.specs.Actor.{Actor, Route, Looking, Trying, Settling, Abandoning, Sending, Clearing, Pushing, Linking, Stage, Routed, on_route}
+use Rattle.ea_machine.specs.declared.tasks.Task.TheVariants.{Freeing, Moving}
+use Rattle.ea_machine.specs.declared.tasks.Why.{Why}
+use Rattle.ea_machine.specs.declared.tasks.Why.TheVariants.{Walk, For}
 use Rattle.ea_machine.specs.State.{State}
 use Rattle.ea_machine.specs.Tasks.{later}
 use Rattle.ea_machine.specs.Sums.{one_if, sum_over, total}

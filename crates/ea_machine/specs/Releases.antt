@@ -13,7 +13,9 @@ use Rattle.ea_machine.specs.Nodes.{block_node}
 use Rattle.ea_machine.specs.declared.nodes.Named.{Named}
 use Rattle.ea_machine.specs.Owners.{owner_of}
 use Rattle.ea_machine.specs.Setup.{Setup, migration}
-use Rattle.ea_machine.specs.Actor.{Actor, Gone, Open, Here, Queued, Route, Looking, Trying, Settling, Abandoning, Sending, Clearing, Pushing, Linking}
+use Rattle.ea_machine.specs.Actor.{Actor, Route, Looking, Trying, Settling, Abandoning, Sending, Clearing, Pushing, Linking}
+use Rattle.ea_machine.specs.declared.tasks.Gone.{Gone}
+use Rattle.ea_machine.specs.declared.tasks.Gone.TheVariants.{Open, Here, Queued}
 use Rattle.ea_machine.specs.Rows.{Answer, Saw, Won, Lost}
 use Rattle.ea_machine.specs.Employment.{dismissing, disowning}
 use Rattle.ea_machine.specs.Abandonment.{is_due}

@@ -6,7 +6,13 @@ use Rattle.ea_model.specs.declared.entries.Entry.TheVariants as entry
 use Rattle.ea_machine.specs.Nodes.{without_name}
 use Rattle.ea_machine.specs.declared.nodes.Named.{Named}
 use Rattle.ea_machine.specs.Setup.{Setup}
-use Rattle.ea_machine.specs.Actor.{Actor, Begin, Ended, Routed, Gone, Open, Here, Queued, Route, Task, Freeing, Moving, Why, For}
+use Rattle.ea_machine.specs.Actor.{Actor, Begin, Ended, Routed, Route}
+use Rattle.ea_machine.specs.declared.tasks.Task.{Task}
+use Rattle.ea_machine.specs.declared.tasks.Task.TheVariants.{Freeing, Moving}
+use Rattle.ea_machine.specs.declared.tasks.Why.{Why}
+use Rattle.ea_machine.specs.declared.tasks.Why.TheVariants.{For}
+use Rattle.ea_machine.specs.declared.tasks.Gone.{Gone}
+use Rattle.ea_machine.specs.declared.tasks.Gone.TheVariants.{Open, Here, Queued}
 use Rattle.ea_machine.specs.Releases.{Turned, route_of}
 
 -- the operations after the first

@@ -5,7 +5,10 @@ use Rattle.std.specs.Prelude.{ℕ, List, [], ◌∷◌, Option, None, Some}
 use Rattle.ea_machine.specs.declared.nodes.Node.{Node}
 use Rattle.ea_machine.specs.declared.nodes.Node.TheVariants.{Block, Carrier}
 use Rattle.ea_machine.specs.Setup.{Setup}
-use Rattle.ea_machine.specs.Actor.{Actor, Begin, Collecting, Ready, Gone, Why, Walk, For}
+use Rattle.ea_machine.specs.Actor.{Actor, Begin, Collecting, Ready}
+use Rattle.ea_machine.specs.declared.tasks.Why.{Why}
+use Rattle.ea_machine.specs.declared.tasks.Why.TheVariants.{Walk, For}
+use Rattle.ea_machine.specs.declared.tasks.Gone.{Gone}
 use Rattle.ea_machine.specs.Rows.{Answer, Head, Rests, Passes}
 use Rattle.ea_machine.specs.Releases.{disowned, route_of}
 use Rattle.ea_machine.specs.Tasks.{carried, halted, task_over}

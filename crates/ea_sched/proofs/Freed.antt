@@ -12,7 +12,11 @@ use Rattle.ea_instance.specs.declared.released.Released.TheVariants.{Kept, Empty
 use Rattle.ea_instance.specs.Answers.{follow_up, vacated}
 use Rattle.ea_laws.specs.Kept.{number_of}
 use Rattle.ea_machine.specs.declared.nodes.Named.{Named}
-use Rattle.ea_machine.specs.Actor.{Actor, For, Freeing, Here, Moving, Open, Task}
+use Rattle.ea_machine.specs.Actor.{Actor}
+use Rattle.ea_machine.specs.declared.tasks.Task.{Task}
+use Rattle.ea_machine.specs.declared.tasks.Task.TheVariants.{Freeing, Moving}
+use Rattle.ea_machine.specs.declared.tasks.Why.TheVariants.{For}
+use Rattle.ea_machine.specs.declared.tasks.Gone.TheVariants.{Here, Open}
 use Rattle.ea_machine.specs.Owners.{owner_of}
 use Rattle.ea_machine.specs.Releases.{Turned, abandoned_if, after_release, after_release_by, dismissed, leaving, leaving_by, lightened, owned_by, routed}
 use Rattle.ea_machine.specs.Setup.{Setup, migration}

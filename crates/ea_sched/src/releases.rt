@@ -2,7 +2,8 @@
 ghost use Rattle.std.specs.Prelude.{◌≡◌, [], IfSome, IsSome, OnOk};
 ghost use Rattle.ea_model.specs.declared.carriers.Kind.TheVariants.{Single};
 ghost use Rattle.ea_model.specs.Instance.{block_in, content_of, employed, releasing_at};
-ghost use Rattle.ea_machine.specs.Actor.{Here, Task};
+ghost use Rattle.ea_machine.specs.declared.tasks.Task.{Task};
+ghost use Rattle.ea_machine.specs.declared.tasks.Gone.TheVariants.{Here};
 ghost use Rattle.ea_machine.specs.Operations as operations;
 ghost use Rattle.ea_machine.specs.Nodes as nodes;
 ghost use Rattle.ea_machine.specs.Tasks as tasks;

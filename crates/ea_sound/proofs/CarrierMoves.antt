@@ -18,7 +18,9 @@ use Rattle.ea_laws.specs.Kinds.{is_shared}
 use Rattle.ea_laws.proofs.BlockLists.{offset_of}
 use Rattle.ea_laws.proofs.Apart.{changed-All}
 use Rattle.ea_laws.proofs.Changed.{released-keeps}
-use Rattle.ea_machine.specs.Actor.{Actor, Gone, Looking, Abandoning, Begin, Routed, Why}
+use Rattle.ea_machine.specs.Actor.{Actor, Looking, Abandoning, Begin, Routed}
+use Rattle.ea_machine.specs.declared.tasks.Why.{Why}
+use Rattle.ea_machine.specs.declared.tasks.Gone.{Gone}
 use Rattle.ea_machine.specs.Employment.{dismissing}
 use Rattle.ea_machine.specs.Contents.{hand_sum}
 use Rattle.ea_machine.specs.Names.{of_block, of_content, only}

@@ -12,7 +12,13 @@ use Rattle.ea_model.specs.declared.entries.NoCarrier.TheVariants.{Space}
 use Rattle.ea_model.specs.declared.units.TheConstants.{SEARCH_LIMIT}
 use Rattle.ea_model.specs.Instance.{chosen_spot, creating, is_alone, place_at, plan, single_place, creating_single, placing_at}
 use Rattle.ea_laws.proofs.Keeping.{plan-IsPlanned}
-use Rattle.ea_machine.specs.Actor.{Actor, Gone, Open, Here, Queued, Route, Task, Freeing, Moving, For, Begin, Ready, Ended, Pushing, Routed, Why}
+use Rattle.ea_machine.specs.Actor.{Actor, Route, Begin, Ready, Ended, Pushing, Routed}
+use Rattle.ea_machine.specs.declared.tasks.Task.{Task}
+use Rattle.ea_machine.specs.declared.tasks.Task.TheVariants.{Freeing, Moving}
+use Rattle.ea_machine.specs.declared.tasks.Why.{Why}
+use Rattle.ea_machine.specs.declared.tasks.Why.TheVariants.{For}
+use Rattle.ea_machine.specs.declared.tasks.Gone.{Gone}
+use Rattle.ea_machine.specs.declared.tasks.Gone.TheVariants.{Open, Here, Queued}
 use Rattle.ea_machine.specs.declared.asks.Ask.{Ask}
 use Rattle.ea_machine.specs.Chosen.{Created, Creates, HasAsked, IsJustBefore, IsPlacedAt, IsPlacement}
 use Rattle.ea_machine.specs.Entries.{Tells, IsAnother}

@@ -5,7 +5,10 @@ use Rattle.std.proofs.lemmas.Bool.{cases_eq}
 use Rattle.ea_model.specs.declared.entries.Entry.TheVariants as entry
 use Rattle.ea_machine.specs.declared.nodes.Node.{Node}
 use Rattle.ea_machine.specs.declared.nodes.Node.TheVariants.{Block, Carrier}
-use Rattle.ea_machine.specs.Actor.{Actor, Gone, Route, Looking, Trying, Settling, Abandoning, Sending, Clearing, Pushing, Linking, Stage, Begin, Routed, Collecting, Searching, Fetching, Creating, Giving, Taking, Ended, Ready, Why, Walk, For}
+use Rattle.ea_machine.specs.Actor.{Actor, Route, Looking, Trying, Settling, Abandoning, Sending, Clearing, Pushing, Linking, Stage, Begin, Routed, Collecting, Searching, Fetching, Creating, Giving, Taking, Ended, Ready}
+use Rattle.ea_machine.specs.declared.tasks.Why.{Why}
+use Rattle.ea_machine.specs.declared.tasks.Why.TheVariants.{Walk, For}
+use Rattle.ea_machine.specs.declared.tasks.Gone.{Gone}
 use Rattle.ea_machine.specs.Completion.{actor_rows, begin_rows, completing, ending, finishing, next_rows, passed_rows, stage_rows, work}
 use Rattle.ea_machine.specs.Machine.{IsReached, after_row, begins, first_stage, run, run_on, start, step, wants_at, wants_on}
 use Rattle.ea_machine.specs.MachineLaws.{EndsAll}

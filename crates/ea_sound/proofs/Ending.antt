@@ -18,7 +18,11 @@ use Rattle.ea_model.specs.Units.{need_of}
 use Rattle.ea_machine.specs.declared.nodes.Node.{Node}
 use Rattle.ea_machine.specs.declared.nodes.Node.TheVariants.{Block, Carrier}
 use Rattle.ea_machine.specs.declared.owners.OwnerWord.{OwnerWord}
-use Rattle.ea_machine.specs.Actor.{Actor, Gone, Route, Looking, Trying, Settling, Abandoning, Sending, Clearing, Pushing, Linking, Stage, Begin, Routed, Collecting, Searching, Fetching, Creating, Giving, Taking, Ended, Ready, Task, Freeing, Moving, Walk, For}
+use Rattle.ea_machine.specs.Actor.{Actor, Route, Looking, Trying, Settling, Abandoning, Sending, Clearing, Pushing, Linking, Stage, Begin, Routed, Collecting, Searching, Fetching, Creating, Giving, Taking, Ended, Ready}
+use Rattle.ea_machine.specs.declared.tasks.Task.{Task}
+use Rattle.ea_machine.specs.declared.tasks.Task.TheVariants.{Freeing, Moving}
+use Rattle.ea_machine.specs.declared.tasks.Why.TheVariants.{Walk, For}
+use Rattle.ea_machine.specs.declared.tasks.Gone.{Gone}
 use Rattle.ea_machine.specs.declared.asks.Ask.{Ask}
 use Rattle.ea_machine.specs.Completion.{actor_rows, begin_rows, next_rows, operation_rows, passed_rows, route_rows, search_rows, stage_rows, text_rows}
 use Rattle.ea_machine.specs.Employment.{employing}

@@ -10,7 +10,11 @@ use Rattle.ea_model.specs.declared.operations.Op.{Op}
 use Rattle.ea_model.specs.declared.operations.Op.TheVariants as op
 use Rattle.ea_model.proofs.Options.{same-some}
 use Rattle.ea_model.proofs.Needs.{need-even, need-least}
-use Rattle.ea_machine.specs.Actor.{Gone, Open, Here, Queued, Task, Freeing, Moving, For}
+use Rattle.ea_machine.specs.declared.tasks.Task.{Task}
+use Rattle.ea_machine.specs.declared.tasks.Task.TheVariants.{Freeing, Moving}
+use Rattle.ea_machine.specs.declared.tasks.Why.TheVariants.{For}
+use Rattle.ea_machine.specs.declared.tasks.Gone.{Gone}
+use Rattle.ea_machine.specs.declared.tasks.Gone.TheVariants.{Open, Here, Queued}
 use Rattle.ea_machine.specs.declared.asks.Ask.{Ask}
 use Rattle.ea_machine.specs.Entries.{Makes}
 use Rattle.ea_machine.specs.Names.{made_in, unplaced_by}

@@ -9,7 +9,9 @@ use Rattle.ea_model.specs.declared.entries.Entry.{Entry}
 use Rattle.ea_model.specs.declared.operations.Op.{Op}
 use Rattle.ea_model.specs.Trace.{makes}
 use Rattle.ea_machine.specs.Turns.{log_after}
-use Rattle.ea_machine.specs.Actor.{Actor, Begin, Collecting, Creating, Ended, Fetching, Freeing, Giving, Moving, Ready, Routed, Searching, Stage, Taking, Walk, For}
+use Rattle.ea_machine.specs.Actor.{Actor, Begin, Collecting, Creating, Ended, Fetching, Giving, Ready, Routed, Searching, Stage, Taking}
+use Rattle.ea_machine.specs.declared.tasks.Task.TheVariants.{Freeing, Moving}
+use Rattle.ea_machine.specs.declared.tasks.Why.TheVariants.{Walk, For}
 use Rattle.ea_machine.specs.Contents.{seats}
 use Rattle.ea_machine.specs.Entries.{LogsEach, Makes}
 use Rattle.ea_machine.specs.Machine.{first_stage, run}

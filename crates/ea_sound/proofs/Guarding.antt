@@ -8,7 +8,9 @@ use Rattle.ea_model.specs.Content.{Content}
 use Rattle.ea_machine.specs.declared.nodes.Node.{Node}
 use Rattle.ea_machine.specs.declared.owners.OwnerWord.TheVariants as word
 use Rattle.ea_machine.specs.Abandonment.{is_due}
-use Rattle.ea_machine.specs.Actor.{Actor, Gone, Route, Looking, Trying, Settling, Abandoning, Sending, Clearing, Pushing, Linking, Stage, Begin, Routed, Collecting, Searching, Fetching, Creating, Giving, Taking, Ended, Ready, Why}
+use Rattle.ea_machine.specs.Actor.{Actor, Route, Looking, Trying, Settling, Abandoning, Sending, Clearing, Pushing, Linking, Stage, Begin, Routed, Collecting, Searching, Fetching, Creating, Giving, Taking, Ended, Ready}
+use Rattle.ea_machine.specs.declared.tasks.Why.{Why}
+use Rattle.ea_machine.specs.declared.tasks.Gone.{Gone}
 use Rattle.ea_machine.specs.Contents.{hand_sum, seats}
 use Rattle.ea_machine.specs.Guarded.{IsGuarded, is_on_word}
 use Rattle.ea_machine.specs.Guards.{Guard}

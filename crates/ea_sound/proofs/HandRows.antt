@@ -10,7 +10,9 @@ use Rattle.ea_machine.specs.declared.nodes.Node.TheVariants.{Carrier}
 use Rattle.ea_machine.specs.declared.owners.OwnerWord.{OwnerWord}
 use Rattle.ea_machine.specs.declared.nodes.Named.{Named}
 use Rattle.ea_laws.proofs.Standing.{released-IsLaidOut}
-use Rattle.ea_machine.specs.Actor.{Abandoning, Begin, Gone, Pushing, Routed, Sending, Settling, Stage, Trying, Why}
+use Rattle.ea_machine.specs.Actor.{Abandoning, Begin, Pushing, Routed, Sending, Settling, Stage, Trying}
+use Rattle.ea_machine.specs.declared.tasks.Why.{Why}
+use Rattle.ea_machine.specs.declared.tasks.Gone.{Gone}
 use Rattle.ea_machine.specs.Contents.{InHand, hand_sum, home_sum, slots}
 use Rattle.ea_machine.specs.Names.{of_content, of_hand, of_named, only, only_at}
 use Rattle.ea_machine.specs.NodePlaces.{of_carrier_hand, of_link}

@@ -5,7 +5,9 @@ use Rattle.std.proofs.lemmas.Bool.{cases_Bool}
 use Rattle.ea_model.specs.declared.carriers.Spot.{Spot}
 use Rattle.ea_machine.specs.declared.owners.OwnerWord.{OwnerWord}
 use Rattle.ea_machine.specs.declared.owners.OwnerWord.TheVariants as word
-use Rattle.ea_machine.specs.Actor.{Actor, Collecting, Ended, Gone, Looking, Ready, Routed, Stage, Trying, Why}
+use Rattle.ea_machine.specs.Actor.{Actor, Collecting, Ended, Looking, Ready, Routed, Stage, Trying}
+use Rattle.ea_machine.specs.declared.tasks.Why.{Why}
+use Rattle.ea_machine.specs.declared.tasks.Gone.{Gone}
 use Rattle.ea_machine.specs.Contents.{seats}
 use Rattle.ea_machine.specs.Heard.{HearsNoOther, NamesAnother, NamesEmployer, on_its_way}
 use Rattle.ea_machine.specs.Machine.{wants_at}

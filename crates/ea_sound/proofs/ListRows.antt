@@ -6,7 +6,9 @@ use Rattle.ea_model.specs.Content.{Content}
 use Rattle.ea_model.proofs.Rising.{item_at-key}
 use Rattle.ea_laws.specs.Kept.{IsLaidOut}
 use Rattle.ea_machine.specs.declared.nodes.Node.{Node}
-use Rattle.ea_machine.specs.Actor.{Actor, Begin, Giving, Gone, Linking, Pushing, Routed, Stage, Taking, Why}
+use Rattle.ea_machine.specs.Actor.{Actor, Begin, Giving, Linking, Pushing, Routed, Stage, Taking}
+use Rattle.ea_machine.specs.declared.tasks.Why.{Why}
+use Rattle.ea_machine.specs.declared.tasks.Gone.{Gone}
 use Rattle.ea_machine.specs.Contents.{InHand, hand_sum, seats}
 use Rattle.ea_machine.specs.NamePlaces.{name_of}
 use Rattle.ea_machine.specs.Names.{of_hand, of_mark, of_named, of_node, only}

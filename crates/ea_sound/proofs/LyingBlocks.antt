@@ -8,7 +8,9 @@ use Rattle.ea_model.specs.declared.carriers.Kind.TheVariants.{Main, Multi, Singl
 use Rattle.ea_model.proofs.Options.{same-some}
 use Rattle.ea_laws.specs.Kinds.{is_shared}
 use Rattle.ea_laws.proofs.Changed.{released-keeps}
-use Rattle.ea_machine.specs.Actor.{Actor, Gone, Here, Open}
+use Rattle.ea_machine.specs.Actor.{Actor}
+use Rattle.ea_machine.specs.declared.tasks.Gone.{Gone}
+use Rattle.ea_machine.specs.declared.tasks.Gone.TheVariants.{Here, Open}
 use Rattle.ea_machine.specs.declared.nodes.Named.{Named}
 use Rattle.ea_machine.specs.Employment.{dismissing}
 use Rattle.ea_machine.specs.Owners.{owner_of}

@@ -4,7 +4,9 @@ use Rattle.std.proofs.lemmas.Bool.{cases_eq}
 use Rattle.ea_model.specs.Content.{Content}
 use Rattle.ea_machine.specs.declared.nodes.Node.{Node}
 use Rattle.ea_machine.specs.declared.nodes.Node.TheVariants.{Carrier}
-use Rattle.ea_machine.specs.Actor.{Actor, Gone, Linking, Pushing, Routed, Why, Collecting}
+use Rattle.ea_machine.specs.Actor.{Actor, Linking, Pushing, Routed, Collecting}
+use Rattle.ea_machine.specs.declared.tasks.Why.{Why}
+use Rattle.ea_machine.specs.declared.tasks.Gone.{Gone}
 use Rattle.ea_machine.specs.Contents.{AtHome, seats}
 use Rattle.ea_machine.specs.NodePlaces.{anywhere, node_at, of_carrier_actor, of_carrier_hand, of_link, of_unlinked}
 use Rattle.ea_machine.specs.Owners.{CarrierAt, Absent, Employed, Pooled, Busy, Returning, owner_of}

@@ -6,7 +6,9 @@ use Rattle.std.proofs.lemmas.List.Elements.{All-cons, All-nil, All-weaker, Conta
 use Rattle.ea_model.specs.declared.carriers.Spot.{Spot}
 use Rattle.ea_machine.specs.declared.nodes.Node.{Node}
 use Rattle.ea_machine.specs.declared.nodes.Node.TheVariants.{Block, Carrier}
-use Rattle.ea_machine.specs.Actor.{Gone, Linking, Pushing, Routed, Why}
+use Rattle.ea_machine.specs.Actor.{Linking, Pushing, Routed}
+use Rattle.ea_machine.specs.declared.tasks.Why.{Why}
+use Rattle.ea_machine.specs.declared.tasks.Gone.{Gone}
 use Rattle.ea_machine.specs.Contents.{seats}
 use Rattle.ea_machine.specs.Guards.{IsNowhere, IsUnlinkedAt}
 use Rattle.ea_machine.specs.Names.{of_hand, of_mark, of_node, only}

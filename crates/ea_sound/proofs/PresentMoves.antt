@@ -17,7 +17,12 @@ use Rattle.ea_model.proofs.Options.{some_value}
 use Rattle.ea_laws.proofs.Keeping.{chosen-planned}
 use Rattle.ea_laws.specs.Kept.{Stands}
 use Rattle.ea_laws.proofs.Standing.{chosen-Stands, creating-Stands, creating_single-Stands}
-use Rattle.ea_machine.specs.Actor.{Actor, Gone, Route, Task, Moving, Why, For}
+use Rattle.ea_machine.specs.Actor.{Actor, Route}
+use Rattle.ea_machine.specs.declared.tasks.Task.{Task}
+use Rattle.ea_machine.specs.declared.tasks.Task.TheVariants.{Moving}
+use Rattle.ea_machine.specs.declared.tasks.Why.{Why}
+use Rattle.ea_machine.specs.declared.tasks.Why.TheVariants.{For}
+use Rattle.ea_machine.specs.declared.tasks.Gone.{Gone}
 use Rattle.ea_machine.specs.declared.asks.Ask.{Ask}
 use Rattle.ea_machine.specs.Entries.{Makes}
 use Rattle.ea_machine.specs.Names.{made_in, unplaced_by}

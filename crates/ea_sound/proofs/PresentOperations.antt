@@ -16,7 +16,8 @@ use Rattle.ea_model.specs.Units.{need_of}
 use Rattle.ea_model.proofs.Rising.{item_at-key}
 use Rattle.ea_laws.proofs.Keeping.{plan-IsPlanned}
 use Rattle.ea_model.proofs.Needs.{need-even, need-least}
-use Rattle.ea_machine.specs.Actor.{Actor, Freeing}
+use Rattle.ea_machine.specs.Actor.{Actor}
+use Rattle.ea_machine.specs.declared.tasks.Task.TheVariants.{Freeing}
 use Rattle.ea_machine.specs.declared.asks.Ask.{Ask}
 use Rattle.ea_machine.specs.Entries.{Makes}
 use Rattle.ea_machine.specs.NamePlaces.{name_of}

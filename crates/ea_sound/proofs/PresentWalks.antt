@@ -3,7 +3,10 @@ use Rattle.std.proofs.Common.{◌≡◌, ◌≢◌, ℕ, List, [], ◌∷◌, re
 use Rattle.ea_model.specs.declared.operations.Op.{Op}
 use Rattle.ea_machine.specs.declared.nodes.Node.{Node}
 use Rattle.ea_machine.specs.declared.nodes.Node.TheVariants.{Block, Carrier}
-use Rattle.ea_machine.specs.Actor.{Actor, Gone, Stage, Begin, Routed, Collecting, Searching, Fetching, Creating, Giving, Taking, Ended, Ready, Why, Walk, For}
+use Rattle.ea_machine.specs.Actor.{Actor, Stage, Begin, Routed, Collecting, Searching, Fetching, Creating, Giving, Taking, Ended, Ready}
+use Rattle.ea_machine.specs.declared.tasks.Why.{Why}
+use Rattle.ea_machine.specs.declared.tasks.Why.TheVariants.{Walk, For}
+use Rattle.ea_machine.specs.declared.tasks.Gone.{Gone}
 use Rattle.ea_machine.specs.Contents.{hand_sum}
 use Rattle.ea_machine.specs.Machine.{onward, onward_at}
 use Rattle.ea_machine.specs.Names.{unplaced, unplaced_by}

@@ -16,7 +16,10 @@ use Rattle.ea_laws.proofs.Changed.{released-keeps}
 use Rattle.ea_laws.proofs.Employed.{employed-changed}
 use Rattle.ea_laws.proofs.Standing.{releasing-Stands}
 use Rattle.ea_machine.specs.Abandonment.{is_due}
-use Rattle.ea_machine.specs.Actor.{Actor, Gone, Open, Here, Why}
+use Rattle.ea_machine.specs.Actor.{Actor}
+use Rattle.ea_machine.specs.declared.tasks.Why.{Why}
+use Rattle.ea_machine.specs.declared.tasks.Gone.{Gone}
+use Rattle.ea_machine.specs.declared.tasks.Gone.TheVariants.{Open, Here}
 use Rattle.ea_machine.specs.Employment.{dismissing}
 use Rattle.ea_machine.specs.Names.{unplaced_by}
 use Rattle.ea_machine.specs.declared.nodes.Named.{Named}

@@ -5,7 +5,10 @@ use Rattle.ea_machine.specs.declared.nodes.Node.{Node}
 use Rattle.ea_machine.specs.declared.nodes.Node.TheVariants.{Block, Carrier}
 use Rattle.ea_machine.specs.declared.owners.OwnerWord.{OwnerWord}
 use Rattle.ea_machine.specs.declared.owners.OwnerWord.TheVariants as word
-use Rattle.ea_machine.specs.Actor.{Actor, Gone, Here as HereGone, Route, Looking, Trying, Settling, Abandoning, Sending, Clearing, Pushing, Linking, Begin, Routed, Ready, Why}
+use Rattle.ea_machine.specs.Actor.{Actor, Route, Looking, Trying, Settling, Abandoning, Sending, Clearing, Pushing, Linking, Begin, Routed, Ready}
+use Rattle.ea_machine.specs.declared.tasks.Why.{Why}
+use Rattle.ea_machine.specs.declared.tasks.Gone.{Gone}
+use Rattle.ea_machine.specs.declared.tasks.Gone.TheVariants.{Here as HereGone}
 use Rattle.ea_machine.specs.Contents.{hand_sum, seats, slots}
 use Rattle.ea_machine.specs.Machine.{wants_on}
 use Rattle.ea_machine.specs.declared.nodes.Named.{Named}

@@ -10,7 +10,10 @@ use Rattle.ea_laws.specs.Kinds.{is_shared}
 use Rattle.ea_machine.specs.declared.nodes.Node.{Node}
 use Rattle.ea_machine.specs.declared.owners.OwnerWord.{OwnerWord}
 use Rattle.ea_machine.specs.declared.owners.OwnerWord.TheVariants as word
-use Rattle.ea_machine.specs.Actor.{Actor, Begin, Collecting, Creating, Ended, Fetching, Giving, Gone, Ready, Route, Routed, Searching, Stage, Taking, Why, Walk, For}
+use Rattle.ea_machine.specs.Actor.{Actor, Begin, Collecting, Creating, Ended, Fetching, Giving, Ready, Route, Routed, Searching, Stage, Taking}
+use Rattle.ea_machine.specs.declared.tasks.Why.{Why}
+use Rattle.ea_machine.specs.declared.tasks.Why.TheVariants.{Walk, For}
+use Rattle.ea_machine.specs.declared.tasks.Gone.{Gone}
 use Rattle.ea_machine.specs.declared.asks.Ask.{Ask}
 use Rattle.ea_machine.specs.Contents.{hand_sum, home_sum, seats, slots}
 use Rattle.ea_machine.specs.Employment.{employing}

@@ -12,7 +12,9 @@ use Rattle.ea_machine.specs.declared.nodes.Node.{Node}
 use Rattle.ea_machine.specs.declared.owners.OwnerWord.{OwnerWord}
 use Rattle.ea_machine.specs.declared.owners.OwnerWord.TheVariants as word
 use Rattle.ea_machine.specs.Abandonment.{is_due}
-use Rattle.ea_machine.specs.Actor.{Actor, Gone, Here, Route, Looking, Trying, Settling, Abandoning, Sending, Clearing, Pushing, Linking}
+use Rattle.ea_machine.specs.Actor.{Actor, Route, Looking, Trying, Settling, Abandoning, Sending, Clearing, Pushing, Linking}
+use Rattle.ea_machine.specs.declared.tasks.Gone.{Gone}
+use Rattle.ea_machine.specs.declared.tasks.Gone.TheVariants.{Here}
 use Rattle.ea_machine.specs.declared.nodes.Named.{Named}
 use Rattle.ea_machine.specs.Owners.{owner_of}
 use Rattle.ea_machine.specs.Releases.{Turned, abandoned_if, after_release, after_release_by, dismissed, employed_by, first_gone, forwarded, leaving_by, lightened, looked, looked_at, owned_by, pooled_by, release_here, route_of, routed, settled, tried, turned}

@@ -6,7 +6,8 @@ use Rattle.ea_model.specs.declared.operations.Op.{Op}
 use Rattle.ea_model.specs.declared.operations.Op.TheVariants as op
 use Rattle.ea_model.specs.Trace.{makes}
 use Rattle.ea_machine.specs.declared.owners.OwnerWord.{OwnerWord}
-use Rattle.ea_machine.specs.Actor.{Actor, Stage, Begin, Routed, Collecting, Searching, Fetching, Creating, Giving, Taking, Ended, Ready, Walk, For}
+use Rattle.ea_machine.specs.Actor.{Actor, Stage, Begin, Routed, Collecting, Searching, Fetching, Creating, Giving, Taking, Ended, Ready}
+use Rattle.ea_machine.specs.declared.tasks.Why.TheVariants.{Walk, For}
 use Rattle.ea_machine.specs.declared.asks.Ask.{Ask}
 use Rattle.ea_machine.specs.Employment.{employing}
 use Rattle.ea_machine.specs.Machine.{after, after_row, onward_at}

@@ -12,7 +12,11 @@ use Rattle.ea_laws.specs.Kept.{IsLaidOut}
 use Rattle.ea_machine.specs.declared.nodes.Node.{Node}
 use Rattle.ea_machine.specs.declared.nodes.Node.TheVariants.{Carrier}
 use Rattle.ea_machine.specs.declared.owners.OwnerWord.{OwnerWord}
-use Rattle.ea_machine.specs.Actor.{Actor, Gone, Open, Route, Looking, Trying, Abandoning, Sending, Clearing, Pushing, Stage, Begin, Routed, Collecting, Ready, Why, Walk}
+use Rattle.ea_machine.specs.Actor.{Actor, Route, Looking, Trying, Abandoning, Sending, Clearing, Pushing, Stage, Begin, Routed, Collecting, Ready}
+use Rattle.ea_machine.specs.declared.tasks.Why.{Why}
+use Rattle.ea_machine.specs.declared.tasks.Why.TheVariants.{Walk}
+use Rattle.ea_machine.specs.declared.tasks.Gone.{Gone}
+use Rattle.ea_machine.specs.declared.tasks.Gone.TheVariants.{Open}
 use Rattle.ea_machine.specs.Contents.{InHand, actor_sum, hand_sum}
 use Rattle.ea_machine.specs.NamePlaces.{name_of}
 use Rattle.ea_machine.specs.Names.{made_in, of_content, of_hand, of_named, only}

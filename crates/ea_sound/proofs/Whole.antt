@@ -1,7 +1,9 @@
 -- What a scheduler knows by itself of where it is, and what the state keeps, give where it may be.
 use Rattle.std.proofs.Common.{◌≡◌, ◌≢◌, ℕ, ◌+◌, ◌≤◌, true, refl, sym, ap, ◌∙◌, subst, inl, inr, arith}
 use Rattle.ea_machine.specs.declared.nodes.Node.TheVariants.{Block, Carrier}
-use Rattle.ea_machine.specs.Actor.{Actor, Gone, Route, Looking, Trying, Settling, Abandoning, Sending, Clearing, Pushing, Linking, Stage, Begin, Routed, Collecting, Searching, Fetching, Creating, Giving, Taking, Ended, Ready, Why}
+use Rattle.ea_machine.specs.Actor.{Actor, Route, Looking, Trying, Settling, Abandoning, Sending, Clearing, Pushing, Linking, Stage, Begin, Routed, Collecting, Searching, Fetching, Creating, Giving, Taking, Ended, Ready}
+use Rattle.ea_machine.specs.declared.tasks.Why.{Why}
+use Rattle.ea_machine.specs.declared.tasks.Gone.{Gone}
 use Rattle.ea_machine.specs.declared.asks.Ask.{Ask}
 use Rattle.ea_machine.specs.Contents.{seats}
 use Rattle.ea_machine.specs.Names.{allocated, made_in, only, to_make, unplaced}

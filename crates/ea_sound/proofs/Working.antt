@@ -18,7 +18,8 @@ use Rattle.ea_model.proofs.Rising.{item_at-key}
 use Rattle.ea_laws.proofs.Keeping.{chosen-planned}
 use Rattle.ea_model.proofs.Needs.{need-even, need-least}
 use Rattle.ea_machine.specs.declared.owners.OwnerWord.{OwnerWord}
-use Rattle.ea_machine.specs.Actor.{Actor, Stage, Begin, Searching, Fetching, Creating, Giving, Taking, Ended, Freeing, Moving}
+use Rattle.ea_machine.specs.Actor.{Actor, Stage, Begin, Searching, Fetching, Creating, Giving, Taking, Ended}
+use Rattle.ea_machine.specs.declared.tasks.Task.TheVariants.{Freeing, Moving}
 use Rattle.ea_machine.specs.declared.asks.Ask.{Ask}
 use Rattle.ea_machine.specs.NamePlaces.{name_of}
 use Rattle.ea_machine.specs.Nodes.{named_at}

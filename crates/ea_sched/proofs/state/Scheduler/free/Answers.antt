@@ -1,6 +1,6 @@
 use Rattle.std.proofs.Common.{sym, ap, refl, ◌∙◌}
 use Rattle.std.proofs.lemmas.Result.{on_ok_weaker}
-use Rattle.ea_machine.specs.Actor.{Freeing}
+use Rattle.ea_machine.specs.declared.tasks.Task.TheVariants.{Freeing}
 use Rattle.ea_machine.specs.Operations.{freed}
 use Rattle.ea_sound.proofs.Asked.{named-spot}
 use Rattle.ea_sched.specs.Acting.{ready_of, setup_for}

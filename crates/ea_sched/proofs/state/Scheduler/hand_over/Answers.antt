@@ -1,6 +1,6 @@
 use Rattle.std.proofs.Common.{sym, ◌∙◌}
 use Rattle.ea_machine.specs.Nodes.{without_name}
-use Rattle.ea_machine.specs.Actor.{Here}
+use Rattle.ea_machine.specs.declared.tasks.Gone.TheVariants.{Here}
 use Rattle.ea_machine.specs.Tasks.{entry_of}
 use Rattle.ea_sched.specs.Acting.{ready_of, setup_for}
 use Rattle.ea_sched.specs.Releasing.{freed_at}

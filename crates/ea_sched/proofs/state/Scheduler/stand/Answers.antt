@@ -1,6 +1,6 @@
 use Rattle.std.proofs.Common.{sym, ap, refl, ◌∙◌}
 use Rattle.std.proofs.lemmas.Result.{on_ok_weaker}
-use Rattle.ea_machine.specs.Actor.{Moving}
+use Rattle.ea_machine.specs.declared.tasks.Task.TheVariants.{Moving}
 use Rattle.ea_machine.specs.Placements.{holding, spot_of_place, stands}
 use Rattle.ea_machine.specs.Tasks.{hands_over}
 use Rattle.ea_sched.specs.Acting.{ready_of, setup_for}
