@@ -1,5 +1,6 @@
 pub mod Owners
 pub mod Nodes
+pub mod Alike
 pub mod Shared
 pub mod Setup
 pub mod Actor

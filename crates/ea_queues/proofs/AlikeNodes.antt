@@ -9,7 +9,7 @@ use Rattle.ea_machine.specs.declared.nodes.Node.{Node}
 use Rattle.ea_machine.specs.declared.nodes.Node.TheVariants.{Block, Carrier}
 use Rattle.ea_machine.specs.Nodes.{Mark, same_node}
 use Rattle.ea_machine.specs.Sums.{one_if}
-use Rattle.ea_queues.specs.Alike.{are_alike, IsNode}
+use Rattle.ea_machine.specs.Alike.{are_alike, IsNode}
 use Rattle.ea_queues.specs.Chains.{alike_in, count_of, number_of}
 use Rattle.ea_queues.proofs.ListSums.{upto, upto-zero, upto-add, upto-most, upto-one}
 

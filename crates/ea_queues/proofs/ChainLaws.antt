@@ -8,7 +8,7 @@ use Rattle.ea_machine.specs.Nodes.{Mark, first_node, link_in, pushed, same_node}
 use Rattle.ea_machine.specs.Rows.{Passes, Rests}
 use Rattle.ea_machine.specs.Table.{link_answer, link_read, rest_after, rest_by}
 use Rattle.ea_machine.specs.Sums.{one_if}
-use Rattle.ea_queues.specs.Alike.{are_alike}
+use Rattle.ea_machine.specs.Alike.{are_alike}
 use Rattle.ea_queues.specs.Chains.{alike_among, alike_in, AreChains, chain, count_of, IsChain, marks_of, number_of}
 use Rattle.ea_queues.specs.declared.cells.Cell.{Cell}
 use Rattle.ea_queues.proofs.AlikeNodes.{alike-itself, one-none, room, same-alike, same-itself}

@@ -11,7 +11,7 @@ use Rattle.ea_machine.specs.Rows.{Passes, Rests}
 use Rattle.ea_machine.specs.Shared.{put}
 use Rattle.ea_machine.specs.Sums.{one_if, sum_over}
 use Rattle.ea_machine.specs.Table.{link_answer, rest_after}
-use Rattle.ea_queues.specs.Alike.{are_alike, IsNode}
+use Rattle.ea_machine.specs.Alike.{are_alike, IsNode}
 use Rattle.ea_queues.specs.Chains.{alike_among, alike_in, AreChains, cell_at, count_of, HasSameCounts, IsChain, marks_of, Queueing, queueing_of, number_of, StandFor, standing_in}
 use Rattle.ea_queues.specs.declared.cells.Cell.{Cell}
 use Rattle.ea_queues.proofs.AlikeNodes.{alike-equal, alike-itself, alike-outside, number-in, one-true}

@@ -5,7 +5,7 @@ use Rattle.ea_machine.specs.declared.nodes.Node.{Node}
 use Rattle.ea_machine.specs.declared.nodes.Node.TheVariants.{Block, Carrier}
 use Rattle.ea_machine.specs.Nodes.{Mark}
 use Rattle.ea_machine.specs.Sums.{one_if, sum_over}
-use Rattle.ea_queues.specs.Alike.{are_alike}
+use Rattle.ea_machine.specs.Alike.{are_alike}
 use Rattle.ea_queues.specs.declared.cells.Cell.{Cell}
 
 -- the number of a node: a block's name, or a carrier's number

@@ -2,7 +2,7 @@
 ghost use Rattle.std.specs.Prelude.{◌≡◌, ◌+◌, ◌*◌, ◌<◌, IfOk, if◌then◌else◌, length};
 ghost use Rattle.ea_machine.specs.declared.nodes.Node.{Node as AnyNode};
 ghost use Rattle.ea_model.specs.declared.units.TheConstants.{NUMBERS};
-ghost use Rattle.ea_queues.specs.Alike.{are_alike};
+ghost use Rattle.ea_machine.specs.Alike.{are_alike};
 ghost use Rattle.ea_queues.specs.Chains.{blank, cell_at, count_of, number_of};
 
 use ea_machine::Node;

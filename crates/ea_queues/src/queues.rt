@@ -4,7 +4,7 @@ ghost use Rattle.ea_machine.specs.Nodes.{first_node, link_in, pushed};
 ghost use Rattle.ea_machine.specs.Rows.{Passes};
 ghost use Rattle.ea_machine.specs.Shared.{put};
 ghost use Rattle.ea_machine.specs.Table.{link_answer, rest_after};
-ghost use Rattle.ea_queues.specs.Alike.{IsNode};
+ghost use Rattle.ea_machine.specs.Alike.{IsNode};
 ghost use Rattle.ea_queues.specs.Links.{told_by};
 ghost use Rattle.ea_queues.specs.Chains.{HasSameCounts, marks_of, standing_in};
 

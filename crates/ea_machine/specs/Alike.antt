@@ -1,4 +1,4 @@
--- Nodes of one name.
+-- Nodes of one name, and the nodes that a run may have.
 use Rattle.std.specs.Prelude.{ℕ, ◌*◌, ◌≤◌, Bool, false, ◌==◌}
 use Rattle.ea_model.specs.declared.units.TheConstants.{NUMBERS}
 use Rattle.ea_machine.specs.declared.nodes.Node.{Node}
