@@ -9,6 +9,7 @@ mod mem;
 mod rested;
 mod shared;
 
+pub use ea_queues::Link;
 pub use mem::MemShared;
 pub use rested::Rested;
 pub use shared::Shared;

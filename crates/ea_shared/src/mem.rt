@@ -1,49 +1,72 @@
 //! What is shared, in plain memory.
-ghost use Rattle.std.specs.Prelude.{◌≡◌, Some, None};
-ghost use Rattle.ea_shared.specs.Memory.{nothing_shared};
+ghost use Rattle.std.specs.Prelude.{◌≡◌, IfOk};
+ghost use Rattle.ea_shared.specs.Memory.{nothing_shared, shared_of};
 
 use crate::rested::Rested;
 use crate::shared::Shared;
 use ea_machine::Node;
-use ea_model::{Carried, Config, Spot, Trace};
-use std::marker::PhantomData;
+use ea_model::{Carried, Config, OutOfMemory, Spot, Trace};
+use ea_names::Names;
+use ea_queues::{Link, Queues};
+use std::alloc::Global;
+use std::marker::{Model, PhantomData};
 
-/// What schedulers share, in plain memory, for steps that are taken one after another. It tells what
-/// is shared, and no caller. No step that is built queues a node, gives a name or sets an owner word,
-/// so there is nothing yet.
+/// What schedulers share, in plain memory, for steps that are taken one after another: the queues
+/// of instances, what is left of their walks, and the names that are given. It tells what is
+/// shared, and no caller. No step that is built sets an owner word, so no carrier is shared yet.
 #[derive(Drop)]
 pub struct MemShared<C> {
-    /// How many schedulers share it.
-    pub schedulers: u32,
-    /// The greatest name that may be given.
-    pub greatest: u32,
+    queues: Queues,
+    given: Names,
     content: PhantomData<C>,
+}
+
+impl<C> Model for MemShared<C> {
+    ghost use Rattle.std.specs.Prelude.{◌≡◌};
+    ghost use Rattle.ea_shared.specs.Memory.{Sharing};
+
+    ghost Value = { Sharing };
+
+    ghost view = { λ m. record {
+      queues = m.queues.queues;
+      rests = m.queues.rests;
+      given = m.given.held;
+      schedulers = m.queues.schedulers;
+      greatest = m.queues.greatest;
+    } };
+
+    ghost invariant = { λ m. m.given.greatest ≡ m.queues.greatest };
 }
 
 impl<C: Carried + Drop> MemShared<C> {
     /// Before the first step of a run of the trace, with carriers that don't migrate.
-    pub fn new(config: Config, trace: &Trace) -> MemShared<C>
-        ensures schedulers { result.schedulers ≡ config.schedulers }
-        ensures greatest { result.greatest ≡ trace.now.greatest }
+    pub fn new(alloc: Global, config: Config, trace: &Trace) -> Result<MemShared<C>, OutOfMemory>
+        ensures nothing { IfOk result (λ m. shared_of m ≡ nothing_shared) }
+        ensures schedulers { IfOk result (λ m. m.schedulers ≡ config.schedulers) }
+        ensures greatest { IfOk result (λ m. m.greatest ≡ trace.now.greatest) }
     {
-        MemShared {
-            schedulers: config.schedulers,
-            greatest: trace.greatest,
+        let queues = Queues::new(alloc, config.schedulers, trace.greatest)?;
+        let given = Names::new(alloc, trace.greatest)?;
+        Ok(MemShared {
+            queues,
+            given,
             content: PhantomData,
-        }
+        })
     }
 }
 
 impl<C: Carried + Drop> Shared for MemShared<C> {
     ghost use Rattle.std.specs.Prelude.{◌≡◌, Some, None};
     ghost use Rattle.std.proofs.Common.{refl};
-    ghost use Rattle.ea_shared.specs.Memory.{nothing_shared};
+    ghost use Rattle.ea_shared.specs.Memory.{shared_of};
 
     type Content = C;
 
     ghost schedulers = { λ m. m.schedulers };
 
-    ghost shared = { λ _. Some nothing_shared };
+    ghost greatest = { λ m. m.greatest };
+
+    ghost shared = { λ m. Some (shared_of m) };
 
     ghost caller = { λ _. None };
 
@@ -53,21 +76,45 @@ impl<C: Carried + Drop> Shared for MemShared<C> {
 
     ghost stays_shared = { λ x y h. h.0 };
 
-    fn take_all(&mut self, _me: u32) -> Option<Node> {
-        None
+    ghost stays_greatest = { λ x y h. h.1 };
+
+    fn take_all(&mut self, me: u32) -> Option<Node> {
+        self.queues.take_all(me)
+    }
+
+    fn take_link(&mut self, me: u32, node: Node) -> Link {
+        self.queues.take_link(me, node)
+    }
+
+    fn push(&mut self, _me: u32, to: u32, node: Node) -> Option<Node> {
+        self.queues.push(to, node)
+    }
+
+    fn link(&mut self, _me: u32, to: u32, node: Node) {
+        self.queues.link(to, node);
+    }
+
+    fn give(&mut self, _me: u32, name: u32, spot: Spot) {
+        self.given.hold(name, spot);
+    }
+
+    fn take_try(&mut self, _me: u32, name: u32) -> Option<Spot> {
+        let spot = self.given.spot_of(name);
+        self.given.let_go(name);
+        spot
     }
 }
 
 impl<C: Carried + Drop> Rested for MemShared<C> {
-    ghost use Rattle.ea_shared.specs.Memory.{nothing_shared};
+    ghost use Rattle.ea_shared.specs.Memory.{shared_of};
 
     type Content = C;
 
     ghost greatest = { λ m. m.greatest };
 
-    ghost rested = { λ _. nothing_shared };
+    ghost rested = { λ m. shared_of m };
 
-    fn given(&self, _name: u32) -> Option<Spot> {
-        None
+    fn given(&self, name: u32) -> Option<Spot> {
+        self.given.spot_of(name)
     }
 }

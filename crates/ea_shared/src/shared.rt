@@ -1,10 +1,16 @@
 //! The steps that a scheduler takes on what is shared.
-ghost use Rattle.std.specs.Prelude.{◌≡◌, ℕ, ◌≤◌, [], Option, IfSome};
-ghost use Rattle.ea_machine.specs.Rows.{Head, TakeAll};
+ghost use Rattle.std.specs.Prelude.{◌≡◌, ℕ, ◌≤◌, [], Option, None, Some, IfSome};
+ghost use Rattle.ea_machine.specs.Alike.{HasNoAlike, IsNode};
+ghost use Rattle.ea_machine.specs.Guards.{IsUnlinkedAt};
+ghost use Rattle.ea_machine.specs.Nodes.{first_node, spot_named};
+ghost use Rattle.ea_machine.specs.Rows.{Done, Give, Got, Head, Push, TakeAll, TakeLink, TakeTry};
+ghost use Rattle.ea_machine.specs.Rows as rows;
+ghost use Rattle.ea_queues.specs.Links.{told_by};
 ghost use Rattle.ea_shared.specs.Calls.{Did, IsWanted};
 
 use ea_machine::Node;
-use ea_model::Carried;
+use ea_model::{Carried, Spot};
+use ea_queues::Link;
 
 /// What schedulers share. Each call is one row of the machine's table, done by scheduler `me`; no
 /// call takes memory, and none fails. An object may tell what is shared, as plain memory does, or the
@@ -19,6 +25,9 @@ pub trait Shared {
 
     // how many schedulers share it
     ghost schedulers: { Self → ℕ };
+
+    // the greatest name of a block
+    ghost greatest: { Self → ℕ };
 
     // what is shared, where that is told
     ghost shared: { Self → Option machine.Shared };
@@ -39,7 +48,67 @@ pub trait Shared {
         ensures row { Did me TakeAll (Head result) (shared self.old) (shared self.new)
             (caller self.old) (caller self.new) };
 
+    /// Reads the link of `node`, which is next in the walk of `me`: answers `Rest` where the node
+    /// isn't linked yet, and it stays next. Else the node is passed, and the answer is the next
+    /// older node, or `End` where there is none.
+    fn take_link(&mut self, me: u32, node: Node) -> Link
+        requires scheduler { (1 ≤ me) × (me ≤ schedulers self.old) }
+        requires node { IsNode (schedulers self.old) (greatest self.old) node }
+        requires next { IfSome (shared self.old) (λ s. first_node (s.rests me) ≡ Some node) }
+        requires walks { IfSome (caller self.old) (λ x. x.actor.next ≡ Some node) }
+        requires wanted { IsWanted me TakeLink (caller self.old) }
+        ensures stays { stays self.old self.new }
+        ensures row { Did me TakeLink (told_by result) (shared self.old) (shared self.new)
+            (caller self.old) (caller self.new) };
+
+    /// Puts the node in front of the queue of instance `to`, not linked yet to the older ones:
+    /// answers the node that was newest there, None exactly where the queue was empty.
+    fn push(&mut self, me: u32, to: u32, node: Node) -> Option<Node>
+        requires scheduler { (1 ≤ me) × (me ≤ schedulers self.old) }
+        requires target { (1 ≤ to) × (to ≤ schedulers self.old) }
+        requires node { IsNode (schedulers self.old) (greatest self.old) node }
+        requires nowhere { IfSome (shared self.old) (HasNoAlike node) }
+        requires wanted { IsWanted me (Push node to) (caller self.old) }
+        ensures stays { stays self.old self.new }
+        ensures row { Did me (Push node to) (Head result) (shared self.old) (shared self.new)
+            (caller self.old) (caller self.new) };
+
+    /// Links the node, which was pushed to instance `to`, to the older ones: a walk passes it only
+    /// from then on.
+    fn link(&mut self, me: u32, to: u32, node: Node)
+        requires scheduler { (1 ≤ me) × (me ≤ schedulers self.old) }
+        requires target { (1 ≤ to) × (to ≤ schedulers self.old) }
+        requires node { IsNode (schedulers self.old) (greatest self.old) node }
+        requires unlinked { IfSome (shared self.old) (IsUnlinkedAt node to) }
+        requires wanted { IsWanted me (rows.Link node to) (caller self.old) }
+        ensures stays { stays self.old self.new }
+        ensures row { Did me (rows.Link node to) Done (shared self.old) (shared self.new)
+            (caller self.old) (caller self.new) };
+
+    /// Gives the name, whose block begins at the spot, to whoever takes it.
+    fn give(&mut self, me: u32, name: u32, spot: Spot)
+        requires scheduler { (1 ≤ me) × (me ≤ schedulers self.old) }
+        requires name { (1 ≤ name) × (name ≤ greatest self.old) }
+        requires fresh { IfSome (shared self.old) (λ s. spot_named name s.given ≡ None) }
+        requires wanted { IsWanted me (Give (record { name = name; spot = spot }))
+            (caller self.old) }
+        ensures stays { stays self.old self.new }
+        ensures row { Did me (Give (record { name = name; spot = spot })) Done (shared self.old)
+            (shared self.new) (caller self.old) (caller self.new) };
+
+    /// Takes the name, if it is given: answers where its block begins, None exactly where it isn't
+    /// given.
+    fn take_try(&mut self, me: u32, name: u32) -> Option<Spot>
+        requires scheduler { (1 ≤ me) × (me ≤ schedulers self.old) }
+        requires name { (1 ≤ name) × (name ≤ greatest self.old) }
+        requires wanted { IsWanted me (TakeTry name) (caller self.old) }
+        ensures stays { stays self.old self.new }
+        ensures row { Did me (TakeTry name) (Got result) (shared self.old) (shared self.new)
+            (caller self.old) (caller self.new) };
+
     ghost stays_so: { (x : Self) → stays x x };
 
     ghost stays_shared: { (x y : Self) → stays x y → schedulers y ≡ schedulers x };
+
+    ghost stays_greatest: { (x y : Self) → stays x y → greatest y ≡ greatest x };
 }
