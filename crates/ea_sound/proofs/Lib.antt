@@ -111,3 +111,6 @@ pub mod Ending
 pub mod PresentStep
 pub mod Completing
 pub mod Asked
+pub mod TraceNames
+pub mod StandingNodes
+pub mod Calls

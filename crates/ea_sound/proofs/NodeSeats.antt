@@ -8,7 +8,7 @@ use Rattle.ea_machine.specs.Actor.{Actor, Linking, Pushing, Routed, Collecting}
 use Rattle.ea_machine.specs.declared.tasks.Why.{Why}
 use Rattle.ea_machine.specs.declared.tasks.Gone.{Gone}
 use Rattle.ea_machine.specs.Contents.{AtHome, seats}
-use Rattle.ea_machine.specs.NodePlaces.{anywhere, node_at, of_carrier_actor, of_carrier_hand, of_link, of_unlinked}
+use Rattle.ea_machine.specs.NodePlaces.{anywhere, carrier_nodes, node_at, of_carrier_actor, of_carrier_hand, of_link, of_unlinked}
 use Rattle.ea_machine.specs.Owners.{CarrierAt, Absent, Employed, Pooled, Busy, Returning, owner_of}
 use Rattle.ea_machine.specs.Setup.{Setup, is_scheduler, migration}
 use Rattle.ea_machine.specs.State.{State}
@@ -39,32 +39,31 @@ module _ (e : Setup) (w : State) (k : Kept e w) where
     returning-scheduler = subst (λ j. is_scheduler e j ≡ true) returning-owner
         (owner-scheduler e w k x (somewhere-returning e w k c i x returns))
 
+  -- a carrier whose node stands returns
+  abbrev pub IsReturning : ℕ → Type 0
+  IsReturning c = (i : ℕ) × (x : Content) × (w.shared.places c ≡ Returning i x)
+
+  pub node-returning : (c : ℕ) → 1 ≤ carrier_nodes e (anywhere c) w → IsReturning c
+  node-returning c some = by (w.shared.places c) refl
+      (omega (arith, some, nodes-exact e w k (anywhere c) c (anywhere-only c))) where
+        by : (p : CarrierAt) → w.shared.places c ≡ p → 1 ≤ returning_at (anywhere c) c p
+            → IsReturning c
+        by Absent q l = absurd (omega (arith, l))
+        by (Employed i) q l = absurd (omega (arith, l))
+        by (Pooled i g x) q l = absurd (omega (arith, l))
+        by (Busy i) q l = absurd (omega (arith, l))
+        by (Returning i x) q l = (i, x, q)
+
   module _ (me : ℕ) (seat : me < seats e) where
-    -- a carrier whose node is with a scheduler returns
-    abbrev pub IsReturning : ℕ → Type 0
-    IsReturning c = (i : ℕ) × (x : Content) × (w.shared.places c ≡ Returning i x)
-
-    node-returning : (c : ℕ) → 1 ≤ of_carrier_actor (anywhere c) me (w.actors me)
-        → IsReturning c
-    node-returning c some = by (w.shared.places c) refl (omega (
-      arith,
-      some,
-      total_at-part (of_carrier_actor (anywhere c)) w.actors me (seats e) seat,
-      nodes-exact e w k (anywhere c) c (anywhere-only c),
-    )) where
-      by : (p : CarrierAt) → w.shared.places c ≡ p → 1 ≤ returning_at (anywhere c) c p
-          → IsReturning c
-      by Absent q l = absurd (omega (arith, l))
-      by (Employed i) q l = absurd (omega (arith, l))
-      by (Pooled i g x) q l = absurd (omega (arith, l))
-      by (Busy i) q l = absurd (omega (arith, l))
-      by (Returning i x) q l = (i, x, q)
-
     module _ (why : Why) (gone : Gone) where
       pub pushing-returning : (c to : ℕ)
           → (w.actors me).stage ≡ Routed (Pushing (Carrier c) to) why gone → IsReturning c
-      pushing-returning c to stage = node-returning c
-          (omega (arith, ap (of_carrier_hand (anywhere c) me) stage, one-itself c))
+      pushing-returning c to stage = node-returning c (omega (
+        arith,
+        ap (of_carrier_hand (anywhere c) me) stage,
+        one-itself c,
+        total_at-part (of_carrier_actor (anywhere c)) w.actors me (seats e) seat,
+      ))
 
       -- a scheduler links a node at a seat
       pub linking-seat : (node : Node) (to : ℕ)

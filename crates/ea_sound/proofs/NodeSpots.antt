@@ -7,13 +7,14 @@ use Rattle.ea_model.specs.declared.carriers.Spot.{Spot}
 use Rattle.ea_machine.specs.declared.nodes.Node.{Node}
 use Rattle.ea_machine.specs.declared.nodes.Node.TheVariants.{Block, Carrier}
 use Rattle.ea_machine.specs.Actor.{Linking, Pushing, Routed}
+use Rattle.ea_machine.specs.Alike.{HasNoAlike, are_alike}
 use Rattle.ea_machine.specs.declared.tasks.Why.{Why}
 use Rattle.ea_machine.specs.declared.tasks.Gone.{Gone}
 use Rattle.ea_machine.specs.Contents.{seats}
 use Rattle.ea_machine.specs.Guards.{IsNowhere, IsUnlinkedAt}
 use Rattle.ea_machine.specs.Names.{of_hand, of_mark, of_node, only}
 use Rattle.ea_machine.specs.NodePlaces.{anywhere, node_at, of_carrier_actor, of_carrier_hand, of_carrier_mark, of_carrier_node, of_link, of_unlinked}
-use Rattle.ea_machine.specs.Nodes.{Mark, pushed, same_node}
+use Rattle.ea_machine.specs.Nodes.{Mark, pushed, same_node, same_spot}
 use Rattle.ea_machine.specs.Owners.{CarrierAt, Absent, Employed, Pooled, Busy, Returning}
 use Rattle.ea_machine.specs.Setup.{Setup}
 use Rattle.ea_machine.specs.Sound.{HasNothing}
@@ -36,16 +37,23 @@ all-zero f [] z = All-nil (λ x. f x ≡ 0)
 all-zero f (x ∷ xs) z = All-cons (λ x. f x ≡ 0) x xs (omega (arith, z))
     (all-zero f xs (omega (arith, z)))
 
--- a node that weighs nothing is another one
+-- a node that weighs nothing is of another name, or of another carrier
 other-block : (n : ℕ) (p : Spot) (d : Node) → of_node (only n) d ≡ 0
-    → same_node (Block n p) d ≡ false
+    → are_alike (Block n p) d ≡ false
 other-block n p (Block m q) z = grind (arith, z)
 other-block n p (Carrier c) z = refl
 
 other-carrier : (c i : ℕ) (d : Node) → of_carrier_node (anywhere c) i d ≡ 0
-    → same_node (Carrier c) d ≡ false
+    → are_alike (Carrier c) d ≡ false
 other-carrier c i (Block m q) z = refl
 other-carrier c i (Carrier d) z = grind (arith, z)
+
+-- so it is another node
+other-node : (node d : Node) → are_alike node d ≡ false → same_node node d ≡ false
+other-node (Block n p) (Block m q) other = ap (λ b. b && same_spot p q) other
+other-node (Block n p) (Carrier d) other = refl
+other-node (Carrier c) (Block m q) other = refl
+other-node (Carrier c) (Carrier d) other = other
 
 -- a node that isn't linked and counts stands there
 is-pushed : (node : Node) (to : ℕ) (d : Node) (linked : Bool)
@@ -84,20 +92,21 @@ most-one c (Busy i) = omega arith
 most-one c (Returning i x) = omega (arith, one-itself c)
 
 module _ (e : Setup) (w : State) (rule : Rule e w) where
-  -- where all that counts of a node is with a scheduler, it stands nowhere else
+  -- where all that counts of a node is with a scheduler, none of its name or carrier stands
+  -- elsewhere
   module _ (node : Node) (f : ℕ → Mark → ℕ)
-      (other : (i : ℕ) (m : Mark) → f i m ≡ 0 → same_node node m.node ≡ false)
+      (other : (i : ℕ) (m : Mark) → f i m ≡ 0 → are_alike node m.node ≡ false)
       (queues : total_at (seats e) (λ i. sum_over (f i)) w.shared.queues ≡ 0)
       (rests : total_at (seats e) (λ i. sum_over (f i)) w.shared.rests ≡ 0) where
     abbrev Others : List Mark → Type 0
-    Others ms = All (λ m. same_node node m.node ≡ false) ms
+    Others ms = All (λ m. are_alike node m.node ≡ false) ms
 
     others-list : (i : ℕ) (ms : List Mark) → sum_over (f i) ms ≡ 0 → Others ms
-    others-list i ms z = All-weaker (λ m. f i m ≡ 0) (λ m. same_node node m.node ≡ false)
+    others-list i ms z = All-weaker (λ m. f i m ≡ 0) (λ m. are_alike node m.node ≡ false)
         (other i) ms (all-zero (f i) ms z)
 
-    nowhere : IsNowhere node w.shared
-    nowhere i = elim (cases_lt i (seats e)) [
+    no_alike : HasNoAlike node w.shared
+    no_alike i = elim (cases_lt i (seats e)) [
       | inl seat ↦ (
         others-list i (w.shared.queues i) (omega (
           arith,
@@ -112,19 +121,20 @@ module _ (e : Setup) (w : State) (rule : Rule e w) where
       )
       | inr past ↦
           let has : HasNothing i w = rule.present.nobody i (no_scheduler-beyond e i past) in (
-            subst Others (sym has.queue) (All-nil (λ m. same_node node m.node ≡ false)),
-            subst Others (sym has.rest) (All-nil (λ m. same_node node m.node ≡ false)),
+            subst Others (sym has.queue) (All-nil (λ m. are_alike node m.node ≡ false)),
+            subst Others (sym has.rest) (All-nil (λ m. are_alike node m.node ≡ false)),
           )
     ]
 
   module _ (me : ℕ) (seat : me < seats e) (why : Why) (gone : Gone) where
-    -- the node that a scheduler is about to push is in no queue and in no walk
-    pub pushing-nowhere : (node : Node) (to : ℕ)
-        → (w.actors me).stage ≡ Routed (Pushing node to) why gone → IsNowhere node w.shared
-    pushing-nowhere (Block n p) to now =
+    -- no node of the name or carrier of the one that a scheduler is about to push is in a queue or
+    -- in a walk
+    pub pushing-no_alike : (node : Node) (to : ℕ)
+        → (w.actors me).stage ≡ Routed (Pushing node to) why gone → HasNoAlike node w.shared
+    pushing-no_alike (Block n p) to now =
         let mine = total-part (names_of (only n)) w.actors me (seats e) seat in
         let hand = ap (of_hand (only n)) now in
-        nowhere (Block n p) (λ i. of_mark (only n)) (λ i m z. other-block n p m.node z)
+        no_alike (Block n p) (λ i. of_mark (only n)) (λ i m z. other-block n p m.node z)
         (omega (
           arith,
           rule.kept.names.balance (only n),
@@ -141,13 +151,23 @@ module _ (e : Setup) (w : State) (rule : Rule e w) where
           hand,
           one-itself n,
         ))
-    pushing-nowhere (Carrier c) to now =
+    pushing-no_alike (Carrier c) to now =
         let mine = total_at-part (of_carrier_actor (anywhere c)) w.actors me (seats e) seat in
         let hand = ap (of_carrier_hand (anywhere c) me) now in
         let exact = nodes-exact e w rule.kept (anywhere c) c (anywhere-only c) in
-        nowhere (Carrier c) (of_carrier_mark (anywhere c)) (λ i m z. other-carrier c i m.node z)
+        no_alike (Carrier c) (of_carrier_mark (anywhere c)) (λ i m z. other-carrier c i m.node z)
         (omega (arith, exact, most-one c (w.shared.places c), mine, hand, one-itself c))
         (omega (arith, exact, most-one c (w.shared.places c), mine, hand, one-itself c))
+
+    -- so the node itself is in none
+    pub pushing-nowhere : (node : Node) (to : ℕ)
+        → (w.actors me).stage ≡ Routed (Pushing node to) why gone → IsNowhere node w.shared
+    pushing-nowhere node to now i =
+        let apart = pushing-no_alike node to now i in (others _ apart.0, others _ apart.1) where
+          others : (ms : List Mark) → All (λ m. are_alike node m.node ≡ false) ms
+              → All (λ m. same_node node m.node ≡ false) ms
+          others ms = All-weaker (λ m. are_alike node m.node ≡ false)
+              (λ m. same_node node m.node ≡ false) (λ m. other-node node m.node) ms
 
     -- the node that it is about to link is in the queue or the walk, and not linked
     pub linking-unlinked : (node : Node) (to : ℕ)
