@@ -156,7 +156,7 @@ module _ (e : Setup) (w : State) (s : Shared) (me : ℕ) (P : Actor → Type 0) 
     routed-holds true h y a m k = (k, refl)
     routed-holds false h y a m k = owned-holds _ h y a m refl k
 
-    route-holds : (h : Named) (y : Why) (a : Actor) → P (at (Routed (Looking h) y Open) a)
+    pub route-holds : (h : Named) (y : Why) (a : Actor) → P (at (Routed (Looking h) y Open) a)
         → Holds y a.passed (route_of e me h a)
     route-holds h y a k = routed-holds (migration e) h y a refl k
 

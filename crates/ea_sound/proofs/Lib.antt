@@ -114,3 +114,4 @@ pub mod Asked
 pub mod TraceNames
 pub mod StandingNodes
 pub mod Calls
+pub mod OffWalks
