@@ -1,7 +1,8 @@
 #!/usr/bin/env python3
 """Makes the traces that bench/measure runs: python3 bench/inputs.py FOLDER.
 
-They are the same bytes on every machine, and good under the flags +MMscs 512 +MHacul 0. Those in FOLDER/strategies are
+They are the same bytes on every machine, and good under the flags +MMscs 512 +MHacul 0, with +S as many schedulers as
+they have. Those in FOLDER/strategies are
 for +MHlmbcs 256 and a strategy besides. In filled and changing no allocation fails under a strategy that looks at all
 gaps. Good fit runs out of carriers there, and has fewer blocks in fewer-filled and fewer-changing; under address fit
 nearly each block would have a carrier, and it has blocks of one size in equal-filled and equal-changing.
@@ -11,8 +12,11 @@ import random
 import sys
 
 OPENING = "type H\nscheduler 1\n"
+SCHEDULERS = 16
 CLOSING = "schedule\nend\n"
 LARGEST_INPUT = 2**24
+MOST_TURNS = 10**8
+MOST_TRIES = 10**7
 SMALL = 3000
 LARGEST = 524280
 # Twenty blocks of that many bytes fill a carrier of 256 kB to its end.
@@ -68,6 +72,40 @@ def stacked(count):
     return OPENING + "".join(allocs + frees) + CLOSING
 
 
+def handed_over(schedulers, rounds, batch):
+    """Half of the schedulers allocate blocks and give them, `batch` in a round, and each of the others takes and frees
+    those of one. A scheduler alone gives to itself."""
+    givers = max(schedulers // 2, 1)
+    texts, name = [[] for _ in range(schedulers)], 0
+    for _ in range(rounds):
+        for giver in range(givers):
+            taker = giver + schedulers // 2
+            names = range(name + 1, name + 1 + batch)
+            texts[giver] += [f"alloc {it} {40 + it % 100 * 16}\ngive {it} {taker + 1}\n" for it in names]
+            texts[taker] += [f"take {it} 1\nfree {it}\n" for it in names]
+            name += batch
+    sections = "".join(f"scheduler {at}\n" + "".join(text) for at, text in enumerate(texts, 1))
+
+    def turns(of_giver):
+        often = [of_giver if at < givers else 5 for at in range(schedulers)]
+        return " ".join(f"{at}*{batch * it}" for at, it in enumerate(often, 1)) + "\n"
+
+    # For a block: 3 turns to allocate and give it, 5 to take and queue it. One releases it in the round after.
+    return "type H\n" + sections + "schedule\n" + turns(3) + turns(4) * (rounds - 1) + "end\n"
+
+
+def ended_turns():
+    """Sixteen schedulers without operations, and as many turns as a trace may have: all but 16 come after their end."""
+    sections = "".join(f"scheduler {at}\n" for at in range(1, SCHEDULERS + 1))
+    turns = "".join(f"{at}*{MOST_TURNS // SCHEDULERS}\n" for at in range(1, SCHEDULERS + 1))
+    return "type H\n" + sections + "schedule\n" + turns + "end\n"
+
+
+def tries():
+    """A take that looks as often as one may for a block that is given after it."""
+    return OPENING + f"take 1 {MOST_TRIES}\nalloc 1 100\ngive 1 1\n" + CLOSING
+
+
 def crowded(filled, kept, least, most, changes):
     """`filled` blocks of least to most bytes fill carriers of 256 kB, and random ones are freed until `kept` are left;
     then come `changes` operations, in which a random block is freed and a new one is allocated, in turn."""
@@ -105,6 +143,10 @@ def main(folder):
         "mixed-200000": mixed(200000, 8, SMALL, 2),
         "mixed-262144": mixed(262144, 8, SMALL, 5),
         "stacked-4000": stacked(4000),
+        "handed-over-1": handed_over(1, 1000, 25),
+        "handed-over-16": handed_over(SCHEDULERS, 125, 25),
+        "ended-turns": ended_turns(),
+        "tries": tries(),
         "strategies/filled": crowded(5600, 5000, 8000, 15000, 0),
         "strategies/changing": crowded(5600, 5000, 8000, 15000, 5000),
         "strategies/fewer-filled": crowded(5200, 4600, 8000, 15000, 0),
