@@ -2,6 +2,7 @@ pub mod Holding
 pub mod Resting
 pub mod Built
 pub mod Releasing
+pub mod Walking
 pub mod Acting
 pub mod Steps
 pub mod Asking

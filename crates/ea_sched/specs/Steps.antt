@@ -9,7 +9,11 @@ use Rattle.ea_machine.specs.Shared.{Shared}
 use Rattle.ea_machine.specs.Actor.{Actor}
 use Rattle.ea_machine.specs.State.{State}
 use Rattle.ea_machine.specs.Machine.{IsReached, step}
-use Rattle.ea_shared.specs.Calls.{Caller}
+use Rattle.ea_machine.specs.Machine.{after_row, onward, wants}
+use Rattle.ea_machine.specs.Rows.{Answer, Row}
+use Rattle.ea_shared.specs.Calls.{Caller, Did}
+use Rattle.ea_sched.specs.declared.state.Scheduler.{Scheduler}
+use Rattle.ea_sched.specs.Acting.{actor_of, setup_for}
 
 -- a scheduler, as the caller of a row
 abbrev pub caller_of : Setup → ℕ → Actor → Caller
@@ -42,3 +46,17 @@ pub record Stepped (c : Config) (t : Trace) (me : ℕ) (a b : Actor) (shared aft
   pub shares_untold : shared ≡ None → after ≡ None
   pub calls : IfSome caller (λ x. now ≡ Some (caller_of (setup_of c t) me b))
   pub calls_untold : caller ≡ None → now ≡ None
+
+-- the scheduler stands so
+abbrev pub IsReady : Scheduler → Option Shared → Option Caller → Type 0
+IsReady s shared caller = Ready s.config s.trace.now s.number (actor_of s) shared caller
+
+-- the row that the scheduler wanted was done, and it has gone on by the answer, up to its next row
+pub record DidRow (s t : Scheduler) (shared after : Option Shared) (caller now : Option Caller) :
+    Type 0 where
+  pub row : Row
+  pub got : Answer
+  pub wanted : wants (actor_of s) ≡ row
+  pub did : Did s.number row got shared after caller now
+  pub is : actor_of t ≡ onward (setup_for s) s.number
+      (after_row (setup_for s) s.number (actor_of s) got (actor_of s).stage)

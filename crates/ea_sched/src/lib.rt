@@ -2,21 +2,23 @@
 #![tactic(auto)]
 
 mod built;
-mod names;
 mod operations;
 mod outcome;
+mod passed;
 mod placements;
 mod releases;
+mod rows;
 mod run;
 mod scheduler;
 mod stage;
 mod state;
 mod step;
+mod walks;
 
 pub use built::is_built;
-pub use names::Names;
 pub use outcome::outcome_of;
 pub use run::run_given;
-pub use stage::Stage;
+pub use passed::Passed;
+pub use stage::{Route, Stage};
 pub use state::Scheduler;
 pub use step::Progress;

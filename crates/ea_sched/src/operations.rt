@@ -1,5 +1,5 @@
 //! The operations themselves, once their begin is over.
-ghost use Rattle.std.specs.Prelude.{◌≡◌, ◌≢◌, ◌≤◌, ◌+◌, ◌%◌, ◌∷◌, Some, OnOk, drop};
+ghost use Rattle.std.specs.Prelude.{◌≡◌, ◌≢◌, ◌≤◌, ◌+◌, ◌%◌, ◌∷◌, Some, IfSome, IsSome, OnOk, drop};
 ghost use Rattle.ea_model.specs.declared.reallocation.Decision.TheVariants.{Move};
 ghost use Rattle.ea_model.specs.declared.carriers.BlockAt.{BlockAt};
 ghost use Rattle.ea_model.specs.declared.units.TheConstants.{MAX_BYTES};
@@ -12,12 +12,13 @@ ghost use Rattle.ea_machine.specs.Statistics as statistics;
 ghost use Rattle.ea_machine.specs.Tasks as tasks;
 ghost use Rattle.ea_sched.specs.Acting.{IsSame, actor_of, ready_of, setup_for};
 ghost use Rattle.ea_sched.specs.Deciding as deciding;
-ghost use Rattle.ea_sched.specs.Asking.{HasMore, HasName, IsFresh, IsHere, Suits};
+ghost use Rattle.ea_sched.specs.Asking.{HasMore, HasName, IsFresh, IsHere, Moves, Suits};
 
+use crate::releases::owner_of;
 use crate::stage::Stage;
 use crate::state::Scheduler;
 use ea_machine::{Ask, Named};
-use ea_model::{Decision, Entry, Op, OutOfMemory, Place, need};
+use ea_model::{Decision, Entry, Op, OutOfMemory, Place, Spot, need};
 use std::alloc::Global;
 
 /// Whether the block is to move.
@@ -37,7 +38,8 @@ impl<'t> Scheduler<'t> {
         need: u32,
     ) -> Result<(), OutOfMemory>
         requires more { HasMore self.old }
-        requires here { IsHere self.old old }
+        requires here { IsHere self.old.instance self.old old }
+        requires away { Moves self.old.instance self.old old }
         requires held { nodes.named_at old.name self.old.names.held ≡ Some old }
         requires fresh { IsFresh self.old fresh }
         requires even { need % 2 ≡ 0 }
@@ -47,13 +49,16 @@ impl<'t> Scheduler<'t> {
             (decision_at self.old.instance old.spot need)) }
         ensures same { IsSame self.old self.new }
     {
+        let ask = Ask {
+            name: fresh,
+            need,
+            old: Some(old),
+        };
+        if owner_of(old.spot.carrier) != self.number {
+            return self.seek(alloc, ask);
+        }
         let decision = self.instance.resize(old.spot, need, fresh)?;
         if is_move(decision) {
-            let ask = Ask {
-                name: fresh,
-                need,
-                old: Some(old),
-            };
             return self.seek(alloc, ask);
         }
         let Some(block) = self.instance.block_at(old.spot) else {
@@ -83,7 +88,9 @@ impl<'t> Scheduler<'t> {
         bytes: u32,
     ) -> Result<(), OutOfMemory>
         requires more { HasMore self.old }
-        requires old { HasName self.old old }
+        requires old { HasName self.old.instance self.old old }
+        requires away { IfSome (nodes.named_at old self.old.names.held)
+            (Moves self.old.instance self.old) }
         requires fresh { IsFresh self.old fresh }
         requires bytes { bytes ≤ MAX_BYTES }
         ensures actor { OnOk result (actor_of self.new ≡ reallocations.reallocated
@@ -96,6 +103,61 @@ impl<'t> Scheduler<'t> {
             None => {
                 self.finish(Entry::ReallocSkipped { old, fresh });
                 Ok(())
+            }
+        }
+    }
+
+    /// A name that is held is to be given to a scheduler; another is skipped.
+    fn offer(&mut self, name: u32, to: u32)
+        requires more { HasMore self.old }
+        requires name { name ≤ self.old.names.greatest }
+        ensures actor { actor_of self.new ≡ operations.giving name to (ready_of self.old)
+            (nodes.named_at name self.old.names.held) }
+        ensures same { IsSame self.old self.new }
+    {
+        match self.names.spot_of(name) {
+            Some(spot) => {
+                let given = Named { name, spot };
+                self.stage = Stage::Giving { given, to };
+            }
+            None => self.finish(Entry::GiveSkipped { name, to }),
+        }
+    }
+
+    /// The name was given.
+    pub fn gave(&mut self, given: Named, to: u32)
+        requires more { HasMore self.old }
+        requires name { given.name ≤ self.old.names.greatest }
+        ensures actor { actor_of self.new ≡ operations.gave given to (ready_of self.old) }
+        ensures same { IsSame self.old self.new }
+    {
+        self.names.let_go(given.name);
+        self.finish(Entry::Give {
+            name: given.name,
+            to,
+        });
+    }
+
+    /// A try to take the name found its block, or not; with it, `left` tries were left.
+    pub fn took(&mut self, name: u32, tries: u32, left: u32, found: Option<Spot>)
+        requires more { HasMore self.old }
+        requires fresh { IsSome found → IsFresh self.old name }
+        ensures actor { actor_of self.new
+            ≡ operations.took_by name tries left (ready_of self.old) found }
+        ensures same { IsSame self.old self.new }
+    {
+        match found {
+            Some(spot) => {
+                self.names.hold(name, spot);
+                self.finish(Entry::Take { name });
+            }
+            None => {
+                if left <= 1 {
+                    self.finish(Entry::TakeAbsent { name, tries });
+                } else {
+                    let left = left - 1;
+                    self.stage = Stage::Taking { name, tries, left };
+                }
             }
         }
     }
@@ -114,7 +176,7 @@ impl<'t> Scheduler<'t> {
     /// Does an operation, once its begin is over.
     pub fn operate(&mut self, alloc: Global, op: Op) -> Result<(), OutOfMemory>
         requires more { HasMore self.old }
-        requires fits { Suits self.old op }
+        requires fits { Suits self.old.instance self.old op }
         ensures actor { OnOk result (actor_of self.new ≡ operations.itself
             (setup_for self.old) self.old.number (ready_of self.old)
             (op ∷ drop (self.old.done + 1) self.old.text.now)) }
@@ -136,7 +198,15 @@ impl<'t> Scheduler<'t> {
                 self.finish(Entry::Idle);
                 Ok(())
             }
-            Op::Give { .. } | Op::Take { .. } => unreachable!(),
+            Op::Give { name, to } => {
+                self.offer(name, to);
+                Ok(())
+            }
+            Op::Take { name, tries } => {
+                let left = tries;
+                self.stage = Stage::Taking { name, tries, left };
+                Ok(())
+            }
         }
     }
 }

@@ -7,7 +7,7 @@ ghost use Rattle.ea_sched.specs.Acting.{IsSame, actor_of, ready_of, setup_for};
 ghost use Rattle.ea_sched.specs.Asking.{HasMore, IsAsked};
 
 use crate::state::Scheduler;
-use ea_machine::Ask;
+use ea_machine::{Ask, Task};
 use ea_model::{CarrierPlan, Entry, NoCarrier, OutOfMemory, Place, Spot};
 use std::alloc::Global;
 
@@ -38,7 +38,7 @@ impl<'t> Scheduler<'t> {
     /// old block goes.
     fn stand(&mut self, ask: Ask, place: Place) -> Result<(), OutOfMemory>
         requires more { HasMore self.old }
-        requires asked { IsAsked self.old ask }
+        requires asked { IsAsked self.old.instance self.old ask }
         ensures actor { OnOk result (actor_of self.new ≡ placements.stands (setup_for self.old)
             self.old.number ask.name place ask.old
             (placements.holding ask.name (placements.spot_of_place place) (ready_of self.old))) }
@@ -57,12 +57,12 @@ impl<'t> Scheduler<'t> {
                 Ok(())
             }
             Some(old) => {
-                let entry = Entry::ReallocMoved {
+                let task = Task::Moving {
                     old: old.name,
                     fresh: name,
                     place,
                 };
-                self.hand_over(old, entry)
+                self.hand_over(old, task)
             }
         }
     }
@@ -70,7 +70,7 @@ impl<'t> Scheduler<'t> {
     /// Creates the carrier of the plan, and places the block in it.
     fn create(&mut self, alloc: Global, ask: Ask, plan: CarrierPlan) -> Result<(), OutOfMemory>
         requires more { HasMore self.old }
-        requires asked { IsAsked self.old ask }
+        requires asked { IsAsked self.old.instance self.old ask }
         requires plan { instances.plan self.old.instance ask.need ≡ Ok plan }
         requires pages { (1 ≤ plan.pages) × (plan.pages ≤ MAX_PAGES) }
         ensures actor { OnOk result (actor_of self.new ≡ placements.new_carrier
@@ -93,7 +93,7 @@ impl<'t> Scheduler<'t> {
     /// A count of carriers that has no greater number counts as want of memory.
     fn seek_new(&mut self, alloc: Global, ask: Ask) -> Result<(), OutOfMemory>
         requires more { HasMore self.old }
-        requires asked { IsAsked self.old ask }
+        requires asked { IsAsked self.old.instance self.old ask }
         ensures actor { OnOk result (actor_of self.new ≡ placements.new_carrier
             (setup_for self.old) self.old.number ask 0 (ready_of self.old)) }
         ensures same { IsSame self.old self.new }
@@ -114,7 +114,7 @@ impl<'t> Scheduler<'t> {
     /// strategy chooses among the employed carriers, or in a new one.
     pub fn seek(&mut self, alloc: Global, ask: Ask) -> Result<(), OutOfMemory>
         requires more { HasMore self.old }
-        requires asked { IsAsked self.old ask }
+        requires asked { IsAsked self.old.instance self.old ask }
         ensures actor { OnOk result (actor_of self.new ≡ placements.seek
             (setup_for self.old) self.old.number ask (ready_of self.old)) }
         ensures same { IsSame self.old self.new }

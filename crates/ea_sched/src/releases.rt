@@ -1,21 +1,28 @@
-//! Blocks that a scheduler releases, and the end of an operation.
-ghost use Rattle.std.specs.Prelude.{◌≡◌, [], IfSome, IsSome, OnOk};
+//! The release of a block, and the end of an operation.
+ghost use Rattle.std.specs.Prelude.{◌≡◌, ◌+◌, ◌<◌, ◌≤◌, ◌==◌, [], IfOk, IfSome, IsSome, OnOk, drop};
 ghost use Rattle.ea_model.specs.declared.carriers.Kind.TheVariants.{Single};
 ghost use Rattle.ea_model.specs.Instance.{block_in, content_of, employed, releasing_at};
-ghost use Rattle.ea_machine.specs.declared.tasks.Task.{Task};
-ghost use Rattle.ea_machine.specs.declared.tasks.Gone.TheVariants.{Here};
-ghost use Rattle.ea_machine.specs.Operations as operations;
 ghost use Rattle.ea_machine.specs.Nodes as nodes;
+ghost use Rattle.ea_machine.specs.Operations as operations;
+ghost use Rattle.ea_machine.specs.Owners as owners;
 ghost use Rattle.ea_machine.specs.Tasks as tasks;
 ghost use Rattle.ea_sched.specs.Acting.{IsSame, actor_of, ready_of, setup_for};
 ghost use Rattle.ea_sched.specs.Asking.{HasMore, HasName, IsHere};
 ghost use Rattle.ea_sched.specs.Releasing as releasing;
+ghost use Rattle.ea_sched.specs.Walking as walking;
 
-use crate::stage::Stage;
+use crate::stage::{Route, Stage};
 use crate::state::Scheduler;
 use ea_instance::{Instance, Released};
-use ea_machine::Named;
-use ea_model::{Entry, OutOfMemory, Spot};
+use ea_machine::{Gone, Named, Node, Task, Why};
+use ea_model::{Entry, NUMBERS, OutOfMemory, Spot};
+
+/// The instance that owns the carrier with that number, which is at least 1.
+pub fn owner_of(carrier: u32) -> u32
+    ensures { result ≡ owners.owner_of carrier }
+{
+    carrier.saturating_sub(1) / NUMBERS + 1
+}
 
 /// Whether the carrier is to be deallocated.
 fn is_gone(next: Released) -> bool
@@ -40,6 +47,39 @@ fn free_at(instance: &mut Instance, spot: Spot) -> Result<(), OutOfMemory>
     Ok(())
 }
 
+/// Releases the block at the spot, if scheduler `me`, whose instance this is, owns its carrier;
+/// else nothing changes. Answers whether it does.
+pub fn release(instance: &mut Instance, me: u32, spot: Spot) -> Result<bool, OutOfMemory>
+    requires { owners.owner_of spot.carrier ≡ me → IsSome (block_in (employed instance.old) spot) }
+    ensures own { IfOk result (λ own. own ≡ (owners.owner_of spot.carrier == me)) }
+    ensures ok { OnOk result (instance.new ≡ walking.left_by me instance.old spot) }
+    ensures emptied { OnOk result (owners.owner_of spot.carrier ≡ me
+        → IfSome (content_of (employed (releasing_at instance.old spot)) spot.carrier)
+        (λ c. c.kind ≡ Single → c.blocks ≡ [])) }
+{
+    if owner_of(spot.carrier) != me {
+        return Ok(false);
+    }
+    free_at(instance, spot)?;
+    Ok(true)
+}
+
+/// What the log says of an operation that released a block.
+fn entry_of(task: Task, gone: Gone) -> Entry
+    ensures { result ≡ tasks.entry_of task gone }
+{
+    match task {
+        Task::Freeing { name } => match gone {
+            Gone::Open | Gone::Here => Entry::Free { name },
+            Gone::Queued { to } => Entry::FreeQueued { name, to },
+        },
+        Task::Moving { old, fresh, place } => match gone {
+            Gone::Open | Gone::Here => Entry::ReallocMoved { old, fresh, place },
+            Gone::Queued { to } => Entry::ReallocQueued { old, fresh, place, to },
+        },
+    }
+}
+
 impl<'t> Scheduler<'t> {
     /// The operation is over, with this entry in the log, and the next one begins.
     pub fn finish(&mut self, entry: Entry)
@@ -52,33 +92,61 @@ impl<'t> Scheduler<'t> {
         self.stage = Stage::Begin;
     }
 
-    /// The name is held no longer, and its block is released; with that the operation is over, and
-    /// this is its entry.
-    pub fn hand_over(&mut self, hand: Named, entry: Entry) -> Result<(), OutOfMemory>
+    /// The operation's block is gone, so that the operation is over.
+    pub fn finish_task(&mut self, task: Task, gone: Gone)
+        requires { HasMore self.old }
+        ensures actor { actor_of self.new ≡ tasks.task_over task gone (ready_of self.old) }
+        ensures same { IsSame self.old self.new }
+    {
+        self.finish(entry_of(task, gone));
+    }
+
+    /// The block goes to the queue of the instance that owns its carrier.
+    pub fn send(&mut self, hand: Named, why: Why)
+        ensures actor { actor_of self.new ≡ walking.sent hand why (actor_of self.old) }
+        ensures same { IsSame self.old self.new }
+    {
+        let Named { name, spot } = hand;
+        let to = owner_of(spot.carrier);
+        self.stage = Stage::Routed {
+            route: Route::Pushing {
+                node: Node::Block { name, spot },
+                to,
+            },
+            why,
+            gone: Gone::Queued { to },
+        };
+    }
+
+    /// The name is held no longer, and its block is released: here, which ends the operation, or by
+    /// the owner of its carrier, to whose queue it goes.
+    pub fn hand_over(&mut self, hand: Named, task: Task) -> Result<(), OutOfMemory>
         requires more { HasMore self.old }
-        requires here { IsHere self.old hand }
-        ensures actor { OnOk result ((task : Task) → entry ≡ tasks.entry_of task Here
-            → actor_of self.new ≡ tasks.hands_over (setup_for self.old) self.old.number task hand
-            (ready_of self.old)) }
+        requires here { IsHere self.old.instance self.old hand }
+        ensures actor { OnOk result (actor_of self.new ≡ tasks.hands_over (setup_for self.old)
+            self.old.number task hand (ready_of self.old)) }
         ensures same { IsSame self.old self.new }
     {
         self.names.let_go(hand.name);
-        free_at(&mut self.instance, hand.spot)?;
-        self.finish(entry);
+        if release(&mut self.instance, self.number, hand.spot)? {
+            self.finish_task(task, Gone::Here);
+        } else {
+            self.send(hand, Why::For { task });
+        }
         Ok(())
     }
 
     /// Frees the block of a name; one that isn't held is skipped.
     pub fn free(&mut self, name: u32) -> Result<(), OutOfMemory>
         requires more { HasMore self.old }
-        requires name { HasName self.old name }
+        requires name { HasName self.old.instance self.old name }
         ensures actor { OnOk result (actor_of self.new ≡ operations.freed (setup_for self.old)
             self.old.number name (ready_of self.old)
             (nodes.named_at name self.old.names.held)) }
         ensures same { IsSame self.old self.new }
     {
         match self.names.spot_of(name) {
-            Some(spot) => self.hand_over(Named { name, spot }, Entry::Free { name }),
+            Some(spot) => self.hand_over(Named { name, spot }, Task::Freeing { name }),
             None => {
                 self.finish(Entry::FreeSkipped { name });
                 Ok(())

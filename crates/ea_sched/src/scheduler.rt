@@ -6,11 +6,12 @@ ghost use Rattle.ea_machine.specs.Machine.{first_actor};
 ghost use Rattle.ea_sched.specs.Built.{is_built_run};
 ghost use Rattle.ea_sched.specs.Acting.{actor_of, is_ended, setup_for};
 
-use crate::names::Names;
+use crate::passed::Passed;
 use crate::stage::Stage;
 use crate::state::Scheduler;
 use ea_instance::Instance;
 use ea_model::{Config, Entry, List, OutOfMemory, Trace};
+use ea_names::Names;
 use ea_stats::Stats;
 use std::alloc::Global;
 
@@ -58,6 +59,8 @@ impl<'t> Scheduler<'t> {
             instance,
             names,
             stage: Stage::Begin,
+            passed: Passed::new(alloc),
+            next: None,
             mbcs,
             sbcs,
             log,

@@ -4,15 +4,17 @@ ghost use Rattle.ea_model.specs.Trace.{texts_of};
 ghost use Rattle.ea_machine.specs.Setup.{text_for};
 ghost use Rattle.ea_sched.specs.Built.{is_built_run};
 
-use crate::names::Names;
+use crate::passed::Passed;
 use crate::stage::Stage;
 use ea_instance::Instance;
+use ea_machine::Node;
 use ea_model::{Config, Entry, List, Op, Trace};
+use ea_names::Names;
 use ea_stats::Stats;
 
 /// Scheduler `number` in the run of a trace. Of the run it knows the configuration and the trace;
 /// for itself it keeps its text, how many of its operations are done, its allocator instance, the names
-/// that it holds, where it is in its operation, the statistics of its multiblock and of its
+/// that it holds, where it is in its operation, the nodes that its walk passed and the next one, the statistics of its multiblock and of its
 /// singleblock carriers, and its log. Once it had no memory it has failed.
 #[derive(Drop)]
 pub struct Scheduler<'t> {
@@ -24,6 +26,8 @@ pub struct Scheduler<'t> {
     pub instance: Instance,
     pub names: Names,
     pub stage: Stage,
+    pub passed: Passed,
+    pub next: Option<Node>,
     pub mbcs: Stats,
     pub sbcs: Stats,
     pub log: List<Entry>,

@@ -1,13 +1,11 @@
 //! A step of a scheduler.
 ghost use Rattle.std.specs.Prelude.{◌≡◌, ◌↔◌, true, false, IfOk, OnErr, OnOk, Ok, Err};
-ghost use Rattle.ea_machine.specs.Operations as operations;
 ghost use Rattle.ea_machine.specs.Statistics as statistics;
-ghost use Rattle.ea_sched.specs.Acting.{IsSame, actor_of, is_ended, ready_of, setup_for};
-ghost use Rattle.ea_sched.specs.Asking.{SuitsNext};
+ghost use Rattle.ea_sched.specs.Acting.{IsSame, actor_of, is_ended};
 ghost use Rattle.ea_sched.specs.declared.step.Progress.TheVariants as progress;
-ghost use Rattle.ea_sched.specs.Steps.{Ready, Stepped};
+ghost use Rattle.ea_sched.specs.Steps.{DidRow, IsReady, Stepped};
 
-use crate::stage::Stage;
+use crate::stage::{Route, Stage};
 use crate::state::Scheduler;
 use ea_mbc::Mbc;
 use ea_model::OutOfMemory;
@@ -33,36 +31,56 @@ impl<'t> Scheduler<'t> {
         self.sbcs.observe(self.instance.single_figures());
     }
 
-    /// Does the operation itself, once its begin is over; where none is left, its text is done.
-    fn go_on(&mut self, alloc: Global) -> Result<(), OutOfMemory>
-        requires next { SuitsNext self.old }
-        ensures actor { OnOk result (actor_of self.new ≡ statistics.observed
-            (operations.itself (setup_for self.old) self.old.number (ready_of self.old)
-            (actor_of self.old).todo)) }
+    /// Does the row that is next, and goes on by its answer.
+    fn advance<S: Shared<Content = Mbc>>(
+        &mut self,
+        alloc: Global,
+        shared: &mut S,
+    ) -> Result<(), OutOfMemory>
+        requires schedulers { S.schedulers shared.old ≡ self.old.config.schedulers }
+        requires greatest { S.greatest shared.old ≡ self.old.trace.now.greatest }
+        requires ready { IsReady self.old (S.shared shared.old) (S.caller shared.old) }
+        requires goes { is_ended self.old.stage ≡ false }
+        ensures stays { S.stays shared.old shared.new }
         ensures same { IsSame self.old self.new }
+        ensures row { OnOk result (DidRow self.old self.new (S.shared shared.old)
+            (S.shared shared.new) (S.caller shared.old) (S.caller shared.new)) }
     {
-        if self.done >= self.text.len() {
-            self.stage = Stage::Ended;
-            self.observe();
-            return Ok(());
+        match self.stage {
+            Stage::Begin => match self.next {
+                None => self.take_queue(alloc, shared),
+                Some(node) => self.pass(alloc, shared, node),
+            },
+            Stage::Routed { route, why, gone } => match route {
+                Route::Pushing { node, to } => {
+                    self.push(shared, node, to, why, gone);
+                    Ok(())
+                }
+                Route::Linking { node, to } => self.link(alloc, shared, node, to, why, gone),
+            },
+            Stage::Giving { given, to } => {
+                self.give(shared, given, to);
+                Ok(())
+            }
+            Stage::Taking { name, tries, left } => {
+                self.try_take(shared, name, tries, left);
+                Ok(())
+            }
+            Stage::Ended => unreachable!(),
         }
-        let op = self.text[self.done];
-        self.operate(alloc, op)?;
-        self.observe();
-        Ok(())
     }
 
-    /// Takes one atomic step on what is shared, and does all up to the next one: where an operation
-    /// begins it takes its queue, and goes on with the operation itself. An `Err` says that there
-    /// was no memory; from then on it is all that this scheduler answers.
+    /// Takes one atomic step on what is shared, and does all up to the next one. An `Err` says that
+    /// there was no memory; from then on it is all that this scheduler answers.
     pub fn step<S: Shared<Content = Mbc>>(
         &mut self,
         alloc: Global,
         shared: &mut S,
     ) -> Result<Progress, OutOfMemory>
         requires schedulers { S.schedulers shared.old ≡ self.old.config.schedulers }
-        requires ready { self.old.failed ≡ false → Ready self.old.config self.old.trace.now
-            self.old.number (actor_of self.old) (S.shared shared.old) (S.caller shared.old) }
+        requires greatest { S.greatest shared.old ≡ self.old.trace.now.greatest }
+        requires ready { self.old.failed ≡ false
+            → IsReady self.old (S.shared shared.old) (S.caller shared.old) }
         ensures stays { S.stays shared.old shared.new }
         ensures run { (self.new.config ≡ self.old.config) × (self.new.trace ≡ self.old.trace)
             × (self.new.number ≡ self.old.number) }
@@ -80,18 +98,14 @@ impl<'t> Scheduler<'t> {
         if self.failed {
             return Err(OutOfMemory);
         }
-        match self.stage {
-            Stage::Ended => return Ok(Progress::Ended),
-            Stage::Begin => (),
+        if self.ended() {
+            return Ok(Progress::Ended);
         }
-        match shared.take_all(self.number) {
-            None => (),
-            Some(_) => unreachable!(),
-        }
-        if self.go_on(alloc).is_err() {
+        if self.advance(alloc, shared).is_err() {
             self.failed = true;
             return Err(OutOfMemory);
         }
+        self.observe();
         Ok(Progress::Went)
     }
 }

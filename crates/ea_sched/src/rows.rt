@@ -1,0 +1,164 @@
+//! The rows of the machine's table, each with what a scheduler does once it is answered.
+ghost use Rattle.std.specs.Prelude.{◌≡◌, Some, None, OnOk};
+ghost use Rattle.ea_sched.specs.Acting.{IsSame, actor_of};
+ghost use Rattle.ea_sched.specs.Steps.{DidRow, IsReady};
+ghost use Rattle.ea_sched.specs.declared.stage.Stage.TheVariants as stage;
+ghost use Rattle.ea_sched.specs.declared.stage.Route.TheVariants as route;
+
+use crate::stage::{Route, Stage};
+use crate::state::Scheduler;
+use ea_machine::{Gone, Named, Node, Why};
+use ea_mbc::Mbc;
+use ea_model::OutOfMemory;
+use ea_shared::{Link, Shared};
+use std::alloc::Global;
+
+impl<'t> Scheduler<'t> {
+    /// An operation begins: the scheduler takes its queue, and walks it from its newest node on.
+    pub fn take_queue<S: Shared<Content = Mbc>>(
+        &mut self,
+        alloc: Global,
+        shared: &mut S,
+    ) -> Result<(), OutOfMemory>
+        requires schedulers { S.schedulers shared.old ≡ self.old.config.schedulers }
+        requires greatest { S.greatest shared.old ≡ self.old.trace.now.greatest }
+        requires ready { IsReady self.old (S.shared shared.old) (S.caller shared.old) }
+        requires stage { self.old.stage ≡ stage.Begin }
+        requires next { self.old.next ≡ None }
+        ensures stays { S.stays shared.old shared.new }
+        ensures same { IsSame self.old self.new }
+        ensures row { OnOk result (DidRow self.old self.new (S.shared shared.old)
+            (S.shared shared.new) (S.caller shared.old) (S.caller shared.new)) }
+    {
+        match shared.take_all(self.number) {
+            None => self.go_on(alloc),
+            Some(newest) => {
+                self.next = Some(newest);
+                Ok(())
+            }
+        }
+    }
+
+    /// The walk goes on with its next node; where that isn't linked yet, the walk rests until the
+    /// next operation begins.
+    pub fn pass<S: Shared<Content = Mbc>>(
+        &mut self,
+        alloc: Global,
+        shared: &mut S,
+        node: Node,
+    ) -> Result<(), OutOfMemory>
+        requires schedulers { S.schedulers shared.old ≡ self.old.config.schedulers }
+        requires greatest { S.greatest shared.old ≡ self.old.trace.now.greatest }
+        requires ready { IsReady self.old (S.shared shared.old) (S.caller shared.old) }
+        requires stage { self.old.stage ≡ stage.Begin }
+        requires next { self.old.next ≡ Some node }
+        ensures stays { S.stays shared.old shared.new }
+        ensures same { IsSame self.old self.new }
+        ensures row { OnOk result (DidRow self.old self.new (S.shared shared.old)
+            (S.shared shared.new) (S.caller shared.old) (S.caller shared.new)) }
+    {
+        self.passed.reserve()?;
+        match shared.take_link(self.number, node) {
+            Link::Rest => self.go_on(alloc),
+            Link::End => {
+                self.passed.add(node);
+                self.next = None;
+                self.end_walk(alloc)
+            }
+            Link::Next { node: older } => {
+                self.passed.add(node);
+                self.next = Some(older);
+                Ok(())
+            }
+        }
+    }
+
+    /// The node of a block is pushed to the queue of the instance that owns its carrier.
+    pub fn push<S: Shared<Content = Mbc>>(
+        &mut self,
+        shared: &mut S,
+        node: Node,
+        to: u32,
+        why: Why,
+        gone: Gone,
+    )
+        requires schedulers { S.schedulers shared.old ≡ self.old.config.schedulers }
+        requires greatest { S.greatest shared.old ≡ self.old.trace.now.greatest }
+        requires ready { IsReady self.old (S.shared shared.old) (S.caller shared.old) }
+        requires stage { self.old.stage ≡ stage.Routed (route.Pushing node to) why gone }
+        ensures stays { S.stays shared.old shared.new }
+        ensures same { IsSame self.old self.new }
+        ensures row { DidRow self.old self.new (S.shared shared.old) (S.shared shared.new)
+            (S.caller shared.old) (S.caller shared.new) }
+    {
+        shared.push(self.number, to, node);
+        let route = Route::Linking { node, to };
+        self.stage = Stage::Routed { route, why, gone };
+    }
+
+    /// The pushed node is linked to the older ones, and the block is gone: its walk goes on, or its
+    /// operation is over.
+    pub fn link<S: Shared<Content = Mbc>>(
+        &mut self,
+        alloc: Global,
+        shared: &mut S,
+        node: Node,
+        to: u32,
+        why: Why,
+        gone: Gone,
+    ) -> Result<(), OutOfMemory>
+        requires schedulers { S.schedulers shared.old ≡ self.old.config.schedulers }
+        requires greatest { S.greatest shared.old ≡ self.old.trace.now.greatest }
+        requires ready { IsReady self.old (S.shared shared.old) (S.caller shared.old) }
+        requires stage { self.old.stage ≡ stage.Routed (route.Linking node to) why gone }
+        ensures stays { S.stays shared.old shared.new }
+        ensures same { IsSame self.old self.new }
+        ensures row { OnOk result (DidRow self.old self.new (S.shared shared.old)
+            (S.shared shared.new) (S.caller shared.old) (S.caller shared.new)) }
+    {
+        shared.link(self.number, to, node);
+        match why {
+            Why::Walk => self.end_walk(alloc),
+            Why::For { task } => {
+                self.finish_task(task, gone);
+                Ok(())
+            }
+        }
+    }
+
+    /// A held name is given, to whoever takes it.
+    pub fn give<S: Shared<Content = Mbc>>(&mut self, shared: &mut S, given: Named, to: u32)
+        requires schedulers { S.schedulers shared.old ≡ self.old.config.schedulers }
+        requires greatest { S.greatest shared.old ≡ self.old.trace.now.greatest }
+        requires ready { IsReady self.old (S.shared shared.old) (S.caller shared.old) }
+        requires stage { self.old.stage ≡ stage.Giving given to }
+        ensures stays { S.stays shared.old shared.new }
+        ensures same { IsSame self.old self.new }
+        ensures row { DidRow self.old self.new (S.shared shared.old) (S.shared shared.new)
+            (S.caller shared.old) (S.caller shared.new) }
+    {
+        shared.give(self.number, given.name, given.spot);
+        self.gave(given, to);
+    }
+
+    /// One try to take the name.
+    pub fn try_take<S: Shared<Content = Mbc>>(
+        &mut self,
+        shared: &mut S,
+        name: u32,
+        tries: u32,
+        left: u32,
+    )
+        requires schedulers { S.schedulers shared.old ≡ self.old.config.schedulers }
+        requires greatest { S.greatest shared.old ≡ self.old.trace.now.greatest }
+        requires ready { IsReady self.old (S.shared shared.old) (S.caller shared.old) }
+        requires stage { self.old.stage ≡ stage.Taking name tries left }
+        ensures stays { S.stays shared.old shared.new }
+        ensures same { IsSame self.old self.new }
+        ensures row { DidRow self.old self.new (S.shared shared.old) (S.shared shared.new)
+            (S.caller shared.old) (S.caller shared.new) }
+    {
+        let found = shared.take_try(self.number, name);
+        self.took(name, tries, left, found);
+    }
+}
