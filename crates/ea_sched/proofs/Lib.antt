@@ -1,8 +1,8 @@
-pub mod Alone
 pub mod Doing
 pub mod Acts
 pub mod Freed
-pub mod NamesTable
+pub mod Walked
+pub mod HeldSums
 pub mod OutcomeGiven
 pub mod OutcomeSums
 pub mod Paths
@@ -12,5 +12,3 @@ pub mod PresentNames
 pub mod PresentNumbers
 pub mod Texts
 pub mod Suiting
-pub mod Running
-pub mod Ends

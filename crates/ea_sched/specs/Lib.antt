@@ -1,4 +1,3 @@
-pub mod Holding
 pub mod Resting
 pub mod Built
 pub mod Releasing

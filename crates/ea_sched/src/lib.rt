@@ -13,6 +13,7 @@ mod scheduler;
 mod stage;
 mod state;
 mod step;
+mod units;
 mod walks;
 
 pub use built::is_built;

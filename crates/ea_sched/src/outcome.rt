@@ -10,7 +10,7 @@ ghost use Rattle.ea_sched.specs.Built.{is_built_run};
 ghost use Rattle.ea_sched.specs.Resting.{AreGiven, HaveParts, IsOutcome, Stand, all_live, count_employed, sum_employed, totals_by, units_named};
 ghost use Rattle.ea_sched.specs.Resting as resting;
 
-use crate::names::units_at;
+use crate::units::{units_at, units_held};
 use crate::state::Scheduler;
 use ea_instance::Instance;
 use ea_mbc::Mbc;
@@ -120,7 +120,7 @@ fn live_in<H: Rested<Content = Mbc>>(
 {
     let mut units = given_in(shared, greatest, instance);
     for scheduler in schedulers {
-        units += scheduler.names.units_in(instance);
+        units += units_held(instance, &scheduler.names);
     }
     units
 }

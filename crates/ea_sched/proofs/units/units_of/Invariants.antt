@@ -2,7 +2,7 @@ use Rattle.std.proofs.Common.{◌≡◌, ◌-◌, ◌*◌, ◌^◌, ◌≤◌, t
 use Rattle.std.specs.Prelude.{sum_by}
 use Rattle.std.specs.Option.{option_map_or}
 use Rattle.ea_model.specs.Instance.{size_at}
-use Rattle.ea_sched.proofs.names.units_of.Given as goal
+use Rattle.ea_sched.proofs.units.units_of.Given as goal
 
 abbrev pub invariant-loop-place : goal.invariant-loop-place
 invariant-loop-place l = (l.units ≤ (2 ^ 32 - 1) * l.place-index)

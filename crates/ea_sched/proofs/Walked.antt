@@ -1,0 +1,62 @@
+-- Nodes that a walk passed are worked off, where carriers don't migrate.
+use Rattle.std.proofs.Common.{◌≡◌, ℕ, Bool, true, false, List, [], ◌∷◌, refl, sym, ap, subst, ◌∙◌}
+use Rattle.std.specs.Prelude.{Option, None, Some, ◌==◌}
+use Rattle.std.proofs.lemmas.Bool.{eqb-true}
+use Rattle.ea_model.specs.declared.carriers.Spot.{Spot}
+use Rattle.ea_model.specs.Instance.{Instance}
+use Rattle.ea_machine.specs.declared.nodes.Named.{Named}
+use Rattle.ea_machine.specs.declared.nodes.Node.{Node}
+use Rattle.ea_machine.specs.declared.nodes.Node.TheVariants.{Block, Carrier}
+use Rattle.ea_machine.specs.declared.tasks.Why.TheVariants.{Walk}
+use Rattle.ea_machine.specs.Actor.{Actor}
+use Rattle.ea_machine.specs.Owners.{owner_of}
+use Rattle.ea_machine.specs.Setup.{Setup, migration}
+use Rattle.ea_machine.specs.Walks.{ready, worked_off}
+use Rattle.ea_sched.specs.Releasing.{freed_at}
+use Rattle.ea_sched.specs.Walking.{CanAllGo, CanGo, Worked, left_by, left_if, sent, worked, worked_if}
+use Rattle.ea_sched.proofs.Freed.{released-away, released-here}
+
+-- where the nodes leave a scheduler: ready, or with a block that goes to its carrier's owner
+abbrev pub walked_by : Option Named → Worked → Actor → Actor
+walked_by None w a = ready (record a { instance = w.instance; passed = [] })
+walked_by (Some hand) w a = sent hand Walk (record a { instance = w.instance; passed = w.left })
+
+abbrev pub walked : Worked → Actor → Actor
+walked w a = walked_by w.hand w a
+
+-- the first of the nodes
+module _ (setup : Setup) (me : ℕ) (off : migration setup ≡ false) (name : ℕ) (spot : Spot)
+    (nodes : List Node) (a : Actor)
+    (can : CanAllGo me a.instance (Block name spot ∷ nodes)) where
+  abbrev hand : Named
+  hand = record { name = name; spot = spot }
+
+  abbrev rest : Actor
+  rest = record a { passed = nodes }
+
+  first-walked : (own : Bool) → (owner_of spot.carrier == me) ≡ own
+      → ((b : Actor) → CanAllGo me b.instance nodes
+      → worked_off setup me nodes b ≡ walked (worked me b.instance nodes) b)
+      → worked_off setup me (Block name spot ∷ nodes) a
+      ≡ walked (worked_if own (worked me (freed_at a.instance spot) nodes)
+      (record { instance = a.instance; left = nodes; hand = Some hand })) a
+  first-walked true is later =
+      let go : CanGo a.instance spot = can.0 (eqb-true (owner_of spot.carrier) me is) in
+      let then : CanAllGo me (freed_at a.instance spot) nodes =
+      subst (λ own. CanAllGo me (left_if own a.instance spot) nodes) is can.1 in
+      released-here setup me off Walk (λ gone b. worked_off setup me nodes b) (λ b. refl) rest hand
+      is go.emptied
+      ∙ later (record rest { instance = freed_at a.instance spot }) then
+  first-walked false is later =
+      released-away setup me off Walk (λ gone b. worked_off setup me nodes b) (λ b. refl) rest hand
+      is
+
+-- all of them
+pub walked-off : (setup : Setup) (me : ℕ) → migration setup ≡ false → (nodes : List Node)
+    (a : Actor) → CanAllGo me a.instance nodes
+    → worked_off setup me nodes a ≡ walked (worked me a.instance nodes) a
+walked-off setup me off [] a can = refl
+walked-off setup me off (Block name spot ∷ nodes) a can =
+    first-walked setup me off name spot nodes a can (owner_of spot.carrier == me) refl
+    (λ b c. walked-off setup me off nodes b c)
+walked-off setup me off (Carrier number ∷ nodes) a can = absurd can
