@@ -12,3 +12,5 @@ pub mod PresentNames
 pub mod PresentNumbers
 pub mod Texts
 pub mod Suiting
+pub mod Running
+pub mod Ends

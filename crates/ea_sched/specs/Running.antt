@@ -7,7 +7,7 @@ use Rattle.ea_machine.specs.Setup.{Setup}
 use Rattle.ea_machine.specs.State.{State}
 use Rattle.ea_machine.specs.Machine.{IsReached, run_on}
 use Rattle.ea_shared.specs.declared.mem.MemShared.{MemShared}
-use Rattle.ea_shared.specs.Memory.{shared_of}
+use Rattle.ea_shared.specs.Memory.{nothing_shared}
 use Rattle.ea_sched.specs.declared.state.Scheduler.{Scheduler}
 use Rattle.ea_sched.specs.Acting.{actor_of, setup_for}
 
@@ -22,7 +22,7 @@ module _ {C : Type 0} where
     pub names : shared.greatest ≡ s.trace.now.greatest
     pub reached : IsReached (setup_for s) state
     pub actor : state.actors s.number ≡ actor_of s
-    pub shares : shared_of shared ≡ state.shared
+    pub shares : nothing_shared ≡ state.shared
 
   -- there is such a state
   abbrev pub Stands : Scheduler → MemShared C → Type 0

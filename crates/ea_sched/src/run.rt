@@ -107,7 +107,7 @@ fn run_alone(alloc: Global, config: Config, trace: &Trace) -> Result<Outcome, Ou
     requires built { is_built_run config trace.now ≡ true }
     ensures { IfOk result (λ outcome. plain_outcome outcome ≡ machine.outcome_of config trace.now) }
 {
-    let mut shared = MemShared::new(alloc, config, trace)?;
+    let mut shared = MemShared::new(config, trace);
     let mut scheduler = Scheduler::new(alloc, config, trace, 1)?;
     take_schedule(&mut scheduler, alloc, &mut shared, turns_of(&trace.mode))?;
     run_out(&mut scheduler, alloc, &mut shared)?;
