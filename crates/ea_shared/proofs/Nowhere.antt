@@ -16,6 +16,7 @@ none-standing node s q given view none =
     let nowhere = subst (λ x. HasNoAlike node (shared_of x)) (sym view) none in
     omega (
       arith,
-      sum-zero (alike_in node) q.queues [] (λ i. none-alike node (marks_of q.queues i) (nowhere i).0),
+      sum-zero (alike_in node) q.queues []
+          (λ i. none-alike node (marks_of q.queues i) (nowhere i).0),
       sum-zero (alike_in node) q.rests [] (λ i. none-alike node (marks_of q.rests i) (nowhere i).1),
     )

@@ -13,8 +13,8 @@ use ea_model::{Carried, Spot};
 use ea_queues::Link;
 
 /// What schedulers share. Each call is one row of the machine's table, done by scheduler `me`; no
-/// call takes memory, and none fails. An object may tell what is shared, as plain memory does, or the
-/// caller, as a scheduler's seat does where others step beside it.
+/// call takes memory, and none fails. An object may tell what is shared, as plain memory does, or
+/// the caller, as a scheduler's seat does where others step beside it.
 pub trait Shared {
     ghost use Rattle.std.specs.Prelude.{◌≡◌, ℕ, Option};
     ghost use Rattle.ea_machine.specs.Shared as machine;
