@@ -43,11 +43,6 @@ const IN_THREADS: &str = "type H\nscheduler 1\nalloc 1 100\nthreads\nend\n";
 
 const GENERATED: &str = "type H\ngenerate 1 100\nend\n";
 
-const GIVEN: &str = "type H\nscheduler 1\nalloc 1 100\ngive 1 1\nschedule\nend\n";
-
-const TAKEN: &str =
-    "type H\nscheduler 1\nalloc 1 100\ngive 1 1\ntake 1 5\nfree 1\nschedule\n1*9\nend\n";
-
 #[test]
 fn a_run_that_is_not_built_has_a_status_of_its_own(rt: HostRuntime) -> Result<(), Fail> {
     let cases = [
@@ -56,17 +51,9 @@ fn a_run_that_is_not_built_has_a_status_of_its_own(rt: HostRuntime) -> Result<()
         ("+MHas bf", FIRST_BLOCK),
         ("+MHacul 0 +MHacul de", FIRST_BLOCK),
         ("+MLacul 0", FIRST_BLOCK),
-        // There are more schedulers than one.
-        (
-            "+MHacul 0 +S 2",
-            "type H\nscheduler 1\nscheduler 2\nschedule\nend\n",
-        ),
         // The mode is another.
         ("+MHacul 0", IN_THREADS),
         ("+MHacul 0", GENERATED),
-        // Blocks are handed over.
-        ("+MHacul 0", GIVEN),
-        ("+MHacul 0", TAKEN),
     ];
     for (words, input) in cases {
         let case = Case {
