@@ -1,18 +1,21 @@
 -- A walk where carriers don't migrate: what it passed are blocks; one whose carrier the scheduler
 -- owns lies there, as does each block that it holds in such a carrier; and this stays so from node
 -- to node, with the names of the operations left standing nowhere.
-use Rattle.std.proofs.Common.{◌≡◌, ℕ, ◌<◌, ◌≤◌, true, false, List, ◌∷◌, refl, sym, ap, ◌∙◌, subst, inr, arith}
+use Rattle.std.proofs.Common.{◌≡◌, ◌≢◌, ℕ, ◌<◌, ◌≤◌, true, false, List, [], ◌∷◌, refl, sym, ap, ◌∙◌, subst, inr, arith}
 use Rattle.std.specs.Prelude.{Option, None, Some, IsSome, ◌==◌}
 use Rattle.std.specs.Option.{option_and_then}
 use Rattle.std.proofs.lemmas.Bool.{true≢false}
 use Rattle.ea_model.specs.declared.carriers.BlockAt.{BlockAt}
+use Rattle.ea_model.specs.declared.carriers.Kind.TheVariants.{Single}
 use Rattle.ea_model.specs.declared.carriers.Spot.{Spot}
 use Rattle.ea_model.specs.declared.operations.Op.{Op}
 use Rattle.ea_model.specs.declared.operations.Op.TheVariants as op
+use Rattle.ea_model.specs.declared.reallocation.Decision.{Decision}
+use Rattle.ea_model.specs.declared.reallocation.Decision.TheVariants.{Stay, ShrinkHere, GrowHere, ShrinkCarrier, Move}
 use Rattle.ea_model.specs.declared.settings.Config.{Config}
 use Rattle.ea_model.specs.declared.trace.Trace.{Trace}
 use Rattle.ea_model.specs.Content.{Content, block_at}
-use Rattle.ea_model.specs.Instance.{block_in, employed}
+use Rattle.ea_model.specs.Instance.{block_in, content_of, decision_at, employed, releasing_at}
 use Rattle.ea_model.specs.Settings.{IsValidConfig}
 use Rattle.ea_model.specs.Trace.{IsScheduler, IsValidTrace}
 use Rattle.ea_model.proofs.Rising.{item_at-key}
@@ -20,15 +23,17 @@ use Rattle.ea_machine.specs.declared.nodes.Named.{Named}
 use Rattle.ea_machine.specs.declared.nodes.Node.{Node}
 use Rattle.ea_machine.specs.declared.nodes.Node.TheVariants.{Block, Carrier}
 use Rattle.ea_machine.specs.declared.tasks.Gone.{Gone}
+use Rattle.ea_machine.specs.declared.tasks.Gone.TheVariants.{Open}
 use Rattle.ea_machine.specs.declared.tasks.Why.TheVariants.{Walk}
-use Rattle.ea_machine.specs.Actor.{Actor, Begin, Linking, Route, Routed}
-use Rattle.ea_machine.specs.Contents.{seats}
+use Rattle.ea_machine.specs.Actor.{Actor, Begin, Linking, Looking, Route, Routed}
+use Rattle.ea_machine.specs.Contents.{actor_sum, seats}
 use Rattle.ea_machine.specs.Machine.{IsReached, begins}
 use Rattle.ea_machine.specs.NamePlaces.{name_of}
 use Rattle.ea_machine.specs.Names.{made_in, of_named, of_node, only, only_at}
 use Rattle.ea_machine.specs.NodePlaces.{anywhere, of_carrier_actor, of_carrier_node}
 use Rattle.ea_machine.specs.Nodes.{named_at}
 use Rattle.ea_machine.specs.Owners.{owner_of}
+use Rattle.ea_machine.specs.Places.{has_number, none}
 use Rattle.ea_machine.specs.Releases.{Turned, route_of}
 use Rattle.ea_machine.specs.Rows.{Answer, Link, Passes, Rests, TakeAll, TakeLink}
 use Rattle.ea_machine.specs.Setup.{Setup, is_scheduler, migration, setup_of}
@@ -39,22 +44,25 @@ use Rattle.ea_machine.specs.Table.{answer, effect}
 use Rattle.ea_machine.specs.Walks.{with_passed}
 use Rattle.ea_sound.specs.Leaves.{InWalk, Leaves}
 use Rattle.ea_sound.specs.Moments.{at, with_actor}
+use Rattle.ea_sound.specs.Orderly.{IsOrderly}
 use Rattle.ea_sound.specs.Present.{Rule}
-use Rattle.ea_sound.specs.Rule.{names_of}
+use Rattle.ea_sound.specs.Rule.{Standing, names_of}
 use Rattle.ea_sound.proofs.Asked.{reached-rule}
-use Rattle.ea_sound.proofs.Assembly.{HoldsAt, route-holds}
+use Rattle.ea_sound.proofs.Assembly.{Closed, HoldsAt, route-holds}
 use Rattle.ea_sound.proofs.BlockWeights.{only_at-itself}
 use Rattle.ea_sound.proofs.CarrierMoves.{closed}
 use Rattle.ea_sound.proofs.Created.{scheduler-number}
+use Rattle.ea_sound.proofs.Employers.{employed-owner, found-counts}
 use Rattle.ea_sound.proofs.Hits.{held-stands, hit, stands-allocated}
 use Rattle.ea_sound.proofs.KeyedWeights.{sum-item}
 use Rattle.ea_sound.proofs.NodeSeats.{node-returning, returning-on}
 use Rattle.ea_sound.proofs.Numbered.{scheduler-seat}
+use Rattle.ea_sound.proofs.Orderly.{stays-employed}
 use Rattle.ea_sound.proofs.RowLeaves.{row-left}
 use Rattle.ea_sound.proofs.SoundRanges.{number-scheduler}
 use Rattle.ea_sound.proofs.StageMoves.{closed-walk}
 use Rattle.ea_sound.proofs.StandingBlocks.{block-owner}
-use Rattle.ea_sound.proofs.StillMoves.{keeps-walk}
+use Rattle.ea_sound.proofs.StillMoves.{goes-still, keeps-walk}
 use Rattle.ea_sound.proofs.Totals.{put-here, total_at-part}
 use Rattle.ea_sound.proofs.Weights.{one-itself}
 
@@ -66,8 +74,14 @@ passed-stands n p ns a passed =
 
 module _ (e : Setup) (v : State) (s : Shared) (me : ℕ) (is : is_scheduler e me ≡ true)
     (off : migration e ≡ false) where
+  abbrev V : Actor → Type 0
+  V = InWalk e v s me
+
   seat : me < seats e
   seat = scheduler-seat e me is
+
+  closes : Closed e s me V
+  closes = closed e v s me is V (keeps-walk e v s me is)
 
   module _ (a : Actor) (walks : InWalk e v s me (at Begin a)) where
     abbrev u : State
@@ -105,6 +119,18 @@ module _ (e : Setup) (v : State) (s : Shared) (me : ℕ) (is : is_scheduler e me
           let block = stands-here n p (passed-stands n p ns a passed) owned in
           subst IsSome (sym block.1) refl
 
+      in_hand : V (at (Routed (Looking (record { name = n; spot = p })) Walk Open)
+          (record a { passed = ns }))
+      in_hand = (closed-walk e v s me is).block (record { name = n; spot = p }) ns a
+          (subst (λ ms. V (at Begin (record a { passed = ms }))) passed walks)
+
+      -- a singleblock carrier is empty without it
+      pub passed-emptied : owner_of p.carrier ≡ me → (x : Content)
+          → content_of (employed (releasing_at a.instance p)) p.carrier ≡ Some x
+          → x.kind ≡ Single → x.blocks ≡ []
+      passed-emptied owned x = closes.emptied (record { name = n; spot = p }) Walk Open x
+          (record a { passed = ns }) (inr (off, owned)) in_hand
+
     -- no carrier is passed
     pub passed-carrier : (c : ℕ) (ns : List Node) → a.passed ≡ Carrier c ∷ ns → ⊥
     passed-carrier c ns passed =
@@ -126,6 +152,31 @@ module _ (e : Setup) (v : State) (s : Shared) (me : ℕ) (is : is_scheduler e me
       walk-here owned =
           let block = stands-here x.name x.spot (held-stands n x (at Begin a) held) owned in
           subst IsSome (sym block.1) refl
+
+    -- a block in a carrier that another owns isn't here, and is to move where it is reallocated
+    module _ (p : Spot) (need : ℕ) (other : owner_of p.carrier ≢ me) where
+      order : IsOrderly a.instance
+      order = (subst (λ (b : Actor). Standing e me b.instance) now
+          (walks.kept.ranges.instances me is)).order
+
+      must-move : decision_at a.instance p need ≢ Move → ⊥
+      must-move stays =
+          let (x, there) = stays-employed a.instance p need order stays in
+          other (employed-owner e u walks.kept me p.carrier (omega (
+            arith,
+            found-counts p.carrier x (at Begin a) there,
+            ap (actor_sum none (has_number p.carrier)) now,
+          )) off)
+
+      is-move : (d : Decision) → (d ≢ Move → ⊥) → d ≡ Move
+      is-move Move never = refl
+      is-move Stay never = absurd (never (λ q. cc))
+      is-move ShrinkHere never = absurd (never (λ q. cc))
+      is-move GrowHere never = absurd (never (λ q. cc))
+      is-move (ShrinkCarrier pages) never = absurd (never (λ q. cc))
+
+      pub walk-moves : decision_at a.instance p need ≡ Move
+      walk-moves = is-move (decision_at a.instance p need) must-move
 
     -- a name that an operation is to make isn't held
     pub walk-fresh : (n : ℕ) → 0 < made_in n a.todo → named_at n a.held ≡ None
@@ -161,14 +212,11 @@ module _ (e : Setup) (v : State) (s : Shared) (me : ℕ) (is : is_scheduler e me
     abbrev hand : Named
     hand = record { name = n; spot = p }
 
-    abbrev V : Actor → Type 0
-    V = InWalk e v s me
-
     abbrev turn : Turned
     turn = route_of e me hand (record a { passed = ns })
 
     on-by : (gone : Gone) (b : Actor) (route : Option Route)
-        → HoldsAt e v s me V (closed e v s me is V (keeps-walk e v s me is)) Walk gone b route
+        → HoldsAt e v s me V closes Walk gone b route
         → route ≡ None → V (at Begin b)
     on-by gone b None holds over = holds
     on-by gone b (Some r) holds over = absurd cc
@@ -178,8 +226,22 @@ module _ (e : Setup) (v : State) (s : Shared) (me : ℕ) (is : is_scheduler e me
         → InWalk e v s me (at Begin
         (route_of e me (record { name = n; spot = p }) (record a { passed = ns })).actor)
     walk-on over = on-by turn.gone turn.actor turn.route
-        (route-holds e v s me V (closed e v s me is V (keeps-walk e v s me is)) hand Walk
+        (route-holds e v s me V closes hand Walk
         (record a { passed = ns }) ((closed-walk e v s me is).block hand ns a walks)).0 over
+
+    -- where it isn't over the other blocks are where they were: as if the scheduler held the one
+    pub walk-held : InWalk e v s me (at Begin
+        (record a { held = record { name = n; spot = p } ∷ a.held; passed = ns }))
+    walk-held = goes-still e v s me is V (keeps-walk e v s me is)
+        (at Begin (record a { passed = Block n p ∷ ns }))
+        (at Begin (record a { held = hand ∷ a.held; passed = ns })) (record {
+          instance = refl;
+          hand = λ f g. refl;
+          in_hand = λ B E q. q;
+          names = λ f. omega arith;
+          links = λ u. refl;
+          nodes = λ g. omega arith;
+        }) (λ m. omega arith) (λ q. absurd cc) walks
 
 -- where a walk stands after a row of a scheduler in a reached state
 module _ (c : Config) (t : Trace) (valid : IsValidConfig c)
