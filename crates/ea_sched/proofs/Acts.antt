@@ -35,13 +35,11 @@ finished a x todo log e f =
     ∙ ap (λ xs. record a { stage = Begin; todo = later a.todo; log = xs }) f
 
 -- a name is let go, and its block released
-pub handed : (a : Actor) (x y : Entry) (i j : Instance) (h k : List Named) → x ≡ y → i ≡ j → h ≡ k
-    → logged x (record a { instance = i; held = h })
-    ≡ logged y (record a { instance = j; held = k })
-handed a x y i j h k e f g =
-    ap (λ z. logged z (record a { instance = i; held = h })) e
-    ∙ ap (λ z. logged y (record a { instance = z; held = h })) f
-    ∙ ap (λ z. logged y (record a { instance = j; held = z })) g
+pub handed : (f : Actor → Actor) (a : Actor) (i j : Instance) (h k : List Named) → i ≡ j → h ≡ k
+    → f (record a { instance = i; held = h }) ≡ f (record a { instance = j; held = k })
+handed f a i j h k e g =
+    ap (λ x. f (record a { instance = x; held = h })) e
+    ∙ ap (λ x. f (record a { instance = j; held = x })) g
 
 -- where a block was placed
 pub chosen-place : (i new : Instance) (o : Option Spot) (need name : ℕ) (p : Place)

@@ -32,7 +32,7 @@ task-open (Moving old fresh place) a = refl
 
 -- what comes after the route is told that the block was released here
 module _ (setup : Setup) (me : ℕ) (off : migration setup ≡ false) (why : Why)
-    (over : Gone → Actor → Actor) (open : (b : Actor) → over Open b ≡ over Here b) (a : Actor)
+    (over : Gone → Actor → Actor) (alike : (b : Actor) → over Open b ≡ over Here b) (a : Actor)
   where
     -- the scheduler with that instance, when the route is over
     abbrev done : Instance → Actor
@@ -74,7 +74,7 @@ module _ (setup : Setup) (me : ℕ) (off : migration setup ≡ false) (why : Why
         → content_of (employed i) n ≡ o → IfSome o (λ c. c.kind ≡ Single → c.blocks ≡ [])
         → comes (after_release setup me Open (record a { instance = i }) o)
         ≡ done (cleared_if (is_gone (follow_up o)) i n)
-    by-content i n mine None none emptied = open (record a { instance = i })
+    by-content i n mine None none emptied = alike (record a { instance = i })
     by-content i n mine (Some x) there emptied =
         let number = item_at-key number_of n x (employed i) there in
         by-kind i x (ap owner_of number ∙ mine) x.kind emptied

@@ -1,6 +1,5 @@
-use Rattle.std.proofs.Common.{sym, ap, refl, ◌∙◌}
+use Rattle.std.proofs.Common.{sym, ap, ◌∙◌}
 use Rattle.std.proofs.lemmas.Result.{on_ok_weaker}
-use Rattle.ea_machine.specs.declared.tasks.Task.TheVariants.{Freeing}
 use Rattle.ea_machine.specs.Operations.{freed}
 use Rattle.ea_sound.proofs.Asked.{named-spot}
 use Rattle.ea_sched.specs.Acting.{ready_of, setup_for}
@@ -12,6 +11,6 @@ returns-in-Some-clause-actor c =
     let held = named-spot c.args.name c.in-Some.spot s.names.held
     (sym c.spot_of.ensures ∙ c.in-Some.is) in
     on_ok_weaker c.hand_over.result
-    (λ gone. gone (Freeing c.args.name) refl
+    (λ gone. gone
     ∙ sym (ap (freed (setup_for s) s.number c.args.name (ready_of s)) held))
     c.hand_over.ensures.actor

@@ -1,0 +1,45 @@
+use Rattle.std.proofs.Common.{◌≡◌, true, false, ◌==◌, sym, ap, ◌∙◌}
+use Rattle.std.proofs.lemmas.Bool.{eqb-true}
+use Rattle.ea_machine.specs.declared.tasks.Gone.TheVariants.{Here}
+use Rattle.ea_machine.specs.declared.tasks.Why.TheVariants.{For}
+use Rattle.ea_machine.specs.Nodes.{without_name}
+use Rattle.ea_machine.specs.Owners.{owner_of}
+use Rattle.ea_machine.specs.Tasks.{let_go, task_over}
+use Rattle.ea_sched.specs.Acting.{ready_of, setup_for}
+use Rattle.ea_sched.specs.Releasing.{freed_at}
+use Rattle.ea_sched.specs.Walking.{left_if, sent}
+use Rattle.ea_sched.proofs.Acts.{handed}
+use Rattle.ea_sched.proofs.Freed.{released-away, released-here, task-open}
+use Rattle.ea_sched.proofs.Texts.{off-built}
+use Rattle.ea_sched.proofs.state.Scheduler.hand_over.Goals as goal
+
+pub returns-then-branch-clause-actor : goal.returns-then-branch-clause-actor
+returns-then-branch-clause-actor c =
+    let s = c.args.self.now in
+    let hand = c.args.hand in
+    let task = c.args.task in
+    let own : (owner_of hand.spot.carrier == s.number) ≡ true =
+    sym c.in_ok-release.ensures.own ∙ c.if-branch.true in
+    c.finish_task.ensures.actor
+    ∙ handed (task_over task Here) (ready_of s) c.release.new.instance
+    (freed_at s.instance hand.spot) c.let_go.new.self.held (without_name hand.name s.names.held)
+    (c.in_ok-release.ensures.ok ∙ ap (λ own. left_if own s.instance hand.spot) own)
+    c.let_go.ensures.held
+    ∙ sym (released-here (setup_for s) s.number (off-built s.config s.trace.now s.built) (For task)
+    (task_over task) (task-open task) (let_go hand.name (ready_of s)) hand own
+    (c.in_ok-release.ensures.emptied (eqb-true (owner_of hand.spot.carrier) s.number own)))
+
+pub returns-else-branch-clause-actor : goal.returns-else-branch-clause-actor
+returns-else-branch-clause-actor c =
+    let s = c.args.self.now in
+    let hand = c.args.hand in
+    let task = c.args.task in
+    let other : (owner_of hand.spot.carrier == s.number) ≡ false =
+    sym c.in_ok-release.ensures.own ∙ c.if-branch.false in
+    c.send.ensures.actor
+    ∙ handed (sent hand (For task)) (ready_of s) c.release.new.instance
+    s.instance c.let_go.new.self.held (without_name hand.name s.names.held)
+    (c.in_ok-release.ensures.ok ∙ ap (λ own. left_if own s.instance hand.spot) other)
+    c.let_go.ensures.held
+    ∙ sym (released-away (setup_for s) s.number (off-built s.config s.trace.now s.built) (For task)
+    (task_over task) (task-open task) (let_go hand.name (ready_of s)) hand other)
