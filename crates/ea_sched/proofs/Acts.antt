@@ -3,6 +3,7 @@ use Rattle.std.proofs.Common.{◌≡◌, ◌≢◌, ℕ, true, false, List, [], 
 use Rattle.std.specs.Prelude.{Option, None, Some, option_map, Result, Ok, Err, OnOk}
 use Rattle.std.specs.Result.{is_err}
 use Rattle.std.proofs.lemmas.Bool.{cases_eq}
+use Rattle.std.proofs.lemmas.Result.{on_ok_weaker}
 use Rattle.ea_model.specs.declared.carriers.Block.{Block}
 use Rattle.ea_model.specs.declared.carriers.Place.{Place}
 use Rattle.ea_model.specs.declared.carriers.Spot.{Spot}
@@ -122,3 +123,8 @@ size_found (Some b) = b.size
 pub went : {T E P : Type 0} (r : Result T E) → OnOk r P → false ≡ is_err r → P
 went (Ok x) h e = h
 went (Err x) h e = absurd cc
+
+-- what a call that may fail makes of an actor
+pub made-as : {T E : Type 0} (r : Result T E) (b x y : Actor) → x ≡ y → OnOk r (b ≡ x)
+    → OnOk r (b ≡ y)
+made-as r b x y e h = on_ok_weaker r (λ is. is ∙ e) h

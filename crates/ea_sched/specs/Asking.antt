@@ -9,23 +9,32 @@ use Rattle.ea_machine.specs.declared.asks.Ask.{Ask}
 use Rattle.ea_machine.specs.declared.nodes.Named.{Named}
 use Rattle.ea_machine.specs.Nodes.{named_at, spot_named}
 use Rattle.ea_machine.specs.Owners.{owner_of}
+use Rattle.ea_names.specs.Holding.{Holding}
 use Rattle.ea_sched.specs.declared.state.Scheduler.{Scheduler}
 
 -- an operation is left
 abbrev pub HasMore : Scheduler → Type 0
 HasMore s = s.done < length s.text.now
 
--- a name of the trace that isn't held
-pub record IsFresh (s : Scheduler) (name : ℕ) : Type 0 where
-  pub place : name ≤ s.names.greatest
-  pub fresh : spot_named name s.names.held ≡ None
+-- a name up to the greatest one that isn't held
+pub record IsFreshIn (names : Holding) (name : ℕ) : Type 0 where
+  pub place : name ≤ names.greatest
+  pub fresh : spot_named name names.held ≡ None
+
+-- a name up to the greatest one, whose block lies at its spot in the instance if `me` owns its
+-- carrier
+pub record IsHereIn (i : Instance) (me greatest : ℕ) (x : Named) : Type 0 where
+  pub name : x.name ≤ greatest
+  pub block : owner_of x.spot.carrier ≡ me → IsSome (block_in (employed i) x.spot)
+
+-- a name of the trace that the scheduler doesn't hold
+abbrev pub IsFresh : Scheduler → ℕ → Type 0
+IsFresh s name = IsFreshIn s.names name
 
 module _ (i : Instance) (s : Scheduler) where
-  -- a name of the trace, whose block lies at its spot in the instance if the scheduler owns its
-  -- carrier
-  pub record IsHere (x : Named) : Type 0 where
-    pub name : x.name ≤ s.names.greatest
-    pub block : owner_of x.spot.carrier ≡ s.number → IsSome (block_in (employed i) x.spot)
+  -- a name of the trace, whose block is here if the scheduler owns its carrier
+  abbrev pub IsHere : Named → Type 0
+  IsHere x = IsHereIn i s.number s.names.greatest x
 
   -- a place is asked for as operations ask for one
   pub record IsAsked (ask : Ask) : Type 0 where

@@ -11,6 +11,18 @@ use Rattle.ea_sched.proofs.Acts.{is-Move, kept-resized, not-Move, size_found, un
 use Rattle.ea_sched.proofs.Paths.{moves, resized}
 use Rattle.ea_sched.proofs.state.Scheduler.reallocate.Goals as goal
 
+pub returns-then-owner_of-self-clause-actor : goal.returns-then-owner_of-self-clause-actor
+returns-then-owner_of-self-clause-actor c =
+    let s = c.args.self.now in
+    let old = c.args.old in
+    let need = c.args.need in
+    let goes : decision_at s.instance old.spot need ≡ Move =
+    c.requires.away (λ e. c.if-owner_of-self.true (c.owner_of.ensures ∙ e)) need in
+    on_ok_weaker c.seek.result
+    (λ is. is
+    ∙ sym (moves (setup_for s) s.number (ready_of s) old c.args.fresh need Move goes refl))
+    c.seek.ensures.actor
+
 pub returns-then-is_move-clause-actor : goal.returns-then-is_move-clause-actor
 returns-then-is_move-clause-actor c =
     let s = c.args.self.now in
@@ -21,12 +33,12 @@ returns-then-is_move-clause-actor c =
     ∙ is-Move c.in_ok-decision.decision (sym c.is_move.ensures ∙ c.if-is_move.true) in
     let same = c.in_ok-decision.ensures.ok
     ∙ ap (λ d. resized_by d s.instance old.spot (resized_to s.instance old.spot need) fresh) goes in
-    on_ok_weaker c.seek.result
+    on_ok_weaker c.seek-then-is_move.result
     (λ is. is
     ∙ ap (λ i. seek (setup_for s) s.number (record { name = fresh; need = need; old = Some old })
     (record (ready_of s) { instance = i })) same
     ∙ sym (moves (setup_for s) s.number (ready_of s) old fresh need Move goes refl))
-    c.seek.ensures.actor
+    c.seek-then-is_move.ensures.actor
 
 pub hold-requires-clause-fresh : goal.hold-requires-clause-fresh
 hold-requires-clause-fresh c =

@@ -1,4 +1,4 @@
-use Rattle.std.proofs.Common.{sym, ap, refl, ◌∙◌}
+use Rattle.std.proofs.Common.{sym, ap, ◌∙◌}
 use Rattle.std.proofs.lemmas.Result.{on_ok_weaker}
 use Rattle.ea_machine.specs.declared.tasks.Task.TheVariants.{Moving}
 use Rattle.ea_machine.specs.Placements.{holding, spot_of_place, stands}
@@ -14,7 +14,7 @@ returns-in-Some-clause-actor c =
     let old = c.in-Some.old in
     let task = Moving old.name name place in
     on_ok_weaker c.hand_over.result
-    (λ gone. gone task refl
+    (λ gone. gone
     ∙ ap (λ h. hands_over (setup_for s) s.number task old (record (ready_of s) { held = h }))
     c.hold.ensures.held
     ∙ sym (ap (λ o. stands (setup_for s) s.number name place o

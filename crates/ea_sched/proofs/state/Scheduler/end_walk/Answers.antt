@@ -1,0 +1,44 @@
+use Rattle.std.proofs.Common.{◌≡◌, None, Some, sym, ap, subst, ◌∙◌}
+use Rattle.ea_machine.specs.Machine.{onward}
+use Rattle.ea_sched.specs.Acting.{actor_of, setup_for}
+use Rattle.ea_sched.specs.Asking.{SuitsNext}
+use Rattle.ea_sched.specs.Walking.{Worked, worked}
+use Rattle.ea_sched.proofs.Acts.{made-as}
+use Rattle.ea_sched.proofs.Texts.{off-built}
+use Rattle.ea_sched.proofs.Walked.{walked-none, walked-some}
+use Rattle.ea_sched.proofs.state.Scheduler.end_walk.Goals as goal
+
+pub go_on-requires : goal.go_on-requires
+go_on-requires c =
+    let s = c.args.self.now in
+    let is = c.in_ok-work_off.ensures in
+    let none : (worked s.number s.instance s.passed.nodes).hand ≡ None =
+    ap (λ (w : Worked). w.hand) (sym is) ∙ c.in-None.is in
+    record {
+      next = subst (λ j. SuitsNext j s) (ap (λ (w : Worked). w.instance) (sym is))
+          (c.requires.next none);
+    }
+
+pub returns-in-None-clause-actor : goal.returns-in-None-clause-actor
+returns-in-None-clause-actor c =
+    let s = c.args.self.now in
+    let i = c.work_off.new.instance in
+    let left = c.work_off.new.passed.nodes in
+    let over = ap (onward (setup_for s) s.number)
+    (walked-none (setup_for s) s.number (off-built s.config s.trace.now s.built) (actor_of s)
+    s.passed.nodes c.requires.passed i left
+    (ap (λ hand. record { instance = i; left = left; hand = hand }) (sym c.in-None.is)
+    ∙ c.in_ok-work_off.ensures)) in
+    made-as c.go_on.result (actor_of c.go_on.new.self) _ _ over c.go_on.ensures.actor
+
+pub returns-in-Some-clause-actor : goal.returns-in-Some-clause-actor
+returns-in-Some-clause-actor c =
+    let s = c.args.self.now in
+    let i = c.work_off.new.instance in
+    let left = c.work_off.new.passed.nodes in
+    c.send.ensures.actor
+    ∙ ap (onward (setup_for s) s.number)
+    (walked-some (setup_for s) s.number (off-built s.config s.trace.now s.built) (actor_of s)
+    s.passed.nodes c.requires.passed i left c.in-Some.hand
+    (ap (λ hand. record { instance = i; left = left; hand = hand }) (sym c.in-Some.is)
+    ∙ c.in_ok-work_off.ensures))
