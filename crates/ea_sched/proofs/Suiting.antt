@@ -1,96 +1,286 @@
--- A scheduler may do its next operation.
-use Rattle.std.proofs.Common.{◌≡◌, ℕ, zero, suc, ◌≤◌, Bool, true, false, ◌&&◌, List, [], ◌∷◌, drop, refl, sym, ap, ◌∙◌, arith}
-use Rattle.std.specs.Prelude.{Option, None, Some, IfSome, option_map}
-use Rattle.std.specs.List.{list_all}
+-- A scheduler can work off the nodes that its walk passed, where carriers don't migrate, and once
+-- its walk is over it may do its next operation.
+use Rattle.std.proofs.Common.{◌≡◌, ℕ, ◌≤◌, Bool, true, false, List, [], ◌∷◌, drop, refl, sym, ap, ◌∙◌, subst, arith}
+use Rattle.std.specs.Prelude.{◌==◌, Option, None, Some, IfSome, option_map}
+use Rattle.std.proofs.lemmas.Bool.{eqb-true}
+use Rattle.ea_model.specs.declared.carriers.Kind.TheVariants.{Single}
+use Rattle.ea_model.specs.declared.carriers.Spot.{Spot}
 use Rattle.ea_model.specs.declared.operations.Op.{Op}
 use Rattle.ea_model.specs.declared.operations.Op.TheVariants as op
-use Rattle.ea_model.specs.Trace.{texts_of}
+use Rattle.ea_model.specs.Content.{Content}
+use Rattle.ea_model.specs.Instance.{Instance, content_of, employed, releasing_at}
+use Rattle.ea_model.specs.Settings.{IsValidConfig}
+use Rattle.ea_model.specs.Trace.{IsOperation, IsScheduler, IsValidTrace, greatest_in}
+use Rattle.ea_model.proofs.Rising.{item_at-key}
 use Rattle.ea_machine.specs.declared.nodes.Named.{Named}
-use Rattle.ea_machine.specs.Actor.{Begin}
+use Rattle.ea_machine.specs.declared.nodes.Node.{Node}
+use Rattle.ea_machine.specs.declared.nodes.Node.TheVariants.{Block, Carrier}
+use Rattle.ea_machine.specs.declared.tasks.Gone.{Gone}
+use Rattle.ea_machine.specs.declared.tasks.Why.TheVariants.{Walk}
+use Rattle.ea_machine.specs.Actor.{Actor, Begin, Linking, Route, Routed}
+use Rattle.ea_machine.specs.Machine.{IsReached}
+use Rattle.ea_machine.specs.NamePlaces.{name_of}
 use Rattle.ea_machine.specs.Nodes.{named_at}
-use Rattle.ea_machine.specs.Setup.{text_for}
-use Rattle.ea_sound.proofs.Asked.{Facts, alone-owner, alone-there, first-operation}
+use Rattle.ea_machine.specs.Owners.{owner_of}
+use Rattle.ea_machine.specs.Releases.{Turned, route_of}
+use Rattle.ea_machine.specs.Rows.{Link, Passes, Rests, TakeAll, TakeLink}
+use Rattle.ea_machine.specs.Setup.{Setup, is_scheduler, migration}
+use Rattle.ea_machine.specs.Shared.{Shared}
+use Rattle.ea_machine.specs.State.{State}
+use Rattle.ea_machine.specs.Table.{answer, effect}
+use Rattle.ea_machine.specs.Tasks.{carried_by}
+use Rattle.ea_machine.specs.Walks.{with_passed}
+use Rattle.ea_sound.specs.Leaves.{InWalk}
+use Rattle.ea_sound.specs.Moments.{at}
+use Rattle.ea_sound.proofs.Asked.{Facts, first-operation, reached-facts}
+use Rattle.ea_sound.proofs.OffWalks.{link-walks, passed-carrier, passed-emptied, passed-here, take_all-walks, take_link-passes, take_link-rests, walk-fresh_alloc, walk-fresh_realloc, walk-held, walk-here, walk-moves, walk-on}
+use Rattle.ea_sound.proofs.SoundRanges.{number-scheduler}
+use Rattle.ea_sched.specs.declared.stage.Stage.TheVariants as stage
 use Rattle.ea_sched.specs.declared.state.Scheduler.{Scheduler}
-use Rattle.ea_sched.specs.Acting.{actor_of}
-use Rattle.ea_sched.specs.Asking.{HasName, IsFresh, IsHere, Suits, SuitsNext}
-use Rattle.ea_sched.specs.Built.{is_built}
-use Rattle.ea_sched.proofs.Texts.{off-built, one-built, texts-built}
+use Rattle.ea_sched.specs.Acting.{actor_of, setup_for, stage_of}
+use Rattle.ea_sched.specs.Asking.{HasName, IsFresh, IsHere, Moves, Suits, SuitsNext}
+use Rattle.ea_sched.specs.Releasing.{freed_at}
+use Rattle.ea_sched.specs.Walking.{CanAllGo, CanGo, Worked, left_if, worked, worked_if}
+use Rattle.ea_sched.proofs.Freed.{released-here}
+use Rattle.ea_sched.proofs.Texts.{off-built}
 
-both : (a b : Bool) → (a && b) ≡ true → (a ≡ true) × (b ≡ true)
-both true true e = (refl, refl)
-both true false e = absurd cc
-both false b e = absurd cc
+-- the nodes that scheduler `me` passed
+module _ (e : Setup) (v : State) (s : Shared) (me : ℕ) (is : is_scheduler e me ≡ true)
+    (off : migration e ≡ false) where
+  abbrev Walks : Actor → Type 0
+  Walks a = InWalk e v s me (at Begin a)
 
-text_built : (texts : List (List Op)) (i : ℕ) → list_all (list_all is_built) texts ≡ true
-    → list_all is_built (text_for texts i) ≡ true
-text_built texts zero e = refl
-text_built [] (suc i) e = refl
-text_built (t ∷ texts) (suc zero) e =
-    (both (list_all is_built t) (list_all (list_all is_built) texts) e).0
-text_built (t ∷ texts) (suc (suc i)) e =
-    text_built texts (suc i) (both (list_all is_built t) (list_all (list_all is_built) texts) e).1
+  -- the oldest one
+  module _ (n : ℕ) (p : Spot) (ns : List Node) (a : Actor)
+      (walks : Walks (record a { passed = Block n p ∷ ns })) where
+    abbrev rest : Actor
+    rest = record a { passed = ns }
 
-left_built : (k : ℕ) (ops : List Op) (o : Op) (more : List Op) → list_all is_built ops ≡ true
-    → drop k ops ≡ o ∷ more → is_built o ≡ true
-left_built zero [] o more e f = absurd cc
-left_built (suc k) [] o more e f = absurd cc
-left_built zero (x ∷ ops) o more e f =
-    let same : x ≡ o = cc in
-    ap is_built (sym same) ∙ (both (is_built x) (list_all is_built ops) e).0
-left_built (suc k) (x ∷ ops) o more e f =
-    left_built k ops o more (both (is_built x) (list_all is_built ops) e).1 f
+    abbrev hand : Named
+    hand = record { name = n; spot = p }
 
-module _ (s : Scheduler) (facts : Facts s.config s.trace.now s.number (actor_of s))
-    (begin : (actor_of s).stage ≡ Begin) where
-  built-next : (o : Op) (ops : List Op) → drop s.done s.text.now ≡ o ∷ ops → is_built o ≡ true
-  built-next o ops e = left_built s.done s.text.now o ops
-      (ap (list_all is_built) s.text_is
-      ∙ text_built (texts_of s.trace.now) s.number (texts-built s.config s.trace.now s.built)) e
+    abbrev turn : Turned
+    turn = route_of e me hand rest
 
-  has_name : (name : ℕ) → name ≤ s.trace.now.greatest → HasName s name
-  has_name name upto = (omega (arith, upto, s.names_upto), by (named_at name s.names.held) refl)
-    where
-      by : (o : Option Named) → named_at name s.names.held ≡ o → IfSome o (IsHere s)
-      by None e = tt
-      by (Some x) e = record {
-        name = omega (arith, facts.name name x e, upto, s.names_upto);
-        own = alone-owner s.config s.trace.now s.number (actor_of s) facts name x e
-            (one-built s.config s.trace.now s.built);
-        block = alone-there s.config s.trace.now s.number (actor_of s) facts name x e
-            (one-built s.config s.trace.now s.built) (off-built s.config s.trace.now s.built);
-      }
+    emptied : owner_of p.carrier ≡ me → (o : Option Content)
+        → content_of (employed (releasing_at a.instance p)) p.carrier ≡ o
+        → IfSome o (λ x. x.kind ≡ Single → x.blocks ≡ [])
+    emptied own None q = tt
+    emptied own (Some x) q = passed-emptied e v s me is off
+        (record a { passed = Block n p ∷ ns }) walks n p ns refl own x q
 
-  is_fresh : (name : ℕ) → name ≤ s.trace.now.greatest → named_at name s.names.held ≡ None
-      → IsFresh s name
-  is_fresh name upto none = record {
-    place = omega (arith, upto, s.names_upto);
-    fresh = ap (option_map (λ (x : Named). x.spot)) none;
-  }
+    can-go : owner_of p.carrier ≡ me → CanGo a.instance p
+    can-go own = record {
+      block = passed-here e v s me is off (record a { passed = Block n p ∷ ns }) walks n p ns
+          refl own;
+      emptied = emptied own _ refl;
+    }
 
-  suits : (o : Op) (ops : List Op) → drop s.done s.text.now ≡ o ∷ ops → is_built o ≡ true
-      → Suits s o
-  suits (op.Alloc name bytes) ops e b =
-      let first = first-operation s.config s.trace.now s.number (actor_of s) facts
-      (op.Alloc name bytes) ops e in
-      (is_fresh name first.1 (facts.fresh_alloc begin name bytes ops e), first.0.1)
-  suits (op.Free name) ops e b =
-      let first = first-operation s.config s.trace.now s.number (actor_of s) facts
-      (op.Free name) ops e in
-      has_name name first.1
-  suits (op.Realloc old fresh bytes) ops e b =
-      let first = first-operation s.config s.trace.now s.number (actor_of s) facts
-      (op.Realloc old fresh bytes) ops e in (
-        has_name old (omega (arith, first.1)),
-        (
-          is_fresh fresh (omega (arith, first.1))
-              (facts.fresh_realloc begin old fresh bytes ops e),
-          first.0.2,
-        ),
-      )
-  suits (op.Give name to) ops e b = absurd cc
-  suits (op.Take name tries) ops e b = absurd cc
-  suits op.Info ops e b = tt
-  suits op.Idle ops e b = tt
+    -- it is released, and the walk goes on with the others
+    abbrev turned : Option Route → Actor
+    turned o = carried_by Walk (λ gone b. at Begin b) turn.gone turn.actor o
 
-  pub suits-next : SuitsNext s
-  suits-next o ops e = suits o ops e (built-next o ops e)
+    abbrev then : Actor
+    then = record rest { instance = freed_at a.instance p }
+
+    freed : (owner_of p.carrier == me) ≡ true → Walks then
+    freed own = by turn.route refl where
+      as-freed : (o : Option Route) → turn.route ≡ o → turned o ≡ at Begin then
+      as-freed o same = ap turned (sym same)
+          ∙ released-here e me off Walk (λ gone b. at Begin b) (λ b. refl) rest hand own
+          (can-go (eqb-true (owner_of p.carrier) me own)).emptied
+
+      by : (o : Option Route) → turn.route ≡ o → Walks then
+      by None over = subst (InWalk e v s me) (as-freed None over)
+          (walk-on e v s me is off n p ns a walks over)
+      by (Some r) goes = absurd
+          (let never = ap (λ (b : Actor). b.stage) (as-freed (Some r) goes) in cc)
+
+    -- the others can go, whether or not it goes elsewhere
+    left-can : (own : Bool) → (owner_of p.carrier == me) ≡ own
+        → ((b : Actor) → Walks (record b { passed = ns }) → CanAllGo me b.instance ns)
+        → CanAllGo me (left_if own a.instance p) ns
+    left-can true own later = later then (freed own)
+    left-can false own later =
+        later (record a { held = hand ∷ a.held }) (walk-held e v s me is off n p ns a walks)
+
+    -- and if none goes elsewhere the walk is over with them
+    abbrev works : Bool → Worked
+    works own = worked_if own (worked me (freed_at a.instance p) ns)
+        (record { instance = a.instance; left = ns; hand = Some hand })
+
+    left-walks : (own : Bool) → (owner_of p.carrier == me) ≡ own
+        → ((b : Actor) → Walks (record b { passed = ns }) → (worked me b.instance ns).hand ≡ None
+        → Walks (record b { instance = (worked me b.instance ns).instance; passed = [] }))
+        → (works own).hand ≡ None
+        → Walks (record a { instance = (works own).instance; passed = [] })
+    left-walks true own later none = later then (freed own) none
+    left-walks false own later none = absurd cc
+
+  -- all of the nodes
+  can-all : (ns : List Node) (a : Actor) → Walks (record a { passed = ns })
+      → CanAllGo me a.instance ns
+  can-all [] a walks = tt
+  can-all (Block n p ∷ ns) a walks = (
+    can-go n p ns a walks,
+    left-can n p ns a walks (owner_of p.carrier == me) refl (λ b h. can-all ns b h),
+  )
+  can-all (Carrier d ∷ ns) a walks = absurd
+      (passed-carrier e v s me is off (record a { passed = Carrier d ∷ ns }) walks d ns refl)
+
+  worked-walks : (ns : List Node) (a : Actor) → Walks (record a { passed = ns })
+      → (worked me a.instance ns).hand ≡ None
+      → Walks (record a { instance = (worked me a.instance ns).instance; passed = [] })
+  worked-walks [] a walks none = walks
+  worked-walks (Block n p ∷ ns) a walks none = left-walks n p ns a walks
+      (owner_of p.carrier == me) refl (λ b h. worked-walks ns b h) none
+  worked-walks (Carrier d ∷ ns) a walks none = absurd
+      (passed-carrier e v s me is off (record a { passed = Carrier d ∷ ns }) walks d ns refl)
+
+-- a scheduler that stands so in a reached state
+module _ (s : Scheduler) (valid : IsValidConfig s.config)
+    (made : IsValidTrace s.config.schedulers s.trace.now) (w : State)
+    (reached : IsReached (setup_for s) w) (here : w.actors s.number ≡ actor_of s) where
+  abbrev e : Setup
+  e = setup_for s
+
+  abbrev me : ℕ
+  me = s.number
+
+  number : IsScheduler s.config.schedulers me
+  number = (s.number_from, s.number_to)
+
+  is : is_scheduler e me ≡ true
+  is = number-scheduler e me number
+
+  off : migration e ≡ false
+  off = off-built s.config s.trace.now s.built
+
+  facts : Facts s.config s.trace.now me (actor_of s)
+  facts = subst (Facts s.config s.trace.now me) here
+      (reached-facts s.config s.trace.now valid made w reached me number)
+
+  -- in its walk
+  abbrev walker : Instance → List Node → Actor
+  walker i ns = record (actor_of s) { instance = i; passed = ns }
+
+  -- once that is over it may do the next operation
+  module _ (v : State) (part : Shared) (i : Instance) (ns : List Node)
+      (walks : InWalk e v part me (at Begin (walker i ns))) where
+    abbrev a : Actor
+    a = walker i ns
+
+    has_name : (name : ℕ) → name ≤ s.trace.now.greatest → HasName i s name
+    has_name name upto = (omega (arith, upto, s.names_upto), by (named_at name s.names.held) refl)
+      where
+        by : (o : Option Named) → named_at name s.names.held ≡ o → IfSome o (IsHere i s)
+        by None held = tt
+        by (Some x) held = record {
+          name = omega
+              (arith, item_at-key name_of name x s.names.held held, upto, s.names_upto);
+          block = walk-here e v part me is off a walks name x held;
+        }
+
+    moves : (o : Option Named) → IfSome o (Moves i s)
+    moves None = tt
+    moves (Some x) = λ other need. walk-moves e v part me is off a walks x.spot need other
+
+    is_fresh : (name : ℕ) → name ≤ s.trace.now.greatest → named_at name s.names.held ≡ None
+        → IsFresh s name
+    is_fresh name upto none = record {
+      place = omega (arith, upto, s.names_upto);
+      fresh = ap (option_map (λ (x : Named). x.spot)) none;
+    }
+
+    suits : (o : Op) (ops : List Op) → drop s.done s.text.now ≡ o ∷ ops
+        → IsOperation s.config.schedulers o × (greatest_in o ≤ s.trace.now.greatest) → Suits i s o
+    suits (op.Alloc name bytes) ops left (is_op, upto) = (
+      is_fresh name upto (walk-fresh_alloc e v part me is off a walks name bytes ops left),
+      is_op.1,
+    )
+    suits (op.Free name) ops left (is_op, upto) = has_name name upto
+    suits (op.Realloc old fresh bytes) ops left (is_op, upto) = (
+      has_name old (omega (arith, upto)),
+      moves (named_at old s.names.held),
+      is_fresh fresh (omega (arith, upto))
+          (walk-fresh_realloc e v part me is off a walks old fresh bytes ops left),
+      is_op.2,
+    )
+    suits (op.Give name to) ops left (is_op, upto) = omega (arith, upto, s.names_upto)
+    suits (op.Take name tries) ops left (is_op, upto) = tt
+    suits op.Info ops left (is_op, upto) = tt
+    suits op.Idle ops left (is_op, upto) = tt
+
+    suits-next : SuitsNext i s
+    suits-next o ops left = suits o ops left
+        (first-operation s.config s.trace.now me (actor_of s) facts o ops left)
+
+  begins : s.stage ≡ stage.Begin → (w.actors me).stage ≡ Begin
+  begins begin = ap (λ (a : Actor). a.stage) here ∙ ap stage_of begin
+
+  next-is : (next : Option Node) → s.next ≡ next → (w.actors me).next ≡ next
+  next-is next same = ap (λ (a : Actor). a.next) here ∙ same
+
+  -- the scheduler has no walk, and took its queue
+  pub suits-taken : s.stage ≡ stage.Begin → s.next ≡ None → SuitsNext s.instance s
+  suits-taken begin none =
+      let part = effect me TakeAll w.shared in
+      suits-next w part s.instance s.passed.nodes
+      (subst (λ a. InWalk e w part me (at Begin a)) here
+      (take_all-walks s.config s.trace.now valid made w reached me number (begins begin)
+      (next-is None none)))
+
+  -- its walk rests
+  pub suits-rests : (node : Node) → s.stage ≡ stage.Begin → s.next ≡ Some node
+      → answer s.number TakeLink w.shared ≡ Rests → SuitsNext s.instance s
+  suits-rests node begin next rests =
+      let part = effect me TakeLink w.shared in
+      suits-next w part s.instance s.passed.nodes
+      (subst (λ a. InWalk e w part me (at Begin a)) here
+      (take_link-rests s.config s.trace.now valid made w reached me number node (begins begin)
+      (next-is (Some node) next) rests))
+
+  -- its walk passed its next node
+  module _ (node : Node) (older : Option Node) (begin : s.stage ≡ stage.Begin)
+      (next : s.next ≡ Some node) (passes : answer s.number TakeLink w.shared ≡ Passes older) where
+    abbrev after_link : Shared
+    after_link = effect me TakeLink w.shared
+
+    abbrev nodes : List Node
+    nodes = node ∷ s.passed.nodes
+
+    passed-walks : InWalk e w after_link me (at Begin (record (actor_of s) { passed = nodes }))
+    passed-walks =
+        subst (λ o. InWalk e w after_link me
+        (at Begin (record (actor_of s) { passed = with_passed o s.passed.nodes }))) next
+        (subst (λ (a : Actor). InWalk e w after_link me
+        (at Begin (record a { passed = with_passed a.next a.passed }))) here
+        (take_link-passes s.config s.trace.now valid made w reached me number node older
+        (begins begin) (next-is (Some node) next) passes))
+
+    pub goes-passed : CanAllGo s.number s.instance (node ∷ s.passed.nodes)
+    goes-passed = can-all e w after_link me is off nodes (actor_of s) passed-walks
+
+    pub suits-passed : (worked s.number s.instance (node ∷ s.passed.nodes)).hand ≡ None
+        → SuitsNext (worked s.number s.instance (node ∷ s.passed.nodes)).instance s
+    suits-passed none = suits-next w after_link (worked me s.instance nodes).instance []
+        (worked-walks e w after_link me is off nodes (actor_of s) passed-walks none)
+
+  -- a node of its walk was pushed to another's queue and linked there
+  module _ (node : Node) (to : ℕ) (gone : Gone)
+      (now : (actor_of s).stage ≡ Routed (Linking node to) Walk gone) where
+    abbrev linked : Shared
+    linked = effect me (Link node to) w.shared
+
+    linked-walks : InWalk e w linked me (at Begin (actor_of s))
+    linked-walks = subst (λ a. InWalk e w linked me (at Begin a)) here
+        (link-walks s.config s.trace.now valid made w reached me number node to gone
+        (ap (λ (a : Actor). a.stage) here ∙ now))
+
+    pub goes-linked : CanAllGo s.number s.instance s.passed.nodes
+    goes-linked = can-all e w linked me is off s.passed.nodes (actor_of s) linked-walks
+
+    pub suits-linked : (worked s.number s.instance s.passed.nodes).hand ≡ None
+        → SuitsNext (worked s.number s.instance s.passed.nodes).instance s
+    suits-linked none = suits-next w linked (worked me s.instance s.passed.nodes).instance []
+        (worked-walks e w linked me is off s.passed.nodes (actor_of s) linked-walks none)
