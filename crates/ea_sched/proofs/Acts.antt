@@ -71,9 +71,6 @@ module _ (setup : Setup) (me : ℕ) (a : Actor) (ask : Ask) where
   stood-placed new spot p e f = ap (λ q. stood q new) e
       ∙ ap (stood (place_at a.instance spot ask.need)) f
 
-  pub stood-as : (p q : Place) (i j : Instance) → p ≡ q → i ≡ j → stood p i ≡ stood q j
-  stood-as p q i j e f = ap (λ r. stood r i) e ∙ ap (stood q) f
-
 -- a name that isn't held, once another is let go
 pub unheld-let_go : (n name : ℕ) (held : List Named) → spot_named n held ≡ None
     → spot_named n (without_name name held) ≡ None
@@ -125,6 +122,6 @@ went (Ok x) h e = h
 went (Err x) h e = absurd cc
 
 -- what a call that may fail makes of an actor
-pub made-as : {T E : Type 0} (r : Result T E) (b x y : Actor) → x ≡ y → OnOk r (b ≡ x)
+pub made-as : {T E : Type 0} (r : Result T E) (b : Actor) {x y : Actor} → OnOk r (b ≡ x) → x ≡ y
     → OnOk r (b ≡ y)
-made-as r b x y e h = on_ok_weaker r (λ is. is ∙ e) h
+made-as r b h e = on_ok_weaker r (λ is. is ∙ e) h

@@ -24,12 +24,12 @@ returns-in-None-clause-actor c =
     let s = c.args.self.now in
     let i = c.work_off.new.instance in
     let left = c.work_off.new.passed.nodes in
-    let over = ap (onward (setup_for s) s.number)
+    made-as c.go_on.result _ c.go_on.ensures.actor
+    (ap (onward (setup_for s) s.number)
     (walked-none (setup_for s) s.number (off-built s.config s.trace.now s.built) (actor_of s)
     s.passed.nodes c.requires.passed i left
     (ap (λ hand. record { instance = i; left = left; hand = hand }) (sym c.in-None.is)
-    ∙ c.in_ok-work_off.ensures)) in
-    made-as c.go_on.result (actor_of c.go_on.new.self) _ _ over c.go_on.ensures.actor
+    ∙ c.in_ok-work_off.ensures)))
 
 pub returns-in-Some-clause-actor : goal.returns-in-Some-clause-actor
 returns-in-Some-clause-actor c =

@@ -1,11 +1,11 @@
 use Rattle.std.proofs.Common.{sym, ap, subst, ◌∙◌}
 use Rattle.std.specs.Prelude.{Some, IfSome}
-use Rattle.std.proofs.lemmas.Result.{on_ok_weaker}
 use Rattle.ea_machine.specs.Reallocations.{reallocated}
 use Rattle.ea_model.specs.Units.{need_of}
 use Rattle.ea_sound.proofs.Asked.{named-spot}
 use Rattle.ea_sched.specs.Acting.{ready_of, setup_for}
 use Rattle.ea_sched.specs.Asking.{Moves}
+use Rattle.ea_sched.proofs.Acts.{made-as}
 use Rattle.ea_sched.proofs.state.Scheduler.realloc.Goals as goal
 
 pub reallocate-requires-clause-held : goal.reallocate-requires-clause-held
@@ -25,10 +25,8 @@ returns-in-Some-clause-actor c =
     let s = c.args.self.now in
     let held = named-spot c.args.old c.in-Some.spot s.names.held
     (sym c.spot_of.ensures ∙ c.in-Some.is) in
-    on_ok_weaker c.reallocate.result
-    (λ is. is
-    ∙ ap (λ need. reallocated (setup_for s) s.number c.args.old c.args.fresh need (ready_of s)
+    made-as c.reallocate.result _ c.reallocate.ensures.actor
+    (ap (λ need. reallocated (setup_for s) s.number c.args.old c.args.fresh need (ready_of s)
     (Some (record { name = c.args.old; spot = c.in-Some.spot }))) c.need.ensures
     ∙ sym (ap (reallocated (setup_for s) s.number c.args.old c.args.fresh (need_of c.args.bytes)
     (ready_of s)) held))
-    c.reallocate.ensures.actor

@@ -1,13 +1,12 @@
-use Rattle.std.proofs.Common.{◌≡◌, ◌≢◌, refl, sym, ap, ◌∙◌}
+use Rattle.std.proofs.Common.{◌≡◌, ◌≢◌, sym, ap, ◌∙◌}
 use Rattle.std.specs.Prelude.{Some, option_map}
-use Rattle.std.proofs.lemmas.Result.{on_ok_weaker}
 use Rattle.ea_model.specs.declared.reallocation.Decision.TheVariants.{Move}
 use Rattle.ea_model.specs.Content.{named}
 use Rattle.ea_model.specs.Instance.{decision_at, resized_by, resized_to}
 use Rattle.ea_machine.specs.Nodes.{spot_named, with_name}
 use Rattle.ea_machine.specs.Placements.{seek}
 use Rattle.ea_sched.specs.Acting.{ready_of, setup_for}
-use Rattle.ea_sched.proofs.Acts.{is-Move, kept-resized, not-Move, size_found, unheld-let_go}
+use Rattle.ea_sched.proofs.Acts.{is-Move, kept-resized, made-as, not-Move, size_found, unheld-let_go}
 use Rattle.ea_sched.proofs.Paths.{moves, resized}
 use Rattle.ea_sched.proofs.state.Scheduler.reallocate.Goals as goal
 
@@ -18,10 +17,8 @@ returns-then-owner_of-self-clause-actor c =
     let need = c.args.need in
     let goes : decision_at s.instance old.spot need ≡ Move =
     c.requires.away (λ e. c.if-owner_of-self.true (c.owner_of.ensures ∙ e)) need in
-    on_ok_weaker c.seek.result
-    (λ is. is
-    ∙ sym (moves (setup_for s) s.number (ready_of s) old c.args.fresh need Move goes refl))
-    c.seek.ensures.actor
+    made-as c.seek.result _ c.seek.ensures.actor
+    (sym (moves (setup_for s) s.number (ready_of s) old c.args.fresh need goes))
 
 pub returns-then-is_move-clause-actor : goal.returns-then-is_move-clause-actor
 returns-then-is_move-clause-actor c =
@@ -33,12 +30,10 @@ returns-then-is_move-clause-actor c =
     ∙ is-Move c.in_ok-decision.decision (sym c.is_move.ensures ∙ c.if-is_move.true) in
     let same = c.in_ok-decision.ensures.ok
     ∙ ap (λ d. resized_by d s.instance old.spot (resized_to s.instance old.spot need) fresh) goes in
-    on_ok_weaker c.seek-then-is_move.result
-    (λ is. is
-    ∙ ap (λ i. seek (setup_for s) s.number (record { name = fresh; need = need; old = Some old })
+    made-as c.seek-then-is_move.result _ c.seek-then-is_move.ensures.actor
+    (ap (λ i. seek (setup_for s) s.number (record { name = fresh; need = need; old = Some old })
     (record (ready_of s) { instance = i })) same
-    ∙ sym (moves (setup_for s) s.number (ready_of s) old fresh need Move goes refl))
-    c.seek-then-is_move.ensures.actor
+    ∙ sym (moves (setup_for s) s.number (ready_of s) old fresh need goes))
 
 pub hold-requires-clause-fresh : goal.hold-requires-clause-fresh
 hold-requires-clause-fresh c =

@@ -1,9 +1,8 @@
 use Rattle.std.proofs.Common.{sym, ap, ◌∙◌}
-use Rattle.std.proofs.lemmas.Result.{on_ok_weaker}
 use Rattle.ea_model.specs.Instance.{chosen_spot}
 use Rattle.ea_machine.specs.Placements.{new_carrier}
 use Rattle.ea_sched.specs.Acting.{ready_of, setup_for}
-use Rattle.ea_sched.proofs.Acts.{chosen-place, stood-placed, unplaced}
+use Rattle.ea_sched.proofs.Acts.{chosen-place, made-as, stood-placed, unplaced}
 use Rattle.ea_sched.proofs.Paths.{seek-chosen, seek-new}
 use Rattle.ea_sched.proofs.Texts.{off-built}
 use Rattle.ea_sched.proofs.state.Scheduler.seek.Goals as goal
@@ -15,13 +14,11 @@ returns-in-Some-clause-actor c =
     let (spot, chosen, is, new) = chosen-place s.instance c.try_alloc.new.self
     (chosen_spot s.instance ask.need) ask.need ask.name c.in-Some.place
     (sym c.in_ok-place.ensures.place ∙ c.in-Some.is) c.in_ok-place.ensures.ok in
-    on_ok_weaker c.stand.result
-    (λ stands. stands
-    ∙ stood-placed (setup_for s) s.number (ready_of s) ask c.try_alloc.new.self spot
+    made-as c.stand.result _ c.stand.ensures.actor
+    (stood-placed (setup_for s) s.number (ready_of s) ask c.try_alloc.new.self spot
     c.in-Some.place is new
     ∙ sym (seek-chosen (setup_for s) s.number (ready_of s) ask spot
     (sym c.is_alone.ensures ∙ c.if-is_alone.false) chosen))
-    c.stand.ensures.actor
 
 pub returns-in-None-clause-actor : goal.returns-in-None-clause-actor
 returns-in-None-clause-actor c =
@@ -30,9 +27,7 @@ returns-in-None-clause-actor c =
     let (none, same) = unplaced s.instance c.try_alloc.new.self
     (chosen_spot s.instance ask.need) ask.need ask.name
     (sym c.in_ok-place.ensures.place ∙ c.in-None.is) c.in_ok-place.ensures.ok in
-    on_ok_weaker c.seek_new-in-None.result
-    (λ is. is
-    ∙ ap (λ i. new_carrier (setup_for s) s.number ask 0 (record (ready_of s) { instance = i })) same
+    made-as c.seek_new-in-None.result _ c.seek_new-in-None.ensures.actor
+    (ap (λ i. new_carrier (setup_for s) s.number ask 0 (record (ready_of s) { instance = i })) same
     ∙ sym (seek-new (setup_for s) s.number (ready_of s) ask
     (off-built s.config s.trace.now s.built) (sym c.is_alone.ensures ∙ c.if-is_alone.false) none))
-    c.seek_new-in-None.ensures.actor
