@@ -1,5 +1,5 @@
 -- The release of a block where carriers don't migrate: by its carrier's owner, or on the way to it.
-use Rattle.std.specs.Prelude.{◌≡◌, ◌≢◌, ℕ, Bool, true, false, ◌==◌, ◌&&◌, if◌then◌else◌, Option, None, Some, IfSome, []}
+use Rattle.std.specs.Prelude.{◌≡◌, ℕ, Bool, true, false, ◌==◌, ◌&&◌, if◌then◌else◌, Option, None, Some, IfSome, []}
 use Rattle.std.proofs.Common.{refl, sym, ap, ◌∙◌, arith}
 use Rattle.std.proofs.lemmas.Bool.{eqb-true}
 use Rattle.ea_model.specs.declared.carriers.Kind.{Kind}
@@ -20,7 +20,7 @@ use Rattle.ea_machine.specs.Actor.{Actor}
 use Rattle.ea_machine.specs.Owners.{owner_of}
 use Rattle.ea_machine.specs.Releases.{Turned, abandoned_if, after_release, after_release_by, dismissed, leaving, leaving_by, lightened, owned_by, route_of, routed}
 use Rattle.ea_machine.specs.Setup.{Setup, migration}
-use Rattle.ea_machine.specs.Tasks.{carried, entry_of, logged, task_over}
+use Rattle.ea_machine.specs.Tasks.{carried, task_over}
 use Rattle.ea_sound.proofs.Unmoved.{due-unmoved}
 use Rattle.ea_sched.specs.Releasing.{cleared_if, freed_at, is_gone}
 use Rattle.ea_sched.specs.Walking.{sent}

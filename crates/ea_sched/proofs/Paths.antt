@@ -1,24 +1,17 @@
 -- What a scheduler does for its operation where carriers don't migrate, path by path.
-use Rattle.std.specs.Prelude.{◌≡◌, ◌≢◌, ℕ, true, false, None, Some, Ok, Err}
+use Rattle.std.specs.Prelude.{◌≡◌, ◌≢◌, ℕ, false, None, Some, Ok}
 use Rattle.std.proofs.Common.{refl, ap, ◌∙◌}
 use Rattle.ea_model.specs.declared.carriers.CarrierPlan.{CarrierPlan}
 use Rattle.ea_model.specs.declared.carriers.Spot.{Spot}
-use Rattle.ea_model.specs.declared.entries.NoCarrier.{NoCarrier}
 use Rattle.ea_model.specs.declared.reallocation.Decision.{Decision}
 use Rattle.ea_model.specs.declared.reallocation.Decision.TheVariants.{Stay, ShrinkHere, GrowHere, ShrinkCarrier, Move}
-use Rattle.ea_model.specs.Instance.{chosen_spot, creating, creating_single, decision_at, is_alone, place_at, placing_at, plan, single_place}
+use Rattle.ea_model.specs.Instance.{chosen_spot, creating, decision_at, is_alone, plan}
 use Rattle.ea_machine.specs.declared.asks.Ask.{Ask}
 use Rattle.ea_machine.specs.declared.nodes.Named.{Named}
-use Rattle.ea_machine.specs.Actor.{Actor, Begin}
-use Rattle.ea_machine.specs.Machine.{after}
-use Rattle.ea_machine.specs.Operations.{itself}
-use Rattle.ea_machine.specs.Placements.{chosen_by, created_by, failed, holding, making, new_carrier, new_carrier_by, placed_at, placed_by, search_if, seek, seek_by, spot_of_place, stands}
+use Rattle.ea_machine.specs.Actor.{Actor}
+use Rattle.ea_machine.specs.Placements.{chosen_by, created_by, making, new_carrier, new_carrier_by, placed_at, placed_by, search_if, seek, seek_by}
 use Rattle.ea_machine.specs.Reallocations.{reallocated_by, resized_here}
-use Rattle.ea_machine.specs.Rows.{Head}
 use Rattle.ea_machine.specs.Setup.{Setup, migration}
-use Rattle.ea_machine.specs.Statistics.{observed}
-use Rattle.ea_machine.specs.Tasks.{logged}
-use Rattle.ea_machine.specs.Walks.{ready}
 
 module _ (setup : Setup) (me : ℕ) (a : Actor) (ask : Ask) where
   -- a block is placed where the strategy chooses

@@ -13,7 +13,7 @@ use Rattle.ea_machine.specs.Owners.{owner_of}
 use Rattle.ea_machine.specs.Setup.{Setup, migration}
 use Rattle.ea_machine.specs.Walks.{ready, worked_off}
 use Rattle.ea_sched.specs.Releasing.{freed_at}
-use Rattle.ea_sched.specs.Walking.{CanAllGo, CanGo, Worked, left_by, left_if, sent, worked, worked_if}
+use Rattle.ea_sched.specs.Walking.{CanAllGo, CanGo, Worked, left_if, sent, worked, worked_if}
 use Rattle.ea_sched.proofs.Freed.{released-away, released-here}
 
 -- where the nodes leave a scheduler: ready, or with a block that goes to its carrier's owner

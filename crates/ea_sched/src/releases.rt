@@ -75,7 +75,12 @@ fn entry_of(task: Task, gone: Gone) -> Entry
         },
         Task::Moving { old, fresh, place } => match gone {
             Gone::Open | Gone::Here => Entry::ReallocMoved { old, fresh, place },
-            Gone::Queued { to } => Entry::ReallocQueued { old, fresh, place, to },
+            Gone::Queued { to } => Entry::ReallocQueued {
+                old,
+                fresh,
+                place,
+                to,
+            },
         },
     }
 }

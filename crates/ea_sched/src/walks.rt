@@ -16,8 +16,8 @@ use ea_model::OutOfMemory;
 use std::alloc::Global;
 
 /// Works off the nodes that a walk of scheduler `me`, whose instance this is, has passed, oldest
-/// first: releases the blocks, up to the first whose carrier another instance owns, and answers that
-/// one, if it is reached.
+/// first: releases the blocks, up to the first whose carrier another instance owns, and answers
+/// that one, if it is reached.
 fn work_off(
     passed: &mut Passed,
     instance: &mut Instance,

@@ -1,6 +1,5 @@
 use Rattle.std.proofs.Common.{sym, ap, ◌∙◌}
 use Rattle.std.specs.Prelude.{sum_by}
-use Rattle.std.specs.Option.{option_map_or}
 use Rattle.ea_model.specs.Instance.{size_at}
 use Rattle.ea_sched.proofs.HeldSums.{sum-held}
 use Rattle.ea_sched.proofs.units.units_held.Goals as goal
