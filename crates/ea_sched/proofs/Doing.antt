@@ -1,26 +1,28 @@
--- What a scheduler may ask of what is told, and where a step leaves it.
-use Rattle.std.specs.Prelude.{◌≡◌, ◌≢◌, ◌⊎◌, ℕ, true, false, [], Option, None, Some, IfSome, IsSome}
+-- A row that a scheduler has done, as it is told, and where the step leaves the scheduler.
+use Rattle.std.specs.Prelude.{◌≡◌, ◌≢◌, ◌⊎◌, ℕ, true, false, Option, None, Some, IfSome, IsSome}
 use Rattle.std.proofs.Common.{refl, sym, ap, ◌∙◌, subst, inl, inr}
 use Rattle.ea_model.specs.declared.settings.Config.{Config}
 use Rattle.ea_model.specs.declared.trace.Trace.{Trace}
 use Rattle.ea_model.specs.Settings.{IsValidConfig}
 use Rattle.ea_model.specs.Trace.{IsValidTrace}
-use Rattle.ea_model.proofs.Options.{if_some, some_value}
-use Rattle.ea_machine.specs.Actor.{Actor, Begin, Ended}
-use Rattle.ea_machine.specs.Machine.{after, after_row, onward, step, wants, wants_at}
-use Rattle.ea_machine.specs.declared.nodes.Node.{Node}
-use Rattle.ea_machine.specs.Rows.{Answer, Head, Row, TakeAll}
+use Rattle.ea_model.proofs.Options.{both_some, if_some, some_value}
+use Rattle.ea_machine.specs.Actor.{Actor, Ended}
+use Rattle.ea_machine.specs.Machine.{IsReached, after, after_row, onward, step, wants}
+use Rattle.ea_machine.specs.Rows.{Answer, Row}
 use Rattle.ea_machine.specs.Setup.{Setup, setup_of}
 use Rattle.ea_machine.specs.Shared.{Shared}
 use Rattle.ea_machine.specs.State.{State}
 use Rattle.ea_machine.specs.Statistics.{observed}
 use Rattle.ea_machine.specs.Table.{answer, effect}
-use Rattle.ea_shared.specs.Calls.{Caller, Did, IsWanted, TookStep, WantsRow}
-use Rattle.ea_sound.proofs.Asked.{reached-rule}
+use Rattle.ea_shared.specs.Calls.{Caller, Did, HasEffect, TookStep}
 use Rattle.ea_sound.proofs.Completing.{reached-step}
-use Rattle.ea_sound.proofs.RowLeaves.{no_first}
 use Rattle.ea_sound.proofs.TurnLists.{step-ended, step-mine, step-shared}
-use Rattle.ea_sched.specs.Steps.{Ready, Stepped, caller_of}
+use Rattle.ea_sched.specs.declared.stage.Stage.{Stage}
+use Rattle.ea_sched.specs.declared.stage.Stage.TheVariants as code
+use Rattle.ea_sched.specs.declared.stage.Route.TheVariants as route
+use Rattle.ea_sched.specs.declared.state.Scheduler.{Scheduler}
+use Rattle.ea_sched.specs.Acting.{actor_of, is_ended, stage_of}
+use Rattle.ea_sched.specs.Steps.{DidRow, IsReady, Ready, Stepped, caller_of}
 
 -- what is told is told again
 same-told : {A : Type 0} (o : Option A) (x : A) → IfSome o (λ y. y ≡ x)
@@ -29,7 +31,7 @@ same-told None x same = tt
 same-told (Some y) x same = (same, ap Some same)
 
 -- something is told
-pub none-told : (shared : Option Shared) (caller : Option Caller) → shared ≡ None → caller ≡ None
+none-told : (shared : Option Shared) (caller : Option Caller) → shared ≡ None → caller ≡ None
     → IsSome shared ⊎ IsSome caller → ⊥
 none-told shared caller unshared uncalled (inl is) = let some = (some_value shared is).1 in cc
 none-told shared caller unshared uncalled (inr is) = let some = (some_value caller is).1 in cc
@@ -64,110 +66,132 @@ module _ (e : Setup) (w : State) (me : ℕ) (a : Actor) (at : w.actors me ≡ a)
       ∙ ap (λ (x : Actor). effect me (wants x) w.shared) at
       ∙ ap (λ r. effect me r w.shared) want
 
+-- a reached state in which the scheduler stands so, and the row is answered so; what is shared is
+-- as it is told
+pub record Answered (e : Setup) (me : ℕ) (a : Actor) (row : Row) (got : Answer)
+    (shared : Option Shared) : Type 0 where
+  pub state : State
+  pub reached : IsReached e state
+  pub actor : state.actors me ≡ a
+  pub answered : got ≡ answer me row state.shared
+  pub shares : IfSome shared (λ s. s ≡ state.shared)
+
 module _ (c : Config) (t : Trace) (me : ℕ) (a : Actor) where
   abbrev e : Setup
   e = setup_of c t
 
-  begin-wants : a.stage ≡ Begin → a.next ≡ None → wants a ≡ TakeAll
-  begin-wants begin none = ap (wants_at a.next) begin ∙ ap (λ next. wants_at next Begin) none
-
-  -- a row that it wants is done
-  module _ (b : Actor) (row : Row) (got : Answer) (want : wants a ≡ row) (goes : a.stage ≢ Ended)
-      (is : b ≡ after e me a got a.stage) where
-    own : (w : State) → w.actors me ≡ a → got ≡ answer me row w.shared
-        → b ≡ (step e w me).actors me
-    own w at answered = is ∙ ap (λ r. after e me a r a.stage) answered
-        ∙ sym (step-own e w me a at row want goes)
-
-    part : (w : State) → w.actors me ≡ a → (s : Shared) (new : Option Shared)
-        → s ≡ w.shared → new ≡ Some (effect me row s) → new ≡ Some (step e w me).shared
-    part w at s new same became = became
-        ∙ ap Some (ap (effect me row) same ∙ sym (step-part e w me a at row want goes))
-
-    told : (caller now : Option Caller) → IfSome caller (λ x. x ≡ caller_of e me a)
-        → IfSome caller (TookStep me row got now)
-        → IfSome caller (λ x. now ≡ Some (caller_of e me b))
-    told None now same took = tt
-    told (Some x) now same took =
-        let mine = subst (TookStep me row got now) same took in
-        mine.4 ∙ ap (λ y. Some (caller_of e me y)) (sym (own mine.0 mine.2 mine.3))
-
-    pub stepped : (shared new : Option Shared) (caller now : Option Caller)
+  -- a row is done
+  module _ (row : Row) (got : Answer) where
+    -- there is a state in which it is answered so
+    pub answered-so : (shared new : Option Shared) (caller now : Option Caller)
         → Ready c t me a shared caller → Did me row got shared new caller now
-        → Stepped c t me a b shared new caller now
-    stepped (Some s) new caller now h did =
-        let effects = did.shared in
-        record {
-          state = h.state;
-          reached = h.reached;
-          actor = h.actor;
-          is = own h.state h.actor (effects.0 ∙ ap (answer me row) h.shares);
-          shares = (h.shares, part h.state h.actor s new h.shares effects.1);
-          shares_untold = did.shared_untold;
-          calls = told caller now h.calls did.caller;
-          calls_untold = did.caller_untold;
-        }
-    stepped None new (Some x) now h did =
+        → Answered e me a row got shared
+    answered-so (Some s) new caller now h did = record {
+      state = h.state;
+      reached = h.reached;
+      actor = h.actor;
+      answered = (let effects = did.shared in effects.0) ∙ ap (answer me row) h.shares;
+      shares = h.shares;
+    }
+    answered-so None new (Some x) now h did =
         let mine = subst (TookStep me row got now) h.calls did.caller in
         record {
           state = mine.0;
           reached = mine.1;
           actor = mine.2;
-          is = own mine.0 mine.2 mine.3;
+          answered = mine.3;
           shares = tt;
-          shares_untold = did.shared_untold;
-          calls = told (Some x) now h.calls did.caller;
-          calls_untold = did.caller_untold;
         }
-    stepped None new None now h did = absurd (none-told None None refl refl h.told)
+    answered-so None new None now h did = absurd (none-told None None refl refl h.told)
 
-  -- where an operation begins, and where all are done
-  module _ (shared : Option Shared) (caller : Option Caller)
-      (h : Ready c t me a shared caller) where
-    -- nothing is left of its walk
-    pub asks-shared : a.next ≡ None → IfSome shared (λ s. s.rests me ≡ [])
-    asks-shared none =
-        let walking = (reached-rule c t h.config h.trace h.state h.reached).present.walking me in
-        let rest = no_first (h.state.shared.rests me)
-        (sym walking ∙ ap (λ (x : Actor). x.next) h.actor ∙ none) in
-        if_some shared (λ s. s ≡ h.state.shared) (λ s. s.rests me ≡ [])
-        (λ s same. ap (λ (x : Shared). x.rests me) same ∙ rest) h.shares
+    -- it is the one that the scheduler wants
+    module _ (b : Actor) (want : wants a ≡ row) (goes : a.stage ≢ Ended)
+        (is : b ≡ after e me a got a.stage) where
+      own : (w : State) → w.actors me ≡ a → got ≡ answer me row w.shared
+          → b ≡ (step e w me).actors me
+      own w at answered = is ∙ ap (λ r. after e me a r a.stage) answered
+          ∙ sym (step-own e w me a at row want goes)
 
-    -- it wants its queue
-    pub asks-caller : a.stage ≡ Begin → a.next ≡ None → IsWanted me TakeAll caller
-    asks-caller begin none =
-        if_some caller (λ x. x ≡ caller_of e me a) (WantsRow me TakeAll)
-        (λ x same. subst (WantsRow me TakeAll) (sym same) (refl, begin-wants begin none)) h.calls
+      part : (w : State) → w.actors me ≡ a → (s : Shared) (new : Option Shared)
+          → s ≡ w.shared → new ≡ Some (effect me row s) → new ≡ Some (step e w me).shared
+      part w at s new same became = became
+          ∙ ap Some (ap (effect me row) same ∙ sym (step-part e w me a at row want goes))
 
-    -- its queue is taken
-    pub begun-stepped : (b : Actor) (got : Option Node) (new : Option Shared) (now : Option Caller)
-        → a.stage ≡ Begin → a.next ≡ None → Did me TakeAll (Head got) shared new caller now
-        → b ≡ after e me a (Head got) Begin → Stepped c t me a b shared new caller now
-    begun-stepped b got new now begin none did is =
-        stepped b TakeAll (Head got) (begin-wants begin none)
-        (λ ended. let no : Begin ≡ Ended = sym begin ∙ ended in cc)
-        (is ∙ ap (after e me a (Head got)) (sym begin)) shared new caller now h did
+      told : (caller now : Option Caller) → IfSome caller (λ x. x ≡ caller_of e me a)
+          → IfSome caller (TookStep me row got now)
+          → IfSome caller (λ x. now ≡ Some (caller_of e me b))
+      told None now same took = tt
+      told (Some x) now same took =
+          let mine = subst (TookStep me row got now) same took in
+          mine.4 ∙ ap (λ y. Some (caller_of e me y)) (sym (own mine.0 mine.2 mine.3))
 
-    -- an ended scheduler stays as it is
-    pub ended-stepped : a.stage ≡ Ended → Stepped c t me a a shared shared caller caller
-    ended-stepped ended =
-        let w = h.state in
-        let stays = step-ended e w me (ap (λ (x : Actor). x.stage) h.actor ∙ ended) in
-        record {
-          state = w;
-          reached = h.reached;
-          actor = h.actor;
-          is = sym (ap (λ (v : State). v.actors me) stays ∙ h.actor);
-          shares = subst (λ (v : State). IfSome shared
-              (λ s. (s ≡ w.shared) × (shared ≡ Some v.shared))) (sym stays)
-              (same-told shared w.shared h.shares);
-          shares_untold = λ none. none;
-          calls = if_some caller
-              (λ x. (x ≡ caller_of e me a) × (caller ≡ Some (caller_of e me a)))
-              (λ x. caller ≡ Some (caller_of e me a)) (λ x both. both.1)
-              (same-told caller (caller_of e me a) h.calls);
-          calls_untold = λ none. none;
-        }
+      pub stepped : (shared new : Option Shared) (caller now : Option Caller)
+          → Ready c t me a shared caller → Did me row got shared new caller now
+          → Stepped c t me a b shared new caller now
+      stepped shared new caller now h did =
+          let u = answered-so shared new caller now h did in
+          record {
+            state = u.state;
+            reached = u.reached;
+            actor = u.actor;
+            is = own u.state u.actor u.answered;
+            shares = both_some shared (λ s. s ≡ u.state.shared) (HasEffect me row got new)
+                (λ s. (s ≡ u.state.shared) × (new ≡ Some (step e u.state me).shared))
+                (λ s same effects. (same, part u.state u.actor s new same effects.1))
+                u.shares did.shared;
+            shares_untold = did.shared_untold;
+            calls = told caller now h.calls did.caller;
+            calls_untold = did.caller_untold;
+          }
+
+  -- an ended scheduler stays as it is
+  pub ended-stepped : (shared : Option Shared) (caller : Option Caller)
+      → Ready c t me a shared caller → a.stage ≡ Ended
+      → Stepped c t me a a shared shared caller caller
+  ended-stepped shared caller h ended =
+      let w = h.state in
+      let stays = step-ended e w me (ap (λ (x : Actor). x.stage) h.actor ∙ ended) in
+      record {
+        state = w;
+        reached = h.reached;
+        actor = h.actor;
+        is = sym (ap (λ (v : State). v.actors me) stays ∙ h.actor);
+        shares = subst (λ (v : State). IfSome shared
+            (λ s. (s ≡ w.shared) × (shared ≡ Some v.shared))) (sym stays)
+            (same-told shared w.shared h.shares);
+        shares_untold = λ none. none;
+        calls = if_some caller
+            (λ x. (x ≡ caller_of e me a) × (caller ≡ Some (caller_of e me a)))
+            (λ x. caller ≡ Some (caller_of e me a)) (λ x both. both.1)
+            (same-told caller (caller_of e me a) h.calls);
+        calls_untold = λ none. none;
+      }
+
+-- by whether its text is done
+pub stage-goes : (stage : Stage) → is_ended stage ≡ false → stage_of stage ≢ Ended
+stage-goes (code.Routed (route.Pushing node to) why gone) goes = λ ended. absurd cc
+stage-goes (code.Routed (route.Linking node to) why gone) goes = λ ended. absurd cc
+stage-goes code.Begin goes = λ ended. absurd cc
+stage-goes (code.Giving given to) goes = λ ended. absurd cc
+stage-goes (code.Taking name tries left) goes = λ ended. absurd cc
+stage-goes code.Ended goes = absurd cc
+
+pub stage-ends : (stage : Stage) → is_ended stage ≡ true → stage_of stage ≡ Ended
+stage-ends (code.Routed route why gone) ends = absurd cc
+stage-ends code.Begin ends = absurd cc
+stage-ends (code.Giving given to) ends = absurd cc
+stage-ends (code.Taking name tries left) ends = absurd cc
+stage-ends code.Ended ends = refl
+
+-- a step is a row that was done, and the figures observed
+pub row-stepped : (s t : Scheduler) (b : Actor) (shared new : Option Shared)
+    (caller now : Option Caller) → IsReady s shared caller → is_ended s.stage ≡ false
+    → DidRow s t shared new caller now → b ≡ observed (actor_of t)
+    → Stepped s.config s.trace.now s.number (actor_of s) b shared new caller now
+unfolding after
+row-stepped s t b shared new caller now h goes d is =
+    stepped s.config s.trace.now s.number (actor_of s) d.row d.got b d.wanted
+    (stage-goes s.stage goes) (is ∙ ap observed d.is) shared new caller now h d.did
 
 -- after a step it stands in a reached state again
 module _ (c : Config) (t : Trace) (me : ℕ) (a b : Actor) (shared new : Option Shared)

@@ -12,5 +12,6 @@ pub mod PresentNames
 pub mod PresentNumbers
 pub mod Texts
 pub mod Suiting
+pub mod Calling
 pub mod Running
 pub mod Ends

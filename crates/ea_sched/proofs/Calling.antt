@@ -1,0 +1,284 @@
+-- What the calls of a scheduler on what is shared ask for, and where their answers leave it.
+use Rattle.std.proofs.Common.{◌≡◌, ℕ, zero, suc, ◌*◌, ◌<◌, ◌≤◌, List, [], ◌∷◌, drop, length, refl, sym, ap, ◌∙◌, subst, arith}
+use Rattle.std.specs.Prelude.{Option, None, Some, IfSome, IsSome}
+use Rattle.ea_model.specs.declared.carriers.Spot.{Spot}
+use Rattle.ea_model.specs.declared.operations.Op.{Op}
+use Rattle.ea_model.specs.declared.units.TheConstants.{NUMBERS}
+use Rattle.ea_model.specs.Trace.{IsScheduler}
+use Rattle.ea_model.proofs.Options.{if_some, some_value}
+use Rattle.ea_machine.specs.declared.nodes.Named.{Named}
+use Rattle.ea_machine.specs.declared.nodes.Node.{Node}
+use Rattle.ea_machine.specs.declared.nodes.Node.TheVariants.{Block, Carrier}
+use Rattle.ea_machine.specs.declared.tasks.Gone.{Gone}
+use Rattle.ea_machine.specs.declared.tasks.Task.{Task}
+use Rattle.ea_machine.specs.declared.tasks.Why.{Why}
+use Rattle.ea_machine.specs.declared.tasks.Why.TheVariants.{Walk, For}
+use Rattle.ea_machine.specs.Actor.{Actor, Begin, Giving, Linking, Pushing, Route, Routed, Stage, Taking}
+use Rattle.ea_machine.specs.Alike.{HasNoAlike, IsNode}
+use Rattle.ea_machine.specs.Guards.{IsUnlinkedAt}
+use Rattle.ea_machine.specs.Machine.{after_row, begins, onward, wants_at}
+use Rattle.ea_machine.specs.Nodes.{first_node, spot_named}
+use Rattle.ea_machine.specs.Operations.{took_by}
+use Rattle.ea_machine.specs.Rows.{Answer, Got, Passes, Rests, Row, TakeLink, TakeTry}
+use Rattle.ea_machine.specs.Setup.{Setup}
+use Rattle.ea_machine.specs.Shared.{Shared}
+use Rattle.ea_machine.specs.Table.{answer}
+use Rattle.ea_machine.specs.Walks.{ready, with_passed, worked_off}
+use Rattle.ea_shared.specs.Calls.{Caller, Did}
+use Rattle.ea_sound.proofs.Calls as calls
+use Rattle.ea_sched.specs.declared.stage.Stage.TheVariants as stage
+use Rattle.ea_sched.specs.declared.state.Scheduler.{Scheduler}
+use Rattle.ea_sched.specs.Acting.{actor_of, setup_for, stage_of}
+use Rattle.ea_sched.specs.Asking.{HasMore, IsFresh, SuitsNext}
+use Rattle.ea_sched.specs.Steps.{DidRow, IsReady}
+use Rattle.ea_sched.specs.Walking.{CanAllGo, worked}
+use Rattle.ea_sched.proofs.Doing.{Answered, answered-so}
+use Rattle.ea_sched.proofs.Suiting.{goes-linked, goes-passed, suits-linked, suits-passed, suits-rests, suits-taken}
+
+-- something is left where a first one is
+left-more : {A : Type 0} (k : ℕ) (xs ys : List A) (x : A) → drop k xs ≡ x ∷ ys → k < length xs
+left-more zero [] ys x e = absurd cc
+left-more zero (y ∷ xs) ys x e = omega arith
+left-more (suc k) [] ys x e = absurd cc
+left-more (suc k) (y ∷ xs) ys x e = omega (arith, left-more k xs ys x e)
+
+-- how many schedulers there are, and which name is the greatest, is told by what is shared, too
+pub as-node : {n m k l : ℕ} (node : Node) → n ≡ m → k ≡ l → IsNode m l node → IsNode n k node
+as-node (Block name spot) same greatest is = omega (arith, is, greatest)
+as-node (Carrier number) same greatest is =
+    (is.0, omega (arith, is, ap (λ n. NUMBERS * n) same))
+
+module _ (e : Setup) (me : ℕ) where
+  -- nodes are worked off in place of those that were passed
+  worked-passed : (nodes passed : List Node) (a : Actor)
+      → worked_off e me nodes (record a { passed = passed }) ≡ worked_off e me nodes a
+  worked-passed [] passed a = refl
+  worked-passed (Block name spot ∷ nodes) passed a = refl
+  worked-passed (Carrier number ∷ nodes) passed a = refl
+
+  -- a try to take a name is the end of a step
+  pub onward-took : (name tries left : ℕ) (a : Actor) (found : Option Spot)
+      → onward e me (took_by name tries left a found) ≡ took_by name tries left (ready a) found
+  onward-took name tries left a (Some spot) = refl
+  onward-took name tries zero a None = refl
+  onward-took name tries (suc zero) a None = refl
+  onward-took name tries (suc (suc left)) a None = refl
+
+-- a scheduler that is ready for its row
+module _ (s : Scheduler) {shared : Option Shared} {caller : Option Caller}
+    (h : IsReady s shared caller) where
+  abbrev me : ℕ
+  me = s.number
+
+  abbrev e : Setup
+  e = setup_for s
+
+  abbrev a : Actor
+  a = actor_of s
+
+  number : IsScheduler s.config.schedulers me
+  number = (s.number_from, s.number_to)
+
+  in_state : (stage : Stage) → a.stage ≡ stage → (h.state.actors me).stage ≡ stage
+  in_state stage now = ap (λ (x : Actor). x.stage) h.actor ∙ now
+
+  -- what holds of what is shared in that state holds of it as it is told
+  told-so : (P : Shared → Type 0) → P h.state.shared → IfSome shared P
+  told-so P holds = if_some shared (λ x. x ≡ h.state.shared) P (λ x same. subst P (sym same) holds)
+      h.shares
+
+  -- where an operation is left in that state, one is left
+  more : (o : Op) (ops : List Op) → (h.state.actors me).todo ≡ o ∷ ops → HasMore s
+  more o ops first = left-more s.done s.text.now ops o
+      (sym (ap (λ (x : Actor). x.todo) h.actor) ∙ first)
+
+  -- the queue is to be taken: nothing is left of the walk before
+  pub take-walked : a.next ≡ None → IfSome shared (λ x. x.rests me ≡ [])
+  take-walked none = told-so (λ x. x.rests me ≡ [])
+      (calls.rest-none s.config s.trace.now h.config h.trace h.state h.reached me
+      (ap (λ (x : Actor). x.next) h.actor ∙ none))
+
+  -- it had no nodes
+  pub taken-suits : s.stage ≡ stage.Begin → s.next ≡ None → SuitsNext s.instance s
+  taken-suits begin none = suits-taken s h.config h.trace h.state h.reached h.actor begin none
+
+  -- the link of the walk's next node is to be read
+  module _ (node : Node) (next : s.next ≡ Some node) where
+    next-node : (first_node (h.state.shared.rests me) ≡ Some node)
+        × IsNode s.config.schedulers s.trace.now.greatest node
+    next-node = calls.next-node s.config s.trace.now h.config h.trace h.state h.reached me number
+        node (ap (λ (x : Actor). x.next) h.actor ∙ next)
+
+    pub pass-node : IsNode s.config.schedulers s.trace.now.greatest node
+    pass-node = next-node.1
+
+    pub pass-next : IfSome shared (λ x. first_node (x.rests me) ≡ Some node)
+    pass-next = told-so (λ x. first_node (x.rests me) ≡ Some node) next-node.0
+
+  -- a node is to be pushed
+  module _ (node : Node) (to : ℕ) (why : Why) (gone : Gone)
+      (now : a.stage ≡ Routed (Pushing node to) why gone) where
+    pub push-target : IsScheduler s.config.schedulers to
+    push-target = (calls.push-target s.config s.trace.now h.config h.trace h.state h.reached me
+        number node to why gone (in_state (Routed (Pushing node to) why gone) now)).0
+
+    pub push-node : IsNode s.config.schedulers s.trace.now.greatest node
+    push-node = calls.push-node s.config s.trace.now h.config h.trace h.state h.reached me number
+        node to why gone (in_state (Routed (Pushing node to) why gone) now)
+
+    pub push-nowhere : IfSome shared (HasNoAlike node)
+    push-nowhere = told-so (HasNoAlike node)
+        (calls.push-no_alike s.config s.trace.now h.config h.trace h.state h.reached me number node
+        to why gone (in_state (Routed (Pushing node to) why gone) now))
+
+  -- a node is to be linked
+  module _ (node : Node) (to : ℕ) (why : Why) (gone : Gone)
+      (now : a.stage ≡ Routed (Linking node to) why gone) where
+    pub link-target : IsScheduler s.config.schedulers to
+    link-target = calls.link-target s.config s.trace.now h.config h.trace h.state h.reached me
+        number node to why gone (in_state (Routed (Linking node to) why gone) now)
+
+    pub link-node : IsNode s.config.schedulers s.trace.now.greatest node
+    link-node = calls.link-node s.config s.trace.now h.config h.trace h.state h.reached me number
+        node to why gone (in_state (Routed (Linking node to) why gone) now)
+
+    pub link-unlinked : IfSome shared (IsUnlinkedAt node to)
+    link-unlinked = told-so (IsUnlinkedAt node to)
+        (calls.link-unlinked s.config s.trace.now h.config h.trace h.state h.reached me number node
+        to why gone (in_state (Routed (Linking node to) why gone) now))
+
+  -- the walk to which it belonged is to go on
+  module _ (node : Node) (to : ℕ) (gone : Gone)
+      (now : a.stage ≡ Routed (Linking node to) Walk gone) where
+    pub linked-can : CanAllGo me s.instance s.passed.nodes
+    linked-can = goes-linked s h.config h.trace h.state h.reached h.actor node to gone now
+
+    pub linked-suits : (worked me s.instance s.passed.nodes).hand ≡ None
+        → SuitsNext (worked me s.instance s.passed.nodes).instance s
+    linked-suits = suits-linked s h.config h.trace h.state h.reached h.actor node to gone now
+
+  -- the operation whose block is on its route is left
+  pub task-more : (route : Route) (task : Task) (gone : Gone)
+      → a.stage ≡ Routed route (For task) gone → HasMore s
+  task-more route task gone now =
+      let first = calls.task-first s.config s.trace.now h.config h.trace h.state h.reached me number
+      route task gone (in_state (Routed route (For task) gone) now) in
+      more first.0 first.1 first.2
+
+  -- a name is to be given
+  module _ (given : Named) (to : ℕ) (now : a.stage ≡ Giving given to) where
+    pub give-name : (1 ≤ given.name) × (given.name ≤ s.trace.now.greatest)
+    give-name = calls.give-name s.config s.trace.now h.config h.trace h.state h.reached me number
+        given to (in_state (Giving given to) now)
+
+    pub give-fresh : IfSome shared (λ x. spot_named given.name x.given ≡ None)
+    give-fresh = told-so (λ x. spot_named given.name x.given ≡ None)
+        (calls.give-free s.config s.trace.now h.config h.trace h.state h.reached me number given to
+        (in_state (Giving given to) now))
+
+    pub give-more : HasMore s
+    give-more =
+        let first = calls.give-first s.config s.trace.now h.config h.trace h.state h.reached me
+        number given to (in_state (Giving given to) now) in
+        more _ first.0 first.1
+
+  -- a name is to be taken
+  module _ (name tries left : ℕ) (now : a.stage ≡ Taking name tries left) where
+    pub take-name : (1 ≤ name) × (name ≤ s.trace.now.greatest)
+    take-name = calls.take-name s.config s.trace.now h.config h.trace h.state h.reached me number
+        name tries left (in_state (Taking name tries left) now)
+
+    pub take-more : HasMore s
+    take-more =
+        let first = calls.take-first s.config s.trace.now h.config h.trace h.state h.reached me
+        number name tries left (in_state (Taking name tries left) now) in
+        more _ first.0 first.1
+
+  -- a row was answered
+  module _ {new : Option Shared} {now : Option Caller} where
+    in-answered : (row : Row) (got : Answer) → Did me row got shared new caller now
+        → Answered e me a row got shared
+    in-answered row got did = answered-so s.config s.trace.now me a row got shared new caller now h
+        did
+
+    -- the scheduler has gone on by the answer
+    pub row-done : {t : Scheduler} (row : Row) (got : Answer) (stage : Stage) → a.stage ≡ stage
+        → wants_at a.next stage ≡ row → Did me row got shared new caller now
+        → actor_of t ≡ onward e me (after_row e me a got stage)
+        → DidRow s t shared new caller now
+    row-done row got stage at want did is = record {
+      row = row;
+      got = got;
+      wanted = ap (wants_at a.next) at ∙ want;
+      did = did;
+      is = is ∙ sym (ap (λ x. onward e me (after_row e me a got x)) at);
+    }
+
+    -- the walk's next node isn't linked
+    pub rests-suits : (node : Node) → s.stage ≡ stage.Begin → s.next ≡ Some node
+        → Did me TakeLink Rests shared new caller now → SuitsNext s.instance s
+    rests-suits node begin next did =
+        let u = in-answered TakeLink Rests did in
+        suits-rests s h.config h.trace u.state u.reached u.actor node begin next (sym u.answered)
+
+    -- it was passed
+    module _ (node : Node) (begin : s.stage ≡ stage.Begin) (next : s.next ≡ Some node)
+        (nodes : List Node) (are : nodes ≡ node ∷ s.passed.nodes) where
+      -- and is the oldest one
+      module _ (did : Did me TakeLink (Passes None) shared new caller now) where
+        u : Answered e me a TakeLink (Passes None) shared
+        u = in-answered TakeLink (Passes None) did
+
+        pub passed-can : CanAllGo me s.instance nodes
+        passed-can = subst (CanAllGo me s.instance) (sym are)
+            (goes-passed s h.config h.trace u.state u.reached u.actor node None begin next
+            (sym u.answered))
+
+        pub passed-suits : (worked me s.instance nodes).hand ≡ None
+            → SuitsNext (worked me s.instance nodes).instance s
+        passed-suits = subst (λ ns. (worked me s.instance ns).hand ≡ None
+            → SuitsNext (worked me s.instance ns).instance s) (sym are)
+            (suits-passed s h.config h.trace u.state u.reached u.actor node None begin next
+            (sym u.answered))
+
+        ended-is : worked_off e me nodes (record a { passed = nodes; next = None })
+            ≡ after_row e me a (Passes None) Begin
+        ended-is = worked-passed e me nodes nodes (record a { next = None })
+            ∙ ap (λ ns. worked_off e me ns (record a { next = None }))
+            (are ∙ sym (ap (λ o. with_passed o s.passed.nodes) next))
+
+        pub passed-ended : {t : Scheduler} → actor_of t ≡ onward e me
+            (worked_off e me nodes (record a { passed = nodes; next = None }))
+            → DidRow s t shared new caller now
+        passed-ended is = row-done TakeLink (Passes None) Begin (ap stage_of begin)
+            (ap begins next) did (is ∙ ap (onward e me) ended-is)
+
+      -- an older one is next
+      pub passed-next : {t : Scheduler} (older : Node)
+          → Did me TakeLink (Passes (Some older)) shared new caller now
+          → actor_of t ≡ record a { passed = nodes; next = Some older }
+          → DidRow s t shared new caller now
+      passed-next older did is = row-done TakeLink (Passes (Some older)) Begin
+          (ap stage_of begin) (ap begins next) did
+          (is
+          ∙ ap (λ stage. record a { stage = stage; passed = nodes; next = Some older })
+          (ap stage_of begin)
+          ∙ ap (λ ns. record a { stage = Begin; passed = ns; next = Some older })
+          (are ∙ sym (ap (λ o. with_passed o s.passed.nodes) next)))
+
+    -- a name was taken
+    pub take-fresh : (name tries left : ℕ) (found : Option Spot)
+        → a.stage ≡ Taking name tries left
+        → Did me (TakeTry name) (Got found) shared new caller now → IsSome found → IsFresh s name
+    unfolding answer
+    take-fresh name tries left found at did is =
+        let u = in-answered (TakeTry name) (Got found) did in
+        let there = some_value found is in
+        record {
+          place = omega (arith, take-name name tries left at, s.names_upto);
+          fresh = sym (ap (λ (x : Actor). spot_named name x.held) u.actor)
+              ∙ calls.given-held s.config s.trace.now h.config h.trace u.state u.reached me number
+              name there.0
+              (let same : found ≡ spot_named name u.state.shared.given = cc in
+              sym same ∙ there.1);
+        }

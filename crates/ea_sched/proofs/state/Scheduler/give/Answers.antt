@@ -1,0 +1,31 @@
+use Rattle.std.proofs.Common.{refl, ap, arith}
+use Rattle.ea_machine.specs.Actor.{Giving}
+use Rattle.ea_machine.specs.Rows.{Done, Give}
+use Rattle.ea_sched.specs.Acting.{stage_of}
+use Rattle.ea_sched.proofs.Calling.{give-fresh, give-more, give-name, row-done}
+use Rattle.ea_sched.proofs.state.Scheduler.give.Goals as goal
+
+pub give-requires-clause-name : goal.give-requires-clause-name
+give-requires-clause-name g c =
+    let name = give-name c.args.self.now c.requires.ready c.args.given c.args.to
+    (ap stage_of c.requires.stage) in
+    omega (arith, name, c.requires.greatest)
+
+pub give-requires-clause-fresh : goal.give-requires-clause-fresh
+give-requires-clause-fresh g c = give-fresh c.args.self.now c.requires.ready c.args.given c.args.to
+    (ap stage_of c.requires.stage)
+
+pub gave-requires-clause-more : goal.gave-requires-clause-more
+gave-requires-clause-more g c = give-more c.args.self.now c.requires.ready c.args.given c.args.to
+    (ap stage_of c.requires.stage)
+
+pub gave-requires-clause-name : goal.gave-requires-clause-name
+gave-requires-clause-name g c =
+    let s = c.args.self.now in
+    let name = give-name s c.requires.ready c.args.given c.args.to (ap stage_of c.requires.stage) in
+    omega (arith, name, s.names_upto)
+
+pub returns-clause-row : goal.returns-clause-row
+returns-clause-row g c = row-done c.args.self.now c.requires.ready (Give c.args.given) Done
+    (Giving c.args.given c.args.to) (ap stage_of c.requires.stage) refl c.give.ensures.row
+    c.gave.ensures.actor

@@ -1,0 +1,22 @@
+use Rattle.std.proofs.Common.{sym, ◌∙◌}
+use Rattle.ea_sched.specs.Acting.{actor_of}
+use Rattle.ea_sched.proofs.Acts.{went}
+use Rattle.ea_sched.proofs.Doing.{ended-stepped, row-stepped, stage-ends}
+use Rattle.ea_sched.proofs.state.Scheduler.step.Goals as goal
+
+pub returns-then-ended-clause-step : goal.returns-then-ended-clause-step
+returns-then-ended-clause-step g c =
+    let s = c.args.self.now in
+    ended-stepped s.config s.trace.now s.number (actor_of s) (g.S.Shared.shared c.args.shared.now)
+    (g.S.Shared.caller c.args.shared.now) (c.requires.ready c.if-self.false)
+    (stage-ends s.stage (sym c.ended.ensures ∙ c.if-ended.true))
+
+pub returns-clause-step : goal.returns-clause-step
+returns-clause-step g c =
+    let s = c.args.self.now in
+    row-stepped s c.advance.new.self (actor_of c.observe.new.self)
+    (g.S.Shared.shared c.args.shared.now) (g.S.Shared.shared c.advance.new.shared)
+    (g.S.Shared.caller c.args.shared.now) (g.S.Shared.caller c.advance.new.shared)
+    (c.requires.ready c.if-self.false) (sym c.ended.ensures ∙ c.if-ended.false)
+    (went c.advance.result c.advance.ensures.row c.if-is_err.ensures.value)
+    c.observe.ensures.actor
