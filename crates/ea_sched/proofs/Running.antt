@@ -1,15 +1,13 @@
--- A scheduler takes its turns on plain memory.
-use Rattle.std.proofs.Common.{◌≡◌, ◌≢◌, ℕ, zero, suc, ◌<◌, ◌≤◌, length, ◌++◌, true, false, ◌&&◌, List, [], inl, inr, refl, sym, ap, subst, ◌∙◌, arith}
-use Rattle.std.specs.Prelude.{None, Some}
+-- Schedulers take their turns on plain memory.
+use Rattle.std.proofs.Common.{◌≡◌, ◌≢◌, ℕ, zero, suc, ◌+◌, ◌-◌, ◌<◌, ◌≤◌, length, true, false, ◌&&◌, List, [], ◌∷◌, inl, inr, refl, sym, ap, subst, ◌∙◌, arith}
+use Rattle.std.specs.Prelude.{None, Some, replicate}
 use Rattle.std.proofs.Math.Path.{fun_ext}
-use Rattle.std.proofs.Common.{Bor}
+use Rattle.std.proofs.lemmas.List.{replicate-append-replicate}
 use Rattle.ea_model.specs.declared.settings.Config.{Config}
 use Rattle.ea_model.specs.declared.trace.Trace.{Trace}
-use Rattle.ea_model.specs.Settings.{IsValidConfig}
-use Rattle.ea_model.specs.Trace.{IsValidTrace}
 use Rattle.ea_machine.specs.Actor.{Actor, Ended}
 use Rattle.ea_machine.specs.Completion.{actor_rows, ending, finishing, work}
-use Rattle.ea_machine.specs.Machine.{IsReached, after_row, is_main, onward, place_by, run_on, start, step, wants}
+use Rattle.ea_machine.specs.Machine.{after_row, is_main, onward, place_by, run_on, start, step, wants}
 use Rattle.ea_machine.specs.Owners.{CarrierAt, owner_of}
 use Rattle.ea_machine.specs.Setup.{Setup, migration, setup_of}
 use Rattle.ea_machine.specs.Shared.{Shared}
@@ -19,13 +17,12 @@ use Rattle.ea_machine.specs.Table.{answer, effect}
 use Rattle.ea_sound.proofs.Asked.{reached-rule}
 use Rattle.ea_sound.proofs.Completing.{ending-none, ending-one, reached-step, rule-less}
 use Rattle.ea_sound.proofs.TurnLists.{ended-or, run-append, step-ended, step-mine, step-shared}
-use Rattle.ea_shared.specs.declared.mem.MemShared.{MemShared}
-use Rattle.ea_shared.specs.Memory.{nothing_shared}
+use Rattle.ea_shared.specs.Memory.{Sharing, nothing_shared, shared_of}
 use Rattle.ea_sched.specs.declared.state.Scheduler.{Scheduler}
 use Rattle.ea_sched.specs.declared.stage.Stage.{Stage}
 use Rattle.ea_sched.specs.declared.stage.Stage.TheVariants as code
-use Rattle.ea_sched.specs.Acting.{actor_of, is_ended, setup_for, stage_of}
-use Rattle.ea_sched.specs.Running.{IsSameRun, LeadsTo, StandsAt, Took}
+use Rattle.ea_sched.specs.Acting.{actor_of, is_ended, stage_of}
+use Rattle.ea_sched.specs.Running.{LeadsTo, SharesAt, Stands, StandsAt, Took, alone_in, work_left}
 use Rattle.ea_sched.specs.Steps.{Ready, Stepped}
 
 -- where carriers don't migrate nothing is shared at the start
@@ -61,135 +58,165 @@ module _ (e : Setup) (me : ℕ) (v w : State) (same : v.actors me ≡ w.actors m
         )
   ]
 
--- the same run
-pub same-first : (s : Scheduler) → IsSameRun s s
-same-first s = record { config = refl; trace = refl; number = refl }
-
-pub same-back : (s t : Scheduler) → IsSameRun s t → IsSameRun t s
-same-back s t same = record {
-  config = sym same.config;
-  trace = sym same.trace;
-  number = sym same.number;
-}
-
-pub same-on : (s t u : Scheduler) → IsSameRun s t → IsSameRun t u → IsSameRun s u
-same-on s t u a b = record {
-  config = b.config ∙ a.config;
-  trace = b.trace ∙ a.trace;
-  number = b.number ∙ a.number;
-}
-
 -- it hasn't ended, or it has
 pub going-stage : (st : Stage) → is_ended st ≡ false → stage_of st ≢ Ended
 going-stage code.Begin e = λ f. absurd cc
+going-stage (code.Routed route why gone) e = λ f. absurd cc
+going-stage (code.Giving given to) e = λ f. absurd cc
+going-stage (code.Taking name tries left) e = λ f. absurd cc
 going-stage code.Ended e = absurd cc
 
 pub ended-stage : (st : Stage) → is_ended st ≡ true → stage_of st ≡ Ended
 ended-stage code.Begin e = absurd cc
+ended-stage (code.Routed route why gone) e = absurd cc
+ended-stage (code.Giving given to) e = absurd cc
+ended-stage (code.Taking name tries left) e = absurd cc
 ended-stage code.Ended e = refl
 
--- what holds of the same run
-pub as-same : (s t : Scheduler) → IsSameRun s t → (P : Config → Trace → Type 0)
-    → P s.config s.trace.now → P t.config t.trace.now
-as-same s t same P p = subst (λ c. P c t.trace.now) (sym same.config)
-    (subst (λ (x : Bor Trace). P s.config x.now) (sym same.trace) p)
+-- turns of a scheduler that has ended change nothing
+ended-stays : (e : Setup) (me : ℕ) (w : State) (n : ℕ) → (w.actors me).stage ≡ Ended
+    → run_on e w (replicate n me) ≡ w
+ended-stays e me w zero ended = refl
+ended-stays e me w (suc n) ended = ap (λ v. run_on e v (replicate n me)) (step-ended e w me ended)
+    ∙ ended-stays e me w n ended
 
-pub as-run : (s t : Scheduler) → IsSameRun s t → (P : Setup → ℕ → Type 0)
-    → P (setup_for t) t.number → P (setup_for s) s.number
-as-run s t same P p = subst (P (setup_for s)) same.number
-    (subst (λ (x : Bor Trace). P (setup_of s.config x.now) t.number) same.trace
-    (subst (λ c. P (setup_of c t.trace.now) t.number) same.config p))
+-- one more turn of it
+run-last : (e : Setup) (me : ℕ) (w : State) (n : ℕ)
+    → run_on e w (replicate (n + 1) me) ≡ step e (run_on e w (replicate n me)) me
+run-last e me w n = ap (run_on e w) (sym (replicate-append-replicate n 1 me))
+    ∙ run-append e w (replicate n me) (me ∷ [])
 
-module _ {C : Type 0} where
-  -- a scheduler that stands in a state is ready for its step
-  pub stands-ready : (s : Scheduler) (m : MemShared C) (w : State) → StandsAt s m w
-      → Ready s.config s.trace.now s.number (actor_of s) (Some nothing_shared) None
-  stands-ready s m w at = record {
-    config = at.config;
-    trace = at.trace;
-    state = w;
-    reached = at.reached;
-    actor = at.actor;
-    shares = at.shares;
-    calls = tt;
-    told = inl refl;
-  }
+-- as many as there are, once it has ended
+run-all : (e : Setup) (me : ℕ) (w : State) (n count : ℕ) → n ≤ count
+    → ((run_on e w (replicate n me)).actors me).stage ≡ Ended
+    → run_on e w (replicate count me) ≡ run_on e w (replicate n me)
+run-all e me w n count upto ended =
+    let v = run_on e w (replicate n me) in
+    let rest = count - n in
+    let parts : n + rest ≡ count = omega (arith, upto) in
+    ap (λ k. run_on e w (replicate k me)) (sym parts)
+    ∙ ap (run_on e w) (sym (replicate-append-replicate n rest me))
+    ∙ run-append e w (replicate n me) (replicate rest me) ∙ ended-stays e me v rest ended
 
-  -- and stands in the next one after it
-  pub stepped-stands : (s t : Scheduler) (m n : MemShared C) (w : State) → StandsAt s m w
-      → IsSameRun s t → n.schedulers ≡ m.schedulers → n.greatest ≡ m.greatest
-      → t.failed ≡ false
-      → Stepped s.config s.trace.now s.number (actor_of s) (actor_of t) (Some nothing_shared)
-      (Some nothing_shared) None None → StandsAt t n (step (setup_for s) w s.number)
-  stepped-stands s t m n w at same made names going took =
-      let e = setup_for s in
-      let v = step e w s.number in
-      let alike = step-alike e s.number took.state w (took.actor ∙ sym at.actor)
-      (sym took.shares.0 ∙ at.shares) in
-      let became : nothing_shared ≡ (step e took.state s.number).shared = cc in
-      record {
-        config = subst IsValidConfig (sym same.config) at.config;
-        trace = as-same s t same (λ c x. IsValidTrace c.schedulers x) at.trace;
-        going = going;
-        made = made ∙ at.made ∙ sym (ap (λ (c : Config). c.schedulers) same.config);
-        names = names ∙ at.names ∙ sym (ap (λ (x : Bor Trace). x.now.greatest) same.trace);
-        reached = as-same s t same (λ c x. IsReached (setup_of c x) v)
-            (reached-step e w s.number at.reached);
-        actor = ap v.actors same.number ∙ sym alike.0 ∙ sym took.is;
-        shares = became ∙ alike.1;
-      }
+-- a scheduler that stands in a state of a run
+module _ (c : Config) (t : Trace) (me : ℕ) (s : Scheduler) (w : State)
+    (at : StandsAt c t me s w) where
+  -- what holds of the run holds of that of the scheduler, and the other way round
+  pub as-run : (P : Config → Trace → ℕ → Type 0) → P c t me → P s.config s.trace.now s.number
+  as-run P p = subst (P s.config s.trace.now) (sym at.number)
+      (subst (λ x. P s.config x me) (sym at.trace) (subst (λ x. P x t me) (sym at.config) p))
 
-  -- it has the work of the operations that are left
-  pub work-left : (s : Scheduler) (m : MemShared C) (w : State) → StandsAt s m w
-      → work (setup_for s) w s.number ≡ actor_rows (setup_for s) (actor_of s)
-  work-left s m w at =
-      let queue = ap (λ (x : Shared). length (x.queues s.number)) (sym at.shares) in
-      let rest = ap (λ (x : Shared). length (x.rests s.number)) (sym at.shares) in
-      omega (arith, queue, rest, ap (actor_rows (setup_for s)) at.actor)
+  pub of-run : (P : Config → Trace → ℕ → Type 0) → P s.config s.trace.now s.number → P c t me
+  of-run P p = subst (λ x. P x t me) at.config
+      (subst (λ x. P s.config x me) at.trace (subst (P s.config s.trace.now) at.number p))
 
-  pub stands-going : (s : Scheduler) (m : MemShared C) (w : State) → StandsAt s m w
-      → is_ended s.stage ≡ false → (w.actors s.number).stage ≢ Ended
-  stands-going s m w at e =
+  pub stands-going : is_ended s.stage ≡ false → (w.actors me).stage ≢ Ended
+  stands-going e =
       λ ended. going-stage s.stage e (ap (λ (a : Actor). a.stage) (sym at.actor) ∙ ended)
 
-  -- a step leaves it less work
-  pub stands-less : (s : Scheduler) (m : MemShared C) (w : State) → StandsAt s m w
-      → (w.actors s.number).stage ≢ Ended
-      → work (setup_for s) (step (setup_for s) w s.number) s.number
-      < work (setup_for s) w s.number
-  stands-less s m w at going = rule-less (setup_for s) w s.number
-      (reached-rule s.config s.trace.now at.config at.trace w at.reached) going
+  pub stands-ended : is_ended s.stage ≡ true → (w.actors me).stage ≡ Ended
+  stands-ended e = ap (λ (a : Actor). a.stage) at.actor ∙ ended-stage s.stage e
 
-  pub turn-less : (s t : Scheduler) (m n : MemShared C) (w : State) → StandsAt s m w
-      → IsSameRun s t → (w.actors s.number).stage ≢ Ended
-      → StandsAt t n (step (setup_for s) w s.number)
-      → actor_rows (setup_for t) (actor_of t) < actor_rows (setup_for s) (actor_of s)
-  turn-less s t m n w at same going now =
-      let e = setup_for s in
-      let v = step e w s.number in
-      let less = stands-less s m w at going in
-      let left : work e v s.number ≡ actor_rows (setup_for t) (actor_of t) =
-      as-run s t same (λ u k. work u v k ≡ actor_rows (setup_for t) (actor_of t))
-      (work-left t n v now) in
-      omega (arith, less, left, work-left s m w at)
+  module _ (m : Sharing) (shares : SharesAt c t m w) where
+    -- it is ready for its step
+    pub stands-ready : Ready s.config s.trace.now s.number (actor_of s) (Some (shared_of m)) None
+    stands-ready = as-run (λ d u k. Ready d u k (actor_of s) (Some (shared_of m)) None)
+        (record {
+          config = shares.config;
+          trace = shares.trace;
+          state = w;
+          reached = shares.reached;
+          actor = at.actor;
+          shares = shares.shares;
+          calls = tt;
+          told = inl refl;
+        })
 
-module _ {C : Type 0} where
-  -- turns after turns
-  pub took-both : (s t u : Scheduler) (m n p : MemShared C) (first then : List ℕ)
-      → IsSameRun s t → Took (λ w. first) s m t n
-      → Took (λ w. then) t n u p → Took (λ w. first ++ then) s m u p
-  took-both s t u m n p first then same a b w at =
-      let v = run_on (setup_for s) w first in
-      subst (StandsAt u p)
-      (as-run s t same (λ e k. run_on (setup_for t) v then ≡ run_on e v then) refl
-      ∙ sym (run-append (setup_for s) w first then))
-      (b v (a w at))
+    -- and stands in the next state after it
+    pub stepped-stands : (u : Scheduler) (n : Sharing) → u.config ≡ s.config
+        → u.trace ≡ s.trace → u.number ≡ s.number
+        → n.schedulers ≡ m.schedulers → n.greatest ≡ m.greatest
+        → u.failed ≡ false
+        → Stepped s.config s.trace.now s.number (actor_of s) (actor_of u) (Some (shared_of m))
+        (Some (shared_of n)) None None
+        → (let v = step (setup_of c t) w me in SharesAt c t n v × StandsAt c t me u v)
+    stepped-stands u n config trace number made names going stepped =
+        let e = setup_of c t in
+        let v = step e w me in
+        let took = of-run (λ d x k. Stepped d x k (actor_of s) (actor_of u) (Some (shared_of m))
+        (Some (shared_of n)) None None) stepped in
+        let alike = step-alike e me took.state w (took.actor ∙ sym at.actor)
+        (sym took.shares.0 ∙ shares.shares) in
+        let became : shared_of n ≡ (step e took.state me).shared = cc (took.shares.1) in (
+          record {
+            config = shares.config;
+            trace = shares.trace;
+            made = made ∙ shares.made;
+            names = names ∙ shares.names;
+            reached = reached-step e w me shares.reached;
+            shares = became ∙ alike.1;
+          },
+          record {
+            config = config ∙ at.config;
+            trace = ap (λ x. x.now) trace ∙ at.trace;
+            number = number ∙ at.number;
+            going = going;
+            actor = sym alike.0 ∙ sym took.is;
+          },
+        )
 
-  -- the same turns
-  pub took-as : (s t : Scheduler) (m n : MemShared C) (turns also : List ℕ)
-      → turns ≡ also → Took (λ w. turns) s m t n
-      → Took (λ w. also) s m t n
-  took-as s t m n turns also e = subst (λ (xs : List ℕ). Took (λ w. xs) s m t n) e
+    -- it has the work that is left in the state
+    pub work-is : work (setup_of c t) w me ≡ work_left s m
+    work-is =
+        let queues = ap (λ (x : Shared). length (x.queues me)) shares.shares in
+        let rests = ap (λ (x : Shared). length (x.rests me)) shares.shares in
+        let own : work (setup_of c t) w me ≡ work (setup_of c t) (alone_in s m) me =
+        omega (arith, queues, rests, ap (actor_rows (setup_of c t)) at.actor) in
+        own ∙ as-run (λ d x k. work (setup_of c t) (alone_in s m) me
+        ≡ work (setup_of d x) (alone_in s m) k) refl
+
+    -- a step leaves it less
+    pub stands-less : (w.actors me).stage ≢ Ended
+        → work (setup_of c t) (step (setup_of c t) w me) me < work (setup_of c t) w me
+    stands-less going = rule-less (setup_of c t) w me
+        (reached-rule c t shares.config shares.trace w shares.reached) going
+
+-- what a scheduler has taken
+module _ (s u : Scheduler) (m n : Sharing) where
+  -- it stands after its turns
+  pub took-stands : (turns : Setup → State → ℕ → List ℕ) → Stands s m → Took turns s m u n
+      → Stands u n
+  took-stands turns h took =
+      let (c, t, me, w, shares, at) = h in
+      let e = setup_of c t in
+      let then = took c t me w shares at in
+      (c, t, me, run_on e w (turns e w me), then.0, then.1)
+
+  -- turns of a scheduler, and one more
+  pub took-more : (k : ℕ) (x : Scheduler) (p : Sharing)
+      → Took (λ e w me. replicate k me) s m u n → Took (λ e w me. me ∷ []) u n x p
+      → Took (λ e w me. replicate (k + 1) me) s m x p
+  took-more k x p before one c t me w shares at =
+      let e = setup_of c t in
+      let v = run_on e w (replicate k me) in
+      let then = before c t me w shares at in
+      let last = one c t me v then.0 then.1 in
+      subst (λ y. SharesAt c t p y × StandsAt c t me x y) (sym (run-last e me w k)) last
+
+  -- the rest of the turns of one that has ended
+  pub took-all : (k count : ℕ) → k ≤ count → is_ended u.stage ≡ true
+      → Took (λ e w me. replicate k me) s m u n → Took (λ e w me. replicate count me) s m u n
+  took-all k count upto ended before c t me w shares at =
+      let e = setup_of c t in
+      let v = run_on e w (replicate k me) in
+      let then = before c t me w shares at in
+      subst (λ y. SharesAt c t n y × StandsAt c t me u y)
+      (sym (run-all e me w k count upto (stands-ended c t me u v then.1 ended))) then
+
+  -- that many turns
+  pub took-count : (k count : ℕ) → k ≡ count → Took (λ e w me. replicate k me) s m u n
+      → Took (λ e w me. replicate count me) s m u n
+  took-count k count same = subst (λ i. Took (λ e w me. replicate i me) s m u n) same
 
 -- the run of a scheduler to its end
 module _ (e : Setup) (me : ℕ) where

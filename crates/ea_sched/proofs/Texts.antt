@@ -1,6 +1,5 @@
 -- The texts of a trace whose run is built.
-use Rattle.std.proofs.Common.{◌≡◌, ℕ, zero, suc, ◌+◌, ◌-◌, ◌<◌, ◌≤◌, Bool, true, false, ◌&&◌, ◌==◌, nat_lt, List, [], ◌∷◌, map, drop, length, slice_index_or, refl, sym, ap, ◌∙◌, arith}
-use Rattle.std.specs.List.{list_all}
+use Rattle.std.proofs.Common.{◌≡◌, ℕ, zero, suc, ◌+◌, ◌-◌, ◌<◌, ◌≤◌, Bool, true, false, ◌&&◌, nat_lt, List, [], ◌∷◌, map, drop, length, slice_index_or, refl, sym, ap, ◌∙◌, arith}
 use Rattle.std.proofs.lemmas.Bool.{eqb-true}
 use Rattle.ea_model.specs.declared.operations.Op.{Op}
 use Rattle.ea_model.specs.declared.settings.Config.{Config}
@@ -12,24 +11,7 @@ use Rattle.ea_model.specs.Settings.{settings_of}
 use Rattle.ea_model.specs.Trace.{HasTexts, IsValidTrace, texts_of}
 use Rattle.ea_machine.specs.Setup.{migration, setup_of, text_for}
 use Rattle.ea_machine.specs.Tasks.{later}
-use Rattle.ea_sched.specs.Built.{is_built, is_built_config, is_built_mode, is_built_run}
-
-if_last : (b : Bool) → (b && false) ≡ false
-if_last true = refl
-if_last false = refl
-
--- one text that isn't built
-pub all_built-stop : (texts : List (Items Op)) (i : ℕ) (text : Items Op) → i < length texts
-    → text ≡ slice_index_or texts i text → list_all is_built text.items ≡ false
-    → list_all (list_all is_built) (map (λ t. t.items) texts) ≡ false
-all_built-stop [] i text h e f = absurd (omega (arith, h))
-all_built-stop (t ∷ texts) zero text h e f =
-    ap (λ (x : Items Op). list_all is_built x.items
-    && list_all (list_all is_built) (map (λ u. u.items) texts)) (sym e)
-    ∙ ap (λ b. b && list_all (list_all is_built) (map (λ u. u.items) texts)) f
-all_built-stop (t ∷ texts) (suc i) text h e f =
-    ap (λ b. list_all is_built t.items && b) (all_built-stop texts i text (omega (arith, h)) e f)
-    ∙ if_last (list_all is_built t.items)
+use Rattle.ea_sched.specs.Built.{is_built_config, is_built_mode, is_built_run}
 
 texts_many : (n : ℕ) (m : Mode) (texts : List (List Op)) → is_built_mode m ≡ true
     → HasTexts n m texts
@@ -42,13 +24,16 @@ length-texts : (texts : List (Items Op)) → length (map (λ t. t.items) texts) 
 length-texts [] = refl
 length-texts (t ∷ texts) = ap suc (length-texts texts)
 
-second_of : (a b c : Bool) → (a && (b && c)) ≡ true → b ≡ true
-second_of true true c e = refl
-second_of true false c e = e
-second_of false b c e = absurd cc
+first_of : (a b : Bool) → (a && b) ≡ true → a ≡ true
+first_of true b e = refl
+first_of false b e = absurd cc
+
+last_of : (a b : Bool) → (a && b) ≡ true → b ≡ true
+last_of true b e = e
+last_of false b e = absurd cc
 
 pub mode-built : (c : Config) (t : Trace) → is_built_run c t ≡ true → is_built_mode t.mode ≡ true
-mode-built c t e = second_of _ (is_built_mode t.mode) _ e
+mode-built c t e = last_of (is_built_config c t.letter) (is_built_mode t.mode) e
 
 -- each scheduler has a text
 pub texts-many : (c : Config) (t : Trace) → is_built_run c t ≡ true → IsValidTrace c.schedulers t
@@ -81,29 +66,10 @@ drop-later k ops = let e : k + 1 ≡ suc k = omega arith in ap (λ n. drop n ops
     by (suc k) [] = refl
     by (suc k) (o ∷ ops) = by k ops
 
-first_of : (a b : Bool) → (a && b) ≡ true → a ≡ true
-first_of true b e = refl
-first_of false b e = absurd cc
-
-last_of : (a b : Bool) → (a && b) ≡ true → b ≡ true
-last_of true b e = e
-last_of false b e = absurd cc
-
 -- carriers don't migrate
 pub off-built : (c : Config) (t : Trace) → is_built_run c t ≡ true
     → migration (setup_of c t) ≡ false
 off-built c t e = let acul : (settings_of c t.letter).acul ≡ 0 =
     eqb-true (settings_of c t.letter).acul 0
-    (last_of (c.schedulers == 1) _ (first_of (is_built_config c t.letter) _ e)) in
+    (first_of (is_built_config c t.letter) (is_built_mode t.mode) e) in
     ap (λ n. nat_lt 0 n) acul
-
--- and there is one scheduler
-pub one-built : (c : Config) (t : Trace) → is_built_run c t ≡ true → c.schedulers ≡ 1
-one-built c t e = eqb-true c.schedulers 1
-    (first_of (c.schedulers == 1) _ (first_of (is_built_config c t.letter) _ e))
-
--- all operations are built
-pub texts-built : (c : Config) (t : Trace) → is_built_run c t ≡ true
-    → list_all (list_all is_built) (texts_of t) ≡ true
-texts-built c t e = last_of (is_built_mode t.mode) _
-    (last_of (is_built_config c t.letter) _ e)

@@ -1,4 +1,4 @@
-//! One scheduler: an operation as atomic steps, and the run of a given schedule.
+//! Schedulers: an operation as atomic steps, and the run of a given schedule.
 #![tactic(auto)]
 
 mod built;
@@ -18,8 +18,8 @@ mod walks;
 
 pub use built::is_built;
 pub use outcome::outcome_of;
-pub use run::run_given;
 pub use passed::Passed;
+pub use run::run_given;
 pub use stage::{Route, Stage};
 pub use state::Scheduler;
 pub use step::Progress;

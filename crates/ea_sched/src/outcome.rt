@@ -10,8 +10,8 @@ ghost use Rattle.ea_sched.specs.Built.{is_built_run};
 ghost use Rattle.ea_sched.specs.Resting.{AreGiven, HaveParts, IsOutcome, Stand, all_live, count_employed, sum_employed, totals_by, units_named};
 ghost use Rattle.ea_sched.specs.Resting as resting;
 
-use crate::units::{units_at, units_held};
 use crate::state::Scheduler;
+use crate::units::{units_at, units_held};
 use ea_instance::Instance;
 use ea_mbc::Mbc;
 use ea_model::{

@@ -1,16 +1,16 @@
 //! The run of a trace that has a schedule.
-ghost use Rattle.std.specs.Prelude.{◌≡◌, true, [], ◌∷◌, IfOk, OnOk, All, flat_map, replicate};
+ghost use Rattle.std.specs.Prelude.{◌≡◌, ◌+◌, ◌<◌, true, [], ◌∷◌, IfOk, OnOk, All, flat_map, length, replicate};
 ghost use Rattle.ea_model.specs.Outcome.{plain_outcome};
 ghost use Rattle.ea_model.specs.Settings.{IsValidConfig};
-ghost use Rattle.ea_model.specs.Trace.{IsTurns, IsValidTrace};
+ghost use Rattle.ea_model.specs.Trace.{IsScheduler, IsValidTrace};
 ghost use Rattle.ea_model.specs.Trace as traces;
-ghost use Rattle.ea_machine.specs.Completion.{finishing};
+ghost use Rattle.ea_machine.specs.Completion.{completing, finishing};
+ghost use Rattle.ea_machine.specs.Machine.{start};
 ghost use Rattle.ea_machine.specs.MachineLaws.{Protocol};
 ghost use Rattle.ea_machine.specs.Outcome as machine;
 ghost use Rattle.ea_machine.specs.Setup.{setup_of};
-ghost use Rattle.ea_sched.specs.Acting.{setup_for};
 ghost use Rattle.ea_sched.specs.Built.{is_built_run};
-ghost use Rattle.ea_sched.specs.Running.{IsSameRun, Stands, Took};
+ghost use Rattle.ea_sched.specs.Running.{AllStand, AllStandAt, AllTook, IsAtEnd, Stands, Took};
 
 use crate::outcome::outcome_of;
 use crate::state::Scheduler;
@@ -29,6 +29,32 @@ fn turns_of(mode: &Mode) -> &[Turns]
     }
 }
 
+/// A run: all its schedulers, in order, and what they share.
+#[derive(Drop)]
+struct Run<'t> {
+    schedulers: Vec<Scheduler<'t>>,
+    shared: MemShared<Mbc>,
+}
+
+/// All schedulers of the run of a trace, in order, before their first step.
+fn schedulers_of<'t>(
+    alloc: Global,
+    config: Config,
+    trace: &'t Trace,
+) -> Result<Vec<Scheduler<'t>>, OutOfMemory>
+    requires config { IsValidConfig config }
+    requires trace { IsValidTrace config.schedulers trace.now }
+    requires built { is_built_run config trace.now ≡ true }
+    ensures { IfOk result (λ schedulers. AllStandAt config trace.now schedulers.items
+        (start (setup_of config trace.now))) }
+{
+    let mut schedulers = Vec::new(alloc);
+    for before in 0..config.schedulers {
+        schedulers.push(Scheduler::new(alloc, config, trace, before + 1)?)?;
+    }
+    Ok(schedulers)
+}
+
 /// Takes one step of the scheduler.
 fn take_turn(
     scheduler: &mut Scheduler<'_>,
@@ -36,15 +62,14 @@ fn take_turn(
     shared: &mut MemShared<Mbc>,
 ) -> Result<(), OutOfMemory>
     requires { Stands scheduler.old shared.old }
-    ensures same { IsSameRun scheduler.old scheduler.new }
-    ensures took { OnOk result (Took (λ _. scheduler.old.number ∷ []) scheduler.old shared.old
-        scheduler.new shared.new) }
+    ensures { OnOk result (Took (λ _ _ me. me ∷ []) scheduler.old shared.old scheduler.new
+        shared.new) }
 {
     scheduler.step(alloc, shared)?;
     Ok(())
 }
 
-/// Takes that many steps of the scheduler; once it has ended they change nothing.
+/// Takes that many turns of the scheduler. Those after its end change nothing, and are left out.
 fn take_turns(
     scheduler: &mut Scheduler<'_>,
     alloc: Global,
@@ -52,32 +77,14 @@ fn take_turns(
     count: u32,
 ) -> Result<(), OutOfMemory>
     requires { Stands scheduler.old shared.old }
-    ensures same { IsSameRun scheduler.old scheduler.new }
-    ensures took { OnOk result (Took (λ _. replicate count scheduler.old.number) scheduler.old
-        shared.old scheduler.new shared.new) }
-{
-    for _turn in 0..count {
-        take_turn(scheduler, alloc, shared)?;
-    }
-    Ok(())
-}
-
-/// Takes the turns of a schedule.
-fn take_schedule(
-    scheduler: &mut Scheduler<'_>,
-    alloc: Global,
-    shared: &mut MemShared<Mbc>,
-    schedule: &[Turns],
-) -> Result<(), OutOfMemory>
-    requires stands { Stands scheduler.old shared.old }
-    requires mine { All (λ t. t.scheduler ≡ scheduler.old.number) schedule.now }
-    ensures same { IsSameRun scheduler.old scheduler.new }
-    ensures took { OnOk result (Took
-        (λ _. flat_map (λ t. replicate t.count t.scheduler) schedule.now) scheduler.old shared.old
+    ensures { OnOk result (Took (λ _ _ me. replicate count me) scheduler.old shared.old
         scheduler.new shared.new) }
 {
-    for turns in schedule {
-        take_turns(scheduler, alloc, shared, turns.count)?;
+    for _turn in 0..count {
+        if scheduler.ended() {
+            return Ok(());
+        }
+        take_turn(scheduler, alloc, shared)?;
     }
     Ok(())
 }
@@ -89,10 +96,7 @@ fn run_out(
     shared: &mut MemShared<Mbc>,
 ) -> Result<(), OutOfMemory>
     requires { Stands scheduler.old shared.old }
-    ensures same { IsSameRun scheduler.old scheduler.new }
-    ensures took { OnOk result (Took
-        (λ state. finishing (setup_for scheduler.old) state scheduler.old.number) scheduler.old
-        shared.old scheduler.new shared.new) }
+    ensures { OnOk result (Took finishing scheduler.old shared.old scheduler.new shared.new) }
 {
     while !scheduler.ended() {
         take_turn(scheduler, alloc, shared)?;
@@ -100,26 +104,71 @@ fn run_out(
     Ok(())
 }
 
-/// Runs a trace whose run is built, from its start to its end.
-fn run_alone(alloc: Global, config: Config, trace: &Trace) -> Result<Outcome, OutOfMemory>
+/// Takes the turns of a schedule.
+fn take_schedule(
+    schedulers: &mut [Scheduler<'_>],
+    alloc: Global,
+    shared: &mut MemShared<Mbc>,
+    schedule: &[Turns],
+) -> Result<(), OutOfMemory>
+    requires stand { AllStand schedulers.old shared.old }
+    requires theirs { All (λ t. IsScheduler (length schedulers.old) t.scheduler) schedule.now }
+    ensures { OnOk result (AllTook
+        (λ _ _. flat_map (λ t. replicate t.count t.scheduler) schedule.now) schedulers.old
+        shared.old schedulers.new shared.new) }
+{
+    for turns in schedule {
+        let index = turns.scheduler as usize - 1;
+        take_turns(&mut schedulers[index], alloc, shared, turns.count)?;
+    }
+    Ok(())
+}
+
+/// Steps until the first scheduler has ended, then until the next one has, up to the last one.
+fn complete(
+    schedulers: &mut [Scheduler<'_>],
+    alloc: Global,
+    shared: &mut MemShared<Mbc>,
+) -> Result<(), OutOfMemory>
+    requires { AllStand schedulers.old shared.old }
+    ensures { OnOk result (AllTook (λ e w. completing e e.schedulers 1 w) schedulers.old shared.old
+        schedulers.new shared.new) }
+{
+    for scheduler in schedulers.iter_mut() {
+        run_out(scheduler, alloc, shared)?;
+    }
+    Ok(())
+}
+
+/// Runs a trace from its start to its end: the turns of its schedule, and what completes them.
+fn run_to_end<'t>(alloc: Global, config: Config, trace: &'t Trace) -> Result<Run<'t>, OutOfMemory>
+    requires config { IsValidConfig config }
+    requires trace { IsValidTrace config.schedulers trace.now }
+    requires built { is_built_run config trace.now ≡ true }
+    ensures { IfOk result (IsAtEnd config trace.now) }
+{
+    let mut shared = MemShared::new(alloc, config, trace)?;
+    let mut schedulers = schedulers_of(alloc, config, trace)?;
+    take_schedule(&mut schedulers, alloc, &mut shared, turns_of(&trace.mode))?;
+    complete(&mut schedulers, alloc, &mut shared)?;
+    Ok(Run { schedulers, shared })
+}
+
+/// Runs a trace whose run is built.
+fn run_built(alloc: Global, config: Config, trace: &Trace) -> Result<Outcome, OutOfMemory>
     requires config { IsValidConfig config }
     requires trace { IsValidTrace config.schedulers trace.now }
     requires built { is_built_run config trace.now ≡ true }
     ensures { IfOk result (λ outcome. plain_outcome outcome ≡ machine.outcome_of config trace.now) }
 {
-    let mut shared = MemShared::new(config, trace);
-    let mut scheduler = Scheduler::new(alloc, config, trace, 1)?;
-    take_schedule(&mut scheduler, alloc, &mut shared, turns_of(&trace.mode))?;
-    run_out(&mut scheduler, alloc, &mut shared)?;
-    let mut schedulers = List::new(alloc);
-    schedulers.push(scheduler)?;
-    outcome_of(alloc, config, trace, schedulers, &shared)
+    let Run { schedulers, shared } = run_to_end(alloc, config, trace)?;
+    outcome_of(alloc, config, trace, List::from_vec(schedulers), &shared)
 }
 
 /// Runs a trace that has a schedule: the schedulers take its turns, each one atomic step, and then
-/// each goes on until it has ended. Answers what is printed of the state then; it fails only where
-/// there is no memory. Whatever it answers, each run of the trace keeps the machine's protocol,
-/// whatever steps its schedulers take.
+/// scheduler 1 goes on until it has ended, then scheduler 2, up to the last one. Answers what is
+/// printed of the state then; it fails only where there is no memory. Whatever it answers, each run
+/// of the trace keeps the machine's protocol, whatever steps its schedulers take.
 pub fn run_given(alloc: Global, config: Config, trace: &Trace) -> Result<Outcome, OutOfMemory>
     requires config { IsValidConfig config }
     requires trace { IsValidTrace config.schedulers trace.now }
@@ -128,5 +177,5 @@ pub fn run_given(alloc: Global, config: Config, trace: &Trace) -> Result<Outcome
         plain_outcome outcome ≡ machine.outcome_of config trace.now) }
     ensures protocol { Protocol (setup_of config trace.now) }
 {
-    run_alone(alloc, config, trace)
+    run_built(alloc, config, trace)
 }

@@ -256,7 +256,7 @@ module _ (e : Setup) where
   ending-zero w s Ready = refl
 
   -- nobody else steps meanwhile
-  ending-others : (most : ℕ) (w : State) (s j : ℕ) (st : Stage) → j ≢ s
+  pub ending-others : (most : ℕ) (w : State) (s j : ℕ) (st : Stage) → j ≢ s
       → (run_on e w (ending e most w s st)).actors j ≡ w.actors j
   ending-others zero w s j st ne = ap (λ js. (run_on e w js).actors j) (ending-zero w s st)
   ending-others (suc most) w s j st ne =

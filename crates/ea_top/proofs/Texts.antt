@@ -25,7 +25,7 @@ same_mode (Schedule turns) = refl
 same_mode (Generated seed count) = refl
 
 pub same_built : (c : Config) (t : Trace) → is_built_run c (plain t) ≡ is_built_run c t
-same_built c t = rw (same_mode t.mode, plain-texts t) refl
+same_built c t = rw (same_mode t.mode) refl
 
 same_setup : (c : Config) (t : Trace) → setup_of c (plain t) ≡ setup_of c t
 same_setup c t = ap (λ texts. record {

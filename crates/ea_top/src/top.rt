@@ -31,9 +31,8 @@ use std::thread::Threads;
 ///
 /// The status is 0 where the text was written; 1 where the words are refused; 2 where the input has
 /// more than 2^24 bytes or isn't a trace; 3 where the source failed; 4 where `out` failed; 5 where
-/// there was no memory; 6 where words and input are accepted, and the run isn't built: it has more
-/// schedulers than one, its carriers would migrate, its mode isn't a schedule, or it hands blocks
-/// over (`give`, `take`).
+/// there was no memory; 6 where words and input are accepted, and the run isn't built: its carriers
+/// would migrate, or its mode isn't a schedule.
 pub fn run<R: Threads + Sync, S: Source, O: Sink, E: Sink>(
     _rt: &R,
     alloc: Global,

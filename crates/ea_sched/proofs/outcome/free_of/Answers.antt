@@ -6,14 +6,26 @@ use Rattle.ea_model.specs.Instance.{employed}
 use Rattle.ea_sched.specs.declared.state.Scheduler.{Scheduler}
 use Rattle.ea_sched.proofs.outcome.free_of.Goals as goal
 
+abbrev free : Scheduler → ℕ
+free s = sum_by (λ x. free_units (gaps_of x)) (employed s.instance)
+
+pub overflow_add-units : goal.overflow_add-units
+overflow_add-units c = omega (
+  arith,
+  c.requires,
+  c.loop-scheduler.invariant,
+  sum_by-drop_more free c.args.schedulers.now c.loop-scheduler.scheduler-index
+      c.scheduler-item.result c.loop-scheduler-test.true,
+  ap free c.scheduler-item.is,
+  c.free_units-units.ensures.units,
+)
+
 pub loop-scheduler-preserved : goal.loop-scheduler-preserved
-loop-scheduler-preserved c =
-    let free : Scheduler → ℕ = λ s. sum_by (λ x. free_units (gaps_of x)) (employed s.instance) in
-    omega (
-      arith,
-      c.loop-scheduler.invariant,
-      sum_by-drop_more free c.args.schedulers.now c.loop-scheduler.scheduler-index
-          c.scheduler-item.result c.loop-scheduler-test.true,
-      ap free c.scheduler-item.is,
-      c.free_units-units.ensures.units,
-    )
+loop-scheduler-preserved c = omega (
+  arith,
+  c.loop-scheduler.invariant,
+  sum_by-drop_more free c.args.schedulers.now c.loop-scheduler.scheduler-index
+      c.scheduler-item.result c.loop-scheduler-test.true,
+  ap free c.scheduler-item.is,
+  c.free_units-units.ensures.units,
+)

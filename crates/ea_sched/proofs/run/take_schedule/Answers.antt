@@ -1,25 +1,39 @@
-use Rattle.std.proofs.Common.{◌≡◌, ◌+◌, ◌++◌, get_or, take, sym, subst}
-use Rattle.std.specs.Prelude.{All, flat_map, replicate}
-use Rattle.ea_sched.proofs.Ends.{turns-more}
-use Rattle.ea_sched.proofs.Running.{same-on, took-as, took-both}
+use Rattle.std.proofs.Common.{◌-◌, List, subst, arith, get_or, take}
+use Rattle.std.proofs.lemmas.List.{take_all}
+use Rattle.ea_model.specs.declared.trace.Turns.{Turns}
+use Rattle.ea_sched.specs.Running.{AllTook}
+use Rattle.ea_sched.proofs.Ends.{all-stand-one, all-took-stand, schedule-more, turns_from}
 use Rattle.ea_sched.proofs.run.take_schedule.Goals as goal
+
+pub take_turns-requires : goal.take_turns-requires
+take_turns-requires c =
+    let ss = c.args.schedulers.now in
+    let us = c.loop-turns.schedulers in
+    let m = c.args.shared.now in
+    let n = c.loop-turns.shared in
+    let i = c.loop-turns.turns-index in
+    let d : Turns = record { scheduler = 0; count = 0 } in
+    let x = get_or c.args.schedule.now i d in
+    let is = c.requires.theirs i d c.loop-turns-test.true in
+    all-stand-one ss us m n (x.scheduler - 1) c.index-schedulers-index.result
+    (omega (arith, is.0, is.1, c.loop-turns.auto.schedulers))
+    (all-took-stand ss us m n (λ e w. turns_from (take i c.args.schedule.now)) c.requires.stand
+    c.loop-turns.invariant)
 
 pub loop-turns-preserved : goal.loop-turns-preserved
 loop-turns-preserved c =
-    let s = c.args.scheduler.now in
-    let t = c.loop-turns.scheduler in
-    let u = c.take_turns.new.scheduler in
-    let p = c.take_turns.new.shared in
     let i = c.loop-turns.turns-index in
-    let x = get_or c.args.schedule.now i (record { scheduler = 0; count = 0 }) in
-    let done = flat_map (λ y. replicate y.count y.scheduler) (take i c.args.schedule.now) in (
-      same-on s t u c.loop-turns.invariant.0 c.in_ok-take_turns.ensures.same,
-      took-as s u c.args.shared.now p (done ++ replicate x.count t.number)
-          (flat_map (λ y. replicate y.count y.scheduler) (take (i + 1) c.args.schedule.now))
-          (turns-more c.args.schedule.now i t.number (record { scheduler = 0; count = 0 })
-          c.loop-turns-test.true
-          (subst (λ n. All (λ y. y.scheduler ≡ n) c.args.schedule.now)
-          (sym c.loop-turns.invariant.0.number) c.requires.mine))
-          (took-both s t u c.args.shared.now c.loop-turns.shared p done (replicate x.count t.number)
-          c.loop-turns.invariant.0 c.loop-turns.invariant.1 c.in_ok-take_turns.ensures.took),
-    )
+    let d : Turns = record { scheduler = 0; count = 0 } in
+    let is = c.requires.theirs i d c.loop-turns-test.true in
+    schedule-more c.args.schedulers.now c.loop-turns.schedulers c.args.shared.now
+    c.loop-turns.shared c.args.schedule.now i d c.loop-turns-test.true is.0
+    (omega (arith, is.1, c.loop-turns.auto.schedulers)) c.index-schedulers-index.result
+    c.take_turns.new.scheduler c.take_turns.new.shared c.loop-turns.invariant
+    c.in_ok-take_turns.ensures
+
+pub returns : goal.returns
+returns c =
+    subst (λ (xs : List Turns). AllTook (λ e w. turns_from xs) c.args.schedulers.now
+    c.args.shared.now c.loop-turns.schedulers c.loop-turns.shared)
+    (take_all c.loop-turns.turns-index c.args.schedule.now c.loop-turns-test.false)
+    c.loop-turns.invariant

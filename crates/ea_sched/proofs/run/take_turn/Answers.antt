@@ -1,13 +1,13 @@
-use Rattle.ea_sched.proofs.Running.{stepped-stands}
+use Rattle.ea_sched.proofs.Running.{stands-ready, stepped-stands}
 use Rattle.ea_sched.proofs.run.take_turn.Goals as goal
 
-pub returns-clause-took : goal.returns-clause-took
-returns-clause-took c = λ state at.
-    stepped-stands c.args.scheduler.now c.step.new.self c.args.shared.now c.step.new.shared state at
-    (record {
-      config = c.in_ok-step.ensures.run.0;
-      trace = c.in_ok-step.ensures.run.1;
-      number = c.in_ok-step.ensures.run.2;
-    })
-    c.in_ok-step.ensures.stays.0 c.in_ok-step.ensures.stays.1 c.in_ok-step.ensures.goes.1
-    c.in_ok-step.ensures.step
+pub step-requires-clause-ready : goal.step-requires-clause-ready
+step-requires-clause-ready c =
+    let (d, t, me, w, shares, at) = c.requires in
+    λ going. stands-ready d t me c.args.scheduler.now w at c.args.shared.now shares
+
+pub returns : goal.returns
+returns c = λ d t me w shares at.
+    let e = c.in_ok-step.ensures in
+    stepped-stands d t me c.args.scheduler.now w at c.args.shared.now shares c.step.new.self
+    c.step.new.shared e.run.0 e.run.1 e.run.2 e.stays.0 e.stays.1 e.goes.1 e.step
