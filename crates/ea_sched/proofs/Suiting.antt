@@ -32,7 +32,7 @@ use Rattle.ea_machine.specs.Tasks.{carried_by}
 use Rattle.ea_machine.specs.Walks.{with_passed}
 use Rattle.ea_sound.specs.Leaves.{InWalk}
 use Rattle.ea_sound.specs.Moments.{at}
-use Rattle.ea_sound.proofs.Asked.{Facts, first-operation, reached-facts}
+use Rattle.ea_sound.proofs.Asked.{first-operation}
 use Rattle.ea_sound.proofs.OffWalks.{link-walks, passed-carrier, passed-emptied, passed-here, take_all-walks, take_link-passes, take_link-rests, walk-fresh_alloc, walk-fresh_realloc, walk-held, walk-here, walk-moves, walk-on}
 use Rattle.ea_sound.proofs.SoundRanges.{number-scheduler}
 use Rattle.ea_sched.specs.declared.stage.Stage.TheVariants as stage
@@ -156,10 +156,6 @@ module _ (s : Scheduler) (valid : IsValidConfig s.config)
   off : migration e ≡ false
   off = off-built s.config s.trace.now s.built
 
-  facts : Facts s.config s.trace.now me (actor_of s)
-  facts = subst (Facts s.config s.trace.now me) here
-      (reached-facts s.config s.trace.now valid made w reached me number)
-
   -- in its walk
   abbrev walker : Instance → List Node → Actor
   walker i ns = record (actor_of s) { instance = i; passed = ns }
@@ -213,7 +209,8 @@ module _ (s : Scheduler) (valid : IsValidConfig s.config)
 
     suits-next : SuitsNext i s
     suits-next o ops left = suits o ops left
-        (first-operation s.config s.trace.now me (actor_of s) facts o ops left)
+        (first-operation s.config s.trace.now valid made w reached me o ops
+        (ap (λ (a : Actor). a.todo) here ∙ left))
 
   begins : s.stage ≡ stage.Begin → (w.actors me).stage ≡ Begin
   begins begin = ap (λ (a : Actor). a.stage) here ∙ ap stage_of begin

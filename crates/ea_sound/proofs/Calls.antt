@@ -2,19 +2,18 @@
 -- trace, and nodes of its names and carriers; a node that is to be pushed stands nowhere, and one
 -- that is to be linked stands unlinked; a name that is to be given isn't given, and one that is to
 -- be taken isn't held; and the operation that a scheduler is in the middle of is the first one left.
-use Rattle.std.proofs.Common.{◌≡◌, ◌≢◌, ◌⊎◌, ℕ, ◌<◌, ◌≤◌, true, false, List, [], ◌∷◌, refl, sym, ap, ◌∙◌, subst, inl, inr, arith}
+use Rattle.std.proofs.Common.{◌≡◌, ◌≢◌, ◌⊎◌, ℕ, ◌<◌, true, List, [], ◌∷◌, refl, sym, ap, ◌∙◌, subst, inl, inr, arith}
 use Rattle.std.specs.Prelude.{◌==◌, All, Contains, Option, None, Some, option_map}
-use Rattle.std.proofs.lemmas.Bool.{cases_Bool, cases_lt}
+use Rattle.std.proofs.lemmas.Bool.{cases_Bool}
 use Rattle.std.proofs.lemmas.List.Elements.{All-contains, All-head, All-nil, All-weaker}
 use Rattle.ea_model.specs.declared.carriers.Spot.{Spot}
 use Rattle.ea_model.specs.declared.operations.Op.{Op}
 use Rattle.ea_model.specs.declared.operations.Op.TheVariants as op
 use Rattle.ea_model.specs.declared.settings.Config.{Config}
 use Rattle.ea_model.specs.declared.trace.Trace.{Trace}
-use Rattle.ea_model.specs.declared.units.TheConstants.{MAX_TRIES}
 use Rattle.ea_model.specs.Settings.{IsValidConfig}
-use Rattle.ea_model.specs.Trace.{IsOperation, IsScheduler, IsValidTrace, greatest_in}
-use Rattle.ea_model.proofs.Rising.{item_at-All, item_at-key}
+use Rattle.ea_model.specs.Trace.{IsScheduler, IsValidTrace}
+use Rattle.ea_model.proofs.Rising.{item_at-key}
 use Rattle.ea_machine.specs.declared.nodes.Named.{Named}
 use Rattle.ea_machine.specs.declared.nodes.Node.{Node}
 use Rattle.ea_machine.specs.declared.nodes.Node.TheVariants.{Block, Carrier}
@@ -23,31 +22,28 @@ use Rattle.ea_machine.specs.declared.tasks.Task.{Task}
 use Rattle.ea_machine.specs.declared.tasks.Task.TheVariants.{Freeing, Moving}
 use Rattle.ea_machine.specs.declared.tasks.Why.{Why}
 use Rattle.ea_machine.specs.declared.tasks.Why.TheVariants.{For}
-use Rattle.ea_machine.specs.Actor.{Actor, Begin, Collecting, Giving, Linking, Pushing, Route, Routed, Stage, Taking}
+use Rattle.ea_machine.specs.Actor.{Actor, Giving, Linking, Pushing, Route, Routed, Stage, Taking}
 use Rattle.ea_machine.specs.Alike.{HasNoAlike, IsNode}
 use Rattle.ea_machine.specs.Contents.{seats}
 use Rattle.ea_machine.specs.Guards.{IsUnlinkedAt}
 use Rattle.ea_machine.specs.Machine.{IsReached}
 use Rattle.ea_machine.specs.NamePlaces.{name_of}
-use Rattle.ea_machine.specs.Names.{allocated, of_named, only}
+use Rattle.ea_machine.specs.Names.{of_named, only}
 use Rattle.ea_machine.specs.Nodes.{Mark, first_node, named_at, pushed, spot_named}
-use Rattle.ea_machine.specs.Setup.{Setup, is_scheduler, migration, setup_of}
+use Rattle.ea_machine.specs.Setup.{Setup, is_scheduler, setup_of}
 use Rattle.ea_machine.specs.State.{State}
-use Rattle.ea_machine.specs.Sums.{one_if, sum_over}
-use Rattle.ea_sound.specs.Blocks.{IsOfBlock}
+use Rattle.ea_machine.specs.Sums.{one_if}
 use Rattle.ea_sound.specs.Present.{Fits, OfTask, Rule}
 use Rattle.ea_sound.specs.Rule.{names_of}
-use Rattle.ea_sound.specs.Steady.{AreSteady, IsSteadyStage, works_off}
-use Rattle.ea_sound.proofs.Asked.{Facts, reached-facts, reached-rule}
+use Rattle.ea_sound.proofs.Asked.{first-operation, reached-rule}
 use Rattle.ea_sound.proofs.Created.{scheduler-number}
 use Rattle.ea_sound.proofs.KeyedWeights.{sum-item}
-use Rattle.ea_sound.proofs.NodeSeats.{collecting-home, pushing-returning, returning-on, returning-scheduler}
+use Rattle.ea_sound.proofs.NodeSeats.{pushing-returning, returning-scheduler}
 use Rattle.ea_sound.proofs.NodeSpots.{linking-unlinked, pushing-no_alike}
-use Rattle.ea_sound.proofs.Numbered.{no_scheduler-beyond, scheduler-seat}
-use Rattle.ea_sound.proofs.Protocols.{steady-run}
+use Rattle.ea_sound.proofs.Numbered.{scheduler-seat}
 use Rattle.ea_sound.proofs.RowLeaves.{no_first}
 use Rattle.ea_sound.proofs.SoundRanges.{number-scheduler}
-use Rattle.ea_sound.proofs.StandingNodes.{IsAt, all-parts, at-block, at-name, at-number, passed-at, pushing-at, queue-at, rest-at}
+use Rattle.ea_sound.proofs.StandingNodes.{IsAt, all-parts, at-name, at-number, pushing-at, queue-at, rest-at}
 use Rattle.ea_sound.proofs.Totals.{total-part}
 use Rattle.ea_sound.proofs.TraceNames.{IsNameOf, name-range}
 use Rattle.ea_sound.proofs.Weights.{one-itself}
@@ -77,85 +73,38 @@ module _ (c : Config) (t : Trace) (valid : IsValidConfig c)
   rule : Rule e w
   rule = reached-rule c t valid made w reached
 
-  steady : AreSteady e w
-  steady = subst (AreSteady e) (sym reached.1) (steady-run c t valid made reached.0)
-
-  named-range : (xs : List Named)
-      → ((f : ℕ → Spot → ℕ) → sum_over (of_named f) xs ≤ allocated e f w)
-      → All (λ x. IsNameOf t x.name) xs
-  named-range xs less = all-parts (λ x. IsNameOf t x.name) xs (λ x part. name-range c t valid made w
-      reached x.name
-      (omega (arith, part (of_named (only x.name)), less (only x.name), one-itself x.name)))
-
-  -- held names, and given ones
-  pub held-range : (i : ℕ) → All (λ x. IsNameOf t x.name) (w.actors i).held
-  held-range i = elim (cases_lt i (seats e)) [
-    | inl seat ↦ named-range (w.actors i).held (λ f. omega (
-      arith,
-      rule.kept.names.balance f,
-      total-part (names_of f) w.actors i (seats e) seat,
-    ))
-    | inr past ↦ subst (All (λ x. IsNameOf t x.name))
-        (sym (rule.present.nobody i (no_scheduler-beyond e i past)).held)
-        (All-nil (λ x. IsNameOf t x.name))
-  ]
-
+  -- given names are of the trace
   pub given-range : All (λ x. IsNameOf t x.name) w.shared.given
-  given-range = named-range w.shared.given (λ f. omega (arith, rule.kept.names.balance f))
+  given-range = all-parts (λ x. IsNameOf t x.name) w.shared.given (λ x part. name-range c t valid
+      made w reached x.name (omega (
+        arith,
+        part (of_named (only x.name)),
+        rule.kept.names.balance (only x.name),
+        one-itself x.name,
+      )))
 
-  pub held-name : (i n : ℕ) (x : Named) → named_at n (w.actors i).held ≡ Some x
-      → IsNameOf t x.name
-  held-name i n x = item_at-All name_of (λ x. IsNameOf t x.name) n x (w.actors i).held (held-range i)
-
-  pub given-name : (n : ℕ) (x : Named) → named_at n w.shared.given ≡ Some x → IsNameOf t x.name
-  given-name n x = item_at-All name_of (λ x. IsNameOf t x.name) n x w.shared.given given-range
-
-  -- nodes in queues, in walks, and those that are passed
+  -- nodes in queues and in walks
   at-node : (i : ℕ) (node : Node) → IsAt e w i node → IsNode c.schedulers t.greatest node
   at-node i (Block n p) at =
       name-range c t valid made w reached n (at-name e w rule.kept i n p at)
   at-node i (Carrier d) at =
-      let number = (at-number e w rule.kept i d at).0 in
-      (number.0, omega (arith, number.1))
+      let number = at-number e w rule.kept i d at in (number.0, omega (arith, number.1))
 
-  pub queue-nodes : (i : ℕ)
+  queue-nodes : (i : ℕ)
       → All (λ m. IsNode c.schedulers t.greatest m.node) (w.shared.queues i)
   queue-nodes i = All-weaker (λ m. IsAt e w i m.node)
       (λ m. IsNode c.schedulers t.greatest m.node) (λ m. at-node i m.node) (w.shared.queues i)
       (queue-at e w rule i)
 
-  pub rest-nodes : (i : ℕ)
+  rest-nodes : (i : ℕ)
       → All (λ m. IsNode c.schedulers t.greatest m.node) (w.shared.rests i)
   rest-nodes i = All-weaker (λ m. IsAt e w i m.node)
       (λ m. IsNode c.schedulers t.greatest m.node) (λ m. at-node i m.node) (w.shared.rests i)
       (rest-at e w rule i)
 
-  pub passed-nodes : (i : ℕ) → All (IsNode c.schedulers t.greatest) (w.actors i).passed
-  passed-nodes i = All-weaker (IsAt e w i) (IsNode c.schedulers t.greatest) (at-node i)
-      (w.actors i).passed (passed-at e w rule i)
-
   -- where no node is next nothing is left of the walk
   pub rest-none : (i : ℕ) → (w.actors i).next ≡ None → w.shared.rests i ≡ []
   rest-none i none = no_first (w.shared.rests i) (sym (rule.present.walking i) ∙ none)
-
-  -- nor is anything left of what it passed
-  pub passed-none : (i : ℕ) → (w.actors i).stage ≡ Begin → (w.actors i).next ≡ None
-      → (w.actors i).passed ≡ []
-  passed-none i now none = (steady i).walk (ap works_off now) none
-
-  -- where carriers don't migrate the nodes are blocks'
-  module _ (off : migration e ≡ false) where
-    pub queue-blocks : (i : ℕ) → All (λ m. IsOfBlock m.node) (w.shared.queues i)
-    queue-blocks i = All-weaker (λ m. IsAt e w i m.node) (λ m. IsOfBlock m.node)
-        (λ m. at-block e w rule.kept off i m.node) (w.shared.queues i) (queue-at e w rule i)
-
-    pub rest-blocks : (i : ℕ) → All (λ m. IsOfBlock m.node) (w.shared.rests i)
-    rest-blocks i = All-weaker (λ m. IsAt e w i m.node) (λ m. IsOfBlock m.node)
-        (λ m. at-block e w rule.kept off i m.node) (w.shared.rests i) (rest-at e w rule i)
-
-    pub passed-blocks : (i : ℕ) → All IsOfBlock (w.actors i).passed
-    passed-blocks i = All-weaker (IsAt e w i) IsOfBlock (at-block e w rule.kept off i)
-        (w.actors i).passed (passed-at e w rule i)
 
   module _ (me : ℕ) (number : IsScheduler c.schedulers me) where
     abbrev a : Actor
@@ -169,9 +118,6 @@ module _ (c : Config) (t : Trace) (valid : IsValidConfig c)
 
     fits : (stage : Stage) → a.stage ≡ stage → Fits e w me a stage
     fits stage now = subst (Fits e w me a) now (rule.present.fits me)
-
-    facts : Facts c t me a
-    facts = reached-facts c t valid made w reached me number
 
     -- the next node of a walk
     pub next-node : (node : Node) → a.next ≡ Some node
@@ -197,10 +143,6 @@ module _ (c : Config) (t : Trace) (valid : IsValidConfig c)
       pub push-node : IsNode c.schedulers t.greatest node
       push-node = at-node to node (pushing-at e w rule.kept me seat node to why gone now)
 
-      pub push-block : migration e ≡ false → IsOfBlock node
-      push-block off =
-          at-block e w rule.kept off to node (pushing-at e w rule.kept me seat node to why gone now)
-
     -- it is a scheduler's queue, and another's
     pub push-target : (node : Node) (to : ℕ) (why : Why) (gone : Gone)
         → a.stage ≡ Routed (Pushing node to) why gone → IsScheduler c.schedulers to × (to ≢ me)
@@ -225,10 +167,6 @@ module _ (c : Config) (t : Trace) (valid : IsValidConfig c)
       link-node = unlinked-has (IsNode c.schedulers t.greatest) node (w.shared.queues to)
           (w.shared.rests to) (queue-nodes to) (rest-nodes to) link-unlinked
 
-      pub link-block : migration e ≡ false → IsOfBlock node
-      link-block off = unlinked-has IsOfBlock node (w.shared.queues to) (w.shared.rests to)
-          (queue-blocks off to) (rest-blocks off to) link-unlinked
-
       pub link-target : IsScheduler c.schedulers to
       link-target = elim (cases_Bool (is_scheduler e to)) [
         | inl one ↦ scheduler-number e to one
@@ -238,13 +176,6 @@ module _ (c : Config) (t : Trace) (valid : IsValidConfig c)
             (subst (All (λ m. ⊥)) (sym has.queue) (All-nil (λ m. ⊥)))
             (subst (All (λ m. ⊥)) (sym has.rest) (All-nil (λ m. ⊥))) link-unlinked)
       ]
-
-    -- where carriers don't migrate none is collected
-    pub collects-none : migration e ≡ false → (d : ℕ) → a.stage ≡ Collecting d → ⊥
-    collects-none off d now =
-        let home = collecting-home e w rule.kept me seat d now in
-        let on = returning-on e w rule.kept d me home.0 home.1 in
-        let never : true ≡ false = sym on ∙ off in cc
 
     -- a name that is held isn't given
     held-alone : (n : ℕ) (x y : Named) → named_at n a.held ≡ Some x
@@ -261,7 +192,7 @@ module _ (c : Config) (t : Trace) (valid : IsValidConfig c)
       one-itself n,
     )
 
-    pub held-given : (n : ℕ) (x : Named) → named_at n a.held ≡ Some x
+    held-given : (n : ℕ) (x : Named) → named_at n a.held ≡ Some x
         → spot_named n w.shared.given ≡ None
     held-given n x held = by (named_at n w.shared.given) refl where
       by : (o : Option Named) → named_at n w.shared.given ≡ o
@@ -279,40 +210,26 @@ module _ (c : Config) (t : Trace) (valid : IsValidConfig c)
 
     -- the name that is to be given
     module _ (given : Named) (to : ℕ) (now : a.stage ≡ Giving given to) where
-      pub give-held : named_at given.name a.held ≡ Some given
-      give-held = (fits (Giving given to) now).0
-
-      pub give-name : IsNameOf t given.name
-      give-name = held-name me given.name given give-held
-
-      pub give-free : spot_named given.name w.shared.given ≡ None
-      give-free = held-given given.name given give-held
-
       pub give-first : (ops : List Op) × (a.todo ≡ op.Give given.name to ∷ ops)
       give-first = (fits (Giving given to) now).1
+
+      pub give-name : IsNameOf t given.name
+      give-name =
+          let is = first-operation c t valid made w reached me (op.Give given.name to) give-first.0
+          give-first.1 in (is.0.0.0, is.1)
+
+      pub give-free : spot_named given.name w.shared.given ≡ None
+      give-free = held-given given.name given (fits (Giving given to) now).0
 
     -- the name that is to be taken
     module _ (name tries left : ℕ) (now : a.stage ≡ Taking name tries left) where
       pub take-first : (ops : List Op) × (a.todo ≡ op.Take name tries ∷ ops)
       take-first = (fits (Taking name tries left) now).1
 
-      take-operation : IsOperation c.schedulers (op.Take name tries)
-      take-operation = All-head (IsOperation c.schedulers) (op.Take name tries) take-first.0
-          (subst (All (IsOperation c.schedulers)) take-first.1 facts.operations)
-
       pub take-name : IsNameOf t name
-      take-name = (
-        take-operation.0.0,
-        All-head (λ o. greatest_in o ≤ t.greatest) (op.Take name tries) take-first.0
-            (subst (All (λ o. greatest_in o ≤ t.greatest)) take-first.1 facts.names),
-      )
-
-      pub take-tries : (1 ≤ left) × (left ≤ tries) × (tries ≤ MAX_TRIES)
-      take-tries = (
-        subst (IsSteadyStage e me a.instance.contents) now (steady me).route take-operation.1,
-        (fits (Taking name tries left) now).0,
-        take-operation.2,
-      )
+      take-name =
+          let is = first-operation c t valid made w reached me (op.Take name tries) take-first.0
+          take-first.1 in (is.0.0.0, is.1)
 
     -- the operation whose block is on its route is the first one left
     pub task-first : (route : Route) (task : Task) (gone : Gone)

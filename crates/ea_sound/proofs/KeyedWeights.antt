@@ -4,7 +4,7 @@ use Rattle.std.specs.Prelude.{Option, Some, None, All, AllPairs, ◌==◌, if◌
 use Rattle.std.proofs.lemmas.Bool.{cases_eq, cases_lt}
 use Rattle.ea_model.specs.Keyed.{item_at, entered, merged, without, changed_at, IsBelow}
 use Rattle.ea_model.proofs.Pairs.{pairs_tail}
-use Rattle.ea_model.proofs.Rising.{changed_here, changed_none, changed_past, entered_here, entered_past, item_here, item_past, none-other, others, rising-entered, without_here, without_none, without_past}
+use Rattle.ea_model.proofs.Rising.{changed_here, changed_none, changed_past, entered_here, entered_past, item_here, item_past, none-other, others, without_here, without_none, without_past}
 use Rattle.ea_machine.specs.Sums.{sum_over}
 use Rattle.ea_sound.proofs.Weights.{sum-filter, sum-zero}
 
@@ -134,22 +134,6 @@ module _ {A : Type 0} (key_of : A → ℕ) where
     by None none = absurd (omega (arith, some, sum-missing f key xs only none))
     by (Some x) there = (x, there, omega (arith, some, sum-only f key x xs only once there))
 
-  -- items of two lists rise as one list where no key occurs twice
-  rising-merged : (xs ys : List A) → AllPairs (IsBelow key_of) ys
-      → ((key : ℕ) → times key xs + times key ys ≤ 1)
-      → AllPairs (IsBelow key_of) (merged key_of xs ys)
-  rising-merged [] ys rising once = rising
-  rising-merged (x ∷ xs) ys rising once =
-      let rest = merged key_of xs ys in
-      rising-entered key_of x rest
-      (rising-merged xs ys rising (λ key. omega (arith, once key)))
-      (times-others (key_of x) rest (omega (
-        arith,
-        sum-merged (counts (key_of x)) xs ys,
-        once (key_of x),
-        counts-key (key_of x) x refl,
-      )))
-
   -- without one of the items
   pub sum-without : (f : A → ℕ) (key : ℕ) (x : A) (xs : List A) → times key xs ≤ 1
       → item_at key_of xs key ≡ Some x → f x + sum_over f (without key_of key xs) ≡ sum_over f xs
@@ -204,20 +188,4 @@ module _ {A : Type 0} (key_of : A → ℕ) (g : A → A) (key : ℕ) where
           ap (sum_over f) (changed_past key_of g key y ys n),
           sum-changed f x ys (omega (arith, once)) (found_later key_of key x y ys n there),
         )
-      ]
-
-  -- a change that keeps each weight
-  sum-kept : (f : A → ℕ) → ((x : A) → f (g x) ≡ f x) → (xs : List A)
-      → sum_over f (changed_at key_of g key xs) ≡ sum_over f xs
-  sum-kept f keeps [] = refl
-  sum-kept f keeps (y ∷ ys) =
-      elim (cases_eq (key_of y) key) [
-        | inl e ↦ omega (
-          arith,
-          ap (sum_over f) (changed_here key_of g key y ys e),
-          keeps y,
-          sum-kept f keeps ys,
-        )
-        | inr n ↦ omega
-            (arith, ap (sum_over f) (changed_past key_of g key y ys n), sum-kept f keeps ys)
       ]

@@ -51,7 +51,6 @@ use Rattle.ea_sound.proofs.Asked.{reached-rule}
 use Rattle.ea_sound.proofs.Assembly.{Closed, HoldsAt, route-holds}
 use Rattle.ea_sound.proofs.BlockWeights.{only_at-itself}
 use Rattle.ea_sound.proofs.CarrierMoves.{closed}
-use Rattle.ea_sound.proofs.Created.{scheduler-number}
 use Rattle.ea_sound.proofs.Employers.{employed-owner, found-counts}
 use Rattle.ea_sound.proofs.Hits.{held-stands, hit, stands-allocated}
 use Rattle.ea_sound.proofs.KeyedWeights.{sum-item}
@@ -61,7 +60,6 @@ use Rattle.ea_sound.proofs.Orderly.{stays-employed}
 use Rattle.ea_sound.proofs.RowLeaves.{row-left}
 use Rattle.ea_sound.proofs.SoundRanges.{number-scheduler}
 use Rattle.ea_sound.proofs.StageMoves.{closed-walk}
-use Rattle.ea_sound.proofs.StandingBlocks.{block-owner}
 use Rattle.ea_sound.proofs.StillMoves.{goes-still, keeps-walk}
 use Rattle.ea_sound.proofs.Totals.{put-here, total_at-part}
 use Rattle.ea_sound.proofs.Weights.{one-itself}
@@ -90,17 +88,7 @@ module _ (e : Setup) (v : State) (s : Shared) (me : ℕ) (is : is_scheduler e me
     now : u.actors me ≡ at Begin a
     now = put-here v.actors me (at Begin a) me refl
 
-    -- a name that stands with the scheduler is of a carrier that a scheduler owns
-    stands-owner : (n : ℕ) (p : Spot) → 1 ≤ names_of (only_at n p) (at Begin a)
-        → IsScheduler e.schedulers (owner_of p.carrier)
-    stands-owner n p stands =
-        scheduler-number e (owner_of p.carrier) (block-owner e u walks.kept n p (omega (
-          arith,
-          stands,
-          stands-allocated e u me seat walks.kept (at Begin a) now (only_at n p),
-        )))
-
-    -- and if it is the scheduler itself, its block lies there
+    -- the block of a name that stands with the scheduler lies there, where it owns the carrier
     stands-here : (n : ℕ) (p : Spot) → 1 ≤ names_of (only_at n p) (at Begin a)
         → owner_of p.carrier ≡ me
         → (b : BlockAt) × (block_in (employed a.instance) p ≡ Some b) × (b.name ≡ n)
@@ -111,9 +99,6 @@ module _ (e : Setup) (v : State) (s : Shared) (me : ℕ) (is : is_scheduler e me
 
     -- the block that is passed last
     module _ (n : ℕ) (p : Spot) (ns : List Node) (passed : a.passed ≡ Block n p ∷ ns) where
-      pub passed-owner : IsScheduler e.schedulers (owner_of p.carrier)
-      passed-owner = stands-owner n p (passed-stands n p ns a passed)
-
       pub passed-here : owner_of p.carrier ≡ me → IsSome (block_in (employed a.instance) p)
       passed-here owned =
           let block = stands-here n p (passed-stands n p ns a passed) owned in
@@ -145,9 +130,6 @@ module _ (e : Setup) (v : State) (s : Shared) (me : ℕ) (is : is_scheduler e me
 
     -- a block that is held
     module _ (n : ℕ) (x : Named) (held : named_at n a.held ≡ Some x) where
-      pub walk-owner : IsScheduler e.schedulers (owner_of x.spot.carrier)
-      walk-owner = stands-owner x.name x.spot (held-stands n x (at Begin a) held)
-
       pub walk-here : owner_of x.spot.carrier ≡ me → IsSome (block_in (employed a.instance) x.spot)
       walk-here owned =
           let block = stands-here x.name x.spot (held-stands n x (at Begin a) held) owned in
@@ -201,10 +183,6 @@ module _ (e : Setup) (v : State) (s : Shared) (me : ℕ) (is : is_scheduler e me
         → a.todo ≡ op.Realloc old fresh bytes ∷ ops → named_at fresh a.held ≡ None
     walk-fresh_realloc old fresh bytes ops first =
         walk-fresh fresh (omega (arith, ap (made_in fresh) first, one-itself fresh))
-
-    -- the walk doesn't ask which node is next
-    pub walk-next : (next : Option Node) → InWalk e v s me (at Begin (record a { next = next }))
-    walk-next next = (closed-walk e v s me is).next next a walks
 
   -- a block goes its route: where that is over the walk goes on with the other nodes
   module _ (n : ℕ) (p : Spot) (ns : List Node) (a : Actor)

@@ -1,5 +1,5 @@
 -- What a row leaves of what a scheduler keeps by itself.
-use Rattle.std.proofs.Common.{◌≡◌, ℕ, ◌+◌, ◌<◌, ◌≤◌, List, true, refl, sym, ap, ◌∙◌, subst, inl, inr, arith}
+use Rattle.std.proofs.Common.{◌≡◌, ℕ, ◌+◌, ◌<◌, ◌≤◌, List, true, refl, sym, ap, ◌∙◌, inl, inr, arith}
 use Rattle.std.proofs.lemmas.Bool.{cases_lt, true≢false}
 use Rattle.ea_model.specs.declared.operations.Op.{Op}
 use Rattle.ea_machine.specs.Actor.{Actor, Stage}
@@ -11,14 +11,13 @@ use Rattle.ea_machine.specs.Setup.{Setup, is_scheduler, migration}
 use Rattle.ea_machine.specs.Shared.{Shared, put}
 use Rattle.ea_machine.specs.State.{State}
 use Rattle.ea_machine.specs.Sums.{total}
-use Rattle.ea_sound.specs.Present.{Fits, Rule}
+use Rattle.ea_sound.specs.Present.{Rule}
 use Rattle.ea_sound.specs.Rule.{Kept, Standing}
 use Rattle.ea_sound.proofs.FewBlocks.{Counting, blocks_named}
 use Rattle.ea_sound.proofs.HeldNames.{times_held}
 use Rattle.ea_sound.proofs.Hits.{stands-allocated}
 use Rattle.ea_sound.proofs.Numbered.{scheduler-seat}
 use Rattle.ea_sound.proofs.Orderly.{disowning-IsOrderly}
-use Rattle.ea_sound.proofs.PresentWalks.{GoodAfterRow}
 use Rattle.ea_sound.proofs.Suits.{Bare, CoreOf}
 use Rattle.ea_sound.proofs.Totals.{total-part, total-put, total_at_past}
 
@@ -81,15 +80,6 @@ module _ (e : Setup) (w : State) (me : ℕ) (is : is_scheduler e me ≡ true) (r
 
   abbrev pub CoreAt : Shared → List Op → (Counting → ℕ) → Type 0
   CoreAt s left x = CoreOf e s me (home_of e s) (bound_of e w me) left x a
-
-  abbrev pub IsBare : Shared → List Op → Actor → Type 0
-  IsBare s left b = Bare e s me (home_of e s) (bound_of e w me) left b
-
-  abbrev pub IsGood : Shared → Actor → Type 0
-  IsGood s b = GoodAfterRow e s me (home_of e s) (bound_of e w me) b
-
-  pub fits : (stage : Stage) → a.stage ≡ stage → Fits e w me a stage
-  fits stage now = subst (Fits e w me a) now (rule.present.fits me)
 
   pub names : (stage : Stage) → a.stage ≡ stage → (n : ℕ)
       → times_held n a.held + made_in n (unplaced stage a.todo) ≤ 1

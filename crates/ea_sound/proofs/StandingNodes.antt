@@ -1,8 +1,8 @@
 -- Nodes in queues and in walks, and those that are about to be pushed: a block's has a name that a
 -- block has, and a carrier's is that of a carrier that returns to its owner.
-use Rattle.std.proofs.Common.{◌≡◌, ℕ, ◌<◌, ◌≤◌, true, false, List, [], ◌∷◌, sym, ap, ◌∙◌, subst, inl, inr, arith}
+use Rattle.std.proofs.Common.{◌≡◌, ℕ, ◌<◌, ◌≤◌, false, List, [], ◌∷◌, sym, ap, subst, inl, inr, arith}
 use Rattle.std.specs.Prelude.{All}
-use Rattle.std.proofs.lemmas.Bool.{cases_lt, true≢false}
+use Rattle.std.proofs.lemmas.Bool.{cases_lt}
 use Rattle.std.proofs.lemmas.List.Elements.{All-cons, All-nil}
 use Rattle.ea_model.specs.declared.carriers.Spot.{Spot}
 use Rattle.ea_model.specs.Content.{Content}
@@ -17,10 +17,9 @@ use Rattle.ea_machine.specs.NodePlaces.{anywhere, carrier_nodes, of_carrier_acto
 use Rattle.ea_machine.specs.Nodes.{Mark}
 use Rattle.ea_machine.specs.Owners.{Returning}
 use Rattle.ea_machine.specs.Places.{IsNumber, is_there}
-use Rattle.ea_machine.specs.Setup.{Setup, is_scheduler, migration}
+use Rattle.ea_machine.specs.Setup.{Setup, is_scheduler}
 use Rattle.ea_machine.specs.State.{State}
 use Rattle.ea_machine.specs.Sums.{one_if, sum_over, total, total_at}
-use Rattle.ea_sound.specs.Blocks.{IsOfBlock}
 use Rattle.ea_sound.specs.Present.{Rule}
 use Rattle.ea_sound.specs.Rule.{Kept, names_of}
 use Rattle.ea_sound.proofs.Homes.{sum-there}
@@ -48,43 +47,21 @@ module _ (e : Setup) (w : State) (k : Kept e w) where
   pub at-name : (i n : ℕ) (p : Spot) → IsAt e w i (Block n p) → 1 ≤ allocated e (only n) w
   at-name i n p at = omega (arith, at.names (only n), one-itself n)
 
-  -- a carrier that returns has a number, and carriers migrate
-  returning-number : (c i : ℕ) (x : Content) → w.shared.places c ≡ Returning i x
-      → IsNumber e c × (migration e ≡ true)
-  returning-number c i x returns =
-      let on = returning-on e w k c i x returns in (
-        content-number e w k c
-            (omega (arith, sum-there e w k c on, ap (λ p. one_if (is_there p)) returns)),
-        on,
-      )
+  -- a carrier that returns has a number
+  returning-number : (c i : ℕ) (x : Content) → w.shared.places c ≡ Returning i x → IsNumber e c
+  returning-number c i x returns = content-number e w k c (omega (
+    arith,
+    sum-there e w k c (returning-on e w k c i x returns),
+    ap (λ p. one_if (is_there p)) returns,
+  ))
 
   -- so has the carrier of a node
-  pub at-number : (i c : ℕ) → IsAt e w i (Carrier c) → IsNumber e c × (migration e ≡ true)
+  pub at-number : (i c : ℕ) → IsAt e w i (Carrier c) → IsNumber e c
   at-number i c at =
       let r = node-returning e w k c (omega (arith, at.carriers (anywhere c), one-itself c)) in
       returning-number c r.0 r.1 r.2
 
-  -- where carriers don't migrate it is a block's
-  pub at-block : migration e ≡ false → (i : ℕ) (node : Node) → IsAt e w i node → IsOfBlock node
-  at-block off i (Block n p) at = tt
-  at-block off i (Carrier c) at = absurd (true≢false (sym (at-number i c at).1 ∙ off))
-
   module _ (me : ℕ) (seat : me < seats e) where
-    passed-seat : All (IsAt e w me) (w.actors me).passed
-    passed-seat = all-parts (IsAt e w me) (w.actors me).passed (λ node part. record {
-      names = λ f. omega (
-        arith,
-        part (of_node f),
-        total-part (names_of f) w.actors me (seats e) seat,
-        k.names.balance f,
-      );
-      carriers = λ g. omega (
-        arith,
-        part (of_carrier_node g me),
-        total_at-part (of_carrier_actor g) w.actors me (seats e) seat,
-      );
-    })
-
     -- the node that a scheduler is about to push
     pub pushing-at : (node : Node) (to : ℕ) (why : Why) (gone : Gone)
         → (w.actors me).stage ≡ Routed (Pushing node to) why gone → IsAt e w to node
@@ -138,15 +115,7 @@ module _ (e : Setup) (w : State) (rule : Rule e w) where
   queue-at = marks-at w.shared.queues (λ f. omega (arith, rule.kept.names.balance f))
       (λ g. omega arith) (λ i none. (rule.present.nobody i none).queue)
 
-  -- those of a walk that aren't passed, and those that are
+  -- those of a walk that aren't passed
   pub rest-at : (i : ℕ) → All (λ m. IsAt e w i m.node) (w.shared.rests i)
   rest-at = marks-at w.shared.rests (λ f. omega (arith, rule.kept.names.balance f))
       (λ g. omega arith) (λ i none. (rule.present.nobody i none).rest)
-
-  pub passed-at : (i : ℕ) → All (IsAt e w i) (w.actors i).passed
-  passed-at i = elim (cases_lt i (seats e)) [
-    | inl seat ↦ passed-seat e w rule.kept i seat
-    | inr past ↦
-        subst (All (IsAt e w i)) (sym (rule.present.nobody i (no_scheduler-beyond e i past)).passed)
-        (All-nil (IsAt e w i))
-  ]

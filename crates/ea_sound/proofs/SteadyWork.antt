@@ -1,5 +1,5 @@
 -- The local work of a scheduler leaves it steady.
-use Rattle.std.proofs.Common.{◌≡◌, ℕ, zero, suc, ◌-◌, Bool, true, false, List, [], ◌∷◌, refl, sym, ap, ◌∙◌, arith}
+use Rattle.std.proofs.Common.{◌≡◌, ℕ, zero, suc, ◌-◌, Bool, true, false, List, [], ◌∷◌, refl, sym, ap, ◌∙◌}
 use Rattle.std.specs.Prelude.{Option, Some, None, Result, Ok, Err, ◌&&◌, nat_lt}
 use Rattle.std.proofs.lemmas.Bool.{true≢false}
 use Rattle.ea_model.specs.declared.carriers.CarrierPlan.{CarrierPlan}
@@ -159,7 +159,7 @@ module _ (e : Setup) (me : ℕ) where
   took_by-leaves name tries left a (Some spot) = (refl, refl, tt)
   took_by-leaves name tries zero a None = (refl, refl, tt)
   took_by-leaves name tries (suc zero) a None = (refl, refl, tt)
-  took_by-leaves name tries (suc (suc left)) a None = (refl, refl, λ some. omega arith)
+  took_by-leaves name tries (suc (suc left)) a None = (refl, refl, tt)
 
   took-leaves : (name tries left : ℕ) (a : Actor) (r : Answer)
       → Leaves a.next a.passed (took name tries left a r)
@@ -206,7 +206,7 @@ module _ (e : Setup) (me : ℕ) where
   itself-leaves a (op.Realloc old fresh bytes ∷ ops) =
       reallocated-leaves old fresh (need_of bytes) a (named_at old a.held)
   itself-leaves a (op.Give name to ∷ ops) = giving-leaves name to a (named_at name a.held)
-  itself-leaves a (op.Take name tries ∷ ops) = (refl, refl, λ some. some)
+  itself-leaves a (op.Take name tries ∷ ops) = (refl, refl, tt)
   itself-leaves a (op.Info ∷ ops) = (refl, refl, tt)
   itself-leaves a (op.Idle ∷ ops) = (refl, refl, tt)
 

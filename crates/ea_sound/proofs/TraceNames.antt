@@ -1,7 +1,7 @@
 -- Names of blocks are names that operations of the trace make.
-use Rattle.std.proofs.Common.{◌≡◌, ℕ, ◌<◌, ◌≤◌, ◌⊎◌, Bool, true, false, List, [], ◌∷◌, refl, ap, ◌∙◌, subst, inl, inr, arith}
-use Rattle.std.proofs.lemmas.Bool.{cases_eq, cases_lt}
-use Rattle.std.specs.Prelude.{All, ◌==◌}
+use Rattle.std.proofs.Common.{◌≡◌, ℕ, ◌<◌, ◌≤◌, Bool, true, false, List, [], ◌∷◌, refl, ap, ◌∙◌, inl, inr, arith}
+use Rattle.std.proofs.lemmas.Bool.{cases_lt}
+use Rattle.std.specs.Prelude.{All}
 use Rattle.std.proofs.lemmas.List.Elements.{All-head, All-tail}
 use Rattle.ea_model.specs.declared.operations.Op.{Op}
 use Rattle.ea_model.specs.declared.operations.Op.TheVariants.{Alloc, Free, Realloc, Give, Take, Info, Idle}
@@ -28,58 +28,44 @@ use Rattle.ea_sound.proofs.Totals.{total-none, total-part}
 abbrev pub IsNameOf : Trace → ℕ → Type 0
 IsNameOf t name = (1 ≤ name) × (name ≤ t.greatest)
 
--- the name is none of those from 1 up to the greatest
-abbrev pub IsOutside : ℕ → ℕ → Type 0
-IsOutside greatest name = (name ≡ 0) ⊎ (greatest < name)
-
--- no operation makes such a name
+-- no operation makes a name that isn't one of the first
 module _ (name n : ℕ) where
-  outside-less : (k m : ℕ) → k ≤ m → IsOutside m name → IsOutside k name
-  outside-less k m less (inl zero) = inl zero
-  outside-less k m less (inr past) = inr (omega (arith, less, past))
+  abbrev IsIn : ℕ → Type 0
+  IsIn most = (1 ≤ name) × (name ≤ most)
 
-  other-name : (k : ℕ) → 1 ≤ k → IsOutside k name → (name == k) ≡ false
-  other-name k some (inl zero) = grind (arith, some, zero)
-  other-name k some (inr past) = grind (arith, past)
+  makes-none : (o : Op) → IsOperation n o → (IsIn (greatest_in o) → ⊥) → makes name o ≡ false
+  makes-none (Alloc m bytes) is not = grind (arith, is.0, not)
+  makes-none (Free m) is not = refl
+  makes-none (Realloc old m bytes) is not = grind (arith, is.1, not)
+  makes-none (Give m to) is not = refl
+  makes-none (Take m tries) is not = refl
+  makes-none Info is not = refl
+  makes-none Idle is not = refl
 
-  outside-makes : (o : Op) → IsOperation n o → IsOutside (greatest_in o) name
-      → makes name o ≡ false
-  outside-makes (Alloc m bytes) is out = other-name m is.0.0 out
-  outside-makes (Free m) is out = refl
-  outside-makes (Realloc old m bytes) is out =
-      other-name m is.1.0 (outside-less m (greatest_in (Realloc old m bytes)) (omega arith) out)
-  outside-makes (Give m to) is out = refl
-  outside-makes (Take m tries) is out = refl
-  outside-makes Info is out = refl
-  outside-makes Idle is out = refl
-
-  outside-made : (ops : List Op) → All (IsOperation n) ops → IsOutside (greatest_of ops) name
+  made-none : (ops : List Op) → All (IsOperation n) ops → (IsIn (greatest_of ops) → ⊥)
       → made_in name ops ≡ 0
-  outside-made [] are out = refl
-  outside-made (o ∷ ops) are out =
-      let most = greatest_of (o ∷ ops) in
-      omega (
-        arith,
-        ap one_if (outside-makes o (All-head (IsOperation n) o ops are)
-            (outside-less (greatest_in o) most (omega arith) out)),
-        outside-made ops (All-tail (IsOperation n) o ops are)
-            (outside-less (greatest_of ops) most (omega arith) out),
-      )
+  made-none [] are not = refl
+  made-none (o ∷ ops) are not = omega (
+    arith,
+    ap one_if (makes-none o (All-head (IsOperation n) o ops are)
+        (λ is. not (is.0, omega (arith, is.1)))),
+    made-none ops (All-tail (IsOperation n) o ops are) (λ is. not (is.0, omega (arith, is.1))),
+  )
 
 module _ (c : Config) (t : Trace) (valid : IsValidConfig c)
     (made : IsValidTrace c.schedulers t) where
   abbrev e : Setup
   e = setup_of c t
 
-  module _ (name : ℕ) (outside : IsOutside t.greatest name) where
+  module _ (name : ℕ) (not : IsNameOf t name → ⊥) where
     text-none : (i : ℕ) → i < seats e → made_in name (e.texts i) ≡ 0
     text-none i within = omega (
       arith,
       total-part (made_in name) (text_for (texts_of t)) i (seats e) within,
       total-text_for (made_in name) refl (texts_of t) c.schedulers,
       sum-flat (λ o. one_if (makes name o)) (λ text. text) (texts_of t),
-      outside-made name c.schedulers (operations_of t) made.operations
-          (subst (λ n. IsOutside n name) made.greatest outside),
+      made-none name c.schedulers (operations_of t) made.operations
+          (λ is. not (is.0, omega (arith, is.1, made.greatest))),
     )
 
     first-left : (b : Bool) (ops : List Op) → unplaced (first_stage e b) ops ≡ ops
@@ -97,18 +83,20 @@ module _ (c : Config) (t : Trace) (valid : IsValidConfig c)
     never-allocated L = stays-gone e (rule-run c t valid made) (all_of name) [] L
         (all-none e (only name)) never-made
 
-  module _ (w : State) (reached : IsReached e w) where
-    -- no block has a name that no operation makes
-    pub outside-none : (name : ℕ) → IsOutside t.greatest name → allocated e (only name) w ≡ 0
-    outside-none name outside =
-        ap (allocated e (only name)) reached.1 ∙ never-allocated name outside reached.0
-
-    -- so a name that a block has is one of those
-    pub name-range : (name : ℕ) → 1 ≤ allocated e (only name) w → IsNameOf t name
-    name-range name some = elim (cases_eq name 0) [
-      | inl zero ↦ absurd (omega (arith, some, outside-none name (inl zero)))
-      | inr more ↦ elim (cases_lt t.greatest name) [
-        | inl past ↦ absurd (omega (arith, some, outside-none name (inr past)))
-        | inr most ↦ (omega (arith, more), omega (arith, most))
-      ]
+  -- so a name that a block has is one of the trace
+  pub name-range : (w : State) → IsReached e w → (name : ℕ) → 1 ≤ allocated e (only name) w
+      → IsNameOf t name
+  name-range w reached name some = elim (cases_lt 0 name) [
+    | inr none ↦ absurd (within (λ is. omega (arith, none, is.0)))
+    | inl more ↦ elim (cases_lt t.greatest name) [
+      | inl past ↦ absurd (within (λ is. omega (arith, past, is.1)))
+      | inr most ↦ (omega (arith, more), omega (arith, most))
     ]
+  ] where
+    within : ((1 ≤ name) × (name ≤ t.greatest) → ⊥) → ⊥
+    within not = omega (
+      arith,
+      some,
+      ap (allocated e (only name)) reached.1,
+      never-allocated name not reached.0,
+    )

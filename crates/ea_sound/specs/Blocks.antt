@@ -3,19 +3,12 @@ use Rattle.std.specs.Prelude.{ℕ, ◌+◌, ◌<◌, ◌≤◌, ◌==◌, ◌&&�
 use Rattle.ea_model.specs.declared.carriers.Spot.{Spot}
 use Rattle.ea_model.specs.Content.{Content, can_go}
 use Rattle.ea_model.specs.Instance.{Instance, first_number}
-use Rattle.ea_machine.specs.declared.nodes.Node.{Node}
-use Rattle.ea_machine.specs.declared.nodes.Node.TheVariants.{Block, Carrier}
 use Rattle.ea_machine.specs.Setup.{Setup}
 use Rattle.ea_machine.specs.Sums.{one_if, sum_over}
 
 -- the spot in a carrier
 abbrev pub spot_at : ℕ → ℕ → Spot
 spot_at number offset = record { carrier = number; offset = offset }
-
--- the node is a block's
-abbrev pub IsOfBlock : Node → Type 0
-IsOfBlock (Block name spot) = Unit {0}
-IsOfBlock (Carrier number) = ⊥
 
 -- 1 for the main carrier of an instance
 abbrev pub main_count : ℕ → Content → ℕ

@@ -1,5 +1,5 @@
 -- What the steps of a scheduler keep of its walk and of its route, whatever the others do.
-use Rattle.std.specs.Prelude.{◌≡◌, ℕ, ◌≤◌, Bool, true, false, List, [], ◌∷◌, None}
+use Rattle.std.specs.Prelude.{◌≡◌, ℕ, Bool, true, false, List, [], ◌∷◌, None}
 use Rattle.ea_model.specs.Content.{Content}
 use Rattle.ea_machine.specs.declared.owners.OwnerWord.TheVariants as word
 use Rattle.ea_machine.specs.Abandonment.{is_due}
@@ -28,8 +28,8 @@ works_off Ended = false
 works_off Ready = false
 
 module _ (e : Setup) (me : ℕ) (employs : List Content) where
-  -- the word that was seen of a carrier that is to be busy is that of an own pooled one; a carrier
-  -- that is to be abandoned is due; and a name is tried as long as a try is left
+  -- the word that was seen of a carrier that is to be busy is that of an own pooled one, and a
+  -- carrier that is to be abandoned is due
   abbrev pub IsSteadyRoute : Route → Type 0
   IsSteadyRoute (Looking hand) = Unit {0}
   IsSteadyRoute (Trying hand seen) = (largest : ℕ) × (seen ≡ word.Pooled me largest)
@@ -48,7 +48,7 @@ module _ (e : Setup) (me : ℕ) (employs : List Content) where
   IsSteadyStage (Fetching ask at looked seen) = Unit {0}
   IsSteadyStage (Creating ask p) = Unit {0}
   IsSteadyStage (Giving given to) = Unit {0}
-  IsSteadyStage (Taking name tries left) = 1 ≤ tries → 1 ≤ left
+  IsSteadyStage (Taking name tries left) = Unit {0}
   IsSteadyStage Ended = Unit {0}
   IsSteadyStage Ready = Unit {0}
 
