@@ -8,7 +8,6 @@ pub mod OutcomeSums
 pub mod Paths
 pub mod PresentCarriers
 pub mod PresentLive
-pub mod PresentNames
 pub mod PresentNumbers
 pub mod Texts
 pub mod Suiting

@@ -1,6 +1,6 @@
 -- What is printed of a state is what its schedulers come to, where their carriers don't migrate.
 use Rattle.std.proofs.Common.{◌≡◌, ℕ, ◌+◌, ◌*◌, ◌≤◌, true, false, List, length, map, sym, ap, ◌∙◌, subst, arith}
-use Rattle.std.specs.Prelude.{All, AllPairs, flat_map, sum_by}
+use Rattle.std.specs.Prelude.{flat_map, sum_by}
 use Rattle.std.proofs.Math.Path.{fun_ext}
 use Rattle.std.proofs.lemmas.List.{length-map}
 use Rattle.std.proofs.lemmas.Simd.{map-map}
@@ -17,13 +17,11 @@ use Rattle.ea_model.specs.declared.trace.Trace.{Trace}
 use Rattle.ea_model.specs.declared.units.TheConstants.{MAX_SCHEDULERS}
 use Rattle.ea_model.specs.Content.{Content, free_units, gaps_of}
 use Rattle.ea_model.specs.Instance.{carrier_line, employed}
-use Rattle.ea_model.specs.Keyed.{IsBelow}
 use Rattle.ea_model.specs.Lists.{Items}
 use Rattle.ea_model.specs.Outcome.{plain_outcome}
 use Rattle.ea_model.specs.Settings.{IsValidConfig}
 use Rattle.ea_model.specs.Trace.{IsValidTrace, listed, plain_mode}
 use Rattle.ea_machine.specs.Actor.{Actor}
-use Rattle.ea_machine.specs.NamePlaces.{name_of}
 use Rattle.ea_machine.specs.Outcome.{actors_of, line_of, outcome, present}
 use Rattle.ea_machine.specs.Setup.{Setup, migration, setup_of}
 use Rattle.ea_machine.specs.Shared as shares
@@ -31,8 +29,8 @@ use Rattle.ea_machine.specs.State.{State}
 use Rattle.ea_machine.specs.Sums.{sum_over}
 use Rattle.ea_sound.specs.Present.{Rule}
 use Rattle.ea_sound.proofs.Asked.{reached-rule}
+use Rattle.ea_sound.proofs.Calls.{given-range}
 use Rattle.ea_sound.proofs.PrintedSums.{prints-sums}
-use Rattle.ea_sound.proofs.Protocols.{rule-run}
 use Rattle.ea_sound.proofs.Ranged.{sum-flat}
 use Rattle.ea_sound.proofs.SoundUnits.{sound-sums}
 use Rattle.ea_sound.proofs.Weights.{sum_by-sum_over}
@@ -42,8 +40,7 @@ use Rattle.ea_sched.specs.Built.{is_built_run}
 use Rattle.ea_sched.specs.Resting.{AreGiven, HaveParts, StandIn, all_employed, all_live, count_employed, sum_employed, totals_by}
 use Rattle.ea_sched.proofs.PresentCarriers.{present-contents, present-lines}
 use Rattle.ea_sched.proofs.PresentLive.{live-printed}
-use Rattle.ea_sched.proofs.PresentNames.{given-range}
-use Rattle.ea_sched.proofs.PresentNumbers.{HasKeyIn, map-flat_map}
+use Rattle.ea_sched.proofs.PresentNumbers.{map-flat_map}
 use Rattle.ea_sched.proofs.Texts.{off-built}
 
 -- outcomes with the same parts
@@ -95,18 +92,12 @@ module _ (c : Config) (t : Trace) (valid : IsValidConfig c) (made : IsValidTrace
     valid.schedulers.1,
   )
 
-  -- given names are in their range
-  ranged : All (HasKeyIn name_of 1 t.greatest) shared.given
-  ranged = subst (λ (s : shares.Shared). All (HasKeyIn name_of 1 t.greatest) s.given)
-      (sym (stand.shares ∙ ap (λ (v : State). v.shared) stand.reached.1))
-      (given-range c t made (rule-run c t valid made) stand.reached.0)
-
+  -- the names that are given
   pub are-given : AreGiven t.greatest shared.given
-  are-given = record {
-    rising = subst (λ (s : shares.Shared). AllPairs (IsBelow name_of) s.given) (sym stand.shares)
-        rule.present.given;
-    within = λ k d within. let at = ranged k d within in (at.0, omega (arith, at.1));
-  }
+  are-given = subst (λ (s : shares.Shared). AreGiven t.greatest s.given) (sym stand.shares) (record {
+    rising = rule.present.given;
+    within = given-range c t valid made w stand.reached;
+  })
 
   -- the contents that are printed are those that the schedulers employ
   printed : map (λ p. p.content) (present e w) ≡ flat_map (λ s. employed s.instance) ss
