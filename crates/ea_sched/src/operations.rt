@@ -125,7 +125,7 @@ impl<'t> Scheduler<'t> {
     }
 
     /// The name was given.
-    pub fn gave(&mut self, given: Named, to: u32)
+    pub(crate) fn gave(&mut self, given: Named, to: u32)
         requires more { HasMore self.old }
         requires name { given.name ≤ self.old.names.greatest }
         ensures actor { actor_of self.new ≡ operations.gave given to (ready_of self.old) }
@@ -139,7 +139,7 @@ impl<'t> Scheduler<'t> {
     }
 
     /// A try to take the name found its block, or not; with it, `left` tries were left.
-    pub fn took(&mut self, name: u32, tries: u32, left: u32, found: Option<Spot>)
+    pub(crate) fn took(&mut self, name: u32, tries: u32, left: u32, found: Option<Spot>)
         requires more { HasMore self.old }
         requires fresh { IsSome found → IsFresh self.old name }
         ensures actor { actor_of self.new
@@ -174,7 +174,7 @@ impl<'t> Scheduler<'t> {
     }
 
     /// Does an operation, once its begin is over.
-    pub fn operate(&mut self, alloc: Global, op: Op) -> Result<(), OutOfMemory>
+    pub(crate) fn operate(&mut self, alloc: Global, op: Op) -> Result<(), OutOfMemory>
         requires more { HasMore self.old }
         requires fits { Suits self.old.instance self.old op }
         ensures actor { OnOk result (actor_of self.new ≡ operations.itself

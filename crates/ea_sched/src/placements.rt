@@ -112,7 +112,7 @@ impl<'t> Scheduler<'t> {
 
     /// Places the block: above the singleblock threshold in a carrier of its own, else where the
     /// strategy chooses among the employed carriers, or in a new one.
-    pub fn seek(&mut self, alloc: Global, ask: Ask) -> Result<(), OutOfMemory>
+    pub(crate) fn seek(&mut self, alloc: Global, ask: Ask) -> Result<(), OutOfMemory>
         requires more { HasMore self.old }
         requires asked { IsAsked self.old.instance self.old ask }
         ensures actor { OnOk result (actor_of self.new ≡ placements.seek

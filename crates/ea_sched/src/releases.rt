@@ -87,7 +87,7 @@ fn entry_of(task: Task, gone: Gone) -> Entry
 
 impl<'t> Scheduler<'t> {
     /// The operation is over, with this entry in the log, and the next one begins.
-    pub fn finish(&mut self, entry: Entry)
+    pub(crate) fn finish(&mut self, entry: Entry)
         requires { HasMore self.old }
         ensures actor { actor_of self.new ≡ tasks.logged entry (ready_of self.old) }
         ensures same { IsSame self.old self.new }
@@ -98,7 +98,7 @@ impl<'t> Scheduler<'t> {
     }
 
     /// The operation's block is gone, so that the operation is over.
-    pub fn finish_task(&mut self, task: Task, gone: Gone)
+    pub(crate) fn finish_task(&mut self, task: Task, gone: Gone)
         requires { HasMore self.old }
         ensures actor { actor_of self.new ≡ tasks.task_over task gone (ready_of self.old) }
         ensures same { IsSame self.old self.new }
@@ -107,7 +107,7 @@ impl<'t> Scheduler<'t> {
     }
 
     /// The block goes to the queue of the instance that owns its carrier.
-    pub fn send(&mut self, hand: Named, why: Why)
+    pub(crate) fn send(&mut self, hand: Named, why: Why)
         ensures actor { actor_of self.new ≡ walking.sent hand why (actor_of self.old) }
         ensures same { IsSame self.old self.new }
     {
@@ -125,7 +125,7 @@ impl<'t> Scheduler<'t> {
 
     /// The name is held no longer, and its block is released: here, which ends the operation, or by
     /// the owner of its carrier, to whose queue it goes.
-    pub fn hand_over(&mut self, hand: Named, task: Task) -> Result<(), OutOfMemory>
+    pub(crate) fn hand_over(&mut self, hand: Named, task: Task) -> Result<(), OutOfMemory>
         requires more { HasMore self.old }
         requires here { IsHere self.old.instance self.old hand }
         ensures actor { OnOk result (actor_of self.new ≡ tasks.hands_over (setup_for self.old)
@@ -142,7 +142,7 @@ impl<'t> Scheduler<'t> {
     }
 
     /// Frees the block of a name; one that isn't held is skipped.
-    pub fn free(&mut self, name: u32) -> Result<(), OutOfMemory>
+    pub(crate) fn free(&mut self, name: u32) -> Result<(), OutOfMemory>
         requires more { HasMore self.old }
         requires name { HasName self.old.instance self.old name }
         ensures actor { OnOk result (actor_of self.new ≡ operations.freed (setup_for self.old)

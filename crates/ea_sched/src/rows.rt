@@ -15,7 +15,7 @@ use std::alloc::Global;
 
 impl<'t> Scheduler<'t> {
     /// An operation begins: the scheduler takes its queue, and walks it from its newest node on.
-    pub fn take_queue<S: Shared<Content = Mbc>>(
+    pub(crate) fn take_queue<S: Shared<Content = Mbc>>(
         &mut self,
         alloc: Global,
         shared: &mut S,
@@ -41,7 +41,7 @@ impl<'t> Scheduler<'t> {
 
     /// The walk goes on with its next node; where that isn't linked yet, the walk rests until the
     /// next operation begins.
-    pub fn pass<S: Shared<Content = Mbc>>(
+    pub(crate) fn pass<S: Shared<Content = Mbc>>(
         &mut self,
         alloc: Global,
         shared: &mut S,
@@ -74,7 +74,7 @@ impl<'t> Scheduler<'t> {
     }
 
     /// The node of a block is pushed to the queue of the instance that owns its carrier.
-    pub fn push<S: Shared<Content = Mbc>>(
+    pub(crate) fn push<S: Shared<Content = Mbc>>(
         &mut self,
         shared: &mut S,
         node: Node,
@@ -98,7 +98,7 @@ impl<'t> Scheduler<'t> {
 
     /// The pushed node is linked to the older ones, and the block is gone: its walk goes on, or its
     /// operation is over.
-    pub fn link<S: Shared<Content = Mbc>>(
+    pub(crate) fn link<S: Shared<Content = Mbc>>(
         &mut self,
         alloc: Global,
         shared: &mut S,
@@ -127,7 +127,7 @@ impl<'t> Scheduler<'t> {
     }
 
     /// A held name is given, to whoever takes it.
-    pub fn give<S: Shared<Content = Mbc>>(&mut self, shared: &mut S, given: Named, to: u32)
+    pub(crate) fn give<S: Shared<Content = Mbc>>(&mut self, shared: &mut S, given: Named, to: u32)
         requires schedulers { S.schedulers shared.old ≡ self.old.config.schedulers }
         requires greatest { S.greatest shared.old ≡ self.old.trace.now.greatest }
         requires ready { IsReady self.old (S.shared shared.old) (S.caller shared.old) }
@@ -142,7 +142,7 @@ impl<'t> Scheduler<'t> {
     }
 
     /// One try to take the name.
-    pub fn try_take<S: Shared<Content = Mbc>>(
+    pub(crate) fn try_take<S: Shared<Content = Mbc>>(
         &mut self,
         shared: &mut S,
         name: u32,

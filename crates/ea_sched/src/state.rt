@@ -13,9 +13,10 @@ use ea_names::Names;
 use ea_stats::Stats;
 
 /// Scheduler `number` in the run of a trace. Of the run it knows the configuration and the trace;
-/// for itself it keeps its text, how many of its operations are done, its allocator instance, the names
-/// that it holds, where it is in its operation, the nodes that its walk passed and the next one, the statistics of its multiblock and of its
-/// singleblock carriers, and its log. Once it had no memory it has failed.
+/// for itself it keeps its text, how many of its operations are done, its allocator instance, the
+/// names that it holds, where it is in its operation, the nodes that its walk passed and the next
+/// one, the statistics of its multiblock and of its singleblock carriers, and its log. Once it had
+/// no memory it has failed.
 #[derive(Drop)]
 pub struct Scheduler<'t> {
     pub config: Config,

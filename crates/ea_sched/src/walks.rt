@@ -44,7 +44,7 @@ fn work_off(
 
 impl<'t> Scheduler<'t> {
     /// Does the operation itself, once its begin is over; where none is left, its text is done.
-    pub fn go_on(&mut self, alloc: Global) -> Result<(), OutOfMemory>
+    pub(crate) fn go_on(&mut self, alloc: Global) -> Result<(), OutOfMemory>
         requires next { SuitsNext self.old.instance self.old }
         ensures actor { OnOk result (actor_of self.new ≡ machine.onward (setup_for self.old)
             self.old.number (ready_of self.old)) }
@@ -60,7 +60,7 @@ impl<'t> Scheduler<'t> {
 
     /// Works off the nodes that its walk passed, and goes on with the operation itself, unless the
     /// block of one goes to another instance's queue.
-    pub fn end_walk(&mut self, alloc: Global) -> Result<(), OutOfMemory>
+    pub(crate) fn end_walk(&mut self, alloc: Global) -> Result<(), OutOfMemory>
         requires passed { CanAllGo self.old.number self.old.instance self.old.passed.nodes }
         requires next { (worked self.old.number self.old.instance self.old.passed.nodes).hand ≡ None
             → SuitsNext (worked self.old.number self.old.instance self.old.passed.nodes).instance
