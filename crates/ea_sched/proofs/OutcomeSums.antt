@@ -37,7 +37,7 @@ use Rattle.ea_sound.proofs.Weights.{sum_by-sum_over}
 use Rattle.ea_sched.specs.declared.state.Scheduler.{Scheduler}
 use Rattle.ea_sched.specs.Acting.{actor_of}
 use Rattle.ea_sched.specs.Built.{is_built_run}
-use Rattle.ea_sched.specs.Resting.{AreGiven, HaveParts, StandIn, all_employed, all_live, count_employed, sum_employed, totals_by}
+use Rattle.ea_sched.specs.Resting.{AreGiven, HaveParts, StandIn, all_employed, count_employed, live_units, sum_employed, totals_by}
 use Rattle.ea_sched.proofs.PresentCarriers.{present-contents, present-lines}
 use Rattle.ea_sched.proofs.PresentLive.{live-printed}
 use Rattle.ea_sched.proofs.PresentNumbers.{map-flat_map}
@@ -130,10 +130,9 @@ module _ (c : Config) (t : Trace) (valid : IsValidConfig c) (made : IsValidTrace
     free-printed : totals.free ≡ sum_employed (λ x. free_units (gaps_of x)) ss
     free-printed = sum-printed (λ x. free_units (gaps_of x))
 
-    live-is : totals.live ≡ all_live (map actor_of ss) shared.given
-    live-is = live-printed e w rule off mode
-        ∙ ap (λ actors. all_live actors w.shared.given) (sym stand.actors)
-        ∙ ap (λ (s : shares.Shared). all_live (map actor_of ss) s.given) (sym stand.shares)
+    live-is : totals.live ≡ live_units ss shared.given
+    live-is = live-printed e w rule off ss stand.actors mode
+        ∙ ap (λ (s : shares.Shared). live_units ss s.given) (sym stand.shares)
 
     -- the totals add up
     totals-sum : totals.live + totals.queued + totals.free + totals.header ≡ totals.units

@@ -128,7 +128,7 @@ module _ (e : Setup) (w : State) (rule : Rule e w) (off : migration e ≡ false)
     shown c None none = refl
     shown c (Some x) there = ap (λ o. present_if o standing.Employed i) there
 
-    numbers : All (HasKeyIn number_of (first_number i) 256) (employed j)
+    pub numbers : All (HasKeyIn number_of (first_number i) 256) (employed j)
     numbers = subst (λ n. All (HasKeyIn number_of (first_number n) 256) (employed j))
         standing_at.number
         (all_unmap (HasNumberIn (first_number j.number) (first_number j.number + 256)) own_of

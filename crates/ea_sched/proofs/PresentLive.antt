@@ -1,36 +1,45 @@
--- Where carriers don't migrate, the units of live blocks are summed instance by instance.
-use Rattle.std.proofs.Common.{◌≡◌, ℕ, ◌+◌, ◌≤◌, false, List, [], ◌∷◌, map, get_or, refl, sym, ap, ◌∙◌, arith}
-use Rattle.std.specs.Prelude.{Option, None, Some, All, flat_map, sum_by}
+-- Where carriers don't migrate, the units of a live block are those that the owner of its carrier
+-- has at its spot.
+use Rattle.std.proofs.Common.{◌≡◌, ◌≢◌, ℕ, zero, suc, ◌+◌, ◌-◌, ◌<◌, ◌≤◌, true, false, List, [], ◌∷◌, map, get_or, length, refl, sym, ap, ◌∙◌, arith}
+use Rattle.std.specs.Prelude.{Option, None, Some, All, flat_map, slice_get, sum_by}
 use Rattle.std.specs.List.{range_with_len}
-use Rattle.std.specs.Option.{option_and_then}
+use Rattle.std.specs.Option.{option_and_then, option_map_or}
 use Rattle.std.proofs.Math.Path.{fun_ext}
+use Rattle.std.proofs.lemmas.List.{get_or-map, length-map}
 use Rattle.std.proofs.lemmas.List.Elements.{All-map}
+use Rattle.std.proofs.lemmas.List.FromFn.{get_or-map-range_with_len, length-map-range_with_len}
 use Rattle.ea_model.specs.declared.carriers.BlockAt.{BlockAt}
 use Rattle.ea_model.specs.declared.carriers.Spot.{Spot}
 use Rattle.ea_model.specs.declared.trace.Mode.{Mode}
 use Rattle.ea_model.specs.Content.{Content, block_at, size_of}
-use Rattle.ea_model.specs.Instance.{block_in, content_of, employed, size_at}
-use Rattle.ea_model.proofs.Rising.{item_at-key}
+use Rattle.ea_model.specs.Instance.{block_in, content_of, employed, first_number, size_at}
+use Rattle.ea_model.proofs.Rising.{item_at-All, item_at-key}
 use Rattle.ea_laws.specs.Kept.{number_of}
 use Rattle.ea_machine.specs.declared.nodes.Named.{Named}
 use Rattle.ea_machine.specs.Actor.{Actor}
 use Rattle.ea_machine.specs.Outcome.{actors_of, live_spots, outcome, units_at}
+use Rattle.ea_machine.specs.Owners.{owner_of}
 use Rattle.ea_machine.specs.Places.{has_number}
-use Rattle.ea_machine.specs.Setup.{Setup, migration}
+use Rattle.ea_machine.specs.Setup.{Setup, is_scheduler, migration}
 use Rattle.ea_machine.specs.State.{State}
 use Rattle.ea_machine.specs.Sums.{sum_over}
 use Rattle.ea_machine.specs.Units.{size_in}
 use Rattle.ea_sound.specs.Present.{Rule}
+use Rattle.ea_sound.proofs.Created.{scheduler-number}
 use Rattle.ea_sound.proofs.KeyedWeights.{sum-missing, sum-only, times, times-once}
+use Rattle.ea_sound.proofs.Plans.{numbered-owner}
 use Rattle.ea_sound.proofs.Printed.{printed-all}
 use Rattle.ea_sound.proofs.Ranged.{sum-flat}
 use Rattle.ea_sound.proofs.SoundOwners.{number-once}
 use Rattle.ea_sound.proofs.SoundRanges.{number-scheduler}
 use Rattle.ea_sound.proofs.SoundUnits.{size-here, size-of}
-use Rattle.ea_sound.proofs.Weights.{sum-append, sum-both, sum-map, sum-same, sum-zero, sum_by-sum_over}
-use Rattle.ea_sched.specs.Resting.{all_employed, all_live, live_in, units_named}
-use Rattle.ea_sched.proofs.PresentCarriers.{present-contents}
-use Rattle.ea_sched.proofs.PresentNumbers.{each-range}
+use Rattle.ea_sound.proofs.Weights.{sum-append, sum-map, sum-same, sum-zero, sum_by-sum_over}
+use Rattle.ea_sched.specs.declared.state.Scheduler.{Scheduler}
+use Rattle.ea_sched.specs.Acting.{actor_of}
+use Rattle.ea_sched.specs.Resting as resting
+use Rattle.ea_sched.specs.Resting.{all_employed}
+use Rattle.ea_sched.proofs.PresentCarriers.{numbers, present-contents}
+use Rattle.ea_sched.proofs.PresentNumbers.{HasKeyIn, each-range}
 
 -- the block at the spot in what is there
 abbrev block_by : Spot → Option Content → Option BlockAt
@@ -55,12 +64,21 @@ size-sum xs p once = by (content_of xs p.carrier) refl where
         (item_at-key number_of p.carrier x xs there),
   )
 
--- a sum of sums, in the other order
-sum-turned : {A B : Type 0} (f : A → B → ℕ) (xs : List A) (ys : List B)
-    → sum_over (λ x. sum_over (λ y. f x y) ys) xs ≡ sum_over (λ y. sum_over (λ x. f x y) xs) ys
-sum-turned f [] ys = sym (sum-zero (λ y. 0) ys (λ i d within. refl))
-sum-turned f (x ∷ xs) ys =
-    omega (arith, sum-turned f xs ys, sum-both (f x) (λ y. sum_over (λ z. f z y) xs) ys)
+-- a sum to which all but one item add nothing
+one-sums : {A : Type 0} (f : A → ℕ) (xs : List A) (i : ℕ)
+    → ((k : ℕ) (d : A) → k < length xs → k ≢ i → f (get_or xs k d) ≡ 0)
+    → sum_over f xs ≡ option_map_or f (slice_get xs i) 0
+one-sums f [] i none = refl
+one-sums f (x ∷ xs) zero none = omega (
+  arith,
+  sum-zero f xs (λ k d within. none (suc k) d (omega (arith, within)) (λ e. omega (arith, e))),
+)
+one-sums f (x ∷ xs) (suc i) none = omega (
+  arith,
+  none 0 x (omega arith) (λ e. omega (arith, e)),
+  one-sums f xs i (λ k d within other. none (suc k) d (omega (arith, within))
+      (λ e. other (omega (arith, e)))),
+)
 
 module _ (e : Setup) (w : State) (rule : Rule e w) (off : migration e ≡ false) where
   abbrev actors : List Actor
@@ -91,58 +109,73 @@ module _ (e : Setup) (w : State) (rule : Rule e w) (off : migration e ≡ false)
       actors
       (λ k d within. sym (size-sum _ p (once-each p.carrier k d within)))
 
-  -- at the spots of names
-  names-each : (names : List Named)
-      → sum_over (λ p. sum_over (λ (a : Actor). size_at a.instance p) actors)
-      (map (λ n. n.spot) names)
-      ≡ sum_over (λ (a : Actor). units_named a.instance names) actors
-  names-each names =
-      sum-map (λ p. sum_over (λ (a : Actor). size_at a.instance p) actors)
-      (λ (n : Named). n.spot) names
-      ∙ sum-turned (λ (n : Named) (a : Actor). size_at a.instance n.spot) names actors
-      ∙ sum-same (λ (a : Actor). sum_over (λ (n : Named). size_at a.instance n.spot) names)
-      (λ a. units_named a.instance names) actors
-      (λ k d within. sym (sum_by-sum_over _ names))
+  -- who doesn't own the carrier has no block there
+  none-elsewhere : (i : ℕ) (p : Spot) → is_scheduler e i ≡ true → owner_of p.carrier ≢ i
+      → size_at (w.actors i).instance p ≡ 0
+  none-elsewhere i p is other =
+      by (employed (w.actors i).instance) (numbers e w rule off i is)
+      (content_of (employed (w.actors i).instance) p.carrier) refl where
+        by : (xs : List Content) → All (HasKeyIn number_of (first_number i) 256) xs → (o : Option Content)
+            → content_of xs p.carrier ≡ o → size_of (block_in xs p) ≡ 0
+        by xs within None missing = ap (λ o. size_of (block_by p o)) missing
+        by xs within (Some x) there =
+            let range = item_at-All number_of (HasKeyIn number_of (first_number i) 256) p.carrier x xs
+            within there in
+            let same = item_at-key number_of p.carrier x xs there in
+            absurd (other (numbered-owner i p.carrier (scheduler-number e i is).0
+            (omega (arith, range.0, same)) (omega (arith, range.1, same))))
 
-  -- at the spots of held names
-  held-each : sum_over (λ p. sum_over (λ (a : Actor). size_at a.instance p) actors)
-      (flat_map (λ (b : Actor). map (λ n. n.spot) b.held) actors)
-      ≡ sum_over
-      (λ (a : Actor). sum_over (λ (b : Actor). units_named a.instance b.held) actors) actors
-  held-each =
-      let g = λ (p : Spot). sum_over (λ (a : Actor). size_at a.instance p) actors in
-      let spots = λ (b : Actor). map (λ (n : Named). n.spot) b.held in
-      sum-flat g spots actors
-      ∙ sum-same (λ b. sum_over g (spots b))
-      (λ b. sum_over (λ (a : Actor). units_named a.instance b.held) actors) actors
-      (λ k d within. names-each _)
-      ∙ sum-turned (λ (b : Actor) (a : Actor). units_named a.instance b.held) actors actors
+  module _ (ss : List Scheduler) (are : map actor_of ss ≡ actors) where
+    -- so its owner has it
+    at-owner : (p : Spot) → size_of (block_in (all_employed actors) p) ≡ resting.units_at ss p
+    at-owner p = at-each p ∙ ap (sum_over (λ a. size_at a.instance p)) (sym are)
+        ∙ sum-map (λ (a : Actor). size_at a.instance p) actor_of ss
+        ∙ one-sums (λ (s : Scheduler). size_at s.instance p) ss (owner_of p.carrier - 1)
+        (λ k d within other.
+        let below : k < e.schedulers = omega (
+          arith,
+          within,
+          length-map ss actor_of,
+          ap length are,
+          length-map-range_with_len w.actors 1 e.schedulers,
+        ) in
+        let is : actor_of (get_or ss k d) ≡ w.actors (1 + k) =
+        sym (get_or-map actor_of ss k d (actor_of d) within)
+        ∙ ap (λ bs. get_or bs k (actor_of d)) are
+        ∙ get_or-map-range_with_len w.actors 1 e.schedulers k (1 + k) (actor_of d) below refl in
+        ap (λ (a : Actor). size_at a.instance p) is
+        ∙ none-elsewhere (1 + k) p
+        (number-scheduler e (1 + k) (omega arith, omega (arith, below)))
+        (λ own. other (omega (arith, own))))
 
-  live-each : sum_over (λ (a : Actor). live_in actors w.shared.given a.instance) actors
-      ≡ sum_over
-      (λ (a : Actor). sum_over (λ (b : Actor). units_named a.instance b.held) actors) actors
-      + sum_over (λ (a : Actor). units_named a.instance w.shared.given) actors
-  live-each =
-      let of_held = λ (a : Actor). sum_over (λ (b : Actor). units_named a.instance b.held) actors in
-      let of_given = λ (a : Actor). units_named a.instance w.shared.given in
-      sum-same (λ a. live_in actors w.shared.given a.instance) (λ a. of_held a + of_given a) actors
-      (λ k d within. ap (λ n. n + of_given (get_or actors k d)) (sum_by-sum_over _ actors))
-      ∙ sum-both of_held of_given actors
+    -- all live units, name by name
+    pub live-printed : (mode : Mode)
+        → (outcome e w mode).totals.live ≡ resting.live_units ss w.shared.given
+    live-printed mode =
+        let g = resting.units_at ss in
+        let spots = λ (b : Actor). map (λ (n : Named). n.spot) b.held in
+        omega (
+          arith,
+          ap (λ xs. units_at xs (live_spots e w)) (present-contents e w rule off),
+          ap (λ (f : Spot → ℕ). sum_by f (live_spots e w)) (fun_ext at-owner),
+          sum_by-sum_over g (live_spots e w),
+          sum-append g (flat_map spots actors) (map (λ n. n.spot) w.shared.given),
+          sum-flat g spots actors,
+          ap (sum_over (λ b. sum_over g (spots b))) (sym are),
+          sum-map (λ (b : Actor). sum_over g (spots b)) actor_of ss,
+          held-sum ss,
+          named-sum w.shared.given,
+        ) where
+          named-sum : (names : List Named)
+              → sum_over (resting.units_at ss) (map (λ n. n.spot) names)
+              ≡ resting.units_named ss names
+          named-sum names = sum-map (resting.units_at ss) (λ (n : Named). n.spot) names
+              ∙ sym (sum_by-sum_over (λ n. resting.units_at ss n.spot) names)
 
-  -- so all live units
-  pub live-printed : (mode : Mode)
-      → (outcome e w mode).totals.live ≡ all_live actors w.shared.given
-  live-printed mode =
-      let g = λ (p : Spot). sum_over (λ (a : Actor). size_at a.instance p) actors in
-      let spots = λ (b : Actor). map (λ (n : Named). n.spot) b.held in
-      omega (
-        arith,
-        ap (λ xs. units_at xs (live_spots e w)) (present-contents e w rule off),
-        ap (λ (f : Spot → ℕ). sum_by f (live_spots e w)) (fun_ext at-each),
-        sum_by-sum_over g (live_spots e w),
-        sum-append g (flat_map spots actors) (map (λ n. n.spot) w.shared.given),
-        held-each,
-        names-each w.shared.given,
-        live-each,
-        sum_by-sum_over (λ (a : Actor). live_in actors w.shared.given a.instance) actors,
-      )
+          held-sum : (ts : List Scheduler)
+              → sum_over (λ (s : Scheduler). sum_over (resting.units_at ss)
+              (map (λ (n : Named). n.spot) s.names.held)) ts
+              ≡ sum_by (λ s. resting.units_named ss s.names.held) ts
+          held-sum ts = sum-same _ (λ s. resting.units_named ss s.names.held) ts
+              (λ k d within. named-sum (get_or ts k d).names.held)
+              ∙ sym (sum_by-sum_over (λ s. resting.units_named ss s.names.held) ts)

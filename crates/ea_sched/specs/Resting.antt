@@ -1,11 +1,13 @@
 -- Schedulers in a state in which nobody steps.
-use Rattle.std.specs.Prelude.{◌≡◌, ℕ, ◌+◌, ◌-◌, ◌*◌, ◌≤◌, List, All, AllPairs, flat_map, length, map, sum_by}
+use Rattle.std.specs.Prelude.{◌≡◌, ℕ, ◌+◌, ◌-◌, ◌*◌, ◌≤◌, List, All, AllPairs, flat_map, length, map, slice_get, sum_by}
+use Rattle.std.specs.Option.{option_map_or}
+use Rattle.ea_model.specs.declared.carriers.Spot.{Spot}
 use Rattle.ea_model.specs.declared.carriers.Totals.{Totals}
 use Rattle.ea_model.specs.declared.outcome.Outcome.{Outcome}
 use Rattle.ea_model.specs.declared.settings.Config.{Config}
 use Rattle.ea_model.specs.declared.trace.Trace.{Trace}
 use Rattle.ea_model.specs.Content.{Content, free_units, gaps_of}
-use Rattle.ea_model.specs.Instance.{Instance, employed, size_at}
+use Rattle.ea_model.specs.Instance.{employed, size_at}
 use Rattle.ea_model.specs.Keyed.{IsBelow}
 use Rattle.ea_model.specs.Outcome.{plain_outcome}
 use Rattle.ea_model.specs.Trace.{plain_mode}
@@ -14,6 +16,7 @@ use Rattle.ea_machine.specs.Actor.{Actor}
 use Rattle.ea_machine.specs.Machine.{IsReached}
 use Rattle.ea_machine.specs.NamePlaces.{name_of}
 use Rattle.ea_machine.specs.Outcome as machine
+use Rattle.ea_machine.specs.Owners.{owner_of}
 use Rattle.ea_machine.specs.Setup.{setup_of}
 use Rattle.ea_machine.specs.Shared.{Shared}
 use Rattle.ea_machine.specs.State.{State}
@@ -33,18 +36,19 @@ pub record AreGiven (greatest : ℕ) (given : List Named) : Type 0 where
   pub rising : AllPairs (IsBelow name_of) given
   pub within : All (λ n. (1 ≤ n.name) × (n.name ≤ greatest)) given
 
--- the units of the blocks that an instance has at the spots of names; a name whose block it doesn't
--- have adds none
-abbrev pub units_named : Instance → List Named → ℕ
-units_named i names = sum_by (λ n. size_at i n.spot) names
+-- the units of the block at a spot, in the instance that owns its carrier; 0 if it has none there
+abbrev pub units_at : List Scheduler → Spot → ℕ
+units_at schedulers spot = option_map_or (λ s. size_at s.instance spot)
+    (slice_get schedulers (owner_of spot.carrier - 1)) 0
+
+-- those of the blocks of names
+abbrev pub units_named : List Scheduler → List Named → ℕ
+units_named schedulers names = sum_by (λ n. units_at schedulers n.spot) names
 
 -- of the names that schedulers hold, and of those that are given
-abbrev pub live_in : List Actor → List Named → Instance → ℕ
-live_in actors given i = sum_by (λ a. units_named i a.held) actors + units_named i given
-
--- of all live names, whatever instance has their blocks
-abbrev pub all_live : List Actor → List Named → ℕ
-all_live actors given = sum_by (λ a. live_in actors given a.instance) actors
+abbrev pub live_units : List Scheduler → List Named → ℕ
+live_units schedulers given = sum_by (λ s. units_named schedulers s.names.held) schedulers
+    + units_named schedulers given
 
 -- how many contents schedulers employ
 abbrev pub count_employed : List Scheduler → ℕ
@@ -55,7 +59,7 @@ count_employed schedulers = sum_by (λ s. length (employed s.instance)) schedule
 abbrev pub totals_by : List Scheduler → List Named → Totals
 totals_by schedulers given =
     let units = sum_employed (λ c. c.units) schedulers in
-    let live = all_live (map actor_of schedulers) given in
+    let live = live_units schedulers given in
     let free = sum_employed (λ c. free_units (gaps_of c)) schedulers in
     let header = 8 * count_employed schedulers in
     record {

@@ -5,13 +5,11 @@ ghost use Rattle.ea_model.specs.Content.{free_units, gaps_of};
 ghost use Rattle.ea_model.specs.Instance.{carrier_line, employed};
 ghost use Rattle.ea_model.specs.Settings.{IsValidConfig};
 ghost use Rattle.ea_model.specs.Trace.{IsValidTrace};
-ghost use Rattle.ea_sched.specs.Acting.{actor_of};
 ghost use Rattle.ea_sched.specs.Built.{is_built_run};
-ghost use Rattle.ea_sched.specs.Resting.{AreGiven, HaveParts, IsOutcome, Stand, all_live, count_employed, sum_employed, totals_by, units_named};
-ghost use Rattle.ea_sched.specs.Resting as resting;
+ghost use Rattle.ea_sched.specs.Resting.{AreGiven, HaveParts, IsOutcome, Stand, count_employed, sum_employed, totals_by};
 
 use crate::state::Scheduler;
-use crate::units::{units_at, units_held};
+use crate::units::live_units;
 use ea_instance::Instance;
 use ea_mbc::Mbc;
 use ea_model::{
@@ -89,56 +87,6 @@ fn free_of(schedulers: &[Scheduler<'_>]) -> u64
     units
 }
 
-/// The units of the blocks of given names that an instance has.
-fn given_in<H: Rested<Content = Mbc>>(shared: &H, greatest: u32, instance: &Instance) -> u64
-    requires greatest { greatest ≡ H.greatest shared.now }
-    requires given { AreGiven greatest (H.rested shared.now).given }
-    ensures { result ≡ units_named instance.now (H.rested shared.now).given }
-{
-    let mut units = 0;
-    for before in 0..greatest {
-        if let Some(spot) = shared.given(before + 1) {
-            units += units_at(instance, spot);
-        }
-    }
-    units
-}
-
-/// The units of the blocks of held and of given names that an instance has.
-fn live_in<H: Rested<Content = Mbc>>(
-    schedulers: &[Scheduler<'_>],
-    shared: &H,
-    greatest: u32,
-    instance: &Instance,
-) -> u64
-    requires greatest { greatest ≡ H.greatest shared.now }
-    requires given { AreGiven greatest (H.rested shared.now).given }
-    requires fits { resting.live_in (map actor_of schedulers.now) (H.rested shared.now).given
-        instance.now < 2 ^ 64 }
-    ensures { result ≡ resting.live_in (map actor_of schedulers.now) (H.rested shared.now).given
-        instance.now }
-{
-    let mut units = given_in(shared, greatest, instance);
-    for scheduler in schedulers {
-        units += units_held(instance, &scheduler.names);
-    }
-    units
-}
-
-/// The units of the blocks of held and of given names.
-fn live_of<H: Rested<Content = Mbc>>(schedulers: &[Scheduler<'_>], shared: &H, greatest: u32) -> u64
-    requires greatest { greatest ≡ H.greatest shared.now }
-    requires given { AreGiven greatest (H.rested shared.now).given }
-    requires fits { all_live (map actor_of schedulers.now) (H.rested shared.now).given < 2 ^ 64 }
-    ensures { result ≡ all_live (map actor_of schedulers.now) (H.rested shared.now).given }
-{
-    let mut units = 0;
-    for scheduler in schedulers {
-        units += live_in(schedulers, shared, greatest, &scheduler.instance);
-    }
-    units
-}
-
 /// The totals of schedulers that share this, live and queued blocks told apart.
 fn totals_of<H: Rested<Content = Mbc>>(
     schedulers: &[Scheduler<'_>],
@@ -153,7 +101,7 @@ fn totals_of<H: Rested<Content = Mbc>>(
 {
     let carriers = carriers_of(schedulers);
     let units = units_of(schedulers);
-    let live = live_of(schedulers, shared, greatest);
+    let live = live_units(schedulers, shared, greatest);
     let free = free_of(schedulers);
     let header = u64::from(HEADER_UNITS) * u64::from(carriers);
     Totals {

@@ -1,41 +1,86 @@
-//! The units of blocks by their names.
+//! The units of live blocks, name by name.
 ghost use Rattle.std.specs.Prelude.{◌≡◌, ◌^◌, ◌<◌, ◌≤◌, length, sum_by};
 ghost use Rattle.std.specs.Option.{option_map_or};
-ghost use Rattle.ea_model.specs.Instance.{size_at};
+ghost use Rattle.ea_sched.specs.Resting.{AreGiven};
+ghost use Rattle.ea_sched.specs.Resting as resting;
 
-use ea_instance::Instance;
+use crate::releases::owner_of;
+use crate::state::Scheduler;
+use ea_mbc::Mbc;
 use ea_model::Spot;
 use ea_names::Names;
+use ea_shared::Rested;
 
-/// The units of the block that the instance has at the spot, or 0.
-pub fn units_at(instance: &Instance, spot: Spot) -> u64
-    ensures units { result ≡ size_at instance.now spot }
+/// The units of the block at the spot, which the instance has that owns its carrier; 0 if it has
+/// none there.
+fn units_at(schedulers: &[Scheduler<'_>], spot: Spot) -> u64
+    ensures units { result ≡ resting.units_at schedulers.now spot }
     ensures small { result < 2 ^ 32 }
 {
-    match instance.block_at(spot) {
+    let index = owner_of(spot.carrier) as usize - 1;
+    let Some(owner) = schedulers.get(index) else {
+        return 0;
+    };
+    match owner.instance.block_at(spot) {
         Some(block) => u64::from(block.size),
         None => 0,
     }
 }
 
-/// The units of the blocks that the instance has at the spots of the table.
-fn units_of(instance: &Instance, spots: &[Option<Spot>]) -> u64
+/// The units of the blocks at the spots of a table.
+fn units_of(schedulers: &[Scheduler<'_>], spots: &[Option<Spot>]) -> u64
     requires { length spots.now ≤ 2 ^ 32 }
-    ensures { result ≡ sum_by (λ s. option_map_or (size_at instance.now) s 0) spots.now }
+    ensures { result ≡ sum_by (λ s. option_map_or (resting.units_at schedulers.now) s 0) spots.now }
 {
     let mut units = 0;
     for place in spots {
         if let Some(spot) = place {
-            units += units_at(instance, *spot);
+            units += units_at(schedulers, *spot);
         }
     }
     units
 }
 
-/// The units of the blocks that the instance has at the spots of these names. A name whose block it
-/// doesn't have adds none.
-pub fn units_held(instance: &Instance, names: &Names) -> u64
-    ensures { result ≡ sum_by (λ n. size_at instance.now n.spot) names.now.held }
+/// The units of the blocks of names that a scheduler holds.
+fn units_held(schedulers: &[Scheduler<'_>], names: &Names) -> u64
+    ensures { result ≡ resting.units_named schedulers.now names.now.held }
 {
-    units_of(instance, names.spots())
+    units_of(schedulers, names.spots())
+}
+
+/// The units of the blocks of given names.
+fn units_given<H: Rested<Content = Mbc>>(
+    schedulers: &[Scheduler<'_>],
+    shared: &H,
+    greatest: u32,
+) -> u64
+    requires greatest { greatest ≡ H.greatest shared.now }
+    requires given { AreGiven greatest (H.rested shared.now).given }
+    ensures { result ≡ resting.units_named schedulers.now (H.rested shared.now).given }
+{
+    let mut units = 0;
+    for before in 0..greatest {
+        if let Some(spot) = shared.given(before + 1) {
+            units += units_at(schedulers, spot);
+        }
+    }
+    units
+}
+
+/// The units of the blocks of held and of given names.
+pub fn live_units<H: Rested<Content = Mbc>>(
+    schedulers: &[Scheduler<'_>],
+    shared: &H,
+    greatest: u32,
+) -> u64
+    requires greatest { greatest ≡ H.greatest shared.now }
+    requires given { AreGiven greatest (H.rested shared.now).given }
+    requires fits { resting.live_units schedulers.now (H.rested shared.now).given < 2 ^ 64 }
+    ensures { result ≡ resting.live_units schedulers.now (H.rested shared.now).given }
+{
+    let mut units = units_given(schedulers, shared, greatest);
+    for scheduler in schedulers {
+        units += units_held(schedulers, &scheduler.names);
+    }
+    units
 }

@@ -1,11 +1,11 @@
 use Rattle.std.proofs.Common.{◌≡◌, ◌-◌, ◌*◌, ◌^◌, ◌≤◌}
 use Rattle.std.specs.Prelude.{sum_by}
 use Rattle.std.specs.List.{range_with_len}
-use Rattle.ea_model.specs.Instance.{size_at}
+use Rattle.ea_sched.specs.Resting.{units_at}
 use Rattle.ea_sched.proofs.OutcomeGiven.{of_name}
-use Rattle.ea_sched.proofs.outcome.given_in.Given as goal
+use Rattle.ea_sched.proofs.units.units_given.Given as goal
 
 abbrev pub invariant-loop-before : goal.invariant-loop-before
 invariant-loop-before g l = (l.units ≤ (2 ^ 32 - 1) * l.before)
-    × (l.units ≡ sum_by (of_name (size_at l.instance) (g.H.Rested.rested l.shared).given)
+    × (l.units ≡ sum_by (of_name (units_at l.schedulers) (g.H.Rested.rested l.shared).given)
     (range_with_len 1 l.before))

@@ -1,12 +1,12 @@
 use Rattle.std.proofs.Common.{sym, ap, ◌∙◌, arith}
-use Rattle.ea_model.specs.Instance.{size_at}
+use Rattle.ea_sched.specs.Resting.{units_at}
 use Rattle.ea_sched.proofs.OutcomeGiven.{given-sum, missing, next-summed, of_name, of_spot}
-use Rattle.ea_sched.proofs.outcome.given_in.Goals as goal
-use Rattle.ea_sched.proofs.outcome.given_in.Goals.{in-Some, in_default}
+use Rattle.ea_sched.proofs.units.units_given.Goals as goal
+use Rattle.ea_sched.proofs.units.units_given.Goals.{in-Some, in_default}
 
 pub loop-before-preserved : goal.loop-before-preserved
 loop-before-preserved g c =
-    let size = size_at c.args.instance.now in
+    let size = units_at c.args.schedulers.now in
     let given = (g.H.Rested.rested c.args.shared.now).given in
     let l = c.loop-before in
     elim c.match-given.branch [
@@ -25,6 +25,6 @@ loop-before-preserved g c =
 pub returns : goal.returns
 returns g c =
     c.loop-before.invariant.1
-    ∙ given-sum (size_at c.args.instance.now) c.args.greatest
+    ∙ given-sum (units_at c.args.schedulers.now) c.args.greatest
     (g.H.Rested.rested c.args.shared.now).given c.requires.given c.loop-before.before
     (omega (arith, c.loop-before-test.false, c.loop-before.auto.before-end))
