@@ -1,6 +1,6 @@
 -- A row that a scheduler has done, as it is told, and where the step leaves the scheduler.
 use Rattle.std.specs.Prelude.{◌≡◌, ◌≢◌, ◌⊎◌, ℕ, true, false, Option, None, Some, IfSome, IsSome}
-use Rattle.std.proofs.Common.{refl, sym, ap, ◌∙◌, subst, inl, inr}
+use Rattle.std.proofs.Common.{Bor, refl, sym, ap, ◌∙◌, subst, inl, inr}
 use Rattle.ea_model.specs.declared.settings.Config.{Config}
 use Rattle.ea_model.specs.declared.trace.Trace.{Trace}
 use Rattle.ea_model.specs.Settings.{IsValidConfig}
@@ -196,7 +196,7 @@ row-stepped s t b shared new caller now h goes d is =
 -- after a step it stands in a reached state again
 module _ (c : Config) (t : Trace) (me : ℕ) (a b : Actor) (shared new : Option Shared)
     (caller now : Option Caller) where
-  pub ready-again : IsValidConfig c → IsValidTrace c.schedulers t → IsSome shared ⊎ IsSome caller
+  ready-again : IsValidConfig c → IsValidTrace c.schedulers t → IsSome shared ⊎ IsSome caller
       → Stepped c t me a b shared new caller now → Ready c t me b new now
   ready-again valid made told o =
       let e = setup_of c t in
@@ -217,3 +217,15 @@ module _ (c : Config) (t : Trace) (me : ℕ) (a b : Actor) (shared new : Option 
           | inr is ↦ inr (still-told caller now mine o.calls is)
         ];
       }
+
+-- so the scheduler is ready again
+pub step-ready : (s t : Scheduler) (shared new : Option Shared) (caller now : Option Caller)
+    → t.config ≡ s.config → t.trace ≡ s.trace → t.number ≡ s.number → IsReady s shared caller
+    → Stepped s.config s.trace.now s.number (actor_of s) (actor_of t) shared new caller now
+    → IsReady t new now
+step-ready s t shared new caller now config trace number h took =
+    subst (λ n. Ready t.config t.trace.now n (actor_of t) new now) (sym number)
+    (subst (λ (x : Bor Trace). Ready t.config x.now s.number (actor_of t) new now) (sym trace)
+    (subst (λ d. Ready d s.trace.now s.number (actor_of t) new now) (sym config)
+    (ready-again s.config s.trace.now s.number (actor_of s) (actor_of t) shared new caller now
+    h.config h.trace h.told took)))

@@ -23,6 +23,7 @@ use Rattle.ea_sched.specs.declared.stage.Stage.{Stage}
 use Rattle.ea_sched.specs.declared.stage.Stage.TheVariants as code
 use Rattle.ea_sched.specs.Acting.{actor_of, is_ended, stage_of}
 use Rattle.ea_sched.specs.Running.{LeadsTo, SharesAt, Stands, StandsAt, Took, alone_in, work_left}
+use Rattle.ea_sched.proofs.Doing.{stage-ends, stage-goes}
 use Rattle.ea_sched.specs.Steps.{Ready, Stepped}
 
 -- where carriers don't migrate nothing is shared at the start
@@ -57,21 +58,6 @@ module _ (e : Setup) (me : ℕ) (v w : State) (same : v.actors me ≡ w.actors m
               ∙ ap (effect me (wants (w.actors me))) shares ∙ sym (step-shared e w me also),
         )
   ]
-
--- it hasn't ended, or it has
-pub going-stage : (st : Stage) → is_ended st ≡ false → stage_of st ≢ Ended
-going-stage code.Begin e = λ f. absurd cc
-going-stage (code.Routed route why gone) e = λ f. absurd cc
-going-stage (code.Giving given to) e = λ f. absurd cc
-going-stage (code.Taking name tries left) e = λ f. absurd cc
-going-stage code.Ended e = absurd cc
-
-pub ended-stage : (st : Stage) → is_ended st ≡ true → stage_of st ≡ Ended
-ended-stage code.Begin e = absurd cc
-ended-stage (code.Routed route why gone) e = absurd cc
-ended-stage (code.Giving given to) e = absurd cc
-ended-stage (code.Taking name tries left) e = absurd cc
-ended-stage code.Ended e = refl
 
 -- turns of a scheduler that has ended change nothing
 ended-stays : (e : Setup) (me : ℕ) (w : State) (n : ℕ) → (w.actors me).stage ≡ Ended
@@ -112,10 +98,10 @@ module _ (c : Config) (t : Trace) (me : ℕ) (s : Scheduler) (w : State)
 
   pub stands-going : is_ended s.stage ≡ false → (w.actors me).stage ≢ Ended
   stands-going e =
-      λ ended. going-stage s.stage e (ap (λ (a : Actor). a.stage) (sym at.actor) ∙ ended)
+      λ ended. stage-goes s.stage e (ap (λ (a : Actor). a.stage) (sym at.actor) ∙ ended)
 
   pub stands-ended : is_ended s.stage ≡ true → (w.actors me).stage ≡ Ended
-  stands-ended e = ap (λ (a : Actor). a.stage) at.actor ∙ ended-stage s.stage e
+  stands-ended e = ap (λ (a : Actor). a.stage) at.actor ∙ stage-ends s.stage e
 
   module _ (m : Sharing) (shares : SharesAt c t m w) where
     -- it is ready for its step
@@ -220,9 +206,6 @@ module _ (s u : Scheduler) (m n : Sharing) where
 
 -- the run of a scheduler to its end
 module _ (e : Setup) (me : ℕ) where
-  pub leads-first : (w : State) → LeadsTo e me (run_on e w (finishing e w me)) w
-  leads-first w = (work e w me, omega arith, refl)
-
   pub leads-last : (target w : State) → (w.actors me).stage ≡ Ended → LeadsTo e me target w
       → target ≡ w
   leads-last target w ended leads = leads.2

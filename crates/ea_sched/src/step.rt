@@ -87,6 +87,7 @@ impl<'t> Scheduler<'t> {
         ensures step { OnOk result (Stepped self.old.config self.old.trace.now self.old.number
             (actor_of self.old) (actor_of self.new) (S.shared shared.old) (S.shared shared.new)
             (S.caller shared.old) (S.caller shared.new)) }
+        ensures ready { OnOk result (IsReady self.new (S.shared shared.new) (S.caller shared.new)) }
         ensures goes { OnOk result (self.old.failed ≡ false × self.new.failed ≡ false) }
         ensures ended { IfOk result (λ p. (p ≡ progress.Ended) ↔ (is_ended self.old.stage ≡ true)) }
         ensures rests { IfOk result (λ p. p ≡ progress.Ended → (self.new ≡ self.old)

@@ -1,7 +1,7 @@
 use Rattle.std.proofs.Common.{sym, ◌∙◌}
 use Rattle.ea_sched.specs.Acting.{actor_of}
 use Rattle.ea_sched.proofs.Acts.{went}
-use Rattle.ea_sched.proofs.Doing.{ended-stepped, row-stepped, stage-ends}
+use Rattle.ea_sched.proofs.Doing.{ended-stepped, row-stepped, stage-ends, step-ready}
 use Rattle.ea_sched.proofs.state.Scheduler.step.Goals as goal
 
 pub returns-then-ended-clause-step : goal.returns-then-ended-clause-step
@@ -11,8 +11,8 @@ returns-then-ended-clause-step g c =
     (g.S.Shared.caller c.args.shared.now) (c.requires.ready c.if-self.false)
     (stage-ends s.stage (sym c.ended.ensures ∙ c.if-ended.true))
 
-pub returns-clause-step : goal.returns-clause-step
-returns-clause-step g c =
+after : goal.returns-clause-step
+after g c =
     let s = c.args.self.now in
     row-stepped s c.advance.new.self (actor_of c.observe.new.self)
     (g.S.Shared.shared c.args.shared.now) (g.S.Shared.shared c.advance.new.shared)
@@ -20,3 +20,17 @@ returns-clause-step g c =
     (c.requires.ready c.if-self.false) (sym c.ended.ensures ∙ c.if-ended.false)
     (went c.advance.result c.advance.ensures.row c.if-is_err.ensures.value)
     c.observe.ensures.actor
+
+pub returns-clause-step : goal.returns-clause-step
+returns-clause-step g c = after g c
+
+pub returns-clause-ready : goal.returns-clause-ready
+returns-clause-ready g c =
+    let s = c.args.self.now in
+    let mid = c.advance.ensures.same in
+    let end = c.observe.ensures.same in
+    step-ready s c.observe.new.self
+    (g.S.Shared.shared c.args.shared.now) (g.S.Shared.shared c.advance.new.shared)
+    (g.S.Shared.caller c.args.shared.now) (g.S.Shared.caller c.advance.new.shared)
+    (end.config ∙ mid.config) (end.trace ∙ mid.trace) (end.number ∙ mid.number)
+    (c.requires.ready c.if-self.false) (after g c)
