@@ -10,8 +10,8 @@ use Rattle.ea_machine.specs.declared.nodes.Node.TheVariants.{Block, Carrier}
 use Rattle.ea_machine.specs.Nodes.{Mark, same_node}
 use Rattle.ea_machine.specs.Sums.{one_if}
 use Rattle.ea_machine.specs.Alike.{are_alike, IsNode}
-use Rattle.ea_queues.specs.Chains.{alike_in, count_of, number_of}
-use Rattle.ea_queues.proofs.ListSums.{upto, upto-zero, upto-add, upto-most, upto-one}
+use Rattle.ea_queues.specs.Chains.{HasNone, Queueing, alike_in, count_of, marks_of, number_of, standing_in}
+use Rattle.ea_queues.proofs.ListSums.{sum-zero, upto, upto-zero, upto-add, upto-most, upto-one}
 
 pub alike-itself : (x : Node) → one_if (are_alike x x) ≡ 1
 alike-itself (Block n p) = grind arith
@@ -52,12 +52,20 @@ pub one-true : (b : Bool) → one_if b ≡ 1 → b ≡ true
 one-true true o = refl
 one-true false o = absurd (omega (arith, o))
 
-pub none-alike : (x : Node) (ms : List Mark) → All (λ m. are_alike x m.node ≡ false) ms
+none-alike : (x : Node) (ms : List Mark) → All (λ m. are_alike x m.node ≡ false) ms
     → alike_in x ms ≡ 0
 none-alike x [] other = refl
 none-alike x (m ∷ ms) other =
     let P = λ (m : Mark). are_alike x m.node ≡ false in
     omega (arith, ap one_if (All-head P m ms other), none-alike x ms (All-tail P m ms other))
+
+-- where none is alike none is counted
+pub none-standing : (x : Node) (s : Queueing) → HasNone x s → standing_in s x ≡ 0
+none-standing x s none = omega (
+  arith,
+  sum-zero (alike_in x) s.queues [] (λ i. none-alike x (marks_of s.queues i) (none i).0),
+  sum-zero (alike_in x) s.rests [] (λ i. none-alike x (marks_of s.rests i) (none i).1),
+)
 
 -- the node has a number that has a place
 pub number-in : (schedulers greatest names carriers : ℕ) (x : Node)

@@ -35,7 +35,7 @@ put-same f i = fun_ext (λ j. elim (cases_eq j i) [
   | inr other ↦ sym (cond-false (j == i) (f i) (f j) (grind (arith, other)))
 ])
 
-pub marks-none : (n : ℕ) → marks_of (replicate n []) ≡ (λ i. [])
+marks-none : (n : ℕ) → marks_of (replicate n []) ≡ (λ i. [])
 marks-none n = fun_ext (none n) where
   none : (n i : ℕ) → marks_of (replicate n []) i ≡ []
   none zero i = refl
@@ -473,5 +473,17 @@ module _ (heads rests : List (Option Node)) (names carriers : List Cell) where
     pub empty-laid : StandFor heads rests names carriers seen
     empty-laid = laid empty empty-stands
 
-    pub empty-seen : seen ≡ empty
+    empty-seen : seen ≡ empty
     empty-seen = seen-is empty empty-stands
+
+    pub empty-queues : marks_of seen.queues ≡ (λ i. [])
+    empty-queues = ap (λ (s : Queueing). marks_of s.queues) empty-seen ∙ marks-none (n + 1)
+
+    pub empty-rests : marks_of seen.rests ≡ (λ i. [])
+    empty-rests = ap (λ (s : Queueing). marks_of s.rests) empty-seen ∙ marks-none (n + 1)
+
+    pub empty-counts : (seen.schedulers ≡ n) × (seen.greatest ≡ g)
+    empty-counts = (
+      ap (λ (s : Queueing). s.schedulers) empty-seen,
+      ap (λ (s : Queueing). s.greatest) empty-seen,
+    )

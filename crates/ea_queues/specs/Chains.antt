@@ -1,5 +1,5 @@
 -- Queues in plain memory: each node has a cell, which knows the next older node.
-use Rattle.std.specs.Prelude.{◌≡◌, ℕ, zero, suc, ◌+◌, ◌-◌, ◌*◌, ◌≤◌, false, List, [], ◌∷◌, Option, None, Some, get_or, length, map}
+use Rattle.std.specs.Prelude.{◌≡◌, ℕ, zero, suc, ◌+◌, ◌-◌, ◌*◌, ◌≤◌, false, List, [], ◌∷◌, All, Option, None, Some, get_or, length, map}
 use Rattle.ea_model.specs.declared.units.TheConstants.{NUMBERS}
 use Rattle.ea_machine.specs.declared.nodes.Node.{Node}
 use Rattle.ea_machine.specs.declared.nodes.Node.TheVariants.{Block, Carrier}
@@ -70,6 +70,11 @@ marks_of lists i = get_or lists i []
 -- they are of as many schedulers, and of names up to the same one
 abbrev pub HasSameCounts : Queueing → Queueing → Type 0
 HasSameCounts s t = (t.schedulers ≡ s.schedulers) × (t.greatest ≡ s.greatest)
+
+-- no node of that name, or of that carrier, stands anywhere
+abbrev pub HasNone : Node → Queueing → Type 0
+HasNone node s = (i : ℕ) → All (λ m. are_alike node m.node ≡ false) (marks_of s.queues i)
+    × All (λ m. are_alike node m.node ≡ false) (marks_of s.rests i)
 
 -- how many nodes of that name, or of that carrier, stand somewhere
 abbrev pub standing_in : Queueing → Node → ℕ

@@ -1,12 +1,12 @@
 //! The queues, and what is left of walks.
-ghost use Rattle.std.specs.Prelude.{◌≡◌, ◌⊎◌, ◌+◌, ◌≤◌, [], ◌∷◌, Some, None, IfOk, Contains, replicate};
+ghost use Rattle.std.specs.Prelude.{◌≡◌, ◌⊎◌, ◌+◌, ◌≤◌, [], ◌∷◌, Some, None, IfOk, Contains};
 ghost use Rattle.ea_machine.specs.Nodes.{first_node, link_in, pushed};
 ghost use Rattle.ea_machine.specs.Rows.{Passes};
 ghost use Rattle.ea_machine.specs.Shared.{put};
 ghost use Rattle.ea_machine.specs.Table.{link_answer, rest_after};
 ghost use Rattle.ea_machine.specs.Alike.{IsNode};
 ghost use Rattle.ea_queues.specs.Links.{told_by};
-ghost use Rattle.ea_queues.specs.Chains.{HasSameCounts, marks_of, standing_in};
+ghost use Rattle.ea_queues.specs.Chains.{HasNone, HasSameCounts, marks_of};
 
 use crate::cells::{Cell, Cells};
 use crate::link::Link;
@@ -52,12 +52,10 @@ impl Queues {
     /// Empty queues of that many schedulers, for nodes of names up to `greatest` and of the
     /// carriers that these may own.
     pub fn new(alloc: Global, schedulers: u32, greatest: u32) -> Result<Queues, OutOfMemory>
-        ensures { IfOk result (λ q. q ≡ record {
-          queues = replicate (schedulers + 1) [];
-          rests = replicate (schedulers + 1) [];
-          schedulers = schedulers;
-          greatest = greatest;
-        }) }
+        ensures queues { IfOk result (λ q. marks_of q.queues ≡ (λ i. [])) }
+        ensures rests { IfOk result (λ q. marks_of q.rests ≡ (λ i. [])) }
+        ensures schedulers { IfOk result (λ q. q.schedulers ≡ schedulers) }
+        ensures greatest { IfOk result (λ q. q.greatest ≡ greatest) }
     {
         let instances = schedulers as usize + 1;
         let heads = vec![in alloc; None; instances]?;
@@ -110,7 +108,7 @@ impl Queues {
     pub fn push(&mut self, to: u32, node: Node) -> Option<Node>
         requires scheduler { to ≤ self.old.schedulers }
         requires node { IsNode self.old.schedulers self.old.greatest node }
-        requires nowhere { standing_in self.old node ≡ 0 }
+        requires nowhere { HasNone node self.old }
         ensures node { result ≡ first_node (marks_of self.old.queues to) }
         ensures queues { marks_of self.new.queues
             ≡ put (marks_of self.old.queues) to (pushed node ∷ marks_of self.old.queues to) }

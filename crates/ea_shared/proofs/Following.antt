@@ -1,5 +1,5 @@
 -- What is shared after rows that were done in plain memory, one after another.
-use Rattle.std.proofs.Common.{◌≡◌, ℕ, false, List, [], ◌∷◌, Some, None, ap, ◌∙◌, arith}
+use Rattle.std.proofs.Common.{◌≡◌, ℕ, Bool, true, false, List, [], ◌∷◌, Some, None, refl, ap, ◌∙◌, arith}
 use Rattle.std.specs.Prelude.{All}
 use Rattle.std.proofs.lemmas.List.Elements.{All-nil, All-cons}
 use Rattle.ea_machine.specs.declared.nodes.Node.{Node}
@@ -9,7 +9,7 @@ use Rattle.ea_machine.specs.Rows.{Answer, Row}
 use Rattle.ea_machine.specs.Shared.{Shared}
 use Rattle.ea_machine.specs.Table.{effect}
 use Rattle.ea_queues.specs.Chains.{alike_in}
-use Rattle.ea_queues.proofs.AlikeNodes.{one-none}
+use Rattle.ea_machine.specs.Sums.{one_if}
 use Rattle.ea_shared.specs.Calls.{Did}
 
 told-is : (s t : Shared) → Some s ≡ Some t → s ≡ t
@@ -20,6 +20,10 @@ pub after-row : {me : ℕ} {row : Row} {got : Answer} {s t w : Shared} → s ≡
     → Did me row got (Some s) (Some t) None None → t ≡ effect me row w
 after-row {me} {row} {got} {s} {t} e d = told-is t (effect me row s) d.shared.1
     ∙ ap (effect me row) e
+
+one-none : (b : Bool) → one_if b ≡ 0 → b ≡ false
+one-none true z = absurd (omega (arith, z))
+one-none false z = refl
 
 unlike : (node : Node) (ms : List Mark) → alike_in node ms ≡ 0
     → All (λ m. are_alike node m.node ≡ false) ms

@@ -1,15 +1,15 @@
 -- What plain memory does, by what its queues and its names do.
-use Rattle.std.proofs.Common.{◌≡◌, ℕ, List, [], ◌∷◌, Option, Some, None, replicate, ◌+◌, refl, ap, subst, ◌∙◌}
+use Rattle.std.proofs.Common.{◌≡◌, ℕ, List, [], ◌∷◌, Option, Some, None, refl, sym, ap, subst}
 use Rattle.ea_model.specs.declared.carriers.Spot.{Spot}
 use Rattle.ea_machine.specs.declared.nodes.Named.{Named}
 use Rattle.ea_machine.specs.declared.nodes.Node.{Node}
 use Rattle.ea_machine.specs.Nodes.{Mark, first_node, link_in, pushed, spot_named, with_name, without_name}
+use Rattle.ea_machine.specs.Alike.{HasNoAlike}
 use Rattle.ea_machine.specs.Owners.{Absent}
 use Rattle.ea_machine.specs.Shared.{Shared, put}
 use Rattle.ea_machine.specs.Rows.{Answer, Done, Give, Got, Head, Link, Push, Row, TakeAll, TakeLink, TakeTry}
 use Rattle.ea_machine.specs.Table.{answer, effect, link_answer, rest_after}
-use Rattle.ea_queues.specs.Chains.{Queueing, marks_of}
-use Rattle.ea_queues.proofs.QueueMoves.{marks-none}
+use Rattle.ea_queues.specs.Chains.{HasNone, Queueing, marks_of}
 use Rattle.ea_shared.specs.Calls.{Did}
 use Rattle.ea_shared.specs.Memory.{Sharing, nothing_shared, shared_of}
 
@@ -118,13 +118,12 @@ module _ (me : ℕ) (s : Sharing) (q : Queueing) (given names : List Named)
   took-try name spot e f = names-do (TakeTry name) (Got spot) (ap Got e) (told-same refl refl f)
 
 -- queues as they are made, and no given names
-pub none-shared : (q : Queueing) (given : List Named) (n greatest : ℕ)
-    → q ≡ record {
-      queues = replicate (n + 1) [];
-      rests = replicate (n + 1) [];
-      schedulers = n;
-      greatest = greatest;
-    } → given ≡ [] → shared_of (sharing q given) ≡ nothing_shared
-none-shared q given n greatest e none =
-    told-same (ap (λ (x : Queueing). marks_of x.queues) e ∙ marks-none (n + 1))
-    (ap (λ (x : Queueing). marks_of x.rests) e ∙ marks-none (n + 1)) none
+pub none-shared : (q : Queueing) (given : List Named) → marks_of q.queues ≡ (λ i. [])
+    → marks_of q.rests ≡ (λ i. []) → given ≡ [] → shared_of (sharing q given) ≡ nothing_shared
+none-shared q given queues rests none = told-same queues rests none
+
+-- where no node of a name is in a queue or a walk, none is in the memory's
+pub nowhere-seen : (node : Node) (s : Sharing) (q : Queueing) (given : List Named)
+    → sharing q given ≡ s → HasNoAlike node (shared_of s) → HasNone node q
+nowhere-seen node s q given view none =
+    subst (λ x. HasNoAlike node (shared_of x)) (sym view) none
