@@ -19,6 +19,7 @@ use Rattle.ea_machine.specs.Statistics.{employed_multis, employed_singles}
 use Rattle.ea_machine.specs.Turns.{IsBegun, actor_after, begun, log_after}
 use Rattle.ea_machine.specs.Chosen.{IsPlacement, IsResized}
 use Rattle.ea_machine.specs.Exhausted.{IsExhausted}
+use Rattle.ea_machine.specs.HandedOver.{HasTried, IsGiven, IsTaken}
 
 -- an operation makes an entry of its own kind, with its own names and numbers
 abbrev pub Makes : Op → Entry → Type 0
@@ -69,8 +70,9 @@ Reports r xs = (r.blocks.now ≡ (figures xs).blocks) × (r.blocks_size.now ≡ 
 
 -- what an entry tells, which s made in its step after the steps `turns`: a block was placed where the
 -- strategy chooses, or in a carrier of its own; a block keeps its spot; no place was found; a name
--- isn't held, and nothing changes; a block went to the queue of another scheduler; and what carriers
--- are employed then
+-- isn't held, and nothing changes; a block went to the queue of another scheduler; a name was given, or
+-- taken, with its spot, or tried for in vain as often as it was to be; and what carriers are employed
+-- then
 abbrev pub Tells : Setup → List ℕ → ℕ → Entry → Type 0
 Tells setup turns s (entry.Alloc name place) = IsPlacement setup turns s name place
 Tells setup turns s (entry.AllocFail name need looked why) =
@@ -86,10 +88,10 @@ Tells setup turns s (entry.ReallocQueued old fresh place to) =
 Tells setup turns s (entry.ReallocFail old fresh need looked why) =
     IsExhausted setup turns s (entry.ReallocFail old fresh need looked why) need looked why
 Tells setup turns s (entry.ReallocSkipped old fresh) = IsSkipped setup turns s old
-Tells setup turns s (entry.Give name to) = Unit {0}
+Tells setup turns s (entry.Give name to) = IsGiven setup turns s name
 Tells setup turns s (entry.GiveSkipped name to) = IsSkipped setup turns s name
-Tells setup turns s (entry.Take name) = Unit {0}
-Tells setup turns s (entry.TakeAbsent name tries) = Unit {0}
+Tells setup turns s (entry.Take name) = IsTaken setup turns s name
+Tells setup turns s (entry.TakeAbsent name tries) = HasTried setup turns s name tries
 Tells setup turns s (entry.Info mbcs sbcs) =
     Reports mbcs (employed_multis (actor_after setup (turns ++ s ∷ []) s))
     × Reports sbcs (employed_singles (actor_after setup (turns ++ s ∷ []) s))

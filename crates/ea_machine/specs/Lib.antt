@@ -35,6 +35,7 @@ pub mod Searches
 pub mod Exhausted
 pub mod Chosen
 pub mod Released
+pub mod HandedOver
 pub mod Entries
 pub mod Fetches
 pub mod Guarded

@@ -1,8 +1,8 @@
 -- In each reached state the numbers of the operations left are in their ranges; and names that are
 -- held, by their spots.
-use Rattle.std.proofs.Common.{◌≡◌, ℕ, zero, suc, ◌≤◌, List, [], ◌∷◌, ◌++◌, get_or, sym, ap, ◌∙◌, subst, refl, arith}
-use Rattle.std.specs.Prelude.{option_map, All, Option, Some, None, flat_map}
-use Rattle.std.proofs.lemmas.List.Elements.{All-nil, All-cons, All-head, All-tail, All-weaker}
+use Rattle.std.proofs.Common.{◌≡◌, ℕ, ◌≤◌, List, [], ◌∷◌, sym, ap, ◌∙◌, subst, refl, arith}
+use Rattle.std.specs.Prelude.{option_map, All, Option, Some, None}
+use Rattle.std.proofs.lemmas.List.Elements.{All-nil, All-cons, All-head, All-weaker}
 use Rattle.ea_model.specs.declared.carriers.Spot.{Spot}
 use Rattle.ea_model.specs.declared.operations.Op.{Op}
 use Rattle.ea_model.specs.declared.settings.Config.{Config}
@@ -15,33 +15,11 @@ use Rattle.ea_machine.specs.declared.nodes.Named.{Named}
 use Rattle.ea_machine.specs.Machine.{IsReached}
 use Rattle.ea_machine.specs.NamePlaces.{name_of}
 use Rattle.ea_machine.specs.Nodes.{named_at, spot_named}
-use Rattle.ea_machine.specs.Setup.{Setup, setup_of, text_for}
+use Rattle.ea_machine.specs.Setup.{Setup, setup_of}
 use Rattle.ea_machine.specs.State.{State}
 use Rattle.ea_sound.specs.Present.{Rule}
 use Rattle.ea_sound.proofs.Protocols.{rule-run}
-
-module _ {A : Type 0} (P : A → Type 0) where
-  All-front : (xs ys : List A) → All P (xs ++ ys) → All P xs
-  All-front [] ys h = All-nil P
-  All-front (x ∷ xs) ys h =
-      All-cons P x xs (All-head P x (xs ++ ys) h) (All-front xs ys (All-tail P x (xs ++ ys) h))
-
-  All-back : (xs ys : List A) → All P (xs ++ ys) → All P ys
-  All-back [] ys h = h
-  All-back (x ∷ xs) ys h = All-back xs ys (All-tail P x (xs ++ ys) h)
-
-  text_at-All : (texts : List (List A)) (i : ℕ) → All P (flat_map (λ text. text) texts)
-      → All P (get_or texts i [])
-  text_at-All [] i h = All-nil P
-  text_at-All (text ∷ texts) zero h = All-front text (flat_map (λ text. text) texts) h
-  text_at-All (text ∷ texts) (suc i) h =
-      text_at-All texts i (All-back text (flat_map (λ text. text) texts) h)
-
--- what holds of the operations of all texts holds of those of a scheduler
-text-All : (P : Op → Type 0) (texts : List (List Op)) (i : ℕ)
-    → All P (flat_map (λ text. text) texts) → All P (text_for texts i)
-text-All P texts zero h = All-nil P
-text-All P texts (suc i) h = text_at-All P texts i h
+use Rattle.ea_sound.proofs.TextTotals.{All-back, text-All}
 
 all-greatest : (ops : List Op) → All (λ o. greatest_in o ≤ greatest_of ops) ops
 all-greatest [] = All-nil (λ o. greatest_in o ≤ 0)

@@ -1,5 +1,5 @@
 -- What the turns so far say of a scheduler, by where it is in its operation.
-use Rattle.std.proofs.Common.{◌≡◌, ◌≢◌, ℕ, ◌<◌, ◌≤◌, List, [], ◌∷◌, ◌++◌, Bool, true, false, refl, sym, ap, ◌∙◌, subst, arith}
+use Rattle.std.proofs.Common.{◌≡◌, ◌≢◌, ℕ, ◌+◌, ◌<◌, ◌≤◌, List, [], ◌∷◌, ◌++◌, Bool, true, false, refl, sym, ap, ◌∙◌, subst, arith}
 use Rattle.std.specs.Prelude.{Option, Some, None, Ok, ◌==◌, count_by, length}
 use Rattle.std.proofs.lemmas.List.{append-nil, length-append}
 use Rattle.ea_model.specs.declared.carriers.CarrierPlan.{CarrierPlan}
@@ -34,6 +34,7 @@ use Rattle.ea_machine.specs.Sums.{one_if}
 use Rattle.ea_machine.specs.Tasks.{entry_of}
 use Rattle.ea_machine.specs.Turns.{IsBegun, answered, begun, log_after}
 use Rattle.ea_sound.specs.Present.{OfAsk, OfTask}
+use Rattle.ea_sound.proofs.HandedNames.{NeverGiven, never-other}
 use Rattle.ea_sound.proofs.SearchLists.{count-snoc, sights-snoc}
 use Rattle.ea_sound.proofs.TurnLists.{longer, run-since}
 use Rattle.ea_machine.specs.Released.{LiesAt}
@@ -91,6 +92,20 @@ pub record Creates (e : Setup) (L : List ℕ) (s : ℕ) (a : Actor) (ask : Ask) 
   pub planned : plan a.instance ask.need ≡ Ok p
   pub none : ask.need ≤ e.settings.sbct → chosen_spot a.instance ask.need ≡ None
 
+-- the begin of its operation, which takes a name, was over in a turn of L; none of its tries since
+-- then found the name, and that many are left
+pub record Takes (e : Setup) (L : List ℕ) (s : ℕ) (a : Actor) (n tries left : ℕ) : Type 0 where
+  pub before : List ℕ
+  pub since : List ℕ
+  pub split : L ≡ before ++ s ∷ since
+  pub begins : IsBegun e (run e before) s
+  pub same : IsSame (begun e before s) a
+  pub some : 1 ≤ left
+  pub steps : count_by (λ j. j == s) since + left ≡ tries
+  pub absent : NeverGiven e before s n since
+  pub others : List Op
+  pub first : a.todo ≡ op.Take n tries ∷ others
+
 -- s placed a block in a turn of L, when its log was this
 pub record Placement (e : Setup) (L : List ℕ) (s : ℕ) (log : List Entry) (name : ℕ)
     (place : Place) : Type 0 where
@@ -127,7 +142,7 @@ SoFar e L s a (Searching ask at looked) = Searches e L s a ask at looked
 SoFar e L s a (Fetching ask at looked seen) = Fetches e L s a ask at looked seen
 SoFar e L s a (Creating ask p) = Creates e L s a ask p
 SoFar e L s a (Giving h to) = (ops : List Op) × (a.todo ≡ op.Give h.name to ∷ ops)
-SoFar e L s a (Taking n tries left) = (ops : List Op) × (a.todo ≡ op.Take n tries ∷ ops)
+SoFar e L s a (Taking n tries left) = Takes e L s a n tries left
 SoFar e L s a Ended = Unit {0}
 SoFar e L s a Ready = ⊥
 
@@ -246,7 +261,19 @@ module _ (e : Setup) (L : List ℕ) (s j : ℕ) (ne : j ≢ s) where
   other-so_far a Begin h = h
   other-so_far a (Collecting c) h = h
   other-so_far a (Giving g to) h = h
-  other-so_far a (Taking n tries left) h = h
+  other-so_far a (Taking n tries left) h =
+      let d : (j == s) ≡ false = grind (arith, ne) in record {
+        before = h.before;
+        since = h.since ++ j ∷ [];
+        split = longer L h.before h.since s j h.split;
+        begins = h.begins;
+        same = h.same;
+        some = h.some;
+        steps = omega (arith, h.steps, count-snoc s h.since j, ap (λ b. one_if b) d);
+        absent = never-other e h.before s n h.since j ne h.absent;
+        others = h.others;
+        first = h.first;
+      }
   other-so_far a Ended h = h
   other-so_far a Ready h = h
 

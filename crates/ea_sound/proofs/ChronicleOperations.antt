@@ -1,6 +1,7 @@
 -- An operation itself, once its begin is over: what it makes of what the turns before say.
 use Rattle.std.proofs.Common.{◌≡◌, ◌≢◌, ◌⊎◌, ℕ, ◌<◌, ◌≤◌, List, [], ◌∷◌, Bool, true, false, refl, sym, ap, ◌∙◌, subst, inl, inr, arith, ◌++◌}
-use Rattle.std.specs.Prelude.{Option, Some, None, ◌==◌, count_by, filter, not}
+use Rattle.std.specs.Prelude.{All, Option, Some, None, ◌==◌, count_by, filter, not}
+use Rattle.std.proofs.lemmas.List.Elements.{All-head}
 use Rattle.ea_model.specs.declared.carriers.Figures.{Figures}
 use Rattle.ea_model.specs.declared.carriers.Spot.{Spot}
 use Rattle.ea_model.specs.declared.entries.Entry.{Entry}
@@ -28,8 +29,10 @@ use Rattle.ea_machine.specs.Setup.{Setup, greatest_number, migration, is_schedul
 use Rattle.ea_machine.specs.Statistics.{employed_multis, employed_singles, informed, is_single, leaving_at, observed, report, restarted}
 use Rattle.ea_machine.specs.Tasks.{let_go, logged}
 use Rattle.ea_machine.specs.Turns.{actor_after, begun}
-use Rattle.ea_sound.specs.Present.{OfAsk, OfTask, Rule}
+use Rattle.ea_sound.specs.Present.{HasTry, OfAsk, OfTask, Rule}
 use Rattle.ea_sound.proofs.Chronicle.{IsOfFirst}
+use Rattle.ea_sound.proofs.HandedNames.{never-first}
+use Rattle.ea_sound.proofs.TextTotals.{All-back}
 use Rattle.ea_sound.proofs.Orderly.{resizing-fixed, stays-employed}
 use Rattle.ea_sound.proofs.ShortRoutes.{Keeps}
 use Rattle.ea_sound.proofs.Weights.{sum_by-sum_over}
@@ -325,6 +328,15 @@ module _ (e : Setup) (rules : (L : List ℕ) → Rule e (run e L)) (L : List ℕ
               (ap figures (sym (singles-now a begin same))),
         ))
 
+    -- an operation that takes a name has a try
+    first-try : (n tries : ℕ) (ops : List Op) → mid.todo ≡ op.Take n tries ∷ ops → 1 ≤ tries
+    first-try n tries ops q =
+        let h = (rules L).present.history me in
+        All-head HasTry (op.Take n tries) ops
+        (All-back HasTry h.done (op.Take n tries ∷ ops)
+        (subst (All HasTry) (h.split ∙ ap (λ ops. h.done ++ ops) (sym k.1 ∙ q))
+        ((rules L).present.tries me)))
+
     pub itself-fine : (ops : List Op) → mid.todo ≡ ops → Fine (itself e me mid ops)
     itself-fine [] q = ((λ r. absurd cc), k.2 ∙ set, λ now. (tt, inl (k.0, k.1)))
     itself-fine (op.Alloc n b ∷ ops) q =
@@ -340,8 +352,25 @@ module _ (e : Setup) (rules : (L : List ℕ) → Rule e (run e L)) (L : List ℕ
     itself-fine (op.Free n ∷ ops) q = free-fine n ops (named_at n mid.held) q refl
     itself-fine (op.Realloc o n b ∷ ops) q = realloc-fine o n b ops q (named_at o mid.held) refl
     itself-fine (op.Give n to ∷ ops) q = give-fine n to ops (named_at n mid.held) q refl
-    itself-fine (op.Take n tries ∷ ops) q =
-        ((λ r. absurd cc), k.2 ∙ set, λ now. ((ops, q), inl (k.0, k.1)))
+    itself-fine (op.Take n tries ∷ ops) q = (
+      (λ r. absurd cc),
+      k.2 ∙ set,
+      λ now. (
+        record {
+          before = L;
+          since = [];
+          split = refl;
+          begins = ready;
+          same = (refl, refl, refl, refl);
+          some = first-try n tries ops q;
+          steps = omega (arith, no-steps);
+          absent = never-first e L me n;
+          others = ops;
+          first = q;
+        },
+        inl (k.0, k.1),
+      ),
+    )
     itself-fine (op.Info ∷ ops) q = informed-fine ops q
     itself-fine (op.Idle ∷ ops) q =
         logged-fine e rules L me set is works entry.Idle mid k (first-is op.Idle ops _ q tt)

@@ -1,9 +1,8 @@
 -- A turn of a scheduler: what it makes of what the turns before say.
-use Rattle.std.proofs.Common.{◌≡◌, ◌≢◌, ◌⊎◌, ℕ, zero, suc, ◌-◌, List, [], ◌∷◌, ◌++◌, Bool, true, false, refl, sym, ap, ◌∙◌, subst, inl, inr, arith}
-use Rattle.std.specs.Prelude.{Some, None, length}
+use Rattle.std.proofs.Common.{◌≡◌, ◌≢◌, ◌⊎◌, ℕ, zero, suc, ◌+◌, ◌-◌, ◌≤◌, List, [], ◌∷◌, ◌++◌, Bool, true, false, refl, sym, ap, ◌∙◌, subst, inl, inr, arith}
+use Rattle.std.specs.Prelude.{Some, None, count_by, length, ◌==◌}
 use Rattle.std.proofs.lemmas.List.{append_assoc}
 use Rattle.ea_model.specs.declared.entries.Entry.TheVariants as entry
-use Rattle.ea_model.specs.declared.operations.Op.{Op}
 use Rattle.ea_model.specs.declared.operations.Op.TheVariants as op
 use Rattle.ea_model.specs.declared.units.TheConstants.{SEARCH_LIMIT}
 use Rattle.ea_model.specs.Instance.{chosen_spot}
@@ -24,8 +23,12 @@ use Rattle.ea_machine.specs.Statistics.{observed}
 use Rattle.ea_machine.specs.Table.{answer}
 use Rattle.ea_machine.specs.Tasks.{halted, logged, let_go}
 use Rattle.ea_machine.specs.Turns.{actor_after, answered, begun}
-use Rattle.ea_sound.proofs.Chronicle.{AndShown, Fetches, IsSame, Searches, SoFar, Underway, asked-longer, further, placing-longer, way-asked, WentTo}
-use Rattle.ea_sound.proofs.SearchLists.{counted-most, searched-look, searched-lost, searched-on}
+use Rattle.ea_sound.proofs.Chronicle.{AndShown, Fetches, IsSame, Searches, SoFar, Takes, Underway, asked-longer, further, placing-longer, way-asked, WentTo}
+use Rattle.ea_sound.proofs.HandedNames.{NeverGiven, is-given, is-taken, never-mine, tried-given}
+use Rattle.ea_sound.proofs.TurnLists.{longer}
+use Rattle.ea_machine.specs.Nodes.{spot_named}
+use Rattle.ea_machine.specs.Sums.{one_if}
+use Rattle.ea_sound.proofs.SearchLists.{count-snoc, counted-most, searched-look, searched-lost, searched-on}
 use Rattle.ea_sound.proofs.SearchTurns.{fetch-tries, lost-other}
 use Rattle.ea_sound.proofs.BeginTurns.{IsInBegin, Walks, walks}
 use Rattle.ea_sound.proofs.ShortRoutes.{Keeps, keeps-same, turned-keeps}
@@ -200,32 +203,76 @@ module _ (e : Setup) (rules : (L : List ℕ) → Rule e (run e L)) (L : List ℕ
     fetched-fine ask at looked seen (Home x) st ans l h = halted-fine
     fetched-fine ask at looked seen (Got x) st ans l h = halted-fine
 
-    absent-fine : (n tries : ℕ) (ops : List Op) → acting.todo ≡ op.Take n tries ∷ ops
-        → Fine (logged (entry.TakeAbsent n tries) acting)
-    absent-fine n tries ops q =
-        logged-fine e rules L me set is works (entry.TakeAbsent n tries) acting (keeps-same acting)
-        (record { first = op.Take n tries; others = ops; is = q; makes = (refl, refl) })
-        (λ n q. absurd cc) (λ now. tt)
+    -- one more try in vain
+    module _ (n tries left : ℕ) (st : acting.stage ≡ Taking n tries (suc left))
+        (ans : answered (run e L) me ≡ Got None) (h : Takes e L me acting n tries (suc left)) where
+      steps-now : count_by (λ j. j == me) (h.since ++ me ∷ []) + left ≡ tries
+      steps-now = let d : (me == me) ≡ true = grind arith in
+          omega (arith, h.steps, count-snoc me h.since me, ap (λ b. one_if b) d)
 
-    took-fine : (n tries left : ℕ) (r : Answer) (ops : List Op)
-        → acting.todo ≡ op.Take n tries ∷ ops → Fine (took n tries left acting r)
-    took-fine n tries left (Got (Some spot)) ops q =
+      never-now : NeverGiven e h.before me n (h.since ++ me ∷ [])
+      never-now = never-mine e h.before me n h.since
+          (subst (λ l. spot_named n (run e l).shared.given ≡ None) h.split
+          (tried-given e rules L me works n tries (suc left) st None ans)) h.absent
+
+      absent-fine : left ≡ 0 → Fine (logged (entry.TakeAbsent n tries) acting)
+      absent-fine last = logged-fine e rules L me set is works (entry.TakeAbsent n tries) acting
+          (keeps-same acting)
+          (record { first = op.Take n tries; others = h.others; is = h.first; makes = (refl, refl) })
+          (λ n q. absurd cc)
+          (λ now. record {
+            before = h.before;
+            since = h.since ++ me ∷ [];
+            split = longer L h.before h.since me me h.split;
+            begins = h.begins;
+            same = sym h.same.0;
+            steps = omega (arith, steps-now, last);
+            absent = never-now;
+            instance = sym (ap (λ (a : Actor). a.instance) now) ∙ h.same.2;
+            held = sym (ap (λ (a : Actor). a.held) now) ∙ h.same.3;
+          })
+
+      tries-fine : 1 ≤ left → Fine (record acting { stage = Taking n tries left })
+      tries-fine more = (
+        (λ r. absurd cc),
+        set,
+        λ now. (
+          record {
+            before = h.before;
+            since = h.since ++ me ∷ [];
+            split = longer L h.before h.since me me h.split;
+            begins = h.begins;
+            same = h.same;
+            some = more;
+            steps = steps-now;
+            absent = never-now;
+            others = h.others;
+            first = h.first;
+          },
+          inl (refl, refl),
+        ),
+      )
+
+    took-fine : (n tries left : ℕ) (r : Answer) → acting.stage ≡ Taking n tries left
+        → answered (run e L) me ≡ r → Takes e L me acting n tries left
+        → Fine (took n tries left acting r)
+    took-fine n tries left (Got (Some spot)) st ans h =
         logged-fine e rules L me set is works (entry.Take n) (holding n spot acting)
         (refl, refl, refl)
-        (record { first = op.Take n tries; others = ops; is = q; makes = refl })
-        (λ n q. absurd cc) (λ now. tt)
-    took-fine n tries zero (Got None) ops q = absent-fine n tries ops q
-    took-fine n tries (suc zero) (Got None) ops q = absent-fine n tries ops q
-    took-fine n tries (suc (suc left)) (Got None) ops q =
-        ((λ r. absurd cc), set, λ now. ((ops, q), inl (refl, refl)))
-    took-fine n tries left Done ops q = halted-fine
-    took-fine n tries left (Head x) ops q = halted-fine
-    took-fine n tries left Rests ops q = halted-fine
-    took-fine n tries left (Passes x) ops q = halted-fine
-    took-fine n tries left (Saw x) ops q = halted-fine
-    took-fine n tries left (Won x) ops q = halted-fine
-    took-fine n tries left (Lost x) ops q = halted-fine
-    took-fine n tries left (Home x) ops q = halted-fine
+        (record { first = op.Take n tries; others = h.others; is = h.first; makes = refl })
+        (λ n q. absurd cc) (λ now. is-taken e rules L me works n tries left st spot ans now)
+    took-fine n tries zero (Got None) st ans h = absurd (omega (arith, h.some))
+    took-fine n tries (suc zero) (Got None) st ans h = absent-fine n tries 0 st ans h refl
+    took-fine n tries (suc (suc left)) (Got None) st ans h =
+        tries-fine n tries (suc left) st ans h (omega arith)
+    took-fine n tries left Done st ans h = halted-fine
+    took-fine n tries left (Head x) st ans h = halted-fine
+    took-fine n tries left Rests st ans h = halted-fine
+    took-fine n tries left (Passes x) st ans h = halted-fine
+    took-fine n tries left (Saw x) st ans h = halted-fine
+    took-fine n tries left (Won x) st ans h = halted-fine
+    took-fine n tries left (Lost x) st ans h = halted-fine
+    took-fine n tries left (Home x) st ans h = halted-fine
 
     -- what isn't Ready is done with
     onward-by : (b : Actor) (st : Stage) → b.stage ≡ st → Fine b → Fine (onward_at e me b st)
@@ -276,9 +323,9 @@ module _ (e : Setup) (rules : (L : List ℕ) → Rule e (run e L)) (L : List ℕ
         inr (logged-fine e rules L me set is works (entry.Give g.name to) (let_go g.name acting)
         (refl, refl, refl)
         (record { first = op.Give g.name to; others = h.0; is = h.1; makes = (refl, refl) })
-        (λ n q. absurd cc) (λ now. tt))
+        (λ n q. absurd cc) (λ now. is-given e rules L me works g to q now))
     row-fine (Taking n tries left) q h ne =
-        inr (took-fine n tries left (answered (run e L) me) h.0 h.1)
+        inr (took-fine n tries left (answered (run e L) me) q refl h)
     row-fine Ended q h ne = absurd (ne refl)
     row-fine Ready q h ne = absurd h
 

@@ -56,6 +56,7 @@ pub mod ShortRoutes
 pub mod GoneRoutes
 pub mod BeginTurns
 pub mod SearchLists
+pub mod HandedNames
 pub mod SoundRanges
 pub mod ClearRows
 pub mod OtherRows

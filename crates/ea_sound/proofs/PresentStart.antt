@@ -1,16 +1,17 @@
 -- What every scheduler is in the middle of before the first step.
 use Rattle.std.proofs.Common.{◌≡◌, ℕ, zero, suc, ◌≤◌, List, [], ◌∷◌, Bool, true, false, refl, sym, ap, subst, inl, inr, length, arith}
 use Rattle.std.proofs.lemmas.List.{get_or_past}
-use Rattle.std.proofs.lemmas.List.Elements.{All-cons, All-nil}
+use Rattle.std.proofs.lemmas.List.Elements.{All-cons, All-nil, All-weaker}
 use Rattle.std.specs.Prelude.{All, nat_lt, nat_le, ◌&&◌, if◌then◌else◌}
 use Rattle.ea_model.specs.declared.operations.Op.{Op}
+use Rattle.ea_model.specs.declared.operations.Op.TheVariants as op
 use Rattle.ea_model.specs.declared.settings.Config.{Config}
 use Rattle.ea_model.specs.declared.trace.Mode.{Mode}
 use Rattle.ea_model.specs.declared.trace.Mode.TheVariants.{Threads, Schedule, Generated}
 use Rattle.ea_model.specs.declared.trace.Trace.{Trace}
 use Rattle.ea_model.specs.Keyed.{IsBelow}
 use Rattle.ea_model.specs.Settings.{IsValidConfig}
-use Rattle.ea_model.specs.Trace.{HasTexts, IsValidTrace, texts_of}
+use Rattle.ea_model.specs.Trace.{HasTexts, IsOperation, IsValidTrace, operations_of, texts_of}
 use Rattle.ea_model.proofs.Pairs.{pairs_nil}
 use Rattle.ea_laws.specs.Kept.{Stands}
 use Rattle.ea_machine.specs.Actor.{Actor}
@@ -24,9 +25,9 @@ use Rattle.ea_machine.specs.Contents.{seats}
 use Rattle.ea_machine.specs.Sums.{total}
 use Rattle.ea_sound.specs.Blocks.{EmploysMain}
 use Rattle.ea_sound.proofs.MainCarriers.{first-main}
-use Rattle.ea_sound.specs.Present.{Fits, Present, Rule}
+use Rattle.ea_sound.specs.Present.{Fits, HasTry, Present, Rule}
 use Rattle.ea_sound.proofs.StartKept.{all-none, main_of, setup-MayStart, start-Kept}
-use Rattle.ea_sound.proofs.TextTotals.{made-each, total-text_for}
+use Rattle.ea_sound.proofs.TextTotals.{made-each, text-All, total-text_for}
 
 -- who is no scheduler has no text
 beyond-text : (n : ℕ) (mode : Mode) (texts : List (List Op)) → HasTexts n mode texts → (i : ℕ)
@@ -44,6 +45,16 @@ beyond-text n mode texts has (suc i) none =
 
       past : (n : ℕ) → (nat_lt 0 (suc i) && nat_le (suc i) n) ≡ false → n ≤ i
       past n none = grind (arith, none)
+
+-- a valid operation that takes a name has a try
+has-try : (n : ℕ) (o : Op) → IsOperation n o → HasTry o
+has-try n (op.Alloc m bytes) is = tt
+has-try n (op.Free m) is = tt
+has-try n (op.Realloc old m bytes) is = tt
+has-try n (op.Give m to) is = tt
+has-try n (op.Take m tries) is = is.1
+has-try n op.Info is = tt
+has-try n op.Idle is = tt
 
 module _ (c : Config) (t : Trace) (valid : IsValidConfig c) (trace : IsValidTrace c.schedulers t)
   where
@@ -126,6 +137,9 @@ module _ (c : Config) (t : Trace) (valid : IsValidConfig c) (trace : IsValidTrac
       stands = λ off i is. subst (λ b. Stands (instance_by e b i)) (sym is)
           (setup-MayStart c t valid i is);
       main = λ i is. subst (λ b. EmploysMain e i (instance_by e b i)) (sym is) (first-main e i);
+      tries = λ i. text-All HasTry (texts_of t) i
+          (All-weaker (IsOperation c.schedulers) HasTry (has-try c.schedulers) (operations_of t)
+          trace.operations);
     }
 
     pub start-Rule : Rule e (start e)

@@ -226,6 +226,7 @@ module _ (e : Setup) (w : State) (me : ℕ) (rule : Rule e w) (is : is_scheduler
         (λ _. good.core.stands off) (λ i other. rule.present.stands off i);
     main = each (λ i c. is_scheduler e i ≡ true → EmploysMain e i c.instance)
         (λ _. good.core.main) (λ i other. rule.present.main i);
+    tries = rule.present.tries;
   }
 
 step-present : (e : Setup) (w : State) (me : ℕ) → Rule e w → Present e (step e w me)

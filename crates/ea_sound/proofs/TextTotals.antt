@@ -1,6 +1,7 @@
 -- The operations of all texts, scheduler by scheduler.
-use Rattle.std.proofs.Common.{◌≡◌, ℕ, zero, suc, ◌+◌, ◌≤◌, List, [], ◌∷◌, refl, sym, ◌∙◌, arith}
-use Rattle.std.specs.Prelude.{flat_map, count_by, cond}
+use Rattle.std.proofs.Common.{◌≡◌, ℕ, get_or, zero, suc, ◌+◌, ◌≤◌, List, [], ◌∷◌, ◌++◌, refl, sym, ◌∙◌, arith}
+use Rattle.std.specs.Prelude.{All, flat_map, count_by, cond}
+use Rattle.std.proofs.lemmas.List.Elements.{All-cons, All-head, All-nil, All-tail}
 use Rattle.ea_model.specs.declared.operations.Op.{Op}
 use Rattle.ea_model.specs.Trace.{makes, text_at}
 use Rattle.ea_machine.specs.Names.{made_in}
@@ -50,3 +51,28 @@ made-each name texts =
       by texts,
       sum-append (λ o. cond (makes name o) 1 0) text (flat_map (λ text. text) texts),
     )
+
+-- what holds of the elements of two lists, one after the other, holds of those of either; and of all
+-- texts, of those of each
+module _ {A : Type 0} (P : A → Type 0) where
+  All-front : (xs ys : List A) → All P (xs ++ ys) → All P xs
+  All-front [] ys h = All-nil P
+  All-front (x ∷ xs) ys h =
+      All-cons P x xs (All-head P x (xs ++ ys) h) (All-front xs ys (All-tail P x (xs ++ ys) h))
+
+  pub All-back : (xs ys : List A) → All P (xs ++ ys) → All P ys
+  All-back [] ys h = h
+  All-back (x ∷ xs) ys h = All-back xs ys (All-tail P x (xs ++ ys) h)
+
+  text_at-All : (texts : List (List A)) (i : ℕ) → All P (flat_map (λ text. text) texts)
+      → All P (get_or texts i [])
+  text_at-All [] i h = All-nil P
+  text_at-All (text ∷ texts) zero h = All-front text (flat_map (λ text. text) texts) h
+  text_at-All (text ∷ texts) (suc i) h =
+      text_at-All texts i (All-back text (flat_map (λ text. text) texts) h)
+
+-- what holds of the operations of all texts holds of those of a scheduler
+pub text-All : (P : Op → Type 0) (texts : List (List Op)) (i : ℕ)
+    → All P (flat_map (λ text. text) texts) → All P (text_for texts i)
+text-All P texts zero h = All-nil P
+text-All P texts (suc i) h = text_at-All P texts i h

@@ -76,6 +76,11 @@ abbrev pub StillPooled : ℕ → OwnerWord → CarrierAt → Type 0
 StillPooled me seen p = (word_of p ≡ seen)
     × ((largest : ℕ) × (seen ≡ word.Pooled me largest))
 
+-- an operation that takes a name has a try
+abbrev pub HasTry : Op → Type 0
+HasTry (op.Take name tries) = 1 ≤ tries
+HasTry o = Unit {0}
+
 -- where a route may rest
 abbrev pub FitsRoute : Setup → Shared → ℕ → Route → Type 0
 FitsRoute e s me (Looking hand) =
@@ -120,7 +125,8 @@ Fits e w me a Ready = ⊥
 -- the next node of a walk is the first of its rest; a scheduler is where its operation allows, what
 -- it employs may stay, and its log is that of the operations done; a name that is still to be made
 -- stands nowhere; held and given names stand by rising name; where carriers don't migrate, each
--- instance employs what it owns; and each employs its main carrier
+-- instance employs what it owns; each employs its main carrier; and each operation that takes a name
+-- has a try
 pub record Present (e : Setup) (w : State) : Type 0 where
   pub walking : (i : ℕ) → (w.actors i).next ≡ first_node (w.shared.rests i)
   pub fits : (i : ℕ) → Fits e w i (w.actors i) (w.actors i).stage
@@ -134,6 +140,7 @@ pub record Present (e : Setup) (w : State) : Type 0 where
   pub stands : migration e ≡ false → (i : ℕ) → is_scheduler e i ≡ true
       → Stands (w.actors i).instance
   pub main : (i : ℕ) → is_scheduler e i ≡ true → EmploysMain e i (w.actors i).instance
+  pub tries : (i : ℕ) → All HasTry (e.texts i)
 
 -- the whole rule
 pub record Rule (e : Setup) (w : State) : Type 0 where

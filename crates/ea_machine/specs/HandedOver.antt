@@ -1,0 +1,39 @@
+-- How names go from one scheduler to another: one gives a name, and another takes it.
+use Rattle.std.specs.Prelude.{◌≡◌, ℕ, ◌==◌, List, [], ◌∷◌, ◌++◌, None, Some, count_by}
+use Rattle.ea_model.specs.declared.carriers.Spot.{Spot}
+use Rattle.ea_machine.specs.Nodes.{spot_named}
+use Rattle.ea_machine.specs.Setup.{Setup}
+use Rattle.ea_machine.specs.Machine.{run}
+use Rattle.ea_machine.specs.Turns.{IsBegun, actor_after, begun, log_after}
+
+-- s held the name just before its step after the steps `turns`; after this step the name is given,
+-- with the spot that it had, and s holds it no longer
+pub record IsGiven (setup : Setup) (turns : List ℕ) (s name : ℕ) : Type 0 where
+  pub spot : Spot
+  pub held : spot_named name (actor_after setup turns s).held ≡ Some spot
+  pub given : spot_named name (run setup (turns ++ s ∷ [])).shared.given ≡ Some spot
+  pub gone : spot_named name (actor_after setup (turns ++ s ∷ []) s).held ≡ None
+
+-- the name was given just before the step of s after the steps `turns`; after this step s holds it,
+-- with the spot that it had, and it is given no longer
+pub record IsTaken (setup : Setup) (turns : List ℕ) (s name : ℕ) : Type 0 where
+  pub spot : Spot
+  pub given : spot_named name (run setup turns).shared.given ≡ Some spot
+  pub held : spot_named name (actor_after setup (turns ++ s ∷ []) s).held ≡ Some spot
+  pub gone : spot_named name (run setup (turns ++ s ∷ [])).shared.given ≡ None
+
+-- the begin of the operation of which s made the entry in its step after the steps `turns` was over in
+-- its step after `before`. Since then s took that many steps, this one the last, and just before each
+-- of them the name wasn't given. After it s employs, owns and holds what it did when the begin was over
+pub record HasTried (setup : Setup) (turns : List ℕ) (s name tries : ℕ) : Type 0 where
+  pub before : List ℕ
+  pub since : List ℕ
+  pub split : turns ++ s ∷ [] ≡ before ++ s ∷ since
+  pub begins : IsBegun setup (run setup before) s
+  pub same : (begun setup before s).log ≡ log_after setup turns s
+  pub steps : count_by (λ j. j == s) since ≡ tries
+  pub absent : (mid later : List ℕ) → since ≡ mid ++ s ∷ later
+      → spot_named name (run setup (before ++ s ∷ mid)).shared.given ≡ None
+  pub instance : (actor_after setup (turns ++ s ∷ []) s).instance
+      ≡ (begun setup before s).instance
+  pub held : (actor_after setup (turns ++ s ∷ []) s).held ≡ (begun setup before s).held
