@@ -1,5 +1,5 @@
 -- What the log of a scheduler says of its operations.
-use Rattle.std.specs.Prelude.{◌≡◌, ◌≢◌, ◌⊎◌, ℕ, List, [], ◌∷◌, ◌++◌, None}
+use Rattle.std.specs.Prelude.{◌≡◌, ◌⊎◌, ℕ, List, [], ◌∷◌, ◌++◌, None}
 use Rattle.std.specs.List.{AllZip}
 use Rattle.ea_model.specs.declared.entries.Entry.{Entry}
 use Rattle.ea_model.specs.declared.entries.Entry.TheVariants as entry
@@ -8,7 +8,6 @@ use Rattle.ea_model.specs.declared.operations.Op.{Op}
 use Rattle.ea_model.specs.declared.operations.Op.TheVariants as op
 use Rattle.ea_model.specs.Content.{Content}
 use Rattle.ea_model.specs.Instance.{figures}
-use Rattle.ea_model.specs.Trace.{IsScheduler}
 use Rattle.ea_model.specs.Units.{need_of}
 use Rattle.ea_machine.specs.Nodes.{named_at}
 use Rattle.ea_machine.specs.Setup.{Setup}
@@ -19,7 +18,7 @@ use Rattle.ea_machine.specs.Statistics.{employed_multis, employed_singles}
 use Rattle.ea_machine.specs.Turns.{IsBegun, actor_after, begun, log_after}
 use Rattle.ea_machine.specs.Chosen.{IsPlacement, IsResized}
 use Rattle.ea_machine.specs.Exhausted.{IsExhausted}
-use Rattle.ea_machine.specs.HandedOver.{HasTried, IsGiven, IsTaken}
+use Rattle.ea_machine.specs.HandedOver.{HasTried, IsGiven, IsQueued, IsTaken}
 
 -- an operation makes an entry of its own kind, with its own names and numbers
 abbrev pub Makes : Op → Entry → Type 0
@@ -59,10 +58,6 @@ pub record IsSkipped (setup : Setup) (turns : List ℕ) (s name : ℕ) : Type 0 
       ≡ (begun setup turns s).instance
   pub held : (actor_after setup (turns ++ s ∷ []) s).held ≡ (begun setup turns s).held
 
--- it is another scheduler than s
-abbrev pub IsAnother : Setup → ℕ → ℕ → Type 0
-IsAnother setup s to = IsScheduler setup.schedulers to × (to ≢ s)
-
 -- the figures that a report has as they are now are those of these carriers
 abbrev pub Reports : Report → List Content → Type 0
 Reports r xs = (r.blocks.now ≡ (figures xs).blocks) × (r.blocks_size.now ≡ (figures xs).blocks_size)
@@ -70,21 +65,21 @@ Reports r xs = (r.blocks.now ≡ (figures xs).blocks) × (r.blocks_size.now ≡ 
 
 -- what an entry tells, which s made in its step after the steps `turns`: a block was placed where the
 -- strategy chooses, or in a carrier of its own; a block keeps its spot; no place was found; a name
--- isn't held, and nothing changes; a block went to the queue of another scheduler; a name was given, or
--- taken, with its spot, or tried for in vain as often as it was to be; and what carriers are employed
--- then
+-- isn't held, and nothing changes; a block went to another scheduler's queue, where carriers don't
+-- migrate to that of the owner of its carrier; a name was given, or taken, with its spot, or tried for
+-- in vain as often as it was to be; and what carriers are employed then
 abbrev pub Tells : Setup → List ℕ → ℕ → Entry → Type 0
 Tells setup turns s (entry.Alloc name place) = IsPlacement setup turns s name place
 Tells setup turns s (entry.AllocFail name need looked why) =
     IsExhausted setup turns s (entry.AllocFail name need looked why) need looked why
 Tells setup turns s (entry.Free name) = Unit {0}
-Tells setup turns s (entry.FreeQueued name to) = IsAnother setup s to
+Tells setup turns s (entry.FreeQueued name to) = IsQueued setup turns s name to
 Tells setup turns s (entry.FreeSkipped name) = IsSkipped setup turns s name
 Tells setup turns s (entry.ReallocHere old fresh place) =
     IsResized setup turns s old fresh place
 Tells setup turns s (entry.ReallocMoved old fresh place) = IsPlacement setup turns s fresh place
 Tells setup turns s (entry.ReallocQueued old fresh place to) =
-    IsPlacement setup turns s fresh place × IsAnother setup s to
+    IsPlacement setup turns s fresh place × IsQueued setup turns s old to
 Tells setup turns s (entry.ReallocFail old fresh need looked why) =
     IsExhausted setup turns s (entry.ReallocFail old fresh need looked why) need looked why
 Tells setup turns s (entry.ReallocSkipped old fresh) = IsSkipped setup turns s old

@@ -21,7 +21,8 @@ use Rattle.ea_machine.specs.declared.tasks.Gone.{Gone}
 use Rattle.ea_machine.specs.declared.tasks.Gone.TheVariants.{Open, Here, Queued}
 use Rattle.ea_machine.specs.declared.asks.Ask.{Ask}
 use Rattle.ea_machine.specs.Chosen.{HasAsked, IsPlacedAt}
-use Rattle.ea_machine.specs.Entries.{IsAnother, Makes}
+use Rattle.ea_machine.specs.Entries.{Makes}
+use Rattle.ea_machine.specs.HandedOver.{GoesToOwner, HasHeld, IsAnother}
 use Rattle.ea_machine.specs.Exhausted.{IsFailOf, seen_since}
 use Rattle.ea_machine.specs.Machine.{run}
 use Rattle.ea_machine.specs.Needs.{AsksFor}
@@ -122,16 +123,33 @@ abbrev pub Placing : Setup → List ℕ → ℕ → List Entry → Task → Type
 Placing e L s log (Freeing n) = Unit {0}
 Placing e L s log (Moving o n p) = Placement e L s log n p
 
--- a block that was queued went to another scheduler
-abbrev pub WentTo : Setup → ℕ → Gone → Type 0
-WentTo e s Open = Unit {0}
-WentTo e s Here = Unit {0}
-WentTo e s (Queued to) = IsAnother e s to
+-- the name of the block that goes
+abbrev pub name_in : Task → ℕ
+name_in (Freeing n) = n
+name_in (Moving o n p) = o
+
+-- a block that was queued went to another scheduler: where carriers don't migrate, to the owner of its
+-- carrier
+abbrev pub WentTo : Setup → List ℕ → ℕ → List Entry → ℕ → Gone → Type 0
+WentTo e L s log n Open = Unit {0}
+WentTo e L s log n Here = Unit {0}
+WentTo e L s log n (Queued to) =
+    IsAnother e s to × (migration e ≡ false → GoesToOwner e L s n to log)
 
 abbrev pub OnTask : Setup → List ℕ → ℕ → Actor → Why → Gone → Type 0
 OnTask e L s a Walk g = Unit {0}
 OnTask e L s a (For task) g =
-    OfTask task a.todo × Placing e L s a.log task × WentTo e s g
+    OfTask task a.todo × Placing e L s a.log task × WentTo e L s a.log (name_in task) g
+
+-- where carriers don't migrate, the old block that an ask may have was held when the operation began
+abbrev pub HasOld : Setup → List ℕ → ℕ → List Entry → Option Named → Type 0
+HasOld e L s log None = Unit {0}
+HasOld e L s log (Some h) = migration e ≡ false → HasHeld e L s h.name h log
+
+pub old-on : (e : Setup) (L : List ℕ) (s : ℕ) (log : List Entry) → migration e ≡ true
+    → (old : Option Named) → HasOld e L s log old
+old-on e L s log on None = tt
+old-on e L s log on (Some h) = λ off. absurd (let no : true ≡ false = sym on ∙ off in cc)
 
 -- what the turns L say of s, which is a
 abbrev pub SoFar : Setup → List ℕ → ℕ → Actor → Stage → Type 0
@@ -220,6 +238,26 @@ placing-longer e L s j log (Moving o n p) h = record {
   there = h.there;
 }
 
+pub went-longer : (e : Setup) (L : List ℕ) (s j : ℕ) (log : List Entry) (n : ℕ) (g : Gone)
+    → WentTo e L s log n g → WentTo e (L ++ j ∷ []) s log n g
+went-longer e L s j log n Open w = w
+went-longer e L s j log n Here w = w
+went-longer e L s j log n (Queued to) w = (
+  w.0,
+  λ off. let goes = w.1 off in record {
+    named = goes.named;
+    held = record {
+      before = goes.held.before;
+      since = goes.held.since ++ j ∷ [];
+      split = longer L goes.held.before goes.held.since s j goes.held.split;
+      begins = goes.held.begins;
+      same = goes.held.same;
+      held = goes.held.held;
+    };
+    owner = goes.owner;
+  },
+)
+
 -- a turn of another scheduler adds nothing
 module _ (e : Setup) (L : List ℕ) (s j : ℕ) (ne : j ≢ s) where
   away : (need : ℕ) (R : Actor → Type 0) (P : List Sight → Type 0) → Underway e L s need R P
@@ -257,7 +295,7 @@ module _ (e : Setup) (L : List ℕ) (s j : ℕ) (ne : j ≢ s) where
   }
   other-so_far a (Routed r Walk g) h = h
   other-so_far a (Routed r (For task) g) h =
-      (h.0, placing-longer e L s j a.log task h.1, h.2)
+      (h.0, placing-longer e L s j a.log task h.1, went-longer e L s j a.log (name_in task) g h.2)
   other-so_far a Begin h = h
   other-so_far a (Collecting c) h = h
   other-so_far a (Giving g to) h = h

@@ -29,8 +29,9 @@ use Rattle.ea_machine.specs.Setup.{Setup, greatest_number, migration, is_schedul
 use Rattle.ea_machine.specs.Statistics.{employed_multis, employed_singles, informed, is_single, leaving_at, observed, report, restarted}
 use Rattle.ea_machine.specs.Tasks.{let_go, logged}
 use Rattle.ea_machine.specs.Turns.{actor_after, begun}
-use Rattle.ea_sound.specs.Present.{HasTry, OfAsk, OfTask, Rule}
-use Rattle.ea_sound.proofs.Chronicle.{IsOfFirst}
+use Rattle.ea_sound.specs.Present.{HasTry, OfAsk, OfTask, OldHeld, Rule}
+use Rattle.ea_sound.proofs.Chronicle.{HasOld, IsOfFirst}
+use Rattle.ea_machine.specs.HandedOver.{HasHeld}
 use Rattle.ea_sound.proofs.HandedNames.{never-first}
 use Rattle.ea_sound.proofs.TextTotals.{All-back}
 use Rattle.ea_sound.proofs.Orderly.{resizing-fixed, stays-employed}
@@ -86,10 +87,27 @@ module _ (e : Setup) (rules : (L : List ℕ) → Rule e (run e L)) (L : List ℕ
     no-steps : count_by (λ j. j == me) [] ≡ 0
     no-steps = sum_by-sum_over (λ j. one_if (j == me)) []
 
+    -- the name of a block is held now
+    held-now : (n : ℕ) (h : Named) → named_at n mid.held ≡ Some h
+        → HasHeld e (L ++ me ∷ []) me n h acting.log
+    held-now n h q = record {
+      before = L;
+      since = [];
+      split = refl;
+      begins = ready;
+      same = k.0;
+      held = q;
+    }
+
+    old-now : (old : Option Named) → OldHeld old mid.held
+        → HasOld e (L ++ me ∷ []) me acting.log old
+    old-now None held = tt
+    old-now (Some h) held = λ off. held-now h.name h held
+
     -- the operation asks for a place
-    asked-now : (ask : Ask) → OfAsk ask acting.todo → AsksFor mid mid.todo ask.need
-        → IsAsking e rules L me ask
-    asked-now ask o asks = (
+    asked-now : (ask : Ask) → OfAsk ask acting.todo → IsWanted ask
+        → AsksFor mid mid.todo ask.need → IsAsking e rules L me ask
+    asked-now ask o want asks = (
       o,
       record {
         before = L;
@@ -99,6 +117,7 @@ module _ (e : Setup) (rules : (L : List ℕ) → Rule e (run e L)) (L : List ℕ
         asks = asks;
         same = k.0;
       },
+      old-now ask.old want.old,
     )
 
     plan-fine : (ask : Ask) → OfAsk ask acting.todo → IsWanted ask
@@ -108,7 +127,7 @@ module _ (e : Setup) (rules : (L : List ℕ) → Rule e (run e L)) (L : List ℕ
         → Fine (new_carrier e me ask 0 mid)
     plan-fine ask o want asks none un =
         planned-fine e rules L me set is works ask 0 mid (plan mid.instance ask.need) refl k
-        (asked-now ask o asks)
+        (asked-now ask o want asks)
         (λ why r. fails e rules L me set is works ask 0 why mid L [] refl (refl, refl, refl, refl)
         (subst (OfAsk ask) (sym k.1) o)
         (record {
@@ -130,7 +149,7 @@ module _ (e : Setup) (rules : (L : List ℕ) → Rule e (run e L)) (L : List ℕ
         → chosen_spot mid.instance ask.need ≡ None → Fine (search_if e me ask mid on)
     no_choice-fine ask true m o want asks small c =
         search-fine e rules L me set is works ask (greatest_number e) 0 mid k
-        (asked-now ask o asks) m small (omega arith) want
+        (asked-now ask o want asks) m small (omega arith) want
         (record {
           before = L;
           since = [];
@@ -148,7 +167,7 @@ module _ (e : Setup) (rules : (L : List ℕ) → Rule e (run e L)) (L : List ℕ
         → OfAsk ask acting.todo → IsWanted ask → AsksFor mid mid.todo ask.need
         → ask.need ≤ e.settings.sbct → Fine (chosen_by e me ask mid s)
     chosen-fine ask (Some spot) c o want asks small =
-        choice-fine e rules L me set is works ask mid (Some spot) c k (asked-now ask o asks) small
+        choice-fine e rules L me set is works ask mid (Some spot) c k (asked-now ask o want asks) small
         (Had ready refl) want going
     chosen-fine ask None c o want asks small =
         no_choice-fine ask (migration e) refl o want asks small c
@@ -269,7 +288,7 @@ module _ (e : Setup) (rules : (L : List ℕ) → Rule e (run e L)) (L : List ℕ
     free-fine n ops None q i = logged-fine e rules L me set is works (entry.FreeSkipped n) mid k
         (first-is (op.Free n) ops _ q refl) (λ n q. absurd cc) (skipped n (entry.FreeSkipped n) i)
     free-fine n ops (Some h) q i = task-fine e rules L me set is works (Freeing n) h mid k
-        (subst (OfTask (Freeing n)) (sym q ∙ k.1) refl) (λ now. tt)
+        (subst (OfTask (Freeing n)) (sym q ∙ k.1) refl) (λ off. held-now n h i) (λ now. tt)
 
     give-fine : (n to : ℕ) (ops : List Op) (h : Option Named) → mid.todo ≡ op.Give n to ∷ ops
         → named_at n mid.held ≡ h → Fine (giving n to mid h)

@@ -21,7 +21,8 @@ use Rattle.ea_machine.specs.declared.tasks.Gone.{Gone}
 use Rattle.ea_machine.specs.declared.tasks.Gone.TheVariants.{Open, Here, Queued}
 use Rattle.ea_machine.specs.declared.asks.Ask.{Ask}
 use Rattle.ea_machine.specs.Chosen.{Created, Creates, HasAsked, IsJustBefore, IsPlacedAt, IsPlacement}
-use Rattle.ea_machine.specs.Entries.{Tells, IsAnother}
+use Rattle.ea_machine.specs.Entries.{Tells}
+use Rattle.ea_machine.specs.HandedOver.{GoesToOwner, HasHeld, IsAnother}
 use Rattle.ea_machine.specs.Exhausted.{FindsNoPlace, IsExhausted, IsFailOf}
 use Rattle.ea_machine.specs.Machine.{run, wants}
 use Rattle.ea_machine.specs.declared.nodes.Named.{Named}
@@ -33,7 +34,7 @@ use Rattle.ea_machine.specs.Statistics.{observed}
 use Rattle.ea_machine.specs.Tasks.{carried, entry_of, hands_over, later, let_go, logged, task_over}
 use Rattle.ea_machine.specs.Turns.{actor_after, begun}
 use Rattle.ea_sound.specs.Present.{OfAsk, OfTask, OldHeld, Rule, Fits}
-use Rattle.ea_sound.proofs.Chronicle.{IsOfFirst, IsSame, Outcomes, Placement, Placing, SoFar, Underway, failed-is, outcomes, task-first, WentTo}
+use Rattle.ea_sound.proofs.Chronicle.{HasOld, IsOfFirst, IsSame, Outcomes, Placement, Placing, SoFar, Underway, WentTo, failed-is, name_in, outcomes, task-first}
 use Rattle.ea_sound.proofs.ShortRoutes.{Keeps, keeps-on, route-keeps}
 use Rattle.ea_machine.specs.Contents.{actor_sum, seats}
 use Rattle.ea_machine.specs.Nodes.{named_at, block_node}
@@ -58,7 +59,7 @@ use Rattle.ea_sound.proofs.Numbered.{scheduler-seat}
 use Rattle.ea_sound.proofs.Operating.{closed-operation, held-other, held-stays, made-wanted}
 use Rattle.ea_sound.proofs.Totals.{put-here, total-part}
 use Rattle.ea_sound.proofs.Created.{scheduler-number}
-use Rattle.ea_sound.proofs.GoneRoutes.{route-queued}
+use Rattle.ea_sound.proofs.GoneRoutes.{route-owner, route-queued}
 
 -- the name of which a fail says so
 failed-says : (n : ℕ) (ask : Ask) (looked : ℕ) (why : NoCarrier) (old : Option Named)
@@ -114,6 +115,7 @@ module _ (e : Setup) (rules : (L : List ℕ) → Rule e (run e L)) (L : List ℕ
   -- it is what the operation asks for
   abbrev pub IsAsking : Ask → Type 0
   IsAsking ask = OfAsk ask acting.todo × HasAsked e turn me ask.need acting.log
+      × HasOld e turn me acting.log ask.old
 
   abbrev pub IsWanted : Actor → Ask → Type 0
   IsWanted b ask = Wanted e (run e L) shared me b ask
@@ -188,24 +190,31 @@ module _ (e : Setup) (rules : (L : List ℕ) → Rule e (run e L)) (L : List ℕ
     }
 
     entry-tells : (task : Task) (g : Gone) → Placing e turn me acting.log task
-        → WentTo e me g → Tells e L me (entry_of task g)
+        → WentTo e turn me acting.log (name_in task) g → Tells e L me (entry_of task g)
     entry-tells (Freeing n) Open h w = tt
     entry-tells (Freeing n) Here h w = tt
-    entry-tells (Freeing n) (Queued to) h w = w
+    entry-tells (Freeing n) (Queued to) h w = record { another = w.0; owner = w.1 }
     entry-tells (Moving o n p) Open h w = placed n p h
     entry-tells (Moving o n p) Here h w = placed n p h
-    entry-tells (Moving o n p) (Queued to) h w = (placed n p h, w)
+    entry-tells (Moving o n p) (Queued to) h w =
+        (placed n p h, record { another = w.0; owner = w.1 })
 
     -- where a block is queued, by the route that is left
     abbrev pub Queues : Gone → Option Route → Type 0
     Queues g r = (to : ℕ) → g ≡ Queued to
         → IsAnother e me to ⊎ ((h : Named) × (r ≡ Some (Pushing (block_node h) to)))
 
-    ended-went : (g : Gone) → Queues g None → WentTo e me g
-    ended-went Open w = tt
-    ended-went Here w = tt
-    ended-went (Queued to) w = elim (w to refl) [
-      | inl other ↦ other
+    -- and where carriers don't migrate, whose carrier it is in
+    abbrev pub Owned : ℕ → Gone → Type 0
+    Owned n g = (to : ℕ) → g ≡ Queued to → migration e ≡ false
+        → GoesToOwner e turn me n to acting.log
+
+    ended-went : (n : ℕ) (g : Gone) → Queues g None → Owned n g
+        → WentTo e turn me acting.log n g
+    ended-went n Open w o = tt
+    ended-went n Here w o = tt
+    ended-went n (Queued to) w o = elim (w to refl) [
+      | inl other ↦ (other, o to refl)
       | inr pushes ↦ absurd (let q = pushes.1 in cc)
     ]
 
@@ -218,14 +227,17 @@ module _ (e : Setup) (rules : (L : List ℕ) → Rule e (run e L)) (L : List ℕ
         ((rules turn).present.fits me) in
         (scheduler-number e to f.0.1, f.0.0)
 
-    routed-went : (r : Route) (y : Why) (g : Gone) → Queues g (Some r)
-        → (actor_after e turn me).stage ≡ Routed r y g → WentTo e me g
-    routed-went r y Open w now = tt
-    routed-went r y Here w now = tt
-    routed-went r y (Queued to) w now = elim (w to refl) [
-      | inl other ↦ other
-      | inr pushes ↦ pushes-another pushes.0 to y (Queued to)
-          (now ∙ ap (λ p. Routed p y (Queued to)) (some_route pushes.1))
+    routed-went : (n : ℕ) (r : Route) (y : Why) (g : Gone) → Queues g (Some r) → Owned n g
+        → (actor_after e turn me).stage ≡ Routed r y g → WentTo e turn me acting.log n g
+    routed-went n r y Open w o now = tt
+    routed-went n r y Here w o now = tt
+    routed-went n r y (Queued to) w o now = elim (w to refl) [
+      | inl other ↦ (other, o to refl)
+      | inr pushes ↦ (
+        pushes-another pushes.0 to y (Queued to)
+            (now ∙ ap (λ p. Routed p y (Queued to)) (some_route pushes.1)),
+        o to refl,
+      )
     ] where
       some_route : {p q : Route} → Some p ≡ Some q → p ≡ q
       some_route q = cc
@@ -241,13 +253,14 @@ module _ (e : Setup) (rules : (L : List ℕ) → Rule e (run e L)) (L : List ℕ
     task-made (Moving o m p) (Queued to) b n q = absurd cc
 
     pub carried-fine : (task : Task) (r : Option Route) (g : Gone) (b : Actor) → Keeps acting b
-        → OfTask task acting.todo → Queues g r
+        → OfTask task acting.todo → Queues g r → Owned (name_in task) g
         → (IsAfter b → Placing e turn me acting.log task)
         → Fine (carried (For task) (task_over task) (record { actor = b; route = r; gone = g }))
-    carried-fine task None g b k o w h = logged-fine (entry_of task g) b k
+    carried-fine task None g b k o w own h = logged-fine (entry_of task g) b k
         (task-first task g acting.todo o) (task-made task g b)
-        (λ now. entry-tells task g (h (ap (λ (a : Actor). a.instance) now)) (ended-went g w))
-    carried-fine task (Some r) g b k o w h = (
+        (λ now. entry-tells task g (h (ap (λ (a : Actor). a.instance) now))
+        (ended-went (name_in task) g w own))
+    carried-fine task (Some r) g b k o w own h = (
       (λ q. absurd cc),
       k.2 ∙ set,
       λ now. (
@@ -255,23 +268,31 @@ module _ (e : Setup) (rules : (L : List ℕ) → Rule e (run e L)) (L : List ℕ
           subst (OfTask task) (sym k.1) o,
           subst (λ l. Placing e turn me l task) (sym k.0)
               (h (ap (λ (a : Actor). a.instance) now)),
-          routed-went r (For task) g w (sym (ap (λ (a : Actor). a.stage) now)),
+          subst (λ l. WentTo e turn me l (name_in task) g) (sym k.0)
+              (routed-went (name_in task) r (For task) g w own
+              (sym (ap (λ (a : Actor). a.stage) now))),
         ),
         inl (k.0, k.1),
       ),
     )
 
     pub task-fine : (task : Task) (h : Named) (b : Actor) → Keeps acting b → OfTask task acting.todo
+        → (migration e ≡ false → HasHeld e turn me (name_in task) h acting.log)
         → (IsAfter (route_of e me h (let_go h.name b)).actor → Placing e turn me acting.log task)
         → Fine (hands_over e me task h b)
-    task-fine task h b k o p =
+    task-fine task h b k o held p =
         let t = route_of e me h (let_go h.name b) in
         carried-fine task t.route t.gone t.actor
         (keeps-on acting (let_go h.name b) t.actor (route-keeps e me h (let_go h.name b)) k) o
         (λ to q. elim (route-queued e me h (let_go h.name b) to q) [
           | inl none ↦ absurd (let never : Open ≡ Queued to = none in cc)
           | inr pushes ↦ inr pushes
-        ]) p
+        ])
+        (λ to q off. record {
+          named = h;
+          held = held off;
+          owner = route-owner e me h (let_go h.name b) to off q;
+        }) p
 
     -- where the name is held, so that the rule holds
     module _ (n : ℕ) (spot : Spot) (c : Actor) (g : IsGoing (holding n spot c)) where
@@ -326,6 +347,7 @@ module _ (e : Setup) (rules : (L : List ℕ) → Rule e (run e L)) (L : List ℕ
             let b = holding ask.name spot c in
             let t = route_of e me h (let_go h.name b) in
             task-fine (Moving h.name ask.name place) h b k f.1
+            (subst (HasOld e turn me acting.log) q o.2)
             (λ now. here (landed ask.name place t.actor
             (route-lies e me ask.name place h
             (held-other e (run e L) shared me is ask.name spot h c old g) (let_go h.name b) has

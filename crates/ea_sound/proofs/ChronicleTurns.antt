@@ -7,7 +7,7 @@ use Rattle.ea_model.specs.declared.operations.Op.TheVariants as op
 use Rattle.ea_model.specs.declared.units.TheConstants.{SEARCH_LIMIT}
 use Rattle.ea_model.specs.Instance.{chosen_spot}
 use Rattle.ea_machine.specs.declared.owners.OwnerWord.{OwnerWord}
-use Rattle.ea_machine.specs.Actor.{Actor, Stage, Begin, Routed, Collecting, Searching, Fetching, Creating, Giving, Taking, Ended, Ready}
+use Rattle.ea_machine.specs.Actor.{Actor, Route, Looking, Trying, Settling, Abandoning, Sending, Clearing, Pushing, Linking, Stage, Begin, Routed, Collecting, Searching, Fetching, Creating, Giving, Taking, Ended, Ready}
 use Rattle.ea_machine.specs.declared.tasks.Why.TheVariants.{Walk, For}
 use Rattle.ea_machine.specs.declared.asks.Ask.{Ask}
 use Rattle.ea_machine.specs.Chosen.{ByItself, Fetched}
@@ -18,12 +18,12 @@ use Rattle.ea_machine.specs.Placements.{counted, fetched, fits, holding, saw_by,
 use Rattle.ea_machine.specs.Releases.{turned}
 use Rattle.ea_machine.specs.Rows.{Answer, Done, Head, Rests, Passes, Saw, Won, Lost, Home, Got}
 use Rattle.ea_machine.specs.Searches.{Missed, Searched, Shown, Sight, sight, sight_if}
-use Rattle.ea_machine.specs.Setup.{Setup, greatest_number, is_scheduler}
+use Rattle.ea_machine.specs.Setup.{Setup, greatest_number, is_scheduler, migration}
 use Rattle.ea_machine.specs.Statistics.{observed}
 use Rattle.ea_machine.specs.Table.{answer}
 use Rattle.ea_machine.specs.Tasks.{halted, logged, let_go}
 use Rattle.ea_machine.specs.Turns.{actor_after, answered, begun}
-use Rattle.ea_sound.proofs.Chronicle.{AndShown, Fetches, IsSame, Searches, SoFar, Takes, Underway, asked-longer, further, placing-longer, way-asked, WentTo}
+use Rattle.ea_sound.proofs.Chronicle.{AndShown, Fetches, IsSame, Searches, SoFar, Takes, Underway, asked-longer, further, placing-longer, way-asked, WentTo, name_in, old-on, went-longer}
 use Rattle.ea_sound.proofs.HandedNames.{NeverGiven, is-given, is-taken, never-mine, tried-given}
 use Rattle.ea_sound.proofs.TurnLists.{longer}
 use Rattle.ea_machine.specs.Nodes.{spot_named}
@@ -36,10 +36,15 @@ use Rattle.ea_sound.proofs.ChroniclePlaces.{Fine as IsFine, IsAsking, carried-fi
 use Rattle.ea_sound.proofs.ChronicleOperations.{itself-fine}
 use Rattle.ea_machine.specs.Shared.{Shared}
 use Rattle.ea_sound.specs.Leaves.{Leaves}
-use Rattle.ea_sound.specs.Present.{OfAsk, Rule}
+use Rattle.ea_sound.specs.Present.{Fits, FitsRoute, OfAsk, Rule}
 use Rattle.ea_sound.proofs.Operating.{begun-kept}
 use Rattle.ea_sound.proofs.RowLeaves.{row-left}
-use Rattle.ea_sound.proofs.GoneRoutes.{turned-queued}
+use Rattle.ea_sound.proofs.GoneRoutes.{ByWord, turned-before, turned-queued}
+use Rattle.ea_sound.proofs.Employers.{there-on}
+use Rattle.ea_sound.proofs.OtherRows.{tried-there}
+use Rattle.std.proofs.lemmas.Bool.{true≢false}
+use Rattle.ea_machine.specs.declared.tasks.Why.{Why}
+use Rattle.ea_machine.specs.declared.tasks.Gone.{Gone}
 
 module _ (e : Setup) (rules : (L : List ℕ) → Rule e (run e L)) (L : List ℕ) (me : ℕ) where
   abbrev acting : Actor
@@ -119,10 +124,13 @@ module _ (e : Setup) (rules : (L : List ℕ) → Rule e (run e L)) (L : List ℕ
         further e L me me need R P Q true (grind arith) (ap length sees)
         (λ xs p. subst (λ ys. Q (xs ++ ys)) (sym sees) (f xs p)) u
 
-    asking : (ask : Ask) (P : List Sight → Type 0) → OfAsk ask acting.todo
+    asking : (ask : Ask) (P : List Sight → Type 0) → OfAsk ask acting.todo → migration e ≡ true
         → Underway e L me ask.need IsStill P → IsAsking e rules L me ask
-    asking ask P o u =
-        (o, asked-longer e L me me ask.need acting.log (way-asked e L me ask.need acting P u))
+    asking ask P o on u = (
+      o,
+      asked-longer e L me me ask.need acting.log (way-asked e L me ask.need acting P u),
+      old-on e turn me acting.log on ask.old,
+    )
 
     searched-fine : (ask : Ask) (at looked : ℕ) (r : Answer)
         → acting.stage ≡ Searching ask at looked → answered (run e L) me ≡ r
@@ -152,7 +160,7 @@ module _ (e : Setup) (rules : (L : List ℕ) → Rule e (run e L)) (L : List ℕ
           ),
         )
         by false t = search-fine e rules L me set is works ask (at - 1) (counted v looked) acting
-            (keeps-same acting) (asking ask _ h.of h.way) h.on h.small
+            (keeps-same acting) (asking ask _ h.of h.on h.way) h.on h.small
             (counted-most looked SEARCH_LIMIT v h.room) l.0
             (turn-of ask.need (Searching ask at looked) (Saw v) (Shown at v) IsStill _
             (Searched ask.need (greatest_number e) 0 (at - 1) (counted v looked)) st ans refl
@@ -176,13 +184,13 @@ module _ (e : Setup) (rules : (L : List ℕ) → Rule e (run e L)) (L : List ℕ
         choice-fine e rules L me set is works ask
         (record acting { instance = employing acting.instance x })
         (chosen_spot (employing acting.instance x) ask.need) refl (refl, refl, refl)
-        (asking ask _ h.of h.way) h.small
+        (asking ask _ h.of h.on h.way) h.small
         (Fetched ask at looked seen x st refl
         (ap (λ i. chosen_spot i ask.need) h.way.same.2 ∙ h.way.none) ans refl) l.0 l.2
     fetched-fine ask at looked seen (Lost u) st ans l h =
         subst (λ k. Fine (search_at e me ask (at - 1) k acting)) (sym h.counts)
         (search-fine e rules L me set is works ask (at - 1) (counted seen h.old) acting
-        (keeps-same acting) (asking ask _ h.of h.way) h.on h.small
+        (keeps-same acting) (asking ask _ h.of h.on h.way) h.on h.small
         (counted-most h.old SEARCH_LIMIT seen h.room) l.0
         (turn-of ask.need (Fetching ask at looked seen) (Lost u) (Missed at u) IsStill _
         (Searched ask.need (greatest_number e) 0 (at - 1) (counted seen h.old)) st ans refl
@@ -290,6 +298,23 @@ module _ (e : Setup) (rules : (L : List ℕ) → Rule e (run e L)) (L : List ℕ
     abbrev Then : Stage → Actor
     Then st = after_row e me acting (answered (run e L) me) st
 
+    -- owner words are read and tried only where carriers migrate
+    words-on : (r : Route) (y : Why) (g : Gone) → acting.stage ≡ Routed r y g
+        → migration e ≡ false → ByWord r → ⊥
+    words-on r y g q off word =
+        by r (subst (Fits e (run e L) me acting) q ((rules L).present.fits me)).0 word where
+          by : (r : Route) → FitsRoute e (run e L).shared me r → ByWord r → ⊥
+          by (Looking h) f w = true≢false (sym f.1 ∙ off)
+          by (Trying h seen) f w = true≢false
+              (sym (there-on e (run e L) (rules L).kept h.spot.carrier
+              (tried-there me seen ((run e L).shared.places h.spot.carrier) f)) ∙ off)
+          by (Settling x) f w = w
+          by (Abandoning x) f w = w
+          by (Sending x) f w = w
+          by (Clearing x) f w = w
+          by (Pushing node to) f w = w
+          by (Linking node to) f w = w
+
     -- what the row of me leaves, by its stage before: a stage of the begin, or what is fine
     row-fine : (st : Stage) → acting.stage ≡ st → SoFar e L me acting st → st ≢ Ended
         → Walks acting (Then st) ⊎ Fine (Then st)
@@ -301,11 +326,18 @@ module _ (e : Setup) (rules : (L : List ℕ) → Rule e (run e L)) (L : List ℕ
         inl (walks e me acting (Collecting c) (answered (run e L) me) tt ne (λ r. absurd (cc)))
     row-fine (Routed r (For task) g) q h ne =
         let t = turned e me r g acting (answered (run e L) me) in
+        let went = went-longer e L me me acting.log (name_in task) g h.2 in
         inr (carried-fine e rules L me set is works task t.route t.gone t.actor
         (turned-keeps e me r g acting (answered (run e L) me)) h.0
         (λ to q. elim (turned-queued e me r g acting (answered (run e L) me) to q) [
-          | inl before ↦ inl (subst (WentTo e me) before h.2)
+          | inl before ↦
+              inl (subst (WentTo e turn me acting.log (name_in task)) before went).0
           | inr pushes ↦ inr pushes
+        ])
+        (λ to gone off. elim (turned-before e me r g acting (answered (run e L) me) to gone) [
+          | inl before ↦
+              (subst (WentTo e turn me acting.log (name_in task)) before went).1 off
+          | inr word ↦ absurd (words-on r (For task) g q off word)
         ])
         (λ now. placing-longer e L me me acting.log task h.1))
     row-fine (Searching ask at looked) q h ne =
@@ -316,8 +348,11 @@ module _ (e : Setup) (rules : (L : List ℕ) → Rule e (run e L)) (L : List ℕ
         (left (Fetching ask at looked seen) (answered (run e L) me) q (λ r. ne (sym q ∙ r)) refl) h)
     row-fine (Creating ask p) q h ne =
         let l = left (Creating ask p) (answered (run e L) me) q (λ r. ne (sym q ∙ r)) refl in
-        inr (created-fine e rules L me set is works ask p acting (keeps-same acting)
-        (h.of, asked-longer e L me me ask.need acting.log h.asked) h.planned
+        inr (created-fine e rules L me set is works ask p acting (keeps-same acting) (
+          h.of,
+          asked-longer e L me me ask.need acting.log h.asked,
+          old-on e turn me acting.log h.on ask.old,
+        ) h.planned
         (ByItself h.on ask q refl refl h.planned) h.none l.0 l.2)
     row-fine (Giving g to) q h ne =
         inr (logged-fine e rules L me set is works (entry.Give g.name to) (let_go g.name acting)

@@ -39,13 +39,20 @@ released g t same to q = elim (first-queued g Here to (sym same ∙ q)) [
   | inr now ↦ absurd (let never : Here ≡ Queued to = now in cc)
 ]
 
+target : {i j : ℕ} → Queued i ≡ Queued j → i ≡ j
+target q = cc
+
 sent-queued : (h : Named) (i : ℕ) (g : Gone) (a : Actor) → IsQueuedBy g (sent_to h i g a)
 sent-queued h i g a to q = elim (first-queued g (Queued i) to q) [
   | inl before ↦ inl before
   | inr now ↦ inr (h, ap (λ j. Some (Pushing (block_node h) j)) (target now))
-] where
-  target : {i j : ℕ} → Queued i ≡ Queued j → i ≡ j
-  target q = cc
+]
+
+-- the owner word of its carrier is read next, or tried
+abbrev pub ByWord : Route → Type 0
+ByWord (Looking h) = Unit {0}
+ByWord (Trying h seen) = Unit {0}
+ByWord r = ⊥
 
 module _ (e : Setup) (me : ℕ) where
   leaving-gone : (own on : Bool) (x : Content) (g : Gone) (a : Actor)
@@ -161,3 +168,41 @@ module _ (e : Setup) (me : ℕ) where
     by : (on : Bool) → IsQueuedBy Open (routed e me on h a)
     by true = still Open (routed e me true h a) refl
     by false = owned (owner_of h.spot.carrier == me)
+
+  -- by another row nothing new becomes of the block
+  pub turned-before : (r : Route) (g : Gone) (a : Actor) (z : Answer) (to : ℕ)
+      → (turned e me r g a z).gone ≡ Queued to → (g ≡ Queued to) ⊎ ByWord r
+  turned-before (Looking h) g a z to q = inr tt
+  turned-before (Trying h seen) g a z to q = inr tt
+  turned-before (Settling x) g a z to q =
+      inl (sym (settled-gone (is_nil x.blocks) x g a) ∙ q)
+  turned-before (Abandoning x) g a z to q = inl q
+  turned-before (Sending x) g a z to q = inl q
+  turned-before (Clearing x) g a z to q = inl q
+  turned-before (Pushing node i) g a z to q = inl q
+  turned-before (Linking node i) g a z to q = inl q
+
+  -- a block that is released here isn't queued
+  here-not_queued : (h : Named) (a : Actor) (to : ℕ)
+      → (release_here e me h Open a).gone ≡ Queued to → ⊥
+  here-not_queued h a to q =
+      let b : Actor = record a { instance = releasing_at a.instance h.spot } in
+      by b (content_of (employed b.instance) h.spot.carrier) q where
+        by : (b : Actor) (o : Option Content) → (after_release e me Open b o).gone ≡ Queued to → ⊥
+        by b None q = let never : Open ≡ Queued to = q in cc
+        by b (Some x) q =
+            let never : Here ≡ Queued to = sym (by_kind-gone x.kind x Here b) ∙ q in cc
+
+  -- where carriers don't migrate, it goes to the owner of its carrier
+  pub route-owner : (h : Named) (a : Actor) (to : ℕ) → migration e ≡ false
+      → (route_of e me h a).gone ≡ Queued to → to ≡ owner_of h.spot.carrier
+  route-owner h a to off q = by (migration e) off q where
+    owned : (own : Bool) → (owned_by e me own h a).gone ≡ Queued to
+        → to ≡ owner_of h.spot.carrier
+    owned true q = absurd (here-not_queued h a to q)
+    owned false q = sym (target q)
+
+    by : (on : Bool) → on ≡ false → (routed e me on h a).gone ≡ Queued to
+        → to ≡ owner_of h.spot.carrier
+    by true off q = absurd (let never : true ≡ false = off in cc)
+    by false off q = owned (owner_of h.spot.carrier == me) q
