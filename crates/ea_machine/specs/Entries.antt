@@ -18,6 +18,7 @@ use Rattle.ea_machine.specs.Statistics.{employed_multis, employed_singles}
 use Rattle.ea_machine.specs.Turns.{IsBegun, actor_after, begun, log_after}
 use Rattle.ea_machine.specs.Chosen.{IsPlacement, IsResized}
 use Rattle.ea_machine.specs.Exhausted.{IsExhausted}
+use Rattle.ea_machine.specs.Released.{HasNoBlock}
 use Rattle.ea_machine.specs.HandedOver.{HasTried, IsGiven, IsQueued, IsTaken}
 
 -- an operation makes an entry of its own kind, with its own names and numbers
@@ -72,12 +73,13 @@ abbrev pub Tells : Setup → List ℕ → ℕ → Entry → Type 0
 Tells setup turns s (entry.Alloc name place) = IsPlacement setup turns s name place
 Tells setup turns s (entry.AllocFail name need looked why) =
     IsExhausted setup turns s (entry.AllocFail name need looked why) need looked why
-Tells setup turns s (entry.Free name) = Unit {0}
+Tells setup turns s (entry.Free name) = HasNoBlock setup turns s name
 Tells setup turns s (entry.FreeQueued name to) = IsQueued setup turns s name to
 Tells setup turns s (entry.FreeSkipped name) = IsSkipped setup turns s name
 Tells setup turns s (entry.ReallocHere old fresh place) =
     IsResized setup turns s old fresh place
-Tells setup turns s (entry.ReallocMoved old fresh place) = IsPlacement setup turns s fresh place
+Tells setup turns s (entry.ReallocMoved old fresh place) =
+    IsPlacement setup turns s fresh place × HasNoBlock setup turns s old
 Tells setup turns s (entry.ReallocQueued old fresh place to) =
     IsPlacement setup turns s fresh place × IsQueued setup turns s old to
 Tells setup turns s (entry.ReallocFail old fresh need looked why) =

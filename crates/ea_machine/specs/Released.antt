@@ -1,5 +1,5 @@
 -- Names whose block is gone, and the places of blocks.
-use Rattle.std.specs.Prelude.{◌≡◌, ℕ, ◌<◌, Bool, true, false, ◌&&◌, ◌==◌, List, ◌∷◌, ◌++◌}
+use Rattle.std.specs.Prelude.{◌≡◌, ℕ, ◌<◌, Bool, true, false, ◌&&◌, ◌==◌, List, [], ◌∷◌, ◌++◌}
 use Rattle.std.specs.List.{list_any}
 use Rattle.ea_model.specs.declared.carriers.BlockAt.{BlockAt}
 use Rattle.ea_model.specs.declared.carriers.Place.{Place}
@@ -21,6 +21,10 @@ blocks_named setup name state = allocated setup (only name) state
 pub record Releases (setup : Setup) (name : ℕ) (turns : List ℕ) (s : ℕ) : Type 0 where
   pub was : 0 < blocks_named setup name (run setup turns)
   pub gone : blocks_named setup name (step setup (run setup turns) s) ≡ 0
+
+-- after the step of s after the steps `turns` no block has the name
+abbrev pub HasNoBlock : Setup → List ℕ → ℕ → ℕ → Type 0
+HasNoBlock setup turns s name = blocks_named setup name (run setup (turns ++ s ∷ [])) ≡ 0
 
 -- no two steps of a run release the block of one name
 abbrev pub ReleasesOnce : Setup → Type 0

@@ -1,7 +1,7 @@
 -- What the turns so far say of a scheduler, by where it is in its operation.
 use Rattle.std.proofs.Common.{◌≡◌, ◌≢◌, ℕ, ◌+◌, ◌<◌, ◌≤◌, List, [], ◌∷◌, ◌++◌, Bool, true, false, refl, sym, ap, ◌∙◌, subst, arith}
 use Rattle.std.specs.Prelude.{Option, Some, None, Ok, ◌==◌, count_by, length}
-use Rattle.std.proofs.lemmas.List.{append-nil, length-append}
+use Rattle.std.proofs.lemmas.List.{append-nil, append_assoc, length-append}
 use Rattle.ea_model.specs.declared.carriers.CarrierPlan.{CarrierPlan}
 use Rattle.ea_model.specs.declared.carriers.Place.{Place}
 use Rattle.ea_model.specs.declared.entries.Entry.{Entry}
@@ -12,7 +12,7 @@ use Rattle.ea_model.specs.declared.operations.Op.TheVariants as op
 use Rattle.ea_model.specs.declared.units.TheConstants.{SEARCH_LIMIT}
 use Rattle.ea_model.specs.Instance.{chosen_spot, plan}
 use Rattle.ea_machine.specs.declared.owners.OwnerWord.{OwnerWord}
-use Rattle.ea_machine.specs.Actor.{Actor, Stage, Begin, Routed, Collecting, Searching, Fetching, Creating, Giving, Taking, Ended, Ready}
+use Rattle.ea_machine.specs.Actor.{Actor, Route, Looking, Trying, Settling, Abandoning, Sending, Clearing, Pushing, Linking, Stage, Begin, Routed, Collecting, Searching, Fetching, Creating, Giving, Taking, Ended, Ready}
 use Rattle.ea_machine.specs.declared.tasks.Task.{Task}
 use Rattle.ea_machine.specs.declared.tasks.Task.TheVariants.{Freeing, Moving}
 use Rattle.ea_machine.specs.declared.tasks.Why.{Why}
@@ -38,7 +38,8 @@ use Rattle.ea_sound.specs.Present.{OfAsk, OfTask}
 use Rattle.ea_sound.proofs.HandedNames.{NeverGiven, never-other}
 use Rattle.ea_sound.proofs.SearchLists.{count-snoc, sights-snoc}
 use Rattle.ea_sound.proofs.TurnLists.{longer, run-since}
-use Rattle.ea_machine.specs.Released.{LiesAt}
+use Rattle.ea_machine.specs.Released.{LiesAt, blocks_named}
+use Rattle.ea_machine.specs.Names.{to_make}
 
 -- b has the log, the operations left, the instance and the held names of a
 abbrev pub IsSame : Actor → Actor → Type 0
@@ -136,10 +137,35 @@ WentTo e L s log n Here = Unit {0}
 WentTo e L s log n (Queued to) =
     IsAnother e s to × (migration e ≡ false → GoesToOwner e L s n to log)
 
-abbrev pub OnTask : Setup → List ℕ → ℕ → Actor → Why → Gone → Type 0
-OnTask e L s a Walk g = Unit {0}
-OnTask e L s a (For task) g =
-    OfTask task a.todo × Placing e L s a.log task × WentTo e L s a.log (name_in task) g
+-- after some of the turns L no block had the name, and no operation was to make it
+pub record IsOut (e : Setup) (L : List ℕ) (n : ℕ) : Type 0 where
+  pub before : List ℕ
+  pub since : List ℕ
+  pub split : L ≡ before ++ since
+  pub none : blocks_named e n (run e before) ≡ 0
+  pub never : to_make e n (run e before) ≡ 0
+
+-- so where the block isn't queued
+abbrev pub LeftBy : Setup → List ℕ → ℕ → Gone → Type 0
+LeftBy e L n Open = IsOut e L n
+LeftBy e L n Here = IsOut e L n
+LeftBy e L n (Queued to) = Unit {0}
+
+-- the block of the name is in the hand, or it left that
+abbrev pub OnWay : Setup → List ℕ → ℕ → Route → Gone → Type 0
+OnWay e L n (Looking h) g = (h.name ≡ n) × (g ≡ Open)
+OnWay e L n (Trying h seen) g = (h.name ≡ n) × (g ≡ Open)
+OnWay e L n (Settling x) g = LeftBy e L n g
+OnWay e L n (Abandoning x) g = LeftBy e L n g
+OnWay e L n (Sending x) g = LeftBy e L n g
+OnWay e L n (Clearing x) g = LeftBy e L n g
+OnWay e L n (Pushing node to) g = LeftBy e L n g
+OnWay e L n (Linking node to) g = LeftBy e L n g
+
+abbrev pub OnTask : Setup → List ℕ → ℕ → Actor → Route → Why → Gone → Type 0
+OnTask e L s a r Walk g = Unit {0}
+OnTask e L s a r (For task) g = OfTask task a.todo × Placing e L s a.log task
+    × WentTo e L s a.log (name_in task) g × OnWay e L (name_in task) r g
 
 -- where carriers don't migrate, the old block that an ask may have was held when the operation began
 abbrev pub HasOld : Setup → List ℕ → ℕ → List Entry → Option Named → Type 0
@@ -154,7 +180,7 @@ old-on e L s log on (Some h) = λ off. absurd (let no : true ≡ false = sym on 
 -- what the turns L say of s, which is a
 abbrev pub SoFar : Setup → List ℕ → ℕ → Actor → Stage → Type 0
 SoFar e L s a Begin = Unit {0}
-SoFar e L s a (Routed r why g) = OnTask e L s a why g
+SoFar e L s a (Routed r why g) = OnTask e L s a r why g
 SoFar e L s a (Collecting c) = Unit {0}
 SoFar e L s a (Searching ask at looked) = Searches e L s a ask at looked
 SoFar e L s a (Fetching ask at looked seen) = Fetches e L s a ask at looked seen
@@ -258,6 +284,34 @@ went-longer e L s j log n (Queued to) w = (
   },
 )
 
+pub left-longer : (e : Setup) (L : List ℕ) (j n : ℕ) (g : Gone) → LeftBy e L n g
+    → LeftBy e (L ++ j ∷ []) n g
+left-longer e L j n g h = by g h where
+  out : IsOut e L n → IsOut e (L ++ j ∷ []) n
+  out o = record {
+    before = o.before;
+    since = o.since ++ j ∷ [];
+    split = ap (λ l. l ++ j ∷ []) o.split ∙ append_assoc o.before o.since (j ∷ []);
+    none = o.none;
+    never = o.never;
+  }
+
+  by : (g : Gone) → LeftBy e L n g → LeftBy e (L ++ j ∷ []) n g
+  by Open o = out o
+  by Here o = out o
+  by (Queued to) o = tt
+
+way-longer : (e : Setup) (L : List ℕ) (j n : ℕ) (r : Route) (g : Gone) → OnWay e L n r g
+    → OnWay e (L ++ j ∷ []) n r g
+way-longer e L j n (Looking h) g w = w
+way-longer e L j n (Trying h seen) g w = w
+way-longer e L j n (Settling x) g w = left-longer e L j n g w
+way-longer e L j n (Abandoning x) g w = left-longer e L j n g w
+way-longer e L j n (Sending x) g w = left-longer e L j n g w
+way-longer e L j n (Clearing x) g w = left-longer e L j n g w
+way-longer e L j n (Pushing node to) g w = left-longer e L j n g w
+way-longer e L j n (Linking node to) g w = left-longer e L j n g w
+
 -- a turn of another scheduler adds nothing
 module _ (e : Setup) (L : List ℕ) (s j : ℕ) (ne : j ≢ s) where
   away : (need : ℕ) (R : Actor → Type 0) (P : List Sight → Type 0) → Underway e L s need R P
@@ -294,8 +348,12 @@ module _ (e : Setup) (L : List ℕ) (s j : ℕ) (ne : j ≢ s) where
     none = h.none;
   }
   other-so_far a (Routed r Walk g) h = h
-  other-so_far a (Routed r (For task) g) h =
-      (h.0, placing-longer e L s j a.log task h.1, went-longer e L s j a.log (name_in task) g h.2)
+  other-so_far a (Routed r (For task) g) h = (
+    h.0,
+    placing-longer e L s j a.log task h.1,
+    went-longer e L s j a.log (name_in task) g h.2,
+    way-longer e L j (name_in task) r g h.3,
+  )
   other-so_far a Begin h = h
   other-so_far a (Collecting c) h = h
   other-so_far a (Giving g to) h = h

@@ -288,7 +288,8 @@ module _ (e : Setup) (rules : (L : List ℕ) → Rule e (run e L)) (L : List ℕ
     free-fine n ops None q i = logged-fine e rules L me set is works (entry.FreeSkipped n) mid k
         (first-is (op.Free n) ops _ q refl) (λ n q. absurd cc) (skipped n (entry.FreeSkipped n) i)
     free-fine n ops (Some h) q i = task-fine e rules L me set is works (Freeing n) h mid k
-        (subst (OfTask (Freeing n)) (sym q ∙ k.1) refl) (λ off. held-now n h i) (λ now. tt)
+        (subst (OfTask (Freeing n)) (sym q ∙ k.1) refl) (λ off. held-now n h i)
+        (item_at-key name_of n h mid.held i) i going (λ now. tt)
 
     give-fine : (n to : ℕ) (ops : List Op) (h : Option Named) → mid.todo ≡ op.Give n to ∷ ops
         → named_at n mid.held ≡ h → Fine (giving n to mid h)

@@ -12,7 +12,7 @@ use Rattle.ea_model.specs.declared.entries.NoCarrier.TheVariants.{Space}
 use Rattle.ea_model.specs.declared.units.TheConstants.{SEARCH_LIMIT}
 use Rattle.ea_model.specs.Instance.{chosen_spot, creating, is_alone, place_at, plan, single_place, creating_single, placing_at}
 use Rattle.ea_laws.proofs.Keeping.{plan-IsPlanned}
-use Rattle.ea_machine.specs.Actor.{Actor, Route, Begin, Ready, Ended, Pushing, Routed}
+use Rattle.ea_machine.specs.Actor.{Actor, Route, Looking, Trying, Settling, Abandoning, Sending, Clearing, Pushing, Linking, Begin, Ready, Ended, Routed}
 use Rattle.ea_machine.specs.declared.tasks.Task.{Task}
 use Rattle.ea_machine.specs.declared.tasks.Task.TheVariants.{Freeing, Moving}
 use Rattle.ea_machine.specs.declared.tasks.Why.{Why}
@@ -27,20 +27,20 @@ use Rattle.ea_machine.specs.Exhausted.{FindsNoPlace, IsExhausted, IsFailOf}
 use Rattle.ea_machine.specs.Machine.{run, wants}
 use Rattle.ea_machine.specs.declared.nodes.Named.{Named}
 use Rattle.ea_machine.specs.Placements.{created, created_by, failed, making, new_carrier_by, placed_at, placed_by, search_at, searched_by, stands, holding, spot_of_place}
-use Rattle.ea_machine.specs.Releases.{route_of}
+use Rattle.ea_machine.specs.Releases.{Turned, owned_by, release_here, route_of, routed}
 use Rattle.ea_machine.specs.Searches.{Searched}
 use Rattle.ea_machine.specs.Setup.{Setup, greatest_number, migration, is_scheduler}
 use Rattle.ea_machine.specs.Statistics.{observed}
 use Rattle.ea_machine.specs.Tasks.{carried, entry_of, hands_over, later, let_go, logged, task_over}
 use Rattle.ea_machine.specs.Turns.{actor_after, begun}
-use Rattle.ea_sound.specs.Present.{OfAsk, OfTask, OldHeld, Rule, Fits}
-use Rattle.ea_sound.proofs.Chronicle.{HasOld, IsOfFirst, IsSame, Outcomes, Placement, Placing, SoFar, Underway, WentTo, failed-is, name_in, outcomes, task-first}
-use Rattle.ea_sound.proofs.ShortRoutes.{Keeps, keeps-on, route-keeps}
+use Rattle.ea_sound.specs.Present.{OfAsk, OfTask, OldHeld, Rule, Fits, FitsRoute}
+use Rattle.ea_sound.proofs.Chronicle.{HasOld, IsOut, LeftBy, OnWay, IsOfFirst, IsSame, Outcomes, Placement, Placing, SoFar, Underway, WentTo, failed-is, name_in, outcomes, task-first}
+use Rattle.ea_sound.proofs.ShortRoutes.{Keeps, here-short, keeps-on, route-keeps}
 use Rattle.ea_machine.specs.Contents.{actor_sum, seats}
-use Rattle.ea_machine.specs.Nodes.{named_at, block_node}
+use Rattle.ea_machine.specs.Nodes.{named_at, block_node, without_name}
 use Rattle.ea_machine.specs.Owners.{owner_of}
 use Rattle.ea_machine.specs.Released.{LiesAt, blocks_named as blocks_of_name, says_failed}
-use Rattle.ea_machine.specs.Names.{allocated, only}
+use Rattle.ea_machine.specs.Names.{allocated, of_hand, only}
 use Rattle.ea_machine.specs.State.{State}
 use Rattle.std.proofs.lemmas.Bool.{eqb-true}
 use Rattle.ea_sound.specs.Rule.{blocks_of}
@@ -59,7 +59,12 @@ use Rattle.ea_sound.proofs.Numbered.{scheduler-seat}
 use Rattle.ea_sound.proofs.Operating.{closed-operation, held-other, held-stays, made-wanted}
 use Rattle.ea_sound.proofs.Totals.{put-here, total-part}
 use Rattle.ea_sound.proofs.Created.{scheduler-number}
-use Rattle.ea_sound.proofs.GoneRoutes.{route-owner, route-queued}
+use Rattle.ea_sound.proofs.GoneRoutes.{IsBare, IsSent, NotByWord, Yields, here-bare, route-owner, route-queued}
+use Rattle.ea_sound.proofs.GoneBlocks.{NoneNow, held-out}
+use Rattle.ea_sound.proofs.Fading.{stays-gone}
+use Rattle.ea_sound.proofs.FewBlocks.{all_of}
+use Rattle.std.proofs.lemmas.List.{append-nil}
+use Rattle.std.proofs.lemmas.Bool.{true≢false}
 
 -- the name of which a fail says so
 failed-says : (n : ℕ) (ask : Ask) (looked : ℕ) (why : NoCarrier) (old : Option Named)
@@ -189,15 +194,148 @@ module _ (e : Setup) (rules : (L : List ℕ) → Rule e (run e L)) (L : List ℕ
       there = h.there;
     }
 
+    -- where a block isn't queued, none of its name is left
+    abbrev pub EndsOut : ℕ → Gone → Type 0
+    EndsOut n Open = blocks_of_name e n (run e turn) ≡ 0
+    EndsOut n Here = blocks_of_name e n (run e turn) ≡ 0
+    EndsOut n (Queued to) = Unit {0}
+
     entry-tells : (task : Task) (g : Gone) → Placing e turn me acting.log task
-        → WentTo e turn me acting.log (name_in task) g → Tells e L me (entry_of task g)
-    entry-tells (Freeing n) Open h w = tt
-    entry-tells (Freeing n) Here h w = tt
-    entry-tells (Freeing n) (Queued to) h w = record { another = w.0; owner = w.1 }
-    entry-tells (Moving o n p) Open h w = placed n p h
-    entry-tells (Moving o n p) Here h w = placed n p h
-    entry-tells (Moving o n p) (Queued to) h w =
+        → WentTo e turn me acting.log (name_in task) g → EndsOut (name_in task) g
+        → Tells e L me (entry_of task g)
+    entry-tells (Freeing n) Open h w o = o
+    entry-tells (Freeing n) Here h w o = o
+    entry-tells (Freeing n) (Queued to) h w o = record { another = w.0; owner = w.1 }
+    entry-tells (Moving o n p) Open h w out = (placed n p h, out)
+    entry-tells (Moving o n p) Here h w out = (placed n p h, out)
+    entry-tells (Moving o n p) (Queued to) h w out =
         (placed n p h, record { another = w.0; owner = w.1 })
+
+    -- what becomes of the block of a task, where the turn leaves this of its route
+    abbrev pub Becomes : Task → Option Route → Gone → Actor → Type 0
+    Becomes task None g b = IsNow (logged (entry_of task g) b) → EndsOut (name_in task) g
+    Becomes task (Some r) g b = IsNow (record b { stage = Routed r (For task) g })
+        → OnWay e turn (name_in task) r g
+
+    -- of the name of a task no block is left where the scheduler is this one, with no hand
+    abbrev pub GoesOut : Task → Actor → Type 0
+    GoesOut task b = (c : Actor) → IsNow c → of_hand (only (name_in task)) c.stage ≡ 0
+        → c.held ≡ b.held → c.passed ≡ b.passed → NoneNow e rules L me (name_in task)
+
+    left-out : (n : ℕ) (g : Gone) → NoneNow e rules L me n → LeftBy e turn n g
+    left-out n g none = by g where
+      out : IsOut e turn n
+      out = record {
+        before = turn;
+        since = [];
+        split = sym (append-nil turn);
+        none = none.0;
+        never = none.1;
+      }
+
+      by : (g : Gone) → LeftBy e turn n g
+      by Open = out
+      by Here = out
+      by (Queued to) = tt
+
+    left-sent : (n : ℕ) (g : Gone) → IsSent g → LeftBy e turn n g
+    left-sent n Open y = absurd y
+    left-sent n Here y = absurd y
+    left-sent n (Queued to) y = tt
+
+    -- with the block in the hand before
+    pub hand-becomes : (task : Task) (h : Named) → h.name ≡ name_in task → (o : Option Route)
+        (g : Gone) (b : Actor) → Yields h o g → GoesOut task b → Becomes task o g b
+    hand-becomes task h name None Open b y out =
+        λ now. (out (logged (entry_of task Open) b) now refl refl refl).0
+    hand-becomes task h name None Here b y out =
+        λ now. (out (logged (entry_of task Here) b) now refl refl refl).0
+    hand-becomes task h name None (Queued to) b y out = λ now. tt
+    hand-becomes task h name (Some (Looking k)) g b y out = absurd y
+    hand-becomes task h name (Some (Trying k seen)) g b y out =
+        λ now. (ap (λ (x : Named). x.name) y.0 ∙ name, y.1)
+    hand-becomes task h name (Some (Settling x)) g b y out =
+        λ now. left-out (name_in task) g (out _ now refl refl refl)
+    hand-becomes task h name (Some (Abandoning x)) g b y out =
+        λ now. left-out (name_in task) g (out _ now refl refl refl)
+    hand-becomes task h name (Some (Sending x)) g b y out =
+        λ now. left-out (name_in task) g (out _ now refl refl refl)
+    hand-becomes task h name (Some (Clearing x)) g b y out =
+        λ now. left-out (name_in task) g (out _ now refl refl refl)
+    hand-becomes task h name (Some (Pushing node to)) g b y out =
+        λ now. left-sent (name_in task) g y
+    hand-becomes task h name (Some (Linking node to)) g b y out =
+        λ now. left-sent (name_in task) g y
+
+    out-now : (n : ℕ) → IsOut e turn n → blocks_of_name e n (run e turn) ≡ 0
+    out-now n o = ap (λ K. blocks_of_name e n (run e K)) o.split
+        ∙ stays-gone e rules (all_of n) o.before o.since o.none o.never
+
+    -- where it had left the hand before
+    pub left-becomes : (task : Task) (o : Option Route) (g : Gone) (b : Actor) → NotByWord o
+        → LeftBy e turn (name_in task) g → Becomes task o g b
+    left-becomes task None Open b y l = λ now. out-now (name_in task) l
+    left-becomes task None Here b y l = λ now. out-now (name_in task) l
+    left-becomes task None (Queued to) b y l = λ now. tt
+    left-becomes task (Some (Looking k)) g b y l = absurd y
+    left-becomes task (Some (Trying k seen)) g b y l = absurd y
+    left-becomes task (Some (Settling x)) g b y l = λ now. l
+    left-becomes task (Some (Abandoning x)) g b y l = λ now. l
+    left-becomes task (Some (Sending x)) g b y l = λ now. l
+    left-becomes task (Some (Clearing x)) g b y l = λ now. l
+    left-becomes task (Some (Pushing node to)) g b y l = λ now. l
+    left-becomes task (Some (Linking node to)) g b y l = λ now. l
+
+    -- where carriers don't migrate nothing is done with a carrier in a step of its own
+    off-bare : (task : Task) (r : Route) (g : Gone) → migration e ≡ false → IsBare (Some r)
+        → (actor_after e turn me).stage ≡ Routed r (For task) g → ⊥
+    off-bare task r g off bare now = by r bare
+        (subst (Fits e (run e turn) me (actor_after e turn me)) now
+        ((rules turn).present.fits me)).0 where
+          by : (r : Route) → IsBare (Some r) → FitsRoute e (run e turn).shared me r → ⊥
+          by (Settling x) b f = true≢false (sym f.1 ∙ off)
+          by (Abandoning x) b f = true≢false (sym f.2 ∙ off)
+          by (Sending x) b f = true≢false (sym f.3 ∙ off)
+          by (Clearing x) b f = true≢false (sym f.3 ∙ off)
+          by (Looking h) b f = b
+          by (Trying h seen) b f = b
+          by (Pushing node to) b f = b
+          by (Linking node to) b f = b
+
+    -- where it has just come into the hand
+    route-becomes : (task : Task) (h : Named) (b : Actor) → h.name ≡ name_in task
+        → named_at (name_in task) b.held ≡ Some h → IsGoing b
+        → Becomes task (route_of e me h (let_go h.name b)).route
+        (route_of e me h (let_go h.name b)).gone (route_of e me h (let_go h.name b)).actor
+    route-becomes task h b name there g = by (migration e) refl where
+      a : Actor
+      a = let_go h.name b
+
+      Goes : Turned → Type 0
+      Goes t = Becomes task t.route t.gone t.actor
+
+      bare : migration e ≡ false → (o : Option Route) (g' : Gone) (c : Actor) → IsBare o
+          → c.held ≡ a.held → c.passed ≡ a.passed → Becomes task o g' c
+      bare off None Open c i held passed = λ now. held-out e rules L me (name_in task) works h b
+          name there g.kept (logged (entry_of task Open) c) now refl
+          (held ∙ ap (λ m. without_name m b.held) name) passed
+      bare off None Here c i held passed = λ now. held-out e rules L me (name_in task) works h b
+          name there g.kept (logged (entry_of task Here) c) now refl
+          (held ∙ ap (λ m. without_name m b.held) name) passed
+      bare off None (Queued to) c i held passed = λ now. tt
+      bare off (Some r) g' c i held passed =
+          λ now. absurd (off-bare task r g' off i (sym (ap (λ (d : Actor). d.stage) now)))
+
+      owned : migration e ≡ false → (own : Bool) → Goes (owned_by e me own h a)
+      owned off true =
+          let t = release_here e me h Open a in
+          let same = (here-short e me h Open a).1 in
+          bare off t.route t.gone t.actor (here-bare e me h Open a) same.5 same.0
+      owned off false = λ now. tt
+
+      by : (on : Bool) → migration e ≡ on → Goes (routed e me on h a)
+      by true on = λ now. (name, refl)
+      by false off = owned off (owner_of h.spot.carrier == me)
 
     -- where a block is queued, by the route that is left
     abbrev pub Queues : Gone → Option Route → Type 0
@@ -253,14 +391,14 @@ module _ (e : Setup) (rules : (L : List ℕ) → Rule e (run e L)) (L : List ℕ
     task-made (Moving o m p) (Queued to) b n q = absurd cc
 
     pub carried-fine : (task : Task) (r : Option Route) (g : Gone) (b : Actor) → Keeps acting b
-        → OfTask task acting.todo → Queues g r → Owned (name_in task) g
+        → OfTask task acting.todo → Queues g r → Owned (name_in task) g → Becomes task r g b
         → (IsAfter b → Placing e turn me acting.log task)
         → Fine (carried (For task) (task_over task) (record { actor = b; route = r; gone = g }))
-    carried-fine task None g b k o w own h = logged-fine (entry_of task g) b k
+    carried-fine task None g b k o w own out h = logged-fine (entry_of task g) b k
         (task-first task g acting.todo o) (task-made task g b)
         (λ now. entry-tells task g (h (ap (λ (a : Actor). a.instance) now))
-        (ended-went (name_in task) g w own))
-    carried-fine task (Some r) g b k o w own h = (
+        (ended-went (name_in task) g w own) (out now))
+    carried-fine task (Some r) g b k o w own out h = (
       (λ q. absurd cc),
       k.2 ∙ set,
       λ now. (
@@ -271,6 +409,7 @@ module _ (e : Setup) (rules : (L : List ℕ) → Rule e (run e L)) (L : List ℕ
           subst (λ l. WentTo e turn me l (name_in task) g) (sym k.0)
               (routed-went (name_in task) r (For task) g w own
               (sym (ap (λ (a : Actor). a.stage) now))),
+          out now,
         ),
         inl (k.0, k.1),
       ),
@@ -278,9 +417,10 @@ module _ (e : Setup) (rules : (L : List ℕ) → Rule e (run e L)) (L : List ℕ
 
     pub task-fine : (task : Task) (h : Named) (b : Actor) → Keeps acting b → OfTask task acting.todo
         → (migration e ≡ false → HasHeld e turn me (name_in task) h acting.log)
+        → h.name ≡ name_in task → named_at (name_in task) b.held ≡ Some h → IsGoing b
         → (IsAfter (route_of e me h (let_go h.name b)).actor → Placing e turn me acting.log task)
         → Fine (hands_over e me task h b)
-    task-fine task h b k o held p =
+    task-fine task h b k o held name there g p =
         let t = route_of e me h (let_go h.name b) in
         carried-fine task t.route t.gone t.actor
         (keeps-on acting (let_go h.name b) t.actor (route-keeps e me h (let_go h.name b)) k) o
@@ -292,7 +432,7 @@ module _ (e : Setup) (rules : (L : List ℕ) → Rule e (run e L)) (L : List ℕ
           named = h;
           held = held off;
           owner = route-owner e me h (let_go h.name b) to off q;
-        }) p
+        }) (route-becomes task h b name there g) p
 
     -- where the name is held, so that the rule holds
     module _ (n : ℕ) (spot : Spot) (c : Actor) (g : IsGoing (holding n spot c)) where
@@ -347,7 +487,8 @@ module _ (e : Setup) (rules : (L : List ℕ) → Rule e (run e L)) (L : List ℕ
             let b = holding ask.name spot c in
             let t = route_of e me h (let_go h.name b) in
             task-fine (Moving h.name ask.name place) h b k f.1
-            (subst (HasOld e turn me acting.log) q o.2)
+            (subst (HasOld e turn me acting.log) q o.2) refl
+            (held-stays e (run e L) shared me is ask.name spot h c old g) g
             (λ now. here (landed ask.name place t.actor
             (route-lies e me ask.name place h
             (held-other e (run e L) shared me is ask.name spot h c old g) (let_go h.name b) has

@@ -15,7 +15,7 @@ use Rattle.ea_machine.specs.Employment.{employing}
 use Rattle.ea_machine.specs.Machine.{after_row, onward, onward_at, run, wants_at}
 use Rattle.ea_machine.specs.Operations.{took}
 use Rattle.ea_machine.specs.Placements.{counted, fetched, fits, holding, saw_by, search_at, searched}
-use Rattle.ea_machine.specs.Releases.{turned}
+use Rattle.ea_machine.specs.Releases.{Turned, disowned, turned}
 use Rattle.ea_machine.specs.Rows.{Answer, Done, Head, Rests, Passes, Saw, Won, Lost, Home, Got}
 use Rattle.ea_machine.specs.Searches.{Missed, Searched, Shown, Sight, sight, sight_if}
 use Rattle.ea_machine.specs.Setup.{Setup, greatest_number, is_scheduler, migration}
@@ -23,7 +23,7 @@ use Rattle.ea_machine.specs.Statistics.{observed}
 use Rattle.ea_machine.specs.Table.{answer}
 use Rattle.ea_machine.specs.Tasks.{halted, logged, let_go}
 use Rattle.ea_machine.specs.Turns.{actor_after, answered, begun}
-use Rattle.ea_sound.proofs.Chronicle.{AndShown, Fetches, IsSame, Searches, SoFar, Takes, Underway, asked-longer, further, placing-longer, way-asked, WentTo, name_in, old-on, went-longer}
+use Rattle.ea_sound.proofs.Chronicle.{AndShown, Fetches, IsSame, Searches, SoFar, Takes, Underway, asked-longer, further, placing-longer, way-asked, LeftBy, OnWay, WentTo, left-longer, name_in, old-on, went-longer}
 use Rattle.ea_sound.proofs.HandedNames.{NeverGiven, is-given, is-taken, never-mine, tried-given}
 use Rattle.ea_sound.proofs.TurnLists.{longer}
 use Rattle.ea_machine.specs.Nodes.{spot_named}
@@ -31,15 +31,22 @@ use Rattle.ea_machine.specs.Sums.{one_if}
 use Rattle.ea_sound.proofs.SearchLists.{count-snoc, counted-most, searched-look, searched-lost, searched-on}
 use Rattle.ea_sound.proofs.SearchTurns.{fetch-tries, lost-other}
 use Rattle.ea_sound.proofs.BeginTurns.{IsInBegin, Walks, walks}
-use Rattle.ea_sound.proofs.ShortRoutes.{Keeps, keeps-same, turned-keeps}
-use Rattle.ea_sound.proofs.ChroniclePlaces.{Fine as IsFine, IsAsking, carried-fine, choice-fine, created-fine, logged-fine, search-fine, shared}
+use Rattle.ea_sound.proofs.ShortRoutes.{Keeps, keeps-same, turned-keeps, turned-short}
+use Rattle.ea_sound.proofs.ChroniclePlaces.{Becomes, Fine as IsFine, IsAsking, hand-becomes, left-becomes, carried-fine, choice-fine, created-fine, logged-fine, search-fine, shared}
 use Rattle.ea_sound.proofs.ChronicleOperations.{itself-fine}
 use Rattle.ea_machine.specs.Shared.{Shared}
 use Rattle.ea_sound.specs.Leaves.{Leaves}
 use Rattle.ea_sound.specs.Present.{Fits, FitsRoute, OfAsk, Rule}
 use Rattle.ea_sound.proofs.Operating.{begun-kept}
 use Rattle.ea_sound.proofs.RowLeaves.{row-left}
-use Rattle.ea_sound.proofs.GoneRoutes.{ByWord, turned-before, turned-queued}
+use Rattle.ea_sound.proofs.GoneRoutes.{ByWord, looking-yields, settled-gone, settled-not, trying-yields, turned-before, turned-queued}
+use Rattle.ea_sound.proofs.GoneBlocks.{hand-out, look-names, name-one, try-names}
+use Rattle.ea_machine.specs.declared.tasks.Task.{Task}
+use Rattle.ea_machine.specs.declared.tasks.Gone.TheVariants.{Open}
+use Rattle.ea_machine.specs.declared.nodes.Node.TheVariants.{Carrier}
+use Rattle.ea_machine.specs.Owners.{owner_of}
+use Rattle.ea_machine.specs.Names.{only}
+use Rattle.ea_model.specs.Content.{is_nil}
 use Rattle.ea_sound.proofs.Employers.{there-on}
 use Rattle.ea_sound.proofs.OtherRows.{tried-there}
 use Rattle.std.proofs.lemmas.Bool.{true≢false}
@@ -315,6 +322,57 @@ module _ (e : Setup) (rules : (L : List ℕ) → Rule e (run e L)) (L : List ℕ
           by (Pushing node to) f w = w
           by (Linking node to) f w = w
 
+    -- what becomes of the block of a task by the row of its route
+    abbrev Goes : Task → Turned → Type 0
+    Goes task t = Becomes e rules L me set is works task t.route t.gone t.actor
+
+    row-becomes : (task : Task) (g : Gone) (z : Answer) (r : Route)
+        → acting.stage ≡ Routed r (For task) g → OnWay e L (name_in task) r g
+        → Goes task (turned e me r g acting z)
+    row-becomes task g z (Looking h) q w =
+        subst (λ k. Goes task (turned e me (Looking h) k acting z)) (sym w.1)
+        (let t = turned e me (Looking h) Open acting z in
+        let same = (turned-short e me (Looking h) Open acting z).1 in
+        hand-becomes e rules L me set is works task h w.0 t.route t.gone t.actor
+        (looking-yields e me h acting z)
+        (λ c now empty held passed. hand-out e rules L me (name_in task) works
+        (Routed (Looking h) (For task) g) q (name-one (name_in task) h w.0)
+        (look-names e (only (name_in task)) me h.spot.carrier (run e L).shared) c now empty
+        (held ∙ same.5) (passed ∙ same.0)))
+    row-becomes task g z (Trying h seen) q w =
+        subst (λ k. Goes task (turned e me (Trying h seen) k acting z)) (sym w.1)
+        (let t = turned e me (Trying h seen) Open acting z in
+        let same = (turned-short e me (Trying h seen) Open acting z).1 in
+        hand-becomes e rules L me set is works task h w.0 t.route t.gone t.actor
+        (trying-yields e me h acting z)
+        (λ c now empty held passed. hand-out e rules L me (name_in task) works
+        (Routed (Trying h seen) (For task) g) q (name-one (name_in task) h w.0)
+        (try-names e (only (name_in task)) me h.spot.carrier seen (run e L).shared) c now empty
+        (held ∙ same.5) (passed ∙ same.0)))
+    row-becomes task g z (Settling x) q w =
+        let t = turned e me (Settling x) g acting z in
+        left-becomes e rules L me set is works task t.route t.gone t.actor
+        (settled-not e me (is_nil x.blocks) x g acting)
+        (subst (LeftBy e turn (name_in task))
+        (sym (settled-gone e me (is_nil x.blocks) x g acting))
+        (left-longer e L me (name_in task) g w))
+    row-becomes task g z (Abandoning x) q w =
+        left-becomes e rules L me set is works task None g acting tt
+        (left-longer e L me (name_in task) g w)
+    row-becomes task g z (Sending x) q w =
+        left-becomes e rules L me set is works task
+        (Some (Pushing (Carrier x.number) (owner_of x.number))) g acting tt
+        (left-longer e L me (name_in task) g w)
+    row-becomes task g z (Clearing x) q w =
+        left-becomes e rules L me set is works task None g (disowned x.number acting) tt
+        (left-longer e L me (name_in task) g w)
+    row-becomes task g z (Pushing node to) q w =
+        left-becomes e rules L me set is works task (Some (Linking node to)) g acting tt
+        (left-longer e L me (name_in task) g w)
+    row-becomes task g z (Linking node to) q w =
+        left-becomes e rules L me set is works task None g acting tt
+        (left-longer e L me (name_in task) g w)
+
     -- what the row of me leaves, by its stage before: a stage of the begin, or what is fine
     row-fine : (st : Stage) → acting.stage ≡ st → SoFar e L me acting st → st ≢ Ended
         → Walks acting (Then st) ⊎ Fine (Then st)
@@ -339,6 +397,7 @@ module _ (e : Setup) (rules : (L : List ℕ) → Rule e (run e L)) (L : List ℕ
               (subst (WentTo e turn me acting.log (name_in task)) before went).1 off
           | inr word ↦ absurd (words-on r (For task) g q off word)
         ])
+        (row-becomes task g (answered (run e L) me) r q h.3)
         (λ now. placing-longer e L me me acting.log task h.1))
     row-fine (Searching ask at looked) q h ne =
         inr (searched-fine ask at looked (answered (run e L) me) q refl

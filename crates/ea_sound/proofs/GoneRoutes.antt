@@ -54,7 +54,162 @@ ByWord (Looking h) = Unit {0}
 ByWord (Trying h seen) = Unit {0}
 ByWord r = ⊥
 
+-- a route without a block in the hand, or at its end
+abbrev pub IsBare : Option Route → Type 0
+IsBare None = Unit {0}
+IsBare (Some (Looking h)) = ⊥
+IsBare (Some (Trying h seen)) = ⊥
+IsBare (Some (Settling x)) = Unit {0}
+IsBare (Some (Abandoning x)) = Unit {0}
+IsBare (Some (Sending x)) = Unit {0}
+IsBare (Some (Clearing x)) = Unit {0}
+IsBare (Some (Pushing node to)) = ⊥
+IsBare (Some (Linking node to)) = ⊥
+
+abbrev pub IsSent : Gone → Type 0
+IsSent Open = ⊥
+IsSent Here = ⊥
+IsSent (Queued to) = Unit {0}
+
+-- what is left of a route with h in the hand, once its row is answered
+abbrev pub Yields : Named → Option Route → Gone → Type 0
+Yields h None g = Unit {0}
+Yields h (Some (Looking k)) g = ⊥
+Yields h (Some (Trying k seen)) g = (k ≡ h) × (g ≡ Open)
+Yields h (Some (Settling x)) g = Unit {0}
+Yields h (Some (Abandoning x)) g = Unit {0}
+Yields h (Some (Sending x)) g = Unit {0}
+Yields h (Some (Clearing x)) g = Unit {0}
+Yields h (Some (Pushing node to)) g = IsSent g
+Yields h (Some (Linking node to)) g = IsSent g
+
+bare-yields : (h : Named) (o : Option Route) (g : Gone) → IsBare o → Yields h o g
+bare-yields h None g b = tt
+bare-yields h (Some (Looking k)) g b = b
+bare-yields h (Some (Trying k seen)) g b = absurd b
+bare-yields h (Some (Settling x)) g b = tt
+bare-yields h (Some (Abandoning x)) g b = tt
+bare-yields h (Some (Sending x)) g b = tt
+bare-yields h (Some (Clearing x)) g b = tt
+bare-yields h (Some (Pushing node to)) g b = absurd b
+bare-yields h (Some (Linking node to)) g b = absurd b
+
+-- no owner word is read next, or tried
+abbrev pub NotByWord : Option Route → Type 0
+NotByWord None = Unit {0}
+NotByWord (Some (Looking h)) = ⊥
+NotByWord (Some (Trying h seen)) = ⊥
+NotByWord (Some (Settling x)) = Unit {0}
+NotByWord (Some (Abandoning x)) = Unit {0}
+NotByWord (Some (Sending x)) = Unit {0}
+NotByWord (Some (Clearing x)) = Unit {0}
+NotByWord (Some (Pushing node to)) = Unit {0}
+NotByWord (Some (Linking node to)) = Unit {0}
+
+bare-not : (o : Option Route) → IsBare o → NotByWord o
+bare-not None b = tt
+bare-not (Some (Looking k)) b = b
+bare-not (Some (Trying k seen)) b = b
+bare-not (Some (Settling x)) b = tt
+bare-not (Some (Abandoning x)) b = tt
+bare-not (Some (Sending x)) b = tt
+bare-not (Some (Clearing x)) b = tt
+bare-not (Some (Pushing node to)) b = tt
+bare-not (Some (Linking node to)) b = tt
+
 module _ (e : Setup) (me : ℕ) where
+  leaving-bare : (own on : Bool) (x : Content) (g : Gone) (a : Actor)
+      → IsBare (leaving_by e me own on x g a).route
+  leaving-bare false on x g a = tt
+  leaving-bare true true x g a = tt
+  leaving-bare true false x g a = tt
+
+  abandoned-bare : (due : Bool) (x : Content) (g : Gone) (a : Actor)
+      → IsBare (abandoned_if due x g a).route
+  abandoned-bare true x g a = tt
+  abandoned-bare false x g a = tt
+
+  lightened-bare : (empty : Bool) (x : Content) (g : Gone) (a : Actor)
+      → IsBare (lightened e me empty x g a).route
+  lightened-bare true x g a =
+      leaving-bare (owner_of x.number == me) (migration e) x g (dismissed x.number a)
+  lightened-bare false x g a =
+      abandoned-bare (is_due e.settings a.instance.contents x) x g a
+
+  by_kind-bare : (k : Kind) (x : Content) (g : Gone) (a : Actor)
+      → IsBare (after_release_by e me k x g a).route
+  by_kind-bare Main x g a = tt
+  by_kind-bare Multi x g a = lightened-bare (is_nil x.blocks) x g a
+  by_kind-bare Single x g a =
+      leaving-bare (owner_of x.number == me) (migration e) x g (dismissed x.number a)
+
+  after-bare : (g : Gone) (a : Actor) (o : Option Content)
+      → IsBare (after_release e me g a o).route
+  after-bare g a None = tt
+  after-bare g a (Some x) = by_kind-bare x.kind x (first_gone g Here) a
+
+  pub here-bare : (h : Named) (g : Gone) (a : Actor) → IsBare (release_here e me h g a).route
+  here-bare h g a =
+      let b : Actor = record a { instance = releasing_at a.instance h.spot } in
+      after-bare g b (content_of (employed b.instance) h.spot.carrier)
+
+  abbrev Gives : Named → Turned → Type 0
+  Gives h t = Yields h t.route t.gone
+
+  employed-yields : (mine : Bool) (i : ℕ) (h : Named) (a : Actor)
+      → Gives h (employed_by e me mine i h Open a)
+  employed-yields true i h a =
+      let t = release_here e me h Open a in bare-yields h t.route t.gone (here-bare h Open a)
+  employed-yields false i h a = tt
+
+  pooled-yields : (mine : Bool) (i l : ℕ) (h : Named) (a : Actor)
+      → Gives h (pooled_by mine i l h Open a)
+  pooled-yields true i l h a = (refl, refl)
+  pooled-yields false i l h a = tt
+
+  looked-yields : (h : Named) (a : Actor) (v : OwnerWord) → Gives h (looked e me h Open a v)
+  looked-yields h a word.Absent = tt
+  looked-yields h a (word.Employed i) = employed-yields (i == me) i h a
+  looked-yields h a (word.Pooled i l) = pooled-yields (i == me) i l h a
+  looked-yields h a (word.Busy i) = tt
+  looked-yields h a (word.Returning i) = tt
+
+  forwarded-yields : (h : Named) (a : Actor) (v : OwnerWord) → Gives h (forwarded h Open a v)
+  forwarded-yields h a word.Absent = tt
+  forwarded-yields h a (word.Employed i) = tt
+  forwarded-yields h a (word.Pooled i l) = tt
+  forwarded-yields h a (word.Busy i) = tt
+  forwarded-yields h a (word.Returning i) = tt
+
+  pub looking-yields : (h : Named) (a : Actor) (z : Answer) → Gives h (looked_at e me h Open a z)
+  looking-yields h a (Saw v) = looked-yields h a v
+  looking-yields h a Done = tt
+  looking-yields h a (Head n) = tt
+  looking-yields h a Rests = tt
+  looking-yields h a (Passes n) = tt
+  looking-yields h a (Won x) = tt
+  looking-yields h a (Lost v) = tt
+  looking-yields h a (Home x) = tt
+  looking-yields h a (Got p) = tt
+
+  pub trying-yields : (h : Named) (a : Actor) (z : Answer) → Gives h (tried h Open a z)
+  trying-yields h a (Won x) = tt
+  trying-yields h a (Lost v) = forwarded-yields h a v
+  trying-yields h a (Saw v) = tt
+  trying-yields h a Done = tt
+  trying-yields h a (Head n) = tt
+  trying-yields h a Rests = tt
+  trying-yields h a (Passes n) = tt
+  trying-yields h a (Home x) = tt
+  trying-yields h a (Got p) = tt
+
+  pub settled-not : (empty : Bool) (x : Content) (g : Gone) (a : Actor)
+      → NotByWord (settled e me empty x g a).route
+  settled-not true x g a =
+      bare-not (leaving_by e me (owner_of x.number == me) (migration e) x g a).route
+      (leaving-bare (owner_of x.number == me) (migration e) x g a)
+  settled-not false x g a = tt
+
   leaving-gone : (own on : Bool) (x : Content) (g : Gone) (a : Actor)
       → (leaving_by e me own on x g a).gone ≡ g
   leaving-gone false on x g a = refl
@@ -140,7 +295,7 @@ module _ (e : Setup) (me : ℕ) where
   tried-queued h g a (Home x) = still g (tried h g a (Home x)) refl
   tried-queued h g a (Got p) = still g (tried h g a (Got p)) refl
 
-  settled-gone : (empty : Bool) (x : Content) (g : Gone) (a : Actor)
+  pub settled-gone : (empty : Bool) (x : Content) (g : Gone) (a : Actor)
       → (settled e me empty x g a).gone ≡ g
   settled-gone true x g a = leaving-gone (owner_of x.number == me) (migration e) x g a
   settled-gone false x g a = refl

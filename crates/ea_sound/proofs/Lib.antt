@@ -57,6 +57,7 @@ pub mod GoneRoutes
 pub mod BeginTurns
 pub mod SearchLists
 pub mod HandedNames
+pub mod GoneBlocks
 pub mod SoundRanges
 pub mod ClearRows
 pub mod OtherRows

@@ -23,13 +23,14 @@ abbrev pub some_rows : Option Route → ℕ
 some_rows None = 0
 some_rows (Some r) = route_rows r
 
--- what a route leaves alone of a: its walk, the operations left, the log and the settings
+-- what a route leaves alone of a: its walk, the operations left, the log, the settings and the held
+-- names
 abbrev pub Same : Actor → Actor → Type 0
 Same a b = (b.passed ≡ a.passed) × (b.next ≡ a.next) × (b.todo ≡ a.todo) × (b.log ≡ a.log)
-    × (b.instance.settings ≡ a.instance.settings)
+    × (b.instance.settings ≡ a.instance.settings) × (b.held ≡ a.held)
 
 same : (a : Actor) → Same a a
-same a = (refl, refl, refl, refl, refl)
+same a = (refl, refl, refl, refl, refl, refl)
 
 -- a route of at most k rows is left
 abbrev pub Short : ℕ → Actor → Turned → Type 0
@@ -53,11 +54,11 @@ module _ (e : Setup) (me : ℕ) where
       → Short 3 a (leaving_by e me own on x g a)
   leaving-short false on x g a = (omega arith, same a)
   leaving-short true true x g a = (omega arith, same a)
-  leaving-short true false x g a = (omega arith, (refl, refl, refl, refl, refl))
+  leaving-short true false x g a = (omega arith, (refl, refl, refl, refl, refl, refl))
 
   abandoned-short : (b : Bool) (x : Content) (g : Gone) (a : Actor)
       → Short 3 a (abandoned_if b x g a)
-  abandoned-short true x g a = (omega arith, (refl, refl, refl, refl, refl))
+  abandoned-short true x g a = (omega arith, (refl, refl, refl, refl, refl, refl))
   abandoned-short false x g a = (omega arith, same a)
 
   lightened-short : (b : Bool) (x : Content) (g : Gone) (a : Actor)
@@ -76,7 +77,7 @@ module _ (e : Setup) (me : ℕ) where
   after_release-short g a None = (omega arith, same a)
   after_release-short g a (Some x) = release-short x.kind x (first_gone g Here) a
 
-  here-short : (h : Named) (g : Gone) (a : Actor) → Short 3 a (release_here e me h g a)
+  pub here-short : (h : Named) (g : Gone) (a : Actor) → Short 3 a (release_here e me h g a)
   here-short h g a = after_release-short g (record a { instance = releasing_at a.instance h.spot })
       (content_of (employed (releasing_at a.instance h.spot)) h.spot.carrier)
 
@@ -144,7 +145,7 @@ module _ (e : Setup) (me : ℕ) where
       let s = settled-short (is_nil x.blocks) x g a in (omega (arith, s.0), s.1)
   turned-short (Abandoning x) g a z = (omega arith, same a)
   turned-short (Sending x) g a z = (omega arith, same a)
-  turned-short (Clearing x) g a z = (omega arith, (refl, refl, refl, refl, refl))
+  turned-short (Clearing x) g a z = (omega arith, (refl, refl, refl, refl, refl, refl))
   turned-short (Pushing node to) g a z = (omega arith, same a)
   turned-short (Linking node to) g a z = (omega arith, same a)
 
