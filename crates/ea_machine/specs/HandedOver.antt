@@ -1,5 +1,5 @@
--- How names and blocks go from one scheduler to another: one gives a name, and another takes it; and
--- a block goes to another's queue.
+-- How names and blocks go from one scheduler to another: one gives a name, and another takes it;
+-- and a block goes to another's queue.
 use Rattle.std.specs.Prelude.{◌≡◌, ◌≢◌, ℕ, ◌==◌, false, List, [], ◌∷◌, ◌++◌, None, Some, count_by}
 use Rattle.ea_model.specs.declared.carriers.Spot.{Spot}
 use Rattle.ea_model.specs.declared.entries.Entry.{Entry}
@@ -27,9 +27,10 @@ pub record IsTaken (setup : Setup) (turns : List ℕ) (s name : ℕ) : Type 0 wh
   pub held : spot_named name (actor_after setup (turns ++ s ∷ []) s).held ≡ Some spot
   pub gone : spot_named name (run setup (turns ++ s ∷ [])).shared.given ≡ None
 
--- the operation of which s made the entry in its step after the steps `turns` began in its step after
--- `before`. Since then s took that many steps, this one the last, and just before each of them the
--- name wasn't given. After it s employs, owns and holds what it did when the begin was over
+-- the begin of the operation of which s made the entry in its step after the steps `turns` was over
+-- in its step after `before`. Since then s took that many steps, this one the last, and just before
+-- each of them the name wasn't given. After it s employs, owns and holds what it did when the begin
+-- was over
 pub record HasTried (setup : Setup) (turns : List ℕ) (s name tries : ℕ) : Type 0 where
   pub before : List ℕ
   pub since : List ℕ
@@ -47,8 +48,8 @@ pub record HasTried (setup : Setup) (turns : List ℕ) (s name tries : ℕ) : Ty
 abbrev pub IsAnother : Setup → ℕ → ℕ → Type 0
 IsAnother setup s to = IsScheduler setup.schedulers to × (to ≢ s)
 
--- the begin of an operation of s was over in a step among these turns, with this log, and s held the
--- name then, with the spot of its block
+-- the begin of an operation of s was over in a step among these turns, with this log, and s held
+-- the name then, with the spot of its block
 pub record HasHeld (setup : Setup) (turns : List ℕ) (s name : ℕ) (named : Named)
     (log : List Entry) : Type 0 where
   pub before : List ℕ
@@ -65,8 +66,8 @@ pub record GoesToOwner (setup : Setup) (turns : List ℕ) (s name to : ℕ) (log
   pub held : HasHeld setup turns s name named log
   pub owner : to ≡ owner_of named.spot.carrier
 
--- the block of the name, of whose operation s made the entry in its step after the steps `turns`, went
--- to the queue of another scheduler: where carriers don't migrate, to that of the owner of its carrier
+-- the block of the name, of whose operation s made the entry in its step after the steps `turns`,
+-- went to another scheduler: where carriers don't migrate, to the owner of its carrier
 pub record IsQueued (setup : Setup) (turns : List ℕ) (s name to : ℕ) : Type 0 where
   pub another : IsAnother setup s to
   pub owner : migration setup ≡ false

@@ -129,8 +129,8 @@ abbrev pub name_in : Task → ℕ
 name_in (Freeing n) = n
 name_in (Moving o n p) = o
 
--- a block that was queued went to another scheduler: where carriers don't migrate, to the owner of its
--- carrier
+-- a block that was queued went to another scheduler: where carriers don't migrate, to the owner of
+-- its carrier
 abbrev pub WentTo : Setup → List ℕ → ℕ → List Entry → ℕ → Gone → Type 0
 WentTo e L s log n Open = Unit {0}
 WentTo e L s log n Here = Unit {0}
@@ -167,7 +167,8 @@ OnTask e L s a r Walk g = Unit {0}
 OnTask e L s a r (For task) g = OfTask task a.todo × Placing e L s a.log task
     × WentTo e L s a.log (name_in task) g × OnWay e L (name_in task) r g
 
--- where carriers don't migrate, the old block that an ask may have was held when the operation began
+-- where carriers don't migrate, the old block that an ask may have was held when the operation
+-- itself began
 abbrev pub HasOld : Setup → List ℕ → ℕ → List Entry → Option Named → Type 0
 HasOld e L s log None = Unit {0}
 HasOld e L s log (Some h) = migration e ≡ false → HasHeld e L s h.name h log

@@ -167,8 +167,8 @@ module _ (e : Setup) (rules : (L : List ℕ) → Rule e (run e L)) (L : List ℕ
         → OfAsk ask acting.todo → IsWanted ask → AsksFor mid mid.todo ask.need
         → ask.need ≤ e.settings.sbct → Fine (chosen_by e me ask mid s)
     chosen-fine ask (Some spot) c o want asks small =
-        choice-fine e rules L me set is works ask mid (Some spot) c k (asked-now ask o want asks) small
-        (Had ready refl) want going
+        choice-fine e rules L me set is works ask mid (Some spot) c k
+        (asked-now ask o want asks) small (Had ready refl) want going
     chosen-fine ask None c o want asks small =
         no_choice-fine ask (migration e) refl o want asks small c
 

@@ -233,7 +233,12 @@ module _ (e : Setup) (rules : (L : List ℕ) → Rule e (run e L)) (L : List ℕ
       absent-fine : left ≡ 0 → Fine (logged (entry.TakeAbsent n tries) acting)
       absent-fine last = logged-fine e rules L me set is works (entry.TakeAbsent n tries) acting
           (keeps-same acting)
-          (record { first = op.Take n tries; others = h.others; is = h.first; makes = (refl, refl) })
+          (record {
+            first = op.Take n tries;
+            others = h.others;
+            is = h.first;
+            makes = (refl, refl);
+          })
           (λ n q. absurd cc)
           (λ now. record {
             before = h.before;

@@ -157,8 +157,8 @@ module _ (e : Setup) (rules : (L : List ℕ) → Rule e (run e L)) (L : List ℕ
                 (item_at-gone name_of n (run e L).shared.given);
           }
 
--- just before each step of s among these, after the steps `before` and one of its own, the name isn't
--- given
+-- just before each step of s among these, after the steps `before` and one of its own, the name
+-- isn't given
 abbrev pub NeverGiven : Setup → List ℕ → ℕ → ℕ → List ℕ → Type 0
 NeverGiven e before s n since = (mid later : List ℕ) → since ≡ mid ++ s ∷ later
     → spot_named n (run e (before ++ s ∷ mid)).shared.given ≡ None

@@ -52,8 +52,8 @@ made-each name texts =
       sum-append (λ o. cond (makes name o) 1 0) text (flat_map (λ text. text) texts),
     )
 
--- what holds of the elements of two lists, one after the other, holds of those of either; and of all
--- texts, of those of each
+-- what holds of the elements of two lists, one after the other, holds of those of either; and what
+-- holds of those of all texts holds of those of each
 module _ {A : Type 0} (P : A → Type 0) where
   All-front : (xs ys : List A) → All P (xs ++ ys) → All P xs
   All-front [] ys h = All-nil P

@@ -125,8 +125,8 @@ Fits e w me a Ready = ⊥
 -- the next node of a walk is the first of its rest; a scheduler is where its operation allows, what
 -- it employs may stay, and its log is that of the operations done; a name that is still to be made
 -- stands nowhere; held and given names stand by rising name; where carriers don't migrate, each
--- instance employs what it owns; each employs its main carrier; and each operation that takes a name
--- has a try
+-- instance employs what it owns; each employs its main carrier; and each operation that takes a
+-- name has a try
 pub record Present (e : Setup) (w : State) : Type 0 where
   pub walking : (i : ℕ) → (w.actors i).next ≡ first_node (w.shared.rests i)
   pub fits : (i : ℕ) → Fits e w i (w.actors i) (w.actors i).stage
