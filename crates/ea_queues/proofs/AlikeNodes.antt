@@ -26,12 +26,6 @@ alike-equal (Carrier c) (Block m q) same z = absurd cc
 alike-equal (Carrier c) (Carrier d) same (Block l r) = refl
 alike-equal (Carrier c) (Carrier d) same (Carrier e) = grind arith
 
-pub alike-turned : (x y : Node) → are_alike x y ≡ are_alike y x
-alike-turned (Block n p) (Block m q) = grind arith
-alike-turned (Block n p) (Carrier d) = refl
-alike-turned (Carrier c) (Block m q) = refl
-alike-turned (Carrier c) (Carrier d) = grind arith
-
 -- nodes that aren't alike aren't the same
 pub same-alike : (x y : Node) → are_alike x y ≡ false → same_node x y ≡ false
 same-alike (Block n p) (Block m q) other = grind arith

@@ -381,12 +381,6 @@ module _ (heads rests : List (Option Node)) (names carriers : List Cell) where
         (put (marks_of s.rests) me (marks_of s.queues me)))
         (sym (first-read s stands me first le e)) (took_all s stands me le walked)
 
-    -- the node has a cell
-    pub has-cell : (node : Node) → IsNode s.schedulers s.greatest node
-        → number_of node < count_of (length names) (length carriers) node
-    has-cell node is = number-in s.schedulers s.greatest (length names) (length carriers) node
-        stands.names_count stands.carriers_count is
-
     -- a node is put in front of a queue
     pub put-first : (names' carriers' : List Cell) (node : Node) (to : ℕ) (first : Option Node)
         → ((x : Node) → cell_at names' carriers' x
