@@ -94,10 +94,11 @@ module _ (c : Config) (t : Trace) (valid : IsValidConfig c) (made : IsValidTrace
 
   -- the names that are given
   pub are-given : AreGiven t.greatest shared.given
-  are-given = subst (λ (s : shares.Shared). AreGiven t.greatest s.given) (sym stand.shares) (record {
-    rising = rule.present.given;
-    within = given-range c t valid made w stand.reached;
-  })
+  are-given = subst (λ (s : shares.Shared). AreGiven t.greatest s.given) (sym stand.shares)
+      (record {
+        rising = rule.present.given;
+        within = given-range c t valid made w stand.reached;
+      })
 
   -- the contents that are printed are those that the schedulers employ
   printed : map (λ p. p.content) (present e w) ≡ flat_map (λ s. employed s.instance) ss

@@ -115,12 +115,12 @@ module _ (e : Setup) (w : State) (rule : Rule e w) (off : migration e ≡ false)
   none-elsewhere i p is other =
       by (employed (w.actors i).instance) (numbers e w rule off i is)
       (content_of (employed (w.actors i).instance) p.carrier) refl where
-        by : (xs : List Content) → All (HasKeyIn number_of (first_number i) 256) xs → (o : Option Content)
-            → content_of xs p.carrier ≡ o → size_of (block_in xs p) ≡ 0
+        by : (xs : List Content) → All (HasKeyIn number_of (first_number i) 256) xs
+            → (o : Option Content) → content_of xs p.carrier ≡ o → size_of (block_in xs p) ≡ 0
         by xs within None missing = ap (λ o. size_of (block_by p o)) missing
         by xs within (Some x) there =
-            let range = item_at-All number_of (HasKeyIn number_of (first_number i) 256) p.carrier x xs
-            within there in
+            let range = item_at-All number_of (HasKeyIn number_of (first_number i) 256) p.carrier x
+            xs within there in
             let same = item_at-key number_of p.carrier x xs there in
             absurd (other (numbered-owner i p.carrier (scheduler-number e i is).0
             (omega (arith, range.0, same)) (omega (arith, range.1, same))))

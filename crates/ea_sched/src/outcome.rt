@@ -129,7 +129,8 @@ pub fn outcome_of<H: Rested<Content = Mbc>>(
     requires built { is_built_run config trace.now ≡ true }
     requires greatest { trace.now.greatest ≡ H.greatest shared.now }
     requires stand { Stand config trace.now schedulers.items (H.rested shared.now) }
-    ensures { IfOk result (IsOutcome config trace.now schedulers.entry.items (H.rested shared.now)) }
+    ensures { IfOk result (IsOutcome config trace.now schedulers.entry.items
+        (H.rested shared.now)) }
 {
     Ok(Outcome {
         carriers: lines_of(alloc, schedulers.as_slice())?,

@@ -102,7 +102,8 @@ fn write_numbered<E: Sink>(err: &mut E, thing: &str, number: u32, what: &str) ->
 fn write_flag_fault<E: Sink>(err: &mut E, refusal: FlagFault) -> Result<(), Failed>
     ensures whole { OnOk result
         (Appends (E.taken err.old) (E.taken err.new) (line_with (flag_text refusal))) }
-    ensures front { AppendsFront (E.taken err.old) (E.taken err.new) (line_with (flag_text refusal)) }
+    ensures front { AppendsFront (E.taken err.old) (E.taken err.new)
+        (line_with (flag_text refusal)) }
     ensures kept { OnOk result (E.faults err.new ≡ E.faults err.old) }
     ensures stops { OnErr result (StopsAtFault E.taken E.faults err.old err.new) }
 {
@@ -118,7 +119,8 @@ fn write_flag_fault<E: Sink>(err: &mut E, refusal: FlagFault) -> Result<(), Fail
 fn write_trace_fault<E: Sink>(err: &mut E, refusal: TraceFault) -> Result<(), Failed>
     ensures whole { OnOk result
         (Appends (E.taken err.old) (E.taken err.new) (line_with (trace_text refusal))) }
-    ensures front { AppendsFront (E.taken err.old) (E.taken err.new) (line_with (trace_text refusal)) }
+    ensures front { AppendsFront (E.taken err.old) (E.taken err.new)
+        (line_with (trace_text refusal)) }
     ensures kept { OnOk result (E.faults err.new ≡ E.faults err.old) }
     ensures stops { OnErr result (StopsAtFault E.taken E.faults err.old err.new) }
 {

@@ -67,7 +67,8 @@ pub fn run<R: Threads + Sync, S: Source, O: Sink, E: Sink>(
     ensures unread { result ≡ 1 → source.new ≡ source.old }
 
     // 2: only for an input that isn't good; and such an input gives 2, unless its source fails.
-    ensures bad_input { result ≡ 2 → IfSome (S.left source.old) (λ input. GoodInput words.now input → ⊥) }
+    ensures bad_input { result ≡ 2
+        → IfSome (S.left source.old) (λ input. GoodInput words.now input → ⊥) }
     ensures refuses { GoodWords words.now → Calm (S.faults source.old) (S.faults source.new)
         → IfSome (S.left source.old) (λ input. (GoodInput words.now input → ⊥)
         → (result ≡ 2) ⊎ (result ≡ 5)) }
@@ -77,8 +78,8 @@ pub fn run<R: Threads + Sync, S: Source, O: Sink, E: Sink>(
     ensures not_built { result ≡ 6 → IfSome (S.left source.old) (λ input. GoodInput words.now input
         × (IsBuiltFor words.now input → ⊥)) }
     ensures leaves { GoodWords words.now → Calm (S.faults source.old) (S.faults source.new)
-        → IfSome (S.left source.old) (λ input. GoodInput words.now input → (IsBuiltFor words.now input → ⊥)
-        → (result ≡ 6) ⊎ (result ≡ 5)) }
+        → IfSome (S.left source.old) (λ input. GoodInput words.now input
+        → (IsBuiltFor words.now input → ⊥) → (result ≡ 6) ⊎ (result ≡ 5)) }
 
     // At most one byte more than the limit is read.
     ensures taken { ConsumesAtMost (S.left source.old) (S.left source.new) (MAX_INPUT + 1) }
@@ -96,8 +97,8 @@ pub fn run<R: Threads + Sync, S: Source, O: Sink, E: Sink>(
     // Good words, a good input whose run is built, and no fault give 0, or 5.
     ensures complete { GoodWords words.now → Calm (S.faults source.old) (S.faults source.new)
         → Calm (O.faults out.old) (O.faults out.new)
-        → IfSome (S.left source.old) (λ input. GoodInput words.now input → IsBuiltFor words.now input
-        → (result ≡ 0) ⊎ (result ≡ 5)) }
+        → IfSome (S.left source.old) (λ input. GoodInput words.now input
+        → IsBuiltFor words.now input → (result ≡ 0) ⊎ (result ≡ 5)) }
 
     // err: nothing at 0, else the line of a fault that has this status and is why there is no text.
     // This says also how far the source was read, and speaks where the source does not tell its

@@ -40,8 +40,8 @@ returns-clause-schedulers c =
     c.in_ok-heads.ensures.items_if_clones_equal (search rules) in
     let rests : c.in_ok-rests.rests.items ≡ empty c.args.schedulers =
     c.in_ok-rests.ensures.items_if_clones_equal (search rules) in
-    let counts = empty-counts _ _ _ _ c.args.schedulers c.args.greatest heads rests c.in_ok-cells.ensures.names
-    c.in_ok-cells.ensures.carriers in
+    let counts = empty-counts _ _ _ _ c.args.schedulers c.args.greatest heads rests
+    c.in_ok-cells.ensures.names c.in_ok-cells.ensures.carriers in
     counts.0
 
 pub returns-clause-greatest : goal.returns-clause-greatest
@@ -50,6 +50,6 @@ returns-clause-greatest c =
     c.in_ok-heads.ensures.items_if_clones_equal (search rules) in
     let rests : c.in_ok-rests.rests.items ≡ empty c.args.schedulers =
     c.in_ok-rests.ensures.items_if_clones_equal (search rules) in
-    let counts = empty-counts _ _ _ _ c.args.schedulers c.args.greatest heads rests c.in_ok-cells.ensures.names
-    c.in_ok-cells.ensures.carriers in
+    let counts = empty-counts _ _ _ _ c.args.schedulers c.args.greatest heads rests
+    c.in_ok-cells.ensures.names c.in_ok-cells.ensures.carriers in
     counts.1
