@@ -5,7 +5,8 @@ use Rattle.ea_model.specs.declared.carriers.Spot.{Spot}
 use Rattle.ea_model.specs.declared.entries.Entry.{Entry}
 use Rattle.ea_model.specs.Trace.{IsScheduler}
 use Rattle.ea_machine.specs.declared.nodes.Named.{Named}
-use Rattle.ea_machine.specs.Nodes.{named_at, spot_named}
+use Rattle.ea_machine.specs.declared.nodes.Node.TheVariants.{Block}
+use Rattle.ea_machine.specs.Nodes.{named_at, pushed, spot_named}
 use Rattle.ea_machine.specs.Owners.{owner_of}
 use Rattle.ea_machine.specs.Setup.{Setup, migration}
 use Rattle.ea_machine.specs.Machine.{run}
@@ -66,9 +67,21 @@ pub record GoesToOwner (setup : Setup) (turns : List ℕ) (s name to : ℕ) (log
   pub held : HasHeld setup turns s name named log
   pub owner : to ≡ owner_of named.spot.carrier
 
+-- s pushed the node of the block to the queue of `to` in a step among these turns, with this log
+pub record HasPushed (setup : Setup) (turns : List ℕ) (s name to : ℕ) (log : List Entry)
+    : Type 0 where
+  pub before : List ℕ
+  pub since : List ℕ
+  pub split : turns ≡ before ++ s ∷ since
+  pub same : log_after setup before s ≡ log
+  pub spot : Spot
+  pub queue : (run setup (before ++ s ∷ [])).shared.queues to
+      ≡ pushed (Block name spot) ∷ (run setup before).shared.queues to
+
 -- the block of the name, of whose operation s made the entry in its step after the steps `turns`,
--- went to another scheduler: where carriers don't migrate, to the owner of its carrier
+-- went to the queue of another scheduler: where carriers don't migrate, of the owner of its carrier
 pub record IsQueued (setup : Setup) (turns : List ℕ) (s name to : ℕ) : Type 0 where
   pub another : IsAnother setup s to
+  pub pushed : HasPushed setup (turns ++ s ∷ []) s name to (log_after setup turns s)
   pub owner : migration setup ≡ false
       → GoesToOwner setup (turns ++ s ∷ []) s name to (log_after setup turns s)

@@ -22,7 +22,10 @@ use Rattle.ea_machine.specs.declared.tasks.Gone.TheVariants.{Open, Here, Queued}
 use Rattle.ea_machine.specs.declared.asks.Ask.{Ask}
 use Rattle.ea_machine.specs.Chosen.{HasAsked, IsPlacedAt}
 use Rattle.ea_machine.specs.Entries.{Makes}
-use Rattle.ea_machine.specs.HandedOver.{GoesToOwner, HasHeld, IsAnother}
+use Rattle.ea_machine.specs.HandedOver.{GoesToOwner, HasHeld, HasPushed, IsAnother}
+use Rattle.ea_machine.specs.declared.nodes.Node.{Node}
+use Rattle.ea_machine.specs.declared.nodes.Node.TheVariants.{Block}
+use Rattle.ea_model.specs.declared.carriers.Spot.{Spot}
 use Rattle.ea_machine.specs.Exhausted.{IsFailOf, seen_since}
 use Rattle.ea_machine.specs.Machine.{run}
 use Rattle.ea_machine.specs.Needs.{AsksFor}
@@ -145,27 +148,39 @@ pub record IsOut (e : Setup) (L : List ℕ) (n : ℕ) : Type 0 where
   pub none : blocks_named e n (run e before) ≡ 0
   pub never : to_make e n (run e before) ≡ 0
 
--- so where the block isn't queued
+-- so where the block is gone: it isn't queued
 abbrev pub LeftBy : Setup → List ℕ → ℕ → Gone → Type 0
 LeftBy e L n Open = IsOut e L n
 LeftBy e L n Here = IsOut e L n
-LeftBy e L n (Queued to) = Unit {0}
+LeftBy e L n (Queued to) = ⊥
+
+-- the node that is to be pushed is that of the block, where it is queued
+abbrev pub PushesBy : Setup → List ℕ → ℕ → Node → ℕ → Gone → Type 0
+PushesBy e L n node to Open = IsOut e L n
+PushesBy e L n node to Here = IsOut e L n
+PushesBy e L n node to (Queued i) = ((spot : Spot) × (node ≡ Block n spot)) × (i ≡ to)
+
+-- and it was pushed
+abbrev pub PushedBy : Setup → List ℕ → ℕ → List Entry → ℕ → Gone → Type 0
+PushedBy e L s log n Open = IsOut e L n
+PushedBy e L s log n Here = IsOut e L n
+PushedBy e L s log n (Queued to) = HasPushed e L s n to log
 
 -- the block of the name is in the hand, or it left that
-abbrev pub OnWay : Setup → List ℕ → ℕ → Route → Gone → Type 0
-OnWay e L n (Looking h) g = (h.name ≡ n) × (g ≡ Open)
-OnWay e L n (Trying h seen) g = (h.name ≡ n) × (g ≡ Open)
-OnWay e L n (Settling x) g = LeftBy e L n g
-OnWay e L n (Abandoning x) g = LeftBy e L n g
-OnWay e L n (Sending x) g = LeftBy e L n g
-OnWay e L n (Clearing x) g = LeftBy e L n g
-OnWay e L n (Pushing node to) g = LeftBy e L n g
-OnWay e L n (Linking node to) g = LeftBy e L n g
+abbrev pub OnWay : Setup → List ℕ → ℕ → List Entry → ℕ → Route → Gone → Type 0
+OnWay e L s log n (Looking h) g = (h.name ≡ n) × (g ≡ Open)
+OnWay e L s log n (Trying h seen) g = (h.name ≡ n) × (g ≡ Open)
+OnWay e L s log n (Settling x) g = LeftBy e L n g
+OnWay e L s log n (Abandoning x) g = LeftBy e L n g
+OnWay e L s log n (Sending x) g = LeftBy e L n g
+OnWay e L s log n (Clearing x) g = LeftBy e L n g
+OnWay e L s log n (Pushing node to) g = PushesBy e L n node to g
+OnWay e L s log n (Linking node to) g = PushedBy e L s log n g
 
 abbrev pub OnTask : Setup → List ℕ → ℕ → Actor → Route → Why → Gone → Type 0
 OnTask e L s a r Walk g = Unit {0}
 OnTask e L s a r (For task) g = OfTask task a.todo × Placing e L s a.log task
-    × WentTo e L s a.log (name_in task) g × OnWay e L (name_in task) r g
+    × WentTo e L s a.log (name_in task) g × OnWay e L s a.log (name_in task) r g
 
 -- where carriers don't migrate, the old block that an ask may have was held when the operation
 -- itself began
@@ -285,33 +300,50 @@ went-longer e L s j log n (Queued to) w = (
   },
 )
 
+pub out-longer : (e : Setup) (L : List ℕ) (j n : ℕ) → IsOut e L n → IsOut e (L ++ j ∷ []) n
+out-longer e L j n o = record {
+  before = o.before;
+  since = o.since ++ j ∷ [];
+  split = ap (λ l. l ++ j ∷ []) o.split ∙ append_assoc o.before o.since (j ∷ []);
+  none = o.none;
+  never = o.never;
+}
+
 pub left-longer : (e : Setup) (L : List ℕ) (j n : ℕ) (g : Gone) → LeftBy e L n g
     → LeftBy e (L ++ j ∷ []) n g
-left-longer e L j n g h = by g h where
-  out : IsOut e L n → IsOut e (L ++ j ∷ []) n
-  out o = record {
-    before = o.before;
-    since = o.since ++ j ∷ [];
-    split = ap (λ l. l ++ j ∷ []) o.split ∙ append_assoc o.before o.since (j ∷ []);
-    none = o.none;
-    never = o.never;
-  }
+left-longer e L j n Open o = out-longer e L j n o
+left-longer e L j n Here o = out-longer e L j n o
+left-longer e L j n (Queued to) o = absurd o
 
-  by : (g : Gone) → LeftBy e L n g → LeftBy e (L ++ j ∷ []) n g
-  by Open o = out o
-  by Here o = out o
-  by (Queued to) o = tt
+pub pushes-longer : (e : Setup) (L : List ℕ) (j n : ℕ) (node : Node) (to : ℕ) (g : Gone)
+    → PushesBy e L n node to g → PushesBy e (L ++ j ∷ []) n node to g
+pushes-longer e L j n node to Open o = out-longer e L j n o
+pushes-longer e L j n node to Here o = out-longer e L j n o
+pushes-longer e L j n node to (Queued i) o = o
 
-way-longer : (e : Setup) (L : List ℕ) (j n : ℕ) (r : Route) (g : Gone) → OnWay e L n r g
-    → OnWay e (L ++ j ∷ []) n r g
-way-longer e L j n (Looking h) g w = w
-way-longer e L j n (Trying h seen) g w = w
-way-longer e L j n (Settling x) g w = left-longer e L j n g w
-way-longer e L j n (Abandoning x) g w = left-longer e L j n g w
-way-longer e L j n (Sending x) g w = left-longer e L j n g w
-way-longer e L j n (Clearing x) g w = left-longer e L j n g w
-way-longer e L j n (Pushing node to) g w = left-longer e L j n g w
-way-longer e L j n (Linking node to) g w = left-longer e L j n g w
+pub pushed-longer : (e : Setup) (L : List ℕ) (s j : ℕ) (log : List Entry) (n : ℕ) (g : Gone)
+    → PushedBy e L s log n g → PushedBy e (L ++ j ∷ []) s log n g
+pushed-longer e L s j log n Open o = out-longer e L j n o
+pushed-longer e L s j log n Here o = out-longer e L j n o
+pushed-longer e L s j log n (Queued to) o = record {
+  before = o.before;
+  since = o.since ++ j ∷ [];
+  split = longer L o.before o.since s j o.split;
+  same = o.same;
+  spot = o.spot;
+  queue = o.queue;
+}
+
+way-longer : (e : Setup) (L : List ℕ) (s j : ℕ) (log : List Entry) (n : ℕ) (r : Route) (g : Gone)
+    → OnWay e L s log n r g → OnWay e (L ++ j ∷ []) s log n r g
+way-longer e L s j log n (Looking h) g w = w
+way-longer e L s j log n (Trying h seen) g w = w
+way-longer e L s j log n (Settling x) g w = left-longer e L j n g w
+way-longer e L s j log n (Abandoning x) g w = left-longer e L j n g w
+way-longer e L s j log n (Sending x) g w = left-longer e L j n g w
+way-longer e L s j log n (Clearing x) g w = left-longer e L j n g w
+way-longer e L s j log n (Pushing node to) g w = pushes-longer e L j n node to g w
+way-longer e L s j log n (Linking node to) g w = pushed-longer e L s j log n g w
 
 -- a turn of another scheduler adds nothing
 module _ (e : Setup) (L : List ℕ) (s j : ℕ) (ne : j ≢ s) where
@@ -353,7 +385,7 @@ module _ (e : Setup) (L : List ℕ) (s j : ℕ) (ne : j ≢ s) where
     h.0,
     placing-longer e L s j a.log task h.1,
     went-longer e L s j a.log (name_in task) g h.2,
-    way-longer e L j (name_in task) r g h.3,
+    way-longer e L s j a.log (name_in task) r g h.3,
   )
   other-so_far a Begin h = h
   other-so_far a (Collecting c) h = h

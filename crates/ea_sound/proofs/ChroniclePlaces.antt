@@ -22,7 +22,8 @@ use Rattle.ea_machine.specs.declared.tasks.Gone.TheVariants.{Open, Here, Queued}
 use Rattle.ea_machine.specs.declared.asks.Ask.{Ask}
 use Rattle.ea_machine.specs.Chosen.{Created, Creates, HasAsked, IsJustBefore, IsPlacedAt, IsPlacement}
 use Rattle.ea_machine.specs.Entries.{Tells}
-use Rattle.ea_machine.specs.HandedOver.{GoesToOwner, HasHeld, IsAnother}
+use Rattle.ea_machine.specs.HandedOver.{GoesToOwner, HasHeld, HasPushed, IsAnother}
+use Rattle.ea_machine.specs.declared.nodes.Node.TheVariants.{Block}
 use Rattle.ea_machine.specs.Exhausted.{FindsNoPlace, IsExhausted, IsFailOf}
 use Rattle.ea_machine.specs.Machine.{run, wants}
 use Rattle.ea_machine.specs.declared.nodes.Named.{Named}
@@ -34,7 +35,7 @@ use Rattle.ea_machine.specs.Statistics.{observed}
 use Rattle.ea_machine.specs.Tasks.{carried, entry_of, hands_over, later, let_go, logged, task_over}
 use Rattle.ea_machine.specs.Turns.{actor_after, begun}
 use Rattle.ea_sound.specs.Present.{OfAsk, OfTask, OldHeld, Rule, Fits, FitsRoute}
-use Rattle.ea_sound.proofs.Chronicle.{HasOld, IsOut, LeftBy, OnWay, IsOfFirst, IsSame, Outcomes, Placement, Placing, SoFar, Underway, WentTo, failed-is, name_in, outcomes, task-first}
+use Rattle.ea_sound.proofs.Chronicle.{HasOld, IsOut, LeftBy, OnWay, PushedBy, PushesBy, IsOfFirst, IsSame, Outcomes, Placement, Placing, SoFar, Underway, WentTo, failed-is, name_in, outcomes, task-first}
 use Rattle.ea_sound.proofs.ShortRoutes.{Keeps, here-short, keeps-on, route-keeps}
 use Rattle.ea_machine.specs.Contents.{actor_sum, seats}
 use Rattle.ea_machine.specs.Nodes.{named_at, block_node, without_name}
@@ -59,7 +60,7 @@ use Rattle.ea_sound.proofs.Numbered.{scheduler-seat}
 use Rattle.ea_sound.proofs.Operating.{closed-operation, held-other, held-stays, made-wanted}
 use Rattle.ea_sound.proofs.Totals.{put-here, total-part}
 use Rattle.ea_sound.proofs.Created.{scheduler-number}
-use Rattle.ea_sound.proofs.GoneRoutes.{IsBare, IsSent, NotByWord, Yields, here-bare, route-owner, route-queued}
+use Rattle.ea_sound.proofs.GoneRoutes.{IsBare, NotByWord, NotSent, Yields, here-bare, here-not_sent, route-owner, route-queued}
 use Rattle.ea_sound.proofs.GoneBlocks.{NoneNow, held-out}
 use Rattle.ea_sound.proofs.Fading.{stays-gone}
 use Rattle.ea_sound.proofs.FewBlocks.{all_of}
@@ -194,36 +195,37 @@ module _ (e : Setup) (rules : (L : List ℕ) → Rule e (run e L)) (L : List ℕ
       there = h.there;
     }
 
-    -- where a block isn't queued, none of its name is left
+    -- none of its name is left, or its node was pushed
     abbrev pub EndsOut : ℕ → Gone → Type 0
     EndsOut n Open = blocks_of_name e n (run e turn) ≡ 0
     EndsOut n Here = blocks_of_name e n (run e turn) ≡ 0
-    EndsOut n (Queued to) = Unit {0}
+    EndsOut n (Queued to) = HasPushed e turn me n to acting.log
 
     entry-tells : (task : Task) (g : Gone) → Placing e turn me acting.log task
         → WentTo e turn me acting.log (name_in task) g → EndsOut (name_in task) g
         → Tells e L me (entry_of task g)
     entry-tells (Freeing n) Open h w o = o
     entry-tells (Freeing n) Here h w o = o
-    entry-tells (Freeing n) (Queued to) h w o = record { another = w.0; owner = w.1 }
+    entry-tells (Freeing n) (Queued to) h w o =
+        record { another = w.0; pushed = o; owner = w.1 }
     entry-tells (Moving o n p) Open h w out = (placed n p h, out)
     entry-tells (Moving o n p) Here h w out = (placed n p h, out)
     entry-tells (Moving o n p) (Queued to) h w out =
-        (placed n p h, record { another = w.0; owner = w.1 })
+        (placed n p h, record { another = w.0; pushed = out; owner = w.1 })
 
     -- what becomes of the block of a task, where the turn leaves this of its route
     abbrev pub Becomes : Task → Option Route → Gone → Actor → Type 0
     Becomes task None g b = IsNow (logged (entry_of task g) b) → EndsOut (name_in task) g
     Becomes task (Some r) g b = IsNow (record b { stage = Routed r (For task) g })
-        → OnWay e turn (name_in task) r g
+        → OnWay e turn me acting.log (name_in task) r g
 
     -- of the name of a task no block is left where the scheduler is this one, with no hand
     abbrev pub GoesOut : Task → Actor → Type 0
     GoesOut task b = (c : Actor) → IsNow c → of_hand (only (name_in task)) c.stage ≡ 0
         → c.held ≡ b.held → c.passed ≡ b.passed → NoneNow e rules L me (name_in task)
 
-    left-out : (n : ℕ) (g : Gone) → NoneNow e rules L me n → LeftBy e turn n g
-    left-out n g none = by g where
+    left-out : (n : ℕ) (g : Gone) → NotSent g → NoneNow e rules L me n → LeftBy e turn n g
+    left-out n g not none = by g not where
       out : IsOut e turn n
       out = record {
         before = turn;
@@ -233,15 +235,10 @@ module _ (e : Setup) (rules : (L : List ℕ) → Rule e (run e L)) (L : List ℕ
         never = none.1;
       }
 
-      by : (g : Gone) → LeftBy e turn n g
-      by Open = out
-      by Here = out
-      by (Queued to) = tt
-
-    left-sent : (n : ℕ) (g : Gone) → IsSent g → LeftBy e turn n g
-    left-sent n Open y = absurd y
-    left-sent n Here y = absurd y
-    left-sent n (Queued to) y = tt
+      by : (g : Gone) → NotSent g → LeftBy e turn n g
+      by Open y = out
+      by Here y = out
+      by (Queued to) y = y
 
     -- with the block in the hand before
     pub hand-becomes : (task : Task) (h : Named) → h.name ≡ name_in task → (o : Option Route)
@@ -250,22 +247,22 @@ module _ (e : Setup) (rules : (L : List ℕ) → Rule e (run e L)) (L : List ℕ
         λ now. (out (logged (entry_of task Open) b) now refl refl refl).0
     hand-becomes task h name None Here b y out =
         λ now. (out (logged (entry_of task Here) b) now refl refl refl).0
-    hand-becomes task h name None (Queued to) b y out = λ now. tt
+    hand-becomes task h name None (Queued to) b y out = absurd y
     hand-becomes task h name (Some (Looking k)) g b y out = absurd y
     hand-becomes task h name (Some (Trying k seen)) g b y out =
         λ now. (ap (λ (x : Named). x.name) y.0 ∙ name, y.1)
     hand-becomes task h name (Some (Settling x)) g b y out =
-        λ now. left-out (name_in task) g (out _ now refl refl refl)
+        λ now. left-out (name_in task) g y (out _ now refl refl refl)
     hand-becomes task h name (Some (Abandoning x)) g b y out =
-        λ now. left-out (name_in task) g (out _ now refl refl refl)
+        λ now. left-out (name_in task) g y (out _ now refl refl refl)
     hand-becomes task h name (Some (Sending x)) g b y out =
-        λ now. left-out (name_in task) g (out _ now refl refl refl)
+        λ now. left-out (name_in task) g y (out _ now refl refl refl)
     hand-becomes task h name (Some (Clearing x)) g b y out =
-        λ now. left-out (name_in task) g (out _ now refl refl refl)
+        λ now. left-out (name_in task) g y (out _ now refl refl refl)
     hand-becomes task h name (Some (Pushing node to)) g b y out =
-        λ now. left-sent (name_in task) g y
-    hand-becomes task h name (Some (Linking node to)) g b y out =
-        λ now. left-sent (name_in task) g y
+        λ now. subst (PushesBy e turn (name_in task) node to) (sym y.1)
+        ((h.spot, y.0 ∙ ap (λ m. Block m h.spot) name), refl)
+    hand-becomes task h name (Some (Linking node to)) g b y out = absurd y
 
     out-now : (n : ℕ) → IsOut e turn n → blocks_of_name e n (run e turn) ≡ 0
     out-now n o = ap (λ K. blocks_of_name e n (run e K)) o.split
@@ -274,17 +271,26 @@ module _ (e : Setup) (rules : (L : List ℕ) → Rule e (run e L)) (L : List ℕ
     -- where it had left the hand before
     pub left-becomes : (task : Task) (o : Option Route) (g : Gone) (b : Actor) → NotByWord o
         → LeftBy e turn (name_in task) g → Becomes task o g b
+    left-becomes task o (Queued to) b y l = absurd l
     left-becomes task None Open b y l = λ now. out-now (name_in task) l
     left-becomes task None Here b y l = λ now. out-now (name_in task) l
-    left-becomes task None (Queued to) b y l = λ now. tt
     left-becomes task (Some (Looking k)) g b y l = absurd y
     left-becomes task (Some (Trying k seen)) g b y l = absurd y
     left-becomes task (Some (Settling x)) g b y l = λ now. l
     left-becomes task (Some (Abandoning x)) g b y l = λ now. l
     left-becomes task (Some (Sending x)) g b y l = λ now. l
     left-becomes task (Some (Clearing x)) g b y l = λ now. l
-    left-becomes task (Some (Pushing node to)) g b y l = λ now. l
-    left-becomes task (Some (Linking node to)) g b y l = λ now. l
+    left-becomes task (Some (Pushing node to)) Open b y l = λ now. l
+    left-becomes task (Some (Pushing node to)) Here b y l = λ now. l
+    left-becomes task (Some (Linking node to)) Open b y l = λ now. l
+    left-becomes task (Some (Linking node to)) Here b y l = λ now. l
+
+    -- where its node was pushed
+    pub pushed-becomes : (task : Task) (g : Gone) (b : Actor)
+        → PushedBy e turn me acting.log (name_in task) g → Becomes task None g b
+    pushed-becomes task Open b p = λ now. out-now (name_in task) p
+    pushed-becomes task Here b p = λ now. out-now (name_in task) p
+    pushed-becomes task (Queued to) b p = λ now. p
 
     -- where carriers don't migrate nothing is done with a carrier in a step of its own
     off-bare : (task : Task) (r : Route) (g : Gone) → migration e ≡ false → IsBare (Some r)
@@ -315,23 +321,24 @@ module _ (e : Setup) (rules : (L : List ℕ) → Rule e (run e L)) (L : List ℕ
       Goes t = Becomes task t.route t.gone t.actor
 
       bare : migration e ≡ false → (o : Option Route) (g' : Gone) (c : Actor) → IsBare o
-          → c.held ≡ a.held → c.passed ≡ a.passed → Becomes task o g' c
-      bare off None Open c i held passed = λ now. held-out e rules L me (name_in task) works h b
+          → NotSent g' → c.held ≡ a.held → c.passed ≡ a.passed → Becomes task o g' c
+      bare off None Open c i sent held passed = λ now. held-out e rules L me (name_in task) works h b
           name there g.kept (logged (entry_of task Open) c) now refl
           (held ∙ ap (λ m. without_name m b.held) name) passed
-      bare off None Here c i held passed = λ now. held-out e rules L me (name_in task) works h b
+      bare off None Here c i sent held passed = λ now. held-out e rules L me (name_in task) works h b
           name there g.kept (logged (entry_of task Here) c) now refl
           (held ∙ ap (λ m. without_name m b.held) name) passed
-      bare off None (Queued to) c i held passed = λ now. tt
-      bare off (Some r) g' c i held passed =
+      bare off None (Queued to) c i sent held passed = absurd sent
+      bare off (Some r) g' c i sent held passed =
           λ now. absurd (off-bare task r g' off i (sym (ap (λ (d : Actor). d.stage) now)))
 
       owned : migration e ≡ false → (own : Bool) → Goes (owned_by e me own h a)
       owned off true =
           let t = release_here e me h Open a in
           let same = (here-short e me h Open a).1 in
-          bare off t.route t.gone t.actor (here-bare e me h Open a) same.5 same.0
-      owned off false = λ now. tt
+          bare off t.route t.gone t.actor (here-bare e me h Open a) (here-not_sent e me h a)
+          same.5 same.0
+      owned off false = λ now. ((h.spot, ap (λ m. Block m h.spot) name), refl)
 
       by : (on : Bool) → migration e ≡ on → Goes (routed e me on h a)
       by true on = λ now. (name, refl)
@@ -409,7 +416,7 @@ module _ (e : Setup) (rules : (L : List ℕ) → Rule e (run e L)) (L : List ℕ
           subst (λ l. WentTo e turn me l (name_in task) g) (sym k.0)
               (routed-went (name_in task) r (For task) g w own
               (sym (ap (λ (a : Actor). a.stage) now))),
-          out now,
+          subst (λ l. OnWay e turn me l (name_in task) r g) (sym k.0) (out now),
         ),
         inl (k.0, k.1),
       ),

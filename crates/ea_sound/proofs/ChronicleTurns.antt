@@ -20,19 +20,20 @@ use Rattle.ea_machine.specs.Rows.{Answer, Done, Head, Rests, Passes, Saw, Won, L
 use Rattle.ea_machine.specs.Searches.{Missed, Searched, Shown, Sight, sight, sight_if}
 use Rattle.ea_machine.specs.Setup.{Setup, greatest_number, is_scheduler, migration}
 use Rattle.ea_machine.specs.Statistics.{observed}
-use Rattle.ea_machine.specs.Table.{answer}
+use Rattle.ea_machine.specs.Table.{answer, effect}
 use Rattle.ea_machine.specs.Tasks.{halted, logged, let_go}
 use Rattle.ea_machine.specs.Turns.{actor_after, answered, begun}
-use Rattle.ea_sound.proofs.Chronicle.{AndShown, Fetches, IsSame, Searches, SoFar, Takes, Underway, asked-longer, further, placing-longer, way-asked, LeftBy, OnWay, WentTo, left-longer, name_in, old-on, went-longer}
+use Rattle.ea_sound.proofs.Chronicle.{AndShown, Fetches, IsSame, Searches, SoFar, Takes, Underway, asked-longer, further, placing-longer, way-asked, LeftBy, OnWay, WentTo, left-longer, out-longer, pushed-longer, name_in, old-on, went-longer}
 use Rattle.ea_sound.proofs.HandedNames.{NeverGiven, is-given, is-taken, never-mine, tried-given}
-use Rattle.ea_sound.proofs.TurnLists.{longer}
-use Rattle.ea_machine.specs.Nodes.{spot_named}
+use Rattle.ea_sound.proofs.TurnLists.{longer, run-snoc, step-shared}
+use Rattle.ea_machine.specs.Nodes.{pushed, spot_named}
+use Rattle.ea_machine.specs.State.{State}
 use Rattle.ea_machine.specs.Sums.{one_if}
 use Rattle.ea_sound.proofs.SearchLists.{count-snoc, counted-most, searched-look, searched-lost, searched-on}
 use Rattle.ea_sound.proofs.SearchTurns.{fetch-tries, lost-other}
 use Rattle.ea_sound.proofs.BeginTurns.{IsInBegin, Walks, walks}
 use Rattle.ea_sound.proofs.ShortRoutes.{Keeps, keeps-same, turned-keeps, turned-short}
-use Rattle.ea_sound.proofs.ChroniclePlaces.{Becomes, Fine as IsFine, IsAsking, hand-becomes, left-becomes, carried-fine, choice-fine, created-fine, logged-fine, search-fine, shared}
+use Rattle.ea_sound.proofs.ChroniclePlaces.{Becomes, Fine as IsFine, IsAsking, hand-becomes, left-becomes, pushed-becomes, carried-fine, choice-fine, created-fine, logged-fine, search-fine, shared}
 use Rattle.ea_sound.proofs.ChronicleOperations.{itself-fine}
 use Rattle.ea_machine.specs.Shared.{Shared}
 use Rattle.ea_sound.specs.Leaves.{Leaves}
@@ -40,10 +41,10 @@ use Rattle.ea_sound.specs.Present.{Fits, FitsRoute, OfAsk, Rule}
 use Rattle.ea_sound.proofs.Operating.{begun-kept}
 use Rattle.ea_sound.proofs.RowLeaves.{row-left}
 use Rattle.ea_sound.proofs.GoneRoutes.{ByWord, looking-yields, settled-gone, settled-not, trying-yields, turned-before, turned-queued}
-use Rattle.ea_sound.proofs.GoneBlocks.{hand-out, look-names, name-one, try-names}
+use Rattle.ea_sound.proofs.GoneBlocks.{pushed-after, hand-out, look-names, name-one, try-names}
 use Rattle.ea_machine.specs.declared.tasks.Task.{Task}
-use Rattle.ea_machine.specs.declared.tasks.Gone.TheVariants.{Open}
-use Rattle.ea_machine.specs.declared.nodes.Node.TheVariants.{Carrier}
+use Rattle.ea_machine.specs.declared.tasks.Gone.TheVariants.{Open, Here, Queued}
+use Rattle.ea_machine.specs.declared.nodes.Node.TheVariants.{Block, Carrier}
 use Rattle.ea_machine.specs.Owners.{owner_of}
 use Rattle.ea_machine.specs.Names.{only}
 use Rattle.ea_model.specs.Content.{is_nil}
@@ -332,7 +333,7 @@ module _ (e : Setup) (rules : (L : List ℕ) → Rule e (run e L)) (L : List ℕ
     Goes task t = Becomes e rules L me set is works task t.route t.gone t.actor
 
     row-becomes : (task : Task) (g : Gone) (z : Answer) (r : Route)
-        → acting.stage ≡ Routed r (For task) g → OnWay e L (name_in task) r g
+        → acting.stage ≡ Routed r (For task) g → OnWay e L me acting.log (name_in task) r g
         → Goes task (turned e me r g acting z)
     row-becomes task g z (Looking h) q w =
         subst (λ k. Goes task (turned e me (Looking h) k acting z)) (sym w.1)
@@ -371,12 +372,29 @@ module _ (e : Setup) (rules : (L : List ℕ) → Rule e (run e L)) (L : List ℕ
     row-becomes task g z (Clearing x) q w =
         left-becomes e rules L me set is works task None g (disowned x.number acting) tt
         (left-longer e L me (name_in task) g w)
-    row-becomes task g z (Pushing node to) q w =
-        left-becomes e rules L me set is works task (Some (Linking node to)) g acting tt
-        (left-longer e L me (name_in task) g w)
+    row-becomes task Open z (Pushing node to) q w =
+        left-becomes e rules L me set is works task (Some (Linking node to)) Open acting tt
+        (out-longer e L me (name_in task) w)
+    row-becomes task Here z (Pushing node to) q w =
+        left-becomes e rules L me set is works task (Some (Linking node to)) Here acting tt
+        (out-longer e L me (name_in task) w)
+    row-becomes task (Queued i) z (Pushing node to) q w = λ now. record {
+      before = L;
+      since = [];
+      split = refl;
+      same = refl;
+      spot = w.0.0;
+      queue = subst (λ j. (run e turn).shared.queues j
+          ≡ pushed (Block (name_in task) w.0.0) ∷ (run e L).shared.queues j) (sym w.1)
+          (subst (λ m. (run e turn).shared.queues to ≡ pushed m ∷ (run e L).shared.queues to)
+          w.0.1 (ap (λ (v : State). v.shared.queues to) (run-snoc e L me)
+          ∙ ap (λ (v : Shared). v.queues to) (step-shared e (run e L) me works)
+          ∙ ap (λ st. (effect me (wants_at acting.next st) (run e L).shared).queues to) q
+          ∙ pushed-after me node to (run e L).shared));
+    }
     row-becomes task g z (Linking node to) q w =
-        left-becomes e rules L me set is works task None g acting tt
-        (left-longer e L me (name_in task) g w)
+        pushed-becomes e rules L me set is works task g acting
+        (pushed-longer e L me me acting.log (name_in task) g w)
 
     -- what the row of me leaves, by its stage before: a stage of the begin, or what is fine
     row-fine : (st : Stage) → acting.stage ≡ st → SoFar e L me acting st → st ≢ Ended

@@ -11,10 +11,10 @@ use Rattle.ea_machine.specs.Contents.{seats}
 use Rattle.ea_machine.specs.Machine.{run, wants, wants_at}
 use Rattle.ea_machine.specs.NamePlaces.{name_of}
 use Rattle.ea_machine.specs.Names.{allocated, of_hand, of_named, of_node, only, to_make}
-use Rattle.ea_machine.specs.Nodes.{named_at, without_name}
+use Rattle.ea_machine.specs.Nodes.{named_at, pushed, without_name}
 use Rattle.ea_machine.specs.Owners.{Busy, CarrierAt}
 use Rattle.ea_machine.specs.Released.{blocks_named}
-use Rattle.ea_machine.specs.Rows.{Answer, BusyTry, Done, Got, Head, Home, Look, Lost, Passes, Rests, Saw, Won}
+use Rattle.ea_machine.specs.Rows.{Answer, BusyTry, Done, Got, Head, Home, Look, Lost, Passes, Push, Rests, Saw, Won}
 use Rattle.ea_machine.specs.Setup.{Setup}
 use Rattle.ea_machine.specs.Shared.{Shared}
 use Rattle.ea_machine.specs.State.{State}
@@ -59,6 +59,12 @@ pub try-names : (e : Setup) (f : ℕ → Spot → ℕ) (me c : ℕ) (seen : Owne
     → LeavesNames e f s (effect me (BusyTry c seen) s)
 unfolding effect
 try-names e f me c seen s = tried-names e f (tried_at seen (s.places c)) c (Busy me) s
+
+-- a pushed node is the first of its queue
+pub pushed-after : (me : ℕ) (node : Node) (to : ℕ) (s : Shared)
+    → (effect me (Push node to) s).queues to ≡ pushed node ∷ s.queues to
+unfolding effect
+pushed-after me node to s = put-here s.queues to (pushed node ∷ s.queues to) to refl
 
 -- a name is counted once
 pub name-one : (n : ℕ) (h : Named) → h.name ≡ n → of_named (only n) h ≡ 1

@@ -1,5 +1,5 @@
 -- What first became of a block on its route: where it was queued, its node is what is pushed next.
-use Rattle.std.proofs.Common.{◌≡◌, ◌⊎◌, ℕ, Bool, true, false, refl, sym, ap, ◌∙◌, inl, inr}
+use Rattle.std.proofs.Common.{◌≡◌, ◌⊎◌, subst, ℕ, Bool, true, false, refl, sym, ap, ◌∙◌, inl, inr}
 use Rattle.std.specs.Prelude.{Option, None, Some, ◌==◌}
 use Rattle.ea_model.specs.declared.carriers.Kind.{Kind}
 use Rattle.ea_model.specs.declared.carriers.Kind.TheVariants.{Main, Multi, Single}
@@ -66,33 +66,33 @@ IsBare (Some (Clearing x)) = Unit {0}
 IsBare (Some (Pushing node to)) = ⊥
 IsBare (Some (Linking node to)) = ⊥
 
-abbrev pub IsSent : Gone → Type 0
-IsSent Open = ⊥
-IsSent Here = ⊥
-IsSent (Queued to) = Unit {0}
+abbrev pub NotSent : Gone → Type 0
+NotSent Open = Unit {0}
+NotSent Here = Unit {0}
+NotSent (Queued to) = ⊥
 
 -- what is left of a route with h in the hand, once its row is answered
 abbrev pub Yields : Named → Option Route → Gone → Type 0
-Yields h None g = Unit {0}
+Yields h None g = NotSent g
 Yields h (Some (Looking k)) g = ⊥
 Yields h (Some (Trying k seen)) g = (k ≡ h) × (g ≡ Open)
-Yields h (Some (Settling x)) g = Unit {0}
-Yields h (Some (Abandoning x)) g = Unit {0}
-Yields h (Some (Sending x)) g = Unit {0}
-Yields h (Some (Clearing x)) g = Unit {0}
-Yields h (Some (Pushing node to)) g = IsSent g
-Yields h (Some (Linking node to)) g = IsSent g
+Yields h (Some (Settling x)) g = NotSent g
+Yields h (Some (Abandoning x)) g = NotSent g
+Yields h (Some (Sending x)) g = NotSent g
+Yields h (Some (Clearing x)) g = NotSent g
+Yields h (Some (Pushing node to)) g = (node ≡ block_node h) × (g ≡ Queued to)
+Yields h (Some (Linking node to)) g = ⊥
 
-bare-yields : (h : Named) (o : Option Route) (g : Gone) → IsBare o → Yields h o g
-bare-yields h None g b = tt
-bare-yields h (Some (Looking k)) g b = b
-bare-yields h (Some (Trying k seen)) g b = absurd b
-bare-yields h (Some (Settling x)) g b = tt
-bare-yields h (Some (Abandoning x)) g b = tt
-bare-yields h (Some (Sending x)) g b = tt
-bare-yields h (Some (Clearing x)) g b = tt
-bare-yields h (Some (Pushing node to)) g b = absurd b
-bare-yields h (Some (Linking node to)) g b = absurd b
+bare-yields : (h : Named) (o : Option Route) (g : Gone) → IsBare o → NotSent g → Yields h o g
+bare-yields h None g b n = n
+bare-yields h (Some (Looking k)) g b n = b
+bare-yields h (Some (Trying k seen)) g b n = absurd b
+bare-yields h (Some (Settling x)) g b n = n
+bare-yields h (Some (Abandoning x)) g b n = n
+bare-yields h (Some (Sending x)) g b n = n
+bare-yields h (Some (Clearing x)) g b n = n
+bare-yields h (Some (Pushing node to)) g b n = absurd b
+bare-yields h (Some (Linking node to)) g b n = b
 
 -- no owner word is read next, or tried
 abbrev pub NotByWord : Option Route → Type 0
@@ -152,56 +152,6 @@ module _ (e : Setup) (me : ℕ) where
   here-bare h g a =
       let b : Actor = record a { instance = releasing_at a.instance h.spot } in
       after-bare g b (content_of (employed b.instance) h.spot.carrier)
-
-  abbrev Gives : Named → Turned → Type 0
-  Gives h t = Yields h t.route t.gone
-
-  employed-yields : (mine : Bool) (i : ℕ) (h : Named) (a : Actor)
-      → Gives h (employed_by e me mine i h Open a)
-  employed-yields true i h a =
-      let t = release_here e me h Open a in bare-yields h t.route t.gone (here-bare h Open a)
-  employed-yields false i h a = tt
-
-  pooled-yields : (mine : Bool) (i l : ℕ) (h : Named) (a : Actor)
-      → Gives h (pooled_by mine i l h Open a)
-  pooled-yields true i l h a = (refl, refl)
-  pooled-yields false i l h a = tt
-
-  looked-yields : (h : Named) (a : Actor) (v : OwnerWord) → Gives h (looked e me h Open a v)
-  looked-yields h a word.Absent = tt
-  looked-yields h a (word.Employed i) = employed-yields (i == me) i h a
-  looked-yields h a (word.Pooled i l) = pooled-yields (i == me) i l h a
-  looked-yields h a (word.Busy i) = tt
-  looked-yields h a (word.Returning i) = tt
-
-  forwarded-yields : (h : Named) (a : Actor) (v : OwnerWord) → Gives h (forwarded h Open a v)
-  forwarded-yields h a word.Absent = tt
-  forwarded-yields h a (word.Employed i) = tt
-  forwarded-yields h a (word.Pooled i l) = tt
-  forwarded-yields h a (word.Busy i) = tt
-  forwarded-yields h a (word.Returning i) = tt
-
-  pub looking-yields : (h : Named) (a : Actor) (z : Answer) → Gives h (looked_at e me h Open a z)
-  looking-yields h a (Saw v) = looked-yields h a v
-  looking-yields h a Done = tt
-  looking-yields h a (Head n) = tt
-  looking-yields h a Rests = tt
-  looking-yields h a (Passes n) = tt
-  looking-yields h a (Won x) = tt
-  looking-yields h a (Lost v) = tt
-  looking-yields h a (Home x) = tt
-  looking-yields h a (Got p) = tt
-
-  pub trying-yields : (h : Named) (a : Actor) (z : Answer) → Gives h (tried h Open a z)
-  trying-yields h a (Won x) = tt
-  trying-yields h a (Lost v) = forwarded-yields h a v
-  trying-yields h a (Saw v) = tt
-  trying-yields h a Done = tt
-  trying-yields h a (Head n) = tt
-  trying-yields h a Rests = tt
-  trying-yields h a (Passes n) = tt
-  trying-yields h a (Home x) = tt
-  trying-yields h a (Got p) = tt
 
   pub settled-not : (empty : Bool) (x : Content) (g : Gone) (a : Actor)
       → NotByWord (settled e me empty x g a).route
@@ -338,15 +288,64 @@ module _ (e : Setup) (me : ℕ) where
   turned-before (Linking node i) g a z to q = inl q
 
   -- a block that is released here isn't queued
-  here-not_queued : (h : Named) (a : Actor) (to : ℕ)
-      → (release_here e me h Open a).gone ≡ Queued to → ⊥
-  here-not_queued h a to q =
+  pub here-not_sent : (h : Named) (a : Actor) → NotSent (release_here e me h Open a).gone
+  here-not_sent h a =
       let b : Actor = record a { instance = releasing_at a.instance h.spot } in
-      by b (content_of (employed b.instance) h.spot.carrier) q where
-        by : (b : Actor) (o : Option Content) → (after_release e me Open b o).gone ≡ Queued to → ⊥
-        by b None q = let never : Open ≡ Queued to = q in cc
-        by b (Some x) q =
-            let never : Here ≡ Queued to = sym (by_kind-gone x.kind x Here b) ∙ q in cc
+      by b (content_of (employed b.instance) h.spot.carrier) where
+        by : (b : Actor) (o : Option Content) → NotSent (after_release e me Open b o).gone
+        by b None = tt
+        by b (Some x) = subst NotSent (sym (by_kind-gone x.kind x Here b)) tt
+
+  abbrev Gives : Named → Turned → Type 0
+  Gives h t = Yields h t.route t.gone
+
+  employed-yields : (mine : Bool) (i : ℕ) (h : Named) (a : Actor)
+      → Gives h (employed_by e me mine i h Open a)
+  employed-yields true i h a =
+      let t = release_here e me h Open a in
+      bare-yields h t.route t.gone (here-bare h Open a) (here-not_sent h a)
+  employed-yields false i h a = (refl, refl)
+
+  pooled-yields : (mine : Bool) (i l : ℕ) (h : Named) (a : Actor)
+      → Gives h (pooled_by mine i l h Open a)
+  pooled-yields true i l h a = (refl, refl)
+  pooled-yields false i l h a = (refl, refl)
+
+  looked-yields : (h : Named) (a : Actor) (v : OwnerWord) → Gives h (looked e me h Open a v)
+  looked-yields h a word.Absent = tt
+  looked-yields h a (word.Employed i) = employed-yields (i == me) i h a
+  looked-yields h a (word.Pooled i l) = pooled-yields (i == me) i l h a
+  looked-yields h a (word.Busy i) = (refl, refl)
+  looked-yields h a (word.Returning i) = tt
+
+  forwarded-yields : (h : Named) (a : Actor) (v : OwnerWord) → Gives h (forwarded h Open a v)
+  forwarded-yields h a word.Absent = tt
+  forwarded-yields h a (word.Employed i) = (refl, refl)
+  forwarded-yields h a (word.Pooled i l) = (refl, refl)
+  forwarded-yields h a (word.Busy i) = (refl, refl)
+  forwarded-yields h a (word.Returning i) = tt
+
+  pub looking-yields : (h : Named) (a : Actor) (z : Answer) → Gives h (looked_at e me h Open a z)
+  looking-yields h a (Saw v) = looked-yields h a v
+  looking-yields h a Done = tt
+  looking-yields h a (Head n) = tt
+  looking-yields h a Rests = tt
+  looking-yields h a (Passes n) = tt
+  looking-yields h a (Won x) = tt
+  looking-yields h a (Lost v) = tt
+  looking-yields h a (Home x) = tt
+  looking-yields h a (Got p) = tt
+
+  pub trying-yields : (h : Named) (a : Actor) (z : Answer) → Gives h (tried h Open a z)
+  trying-yields h a (Won x) = tt
+  trying-yields h a (Lost v) = forwarded-yields h a v
+  trying-yields h a (Saw v) = tt
+  trying-yields h a Done = tt
+  trying-yields h a (Head n) = tt
+  trying-yields h a Rests = tt
+  trying-yields h a (Passes n) = tt
+  trying-yields h a (Home x) = tt
+  trying-yields h a (Got p) = tt
 
   -- where carriers don't migrate, it goes to the owner of its carrier
   pub route-owner : (h : Named) (a : Actor) (to : ℕ) → migration e ≡ false
@@ -354,7 +353,7 @@ module _ (e : Setup) (me : ℕ) where
   route-owner h a to off q = by (migration e) off q where
     owned : (own : Bool) → (owned_by e me own h a).gone ≡ Queued to
         → to ≡ owner_of h.spot.carrier
-    owned true q = absurd (here-not_queued h a to q)
+    owned true q = absurd (subst NotSent q (here-not_sent h a))
     owned false q = sym (target q)
 
     by : (on : Bool) → on ≡ false → (routed e me on h a).gone ≡ Queued to
