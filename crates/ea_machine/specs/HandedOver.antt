@@ -5,8 +5,7 @@ use Rattle.ea_model.specs.declared.carriers.Spot.{Spot}
 use Rattle.ea_model.specs.declared.entries.Entry.{Entry}
 use Rattle.ea_model.specs.Trace.{IsScheduler}
 use Rattle.ea_machine.specs.declared.nodes.Named.{Named}
-use Rattle.ea_machine.specs.declared.nodes.Node.TheVariants.{Block}
-use Rattle.ea_machine.specs.Nodes.{named_at, pushed, spot_named}
+use Rattle.ea_machine.specs.Nodes.{block_node, named_at, pushed, spot_named}
 use Rattle.ea_machine.specs.Owners.{owner_of}
 use Rattle.ea_machine.specs.Setup.{Setup, migration}
 use Rattle.ea_machine.specs.Machine.{run}
@@ -60,28 +59,22 @@ pub record HasHeld (setup : Setup) (turns : List ℕ) (s name : ℕ) (named : Na
   pub same : (begun setup before s).log ≡ log
   pub held : named_at name (begun setup before s).held ≡ Some named
 
--- and `to` owns the carrier of this block
-pub record GoesToOwner (setup : Setup) (turns : List ℕ) (s name to : ℕ) (log : List Entry)
-    : Type 0 where
-  pub named : Named
-  pub held : HasHeld setup turns s name named log
-  pub owner : to ≡ owner_of named.spot.carrier
-
 -- s pushed the node of the block to the queue of `to` in a step among these turns, with this log
-pub record HasPushed (setup : Setup) (turns : List ℕ) (s name to : ℕ) (log : List Entry)
-    : Type 0 where
+pub record HasPushed (setup : Setup) (turns : List ℕ) (s : ℕ) (named : Named) (to : ℕ)
+    (log : List Entry) : Type 0 where
   pub before : List ℕ
   pub since : List ℕ
   pub split : turns ≡ before ++ s ∷ since
   pub same : log_after setup before s ≡ log
-  pub spot : Spot
   pub queue : (run setup (before ++ s ∷ [])).shared.queues to
-      ≡ pushed (Block name spot) ∷ (run setup before).shared.queues to
+      ≡ pushed (block_node named) ∷ (run setup before).shared.queues to
 
--- the block of the name, of whose operation s made the entry in its step after the steps `turns`,
--- went to the queue of another scheduler: where carriers don't migrate, of the owner of its carrier
+-- the block that was held under the name when the operation began, of which s made the entry in its
+-- step after the steps `turns`, was pushed to the queue of another scheduler: where carriers don't
+-- migrate, of the owner of its carrier
 pub record IsQueued (setup : Setup) (turns : List ℕ) (s name to : ℕ) : Type 0 where
   pub another : IsAnother setup s to
-  pub pushed : HasPushed setup (turns ++ s ∷ []) s name to (log_after setup turns s)
-  pub owner : migration setup ≡ false
-      → GoesToOwner setup (turns ++ s ∷ []) s name to (log_after setup turns s)
+  pub named : Named
+  pub held : HasHeld setup (turns ++ s ∷ []) s name named (log_after setup turns s)
+  pub pushed : HasPushed setup (turns ++ s ∷ []) s named to (log_after setup turns s)
+  pub owner : migration setup ≡ false → to ≡ owner_of named.spot.carrier

@@ -22,10 +22,10 @@ use Rattle.ea_machine.specs.declared.tasks.Gone.TheVariants.{Open, Here, Queued}
 use Rattle.ea_machine.specs.declared.asks.Ask.{Ask}
 use Rattle.ea_machine.specs.Chosen.{HasAsked, IsPlacedAt}
 use Rattle.ea_machine.specs.Entries.{Makes}
-use Rattle.ea_machine.specs.HandedOver.{GoesToOwner, HasHeld, HasPushed, IsAnother}
+use Rattle.ea_machine.specs.HandedOver.{HasHeld, HasPushed, IsAnother}
 use Rattle.ea_machine.specs.declared.nodes.Node.{Node}
-use Rattle.ea_machine.specs.declared.nodes.Node.TheVariants.{Block}
-use Rattle.ea_model.specs.declared.carriers.Spot.{Spot}
+use Rattle.ea_machine.specs.Nodes.{block_node}
+use Rattle.ea_machine.specs.Owners.{owner_of}
 use Rattle.ea_machine.specs.Exhausted.{IsFailOf, seen_since}
 use Rattle.ea_machine.specs.Machine.{run}
 use Rattle.ea_machine.specs.Needs.{AsksFor}
@@ -89,6 +89,11 @@ pub record Fetches (e : Setup) (L : List ℕ) (s : ℕ) (a : Actor) (ask : Ask) 
   pub fit : fits ask.need seen ≡ true
   pub way : Underway e L s ask.need (λ b. IsSame b a) (AndShown e ask.need at old seen)
 
+-- the old block that an ask may have was held when the operation itself began
+abbrev pub HasOld : Setup → List ℕ → ℕ → List Entry → Option Named → Type 0
+HasOld e L s log None = Unit {0}
+HasOld e L s log (Some h) = HasHeld e L s h.name h log
+
 pub record Creates (e : Setup) (L : List ℕ) (s : ℕ) (a : Actor) (ask : Ask) (p : CarrierPlan)
     : Type 0 where
   pub of : OfAsk ask a.todo
@@ -96,6 +101,7 @@ pub record Creates (e : Setup) (L : List ℕ) (s : ℕ) (a : Actor) (ask : Ask) 
   pub asked : HasAsked e L s ask.need a.log
   pub planned : plan a.instance ask.need ≡ Ok p
   pub none : ask.need ≤ e.settings.sbct → chosen_spot a.instance ask.need ≡ None
+  pub old : HasOld e L s a.log ask.old
 
 -- the begin of its operation, which takes a name, was over in a turn of L; none of its tries since
 -- then found the name, and that many are left
@@ -132,13 +138,11 @@ abbrev pub name_in : Task → ℕ
 name_in (Freeing n) = n
 name_in (Moving o n p) = o
 
--- a block that was queued went to another scheduler: where carriers don't migrate, to the owner of
--- its carrier
-abbrev pub WentTo : Setup → List ℕ → ℕ → List Entry → ℕ → Gone → Type 0
-WentTo e L s log n Open = Unit {0}
-WentTo e L s log n Here = Unit {0}
-WentTo e L s log n (Queued to) =
-    IsAnother e s to × (migration e ≡ false → GoesToOwner e L s n to log)
+-- a block that was queued went to another scheduler
+abbrev pub WentTo : Setup → ℕ → Gone → Type 0
+WentTo e s Open = Unit {0}
+WentTo e s Here = Unit {0}
+WentTo e s (Queued to) = IsAnother e s to
 
 -- after some of the turns L no block had the name, and no operation was to make it
 pub record IsOut (e : Setup) (L : List ℕ) (n : ℕ) : Type 0 where
@@ -154,44 +158,49 @@ LeftBy e L n Open = IsOut e L n
 LeftBy e L n Here = IsOut e L n
 LeftBy e L n (Queued to) = ⊥
 
--- the node that is to be pushed is that of the block, where it is queued
-abbrev pub PushesBy : Setup → List ℕ → ℕ → Node → ℕ → Gone → Type 0
-PushesBy e L n node to Open = IsOut e L n
-PushesBy e L n node to Here = IsOut e L n
-PushesBy e L n node to (Queued i) = ((spot : Spot) × (node ≡ Block n spot)) × (i ≡ to)
+-- the node is that of the block that was held when the operation began, and `to` is its owner where
+-- carriers don't migrate
+pub record Sends (e : Setup) (L : List ℕ) (s : ℕ) (log : List Entry) (n : ℕ) (node : Node)
+    (to : ℕ) : Type 0 where
+  pub named : Named
+  pub is : node ≡ block_node named
+  pub held : HasHeld e L s n named log
+  pub owner : migration e ≡ false → to ≡ owner_of named.spot.carrier
 
 -- and it was pushed
+pub record Sent (e : Setup) (L : List ℕ) (s : ℕ) (log : List Entry) (n to : ℕ) : Type 0 where
+  pub named : Named
+  pub held : HasHeld e L s n named log
+  pub pushed : HasPushed e L s named to log
+  pub owner : migration e ≡ false → to ≡ owner_of named.spot.carrier
+
+-- the block is gone, or its node is to be pushed
+abbrev pub PushesBy : Setup → List ℕ → ℕ → List Entry → ℕ → Node → ℕ → Gone → Type 0
+PushesBy e L s log n node to Open = IsOut e L n
+PushesBy e L s log n node to Here = IsOut e L n
+PushesBy e L s log n node to (Queued i) = Sends e L s log n node to × (i ≡ to)
+
+-- the block is gone, or its node was pushed
 abbrev pub PushedBy : Setup → List ℕ → ℕ → List Entry → ℕ → Gone → Type 0
 PushedBy e L s log n Open = IsOut e L n
 PushedBy e L s log n Here = IsOut e L n
-PushedBy e L s log n (Queued to) = HasPushed e L s n to log
+PushedBy e L s log n (Queued to) = Sent e L s log n to
 
--- the block of the name is in the hand, or it left that
+-- the block that was held under the name is in the hand, or it left that
 abbrev pub OnWay : Setup → List ℕ → ℕ → List Entry → ℕ → Route → Gone → Type 0
-OnWay e L s log n (Looking h) g = (h.name ≡ n) × (g ≡ Open)
-OnWay e L s log n (Trying h seen) g = (h.name ≡ n) × (g ≡ Open)
+OnWay e L s log n (Looking h) g = (h.name ≡ n) × (g ≡ Open) × HasHeld e L s n h log
+OnWay e L s log n (Trying h seen) g = (h.name ≡ n) × (g ≡ Open) × HasHeld e L s n h log
 OnWay e L s log n (Settling x) g = LeftBy e L n g
 OnWay e L s log n (Abandoning x) g = LeftBy e L n g
 OnWay e L s log n (Sending x) g = LeftBy e L n g
 OnWay e L s log n (Clearing x) g = LeftBy e L n g
-OnWay e L s log n (Pushing node to) g = PushesBy e L n node to g
+OnWay e L s log n (Pushing node to) g = PushesBy e L s log n node to g
 OnWay e L s log n (Linking node to) g = PushedBy e L s log n g
 
 abbrev pub OnTask : Setup → List ℕ → ℕ → Actor → Route → Why → Gone → Type 0
 OnTask e L s a r Walk g = Unit {0}
 OnTask e L s a r (For task) g = OfTask task a.todo × Placing e L s a.log task
-    × WentTo e L s a.log (name_in task) g × OnWay e L s a.log (name_in task) r g
-
--- where carriers don't migrate, the old block that an ask may have was held when the operation
--- itself began
-abbrev pub HasOld : Setup → List ℕ → ℕ → List Entry → Option Named → Type 0
-HasOld e L s log None = Unit {0}
-HasOld e L s log (Some h) = migration e ≡ false → HasHeld e L s h.name h log
-
-pub old-on : (e : Setup) (L : List ℕ) (s : ℕ) (log : List Entry) → migration e ≡ true
-    → (old : Option Named) → HasOld e L s log old
-old-on e L s log on None = tt
-old-on e L s log on (Some h) = λ off. absurd (let no : true ≡ false = sym on ∙ off in cc)
+    × WentTo e s g × OnWay e L s a.log (name_in task) r g
 
 -- what the turns L say of s, which is a
 abbrev pub SoFar : Setup → List ℕ → ℕ → Actor → Stage → Type 0
@@ -280,25 +289,21 @@ placing-longer e L s j log (Moving o n p) h = record {
   there = h.there;
 }
 
-pub went-longer : (e : Setup) (L : List ℕ) (s j : ℕ) (log : List Entry) (n : ℕ) (g : Gone)
-    → WentTo e L s log n g → WentTo e (L ++ j ∷ []) s log n g
-went-longer e L s j log n Open w = w
-went-longer e L s j log n Here w = w
-went-longer e L s j log n (Queued to) w = (
-  w.0,
-  λ off. let goes = w.1 off in record {
-    named = goes.named;
-    held = record {
-      before = goes.held.before;
-      since = goes.held.since ++ j ∷ [];
-      split = longer L goes.held.before goes.held.since s j goes.held.split;
-      begins = goes.held.begins;
-      same = goes.held.same;
-      held = goes.held.held;
-    };
-    owner = goes.owner;
-  },
-)
+pub held-longer : (e : Setup) (L : List ℕ) (s j n : ℕ) (h : Named) (log : List Entry)
+    → HasHeld e L s n h log → HasHeld e (L ++ j ∷ []) s n h log
+held-longer e L s j n h log has = record {
+  before = has.before;
+  since = has.since ++ j ∷ [];
+  split = longer L has.before has.since s j has.split;
+  begins = has.begins;
+  same = has.same;
+  held = has.held;
+}
+
+pub old-longer : (e : Setup) (L : List ℕ) (s j : ℕ) (log : List Entry) (old : Option Named)
+    → HasOld e L s log old → HasOld e (L ++ j ∷ []) s log old
+old-longer e L s j log None has = tt
+old-longer e L s j log (Some h) has = held-longer e L s j h.name h log has
 
 pub out-longer : (e : Setup) (L : List ℕ) (j n : ℕ) → IsOut e L n → IsOut e (L ++ j ∷ []) n
 out-longer e L j n o = record {
@@ -315,34 +320,47 @@ left-longer e L j n Open o = out-longer e L j n o
 left-longer e L j n Here o = out-longer e L j n o
 left-longer e L j n (Queued to) o = absurd o
 
-pub pushes-longer : (e : Setup) (L : List ℕ) (j n : ℕ) (node : Node) (to : ℕ) (g : Gone)
-    → PushesBy e L n node to g → PushesBy e (L ++ j ∷ []) n node to g
-pushes-longer e L j n node to Open o = out-longer e L j n o
-pushes-longer e L j n node to Here o = out-longer e L j n o
-pushes-longer e L j n node to (Queued i) o = o
+pub pushes-longer : (e : Setup) (L : List ℕ) (s j : ℕ) (log : List Entry) (n : ℕ) (node : Node)
+    (to : ℕ) (g : Gone) → PushesBy e L s log n node to g
+    → PushesBy e (L ++ j ∷ []) s log n node to g
+pushes-longer e L s j log n node to Open o = out-longer e L j n o
+pushes-longer e L s j log n node to Here o = out-longer e L j n o
+pushes-longer e L s j log n node to (Queued i) o = (
+  record {
+    named = o.0.named;
+    is = o.0.is;
+    held = held-longer e L s j n o.0.named log o.0.held;
+    owner = o.0.owner;
+  },
+  o.1,
+)
 
 pub pushed-longer : (e : Setup) (L : List ℕ) (s j : ℕ) (log : List Entry) (n : ℕ) (g : Gone)
     → PushedBy e L s log n g → PushedBy e (L ++ j ∷ []) s log n g
 pushed-longer e L s j log n Open o = out-longer e L j n o
 pushed-longer e L s j log n Here o = out-longer e L j n o
 pushed-longer e L s j log n (Queued to) o = record {
-  before = o.before;
-  since = o.since ++ j ∷ [];
-  split = longer L o.before o.since s j o.split;
-  same = o.same;
-  spot = o.spot;
-  queue = o.queue;
+  named = o.named;
+  held = held-longer e L s j n o.named log o.held;
+  pushed = record {
+    before = o.pushed.before;
+    since = o.pushed.since ++ j ∷ [];
+    split = longer L o.pushed.before o.pushed.since s j o.pushed.split;
+    same = o.pushed.same;
+    queue = o.pushed.queue;
+  };
+  owner = o.owner;
 }
 
 way-longer : (e : Setup) (L : List ℕ) (s j : ℕ) (log : List Entry) (n : ℕ) (r : Route) (g : Gone)
     → OnWay e L s log n r g → OnWay e (L ++ j ∷ []) s log n r g
-way-longer e L s j log n (Looking h) g w = w
-way-longer e L s j log n (Trying h seen) g w = w
+way-longer e L s j log n (Looking h) g w = (w.0, w.1, held-longer e L s j n h log w.2)
+way-longer e L s j log n (Trying h seen) g w = (w.0, w.1, held-longer e L s j n h log w.2)
 way-longer e L s j log n (Settling x) g w = left-longer e L j n g w
 way-longer e L s j log n (Abandoning x) g w = left-longer e L j n g w
 way-longer e L s j log n (Sending x) g w = left-longer e L j n g w
 way-longer e L s j log n (Clearing x) g w = left-longer e L j n g w
-way-longer e L s j log n (Pushing node to) g w = pushes-longer e L j n node to g w
+way-longer e L s j log n (Pushing node to) g w = pushes-longer e L s j log n node to g w
 way-longer e L s j log n (Linking node to) g w = pushed-longer e L s j log n g w
 
 -- a turn of another scheduler adds nothing
@@ -379,12 +397,13 @@ module _ (e : Setup) (L : List ℕ) (s j : ℕ) (ne : j ≢ s) where
     asked = asked-longer e L s j ask.need a.log h.asked;
     planned = h.planned;
     none = h.none;
+    old = old-longer e L s j a.log ask.old h.old;
   }
   other-so_far a (Routed r Walk g) h = h
   other-so_far a (Routed r (For task) g) h = (
     h.0,
     placing-longer e L s j a.log task h.1,
-    went-longer e L s j a.log (name_in task) g h.2,
+    h.2,
     way-longer e L s j a.log (name_in task) r g h.3,
   )
   other-so_far a Begin h = h

@@ -102,7 +102,7 @@ module _ (e : Setup) (rules : (L : List ℕ) → Rule e (run e L)) (L : List ℕ
     old-now : (old : Option Named) → OldHeld old mid.held
         → HasOld e (L ++ me ∷ []) me acting.log old
     old-now None held = tt
-    old-now (Some h) held = λ off. held-now h.name h held
+    old-now (Some h) held = held-now h.name h held
 
     -- the operation asks for a place
     asked-now : (ask : Ask) → OfAsk ask acting.todo → IsWanted ask
@@ -288,7 +288,7 @@ module _ (e : Setup) (rules : (L : List ℕ) → Rule e (run e L)) (L : List ℕ
     free-fine n ops None q i = logged-fine e rules L me set is works (entry.FreeSkipped n) mid k
         (first-is (op.Free n) ops _ q refl) (λ n q. absurd cc) (skipped n (entry.FreeSkipped n) i)
     free-fine n ops (Some h) q i = task-fine e rules L me set is works (Freeing n) h mid k
-        (subst (OfTask (Freeing n)) (sym q ∙ k.1) refl) (λ off. held-now n h i)
+        (subst (OfTask (Freeing n)) (sym q ∙ k.1) refl) (held-now n h i)
         (item_at-key name_of n h mid.held i) i going (λ now. tt)
 
     give-fine : (n to : ℕ) (ops : List Op) (h : Option Named) → mid.todo ≡ op.Give n to ∷ ops

@@ -22,8 +22,7 @@ use Rattle.ea_machine.specs.declared.tasks.Gone.TheVariants.{Open, Here, Queued}
 use Rattle.ea_machine.specs.declared.asks.Ask.{Ask}
 use Rattle.ea_machine.specs.Chosen.{Created, Creates, HasAsked, IsJustBefore, IsPlacedAt, IsPlacement}
 use Rattle.ea_machine.specs.Entries.{Tells}
-use Rattle.ea_machine.specs.HandedOver.{GoesToOwner, HasHeld, HasPushed, IsAnother}
-use Rattle.ea_machine.specs.declared.nodes.Node.TheVariants.{Block}
+use Rattle.ea_machine.specs.HandedOver.{HasHeld, IsAnother}
 use Rattle.ea_machine.specs.Exhausted.{FindsNoPlace, IsExhausted, IsFailOf}
 use Rattle.ea_machine.specs.Machine.{run, wants}
 use Rattle.ea_machine.specs.declared.nodes.Named.{Named}
@@ -35,7 +34,7 @@ use Rattle.ea_machine.specs.Statistics.{observed}
 use Rattle.ea_machine.specs.Tasks.{carried, entry_of, hands_over, later, let_go, logged, task_over}
 use Rattle.ea_machine.specs.Turns.{actor_after, begun}
 use Rattle.ea_sound.specs.Present.{OfAsk, OfTask, OldHeld, Rule, Fits, FitsRoute}
-use Rattle.ea_sound.proofs.Chronicle.{HasOld, IsOut, LeftBy, OnWay, PushedBy, PushesBy, IsOfFirst, IsSame, Outcomes, Placement, Placing, SoFar, Underway, WentTo, failed-is, name_in, outcomes, task-first}
+use Rattle.ea_sound.proofs.Chronicle.{HasOld, IsOut, LeftBy, OnWay, PushedBy, PushesBy, Sent, IsOfFirst, IsSame, Outcomes, Placement, Placing, SoFar, Underway, WentTo, failed-is, name_in, outcomes, task-first}
 use Rattle.ea_sound.proofs.ShortRoutes.{Keeps, here-short, keeps-on, route-keeps}
 use Rattle.ea_machine.specs.Contents.{actor_sum, seats}
 use Rattle.ea_machine.specs.Nodes.{named_at, block_node, without_name}
@@ -60,7 +59,7 @@ use Rattle.ea_sound.proofs.Numbered.{scheduler-seat}
 use Rattle.ea_sound.proofs.Operating.{closed-operation, held-other, held-stays, made-wanted}
 use Rattle.ea_sound.proofs.Totals.{put-here, total-part}
 use Rattle.ea_sound.proofs.Created.{scheduler-number}
-use Rattle.ea_sound.proofs.GoneRoutes.{IsBare, NotByWord, NotSent, Yields, here-bare, here-not_sent, route-owner, route-queued}
+use Rattle.ea_sound.proofs.GoneRoutes.{IsBare, NotByWord, NotSent, Yields, here-bare, here-not_sent, route-queued}
 use Rattle.ea_sound.proofs.GoneBlocks.{NoneNow, held-out}
 use Rattle.ea_sound.proofs.Fading.{stays-gone}
 use Rattle.ea_sound.proofs.FewBlocks.{all_of}
@@ -199,19 +198,33 @@ module _ (e : Setup) (rules : (L : List ℕ) → Rule e (run e L)) (L : List ℕ
     abbrev pub EndsOut : ℕ → Gone → Type 0
     EndsOut n Open = blocks_of_name e n (run e turn) ≡ 0
     EndsOut n Here = blocks_of_name e n (run e turn) ≡ 0
-    EndsOut n (Queued to) = HasPushed e turn me n to acting.log
+    EndsOut n (Queued to) = Sent e turn me acting.log n to
 
     entry-tells : (task : Task) (g : Gone) → Placing e turn me acting.log task
-        → WentTo e turn me acting.log (name_in task) g → EndsOut (name_in task) g
+        → WentTo e me g → EndsOut (name_in task) g
         → Tells e L me (entry_of task g)
     entry-tells (Freeing n) Open h w o = o
     entry-tells (Freeing n) Here h w o = o
     entry-tells (Freeing n) (Queued to) h w o =
-        record { another = w.0; pushed = o; owner = w.1 }
+        record {
+          another = w;
+          named = o.named;
+          held = o.held;
+          pushed = o.pushed;
+          owner = o.owner;
+        }
     entry-tells (Moving o n p) Open h w out = (placed n p h, out)
     entry-tells (Moving o n p) Here h w out = (placed n p h, out)
-    entry-tells (Moving o n p) (Queued to) h w out =
-        (placed n p h, record { another = w.0; pushed = out; owner = w.1 })
+    entry-tells (Moving o n p) (Queued to) h w out = (
+      placed n p h,
+      record {
+        another = w;
+        named = out.named;
+        held = out.held;
+        pushed = out.pushed;
+        owner = out.owner;
+      },
+    )
 
     -- what becomes of the block of a task, where the turn leaves this of its route
     abbrev pub Becomes : Task → Option Route → Gone → Actor → Type 0
@@ -242,27 +255,33 @@ module _ (e : Setup) (rules : (L : List ℕ) → Rule e (run e L)) (L : List ℕ
 
     -- with the block in the hand before
     pub hand-becomes : (task : Task) (h : Named) → h.name ≡ name_in task → (o : Option Route)
-        (g : Gone) (b : Actor) → Yields h o g → GoesOut task b → Becomes task o g b
-    hand-becomes task h name None Open b y out =
+        (g : Gone) (b : Actor) → Yields h o g → GoesOut task b
+        → HasHeld e turn me (name_in task) h acting.log → (migration e ≡ false → ⊥)
+        → Becomes task o g b
+    hand-becomes task h name None Open b y out held on =
         λ now. (out (logged (entry_of task Open) b) now refl refl refl).0
-    hand-becomes task h name None Here b y out =
+    hand-becomes task h name None Here b y out held on =
         λ now. (out (logged (entry_of task Here) b) now refl refl refl).0
-    hand-becomes task h name None (Queued to) b y out = absurd y
-    hand-becomes task h name (Some (Looking k)) g b y out = absurd y
-    hand-becomes task h name (Some (Trying k seen)) g b y out =
-        λ now. (ap (λ (x : Named). x.name) y.0 ∙ name, y.1)
-    hand-becomes task h name (Some (Settling x)) g b y out =
+    hand-becomes task h name None (Queued to) b y out held on = absurd y
+    hand-becomes task h name (Some (Looking k)) g b y out held on = absurd y
+    hand-becomes task h name (Some (Trying k seen)) g b y out held on =
+        λ now. (
+          ap (λ (x : Named). x.name) y.0 ∙ name,
+          y.1,
+          subst (λ m. HasHeld e turn me (name_in task) m acting.log) (sym y.0) held,
+        )
+    hand-becomes task h name (Some (Settling x)) g b y out held on =
         λ now. left-out (name_in task) g y (out _ now refl refl refl)
-    hand-becomes task h name (Some (Abandoning x)) g b y out =
+    hand-becomes task h name (Some (Abandoning x)) g b y out held on =
         λ now. left-out (name_in task) g y (out _ now refl refl refl)
-    hand-becomes task h name (Some (Sending x)) g b y out =
+    hand-becomes task h name (Some (Sending x)) g b y out held on =
         λ now. left-out (name_in task) g y (out _ now refl refl refl)
-    hand-becomes task h name (Some (Clearing x)) g b y out =
+    hand-becomes task h name (Some (Clearing x)) g b y out held on =
         λ now. left-out (name_in task) g y (out _ now refl refl refl)
-    hand-becomes task h name (Some (Pushing node to)) g b y out =
-        λ now. subst (PushesBy e turn (name_in task) node to) (sym y.1)
-        ((h.spot, y.0 ∙ ap (λ m. Block m h.spot) name), refl)
-    hand-becomes task h name (Some (Linking node to)) g b y out = absurd y
+    hand-becomes task h name (Some (Pushing node to)) g b y out held on =
+        λ now. subst (PushesBy e turn me acting.log (name_in task) node to) (sym y.1)
+        (record { named = h; is = y.0; held = held; owner = λ off. absurd (on off) }, refl)
+    hand-becomes task h name (Some (Linking node to)) g b y out held on = absurd y
 
     out-now : (n : ℕ) → IsOut e turn n → blocks_of_name e n (run e turn) ≡ 0
     out-now n o = ap (λ K. blocks_of_name e n (run e K)) o.split
@@ -311,9 +330,10 @@ module _ (e : Setup) (rules : (L : List ℕ) → Rule e (run e L)) (L : List ℕ
     -- where it has just come into the hand
     route-becomes : (task : Task) (h : Named) (b : Actor) → h.name ≡ name_in task
         → named_at (name_in task) b.held ≡ Some h → IsGoing b
+        → HasHeld e turn me (name_in task) h acting.log
         → Becomes task (route_of e me h (let_go h.name b)).route
         (route_of e me h (let_go h.name b)).gone (route_of e me h (let_go h.name b)).actor
-    route-becomes task h b name there g = by (migration e) refl where
+    route-becomes task h b name there g had = by (migration e) refl where
       a : Actor
       a = let_go h.name b
 
@@ -338,10 +358,11 @@ module _ (e : Setup) (rules : (L : List ℕ) → Rule e (run e L)) (L : List ℕ
           let same = (here-short e me h Open a).1 in
           bare off t.route t.gone t.actor (here-bare e me h Open a) (here-not_sent e me h a)
           same.5 same.0
-      owned off false = λ now. ((h.spot, ap (λ m. Block m h.spot) name), refl)
+      owned off false =
+          λ now. (record { named = h; is = refl; held = had; owner = λ off. refl }, refl)
 
       by : (on : Bool) → migration e ≡ on → Goes (routed e me on h a)
-      by true on = λ now. (name, refl)
+      by true on = λ now. (name, refl, had)
       by false off = owned off (owner_of h.spot.carrier == me)
 
     -- where a block is queued, by the route that is left
@@ -349,17 +370,11 @@ module _ (e : Setup) (rules : (L : List ℕ) → Rule e (run e L)) (L : List ℕ
     Queues g r = (to : ℕ) → g ≡ Queued to
         → IsAnother e me to ⊎ ((h : Named) × (r ≡ Some (Pushing (block_node h) to)))
 
-    -- and where carriers don't migrate, whose carrier it is in
-    abbrev pub Owned : ℕ → Gone → Type 0
-    Owned n g = (to : ℕ) → g ≡ Queued to → migration e ≡ false
-        → GoesToOwner e turn me n to acting.log
-
-    ended-went : (n : ℕ) (g : Gone) → Queues g None → Owned n g
-        → WentTo e turn me acting.log n g
-    ended-went n Open w o = tt
-    ended-went n Here w o = tt
-    ended-went n (Queued to) w o = elim (w to refl) [
-      | inl other ↦ (other, o to refl)
+    ended-went : (g : Gone) → Queues g None → WentTo e me g
+    ended-went Open w = tt
+    ended-went Here w = tt
+    ended-went (Queued to) w = elim (w to refl) [
+      | inl other ↦ other
       | inr pushes ↦ absurd (let q = pushes.1 in cc)
     ]
 
@@ -372,17 +387,14 @@ module _ (e : Setup) (rules : (L : List ℕ) → Rule e (run e L)) (L : List ℕ
         ((rules turn).present.fits me) in
         (scheduler-number e to f.0.1, f.0.0)
 
-    routed-went : (n : ℕ) (r : Route) (y : Why) (g : Gone) → Queues g (Some r) → Owned n g
-        → (actor_after e turn me).stage ≡ Routed r y g → WentTo e turn me acting.log n g
-    routed-went n r y Open w o now = tt
-    routed-went n r y Here w o now = tt
-    routed-went n r y (Queued to) w o now = elim (w to refl) [
-      | inl other ↦ (other, o to refl)
-      | inr pushes ↦ (
-        pushes-another pushes.0 to y (Queued to)
-            (now ∙ ap (λ p. Routed p y (Queued to)) (some_route pushes.1)),
-        o to refl,
-      )
+    routed-went : (r : Route) (y : Why) (g : Gone) → Queues g (Some r)
+        → (actor_after e turn me).stage ≡ Routed r y g → WentTo e me g
+    routed-went r y Open w now = tt
+    routed-went r y Here w now = tt
+    routed-went r y (Queued to) w now = elim (w to refl) [
+      | inl other ↦ other
+      | inr pushes ↦ pushes-another pushes.0 to y (Queued to)
+          (now ∙ ap (λ p. Routed p y (Queued to)) (some_route pushes.1))
     ] where
       some_route : {p q : Route} → Some p ≡ Some q → p ≡ q
       some_route q = cc
@@ -398,14 +410,14 @@ module _ (e : Setup) (rules : (L : List ℕ) → Rule e (run e L)) (L : List ℕ
     task-made (Moving o m p) (Queued to) b n q = absurd cc
 
     pub carried-fine : (task : Task) (r : Option Route) (g : Gone) (b : Actor) → Keeps acting b
-        → OfTask task acting.todo → Queues g r → Owned (name_in task) g → Becomes task r g b
+        → OfTask task acting.todo → Queues g r → Becomes task r g b
         → (IsAfter b → Placing e turn me acting.log task)
         → Fine (carried (For task) (task_over task) (record { actor = b; route = r; gone = g }))
-    carried-fine task None g b k o w own out h = logged-fine (entry_of task g) b k
+    carried-fine task None g b k o w out h = logged-fine (entry_of task g) b k
         (task-first task g acting.todo o) (task-made task g b)
         (λ now. entry-tells task g (h (ap (λ (a : Actor). a.instance) now))
-        (ended-went (name_in task) g w own) (out now))
-    carried-fine task (Some r) g b k o w own out h = (
+        (ended-went g w) (out now))
+    carried-fine task (Some r) g b k o w out h = (
       (λ q. absurd cc),
       k.2 ∙ set,
       λ now. (
@@ -413,9 +425,7 @@ module _ (e : Setup) (rules : (L : List ℕ) → Rule e (run e L)) (L : List ℕ
           subst (OfTask task) (sym k.1) o,
           subst (λ l. Placing e turn me l task) (sym k.0)
               (h (ap (λ (a : Actor). a.instance) now)),
-          subst (λ l. WentTo e turn me l (name_in task) g) (sym k.0)
-              (routed-went (name_in task) r (For task) g w own
-              (sym (ap (λ (a : Actor). a.stage) now))),
+          routed-went r (For task) g w (sym (ap (λ (a : Actor). a.stage) now)),
           subst (λ l. OnWay e turn me l (name_in task) r g) (sym k.0) (out now),
         ),
         inl (k.0, k.1),
@@ -423,7 +433,7 @@ module _ (e : Setup) (rules : (L : List ℕ) → Rule e (run e L)) (L : List ℕ
     )
 
     pub task-fine : (task : Task) (h : Named) (b : Actor) → Keeps acting b → OfTask task acting.todo
-        → (migration e ≡ false → HasHeld e turn me (name_in task) h acting.log)
+        → HasHeld e turn me (name_in task) h acting.log
         → h.name ≡ name_in task → named_at (name_in task) b.held ≡ Some h → IsGoing b
         → (IsAfter (route_of e me h (let_go h.name b)).actor → Placing e turn me acting.log task)
         → Fine (hands_over e me task h b)
@@ -434,12 +444,7 @@ module _ (e : Setup) (rules : (L : List ℕ) → Rule e (run e L)) (L : List ℕ
         (λ to q. elim (route-queued e me h (let_go h.name b) to q) [
           | inl none ↦ absurd (let never : Open ≡ Queued to = none in cc)
           | inr pushes ↦ inr pushes
-        ])
-        (λ to q off. record {
-          named = h;
-          held = held off;
-          owner = route-owner e me h (let_go h.name b) to off q;
-        }) (route-becomes task h b name there g) p
+        ]) (route-becomes task h b name there g held) p
 
     -- where the name is held, so that the rule holds
     module _ (n : ℕ) (spot : Spot) (c : Actor) (g : IsGoing (holding n spot c)) where
@@ -612,6 +617,7 @@ module _ (e : Setup) (rules : (L : List ℕ) → Rule e (run e L)) (L : List ℕ
               of = subst (OfAsk ask) (sym k.1) o.0;
               on = m;
               asked = subst (HasAsked e turn me ask.need) (sym k.0) o.1;
+              old = subst (λ l. HasOld e turn me l ask.old) (sym k.0) o.2;
               planned = q;
               none = none;
             },

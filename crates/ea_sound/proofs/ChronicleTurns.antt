@@ -1,6 +1,6 @@
 -- A turn of a scheduler: what it makes of what the turns before say.
 use Rattle.std.proofs.Common.{◌≡◌, ◌≢◌, ◌⊎◌, ℕ, zero, suc, ◌+◌, ◌-◌, ◌≤◌, List, [], ◌∷◌, ◌++◌, Bool, true, false, refl, sym, ap, ◌∙◌, subst, inl, inr, arith}
-use Rattle.std.specs.Prelude.{Some, None, count_by, length, ◌==◌}
+use Rattle.std.specs.Prelude.{Option, Some, None, count_by, length, ◌==◌}
 use Rattle.std.proofs.lemmas.List.{append_assoc}
 use Rattle.ea_model.specs.declared.entries.Entry.TheVariants as entry
 use Rattle.ea_model.specs.declared.operations.Op.TheVariants as op
@@ -23,10 +23,11 @@ use Rattle.ea_machine.specs.Statistics.{observed}
 use Rattle.ea_machine.specs.Table.{answer, effect}
 use Rattle.ea_machine.specs.Tasks.{halted, logged, let_go}
 use Rattle.ea_machine.specs.Turns.{actor_after, answered, begun}
-use Rattle.ea_sound.proofs.Chronicle.{AndShown, Fetches, IsSame, Searches, SoFar, Takes, Underway, asked-longer, further, placing-longer, way-asked, LeftBy, OnWay, WentTo, left-longer, out-longer, pushed-longer, name_in, old-on, went-longer}
+use Rattle.ea_sound.proofs.Chronicle.{AndShown, Fetches, IsSame, Searches, SoFar, Takes, Underway, asked-longer, further, placing-longer, way-asked, LeftBy, OnWay, WentTo, left-longer, out-longer, pushed-longer, name_in, held-longer, old-longer, HasOld}
 use Rattle.ea_sound.proofs.HandedNames.{NeverGiven, is-given, is-taken, never-mine, tried-given}
 use Rattle.ea_sound.proofs.TurnLists.{longer, run-snoc, step-shared}
-use Rattle.ea_machine.specs.Nodes.{pushed, spot_named}
+use Rattle.ea_machine.specs.Nodes.{block_node, named_at, pushed, spot_named}
+use Rattle.ea_machine.specs.declared.nodes.Named.{Named}
 use Rattle.ea_machine.specs.State.{State}
 use Rattle.ea_machine.specs.Sums.{one_if}
 use Rattle.ea_sound.proofs.SearchLists.{count-snoc, counted-most, searched-look, searched-lost, searched-on}
@@ -37,14 +38,14 @@ use Rattle.ea_sound.proofs.ChroniclePlaces.{Becomes, Fine as IsFine, IsAsking, h
 use Rattle.ea_sound.proofs.ChronicleOperations.{itself-fine}
 use Rattle.ea_machine.specs.Shared.{Shared}
 use Rattle.ea_sound.specs.Leaves.{Leaves}
-use Rattle.ea_sound.specs.Present.{Fits, FitsRoute, OfAsk, Rule}
+use Rattle.ea_sound.specs.Present.{Fits, FitsRoute, OfAsk, OldHeld, Rule}
 use Rattle.ea_sound.proofs.Operating.{begun-kept}
 use Rattle.ea_sound.proofs.RowLeaves.{row-left}
-use Rattle.ea_sound.proofs.GoneRoutes.{ByWord, looking-yields, settled-gone, settled-not, trying-yields, turned-before, turned-queued}
+use Rattle.ea_sound.proofs.GoneRoutes.{ByWord, looking-yields, settled-gone, settled-not, trying-yields, turned-queued}
 use Rattle.ea_sound.proofs.GoneBlocks.{pushed-after, hand-out, look-names, name-one, try-names}
 use Rattle.ea_machine.specs.declared.tasks.Task.{Task}
 use Rattle.ea_machine.specs.declared.tasks.Gone.TheVariants.{Open, Here, Queued}
-use Rattle.ea_machine.specs.declared.nodes.Node.TheVariants.{Block, Carrier}
+use Rattle.ea_machine.specs.declared.nodes.Node.TheVariants.{Carrier}
 use Rattle.ea_machine.specs.Owners.{owner_of}
 use Rattle.ea_machine.specs.Names.{only}
 use Rattle.ea_model.specs.Content.{is_nil}
@@ -132,12 +133,26 @@ module _ (e : Setup) (rules : (L : List ℕ) → Rule e (run e L)) (L : List ℕ
         further e L me me need R P Q true (grind arith) (ap length sees)
         (λ xs p. subst (λ ys. Q (xs ++ ys)) (sym sees) (f xs p)) u
 
-    asking : (ask : Ask) (P : List Sight → Type 0) → OfAsk ask acting.todo → migration e ≡ true
-        → Underway e L me ask.need IsStill P → IsAsking e rules L me ask
-    asking ask P o on u = (
+    -- the old block was held when the operation began
+    way-old : (need : ℕ) (P : List Sight → Type 0) → Underway e L me need IsStill P
+        → (old : Option Named) → OldHeld old acting.held → HasOld e turn me acting.log old
+    way-old need P u None held = tt
+    way-old need P u (Some h) held = record {
+      before = u.before;
+      since = u.since ++ me ∷ [];
+      split = longer L u.before u.since me me u.split;
+      begins = u.begins;
+      same = sym u.same.0;
+      held = subst (λ hs. named_at h.name hs ≡ Some h) u.same.3 held;
+    }
+
+    asking : (ask : Ask) (P : List Sight → Type 0) → OfAsk ask acting.todo
+        → OldHeld ask.old acting.held → Underway e L me ask.need IsStill P
+        → IsAsking e rules L me ask
+    asking ask P o old u = (
       o,
       asked-longer e L me me ask.need acting.log (way-asked e L me ask.need acting P u),
-      old-on e turn me acting.log on ask.old,
+      way-old ask.need P u ask.old old,
     )
 
     searched-fine : (ask : Ask) (at looked : ℕ) (r : Answer)
@@ -168,7 +183,7 @@ module _ (e : Setup) (rules : (L : List ℕ) → Rule e (run e L)) (L : List ℕ
           ),
         )
         by false t = search-fine e rules L me set is works ask (at - 1) (counted v looked) acting
-            (keeps-same acting) (asking ask _ h.of h.on h.way) h.on h.small
+            (keeps-same acting) (asking ask _ h.of l.0.old h.way) h.on h.small
             (counted-most looked SEARCH_LIMIT v h.room) l.0
             (turn-of ask.need (Searching ask at looked) (Saw v) (Shown at v) IsStill _
             (Searched ask.need (greatest_number e) 0 (at - 1) (counted v looked)) st ans refl
@@ -192,13 +207,13 @@ module _ (e : Setup) (rules : (L : List ℕ) → Rule e (run e L)) (L : List ℕ
         choice-fine e rules L me set is works ask
         (record acting { instance = employing acting.instance x })
         (chosen_spot (employing acting.instance x) ask.need) refl (refl, refl, refl)
-        (asking ask _ h.of h.on h.way) h.small
+        (asking ask _ h.of l.0.old h.way) h.small
         (Fetched ask at looked seen x st refl
         (ap (λ i. chosen_spot i ask.need) h.way.same.2 ∙ h.way.none) ans refl) l.0 l.2
     fetched-fine ask at looked seen (Lost u) st ans l h =
         subst (λ k. Fine (search_at e me ask (at - 1) k acting)) (sym h.counts)
         (search-fine e rules L me set is works ask (at - 1) (counted seen h.old) acting
-        (keeps-same acting) (asking ask _ h.of h.on h.way) h.on h.small
+        (keeps-same acting) (asking ask _ h.of l.0.old h.way) h.on h.small
         (counted-most h.old SEARCH_LIMIT seen h.room) l.0
         (turn-of ask.need (Fetching ask at looked seen) (Lost u) (Missed at u) IsStill _
         (Searched ask.need (greatest_number e) 0 (at - 1) (counted seen h.old)) st ans refl
@@ -344,7 +359,9 @@ module _ (e : Setup) (rules : (L : List ℕ) → Rule e (run e L)) (L : List ℕ
         (λ c now empty held passed. hand-out e rules L me (name_in task) works
         (Routed (Looking h) (For task) g) q (name-one (name_in task) h w.0)
         (look-names e (only (name_in task)) me h.spot.carrier (run e L).shared) c now empty
-        (held ∙ same.5) (passed ∙ same.0)))
+        (held ∙ same.5) (passed ∙ same.0))
+        (held-longer e L me me (name_in task) h acting.log w.2)
+        (λ off. words-on (Looking h) (For task) g q off tt))
     row-becomes task g z (Trying h seen) q w =
         subst (λ k. Goes task (turned e me (Trying h seen) k acting z)) (sym w.1)
         (let t = turned e me (Trying h seen) Open acting z in
@@ -354,7 +371,9 @@ module _ (e : Setup) (rules : (L : List ℕ) → Rule e (run e L)) (L : List ℕ
         (λ c now empty held passed. hand-out e rules L me (name_in task) works
         (Routed (Trying h seen) (For task) g) q (name-one (name_in task) h w.0)
         (try-names e (only (name_in task)) me h.spot.carrier seen (run e L).shared) c now empty
-        (held ∙ same.5) (passed ∙ same.0)))
+        (held ∙ same.5) (passed ∙ same.0))
+        (held-longer e L me me (name_in task) h acting.log w.2)
+        (λ off. words-on (Trying h seen) (For task) g q off tt))
     row-becomes task g z (Settling x) q w =
         let t = turned e me (Settling x) g acting z in
         left-becomes e rules L me set is works task t.route t.gone t.actor
@@ -379,18 +398,22 @@ module _ (e : Setup) (rules : (L : List ℕ) → Rule e (run e L)) (L : List ℕ
         left-becomes e rules L me set is works task (Some (Linking node to)) Here acting tt
         (out-longer e L me (name_in task) w)
     row-becomes task (Queued i) z (Pushing node to) q w = λ now. record {
-      before = L;
-      since = [];
-      split = refl;
-      same = refl;
-      spot = w.0.0;
-      queue = subst (λ j. (run e turn).shared.queues j
-          ≡ pushed (Block (name_in task) w.0.0) ∷ (run e L).shared.queues j) (sym w.1)
-          (subst (λ m. (run e turn).shared.queues to ≡ pushed m ∷ (run e L).shared.queues to)
-          w.0.1 (ap (λ (v : State). v.shared.queues to) (run-snoc e L me)
-          ∙ ap (λ (v : Shared). v.queues to) (step-shared e (run e L) me works)
-          ∙ ap (λ st. (effect me (wants_at acting.next st) (run e L).shared).queues to) q
-          ∙ pushed-after me node to (run e L).shared));
+      named = w.0.named;
+      held = held-longer e L me me (name_in task) w.0.named acting.log w.0.held;
+      pushed = record {
+        before = L;
+        since = [];
+        split = refl;
+        same = refl;
+        queue = subst (λ j. (run e turn).shared.queues j
+            ≡ pushed (block_node w.0.named) ∷ (run e L).shared.queues j) (sym w.1)
+            (subst (λ m. (run e turn).shared.queues to ≡ pushed m ∷ (run e L).shared.queues to)
+            w.0.is (ap (λ (v : State). v.shared.queues to) (run-snoc e L me)
+            ∙ ap (λ (v : Shared). v.queues to) (step-shared e (run e L) me works)
+            ∙ ap (λ st. (effect me (wants_at acting.next st) (run e L).shared).queues to) q
+            ∙ pushed-after me node to (run e L).shared));
+      };
+      owner = λ off. w.1 ∙ w.0.owner off;
     }
     row-becomes task g z (Linking node to) q w =
         pushed-becomes e rules L me set is works task g acting
@@ -407,18 +430,11 @@ module _ (e : Setup) (rules : (L : List ℕ) → Rule e (run e L)) (L : List ℕ
         inl (walks e me acting (Collecting c) (answered (run e L) me) tt ne (λ r. absurd (cc)))
     row-fine (Routed r (For task) g) q h ne =
         let t = turned e me r g acting (answered (run e L) me) in
-        let went = went-longer e L me me acting.log (name_in task) g h.2 in
         inr (carried-fine e rules L me set is works task t.route t.gone t.actor
         (turned-keeps e me r g acting (answered (run e L) me)) h.0
         (λ to q. elim (turned-queued e me r g acting (answered (run e L) me) to q) [
-          | inl before ↦
-              inl (subst (WentTo e turn me acting.log (name_in task)) before went).0
+          | inl before ↦ inl (subst (WentTo e me) before h.2)
           | inr pushes ↦ inr pushes
-        ])
-        (λ to gone off. elim (turned-before e me r g acting (answered (run e L) me) to gone) [
-          | inl before ↦
-              (subst (WentTo e turn me acting.log (name_in task)) before went).1 off
-          | inr word ↦ absurd (words-on r (For task) g q off word)
         ])
         (row-becomes task g (answered (run e L) me) r q h.3)
         (λ now. placing-longer e L me me acting.log task h.1))
@@ -433,7 +449,7 @@ module _ (e : Setup) (rules : (L : List ℕ) → Rule e (run e L)) (L : List ℕ
         inr (created-fine e rules L me set is works ask p acting (keeps-same acting) (
           h.of,
           asked-longer e L me me ask.need acting.log h.asked,
-          old-on e turn me acting.log h.on ask.old,
+          old-longer e L me me acting.log ask.old h.old,
         ) h.planned
         (ByItself h.on ask q refl refl h.planned) h.none l.0 l.2)
     row-fine (Giving g to) q h ne =

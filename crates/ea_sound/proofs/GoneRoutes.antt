@@ -274,19 +274,6 @@ module _ (e : Setup) (me : ℕ) where
     by true = still Open (routed e me true h a) refl
     by false = owned (owner_of h.spot.carrier == me)
 
-  -- by another row nothing new becomes of the block
-  pub turned-before : (r : Route) (g : Gone) (a : Actor) (z : Answer) (to : ℕ)
-      → (turned e me r g a z).gone ≡ Queued to → (g ≡ Queued to) ⊎ ByWord r
-  turned-before (Looking h) g a z to q = inr tt
-  turned-before (Trying h seen) g a z to q = inr tt
-  turned-before (Settling x) g a z to q =
-      inl (sym (settled-gone (is_nil x.blocks) x g a) ∙ q)
-  turned-before (Abandoning x) g a z to q = inl q
-  turned-before (Sending x) g a z to q = inl q
-  turned-before (Clearing x) g a z to q = inl q
-  turned-before (Pushing node i) g a z to q = inl q
-  turned-before (Linking node i) g a z to q = inl q
-
   -- a block that is released here isn't queued
   pub here-not_sent : (h : Named) (a : Actor) → NotSent (release_here e me h Open a).gone
   here-not_sent h a =
@@ -346,17 +333,3 @@ module _ (e : Setup) (me : ℕ) where
   trying-yields h a (Passes n) = tt
   trying-yields h a (Home x) = tt
   trying-yields h a (Got p) = tt
-
-  -- where carriers don't migrate, it goes to the owner of its carrier
-  pub route-owner : (h : Named) (a : Actor) (to : ℕ) → migration e ≡ false
-      → (route_of e me h a).gone ≡ Queued to → to ≡ owner_of h.spot.carrier
-  route-owner h a to off q = by (migration e) off q where
-    owned : (own : Bool) → (owned_by e me own h a).gone ≡ Queued to
-        → to ≡ owner_of h.spot.carrier
-    owned true q = absurd (subst NotSent q (here-not_sent h a))
-    owned false q = sym (target q)
-
-    by : (on : Bool) → on ≡ false → (routed e me on h a).gone ≡ Queued to
-        → to ≡ owner_of h.spot.carrier
-    by true off q = absurd (let never : true ≡ false = off in cc)
-    by false off q = owned (owner_of h.spot.carrier == me) q
