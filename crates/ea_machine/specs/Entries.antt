@@ -67,8 +67,8 @@ Reports r xs = (r.blocks.now ≡ (figures xs).blocks) × (r.blocks_size.now ≡ 
 -- what an entry tells, which s made in its step after the steps `turns`: a block was placed where
 -- the strategy chooses, or in a carrier of its own; a block keeps its spot; no place was found; a
 -- name isn't held, and nothing changes; a block is gone, or it went to another scheduler's queue,
--- where carriers don't migrate to that of the owner of its carrier; a name was given, or taken, with
--- its spot, or tried for in vain as often as it was to be; and what carriers are employed then
+-- where carriers don't migrate to that of the owner of its carrier; a name was given, or taken,
+-- with its spot, or tried for in vain as often as it was to be; and what carriers are employed then
 abbrev pub Tells : Setup → List ℕ → ℕ → Entry → Type 0
 Tells setup turns s (entry.Alloc name place) = IsPlacement setup turns s name place
 Tells setup turns s (entry.AllocFail name need looked why) =

@@ -342,11 +342,13 @@ module _ (e : Setup) (rules : (L : List ℕ) → Rule e (run e L)) (L : List ℕ
 
       bare : migration e ≡ false → (o : Option Route) (g' : Gone) (c : Actor) → IsBare o
           → NotSent g' → c.held ≡ a.held → c.passed ≡ a.passed → Becomes task o g' c
-      bare off None Open c i sent held passed = λ now. held-out e rules L me (name_in task) works h b
-          name there g.kept (logged (entry_of task Open) c) now refl
+      bare off None Open c i sent held passed = λ now.
+          held-out e rules L me (name_in task) works h b name there g.kept
+          (logged (entry_of task Open) c) now refl
           (held ∙ ap (λ m. without_name m b.held) name) passed
-      bare off None Here c i sent held passed = λ now. held-out e rules L me (name_in task) works h b
-          name there g.kept (logged (entry_of task Here) c) now refl
+      bare off None Here c i sent held passed = λ now.
+          held-out e rules L me (name_in task) works h b name there g.kept
+          (logged (entry_of task Here) c) now refl
           (held ∙ ap (λ m. without_name m b.held) name) passed
       bare off None (Queued to) c i sent held passed = absurd sent
       bare off (Some r) g' c i sent held passed =

@@ -1,4 +1,5 @@
--- What first became of a block on its route: where it was queued, its node is what is pushed next.
+-- What first became of a block on its route: where it was queued, its node is what is pushed next;
+-- and what a row leaves of a route with the block in the hand.
 use Rattle.std.proofs.Common.{◌≡◌, ◌⊎◌, subst, ℕ, Bool, true, false, refl, sym, ap, ◌∙◌, inl, inr}
 use Rattle.std.specs.Prelude.{Option, None, Some, ◌==◌}
 use Rattle.ea_model.specs.declared.carriers.Kind.{Kind}
@@ -39,14 +40,13 @@ released g t same to q = elim (first-queued g Here to (sym same ∙ q)) [
   | inr now ↦ absurd (let never : Here ≡ Queued to = now in cc)
 ]
 
-target : {i j : ℕ} → Queued i ≡ Queued j → i ≡ j
-target q = cc
-
 sent-queued : (h : Named) (i : ℕ) (g : Gone) (a : Actor) → IsQueuedBy g (sent_to h i g a)
 sent-queued h i g a to q = elim (first-queued g (Queued i) to q) [
   | inl before ↦ inl before
   | inr now ↦ inr (h, ap (λ j. Some (Pushing (block_node h) j)) (target now))
-]
+] where
+  target : {i j : ℕ} → Queued i ≡ Queued j → i ≡ j
+  target q = cc
 
 -- the owner word of its carrier is read next, or tried
 abbrev pub ByWord : Route → Type 0
