@@ -6,7 +6,7 @@ use Rattle.std.proofs.lemmas.List.{replicate-append-replicate}
 use Rattle.ea_model.specs.declared.settings.Config.{Config}
 use Rattle.ea_model.specs.declared.trace.Trace.{Trace}
 use Rattle.ea_machine.specs.Actor.{Actor, Ended}
-use Rattle.ea_machine.specs.Completion.{actor_rows, ending, finishing, work}
+use Rattle.ea_machine.specs.Completion.{actor_rows, ending, work}
 use Rattle.ea_machine.specs.Machine.{after_row, is_main, onward, place_by, run_on, start, step, wants}
 use Rattle.ea_machine.specs.Owners.{CarrierAt, owner_of}
 use Rattle.ea_machine.specs.Setup.{Setup, migration, setup_of}
@@ -19,9 +19,7 @@ use Rattle.ea_sound.proofs.Completing.{ending-none, ending-one, reached-step, ru
 use Rattle.ea_sound.proofs.TurnLists.{ended-or, run-append, step-ended, step-mine, step-shared}
 use Rattle.ea_shared.specs.Memory.{Sharing, nothing_shared, shared_of}
 use Rattle.ea_sched.specs.declared.state.Scheduler.{Scheduler}
-use Rattle.ea_sched.specs.declared.stage.Stage.{Stage}
-use Rattle.ea_sched.specs.declared.stage.Stage.TheVariants as code
-use Rattle.ea_sched.specs.Acting.{actor_of, is_ended, stage_of}
+use Rattle.ea_sched.specs.Acting.{actor_of, is_ended}
 use Rattle.ea_sched.specs.Running.{LeadsTo, SharesAt, Stands, StandsAt, Took, alone_in, work_left}
 use Rattle.ea_sched.proofs.Doing.{stage-ends, stage-goes}
 use Rattle.ea_sched.specs.Steps.{Ready, Stepped}
