@@ -19,6 +19,7 @@ pub mod Walks
 pub mod Machine
 pub mod Guards
 pub mod Completion
+pub mod Courses
 pub mod Outcome
 pub mod Sums
 pub mod Contents

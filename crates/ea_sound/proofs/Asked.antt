@@ -15,7 +15,7 @@ use Rattle.ea_machine.specs.declared.nodes.Named.{Named}
 use Rattle.ea_machine.specs.Machine.{IsReached}
 use Rattle.ea_machine.specs.NamePlaces.{name_of}
 use Rattle.ea_machine.specs.Nodes.{named_at, spot_named}
-use Rattle.ea_machine.specs.Setup.{Setup, setup_of}
+use Rattle.ea_machine.specs.Setup.{Setup, setup_of, text_for}
 use Rattle.ea_machine.specs.State.{State}
 use Rattle.ea_sound.specs.Present.{Rule}
 use Rattle.ea_sound.proofs.Protocols.{rule-run}
@@ -27,6 +27,16 @@ all-greatest (o ∷ ops) =
     All-cons (λ p. greatest_in p ≤ greatest_of (o ∷ ops)) o ops (omega arith)
     (All-weaker (λ p. greatest_in p ≤ greatest_of ops) (λ p. greatest_in p ≤ greatest_of (o ∷ ops))
     (λ p le. omega arith) ops (all-greatest ops))
+
+module _ (c : Config) (t : Trace) (made : IsValidTrace c.schedulers t) where
+  -- each operation has names up to the greatest one of the trace
+  all-upto : All (λ o. greatest_in o ≤ t.greatest) (operations_of t)
+  all-upto = subst (λ n. All (λ o. greatest_in o ≤ n) (operations_of t)) (sym made.greatest)
+      (all-greatest (operations_of t))
+
+  -- so has each one of a scheduler
+  pub text-upto : (me : ℕ) → All (λ o. greatest_in o ≤ t.greatest) (text_for (texts_of t) me)
+  text-upto me = text-All (λ o. greatest_in o ≤ t.greatest) (texts_of t) me all-upto
 
 module _ (c : Config) (t : Trace) (valid : IsValidConfig c)
     (made : IsValidTrace c.schedulers t) (w : State) (reached : IsReached (setup_of c t) w) where
@@ -48,9 +58,7 @@ module _ (c : Config) (t : Trace) (valid : IsValidConfig c)
     pub first-operation : IsOperation c.schedulers o × (greatest_in o ≤ t.greatest)
     first-operation = (
       first-All (IsOperation c.schedulers) made.operations,
-      first-All (λ p. greatest_in p ≤ t.greatest)
-          (subst (λ n. All (λ p. greatest_in p ≤ n) (operations_of t)) (sym made.greatest)
-          (all-greatest (operations_of t))),
+      first-All (λ p. greatest_in p ≤ t.greatest) (all-upto c t made),
     )
 
 -- a name whose spot is found is held with it, and one whose spot isn't found isn't held

@@ -23,7 +23,7 @@ use Rattle.ea_machine.specs.declared.tasks.Task.TheVariants.{Freeing, Moving}
 use Rattle.ea_machine.specs.declared.tasks.Why.{Why}
 use Rattle.ea_machine.specs.declared.tasks.Why.TheVariants.{For}
 use Rattle.ea_machine.specs.Actor.{Actor, Giving, Linking, Pushing, Route, Routed, Stage, Taking}
-use Rattle.ea_machine.specs.Alike.{HasNoAlike, IsNode}
+use Rattle.ea_machine.specs.Alike.{HasNoAlike, IsNode, IsSpot}
 use Rattle.ea_machine.specs.Contents.{seats}
 use Rattle.ea_machine.specs.Guards.{IsUnlinkedAt}
 use Rattle.ea_machine.specs.Machine.{IsReached}
@@ -37,12 +37,14 @@ use Rattle.ea_sound.specs.Present.{Fits, OfTask, Rule}
 use Rattle.ea_sound.specs.Rule.{names_of}
 use Rattle.ea_sound.proofs.Asked.{first-operation, reached-rule}
 use Rattle.ea_sound.proofs.Created.{scheduler-number}
+use Rattle.ea_sound.proofs.Hits.{stands-allocated}
 use Rattle.ea_sound.proofs.KeyedWeights.{sum-item}
 use Rattle.ea_sound.proofs.NodeSeats.{pushing-returning, returning-scheduler}
 use Rattle.ea_sound.proofs.NodeSpots.{linking-unlinked, pushing-no_alike}
 use Rattle.ea_sound.proofs.Numbered.{scheduler-seat}
 use Rattle.ea_sound.proofs.RowLeaves.{no_first}
 use Rattle.ea_sound.proofs.SoundRanges.{number-scheduler}
+use Rattle.ea_sound.proofs.SpotRanges.{standing-spot}
 use Rattle.ea_sound.proofs.StandingNodes.{IsAt, all-parts, at-name, at-number, pushing-at, queue-at, rest-at}
 use Rattle.ea_sound.proofs.Totals.{total-part}
 use Rattle.ea_sound.proofs.TraceNames.{IsNameOf, name-range}
@@ -83,20 +85,30 @@ module _ (c : Config) (t : Trace) (valid : IsValidConfig c)
         one-itself x.name,
       )))
 
+  -- and their blocks lie at spots
+  pub given-spots : All (λ x. IsSpot c.schedulers x.spot) w.shared.given
+  given-spots = all-parts (λ x. IsSpot c.schedulers x.spot) w.shared.given
+      (λ x part. standing-spot e w rule x.name x.spot (λ f. omega (
+        arith,
+        part (of_named f),
+        rule.kept.names.balance f,
+      )))
+
   -- nodes in queues and in walks
   at-node : (i : ℕ) (node : Node) → IsAt e w i node → IsNode c.schedulers t.greatest node
   at-node i (Block n p) at =
-      name-range c t valid made w reached n (at-name e w rule.kept i n p at)
+      let name = name-range c t valid made w reached n (at-name e w rule.kept i n p at) in
+      (name.0, name.1, standing-spot e w rule n p at.names)
   at-node i (Carrier d) at =
       let number = at-number e w rule.kept i d at in (number.0, omega (arith, number.1))
 
-  queue-nodes : (i : ℕ)
+  pub queue-nodes : (i : ℕ)
       → All (λ m. IsNode c.schedulers t.greatest m.node) (w.shared.queues i)
   queue-nodes i = All-weaker (λ m. IsAt e w i m.node)
       (λ m. IsNode c.schedulers t.greatest m.node) (λ m. at-node i m.node) (w.shared.queues i)
       (queue-at e w rule i)
 
-  rest-nodes : (i : ℕ)
+  pub rest-nodes : (i : ℕ)
       → All (λ m. IsNode c.schedulers t.greatest m.node) (w.shared.rests i)
   rest-nodes i = All-weaker (λ m. IsAt e w i m.node)
       (λ m. IsNode c.schedulers t.greatest m.node) (λ m. at-node i m.node) (w.shared.rests i)
@@ -217,6 +229,13 @@ module _ (c : Config) (t : Trace) (valid : IsValidConfig c)
       give-name =
           let is = first-operation c t valid made w reached me (op.Give given.name to) give-first.0
           give-first.1 in (is.0.0.0, is.1)
+
+      pub give-spot : IsSpot c.schedulers given.spot
+      give-spot = standing-spot e w rule given.name given.spot (λ f. omega (
+        arith,
+        sum-item name_of (of_named f) given.name given a.held (fits (Giving given to) now).0,
+        stands-allocated e w me seat rule.kept a refl f,
+      ))
 
       pub give-free : spot_named given.name w.shared.given ≡ None
       give-free = held-given given.name given (fits (Giving given to) now).0

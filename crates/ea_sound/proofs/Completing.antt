@@ -25,6 +25,7 @@ use Rattle.ea_machine.specs.Turns.{advanced}
 use Rattle.ea_machine.specs.Walks.{begun, with_passed}
 use Rattle.ea_sound.specs.Present.{Fits, FitsRoute, Rule}
 use Rattle.ea_sound.proofs.Ending.{created-less, fetched-less, logged-less, onward-less, searched-less, task-route, took-less, walk-route, walk_rows, whole_rows, worked-less}
+use Rattle.ea_sound.proofs.OtherRows.{linked-rest}
 use Rattle.ea_sound.proofs.Totals.{put-here, put-other}
 use Rattle.ea_sound.proofs.TurnLists.{by-turns, ended-or, run-append, run-snoc, step-ended, step-mine, step-other, step-shared}
 
@@ -33,23 +34,19 @@ abbrev pub PushesElsewhere : ℕ → Stage → Type 0
 PushesElsewhere s (Routed (Pushing node to) why gone) = to ≢ s
 PushesElsewhere s stage = Unit {0}
 
+-- to link a node leaves as many
+pub linked-length : (n : Node) (ms : List Mark) → length (link_in n ms) ≡ length ms
+linked-length n [] = refl
+linked-length n (m ∷ ms) = ap suc (linked-length n ms)
+
+pub linked-marks : (n : Node) (to me : ℕ) (f : ℕ → List Mark)
+    → length (put f to (link_in n (f to)) me) ≡ length (f me)
+linked-marks = linked-rest (λ ms. length ms) linked-length
+
 module _ (e : Setup) (me : ℕ) where
   -- the marks in my queue and in what is left of my walk
   abbrev pub marks : Shared → ℕ
   marks s = 9 * length (s.queues me) + 9 * length (s.rests me)
-
-  link-marks : (n : Node) (ms : List Mark) → length (link_in n ms) ≡ length ms
-  link-marks n [] = refl
-  link-marks n (m ∷ ms) = ap suc (link-marks n ms)
-
-  linked-marks : (n : Node) (to : ℕ) (f : ℕ → List Mark)
-      → length (put f to (link_in n (f to)) me) ≡ length (f me)
-  linked-marks n to f =
-      elim (cases_eq me to) [
-        | inl q ↦ ap length (put-here f to (link_in n (f to)) me q) ∙ link-marks n (f to)
-            ∙ ap (λ k. length (f k)) (sym q)
-        | inr ne ↦ ap length (put-other f to (link_in n (f to)) me ne)
-      ]
 
   moved-marks : (r : Answer) (c : ℕ) (p : CarrierAt) (s : Shared)
       → marks (moved_if r c p s) ≡ marks s
@@ -79,7 +76,7 @@ module _ (e : Setup) (me : ℕ) where
     ap length (put-other s.queues to (pushed node ∷ s.queues to) me (λ q. f (sym q))),
   )
   route-marks (Linking node to) y g s f =
-      omega (arith, linked-marks node to s.queues, linked-marks node to s.rests)
+      omega (arith, linked-marks node to me s.queues, linked-marks node to me s.rests)
 
   pub plain-marks : (next : Option Node) (st : Stage) (s : Shared) → PushesElsewhere me st
       → st ≢ Begin → marks (effect me (wants_at next st) s) ≡ marks s

@@ -112,8 +112,16 @@ pub mod SharedRows
 pub mod Ending
 pub mod PresentStep
 pub mod Completing
+pub mod FewNodes
+pub mod Takings
 pub mod Asked
 pub mod TraceNames
 pub mod StandingNodes
+pub mod SpotRanges
 pub mod Calls
 pub mod OffWalks
+pub mod StandingOnce
+pub mod Wanting
+pub mod Olders
+pub mod OtherTurns
+pub mod OwnWork

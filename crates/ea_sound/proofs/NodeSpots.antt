@@ -84,7 +84,7 @@ stands-there node to (m ∷ ms) some =
           (is-pushed node to m.node m.linked (omega (arith, z)))
           (Contains-append_left (m ∷ []) ms m (Contains-push [] m))
 
-most-one : (c : ℕ) (p : CarrierAt) → returning_at (anywhere c) c p ≤ 1
+pub most-one : (c : ℕ) (p : CarrierAt) → returning_at (anywhere c) c p ≤ 1
 most-one c Absent = omega arith
 most-one c (Employed i) = omega arith
 most-one c (Pooled i g x) = omega arith

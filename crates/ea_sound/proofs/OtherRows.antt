@@ -109,55 +109,62 @@ row-moves me (Give g) s d = inl refl
 row-moves me (TakeTry name) s d = inl refl
 row-moves me Nothing s d = inl refl
 
+-- what stays of a list where a node is linked stays of another's walk
+module _ {A : Type 0} (f : List Mark → A)
+    (keeps : (node : Node) (ms : List Mark) → f (link_in node ms) ≡ f ms) where
+  pub linked-rest : (node : Node) (to i : ℕ) (m : ℕ → List Mark)
+      → f (put m to (link_in node (m to)) i) ≡ f (m i)
+  linked-rest node to i m = elim (cases_eq i to) [
+    | inl s ↦ ap f (put-here m to (link_in node (m to)) i s) ∙ keeps node (m to)
+        ∙ sym (ap (λ j. f (m j)) s)
+    | inr other ↦ ap f (put-other m to (link_in node (m to)) i other)
+  ]
+
+  tried-rests : (c i : ℕ) (p : CarrierAt) (r : Answer) (s : Shared)
+      → f ((moved_if r c p s).rests i) ≡ f (s.rests i)
+  tried-rests c i p (Won x) s = refl
+  tried-rests c i p (Lost v) s = refl
+  tried-rests c i p Done s = refl
+  tried-rests c i p (Head n) s = refl
+  tried-rests c i p Rests s = refl
+  tried-rests c i p (Passes n) s = refl
+  tried-rests c i p (Saw v) s = refl
+  tried-rests c i p (Home x) s = refl
+  tried-rests c i p (Got o) s = refl
+
+  pub rests-kept : (me : ℕ) (row : Row) (s : Shared) (i : ℕ) → i ≢ me
+      → f ((effect me row s).rests i) ≡ f (s.rests i)
+  unfolding effect
+  rests-kept me TakeAll s i other = ap f (put-other s.rests me (s.queues me) i other)
+  rests-kept me TakeLink s i other =
+      ap f (put-other s.rests me (rest_after (s.rests me)) i other)
+  rests-kept me (Look c) s i other = refl
+  rests-kept me (Push node to) s i other = refl
+  rests-kept me (Link node to) s i other = linked-rest node to i s.rests
+  rests-kept me (BusyTry c seen) s i other =
+      tried-rests c i (Busy me) (tried_at seen (s.places c)) s
+  rests-kept me (Settle x) s i other = refl
+  rests-kept me (Abandon x) s i other = refl
+  rests-kept me (FetchTry c seen) s i other =
+      tried-rests c i (Employed me) (tried_at seen (s.places c)) s
+  rests-kept me (Create c) s i other = refl
+  rests-kept me (SendHome x) s i other = refl
+  rests-kept me (Clear c) s i other = refl
+  rests-kept me (Give g) s i other = refl
+  rests-kept me (TakeTry name) s i other = refl
+  rests-kept me Nothing s i other = refl
+
 -- to link a node leaves the first one
-linked-first : (node : Node) (ms : List Mark) → first_node (link_in node ms) ≡ first_node ms
+pub linked-first : (node : Node) (ms : List Mark) → first_node (link_in node ms) ≡ first_node ms
 linked-first node [] = refl
 linked-first node (m ∷ ms) =
     cond_both (same_node node m.node) (record m { linked = true }) m
     (λ x. first_node (x ∷ link_in node ms) ≡ first_node (m ∷ ms)) (λ _. refl) (λ _. refl)
 
-pub linked-rest : (node : Node) (to i : ℕ) (m : ℕ → List Mark)
-    → first_node (put m to (link_in node (m to)) i) ≡ first_node (m i)
-linked-rest node to i m = elim (cases_eq i to) [
-  | inl s ↦ ap first_node (put-here m to (link_in node (m to)) i s) ∙ linked-first node (m to)
-      ∙ sym (ap (λ j. first_node (m j)) s)
-  | inr other ↦ ap first_node (put-other m to (link_in node (m to)) i other)
-]
-
-tried-rests : (c i : ℕ) (p : CarrierAt) (r : Answer) (s : Shared)
-    → first_node ((moved_if r c p s).rests i) ≡ first_node (s.rests i)
-tried-rests c i p (Won x) s = refl
-tried-rests c i p (Lost v) s = refl
-tried-rests c i p Done s = refl
-tried-rests c i p (Head n) s = refl
-tried-rests c i p Rests s = refl
-tried-rests c i p (Passes n) s = refl
-tried-rests c i p (Saw v) s = refl
-tried-rests c i p (Home x) s = refl
-tried-rests c i p (Got o) s = refl
-
--- the next node of another's walk stays
+-- so the next node of another's walk stays
 pub row-rests : (me : ℕ) (row : Row) (s : Shared) (i : ℕ) → i ≢ me
     → first_node ((effect me row s).rests i) ≡ first_node (s.rests i)
-unfolding effect
-row-rests me TakeAll s i other = ap first_node (put-other s.rests me (s.queues me) i other)
-row-rests me TakeLink s i other =
-    ap first_node (put-other s.rests me (rest_after (s.rests me)) i other)
-row-rests me (Look c) s i other = refl
-row-rests me (Push node to) s i other = refl
-row-rests me (Link node to) s i other = linked-rest node to i s.rests
-row-rests me (BusyTry c seen) s i other =
-    tried-rests c i (Busy me) (tried_at seen (s.places c)) s
-row-rests me (Settle x) s i other = refl
-row-rests me (Abandon x) s i other = refl
-row-rests me (FetchTry c seen) s i other =
-    tried-rests c i (Employed me) (tried_at seen (s.places c)) s
-row-rests me (Create c) s i other = refl
-row-rests me (SendHome x) s i other = refl
-row-rests me (Clear c) s i other = refl
-row-rests me (Give g) s i other = refl
-row-rests me (TakeTry name) s i other = refl
-row-rests me Nothing s i other = refl
+row-rests = rests-kept first_node linked-first
 
 -- who tries finds a carrier that is there
 pub tried-there : (i : ℕ) (seen : OwnerWord) (p : CarrierAt)

@@ -16,6 +16,7 @@ use Rattle.ea_machine.specs.Contents.{home_sum, slots}
 use Rattle.ea_machine.specs.Machine.{wants_on}
 use Rattle.ea_machine.specs.Names.{of_hand, only_at, unplaced_by}
 use Rattle.ea_machine.specs.declared.nodes.Named.{Named}
+use Rattle.ea_machine.specs.Nodes.{first_node}
 use Rattle.ea_machine.specs.Owners.{CarrierAt, Absent, Employed, Pooled, Busy, Returning, owner_of, same_word, word_of}
 use Rattle.ea_machine.specs.Releases.{Turned, employed_by, looked, pooled_by, sent_to, settled, tried, turned}
 use Rattle.ea_machine.specs.Setup.{Setup, is_scheduler, migration}
@@ -31,7 +32,7 @@ use Rattle.ea_sound.proofs.Employers.{busy-scheduler, employed-scheduler, there-
 use Rattle.ea_sound.proofs.FewBlocks.{Counting, blocks_named, released-fewer}
 use Rattle.ea_sound.proofs.Hits.{found-belongs}
 use Rattle.ea_sound.proofs.Homes.{pooled-slot}
-use Rattle.ea_sound.proofs.OtherRows.{linked-rest, tried-there}
+use Rattle.ea_sound.proofs.OtherRows.{linked-first, linked-rest, tried-there}
 use Rattle.ea_sound.proofs.ReleaseRoutes.{IsEmptied, IsOwn, here-good, leaving-good, sent-good}
 use Rattle.ea_sound.proofs.RouteLeaves.{not_seen}
 use Rattle.ea_sound.proofs.RowCores.{bound_of, core, disowned-bare, hand_named, home_of, own, put-more, seat, still}
@@ -281,7 +282,8 @@ module _ (e : Setup) (w : State) (me : ℕ) (is : is_scheduler e me ≡ true) (r
   turned-good (Linking node to) now = (
     record {
       core = core e w me is rule (Routed (Linking node to) y g) now _ (λ n. 0)
-          (rule.present.walking me ∙ sym (linked-rest node to me w.shared.rests))
+          (rule.present.walking me
+          ∙ sym (linked-rest first_node linked-first node to me w.shared.rests))
           (λ n. omega arith);
       own = own e w me is rule;
     },

@@ -14,7 +14,7 @@ use Rattle.ea_sound.proofs.HeldNames.{let_go-rising, times_held}
 use Rattle.ea_sound.proofs.KeyedWeights.{times-others}
 use Rattle.ea_sound.proofs.Totals.{put-here, put-other}
 
-tried-queues : (r : Answer) (c i : ℕ) (p : CarrierAt) (s : Shared)
+pub tried-queues : (r : Answer) (c i : ℕ) (p : CarrierAt) (s : Shared)
     → (moved_if r c p s).queues i ≡ s.queues i
 tried-queues (Won x) c i p s = refl
 tried-queues (Lost v) c i p s = refl

@@ -27,7 +27,7 @@ use Rattle.ea_sound.proofs.OwnEntries.{numbered-scheduler}
 use Rattle.ea_sound.proofs.Totals.{total-none, total-part}
 
 -- where one weight is nowhere, another isn't
-everywhere-none : (e : Setup) (w : State) (h f : Content → ℕ)
+pub everywhere-none : (e : Setup) (w : State) (h f : Content → ℕ)
     → ((x : Content) → h x ≡ 0 → f x ≡ 0) → sum_everywhere e h w ≡ 0 → sum_everywhere e f w ≡ 0
 everywhere-none e w h f none z = omega (
   arith,

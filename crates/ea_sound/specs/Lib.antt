@@ -6,3 +6,5 @@ pub mod Moments
 pub mod Here
 pub mod Leaves
 pub mod Steady
+pub mod Standing
+pub mod OwnWork
