@@ -1,1 +1,2 @@
 pub mod NamesTable
+pub mod GroupedNames

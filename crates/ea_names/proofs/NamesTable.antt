@@ -8,14 +8,14 @@ use Rattle.ea_model.specs.declared.carriers.Spot.{Spot}
 use Rattle.ea_model.proofs.Rising.{entered_here, entered_past, item_at-gone, item_here, item_past, without_here, without_none, without_past}
 use Rattle.ea_machine.specs.declared.nodes.Named.{Named}
 use Rattle.ea_machine.specs.NamePlaces.{name_of}
-use Rattle.ea_machine.specs.Nodes.{spot_named, with_name, without_name}
+use Rattle.ea_machine.specs.Nodes.{named_at, spot_named, with_name, without_name}
 use Rattle.ea_names.specs.Holding.{held_from}
 
 abbrev held_at : ℕ → Spot → Named
 held_at name spot = record { name = name; spot = spot }
 
 -- no name of a table comes before its first
-held-after : (first : ℕ) (spots : List (Option Spot))
+pub held-after : (first : ℕ) (spots : List (Option Spot))
     → All (λ x. first ≤ x.name) (held_from first spots)
 held-after first [] = All-nil (λ x. first ≤ x.name)
 held-after first (None ∷ spots) = All-weaker (λ x. first + 1 ≤ x.name) (λ x. first ≤ x.name)
@@ -31,29 +31,30 @@ held-other : (name first : ℕ) (spots : List (Option Spot)) → name < first
 held-other name first spots lt = All-weaker (λ x. first ≤ x.name) (λ x. x.name ≢ name)
     (λ x le same. omega arith) (held_from first spots) (held-after first spots)
 
-missing : (name : ℕ) (names : List Named) → All (λ x. x.name ≢ name) names
-    → spot_named name names ≡ None
+pub missing : (name : ℕ) (names : List Named) → All (λ x. x.name ≢ name) names
+    → named_at name names ≡ None
 missing name names other =
-    ap (spot_named name) (sym (without_none name_of name names other))
-    ∙ ap (option_map (λ n. n.spot)) (item_at-gone name_of name names)
+    ap (named_at name) (sym (without_none name_of name names other))
+    ∙ item_at-gone name_of name names
 
 -- what stands at the place of a name is where its block begins
 pub spot-held : (name first i : ℕ) (spots : List (Option Spot)) → name ≡ first + i
-    → i < length spots → spot_named name (held_from first spots) ≡ get_or spots i None
-spot-held name first i [] e lt = absurd (omega arith)
-spot-held name first zero (None ∷ spots) e lt = missing name (held_from (first + 1) spots)
-    (held-other name (first + 1) spots (omega arith))
-spot-held name first zero (Some spot ∷ spots) e lt = ap (option_map (λ n. n.spot))
+    → spot_named name (held_from first spots) ≡ get_or spots i None
+spot-held name first i [] e = refl
+spot-held name first zero (None ∷ spots) e = ap (option_map (λ (x : Named). x.spot))
+    (missing name (held_from (first + 1) spots)
+    (held-other name (first + 1) spots (omega arith)))
+spot-held name first zero (Some spot ∷ spots) e = ap (option_map (λ n. n.spot))
     (item_here name_of name (held_at first spot) (held_from (first + 1) spots) (omega arith))
-spot-held name first (suc i) (None ∷ spots) e lt =
-    spot-held name (first + 1) i spots (omega arith) (omega arith)
-spot-held name first (suc i) (Some spot ∷ spots) e lt =
+spot-held name first (suc i) (None ∷ spots) e =
+    spot-held name (first + 1) i spots (omega arith)
+spot-held name first (suc i) (Some spot ∷ spots) e =
     ap (option_map (λ n. n.spot))
     (item_past name_of name (held_at first spot) (held_from (first + 1) spots)
     (λ same. omega arith))
-    ∙ spot-held name (first + 1) i spots (omega arith) (omega arith)
+    ∙ spot-held name (first + 1) i spots (omega arith)
 
-entered-first : (x : Named) (names : List Named) → All (λ y. x.name < y.name) names
+pub entered-first : (x : Named) (names : List Named) → All (λ y. x.name < y.name) names
     → with_name x names ≡ x ∷ names
 entered-first x [] after = refl
 entered-first x (y ∷ names) after =
@@ -82,21 +83,20 @@ hold-held name first (suc i) spot (Some there ∷ spots) e lt free =
 
 -- emptying the place of a name takes the name out
 pub let-go-held : (name first i : ℕ) (spots : List (Option Spot)) → name ≡ first + i
-    → i < length spots
     → held_from first (set spots i None) ≡ without_name name (held_from first spots)
-let-go-held name first i [] e lt = absurd (omega arith)
-let-go-held name first zero (None ∷ spots) e lt =
+let-go-held name first i [] e = refl
+let-go-held name first zero (None ∷ spots) e =
     sym (without_none name_of name (held_from (first + 1) spots)
     (held-other name (first + 1) spots (omega arith)))
-let-go-held name first zero (Some spot ∷ spots) e lt =
+let-go-held name first zero (Some spot ∷ spots) e =
     sym (without_here name_of name (held_at first spot) (held_from (first + 1) spots) (omega arith)
     ∙ without_none name_of name (held_from (first + 1) spots)
     (held-other name (first + 1) spots (omega arith)))
-let-go-held name first (suc i) (None ∷ spots) e lt =
-    let-go-held name (first + 1) i spots (omega arith) (omega arith)
-let-go-held name first (suc i) (Some spot ∷ spots) e lt =
+let-go-held name first (suc i) (None ∷ spots) e =
+    let-go-held name (first + 1) i spots (omega arith)
+let-go-held name first (suc i) (Some spot ∷ spots) e =
     ap (λ names. held_at first spot ∷ names)
-    (let-go-held name (first + 1) i spots (omega arith) (omega arith))
+    (let-go-held name (first + 1) i spots (omega arith))
     ∙ sym (without_past name_of name (held_at first spot) (held_from (first + 1) spots)
     (λ same. omega arith))
 

@@ -1,9 +1,12 @@
-//! A table of names with the spots of their blocks. There is a place for each name up to the
-//! greatest of a trace, so no call but `new` takes memory, and each takes constant time.
+//! A table of names with the spots of their blocks. Places are made for names in groups, each of
+//! 512 names that follow each other; holding a name that has a place takes no memory. Each call
+//! takes constant time, but for those that make a table or the places of a group.
 #![tactic(auto)]
 
+mod groups;
 mod names;
 #[cfg(test)]
 mod tests;
 
+pub use groups::GROUP;
 pub use names::Names;

@@ -1,5 +1,5 @@
 //! Names that are held and let go.
-use crate::Names;
+use crate::{GROUP, Names};
 use ea_model::Spot;
 use std::test::Fail;
 
@@ -15,7 +15,7 @@ const SECOND: Spot = Spot {
 
 #[test]
 fn a_held_name_has_its_spot_until_it_is_let_go(rt: HostRuntime) -> Result<(), Fail> {
-    let mut names = Names::new(rt.alloc(), 3)?;
+    let mut names = Names::whole(rt.alloc(), 3)?;
     assert_eq!(rt; names.spot_of(2), None);
 
     names.hold(2, FIRST);
@@ -26,12 +26,7 @@ fn a_held_name_has_its_spot_until_it_is_let_go(rt: HostRuntime) -> Result<(), Fa
     // Two names may have one spot, and the greatest name has a place.
     names.hold(3, FIRST);
     names.hold(1, SECOND);
-    for (place, spot) in [None, Some(SECOND), Some(FIRST), Some(FIRST)]
-        .into_iter()
-        .enumerate()
-    {
-        assert_eq!(rt; names.spots().get(place).copied(), Some(spot));
-    }
+    assert_eq!(rt; names.spot_of(3), Some(FIRST));
 
     // A name that isn't held is let go without effect.
     names.let_go(2);
@@ -43,5 +38,40 @@ fn a_held_name_has_its_spot_until_it_is_let_go(rt: HostRuntime) -> Result<(), Fa
     // A name that was let go may be held anew.
     names.hold(2, SECOND);
     assert_eq!(rt; names.spot_of(2), Some(SECOND));
+    Ok(())
+}
+
+#[test]
+fn places_are_made_group_by_group(rt: HostRuntime) -> Result<(), Fail> {
+    let mut names = Names::new(rt.alloc(), 3 * GROUP)?;
+    for group in names.groups() {
+        assert_eq!(rt; group.len(), 0);
+    }
+    names.make_place(rt.alloc(), GROUP + 3)?;
+    names.hold(GROUP + 3, FIRST);
+
+    // The others of its group have places with it. A place that is made again keeps its name.
+    names.hold(2 * GROUP - 1, SECOND);
+    names.make_place(rt.alloc(), GROUP)?;
+    assert_eq!(rt; names.spot_of(GROUP + 3), Some(FIRST));
+    assert_eq!(rt; names.spot_of(2 * GROUP - 1), Some(SECOND));
+
+    // Names of the groups beside it aren't held, and letting one go changes nothing.
+    assert_eq!(rt; names.spot_of(3), None);
+    assert_eq!(rt; names.spot_of(2 * GROUP + 3), None);
+    names.let_go(3);
+    names.let_go(2 * GROUP + 3);
+    names.make_place(rt.alloc(), 3 * GROUP)?;
+    assert_eq!(rt; names.spot_of(GROUP + 3), Some(FIRST));
+
+    // The walk passes each group, and in it each place.
+    for (group, places) in [0, GROUP, 0, GROUP].into_iter().enumerate() {
+        assert_eq!(rt;
+            names.groups().get(group).map(|g| g.len()),
+            Some(places as usize)
+        );
+    }
+    assert_eq!(rt; names.groups()[1].get(3).copied(), Some(Some(FIRST)));
+    assert_eq!(rt; names.groups()[3].get(0).copied(), Some(None));
     Ok(())
 }

@@ -1,57 +1,16 @@
 -- Nodes of one name, and how many nodes there is room for.
-use Rattle.std.proofs.Common.{◌≡◌, ℕ, ◌+◌, ◌*◌, ◌<◌, ◌≤◌, Bool, true, false, List, [], ◌∷◌, length, refl, ap, inl, inr, arith}
-use Rattle.std.specs.Prelude.{All}
+use Rattle.std.proofs.Common.{◌≡◌, ℕ, ◌+◌, ◌*◌, ◌<◌, ◌≤◌, List, [], ◌∷◌, length, refl, inl, inr, arith}
 use Rattle.std.proofs.lemmas.Bool.{cases_lt}
-use Rattle.std.proofs.lemmas.List.Elements.{All-head, All-tail}
 use Rattle.ea_model.specs.declared.carriers.Spot.{Spot}
 use Rattle.ea_model.specs.declared.units.TheConstants.{NUMBERS}
+use Rattle.ea_machine.proofs.AlikeNodes.{alike-itself, none-alike}
 use Rattle.ea_machine.specs.declared.nodes.Node.{Node}
 use Rattle.ea_machine.specs.declared.nodes.Node.TheVariants.{Block, Carrier}
-use Rattle.ea_machine.specs.Nodes.{Mark, same_node}
+use Rattle.ea_machine.specs.Nodes.{Mark}
 use Rattle.ea_machine.specs.Sums.{one_if}
-use Rattle.ea_machine.specs.Alike.{are_alike, IsNode}
-use Rattle.ea_queues.specs.Chains.{HasNone, Queueing, alike_in, count_of, marks_of, number_of, standing_in}
+use Rattle.ea_machine.specs.Alike.{IsNode, alike_in, are_alike}
+use Rattle.ea_queues.specs.Chains.{HasNone, Queueing, count_of, marks_of, number_of, standing_in}
 use Rattle.ea_queues.proofs.ListSums.{sum-zero, upto, upto-zero, upto-add, upto-most, upto-one}
-
-pub alike-itself : (x : Node) → one_if (are_alike x x) ≡ 1
-alike-itself (Block n p) = grind arith
-alike-itself (Carrier c) = grind arith
-
-pub alike-equal : (x y : Node) → are_alike x y ≡ true
-    → (z : Node) → are_alike x z ≡ are_alike y z
-alike-equal (Block n p) (Block m q) same (Block l r) = grind arith
-alike-equal (Block n p) (Block m q) same (Carrier d) = refl
-alike-equal (Block n p) (Carrier d) same z = absurd cc
-alike-equal (Carrier c) (Block m q) same z = absurd cc
-alike-equal (Carrier c) (Carrier d) same (Block l r) = refl
-alike-equal (Carrier c) (Carrier d) same (Carrier e) = grind arith
-
--- nodes that aren't alike aren't the same
-pub same-alike : (x y : Node) → are_alike x y ≡ false → same_node x y ≡ false
-same-alike (Block n p) (Block m q) other = grind arith
-same-alike (Block n p) (Carrier d) other = refl
-same-alike (Carrier c) (Block m q) other = refl
-same-alike (Carrier c) (Carrier d) other = other
-
-pub same-itself : (x : Node) → same_node x x ≡ true
-same-itself (Block n p) = grind arith
-same-itself (Carrier c) = grind arith
-
--- whether two nodes are alike, by how many that counts for
-pub one-none : (b : Bool) → one_if b ≡ 0 → b ≡ false
-one-none true z = absurd (omega (arith, z))
-one-none false z = refl
-
-pub one-true : (b : Bool) → one_if b ≡ 1 → b ≡ true
-one-true true o = refl
-one-true false o = absurd (omega (arith, o))
-
-none-alike : (x : Node) (ms : List Mark) → All (λ m. are_alike x m.node ≡ false) ms
-    → alike_in x ms ≡ 0
-none-alike x [] other = refl
-none-alike x (m ∷ ms) other =
-    let P = λ (m : Mark). are_alike x m.node ≡ false in
-    omega (arith, ap one_if (All-head P m ms other), none-alike x ms (All-tail P m ms other))
 
 -- where none is alike none is counted
 pub none-standing : (x : Node) (s : Queueing) → HasNone x s → standing_in s x ≡ 0

@@ -1,17 +1,16 @@
 -- Chains of nodes, and how they change.
+use Rattle.ea_machine.proofs.AlikeNodes.{alike-append, alike-itself, link-count, link-none, link-there, linked, one-none}
 use Rattle.std.proofs.Common.{◌≡◌, ℕ, zero, suc, ◌+◌, ◌<◌, ◌≤◌, Bool, true, false, List, [], ◌∷◌, ◌++◌, Option, None, Some, length, get_or, map, set, take, drop, replicate, refl, sym, ap, subst, ◌∙◌, arith}
-use Rattle.std.specs.Prelude.{Contains, if◌then◌else◌}
-use Rattle.std.proofs.lemmas.Bool.{cond-false, cond-true}
+use Rattle.std.specs.Prelude.{Contains}
 use Rattle.std.proofs.lemmas.List.{set-get_or}
 use Rattle.ea_machine.specs.declared.nodes.Node.{Node}
-use Rattle.ea_machine.specs.Nodes.{Mark, first_node, link_in, pushed, same_node}
+use Rattle.ea_machine.specs.Nodes.{Mark, first_node, link_in, pushed}
 use Rattle.ea_machine.specs.Rows.{Passes, Rests}
 use Rattle.ea_machine.specs.Table.{link_answer, link_read, rest_after, rest_by}
-use Rattle.ea_machine.specs.Sums.{one_if}
-use Rattle.ea_machine.specs.Alike.{are_alike}
-use Rattle.ea_queues.specs.Chains.{alike_among, alike_in, AreChains, chain, count_of, IsChain, marks_of, number_of}
+use Rattle.ea_machine.specs.Alike.{alike_in, are_alike}
+use Rattle.ea_queues.specs.Chains.{alike_among, AreChains, chain, count_of, IsChain, marks_of, number_of}
 use Rattle.ea_queues.specs.declared.cells.Cell.{Cell}
-use Rattle.ea_queues.proofs.AlikeNodes.{alike-itself, one-none, room, same-alike, same-itself}
+use Rattle.ea_queues.proofs.AlikeNodes.{room}
 use Rattle.ea_queues.proofs.ListSums.{sum-set}
 
 some-is : {A : Type 0} (x y : A) → Some x ≡ Some y → x ≡ y
@@ -168,50 +167,6 @@ module _ (cell : Node → Cell) (node : Node) where
         subst (IsChain cell (cell node).older) (sym after) older,
         λ x. omega (arith, ap (alike_in x) after),
       )
-
-abbrev linked : Node → Mark
-linked node = record { node = node; linked = true }
-
-pub alike-append : (x : Node) (ms ns : List Mark)
-    → alike_in x (ms ++ ns) ≡ alike_in x ms + alike_in x ns
-alike-append x [] ns = omega arith
-alike-append x (m ∷ ms) ns = omega (arith, alike-append x ms ns)
-
--- nodes that are linked are the same nodes
-pub link-count : (x node : Node) (ms : List Mark)
-    → alike_in x (link_in node ms) ≡ alike_in x ms
-link-count x node [] = refl
-link-count x node (m ∷ ms) =
-    omega (arith, either (same_node node m.node), link-count x node ms) where
-      either : (b : Bool) → one_if (are_alike x (if b then record m { linked = true } else m).node)
-          ≡ one_if (are_alike x m.node)
-      either true = refl
-      either false = refl
-
--- where the node isn't, none is linked
-pub link-none : (node : Node) (ms : List Mark) → alike_in node ms ≡ 0 → link_in node ms ≡ ms
-link-none node [] z = refl
-link-none node (m ∷ ms) z =
-    let other = one-none (are_alike node m.node) (omega (arith, z)) in
-    ap (λ (k : Mark). k ∷ link_in node ms)
-    (cond-false (same_node node m.node) (record m { linked = true }) m
-    (same-alike node m.node other))
-    ∙ ap (λ (l : List Mark). m ∷ l) (link-none node ms (omega (arith, z)))
-
--- where it is, once, it is linked
-pub link-there : (node : Node) (newer rest : List Mark) → alike_in node newer ≡ 0
-    → alike_in node rest ≡ 0
-    → link_in node (newer ++ (pushed node ∷ rest)) ≡ newer ++ (linked node ∷ rest)
-link-there node [] rest y z =
-    ap (λ (k : Mark). k ∷ link_in node rest)
-    (cond-true (same_node node node) (linked node) (pushed node) (same-itself node))
-    ∙ ap (λ (l : List Mark). linked node ∷ l) (link-none node rest z)
-link-there node (m ∷ newer) rest y z =
-    let other = one-none (are_alike node m.node) (omega (arith, y)) in
-    ap (λ (k : Mark). k ∷ link_in node (newer ++ (pushed node ∷ rest)))
-    (cond-false (same_node node m.node) (record m { linked = true }) m
-    (same-alike node m.node other))
-    ∙ ap (λ (l : List Mark). m ∷ l) (link-there node newer rest (omega (arith, y)) z)
 
 split-at : (xs : List Mark) (k : ℕ) (x : Mark) → k < length xs → get_or xs k x ≡ x
     → xs ≡ take k xs ++ (x ∷ drop (suc k) xs)

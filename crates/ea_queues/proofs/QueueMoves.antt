@@ -1,4 +1,5 @@
 -- What the tables of queues stand for after a row.
+use Rattle.ea_machine.proofs.AlikeNodes.{alike-equal, alike-itself, one-true}
 use Rattle.std.proofs.Common.{◌≡◌, ◌⊎◌, ℕ, zero, suc, ◌+◌, ◌*◌, ◌<◌, ◌≤◌, Bool, true, false, if◌then◌else◌, List, [], ◌∷◌, Option, None, Some, length, get_or, set, replicate, refl, sym, ap, subst, ◌∙◌, inl, inr, arith}
 use Rattle.std.specs.Prelude.{Contains, ◌==◌}
 use Rattle.std.proofs.Math.Path.{fun_ext}
@@ -11,10 +12,10 @@ use Rattle.ea_machine.specs.Rows.{Passes, Rests}
 use Rattle.ea_machine.specs.Shared.{put}
 use Rattle.ea_machine.specs.Sums.{one_if, sum_over}
 use Rattle.ea_machine.specs.Table.{link_answer, rest_after}
-use Rattle.ea_machine.specs.Alike.{are_alike, IsNode}
-use Rattle.ea_queues.specs.Chains.{alike_among, alike_in, AreChains, cell_at, count_of, HasSameCounts, IsChain, marks_of, Queueing, queueing_of, number_of, StandFor, standing_in}
+use Rattle.ea_machine.specs.Alike.{IsNode, alike_in, are_alike}
+use Rattle.ea_queues.specs.Chains.{alike_among, AreChains, cell_at, count_of, HasSameCounts, IsChain, marks_of, Queueing, queueing_of, number_of, StandFor, standing_in}
 use Rattle.ea_queues.specs.declared.cells.Cell.{Cell}
-use Rattle.ea_queues.proofs.AlikeNodes.{alike-equal, alike-itself, alike-outside, number-in, one-true}
+use Rattle.ea_queues.proofs.AlikeNodes.{alike-outside, number-in}
 use Rattle.ea_queues.proofs.ChainLaws.{chain-at, chain-first, chain-replaced, chain-set, chain-stays, chains-are, chains-length, chains-none, chains-stay, passes-there, rests-there, side-linked, side-one, side-other, side-sum}
 use Rattle.ea_queues.proofs.ListSums.{sum-same, sum-set}
 

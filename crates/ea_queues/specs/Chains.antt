@@ -4,8 +4,8 @@ use Rattle.ea_model.specs.declared.units.TheConstants.{NUMBERS}
 use Rattle.ea_machine.specs.declared.nodes.Node.{Node}
 use Rattle.ea_machine.specs.declared.nodes.Node.TheVariants.{Block, Carrier}
 use Rattle.ea_machine.specs.Nodes.{Mark}
-use Rattle.ea_machine.specs.Sums.{one_if, sum_over}
-use Rattle.ea_machine.specs.Alike.{are_alike}
+use Rattle.ea_machine.specs.Sums.{sum_over}
+use Rattle.ea_machine.specs.Alike.{alike_in, are_alike}
 use Rattle.ea_queues.specs.declared.cells.Cell.{Cell}
 
 -- the number of a node: a block's name, or a carrier's number
@@ -46,10 +46,6 @@ AreChains cell [] [] = Unit {0}
 AreChains cell [] (ms ∷ lists) = ⊥
 AreChains cell (first ∷ firsts) [] = ⊥
 AreChains cell (first ∷ firsts) (ms ∷ lists) = IsChain cell first ms × AreChains cell firsts lists
-
--- how many nodes of that name, or of that carrier, are among these
-abbrev pub alike_in : Node → List Mark → ℕ
-alike_in node marks = sum_over (λ m. one_if (are_alike node m.node)) marks
 
 -- and among those of several lists
 abbrev pub alike_among : Node → List (List Mark) → ℕ

@@ -1,8 +1,9 @@
 -- What the calls of a scheduler on what is shared ask for, and where their answers leave it.
-use Rattle.std.proofs.Common.{◌≡◌, ℕ, zero, suc, ◌*◌, ◌<◌, ◌≤◌, List, [], ◌∷◌, drop, length, refl, sym, ap, ◌∙◌, subst, arith}
+use Rattle.std.proofs.Common.{◌≡◌, ℕ, zero, suc, ◌*◌, ◌<◌, ◌≤◌, true, List, [], ◌∷◌, drop, length, refl, sym, ap, ◌∙◌, subst, arith}
 use Rattle.std.specs.Prelude.{Option, None, Some, IfSome, IsSome}
 use Rattle.ea_model.specs.declared.carriers.Spot.{Spot}
 use Rattle.ea_model.specs.declared.operations.Op.{Op}
+use Rattle.ea_model.specs.declared.operations.Op.TheVariants as op
 use Rattle.ea_model.specs.declared.units.TheConstants.{NUMBERS}
 use Rattle.ea_model.specs.Trace.{IsScheduler}
 use Rattle.ea_model.proofs.Options.{if_some, some_value}
@@ -14,7 +15,7 @@ use Rattle.ea_machine.specs.declared.tasks.Task.{Task}
 use Rattle.ea_machine.specs.declared.tasks.Why.{Why}
 use Rattle.ea_machine.specs.declared.tasks.Why.TheVariants.{Walk, For}
 use Rattle.ea_machine.specs.Actor.{Actor, Begin, Giving, Linking, Pushing, Route, Routed, Stage, Taking}
-use Rattle.ea_machine.specs.Alike.{HasNoAlike, IsNode}
+use Rattle.ea_machine.specs.Alike.{HasNoAlike, IsNode, IsSpot}
 use Rattle.ea_machine.specs.Guards.{IsUnlinkedAt}
 use Rattle.ea_machine.specs.Machine.{after_row, begins, onward, wants_at}
 use Rattle.ea_machine.specs.Nodes.{first_node, spot_named}
@@ -25,6 +26,7 @@ use Rattle.ea_machine.specs.Shared.{Shared}
 use Rattle.ea_machine.specs.Table.{answer}
 use Rattle.ea_machine.specs.Walks.{ready, with_passed, worked_off}
 use Rattle.ea_shared.specs.Calls.{Caller, Did}
+use Rattle.ea_names.specs.Holding.{has_place}
 use Rattle.ea_sound.proofs.Calls as calls
 use Rattle.ea_sched.specs.declared.stage.Stage.TheVariants as stage
 use Rattle.ea_sched.specs.declared.state.Scheduler.{Scheduler}
@@ -33,7 +35,7 @@ use Rattle.ea_sched.specs.Asking.{HasMore, IsFresh, SuitsNext}
 use Rattle.ea_sched.specs.Steps.{DidRow, IsReady}
 use Rattle.ea_sched.specs.Walking.{CanAllGo, worked}
 use Rattle.ea_sched.proofs.Doing.{Answered, answered-so}
-use Rattle.ea_sched.proofs.Suiting.{goes-linked, goes-passed, suits-linked, suits-passed, suits-rests, suits-taken}
+use Rattle.ea_sched.proofs.Suiting.{goes-linked, goes-passed, next-placed, suits-linked, suits-passed, suits-rests, suits-taken}
 
 -- something is left where a first one is
 left-more : {A : Type 0} (k : ℕ) (xs ys : List A) (x : A) → drop k xs ≡ x ∷ ys → k < length xs
@@ -44,7 +46,11 @@ left-more (suc k) (y ∷ xs) ys x e = omega (arith, left-more k xs ys x e)
 
 -- how many schedulers there are, and which name is the greatest, is told by what is shared, too
 pub as-node : {n m k l : ℕ} (node : Node) → n ≡ m → k ≡ l → IsNode m l node → IsNode n k node
-as-node (Block name spot) same greatest is = omega (arith, is, greatest)
+as-node (Block name spot) same greatest is = (
+  is.0,
+  omega (arith, is.1, greatest),
+  (is.2.0, omega (arith, is.2.1, ap (λ n. NUMBERS * n) same), is.2.2, is.2.3),
+)
 as-node (Carrier number) same greatest is =
     (is.0, omega (arith, is, ap (λ n. NUMBERS * n) same))
 
@@ -171,6 +177,10 @@ module _ (s : Scheduler) {shared : Option Shared} {caller : Option Caller}
     give-name = calls.give-name s.config s.trace.now h.config h.trace h.state h.reached me number
         given to (in_state (Giving given to) now)
 
+    pub give-spot : IsSpot s.config.schedulers given.spot
+    give-spot = calls.give-spot s.config s.trace.now h.config h.trace h.state h.reached me number
+        given to (in_state (Giving given to) now)
+
     pub give-fresh : IfSome shared (λ x. spot_named given.name x.given ≡ None)
     give-fresh = told-so (λ x. spot_named given.name x.given ≡ None)
         (calls.give-free s.config s.trace.now h.config h.trace h.state h.reached me number given to
@@ -194,10 +204,17 @@ module _ (s : Scheduler) {shared : Option Shared} {caller : Option Caller}
         number name tries left (in_state (Taking name tries left) now) in
         more _ first.0 first.1
 
+    take-placed : has_place s.names.places name ≡ true
+    take-placed =
+        let first = calls.take-first s.config s.trace.now h.config h.trace h.state h.reached me
+        number name tries left (in_state (Taking name tries left) now) in
+        next-placed s (op.Take name tries) first.0
+        (sym (ap (λ (x : Actor). x.todo) h.actor) ∙ first.1)
+
   -- a row was answered
   module _ {new : Option Shared} {now : Option Caller} where
     in-answered : (row : Row) (got : Answer) → Did me row got shared new caller now
-        → Answered e me a row got shared
+        → Answered e me a row got shared caller now
     in-answered row got did = answered-so s.config s.trace.now me a row got shared new caller now h
         did
 
@@ -226,7 +243,7 @@ module _ (s : Scheduler) {shared : Option Shared} {caller : Option Caller}
         (nodes : List Node) (are : nodes ≡ node ∷ s.passed.nodes) where
       -- and is the oldest one
       module _ (did : Did me TakeLink (Passes None) shared new caller now) where
-        u : Answered e me a TakeLink (Passes None) shared
+        u : Answered e me a TakeLink (Passes None) shared caller now
         u = in-answered TakeLink (Passes None) did
 
         pub passed-can : CanAllGo me s.instance nodes
@@ -275,7 +292,7 @@ module _ (s : Scheduler) {shared : Option Shared} {caller : Option Caller}
         let u = in-answered (TakeTry name) (Got found) did in
         let there = some_value found is in
         record {
-          place = omega (arith, take-name name tries left at, s.names_upto);
+          place = take-placed name tries left at;
           fresh = sym (ap (λ (x : Actor). spot_named name x.held) u.actor)
               ∙ calls.given-held s.config s.trace.now h.config h.trace u.state u.reached me number
               name there.0

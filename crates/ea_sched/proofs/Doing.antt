@@ -14,7 +14,7 @@ use Rattle.ea_machine.specs.Shared.{Shared}
 use Rattle.ea_machine.specs.State.{State}
 use Rattle.ea_machine.specs.Statistics.{observed}
 use Rattle.ea_machine.specs.Table.{answer, effect}
-use Rattle.ea_shared.specs.Calls.{Caller, Did, HasEffect, TookStep}
+use Rattle.ea_shared.specs.Calls.{Caller, Did, HasEffect, TookStep, caller_of}
 use Rattle.ea_sound.proofs.Completing.{reached-step}
 use Rattle.ea_sound.proofs.TurnLists.{step-ended, step-mine, step-shared}
 use Rattle.ea_sched.specs.declared.stage.Stage.{Stage}
@@ -22,7 +22,7 @@ use Rattle.ea_sched.specs.declared.stage.Stage.TheVariants as code
 use Rattle.ea_sched.specs.declared.stage.Route.TheVariants as route
 use Rattle.ea_sched.specs.declared.state.Scheduler.{Scheduler}
 use Rattle.ea_sched.specs.Acting.{actor_of, is_ended, stage_of}
-use Rattle.ea_sched.specs.Steps.{DidRow, IsReady, Ready, Stepped, caller_of}
+use Rattle.ea_sched.specs.Steps.{DidRow, IsReady, Ready, Stepped}
 
 -- what is told is told again
 same-told : {A : Type 0} (o : Option A) (x : A) → IfSome o (λ y. y ≡ x)
@@ -67,14 +67,16 @@ module _ (e : Setup) (w : State) (me : ℕ) (a : Actor) (at : w.actors me ≡ a)
       ∙ ap (λ r. effect me r w.shared) want
 
 -- a reached state in which the scheduler stands so, and the row is answered so; what is shared is
--- as it is told
+-- as it is told, and the caller that is told took its step there
 pub record Answered (e : Setup) (me : ℕ) (a : Actor) (row : Row) (got : Answer)
-    (shared : Option Shared) : Type 0 where
+    (shared : Option Shared) (caller now : Option Caller) : Type 0 where
   pub state : State
   pub reached : IsReached e state
   pub actor : state.actors me ≡ a
   pub answered : got ≡ answer me row state.shared
   pub shares : IfSome shared (λ s. s ≡ state.shared)
+  pub calls : IfSome caller (λ x. (x ≡ caller_of e me state)
+      × (now ≡ Some (caller_of e me (step e state me))))
 
 module _ (c : Config) (t : Trace) (me : ℕ) (a : Actor) where
   abbrev e : Setup
@@ -85,22 +87,24 @@ module _ (c : Config) (t : Trace) (me : ℕ) (a : Actor) where
     -- there is a state in which it is answered so
     pub answered-so : (shared new : Option Shared) (caller now : Option Caller)
         → Ready c t me a shared caller → Did me row got shared new caller now
-        → Answered e me a row got shared
-    answered-so (Some s) new caller now h did = record {
+        → Answered e me a row got shared caller now
+    answered-so (Some s) new None now h did = record {
       state = h.state;
       reached = h.reached;
       actor = h.actor;
       answered = (let effects = did.shared in effects.0) ∙ ap (answer me row) h.shares;
       shares = h.shares;
+      calls = tt;
     }
-    answered-so None new (Some x) now h did =
-        let mine = subst (TookStep me row got now) h.calls did.caller in
+    answered-so shared new (Some x) now h did =
+        let mine = subst (TookStep me row got shared now) h.calls did.caller in
         record {
           state = mine.0;
           reached = mine.1;
-          actor = mine.2;
-          answered = mine.3;
-          shares = tt;
+          actor = sym (ap (λ (y : Caller). y.actor) mine.2) ∙ h.actor;
+          answered = mine.4;
+          shares = mine.3;
+          calls = (h.calls ∙ mine.2, mine.5);
         }
     answered-so None new None now h did = absurd (none-told None None refl refl h.told)
 
@@ -117,14 +121,6 @@ module _ (c : Config) (t : Trace) (me : ℕ) (a : Actor) where
       part w at s new same became = became
           ∙ ap Some (ap (effect me row) same ∙ sym (step-part e w me a at row want goes))
 
-      told : (caller now : Option Caller) → IfSome caller (λ x. x ≡ caller_of e me a)
-          → IfSome caller (TookStep me row got now)
-          → IfSome caller (λ x. now ≡ Some (caller_of e me b))
-      told None now same took = tt
-      told (Some x) now same took =
-          let mine = subst (TookStep me row got now) same took in
-          mine.4 ∙ ap (λ y. Some (caller_of e me y)) (sym (own mine.0 mine.2 mine.3))
-
       pub stepped : (shared new : Option Shared) (caller now : Option Caller)
           → Ready c t me a shared caller → Did me row got shared new caller now
           → Stepped c t me a b shared new caller now
@@ -140,7 +136,7 @@ module _ (c : Config) (t : Trace) (me : ℕ) (a : Actor) where
                 (λ s same effects. (same, part u.state u.actor s new same effects.1))
                 u.shares did.shared;
             shares_untold = did.shared_untold;
-            calls = told caller now h.calls did.caller;
+            calls = u.calls;
             calls_untold = did.caller_untold;
           }
 
@@ -160,10 +156,9 @@ module _ (c : Config) (t : Trace) (me : ℕ) (a : Actor) where
             (λ s. (s ≡ w.shared) × (shared ≡ Some v.shared))) (sym stays)
             (same-told shared w.shared h.shares);
         shares_untold = λ none. none;
-        calls = if_some caller
-            (λ x. (x ≡ caller_of e me a) × (caller ≡ Some (caller_of e me a)))
-            (λ x. caller ≡ Some (caller_of e me a)) (λ x both. both.1)
-            (same-told caller (caller_of e me a) h.calls);
+        calls = subst (λ (v : State). IfSome caller
+            (λ x. (x ≡ caller_of e me w) × (caller ≡ Some (caller_of e me v)))) (sym stays)
+            (same-told caller (caller_of e me w) h.calls);
         calls_untold = λ none. none;
       }
 
@@ -201,9 +196,11 @@ module _ (c : Config) (t : Trace) (me : ℕ) (a b : Actor) (shared new : Option 
   ready-again valid made told o =
       let e = setup_of c t in
       let then = step e o.state me in
-      let mine = caller_of e me b in
+      let mine = caller_of e me then in
       let shares = if_some shared (λ s. (s ≡ o.state.shared) × (new ≡ Some then.shared))
       (λ s. new ≡ Some then.shared) (λ s both. both.1) o.shares in
+      let calls = if_some caller (λ x. (x ≡ caller_of e me o.state) × (now ≡ Some mine))
+      (λ x. now ≡ Some mine) (λ x both. both.1) o.calls in
       record {
         config = valid;
         trace = made;
@@ -211,10 +208,10 @@ module _ (c : Config) (t : Trace) (me : ℕ) (a b : Actor) (shared new : Option 
         reached = reached-step e o.state me o.reached;
         actor = sym o.is;
         shares = told-after shared new then.shared shares o.shares_untold;
-        calls = told-after caller now mine o.calls o.calls_untold;
+        calls = told-after caller now mine calls o.calls_untold;
         told = elim told [
           | inl is ↦ inl (still-told shared new then.shared shares is)
-          | inr is ↦ inr (still-told caller now mine o.calls is)
+          | inr is ↦ inr (still-told caller now mine calls is)
         ];
       }
 

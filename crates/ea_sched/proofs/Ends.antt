@@ -234,13 +234,13 @@ module _ (c : Config) (t : Trace) where
         next : (low k : ℕ) → low + 1 + k ≡ low + suc k
         next low k = omega arith
 
-    pub stand-in : StandIn c t ss (shared_of m) w
+    pub stand-in : StandIn c t ss m.given w
     stand-in = record {
       reached = shares.reached;
       actors = actors_from 1 ss
           (λ k d within. ap w.actors (first k) ∙ (stand.each k d within).actor)
           ∙ ap (λ n. map w.actors (range_with_len 1 n)) stand.all;
-      shares = shares.shares;
+      given = ap (λ s. s.given) shares.shares;
     } where
       first : (k : ℕ) → 1 + k ≡ k + 1
       first k = omega arith

@@ -2,7 +2,6 @@ pub mod Doing
 pub mod Acts
 pub mod Freed
 pub mod Walked
-pub mod HeldSums
 pub mod OutcomeGiven
 pub mod OutcomeSums
 pub mod Paths
@@ -14,3 +13,4 @@ pub mod Suiting
 pub mod Calling
 pub mod Running
 pub mod Ends
+pub mod NamesBrought

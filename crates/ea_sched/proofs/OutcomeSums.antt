@@ -24,7 +24,7 @@ use Rattle.ea_model.specs.Trace.{IsValidTrace, listed, plain_mode}
 use Rattle.ea_machine.specs.Actor.{Actor}
 use Rattle.ea_machine.specs.Outcome.{actors_of, line_of, outcome, present}
 use Rattle.ea_machine.specs.Setup.{Setup, migration, setup_of}
-use Rattle.ea_machine.specs.Shared as shares
+use Rattle.ea_machine.specs.declared.nodes.Named.{Named}
 use Rattle.ea_machine.specs.State.{State}
 use Rattle.ea_machine.specs.Sums.{sum_over}
 use Rattle.ea_sound.specs.Present.{Rule}
@@ -71,8 +71,8 @@ sum_by-flat f g xs =
     ∙ ap (λ h. sum_over h xs) (fun_ext (λ x. sum_by-sum_over f (g x))))
 
 module _ (c : Config) (t : Trace) (valid : IsValidConfig c) (made : IsValidTrace c.schedulers t)
-    (built : is_built_run c t ≡ true) (ss : List Scheduler) (shared : shares.Shared) (w : State)
-    (stand : StandIn c t ss shared w) where
+    (built : is_built_run c t ≡ true) (ss : List Scheduler) (given : List Named) (w : State)
+    (stand : StandIn c t ss given w) where
   abbrev e : Setup
   e = setup_of c t
 
@@ -93,8 +93,8 @@ module _ (c : Config) (t : Trace) (valid : IsValidConfig c) (made : IsValidTrace
   )
 
   -- the names that are given
-  pub are-given : AreGiven t.greatest shared.given
-  are-given = subst (λ (s : shares.Shared). AreGiven t.greatest s.given) (sym stand.shares)
+  pub are-given : AreGiven t.greatest given
+  are-given = subst (AreGiven t.greatest) (sym stand.given)
       (record {
         rising = rule.present.given;
         within = given-range c t valid made w stand.reached;
@@ -131,9 +131,9 @@ module _ (c : Config) (t : Trace) (valid : IsValidConfig c) (made : IsValidTrace
     free-printed : totals.free ≡ sum_employed (λ x. free_units (gaps_of x)) ss
     free-printed = sum-printed (λ x. free_units (gaps_of x))
 
-    live-is : totals.live ≡ live_units ss shared.given
+    live-is : totals.live ≡ live_units ss given
     live-is = live-printed e w rule off ss stand.actors mode
-        ∙ ap (λ (s : shares.Shared). live_units ss s.given) (sym stand.shares)
+        ∙ ap (live_units ss) (sym stand.given)
 
     -- the totals add up
     totals-sum : totals.live + totals.queued + totals.free + totals.header ≡ totals.units
@@ -150,11 +150,11 @@ module _ (c : Config) (t : Trace) (valid : IsValidConfig c) (made : IsValidTrace
         )
 
     -- so they are those of the schedulers
-    pub have-parts : HaveParts (totals_by ss shared.given)
+    pub have-parts : HaveParts (totals_by ss given)
     have-parts =
         omega (arith, carriers-printed, units-printed, free-printed, live-is, totals-sum)
 
-    totals-printed : totals_by ss shared.given ≡ totals
+    totals-printed : totals_by ss given ≡ totals
     totals-printed = same_totals _ _ _ _ _ _ _ _ _ _ _ _
         (sym carriers-printed) (sym units-printed) (sym live-is)
         (omega (arith, carriers-printed, units-printed, free-printed, live-is, totals-sum))
@@ -162,7 +162,7 @@ module _ (c : Config) (t : Trace) (valid : IsValidConfig c) (made : IsValidTrace
 
   module _ (o : Outcome) (logs : map (λ log. log.items) o.logs.items ≡ map (λ s. s.log.items) ss)
       (lines : o.carriers.items ≡ flat_map (λ s. map carrier_line (employed s.instance)) ss)
-      (sums : o.totals ≡ totals_by ss shared.given) (mode : plain_mode o.mode ≡ plain_mode t.mode)
+      (sums : o.totals ≡ totals_by ss given) (mode : plain_mode o.mode ≡ plain_mode t.mode)
     where
       logs-are : listed (map listed (map (λ log. log.items) o.logs.items))
           ≡ listed (map (λ (a : Actor). listed a.log) (actors_of e w))

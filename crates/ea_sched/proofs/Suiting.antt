@@ -3,6 +3,7 @@
 use Rattle.std.proofs.Common.{◌≡◌, ℕ, ◌≤◌, Bool, true, false, List, [], ◌∷◌, drop, refl, sym, ap, ◌∙◌, subst, arith}
 use Rattle.std.specs.Prelude.{◌==◌, Option, None, Some, IfSome, option_map}
 use Rattle.std.proofs.lemmas.Bool.{eqb-true}
+use Rattle.std.proofs.lemmas.List.Elements.{All-drop, All-head}
 use Rattle.ea_model.specs.declared.carriers.Kind.TheVariants.{Single}
 use Rattle.ea_model.specs.declared.carriers.Spot.{Spot}
 use Rattle.ea_model.specs.declared.operations.Op.{Op}
@@ -30,6 +31,7 @@ use Rattle.ea_machine.specs.State.{State}
 use Rattle.ea_machine.specs.Table.{answer, effect}
 use Rattle.ea_machine.specs.Tasks.{carried_by}
 use Rattle.ea_machine.specs.Walks.{with_passed}
+use Rattle.ea_names.specs.Holding.{has_place}
 use Rattle.ea_sound.specs.Leaves.{InWalk}
 use Rattle.ea_sound.specs.Moments.{at}
 use Rattle.ea_sound.proofs.Asked.{first-operation}
@@ -38,6 +40,7 @@ use Rattle.ea_sound.proofs.SoundRanges.{number-scheduler}
 use Rattle.ea_sched.specs.declared.stage.Stage.TheVariants as stage
 use Rattle.ea_sched.specs.declared.state.Scheduler.{Scheduler}
 use Rattle.ea_sched.specs.Acting.{actor_of, setup_for, stage_of}
+use Rattle.ea_sched.specs.Brought.{HavePlaces, is_placed, name_brought}
 use Rattle.ea_sched.specs.Asking.{HasName, IsFresh, IsHere, Moves, Suits, SuitsNext}
 use Rattle.ea_sched.specs.Releasing.{freed_at}
 use Rattle.ea_sched.specs.Walking.{CanAllGo, CanGo, Worked, left_if, worked, worked_if}
@@ -137,6 +140,13 @@ module _ (e : Setup) (v : State) (s : Shared) (me : ℕ) (is : is_scheduler e me
   worked-walks (Carrier d ∷ ns) a walks none = absurd
       (passed-carrier e v s me is off (record a { passed = Carrier d ∷ ns }) walks d ns refl)
 
+-- the name that the next operation of a scheduler brings has a place
+pub next-placed : (s : Scheduler) (o : Op) (ops : List Op) → drop s.done s.text.now ≡ o ∷ ops
+    → is_placed s.names.places (name_brought o) ≡ true
+next-placed s o ops left = All-head (λ p. is_placed s.names.places (name_brought p) ≡ true) o ops
+    (subst (HavePlaces s.names.places) left
+    (All-drop (λ p. is_placed s.names.places (name_brought p) ≡ true) s.done s.text.now s.places))
+
 -- a scheduler that stands so in a reached state
 module _ (s : Scheduler) (valid : IsValidConfig s.config)
     (made : IsValidTrace s.config.schedulers s.trace.now) (w : State)
@@ -181,24 +191,25 @@ module _ (s : Scheduler) (valid : IsValidConfig s.config)
     moves None = tt
     moves (Some x) = λ other need. walk-moves e v part me is off a walks x.spot need other
 
-    is_fresh : (name : ℕ) → name ≤ s.trace.now.greatest → named_at name s.names.held ≡ None
-        → IsFresh s name
-    is_fresh name upto none = record {
-      place = omega (arith, upto, s.names_upto);
+    is_fresh : (name : ℕ) → has_place s.names.places name ≡ true
+        → named_at name s.names.held ≡ None → IsFresh s name
+    is_fresh name place none = record {
+      place = place;
       fresh = ap (option_map (λ (x : Named). x.spot)) none;
     }
 
     suits : (o : Op) (ops : List Op) → drop s.done s.text.now ≡ o ∷ ops
         → IsOperation s.config.schedulers o × (greatest_in o ≤ s.trace.now.greatest) → Suits i s o
     suits (op.Alloc name bytes) ops left (is_op, upto) = (
-      is_fresh name upto (walk-fresh_alloc e v part me is off a walks name bytes ops left),
+      is_fresh name (next-placed s (op.Alloc name bytes) ops left)
+          (walk-fresh_alloc e v part me is off a walks name bytes ops left),
       is_op.1,
     )
     suits (op.Free name) ops left (is_op, upto) = has_name name upto
     suits (op.Realloc old fresh bytes) ops left (is_op, upto) = (
       has_name old (omega (arith, upto)),
       moves (named_at old s.names.held),
-      is_fresh fresh (omega (arith, upto))
+      is_fresh fresh (next-placed s (op.Realloc old fresh bytes) ops left)
           (walk-fresh_realloc e v part me is off a walks old fresh bytes ops left),
       is_op.2,
     )

@@ -1,5 +1,5 @@
 -- What the local work of a scheduler asks for, of its instance and of the names that it holds.
-use Rattle.std.specs.Prelude.{◌≡◌, ◌≢◌, ℕ, ◌%◌, ◌<◌, ◌≤◌, List, ◌∷◌, None, IfSome, IsSome, drop, length}
+use Rattle.std.specs.Prelude.{◌≡◌, ◌≢◌, ℕ, ◌%◌, ◌<◌, ◌≤◌, true, List, ◌∷◌, None, IfSome, IsSome, drop, length}
 use Rattle.ea_model.specs.declared.operations.Op.{Op}
 use Rattle.ea_model.specs.declared.operations.Op.TheVariants.{Alloc, Free, Realloc, Give, Take, Info, Idle}
 use Rattle.ea_model.specs.declared.reallocation.Decision.TheVariants.{Move}
@@ -9,16 +9,16 @@ use Rattle.ea_machine.specs.declared.asks.Ask.{Ask}
 use Rattle.ea_machine.specs.declared.nodes.Named.{Named}
 use Rattle.ea_machine.specs.Nodes.{named_at, spot_named}
 use Rattle.ea_machine.specs.Owners.{owner_of}
-use Rattle.ea_names.specs.Holding.{Holding}
+use Rattle.ea_names.specs.Holding.{Holding, has_place}
 use Rattle.ea_sched.specs.declared.state.Scheduler.{Scheduler}
 
 -- an operation is left
 abbrev pub HasMore : Scheduler → Type 0
 HasMore s = s.done < length s.text.now
 
--- a name up to the greatest one that isn't held
+-- a name that has a place and isn't held
 pub record IsFreshIn (names : Holding) (name : ℕ) : Type 0 where
-  pub place : name ≤ names.greatest
+  pub place : has_place names.places name ≡ true
   pub fresh : spot_named name names.held ≡ None
 
 -- a name up to the greatest one, whose block lies at its spot in the instance if `me` owns its
@@ -27,7 +27,7 @@ pub record IsHereIn (i : Instance) (me greatest : ℕ) (x : Named) : Type 0 wher
   pub name : x.name ≤ greatest
   pub block : owner_of x.spot.carrier ≡ me → IsSome (block_in (employed i) x.spot)
 
--- a name of the trace that the scheduler doesn't hold
+-- a name with a place that the scheduler doesn't hold
 abbrev pub IsFresh : Scheduler → ℕ → Type 0
 IsFresh s name = IsFreshIn s.names name
 

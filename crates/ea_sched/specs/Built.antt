@@ -11,12 +11,13 @@ use Rattle.ea_model.specs.Settings.{settings_of}
 abbrev pub is_built_config : Config → Letter → Bool
 is_built_config c letter = (settings_of c letter).acul == 0
 
--- there is a schedule
+-- the operations are given, and not to be generated
 abbrev pub is_built_mode : Mode → Bool
-is_built_mode Threads = false
+is_built_mode Threads = true
 is_built_mode (Schedule turns) = true
 is_built_mode (Generated seed count) = false
 
--- any schedulers, with any operations, under a schedule; but their carriers don't migrate
+-- any schedulers, with any given operations, under a schedule or with a thread each; but their
+-- carriers don't migrate
 abbrev pub is_built_run : Config → Trace → Bool
 is_built_run c t = is_built_config c t.letter && is_built_mode t.mode

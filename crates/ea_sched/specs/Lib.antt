@@ -7,3 +7,4 @@ pub mod Steps
 pub mod Asking
 pub mod Deciding
 pub mod Running
+pub mod Brought

@@ -18,7 +18,6 @@ use Rattle.ea_machine.specs.NamePlaces.{name_of}
 use Rattle.ea_machine.specs.Outcome as machine
 use Rattle.ea_machine.specs.Owners.{owner_of}
 use Rattle.ea_machine.specs.Setup.{setup_of}
-use Rattle.ea_machine.specs.Shared.{Shared}
 use Rattle.ea_machine.specs.State.{State}
 use Rattle.ea_sched.specs.declared.state.Scheduler.{Scheduler}
 use Rattle.ea_sched.specs.Acting.{actor_of}
@@ -75,13 +74,12 @@ totals_by schedulers given =
 abbrev pub HaveParts : Totals → Type 0
 HaveParts t = t.live + t.free + t.header ≤ t.units
 
-module _ (c : Config) (t : Trace) (schedulers : List Scheduler) (shared : Shared) where
-  -- the schedulers are those of a reached state, in order, and what they share is what is shared
-  -- there
+module _ (c : Config) (t : Trace) (schedulers : List Scheduler) (named : List Named) where
+  -- the schedulers are those of a reached state, in order, and the names are those given there
   pub record StandIn (state : State) : Type 0 where
     pub reached : IsReached (setup_of c t) state
     pub actors : map actor_of schedulers ≡ machine.actors_of (setup_of c t) state
-    pub shares : shared ≡ state.shared
+    pub given : named ≡ state.shared.given
 
   -- there is such a state
   abbrev pub Stand : Type 0

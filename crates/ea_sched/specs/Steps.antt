@@ -4,20 +4,16 @@ use Rattle.ea_model.specs.declared.settings.Config.{Config}
 use Rattle.ea_model.specs.declared.trace.Trace.{Trace}
 use Rattle.ea_model.specs.Settings.{IsValidConfig}
 use Rattle.ea_model.specs.Trace.{IsValidTrace}
-use Rattle.ea_machine.specs.Setup.{Setup, setup_of}
+use Rattle.ea_machine.specs.Setup.{setup_of}
 use Rattle.ea_machine.specs.Shared.{Shared}
 use Rattle.ea_machine.specs.Actor.{Actor}
 use Rattle.ea_machine.specs.State.{State}
 use Rattle.ea_machine.specs.Machine.{IsReached, step}
 use Rattle.ea_machine.specs.Machine.{after_row, onward, wants}
 use Rattle.ea_machine.specs.Rows.{Answer, Row}
-use Rattle.ea_shared.specs.Calls.{Caller, Did}
+use Rattle.ea_shared.specs.Calls.{Caller, Did, caller_of}
 use Rattle.ea_sched.specs.declared.state.Scheduler.{Scheduler}
 use Rattle.ea_sched.specs.Acting.{actor_of, setup_for}
-
--- a scheduler, as the caller of a row
-abbrev pub caller_of : Setup → ℕ → Actor → Caller
-caller_of setup me a = record { setup = setup; number = me; actor = a }
 
 -- scheduler `me` stands so in a reached state of a run of a valid trace under a valid
 -- configuration; what is shared is as it is told, or the caller that is told is this scheduler, or
@@ -30,7 +26,7 @@ pub record Ready (c : Config) (t : Trace) (me : ℕ) (a : Actor) (shared : Optio
   pub reached : IsReached (setup_of c t) state
   pub actor : state.actors me ≡ a
   pub shares : IfSome shared (λ s. s ≡ state.shared)
-  pub calls : IfSome caller (λ x. x ≡ caller_of (setup_of c t) me a)
+  pub calls : IfSome caller (λ x. x ≡ caller_of (setup_of c t) me state)
   pub told : IsSome shared ⊎ IsSome caller
 
 -- scheduler `me`, which stood so in a reached state, has taken its step there: it is as it is after
@@ -44,7 +40,8 @@ pub record Stepped (c : Config) (t : Trace) (me : ℕ) (a b : Actor) (shared aft
   pub shares : IfSome shared (λ s. (s ≡ state.shared)
       × (after ≡ Some (step (setup_of c t) state me).shared))
   pub shares_untold : shared ≡ None → after ≡ None
-  pub calls : IfSome caller (λ x. now ≡ Some (caller_of (setup_of c t) me b))
+  pub calls : IfSome caller (λ x. (x ≡ caller_of (setup_of c t) me state)
+      × (now ≡ Some (caller_of (setup_of c t) me (step (setup_of c t) state me))))
   pub calls_untold : caller ≡ None → now ≡ None
 
 -- the scheduler stands so

@@ -11,14 +11,14 @@ fn is_built_config(config: Config, letter: Letter) -> bool
     config.of(letter).acul == 0
 }
 
-/// Whether there is a schedule.
+/// Whether the operations are given, and not to be generated.
 fn is_built_mode(mode: &Mode) -> bool
     ensures { result ≡ built.is_built_mode mode.now }
 {
-    matches!(mode, Mode::Schedule { .. })
+    !matches!(mode, Mode::Generated { .. })
 }
 
-/// Whether the run of a trace is built: it has a schedule, and its carriers don't migrate.
+/// Whether the run of a trace is built: its operations are given, and its carriers don't migrate.
 pub fn is_built(config: Config, trace: &Trace) -> bool
     ensures { result ≡ built.is_built_run config trace.now }
 {

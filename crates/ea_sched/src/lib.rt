@@ -1,6 +1,7 @@
 //! Schedulers: an operation as atomic steps, and the run of a given schedule.
 #![tactic(auto)]
 
+mod brought;
 mod built;
 mod operations;
 mod outcome;

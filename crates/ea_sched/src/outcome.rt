@@ -95,9 +95,9 @@ fn totals_of<H: Rested<Content = Mbc>>(
 ) -> Totals
     requires few { length schedulers.now ≤ MAX_SCHEDULERS }
     requires greatest { greatest ≡ H.greatest shared.now }
-    requires given { AreGiven greatest (H.rested shared.now).given }
-    requires parts { HaveParts (totals_by schedulers.now (H.rested shared.now).given) }
-    ensures { result ≡ totals_by schedulers.now (H.rested shared.now).given }
+    requires given { AreGiven greatest (H.named shared.now) }
+    requires parts { HaveParts (totals_by schedulers.now (H.named shared.now)) }
+    ensures { result ≡ totals_by schedulers.now (H.named shared.now) }
 {
     let carriers = carriers_of(schedulers);
     let units = units_of(schedulers);
@@ -128,9 +128,9 @@ pub fn outcome_of<H: Rested<Content = Mbc>>(
     requires trace { IsValidTrace config.schedulers trace.now }
     requires built { is_built_run config trace.now ≡ true }
     requires greatest { trace.now.greatest ≡ H.greatest shared.now }
-    requires stand { Stand config trace.now schedulers.items (H.rested shared.now) }
+    requires stand { Stand config trace.now schedulers.items (H.named shared.now) }
     ensures { IfOk result (IsOutcome config trace.now schedulers.entry.items
-        (H.rested shared.now)) }
+        (H.named shared.now)) }
 {
     Ok(Outcome {
         carriers: lines_of(alloc, schedulers.as_slice())?,

@@ -1,5 +1,6 @@
 //! The run of a trace that has a schedule.
-ghost use Rattle.std.specs.Prelude.{◌≡◌, ◌+◌, ◌<◌, true, [], ◌∷◌, IfOk, OnOk, All, flat_map, length, replicate};
+ghost use Rattle.std.specs.Prelude.{◌≡◌, ◌≢◌, ◌+◌, ◌<◌, true, [], ◌∷◌, IfOk, OnOk, All, flat_map, length, replicate};
+ghost use Rattle.ea_model.specs.declared.trace.Mode.TheVariants.{Threads};
 ghost use Rattle.ea_model.specs.Outcome.{plain_outcome};
 ghost use Rattle.ea_model.specs.Settings.{IsValidConfig};
 ghost use Rattle.ea_model.specs.Trace.{IsScheduler, IsValidTrace};
@@ -173,6 +174,7 @@ pub fn run_given(alloc: Global, config: Config, trace: &Trace) -> Result<Outcome
     requires config { IsValidConfig config }
     requires trace { IsValidTrace config.schedulers trace.now }
     requires built { is_built_run config trace.now ≡ true }
+    requires schedule { trace.now.mode ≢ Threads }
     ensures outcome { IfOk result (λ outcome.
         plain_outcome outcome ≡ machine.outcome_of config trace.now) }
     ensures protocol { Protocol (setup_of config trace.now) }

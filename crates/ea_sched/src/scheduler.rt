@@ -6,12 +6,12 @@ ghost use Rattle.ea_machine.specs.Machine.{first_actor};
 ghost use Rattle.ea_sched.specs.Built.{is_built_run};
 ghost use Rattle.ea_sched.specs.Acting.{actor_of, is_ended, setup_for};
 
+use crate::brought::names_for;
 use crate::passed::Passed;
 use crate::stage::Stage;
 use crate::state::Scheduler;
 use ea_instance::Instance;
 use ea_model::{Config, Entry, List, OutOfMemory, Trace};
-use ea_names::Names;
 use ea_stats::Stats;
 use std::alloc::Global;
 
@@ -47,7 +47,7 @@ impl<'t> Scheduler<'t> {
         )?;
         let mut log = List::new(alloc);
         log.reserve(text.len())?;
-        let names = Names::new(alloc, trace.greatest)?;
+        let names = names_for(alloc, text, trace.greatest)?;
         let mbcs = Stats::new(instance.multi_figures());
         let sbcs = Stats::new(instance.single_figures());
         Ok(Scheduler {

@@ -2,6 +2,7 @@
 ghost use Rattle.std.specs.Prelude.{◌≡◌, ◌+◌, ◌≤◌, true, length};
 ghost use Rattle.ea_model.specs.Trace.{texts_of};
 ghost use Rattle.ea_machine.specs.Setup.{text_for};
+ghost use Rattle.ea_sched.specs.Brought.{HavePlaces};
 ghost use Rattle.ea_sched.specs.Built.{is_built_run};
 
 use crate::passed::Passed;
@@ -14,9 +15,9 @@ use ea_stats::Stats;
 
 /// Scheduler `number` in the run of a trace. Of the run it knows the configuration and the trace;
 /// for itself it keeps its text, how many of its operations are done, its allocator instance, the
-/// names that it holds, where it is in its operation, the nodes that its walk passed and the next
-/// one, the statistics of its multiblock and of its singleblock carriers, and its log. Once it had
-/// no memory it has failed.
+/// names that it holds, with a place for each that its text brings, where it is in its operation,
+/// the nodes that its walk passed and the next one, the statistics of its multiblock and of its
+/// singleblock carriers, and its log. Once it had no memory it has failed.
 #[derive(Drop)]
 pub struct Scheduler<'t> {
     pub config: Config,
@@ -38,5 +39,6 @@ pub struct Scheduler<'t> {
     ghost number_to: { number ≤ config.schedulers },
     ghost text_is: { text.now ≡ text_for (texts_of trace.now) number },
     ghost names_upto: { names.greatest ≡ trace.now.greatest },
+    ghost places: { HavePlaces names.places text.now },
     ghost log_room: { length text.now ≤ done + log.room },
 }

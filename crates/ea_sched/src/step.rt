@@ -1,5 +1,6 @@
 //! A step of a scheduler.
-ghost use Rattle.std.specs.Prelude.{◌≡◌, ◌↔◌, true, false, IfOk, OnErr, OnOk, Ok, Err};
+ghost use Rattle.std.specs.Prelude.{◌≡◌, ◌≢◌, ◌↔◌, true, false, IfOk, OnErr, OnOk, Ok, Err};
+ghost use Rattle.ea_machine.specs.Actor as machine;
 ghost use Rattle.ea_machine.specs.Statistics as statistics;
 ghost use Rattle.ea_sched.specs.Acting.{IsSame, actor_of, is_ended};
 ghost use Rattle.ea_sched.specs.declared.step.Progress.TheVariants as progress;
@@ -89,6 +90,8 @@ impl<'t> Scheduler<'t> {
             (S.caller shared.old) (S.caller shared.new)) }
         ensures ready { OnOk result (IsReady self.new (S.shared shared.new) (S.caller shared.new)) }
         ensures goes { OnOk result (self.old.failed ≡ false × self.new.failed ≡ false) }
+        ensures went { IfOk result (λ p. p ≡ progress.Went
+            → (actor_of self.old).stage ≢ machine.Ended) }
         ensures ended { IfOk result (λ p. (p ≡ progress.Ended) ↔ (is_ended self.old.stage ≡ true)) }
         ensures rests { IfOk result (λ p. p ≡ progress.Ended → (self.new ≡ self.old)
             × (shared.new ≡ shared.old)) }

@@ -1,6 +1,7 @@
 //! The units of live blocks, name by name.
 ghost use Rattle.std.specs.Prelude.{◌≡◌, ◌^◌, ◌<◌, ◌≤◌, length, sum_by};
 ghost use Rattle.std.specs.Option.{option_map_or};
+ghost use Rattle.ea_names.specs.declared.groups.TheConstants.{GROUP};
 ghost use Rattle.ea_sched.specs.Resting.{AreGiven};
 ghost use Rattle.ea_sched.specs.Resting as resting;
 
@@ -27,10 +28,12 @@ fn units_at(schedulers: &[Scheduler<'_>], spot: Spot) -> u64
     }
 }
 
-/// The units of the blocks at the spots of a table.
+/// The units of the blocks at the spots of a group of names.
 fn units_of(schedulers: &[Scheduler<'_>], spots: &[Option<Spot>]) -> u64
-    requires { length spots.now ≤ 2 ^ 32 }
-    ensures { result ≡ sum_by (λ s. option_map_or (resting.units_at schedulers.now) s 0) spots.now }
+    requires { length spots.now ≤ GROUP }
+    ensures units { result
+        ≡ sum_by (λ s. option_map_or (resting.units_at schedulers.now) s 0) spots.now }
+    ensures small { result < 2 ^ 41 }
 {
     let mut units = 0;
     for place in spots {
@@ -45,7 +48,12 @@ fn units_of(schedulers: &[Scheduler<'_>], spots: &[Option<Spot>]) -> u64
 fn units_held(schedulers: &[Scheduler<'_>], names: &Names) -> u64
     ensures { result ≡ resting.units_named schedulers.now names.now.held }
 {
-    units_of(schedulers, names.spots())
+    let mut units = 0;
+    let groups = names.groups();
+    for group in groups {
+        units += units_of(schedulers, group);
+    }
+    units
 }
 
 /// The units of the blocks of given names.
@@ -55,8 +63,8 @@ fn units_given<H: Rested<Content = Mbc>>(
     greatest: u32,
 ) -> u64
     requires greatest { greatest ≡ H.greatest shared.now }
-    requires given { AreGiven greatest (H.rested shared.now).given }
-    ensures { result ≡ resting.units_named schedulers.now (H.rested shared.now).given }
+    requires given { AreGiven greatest (H.named shared.now) }
+    ensures { result ≡ resting.units_named schedulers.now (H.named shared.now) }
 {
     let mut units = 0;
     for before in 0..greatest {
@@ -74,9 +82,9 @@ pub fn live_units<H: Rested<Content = Mbc>>(
     greatest: u32,
 ) -> u64
     requires greatest { greatest ≡ H.greatest shared.now }
-    requires given { AreGiven greatest (H.rested shared.now).given }
-    requires fits { resting.live_units schedulers.now (H.rested shared.now).given < 2 ^ 64 }
-    ensures { result ≡ resting.live_units schedulers.now (H.rested shared.now).given }
+    requires given { AreGiven greatest (H.named shared.now) }
+    requires fits { resting.live_units schedulers.now (H.named shared.now) < 2 ^ 64 }
+    ensures { result ≡ resting.live_units schedulers.now (H.named shared.now) }
 {
     let mut units = units_given(schedulers, shared, greatest);
     for scheduler in schedulers {

@@ -3,12 +3,11 @@ use Rattle.std.proofs.Common.{◌≡◌, ℕ, Bool, true, false, List, [], ◌�
 use Rattle.std.specs.Prelude.{All}
 use Rattle.std.proofs.lemmas.List.Elements.{All-nil, All-cons}
 use Rattle.ea_machine.specs.declared.nodes.Node.{Node}
-use Rattle.ea_machine.specs.Alike.{HasNoAlike, are_alike}
+use Rattle.ea_machine.specs.Alike.{HasNoAlike, alike_in, are_alike}
 use Rattle.ea_machine.specs.Nodes.{Mark}
 use Rattle.ea_machine.specs.Rows.{Answer, Row}
 use Rattle.ea_machine.specs.Shared.{Shared}
 use Rattle.ea_machine.specs.Table.{effect}
-use Rattle.ea_queues.specs.Chains.{alike_in}
 use Rattle.ea_machine.specs.Sums.{one_if}
 use Rattle.ea_shared.specs.Calls.{Did}
 

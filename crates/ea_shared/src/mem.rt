@@ -23,6 +23,7 @@ pub struct MemShared<C> {
 
 impl<C> Model for MemShared<C> {
     ghost use Rattle.std.specs.Prelude.{◌≡◌};
+    ghost use Rattle.ea_names.specs.Holding.{IsWhole};
     ghost use Rattle.ea_shared.specs.Memory.{Sharing};
 
     ghost Value = { Sharing };
@@ -35,7 +36,7 @@ impl<C> Model for MemShared<C> {
       greatest = m.queues.greatest;
     } };
 
-    ghost invariant = { λ m. m.given.greatest ≡ m.queues.greatest };
+    ghost invariant = { λ m. (m.given.greatest ≡ m.queues.greatest) × IsWhole m.given };
 }
 
 impl<C: Carried + Drop> MemShared<C> {
@@ -46,7 +47,7 @@ impl<C: Carried + Drop> MemShared<C> {
         ensures greatest { IfOk result (λ m. m.greatest ≡ trace.now.greatest) }
     {
         let queues = Queues::new(alloc, config.schedulers, trace.greatest)?;
-        let given = Names::new(alloc, trace.greatest)?;
+        let given = Names::whole(alloc, trace.greatest)?;
         Ok(MemShared {
             queues,
             given,
@@ -106,13 +107,11 @@ impl<C: Carried + Drop> Shared for MemShared<C> {
 }
 
 impl<C: Carried + Drop> Rested for MemShared<C> {
-    ghost use Rattle.ea_shared.specs.Memory.{shared_of};
-
     type Content = C;
 
     ghost greatest = { λ m. m.greatest };
 
-    ghost rested = { λ m. shared_of m };
+    ghost named = { λ m. m.given };
 
     fn given(&self, name: u32) -> Option<Spot> {
         self.given.spot_of(name)

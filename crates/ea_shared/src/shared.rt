@@ -1,6 +1,6 @@
 //! The steps that a scheduler takes on what is shared.
 ghost use Rattle.std.specs.Prelude.{◌≡◌, ℕ, ◌≤◌, [], Option, None, Some, IfSome};
-ghost use Rattle.ea_machine.specs.Alike.{HasNoAlike, IsNode};
+ghost use Rattle.ea_machine.specs.Alike.{HasNoAlike, IsNode, IsSpot};
 ghost use Rattle.ea_machine.specs.Guards.{IsUnlinkedAt};
 ghost use Rattle.ea_machine.specs.Nodes.{first_node, spot_named};
 ghost use Rattle.ea_machine.specs.Rows.{Done, Give, Got, Head, Push, TakeAll, TakeLink, TakeTry};
@@ -89,6 +89,7 @@ pub trait Shared {
     fn give(&mut self, me: u32, name: u32, spot: Spot)
         requires scheduler { (1 ≤ me) × (me ≤ schedulers self.old) }
         requires name { (1 ≤ name) × (name ≤ greatest self.old) }
+        requires spot { IsSpot (schedulers self.old) spot }
         requires fresh { IfSome (shared self.old) (λ s. spot_named name s.given ≡ None) }
         requires wanted { IsWanted me (Give (record { name = name; spot = spot }))
             (caller self.old) }

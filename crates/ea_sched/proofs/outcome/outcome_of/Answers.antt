@@ -13,7 +13,7 @@ totals_of-requires-clause-few g c =
       arith,
       ap length c.as_slice-2.ensures,
       few-schedulers c.args.config c.args.trace.now c.requires.config c.requires.trace
-          c.requires.built c.args.schedulers.items (g.H.Rested.rested c.args.shared.now) w
+          c.requires.built c.args.schedulers.items (g.H.Rested.named c.args.shared.now) w
           stand,
     )
 
@@ -21,19 +21,19 @@ pub totals_of-requires-clause-given : goal.totals_of-requires-clause-given
 totals_of-requires-clause-given g c =
     let (w, stand) = c.requires.stand in
     are-given c.args.config c.args.trace.now c.requires.config c.requires.trace c.requires.built
-    c.args.schedulers.items (g.H.Rested.rested c.args.shared.now) w stand
+    c.args.schedulers.items (g.H.Rested.named c.args.shared.now) w stand
 
 pub totals_of-requires-clause-parts : goal.totals_of-requires-clause-parts
 totals_of-requires-clause-parts g c =
     let (w, stand) = c.requires.stand in
-    let shared = g.H.Rested.rested c.args.shared.now in
-    subst (λ ss. HaveParts (totals_by ss shared.given)) (sym c.as_slice-2.ensures)
+    let shared = g.H.Rested.named c.args.shared.now in
+    subst (λ ss. HaveParts (totals_by ss shared)) (sym c.as_slice-2.ensures)
     (have-parts c.args.config c.args.trace.now c.requires.config c.requires.trace c.requires.built
     c.args.schedulers.items shared w stand (plain_mode c.args.trace.now.mode))
 
 pub returns : goal.returns
 returns g c = λ w stand.
-    let shared = g.H.Rested.rested c.args.shared.now in
+    let shared = g.H.Rested.named c.args.shared.now in
     outcome-is c.args.config c.args.trace.now c.requires.config c.requires.trace c.requires.built
     c.args.schedulers.items shared w stand
     (record {
@@ -45,5 +45,5 @@ returns g c = λ w stand.
     c.in_ok-logs_of.ensures
     (c.in_ok-lines_of.ensures
     ∙ ap (flat_map (λ s. map carrier_line (employed s.instance))) c.as_slice.ensures)
-    (c.totals_of.ensures ∙ ap (λ l. totals_by l shared.given) c.as_slice-2.ensures)
+    (c.totals_of.ensures ∙ ap (λ l. totals_by l shared) c.as_slice-2.ensures)
     c.in_ok-copy.ensures

@@ -4,7 +4,6 @@ use Rattle.ea_model.specs.Outcome.{plain_outcome}
 use Rattle.ea_machine.specs.Completion.{end_of}
 use Rattle.ea_machine.specs.Outcome.{outcome_of}
 use Rattle.ea_machine.specs.Setup.{setup_of}
-use Rattle.ea_shared.specs.Memory.{shared_of}
 use Rattle.ea_sched.specs.Resting.{IsOutcome, StandIn}
 use Rattle.ea_sched.proofs.Ends.{stand-in}
 use Rattle.ea_sched.proofs.run.run_built.Goals as goal
@@ -20,7 +19,7 @@ outcome_of-requires-clause-stand c =
     let end = c.in_ok-schedulers.ensures in
     let w = end_of (setup_of d t) t.mode in (
       w,
-      subst (λ xs. StandIn d t xs (shared_of run.shared) w) (sym c.from_vec.ensures)
+      subst (λ xs. StandIn d t xs run.shared.given w) (sym c.from_vec.ensures)
           (stand-in d t run.schedulers.items run.shared w end.shared end.schedulers),
     )
 
@@ -31,7 +30,7 @@ returns c =
     let run = c.in_ok-schedulers.field-0 in
     let end = c.in_ok-schedulers.ensures in
     let w = end_of (setup_of d t) t.mode in
-    let stands = subst (λ xs. StandIn d t xs (shared_of run.shared) w) (sym c.from_vec.ensures)
+    let stands = subst (λ xs. StandIn d t xs run.shared.given w) (sym c.from_vec.ensures)
     (stand-in d t run.schedulers.items run.shared w end.shared end.schedulers) in
-    IfOk-weaker c.outcome_of.result (IsOutcome d t c.from_vec.result.items (shared_of run.shared))
+    IfOk-weaker c.outcome_of.result (IsOutcome d t c.from_vec.result.items run.shared.given)
     (λ o. plain_outcome o ≡ outcome_of d t) (λ o is. is w stands) c.outcome_of.ensures

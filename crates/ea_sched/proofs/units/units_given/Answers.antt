@@ -7,7 +7,7 @@ use Rattle.ea_sched.proofs.units.units_given.Goals.{in-Some, in_default}
 pub loop-before-preserved : goal.loop-before-preserved
 loop-before-preserved g c =
     let size = units_at c.args.schedulers.now in
-    let given = (g.H.Rested.rested c.args.shared.now).given in
+    let given = (g.H.Rested.named c.args.shared.now) in
     let l = c.loop-before in
     elim c.match-given.branch [
       | in-Some w ↦
@@ -26,5 +26,5 @@ pub returns : goal.returns
 returns g c =
     c.loop-before.invariant.1
     ∙ given-sum (units_at c.args.schedulers.now) c.args.greatest
-    (g.H.Rested.rested c.args.shared.now).given c.requires.given c.loop-before.before
+    (g.H.Rested.named c.args.shared.now) c.requires.given c.loop-before.before
     (omega (arith, c.loop-before-test.false, c.loop-before.auto.before-end))

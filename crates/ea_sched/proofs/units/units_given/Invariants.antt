@@ -7,5 +7,5 @@ use Rattle.ea_sched.proofs.units.units_given.Given as goal
 
 abbrev pub invariant-loop-before : goal.invariant-loop-before
 invariant-loop-before g l = (l.units ≤ (2 ^ 32 - 1) * l.before)
-    × (l.units ≡ sum_by (of_name (units_at l.schedulers) (g.H.Rested.rested l.shared).given)
+    × (l.units ≡ sum_by (of_name (units_at l.schedulers) (g.H.Rested.named l.shared))
     (range_with_len 1 l.before))

@@ -1,13 +1,12 @@
 use Rattle.std.proofs.Common.{◌≡◌, ℕ, [], Some, inl, refl, sym, subst, arith}
 use Rattle.ea_machine.specs.declared.nodes.Node.{Node}
 use Rattle.ea_machine.specs.declared.nodes.Node.TheVariants.{Block}
-use Rattle.ea_machine.specs.Alike.{HasNoAlike}
+use Rattle.ea_machine.specs.Alike.{HasNoAlike, alike_in}
 use Rattle.ea_machine.specs.Guards.{IsUnlinkedAt}
 use Rattle.ea_machine.specs.Nodes.{first_node}
 use Rattle.ea_machine.specs.Rows.{Link, Push, TakeAll}
 use Rattle.ea_machine.specs.Shared.{Shared}
 use Rattle.ea_machine.specs.Table.{effect}
-use Rattle.ea_queues.specs.Chains.{alike_in}
 use Rattle.ea_shared.specs.Memory.{nothing_shared}
 use Rattle.ea_shared.proofs.Following.{after-row, none-there}
 use Rattle.ea_shared.proofs.tests.a_walk_passes_the_newest_node_first.Goals as goal

@@ -2,7 +2,7 @@ use Rattle.std.proofs.Common.{refl, ap, arith}
 use Rattle.ea_machine.specs.Actor.{Giving}
 use Rattle.ea_machine.specs.Rows.{Done, Give}
 use Rattle.ea_sched.specs.Acting.{stage_of}
-use Rattle.ea_sched.proofs.Calling.{give-fresh, give-more, give-name, row-done}
+use Rattle.ea_sched.proofs.Calling.{give-fresh, give-more, give-name, give-spot, row-done}
 use Rattle.ea_sched.proofs.state.Scheduler.give.Goals as goal
 
 pub give-requires-clause-name : goal.give-requires-clause-name
@@ -10,6 +10,12 @@ give-requires-clause-name g c =
     let name = give-name c.args.self.now c.requires.ready c.args.given c.args.to
     (ap stage_of c.requires.stage) in
     omega (arith, name, c.requires.greatest)
+
+pub give-requires-clause-spot : goal.give-requires-clause-spot
+give-requires-clause-spot g c =
+    let spot = give-spot c.args.self.now c.requires.ready c.args.given c.args.to
+    (ap stage_of c.requires.stage) in
+    (spot.0, omega (arith, spot.1, c.requires.schedulers), spot.2, spot.3)
 
 pub give-requires-clause-fresh : goal.give-requires-clause-fresh
 give-requires-clause-fresh g c = give-fresh c.args.self.now c.requires.ready c.args.given c.args.to

@@ -1,7 +1,7 @@
 use Rattle.std.proofs.Common.{sym, ◌∙◌}
 use Rattle.ea_sched.specs.Acting.{actor_of}
 use Rattle.ea_sched.proofs.Acts.{went}
-use Rattle.ea_sched.proofs.Doing.{ended-stepped, row-stepped, stage-ends, step-ready}
+use Rattle.ea_sched.proofs.Doing.{ended-stepped, row-stepped, stage-ends, stage-goes, step-ready}
 use Rattle.ea_sched.proofs.state.Scheduler.step.Goals as goal
 
 pub returns-then-ended-clause-step : goal.returns-then-ended-clause-step
@@ -23,6 +23,10 @@ after g c =
 
 pub returns-clause-step : goal.returns-clause-step
 returns-clause-step g c = after g c
+
+pub returns-clause-went : goal.returns-clause-went
+returns-clause-went g c = λ _.
+    stage-goes c.args.self.now.stage (sym c.ended.ensures ∙ c.if-ended.false)
 
 pub returns-clause-ready : goal.returns-clause-ready
 returns-clause-ready g c =
