@@ -1,0 +1,14 @@
+pub mod Worded
+pub mod Laws
+pub mod Coding
+pub mod Rows
+pub mod Fitting
+pub mod Opening
+pub mod Told
+pub mod Seating
+pub mod Dealing
+pub mod Taking
+pub mod Reading
+pub mod Gathered
+pub mod Threading
+pub mod Working

@@ -1,0 +1,150 @@
+-- What a call answers, by the word that its step found.
+use Rattle.std.proofs.Common.{◌≡◌, ◌≢◌, ℕ, ◌≤◌, Bool, true, false, List, [], ◌∷◌, Option, None, Some, refl, sym, ap, ◌∙◌, subst, arith}
+use Rattle.std.specs.Prelude.{IfSome, option_map}
+use Rattle.ea_model.specs.declared.carriers.Spot.{Spot}
+use Rattle.ea_machine.specs.declared.nodes.Node.{Node}
+use Rattle.ea_machine.specs.declared.nodes.Node.TheVariants.{Block}
+use Rattle.ea_machine.specs.Machine.{run, step, wants}
+use Rattle.ea_machine.specs.Nodes.{Mark, first_node, spot_named}
+use Rattle.ea_machine.specs.Rows.{Answer, Got, Head, Passes, Rests, Row, TakeLink, TakeTry}
+use Rattle.ea_machine.specs.Shared.{Shared}
+use Rattle.ea_machine.specs.Table.{answer, link_answer, link_read}
+use Rattle.ea_shared.specs.Calls.{Did, WantsRow, caller_of}
+use Rattle.ea_sound.proofs.TurnLists.{run-snoc}
+use Rattle.ea_word.specs.Codes.{IsCodable, code_of, link_code}
+use Rattle.ea_table.specs.declared.views.View.{View}
+use Rattle.ea_table.specs.Ruling.{DidRow, Reads, ReadsHead, ReadsLink, ReadsName, Took, acting, actor_in, caller_in, older_after, setup_in, stepped}
+use Rattle.ea_table.specs.Words.{block_spot, mark_code}
+use Rattle.ea_table.proofs.Rows.{code-more}
+
+-- the number was decoded
+abbrev pub Decodes : ℕ → Option Node → Type 0
+Decodes found result = ((node : Node) → IsCodable node → found ≡ code_of node → result ≡ Some node)
+    × IfSome result (λ node. IsCodable node × (found ≡ code_of node))
+
+small-none : (found : ℕ) (result : Option Node) → found ≤ 1 → Decodes found result → result ≡ None
+small-none found None small d = refl
+small-none found (Some node) small d = absurd (omega (arith, small, d.1.1, code-more node))
+
+head-told : (newest : Option Node) (found : ℕ) (result : Option Node) → ReadsHead newest found
+    → Decodes found result → result ≡ newest
+head-told None found result reads d = small-none found result (omega (arith, reads.0)) d
+head-told (Some node) found result reads d = d.0 node reads.1 reads.0
+
+link-rests : (ms : List Mark) (found : ℕ) → ReadsLink ms found → found ≡ 0 → link_answer ms ≡ Rests
+link-rests [] found reads z = absurd reads
+link-rests (m ∷ ms) found reads z = by m.linked reads.0 where
+  more : (o : Option Node) → 1 ≤ link_code o
+  more None = omega arith
+  more (Some node) = omega (arith, code-more node)
+
+  by : (b : Bool) → found ≡ mark_code b ms → link_read b ms ≡ Rests
+  by true q = absurd (omega (arith, z, q, more (first_node ms)))
+  by false q = refl
+
+link-passes : (ms : List Mark) (found : ℕ) (result : Option Node) → ReadsLink ms found → found ≢ 0
+    → Decodes found result → link_answer ms ≡ Passes result
+link-passes [] found result reads some d = absurd reads
+link-passes (m ∷ ms) found result reads some d = by m.linked reads.0 where
+  next : (o : Option Node) → found ≡ link_code o → IfSome o IsCodable → o ≡ result
+  next None q is = sym (small-none found result (omega (arith, q)) d)
+  next (Some node) q is = sym (d.0 node is q)
+
+  by : (b : Bool) → found ≡ mark_code b ms → link_read b ms ≡ Passes result
+  by true q = ap Passes (next (first_node ms) q reads.1)
+  by false q = absurd (some q)
+
+pub name-told : (name : ℕ) (spot : Option Spot) (found : ℕ) (result : Option Node)
+    → ReadsName name spot found → Decodes found result
+    → result ≡ option_map (λ p. Block name p) spot
+name-told name None found result reads d = small-none found result (omega (arith, reads.0)) d
+name-told name (Some p) found result reads d = d.0 (Block name p) reads.1 reads.0
+
+module _ (v u : View) (me found : ℕ) (row : Row) (took : Took v found u)
+    (wanted : WantsRow me row (caller_in v)) where
+  abbrev pub s : Shared
+  s = (run (setup_in v) took.turns).shared
+
+  pub reads-row : Reads (acting v).number row s found
+  reads-row = subst (λ r. Reads (acting v).number r s found) wanted.1 took.reads
+
+  pub did : (got : Answer) → got ≡ answer (acting v).number row s → DidRow me row got v u
+  did got is = record {
+    turns = took.turns;
+    stands = ap (λ i. caller_of (setup_in v) i (run (setup_in v) took.turns)) (sym wanted.0)
+        ∙ took.stands;
+    number = wanted.0;
+    answered = is ∙ ap (λ i. answer i row s) wanted.0;
+    older = older_after (wants (actor_in v)) found (acting v).older;
+    view = took.view;
+  }
+
+  pub head-row : (newest : Option Node) (result : Option Node)
+      → answer (acting v).number row s ≡ Head newest → ReadsHead newest found
+      → Decodes found result → DidRow me row (Head result) v u
+  head-row newest result is reads d = did (Head result)
+      (ap Head (head-told newest found result reads d) ∙ sym is)
+
+-- a row of a table that tells the caller
+pub caller-did : (me : ℕ) (row : Row) (got : Answer) (v u : View) → DidRow me row got v u
+    → Did me row got None None (Some (caller_in v)) (Some (caller_in u))
+caller-did me row got v u d = record {
+  shared = tt;
+  shared_untold = λ q. refl;
+  caller = (
+    run (setup_in v) d.turns,
+    (d.turns, refl),
+    sym d.stands,
+    tt,
+    d.answered,
+    ap (λ (x : View). Some (caller_in x)) d.view ∙ ap Some after,
+  );
+  caller_untold = λ q. absurd (let never : Some (caller_in v) ≡ None = q in cc);
+} where
+  i : ℕ
+  i = (acting v).number
+
+  after : caller_in (stepped v d.turns d.older)
+      ≡ caller_of (setup_in v) me (step (setup_in v) (run (setup_in v) d.turns) me)
+  after = ap (caller_of (setup_in v) i) (run-snoc (setup_in v) d.turns i)
+      ∙ ap (λ j. caller_of (setup_in v) j (step (setup_in v) (run (setup_in v) d.turns) j)) d.number
+
+-- a link was read
+module _ (v u : View) (me found : ℕ) (took : Took v found u)
+    (wanted : WantsRow me TakeLink (caller_in v)) where
+  abbrev shared : Shared
+  shared = s v u me found TakeLink took wanted
+
+  reads-link : ReadsLink (shared.rests (acting v).number) found
+  reads-link = reads-row v u me found TakeLink took wanted
+
+  pub rests-row : found ≡ 0 → DidRow me TakeLink Rests v u
+  unfolding answer
+  rests-row z = did v u me found TakeLink took wanted Rests
+      (sym (link-rests (shared.rests (acting v).number) found reads-link z))
+
+  pub passes-row : (result : Option Node) → found ≢ 0 → Decodes found result
+      → DidRow me TakeLink (Passes result) v u
+  unfolding answer
+  passes-row result other d = did v u me found TakeLink took wanted (Passes result)
+      (sym (link-passes (shared.rests (acting v).number) found result reads-link other d))
+
+-- a try to take a name
+module _ (v u : View) (me found name : ℕ) (took : Took v found u)
+    (wanted : WantsRow me (TakeTry name) (caller_in v)) where
+  abbrev held : Option Spot
+  held = spot_named name (s v u me found (TakeTry name) took wanted).given
+
+  told : (result : Option Node) → Decodes found result
+      → result ≡ option_map (λ p. Block name p) held
+  told result d = name-told name held found result
+      (reads-row v u me found (TakeTry name) took wanted) d
+
+  pub spot-row : (result : Option Node) → Decodes found result
+      → DidRow me (TakeTry name) (Got (block_spot result)) v u
+  unfolding answer
+  spot-row result d = did v u me found (TakeTry name) took wanted (Got (block_spot result))
+      (ap (λ o. Got (block_spot o)) (told result d) ∙ ap Got (by held)) where
+        by : (o : Option Spot) → block_spot (option_map (λ p. Block name p) o) ≡ o
+        by None = refl
+        by (Some x) = refl

@@ -1,0 +1,64 @@
+-- In each reached state nodes and given names have room in words, and no two nodes are alike.
+use Rattle.std.proofs.Common.{ℕ, ◌≤◌, arith}
+use Rattle.std.specs.Prelude.{get_or}
+use Rattle.std.proofs.lemmas.List.Elements.{All-weaker}
+use Rattle.ea_model.specs.declared.settings.Config.{Config}
+use Rattle.ea_model.specs.declared.trace.Trace.{Trace}
+use Rattle.ea_model.specs.declared.units.TheConstants.{MAX_NAME, MAX_SCHEDULERS}
+use Rattle.ea_model.specs.Settings.{IsValidConfig}
+use Rattle.ea_model.specs.Trace.{IsValidTrace}
+use Rattle.ea_machine.specs.declared.nodes.Node.{Node}
+use Rattle.ea_machine.specs.declared.nodes.Node.TheVariants.{Block, Carrier}
+use Rattle.ea_machine.specs.Alike.{IsNode}
+use Rattle.ea_machine.specs.Machine.{IsReached}
+use Rattle.ea_machine.specs.Nodes.{block_node}
+use Rattle.ea_machine.specs.Setup.{setup_of}
+use Rattle.ea_machine.specs.State.{State}
+use Rattle.ea_sound.proofs.Asked.{reached-rule}
+use Rattle.ea_sound.proofs.Calls as calls
+use Rattle.ea_sound.proofs.Numbered.{no_scheduler-beyond}
+use Rattle.ea_sound.proofs.StandingOnce.{small-names, standing-once}
+use Rattle.ea_word.specs.Codes.{IsCodable}
+use Rattle.ea_table.specs.Words.{IsFit, IsWorded}
+
+-- a node of a run has room in a word
+pub codable : (n g : ℕ) (node : Node) → n ≤ MAX_SCHEDULERS → g ≤ MAX_NAME → IsNode n g node
+    → IsCodable node
+codable n g (Block name spot) few small is = (
+  is.0,
+  omega (arith, is.1, small),
+  is.2.0,
+  omega (arith, is.2.1, few),
+  is.2.2,
+  is.2.3,
+)
+codable n g (Carrier number) few small is = (is.0, omega (arith, is.1, few))
+
+module _ (c : Config) (t : Trace) (valid : IsValidConfig c)
+    (made : IsValidTrace c.schedulers t) where
+  fit : (node : Node) → IsNode c.schedulers t.greatest node → IsFit c.schedulers t.greatest node
+  fit node is = (
+    is,
+    codable c.schedulers t.greatest node valid.schedulers.1 (small-names c.schedulers t made) is,
+  )
+
+  module _ (w : State) (reached : IsReached (setup_of c t) w) where
+    pub is-worded : IsWorded c.schedulers t.greatest w.shared
+    is-worded = record {
+      queues = λ i. All-weaker (λ m. IsNode c.schedulers t.greatest m.node)
+          (λ m. IsFit c.schedulers t.greatest m.node) (λ m. fit m.node) (w.shared.queues i)
+          (calls.queue-nodes c t valid made w reached i);
+      rests = λ i. All-weaker (λ m. IsNode c.schedulers t.greatest m.node)
+          (λ m. IsFit c.schedulers t.greatest m.node) (λ m. fit m.node) (w.shared.rests i)
+          (calls.rest-nodes c t valid made w reached i);
+      once = standing-once (setup_of c t) w (reached-rule c t valid made w reached);
+      nobody = λ i past.
+          let e = setup_of c t in
+          let has = (reached-rule c t valid made w reached).present.nobody i
+          (no_scheduler-beyond e i (omega (arith, past))) in
+          (has.queue, has.rest);
+      given = λ k d within.
+          let name = calls.given-range c t valid made w reached k d within in
+          fit (block_node (get_or w.shared.given k d))
+          (name.0, name.1, calls.given-spots c t valid made w reached k d within);
+    }

@@ -1,0 +1,8 @@
+use Rattle.ea_machine.specs.Rows.{Done, Link}
+use Rattle.ea_table.proofs.Told.{caller-did}
+use Rattle.ea_table.proofs.shared.TableSharedShared.link.Goals as goal
+
+pub returns-clause-row : goal.returns-clause-row
+returns-clause-row c =
+    caller-did c.args.me (Link c.args.node c.args.to) Done
+    c.args.self.now.pass.seat.me.0 c.link.new.self.seat.me.0 c.link.ensures.row

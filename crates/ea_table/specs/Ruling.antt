@@ -1,0 +1,247 @@
+-- The rule of the table: its words are the coding of what is shared after a list of steps, and each
+-- seat knows its scheduler as that stands then.
+use Rattle.std.specs.Prelude.{◌≡◌, ◌≢◌, ℕ, true, false, ◌==◌, if◌then◌else◌, List, [], ◌∷◌, ◌++◌, All, map, Option, IfSome}
+use Rattle.std.specs.List.{range_with_len}
+use mathlib.Core.Option.{some}
+use lib.ListN.{get_elem?}
+use Rattle.atomic_table.specs.Table.{Me, Step}
+use Rattle.atomic_table.specs.Table as table
+use Rattle.ea_model.specs.declared.carriers.Spot.{Spot}
+use Rattle.ea_model.specs.declared.settings.Config.{Config}
+use Rattle.ea_model.specs.declared.trace.Trace.{Trace}
+use Rattle.ea_model.specs.Settings.{IsValidConfig}
+use Rattle.ea_model.specs.declared.settings.Letter.TheVariants.{H}
+use Rattle.ea_model.specs.declared.settings.Settings.{Settings}
+use Rattle.ea_model.specs.declared.settings.Strategy.TheVariants.{Bf}
+use Rattle.ea_model.specs.declared.trace.Mode.TheVariants.{Threads}
+use Rattle.ea_model.specs.Trace.{IsValidTrace, listed}
+use Rattle.ea_machine.specs.declared.nodes.Node.{Node}
+use Rattle.ea_machine.specs.declared.nodes.Node.TheVariants.{Block}
+use Rattle.ea_machine.specs.declared.tasks.Gone.{Gone}
+use Rattle.ea_machine.specs.declared.tasks.Why.{Why}
+use Rattle.ea_machine.specs.Actor.{Actor, Linking, Routed}
+use Rattle.ea_machine.specs.Courses.{AreSteps}
+use Rattle.ea_machine.specs.Machine.{run, wants}
+use Rattle.ea_machine.specs.Nodes.{Mark, first_node, spot_named}
+use Rattle.ea_machine.specs.Rows.{Answer, Row, TakeAll, TakeLink, Look, Push, Link, BusyTry, Settle, Abandon, FetchTry, Create, SendHome, Clear, Give, TakeTry, Nothing}
+use Rattle.ea_machine.specs.Setup.{Setup, migration, setup_of}
+use Rattle.ea_machine.specs.Shared.{Shared}
+use Rattle.ea_machine.specs.State.{State}
+use Rattle.ea_machine.specs.Table.{answer}
+use Rattle.ea_shared.specs.Calls.{Caller, caller_of}
+use Rattle.ea_sound.specs.Standing.{IsOlderAt}
+use Rattle.ea_word.specs.declared.words.TheConstants.{NO_NODE, OLDEST}
+use Rattle.ea_word.specs.Codes.{IsCodable, head_code, link_code}
+use Rattle.ea_table.specs.Words.{Codes, given_code, mark_code}
+use Rattle.ea_table.specs.declared.views.About.{About}
+use Rattle.ea_table.specs.declared.views.Seated.{Seated}
+use Rattle.ea_table.specs.declared.views.View.{View}
+
+-- where the scheduler is about to link a node, the word is that of the link: it codes the next
+-- older node
+abbrev pub Remembers : State → ℕ → ℕ → Type 0
+Remembers w s word = (node : Node) (to : ℕ) (why : Why) (gone : Gone)
+    → (w.actors s).stage ≡ Routed (Linking node to) why gone
+    → (older : Option Node) × (word ≡ link_code older) × IsOlderAt node to older w.shared
+
+module _ (c : Config) (t : Trace) (ran : List ℕ) (seat_of : ℕ → ℕ) (j : ℕ) where
+  -- the scheduler sits at the seat j, which knows the turns up to its last one: all that ran since
+  -- are turns of others
+  pub record Sits (x : Seated) : Type 0 where
+    pub seat : seat_of x.number ≡ j
+    pub since : List ℕ
+    pub front : ran ≡ x.turns ++ since
+    pub others : All (λ i. i ≢ x.number) since
+    pub remembers : Remembers (run (setup_of c t) ran) x.number x.older
+
+  -- the seat j knows the run, while it is live, and how its schedulers stand
+  pub record Knows (v : View) : Type 0 where
+    pub config : v.live ≡ true → v.config ≡ c
+    pub trace : v.live ≡ true → v.trace ≡ t
+    pub seated : All Sits v.seated
+
+-- after the steps that ran the words code what is shared, and each seat knows its schedulers
+pub record Keeps {S : Type 0} (c : Config) (t : Trace) (s : table.State S View) : Type 0 where
+  pub valid : IsValidConfig c
+  pub made : IsValidTrace c.schedulers t
+  pub off : migration (setup_of c t) ≡ false
+  pub ran : List ℕ
+  pub steps : AreSteps (setup_of c t) ran
+  pub coded : Codes c.schedulers t.greatest (run (setup_of c t) ran).shared s.words
+  pub seat_of : ℕ → ℕ
+  pub each_seat : (j : ℕ) (v : View) → get_elem? s.views j ≡ some v
+      → Knows c t ran seat_of j v
+
+-- the rule of the table of a run
+abbrev pub holds : {S : Type 0} → About → table.State S View → Type 0
+holds a s = Keeps a.config a.trace.now s
+
+-- a scheduler before its first step
+abbrev pub waiting : ℕ → Seated
+waiting i = record { number = i; turns = []; older = NO_NODE }
+
+-- what a seat knows that has that many schedulers, from number i on, before their first step
+abbrev pub waiting_from : Config → Trace → ℕ → ℕ → View
+waiting_from c t i count = record {
+  config = c;
+  trace = t;
+  live = true;
+  seated = map waiting (range_with_len i count);
+}
+
+-- what the first seat knows: it has all schedulers
+abbrev pub first : About → View
+first a = waiting_from a.config a.trace.now 1 a.config.schedulers
+
+-- the first of some schedulers, and the others
+
+abbrev pub first_seated : List Seated → Seated
+first_seated [] = waiting 0
+first_seated (x ∷ xs) = x
+
+abbrev pub after_first : List Seated → List Seated
+after_first [] = []
+after_first (x ∷ xs) = xs
+
+-- the scheduler whose steps a seat takes
+abbrev pub acting : View → Seated
+acting v = first_seated v.seated
+
+-- the seat is live, and has one scheduler
+abbrev pub IsSingle : View → Type 0
+IsSingle v = v ≡ record v { seated = acting v ∷ []; live = true }
+
+-- the run that a seat knows, and the scheduler whose steps it takes as that stands there
+
+abbrev pub setup_in : View → Setup
+setup_in v = setup_of v.config v.trace
+
+abbrev pub actor_in : View → Actor
+actor_in v = (run (setup_in v) (acting v).turns).actors (acting v).number
+
+abbrev pub caller_in : View → Caller
+caller_in v = caller_of (setup_in v) (acting v).number (run (setup_in v) (acting v).turns)
+
+-- the link word of a pushed node, by the word that was found at the head
+abbrev pub older_word : ℕ → ℕ
+older_word found = if found == NO_NODE then OLDEST else found
+
+-- the link word that a scheduler keeps after a row, by the word that was found
+abbrev pub older_after : Row → ℕ → ℕ → ℕ
+older_after (Push node to) found was = older_word found
+older_after _ found was = was
+
+-- the view after a step that follows these turns
+abbrev pub stepped : View → List ℕ → ℕ → View
+stepped v turns older = record v {
+  seated = record {
+    number = (acting v).number;
+    turns = turns ++ (acting v).number ∷ [];
+    older = older;
+  } ∷ [];
+}
+
+-- the word that a step finds: the head of a queue with that newest node
+abbrev pub ReadsHead : Option Node → ℕ → Type 0
+ReadsHead newest found = (found ≡ head_code newest) × IfSome newest IsCodable
+
+-- the link of the first of these nodes
+abbrev pub ReadsLink : List Mark → ℕ → Type 0
+ReadsLink [] found = ⊥
+ReadsLink (m ∷ ms) found = (found ≡ mark_code m.linked ms) × IfSome (first_node ms) IsCodable
+
+-- the word of a name, whose block is given where there is a spot
+abbrev pub ReadsName : ℕ → Option Spot → ℕ → Type 0
+ReadsName name spot found = (found ≡ given_code name spot)
+    × IfSome spot (λ p. IsCodable (Block name p))
+
+-- the word that a row of scheduler me finds in what is shared, where it reads one
+abbrev pub Reads : ℕ → Row → Shared → ℕ → Type 0
+Reads me TakeAll s found = ReadsHead (first_node (s.queues me)) found
+Reads me TakeLink s found = ReadsLink (s.rests me) found
+Reads me (Look number) s found = Unit {0}
+Reads me (Push node to) s found = ReadsHead (first_node (s.queues to)) found
+Reads me (Link node to) s found = Unit {0}
+Reads me (BusyTry number seen) s found = Unit {0}
+Reads me (Settle x) s found = Unit {0}
+Reads me (Abandon x) s found = Unit {0}
+Reads me (FetchTry number seen) s found = Unit {0}
+Reads me (Create number) s found = Unit {0}
+Reads me (SendHome x) s found = Unit {0}
+Reads me (Clear number) s found = Unit {0}
+Reads me (Give given) s found = Unit {0}
+Reads me (TakeTry name) s found = ReadsName name (spot_named name s.given) found
+Reads me Nothing s found = Unit {0}
+
+-- after some turns the scheduler of a seat stood as the seat knew it, and its row found that word;
+-- now the seat knows it after that step
+pub record Took (v : View) (found : ℕ) (u : View) : Type 0 where
+  pub turns : List ℕ
+  pub stands : caller_of (setup_in v) (acting v).number (run (setup_in v) turns) ≡ caller_in v
+  pub reads : Reads (acting v).number (wants (actor_in v)) (run (setup_in v) turns).shared found
+  pub view : u ≡ stepped v turns (older_after (wants (actor_in v)) found (acting v).older)
+
+-- a step of a seat, which keeps its slots
+abbrev pub steps : {S : Type 0} → Step S → Me S View → ℕ → Me S View → Type 0
+steps step m found m' = Took m.0 found m'.0 × (m'.1 ≡ m.1)
+
+-- the row got that answer in a step of the seat
+pub record DidRow (me : ℕ) (row : Row) (got : Answer) (v u : View) : Type 0 where
+  pub turns : List ℕ
+  pub stands : caller_of (setup_in v) me (run (setup_in v) turns) ≡ caller_in v
+  pub number : (acting v).number ≡ me
+  pub answered : got ≡ answer me row (run (setup_in v) turns).shared
+  pub older : ℕ
+  pub view : u ≡ stepped v turns older
+
+-- a seat is split off for the first scheduler of another: what the two know then
+
+abbrev pub dealt_left : View → View
+dealt_left v = record v { seated = after_first v.seated }
+
+abbrev pub dealt_right : View → View
+dealt_right v = record v { seated = acting v ∷ [] }
+
+-- what a seat knows after it took in another
+abbrev pub taken_in : View → View → View
+taken_in v w = record v { seated = v.seated ++ w.seated }
+
+-- a spent seat knows nothing
+
+abbrev pub no_settings : Settings
+no_settings = record {
+  strategy = Bf;
+  acul = 0;
+  acfml = 0;
+  sbct = 0;
+  smbcs = 0;
+  lmbcs = 0;
+  mbcgs = 0;
+  mmbcs = 0;
+  mbsd = 0;
+  rsbcmt = 0;
+  rmbcmt = 0;
+  rsbcst = 0;
+  asbcst = 0;
+  ramv = false;
+}
+
+abbrev pub no_config : Config
+no_config = record {
+  schedulers = 0;
+  scs = 0;
+  b = no_settings;
+  d = no_settings;
+  e = no_settings;
+  h = no_settings;
+  l = no_settings;
+  r = no_settings;
+  s = no_settings;
+  t = no_settings;
+}
+
+abbrev pub no_trace : Trace
+no_trace = record { letter = H; texts = listed []; mode = Threads; greatest = 0 }
+
+abbrev pub spent_view : View
+spent_view = record { config = no_config; trace = no_trace; live = false; seated = [] }

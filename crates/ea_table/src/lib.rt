@@ -1,0 +1,32 @@
+//! Schedulers that run beside each other, each on a thread of its own, over one table of words that
+//! change in atomic steps.
+//!
+//! The words code what schedulers share: the heads of the queues, a link for each node that may
+//! stand in one, and a word for each name that may be given. Each scheduler has a seat at the
+//! table, its `Pass`; `TableShared` is the table as the scheduler with that pass steps on it. The
+//! rule of the table (specs/Ruling) says that after the steps that ran so far the words code what
+//! is shared, and that each seat knows its scheduler as it stands then. `run_threads` makes the
+//! seats, runs a `Worker` for each scheduler and gathers what is printed.
+#![tactic(auto)]
+
+mod board;
+mod ending;
+mod pass;
+mod places;
+mod rule;
+mod seats;
+mod shared;
+mod threads;
+mod views;
+mod worker;
+
+pub use board::Board;
+pub use ending::gather;
+pub use pass::Pass;
+pub use places::HEAD_WORDS;
+pub use rule::{Deal, Ruled, Steps, TakesIn};
+pub use seats::{Made, make_seats};
+pub use shared::TableShared;
+pub use threads::run_threads;
+pub use views::{About, Seated, View};
+pub use worker::{Finished, Gate, OpenGate, Worker};

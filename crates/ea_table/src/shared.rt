@@ -1,0 +1,89 @@
+//! The table as a scheduler steps on it.
+ghost use Rattle.std.specs.Prelude.{◌≡◌};
+ghost use Rattle.ea_table.specs.Seating.{IsSeatedAt};
+
+use crate::board::Board;
+use crate::pass::Pass;
+use ea_machine::Node;
+use ea_mbc::Mbc;
+use ea_model::Spot;
+use ea_queues::Link;
+use ea_shared::Shared;
+
+/// The table as one scheduler steps on it: it tells that scheduler.
+#[derive(Drop)]
+pub struct TableShared<'a, 't> {
+    board: &'a Board<'t>,
+    pass: Pass,
+    ghost seated: { IsSeatedAt board.now pass },
+}
+
+impl<'a, 't> TableShared<'a, 't> {
+    /// The table as the scheduler of the pass, which is one of this board, steps on it.
+    pub fn new(board: &'a Board<'t>, pass: Pass) -> TableShared<'a, 't>
+        requires seated { IsSeatedAt board.now pass }
+        ensures pass { result.pass ≡ pass }
+        ensures board { result.board.now.table.shared.table_id
+            ≡ board.now.table.shared.table_id }
+    {
+        TableShared { board, pass }
+    }
+
+    /// Gives the pass back.
+    pub fn into_pass(self) -> Pass
+        ensures { result ≡ self.entry.pass }
+    {
+        let TableShared { board: _, pass } = self;
+        pass
+    }
+}
+
+impl<'a, 't> Shared for TableShared<'a, 't> {
+    ghost use Rattle.std.specs.Prelude.{◌≡◌, Some, None};
+    ghost use Rattle.std.proofs.Common.{refl, ap};
+    ghost use Rattle.ea_table.specs.Ruling.{caller_in};
+
+    type Content = Mbc;
+
+    ghost schedulers = { λ t. t.pass.seat.me.0.config.schedulers };
+
+    ghost greatest = { λ t. t.pass.seat.me.0.trace.greatest };
+
+    ghost shared = { λ _. None };
+
+    ghost caller = { λ t. Some (caller_in t.pass.seat.me.0) };
+
+    ghost stays = { λ x y. (y.board.now.table.shared.table_id ≡ x.board.now.table.shared.table_id)
+        × (y.pass.seat.me.0.config ≡ x.pass.seat.me.0.config)
+        × (y.pass.seat.me.0.trace ≡ x.pass.seat.me.0.trace) };
+
+    ghost stays_so = { λ _. (refl, refl, refl) };
+
+    ghost stays_shared = { λ x y h. ap (λ c. c.schedulers) h.1 };
+
+    ghost stays_greatest = { λ x y h. ap (λ t. t.greatest) h.2 };
+
+    fn take_all(&mut self, me: u32) -> Option<Node> {
+        self.pass.take_all(self.board, me)
+    }
+
+    fn take_link(&mut self, me: u32, node: Node) -> Link {
+        self.pass.take_link(self.board, me, node)
+    }
+
+    fn push(&mut self, me: u32, to: u32, node: Node) -> Option<Node> {
+        self.pass.push(self.board, me, to, node)
+    }
+
+    fn link(&mut self, me: u32, to: u32, node: Node) {
+        self.pass.link(self.board, me, to, node);
+    }
+
+    fn give(&mut self, me: u32, name: u32, spot: Spot) {
+        self.pass.give(self.board, me, name, spot);
+    }
+
+    fn take_try(&mut self, me: u32, name: u32) -> Option<Spot> {
+        self.pass.take_try(self.board, me, name)
+    }
+}

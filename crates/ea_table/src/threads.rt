@@ -1,0 +1,124 @@
+//! A run in which the schedulers step beside each other.
+ghost use Rattle.std.specs.Prelude.{◌≡◌, ℕ, ◌+◌, ◌<◌, true, false, All, IfOk, IsFalse, length, slice_index_or};
+ghost use Rattle.ea_model.specs.Settings.{IsValidConfig};
+ghost use Rattle.ea_model.specs.Trace.{IsValidTrace};
+ghost use Rattle.ea_machine.specs.MachineLaws.{Protocol};
+ghost use Rattle.ea_machine.specs.Setup.{setup_of};
+ghost use Rattle.ea_sched.specs.Built.{is_built_run};
+ghost use Rattle.ea_table.specs.Threads.{HasEnded, IsDealt, IsFresh, IsOfRun};
+
+use crate::board::Board;
+use crate::ending::gather;
+use crate::pass::Pass;
+use crate::seats::{Made, make_seats};
+use crate::worker::{Finished, Gate, Worker};
+use ea_model::{Config, List, OutOfMemory, Outcome, Trace};
+use ea_sched::Scheduler;
+use std::alloc::Global;
+use std::thread;
+use std::thread::Threads;
+
+/// The schedulers with their passes, in order.
+fn workers_of<'t>(
+    alloc: Global,
+    config: Config,
+    trace: &'t Trace,
+    passes: List<Pass>,
+) -> Result<Vec<Worker<'t>>, OutOfMemory>
+    requires config { IsValidConfig config }
+    requires trace { IsValidTrace config.schedulers trace.now }
+    requires built { is_built_run config trace.now ≡ true }
+    requires all { length passes.items ≡ config.schedulers }
+    ensures all { IfOk result (λ ws. length ws.items ≡ config.schedulers) }
+    ensures each { IfOk result (λ ws. (id : _)
+        → ((k : ℕ) (d : _) → k < config.schedulers
+        → IsDealt config trace.now id (k + 1) (slice_index_or passes.items k d))
+        → (k : ℕ) (d : _) → k < config.schedulers
+        → IsFresh config trace.now id (k + 1) (slice_index_or ws.items k d)) }
+{
+    let mut workers = Vec::new(alloc);
+    let mut number = 0;
+    for pass in passes.into_vec() {
+        number += 1;
+        let scheduler = Scheduler::new(alloc, config, trace, number)?;
+        workers.push(Worker::new(scheduler, pass))?;
+    }
+    Ok(workers)
+}
+
+/// Runs a scheduler until it has ended or had no memory.
+fn run_worker<'t, G: Gate>(
+    worker: Worker<'t>,
+    alloc: Global,
+    board: &Board<'_>,
+    gate: &G,
+) -> Finished<'t>
+    requires config { IsValidConfig board.now.table.shared.key.config }
+    requires trace { IsValidTrace board.now.table.shared.key.config.schedulers
+        board.now.table.shared.key.trace.now }
+    requires fresh { IsFresh board.now.table.shared.key.config board.now.table.shared.key.trace.now
+        board.now.table.shared.table_id worker.scheduler.number worker }
+    ensures { HasEnded board.now.table.shared.key.config board.now.table.shared.key.trace.now
+        board.now.table.shared.table_id worker.entry.scheduler.number result }
+{
+    worker.run(alloc, board, gate)
+}
+
+/// Runs the schedulers beside each other, each until it has ended or had no memory.
+fn run_workers<'t, R: Threads + Sync, G: Gate + Sync>(
+    rt: &R,
+    alloc: Global,
+    board: &Board<'_>,
+    gate: &G,
+    workers: Vec<Worker<'t>>,
+) -> Result<Vec<Finished<'t>>, OutOfMemory>
+    requires config { IsValidConfig board.now.table.shared.key.config }
+    requires trace { IsValidTrace board.now.table.shared.key.config.schedulers
+        board.now.table.shared.key.trace.now }
+    requires all { length workers.items ≡ board.now.table.shared.key.config.schedulers }
+    requires each { (k : ℕ) (d : _) → k < board.now.table.shared.key.config.schedulers
+        → IsFresh board.now.table.shared.key.config board.now.table.shared.key.trace.now
+        board.now.table.shared.table_id (k + 1) (slice_index_or workers.items k d) }
+    ensures all { IfOk result (λ fs. length fs.items
+        ≡ board.now.table.shared.key.config.schedulers) }
+    ensures each { IfOk result (λ fs. (k : ℕ) (d : _)
+        → k < board.now.table.shared.key.config.schedulers
+        → HasEnded board.now.table.shared.key.config board.now.table.shared.key.trace.now
+        board.now.table.shared.table_id (k + 1) (slice_index_or fs.items k d)) }
+{
+    Ok(thread::map_vec(rt, workers, &|w| { run_worker(w, alloc, board, gate) })?)
+}
+
+/// Whether a scheduler had no memory.
+fn lacks_memory(finished: &[Finished<'_>]) -> bool
+    ensures { result ≡ false → All (λ f. IsFalse f.memory) finished.now }
+{
+    finished.iter().any(|f| f.memory)
+}
+
+/// Runs a trace whose schedulers step beside each other, each on a thread of its own. Answers what
+/// is printed of the state after all steps that they took, in the order in which these came; then
+/// every scheduler has ended. It fails only where there is no memory, after all threads are joined.
+/// Whatever it answers, each run of the trace keeps the machine's protocol, whatever steps its
+/// schedulers take.
+pub fn run_threads<R: Threads + Sync, G: Gate + Sync>(
+    rt: &R,
+    alloc: Global,
+    config: Config,
+    trace: &Trace,
+    gate: &G,
+) -> Result<Outcome, OutOfMemory>
+    requires config { IsValidConfig config }
+    requires trace { IsValidTrace config.schedulers trace.now }
+    requires built { is_built_run config trace.now ≡ true }
+    ensures outcome { IfOk result (IsOfRun config trace.now) }
+    ensures protocol { Protocol (setup_of config trace.now) }
+{
+    let Made { board, passes } = make_seats(alloc, config, trace)?;
+    let workers = workers_of(alloc, config, trace, passes)?;
+    let finished = run_workers(rt, alloc, &board, gate, workers)?;
+    if lacks_memory(&finished) {
+        return Err(OutOfMemory);
+    }
+    gather(alloc, config, trace, board, List::from_vec(finished))
+}
