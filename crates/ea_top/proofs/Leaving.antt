@@ -1,9 +1,9 @@
--- A good input whose run isn't built ends with 6, unless there was no memory.
+-- An input that isn't good ends with 2, and a good one whose run isn't built with 6, unless there
+-- was no memory.
 use Rattle.std.proofs.Common.{◌≡◌, ℕ, true, List, inl, inr, refl, subst, ◌∙◌, arith}
-use Rattle.std.specs.Prelude.{◌⊎◌, Option, None, Some, Result, Ok, Err, IsOk, IsSome, IfSome, if◌then◌else◌}
+use Rattle.std.specs.Prelude.{◌⊎◌, Option, None, Some, Result, Ok, Err, IsOk, IsSome, IfSome}
 use Rattle.std.specs.Result.{result_ok}
 use Rattle.std.specs.declared.string.String.{String}
-use Rattle.std.proofs.lemmas.Bool.{cases_Bool}
 use Rattle.ea_flags.specs.declared.fault.FlagFault.{FlagFault}
 use Rattle.ea_flags.specs.Flags.{flags}
 use Rattle.ea_model.specs.declared.settings.Config.{Config}
@@ -13,10 +13,9 @@ use Rattle.ea_trace.specs.declared.fault.TraceFault.TheVariants as trace
 use Rattle.ea_trace.specs.Language.{Answer}
 use Rattle.ea_top.specs.declared.faults.Fault.{Fault}
 use Rattle.ea_top.specs.declared.faults.Fault.TheVariants.{Words, Trace, TooLong, NotBuilt, ReadFailed, WriteFailed, OutOfMemory}
-use Rattle.ea_top.specs.Answers.{GoodWords, GoodInput, IsBuiltFor, spelled}
-use Rattle.ea_sched.specs.Built.{is_built_run}
+use Rattle.ea_top.specs.Answers.{GivesText, GoodInput, GoodWords, IsBuiltFor, WroteText, spelled}
 use Rattle.ea_top.specs.Faults.{status_of, trace_status}
-use Rattle.ea_top.specs.Output.{is_built_under, output, output_under, read_for, read_under, run_text}
+use Rattle.ea_top.specs.Output.{IsOutputUnder, is_built_under, read_for, read_under}
 use Rattle.ea_top.specs.Whys.{IsRefused, IsWhy}
 
 -- what is refused is no trace
@@ -37,20 +36,43 @@ refused_trace (Ok c) input trace.OutOfMemory h s = refl
 refused_trace (Err e) input f h s = absurd h
 
 -- what has an output is built
-output_built : (c : Config) (t : model.Trace) → IsSome (output c t) → is_built_run c t ≡ true
-output_built c t s =
-    elim (cases_Bool (is_built_run c t)) [
-      | inl built ↦ built
-      | inr not ↦
-          let bad = subst (λ b. IsSome (if b then Some (run_text c t) else None)) not s in
-          absurd cc
-    ]
+has_run : (r : Result Config FlagFault) (t : Option model.Trace) (text : List ℕ)
+    → IsOutputUnder r t text → is_built_under r t ≡ true
+has_run (Ok c) (Some t) text h = h.0
+has_run (Ok c) None text h = absurd h
+has_run (Err f) t text h = absurd h
 
-has_run : (r : Result Config FlagFault) (t : Option model.Trace) → IsSome (output_under r t)
-    → is_built_under r t ≡ true
-has_run (Ok c) (Some t) s = output_built c t s
-has_run (Ok c) None s = absurd cc
-has_run (Err f) t s = absurd cc
+-- what has an output is a trace
+is_trace : (r : Result Config FlagFault) (t : Option model.Trace) (text : List ℕ)
+    → IsOutputUnder r t text → IsSome t
+is_trace (Ok c) (Some t) text h = refl
+is_trace (Ok c) None text h = absurd h
+is_trace (Err f) t text h = absurd h
+
+-- a refused trace ends with 2 or 5
+refused_ends : (f : TraceFault) → (trace_status f ≡ 2) ⊎ (trace_status f ≡ 5)
+refused_ends (trace.Syntax line) = inl refl
+refused_ends (trace.BadScheduler line) = inl refl
+refused_ends (trace.NameReused line) = inl refl
+refused_ends (trace.NotHeld line) = inl refl
+refused_ends (trace.NotAddressed line) = inl refl
+refused_ends (trace.TooMany line) = inl refl
+refused_ends trace.NoEnd = inl refl
+refused_ends trace.OutOfMemory = inr refl
+
+module _ {Z : Type 0} (words : List (String Z)) where
+  is_good : (input text : List ℕ) → GivesText words input text → GoodInput words input
+  is_good input text h =
+      (h.0, is_trace (flags (spelled words)) (read_for (spelled words) input) text h.1)
+
+  -- where an output was written the input is good
+  pub written : (A : Type 0) (left before after : Option (List ℕ))
+      → WroteText words left before after → IfSome left (λ input.
+      (GoodInput words input → ⊥) → A)
+  written A None before after h = tt
+  written A (Some known) before after h = λ bad.
+      let (input, is, text, gives, rest) = h in
+      absurd (bad (subst (GoodInput words) is (is_good input text gives)))
 
 module _ {Z : Type 0} (words : List (String Z)) (after : Option (List ℕ)) (read wrote : Type 0)
     (good : GoodWords words) (calm : read → ⊥) (status : ℕ) where
@@ -65,8 +87,29 @@ module _ {Z : Type 0} (words : List (String Z)) (after : Option (List ℕ)) (rea
   told input NotBuilt e why trace unbuilt = inl e
   told input ReadFailed e why trace unbuilt = absurd (calm why.2)
   told input WriteFailed e why trace unbuilt =
-      absurd (unbuilt (has_run (flags (spelled words)) (read_for (spelled words) input) why.2.1))
+      let (text, has) = why.2 in
+      absurd (unbuilt (has_run (flags (spelled words)) (read_for (spelled words) input) text has.1))
   told input OutOfMemory e why trace unbuilt = inr e
+
+  -- the same where it isn't good
+  told_bad : (input : List ℕ) (f : Fault) → status ≡ status_of f
+      → IsWhy words (Some input) after read wrote f → (GoodInput words input → ⊥)
+      → (status ≡ 2) ⊎ (status ≡ 5)
+  told_bad input (Words refusal) e why bad = let refused = subst IsOk why good in absurd cc
+  told_bad input (Trace refusal) e why bad =
+      elim (refused_ends refusal) [ inl two ↦ inl (e ∙ two) | inr five ↦ inr (e ∙ five) ]
+  told_bad input TooLong e why bad = inl e
+  told_bad input NotBuilt e why bad = absurd (bad why.2.0)
+  told_bad input ReadFailed e why bad = absurd (calm why.2)
+  told_bad input WriteFailed e why bad =
+      let (text, gives) = why.2 in absurd (bad (is_good words input text gives))
+  told_bad input OutOfMemory e why bad = inr e
+
+  pub refusing : (before : Option (List ℕ)) (f : Fault) → status ≡ status_of f
+      → IsWhy words before after read wrote f → IfSome before (λ input.
+      (GoodInput words input → ⊥) → (status ≡ 2) ⊎ (status ≡ 5))
+  refusing None f e why = tt
+  refusing (Some input) f e why = told_bad input f e why
 
   pub leaving : (before : Option (List ℕ)) (f : Fault) → status ≡ status_of f
       → IsWhy words before after read wrote f → IfSome before (λ input. GoodInput words input

@@ -1,2 +1,3 @@
 pub mod Texts
 pub mod Leaving
+pub mod Running

@@ -1,23 +1,30 @@
 -- What a definition answers for a trace or an outcome has the same text.
-use Rattle.std.proofs.Common.{◌≡◌, refl, ap, ◌∙◌}
-use Rattle.std.specs.Prelude.{None, Some, if◌then◌else◌}
+use Rattle.std.proofs.Common.{◌≡◌, ℕ, true, List, refl, sym, subst, ap, ◌∙◌}
+use Rattle.std.specs.Prelude.{◌≤◌, Ok, Option, None, Some, IfSome, length}
+use Rattle.std.specs.Result.{result_ok}
+use Rattle.std.specs.declared.string.String.{String}
 use Rattle.std.proofs.lemmas.List.{map-id}
 use Rattle.std.proofs.lemmas.Simd.{map-map}
+use Rattle.ea_flags.specs.Flags.{flags}
 use Rattle.ea_model.specs.declared.outcome.Outcome.{Outcome}
 use Rattle.ea_model.specs.declared.settings.Config.{Config}
 use Rattle.ea_model.specs.declared.trace.Mode.{Mode}
 use Rattle.ea_model.specs.declared.trace.Mode.TheVariants.{Threads, Schedule, Generated}
 use Rattle.ea_model.specs.declared.trace.Trace.{Trace}
+use Rattle.ea_model.specs.declared.units.TheConstants.{MAX_INPUT}
 use Rattle.ea_model.specs.Outcome.{logs_of, plain_outcome}
 use Rattle.ea_model.specs.Settings.{region_pages, settings_of}
 use Rattle.ea_model.specs.Trace.{listed, plain, plain_mode}
 use Rattle.ea_model.proofs.Traces.{plain-texts}
+use Rattle.ea_machine.specs.Courses.{IsCourse}
+use Rattle.ea_machine.specs.Machine.{run}
+use Rattle.ea_machine.specs.Outcome.{outcome}
 use Rattle.ea_machine.specs.Setup.{Setup, setup_of, text_for}
-use Rattle.ea_machine.specs.Completion.{end_of}
-use Rattle.ea_machine.specs.Outcome.{outcome, outcome_of}
 use Rattle.ea_report.specs.Text.{outcome_text}
 use Rattle.ea_sched.specs.Built.{is_built_mode, is_built_run}
-use Rattle.ea_top.specs.Output.{output}
+use Rattle.ea_trace.specs.Language.{trace}
+use Rattle.ea_top.specs.Answers.{GivesText, HasOutput, spelled}
+use Rattle.ea_top.specs.Output.{IsOutputUnder, IsRunOutcome, IsRunText, outcome_after, read_under}
 
 same_mode : (m : Mode) → is_built_mode (plain_mode m) ≡ is_built_mode m
 same_mode Threads = refl
@@ -35,27 +42,61 @@ same_setup c t = ap (λ texts. record {
   texts = text_for texts;
 }) (plain-texts t)
 
-same_end : (setup : Setup) (m : Mode)
-    → outcome setup (end_of setup (plain_mode m)) (plain_mode (plain_mode m))
-    ≡ outcome setup (end_of setup m) (plain_mode m)
-same_end setup Threads = refl
-same_end setup (Schedule turns) = refl
-same_end setup (Generated seed count) = refl
+plain_once : (m : Mode) → plain_mode (plain_mode m) ≡ plain_mode m
+plain_once Threads = refl
+plain_once (Schedule turns) = refl
+plain_once (Generated seed count) = refl
 
--- the run of a trace has the outcome that it has of the trace as a definition answers it
-same_outcome : (c : Config) (t : Trace) → outcome_of c (plain t) ≡ outcome_of c t
-same_outcome c t =
-    ap (λ setup. outcome setup (end_of setup (plain_mode t.mode)) (plain_mode (plain_mode t.mode)))
-    (same_setup c t) ∙ same_end (setup_of c t) t.mode
+-- the same turns have the same outcome
+same_outcome : (c : Config) (t : Trace) (turns : List ℕ)
+    → outcome_after c (plain t) turns ≡ outcome_after c t turns
+same_outcome c t turns =
+    ap (λ setup. outcome setup (run setup turns) (plain_mode (plain_mode t.mode))) (same_setup c t)
+    ∙ ap (outcome (setup_of c t) (run (setup_of c t) turns)) (plain_once t.mode)
 
-pub same_output : (c : Config) (t : Trace) → output c (plain t) ≡ output c t
-same_output c t =
-    ap (λ b. if b then Some (outcome_text (outcome_of c (plain t))) else None) (same_built c t)
-    ∙ ap (λ o. if is_built_run c t then Some (outcome_text o) else None) (same_outcome c t)
+course_mode : (setup : Setup) (m : Mode) (turns : List ℕ) → IsCourse setup m turns
+    → IsCourse setup (plain_mode m) turns
+course_mode setup Threads turns h = h
+course_mode setup (Schedule given) turns h = h
+course_mode setup (Generated seed count) turns h = h
+
+-- and are a course of both
+same_course : (c : Config) (t : Trace) (turns : List ℕ) → IsCourse (setup_of c t) t.mode turns
+    → IsCourse (setup_of c (plain t)) (plain_mode t.mode) turns
+same_course c t turns h = subst (λ setup. IsCourse setup (plain_mode t.mode) turns)
+    (sym (same_setup c t)) (course_mode (setup_of c t) t.mode turns h)
 
 same_logs : (o : Outcome) → logs_of (plain_outcome o) ≡ logs_of o
 same_logs o = map-map (λ log. log.items) listed (logs_of o) ∙ map-id (logs_of o)
 
 -- an outcome has the text that it has as a definition answers it
-pub same_text : (o : Outcome) → outcome_text (plain_outcome o) ≡ outcome_text o
+same_text : (o : Outcome) → outcome_text (plain_outcome o) ≡ outcome_text o
 same_text o = rw (same_logs o) refl
+
+-- the text of an outcome of the run of a trace is one of the trace as a definition answers it
+pub run-text : (c : Config) (t : Trace) (o : Outcome) → is_built_run c t ≡ true
+    → IsRunOutcome c t (plain_outcome o) → IsRunText c (plain t) (outcome_text o)
+run-text c t o built h = (
+  same_built c t ∙ built,
+  h.0,
+  same_course c t h.0 h.1,
+  sym (same_text o) ∙ ap outcome_text h.2 ∙ ap outcome_text (sym (same_outcome c t h.0)),
+)
+
+module _ {Z : Type 0} (words : List (String Z)) where
+  -- the text that was made of an input is an output of it
+  pub gives-text : (c : Config) (input slice text : List ℕ) → Ok c ≡ flags (spelled words)
+      → length input ≤ MAX_INPUT → slice ≡ input
+      → IsOutputUnder (Ok c) (result_ok (trace slice c.schedulers)) text
+      → GivesText words input text
+  gives-text c input slice text read short same is = (
+    short,
+    subst (λ r. IsOutputUnder r (read_under r input) text) read
+        (subst (λ bytes. IsOutputUnder (Ok c) (read_under (Ok c) bytes) text) same is),
+  )
+
+  pub has-output : (left : Option (List ℕ)) (input text : List ℕ)
+      → IfSome left (λ known. input ≡ known) → GivesText words input text
+      → IfSome left (HasOutput words)
+  has-output None input text is gives = tt
+  has-output (Some known) input text is gives = subst (HasOutput words) is (text, gives)

@@ -1,11 +1,11 @@
 -- What the program answers, by its words and its input.
-use Rattle.std.specs.Prelude.{◌≡◌, ℕ, ◌≤◌, true, List, [], Option, IfSome, IsSome, IsOk, length, map, unwrap_or, string_bytes}
+use Rattle.std.specs.Prelude.{◌≡◌, ℕ, ◌≤◌, true, List, Option, IfSome, IsSome, IsOk, length, map, string_bytes}
 use Rattle.std.specs.Io.KnownBytes.{Appends}
 use Rattle.std.specs.declared.string.String.{String}
 use Rattle.ea_io.specs.Fronts.{AppendsFront}
 use Rattle.ea_flags.specs.Flags.{flags}
 use Rattle.ea_model.specs.declared.units.TheConstants.{MAX_INPUT}
-use Rattle.ea_top.specs.Output.{is_built_for, output_for, read_for}
+use Rattle.ea_top.specs.Output.{IsOutput, is_built_for, read_for}
 
 module _ {Z : Type 0} where
   -- what the words spell
@@ -24,25 +24,25 @@ module _ {Z : Type 0} where
   abbrev pub IsBuiltFor : List (String Z) → List ℕ → Type 0
   IsBuiltFor words input = is_built_for (spelled words) input ≡ true
 
-  -- the input has MAX_INPUT bytes at most and, under these words, an output
+  -- the input has MAX_INPUT bytes at most and, under these words, this output
+  abbrev pub GivesText : List (String Z) → List ℕ → List ℕ → Type 0
+  GivesText words input text = (length input ≤ MAX_INPUT) × IsOutput (spelled words) input text
+
+  -- or some output
   abbrev pub HasOutput : List (String Z) → List ℕ → Type 0
-  HasOutput words input = (length input ≤ MAX_INPUT) × IsSome (output_for (spelled words) input)
+  HasOutput words input = (text : List ℕ) × GivesText words input text
 
-  -- that output
-  abbrev pub output_of : List (String Z) → List ℕ → List ℕ
-  output_of words input = unwrap_or (output_for (spelled words) input) []
-
-  -- there is an input with an output, which is the source's own where it tells its bytes, and its
+  -- there is an input, which is the source's own where it tells its bytes, with an output, and the
   -- whole output was taken
   abbrev pub WroteText : List (String Z) → Option (List ℕ) → Option (List ℕ) → Option (List ℕ)
       → Type 0
   WroteText words left before after =
-      (input : List ℕ) × IfSome left (λ known. input ≡ known) × HasOutput words input
-      × Appends before after (output_of words input)
+      (input : List ℕ) × IfSome left (λ known. input ≡ known)
+      × (text : List ℕ) × GivesText words input text × Appends before after text
 
   -- or a front of it
   abbrev pub WroteFront : List (String Z) → Option (List ℕ) → Option (List ℕ) → Option (List ℕ)
       → Type 0
   WroteFront words left before after =
-      (input : List ℕ) × IfSome left (λ known. input ≡ known) × HasOutput words input
-      × AppendsFront before after (output_of words input)
+      (input : List ℕ) × IfSome left (λ known. input ≡ known)
+      × (text : List ℕ) × GivesText words input text × AppendsFront before after text

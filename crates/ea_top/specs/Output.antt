@@ -1,23 +1,34 @@
 -- The output of a run, and of an input.
-use Rattle.std.specs.Prelude.{ℕ, Bool, false, if◌then◌else◌, List, Option, None, Some, Result, Ok, Err}
+use Rattle.std.specs.Prelude.{◌≡◌, ℕ, Bool, true, false, List, Option, None, Some, Result, Ok, Err}
 use Rattle.std.specs.Result.{result_ok}
 use Rattle.ea_flags.specs.declared.fault.FlagFault.{FlagFault}
 use Rattle.ea_flags.specs.Flags.{flags}
+use Rattle.ea_model.specs.declared.outcome.Outcome.{Outcome}
 use Rattle.ea_model.specs.declared.settings.Config.{Config}
 use Rattle.ea_model.specs.declared.trace.Trace.{Trace}
-use Rattle.ea_machine.specs.Outcome.{outcome_of}
+use Rattle.ea_model.specs.Trace.{plain_mode}
+use Rattle.ea_machine.specs.Courses.{IsCourse}
+use Rattle.ea_machine.specs.Machine.{run}
+use Rattle.ea_machine.specs.Outcome.{outcome}
+use Rattle.ea_machine.specs.Setup.{setup_of}
 use Rattle.ea_report.specs.Text.{outcome_text}
 use Rattle.ea_sched.specs.Built.{is_built_run}
 use Rattle.ea_trace.specs.Language.{trace}
 
--- the text of the end of a run: of the logs, carriers and totals once the turns of the schedule are
--- taken, and each scheduler has gone on until it has ended
-abbrev pub run_text : Config → Trace → List ℕ
-run_text c t = outcome_text (outcome_of c t)
+module _ (c : Config) (t : Trace) where
+  -- the logs, carriers and totals once these turns are taken
+  abbrev pub outcome_after : List ℕ → Outcome
+  outcome_after turns = outcome (setup_of c t) (run (setup_of c t) turns) (plain_mode t.mode)
 
--- the output of a trace under a configuration; none where its run isn't built
-abbrev pub output : Config → Trace → Option (List ℕ)
-output c t = if is_built_run c t then Some (run_text c t) else None
+  -- they are those of a course of the run
+  abbrev pub IsRunOutcome : Outcome → Type 0
+  IsRunOutcome o = (turns : List ℕ) × IsCourse (setup_of c t) t.mode turns
+      × (o ≡ outcome_after turns)
+
+  -- the run is built, and the text is that of a course of it
+  abbrev pub IsRunText : List ℕ → Type 0
+  IsRunText text = (is_built_run c t ≡ true) × (turns : List ℕ)
+      × IsCourse (setup_of c t) t.mode turns × (text ≡ outcome_text (outcome_after turns))
 
 abbrev pub read_under : Result Config FlagFault → List ℕ → Option Trace
 read_under (Ok c) input = result_ok (trace input c.schedulers)
@@ -28,14 +39,14 @@ read_under (Err f) input = None
 abbrev pub read_for : List (List ℕ) → List ℕ → Option Trace
 read_for words input = read_under (flags words) input
 
-abbrev pub output_under : Result Config FlagFault → Option Trace → Option (List ℕ)
-output_under (Ok c) (Some t) = output c t
-output_under (Ok c) None = None
-output_under (Err f) t = None
+abbrev pub IsOutputUnder : Result Config FlagFault → Option Trace → List ℕ → Type 0
+IsOutputUnder (Ok c) (Some t) text = IsRunText c t text
+IsOutputUnder (Ok c) None text = ⊥
+IsOutputUnder (Err f) t text = ⊥
 
--- the output for that trace; none without one, and where its run isn't built
-abbrev pub output_for : List (List ℕ) → List ℕ → Option (List ℕ)
-output_for words input = output_under (flags words) (read_for words input)
+-- there is one, and its run is built and has this text
+abbrev pub IsOutput : List (List ℕ) → List ℕ → List ℕ → Type 0
+IsOutput words input text = IsOutputUnder (flags words) (read_for words input) text
 
 abbrev pub is_built_under : Result Config FlagFault → Option Trace → Bool
 is_built_under (Ok c) (Some t) = is_built_run c t

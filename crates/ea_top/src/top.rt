@@ -1,14 +1,17 @@
 //! The top call.
-ghost use Rattle.std.specs.Prelude.{◌≡◌, ◌≢◌, ℕ, ◌+◌, ◌^◌, ◌<◌, ◌≤◌, ◌⊎◌, ◌↔◌, Some, Ok, IfOk, IfErr, IfSome, OnOk, IsErrOf, length};
+ghost use Rattle.std.specs.Prelude.{◌≡◌, ◌≢◌, ℕ, ◌+◌, ◌^◌, ◌<◌, ◌≤◌, ◌⊎◌, ◌↔◌, true, Ok, IfOk, IfErr, IfSome, OnOk, IsErrOf, length};
 ghost use Rattle.std.specs.Result.{result_ok};
 ghost use Rattle.std.specs.Io.KnownBytes.{IsAtEnd};
 ghost use Rattle.ea_io.specs.Calls.{StopsAtFault};
 ghost use Rattle.ea_io.specs.Counts.{Calm};
 ghost use Rattle.ea_io.specs.Fronts.{ConsumesAtMost};
 ghost use Rattle.ea_model.specs.declared.units.TheConstants.{MAX_INPUT};
+ghost use Rattle.ea_model.specs.Outcome.{plain_outcome};
 ghost use Rattle.ea_model.specs.Settings.{IsValidConfig};
+ghost use Rattle.ea_model.specs.Trace.{IsValidTrace};
+ghost use Rattle.ea_sched.specs.Built.{is_built_run};
 ghost use Rattle.ea_trace.specs.Language as language;
-ghost use Rattle.ea_top.specs.Output.{output_under};
+ghost use Rattle.ea_top.specs.Output.{IsOutputUnder, IsRunOutcome};
 ghost use Rattle.ea_top.specs.Answers.{GoodWords, GoodInput, IsBuiltFor, WroteText, WroteFront};
 ghost use Rattle.ea_machine.specs.MachineLaws.{Protocol};
 ghost use Rattle.ea_top.specs.EachTrace.{ForEachTrace};
@@ -19,9 +22,10 @@ ghost use Rattle.ea_top.specs.declared.faults.Fault.{Fault};
 use crate::faults::{Fault, complain};
 use ea_flags::read_flags;
 use ea_io::{ReadAllFault, Sink, Source, read_all, write_all};
-use ea_model::{Config, List, MAX_INPUT};
+use ea_model::{Config, List, MAX_INPUT, Mode, OutOfMemory, Outcome, Trace};
 use ea_report::print;
 use ea_sched::{is_built, run_given};
+use ea_table::{OpenGate, run_threads};
 use ea_trace::read_trace;
 use std::alloc::Global;
 use std::thread::Threads;
@@ -32,9 +36,9 @@ use std::thread::Threads;
 /// The status is 0 where the text was written; 1 where the words are refused; 2 where the input has
 /// more than 2^24 bytes or isn't a trace; 3 where the source failed; 4 where `out` failed; 5 where
 /// there was no memory; 6 where words and input are accepted, and the run isn't built: its carriers
-/// would migrate, or its mode isn't a schedule.
+/// would migrate, or its operations are to be generated.
 pub fn run<R: Threads + Sync, S: Source, O: Sink, E: Sink>(
-    _rt: &R,
+    rt: &R,
     alloc: Global,
     words: &[String],
     source: &mut S,
@@ -45,9 +49,10 @@ pub fn run<R: Threads + Sync, S: Source, O: Sink, E: Sink>(
     ensures statuses { result ≤ 6 }
 
     // 0: the whole text of an input in the language, which was read to its end. It is the text of
-    // the steps that were taken, and these are exactly the completed schedule: the turns that the
-    // input asks for, and then those of each scheduler until it has ended. Where the source doesn't
-    // tell its bytes, as a terminal, this holds of some input.
+    // a list of steps after which every scheduler has ended. Where the input has a schedule, these
+    // are exactly the completed schedule: the turns that it asks for, and then those of each
+    // scheduler until it has ended. Where the source doesn't tell its bytes, as a terminal, this
+    // holds of some input.
     ensures done { result ≡ 0
         → WroteText words.now (S.left source.old) (O.taken out.old) (O.taken out.new) }
     ensures end { result ≡ 0 → IsAtEnd (S.left source.new) }
@@ -113,7 +118,7 @@ pub fn run<R: Threads + Sync, S: Source, O: Sink, E: Sink>(
     ensures stops { (E.faults err.new ≡ E.faults err.old)
         ⊎ StopsAtFault E.taken E.faults err.old err.new }
 {
-    match attempt(alloc, words, source, out) {
+    match attempt(rt, alloc, words, source, out) {
         Ok(()) => 0,
         Err(fault) => {
             complain(err, fault);
@@ -122,7 +127,8 @@ pub fn run<R: Threads + Sync, S: Source, O: Sink, E: Sink>(
     }
 }
 
-fn attempt<S: Source, O: Sink>(
+fn attempt<R: Threads + Sync, S: Source, O: Sink>(
+    rt: &R,
     alloc: Global,
     words: &[String],
     source: &mut S,
@@ -152,7 +158,7 @@ fn attempt<S: Source, O: Sink>(
 {
     let config = read_flags(words)?;
     let bytes = input_of(alloc, source)?;
-    let text = text_of(alloc, config, bytes.as_slice())?;
+    let text = text_of(rt, alloc, config, bytes.as_slice())?;
     if write_all(out, text.as_slice()).is_err() {
         return Err(Fault::WriteFailed);
     }
@@ -178,19 +184,43 @@ fn input_of<S: Source>(alloc: Global, source: &mut S) -> Result<List<u8>, Fault>
     }
 }
 
-/// The output text for an input under a configuration.
-fn text_of(alloc: Global, config: Config, input: &[u8]) -> Result<List<u8>, Fault>
+/// An output text for an input under a configuration.
+fn text_of<R: Threads + Sync>(
+    rt: &R,
+    alloc: Global,
+    config: Config,
+    input: &[u8],
+) -> Result<List<u8>, Fault>
     requires config { IsValidConfig config }
     requires short { length input.now ≤ MAX_INPUT }
     ensures ok { IfOk result (λ text.
-        output_under (Ok config) (result_ok (language.trace input.now config.schedulers))
-        ≡ Some text.items) }
+        IsOutputUnder (Ok config) (result_ok (language.trace input.now config.schedulers))
+        text.items) }
     ensures err { IfErr result (IsTextFault config input.now) }
 {
     let trace = read_trace(alloc, input, config.schedulers)?;
     if !is_built(config, &trace) {
         return Err(Fault::NotBuilt);
     }
-    let outcome = run_given(alloc, config, &trace)?;
+    let outcome = run_trace(rt, alloc, config, &trace)?;
     Ok(print(alloc, &outcome)?)
+}
+
+/// Runs a trace whose run is built, as its mode says: each scheduler on a thread of its own, or all
+/// by the schedule.
+fn run_trace<R: Threads + Sync>(
+    rt: &R,
+    alloc: Global,
+    config: Config,
+    trace: &Trace,
+) -> Result<Outcome, OutOfMemory>
+    requires config { IsValidConfig config }
+    requires trace { IsValidTrace config.schedulers trace.now }
+    requires built { is_built_run config trace.now ≡ true }
+    ensures { IfOk result (λ outcome. IsRunOutcome config trace.now (plain_outcome outcome)) }
+{
+    match trace.mode {
+        Mode::Threads => run_threads(rt, alloc, config, trace, &OpenGate),
+        Mode::Schedule { .. } | Mode::Generated { .. } => run_given(alloc, config, trace),
+    }
 }

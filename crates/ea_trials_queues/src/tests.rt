@@ -286,3 +286,35 @@ fn what_the_turns_leave_is_done_by_one_scheduler_after_the_other(
     }
     Ok(())
 }
+
+#[test]
+fn schedulers_with_a_thread_each_have_an_output(rt: HostRuntime) -> Result<(), Fail> {
+    let cases = [
+        (
+            "+MHacul 0",
+            "type H\nscheduler 1\nalloc 1 100\nalloc 2 100\nfree 1\nthreads\nend\n",
+            "scheduler 1\nalloc 1 1 8 14\nalloc 2 1 22 14\nfree 1 done\n\
+            carrier 1 multi owner 1 employed 1 base 0 pages 64 allocated 14 largest 32732\n\
+            total carriers 1 units 32768 live 14 queued 0 free 32746 header 8\n",
+        ),
+        // Neither waits for the other one: the output is the same in whatever order they step.
+        (
+            "+S 2 +MHacul 0",
+            "type H\nscheduler 1\nalloc 1 100\nscheduler 2\nalloc 2 100\nthreads\nend\n",
+            "scheduler 1\nalloc 1 1 8 14\nscheduler 2\nalloc 2 257 8 14\n\
+            carrier 1 multi owner 1 employed 1 base 0 pages 64 allocated 14 largest 32746\n\
+            carrier 257 multi owner 2 employed 2 base 8192 pages 64 allocated 14 largest 32746\n\
+            total carriers 2 units 65536 live 28 queued 0 free 65492 header 16\n",
+        ),
+    ];
+    for (words, input, out) in cases {
+        let case = Case {
+            words,
+            input,
+            ..PLAIN
+        };
+        let ran = case.run(&rt, rt.alloc())?;
+        assert_eq!(rt; ran.told(), (0, out, ""), "of {words}, {input:?}");
+    }
+    Ok(())
+}

@@ -51,8 +51,8 @@ fn a_run_that_is_not_built_has_a_status_of_its_own(rt: HostRuntime) -> Result<()
         ("+MHas bf", FIRST_BLOCK),
         ("+MHacul 0 +MHacul de", FIRST_BLOCK),
         ("+MLacul 0", FIRST_BLOCK),
-        // The mode is another.
-        ("+MHacul 0", IN_THREADS),
+        ("", IN_THREADS),
+        // The operations are not given.
         ("+MHacul 0", GENERATED),
     ];
     for (words, input) in cases {

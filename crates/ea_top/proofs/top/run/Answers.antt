@@ -6,7 +6,7 @@ use Rattle.ea_top.specs.declared.faults.Fault.TheVariants.{Words, Trace, TooLong
 use Rattle.ea_top.specs.Faults.{status_of, trace_status}
 use Rattle.ea_trace.specs.declared.fault.TraceFault.{TraceFault}
 use Rattle.ea_trace.specs.declared.fault.TraceFault.TheVariants as trace
-use Rattle.ea_top.proofs.Leaving.{leaving}
+use Rattle.ea_top.proofs.Leaving.{leaving, refusing, written}
 use Rattle.ea_top.proofs.top.run.Goals as goal
 
 -- a refused trace ends with 2, and want of memory with 5
@@ -37,6 +37,16 @@ returns-in-Err-clause-write_failed g c = λ four.
 pub returns-in-Err-clause-front : goal.returns-in-Err-clause-front
 returns-in-Err-clause-front g c = λ four.
     c.in-Err.ensures.front (ap Err (ends_with_4 _ (sym c.status.ensures ∙ four)))
+
+pub returns-in-Ok-clause-refuses : goal.returns-in-Ok-clause-refuses
+returns-in-Ok-clause-refuses g c = λ good calm.
+    written c.args.words.now _ _ _ _ c.in-Ok.ensures.done
+
+pub returns-in-Err-clause-refuses : goal.returns-in-Err-clause-refuses
+returns-in-Err-clause-refuses g c = λ good calm.
+    refusing c.args.words.now _ _ _ good
+    (λ stops. absurd (omega (arith, calm, stops.once, ap next_count stops.calm)))
+    c.status.result _ c.in-Err.fault c.status.ensures c.in-Err.ensures.why
 
 pub returns-in-Err-clause-leaves : goal.returns-in-Err-clause-leaves
 returns-in-Err-clause-leaves g c = λ good calm.
