@@ -5,8 +5,10 @@ They are the same bytes on every machine, and good under the flags +MMscs 512 +M
 they have. Those in FOLDER/strategies are
 for +MHlmbcs 256 and a strategy besides. In filled and changing no allocation fails under a strategy that looks at all
 gaps. Good fit runs out of carriers there, and has fewer blocks in fewer-filled and fewer-changing; under address fit
-nearly each block would have a carrier, and it has blocks of one size in equal-filled and equal-changing.
+nearly each block would have a carrier, and it has blocks of one size in equal-filled and equal-changing. Those in
+FOLDER/threads end with `threads`, and the same operations by a schedule are in FOLDER/schedules.
 """
+import itertools
 import os
 import random
 import sys
@@ -17,6 +19,9 @@ CLOSING = "schedule\nend\n"
 LARGEST_INPUT = 2**24
 MOST_TURNS = 10**8
 MOST_TRIES = 10**7
+TRIES_IN_ALL = 10**8
+GREATEST_NAME = 2**18
+TINY = 100
 SMALL = 3000
 LARGEST = 524280
 # Twenty blocks of that many bytes fill a carrier of 256 kB to its end.
@@ -72,9 +77,13 @@ def stacked(count):
     return OPENING + "".join(allocs + frees) + CLOSING
 
 
-def handed_over(schedulers, rounds, batch):
+def sections_of(texts):
+    return "type H\n" + "".join(f"scheduler {at}\n" + "".join(text) for at, text in enumerate(texts, 1))
+
+
+def hand_over_sections(schedulers, rounds, batch, tries=1):
     """Half of the schedulers allocate blocks and give them, `batch` in a round, and each of the others takes and frees
-    those of one. A scheduler alone gives to itself."""
+    those of one, the last of a round first if that has tries to wait for. A scheduler alone gives to itself."""
     givers = max(schedulers // 2, 1)
     texts, name = [[] for _ in range(schedulers)], 0
     for _ in range(rounds):
@@ -82,16 +91,27 @@ def handed_over(schedulers, rounds, batch):
             taker = giver + schedulers // 2
             names = range(name + 1, name + 1 + batch)
             texts[giver] += [f"alloc {it} {40 + it % 100 * 16}\ngive {it} {taker + 1}\n" for it in names]
-            texts[taker] += [f"take {it} 1\nfree {it}\n" for it in names]
+            waited = [names[-1]] if tries > 1 else []
+            texts[taker] += [f"take {it} {tries}\nfree {it}\n" for it in waited]
+            texts[taker] += [f"take {it} 1\nfree {it}\n" for it in names if it not in waited]
             name += batch
-    sections = "".join(f"scheduler {at}\n" + "".join(text) for at, text in enumerate(texts, 1))
+    return sections_of(texts)
+
+
+def hand_over_turns(schedulers, rounds, batch):
+    """The turns in which they do that, each take at its first try."""
+    givers = max(schedulers // 2, 1)
 
     def turns(of_giver):
         often = [of_giver if at < givers else 5 for at in range(schedulers)]
         return " ".join(f"{at}*{batch * it}" for at, it in enumerate(often, 1)) + "\n"
 
     # For a block: 3 turns to allocate and give it, 5 to take and queue it. One releases it in the round after.
-    return "type H\n" + sections + "schedule\n" + turns(3) + turns(4) * (rounds - 1) + "end\n"
+    return "schedule\n" + turns(3) + turns(4) * (rounds - 1) + "end\n"
+
+
+def handed_over(schedulers, rounds, batch):
+    return hand_over_sections(schedulers, rounds, batch) + hand_over_turns(schedulers, rounds, batch)
 
 
 def ended_turns():
@@ -131,8 +151,59 @@ def crowded(filled, kept, least, most, changes):
     return OPENING + "".join(lines) + CLOSING
 
 
+def own_work(pick, names, count, most_held, largest):
+    """`count` operations of a scheduler: it allocates `most_held` blocks, and then frees, reallocates and allocates."""
+    lines, held = [], []
+    for done in range(count):
+        kind, at, size = pick(), int(pick() * len(held)), int(pick() * (largest + 1))
+        if done < most_held or not held or kind >= 0.6 and len(held) < most_held:
+            held.append(next(names))
+            lines.append(f"alloc {held[-1]} {size}\n")
+        elif kind >= 0.3 and len(held) < most_held:
+            old, held[at] = held[at], next(names)
+            lines.append(f"realloc {old} {held[at]} {size}\n")
+        else:
+            held[at], held[-1] = held[-1], held[at]
+            lines.append(f"free {held.pop()}\n")
+    return lines
+
+
+def disjoint(schedulers, count, most_held, largest):
+    """`count` operations in all, as many of each scheduler, on blocks of its own."""
+    pick, names = random.Random(6).random, itertools.count(1)
+    share = count // schedulers
+    return sections_of([own_work(pick, names, share, most_held, largest) for _ in range(schedulers)])
+
+
+def greatest_name():
+    """Ten operations of sixteen schedulers, and the greatest name among theirs."""
+    texts = [[] for _ in range(SCHEDULERS)]
+    texts[0] = [f"alloc {GREATEST_NAME} 100\n", "alloc 1 100\n", f"give {GREATEST_NAME} 2\n", "free 1\n"]
+    texts[1] = [f"take {GREATEST_NAME} {MOST_TRIES}\n", f"free {GREATEST_NAME}\n"]
+    texts[7] = ["alloc 2 100\n", "realloc 2 3 200\n"]
+    texts[15] = ["alloc 4 100\n", "free 4\n"]
+    return sections_of(texts)
+
+
+def for_threads():
+    """Sections that run with `threads`, and the end of the same trace by a schedule."""
+    for schedulers in (1, 2, 4):
+        yield f"disjoint-{schedulers}", disjoint(schedulers, 200_000, 8, SMALL), CLOSING
+        yield f"disjoint-crowded-{schedulers}", disjoint(schedulers, 200_000, 1000, TINY), CLOSING
+    rounds, batch = 125, 25
+    tries = TRIES_IN_ALL // (rounds * SCHEDULERS // 2) - batch
+    yield (
+        f"handed-over-{SCHEDULERS}",
+        hand_over_sections(SCHEDULERS, rounds, batch, tries),
+        hand_over_turns(SCHEDULERS, rounds, batch),
+    )
+    yield "greatest-name", greatest_name(), CLOSING
+
+
 def main(folder):
     os.makedirs(f"{folder}/strategies", exist_ok=True)
+    os.makedirs(f"{folder}/threads", exist_ok=True)
+    os.makedirs(f"{folder}/schedules", exist_ok=True)
     made = {
         "comments": comments(),
         "long-comment": long_comment(),
@@ -154,6 +225,9 @@ def main(folder):
         "strategies/equal-filled": crowded(5120, 4600, TWENTIETH, TWENTIETH, 0),
         "strategies/equal-changing": crowded(5120, 4600, TWENTIETH, TWENTIETH, 5000),
     }
+    for name, sections, closing in for_threads():
+        made[f"threads/{name}"] = sections + "threads\nend\n"
+        made[f"schedules/{name}"] = sections + closing
     for name, text in made.items():
         with open(f"{folder}/{name}.trace", "w", encoding="ascii", newline="\n") as file:
             file.write(text)

@@ -1,0 +1,341 @@
+"""The small random traces that bench/threads runs: the same for the same number on every machine.
+
+`race` makes one of 2 to 8 schedulers with operations of all kinds and random flags. In most of them all schedulers meet
+before their operations, so that these run beside each other, and in some once more after them, so that all queues are
+worked off in the end. `duel` makes one of two schedulers that meet and then have at most three operations each, and
+tells which lists of turns lead to all that these can give.
+"""
+import itertools
+import math
+import random
+from dataclasses import dataclass, field
+
+LETTERS = "BDEHLRST"
+STRATEGIES = "bf aobf aoff aoffcbf aoffcaobf ageffcaoff ageffcbf ageffcaobf gf af".split()
+DEFAULTS = {
+    "as": "aoffcbf",
+    "sbct": 512,
+    "smbcs": 256,
+    "lmbcs": 5120,
+    "mbcgs": 10,
+    "mmbcs": 0,
+    "mbsd": 3,
+    "asbcst": 1024,
+    "rsbcst": 20,
+    "rsbcmt": 80,
+    "rmbcmt": 50,
+    "ramv": "false",
+}
+CHOICES = {
+    "as": STRATEGIES,
+    "sbct": [1, 2, 8, 64],
+    "smbcs": [4, 16, 64],
+    "lmbcs": [8, 32, 256],
+    "mbcgs": [1, 2],
+    "mmbcs": [4, 20, 50],
+    "mbsd": [1, 2],
+    "asbcst": [0, 1],
+    "rsbcst": [0, 50],
+    "rsbcmt": [0, 30, 100],
+    "rmbcmt": [0, 20, 100],
+    "ramv": ["true"],
+}
+PAGES_OF_A_MB = 256
+KB_OF_A_PAGE = 4
+LARGEST_NAME = 2**18
+# So many tries wait some milliseconds for a block.
+PATIENCE = 500_000
+LEAST_SCHEDULES, MOST_SCHEDULES = 100, 20_000
+TRIES = [1, 1, 3, 50, 1000, 20000]
+FEW_TRIES = [1, 2]
+OPERATIONS = {"alloc": 24, "free": 22, "realloc": 14, "give": 16, "take": 16, "info": 5, "idle": 3}
+TELLING_OPERATIONS = {"alloc": 16, "free": 30, "realloc": 16, "give": 10, "take": 10, "info": 16, "idle": 2}
+SETTLING = [("idle",), ("idle",)]
+
+
+@dataclass
+class Trace:
+    """Flags and the operations of each section; `regions` are the pages of each scheduler."""
+
+    letter: str
+    words: list
+    values: dict
+    regions: int
+    sections: list
+
+    def text(self, ending="threads\n"):
+        lines = [f"type {self.letter}\n"]
+        for number, operations in enumerate(self.sections, 1):
+            lines.append(f"scheduler {number}\n")
+            lines += [" ".join(map(str, it)) + "\n" for it in operations]
+        return "".join(lines) + ending + "end\n"
+
+
+@dataclass
+class Duel(Trace):
+    """A trace with the turns that lead to the meeting, the operations of each section up to it, and for each scheduler
+    its turns after it: one word for all up to the next turn that the other one can notice."""
+
+    opening: str = ""
+    fronts: list = field(default_factory=list)
+    turns: list = field(default_factory=list)
+
+    def count(self):
+        """How many lists of turns there are."""
+        first, second = map(len, self.turns)
+        return math.comb(first + second, first)
+
+    def schedules(self):
+        """Each list of turns as the end of a trace."""
+        first, second = self.turns
+        for places in itertools.combinations(range(len(first) + len(second)), len(first)):
+            mine, theirs, chosen = iter(first), iter(second), set(places)
+            words = (
+                f"1*{next(mine)}" if at in chosen else f"2*{next(theirs)}" for at in range(len(first) + len(second))
+            )
+            yield f"schedule\n{self.opening}\n{' '.join(words)}\n"
+
+
+class Sections:
+    """Sections in the making, with what each may name: `held` is what a section holds if all allocations and takes
+    succeed, `named` what its lines made or took, `offered` what it may take."""
+
+    def __init__(self, pick, schedulers, names, threshold, often=None, tries=None):
+        self.pick = pick
+        self.names = names
+        self.threshold = threshold
+        self.often = often or OPERATIONS
+        self.tries = tries or TRIES
+        self.texts = [[] for _ in range(schedulers)]
+        self.held = [[] for _ in range(schedulers)]
+        self.named = [[] for _ in range(schedulers)]
+        self.offered = [[] for _ in range(schedulers)]
+        self.given = set()
+
+    def makes(self, me, name):
+        for known in (self.held[me], self.named[me]):
+            if name not in known:
+                known.append(name)
+        return name
+
+    def leaves(self, me, name):
+        if name in self.held[me]:
+            self.held[me].remove(name)
+
+    def alloc(self, me, size=0):
+        name = next(self.names)
+        self.texts[me].append(("alloc", name, size))
+        return self.makes(me, name)
+
+    def free(self, me, name):
+        self.texts[me].append(("free", name))
+        self.leaves(me, name)
+
+    def realloc(self, me, old, size):
+        new = next(self.names)
+        self.texts[me].append(("realloc", old, new, size))
+        self.leaves(me, old)
+        return self.makes(me, new)
+
+    def give(self, me, name, to):
+        self.texts[me].append(("give", name, to + 1))
+        self.leaves(me, name)
+        self.given.add(name)
+        self.offered[to].append(name)
+
+    def take(self, me, name, tries):
+        self.texts[me].append(("take", name, tries))
+        self.makes(me, name)
+        if self.pick.random() < 0.7:
+            self.offered[me].remove(name)
+
+    def size(self):
+        """Bytes: mostly few, sometimes about as many as still share a carrier, or more."""
+        kind = self.pick.random()
+        if kind < 0.75:
+            return self.pick.randrange(400 if kind < 0.45 else 5000)
+        near = self.threshold * 1024 + self.pick.randrange(-80, 80)
+        return near if kind < 0.9 else self.pick.randrange(min(3 * near, 700_000))
+
+    def named_by(self, me):
+        """A name that the section may name, mostly one that it holds, or None."""
+        known = self.held[me] if self.held[me] and self.pick.random() < 0.9 else self.named[me]
+        return self.pick.choice(known) if known else None
+
+    def add(self, me):
+        """A random operation, an allocation where the chosen one has no name."""
+        word = self.pick.choices([*self.often], [*self.often.values()])[0]
+        name = self.named_by(me)
+        if word in ("info", "idle"):
+            self.texts[me].append((word,))
+        elif word == "take" and self.offered[me]:
+            self.take(me, self.pick.choice(self.offered[me]), self.pick.choice(self.tries))
+        elif word == "free" and name:
+            self.free(me, name)
+        elif word == "realloc" and name:
+            self.realloc(me, name, self.size())
+        elif word == "give" and name and name not in self.given:
+            others = [it for it in range(len(self.texts)) if it != me]
+            self.give(me, name, me if self.pick.random() < 0.1 else self.pick.choice(others))
+        else:
+            self.alloc(me, self.size())
+
+    def meet(self):
+        """Each scheduler waits until all others have come so far."""
+        middle = self.pick.randrange(len(self.texts))
+        others = [it for it in range(len(self.texts)) if it != middle]
+        there = [(it, self.alloc(it), self.alloc(middle)) for it in others]
+        for it, coming, _ in there:
+            self.give(it, coming, middle)
+        for _, coming, _ in there:
+            self.take(middle, coming, PATIENCE)
+        for it, _, going in there:
+            self.give(middle, going, it)
+            self.take(it, going, PATIENCE)
+
+
+def some_values(pick, megabytes, schedulers):
+    """Values for half of the parameters; a main carrier takes half of its region at most."""
+    values = {key: pick.choice(it) for key, it in CHOICES.items() if pick.random() < 0.5}
+    most = megabytes * PAGES_OF_A_MB // schedulers * KB_OF_A_PAGE // 2
+    if values.get("mmbcs", 0) > most or pick.random() < 0.5:
+        values.pop("mmbcs", None)
+    return values
+
+
+def words_of(pick, letter, schedulers, megabytes, values):
+    """The flags in a random order, some of them for all letters."""
+    pairs = [("+S", schedulers), ("+MMscs", megabytes)]
+    if letter != "T" or pick.random() < 0.5:
+        pairs.append((f"+M{pick.choice(['u', letter])}acul", 0))
+    pairs += [(f"+M{pick.choice(['u', letter])}{key}", it) for key, it in values.items()]
+    pick.shuffle(pairs)
+    return [str(word) for pair in pairs for word in pair]
+
+
+def some_names(pick):
+    """Names in a random order; one trace in fifty has names up to the greatest."""
+    names = pick.sample(range(1, 2000), 1999)
+    stretch = LARGEST_NAME // 2000 if pick.random() < 0.02 else 1
+    return (it * stretch for it in names)
+
+
+def race(number):
+    """A trace of 2 to 8 schedulers."""
+    pick = random.Random(number)
+    schedulers, megabytes = pick.randint(2, 8), pick.choice([1, 1, 2, 4, 64])
+    values = some_values(pick, megabytes, schedulers)
+    letter = pick.choice(LETTERS)
+    threshold = values.get("sbct", DEFAULTS["sbct"])
+    made = Sections(pick, schedulers, some_names(pick), threshold)
+    if pick.random() < 0.8:
+        made.meet()
+    for _ in range(schedulers * pick.randint(1, 20)):
+        made.add(pick.randrange(schedulers))
+    if pick.random() < 0.5:
+        made.meet()
+        for it in made.texts:
+            it += SETTLING
+    words = words_of(pick, letter, schedulers, megabytes, values)
+    return Trace(letter, words, {**DEFAULTS, **values}, megabytes * PAGES_OF_A_MB // schedulers, made.texts)
+
+
+def meeting(made, pick):
+    """What two schedulers do up to their meeting: blocks of each, some of them handed over. It answers the turns up to
+    there. Then scheduler 1 has given the last block, and scheduler 2 has yet to take it."""
+    for me in (0, 1):
+        for _ in range(pick.randint(1, 3)):
+            made.alloc(me, pick.randrange(300))
+    for me in (0, 1):
+        for name in made.held[me][: pick.randint(0, 2)]:
+            made.give(me, name, 1 - me)
+    coming, going = made.alloc(1), made.alloc(0)
+    waiting = [list(it) for it in made.offered]
+    first = [turns_of(it) for it in made.texts]
+    for me in (0, 1):
+        for name in waiting[me]:
+            made.take(me, name, PATIENCE)
+    made.give(1, coming, 0)
+    made.take(0, coming, PATIENCE)
+    made.give(0, going, 1)
+    opening = f"1*{first[0]} 2*{turns_of(made.texts[1])} 1*{turns_of(made.texts[0]) - first[0]}"
+    made.take(1, going, PATIENCE)
+    made.offered = [[], []]
+    return opening
+
+
+def turns_of(operations):
+    """The turns of operations that succeed, where each take does so at once and no queue has a block."""
+    return sum(2 if it[0] in ("give", "take") else 1 for it in operations)
+
+
+def made_by(operations):
+    return {it[-2] for it in operations if it[0] in ("alloc", "realloc")}
+
+
+def ended_by(operations):
+    return {it[1] for it in operations if it[0] in ("free", "realloc")}
+
+
+def most_turns(operations, own):
+    """The most turns of operations and of the text's end while no queue has a block."""
+    turns = 1
+    for word, *rest in operations:
+        away = word in ("free", "realloc") and rest[0] not in own
+        turns += 3 if away else 2 if word == "give" else 1 + rest[1] if word == "take" else 1
+    return turns
+
+
+def noticed_turns(operations, own, held):
+    """Whether another scheduler can notice each turn of operations without takes, while no queue has a block."""
+    turns = []
+    for word, *rest in operations:
+        turns.append(False)
+        holds = word in ("free", "realloc", "give") and rest[0] in held
+        if holds:
+            held.remove(rest[0])
+            turns += [True] if word == "give" else [] if rest[0] in own else [True, True]
+        if word == "alloc" or word == "realloc" and holds:
+            held.add(rest[-2])
+    return turns
+
+
+def turn_words(me, texts, fronts, held):
+    """The numbers of turns of a scheduler after the meeting. If blocks may be put in its queue, or takes may fail, each
+    turn is a word of its own, and they are as many as there can be: for each block of its queue one that passes it and
+    one that finds it not linked."""
+    after, own = texts[me][fronts[me] :], made_by(texts[me])
+    queued = len(own & ended_by(texts[1 - me][fronts[1 - me] :]))
+    last_take = 2 * me
+    if queued or any(it[0] == "take" for it in after):
+        return [1] * (last_take + most_turns(after, own) + 2 * queued)
+    words, count = [], last_take
+    for noticed in noticed_turns(after, own, held):
+        count += 1
+        if noticed:
+            words.append(count)
+            count = 0
+    return words
+
+
+def duel(number):
+    """A trace of two schedulers that meet, with some lists of turns and not too many."""
+    pick = random.Random(number)
+    while True:
+        made = some_duel(pick)
+        if LEAST_SCHEDULES <= made.count() <= MOST_SCHEDULES:
+            return made
+
+
+def some_duel(pick):
+    values, letter = some_values(pick, 64, 2), pick.choice(LETTERS)
+    threshold = min(values.get("sbct", DEFAULTS["sbct"]), 8)
+    made = Sections(pick, 2, iter(range(1, 100)), threshold, TELLING_OPERATIONS, FEW_TRIES)
+    opening = meeting(made, pick)
+    fronts = [len(it) for it in made.texts]
+    held = [set(it) for it in made.held]
+    for at in range(pick.randint(2, 6)):
+        made.add(at % 2)
+    turns = [turn_words(me, made.texts, fronts, held[me]) for me in (0, 1)]
+    words = words_of(pick, letter, 2, 64, values)
+    return Duel(letter, words, {**DEFAULTS, **values}, 32 * PAGES_OF_A_MB, made.texts, opening, fronts, turns)
