@@ -1,6 +1,6 @@
 -- Each row, as a step of a seat, keeps the rule.
 use Rattle.std.specs.Prelude.{All}
-use Rattle.std.proofs.Common.{◌≡◌, ◌≢◌, ℕ, ◌≤◌, true, List, [], ◌∷◌, ◌++◌, Option, None, Some, slice_index, slice_set, length, set, refl, sym, ap, ◌∙◌, subst, inl, inr, arith}
+use Rattle.std.proofs.Common.{◌≡◌, ◌≢◌, ℕ, ◌≤◌, true, List, [], ◌∷◌, ◌++◌, Option, None, Some, slice_index, slice_set, set, refl, sym, ap, ◌∙◌, subst, inl, inr, arith}
 use Rattle.std.proofs.lemmas.List.{append_assoc, append-nil}
 use Rattle.std.proofs.lemmas.List.Elements.{All-cons, All-head, All-nil, All-push, All-weaker}
 use mathlib.Core.Option.{some}
@@ -23,8 +23,7 @@ use Rattle.ea_machine.specs.Setup.{Setup}
 use Rattle.ea_machine.specs.Shared.{Shared}
 use Rattle.ea_machine.specs.State.{State}
 use Rattle.ea_machine.specs.Table.{effect}
-use Rattle.ea_shared.specs.Calls.{caller_of}
-use Rattle.ea_sound.proofs.OtherTurns.{actor-since, one-step, rest-since}
+use Rattle.ea_sound.proofs.OtherTurns.{actor-since, one-step}
 use Rattle.ea_sound.proofs.Totals.{put-here}
 use Rattle.ea_sound.proofs.TurnLists.{run-snoc, step-other, step-shared}
 use Rattle.ea_word.specs.Codes.{code_of, link_code}
@@ -32,7 +31,7 @@ use Rattle.ea_sound.specs.Standing.{IsOlderAt}
 use Rattle.ea_table.specs.declared.views.About.{About}
 use Rattle.ea_table.specs.declared.views.Seated.{Seated}
 use Rattle.ea_table.specs.declared.views.View.{View}
-use Rattle.ea_table.specs.Ruling.{IsSingle, Keeps, Knows, Reads, ReadsHead, Remembers, Sits, acting, actor_in, caller_in, holds, older_after, older_word, setup_in, stepped, steps}
+use Rattle.ea_table.specs.Ruling.{IsSingle, Keeps, Knows, Reads, ReadsHead, Remembers, Sits, acting, actor_in, holds, older_after, older_word, setup_in, stepped, steps}
 use Rattle.ea_table.specs.Words.{Codes}
 use Rattle.ea_table.proofs.Laws.{linking-came, older-stays}
 
@@ -77,19 +76,13 @@ module _ {S : Type 0} (s : table.State S View) (id : ℕ) (v : View) (is : IsSin
   knows : Knows v.config v.trace h.ran h.seat_of id v
   knows = h.each_seat id v there
 
-  mine : Sits v.config v.trace h.ran h.seat_of id (acting v)
+  pub mine : Sits v.config v.trace h.ran h.seat_of id (acting v)
   mine = All-head (Sits v.config v.trace h.ran h.seat_of id) (acting v) []
       (subst (All (Sits v.config v.trace h.ran h.seat_of id)) (ap (λ u. u.seated) is) knows.seated)
 
   pub at : w.actors me ≡ a
   at = ap (λ l. (run e l).actors me) mine.front
       ∙ actor-since e me (acting v).turns mine.since mine.others
-
-  pub stands-now : caller_of e me w ≡ caller_in v
-  stands-now =
-      let rest = ap (λ l. length ((run e l).shared.rests me)) mine.front
-      ∙ rest-since e me (acting v).turns mine.since mine.others in
-      λ k. record { setup = e; number = me; actor = at k; rest = rest k }
 
   pub remembers-now : Remembers w me (acting v).older
   remembers-now = mine.remembers
@@ -130,7 +123,7 @@ module _ {S : Type 0} (s : table.State S View) (id : ℕ) (v : View) (is : IsSin
         ∙ ap (λ r. effect me r w.shared) wanted
 
     abbrev pub view : View
-    view = stepped v h.ran (older_after (wants a) found (acting v).older)
+    view = stepped v mine.since (older_after (wants a) found (acting v).older)
 
     remembers : Remembers next me (older_after (wants a) found (acting v).older)
     remembers node to why gone now =
@@ -156,7 +149,8 @@ module _ {S : Type 0} (s : table.State S View) (id : ℕ) (v : View) (is : IsSin
     sits = record {
       seat = mine.seat;
       since = [];
-      front = sym (append-nil (h.ran ++ me ∷ []));
+      front = ap (λ l. l ++ me ∷ []) mine.front
+          ∙ sym (append-nil ((acting v).turns ++ mine.since ++ me ∷ []));
       others = All-nil (λ i. i ≢ me);
       remembers = remembers;
     }
@@ -222,7 +216,9 @@ module _ {S : Type 0} (about : About) (slots id i : ℕ) (f said : ℕ → ℕ) 
   allowed wanted goes fits s there h =
       let r = fits h.ran h.valid h.made (at s id v is h there)
       (remembers-now s id v is h there) s.words h.coded in
-      let found = said (slice_index s.words i) in (
+      let found = said (slice_index s.words i) in
+      let sat = mine s id v is h there in
+      let me = (acting v).number in (
         view s id v is h there row wanted (wants-goes (actor_in v) row wanted goes) found r.0,
         keeps,
         tt,
@@ -230,10 +226,11 @@ module _ {S : Type 0} (about : About) (slots id i : ℕ) (f said : ℕ → ℕ) 
             (slice_set s.words i (f (slice_index s.words i))) s.homes r.1,
         (
           record {
-            turns = h.ran;
-            stands = stands-now s id v is h there;
-            reads = subst (λ q. Reads (acting v).number q (run (setup_in v) h.ran).shared found)
-                (sym wanted) r.0;
+            since = sat.since;
+            others = sat.others;
+            reads = subst (λ l. Reads me (wants (actor_in v)) (run (setup_in v) l).shared found)
+                sat.front
+                (subst (λ q. Reads me q (run (setup_in v) h.ran).shared found) (sym wanted) r.0);
             view = refl;
           },
           refl,

@@ -1,19 +1,21 @@
 -- What a call answers, by the word that its step found.
-use Rattle.std.proofs.Common.{◌≡◌, ◌≢◌, ℕ, ◌≤◌, Bool, true, false, List, [], ◌∷◌, Option, None, Some, refl, sym, ap, ◌∙◌, subst, arith}
-use Rattle.std.specs.Prelude.{IfSome, option_map}
+use Rattle.std.proofs.Common.{◌≡◌, ◌≢◌, ℕ, ◌≤◌, Bool, true, false, List, [], ◌∷◌, ◌++◌, Option, None, Some, refl, sym, ap, ◌∙◌, subst, arith}
+use Rattle.std.specs.Prelude.{All, IfSome, option_map}
 use Rattle.ea_model.specs.declared.carriers.Spot.{Spot}
 use Rattle.ea_machine.specs.declared.nodes.Node.{Node}
 use Rattle.ea_machine.specs.declared.nodes.Node.TheVariants.{Block}
 use Rattle.ea_machine.specs.Machine.{run, step, wants}
 use Rattle.ea_machine.specs.Nodes.{Mark, first_node, spot_named}
 use Rattle.ea_machine.specs.Rows.{Answer, Got, Head, Passes, Rests, Row, TakeLink, TakeTry}
+use Rattle.ea_machine.specs.Setup.{Setup}
 use Rattle.ea_machine.specs.Shared.{Shared}
 use Rattle.ea_machine.specs.Table.{answer, link_answer, link_read}
 use Rattle.ea_shared.specs.Calls.{Did, WantsRow, caller_of}
+use Rattle.ea_sound.proofs.OtherTurns.{actor-since, rest-since}
 use Rattle.ea_sound.proofs.TurnLists.{run-snoc}
 use Rattle.ea_word.specs.Codes.{IsCodable, code_of, link_code}
 use Rattle.ea_table.specs.declared.views.View.{View}
-use Rattle.ea_table.specs.Ruling.{DidRow, Reads, ReadsHead, ReadsLink, ReadsName, Took, acting, actor_in, caller_in, older_after, setup_in, stepped}
+use Rattle.ea_table.specs.Ruling.{DidRow, Reads, ReadsHead, ReadsLink, ReadsName, Took, acting, actor_in, caller_in, older_after, setup_in, shared_since, stepped}
 use Rattle.ea_table.specs.Words.{block_spot, mark_code}
 use Rattle.ea_table.proofs.Rows.{code-more}
 
@@ -63,17 +65,16 @@ name-told name (Some p) found result reads d = d.0 (Block name p) reads.1 reads.
 module _ (v u : View) (me found : ℕ) (row : Row) (took : Took v found u)
     (wanted : WantsRow me row (caller_in v)) where
   abbrev pub s : Shared
-  s = (run (setup_in v) took.turns).shared
+  s = shared_since v took.since
 
   pub reads-row : Reads (acting v).number row s found
   reads-row = subst (λ r. Reads (acting v).number r s found) wanted.1 took.reads
 
   pub did : (got : Answer) → got ≡ answer (acting v).number row s → DidRow me row got v u
   did got is = record {
-    turns = took.turns;
-    stands = ap (λ i. caller_of (setup_in v) i (run (setup_in v) took.turns)) (sym wanted.0)
-        ∙ took.stands;
     number = wanted.0;
+    since = took.since;
+    others = subst (λ i. All (λ j. j ≢ i) took.since) wanted.0 took.others;
     answered = is ∙ ap (λ i. answer i row s) wanted.0;
     older = older_after (wants (actor_in v)) found (acting v).older;
     view = took.view;
@@ -85,6 +86,14 @@ module _ (v u : View) (me found : ℕ) (row : Row) (took : Took v found u)
   head-row newest result is reads d = did (Head result)
       (ap Head (head-told newest found result reads d) ∙ sym is)
 
+-- the caller stays as it is while others take turns
+caller-since : (e : Setup) (me : ℕ) (turns since : List ℕ) → All (λ i. i ≢ me) since
+    → caller_of e me (run e (turns ++ since)) ≡ caller_of e me (run e turns)
+caller-since e me turns since others =
+    let actor = actor-since e me turns since others in
+    let rest = rest-since e me turns since others in
+    λ k. record { setup = e; number = me; actor = actor k; rest = rest k }
+
 -- a row of a table that tells the caller
 pub caller-did : (me : ℕ) (row : Row) (got : Answer) (v u : View) → DidRow me row got v u
     → Did me row got None None (Some (caller_in v)) (Some (caller_in u))
@@ -92,9 +101,9 @@ caller-did me row got v u d = record {
   shared = tt;
   shared_untold = λ q. refl;
   caller = (
-    run (setup_in v) d.turns,
-    (d.turns, refl),
-    sym d.stands,
+    run (setup_in v) ran,
+    (ran, refl),
+    sym stands,
     tt,
     d.answered,
     ap (λ (x : View). Some (caller_in x)) d.view ∙ ap Some after,
@@ -104,10 +113,17 @@ caller-did me row got v u d = record {
   i : ℕ
   i = (acting v).number
 
-  after : caller_in (stepped v d.turns d.older)
-      ≡ caller_of (setup_in v) me (step (setup_in v) (run (setup_in v) d.turns) me)
-  after = ap (caller_of (setup_in v) i) (run-snoc (setup_in v) d.turns i)
-      ∙ ap (λ j. caller_of (setup_in v) j (step (setup_in v) (run (setup_in v) d.turns) j)) d.number
+  ran : List ℕ
+  ran = (acting v).turns ++ d.since
+
+  stands : caller_of (setup_in v) me (run (setup_in v) ran) ≡ caller_in v
+  stands = caller-since (setup_in v) me (acting v).turns d.since d.others
+      ∙ ap (λ j. caller_of (setup_in v) j (run (setup_in v) (acting v).turns)) (sym d.number)
+
+  after : caller_in (stepped v d.since d.older)
+      ≡ caller_of (setup_in v) me (step (setup_in v) (run (setup_in v) ran) me)
+  after = ap (caller_of (setup_in v) i) (run-snoc (setup_in v) ran i)
+      ∙ ap (λ j. caller_of (setup_in v) j (step (setup_in v) (run (setup_in v) ran) j)) d.number
 
 -- a link was read
 module _ (v u : View) (me found : ℕ) (took : Took v found u)

@@ -131,12 +131,16 @@ abbrev pub older_after : Row → ℕ → ℕ → ℕ
 older_after (Push node to) found was = older_word found
 older_after _ found was = was
 
--- the view after a step that follows these turns
+-- what is shared after the turns that a seat knows and those that others took since
+abbrev pub shared_since : View → List ℕ → Shared
+shared_since v since = (run (setup_in v) ((acting v).turns ++ since)).shared
+
+-- what the seat knows after a step that follows these
 abbrev pub stepped : View → List ℕ → ℕ → View
-stepped v turns older = record v {
+stepped v since older = record v {
   seated = record {
     number = (acting v).number;
-    turns = turns ++ (acting v).number ∷ [];
+    turns = (acting v).turns ++ since ++ (acting v).number ∷ [];
     older = older;
   } ∷ [];
 }
@@ -173,13 +177,13 @@ Reads me (Give given) s found = Unit {0}
 Reads me (TakeTry name) s found = ReadsName name (spot_named name s.given) found
 Reads me Nothing s found = Unit {0}
 
--- after some turns the scheduler of a seat stood as the seat knew it, and its row found that word;
--- now the seat knows it after that step
+-- others took some turns since those that the seat knew, and then its scheduler took a step, in which
+-- its row found that word; now the seat knows all turns up to that step
 pub record Took (v : View) (found : ℕ) (u : View) : Type 0 where
-  pub turns : List ℕ
-  pub stands : caller_of (setup_in v) (acting v).number (run (setup_in v) turns) ≡ caller_in v
-  pub reads : Reads (acting v).number (wants (actor_in v)) (run (setup_in v) turns).shared found
-  pub view : u ≡ stepped v turns (older_after (wants (actor_in v)) found (acting v).older)
+  pub since : List ℕ
+  pub others : All (λ i. i ≢ (acting v).number) since
+  pub reads : Reads (acting v).number (wants (actor_in v)) (shared_since v since) found
+  pub view : u ≡ stepped v since (older_after (wants (actor_in v)) found (acting v).older)
 
 -- a step of a seat, which keeps its slots
 abbrev pub steps : {S : Type 0} → Step S → Me S View → ℕ → Me S View → Type 0
@@ -187,12 +191,12 @@ steps step m found m' = Took m.0 found m'.0 × (m'.1 ≡ m.1)
 
 -- the row got that answer in a step of the seat
 pub record DidRow (me : ℕ) (row : Row) (got : Answer) (v u : View) : Type 0 where
-  pub turns : List ℕ
-  pub stands : caller_of (setup_in v) me (run (setup_in v) turns) ≡ caller_in v
   pub number : (acting v).number ≡ me
-  pub answered : got ≡ answer me row (run (setup_in v) turns).shared
+  pub since : List ℕ
+  pub others : All (λ i. i ≢ me) since
+  pub answered : got ≡ answer me row (shared_since v since)
   pub older : ℕ
-  pub view : u ≡ stepped v turns older
+  pub view : u ≡ stepped v since older
 
 -- a seat is split off for the first scheduler of another: what the two know then
 
