@@ -354,7 +354,8 @@ class History:
     def end_block(self, me, at, entry):
         """Notes that an operation of a held name freed or replaced its block, or failed to."""
         block = self.blocks.get(entry.operation[1])
-        demand(block and not block.death, f"'{entry}' is {entry.result}, and there is no such block")
+        is_there = block and (entry.result == "failed" or not block.death)
+        demand(is_there, f"'{entry}' is {entry.result}, and there is no such block")
         is_own = block.owner == me
         if entry.operation[0] == "realloc" and entry.result != "here":
             moves = not is_own or self.decide(block, need_of(entry.operation[-1]))[0]
