@@ -8,7 +8,7 @@ use Rattle.std.proofs.lemmas.List.Sums.{sum_by-cons, sum_by-le}
 use Rattle.ea_model.specs.declared.carriers.BlockAt.{BlockAt}
 use Rattle.ea_model.specs.declared.carriers.Candidate.{Candidate}
 use Rattle.ea_model.specs.declared.carriers.Figures.{Figures}
-use Rattle.ea_model.specs.declared.units.TheConstants.{MAX_UNITS, NUMBERS}
+use Rattle.ea_model.specs.declared.units.TheConstants.{MAX_SCHEDULERS, MAX_UNITS, NUMBERS}
 use Rattle.ea_model.specs.Content.{Content, allocated, block_at, free_units, gap_at, gaps_of, inserted, placed, released, resized, size_of, taken_of}
 use Rattle.ea_model.specs.Instance.{changed, content_of, figures, with_content, without_content}
 use Rattle.ea_model.specs.Keyed.{changed_at, item_at, without, IsBelow}
@@ -23,7 +23,7 @@ use Rattle.ea_laws.proofs.Ranges.{IsOrdered}
 use Rattle.ea_laws.proofs.Sums.{all-units}
 use Rattle.ea_laws.proofs.Tiling.{Ordered-allocated, Tiled-allocated, Tiled-length, one-Ordered}
 use Rattle.ea_instance.specs.Changes.{AreLaid, IsPlacing, IsResizing}
-use Rattle.ea_instance.specs.Counted.{with_block, with_carrier}
+use Rattle.ea_instance.specs.Counted.{with_block, with_carrier, with_whole}
 use Rattle.ea_instance.specs.declared.changes.Placed.{Placed}
 use Rattle.ea_instance.specs.declared.employed.Resized.{Resized}
 
@@ -137,13 +137,13 @@ within-carrier units f g e = (
   omega (arith, ap (λ (h : Figures). h.carriers_size) e),
 )
 
-abbrev blocks_in : Content → ℕ
+abbrev pub blocks_in : Content → ℕ
 blocks_in c = length c.blocks
 
-abbrev allocated_in : Content → ℕ
+abbrev pub allocated_in : Content → ℕ
 allocated_in c = allocated c.blocks
 
-abbrev units_in : Content → ℕ
+abbrev pub units_in : Content → ℕ
 units_in c = c.units
 
 -- a carrier changes
@@ -283,13 +283,41 @@ figures-left n x cs rising there none =
     (length-without number_of n x cs rising there)
     (omega (arith, sum-without number_of n x units_in cs rising there))
 
+-- a carrier comes with its blocks, or goes with them
+pub figures-with : (x : Content) (cs : List Content) → figures (with_content x cs)
+    ≡ with_whole (blocks_in x) (allocated_in x) x.units (figures cs)
+figures-with x cs =
+    same-figures (figures (with_content x cs))
+    (with_whole (blocks_in x) (allocated_in x) x.units (figures cs))
+    (sum-entered blocks_in x cs) (sum-entered allocated_in x cs) (length-entered number_of x cs)
+    (sum-entered units_in x cs)
+
+pub figures-without : (n : ℕ) (x : Content) (cs : List Content) → IsRising cs
+    → content_of cs n ≡ Some x
+    → with_whole (blocks_in x) (allocated_in x) x.units (figures (without_content n cs))
+    ≡ figures cs
+figures-without n x cs rising there =
+    same-figures
+    (with_whole (blocks_in x) (allocated_in x) x.units (figures (without_content n cs)))
+    (figures cs) (sum-without number_of n x blocks_in cs rising there)
+    (sum-without number_of n x allocated_in cs rising there)
+    (length-without number_of n x cs rising there) (sum-without number_of n x units_in cs rising there)
+
+pub cancel-whole : (blocks size units : ℕ) (f g : Figures)
+    → with_whole blocks size units f ≡ with_whole blocks size units g → f ≡ g
+cancel-whole blocks size units f g e =
+    same-figures f g (omega (arith, ap (λ (h : Figures). h.blocks) e))
+    (omega (arith, ap (λ (h : Figures). h.blocks_size) e))
+    (omega (arith, ap (λ (h : Figures). h.carriers) e))
+    (omega (arith, ap (λ (h : Figures). h.carriers_size) e))
+
 -- what a carrier comes to is bounded
 pub record IsBounded (c : Content) : Type 0 where
   pub blocks : blocks_in c ≤ MAX_UNITS
   pub sum : allocated_in c ≤ MAX_UNITS
   pub units : units_in c ≤ MAX_UNITS
 
-laid-bounded : (c : Content) → IsLaidOut c → IsBounded c
+pub laid-bounded : (c : Content) → IsLaidOut c → IsBounded c
 laid-bounded c laid = record {
   blocks = omega (arith, Tiled-length 8 c.units c.blocks laid.tiled, laid.low);
   sum = omega (arith, Tiled-allocated 8 c.units c.blocks laid.tiled, laid.low);
@@ -334,18 +362,22 @@ placed-most need name x p cs new laid even least w =
       ap (λ g. taken_of g need) w.chosen.gap,
     )
 
+-- how many carriers there can be
+abbrev pub MAX_CARRIERS : ℕ
+MAX_CARRIERS = NUMBERS * MAX_SCHEDULERS
+
 -- and so are the figures of so few carriers
 pub record AreBounded (f : Figures) : Type 0 where
-  pub blocks : f.blocks ≤ MAX_UNITS * NUMBERS
-  pub blocks_size : f.blocks_size ≤ MAX_UNITS * NUMBERS
-  pub carriers : f.carriers ≤ NUMBERS
-  pub carriers_size : f.carriers_size ≤ MAX_UNITS * NUMBERS
+  pub blocks : f.blocks ≤ MAX_UNITS * MAX_CARRIERS
+  pub blocks_size : f.blocks_size ≤ MAX_UNITS * MAX_CARRIERS
+  pub carriers : f.carriers ≤ MAX_CARRIERS
+  pub carriers_size : f.carriers_size ≤ MAX_UNITS * MAX_CARRIERS
 
-figures-bounded : (cs : List Content) → All IsBounded cs → length cs ≤ NUMBERS
+figures-bounded : (cs : List Content) → All IsBounded cs → length cs ≤ MAX_CARRIERS
     → AreBounded (figures cs)
 figures-bounded cs bounded few =
     let most : (g : Content → ℕ) → ((c : Content) → IsBounded c → g c ≤ MAX_UNITS)
-    → sum_by g cs ≤ MAX_UNITS * NUMBERS = λ g each. omega (
+    → sum_by g cs ≤ MAX_UNITS * MAX_CARRIERS = λ g each. omega (
       arith,
       few,
       sum_by-le g MAX_UNITS cs (All-weaker IsBounded (λ c. g c ≤ MAX_UNITS) each cs bounded),
@@ -357,11 +389,11 @@ figures-bounded cs bounded few =
       carriers_size = most units_in (λ c b. b.units);
     }
 
-pub laid-figures : (cs : List Content) → AreLaid cs → length cs ≤ NUMBERS → AreBounded (figures cs)
+pub laid-figures : (cs : List Content) → AreLaid cs → length cs ≤ MAX_CARRIERS → AreBounded (figures cs)
 laid-figures cs laid few = figures-bounded cs
     (All-weaker IsLaidOut IsBounded laid-bounded cs laid.sound) few
 
-pub alone-figures : (cs : List Content) → All IsLaidOutAlone cs → length cs ≤ NUMBERS
+pub alone-figures : (cs : List Content) → All IsLaidOutAlone cs → length cs ≤ MAX_CARRIERS
     → AreBounded (figures cs)
 alone-figures cs laid few = figures-bounded cs
     (All-weaker IsLaidOutAlone IsBounded alone-bounded cs laid) few

@@ -1,14 +1,16 @@
 -- What an instance keeps of its carriers through its calls.
-use Rattle.std.proofs.Common.{◌≡◌, ℕ, ◌+◌, ◌*◌, ◌%◌, ◌<◌, ◌≤◌, true, false, List, length, All, sym, ap, ◌∙◌, subst, refl, arith}
+use Rattle.std.proofs.Common.{◌≡◌, ◌≢◌, ℕ, ◌+◌, ◌*◌, ◌%◌, ◌<◌, ◌≤◌, true, false, List, length, All, sym, ap, ◌∙◌, subst, refl, arith}
 use Rattle.std.specs.Prelude.{Option, Some, None, Result, Ok, Err, IfOk, is_some, option_map}
 use Rattle.ea_model.specs.declared.settings.Settings.{Settings}
 use Rattle.ea_model.specs.declared.carriers.Candidate.{Candidate}
+use Rattle.ea_model.specs.declared.carriers.OwnCarrier.{OwnCarrier}
 use Rattle.ea_model.specs.declared.carriers.Spot.{Spot}
 use Rattle.ea_model.specs.declared.carriers.CarrierPlan.{CarrierPlan}
 use Rattle.ea_model.specs.declared.entries.NoCarrier.{NoCarrier}
 use Rattle.ea_model.specs.declared.carriers.Kind.TheVariants.{Multi}
 use Rattle.ea_model.specs.Content.{Content, block_at, placed, released}
-use Rattle.ea_model.specs.Instance.{Instance, block_in, changed, changing, chosen_spot, clearing, content_of, created_content, created_single, creating, creating_single, employed, free_run, has_content, is_used, own_at, own_of, place_at, placing_at, plan, planned_own, releasing_at, single_place, size_for, with_content, with_own, without_content, without_own}
+use Rattle.ea_model.specs.Instance.{Instance, block_in, changed, changing, chosen_spot, content_of, created_content, created_single, creating, creating_single, employed, free_run, has_content, is_used, own_at, own_of, place_at, placing_at, plan, planned_own, releasing_at, single_place, size_for, with_content, with_own, without_content, without_own}
+use Rattle.ea_model.specs.Employment.{dismissing, employing}
 use Rattle.ea_model.specs.Strategies.{choice_among, choice_empty, may_miss, or_else, spot_of}
 use Rattle.ea_instance.specs.Answers.{placing_if}
 use Rattle.ea_instance.specs.Choices.{IsChoice}
@@ -17,16 +19,16 @@ use Rattle.ea_instance.specs.Kept.{KeepsCarriers, seen_as}
 use Rattle.ea_instance.specs.Listed.{CarrierList}
 use Rattle.ea_instance.specs.Own.{OwnList}
 use Rattle.ea_instance.proofs.Changed.{at_choice}
-use Rattle.ea_laws.specs.Kept.{number_of, ContentsApart, IsWhole, Stands}
+use Rattle.ea_laws.specs.Kept.{number_of, ContentsApart, IsLaidOut, IsSomeones, IsWhole, Stands}
 use Rattle.ea_laws.specs.Spots.{HasGap, HaveSameBlocks, IsPlaced}
 use Rattle.ea_laws.proofs.Blocks.{creating-same, creating_single-IsPlaced, placing-IsPlaced}
 use Rattle.ea_laws.proofs.Keeping.{IsLaidOut-made, has-number, lies-low, other-numbers, plan-IsPlanned}
-use Rattle.ea_laws.proofs.Standing.{clearing-Stands, creating-Stands, creating_single-Stands, employed-few, employed-multi, employed-own, employed-rising, multi-apart, placing-Stands, planned-alone, planned-apart, planned-few, planned-new, releasing-Stands}
-use Rattle.ea_model.specs.declared.units.TheConstants.{MAX_PAGES, MAX_UNITS}
+use Rattle.ea_laws.proofs.Standing.{creating-Stands, dismissing-Stands, disowning-Stands, employing-Stands, creating_single-Stands, employed-few, employed-multi, employed-rising, multi-apart, placing-Stands, planned-alone, planned-apart, planned-new, releasing-Stands, singles-few}
+use Rattle.ea_model.specs.declared.units.TheConstants.{MAX_PAGES, MAX_SCHEDULERS, MAX_UNITS, NUMBERS}
 use Rattle.ea_laws.proofs.Changed.{KeepsPlace, released-keeps}
 use Rattle.ea_laws.proofs.Contents.{absent-among}
-use Rattle.ea_model.proofs.Merged.{merged-apart, merged-second}
-use Rattle.ea_model.proofs.Rising.{changed_none, none-other, without_none}
+use Rattle.ea_model.proofs.Merged.{merged-apart, merged-each, merged-second}
+use Rattle.ea_model.proofs.Rising.{changed_none, item_at-All, item_at-key, length-entered, none-other, without_none}
 use Rattle.std.specs.Option.{option_and_then}
 
 -- the carrier that enters is the planned one
@@ -85,8 +87,11 @@ module _ (s : Settings) (n : ℕ) (own : OwnList) (ks : CarrierList) (ss : List 
   here = seen_as s n own ks ss created
 
   -- there are no more carriers than numbers
-  pub kept-few : length ks.contents + length ss ≤ 256
+  pub kept-few : length ks.contents + length ss ≤ NUMBERS * MAX_SCHEDULERS
   kept-few = employed-few here k.stands
+
+  pub kept-few_alone : length ss ≤ 256
+  kept-few_alone = singles-few here k.stands
 
   -- a content of a multiblock carrier, or else of a singleblock one, is one of all
   pub all-multi : (number : ℕ) (c : Content) → content_of ks.contents number ≡ Some c
@@ -187,69 +192,103 @@ module _ (s : Settings) (n : ℕ) (own : OwnList) (ks : CarrierList) (ss : List 
           (sym (changed-single f (released-keeps spot.offset) spot.carrier none))
           (releasing-Stands here spot k.stands)))
 
-  -- the instance owns what it employs
-  pub kept-own : (number : ℕ) (c : Content) → content_of (employed here) number ≡ Some c
-      → own_at own.carriers number ≡ Some (own_of c)
-  kept-own number c there = employed-own here number c k.stands there
+  -- a carrier goes from those that are employed
+  module _ (number : ℕ) where
+    kept_dismissed : (new : CarrierList) (rest : List Content)
+        → new ≡ record ks { contents = without_content number ks.contents }
+        → rest ≡ without_content number ss → KeepsCarriers s n own new rest created
+    kept_dismissed new rest is lacks =
+        subst (λ xs. KeepsCarriers s n own xs rest created) (sym is)
+        (subst (λ ys. KeepsCarriers s n own
+        (record ks { contents = without_content number ks.contents }) ys created) (sym lacks)
+        (keeping _ _ _ _ _ _ k.strategy (dismissing-Stands here number k.stands)))
 
-  -- a carrier goes
-  module _ (number : ℕ) (c : Content) (there : content_of (employed here) number ≡ Some c)
-      (left : OwnList) (gone : left ≡ record own { carriers = without_own number own.carriers })
-    where
-      abbrev cleared : Instance
-      cleared = clearing here number
+    seen_dismissed : (now : Instance) → here ≡ now → (new : CarrierList) (rest : List Content)
+        → new ≡ record ks { contents = without_content number ks.contents }
+        → rest ≡ without_content number ss
+        → seen_as s n own new rest created ≡ dismissing now number
+    seen_dismissed now seen new rest is lacks =
+        ap (λ xs. seen_as s n own xs rest created) is
+        ∙ ap (λ ys. seen_as s n own
+        (record ks { contents = without_content number ks.contents }) ys created) lacks
+        ∙ ap (λ i. dismissing i number) seen
 
-      kept_cleared : (new : CarrierList) (rest : List Content)
-          → new ≡ record ks { contents = without_content number ks.contents }
-          → rest ≡ without_content number ss → KeepsCarriers s n left new rest created
-      kept_cleared new rest is lacks =
-          subst (λ xs. KeepsCarriers s n left xs rest created) (sym is)
-          (subst (λ ys. KeepsCarriers s n left
-          (record ks { contents = without_content number ks.contents }) ys created) (sym lacks)
-          (subst (λ os. KeepsCarriers s n os
-          (record ks { contents = without_content number ks.contents })
-          (without_content number ss) created) (sym gone) (keeping _ _ _ _ _ _ k.strategy
-          (clearing-Stands here number c k.stands there))))
+    -- a multiblock one
+    module _ (x : Content) (multi : content_of ks.contents number ≡ Some x) (new : CarrierList)
+        (is : new ≡ record ks { contents = without_content number ks.contents }) where
+      others : ss ≡ without_content number ss
+      others = sym (without_none number_of number ss
+          (merged-apart number_of number x ks.contents ss (employed-rising here k.stands) multi))
 
-      seen_cleared : (now : Instance) → here ≡ now → (new : CarrierList) (rest : List Content)
-          → new ≡ record ks { contents = without_content number ks.contents }
-          → rest ≡ without_content number ss
-          → seen_as s n left new rest created ≡ clearing now number
-      seen_cleared now seen new rest is lacks =
-          ap (λ xs. seen_as s n left xs rest created) is
-          ∙ ap (λ ys. seen_as s n left
-          (record ks { contents = without_content number ks.contents }) ys created) lacks
-          ∙ ap (λ os. seen_as s n os (record ks { contents = without_content number ks.contents })
-          (without_content number ss) created) gone ∙ ap (λ i. clearing i number) seen
+      pub kept-dismissed : KeepsCarriers s n own new ss created
+      kept-dismissed = kept_dismissed new ss is others
 
-      -- a multiblock one
-      module _ (x : Content) (multi : content_of ks.contents number ≡ Some x) (new : CarrierList)
-          (is : new ≡ record ks { contents = without_content number ks.contents }) where
-        others : ss ≡ without_content number ss
-        others = sym (without_none number_of number ss
-            (merged-apart number_of number x ks.contents ss (employed-rising here k.stands) multi))
+      pub seen-dismissed : (now : Instance) → here ≡ now
+          → seen_as s n own new ss created ≡ dismissing now number
+      seen-dismissed now seen = seen_dismissed now seen new ss is others
 
-        pub kept-cleared : KeepsCarriers s n left new ss created
-        kept-cleared = kept_cleared new ss is others
+    -- a singleblock one
+    module _ (x : Content) (single : content_of ss number ≡ Some x) (rest : List Content)
+        (lacks : rest ≡ without_content number ss) where
+      no_multi : content_of ks.contents number ≡ None
+      no_multi = by (content_of ks.contents number) refl where
+        by : (o : Option Content) → content_of ks.contents number ≡ o → o ≡ None
+        by None q = refl
+        by (Some y) q = absurd (item_at-All number_of (λ d. d.number ≢ number) number x ss
+            (merged-apart number_of number y ks.contents ss (employed-rising here k.stands) q)
+            single (item_at-key number_of number x ss single))
 
-        pub seen-cleared : (now : Instance) → here ≡ now
-            → seen_as s n left new ss created ≡ clearing now number
-        seen-cleared now seen = seen_cleared now seen new ss is others
+      same_list : ks ≡ record ks { contents = without_content number ks.contents }
+      same_list = ap (λ xs. record ks { contents = xs })
+          (sym (without_none number_of number ks.contents
+          (none-other number_of number ks.contents no_multi)))
 
-      -- a singleblock one
-      module _ (none : content_of ks.contents number ≡ None) (rest : List Content)
-          (lacks : rest ≡ without_content number ss) where
-        same_list : ks ≡ record ks { contents = without_content number ks.contents }
-        same_list = ap (λ xs. record ks { contents = xs })
-            (sym (without_none number_of number ks.contents
-            (none-other number_of number ks.contents none)))
+      pub found-dismissed : content_of (employed here) number ≡ Some x
+      found-dismissed = all-single number no_multi ∙ single
 
-        pub kept-single-cleared : KeepsCarriers s n left ks rest created
-        kept-single-cleared = kept_cleared ks rest same_list lacks
+      pub kept-single-dismissed : KeepsCarriers s n own ks rest created
+      kept-single-dismissed = kept_dismissed ks rest same_list lacks
 
-        pub seen-single-cleared : (now : Instance) → here ≡ now
-            → seen_as s n left ks rest created ≡ clearing now number
-        seen-single-cleared now seen = seen_cleared now seen ks rest same_list lacks
+      pub seen-single-dismissed : (now : Instance) → here ≡ now
+          → seen_as s n own ks rest created ≡ dismissing now number
+      seen-single-dismissed now seen = seen_dismissed now seen ks rest same_list lacks
+
+  -- a carrier that isn't employed goes from those that are owned
+  module _ (number : ℕ) (o : OwnCarrier) (there : own_at own.carriers number ≡ Some o)
+      (none : content_of (employed here) number ≡ None) (left : OwnList)
+      (gone : left ≡ record own { carriers = without_own number own.carriers }) where
+    pub kept-disowned : KeepsCarriers s n left ks ss created
+    kept-disowned = subst (λ os. KeepsCarriers s n os ks ss created) (sym gone)
+        (keeping _ _ _ _ _ _ k.strategy (disowning-Stands here number o k.stands there none))
+
+  -- a carrier comes
+  module _ (x : Content) (absent : content_of (employed here) x.number ≡ None)
+      (apart : All (ContentsApart x) (employed here)) (laid : IsLaidOut x)
+      (someones : IsSomeones here (own_of x)) (on : 0 < s.acul) where
+    more : Stands (employing here x)
+    more = employing-Stands here x k.stands absent apart laid someones
+        (λ off. absurd (omega (arith, on, off)))
+
+    pub few-adopted : length ks.contents < NUMBERS * MAX_SCHEDULERS
+    few-adopted = omega (
+      arith,
+      employed-few (employing here x) more,
+      length-entered number_of x ks.contents,
+    )
+
+    pub new-adopted : has_content x.number ks.contents ≡ false
+    new-adopted = absent-among x.number ks.contents
+        (merged-each number_of (λ c. c.number ≢ x.number) ks.contents ss
+        (none-other number_of x.number (employed here) absent)).0
+
+    pub apart-adopted : All (ContentsApart x) ks.contents
+    apart-adopted = (merged-each number_of (ContentsApart x) ks.contents ss apart).0
+
+    pub kept-adopted : (new : CarrierList)
+        → new ≡ record ks { contents = with_content x ks.contents }
+        → KeepsCarriers s n own new ss created
+    kept-adopted new is = subst (λ xs. KeepsCarriers s n own xs ss created) (sym is)
+        (keeping _ _ _ _ _ _ k.strategy more)
 
   -- a gap that the carriers choose is the one that the instance does
   module _ (need : ℕ) (found : Choice) (now : Instance) (seen : here ≡ now)
@@ -338,8 +377,23 @@ module _ (s : Settings) (n : ℕ) (own : OwnList) (ks : CarrierList) (ss : List 
     whole-pages = (IsLaidOut-made here need p k.stands.kept asked_here).whole
 
     -- there are fewer carriers than numbers
-    pub few-employed : length ks.contents + length ss < 256
-    few-employed = planned-few here need p k.stands asked_here
+    pub few-employed : length ks.contents < NUMBERS * MAX_SCHEDULERS
+    few-employed =
+        let more = creating-Stands here need p k.stands asked_here in
+        omega (
+          arith,
+          employed-few (creating here p) more,
+          length-entered number_of (created_content n Multi p) ks.contents,
+        )
+
+    pub few-alone : 6 ≤ need → need % 2 ≡ 0 → length ss < 256
+    few-alone least even =
+        let more = creating_single-Stands here need p k.stands asked_here 0 least even in
+        omega (
+          arith,
+          singles-few (creating_single here p need 0) more,
+          length-entered number_of (created_single n p need 0) ss,
+        )
 
     pub few-own : length own.carriers < 256
     few-own = has-number here need p k.stands.kept asked_here

@@ -14,3 +14,4 @@ pub mod Missing
 pub mod Owned
 pub mod Reallocating
 pub mod Resizing
+pub mod Migrating

@@ -1,6 +1,6 @@
 -- The set of the carriers, after a change.
 use Rattle.std.proofs.Common.{◌≡◌, ◌≤◌, ◌≢◌, ℕ, true, false, List, [], ◌∷◌, map, All, AllPairs, sym, ap, ◌∙◌, subst, refl, inl, inr, arith, suc, Bool}
-use Rattle.std.specs.Prelude.{Option, IfSome, IsSome, Some, is_some, ◌==◌}
+use Rattle.std.specs.Prelude.{Option, IfSome, IsSome, None, Some, is_some, ◌==◌}
 use Rattle.std.proofs.lemmas.Bool.{cases_eq}
 use Rattle.std.proofs.lemmas.List.Elements.{All-head, All-tail}
 use Rattle.ea_model.specs.Content.{Content, gaps_of, largest}
@@ -13,6 +13,7 @@ use Rattle.ea_model.proofs.Rising.{changed_here, changed_past, entered-map, item
 use Rattle.std.specs.List.Sorted.{IsPermutation}
 use Rattle.std.proofs.lemmas.Map.Keys.{IsDistinct-IsPermutation, IsDistinct-from_apart, apart_from_distinct}
 use Rattle.ea_model.specs.declared.settings.Strategy.{Strategy}
+use Rattle.ea_model.specs.declared.settings.Strategy.TheVariants.{Gf}
 use Rattle.ea_goodfit.specs.declared.gaps.BinnedGap.{BinnedGap}
 use Rattle.ea_goodfit.specs.Gaps.{HeldGaps}
 use Rattle.ea_laws.specs.Kept.{number_of, IsRising}
@@ -82,7 +83,7 @@ module _ (f : Content → Content) (k : KeepsPlace f) (n : ℕ) (item : Content)
         ap (λ (x : Carriers). x.held) e ∙ ap (refitted n fit) l.held
         ∙ ap (λ m. refitted n m (map held_of cs)) fits
         ∙ held-changed cs (only-item n item cs rising there) ∙ sym (ap (map held_of) is);
-    room = subst (λ (x : Carriers). 256 ≤ x.room) (sym e) l.room;
+    room = subst (λ (x : Carriers). 4096 ≤ x.room) (sym e) l.room;
     some = (λ gf. same ∙ l.some.0 gf, λ h. l.some.1 (sym same ∙ h));
     gaps = gaps;
   }
@@ -101,7 +102,7 @@ IsListed-entered s cs new x key fit set after bins left l is keyed fits e same g
       ∙ ap (λ m. entered set_number (record { key = (held_of x).key; fit = m }) (map held_of cs))
       fits
       ∙ entered-map set_number held_of x cs ∙ sym (ap (map held_of) is);
-  room = subst (λ (c : Carriers). 256 ≤ c.room) (sym e) l.room;
+  room = subst (λ (c : Carriers). 4096 ≤ c.room) (sym e) l.room;
   some = (λ gf. same ∙ l.some.0 gf, λ h. l.some.1 (sym same ∙ h));
   gaps = gaps;
 }
@@ -115,10 +116,21 @@ IsListed-left s cs new n set after bins left l is e same gaps = record {
   held =
       ap (λ (c : Carriers). c.held) e ∙ ap (without set_number n) l.held
       ∙ without-map set_number held_of n cs ∙ sym (ap (map held_of) is);
-  room = subst (λ (c : Carriers). 256 ≤ c.room) (sym e) l.room;
+  room = subst (λ (c : Carriers). 4096 ≤ c.room) (sym e) l.room;
   some = (λ gf. same ∙ l.some.0 gf, λ h. l.some.1 (sym same ∙ h));
   gaps = gaps;
 }
+
+-- where the strategy isn't good fit there are no bins
+pub no_bins : (s : Strategy) (cs : List Content) (set : Carriers) (bins : Option HeldGaps)
+    → IsListed s cs set bins → s ≢ Gf → bins ≡ None
+no_bins s cs set None l other = refl
+no_bins s cs set (Some b) l other = absurd (other (l.some.1 refl))
+
+pub no_bins-Hold : (s : Strategy) (cs : List Content) (set : Carriers) (bins : Option HeldGaps)
+    → IsListed s cs set bins → s ≢ Gf → (gs : List BinnedGap) → Hold bins gs
+no_bins-Hold s cs set bins l other gs =
+    subst (λ o. Hold o gs) (sym (no_bins s cs set bins l other)) tt
 
 -- gaps at different addresses stay so in another order
 abbrev pub DifferIn : List BinnedGap → Type 0

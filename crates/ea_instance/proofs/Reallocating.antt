@@ -22,12 +22,12 @@ use Rattle.ea_laws.proofs.Changed.{resized-keeps}
 use Rattle.ea_laws.proofs.Contents.{block_among}
 use Rattle.ea_laws.proofs.Owned.{with_units}
 use Rattle.ea_laws.proofs.Reallocating.{multi-decided, multi-grows, multi-resized_to, multi-shrinks, resizing-Stands, single-decided, single-fits, single-resized_to, single-shortens, single-stays}
-use Rattle.ea_laws.proofs.Standing.{employed-multi, employed-own}
+use Rattle.ea_laws.proofs.Standing.{employed-multi, single-own}
 use Rattle.ea_instance.specs.Kept.{KeepsCarriers, seen_as}
 use Rattle.ea_instance.specs.Listed.{CarrierList}
 use Rattle.ea_instance.specs.Own.{OwnList}
 use Rattle.ea_instance.proofs.Following.{some-content}
-use Rattle.ea_instance.proofs.Keeping.{all-single, block-single, changed-multi, changed-single, keeping}
+use Rattle.ea_instance.proofs.Keeping.{block-single, changed-multi, changed-single, keeping}
 
 -- the block stays where it is, and its carrier keeps its pages
 abbrev pub IsInPlace : Decision → Type 0
@@ -353,8 +353,7 @@ module _ (s : Settings) (n : ℕ) (own : OwnList) (ks : CarrierList) (ss : List 
               (omega (arith, less.1))
 
           own_here : own_at own.carriers number ≡ Some (own_of c)
-          own_here = employed-own here number c k.stands
-              (all-single s n own ks ss created k number none ∙ alone.2)
+          own_here = single-own here number c k.stands alone.2
 
           pub there-own : IsSome (own_at own.carriers number)
           there-own = subst IsSome (sym own_here) refl

@@ -13,7 +13,7 @@ use Rattle.ea_cset.specs.declared.keys.CarrierFit.{CarrierFit}
 use Rattle.ea_cset.specs.Carriers.{Carriers}
 use Rattle.ea_goodfit.specs.declared.gaps.BinnedGap.{BinnedGap}
 use Rattle.ea_goodfit.specs.Gaps.{HeldGaps}
-use Rattle.ea_model.specs.declared.units.TheConstants.{NUMBERS}
+use Rattle.ea_model.specs.declared.units.TheConstants.{MAX_SCHEDULERS, NUMBERS}
 use Rattle.ea_instance.specs.Binned.{Hold}
 
 -- the carriers of an instance by rising number, and the strategy that chooses among their gaps
@@ -35,12 +35,12 @@ gap_of x = record { address = x.address; size = x.size }
 abbrev pub all_gaps : List Content → List BinnedGap
 all_gaps cs = map gap_of (candidates cs)
 
--- the set holds the carriers and has room for as many as an instance has numbers, and there are bins exactly under good
--- fit, which hold all gaps
+-- the set holds the carriers and has room for as many as there are numbers, and there are bins
+-- exactly under good fit, which hold all gaps
 pub record IsListed (strategy : Strategy) (list : List Content) (set : Carriers)
     (bins : Option HeldGaps) : Type 0 where
   pub held : set.held ≡ map held_of list
-  pub room : NUMBERS ≤ set.room
+  pub room : NUMBERS * MAX_SCHEDULERS ≤ set.room
   pub some : (strategy ≡ Gf) ↔ IsSome bins
   pub gaps : Hold bins (all_gaps list)
 

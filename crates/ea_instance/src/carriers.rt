@@ -1,8 +1,8 @@
 //! The carriers that an instance employs.
-ghost use Rattle.std.specs.Prelude.{◌≡◌, ℕ, ◌*◌, ◌+◌, ◌%◌, ◌<◌, ◌≤◌, [], All, Some, None, true, false, IsSome, IfSome, IfOk, OnOk, OnErr, length};
+ghost use Rattle.std.specs.Prelude.{◌≡◌, ◌≢◌, ℕ, ◌*◌, ◌+◌, ◌%◌, ◌<◌, ◌≤◌, [], All, Some, None, true, false, IsSome, IfSome, IfOk, OnOk, OnErr, length};
 ghost use Rattle.std.specs.Option.{option_and_then};
 ghost use Rattle.ea_model.specs.declared.settings.Strategy.TheVariants.{Gf, Af};
-ghost use Rattle.ea_model.specs.declared.units.TheConstants.{MAX_UNITS, MIN_BLOCK, NUMBERS, PAGE_UNITS};
+ghost use Rattle.ea_model.specs.declared.units.TheConstants.{MAX_SCHEDULERS, MAX_UNITS, MIN_BLOCK, NUMBERS, PAGE_UNITS};
 ghost use Rattle.ea_model.specs.Content.{Content, block_at, placed, released, resized, size_of, taken_of};
 ghost use Rattle.ea_model.specs.Choice.{first};
 ghost use Rattle.ea_model.specs.Strategies.{candidates, choice_among, choice_empty, inner_of, large_enough, may_miss, or_else};
@@ -10,7 +10,7 @@ ghost use Rattle.ea_model.specs.Instance.{changed, content_of, block_in, has_con
 ghost use Rattle.ea_model.specs.Instance as instances;
 ghost use Rattle.ea_mbc.specs.Gaps.{room_at};
 ghost use Rattle.ea_laws.specs.Kinds.{is_shared};
-ghost use Rattle.ea_laws.specs.Kept.{ContentsApart, IsWhole};
+ghost use Rattle.ea_laws.specs.Kept.{ContentsApart, IsLaidOut, IsWhole};
 ghost use Rattle.ea_instance.specs.Answers.{follow_up};
 ghost use Rattle.ea_instance.specs.Changes.{AreLaid};
 ghost use Rattle.ea_instance.specs.Choices.{candidate_of, IsChoice};
@@ -22,7 +22,7 @@ use crate::changes;
 use crate::choice::Choice;
 use crate::employed::Employed;
 use crate::figures::{
-    no_figures, with_block, with_carrier, with_size, without_block, without_carrier,
+    no_figures, with_block, with_carrier, with_size, with_whole, without_block, without_whole,
 };
 use crate::released::Released;
 use crate::strategies::{Search, inner_of, search_of};
@@ -30,8 +30,8 @@ use crate::walks::{best_choice, choice_at, lowest_empty};
 use ea_cset::CarrierSet;
 use ea_goodfit::{BinnedGap, Bins};
 use ea_mbc::Freed;
-use ea_model::keyed::{enter, index_of, take_out};
-use ea_model::{Figures, HEADER_UNITS, Inner, OutOfMemory, Strategy};
+use ea_model::keyed::{enter, enter_within, index_of, take_out};
+use ea_model::{Figures, HEADER_UNITS, Inner, MAX_SCHEDULERS, NUMBERS, OutOfMemory, Strategy};
 use std::alloc::Global;
 use std::marker::Model;
 
@@ -48,7 +48,8 @@ pub struct Carriers {
 }
 
 impl Model for Carriers {
-    ghost use Rattle.std.specs.Prelude.{◌≡◌};
+    ghost use Rattle.std.specs.Prelude.{◌≡◌, ◌*◌, ◌≤◌, vec_capacity};
+    ghost use Rattle.ea_model.specs.declared.units.TheConstants.{MAX_SCHEDULERS, NUMBERS};
     ghost use Rattle.ea_model.specs.Instance as instances;
     ghost use Rattle.ea_instance.specs.Listed.{CarrierList, IsListed};
 
@@ -58,20 +59,21 @@ impl Model for Carriers {
 
     ghost invariant = { λ c. record {
       listed : IsListed c.strategy c.list.items c.set c.bins;
+      room : NUMBERS * MAX_SCHEDULERS ≤ vec_capacity c.list;
       counted : c.figures ≡ instances.figures c.list.items;
     } };
 }
 
 impl Carriers {
-    /// No carriers, and memory for a set of that many.
-    pub fn new(alloc: Global, strategy: Strategy, room: u32) -> Result<Carriers, OutOfMemory>
-        requires { NUMBERS ≤ room }
+    /// No carriers, and the memory for as many as there are numbers.
+    pub fn new(alloc: Global, strategy: Strategy) -> Result<Carriers, OutOfMemory>
         ensures { IfOk result (λ c. c ≡ record { strategy = strategy; contents = [] }) }
     {
+        let room = NUMBERS * MAX_SCHEDULERS;
         let set = CarrierSet::new(alloc, room)?;
         Ok(Carriers {
             strategy,
-            list: Vec::new(alloc),
+            list: Vec::with_capacity(alloc, room as usize)?,
             set,
             bins: bins_for(alloc, strategy),
             figures: no_figures(),
@@ -167,7 +169,7 @@ impl Carriers {
     /// Places a block in the chosen gap, and answers its units.
     pub fn place(&mut self, choice: Choice, need: u32, name: u32) -> Result<u32, OutOfMemory>
         requires laid { AreLaid self.old.contents }
-        requires few { length self.old.contents ≤ NUMBERS }
+        requires few { length self.old.contents ≤ NUMBERS * MAX_SCHEDULERS }
         requires choice { IsChoice need self.old.contents choice }
         requires even { need % 2 ≡ 0 }
         requires least { 6 ≤ need }
@@ -262,7 +264,7 @@ impl Carriers {
     /// of it, and has this name from now on. It takes no memory.
     pub fn grow(&mut self, number: u32, offset: u32, need: u32, name: u32)
         requires laid { AreLaid self.old.contents }
-        requires few { length self.old.contents ≤ NUMBERS }
+        requires few { length self.old.contents ≤ NUMBERS * MAX_SCHEDULERS }
         requires block { IsSome (block_in self.old.contents
             (record { carrier = number; offset = offset })) }
         requires more { size_of (block_in self.old.contents
@@ -290,7 +292,7 @@ impl Carriers {
     /// Puts a carrier without blocks among the others, by its number.
     pub fn enter(&mut self, employed: Employed) -> Result<(), OutOfMemory>
         requires laid { AreLaid self.old.contents }
-        requires room { length self.old.contents < NUMBERS }
+        requires room { length self.old.contents < NUMBERS * MAX_SCHEDULERS }
         requires number { has_content employed.number self.old.contents ≡ false }
         requires apart { All (ContentsApart employed) self.old.contents }
         requires low { PAGE_UNITS * employed.base + employed.units ≤ MAX_UNITS }
@@ -315,11 +317,36 @@ impl Carriers {
         Ok(())
     }
 
-    /// Takes out a carrier without blocks.
+    /// Puts a carrier with its blocks among the others, by its number. There are no bins. It takes
+    /// no memory.
+    pub fn adopt(&mut self, employed: Employed)
+        requires strategy { self.old.strategy ≢ Gf }
+        requires laid { AreLaid self.old.contents }
+        requires room { length self.old.contents < NUMBERS * MAX_SCHEDULERS }
+        requires number { has_content employed.number self.old.contents ≡ false }
+        requires apart { All (ContentsApart employed) self.old.contents }
+        requires carrier { IsLaidOut employed }
+        ensures { self.new ≡ record self.old {
+          contents =
+              with_content employed self.old.contents;
+        } }
+    {
+        let key = employed.carrier_key();
+        let fit = employed.carrier.largest();
+        let blocks = employed.carrier.len();
+        let size = employed.carrier.allocated();
+        let units = employed.carrier.units();
+        enter_within(employed, &mut self.list);
+        self.set.add(key, fit);
+        self.figures = with_whole(self.figures, blocks, size, units);
+    }
+
+    /// Takes out a carrier. Where there are bins it has no blocks. It takes no memory.
     pub fn leave(&mut self, number: u32) -> Employed
         requires laid { AreLaid self.old.contents }
-        requires there { (c : Content) × (content_of self.old.contents number ≡ Some c)
-            × (c.blocks ≡ []) }
+        requires there { IsSome (content_of self.old.contents number) }
+        requires bins { self.old.strategy ≡ Gf
+            → IfSome (content_of self.old.contents number) (λ c. c.blocks ≡ []) }
         ensures carrier { content_of self.old.contents number ≡ Some result }
         ensures rest { self.new ≡ record self.old {
           contents =
@@ -331,7 +358,12 @@ impl Carriers {
         let address = employed.address(HEADER_UNITS);
         let size = employed.carrier.largest();
         note_left(&mut self.bins, BinnedGap { address, size });
-        self.figures = without_carrier(self.figures, employed.carrier.units());
+        self.figures = without_whole(
+            self.figures,
+            employed.carrier.len(),
+            employed.carrier.allocated(),
+            employed.carrier.units(),
+        );
         employed
     }
 }

@@ -1,5 +1,5 @@
 //! Changes of one of an instance's carriers.
-ghost use Rattle.std.specs.Prelude.{◌≡◌, ◌+◌, ◌%◌, ◌<◌, ◌≤◌, IsSome, IfOk, IfSome, OnErr, Some};
+ghost use Rattle.std.specs.Prelude.{◌≡◌, ◌+◌, ◌%◌, ◌<◌, ◌≤◌, IsSome, IfOk, IfSome, OnErr, Some, vec_capacity};
 ghost use Rattle.ea_model.specs.declared.units.TheConstants.{MAX_UNITS, MIN_BLOCK};
 ghost use Rattle.ea_model.specs.Content.{Content, block_at, gaps_of, resized, size_of, taken_of};
 ghost use Rattle.ea_model.specs.Instance.{block_in, changed, content_of};
@@ -48,6 +48,7 @@ pub fn place(
     ensures ok { IfOk result (λ p.
         IsPlacing need name choice.candidate p carriers.old.items carriers.new.items) }
     ensures err { OnErr result (carriers.new.items ≡ carriers.old.items) }
+    ensures capacity { vec_capacity carriers.new ≡ vec_capacity carriers.old }
 {
     let index = choice.index;
     let gap = Gap {
@@ -71,6 +72,7 @@ pub fn release(
     ensures ok { IfOk result (λ j.
         IsReleasing number offset j carriers.old.items carriers.new.items) }
     ensures err { OnErr result (carriers.new.items ≡ carriers.old.items) }
+    ensures capacity { vec_capacity carriers.new ≡ vec_capacity carriers.old }
 {
     let index = index_of(number, carriers);
     let block = carriers[index].carrier.release(offset)?;
@@ -103,6 +105,7 @@ pub fn shrink(
         carriers.old.items carriers.new.items }
     ensures fewer { result.size + MIN_BLOCK ≤ result.was.size }
     ensures low { result.was.address + result.was.size + result.was.after ≤ MAX_UNITS }
+    ensures capacity { vec_capacity carriers.new ≡ vec_capacity carriers.old }
 {
     let index = index_of(number, carriers);
     carriers[index].shrink(offset, need, name)
@@ -124,6 +127,7 @@ pub fn grow(carriers: &mut Vec<Employed>, number: u32, offset: u32, need: u32, n
     ensures more { result.was.size < result.size }
     ensures fits { result.size ≤ result.was.size + result.was.after }
     ensures low { result.was.address + result.was.size + result.was.after ≤ MAX_UNITS }
+    ensures capacity { vec_capacity carriers.new ≡ vec_capacity carriers.old }
 {
     let index = index_of(number, carriers);
     carriers[index].grow(offset, need, name)
@@ -134,7 +138,8 @@ pub fn rename(carriers: &mut Vec<Employed>, number: u32, offset: u32, name: u32)
     requires laid { AreLaid carriers.old.items }
     requires block { IsSome (block_in carriers.old.items
         (record { carrier = number; offset = offset })) }
-    ensures { IsRenaming number offset name carriers.old.items carriers.new.items }
+    ensures renamed { IsRenaming number offset name carriers.old.items carriers.new.items }
+    ensures capacity { vec_capacity carriers.new ≡ vec_capacity carriers.old }
 {
     let index = index_of(number, carriers);
     carriers[index].rename(offset, name);

@@ -1,7 +1,8 @@
 //! A carrier that an instance employs.
-ghost use Rattle.std.specs.Prelude.{◌≡◌, ◌+◌, ◌*◌, ◌%◌, ◌<◌, ◌≤◌, IfSome, IsSome, Some, true, map, option_map};
+ghost use Rattle.std.specs.Prelude.{not, ◌&&◌, ◌≡◌, ◌+◌, ◌*◌, ◌%◌, ◌<◌, ◌≤◌, IfSome, IsSome, Some, true, map, option_map};
+ghost use Rattle.ea_model.specs.declared.carriers.Kind.TheVariants.{Multi};
 ghost use Rattle.ea_model.specs.declared.units.TheConstants.{MAX_UNITS, MIN_BLOCK};
-ghost use Rattle.ea_model.specs.Content.{block_at, gap_behind, gaps_of, is_empty_multi, named, resized, size_of, taken_of};
+ghost use Rattle.ea_model.specs.Content.{allocated, block_at, gap_behind, gaps_of, is_empty_multi, is_multi, is_nil, largest, named, resized, size_of, taken_of};
 ghost use Rattle.ea_model.specs.Strategies.{candidate, candidates_in};
 ghost use Rattle.ea_model.specs.Instance.{carrier_line};
 ghost use Rattle.ea_mbc.specs.Gaps.{room_at};
@@ -236,6 +237,34 @@ impl Employed {
         self.kind == Kind::Multi && self.carrier.is_empty()
     }
 
+    /// Whether it has blocks and isn't the main carrier.
+    pub fn is_full_multi(&self) -> bool
+        ensures { result ≡ (is_multi self.now.kind && not (is_nil self.now.blocks)) }
+    {
+        self.kind == Kind::Multi && !self.carrier.is_empty()
+    }
+
+    /// The units of its blocks.
+    pub fn allocated(&self) -> u32
+        ensures { result ≡ allocated self.now.blocks }
+    {
+        self.carrier.allocated()
+    }
+
+    /// All its units.
+    pub fn units(&self) -> u32
+        ensures { result ≡ self.now.units }
+    {
+        self.carrier.units()
+    }
+
+    /// The units of its largest gap, or 0.
+    pub fn largest(&self) -> u32
+        ensures { result ≡ largest (gaps_of self.now) }
+    {
+        self.carrier.largest()
+    }
+
     /// What is to follow a release in it.
     pub fn follow_up(&self) -> Released
         ensures { result ≡ follow_up (Some self.now) }
@@ -245,6 +274,16 @@ impl Employed {
         } else {
             Released::Kept
         }
+    }
+
+    /// The carrier itself, which isn't the main one.
+    pub fn into_multi(self) -> Mbc
+        requires { self.kind ≡ Multi }
+        ensures { result ≡ self }
+    {
+        let carrier = self.carrier;
+        carrier.units();
+        carrier
     }
 
     /// Its line among the carriers of the output.

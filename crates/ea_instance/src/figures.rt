@@ -2,7 +2,7 @@
 ghost use Rattle.std.specs.Prelude.{◌≡◌, ◌+◌, ◌-◌, ◌*◌, ◌^◌, ◌<◌, ◌≤◌, []};
 ghost use Rattle.ea_model.specs.declared.units.TheConstants.{HEADER_UNITS};
 ghost use Rattle.ea_model.specs.Instance as instances;
-ghost use Rattle.ea_instance.specs.Counted.{with_block, with_carrier};
+ghost use Rattle.ea_instance.specs.Counted.{with_block, with_carrier, with_whole};
 
 use ea_model::{Figures, HEADER_UNITS};
 
@@ -62,6 +62,34 @@ pub fn with_carrier(figures: Figures, units: u32) -> Figures
         carriers: figures.carriers + 1,
         carriers_size: figures.carriers_size + u64::from(units),
         ..figures
+    }
+}
+
+/// The figures with a carrier of that many units more, which has blocks of `size` units.
+pub fn with_whole(figures: Figures, blocks: u32, size: u32, units: u32) -> Figures
+    requires { (figures.blocks + blocks < 2 ^ 64) × (figures.blocks_size + size < 2 ^ 64)
+        × (figures.carriers + 1 < 2 ^ 64) × (figures.carriers_size + units < 2 ^ 64) }
+    ensures { result ≡ with_whole blocks size units figures }
+{
+    Figures {
+        blocks: figures.blocks + u64::from(blocks),
+        blocks_size: figures.blocks_size + u64::from(size),
+        carriers: figures.carriers + 1,
+        carriers_size: figures.carriers_size + u64::from(units),
+    }
+}
+
+/// The figures without a carrier of that many units, which has blocks of `size` units.
+pub fn without_whole(figures: Figures, blocks: u32, size: u32, units: u32) -> Figures
+    requires { (blocks ≤ figures.blocks) × (size ≤ figures.blocks_size) × (1 ≤ figures.carriers)
+        × (units ≤ figures.carriers_size) }
+    ensures { with_whole blocks size units result ≡ figures }
+{
+    Figures {
+        blocks: figures.blocks - u64::from(blocks),
+        blocks_size: figures.blocks_size - u64::from(size),
+        carriers: figures.carriers - 1,
+        carriers_size: figures.carriers_size - u64::from(units),
     }
 }
 

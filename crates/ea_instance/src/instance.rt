@@ -1,21 +1,23 @@
 //! The instance and its calls.
-ghost use Rattle.std.specs.Prelude.{◌≡◌, [], ◌≢◌, ℕ, ◌+◌, ◌*◌, ◌/◌, ◌%◌, ◌^◌, ◌<◌, ◌≤◌, ◌++◌, max, true, false, Some, None, Ok, Err, Result, All, IsNone, ◌↔◌, IsSome, IfSome, IfOk, OnOk, OnErr, map, sum_by, option_map};
+ghost use Rattle.std.specs.Prelude.{◌≡◌, [], ◌≢◌, ℕ, ◌+◌, ◌*◌, ◌/◌, ◌%◌, ◌^◌, ◌<◌, ◌≤◌, ◌++◌, max, true, false, Some, None, Ok, Err, Result, All, IsNone, ◌↔◌, IsSome, IfSome, IfOk, List as Items, OnOk, OnErr, map, sum_by, option_map};
 ghost use Rattle.ea_model.specs.declared.carriers.Kind.TheVariants.{Multi, Single};
 ghost use Rattle.ea_model.specs.declared.carriers.Spot.{Spot};
 ghost use Rattle.ea_model.specs.declared.carriers.CarrierPlan.{CarrierPlan};
 ghost use Rattle.ea_model.specs.declared.reallocation.Decision.TheVariants.{Move};
-ghost use Rattle.ea_model.specs.declared.units.TheConstants.{MAX_PAGES, MAX_SCHEDULERS, MAX_UNITS};
-ghost use Rattle.ea_model.specs.Content.{named, free_units, gaps_of, is_vacant};
+ghost use Rattle.ea_model.specs.declared.units.TheConstants.{MAX_PAGES, MAX_PERCENT, MAX_SCHEDULERS, MAX_UNITS, NUMBERS};
+ghost use Rattle.ea_model.specs.Content.{Content, named, free_units, gaps_of, is_vacant};
 ghost use Rattle.ea_model.specs.declared.entries.NoCarrier.TheVariants.{Numbers, Space};
 ghost use Rattle.ea_model.specs.Region.{runs};
 ghost use Rattle.ea_model.specs.Settings.{IsValid};
 ghost use Rattle.ea_model.specs.Units.{pages_for};
 ghost use Rattle.ea_model.specs.Strategies.{candidates, may_miss};
-ghost use Rattle.ea_model.specs.Instance.{carrier_line, main_content, new_instance, growth, is_alone, multis, unused_from, plan, created_content, creating, creating_single, chosen_spot, employed, single_place, place_at, releasing_at, resized_to, resizing_at, decision_at, clearing, content_of, block_in, has_content, segments, least_pages};
+ghost use Rattle.ea_model.specs.Instance.{carrier_line, main_content, new_instance, growth, is_alone, multis, unused_from, plan, created_content, creating, creating_single, chosen_spot, employed, single_place, place_at, releasing_at, own_of, resized_to, resizing_at, decision_at, content_of, block_in, has_content, own_at, segments, least_pages};
 ghost use Rattle.ea_model.specs.Instance as instances;
 ghost use Rattle.ea_instance.specs.Answers.{placing_if, follow_up};
 ghost use Rattle.ea_laws.specs.InOrder.{IsInOrder};
-ghost use Rattle.ea_laws.specs.Kept.{Stands};
+ghost use Rattle.ea_laws.specs.Kept.{ContentsApart, IsLaidOut, IsSomeones, Stands};
+ghost use Rattle.ea_model.specs.Abandonment.{is_due, is_sparse};
+ghost use Rattle.ea_model.specs.Employment.{dismissing, disowning, employing};
 ghost use Rattle.ea_laws.specs.Spots.{AllUsed, FindsNone, HaveSameBlocks, IsOther, IsPlaced};
 
 use crate::carriers::Carriers;
@@ -72,7 +74,7 @@ fn pages_for(units: u32) -> u32
 /// The units of the next multiblock carrier after `count` others.
 fn growth(settings: Settings, count: usize) -> u32
     requires valid { IsValid settings }
-    requires count { count ≤ NUMBERS }
+    requires count { count ≤ NUMBERS * MAX_SCHEDULERS }
     ensures units { result ≡ growth settings count }
     ensures small { result ≤ MAX_UNITS }
 {
@@ -118,29 +120,52 @@ fn planned_carrier(alloc: Global, plan: CarrierPlan, owner: u32) -> Result<Mbc, 
     Mbc::new(alloc, units, plan.base, plan.birth, owner, plan.number)
 }
 
+/// Whether fewer than `acul` percent of the units are allocated.
+fn is_sparse(settings: Settings, used: u64, units: u64) -> bool
+    requires used { 100 * used < 2 ^ 64 }
+    requires units { settings.acul * units < 2 ^ 64 }
+    ensures { result ≡ is_sparse settings used units }
+{
+    100 * used < u64::from(settings.acul) * units
+}
+
+/// Whether the carrier of some that come to the figures is to be abandoned.
+fn is_due(settings: Settings, figures: Figures, multi: &Employed) -> bool
+    requires valid { settings.acul ≤ MAX_PERCENT }
+    requires blocks { figures.blocks_size ≤ MAX_UNITS * (NUMBERS * MAX_SCHEDULERS) }
+    requires units { figures.carriers_size ≤ MAX_UNITS * (NUMBERS * MAX_SCHEDULERS) }
+    ensures { (cs : Items Content) → figures ≡ instances.figures cs
+        → result ≡ is_due settings cs multi.now }
+{
+    multi.is_full_multi()
+        && is_sparse(
+            settings,
+            u64::from(multi.allocated()),
+            u64::from(multi.units()),
+        )
+        && is_sparse(settings, figures.blocks_size, figures.carriers_size)
+        && u64::from(settings.acfml) <= 8 * u64::from(multi.largest())
+}
+
 impl Instance {
     /// An instance before its first operation: instance `number` of `schedulers`, with the region of
     /// `pages` pages from page `first` on. Where the settings ask for a main carrier, it is created.
-    /// Carriers don't migrate: `acul` is 0. It takes the memory for as many carriers as all
-    /// instances have numbers.
+    /// It takes the memory for as many carriers as there are numbers.
     pub fn new(
         alloc: Global,
         settings: Settings,
-        schedulers: u32,
         number: u32,
         first: u32,
         pages: u32,
     ) -> Result<Instance, OutOfMemory>
         requires valid { IsValid settings }
-        requires stays { settings.acul ≡ 0 }
-        requires schedulers { schedulers ≤ MAX_SCHEDULERS }
-        requires number { (1 ≤ number) × (number ≤ schedulers) }
+        requires number { (1 ≤ number) × (number ≤ MAX_SCHEDULERS) }
         requires region { first + pages ≤ MAX_PAGES }
         requires main { pages_for settings.mmbcs ≤ pages }
         ensures { IfOk result (λ i. i ≡ new_instance settings number first pages) }
     {
         let mut own = OwnCarriers::new(alloc, first, pages)?;
-        let mut carriers = Carriers::new(alloc, settings.strategy, NUMBERS * schedulers)?;
+        let mut carriers = Carriers::new(alloc, settings.strategy)?;
         let singles = Singles::new(alloc)?;
         let mut created = 0;
         if settings.mmbcs > 0 {
@@ -225,9 +250,9 @@ impl Instance {
     /// Blocks and carriers of its main and multiblock carriers, and their units.
     pub fn multi_figures(&self) -> Figures
         ensures figures { result ≡ instances.figures self.now.contents }
-        ensures few { result.carriers ≤ NUMBERS }
-        ensures small { (result.blocks_size ≤ MAX_UNITS * NUMBERS)
-            × (result.carriers_size ≤ MAX_UNITS * NUMBERS) }
+        ensures few { result.carriers ≤ NUMBERS * MAX_SCHEDULERS }
+        ensures small { (result.blocks_size ≤ MAX_UNITS * (NUMBERS * MAX_SCHEDULERS))
+            × (result.carriers_size ≤ MAX_UNITS * (NUMBERS * MAX_SCHEDULERS)) }
     {
         self.carriers.figures()
     }
@@ -235,9 +260,9 @@ impl Instance {
     /// Blocks and carriers of its singleblock carriers, and their units.
     pub fn single_figures(&self) -> Figures
         ensures figures { result ≡ instances.figures self.now.singles }
-        ensures few { result.carriers ≤ NUMBERS }
-        ensures small { (result.blocks_size ≤ MAX_UNITS * NUMBERS)
-            × (result.carriers_size ≤ MAX_UNITS * NUMBERS) }
+        ensures few { result.carriers ≤ NUMBERS * MAX_SCHEDULERS }
+        ensures small { (result.blocks_size ≤ MAX_UNITS * (NUMBERS * MAX_SCHEDULERS))
+            × (result.carriers_size ≤ MAX_UNITS * (NUMBERS * MAX_SCHEDULERS)) }
     {
         self.singles.figures()
     }
@@ -475,6 +500,20 @@ impl Instance {
         Ok(Released::SingleGone)
     }
 
+    /// Whether the carrier is to be abandoned: it isn't the main one and not empty, it is sparse, and
+    /// so are all main and multiblock carriers together, and its largest gap is large enough.
+    pub fn due(&self, number: u32) -> bool
+        requires { IsSome (content_of self.now.contents number) }
+        ensures { IfSome (content_of self.now.contents number)
+            (λ c. result ≡ is_due self.now.settings self.now.contents c) }
+    {
+        let figures = self.multi_figures();
+        match item_of(number, self.carriers.as_slice()) {
+            Some(multi) => is_due(self.settings, figures, multi),
+            None => unreachable!(),
+        }
+    }
+
     /// Resizes the block at the spot as is decided for `need` units, with this name from now on.
     /// Where the decision is that it is to move, nothing changes.
     pub fn resize(&mut self, spot: Spot, need: u32, name: u32) -> Result<Decision, OutOfMemory>
@@ -581,20 +620,49 @@ impl Instance {
         }
     }
 
-    /// Deallocates a carrier without blocks other than the main one: its number and pages are free
-    /// again.
-    pub fn clear(&mut self, number: u32)
-        requires there { IsSome (content_of (employed self.old) number) }
-        requires vacant { IfSome (content_of (employed self.old) number) (λ c. is_vacant c ≡ true) }
-        ensures cleared { self.new ≡ clearing self.old number }
-        ensures blocks { HaveSameBlocks (employed self.old) (employed self.new) }
+    /// Employs a multiblock carrier also, with its blocks. It takes no memory.
+    pub fn adopt(&mut self, carrier: Mbc)
+        requires migrates { 0 < self.old.settings.acul }
+        requires new { content_of (employed self.old) carrier.number ≡ None }
+        requires kind { carrier.kind ≡ Multi }
+        requires laid { IsLaidOut carrier }
+        requires apart { All (ContentsApart carrier) (employed self.old) }
+        requires someones { IsSomeones self.old (own_of carrier) }
+        ensures { self.new ≡ employing self.old carrier }
     {
-        let multi = self.has_multi(number);
+        let kind = Kind::Multi;
+        self.carriers.adopt(Employed { kind, carrier });
+    }
+
+    /// Gives up a multiblock carrier that it employs: answers it. If it owns it, it still does. It
+    /// takes no memory.
+    pub fn give_up(&mut self, number: u32) -> Mbc
+        requires there { IsSome (content_of self.old.contents number) }
+        requires multi { IfSome (content_of self.old.contents number) (λ c. c.kind ≡ Multi) }
+        requires empty { self.old.settings.acul ≡ 0
+            → IfSome (content_of self.old.contents number) (λ c. c.blocks ≡ []) }
+        ensures carrier { content_of (employed self.old) number ≡ Some result }
+        ensures rest { self.new ≡ dismissing self.old number }
+    {
+        self.carriers.leave(number).into_multi()
+    }
+
+    /// Gives up a singleblock carrier whose block is gone: answers it. It still owns it.
+    pub fn give_up_single(&mut self, number: u32) -> Sbc
+        requires there { IsSome (content_of self.old.singles number) }
+        requires gone { IfSome (content_of self.old.singles number) (λ c. c.blocks ≡ []) }
+        ensures carrier { content_of (employed self.old) number ≡ Some result }
+        ensures rest { self.new ≡ dismissing self.old number }
+    {
+        self.singles.leave(number)
+    }
+
+    /// Deallocates a carrier that it owns and doesn't employ: its number and pages are free again.
+    pub fn disown(&mut self, number: u32)
+        requires own { IsSome (own_at self.old.own number) }
+        requires not_here { content_of (employed self.old) number ≡ None }
+        ensures { self.new ≡ disowning self.old number }
+    {
         self.own.remove(number);
-        if multi {
-            self.carriers.leave(number);
-        } else {
-            self.singles.leave(number);
-        }
     }
 }

@@ -122,11 +122,13 @@ impl Singles {
     }
 
     /// Takes out the carrier with the number, whose block is gone.
-    pub fn leave(&mut self, number: u32)
+    pub fn leave(&mut self, number: u32) -> Sbc
         requires { (c : Content) × (content_of self.old number ≡ Some c) × (c.blocks ≡ []) }
-        ensures { self.new ≡ without_content number self.old }
+        ensures carrier { content_of self.old number ≡ Some result }
+        ensures rest { self.new ≡ without_content number self.old }
     {
         let carrier = take_out(number, &mut self.list);
         self.figures = without_carrier(self.figures, carrier.units());
+        carrier
     }
 }

@@ -1,15 +1,15 @@
 -- Contents after a change of one of them.
-use Rattle.std.proofs.Common.{◌≡◌, ◌≢◌, ℕ, List, [], ◌∷◌, get_or, All, AllPairs, sym, ap, ◌∙◌, subst, refl, inl, inr, arith}
+use Rattle.std.proofs.Common.{◌≡◌, ◌≢◌, ℕ, ◌≤◌, List, [], ◌∷◌, get_or, All, AllPairs, sym, ap, ◌∙◌, subst, refl, inl, inr, arith}
 use Rattle.std.specs.Prelude.{Option, None, Some, ◌==◌, if◌then◌else◌}
 use Rattle.std.proofs.lemmas.Bool.{cases_eq, cond_both}
-use Rattle.std.proofs.lemmas.List.Elements.{All-nil, All-cons, All-head, All-map, All-tail, All-weaker}
+use Rattle.std.proofs.lemmas.List.Elements.{All-nil, All-cons, All-head, All-tail}
 use Rattle.ea_model.specs.Content.{Content}
 use Rattle.ea_model.specs.Instance.{changed, content_of}
 use Rattle.ea_model.proofs.Pairs.{pairs_map}
 use Rattle.ea_model.proofs.Rising.{changed_here, changed_none, changed_past, item_at-each, none-other}
 use Rattle.ea_laws.proofs.Changed.{KeepsPlace}
 use Rattle.ea_laws.proofs.Tiling.{Tiled-allocated}
-use Rattle.ea_laws.specs.Kept.{number_of, BornApart, ContentsApart, IsBornBy, IsLaidOut, IsRising}
+use Rattle.ea_laws.specs.Kept.{number_of, ContentsApart, IsLaidOut, IsRising}
 
 -- the content of a number is the only one that has it
 pub only-item : (n : ℕ) (item : Content) (cs : List Content) → IsRising cs
@@ -47,7 +47,7 @@ module _ (P : Content → Type 0) (f : Content → Content) (n : ℕ) where
   changed-All cs rising a keeps = by_item (content_of cs n) cs refl rising a keeps
 
 -- the content, changed if it has the number
-abbrev altered : (Content → Content) → ℕ → Content → Content
+abbrev pub altered : (Content → Content) → ℕ → Content → Content
 altered f n c = if c.number == n then f c else c
 
 module _ (f : Content → Content) (k : KeepsPlace f) (n : ℕ) where
@@ -70,23 +70,30 @@ module _ (f : Content → Content) (k : KeepsPlace f) (n : ℕ) where
   apart-changed cs a = pairs_map ContentsApart (altered f n) cs
       (λ i j d lt within. still_apart (get_or cs i d) (get_or cs j d) (a i j d lt within))
 
-module _ (f : Content → Content) (birth : (c : Content) → (f c).birth ≡ c.birth) (n : ℕ) where
-  same_birth : (c : Content) → (altered f n c).birth ≡ c.birth
-  same_birth c = cond_both (c.number == n) (f c) c (λ x. x.birth ≡ c.birth) (λ _. birth c)
-      (λ _. refl)
+-- and so they do where one has fewer units
+module _ (f : Content → Content) (base : (c : Content) → (f c).base ≡ c.base) (n : ℕ) where
+  same_base : (c : Content) → (altered f n c).base ≡ c.base
+  same_base c = cond_both (c.number == n) (f c) c (λ x. x.base ≡ c.base) (λ _. base c) (λ _. refl)
 
-  -- the births stay
-  pub births-changed : (cs : List Content) → AllPairs BornApart cs
-      → AllPairs BornApart (changed f n cs)
-  births-changed cs a = pairs_map BornApart (altered f n) cs
-      (λ i j d lt within e. a i j d lt within
-      (sym (same_birth (get_or cs i d)) ∙ e ∙ same_birth (get_or cs j d)))
-
-  pub born-changed : (created : ℕ) (cs : List Content) → All (IsBornBy created) cs
-      → All (IsBornBy created) (changed f n cs)
-  born-changed created cs a = All-map (IsBornBy created) (altered f n) cs
-      (All-weaker (IsBornBy created) (λ c. IsBornBy created (altered f n c))
-      (λ c b. (omega (arith, b.0, same_birth c), omega (arith, b.1, same_birth c))) cs a)
+  pub apart-lessened : (cs : List Content) → All (λ c. (altered f n c).units ≤ c.units) cs
+      → AllPairs ContentsApart cs → AllPairs ContentsApart (changed f n cs)
+  apart-lessened cs less a = pairs_map ContentsApart (altered f n) cs
+      (λ i j d lt within. elim (a i j d lt within) [
+        | inl p ↦ inl (omega (
+          arith,
+          p,
+          same_base (get_or cs i d),
+          same_base (get_or cs j d),
+          less i d (omega (arith, lt, within)),
+        ))
+        | inr q ↦ inr (omega (
+          arith,
+          q,
+          same_base (get_or cs i d),
+          same_base (get_or cs j d),
+          less j d within,
+        ))
+      ])
 
 pub turned-apart : (c d : Content) → ContentsApart c d → ContentsApart d c
 turned-apart c d away = elim away [ inl p ↦ inr p | inr q ↦ inl q ]

@@ -161,7 +161,16 @@ module _ (i : Instance) (need : ℕ) (p : CarrierPlan)
   pub planned-free : AreFree p.base p.pages (segments i.own)
   planned-free = run_fits.apart
 
-  -- it has a number of its own
+  -- within the region
+  pub planned-within : (i.first ≤ p.base) × (p.base + p.pages ≤ i.end)
+  planned-within = (run_fits.behind, run_fits.before)
+
+  -- it has a number of the instance
+  pub planned-numbered : HasNumberIn (first_number i.number) (first_number i.number + 256)
+      (planned_own p)
+  planned-numbered = (unused.0, unused.1)
+
+  -- that is unused
   pub other-numbers : is_used p.number i.own ≡ false
   other-numbers = unused.2
 

@@ -112,7 +112,7 @@ pub unused-content : (number : ℕ) (cs : List Content) → is_used number (map 
 unused-content number cs h =
     sym (ap is_some (own-found number cs) ∙ is_some-map own_of (content_of cs number)) ∙ h
 
-apart_from : (x c : Content) (pages : ℕ) → x.units ≡ 512 * pages → IsWhole c
+pub apart_from : (x c : Content) (pages : ℕ) → x.units ≡ 512 * pages → IsWhole c
     → SegmentApart x.base pages (segment_of (own_of c)) → ContentsApart x c
 apart_from x c pages size whole beside =
     elim beside [ inl p ↦ inr (omega (arith, whole.0)) | inr q ↦ inl (omega (arith, size)) ]

@@ -1,7 +1,9 @@
 -- What a reallocation in place keeps, and what it changes.
-use Rattle.std.proofs.Common.{◌≡◌, ◌≢◌, ℕ, ◌+◌, ◌*◌, ◌%◌, ◌/◌, ◌<◌, ◌≤◌, List, [], ◌∷◌, All, AllPairs, map, sym, ap, ◌∙◌, subst, refl, inl, inr, arith}
-use Rattle.std.specs.Prelude.{Option, Some, None, IsSome, option_map}
-use Rattle.std.proofs.lemmas.Bool.{cases_eq, cond_both}
+use Rattle.std.proofs.Common.{◌≡◌, ◌≢◌, ℕ, ◌+◌, ◌*◌, ◌%◌, ◌/◌, ◌<◌, ◌≤◌, List, [], ◌∷◌, AllPairs, get_or, sym, ap, ◌∙◌, subst, refl, inl, inr, arith}
+use Rattle.std.specs.Prelude.{Option, Some, None, IsSome, option_map, ◌==◌}
+use Rattle.std.proofs.lemmas.Bool.{cases_eq, cond_both, cond-false, cond-true}
+use Rattle.std.proofs.lemmas.List.Elements.{All-map, All-weaker}
+use Rattle.ea_model.specs.declared.carriers.OwnCarrier.{OwnCarrier}
 use Rattle.ea_model.specs.declared.carriers.BlockAt.{BlockAt}
 use Rattle.ea_model.specs.declared.carriers.Spot.{Spot}
 use Rattle.ea_model.specs.declared.reallocation.Decision.{Decision}
@@ -10,24 +12,24 @@ use Rattle.ea_model.specs.declared.reallocation.Where.TheVariants.{Multi, Single
 use Rattle.ea_model.specs.declared.settings.Settings.{Settings}
 use Rattle.ea_model.specs.Content.{Content, Tiled, block_at, gap_behind, resized, size_of}
 use Rattle.ea_model.specs.Decision.{decision, size_after}
-use Rattle.ea_model.specs.Instance.{Instance, block_in, changed, content_of, decision_at, employed, own_of, resized_by, resized_in, resized_to, resizing_at, shortened, size_at, where_at, where_in}
+use Rattle.ea_model.specs.Instance.{Instance, block_in, changed, content_of, decision_at, employed, own_at, own_of, resized_by, resized_in, resized_to, resizing_at, shortened, size_at, where_at, where_in}
 use Rattle.ea_model.specs.Keyed.{changed_at, has_key}
 use Rattle.ea_model.specs.Units.{pages_for}
 use Rattle.ea_model.proofs.Merged.{merged-apart, merged-second}
 use Rattle.ea_model.proofs.Options.{same-some, some_value}
-use Rattle.ea_model.proofs.Rising.{change, changed-found, changed_here, item_at-All, item_at-changed, item_at-key, item_past, none-other, rising-changed}
-use Rattle.ea_laws.specs.Kept.{number_of, BornApart, HasOneBlock, IsBornBy, IsLaidOut, IsLaidOutAlone, Stands}
+use Rattle.ea_model.proofs.Rising.{change, changed-found, changed-other, changed_here, item_at-All, item_at-changed, item_at-key, item_past, none-other, rising-changed}
+use Rattle.ea_laws.specs.Kept.{number_of, own_number, ContentsApart, HasOneBlock, IsLaidOut, IsLaidOutAlone, IsOwn, IsRising, Stands}
 use Rattle.ea_laws.specs.Spots.{HaveSameBlocks, IsOther}
-use Rattle.ea_laws.proofs.Apart.{births-changed, born-changed, changed-All}
+use Rattle.ea_laws.proofs.Apart.{altered, apart-lessened, changed-All, only-item}
 use Rattle.ea_laws.proofs.BlockLists.{offset_of}
 use Rattle.ea_laws.proofs.CarrierSegments.{with_pages}
 use Rattle.ea_laws.proofs.Changed.{KeepsPlace, block_in-here, block_in-others, resized-keeps}
 use Rattle.ea_laws.proofs.Contents.{block_among}
 use Rattle.ea_laws.proofs.Employed.{employed-changed, employed-shortened}
 use Rattle.ea_laws.proofs.Keeping.{IsKept-shortened}
-use Rattle.ea_laws.proofs.Owned.{own-shortened, with_units}
+use Rattle.ea_laws.proofs.Owned.{with_units}
 use Rattle.ea_laws.proofs.Resized.{grown-tiled, renamed-tiled, resized-begins, resized-others, shrunk-tiled, with_size}
-use Rattle.ea_laws.proofs.Standing.{changing-Stands, employed-multi, employed-own, employed-rising}
+use Rattle.ea_laws.proofs.Standing.{all-own, all-someones, changing-Stands, employed-multi, employed-rising, single-own}
 
 -- what is decided of a block of `old` units in a multiblock carrier that is to have `fresh`
 abbrev DecidesMulti : ℕ → ℕ → ℕ → Decision → Type 0
@@ -77,24 +79,68 @@ module _ (i : Instance) (number pages : ℕ) (c : Content) (st : Stands i)
         low = omega (arith, fewer, alone_in.low);
       })
 
+  abbrev shorter : OwnCarrier → OwnCarrier
+  shorter o = record o { pages = pages }
+
+  shorter-own : (d : Content) → IsOwn i.own (own_of d)
+      → IsOwn (with_pages number pages i.own) (own_of (altered (with_units pages) number d))
+  shorter-own d own = elim (cases_eq d.number number) [
+    | inl same ↦
+        let e : own_of (with_units pages d) ≡ shorter (own_of d) =
+        (let p : 512 * pages / 512 ≡ pages = omega arith in cc) in
+        subst (λ x. IsOwn (with_pages number pages i.own) (own_of x))
+        (sym (cond-true (d.number == number) (with_units pages d) d (grind (arith, same))))
+        (subst (λ n. own_at (with_pages number pages i.own) n ≡ Some (own_of (with_units pages d)))
+        (sym same)
+        (changed-found own_number shorter number (λ _. refl) (own_of d) i.own
+        (ap (own_at i.own) (sym same) ∙ own)
+        ∙ ap Some (sym e)))
+    | inr other ↦ subst (λ x. IsOwn (with_pages number pages i.own) (own_of x))
+        (sym (cond-false (d.number == number) (with_units pages d) d (grind (arith, other))))
+        (changed-other own_number shorter number (λ _. refl) d.number i.own other ∙ own)
+  ]
+
+  less_units : (d : Content) → (d.number ≡ number → d ≡ c)
+      → (altered (with_units pages) number d).units ≤ d.units
+  less_units d one = elim (cases_eq d.number number) [
+    | inl same ↦
+        subst (λ x. x.units ≤ d.units)
+        (sym (cond-true (d.number == number) (with_units pages d) d (grind (arith, same))))
+        (omega (arith, fewer, ap (λ (x : Content). x.units) (one same)))
+    | inr other ↦ subst (λ x. x.units ≤ d.units)
+        (sym (cond-false (d.number == number) (with_units pages d) d (grind (arith, other))))
+        (omega arith)
+  ]
+
   pub shortened-Stands : Stands (shortened i number pages)
   shortened-Stands =
       let f = with_units pages in
-      let is = employed-shortened i number pages (none-other number_of number i.contents others) in
+      let own = with_pages number pages i.own in
+      let no_multi = none-other number_of number i.contents others in
+      let is = employed-shortened i number pages no_multi in
+      let one = only-item number c (employed i) st.once employed_in in
       record {
         kept = IsKept-shortened i.settings i.number number i.first i.end pages (own_of c) i.own
-            st.kept (employed-own i number c st employed_in) some
+            st.kept (single-own i number c st there) some
             (omega (arith, fewer, alone_in.whole.0));
-        agrees = ap (with_pages number pages) st.agrees ∙ own-shortened number pages (employed i)
-            ∙ sym (ap (map own_of) is);
         rising = st.rising;
         rising_singles = rising-changed number_of f number (λ _. refl) i.singles st.rising_singles;
+        once = subst IsRising (sym is)
+            (rising-changed number_of f number (λ _. refl) (employed i) st.once);
         sound = st.sound;
         alone = changed-All IsLaidOutAlone f number i.singles st.rising_singles st.alone less_alone;
-        births = subst (AllPairs BornApart) (sym is)
-            (births-changed f (λ _. refl) number (employed i) st.births);
-        born = subst (All (IsBornBy i.created)) (sym is)
-            (born-changed f (λ _. refl) number i.created (employed i) st.born);
+        apart = subst (AllPairs ContentsApart) (sym is)
+            (apart-lessened f (λ _. refl) number (employed i)
+            (λ k d within. less_units (get_or (employed i) k d) (one k d within)) st.apart);
+        someones = all-someones i own i.contents
+            (λ k d within. changed-other own_number shorter number (λ _. refl) _ i.own
+            (no_multi k d within)) st.someones;
+        owned = All-map (λ d. IsOwn own (own_of d)) (altered f number) i.singles
+            (All-weaker (λ d. IsOwn i.own (own_of d))
+            (λ d. IsOwn own (own_of (altered f number d))) shorter-own i.singles st.owned);
+        home = λ off. all-own i own i.contents
+            (λ k d within. changed-other own_number shorter number (λ _. refl) _ i.own
+            (no_multi k d within)) (st.home off);
       }
 
 -- a block of a multiblock carrier

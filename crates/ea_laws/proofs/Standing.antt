@@ -1,12 +1,12 @@
 -- What holds of an instance at every moment.
-use Rattle.std.proofs.Common.{◌≡◌, ◌≢◌, ℕ, ◌+◌, ◌%◌, ◌<◌, ◌≤◌, Bool, true, false, List, [], ◌∷◌, filter, length, map, sym, ap, ◌∙◌, subst, refl, inl, inr, arith}
-use Rattle.std.specs.Prelude.{Option, Some, None, Ok, IfSome, All, AllPairs, Contains, nat_lt, option_map}
-use Rattle.std.proofs.lemmas.Bool.{cases_eq, cases_lt, cond-true, cond-false}
+use Rattle.std.proofs.Common.{◌≡◌, ◌≢◌, ℕ, ◌+◌, ◌-◌, ◌*◌, ◌%◌, ◌<◌, ◌≤◌, get_or, Bool, true, false, List, [], ◌∷◌, filter, length, map, sym, ap, ◌∙◌, subst, refl, inl, inr, arith}
+use Rattle.std.specs.Prelude.{Option, Some, None, Ok, IfSome, All, AllPairs, Contains, nat_lt, option_map, ◌==◌, is_some}
+use Rattle.std.proofs.lemmas.Bool.{cases_eq, cases_lt, cond_both, cond-true, cond-false}
 use Rattle.std.proofs.lemmas.List.{length-map}
-use Rattle.std.proofs.lemmas.List.Elements.{All-nil, All-cons, All-filter, All-contains_itself, All-weaker}
+use Rattle.std.proofs.lemmas.List.Elements.{All-nil, All-cons, All-filter, All-contains_itself, All-map, All-tail, All-weaker}
 use Rattle.std.proofs.lemmas.List.Kept.{AllPairs-cons, AllPairs-filter}
 use Rattle.ea_model.specs.declared.settings.Settings.{Settings}
-use Rattle.ea_model.specs.declared.units.TheConstants.{MAX_PAGES, MAX_SCHEDULERS}
+use Rattle.ea_model.specs.declared.units.TheConstants.{MAX_PAGES, MAX_SCHEDULERS, NUMBERS}
 use Rattle.ea_model.specs.declared.settings.Strategy.{Strategy}
 use Rattle.ea_model.specs.declared.carriers.BlockAt.{BlockAt}
 use Rattle.ea_model.specs.declared.carriers.Candidate.{Candidate}
@@ -16,35 +16,38 @@ use Rattle.ea_model.specs.declared.carriers.Spot.{Spot}
 use Rattle.ea_model.specs.Content.{Content, gap_at, gaps_of, is_empty_multi, is_vacant, placed, released, taken_of}
 use Rattle.ea_model.specs.Choice.{first}
 use Rattle.ea_model.specs.Keyed.{IsBelow, merged, without}
-use Rattle.ea_model.specs.Region.{AreFree, Laid}
+use Rattle.ea_model.specs.declared.carriers.OwnCarrier.{OwnCarrier}
+use Rattle.ea_model.specs.Employment.{dismissing, disowning, employing}
+use Rattle.ea_model.specs.Region.{SegmentApart}
 use Rattle.ea_model.specs.Settings.{IsValid}
 use Rattle.ea_model.specs.Units.{pages_for}
 use Rattle.ea_model.specs.Strategies.{candidates, choice_among, choice_for, choice_empty, large_enough, inspected_by, lower, may_miss, or_else, spot_of, takes_first}
-use Rattle.ea_model.specs.Instance.{Instance, changing, chosen_spot, clearing, content_of, created_content, created_single, creating, creating_single, employed, first_number, has_content, is_used, main_content, new_instance, own_at, own_of, placing_at, plan, planned_own, releasing_at, segments, with_content, with_own, without_own}
+use Rattle.ea_model.specs.Instance.{Instance, changing, chosen_spot, clearing, content_of, created_content, created_single, creating, creating_single, employed, first_number, has_content, is_used, main_content, new_instance, own_at, own_of, placing_at, plan, planned_own, releasing_at, segment_of, with_content, with_own, without_content, without_own}
 use Rattle.ea_model.proofs.First.{first-All}
 use Rattle.ea_model.proofs.Options.{if_some, same-some, some_holds, some_map}
-use Rattle.ea_model.proofs.Pairs.{pairs_nil}
-use Rattle.ea_model.proofs.Merged.{entered-with, length-merged, merged-All, merged-apart, merged-each, merged-first, merged-pairs}
-use Rattle.ea_model.proofs.Rising.{All-entered, item_at-All, item_at-each, item_at-key, rising-changed, rising-entered, without_here, without_past}
+use Rattle.ea_model.proofs.Pairs.{pairs_head, pairs_map, pairs_nil, pairs_tail}
+use Rattle.ea_model.proofs.Merged.{entered-with, length-merged, merged-All, merged-apart, merged-each, merged-first, merged-left, merged-pairs, merged-right, merged-without}
+use Rattle.ea_model.proofs.Rising.{All-entered, item_at-All, item_at-each, item_at-gone, item_at-key, item_at-new, item_at-old, item_at-stays, item_here, none-other, rising-changed, rising-entered, without_here, without_past}
 use Rattle.ea_laws.proofs.BlockLists.{gap_at-whole, taken_of-enters, Tiled-inserted, Tiled-released}
 use Rattle.ea_laws.specs.Spots.{HasGap}
 use Rattle.ea_laws.specs.InOrder.{IsInOrder}
-use Rattle.ea_laws.specs.Kept.{number_of, own_number, BornApart, ContentsApart, HasNumberIn, HasOneBlock, HasPages, IsBornBy, IsLaidOut, IsLaidOutAlone, IsRising, IsRisingOwn, IsWhole, Stands}
+use Rattle.ea_laws.specs.Kept.{number_of, own_number, ContentsApart, HasNumberIn, HasOneBlock, HasPages, IsLaidOut, IsLaidOutAlone, IsOwn, IsRising, IsSomeones, IsWhole, Stands}
 use Rattle.ea_laws.proofs.Changed.{KeepsPlace, placed-keeps, released-keeps}
-use Rattle.ea_laws.proofs.Contents.{absent-All}
-use Rattle.ea_laws.proofs.Keeping.{IsKept-cleared, IsKept-made, IsLaidOut-made, has-number, other-numbers, own_of-made, pages_of_units, plan-IsPlanned, planned-free, whole_pages}
-use Rattle.ea_laws.proofs.Employed.{employed-changed, employed-cleared, employed-created, employed-single, placing-is}
-use Rattle.ea_laws.proofs.Owned.{apart-contents, contents-apart, contents-rising, own-changed, own-found, own-with, own-without, rising-length, unused-content}
-use Rattle.ea_laws.proofs.Apart.{births-changed, born-changed, changed-All, turned-apart}
+use Rattle.ea_laws.proofs.Contents.{absent-among, absent-none}
+use Rattle.ea_laws.proofs.Keeping.{IsKept-cleared, IsKept-made, IsLaidOut-made, other-numbers, own_of-made, pages_of_units, plan-IsPlanned, planned-free, planned-numbered, planned-within, whole_pages}
+use Rattle.ea_laws.proofs.Employed.{employed-changed, placing-is}
+use Rattle.ea_laws.proofs.Owned.{apart_from, rising-length, unused-All}
+use Rattle.ea_laws.proofs.CarrierSegments.{free-own}
+use Rattle.ea_laws.proofs.Apart.{altered, apart-changed, changed-All, turned-apart}
 use Rattle.ea_laws.proofs.Candidates.{candidate-IsOwned, IsOwned, IsLarge, large_among}
 use Rattle.ea_laws.proofs.Inspected.{inspected_by-among}
 use Rattle.ea_laws.proofs.Ranges.{IsOrdered, blocks-disjoint}
 use Rattle.ea_laws.proofs.Sums.{IsSmall, all-units}
 use Rattle.ea_laws.proofs.Tiling.{Tiled-Ordered, one-Ordered}
 
--- the numbers of all contents rise, and these lie apart
+-- the numbers of all contents rise
 pub employed-rising : (i : Instance) → Stands i → IsRising (employed i)
-employed-rising i st = contents-rising (employed i) (subst IsRisingOwn st.agrees st.kept.rising)
+employed-rising i st = st.once
 
 laid_whole : (cs : List Content) → All IsLaidOut cs → All IsWhole cs
 laid_whole cs sound = All-weaker IsLaidOut IsWhole (λ c laid. laid.whole) cs sound
@@ -56,22 +59,92 @@ pub employed-whole : (i : Instance) → Stands i → All IsWhole (employed i)
 employed-whole i st = merged-All number_of IsWhole i.contents i.singles
     (laid_whole i.contents st.sound) (alone_whole i.singles st.alone)
 
-pub employed-apart : (i : Instance) → Stands i → AllPairs ContentsApart (employed i)
-employed-apart i st = contents-apart i.first i.end (employed i) (employed-whole i st)
-    (subst (λ os. Laid i.first i.end (segments os)) st.agrees st.kept.laid)
-
 pub multi-apart : (i : Instance) → Stands i → AllPairs ContentsApart i.contents
 multi-apart i st = (merged-pairs number_of ContentsApart turned-apart i.contents i.singles
-    (employed-apart i st)).0
+    st.apart).0
+
+-- each is someone's
+pub employed-someones : (i : Instance) → Stands i → All (λ c. IsSomeones i (own_of c)) (employed i)
+employed-someones i st = merged-All number_of (λ c. IsSomeones i (own_of c)) i.contents i.singles
+    st.someones (All-weaker (λ c. IsOwn i.own (own_of c)) (λ c. IsSomeones i (own_of c))
+    (λ c own. inl own) i.singles st.owned)
+
+-- a singleblock carrier is its own
+pub single-own : (i : Instance) (number : ℕ) (c : Content) → Stands i
+    → content_of i.singles number ≡ Some c → own_at i.own number ≡ Some (own_of c)
+single-own i number c st there =
+    subst (λ n. own_at i.own n ≡ Some (own_of c)) (item_at-key number_of number c i.singles there)
+    (item_at-All number_of (λ d. IsOwn i.own (own_of d)) number c i.singles st.owned there)
+
+-- and where carriers don't migrate each is
+pub employed-own : (i : Instance) (number : ℕ) (c : Content) → Stands i → i.settings.acul ≡ 0
+    → content_of (employed i) number ≡ Some c → own_at i.own number ≡ Some (own_of c)
+employed-own i number c st off there =
+    subst (λ n. own_at i.own n ≡ Some (own_of c)) (item_at-key number_of number c (employed i) there)
+    (item_at-All number_of (λ d. IsOwn i.own (own_of d)) number c (employed i)
+    (merged-All number_of (λ d. IsOwn i.own (own_of d)) i.contents i.singles (st.home off) st.owned)
+    there)
+
+-- the number of an own carrier is the instance's
+pub own-numbered : (i : Instance) → Stands i → (o : OwnCarrier) → IsOwn i.own o
+    → HasNumberIn (first_number i.number) (first_number i.number + 256) o
+own-numbered i st o own = item_at-All own_number
+    (HasNumberIn (first_number i.number) (first_number i.number + 256)) o.number o i.own
+    st.kept.numbers own
+
+-- each number is a carrier's
+abbrev pub IsNumbered : Content → Type 0
+IsNumbered c = (1 ≤ c.number) × (c.number ≤ NUMBERS * MAX_SCHEDULERS)
+
+pub employed-numbered : (i : Instance) → Stands i → All IsNumbered (employed i)
+employed-numbered i st = All-weaker (λ c. IsSomeones i (own_of c)) IsNumbered numbered (employed i)
+    (employed-someones i st) where
+      numbered : (c : Content) → IsSomeones i (own_of c) → IsNumbered c
+      numbered c (inl own) =
+          let has = own-numbered i st (own_of c) own in
+          (omega (arith, has.0), omega (arith, has.1, st.kept.instance.0, st.kept.instance.1))
+      numbered c (inr foreign) = foreign.numbered
 
 -- there are no more of them than numbers
-pub employed-few : (i : Instance) → Stands i → length i.contents + length i.singles ≤ 256
+numbered_few : (low : ℕ) (cs : List Content) → IsRising cs
+    → All (λ c. (low ≤ c.number) × (c.number ≤ NUMBERS * MAX_SCHEDULERS)) cs
+    → length cs ≤ NUMBERS * MAX_SCHEDULERS + 1 - low
+numbered_few low [] rising numbered = omega arith
+numbered_few low (c ∷ cs) rising numbered =
+    let here = numbered 0 c (omega arith) in
+    let above : All (IsBelow number_of c) cs = pairs_head (IsBelow number_of) c cs rising in
+    let rest : All (λ d. (c.number + 1 ≤ d.number) × (d.number ≤ NUMBERS * MAX_SCHEDULERS)) cs =
+    λ k d within. (
+      omega (arith, above k d within),
+      (All-tail (λ e. (low ≤ e.number) × (e.number ≤ NUMBERS * MAX_SCHEDULERS)) c cs numbered k
+          d within).1,
+    ) in
+    omega (
+      arith,
+      here.0,
+      here.1,
+      numbered_few (c.number + 1) cs (pairs_tail (IsBelow number_of) c cs rising) rest,
+    )
+
+pub employed-few : (i : Instance) → Stands i
+    → length i.contents + length i.singles ≤ NUMBERS * MAX_SCHEDULERS
 employed-few i st = omega (
   arith,
-  rising-length _ _ i.own st.kept.rising st.kept.numbers,
-  ap length st.agrees,
-  length-map (employed i) own_of,
+  numbered_few 1 (employed i) st.once (employed-numbered i st),
   length-merged number_of i.contents i.singles,
+)
+
+-- nor more singleblock carriers than its own
+pub singles-few : (i : Instance) → Stands i → length i.singles ≤ 256
+singles-few i st = omega (
+  arith,
+  rising-length (first_number i.number) (first_number i.number + 256) (map own_of i.singles)
+      (pairs_map (IsBelow own_number) own_of i.singles st.rising_singles)
+      (All-map (HasNumberIn (first_number i.number) (first_number i.number + 256)) own_of i.singles
+      (All-weaker (λ c. IsOwn i.own (own_of c))
+      (λ c. HasNumberIn (first_number i.number) (first_number i.number + 256) (own_of c))
+      (λ c own. own-numbered i st (own_of c) own) i.singles st.owned)),
+  length-map i.singles own_of,
 )
 
 laid-ordered : (c : Content) → IsLaidOut c → IsOrdered c
@@ -98,13 +171,12 @@ Stands-IsInOrder i st =
     let ordered = merged-All number_of IsOrdered i.contents i.singles (multi-bounded i st).0
     (single-bounded i st).0 in
     record {
-      disjoint = blocks-disjoint (employed i) ordered (employed-apart i st);
+      disjoint = blocks-disjoint (employed i) ordered st.apart;
       tiled = λ k d within. (st.sound k d within).tiled;
       single = λ k d within. (st.alone k d within).block;
       whole = employed-whole i st;
       numbers = employed-rising i st;
-      births = st.births;
-      own = st.agrees;
+      apart = st.apart;
       owned = st.kept.numbers;
       laid = st.kept.laid;
       sum = all-units (employed i) ordered;
@@ -117,6 +189,12 @@ employed-multi i number c st there =
     merged-first number_of number c i.contents i.singles (employed-rising i st) there
 
 -- one carrier changes its blocks
+altered-own : (f : Content → Content) → KeepsPlace f → (n : ℕ) (c : Content)
+    → own_of c ≡ own_of (altered f n c)
+altered-own f keeps n c = cond_both (c.number == n) (f c) c (λ x. own_of c ≡ own_of x)
+    (λ _. (let m = keeps.number c in let b = keeps.base c in let u = keeps.units c in cc))
+    (λ _. refl)
+
 pub changing-Stands : (f : Content → Content) → KeepsPlace f → (n : ℕ) (i : Instance) → Stands i
     → ((c : Content) → content_of i.contents n ≡ Some c → IsLaidOut (f c))
     → ((c : Content) → content_of i.singles n ≡ Some c → IsLaidOutAlone (f c))
@@ -125,15 +203,23 @@ changing-Stands f keeps n i st sound alone =
     let is = employed-changed f keeps n i in
     record {
       kept = st.kept;
-      agrees = st.agrees ∙ sym (ap (map own_of) is ∙ own-changed f keeps n (employed i));
       rising = rising-changed number_of f n keeps.number i.contents st.rising;
       rising_singles = rising-changed number_of f n keeps.number i.singles st.rising_singles;
+      once = subst IsRising (sym is)
+          (rising-changed number_of f n keeps.number (employed i) st.once);
       sound = changed-All IsLaidOut f n i.contents st.rising st.sound sound;
       alone = changed-All IsLaidOutAlone f n i.singles st.rising_singles st.alone alone;
-      births = subst (AllPairs BornApart) (sym is)
-          (births-changed f keeps.birth n (employed i) st.births);
-      born = subst (All (IsBornBy i.created)) (sym is)
-          (born-changed f keeps.birth n i.created (employed i) st.born);
+      apart = subst (AllPairs ContentsApart) (sym is)
+          (apart-changed f keeps n (employed i) st.apart);
+      someones = All-map (λ c. IsSomeones i (own_of c)) (altered f n) i.contents
+          (All-weaker (λ c. IsSomeones i (own_of c)) (λ c. IsSomeones i (own_of (altered f n c)))
+          (λ c one. subst (IsSomeones i) (altered-own f keeps n c) one) i.contents st.someones);
+      owned = All-map (λ c. IsOwn i.own (own_of c)) (altered f n) i.singles
+          (All-weaker (λ c. IsOwn i.own (own_of c)) (λ c. IsOwn i.own (own_of (altered f n c)))
+          (λ c one. subst (IsOwn i.own) (altered-own f keeps n c) one) i.singles st.owned);
+      home = λ off. All-map (λ c. IsOwn i.own (own_of c)) (altered f n) i.contents
+          (All-weaker (λ c. IsOwn i.own (own_of c)) (λ c. IsOwn i.own (own_of (altered f n c)))
+          (λ c one. subst (IsOwn i.own) (altered-own f keeps n c) one) i.contents (st.home off));
     }
 
 pub placed-IsLaidOut : (c : Content) (offset need name : ℕ) → IsLaidOut c
@@ -205,42 +291,151 @@ releasing-Stands i spot st =
     (λ c there. released_alone c spot.offset
     (item_at-All number_of IsLaidOutAlone spot.carrier c i.singles st.alone there))
 
--- the instance owns the carrier that it employs
-pub employed-own : (i : Instance) (number : ℕ) (c : Content) → Stands i
-    → content_of (employed i) number ≡ Some c → own_at i.own number ≡ Some (own_of c)
-employed-own i number c st there = ap (λ os. own_at os number) st.agrees
-    ∙ own-found number (employed i) ∙ ap (option_map own_of) there
+-- other carriers are the instance's or another's as they were
+abbrev pub SameOwn : (own more : List OwnCarrier) → OwnCarrier → Type 0
+SameOwn own more o = own_at more o.number ≡ own_at own o.number
 
--- a carrier goes
-pub clearing-Stands : (i : Instance) (number : ℕ) (c : Content) → Stands i
-    → content_of (employed i) number ≡ Some c → Stands (clearing i number)
-clearing-Stands i number c st there =
-    let is = employed-cleared i number (employed-rising i st) in
+module _ (i : Instance) (own : List OwnCarrier) where
+  still-own : (o : OwnCarrier) → SameOwn i.own own o → IsOwn i.own o → IsOwn own o
+  still-own o same is = same ∙ is
+
+  still-someones : (o : OwnCarrier) → SameOwn i.own own o → IsSomeones i o
+      → IsSomeones (record i { own = own }) o
+  still-someones o same (inl is) = inl (same ∙ is)
+  still-someones o same (inr foreign) = inr foreign
+
+  pub all-own : (cs : List Content) → All (λ c. SameOwn i.own own (own_of c)) cs
+      → All (λ c. IsOwn i.own (own_of c)) cs → All (λ c. IsOwn own (own_of c)) cs
+  all-own cs same all = λ k d within. still-own _ (same k d within) (all k d within)
+
+  pub all-someones : (cs : List Content) → All (λ c. SameOwn i.own own (own_of c)) cs
+      → All (λ c. IsSomeones i (own_of c)) cs
+      → All (λ c. IsSomeones (record i { own = own }) (own_of c)) cs
+  all-someones cs same all = λ k d within. still-someones _ (same k d within) (all k d within)
+
+-- a carrier goes from those that are employed
+pub dismissing-Stands : (i : Instance) (number : ℕ) → Stands i → Stands (dismissing i number)
+dismissing-Stands i number st =
+    let is : employed (dismissing i number) ≡ without_content number (employed i) =
+    sym (merged-without number_of number i.contents i.singles st.once) in
     record {
-      kept = IsKept-cleared i.settings i.number number i.first i.end (own_of c) i.own st.kept
-          (employed-own i number c st there);
-      agrees = ap (without_own number) st.agrees ∙ own-without number (employed i)
-          ∙ sym (ap (map own_of) is);
+      kept = st.kept;
       rising = AllPairs-filter (IsBelow number_of) _ i.contents st.rising;
       rising_singles = AllPairs-filter (IsBelow number_of) _ i.singles st.rising_singles;
+      once = subst IsRising (sym is) (AllPairs-filter (IsBelow number_of) _ (employed i) st.once);
       sound = All-filter _ IsLaidOut i.contents st.sound;
       alone = All-filter _ IsLaidOutAlone i.singles st.alone;
-      births = subst (AllPairs BornApart) (sym is)
-          (AllPairs-filter BornApart _ (employed i) st.births);
-      born = subst (All (IsBornBy i.created)) (sym is)
-          (All-filter _ (IsBornBy i.created) (employed i) st.born);
+      apart = subst (AllPairs ContentsApart) (sym is)
+          (AllPairs-filter ContentsApart _ (employed i) st.apart);
+      someones = All-filter _ (λ c. IsSomeones i (own_of c)) i.contents st.someones;
+      owned = All-filter _ (λ c. IsOwn i.own (own_of c)) i.singles st.owned;
+      home = λ off. All-filter _ (λ c. IsOwn i.own (own_of c)) i.contents (st.home off);
     }
+
+-- and from those that are owned, where it isn't employed
+pub disowning-Stands : (i : Instance) (number : ℕ) (o : OwnCarrier) → Stands i
+    → own_at i.own number ≡ Some o → content_of (employed i) number ≡ None
+    → Stands (disowning i number)
+disowning-Stands i number o st there none =
+    let own = without_own number i.own in
+    let others = merged-each number_of (λ c. c.number ≢ number) i.contents i.singles
+    (none-other number_of number (employed i) none) in
+    record {
+      kept = IsKept-cleared i.settings i.number number i.first i.end o i.own st.kept there;
+      rising = st.rising;
+      rising_singles = st.rising_singles;
+      once = st.once;
+      sound = st.sound;
+      alone = st.alone;
+      apart = st.apart;
+      someones = all-someones i own i.contents
+          (λ k d within. item_at-stays own_number _ number i.own (others.0 k d within)) st.someones;
+      owned = all-own i own i.singles
+          (λ k d within. item_at-stays own_number _ number i.own (others.1 k d within)) st.owned;
+      home = λ off. all-own i own i.contents
+          (λ k d within. item_at-stays own_number _ number i.own (others.0 k d within))
+          (st.home off);
+    }
+
+-- a carrier goes
+pub clearing-Stands : (i : Instance) (number : ℕ) (o : OwnCarrier) → Stands i
+    → own_at i.own number ≡ Some o → Stands (clearing i number)
+clearing-Stands i number o st there =
+    disowning-Stands (dismissing i number) number o (dismissing-Stands i number st) there
+    (ap (λ cs. content_of cs number)
+    (sym (merged-without number_of number i.contents i.singles st.once))
+    ∙ item_at-gone number_of number (employed i))
+
+-- a carrier comes that isn't employed, lies apart from those that are, and is someone's
+module _ (i : Instance) (x : Content) (st : Stands i)
+    (new : content_of (employed i) x.number ≡ None) (away : All (ContentsApart x) (employed i))
+  where
+    others_number : All (λ c. c.number ≢ x.number) (employed i)
+    others_number = none-other number_of x.number (employed i) new
+
+    each_other : All (λ c. c.number ≢ x.number) i.contents × All (λ c. c.number ≢ x.number) i.singles
+    each_other = merged-each number_of (λ c. c.number ≢ x.number) i.contents i.singles others_number
+
+    once_more : IsRising (with_content x (employed i))
+    once_more = rising-entered number_of x (employed i) st.once others_number
+
+    apart_more : AllPairs ContentsApart (with_content x (employed i))
+    apart_more = entered-with number_of ContentsApart turned-apart x (employed i) st.apart away
+
+    pub employing-Stands : IsLaidOut x → IsSomeones i (own_of x)
+        → (i.settings.acul ≡ 0 → IsOwn i.own (own_of x)) → Stands (employing i x)
+    employing-Stands laid someones own =
+        let is = merged-left number_of x i.contents i.singles each_other.0 in
+        record {
+          kept = st.kept;
+          rising = rising-entered number_of x i.contents st.rising each_other.0;
+          rising_singles = st.rising_singles;
+          once = subst IsRising (sym is) once_more;
+          sound = All-entered number_of IsLaidOut x i.contents laid st.sound;
+          alone = st.alone;
+          apart = subst (AllPairs ContentsApart) (sym is) apart_more;
+          someones = All-entered number_of (λ c. IsSomeones i (own_of c)) x i.contents someones
+              st.someones;
+          owned = st.owned;
+          home = λ off. All-entered number_of (λ c. IsOwn i.own (own_of c)) x i.contents (own off)
+              (st.home off);
+        }
+
+    pub employing_single-Stands : IsLaidOutAlone x → IsOwn i.own (own_of x)
+        → Stands (record i { singles = with_content x i.singles })
+    employing_single-Stands laid own =
+        let is = merged-right number_of x i.contents i.singles each_other.0 in
+        record {
+          kept = st.kept;
+          rising = st.rising;
+          rising_singles = rising-entered number_of x i.singles st.rising_singles each_other.1;
+          once = subst IsRising (sym is) once_more;
+          sound = st.sound;
+          alone = All-entered number_of IsLaidOutAlone x i.singles laid st.alone;
+          apart = subst (AllPairs ContentsApart) (sym is) apart_more;
+          someones = st.someones;
+          owned = All-entered number_of (λ c. IsOwn i.own (own_of c)) x i.singles own st.owned;
+          home = st.home;
+        }
 
 -- the carrier of a plan is none that is employed, and meets none
 module _ (i : Instance) (need : ℕ) (p : CarrierPlan) (st : Stands i) (asked : plan i need ≡ Ok p)
   where
-    pub planned-absent : has_content p.number (employed i) ≡ false
-    planned-absent = unused-content p.number (employed i)
-        (subst (λ os. is_used p.number os ≡ false) st.agrees
-        (other-numbers i need p st.kept asked))
+    other-carrier : (c : Content) → IsSomeones i (own_of c) → c.number ≢ p.number
+    other-carrier c (inl own) same =
+        let used : is_used p.number i.own ≡ true =
+        ap (λ n. is_used n i.own) (sym same) ∙ ap is_some own in
+        absurd (let never : true ≡ false = sym used ∙ other-numbers i need p st.kept asked in cc)
+    other-carrier c (inr foreign) same =
+        let has = planned-numbered i need p st.kept asked in
+        foreign.other (omega (arith, has.0, same), omega (arith, has.1, same))
 
     new_number : All (λ c. c.number ≢ p.number) (employed i)
-    new_number = absent-All p.number (employed i) planned-absent
+    new_number = All-weaker (λ c. IsSomeones i (own_of c)) (λ c. c.number ≢ p.number) other-carrier
+        (employed i) (employed-someones i st)
+
+    pub planned-absent : has_content p.number (employed i) ≡ false
+    planned-absent = absent-among p.number (employed i) new_number
 
     each_new : All (λ c. c.number ≢ p.number) i.contents × All (λ c. c.number ≢ p.number) i.singles
     each_new = merged-each number_of (λ c. c.number ≢ p.number) i.contents i.singles new_number
@@ -251,66 +446,73 @@ module _ (i : Instance) (need : ℕ) (p : CarrierPlan) (st : Stands i) (asked : 
     pub planned-alone : All (λ c. c.number ≢ p.number) i.singles
     planned-alone = each_new.1
 
-    meets_none : All (ContentsApart (created_content i.number Multi p)) (employed i)
-    meets_none =
-        apart-contents (created_content i.number Multi p) p.pages (employed i) refl
-        (employed-whole i st)
-        (subst (λ os. AreFree p.base p.pages (segments os)) st.agrees
-        (planned-free i need p st.kept asked))
+    abbrev planned_content : Content
+    planned_content = created_content i.number Multi p
 
-    pub planned-apart : All (ContentsApart (created_content i.number Multi p)) i.contents
-    planned-apart = (merged-each number_of (ContentsApart (created_content i.number Multi p))
+    meets_not : (c : Content) → IsWhole c → IsSomeones i (own_of c)
+        → ContentsApart planned_content c
+    meets_not c whole (inl own) =
+        let beside : SegmentApart p.base p.pages (segment_of (own_of c)) =
+        item_at-All own_number (λ o. SegmentApart p.base p.pages (segment_of o)) c.number
+        (own_of c) i.own (free-own p.base p.pages i.own (planned-free i need p st.kept asked))
+        own in
+        apart_from planned_content c p.pages refl whole beside
+    meets_not c whole (inr foreign) =
+        let within = planned-within i need p st.kept asked in
+        apart_from planned_content c p.pages refl whole (elim foreign.outside [
+          | inl before ↦ inl (omega (arith, before, within.0))
+          | inr behind ↦ inr (omega (arith, behind, within.1))
+        ])
+
+    meets_none : All (ContentsApart planned_content) (employed i)
+    meets_none = λ k d within.
+        meets_not (get_or (employed i) k d) (employed-whole i st k d within) (employed-someones i st k d within)
+
+    pub planned-apart : All (ContentsApart planned_content) i.contents
+    planned-apart = (merged-each number_of (ContentsApart planned_content)
         i.contents i.singles meets_none).0
 
-    -- there are fewer carriers than numbers
-    pub planned-few : length i.contents + length i.singles < 256
-    planned-few = omega (
-      arith,
-      has-number i need p st.kept asked,
-      ap length st.agrees,
-      length-map (employed i) own_of,
-      length-merged number_of i.contents i.singles,
-    )
+    -- the instance that owns it too
+    abbrev owning : Instance
+    owning = record i { own = with_own (planned_own p) i.own; created = p.birth }
 
-    -- one that comes is the youngest
-    module _ (x : Content) (number : x.number ≡ p.number) (birth : x.birth ≡ p.birth)
-        (own : own_of x ≡ planned_own p) where
-      born_now : p.birth ≡ i.created + 1
-      born_now = (plan-IsPlanned i need p asked).birth
+    same_as_before : (c : Content) → c.number ≢ p.number
+        → SameOwn i.own (with_own (planned_own p) i.own) (own_of c)
+    same_as_before c other = item_at-old own_number c.number (planned_own p) i.own other
 
-      pub more-agrees : with_own (planned_own p) i.own ≡ map own_of (with_content x (employed i))
-      more-agrees = ap (λ o. with_own o i.own) (sym own) ∙ ap (with_own (own_of x)) st.agrees
-          ∙ own-with x (employed i)
+    owning-Stands : Stands owning
+    owning-Stands = record {
+      kept = IsKept-made i need p st.kept asked;
+      rising = st.rising;
+      rising_singles = st.rising_singles;
+      once = st.once;
+      sound = st.sound;
+      alone = st.alone;
+      apart = st.apart;
+      someones = all-someones i (with_own (planned_own p) i.own) i.contents
+          (λ k d within. same_as_before (get_or i.contents k d) (planned-new k d within)) st.someones;
+      owned = all-own i (with_own (planned_own p) i.own) i.singles
+          (λ k d within. same_as_before (get_or i.singles k d) (planned-alone k d within)) st.owned;
+      home = λ off. all-own i (with_own (planned_own p) i.own) i.contents
+          (λ k d within. same_as_before (get_or i.contents k d) (planned-new k d within))
+          (st.home off);
+    }
 
-      pub more-births : AllPairs BornApart (with_content x (employed i))
-      more-births =
-          entered-with number_of BornApart (λ c d n e. n (sym e)) x (employed i) st.births
-          (λ k d within e. omega (arith, e, (st.born k d within).1, birth, born_now))
+    own_found : IsOwn (with_own (planned_own p) i.own) (planned_own p)
+    own_found = item_at-new own_number (planned_own p) i.own
+        (unused-All p.number i.own (other-numbers i need p st.kept asked))
 
-      pub more-born : All (IsBornBy p.birth) (with_content x (employed i))
-      more-born =
-          All-entered number_of (IsBornBy p.birth) x (employed i)
-          (omega (arith, birth, born_now), omega (arith, birth))
-          (All-weaker (IsBornBy i.created) (IsBornBy p.birth)
-          (λ c b. (b.0, omega (arith, b.1, born_now))) (employed i) st.born)
+    made_own : IsOwn (with_own (planned_own p) i.own) (own_of planned_content)
+    made_own = subst (IsOwn (with_own (planned_own p) i.own))
+        (sym (own_of-made i need p st.kept asked)) own_found
 
     -- a planned multiblock carrier comes
     pub creating-Stands : Stands (creating i p)
     creating-Stands =
-        let x : Content = created_content i.number Multi p in
-        let own = own_of-made i need p st.kept asked in
-        let is = employed-created i p planned-new in
-        record {
-          kept = IsKept-made i need p st.kept asked;
-          agrees = more-agrees x refl refl own ∙ sym (ap (map own_of) is);
-          rising = rising-entered number_of x i.contents st.rising planned-new;
-          rising_singles = st.rising_singles;
-          sound = All-entered number_of IsLaidOut x i.contents
-              (IsLaidOut-made i need p st.kept asked) st.sound;
-          alone = st.alone;
-          births = subst (AllPairs BornApart) (sym is) (more-births x refl refl own);
-          born = subst (All (IsBornBy p.birth)) (sym is) (more-born x refl refl own);
-        }
+        employing-Stands owning planned_content owning-Stands
+        (absent-none p.number (employed i) planned-absent) meets_none
+        (IsLaidOut-made i need p st.kept asked)
+        (inl made_own) (λ off. made_own)
 
     -- a planned singleblock carrier comes with its block
     pub creating_single-Stands : (name : ℕ) → 6 ≤ need → need % 2 ≡ 0
@@ -318,29 +520,21 @@ module _ (i : Instance) (need : ℕ) (p : CarrierPlan) (st : Stands i) (asked : 
     creating_single-Stands name least even =
         let x : Content = created_single i.number p need name in
         let made = IsLaidOut-made i need p st.kept asked in
-        let own = own_of-made i need p st.kept asked in
-        let is = employed-single i p need name planned-new in
-        record {
-          kept = IsKept-made i need p st.kept asked;
-          agrees = more-agrees x refl refl own ∙ sym (ap (map own_of) is);
-          rising = st.rising;
-          rising_singles = rising-entered number_of x i.singles st.rising_singles planned-alone;
-          sound = st.sound;
-          alone = All-entered number_of IsLaidOutAlone x i.singles
-              (record {
-                whole = made.whole;
-                single = refl;
-                block = (
-                  refl,
-                  least,
-                  even,
-                  omega (arith, (plan-IsPlanned i need p asked).enough),
-                );
-                low = made.low;
-              }) st.alone;
-          births = subst (AllPairs BornApart) (sym is) (more-births x refl refl own);
-          born = subst (All (IsBornBy p.birth)) (sym is) (more-born x refl refl own);
-        }
+        employing_single-Stands owning x owning-Stands
+        (absent-none p.number (employed i) planned-absent) meets_none
+        (record {
+          whole = made.whole;
+          single = refl;
+          block = (
+            refl,
+            least,
+            even,
+            omega (arith, (plan-IsPlanned i need p asked).enough),
+          );
+          low = made.low;
+        })
+        (subst (IsOwn (with_own (planned_own p) i.own))
+        (sym (own_of-made i need p st.kept asked)) own_found)
 
 -- the candidate is a gap of at least `need` units, in the carrier of its number
 abbrev pub IsOwnGap : ℕ → List Content → Candidate → Type 0
@@ -436,13 +630,15 @@ new_without s number first pages valid own within = record {
     within = within;
     laid = omega arith;
   };
-  agrees = refl;
   rising = pairs_nil (IsBelow number_of);
   rising_singles = pairs_nil (IsBelow number_of);
+  once = pairs_nil (IsBelow number_of);
   sound = All-nil IsLaidOut;
   alone = All-nil IsLaidOutAlone;
-  births = pairs_nil BornApart;
-  born = All-nil (IsBornBy 0);
+  apart = pairs_nil ContentsApart;
+  someones = All-nil _;
+  owned = All-nil _;
+  home = λ off. All-nil _;
 }
 
 new_with : (s : Settings) (number first pages : ℕ) → IsValid s
@@ -462,6 +658,16 @@ new_with s number first pages valid own within main some =
     let m = main_content s number first in
     let o = own_of m in
     let n : ℕ = pages_for s.mmbcs in
+    let begun : Instance = record {
+      settings = s;
+      number = number;
+      first = first;
+      end = first + pages;
+      own = map own_of (m ∷ []);
+      contents = m ∷ [];
+      singles = [];
+      created = 1;
+    } in
     let one : 1 ≤ n = omega arith in
     let same = pages_of_units n in
     record {
@@ -477,10 +683,11 @@ new_with s number first pages valid own within main some =
         within = within;
         laid = (omega arith, omega (arith, one, same), omega (arith, main, same));
       };
-      agrees = refl;
       rising = AllPairs-cons (IsBelow number_of) m [] (All-nil (IsBelow number_of m))
           (pairs_nil (IsBelow number_of));
       rising_singles = pairs_nil (IsBelow number_of);
+      once = AllPairs-cons (IsBelow number_of) m [] (All-nil (IsBelow number_of m))
+          (pairs_nil (IsBelow number_of));
       sound = All-cons IsLaidOut m []
           (record {
             whole = (whole_pages n, omega (arith, one, same));
@@ -492,8 +699,13 @@ new_with s number first pages valid own within main some =
             low = omega (arith, main, within);
           }) (All-nil IsLaidOut);
       alone = All-nil IsLaidOutAlone;
-      births = AllPairs-cons BornApart m [] (All-nil (BornApart m)) (pairs_nil BornApart);
-      born = All-cons (IsBornBy 1) m [] (omega arith, omega arith) (All-nil (IsBornBy 1));
+      apart = AllPairs-cons ContentsApart m [] (All-nil (ContentsApart m))
+          (pairs_nil ContentsApart);
+      someones = All-cons (λ c. IsSomeones begun (own_of c)) m []
+          (inl (item_here own_number o.number o [] refl)) (All-nil (λ c. IsSomeones begun (own_of c)));
+      owned = All-nil (λ c. IsOwn begun.own (own_of c));
+      home = λ off. All-cons (λ c. IsOwn begun.own (own_of c)) m []
+          (item_here own_number o.number o [] refl) (All-nil (λ c. IsOwn begun.own (own_of c)));
     }
 
 pub new-Stands : (s : Settings) (number first pages : ℕ) → IsValid s

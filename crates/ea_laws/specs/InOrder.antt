@@ -3,8 +3,8 @@ use Rattle.std.specs.Prelude.{◌≡◌, ℕ, ◌+◌, ◌*◌, List, All, AllPa
 use Rattle.std.specs.List.{flat_map}
 use Rattle.ea_model.specs.Content.{Content, allocated, free_units, gaps_of, Tiled}
 use Rattle.ea_model.specs.Region.{AreApart, Laid}
-use Rattle.ea_model.specs.Instance.{Instance, employed, first_number, own_of, segments}
-use Rattle.ea_laws.specs.Kept.{BornApart, HasNumberIn, HasOneBlock, IsRising, IsWhole}
+use Rattle.ea_model.specs.Instance.{Instance, employed, first_number, segments}
+use Rattle.ea_laws.specs.Kept.{ContentsApart, HasNumberIn, HasOneBlock, IsRising, IsWhole}
 
 -- units of the super carrier, from the first one on
 pub record Range : Type 0 where
@@ -24,8 +24,8 @@ RangesApart a b = AreApart a.first a.units b.first b.units
 
 -- no two blocks have a unit in common; in a multiblock carrier they lie one after another, after its
 -- header and with whole gaps between them, and a singleblock carrier has one at most; each carrier
--- has whole pages, a number of its own and a birth of its own; the carriers are those that the
--- instance owns, whose numbers are the instance's and whose segments lie apart, inside its region;
+-- has whole pages and a number of its own, and they lie apart; the carriers that the instance owns
+-- have its numbers, and their segments lie apart, inside its region;
 -- blocks, gaps and headers are all units of the carriers
 pub record IsInOrder (i : Instance) : Type 0 where
   pub disjoint : AllPairs RangesApart (ranges (employed i))
@@ -33,8 +33,7 @@ pub record IsInOrder (i : Instance) : Type 0 where
   pub single : All (λ c. HasOneBlock c.units c.blocks) i.singles
   pub whole : All IsWhole (employed i)
   pub numbers : IsRising (employed i)
-  pub births : AllPairs BornApart (employed i)
-  pub own : i.own ≡ map own_of (employed i)
+  pub apart : AllPairs ContentsApart (employed i)
   pub owned : All (HasNumberIn (first_number i.number) (first_number i.number + 256)) i.own
   pub laid : Laid i.first i.end (segments i.own)
   pub sum : sum_by (λ c. allocated c.blocks) (employed i)

@@ -8,12 +8,12 @@ use Rattle.ea_model.specs.declared.reallocation.Decision.TheVariants.{Move}
 use Rattle.ea_model.specs.declared.settings.Settings.{Settings}
 use Rattle.ea_model.specs.declared.units.TheConstants.{MAX_PAGES, MAX_SCHEDULERS}
 use Rattle.ea_model.specs.Content.{Content, is_vacant}
-use Rattle.ea_model.specs.Instance.{Instance, block_in, chosen_spot, clearing, content_of, creating, creating_single, decision_at, employed, least_pages, new_instance, place_at, placing_at, plan, releasing_at, resized_to, resizing_at, segments, single_place}
+use Rattle.ea_model.specs.Instance.{Instance, block_in, chosen_spot, clearing, content_of, creating, creating_single, decision_at, employed, least_pages, new_instance, own_of, place_at, placing_at, plan, releasing_at, resized_to, resizing_at, segments, single_place}
 use Rattle.ea_model.specs.Region.{runs}
 use Rattle.ea_model.specs.Settings.{IsValid}
 use Rattle.ea_model.specs.Units.{pages_for}
 use Rattle.ea_laws.specs.InOrder.{IsInOrder}
-use Rattle.ea_laws.specs.Kept.{Stands}
+use Rattle.ea_laws.specs.Kept.{IsOwn, Stands}
 use Rattle.ea_laws.specs.Spots.{AllUsed, HaveSameBlocks, IsOther, IsPlaced}
 
 -- an instance may begin with these settings, this number and the pages from `first` on: the main
@@ -45,10 +45,10 @@ Releases = (i : Instance) (spot : Spot) → Stands i
     × ((at : Spot) → IsOther spot.carrier spot.offset at
     → block_in (employed (releasing_at i spot)) at ≡ block_in (employed i) at)
 
--- a carrier without blocks goes, and no block with it
+-- an own carrier without blocks goes, and no block with it
 abbrev pub Clears : Type 0
 Clears = (i : Instance) (number : ℕ) (c : Content) → Stands i
-    → content_of (employed i) number ≡ Some c → is_vacant c ≡ true
+    → content_of (employed i) number ≡ Some c → IsOwn i.own (own_of c) → is_vacant c ≡ true
     → Stands (clearing i number) × HaveSameBlocks (employed i) (employed (clearing i number))
 
 -- a planned multiblock carrier comes, and no block with it; it has a choice for the need

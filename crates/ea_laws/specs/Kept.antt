@@ -1,15 +1,15 @@
 -- The carriers of an instance: those that it owns, those that it employs, where they lie, and what
 -- holds of them at every moment.
-use Rattle.std.specs.Prelude.{◌≡◌, ℕ, ◌+◌, ◌*◌, ◌%◌, ◌/◌, ◌≢◌, ◌<◌, ◌≤◌, true, List, [], ◌∷◌, All, AllPairs, map}
+use Rattle.std.specs.Prelude.{◌≡◌, ◌⊎◌, ℕ, ◌+◌, ◌*◌, ◌%◌, ◌/◌, ◌<◌, ◌≤◌, true, List, [], ◌∷◌, All, AllPairs, Some}
 use Rattle.ea_model.specs.declared.carriers.BlockAt.{BlockAt}
 use Rattle.ea_model.specs.declared.carriers.Kind.TheVariants.{Single}
 use Rattle.ea_model.specs.declared.carriers.OwnCarrier.{OwnCarrier}
 use Rattle.ea_model.specs.declared.settings.Settings.{Settings}
-use Rattle.ea_model.specs.declared.units.TheConstants.{MAX_PAGES, MAX_SCHEDULERS, MAX_UNITS}
+use Rattle.ea_model.specs.declared.units.TheConstants.{MAX_PAGES, MAX_SCHEDULERS, MAX_UNITS, NUMBERS}
 use Rattle.ea_model.specs.Content.{Content, Tiled}
 use Rattle.ea_model.specs.Keyed.{IsBelow}
 use Rattle.ea_model.specs.Settings.{IsValid}
-use Rattle.ea_model.specs.Instance.{Instance, employed, segments, first_number, own_of}
+use Rattle.ea_model.specs.Instance.{Instance, employed, segments, first_number, own_at, own_of}
 use Rattle.ea_model.specs.Region.{AreApart, Laid}
 use Rattle.ea_laws.specs.Kinds.{is_shared}
 
@@ -80,22 +80,31 @@ pub record IsKept (settings : Settings) (number first end : ℕ) (own : List Own
     pub within : end ≤ MAX_PAGES
     pub laid : Laid first end (segments own)
 
--- two carriers were not created at once
-abbrev pub BornApart : Content → Content → Type 0
-BornApart c d = c.birth ≢ d.birth
+-- a carrier of another instance: its number and its pages are none of this one's
+pub record IsForeign (number first end : ℕ) (o : OwnCarrier) : Type 0 where
+  pub other : HasNumberIn (first_number number) (first_number number + NUMBERS) o → ⊥
+  pub numbered : (1 ≤ o.number) × (o.number ≤ NUMBERS * MAX_SCHEDULERS)
+  pub outside : (o.base + o.pages ≤ first) ⊎ (end ≤ o.base)
 
--- the carrier is one of the first that were created
-abbrev pub IsBornBy : ℕ → Content → Type 0
-IsBornBy created c = (1 ≤ c.birth) × (c.birth ≤ created)
+-- the instance owns the carrier
+abbrev pub IsOwn : List OwnCarrier → OwnCarrier → Type 0
+IsOwn own o = own_at own o.number ≡ Some o
 
--- an instance keeps its carriers, it employs those that it owns, these are laid out, and each was
--- created by itself
+-- it owns it, or another one does
+abbrev pub IsSomeones : Instance → OwnCarrier → Type 0
+IsSomeones i o = IsOwn i.own o ⊎ IsForeign i.number i.first i.end o
+
+-- an instance keeps the carriers that it owns; those that it employs are laid out and lie apart,
+-- their numbers rise, and each is its own as it knows it or another instance's; a singleblock
+-- carrier is its own, and so is each where carriers don't migrate
 pub record Stands (i : Instance) : Type 0 where
   pub kept : IsKept i.settings i.number i.first i.end i.own
-  pub agrees : i.own ≡ map own_of (employed i)
   pub rising : IsRising i.contents
   pub rising_singles : IsRising i.singles
+  pub once : IsRising (employed i)
   pub sound : All IsLaidOut i.contents
   pub alone : All IsLaidOutAlone i.singles
-  pub births : AllPairs BornApart (employed i)
-  pub born : All (IsBornBy i.created) (employed i)
+  pub apart : AllPairs ContentsApart (employed i)
+  pub someones : All (λ c. IsSomeones i (own_of c)) i.contents
+  pub owned : All (λ c. IsOwn i.own (own_of c)) i.singles
+  pub home : i.settings.acul ≡ 0 → All (λ c. IsOwn i.own (own_of c)) i.contents

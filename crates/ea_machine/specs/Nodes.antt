@@ -6,6 +6,9 @@ use Rattle.ea_machine.specs.declared.nodes.Named.{Named}
 use Rattle.ea_machine.specs.declared.nodes.Node.{Node}
 use Rattle.ea_machine.specs.declared.nodes.Node.TheVariants.{Block, Carrier}
 
+abbrev pub name_of : Named → ℕ
+name_of x = x.name
+
 -- the names with one more, by rising name
 abbrev pub with_name : Named → List Named → List Named
 with_name x names = keyed.entered (λ n. n.name) x names

@@ -17,7 +17,7 @@ use Rattle.ea_machine.specs.Actor.{Actor, Creating, Fetching, Searching}
 use Rattle.ea_machine.specs.declared.tasks.Task.TheVariants.{Moving}
 use Rattle.ea_machine.specs.declared.asks.Ask.{Ask}
 use Rattle.ea_machine.specs.Rows.{Answer, Saw, Won, Lost}
-use Rattle.ea_machine.specs.Employment.{employing}
+use Rattle.ea_model.specs.Employment.{employing}
 use Rattle.ea_machine.specs.Tasks.{halted, hands_over, logged}
 
 -- the name is held, with its block at the spot

@@ -17,8 +17,8 @@ use Rattle.ea_machine.specs.Actor.{Actor, Route, Looking, Trying, Settling, Aban
 use Rattle.ea_machine.specs.declared.tasks.Gone.{Gone}
 use Rattle.ea_machine.specs.declared.tasks.Gone.TheVariants.{Open, Here, Queued}
 use Rattle.ea_machine.specs.Rows.{Answer, Saw, Won, Lost}
-use Rattle.ea_machine.specs.Employment.{dismissing, disowning}
-use Rattle.ea_machine.specs.Abandonment.{is_due}
+use Rattle.ea_model.specs.Employment.{dismissing, disowning}
+use Rattle.ea_model.specs.Abandonment.{is_due}
 
 -- a scheduler on a route, what is next on it if it isn't over, and what became of the block
 pub record Turned : Type 0 where

@@ -9,6 +9,8 @@ pub mod GoodFit
 pub mod Strategies
 pub mod Decision
 pub mod Instance
+pub mod Employment
+pub mod Abandonment
 pub mod Words
 pub mod Trace
 pub mod Outcome

@@ -11,8 +11,7 @@ use Rattle.std.proofs.lemmas.List.Sums.{sum_by-append, sum_by-cons}
 use Rattle.ea_model.specs.declared.carriers.Spot.{Spot}
 use Rattle.ea_model.proofs.Rising.{entered_here, entered_past, item_here, item_past, without_none}
 use Rattle.ea_machine.specs.declared.nodes.Named.{Named}
-use Rattle.ea_machine.specs.NamePlaces.{name_of}
-use Rattle.ea_machine.specs.Nodes.{named_at, spot_named, with_name, without_name}
+use Rattle.ea_machine.specs.Nodes.{named_at, spot_named, with_name, without_name, name_of}
 use Rattle.ea_names.specs.Holding.{IsGroup, has_places, held_from, held_in, places_in}
 use Rattle.ea_names.specs.declared.groups.TheConstants.{GROUP}
 use Rattle.ea_names.proofs.NamesTable.{entered-first, held-after, held-none, hold-held, let-go-held, missing, spot-held, sum-held}

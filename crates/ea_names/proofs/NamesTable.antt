@@ -7,8 +7,7 @@ use Rattle.std.proofs.lemmas.List.Sums.{sum_by-cons}
 use Rattle.ea_model.specs.declared.carriers.Spot.{Spot}
 use Rattle.ea_model.proofs.Rising.{entered_here, entered_past, item_at-gone, item_here, item_past, without_here, without_none, without_past}
 use Rattle.ea_machine.specs.declared.nodes.Named.{Named}
-use Rattle.ea_machine.specs.NamePlaces.{name_of}
-use Rattle.ea_machine.specs.Nodes.{named_at, spot_named, with_name, without_name}
+use Rattle.ea_machine.specs.Nodes.{named_at, spot_named, with_name, without_name, name_of}
 use Rattle.ea_names.specs.Holding.{held_from}
 
 abbrev held_at : ℕ → Spot → Named

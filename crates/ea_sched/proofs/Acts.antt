@@ -19,8 +19,7 @@ use Rattle.ea_machine.specs.Reallocations.{resized_here, resized_place}
 use Rattle.ea_sched.specs.Deciding.{is_move}
 use Rattle.ea_instance.specs.Answers.{placing_if}
 use Rattle.ea_machine.specs.Setup.{Setup}
-use Rattle.ea_machine.specs.NamePlaces.{name_of}
-use Rattle.ea_machine.specs.Nodes.{spot_named, with_name, without_name}
+use Rattle.ea_machine.specs.Nodes.{spot_named, with_name, without_name, name_of}
 use Rattle.ea_machine.specs.Placements.{holding, placed_at, spot_of_place, stands}
 use Rattle.ea_machine.specs.declared.asks.Ask.{Ask}
 use Rattle.ea_sound.proofs.Asked.{unnamed-spot}

@@ -19,11 +19,11 @@ use Rattle.ea_machine.specs.declared.nodes.Named.{Named}
 use Rattle.ea_machine.specs.Actor.{Actor}
 use Rattle.ea_machine.specs.Outcome.{actors_of, live_spots, outcome, units_at}
 use Rattle.ea_machine.specs.Owners.{owner_of}
-use Rattle.ea_machine.specs.Places.{has_number}
+use Rattle.ea_sound.specs.Places.{has_number}
 use Rattle.ea_machine.specs.Setup.{Setup, is_scheduler, migration}
 use Rattle.ea_machine.specs.State.{State}
 use Rattle.ea_machine.specs.Sums.{sum_over}
-use Rattle.ea_machine.specs.Units.{size_in}
+use Rattle.ea_sound.specs.Units.{size_in}
 use Rattle.ea_sound.specs.Present.{Rule}
 use Rattle.ea_sound.proofs.Created.{scheduler-number}
 use Rattle.ea_sound.proofs.KeyedWeights.{sum-missing, sum-only, times, times-once}

@@ -14,7 +14,7 @@ use Rattle.ea_model.specs.Trace.{plain_mode}
 use Rattle.ea_machine.specs.declared.nodes.Named.{Named}
 use Rattle.ea_machine.specs.Actor.{Actor}
 use Rattle.ea_machine.specs.Machine.{IsReached}
-use Rattle.ea_machine.specs.NamePlaces.{name_of}
+use Rattle.ea_machine.specs.Nodes.{name_of}
 use Rattle.ea_machine.specs.Outcome as machine
 use Rattle.ea_machine.specs.Owners.{owner_of}
 use Rattle.ea_machine.specs.Setup.{setup_of}

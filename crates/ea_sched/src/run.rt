@@ -7,7 +7,7 @@ ghost use Rattle.ea_model.specs.Trace.{IsScheduler, IsValidTrace};
 ghost use Rattle.ea_model.specs.Trace as traces;
 ghost use Rattle.ea_machine.specs.Completion.{completing, finishing};
 ghost use Rattle.ea_machine.specs.Machine.{start};
-ghost use Rattle.ea_machine.specs.MachineLaws.{Protocol};
+ghost use Rattle.ea_sound.specs.MachineLaws.{Protocol};
 ghost use Rattle.ea_machine.specs.Outcome as machine;
 ghost use Rattle.ea_machine.specs.Setup.{setup_of};
 ghost use Rattle.ea_sched.specs.Built.{is_built_run};

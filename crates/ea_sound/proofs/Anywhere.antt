@@ -5,9 +5,9 @@ use Rattle.std.proofs.lemmas.List.Elements.{All-nil, All-weaker}
 use Rattle.ea_model.specs.Content.{Content}
 use Rattle.ea_laws.specs.Kept.{IsLaidOut, IsLaidOutAlone}
 use Rattle.ea_machine.specs.Actor.{Actor, Route, Looking, Trying, Settling, Abandoning, Sending, Clearing, Pushing, Linking, Stage, Begin, Routed, Collecting, Searching, Fetching, Creating, Giving, Taking, Ended, Ready}
-use Rattle.ea_machine.specs.Contents.{AtHome, Everywhere, InHand, OnRoute, hand_sum, home_sum, route_sum, seats}
+use Rattle.ea_sound.specs.Contents.{AtHome, Everywhere, InHand, OnRoute, hand_sum, home_sum, route_sum, seats}
 use Rattle.ea_machine.specs.Owners.{CarrierAt, Absent, Employed, Pooled, Busy, Returning}
-use Rattle.ea_machine.specs.Ranges.{IsLaidOutAsKind}
+use Rattle.ea_sound.specs.Ranges.{IsLaidOutAsKind}
 use Rattle.ea_machine.specs.Setup.{Setup, is_scheduler}
 use Rattle.ea_machine.specs.State.{State}
 use Rattle.ea_machine.specs.Sums.{sum_over}

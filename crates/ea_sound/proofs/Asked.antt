@@ -13,8 +13,7 @@ use Rattle.ea_model.proofs.Options.{same-some}
 use Rattle.ea_model.proofs.Rising.{item_at-key}
 use Rattle.ea_machine.specs.declared.nodes.Named.{Named}
 use Rattle.ea_machine.specs.Machine.{IsReached}
-use Rattle.ea_machine.specs.NamePlaces.{name_of}
-use Rattle.ea_machine.specs.Nodes.{named_at, spot_named}
+use Rattle.ea_machine.specs.Nodes.{named_at, spot_named, name_of}
 use Rattle.ea_machine.specs.Setup.{Setup, setup_of, text_for}
 use Rattle.ea_machine.specs.State.{State}
 use Rattle.ea_sound.specs.Present.{Rule}

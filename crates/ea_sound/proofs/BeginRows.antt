@@ -4,7 +4,7 @@ use Rattle.std.specs.Prelude.{Option, None, Some}
 use Rattle.ea_machine.specs.declared.nodes.Node.{Node}
 use Rattle.ea_machine.specs.Actor.{Actor, Begin}
 use Rattle.ea_machine.specs.Machine.{begins}
-use Rattle.ea_machine.specs.Names.{made_in, unplaced}
+use Rattle.ea_sound.specs.Names.{made_in, unplaced}
 use Rattle.ea_machine.specs.Nodes.{Mark, first_node}
 use Rattle.ea_machine.specs.Setup.{Setup, is_scheduler}
 use Rattle.ea_machine.specs.Shared.{Shared}

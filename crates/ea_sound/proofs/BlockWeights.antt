@@ -13,7 +13,7 @@ use Rattle.ea_model.proofs.Rising.{item_at-All, item_at-key}
 use Rattle.ea_laws.specs.Kept.{number_of}
 use Rattle.ea_laws.proofs.BlockLists.{offset_of}
 use Rattle.ea_laws.proofs.Resized.{with_size}
-use Rattle.ea_machine.specs.Names.{of_block, of_content, only_at}
+use Rattle.ea_sound.specs.Names.{of_block, of_content, only_at}
 use Rattle.ea_sound.specs.Blocks.{spot_at, employed_sum}
 use Rattle.ea_sound.specs.Orderly.{IsOrderly}
 use Rattle.ea_sound.proofs.EmployedWeights.{employed_sum-employed}

@@ -24,12 +24,11 @@ use Rattle.ea_machine.specs.declared.tasks.Why.{Why}
 use Rattle.ea_machine.specs.declared.tasks.Why.TheVariants.{For}
 use Rattle.ea_machine.specs.Actor.{Actor, Giving, Linking, Pushing, Route, Routed, Stage, Taking}
 use Rattle.ea_machine.specs.Alike.{HasNoAlike, IsNode, IsSpot}
-use Rattle.ea_machine.specs.Contents.{seats}
+use Rattle.ea_sound.specs.Contents.{seats}
 use Rattle.ea_machine.specs.Guards.{IsUnlinkedAt}
 use Rattle.ea_machine.specs.Machine.{IsReached}
-use Rattle.ea_machine.specs.NamePlaces.{name_of}
-use Rattle.ea_machine.specs.Names.{of_named, only}
-use Rattle.ea_machine.specs.Nodes.{Mark, first_node, named_at, pushed, spot_named}
+use Rattle.ea_sound.specs.Names.{of_named, only}
+use Rattle.ea_machine.specs.Nodes.{Mark, first_node, named_at, pushed, spot_named, name_of}
 use Rattle.ea_machine.specs.Setup.{Setup, is_scheduler, setup_of}
 use Rattle.ea_machine.specs.State.{State}
 use Rattle.ea_machine.specs.Sums.{one_if}

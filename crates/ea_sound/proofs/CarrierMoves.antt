@@ -21,12 +21,12 @@ use Rattle.ea_laws.proofs.Changed.{released-keeps}
 use Rattle.ea_machine.specs.Actor.{Actor, Looking, Abandoning, Begin, Routed}
 use Rattle.ea_machine.specs.declared.tasks.Why.{Why}
 use Rattle.ea_machine.specs.declared.tasks.Gone.{Gone}
-use Rattle.ea_machine.specs.Employment.{dismissing}
-use Rattle.ea_machine.specs.Contents.{hand_sum}
-use Rattle.ea_machine.specs.Names.{of_block, of_content, only}
+use Rattle.ea_model.specs.Employment.{dismissing}
+use Rattle.ea_sound.specs.Contents.{hand_sum}
+use Rattle.ea_sound.specs.Names.{of_block, of_content, only}
 use Rattle.ea_machine.specs.declared.nodes.Named.{Named}
 use Rattle.ea_machine.specs.Owners.{owner_of}
-use Rattle.ea_machine.specs.Ranges.{IsLaidOutAsKind}
+use Rattle.ea_sound.specs.Ranges.{IsLaidOutAsKind}
 use Rattle.ea_machine.specs.Releases.{dismissed, disowned}
 use Rattle.ea_machine.specs.Setup.{Setup, is_scheduler, migration}
 use Rattle.ea_machine.specs.Shared.{Shared, put}

@@ -12,11 +12,11 @@ use Rattle.ea_model.proofs.Rising.{All-entered}
 use Rattle.ea_laws.specs.Kept.{number_of, own_number}
 use Rattle.ea_machine.specs.declared.nodes.Node.{Node}
 use Rattle.ea_machine.specs.Actor.{Actor, Begin, Stage}
-use Rattle.ea_machine.specs.Contents.{hand_sum, home_sum, seats, slots}
-use Rattle.ea_machine.specs.Employment.{employing}
-use Rattle.ea_machine.specs.NamePlaces.{name_of}
-use Rattle.ea_machine.specs.Names.{allocated, of_content, of_hand, of_named, of_node, only}
-use Rattle.ea_machine.specs.NodePlaces.{of_carrier_hand, of_carrier_node, of_link}
+use Rattle.ea_sound.specs.Contents.{hand_sum, home_sum, seats, slots}
+use Rattle.ea_model.specs.Employment.{employing}
+use Rattle.ea_machine.specs.Nodes.{name_of}
+use Rattle.ea_sound.specs.Names.{allocated, of_content, of_hand, of_named, of_node, only}
+use Rattle.ea_sound.specs.NodePlaces.{of_carrier_hand, of_carrier_node, of_link}
 use Rattle.ea_machine.specs.Owners.{Absent, Employed, Pooled, owner_of}
 use Rattle.ea_machine.specs.Placements.{holding, spot_of_place}
 use Rattle.ea_machine.specs.Setup.{Setup, is_scheduler, migration}

@@ -23,7 +23,7 @@ use Rattle.ea_model.proofs.Rising.{All-entered}
 use Rattle.ea_laws.specs.Kept.{number_of, IsLaidOut, IsRising, Stands}
 use Rattle.ea_laws.specs.Kinds.{is_shared}
 use Rattle.ea_laws.specs.Spots.{HasGap}
-use Rattle.ea_machine.specs.Employment.{employing}
+use Rattle.ea_model.specs.Employment.{employing}
 use Rattle.ea_laws.proofs.Candidates.{IsLarge, in_kind, large_among}
 use Rattle.ea_laws.proofs.Inspected.{inspected_by-among}
 use Rattle.ea_laws.proofs.InNew.{chosen-in-new}

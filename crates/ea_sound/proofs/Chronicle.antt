@@ -20,29 +20,29 @@ use Rattle.ea_machine.specs.declared.tasks.Why.TheVariants.{Walk, For}
 use Rattle.ea_machine.specs.declared.tasks.Gone.{Gone}
 use Rattle.ea_machine.specs.declared.tasks.Gone.TheVariants.{Open, Here, Queued}
 use Rattle.ea_machine.specs.declared.asks.Ask.{Ask}
-use Rattle.ea_machine.specs.Chosen.{HasAsked, IsPlacedAt}
-use Rattle.ea_machine.specs.Entries.{Makes}
-use Rattle.ea_machine.specs.HandedOver.{HasHeld, HasPushed, IsAnother}
+use Rattle.ea_sound.specs.Chosen.{HasAsked, IsPlacedAt}
+use Rattle.ea_sound.specs.Entries.{Makes}
+use Rattle.ea_sound.specs.HandedOver.{HasHeld, HasPushed, IsAnother}
 use Rattle.ea_machine.specs.declared.nodes.Node.{Node}
 use Rattle.ea_machine.specs.Nodes.{block_node}
 use Rattle.ea_machine.specs.Owners.{owner_of}
-use Rattle.ea_machine.specs.Exhausted.{IsFailOf, seen_since}
+use Rattle.ea_sound.specs.Exhausted.{IsFailOf, seen_since}
 use Rattle.ea_machine.specs.Machine.{run}
-use Rattle.ea_machine.specs.Needs.{AsksFor}
+use Rattle.ea_sound.specs.Needs.{AsksFor}
 use Rattle.ea_machine.specs.declared.nodes.Named.{Named}
 use Rattle.ea_machine.specs.Placements.{counted, failed, fits}
-use Rattle.ea_machine.specs.Searches.{Searched, Shown, Sight, sight_if}
+use Rattle.ea_sound.specs.Searches.{Searched, Shown, Sight, sight_if}
 use Rattle.ea_machine.specs.Setup.{Setup, greatest_number, migration}
 use Rattle.ea_machine.specs.State.{State}
 use Rattle.ea_machine.specs.Sums.{one_if}
 use Rattle.ea_machine.specs.Tasks.{entry_of}
-use Rattle.ea_machine.specs.Turns.{IsBegun, answered, begun, log_after}
+use Rattle.ea_sound.specs.Turns.{IsBegun, answered, begun, log_after}
 use Rattle.ea_sound.specs.Present.{OfAsk, OfTask}
 use Rattle.ea_sound.proofs.HandedNames.{NeverGiven, never-other}
 use Rattle.ea_sound.proofs.SearchLists.{count-snoc, sights-snoc}
 use Rattle.ea_sound.proofs.TurnLists.{longer, run-since}
-use Rattle.ea_machine.specs.Released.{LiesAt, blocks_named}
-use Rattle.ea_machine.specs.Names.{to_make}
+use Rattle.ea_sound.specs.Released.{LiesAt, blocks_named}
+use Rattle.ea_sound.specs.Names.{to_make}
 
 -- b has the log, the operations left, the instance and the held names of a
 abbrev pub IsSame : Actor → Actor → Type 0

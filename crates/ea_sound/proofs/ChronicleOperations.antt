@@ -16,11 +16,10 @@ use Rattle.ea_model.proofs.Rising.{item_at-key}
 use Rattle.ea_machine.specs.Actor.{Actor, Ready, Ended, Begin, Stat}
 use Rattle.ea_machine.specs.declared.tasks.Task.TheVariants.{Freeing}
 use Rattle.ea_machine.specs.declared.asks.Ask.{Ask}
-use Rattle.ea_machine.specs.Chosen.{AtOnce, Had}
-use Rattle.ea_machine.specs.Entries.{IsSkipped, Makes, Reports}
-use Rattle.ea_machine.specs.NamePlaces.{name_of}
-use Rattle.ea_machine.specs.Needs.{AsksFor, HasNeed, IsToMove}
-use Rattle.ea_machine.specs.Nodes.{named_at}
+use Rattle.ea_sound.specs.Chosen.{AtOnce, Had}
+use Rattle.ea_sound.specs.Entries.{IsSkipped, Makes, Reports}
+use Rattle.ea_sound.specs.Needs.{AsksFor, HasNeed, IsToMove}
+use Rattle.ea_machine.specs.Nodes.{named_at, name_of}
 use Rattle.ea_machine.specs.declared.nodes.Named.{Named}
 use Rattle.ea_machine.specs.Operations.{freed, giving, itself}
 use Rattle.ea_machine.specs.Placements.{chosen_by, holding, new_carrier, search_if, seek, seek_by}
@@ -28,10 +27,10 @@ use Rattle.ea_machine.specs.Reallocations.{reallocated, reallocated_by, resized_
 use Rattle.ea_machine.specs.Setup.{Setup, greatest_number, migration, is_scheduler}
 use Rattle.ea_machine.specs.Statistics.{employed_multis, employed_singles, informed, is_single, leaving_at, observed, report, restarted}
 use Rattle.ea_machine.specs.Tasks.{let_go, logged}
-use Rattle.ea_machine.specs.Turns.{actor_after, begun}
+use Rattle.ea_sound.specs.Turns.{actor_after, begun}
 use Rattle.ea_sound.specs.Present.{HasTry, OfAsk, OfTask, OldHeld, Rule}
 use Rattle.ea_sound.proofs.Chronicle.{HasOld, IsOfFirst}
-use Rattle.ea_machine.specs.HandedOver.{HasHeld}
+use Rattle.ea_sound.specs.HandedOver.{HasHeld}
 use Rattle.ea_sound.proofs.HandedNames.{never-first}
 use Rattle.ea_sound.proofs.TextTotals.{All-back}
 use Rattle.ea_sound.proofs.Orderly.{resizing-fixed, stays-employed}
@@ -43,7 +42,7 @@ use Rattle.ea_model.specs.Trace.{makes}
 use Rattle.std.proofs.lemmas.Bool.{eqb-true}
 use Rattle.ea_model.proofs.Needs.{need-even, need-least}
 use Rattle.ea_machine.specs.Machine.{run}
-use Rattle.ea_machine.specs.Names.{made_in}
+use Rattle.ea_sound.specs.Names.{made_in}
 use Rattle.ea_machine.specs.Shared.{Shared}
 use Rattle.ea_sound.specs.Leaves.{InOperation, InWalk, IsFresh}
 use Rattle.ea_sound.specs.Moments.{at, with_actor}

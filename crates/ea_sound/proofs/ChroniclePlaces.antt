@@ -20,27 +20,27 @@ use Rattle.ea_machine.specs.declared.tasks.Why.TheVariants.{For}
 use Rattle.ea_machine.specs.declared.tasks.Gone.{Gone}
 use Rattle.ea_machine.specs.declared.tasks.Gone.TheVariants.{Open, Here, Queued}
 use Rattle.ea_machine.specs.declared.asks.Ask.{Ask}
-use Rattle.ea_machine.specs.Chosen.{Created, Creates, HasAsked, IsJustBefore, IsPlacedAt, IsPlacement}
-use Rattle.ea_machine.specs.Entries.{Tells}
-use Rattle.ea_machine.specs.HandedOver.{HasHeld, IsAnother}
-use Rattle.ea_machine.specs.Exhausted.{FindsNoPlace, IsExhausted, IsFailOf}
+use Rattle.ea_sound.specs.Chosen.{Created, Creates, HasAsked, IsJustBefore, IsPlacedAt, IsPlacement}
+use Rattle.ea_sound.specs.Entries.{Tells}
+use Rattle.ea_sound.specs.HandedOver.{HasHeld, IsAnother}
+use Rattle.ea_sound.specs.Exhausted.{FindsNoPlace, IsExhausted, IsFailOf}
 use Rattle.ea_machine.specs.Machine.{run, wants}
 use Rattle.ea_machine.specs.declared.nodes.Named.{Named}
 use Rattle.ea_machine.specs.Placements.{created, created_by, failed, making, new_carrier_by, placed_at, placed_by, search_at, searched_by, stands, holding, spot_of_place}
 use Rattle.ea_machine.specs.Releases.{Turned, owned_by, release_here, route_of, routed}
-use Rattle.ea_machine.specs.Searches.{Searched}
+use Rattle.ea_sound.specs.Searches.{Searched}
 use Rattle.ea_machine.specs.Setup.{Setup, greatest_number, migration, is_scheduler}
 use Rattle.ea_machine.specs.Statistics.{observed}
 use Rattle.ea_machine.specs.Tasks.{carried, entry_of, hands_over, later, let_go, logged, task_over}
-use Rattle.ea_machine.specs.Turns.{actor_after, begun}
+use Rattle.ea_sound.specs.Turns.{actor_after, begun}
 use Rattle.ea_sound.specs.Present.{OfAsk, OfTask, OldHeld, Rule, Fits, FitsRoute}
 use Rattle.ea_sound.proofs.Chronicle.{HasOld, IsOut, LeftBy, OnWay, PushedBy, PushesBy, Sent, IsOfFirst, IsSame, Outcomes, Placement, Placing, SoFar, Underway, WentTo, failed-is, name_in, outcomes, task-first}
 use Rattle.ea_sound.proofs.ShortRoutes.{Keeps, here-short, keeps-on, route-keeps}
-use Rattle.ea_machine.specs.Contents.{actor_sum, seats}
+use Rattle.ea_sound.specs.Contents.{actor_sum, seats}
 use Rattle.ea_machine.specs.Nodes.{named_at, block_node, without_name}
 use Rattle.ea_machine.specs.Owners.{owner_of}
-use Rattle.ea_machine.specs.Released.{LiesAt, blocks_named as blocks_of_name, says_failed}
-use Rattle.ea_machine.specs.Names.{allocated, of_hand, only}
+use Rattle.ea_sound.specs.Released.{LiesAt, blocks_named as blocks_of_name, says_failed}
+use Rattle.ea_sound.specs.Names.{allocated, of_hand, only}
 use Rattle.ea_machine.specs.State.{State}
 use Rattle.std.proofs.lemmas.Bool.{eqb-true}
 use Rattle.ea_sound.specs.Rule.{blocks_of}

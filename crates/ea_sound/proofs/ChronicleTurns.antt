@@ -10,19 +10,19 @@ use Rattle.ea_machine.specs.declared.owners.OwnerWord.{OwnerWord}
 use Rattle.ea_machine.specs.Actor.{Actor, Route, Looking, Trying, Settling, Abandoning, Sending, Clearing, Pushing, Linking, Stage, Begin, Routed, Collecting, Searching, Fetching, Creating, Giving, Taking, Ended, Ready}
 use Rattle.ea_machine.specs.declared.tasks.Why.TheVariants.{Walk, For}
 use Rattle.ea_machine.specs.declared.asks.Ask.{Ask}
-use Rattle.ea_machine.specs.Chosen.{ByItself, Fetched}
-use Rattle.ea_machine.specs.Employment.{employing}
+use Rattle.ea_sound.specs.Chosen.{ByItself, Fetched}
+use Rattle.ea_model.specs.Employment.{employing}
 use Rattle.ea_machine.specs.Machine.{after_row, onward, onward_at, run, wants_at}
 use Rattle.ea_machine.specs.Operations.{took}
 use Rattle.ea_machine.specs.Placements.{counted, fetched, fits, holding, saw_by, search_at, searched}
 use Rattle.ea_machine.specs.Releases.{Turned, disowned, turned}
 use Rattle.ea_machine.specs.Rows.{Answer, Done, Head, Rests, Passes, Saw, Won, Lost, Home, Got}
-use Rattle.ea_machine.specs.Searches.{Missed, Searched, Shown, Sight, sight, sight_if}
+use Rattle.ea_sound.specs.Searches.{Missed, Searched, Shown, Sight, sight, sight_if}
 use Rattle.ea_machine.specs.Setup.{Setup, greatest_number, is_scheduler, migration}
 use Rattle.ea_machine.specs.Statistics.{observed}
 use Rattle.ea_machine.specs.Table.{answer, effect}
 use Rattle.ea_machine.specs.Tasks.{halted, logged, let_go}
-use Rattle.ea_machine.specs.Turns.{actor_after, answered, begun}
+use Rattle.ea_sound.specs.Turns.{actor_after, answered, begun}
 use Rattle.ea_sound.proofs.Chronicle.{AndShown, Fetches, IsSame, Searches, SoFar, Takes, Underway, asked-longer, further, placing-longer, way-asked, LeftBy, OnWay, WentTo, left-longer, out-longer, pushed-longer, name_in, held-longer, old-longer, HasOld}
 use Rattle.ea_sound.proofs.HandedNames.{NeverGiven, is-given, is-taken, never-mine, tried-given}
 use Rattle.ea_sound.proofs.TurnLists.{longer, run-snoc, step-shared}
@@ -47,7 +47,7 @@ use Rattle.ea_machine.specs.declared.tasks.Task.{Task}
 use Rattle.ea_machine.specs.declared.tasks.Gone.TheVariants.{Open, Here, Queued}
 use Rattle.ea_machine.specs.declared.nodes.Node.TheVariants.{Carrier}
 use Rattle.ea_machine.specs.Owners.{owner_of}
-use Rattle.ea_machine.specs.Names.{only}
+use Rattle.ea_sound.specs.Names.{only}
 use Rattle.ea_model.specs.Content.{is_nil}
 use Rattle.ea_sound.proofs.Employers.{there-on}
 use Rattle.ea_sound.proofs.OtherRows.{tried-there}

@@ -7,7 +7,7 @@ use Rattle.std.proofs.lemmas.Slice.Zip.{all_zipped_more}
 use Rattle.ea_model.specs.declared.operations.Op.{Op}
 use Rattle.ea_model.specs.declared.operations.Op.TheVariants as op
 use Rattle.ea_machine.specs.Actor.{Actor, Ended, Ready}
-use Rattle.ea_machine.specs.Entries.{EntersOne, HasSkipped, LogsEach, Makes, SkipsUnheld}
+use Rattle.ea_sound.specs.Entries.{EntersOne, HasSkipped, LogsEach, Makes, SkipsUnheld}
 use Rattle.ea_machine.specs.Machine.{after_row, first_stage, instance_by, onward, onward_at, run}
 use Rattle.ea_machine.specs.Operations.{freed, giving, itself}
 use Rattle.ea_machine.specs.Reallocations.{reallocated}
@@ -16,7 +16,7 @@ use Rattle.ea_machine.specs.Setup.{Setup, is_scheduler}
 use Rattle.ea_machine.specs.State.{State}
 use Rattle.ea_machine.specs.Statistics.{observed}
 use Rattle.ea_machine.specs.Tasks.{later}
-use Rattle.ea_machine.specs.Turns.{IsBegun, actor_after, answered, begun, log_after}
+use Rattle.ea_sound.specs.Turns.{IsBegun, actor_after, answered, begun, log_after}
 use Rattle.ea_sound.specs.Present.{Rule}
 use Rattle.ea_sound.proofs.Chronicle.{SoFar, other-so_far}
 use Rattle.ea_sound.proofs.ChroniclePlaces.{OneMore, Stays}

@@ -10,11 +10,11 @@ use Rattle.ea_machine.specs.declared.nodes.Node.{Node}
 use Rattle.ea_machine.specs.Actor.{Actor, Begin, Clearing, Collecting, Routed}
 use Rattle.ea_machine.specs.declared.tasks.Why.{Why}
 use Rattle.ea_machine.specs.declared.tasks.Gone.{Gone}
-use Rattle.ea_machine.specs.Contents.{AtHome, InHand, hand_sum, home_sum, slots}
-use Rattle.ea_machine.specs.Names.{of_block, of_content, of_hand}
-use Rattle.ea_machine.specs.NodePlaces.{of_carrier_hand, of_link}
+use Rattle.ea_sound.specs.Contents.{AtHome, InHand, hand_sum, home_sum, slots}
+use Rattle.ea_sound.specs.Names.{of_block, of_content, of_hand}
+use Rattle.ea_sound.specs.NodePlaces.{of_carrier_hand, of_link}
 use Rattle.ea_machine.specs.Owners.{Absent, Employed, Returning, owner_of}
-use Rattle.ea_machine.specs.Ranges.{IsLaidOutAsKind}
+use Rattle.ea_sound.specs.Ranges.{IsLaidOutAsKind}
 use Rattle.ea_machine.specs.Releases.{disowned}
 use Rattle.ea_machine.specs.Setup.{Setup, is_scheduler, migration}
 use Rattle.ea_machine.specs.Shared.{at_place}

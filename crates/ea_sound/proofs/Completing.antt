@@ -11,7 +11,7 @@ use Rattle.ea_machine.specs.declared.tasks.Why.TheVariants.{Walk, For}
 use Rattle.ea_machine.specs.declared.tasks.Gone.{Gone}
 use Rattle.ea_machine.specs.Completion.{actor_rows, begin_rows, completing, ending, finishing, next_rows, passed_rows, stage_rows, work}
 use Rattle.ea_machine.specs.Machine.{IsReached, after_row, begins, first_stage, run, run_on, start, step, wants_at, wants_on}
-use Rattle.ea_machine.specs.MachineLaws.{EndsAll}
+use Rattle.ea_sound.specs.MachineLaws.{EndsAll}
 use Rattle.ea_machine.specs.Nodes.{Mark, first_node, link_in, pushed}
 use Rattle.ea_machine.specs.Owners.{CarrierAt, Employed, Busy}
 use Rattle.ea_machine.specs.Releases.{disowned}
@@ -21,7 +21,7 @@ use Rattle.ea_machine.specs.Shared.{Shared, put}
 use Rattle.ea_machine.specs.State.{State}
 use Rattle.ea_machine.specs.Table.{answer, effect, link_answer, link_read, moved_if, rest_after, rest_by, tried_at}
 use Rattle.ea_machine.specs.Tasks.{let_go}
-use Rattle.ea_machine.specs.Turns.{advanced}
+use Rattle.ea_sound.specs.Turns.{advanced}
 use Rattle.ea_machine.specs.Walks.{begun, with_passed}
 use Rattle.ea_sound.specs.Present.{Fits, FitsRoute, Rule}
 use Rattle.ea_sound.proofs.Ending.{created-less, fetched-less, logged-less, onward-less, searched-less, task-route, took-less, walk-route, walk_rows, whole_rows, worked-less}

@@ -10,7 +10,7 @@ use Rattle.ea_model.proofs.Rising.{item_at-new}
 use Rattle.ea_laws.specs.Kept.{own_number}
 use Rattle.ea_laws.proofs.Keeping.{IsKept-made, pages_of_units}
 use Rattle.ea_laws.proofs.Owned.{unused-All}
-use Rattle.ea_machine.specs.Contents.{slots}
+use Rattle.ea_sound.specs.Contents.{slots}
 use Rattle.ea_machine.specs.Owners.{owner_of}
 use Rattle.ea_machine.specs.Setup.{Setup, first_page, is_scheduler, migration}
 use Rattle.ea_sound.specs.Rule.{Belongs, Standing}

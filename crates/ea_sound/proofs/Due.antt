@@ -8,7 +8,7 @@ use Rattle.ea_model.specs.Instance.{Instance, content_of, employed, figures, wit
 use Rattle.ea_model.proofs.Options.{same-some}
 use Rattle.ea_model.proofs.Rising.{item_at-All}
 use Rattle.ea_laws.specs.Kept.{number_of, IsLaidOutAlone, IsRising}
-use Rattle.ea_machine.specs.Abandonment.{has_large_gap, is_due, is_sparse, is_sparse_carrier}
+use Rattle.ea_model.specs.Abandonment.{has_large_gap, is_due, is_sparse, is_sparse_carrier}
 use Rattle.ea_sound.specs.Orderly.{IsOrderly}
 use Rattle.ea_sound.proofs.KeyedWeights.{sum-without, times-once}
 use Rattle.ea_sound.proofs.Orderly.{employed-alone, employed-many}

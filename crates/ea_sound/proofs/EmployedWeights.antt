@@ -16,7 +16,7 @@ use Rattle.ea_laws.proofs.Employed.{employed-changed, employed-cleared}
 use Rattle.ea_laws.proofs.Keeping.{pages_of_units}
 use Rattle.ea_laws.proofs.Owned.{with_units}
 use Rattle.ea_laws.proofs.Reallocating.{shortened-alone}
-use Rattle.ea_machine.specs.Employment.{dismissing, employing}
+use Rattle.ea_model.specs.Employment.{dismissing, employing}
 use Rattle.ea_sound.specs.Blocks.{employed_sum}
 use Rattle.ea_machine.specs.Sums.{sum_over}
 use Rattle.ea_sound.specs.Orderly.{IsOrderly}

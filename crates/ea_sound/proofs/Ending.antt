@@ -25,7 +25,7 @@ use Rattle.ea_machine.specs.declared.tasks.Why.TheVariants.{Walk, For}
 use Rattle.ea_machine.specs.declared.tasks.Gone.{Gone}
 use Rattle.ea_machine.specs.declared.asks.Ask.{Ask}
 use Rattle.ea_machine.specs.Completion.{actor_rows, begin_rows, next_rows, operation_rows, passed_rows, route_rows, search_rows, stage_rows, text_rows}
-use Rattle.ea_machine.specs.Employment.{employing}
+use Rattle.ea_model.specs.Employment.{employing}
 use Rattle.ea_machine.specs.Machine.{after_row, onward, onward_at}
 use Rattle.ea_machine.specs.Nodes.{named_at}
 use Rattle.ea_machine.specs.declared.nodes.Named.{Named}

@@ -16,8 +16,8 @@ use Rattle.ea_machine.specs.declared.tasks.Why.TheVariants.{For}
 use Rattle.ea_machine.specs.declared.tasks.Gone.{Gone}
 use Rattle.ea_machine.specs.declared.tasks.Gone.TheVariants.{Open, Here, Queued}
 use Rattle.ea_machine.specs.declared.asks.Ask.{Ask}
-use Rattle.ea_machine.specs.Entries.{Makes}
-use Rattle.ea_machine.specs.Names.{made_in, unplaced_by}
+use Rattle.ea_sound.specs.Entries.{Makes}
+use Rattle.ea_sound.specs.Names.{made_in, unplaced_by}
 use Rattle.ea_machine.specs.declared.nodes.Named.{Named}
 use Rattle.ea_machine.specs.Placements.{failed}
 use Rattle.ea_machine.specs.Sums.{one_if}

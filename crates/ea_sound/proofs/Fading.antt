@@ -2,9 +2,9 @@
 -- of these blocks is counted.
 use Rattle.std.proofs.Common.{◌≡◌, ℕ, ◌≤◌, List, ◌++◌, refl, ap, arith}
 use Rattle.ea_model.specs.declared.carriers.BlockAt.{BlockAt}
-use Rattle.ea_machine.specs.Contents.{sum_everywhere}
+use Rattle.ea_sound.specs.Contents.{sum_everywhere}
 use Rattle.ea_machine.specs.Machine.{run}
-use Rattle.ea_machine.specs.Names.{to_make}
+use Rattle.ea_sound.specs.Names.{to_make}
 use Rattle.ea_machine.specs.Setup.{Setup}
 use Rattle.ea_sound.specs.Present.{Rule}
 use Rattle.ea_sound.proofs.FewBlocks.{Counting, alive, blocks_named}

@@ -14,24 +14,23 @@ use Rattle.ea_model.proofs.Rising.{item_at-key}
 use Rattle.ea_machine.specs.declared.owners.OwnerWord.{OwnerWord}
 use Rattle.ea_machine.specs.Actor.{Actor, Searching, Fetching, Ended}
 use Rattle.ea_machine.specs.declared.asks.Ask.{Ask}
-use Rattle.ea_machine.specs.Exhausted.{FailsIfExhausted, FindsNoPlace, IsFailOf, seen_since}
+use Rattle.ea_sound.specs.Exhausted.{FailsIfExhausted, FindsNoPlace, IsFailOf, seen_since}
 use Rattle.ea_machine.specs.Machine.{after_row, onward, run, run_on, step, wants_at}
-use Rattle.ea_machine.specs.Needs.{AsksFor, IsToMove}
-use Rattle.ea_machine.specs.NamePlaces.{name_of}
-use Rattle.ea_machine.specs.Nodes.{named_at}
+use Rattle.ea_sound.specs.Needs.{AsksFor, IsToMove}
+use Rattle.ea_machine.specs.Nodes.{named_at, name_of}
 use Rattle.ea_machine.specs.declared.nodes.Named.{Named}
 use Rattle.ea_machine.specs.Operations.{itself}
 use Rattle.ea_machine.specs.Owners.{word_of}
 use Rattle.ea_machine.specs.Placements.{chosen_by, counted, failed, fetched, fits, new_carrier, new_carrier_by, saw_by, search_at, search_if, searched, searched_by, seek, seek_by}
 use Rattle.ea_machine.specs.Reallocations.{reallocated, reallocated_by}
 use Rattle.ea_machine.specs.Rows.{Answer, Saw, Won, Lost}
-use Rattle.ea_machine.specs.Searches.{IsNextLook, IsSought, IsUnsought, Missed, Searched, Shown, Sight, sight, sights}
+use Rattle.ea_sound.specs.Searches.{IsNextLook, IsSought, IsUnsought, Missed, Searched, Shown, Sight, sight, sights}
 use Rattle.ea_machine.specs.Setup.{Setup, greatest_number, migration}
 use Rattle.ea_machine.specs.State.{State}
 use Rattle.ea_machine.specs.Statistics.{observed}
 use Rattle.ea_machine.specs.Table.{answer, tried_at}
 use Rattle.ea_machine.specs.Tasks.{logged}
-use Rattle.ea_machine.specs.Turns.{IsBegun, actor_after, advanced, answered, begun, log_after}
+use Rattle.ea_sound.specs.Turns.{IsBegun, actor_after, advanced, answered, begun, log_after}
 use Rattle.ea_sound.specs.Moments.{at}
 use Rattle.ea_sound.specs.Present.{OfAsk, Rule}
 use Rattle.ea_sound.proofs.Chronicle.{failed-is}

@@ -9,8 +9,8 @@ use Rattle.ea_machine.specs.declared.owners.OwnerWord.{OwnerWord}
 use Rattle.ea_machine.specs.declared.owners.OwnerWord.TheVariants as word
 use Rattle.ea_machine.specs.Actor.{Actor, Ended, Fetching, Stage}
 use Rattle.ea_machine.specs.declared.asks.Ask.{Ask}
-use Rattle.ea_machine.specs.Employment.{employing}
-use Rattle.ea_machine.specs.Fetches.{FetchFits, FetchesFit}
+use Rattle.ea_model.specs.Employment.{employing}
+use Rattle.ea_sound.specs.Fetches.{FetchFits, FetchesFit}
 use Rattle.ea_machine.specs.Machine.{after_row, wants_at}
 use Rattle.ea_machine.specs.Owners.{CarrierAt, Absent, Employed, Pooled, Busy, Returning, same_word, word_of}
 use Rattle.ea_machine.specs.Placements.{placed_by}
@@ -18,7 +18,7 @@ use Rattle.ea_machine.specs.Rows.{Answer, Won}
 use Rattle.ea_machine.specs.Setup.{Setup, is_scheduler}
 use Rattle.ea_machine.specs.State.{State}
 use Rattle.ea_machine.specs.Table.{answer, tried_at, won_if}
-use Rattle.ea_machine.specs.Turns.{answered}
+use Rattle.ea_sound.specs.Turns.{answered}
 use Rattle.ea_sound.specs.Present.{Fits, Rule}
 use Rattle.ea_sound.proofs.Choosing.{chosen-in_fetched}
 use Rattle.ea_sound.proofs.Created.{sure-strategy}
@@ -37,10 +37,10 @@ large-gap need (g ∷ gs) some fits = elim (cases_lt g.size need) [
 ]
 
 -- a try that is won finds the carrier pooled, with the word that was seen
-abbrev IsWonFrom : OwnerWord → CarrierAt → Content → Type 0
+abbrev pub IsWonFrom : OwnerWord → CarrierAt → Content → Type 0
 IsWonFrom seen p x = (i g : ℕ) × (p ≡ Pooled i g x) × (same_word (word.Pooled i g) seen ≡ true)
 
-won-from : (seen : OwnerWord) (p : CarrierAt) (x : Content) → tried_at seen p ≡ Won x
+pub won-from : (seen : OwnerWord) (p : CarrierAt) (x : Content) → tried_at seen p ≡ Won x
     → IsWonFrom seen p x
 won-from seen p x = by p (same_word (word_of p) seen) refl where
   by : (p : CarrierAt) (b : Bool) → same_word (word_of p) seen ≡ b → won_if b p ≡ Won x

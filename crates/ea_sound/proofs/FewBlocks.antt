@@ -15,8 +15,8 @@ use Rattle.ea_laws.specs.Kept.{number_of}
 use Rattle.ea_laws.specs.Spots.{HasGap}
 use Rattle.ea_laws.proofs.BlockLists.{offset_of}
 use Rattle.ea_laws.proofs.Resized.{with_size}
-use Rattle.ea_machine.specs.Contents.{sum_everywhere}
-use Rattle.ea_machine.specs.Names.{to_make}
+use Rattle.ea_sound.specs.Contents.{sum_everywhere}
+use Rattle.ea_sound.specs.Names.{to_make}
 use Rattle.ea_machine.specs.Setup.{Setup}
 use Rattle.ea_machine.specs.State.{State}
 use Rattle.ea_machine.specs.Sums.{one_if, sum_over}

@@ -7,8 +7,8 @@ use Rattle.ea_model.specs.declared.carriers.OwnCarrier.{OwnCarrier}
 use Rattle.ea_model.specs.Content.{Content}
 use Rattle.ea_laws.specs.Kept.{own_number}
 use Rattle.ea_machine.specs.Actor.{Ended}
-use Rattle.ea_machine.specs.Contents.{actor_sum, home_sum, seats, slots, sum_everywhere}
-use Rattle.ea_machine.specs.NodePlaces.{anywhere}
+use Rattle.ea_sound.specs.Contents.{actor_sum, home_sum, seats, slots, sum_everywhere}
+use Rattle.ea_sound.specs.NodePlaces.{anywhere}
 use Rattle.ea_machine.specs.Owners.{CarrierAt, Absent, Employed, Pooled, Busy, Returning, owner_of}
 use Rattle.ea_machine.specs.Setup.{Setup, is_scheduler, migration}
 use Rattle.ea_machine.specs.State.{State}

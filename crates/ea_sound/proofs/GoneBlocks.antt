@@ -7,13 +7,12 @@ use Rattle.ea_machine.specs.declared.nodes.Named.{Named}
 use Rattle.ea_machine.specs.declared.nodes.Node.{Node}
 use Rattle.ea_machine.specs.declared.owners.OwnerWord.{OwnerWord}
 use Rattle.ea_machine.specs.Actor.{Actor, Begin, Ended, Stage}
-use Rattle.ea_machine.specs.Contents.{seats}
+use Rattle.ea_sound.specs.Contents.{seats}
 use Rattle.ea_machine.specs.Machine.{run, wants, wants_at}
-use Rattle.ea_machine.specs.NamePlaces.{name_of}
-use Rattle.ea_machine.specs.Names.{allocated, of_hand, of_named, of_node, only, to_make}
-use Rattle.ea_machine.specs.Nodes.{named_at, pushed, without_name}
+use Rattle.ea_sound.specs.Names.{allocated, of_hand, of_named, of_node, only, to_make}
+use Rattle.ea_machine.specs.Nodes.{named_at, pushed, without_name, name_of}
 use Rattle.ea_machine.specs.Owners.{Busy, CarrierAt}
-use Rattle.ea_machine.specs.Released.{blocks_named}
+use Rattle.ea_sound.specs.Released.{blocks_named}
 use Rattle.ea_machine.specs.Rows.{Answer, BusyTry, Done, Got, Head, Home, Look, Lost, Passes, Push, Rests, Saw, Won}
 use Rattle.ea_machine.specs.Setup.{Setup}
 use Rattle.ea_machine.specs.Shared.{Shared}
@@ -21,7 +20,7 @@ use Rattle.ea_machine.specs.State.{State}
 use Rattle.ea_machine.specs.Statistics.{observed}
 use Rattle.ea_machine.specs.Sums.{one_if, sum_over, total}
 use Rattle.ea_machine.specs.Table.{effect, moved_if, tried_at}
-use Rattle.ea_machine.specs.Turns.{actor_after}
+use Rattle.ea_sound.specs.Turns.{actor_after}
 use Rattle.ea_sound.specs.Moments.{at, with_actor}
 use Rattle.ea_sound.specs.Present.{Rule}
 use Rattle.ea_sound.specs.Rule.{Kept, names_of}

@@ -8,15 +8,15 @@ use Rattle.std.proofs.lemmas.List.Folds.{list_any-append}
 use Rattle.ea_model.specs.declared.entries.Entry.{Entry}
 use Rattle.ea_model.specs.declared.operations.Op.{Op}
 use Rattle.ea_model.specs.Trace.{makes}
-use Rattle.ea_machine.specs.Turns.{log_after}
+use Rattle.ea_sound.specs.Turns.{log_after}
 use Rattle.ea_machine.specs.Actor.{Actor, Begin, Collecting, Creating, Ended, Fetching, Giving, Ready, Routed, Searching, Stage, Taking}
 use Rattle.ea_machine.specs.declared.tasks.Task.TheVariants.{Freeing, Moving}
 use Rattle.ea_machine.specs.declared.tasks.Why.TheVariants.{Walk, For}
-use Rattle.ea_machine.specs.Contents.{seats}
-use Rattle.ea_machine.specs.Entries.{LogsEach, Makes}
+use Rattle.ea_sound.specs.Contents.{seats}
+use Rattle.ea_sound.specs.Entries.{LogsEach, Makes}
 use Rattle.ea_machine.specs.Machine.{first_stage, run}
-use Rattle.ea_machine.specs.Names.{made_in, to_make, unplaced}
-use Rattle.ea_machine.specs.Released.{FailedHaveNone, IsGone, ReleasesOnce, StaysGone, blocks_named, says_failed, says_made}
+use Rattle.ea_sound.specs.Names.{made_in, to_make, unplaced}
+use Rattle.ea_sound.specs.Released.{FailedHaveNone, IsGone, ReleasesOnce, StaysGone, blocks_named, says_failed, says_made}
 use Rattle.ea_machine.specs.Setup.{Setup, is_scheduler}
 use Rattle.ea_machine.specs.Sums.{one_if, total}
 use Rattle.ea_sound.specs.Present.{Fits, Rule}

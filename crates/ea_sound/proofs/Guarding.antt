@@ -7,17 +7,17 @@ use Rattle.ea_model.specs.declared.carriers.Kind.TheVariants.{Main, Multi, Singl
 use Rattle.ea_model.specs.Content.{Content}
 use Rattle.ea_machine.specs.declared.nodes.Node.{Node}
 use Rattle.ea_machine.specs.declared.owners.OwnerWord.TheVariants as word
-use Rattle.ea_machine.specs.Abandonment.{is_due}
+use Rattle.ea_model.specs.Abandonment.{is_due}
 use Rattle.ea_machine.specs.Actor.{Actor, Route, Looking, Trying, Settling, Abandoning, Sending, Clearing, Pushing, Linking, Stage, Begin, Routed, Collecting, Searching, Fetching, Creating, Giving, Taking, Ended, Ready}
 use Rattle.ea_machine.specs.declared.tasks.Why.{Why}
 use Rattle.ea_machine.specs.declared.tasks.Gone.{Gone}
-use Rattle.ea_machine.specs.Contents.{hand_sum, seats}
-use Rattle.ea_machine.specs.Guarded.{IsGuarded, is_on_word}
+use Rattle.ea_sound.specs.Contents.{hand_sum, seats}
+use Rattle.ea_sound.specs.Guarded.{IsGuarded, is_on_word}
 use Rattle.ea_machine.specs.Guards.{Guard}
 use Rattle.ea_machine.specs.Machine.{begins, wants_at, wants_on}
 use Rattle.ea_machine.specs.Owners.{Employed}
 use Rattle.ea_machine.specs.Placements.{fits}
-use Rattle.ea_machine.specs.Places.{has_number, none}
+use Rattle.ea_sound.specs.Places.{has_number, none}
 use Rattle.ea_machine.specs.Setup.{Setup, is_scheduler, migration}
 use Rattle.ea_machine.specs.State.{State}
 use Rattle.ea_machine.specs.Statistics.{employed_multis, is_single, leaving_at}
@@ -103,7 +103,7 @@ module _ (e : Setup) (w : State) (rule : Rule e w) (steady : AreSteady e w) (me 
     route-may : (route : Route) → a.stage ≡ Routed route why gone
         → FitsRoute e w.shared me route → Guard e me a w.shared (wants_on route)
     route-may (Looking hand) now fit = tt
-    route-may (Trying hand seen) now fit = steady-at (Routed (Trying hand seen) why gone) now
+    route-may (Trying hand seen) now fit = (steady-at (Routed (Trying hand seen) why gone) now).0
     route-may (Settling x) now fit = busy-place e w k me x.number (omega (
       arith,
       ap (hand_sum (has_number x.number) none) now,

@@ -4,11 +4,11 @@ use Rattle.std.proofs.Common.{◌≡◌, ℕ, ◌≤◌, true, refl, ap, ◌∙�
 use Rattle.ea_model.specs.declared.carriers.Spot.{Spot}
 use Rattle.ea_model.specs.Content.{Content}
 use Rattle.ea_machine.specs.Actor.{Stage}
-use Rattle.ea_machine.specs.Contents.{hand_sum}
-use Rattle.ea_machine.specs.Names.{allocated, of_hand, only_at}
+use Rattle.ea_sound.specs.Contents.{hand_sum}
+use Rattle.ea_sound.specs.Names.{allocated, of_hand, only_at}
 use Rattle.ea_machine.specs.declared.nodes.Named.{Named}
 use Rattle.ea_machine.specs.Owners.{owner_of}
-use Rattle.ea_machine.specs.Places.{has_number, none}
+use Rattle.ea_sound.specs.Places.{has_number, none}
 use Rattle.ea_machine.specs.Setup.{Setup, is_scheduler, migration}
 use Rattle.ea_machine.specs.State.{State}
 use Rattle.ea_sound.specs.Present.{HasEmployer}

@@ -6,12 +6,11 @@ use Rattle.ea_model.specs.declared.entries.Entry.TheVariants as entry
 use Rattle.ea_model.proofs.Rising.{item_at-gone, item_at-key, item_at-new, none-other}
 use Rattle.ea_machine.specs.declared.nodes.Named.{Named}
 use Rattle.ea_machine.specs.Actor.{Actor, Ended, Giving, Stage, Taking}
-use Rattle.ea_machine.specs.Contents.{seats}
-use Rattle.ea_machine.specs.HandedOver.{IsGiven, IsTaken}
+use Rattle.ea_sound.specs.Contents.{seats}
+use Rattle.ea_sound.specs.HandedOver.{IsGiven, IsTaken}
 use Rattle.ea_machine.specs.Machine.{run, wants_at}
-use Rattle.ea_machine.specs.NamePlaces.{name_of}
-use Rattle.ea_machine.specs.Names.{of_named, only}
-use Rattle.ea_machine.specs.Nodes.{named_at, spot_named, with_name, without_name}
+use Rattle.ea_sound.specs.Names.{of_named, only}
+use Rattle.ea_machine.specs.Nodes.{named_at, spot_named, with_name, without_name, name_of}
 use Rattle.ea_machine.specs.Placements.{holding}
 use Rattle.ea_machine.specs.Rows.{Give, Got, TakeTry}
 use Rattle.ea_machine.specs.Setup.{Setup}
@@ -21,7 +20,7 @@ use Rattle.ea_machine.specs.Statistics.{observed}
 use Rattle.ea_machine.specs.Sums.{one_if}
 use Rattle.ea_machine.specs.Table.{answer, effect}
 use Rattle.ea_machine.specs.Tasks.{let_go, logged}
-use Rattle.ea_machine.specs.Turns.{actor_after, answered}
+use Rattle.ea_sound.specs.Turns.{actor_after, answered}
 use Rattle.ea_sound.specs.Present.{Fits, Rule}
 use Rattle.ea_sound.specs.Rule.{Kept, names_of}
 use Rattle.ea_sound.proofs.Global.{working-scheduler}

@@ -8,10 +8,10 @@ use Rattle.ea_machine.specs.declared.owners.OwnerWord.TheVariants as word
 use Rattle.ea_machine.specs.Actor.{Actor, Collecting, Ended, Looking, Ready, Routed, Stage, Trying}
 use Rattle.ea_machine.specs.declared.tasks.Why.{Why}
 use Rattle.ea_machine.specs.declared.tasks.Gone.{Gone}
-use Rattle.ea_machine.specs.Contents.{seats}
-use Rattle.ea_machine.specs.Heard.{HearsNoOther, NamesAnother, NamesEmployer, on_its_way}
+use Rattle.ea_sound.specs.Contents.{seats}
+use Rattle.ea_sound.specs.Heard.{HearsNoOther, NamesAnother, NamesEmployer, on_its_way}
 use Rattle.ea_machine.specs.Machine.{wants_at}
-use Rattle.ea_machine.specs.Names.{allocated, of_block, of_content, of_hand, of_node, only, only_at}
+use Rattle.ea_sound.specs.Names.{allocated, of_block, of_content, of_hand, of_node, only, only_at}
 use Rattle.ea_machine.specs.Nodes.{same_spot}
 use Rattle.ea_machine.specs.declared.nodes.Named.{Named}
 use Rattle.ea_machine.specs.Owners.{CarrierAt, Absent, Employed, Pooled, Busy, Returning, same_word, word_of}
@@ -20,7 +20,7 @@ use Rattle.ea_machine.specs.Setup.{Setup, is_scheduler}
 use Rattle.ea_machine.specs.State.{State}
 use Rattle.ea_machine.specs.Sums.{one_if, sum_over}
 use Rattle.ea_machine.specs.Table.{answer, won_if, tried_at}
-use Rattle.ea_machine.specs.Turns.{answered}
+use Rattle.ea_sound.specs.Turns.{answered}
 use Rattle.ea_sound.specs.Present.{Fits, FitsRoute, HasEmployer, HasOther, Rule, StillPooled}
 use Rattle.ea_sound.proofs.ActorWeights.{everywhere-less}
 use Rattle.ea_sound.proofs.Global.{working-scheduler}

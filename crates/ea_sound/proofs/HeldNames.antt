@@ -5,8 +5,7 @@ use Rattle.std.proofs.lemmas.List.Kept.{AllPairs-filter}
 use Rattle.ea_model.specs.declared.carriers.Spot.{Spot}
 use Rattle.ea_model.specs.Keyed.{IsBelow}
 use Rattle.ea_model.proofs.Rising.{rising-entered}
-use Rattle.ea_machine.specs.NamePlaces.{name_of}
-use Rattle.ea_machine.specs.Nodes.{with_name, without_name}
+use Rattle.ea_machine.specs.Nodes.{with_name, without_name, name_of}
 use Rattle.ea_machine.specs.declared.nodes.Named.{Named}
 use Rattle.ea_machine.specs.Sums.{one_if}
 use Rattle.ea_sound.proofs.KeyedWeights.{counts, sum-entered, sum-without_less, times, times-others}

@@ -9,8 +9,8 @@ use Rattle.ea_model.proofs.Merged.{merged-All}
 use Rattle.ea_model.proofs.Rising.{item_at-All}
 use Rattle.ea_laws.specs.Kept.{number_of}
 use Rattle.ea_machine.specs.Actor.{Actor}
-use Rattle.ea_machine.specs.Contents.{actor_sum, hand_sum, seats}
-use Rattle.ea_machine.specs.Names.{allocated, of_content, only_at}
+use Rattle.ea_sound.specs.Contents.{actor_sum, hand_sum, seats}
+use Rattle.ea_sound.specs.Names.{allocated, of_content, only_at}
 use Rattle.ea_machine.specs.Nodes.{named_at}
 use Rattle.ea_machine.specs.declared.nodes.Named.{Named}
 use Rattle.ea_machine.specs.Setup.{Setup, is_scheduler}

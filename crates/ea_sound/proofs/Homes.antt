@@ -7,12 +7,12 @@ use Rattle.ea_model.specs.declared.carriers.Spot.{Spot}
 use Rattle.ea_model.specs.Content.{Content, block_at, released}
 use Rattle.ea_laws.specs.Kept.{IsLaidOut, number_of}
 use Rattle.ea_machine.specs.Actor.{Actor}
-use Rattle.ea_machine.specs.Contents.{AtHome, actor_sum, home_sum, seats, slots, sum_everywhere}
-use Rattle.ea_machine.specs.Names.{of_content, of_named, only_at}
-use Rattle.ea_machine.specs.NodePlaces.{anywhere}
+use Rattle.ea_sound.specs.Contents.{AtHome, actor_sum, home_sum, seats, slots, sum_everywhere}
+use Rattle.ea_sound.specs.Names.{of_content, of_named, only_at}
+use Rattle.ea_sound.specs.NodePlaces.{anywhere}
 use Rattle.ea_machine.specs.declared.nodes.Named.{Named}
 use Rattle.ea_machine.specs.Owners.{CarrierAt, Absent, Employed, Pooled, Busy, Returning}
-use Rattle.ea_machine.specs.Places.{has_number, is_there}
+use Rattle.ea_sound.specs.Places.{has_number, is_there}
 use Rattle.ea_machine.specs.Setup.{Setup, migration}
 use Rattle.ea_machine.specs.State.{State}
 use Rattle.ea_machine.specs.Sums.{one_if, total, total_at}
@@ -124,7 +124,7 @@ module _ (e : Setup) (w : State) (k : Kept e w) where
     -- the block of a name that stands with a scheduler
     module _ (me : ℕ) (seat : me < seats e) (a : Actor) (is : w.actors me ≡ a) (h : Named)
         (at : h.spot.carrier ≡ c) (stands : 1 ≤ names_of (only_at h.name h.spot) a) where
-      pooled-hit : (b : BlockAt) × (block_at x.blocks h.spot.offset ≡ Some b) × (b.name ≡ h.name)
+      pub pooled-hit : (b : BlockAt) × (block_at x.blocks h.spot.offset ≡ Some b) × (b.name ≡ h.name)
       pooled-hit = content-hit h.name h.spot x (laid-rising x pooled-laid) (omega (
         arith,
         stands,

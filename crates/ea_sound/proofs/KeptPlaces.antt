@@ -5,10 +5,10 @@ use Rattle.std.proofs.lemmas.Bool.{cases_eq}
 use Rattle.ea_model.specs.Content.{Content}
 use Rattle.ea_model.specs.declared.carriers.BlockAt.{BlockAt}
 use Rattle.ea_model.specs.declared.carriers.Place.{Place}
-use Rattle.ea_machine.specs.Contents.{sum_everywhere}
+use Rattle.ea_sound.specs.Contents.{sum_everywhere}
 use Rattle.ea_machine.specs.Machine.{run}
-use Rattle.ea_machine.specs.Places.{none}
-use Rattle.ea_machine.specs.Released.{KeepsPlaces, LiesAt}
+use Rattle.ea_sound.specs.Places.{none}
+use Rattle.ea_sound.specs.Released.{KeepsPlaces, LiesAt}
 use Rattle.ea_machine.specs.Setup.{Setup}
 use Rattle.ea_machine.specs.State.{State}
 use Rattle.ea_machine.specs.Sums.{one_if, sum_over}

@@ -9,7 +9,7 @@ use Rattle.ea_model.specs.Instance.{Instance, created_single, plan}
 use Rattle.ea_model.specs.Keyed.{without, IsBelow}
 use Rattle.ea_model.proofs.Pairs.{pairs_nil}
 use Rattle.ea_laws.specs.Kept.{HasOneBlock, IsKept, IsLaidOut, IsLaidOutAlone, IsWhole}
-use Rattle.ea_machine.specs.Ranges.{IsLaidOutAsKind}
+use Rattle.ea_sound.specs.Ranges.{IsLaidOutAsKind}
 use Rattle.ea_laws.proofs.BlockLists.{offset_of, Tiled-rising}
 use Rattle.ea_laws.proofs.Tiling.{allocated-free, one-Ordered, Ordered-free}
 use Rattle.ea_laws.proofs.Keeping.{IsLaidOut-made, plan-IsPlanned}

@@ -125,3 +125,5 @@ pub mod Wanting
 pub mod Olders
 pub mod OtherTurns
 pub mod OwnWork
+pub mod CarrierCalls
+pub mod LargestGaps

@@ -9,14 +9,13 @@ use Rattle.ea_machine.specs.declared.nodes.Node.{Node}
 use Rattle.ea_machine.specs.Actor.{Actor, Begin, Giving, Linking, Pushing, Routed, Stage, Taking}
 use Rattle.ea_machine.specs.declared.tasks.Why.{Why}
 use Rattle.ea_machine.specs.declared.tasks.Gone.{Gone}
-use Rattle.ea_machine.specs.Contents.{InHand, hand_sum, seats}
-use Rattle.ea_machine.specs.NamePlaces.{name_of}
-use Rattle.ea_machine.specs.Names.{of_hand, of_mark, of_named, of_node, only}
-use Rattle.ea_machine.specs.NodePlaces.{of_carrier_hand, of_carrier_mark, of_carrier_node, of_link, of_unlinked, unlinked_at}
-use Rattle.ea_machine.specs.Nodes.{Mark, named_at}
+use Rattle.ea_sound.specs.Contents.{InHand, hand_sum, seats}
+use Rattle.ea_sound.specs.Names.{of_hand, of_mark, of_named, of_node, only}
+use Rattle.ea_sound.specs.NodePlaces.{of_carrier_hand, of_carrier_mark, of_carrier_node, of_link, of_unlinked, unlinked_at}
+use Rattle.ea_machine.specs.Nodes.{Mark, named_at, name_of}
 use Rattle.ea_machine.specs.declared.nodes.Named.{Named}
 use Rattle.ea_machine.specs.Placements.{holding}
-use Rattle.ea_machine.specs.Ranges.{IsLaidOutAsKind}
+use Rattle.ea_sound.specs.Ranges.{IsLaidOutAsKind}
 use Rattle.ea_machine.specs.Rows.{Give, Link, Push, TakeAll, TakeTry}
 use Rattle.ea_machine.specs.Setup.{Setup, is_scheduler}
 use Rattle.ea_machine.specs.State.{State}

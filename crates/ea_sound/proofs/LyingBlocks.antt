@@ -12,7 +12,7 @@ use Rattle.ea_machine.specs.Actor.{Actor}
 use Rattle.ea_machine.specs.declared.tasks.Gone.{Gone}
 use Rattle.ea_machine.specs.declared.tasks.Gone.TheVariants.{Here, Open}
 use Rattle.ea_machine.specs.declared.nodes.Named.{Named}
-use Rattle.ea_machine.specs.Employment.{dismissing}
+use Rattle.ea_model.specs.Employment.{dismissing}
 use Rattle.ea_machine.specs.Owners.{owner_of}
 use Rattle.ea_machine.specs.Releases.{abandoned_if, after_release, after_release_by, dismissed, first_gone, leaving_by, lightened, owned_by, release_here, route_of, routed}
 use Rattle.ea_machine.specs.Setup.{Setup, migration}
@@ -36,7 +36,7 @@ use Rattle.ea_laws.specs.Kept.{number_of}
 use Rattle.ea_laws.proofs.BlockLists.{offset_of}
 use Rattle.ea_laws.proofs.Resized.{with_size}
 use Rattle.ea_machine.specs.Reallocations.{resized_place}
-use Rattle.ea_machine.specs.Released.{is_block}
+use Rattle.ea_sound.specs.Released.{is_block}
 use Rattle.ea_machine.specs.Sums.{one_if, sum_over}
 use Rattle.ea_sound.specs.Orderly.{IsOrderly}
 use Rattle.ea_sound.proofs.EmployedWeights.{employed_sum-changing, employed_sum-creating_single, employed_sum-dismissing, employed_sum-employed, employed_sum-resizing}

@@ -14,9 +14,9 @@ use Rattle.ea_model.specs.Keyed.{changed_at}
 use Rattle.ea_model.proofs.Rising.{changed_here, changed_past}
 use Rattle.ea_laws.specs.Kept.{IsLaidOutAlone, number_of}
 use Rattle.ea_laws.proofs.Owned.{with_units}
-use Rattle.ea_machine.specs.Employment.{dismissing, employing}
+use Rattle.ea_model.specs.Employment.{dismissing, employing}
 use Rattle.ea_machine.specs.Machine.{full_instance}
-use Rattle.ea_machine.specs.Places.{HasMain}
+use Rattle.ea_sound.specs.Places.{HasMain}
 use Rattle.ea_machine.specs.Setup.{Setup, first_page}
 use Rattle.ea_machine.specs.Sums.{sum_over}
 use Rattle.ea_sound.specs.Blocks.{EmploysMain, main_count}

@@ -1,7 +1,7 @@
 -- Nodes in queues and walks, as each row that changes these leaves them, under any weight.
 use Rattle.std.proofs.Common.{◌≡◌, ℕ, ◌+◌, ◌<◌, List, [], ◌∷◌, ap, arith}
 use Rattle.ea_machine.specs.declared.nodes.Node.{Node}
-use Rattle.ea_machine.specs.Contents.{seats}
+use Rattle.ea_sound.specs.Contents.{seats}
 use Rattle.ea_machine.specs.Nodes.{Mark, link_in, pushed}
 use Rattle.ea_machine.specs.Rows.{TakeAll, Push, Link}
 use Rattle.ea_machine.specs.Setup.{Setup}

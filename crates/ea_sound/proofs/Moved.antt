@@ -7,11 +7,11 @@ use Rattle.ea_model.specs.Instance.{Instance}
 use Rattle.ea_laws.specs.Kept.{IsLaidOut}
 use Rattle.ea_machine.specs.declared.nodes.Node.{Node}
 use Rattle.ea_machine.specs.Actor.{Actor}
-use Rattle.ea_machine.specs.Contents.{InHand, actor_sum, hand_sum, home_sum, seats, slots}
-use Rattle.ea_machine.specs.Names.{allocated, of_content, only}
-use Rattle.ea_machine.specs.NodePlaces.{of_carrier_actor, of_carrier_mark}
+use Rattle.ea_sound.specs.Contents.{InHand, actor_sum, hand_sum, home_sum, seats, slots}
+use Rattle.ea_sound.specs.Names.{allocated, of_content, only}
+use Rattle.ea_sound.specs.NodePlaces.{of_carrier_actor, of_carrier_mark}
 use Rattle.ea_machine.specs.Owners.{CarrierAt}
-use Rattle.ea_machine.specs.Ranges.{IsLaidOutAsKind}
+use Rattle.ea_sound.specs.Ranges.{IsLaidOutAsKind}
 use Rattle.ea_machine.specs.Setup.{Setup, is_scheduler, migration}
 use Rattle.ea_machine.specs.Shared.{Shared, at_place}
 use Rattle.ea_machine.specs.State.{State}

@@ -2,8 +2,8 @@
 use Rattle.std.proofs.Common.{◌≡◌, ℕ, ◌+◌, ◌<◌, ◌≤◌, arith}
 use Rattle.ea_model.specs.declared.carriers.Spot.{Spot}
 use Rattle.ea_machine.specs.Actor.{Actor}
-use Rattle.ea_machine.specs.Contents.{home_sum, seats, slots}
-use Rattle.ea_machine.specs.Names.{allocated, of_content, of_mark, of_named, only}
+use Rattle.ea_sound.specs.Contents.{home_sum, seats, slots}
+use Rattle.ea_sound.specs.Names.{allocated, of_content, of_mark, of_named, only}
 use Rattle.ea_machine.specs.Setup.{Setup}
 use Rattle.ea_machine.specs.Shared.{Shared}
 use Rattle.ea_machine.specs.State.{State}

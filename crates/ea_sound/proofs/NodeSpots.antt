@@ -10,14 +10,14 @@ use Rattle.ea_machine.specs.Actor.{Linking, Pushing, Routed}
 use Rattle.ea_machine.specs.Alike.{HasNoAlike, are_alike}
 use Rattle.ea_machine.specs.declared.tasks.Why.{Why}
 use Rattle.ea_machine.specs.declared.tasks.Gone.{Gone}
-use Rattle.ea_machine.specs.Contents.{seats}
+use Rattle.ea_sound.specs.Contents.{seats}
 use Rattle.ea_machine.specs.Guards.{IsNowhere, IsUnlinkedAt}
-use Rattle.ea_machine.specs.Names.{of_hand, of_mark, of_node, only}
-use Rattle.ea_machine.specs.NodePlaces.{anywhere, node_at, of_carrier_actor, of_carrier_hand, of_carrier_mark, of_carrier_node, of_link, of_unlinked}
+use Rattle.ea_sound.specs.Names.{of_hand, of_mark, of_node, only}
+use Rattle.ea_sound.specs.NodePlaces.{anywhere, node_at, of_carrier_actor, of_carrier_hand, of_carrier_mark, of_carrier_node, of_link, of_unlinked}
 use Rattle.ea_machine.specs.Nodes.{Mark, pushed, same_node, same_spot}
 use Rattle.ea_machine.specs.Owners.{CarrierAt, Absent, Employed, Pooled, Busy, Returning}
 use Rattle.ea_machine.specs.Setup.{Setup}
-use Rattle.ea_machine.specs.Sound.{HasNothing}
+use Rattle.ea_sound.specs.Sound.{HasNothing}
 use Rattle.ea_machine.specs.State.{State}
 use Rattle.ea_machine.specs.Sums.{one_if, sum_over, total_at}
 use Rattle.ea_sound.specs.Present.{Rule}

@@ -26,14 +26,13 @@ use Rattle.ea_machine.specs.declared.tasks.Gone.{Gone}
 use Rattle.ea_machine.specs.declared.tasks.Gone.TheVariants.{Open}
 use Rattle.ea_machine.specs.declared.tasks.Why.TheVariants.{Walk}
 use Rattle.ea_machine.specs.Actor.{Actor, Begin, Linking, Looking, Route, Routed}
-use Rattle.ea_machine.specs.Contents.{actor_sum, seats}
+use Rattle.ea_sound.specs.Contents.{actor_sum, seats}
 use Rattle.ea_machine.specs.Machine.{IsReached, begins}
-use Rattle.ea_machine.specs.NamePlaces.{name_of}
-use Rattle.ea_machine.specs.Names.{made_in, of_named, of_node, only, only_at}
-use Rattle.ea_machine.specs.NodePlaces.{anywhere, of_carrier_actor, of_carrier_node}
-use Rattle.ea_machine.specs.Nodes.{named_at}
+use Rattle.ea_sound.specs.Names.{made_in, of_named, of_node, only, only_at}
+use Rattle.ea_sound.specs.NodePlaces.{anywhere, of_carrier_actor, of_carrier_node}
+use Rattle.ea_machine.specs.Nodes.{named_at, name_of}
 use Rattle.ea_machine.specs.Owners.{owner_of}
-use Rattle.ea_machine.specs.Places.{has_number, none}
+use Rattle.ea_sound.specs.Places.{has_number, none}
 use Rattle.ea_machine.specs.Releases.{Turned, route_of}
 use Rattle.ea_machine.specs.Rows.{Answer, Link, Passes, Rests, TakeAll, TakeLink}
 use Rattle.ea_machine.specs.Setup.{Setup, is_scheduler, migration, setup_of}

@@ -9,9 +9,8 @@ use Rattle.ea_model.proofs.Rising.{item_at-old}
 use Rattle.ea_machine.specs.Actor.{Actor, Begin, Ready, Stage}
 use Rattle.ea_machine.specs.declared.asks.Ask.{Ask}
 use Rattle.ea_machine.specs.Machine.{after, after_row}
-use Rattle.ea_machine.specs.NamePlaces.{name_of}
-use Rattle.ea_machine.specs.Names.{of_content, of_named, only}
-use Rattle.ea_machine.specs.Nodes.{named_at}
+use Rattle.ea_sound.specs.Names.{of_content, of_named, only}
+use Rattle.ea_machine.specs.Nodes.{named_at, name_of}
 use Rattle.ea_machine.specs.declared.nodes.Named.{Named}
 use Rattle.ea_machine.specs.Placements.{holding}
 use Rattle.ea_machine.specs.Reallocations.{resized_place}

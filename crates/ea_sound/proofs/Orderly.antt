@@ -31,7 +31,7 @@ use Rattle.ea_laws.proofs.Keeping.{IsKept-cleared, IsKept-made, IsKept-shortened
 use Rattle.ea_laws.proofs.Owned.{with_units}
 use Rattle.ea_laws.proofs.Reallocating.{shortened-alone}
 use Rattle.ea_laws.proofs.Standing.{employed-rising, placed-IsLaidOut, released-IsLaidOut}
-use Rattle.ea_machine.specs.Employment.{dismissing, disowning, employing}
+use Rattle.ea_model.specs.Employment.{dismissing, disowning, employing}
 use Rattle.ea_sound.specs.Orderly.{IsOrderly}
 use Rattle.ea_sound.proofs.KeyedWeights.{without-missing}
 use Rattle.ea_sound.proofs.Resizing.{content_after, resized-IsLaidOut, resized-IsLaidOutAlone, single-resized, single-shortens}

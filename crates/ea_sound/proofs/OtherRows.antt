@@ -10,8 +10,8 @@ use Rattle.ea_machine.specs.declared.owners.OwnerWord.TheVariants as word
 use Rattle.ea_machine.specs.Actor.{Actor, Route, Looking, Trying, Settling, Abandoning, Sending, Clearing, Pushing, Linking, Ended, Routed}
 use Rattle.ea_machine.specs.declared.tasks.Why.{Why}
 use Rattle.ea_machine.specs.declared.tasks.Gone.{Gone}
-use Rattle.ea_machine.specs.Contents.{hand_sum}
-use Rattle.ea_machine.specs.Names.{of_hand}
+use Rattle.ea_sound.specs.Contents.{hand_sum}
+use Rattle.ea_sound.specs.Names.{of_hand}
 use Rattle.ea_machine.specs.Nodes.{Mark, first_node, link_in, same_node}
 use Rattle.ea_machine.specs.declared.nodes.Named.{Named}
 use Rattle.ea_machine.specs.Owners.{CarrierAt, Absent, Employed, Pooled, Busy, Returning, owner_of, word_of}

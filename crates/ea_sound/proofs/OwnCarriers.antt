@@ -12,7 +12,7 @@ use Rattle.std.specs.Prelude.{Some, AllPairs}
 use Rattle.ea_model.specs.declared.carriers.OwnCarrier.{OwnCarrier}
 use Rattle.ea_model.specs.Instance.{own_at, own_of, segment_of, segments}
 use Rattle.ea_laws.specs.Kept.{own_number, ContentsApart, IsRisingOwn, IsWhole}
-use Rattle.ea_machine.specs.Places.{same_own}
+use Rattle.ea_sound.specs.Places.{same_own}
 use Rattle.ea_machine.specs.Sums.{one_if, sum_over}
 use Rattle.ea_sound.proofs.KeyedWeights.{item-hit, times-once}
 

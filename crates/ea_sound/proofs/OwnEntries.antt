@@ -7,10 +7,10 @@ use Rattle.ea_model.specs.declared.carriers.OwnCarrier.{OwnCarrier}
 use Rattle.ea_model.specs.Content.{Content}
 use Rattle.ea_model.specs.Instance.{content_of, employed, own_at, own_of}
 use Rattle.ea_laws.specs.Kept.{own_number}
-use Rattle.ea_machine.specs.Contents.{hand_sum, home_sum, seats, slots, sum_everywhere}
-use Rattle.ea_machine.specs.NodePlaces.{anywhere}
+use Rattle.ea_sound.specs.Contents.{hand_sum, home_sum, seats, slots, sum_everywhere}
+use Rattle.ea_sound.specs.NodePlaces.{anywhere}
 use Rattle.ea_machine.specs.Owners.{CarrierAt, Absent, Employed, Pooled, Busy, Returning, owner_of}
-use Rattle.ea_machine.specs.Places.{has_number, is_there}
+use Rattle.ea_sound.specs.Places.{has_number, is_there}
 use Rattle.ea_machine.specs.Setup.{Setup, is_scheduler, migration}
 use Rattle.ea_machine.specs.State.{State}
 use Rattle.ea_machine.specs.Sums.{one_if, sum_over}
@@ -102,7 +102,7 @@ module _ (e : Setup) (w : State) (k : Kept e w) where
       omega (arith, is, this-itself x, sum-actor e w k (of_owner (this x)) i)
 
   -- a content at home
-  somewhere-home : (x : Content) (c : ℕ) → w.shared.places c ≢ Absent
+  pub somewhere-home : (x : Content) (c : ℕ) → w.shared.places c ≢ Absent
       → home_sum (of_owner (this x)) (w.shared.places c) ≡ of_owner (this x) x → IsSomewhere e w x
   somewhere-home x c there is = omega (
     arith,

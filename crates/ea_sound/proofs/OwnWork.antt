@@ -15,7 +15,7 @@ use Rattle.ea_machine.specs.declared.tasks.Why.{Why}
 use Rattle.ea_machine.specs.Actor.{Actor, Route, Looking, Trying, Settling, Abandoning, Sending, Clearing, Pushing, Linking, Stage, Begin, Routed, Collecting, Searching, Fetching, Creating, Giving, Taking, Ended, Ready}
 use Rattle.ea_machine.specs.Alike.{IsNode, alike_in}
 use Rattle.ea_machine.specs.Completion.{work}
-use Rattle.ea_machine.specs.Contents.{seats}
+use Rattle.ea_sound.specs.Contents.{seats}
 use Rattle.ea_machine.specs.Machine.{IsReached, step, wants_at, wants_on}
 use Rattle.ea_machine.specs.Nodes.{pushed}
 use Rattle.ea_machine.specs.Owners.{Busy, Employed}

@@ -14,8 +14,8 @@ use Rattle.ea_laws.specs.Spots.{HasGap}
 use Rattle.ea_laws.proofs.Apart.{changed-All}
 use Rattle.ea_machine.specs.Actor.{Actor, Begin}
 use Rattle.ea_machine.specs.declared.asks.Ask.{Ask}
-use Rattle.ea_machine.specs.NamePlaces.{name_of}
-use Rattle.ea_machine.specs.Names.{allocated, of_content, of_named, only}
+use Rattle.ea_machine.specs.Nodes.{name_of}
+use Rattle.ea_sound.specs.Names.{allocated, of_content, of_named, only}
 use Rattle.ea_machine.specs.Setup.{Setup, is_scheduler, migration}
 use Rattle.ea_machine.specs.Shared.{Shared, put}
 use Rattle.ea_machine.specs.State.{State}

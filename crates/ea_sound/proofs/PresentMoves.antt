@@ -24,10 +24,10 @@ use Rattle.ea_machine.specs.declared.tasks.Why.{Why}
 use Rattle.ea_machine.specs.declared.tasks.Why.TheVariants.{For}
 use Rattle.ea_machine.specs.declared.tasks.Gone.{Gone}
 use Rattle.ea_machine.specs.declared.asks.Ask.{Ask}
-use Rattle.ea_machine.specs.Entries.{Makes}
-use Rattle.ea_machine.specs.Names.{made_in, unplaced_by}
+use Rattle.ea_sound.specs.Entries.{Makes}
+use Rattle.ea_sound.specs.Names.{made_in, unplaced_by}
 use Rattle.ea_machine.specs.declared.nodes.Named.{Named}
-use Rattle.ea_machine.specs.Places.{MayStay}
+use Rattle.ea_sound.specs.Places.{MayStay}
 use Rattle.ea_machine.specs.Sums.{one_if}
 use Rattle.ea_machine.specs.Placements.{created, created_by, holding, placed_at, placed_by, spot_of_place, stands}
 use Rattle.ea_machine.specs.Releases.{route_of}

@@ -19,10 +19,9 @@ use Rattle.ea_model.proofs.Needs.{need-even, need-least}
 use Rattle.ea_machine.specs.Actor.{Actor}
 use Rattle.ea_machine.specs.declared.tasks.Task.TheVariants.{Freeing}
 use Rattle.ea_machine.specs.declared.asks.Ask.{Ask}
-use Rattle.ea_machine.specs.Entries.{Makes}
-use Rattle.ea_machine.specs.NamePlaces.{name_of}
-use Rattle.ea_machine.specs.Names.{made_in}
-use Rattle.ea_machine.specs.Nodes.{named_at}
+use Rattle.ea_sound.specs.Entries.{Makes}
+use Rattle.ea_sound.specs.Names.{made_in}
+use Rattle.ea_machine.specs.Nodes.{named_at, name_of}
 use Rattle.ea_machine.specs.declared.nodes.Named.{Named}
 use Rattle.ea_machine.specs.Operations.{freed, giving, itself}
 use Rattle.ea_machine.specs.Placements.{chosen_by, failed, holding, making, new_carrier, new_carrier_by, search_at, search_if, searched_by, seek, seek_by}

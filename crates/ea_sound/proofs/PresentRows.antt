@@ -11,15 +11,14 @@ use Rattle.ea_machine.specs.declared.owners.OwnerWord.{OwnerWord}
 use Rattle.ea_machine.specs.declared.owners.OwnerWord.TheVariants as word
 use Rattle.ea_machine.specs.Actor.{Actor, Stage, Begin, Routed, Collecting, Searching, Fetching, Creating, Giving, Taking, Ended, Ready}
 use Rattle.ea_machine.specs.declared.asks.Ask.{Ask}
-use Rattle.ea_machine.specs.Contents.{home_sum, seats, slots}
-use Rattle.ea_machine.specs.Employment.{employing}
-use Rattle.ea_machine.specs.NamePlaces.{name_of}
-use Rattle.ea_machine.specs.Places.{MayStay}
+use Rattle.ea_sound.specs.Contents.{home_sum, seats, slots}
+use Rattle.ea_model.specs.Employment.{employing}
+use Rattle.ea_sound.specs.Places.{MayStay}
 use Rattle.ea_machine.specs.Tasks.{let_go, logged}
 use Rattle.ea_model.proofs.Rising.{item_at-key}
 use Rattle.ea_machine.specs.Machine.{after_row, wants_at, wants_on}
-use Rattle.ea_machine.specs.Names.{made_in, of_named, only, unplaced}
-use Rattle.ea_machine.specs.Nodes.{named_at}
+use Rattle.ea_sound.specs.Names.{made_in, of_named, only, unplaced}
+use Rattle.ea_machine.specs.Nodes.{named_at, name_of}
 use Rattle.ea_machine.specs.declared.nodes.Named.{Named}
 use Rattle.ea_machine.specs.Operations.{gave, took_by}
 use Rattle.ea_machine.specs.Owners.{CarrierAt, Absent, Employed, Pooled, Busy, Returning, same_word, word_of}

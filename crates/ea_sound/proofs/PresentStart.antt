@@ -16,12 +16,12 @@ use Rattle.ea_model.proofs.Pairs.{pairs_nil}
 use Rattle.ea_laws.specs.Kept.{Stands}
 use Rattle.ea_machine.specs.Actor.{Actor}
 use Rattle.ea_machine.specs.Machine.{first_actor, first_stage, instance_by, start}
-use Rattle.ea_machine.specs.NamePlaces.{name_of}
-use Rattle.ea_machine.specs.Names.{made_in, only, to_make, unplaced}
-use Rattle.ea_machine.specs.Places.{MayStay}
+use Rattle.ea_machine.specs.Nodes.{name_of}
+use Rattle.ea_sound.specs.Names.{made_in, only, to_make, unplaced}
+use Rattle.ea_sound.specs.Places.{MayStay}
 use Rattle.ea_machine.specs.Setup.{Setup, is_scheduler, setup_of, text_for}
-use Rattle.ea_machine.specs.Sound.{HasNothing}
-use Rattle.ea_machine.specs.Contents.{seats}
+use Rattle.ea_sound.specs.Sound.{HasNothing}
+use Rattle.ea_sound.specs.Contents.{seats}
 use Rattle.ea_machine.specs.Sums.{total}
 use Rattle.ea_sound.specs.Blocks.{EmploysMain}
 use Rattle.ea_sound.proofs.MainCarriers.{first-main}

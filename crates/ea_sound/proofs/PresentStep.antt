@@ -11,17 +11,16 @@ use Rattle.ea_machine.specs.declared.nodes.Node.TheVariants.{Block, Carrier}
 use Rattle.ea_machine.specs.Actor.{Actor, Route, Looking, Trying, Settling, Abandoning, Sending, Clearing, Pushing, Linking, Stage, Begin, Routed, Collecting, Searching, Fetching, Creating, Giving, Taking, Ended, Ready}
 use Rattle.ea_machine.specs.declared.tasks.Why.{Why}
 use Rattle.ea_machine.specs.declared.tasks.Gone.{Gone}
-use Rattle.ea_machine.specs.Contents.{actor_sum, seats}
-use Rattle.ea_machine.specs.Entries.{LogsEach, Makes}
+use Rattle.ea_sound.specs.Contents.{actor_sum, seats}
+use Rattle.ea_sound.specs.Entries.{LogsEach, Makes}
 use Rattle.ea_machine.specs.Machine.{after, after_row, begins, step, stepped, wants_at, wants_on}
-use Rattle.ea_machine.specs.NamePlaces.{name_of}
-use Rattle.ea_machine.specs.Names.{made_in, of_named, only, unplaced}
-use Rattle.ea_machine.specs.Nodes.{first_node}
-use Rattle.ea_machine.specs.Places.{MayStay}
+use Rattle.ea_sound.specs.Names.{made_in, of_named, only, unplaced}
+use Rattle.ea_machine.specs.Nodes.{first_node, name_of}
+use Rattle.ea_sound.specs.Places.{MayStay}
 use Rattle.ea_machine.specs.Rows.{Row}
 use Rattle.ea_machine.specs.Setup.{Setup, is_scheduler}
 use Rattle.ea_machine.specs.Shared.{Shared, put}
-use Rattle.ea_machine.specs.Sound.{HasNothing}
+use Rattle.ea_sound.specs.Sound.{HasNothing}
 use Rattle.ea_machine.specs.State.{State}
 use Rattle.ea_machine.specs.Table.{answer, effect}
 use Rattle.ea_sound.specs.Blocks.{EmploysMain}

@@ -7,9 +7,9 @@ use Rattle.ea_machine.specs.Actor.{Actor, Stage, Begin, Routed, Collecting, Sear
 use Rattle.ea_machine.specs.declared.tasks.Why.{Why}
 use Rattle.ea_machine.specs.declared.tasks.Why.TheVariants.{Walk, For}
 use Rattle.ea_machine.specs.declared.tasks.Gone.{Gone}
-use Rattle.ea_machine.specs.Contents.{hand_sum}
+use Rattle.ea_sound.specs.Contents.{hand_sum}
 use Rattle.ea_machine.specs.Machine.{onward, onward_at}
-use Rattle.ea_machine.specs.Names.{unplaced, unplaced_by}
+use Rattle.ea_sound.specs.Names.{unplaced, unplaced_by}
 use Rattle.ea_machine.specs.declared.nodes.Named.{Named}
 use Rattle.ea_machine.specs.Releases.{route_of}
 use Rattle.ea_machine.specs.Setup.{Setup}

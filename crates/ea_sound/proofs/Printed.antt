@@ -8,10 +8,10 @@ use Rattle.ea_model.specs.Instance.{content_of}
 use Rattle.ea_model.proofs.Rising.{item_at-All, item_at-key}
 use Rattle.ea_laws.specs.Kept.{number_of}
 use Rattle.ea_machine.specs.Actor.{Actor, Route, Looking, Trying, Settling, Abandoning, Sending, Clearing, Pushing, Linking, Stage, Begin, Routed, Collecting, Searching, Fetching, Creating, Giving, Taking, Ended, Ready}
-use Rattle.ea_machine.specs.Contents.{hand_sum, home_sum, route_sum, seats, sum_everywhere}
+use Rattle.ea_sound.specs.Contents.{hand_sum, home_sum, route_sum, seats, sum_everywhere}
 use Rattle.ea_machine.specs.Outcome.{Present, place_of, present, present_at, present_if, settling_at, settling_on}
 use Rattle.ea_machine.specs.Owners.{CarrierAt, Absent, Employed, Pooled, Busy, Returning}
-use Rattle.ea_machine.specs.Places.{busy_count, employed_count, has_number, is_there, none}
+use Rattle.ea_sound.specs.Places.{busy_count, employed_count, has_number, is_there, none}
 use Rattle.ea_machine.specs.Setup.{Setup, greatest_number}
 use Rattle.ea_machine.specs.State.{State}
 use Rattle.ea_machine.specs.Statistics.{employed_multis, employed_singles, is_single, leaving_at, leaving_on}

@@ -12,17 +12,17 @@ use Rattle.ea_laws.specs.Kept.{number_of}
 use Rattle.ea_machine.specs.declared.nodes.Node.{Node}
 use Rattle.ea_machine.specs.declared.nodes.Node.TheVariants.{Block, Carrier}
 use Rattle.ea_machine.specs.Actor.{Actor, Route, Looking, Trying, Settling, Abandoning, Sending, Clearing, Pushing, Linking, Stage, Begin, Routed, Collecting, Searching, Fetching, Creating, Giving, Taking, Ended, Ready}
-use Rattle.ea_machine.specs.Contents.{sum_everywhere}
-use Rattle.ea_machine.specs.Names.{given, held, in_hands, of_hand, of_mark, of_named, of_node, of_route, queued, walked}
+use Rattle.ea_sound.specs.Contents.{sum_everywhere}
+use Rattle.ea_sound.specs.Names.{given, held, in_hands, of_hand, of_mark, of_named, of_node, of_route, queued, walked}
 use Rattle.ea_machine.specs.Nodes.{Mark}
 use Rattle.ea_machine.specs.declared.nodes.Named.{Named}
 use Rattle.ea_machine.specs.Outcome.{block_of, hand_at, hand_on, live_spots, marked, present, queued_spots, units_at}
-use Rattle.ea_machine.specs.Places.{has_number}
+use Rattle.ea_sound.specs.Places.{has_number}
 use Rattle.ea_machine.specs.Setup.{Setup}
 use Rattle.ea_machine.specs.State.{State}
 use Rattle.ea_machine.specs.Sums.{sum_over}
-use Rattle.ea_machine.specs.Sound.{HasNothing}
-use Rattle.ea_machine.specs.Units.{PrintsSums, size_in}
+use Rattle.ea_sound.specs.Sound.{HasNothing}
+use Rattle.ea_sound.specs.Units.{PrintsSums, size_in}
 use Rattle.ea_sound.specs.Present.{Rule}
 use Rattle.ea_sound.specs.Rule.{Kept}
 use Rattle.ea_sound.proofs.KeyedWeights.{sum-missing, sum-only}

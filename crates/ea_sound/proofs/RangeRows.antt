@@ -4,9 +4,9 @@ use Rattle.std.specs.Prelude.{All}
 use Rattle.ea_model.specs.Instance.{Instance}
 use Rattle.ea_laws.specs.Kept.{IsLaidOut}
 use Rattle.ea_machine.specs.Actor.{Actor}
-use Rattle.ea_machine.specs.Contents.{AtHome, InHand}
+use Rattle.ea_sound.specs.Contents.{AtHome, InHand}
 use Rattle.ea_machine.specs.Owners.{CarrierAt}
-use Rattle.ea_machine.specs.Ranges.{IsLaidOutAsKind}
+use Rattle.ea_sound.specs.Ranges.{IsLaidOutAsKind}
 use Rattle.ea_machine.specs.Setup.{Setup, is_scheduler}
 use Rattle.ea_machine.specs.Shared.{Shared, at_place}
 use Rattle.ea_machine.specs.State.{State}

@@ -15,13 +15,13 @@ use Rattle.ea_laws.specs.Kept.{number_of}
 use Rattle.ea_laws.proofs.Changed.{released-keeps}
 use Rattle.ea_laws.proofs.Employed.{employed-changed}
 use Rattle.ea_laws.proofs.Standing.{releasing-Stands}
-use Rattle.ea_machine.specs.Abandonment.{is_due}
+use Rattle.ea_model.specs.Abandonment.{is_due}
 use Rattle.ea_machine.specs.Actor.{Actor}
 use Rattle.ea_machine.specs.declared.tasks.Why.{Why}
 use Rattle.ea_machine.specs.declared.tasks.Gone.{Gone}
 use Rattle.ea_machine.specs.declared.tasks.Gone.TheVariants.{Open, Here}
-use Rattle.ea_machine.specs.Employment.{dismissing}
-use Rattle.ea_machine.specs.Names.{unplaced_by}
+use Rattle.ea_model.specs.Employment.{dismissing}
+use Rattle.ea_sound.specs.Names.{unplaced_by}
 use Rattle.ea_machine.specs.declared.nodes.Named.{Named}
 use Rattle.ea_machine.specs.Owners.{owner_of}
 use Rattle.ea_machine.specs.Releases.{Turned, abandoned_if, after_release, after_release_by, dismissed, disowned, first_gone, leaving, leaving_by, lightened, owned_by, release_here, route_of, routed, sent_to}
@@ -38,7 +38,7 @@ use Rattle.ea_sound.proofs.MainCarriers.{dismissing-main, releasing-main}
 use Rattle.ea_sound.proofs.Orderly.{changing-found, disowning-IsOrderly, dismissing-IsOrderly, releasing-IsOrderly}
 use Rattle.ea_sound.proofs.Staying.{AllStay, AllStayBut, dismissing-stay, here-stay, releasing-stay}
 use Rattle.ea_sound.proofs.Suits.{Bare, CoreOf, TurnedGood}
-use Rattle.ea_sound.proofs.Unmoved.{due-unmoved, employed-owner, leaving-Stands}
+use Rattle.ea_sound.proofs.Unmoved.{due-unmoved, employed-owner, leaving-Stands, off-acul}
 
 not_nil-is : (bs : List BlockAt) → is_nil bs ≡ false → bs ≢ []
 not_nil-is [] e = absurd cc
@@ -200,7 +200,7 @@ module _ (e : Setup) (s : Shared) (me : ℕ) (home bound : Counting → ℕ) (y 
           rising = b.core.rising;
           names = b.core.names;
           stands = λ off. leaving-Stands j (releasing-Stands i h.spot (b.core.stands off))
-              x.number x by_number;
+              (off-acul e j off b.own.settings) x.number x by_number;
           main = main go;
         };
         own = record {
@@ -287,7 +287,8 @@ module _ (e : Setup) (s : Shared) (me : ℕ) (home bound : Counting → ℕ) (y 
       → (owner_of h.spot.carrier == me) ≡ own → IsBare a → OfWhy y a.todo
       → IsGood (owned_by e me own h a)
   owned-good true h a off o b why = here-good h a b why Open
-      (λ z there single. employed-owner a.instance (b.core.stands off) h.spot.carrier z there
+      (λ z there single. employed-owner a.instance (b.core.stands off)
+      (off-acul e a.instance off b.own.settings) h.spot.carrier z there
       ∙ b.own.number)
       (λ z there single on. absurd (true≢false (sym on ∙ off)))
   owned-good false h a off o b why =

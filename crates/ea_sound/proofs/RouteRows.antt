@@ -12,9 +12,9 @@ use Rattle.ea_machine.specs.declared.owners.OwnerWord.TheVariants as word
 use Rattle.ea_machine.specs.Actor.{Actor, Route, Looking, Trying, Settling, Abandoning, Sending, Clearing, Pushing, Linking, Routed}
 use Rattle.ea_machine.specs.declared.tasks.Why.{Why}
 use Rattle.ea_machine.specs.declared.tasks.Gone.{Gone}
-use Rattle.ea_machine.specs.Contents.{home_sum, slots}
+use Rattle.ea_sound.specs.Contents.{home_sum, slots}
 use Rattle.ea_machine.specs.Machine.{wants_on}
-use Rattle.ea_machine.specs.Names.{of_hand, only_at, unplaced_by}
+use Rattle.ea_sound.specs.Names.{of_hand, only_at, unplaced_by}
 use Rattle.ea_machine.specs.declared.nodes.Named.{Named}
 use Rattle.ea_machine.specs.Nodes.{first_node}
 use Rattle.ea_machine.specs.Owners.{CarrierAt, Absent, Employed, Pooled, Busy, Returning, owner_of, same_word, word_of}

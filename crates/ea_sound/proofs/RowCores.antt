@@ -3,8 +3,8 @@ use Rattle.std.proofs.Common.{◌≡◌, ℕ, ◌+◌, ◌<◌, ◌≤◌, List,
 use Rattle.std.proofs.lemmas.Bool.{cases_lt, true≢false}
 use Rattle.ea_model.specs.declared.operations.Op.{Op}
 use Rattle.ea_machine.specs.Actor.{Actor, Stage}
-use Rattle.ea_machine.specs.Contents.{actor_sum, hand_sum, home_sum, seats, slots}
-use Rattle.ea_machine.specs.Names.{made_in, only, unplaced}
+use Rattle.ea_sound.specs.Contents.{actor_sum, hand_sum, home_sum, seats, slots}
+use Rattle.ea_sound.specs.Names.{made_in, only, unplaced}
 use Rattle.ea_machine.specs.Nodes.{first_node}
 use Rattle.ea_machine.specs.Releases.{disowned}
 use Rattle.ea_machine.specs.Setup.{Setup, is_scheduler, migration}

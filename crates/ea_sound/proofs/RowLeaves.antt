@@ -15,11 +15,11 @@ use Rattle.ea_machine.specs.declared.tasks.Why.{Why}
 use Rattle.ea_machine.specs.declared.tasks.Why.TheVariants.{Walk, For}
 use Rattle.ea_machine.specs.declared.tasks.Gone.{Gone}
 use Rattle.ea_machine.specs.declared.asks.Ask.{Ask}
-use Rattle.ea_machine.specs.Contents.{hand_sum, home_sum, seats, slots}
-use Rattle.ea_machine.specs.Employment.{employing}
+use Rattle.ea_sound.specs.Contents.{hand_sum, home_sum, seats, slots}
+use Rattle.ea_model.specs.Employment.{employing}
 use Rattle.ea_machine.specs.Machine.{begins, wants_at, wants_on}
-use Rattle.ea_machine.specs.Names.{allocated, made_in, of_content, of_mark, only, unplaced}
-use Rattle.ea_machine.specs.NodePlaces.{of_carrier_mark, of_unlinked}
+use Rattle.ea_sound.specs.Names.{allocated, made_in, of_content, of_mark, only, unplaced}
+use Rattle.ea_sound.specs.NodePlaces.{of_carrier_mark, of_unlinked}
 use Rattle.ea_machine.specs.Nodes.{Mark, first_node, named_at}
 use Rattle.ea_machine.specs.declared.nodes.Named.{Named}
 use Rattle.ea_machine.specs.Owners.{CarrierAt, Absent, Employed, Pooled, Busy, Returning, same_word, word_of}

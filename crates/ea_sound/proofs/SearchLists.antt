@@ -6,11 +6,11 @@ use Rattle.ea_machine.specs.declared.owners.OwnerWord.{OwnerWord}
 use Rattle.ea_machine.specs.Machine.{run_on, step}
 use Rattle.ea_machine.specs.Owners.{same_word}
 use Rattle.ea_machine.specs.Placements.{counted, counted_by, counts, fits}
-use Rattle.ea_machine.specs.Searches.{Missed, Searched, Shown, Sight, sight_if, sights}
+use Rattle.ea_sound.specs.Searches.{Missed, Searched, Shown, Sight, sight_if, sights}
 use Rattle.ea_machine.specs.Setup.{Setup}
 use Rattle.ea_machine.specs.State.{State}
 use Rattle.ea_machine.specs.Sums.{one_if, sum_over}
-use Rattle.ea_machine.specs.Turns.{answered}
+use Rattle.ea_sound.specs.Turns.{answered}
 use Rattle.ea_sound.proofs.Weights.{sum-append, sum_by-sum_over}
 use Rattle.ea_model.specs.declared.units.TheConstants.{SEARCH_LIMIT}
 

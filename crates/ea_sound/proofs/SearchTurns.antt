@@ -11,13 +11,13 @@ use Rattle.ea_machine.specs.Machine.{step}
 use Rattle.ea_machine.specs.Owners.{CarrierAt, Absent, Employed, Pooled, Busy, Returning, same_word, word_of}
 use Rattle.ea_machine.specs.Placements.{counted, fits}
 use Rattle.ea_machine.specs.Rows.{Answer, Done, Head, Rests, Passes, Saw, Won, Lost, Home, Got, FetchTry, Look}
-use Rattle.ea_machine.specs.Searches.{Missed, Searched, Shown, Sight, sight, sight_if, sights}
+use Rattle.ea_sound.specs.Searches.{Missed, Searched, Shown, Sight, sight, sight_if, sights}
 use Rattle.ea_machine.specs.Setup.{Setup}
 use Rattle.ea_machine.specs.Shared.{Shared}
 use Rattle.ea_machine.specs.State.{State}
 use Rattle.ea_machine.specs.Sums.{one_if}
 use Rattle.ea_machine.specs.Table.{answer, tried_at, won_if}
-use Rattle.ea_machine.specs.Turns.{answered}
+use Rattle.ea_sound.specs.Turns.{answered}
 use Rattle.ea_sound.proofs.Weights.{sum_by-sum_over}
 
 -- a step sees one thing at most

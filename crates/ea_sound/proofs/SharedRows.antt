@@ -4,8 +4,7 @@ use Rattle.std.specs.Prelude.{AllPairs}
 use Rattle.std.proofs.lemmas.Bool.{cases_eq}
 use Rattle.ea_model.specs.Keyed.{IsBelow}
 use Rattle.ea_model.proofs.Rising.{rising-entered}
-use Rattle.ea_machine.specs.NamePlaces.{name_of}
-use Rattle.ea_machine.specs.Nodes.{link_in, pushed}
+use Rattle.ea_machine.specs.Nodes.{link_in, pushed, name_of}
 use Rattle.ea_machine.specs.Owners.{CarrierAt, Busy, Employed}
 use Rattle.ea_machine.specs.Rows.{Answer, Done, Head, Rests, Passes, Saw, Won, Lost, Home, Got, Row, TakeAll, TakeLink, Look, Push, Link, BusyTry, Settle, Abandon, FetchTry, Create, SendHome, Clear, Give, TakeTry, Nothing}
 use Rattle.ea_machine.specs.Shared.{Shared}

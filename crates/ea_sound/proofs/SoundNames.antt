@@ -2,9 +2,9 @@
 use Rattle.std.proofs.Common.{◌≡◌, ℕ, zero, suc, ◌+◌, refl, ◌∙◌, arith}
 use Rattle.ea_model.specs.declared.carriers.Spot.{Spot}
 use Rattle.ea_machine.specs.Actor.{Actor}
-use Rattle.ea_machine.specs.Contents.{seats}
-use Rattle.ea_machine.specs.Names.{allocated, of_hand, of_named, of_node, only, only_at, standing}
-use Rattle.ea_machine.specs.NamePlaces.{PlacesNames}
+use Rattle.ea_sound.specs.Contents.{seats}
+use Rattle.ea_sound.specs.Names.{allocated, of_hand, of_named, of_node, only, only_at, standing}
+use Rattle.ea_sound.specs.NamePlaces.{PlacesNames}
 use Rattle.ea_machine.specs.Setup.{Setup}
 use Rattle.ea_machine.specs.State.{State}
 use Rattle.ea_machine.specs.Sums.{sum_over, total}

@@ -6,13 +6,13 @@ use Rattle.ea_model.specs.declared.carriers.Spot.{Spot}
 use Rattle.ea_model.specs.Content.{Content}
 use Rattle.ea_machine.specs.declared.nodes.Node.{Node}
 use Rattle.ea_machine.specs.declared.nodes.Node.TheVariants.{Block, Carrier}
-use Rattle.ea_machine.specs.Contents.{seats, slots}
-use Rattle.ea_machine.specs.Names.{of_mark, of_node, only}
-use Rattle.ea_machine.specs.NodePlaces.{LinksNodes, ReturnsCarriers, anywhere, at_instance, before_link, carrier_nodes, is_returning, node_at, of_carrier_mark, of_carrier_node, of_unlinked, unlinked_at}
+use Rattle.ea_sound.specs.Contents.{seats, slots}
+use Rattle.ea_sound.specs.Names.{of_mark, of_node, only}
+use Rattle.ea_sound.specs.NodePlaces.{LinksNodes, ReturnsCarriers, anywhere, at_instance, before_link, carrier_nodes, is_returning, node_at, of_carrier_mark, of_carrier_node, of_unlinked, unlinked_at}
 use Rattle.ea_machine.specs.Nodes.{Mark, same_spot}
 use Rattle.ea_machine.specs.Owners.{CarrierAt, Absent, Employed, Pooled, Busy, Returning, owner_of}
 use Rattle.ea_machine.specs.Setup.{Setup}
-use Rattle.ea_machine.specs.Sound.{HasNothing}
+use Rattle.ea_sound.specs.Sound.{HasNothing}
 use Rattle.ea_machine.specs.State.{State}
 use Rattle.ea_machine.specs.Sums.{one_if, sum_over}
 use Rattle.ea_sound.specs.Present.{Rule}

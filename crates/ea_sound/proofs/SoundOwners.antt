@@ -9,10 +9,10 @@ use Rattle.ea_model.proofs.Rising.{item_at-All, item_at-key}
 use Rattle.ea_laws.specs.Kept.{HasNumberIn, IsRising, IsRisingOwn, number_of, own_number}
 use Rattle.ea_laws.proofs.Keeping.{pages_of_units}
 use Rattle.ea_machine.specs.Actor.{Actor}
-use Rattle.ea_machine.specs.Contents.{seats, sum_everywhere}
-use Rattle.ea_machine.specs.NodePlaces.{anywhere}
+use Rattle.ea_sound.specs.Contents.{seats, sum_everywhere}
+use Rattle.ea_sound.specs.NodePlaces.{anywhere}
 use Rattle.ea_machine.specs.Owners.{owner_of}
-use Rattle.ea_machine.specs.Places.{IsNumber, OwnTheirCarriers, has_number, owned_as, same_own}
+use Rattle.ea_sound.specs.Places.{IsNumber, OwnTheirCarriers, has_number, owned_as, same_own}
 use Rattle.ea_machine.specs.Setup.{Setup, is_scheduler}
 use Rattle.ea_machine.specs.State.{State}
 use Rattle.ea_machine.specs.Sums.{one_if, sum_over}

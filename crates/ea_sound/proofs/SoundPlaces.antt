@@ -4,11 +4,11 @@ use Rattle.std.proofs.lemmas.Bool.{cases_Bool, cases_eq}
 use Rattle.ea_model.specs.Instance.{is_used}
 use Rattle.ea_model.specs.Trace.{IsScheduler}
 use Rattle.ea_machine.specs.Actor.{Actor, Route, Looking, Trying, Settling, Abandoning, Sending, Clearing, Pushing, Linking, Stage, Begin, Routed, Collecting, Searching, Fetching, Creating, Giving, Taking, Ended, Ready}
-use Rattle.ea_machine.specs.Contents.{AtHome, InHand, OnRoute, seats, sum_everywhere}
-use Rattle.ea_machine.specs.NodePlaces.{anywhere}
+use Rattle.ea_sound.specs.Contents.{AtHome, InHand, OnRoute, seats, sum_everywhere}
+use Rattle.ea_sound.specs.NodePlaces.{anywhere}
 use Rattle.ea_machine.specs.Outcome.{owned_place, place_in, place_of}
 use Rattle.ea_machine.specs.Owners.{CarrierAt, Absent, Employed, Pooled, Busy, Returning, owner_of}
-use Rattle.ea_machine.specs.Places.{AreInOnePlace, IsMulti, IsMultiOrOwn, IsNumber, PlacesCarriers, RecordsGaps, StayWithOwners, busy_count, employed_count, has_number, is_there, none}
+use Rattle.ea_sound.specs.Places.{AreInOnePlace, IsMulti, IsMultiOrOwn, IsNumber, PlacesCarriers, RecordsGaps, StayWithOwners, busy_count, employed_count, has_number, is_there, none}
 use Rattle.ea_machine.specs.Setup.{Setup, migration}
 use Rattle.ea_machine.specs.State.{State}
 use Rattle.ea_machine.specs.Sums.{one_if}

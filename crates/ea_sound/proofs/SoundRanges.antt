@@ -9,8 +9,8 @@ use Rattle.ea_model.specs.Content.{Content}
 use Rattle.ea_model.specs.Instance.{own_at, own_of}
 use Rattle.ea_model.specs.Trace.{IsScheduler}
 use Rattle.ea_laws.specs.Kept.{IsKept, IsLaidOut, IsLaidOutAlone, IsWhole}
-use Rattle.ea_machine.specs.Contents.{Everywhere}
-use Rattle.ea_machine.specs.Ranges.{IsApartFrom, IsLaidOutAsKind, LaysOut}
+use Rattle.ea_sound.specs.Contents.{Everywhere}
+use Rattle.ea_sound.specs.Ranges.{IsApartFrom, IsLaidOutAsKind, LaysOut}
 use Rattle.ea_machine.specs.Setup.{Setup, first_page, is_scheduler}
 use Rattle.ea_machine.specs.State.{State}
 use Rattle.ea_sound.specs.Rule.{Belongs, Kept, of_owner}

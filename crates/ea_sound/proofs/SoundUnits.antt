@@ -7,12 +7,12 @@ use Rattle.ea_model.specs.Content.{Content, allocated, block_at, free_units, gap
 use Rattle.ea_model.specs.Keyed.{IsBelow}
 use Rattle.ea_model.proofs.Rising.{item_at-each}
 use Rattle.ea_laws.proofs.BlockLists.{offset_of}
-use Rattle.ea_machine.specs.Contents.{sum_everywhere}
-use Rattle.ea_machine.specs.Names.{of_block, of_content}
-use Rattle.ea_machine.specs.Ranges.{IsLaidOutAsKind}
+use Rattle.ea_sound.specs.Contents.{sum_everywhere}
+use Rattle.ea_sound.specs.Names.{of_block, of_content}
+use Rattle.ea_sound.specs.Ranges.{IsLaidOutAsKind}
 use Rattle.ea_machine.specs.Setup.{Setup}
 use Rattle.ea_machine.specs.State.{State}
-use Rattle.ea_machine.specs.Units.{SumsUnits, size_at, size_in}
+use Rattle.ea_sound.specs.Units.{SumsUnits, size_at, size_in}
 use Rattle.ea_sound.specs.Blocks.{spot_at}
 use Rattle.ea_sound.specs.Present.{Rule}
 use Rattle.ea_sound.specs.Rule.{Kept}

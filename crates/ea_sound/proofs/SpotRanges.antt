@@ -10,11 +10,11 @@ use Rattle.ea_model.specs.Content.{Content, Tiled}
 use Rattle.ea_laws.specs.Kept.{HasOneBlock, IsLaidOut, IsLaidOutAlone}
 use Rattle.ea_machine.specs.Actor.{Route, Looking, Trying, Settling, Abandoning, Sending, Clearing, Pushing, Linking, Stage, Begin, Routed, Collecting, Searching, Fetching, Creating, Giving, Taking, Ended, Ready}
 use Rattle.ea_machine.specs.Alike.{IsSpot}
-use Rattle.ea_machine.specs.Contents.{AtHome, InHand, OnRoute, actor_sum, hand_sum, home_sum, route_sum, seats, slots, sum_everywhere}
-use Rattle.ea_machine.specs.Names.{allocated, of_block, of_content, only_at}
+use Rattle.ea_sound.specs.Contents.{AtHome, InHand, OnRoute, actor_sum, hand_sum, home_sum, route_sum, seats, slots, sum_everywhere}
+use Rattle.ea_sound.specs.Names.{allocated, of_block, of_content, only_at}
 use Rattle.ea_machine.specs.Owners.{CarrierAt, Absent, Employed, Pooled, Busy, Returning}
-use Rattle.ea_machine.specs.Places.{has_number}
-use Rattle.ea_machine.specs.Ranges.{IsLaidOutAsKind, LaysOut}
+use Rattle.ea_sound.specs.Places.{has_number}
+use Rattle.ea_sound.specs.Ranges.{IsLaidOutAsKind, LaysOut}
 use Rattle.ea_machine.specs.Setup.{Setup}
 use Rattle.ea_machine.specs.State.{State}
 use Rattle.ea_machine.specs.Sums.{one_if, sum_over}

@@ -1,7 +1,7 @@
 -- Moves between the begin and the stages of an operation.
 use Rattle.std.proofs.Common.{◌≡◌, ◌≢◌, ℕ, true, refl, subst, arith}
 use Rattle.ea_machine.specs.Actor.{Actor, Stage, Begin, Routed, Collecting, Searching, Fetching, Creating, Giving, Taking, Ended, Ready}
-use Rattle.ea_machine.specs.Names.{of_content, only}
+use Rattle.ea_sound.specs.Names.{of_content, only}
 use Rattle.ea_machine.specs.Setup.{Setup, is_scheduler}
 use Rattle.ea_machine.specs.Shared.{Shared}
 use Rattle.ea_machine.specs.State.{State}

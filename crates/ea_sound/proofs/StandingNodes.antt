@@ -11,12 +11,12 @@ use Rattle.ea_machine.specs.declared.nodes.Node.TheVariants.{Block, Carrier}
 use Rattle.ea_machine.specs.declared.tasks.Gone.{Gone}
 use Rattle.ea_machine.specs.declared.tasks.Why.{Why}
 use Rattle.ea_machine.specs.Actor.{Pushing, Routed}
-use Rattle.ea_machine.specs.Contents.{seats}
-use Rattle.ea_machine.specs.Names.{allocated, of_hand, of_mark, of_node, only}
-use Rattle.ea_machine.specs.NodePlaces.{anywhere, carrier_nodes, of_carrier_actor, of_carrier_hand, of_carrier_mark, of_carrier_node}
+use Rattle.ea_sound.specs.Contents.{seats}
+use Rattle.ea_sound.specs.Names.{allocated, of_hand, of_mark, of_node, only}
+use Rattle.ea_sound.specs.NodePlaces.{anywhere, carrier_nodes, of_carrier_actor, of_carrier_hand, of_carrier_mark, of_carrier_node}
 use Rattle.ea_machine.specs.Nodes.{Mark}
 use Rattle.ea_machine.specs.Owners.{Returning}
-use Rattle.ea_machine.specs.Places.{IsNumber, is_there}
+use Rattle.ea_sound.specs.Places.{IsNumber, is_there}
 use Rattle.ea_machine.specs.Setup.{Setup, is_scheduler}
 use Rattle.ea_machine.specs.State.{State}
 use Rattle.ea_machine.specs.Sums.{one_if, sum_over, total, total_at}

@@ -12,9 +12,9 @@ use Rattle.ea_model.specs.Trace.{IsOperation, IsValidTrace, greatest_in, greates
 use Rattle.ea_machine.specs.declared.nodes.Node.{Node}
 use Rattle.ea_machine.specs.declared.nodes.Node.TheVariants.{Block, Carrier}
 use Rattle.ea_machine.specs.Alike.{alike_in, are_alike}
-use Rattle.ea_machine.specs.Contents.{seats}
-use Rattle.ea_machine.specs.Names.{of_mark, of_node, only}
-use Rattle.ea_machine.specs.NodePlaces.{anywhere, of_carrier_mark, of_carrier_node}
+use Rattle.ea_sound.specs.Contents.{seats}
+use Rattle.ea_sound.specs.Names.{of_mark, of_node, only}
+use Rattle.ea_sound.specs.NodePlaces.{anywhere, of_carrier_mark, of_carrier_node}
 use Rattle.ea_machine.specs.Nodes.{Mark}
 use Rattle.ea_machine.specs.Setup.{Setup}
 use Rattle.ea_machine.specs.State.{State}

@@ -17,13 +17,13 @@ use Rattle.ea_laws.specs.Kept.{own_number, IsLaidOut, Stands}
 use Rattle.ea_laws.proofs.Keeping.{pages_of_units}
 use Rattle.ea_machine.specs.declared.nodes.Node.{Node}
 use Rattle.ea_machine.specs.Actor.{Actor}
-use Rattle.ea_machine.specs.Contents.{AtHome, InHand, hand_sum, home_sum, seats, slots}
+use Rattle.ea_sound.specs.Contents.{AtHome, InHand, hand_sum, home_sum, seats, slots}
 use Rattle.ea_machine.specs.Machine.{first_actor, first_place, first_stage, instance_by, is_main, place_by, start}
-use Rattle.ea_machine.specs.Names.{allocated, of_content, of_hand, of_mark, only}
-use Rattle.ea_machine.specs.NodePlaces.{of_carrier_actor, of_carrier_hand, of_carrier_mark, of_link, of_unlinked}
+use Rattle.ea_sound.specs.Names.{allocated, of_content, of_hand, of_mark, only}
+use Rattle.ea_sound.specs.NodePlaces.{of_carrier_actor, of_carrier_hand, of_carrier_mark, of_link, of_unlinked}
 use Rattle.ea_machine.specs.Nodes.{Mark}
 use Rattle.ea_machine.specs.Owners.{Absent, Pooled, Returning, owner_of}
-use Rattle.ea_machine.specs.Ranges.{IsLaidOutAsKind}
+use Rattle.ea_sound.specs.Ranges.{IsLaidOutAsKind}
 use Rattle.ea_machine.specs.Setup.{Setup, first_page, is_scheduler, migration, setup_of}
 use Rattle.ea_machine.specs.Sums.{sum_over, total_at}
 use Rattle.ea_sound.specs.Rule.{Belongs, HasNoCarrier, Kept, Standing, blocks_of, employed_at, names_of, numbers_of, of_own, of_owner, own_numbers, placed_by, returning_at}

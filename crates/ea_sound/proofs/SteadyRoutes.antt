@@ -11,7 +11,7 @@ use Rattle.ea_laws.specs.Kept.{number_of}
 use Rattle.ea_machine.specs.declared.nodes.Node.{Node}
 use Rattle.ea_machine.specs.declared.owners.OwnerWord.{OwnerWord}
 use Rattle.ea_machine.specs.declared.owners.OwnerWord.TheVariants as word
-use Rattle.ea_machine.specs.Abandonment.{is_due}
+use Rattle.ea_model.specs.Abandonment.{is_due}
 use Rattle.ea_machine.specs.Actor.{Actor, Route, Looking, Trying, Settling, Abandoning, Sending, Clearing, Pushing, Linking}
 use Rattle.ea_machine.specs.declared.tasks.Gone.{Gone}
 use Rattle.ea_machine.specs.declared.tasks.Gone.TheVariants.{Here}
@@ -21,7 +21,7 @@ use Rattle.ea_machine.specs.Releases.{Turned, abandoned_if, after_release, after
 use Rattle.ea_machine.specs.Rows.{Answer, Done, Head, Rests, Passes, Saw, Won, Lost, Home, Got}
 use Rattle.ea_machine.specs.Setup.{Setup, migration}
 use Rattle.ea_sound.specs.Orderly.{IsOrderly}
-use Rattle.ea_sound.specs.Steady.{IsSteadyRoute}
+use Rattle.ea_sound.specs.Steady.{IsShown, IsSteadyRoute, TellsShown}
 use Rattle.ea_sound.proofs.Due.{due-in_hand, multi-found}
 use Rattle.ea_sound.proofs.Orderly.{releasing-IsOrderly}
 use Rattle.ea_sound.proofs.Unmoved.{due-unmoved}
@@ -100,31 +100,32 @@ module _ (e : Setup) (me : ℕ) where
   employed-goes false i hand g a order = (refl, refl, tt)
 
   pooled-goes : (mine : Bool) (i largest : ℕ) (hand : Named) (g : Gone) (a : Actor)
-      → (i == me) ≡ mine → Goes a.next a.passed (pooled_by mine i largest hand g a)
-  pooled-goes true i largest hand g a q =
-      (refl, refl, (largest, ap (λ j. word.Pooled j largest) (eqb-true i me q)))
-  pooled-goes false i largest hand g a q = (refl, refl, tt)
+      → (i == me) ≡ mine → IsShown e (word.Pooled i largest)
+      → Goes a.next a.passed (pooled_by mine i largest hand g a)
+  pooled-goes true i largest hand g a q shown =
+      (refl, refl, ((largest, ap (λ j. word.Pooled j largest) (eqb-true i me q)), shown))
+  pooled-goes false i largest hand g a q shown = (refl, refl, tt)
 
-  looked-goes : (hand : Named) (g : Gone) (a : Actor) (w : OwnerWord) → OrderlyIf a
+  looked-goes : (hand : Named) (g : Gone) (a : Actor) (w : OwnerWord) → OrderlyIf a → IsShown e w
       → Goes a.next a.passed (looked e me hand g a w)
-  looked-goes hand g a word.Absent order = (refl, refl, tt)
-  looked-goes hand g a (word.Employed i) order = employed-goes (i == me) i hand g a order
-  looked-goes hand g a (word.Pooled i largest) order =
-      pooled-goes (i == me) i largest hand g a refl
-  looked-goes hand g a (word.Busy i) order = (refl, refl, tt)
-  looked-goes hand g a (word.Returning i) order = (refl, refl, tt)
+  looked-goes hand g a word.Absent order shown = (refl, refl, tt)
+  looked-goes hand g a (word.Employed i) order shown = employed-goes (i == me) i hand g a order
+  looked-goes hand g a (word.Pooled i largest) order shown =
+      pooled-goes (i == me) i largest hand g a refl shown
+  looked-goes hand g a (word.Busy i) order shown = (refl, refl, tt)
+  looked-goes hand g a (word.Returning i) order shown = (refl, refl, tt)
 
-  looked_at-goes : (hand : Named) (g : Gone) (a : Actor) (r : Answer) → OrderlyIf a
+  looked_at-goes : (hand : Named) (g : Gone) (a : Actor) (r : Answer) → OrderlyIf a → TellsShown e r
       → Goes a.next a.passed (looked_at e me hand g a r)
-  looked_at-goes hand g a (Saw w) order = looked-goes hand g a w order
-  looked_at-goes hand g a Done order = (refl, refl, tt)
-  looked_at-goes hand g a (Head n) order = (refl, refl, tt)
-  looked_at-goes hand g a Rests order = (refl, refl, tt)
-  looked_at-goes hand g a (Passes n) order = (refl, refl, tt)
-  looked_at-goes hand g a (Won x) order = (refl, refl, tt)
-  looked_at-goes hand g a (Lost w) order = (refl, refl, tt)
-  looked_at-goes hand g a (Home x) order = (refl, refl, tt)
-  looked_at-goes hand g a (Got o) order = (refl, refl, tt)
+  looked_at-goes hand g a (Saw w) order shown = looked-goes hand g a w order shown
+  looked_at-goes hand g a Done order shown = (refl, refl, tt)
+  looked_at-goes hand g a (Head n) order shown = (refl, refl, tt)
+  looked_at-goes hand g a Rests order shown = (refl, refl, tt)
+  looked_at-goes hand g a (Passes n) order shown = (refl, refl, tt)
+  looked_at-goes hand g a (Won x) order shown = (refl, refl, tt)
+  looked_at-goes hand g a (Lost w) order shown = (refl, refl, tt)
+  looked_at-goes hand g a (Home x) order shown = (refl, refl, tt)
+  looked_at-goes hand g a (Got o) order shown = (refl, refl, tt)
 
   forwarded-goes : (hand : Named) (g : Gone) (a : Actor) (w : OwnerWord)
       → Goes a.next a.passed (forwarded hand g a w)
@@ -153,15 +154,16 @@ module _ (e : Setup) (me : ℕ) where
 
   -- a route once its row is answered
   pub turned-goes : (route : Route) (g : Gone) (a : Actor) (r : Answer) → OrderlyIf a
+      → TellsShown e r
       → Goes a.next a.passed (turned e me route g a r)
-  turned-goes (Looking hand) g a r order = looked_at-goes hand g a r order
-  turned-goes (Trying hand seen) g a r order = tried-goes hand g a r
-  turned-goes (Settling x) g a r order = settled-goes (is_nil x.blocks) x g a
-  turned-goes (Abandoning x) g a r order = (refl, refl, tt)
-  turned-goes (Sending x) g a r order = (refl, refl, tt)
-  turned-goes (Clearing x) g a r order = (refl, refl, tt)
-  turned-goes (Pushing node to) g a r order = (refl, refl, tt)
-  turned-goes (Linking node to) g a r order = (refl, refl, tt)
+  turned-goes (Looking hand) g a r order shown = looked_at-goes hand g a r order shown
+  turned-goes (Trying hand seen) g a r order shown = tried-goes hand g a r
+  turned-goes (Settling x) g a r order shown = settled-goes (is_nil x.blocks) x g a
+  turned-goes (Abandoning x) g a r order shown = (refl, refl, tt)
+  turned-goes (Sending x) g a r order shown = (refl, refl, tt)
+  turned-goes (Clearing x) g a r order shown = (refl, refl, tt)
+  turned-goes (Pushing node to) g a r order shown = (refl, refl, tt)
+  turned-goes (Linking node to) g a r order shown = (refl, refl, tt)
 
   owned-goes : (own : Bool) (hand : Named) (a : Actor) → OrderlyIf a
       → Goes a.next a.passed (owned_by e me own hand a)

@@ -23,7 +23,7 @@ use Rattle.ea_machine.specs.declared.tasks.Why.{Why}
 use Rattle.ea_machine.specs.declared.tasks.Why.TheVariants.{Walk, For}
 use Rattle.ea_machine.specs.declared.tasks.Gone.{Gone}
 use Rattle.ea_machine.specs.declared.asks.Ask.{Ask}
-use Rattle.ea_machine.specs.Employment.{employing}
+use Rattle.ea_model.specs.Employment.{employing}
 use Rattle.ea_machine.specs.Machine.{after, after_row, onward_at}
 use Rattle.ea_machine.specs.Nodes.{named_at}
 use Rattle.ea_machine.specs.declared.nodes.Named.{Named}
@@ -35,7 +35,7 @@ use Rattle.ea_machine.specs.Rows.{Answer, Done, Head, Rests, Passes, Saw, Won, L
 use Rattle.ea_machine.specs.Setup.{Setup, greatest_number, migration}
 use Rattle.ea_machine.specs.Tasks.{carried_by, hands_over, let_go, task_over}
 use Rattle.ea_machine.specs.Walks.{after_route, begun, passed_on, taken, with_passed, worked_off}
-use Rattle.ea_sound.specs.Steady.{IsSteady, IsSteadyStage, works_off}
+use Rattle.ea_sound.specs.Steady.{IsShown, IsSteady, IsSteadyStage, TellsShown, works_off}
 use Rattle.ea_sound.proofs.SteadyRoutes.{IsSteadyNext, OrderlyIf, route-goes, turned-goes}
 
 module _ (e : Setup) (me : ℕ) where
@@ -123,23 +123,23 @@ module _ (e : Setup) (me : ℕ) where
   seek-leaves : (ask : Ask) (a : Actor) → Leaves a.next a.passed (seek e me ask a)
   seek-leaves ask a = seek_by-leaves ask a (is_alone a.instance ask.need)
 
-  saw-leaves : (ask : Ask) (at looked : ℕ) (a : Actor) (w : OwnerWord) (fit : Bool)
+  saw-leaves : (ask : Ask) (at looked : ℕ) (a : Actor) (w : OwnerWord) (fit : Bool) → IsShown e w
       → Leaves a.next a.passed (saw_by e me ask at looked a w fit)
-  saw-leaves ask at looked a w true = (refl, refl, tt)
-  saw-leaves ask at looked a w false = search-leaves ask (at - 1) looked a
+  saw-leaves ask at looked a w true shown = (refl, refl, shown)
+  saw-leaves ask at looked a w false shown = search-leaves ask (at - 1) looked a
 
-  searched-leaves : (ask : Ask) (at looked : ℕ) (a : Actor) (r : Answer)
+  searched-leaves : (ask : Ask) (at looked : ℕ) (a : Actor) (r : Answer) → TellsShown e r
       → Leaves a.next a.passed (searched e me ask at looked a r)
-  searched-leaves ask at looked a (Saw w) =
-      saw-leaves ask at (counted w looked) a w (fits ask.need w)
-  searched-leaves ask at looked a Done = (refl, refl, tt)
-  searched-leaves ask at looked a (Head n) = (refl, refl, tt)
-  searched-leaves ask at looked a Rests = (refl, refl, tt)
-  searched-leaves ask at looked a (Passes n) = (refl, refl, tt)
-  searched-leaves ask at looked a (Won x) = (refl, refl, tt)
-  searched-leaves ask at looked a (Lost w) = (refl, refl, tt)
-  searched-leaves ask at looked a (Home x) = (refl, refl, tt)
-  searched-leaves ask at looked a (Got o) = (refl, refl, tt)
+  searched-leaves ask at looked a (Saw w) shown =
+      saw-leaves ask at (counted w looked) a w (fits ask.need w) shown
+  searched-leaves ask at looked a Done shown = (refl, refl, tt)
+  searched-leaves ask at looked a (Head n) shown = (refl, refl, tt)
+  searched-leaves ask at looked a Rests shown = (refl, refl, tt)
+  searched-leaves ask at looked a (Passes n) shown = (refl, refl, tt)
+  searched-leaves ask at looked a (Won x) shown = (refl, refl, tt)
+  searched-leaves ask at looked a (Lost w) shown = (refl, refl, tt)
+  searched-leaves ask at looked a (Home x) shown = (refl, refl, tt)
+  searched-leaves ask at looked a (Got o) shown = (refl, refl, tt)
 
   fetched-leaves : (ask : Ask) (at looked : ℕ) (a : Actor) (r : Answer)
       → Leaves a.next a.passed (fetched e me ask at looked a r)
@@ -274,23 +274,23 @@ module _ (e : Setup) (me : ℕ) where
   }
 
   -- a row, and the local work up to the next one
-  module _ (a : Actor) (r : Answer) (order : OrderlyIf e me a) where
+  module _ (a : Actor) (r : Answer) (order : OrderlyIf e me a) (shown : TellsShown e r) where
     row-steady : (stage : Stage) → a.stage ≡ stage → IsSteady e me a
         → IsSteady e me (after_row e me a r stage)
     row-steady Begin q s =
         begun-steady a r (s.walk (ap works_off q))
     row-steady (Routed route Walk gone) q s =
         let t = turned e me route gone a r in
-        walked-steady t.gone t.actor t.route (turned-goes e me route gone a r order).2
+        walked-steady t.gone t.actor t.route (turned-goes e me route gone a r order shown).2
     row-steady (Routed route (For task) gone) q s =
         let t = turned e me route gone a r in
-        let (n, p, next) = turned-goes e me route gone a r order in
+        let (n, p, next) = turned-goes e me route gone a r order shown in
         leaves-steady a (carried_by (For task) (task_over task) t.gone t.actor t.route)
         (s.walk (ap works_off q))
         (carried-leaves (For task) task t.gone a.next a.passed t.actor t.route n p next)
     row-steady (Collecting number) q s = worked-steady a.passed _
     row-steady (Searching ask at looked) q s = leaves-steady a _ (s.walk (ap works_off q))
-        (searched-leaves ask at looked a r)
+        (searched-leaves ask at looked a r shown)
     row-steady (Fetching ask at looked seen) q s = leaves-steady a _ (s.walk (ap works_off q))
         (fetched-leaves ask at looked a r)
     row-steady (Creating ask p) q s = leaves-steady a _ (s.walk (ap works_off q))
@@ -317,9 +317,9 @@ module _ (e : Setup) (me : ℕ) where
       leaves-steady a (itself e me a a.todo) (s.walk (ap works_off q)) (itself-leaves a a.todo)
 
   pub after-steady : (a : Actor) (r : Answer) (stage : Stage) → OrderlyIf e me a
-      → a.stage ≡ stage → IsSteady e me a → IsSteady e me (after e me a r stage)
+      → TellsShown e r → a.stage ≡ stage → IsSteady e me a → IsSteady e me (after e me a r stage)
   unfolding after
-  after-steady a r stage order q s =
+  after-steady a r stage order shown q s =
       let b = after_row e me a r stage in
-      let t = onward-steady b b.stage refl (row-steady a r order stage q s) in
+      let t = onward-steady b b.stage refl (row-steady a r order shown stage q s) in
       record { walk = t.walk; route = t.route }

@@ -17,13 +17,12 @@ use Rattle.ea_machine.specs.declared.tasks.Why.{Why}
 use Rattle.ea_machine.specs.declared.tasks.Why.TheVariants.{Walk}
 use Rattle.ea_machine.specs.declared.tasks.Gone.{Gone}
 use Rattle.ea_machine.specs.declared.tasks.Gone.TheVariants.{Open}
-use Rattle.ea_machine.specs.Contents.{InHand, actor_sum, hand_sum}
-use Rattle.ea_machine.specs.NamePlaces.{name_of}
-use Rattle.ea_machine.specs.Names.{made_in, of_content, of_hand, of_named, only}
-use Rattle.ea_machine.specs.NodePlaces.{of_carrier_actor, of_carrier_hand, of_link}
-use Rattle.ea_machine.specs.Nodes.{block_node, named_at}
+use Rattle.ea_sound.specs.Contents.{InHand, actor_sum, hand_sum}
+use Rattle.ea_sound.specs.Names.{made_in, of_content, of_hand, of_named, only}
+use Rattle.ea_sound.specs.NodePlaces.{of_carrier_actor, of_carrier_hand, of_link}
+use Rattle.ea_machine.specs.Nodes.{block_node, named_at, name_of}
 use Rattle.ea_machine.specs.declared.nodes.Named.{Named}
-use Rattle.ea_machine.specs.Ranges.{IsLaidOutAsKind}
+use Rattle.ea_sound.specs.Ranges.{IsLaidOutAsKind}
 use Rattle.ea_machine.specs.Setup.{Setup, is_scheduler}
 use Rattle.ea_machine.specs.Shared.{Shared}
 use Rattle.ea_machine.specs.State.{State}

@@ -15,11 +15,10 @@ use Rattle.ea_machine.specs.declared.owners.OwnerWord.TheVariants as word
 use Rattle.ea_machine.specs.Actor.{Actor, Route, Looking, Trying, Settling, Abandoning, Sending, Clearing, Pushing, Linking, Stage, Begin, Routed, Collecting, Searching, Fetching, Creating, Giving, Taking, Ended, Ready}
 use Rattle.ea_machine.specs.declared.tasks.Why.{Why}
 use Rattle.ea_machine.specs.declared.asks.Ask.{Ask}
-use Rattle.ea_machine.specs.Contents.{hand_sum, route_sum}
-use Rattle.ea_machine.specs.Entries.{Makes}
-use Rattle.ea_machine.specs.NamePlaces.{name_of}
-use Rattle.ea_machine.specs.Names.{made_in, unplaced, unplaced_by}
-use Rattle.ea_machine.specs.Nodes.{first_node, named_at}
+use Rattle.ea_sound.specs.Contents.{hand_sum, route_sum}
+use Rattle.ea_sound.specs.Entries.{Makes}
+use Rattle.ea_sound.specs.Names.{made_in, unplaced, unplaced_by}
+use Rattle.ea_machine.specs.Nodes.{first_node, named_at, name_of}
 use Rattle.ea_machine.specs.declared.nodes.Named.{Named}
 use Rattle.ea_machine.specs.Owners.{owner_of}
 use Rattle.ea_machine.specs.Releases.{Turned}

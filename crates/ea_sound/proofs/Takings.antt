@@ -24,7 +24,7 @@ use Rattle.ea_machine.specs.declared.tasks.Task.TheVariants.{Freeing, Moving}
 use Rattle.ea_machine.specs.declared.tasks.Why.TheVariants.{Walk, For}
 use Rattle.ea_machine.specs.declared.tasks.Gone.{Gone}
 use Rattle.ea_machine.specs.declared.asks.Ask.{Ask}
-use Rattle.ea_machine.specs.Employment.{employing}
+use Rattle.ea_model.specs.Employment.{employing}
 use Rattle.ea_machine.specs.Machine.{after_row, onward, onward_at, step, wants}
 use Rattle.ea_machine.specs.Nodes.{named_at}
 use Rattle.ea_machine.specs.declared.nodes.Named.{Named}
@@ -37,7 +37,7 @@ use Rattle.ea_machine.specs.Setup.{Setup, greatest_number, migration}
 use Rattle.ea_machine.specs.State.{State}
 use Rattle.ea_machine.specs.Table.{answer}
 use Rattle.ea_machine.specs.Tasks.{carried, entry_of, hands_over, let_go, logged, task_over}
-use Rattle.ea_machine.specs.Turns.{advanced}
+use Rattle.ea_sound.specs.Turns.{advanced}
 use Rattle.ea_machine.specs.Walks.{after_route, begun, passed_on, taken, with_passed, worked_off}
 use Rattle.ea_sound.specs.OwnWork.{begin_takings, later_takings, stage_takings, takings}
 use Rattle.ea_sound.proofs.ShortRoutes.{route-short, turned-short}

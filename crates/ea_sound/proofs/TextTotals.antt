@@ -4,7 +4,7 @@ use Rattle.std.specs.Prelude.{All, flat_map, count_by, cond}
 use Rattle.std.proofs.lemmas.List.Elements.{All-cons, All-head, All-nil, All-tail}
 use Rattle.ea_model.specs.declared.operations.Op.{Op}
 use Rattle.ea_model.specs.Trace.{makes, text_at}
-use Rattle.ea_machine.specs.Names.{made_in}
+use Rattle.ea_sound.specs.Names.{made_in}
 use Rattle.ea_machine.specs.Setup.{text_for}
 use Rattle.ea_machine.specs.Sums.{sum_over, total}
 use Rattle.ea_sound.proofs.Totals.{total-none}

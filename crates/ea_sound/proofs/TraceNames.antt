@@ -10,9 +10,9 @@ use Rattle.ea_model.specs.declared.trace.Trace.{Trace}
 use Rattle.ea_model.specs.Settings.{IsValidConfig}
 use Rattle.ea_model.specs.Trace.{IsOperation, IsValidTrace, greatest_in, greatest_of, makes, operations_of, texts_of}
 use Rattle.ea_machine.specs.Actor.{Actor}
-use Rattle.ea_machine.specs.Contents.{seats}
+use Rattle.ea_sound.specs.Contents.{seats}
 use Rattle.ea_machine.specs.Machine.{IsReached, first_stage, run, start}
-use Rattle.ea_machine.specs.Names.{allocated, made_in, only, to_make, unplaced}
+use Rattle.ea_sound.specs.Names.{allocated, made_in, only, to_make, unplaced}
 use Rattle.ea_machine.specs.Setup.{Setup, is_scheduler, setup_of, text_for}
 use Rattle.ea_machine.specs.State.{State}
 use Rattle.ea_machine.specs.Sums.{one_if}

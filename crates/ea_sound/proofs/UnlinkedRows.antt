@@ -3,8 +3,8 @@ use Rattle.std.proofs.Common.{◌≡◌, ◌≢◌, ℕ, zero, suc, ◌+◌, ◌
 use Rattle.std.specs.Prelude.{Bool, if◌then◌else◌, ◌==◌, ◌&&◌}
 use Rattle.ea_machine.specs.declared.nodes.Node.{Node}
 use Rattle.ea_machine.specs.Actor.{Actor}
-use Rattle.ea_machine.specs.Contents.{seats}
-use Rattle.ea_machine.specs.NodePlaces.{node_at, of_link, of_unlinked, unlinked_at}
+use Rattle.ea_sound.specs.Contents.{seats}
+use Rattle.ea_sound.specs.NodePlaces.{node_at, of_link, of_unlinked, unlinked_at}
 use Rattle.ea_machine.specs.Nodes.{Mark, link_in, same_node}
 use Rattle.ea_machine.specs.Rows.{Link}
 use Rattle.ea_machine.specs.Setup.{Setup}

@@ -1,6 +1,6 @@
 -- Where carriers don't migrate, each instance employs what it owns.
 use Rattle.std.proofs.Common.{◌≡◌, ◌≢◌, ℕ, ◌%◌, ◌≤◌, false, List, sym, ap, subst, refl, ◌∙◌, arith}
-use Rattle.std.specs.Prelude.{Ok, None, Option, Some, is_some}
+use Rattle.std.specs.Prelude.{Ok, None, Option, Some, is_some, nat_lt}
 use Rattle.ea_model.specs.declared.carriers.BlockAt.{BlockAt}
 use Rattle.ea_model.specs.declared.carriers.CarrierPlan.{CarrierPlan}
 use Rattle.ea_model.specs.declared.carriers.Spot.{Spot}
@@ -20,8 +20,8 @@ use Rattle.ea_laws.proofs.Contents.{absent-none, block_among}
 use Rattle.ea_laws.proofs.Reallocating.{resizing-Stands}
 use Rattle.ea_laws.proofs.Resized.{with_size}
 use Rattle.ea_laws.proofs.Standing.{changing-Stands, clearing-Stands, employed-multi, employed-own, planned-absent}
-use Rattle.ea_machine.specs.Abandonment.{is_due}
-use Rattle.ea_machine.specs.Employment.{dismissing, disowning}
+use Rattle.ea_model.specs.Abandonment.{is_due}
+use Rattle.ea_model.specs.Employment.{dismissing, disowning}
 use Rattle.ea_machine.specs.Owners.{owner_of}
 use Rattle.ea_machine.specs.Setup.{Setup, migration}
 use Rattle.ea_sound.proofs.KeyedWeights.{changed-missing}
@@ -34,19 +34,28 @@ pub due-unmoved : (setup : Setup) (xs : List Content) (x : Content) → migratio
     → is_due setup.settings xs x ≡ false
 due-unmoved setup xs x off = grind (arith, off)
 
-module _ (i : Instance) (st : Stands i) where
+-- its settings say so
+pub off-acul : (e : Setup) (i : Instance) → migration e ≡ false → i.settings ≡ e.settings
+    → i.settings.acul ≡ 0
+off-acul e i off same = ap (λ (s : Settings). s.acul) same ∙ none e.settings.acul off where
+  none : (n : ℕ) → nat_lt 0 n ≡ false → n ≡ 0
+  none n off = grind (arith, off)
+
+module _ (i : Instance) (st : Stands i) (off : i.settings.acul ≡ 0) where
   -- an instance owns what it employs
   pub employed-owner : (n : ℕ) (c : Content) → content_of (employed i) n ≡ Some c
       → owner_of c.number ≡ i.number
   employed-owner n c there =
       ap owner_of (item_at-key number_of n c (employed i) there)
-      ∙ own-owner i n (own_of c) st.kept (employed-own i n c st there)
+      ∙ own-owner i n (own_of c) st.kept (employed-own i n c st off there)
 
   -- a carrier that leaves it is deallocated
   pub leaving-Stands : (n : ℕ) (c : Content) → content_of (employed i) n ≡ Some c
       → Stands (disowning (dismissing i n) n)
-  leaving-Stands n c there = clearing-Stands i n c st there
+  leaving-Stands n c there =
+      clearing-Stands i n (own_of c) st (employed-own i n c st off there)
 
+module _ (i : Instance) (st : Stands i) where
   -- a planned carrier is none that it employs
   pub planned-missing : (need : ℕ) (p : CarrierPlan) → plan i need ≡ Ok p
       → content_of (employed i) p.number ≡ None

@@ -5,8 +5,8 @@ use Rattle.ea_machine.specs.Actor.{Actor, Route, Looking, Trying, Settling, Aban
 use Rattle.ea_machine.specs.declared.tasks.Why.{Why}
 use Rattle.ea_machine.specs.declared.tasks.Gone.{Gone}
 use Rattle.ea_machine.specs.declared.asks.Ask.{Ask}
-use Rattle.ea_machine.specs.Contents.{seats}
-use Rattle.ea_machine.specs.Names.{allocated, made_in, only, to_make, unplaced}
+use Rattle.ea_sound.specs.Contents.{seats}
+use Rattle.ea_sound.specs.Names.{allocated, made_in, only, to_make, unplaced}
 use Rattle.ea_machine.specs.Setup.{Setup, is_scheduler}
 use Rattle.ea_machine.specs.State.{State}
 use Rattle.ea_sound.specs.Present.{Asked, Fits, FitsRoute, OfAsk}

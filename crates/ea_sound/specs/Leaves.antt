@@ -13,8 +13,8 @@ use Rattle.ea_machine.specs.declared.tasks.Why.TheVariants.{Walk, For}
 use Rattle.ea_machine.specs.declared.tasks.Gone.{Gone}
 use Rattle.ea_machine.specs.declared.tasks.Gone.TheVariants.{Here as HereGone}
 use Rattle.ea_machine.specs.declared.asks.Ask.{Ask}
-use Rattle.ea_machine.specs.Employment.{employing}
-use Rattle.ea_machine.specs.Names.{allocated, made_in, only}
+use Rattle.ea_model.specs.Employment.{employing}
+use Rattle.ea_sound.specs.Names.{allocated, made_in, only}
 use Rattle.ea_machine.specs.Owners.{owner_of}
 use Rattle.ea_machine.specs.Placements.{holding, spot_of_place}
 use Rattle.ea_machine.specs.Releases.{disowned, first_gone}

@@ -18,16 +18,15 @@ use Rattle.ea_machine.specs.declared.tasks.Task.TheVariants.{Freeing, Moving}
 use Rattle.ea_machine.specs.declared.tasks.Why.{Why}
 use Rattle.ea_machine.specs.declared.tasks.Why.TheVariants.{Walk, For}
 use Rattle.ea_machine.specs.declared.asks.Ask.{Ask}
-use Rattle.ea_machine.specs.Entries.{LogsEach}
-use Rattle.ea_machine.specs.Names.{allocated, only, to_make}
-use Rattle.ea_machine.specs.NamePlaces.{name_of}
-use Rattle.ea_machine.specs.Nodes.{first_node, named_at}
+use Rattle.ea_sound.specs.Entries.{LogsEach}
+use Rattle.ea_sound.specs.Names.{allocated, only, to_make}
+use Rattle.ea_machine.specs.Nodes.{first_node, named_at, name_of}
 use Rattle.ea_machine.specs.declared.nodes.Named.{Named}
 use Rattle.ea_machine.specs.Owners.{CarrierAt, Absent, Employed, Pooled, Busy, Returning, owner_of, word_of}
-use Rattle.ea_machine.specs.Places.{MayStay}
+use Rattle.ea_sound.specs.Places.{MayStay}
 use Rattle.ea_machine.specs.Setup.{Setup, greatest_number, is_scheduler, migration}
 use Rattle.ea_machine.specs.Shared.{Shared}
-use Rattle.ea_machine.specs.Sound.{HasNothing}
+use Rattle.ea_sound.specs.Sound.{HasNothing}
 use Rattle.ea_machine.specs.State.{State}
 use Rattle.ea_sound.specs.Blocks.{EmploysMain}
 use Rattle.ea_sound.specs.Rule.{Kept}

@@ -13,11 +13,11 @@ use Rattle.ea_machine.specs.Owners.{owner_of, CarrierAt, Absent, Employed, Poole
 use Rattle.ea_machine.specs.Setup.{Setup, first_page, is_scheduler, migration}
 use Rattle.ea_machine.specs.State.{State}
 use Rattle.ea_machine.specs.Sums.{sum_over, total, total_at}
-use Rattle.ea_machine.specs.Contents.{AtHome, InHand, actor_sum, seats, slots, sum_everywhere}
-use Rattle.ea_machine.specs.Names.{allocated, of_content, of_hand, of_mark, of_named, of_node, only}
-use Rattle.ea_machine.specs.NodePlaces.{of_carrier_actor, of_carrier_mark, of_link, of_unlinked}
-use Rattle.ea_machine.specs.Places.{IsMultiOrOwn}
-use Rattle.ea_machine.specs.Ranges.{IsLaidOutAsKind}
+use Rattle.ea_sound.specs.Contents.{AtHome, InHand, actor_sum, seats, slots, sum_everywhere}
+use Rattle.ea_sound.specs.Names.{allocated, of_content, of_hand, of_mark, of_named, of_node, only}
+use Rattle.ea_sound.specs.NodePlaces.{of_carrier_actor, of_carrier_mark, of_link, of_unlinked}
+use Rattle.ea_sound.specs.Places.{IsMultiOrOwn}
+use Rattle.ea_sound.specs.Ranges.{IsLaidOutAsKind}
 use Rattle.ea_sound.specs.Orderly.{IsOrderly}
 
 -- the names that stand with a scheduler: held, passed by its walk, or in its hand

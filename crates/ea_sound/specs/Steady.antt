@@ -1,12 +1,15 @@
 -- What the steps of a scheduler keep of its walk and of its route, whatever the others do.
-use Rattle.std.specs.Prelude.{◌≡◌, ℕ, Bool, true, false, List, [], ◌∷◌, None}
+use Rattle.std.specs.Prelude.{◌≡◌, ℕ, ◌%◌, ◌≤◌, Bool, true, false, List, [], ◌∷◌, None}
+use Rattle.ea_model.specs.declared.units.TheConstants.{MAX_UNITS}
 use Rattle.ea_model.specs.Content.{Content}
+use Rattle.ea_machine.specs.declared.owners.OwnerWord.{OwnerWord}
 use Rattle.ea_machine.specs.declared.owners.OwnerWord.TheVariants as word
-use Rattle.ea_machine.specs.Abandonment.{is_due}
+use Rattle.ea_model.specs.Abandonment.{is_due}
 use Rattle.ea_machine.specs.Actor.{Actor, Route, Looking, Trying, Settling, Abandoning, Sending, Clearing, Pushing, Linking, Stage, Begin, Routed, Collecting, Searching, Fetching, Creating, Giving, Taking, Ended, Ready}
 use Rattle.ea_machine.specs.declared.tasks.Why.{Why}
 use Rattle.ea_machine.specs.declared.tasks.Why.TheVariants.{Walk, For}
-use Rattle.ea_machine.specs.Setup.{Setup}
+use Rattle.ea_machine.specs.Rows.{Answer, Saw}
+use Rattle.ea_machine.specs.Setup.{Setup, is_scheduler}
 use Rattle.ea_machine.specs.State.{State}
 
 -- whether a route is that of a node of the walk
@@ -27,12 +30,26 @@ works_off (Taking name tries left) = false
 works_off Ended = false
 works_off Ready = false
 
+-- the units of a largest gap that a word can show
+abbrev pub IsLargest : ℕ → Type 0
+IsLargest units = (units % 2 ≡ 0) × (units ≤ MAX_UNITS)
+
+-- a word that a look can show, by what it says of the pool
+abbrev pub IsShown : Setup → OwnerWord → Type 0
+IsShown e (word.Pooled i largest) = (is_scheduler e i ≡ true) × IsLargest largest
+IsShown e _ = Unit {0}
+
+abbrev pub TellsShown : Setup → Answer → Type 0
+TellsShown e (Saw v) = IsShown e v
+TellsShown e _ = Unit {0}
+
 module _ (e : Setup) (me : ℕ) (employs : List Content) where
-  -- the word that was seen of a carrier that is to be busy is that of an own pooled one, and a
-  -- carrier that is to be abandoned is due
+  -- the word that was seen of a carrier that is to be busy is that of an own pooled one, that of one
+  -- to be fetched was shown, and a carrier that is to be abandoned is due
   abbrev pub IsSteadyRoute : Route → Type 0
   IsSteadyRoute (Looking hand) = Unit {0}
-  IsSteadyRoute (Trying hand seen) = (largest : ℕ) × (seen ≡ word.Pooled me largest)
+  IsSteadyRoute (Trying hand seen) =
+      ((largest : ℕ) × (seen ≡ word.Pooled me largest)) × IsShown e seen
   IsSteadyRoute (Settling x) = Unit {0}
   IsSteadyRoute (Abandoning x) = is_due e.settings (x ∷ employs) x ≡ true
   IsSteadyRoute (Sending x) = Unit {0}
@@ -45,7 +62,7 @@ module _ (e : Setup) (me : ℕ) (employs : List Content) where
   IsSteadyStage (Routed route why gone) = IsSteadyRoute route
   IsSteadyStage (Collecting number) = Unit {0}
   IsSteadyStage (Searching ask at looked) = Unit {0}
-  IsSteadyStage (Fetching ask at looked seen) = Unit {0}
+  IsSteadyStage (Fetching ask at looked seen) = IsShown e seen
   IsSteadyStage (Creating ask p) = Unit {0}
   IsSteadyStage (Giving given to) = Unit {0}
   IsSteadyStage (Taking name tries left) = Unit {0}

@@ -8,7 +8,7 @@
 //! and `Leaves` what a row leaves to the local work that follows it.
 #![tactic(auto)]
 
-ghost use Rattle.ea_machine.specs.MachineLaws.{Always, Protocol};
+ghost use Rattle.ea_sound.specs.MachineLaws.{Always, Protocol};
 
 /// In each run of a valid trace under a valid configuration, after any list of steps: every moment is
 /// sound, what is printed of it adds up, no scheduler does a row that it may not do, each entry of a

@@ -12,8 +12,7 @@ use Rattle.ea_machine.specs.declared.nodes.Named.{Named}
 use Rattle.ea_machine.specs.declared.nodes.Node.{Node}
 use Rattle.ea_machine.specs.declared.nodes.Node.TheVariants.{Block, Carrier}
 use Rattle.ea_machine.specs.Alike.{IsNode, alike_in, are_alike}
-use Rattle.ea_machine.specs.NamePlaces.{name_of}
-use Rattle.ea_machine.specs.Nodes.{Mark, block_node, first_node, link_in, pushed, same_node, spot_named, with_name, without_name}
+use Rattle.ea_machine.specs.Nodes.{Mark, block_node, first_node, link_in, pushed, same_node, spot_named, with_name, without_name, name_of}
 use Rattle.ea_machine.specs.Rows.{Give, Link, Push, TakeAll, TakeLink, TakeTry}
 use Rattle.ea_machine.specs.Shared.{Shared, put}
 use Rattle.ea_machine.specs.Sums.{one_if, total}

@@ -16,8 +16,7 @@ use Rattle.ea_machine.specs.declared.nodes.Node.TheVariants.{Block}
 use Rattle.ea_machine.specs.Alike.{HasNoAlike, IsNode, alike_in}
 use Rattle.ea_machine.specs.Guards.{Guard}
 use Rattle.ea_machine.specs.Machine.{run, wants}
-use Rattle.ea_machine.specs.NamePlaces.{name_of}
-use Rattle.ea_machine.specs.Nodes.{Mark, block_node, first_node, spot_named}
+use Rattle.ea_machine.specs.Nodes.{Mark, block_node, first_node, spot_named, name_of}
 use Rattle.ea_machine.specs.Rows.{Row, Give, Link, Push, TakeAll, TakeLink, TakeTry}
 use Rattle.ea_machine.specs.Shared.{Shared}
 use Rattle.ea_machine.specs.State.{State}

@@ -16,8 +16,7 @@ use Rattle.ea_model.proofs.Rising.{item_at-All}
 use Rattle.ea_machine.specs.declared.nodes.Named.{Named}
 use Rattle.ea_machine.specs.Courses.{AreSteps}
 use Rattle.ea_machine.specs.Machine.{run}
-use Rattle.ea_machine.specs.NamePlaces.{name_of}
-use Rattle.ea_machine.specs.Nodes.{block_node}
+use Rattle.ea_machine.specs.Nodes.{block_node, name_of}
 use Rattle.ea_machine.specs.Outcome.{actors_of}
 use Rattle.ea_machine.specs.Setup.{Setup, setup_of}
 use Rattle.ea_sched.specs.Acting.{actor_of}

@@ -2,7 +2,7 @@
 ghost use Rattle.std.specs.Prelude.{◌≡◌, ℕ, ◌+◌, ◌<◌, true, false, All, IfOk, IsFalse, length, slice_index_or};
 ghost use Rattle.ea_model.specs.Settings.{IsValidConfig};
 ghost use Rattle.ea_model.specs.Trace.{IsValidTrace};
-ghost use Rattle.ea_machine.specs.MachineLaws.{Protocol};
+ghost use Rattle.ea_sound.specs.MachineLaws.{Protocol};
 ghost use Rattle.ea_machine.specs.Setup.{setup_of};
 ghost use Rattle.ea_sched.specs.Built.{is_built_run};
 ghost use Rattle.ea_table.specs.Threads.{HasEnded, IsDealt, IsFresh, IsOfRun};

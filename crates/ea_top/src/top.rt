@@ -13,7 +13,7 @@ ghost use Rattle.ea_sched.specs.Built.{is_built_run};
 ghost use Rattle.ea_trace.specs.Language as language;
 ghost use Rattle.ea_top.specs.Output.{IsOutputUnder, IsRunOutcome};
 ghost use Rattle.ea_top.specs.Answers.{GoodWords, GoodInput, IsBuiltFor, WroteText, WroteFront};
-ghost use Rattle.ea_machine.specs.MachineLaws.{Protocol};
+ghost use Rattle.ea_sound.specs.MachineLaws.{Protocol};
 ghost use Rattle.ea_top.specs.EachTrace.{ForEachTrace};
 ghost use Rattle.ea_top.specs.Whys.{IsWhy, IsReadFault, IsTextFault};
 ghost use Rattle.ea_top.specs.Faults.{Complains, status_of};

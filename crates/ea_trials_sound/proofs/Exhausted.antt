@@ -4,13 +4,13 @@ use Rattle.std.specs.Prelude.{count_by, length}
 use Rattle.ea_model.specs.declared.entries.Entry.{Entry}
 use Rattle.ea_model.specs.declared.entries.NoCarrier.{NoCarrier}
 use Rattle.ea_model.specs.Instance.{Instance, chosen_spot, plan}
-use Rattle.ea_machine.specs.Exhausted.{IsExhausted, IsFailOf, seen_since}
+use Rattle.ea_sound.specs.Exhausted.{IsExhausted, IsFailOf, seen_since}
 use Rattle.ea_machine.specs.Machine.{run}
-use Rattle.ea_machine.specs.Needs.{AsksFor}
+use Rattle.ea_sound.specs.Needs.{AsksFor}
 use Rattle.ea_machine.specs.declared.nodes.Named.{Named}
-use Rattle.ea_machine.specs.Searches.{Searched, Sight}
+use Rattle.ea_sound.specs.Searches.{Searched, Sight}
 use Rattle.ea_machine.specs.Setup.{Setup, greatest_number, migration}
-use Rattle.ea_machine.specs.Turns.{IsBegun, actor_after, begun, log_after}
+use Rattle.ea_sound.specs.Turns.{IsBegun, actor_after, begun, log_after}
 use Rattle.ea_trials_sound.proofs.Searched.{is_searched, searched}
 
 -- the pool was searched down to number 1, and no carrier can be created

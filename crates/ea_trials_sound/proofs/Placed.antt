@@ -9,14 +9,14 @@ use Rattle.ea_model.specs.Instance.{chosen_spot, creating, place_at, plan, singl
 use Rattle.ea_machine.specs.declared.owners.OwnerWord.{OwnerWord}
 use Rattle.ea_machine.specs.Actor.{Creating, Fetching}
 use Rattle.ea_machine.specs.declared.asks.Ask.{Ask}
-use Rattle.ea_machine.specs.Chosen.{ByItself, Created, Fetched, HasAsked, IsPlacement}
-use Rattle.ea_machine.specs.Employment.{employing}
+use Rattle.ea_sound.specs.Chosen.{ByItself, Created, Fetched, HasAsked, IsPlacement}
+use Rattle.ea_model.specs.Employment.{employing}
 use Rattle.ea_machine.specs.Machine.{run}
-use Rattle.ea_machine.specs.Needs.{AsksFor}
-use Rattle.ea_machine.specs.Released.{blocks_at}
+use Rattle.ea_sound.specs.Needs.{AsksFor}
+use Rattle.ea_sound.specs.Released.{blocks_at}
 use Rattle.ea_machine.specs.Rows.{Won}
 use Rattle.ea_machine.specs.Setup.{Setup, migration}
-use Rattle.ea_machine.specs.Turns.{IsBegun, actor_after, answered, begun, log_after}
+use Rattle.ea_sound.specs.Turns.{IsBegun, actor_after, answered, begun, log_after}
 
 -- the operation asked for a place in one of these turns
 pub asked : (setup : Setup) (turns before since : List ℕ) (s need : ℕ) (then now : List Entry)

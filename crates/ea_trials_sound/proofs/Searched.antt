@@ -3,7 +3,7 @@ use Rattle.std.proofs.Common.{◌≡◌, ℕ, ◌-◌, Bool, true, false, ◌==�
 use Rattle.ea_model.specs.declared.units.TheConstants.{SEARCH_LIMIT}
 use Rattle.ea_machine.specs.Owners.{same_word}
 use Rattle.ea_machine.specs.Placements.{counted, fits}
-use Rattle.ea_machine.specs.Searches.{IsNextLook, Missed, Searched, Shown, Sight}
+use Rattle.ea_sound.specs.Searches.{IsNextLook, Missed, Searched, Shown, Sight}
 
 abbrev pub is_next : ℕ → ℕ → ℕ → Bool
 is_next at looked m = (m == at) && (nat_lt 0 at && nat_lt looked SEARCH_LIMIT)

@@ -9,18 +9,18 @@ use Rattle.ea_model.specs.Content.{Content, allocated as allocated_units, free_u
 use Rattle.ea_laws.specs.Kinds.{is_shared}
 use Rattle.ea_machine.specs.declared.nodes.Node.{Node}
 use Rattle.ea_machine.specs.Actor.{Actor}
-use Rattle.ea_machine.specs.Contents.{actor_sum, seats, sum_everywhere}
-use Rattle.ea_machine.specs.Names.{allocated, only, only_at, standing, to_make}
-use Rattle.ea_machine.specs.NodePlaces.{anywhere, at_instance, before_link, carrier_nodes, is_returning, unlinked_at}
+use Rattle.ea_sound.specs.Contents.{actor_sum, seats, sum_everywhere}
+use Rattle.ea_sound.specs.Names.{allocated, only, only_at, standing, to_make}
+use Rattle.ea_sound.specs.NodePlaces.{anywhere, at_instance, before_link, carrier_nodes, is_returning, unlinked_at}
 use Rattle.ea_machine.specs.Nodes.{same_spot}
 use Rattle.ea_machine.specs.declared.nodes.Named.{Named}
 use Rattle.ea_machine.specs.Outcome.{outcome, place_of}
 use Rattle.ea_machine.specs.Owners.{CarrierAt, Absent, Employed, Pooled, Busy, Returning, owner_of}
-use Rattle.ea_machine.specs.Places.{busy_count, employed_count, has_number, is_there, owned_as, same_own}
+use Rattle.ea_sound.specs.Places.{busy_count, employed_count, has_number, is_there, owned_as, same_own}
 use Rattle.ea_machine.specs.Setup.{Setup}
 use Rattle.ea_machine.specs.State.{State}
 use Rattle.ea_machine.specs.Sums.{one_if, sum_over, total, total_at}
-use Rattle.ea_machine.specs.Units.{carrier_units, gap_units, header_units, live_units, queued_units}
+use Rattle.ea_sound.specs.Units.{carrier_units, gap_units, header_units, live_units, queued_units}
 
 -- what occurs in a run: names with the spots of their blocks, and carriers as their owners have
 -- them

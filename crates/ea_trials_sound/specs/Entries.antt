@@ -5,10 +5,10 @@ use Rattle.ea_model.specs.declared.entries.Entry.{Entry}
 use Rattle.ea_model.specs.declared.entries.NoCarrier.{NoCarrier}
 use Rattle.ea_model.specs.Words.{words}
 use Rattle.ea_machine.specs.declared.owners.OwnerWord.TheVariants as word
-use Rattle.ea_machine.specs.Chosen.{IsPlacement}
-use Rattle.ea_machine.specs.Exhausted.{IsExhausted, seen_since}
-use Rattle.ea_machine.specs.Searches.{Sight, Shown}
-use Rattle.ea_machine.specs.Turns.{log_after}
+use Rattle.ea_sound.specs.Chosen.{IsPlacement}
+use Rattle.ea_sound.specs.Exhausted.{IsExhausted, seen_since}
+use Rattle.ea_sound.specs.Searches.{Sight, Shown}
+use Rattle.ea_sound.specs.Turns.{log_after}
 use Rattle.ea_trials_moments.specs.Moments.{Moment, moment}
 use Rattle.ea_trials_moments.specs.Runs.{scheduled}
 use Rattle.ea_trials_sound.specs.Courses.{turns}

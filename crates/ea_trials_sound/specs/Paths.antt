@@ -1,9 +1,9 @@
 -- The places through which a name, and the content of a carrier, go in a run, by the counts of the
 -- items.
 use Rattle.std.specs.Prelude.{ℕ, zero, suc, Bool, true, false, ◌==◌, if◌then◌else◌, List, [], ◌∷◌, Option, map, option_map}
-use Rattle.ea_machine.specs.Contents.{home_sum, slots}
-use Rattle.ea_machine.specs.Names.{given, held, in_hands, only, queued, walked}
-use Rattle.ea_machine.specs.Places.{busy_count, employed_count, has_number}
+use Rattle.ea_sound.specs.Contents.{home_sum, slots}
+use Rattle.ea_sound.specs.Names.{given, held, in_hands, only, queued, walked}
+use Rattle.ea_sound.specs.Places.{busy_count, employed_count, has_number}
 use Rattle.ea_machine.specs.Setup.{Setup}
 use Rattle.ea_machine.specs.State.{State}
 use Rattle.ea_machine.specs.Sums.{total}

@@ -4,7 +4,7 @@ ghost use Rattle.std.specs.Prelude.{◌≡◌, ◌++◌, codes, Some, [], ◌∷
 ghost use Rattle.ea_model.specs.declared.entries.Entry.TheVariants as entry;
 ghost use Rattle.ea_model.specs.declared.entries.NoCarrier.TheVariants.{Space};
 ghost use Rattle.ea_machine.specs.declared.owners.OwnerWord.TheVariants as word;
-ghost use Rattle.ea_machine.specs.Searches.{Missed, Shown};
+ghost use Rattle.ea_sound.specs.Searches.{Missed, Shown};
 ghost use Rattle.ea_trials_moments.specs.Runs.{single_block};
 ghost use Rattle.ea_trials_sound.specs.Entries.{FindsNone, FindsPlace, absent_from, full_region, log_of, place, sights_of, two_gaps};
 ghost use Rattle.ea_trials_sound.specs.Runs.{moved_away};

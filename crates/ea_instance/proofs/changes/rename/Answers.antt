@@ -15,8 +15,8 @@ pub rename-requires : goal.rename-requires
 rename-requires c = block-there (λ b. IsSome b) c.args.carriers.now.items c.args.number
     c.args.offset c.index_mut.result.now (at c).there c.requires.block
 
-pub returns : goal.returns
-returns c =
+pub returns-clause-renamed : goal.returns-clause-renamed
+returns-clause-renamed c =
     let item = c.index_mut.result.now in
     let at = at_index c.args.carriers.now.items _ _ c.args.number item c.deref.ensures.value
     c.index_of-index.ensures.within c.index_of-index.ensures.item c.index_mut.ensures.value in

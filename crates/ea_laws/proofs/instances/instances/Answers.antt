@@ -1,3 +1,7 @@
+use Rattle.std.proofs.Common.{ap, sym, ◌∙◌}
+use Rattle.ea_model.specs.Instance.{employed, own_at, own_of}
+use Rattle.ea_model.proofs.Rising.{item_at-key}
+use Rattle.ea_laws.specs.Kept.{number_of}
 use Rattle.ea_laws.proofs.Blocks.{clearing-same, creating-same, creating_single-IsPlaced, placing-IsPlaced, releasing-gone, releasing-others}
 use Rattle.ea_laws.proofs.Keeping.{chosen-planned}
 use Rattle.ea_laws.proofs.Reallocating.{resizing-Stands, resizing-begins, resizing-others}
@@ -23,8 +27,11 @@ returns-clause-releases c = λ i spot st.
     (releasing-Stands i spot st, releasing-gone i spot, releasing-others i spot)
 
 pub returns-clause-clears : goal.returns-clause-clears
-returns-clause-clears c = λ i number x st there vacant.
-    (clearing-Stands i number x st there, clearing-same i number x st there vacant)
+returns-clause-clears c = λ i number x st there own vacant. (
+  clearing-Stands i number (own_of x) st (ap (own_at i.own)
+      (sym (item_at-key number_of number x (employed i) there)) ∙ own),
+  clearing-same i number x st there vacant,
+)
 
 pub returns-clause-creates : goal.returns-clause-creates
 returns-clause-creates c = λ i need p st asked. (

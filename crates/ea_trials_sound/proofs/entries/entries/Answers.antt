@@ -11,10 +11,10 @@ use Rattle.ea_trials_sound.specs.Entries.{absent_from, full_region, place}
 use Rattle.ea_trials_sound.proofs.Placed.{asked, created-placement, fetched-placement, single-placement}
 use Rattle.ea_trials_sound.proofs.Setups.{full_instance, full_setup, moving_setup, under-setup}
 use Rattle.ea_trials_sound.proofs.Exhausted.{exhausted}
-use Rattle.ea_machine.specs.Exhausted.{IsExhausted}
-use Rattle.ea_machine.specs.Searches.{Missed, Shown}
+use Rattle.ea_sound.specs.Exhausted.{IsExhausted}
+use Rattle.ea_sound.specs.Searches.{Missed, Shown}
 use Rattle.ea_trials_sound.specs.Runs.{moved_away, named_in}
-use Rattle.ea_machine.specs.Chosen.{IsPlacement}
+use Rattle.ea_sound.specs.Chosen.{IsPlacement}
 use Rattle.ea_trials_sound.proofs.entries.entries.Goals as goal
 
 pub returns-clause-sights : goal.returns-clause-sights

@@ -94,6 +94,7 @@ invariant_of-self-2 c =
           c.in_ok-enter.ensures.ok
           (c.note_entered.ensures.entered _
           (c.make_room.ensures.held _ c.self.invariant.listed.gaps)));
+      room = omega (arith, c.self.invariant.room, c.in_ok-enter.ensures.capacity);
       counted =
           c.with_carrier-self-inside.ensures
           ∙ ap (with_carrier c.units-units.result) c.self.invariant.counted

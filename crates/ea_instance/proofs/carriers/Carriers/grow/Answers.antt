@@ -41,6 +41,7 @@ invariant_of-self c =
           c.note_placed.ensures.some
           (cut-noted _ _ _ _ _ cut c.self.inside.bins c.self.invariant.listed.gaps
           c.note_placed.new.bins c.note_placed.ensures.cut);
+      room = omega (arith, c.self.invariant.room, c.grow-block.ensures.capacity);
       counted =
           resized-counted c.args.number c.args.offset units c.args.name _ _ _ laid w
           _ _ c.self.invariant.counted c.with_size-self-inside.ensures;

@@ -40,6 +40,7 @@ invariant_of-self-2 c =
           w.largest c.update.ensures.updated c.note_placed.ensures.some
           (cut-noted _ _ _ _ _ cut c.self.inside.bins c.self.invariant.listed.gaps
           c.note_placed.new.bins c.note_placed.ensures.cut);
+      room = omega (arith, c.self.invariant.room, c.in_ok-placed.ensures.capacity);
       counted =
           c.with_block-self-inside.ensures
           ∙ ap (with_block c.in_ok-placed.placed.size) c.self.invariant.counted

@@ -1,4 +1,4 @@
-use Rattle.std.proofs.Common.{◌∙◌, ap, sym, subst, refl}
+use Rattle.std.proofs.Common.{arith, ◌∙◌, ap, sym, subst, refl}
 use Rattle.ea_model.specs.Content.{released}
 use Rattle.ea_model.specs.Instance.{content_of, figures}
 use Rattle.ea_model.proofs.Rising.{changed-found}
@@ -51,6 +51,7 @@ invariant_of-self-2 c =
           (join-noted _ _ _ _ _ _ join c.make_room.new.bins
           (c.make_room.ensures.held _ c.self.invariant.listed.gaps) c.note_released.new.bins
           c.note_released.ensures.joined);
+      room = omega (arith, c.self.invariant.room, c.in_ok-joined.ensures.capacity);
       counted =
           cancel-block c.in_ok-joined.joined.block.size _ _
           (c.without_block-self-inside.ensures ∙ c.self.invariant.counted

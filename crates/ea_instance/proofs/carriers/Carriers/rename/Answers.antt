@@ -1,4 +1,4 @@
-use Rattle.std.proofs.Common.{ap, sym, subst, ◌∙◌}
+use Rattle.std.proofs.Common.{arith, ap, sym, subst, ◌∙◌}
 use Rattle.std.specs.Prelude.{IsSome}
 use Rattle.ea_model.specs.Instance.{block_in, figures}
 use Rattle.ea_instance.specs.Changes.{AreLaid}
@@ -12,7 +12,7 @@ pub invariant_of-self : goal.invariant_of-self
 invariant_of-self c =
     let number = c.args.number in
     let offset = c.args.offset in
-    let w = c.rename.ensures in
+    let w = c.rename.ensures.renamed in
     let laid = subst (λ (l : CarrierList). AreLaid l.contents) (sym c.self.view_is)
     c.requires.laid in
     let block = block-there (λ b. IsSome b) _ number offset w.content w.there
@@ -23,6 +23,7 @@ invariant_of-self c =
     record {
       listed = renaming-IsListed number offset c.args.name _ _ _ _ _ laid w
           c.self.invariant.listed;
+      room = omega (arith, c.self.invariant.room, c.rename.ensures.capacity);
       counted =
           c.self.invariant.counted
           ∙ sym (ap figures w.is

@@ -40,6 +40,7 @@ invariant_of-self-2 c =
           (join-noted _ _ _ _ _ _ join c.make_room.new.bins
           (c.make_room.ensures.held _ c.self.invariant.listed.gaps) c.note_released.new.bins
           c.note_released.ensures.joined);
+      room = omega (arith, c.self.invariant.room, c.shrink-block.ensures.capacity);
       counted =
           resized-counted c.args.number c.args.offset (λ m. c.args.need) c.args.name _ _ _ laid w
           _ _ c.self.invariant.counted c.with_size-self-inside.ensures;

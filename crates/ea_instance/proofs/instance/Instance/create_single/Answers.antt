@@ -1,8 +1,8 @@
-use Rattle.std.proofs.Common.{◌≡◌, false, arith, sym, ap, ◌∙◌, subst}
+use Rattle.std.proofs.Common.{◌≡◌, false, sym, ap, ◌∙◌, subst}
 use Rattle.ea_model.specs.Content.{Content}
 use Rattle.ea_model.specs.Instance.{Instance, created_single, employed, has_content, single_place, with_content}
 use Rattle.ea_laws.specs.Spots.{IsPlaced}
-use Rattle.ea_instance.proofs.Keeping.{blocks-single, few-employed, few-own, kept-single-created, new-single, pages-most, seen-single-created, unused-number}
+use Rattle.ea_instance.proofs.Keeping.{blocks-single, few-alone, few-own, kept-single-created, new-single, pages-most, seen-single-created, unused-number}
 use Rattle.ea_instance.proofs.instance.Instance.create_single.Goals as goal
 
 pub new-requires-clause-pages : goal.new-requires-clause-pages
@@ -12,11 +12,9 @@ new-requires-clause-pages c =
 
 pub enter-requires-clause-room : goal.enter-requires-clause-room
 enter-requires-clause-room c =
-    omega (
-      arith,
-      few-employed _ _ c.self.inside.own c.self.inside.carriers c.self.inside.singles
-          c.self.inside.created c.self.invariant c.args.need c.args.plan _ c.self.view_is c.requires.plan,
-    )
+    few-alone _ _ c.self.inside.own c.self.inside.carriers c.self.inside.singles
+    c.self.inside.created c.self.invariant c.args.need c.args.plan _ c.self.view_is c.requires.plan
+    c.requires.least c.requires.even
 
 pub enter-requires-clause-number : goal.enter-requires-clause-number
 enter-requires-clause-number c =

@@ -1,4 +1,4 @@
-use Rattle.std.proofs.Common.{◌≡◌, arith, rules, sym, subst}
+use Rattle.std.proofs.Common.{◌≡◌, rules, sym, subst}
 use Rattle.ea_model.specs.Instance.{new_instance}
 use Rattle.ea_laws.specs.Kept.{Stands}
 use Rattle.ea_laws.proofs.Standing.{new-Stands}
@@ -15,5 +15,5 @@ invariant_of-result c =
     keeping _ _ _ _ _ _ (search rules)
     (subst Stands (sym is)
     (new-Stands s c.args.number c.args.first c.args.pages c.requires.valid
-    (c.requires.number.0, omega (arith, c.requires.number.1, c.requires.schedulers))
+    c.requires.number
     c.requires.region c.requires.main))

@@ -1,6 +1,6 @@
 use Rattle.std.proofs.Common.{arith, ◌∙◌, ap}
 use Rattle.ea_model.specs.Instance.{content_of, has_content}
-use Rattle.ea_instance.proofs.Keeping.{is-none, kept-few}
+use Rattle.ea_instance.proofs.Keeping.{is-none, kept-few_alone}
 use Rattle.ea_instance.proofs.Reallocating.{block-header, fewer-own, fewer-then, fits-single, fits-then, in-place, kept-less, kept-single, seen-less, seen-single, there-own, there-then}
 use Rattle.ea_instance.proofs.instance.Instance.resize_single.Goals as goal
 
@@ -8,7 +8,7 @@ pub resize-requires-clause-few : goal.resize-requires-clause-few
 resize-requires-clause-few c =
     omega (
       arith,
-      kept-few _ _ c.self.inside.own c.self.inside.carriers c.self.inside.singles
+      kept-few_alone _ _ c.self.inside.own c.self.inside.carriers c.self.inside.singles
           c.self.inside.created c.self.invariant,
     )
 
@@ -94,7 +94,7 @@ resize-requires-in_default c =
       laid = c.self.invariant.stands.alone;
       few = omega (
         arith,
-        kept-few _ _ c.self.inside.own c.self.inside.carriers c.self.inside.singles
+        kept-few_alone _ _ c.self.inside.own c.self.inside.carriers c.self.inside.singles
             c.self.inside.created c.self.invariant,
       );
       block = block-header _ _ c.self.inside.own c.self.inside.carriers c.self.inside.singles c.self.inside.created

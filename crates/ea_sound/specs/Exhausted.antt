@@ -8,9 +8,9 @@ use Rattle.ea_model.specs.declared.operations.Op.TheVariants as op
 use Rattle.ea_model.specs.Instance.{chosen_spot, plan}
 use Rattle.ea_machine.specs.Setup.{Setup}
 use Rattle.ea_machine.specs.Machine.{run}
-use Rattle.ea_machine.specs.Turns.{IsBegun, actor_after, begun, log_after}
-use Rattle.ea_machine.specs.Needs.{AsksFor}
-use Rattle.ea_machine.specs.Searches.{IsSought, IsUnsought, Sight, sights}
+use Rattle.ea_sound.specs.Turns.{IsBegun, actor_after, begun, log_after}
+use Rattle.ea_sound.specs.Needs.{AsksFor}
+use Rattle.ea_sound.specs.Searches.{IsSought, IsUnsought, Sight, sights}
 
 -- what scheduler s saw along the steps `since`, after the steps `before` and one of its own
 abbrev pub seen_since : Setup → List ℕ → ℕ → List ℕ → List Sight

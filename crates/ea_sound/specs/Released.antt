@@ -9,8 +9,8 @@ use Rattle.ea_machine.specs.Setup.{Setup}
 use Rattle.ea_machine.specs.State.{State}
 use Rattle.ea_machine.specs.Machine.{run, step}
 use Rattle.ea_machine.specs.Sums.{one_if, sum_over}
-use Rattle.ea_machine.specs.Contents.{sum_everywhere}
-use Rattle.ea_machine.specs.Names.{allocated, only}
+use Rattle.ea_sound.specs.Contents.{sum_everywhere}
+use Rattle.ea_sound.specs.Names.{allocated, only}
 
 -- how many blocks have the name
 abbrev pub blocks_named : Setup → ℕ → State → ℕ

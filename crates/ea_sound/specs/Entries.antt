@@ -15,11 +15,11 @@ use Rattle.ea_machine.specs.Actor.{Actor}
 use Rattle.ea_machine.specs.State.{State}
 use Rattle.ea_machine.specs.Machine.{run}
 use Rattle.ea_machine.specs.Statistics.{employed_multis, employed_singles}
-use Rattle.ea_machine.specs.Turns.{IsBegun, actor_after, begun, log_after}
-use Rattle.ea_machine.specs.Chosen.{IsPlacement, IsResized}
-use Rattle.ea_machine.specs.Exhausted.{IsExhausted}
-use Rattle.ea_machine.specs.Released.{HasNoBlock}
-use Rattle.ea_machine.specs.HandedOver.{HasTried, IsGiven, IsQueued, IsTaken}
+use Rattle.ea_sound.specs.Turns.{IsBegun, actor_after, begun, log_after}
+use Rattle.ea_sound.specs.Chosen.{IsPlacement, IsResized}
+use Rattle.ea_sound.specs.Exhausted.{IsExhausted}
+use Rattle.ea_sound.specs.Released.{HasNoBlock}
+use Rattle.ea_sound.specs.HandedOver.{HasTried, IsGiven, IsQueued, IsTaken}
 
 -- an operation makes an entry of its own kind, with its own names and numbers
 abbrev pub Makes : Op → Entry → Type 0

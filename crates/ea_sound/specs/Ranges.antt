@@ -5,7 +5,7 @@ use Rattle.ea_model.specs.Trace.{IsScheduler}
 use Rattle.ea_laws.specs.Kept.{ContentsApart, IsKept, IsLaidOut, IsLaidOutAlone}
 use Rattle.ea_machine.specs.Setup.{Setup, first_page}
 use Rattle.ea_machine.specs.State.{State}
-use Rattle.ea_machine.specs.Contents.{AtHome, Everywhere, InHand}
+use Rattle.ea_sound.specs.Contents.{AtHome, Everywhere, InHand}
 
 -- a content may have many blocks, or is that of a singleblock carrier; its blocks lie in order
 abbrev pub IsLaidOutAsKind : Content → Type 0

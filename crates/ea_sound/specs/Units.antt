@@ -6,8 +6,8 @@ use Rattle.ea_model.specs.Content.{Content, block_at, free_units, gaps_of, size_
 use Rattle.ea_machine.specs.Setup.{Setup}
 use Rattle.ea_machine.specs.State.{State}
 use Rattle.ea_machine.specs.Outcome.{outcome}
-use Rattle.ea_machine.specs.Contents.{sum_everywhere}
-use Rattle.ea_machine.specs.Names.{given, held, in_hands, queued, walked}
+use Rattle.ea_sound.specs.Contents.{sum_everywhere}
+use Rattle.ea_sound.specs.Names.{given, held, in_hands, queued, walked}
 
 -- the units of the block at a spot, if that is in the content, or 0
 abbrev pub size_in : Spot → Content → ℕ

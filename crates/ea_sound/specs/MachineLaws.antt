@@ -10,14 +10,14 @@ use Rattle.ea_machine.specs.Actor.{Ended}
 use Rattle.ea_machine.specs.State.{State}
 use Rattle.ea_machine.specs.Machine.{run}
 use Rattle.ea_machine.specs.Completion.{complete}
-use Rattle.ea_machine.specs.Units.{PrintsSums}
-use Rattle.ea_machine.specs.Sound.{Sound}
-use Rattle.ea_machine.specs.Released.{FailedHaveNone, KeepsPlaces, ReleasesOnce, StaysGone}
-use Rattle.ea_machine.specs.Exhausted.{FailsIfExhausted}
-use Rattle.ea_machine.specs.Entries.{EntersOne, LogsEach, SkipsUnheld}
-use Rattle.ea_machine.specs.Fetches.{FetchesFit}
-use Rattle.ea_machine.specs.Guarded.{IsGuarded}
-use Rattle.ea_machine.specs.Heard.{HearsNoOther}
+use Rattle.ea_sound.specs.Units.{PrintsSums}
+use Rattle.ea_sound.specs.Sound.{Sound}
+use Rattle.ea_sound.specs.Released.{FailedHaveNone, KeepsPlaces, ReleasesOnce, StaysGone}
+use Rattle.ea_sound.specs.Exhausted.{FailsIfExhausted}
+use Rattle.ea_sound.specs.Entries.{EntersOne, LogsEach, SkipsUnheld}
+use Rattle.ea_sound.specs.Fetches.{FetchesFit}
+use Rattle.ea_sound.specs.Guarded.{IsGuarded}
+use Rattle.ea_sound.specs.Heard.{HearsNoOther}
 
 -- it holds at each moment: after any list of steps
 abbrev pub AtEachMoment : (Setup → State → Type 0) → Setup → Type 0

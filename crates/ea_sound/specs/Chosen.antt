@@ -15,11 +15,11 @@ use Rattle.ea_machine.specs.Actor.{Creating, Fetching}
 use Rattle.ea_machine.specs.declared.asks.Ask.{Ask}
 use Rattle.ea_machine.specs.State.{State}
 use Rattle.ea_machine.specs.Rows.{Won}
-use Rattle.ea_machine.specs.Employment.{employing}
+use Rattle.ea_model.specs.Employment.{employing}
 use Rattle.ea_machine.specs.Machine.{run}
-use Rattle.ea_machine.specs.Released.{LiesAt}
-use Rattle.ea_machine.specs.Turns.{IsBegun, advanced, answered, begun, log_after}
-use Rattle.ea_machine.specs.Needs.{AsksFor, HasNeed}
+use Rattle.ea_sound.specs.Released.{LiesAt}
+use Rattle.ea_sound.specs.Turns.{IsBegun, advanced, answered, begun, log_after}
+use Rattle.ea_sound.specs.Needs.{AsksFor, HasNeed}
 
 -- the carrier that is created for a block of this need, in a step of s: with migration on in a step of
 -- its own, from the plan that was made for it; with migration off in the step in which the begin of

@@ -13,8 +13,8 @@ use Rattle.ea_machine.specs.declared.tasks.Gone.{Gone}
 use Rattle.ea_machine.specs.State.{State}
 use Rattle.ea_machine.specs.Rows.{Lost, Saw}
 use Rattle.ea_machine.specs.Sums.{sum_over}
-use Rattle.ea_machine.specs.Names.{allocated, of_hand, of_node, only_at}
-use Rattle.ea_machine.specs.Turns.{answered}
+use Rattle.ea_sound.specs.Names.{allocated, of_hand, of_node, only_at}
+use Rattle.ea_sound.specs.Turns.{answered}
 
 -- the owner word names an employer of the carrier, for which it isn't busy if that is me
 abbrev pub NamesEmployer : ℕ → OwnerWord → Type 0

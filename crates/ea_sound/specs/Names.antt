@@ -18,7 +18,7 @@ use Rattle.ea_machine.specs.declared.tasks.Why.TheVariants.{Walk, For}
 use Rattle.ea_machine.specs.State.{State}
 use Rattle.ea_machine.specs.Tasks.{later}
 use Rattle.ea_machine.specs.Sums.{one_if, sum_over, total}
-use Rattle.ea_machine.specs.Contents.{seats, sum_everywhere}
+use Rattle.ea_sound.specs.Contents.{seats, sum_everywhere}
 
 -- of a held or given name
 abbrev pub of_named : (ℕ → Spot → ℕ) → Named → ℕ

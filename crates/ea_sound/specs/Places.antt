@@ -11,7 +11,7 @@ use Rattle.ea_machine.specs.Setup.{Setup, greatest_number, migration}
 use Rattle.ea_machine.specs.State.{State}
 use Rattle.ea_machine.specs.Outcome.{place_of}
 use Rattle.ea_machine.specs.Sums.{one_if, sum_over}
-use Rattle.ea_machine.specs.Contents.{AtHome, InHand, actor_sum, sum_everywhere}
+use Rattle.ea_sound.specs.Contents.{AtHome, InHand, actor_sum, sum_everywhere}
 
 -- one of the carrier numbers
 abbrev pub IsNumber : Setup → ℕ → Type 0

@@ -9,7 +9,7 @@ use Rattle.ea_machine.specs.Nodes.{block_node, named_at, pushed, spot_named}
 use Rattle.ea_machine.specs.Owners.{owner_of}
 use Rattle.ea_machine.specs.Setup.{Setup, migration}
 use Rattle.ea_machine.specs.Machine.{run}
-use Rattle.ea_machine.specs.Turns.{IsBegun, actor_after, begun, log_after}
+use Rattle.ea_sound.specs.Turns.{IsBegun, actor_after, begun, log_after}
 
 -- s held the name just before its step after the steps `turns`; after this step the name is given,
 -- with the spot that it had, and s holds it no longer

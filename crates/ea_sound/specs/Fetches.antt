@@ -9,9 +9,9 @@ use Rattle.ea_machine.specs.Actor.{Fetching}
 use Rattle.ea_machine.specs.declared.asks.Ask.{Ask}
 use Rattle.ea_machine.specs.State.{State}
 use Rattle.ea_machine.specs.Rows.{Won}
-use Rattle.ea_machine.specs.Employment.{employing}
+use Rattle.ea_model.specs.Employment.{employing}
 use Rattle.ea_machine.specs.Placements.{placed_at}
-use Rattle.ea_machine.specs.Turns.{advanced, answered}
+use Rattle.ea_sound.specs.Turns.{advanced, answered}
 
 -- the instance of s with the carrier that it fetched
 abbrev pub with_fetched : State → ℕ → Content → Instance

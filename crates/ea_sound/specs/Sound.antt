@@ -4,11 +4,11 @@ use Rattle.ea_model.specs.Trace.{IsScheduler}
 use Rattle.ea_machine.specs.Setup.{Setup, first_page}
 use Rattle.ea_machine.specs.Actor.{Actor, Ended}
 use Rattle.ea_machine.specs.State.{State}
-use Rattle.ea_machine.specs.Ranges.{LaysOut}
-use Rattle.ea_machine.specs.Places.{PlacesCarriers, RecordsGaps}
-use Rattle.ea_machine.specs.NamePlaces.{PlacesNames}
-use Rattle.ea_machine.specs.Units.{SumsUnits}
-use Rattle.ea_machine.specs.NodePlaces.{LinksNodes, ReturnsCarriers}
+use Rattle.ea_sound.specs.Ranges.{LaysOut}
+use Rattle.ea_sound.specs.Places.{PlacesCarriers, RecordsGaps}
+use Rattle.ea_sound.specs.NamePlaces.{PlacesNames}
+use Rattle.ea_sound.specs.Units.{SumsUnits}
+use Rattle.ea_sound.specs.NodePlaces.{LinksNodes, ReturnsCarriers}
 
 -- an instance has the settings of the run, its number and its region
 pub record IsInstanceOf (setup : Setup) (i : ℕ) (a : Actor) : Type 0 where

@@ -3,12 +3,10 @@ use Rattle.std.specs.Prelude.{◌≡◌, ℕ, ◌+◌, ◌≤◌, AllPairs}
 use Rattle.ea_model.specs.declared.carriers.Spot.{Spot}
 use Rattle.ea_model.specs.Keyed.{IsBelow}
 use Rattle.ea_machine.specs.declared.nodes.Named.{Named}
+use Rattle.ea_machine.specs.Nodes.{name_of}
 use Rattle.ea_machine.specs.Setup.{Setup}
 use Rattle.ea_machine.specs.State.{State}
-use Rattle.ea_machine.specs.Names.{allocated, only, only_at, standing, to_make}
-
-abbrev pub name_of : Named → ℕ
-name_of x = x.name
+use Rattle.ea_sound.specs.Names.{allocated, only, only_at, standing, to_make}
 
 -- a name stands in one place at most: a scheduler holds it, or it is given away, in a queue, in a
 -- walk or in a hand; and while an operation is still to make it, it stands nowhere. The names that

@@ -9,7 +9,7 @@ use Rattle.ea_machine.specs.State.{State}
 use Rattle.ea_machine.specs.Rows.{Answer, Lost, Saw}
 use Rattle.ea_machine.specs.Placements.{counted, fits}
 use Rattle.ea_machine.specs.Machine.{step}
-use Rattle.ea_machine.specs.Turns.{answered}
+use Rattle.ea_sound.specs.Turns.{answered}
 
 -- the owner word of a number was seen, or the try to fetch the carrier was lost, and another word was
 -- there

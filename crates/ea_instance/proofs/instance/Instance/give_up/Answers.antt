@@ -1,0 +1,36 @@
+use Rattle.std.proofs.Common.{◌≡◌, ap, ◌∙◌, sym, subst, []}
+use Rattle.std.specs.Prelude.{IfSome, Some}
+use Rattle.ea_model.specs.declared.carriers.Kind.TheVariants.{Multi}
+use Rattle.ea_model.specs.Content.{Content}
+use Rattle.ea_model.specs.Instance.{Instance, content_of}
+use Rattle.ea_instance.proofs.Keeping.{found-multi, kept-dismissed, seen-dismissed}
+use Rattle.ea_instance.proofs.Migrating.{stays-acul}
+use Rattle.ea_instance.proofs.instance.Instance.give_up.Goals as goal
+
+pub leave-requires-clause-bins : goal.leave-requires-clause-bins
+leave-requires-clause-bins c = λ gf.
+    subst (λ (i : Instance). IfSome (content_of i.contents c.args.number) (λ (x : Content). x.blocks ≡ []))
+    (sym c.self.view_is)
+    (c.requires.empty (ap (λ (i : Instance). i.settings.acul) (sym c.self.view_is)
+    ∙ stays-acul c.self.inside.settings c.self.invariant.stands.kept.valid
+    (sym c.self.invariant.strategy ∙ gf)))
+
+pub invariant_of-self : goal.invariant_of-self
+invariant_of-self c = kept-dismissed _ _ c.self.inside.own c.self.inside.carriers
+    c.self.inside.singles c.self.inside.created c.self.invariant c.args.number c.leave.result
+    c.leave.ensures.carrier _ c.leave.ensures.rest
+
+pub into_multi-requires : goal.into_multi-requires
+into_multi-requires c = subst (λ o. IfSome o (λ (x : Content). x.kind ≡ Multi))
+    (ap (λ (i : Instance). content_of i.contents c.args.number) (sym c.self.view_is)
+    ∙ c.leave.ensures.carrier) c.requires.multi
+
+pub returns-clause-carrier : goal.returns-clause-carrier
+returns-clause-carrier c = found-multi _ _ c.self.inside.own c.self.inside.carriers
+    c.self.inside.singles c.self.inside.created c.self.invariant _ c.self.view_is c.args.number
+    c.leave.result c.leave.ensures.carrier ∙ ap Some (sym c.into_multi.ensures)
+
+pub returns-clause-rest : goal.returns-clause-rest
+returns-clause-rest c = seen-dismissed _ _ c.self.inside.own c.self.inside.carriers
+    c.self.inside.singles c.self.inside.created c.self.invariant c.args.number c.leave.result
+    c.leave.ensures.carrier _ c.leave.ensures.rest _ c.self.view_is
