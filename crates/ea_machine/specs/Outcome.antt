@@ -7,11 +7,10 @@ use Rattle.ea_model.specs.declared.carriers.Totals.{Totals}
 use Rattle.ea_model.specs.declared.carriers.Standing.{Standing}
 use Rattle.ea_model.specs.declared.carriers.Standing.TheVariants as standing
 use Rattle.ea_model.specs.declared.outcome.Outcome.{Outcome}
-use Rattle.ea_model.specs.declared.trace.Mode.{Mode}
 use Rattle.ea_model.specs.declared.trace.Trace.{Trace}
 use Rattle.ea_model.specs.declared.settings.Config.{Config}
 use Rattle.ea_model.specs.Content.{Content, size_of}
-use Rattle.ea_model.specs.Trace.{listed, plain_mode}
+use Rattle.ea_model.specs.Trace.{listed}
 use Rattle.ea_model.specs.Instance.{block_in, carrier_line, content_of, is_used, totals}
 use Rattle.ea_machine.specs.declared.nodes.Node.{Node}
 use Rattle.ea_machine.specs.declared.nodes.Node.TheVariants.{Block, Carrier}
@@ -134,15 +133,14 @@ module _ (setup : Setup) (w : State) where
     queued = units_at xs queued_spots;
   }
 
-  -- what is printed of the state, for a trace of that mode
-  abbrev pub outcome : Mode → Outcome
-  outcome mode = record {
+  -- what is printed of the state
+  abbrev pub outcome : Outcome
+  outcome = record {
     logs = listed (map (λ a. listed a.log) actors_of);
     carriers = listed (map line_of present);
     totals = totals_of (map (λ p. p.content) present);
-    mode = mode;
   }
 
 -- what is printed of the run of a trace that has a schedule or is generated
 abbrev pub outcome_of : Config → Trace → Outcome
-outcome_of c t = outcome (setup_of c t) (end_of (setup_of c t) t.mode) (plain_mode t.mode)
+outcome_of c t = outcome (setup_of c t) (end_of (setup_of c t) t.mode)

@@ -2,7 +2,7 @@
 use Rattle.std.specs.Prelude.{List, map}
 use Rattle.ea_model.specs.declared.entries.Entry.{Entry}
 use Rattle.ea_model.specs.declared.outcome.Outcome.{Outcome}
-use Rattle.ea_model.specs.Trace.{listed, plain_mode}
+use Rattle.ea_model.specs.Trace.{listed}
 
 -- the logs, scheduler 1's first
 abbrev pub logs_of : Outcome → List (List Entry)
@@ -14,5 +14,4 @@ plain_outcome o = record {
   logs = listed (map listed (logs_of o));
   carriers = listed o.carriers.items;
   totals = o.totals;
-  mode = plain_mode o.mode;
 }

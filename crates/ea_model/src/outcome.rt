@@ -3,7 +3,6 @@
 use crate::carriers::{CarrierLine, Totals};
 use crate::entries::Entry;
 use crate::lists::List;
-use crate::trace::Mode;
 
 /// What is printed of a run.
 #[derive(Drop)]
@@ -13,6 +12,4 @@ pub struct Outcome {
     /// The carriers that are there at the end, by rising number.
     pub carriers: List<CarrierLine>,
     pub totals: Totals,
-    /// The mode of the trace, by which the logs are printed whole or counted.
-    pub mode: Mode,
 }

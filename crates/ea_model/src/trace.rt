@@ -1,11 +1,8 @@
 //! A trace: what each scheduler is to do, and whose turn it is.
-ghost use Rattle.std.specs.Prelude.{◌≡◌, IfOk};
-ghost use Rattle.ea_model.specs.Trace.{plain_mode};
 
-use crate::lists::{List, OutOfMemory};
+use crate::lists::List;
 use crate::operations::Op;
 use crate::settings::Letter;
-use std::alloc::Global;
 
 /// Turns of one scheduler in a row.
 #[derive(Debug, Clone, Copy, PartialEq, Eq)]
@@ -27,26 +24,6 @@ pub enum Mode {
     /// Each scheduler has `count` operations, which follow from the seed and its number. The seed
     /// is 0 to 2147483647.
     Generated { seed: u32, count: u32 },
-}
-
-impl Mode {
-    /// The same mode once more.
-    pub fn copy(&self, alloc: Global) -> Result<Mode, OutOfMemory>
-        ensures { IfOk result (λ mode. plain_mode mode ≡ plain_mode self.now) }
-    {
-        match self {
-            Mode::Threads => Ok(Mode::Threads),
-            Mode::Schedule { turns } => {
-                let mut copies = List::new(alloc);
-                copies.extend_from_slice(turns.as_slice())?;
-                Ok(Mode::Schedule { turns: copies })
-            }
-            Mode::Generated { seed, count } => Ok(Mode::Generated {
-                seed: *seed,
-                count: *count,
-            }),
-        }
-    }
 }
 
 /// What the schedulers are to do.

@@ -3,7 +3,7 @@ use crate::carriers::put_carrier;
 use crate::entries::put_entry;
 use crate::print;
 use ea_model::{
-    CarrierLine, Entry, Kind, List, Mode, NoCarrier, OutOfMemory, Outcome, Place, Report, Standing,
+    CarrierLine, Entry, Kind, List, NoCarrier, OutOfMemory, Outcome, Place, Report, Standing,
     Totals, Triple,
 };
 use std::alloc::Global;
@@ -203,7 +203,6 @@ fn outcome(
             free: 16_334,
             header: 8,
         },
-        mode: Mode::Threads,
     };
     for log in logs {
         let mut entries = List::new(alloc);

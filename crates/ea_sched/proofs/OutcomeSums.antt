@@ -12,7 +12,6 @@ use Rattle.ea_model.specs.declared.carriers.Totals.{Totals}
 use Rattle.ea_model.specs.declared.entries.Entry.{Entry}
 use Rattle.ea_model.specs.declared.outcome.Outcome.{Outcome}
 use Rattle.ea_model.specs.declared.settings.Config.{Config}
-use Rattle.ea_model.specs.declared.trace.Mode.{Mode}
 use Rattle.ea_model.specs.declared.trace.Trace.{Trace}
 use Rattle.ea_model.specs.declared.units.TheConstants.{MAX_SCHEDULERS}
 use Rattle.ea_model.specs.Content.{Content, free_units, gaps_of}
@@ -20,7 +19,7 @@ use Rattle.ea_model.specs.Instance.{carrier_line, employed}
 use Rattle.ea_model.specs.Lists.{Items}
 use Rattle.ea_model.specs.Outcome.{plain_outcome}
 use Rattle.ea_model.specs.Settings.{IsValidConfig}
-use Rattle.ea_model.specs.Trace.{IsValidTrace, listed, plain_mode}
+use Rattle.ea_model.specs.Trace.{IsValidTrace, listed}
 use Rattle.ea_machine.specs.Actor.{Actor}
 use Rattle.ea_machine.specs.Outcome.{actors_of, line_of, outcome, present}
 use Rattle.ea_machine.specs.Setup.{Setup, migration, setup_of}
@@ -47,11 +46,11 @@ use Rattle.ea_sched.proofs.Texts.{off-built}
 abbrev IsOutcome : Outcome → Outcome → Type 0
 IsOutcome o p = o ≡ p
 
-same_outcome : (a b : Items (Items Entry)) (c d : Items CarrierLine) (s t : Totals) (m n : Mode)
-    → a ≡ b → c ≡ d → s ≡ t → m ≡ n
-    → IsOutcome (record { logs = a; carriers = c; totals = s; mode = m })
-    (record { logs = b; carriers = d; totals = t; mode = n })
-same_outcome a b c d s t m n p q r u = cc
+same_outcome : (a b : Items (Items Entry)) (c d : Items CarrierLine) (s t : Totals)
+    → a ≡ b → c ≡ d → s ≡ t
+    → IsOutcome (record { logs = a; carriers = c; totals = s })
+    (record { logs = b; carriers = d; totals = t })
+same_outcome a b c d s t p q r = cc
 
 -- totals that are the same, one by one
 abbrev IsTotals : Totals → Totals → Type 0
@@ -112,66 +111,64 @@ module _ (c : Config) (t : Trace) (valid : IsValidConfig c) (made : IsValidTrace
       ∙ ap (map carrier_line) (flat_map-map (λ (a : Actor). employed a.instance) actor_of ss)
       ∙ map-flat_map carrier_line (λ (s : Scheduler). employed s.instance) ss
 
-  module _ (mode : Mode) where
-    abbrev totals : Totals
-    totals = (outcome e w mode).totals
+  abbrev totals : Totals
+  totals = (outcome e w).totals
 
-    carriers-printed : totals.carriers ≡ count_employed ss
-    carriers-printed = ap length printed
-        ∙ length-flat_map (λ (s : Scheduler). employed s.instance) ss
+  carriers-printed : totals.carriers ≡ count_employed ss
+  carriers-printed = ap length printed
+      ∙ length-flat_map (λ (s : Scheduler). employed s.instance) ss
 
-    sum-printed : (f : Content → ℕ)
-        → sum_by f (map (λ p. p.content) (present e w)) ≡ sum_employed f ss
-    sum-printed f = ap (sum_by f) printed
-        ∙ sum_by-flat f (λ (s : Scheduler). employed s.instance) ss
+  sum-printed : (f : Content → ℕ)
+      → sum_by f (map (λ p. p.content) (present e w)) ≡ sum_employed f ss
+  sum-printed f = ap (sum_by f) printed
+      ∙ sum_by-flat f (λ (s : Scheduler). employed s.instance) ss
 
-    units-printed : totals.units ≡ sum_employed (λ x. x.units) ss
-    units-printed = sum-printed (λ x. x.units)
+  units-printed : totals.units ≡ sum_employed (λ x. x.units) ss
+  units-printed = sum-printed (λ x. x.units)
 
-    free-printed : totals.free ≡ sum_employed (λ x. free_units (gaps_of x)) ss
-    free-printed = sum-printed (λ x. free_units (gaps_of x))
+  free-printed : totals.free ≡ sum_employed (λ x. free_units (gaps_of x)) ss
+  free-printed = sum-printed (λ x. free_units (gaps_of x))
 
-    live-is : totals.live ≡ live_units ss given
-    live-is = live-printed e w rule off ss stand.actors mode
-        ∙ ap (live_units ss) (sym stand.given)
+  live-is : totals.live ≡ live_units ss given
+  live-is = live-printed e w rule off ss stand.actors
+      ∙ ap (live_units ss) (sym stand.given)
 
-    -- the totals add up
-    totals-sum : totals.live + totals.queued + totals.free + totals.header ≡ totals.units
-    totals-sum =
-        let sums = prints-sums e w rule in
-        omega (
-          arith,
-          sums.live mode,
-          sums.queued mode,
-          sums.free mode,
-          sums.header mode,
-          sums.units mode,
-          sound-sums e w rule,
-        )
+  -- the totals add up
+  totals-sum : totals.live + totals.queued + totals.free + totals.header ≡ totals.units
+  totals-sum =
+      let sums = prints-sums e w rule in
+      omega (
+        arith,
+        sums.live,
+        sums.queued,
+        sums.free,
+        sums.header,
+        sums.units,
+        sound-sums e w rule,
+      )
 
-    -- so they are those of the schedulers
-    pub have-parts : HaveParts (totals_by ss given)
-    have-parts =
-        omega (arith, carriers-printed, units-printed, free-printed, live-is, totals-sum)
+  -- so they are those of the schedulers
+  pub have-parts : HaveParts (totals_by ss given)
+  have-parts =
+      omega (arith, carriers-printed, units-printed, free-printed, live-is, totals-sum)
 
-    totals-printed : totals_by ss given ≡ totals
-    totals-printed = same_totals _ _ _ _ _ _ _ _ _ _ _ _
-        (sym carriers-printed) (sym units-printed) (sym live-is)
-        (omega (arith, carriers-printed, units-printed, free-printed, live-is, totals-sum))
-        (sym free-printed) (ap (λ n. 8 * n) (sym carriers-printed))
+  totals-printed : totals_by ss given ≡ totals
+  totals-printed = same_totals _ _ _ _ _ _ _ _ _ _ _ _
+      (sym carriers-printed) (sym units-printed) (sym live-is)
+      (omega (arith, carriers-printed, units-printed, free-printed, live-is, totals-sum))
+      (sym free-printed) (ap (λ n. 8 * n) (sym carriers-printed))
 
   module _ (o : Outcome) (logs : map (λ log. log.items) o.logs.items ≡ map (λ s. s.log.items) ss)
       (lines : o.carriers.items ≡ flat_map (λ s. map carrier_line (employed s.instance)) ss)
-      (sums : o.totals ≡ totals_by ss given) (mode : plain_mode o.mode ≡ plain_mode t.mode)
-    where
-      logs-are : listed (map listed (map (λ log. log.items) o.logs.items))
-          ≡ listed (map (λ (a : Actor). listed a.log) (actors_of e w))
-      logs-are = ap (λ ls. listed (map listed ls)) logs
-          ∙ ap listed (map-map listed (λ (s : Scheduler). s.log.items) ss
-          ∙ sym (map-map (λ (a : Actor). listed a.log) actor_of ss)
-          ∙ ap (map (λ (a : Actor). listed a.log)) stand.actors)
+      (sums : o.totals ≡ totals_by ss given) where
+    logs-are : listed (map listed (map (λ log. log.items) o.logs.items))
+        ≡ listed (map (λ (a : Actor). listed a.log) (actors_of e w))
+    logs-are = ap (λ ls. listed (map listed ls)) logs
+        ∙ ap listed (map-map listed (λ (s : Scheduler). s.log.items) ss
+        ∙ sym (map-map (λ (a : Actor). listed a.log) actor_of ss)
+        ∙ ap (map (λ (a : Actor). listed a.log)) stand.actors)
 
-      -- an outcome with these parts is what is printed
-      pub outcome-is : plain_outcome o ≡ outcome e w (plain_mode t.mode)
-      outcome-is = same_outcome _ _ _ _ _ _ _ _ logs-are
-          (ap listed (lines ∙ sym lines-printed)) (sums ∙ totals-printed (plain_mode t.mode)) mode
+    -- an outcome with these parts is what is printed
+    pub outcome-is : plain_outcome o ≡ outcome e w
+    outcome-is = same_outcome _ _ _ _ _ _ logs-are
+        (ap listed (lines ∙ sym lines-printed)) (sums ∙ totals-printed)

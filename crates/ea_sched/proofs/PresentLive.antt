@@ -10,7 +10,6 @@ use Rattle.std.proofs.lemmas.List.Elements.{All-map}
 use Rattle.std.proofs.lemmas.List.FromFn.{get_or-map-range_with_len, length-map-range_with_len}
 use Rattle.ea_model.specs.declared.carriers.BlockAt.{BlockAt}
 use Rattle.ea_model.specs.declared.carriers.Spot.{Spot}
-use Rattle.ea_model.specs.declared.trace.Mode.{Mode}
 use Rattle.ea_model.specs.Content.{Content, block_at, size_of}
 use Rattle.ea_model.specs.Instance.{block_in, content_of, employed, first_number, size_at}
 use Rattle.ea_model.proofs.Rising.{item_at-All, item_at-key}
@@ -149,9 +148,8 @@ module _ (e : Setup) (w : State) (rule : Rule e w) (off : migration e ≡ false)
         (λ own. other (omega (arith, own))))
 
     -- all live units, name by name
-    pub live-printed : (mode : Mode)
-        → (outcome e w mode).totals.live ≡ resting.live_units ss w.shared.given
-    live-printed mode =
+    pub live-printed : (outcome e w).totals.live ≡ resting.live_units ss w.shared.given
+    live-printed =
         let g = resting.units_at ss in
         let spots = λ (b : Actor). map (λ (n : Named). n.spot) b.held in
         omega (

@@ -10,7 +10,6 @@ use Rattle.ea_model.specs.Content.{Content, free_units, gaps_of}
 use Rattle.ea_model.specs.Instance.{employed, size_at}
 use Rattle.ea_model.specs.Keyed.{IsBelow}
 use Rattle.ea_model.specs.Outcome.{plain_outcome}
-use Rattle.ea_model.specs.Trace.{plain_mode}
 use Rattle.ea_machine.specs.declared.nodes.Named.{Named}
 use Rattle.ea_machine.specs.Actor.{Actor}
 use Rattle.ea_machine.specs.Machine.{IsReached}
@@ -88,4 +87,4 @@ module _ (c : Config) (t : Trace) (schedulers : List Scheduler) (named : List Na
   -- it is what is printed of each such state
   abbrev pub IsOutcome : Outcome → Type 0
   IsOutcome outcome = (state : State) → StandIn state
-      → plain_outcome outcome ≡ machine.outcome (setup_of c t) state (plain_mode t.mode)
+      → plain_outcome outcome ≡ machine.outcome (setup_of c t) state

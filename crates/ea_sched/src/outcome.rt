@@ -135,7 +135,6 @@ pub fn outcome_of<H: Rested<Content = Mbc>>(
     Ok(Outcome {
         carriers: lines_of(alloc, schedulers.as_slice())?,
         totals: totals_of(schedulers.as_slice(), shared, trace.greatest),
-        mode: trace.mode.copy(alloc)?,
         logs: logs_of(alloc, schedulers)?,
     })
 }

@@ -202,11 +202,11 @@ module _ (e : Setup) (w : State) (rule : Rule e w) where
 
   pub prints-sums : PrintsSums e w
   prints-sums = record {
-    live = λ mode. units-printed (live_spots e w)
+    live = units-printed (live_spots e w)
         ∙ live-sum (λ p. sum_everywhere e (size_in p) w) e w zero;
-    queued = λ mode. units-printed (queued_spots e w)
+    queued = units-printed (queued_spots e w)
         ∙ queued-sum (λ p. sum_everywhere e (size_in p) w) e w zero;
-    free = λ mode. all-printed (λ x. free_units (gaps_of x));
-    header = λ mode. eight-each printed ∙ printed-all e w k (λ x. 8);
-    units = λ mode. all-printed (λ x. x.units);
+    free = all-printed (λ x. free_units (gaps_of x));
+    header = eight-each printed ∙ printed-all e w k (λ x. 8);
+    units = all-printed (λ x. x.units);
   }

@@ -1,7 +1,6 @@
 -- The units of all carriers.
 use Rattle.std.specs.Prelude.{◌≡◌, ℕ, ◌+◌, ◌==◌, if◌then◌else◌}
 use Rattle.ea_model.specs.declared.carriers.Spot.{Spot}
-use Rattle.ea_model.specs.declared.trace.Mode.{Mode}
 use Rattle.ea_model.specs.Content.{Content, block_at, free_units, gaps_of, size_of}
 use Rattle.ea_machine.specs.Setup.{Setup}
 use Rattle.ea_machine.specs.State.{State}
@@ -47,8 +46,8 @@ SumsUnits setup state = live_units setup state + queued_units setup state
 
 -- what is printed of a state are these sums
 pub record PrintsSums (setup : Setup) (state : State) : Type 0 where
-  pub live : (mode : Mode) → (outcome setup state mode).totals.live ≡ live_units setup state
-  pub queued : (mode : Mode) → (outcome setup state mode).totals.queued ≡ queued_units setup state
-  pub free : (mode : Mode) → (outcome setup state mode).totals.free ≡ gap_units setup state
-  pub header : (mode : Mode) → (outcome setup state mode).totals.header ≡ header_units setup state
-  pub units : (mode : Mode) → (outcome setup state mode).totals.units ≡ carrier_units setup state
+  pub live : (outcome setup state).totals.live ≡ live_units setup state
+  pub queued : (outcome setup state).totals.queued ≡ queued_units setup state
+  pub free : (outcome setup state).totals.free ≡ gap_units setup state
+  pub header : (outcome setup state).totals.header ≡ header_units setup state
+  pub units : (outcome setup state).totals.units ≡ carrier_units setup state

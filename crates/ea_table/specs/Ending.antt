@@ -7,7 +7,6 @@ use Rattle.ea_model.specs.declared.settings.Config.{Config}
 use Rattle.ea_model.specs.declared.trace.Trace.{Trace}
 use Rattle.ea_model.specs.Keyed.{IsBelow}
 use Rattle.ea_model.specs.Outcome.{plain_outcome}
-use Rattle.ea_model.specs.Trace.{plain_mode}
 use Rattle.ea_machine.specs.declared.nodes.Named.{Named}
 use Rattle.ea_machine.specs.declared.nodes.Node.TheVariants.{Block}
 use Rattle.ea_machine.specs.Courses.{AreSteps}
@@ -61,4 +60,4 @@ pub record IsEnd (c : Config) (t : Trace) (finished : List Finished) (outcome : 
     pub actors : map (λ (f : Finished). actor_of f.scheduler) finished
         ≡ machine.actors_of (setup_of c t) (run (setup_of c t) turns)
     pub printed : plain_outcome outcome
-        ≡ machine.outcome (setup_of c t) (run (setup_of c t) turns) (plain_mode t.mode)
+        ≡ machine.outcome (setup_of c t) (run (setup_of c t) turns)

@@ -5,7 +5,6 @@ use Rattle.ea_model.specs.declared.outcome.Outcome.{Outcome}
 use Rattle.ea_model.specs.declared.settings.Config.{Config}
 use Rattle.ea_model.specs.declared.trace.Trace.{Trace}
 use Rattle.ea_model.specs.Outcome.{plain_outcome}
-use Rattle.ea_model.specs.Trace.{plain_mode}
 use Rattle.ea_machine.specs.Actor.{Ended}
 use Rattle.ea_machine.specs.Courses.{AreSteps, HaveEnded}
 use Rattle.ea_machine.specs.Machine.{first_actor, run}
@@ -50,4 +49,4 @@ module _ (c : Config) (t : Trace) where
     pub steps : AreSteps (setup_of c t) turns
     pub ended : HaveEnded (setup_of c t) (run (setup_of c t) turns)
     pub printed : plain_outcome outcome
-        ≡ machine.outcome (setup_of c t) (run (setup_of c t) turns) (plain_mode t.mode)
+        ≡ machine.outcome (setup_of c t) (run (setup_of c t) turns)

@@ -42,17 +42,10 @@ same_setup c t = ap (λ texts. record {
   texts = text_for texts;
 }) (plain-texts t)
 
-plain_once : (m : Mode) → plain_mode (plain_mode m) ≡ plain_mode m
-plain_once Threads = refl
-plain_once (Schedule turns) = refl
-plain_once (Generated seed count) = refl
-
 -- the same turns have the same outcome
 same_outcome : (c : Config) (t : Trace) (turns : List ℕ)
     → outcome_after c (plain t) turns ≡ outcome_after c t turns
-same_outcome c t turns =
-    ap (λ setup. outcome setup (run setup turns) (plain_mode (plain_mode t.mode))) (same_setup c t)
-    ∙ ap (outcome (setup_of c t) (run (setup_of c t) turns)) (plain_once t.mode)
+same_outcome c t turns = ap (λ setup. outcome setup (run setup turns)) (same_setup c t)
 
 course_mode : (setup : Setup) (m : Mode) (turns : List ℕ) → IsCourse setup m turns
     → IsCourse setup (plain_mode m) turns

@@ -6,7 +6,6 @@ use Rattle.ea_flags.specs.Flags.{flags}
 use Rattle.ea_model.specs.declared.outcome.Outcome.{Outcome}
 use Rattle.ea_model.specs.declared.settings.Config.{Config}
 use Rattle.ea_model.specs.declared.trace.Trace.{Trace}
-use Rattle.ea_model.specs.Trace.{plain_mode}
 use Rattle.ea_machine.specs.Courses.{IsCourse}
 use Rattle.ea_machine.specs.Machine.{run}
 use Rattle.ea_machine.specs.Outcome.{outcome}
@@ -18,7 +17,7 @@ use Rattle.ea_trace.specs.Language.{trace}
 module _ (c : Config) (t : Trace) where
   -- the logs, carriers and totals once these turns are taken
   abbrev pub outcome_after : List ℕ → Outcome
-  outcome_after turns = outcome (setup_of c t) (run (setup_of c t) turns) (plain_mode t.mode)
+  outcome_after turns = outcome (setup_of c t) (run (setup_of c t) turns)
 
   -- they are those of a course of the run
   abbrev pub IsRunOutcome : Outcome → Type 0

@@ -4,7 +4,6 @@ use Rattle.std.specs.List.{list_all, list_any, range_with_len}
 use Rattle.ea_model.specs.declared.carriers.OwnCarrier.{OwnCarrier}
 use Rattle.ea_model.specs.declared.carriers.Spot.{Spot}
 use Rattle.ea_model.specs.declared.carriers.Totals.{Totals}
-use Rattle.ea_model.specs.declared.trace.Mode.TheVariants.{Threads}
 use Rattle.ea_model.specs.Content.{Content, allocated as allocated_units, free_units, gaps_of, is_multi, is_nil, is_vacant, largest}
 use Rattle.ea_laws.specs.Kinds.{is_shared}
 use Rattle.ea_machine.specs.declared.nodes.Node.{Node}
@@ -131,7 +130,7 @@ module _ (setup : Setup) (state : State) where
       && (t.units == carrier_units setup state)
 
   abbrev pub prints_sums : Bool
-  prints_sums = prints (outcome setup state Threads).totals
+  prints_sums = prints (outcome setup state).totals
 
   -- a pooled carrier has a block, and its recorded largest gap is its largest gap
   abbrev pub records_gap : CarrierAt → Bool

@@ -1,7 +1,6 @@
 use Rattle.std.proofs.Common.{length, sym, ap, ◌∙◌, subst, arith}
 use Rattle.std.specs.Prelude.{flat_map, map}
 use Rattle.ea_model.specs.Instance.{carrier_line, employed}
-use Rattle.ea_model.specs.Trace.{plain_mode}
 use Rattle.ea_sched.specs.Resting.{HaveParts, totals_by}
 use Rattle.ea_sched.proofs.OutcomeSums.{are-given, few-schedulers, have-parts, outcome-is}
 use Rattle.ea_sched.proofs.outcome.outcome_of.Goals as goal
@@ -29,7 +28,7 @@ totals_of-requires-clause-parts g c =
     let shared = g.H.Rested.named c.args.shared.now in
     subst (λ ss. HaveParts (totals_by ss shared)) (sym c.as_slice-2.ensures)
     (have-parts c.args.config c.args.trace.now c.requires.config c.requires.trace c.requires.built
-    c.args.schedulers.items shared w stand (plain_mode c.args.trace.now.mode))
+    c.args.schedulers.items shared w stand)
 
 pub returns : goal.returns
 returns g c = λ w stand.
@@ -40,10 +39,8 @@ returns g c = λ w stand.
       logs = c.in_ok-logs_of.field-0;
       carriers = c.in_ok-lines_of.field-0;
       totals = c.totals_of.result;
-      mode = c.in_ok-copy.field-0;
     })
     c.in_ok-logs_of.ensures
     (c.in_ok-lines_of.ensures
     ∙ ap (flat_map (λ s. map carrier_line (employed s.instance))) c.as_slice.ensures)
     (c.totals_of.ensures ∙ ap (λ l. totals_by l shared) c.as_slice-2.ensures)
-    c.in_ok-copy.ensures
