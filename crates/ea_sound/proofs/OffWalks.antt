@@ -2,7 +2,7 @@
 -- owns lies there, as does each block that it holds in such a carrier; and this stays so from node
 -- to node, with the names of the operations left standing nowhere.
 use Rattle.std.proofs.Common.{◌≡◌, ◌≢◌, ℕ, ◌<◌, ◌≤◌, true, false, List, [], ◌∷◌, refl, sym, ap, ◌∙◌, subst, inr, arith}
-use Rattle.std.specs.Prelude.{Option, None, Some, IsSome, ◌==◌}
+use Rattle.std.specs.Prelude.{All, Option, None, Some, IsSome, ◌==◌}
 use Rattle.std.specs.Option.{option_and_then}
 use Rattle.std.proofs.lemmas.Bool.{true≢false}
 use Rattle.ea_model.specs.declared.carriers.BlockAt.{BlockAt}
@@ -15,10 +15,12 @@ use Rattle.ea_model.specs.declared.reallocation.Decision.TheVariants.{Stay, Shri
 use Rattle.ea_model.specs.declared.settings.Config.{Config}
 use Rattle.ea_model.specs.declared.trace.Trace.{Trace}
 use Rattle.ea_model.specs.Content.{Content, block_at}
-use Rattle.ea_model.specs.Instance.{block_in, content_of, decision_at, employed, releasing_at}
+use Rattle.ea_model.specs.Instance.{block_in, content_of, decision_at, employed, own_at, own_of, releasing_at}
 use Rattle.ea_model.specs.Settings.{IsValidConfig}
 use Rattle.ea_model.specs.Trace.{IsScheduler, IsValidTrace}
-use Rattle.ea_model.proofs.Rising.{item_at-key}
+use Rattle.ea_model.proofs.Merged.{merged-All}
+use Rattle.ea_model.proofs.Rising.{item_at-All, item_at-key}
+use Rattle.ea_laws.specs.Kept.{number_of}
 use Rattle.ea_machine.specs.declared.nodes.Named.{Named}
 use Rattle.ea_machine.specs.declared.nodes.Node.{Node}
 use Rattle.ea_machine.specs.declared.nodes.Node.TheVariants.{Block, Carrier}
@@ -45,7 +47,7 @@ use Rattle.ea_sound.specs.Leaves.{InWalk, Leaves}
 use Rattle.ea_sound.specs.Moments.{at, with_actor}
 use Rattle.ea_sound.specs.Orderly.{IsOrderly}
 use Rattle.ea_sound.specs.Present.{Rule}
-use Rattle.ea_sound.specs.Rule.{Standing, names_of}
+use Rattle.ea_sound.specs.Rule.{Belongs, Standing, names_of}
 use Rattle.ea_sound.proofs.Asked.{reached-rule}
 use Rattle.ea_sound.proofs.Assembly.{Closed, HoldsAt, route-holds}
 use Rattle.ea_sound.proofs.BlockWeights.{only_at-itself}
@@ -55,6 +57,7 @@ use Rattle.ea_sound.proofs.Hits.{held-stands, hit, stands-allocated}
 use Rattle.ea_sound.proofs.KeyedWeights.{sum-item}
 use Rattle.ea_sound.proofs.NodeSeats.{node-returning, returning-on}
 use Rattle.ea_sound.proofs.Numbered.{scheduler-seat}
+use Rattle.ea_sound.proofs.OwnEntries.{owner-has, somewhere-found}
 use Rattle.ea_sound.proofs.Orderly.{stays-employed}
 use Rattle.ea_sound.proofs.RowLeaves.{row-left}
 use Rattle.ea_sound.proofs.SoundRanges.{number-scheduler}
@@ -87,6 +90,16 @@ module _ (e : Setup) (v : State) (s : Shared) (me : ℕ) (is : is_scheduler e me
     now : u.actors me ≡ at Begin a
     now = put-here v.actors me (at Begin a) me refl
 
+    -- a content that the scheduler employs belongs to it
+    found-belongs : (n : ℕ) (x : Content) → content_of (employed a.instance) n ≡ Some x
+        → Belongs e me x
+    found-belongs n x found = item_at-All number_of (Belongs e me) n x (employed a.instance)
+        (merged-All number_of (Belongs e me) a.instance.contents a.instance.singles
+        (subst (λ (b : Actor). All (Belongs e me) b.instance.contents) now
+        (walks.kept.ranges.contents me))
+        (subst (λ (b : Actor). All (Belongs e me) b.instance.singles) now
+        (walks.kept.ranges.singles me))) found
+
     -- the block of a name that stands with the scheduler lies there, where it owns the carrier
     stands-here : (n : ℕ) (p : Spot) → 1 ≤ names_of (only_at n p) (at Begin a)
         → owner_of p.carrier ≡ me
@@ -96,12 +109,34 @@ module _ (e : Setup) (v : State) (s : Shared) (me : ℕ) (is : is_scheduler e me
         (inr (off, owned)) stands refl in
         (b, ap (option_and_then (λ (z : Content). block_at z.blocks p.offset)) found ∙ at, named)
 
+    -- and the scheduler's instance owns that carrier
+    stands-own : (n : ℕ) (p : Spot) → 1 ≤ names_of (only_at n p) (at Begin a)
+        → owner_of p.carrier ≡ me → IsSome (own_at a.instance.own p.carrier)
+    stands-own n p stands owned =
+        let (x, found, block) = hit e u me seat walks.kept (at Begin a) now n p
+        (inr (off, owned)) stands refl in
+        let number : x.number ≡ p.carrier = item_at-key number_of p.carrier x
+        (employed a.instance) found in
+        let there = subst (λ (b : Actor). content_of (employed b.instance) p.carrier ≡ Some x)
+        (sym now) found in
+        let owner : x.owner ≡ me = (found-belongs p.carrier x found).owner ∙ ap owner_of number
+        ∙ owned in
+        let has = owner-has e u walks.kept x
+        (somewhere-found e u walks.kept p.carrier x me there) in
+        let mine : own_at a.instance.own x.number ≡ Some (own_of x) =
+        subst (λ (b : Actor). own_at b.instance.own x.number ≡ Some (own_of x))
+        (ap u.actors owner ∙ now) has in
+        subst IsSome (sym (ap (own_at a.instance.own) (sym number) ∙ mine)) refl
+
     -- the block that is passed last
     module _ (n : ℕ) (p : Spot) (ns : List Node) (passed : a.passed ≡ Block n p ∷ ns) where
       pub passed-here : owner_of p.carrier ≡ me → IsSome (block_in (employed a.instance) p)
       passed-here owned =
           let block = stands-here n p (passed-stands n p ns a passed) owned in
           subst IsSome (sym block.1) refl
+
+      pub passed-own : owner_of p.carrier ≡ me → IsSome (own_at a.instance.own p.carrier)
+      passed-own owned = stands-own n p (passed-stands n p ns a passed) owned
 
       in_hand : V (at (Routed (Looking (record { name = n; spot = p })) Walk Open)
           (record a { passed = ns }))
@@ -133,6 +168,9 @@ module _ (e : Setup) (v : State) (s : Shared) (me : ℕ) (is : is_scheduler e me
       walk-here owned =
           let block = stands-here x.name x.spot (held-stands n x (at Begin a) held) owned in
           subst IsSome (sym block.1) refl
+
+      pub walk-own : owner_of x.spot.carrier ≡ me → IsSome (own_at a.instance.own x.spot.carrier)
+      walk-own owned = stands-own x.name x.spot (held-stands n x (at Begin a) held) owned
 
     -- a block in a carrier that another owns isn't here, and is to move where it is reallocated
     module _ (p : Spot) (need : ℕ) (other : owner_of p.carrier ≢ me) where
