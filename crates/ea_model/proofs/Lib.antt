@@ -1,6 +1,7 @@
 pub mod First
 pub mod Merged
 pub mod Needs
+pub mod NumberedItems
 pub mod Numbers
 pub mod Options
 pub mod Orders

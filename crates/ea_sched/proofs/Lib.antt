@@ -4,10 +4,6 @@ pub mod Freed
 pub mod Walked
 pub mod OutcomeGiven
 pub mod OutcomeSums
-pub mod Paths
-pub mod PresentCarriers
-pub mod PresentLive
-pub mod PresentNumbers
 pub mod Texts
 pub mod Suiting
 pub mod Calling

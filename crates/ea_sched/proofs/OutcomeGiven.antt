@@ -12,7 +12,7 @@ use Rattle.ea_machine.specs.Sums.{sum_over}
 use Rattle.ea_sound.proofs.Ranged.{sum-flat}
 use Rattle.ea_sound.proofs.Weights.{sum_by-sum_over}
 use Rattle.ea_sched.specs.Resting.{AreGiven}
-use Rattle.ea_sched.proofs.PresentNumbers.{all-items, if_there, range-last}
+use Rattle.ea_model.proofs.NumberedItems.{all-items, if_there, range-last}
 
 -- one name more
 sum-last : (f : ℕ → ℕ) (n : ℕ)

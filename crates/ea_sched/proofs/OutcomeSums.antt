@@ -36,10 +36,11 @@ use Rattle.ea_sound.proofs.Weights.{sum_by-sum_over}
 use Rattle.ea_sched.specs.declared.state.Scheduler.{Scheduler}
 use Rattle.ea_sched.specs.Acting.{actor_of}
 use Rattle.ea_sched.specs.Built.{is_built_run}
-use Rattle.ea_sched.specs.Resting.{AreGiven, HaveParts, StandIn, all_employed, count_employed, live_units, sum_employed, totals_by}
-use Rattle.ea_sched.proofs.PresentCarriers.{present-contents, present-lines}
-use Rattle.ea_sched.proofs.PresentLive.{live-printed}
-use Rattle.ea_sched.proofs.PresentNumbers.{map-flat_map}
+use Rattle.ea_sound.specs.Contents.{all_employed}
+use Rattle.ea_sched.specs.Resting.{AreGiven, HaveParts, StandIn, count_employed, live_units, sum_employed, totals_by}
+use Rattle.ea_sound.proofs.PresentCarriers.{present-contents, present-lines}
+use Rattle.ea_sound.proofs.PresentLive.{live-printed}
+use Rattle.ea_model.proofs.NumberedItems.{map-flat_map}
 use Rattle.ea_sched.proofs.Texts.{off-built}
 
 -- outcomes with the same parts
@@ -130,7 +131,7 @@ module _ (c : Config) (t : Trace) (valid : IsValidConfig c) (made : IsValidTrace
   free-printed = sum-printed (λ x. free_units (gaps_of x))
 
   live-is : totals.live ≡ live_units ss given
-  live-is = live-printed e w rule off ss stand.actors
+  live-is = live-printed e w rule off actor_of ss stand.actors
       ∙ ap (live_units ss) (sym stand.given)
 
   -- the totals add up

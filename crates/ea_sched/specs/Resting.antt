@@ -21,10 +21,6 @@ use Rattle.ea_machine.specs.State.{State}
 use Rattle.ea_sched.specs.declared.state.Scheduler.{Scheduler}
 use Rattle.ea_sched.specs.Acting.{actor_of}
 
--- the contents that schedulers employ, one scheduler's after another's
-abbrev pub all_employed : List Actor → List Content
-all_employed actors = flat_map (λ a. employed a.instance) actors
-
 -- the sum of what f gives for them, scheduler by scheduler
 abbrev pub sum_employed : (Content → ℕ) → List Scheduler → ℕ
 sum_employed f schedulers = sum_by (λ s. sum_by f (employed s.instance)) schedulers

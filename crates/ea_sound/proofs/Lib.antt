@@ -72,6 +72,8 @@ pub mod HeldNames
 pub mod PresentMoves
 pub mod Ranged
 pub mod Printed
+pub mod PresentCarriers
+pub mod PresentLive
 pub mod PrintedSums
 pub mod PlacingMoves
 pub mod ResizingMoves
@@ -125,5 +127,6 @@ pub mod Wanting
 pub mod Olders
 pub mod OtherTurns
 pub mod OwnWork
+pub mod Paths
 pub mod CarrierCalls
 pub mod LargestGaps

@@ -29,7 +29,7 @@ use Rattle.ea_sound.proofs.SumParts.{AreParts, sum-nothing, sum-parts}
 use Rattle.ea_sound.proofs.Weights.{sum-append, sum-map, sum-none, sum-zero}
 
 -- what is given for a content in the hand that is busy
-abbrev of_option : (Content → ℕ) → Option Content → ℕ
+abbrev pub of_option : (Content → ℕ) → Option Content → ℕ
 of_option b None = 0
 of_option b (Some x) = b x
 
@@ -45,7 +45,7 @@ route-leaves b h (Clearing x) = omega arith
 route-leaves b h (Pushing node to) = refl
 route-leaves b h (Linking node to) = refl
 
-hand-leaves : (b h : Content → ℕ) (s : Stage)
+pub hand-leaves : (b h : Content → ℕ) (s : Stage)
     → hand_sum b h s ≡ sum_over h (leaving_at s) + of_option b (settling_at s)
 hand-leaves b h Begin = refl
 hand-leaves b h (Routed r why gone) = route-leaves b h r
@@ -73,7 +73,7 @@ employed-sum f a = omega (
   sum-split f (λ (x : Content). is_single x.kind) (leaving_at a.stage),
 )
 
-no_option : (o : Option Content) → of_option none o ≡ 0
+pub no_option : (o : Option Content) → of_option none o ≡ 0
 no_option None = refl
 no_option (Some x) = refl
 

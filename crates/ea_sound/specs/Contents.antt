@@ -1,7 +1,8 @@
 -- The contents of carriers, wherever they are: with the instance that employs them, in the hand of a
 -- scheduler, or at home beside their owner word.
-use Rattle.std.specs.Prelude.{ℕ, suc, ◌+◌, All}
+use Rattle.std.specs.Prelude.{ℕ, suc, ◌+◌, List, All, flat_map}
 use Rattle.ea_model.specs.Content.{Content}
+use Rattle.ea_model.specs.Instance.{employed}
 use Rattle.ea_machine.specs.Owners.{CarrierAt, Absent, Employed, Pooled, Busy, Returning}
 use Rattle.ea_machine.specs.Setup.{Setup, greatest_number}
 use Rattle.ea_machine.specs.Actor.{Actor, Route, Looking, Trying, Settling, Abandoning, Sending, Clearing, Pushing, Linking, Stage, Routed, on_route}
@@ -14,6 +15,10 @@ seats setup = suc setup.schedulers
 
 abbrev pub slots : Setup → ℕ
 slots setup = suc (greatest_number setup)
+
+-- the contents that schedulers employ, one scheduler's after another's
+abbrev pub all_employed : List Actor → List Content
+all_employed actors = flat_map (λ a. employed a.instance) actors
 
 -- the content that a route holds, if it holds one, has the property: a busy one, or one that is still
 -- employed

@@ -2,7 +2,6 @@
 use Rattle.std.specs.Prelude.{◌≡◌, ℕ, ◌+◌, ◌≤◌, AllPairs}
 use Rattle.ea_model.specs.declared.carriers.Spot.{Spot}
 use Rattle.ea_model.specs.Keyed.{IsBelow}
-use Rattle.ea_machine.specs.declared.nodes.Named.{Named}
 use Rattle.ea_machine.specs.Nodes.{name_of}
 use Rattle.ea_machine.specs.Setup.{Setup}
 use Rattle.ea_machine.specs.State.{State}

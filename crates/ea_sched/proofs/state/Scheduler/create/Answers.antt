@@ -3,7 +3,7 @@ use Rattle.ea_model.specs.Instance.{chosen_spot}
 use Rattle.ea_machine.specs.Placements.{placed_at}
 use Rattle.ea_sched.specs.Acting.{ready_of, setup_for}
 use Rattle.ea_sched.proofs.Acts.{chosen-place, made-as, stood-placed}
-use Rattle.ea_sched.proofs.Paths.{multi}
+use Rattle.ea_sound.proofs.Paths.{multi}
 use Rattle.ea_sched.proofs.Texts.{off-built}
 use Rattle.ea_sched.proofs.state.Scheduler.create.Goals as goal
 

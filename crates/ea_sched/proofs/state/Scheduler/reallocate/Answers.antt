@@ -7,7 +7,7 @@ use Rattle.ea_machine.specs.Nodes.{spot_named, with_name}
 use Rattle.ea_machine.specs.Placements.{seek}
 use Rattle.ea_sched.specs.Acting.{ready_of, setup_for}
 use Rattle.ea_sched.proofs.Acts.{is-Move, kept-resized, made-as, not-Move, size_found, unheld-let_go}
-use Rattle.ea_sched.proofs.Paths.{moves, resized}
+use Rattle.ea_sound.proofs.Paths.{moves, resized}
 use Rattle.ea_sched.proofs.state.Scheduler.reallocate.Goals as goal
 
 pub returns-then-owner_of-self-clause-actor : goal.returns-then-owner_of-self-clause-actor

@@ -3,7 +3,7 @@ use Rattle.ea_model.specs.Instance.{chosen_spot}
 use Rattle.ea_machine.specs.Placements.{new_carrier}
 use Rattle.ea_sched.specs.Acting.{ready_of, setup_for}
 use Rattle.ea_sched.proofs.Acts.{chosen-place, made-as, stood-placed, unplaced}
-use Rattle.ea_sched.proofs.Paths.{seek-chosen, seek-new}
+use Rattle.ea_sound.proofs.Paths.{seek-chosen, seek-new}
 use Rattle.ea_sched.proofs.Texts.{off-built}
 use Rattle.ea_sched.proofs.state.Scheduler.seek.Goals as goal
 

@@ -1,33 +1,62 @@
 -- Where carriers don't migrate, those that are there are those that the instances employ.
-use Rattle.std.proofs.Common.{◌≡◌, ℕ, ◌+◌, true, false, List, [], ◌∷◌, ◌++◌, map, map-id, get_or, refl, sym, ap, ◌∙◌, subst, arith}
+use Rattle.std.proofs.Common.{◌≡◌, ◌≢◌, ℕ, ◌+◌, true, false, List, [], ◌∷◌, ◌++◌, map, map-id}
+use Rattle.std.proofs.Common.{get_or, refl, sym, ap, ◌∙◌, subst, arith}
 use Rattle.std.specs.Prelude.{Option, None, Some, All, filter, flat_map, is_some, not}
 use Rattle.std.specs.Option.{option_or}
 use Rattle.std.specs.List.{range_with_len}
 use Rattle.std.proofs.lemmas.Bool.{false≢true}
-use Rattle.std.proofs.lemmas.List.Elements.{All-head, All-tail}
+use Rattle.std.proofs.lemmas.List.Elements.{All-head, All-tail, All-weaker}
 use Rattle.std.proofs.lemmas.List.Folds.{find-append, flat_map-map}
+use Rattle.ea_model.specs.declared.carriers.OwnCarrier.{OwnCarrier}
 use Rattle.ea_model.specs.declared.carriers.Standing.TheVariants as standing
 use Rattle.ea_model.specs.Content.{Content}
-use Rattle.ea_model.specs.Instance.{Instance, carrier_line, content_of, employed, first_number, is_used, own_of}
+use Rattle.ea_model.specs.Instance.{Instance, carrier_line, content_of, employed, first_number}
+use Rattle.ea_model.specs.Instance.{is_used, own_at, own_of}
 use Rattle.ea_model.specs.Keyed.{has_key, merged}
 use Rattle.ea_model.proofs.Merged.{merged-All, merged-first, merged-second}
-use Rattle.ea_model.proofs.Options.{is_some-map}
-use Rattle.ea_model.proofs.Pairs.{all_unmap}
-use Rattle.ea_model.proofs.Rising.{item_at-map}
-use Rattle.ea_laws.specs.Kept.{HasNumberIn, IsRising, Stands, number_of, own_number}
-use Rattle.ea_machine.specs.Actor.{Actor, Route, Looking, Trying, Settling, Abandoning, Sending, Clearing, Pushing, Linking, Stage, Begin, Routed, Collecting, Searching, Fetching, Creating, Giving, Taking, Ended, Ready}
-use Rattle.ea_machine.specs.Outcome.{Present, actors_of, line_of, owned_place, place_in, place_of, present, present_at, present_if}
+use Rattle.ea_model.proofs.NumberedItems.{HasKeyIn, all-items, each-range, flat_map-same}
+use Rattle.ea_model.proofs.NumberedItems.{if_there, in-parts, map-flat_map}
+use Rattle.ea_model.proofs.Rising.{item_at-All, item_at-key}
+use Rattle.ea_laws.specs.Kept.{HasNumberIn, IsOwn, IsRising, Stands, number_of, own_number}
+use Rattle.ea_machine.specs.Actor.{Actor, Route, Looking, Trying, Settling, Abandoning, Sending}
+use Rattle.ea_machine.specs.Actor.{Clearing, Pushing, Linking, Stage, Begin, Routed, Collecting}
+use Rattle.ea_machine.specs.Actor.{Searching, Fetching, Creating, Giving, Taking, Ended, Ready}
+use Rattle.ea_machine.specs.Outcome.{Present, actors_of, line_of, owned_place, place_in, place_of}
+use Rattle.ea_machine.specs.Outcome.{present, present_at, present_if, settling_at}
 use Rattle.ea_machine.specs.Owners.{owner_of}
 use Rattle.ea_machine.specs.Setup.{Setup, is_scheduler, migration}
 use Rattle.ea_machine.specs.State.{State}
-use Rattle.ea_machine.specs.Statistics.{employed_multis, employed_singles, is_single, leaving_at, leaving_on}
+use Rattle.ea_machine.specs.Statistics.{employed_multis, employed_singles, is_single}
+use Rattle.ea_machine.specs.Statistics.{leaving_at, leaving_on}
+use Rattle.ea_machine.specs.Sums.{sum_over}
+use Rattle.ea_sound.specs.Contents.{actor_sum, all_employed, seats}
+use Rattle.ea_sound.specs.Places.{none}
 use Rattle.ea_sound.specs.Present.{Fits, FitsRoute, Rule}
-use Rattle.ea_sound.specs.Rule.{Belongs, Standing}
+use Rattle.ea_sound.specs.Rule.{Belongs, Standing, numbers_of, own_numbers}
 use Rattle.ea_sound.proofs.Created.{scheduler-number}
+use Rattle.ea_sound.proofs.Employers.{mine, mine-itself, mine-only, not-mine, nothing, nothing-only}
+use Rattle.ea_sound.proofs.KeyedWeights.{sum-item, sum-merged, sum-missing}
+use Rattle.ea_sound.proofs.Numbered.{no_scheduler-beyond, numbered-off, total_at-exact}
 use Rattle.ea_sound.proofs.Plans.{numbered-owner}
+use Rattle.ea_sound.proofs.Printed.{hand-leaves, no_option}
 use Rattle.ea_sound.proofs.SoundRanges.{number-scheduler}
-use Rattle.ea_sched.specs.Resting.{all_employed}
-use Rattle.ea_sched.proofs.PresentNumbers.{HasKeyIn, all-items, each-range, flat_map-same, if_there, in-parts, map-flat_map}
+use Rattle.ea_sound.proofs.Unmoved.{off-acul}
+use Rattle.ea_sound.proofs.Weights.{sum-zero}
+
+some≢none : {A : Type 0} (x : A) → Some x ≡ None → ⊥
+some≢none x e = absurd cc
+
+-- whoever has no content of the number has no weight
+actor-nothing : (f : Content → ℕ) → ((x : Content) → f x ≡ 0) → (a : Actor)
+    → actor_sum none f a ≡ 0
+actor-nothing f weightless a = omega (
+  arith,
+  sum-zero f a.instance.contents (λ k d within. weightless _),
+  sum-zero f a.instance.singles (λ k d within. weightless _),
+  hand-leaves none f a.stage,
+  sum-zero f (leaving_at a.stage) (λ k d within. weightless _),
+  no_option (settling_at a.stage),
+)
 
 -- of two lists as one, one after the other or by rising number, the same item is found
 found-merged : (xs ys : List Content) (c : ℕ) → IsRising (merged number_of xs ys)
@@ -111,16 +140,66 @@ module _ (e : Setup) (w : State) (rule : Rule e w) (off : migration e ≡ false)
     found c = ap (λ xs. content_of xs c) listed
         ∙ found-merged j.contents j.singles c standing_at.order.once
 
-    used : (c : ℕ) → is_used c j.own ≡ is_some (content_of (employed j) c)
-    used c = ap (is_used c) stands.agrees
-        ∙ ap is_some (item_at-map own_number own_of c (employed j))
-        ∙ is_some-map own_of (content_of (employed j) c)
+    off_acul : j.settings.acul ≡ 0
+    off_acul = off-acul e j off standing_at.settings
+
+    -- what it employs it owns
+    owns : All (λ x. IsOwn j.own (own_of x)) (employed j)
+    owns = merged-All number_of (λ x. IsOwn j.own (own_of x)) j.contents j.singles
+        (stands.home off_acul) stands.owned
+
+    -- what it owns it employs
+    module _ (c : ℕ) (own : owner_of c ≡ i) where
+      abbrev weight : ℕ → ℕ
+      weight n = mine i c i n
+
+      only : (n : ℕ) → n ≢ c → weight n ≡ 0
+      only n other = mine-only i c i n other
+
+      elsewhere : (k : ℕ) → k ≢ i → numbers_of nothing (mine i c) k (w.actors k) ≡ 0
+      elsewhere k other = actor-nothing (λ x. mine i c k x.number)
+          (λ x. not-mine i c k x.number other) (w.actors k)
+
+      weighs : sum_over (λ (x : Content). weight x.number) (employed j)
+          ≡ sum_over (λ (o : OwnCarrier). weight o.number) j.own
+      weighs = omega (
+        arith,
+        sum-merged number_of (λ (x : Content). weight x.number) j.contents j.singles,
+        hand-leaves none (λ (x : Content). weight x.number) a.stage,
+        no_option (settling_at a.stage),
+        ap (sum_over (λ (x : Content). weight x.number))
+            (leaves-none i a a.stage (rule.present.fits i)),
+        total_at-exact (numbers_of nothing (mine i c)) w.actors i (seats e) elsewhere
+            (λ past. absurd (false≢true (sym (no_scheduler-beyond e i past) ∙ is))),
+        numbered-off e w rule.kept nothing (mine i c) c (nothing-only c) (mine-only i c) off,
+        ap (λ k. own_numbers (mine i c) k (w.actors k)) own,
+      )
+
+      used-by : (o : Option OwnCarrier) (f : Option Content) → own_at j.own c ≡ o
+          → content_of (employed j) c ≡ f → is_some o ≡ is_some f
+      used-by None None lacks missing = refl
+      used-by (Some o) (Some x) has there = refl
+      used-by None (Some x) lacks there = absurd (some≢none (own_of x) (
+          sym (item_at-All number_of (λ x. IsOwn j.own (own_of x)) c x (employed j) owns there)
+          ∙ ap (own_at j.own) (item_at-key number_of c x (employed j) there) ∙ lacks))
+      used-by (Some o) None has missing = absurd (omega (
+        arith,
+        weighs,
+        sum-missing number_of (λ (x : Content). weight x.number) c (employed j)
+            (λ x other. only x.number other) missing,
+        sum-item own_number (λ (o : OwnCarrier). weight o.number) c o j.own has,
+        ap weight (item_at-key own_number c o j.own has),
+        mine-itself i c,
+      ))
+
+      used : is_used c j.own ≡ is_some (content_of (employed j) c)
+      used = used-by (own_at j.own c) (content_of (employed j) c) refl refl
 
     place : (c : ℕ) → owner_of c ≡ i
         → place_of e w c ≡ owned_place e w (is_some (content_of (employed j) c)) i
     place c own = ap (λ b. place_in e w b c) off
         ∙ ap (λ k. owned_place e w (is_used c (w.actors k).instance.own) k) own
-        ∙ ap (λ b. owned_place e w b i) (used c)
+        ∙ ap (λ b. owned_place e w b i) (used c own)
 
     shown : (c : ℕ) (o : Option Content)
         → content_of (employed_multis a ++ employed_singles a) c ≡ o
@@ -131,9 +210,12 @@ module _ (e : Setup) (w : State) (rule : Rule e w) (off : migration e ≡ false)
     pub numbers : All (HasKeyIn number_of (first_number i) 256) (employed j)
     numbers = subst (λ n. All (HasKeyIn number_of (first_number n) 256) (employed j))
         standing_at.number
-        (all_unmap (HasNumberIn (first_number j.number) (first_number j.number + 256)) own_of
-        (employed j) (subst (λ os. All (HasNumberIn (first_number j.number)
-        (first_number j.number + 256)) os) stands.agrees stands.kept.numbers))
+        (All-weaker (λ x. IsOwn j.own (own_of x))
+        (HasKeyIn number_of (first_number j.number) 256)
+        (λ x own. item_at-All own_number
+        (HasNumberIn (first_number j.number) (first_number j.number + 256)) x.number (own_of x)
+        j.own stands.kept.numbers own)
+        (employed j) owns)
 
     -- under its numbers they are all that it employs
     pub present-scheduler : flat_map (λ c. present_at e w c (place_of e w c))

@@ -1,6 +1,7 @@
 -- Where carriers don't migrate, the units of a live block are those that the owner of its carrier
 -- has at its spot.
-use Rattle.std.proofs.Common.{◌≡◌, ◌≢◌, ℕ, zero, suc, ◌+◌, ◌-◌, ◌<◌, ◌≤◌, true, false, List, [], ◌∷◌, map, get_or, length, refl, sym, ap, ◌∙◌, arith}
+use Rattle.std.proofs.Common.{◌≡◌, ◌≢◌, ℕ, zero, suc, ◌+◌, ◌-◌, ◌<◌, ◌≤◌, true, false, List, []}
+use Rattle.std.proofs.Common.{◌∷◌, map, get_or, length, refl, sym, ap, ◌∙◌, arith}
 use Rattle.std.specs.Prelude.{Option, None, Some, All, flat_map, slice_get, sum_by}
 use Rattle.std.specs.List.{range_with_len}
 use Rattle.std.specs.Option.{option_and_then, option_map_or}
@@ -12,33 +13,30 @@ use Rattle.ea_model.specs.declared.carriers.BlockAt.{BlockAt}
 use Rattle.ea_model.specs.declared.carriers.Spot.{Spot}
 use Rattle.ea_model.specs.Content.{Content, block_at, size_of}
 use Rattle.ea_model.specs.Instance.{block_in, content_of, employed, first_number, size_at}
+use Rattle.ea_model.proofs.NumberedItems.{HasKeyIn, each-range}
 use Rattle.ea_model.proofs.Rising.{item_at-All, item_at-key}
 use Rattle.ea_laws.specs.Kept.{number_of}
 use Rattle.ea_machine.specs.declared.nodes.Named.{Named}
 use Rattle.ea_machine.specs.Actor.{Actor}
 use Rattle.ea_machine.specs.Outcome.{actors_of, live_spots, outcome, units_at}
 use Rattle.ea_machine.specs.Owners.{owner_of}
-use Rattle.ea_sound.specs.Places.{has_number}
 use Rattle.ea_machine.specs.Setup.{Setup, is_scheduler, migration}
 use Rattle.ea_machine.specs.State.{State}
 use Rattle.ea_machine.specs.Sums.{sum_over}
-use Rattle.ea_sound.specs.Units.{size_in}
+use Rattle.ea_sound.specs.Contents.{all_employed}
+use Rattle.ea_sound.specs.Places.{has_number}
 use Rattle.ea_sound.specs.Present.{Rule}
+use Rattle.ea_sound.specs.Units.{size_in}
 use Rattle.ea_sound.proofs.Created.{scheduler-number}
 use Rattle.ea_sound.proofs.KeyedWeights.{sum-missing, sum-only, times, times-once}
 use Rattle.ea_sound.proofs.Plans.{numbered-owner}
+use Rattle.ea_sound.proofs.PresentCarriers.{numbers, present-contents}
 use Rattle.ea_sound.proofs.Printed.{printed-all}
 use Rattle.ea_sound.proofs.Ranged.{sum-flat}
 use Rattle.ea_sound.proofs.SoundOwners.{number-once}
 use Rattle.ea_sound.proofs.SoundRanges.{number-scheduler}
 use Rattle.ea_sound.proofs.SoundUnits.{size-here, size-of}
 use Rattle.ea_sound.proofs.Weights.{sum-append, sum-map, sum-same, sum-zero, sum_by-sum_over}
-use Rattle.ea_sched.specs.declared.state.Scheduler.{Scheduler}
-use Rattle.ea_sched.specs.Acting.{actor_of}
-use Rattle.ea_sched.specs.Resting as resting
-use Rattle.ea_sched.specs.Resting.{all_employed}
-use Rattle.ea_sched.proofs.PresentCarriers.{numbers, present-contents}
-use Rattle.ea_sched.proofs.PresentNumbers.{HasKeyIn, each-range}
 
 -- the block at the spot in what is there
 abbrev block_by : Spot → Option Content → Option BlockAt
@@ -124,12 +122,17 @@ module _ (e : Setup) (w : State) (rule : Rule e w) (off : migration e ≡ false)
             absurd (other (numbered-owner i p.carrier (scheduler-number e i is).0
             (omega (arith, range.0, same)) (omega (arith, range.1, same))))
 
-  module _ (ss : List Scheduler) (are : map actor_of ss ≡ actors) where
+  -- whatever stands for the schedulers
+  module _ {S : Type 0} (actor_of : S → Actor) (ss : List S) (are : map actor_of ss ≡ actors) where
     -- so its owner has it
-    at-owner : (p : Spot) → size_of (block_in (all_employed actors) p) ≡ resting.units_at ss p
-    at-owner p = at-each p ∙ ap (sum_over (λ a. size_at a.instance p)) (sym are)
+    abbrev pub at_owner : Spot → ℕ
+    at_owner p = option_map_or (λ s. size_at (actor_of s).instance p)
+        (slice_get ss (owner_of p.carrier - 1)) 0
+
+    owner-has : (p : Spot) → size_of (block_in (all_employed actors) p) ≡ at_owner p
+    owner-has p = at-each p ∙ ap (sum_over (λ a. size_at a.instance p)) (sym are)
         ∙ sum-map (λ (a : Actor). size_at a.instance p) actor_of ss
-        ∙ one-sums (λ (s : Scheduler). size_at s.instance p) ss (owner_of p.carrier - 1)
+        ∙ one-sums (λ s. size_at (actor_of s).instance p) ss (owner_of p.carrier - 1)
         (λ k d within other.
         let below : k < e.schedulers = omega (
           arith,
@@ -147,33 +150,35 @@ module _ (e : Setup) (w : State) (rule : Rule e w) (off : migration e ≡ false)
         (number-scheduler e (1 + k) (omega arith, omega (arith, below)))
         (λ own. other (omega (arith, own))))
 
-    -- all live units, name by name
-    pub live-printed : (outcome e w).totals.live ≡ resting.live_units ss w.shared.given
-    live-printed =
-        let g = resting.units_at ss in
-        let spots = λ (b : Actor). map (λ (n : Named). n.spot) b.held in
-        omega (
-          arith,
-          ap (λ xs. units_at xs (live_spots e w)) (present-contents e w rule off),
-          ap (λ (f : Spot → ℕ). sum_by f (live_spots e w)) (fun_ext at-owner),
-          sum_by-sum_over g (live_spots e w),
-          sum-append g (flat_map spots actors) (map (λ n. n.spot) w.shared.given),
-          sum-flat g spots actors,
-          ap (sum_over (λ b. sum_over g (spots b))) (sym are),
-          sum-map (λ (b : Actor). sum_over g (spots b)) actor_of ss,
-          held-sum ss,
-          named-sum w.shared.given,
-        ) where
-          named-sum : (names : List Named)
-              → sum_over (resting.units_at ss) (map (λ n. n.spot) names)
-              ≡ resting.units_named ss names
-          named-sum names = sum-map (resting.units_at ss) (λ (n : Named). n.spot) names
-              ∙ sym (sum_by-sum_over (λ n. resting.units_at ss n.spot) names)
+    -- for the blocks of names
+    abbrev pub of_names : List Named → ℕ
+    of_names names = sum_by (λ n. at_owner n.spot) names
 
-          held-sum : (ts : List Scheduler)
-              → sum_over (λ (s : Scheduler). sum_over (resting.units_at ss)
-              (map (λ (n : Named). n.spot) s.names.held)) ts
-              ≡ sum_by (λ s. resting.units_named ss s.names.held) ts
-          held-sum ts = sum-same _ (λ s. resting.units_named ss s.names.held) ts
-              (λ k d within. named-sum (get_or ts k d).names.held)
-              ∙ sym (sum_by-sum_over (λ s. resting.units_named ss s.names.held) ts)
+    named-sum : (names : List Named) → sum_over at_owner (map (λ n. n.spot) names) ≡ of_names names
+    named-sum names = sum-map at_owner (λ (n : Named). n.spot) names
+        ∙ sym (sum_by-sum_over (λ n. at_owner n.spot) names)
+
+    abbrev spots : Actor → List Spot
+    spots a = map (λ (n : Named). n.spot) a.held
+
+    held-sum : (ts : List S) → sum_over (λ s. sum_over at_owner (spots (actor_of s))) ts
+        ≡ sum_by (λ s. of_names (actor_of s).held) ts
+    held-sum ts = sum-same _ (λ s. of_names (actor_of s).held) ts
+        (λ k d within. named-sum (actor_of (get_or ts k d)).held)
+        ∙ sym (sum_by-sum_over (λ s. of_names (actor_of s).held) ts)
+
+    -- all live units, name by name
+    pub live-printed : (outcome e w).totals.live
+        ≡ sum_by (λ s. of_names (actor_of s).held) ss + of_names w.shared.given
+    live-printed = omega (
+      arith,
+      ap (λ xs. units_at xs (live_spots e w)) (present-contents e w rule off),
+      ap (λ (f : Spot → ℕ). sum_by f (live_spots e w)) (fun_ext owner-has),
+      sum_by-sum_over at_owner (live_spots e w),
+      sum-append at_owner (flat_map spots actors) (map (λ n. n.spot) w.shared.given),
+      sum-flat at_owner spots actors,
+      ap (sum_over (λ b. sum_over at_owner (spots b))) (sym are),
+      sum-map (λ (b : Actor). sum_over at_owner (spots b)) actor_of ss,
+      held-sum ss,
+      named-sum w.shared.given,
+    )
