@@ -4,16 +4,21 @@ use Rattle.ea_model.specs.declared.operations.Op.{Op}
 use Rattle.ea_model.specs.declared.operations.Op.TheVariants as op
 use Rattle.ea_model.specs.declared.trace.Mode.{Mode}
 use Rattle.ea_model.specs.Trace.{turns_of}
+use Rattle.ea_model.specs.Content.{Content}
 use Rattle.ea_machine.specs.declared.nodes.Node.{Node}
 use Rattle.ea_machine.specs.Setup.{Setup, greatest_number}
-use Rattle.ea_machine.specs.Actor.{Actor, Route, Looking, Trying, Settling, Abandoning, Sending, Clearing, Pushing, Linking, Stage, Begin, Routed, Collecting, Searching, Fetching, Creating, Giving, Taking, Ended, Ready}
+use Rattle.ea_machine.specs.declared.stages.Stage.{Stage}
+use Rattle.ea_machine.specs.declared.stages.Stage.TheVariants.{Begin, Routed, Collecting, Searching, Fetching, Creating, Giving, Taking, Ended, Ready}
+use Rattle.ea_machine.specs.declared.stages.Route.{Route}
+use Rattle.ea_machine.specs.declared.stages.Route.TheVariants.{Looking, Trying, Settling, Abandoning, Sending, Clearing, Pushing, Linking}
+use Rattle.ea_machine.specs.Actor.{Actor}
 use Rattle.ea_machine.specs.declared.tasks.Why.TheVariants.{Walk, For}
 use Rattle.ea_machine.specs.State.{State}
 use Rattle.ea_machine.specs.Tasks.{later}
 use Rattle.ea_machine.specs.Machine.{run, run_on, step}
 
 -- the rows of a release route that are left, at most
-abbrev pub route_rows : Route → ℕ
+abbrev pub route_rows : Route Content → ℕ
 route_rows (Looking hand) = 6
 route_rows (Trying hand seen) = 5
 route_rows (Settling x) = 4
@@ -62,7 +67,7 @@ module _ (setup : Setup) where
   later_rows ops = text_rows (later ops) + 12
 
   -- those of the operations left, by where the scheduler is in the present one
-  abbrev pub stage_rows : Option Node → List Op → Stage → ℕ
+  abbrev pub stage_rows : Option Node → List Op → Stage Content → ℕ
   stage_rows next ops Begin = text_rows ops + begin_rows next
   stage_rows next ops (Routed r Walk gone) = text_rows ops + route_rows r
   stage_rows next ops (Routed r (For task) gone) = later_rows ops + route_rows r
@@ -85,7 +90,7 @@ module _ (setup : Setup) where
       + actor_rows (w.actors me)
 
   -- its turns until it has ended, but not more than that many
-  abbrev pub ending : ℕ → State → ℕ → Stage → List ℕ
+  abbrev pub ending : ℕ → State → ℕ → Stage Content → List ℕ
   ending most w me Ended = []
   ending zero w me stage = []
   ending (suc most) w me stage =

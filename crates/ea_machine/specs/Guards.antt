@@ -8,7 +8,8 @@ use Rattle.ea_machine.specs.Nodes.{first_node, named_at, pushed, same_node}
 use Rattle.ea_machine.specs.Owners.{Absent, Employed, Busy, Returning, owner_of}
 use Rattle.ea_machine.specs.Setup.{Setup}
 use Rattle.ea_machine.specs.Shared.{Shared}
-use Rattle.ea_machine.specs.Actor.{Actor, Collecting, Fetching}
+use Rattle.ea_machine.specs.declared.stages.Stage.TheVariants.{Collecting, Fetching}
+use Rattle.ea_machine.specs.Actor.{Actor}
 use Rattle.ea_machine.specs.declared.asks.Ask.{Ask}
 use Rattle.ea_machine.specs.Rows.{Row, TakeAll, TakeLink, Look, Push, Link, BusyTry, Settle, Abandon, FetchTry, Create, SendHome, Clear, Give, TakeTry, Nothing}
 use Rattle.ea_model.specs.Abandonment.{is_due}

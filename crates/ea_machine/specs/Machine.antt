@@ -1,11 +1,16 @@
 -- The machine: what a scheduler wants, a step, and a run.
 use Rattle.std.specs.Prelude.{◌≡◌, ℕ, Bool, true, false, ◌&&◌, nat_lt, ◌==◌, List, [], ◌∷◌, Option, None, Some}
 use Rattle.ea_model.specs.Instance.{Instance, first_number, new_instance}
+use Rattle.ea_model.specs.Content.{Content}
 use Rattle.ea_machine.specs.declared.nodes.Node.{Node}
 use Rattle.ea_machine.specs.Owners.{CarrierAt, Absent, Employed, owner_of}
 use Rattle.ea_machine.specs.Setup.{Setup, first_page, is_scheduler, migration}
 use Rattle.ea_machine.specs.Shared.{put}
-use Rattle.ea_machine.specs.Actor.{Actor, Route, Looking, Trying, Settling, Abandoning, Sending, Clearing, Pushing, Linking, Stage, Begin, Routed, Collecting, Searching, Fetching, Creating, Giving, Taking, Ended, Ready}
+use Rattle.ea_machine.specs.declared.stages.Stage.{Stage}
+use Rattle.ea_machine.specs.declared.stages.Stage.TheVariants.{Begin, Routed, Collecting, Searching, Fetching, Creating, Giving, Taking, Ended, Ready}
+use Rattle.ea_machine.specs.declared.stages.Route.{Route}
+use Rattle.ea_machine.specs.declared.stages.Route.TheVariants.{Looking, Trying, Settling, Abandoning, Sending, Clearing, Pushing, Linking}
+use Rattle.ea_machine.specs.Actor.{Actor}
 use Rattle.ea_machine.specs.State.{State}
 use Rattle.ea_machine.specs.Rows.{Answer, Row, TakeAll, TakeLink, Look, Push, Link, BusyTry, Settle, Abandon, FetchTry, Create, SendHome, Clear, Give, TakeTry, Nothing}
 use Rattle.ea_machine.specs.Table.{answer, effect}
@@ -22,7 +27,7 @@ begins None = TakeAll
 begins (Some node) = TakeLink
 
 -- the row that is next on a route
-abbrev pub wants_on : Route → Row
+abbrev pub wants_on : Route Content → Row
 wants_on (Looking hand) = Look hand.spot.carrier
 wants_on (Trying hand seen) = BusyTry hand.spot.carrier seen
 wants_on (Settling x) = Settle x
@@ -33,7 +38,7 @@ wants_on (Pushing node to) = Push node to
 wants_on (Linking node to) = Link node to
 
 -- the row that is next, by where the scheduler is in its operation
-abbrev pub wants_at : Option Node → Stage → Row
+abbrev pub wants_at : Option Node → Stage Content → Row
 wants_at next Begin = begins next
 wants_at next (Routed r why gone) = wants_on r
 wants_at next (Collecting number) = Clear number
@@ -52,7 +57,7 @@ wants a = wants_at a.next a.stage
 module _ (setup : Setup) (me : ℕ) where
   -- the scheduler once the row that it wanted is answered; where the begin of its operation is over
   -- by that, it is ready for the operation itself
-  abbrev pub after_row : Actor → Answer → Stage → Actor
+  abbrev pub after_row : Actor → Answer → Stage Content → Actor
   after_row a r Begin = begun setup me a r
   after_row a r (Routed route why gone) = carried why (after_route setup me why)
       (turned setup me route gone a r)
@@ -66,7 +71,7 @@ module _ (setup : Setup) (me : ℕ) where
   after_row a r Ready = a
 
   -- by where the scheduler is
-  abbrev pub onward_at : Actor → Stage → Actor
+  abbrev pub onward_at : Actor → Stage Content → Actor
   onward_at a Begin = a
   onward_at a (Routed route why gone) = a
   onward_at a (Collecting number) = a
@@ -84,19 +89,19 @@ module _ (setup : Setup) (me : ℕ) where
 
   -- the scheduler when its row is answered and all is done up to the next one, with its figures
   -- observed
-  unfoldable pub after : Actor → Answer → Stage → Actor
+  unfoldable pub after : Actor → Answer → Stage Content → Actor
   after a r stage = observed (onward (after_row a r stage))
 
 module _ (setup : Setup) where
   -- the scheduler does the row, and goes on by its answer
-  abbrev pub stepped : State → ℕ → Actor → Stage → Row → State
+  abbrev pub stepped : State → ℕ → Actor → Stage Content → Row → State
   stepped w me a stage row = record {
     shared = effect me row w.shared;
     actors = put w.actors me (after setup me a (answer me row w.shared) stage);
   }
 
   -- a step of the scheduler, by where it is in its operation; one that has ended does nothing
-  unfoldable pub step_at : State → ℕ → Stage → State
+  unfoldable pub step_at : State → ℕ → Stage Content → State
   step_at w me Ended = w
   step_at w me stage = stepped w me (w.actors me) stage (wants_at (w.actors me).next stage)
 
@@ -123,7 +128,7 @@ module _ (setup : Setup) where
   first_instance me = instance_by (is_scheduler setup me) me
 
   -- a number that is no scheduler's has ended
-  abbrev pub first_stage : Bool → Stage
+  abbrev pub first_stage : Bool → Stage Content
   first_stage true = Begin
   first_stage false = Ended
 

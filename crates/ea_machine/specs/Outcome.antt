@@ -17,13 +17,16 @@ use Rattle.ea_machine.specs.declared.nodes.Node.TheVariants.{Block, Carrier}
 use Rattle.ea_machine.specs.Nodes.{Mark}
 use Rattle.ea_machine.specs.Owners.{CarrierAt, Absent, Employed, Pooled, Busy, Returning, owner_of}
 use Rattle.ea_machine.specs.Setup.{Setup, greatest_number, migration, setup_of}
-use Rattle.ea_machine.specs.Actor.{Actor, Route, Looking, Trying, Settling, Abandoning, Sending, Clearing, Pushing, Linking, Stage, on_route}
+use Rattle.ea_machine.specs.declared.stages.Stage.{Stage}
+use Rattle.ea_machine.specs.declared.stages.Route.{Route}
+use Rattle.ea_machine.specs.declared.stages.Route.TheVariants.{Looking, Trying, Settling, Abandoning, Sending, Clearing, Pushing, Linking}
+use Rattle.ea_machine.specs.Actor.{Actor, on_route}
 use Rattle.ea_machine.specs.State.{State}
 use Rattle.ea_machine.specs.Completion.{end_of}
 use Rattle.ea_machine.specs.Statistics.{employed_multis, employed_singles}
 
 -- the content in the hand of a carrier that was made busy
-abbrev pub settling_on : Route → Option Content
+abbrev pub settling_on : Route Content → Option Content
 settling_on (Looking hand) = None
 settling_on (Trying hand seen) = None
 settling_on (Settling x) = Some x
@@ -34,7 +37,7 @@ settling_on (Pushing node to) = None
 settling_on (Linking node to) = None
 
 -- the same, by where the scheduler is
-abbrev pub settling_at : Stage → Option Content
+abbrev pub settling_at : Stage Content → Option Content
 settling_at stage = on_route None settling_on stage
 
 -- a carrier that is there: its content, and where it is
@@ -58,7 +61,7 @@ block_of (Block name spot) = spot ∷ []
 block_of (Carrier number) = []
 
 -- the block in the hand on a route; once it was pushed it is in a queue
-abbrev pub hand_on : Route → List Spot
+abbrev pub hand_on : Route Content → List Spot
 hand_on (Looking hand) = hand.spot ∷ []
 hand_on (Trying hand seen) = hand.spot ∷ []
 hand_on (Settling x) = []
@@ -69,7 +72,7 @@ hand_on (Pushing node to) = block_of node
 hand_on (Linking node to) = []
 
 -- the block in a scheduler's hand
-abbrev pub hand_at : Stage → List Spot
+abbrev pub hand_at : Stage Content → List Spot
 hand_at stage = on_route [] hand_on stage
 
 -- the blocks of the nodes of a queue or a walk

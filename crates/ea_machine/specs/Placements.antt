@@ -13,7 +13,8 @@ use Rattle.ea_machine.specs.declared.owners.OwnerWord.TheVariants as word
 use Rattle.ea_machine.specs.Nodes.{with_name}
 use Rattle.ea_machine.specs.declared.nodes.Named.{Named}
 use Rattle.ea_machine.specs.Setup.{Setup, greatest_number, migration}
-use Rattle.ea_machine.specs.Actor.{Actor, Creating, Fetching, Searching}
+use Rattle.ea_machine.specs.declared.stages.Stage.TheVariants.{Creating, Fetching, Searching}
+use Rattle.ea_machine.specs.Actor.{Actor}
 use Rattle.ea_machine.specs.declared.tasks.Task.TheVariants.{Moving}
 use Rattle.ea_machine.specs.declared.asks.Ask.{Ask}
 use Rattle.ea_machine.specs.Rows.{Answer, Saw, Won, Lost}

@@ -13,7 +13,9 @@ use Rattle.ea_machine.specs.Nodes.{block_node}
 use Rattle.ea_machine.specs.declared.nodes.Named.{Named}
 use Rattle.ea_machine.specs.Owners.{owner_of}
 use Rattle.ea_machine.specs.Setup.{Setup, migration}
-use Rattle.ea_machine.specs.Actor.{Actor, Route, Looking, Trying, Settling, Abandoning, Sending, Clearing, Pushing, Linking}
+use Rattle.ea_machine.specs.declared.stages.Route.{Route}
+use Rattle.ea_machine.specs.declared.stages.Route.TheVariants.{Looking, Trying, Settling, Abandoning, Sending, Clearing, Pushing, Linking}
+use Rattle.ea_machine.specs.Actor.{Actor}
 use Rattle.ea_machine.specs.declared.tasks.Gone.{Gone}
 use Rattle.ea_machine.specs.declared.tasks.Gone.TheVariants.{Open, Here, Queued}
 use Rattle.ea_machine.specs.Rows.{Answer, Saw, Won, Lost}
@@ -23,11 +25,11 @@ use Rattle.ea_model.specs.Abandonment.{is_due}
 -- a scheduler on a route, what is next on it if it isn't over, and what became of the block
 pub record Turned : Type 0 where
   pub actor : Actor
-  pub route : Option Route
+  pub route : Option (Route Content)
   pub gone : Gone
 
 -- a row of the route is next
-abbrev pub goes_on : Route → Gone → Actor → Turned
+abbrev pub goes_on : Route Content → Gone → Actor → Turned
 goes_on r gone a = record { actor = a; route = Some r; gone = gone }
 
 -- the route is over
@@ -141,7 +143,7 @@ module _ (setup : Setup) (me : ℕ) where
   settled false x gone a = ends gone a
 
   -- the route once its row is answered
-  abbrev pub turned : Route → Gone → Actor → Answer → Turned
+  abbrev pub turned : Route Content → Gone → Actor → Answer → Turned
   turned (Looking hand) gone a r = looked_at hand gone a r
   turned (Trying hand seen) gone a r = tried hand gone a r
   turned (Settling x) gone a r = settled (is_nil x.blocks) x gone a

@@ -8,7 +8,10 @@ use Rattle.ea_model.specs.declared.entries.Report.{Report}
 use Rattle.ea_model.specs.declared.entries.Triple.{Triple}
 use Rattle.ea_model.specs.Content.{Content}
 use Rattle.ea_model.specs.Instance.{figures}
-use Rattle.ea_machine.specs.Actor.{Actor, Stat, Route, Looking, Trying, Settling, Abandoning, Sending, Clearing, Pushing, Linking, Stage, on_route}
+use Rattle.ea_machine.specs.declared.stages.Stage.{Stage}
+use Rattle.ea_machine.specs.declared.stages.Route.{Route}
+use Rattle.ea_machine.specs.declared.stages.Route.TheVariants.{Looking, Trying, Settling, Abandoning, Sending, Clearing, Pushing, Linking}
+use Rattle.ea_machine.specs.Actor.{Actor, Stat, on_route}
 use Rattle.ea_machine.specs.Tasks.{logged}
 
 -- whether a carrier of the kind has one block
@@ -19,7 +22,7 @@ is_single Single = true
 
 -- a content in the hand whose carrier is still employed: it is before the row that abandons it,
 -- sends it home or clears it. A busy carrier isn't employed
-abbrev pub leaving_on : Route → List Content
+abbrev pub leaving_on : Route Content → List Content
 leaving_on (Looking hand) = []
 leaving_on (Trying hand seen) = []
 leaving_on (Settling x) = []
@@ -30,7 +33,7 @@ leaving_on (Pushing node to) = []
 leaving_on (Linking node to) = []
 
 -- the same, by where the scheduler is
-abbrev pub leaving_at : Stage → List Content
+abbrev pub leaving_at : Stage Content → List Content
 leaving_at stage = on_route [] leaving_on stage
 
 -- the main and multiblock carriers that a scheduler employs

@@ -3,10 +3,13 @@ use Rattle.std.specs.Prelude.{ℕ, List, [], ◌∷◌, ◌++◌, Option, None, 
 use Rattle.ea_model.specs.declared.operations.Op.{Op}
 use Rattle.ea_model.specs.declared.entries.Entry.{Entry}
 use Rattle.ea_model.specs.declared.entries.Entry.TheVariants as entry
+use Rattle.ea_model.specs.Content.{Content}
 use Rattle.ea_machine.specs.Nodes.{without_name}
 use Rattle.ea_machine.specs.declared.nodes.Named.{Named}
 use Rattle.ea_machine.specs.Setup.{Setup}
-use Rattle.ea_machine.specs.Actor.{Actor, Begin, Ended, Routed, Route}
+use Rattle.ea_machine.specs.declared.stages.Stage.TheVariants.{Begin, Ended, Routed}
+use Rattle.ea_machine.specs.declared.stages.Route.{Route}
+use Rattle.ea_machine.specs.Actor.{Actor}
 use Rattle.ea_machine.specs.declared.tasks.Task.{Task}
 use Rattle.ea_machine.specs.declared.tasks.Task.TheVariants.{Freeing, Moving}
 use Rattle.ea_machine.specs.declared.tasks.Why.{Why}
@@ -42,7 +45,7 @@ abbrev pub task_over : Task → Gone → Actor → Actor
 task_over task gone a = logged (entry_of task gone) a
 
 -- by whether there is a next row of the route
-abbrev pub carried_by : Why → (Gone → Actor → Actor) → Gone → Actor → Option Route → Actor
+abbrev pub carried_by : Why → (Gone → Actor → Actor) → Gone → Actor → Option (Route Content) → Actor
 carried_by why over gone a (Some r) = record a { stage = Routed r why gone }
 carried_by why over gone a None = over gone a
 

@@ -5,7 +5,8 @@ use Rattle.std.specs.Prelude.{ℕ, List, [], ◌∷◌, Option, None, Some}
 use Rattle.ea_machine.specs.declared.nodes.Node.{Node}
 use Rattle.ea_machine.specs.declared.nodes.Node.TheVariants.{Block, Carrier}
 use Rattle.ea_machine.specs.Setup.{Setup}
-use Rattle.ea_machine.specs.Actor.{Actor, Begin, Collecting, Ready}
+use Rattle.ea_machine.specs.declared.stages.Stage.TheVariants.{Begin, Collecting, Ready}
+use Rattle.ea_machine.specs.Actor.{Actor}
 use Rattle.ea_machine.specs.declared.tasks.Why.{Why}
 use Rattle.ea_machine.specs.declared.tasks.Why.TheVariants.{Walk, For}
 use Rattle.ea_machine.specs.declared.tasks.Gone.{Gone}

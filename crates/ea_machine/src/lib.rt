@@ -2,7 +2,7 @@
 //! the protocol of blocks that another scheduler frees than the one that allocated them, and of
 //! carriers that are abandoned into a pool and fetched from it.
 //!
-//! There is no code here but seven types. The machine is defined in `specs/`, which read as its
+//! There is no code here but nine types. The machine is defined in `specs/`, which read as its
 //! manual, in this order:
 //!
 //! - `Setup` is what stays the same in a run; `Owners` and `Nodes` are what is shared of a carrier
@@ -24,9 +24,11 @@
 pub mod asks;
 pub mod nodes;
 pub mod owners;
+pub mod stages;
 pub mod tasks;
 
 pub use asks::Ask;
 pub use nodes::{Named, Node};
 pub use owners::OwnerWord;
+pub use stages::{Route, Stage};
 pub use tasks::{Gone, Task, Why};

@@ -1,7 +1,11 @@
 -- Weights of the contents at a scheduler, and of the content at home.
 use Rattle.std.proofs.Common.{◌≡◌, ℕ, zero, suc, ◌≤◌, refl, arith}
 use Rattle.ea_model.specs.Content.{Content}
-use Rattle.ea_machine.specs.Actor.{Actor, Route, Looking, Trying, Settling, Abandoning, Sending, Clearing, Pushing, Linking, Stage, Begin, Routed, Collecting, Searching, Fetching, Creating, Giving, Taking, Ended, Ready}
+use Rattle.ea_machine.specs.declared.stages.Stage.{Stage}
+use Rattle.ea_machine.specs.declared.stages.Stage.TheVariants.{Begin, Routed, Collecting, Searching, Fetching, Creating, Giving, Taking, Ended, Ready}
+use Rattle.ea_machine.specs.declared.stages.Route.{Route}
+use Rattle.ea_machine.specs.declared.stages.Route.TheVariants.{Looking, Trying, Settling, Abandoning, Sending, Clearing, Pushing, Linking}
+use Rattle.ea_machine.specs.Actor.{Actor}
 use Rattle.ea_sound.specs.Contents.{actor_sum, hand_sum, home_sum, route_sum, seats, slots, sum_everywhere}
 use Rattle.ea_machine.specs.Owners.{CarrierAt, Absent, Employed, Pooled, Busy, Returning}
 use Rattle.ea_machine.specs.Setup.{Setup}
@@ -12,7 +16,7 @@ use Rattle.ea_sound.proofs.Weights.{sum-less, sum-none}
 -- where the first weights are 0, the second ones are
 module _ (b h f g : Content → ℕ) (busy : (x : Content) → b x ≡ 0 → f x ≡ 0)
     (employed : (x : Content) → h x ≡ 0 → g x ≡ 0) where
-  route-none : (r : Route) → route_sum b h r ≡ 0 → route_sum f g r ≡ 0
+  route-none : (r : Route Content) → route_sum b h r ≡ 0 → route_sum f g r ≡ 0
   route-none (Looking hand) z = refl
   route-none (Trying hand seen) z = refl
   route-none (Settling x) z = busy x z
@@ -22,7 +26,7 @@ module _ (b h f g : Content → ℕ) (busy : (x : Content) → b x ≡ 0 → f x
   route-none (Pushing node to) z = refl
   route-none (Linking node to) z = refl
 
-  pub hand-none : (s : Stage) → hand_sum b h s ≡ 0 → hand_sum f g s ≡ 0
+  pub hand-none : (s : Stage Content) → hand_sum b h s ≡ 0 → hand_sum f g s ≡ 0
   hand-none Begin z = refl
   hand-none (Routed route why gone) z = route-none route z
   hand-none (Collecting number) z = refl
@@ -57,7 +61,7 @@ total-less f g m zero less = omega arith
 total-less f g m (suc n) less = omega (arith, total-less f g m n less, less (m n))
 
 module _ (f g : Content → ℕ) (less : (x : Content) → f x ≤ g x) where
-  route-less : (r : Route) → route_sum f f r ≤ route_sum g g r
+  route-less : (r : Route Content) → route_sum f f r ≤ route_sum g g r
   route-less (Looking hand) = omega arith
   route-less (Trying hand seen) = omega arith
   route-less (Settling x) = less x
@@ -67,7 +71,7 @@ module _ (f g : Content → ℕ) (less : (x : Content) → f x ≤ g x) where
   route-less (Pushing node to) = omega arith
   route-less (Linking node to) = omega arith
 
-  hand-less : (s : Stage) → hand_sum f f s ≤ hand_sum g g s
+  hand-less : (s : Stage Content) → hand_sum f f s ≤ hand_sum g g s
   hand-less Begin = omega arith
   hand-less (Routed route why gone) = route-less route
   hand-less (Collecting number) = omega arith

@@ -4,7 +4,11 @@ use Rattle.std.specs.Prelude.{All}
 use Rattle.std.proofs.lemmas.List.Elements.{All-nil, All-weaker}
 use Rattle.ea_model.specs.Content.{Content}
 use Rattle.ea_laws.specs.Kept.{IsLaidOut, IsLaidOutAlone}
-use Rattle.ea_machine.specs.Actor.{Actor, Route, Looking, Trying, Settling, Abandoning, Sending, Clearing, Pushing, Linking, Stage, Begin, Routed, Collecting, Searching, Fetching, Creating, Giving, Taking, Ended, Ready}
+use Rattle.ea_machine.specs.declared.stages.Stage.{Stage}
+use Rattle.ea_machine.specs.declared.stages.Stage.TheVariants.{Begin, Routed, Collecting, Searching, Fetching, Creating, Giving, Taking, Ended, Ready}
+use Rattle.ea_machine.specs.declared.stages.Route.{Route}
+use Rattle.ea_machine.specs.declared.stages.Route.TheVariants.{Looking, Trying, Settling, Abandoning, Sending, Clearing, Pushing, Linking}
+use Rattle.ea_machine.specs.Actor.{Actor}
 use Rattle.ea_sound.specs.Contents.{AtHome, Everywhere, InHand, OnRoute, hand_sum, home_sum, route_sum, seats}
 use Rattle.ea_machine.specs.Owners.{CarrierAt, Absent, Employed, Pooled, Busy, Returning}
 use Rattle.ea_sound.specs.Ranges.{IsLaidOutAsKind}
@@ -69,7 +73,7 @@ module _ (e : Setup) (w : State) (k : Kept e w) (P : Content → Type 0)
     hand-one x belongs laid one =
         has i x belongs laid (counts-seat e w i x seat (in_hand x one))
 
-    route-has : (r : Route) → ((f : Content → ℕ) → hand_sum f f a.stage ≡ route_sum f f r)
+    route-has : (r : Route Content) → ((f : Content → ℕ) → hand_sum f f a.stage ≡ route_sum f f r)
         → OnRoute (Belongs e i) (Belongs e i) r → OnRoute IsLaidOut IsLaidOutAsKind r
         → OnRoute P P r
     route-has (Looking hand) one belongs laid = tt
@@ -81,7 +85,7 @@ module _ (e : Setup) (w : State) (k : Kept e w) (P : Content → Type 0)
     route-has (Pushing node to) one belongs laid = tt
     route-has (Linking node to) one belongs laid = tt
 
-    hand-has : (s : Stage) → a.stage ≡ s → InHand (Belongs e i) (Belongs e i) s
+    hand-has : (s : Stage Content) → a.stage ≡ s → InHand (Belongs e i) (Belongs e i) s
         → InHand IsLaidOut IsLaidOutAsKind s → InHand P P s
     hand-has Begin at belongs laid = tt
     hand-has (Routed r why gone) at belongs laid =

@@ -14,7 +14,10 @@ use Rattle.ea_machine.specs.declared.nodes.Node.{Node}
 use Rattle.ea_machine.specs.declared.nodes.Node.TheVariants.{Block, Carrier}
 use Rattle.ea_machine.specs.declared.owners.OwnerWord.{OwnerWord}
 use Rattle.ea_machine.specs.declared.owners.OwnerWord.TheVariants as word
-use Rattle.ea_machine.specs.Actor.{Actor, Route, Looking, Trying, Settling, Abandoning, Sending, Clearing, Pushing, Linking, Begin, Routed, Collecting, Ready}
+use Rattle.ea_machine.specs.declared.stages.Stage.TheVariants.{Begin, Routed, Collecting, Ready}
+use Rattle.ea_machine.specs.declared.stages.Route.{Route}
+use Rattle.ea_machine.specs.declared.stages.Route.TheVariants.{Looking, Trying, Settling, Abandoning, Sending, Clearing, Pushing, Linking}
+use Rattle.ea_machine.specs.Actor.{Actor}
 use Rattle.ea_machine.specs.declared.tasks.Task.{Task}
 use Rattle.ea_machine.specs.declared.tasks.Why.{Why}
 use Rattle.ea_machine.specs.declared.tasks.Why.TheVariants.{Walk, For}
@@ -36,7 +39,7 @@ use Rattle.ea_sound.specs.Moments.{at}
 
 -- the moves that what is kept is closed under
 pub record Closed (e : Setup) (s : Shared) (me : ℕ) (P : Actor → Type 0) : Type 0 where
-  pub why : (r : Route) (y z : Why) (g h : Gone) (a : Actor) → P (at (Routed r y g) a)
+  pub why : (r : Route Content) (y z : Why) (g h : Gone) (a : Actor) → P (at (Routed r y g) a)
       → P (at (Routed r z h) a)
   pub release : (h : Named) (y : Why) (g : Gone) (a : Actor) → Here e s me h.spot.carrier
       → P (at (Routed (Looking h) y g) a)
@@ -82,7 +85,7 @@ nil-is (b ∷ bs) e = absurd cc
 module _ (e : Setup) (w : State) (s : Shared) (me : ℕ) (P : Actor → Type 0) (c : Closed e s me P)
   where
     -- what a route leaves
-    abbrev pub HoldsAt : Why → Gone → Actor → Option Route → Type 0
+    abbrev pub HoldsAt : Why → Gone → Actor → Option (Route Content) → Type 0
     HoldsAt y g a None = P (at Begin a)
     HoldsAt y g a (Some r) = P (at (Routed r y g) a)
 
@@ -161,7 +164,7 @@ module _ (e : Setup) (w : State) (s : Shared) (me : ℕ) (P : Actor → Type 0) 
     route-holds h y a k = routed-holds (migration e) h y a refl k
 
     -- a route that goes on, or what follows it
-    carried_by-holds : (y : Why) (over : Gone → Actor → Actor) (r : Option Route) (g : Gone)
+    carried_by-holds : (y : Why) (over : Gone → Actor → Actor) (r : Option (Route Content)) (g : Gone)
         (a : Actor) → HoldsAt y g a r → (P (at Begin a) → P (over g a))
         → P (carried_by y over g a r)
     carried_by-holds y over (Some r) g a h f = h
@@ -240,7 +243,7 @@ module _ (e : Setup) (w : State) (s : Shared) (me : ℕ) (P : Actor → Type 0) 
     tried-holds h seen y g a (Home x) l = absurd l
     tried-holds h seen y g a (Got p) l = absurd l
 
-    pub turned-holds : (z : Route) (y : Why) (g : Gone) (a : Actor) (r : Answer)
+    pub turned-holds : (z : Route Content) (y : Why) (g : Gone) (a : Actor) (r : Answer)
         → LeavesRoute e w s me P y g a z r → Holds y a.passed (turned e me z g a r)
     turned-holds (Looking h) y g a r l = looked_at-holds h y g a r l
     turned-holds (Trying h seen) y g a r l = tried-holds h seen y g a r l

@@ -2,7 +2,8 @@
 use Rattle.std.proofs.Common.{◌≡◌, ◌≢◌, ℕ, List, [], ◌∷◌, Bool, true, false, refl, sym, ap, ◌∙◌, arith}
 use Rattle.std.specs.Prelude.{Option, None, Some}
 use Rattle.ea_machine.specs.declared.nodes.Node.{Node}
-use Rattle.ea_machine.specs.Actor.{Actor, Begin}
+use Rattle.ea_machine.specs.declared.stages.Stage.TheVariants.{Begin}
+use Rattle.ea_machine.specs.Actor.{Actor}
 use Rattle.ea_machine.specs.Machine.{begins}
 use Rattle.ea_sound.specs.Names.{made_in, unplaced}
 use Rattle.ea_machine.specs.Nodes.{Mark, first_node}

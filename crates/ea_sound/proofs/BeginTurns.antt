@@ -1,9 +1,13 @@
 -- The begin of an operation leaves the operations left, the log and the settings alone.
 use Rattle.std.proofs.Common.{◌≢◌, ℕ, List, [], ◌∷◌, refl}
 use Rattle.std.specs.Prelude.{Option, Some, None}
+use Rattle.ea_model.specs.Content.{Content}
 use Rattle.ea_machine.specs.declared.nodes.Node.{Node}
 use Rattle.ea_machine.specs.declared.nodes.Node.TheVariants.{Block, Carrier}
-use Rattle.ea_machine.specs.Actor.{Actor, Route, Stage, Begin, Routed, Collecting, Searching, Fetching, Creating, Giving, Taking, Ended, Ready}
+use Rattle.ea_machine.specs.declared.stages.Stage.{Stage}
+use Rattle.ea_machine.specs.declared.stages.Stage.TheVariants.{Begin, Routed, Collecting, Searching, Fetching, Creating, Giving, Taking, Ended, Ready}
+use Rattle.ea_machine.specs.declared.stages.Route.{Route}
+use Rattle.ea_machine.specs.Actor.{Actor}
 use Rattle.ea_machine.specs.declared.tasks.Why.TheVariants.{Walk, For}
 use Rattle.ea_machine.specs.declared.tasks.Gone.{Gone}
 use Rattle.ea_machine.specs.Machine.{after_row}
@@ -15,7 +19,7 @@ use Rattle.ea_machine.specs.Walks.{after_route, begun, with_passed, worked_off}
 use Rattle.ea_sound.proofs.ShortRoutes.{Keeps, keeps-on, keeps-same, route-keeps, turned-keeps}
 
 -- where the walk of a begin may be, and after it
-abbrev pub IsInBegin : Stage → Type 0
+abbrev pub IsInBegin : Stage Content → Type 0
 IsInBegin Begin = Unit {0}
 IsInBegin (Routed r Walk g) = Unit {0}
 IsInBegin (Routed r (For task) g) = ⊥
@@ -32,7 +36,7 @@ abbrev pub Walks : Actor → Actor → Type 0
 Walks a b = Keeps a b × IsInBegin b.stage
 
 module _ (e : Setup) (me : ℕ) (a : Actor) where
-  carried-walks : (over : Gone → Actor → Actor) (r : Option Route) (g : Gone) (b : Actor)
+  carried-walks : (over : Gone → Actor → Actor) (r : Option (Route Content)) (g : Gone) (b : Actor)
       → Keeps a b → ((h : Gone) (c : Actor) → Keeps a c → Walks a (over h c))
       → Walks a (carried Walk over (record { actor = b; route = r; gone = g }))
   carried-walks over None g b k f = f g b k
@@ -63,7 +67,7 @@ module _ (e : Setup) (me : ℕ) (a : Actor) where
   begun-walks (Got p) = (keeps-same a, tt)
 
   -- a row of the begin leaves a stage of the begin, or the begin is over
-  pub walks : (st : Stage) (r : Answer) → IsInBegin st → st ≢ Ended → st ≢ Ready
+  pub walks : (st : Stage Content) (r : Answer) → IsInBegin st → st ≢ Ended → st ≢ Ready
       → Walks a (after_row e me a r st)
   walks Begin r w ne nr = begun-walks r
   walks (Routed z Walk g) r w ne nr =

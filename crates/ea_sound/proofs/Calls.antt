@@ -14,6 +14,7 @@ use Rattle.ea_model.specs.declared.trace.Trace.{Trace}
 use Rattle.ea_model.specs.Settings.{IsValidConfig}
 use Rattle.ea_model.specs.Trace.{IsScheduler, IsValidTrace}
 use Rattle.ea_model.proofs.Rising.{item_at-key}
+use Rattle.ea_model.specs.Content.{Content}
 use Rattle.ea_machine.specs.declared.nodes.Named.{Named}
 use Rattle.ea_machine.specs.declared.nodes.Node.{Node}
 use Rattle.ea_machine.specs.declared.nodes.Node.TheVariants.{Block, Carrier}
@@ -22,7 +23,11 @@ use Rattle.ea_machine.specs.declared.tasks.Task.{Task}
 use Rattle.ea_machine.specs.declared.tasks.Task.TheVariants.{Freeing, Moving}
 use Rattle.ea_machine.specs.declared.tasks.Why.{Why}
 use Rattle.ea_machine.specs.declared.tasks.Why.TheVariants.{For}
-use Rattle.ea_machine.specs.Actor.{Actor, Giving, Linking, Pushing, Route, Routed, Stage, Taking}
+use Rattle.ea_machine.specs.declared.stages.Stage.{Stage}
+use Rattle.ea_machine.specs.declared.stages.Stage.TheVariants.{Giving, Routed, Taking}
+use Rattle.ea_machine.specs.declared.stages.Route.{Route}
+use Rattle.ea_machine.specs.declared.stages.Route.TheVariants.{Linking, Pushing}
+use Rattle.ea_machine.specs.Actor.{Actor}
 use Rattle.ea_machine.specs.Alike.{HasNoAlike, IsNode, IsSpot}
 use Rattle.ea_sound.specs.Contents.{seats}
 use Rattle.ea_machine.specs.Guards.{IsUnlinkedAt}
@@ -127,7 +132,7 @@ module _ (c : Config) (t : Trace) (valid : IsValidConfig c)
     seat : me < seats e
     seat = scheduler-seat e me is
 
-    fits : (stage : Stage) → a.stage ≡ stage → Fits e w me a stage
+    fits : (stage : Stage Content) → a.stage ≡ stage → Fits e w me a stage
     fits stage now = subst (Fits e w me a) now (rule.present.fits me)
 
     -- the next node of a walk
@@ -250,7 +255,7 @@ module _ (c : Config) (t : Trace) (valid : IsValidConfig c)
           take-first.1 in (is.0.0.0, is.1)
 
     -- the operation whose block is on its route is the first one left
-    pub task-first : (route : Route) (task : Task) (gone : Gone)
+    pub task-first : (route : Route Content) (task : Task) (gone : Gone)
         → a.stage ≡ Routed route (For task) gone
         → (o : Op) × (ops : List Op) × (a.todo ≡ o ∷ ops)
     task-first route task gone now =

@@ -26,7 +26,11 @@ use Rattle.ea_machine.specs.declared.owners.OwnerWord.{OwnerWord}
 use Rattle.ea_machine.specs.declared.owners.OwnerWord.TheVariants as word
 use Rattle.ea_machine.specs.declared.tasks.Gone.{Gone}
 use Rattle.ea_machine.specs.declared.tasks.Why.{Why}
-use Rattle.ea_machine.specs.Actor.{Actor, Clearing, Collecting, Creating, Fetching, Looking, Routed, Route, Searching, Settling, Stage, Trying}
+use Rattle.ea_machine.specs.declared.stages.Stage.{Stage}
+use Rattle.ea_machine.specs.declared.stages.Stage.TheVariants.{Collecting, Creating, Fetching, Routed, Searching}
+use Rattle.ea_machine.specs.declared.stages.Route.{Route}
+use Rattle.ea_machine.specs.declared.stages.Route.TheVariants.{Clearing, Looking, Settling, Trying}
+use Rattle.ea_machine.specs.Actor.{Actor}
 use Rattle.ea_sound.specs.Contents.{AtHome, Everywhere, hand_sum, home_sum, seats}
 use Rattle.ea_machine.specs.Machine.{IsReached}
 use Rattle.ea_sound.specs.Names.{of_hand, only_at}
@@ -141,7 +145,7 @@ module _ (c : Config) (t : Trace) (valid : IsValidConfig c)
     seat : me < seats e
     seat = scheduler-seat e me is
 
-    fits : (stage : Stage) → a.stage ≡ stage → Fits e w me a stage
+    fits : (stage : Stage Content) → a.stage ≡ stage → Fits e w me a stage
     fits stage now = subst (Fits e w me a) now (rule.present.fits me)
 
     module _ (why : Why) (gone : Gone) where
@@ -211,7 +215,7 @@ module _ (c : Config) (t : Trace) (valid : IsValidConfig c)
 
         pub settle-laid : a.stage ≡ Routed (Settling x) why gone → IsLaidOut x
         settle-laid now = let laid = k.ranges.hand_laid me in by a.stage now laid where
-          by : (stage : Stage) → stage ≡ Routed (Settling x) why gone
+          by : (stage : Stage Content) → stage ≡ Routed (Settling x) why gone
               → Rattle.ea_sound.specs.Contents.InHand IsLaidOut Rattle.ea_sound.specs.Ranges.IsLaidOutAsKind stage
               → IsLaidOut x
           by stage q laid = subst (Rattle.ea_sound.specs.Contents.InHand IsLaidOut Rattle.ea_sound.specs.Ranges.IsLaidOutAsKind) q laid
@@ -369,7 +373,7 @@ module _ (c : Config) (t : Trace) (valid : IsValidConfig c)
         ]
 
     -- what follows the row of a route is in the middle of a step
-    module _ (route : Route) (gone : Gone) where
+    module _ (route : Route Content) (gone : Gone) where
       abbrev moved : Shared
       moved = effect me (wants_on route) w.shared
 

@@ -18,7 +18,9 @@ use Rattle.ea_laws.specs.Kinds.{is_shared}
 use Rattle.ea_laws.proofs.BlockLists.{offset_of}
 use Rattle.ea_laws.proofs.Apart.{changed-All}
 use Rattle.ea_laws.proofs.Changed.{released-keeps}
-use Rattle.ea_machine.specs.Actor.{Actor, Looking, Abandoning, Begin, Routed}
+use Rattle.ea_machine.specs.declared.stages.Stage.TheVariants.{Begin, Routed}
+use Rattle.ea_machine.specs.declared.stages.Route.TheVariants.{Looking, Abandoning}
+use Rattle.ea_machine.specs.Actor.{Actor}
 use Rattle.ea_machine.specs.declared.tasks.Why.{Why}
 use Rattle.ea_machine.specs.declared.tasks.Gone.{Gone}
 use Rattle.ea_model.specs.Employment.{dismissing}

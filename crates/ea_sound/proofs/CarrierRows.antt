@@ -11,7 +11,9 @@ use Rattle.ea_model.specs.Instance.{content_of, created_content, created_single,
 use Rattle.ea_model.proofs.Rising.{All-entered}
 use Rattle.ea_laws.specs.Kept.{number_of, own_number}
 use Rattle.ea_machine.specs.declared.nodes.Node.{Node}
-use Rattle.ea_machine.specs.Actor.{Actor, Begin, Stage}
+use Rattle.ea_machine.specs.declared.stages.Stage.{Stage}
+use Rattle.ea_machine.specs.declared.stages.Stage.TheVariants.{Begin}
+use Rattle.ea_machine.specs.Actor.{Actor}
 use Rattle.ea_sound.specs.Contents.{hand_sum, home_sum, seats, slots}
 use Rattle.ea_model.specs.Employment.{employing}
 use Rattle.ea_machine.specs.Nodes.{name_of}
@@ -40,7 +42,7 @@ use Rattle.ea_sound.proofs.Totals.{total-put}
 use Rattle.ea_sound.proofs.Weights.{one-most, one-other}
 
 -- a stage with nothing in the hand
-pub record IsBare (stage : Stage) : Type 0 where
+pub record IsBare (stage : Stage Content) : Type 0 where
   pub names : (f : ℕ → Spot → ℕ) → of_hand f stage ≡ 0
   pub hands : (b k : Content → ℕ) → hand_sum b k stage ≡ 0
   pub links : (u : ℕ → Node → ℕ) → of_link u stage ≡ 0
@@ -66,7 +68,7 @@ record Comes (e : Setup) (w : State) (me c : ℕ) (b a : Actor) : Type 0 where
   singles : All (Belongs e me) a.instance.singles
 
 module _ (e : Setup) (w : State) (me : ℕ) (is : is_scheduler e me ≡ true) (k : Kept e w)
-    (stage : Stage) (bare : IsBare stage) (now : (w.actors me).stage ≡ stage) where
+    (stage : Stage Content) (bare : IsBare stage) (now : (w.actors me).stage ≡ stage) where
   abbrev old : Actor
   old = w.actors me
 

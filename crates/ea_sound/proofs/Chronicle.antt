@@ -11,8 +11,13 @@ use Rattle.ea_model.specs.declared.operations.Op.{Op}
 use Rattle.ea_model.specs.declared.operations.Op.TheVariants as op
 use Rattle.ea_model.specs.declared.units.TheConstants.{SEARCH_LIMIT}
 use Rattle.ea_model.specs.Instance.{chosen_spot, plan}
+use Rattle.ea_model.specs.Content.{Content}
 use Rattle.ea_machine.specs.declared.owners.OwnerWord.{OwnerWord}
-use Rattle.ea_machine.specs.Actor.{Actor, Route, Looking, Trying, Settling, Abandoning, Sending, Clearing, Pushing, Linking, Stage, Begin, Routed, Collecting, Searching, Fetching, Creating, Giving, Taking, Ended, Ready}
+use Rattle.ea_machine.specs.declared.stages.Stage.{Stage}
+use Rattle.ea_machine.specs.declared.stages.Stage.TheVariants.{Begin, Routed, Collecting, Searching, Fetching, Creating, Giving, Taking, Ended, Ready}
+use Rattle.ea_machine.specs.declared.stages.Route.{Route}
+use Rattle.ea_machine.specs.declared.stages.Route.TheVariants.{Looking, Trying, Settling, Abandoning, Sending, Clearing, Pushing, Linking}
+use Rattle.ea_machine.specs.Actor.{Actor}
 use Rattle.ea_machine.specs.declared.tasks.Task.{Task}
 use Rattle.ea_machine.specs.declared.tasks.Task.TheVariants.{Freeing, Moving}
 use Rattle.ea_machine.specs.declared.tasks.Why.{Why}
@@ -187,7 +192,7 @@ PushedBy e L s log n Here = IsOut e L n
 PushedBy e L s log n (Queued to) = Sent e L s log n to
 
 -- the block that was held under the name is in the hand, or it left that
-abbrev pub OnWay : Setup → List ℕ → ℕ → List Entry → ℕ → Route → Gone → Type 0
+abbrev pub OnWay : Setup → List ℕ → ℕ → List Entry → ℕ → Route Content → Gone → Type 0
 OnWay e L s log n (Looking h) g = (h.name ≡ n) × (g ≡ Open) × HasHeld e L s n h log
 OnWay e L s log n (Trying h seen) g = (h.name ≡ n) × (g ≡ Open) × HasHeld e L s n h log
 OnWay e L s log n (Settling x) g = LeftBy e L n g
@@ -197,13 +202,13 @@ OnWay e L s log n (Clearing x) g = LeftBy e L n g
 OnWay e L s log n (Pushing node to) g = PushesBy e L s log n node to g
 OnWay e L s log n (Linking node to) g = PushedBy e L s log n g
 
-abbrev pub OnTask : Setup → List ℕ → ℕ → Actor → Route → Why → Gone → Type 0
+abbrev pub OnTask : Setup → List ℕ → ℕ → Actor → Route Content → Why → Gone → Type 0
 OnTask e L s a r Walk g = Unit {0}
 OnTask e L s a r (For task) g = OfTask task a.todo × Placing e L s a.log task
     × WentTo e s g × OnWay e L s a.log (name_in task) r g
 
 -- what the turns L say of s, which is a
-abbrev pub SoFar : Setup → List ℕ → ℕ → Actor → Stage → Type 0
+abbrev pub SoFar : Setup → List ℕ → ℕ → Actor → Stage Content → Type 0
 SoFar e L s a Begin = Unit {0}
 SoFar e L s a (Routed r why g) = OnTask e L s a r why g
 SoFar e L s a (Collecting c) = Unit {0}
@@ -352,7 +357,7 @@ pushed-longer e L s j log n (Queued to) o = record {
   owner = o.owner;
 }
 
-way-longer : (e : Setup) (L : List ℕ) (s j : ℕ) (log : List Entry) (n : ℕ) (r : Route) (g : Gone)
+way-longer : (e : Setup) (L : List ℕ) (s j : ℕ) (log : List Entry) (n : ℕ) (r : Route Content) (g : Gone)
     → OnWay e L s log n r g → OnWay e (L ++ j ∷ []) s log n r g
 way-longer e L s j log n (Looking h) g w = (w.0, w.1, held-longer e L s j n h log w.2)
 way-longer e L s j log n (Trying h seen) g w = (w.0, w.1, held-longer e L s j n h log w.2)
@@ -371,7 +376,7 @@ module _ (e : Setup) (L : List ℕ) (s j : ℕ) (ne : j ≢ s) where
       let d : (j == s) ≡ false = grind (arith, ne) in
       further e L s j need R P P false d refl (λ xs p. subst P (sym (append-nil xs)) p) u
 
-  pub other-so_far : (a : Actor) (st : Stage) → SoFar e L s a st → SoFar e (L ++ j ∷ []) s a st
+  pub other-so_far : (a : Actor) (st : Stage Content) → SoFar e L s a st → SoFar e (L ++ j ∷ []) s a st
   other-so_far a (Searching ask at looked) h = record {
     of = h.of;
     on = h.on;

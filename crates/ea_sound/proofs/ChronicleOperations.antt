@@ -13,7 +13,8 @@ use Rattle.ea_model.specs.declared.reallocation.Decision.TheVariants.{Stay, Shri
 use Rattle.ea_model.specs.Instance.{chosen_spot, decision_at, figures, is_alone, plan, resizing_at, Instance}
 use Rattle.ea_model.specs.Units.{need_of}
 use Rattle.ea_model.proofs.Rising.{item_at-key}
-use Rattle.ea_machine.specs.Actor.{Actor, Ready, Ended, Begin, Stat}
+use Rattle.ea_machine.specs.declared.stages.Stage.TheVariants.{Ready, Ended, Begin}
+use Rattle.ea_machine.specs.Actor.{Actor, Stat}
 use Rattle.ea_machine.specs.declared.tasks.Task.TheVariants.{Freeing}
 use Rattle.ea_machine.specs.declared.asks.Ask.{Ask}
 use Rattle.ea_sound.specs.Chosen.{AtOnce, Had}

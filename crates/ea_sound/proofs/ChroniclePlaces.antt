@@ -12,7 +12,11 @@ use Rattle.ea_model.specs.declared.entries.NoCarrier.TheVariants.{Space}
 use Rattle.ea_model.specs.declared.units.TheConstants.{SEARCH_LIMIT}
 use Rattle.ea_model.specs.Instance.{chosen_spot, creating, is_alone, place_at, plan, single_place, creating_single, placing_at}
 use Rattle.ea_laws.proofs.Keeping.{plan-IsPlanned}
-use Rattle.ea_machine.specs.Actor.{Actor, Route, Looking, Trying, Settling, Abandoning, Sending, Clearing, Pushing, Linking, Begin, Ready, Ended, Routed}
+use Rattle.ea_model.specs.Content.{Content}
+use Rattle.ea_machine.specs.declared.stages.Stage.TheVariants.{Begin, Ready, Ended, Routed}
+use Rattle.ea_machine.specs.declared.stages.Route.{Route}
+use Rattle.ea_machine.specs.declared.stages.Route.TheVariants.{Looking, Trying, Settling, Abandoning, Sending, Clearing, Pushing, Linking}
+use Rattle.ea_machine.specs.Actor.{Actor}
 use Rattle.ea_machine.specs.declared.tasks.Task.{Task}
 use Rattle.ea_machine.specs.declared.tasks.Task.TheVariants.{Freeing, Moving}
 use Rattle.ea_machine.specs.declared.tasks.Why.{Why}
@@ -227,7 +231,7 @@ module _ (e : Setup) (rules : (L : List ℕ) → Rule e (run e L)) (L : List ℕ
     )
 
     -- what becomes of the block of a task, where the turn leaves this of its route
-    abbrev pub Becomes : Task → Option Route → Gone → Actor → Type 0
+    abbrev pub Becomes : Task → Option (Route Content) → Gone → Actor → Type 0
     Becomes task None g b = IsNow (logged (entry_of task g) b) → EndsOut (name_in task) g
     Becomes task (Some r) g b = IsNow (record b { stage = Routed r (For task) g })
         → OnWay e turn me acting.log (name_in task) r g
@@ -254,7 +258,7 @@ module _ (e : Setup) (rules : (L : List ℕ) → Rule e (run e L)) (L : List ℕ
       by (Queued to) y = y
 
     -- with the block in the hand before
-    pub hand-becomes : (task : Task) (h : Named) → h.name ≡ name_in task → (o : Option Route)
+    pub hand-becomes : (task : Task) (h : Named) → h.name ≡ name_in task → (o : Option (Route Content))
         (g : Gone) (b : Actor) → Yields h o g → GoesOut task b
         → HasHeld e turn me (name_in task) h acting.log → (migration e ≡ false → ⊥)
         → Becomes task o g b
@@ -288,7 +292,7 @@ module _ (e : Setup) (rules : (L : List ℕ) → Rule e (run e L)) (L : List ℕ
         ∙ stays-gone e rules (all_of n) o.before o.since o.none o.never
 
     -- where it had left the hand before
-    pub left-becomes : (task : Task) (o : Option Route) (g : Gone) (b : Actor) → NotByWord o
+    pub left-becomes : (task : Task) (o : Option (Route Content)) (g : Gone) (b : Actor) → NotByWord o
         → LeftBy e turn (name_in task) g → Becomes task o g b
     left-becomes task o (Queued to) b y l = absurd l
     left-becomes task None Open b y l = λ now. out-now (name_in task) l
@@ -312,12 +316,12 @@ module _ (e : Setup) (rules : (L : List ℕ) → Rule e (run e L)) (L : List ℕ
     pushed-becomes task (Queued to) b p = λ now. p
 
     -- where carriers don't migrate nothing is done with a carrier in a step of its own
-    off-bare : (task : Task) (r : Route) (g : Gone) → migration e ≡ false → IsBare (Some r)
+    off-bare : (task : Task) (r : Route Content) (g : Gone) → migration e ≡ false → IsBare (Some r)
         → (actor_after e turn me).stage ≡ Routed r (For task) g → ⊥
     off-bare task r g off bare now = by r bare
         (subst (Fits e (run e turn) me (actor_after e turn me)) now
         ((rules turn).present.fits me)).0 where
-          by : (r : Route) → IsBare (Some r) → FitsRoute e (run e turn).shared me r → ⊥
+          by : (r : Route Content) → IsBare (Some r) → FitsRoute e (run e turn).shared me r → ⊥
           by (Settling x) b f = true≢false (sym f.1 ∙ off)
           by (Abandoning x) b f = true≢false (sym f.2 ∙ off)
           by (Sending x) b f = true≢false (sym f.3 ∙ off)
@@ -340,7 +344,7 @@ module _ (e : Setup) (rules : (L : List ℕ) → Rule e (run e L)) (L : List ℕ
       Goes : Turned → Type 0
       Goes t = Becomes task t.route t.gone t.actor
 
-      bare : migration e ≡ false → (o : Option Route) (g' : Gone) (c : Actor) → IsBare o
+      bare : migration e ≡ false → (o : Option (Route Content)) (g' : Gone) (c : Actor) → IsBare o
           → NotSent g' → c.held ≡ a.held → c.passed ≡ a.passed → Becomes task o g' c
       bare off None Open c i sent held passed = λ now.
           held-out e rules L me (name_in task) works h b name there g.kept
@@ -368,7 +372,7 @@ module _ (e : Setup) (rules : (L : List ℕ) → Rule e (run e L)) (L : List ℕ
       by false off = owned off (owner_of h.spot.carrier == me)
 
     -- where a block is queued, by the route that is left
-    abbrev pub Queues : Gone → Option Route → Type 0
+    abbrev pub Queues : Gone → Option (Route Content) → Type 0
     Queues g r = (to : ℕ) → g ≡ Queued to
         → IsAnother e me to ⊎ ((h : Named) × (r ≡ Some (Pushing (block_node h) to)))
 
@@ -389,7 +393,7 @@ module _ (e : Setup) (rules : (L : List ℕ) → Rule e (run e L)) (L : List ℕ
         ((rules turn).present.fits me) in
         (scheduler-number e to f.0.1, f.0.0)
 
-    routed-went : (r : Route) (y : Why) (g : Gone) → Queues g (Some r)
+    routed-went : (r : Route Content) (y : Why) (g : Gone) → Queues g (Some r)
         → (actor_after e turn me).stage ≡ Routed r y g → WentTo e me g
     routed-went r y Open w now = tt
     routed-went r y Here w now = tt
@@ -398,7 +402,7 @@ module _ (e : Setup) (rules : (L : List ℕ) → Rule e (run e L)) (L : List ℕ
       | inr pushes ↦ pushes-another pushes.0 to y (Queued to)
           (now ∙ ap (λ p. Routed p y (Queued to)) (some_route pushes.1))
     ] where
-      some_route : {p q : Route} → Some p ≡ Some q → p ≡ q
+      some_route : {p q : Route Content} → Some p ≡ Some q → p ≡ q
       some_route q = cc
 
     -- an operation that releases a block didn't fail
@@ -411,7 +415,7 @@ module _ (e : Setup) (rules : (L : List ℕ) → Rule e (run e L)) (L : List ℕ
     task-made (Moving o m p) Here b n q = absurd cc
     task-made (Moving o m p) (Queued to) b n q = absurd cc
 
-    pub carried-fine : (task : Task) (r : Option Route) (g : Gone) (b : Actor) → Keeps acting b
+    pub carried-fine : (task : Task) (r : Option (Route Content)) (g : Gone) (b : Actor) → Keeps acting b
         → OfTask task acting.todo → Queues g r → Becomes task r g b
         → (IsAfter b → Placing e turn me acting.log task)
         → Fine (carried (For task) (task_over task) (record { actor = b; route = r; gone = g }))

@@ -7,7 +7,11 @@ use Rattle.ea_model.specs.declared.operations.Op.TheVariants as op
 use Rattle.ea_model.specs.declared.units.TheConstants.{SEARCH_LIMIT}
 use Rattle.ea_model.specs.Instance.{chosen_spot}
 use Rattle.ea_machine.specs.declared.owners.OwnerWord.{OwnerWord}
-use Rattle.ea_machine.specs.Actor.{Actor, Route, Looking, Trying, Settling, Abandoning, Sending, Clearing, Pushing, Linking, Stage, Begin, Routed, Collecting, Searching, Fetching, Creating, Giving, Taking, Ended, Ready}
+use Rattle.ea_machine.specs.declared.stages.Stage.{Stage}
+use Rattle.ea_machine.specs.declared.stages.Stage.TheVariants.{Begin, Routed, Collecting, Searching, Fetching, Creating, Giving, Taking, Ended, Ready}
+use Rattle.ea_machine.specs.declared.stages.Route.{Route}
+use Rattle.ea_machine.specs.declared.stages.Route.TheVariants.{Looking, Trying, Settling, Abandoning, Sending, Clearing, Pushing, Linking}
+use Rattle.ea_machine.specs.Actor.{Actor}
 use Rattle.ea_machine.specs.declared.tasks.Why.TheVariants.{Walk, For}
 use Rattle.ea_machine.specs.declared.asks.Ask.{Ask}
 use Rattle.ea_sound.specs.Chosen.{ByItself, Fetched}
@@ -48,7 +52,7 @@ use Rattle.ea_machine.specs.declared.tasks.Gone.TheVariants.{Open, Here, Queued}
 use Rattle.ea_machine.specs.declared.nodes.Node.TheVariants.{Carrier}
 use Rattle.ea_machine.specs.Owners.{owner_of}
 use Rattle.ea_sound.specs.Names.{only}
-use Rattle.ea_model.specs.Content.{is_nil}
+use Rattle.ea_model.specs.Content.{Content, is_nil}
 use Rattle.ea_sound.proofs.Employers.{there-on}
 use Rattle.ea_sound.proofs.OtherRows.{tried-there}
 use Rattle.std.proofs.lemmas.Bool.{true≢false}
@@ -73,18 +77,18 @@ module _ (e : Setup) (rules : (L : List ℕ) → Rule e (run e L)) (L : List ℕ
     abbrev s : Shared
     s = shared e rules L me
 
-    abbrev LeftAt : Stage → Answer → Type 0
+    abbrev LeftAt : Stage Content → Answer → Type 0
     LeftAt = Leaves e (run e L) s me acting
 
     -- what the row leaves
-    left : (st : Stage) (r : Answer) → acting.stage ≡ st → acting.stage ≢ Ended
+    left : (st : Stage Content) (r : Answer) → acting.stage ≡ st → acting.stage ≢ Ended
         → answered (run e L) me ≡ r → LeftAt st r
     left st r q ne ans = subst (LeftAt st) ans
         (subst (λ st. LeftAt st (answered (run e L) me)) q
         (row-left e (run e L) me is (rules L) acting.stage ne refl))
 
     -- a scheduler that made no entry
-    rests-fine : (b : Actor) (st : Stage) → b.stage ≡ st → st ≢ Ready
+    rests-fine : (b : Actor) (st : Stage Content) → b.stage ≡ st → st ≢ Ready
         → SoFar e turn me (observed b) st → Keeps acting b → Fine b
     rests-fine b st q ne h k = (
       (λ r. ne (sym q ∙ r)),
@@ -97,7 +101,7 @@ module _ (e : Setup) (rules : (L : List ℕ) → Rule e (run e L)) (L : List ℕ
     halted-fine = rests-fine (halted acting) Ended refl (λ q. absurd cc) tt (keeps-same acting)
 
     -- a walk, then perhaps the operation
-    walk-fine : (st : Stage) → mid.stage ≡ st → IsInBegin st → Keeps acting mid
+    walk-fine : (st : Stage Content) → mid.stage ≡ st → IsInBegin st → Keeps acting mid
         → acting.stage ≢ Ended → Fine (onward_at e me mid st)
     walk-fine Ready q w k ne = itself-fine e rules L me set is works q k
         (begun-kept e (run e L) s me is acting (answered (run e L) me) acting.stage
@@ -122,7 +126,7 @@ module _ (e : Setup) (rules : (L : List ℕ) → Rule e (run e L)) (L : List ℕ
     abbrev saw : List Sight
     saw = sight_if true acting.stage (answered (run e L) me)
 
-    turn-of : (need : ℕ) (st : Stage) (r : Answer) (x : Sight) (R : Actor → Type 0)
+    turn-of : (need : ℕ) (st : Stage Content) (r : Answer) (x : Sight) (R : Actor → Type 0)
         (P Q : List Sight → Type 0)
         → acting.stage ≡ st → answered (run e L) me ≡ r → sight st r ≡ x ∷ []
         → ((xs : List Sight) → P xs → Q (xs ++ x ∷ [])) → Underway e L me need R P
@@ -311,7 +315,7 @@ module _ (e : Setup) (rules : (L : List ℕ) → Rule e (run e L)) (L : List ℕ
     took-fine n tries left (Home x) st ans h = halted-fine
 
     -- what isn't Ready is done with
-    onward-by : (b : Actor) (st : Stage) → b.stage ≡ st → Fine b → Fine (onward_at e me b st)
+    onward-by : (b : Actor) (st : Stage Content) → b.stage ≡ st → Fine b → Fine (onward_at e me b st)
     onward-by b Ready q h = absurd (h.0 q)
     onward-by b Begin q h = h
     onward-by b (Routed r y g) q h = h
@@ -323,15 +327,15 @@ module _ (e : Setup) (rules : (L : List ℕ) → Rule e (run e L)) (L : List ℕ
     onward-by b (Taking n tries left) q h = h
     onward-by b Ended q h = h
 
-    abbrev Then : Stage → Actor
+    abbrev Then : Stage Content → Actor
     Then st = after_row e me acting (answered (run e L) me) st
 
     -- owner words are read and tried only where carriers migrate
-    words-on : (r : Route) (y : Why) (g : Gone) → acting.stage ≡ Routed r y g
+    words-on : (r : Route Content) (y : Why) (g : Gone) → acting.stage ≡ Routed r y g
         → migration e ≡ false → ByWord r → ⊥
     words-on r y g q off word =
         by r (subst (Fits e (run e L) me acting) q ((rules L).present.fits me)).0 word where
-          by : (r : Route) → FitsRoute e (run e L).shared me r → ByWord r → ⊥
+          by : (r : Route Content) → FitsRoute e (run e L).shared me r → ByWord r → ⊥
           by (Looking h) f w = true≢false (sym f.1 ∙ off)
           by (Trying h seen) f w = true≢false
               (sym (there-on e (run e L) (rules L).kept h.spot.carrier
@@ -347,7 +351,7 @@ module _ (e : Setup) (rules : (L : List ℕ) → Rule e (run e L)) (L : List ℕ
     abbrev Goes : Task → Turned → Type 0
     Goes task t = Becomes e rules L me set is works task t.route t.gone t.actor
 
-    row-becomes : (task : Task) (g : Gone) (z : Answer) (r : Route)
+    row-becomes : (task : Task) (g : Gone) (z : Answer) (r : Route Content)
         → acting.stage ≡ Routed r (For task) g → OnWay e L me acting.log (name_in task) r g
         → Goes task (turned e me r g acting z)
     row-becomes task g z (Looking h) q w =
@@ -420,7 +424,7 @@ module _ (e : Setup) (rules : (L : List ℕ) → Rule e (run e L)) (L : List ℕ
         (pushed-longer e L me me acting.log (name_in task) g w)
 
     -- what the row of me leaves, by its stage before: a stage of the begin, or what is fine
-    row-fine : (st : Stage) → acting.stage ≡ st → SoFar e L me acting st → st ≢ Ended
+    row-fine : (st : Stage Content) → acting.stage ≡ st → SoFar e L me acting st → st ≢ Ended
         → Walks acting (Then st) ⊎ Fine (Then st)
     row-fine Begin q h ne =
         inl (walks e me acting Begin (answered (run e L) me) tt ne (λ r. absurd (cc)))

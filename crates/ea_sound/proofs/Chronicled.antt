@@ -6,7 +6,8 @@ use Rattle.std.proofs.lemmas.List.{append_assoc}
 use Rattle.std.proofs.lemmas.Slice.Zip.{all_zipped_more}
 use Rattle.ea_model.specs.declared.operations.Op.{Op}
 use Rattle.ea_model.specs.declared.operations.Op.TheVariants as op
-use Rattle.ea_machine.specs.Actor.{Actor, Ended, Ready}
+use Rattle.ea_machine.specs.declared.stages.Stage.TheVariants.{Ended, Ready}
+use Rattle.ea_machine.specs.Actor.{Actor}
 use Rattle.ea_sound.specs.Entries.{EntersOne, HasSkipped, LogsEach, Makes, SkipsUnheld}
 use Rattle.ea_machine.specs.Machine.{after_row, first_stage, instance_by, onward, onward_at, run}
 use Rattle.ea_machine.specs.Operations.{freed, giving, itself}

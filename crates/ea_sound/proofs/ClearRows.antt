@@ -7,7 +7,9 @@ use Rattle.ea_model.specs.Content.{Content}
 use Rattle.ea_model.specs.Instance.{own_at, own_of}
 use Rattle.ea_laws.specs.Kept.{IsLaidOut, IsWhole, own_number}
 use Rattle.ea_machine.specs.declared.nodes.Node.{Node}
-use Rattle.ea_machine.specs.Actor.{Actor, Begin, Clearing, Collecting, Routed}
+use Rattle.ea_machine.specs.declared.stages.Stage.TheVariants.{Begin, Collecting, Routed}
+use Rattle.ea_machine.specs.declared.stages.Route.TheVariants.{Clearing}
+use Rattle.ea_machine.specs.Actor.{Actor}
 use Rattle.ea_machine.specs.declared.tasks.Why.{Why}
 use Rattle.ea_machine.specs.declared.tasks.Gone.{Gone}
 use Rattle.ea_sound.specs.Contents.{AtHome, InHand, hand_sum, home_sum, slots}

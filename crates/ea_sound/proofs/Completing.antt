@@ -3,9 +3,14 @@ use Rattle.std.proofs.Common.{◌≡◌, ◌≢◌, ◌⊎◌, ℕ, zero, suc, �
 use Rattle.std.specs.Prelude.{Option, Some, None, length}
 use Rattle.std.proofs.lemmas.Bool.{cases_eq}
 use Rattle.ea_model.specs.declared.entries.Entry.TheVariants as entry
+use Rattle.ea_model.specs.Content.{Content}
 use Rattle.ea_machine.specs.declared.nodes.Node.{Node}
 use Rattle.ea_machine.specs.declared.nodes.Node.TheVariants.{Block, Carrier}
-use Rattle.ea_machine.specs.Actor.{Actor, Route, Looking, Trying, Settling, Abandoning, Sending, Clearing, Pushing, Linking, Stage, Begin, Routed, Collecting, Searching, Fetching, Creating, Giving, Taking, Ended, Ready}
+use Rattle.ea_machine.specs.declared.stages.Stage.{Stage}
+use Rattle.ea_machine.specs.declared.stages.Stage.TheVariants.{Begin, Routed, Collecting, Searching, Fetching, Creating, Giving, Taking, Ended, Ready}
+use Rattle.ea_machine.specs.declared.stages.Route.{Route}
+use Rattle.ea_machine.specs.declared.stages.Route.TheVariants.{Looking, Trying, Settling, Abandoning, Sending, Clearing, Pushing, Linking}
+use Rattle.ea_machine.specs.Actor.{Actor}
 use Rattle.ea_machine.specs.declared.tasks.Why.{Why}
 use Rattle.ea_machine.specs.declared.tasks.Why.TheVariants.{Walk, For}
 use Rattle.ea_machine.specs.declared.tasks.Gone.{Gone}
@@ -30,7 +35,7 @@ use Rattle.ea_sound.proofs.Totals.{put-here, put-other}
 use Rattle.ea_sound.proofs.TurnLists.{by-turns, ended-or, run-append, run-snoc, step-ended, step-mine, step-other, step-shared}
 
 -- a node is pushed to another scheduler's queue
-abbrev pub PushesElsewhere : ℕ → Stage → Type 0
+abbrev pub PushesElsewhere : ℕ → Stage Content → Type 0
 PushesElsewhere s (Routed (Pushing node to) why gone) = to ≢ s
 PushesElsewhere s stage = Unit {0}
 
@@ -61,7 +66,7 @@ module _ (e : Setup) (me : ℕ) where
   moved-marks (Got x) c p s = refl
 
   -- a row of a route adds no mark of mine, unless it pushes to me
-  route-marks : (r : Route) (y : Why) (g : Gone) (s : Shared) → PushesElsewhere me (Routed r y g)
+  route-marks : (r : Route Content) (y : Why) (g : Gone) (s : Shared) → PushesElsewhere me (Routed r y g)
       → marks (effect me (wants_on r) s) ≡ marks s
   unfolding effect
   route-marks (Looking h) y g s f = refl
@@ -78,7 +83,7 @@ module _ (e : Setup) (me : ℕ) where
   route-marks (Linking node to) y g s f =
       omega (arith, linked-marks node to me s.queues, linked-marks node to me s.rests)
 
-  pub plain-marks : (next : Option Node) (st : Stage) (s : Shared) → PushesElsewhere me st
+  pub plain-marks : (next : Option Node) (st : Stage Content) (s : Shared) → PushesElsewhere me st
       → st ≢ Begin → marks (effect me (wants_at next st) s) ≡ marks s
   unfolding effect
   plain-marks next Begin s f ne = absurd (ne refl)
@@ -144,7 +149,7 @@ module _ (e : Setup) (me : ℕ) where
   )
 
   -- each row, with the work after it
-  row-less : (a : Actor) (s : Shared) (st : Stage) → st ≢ Ended → st ≢ Ready
+  row-less : (a : Actor) (s : Shared) (st : Stage Content) → st ≢ Ended → st ≢ Ready
       → PushesElsewhere me st
       → marks (effect me (wants_at a.next st) s)
       + actor_rows e (after_row e me a (answer me (wants_at a.next st) s) st)
@@ -226,7 +231,7 @@ module _ (e : Setup) where
   ending-none zero w s = refl
   ending-none (suc most) w s = refl
 
-  pub ending-one : (most : ℕ) (w : State) (s : ℕ) (st : Stage) → st ≢ Ended
+  pub ending-one : (most : ℕ) (w : State) (s : ℕ) (st : Stage Content) → st ≢ Ended
       → ending e (suc most) w s st
       ≡ s ∷ ending e most (step e w s) s ((step e w s).actors s).stage
   ending-one most w s Ended ne = absurd (ne refl)
@@ -240,7 +245,7 @@ module _ (e : Setup) where
   ending-one most w s (Taking n tries left) ne = refl
   ending-one most w s Ready ne = refl
 
-  ending-zero : (w : State) (s : ℕ) (st : Stage) → ending e zero w s st ≡ []
+  ending-zero : (w : State) (s : ℕ) (st : Stage Content) → ending e zero w s st ≡ []
   ending-zero w s Ended = refl
   ending-zero w s Begin = refl
   ending-zero w s (Routed r y g) = refl
@@ -253,7 +258,7 @@ module _ (e : Setup) where
   ending-zero w s Ready = refl
 
   -- nobody else steps meanwhile
-  pub ending-others : (most : ℕ) (w : State) (s j : ℕ) (st : Stage) → j ≢ s
+  pub ending-others : (most : ℕ) (w : State) (s j : ℕ) (st : Stage Content) → j ≢ s
       → (run_on e w (ending e most w s st)).actors j ≡ w.actors j
   ending-others zero w s j st ne = ap (λ js. (run_on e w js).actors j) (ending-zero w s st)
   ending-others (suc most) w s j st ne =
@@ -348,7 +353,7 @@ module _ (e : Setup) where
 
 -- by the rule pushes go elsewhere
 module _ (e : Setup) (w : State) (s : ℕ) where
-  route-elsewhere : (r : Route) (y : Why) (g : Gone) → FitsRoute e w.shared s r
+  route-elsewhere : (r : Route Content) (y : Why) (g : Gone) → FitsRoute e w.shared s r
       → PushesElsewhere s (Routed r y g)
   route-elsewhere (Looking h) y g f = tt
   route-elsewhere (Trying h seen) y g f = tt
@@ -360,7 +365,7 @@ module _ (e : Setup) (w : State) (s : ℕ) where
   route-elsewhere (Pushing (Carrier c) to) y g f = f.1
   route-elsewhere (Linking node to) y g f = tt
 
-  pub fits-elsewhere : (a : Actor) (st : Stage) → Fits e w s a st → PushesElsewhere s st
+  pub fits-elsewhere : (a : Actor) (st : Stage Content) → Fits e w s a st → PushesElsewhere s st
   fits-elsewhere a Begin f = tt
   fits-elsewhere a (Routed r y g) f = route-elsewhere r y g f.0
   fits-elsewhere a (Collecting c) f = tt

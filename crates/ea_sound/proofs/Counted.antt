@@ -3,7 +3,8 @@ use Rattle.std.proofs.Common.{◌≡◌, ◌≢◌, ◌≤◌, ℕ, ◌+◌, ◌
 use Rattle.std.specs.Prelude.{All, ◌==◌}
 use Rattle.std.proofs.lemmas.List.Elements.{All-cons, All-nil, All-weaker}
 use Rattle.ea_model.specs.Content.{Content}
-use Rattle.ea_machine.specs.Actor.{Actor, Begin}
+use Rattle.ea_machine.specs.declared.stages.Stage.TheVariants.{Begin}
+use Rattle.ea_machine.specs.Actor.{Actor}
 use Rattle.ea_sound.specs.Contents.{actor_sum, home_sum, seats, slots, sum_everywhere}
 use Rattle.ea_machine.specs.Owners.{CarrierAt, Absent}
 use Rattle.ea_sound.specs.Places.{has_number}

@@ -15,10 +15,15 @@ use Rattle.ea_model.specs.declared.reallocation.Decision.TheVariants.{Stay, Shri
 use Rattle.ea_model.specs.declared.units.TheConstants.{SEARCH_LIMIT}
 use Rattle.ea_model.specs.Instance.{chosen_spot, creating, creating_single, decision_at, is_alone, place_at, placing_at, plan, single_place}
 use Rattle.ea_model.specs.Units.{need_of}
+use Rattle.ea_model.specs.Content.{Content}
 use Rattle.ea_machine.specs.declared.nodes.Node.{Node}
 use Rattle.ea_machine.specs.declared.nodes.Node.TheVariants.{Block, Carrier}
 use Rattle.ea_machine.specs.declared.owners.OwnerWord.{OwnerWord}
-use Rattle.ea_machine.specs.Actor.{Actor, Route, Looking, Trying, Settling, Abandoning, Sending, Clearing, Pushing, Linking, Stage, Begin, Routed, Collecting, Searching, Fetching, Creating, Giving, Taking, Ended, Ready}
+use Rattle.ea_machine.specs.declared.stages.Stage.{Stage}
+use Rattle.ea_machine.specs.declared.stages.Stage.TheVariants.{Begin, Routed, Collecting, Searching, Fetching, Creating, Giving, Taking, Ended, Ready}
+use Rattle.ea_machine.specs.declared.stages.Route.{Route}
+use Rattle.ea_machine.specs.declared.stages.Route.TheVariants.{Looking, Trying, Settling, Abandoning, Sending, Clearing, Pushing, Linking}
+use Rattle.ea_machine.specs.Actor.{Actor}
 use Rattle.ea_machine.specs.declared.tasks.Task.{Task}
 use Rattle.ea_machine.specs.declared.tasks.Task.TheVariants.{Freeing, Moving}
 use Rattle.ea_machine.specs.declared.tasks.Why.TheVariants.{Walk, For}
@@ -70,7 +75,7 @@ module _ (e : Setup) (me : ℕ) where
   pub logged-less : (x : Entry) (a : Actor) → actor_rows e (logged x a) ≤ rest_rows a + 11
   logged-less x a = omega (arith, begin-most a.next)
 
-  carried-less : (task : Task) (r : Option Route) (g : Gone) (b : Actor) (k : ℕ)
+  carried-less : (task : Task) (r : Option (Route Content)) (g : Gone) (b : Actor) (k : ℕ)
       → some_rows r ≤ k
       → actor_rows e (carried (For task) (task_over task)
       (record { actor = b; route = r; gone = g })) ≤ rest_rows b + 12 + k
@@ -221,7 +226,7 @@ module _ (e : Setup) (me : ℕ) where
   itself-less a (op.Idle ∷ ops) q =
       omega (arith, logged-less entry.Idle a, text-cons a op.Idle ops q)
 
-  onward-by : (b : Actor) (st : Stage) → b.stage ≡ st
+  onward-by : (b : Actor) (st : Stage Content) → b.stage ≡ st
       → actor_rows e (onward_at e me b st) ≤ actor_rows e b
   onward-by b Ready q =
       omega (arith, itself-less b b.todo refl, ap (stage_rows e b.next b.todo) q)
@@ -239,7 +244,7 @@ module _ (e : Setup) (me : ℕ) where
   onward-less b = onward-by b b.stage refl
 
   -- a walk
-  carried-walk : (over : Gone → Actor → Actor) (r : Option Route) (g : Gone) (b : Actor) (k : ℕ)
+  carried-walk : (over : Gone → Actor → Actor) (r : Option (Route Content)) (g : Gone) (b : Actor) (k : ℕ)
       → some_rows r ≤ k → actor_rows e (over g b) ≤ whole_rows b
       → actor_rows e (carried Walk over (record { actor = b; route = r; gone = g }))
       ≤ whole_rows b + k
@@ -262,7 +267,7 @@ module _ (e : Setup) (me : ℕ) where
         ap (text_rows e) s.1.2,
       )
 
-  route-some : (r : Route) → 1 ≤ route_rows r
+  route-some : (r : Route Content) → 1 ≤ route_rows r
   route-some (Looking h) = omega arith
   route-some (Trying h seen) = omega arith
   route-some (Settling x) = omega arith
@@ -272,7 +277,7 @@ module _ (e : Setup) (me : ℕ) where
   route-some (Pushing node to) = omega arith
   route-some (Linking node to) = omega arith
 
-  pub walk-route : (r : Route) (g : Gone) (a : Actor) (z : Answer)
+  pub walk-route : (r : Route Content) (g : Gone) (a : Actor) (z : Answer)
       → actor_rows e (after_row e me a z (Routed r Walk g)) < whole_rows a + route_rows r
   walk-route r g a z =
       let t = turned e me r g a z in
@@ -280,7 +285,7 @@ module _ (e : Setup) (me : ℕ) where
       by t.route t.gone t.actor (omega (arith, s.0)) (worked-less t.actor.passed t.actor)
       (same-whole a t.actor s.1)
     where
-      by : (o : Option Route) (h : Gone) (b : Actor) → some_rows o < route_rows r
+      by : (o : Option (Route Content)) (h : Gone) (b : Actor) → some_rows o < route_rows r
           → actor_rows e (worked_off e me b.passed b)
           ≤ passed_rows b.passed + next_rows b.next + text_rows e b.todo
           → whole_rows b ≡ whole_rows a
@@ -289,7 +294,7 @@ module _ (e : Setup) (me : ℕ) where
       by None h b l k q = omega (arith, k, q, route-some r)
       by (Some o) h b l k q = omega (arith, l, q)
 
-  pub task-route : (r : Route) (task : Task) (g : Gone) (a : Actor) (z : Answer)
+  pub task-route : (r : Route Content) (task : Task) (g : Gone) (a : Actor) (z : Answer)
       → actor_rows e (after_row e me a z (Routed r (For task) g))
       < rest_rows a + 12 + route_rows r
   task-route r task g a z =
@@ -297,7 +302,7 @@ module _ (e : Setup) (me : ℕ) where
       let s = turned-short e me r g a z in
       by t.route t.gone t.actor (omega (arith, s.0)) (same-rest a t.actor s.1)
     where
-      by : (o : Option Route) (h : Gone) (b : Actor) → some_rows o < route_rows r
+      by : (o : Option (Route Content)) (h : Gone) (b : Actor) → some_rows o < route_rows r
           → rest_rows b ≡ rest_rows a
           → actor_rows e (carried (For task) (task_over task)
           (record { actor = b; route = o; gone = h })) < rest_rows a + 12 + route_rows r

@@ -12,7 +12,8 @@ use Rattle.ea_model.specs.Instance.{chosen_spot, is_alone, plan}
 use Rattle.ea_model.specs.Units.{need_of}
 use Rattle.ea_model.proofs.Rising.{item_at-key}
 use Rattle.ea_machine.specs.declared.owners.OwnerWord.{OwnerWord}
-use Rattle.ea_machine.specs.Actor.{Actor, Searching, Fetching, Ended}
+use Rattle.ea_machine.specs.declared.stages.Stage.TheVariants.{Searching, Fetching, Ended}
+use Rattle.ea_machine.specs.Actor.{Actor}
 use Rattle.ea_machine.specs.declared.asks.Ask.{Ask}
 use Rattle.ea_sound.specs.Exhausted.{FailsIfExhausted, FindsNoPlace, IsFailOf, seen_since}
 use Rattle.ea_machine.specs.Machine.{after_row, onward, run, run_on, step, wants_at}

@@ -7,7 +7,9 @@ use Rattle.ea_model.specs.Content.{Content, gaps_of, largest}
 use Rattle.ea_laws.proofs.Tails.{any_here, any_later}
 use Rattle.ea_machine.specs.declared.owners.OwnerWord.{OwnerWord}
 use Rattle.ea_machine.specs.declared.owners.OwnerWord.TheVariants as word
-use Rattle.ea_machine.specs.Actor.{Actor, Ended, Fetching, Stage}
+use Rattle.ea_machine.specs.declared.stages.Stage.{Stage}
+use Rattle.ea_machine.specs.declared.stages.Stage.TheVariants.{Ended, Fetching}
+use Rattle.ea_machine.specs.Actor.{Actor}
 use Rattle.ea_machine.specs.declared.asks.Ask.{Ask}
 use Rattle.ea_model.specs.Employment.{employing}
 use Rattle.ea_sound.specs.Fetches.{FetchFits, FetchesFit}
@@ -64,7 +66,7 @@ module _ (e : Setup) (w : State) (rule : Rule e w) (s at looked : ℕ) (ask : As
 
   tried : tried_at seen (w.shared.places at) ≡ Won x
   unfolding answer
-  tried = sym (ap (λ (t : Stage). answer s (wants_at a.next t) w.shared) now) ∙ won
+  tried = sym (ap (λ (t : Stage Content). answer s (wants_at a.next t) w.shared) now) ∙ won
 
   abbrev with_carrier : Actor
   with_carrier = record a { instance = employing a.instance x }

@@ -3,10 +3,13 @@ use Rattle.std.proofs.Common.{◌≡◌, ◌≢◌, ℕ, ◌+◌, ◌<◌, ◌�
 use Rattle.std.specs.Prelude.{Some, ◌==◌}
 use Rattle.ea_model.proofs.Rising.{item_at-gone}
 use Rattle.ea_model.specs.declared.carriers.Spot.{Spot}
+use Rattle.ea_model.specs.Content.{Content}
 use Rattle.ea_machine.specs.declared.nodes.Named.{Named}
 use Rattle.ea_machine.specs.declared.nodes.Node.{Node}
 use Rattle.ea_machine.specs.declared.owners.OwnerWord.{OwnerWord}
-use Rattle.ea_machine.specs.Actor.{Actor, Begin, Ended, Stage}
+use Rattle.ea_machine.specs.declared.stages.Stage.{Stage}
+use Rattle.ea_machine.specs.declared.stages.Stage.TheVariants.{Begin, Ended}
+use Rattle.ea_machine.specs.Actor.{Actor}
 use Rattle.ea_sound.specs.Contents.{seats}
 use Rattle.ea_machine.specs.Machine.{run, wants, wants_at}
 use Rattle.ea_sound.specs.Names.{allocated, of_hand, of_named, of_node, only, to_make}
@@ -114,7 +117,7 @@ module _ (e : Setup) (rules : (L : List ℕ) → Rule e (run e L)) (L : List ℕ
         )
 
     -- it was in the hand
-    pub hand-out : (st : Stage) → acting.stage ≡ st → of_hand (only n) st ≡ 1
+    pub hand-out : (st : Stage Content) → acting.stage ≡ st → of_hand (only n) st ≡ 1
         → LeavesNames e (only n) (run e L).shared
         (effect me (wants_at acting.next st) (run e L).shared)
         → (c : Actor) → IsNow c → of_hand (only n) c.stage ≡ 0 → c.held ≡ acting.held

@@ -9,7 +9,10 @@ use Rattle.ea_model.specs.declared.entries.Entry.{Entry}
 use Rattle.ea_model.specs.declared.operations.Op.{Op}
 use Rattle.ea_model.specs.Trace.{makes}
 use Rattle.ea_sound.specs.Turns.{log_after}
-use Rattle.ea_machine.specs.Actor.{Actor, Begin, Collecting, Creating, Ended, Fetching, Giving, Ready, Routed, Searching, Stage, Taking}
+use Rattle.ea_model.specs.Content.{Content}
+use Rattle.ea_machine.specs.declared.stages.Stage.{Stage}
+use Rattle.ea_machine.specs.declared.stages.Stage.TheVariants.{Begin, Collecting, Creating, Ended, Fetching, Giving, Ready, Routed, Searching, Taking}
+use Rattle.ea_machine.specs.Actor.{Actor}
 use Rattle.ea_machine.specs.declared.tasks.Task.TheVariants.{Freeing, Moving}
 use Rattle.ea_machine.specs.declared.tasks.Why.TheVariants.{Walk, For}
 use Rattle.ea_sound.specs.Contents.{seats}
@@ -58,7 +61,7 @@ total-beside : {A B : Type 0} (f : A → ℕ) (g : B → ℕ) (m : ℕ → A) (o
 total-beside f g m o d zero less = omega arith
 total-beside f g m o d (suc n) less = omega (arith, less n, total-beside f g m o d n less)
 
-unplaced-fewer : (n : ℕ) (s : Stage) (ops : List Op)
+unplaced-fewer : (n : ℕ) (s : Stage Content) (ops : List Op)
     → made_in n (unplaced s ops) ≤ made_in n ops
 unplaced-fewer n (Routed r Walk gone) ops = omega arith
 unplaced-fewer n (Routed r (For (Freeing m)) gone) ops = omega arith

@@ -7,7 +7,9 @@ use Rattle.ea_model.specs.declared.carriers.Kind.TheVariants.{Main, Multi, Singl
 use Rattle.ea_model.specs.Content.{Content, is_nil}
 use Rattle.ea_model.specs.Instance.{content_of, employed, releasing_at}
 use Rattle.ea_model.specs.Abandonment.{is_due}
-use Rattle.ea_machine.specs.Actor.{Actor, Route, Looking, Trying, Settling, Abandoning, Sending, Clearing, Pushing, Linking}
+use Rattle.ea_machine.specs.declared.stages.Route.{Route}
+use Rattle.ea_machine.specs.declared.stages.Route.TheVariants.{Looking, Trying, Settling, Abandoning, Sending, Clearing, Pushing, Linking}
+use Rattle.ea_machine.specs.Actor.{Actor}
 use Rattle.ea_machine.specs.declared.tasks.Gone.{Gone}
 use Rattle.ea_machine.specs.declared.tasks.Gone.TheVariants.{Open, Here, Queued}
 use Rattle.ea_machine.specs.declared.nodes.Named.{Named}
@@ -49,13 +51,13 @@ sent-queued h i g a to q = elim (first-queued g (Queued i) to q) [
   target q = cc
 
 -- the owner word of its carrier is read next, or tried
-abbrev pub ByWord : Route → Type 0
+abbrev pub ByWord : Route Content → Type 0
 ByWord (Looking h) = Unit {0}
 ByWord (Trying h seen) = Unit {0}
 ByWord r = ⊥
 
 -- a route without a block in the hand, or at its end
-abbrev pub IsBare : Option Route → Type 0
+abbrev pub IsBare : Option (Route Content) → Type 0
 IsBare None = Unit {0}
 IsBare (Some (Looking h)) = ⊥
 IsBare (Some (Trying h seen)) = ⊥
@@ -72,7 +74,7 @@ NotSent Here = Unit {0}
 NotSent (Queued to) = ⊥
 
 -- what is left of a route with h in the hand, once its row is answered
-abbrev pub Yields : Named → Option Route → Gone → Type 0
+abbrev pub Yields : Named → Option (Route Content) → Gone → Type 0
 Yields h None g = NotSent g
 Yields h (Some (Looking k)) g = ⊥
 Yields h (Some (Trying k seen)) g = (k ≡ h) × (g ≡ Open)
@@ -83,7 +85,7 @@ Yields h (Some (Clearing x)) g = NotSent g
 Yields h (Some (Pushing node to)) g = (node ≡ block_node h) × (g ≡ Queued to)
 Yields h (Some (Linking node to)) g = ⊥
 
-bare-yields : (h : Named) (o : Option Route) (g : Gone) → IsBare o → NotSent g → Yields h o g
+bare-yields : (h : Named) (o : Option (Route Content)) (g : Gone) → IsBare o → NotSent g → Yields h o g
 bare-yields h None g b n = n
 bare-yields h (Some (Looking k)) g b n = b
 bare-yields h (Some (Trying k seen)) g b n = absurd b
@@ -95,7 +97,7 @@ bare-yields h (Some (Pushing node to)) g b n = absurd b
 bare-yields h (Some (Linking node to)) g b n = b
 
 -- no owner word is read next, or tried
-abbrev pub NotByWord : Option Route → Type 0
+abbrev pub NotByWord : Option (Route Content) → Type 0
 NotByWord None = Unit {0}
 NotByWord (Some (Looking h)) = ⊥
 NotByWord (Some (Trying h seen)) = ⊥
@@ -106,7 +108,7 @@ NotByWord (Some (Clearing x)) = Unit {0}
 NotByWord (Some (Pushing node to)) = Unit {0}
 NotByWord (Some (Linking node to)) = Unit {0}
 
-bare-not : (o : Option Route) → IsBare o → NotByWord o
+bare-not : (o : Option (Route Content)) → IsBare o → NotByWord o
 bare-not None b = tt
 bare-not (Some (Looking k)) b = b
 bare-not (Some (Trying k seen)) b = b
@@ -251,7 +253,7 @@ module _ (e : Setup) (me : ℕ) where
   settled-gone false x g a = refl
 
   -- once a row of the route is answered
-  pub turned-queued : (r : Route) (g : Gone) (a : Actor) (z : Answer)
+  pub turned-queued : (r : Route Content) (g : Gone) (a : Actor) (z : Answer)
       → IsQueuedBy g (turned e me r g a z)
   turned-queued (Looking h) g a z = looked_at-queued h g a z
   turned-queued (Trying h seen) g a z = tried-queued h g a z

@@ -8,7 +8,11 @@ use Rattle.ea_model.specs.Content.{Content}
 use Rattle.ea_machine.specs.declared.nodes.Node.{Node}
 use Rattle.ea_machine.specs.declared.owners.OwnerWord.TheVariants as word
 use Rattle.ea_model.specs.Abandonment.{is_due}
-use Rattle.ea_machine.specs.Actor.{Actor, Route, Looking, Trying, Settling, Abandoning, Sending, Clearing, Pushing, Linking, Stage, Begin, Routed, Collecting, Searching, Fetching, Creating, Giving, Taking, Ended, Ready}
+use Rattle.ea_machine.specs.declared.stages.Stage.{Stage}
+use Rattle.ea_machine.specs.declared.stages.Stage.TheVariants.{Begin, Routed, Collecting, Searching, Fetching, Creating, Giving, Taking, Ended, Ready}
+use Rattle.ea_machine.specs.declared.stages.Route.{Route}
+use Rattle.ea_machine.specs.declared.stages.Route.TheVariants.{Looking, Trying, Settling, Abandoning, Sending, Clearing, Pushing, Linking}
+use Rattle.ea_machine.specs.Actor.{Actor}
 use Rattle.ea_machine.specs.declared.tasks.Why.{Why}
 use Rattle.ea_machine.specs.declared.tasks.Gone.{Gone}
 use Rattle.ea_sound.specs.Contents.{hand_sum, seats}
@@ -61,23 +65,23 @@ module _ (e : Setup) (w : State) (rule : Rule e w) (steady : AreSteady e w) (me 
   k : Kept e w
   k = rule.kept
 
-  fits-at : (stage : Stage) → a.stage ≡ stage → Fits e w me a stage
+  fits-at : (stage : Stage Content) → a.stage ≡ stage → Fits e w me a stage
   fits-at stage now = subst (Fits e w me a) now (rule.present.fits me)
 
-  steady-at : (stage : Stage) → a.stage ≡ stage → IsSteadyStage e me a.instance.contents stage
+  steady-at : (stage : Stage Content) → a.stage ≡ stage → IsSteadyStage e me a.instance.contents stage
   steady-at stage now = subst (IsSteadyStage e me a.instance.contents) now (steady me).route
 
-  is-one : (stage : Stage) → a.stage ≡ stage → stage ≢ Ended → is_scheduler e me ≡ true
+  is-one : (stage : Stage Content) → a.stage ≡ stage → stage ≢ Ended → is_scheduler e me ≡ true
   is-one stage now works = working-scheduler e w k me (λ z. works (sym now ∙ z))
 
-  seat-at : (stage : Stage) → a.stage ≡ stage → stage ≢ Ended → me < seats e
+  seat-at : (stage : Stage Content) → a.stage ≡ stage → stage ≢ Ended → me < seats e
   seat-at stage now works = scheduler-seat e me (is-one stage now works)
 
-  abbrev May : Stage → Type 0
+  abbrev May : Stage Content → Type 0
   May stage = Guard e me a w.shared (wants_at a.next stage)
 
   -- a content in the hand that is employed has the word
-  hand-employed : (x : Content) (stage : Stage) → a.stage ≡ stage → migration e ≡ true
+  hand-employed : (x : Content) (stage : Stage Content) → a.stage ≡ stage → migration e ≡ true
       → hand_sum none (has_number x.number) stage ≡ has_number x.number x
       → w.shared.places x.number ≡ Employed me
   hand-employed x stage now on is = employed-place e w k me x.number
@@ -100,7 +104,7 @@ module _ (e : Setup) (w : State) (rule : Rule e w) (steady : AreSteady e w) (me 
   )
 
   module _ (why : Why) (gone : Gone) where
-    route-may : (route : Route) → a.stage ≡ Routed route why gone
+    route-may : (route : Route Content) → a.stage ≡ Routed route why gone
         → FitsRoute e w.shared me route → Guard e me a w.shared (wants_on route)
     route-may (Looking hand) now fit = tt
     route-may (Trying hand seen) now fit = (steady-at (Routed (Trying hand seen) why gone) now).0
@@ -132,7 +136,7 @@ module _ (e : Setup) (w : State) (rule : Rule e w) (steady : AreSteady e w) (me 
     route-may (Linking node to) now fit = linking-unlinked e w rule me
         (seat-at (Routed (Linking node to) why gone) now (λ z. cc)) why gone node to now
 
-  stage-may : (stage : Stage) → a.stage ≡ stage → May stage
+  stage-may : (stage : Stage Content) → a.stage ≡ stage → May stage
   stage-may Begin now = begin-may a.next refl now
   stage-may (Routed route why gone) now =
       route-may why gone route now (fits-at (Routed route why gone) now).0
@@ -168,7 +172,7 @@ module _ (e : Setup) (w : State) (rule : Rule e w) (steady : AreSteady e w) (me 
     never-on : migration e ≡ true → ⊥
     never-on on = true≢false (sym on ∙ off)
 
-    route-off : (route : Route) → FitsRoute e w.shared me route
+    route-off : (route : Route Content) → FitsRoute e w.shared me route
         → is_on_word (wants_on route) ≡ false
     route-off (Looking hand) fit = absurd (never-on fit.1)
     route-off (Trying hand seen) fit = absurd (never-on (there-on e w k hand.spot.carrier
@@ -184,7 +188,7 @@ module _ (e : Setup) (w : State) (rule : Rule e w) (steady : AreSteady e w) (me 
     begin-off None = refl
     begin-off (Some node) = refl
 
-    stage-off : (stage : Stage) → a.stage ≡ stage → is_on_word (wants_at a.next stage) ≡ false
+    stage-off : (stage : Stage Content) → a.stage ≡ stage → is_on_word (wants_at a.next stage) ≡ false
     stage-off Begin now = begin-off a.next
     stage-off (Routed route why gone) now =
         route-off route (fits-at (Routed route why gone) now).0

@@ -3,7 +3,7 @@
 use Rattle.std.proofs.Common.{◌≡◌, ℕ, ◌≤◌, true, refl, ap, ◌∙◌, arith}
 use Rattle.ea_model.specs.declared.carriers.Spot.{Spot}
 use Rattle.ea_model.specs.Content.{Content}
-use Rattle.ea_machine.specs.Actor.{Stage}
+use Rattle.ea_machine.specs.declared.stages.Stage.{Stage}
 use Rattle.ea_sound.specs.Contents.{hand_sum}
 use Rattle.ea_sound.specs.Names.{allocated, of_hand, only_at}
 use Rattle.ea_machine.specs.declared.nodes.Named.{Named}
@@ -19,7 +19,7 @@ use Rattle.ea_sound.proofs.Numbered.{scheduler-seat}
 use Rattle.ea_sound.proofs.StandingBlocks.{block-employer, block-owner}
 
 module _ (e : Setup) (w : State) (k : Kept e w) (me : ℕ) (is : is_scheduler e me ≡ true)
-    (hand : Named) (stage : Stage) (now : (w.actors me).stage ≡ stage)
+    (hand : Named) (stage : Stage Content) (now : (w.actors me).stage ≡ stage)
     (names : (f : ℕ → Spot → ℕ) → of_hand f stage ≡ f hand.name hand.spot) where
   hand-allocated : 1 ≤ allocated e (only_at hand.name hand.spot) w
   hand-allocated =

@@ -10,7 +10,9 @@ use Rattle.ea_machine.specs.declared.nodes.Node.TheVariants.{Carrier}
 use Rattle.ea_machine.specs.declared.owners.OwnerWord.{OwnerWord}
 use Rattle.ea_machine.specs.declared.nodes.Named.{Named}
 use Rattle.ea_laws.proofs.Standing.{released-IsLaidOut}
-use Rattle.ea_machine.specs.Actor.{Abandoning, Begin, Pushing, Routed, Sending, Settling, Stage, Trying}
+use Rattle.ea_machine.specs.declared.stages.Stage.{Stage}
+use Rattle.ea_machine.specs.declared.stages.Stage.TheVariants.{Begin, Routed}
+use Rattle.ea_machine.specs.declared.stages.Route.TheVariants.{Abandoning, Pushing, Sending, Settling, Trying}
 use Rattle.ea_machine.specs.declared.tasks.Why.{Why}
 use Rattle.ea_machine.specs.declared.tasks.Gone.{Gone}
 use Rattle.ea_sound.specs.Contents.{InHand, hand_sum, home_sum, slots}
@@ -32,7 +34,7 @@ use Rattle.ea_sound.proofs.PlaceRows.{MayBe}
 use Rattle.ea_sound.proofs.RangeRows.{LiesAtHome, lie-same}
 
 -- the stage of scheduler `me` becomes another one, and with it the place of carrier c
-pub record Turns (e : Setup) (me c : ℕ) (old : Stage) (from : CarrierAt) (new : Stage)
+pub record Turns (e : Setup) (me c : ℕ) (old : Stage Content) (from : CarrierAt) (new : Stage Content)
     (to : CarrierAt) : Type 0 where
   pub names : (f : ℕ → Spot → ℕ) → of_hand f new
       + (hand_sum (of_content f) (of_content f) old + home_sum (of_content f) from)
@@ -58,7 +60,7 @@ pub record Turns (e : Setup) (me c : ℕ) (old : Stage) (from : CarrierAt) (new 
 
 module _ (e : Setup) (w : State) (me : ℕ) (is : is_scheduler e me ≡ true) (k : Kept e w) where
   module _ (on : migration e ≡ true) (c : ℕ) (slot : c < slots e) where
-    pub turned : (old : Stage) (from : CarrierAt) (new : Stage) (to : CarrierAt)
+    pub turned : (old : Stage Content) (from : CarrierAt) (new : Stage Content) (to : CarrierAt)
         → (w.actors me).stage ≡ old → w.shared.places c ≡ from → Turns e me c old from new to
         → Moved e w me (at_place c to w.shared) (at new (w.actors me))
     turned old from new to stage word t =

@@ -4,8 +4,11 @@ use Rattle.std.specs.Prelude.{Option, Some, None, option_map, ◌==◌}
 use Rattle.ea_model.specs.declared.carriers.Spot.{Spot}
 use Rattle.ea_model.specs.declared.entries.Entry.TheVariants as entry
 use Rattle.ea_model.proofs.Rising.{item_at-gone, item_at-key, item_at-new, none-other}
+use Rattle.ea_model.specs.Content.{Content}
 use Rattle.ea_machine.specs.declared.nodes.Named.{Named}
-use Rattle.ea_machine.specs.Actor.{Actor, Ended, Giving, Stage, Taking}
+use Rattle.ea_machine.specs.declared.stages.Stage.{Stage}
+use Rattle.ea_machine.specs.declared.stages.Stage.TheVariants.{Ended, Giving, Taking}
+use Rattle.ea_machine.specs.Actor.{Actor}
 use Rattle.ea_sound.specs.Contents.{seats}
 use Rattle.ea_sound.specs.HandedOver.{IsGiven, IsTaken}
 use Rattle.ea_machine.specs.Machine.{run, wants_at}
@@ -104,7 +107,7 @@ module _ (e : Setup) (rules : (L : List ℕ) → Rule e (run e L)) (L : List ℕ
     seat = scheduler-seat e me (working-scheduler e (run e L) (rules L).kept me works)
 
     -- what is given after the turn
-    given-now : (st : Stage) → acting.stage ≡ st → (run e turn).shared.given
+    given-now : (st : Stage Content) → acting.stage ≡ st → (run e turn).shared.given
         ≡ (effect me (wants_at acting.next st) (run e L).shared).given
     given-now st q = ap (λ (w : State). w.shared.given) (run-snoc e L me)
         ∙ ap (λ (s : Shared). s.given) (step-shared e (run e L) me works)

@@ -3,9 +3,13 @@ use Rattle.std.proofs.Common.{◌≡◌, ◌≢◌, ℕ, ◌<◌, ◌≤◌, Boo
 use Rattle.std.specs.Prelude.{◌==◌, ◌&&◌}
 use Rattle.std.proofs.lemmas.Bool.{cases_Bool}
 use Rattle.ea_model.specs.declared.carriers.Spot.{Spot}
+use Rattle.ea_model.specs.Content.{Content}
 use Rattle.ea_machine.specs.declared.owners.OwnerWord.{OwnerWord}
 use Rattle.ea_machine.specs.declared.owners.OwnerWord.TheVariants as word
-use Rattle.ea_machine.specs.Actor.{Actor, Collecting, Ended, Looking, Ready, Routed, Stage, Trying}
+use Rattle.ea_machine.specs.declared.stages.Stage.{Stage}
+use Rattle.ea_machine.specs.declared.stages.Stage.TheVariants.{Collecting, Ended, Ready, Routed}
+use Rattle.ea_machine.specs.declared.stages.Route.TheVariants.{Looking, Trying}
+use Rattle.ea_machine.specs.Actor.{Actor}
 use Rattle.ea_machine.specs.declared.tasks.Why.{Why}
 use Rattle.ea_machine.specs.declared.tasks.Gone.{Gone}
 use Rattle.ea_sound.specs.Contents.{seats}
@@ -72,8 +76,8 @@ still-won me seen (Returning i x) present true still is q =
 saw-same : (v u : OwnerWord) → Saw v ≡ Saw u → v ≡ u
 saw-same v u q = cc
 
-collecting-works : (number : ℕ) → Collecting number ≢ Ended
-collecting-works number q = cc
+collecting-works : (number : ℕ) (stage : Stage Content) → stage ≡ Collecting number → stage ≢ Ended
+collecting-works number stage now q = cc
 
 only_at-only : (name : ℕ) (spot : Spot) (n : ℕ) (p : Spot) → only_at name spot n p ≤ only name n p
 only_at-only name spot n p = by (n == name) (same_spot p spot) where
@@ -89,7 +93,7 @@ module _ (e : Setup) (w : State) (rule : Rule e w) (s : ℕ) where
   at_work : a.stage ≢ Ended → s < seats e
   at_work working = scheduler-seat e s (working-scheduler e w rule.kept s working)
 
-  fits-at : (stage : Stage) → a.stage ≡ stage → Fits e w s a stage
+  fits-at : (stage : Stage Content) → a.stage ≡ stage → Fits e w s a stage
   fits-at stage q = subst (Fits e w s a) q (rule.present.fits s)
 
   looks-answer : (hand : Named) (why : Why) (gone : Gone) → a.stage ≡ Routed (Looking hand) why gone
@@ -164,7 +168,7 @@ hears-no_other e w rule = record {
   blocks = λ s name spot some.
       blocks e w rule s (way-seat e w rule s name spot some) name spot some;
   collected = λ s number q. collecting-home e w rule.kept s
-      (at_work e w rule s (λ z. collecting-works number (sym q ∙ z))) number q;
+      (at_work e w rule s (collecting-works number _ q)) number q;
   ended = λ s q. fits-at e w rule s Ended q;
   resting = λ s q. fits-at e w rule s Ready q;
 }

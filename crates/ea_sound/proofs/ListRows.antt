@@ -6,7 +6,10 @@ use Rattle.ea_model.specs.Content.{Content}
 use Rattle.ea_model.proofs.Rising.{item_at-key}
 use Rattle.ea_laws.specs.Kept.{IsLaidOut}
 use Rattle.ea_machine.specs.declared.nodes.Node.{Node}
-use Rattle.ea_machine.specs.Actor.{Actor, Begin, Giving, Linking, Pushing, Routed, Stage, Taking}
+use Rattle.ea_machine.specs.declared.stages.Stage.{Stage}
+use Rattle.ea_machine.specs.declared.stages.Stage.TheVariants.{Begin, Giving, Routed, Taking}
+use Rattle.ea_machine.specs.declared.stages.Route.TheVariants.{Linking, Pushing}
+use Rattle.ea_machine.specs.Actor.{Actor}
 use Rattle.ea_machine.specs.declared.tasks.Why.{Why}
 use Rattle.ea_machine.specs.declared.tasks.Gone.{Gone}
 use Rattle.ea_sound.specs.Contents.{InHand, hand_sum, seats}
@@ -32,13 +35,13 @@ use Rattle.ea_sound.proofs.Totals.{total-part}
 use Rattle.ea_sound.proofs.UnlinkedRows.{link_unlinked, unlinked_moved}
 
 -- two stages with no content in the hand
-pub record NoContent (e : Setup) (me : ℕ) (old new : Stage) : Type 0 where
+pub record NoContent (e : Setup) (me : ℕ) (old new : Stage Content) : Type 0 where
   pub hands : (b k : Content → ℕ) → hand_sum b k new ≡ hand_sum b k old
   pub in_hand : InHand (Belongs e me) (Belongs e me) new
   pub hand_laid : InHand IsLaidOut IsLaidOutAsKind new
 
 -- a look, or a lost try: what is shared stays, and so do the nodes and the name in the hand
-pub record Looks (e : Setup) (me : ℕ) (old new : Stage) : Type 0 where
+pub record Looks (e : Setup) (me : ℕ) (old new : Stage Content) : Type 0 where
   pub none : NoContent e me old new
   pub names : (f : ℕ → Spot → ℕ) → of_hand f new ≡ of_hand f old
   pub links : (u : ℕ → Node → ℕ) → of_link u new ≡ of_link u old
@@ -48,7 +51,7 @@ module _ (e : Setup) (w : State) (me : ℕ) (is : is_scheduler e me ≡ true) (k
   seat : me < seats e
   seat = scheduler-seat e me is
 
-  pub looked : (old new : Stage) → (w.actors me).stage ≡ old → Looks e me old new
+  pub looked : (old new : Stage Content) → (w.actors me).stage ≡ old → Looks e me old new
       → Moved e w me w.shared (at new (w.actors me))
   looked old new stage l = lists_moved e w me is k w.shared (at new (w.actors me))
       (record {

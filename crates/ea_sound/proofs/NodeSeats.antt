@@ -4,7 +4,9 @@ use Rattle.std.proofs.lemmas.Bool.{cases_eq}
 use Rattle.ea_model.specs.Content.{Content}
 use Rattle.ea_machine.specs.declared.nodes.Node.{Node}
 use Rattle.ea_machine.specs.declared.nodes.Node.TheVariants.{Carrier}
-use Rattle.ea_machine.specs.Actor.{Actor, Linking, Pushing, Routed, Collecting}
+use Rattle.ea_machine.specs.declared.stages.Stage.TheVariants.{Routed, Collecting}
+use Rattle.ea_machine.specs.declared.stages.Route.TheVariants.{Linking, Pushing}
+use Rattle.ea_machine.specs.Actor.{Actor}
 use Rattle.ea_machine.specs.declared.tasks.Why.{Why}
 use Rattle.ea_machine.specs.declared.tasks.Gone.{Gone}
 use Rattle.ea_sound.specs.Contents.{AtHome, seats}

@@ -27,7 +27,10 @@ use Rattle.ea_machine.specs.declared.nodes.Node.TheVariants.{Block, Carrier}
 use Rattle.ea_machine.specs.declared.tasks.Gone.{Gone}
 use Rattle.ea_machine.specs.declared.tasks.Gone.TheVariants.{Open}
 use Rattle.ea_machine.specs.declared.tasks.Why.TheVariants.{Walk}
-use Rattle.ea_machine.specs.Actor.{Actor, Begin, Linking, Looking, Route, Routed}
+use Rattle.ea_machine.specs.declared.stages.Stage.TheVariants.{Begin, Routed}
+use Rattle.ea_machine.specs.declared.stages.Route.{Route}
+use Rattle.ea_machine.specs.declared.stages.Route.TheVariants.{Linking, Looking}
+use Rattle.ea_machine.specs.Actor.{Actor}
 use Rattle.ea_sound.specs.Contents.{actor_sum, seats}
 use Rattle.ea_machine.specs.Machine.{IsReached, begins}
 use Rattle.ea_sound.specs.Names.{made_in, of_named, of_node, only, only_at}
@@ -230,7 +233,7 @@ module _ (e : Setup) (v : State) (s : Shared) (me : ℕ) (is : is_scheduler e me
     abbrev turn : Turned
     turn = route_of e me hand (record a { passed = ns })
 
-    on-by : (gone : Gone) (b : Actor) (route : Option Route)
+    on-by : (gone : Gone) (b : Actor) (route : Option (Route Content))
         → HoldsAt e v s me V closes Walk gone b route
         → route ≡ None → V (at Begin b)
     on-by gone b None holds over = holds

@@ -3,10 +3,15 @@
 use Rattle.std.proofs.Common.{◌≡◌, ◌≢◌, ◌⊎◌, ℕ, ◌+◌, ◌<◌, ◌≤◌, Bool, true, false, List, [], ◌∷◌, ◌++◌, Option, refl, sym, ap, ◌∙◌, subst, inl, inr, arith}
 use Rattle.std.specs.Prelude.{◌==◌, ◌&&◌, if◌then◌else◌}
 use Rattle.std.proofs.lemmas.Bool.{cases_Bool, cases_eq, cond-false, eqb-true}
+use Rattle.ea_model.specs.Content.{Content}
 use Rattle.ea_machine.specs.declared.nodes.Node.{Node}
 use Rattle.ea_machine.specs.declared.tasks.Gone.{Gone}
 use Rattle.ea_machine.specs.declared.tasks.Why.{Why}
-use Rattle.ea_machine.specs.Actor.{Actor, Route, Looking, Trying, Settling, Abandoning, Sending, Clearing, Pushing, Linking, Stage, Begin, Routed, Collecting, Searching, Fetching, Creating, Giving, Taking, Ended, Ready}
+use Rattle.ea_machine.specs.declared.stages.Stage.{Stage}
+use Rattle.ea_machine.specs.declared.stages.Stage.TheVariants.{Begin, Routed, Collecting, Searching, Fetching, Creating, Giving, Taking, Ended, Ready}
+use Rattle.ea_machine.specs.declared.stages.Route.{Route}
+use Rattle.ea_machine.specs.declared.stages.Route.TheVariants.{Looking, Trying, Settling, Abandoning, Sending, Clearing, Pushing, Linking}
+use Rattle.ea_machine.specs.Actor.{Actor}
 use Rattle.ea_sound.specs.Contents.{seats}
 use Rattle.ea_machine.specs.Guards.{Guard}
 use Rattle.ea_machine.specs.Machine.{step, wants, wants_at}
@@ -144,7 +149,7 @@ module _ (node : Node) (older : Option Node) where
 
 -- two that are about to link one node at one instance are one
 module _ (e : Setup) (w : State) (rule : Rule e w) where
-  seat-of : (i : ℕ) (route : Route) (why : Why) (gone : Gone)
+  seat-of : (i : ℕ) (route : Route Content) (why : Why) (gone : Gone)
       → (w.actors i).stage ≡ Routed route why gone → i < seats e
   seat-of i route why gone now = scheduler-seat e i
       (working-scheduler e w rule.kept i (λ q. let never : Routed route why gone ≡ Ended =
@@ -254,11 +259,11 @@ rest-less f (m ∷ ms) = by m.linked where
   by false = omega arith
 
 -- whether a scheduler is about to link a node
-abbrev LinkedOr : (ℕ → Node → ℕ) → Option Node → Stage → Type 0
+abbrev LinkedOr : (ℕ → Node → ℕ) → Option Node → Stage Content → Type 0
 LinkedOr u next stage = (of_link u stage ≡ 0) ⊎ ((n : Node) × (i : ℕ)
     × (wants_at next stage ≡ Link n i) × (of_link u stage ≡ u i n))
 
-linked-or : (u : ℕ → Node → ℕ) (next : Option Node) (stage : Stage) → LinkedOr u next stage
+linked-or : (u : ℕ → Node → ℕ) (next : Option Node) (stage : Stage Content) → LinkedOr u next stage
 linked-or u next Begin = inl refl
 linked-or u next (Routed (Looking hand) why gone) = inl refl
 linked-or u next (Routed (Trying hand seen) why gone) = inl refl

@@ -6,7 +6,10 @@ use Rattle.ea_model.specs.declared.carriers.Spot.{Spot}
 use Rattle.ea_model.specs.declared.entries.Entry.TheVariants as entry
 use Rattle.ea_model.specs.Instance.{creating, resizing_at}
 use Rattle.ea_model.proofs.Rising.{item_at-old}
-use Rattle.ea_machine.specs.Actor.{Actor, Begin, Ready, Stage}
+use Rattle.ea_model.specs.Content.{Content}
+use Rattle.ea_machine.specs.declared.stages.Stage.{Stage}
+use Rattle.ea_machine.specs.declared.stages.Stage.TheVariants.{Begin, Ready}
+use Rattle.ea_machine.specs.Actor.{Actor}
 use Rattle.ea_machine.specs.declared.asks.Ask.{Ask}
 use Rattle.ea_machine.specs.Machine.{after, after_row}
 use Rattle.ea_sound.specs.Names.{of_content, of_named, only}
@@ -110,7 +113,7 @@ module _ (e : Setup) (w : State) (s : Shared) (me : ℕ) (is : is_scheduler e me
   }
 
   -- what a row leaves keeps the rule through the whole step
-  pub after-kept : (a : Actor) (r : Answer) (st : Stage) → Leaves e w s me a st r
+  pub after-kept : (a : Actor) (r : Answer) (st : Stage Content) → Leaves e w s me a st r
       → Kept e (with_actor w s me (after e me a r st))
   after-kept a r st l =
       (after-holds e w s me (closed e w s me is (InWalk e w s me) (keeps-walk e w s me is))
@@ -118,7 +121,7 @@ module _ (e : Setup) (w : State) (s : Shared) (me : ℕ) (is : is_scheduler e me
       closed-operation a r st l).kept
 
   -- where the begin of the operation is over by that row, the operation itself begins with this
-  pub begun-kept : (a : Actor) (r : Answer) (st : Stage) → Leaves e w s me a st r
+  pub begun-kept : (a : Actor) (r : Answer) (st : Stage Content) → Leaves e w s me a st r
       → (after_row e me a r st).stage ≡ Ready → InWalk e w s me (at Begin (after_row e me a r st))
   begun-kept a r st l ready =
       begun-walk e w s me (closed e w s me is (InWalk e w s me) (keeps-walk e w s me is))

@@ -7,7 +7,10 @@ use Rattle.ea_machine.specs.declared.nodes.Node.{Node}
 use Rattle.ea_machine.specs.declared.nodes.Node.TheVariants.{Block, Carrier}
 use Rattle.ea_machine.specs.declared.owners.OwnerWord.{OwnerWord}
 use Rattle.ea_machine.specs.declared.owners.OwnerWord.TheVariants as word
-use Rattle.ea_machine.specs.Actor.{Actor, Route, Looking, Trying, Settling, Abandoning, Sending, Clearing, Pushing, Linking, Ended, Routed}
+use Rattle.ea_machine.specs.declared.stages.Stage.TheVariants.{Ended, Routed}
+use Rattle.ea_machine.specs.declared.stages.Route.{Route}
+use Rattle.ea_machine.specs.declared.stages.Route.TheVariants.{Looking, Trying, Settling, Abandoning, Sending, Clearing, Pushing, Linking}
+use Rattle.ea_machine.specs.Actor.{Actor}
 use Rattle.ea_machine.specs.declared.tasks.Why.{Why}
 use Rattle.ea_machine.specs.declared.tasks.Gone.{Gone}
 use Rattle.ea_sound.specs.Contents.{hand_sum}
@@ -174,7 +177,7 @@ tried-there i seen p (inl still) z =
     cc
 tried-there i seen p (inr has) z = subst (HasOther i) z has
 
-routed-works : (route : Route) (why : Why) (gone : Gone) → Routed route why gone ≢ Ended
+routed-works : (route : Route Content) (why : Why) (gone : Gone) → Routed route why gone ≢ Ended
 routed-works route why gone q = cc
 
 -- the route of another scheduler, where the state after the row keeps what every moment keeps
@@ -183,7 +186,7 @@ module _ (e : Setup) (w v : State) (me i : ℕ) (other : i ≢ me) (k : Kept e w
     (moves : (d : ℕ) → MovesBy me (v.shared.places d) (w.shared.places d)) (why : Why) (gone : Gone)
   where
     -- the block in its hand has an employer
-    employer : (hand : Named) (route : Route) → (w.actors i).stage ≡ Routed route why gone
+    employer : (hand : Named) (route : Route Content) → (w.actors i).stage ≡ Routed route why gone
         → ((f : ℕ → Spot → ℕ) → of_hand f (Routed route why gone) ≡ f hand.name hand.spot)
         → ((b h : Content → ℕ) → hand_sum b h (Routed route why gone) ≡ 0) → migration e ≡ true
         → HasEmployer i (v.shared.places hand.spot.carrier)
@@ -194,7 +197,7 @@ module _ (e : Setup) (w v : State) (me i : ℕ) (other : i ≢ me) (k : Kept e w
         (λ ended. routed-works route why gone (sym at ∙ ended)) in
         hand-employer e v kept i is hand (Routed route why gone) at names bare on
 
-    pub route-stays : (route : Route) → (w.actors i).stage ≡ Routed route why gone
+    pub route-stays : (route : Route Content) → (w.actors i).stage ≡ Routed route why gone
         → FitsRoute e w.shared i route → FitsRoute e v.shared i route
     route-stays (Looking hand) stage fits =
         (employer hand (Looking hand) stage (λ f. refl) (λ b h. refl) fits.1, fits.1)

@@ -8,11 +8,16 @@ use Rattle.ea_model.specs.declared.trace.Trace.{Trace}
 use Rattle.ea_model.specs.declared.units.TheConstants.{NUMBERS}
 use Rattle.ea_model.specs.Settings.{IsValidConfig}
 use Rattle.ea_model.specs.Trace.{IsValidTrace}
+use Rattle.ea_model.specs.Content.{Content}
 use Rattle.ea_machine.specs.declared.nodes.Node.{Node}
 use Rattle.ea_machine.specs.declared.nodes.Node.TheVariants.{Block, Carrier}
 use Rattle.ea_machine.specs.declared.tasks.Gone.{Gone}
 use Rattle.ea_machine.specs.declared.tasks.Why.{Why}
-use Rattle.ea_machine.specs.Actor.{Actor, Route, Looking, Trying, Settling, Abandoning, Sending, Clearing, Pushing, Linking, Stage, Begin, Routed, Collecting, Searching, Fetching, Creating, Giving, Taking, Ended, Ready}
+use Rattle.ea_machine.specs.declared.stages.Stage.{Stage}
+use Rattle.ea_machine.specs.declared.stages.Stage.TheVariants.{Begin, Routed, Collecting, Searching, Fetching, Creating, Giving, Taking, Ended, Ready}
+use Rattle.ea_machine.specs.declared.stages.Route.{Route}
+use Rattle.ea_machine.specs.declared.stages.Route.TheVariants.{Looking, Trying, Settling, Abandoning, Sending, Clearing, Pushing, Linking}
+use Rattle.ea_machine.specs.Actor.{Actor}
 use Rattle.ea_machine.specs.Alike.{IsNode, alike_in}
 use Rattle.ea_machine.specs.Completion.{work}
 use Rattle.ea_sound.specs.Contents.{seats}
@@ -42,7 +47,7 @@ module _ (me : ℕ) (s : Shared) where
   abbrev LeavesQueue : Row → Type 0
   LeavesQueue row = length ((effect me row s).queues me) ≡ length (s.queues me)
 
-  route-queue : (r : Route) (y : Why) (g : Gone) → PushesElsewhere me (Routed r y g)
+  route-queue : (r : Route Content) (y : Why) (g : Gone) → PushesElsewhere me (Routed r y g)
       → LeavesQueue (wants_on r)
   unfolding effect
   route-queue (Looking h) y g f = refl
@@ -57,7 +62,7 @@ module _ (me : ℕ) (s : Shared) where
   route-queue (Linking node to) y g f = linked-marks node to me s.queues
 
   -- where the scheduler doesn't take it
-  own-queue : (next : Option Node) (st : Stage) → PushesElsewhere me st
+  own-queue : (next : Option Node) (st : Stage Content) → PushesElsewhere me st
       → (st ≡ Begin → next ≢ None) → LeavesQueue (wants_at next st)
   unfolding effect
   own-queue None Begin f walks = absurd (walks refl refl)
@@ -80,7 +85,7 @@ module _ (me : ℕ) (s : Shared) where
   taken-queue = (put-here s.queues me [] me refl, put-here s.rests me (s.queues me) me refl)
 
 -- whether a scheduler is about to take its queue
-takes-or : (next : Option Node) (st : Stage)
+takes-or : (next : Option Node) (st : Stage Content)
     → ((st ≡ Begin) × (next ≡ None)) ⊎ (st ≡ Begin → next ≢ None)
 takes-or None Begin = inl (refl, refl)
 takes-or (Some n) Begin = inr (λ q r. absurd cc)

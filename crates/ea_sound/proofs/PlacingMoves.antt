@@ -12,7 +12,8 @@ use Rattle.ea_model.proofs.Rising.{All-entered, item_at-All, item_at-key}
 use Rattle.ea_laws.specs.Kept.{number_of, own_number}
 use Rattle.ea_laws.specs.Spots.{HasGap}
 use Rattle.ea_laws.proofs.Apart.{changed-All}
-use Rattle.ea_machine.specs.Actor.{Actor, Begin}
+use Rattle.ea_machine.specs.declared.stages.Stage.TheVariants.{Begin}
+use Rattle.ea_machine.specs.Actor.{Actor}
 use Rattle.ea_machine.specs.declared.asks.Ask.{Ask}
 use Rattle.ea_machine.specs.Nodes.{name_of}
 use Rattle.ea_sound.specs.Names.{allocated, of_content, of_named, only}

@@ -18,9 +18,13 @@ use Rattle.ea_model.proofs.NumberedItems.{HasKeyIn, all-items, each-range, flat_
 use Rattle.ea_model.proofs.NumberedItems.{if_there, in-parts, map-flat_map}
 use Rattle.ea_model.proofs.Rising.{item_at-All, item_at-key}
 use Rattle.ea_laws.specs.Kept.{HasNumberIn, IsOwn, IsRising, Stands, number_of, own_number}
-use Rattle.ea_machine.specs.Actor.{Actor, Route, Looking, Trying, Settling, Abandoning, Sending}
-use Rattle.ea_machine.specs.Actor.{Clearing, Pushing, Linking, Stage, Begin, Routed, Collecting}
-use Rattle.ea_machine.specs.Actor.{Searching, Fetching, Creating, Giving, Taking, Ended, Ready}
+use Rattle.ea_machine.specs.declared.stages.Route.{Route}
+use Rattle.ea_machine.specs.declared.stages.Route.TheVariants.{Looking, Trying, Settling, Abandoning, Sending}
+use Rattle.ea_machine.specs.Actor.{Actor}
+use Rattle.ea_machine.specs.declared.stages.Stage.{Stage}
+use Rattle.ea_machine.specs.declared.stages.Stage.TheVariants.{Begin, Routed, Collecting}
+use Rattle.ea_machine.specs.declared.stages.Route.TheVariants.{Clearing, Pushing, Linking}
+use Rattle.ea_machine.specs.declared.stages.Stage.TheVariants.{Searching, Fetching, Creating, Giving, Taking, Ended, Ready}
 use Rattle.ea_machine.specs.Outcome.{Present, actors_of, line_of, owned_place, place_in, place_of}
 use Rattle.ea_machine.specs.Outcome.{present, present_at, present_if, settling_at}
 use Rattle.ea_machine.specs.Owners.{owner_of}
@@ -93,7 +97,7 @@ module _ (e : Setup) (w : State) (rule : Rule e w) (off : migration e ≡ false)
   not_on : migration e ≡ true → ⊥
   not_on on = false≢true (sym off ∙ on)
 
-  route-leaves_none : (i : ℕ) (r : Route) → FitsRoute e w.shared i r → leaving_on r ≡ []
+  route-leaves_none : (i : ℕ) (r : Route Content) → FitsRoute e w.shared i r → leaving_on r ≡ []
   route-leaves_none i (Looking hand) fits = refl
   route-leaves_none i (Trying hand seen) fits = refl
   route-leaves_none i (Settling x) fits = refl
@@ -104,7 +108,7 @@ module _ (e : Setup) (w : State) (rule : Rule e w) (off : migration e ≡ false)
   route-leaves_none i (Linking node to) fits = refl
 
   -- no carrier is on its way from its employer
-  leaves-none : (i : ℕ) (a : Actor) (s : Stage) → Fits e w i a s → leaving_at s ≡ []
+  leaves-none : (i : ℕ) (a : Actor) (s : Stage Content) → Fits e w i a s → leaving_at s ≡ []
   leaves-none i a Begin fits = refl
   leaves-none i a (Routed r why gone) fits = route-leaves_none i r fits.0
   leaves-none i a (Collecting number) fits = refl

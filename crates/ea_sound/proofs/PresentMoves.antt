@@ -11,13 +11,14 @@ use Rattle.ea_model.specs.declared.entries.Entry.{Entry}
 use Rattle.ea_model.specs.declared.entries.Entry.TheVariants as entry
 use Rattle.ea_model.specs.declared.operations.Op.{Op}
 use Rattle.ea_model.specs.Instance.{Instance, chosen_spot, content_of, creating, creating_single, employed, place_at, placing_at, plan, single_place}
-use Rattle.ea_model.specs.Content.{is_empty_multi}
+use Rattle.ea_model.specs.Content.{Content, is_empty_multi}
 use Rattle.ea_model.specs.Strategies.{may_miss}
 use Rattle.ea_model.proofs.Options.{some_value}
 use Rattle.ea_laws.proofs.Keeping.{chosen-planned}
 use Rattle.ea_laws.specs.Kept.{Stands}
 use Rattle.ea_laws.proofs.Standing.{chosen-Stands, creating-Stands, creating_single-Stands}
-use Rattle.ea_machine.specs.Actor.{Actor, Route}
+use Rattle.ea_machine.specs.declared.stages.Route.{Route}
+use Rattle.ea_machine.specs.Actor.{Actor}
 use Rattle.ea_machine.specs.declared.tasks.Task.{Task}
 use Rattle.ea_machine.specs.declared.tasks.Task.TheVariants.{Moving}
 use Rattle.ea_machine.specs.declared.tasks.Why.{Why}
@@ -58,7 +59,7 @@ module _ (e : Setup) (s : Shared) (me : ℕ) (home bound : Counting → ℕ) (R 
   abbrev IsGood : Actor → Type 0
   IsGood a = Good e s me home bound R a
 
-  abbrev IsRouteGood : Why → Actor → Option Route → Type 0
+  abbrev IsRouteGood : Why → Actor → Option (Route Content) → Type 0
   IsRouteGood y a r = RouteGood e s me home bound y a r
 
   -- the operation is over
@@ -89,7 +90,7 @@ module _ (e : Setup) (s : Shared) (me : ℕ) (home bound : Counting → ℕ) (R 
     )
 
   pub carried-good : (y : Why) (over : Gone → Actor → Actor) (g : Gone) (a : Actor)
-      (r : Option Route) → IsRouteGood y a r
+      (r : Option (Route Content)) → IsRouteGood y a r
       → ((g : Gone) (b : Actor) → IsBare (unplaced_by y b.todo) b → OfWhy y b.todo
       → IsGood (over g b))
       → IsGood (carried_by y over g a r)

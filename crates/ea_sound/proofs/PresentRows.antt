@@ -9,7 +9,9 @@ use Rattle.ea_model.specs.declared.operations.Op.TheVariants as op
 use Rattle.ea_model.specs.Content.{Content, can_go, is_nil}
 use Rattle.ea_machine.specs.declared.owners.OwnerWord.{OwnerWord}
 use Rattle.ea_machine.specs.declared.owners.OwnerWord.TheVariants as word
-use Rattle.ea_machine.specs.Actor.{Actor, Stage, Begin, Routed, Collecting, Searching, Fetching, Creating, Giving, Taking, Ended, Ready}
+use Rattle.ea_machine.specs.declared.stages.Stage.{Stage}
+use Rattle.ea_machine.specs.declared.stages.Stage.TheVariants.{Begin, Routed, Collecting, Searching, Fetching, Creating, Giving, Taking, Ended, Ready}
+use Rattle.ea_machine.specs.Actor.{Actor}
 use Rattle.ea_machine.specs.declared.asks.Ask.{Ask}
 use Rattle.ea_sound.specs.Contents.{home_sum, seats, slots}
 use Rattle.ea_model.specs.Employment.{employing}
@@ -90,14 +92,14 @@ module _ (e : Setup) (w : State) (me : ℕ) (is : is_scheduler e me ≡ true) (r
   k : Kept e w
   k = rule.kept
 
-  fits : (stage : Stage) → a.stage ≡ stage → Fits e w me a stage
+  fits : (stage : Stage Content) → a.stage ≡ stage → Fits e w me a stage
   fits stage now = subst (Fits e w me a) now (rule.present.fits me)
 
   asked : (ask : Ask) → Asked e w a ask → Wanting ask
   asked ask h = (h.of, h.old)
 
   -- a row that leaves places and rests
-  bare : (stage : Stage) → a.stage ≡ stage → unplaced stage a.todo ≡ a.todo
+  bare : (stage : Stage Content) → a.stage ≡ stage → unplaced stage a.todo ≡ a.todo
       → ((n : Counting) → hand_named stage n ≡ 0) → CoreAt w.shared
   bare stage now left none = subst
       (λ ops. CoreOf e w.shared me (home_of e w.shared) (bound_of e w me) ops (λ n. 0) a) left
@@ -134,7 +136,7 @@ module _ (e : Setup) (w : State) (me : ℕ) (is : is_scheduler e me ≡ true) (r
           (omega (arith, f.2)) f.5 f.4
 
     module _ (seen : OwnerWord) (now : a.stage ≡ Fetching ask at looked seen) where
-      abbrev stage : Stage
+      abbrev stage : Stage Content
       stage = Fetching ask at looked seen
 
       f : Fits e w me a (Fetching ask at looked seen)
@@ -300,7 +302,7 @@ module _ (e : Setup) (w : State) (me : ℕ) (is : is_scheduler e me ≡ true) (r
         own = own e w me is rule;
       }))
 
-  pub row-good : (stage : Stage) → stage ≢ Ended → a.stage ≡ stage
+  pub row-good : (stage : Stage Content) → stage ≢ Ended → a.stage ≡ stage
       → IsGood (effect me (wants_at a.next stage) w.shared)
       (after_row e me a (answer me (wants_at a.next stage) w.shared) stage)
   unfolding effect answer

@@ -6,9 +6,14 @@ use Rattle.std.proofs.lemmas.Bool.{cases_eq, true≢false}
 use Rattle.ea_model.specs.declared.operations.Op.{Op}
 use Rattle.ea_model.specs.Keyed.{IsBelow}
 use Rattle.ea_laws.specs.Kept.{Stands}
+use Rattle.ea_model.specs.Content.{Content}
 use Rattle.ea_machine.specs.declared.nodes.Node.{Node}
 use Rattle.ea_machine.specs.declared.nodes.Node.TheVariants.{Block, Carrier}
-use Rattle.ea_machine.specs.Actor.{Actor, Route, Looking, Trying, Settling, Abandoning, Sending, Clearing, Pushing, Linking, Stage, Begin, Routed, Collecting, Searching, Fetching, Creating, Giving, Taking, Ended, Ready}
+use Rattle.ea_machine.specs.declared.stages.Stage.{Stage}
+use Rattle.ea_machine.specs.declared.stages.Stage.TheVariants.{Begin, Routed, Collecting, Searching, Fetching, Creating, Giving, Taking, Ended, Ready}
+use Rattle.ea_machine.specs.declared.stages.Route.{Route}
+use Rattle.ea_machine.specs.declared.stages.Route.TheVariants.{Looking, Trying, Settling, Abandoning, Sending, Clearing, Pushing, Linking}
+use Rattle.ea_machine.specs.Actor.{Actor}
 use Rattle.ea_machine.specs.declared.tasks.Why.{Why}
 use Rattle.ea_machine.specs.declared.tasks.Gone.{Gone}
 use Rattle.ea_sound.specs.Contents.{actor_sum, seats}
@@ -44,7 +49,7 @@ use Rattle.ea_sound.proofs.Whole.{MakesLater, fits-stays, whole}
 use Rattle.ea_sound.proofs.Weights.{one-itself}
 
 module _ (e : Setup) (w : State) (me : ℕ) (rule : Rule e w) (is : is_scheduler e me ≡ true)
-    (stage : Stage) (goes : stage ≢ Ended) (now : (w.actors me).stage ≡ stage) where
+    (stage : Stage Content) (goes : stage ≢ Ended) (now : (w.actors me).stage ≡ stage) where
   abbrev a : Actor
   a = w.actors me
 
@@ -126,7 +131,7 @@ module _ (e : Setup) (w : State) (me : ℕ) (rule : Rule e w) (is : is_scheduler
     starts None = tt
     starts (Some node) = tt
 
-    on : (r : Route) (y : Why) (g : Gone) → a.stage ≡ Routed r y g → Fits e w me a (Routed r y g)
+    on : (r : Route Content) (y : Why) (g : Gone) → a.stage ≡ Routed r y g → Fits e w me a (Routed r y g)
         → PushesNot i (wants_on r)
     on (Looking h) y g now f = tt
     on (Trying h seen) y g now f = tt
@@ -141,7 +146,7 @@ module _ (e : Setup) (w : State) (me : ℕ) (rule : Rule e w) (is : is_scheduler
         (returning-scheduler e w rule.kept c t.0 t.1 t.2))
     on (Linking node to) y g now f = tt
 
-    by : (st : Stage) → a.stage ≡ st → Fits e w me a st → PushesNot i (wants_at a.next st)
+    by : (st : Stage Content) → a.stage ≡ st → Fits e w me a st → PushesNot i (wants_at a.next st)
     by Begin now f = starts a.next
     by (Routed r y g) now f = on r y g now f
     by (Collecting c) now f = tt
@@ -160,7 +165,7 @@ module _ (e : Setup) (w : State) (me : ℕ) (rule : Rule e w) (is : is_scheduler
     starts None = tt
     starts (Some node) = tt
 
-    on : (r : Route) → GivesNew w.shared (wants_on r)
+    on : (r : Route Content) → GivesNew w.shared (wants_on r)
     on (Looking h) = tt
     on (Trying h seen) = tt
     on (Settling x) = tt
@@ -170,7 +175,7 @@ module _ (e : Setup) (w : State) (me : ℕ) (rule : Rule e w) (is : is_scheduler
     on (Pushing node to) = tt
     on (Linking node to) = tt
 
-    by : (st : Stage) → a.stage ≡ st → Fits e w me a st → GivesNew w.shared (wants_at a.next st)
+    by : (st : Stage Content) → a.stage ≡ st → Fits e w me a st → GivesNew w.shared (wants_at a.next st)
     by Begin now f = starts a.next
     by (Routed r y g) now f = on r
     by (Collecting c) now f = tt

@@ -1,9 +1,12 @@
 -- Where the begin of an operation leaves a scheduler, and all its work up to its next row.
 use Rattle.std.proofs.Common.{◌≡◌, ◌≢◌, ℕ, List, [], ◌∷◌, refl, sym, ◌∙◌, subst}
 use Rattle.ea_model.specs.declared.operations.Op.{Op}
+use Rattle.ea_model.specs.Content.{Content}
 use Rattle.ea_machine.specs.declared.nodes.Node.{Node}
 use Rattle.ea_machine.specs.declared.nodes.Node.TheVariants.{Block, Carrier}
-use Rattle.ea_machine.specs.Actor.{Actor, Stage, Begin, Routed, Collecting, Searching, Fetching, Creating, Giving, Taking, Ended, Ready}
+use Rattle.ea_machine.specs.declared.stages.Stage.{Stage}
+use Rattle.ea_machine.specs.declared.stages.Stage.TheVariants.{Begin, Routed, Collecting, Searching, Fetching, Creating, Giving, Taking, Ended, Ready}
+use Rattle.ea_machine.specs.Actor.{Actor}
 use Rattle.ea_machine.specs.declared.tasks.Why.{Why}
 use Rattle.ea_machine.specs.declared.tasks.Why.TheVariants.{Walk, For}
 use Rattle.ea_machine.specs.declared.tasks.Gone.{Gone}
@@ -70,7 +73,7 @@ module _ (e : Setup) (s : Shared) (me : ℕ) (home bound : Counting → ℕ) whe
   route_over-good (For task) g a b why = task-good e s me home bound (InOrder e me) task g a b why
 
   -- once the begin is over, the operation follows
-  still-suits : (a : Actor) (st : Stage) → st ≢ Ready → Suits e s me (InOrder e me) a st
+  still-suits : (a : Actor) (st : Stage Content) → st ≢ Ready → Suits e s me (InOrder e me) a st
       → Suits e s me Never a st
   still-suits a Begin n q = q
   still-suits a (Routed r y g) n q = q
@@ -83,7 +86,7 @@ module _ (e : Setup) (s : Shared) (me : ℕ) (home bound : Counting → ℕ) whe
   still-suits a Ended n q = q
   still-suits a Ready n q = absurd (n refl)
 
-  still-good : (a : Actor) (st : Stage) → a.stage ≡ st → st ≢ Ready → GoodAfterRow a → GoodAfter a
+  still-good : (a : Actor) (st : Stage Content) → a.stage ≡ st → st ≢ Ready → GoodAfterRow a → GoodAfter a
   still-good a st q n g = record {
     core = g.core;
     suits = still-suits a a.stage (λ r. n (sym q ∙ r)) g.suits;
@@ -97,7 +100,7 @@ module _ (e : Setup) (s : Shared) (me : ℕ) (home bound : Counting → ℕ) whe
     own = subst (Suits e s me (InOrder e me) a) q g.suits;
   }
 
-  onward-good : (a : Actor) (st : Stage) → a.stage ≡ st → GoodAfterRow a
+  onward-good : (a : Actor) (st : Stage Content) → a.stage ≡ st → GoodAfterRow a
       → GoodAfter (onward_at e me a st)
   onward-good a Ready q g = itself-good e s me home bound Never a a.todo refl (ready-bare a q g)
   onward-good a Begin q g = still-good a Begin q (λ r. cc) g
@@ -113,7 +116,7 @@ module _ (e : Setup) (s : Shared) (me : ℕ) (home bound : Counting → ℕ) whe
   onward-good a Ended q g = still-good a Ended q (λ r. cc) g
 
   -- the figures don't matter
-  observed-suits : (a : Actor) (st : Stage) → Suits e s me Never a st
+  observed-suits : (a : Actor) (st : Stage Content) → Suits e s me Never a st
       → Suits e s me Never (observed a) st
   observed-suits a Begin q = q
   observed-suits a (Routed r y g) q = q

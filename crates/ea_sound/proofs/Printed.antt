@@ -7,7 +7,11 @@ use Rattle.ea_model.specs.Content.{Content}
 use Rattle.ea_model.specs.Instance.{content_of}
 use Rattle.ea_model.proofs.Rising.{item_at-All, item_at-key}
 use Rattle.ea_laws.specs.Kept.{number_of}
-use Rattle.ea_machine.specs.Actor.{Actor, Route, Looking, Trying, Settling, Abandoning, Sending, Clearing, Pushing, Linking, Stage, Begin, Routed, Collecting, Searching, Fetching, Creating, Giving, Taking, Ended, Ready}
+use Rattle.ea_machine.specs.declared.stages.Stage.{Stage}
+use Rattle.ea_machine.specs.declared.stages.Stage.TheVariants.{Begin, Routed, Collecting, Searching, Fetching, Creating, Giving, Taking, Ended, Ready}
+use Rattle.ea_machine.specs.declared.stages.Route.{Route}
+use Rattle.ea_machine.specs.declared.stages.Route.TheVariants.{Looking, Trying, Settling, Abandoning, Sending, Clearing, Pushing, Linking}
+use Rattle.ea_machine.specs.Actor.{Actor}
 use Rattle.ea_sound.specs.Contents.{hand_sum, home_sum, route_sum, seats, sum_everywhere}
 use Rattle.ea_machine.specs.Outcome.{Present, place_of, present, present_at, present_if, settling_at, settling_on}
 use Rattle.ea_machine.specs.Owners.{CarrierAt, Absent, Employed, Pooled, Busy, Returning}
@@ -34,7 +38,7 @@ of_option b None = 0
 of_option b (Some x) = b x
 
 -- in the hand is one that leaves, or one that is to be settled
-route-leaves : (b h : Content → ℕ) (r : Route)
+route-leaves : (b h : Content → ℕ) (r : Route Content)
     → route_sum b h r ≡ sum_over h (leaving_on r) + of_option b (settling_on r)
 route-leaves b h (Looking hand) = refl
 route-leaves b h (Trying hand seen) = refl
@@ -45,7 +49,7 @@ route-leaves b h (Clearing x) = omega arith
 route-leaves b h (Pushing node to) = refl
 route-leaves b h (Linking node to) = refl
 
-pub hand-leaves : (b h : Content → ℕ) (s : Stage)
+pub hand-leaves : (b h : Content → ℕ) (s : Stage Content)
     → hand_sum b h s ≡ sum_over h (leaving_at s) + of_option b (settling_at s)
 hand-leaves b h Begin = refl
 hand-leaves b h (Routed r why gone) = route-leaves b h r

@@ -11,7 +11,11 @@ use Rattle.ea_model.proofs.Rising.{item_at-key}
 use Rattle.ea_laws.specs.Kept.{number_of}
 use Rattle.ea_machine.specs.declared.nodes.Node.{Node}
 use Rattle.ea_machine.specs.declared.nodes.Node.TheVariants.{Block, Carrier}
-use Rattle.ea_machine.specs.Actor.{Actor, Route, Looking, Trying, Settling, Abandoning, Sending, Clearing, Pushing, Linking, Stage, Begin, Routed, Collecting, Searching, Fetching, Creating, Giving, Taking, Ended, Ready}
+use Rattle.ea_machine.specs.declared.stages.Stage.{Stage}
+use Rattle.ea_machine.specs.declared.stages.Stage.TheVariants.{Begin, Routed, Collecting, Searching, Fetching, Creating, Giving, Taking, Ended, Ready}
+use Rattle.ea_machine.specs.declared.stages.Route.{Route}
+use Rattle.ea_machine.specs.declared.stages.Route.TheVariants.{Looking, Trying, Settling, Abandoning, Sending, Clearing, Pushing, Linking}
+use Rattle.ea_machine.specs.Actor.{Actor}
 use Rattle.ea_sound.specs.Contents.{sum_everywhere}
 use Rattle.ea_sound.specs.Names.{given, held, in_hands, of_hand, of_mark, of_named, of_node, of_route, queued, walked}
 use Rattle.ea_machine.specs.Nodes.{Mark}
@@ -52,7 +56,7 @@ module _ (f : Spot → ℕ) where
       ∙ sum-same (λ node. sum_over f (block_of node)) (of_node at_spot) nodes
       (λ i d within. node-spot _)
 
-  route-spots : (r : Route) → sum_over f (hand_on r) ≡ of_route at_spot r
+  route-spots : (r : Route Content) → sum_over f (hand_on r) ≡ of_route at_spot r
   route-spots (Looking hand) = omega arith
   route-spots (Trying hand seen) = omega arith
   route-spots (Settling x) = refl
@@ -62,7 +66,7 @@ module _ (f : Spot → ℕ) where
   route-spots (Pushing node to) = node-spot node
   route-spots (Linking node to) = refl
 
-  hand-spots : (s : Stage) → sum_over f (hand_at s) ≡ of_hand at_spot s
+  hand-spots : (s : Stage Content) → sum_over f (hand_at s) ≡ of_hand at_spot s
   hand-spots Begin = refl
   hand-spots (Routed r why gone) = route-spots r
   hand-spots (Collecting number) = refl

@@ -16,7 +16,8 @@ use Rattle.ea_model.proofs.Rising.{item_at-All, item_at-key}
 use Rattle.ea_laws.specs.Kept.{number_of, IsLaidOutAlone}
 use Rattle.ea_laws.proofs.Keeping.{pages_of_units}
 use Rattle.ea_laws.proofs.Reallocating.{shortened-alone}
-use Rattle.ea_machine.specs.Actor.{Actor, Begin}
+use Rattle.ea_machine.specs.declared.stages.Stage.TheVariants.{Begin}
+use Rattle.ea_machine.specs.Actor.{Actor}
 use Rattle.ea_sound.specs.Names.{of_content, of_named, only}
 use Rattle.ea_machine.specs.Nodes.{named_at, without_name, name_of}
 use Rattle.ea_machine.specs.declared.nodes.Named.{Named}

@@ -5,7 +5,10 @@ use Rattle.ea_machine.specs.declared.nodes.Node.{Node}
 use Rattle.ea_machine.specs.declared.nodes.Node.TheVariants.{Block, Carrier}
 use Rattle.ea_machine.specs.declared.owners.OwnerWord.{OwnerWord}
 use Rattle.ea_machine.specs.declared.owners.OwnerWord.TheVariants as word
-use Rattle.ea_machine.specs.Actor.{Actor, Route, Looking, Trying, Settling, Abandoning, Sending, Clearing, Pushing, Linking, Begin, Routed, Ready}
+use Rattle.ea_machine.specs.declared.stages.Stage.TheVariants.{Begin, Routed, Ready}
+use Rattle.ea_machine.specs.declared.stages.Route.{Route}
+use Rattle.ea_machine.specs.declared.stages.Route.TheVariants.{Looking, Trying, Settling, Abandoning, Sending, Clearing, Pushing, Linking}
+use Rattle.ea_machine.specs.Actor.{Actor}
 use Rattle.ea_machine.specs.declared.tasks.Why.{Why}
 use Rattle.ea_machine.specs.declared.tasks.Gone.{Gone}
 use Rattle.ea_machine.specs.declared.tasks.Gone.TheVariants.{Here as HereGone}
@@ -75,10 +78,10 @@ module _ (e : Setup) (w : State) (me : ℕ) (is : is_scheduler e me ≡ true) (r
   seat : me < seats e
   seat = scheduler-seat e me is
 
-  abbrev Left : Shared → Route → Answer → Type 0
+  abbrev Left : Shared → Route Content → Answer → Type 0
   Left s route r = LeavesRoute e w s me (P s) why gone old route r
 
-  module _ (route : Route) (stage : old.stage ≡ Routed route why gone) where
+  module _ (route : Route Content) (stage : old.stage ≡ Routed route why gone) where
     fits : FitsRoute e w.shared me route
     fits = (subst (Fits e w me old) stage (rule.present.fits me)).0
 
@@ -185,7 +188,7 @@ module _ (e : Setup) (w : State) (me : ℕ) (is : is_scheduler e me ≡ true) (r
       settling-left = settle-left (is_nil x.blocks) refl
 
     -- an employed carrier in the hand
-    module _ (route : Route) (stage : old.stage ≡ Routed route why gone)
+    module _ (route : Route Content) (stage : old.stage ≡ Routed route why gone)
         (holds : hand_sum none (has_number x.number) (Routed route why gone)
         ≡ has_number x.number x)
         (on : migration e ≡ true) where
@@ -261,7 +264,7 @@ module _ (e : Setup) (w : State) (me : ℕ) (is : is_scheduler e me ≡ true) (r
       (scheduler-seat e (owner_of d) (returning-scheduler e w k d r.0 r.1 r.2))) stage
 
   -- each row of a route
-  pub route-left : (route : Route) → old.stage ≡ Routed route why gone
+  pub route-left : (route : Route Content) → old.stage ≡ Routed route why gone
       → Left (effect me (wants_on route) w.shared) route (answer me (wants_on route) w.shared)
   route-left (Looking hand) stage = looking-left hand stage
   route-left (Trying hand seen) stage = trying-left hand seen stage

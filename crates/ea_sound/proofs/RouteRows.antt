@@ -9,7 +9,10 @@ use Rattle.ea_model.specs.Content.{Content, can_go, is_nil, released}
 use Rattle.ea_laws.specs.Kinds.{is_shared}
 use Rattle.ea_machine.specs.declared.owners.OwnerWord.{OwnerWord}
 use Rattle.ea_machine.specs.declared.owners.OwnerWord.TheVariants as word
-use Rattle.ea_machine.specs.Actor.{Actor, Route, Looking, Trying, Settling, Abandoning, Sending, Clearing, Pushing, Linking, Routed}
+use Rattle.ea_machine.specs.declared.stages.Stage.TheVariants.{Routed}
+use Rattle.ea_machine.specs.declared.stages.Route.{Route}
+use Rattle.ea_machine.specs.declared.stages.Route.TheVariants.{Looking, Trying, Settling, Abandoning, Sending, Clearing, Pushing, Linking}
+use Rattle.ea_machine.specs.Actor.{Actor}
 use Rattle.ea_machine.specs.declared.tasks.Why.{Why}
 use Rattle.ea_machine.specs.declared.tasks.Gone.{Gone}
 use Rattle.ea_sound.specs.Contents.{home_sum, slots}
@@ -60,7 +63,7 @@ module _ (e : Setup) (w : State) (me : ℕ) (is : is_scheduler e me ≡ true) (r
   k : Kept e w
   k = rule.kept
 
-  module _ (r : Route) (now : a.stage ≡ Routed r y g) where
+  module _ (r : Route Content) (now : a.stage ≡ Routed r y g) where
     fitting : Fits e w me a (Routed r y g)
     fitting = subst (Fits e w me a) now (rule.present.fits me)
 
@@ -87,7 +90,7 @@ module _ (e : Setup) (w : State) (me : ℕ) (is : is_scheduler e me ≡ true) (r
     }
 
   -- the block in the hand stands
-  module _ (h : Named) (r : Route) (now : a.stage ≡ Routed r y g)
+  module _ (h : Named) (r : Route Content) (now : a.stage ≡ Routed r y g)
       (names : (f : ℕ → Spot → ℕ) → of_hand f (Routed r y g) ≡ f h.name h.spot)
       (on : migration e ≡ true) where
     abbrev c : ℕ
@@ -129,7 +132,7 @@ module _ (e : Setup) (w : State) (me : ℕ) (is : is_scheduler e me ≡ true) (r
   looking-good : (h : Named) → a.stage ≡ Routed (Looking h) y g → (p : CarrierAt)
       → w.shared.places h.spot.carrier ≡ p → IsRoute w.shared (looked e me h g a (word_of p))
   looking-good h now p there = by p there (subst (HasEmployer me) there (its r now).0) where
-    r : Route
+    r : Route Content
     r = Looking h
 
     on : migration e ≡ true
@@ -176,7 +179,7 @@ module _ (e : Setup) (w : State) (me : ℕ) (is : is_scheduler e me ≡ true) (r
       → IsRoute (moved_if (won_if b p) h.spot.carrier (Busy me) w.shared) (tried h g a (won_if b p))
   trying-good h seen now p there b same =
       by p there (subst (λ q. StillPooled me seen q ⊎ HasOther me q) there (its r now)) b same where
-        r : Route
+        r : Route Content
         r = Trying h seen
 
         on : migration e ≡ true
@@ -244,7 +247,7 @@ module _ (e : Setup) (w : State) (me : ℕ) (is : is_scheduler e me ≡ true) (r
   )
 
   -- where a carrier comes to another place the route is over, or goes on
-  placed-bare : (r : Route) → a.stage ≡ Routed r y g → (c : ℕ) (p : CarrierAt)
+  placed-bare : (r : Route Content) → a.stage ≡ Routed r y g → (c : ℕ) (p : CarrierAt)
       → ((n : Counting) → home_sum (blocks_named n) p ≤ hand_named (Routed r y g) n)
       → BareAt (at_place c p w.shared)
   placed-bare r now c p less = record {
@@ -252,7 +255,7 @@ module _ (e : Setup) (w : State) (me : ℕ) (is : is_scheduler e me ≡ true) (r
     own = own e w me is rule;
   }
 
-  pub turned-good : (r : Route) → a.stage ≡ Routed r y g
+  pub turned-good : (r : Route Content) → a.stage ≡ Routed r y g
       → IsRoute (effect me (wants_on r) w.shared)
       (turned e me r g a (answer me (wants_on r) w.shared))
   unfolding effect answer

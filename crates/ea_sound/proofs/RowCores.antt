@@ -2,7 +2,9 @@
 use Rattle.std.proofs.Common.{◌≡◌, ℕ, ◌+◌, ◌<◌, ◌≤◌, List, true, refl, sym, ap, ◌∙◌, inl, inr, arith}
 use Rattle.std.proofs.lemmas.Bool.{cases_lt, true≢false}
 use Rattle.ea_model.specs.declared.operations.Op.{Op}
-use Rattle.ea_machine.specs.Actor.{Actor, Stage}
+use Rattle.ea_model.specs.Content.{Content}
+use Rattle.ea_machine.specs.declared.stages.Stage.{Stage}
+use Rattle.ea_machine.specs.Actor.{Actor}
 use Rattle.ea_sound.specs.Contents.{actor_sum, hand_sum, home_sum, seats, slots}
 use Rattle.ea_sound.specs.Names.{made_in, only, unplaced}
 use Rattle.ea_machine.specs.Nodes.{first_node}
@@ -38,7 +40,7 @@ bound_of e w me n = actor_sum (blocks_named n) (blocks_named n) (w.actors me)
     + home_of e w.shared n + made_in n.name (unplaced (w.actors me).stage (w.actors me).todo)
 
 -- the blocks of a name in the hand
-abbrev pub hand_named : Stage → Counting → ℕ
+abbrev pub hand_named : Stage Content → Counting → ℕ
 hand_named stage n = hand_sum (blocks_named n) (blocks_named n) stage
 
 -- where carriers migrate an instance may no longer own one
@@ -81,7 +83,7 @@ module _ (e : Setup) (w : State) (me : ℕ) (is : is_scheduler e me ≡ true) (r
   abbrev pub CoreAt : Shared → List Op → (Counting → ℕ) → Type 0
   CoreAt s left x = CoreOf e s me (home_of e s) (bound_of e w me) left x a
 
-  pub names : (stage : Stage) → a.stage ≡ stage → (n : ℕ)
+  pub names : (stage : Stage Content) → a.stage ≡ stage → (n : ℕ)
       → times_held n a.held + made_in n (unplaced stage a.todo) ≤ 1
   names stage now n = omega (
     arith,
@@ -91,7 +93,7 @@ module _ (e : Setup) (w : State) (me : ℕ) (is : is_scheduler e me ≡ true) (r
     ap (λ st. made_in n (unplaced st a.todo)) now,
   )
 
-  pub core : (stage : Stage) → a.stage ≡ stage → (s : Shared) (x : Counting → ℕ)
+  pub core : (stage : Stage Content) → a.stage ≡ stage → (s : Shared) (x : Counting → ℕ)
       → a.next ≡ first_node (s.rests me)
       → ((n : Counting) → x n + home_of e s n ≤ hand_named stage n + home_of e w.shared n)
       → CoreAt s (unplaced stage a.todo) x
@@ -114,7 +116,7 @@ module _ (e : Setup) (w : State) (me : ℕ) (is : is_scheduler e me ≡ true) (r
       }
 
   -- a row that leaves places and rests
-  pub still : (stage : Stage) → a.stage ≡ stage
+  pub still : (stage : Stage Content) → a.stage ≡ stage
       → CoreAt w.shared (unplaced stage a.todo) (hand_named stage)
   still stage now = core stage now w.shared (hand_named stage) (rule.present.walking me)
       (λ n. omega arith)

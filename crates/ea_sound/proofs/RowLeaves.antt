@@ -10,7 +10,10 @@ use Rattle.ea_laws.specs.Kinds.{is_shared}
 use Rattle.ea_machine.specs.declared.nodes.Node.{Node}
 use Rattle.ea_machine.specs.declared.owners.OwnerWord.{OwnerWord}
 use Rattle.ea_machine.specs.declared.owners.OwnerWord.TheVariants as word
-use Rattle.ea_machine.specs.Actor.{Actor, Begin, Collecting, Creating, Ended, Fetching, Giving, Ready, Route, Routed, Searching, Stage, Taking}
+use Rattle.ea_machine.specs.declared.stages.Stage.{Stage}
+use Rattle.ea_machine.specs.declared.stages.Stage.TheVariants.{Begin, Collecting, Creating, Ended, Fetching, Giving, Ready, Routed, Searching, Taking}
+use Rattle.ea_machine.specs.declared.stages.Route.{Route}
+use Rattle.ea_machine.specs.Actor.{Actor}
 use Rattle.ea_machine.specs.declared.tasks.Why.{Why}
 use Rattle.ea_machine.specs.declared.tasks.Why.TheVariants.{Walk, For}
 use Rattle.ea_machine.specs.declared.tasks.Gone.{Gone}
@@ -94,17 +97,17 @@ module _ (e : Setup) (w : State) (me : ℕ) (is : is_scheduler e me ≡ true) (r
   seat : me < seats e
   seat = scheduler-seat e me is
 
-  fits : (stage : Stage) → old.stage ≡ stage → Fits e w me old stage
+  fits : (stage : Stage Content) → old.stage ≡ stage → Fits e w me old stage
   fits stage now = subst (Fits e w me old) now (rule.present.fits me)
 
-  abbrev Left : Shared → Stage → Answer → Type 0
+  abbrev Left : Shared → Stage Content → Answer → Type 0
   Left s stage r = Leaves e w s me old stage r
 
   -- no operation that is left has placed its name
   abbrev Early : Type 0
   Early = (n : ℕ) → 0 < made_in n old.todo → allocated e (only n) w ≡ 0
 
-  early : (stage : Stage) → old.stage ≡ stage → unplaced stage old.todo ≡ old.todo → Early
+  early : (stage : Stage Content) → old.stage ≡ stage → unplaced stage old.todo ≡ old.todo → Early
   early stage now same n some = omega (
     arith,
     some,
@@ -126,7 +129,7 @@ module _ (e : Setup) (w : State) (me : ℕ) (is : is_scheduler e me ≡ true) (r
       → a.stage ≢ Ready → InOperation e w s me a
   in_operation s a moved todo busy = record { kept = moved.0; busy = busy }
 
-  routed-left : (route : Route) (why : Why) (gone : Gone) → old.stage ≡ Routed route why gone
+  routed-left : (route : Route Content) (why : Why) (gone : Gone) → old.stage ≡ Routed route why gone
       → Left (effect me (wants_on route) w.shared) (Routed route why gone)
       (answer me (wants_on route) w.shared)
   routed-left route Walk gone now = route-left e w me is rule (λ s. InWalk e w s me)
@@ -206,7 +209,7 @@ module _ (e : Setup) (w : State) (me : ℕ) (is : is_scheduler e me ≡ true) (r
   }
 
   -- a look, or a lost try
-  bare-moved : (stage : Stage) → IsBare stage → old.stage ≡ stage
+  bare-moved : (stage : Stage Content) → IsBare stage → old.stage ≡ stage
       → Moved e w me w.shared (at Begin old)
   bare-moved stage bare now = looked e w me is k stage Begin now
       (record {
@@ -216,7 +219,7 @@ module _ (e : Setup) (w : State) (me : ℕ) (is : is_scheduler e me ≡ true) (r
         nodes = λ g. sym (bare.nodes g me);
       })
 
-  bare-left : (ask : Ask) (stage : Stage) → IsBare stage → old.stage ≡ stage → Asked e w old ask
+  bare-left : (ask : Ask) (stage : Stage Content) → IsBare stage → old.stage ≡ stage → Asked e w old ask
       → Wanted e w w.shared me old ask × InOperation e w w.shared me (at Begin old)
   bare-left ask stage bare now asked =
       let moved = bare-moved stage bare now in (
@@ -234,7 +237,7 @@ module _ (e : Setup) (w : State) (me : ℕ) (is : is_scheduler e me ≡ true) (r
   -- a try to fetch a carrier
   module _ (ask : Ask) (n looked : ℕ) (seen : OwnerWord)
       (now : old.stage ≡ Fetching ask n looked seen) where
-    abbrev here : Stage
+    abbrev here : Stage Content
     here = Fetching ask n looked seen
 
     sees : Fits e w me old here
@@ -292,7 +295,7 @@ module _ (e : Setup) (w : State) (me : ℕ) (is : is_scheduler e me ≡ true) (r
 
   -- the carrier of a plan
   module _ (ask : Ask) (p : CarrierPlan) (now : old.stage ≡ Creating ask p) where
-    abbrev planning : Stage
+    abbrev planning : Stage Content
     planning = Creating ask p
 
     plans : Fits e w me old planning
@@ -355,7 +358,7 @@ module _ (e : Setup) (w : State) (me : ℕ) (is : is_scheduler e me ≡ true) (r
         (took_name e w me is k name tries left now given q) refl (λ z. cc)
 
   -- each row that a scheduler wants
-  pub row-left : (stage : Stage) → stage ≢ Ended → old.stage ≡ stage
+  pub row-left : (stage : Stage Content) → stage ≢ Ended → old.stage ≡ stage
       → Left (effect me (wants_at old.next stage) w.shared) stage
       (answer me (wants_at old.next stage) w.shared)
   row-left Begin goes now = begin-left now old.next refl

@@ -6,7 +6,8 @@ use Rattle.std.proofs.lemmas.List.{length-append}
 use Rattle.ea_model.specs.Content.{Content}
 use Rattle.ea_machine.specs.declared.owners.OwnerWord.{OwnerWord}
 use Rattle.ea_machine.specs.declared.owners.OwnerWord.TheVariants as word
-use Rattle.ea_machine.specs.Actor.{Begin, Routed, Collecting, Searching, Fetching, Creating, Giving, Taking, Ended, Ready, Stage}
+use Rattle.ea_machine.specs.declared.stages.Stage.{Stage}
+use Rattle.ea_machine.specs.declared.stages.Stage.TheVariants.{Begin, Routed, Collecting, Searching, Fetching, Creating, Giving, Taking, Ended, Ready}
 use Rattle.ea_machine.specs.Machine.{step}
 use Rattle.ea_machine.specs.Owners.{CarrierAt, Absent, Employed, Pooled, Busy, Returning, same_word, word_of}
 use Rattle.ea_machine.specs.Placements.{counted, fits}
@@ -21,7 +22,7 @@ use Rattle.ea_sound.specs.Turns.{answered}
 use Rattle.ea_sound.proofs.Weights.{sum_by-sum_over}
 
 -- a step sees one thing at most
-pub sight-most : (st : Stage) (r : Answer) → length (sight st r) ≤ 1
+pub sight-most : (st : Stage Content) (r : Answer) → length (sight st r) ≤ 1
 sight-most (Searching ask n looked) Done = omega arith
 sight-most (Searching ask n looked) (Head x) = omega arith
 sight-most (Searching ask n looked) Rests = omega arith

@@ -8,7 +8,9 @@ use Rattle.ea_model.specs.Instance.{content_of, employed, releasing_at}
 use Rattle.ea_machine.specs.declared.owners.OwnerWord.{OwnerWord}
 use Rattle.ea_machine.specs.declared.owners.OwnerWord.TheVariants as word
 use Rattle.ea_model.specs.Abandonment.{is_due}
-use Rattle.ea_machine.specs.Actor.{Actor, Route, Looking, Trying, Settling, Abandoning, Sending, Clearing, Pushing, Linking}
+use Rattle.ea_machine.specs.declared.stages.Route.{Route}
+use Rattle.ea_machine.specs.declared.stages.Route.TheVariants.{Looking, Trying, Settling, Abandoning, Sending, Clearing, Pushing, Linking}
+use Rattle.ea_machine.specs.Actor.{Actor}
 use Rattle.ea_machine.specs.declared.tasks.Gone.{Gone}
 use Rattle.ea_machine.specs.declared.tasks.Gone.TheVariants.{Open, Here}
 use Rattle.ea_machine.specs.Completion.{route_rows}
@@ -19,7 +21,7 @@ use Rattle.ea_machine.specs.Rows.{Answer, Done, Head, Rests, Passes, Saw, Won, L
 use Rattle.ea_machine.specs.Setup.{Setup, migration}
 
 -- the rows of a route that is left, if one is
-abbrev pub some_rows : Option Route → ℕ
+abbrev pub some_rows : Option (Route Content) → ℕ
 some_rows None = 0
 some_rows (Some r) = route_rows r
 
@@ -137,7 +139,7 @@ module _ (e : Setup) (me : ℕ) where
   tried-short h g a (Got p) = (omega arith, same a)
 
   -- each row of a route leaves it shorter
-  pub turned-short : (r : Route) (g : Gone) (a : Actor) (z : Answer)
+  pub turned-short : (r : Route Content) (g : Gone) (a : Actor) (z : Answer)
       → (some_rows (turned e me r g a z).route < route_rows r) × Same a (turned e me r g a z).actor
   turned-short (Looking h) g a z = let s = looked_at-short h g a z in (omega (arith, s.0), s.1)
   turned-short (Trying h seen) g a z = let s = tried-short h g a z in (omega (arith, s.0), s.1)
@@ -162,7 +164,7 @@ module _ (e : Setup) (me : ℕ) where
   route-short h a = routed-short (migration e) h a
 
   -- so it keeps the log, the operations left and the settings
-  pub turned-keeps : (r : Route) (g : Gone) (a : Actor) (z : Answer)
+  pub turned-keeps : (r : Route Content) (g : Gone) (a : Actor) (z : Answer)
       → Keeps a (turned e me r g a z).actor
   turned-keeps r g a z = let s = (turned-short r g a z).1 in (s.3, s.2, s.4)
 

@@ -3,7 +3,12 @@ use Rattle.std.proofs.Common.{◌≡◌, ◌≢◌, ℕ, ◌∙◌, Bool, true, 
 use Rattle.std.proofs.lemmas.Bool.{cases_Bool, cases_eq}
 use Rattle.ea_model.specs.Instance.{is_used}
 use Rattle.ea_model.specs.Trace.{IsScheduler}
-use Rattle.ea_machine.specs.Actor.{Actor, Route, Looking, Trying, Settling, Abandoning, Sending, Clearing, Pushing, Linking, Stage, Begin, Routed, Collecting, Searching, Fetching, Creating, Giving, Taking, Ended, Ready}
+use Rattle.ea_model.specs.Content.{Content}
+use Rattle.ea_machine.specs.declared.stages.Stage.{Stage}
+use Rattle.ea_machine.specs.declared.stages.Stage.TheVariants.{Begin, Routed, Collecting, Searching, Fetching, Creating, Giving, Taking, Ended, Ready}
+use Rattle.ea_machine.specs.declared.stages.Route.{Route}
+use Rattle.ea_machine.specs.declared.stages.Route.TheVariants.{Looking, Trying, Settling, Abandoning, Sending, Clearing, Pushing, Linking}
+use Rattle.ea_machine.specs.Actor.{Actor}
 use Rattle.ea_sound.specs.Contents.{AtHome, InHand, OnRoute, seats, sum_everywhere}
 use Rattle.ea_sound.specs.NodePlaces.{anywhere}
 use Rattle.ea_machine.specs.Outcome.{owned_place, place_in, place_of}
@@ -147,7 +152,7 @@ module _ (e : Setup) (w : State) (k : Kept e w) where
   home-multi c (Returning i x) at = (k.placed.returning c i x at).1
 
 module _ (e : Setup) (w : State) (i : ℕ) where
-  route-stays : (r : Route) → FitsRoute e w.shared i r → OnRoute (Belongs e i) (Belongs e i) r
+  route-stays : (r : Route Content) → FitsRoute e w.shared i r → OnRoute (Belongs e i) (Belongs e i) r
       → OnRoute IsMulti (IsMultiOrOwn i) r
   route-stays (Looking hand) fits belongs = tt
   route-stays (Trying hand seen) fits belongs = tt
@@ -158,7 +163,7 @@ module _ (e : Setup) (w : State) (i : ℕ) where
   route-stays (Pushing node to) fits belongs = tt
   route-stays (Linking node to) fits belongs = tt
 
-  hand-stays : (a : Actor) (s : Stage) → Fits e w i a s → InHand (Belongs e i) (Belongs e i) s
+  hand-stays : (a : Actor) (s : Stage Content) → Fits e w i a s → InHand (Belongs e i) (Belongs e i) s
       → InHand IsMulti (IsMultiOrOwn i) s
   hand-stays a Begin fits belongs = tt
   hand-stays a (Routed r why gone) fits belongs = route-stays r fits.0 belongs

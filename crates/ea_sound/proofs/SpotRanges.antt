@@ -8,7 +8,10 @@ use Rattle.ea_model.specs.declared.carriers.Spot.{Spot}
 use Rattle.ea_model.specs.declared.units.TheConstants.{MAX_UNITS}
 use Rattle.ea_model.specs.Content.{Content, Tiled}
 use Rattle.ea_laws.specs.Kept.{HasOneBlock, IsLaidOut, IsLaidOutAlone}
-use Rattle.ea_machine.specs.Actor.{Route, Looking, Trying, Settling, Abandoning, Sending, Clearing, Pushing, Linking, Stage, Begin, Routed, Collecting, Searching, Fetching, Creating, Giving, Taking, Ended, Ready}
+use Rattle.ea_machine.specs.declared.stages.Stage.{Stage}
+use Rattle.ea_machine.specs.declared.stages.Stage.TheVariants.{Begin, Routed, Collecting, Searching, Fetching, Creating, Giving, Taking, Ended, Ready}
+use Rattle.ea_machine.specs.declared.stages.Route.{Route}
+use Rattle.ea_machine.specs.declared.stages.Route.TheVariants.{Looking, Trying, Settling, Abandoning, Sending, Clearing, Pushing, Linking}
 use Rattle.ea_machine.specs.Alike.{IsSpot}
 use Rattle.ea_sound.specs.Contents.{AtHome, InHand, OnRoute, actor_sum, hand_sum, home_sum, route_sum, seats, slots, sum_everywhere}
 use Rattle.ea_sound.specs.Names.{allocated, of_block, of_content, only_at}
@@ -90,7 +93,7 @@ all-fine F P f (x ∷ xs) all = omega (
 abbrev F : Content → ℕ
 F = of_content at_bad
 
-route-fine : (r : Route) → OnRoute IsLaidOut IsLaidOutAsKind r → route_sum F F r ≡ 0
+route-fine : (r : Route Content) → OnRoute IsLaidOut IsLaidOutAsKind r → route_sum F F r ≡ 0
 route-fine (Looking hand) laid = refl
 route-fine (Trying hand seen) laid = refl
 route-fine (Settling x) laid = content-fine x laid
@@ -100,7 +103,7 @@ route-fine (Clearing x) laid = kind-fine x laid
 route-fine (Pushing node to) laid = refl
 route-fine (Linking node to) laid = refl
 
-hand-fine : (s : Stage) → InHand IsLaidOut IsLaidOutAsKind s → hand_sum F F s ≡ 0
+hand-fine : (s : Stage Content) → InHand IsLaidOut IsLaidOutAsKind s → hand_sum F F s ≡ 0
 hand-fine Begin laid = refl
 hand-fine (Routed route why gone) laid = route-fine route laid
 hand-fine (Collecting number) laid = refl

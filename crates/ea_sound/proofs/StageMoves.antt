@@ -1,6 +1,9 @@
 -- Moves between the begin and the stages of an operation.
 use Rattle.std.proofs.Common.{◌≡◌, ◌≢◌, ℕ, true, refl, subst, arith}
-use Rattle.ea_machine.specs.Actor.{Actor, Stage, Begin, Routed, Collecting, Searching, Fetching, Creating, Giving, Taking, Ended, Ready}
+use Rattle.ea_model.specs.Content.{Content}
+use Rattle.ea_machine.specs.declared.stages.Stage.{Stage}
+use Rattle.ea_machine.specs.declared.stages.Stage.TheVariants.{Begin, Routed, Collecting, Searching, Fetching, Creating, Giving, Taking, Ended, Ready}
+use Rattle.ea_machine.specs.Actor.{Actor}
 use Rattle.ea_sound.specs.Names.{of_content, only}
 use Rattle.ea_machine.specs.Setup.{Setup, is_scheduler}
 use Rattle.ea_machine.specs.Shared.{Shared}
@@ -13,7 +16,7 @@ use Rattle.ea_sound.proofs.StillMoves.{SameHand, block-goes, carrier-goes, fresh
 use Rattle.ea_sound.proofs.Working.{HasNoHand}
 
 -- nothing is in the hand
-none-in-hand : (me : ℕ) (st : Stage) → HasNoHand st → SameHand me Begin st
+none-in-hand : (me : ℕ) (st : Stage Content) → HasNoHand st → SameHand me Begin st
 none-in-hand me (Searching ask n looked) h = record {
   content = λ f g. refl;
   holds = λ B E q. q;
@@ -61,7 +64,7 @@ none-in-hand me (Routed r y g) h = absurd h
 none-in-hand me (Collecting c) h = absurd h
 none-in-hand me Ready h = absurd h
 
-not-ready : (st : Stage) → HasNoHand st → st ≢ Ready
+not-ready : (st : Stage Content) → HasNoHand st → st ≢ Ready
 not-ready st h q = subst HasNoHand q h
 
 module _ (e : Setup) (w : State) (s : Shared) (me : ℕ) (is : is_scheduler e me ≡ true) where
@@ -71,7 +74,7 @@ module _ (e : Setup) (w : State) (s : Shared) (me : ℕ) (is : is_scheduler e me
   abbrev V : Actor → Type 0
   V = InWalk e w s me
 
-  pub rest-goes : (st : Stage) (a : Actor) → HasNoHand st → G (at Begin a) → G (at st a)
+  pub rest-goes : (st : Stage Content) (a : Actor) → HasNoHand st → G (at Begin a) → G (at st a)
   rest-goes st a h = turn e w s me is G (keeps-operation e w s me is) Begin st a
       (none-in-hand me st h) (not-ready st h)
 
@@ -100,7 +103,7 @@ module _ (e : Setup) (w : State) (s : Shared) (me : ℕ) (is : is_scheduler e me
   }
 
   -- the begin is over, or the operation itself begins
-  walk-turn : (st t : Stage) (a : Actor) → SameHand me st t → V (at st a) → V (at t a)
+  walk-turn : (st t : Stage Content) (a : Actor) → SameHand me st t → V (at st a) → V (at t a)
   walk-turn st t a same v =
       let still = still-turned me st t a same in
       fresh-goes e w s me is (at st a) (at t a)

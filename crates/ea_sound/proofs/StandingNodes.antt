@@ -10,7 +10,8 @@ use Rattle.ea_machine.specs.declared.nodes.Node.{Node}
 use Rattle.ea_machine.specs.declared.nodes.Node.TheVariants.{Block, Carrier}
 use Rattle.ea_machine.specs.declared.tasks.Gone.{Gone}
 use Rattle.ea_machine.specs.declared.tasks.Why.{Why}
-use Rattle.ea_machine.specs.Actor.{Pushing, Routed}
+use Rattle.ea_machine.specs.declared.stages.Stage.TheVariants.{Routed}
+use Rattle.ea_machine.specs.declared.stages.Route.TheVariants.{Pushing}
 use Rattle.ea_sound.specs.Contents.{seats}
 use Rattle.ea_sound.specs.Names.{allocated, of_hand, of_mark, of_node, only}
 use Rattle.ea_sound.specs.NodePlaces.{anywhere, carrier_nodes, of_carrier_actor, of_carrier_hand, of_carrier_mark, of_carrier_node}

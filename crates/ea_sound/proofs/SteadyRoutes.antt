@@ -12,7 +12,9 @@ use Rattle.ea_machine.specs.declared.nodes.Node.{Node}
 use Rattle.ea_machine.specs.declared.owners.OwnerWord.{OwnerWord}
 use Rattle.ea_machine.specs.declared.owners.OwnerWord.TheVariants as word
 use Rattle.ea_model.specs.Abandonment.{is_due}
-use Rattle.ea_machine.specs.Actor.{Actor, Route, Looking, Trying, Settling, Abandoning, Sending, Clearing, Pushing, Linking}
+use Rattle.ea_machine.specs.declared.stages.Route.{Route}
+use Rattle.ea_machine.specs.declared.stages.Route.TheVariants.{Looking, Trying, Settling, Abandoning, Sending, Clearing, Pushing, Linking}
+use Rattle.ea_machine.specs.Actor.{Actor}
 use Rattle.ea_machine.specs.declared.tasks.Gone.{Gone}
 use Rattle.ea_machine.specs.declared.tasks.Gone.TheVariants.{Here}
 use Rattle.ea_machine.specs.declared.nodes.Named.{Named}
@@ -27,7 +29,7 @@ use Rattle.ea_sound.proofs.Orderly.{releasing-IsOrderly}
 use Rattle.ea_sound.proofs.Unmoved.{due-unmoved}
 
 module _ (e : Setup) (me : ℕ) where
-  abbrev pub IsSteadyNext : List Content → Option Route → Type 0
+  abbrev pub IsSteadyNext : List Content → Option (Route Content) → Type 0
   IsSteadyNext cs None = Unit {0}
   IsSteadyNext cs (Some r) = IsSteadyRoute e me cs r
 
@@ -153,7 +155,7 @@ module _ (e : Setup) (me : ℕ) where
   settled-goes false x g a = (refl, refl, tt)
 
   -- a route once its row is answered
-  pub turned-goes : (route : Route) (g : Gone) (a : Actor) (r : Answer) → OrderlyIf a
+  pub turned-goes : (route : Route Content) (g : Gone) (a : Actor) (r : Answer) → OrderlyIf a
       → TellsShown e r
       → Goes a.next a.passed (turned e me route g a r)
   turned-goes (Looking hand) g a r order shown = looked_at-goes hand g a r order shown

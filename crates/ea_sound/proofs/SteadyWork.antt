@@ -13,10 +13,14 @@ use Rattle.ea_model.specs.declared.reallocation.Decision.TheVariants.{Stay, Shri
 use Rattle.ea_model.specs.declared.units.TheConstants.{SEARCH_LIMIT}
 use Rattle.ea_model.specs.Instance.{chosen_spot, creating, creating_single, decision_at, is_alone, placing_at, plan}
 use Rattle.ea_model.specs.Units.{need_of}
+use Rattle.ea_model.specs.Content.{Content}
 use Rattle.ea_machine.specs.declared.nodes.Node.{Node}
 use Rattle.ea_machine.specs.declared.nodes.Node.TheVariants.{Block, Carrier}
 use Rattle.ea_machine.specs.declared.owners.OwnerWord.{OwnerWord}
-use Rattle.ea_machine.specs.Actor.{Actor, Route, Stage, Begin, Routed, Collecting, Searching, Fetching, Creating, Giving, Taking, Ended, Ready}
+use Rattle.ea_machine.specs.declared.stages.Stage.{Stage}
+use Rattle.ea_machine.specs.declared.stages.Stage.TheVariants.{Begin, Routed, Collecting, Searching, Fetching, Creating, Giving, Taking, Ended, Ready}
+use Rattle.ea_machine.specs.declared.stages.Route.{Route}
+use Rattle.ea_machine.specs.Actor.{Actor}
 use Rattle.ea_machine.specs.declared.tasks.Task.{Task}
 use Rattle.ea_machine.specs.declared.tasks.Task.TheVariants.{Freeing, Moving}
 use Rattle.ea_machine.specs.declared.tasks.Why.{Why}
@@ -45,7 +49,7 @@ module _ (e : Setup) (me : ℕ) where
       × IsSteadyStage e me a.instance.contents a.stage
 
   carried-leaves : (why : Why) (task : Task) (g : Gone) (next : Option Node) (passed : List Node)
-      (a : Actor) (r : Option Route) → a.next ≡ next → a.passed ≡ passed
+      (a : Actor) (r : Option (Route Content)) → a.next ≡ next → a.passed ≡ passed
       → IsSteadyNext e me a.instance.contents r
       → Leaves next passed (carried_by why (task_over task) g a r)
   carried-leaves why task g next passed a None n p s = (n, p, tt)
@@ -221,7 +225,7 @@ module _ (e : Setup) (me : ℕ) where
   }
 
   -- what is worked off, node by node
-  carried-steady : (nodes : List Node) (g : Gone) (a : Actor) (r : Option Route)
+  carried-steady : (nodes : List Node) (g : Gone) (a : Actor) (r : Option (Route Content))
       → IsSteadyNext e me a.instance.contents r
       → ((b : Actor) → IsSteady e me (worked_off e me nodes b))
       → IsSteady e me (carried_by Walk (λ gone b. worked_off e me nodes b) g a r)
@@ -264,7 +268,7 @@ module _ (e : Setup) (me : ℕ) where
   begun-steady a (Home x) end = record { walk = λ _. end; route = tt }
   begun-steady a (Got o) end = record { walk = λ _. end; route = tt }
 
-  walked-steady : (g : Gone) (a : Actor) (r : Option Route)
+  walked-steady : (g : Gone) (a : Actor) (r : Option (Route Content))
       → IsSteadyNext e me a.instance.contents r
       → IsSteady e me (carried_by Walk (after_route e me Walk) g a r)
   walked-steady g a None s = worked-steady a.passed a
@@ -275,7 +279,7 @@ module _ (e : Setup) (me : ℕ) where
 
   -- a row, and the local work up to the next one
   module _ (a : Actor) (r : Answer) (order : OrderlyIf e me a) (shown : TellsShown e r) where
-    row-steady : (stage : Stage) → a.stage ≡ stage → IsSteady e me a
+    row-steady : (stage : Stage Content) → a.stage ≡ stage → IsSteady e me a
         → IsSteady e me (after_row e me a r stage)
     row-steady Begin q s =
         begun-steady a r (s.walk (ap works_off q))
@@ -302,7 +306,7 @@ module _ (e : Setup) (me : ℕ) where
     row-steady Ended q s = s
     row-steady Ready q s = s
 
-  onward-steady : (a : Actor) (stage : Stage) → a.stage ≡ stage → IsSteady e me a
+  onward-steady : (a : Actor) (stage : Stage Content) → a.stage ≡ stage → IsSteady e me a
       → IsSteady e me (onward_at e me a stage)
   onward-steady a Begin q s = s
   onward-steady a (Routed route why gone) q s = s
@@ -316,7 +320,7 @@ module _ (e : Setup) (me : ℕ) where
   onward-steady a Ready q s =
       leaves-steady a (itself e me a a.todo) (s.walk (ap works_off q)) (itself-leaves a a.todo)
 
-  pub after-steady : (a : Actor) (r : Answer) (stage : Stage) → OrderlyIf e me a
+  pub after-steady : (a : Actor) (r : Answer) (stage : Stage Content) → OrderlyIf e me a
       → TellsShown e r → a.stage ≡ stage → IsSteady e me a → IsSteady e me (after e me a r stage)
   unfolding after
   after-steady a r stage order shown q s =

@@ -1,11 +1,13 @@
 -- Every scheduler stays steady through each step.
 use Rattle.std.proofs.Common.{◌≡◌, ◌≢◌, ℕ, Bool, true, false, List, [], ◌∷◌, refl, subst, sym}
 use Rattle.ea_laws.specs.Kept.{IsLaidOut}
+use Rattle.ea_model.specs.Content.{Content}
 use Rattle.ea_machine.specs.Nodes.{Mark}
 use Rattle.ea_sound.specs.Contents.{AtHome}
 use Rattle.ea_machine.specs.Owners.{CarrierAt, Absent, Busy, Employed, Pooled, Returning, same_word, word_of}
 use Rattle.ea_machine.specs.Rows.{Abandon, BusyTry, Clear, Create, FetchTry, Give, Link, Look, Nothing, Push, Row, SendHome, Settle, TakeAll, TakeLink, TakeTry}
-use Rattle.ea_machine.specs.Actor.{Ended, Stage}
+use Rattle.ea_machine.specs.declared.stages.Stage.{Stage}
+use Rattle.ea_machine.specs.declared.stages.Stage.TheVariants.{Ended}
 use Rattle.ea_machine.specs.Machine.{after, first_stage, start, step, stepped, wants_at}
 use Rattle.ea_machine.specs.Setup.{Setup, is_scheduler}
 use Rattle.ea_machine.specs.State.{State}
@@ -68,7 +70,7 @@ module _ (e : Setup) (w : State) (k : Kept e w) where
   answer-shown me Nothing = tt
 
 module _ (e : Setup) (w : State) (me : ℕ) (k : Kept e w) (steady : AreSteady e w) where
-  stepped-steady : is_scheduler e me ≡ true → (stage : Stage) → stage ≢ Ended
+  stepped-steady : is_scheduler e me ≡ true → (stage : Stage Content) → stage ≢ Ended
       → (w.actors me).stage ≡ stage
       → AreSteady e (stepped e w me (w.actors me) stage (wants_at (w.actors me).next stage))
   stepped-steady is stage works now =

@@ -1,6 +1,8 @@
 -- A step of anyone keeps what every moment keeps.
 use Rattle.std.proofs.Common.{◌≡◌, ◌≢◌, ℕ, Bool, true, false, refl, sym, subst}
-use Rattle.ea_machine.specs.Actor.{Begin, Collecting, Creating, Ended, Fetching, Giving, Ready, Routed, Searching, Stage, Taking}
+use Rattle.ea_model.specs.Content.{Content}
+use Rattle.ea_machine.specs.declared.stages.Stage.{Stage}
+use Rattle.ea_machine.specs.declared.stages.Stage.TheVariants.{Begin, Collecting, Creating, Ended, Fetching, Giving, Ready, Routed, Searching, Taking}
 use Rattle.ea_machine.specs.Machine.{step, step_at, stepped, wants_at}
 use Rattle.ea_machine.specs.Setup.{Setup, is_scheduler}
 use Rattle.ea_machine.specs.State.{State}
@@ -12,10 +14,10 @@ use Rattle.ea_sound.proofs.RowLeaves.{row-left}
 
 -- what the row and the local work after it keep, a step keeps: who is no scheduler has ended
 module _ (e : Setup) (w : State) (me : ℕ) (k : Kept e w) (P : State → Type 0) (same : P w)
-    (stepped-holds : is_scheduler e me ≡ true → (stage : Stage) → stage ≢ Ended
+    (stepped-holds : is_scheduler e me ≡ true → (stage : Stage Content) → stage ≢ Ended
     → (w.actors me).stage ≡ stage
     → P (stepped e w me (w.actors me) stage (wants_at (w.actors me).next stage))) where
-  step_at-holds : is_scheduler e me ≡ true → (stage : Stage) → (w.actors me).stage ≡ stage
+  step_at-holds : is_scheduler e me ≡ true → (stage : Stage Content) → (w.actors me).stage ≡ stage
       → P (step_at e w me stage)
   unfolding step_at
   step_at-holds is Ended now = same
@@ -46,7 +48,7 @@ module _ (e : Setup) (w : State) (me : ℕ) (k : Kept e w) (P : State → Type 0
 
 module _ (e : Setup) (w : State) (me : ℕ) (rule : Rule e w) where
   -- the row and the local work after it
-  pub stepped-kept : is_scheduler e me ≡ true → (stage : Stage) → stage ≢ Ended
+  pub stepped-kept : is_scheduler e me ≡ true → (stage : Stage Content) → stage ≢ Ended
       → (w.actors me).stage ≡ stage
       → Kept e (stepped e w me (w.actors me) stage (wants_at (w.actors me).next stage))
   stepped-kept is stage goes now =

@@ -5,8 +5,11 @@ use Rattle.ea_model.specs.declared.entries.Entry.TheVariants as entry
 use Rattle.ea_model.specs.declared.operations.Op.{Op}
 use Rattle.ea_model.specs.declared.operations.Op.TheVariants as op
 use Rattle.ea_model.specs.Trace.{makes}
+use Rattle.ea_model.specs.Content.{Content}
 use Rattle.ea_machine.specs.declared.owners.OwnerWord.{OwnerWord}
-use Rattle.ea_machine.specs.Actor.{Actor, Stage, Begin, Routed, Collecting, Searching, Fetching, Creating, Giving, Taking, Ended, Ready}
+use Rattle.ea_machine.specs.declared.stages.Stage.{Stage}
+use Rattle.ea_machine.specs.declared.stages.Stage.TheVariants.{Begin, Routed, Collecting, Searching, Fetching, Creating, Giving, Taking, Ended, Ready}
+use Rattle.ea_machine.specs.Actor.{Actor}
 use Rattle.ea_machine.specs.declared.tasks.Why.TheVariants.{Walk, For}
 use Rattle.ea_machine.specs.declared.asks.Ask.{Ask}
 use Rattle.ea_model.specs.Employment.{employing}
@@ -39,7 +42,7 @@ module _ (e : Setup) (w : State) (s : Shared) (me : ℕ)
   abbrev G : Actor → Type 0
   G = InOperation e w s me
 
-  abbrev LeavesAt : Actor → Stage → Answer → Type 0
+  abbrev LeavesAt : Actor → Stage Content → Answer → Type 0
   LeavesAt = Leaves e w s me
 
   begun-holds : (a : Actor) (r : Answer) → LeavesAt a Begin r → V (begun e me a r)
@@ -101,7 +104,7 @@ module _ (e : Setup) (w : State) (s : Shared) (me : ℕ)
   took-holds n tries left a (Lost x) l = absurd l
   took-holds n tries left a (Home x) l = absurd l
 
-  after_row-holds : (a : Actor) (r : Answer) (st : Stage) → LeavesAt a st r
+  after_row-holds : (a : Actor) (r : Answer) (st : Stage Content) → LeavesAt a st r
       → V (after_row e me a r st) ⊎ G (after_row e me a r st)
   after_row-holds a r Begin l = inl (begun-holds a r l)
   after_row-holds a r (Routed z Walk g) l =
@@ -146,7 +149,7 @@ module _ (e : Setup) (w : State) (s : Shared) (me : ℕ)
   begins : (a : Actor) → a.stage ≡ Ready → V a → V (at Begin a)
   begins a q h = walk.begin a (subst (λ st. V (at st a)) q h)
 
-  pub begun-walk : (a : Actor) (r : Answer) (st : Stage) → LeavesAt a st r
+  pub begun-walk : (a : Actor) (r : Answer) (st : Stage Content) → LeavesAt a st r
       → (after_row e me a r st).stage ≡ Ready → V (at Begin (after_row e me a r st))
   begun-walk a r st l ready =
       elim (after_row-holds a r st l) [
@@ -157,7 +160,7 @@ module _ (e : Setup) (w : State) (s : Shared) (me : ℕ)
   walked : (a : Actor) → V a → a.stage ≢ Ready → G a
   walked a h busy = record { kept = h.kept; busy = busy }
 
-  onward-holds : (a : Actor) (st : Stage) → a.stage ≡ st → V a → G (onward_at e me a st)
+  onward-holds : (a : Actor) (st : Stage Content) → a.stage ≡ st → V a → G (onward_at e me a st)
   onward-holds a Ready q h =
       let k = begins a q h in
       itself-holds e w s me c o a a.todo (first-fresh a a.todo k refl)
@@ -172,7 +175,7 @@ module _ (e : Setup) (w : State) (s : Shared) (me : ℕ)
   onward-holds a (Taking n tries l) q h = walked a h (λ r. let t = sym q ∙ r in cc)
   onward-holds a Ended q h = walked a h (λ r. let t = sym q ∙ r in cc)
 
-  already-holds : (a : Actor) (st : Stage) → a.stage ≡ st → G a → G (onward_at e me a st)
+  already-holds : (a : Actor) (st : Stage Content) → a.stage ≡ st → G a → G (onward_at e me a st)
   already-holds a Ready q g = absurd (g.busy q)
   already-holds a Begin q g = g
   already-holds a (Routed z y h) q g = g
@@ -185,7 +188,7 @@ module _ (e : Setup) (w : State) (s : Shared) (me : ℕ)
   already-holds a Ended q g = g
 
   -- all local work
-  pub after-holds : (a : Actor) (r : Answer) (st : Stage) → LeavesAt a st r → G (after e me a r st)
+  pub after-holds : (a : Actor) (r : Answer) (st : Stage Content) → LeavesAt a st r → G (after e me a r st)
   unfolding after
   after-holds a r st l =
       let b = after_row e me a r st in

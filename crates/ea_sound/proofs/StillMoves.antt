@@ -12,7 +12,11 @@ use Rattle.ea_laws.specs.Kept.{IsLaidOut}
 use Rattle.ea_machine.specs.declared.nodes.Node.{Node}
 use Rattle.ea_machine.specs.declared.nodes.Node.TheVariants.{Carrier}
 use Rattle.ea_machine.specs.declared.owners.OwnerWord.{OwnerWord}
-use Rattle.ea_machine.specs.Actor.{Actor, Route, Looking, Trying, Abandoning, Sending, Clearing, Pushing, Stage, Begin, Routed, Collecting, Ready}
+use Rattle.ea_machine.specs.declared.stages.Stage.{Stage}
+use Rattle.ea_machine.specs.declared.stages.Stage.TheVariants.{Begin, Routed, Collecting, Ready}
+use Rattle.ea_machine.specs.declared.stages.Route.{Route}
+use Rattle.ea_machine.specs.declared.stages.Route.TheVariants.{Looking, Trying, Abandoning, Sending, Clearing, Pushing}
+use Rattle.ea_machine.specs.Actor.{Actor}
 use Rattle.ea_machine.specs.declared.tasks.Why.{Why}
 use Rattle.ea_machine.specs.declared.tasks.Why.TheVariants.{Walk}
 use Rattle.ea_machine.specs.declared.tasks.Gone.{Gone}
@@ -90,14 +94,14 @@ still-alike e me a b is same h = record {
 }
 
 -- stages with the same in the hand
-pub record SameHand (me : ℕ) (st t : Stage) : Type 1 where
+pub record SameHand (me : ℕ) (st t : Stage Content) : Type 1 where
   pub content : (f g : Content → ℕ) → hand_sum f g t ≡ hand_sum f g st
   pub holds : (B E : Content → Type 0) → InHand B E st → InHand B E t
   pub name : (f : ℕ → Spot → ℕ) → of_hand f t ≡ of_hand f st
   pub link : (u : ℕ → Node → ℕ) → of_link u t ≡ of_link u st
   pub node : (g : ℕ → ℕ → ℕ) → of_carrier_hand g me t ≡ of_carrier_hand g me st
 
-pub still-turned : (me : ℕ) (st t : Stage) (a : Actor) → SameHand me st t
+pub still-turned : (me : ℕ) (st t : Stage Content) (a : Actor) → SameHand me st t
     → Still me (at st a) (at t a)
 still-turned me st t a same = record {
   instance = refl;
@@ -183,11 +187,11 @@ module _ (e : Setup) (w : State) (s : Shared) (me : ℕ) (is : is_scheduler e me
           busy = busy;
         }) h (kept-still a b same (keeps.kept a h))
 
-    pub turn : (st t : Stage) (a : Actor) → SameHand me st t → t ≢ Ready → P (at st a) → P (at t a)
+    pub turn : (st t : Stage Content) (a : Actor) → SameHand me st t → t ≢ Ready → P (at st a) → P (at t a)
     turn st t a same busy =
         goes-still (at st a) (at t a) (still-turned me st t a same) (λ n. omega arith) busy
 
-    pub why-goes : (r : Route) (y z : Why) (g h : Gone) (a : Actor) → P (at (Routed r y g) a)
+    pub why-goes : (r : Route Content) (y z : Why) (g h : Gone) (a : Actor) → P (at (Routed r y g) a)
         → P (at (Routed r z h) a)
     why-goes r y z g h a = turn (Routed r y g) (Routed r z h) a (record {
       content = λ f g. refl;

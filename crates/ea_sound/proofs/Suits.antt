@@ -9,10 +9,15 @@ use Rattle.ea_model.specs.declared.units.TheConstants.{SEARCH_LIMIT}
 use Rattle.ea_model.specs.Instance.{Instance, chosen_spot, plan}
 use Rattle.ea_model.specs.Keyed.{IsBelow}
 use Rattle.ea_laws.specs.Kept.{Stands}
+use Rattle.ea_model.specs.Content.{Content}
 use Rattle.ea_machine.specs.declared.nodes.Node.{Node}
 use Rattle.ea_machine.specs.declared.nodes.Node.TheVariants.{Block, Carrier}
 use Rattle.ea_machine.specs.declared.owners.OwnerWord.TheVariants as word
-use Rattle.ea_machine.specs.Actor.{Actor, Route, Looking, Trying, Settling, Abandoning, Sending, Clearing, Pushing, Linking, Stage, Begin, Routed, Collecting, Searching, Fetching, Creating, Giving, Taking, Ended, Ready}
+use Rattle.ea_machine.specs.declared.stages.Stage.{Stage}
+use Rattle.ea_machine.specs.declared.stages.Stage.TheVariants.{Begin, Routed, Collecting, Searching, Fetching, Creating, Giving, Taking, Ended, Ready}
+use Rattle.ea_machine.specs.declared.stages.Route.{Route}
+use Rattle.ea_machine.specs.declared.stages.Route.TheVariants.{Looking, Trying, Settling, Abandoning, Sending, Clearing, Pushing, Linking}
+use Rattle.ea_machine.specs.Actor.{Actor}
 use Rattle.ea_machine.specs.declared.tasks.Why.{Why}
 use Rattle.ea_machine.specs.declared.asks.Ask.{Ask}
 use Rattle.ea_sound.specs.Contents.{hand_sum, route_sum}
@@ -33,7 +38,7 @@ use Rattle.ea_sound.proofs.Staying.{AllStay}
 
 module _ (e : Setup) (s : Shared) (me : ℕ) where
   -- where a route may rest
-  abbrev pub SuitsRoute : Route → Type 0
+  abbrev pub SuitsRoute : Route Content → Type 0
   SuitsRoute (Looking hand) = migration e ≡ true
   SuitsRoute (Trying hand seen) = FitsRoute e s me (Trying hand seen)
   SuitsRoute (Settling x) = FitsRoute e s me (Settling x)
@@ -50,7 +55,7 @@ module _ (e : Setup) (s : Shared) (me : ℕ) where
   Wants a ask = OfAsk ask a.todo × OldHeld ask.old a.held
 
   -- where a scheduler may be; R is what is known of one that is ready
-  abbrev pub Suits : (Actor → Type 0) → Actor → Stage → Type 0
+  abbrev pub Suits : (Actor → Type 0) → Actor → Stage Content → Type 0
   Suits R a Begin = Unit {0}
   Suits R a (Routed route why gone) = SuitsRoute route × OfWhy why a.todo
   Suits R a (Collecting number) = Unit {0}
@@ -102,7 +107,7 @@ module _ (e : Setup) (s : Shared) (me : ℕ) where
       pub suits : Suits R a a.stage
 
     -- what a route leaves, where it goes on or is over
-    abbrev pub RouteGood : Why → Actor → Option Route → Type 0
+    abbrev pub RouteGood : Why → Actor → Option (Route Content) → Type 0
     RouteGood y a None = Bare (unplaced_by y a.todo) a × OfWhy y a.todo
     RouteGood y a (Some r) = CoreOf (unplaced_by y a.todo)
         (λ n. route_sum (blocks_named n) (blocks_named n) r) a

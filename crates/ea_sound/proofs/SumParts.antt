@@ -3,7 +3,10 @@ use Rattle.std.proofs.Common.{◌≡◌, ℕ, zero, suc, ◌+◌, List, [], ◌�
 use Rattle.std.specs.Prelude.{All}
 use Rattle.std.proofs.lemmas.List.Elements.{All-head, All-tail}
 use Rattle.ea_model.specs.Content.{Content}
-use Rattle.ea_machine.specs.Actor.{Route, Looking, Trying, Settling, Abandoning, Sending, Clearing, Pushing, Linking, Stage, Begin, Routed, Collecting, Searching, Fetching, Creating, Giving, Taking, Ended, Ready}
+use Rattle.ea_machine.specs.declared.stages.Stage.{Stage}
+use Rattle.ea_machine.specs.declared.stages.Stage.TheVariants.{Begin, Routed, Collecting, Searching, Fetching, Creating, Giving, Taking, Ended, Ready}
+use Rattle.ea_machine.specs.declared.stages.Route.{Route}
+use Rattle.ea_machine.specs.declared.stages.Route.TheVariants.{Looking, Trying, Settling, Abandoning, Sending, Clearing, Pushing, Linking}
 use Rattle.ea_sound.specs.Contents.{AtHome, Everywhere, InHand, OnRoute, actor_sum, hand_sum, home_sum, route_sum, seats, slots, sum_everywhere}
 use Rattle.ea_machine.specs.Owners.{CarrierAt, Absent, Employed, Pooled, Busy, Returning}
 use Rattle.ea_machine.specs.Setup.{Setup}
@@ -31,7 +34,7 @@ module _ (f g h t : Content → ℕ) where
     list-parts xs (All-tail AreParts x xs parts),
   )
 
-  route-parts : (r : Route) → OnRoute AreParts AreParts r
+  route-parts : (r : Route Content) → OnRoute AreParts AreParts r
       → route_sum f f r + route_sum g g r + route_sum h h r ≡ route_sum t t r
   route-parts (Looking hand) parts = refl
   route-parts (Trying hand seen) parts = refl
@@ -42,7 +45,7 @@ module _ (f g h t : Content → ℕ) where
   route-parts (Pushing node to) parts = refl
   route-parts (Linking node to) parts = refl
 
-  hand-parts : (s : Stage) → InHand AreParts AreParts s
+  hand-parts : (s : Stage Content) → InHand AreParts AreParts s
       → hand_sum f f s + hand_sum g g s + hand_sum h h s ≡ hand_sum t t s
   hand-parts Begin parts = refl
   hand-parts (Routed r why gone) parts = route-parts r parts

@@ -15,10 +15,14 @@ use Rattle.ea_model.specs.declared.reallocation.Decision.TheVariants.{Stay, Shri
 use Rattle.ea_model.specs.declared.units.TheConstants.{SEARCH_LIMIT}
 use Rattle.ea_model.specs.Instance.{chosen_spot, creating, creating_single, decision_at, is_alone, place_at, placing_at, plan, single_place}
 use Rattle.ea_model.specs.Units.{need_of}
+use Rattle.ea_model.specs.Content.{Content}
 use Rattle.ea_machine.specs.declared.nodes.Node.{Node}
 use Rattle.ea_machine.specs.declared.nodes.Node.TheVariants.{Block, Carrier}
 use Rattle.ea_machine.specs.declared.owners.OwnerWord.{OwnerWord}
-use Rattle.ea_machine.specs.Actor.{Actor, Route, Stage, Begin, Routed, Collecting, Searching, Fetching, Creating, Giving, Taking, Ended, Ready}
+use Rattle.ea_machine.specs.declared.stages.Stage.{Stage}
+use Rattle.ea_machine.specs.declared.stages.Stage.TheVariants.{Begin, Routed, Collecting, Searching, Fetching, Creating, Giving, Taking, Ended, Ready}
+use Rattle.ea_machine.specs.declared.stages.Route.{Route}
+use Rattle.ea_machine.specs.Actor.{Actor}
 use Rattle.ea_machine.specs.declared.tasks.Task.{Task}
 use Rattle.ea_machine.specs.declared.tasks.Task.TheVariants.{Freeing, Moving}
 use Rattle.ea_machine.specs.declared.tasks.Why.TheVariants.{Walk, For}
@@ -53,7 +57,7 @@ module _ (e : Setup) (me : ℕ) where
   logged-few : (x : Entry) (a : Actor) → takings (logged x a) ≤ later_takings a.todo
   logged-few x a = omega (arith, begin-most a.next)
 
-  carried-few : (task : Task) (r : Option Route) (g : Gone) (b : Actor)
+  carried-few : (task : Task) (r : Option (Route Content)) (g : Gone) (b : Actor)
       → takings (carried (For task) (task_over task) (record { actor = b; route = r; gone = g }))
       ≤ later_takings b.todo
   carried-few task None g b = logged-few (entry_of task g) b
@@ -175,7 +179,7 @@ module _ (e : Setup) (me : ℕ) where
   itself-few a (op.Idle ∷ ops) q =
       omega (arith, logged-few entry.Idle a, ap later_takings q)
 
-  onward-by : (b : Actor) (st : Stage) → b.stage ≡ st
+  onward-by : (b : Actor) (st : Stage Content) → b.stage ≡ st
       → takings (onward_at e me b st) ≤ takings b
   onward-by b Ready q =
       omega (arith, itself-few b b.todo refl, ap (stage_takings b.next b.todo) q)
@@ -194,7 +198,7 @@ module _ (e : Setup) (me : ℕ) where
 
   -- a walk takes it no more until the operation is over
 
-  carried-walk : (over : Gone → Actor → Actor) (r : Option Route) (g : Gone) (b : Actor)
+  carried-walk : (over : Gone → Actor → Actor) (r : Option (Route Content)) (g : Gone) (b : Actor)
       → takings (over g b) ≤ length b.todo
       → takings (carried Walk over (record { actor = b; route = r; gone = g })) ≤ length b.todo
   carried-walk over None g b h = h
@@ -213,7 +217,7 @@ module _ (e : Setup) (me : ℕ) where
         ap (λ ops. length ops) s.2,
       )
 
-  walk-route : (r : Route) (g : Gone) (a : Actor) (z : Answer)
+  walk-route : (r : Route Content) (g : Gone) (a : Actor) (z : Answer)
       → takings (after_row e me a z (Routed r Walk g)) ≤ length a.todo
   walk-route r g a z =
       let t = turned e me r g a z in
@@ -224,7 +228,7 @@ module _ (e : Setup) (me : ℕ) where
         ap (λ ops. length ops) (turned-short e me r g a z).1.2,
       )
 
-  task-route : (r : Route) (task : Task) (g : Gone) (a : Actor) (z : Answer)
+  task-route : (r : Route Content) (task : Task) (g : Gone) (a : Actor) (z : Answer)
       → takings (after_row e me a z (Routed r (For task) g)) ≤ later_takings a.todo
   task-route r task g a z =
       let t = turned e me r g a z in
@@ -306,7 +310,7 @@ module _ (e : Setup) (me : ℕ) where
   begun-few a (Got x) = omega arith
 
   -- each row
-  row-few : (a : Actor) (r : Answer) (st : Stage) → a.stage ≡ st
+  row-few : (a : Actor) (r : Answer) (st : Stage Content) → a.stage ≡ st
       → takings (after_row e me a r st) ≤ takings a
   row-few a r Begin q = omega (arith, begun-few a r, ap (stage_takings a.next a.todo) q)
   row-few a r (Routed route Walk g) q =

@@ -1,7 +1,10 @@
 -- Lists of turns, and what a step leaves alone.
 use Rattle.std.proofs.Common.{◌≡◌, ◌≢◌, ◌⊎◌, ℕ, List, [], ◌∷◌, ◌++◌, refl, sym, ap, ◌∙◌, subst, inl, inr}
 use Rattle.std.proofs.lemmas.List.{append_assoc, append-nil}
-use Rattle.ea_machine.specs.Actor.{Actor, Stage, Begin, Routed, Collecting, Searching, Fetching, Creating, Giving, Taking, Ended, Ready}
+use Rattle.ea_model.specs.Content.{Content}
+use Rattle.ea_machine.specs.declared.stages.Stage.{Stage}
+use Rattle.ea_machine.specs.declared.stages.Stage.TheVariants.{Begin, Routed, Collecting, Searching, Fetching, Creating, Giving, Taking, Ended, Ready}
+use Rattle.ea_machine.specs.Actor.{Actor}
 use Rattle.ea_machine.specs.Machine.{after, after_row, onward, run, run_on, start, step, step_at, wants_at}
 use Rattle.ea_machine.specs.Releases.{looked}
 use Rattle.ea_machine.specs.Setup.{Setup}
@@ -42,7 +45,7 @@ pub run-since : (e : Setup) (L before since : List ℕ) (s : ℕ) → L ≡ befo
 run-since e L before since s q = sym (run-append e (start e) (before ++ s ∷ []) since)
     ∙ ap (run e) (append_assoc before (s ∷ []) since ∙ sym q)
 
-pub ended-or : (st : Stage) → (st ≡ Ended) ⊎ (st ≢ Ended)
+pub ended-or : (st : Stage Content) → (st ≡ Ended) ⊎ (st ≢ Ended)
 ended-or Ended = inl refl
 ended-or Begin = inr (λ q. absurd (cc))
 ended-or (Routed r y g) = inr (λ q. absurd (cc))
@@ -56,7 +59,7 @@ ended-or Ready = inr (λ q. absurd (cc))
 
 module _ (e : Setup) (w : State) (s : ℕ) where
   -- another scheduler stays as it is
-  other-at : (j : ℕ) (st : Stage) → j ≢ s → (step_at e w s st).actors j ≡ w.actors j
+  other-at : (j : ℕ) (st : Stage Content) → j ≢ s → (step_at e w s st).actors j ≡ w.actors j
   unfolding step_at
   other-at j Ended ne = refl
   other-at j Begin ne = put-other w.actors s _ j ne
@@ -78,9 +81,9 @@ module _ (e : Setup) (w : State) (s : ℕ) where
   ended-at = refl
 
   pub step-ended : (w.actors s).stage ≡ Ended → step e w s ≡ w
-  step-ended q = subst (λ (st : Stage). step_at e w s st ≡ w) (sym q) ended-at
+  step-ended q = subst (λ (st : Stage Content). step_at e w s st ≡ w) (sym q) ended-at
 
-  mine-at : (st : Stage) → st ≢ Ended → (step_at e w s st).actors s
+  mine-at : (st : Stage Content) → st ≢ Ended → (step_at e w s st).actors s
       ≡ observed (onward e s (after_row e s (w.actors s)
       (answer s (wants_at (w.actors s).next st) w.shared) st))
   unfolding step_at after
@@ -99,7 +102,7 @@ module _ (e : Setup) (w : State) (s : ℕ) where
       → (step e w s).actors s ≡ observed (onward e s (advanced e w s))
   step-mine ne = mine-at (w.actors s).stage ne
 
-  shared-at : (st : Stage) → st ≢ Ended
+  shared-at : (st : Stage Content) → st ≢ Ended
       → (step_at e w s st).shared ≡ effect s (wants_at (w.actors s).next st) w.shared
   unfolding step_at
   shared-at Ended ne = absurd (ne refl)
@@ -114,7 +117,7 @@ module _ (e : Setup) (w : State) (s : ℕ) where
   shared-at Ready ne = refl
 
   -- the state then, with the scheduler as it is
-  is-at : (st : Stage) → st ≢ Ended → (a : Actor) × (step_at e w s st
+  is-at : (st : Stage Content) → st ≢ Ended → (a : Actor) × (step_at e w s st
       ≡ with_actor w (effect s (wants_at (w.actors s).next st) w.shared) s a)
   unfolding step_at
   is-at Ended ne = absurd (ne refl)

@@ -1,15 +1,20 @@
 -- Where a scheduler is that wants a row.
 use Rattle.std.proofs.Common.{◌≡◌, ℕ, Option, None, Some, refl, subst}
+use Rattle.ea_model.specs.Content.{Content}
 use Rattle.ea_machine.specs.declared.nodes.Named.{Named}
 use Rattle.ea_machine.specs.declared.nodes.Node.{Node}
 use Rattle.ea_machine.specs.declared.tasks.Gone.{Gone}
 use Rattle.ea_machine.specs.declared.tasks.Why.{Why}
-use Rattle.ea_machine.specs.Actor.{Actor, Route, Looking, Trying, Settling, Abandoning, Sending, Clearing, Pushing, Linking, Stage, Begin, Routed, Collecting, Searching, Fetching, Creating, Giving, Taking, Ended, Ready}
+use Rattle.ea_machine.specs.declared.stages.Stage.{Stage}
+use Rattle.ea_machine.specs.declared.stages.Stage.TheVariants.{Begin, Routed, Collecting, Searching, Fetching, Creating, Giving, Taking, Ended, Ready}
+use Rattle.ea_machine.specs.declared.stages.Route.{Route}
+use Rattle.ea_machine.specs.declared.stages.Route.TheVariants.{Looking, Trying, Settling, Abandoning, Sending, Clearing, Pushing, Linking}
+use Rattle.ea_machine.specs.Actor.{Actor}
 use Rattle.ea_machine.specs.Machine.{begins, wants, wants_at, wants_on}
 use Rattle.ea_machine.specs.Rows.{Row, Push, Link, Give}
 
 -- what a row is told apart by
-abbrev Told : Row → Stage → Type 0
+abbrev Told : Row → Stage Content → Type 0
 Told (Push node to) stage =
     (why : Why) × (gone : Gone) × (stage ≡ Routed (Pushing node to) why gone)
 Told (Link node to) stage =
@@ -21,7 +26,7 @@ told-begins : (next : Option Node) → Told (begins next) Begin
 told-begins None = tt
 told-begins (Some node) = tt
 
-told-on : (route : Route) (why : Why) (gone : Gone) → Told (wants_on route) (Routed route why gone)
+told-on : (route : Route Content) (why : Why) (gone : Gone) → Told (wants_on route) (Routed route why gone)
 told-on (Looking hand) why gone = tt
 told-on (Trying hand seen) why gone = tt
 told-on (Settling x) why gone = tt
@@ -31,7 +36,7 @@ told-on (Clearing x) why gone = tt
 told-on (Pushing node to) why gone = (why, gone, refl)
 told-on (Linking node to) why gone = (why, gone, refl)
 
-told-at : (next : Option Node) (stage : Stage) → Told (wants_at next stage) stage
+told-at : (next : Option Node) (stage : Stage Content) → Told (wants_at next stage) stage
 told-at next Begin = told-begins next
 told-at next (Routed route why gone) = told-on route why gone
 told-at next (Collecting number) = tt

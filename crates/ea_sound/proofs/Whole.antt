@@ -1,7 +1,12 @@
 -- What a scheduler knows by itself of where it is, and what the state keeps, give where it may be.
 use Rattle.std.proofs.Common.{◌≡◌, ◌≢◌, ℕ, ◌+◌, ◌≤◌, true, refl, sym, ap, ◌∙◌, subst, inl, inr, arith}
+use Rattle.ea_model.specs.Content.{Content}
 use Rattle.ea_machine.specs.declared.nodes.Node.TheVariants.{Block, Carrier}
-use Rattle.ea_machine.specs.Actor.{Actor, Route, Looking, Trying, Settling, Abandoning, Sending, Clearing, Pushing, Linking, Stage, Begin, Routed, Collecting, Searching, Fetching, Creating, Giving, Taking, Ended, Ready}
+use Rattle.ea_machine.specs.declared.stages.Stage.{Stage}
+use Rattle.ea_machine.specs.declared.stages.Stage.TheVariants.{Begin, Routed, Collecting, Searching, Fetching, Creating, Giving, Taking, Ended, Ready}
+use Rattle.ea_machine.specs.declared.stages.Route.{Route}
+use Rattle.ea_machine.specs.declared.stages.Route.TheVariants.{Looking, Trying, Settling, Abandoning, Sending, Clearing, Pushing, Linking}
+use Rattle.ea_machine.specs.Actor.{Actor}
 use Rattle.ea_machine.specs.declared.tasks.Why.{Why}
 use Rattle.ea_machine.specs.declared.tasks.Gone.{Gone}
 use Rattle.ea_machine.specs.declared.asks.Ask.{Ask}
@@ -26,13 +31,13 @@ abbrev pub MakesLater : Setup → State → Type 0
 MakesLater e w = (n : ℕ) → allocated e (only n) w + to_make e n w ≤ 1
 
 module _ (e : Setup) (v : State) (k : Kept e v) (later : MakesLater e v) (i : ℕ) where
-  scheduler : (stage : Stage) → (v.actors i).stage ≡ stage → stage ≢ Ended
+  scheduler : (stage : Stage Content) → (v.actors i).stage ≡ stage → stage ≢ Ended
       → is_scheduler e i ≡ true
   scheduler stage now works =
       working-scheduler e v k i (λ ended. works (sym now ∙ ended))
 
   -- a name that is asked for is fresh
-  fresh : (ask : Ask) (stage : Stage) → (v.actors i).stage ≡ stage → stage ≢ Ended
+  fresh : (ask : Ask) (stage : Stage Content) → (v.actors i).stage ≡ stage → stage ≢ Ended
       → unplaced stage (v.actors i).todo ≡ (v.actors i).todo → OfAsk ask (v.actors i).todo
       → allocated e (only ask.name) v ≡ 0
   fresh ask stage now works left of = omega (
@@ -46,7 +51,7 @@ module _ (e : Setup) (v : State) (k : Kept e v) (later : MakesLater e v) (i : �
     one-itself ask.name,
   )
 
-  on-route : (route : Route) (why : Why) (gone : Gone)
+  on-route : (route : Route Content) (why : Why) (gone : Gone)
       → (v.actors i).stage ≡ Routed route why gone → SuitsRoute e v.shared i route
       → FitsRoute e v.shared i route
   on-route (Looking hand) why gone now on = (
@@ -73,7 +78,7 @@ module _ (e : Setup) (v : State) (k : Kept e v) (later : MakesLater e v) (i : �
   on-route (Linking node to) why gone now suits = suits
 
   -- of the scheduler that did the row
-  pub whole : (R : Actor → Type 0) → ((a : Actor) → R a → ⊥) → (stage : Stage)
+  pub whole : (R : Actor → Type 0) → ((a : Actor) → R a → ⊥) → (stage : Stage Content)
       → (v.actors i).stage ≡ stage → Suits e v.shared i R (v.actors i) stage
       → Fits e v i (v.actors i) stage
   whole R never Begin now s = tt
@@ -126,7 +131,7 @@ module _ (e : Setup) (v : State) (k : Kept e v) (later : MakesLater e v) (i : �
   module _ (w : State) (me : ℕ) (other : i ≢ me) (was : Kept e w)
       (same : v.actors i ≡ w.actors i)
       (moves : (d : ℕ) → MovesBy me (v.shared.places d) (w.shared.places d)) where
-    asked-stays : (ask : Ask) (stage : Stage) → (v.actors i).stage ≡ stage → stage ≢ Ended
+    asked-stays : (ask : Ask) (stage : Stage Content) → (v.actors i).stage ≡ stage → stage ≢ Ended
         → unplaced stage (v.actors i).todo ≡ (v.actors i).todo → Asked e w (v.actors i) ask
         → Asked e v (v.actors i) ask
     asked-stays ask stage now works left asked = record {
@@ -135,7 +140,7 @@ module _ (e : Setup) (v : State) (k : Kept e v) (later : MakesLater e v) (i : �
       fresh = fresh ask stage now works left asked.of;
     }
 
-    fits-by : (stage : Stage) → (v.actors i).stage ≡ stage → Fits e w i (v.actors i) stage
+    fits-by : (stage : Stage Content) → (v.actors i).stage ≡ stage → Fits e w i (v.actors i) stage
         → Fits e v i (v.actors i) stage
     fits-by Begin now f = f
     fits-by (Routed r y g) now f = (

@@ -17,8 +17,11 @@ use Rattle.ea_model.proofs.Options.{some_value}
 use Rattle.ea_model.proofs.Rising.{item_at-key}
 use Rattle.ea_laws.proofs.Keeping.{chosen-planned}
 use Rattle.ea_model.proofs.Needs.{need-even, need-least}
+use Rattle.ea_model.specs.Content.{Content}
 use Rattle.ea_machine.specs.declared.owners.OwnerWord.{OwnerWord}
-use Rattle.ea_machine.specs.Actor.{Actor, Stage, Begin, Searching, Fetching, Creating, Giving, Taking, Ended}
+use Rattle.ea_machine.specs.declared.stages.Stage.{Stage}
+use Rattle.ea_machine.specs.declared.stages.Stage.TheVariants.{Begin, Searching, Fetching, Creating, Giving, Taking, Ended}
+use Rattle.ea_machine.specs.Actor.{Actor}
 use Rattle.ea_machine.specs.declared.tasks.Task.TheVariants.{Freeing, Moving}
 use Rattle.ea_machine.specs.declared.asks.Ask.{Ask}
 use Rattle.ea_machine.specs.Nodes.{named_at, name_of}
@@ -36,7 +39,7 @@ use Rattle.ea_sound.specs.Present.{OldHeld}
 use Rattle.ea_sound.proofs.Assembly.{Closed, hands-holds}
 
 -- a stage of an operation with nothing in the hand
-abbrev pub HasNoHand : Stage → Type 0
+abbrev pub HasNoHand : Stage Content → Type 0
 HasNoHand (Searching ask n looked) = Unit {0}
 HasNoHand (Fetching ask n looked seen) = Unit {0}
 HasNoHand (Creating ask p) = Unit {0}
@@ -47,7 +50,7 @@ HasNoHand _ = ⊥
 
 -- the moves of an operation
 pub record ClosedOperation (e : Setup) (w : State) (s : Shared) (me : ℕ) : Type 0 where
-  pub rest : (st : Stage) (a : Actor) → HasNoHand st → InOperation e w s me (at Begin a)
+  pub rest : (st : Stage Content) (a : Actor) → HasNoHand st → InOperation e w s me (at Begin a)
       → InOperation e w s me (at st a)
   pub inform : (a : Actor) → InOperation e w s me (at Begin a) → InOperation e w s me (informed a)
   pub observe : (a : Actor) → InOperation e w s me a → InOperation e w s me (observed a)

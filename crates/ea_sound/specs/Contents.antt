@@ -5,7 +5,11 @@ use Rattle.ea_model.specs.Content.{Content}
 use Rattle.ea_model.specs.Instance.{employed}
 use Rattle.ea_machine.specs.Owners.{CarrierAt, Absent, Employed, Pooled, Busy, Returning}
 use Rattle.ea_machine.specs.Setup.{Setup, greatest_number}
-use Rattle.ea_machine.specs.Actor.{Actor, Route, Looking, Trying, Settling, Abandoning, Sending, Clearing, Pushing, Linking, Stage, Routed, on_route}
+use Rattle.ea_machine.specs.declared.stages.Stage.{Stage}
+use Rattle.ea_machine.specs.declared.stages.Stage.TheVariants.{Routed}
+use Rattle.ea_machine.specs.declared.stages.Route.{Route}
+use Rattle.ea_machine.specs.declared.stages.Route.TheVariants.{Looking, Trying, Settling, Abandoning, Sending, Clearing, Pushing, Linking}
+use Rattle.ea_machine.specs.Actor.{Actor, on_route}
 use Rattle.ea_machine.specs.State.{State}
 use Rattle.ea_machine.specs.Sums.{sum_over, total}
 
@@ -22,7 +26,7 @@ all_employed actors = flat_map (λ a. employed a.instance) actors
 
 -- the content that a route holds, if it holds one, has the property: a busy one, or one that is still
 -- employed
-abbrev pub OnRoute : (busy employed : Content → Type 0) → Route → Type 0
+abbrev pub OnRoute : (busy employed : Content → Type 0) → Route Content → Type 0
 OnRoute B E (Looking hand) = Unit {0}
 OnRoute B E (Trying hand seen) = Unit {0}
 OnRoute B E (Settling x) = B x
@@ -33,7 +37,7 @@ OnRoute B E (Pushing node to) = Unit {0}
 OnRoute B E (Linking node to) = Unit {0}
 
 -- the content in the hand, if there is one
-abbrev pub InHand : (busy employed : Content → Type 0) → Stage → Type 0
+abbrev pub InHand : (busy employed : Content → Type 0) → Stage Content → Type 0
 InHand B E (Routed route why gone) = OnRoute B E route
 InHand B E _ = Unit {0}
 
@@ -53,7 +57,7 @@ pub record Everywhere (P : Content → Type 0) (state : State) : Type 0 where
   pub home : (number : ℕ) → AtHome P (state.shared.places number)
 
 -- what is given for the content that a route holds, a busy one or one that is still employed, or 0
-abbrev pub route_sum : (busy employed : Content → ℕ) → Route → ℕ
+abbrev pub route_sum : (busy employed : Content → ℕ) → Route Content → ℕ
 route_sum busy employed (Looking hand) = 0
 route_sum busy employed (Trying hand seen) = 0
 route_sum busy employed (Settling x) = busy x
@@ -64,7 +68,7 @@ route_sum busy employed (Pushing node to) = 0
 route_sum busy employed (Linking node to) = 0
 
 -- for the content in the hand
-abbrev pub hand_sum : (busy employed : Content → ℕ) → Stage → ℕ
+abbrev pub hand_sum : (busy employed : Content → ℕ) → Stage Content → ℕ
 hand_sum busy employed stage = on_route 0 (route_sum busy employed) stage
 
 -- for the contents at a scheduler: those that its instance employs, and one in its hand

@@ -5,7 +5,7 @@ use Rattle.ea_model.specs.Content.{Content, gaps_of}
 use Rattle.ea_model.specs.Instance.{Instance, chosen_spot}
 use Rattle.ea_machine.specs.declared.owners.OwnerWord.{OwnerWord}
 use Rattle.ea_machine.specs.Setup.{Setup}
-use Rattle.ea_machine.specs.Actor.{Fetching}
+use Rattle.ea_machine.specs.declared.stages.Stage.TheVariants.{Fetching}
 use Rattle.ea_machine.specs.declared.asks.Ask.{Ask}
 use Rattle.ea_machine.specs.State.{State}
 use Rattle.ea_machine.specs.Rows.{Won}

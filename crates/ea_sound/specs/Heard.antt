@@ -7,7 +7,8 @@ use Rattle.ea_machine.specs.declared.owners.OwnerWord.TheVariants as word
 use Rattle.ea_machine.specs.declared.nodes.Named.{Named}
 use Rattle.ea_machine.specs.Owners.{Returning}
 use Rattle.ea_machine.specs.Setup.{Setup}
-use Rattle.ea_machine.specs.Actor.{Collecting, Ended, Looking, Ready, Routed, Trying}
+use Rattle.ea_machine.specs.declared.stages.Stage.TheVariants.{Collecting, Ended, Ready, Routed}
+use Rattle.ea_machine.specs.declared.stages.Route.TheVariants.{Looking, Trying}
 use Rattle.ea_machine.specs.declared.tasks.Why.{Why}
 use Rattle.ea_machine.specs.declared.tasks.Gone.{Gone}
 use Rattle.ea_machine.specs.State.{State}

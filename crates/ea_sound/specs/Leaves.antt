@@ -7,7 +7,11 @@ use Rattle.ea_model.specs.Instance.{chosen_spot, creating, creating_single, plac
 use Rattle.ea_machine.specs.declared.nodes.Node.TheVariants.{Carrier}
 use Rattle.ea_machine.specs.declared.owners.OwnerWord.{OwnerWord}
 use Rattle.ea_machine.specs.declared.owners.OwnerWord.TheVariants as word
-use Rattle.ea_machine.specs.Actor.{Actor, Route, Looking, Trying, Settling, Abandoning, Sending, Clearing, Pushing, Linking, Stage, Begin, Routed, Collecting, Searching, Fetching, Creating, Giving, Taking, Ended, Ready}
+use Rattle.ea_machine.specs.declared.stages.Stage.{Stage}
+use Rattle.ea_machine.specs.declared.stages.Stage.TheVariants.{Begin, Routed, Collecting, Searching, Fetching, Creating, Giving, Taking, Ended, Ready}
+use Rattle.ea_machine.specs.declared.stages.Route.{Route}
+use Rattle.ea_machine.specs.declared.stages.Route.TheVariants.{Looking, Trying, Settling, Abandoning, Sending, Clearing, Pushing, Linking}
+use Rattle.ea_machine.specs.Actor.{Actor}
 use Rattle.ea_machine.specs.declared.tasks.Why.{Why}
 use Rattle.ea_machine.specs.declared.tasks.Why.TheVariants.{Walk, For}
 use Rattle.ea_machine.specs.declared.tasks.Gone.{Gone}
@@ -76,7 +80,7 @@ module _ (e : Setup) (w : State) (s : Shared) (me : ℕ) where
     LeavesSettled x false = P (at Begin a)
 
     -- what a row of a route leaves
-    abbrev pub LeavesRoute : Route → Answer → Type 0
+    abbrev pub LeavesRoute : Route Content → Answer → Type 0
     LeavesRoute (Looking hand) (Saw v) =
         Shows hand.spot.carrier v × P (at (Routed (Looking hand) why gone) a)
     LeavesRoute (Trying hand seen) (Won x) =
@@ -94,7 +98,7 @@ module _ (e : Setup) (w : State) (s : Shared) (me : ℕ) where
     LeavesRoute (Trying hand seen) r = ⊥
 
   -- what a row leaves that a scheduler wanted at a stage
-  abbrev pub Leaves : Actor → Stage → Answer → Type 0
+  abbrev pub Leaves : Actor → Stage Content → Answer → Type 0
   Leaves a Begin (Head newest) = InWalk (at Begin a)
   Leaves a Begin Rests = InWalk (at Begin a)
   Leaves a Begin (Passes older) =

@@ -6,7 +6,7 @@ use Rattle.ea_model.specs.declared.trace.Trace.{Trace}
 use Rattle.ea_model.specs.Settings.{IsValidConfig}
 use Rattle.ea_model.specs.Trace.{IsValidTrace}
 use Rattle.ea_machine.specs.Setup.{Setup, setup_of}
-use Rattle.ea_machine.specs.Actor.{Ended}
+use Rattle.ea_machine.specs.declared.stages.Stage.TheVariants.{Ended}
 use Rattle.ea_machine.specs.State.{State}
 use Rattle.ea_machine.specs.Machine.{run}
 use Rattle.ea_machine.specs.Completion.{complete}

@@ -1,6 +1,8 @@
 -- States in the middle of a step.
 use Rattle.std.specs.Prelude.{ℕ}
-use Rattle.ea_machine.specs.Actor.{Actor, Stage}
+use Rattle.ea_model.specs.Content.{Content}
+use Rattle.ea_machine.specs.declared.stages.Stage.{Stage}
+use Rattle.ea_machine.specs.Actor.{Actor}
 use Rattle.ea_machine.specs.Shared.{Shared, put}
 use Rattle.ea_machine.specs.State.{State}
 
@@ -9,5 +11,5 @@ abbrev pub with_actor : State → Shared → ℕ → Actor → State
 with_actor w s me a = record { shared = s; actors = put w.actors me a }
 
 -- the scheduler at a stage
-abbrev pub at : Stage → Actor → Actor
+abbrev pub at : Stage Content → Actor → Actor
 at stage a = record a { stage = stage }

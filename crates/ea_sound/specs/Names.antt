@@ -11,7 +11,11 @@ use Rattle.ea_machine.specs.declared.nodes.Node.TheVariants.{Block, Carrier}
 use Rattle.ea_machine.specs.Nodes.{Mark, same_spot}
 use Rattle.ea_machine.specs.declared.nodes.Named.{Named}
 use Rattle.ea_machine.specs.Setup.{Setup}
-use Rattle.ea_machine.specs.Actor.{Actor, Route, Looking, Trying, Settling, Abandoning, Sending, Clearing, Pushing, Linking, Stage, Routed, on_route}
+use Rattle.ea_machine.specs.declared.stages.Stage.{Stage}
+use Rattle.ea_machine.specs.declared.stages.Stage.TheVariants.{Routed}
+use Rattle.ea_machine.specs.declared.stages.Route.{Route}
+use Rattle.ea_machine.specs.declared.stages.Route.TheVariants.{Looking, Trying, Settling, Abandoning, Sending, Clearing, Pushing, Linking}
+use Rattle.ea_machine.specs.Actor.{Actor, on_route}
 use Rattle.ea_machine.specs.declared.tasks.Task.TheVariants.{Freeing, Moving}
 use Rattle.ea_machine.specs.declared.tasks.Why.{Why}
 use Rattle.ea_machine.specs.declared.tasks.Why.TheVariants.{Walk, For}
@@ -33,7 +37,7 @@ abbrev pub of_mark : (ℕ → Spot → ℕ) → Mark → ℕ
 of_mark f m = of_node f m.node
 
 -- of the block on a route, until it is released or pushed
-abbrev pub of_route : (ℕ → Spot → ℕ) → Route → ℕ
+abbrev pub of_route : (ℕ → Spot → ℕ) → Route Content → ℕ
 of_route f (Looking hand) = of_named f hand
 of_route f (Trying hand seen) = of_named f hand
 of_route f (Settling x) = 0
@@ -44,7 +48,7 @@ of_route f (Pushing node to) = of_node f node
 of_route f (Linking node to) = 0
 
 -- of the block in the hand
-abbrev pub of_hand : (ℕ → Spot → ℕ) → Stage → ℕ
+abbrev pub of_hand : (ℕ → Spot → ℕ) → Stage Content → ℕ
 of_hand f stage = on_route 0 (of_route f) stage
 
 -- the names that schedulers hold
@@ -100,7 +104,7 @@ unplaced_by Walk ops = ops
 unplaced_by (For (Freeing name)) ops = ops
 unplaced_by (For (Moving old fresh place)) ops = later ops
 
-abbrev pub unplaced : Stage → List Op → List Op
+abbrev pub unplaced : Stage Content → List Op → List Op
 unplaced (Routed route why gone) ops = unplaced_by why ops
 unplaced _ ops = ops
 

@@ -7,7 +7,11 @@ use Rattle.ea_machine.specs.declared.nodes.Node.TheVariants.{Block, Carrier}
 use Rattle.ea_machine.specs.Nodes.{Mark, same_node}
 use Rattle.ea_machine.specs.Owners.{CarrierAt, Absent, Employed, Pooled, Busy, Returning, owner_of}
 use Rattle.ea_machine.specs.Setup.{Setup}
-use Rattle.ea_machine.specs.Actor.{Actor, Route, Looking, Trying, Settling, Abandoning, Sending, Clearing, Pushing, Linking, Stage, Routed, Collecting, on_route}
+use Rattle.ea_machine.specs.declared.stages.Stage.{Stage}
+use Rattle.ea_machine.specs.declared.stages.Stage.TheVariants.{Routed, Collecting}
+use Rattle.ea_machine.specs.declared.stages.Route.{Route}
+use Rattle.ea_machine.specs.declared.stages.Route.TheVariants.{Looking, Trying, Settling, Abandoning, Sending, Clearing, Pushing, Linking}
+use Rattle.ea_machine.specs.Actor.{Actor, on_route}
 use Rattle.ea_machine.specs.State.{State}
 use Rattle.ea_machine.specs.Sums.{one_if, sum_over, total, total_at}
 use Rattle.ea_sound.specs.Contents.{seats}
@@ -22,7 +26,7 @@ of_carrier_node g i (Carrier number) = g i number
 abbrev pub of_carrier_mark : (ℕ → ℕ → ℕ) → ℕ → Mark → ℕ
 of_carrier_mark g i m = of_carrier_node g i m.node
 
-abbrev pub of_carrier_route : (ℕ → ℕ → ℕ) → Route → ℕ
+abbrev pub of_carrier_route : (ℕ → ℕ → ℕ) → Route Content → ℕ
 of_carrier_route g (Looking hand) = 0
 of_carrier_route g (Trying hand seen) = 0
 of_carrier_route g (Settling x) = 0
@@ -32,7 +36,7 @@ of_carrier_route g (Clearing x) = 0
 of_carrier_route g (Pushing node to) = of_carrier_node g to node
 of_carrier_route g (Linking node to) = 0
 
-abbrev pub of_carrier_hand : (ℕ → ℕ → ℕ) → ℕ → Stage → ℕ
+abbrev pub of_carrier_hand : (ℕ → ℕ → ℕ) → ℕ → Stage Content → ℕ
 of_carrier_hand g i (Routed route why gone) = of_carrier_route g route
 of_carrier_hand g i (Collecting number) = g i number
 of_carrier_hand g i _ = 0
@@ -78,7 +82,7 @@ pub record ReturnsCarriers (setup : Setup) (state : State) : Type 0 where
 abbrev pub of_unlinked : (ℕ → Node → ℕ) → ℕ → Mark → ℕ
 of_unlinked u i m = if m.linked then 0 else u i m.node
 
-abbrev pub of_link_route : (ℕ → Node → ℕ) → Route → ℕ
+abbrev pub of_link_route : (ℕ → Node → ℕ) → Route Content → ℕ
 of_link_route u (Looking hand) = 0
 of_link_route u (Trying hand seen) = 0
 of_link_route u (Settling x) = 0
@@ -89,7 +93,7 @@ of_link_route u (Pushing node to) = 0
 of_link_route u (Linking node to) = u to node
 
 -- the node that a scheduler has pushed and is about to link
-abbrev pub of_link : (ℕ → Node → ℕ) → Stage → ℕ
+abbrev pub of_link : (ℕ → Node → ℕ) → Stage Content → ℕ
 of_link u stage = on_route 0 (of_link_route u) stage
 
 -- 1 for that node at that instance

@@ -5,9 +5,12 @@ use Rattle.std.specs.Prelude.{ℕ, ◌+◌, ◌*◌, List, Option, None, Some, l
 use Rattle.ea_model.specs.declared.operations.Op.{Op}
 use Rattle.ea_model.specs.declared.settings.Config.{Config}
 use Rattle.ea_model.specs.declared.trace.Trace.{Trace}
+use Rattle.ea_model.specs.Content.{Content}
 use Rattle.ea_machine.specs.declared.nodes.Node.{Node}
 use Rattle.ea_machine.specs.declared.tasks.Why.TheVariants.{Walk, For}
-use Rattle.ea_machine.specs.Actor.{Actor, Stage, Begin, Routed, Collecting, Searching, Fetching, Creating, Giving, Taking, Ended, Ready}
+use Rattle.ea_machine.specs.declared.stages.Stage.{Stage}
+use Rattle.ea_machine.specs.declared.stages.Stage.TheVariants.{Begin, Routed, Collecting, Searching, Fetching, Creating, Giving, Taking, Ended, Ready}
+use Rattle.ea_machine.specs.Actor.{Actor}
 use Rattle.ea_machine.specs.Completion.{actor_rows}
 use Rattle.ea_machine.specs.Setup.{greatest_number, setup_of}
 use Rattle.ea_machine.specs.Tasks.{later}
@@ -24,7 +27,7 @@ later_takings ops = length (later ops) + 1
 
 -- how often it is taken for the operations left, by where the scheduler is in the present one, at
 -- most
-abbrev pub stage_takings : Option Node → List Op → Stage → ℕ
+abbrev pub stage_takings : Option Node → List Op → Stage Content → ℕ
 stage_takings next ops Begin = length ops + begin_takings next
 stage_takings next ops (Routed r Walk gone) = length ops
 stage_takings next ops (Routed r (For task) gone) = later_takings ops

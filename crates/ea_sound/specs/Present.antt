@@ -4,7 +4,7 @@ use Rattle.ea_model.specs.declared.carriers.Kind.TheVariants.{Multi}
 use Rattle.ea_model.specs.declared.operations.Op.{Op}
 use Rattle.ea_model.specs.declared.operations.Op.TheVariants as op
 use Rattle.ea_model.specs.declared.units.TheConstants.{SEARCH_LIMIT}
-use Rattle.ea_model.specs.Content.{can_go}
+use Rattle.ea_model.specs.Content.{Content, can_go}
 use Rattle.ea_model.specs.Instance.{chosen_spot, plan}
 use Rattle.ea_model.specs.Keyed.{IsBelow}
 use Rattle.ea_model.specs.Units.{need_of}
@@ -12,7 +12,11 @@ use Rattle.ea_laws.specs.Kept.{Stands}
 use Rattle.ea_machine.specs.declared.nodes.Node.TheVariants.{Block, Carrier}
 use Rattle.ea_machine.specs.declared.owners.OwnerWord.{OwnerWord}
 use Rattle.ea_machine.specs.declared.owners.OwnerWord.TheVariants as word
-use Rattle.ea_machine.specs.Actor.{Actor, Route, Looking, Trying, Settling, Abandoning, Sending, Clearing, Pushing, Linking, Stage, Begin, Routed, Collecting, Searching, Fetching, Creating, Giving, Taking, Ended, Ready}
+use Rattle.ea_machine.specs.declared.stages.Stage.{Stage}
+use Rattle.ea_machine.specs.declared.stages.Stage.TheVariants.{Begin, Routed, Collecting, Searching, Fetching, Creating, Giving, Taking, Ended, Ready}
+use Rattle.ea_machine.specs.declared.stages.Route.{Route}
+use Rattle.ea_machine.specs.declared.stages.Route.TheVariants.{Looking, Trying, Settling, Abandoning, Sending, Clearing, Pushing, Linking}
+use Rattle.ea_machine.specs.Actor.{Actor}
 use Rattle.ea_machine.specs.declared.tasks.Task.{Task}
 use Rattle.ea_machine.specs.declared.tasks.Task.TheVariants.{Freeing, Moving}
 use Rattle.ea_machine.specs.declared.tasks.Why.{Why}
@@ -81,7 +85,7 @@ HasTry (op.Take name tries) = 1 ≤ tries
 HasTry o = Unit {0}
 
 -- where a route may rest
-abbrev pub FitsRoute : Setup → Shared → ℕ → Route → Type 0
+abbrev pub FitsRoute : Setup → Shared → ℕ → Route Content → Type 0
 FitsRoute e s me (Looking hand) =
     HasEmployer me (s.places hand.spot.carrier) × (migration e ≡ true)
 FitsRoute e s me (Trying hand seen) = StillPooled me seen (s.places hand.spot.carrier)
@@ -103,7 +107,7 @@ pub record Asked (e : Setup) (w : State) (a : Actor) (ask : Ask) : Type 0 where
   pub fresh : allocated e (only ask.name) w ≡ 0
 
 -- where a scheduler may be in its operation
-abbrev pub Fits : Setup → State → ℕ → Actor → Stage → Type 0
+abbrev pub Fits : Setup → State → ℕ → Actor → Stage Content → Type 0
 Fits e w me a Begin = Unit {0}
 Fits e w me a (Routed route why gone) = FitsRoute e w.shared me route × OfWhy why a.todo
 Fits e w me a (Collecting number) = owner_of number ≡ me

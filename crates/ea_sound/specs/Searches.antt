@@ -1,10 +1,12 @@
 -- What a search of the pool saw.
 use Rattle.std.specs.Prelude.{◌≡◌, ◌⊎◌, ℕ, ◌-◌, ◌<◌, ◌≤◌, Bool, true, false, ◌==◌, List, [], ◌∷◌, ◌++◌}
 use Rattle.ea_model.specs.declared.units.TheConstants.{SEARCH_LIMIT}
+use Rattle.ea_model.specs.Content.{Content}
 use Rattle.ea_machine.specs.declared.owners.OwnerWord.{OwnerWord}
 use Rattle.ea_machine.specs.Owners.{same_word}
 use Rattle.ea_machine.specs.Setup.{Setup, greatest_number, migration}
-use Rattle.ea_machine.specs.Actor.{Fetching, Searching, Stage}
+use Rattle.ea_machine.specs.declared.stages.Stage.{Stage}
+use Rattle.ea_machine.specs.declared.stages.Stage.TheVariants.{Fetching, Searching}
 use Rattle.ea_machine.specs.State.{State}
 use Rattle.ea_machine.specs.Rows.{Answer, Lost, Saw}
 use Rattle.ea_machine.specs.Placements.{counted, fits}
@@ -17,12 +19,12 @@ pub data Sight : Type 0 where
   Shown : (number : ℕ) (seen : OwnerWord) → Sight
   Missed : (number : ℕ) (present : OwnerWord) → Sight
 
-abbrev pub sight : Stage → Answer → List Sight
+abbrev pub sight : Stage Content → Answer → List Sight
 sight (Searching ask at looked) (Saw w) = Shown at w ∷ []
 sight (Fetching ask at looked seen) (Lost w) = Missed at w ∷ []
 sight stage r = []
 
-abbrev pub sight_if : Bool → Stage → Answer → List Sight
+abbrev pub sight_if : Bool → Stage Content → Answer → List Sight
 sight_if true stage r = sight stage r
 sight_if false stage r = []
 

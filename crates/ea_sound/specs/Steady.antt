@@ -5,7 +5,11 @@ use Rattle.ea_model.specs.Content.{Content}
 use Rattle.ea_machine.specs.declared.owners.OwnerWord.{OwnerWord}
 use Rattle.ea_machine.specs.declared.owners.OwnerWord.TheVariants as word
 use Rattle.ea_model.specs.Abandonment.{is_due}
-use Rattle.ea_machine.specs.Actor.{Actor, Route, Looking, Trying, Settling, Abandoning, Sending, Clearing, Pushing, Linking, Stage, Begin, Routed, Collecting, Searching, Fetching, Creating, Giving, Taking, Ended, Ready}
+use Rattle.ea_machine.specs.declared.stages.Stage.{Stage}
+use Rattle.ea_machine.specs.declared.stages.Stage.TheVariants.{Begin, Routed, Collecting, Searching, Fetching, Creating, Giving, Taking, Ended, Ready}
+use Rattle.ea_machine.specs.declared.stages.Route.{Route}
+use Rattle.ea_machine.specs.declared.stages.Route.TheVariants.{Looking, Trying, Settling, Abandoning, Sending, Clearing, Pushing, Linking}
+use Rattle.ea_machine.specs.Actor.{Actor}
 use Rattle.ea_machine.specs.declared.tasks.Why.{Why}
 use Rattle.ea_machine.specs.declared.tasks.Why.TheVariants.{Walk, For}
 use Rattle.ea_machine.specs.Rows.{Answer, Saw}
@@ -18,7 +22,7 @@ is_walked Walk = true
 is_walked (For task) = false
 
 -- whether the passed nodes are being worked off
-abbrev pub works_off : Stage → Bool
+abbrev pub works_off : Stage Content → Bool
 works_off Begin = false
 works_off (Routed route why gone) = is_walked why
 works_off (Collecting number) = true
@@ -46,7 +50,7 @@ TellsShown e _ = Unit {0}
 module _ (e : Setup) (me : ℕ) (employs : List Content) where
   -- the word that was seen of a carrier that is to be busy is that of an own pooled one, that of one
   -- to be fetched was shown, and a carrier that is to be abandoned is due
-  abbrev pub IsSteadyRoute : Route → Type 0
+  abbrev pub IsSteadyRoute : Route Content → Type 0
   IsSteadyRoute (Looking hand) = Unit {0}
   IsSteadyRoute (Trying hand seen) =
       ((largest : ℕ) × (seen ≡ word.Pooled me largest)) × IsShown e seen
@@ -57,7 +61,7 @@ module _ (e : Setup) (me : ℕ) (employs : List Content) where
   IsSteadyRoute (Pushing node to) = Unit {0}
   IsSteadyRoute (Linking node to) = Unit {0}
 
-  abbrev pub IsSteadyStage : Stage → Type 0
+  abbrev pub IsSteadyStage : Stage Content → Type 0
   IsSteadyStage Begin = Unit {0}
   IsSteadyStage (Routed route why gone) = IsSteadyRoute route
   IsSteadyStage (Collecting number) = Unit {0}

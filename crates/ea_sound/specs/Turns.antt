@@ -2,7 +2,8 @@
 use Rattle.std.specs.Prelude.{◌≡◌, ℕ, List}
 use Rattle.ea_model.specs.declared.entries.Entry.{Entry}
 use Rattle.ea_machine.specs.Setup.{Setup}
-use Rattle.ea_machine.specs.Actor.{Actor, Ready}
+use Rattle.ea_machine.specs.declared.stages.Stage.TheVariants.{Ready}
+use Rattle.ea_machine.specs.Actor.{Actor}
 use Rattle.ea_machine.specs.State.{State}
 use Rattle.ea_machine.specs.Rows.{Answer}
 use Rattle.ea_machine.specs.Table.{answer}

@@ -7,7 +7,7 @@ use Rattle.ea_model.specs.declared.entries.Entry.{Entry}
 use Rattle.ea_model.specs.Content.{Content}
 use Rattle.ea_model.specs.Instance.{chosen_spot, creating, place_at, plan, single_place}
 use Rattle.ea_machine.specs.declared.owners.OwnerWord.{OwnerWord}
-use Rattle.ea_machine.specs.Actor.{Creating, Fetching}
+use Rattle.ea_machine.specs.declared.stages.Stage.TheVariants.{Creating, Fetching}
 use Rattle.ea_machine.specs.declared.asks.Ask.{Ask}
 use Rattle.ea_sound.specs.Chosen.{ByItself, Created, Fetched, HasAsked, IsPlacement}
 use Rattle.ea_model.specs.Employment.{employing}

@@ -3,7 +3,9 @@ use Rattle.std.specs.Prelude.{ℕ, Bool, true, false, List, [], ◌∷◌, ◌++
 use Rattle.ea_model.specs.declared.trace.Turns.{Turns}
 use Rattle.ea_model.specs.Words.{words}
 use Rattle.ea_trace.specs.Lines.{turns_in}
-use Rattle.ea_machine.specs.Actor.{Stage, Searching}
+use Rattle.ea_model.specs.Content.{Content}
+use Rattle.ea_machine.specs.declared.stages.Stage.{Stage}
+use Rattle.ea_machine.specs.declared.stages.Stage.TheVariants.{Searching}
 use Rattle.ea_machine.specs.Machine.{step}
 use Rattle.ea_machine.specs.Setup.{Setup}
 use Rattle.ea_machine.specs.State.{State}
@@ -28,7 +30,7 @@ from None line = None
 from (Some m) line = Some (record { moment = m; turns = turns line })
 
 -- whether a scheduler looks at owner words; nothing else changes by that
-abbrev pub is_searching : Stage → Bool
+abbrev pub is_searching : Stage Content → Bool
 is_searching (Searching ask at looked) = true
 is_searching _ = false
 
