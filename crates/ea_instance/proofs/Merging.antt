@@ -57,16 +57,16 @@ module _ (cs : List Content) (rising : IsRising cs) (i : ℕ) (d : Content) (wit
         )
 
 -- the same lines, at the same places
-pub lines-same : (cs ds : List Content) (ls now all : List CarrierLine) (m n s t : ℕ) → now ≡ ls
+pub lines-same : (employer : ℕ) (cs ds : List Content) (ls now all : List CarrierLine) (m n s t : ℕ) → now ≡ ls
     → n ≡ m → t ≡ s
-    → ls ++ map carrier_line (merged number_of (drop m cs) (drop s ds)) ≡ all
-    → now ++ map carrier_line (merged number_of (drop n cs) (drop t ds)) ≡ all
-lines-same cs ds ls now all m n s t e f g so =
-    ap (λ l. l ++ map carrier_line (merged number_of (drop n cs) (drop t ds))) e
-    ∙ ap (λ k. ls ++ map carrier_line (merged number_of (drop k cs) (drop t ds))) f
-    ∙ ap (λ k. ls ++ map carrier_line (merged number_of (drop m cs) (drop k ds))) g ∙ so
+    → ls ++ map (carrier_line employer) (merged number_of (drop m cs) (drop s ds)) ≡ all
+    → now ++ map (carrier_line employer) (merged number_of (drop n cs) (drop t ds)) ≡ all
+lines-same employer cs ds ls now all m n s t e f g so =
+    ap (λ l. l ++ map (carrier_line employer) (merged number_of (drop n cs) (drop t ds))) e
+    ∙ ap (λ k. ls ++ map (carrier_line employer) (merged number_of (drop k cs) (drop t ds))) f
+    ∙ ap (λ k. ls ++ map (carrier_line employer) (merged number_of (drop m cs) (drop k ds))) g ∙ so
 
-module _ (cs ds : List Content) (rising_cs : IsRising cs) (rising_ds : IsRising ds) (m s : ℕ)
+module _ (employer : ℕ) (cs ds : List Content) (rising_cs : IsRising cs) (rising_ds : IsRising ds) (m s : ℕ)
     (d : Content) where
   next_left : GoesFirst true cs m ds s
       → merged number_of (drop m cs) (drop s ds)
@@ -103,26 +103,26 @@ module _ (cs ds : List Content) (rising_cs : IsRising cs) (rising_ds : IsRising 
 
   -- a line more, and a carrier less that has none
   line_more : (lines new : List CarrierLine) (line : CarrierLine) (x : Content)
-      (rest all : List CarrierLine) → new ≡ lines ++ line ∷ [] → line ≡ carrier_line x
-      → lines ++ carrier_line x ∷ rest ≡ all → new ++ rest ≡ all
+      (rest all : List CarrierLine) → new ≡ lines ++ line ∷ [] → line ≡ carrier_line employer x
+      → lines ++ carrier_line employer x ∷ rest ≡ all → new ++ rest ≡ all
   line_more lines new line x rest all is made so =
       ap (λ ls. ls ++ rest) (is ∙ ap (λ l. lines ++ l ∷ []) made)
-      ∙ append_assoc lines (carrier_line x ∷ []) rest ∙ so
+      ∙ append_assoc lines (carrier_line employer x ∷ []) rest ∙ so
 
   pub more-left : GoesFirst true cs m ds s → (lines new all : List CarrierLine)
-      → (line : CarrierLine) → new ≡ lines ++ line ∷ [] → line ≡ carrier_line (get_or cs m d)
-      → lines ++ map carrier_line (merged number_of (drop m cs) (drop s ds)) ≡ all
-      → new ++ map carrier_line (merged number_of (drop (m + 1) cs) (drop s ds)) ≡ all
+      → (line : CarrierLine) → new ≡ lines ++ line ∷ [] → line ≡ carrier_line employer (get_or cs m d)
+      → lines ++ map (carrier_line employer) (merged number_of (drop m cs) (drop s ds)) ≡ all
+      → new ++ map (carrier_line employer) (merged number_of (drop (m + 1) cs) (drop s ds)) ≡ all
   more-left first lines new all line is made so =
       line_more lines new line (get_or cs m d)
-      (map carrier_line (merged number_of (drop (m + 1) cs) (drop s ds))) all is made
-      (sym (ap (λ xs. lines ++ map carrier_line xs) (next_left first)) ∙ so)
+      (map (carrier_line employer) (merged number_of (drop (m + 1) cs) (drop s ds))) all is made
+      (sym (ap (λ xs. lines ++ map (carrier_line employer) xs) (next_left first)) ∙ so)
 
   pub more-right : GoesFirst false cs m ds s → (lines new all : List CarrierLine)
-      → (line : CarrierLine) → new ≡ lines ++ line ∷ [] → line ≡ carrier_line (get_or ds s d)
-      → lines ++ map carrier_line (merged number_of (drop m cs) (drop s ds)) ≡ all
-      → new ++ map carrier_line (merged number_of (drop m cs) (drop (s + 1) ds)) ≡ all
+      → (line : CarrierLine) → new ≡ lines ++ line ∷ [] → line ≡ carrier_line employer (get_or ds s d)
+      → lines ++ map (carrier_line employer) (merged number_of (drop m cs) (drop s ds)) ≡ all
+      → new ++ map (carrier_line employer) (merged number_of (drop m cs) (drop (s + 1) ds)) ≡ all
   more-right first lines new all line is made so =
       line_more lines new line (get_or ds s d)
-      (map carrier_line (merged number_of (drop m cs) (drop (s + 1) ds))) all is made
-      (sym (ap (λ xs. lines ++ map carrier_line xs) (next_right first)) ∙ so)
+      (map (carrier_line employer) (merged number_of (drop m cs) (drop (s + 1) ds))) all is made
+      (sym (ap (λ xs. lines ++ map (carrier_line employer) xs) (next_right first)) ∙ so)

@@ -1,6 +1,6 @@
 -- What a reallocation in place makes of an instance.
 use Rattle.std.proofs.Common.{◌≡◌, ◌≢◌, ℕ, ◌+◌, ◌*◌, ◌/◌, ◌%◌, ◌<◌, ◌≤◌, List, [], ◌∷◌, All, sym, ap, ◌∙◌, subst, refl, inl, inr, arith}
-use Rattle.std.specs.Prelude.{Some, None, IsSome, IfSome}
+use Rattle.std.specs.Prelude.{◌↔◌, Option, Some, None, IsNone, IsSome, IfSome}
 use Rattle.std.proofs.lemmas.Bool.{cases_eq}
 use Rattle.std.proofs.lemmas.List.Elements.{All-head, All-tail}
 use Rattle.ea_model.specs.declared.carriers.BlockAt.{BlockAt}
@@ -124,6 +124,9 @@ module _ (s : Settings) (n : ℕ) (own : OwnList) (ks : CarrierList) (ss : List 
     pub block-multi : IsSome (block_in ks.contents spot)
     block-multi = subst (λ o. IsSome (block_among offset o)) (sym there) begins-multi
 
+    pub same-size : size_of (block_in ks.contents spot) ≡ size_of (block_at c.blocks offset)
+    same-size = ap (λ o. size_of (block_among offset o)) there
+
     size_there : size_of (block_in ks.contents spot) ≡ block_there.0.size
     size_there = ap (λ o. size_of (block_among offset o)) there ∙ ap size_of block_there.1
 
@@ -193,6 +196,10 @@ module _ (s : Settings) (n : ℕ) (own : OwnList) (ks : CarrierList) (ss : List 
             ∙ changed-multi s n own ks ss created k g (resized-keeps offset size name) number c there
             ∙ resized_here e place here spot size name
             ∙ ap (λ x. resized_by x here spot size name) (sym (decided_here d decided ∙ arm))
+
+        -- the units that the block has then
+        pub told-multi : units c ≡ resized_to now spot need
+        told-multi = units_there ∙ ap (λ i. resized_to i spot need) seen
 
         pub seen-multi : seen_as s n own new ss created ≡ resizing_at now spot need name
         seen-multi = ap (λ xs. seen_as s n own xs ss created) is ∙ is_then
@@ -385,3 +392,13 @@ module _ (s : Settings) (n : ℕ) (own : OwnList) (ks : CarrierList) (ss : List 
                 subst (λ os. KeepsCarriers s n os ks end created) (sym gone)
                 (subst (λ xs. KeepsCarriers s n less_own ks xs created) (sym is_last)
                 (keeping _ _ _ _ _ _ k.strategy stands_less))
+
+-- a block that was resized begins with the units that were told
+pub told-begins : (size : Option ℕ) (d : Decision) (found : Option BlockAt)
+    (name offset units : ℕ) → (IsNone size ↔ (d ≡ Move)) → IfSome size (λ n. n ≡ units)
+    → (d ≢ Move → found ≡ Some (record { name = name; offset = offset; size = units }))
+    → IfSome size (λ n. found ≡ Some (record { name = name; offset = offset; size = n }))
+told-begins None d found name offset units moves is then = tt
+told-begins (Some n) d found name offset units moves is then =
+    then (λ move. absurd (let never = moves.1 move in cc))
+    ∙ ap (λ m. Some (record { name = name; offset = offset; size = m })) (sym is)

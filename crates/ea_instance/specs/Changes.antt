@@ -1,11 +1,10 @@
 -- What a call makes of one carrier of an instance.
 use Rattle.std.specs.Prelude.{◌≡◌, ℕ, ◌+◌, ◌*◌, List, Some, IsSome, AllPairs, All}
 use Rattle.ea_model.specs.declared.carriers.Candidate.{Candidate}
-use Rattle.ea_model.specs.Content.{Content, block_at, gaps_of, gap_before, gap_behind, largest, placed, released, resized, size_of, taken_of, Tiled}
+use Rattle.ea_model.specs.Content.{Content, block_at, gaps_of, gap_before, gap_behind, is_vacant, largest, placed, released, resized, size_of, taken_of, Tiled}
 use Rattle.ea_model.specs.Instance.{changed, content_of}
 use Rattle.ea_mbc.specs.Gaps.{GapResized, GapTaken, GapsJoined}
 use Rattle.ea_laws.specs.Kept.{ContentsApart, IsLaidOut, IsRising}
-use Rattle.ea_instance.specs.Answers.{follow_up}
 use Rattle.ea_instance.specs.Choices.{IsChosenIn}
 use Rattle.ea_instance.specs.declared.changes.Placed.{Placed}
 use Rattle.ea_instance.specs.declared.changes.Joined.{Joined}
@@ -40,7 +39,7 @@ pub record IsReleasing (number offset : ℕ) (f : Joined) (old new : List Conten
   pub after : f.block.after ≡ gap_behind content offset
   pub largest : f.largest ≡ largest (gaps_of (released content offset))
   pub joined : GapsJoined content (released content offset) offset f.block.size
-  pub next : f.next ≡ follow_up (Some (released content offset))
+  pub vacant : f.vacant ≡ is_vacant (released content offset)
 
 -- the block at the offset has that many units and this name
 pub record IsResized (offset units name : ℕ) (r : Resized) (old new : Content) : Type 0 where

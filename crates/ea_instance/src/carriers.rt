@@ -6,12 +6,11 @@ ghost use Rattle.ea_model.specs.declared.units.TheConstants.{MAX_SCHEDULERS, MAX
 ghost use Rattle.ea_model.specs.Content.{Content, block_at, placed, released, resized, size_of, taken_of};
 ghost use Rattle.ea_model.specs.Choice.{first};
 ghost use Rattle.ea_model.specs.Strategies.{candidates, choice_among, choice_empty, inner_of, large_enough, may_miss, or_else};
-ghost use Rattle.ea_model.specs.Instance.{changed, content_of, block_in, has_content, size_for, with_content, without_content};
+ghost use Rattle.ea_model.specs.Instance.{changed, content_of, block_in, has_content, has_vacant, size_for, with_content, without_content};
 ghost use Rattle.ea_model.specs.Instance as instances;
 ghost use Rattle.ea_mbc.specs.Gaps.{room_at};
 ghost use Rattle.ea_laws.specs.Kinds.{is_shared};
 ghost use Rattle.ea_laws.specs.Kept.{ContentsApart, IsLaidOut, IsWhole};
-ghost use Rattle.ea_instance.specs.Answers.{follow_up};
 ghost use Rattle.ea_instance.specs.Changes.{AreLaid};
 ghost use Rattle.ea_instance.specs.Choices.{candidate_of, IsChoice};
 ghost use Rattle.ea_instance.specs.Listed.{candidate_in};
@@ -24,7 +23,6 @@ use crate::employed::Employed;
 use crate::figures::{
     no_figures, with_block, with_carrier, with_size, with_whole, without_block, without_whole,
 };
-use crate::released::Released;
 use crate::strategies::{Search, inner_of, search_of};
 use crate::walks::{best_choice, choice_at, lowest_empty};
 use ea_cset::CarrierSet;
@@ -191,12 +189,13 @@ impl Carriers {
         Ok(placed.size)
     }
 
-    /// Releases the block at the offset in the carrier with the number, and says what is to follow.
-    pub fn release(&mut self, number: u32, offset: u32) -> Result<Released, OutOfMemory>
+    /// Releases the block at the offset in the carrier with the number, and says whether the carrier
+    /// is to be deallocated.
+    pub fn release(&mut self, number: u32, offset: u32) -> Result<bool, OutOfMemory>
         requires laid { AreLaid self.old.contents }
         requires block { IsSome (block_in self.old.contents
             (record { carrier = number; offset = offset })) }
-        ensures answer { IfOk result (λ a. a ≡ follow_up (content_of self.new.contents number)) }
+        ensures vacant { IfOk result (λ vacant. vacant ≡ has_vacant number self.new.contents) }
         ensures ok { OnOk result (self.new ≡ record self.old {
           contents =
               changed (λ c. released c offset) number self.old.contents;
@@ -208,21 +207,23 @@ impl Carriers {
         self.set.update(number, joined.largest);
         note_released(&mut self.bins, joined.address, joined.block);
         self.figures = without_block(self.figures, joined.block.size);
-        Ok(joined.next)
+        Ok(joined.vacant)
     }
 
-    /// The block at the offset in the carrier with the number has this name from now on. It takes
-    /// no memory.
-    pub fn rename(&mut self, number: u32, offset: u32, name: u32)
+    /// The block at the offset in the carrier with the number has this name from now on. Answers its
+    /// units. It takes no memory.
+    pub fn rename(&mut self, number: u32, offset: u32, name: u32) -> u32
         requires laid { AreLaid self.old.contents }
         requires block { IsSome (block_in self.old.contents
             (record { carrier = number; offset = offset })) }
-        ensures { self.new ≡ record self.old {
+        ensures size { result ≡ size_of (block_in self.old.contents
+            (record { carrier = number; offset = offset })) }
+        ensures renamed { self.new ≡ record self.old {
           contents = changed (λ c. resized c offset (size_of (block_at c.blocks offset)) name)
               number self.old.contents;
         } }
     {
-        changes::rename(&mut self.list, number, offset, name);
+        changes::rename(&mut self.list, number, offset, name)
     }
 
     /// The block at the offset in the carrier with the number has `need` units and this name from
@@ -261,8 +262,8 @@ impl Carriers {
 
     /// The block at the offset in the carrier with the number takes of the gap directly after it
     /// what it needs to have `need` units, or the whole gap where fewer than 6 units would be left
-    /// of it, and has this name from now on. It takes no memory.
-    pub fn grow(&mut self, number: u32, offset: u32, need: u32, name: u32)
+    /// of it, and has this name from now on. Answers its units. It takes no memory.
+    pub fn grow(&mut self, number: u32, offset: u32, need: u32, name: u32) -> u32
         requires laid { AreLaid self.old.contents }
         requires few { length self.old.contents ≤ NUMBERS * MAX_SCHEDULERS }
         requires block { IsSome (block_in self.old.contents
@@ -272,7 +273,9 @@ impl Carriers {
         requires fits { IfSome (content_of self.old.contents number)
             (λ c. need ≤ room_at c offset) }
         requires even { need % 2 ≡ 0 }
-        ensures { self.new ≡ record self.old {
+        ensures size { IfSome (content_of self.old.contents number)
+            (λ c. result ≡ taken_of (room_at c offset) need) }
+        ensures grown { self.new ≡ record self.old {
           contents = changed (λ c. resized c offset (taken_of (room_at c offset) need) name)
               number self.old.contents;
         } }
@@ -287,6 +290,7 @@ impl Carriers {
             block.size - block.was.size,
         );
         self.figures = with_size(self.figures, block.was.size, block.size);
+        block.size
     }
 
     /// Puts a carrier without blocks among the others, by its number.

@@ -9,7 +9,6 @@ ghost use Rattle.ea_instance.specs.Changes.{AreLaid, IsPlacing, IsReleasing, IsR
 
 use crate::choice::Choice;
 use crate::employed::{Employed, Resized};
-use crate::released::Released;
 use ea_mbc::Freed;
 use ea_model::keyed::index_of;
 use ea_model::{Gap, OutOfMemory};
@@ -30,8 +29,8 @@ pub struct Joined {
     pub block: Freed,
     /// The units of the largest gap that its carrier has now.
     pub largest: u32,
-    /// What is to follow.
-    pub next: Released,
+    /// Whether the carrier is to be deallocated.
+    pub vacant: bool,
 }
 
 /// Places a block of `need` units in the gap.
@@ -81,7 +80,7 @@ pub fn release(
         address: employed.address(offset),
         block,
         largest: employed.carrier.largest(),
-        next: employed.follow_up(),
+        vacant: employed.is_vacant(),
     })
 }
 
@@ -133,14 +132,17 @@ pub fn grow(carriers: &mut Vec<Employed>, number: u32, offset: u32, need: u32, n
     carriers[index].grow(offset, need, name)
 }
 
-/// The block at the offset in the carrier with the number has this name from now on.
-pub fn rename(carriers: &mut Vec<Employed>, number: u32, offset: u32, name: u32)
+/// The block at the offset in the carrier with the number has this name from now on. Answers its
+/// units.
+pub fn rename(carriers: &mut Vec<Employed>, number: u32, offset: u32, name: u32) -> u32
     requires laid { AreLaid carriers.old.items }
     requires block { IsSome (block_in carriers.old.items
+        (record { carrier = number; offset = offset })) }
+    ensures size { result ≡ size_of (block_in carriers.old.items
         (record { carrier = number; offset = offset })) }
     ensures renamed { IsRenaming number offset name carriers.old.items carriers.new.items }
     ensures capacity { vec_capacity carriers.new ≡ vec_capacity carriers.old }
 {
     let index = index_of(number, carriers);
-    carriers[index].rename(offset, name);
+    carriers[index].rename(offset, name)
 }

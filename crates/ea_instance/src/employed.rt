@@ -2,19 +2,17 @@
 ghost use Rattle.std.specs.Prelude.{not, ◌&&◌, ◌≡◌, ◌+◌, ◌*◌, ◌%◌, ◌<◌, ◌≤◌, IfSome, IsSome, Some, true, map, option_map};
 ghost use Rattle.ea_model.specs.declared.carriers.Kind.TheVariants.{Multi};
 ghost use Rattle.ea_model.specs.declared.units.TheConstants.{MAX_UNITS, MIN_BLOCK};
-ghost use Rattle.ea_model.specs.Content.{allocated, block_at, gap_behind, gaps_of, is_empty_multi, is_multi, is_nil, largest, named, resized, size_of, taken_of};
+ghost use Rattle.ea_model.specs.Content.{allocated, block_at, gap_behind, gaps_of, is_empty_multi, is_multi, is_nil, is_vacant, largest, named, resized, size_of, taken_of};
 ghost use Rattle.ea_model.specs.Strategies.{candidate, candidates_in};
 ghost use Rattle.ea_model.specs.Instance.{carrier_line};
 ghost use Rattle.ea_mbc.specs.Gaps.{room_at};
 ghost use Rattle.ea_laws.specs.Kept.{IsLaidOut};
 ghost use Rattle.ea_laws.specs.Kinds.{is_shared};
-ghost use Rattle.ea_instance.specs.Answers.{follow_up};
 ghost use Rattle.ea_instance.specs.Changes.{IsResized};
 ghost use Rattle.ea_instance.specs.Choices.{candidate_of, IsChosenIn};
 ghost use Rattle.ea_instance.specs.Listed.{chosen_in, held_of, located, spans};
 
 use crate::choice::Choice;
-use crate::released::Released;
 use ea_cset::CarrierKey;
 use ea_goodfit::BinnedGap;
 use ea_mbc::Mbc;
@@ -219,20 +217,23 @@ impl Employed {
         }
     }
 
-    /// The block at `offset` has this name from now on.
-    pub fn rename(&mut self, offset: u32, name: u32)
+    /// The block at `offset` has this name from now on. Answers its units.
+    pub fn rename(&mut self, offset: u32, name: u32) -> u32
         requires { IsSome (block_at self.old.blocks offset) }
+        ensures size { result ≡ size_of (block_at self.old.blocks offset) }
         ensures renamed { self.new
             ≡ resized self.old offset (size_of (block_at self.old.blocks offset)) name }
         ensures gaps { gaps_of self.new ≡ gaps_of self.old }
     {
+        let size = self.size_at(offset);
         self.carrier.rename(offset, name);
+        size
     }
 
     /// Whether it is to be deallocated: it has no blocks and isn't the main carrier.
-    pub fn is_empty_multi(&self) -> bool
+    pub fn is_vacant(&self) -> bool
+        ensures vacant { result ≡ is_vacant self.now }
         ensures empty { result ≡ is_empty_multi self.now }
-        ensures shared { is_shared self.now.kind ≡ true }
     {
         self.kind == Kind::Multi && self.carrier.is_empty()
     }
@@ -265,17 +266,6 @@ impl Employed {
         self.carrier.largest()
     }
 
-    /// What is to follow a release in it.
-    pub fn follow_up(&self) -> Released
-        ensures { result ≡ follow_up (Some self.now) }
-    {
-        if self.is_empty_multi() {
-            Released::EmptyOwn
-        } else {
-            Released::Kept
-        }
-    }
-
     /// The carrier itself, which isn't the main one.
     pub fn into_multi(self) -> Mbc
         requires { self.kind ≡ Multi }
@@ -286,16 +276,16 @@ impl Employed {
         carrier
     }
 
-    /// Its line among the carriers of the output.
-    pub fn line(&self) -> CarrierLine
-        ensures { result ≡ carrier_line self.now }
+    /// Its line among the carriers of the output, where the instance employs it.
+    pub fn line(&self, employer: u32) -> CarrierLine
+        ensures { result ≡ carrier_line employer self.now }
     {
         CarrierLine {
             number: self.carrier.number(),
             kind: self.kind,
             owner: self.carrier.owner(),
             word: Standing::Employed,
-            employer: self.carrier.owner(),
+            employer,
             base: self.carrier.base(),
             pages: self.carrier.units() / PAGE_UNITS,
             allocated: self.carrier.allocated(),

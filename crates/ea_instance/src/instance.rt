@@ -5,15 +5,15 @@ ghost use Rattle.ea_model.specs.declared.carriers.Spot.{Spot};
 ghost use Rattle.ea_model.specs.declared.carriers.CarrierPlan.{CarrierPlan};
 ghost use Rattle.ea_model.specs.declared.reallocation.Decision.TheVariants.{Move};
 ghost use Rattle.ea_model.specs.declared.units.TheConstants.{MAX_PAGES, MAX_PERCENT, MAX_SCHEDULERS, MAX_UNITS, NUMBERS};
-ghost use Rattle.ea_model.specs.Content.{Content, named, free_units, gaps_of, is_vacant};
+ghost use Rattle.ea_model.specs.Content.{Content, named, free_units, gaps_of};
 ghost use Rattle.ea_model.specs.declared.entries.NoCarrier.TheVariants.{Numbers, Space};
 ghost use Rattle.ea_model.specs.Region.{runs};
 ghost use Rattle.ea_model.specs.Settings.{IsValid};
 ghost use Rattle.ea_model.specs.Units.{pages_for};
 ghost use Rattle.ea_model.specs.Strategies.{candidates, may_miss};
-ghost use Rattle.ea_model.specs.Instance.{carrier_line, main_content, new_instance, growth, is_alone, multis, unused_from, plan, created_content, creating, creating_single, chosen_spot, employed, single_place, place_at, releasing_at, own_of, resized_to, resizing_at, decision_at, content_of, block_in, has_content, own_at, segments, least_pages};
+ghost use Rattle.ea_model.specs.Instance.{carrier_line, main_content, new_instance, growth, is_alone, multis, unused_from, plan, created_content, creating, creating_single, chosen_spot, employed, single_place, place_at, releasing_at, own_of, resized_to, resizing_at, decision_at, content_of, block_in, has_content, has_vacant, own_at, segments, least_pages};
 ghost use Rattle.ea_model.specs.Instance as instances;
-ghost use Rattle.ea_instance.specs.Answers.{placing_if, follow_up};
+ghost use Rattle.ea_instance.specs.Answers.{placing_if};
 ghost use Rattle.ea_laws.specs.InOrder.{IsInOrder};
 ghost use Rattle.ea_laws.specs.Kept.{ContentsApart, IsLaidOut, IsSomeones, Stands};
 ghost use Rattle.ea_model.specs.Abandonment.{is_due, is_sparse};
@@ -25,7 +25,6 @@ use crate::employed::Employed;
 use crate::figures::free_of;
 use crate::lines::{put_merged, single_line};
 use crate::own::OwnCarriers;
-use crate::released::Released;
 use crate::singles::Singles;
 use crate::walks::multi_count;
 use ea_mbc::Mbc;
@@ -222,13 +221,14 @@ impl Instance {
 
     /// The line of a carrier, if it employs it.
     pub fn carrier_line(&self, carrier: u32) -> Option<CarrierLine>
-        ensures { result ≡ option_map carrier_line (content_of (employed self.now) carrier) }
+        ensures { result ≡ option_map (carrier_line self.now.number)
+            (content_of (employed self.now) carrier) }
     {
         if let Some(multi) = item_of(carrier, self.carriers.as_slice()) {
-            return Some(multi.line());
+            return Some(multi.line(self.number));
         }
         match item_of(carrier, self.singles.as_slice()) {
-            Some(single) => Some(single_line(single)),
+            Some(single) => Some(single_line(self.number, single)),
             None => None,
         }
     }
@@ -237,13 +237,13 @@ impl Instance {
     /// the list stays as it was.
     pub fn put_lines(&self, lines: &mut List<CarrierLine>) -> Result<(), OutOfMemory>
         ensures ok { OnOk result (lines.new.items
-            ≡ lines.old.items ++ map carrier_line (employed self.now)) }
+            ≡ lines.old.items ++ map (carrier_line self.now.number) (employed self.now)) }
         ensures err { OnErr result (lines.new.items ≡ lines.old.items) }
     {
         let multis = self.carriers.as_slice();
         let singles = self.singles.as_slice();
         lines.reserve(multis.len() + singles.len())?;
-        put_merged(multis, singles, lines);
+        put_merged(self.number, multis, singles, lines);
         Ok(())
     }
 
@@ -478,13 +478,13 @@ impl Instance {
         }
     }
 
-    /// Releases the block at the spot, and says what is to follow. The carrier stays employed until
-    /// it is cleared.
-    pub fn release(&mut self, spot: Spot) -> Result<Released, OutOfMemory>
+    /// Releases the block at the spot, and says whether the carrier is to be deallocated: it is left
+    /// without blocks and isn't a main carrier. It stays employed until it is dismissed.
+    pub fn release(&mut self, spot: Spot) -> Result<bool, OutOfMemory>
         requires { IsSome (block_in (employed self.old) spot) }
         ensures ok { OnOk result (self.new ≡ releasing_at self.old spot) }
-        ensures answer { IfOk result (λ next. next
-            ≡ follow_up (content_of (employed self.new) spot.carrier)) }
+        ensures vacant { IfOk result (λ vacant. vacant
+            ≡ has_vacant spot.carrier (employed self.new)) }
         ensures emptied { OnOk result (IfSome (content_of (employed self.new) spot.carrier)
             (λ c. c.kind ≡ Single → c.blocks ≡ [])) }
         ensures gone { OnOk result (block_in (employed self.new) spot ≡ None) }
@@ -493,11 +493,11 @@ impl Instance {
         ensures err { OnErr result (self.new ≡ self.old) }
     {
         if self.has_multi(spot.carrier) {
-            let next = self.carriers.release(spot.carrier, spot.offset)?;
-            return Ok(next);
+            let vacant = self.carriers.release(spot.carrier, spot.offset)?;
+            return Ok(vacant);
         }
         self.singles.release(spot.carrier, spot.offset);
-        Ok(Released::SingleGone)
+        Ok(true)
     }
 
     /// Whether the carrier is to be abandoned: it isn't the main one and not empty, it is sparse, and
@@ -514,31 +514,33 @@ impl Instance {
         }
     }
 
-    /// Resizes the block at the spot as is decided for `need` units, with this name from now on.
-    /// Where the decision is that it is to move, nothing changes.
-    pub fn resize(&mut self, spot: Spot, need: u32, name: u32) -> Result<Decision, OutOfMemory>
+    /// Resizes the block at the spot as is decided for `need` units, with this name from now on, and
+    /// answers its units. None, and nothing changed, where the decision is that it is to move.
+    pub fn resize(&mut self, spot: Spot, need: u32, name: u32) -> Result<Option<u32>, OutOfMemory>
         requires block { IsSome (block_in (employed self.old) spot) }
         requires even { need % 2 ≡ 0 }
         requires least { 6 ≤ need }
-        ensures decision { IfOk result (λ decision. decision ≡ decision_at self.old spot need) }
+        ensures moves { IfOk result (λ size.
+            IsNone size ↔ (decision_at self.old spot need ≡ Move)) }
+        ensures size { IfOk result (λ size. IfSome size (λ units.
+            units ≡ resized_to self.old spot need)) }
         ensures ok { OnOk result (self.new ≡ resizing_at self.old spot need name) }
-        ensures begins { IfOk result (λ decision. decision ≢ Move
-            → block_in (employed self.new) spot ≡ Some (record {
+        ensures begins { IfOk result (λ size. IfSome size (λ units.
+            block_in (employed self.new) spot ≡ Some (record {
               name = name;
               offset = spot.offset;
-              size = resized_to self.old spot need;
-            })) }
+              size = units;
+            }))) }
         ensures others { (at : Spot) → IsOther spot.carrier spot.offset at
             → block_in (employed self.new) at ≡ block_in (employed self.old) at }
         ensures err { OnErr result (self.new ≡ self.old) }
     {
         let decision = self.decided(spot, need);
         if self.has_multi(spot.carrier) {
-            self.resize_multi(decision, spot, need, name)?;
-            return Ok(decision);
+            let size = self.resize_multi(decision, spot, need, name)?;
+            return Ok(size);
         }
-        self.resize_single(decision, spot, need, name);
-        Ok(decision)
+        Ok(self.resize_single(decision, spot, need, name))
     }
 
     /// What is decided where the block at the spot is to have `need` units.
@@ -565,58 +567,63 @@ impl Instance {
         }
     }
 
-    /// Carries out the decision for a block of a multiblock carrier.
+    /// Carries out the decision for a block of a multiblock carrier, and answers its units unless it
+    /// is to move.
     fn resize_multi(
         &mut self,
         decision: Decision,
         spot: Spot,
         need: u32,
         name: u32,
-    ) -> Result<(), OutOfMemory>
+    ) -> Result<Option<u32>, OutOfMemory>
         requires block { IsSome (block_in (employed self.old) spot) }
         requires multi { has_content spot.carrier self.old.contents ≡ true }
         requires decision { decision ≡ decision_at self.old spot need }
         requires even { need % 2 ≡ 0 }
         requires least { 6 ≤ need }
+        ensures moves { IfOk result (λ size. IsNone size ↔ (decision ≡ Move)) }
+        ensures size { IfOk result (λ size. IfSome size (λ units.
+            units ≡ resized_to self.old spot need)) }
         ensures ok { OnOk result (self.new ≡ resizing_at self.old spot need name) }
         ensures err { OnErr result (self.new ≡ self.old) }
     {
         let Spot { carrier, offset } = spot;
         match decision {
-            Decision::Stay => {
-                self.carriers.rename(carrier, offset, name);
-                Ok(())
-            }
+            Decision::Stay => Ok(Some(self.carriers.rename(carrier, offset, name))),
             Decision::ShrinkHere => {
                 self.carriers.shrink(carrier, offset, need, name)?;
-                Ok(())
+                Ok(Some(need))
             }
-            Decision::GrowHere => {
-                self.carriers.grow(carrier, offset, need, name);
-                Ok(())
-            }
+            Decision::GrowHere => Ok(Some(self.carriers.grow(carrier, offset, need, name))),
             Decision::ShrinkCarrier { .. } => unreachable!(),
-            Decision::Move => Ok(()),
+            Decision::Move => Ok(None),
         }
     }
 
-    /// Carries out the decision for the block of a singleblock carrier.
-    fn resize_single(&mut self, decision: Decision, spot: Spot, need: u32, name: u32)
+    /// Carries out the decision for the block of a singleblock carrier, and answers its units unless
+    /// it is to move.
+    fn resize_single(&mut self, decision: Decision, spot: Spot, need: u32, name: u32) -> Option<u32>
         requires block { IsSome (block_in (employed self.old) spot) }
         requires single { has_content spot.carrier self.old.contents ≡ false }
         requires decision { decision ≡ decision_at self.old spot need }
         requires even { need % 2 ≡ 0 }
         requires least { 6 ≤ need }
-        ensures { self.new ≡ resizing_at self.old spot need name }
+        ensures moves { IsNone result ↔ (decision ≡ Move) }
+        ensures size { IfSome result (λ units. units ≡ resized_to self.old spot need) }
+        ensures resized { self.new ≡ resizing_at self.old spot need name }
     {
         match decision {
-            Decision::Move => {}
+            Decision::Move => None,
             Decision::ShrinkCarrier { pages } => {
                 self.singles.resize(spot.carrier, need, name);
                 self.singles.shorten(spot.carrier, pages);
                 self.own.shorten(spot.carrier, pages);
+                Some(need)
             }
-            _ => self.singles.resize(spot.carrier, need, name),
+            _ => {
+                self.singles.resize(spot.carrier, need, name);
+                Some(need)
+            }
         }
     }
 
@@ -655,6 +662,19 @@ impl Instance {
         ensures rest { self.new ≡ dismissing self.old number }
     {
         self.singles.leave(number)
+    }
+
+    /// Drops the content of a carrier that it employs and that is to be deallocated. If it owns it,
+    /// it still does. It takes no memory.
+    pub fn dismiss(&mut self, number: u32)
+        requires { has_vacant number (employed self.old) ≡ true }
+        ensures { self.new ≡ dismissing self.old number }
+    {
+        if self.has_multi(number) {
+            self.carriers.leave(number);
+        } else {
+            self.singles.leave(number);
+        }
     }
 
     /// Deallocates a carrier that it owns and doesn't employ: its number and pages are free again.

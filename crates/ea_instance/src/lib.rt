@@ -11,11 +11,9 @@ mod figures;
 mod instance;
 mod lines;
 mod own;
-mod released;
 mod singles;
 mod strategies;
 mod walks;
 
 pub use ea_model::CarrierPlan;
 pub use instance::Instance;
-pub use released::Released;

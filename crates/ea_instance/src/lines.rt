@@ -27,16 +27,16 @@ fn goes_first(multis: &[Employed], m: usize, singles: &[Sbc], s: usize) -> bool
     multis[m].key() < singles[s].key()
 }
 
-/// The line of a singleblock carrier.
-pub fn single_line(carrier: &Sbc) -> CarrierLine
-    ensures { result ≡ carrier_line carrier.now }
+/// The line of a singleblock carrier that the instance employs.
+pub fn single_line(employer: u32, carrier: &Sbc) -> CarrierLine
+    ensures { result ≡ carrier_line employer carrier.now }
 {
     CarrierLine {
         number: carrier.number(),
         kind: Kind::Single,
         owner: carrier.owner(),
         word: Standing::Employed,
-        employer: carrier.owner(),
+        employer,
         base: carrier.base(),
         pages: carrier.units() / PAGE_UNITS,
         allocated: carrier.allocated(),
@@ -44,22 +44,29 @@ pub fn single_line(carrier: &Sbc) -> CarrierLine
     }
 }
 
-/// Adds the lines of all these carriers, by rising number. There is room for them.
-pub fn put_merged(multis: &[Employed], singles: &[Sbc], lines: &mut List<CarrierLine>)
+/// Adds the lines of all these carriers, which the instance employs, by rising number. There is room
+/// for them.
+pub fn put_merged(
+    employer: u32,
+    multis: &[Employed],
+    singles: &[Sbc],
+    lines: &mut List<CarrierLine>,
+)
     requires multis { IsRising multis.now }
     requires singles { IsRising singles.now }
     requires room { length multis.now + length singles.now ≤ lines.old.room }
     ensures { lines.new.items
-        ≡ lines.old.items ++ map carrier_line (merged number_of multis.now singles.now) }
+        ≡ lines.old.items
+        ++ map (carrier_line employer) (merged number_of multis.now singles.now) }
 {
     let mut m = 0;
     for k in 0..multis.len() + singles.len() {
         let s = k - m;
         if goes_first(multis, m, singles, s) {
-            lines.push_within(multis[m].line());
+            lines.push_within(multis[m].line(employer));
             m += 1;
         } else {
-            lines.push_within(single_line(&singles[s]));
+            lines.push_within(single_line(employer, &singles[s]));
         }
     }
 }

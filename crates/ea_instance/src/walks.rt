@@ -38,7 +38,7 @@ pub fn lowest_empty(need: u32, carriers: &[Employed]) -> Option<Choice>
 {
     let mut best = None;
     for (index, carrier) in carriers.iter().enumerate() {
-        if carrier.is_empty_multi() {
+        if carrier.is_vacant() {
             best = better_of(Inner::Aoff, best, carrier.choose(index, Inner::Aoff, need));
         }
     }

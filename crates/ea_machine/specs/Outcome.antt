@@ -48,7 +48,7 @@ pub record Present : Type 0 where
 
 -- its line
 abbrev pub line_of : Present → CarrierLine
-line_of p = record (carrier_line p.content) { word = p.word; employer = p.employer }
+line_of p = record (carrier_line p.employer p.content) { word = p.word }
 
 -- as a list of at most one
 abbrev pub present_if : Option Content → Standing → ℕ → List Present

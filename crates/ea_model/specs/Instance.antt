@@ -1,7 +1,7 @@
 -- An allocator instance: the carriers that it owns, those that it employs, and the carrier that it
 -- would create next.
 use Rattle.std.specs.Prelude.{ℕ, zero, suc, ◌+◌, ◌-◌, ◌*◌, ◌/◌, max, Bool, false, if◌then◌else◌, nat_lt, nat_le, List, [], ◌∷◌, Option, Some, None, Result, Ok, Err, filter, length, map, sum_by, option_map, is_some}
-use Rattle.std.specs.Option.{option_and_then}
+use Rattle.std.specs.Option.{option_and_then, option_map_or}
 use Rattle.ea_model.specs.declared.settings.Config.{Config}
 use Rattle.ea_model.specs.declared.settings.Letter.{Letter}
 use Rattle.ea_model.specs.declared.settings.Settings.{Settings}
@@ -25,7 +25,7 @@ use Rattle.ea_model.specs.declared.reallocation.Where.{Where}
 use Rattle.ea_model.specs.declared.reallocation.Where.TheVariants as whereabouts
 use Rattle.ea_model.specs.declared.entries.NoCarrier.{NoCarrier}
 use Rattle.ea_model.specs.declared.entries.NoCarrier.TheVariants.{Numbers, Space}
-use Rattle.ea_model.specs.Content.{Content, gaps_of, gap_at, gap_behind, block_at, size_of, taken_of, placed, released, resized, allocated, largest, free_units, is_multi}
+use Rattle.ea_model.specs.Content.{Content, gaps_of, gap_at, gap_behind, block_at, size_of, taken_of, placed, released, resized, allocated, largest, free_units, is_multi, is_vacant}
 use Rattle.ea_model.specs.Decision.{decision, size_after}
 use Rattle.ea_model.specs.Strategies.{choice_for, spot_of}
 use Rattle.ea_model.specs.Region.{runs, lowest_run, with_segment}
@@ -130,6 +130,10 @@ content_of cs number = item_at (λ c. c.number) cs number
 -- whether one of the contents has the number
 abbrev pub has_content : ℕ → List Content → Bool
 has_content number cs = is_some (content_of cs number)
+
+-- whether one of them has the number, and is to be deallocated
+abbrev pub has_vacant : ℕ → List Content → Bool
+has_vacant number cs = option_map_or is_vacant (content_of cs number) false
 
 -- how many multiblock carriers there are without the main one
 abbrev pub multis : List Content → ℕ
@@ -341,14 +345,14 @@ figures cs = record {
   carriers_size = sum_by (λ c. c.units) cs;
 }
 
--- a carrier that its owner employs, at the end of a run
-abbrev pub carrier_line : Content → CarrierLine
-carrier_line c = record {
+-- a carrier that an instance employs, at the end of a run
+abbrev pub carrier_line : ℕ → Content → CarrierLine
+carrier_line employer c = record {
   number = c.number;
   kind = c.kind;
   owner = c.owner;
   word = standing.Employed;
-  employer = c.owner;
+  employer = employer;
   base = c.base;
   pages = c.units / 512;
   allocated =

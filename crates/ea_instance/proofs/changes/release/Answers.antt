@@ -3,11 +3,10 @@ use Rattle.std.specs.Prelude.{Option, Some, None, IsSome, option_map}
 use Rattle.std.specs.Option.{option_and_then}
 use Rattle.std.proofs.lemmas.Grind.{get_or-set_at}
 use Rattle.ea_model.specs.declared.carriers.BlockAt.{BlockAt}
-use Rattle.ea_model.specs.Content.{Content, block_at, gap_before, gap_behind, gaps_of, largest, released, size_of}
+use Rattle.ea_model.specs.Content.{Content, block_at, gap_before, gap_behind, gaps_of, is_vacant, largest, released, size_of}
 use Rattle.ea_mbc.specs.Gaps.{GapsJoined}
 use Rattle.ea_model.proofs.Rising.{item_at-All}
 use Rattle.ea_laws.specs.Kept.{number_of, IsLaidOut}
-use Rattle.ea_instance.specs.Answers.{follow_up}
 use Rattle.ea_instance.proofs.Changed.{at_index, block-within, set_is_changed}
 use Rattle.ea_instance.proofs.changes.release.Goals as goal
 
@@ -82,5 +81,5 @@ returns-clause-ok c =
       largest = c.largest.ensures.units
           ∙ ap (λ m. largest (gaps_of m)) (c.employed.view_is ∙ now);
       joined = subst (λ m. GapsJoined m (f m) offset block.size) c.behind-carriers.view_is joined;
-      next = c.follow_up.ensures ∙ ap (λ m. follow_up (Some m)) now;
+      vacant = c.is_vacant.ensures.vacant ∙ ap is_vacant now;
     }

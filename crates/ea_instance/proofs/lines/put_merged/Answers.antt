@@ -16,35 +16,35 @@ loop-k-preserved c =
       | then-goes_first w ↦
           let first = subst (λ b. GoesFirst b ms m ss s) w.if-goes_first.true c.goes_first.ensures
           in
-          let more = more-left ms ss c.requires.multis c.requires.singles m s
+          let more = more-left c.args.employer ms ss c.requires.multis c.requires.singles m s
           w.index-multis-m.result first c.loop-k.lines.items w.push_within.new.self.items _
           w.line.result w.push_within.ensures.items
-          (w.line.ensures ∙ ap carrier_line w.index-multis-m.is) i.lines in
+          (w.line.ensures ∙ ap (carrier_line c.args.employer) w.index-multis-m.is) i.lines in
           record {
             multis = (
               omega (arith, i.multis.0, w.m-is),
               omega (arith, first.0, w.m-is),
             );
             singles = omega (arith, i.singles, w.m-is);
-            lines = lines-same ms ss _ _ _ _ _ _ _ (ap (λ l. l.items) w.lines-is) w.m-is
+            lines = lines-same c.args.employer ms ss _ _ _ _ _ _ _ (ap (λ l. l.items) w.lines-is) w.m-is
                 (omega (arith, w.m-is, i.multis.0)) more;
             room = omega (arith, i.room, w.push_within.ensures.room, ap (λ l. l.room) w.lines-is);
           }
       | else-goes_first w ↦
           let first = subst (λ b. GoesFirst b ms m ss s) w.if-goes_first.false
           c.goes_first.ensures in
-          let more = more-right ms ss c.requires.multis c.requires.singles m s
+          let more = more-right c.args.employer ms ss c.requires.multis c.requires.singles m s
           w.index-singles-s.result first c.loop-k.lines.items
           w.push_within-else-goes_first.new.self.items _ w.single_line.result
           w.push_within-else-goes_first.ensures.items
-          (w.single_line.ensures ∙ ap carrier_line w.index-singles-s.is) i.lines in
+          (w.single_line.ensures ∙ ap (carrier_line c.args.employer) w.index-singles-s.is) i.lines in
           record {
             multis = (
               omega (arith, i.multis.0, w.m-is),
               omega (arith, i.multis.1, w.m-is),
             );
             singles = omega (arith, first.0, i.multis.0, w.m-is);
-            lines = lines-same ms ss _ _ _ _ _ _ _ (ap (λ l. l.items) w.lines-is) w.m-is
+            lines = lines-same c.args.employer ms ss _ _ _ _ _ _ _ (ap (λ l. l.items) w.lines-is) w.m-is
                 (omega (arith, w.m-is, i.multis.0)) more;
             room = omega (
               arith,

@@ -11,7 +11,9 @@ invariant-loop-k l = record {
   multis : (l.m ≤ l.k) × (l.m ≤ length l.multis);
   singles : l.k ≤ l.m + length l.singles;
   lines : l.lines.items
-      ++ map carrier_line (merged number_of (drop l.m l.multis) (drop (l.k - l.m) l.singles))
-      ≡ l.initial.lines.items ++ map carrier_line (merged number_of l.multis l.singles);
+      ++ map (carrier_line l.employer)
+      (merged number_of (drop l.m l.multis) (drop (l.k - l.m) l.singles))
+      ≡ l.initial.lines.items
+      ++ map (carrier_line l.employer) (merged number_of l.multis l.singles);
   room : length l.multis + length l.singles ≤ l.k + l.lines.room;
 }

@@ -1,4 +1,6 @@
-use Rattle.std.proofs.Common.{arith, length, ℕ, ◌∙◌, ap, sym, subst}
+use Rattle.std.proofs.Common.{◌≡◌, arith, length, ℕ, ◌∙◌, ap, sym, subst}
+use Rattle.std.specs.Prelude.{IfSome}
+use Rattle.ea_model.specs.Instance.{content_of}
 use Rattle.ea_model.specs.Content.{Content, resized, taken_of}
 use Rattle.ea_cset.specs.Carriers.{is_held}
 use Rattle.ea_mbc.specs.Gaps.{room_at}
@@ -46,6 +48,14 @@ invariant_of-self c =
           resized-counted c.args.number c.args.offset units c.args.name _ _ _ laid w
           _ _ c.self.invariant.counted c.with_size-self-inside.ensures;
     }
+
+pub returns-clause-size : goal.returns-clause-size
+returns-clause-size c =
+    let w = c.grow-block.ensures.resized in
+    subst (λ o. IfSome o (λ m. c.grow-block.result.size
+    ≡ taken_of (room_at m c.args.offset) c.args.need))
+    (sym (ap (λ (l : CarrierList). content_of l.contents c.args.number) (sym c.self.view_is)
+    ∙ w.there)) w.block.size
 
 pub with_size-self-inside-requires : goal.with_size-self-inside-requires
 with_size-self-inside-requires c =

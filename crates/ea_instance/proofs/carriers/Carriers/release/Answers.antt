@@ -1,11 +1,12 @@
 use Rattle.std.proofs.Common.{arith, ◌∙◌, ap, sym, subst, refl}
-use Rattle.ea_model.specs.Content.{released}
+use Rattle.std.specs.Prelude.{false}
+use Rattle.std.specs.Option.{option_map_or}
+use Rattle.ea_model.specs.Content.{is_vacant, released}
 use Rattle.ea_model.specs.Instance.{content_of, figures}
 use Rattle.ea_model.proofs.Rising.{changed-found}
 use Rattle.ea_cset.specs.Carriers.{is_held}
 use Rattle.ea_laws.specs.Kept.{number_of}
 use Rattle.ea_laws.proofs.Changed.{released-keeps}
-use Rattle.ea_instance.specs.Answers.{follow_up}
 use Rattle.ea_instance.specs.Changes.{AreLaid}
 use Rattle.ea_instance.specs.Counted.{with_block}
 use Rattle.ea_instance.specs.Listed.{CarrierList}
@@ -60,10 +61,10 @@ invariant_of-self-2 c =
           w.size));
     }
 
-pub returns-clause-answer : goal.returns-clause-answer
-returns-clause-answer c =
+pub returns-clause-vacant : goal.returns-clause-vacant
+returns-clause-vacant c =
     let w = c.in_ok-joined.ensures.ok in
-    w.next
-    ∙ sym (ap follow_up (ap (λ cs. content_of cs c.args.number) w.is
+    w.vacant
+    ∙ sym (ap (λ o. option_map_or is_vacant o false) (ap (λ cs. content_of cs c.args.number) w.is
     ∙ changed-found number_of (λ m. released m c.args.offset) c.args.number (λ m. refl) w.content
     _ w.there))

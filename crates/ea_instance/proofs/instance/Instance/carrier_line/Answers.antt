@@ -1,6 +1,6 @@
 use Rattle.std.proofs.Common.{sym, ap, ◌∙◌}
 use Rattle.std.specs.Prelude.{Some, option_map}
-use Rattle.ea_model.specs.Instance.{carrier_line, content_of}
+use Rattle.ea_model.specs.Instance.{Instance, carrier_line, content_of}
 use Rattle.ea_instance.proofs.Keeping.{found-multi, found-single}
 use Rattle.ea_instance.proofs.instance.Instance.carrier_line.Goals as goal
 
@@ -9,8 +9,9 @@ returns-in-Some c =
     let number = c.args.carrier in
     let there = sym (c.item_of.ensures ∙ ap (λ cs. content_of cs number) c.as_slice.ensures)
     ∙ ap (option_map (λ x. x.now)) c.in-Some.is in
-    ap Some c.line.ensures
-    ∙ sym (ap (option_map carrier_line)
+    ap Some (c.line.ensures
+    ∙ ap (λ (i : Instance). carrier_line i.number c.in-Some.multi.now) c.self.view_is)
+    ∙ sym (ap (option_map (carrier_line c.args.self.now.number))
     (found-multi _ _ c.self.inside.own c.self.inside.carriers c.self.inside.singles
     c.self.inside.created c.self.invariant _ c.self.view_is number _ there))
 
@@ -22,8 +23,9 @@ returns-in-Some-item_of c =
     let second = sym (c.item_of-2.ensures
     ∙ ap (λ cs. content_of cs number) c.as_slice-2.ensures)
     ∙ ap (option_map (λ x. x.now)) c.in-Some-item_of.is in
-    ap Some c.single_line.ensures
-    ∙ sym (ap (option_map carrier_line)
+    ap Some (c.single_line.ensures
+    ∙ ap (λ (i : Instance). carrier_line i.number c.in-Some-item_of.single.now) c.self.view_is)
+    ∙ sym (ap (option_map (carrier_line c.args.self.now.number))
     (found-single _ _ c.self.inside.own c.self.inside.carriers c.self.inside.singles
     c.self.inside.created c.self.invariant _ c.self.view_is number none ∙ second))
 
@@ -35,6 +37,6 @@ returns-in-None c =
     let second = sym (c.item_of-2.ensures
     ∙ ap (λ cs. content_of cs number) c.as_slice-2.ensures)
     ∙ ap (option_map (λ x. x.now)) c.in-None.is in
-    sym (ap (option_map carrier_line)
+    sym (ap (option_map (carrier_line c.args.self.now.number))
     (found-single _ _ c.self.inside.own c.self.inside.carriers c.self.inside.singles
     c.self.inside.created c.self.invariant _ c.self.view_is number none ∙ second))

@@ -1,15 +1,15 @@
 use Rattle.std.proofs.Common.{◌≡◌, ◌∙◌, ap, refl, sym, subst}
-use Rattle.std.specs.Prelude.{[], IfSome, IsSome, Option, Some}
+use Rattle.std.specs.Option.{option_map_or}
+use Rattle.std.specs.Prelude.{false, [], IfSome, IsSome, Option, Some}
 use Rattle.ea_model.specs.declared.carriers.Kind.TheVariants.{Single}
-use Rattle.ea_model.specs.Content.{Content, released}
+use Rattle.ea_model.specs.Content.{Content, is_vacant, released}
 use Rattle.ea_model.specs.Instance.{block_in, content_of, employed, has_content}
 use Rattle.ea_model.proofs.Options.{some_value}
 use Rattle.ea_model.proofs.Rising.{changed-found, item_at-All}
 use Rattle.ea_laws.specs.Kept.{number_of, IsLaidOut, IsLaidOutAlone}
 use Rattle.ea_laws.proofs.Blocks.{releasing-gone, releasing-others}
-use Rattle.ea_instance.specs.Answers.{follow_up}
 use Rattle.ea_instance.specs.Listed.{CarrierList}
-use Rattle.ea_instance.proofs.Following.{shared-not_single, single-emptied, single-gone, some-content}
+use Rattle.ea_instance.proofs.Following.{shared-not_single, single-emptied, single-vacant, some-content}
 use Rattle.ea_instance.proofs.Keeping.{block-multi, block-single, found-multi, found-single, is-none, kept-released, kept-single-released, seen-released, seen-single-released}
 use Rattle.ea_instance.proofs.instance.Instance.release.Goals as goal
 
@@ -35,7 +35,7 @@ invariant_of-self-then-has_multi c =
     (ap (λ i. has_content spot.carrier i.contents) c.self.view_is
     ∙ sym c.has_multi.ensures ∙ c.if-has_multi.true) in
     kept-released _ _ c.self.inside.own c.self.inside.carriers c.self.inside.singles
-    c.self.inside.created c.self.invariant spot _ c.self.view_is x there _ c.in_ok-next.ensures.ok
+    c.self.inside.created c.self.invariant spot _ c.self.view_is x there _ c.in_ok-vacant.ensures.ok
 
 pub returns-then-has_multi-clause-ok : goal.returns-then-has_multi-clause-ok
 returns-then-has_multi-clause-ok c =
@@ -44,10 +44,10 @@ returns-then-has_multi-clause-ok c =
     (ap (λ i. has_content spot.carrier i.contents) c.self.view_is
     ∙ sym c.has_multi.ensures ∙ c.if-has_multi.true) in
     seen-released _ _ c.self.inside.own c.self.inside.carriers c.self.inside.singles
-    c.self.inside.created c.self.invariant spot _ c.self.view_is x there _ c.in_ok-next.ensures.ok
+    c.self.inside.created c.self.invariant spot _ c.self.view_is x there _ c.in_ok-vacant.ensures.ok
 
-pub returns-then-has_multi-clause-answer : goal.returns-then-has_multi-clause-answer
-returns-then-has_multi-clause-answer c =
+pub returns-then-has_multi-clause-vacant : goal.returns-then-has_multi-clause-vacant
+returns-then-has_multi-clause-vacant c =
     let spot = c.args.spot in
     let ks = c.self.inside.carriers in
     let (x, there) = some_value (content_of ks.contents spot.carrier)
@@ -55,12 +55,12 @@ returns-then-has_multi-clause-answer c =
     ∙ sym c.has_multi.ensures ∙ c.if-has_multi.true) in
     let f : Content → Content = λ y. released y spot.offset in
     let now : content_of c.release.new.self.contents spot.carrier ≡ Some (f x) =
-    ap (λ (l : CarrierList). content_of l.contents spot.carrier) c.in_ok-next.ensures.ok
+    ap (λ (l : CarrierList). content_of l.contents spot.carrier) c.in_ok-vacant.ensures.ok
     ∙ changed-found number_of f spot.carrier (λ y. refl) x ks.contents there in
     let kept = kept-released _ _ c.self.inside.own c.self.inside.carriers c.self.inside.singles
-    c.self.inside.created c.self.invariant spot _ c.self.view_is x there _ c.in_ok-next.ensures.ok in
-    c.in_ok-next.ensures.answer
-    ∙ ap follow_up (now ∙ sym (found-multi _ _ c.self.inside.own c.release.new.self
+    c.self.inside.created c.self.invariant spot _ c.self.view_is x there _ c.in_ok-vacant.ensures.ok in
+    c.in_ok-vacant.ensures.vacant
+    ∙ ap (λ o. option_map_or is_vacant o false) (now ∙ sym (found-multi _ _ c.self.inside.own c.release.new.self
     c.self.inside.singles c.self.inside.created kept _ refl spot.carrier (f x) now))
 
 pub returns-then-has_multi-clause-emptied : goal.returns-then-has_multi-clause-emptied
@@ -72,10 +72,10 @@ returns-then-has_multi-clause-emptied c =
     ∙ sym c.has_multi.ensures ∙ c.if-has_multi.true) in
     let f : Content → Content = λ y. released y spot.offset in
     let now : content_of c.release.new.self.contents spot.carrier ≡ Some (f x) =
-    ap (λ (l : CarrierList). content_of l.contents spot.carrier) c.in_ok-next.ensures.ok
+    ap (λ (l : CarrierList). content_of l.contents spot.carrier) c.in_ok-vacant.ensures.ok
     ∙ changed-found number_of f spot.carrier (λ y. refl) x ks.contents there in
     let kept = kept-released _ _ c.self.inside.own c.self.inside.carriers c.self.inside.singles
-    c.self.inside.created c.self.invariant spot _ c.self.view_is x there _ c.in_ok-next.ensures.ok in
+    c.self.inside.created c.self.invariant spot _ c.self.view_is x there _ c.in_ok-vacant.ensures.ok in
     let laid = item_at-All number_of IsLaidOut spot.carrier x ks.contents
     c.self.invariant.stands.sound there in
     subst IsEmptied
@@ -91,7 +91,7 @@ returns-then-has_multi-clause-gone c =
     ∙ sym c.has_multi.ensures ∙ c.if-has_multi.true) in
     ap (λ i. block_in (employed i) spot)
     (seen-released _ _ c.self.inside.own c.self.inside.carriers c.self.inside.singles
-    c.self.inside.created c.self.invariant spot _ c.self.view_is x there _ c.in_ok-next.ensures.ok)
+    c.self.inside.created c.self.invariant spot _ c.self.view_is x there _ c.in_ok-vacant.ensures.ok)
     ∙ releasing-gone c.args.self.now spot
 
 pub returns-then-has_multi-clause-others : goal.returns-then-has_multi-clause-others
@@ -102,7 +102,7 @@ returns-then-has_multi-clause-others c = λ at other.
     ∙ sym c.has_multi.ensures ∙ c.if-has_multi.true) in
     ap (λ i. block_in (employed i) at)
     (seen-released _ _ c.self.inside.own c.self.inside.carriers c.self.inside.singles
-    c.self.inside.created c.self.invariant spot _ c.self.view_is x there _ c.in_ok-next.ensures.ok)
+    c.self.inside.created c.self.invariant spot _ c.self.view_is x there _ c.in_ok-vacant.ensures.ok)
     ∙ releasing-others c.args.self.now spot at other
 
 pub release-requires-2-clause-block : goal.release-requires-2-clause-block
@@ -134,8 +134,8 @@ returns-clause-ok c =
     seen-single-released _ _ c.self.inside.own c.self.inside.carriers c.self.inside.singles
     c.self.inside.created c.self.invariant spot _ c.self.view_is none _ c.release-2.ensures
 
-pub returns-clause-answer : goal.returns-clause-answer
-returns-clause-answer c =
+pub returns-clause-vacant : goal.returns-clause-vacant
+returns-clause-vacant c =
     let spot = c.args.spot in
     let ss = c.self.inside.singles in
     let none = is-none (content_of c.self.inside.carriers.contents spot.carrier)
@@ -152,10 +152,10 @@ returns-clause-answer c =
     ∙ changed-found number_of f spot.carrier (λ x. refl) y ss there in
     let kept = kept-single-released _ _ c.self.inside.own c.self.inside.carriers c.self.inside.singles
     c.self.inside.created c.self.invariant spot _ c.self.view_is none _ c.release-2.ensures in
-    single-gone y spot.offset
+    single-vacant y spot.offset
     (item_at-All number_of IsLaidOutAlone spot.carrier y ss
     c.self.invariant.stands.alone there) block
-    ∙ ap follow_up (sym (found-single _ _ c.self.inside.own c.self.inside.carriers
+    ∙ ap (λ o. option_map_or is_vacant o false) (sym (found-single _ _ c.self.inside.own c.self.inside.carriers
     c.release-2.new.self c.self.inside.created kept _ refl spot.carrier none ∙ now))
 
 pub returns-clause-emptied : goal.returns-clause-emptied

@@ -1,9 +1,12 @@
-use Rattle.std.proofs.Common.{arith, ◌∙◌, ap}
+use Rattle.std.proofs.Common.{◌≡◌, subst, arith, ◌∙◌, ap}
 use Rattle.ea_model.specs.declared.reallocation.Decision.TheVariants.{GrowHere, ShrinkHere, Stay}
+use Rattle.std.specs.Prelude.{IfSome}
+use Rattle.ea_model.specs.Content.{taken_of}
+use Rattle.ea_mbc.specs.Gaps.{room_at}
 use Rattle.ea_model.specs.Instance.{content_of, has_content}
 use Rattle.ea_model.proofs.Options.{some_value}
 use Rattle.ea_instance.proofs.Keeping.{kept-few}
-use Rattle.ea_instance.proofs.Reallocating.{block-multi, grows-fits, grows-more, kept-multi, seen-multi, shrinks}
+use Rattle.ea_instance.proofs.Reallocating.{block-multi, grows-fits, grows-more, kept-multi, same-size, seen-multi, shrinks, told-multi}
 use Rattle.ea_instance.proofs.instance.Instance.resize_multi.Goals as goal
 
 pub rename-requires-clause-block : goal.rename-requires-clause-block
@@ -20,7 +23,7 @@ invariant_of-self c =
     kept-multi _ _ c.self.inside.own c.self.inside.carriers c.self.inside.singles c.self.inside.created
     c.self.invariant c.args.spot c.args.need _ c.self.view_is c.requires.block x there c.args.decision
     c.requires.decision c.args.name c.requires.least c.requires.even Stay c.in-Stay.is tt
-    c.rename.new.self c.rename.ensures
+    c.rename.new.self c.rename.ensures.renamed
 
 pub returns-in-Stay-clause-ok : goal.returns-in-Stay-clause-ok
 returns-in-Stay-clause-ok c =
@@ -29,7 +32,7 @@ returns-in-Stay-clause-ok c =
     seen-multi _ _ c.self.inside.own c.self.inside.carriers c.self.inside.singles c.self.inside.created
     c.self.invariant c.args.spot c.args.need _ c.self.view_is c.requires.block x there c.args.decision
     c.requires.decision c.args.name c.requires.least c.requires.even Stay c.in-Stay.is tt
-    c.rename.new.self c.rename.ensures
+    c.rename.new.self c.rename.ensures.renamed
 
 pub shrink-requires-clause-block : goal.shrink-requires-clause-block
 shrink-requires-clause-block c =
@@ -102,7 +105,7 @@ invariant_of-self-in-GrowHere c =
     kept-multi _ _ c.self.inside.own c.self.inside.carriers c.self.inside.singles c.self.inside.created
     c.self.invariant c.args.spot c.args.need _ c.self.view_is c.requires.block x there c.args.decision
     c.requires.decision c.args.name c.requires.least c.requires.even GrowHere c.in-GrowHere.is tt
-    c.grow.new.self c.grow.ensures
+    c.grow.new.self c.grow.ensures.grown
 
 pub returns-in-GrowHere-clause-ok : goal.returns-in-GrowHere-clause-ok
 returns-in-GrowHere-clause-ok c =
@@ -111,4 +114,28 @@ returns-in-GrowHere-clause-ok c =
     seen-multi _ _ c.self.inside.own c.self.inside.carriers c.self.inside.singles c.self.inside.created
     c.self.invariant c.args.spot c.args.need _ c.self.view_is c.requires.block x there c.args.decision
     c.requires.decision c.args.name c.requires.least c.requires.even GrowHere c.in-GrowHere.is tt
-    c.grow.new.self c.grow.ensures
+    c.grow.new.self c.grow.ensures.grown
+
+pub returns-in-Stay-clause-size : goal.returns-in-Stay-clause-size
+returns-in-Stay-clause-size c =
+    let (x, there) = some_value (content_of c.self.inside.carriers.contents c.args.spot.carrier)
+    (ap (λ i. has_content c.args.spot.carrier i.contents) c.self.view_is ∙ c.requires.multi) in
+    c.rename.ensures.size
+    ∙ same-size _ _ c.self.inside.own c.self.inside.carriers c.self.inside.singles
+    c.self.inside.created c.self.invariant c.args.spot c.args.need _ c.self.view_is
+    c.requires.block x there
+    ∙ told-multi _ _ c.self.inside.own c.self.inside.carriers c.self.inside.singles
+    c.self.inside.created c.self.invariant c.args.spot c.args.need _ c.self.view_is
+    c.requires.block x there c.args.decision c.requires.decision c.args.name c.requires.least
+    c.requires.even Stay c.in-Stay.is tt c.rename.new.self c.rename.ensures.renamed
+
+pub returns-in-GrowHere-clause-size : goal.returns-in-GrowHere-clause-size
+returns-in-GrowHere-clause-size c =
+    let (x, there) = some_value (content_of c.self.inside.carriers.contents c.args.spot.carrier)
+    (ap (λ i. has_content c.args.spot.carrier i.contents) c.self.view_is ∙ c.requires.multi) in
+    subst (λ o. IfSome o (λ m. c.grow.result
+    ≡ taken_of (room_at m c.args.spot.offset) c.args.need)) there c.grow.ensures.size
+    ∙ told-multi _ _ c.self.inside.own c.self.inside.carriers c.self.inside.singles
+    c.self.inside.created c.self.invariant c.args.spot c.args.need _ c.self.view_is
+    c.requires.block x there c.args.decision c.requires.decision c.args.name c.requires.least
+    c.requires.even GrowHere c.in-GrowHere.is tt c.grow.new.self c.grow.ensures.grown

@@ -75,8 +75,8 @@ invariant_of-self c =
     c.shorten-in-ShrinkCarrier.new.self c.shorten-in-ShrinkCarrier.ensures c.shorten.new.self
     c.shorten.ensures
 
-pub returns-in-ShrinkCarrier : goal.returns-in-ShrinkCarrier
-returns-in-ShrinkCarrier c =
+pub returns-in-ShrinkCarrier-clause-resized : goal.returns-in-ShrinkCarrier-clause-resized
+returns-in-ShrinkCarrier-clause-resized c =
     let none = is-none (content_of c.self.inside.carriers.contents c.args.spot.carrier)
     (ap (λ i. has_content c.args.spot.carrier i.contents) c.self.view_is ∙ c.requires.single) in
     seen-less _ _ c.self.inside.own c.self.inside.carriers c.self.inside.singles c.self.inside.created
@@ -114,8 +114,8 @@ invariant_of-self-in_default c =
     c.resize-in_default.new.self c.resize-in_default.ensures
     (in-place c.args.decision c.in_default.not-Move c.in_default.not-ShrinkCarrier)
 
-pub returns-in_default : goal.returns-in_default
-returns-in_default c =
+pub returns-in_default-clause-resized : goal.returns-in_default-clause-resized
+returns-in_default-clause-resized c =
     let none = is-none (content_of c.self.inside.carriers.contents c.args.spot.carrier)
     (ap (λ i. has_content c.args.spot.carrier i.contents) c.self.view_is ∙ c.requires.single) in
     seen-single _ _ c.self.inside.own c.self.inside.carriers c.self.inside.singles c.self.inside.created
