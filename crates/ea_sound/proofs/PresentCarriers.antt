@@ -1,11 +1,11 @@
 -- Where carriers don't migrate, those that are there are those that the instances employ.
-use Rattle.std.proofs.Common.{◌≡◌, ◌≢◌, ℕ, ◌+◌, true, false, List, [], ◌∷◌, ◌++◌, map, map-id}
-use Rattle.std.proofs.Common.{get_or, refl, sym, ap, ◌∙◌, subst, arith}
+use Rattle.std.proofs.Common.{◌≡◌, ◌≢◌, ℕ, ◌+◌, true, false, List, [], ◌∷◌, ◌++◌, map}
+use Rattle.std.proofs.Common.{refl, sym, ap, ◌∙◌, subst, arith}
 use Rattle.std.specs.Prelude.{Option, None, Some, All, filter, flat_map, is_some, not}
 use Rattle.std.specs.Option.{option_or}
 use Rattle.std.specs.List.{range_with_len}
 use Rattle.std.proofs.lemmas.Bool.{false≢true}
-use Rattle.std.proofs.lemmas.List.Elements.{All-head, All-tail, All-weaker}
+use Rattle.std.proofs.lemmas.List.Elements.{All-weaker}
 use Rattle.std.proofs.lemmas.List.Folds.{find-append, flat_map-map}
 use Rattle.ea_model.specs.declared.carriers.OwnCarrier.{OwnCarrier}
 use Rattle.ea_model.specs.declared.carriers.Standing.TheVariants as standing
@@ -36,7 +36,7 @@ use Rattle.ea_machine.specs.Sums.{sum_over}
 use Rattle.ea_sound.specs.Contents.{actor_sum, all_employed, seats}
 use Rattle.ea_sound.specs.Places.{none}
 use Rattle.ea_sound.specs.Present.{Fits, FitsRoute, Rule}
-use Rattle.ea_sound.specs.Rule.{Belongs, Standing, numbers_of, own_numbers}
+use Rattle.ea_sound.specs.Rule.{Standing, numbers_of, own_numbers}
 use Rattle.ea_sound.proofs.Created.{scheduler-number}
 use Rattle.ea_sound.proofs.Employers.{mine, mine-itself, mine-only, not-mine, nothing, nothing-only}
 use Rattle.ea_sound.proofs.KeyedWeights.{sum-item, sum-merged, sum-missing}
@@ -82,16 +82,10 @@ contents-home : (i : ℕ) (xs : List Content) → map (λ p. p.content) (map (at
 contents-home i [] = refl
 contents-home i (x ∷ xs) = ap (λ ys. x ∷ ys) (contents-home i xs)
 
-line-home : (i : ℕ) (x : Content) → x.owner ≡ i → line_of (at_home i x) ≡ carrier_line x
-line-home i x own = ap (λ k. line_of (at_home k x)) (sym own)
-
-lines-home : (i : ℕ) (xs : List Content) → All (λ x. x.owner ≡ i) xs
-    → map line_of (map (at_home i) xs) ≡ map carrier_line xs
-lines-home i [] own = refl
-lines-home i (x ∷ xs) own =
-    ap (λ l. l ∷ map line_of (map (at_home i) xs))
-    (line-home i x (All-head (λ x. x.owner ≡ i) x xs own))
-    ∙ ap (λ ls. carrier_line x ∷ ls) (lines-home i xs (All-tail (λ x. x.owner ≡ i) x xs own))
+lines-home : (i : ℕ) (xs : List Content)
+    → map line_of (map (at_home i) xs) ≡ map (carrier_line i) xs
+lines-home i [] = refl
+lines-home i (x ∷ xs) = ap (λ ls. carrier_line i x ∷ ls) (lines-home i xs)
 
 module _ (e : Setup) (w : State) (rule : Rule e w) (off : migration e ≡ false) where
   not_on : migration e ≡ true → ⊥
@@ -231,15 +225,6 @@ module _ (e : Setup) (w : State) (rule : Rule e w) (off : migration e ≡ false)
         (place c (numbered-owner i c (scheduler-number e i is).0 from below))
         ∙ shown c (content_of (employed j) c) (found c))
 
-    -- it owns them all
-    owned : All (λ x. x.owner ≡ i) (employed j)
-    owned k d within =
-        let x = get_or (employed j) k d in
-        let number = numbers k d within in
-        (merged-All number_of (Belongs e i) j.contents j.singles (rule.kept.ranges.contents i)
-        (rule.kept.ranges.singles i) k d within).owner
-        ∙ numbered-owner i x.number (scheduler-number e i is).0 number.0 number.1
-
   -- all carriers that are there, instance by instance
   pub present-all : present e w
       ≡ flat_map (λ i. map (at_home i) (employed (w.actors i).instance))
@@ -252,28 +237,30 @@ module _ (e : Setup) (w : State) (rule : Rule e w) (off : migration e ≡ false)
       (each-range e.schedulers _
       (λ i some most. present-scheduler i (number-scheduler e i (some, most))))
 
-  module _ {B : Type 0} (f : Present → B) (g : Content → B)
+  module _ {B : Type 0} (f : Present → B) (g : Actor → List B)
       (same : (i : ℕ) → is_scheduler e i ≡ true
-      → map f (map (at_home i) (employed (w.actors i).instance))
-      ≡ map g (employed (w.actors i).instance)) where
-    map-present : map f (present e w) ≡ map g (all_employed (actors_of e w))
+      → map f (map (at_home i) (employed (w.actors i).instance)) ≡ g (w.actors i)) where
+    map-present : map f (present e w) ≡ flat_map g (actors_of e w)
     map-present =
         let each = λ (i : ℕ). employed (w.actors i).instance in
         let seated = range_with_len 1 e.schedulers in
         ap (map f) present-all
         ∙ map-flat_map f (λ i. map (at_home i) (each i)) seated
-        ∙ flat_map-same (λ i. map f (map (at_home i) (each i))) (λ i. map g (each i)) seated
+        ∙ flat_map-same (λ i. map f (map (at_home i) (each i))) (λ i. g (w.actors i)) seated
         (each-range e.schedulers _ (λ i some most. same i (number-scheduler e i (some, most))))
-        ∙ sym (map-flat_map g each seated)
-        ∙ ap (map g) (sym (flat_map-map (λ (a : Actor). employed a.instance) w.actors seated))
+        ∙ sym (flat_map-map g w.actors seated)
 
   -- their contents are those that the schedulers employ
   pub present-contents : map (λ p. p.content) (present e w) ≡ all_employed (actors_of e w)
-  present-contents = map-present (λ p. p.content) (λ x. x)
-      (λ i is. contents-home i (employed (w.actors i).instance) ∙ sym (map-id _))
-      ∙ map-id (all_employed (actors_of e w))
+  present-contents = map-present (λ p. p.content) (λ (a : Actor). employed a.instance)
+      (λ i is. contents-home i (employed (w.actors i).instance))
 
-  -- and their lines are those of carriers with their owners
-  pub present-lines : map line_of (present e w) ≡ map carrier_line (all_employed (actors_of e w))
-  present-lines = map-present line_of carrier_line
-      (λ i is. lines-home i (employed (w.actors i).instance) (owned i is))
+  -- and their lines name these as their employers
+  pub present-lines : map line_of (present e w)
+      ≡ flat_map (λ (a : Actor). map (carrier_line a.instance.number) (employed a.instance))
+      (actors_of e w)
+  present-lines = map-present line_of
+      (λ (a : Actor). map (carrier_line a.instance.number) (employed a.instance))
+      (λ i is. lines-home i (employed (w.actors i).instance)
+      ∙ ap (λ n. map (carrier_line n) (employed (w.actors i).instance))
+      (sym (standing_at i is).number))
