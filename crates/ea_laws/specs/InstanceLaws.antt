@@ -6,7 +6,7 @@ use Rattle.ea_model.specs.declared.carriers.Spot.{Spot}
 use Rattle.ea_model.specs.declared.entries.NoCarrier.TheVariants.{Numbers, Space}
 use Rattle.ea_model.specs.declared.reallocation.Decision.TheVariants.{Move}
 use Rattle.ea_model.specs.declared.settings.Settings.{Settings}
-use Rattle.ea_model.specs.declared.units.TheConstants.{MAX_PAGES, MAX_SCHEDULERS}
+use Rattle.ea_model.specs.declared.units.TheConstants.{MAX_PAGES, MAX_SCHEDULERS, MIN_BLOCK}
 use Rattle.ea_model.specs.Content.{Content, is_vacant}
 use Rattle.ea_model.specs.Instance.{Instance, block_in, chosen_spot, clearing, content_of, creating, creating_single, decision_at, employed, least_pages, new_instance, own_of, place_at, placing_at, plan, releasing_at, resized_to, resizing_at, segments, single_place}
 use Rattle.ea_model.specs.Region.{runs}
@@ -33,7 +33,7 @@ StandsInOrder = (i : Instance) → Stands i → IsInOrder i
 
 -- a block at the chosen spot, of a need as requests have it
 abbrev pub Places : Type 0
-Places = (i : Instance) (need name : ℕ) (spot : Spot) → Stands i → 6 ≤ need → need % 2 ≡ 0
+Places = (i : Instance) (need name : ℕ) (spot : Spot) → Stands i → MIN_BLOCK ≤ need → need % 2 ≡ 0
     → chosen_spot i need ≡ Some spot
     → Stands (placing_at i spot need name)
     × IsPlaced (employed i) (employed (placing_at i spot need name)) name (place_at i spot need)
@@ -59,14 +59,14 @@ Creates = (i : Instance) (need : ℕ) (p : CarrierPlan) → Stands i → plan i 
 
 -- a planned singleblock carrier comes with its block
 abbrev pub CreatesSingle : Type 0
-CreatesSingle = (i : Instance) (need name : ℕ) (p : CarrierPlan) → Stands i → 6 ≤ need
+CreatesSingle = (i : Instance) (need name : ℕ) (p : CarrierPlan) → Stands i → MIN_BLOCK ≤ need
     → need % 2 ≡ 0 → plan i need ≡ Ok p
     → Stands (creating_single i p need name)
     × IsPlaced (employed i) (employed (creating_single i p need name)) name (single_place p need)
 
 -- a block that isn't to move has the units that are decided and the new name, and other blocks stay
 abbrev pub Resizes : Type 0
-Resizes = (i : Instance) (spot : Spot) (need name : ℕ) → Stands i → 6 ≤ need → need % 2 ≡ 0
+Resizes = (i : Instance) (spot : Spot) (need name : ℕ) → Stands i → MIN_BLOCK ≤ need → need % 2 ≡ 0
     → IsSome (block_in (employed i) spot) → decision_at i spot need ≢ Move
     → Stands (resizing_at i spot need name)
     × (block_in (employed (resizing_at i spot need name)) spot

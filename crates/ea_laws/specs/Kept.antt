@@ -5,7 +5,7 @@ use Rattle.ea_model.specs.declared.carriers.BlockAt.{BlockAt}
 use Rattle.ea_model.specs.declared.carriers.Kind.TheVariants.{Single}
 use Rattle.ea_model.specs.declared.carriers.OwnCarrier.{OwnCarrier}
 use Rattle.ea_model.specs.declared.settings.Settings.{Settings}
-use Rattle.ea_model.specs.declared.units.TheConstants.{MAX_PAGES, MAX_SCHEDULERS, MAX_UNITS, NUMBERS}
+use Rattle.ea_model.specs.declared.units.TheConstants.{HEADER_UNITS, MAX_PAGES, MAX_SCHEDULERS, MAX_UNITS, MIN_BLOCK, NUMBERS, PAGE_UNITS}
 use Rattle.ea_model.specs.Content.{Content, Tiled}
 use Rattle.ea_model.specs.Keyed.{IsBelow}
 use Rattle.ea_model.specs.Settings.{IsValid}
@@ -35,25 +35,25 @@ HasPages o = 1 ≤ o.pages
 
 -- a carrier has whole pages, one at least
 abbrev pub IsWhole : Content → Type 0
-IsWhole c = (c.units % 512 ≡ 0) × (1 ≤ c.units / 512)
+IsWhole c = (c.units % PAGE_UNITS ≡ 0) × (1 ≤ c.units / PAGE_UNITS)
 
 -- a carrier ends within the largest super carrier
 abbrev pub IsLow : Content → Type 0
-IsLow c = 512 * c.base + c.units ≤ MAX_UNITS
+IsLow c = PAGE_UNITS * c.base + c.units ≤ MAX_UNITS
 
 -- a carrier has whole pages, may have many blocks, these lie in order, and it lies low enough
 pub record IsLaidOut (c : Content) : Type 0 where
   pub whole : IsWhole c
   pub shared : is_shared c.kind ≡ true
-  pub tiled : Tiled 8 c.units c.blocks
+  pub tiled : Tiled HEADER_UNITS c.units c.blocks
   pub low : IsLow c
 
 -- a singleblock carrier of that many units has one block, directly behind its header, and none once
 -- that was released
 abbrev pub HasOneBlock : ℕ → List BlockAt → Type 0
 HasOneBlock units [] = Unit {0}
-HasOneBlock units (b ∷ []) = (b.offset ≡ 8) × (6 ≤ b.size) × (b.size % 2 ≡ 0)
-    × (8 + b.size ≤ units)
+HasOneBlock units (b ∷ []) = (b.offset ≡ HEADER_UNITS) × (MIN_BLOCK ≤ b.size) × (b.size % 2 ≡ 0)
+    × (HEADER_UNITS + b.size ≤ units)
 HasOneBlock units (b ∷ c ∷ bs) = ⊥
 
 -- a singleblock carrier has whole pages and its block, and lies low enough
@@ -65,7 +65,7 @@ pub record IsLaidOutAlone (c : Content) : Type 0 where
 
 -- two carriers have no unit in common
 abbrev pub ContentsApart : Content → Content → Type 0
-ContentsApart c d = AreApart (512 * c.base) c.units (512 * d.base) d.units
+ContentsApart c d = AreApart (PAGE_UNITS * c.base) c.units (PAGE_UNITS * d.base) d.units
 
 -- the carriers that instance `number` owns, whose region has the pages from `first` up to `end`:
 -- their numbers rise and are the instance's own, and their segments lie in the region, which ends
@@ -75,7 +75,7 @@ pub record IsKept (settings : Settings) (number first end : ℕ) (own : List Own
     pub valid : IsValid settings
     pub instance : (1 ≤ number) × (number ≤ MAX_SCHEDULERS)
     pub rising : IsRisingOwn own
-    pub numbers : All (HasNumberIn (first_number number) (first_number number + 256)) own
+    pub numbers : All (HasNumberIn (first_number number) (first_number number + NUMBERS)) own
     pub pages : All HasPages own
     pub within : end ≤ MAX_PAGES
     pub laid : Laid first end (segments own)

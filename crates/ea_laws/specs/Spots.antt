@@ -3,6 +3,7 @@ use Rattle.std.specs.Prelude.{◌≡◌, ◌≢◌, ℕ, ◌+◌, ◌<◌, ◌�
 use Rattle.ea_model.specs.declared.carriers.Spot.{Spot}
 use Rattle.ea_model.specs.declared.carriers.Place.{Place}
 use Rattle.ea_model.specs.declared.settings.Settings.{Settings}
+use Rattle.ea_model.specs.declared.units.TheConstants.{NUMBERS}
 use Rattle.ea_model.specs.Content.{Content, gaps_of, gap_at, is_empty_multi}
 use Rattle.ea_model.specs.Strategies.{candidates, inspected_by, may_miss}
 use Rattle.ea_model.specs.Instance.{Instance, content_of, block_in, first_number, is_used}
@@ -38,5 +39,5 @@ FindsNone s need cs =
 
 -- all carrier numbers of the instance are in use
 abbrev pub AllUsed : Instance → Type 0
-AllUsed i = (n : ℕ) → first_number i.number ≤ n → n < first_number i.number + 256
+AllUsed i = (n : ℕ) → first_number i.number ≤ n → n < first_number i.number + NUMBERS
     → is_used n i.own ≡ true

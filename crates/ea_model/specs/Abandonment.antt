@@ -1,6 +1,7 @@
 -- When a carrier is abandoned into the pool.
 use Rattle.std.specs.Prelude.{ℕ, ◌*◌, Bool, ◌&&◌, not, nat_lt, nat_le, List}
 use Rattle.ea_model.specs.declared.settings.Settings.{Settings}
+use Rattle.ea_model.specs.declared.units.TheConstants.{UNIT_BYTES}
 use Rattle.ea_model.specs.Content.{Content, allocated, gaps_of, is_multi, is_nil, largest}
 use Rattle.ea_model.specs.Instance.{figures}
 
@@ -18,7 +19,7 @@ are_sparse s xs = is_sparse s (figures xs).blocks_size (figures xs).carriers_siz
 
 -- whether the largest gap has at least acfml bytes
 abbrev pub has_large_gap : Settings → Content → Bool
-has_large_gap s x = nat_le s.acfml (8 * largest (gaps_of x))
+has_large_gap s x = nat_le s.acfml (UNIT_BYTES * largest (gaps_of x))
 
 -- whether a carrier of these, which an instance employs, is abandoned after a release: it isn't the
 -- main one and not empty; it is sparse, and all of them together are; and its largest gap is large

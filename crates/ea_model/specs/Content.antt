@@ -6,6 +6,7 @@ use Rattle.ea_model.specs.declared.carriers.Kind.TheVariants.{Main, Multi, Singl
 use Rattle.ea_model.specs.declared.carriers.BlockAt.{BlockAt}
 use Rattle.ea_model.specs.declared.carriers.Block.{Block}
 use Rattle.ea_model.specs.declared.carriers.Gap.{Gap}
+use Rattle.ea_model.specs.declared.units.TheConstants.{HEADER_UNITS, MIN_BLOCK}
 use Rattle.ea_model.specs.Keyed.{item_at, entered, without, changed_at}
 
 -- a carrier: what it is, where it lies, and its blocks by rising offset; base counts pages, and
@@ -30,7 +31,7 @@ gaps at end (b ∷ bs) = gap at b.offset ++ gaps (b.offset + b.size) end bs
 
 -- the gaps of a carrier, by rising offset; its first 8 units are its header
 abbrev pub gaps_of : Content → List Gap
-gaps_of c = gaps 8 c.units c.blocks
+gaps_of c = gaps HEADER_UNITS c.units c.blocks
 
 -- the units of all blocks
 abbrev pub allocated : List BlockAt → ℕ
@@ -79,7 +80,7 @@ named b = record { name = b.name; size = b.size }
 
 -- the units that a block of this need takes of a gap: a rest of fewer than 6 stays in the block
 abbrev pub taken_of : ℕ → ℕ → ℕ
-taken_of g need = if nat_le 6 (g - need) then need else g
+taken_of g need = if nat_le MIN_BLOCK (g - need) then need else g
 
 -- x among the blocks, by its offset
 abbrev pub inserted : BlockAt → List BlockAt → List BlockAt
@@ -137,11 +138,11 @@ is_vacant c = can_go c.kind && is_nil c.blocks
 -- a gap is empty, or has an even number of units, 6 at least
 pub record IsGapSize (n : ℕ) : Type 0 where
   pub even : n % 2 ≡ 0
-  pub whole : 0 < n → 6 ≤ n
+  pub whole : 0 < n → MIN_BLOCK ≤ n
 
 -- the blocks lie one after another from `at` up to `end`, even and of 6 units at least, with whole
 -- gaps between them
 abbrev pub Tiled : ℕ → ℕ → List BlockAt → Type 0
 Tiled at end [] = (at ≤ end) × IsGapSize (end - at)
-Tiled at end (b ∷ bs) = (at ≤ b.offset) × IsGapSize (b.offset - at) × (6 ≤ b.size)
+Tiled at end (b ∷ bs) = (at ≤ b.offset) × IsGapSize (b.offset - at) × (MIN_BLOCK ≤ b.size)
     × (b.size % 2 ≡ 0) × Tiled (b.offset + b.size) end bs

@@ -25,6 +25,7 @@ use Rattle.ea_model.specs.declared.reallocation.Where.{Where}
 use Rattle.ea_model.specs.declared.reallocation.Where.TheVariants as whereabouts
 use Rattle.ea_model.specs.declared.entries.NoCarrier.{NoCarrier}
 use Rattle.ea_model.specs.declared.entries.NoCarrier.TheVariants.{Numbers, Space}
+use Rattle.ea_model.specs.declared.units.TheConstants.{HEADER_UNITS, NUMBERS, PAGE_UNITS}
 use Rattle.ea_model.specs.Content.{Content, gaps_of, gap_at, gap_behind, block_at, size_of, taken_of, placed, released, resized, allocated, largest, free_units, is_multi, is_vacant}
 use Rattle.ea_model.specs.Decision.{decision, size_after}
 use Rattle.ea_model.specs.Strategies.{choice_for, spot_of}
@@ -47,7 +48,7 @@ pub record Instance : Type 0 where
 
 -- the first of the 256 carrier numbers of an instance
 abbrev pub first_number : ℕ → ℕ
-first_number instance = 256 * (instance - 1) + 1
+first_number instance = NUMBERS * (instance - 1) + 1
 
 -- a new carrier; a page has 512 units
 abbrev pub created_content : ℕ → Kind → CarrierPlan → Content
@@ -56,7 +57,7 @@ created_content instance kind p = record {
   owner = instance;
   base = p.base;
   birth = p.birth;
-  units = 512 * p.pages;
+  units = PAGE_UNITS * p.pages;
   kind = kind;
   blocks = [];
 }
@@ -81,7 +82,7 @@ main_carriers s instance first = if nat_lt 0 s.mmbcs then main_content s instanc
 
 -- what its owner knows of a carrier; a page has 512 units
 abbrev pub own_of : Content → OwnCarrier
-own_of c = record { number = c.number; base = c.base; pages = c.units / 512 }
+own_of c = record { number = c.number; base = c.base; pages = c.units / PAGE_UNITS }
 
 -- an instance before its first operation
 abbrev pub new_instance : Settings → ℕ → ℕ → ℕ → Instance
@@ -147,7 +148,7 @@ growth s n = if nat_le n s.mbcgs then s.smbcs + n * (max s.lmbcs s.smbcs - s.smb
 
 -- the pages of the least carrier that holds a block of this need, and of the next one
 abbrev pub least_pages : ℕ → ℕ
-least_pages need = pages_for (8 + need)
+least_pages need = pages_for (HEADER_UNITS + need)
 
 abbrev pub next_pages : Instance → ℕ → ℕ
 next_pages i need = max (least_pages need) (pages_for (growth i.settings (multis i.contents)))
@@ -189,7 +190,7 @@ numbered_plan i need (Some number) = sized_plan i need number (free_run i (wante
 
 -- the carrier that would be created for a block of this need, or why there is none
 abbrev pub plan : Instance → ℕ → Result CarrierPlan NoCarrier
-plan i need = numbered_plan i need (unused_from 256 (first_number i.number) i.own)
+plan i need = numbered_plan i need (unused_from NUMBERS (first_number i.number) i.own)
 
 -- the contents with one more, by its number
 abbrev pub with_content : Content → List Content → List Content
@@ -214,12 +215,12 @@ creating i p = record i {
 abbrev pub created_single : ℕ → CarrierPlan → ℕ → ℕ → Content
 created_single instance p size name =
     record (created_content instance Single p) {
-      blocks = record { name = name; offset = 8; size = size } ∷ [];
+      blocks = record { name = name; offset = HEADER_UNITS; size = size } ∷ [];
     }
 
 -- the place of its block
 abbrev pub single_place : CarrierPlan → ℕ → Place
-single_place p size = record { carrier = p.number; offset = 8; size = size }
+single_place p size = record { carrier = p.number; offset = HEADER_UNITS; size = size }
 
 -- the instance that owns and employs the singleblock carrier of a plan, with a block of this need
 abbrev pub creating_single : Instance → CarrierPlan → ℕ → ℕ → Instance
@@ -318,7 +319,7 @@ resized_in i spot size name = changing i (λ c. resized c spot.offset size name)
 abbrev pub shortened : Instance → ℕ → ℕ → Instance
 shortened i number pages = record i {
   own = changed_at (λ o. o.number) (λ o. record o { pages = pages }) number i.own;
-  singles = changed (λ c. record c { units = 512 * pages }) number i.singles;
+  singles = changed (λ c. record c { units = PAGE_UNITS * pages }) number i.singles;
 }
 
 -- a decision is carried out; where the block is to move nothing is done
@@ -354,7 +355,7 @@ carrier_line employer c = record {
   word = standing.Employed;
   employer = employer;
   base = c.base;
-  pages = c.units / 512;
+  pages = c.units / PAGE_UNITS;
   allocated =
       allocated c.blocks;
   largest = largest (gaps_of c);
@@ -370,7 +371,7 @@ totals cs = record {
       (λ c. allocated c.blocks) cs;
   queued = 0;
   free = sum_by (λ c. free_units (gaps_of c)) cs;
-  header = 8 * length cs;
+  header = HEADER_UNITS * length cs;
 }
 
 -- instance 1 of an allocator, as the configuration makes it

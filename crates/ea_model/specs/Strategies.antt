@@ -14,6 +14,7 @@ use Rattle.ea_model.specs.Content.{Content, gaps_of, is_empty_multi}
 use Rattle.ea_model.specs.Choice.{first, less}
 use Rattle.ea_model.specs.GoodFit.{is_inspected}
 use Rattle.ea_model.specs.declared.settings.Settings.{Settings}
+use Rattle.ea_model.specs.declared.units.TheConstants.{PAGE_UNITS}
 
 -- a gap of a carrier; a page has 512 units
 abbrev pub candidate : Content → Gap → Candidate
@@ -22,7 +23,7 @@ candidate c g = record {
   base = c.base;
   birth = c.birth;
   offset = g.offset;
-  address = 512 * c.base + g.offset;
+  address = PAGE_UNITS * c.base + g.offset;
   size = g.size;
 }
 

@@ -1,5 +1,6 @@
 -- Units of 8 bytes.
-use Rattle.std.specs.Prelude.{ℕ, ◌+◌, ◌/◌, ◌%◌, max}
+use Rattle.std.specs.Prelude.{ℕ, ◌+◌, ◌-◌, ◌/◌, ◌%◌, max}
+use Rattle.ea_model.specs.declared.units.TheConstants.{MIN_BLOCK, PAGE_UNITS, UNIT_BYTES}
 
 -- n rounded up to an even number
 abbrev pub even : ℕ → ℕ
@@ -8,8 +9,8 @@ even n = n + n % 2
 -- the units of a request: a header of one unit and the bytes in whole units, an even number and 6
 -- at least
 abbrev pub need_of : ℕ → ℕ
-need_of bytes = max 6 (even (1 + (bytes + 7) / 8))
+need_of bytes = max MIN_BLOCK (even (1 + (bytes + (UNIT_BYTES - 1)) / UNIT_BYTES))
 
 -- the pages that hold that many units
 abbrev pub pages_for : ℕ → ℕ
-pages_for units = (units + 511) / 512
+pages_for units = (units + (PAGE_UNITS - 1)) / PAGE_UNITS

@@ -242,25 +242,24 @@ module _ (e : Setup) (w : State) (rule : Rule e w) (off : migration e ≡ false)
       → map f (map (at_home i) (employed (w.actors i).instance)) ≡ g (w.actors i)) where
     map-present : map f (present e w) ≡ flat_map g (actors_of e w)
     map-present =
-        let each = λ (i : ℕ). employed (w.actors i).instance in
+        let home = λ (i : ℕ). map (at_home i) (employed (w.actors i).instance) in
         let seated = range_with_len 1 e.schedulers in
         ap (map f) present-all
-        ∙ map-flat_map f (λ i. map (at_home i) (each i)) seated
-        ∙ flat_map-same (λ i. map f (map (at_home i) (each i))) (λ i. g (w.actors i)) seated
+        ∙ map-flat_map f home seated
+        ∙ flat_map-same (λ i. map f (home i)) (λ i. g (w.actors i)) seated
         (each-range e.schedulers _ (λ i some most. same i (number-scheduler e i (some, most))))
         ∙ sym (flat_map-map g w.actors seated)
 
   -- their contents are those that the schedulers employ
   pub present-contents : map (λ p. p.content) (present e w) ≡ all_employed (actors_of e w)
-  present-contents = map-present (λ p. p.content) (λ (a : Actor). employed a.instance)
+  present-contents = map-present (λ p. p.content) (λ a. employed a.instance)
       (λ i is. contents-home i (employed (w.actors i).instance))
 
-  -- and their lines name these as their employers
+  -- and their lines are those of carriers with their employers
   pub present-lines : map line_of (present e w)
-      ≡ flat_map (λ (a : Actor). map (carrier_line a.instance.number) (employed a.instance))
-      (actors_of e w)
+      ≡ flat_map (λ a. map (carrier_line a.instance.number) (employed a.instance)) (actors_of e w)
   present-lines = map-present line_of
-      (λ (a : Actor). map (carrier_line a.instance.number) (employed a.instance))
-      (λ i is. lines-home i (employed (w.actors i).instance)
-      ∙ ap (λ n. map (carrier_line n) (employed (w.actors i).instance))
-      (sym (standing_at i is).number))
+      (λ a. map (carrier_line a.instance.number) (employed a.instance))
+      (λ i is. let j = (w.actors i).instance in
+      lines-home i (employed j)
+      ∙ ap (λ n. map (carrier_line n) (employed j)) (sym (rule.kept.ranges.instances i is).number))

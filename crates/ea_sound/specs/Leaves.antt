@@ -2,6 +2,7 @@
 use Rattle.std.specs.Prelude.{◌≡◌, ◌≢◌, ℕ, ◌%◌, ◌<◌, ◌≤◌, Bool, true, false, None, Some, Ok}
 use Rattle.ea_model.specs.declared.carriers.CarrierPlan.{CarrierPlan}
 use Rattle.ea_model.specs.declared.carriers.Spot.{Spot}
+use Rattle.ea_model.specs.declared.units.TheConstants.{MIN_BLOCK}
 use Rattle.ea_model.specs.Content.{Content, is_nil, released}
 use Rattle.ea_model.specs.Instance.{chosen_spot, creating, creating_single, placing_at, plan, single_place}
 use Rattle.ea_machine.specs.declared.nodes.Node.TheVariants.{Carrier}
@@ -62,7 +63,7 @@ module _ (e : Setup) (w : State) (s : Shared) (me : ℕ) where
   -- what is asked for has a fresh name and may be placed, and the old block is held
   pub record Wanted (a : Actor) (ask : Ask) : Type 0 where
     pub fresh : IsFresh ask.name (at Begin a)
-    pub least : 6 ≤ ask.need
+    pub least : MIN_BLOCK ≤ ask.need
     pub even : ask.need % 2 ≡ 0
     pub old : OldHeld ask.old a.held
 

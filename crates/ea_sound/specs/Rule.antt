@@ -4,6 +4,7 @@ use Rattle.std.specs.Prelude.{◌≡◌, ◌≢◌, ℕ, ◌+◌, ◌*◌, ◌/�
 use Rattle.ea_model.specs.declared.carriers.Kind.TheVariants.{Multi}
 use Rattle.ea_model.specs.declared.carriers.OwnCarrier.{OwnCarrier}
 use Rattle.ea_model.specs.declared.carriers.Spot.{Spot}
+use Rattle.ea_model.specs.declared.units.TheConstants.{PAGE_UNITS}
 use Rattle.ea_model.specs.Content.{Content, gaps_of, largest}
 use Rattle.ea_model.specs.Instance.{Instance}
 use Rattle.ea_laws.specs.Kept.{IsLaidOut}
@@ -90,7 +91,7 @@ abbrev pub of_owner : (ℕ → ℕ → ℕ → ℕ → ℕ) → Content → ℕ
 of_owner m x = m x.owner x.number x.base x.units
 
 abbrev pub of_own : (ℕ → ℕ → ℕ → ℕ → ℕ) → ℕ → Actor → ℕ
-of_own m i a = sum_over (λ (o : OwnCarrier). m i o.number o.base (512 * o.pages)) a.instance.own
+of_own m i a = sum_over (λ (o : OwnCarrier). m i o.number o.base (PAGE_UNITS * o.pages)) a.instance.own
 
 -- each content is where its carrier's word says, and the own carriers of the instances are those of
 -- all contents
@@ -127,7 +128,7 @@ pub record HasNoCarrier (a : Actor) : Type 0 where
 pub record Belongs (e : Setup) (i : ℕ) (x : Content) : Type 0 where
   pub owner : x.owner ≡ owner_of x.number
   pub low : first_page e x.owner ≤ x.base
-  pub high : x.base + x.units / 512 ≤ first_page e x.owner + e.pages
+  pub high : x.base + x.units / PAGE_UNITS ≤ first_page e x.owner + e.pages
   pub stays : IsMultiOrOwn i x
 
 -- where contents lie, and what is in them

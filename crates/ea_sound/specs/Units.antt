@@ -1,6 +1,7 @@
 -- The units of all carriers.
 use Rattle.std.specs.Prelude.{◌≡◌, ℕ, ◌+◌, ◌==◌, if◌then◌else◌}
 use Rattle.ea_model.specs.declared.carriers.Spot.{Spot}
+use Rattle.ea_model.specs.declared.units.TheConstants.{HEADER_UNITS}
 use Rattle.ea_model.specs.Content.{Content, block_at, free_units, gaps_of, size_of}
 use Rattle.ea_machine.specs.Setup.{Setup}
 use Rattle.ea_machine.specs.State.{State}
@@ -33,7 +34,7 @@ gap_units setup state = sum_everywhere setup (λ x. free_units (gaps_of x)) stat
 
 -- of headers, 8 each
 abbrev pub header_units : Setup → State → ℕ
-header_units setup state = sum_everywhere setup (λ x. 8) state
+header_units setup state = sum_everywhere setup (λ x. HEADER_UNITS) state
 
 -- of all carriers
 abbrev pub carrier_units : Setup → State → ℕ
