@@ -8,7 +8,7 @@ use std::alloc::Global;
 use std::thread::Threads;
 
 /// The bytes that a sink of a case has room for.
-const ROOM: usize = 1000;
+const ROOM: usize = 40_000;
 
 /// The most words of a case.
 const MOST_WORDS: usize = 100;
@@ -19,7 +19,7 @@ pub struct Case<'a> {
     /// The words of the command line, spaces between them. `''` is the empty word.
     pub words: &'a str,
     /// The bytes of the source.
-    pub input: &'a str,
+    pub input: &'a [u8],
     /// The most bytes of each read and each write. 0 counts as 1.
     pub piece: usize,
     /// The reads that fail, from 1.
@@ -33,7 +33,7 @@ pub struct Case<'a> {
 /// No words and no bytes, in pieces of 16 bytes, and no call fails.
 pub const PLAIN: Case = Case {
     words: "",
-    input: "",
+    input: b"",
     piece: 16,
     failing_reads: &[],
     failing_writes: &[],
@@ -85,7 +85,7 @@ impl Case<'_> {
         ensures { IfOk result (λ ran. ran.status ≤ 6) }
     {
         let mut source = MemSource::new(
-            list(alloc, self.input.as_bytes())?,
+            list(alloc, self.input)?,
             self.piece.max(1),
             list(alloc, self.failing_reads)?,
         );

@@ -6,7 +6,7 @@ use std::thread::Threads;
 
 const WORDS: &str = "+MMscs 1 +MHacul 0";
 
-const INPUT: &str = "type H\nscheduler 1\nalloc 1 100\nschedule\nend\n";
+const INPUT: &[u8] = b"type H\nscheduler 1\nalloc 1 100\nschedule\nend\n";
 
 const TEXT: &str = "scheduler 1\nalloc 1 1 8 14\n\
     carrier 1 multi owner 1 employed 1 base 0 pages 64 allocated 14 largest 32746\n\
@@ -97,7 +97,7 @@ fn an_error_line_ends_where_its_write_fails(rt: HostRuntime) -> Result<(), Fail>
         ),
         (
             Case {
-                input: "end\n",
+                input: b"end\n",
                 ..GOOD
             },
             (2, "", "erts_alloc_run: line 1: syntax\n"),
