@@ -1,12 +1,17 @@
 -- Each take of a text is noted, and its name is given to its scheduler if none is unaddressed.
-use Rattle.std.proofs.Common.{◌≡◌, ℕ, ◌+◌, ◌-◌, ◌<◌, Bool, true, false, ◌||◌, ◌&&◌, not, ◌==◌, List, [], ◌∷◌, None, reverse, refl, sym, subst, ◌∙◌, arith}
+use Rattle.std.proofs.Common.{◌≡◌, ℕ, ◌+◌, ◌-◌, ◌<◌, Bool, true, false, ◌||◌, ◌&&◌, not, ◌==◌, List}
+use Rattle.std.proofs.Common.{[], ◌∷◌, None, reverse, refl, sym, subst, ◌∙◌, arith}
 use Rattle.std.specs.List.{find, list_any}
 use Rattle.std.proofs.lemmas.List.Folds.{list_any-append}
 use Rattle.ea_model.specs.Trace.{takes, text_at}
 use Rattle.ea_model.specs.declared.operations.Op.{Op}
-use Rattle.ea_model.specs.declared.operations.Op.TheVariants.{Alloc, Free, Realloc, Give, Take, Info, Idle}
-use Rattle.ea_trace.specs.Language.{Earlier, is_given_to, is_unaddressed, section_operations, sections, takes_in, texts_after, texts_before}
-use Rattle.ea_trace.specs.declared.lines.Line.TheVariants.{Skipped, Letter, Section, Operation, Threads, Schedule, Turns, Generate, End, Unreadable}
+use Rattle.ea_model.specs.declared.operations.Op.TheVariants.{Alloc, Free, Realloc, Give, Take}
+use Rattle.ea_model.specs.declared.operations.Op.TheVariants.{Info, Idle}
+use Rattle.ea_trace.specs.Language.{Earlier, is_given_to, is_unaddressed, section_operations}
+use Rattle.ea_trace.specs.Language.{sections, takes_in, texts_after, texts_before}
+use Rattle.ea_trace.specs.declared.lines.Line.TheVariants.{Skipped, Letter, Section, Operation}
+use Rattle.ea_trace.specs.declared.lines.Line.TheVariants.{Threads, Schedule, Turns, Generate, End}
+use Rattle.ea_trace.specs.declared.lines.Line.TheVariants.{Unreadable}
 use Rattle.ea_trace.specs.declared.takes.TakeLine.{TakeLine}
 use Rattle.ea_trace.proofs.Followed.{Followed, each_last, laid, same_number}
 use Rattle.ea_trace.proofs.Turned.{any_turned, found_none}

@@ -1,26 +1,39 @@
 -- What holds after lines of which none is refused.
-use Rattle.std.proofs.Common.{◌≡◌, ℕ, ◌+◌, ◌-◌, ◌*◌, ◌<◌, ◌≤◌, Bool, true, false, ◌||◌, ◌&&◌, not, nat_lt, ◌==◌, if◌then◌else◌, List, [], ◌∷◌, ◌++◌, Option, Some, None, length, reverse, refl, sym, ap, subst, ◌∙◌, arith, rules, tests, append-nil, append_assoc}
+use Rattle.std.proofs.Common.{◌≡◌, ℕ, ◌+◌, ◌-◌, ◌*◌, ◌<◌, ◌≤◌, Bool, true, false, ◌||◌, ◌&&◌, not}
+use Rattle.std.proofs.Common.{nat_lt, ◌==◌, if◌then◌else◌, List, [], ◌∷◌, ◌++◌, Option, Some, None}
+use Rattle.std.proofs.Common.{length, reverse, refl, sym, ap, subst, ◌∙◌, arith, rules, tests}
+use Rattle.std.proofs.Common.{append-nil, append_assoc}
 use Rattle.std.specs.List.{All, AllByRecursion, count_by, flat_map, list_any, sum_by}
 use Rattle.std.proofs.lemmas.Grind.{flat_map-append}
 use Rattle.std.proofs.lemmas.List.{length-append}
-use Rattle.std.proofs.lemmas.List.Elements.{All-append, All-cons, All-from_recursion, All-nil, recursion_from_All}
+use Rattle.std.proofs.lemmas.List.Elements.{All-append, All-cons, All-from_recursion, All-nil}
+use Rattle.std.proofs.lemmas.List.Elements.{recursion_from_All}
 use Rattle.std.proofs.lemmas.List.Sums.{sum_by-append, sum_by-cons}
 use Rattle.ea_model.proofs.Splits.{or_false}
-use Rattle.ea_model.specs.Trace.{BringsBefore, IsOperation, IsTurns, brings, gives, makes, needs, text_at, tries_of}
+use Rattle.ea_model.specs.Trace.{BringsBefore, IsOperation, IsTurns, brings, gives, makes, needs}
+use Rattle.ea_model.specs.Trace.{text_at, tries_of}
 use Rattle.ea_model.specs.declared.operations.Op.{Op}
-use Rattle.ea_model.specs.declared.operations.Op.TheVariants.{Alloc, Free, Realloc, Give, Take, Info, Idle}
+use Rattle.ea_model.specs.declared.operations.Op.TheVariants.{Alloc, Free, Realloc, Give, Take}
+use Rattle.ea_model.specs.declared.operations.Op.TheVariants.{Info, Idle}
 use Rattle.ea_model.specs.declared.settings.Letter as Letter
 use Rattle.ea_model.specs.declared.trace.Mode.{Mode}
 use Rattle.ea_model.specs.declared.trace.Mode.TheVariants as mode
 use Rattle.ea_model.specs.declared.trace.Turns as model
 use Rattle.ea_model.specs.declared.units.TheConstants.{MAX_ALL_TRIES, MAX_OPS, MAX_SEED, MAX_TURNS}
-use Rattle.ea_trace.specs.Language.{Earlier, all_turns, and_last, gives_outside, is_bad_scheduler, is_given, is_held, is_made, is_many, is_not_held, is_outside, is_reused, lacks, may_stand, mode_after, operations, refusal, reuses, section_operations, sections, stage_after, texts_after, texts_before, turns_after}
+use Rattle.ea_trace.specs.Language.{Earlier, all_turns, and_last, gives_outside, is_bad_scheduler}
+use Rattle.ea_trace.specs.Language.{is_given, is_held, is_made, is_many, is_not_held, is_outside}
+use Rattle.ea_trace.specs.Language.{is_reused, lacks, may_stand, mode_after, operations, refusal}
+use Rattle.ea_trace.specs.Language.{reuses, section_operations, sections, stage_after, texts_after}
+use Rattle.ea_trace.specs.Language.{texts_before, turns_after}
 use Rattle.ea_trace.specs.Lines.{Said}
 use Rattle.ea_trace.specs.Ranges.{HasRanges, InRange, IsCount}
-use Rattle.ea_trace.specs.declared.lines.Line.TheVariants.{Skipped, Letter, Section, Operation, Threads, Schedule, Turns, Generate, End, Unreadable}
+use Rattle.ea_trace.specs.declared.lines.Line.TheVariants.{Skipped, Letter, Section, Operation}
+use Rattle.ea_trace.specs.declared.lines.Line.TheVariants.{Threads, Schedule, Turns, Generate, End}
+use Rattle.ea_trace.specs.declared.lines.Line.TheVariants.{Unreadable}
 use Rattle.ea_trace.specs.declared.stages.Stage.{Stage}
 use Rattle.ea_trace.specs.declared.stages.Stage.TheVariants as at
-use Rattle.ea_trace.proofs.Turned.{any_turned, brings_more, brings_none, counts_one, each_more, turned_more}
+use Rattle.ea_trace.proofs.Turned.{any_turned, brings_more, brings_none, counts_one, each_more}
+use Rattle.ea_trace.proofs.Turned.{turned_more}
 
 -- a line that isn't refused passes each test
 pub record Passes (n : ℕ) (older : Earlier) (line : Said) : Type 0 where

@@ -1,5 +1,6 @@
 -- What a name's table says after a write.
-use Rattle.std.proofs.Common.{◌≡◌, ℕ, ◌<◌, ◌≤◌, Bool, false, ◌&&◌, ◌||◌, nat_lt, ◌==◌, List, length, get_or, set, inl, inr, arith, get_or-set_other, get_or-set_same}
+use Rattle.std.proofs.Common.{◌≡◌, ℕ, ◌<◌, ◌≤◌, Bool, false, ◌&&◌, ◌||◌, nat_lt, ◌==◌, List, length}
+use Rattle.std.proofs.Common.{get_or, set, inl, inr, arith, get_or-set_other, get_or-set_same}
 use Rattle.std.proofs.lemmas.Bool.{cases_eq}
 
 pub given_more : (xs : List ℕ) (name to k : ℕ) (g : Bool) → name < length xs → 1 ≤ to

@@ -1,16 +1,25 @@
 -- The numbers of each line that a text says are in their ranges.
-use Rattle.std.proofs.Common.{◌≡◌, ℕ, ◌≤◌, Bool, true, false, if◌then◌else◌, ◌&&◌, nat_le, List, [], ◌∷◌, Option, Some, None, IfSome, bytes_eq, codes, refl, arith, tests, rules}
+use Rattle.std.proofs.Common.{◌≡◌, ℕ, ◌≤◌, Bool, true, false, if◌then◌else◌, ◌&&◌, nat_le, List, []}
+use Rattle.std.proofs.Common.{◌∷◌, Option, Some, None, IfSome, bytes_eq, codes, refl, arith, tests}
+use Rattle.std.proofs.Common.{rules}
 use Rattle.std.specs.List.{All, slice_split}
 use Rattle.std.specs.Option.{option_and_then, option_map, unwrap_or}
 use Rattle.std.proofs.lemmas.List.Elements.{All-cons, All-nil}
 use Rattle.ea_model.specs.Trace.{IsName}
 use Rattle.ea_model.specs.Words.{from_to, number, numeral, words}
 use Rattle.ea_model.specs.declared.operations.Op.{Op}
-use Rattle.ea_model.specs.declared.operations.Op.TheVariants.{Alloc, Free, Realloc, Give, Take, Info, Idle}
+use Rattle.ea_model.specs.declared.operations.Op.TheVariants.{Alloc, Free, Realloc, Give, Take}
+use Rattle.ea_model.specs.declared.operations.Op.TheVariants.{Info, Idle}
 use Rattle.ea_model.specs.declared.settings.Letter.{Letter}
 use Rattle.ea_model.specs.declared.trace.Turns as model
-use Rattle.ea_model.specs.declared.units.TheConstants.{MAX_BYTES, MAX_NAME, MAX_SEED, MAX_TRIES, MAX_TURNS}
-use Rattle.ea_trace.specs.Lines.{Said, and_turns, alloc_in, bare, both_words, command, free_in, generate_in, generate_line, give_in, is_comment, is_star, letter_line, line_of, line_of_words, name_in, one_of, only_word, operation_in, pair, realloc_in, scheduler_in, section_in, section_line, take_in, three_words, triple, turns_at, turns_from, turns_in, turns_line, turns_of_parts, type_in}
+use Rattle.ea_model.specs.declared.units.TheConstants.{MAX_BYTES, MAX_NAME, MAX_SEED, MAX_TRIES}
+use Rattle.ea_model.specs.declared.units.TheConstants.{MAX_TURNS}
+use Rattle.ea_trace.specs.Lines.{Said, and_turns, alloc_in, bare, both_words, command, free_in}
+use Rattle.ea_trace.specs.Lines.{generate_in, generate_line, give_in, is_comment, is_star}
+use Rattle.ea_trace.specs.Lines.{letter_line, line_of, line_of_words, name_in, one_of, only_word}
+use Rattle.ea_trace.specs.Lines.{operation_in, pair, realloc_in, scheduler_in, section_in}
+use Rattle.ea_trace.specs.Lines.{section_line, take_in, three_words, triple, turns_at, turns_from}
+use Rattle.ea_trace.specs.Lines.{turns_in, turns_line, turns_of_parts, type_in}
 use Rattle.ea_trace.specs.Ranges.{HasRanges, InRange, IsCount}
 use Rattle.ea_trace.specs.declared.lines.Line.TheVariants as line
 use Rattle.ea_trace.specs.declared.lines.TheConstants.{MAX_READ}
@@ -162,10 +171,15 @@ skipped_or : (b : Bool) (l : Said) → InRange l → InRange (if b then line.Ski
 skipped_or true l h = tt
 skipped_or false l h = h
 
+-- a line by its first word and the words after it
+pub command_or_ranges : (keyword : List ℕ) (ws : List (List ℕ))
+    → InRange (unwrap_or (command keyword ws) line.Unreadable)
+command_or_ranges keyword ws = or_unreadable (command keyword ws) (command_ranges keyword ws)
+
 words_ranges : (ws : List (List ℕ)) → InRange (line_of_words ws)
 words_ranges [] = tt
 words_ranges (w ∷ ws) = skipped_or (is_comment w) (unwrap_or (command w ws) line.Unreadable)
-    (or_unreadable (command w ws) (command_ranges w ws))
+    (command_or_ranges w ws)
 
 pub line_ranges : (text : List ℕ) → InRange (line_of text)
 line_ranges text = words_ranges (words text)

@@ -1,13 +1,24 @@
 -- A line that passes each test, and the trace that the lines make.
-use Rattle.std.proofs.Common.{◌≡◌, ℕ, Bool, true, false, List, [], ◌∷◌, None, map, refl, ap}
+use Rattle.std.proofs.Common.{◌≡◌, ℕ, Bool, true, false, if◌then◌else◌, List, [], ◌∷◌, Option, Some}
+use Rattle.std.proofs.Common.{None, map, refl, ap}
+use Rattle.std.specs.Prelude.{not}
 use Rattle.std.specs.List.{find, AllByRecursion}
 use Rattle.ea_model.specs.Lists.{Items}
 use Rattle.ea_model.specs.Trace.{greatest_of, listed, plain, plain_mode}
 use Rattle.ea_model.specs.declared.settings.Letter.{Letter}
 use Rattle.ea_model.specs.declared.trace.Mode.{Mode}
 use Rattle.ea_model.specs.declared.trace.Trace.{Trace}
-use Rattle.ea_trace.specs.Language.{Earlier, is_bad_scheduler, is_many, is_not_held, is_reused, may_stand, operations, refusal, sections, stage_after, texts_after, trace_from, turns_after, with_turns}
-use Rattle.ea_trace.specs.Lines.{Said}
+use Rattle.ea_model.specs.Words.{lines}
+use Rattle.ea_model.specs.declared.trace.Turns as model
+use Rattle.ea_trace.specs.Language.{Earlier, is_bad_scheduler, is_many, is_not_held, is_reused}
+use Rattle.ea_trace.specs.Language.{may_stand, operations, read_after, refusal, sections}
+use Rattle.ea_trace.specs.Language.{stage_after, texts_after, trace_from, turns_after, with_turns}
+use Rattle.ea_trace.specs.Lines.{Said, line_of}
+use Rattle.ea_trace.specs.TurnLines.{Adds}
+use Rattle.ea_trace.specs.declared.fault.TraceFault.{TraceFault}
+use Rattle.ea_trace.specs.declared.lines.Line.TheVariants as says
+use Rattle.ea_trace.specs.declared.stages.Stage.{Stage}
+use Rattle.ea_trace.specs.declared.stages.Stage.TheVariants as at
 use Rattle.ea_trace.specs.declared.takes.TakeLine.{TakeLine}
 
 -- a line that passes each test isn't refused
@@ -37,3 +48,40 @@ pub trace_same : (letter : Letter) (mode : Mode) (lines : Earlier) (t : Trace) �
     → plain_mode t.mode ≡ with_turns (turns_after lines) mode
     → t.greatest ≡ greatest_of (operations lines) → trace_from letter mode lines ≡ plain t
 trace_same letter mode lines t a b m g = rw (a, listed-items t.texts.items, b, m, g) refl
+
+-- the first line is taken, and those after it are left
+pub read_more : (n : ℕ) (earlier : Earlier) (text first : List ℕ) (rest : List (List ℕ))
+    (line : Said) → lines text ≡ first ∷ rest → line_of first ≡ line
+    → refusal n earlier line ≡ None → read_after n earlier (map line_of (lines text))
+    ≡ read_after n (line ∷ earlier) (map line_of rest)
+read_more n earlier text first rest line e s none = rw (e, s, none) refl
+
+stands_nowhere : (n : ℕ) (stage : Stage) (section : ℕ)
+    → may_stand n stage section says.Unreadable ≡ false
+stands_nowhere n at.Start section = refl
+stands_nowhere n at.Opening section = refl
+stands_nowhere n at.Turns section = refl
+stands_nowhere n at.Closing section = refl
+stands_nowhere n at.Ended section = refl
+
+refused_once : (b : Bool) (f : TraceFault) (o : Option TraceFault) → b ≡ false
+    → (if not b then Some f else o) ≡ None → ⊥
+refused_once true f o e h = absurd cc
+refused_once false f o e h = absurd cc
+
+-- what the turns of a line that isn't refused are added to are all turns so far
+pub turns_more : (n : ℕ) (earlier : Earlier) (line : Said) (new : List model.Turns)
+    → refusal n earlier line ≡ None → Adds (turns_after earlier) line new
+    → new ≡ turns_after (line ∷ earlier)
+turns_more n earlier says.Skipped new h e = e
+turns_more n earlier (says.Letter letter) new h e = e
+turns_more n earlier (says.Section number) new h e = e
+turns_more n earlier (says.Operation op) new h e = e
+turns_more n earlier says.Threads new h e = e
+turns_more n earlier says.Schedule new h e = e
+turns_more n earlier (says.Turns turns) new h e = e
+turns_more n earlier (says.Generate seed count) new h e = e
+turns_more n earlier says.End new h e = e
+turns_more n earlier says.Unreadable new h e = absurd (refused_once
+    (may_stand n (stage_after earlier) (sections earlier) says.Unreadable) _ _
+    (stands_nowhere n (stage_after earlier) (sections earlier)) h)

@@ -1,9 +1,12 @@
 -- What a list and the same list from its end have in common, and lists with one more at the end.
-use Rattle.std.proofs.Common.{◌≡◌, ℕ, ◌+◌, ◌≤◌, ◌⊎◌, inl, inr, zero, suc, max, Bool, true, false, cond, ◌||◌, List, [], ◌∷◌, ◌++◌, Option, Some, None, length, reverse, refl, sym, ap, subst, ◌∙◌, arith}
+use Rattle.std.proofs.Common.{◌≡◌, ℕ, ◌+◌, ◌≤◌, ◌⊎◌, inl, inr, zero, suc, max, Bool, true, false}
+use Rattle.std.proofs.Common.{cond, ◌||◌, List, [], ◌∷◌, ◌++◌, Option, Some, None, length, reverse}
+use Rattle.std.proofs.Common.{refl, sym, ap, subst, ◌∙◌, arith}
 use Rattle.std.specs.List.{All, count_by, find, list_any, sum_by}
 use Rattle.std.proofs.lemmas.List.{reverse-append}
 use Rattle.std.proofs.lemmas.List.Sums.{sum_by-cons}
-use Rattle.std.proofs.lemmas.List.Sorted.{All-permutation, IsPermutation-reverse, list_any-IsPermutation, sum_by-IsPermutation}
+use Rattle.std.proofs.lemmas.List.Sorted.{All-permutation, IsPermutation-reverse}
+use Rattle.std.proofs.lemmas.List.Sorted.{list_any-IsPermutation, sum_by-IsPermutation}
 use Rattle.ea_model.specs.Trace.{BringsBefore, brings, greatest_of, needs, text_at}
 use Rattle.ea_model.specs.declared.operations.Op.{Op}
 

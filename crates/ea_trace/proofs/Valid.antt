@@ -1,8 +1,12 @@
 -- What the language calls a trace is valid.
-use Rattle.std.proofs.Common.{◌≡◌, ℕ, ◌+◌, ◌≤◌, true, cond, List, [], ◌∷◌, Option, Some, None, Ok, Err, IfOk, inl, length, map, reverse, refl, sym, ap, subst, ◌∙◌, arith}
+use Rattle.std.proofs.Common.{◌≡◌, ℕ, ◌+◌, ◌≤◌, true, cond, List, [], ◌∷◌, Option, Some, None, Ok}
+use Rattle.std.proofs.Common.{Err, IfOk, inl, length, map, reverse, refl, sym, ap, subst, ◌∙◌}
+use Rattle.std.proofs.Common.{arith}
 use Rattle.std.specs.List.{All, AllByRecursion, count_by, find, list_any, sum_by}
 use Rattle.std.proofs.lemmas.List.{length-reverse}
-use Rattle.ea_model.specs.Trace.{BringsBefore, HasTexts, IsOperation, IsValidMode, IsValidTrace, gives, gives_to, greatest_of, listed, makes, operations_of, plain, takes, text_at, texts_of, tries_of}
+use Rattle.ea_model.specs.Trace.{BringsBefore, HasTexts, IsOperation, IsValidMode, IsValidTrace}
+use Rattle.ea_model.specs.Trace.{gives, gives_to, greatest_of, listed, makes, operations_of, plain}
+use Rattle.ea_model.specs.Trace.{takes, text_at, texts_of, tries_of}
 use Rattle.ea_model.proofs.Traces.{valid_from_plain}
 use Rattle.ea_model.specs.Words.{lines}
 use Rattle.ea_model.specs.declared.operations.Op.{Op}
@@ -10,14 +14,19 @@ use Rattle.ea_model.specs.declared.settings.Letter.{Letter}
 use Rattle.ea_model.specs.declared.trace.Mode.{Mode}
 use Rattle.ea_model.specs.declared.trace.Mode.TheVariants as mode
 use Rattle.ea_model.specs.declared.trace.Trace.{Trace}
-use Rattle.ea_trace.specs.Language.{Answer, Earlier, Gives, addressed_or, at_end, is_unaddressed, letter_after, mode_after, operations, read_after, refusal, refused_or, section_operations, sections, stage_after, takes_in, texts_after, texts_before, trace, trace_from, turns_after, with_turns}
+use Rattle.ea_trace.specs.Language.{Answer, Earlier, Gives, addressed_or, at_end, is_unaddressed}
+use Rattle.ea_trace.specs.Language.{letter_after, mode_after, operations, read_after, refusal}
+use Rattle.ea_trace.specs.Language.{refused_or, section_operations, sections, stage_after, takes_in}
+use Rattle.ea_trace.specs.Language.{texts_after, texts_before, trace, trace_from, turns_after}
+use Rattle.ea_trace.specs.Language.{with_turns}
 use Rattle.ea_trace.specs.Lines.{line_of}
 use Rattle.ea_trace.specs.Ranges.{InRange}
 use Rattle.ea_trace.specs.declared.fault.TraceFault.{TraceFault}
 use Rattle.ea_trace.specs.declared.stages.Stage.{Stage}
 use Rattle.ea_trace.specs.declared.stages.Stage.TheVariants as at
 use Rattle.ea_trace.proofs.Addressed.{addressed, taken_each}
-use Rattle.ea_trace.proofs.Followed.{Fits, Followed, GoodTurns, all_of, brought_each, counts, laid, laid_last, length_cases, passes, stays, turns_all}
+use Rattle.ea_trace.proofs.Followed.{Fits, Followed, GoodTurns, all_of, brought_each, counts, laid}
+use Rattle.ea_trace.proofs.Followed.{laid_last, length_cases, passes, stays, turns_all}
 use Rattle.ea_trace.proofs.Ranges.{line_ranges}
 use Rattle.ea_trace.proofs.Turned.{all_turned, any_turned, greatest_turned, sum_turned}
 

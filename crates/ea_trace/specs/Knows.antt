@@ -1,25 +1,32 @@
 -- What a reader knows of the lines that it took.
-use Rattle.std.specs.Prelude.{◌≡◌, ℕ, ◌+◌, ◌<◌, ◌≤◌, Bool, true, false, nat_lt, ◌==◌, List, get_or, is_some, length, map, option_map, reverse, sum_by}
+use Rattle.std.specs.Prelude.{◌≡◌, ℕ, ◌+◌, ◌<◌, ◌≤◌, Bool, true, false, nat_lt, ◌==◌, List, get_or}
+use Rattle.std.specs.Prelude.{is_some, length, map, option_map, reverse, sum_by}
 use Rattle.std.specs.Borrow.{Bor}
 use Rattle.ea_model.specs.Trace.{greatest_of, plain_mode, tries_of}
+use Rattle.ea_model.specs.declared.operations.Op.{Op}
+use Rattle.ea_model.specs.declared.operations.Op.TheVariants.{Give}
 use Rattle.ea_model.specs.Words.{words}
 use Rattle.ea_model.specs.declared.units.TheConstants.{MAX_ALL_TRIES, MAX_NAME, MAX_OPS, MAX_TURNS}
-use Rattle.ea_trace.specs.Language.{all_turns, gives_outside, is_given, is_given_to, is_held, is_made, letter_after, mode_after, operations, section_operations, sections, stage_after, takes_in, texts_before, turns_after}
+use Rattle.ea_trace.specs.Language.{all_turns, gives_outside, is_given, is_given_to, is_held}
+use Rattle.ea_trace.specs.Language.{is_made, letter_after, mode_after, operations}
+use Rattle.ea_trace.specs.Language.{section_operations, sections, stage_after, takes_in}
+use Rattle.ea_trace.specs.Language.{texts_before, turns_after}
 use Rattle.ea_trace.specs.Lines.{Said, turns_in}
 use Rattle.ea_trace.specs.declared.lines.Line.{Line}
 use Rattle.ea_trace.specs.declared.lines.Line.TheVariants.{Section, Operation, Turns}
+use Rattle.ea_trace.specs.declared.names.Names.{Names}
 use Rattle.ea_trace.specs.declared.seen.Seen.{Seen}
 
--- what is known of the names
-pub record KnowsNames (earlier : List Said) (s : Seen) : Type 0 where
-  pub made : (k : ℕ) → k ≤ MAX_NAME → get_or s.made.items k false ≡ is_made k earlier
-  pub held : (k : ℕ) → k ≤ MAX_NAME → 0 < s.section
-      → (get_or s.holder.items k 0 == s.section) ≡ is_held k earlier
-  pub begun : (k : ℕ) → k ≤ MAX_NAME → get_or s.holder.items k 0 ≤ s.section
-  pub given : (k : ℕ) → k ≤ MAX_NAME → nat_lt 0 (get_or s.addressee.items k 0) ≡ is_given k earlier
+-- what is known of the names, of which that section was begun last
+pub record KnowsNames (earlier : List Said) (section : ℕ) (names : Names) : Type 0 where
+  pub made : (k : ℕ) → k ≤ MAX_NAME → get_or names.made.items k false ≡ is_made k earlier
+  pub held : (k : ℕ) → k ≤ MAX_NAME → 0 < section
+      → (get_or names.holder.items k 0 == section) ≡ is_held k earlier
+  pub begun : (k : ℕ) → k ≤ MAX_NAME → get_or names.holder.items k 0 ≤ section
+  pub given : (k : ℕ) → k ≤ MAX_NAME
+      → nat_lt 0 (get_or names.addressee.items k 0) ≡ is_given k earlier
   pub given_to : (k i : ℕ) → k ≤ MAX_NAME → 1 ≤ i
-      → (i == get_or s.addressee.items k 0) ≡ is_given_to k i earlier
-  pub takes : s.takes.items ≡ takes_in earlier
+      → (i == get_or names.addressee.items k 0) ≡ is_given_to k i earlier
 
 -- what is known after these lines
 pub record Knows (n : ℕ) (earlier : List Said) (s : Seen) : Type 0 where
@@ -28,46 +35,28 @@ pub record Knows (n : ℕ) (earlier : List Said) (s : Seen) : Type 0 where
   pub section : s.section ≡ sections earlier
   pub letter : s.letter ≡ letter_after earlier
   pub mode : option_map plain_mode s.mode ≡ mode_after earlier
-  pub names : KnowsNames earlier s
+  pub names : KnowsNames earlier s.section s.names
+  pub takes : s.takes.items ≡ takes_in earlier
   pub count : s.count ≡ length (operations earlier)
   pub tries : s.tries ≡ sum_by tries_of (operations earlier)
   pub turn_count : s.turn_count ≡ all_turns (turns_after earlier)
   pub greatest : s.greatest ≡ greatest_of (operations earlier)
   pub text : s.text.items ≡ reverse (section_operations earlier)
   pub texts : map (λ text. text.items) s.texts.items ≡ texts_before earlier
-  pub turns : s.turns.items ≡ turns_after earlier
-
--- all but the names is as it was
-pub record Keeps (old new : Seen) : Type 0 where
-  pub schedulers : new.schedulers ≡ old.schedulers
-  pub stage : new.stage ≡ old.stage
-  pub section : new.section ≡ old.section
-  pub letter : new.letter ≡ old.letter
-  pub mode : new.mode ≡ old.mode
-  pub count : new.count ≡ old.count
-  pub tries : new.tries ≡ old.tries
-  pub turn_count : new.turn_count ≡ old.turn_count
-  pub greatest : new.greatest ≡ old.greatest
-  pub text : new.text.items ≡ old.text.items
-  pub texts : new.texts.items ≡ old.texts.items
-  pub turns : new.turns.items ≡ old.turns.items
 
 -- all but the texts is as it was
-pub record KeepsNames (old new : Seen) : Type 0 where
+pub record KeepsRest (old new : Seen) : Type 0 where
   pub schedulers : new.schedulers ≡ old.schedulers
   pub stage : new.stage ≡ old.stage
   pub section : new.section ≡ old.section
   pub letter : new.letter ≡ old.letter
   pub mode : new.mode ≡ old.mode
-  pub made : new.made.items ≡ old.made.items
-  pub holder : new.holder.items ≡ old.holder.items
-  pub addressee : new.addressee.items ≡ old.addressee.items
+  pub names : new.names ≡ old.names
   pub takes : new.takes.items ≡ old.takes.items
   pub count : new.count ≡ old.count
   pub tries : new.tries ≡ old.tries
   pub turn_count : new.turn_count ≡ old.turn_count
   pub greatest : new.greatest ≡ old.greatest
-  pub turns : new.turns.items ≡ old.turns.items
 
 -- what a line that may stand, and names no wrong scheduler, has
 abbrev pub Stands : ℕ → ℕ → Line (Bor (List ℕ)) → Type 0
@@ -87,3 +76,8 @@ is_mark (Section number) = false
 is_mark (Operation op) = false
 is_mark (Turns text) = false
 is_mark line = true
+
+-- an operation that gives a name gives it to a scheduler from 1 on
+abbrev pub GivesOn : Op → Type 0
+GivesOn (Give name to) = 1 ≤ to
+GivesOn op = Unit {0}

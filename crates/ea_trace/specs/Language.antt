@@ -1,8 +1,11 @@
 -- The trace language: which line may follow which, and what a text gives. Lines, and the operations
 -- of lines, are lists with the newest first, if nothing else is said.
-use Rattle.std.specs.Prelude.{◌≡◌, ℕ, ◌+◌, ◌*◌, Bool, true, false, ◌&&◌, ◌||◌, not, if◌then◌else◌, nat_lt, ◌==◌, List, [], ◌∷◌, ◌++◌, Option, Some, None, Result, Ok, Err, find, length, map, reverse, sum_by}
+use Rattle.std.specs.Prelude.{◌≡◌, ℕ, ◌+◌, ◌*◌, Bool, true, false, ◌&&◌, ◌||◌, not, if◌then◌else◌}
+use Rattle.std.specs.Prelude.{nat_lt, ◌==◌, List, [], ◌∷◌, ◌++◌, Option, Some, None, Result, Ok}
+use Rattle.std.specs.Prelude.{Err, find, length, map, reverse, sum_by}
 use Rattle.std.specs.List.{list_any}
-use Rattle.ea_model.specs.Trace.{brings, gives, gives_to, greatest_of, listed, makes, plain, tries_of}
+use Rattle.ea_model.specs.Trace.{brings, gives, gives_to, greatest_of, listed, makes, plain}
+use Rattle.ea_model.specs.Trace.{tries_of}
 use Rattle.ea_model.specs.Words.{lines}
 use Rattle.ea_model.specs.declared.operations.Op.{Op}
 use Rattle.ea_model.specs.declared.operations.Op.TheVariants.{Alloc, Free, Realloc, Give, Take}
@@ -15,7 +18,8 @@ use Rattle.ea_model.specs.declared.units.TheConstants.{MAX_ALL_TRIES, MAX_OPS, M
 use Rattle.ea_trace.specs.Lines.{Said, line_of}
 use Rattle.ea_trace.specs.declared.fault.TraceFault.{TraceFault}
 use Rattle.ea_trace.specs.declared.fault.TraceFault.TheVariants as fault
-use Rattle.ea_trace.specs.declared.lines.Line.TheVariants.{Skipped, Letter, Section, Operation, Threads, Schedule, Turns, Generate, End}
+use Rattle.ea_trace.specs.declared.lines.Line.TheVariants.{Skipped, Letter, Section, Operation}
+use Rattle.ea_trace.specs.declared.lines.Line.TheVariants.{Threads, Schedule, Turns, Generate, End}
 use Rattle.ea_trace.specs.declared.stages.Stage.{Stage}
 use Rattle.ea_trace.specs.declared.stages.Stage.TheVariants as at
 use Rattle.ea_trace.specs.declared.takes.TakeLine.{TakeLine}

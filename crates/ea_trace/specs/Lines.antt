@@ -1,13 +1,16 @@
 -- What one line of a trace says, by itself.
-use Rattle.std.specs.Prelude.{ℕ, min, Bool, false, if◌then◌else◌, ◌==◌, List, [], ◌∷◌, Option, Some, None, codes, bytes_eq, option_and_then, option_map, unwrap_or}
+use Rattle.std.specs.Prelude.{ℕ, min, Bool, false, if◌then◌else◌, ◌==◌, List, [], ◌∷◌, Option, Some}
+use Rattle.std.specs.Prelude.{None, codes, bytes_eq, option_and_then, option_map, unwrap_or}
 use Rattle.std.specs.List.{slice_split}
 use Rattle.ea_model.specs.Words.{from_to, number, numeral, words}
 use Rattle.ea_model.specs.declared.operations.Op.{Op}
-use Rattle.ea_model.specs.declared.operations.Op.TheVariants.{Alloc, Free, Realloc, Give, Take, Info, Idle}
+use Rattle.ea_model.specs.declared.operations.Op.TheVariants.{Alloc, Free, Realloc, Give, Take}
+use Rattle.ea_model.specs.declared.operations.Op.TheVariants.{Info, Idle}
 use Rattle.ea_model.specs.declared.settings.Letter.{Letter}
 use Rattle.ea_model.specs.declared.settings.Letter.TheVariants as letter
 use Rattle.ea_model.specs.declared.trace.Turns as model
-use Rattle.ea_model.specs.declared.units.TheConstants.{MAX_BYTES, MAX_NAME, MAX_SEED, MAX_TRIES, MAX_TURNS}
+use Rattle.ea_model.specs.declared.units.TheConstants.{MAX_BYTES, MAX_NAME, MAX_SEED, MAX_TRIES}
+use Rattle.ea_model.specs.declared.units.TheConstants.{MAX_TURNS}
 use Rattle.ea_trace.specs.declared.lines.Line.{Line}
 use Rattle.ea_trace.specs.declared.lines.Line.TheVariants as line
 use Rattle.ea_trace.specs.declared.lines.TheConstants.{MAX_READ}

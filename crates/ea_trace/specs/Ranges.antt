@@ -2,9 +2,11 @@
 use Rattle.std.specs.Prelude.{◌≤◌, All}
 use Rattle.ea_model.specs.Trace.{IsName}
 use Rattle.ea_model.specs.declared.operations.Op.{Op}
-use Rattle.ea_model.specs.declared.operations.Op.TheVariants.{Alloc, Free, Realloc, Give, Take, Info, Idle}
+use Rattle.ea_model.specs.declared.operations.Op.TheVariants.{Alloc, Free, Realloc, Give, Take}
+use Rattle.ea_model.specs.declared.operations.Op.TheVariants.{Info, Idle}
 use Rattle.ea_model.specs.declared.trace.Turns as model
-use Rattle.ea_model.specs.declared.units.TheConstants.{MAX_BYTES, MAX_NAME, MAX_SEED, MAX_TRIES, MAX_TURNS}
+use Rattle.ea_model.specs.declared.units.TheConstants.{MAX_BYTES, MAX_NAME, MAX_SEED, MAX_TRIES}
+use Rattle.ea_model.specs.declared.units.TheConstants.{MAX_TURNS}
 use Rattle.ea_trace.specs.Lines.{Said}
 use Rattle.ea_trace.specs.declared.lines.Line.TheVariants.{Operation, Turns, Generate}
 use Rattle.ea_trace.specs.declared.takes.TakeLine.{TakeLine}

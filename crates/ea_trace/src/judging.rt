@@ -1,17 +1,18 @@
 //! Whether a line may follow those that were taken.
-ghost use Rattle.std.specs.Prelude.{◌≡◌, ◌+◌, ◌<◌, ◌≤◌, ℕ, true, false};
-ghost use Rattle.ea_model.specs.Trace.{IsName};
+ghost use Rattle.std.specs.Prelude.{◌≡◌, ◌+◌, ◌<◌, ℕ, true, false};
 ghost use Rattle.ea_model.specs.Trace;
 ghost use Rattle.ea_trace.specs.Knows.{HasRoom, Knows, Stands};
-ghost use Rattle.ea_trace.specs.Language.{Earlier, gives_outside, in_opening, is_bad_scheduler, is_held, is_many, is_not_held, is_reused, may_stand};
-ghost use Rattle.ea_trace.specs.Lines.{Said};
-ghost use Rattle.ea_trace.specs.Ranges.{HasRanges, InRange};
+ghost use Rattle.ea_trace.specs.Language.{Earlier, in_opening, is_bad_scheduler, is_held, is_many};
+ghost use Rattle.ea_trace.specs.Language.{is_not_held, is_reused, may_stand};
+ghost use Rattle.ea_trace.specs.Ranges.{InRange};
 ghost use Rattle.ea_trace.specs.Says.{said};
+ghost use Rattle.ea_trace.specs.TurnLines.{tally_in};
 
 use crate::lines::Line;
 use crate::seen::Seen;
 use crate::stages::Stage;
-use crate::turns::{any_outside, are_turns, is_nobody, with_turns};
+use crate::tally::Tally;
+use crate::turns::is_nobody;
 use ea_model::{MAX_ALL_TRIES, MAX_OPS, MAX_TURNS, Op};
 
 /// The tries that an operation asks for.
@@ -27,7 +28,8 @@ pub fn tries_of(op: Op) -> u32
 impl Seen {
     /// Whether a line begins a section that isn't due, names a scheduler that isn't there, or comes
     /// before the last section.
-    pub fn is_bad(&self, line: Line<&[u8]>) -> bool
+    pub fn is_bad(&self, line: Line<&[u8]>, tally: Option<Tally>) -> bool
+        requires { tally ≡ tally_in self.now.schedulers line }
         ensures { result ≡ is_bad_scheduler self.now.schedulers self.now.section (said line.entry) }
     {
         match line {
@@ -38,7 +40,7 @@ impl Seen {
                 op: Op::Give { to, .. },
             } => is_nobody(self.schedulers, to),
             Line::Threads | Line::Schedule => self.section < self.schedulers,
-            Line::Turns { turns } => any_outside(turns, self.schedulers),
+            Line::Turns { .. } => matches!(tally, Some(Tally { outside: true, .. })),
             _ => false,
         }
     }
@@ -56,7 +58,8 @@ impl Seen {
     }
 
     /// Whether a line may stand here.
-    pub fn admits(&self, line: Line<&[u8]>) -> bool
+    pub fn admits(&self, line: Line<&[u8]>, tally: Option<Tally>) -> bool
+        requires { tally ≡ tally_in self.now.schedulers line }
         ensures exact { result ≡
             may_stand self.now.schedulers self.now.stage self.now.section (said line.entry) }
         ensures stands { result ≡ true → Stands self.now.schedulers self.now.section line.entry }
@@ -64,16 +67,17 @@ impl Seen {
         match (self.stage, line) {
             (_, Line::Skipped) => true,
             (Stage::Start, Line::Letter { .. }) => true,
-            (Stage::Opening, _) => self.is_in_opening(line) || self.is_bad(line),
-            (Stage::Turns, Line::Turns { turns }) => are_turns(turns),
+            (Stage::Opening, _) => self.is_in_opening(line) || self.is_bad(line, tally),
+            (Stage::Turns, Line::Turns { .. }) => tally.is_some(),
             (Stage::Turns | Stage::Closing, Line::End) => true,
             _ => false,
         }
     }
 
     /// Whether with this line the operations, the tries or the turns are too many.
-    pub fn is_full(&self, line: Line<&[u8]>) -> bool
-        requires { InRange (said line) }
+    pub fn is_full(&self, line: Line<&[u8]>, tally: Option<Tally>) -> bool
+        requires range { InRange (said line) }
+        requires read { tally ≡ tally_in self.now.schedulers line }
         ensures many { (n : ℕ) (earlier : Earlier) → Knows n earlier self.now
             → result ≡ is_many n earlier (said line.entry) }
         ensures room { result ≡ false → HasRoom self.now (said line.entry) }
@@ -82,22 +86,15 @@ impl Seen {
             Line::Operation { op } => {
                 self.count >= MAX_OPS || self.tries + tries_of(op) > MAX_ALL_TRIES
             }
-            Line::Turns { turns } => with_turns(self.turn_count, turns) > MAX_TURNS,
+            Line::Turns { .. } => match tally {
+                Some(turns) => self.turn_count.saturating_add(turns.count) > MAX_TURNS,
+                None => false,
+            },
             Line::Generate { count, .. } => {
                 u64::from(self.schedulers) * u64::from(count) > u64::from(MAX_OPS)
             }
             _ => false,
         }
-    }
-
-    /// Whether the section that was begun last holds the name.
-    fn holds(&self, name: u32) -> bool
-        requires name { IsName name }
-        requires begun { 0 < self.now.section }
-        ensures { (n : ℕ) (earlier : Earlier) → Knows n earlier self.now
-            → result ≡ is_held name earlier }
-    {
-        self.holder[name as usize] == self.section
     }
 
     /// Whether a line makes or gives a name again.
@@ -111,13 +108,14 @@ impl Seen {
         match line {
             Line::Operation {
                 op: Op::Alloc { name, .. },
-            } => self.made[name as usize],
+            } => self.names.is_made(name),
             Line::Operation {
                 op: Op::Realloc { old, fresh, .. },
-            } => self.made[fresh as usize] || (old == fresh && self.holds(old)),
+            } => self.names.is_made(fresh)
+                || (old == fresh && self.names.is_held(old, self.section)),
             Line::Operation {
                 op: Op::Give { name, .. },
-            } => self.addressee[name as usize] > 0,
+            } => self.names.is_given(name),
             _ => false,
         }
     }
@@ -133,10 +131,10 @@ impl Seen {
         match line {
             Line::Operation {
                 op: Op::Free { name } | Op::Give { name, .. },
-            } => !self.holds(name),
+            } => !self.names.is_held(name, self.section),
             Line::Operation {
                 op: Op::Realloc { old, .. },
-            } => !self.holds(old),
+            } => !self.names.is_held(old, self.section),
             _ => false,
         }
     }

@@ -5,11 +5,13 @@
 mod fault;
 mod judging;
 mod lines;
+mod names;
 mod noting;
 mod reader;
 mod seen;
 mod stages;
 mod takes;
+mod tally;
 #[cfg(test)]
 mod tests;
 mod turns;

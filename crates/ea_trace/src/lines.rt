@@ -1,11 +1,13 @@
 //! What one line of a trace says, by itself.
-ghost use Rattle.std.specs.Prelude.{◌≡◌, ◌≤◌, ◌∷◌, [], length, map};
+ghost use Rattle.std.specs.Prelude.{◌≡◌, ◌∷◌, unwrap_or};
+ghost use Rattle.ea_trace.specs.declared.lines.Line.TheVariants.{Unreadable};
 ghost use Rattle.ea_model.specs.Words.{words};
-ghost use Rattle.ea_trace.specs.Lines.{section_in, letter_in, type_in, generate_in, alloc_in, free_in, realloc_in, give_in, take_in, operation_in, one_of, turns_in, line_of};
+ghost use Rattle.ea_trace.specs.Lines.{section_in, letter_in, type_in, generate_in, alloc_in};
+ghost use Rattle.ea_trace.specs.Lines.{free_in, realloc_in, give_in, take_in, operation_in, one_of};
+ghost use Rattle.ea_trace.specs.Lines.{turns_in, line_of};
 ghost use Rattle.ea_trace.specs.Ranges.{InRange};
 ghost use Rattle.ea_trace.specs.Says.{said, said_or};
 
-use crate::turns::are_turns;
 use crate::words::{bare, bytes, count, name, one_word, scheduler, three_words, two_words};
 use ea_model::words::{first_word, number};
 use ea_model::{Letter, MAX_SEED, MAX_TRIES, Op};
@@ -163,25 +165,23 @@ fn operation(keyword: &[u8], rest: &[u8]) -> Option<Op>
     }
 }
 
-/// A line of an operation or of turns.
-fn operation_or_turns<'a>(text: &'a [u8], keyword: &[u8], rest: &[u8]) -> Option<Line<&'a [u8]>>
+/// A line of an operation, or else one that may be of turns.
+fn operation_or_turns<'a>(text: &'a [u8], keyword: &[u8], rest: &[u8]) -> Line<&'a [u8]>
     requires { words text.now ≡ keyword.now ∷ words rest.now }
-    ensures { said_or result ≡
-        one_of (operation_in keyword.now (words rest.now)) (turns_in (words text.now)) }
+    ensures { said result ≡ unwrap_or (one_of (operation_in keyword.now (words rest.now))
+        (turns_in (words text.now))) Unreadable }
 {
-    if let Some(op) = operation(keyword, rest) {
-        Some(Line::Operation { op })
-    } else if are_turns(text) {
-        Some(Line::Turns { turns: text })
-    } else {
-        None
+    match operation(keyword, rest) {
+        Some(op) => Line::Operation { op },
+        None => Line::Turns { turns: text },
     }
 }
 
-/// The line that a text says, by its first word and the rest after it.
+/// The line that a text says, by its first word and the rest after it; None where it is malformed.
 fn command<'a>(text: &'a [u8], keyword: &[u8], rest: &'a [u8]) -> Option<Line<&'a [u8]>>
     requires { words text.now ≡ keyword.now ∷ words rest.now }
-    ensures { said_or result ≡ Rattle.ea_trace.specs.Lines.command keyword.now (words rest.now) }
+    ensures { unwrap_or (said_or result) Unreadable
+        ≡ unwrap_or (Rattle.ea_trace.specs.Lines.command keyword.now (words rest.now)) Unreadable }
 {
     if keyword == b"threads".as_slice() {
         bare(Line::Threads, rest)
@@ -196,7 +196,7 @@ fn command<'a>(text: &'a [u8], keyword: &[u8], rest: &'a [u8]) -> Option<Line<&'
     } else if keyword == b"generate".as_slice() {
         generate(rest)
     } else {
-        operation_or_turns(text, keyword, rest)
+        Some(operation_or_turns(text, keyword, rest))
     }
 }
 
@@ -207,26 +207,16 @@ fn is_comment(word: &[u8]) -> bool
     matches!(word, [b'#', ..])
 }
 
-/// What a line says, whatever its numbers.
-fn line_at(text: &[u8]) -> Line<&[u8]>
-    ensures { said result ≡ line_of text.now }
-{
-    match first_word(text) {
-        None => Line::Skipped,
-        Some((word, rest)) => {
-            if is_comment(word) {
-                Line::Skipped
-            } else {
-                command(text, word, rest).unwrap_or(Line::Unreadable)
-            }
-        }
-    }
-}
-
-/// What a line says.
+/// What a line says. Whether one of turns is malformed isn't looked at.
 pub fn read_line(text: &[u8]) -> Line<&[u8]>
     ensures line { said result ≡ line_of text.now }
     ensures in_range { InRange (said result) }
 {
-    line_at(text)
+    let Some((word, rest)) = first_word(text) else {
+        return Line::Skipped;
+    };
+    if is_comment(word) {
+        return Line::Skipped;
+    }
+    command(text, word, rest).unwrap_or(Line::Unreadable)
 }

@@ -1,20 +1,23 @@
 //! Notes the lines that are taken.
-ghost use Rattle.std.specs.Prelude.{◌≡◌, ◌+◌, ◌<◌, ◌≤◌, ◌∷◌, [], ◌++◌, ℕ, false, true, length, map, OnOk, is_some};
+ghost use Rattle.std.specs.Prelude.{◌≡◌, ◌+◌, ◌<◌, ◌≤◌, ◌∷◌, [], ℕ, false, true, All, is_some};
+ghost use Rattle.std.specs.Prelude.{length, map, option_map, OnOk};
 ghost use Rattle.ea_model.specs.Trace;
-ghost use Rattle.ea_model.specs.Words.{words};
-ghost use Rattle.ea_trace.specs.Knows.{HasRoom, Keeps, KeepsNames, Knows, KnowsNames, Stands, is_mark};
-ghost use Rattle.ea_trace.specs.Language.{and_last, gives_outside, is_bad_scheduler, is_reused, may_stand, reuses, Earlier};
-ghost use Rattle.ea_trace.specs.Lines.{Said, turns_in};
-ghost use Rattle.ea_trace.specs.Ranges.{HasRanges, InRange};
+ghost use Rattle.ea_trace.specs.Knows.{HasRoom, KeepsRest, Knows, Stands, is_mark};
+ghost use Rattle.ea_trace.specs.Language.{Earlier, and_last, gives_outside, is_bad_scheduler};
+ghost use Rattle.ea_trace.specs.Language.{is_reused, reuses, sections, takes_in};
+ghost use Rattle.ea_trace.specs.Ranges.{HasRanges, InRange, IsNamed};
+ghost use Rattle.ea_trace.specs.Lines.{turns_in};
 ghost use Rattle.ea_trace.specs.Says.{said, said_turns};
-ghost use Rattle.ea_trace.specs.declared.lines.Line.TheVariants.{Operation, Section, Turns};
+ghost use Rattle.ea_trace.specs.TurnLines.{tally_in, tally_of};
+ghost use Rattle.ea_model.specs.Words.{words};
+ghost use Rattle.ea_trace.specs.declared.lines.Line.TheVariants.{Operation, Section};
 
 use crate::judging::tries_of;
 use crate::lines::Line;
 use crate::seen::Seen;
 use crate::stages::Stage;
 use crate::takes::TakeLine;
-use crate::turns::{add_turns, with_turns};
+use crate::tally::Tally;
 use ea_model::{List, Mode, Op, OutOfMemory};
 use std::alloc::Global;
 use std::mem;
@@ -33,6 +36,25 @@ fn greatest_in(op: Op) -> u32
     }
 }
 
+/// Adds a line that takes a name.
+fn add_take(takes: &mut Vec<TakeLine>, number: u32, section: u32, op: Op) -> Result<(), OutOfMemory>
+    requires range { HasRanges op }
+    requires begun { 1 ≤ section }
+    ensures takes { OnOk result ((earlier : Earlier) → length earlier + 1 ≡ number
+        → section ≡ sections earlier → takes.old.items ≡ takes_in earlier
+        → takes.new.items ≡ takes_in (Operation op ∷ earlier)) }
+    ensures named { All IsNamed takes.old.items → All IsNamed takes.new.items }
+{
+    if let Op::Take { name, .. } = op {
+        takes.push(TakeLine {
+            line: number,
+            name,
+            scheduler: section,
+        })?;
+    }
+    Ok(())
+}
+
 impl Seen {
     /// Puts the text of a section that has begun with those that are over.
     fn put_away(&mut self, alloc: Global) -> Result<(), OutOfMemory>
@@ -40,7 +62,7 @@ impl Seen {
         ensures texts { OnOk result (map (λ text. text.items) self.new.texts.items ≡
             and_last self.old.section (map (λ text. text.items) self.old.texts.items)
             self.old.text.items) }
-        ensures rest { KeepsNames self.old self.new }
+        ensures rest { KeepsRest self.old self.new }
     {
         let text = mem::replace(&mut self.text, List::new(alloc));
         if self.section == 0 {
@@ -60,36 +82,6 @@ impl Seen {
         Ok(())
     }
 
-    /// Notes the names of an operation.
-    fn note_names(&mut self, number: u32, op: Op) -> Result<(), OutOfMemory>
-        requires range { HasRanges op }
-        requires good { gives_outside self.old.schedulers op ≡ false }
-        requires begun { 0 < self.old.section }
-        ensures names { OnOk result ((n : ℕ) (earlier : Earlier) → Knows n earlier self.old
-            → reuses earlier op ≡ false → length earlier + 1 ≡ number
-            → KnowsNames (Operation op ∷ earlier) self.new) }
-        ensures rest { Keeps self.old self.new }
-    {
-        match op {
-            Op::Alloc { name, .. } | Op::Realloc { fresh: name, .. } => {
-                self.made[name as usize] = true;
-                self.holder[name as usize] = self.section;
-            }
-            Op::Give { name, to } => self.addressee[name as usize] = to,
-            Op::Take { name, .. } => {
-                let take = TakeLine {
-                    line: number,
-                    name,
-                    scheduler: self.section,
-                };
-                self.takes.push(take)?;
-                self.holder[name as usize] = self.section;
-            }
-            _ => (),
-        }
-        Ok(())
-    }
-
     /// Notes an operation.
     fn note(&mut self, number: u32, op: Op) -> Result<(), OutOfMemory>
         requires range { HasRanges op }
@@ -100,7 +92,8 @@ impl Seen {
             → reuses earlier op ≡ false → length earlier + 1 ≡ number
             → Knows n (Operation op ∷ earlier) self.new) }
     {
-        self.note_names(number, op)?;
+        add_take(&mut self.takes, number, self.section, op)?;
+        self.names.note(self.section, op);
         self.count += 1;
         self.tries += tries_of(op);
         self.greatest = self.greatest.max(greatest_in(op));
@@ -108,15 +101,17 @@ impl Seen {
     }
 
     /// Notes turns.
-    fn note_turns(&mut self, line: &[u8]) -> Result<(), OutOfMemory>
+    fn note_turns(&mut self, line: &[u8], tally: Option<Tally>)
         requires turns { is_some (turns_in (words line.now)) ≡ true }
+        requires read { tally ≡
+            option_map (tally_of self.old.schedulers) (turns_in (words line.now)) }
         requires room { HasRoom self.old (said_turns (turns_in (words line.now))) }
-        ensures { OnOk result ((n : ℕ) (earlier : Earlier) → Knows n earlier self.old
-            → Knows n (said_turns (turns_in (words line.now)) ∷ earlier) self.new) }
+        ensures { (n : ℕ) (earlier : Earlier) → Knows n earlier self.old
+            → Knows n (said_turns (turns_in (words line.now)) ∷ earlier) self.new }
     {
-        add_turns(&mut self.turns, line)?;
-        self.turn_count = with_turns(self.turn_count, line);
-        Ok(())
+        if let Some(turns) = tally {
+            self.turn_count += turns.count;
+        }
     }
 
     /// Notes a line that begins no section and has no operation and no turns.
@@ -150,8 +145,15 @@ impl Seen {
     }
 
     /// Notes a line that isn't refused.
-    pub fn add(&mut self, alloc: Global, number: u32, line: Line<&[u8]>) -> Result<(), OutOfMemory>
+    pub fn add(
+        &mut self,
+        alloc: Global,
+        number: u32,
+        line: Line<&[u8]>,
+        tally: Option<Tally>,
+    ) -> Result<(), OutOfMemory>
         requires range { InRange (said line) }
+        requires read { tally ≡ tally_in self.old.schedulers line }
         requires stands { Stands self.old.schedulers self.old.section line }
         requires good { is_bad_scheduler self.old.schedulers self.old.section (said line) ≡ false }
         requires room { HasRoom self.old (said line) }
@@ -162,7 +164,10 @@ impl Seen {
         match line {
             Line::Section { .. } => self.begin(alloc),
             Line::Operation { op } => self.note(number, op),
-            Line::Turns { turns } => self.note_turns(turns),
+            Line::Turns { turns } => {
+                self.note_turns(turns, tally);
+                Ok(())
+            }
             _ => {
                 self.pass(alloc, line);
                 Ok(())

@@ -1,31 +1,37 @@
 //! Reads a trace line by line.
-ghost use Rattle.std.specs.Prelude.{◌≡◌, ◌+◌, ◌<◌, ◌≤◌, ◌^◌, ◌∷◌, [], ◌==◌, ℕ, All, Err, None, Result, find, get_or, length, map, not, IfOk, IfErr, OnOk};
+ghost use Rattle.std.specs.Prelude.{◌≡◌, ◌+◌, ◌<◌, ◌≤◌, ◌^◌, ◌∷◌, [], ◌==◌, ℕ, All, Err, None};
+ghost use Rattle.std.specs.Prelude.{Result, find, get_or, length, map, not, IfOk, IfErr, OnOk};
 ghost use Rattle.ea_model.specs.Trace.{IsValidTrace, plain_mode};
-ghost use Rattle.ea_model.specs.declared.units.TheConstants.{MAX_NAME, MAX_SCHEDULERS};
+ghost use Rattle.ea_model.specs.declared.units.TheConstants.{MAX_SCHEDULERS};
 ghost use Rattle.ea_trace.specs.Knows.{Knows};
 ghost use Rattle.ea_trace.specs.Language;
-ghost use Rattle.ea_trace.specs.Language.{Answer, Earlier, Gives, and_last, at_end, is_unaddressed, letter_after, mode_after, refusal, refused_or, stage_after, takes_in, trace};
+ghost use Rattle.ea_trace.specs.Language.{Answer, Earlier, Gives, and_last, at_end, is_unaddressed};
+ghost use Rattle.ea_trace.specs.Language.{letter_after, mode_after, refusal, refused_or};
+ghost use Rattle.ea_trace.specs.Language.{stage_after, takes_in, trace, turns_after};
 ghost use Rattle.ea_trace.specs.Ranges.{InRange, IsNamed};
 ghost use Rattle.ea_trace.specs.Says.{said};
+ghost use Rattle.ea_trace.specs.TurnLines.{tally_in};
 
 use crate::fault::TraceFault;
 use crate::lines::{Line, read_line};
+use crate::names::Names;
 use crate::seen::Seen;
 use crate::stages::Stage;
 use crate::takes::TakeLine;
+use crate::tally::Tally;
+use crate::turns::read_turns;
 use ea_model::words::first_line;
-use ea_model::{List, MAX_NAME, Mode, Op, OutOfMemory, Trace, Turns};
+use ea_model::{List, Mode, Op, OutOfMemory, Trace, Turns};
 use std::alloc::{AllocError, Global};
 
-/// The first of these lines that takes a name which isn't given to its scheduler. The table says,
-/// by name, to which scheduler a name is given.
-fn first_unaddressed(takes: &[TakeLine], addressee: &[u32]) -> Option<TakeLine>
-    requires { All (λ t. t.name < length addressee.now) takes.now }
-    ensures { result ≡
-        find (λ t. not (t.scheduler == get_or addressee.now t.name 0)) takes.now }
+/// The first of these lines that takes a name which isn't given to its scheduler.
+fn first_unaddressed(takes: &[TakeLine], names: &Names) -> Option<TakeLine>
+    requires { All IsNamed takes.now }
+    ensures { result ≡ find (λ t. not (t.scheduler == get_or names.now.addressee.items t.name 0))
+        takes.now }
 {
     for take in takes {
-        if take.scheduler != addressee[take.name as usize] {
+        if !names.is_given_to(take.name, take.scheduler) {
             return Some(*take);
         }
     }
@@ -70,9 +76,7 @@ impl Seen {
             section: 0,
             letter: None,
             mode: None,
-            made: vec![in alloc; false; MAX_NAME as usize + 1]?,
-            holder: vec![in alloc; 0; MAX_NAME as usize + 1]?,
-            addressee: vec![in alloc; 0; MAX_NAME as usize + 1]?,
+            names: Names::new(alloc)?,
             count: 0,
             tries: 0,
             turn_count: 0,
@@ -80,13 +84,19 @@ impl Seen {
             takes: Vec::new(alloc),
             texts: List::new(alloc),
             text: List::new(alloc),
-            turns: List::new(alloc),
         })
     }
 
     /// Takes the line with this number.
-    fn take(&mut self, alloc: Global, number: u32, line: Line<&[u8]>) -> Result<(), TraceFault>
-        requires { InRange (said line) }
+    fn take(
+        &mut self,
+        alloc: Global,
+        number: u32,
+        line: Line<&[u8]>,
+        tally: Option<Tally>,
+    ) -> Result<(), TraceFault>
+        requires range { InRange (said line) }
+        requires read { tally ≡ tally_in self.old.schedulers line }
         ensures ok { OnOk result ((n : ℕ) (earlier : Earlier) → Knows n earlier self.old
             → length earlier + 1 ≡ number
             → (refusal n earlier (said line.entry) ≡ None)
@@ -95,13 +105,13 @@ impl Seen {
             → Knows n earlier self.old → length earlier + 1 ≡ number
             → Gives (Err fault) (refused_or (refusal n earlier (said line.entry)) read)) }
     {
-        if !self.admits(line) {
+        if !self.admits(line, tally) {
             return Err(TraceFault::Syntax { line: number });
         }
-        if self.is_bad(line) {
+        if self.is_bad(line, tally) {
             return Err(TraceFault::BadScheduler { line: number });
         }
-        if self.is_full(line) {
+        if self.is_full(line, tally) {
             return Err(TraceFault::TooMany { line: number });
         }
         if self.reuses(line) {
@@ -110,7 +120,7 @@ impl Seen {
         if self.lacks(line) {
             return Err(TraceFault::NotHeld { line: number });
         }
-        Ok(self.add(alloc, number, line)?)
+        Ok(self.add(alloc, number, line, tally)?)
     }
 
     /// The first line that takes a name which no line gives to its scheduler.
@@ -118,12 +128,13 @@ impl Seen {
         ensures { (n : ℕ) (earlier : Earlier) → Knows n earlier self.now
             → result ≡ find (is_unaddressed earlier) (takes_in earlier) }
     {
-        first_unaddressed(&self.takes, &self.addressee)
+        first_unaddressed(&self.takes, &self.names)
     }
 
-    /// The texts of all sections.
-    fn finish(self) -> Result<Trace, TraceFault>
-        ensures { (n : ℕ) (earlier : Earlier) → Knows n earlier self → Gives result
+    /// The texts of all sections, with these turns.
+    fn finish(self, turns: List<Turns>) -> Result<Trace, TraceFault>
+        ensures { (n : ℕ) (earlier : Earlier) → Knows n earlier self
+            → turns.items ≡ turns_after earlier → Gives result
             (at_end (stage_after earlier) (letter_after earlier) (mode_after earlier) earlier) }
     {
         let Stage::Ended = self.stage else {
@@ -137,7 +148,6 @@ impl Seen {
             greatest,
             texts,
             text,
-            turns,
             ..
         } = self;
         let (Some(letter), Some(mode)) = (letter, mode) else {
@@ -155,24 +165,6 @@ impl Seen {
     }
 }
 
-/// The trace of a text, or its first refusal.
-fn read_lines(alloc: Global, bytes: &[u8], schedulers: u32) -> Result<Trace, TraceFault>
-    requires schedulers { schedulers ≤ MAX_SCHEDULERS }
-    requires bytes { length bytes.now + 1 < 2 ^ 32 }
-    ensures { Gives result (trace bytes.now schedulers) }
-{
-    let mut seen = Seen::new(alloc, schedulers)?;
-    let mut number = 0u32;
-    let mut rest = Some(bytes);
-    while let Some(text) = rest {
-        let (line, after) = first_line(text);
-        number += 1;
-        seen.take(alloc, number, read_line(line))?;
-        rest = after;
-    }
-    seen.finish()
-}
-
 /// Reads a trace for schedulers 1 to `schedulers`, 16 at most. The text has fewer than 2^32 - 1
 /// bytes. A generated trace has no operations yet. Without `OutOfMemory` the answer is the trace
 /// that the text is, or its first refusal, with the number of the line.
@@ -182,5 +174,17 @@ pub fn read_trace(alloc: Global, bytes: &[u8], schedulers: u32) -> Result<Trace,
     ensures given { Gives result (trace bytes.now schedulers) }
     ensures valid { IfOk result (IsValidTrace schedulers) }
 {
-    read_lines(alloc, bytes, schedulers)
+    let mut seen = Seen::new(alloc, schedulers)?;
+    let mut turns = List::new(alloc);
+    let mut number = 0u32;
+    let mut rest = Some(bytes);
+    while let Some(text) = rest {
+        let (line, after) = first_line(text);
+        number += 1;
+        let line = read_line(line);
+        let tally = read_turns(&mut turns, line, schedulers)?;
+        seen.take(alloc, number, line, tally)?;
+        rest = after;
+    }
+    seen.finish(turns)
 }

@@ -1,13 +1,15 @@
-//! What is known of the lines that were taken.
-ghost use Rattle.std.specs.Prelude.{◌≡◌, ◌+◌, ◌≤◌, All, length};
-ghost use Rattle.ea_model.specs.declared.units.TheConstants.{MAX_ALL_TRIES, MAX_NAME, MAX_OPS, MAX_SCHEDULERS, MAX_TURNS};
+//! What is known of the lines that were taken, beside their turns.
+ghost use Rattle.std.specs.Prelude.{◌≤◌, All};
+ghost use Rattle.ea_model.specs.declared.units.TheConstants.{MAX_ALL_TRIES, MAX_OPS};
+ghost use Rattle.ea_model.specs.declared.units.TheConstants.{MAX_SCHEDULERS, MAX_TURNS};
 ghost use Rattle.ea_trace.specs.Ranges.{IsNamed};
 
+use crate::names::Names;
 use crate::stages::Stage;
 use crate::takes::TakeLine;
-use ea_model::{Letter, List, Mode, Op, Turns};
+use ea_model::{Letter, List, Mode, Op};
 
-/// What is known of the lines that were taken.
+/// What is known of the lines that were taken, beside their turns.
 #[derive(Drop)]
 pub struct Seen {
     /// How many sections there are to be.
@@ -20,12 +22,8 @@ pub struct Seen {
     pub letter: Option<Letter>,
     /// The mode, if a line has said it; without the turns of the schedule.
     pub mode: Option<Mode>,
-    /// Whether each name was made, by name.
-    pub made: Vec<bool>,
-    /// The last section that made or took each name, or 0.
-    pub holder: Vec<u32>,
-    /// The scheduler to which each name was given, or 0.
-    pub addressee: Vec<u32>,
+    /// What is known of each name.
+    pub names: Names,
     /// How many operations there are.
     pub count: u32,
     /// How many tries there are.
@@ -40,11 +38,6 @@ pub struct Seen {
     pub texts: List<List<Op>>,
     /// The text of the section that was begun last.
     pub text: List<Op>,
-    /// The turns of the schedule, in order.
-    pub turns: List<Turns>,
-    ghost made_names: { length made.items ≡ MAX_NAME + 1 },
-    ghost held_names: { length holder.items ≡ MAX_NAME + 1 },
-    ghost given_names: { length addressee.items ≡ MAX_NAME + 1 },
     ghost takes_named: { All IsNamed takes.items },
     ghost few_sections: { section ≤ schedulers },
     ghost few_schedulers: { schedulers ≤ MAX_SCHEDULERS },

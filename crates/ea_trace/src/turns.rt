@@ -1,12 +1,15 @@
 //! The turns of a line.
-ghost use Rattle.std.specs.Prelude.{◌≡◌, ◌<◌, ◌∷◌, [], ◌++◌, length, IfSome, OnOk, is_some};
+ghost use Rattle.std.specs.Prelude.{◌≡◌, ◌<◌, ◌∷◌, [], ◌++◌, option_map, IfOk, IfSome, OnOk};
 ghost use Rattle.std.specs.List.{slice_split};
 ghost use Rattle.std.specs.Option.{option_map_or};
 ghost use Rattle.ea_model.specs.Words.{words};
-ghost use Rattle.ea_trace.specs.Lines.{is_star, turns_in};
 ghost use Rattle.ea_trace.specs.Language.{is_outside};
-ghost use Rattle.ea_trace.specs.TurnLines.{HasPart, counted, outside_in};
+ghost use Rattle.ea_trace.specs.Lines.{is_star, turns_in};
+ghost use Rattle.ea_trace.specs.Says.{said};
+ghost use Rattle.ea_trace.specs.TurnLines.{Adds, HasPart, tally_in, tally_of};
 
+use crate::lines::Line;
+use crate::tally::Tally;
 use crate::words::scheduler;
 use ea_model::words::{first_word, number};
 use ea_model::{List, MAX_TURNS, OutOfMemory, Turns};
@@ -26,7 +29,7 @@ fn at_star(word: &[u8]) -> (&[u8], Option<&[u8]>)
 }
 
 /// The turns that a word spells: `S` is one of scheduler S, and `S*K` are K.
-pub fn turns_at(word: &[u8]) -> Option<Turns>
+fn turns_at(word: &[u8]) -> Option<Turns>
     ensures { result ≡ Rattle.ea_trace.specs.Lines.turns_at word.now }
 {
     let (first, after) = at_star(word);
@@ -46,34 +49,31 @@ pub fn turns_at(word: &[u8]) -> Option<Turns>
     }
 }
 
-/// Whether each word of a line spells turns.
-pub fn are_turns(line: &[u8]) -> bool
-    ensures { result ≡ is_some (turns_in (words line.now)) }
+/// Adds the turns that a line spells to a list, and answers what they are together; None where a
+/// word of the line spells none, and then some may have been added.
+fn add_turns(
+    list: &mut List<Turns>,
+    line: &[u8],
+    schedulers: u32,
+) -> Result<Option<Tally>, OutOfMemory>
+    ensures tally { IfOk result (λ tally.
+        tally ≡ option_map (tally_of schedulers) (turns_in (words line.now))) }
+    ensures added { OnOk result (IfSome (turns_in (words line.now))
+        (λ turns. list.new.items ≡ list.old.items ++ turns)) }
 {
-    let mut rest = line;
-    while let Some((word, after)) = first_word(rest) {
-        if turns_at(word).is_none() {
-            return false;
-        }
-        rest = after;
-    }
-    true
-}
-
-/// Whether turns of a line are of no scheduler. False where the line isn't one of turns.
-pub fn any_outside(line: &[u8], schedulers: u32) -> bool
-    ensures { result ≡ outside_in schedulers (turns_in (words line.now)) }
-{
+    let mut count = 0u32;
     let mut outside = false;
     let mut rest = line;
     while let Some((word, after)) = first_word(rest) {
         let Some(turns) = turns_at(word) else {
-            return false;
+            return Ok(None);
         };
+        list.push(turns)?;
+        count = count.saturating_add(turns.count);
         outside = outside || is_nobody(schedulers, turns.scheduler);
         rest = after;
     }
-    outside
+    Ok(Some(Tally { count, outside }))
 }
 
 /// Whether none of the schedulers 1 to `schedulers` has that number.
@@ -83,35 +83,17 @@ pub fn is_nobody(schedulers: u32, number: u32) -> bool
     number == 0 || number > schedulers
 }
 
-/// The turns so far and those of a line together, `MAX_READ` at most; 0 where the line isn't one of
-/// turns.
-pub fn with_turns(so_far: u32, line: &[u8]) -> u32
-    ensures { result ≡ counted so_far (turns_in (words line.now)) }
+/// Reads the turns of a line into a list; what they are together, if it is a line of turns.
+pub fn read_turns(
+    list: &mut List<Turns>,
+    line: Line<&[u8]>,
+    schedulers: u32,
+) -> Result<Option<Tally>, OutOfMemory>
+    ensures tally { IfOk result (λ tally. tally ≡ tally_in schedulers line.entry) }
+    ensures added { OnOk result (Adds list.old.items (said line.entry) list.new.items) }
 {
-    let mut count = so_far;
-    let mut rest = line;
-    while let Some((word, after)) = first_word(rest) {
-        let Some(turns) = turns_at(word) else {
-            return 0;
-        };
-        count = count.saturating_add(turns.count);
-        rest = after;
+    match line {
+        Line::Turns { turns } => add_turns(list, turns, schedulers),
+        _ => Ok(None),
     }
-    count
-}
-
-/// Adds the turns of a line to a list.
-pub fn add_turns(list: &mut List<Turns>, line: &[u8]) -> Result<(), OutOfMemory>
-    ensures { OnOk result (IfSome (turns_in (words line.now))
-        (λ turns. list.new.items ≡ list.old.items ++ turns)) }
-{
-    let mut rest = line;
-    while let Some((word, after)) = first_word(rest) {
-        let Some(turns) = turns_at(word) else {
-            return Ok(());
-        };
-        list.push(turns)?;
-        rest = after;
-    }
-    Ok(())
 }

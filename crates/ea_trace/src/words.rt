@@ -1,8 +1,9 @@
 //! The words of a line, and the numbers that they spell.
-ghost use Rattle.std.specs.Prelude.{◌≡◌, ◌∷◌, [], map};
-ghost use Rattle.std.specs.Option.{option_map, is_none};
+ghost use Rattle.std.specs.Prelude.{◌≡◌};
+ghost use Rattle.std.specs.Option.{option_map};
 ghost use Rattle.ea_model.specs.Words.{words};
-ghost use Rattle.ea_trace.specs.Lines.{bytes_in, count_in, name_in, scheduler_in, only_word, both_words, three_words, bare};
+ghost use Rattle.ea_trace.specs.Lines.{bytes_in, count_in, name_in, scheduler_in, only_word};
+ghost use Rattle.ea_trace.specs.Lines.{both_words, three_words, bare};
 
 use crate::lines::MAX_READ;
 use ea_model::words::{first_word, number, numeral};

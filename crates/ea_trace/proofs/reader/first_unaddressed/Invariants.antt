@@ -4,6 +4,7 @@ use Rattle.std.specs.List.{find}
 use Rattle.ea_trace.proofs.reader.first_unaddressed.Given as goal
 
 abbrev pub invariant-loop-take : goal.invariant-loop-take
-invariant-loop-take l = find (λ t. not (t.scheduler == get_or l.addressee t.name 0))
+invariant-loop-take l =
+    find (λ t. not (t.scheduler == get_or l.names.addressee.items t.name 0))
     (drop l.take-index l.takes)
-    ≡ find (λ t. not (t.scheduler == get_or l.addressee t.name 0)) l.takes
+    ≡ find (λ t. not (t.scheduler == get_or l.names.addressee.items t.name 0)) l.takes

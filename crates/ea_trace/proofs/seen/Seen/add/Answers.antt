@@ -10,8 +10,7 @@ returns-in-Operation c = on_ok_weaker c.note.result (λ d n earlier k fresh numb
     c.in-Operation.is (d n earlier k (rw c.in-Operation.is at fresh) number)) c.note.ensures
 
 pub returns-in-Turns : goal.returns-in-Turns
-returns-in-Turns c = on_ok_weaker c.note_turns.result (λ d n earlier k fresh number. rw
-    c.in-Turns.is (d n earlier k)) c.note_turns.ensures
+returns-in-Turns c = λ n earlier k fresh number. rw c.in-Turns.is (c.note_turns.ensures n earlier k)
 
 pub returns-in_default : goal.returns-in_default
 returns-in_default c = λ n earlier k fresh number. c.pass.ensures n earlier k

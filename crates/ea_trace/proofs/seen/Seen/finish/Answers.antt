@@ -3,13 +3,14 @@ use Rattle.std.specs.List.{find}
 use Rattle.std.specs.Option.{option_map}
 use Rattle.ea_model.specs.Trace.{plain_mode}
 use Rattle.ea_model.specs.declared.trace.Trace.{Trace}
-use Rattle.ea_trace.specs.Language.{and_last, is_unaddressed, letter_after, mode_after, stage_after, takes_in, texts_after, with_turns}
+use Rattle.ea_trace.specs.Language.{and_last, is_unaddressed, letter_after, mode_after, stage_after}
+use Rattle.ea_trace.specs.Language.{takes_in, texts_after, with_turns}
 use Rattle.ea_trace.specs.declared.stages.Stage.TheVariants as at
 use Rattle.ea_trace.proofs.Reading.{trace_same}
 use Rattle.ea_trace.proofs.seen.Seen.finish.Goals as goal
 
 pub returns : goal.returns
-returns c = λ n earlier k.
+returns c = λ n earlier k same.
     let stage : stage_after earlier ≡ at.Ended = sym k.stage ∙ c.in-Ended.is in
     let letter : letter_after earlier ≡ Some c.in-Some-Some.letter = sym k.letter
     ∙ c.in-Some-Some.is-0 in
@@ -28,5 +29,5 @@ returns c = λ n earlier k.
     } in
     rw (stage, letter, mode, found) (ap Ok (trace_same c.in-Some-Some.letter
     (plain_mode c.in-Some-Some.mode) earlier read refl (c.in_ok-with_last.ensures ∙ last)
-    (c.with_turns.ensures ∙ ap (λ ts. with_turns ts (plain_mode c.in-Some-Some.mode)) k.turns)
+    (c.with_turns.ensures ∙ ap (λ ts. with_turns ts (plain_mode c.in-Some-Some.mode)) same)
     k.greatest))
