@@ -14,7 +14,7 @@ const BINS: usize = 90;
 /// The bin of a size: the size itself below 64, and 58 + k for the sizes from 2^k on.
 fn bin_of(size: u32) -> usize
     ensures bin { result ≡ bin_of size }
-    ensures within { result < 90 }
+    ensures within { result < BINS }
 {
     if size < SHARED {
         return size as usize;

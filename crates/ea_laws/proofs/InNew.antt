@@ -1,22 +1,19 @@
 -- Where there was no choice, the choice with a new carrier lies in that carrier.
-use Rattle.std.proofs.Common.{◌≡◌, ◌≢◌, ℕ, ◌+◌, ◌<◌, ◌≤◌, Bool, true, false, ◌&&◌, List, [], ◌∷◌, ◌++◌, length, filter, get_or, append_assoc, length-append, sym, ap, ◌∙◌, subst, refl, inl, inr, ◌⊎◌, arith}
+use Rattle.std.proofs.Common.{◌≡◌, ℕ, ◌+◌, ◌<◌, ◌≤◌, Bool, true, false, List, [], ◌∷◌, ◌++◌, length, filter, get_or, append_assoc, length-append, sym, ap, ◌∙◌, subst, refl, inl, inr, ◌⊎◌, arith}
 use Rattle.std.specs.Prelude.{Option, Some, None, IfSome, IsNone, nat_le, All, AllPairs, Contains, option_map}
-use Rattle.std.proofs.lemmas.Bool.{and_right, cases_Bool, cases_lt, cases_order, cond-false, cond-true, cond_both, eqb-false, leb-true, lt-ltb, ltb-false, ltb-true, true≢false}
-use Rattle.std.proofs.lemmas.List.Elements.{All-cons, All-contains, All-contains_itself, All-filter, All-head, All-map, All-nil, All-tail, All-weaker, at_from_Contains, Contains-append_cases, Contains-append_left, Contains-append_right, filter-append, filter_passes}
-use Rattle.ea_model.specs.declared.carriers.BlockAt.{BlockAt}
+use Rattle.std.proofs.lemmas.Bool.{cases_Bool, cases_lt, cases_order, cond-false, cond-true, leb-true, lt-ltb, ltb-false, ltb-true, true≢false}
+use Rattle.std.proofs.lemmas.List.Elements.{All-cons, All-contains, All-contains_itself, All-filter, All-head, All-nil, All-tail, All-weaker, at_from_Contains, Contains-append_cases, Contains-append_left, Contains-append_right, filter-append, filter_passes}
 use Rattle.ea_model.specs.declared.carriers.Candidate.{Candidate}
 use Rattle.ea_model.specs.declared.carriers.CarrierPlan.{CarrierPlan}
-use Rattle.ea_model.specs.declared.carriers.Kind.{Kind}
-use Rattle.ea_model.specs.declared.carriers.Kind.TheVariants.{Main, Multi, Single}
+use Rattle.ea_model.specs.declared.carriers.Kind.TheVariants.{Multi}
 use Rattle.ea_model.specs.declared.carriers.Spot.{Spot}
 use Rattle.ea_model.specs.declared.settings.Settings.{Settings}
 use Rattle.ea_model.specs.declared.settings.Strategy.{Strategy}
 use Rattle.ea_model.specs.declared.settings.Strategy.TheVariants.{Bf, Aobf, Aoff, AoffCbf, AoffCaobf, AgeffCaoff, AgeffCbf, AgeffCaobf, Gf, Af}
 use Rattle.ea_model.specs.Choice.{first, IsFirst}
-use Rattle.ea_model.specs.Content.{Content, can_go, is_empty_multi, is_multi, is_nil, is_vacant, placed}
+use Rattle.ea_model.specs.Content.{Content, is_empty_multi}
 use Rattle.ea_model.specs.GoodFit.{is_ahead, is_inspected}
-use Rattle.ea_model.specs.Keyed.{entered, has_key}
-use Rattle.ea_model.specs.Instance.{Instance, changed, chosen_spot, created_content, creating, placing_at, with_content}
+use Rattle.ea_model.specs.Instance.{Instance, chosen_spot, created_content, creating, with_content}
 use Rattle.ea_model.specs.Strategies.{candidates, candidates_in, choice_among, choice_for, choice_empty, inspected_by, large_enough, lower, may_miss, only, or_else, spot_of, takes_first}
 use Rattle.ea_model.proofs.First.{first-All, first-IsFirst, first-none}
 use Rattle.ea_model.proofs.Options.{if_some, some_holds, some_map, unmapped}
@@ -284,51 +281,3 @@ chosen-in-new i need p spot st none full is =
     (candidates-distinct i.contents st.sound (multi-apart i st))
     (unmapped spot_of (choice_for i.settings need i.contents) (subst IsNone (sym none) refl))
     full))
-
--- a content in which a block was placed has one
-entered-some : (x : BlockAt) (bs : List BlockAt) → is_nil (entered (λ b. b.offset) x bs) ≡ false
-entered-some x [] = refl
-entered-some x (b ∷ bs) = cond_both _ (x ∷ b ∷ bs) (b ∷ entered (λ y. y.offset) x bs)
-    (λ ys. is_nil ys ≡ false) (λ _. refl) (λ _. refl)
-
--- where no carrier of another number is vacant, none is after a placement at the number
-none-vacant : (offset need name number : ℕ) (cs : List Content)
-    → All (λ c. c.number ≢ number → is_vacant c ≡ false) cs
-    → All (λ c. is_vacant c ≡ false) (changed (λ c. placed c offset need name) number cs)
-none-vacant offset need name number cs h =
-    All-map (λ c. is_vacant c ≡ false) _ cs
-    (All-weaker (λ c. c.number ≢ number → is_vacant c ≡ false) _
-    (λ c other. cond_both (has_key number_of number c) (placed c offset need name) c
-    (λ d. is_vacant d ≡ false)
-    (λ _. and_right (can_go c.kind) _ (entered-some _ c.blocks))
-    (λ f. other (eqb-false c.number number f))) cs h)
-
--- so where none is vacant, none is after a placement
-pub none-vacant-placed : (i : Instance) (need : ℕ) (spot : Spot) (name : ℕ)
-    → All (λ c. is_vacant c ≡ false) i.contents
-    → All (λ c. is_vacant c ≡ false) (placing_at i spot need name).contents
-none-vacant-placed i need spot name full =
-    none-vacant spot.offset need name spot.carrier i.contents
-    (All-weaker (λ c. is_vacant c ≡ false) (λ c. c.number ≢ spot.carrier → is_vacant c ≡ false)
-    (λ c f _. f) i.contents full)
-
-not_empty : (k : Kind) (bs : List BlockAt) → (can_go k && is_nil bs) ≡ false
-    → (is_multi k && is_nil bs) ≡ false
-not_empty Main bs f = refl
-not_empty Multi bs f = f
-not_empty Single bs f = refl
-
--- nor after one with a planned carrier, where there was no choice without it
-pub none-vacant-in-new : (i : Instance) (need : ℕ) (p : CarrierPlan) (spot : Spot) (name : ℕ)
-    → Stands i → chosen_spot i need ≡ None → All (λ c. is_vacant c ≡ false) i.contents
-    → chosen_spot (creating i p) need ≡ Some spot
-    → All (λ c. is_vacant c ≡ false) (placing_at (creating i p) spot need name).contents
-none-vacant-in-new i need p spot name st none full is =
-    let at = chosen-in-new i need p spot st none
-    (All-weaker (λ c. is_vacant c ≡ false) (λ c. is_empty_multi c ≡ false)
-    (λ c. not_empty c.kind c.blocks) i.contents full) is in
-    let P : Content → Type 0 = λ c. c.number ≢ spot.carrier → is_vacant c ≡ false in
-    none-vacant spot.offset need name spot.carrier (creating i p).contents
-    (All-entered number_of P (created_content i.number Multi p) i.contents
-    (λ other. absurd (other (sym at)))
-    (All-weaker (λ c. is_vacant c ≡ false) P (λ c f _. f) i.contents full))

@@ -13,9 +13,9 @@ use Rattle.ea_model.specs.declared.carriers.Candidate.{Candidate}
 use Rattle.ea_model.specs.declared.carriers.CarrierPlan.{CarrierPlan}
 use Rattle.ea_model.specs.declared.carriers.Kind.TheVariants.{Multi}
 use Rattle.ea_model.specs.declared.carriers.Spot.{Spot}
-use Rattle.ea_model.specs.Content.{Content, gap_at, gaps_of, is_empty_multi, is_vacant, placed, released, taken_of}
+use Rattle.ea_model.specs.Content.{Content, gap_at, gaps_of, is_empty_multi, placed, released, taken_of}
 use Rattle.ea_model.specs.Choice.{first}
-use Rattle.ea_model.specs.Keyed.{IsBelow, merged, without}
+use Rattle.ea_model.specs.Keyed.{IsBelow, without}
 use Rattle.ea_model.specs.declared.carriers.OwnCarrier.{OwnCarrier}
 use Rattle.ea_model.specs.Employment.{dismissing, disowning, employing}
 use Rattle.ea_model.specs.Region.{SegmentApart}
@@ -732,19 +732,4 @@ new-Stands s number first pages valid own within main =
       | inr none ↦ subst as_list
           (sym (cond-false (nat_lt 0 s.mmbcs) (main_content s number first ∷ []) [] (grind arith)))
           (new_without s number first pages valid own within)
-    ]
-
--- it has no carrier without blocks but the main one
-pub new-occupied : (s : Settings) (number first pages : ℕ)
-    → All (λ c. is_vacant c ≡ false) (employed (new_instance s number first pages))
-new-occupied s number first pages =
-    let stays : Content → Type 0 = λ c. is_vacant c ≡ false in
-    let all : List Content → Type 0 = λ cs. All stays (merged number_of cs []) in
-    elim (cases_lt 0 s.mmbcs) [
-      | inl some ↦ subst all
-          (sym (cond-true (nat_lt 0 s.mmbcs) (main_content s number first ∷ []) [] (grind arith)))
-          (All-cons stays (main_content s number first) [] refl (All-nil stays))
-      | inr none ↦ subst all
-          (sym (cond-false (nat_lt 0 s.mmbcs) (main_content s number first ∷ []) [] (grind arith)))
-          (All-nil stays)
     ]

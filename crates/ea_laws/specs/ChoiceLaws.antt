@@ -1,29 +1,17 @@
 -- Laws of the choice among gaps, for each strategy, each need and all contents.
-use Rattle.std.specs.Prelude.{◌≡◌, ◌⊎◌, ◌↔◌, ℕ, ◌<◌, true, false, List, Some, All, IfSome, IsNone, filter}
+use Rattle.std.specs.Prelude.{◌≡◌, ◌⊎◌, ◌↔◌, ℕ, ◌<◌, true, false, List, Some, All, IsNone, filter}
 use Rattle.std.specs.Cmp.{IsStrictWeakOrder}
 use Rattle.ea_model.specs.declared.carriers.Candidate.{Candidate}
 use Rattle.ea_model.specs.declared.settings.Settings.{Settings}
 use Rattle.ea_model.specs.declared.settings.Strategy.{Strategy}
 use Rattle.ea_model.specs.Choice.{IsFirst}
 use Rattle.ea_model.specs.Content.{Content, is_empty_multi}
-use Rattle.ea_model.specs.Strategies.{candidates, choice_among, choice_empty, choice_for, inspected_by, large_enough, lower, may_miss, takes_first}
+use Rattle.ea_model.specs.Strategies.{candidates, choice_among, choice_for, inspected_by, large_enough, lower, may_miss, takes_first}
 use Rattle.ea_laws.specs.Spots.{FindsNone}
 
 -- each strategy orders the candidates strictly
 abbrev pub Orders : Type 0
 Orders = (strategy : Strategy) → IsStrictWeakOrder (takes_first strategy)
-
--- of what the strategy inspects and that is large enough, none comes before the chosen one
-abbrev pub ChoosesFirst : Type 0
-ChoosesFirst = (strategy : Strategy) (depth need : ℕ) (cs : List Content)
-    → IfSome (choice_among strategy depth need cs)
-    (IsFirst (takes_first strategy)
-    (large_enough need (inspected_by strategy depth (candidates cs))))
-
--- of the carriers without blocks that are large enough, none lies lower than the chosen one
-abbrev pub ChoosesLowestEmpty : Type 0
-ChoosesLowestEmpty = (need : ℕ) (cs : List Content) → IfSome (choice_empty need cs)
-    (IsFirst lower (large_enough need (candidates (filter is_empty_multi cs))))
 
 -- of the gaps that the strategy inspects and that are large enough, it takes this one first; or the
 -- strategy may miss a gap, none of those is large enough, and this is the lowest of a carrier

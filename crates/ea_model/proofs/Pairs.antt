@@ -36,12 +36,3 @@ module _ {A : Type 0} (R : A → A → Type 0) where
       AllPairs-cons R (f y) (map f ys)
       (All-map (R (f y)) f ys (λ k d within. p zero (suc k) d (omega arith) (omega arith)))
       (pairs_map f ys (λ i j d lt within. p (suc i) (suc j) d (omega arith) (omega arith)))
-
-  -- what holds of the pairs of images holds so of the pairs
-  pub pairs_unmap : {B : Type 0} (f : B → A) (ys : List B) → AllPairs R (map f ys)
-      → AllPairs (λ a b. R (f a) (f b)) ys
-  pairs_unmap f [] p = λ i j d lt within. absurd (omega arith)
-  pairs_unmap f (y ∷ ys) p =
-      AllPairs-cons (λ a b. R (f a) (f b)) y ys
-      (all_unmap (R (f y)) f ys (pairs_head (f y) (map f ys) p))
-      (pairs_unmap f ys (pairs_tail (f y) (map f ys) p))

@@ -2,8 +2,6 @@
 -- would create next.
 use Rattle.std.specs.Prelude.{ℕ, zero, suc, ◌+◌, ◌-◌, ◌*◌, ◌/◌, max, Bool, false, if◌then◌else◌, nat_lt, nat_le, List, [], ◌∷◌, Option, Some, None, Result, Ok, Err, filter, length, map, sum_by, option_map, is_some}
 use Rattle.std.specs.Option.{option_and_then, option_map_or}
-use Rattle.ea_model.specs.declared.settings.Config.{Config}
-use Rattle.ea_model.specs.declared.settings.Letter.{Letter}
 use Rattle.ea_model.specs.declared.settings.Settings.{Settings}
 use Rattle.ea_model.specs.declared.carriers.Kind.{Kind}
 use Rattle.ea_model.specs.declared.carriers.Kind.TheVariants.{Main, Multi, Single}
@@ -17,7 +15,6 @@ use Rattle.ea_model.specs.declared.carriers.Figures.{Figures}
 use Rattle.ea_model.specs.declared.carriers.CarrierLine.{CarrierLine}
 use Rattle.ea_model.specs.declared.carriers.Totals.{Totals}
 use Rattle.ea_model.specs.declared.carriers.Standing.TheVariants as standing
-use Rattle.ea_model.specs.Settings.{region_pages, settings_of}
 use Rattle.ea_model.specs.Units.{pages_for}
 use Rattle.ea_model.specs.declared.reallocation.Decision.{Decision}
 use Rattle.ea_model.specs.declared.reallocation.Decision.TheVariants.{Stay, ShrinkHere, GrowHere, ShrinkCarrier, Move}
@@ -373,7 +370,3 @@ totals cs = record {
   free = sum_by (λ c. free_units (gaps_of c)) cs;
   header = HEADER_UNITS * length cs;
 }
-
--- instance 1 of an allocator, as the configuration makes it
-abbrev pub instance_of : Config → Letter → Instance
-instance_of c letter = new_instance (settings_of c letter) 1 0 (region_pages c)

@@ -1,5 +1,5 @@
 //! Sizes and limits. A unit is 8 bytes; carriers, blocks and gaps are counted in units.
-ghost use Rattle.std.specs.Prelude.{◌≡◌, ◌+◌, ◌^◌, ◌<◌};
+ghost use Rattle.std.specs.Prelude.{◌≡◌, ◌+◌, ◌≤◌};
 ghost use Rattle.ea_model.specs.Units.{need_of, pages_for};
 
 /// The bytes of a unit.
@@ -49,10 +49,10 @@ pub const MAX_UNITS: u32 = 67_108_864;
 /// The most bytes of an input.
 pub const MAX_INPUT: usize = 16_777_216;
 
-/// The units that a request of `bytes` takes: its bytes in whole units and the block's header of
-/// one unit, rounded up to an even number, and 6 at least.
+/// The units that a request of `bytes` takes, at most `MAX_BYTES`: its bytes in whole units and the
+/// block's header of one unit, rounded up to an even number, and `MIN_BLOCK` at least.
 pub fn need(bytes: u32) -> u32
-    requires { bytes < 2 ^ 30 }
+    requires { bytes ≤ MAX_BYTES }
     ensures { result ≡ need_of bytes }
 {
     let units = 1 + bytes.div_ceil(UNIT_BYTES);

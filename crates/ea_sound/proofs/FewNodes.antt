@@ -15,10 +15,6 @@ module _ (node_of : ℕ → Node) where
   abbrev among : ℕ → List Mark → ℕ
   among k ms = total_at k (λ i. alike_in (node_of i)) (λ i. ms)
 
-  among-nil : (k : ℕ) → among k [] ≡ 0
-  among-nil zero = refl
-  among-nil (suc k) = omega (arith, among-nil k)
-
   among-cons : (k : ℕ) (m : Mark) (ms : List Mark)
       → among k (m ∷ ms) ≡ among k (m ∷ []) + among k ms
   among-cons zero m ms = refl
