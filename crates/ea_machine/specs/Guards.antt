@@ -5,7 +5,8 @@ use Rattle.ea_machine.specs.declared.nodes.Node.{Node}
 use Rattle.ea_machine.specs.declared.owners.OwnerWord.{OwnerWord}
 use Rattle.ea_machine.specs.declared.owners.OwnerWord.TheVariants as word
 use Rattle.ea_machine.specs.Nodes.{first_node, named_at, pushed, same_node}
-use Rattle.ea_machine.specs.Owners.{Absent, Employed, Busy, Returning, owner_of}
+use Rattle.ea_machine.specs.Owners.{Absent, Employed, Busy, Returning}
+use Rattle.ea_model.specs.Instance.{owner_of}
 use Rattle.ea_machine.specs.Setup.{Setup}
 use Rattle.ea_machine.specs.Shared.{Shared}
 use Rattle.ea_machine.specs.declared.stages.Stage.TheVariants.{Collecting, Fetching}

@@ -1,9 +1,9 @@
 -- The machine: what a scheduler wants, a step, and a run.
 use Rattle.std.specs.Prelude.{◌≡◌, ℕ, Bool, true, false, ◌&&◌, nat_lt, ◌==◌, List, [], ◌∷◌, Option, None, Some}
-use Rattle.ea_model.specs.Instance.{Instance, first_number, new_instance}
+use Rattle.ea_model.specs.Instance.{Instance, first_number, new_instance, owner_of}
 use Rattle.ea_model.specs.Content.{Content}
 use Rattle.ea_machine.specs.declared.nodes.Node.{Node}
-use Rattle.ea_machine.specs.Owners.{CarrierAt, Absent, Employed, owner_of}
+use Rattle.ea_machine.specs.Owners.{CarrierAt, Absent, Employed}
 use Rattle.ea_machine.specs.Setup.{Setup, first_page, is_scheduler, migration}
 use Rattle.ea_machine.specs.Shared.{put}
 use Rattle.ea_machine.specs.declared.stages.Stage.{Stage}

@@ -11,11 +11,11 @@ use Rattle.ea_model.specs.declared.trace.Trace.{Trace}
 use Rattle.ea_model.specs.declared.settings.Config.{Config}
 use Rattle.ea_model.specs.Content.{Content, size_of}
 use Rattle.ea_model.specs.Trace.{listed}
-use Rattle.ea_model.specs.Instance.{block_in, carrier_line, content_of, is_used, totals}
+use Rattle.ea_model.specs.Instance.{block_in, carrier_line, content_of, is_used, totals, owner_of}
 use Rattle.ea_machine.specs.declared.nodes.Node.{Node}
 use Rattle.ea_machine.specs.declared.nodes.Node.TheVariants.{Block, Carrier}
 use Rattle.ea_machine.specs.Nodes.{Mark}
-use Rattle.ea_machine.specs.Owners.{CarrierAt, Absent, Employed, Pooled, Busy, Returning, owner_of}
+use Rattle.ea_machine.specs.Owners.{CarrierAt, Absent, Employed, Pooled, Busy, Returning}
 use Rattle.ea_machine.specs.Setup.{Setup, greatest_number, migration, setup_of}
 use Rattle.ea_machine.specs.declared.stages.Stage.{Stage}
 use Rattle.ea_machine.specs.declared.stages.Route.{Route}

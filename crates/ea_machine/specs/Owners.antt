@@ -1,13 +1,8 @@
--- Carriers as schedulers share them: their owners, where they are, and their owner words.
-use Rattle.std.specs.Prelude.{ℕ, ◌+◌, ◌-◌, ◌/◌, Bool, true, false, ◌&&◌, ◌==◌}
-use Rattle.ea_model.specs.declared.units.TheConstants.{NUMBERS}
+-- Carriers as schedulers share them: where they are, and their owner words.
+use Rattle.std.specs.Prelude.{ℕ, Bool, true, false, ◌&&◌, ◌==◌}
 use Rattle.ea_model.specs.Content.{Content}
 use Rattle.ea_machine.specs.declared.owners.OwnerWord.{OwnerWord}
 use Rattle.ea_machine.specs.declared.owners.OwnerWord.TheVariants as word
-
--- the instance that owns a carrier, by its number: each has 256 of them, instance 1 the lowest
-abbrev pub owner_of : ℕ → ℕ
-owner_of number = (number - 1) / NUMBERS + 1
 
 -- where a carrier is; a content beside the word is at home, where no scheduler has it
 pub data CarrierAt : Type 0 where

@@ -43,9 +43,13 @@ pub record Instance : Type 0 where
   pub singles : List Content
   pub created : ℕ
 
--- the first of the 256 carrier numbers of an instance
+-- the first carrier number of an instance: each has as many, and instance 1 the lowest
 abbrev pub first_number : ℕ → ℕ
 first_number instance = NUMBERS * (instance - 1) + 1
+
+-- the instance that owns a carrier, by its number
+abbrev pub owner_of : ℕ → ℕ
+owner_of number = (number - 1) / NUMBERS + 1
 
 -- a new carrier; a page has 512 units
 abbrev pub created_content : ℕ → Kind → CarrierPlan → Content

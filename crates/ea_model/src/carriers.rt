@@ -1,6 +1,10 @@
 //! Carriers, blocks and gaps.
+ghost use Rattle.std.specs.Prelude.{◌≡◌, ◌+◌, ◌^◌, ◌<◌, ◌≤◌};
+ghost use Rattle.ea_model.specs.declared.units.TheConstants.{MAX_SCHEDULERS, NUMBERS};
+ghost use Rattle.ea_model.specs.Instance as instances;
 
 use crate::keyed::Keyed;
+use crate::units::NUMBERS;
 
 /// How a gap is chosen inside a carrier.
 #[derive(Debug, Clone, Copy, PartialEq, Eq)]
@@ -199,6 +203,22 @@ pub struct Figures {
     pub blocks_size: u64,
     pub carriers: u64,
     pub carriers_size: u64,
+}
+
+/// The first carrier number of an instance, which is 1 at least.
+pub fn first_number(instance: u32) -> u32
+    requires { (1 ≤ instance) × (instance ≤ MAX_SCHEDULERS) }
+    ensures first { result ≡ instances.first_number instance }
+    ensures fits { result + NUMBERS < 2 ^ 32 }
+{
+    (instance - 1) * NUMBERS + 1
+}
+
+/// The instance that owns the carrier with that number, which is 1 at least.
+pub fn owner_of(carrier: u32) -> u32
+    ensures { result ≡ instances.owner_of carrier }
+{
+    carrier.saturating_sub(1) / NUMBERS + 1
 }
 
 /// A value that stands for the content of a multiblock carrier.

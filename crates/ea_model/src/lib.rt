@@ -18,7 +18,7 @@ pub mod words;
 
 pub use carriers::{
     Block, BlockAt, Candidate, Carried, CarrierLine, CarrierPlan, Figures, Gap, Inner, Kind,
-    OwnCarrier, Place, Segment, Spot, Standing, Totals,
+    OwnCarrier, Place, Segment, Spot, Standing, Totals, first_number, owner_of,
 };
 pub use entries::{Entry, NoCarrier, Report, Triple};
 pub use lists::{List, OutOfMemory};
@@ -31,5 +31,5 @@ pub use units::{
     HEADER_UNITS, KILOBYTE_UNITS, MAX_ALL_TRIES, MAX_BYTES, MAX_GROWTH_CARRIERS, MAX_INPUT,
     MAX_MEGABYTES, MAX_NAME, MAX_OPS, MAX_PAGES, MAX_PERCENT, MAX_SCHEDULERS, MAX_SEARCH_DEPTH,
     MAX_SEED, MAX_TRIES, MAX_TURNS, MAX_UNITS, MEGABYTE_PAGES, MIN_BLOCK, NUMBERS, PAGE_UNITS,
-    SEARCH_LIMIT, UNIT_BYTES, least_pages, need,
+    SEARCH_LIMIT, UNIT_BYTES, least_pages, need, pages_for,
 };

@@ -60,6 +60,13 @@ pub fn need(bytes: u32) -> u32
     even.max(MIN_BLOCK)
 }
 
+/// The pages that hold that many units.
+pub fn pages_for(units: u32) -> u32
+    ensures { result ≡ pages_for units }
+{
+    units.div_ceil(PAGE_UNITS)
+}
+
 /// The pages of the least carrier that holds a block of that many units, and its own header.
 pub fn least_pages(units: u32) -> u32
     ensures { result ≡ pages_for (HEADER_UNITS + units) }

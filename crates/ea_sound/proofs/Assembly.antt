@@ -7,7 +7,7 @@ use Rattle.ea_model.specs.declared.carriers.Kind.{Kind}
 use Rattle.ea_model.specs.declared.carriers.Kind.TheVariants.{Main, Multi, Single}
 use Rattle.ea_model.specs.declared.entries.Entry.{Entry}
 use Rattle.ea_model.specs.Content.{Content, is_nil}
-use Rattle.ea_model.specs.Instance.{content_of, employed, releasing_at}
+use Rattle.ea_model.specs.Instance.{content_of, employed, releasing_at, owner_of}
 use Rattle.ea_model.proofs.Rising.{item_at-key}
 use Rattle.ea_laws.specs.Kept.{number_of}
 use Rattle.ea_machine.specs.declared.nodes.Node.{Node}
@@ -25,7 +25,6 @@ use Rattle.ea_machine.specs.declared.tasks.Gone.{Gone}
 use Rattle.ea_machine.specs.declared.tasks.Gone.TheVariants.{Open, Here as HereGone, Queued}
 use Rattle.ea_machine.specs.Nodes.{block_node, named_at}
 use Rattle.ea_machine.specs.declared.nodes.Named.{Named}
-use Rattle.ea_machine.specs.Owners.{owner_of}
 use Rattle.ea_machine.specs.Releases.{Turned, dismissed, disowned, employed_by, first_gone, forwarded, after_release, after_release_by, leaving_by, lightened, looked, looked_at, owned_by, pooled_by, release_here, route_of, routed, sent_to, settled, abandoned_if, tried, turned}
 use Rattle.ea_machine.specs.Rows.{Answer, Done, Head, Rests, Passes, Saw, Won, Lost, Home, Got}
 use Rattle.ea_machine.specs.Setup.{Setup, migration}

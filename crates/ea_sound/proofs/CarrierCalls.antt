@@ -11,7 +11,7 @@ use Rattle.ea_model.specs.declared.carriers.Kind.TheVariants.{Multi}
 use Rattle.ea_model.specs.declared.settings.Config.{Config}
 use Rattle.ea_model.specs.declared.trace.Trace.{Trace}
 use Rattle.ea_model.specs.Content.{Content, block_at, gaps_of, largest}
-use Rattle.ea_model.specs.Instance.{content_of, employed, own_at, own_of}
+use Rattle.ea_model.specs.Instance.{content_of, employed, own_at, own_of, owner_of}
 use Rattle.ea_model.specs.Settings.{IsValidConfig}
 use Rattle.ea_model.specs.Trace.{IsScheduler, IsValidTrace}
 use Rattle.ea_laws.specs.Kept.{ContentsApart, IsForeign, IsLaidOut, IsSomeones, number_of}
@@ -34,7 +34,7 @@ use Rattle.ea_machine.specs.Actor.{Actor}
 use Rattle.ea_sound.specs.Contents.{AtHome, Everywhere, hand_sum, home_sum, seats}
 use Rattle.ea_machine.specs.Machine.{IsReached}
 use Rattle.ea_sound.specs.Names.{of_hand, only_at}
-use Rattle.ea_machine.specs.Owners.{CarrierAt, Absent, Busy, Employed, Pooled, Returning, owner_of, word_of}
+use Rattle.ea_machine.specs.Owners.{CarrierAt, Absent, Busy, Employed, Pooled, Returning, word_of}
 use Rattle.ea_sound.specs.Places.{IsNumber, has_number, is_there, none}
 use Rattle.ea_sound.specs.Ranges.{IsApartFrom}
 use Rattle.ea_machine.specs.Rows.{Answer, Won}

@@ -10,7 +10,7 @@ use Rattle.ea_model.specs.declared.carriers.OwnCarrier.{OwnCarrier}
 use Rattle.ea_model.specs.declared.carriers.Spot.{Spot}
 use Rattle.ea_model.specs.Content.{Content, block_at, released}
 use Rattle.ea_model.specs.Keyed.{without}
-use Rattle.ea_model.specs.Instance.{Instance, changed, content_of, employed, own_at, own_of, releasing_at, without_own}
+use Rattle.ea_model.specs.Instance.{Instance, changed, content_of, employed, own_at, own_of, releasing_at, without_own, owner_of}
 use Rattle.ea_model.proofs.Options.{same-some}
 use Rattle.ea_model.proofs.Rising.{item_at-All, item_at-key, item_past, without_here}
 use Rattle.ea_laws.specs.Kept.{number_of, own_number, HasOneBlock, IsLaidOut, IsLaidOutAlone, IsRising}
@@ -27,7 +27,6 @@ use Rattle.ea_model.specs.Employment.{dismissing}
 use Rattle.ea_sound.specs.Contents.{hand_sum}
 use Rattle.ea_sound.specs.Names.{of_block, of_content, only}
 use Rattle.ea_machine.specs.declared.nodes.Named.{Named}
-use Rattle.ea_machine.specs.Owners.{owner_of}
 use Rattle.ea_sound.specs.Ranges.{IsLaidOutAsKind}
 use Rattle.ea_machine.specs.Releases.{dismissed, disowned}
 use Rattle.ea_machine.specs.Setup.{Setup, is_scheduler, migration}

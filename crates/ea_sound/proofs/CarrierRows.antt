@@ -7,7 +7,7 @@ use Rattle.ea_model.specs.declared.carriers.Kind.TheVariants.{Multi, Single}
 use Rattle.ea_model.specs.declared.carriers.OwnCarrier.{OwnCarrier}
 use Rattle.ea_model.specs.declared.carriers.Spot.{Spot}
 use Rattle.ea_model.specs.Content.{Content}
-use Rattle.ea_model.specs.Instance.{content_of, created_content, created_single, creating, creating_single, employed, own_at, plan, planned_own, single_place}
+use Rattle.ea_model.specs.Instance.{content_of, created_content, created_single, creating, creating_single, employed, own_at, plan, planned_own, single_place, owner_of}
 use Rattle.ea_model.proofs.Rising.{All-entered}
 use Rattle.ea_laws.specs.Kept.{number_of, own_number}
 use Rattle.ea_machine.specs.declared.nodes.Node.{Node}
@@ -19,7 +19,7 @@ use Rattle.ea_model.specs.Employment.{employing}
 use Rattle.ea_machine.specs.Nodes.{name_of}
 use Rattle.ea_sound.specs.Names.{allocated, of_content, of_hand, of_named, of_node, only}
 use Rattle.ea_sound.specs.NodePlaces.{of_carrier_hand, of_carrier_node, of_link}
-use Rattle.ea_machine.specs.Owners.{Absent, Employed, Pooled, owner_of}
+use Rattle.ea_machine.specs.Owners.{Absent, Employed, Pooled}
 use Rattle.ea_machine.specs.Placements.{holding, spot_of_place}
 use Rattle.ea_machine.specs.Setup.{Setup, is_scheduler, migration}
 use Rattle.ea_machine.specs.Shared.{at_place}

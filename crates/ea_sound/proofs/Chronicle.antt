@@ -10,7 +10,7 @@ use Rattle.ea_model.specs.declared.entries.NoCarrier.{NoCarrier}
 use Rattle.ea_model.specs.declared.operations.Op.{Op}
 use Rattle.ea_model.specs.declared.operations.Op.TheVariants as op
 use Rattle.ea_model.specs.declared.units.TheConstants.{SEARCH_LIMIT}
-use Rattle.ea_model.specs.Instance.{chosen_spot, plan}
+use Rattle.ea_model.specs.Instance.{chosen_spot, plan, owner_of}
 use Rattle.ea_model.specs.Content.{Content}
 use Rattle.ea_machine.specs.declared.owners.OwnerWord.{OwnerWord}
 use Rattle.ea_machine.specs.declared.stages.Stage.{Stage}
@@ -30,7 +30,6 @@ use Rattle.ea_sound.specs.Entries.{Makes}
 use Rattle.ea_sound.specs.HandedOver.{HasHeld, HasPushed, IsAnother}
 use Rattle.ea_machine.specs.declared.nodes.Node.{Node}
 use Rattle.ea_machine.specs.Nodes.{block_node}
-use Rattle.ea_machine.specs.Owners.{owner_of}
 use Rattle.ea_sound.specs.Exhausted.{IsFailOf, seen_since}
 use Rattle.ea_machine.specs.Machine.{run}
 use Rattle.ea_sound.specs.Needs.{AsksFor}

@@ -10,7 +10,7 @@ use Rattle.ea_model.specs.declared.entries.Entry.TheVariants as entry
 use Rattle.ea_model.specs.declared.entries.NoCarrier.{NoCarrier}
 use Rattle.ea_model.specs.declared.entries.NoCarrier.TheVariants.{Space}
 use Rattle.ea_model.specs.declared.units.TheConstants.{SEARCH_LIMIT}
-use Rattle.ea_model.specs.Instance.{chosen_spot, creating, is_alone, place_at, plan, single_place, creating_single, placing_at}
+use Rattle.ea_model.specs.Instance.{chosen_spot, creating, is_alone, place_at, plan, single_place, creating_single, placing_at, owner_of}
 use Rattle.ea_laws.proofs.Keeping.{plan-IsPlanned}
 use Rattle.ea_model.specs.Content.{Content}
 use Rattle.ea_machine.specs.declared.stages.Stage.TheVariants.{Begin, Ready, Ended, Routed}
@@ -42,7 +42,6 @@ use Rattle.ea_sound.proofs.Chronicle.{HasOld, IsOut, LeftBy, OnWay, PushedBy, Pu
 use Rattle.ea_sound.proofs.ShortRoutes.{Keeps, here-short, keeps-on, route-keeps}
 use Rattle.ea_sound.specs.Contents.{actor_sum, seats}
 use Rattle.ea_machine.specs.Nodes.{named_at, block_node, without_name}
-use Rattle.ea_machine.specs.Owners.{owner_of}
 use Rattle.ea_sound.specs.Released.{LiesAt, blocks_named as blocks_of_name, says_failed}
 use Rattle.ea_sound.specs.Names.{allocated, of_hand, only}
 use Rattle.ea_machine.specs.State.{State}

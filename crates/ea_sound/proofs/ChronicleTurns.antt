@@ -5,7 +5,7 @@ use Rattle.std.proofs.lemmas.List.{append_assoc}
 use Rattle.ea_model.specs.declared.entries.Entry.TheVariants as entry
 use Rattle.ea_model.specs.declared.operations.Op.TheVariants as op
 use Rattle.ea_model.specs.declared.units.TheConstants.{SEARCH_LIMIT}
-use Rattle.ea_model.specs.Instance.{chosen_spot}
+use Rattle.ea_model.specs.Instance.{chosen_spot, owner_of}
 use Rattle.ea_machine.specs.declared.owners.OwnerWord.{OwnerWord}
 use Rattle.ea_machine.specs.declared.stages.Stage.{Stage}
 use Rattle.ea_machine.specs.declared.stages.Stage.TheVariants.{Begin, Routed, Collecting, Searching, Fetching, Creating, Giving, Taking, Ended, Ready}
@@ -50,7 +50,6 @@ use Rattle.ea_sound.proofs.GoneBlocks.{pushed-after, hand-out, look-names, name-
 use Rattle.ea_machine.specs.declared.tasks.Task.{Task}
 use Rattle.ea_machine.specs.declared.tasks.Gone.TheVariants.{Open, Here, Queued}
 use Rattle.ea_machine.specs.declared.nodes.Node.TheVariants.{Carrier}
-use Rattle.ea_machine.specs.Owners.{owner_of}
 use Rattle.ea_sound.specs.Names.{only}
 use Rattle.ea_model.specs.Content.{Content, is_nil}
 use Rattle.ea_sound.proofs.Employers.{there-on}

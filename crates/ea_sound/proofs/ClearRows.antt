@@ -4,7 +4,7 @@ use Rattle.std.specs.Prelude.{Some}
 use Rattle.ea_model.specs.declared.carriers.OwnCarrier.{OwnCarrier}
 use Rattle.ea_model.specs.declared.carriers.Spot.{Spot}
 use Rattle.ea_model.specs.Content.{Content}
-use Rattle.ea_model.specs.Instance.{own_at, own_of}
+use Rattle.ea_model.specs.Instance.{own_at, own_of, owner_of}
 use Rattle.ea_laws.specs.Kept.{IsLaidOut, IsWhole, own_number}
 use Rattle.ea_machine.specs.declared.nodes.Node.{Node}
 use Rattle.ea_machine.specs.declared.stages.Stage.TheVariants.{Begin, Collecting, Routed}
@@ -15,7 +15,7 @@ use Rattle.ea_machine.specs.declared.tasks.Gone.{Gone}
 use Rattle.ea_sound.specs.Contents.{AtHome, InHand, hand_sum, home_sum, slots}
 use Rattle.ea_sound.specs.Names.{of_block, of_content, of_hand}
 use Rattle.ea_sound.specs.NodePlaces.{of_carrier_hand, of_link}
-use Rattle.ea_machine.specs.Owners.{Absent, Employed, Returning, owner_of}
+use Rattle.ea_machine.specs.Owners.{Absent, Employed, Returning}
 use Rattle.ea_sound.specs.Ranges.{IsLaidOutAsKind}
 use Rattle.ea_machine.specs.Releases.{disowned}
 use Rattle.ea_machine.specs.Setup.{Setup, is_scheduler, migration}

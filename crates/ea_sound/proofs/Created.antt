@@ -4,14 +4,13 @@ use Rattle.std.specs.Prelude.{None, Ok, ◌&&◌, nat_lt, nat_le}
 use Rattle.ea_model.specs.declared.carriers.BlockAt.{BlockAt}
 use Rattle.ea_model.specs.declared.carriers.CarrierPlan.{CarrierPlan}
 use Rattle.ea_model.specs.declared.carriers.Kind.{Kind}
-use Rattle.ea_model.specs.Instance.{Instance, content_of, created_content, creating, creating_single, employed, plan, planned_own, with_own}
+use Rattle.ea_model.specs.Instance.{Instance, content_of, created_content, creating, creating_single, employed, plan, planned_own, with_own, owner_of}
 use Rattle.ea_model.specs.Strategies.{may_miss}
 use Rattle.ea_model.proofs.Rising.{item_at-new}
 use Rattle.ea_laws.specs.Kept.{own_number}
 use Rattle.ea_laws.proofs.Keeping.{IsKept-made, pages_of_units}
 use Rattle.ea_laws.proofs.Owned.{unused-All}
 use Rattle.ea_sound.specs.Contents.{slots}
-use Rattle.ea_machine.specs.Owners.{owner_of}
 use Rattle.ea_machine.specs.Setup.{Setup, first_page, is_scheduler, migration}
 use Rattle.ea_sound.specs.Rule.{Belongs, Standing}
 use Rattle.ea_sound.proofs.Choosing.{migrating-misses_none}

@@ -9,7 +9,8 @@ use Rattle.ea_laws.specs.Kept.{own_number}
 use Rattle.ea_machine.specs.declared.stages.Stage.TheVariants.{Ended}
 use Rattle.ea_sound.specs.Contents.{actor_sum, home_sum, seats, slots, sum_everywhere}
 use Rattle.ea_sound.specs.NodePlaces.{anywhere}
-use Rattle.ea_machine.specs.Owners.{CarrierAt, Absent, Employed, Pooled, Busy, Returning, owner_of}
+use Rattle.ea_machine.specs.Owners.{CarrierAt, Absent, Employed, Pooled, Busy, Returning}
+use Rattle.ea_model.specs.Instance.{owner_of}
 use Rattle.ea_machine.specs.Setup.{Setup, is_scheduler, migration}
 use Rattle.ea_machine.specs.State.{State}
 use Rattle.ea_machine.specs.Sums.{one_if, sum_over, total, total_at}

@@ -5,7 +5,7 @@ use Rattle.std.specs.Prelude.{Option, None, Some, ◌==◌}
 use Rattle.ea_model.specs.declared.carriers.Kind.{Kind}
 use Rattle.ea_model.specs.declared.carriers.Kind.TheVariants.{Main, Multi, Single}
 use Rattle.ea_model.specs.Content.{Content, is_nil}
-use Rattle.ea_model.specs.Instance.{content_of, employed, releasing_at}
+use Rattle.ea_model.specs.Instance.{content_of, employed, releasing_at, owner_of}
 use Rattle.ea_model.specs.Abandonment.{is_due}
 use Rattle.ea_machine.specs.declared.stages.Route.{Route}
 use Rattle.ea_machine.specs.declared.stages.Route.TheVariants.{Looking, Trying, Settling, Abandoning, Sending, Clearing, Pushing, Linking}
@@ -16,7 +16,6 @@ use Rattle.ea_machine.specs.declared.nodes.Named.{Named}
 use Rattle.ea_machine.specs.declared.owners.OwnerWord.{OwnerWord}
 use Rattle.ea_machine.specs.declared.owners.OwnerWord.TheVariants as word
 use Rattle.ea_machine.specs.Nodes.{block_node}
-use Rattle.ea_machine.specs.Owners.{owner_of}
 use Rattle.ea_machine.specs.Releases.{Turned, abandoned_if, after_release, after_release_by, dismissed, employed_by, first_gone, forwarded, leaving_by, lightened, looked, looked_at, owned_by, pooled_by, release_here, route_of, routed, sent_to, settled, tried, turned}
 use Rattle.ea_machine.specs.Rows.{Answer, Done, Head, Rests, Passes, Saw, Won, Lost, Home, Got}
 use Rattle.ea_machine.specs.Setup.{Setup, migration}

@@ -7,7 +7,7 @@ use Rattle.ea_machine.specs.declared.stages.Stage.{Stage}
 use Rattle.ea_sound.specs.Contents.{hand_sum}
 use Rattle.ea_sound.specs.Names.{allocated, of_hand, only_at}
 use Rattle.ea_machine.specs.declared.nodes.Named.{Named}
-use Rattle.ea_machine.specs.Owners.{owner_of}
+use Rattle.ea_model.specs.Instance.{owner_of}
 use Rattle.ea_sound.specs.Places.{has_number, none}
 use Rattle.ea_machine.specs.Setup.{Setup, is_scheduler, migration}
 use Rattle.ea_machine.specs.State.{State}

@@ -18,7 +18,8 @@ use Rattle.ea_machine.specs.declared.tasks.Gone.{Gone}
 use Rattle.ea_sound.specs.Contents.{InHand, hand_sum, home_sum, slots}
 use Rattle.ea_sound.specs.Names.{of_content, of_hand, of_named, only, only_at}
 use Rattle.ea_sound.specs.NodePlaces.{of_carrier_hand, of_link}
-use Rattle.ea_machine.specs.Owners.{CarrierAt, Employed, Pooled, Busy, Returning, owner_of}
+use Rattle.ea_machine.specs.Owners.{CarrierAt, Employed, Pooled, Busy, Returning}
+use Rattle.ea_model.specs.Instance.{owner_of}
 use Rattle.ea_sound.specs.Ranges.{IsLaidOutAsKind}
 use Rattle.ea_machine.specs.Setup.{Setup, is_scheduler, migration}
 use Rattle.ea_machine.specs.Shared.{at_place}

@@ -13,7 +13,7 @@ use Rattle.ea_machine.specs.declared.tasks.Gone.{Gone}
 use Rattle.ea_machine.specs.declared.tasks.Gone.TheVariants.{Here, Open}
 use Rattle.ea_machine.specs.declared.nodes.Named.{Named}
 use Rattle.ea_model.specs.Employment.{dismissing}
-use Rattle.ea_machine.specs.Owners.{owner_of}
+use Rattle.ea_model.specs.Instance.{owner_of}
 use Rattle.ea_machine.specs.Releases.{abandoned_if, after_release, after_release_by, dismissed, first_gone, leaving_by, lightened, owned_by, release_here, route_of, routed}
 use Rattle.ea_machine.specs.Setup.{Setup, migration}
 use Rattle.ea_sound.proofs.Assembly.{nil-is}

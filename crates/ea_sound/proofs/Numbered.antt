@@ -4,10 +4,10 @@ use Rattle.std.proofs.Common.{◌≡◌, ◌≢◌, ℕ, ◌+◌, ◌<◌, ◌�
 use Rattle.std.proofs.lemmas.Bool.{cases_lt}
 use Rattle.std.proofs.lemmas.List.Elements.{All-weaker}
 use Rattle.ea_model.specs.declared.carriers.OwnCarrier.{OwnCarrier}
-use Rattle.ea_model.specs.Instance.{Instance, first_number}
+use Rattle.ea_model.specs.Instance.{Instance, first_number, owner_of}
 use Rattle.ea_laws.specs.Kept.{HasNumberIn}
 use Rattle.ea_sound.specs.Contents.{seats, slots}
-use Rattle.ea_machine.specs.Owners.{CarrierAt, Absent, Employed, Pooled, Busy, Returning, owner_of}
+use Rattle.ea_machine.specs.Owners.{CarrierAt, Absent, Employed, Pooled, Busy, Returning}
 use Rattle.ea_machine.specs.Setup.{Setup, is_scheduler, migration}
 use Rattle.ea_machine.specs.State.{State}
 use Rattle.ea_machine.specs.Sums.{sum_over, total_at}

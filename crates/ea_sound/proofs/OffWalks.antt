@@ -15,7 +15,7 @@ use Rattle.ea_model.specs.declared.reallocation.Decision.TheVariants.{Stay, Shri
 use Rattle.ea_model.specs.declared.settings.Config.{Config}
 use Rattle.ea_model.specs.declared.trace.Trace.{Trace}
 use Rattle.ea_model.specs.Content.{Content, block_at}
-use Rattle.ea_model.specs.Instance.{block_in, content_of, decision_at, employed, own_at, own_of, releasing_at}
+use Rattle.ea_model.specs.Instance.{block_in, content_of, decision_at, employed, own_at, own_of, releasing_at, owner_of}
 use Rattle.ea_model.specs.Settings.{IsValidConfig}
 use Rattle.ea_model.specs.Trace.{IsScheduler, IsValidTrace}
 use Rattle.ea_model.proofs.Merged.{merged-All}
@@ -36,7 +36,6 @@ use Rattle.ea_machine.specs.Machine.{IsReached, begins}
 use Rattle.ea_sound.specs.Names.{made_in, of_named, of_node, only, only_at}
 use Rattle.ea_sound.specs.NodePlaces.{anywhere, of_carrier_actor, of_carrier_node}
 use Rattle.ea_machine.specs.Nodes.{named_at, name_of}
-use Rattle.ea_machine.specs.Owners.{owner_of}
 use Rattle.ea_sound.specs.Places.{has_number, none}
 use Rattle.ea_machine.specs.Releases.{Turned, route_of}
 use Rattle.ea_machine.specs.Rows.{Answer, Link, Passes, Rests, TakeAll, TakeLink}

@@ -17,7 +17,8 @@ use Rattle.ea_sound.specs.Contents.{hand_sum}
 use Rattle.ea_sound.specs.Names.{of_hand}
 use Rattle.ea_machine.specs.Nodes.{Mark, first_node, link_in, same_node}
 use Rattle.ea_machine.specs.declared.nodes.Named.{Named}
-use Rattle.ea_machine.specs.Owners.{CarrierAt, Absent, Employed, Pooled, Busy, Returning, owner_of, word_of}
+use Rattle.ea_machine.specs.Owners.{CarrierAt, Absent, Employed, Pooled, Busy, Returning, word_of}
+use Rattle.ea_model.specs.Instance.{owner_of}
 use Rattle.ea_machine.specs.Rows.{Answer, Done, Head, Rests, Passes, Saw, Won, Lost, Home, Got, Row, TakeAll, TakeLink, Look, Push, Link, BusyTry, Settle, Abandon, FetchTry, Create, SendHome, Clear, Give, TakeTry, Nothing}
 use Rattle.ea_machine.specs.Setup.{Setup, migration}
 use Rattle.ea_machine.specs.Shared.{Shared, put}

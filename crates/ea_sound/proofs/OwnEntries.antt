@@ -5,11 +5,11 @@ use Rattle.std.specs.Prelude.{Option, Some, None, ◌==◌, ◌&&◌}
 use Rattle.std.proofs.lemmas.Bool.{cases_Bool}
 use Rattle.ea_model.specs.declared.carriers.OwnCarrier.{OwnCarrier}
 use Rattle.ea_model.specs.Content.{Content}
-use Rattle.ea_model.specs.Instance.{content_of, employed, own_at, own_of}
+use Rattle.ea_model.specs.Instance.{content_of, employed, own_at, own_of, owner_of}
 use Rattle.ea_laws.specs.Kept.{own_number}
 use Rattle.ea_sound.specs.Contents.{hand_sum, home_sum, seats, slots, sum_everywhere}
 use Rattle.ea_sound.specs.NodePlaces.{anywhere}
-use Rattle.ea_machine.specs.Owners.{CarrierAt, Absent, Employed, Pooled, Busy, Returning, owner_of}
+use Rattle.ea_machine.specs.Owners.{CarrierAt, Absent, Employed, Pooled, Busy, Returning}
 use Rattle.ea_sound.specs.Places.{has_number, is_there}
 use Rattle.ea_machine.specs.Setup.{Setup, is_scheduler, migration}
 use Rattle.ea_machine.specs.State.{State}

@@ -5,7 +5,7 @@ use Rattle.std.proofs.lemmas.List.Elements.{All-cons, All-nil, All-weaker}
 use Rattle.ea_model.specs.declared.carriers.CarrierPlan.{CarrierPlan}
 use Rattle.ea_model.specs.declared.carriers.OwnCarrier.{OwnCarrier}
 use Rattle.ea_model.specs.declared.carriers.Segment.{Segment}
-use Rattle.ea_model.specs.Instance.{Instance, first_number, is_used, own_at, plan, segment_of, segments}
+use Rattle.ea_model.specs.Instance.{Instance, first_number, is_used, own_at, plan, segment_of, segments, owner_of}
 use Rattle.ea_model.specs.Region.{Laid}
 use Rattle.ea_model.proofs.Merged.{entered-All}
 use Rattle.ea_model.proofs.Rising.{item_at-All, item_at-key}
@@ -13,7 +13,6 @@ use Rattle.ea_laws.specs.Kept.{own_number, HasNumberIn, IsKept}
 use Rattle.ea_laws.proofs.Keeping.{plan-IsPlanned}
 use Rattle.ea_laws.proofs.Owned.{unused_from-free}
 use Rattle.ea_model.specs.declared.units.TheConstants.{NUMBERS}
-use Rattle.ea_machine.specs.Owners.{owner_of}
 use Rattle.ea_laws.proofs.Segments.{start_of, Laid-end}
 
 -- its number is one of the instance's own, and isn't in use

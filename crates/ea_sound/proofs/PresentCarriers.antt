@@ -10,7 +10,7 @@ use Rattle.std.proofs.lemmas.List.Folds.{find-append, flat_map-map}
 use Rattle.ea_model.specs.declared.carriers.OwnCarrier.{OwnCarrier}
 use Rattle.ea_model.specs.declared.carriers.Standing.TheVariants as standing
 use Rattle.ea_model.specs.Content.{Content}
-use Rattle.ea_model.specs.Instance.{Instance, carrier_line, content_of, employed, first_number}
+use Rattle.ea_model.specs.Instance.{Instance, carrier_line, content_of, employed, first_number, owner_of}
 use Rattle.ea_model.specs.Instance.{is_used, own_at, own_of}
 use Rattle.ea_model.specs.Keyed.{has_key, merged}
 use Rattle.ea_model.proofs.Merged.{merged-All, merged-first, merged-second}
@@ -27,7 +27,6 @@ use Rattle.ea_machine.specs.declared.stages.Route.TheVariants.{Clearing, Pushing
 use Rattle.ea_machine.specs.declared.stages.Stage.TheVariants.{Searching, Fetching, Creating, Giving, Taking, Ended, Ready}
 use Rattle.ea_machine.specs.Outcome.{Present, actors_of, line_of, owned_place, place_in, place_of}
 use Rattle.ea_machine.specs.Outcome.{present, present_at, present_if, settling_at}
-use Rattle.ea_machine.specs.Owners.{owner_of}
 use Rattle.ea_machine.specs.Setup.{Setup, is_scheduler, migration}
 use Rattle.ea_machine.specs.State.{State}
 use Rattle.ea_machine.specs.Statistics.{employed_multis, employed_singles, is_single}

@@ -8,7 +8,7 @@ use Rattle.ea_model.specs.declared.carriers.Kind.TheVariants.{Main, Multi, Singl
 use Rattle.ea_model.specs.declared.carriers.Spot.{Spot}
 use Rattle.ea_model.specs.declared.operations.Op.{Op}
 use Rattle.ea_model.specs.Content.{Content, can_go, is_nil, is_vacant, released}
-use Rattle.ea_model.specs.Instance.{Instance, content_of, employed, releasing_at}
+use Rattle.ea_model.specs.Instance.{Instance, content_of, employed, releasing_at, owner_of}
 use Rattle.ea_model.proofs.Options.{same-some}
 use Rattle.ea_model.proofs.Rising.{item_at-key}
 use Rattle.ea_laws.specs.Kept.{number_of}
@@ -23,7 +23,6 @@ use Rattle.ea_machine.specs.declared.tasks.Gone.TheVariants.{Open, Here}
 use Rattle.ea_model.specs.Employment.{dismissing}
 use Rattle.ea_sound.specs.Names.{unplaced_by}
 use Rattle.ea_machine.specs.declared.nodes.Named.{Named}
-use Rattle.ea_machine.specs.Owners.{owner_of}
 use Rattle.ea_machine.specs.Releases.{Turned, abandoned_if, after_release, after_release_by, dismissed, disowned, first_gone, leaving, leaving_by, lightened, owned_by, release_here, route_of, routed, sent_to}
 use Rattle.ea_machine.specs.Setup.{Setup, is_scheduler, migration}
 use Rattle.ea_machine.specs.Shared.{Shared}

@@ -4,7 +4,8 @@ use Rattle.ea_model.specs.Content.{Content}
 use Rattle.ea_machine.specs.Actor.{Actor}
 use Rattle.ea_sound.specs.Contents.{seats, slots}
 use Rattle.ea_sound.specs.NodePlaces.{of_carrier_actor, of_carrier_mark}
-use Rattle.ea_machine.specs.Owners.{Returning, owner_of}
+use Rattle.ea_machine.specs.Owners.{Returning}
+use Rattle.ea_model.specs.Instance.{owner_of}
 use Rattle.ea_machine.specs.Setup.{Setup}
 use Rattle.ea_machine.specs.Shared.{Shared}
 use Rattle.ea_machine.specs.State.{State}

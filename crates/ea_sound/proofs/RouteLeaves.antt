@@ -15,7 +15,8 @@ use Rattle.ea_machine.specs.declared.tasks.Gone.TheVariants.{Here as HereGone}
 use Rattle.ea_sound.specs.Contents.{hand_sum, seats, slots}
 use Rattle.ea_machine.specs.Machine.{wants_on}
 use Rattle.ea_machine.specs.declared.nodes.Named.{Named}
-use Rattle.ea_machine.specs.Owners.{CarrierAt, Absent, Employed, Pooled, Busy, Returning, owner_of, same_word, word_of}
+use Rattle.ea_machine.specs.Owners.{CarrierAt, Absent, Employed, Pooled, Busy, Returning, same_word, word_of}
+use Rattle.ea_model.specs.Instance.{owner_of}
 use Rattle.ea_sound.specs.Places.{has_number, none}
 use Rattle.ea_machine.specs.Releases.{disowned, first_gone}
 use Rattle.ea_machine.specs.Rows.{Answer, Lost, Abandon, BusyTry, Clear, Link, Look, Push, SendHome, Settle}

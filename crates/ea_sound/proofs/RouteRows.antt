@@ -20,7 +20,8 @@ use Rattle.ea_machine.specs.Machine.{wants_on}
 use Rattle.ea_sound.specs.Names.{of_hand, only_at, unplaced_by}
 use Rattle.ea_machine.specs.declared.nodes.Named.{Named}
 use Rattle.ea_machine.specs.Nodes.{first_node}
-use Rattle.ea_machine.specs.Owners.{CarrierAt, Absent, Employed, Pooled, Busy, Returning, owner_of, same_word, word_of}
+use Rattle.ea_machine.specs.Owners.{CarrierAt, Absent, Employed, Pooled, Busy, Returning, same_word, word_of}
+use Rattle.ea_model.specs.Instance.{owner_of}
 use Rattle.ea_machine.specs.Releases.{Turned, employed_by, looked, pooled_by, sent_to, settled, tried, turned}
 use Rattle.ea_machine.specs.Setup.{Setup, is_scheduler, migration}
 use Rattle.ea_machine.specs.Shared.{Shared, at_place}

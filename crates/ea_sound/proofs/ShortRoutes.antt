@@ -4,7 +4,7 @@ use Rattle.std.specs.Prelude.{Option, Some, None, ◌==◌}
 use Rattle.ea_model.specs.declared.carriers.Kind.{Kind}
 use Rattle.ea_model.specs.declared.carriers.Kind.TheVariants.{Main, Multi, Single}
 use Rattle.ea_model.specs.Content.{Content, is_nil}
-use Rattle.ea_model.specs.Instance.{content_of, employed, releasing_at}
+use Rattle.ea_model.specs.Instance.{content_of, employed, releasing_at, owner_of}
 use Rattle.ea_machine.specs.declared.owners.OwnerWord.{OwnerWord}
 use Rattle.ea_machine.specs.declared.owners.OwnerWord.TheVariants as word
 use Rattle.ea_model.specs.Abandonment.{is_due}
@@ -15,7 +15,6 @@ use Rattle.ea_machine.specs.declared.tasks.Gone.{Gone}
 use Rattle.ea_machine.specs.declared.tasks.Gone.TheVariants.{Open, Here}
 use Rattle.ea_machine.specs.Completion.{route_rows}
 use Rattle.ea_machine.specs.declared.nodes.Named.{Named}
-use Rattle.ea_machine.specs.Owners.{owner_of}
 use Rattle.ea_machine.specs.Releases.{Turned, abandoned_if, after_release, after_release_by, employed_by, first_gone, forwarded, leaving_by, lightened, looked, looked_at, owned_by, pooled_by, release_here, route_of, routed, settled, tried, turned}
 use Rattle.ea_machine.specs.Rows.{Answer, Done, Head, Rests, Passes, Saw, Won, Lost, Home, Got}
 use Rattle.ea_machine.specs.Setup.{Setup, migration}

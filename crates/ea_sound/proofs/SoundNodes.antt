@@ -10,7 +10,8 @@ use Rattle.ea_sound.specs.Contents.{seats, slots}
 use Rattle.ea_sound.specs.Names.{of_mark, of_node, only}
 use Rattle.ea_sound.specs.NodePlaces.{LinksNodes, ReturnsCarriers, anywhere, at_instance, before_link, carrier_nodes, is_returning, node_at, of_carrier_mark, of_carrier_node, of_unlinked, unlinked_at}
 use Rattle.ea_machine.specs.Nodes.{Mark, same_spot}
-use Rattle.ea_machine.specs.Owners.{CarrierAt, Absent, Employed, Pooled, Busy, Returning, owner_of}
+use Rattle.ea_machine.specs.Owners.{CarrierAt, Absent, Employed, Pooled, Busy, Returning}
+use Rattle.ea_model.specs.Instance.{owner_of}
 use Rattle.ea_machine.specs.Setup.{Setup}
 use Rattle.ea_sound.specs.Sound.{HasNothing}
 use Rattle.ea_machine.specs.State.{State}

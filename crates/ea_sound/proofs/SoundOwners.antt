@@ -2,7 +2,7 @@
 use Rattle.std.proofs.Common.{◌≡◌, ◌≢◌, ℕ, ◌+◌, ◌*◌, ◌/◌, ◌≤◌, ◌∙◌, List, [], Bool, true, false, refl, sym, ap, subst, arith}
 use Rattle.std.specs.Prelude.{Option, None, Some, is_some, ◌==◌, ◌&&◌}
 use Rattle.ea_model.specs.declared.carriers.OwnCarrier.{OwnCarrier}
-use Rattle.ea_model.specs.Instance.{Instance, first_number, is_used, own_at}
+use Rattle.ea_model.specs.Instance.{Instance, first_number, is_used, own_at, owner_of}
 use Rattle.ea_model.specs.Keyed.{IsBelow}
 use Rattle.ea_model.proofs.Pairs.{pairs_nil}
 use Rattle.ea_model.proofs.Rising.{item_at-All, item_at-key}
@@ -11,7 +11,6 @@ use Rattle.ea_laws.proofs.Keeping.{pages_of_units}
 use Rattle.ea_machine.specs.Actor.{Actor}
 use Rattle.ea_sound.specs.Contents.{seats, sum_everywhere}
 use Rattle.ea_sound.specs.NodePlaces.{anywhere}
-use Rattle.ea_machine.specs.Owners.{owner_of}
 use Rattle.ea_sound.specs.Places.{IsNumber, OwnTheirCarriers, has_number, owned_as, same_own}
 use Rattle.ea_machine.specs.Setup.{Setup, is_scheduler}
 use Rattle.ea_machine.specs.State.{State}

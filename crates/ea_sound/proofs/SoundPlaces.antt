@@ -1,7 +1,7 @@
 -- Each carrier is in one place, and it stays with its owner as its kind says.
 use Rattle.std.proofs.Common.{◌≡◌, ◌≢◌, ℕ, ◌∙◌, Bool, true, false, refl, sym, ap, inl, inr, arith}
 use Rattle.std.proofs.lemmas.Bool.{cases_Bool, cases_eq}
-use Rattle.ea_model.specs.Instance.{is_used}
+use Rattle.ea_model.specs.Instance.{is_used, owner_of}
 use Rattle.ea_model.specs.Trace.{IsScheduler}
 use Rattle.ea_model.specs.Content.{Content}
 use Rattle.ea_machine.specs.declared.stages.Stage.{Stage}
@@ -12,7 +12,7 @@ use Rattle.ea_machine.specs.Actor.{Actor}
 use Rattle.ea_sound.specs.Contents.{AtHome, InHand, OnRoute, seats, sum_everywhere}
 use Rattle.ea_sound.specs.NodePlaces.{anywhere}
 use Rattle.ea_machine.specs.Outcome.{owned_place, place_in, place_of}
-use Rattle.ea_machine.specs.Owners.{CarrierAt, Absent, Employed, Pooled, Busy, Returning, owner_of}
+use Rattle.ea_machine.specs.Owners.{CarrierAt, Absent, Employed, Pooled, Busy, Returning}
 use Rattle.ea_sound.specs.Places.{AreInOnePlace, IsMulti, IsMultiOrOwn, IsNumber, PlacesCarriers, RecordsGaps, StayWithOwners, busy_count, employed_count, has_number, is_there, none}
 use Rattle.ea_machine.specs.Setup.{Setup, migration}
 use Rattle.ea_machine.specs.State.{State}

@@ -5,12 +5,12 @@ use Rattle.std.specs.Prelude.{Some}
 use Rattle.ea_model.specs.declared.carriers.BlockAt.{BlockAt}
 use Rattle.ea_model.specs.declared.carriers.Spot.{Spot}
 use Rattle.ea_model.specs.Content.{Content, block_at}
-use Rattle.ea_model.specs.Instance.{content_of, employed}
+use Rattle.ea_model.specs.Instance.{content_of, employed, owner_of}
 use Rattle.ea_model.proofs.Options.{same-some}
 use Rattle.ea_machine.specs.Actor.{Actor}
 use Rattle.ea_sound.specs.Contents.{actor_sum, hand_sum, home_sum, seats, slots, sum_everywhere}
 use Rattle.ea_sound.specs.Names.{allocated, of_block, of_content, only_at}
-use Rattle.ea_machine.specs.Owners.{CarrierAt, Absent, Employed, Pooled, Busy, Returning, owner_of}
+use Rattle.ea_machine.specs.Owners.{CarrierAt, Absent, Employed, Pooled, Busy, Returning}
 use Rattle.ea_sound.specs.Places.{has_number, none}
 use Rattle.ea_machine.specs.Setup.{Setup, is_scheduler, migration}
 use Rattle.ea_machine.specs.State.{State}

@@ -7,7 +7,7 @@ use Rattle.ea_model.specs.declared.carriers.OwnCarrier.{OwnCarrier}
 use Rattle.ea_model.specs.declared.carriers.Spot.{Spot}
 use Rattle.ea_model.specs.declared.units.TheConstants.{NUMBERS}
 use Rattle.ea_model.specs.Content.{Content}
-use Rattle.ea_model.specs.Instance.{first_number, main_carriers, main_content, new_instance, own_at, own_of}
+use Rattle.ea_model.specs.Instance.{first_number, main_carriers, main_content, new_instance, own_at, own_of, owner_of}
 use Rattle.ea_model.proofs.Rising.{item_here}
 use Rattle.ea_model.specs.declared.settings.Config.{Config}
 use Rattle.ea_model.specs.declared.trace.Trace.{Trace}
@@ -22,7 +22,7 @@ use Rattle.ea_machine.specs.Machine.{first_actor, first_place, first_stage, inst
 use Rattle.ea_sound.specs.Names.{allocated, of_content, of_hand, of_mark, only}
 use Rattle.ea_sound.specs.NodePlaces.{of_carrier_actor, of_carrier_hand, of_carrier_mark, of_link, of_unlinked}
 use Rattle.ea_machine.specs.Nodes.{Mark}
-use Rattle.ea_machine.specs.Owners.{Absent, Pooled, Returning, owner_of}
+use Rattle.ea_machine.specs.Owners.{Absent, Pooled, Returning}
 use Rattle.ea_sound.specs.Ranges.{IsLaidOutAsKind}
 use Rattle.ea_machine.specs.Setup.{Setup, first_page, is_scheduler, migration, setup_of}
 use Rattle.ea_machine.specs.Sums.{sum_over, total_at}

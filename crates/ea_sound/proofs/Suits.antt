@@ -6,7 +6,7 @@ use Rattle.ea_model.specs.declared.entries.Entry.{Entry}
 use Rattle.ea_model.specs.declared.operations.Op.{Op}
 use Rattle.ea_model.specs.declared.operations.Op.TheVariants as op
 use Rattle.ea_model.specs.declared.units.TheConstants.{SEARCH_LIMIT}
-use Rattle.ea_model.specs.Instance.{Instance, chosen_spot, plan}
+use Rattle.ea_model.specs.Instance.{Instance, chosen_spot, plan, owner_of}
 use Rattle.ea_model.specs.Keyed.{IsBelow}
 use Rattle.ea_laws.specs.Kept.{Stands}
 use Rattle.ea_model.specs.Content.{Content}
@@ -25,7 +25,6 @@ use Rattle.ea_sound.specs.Entries.{Makes}
 use Rattle.ea_sound.specs.Names.{made_in, unplaced, unplaced_by}
 use Rattle.ea_machine.specs.Nodes.{first_node, named_at, name_of}
 use Rattle.ea_machine.specs.declared.nodes.Named.{Named}
-use Rattle.ea_machine.specs.Owners.{owner_of}
 use Rattle.ea_machine.specs.Releases.{Turned}
 use Rattle.ea_machine.specs.Setup.{Setup, greatest_number, is_scheduler, migration}
 use Rattle.ea_machine.specs.Shared.{Shared}

@@ -11,7 +11,7 @@ use Rattle.ea_model.specs.declared.reallocation.Where.TheVariants as whereabouts
 use Rattle.ea_model.specs.declared.settings.Settings.{Settings}
 use Rattle.ea_model.specs.Content.{Content, resized, size_of, Tiled}
 use Rattle.ea_model.specs.Decision.{decision}
-use Rattle.ea_model.specs.Instance.{Instance, block_in, content_of, decision_at, employed, own_of, plan, resized_by, resized_in, resized_to, resizing_at, where_at}
+use Rattle.ea_model.specs.Instance.{Instance, block_in, content_of, decision_at, employed, own_of, plan, resized_by, resized_in, resized_to, resizing_at, where_at, owner_of}
 use Rattle.ea_model.proofs.Rising.{item_at-All, item_at-key}
 use Rattle.ea_laws.specs.Kept.{number_of, HasOneBlock, IsLaidOut, IsLaidOutAlone, Stands}
 use Rattle.ea_laws.proofs.BlockLists.{offset_of}
@@ -22,7 +22,6 @@ use Rattle.ea_laws.proofs.Resized.{with_size}
 use Rattle.ea_laws.proofs.Standing.{changing-Stands, clearing-Stands, employed-multi, employed-own, planned-absent}
 use Rattle.ea_model.specs.Abandonment.{is_due}
 use Rattle.ea_model.specs.Employment.{dismissing, disowning}
-use Rattle.ea_machine.specs.Owners.{owner_of}
 use Rattle.ea_machine.specs.Setup.{Setup, migration}
 use Rattle.ea_sound.proofs.KeyedWeights.{changed-missing}
 use Rattle.ea_sound.proofs.Orderly.{Stands-IsOrderly, employed-alone, many-not_alone}

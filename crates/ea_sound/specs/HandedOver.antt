@@ -6,7 +6,7 @@ use Rattle.ea_model.specs.declared.entries.Entry.{Entry}
 use Rattle.ea_model.specs.Trace.{IsScheduler}
 use Rattle.ea_machine.specs.declared.nodes.Named.{Named}
 use Rattle.ea_machine.specs.Nodes.{block_node, named_at, pushed, spot_named}
-use Rattle.ea_machine.specs.Owners.{owner_of}
+use Rattle.ea_model.specs.Instance.{owner_of}
 use Rattle.ea_machine.specs.Setup.{Setup, migration}
 use Rattle.ea_machine.specs.Machine.{run}
 use Rattle.ea_sound.specs.Turns.{IsBegun, actor_after, begun, log_after}

@@ -1,6 +1,7 @@
 -- The carriers that a scheduler employs, by what is shared.
 use Rattle.std.specs.Prelude.{◌≡◌, ◌⊎◌, ℕ, true, false}
-use Rattle.ea_machine.specs.Owners.{Employed, owner_of}
+use Rattle.ea_machine.specs.Owners.{Employed}
+use Rattle.ea_model.specs.Instance.{owner_of}
 use Rattle.ea_machine.specs.Setup.{Setup, migration}
 use Rattle.ea_machine.specs.Shared.{Shared}
 

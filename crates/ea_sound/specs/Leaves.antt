@@ -4,7 +4,7 @@ use Rattle.ea_model.specs.declared.carriers.CarrierPlan.{CarrierPlan}
 use Rattle.ea_model.specs.declared.carriers.Spot.{Spot}
 use Rattle.ea_model.specs.declared.units.TheConstants.{MIN_BLOCK}
 use Rattle.ea_model.specs.Content.{Content, is_nil, released}
-use Rattle.ea_model.specs.Instance.{chosen_spot, creating, creating_single, placing_at, plan, single_place}
+use Rattle.ea_model.specs.Instance.{chosen_spot, creating, creating_single, placing_at, plan, single_place, owner_of}
 use Rattle.ea_machine.specs.declared.nodes.Node.TheVariants.{Carrier}
 use Rattle.ea_machine.specs.declared.owners.OwnerWord.{OwnerWord}
 use Rattle.ea_machine.specs.declared.owners.OwnerWord.TheVariants as word
@@ -20,7 +20,6 @@ use Rattle.ea_machine.specs.declared.tasks.Gone.TheVariants.{Here as HereGone}
 use Rattle.ea_machine.specs.declared.asks.Ask.{Ask}
 use Rattle.ea_model.specs.Employment.{employing}
 use Rattle.ea_sound.specs.Names.{allocated, made_in, only}
-use Rattle.ea_machine.specs.Owners.{owner_of}
 use Rattle.ea_machine.specs.Placements.{holding, spot_of_place}
 use Rattle.ea_machine.specs.Releases.{disowned, first_gone}
 use Rattle.ea_machine.specs.Rows.{Answer, Head, Rests, Passes, Saw, Won, Lost, Got}

@@ -5,7 +5,8 @@ use Rattle.ea_model.specs.Content.{Content}
 use Rattle.ea_machine.specs.declared.nodes.Node.{Node}
 use Rattle.ea_machine.specs.declared.nodes.Node.TheVariants.{Block, Carrier}
 use Rattle.ea_machine.specs.Nodes.{Mark, same_node}
-use Rattle.ea_machine.specs.Owners.{CarrierAt, Absent, Employed, Pooled, Busy, Returning, owner_of}
+use Rattle.ea_machine.specs.Owners.{CarrierAt, Absent, Employed, Pooled, Busy, Returning}
+use Rattle.ea_model.specs.Instance.{owner_of}
 use Rattle.ea_machine.specs.Setup.{Setup}
 use Rattle.ea_machine.specs.declared.stages.Stage.{Stage}
 use Rattle.ea_machine.specs.declared.stages.Stage.TheVariants.{Routed, Collecting}

@@ -3,10 +3,10 @@ use Rattle.std.specs.Prelude.{◌≡◌, ◌≢◌, ◌⊎◌, ℕ, ◌<◌, ◌
 use Rattle.ea_model.specs.declared.carriers.Kind.TheVariants.{Main, Multi}
 use Rattle.ea_model.specs.declared.carriers.OwnCarrier.{OwnCarrier}
 use Rattle.ea_model.specs.Content.{Content, gaps_of, is_vacant, largest}
-use Rattle.ea_model.specs.Instance.{Instance, content_of, first_number, own_of}
+use Rattle.ea_model.specs.Instance.{Instance, content_of, first_number, own_of, owner_of}
 use Rattle.ea_model.specs.Trace.{IsScheduler}
 use Rattle.ea_laws.specs.Kept.{IsRising}
-use Rattle.ea_machine.specs.Owners.{CarrierAt, Absent, Employed, Pooled, Busy, Returning, owner_of}
+use Rattle.ea_machine.specs.Owners.{CarrierAt, Absent, Employed, Pooled, Busy, Returning}
 use Rattle.ea_machine.specs.Setup.{Setup, greatest_number, migration}
 use Rattle.ea_machine.specs.State.{State}
 use Rattle.ea_machine.specs.Outcome.{place_of}

@@ -5,7 +5,7 @@ use Rattle.ea_model.specs.declared.operations.Op.{Op}
 use Rattle.ea_model.specs.declared.operations.Op.TheVariants as op
 use Rattle.ea_model.specs.declared.units.TheConstants.{SEARCH_LIMIT}
 use Rattle.ea_model.specs.Content.{Content, can_go}
-use Rattle.ea_model.specs.Instance.{chosen_spot, plan}
+use Rattle.ea_model.specs.Instance.{chosen_spot, plan, owner_of}
 use Rattle.ea_model.specs.Keyed.{IsBelow}
 use Rattle.ea_model.specs.Units.{need_of}
 use Rattle.ea_laws.specs.Kept.{Stands}
@@ -26,7 +26,7 @@ use Rattle.ea_sound.specs.Entries.{LogsEach}
 use Rattle.ea_sound.specs.Names.{allocated, only, to_make}
 use Rattle.ea_machine.specs.Nodes.{first_node, named_at, name_of}
 use Rattle.ea_machine.specs.declared.nodes.Named.{Named}
-use Rattle.ea_machine.specs.Owners.{CarrierAt, Absent, Employed, Pooled, Busy, Returning, owner_of, word_of}
+use Rattle.ea_machine.specs.Owners.{CarrierAt, Absent, Employed, Pooled, Busy, Returning, word_of}
 use Rattle.ea_sound.specs.Places.{MayStay}
 use Rattle.ea_machine.specs.Setup.{Setup, greatest_number, is_scheduler, migration}
 use Rattle.ea_machine.specs.Shared.{Shared}

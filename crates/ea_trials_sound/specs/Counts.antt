@@ -14,7 +14,8 @@ use Rattle.ea_sound.specs.NodePlaces.{anywhere, at_instance, before_link, carrie
 use Rattle.ea_machine.specs.Nodes.{same_spot}
 use Rattle.ea_machine.specs.declared.nodes.Named.{Named}
 use Rattle.ea_machine.specs.Outcome.{outcome, place_of}
-use Rattle.ea_machine.specs.Owners.{CarrierAt, Absent, Employed, Pooled, Busy, Returning, owner_of}
+use Rattle.ea_machine.specs.Owners.{CarrierAt, Absent, Employed, Pooled, Busy, Returning}
+use Rattle.ea_model.specs.Instance.{owner_of}
 use Rattle.ea_sound.specs.Places.{busy_count, employed_count, has_number, is_there, owned_as, same_own}
 use Rattle.ea_machine.specs.Setup.{Setup}
 use Rattle.ea_machine.specs.State.{State}
