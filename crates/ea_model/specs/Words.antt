@@ -2,6 +2,7 @@
 use Rattle.std.specs.Prelude.{ℕ, ◌+◌, ◌-◌, ◌*◌, Bool, true, false, ◌&&◌, ◌||◌, if◌then◌else◌, nat_le, ◌==◌, List, [], ◌∷◌, length, Option, Some, None, filter, fold}
 use Rattle.std.specs.List.{slice_split, list_all}
 use Rattle.std.specs.Char.{is_ascii_digit}
+use Rattle.ea_model.specs.declared.units.TheConstants.{MAX_DIGITS}
 
 -- a line feed
 abbrev pub is_feed : ℕ → Bool
@@ -27,9 +28,9 @@ words line = filter is_word (slice_split is_space line)
 abbrev pub then_digit : ℕ → ℕ → ℕ
 then_digit n b = n * 10 + (b - 48)
 
--- a numeral has 1 to 10 digits
+-- a numeral has at least one digit and at most MAX_DIGITS
 abbrev pub is_numeral : List ℕ → Bool
-is_numeral word = is_word word && (nat_le (length word) 10 && list_all is_ascii_digit word)
+is_numeral word = is_word word && (nat_le (length word) MAX_DIGITS && list_all is_ascii_digit word)
 
 abbrev pub numeral_value : List ℕ → ℕ
 numeral_value word = fold then_digit 0 word

@@ -46,6 +46,8 @@ pub const MAX_MEGABYTES: u32 = 512;
 pub const MAX_PAGES: u32 = 131_072;
 /// The units of the largest super carrier, 512 megabytes.
 pub const MAX_UNITS: u32 = 67_108_864;
+/// The most digits of a number in a word.
+pub const MAX_DIGITS: usize = 10;
 /// The most bytes of an input.
 pub const MAX_INPUT: usize = 16_777_216;
 

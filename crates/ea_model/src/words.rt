@@ -3,7 +3,10 @@ ghost use Rattle.std.specs.Prelude.{◌≡◌, ◌+◌, ◌<◌, take, false, �
 ghost use Rattle.std.specs.List.{slice_split, list_all, list_any};
 ghost use Rattle.std.specs.Char.{is_ascii_digit};
 ghost use Rattle.std.specs.Option.{option_map_or};
+ghost use Rattle.ea_model.specs.declared.units.TheConstants.{MAX_DIGITS};
 ghost use Rattle.ea_model.specs.Words.{is_feed, is_space, lines, words, number, numeral_value};
+
+use crate::units::MAX_DIGITS;
 
 /// Whether a byte separates words.
 fn is_space(byte: u8) -> bool
@@ -42,9 +45,9 @@ pub fn first_word(line: &[u8]) -> Option<(&[u8], &[u8])>
     None
 }
 
-/// The number that these digits write, 10 at most.
+/// The number that these digits write, `MAX_DIGITS` at most.
 fn value_of(digits: &[u8]) -> Option<u64>
-    requires { length digits.now ≤ 10 }
+    requires { length digits.now ≤ MAX_DIGITS }
     ensures { result ≡
         (if list_all is_ascii_digit digits.now then Some (numeral_value digits.now) else None) }
 {
@@ -58,11 +61,11 @@ fn value_of(digits: &[u8]) -> Option<u64>
     Some(value)
 }
 
-/// The number that a word of 1 to 10 digits writes.
+/// The number that a word of 1 to `MAX_DIGITS` digits writes.
 pub fn numeral(word: &[u8]) -> Option<u64>
     ensures { result ≡ Rattle.ea_model.specs.Words.numeral word.now }
 {
-    if word.is_empty() || word.len() > 10 {
+    if word.is_empty() || word.len() > MAX_DIGITS {
         return None;
     }
     value_of(word)
