@@ -1,5 +1,6 @@
 //! A list over a `Vec`, which contracts see as its items and the room that is left for more.
-ghost use Rattle.std.specs.Prelude.{◌≡◌, ◌+◌, ◌-◌, ◌<◌, ◌≤◌, [], ◌∷◌, ◌++◌, length, slice_index_or, OnOk, OnErr};
+ghost use Rattle.std.specs.Prelude.{◌≡◌, ◌+◌, ◌-◌, ◌<◌, ◌≤◌, [], ◌∷◌, ◌++◌, codes, length};
+ghost use Rattle.std.specs.Prelude.{slice_index_or, OnOk, OnErr};
 
 use std::alloc::{AllocError, AllocFailed, Global};
 use std::marker::Model;
@@ -7,6 +8,15 @@ use std::marker::Model;
 /// There was no memory.
 #[derive(Debug, Clone, Copy, PartialEq, Eq)]
 pub struct OutOfMemory;
+
+impl OutOfMemory {
+    /// What is said of it.
+    pub fn message(self) -> &'static str
+        ensures { result.now ≡ codes "out of memory" }
+    {
+        "out of memory"
+    }
+}
 
 impl From<AllocError> for OutOfMemory {
     fn from(_: AllocError) -> OutOfMemory {
