@@ -13,7 +13,8 @@ use Rattle.ea_flags.specs.declared.setting.Setting.TheVariants as setting
 use Rattle.ea_flags.specs.declared.setting.ValueFault.{ValueFault}
 use Rattle.ea_flags.specs.declared.setting.ValueFault.TheVariants.{Bad, Unsupported}
 use Rattle.ea_flags.specs.declared.value.TheConstants.{MAX_ACNL, MAX_KILOBYTES}
-use Rattle.ea_flags.specs.Values.{good, ranged, in_units, kilobytes, utilization_limit, no_effect, truth, only_true, sets, change_of, setting_of, strategy_named}
+use Rattle.ea_flags.specs.Values.{good, ranged, in_units, kilobytes, utilization_limit, no_effect}
+use Rattle.ea_flags.specs.Values.{truth, only_true, sets, change_of, setting_of, strategy_named}
 use Rattle.ea_flags.specs.Ranges.{IsChangeInRange, IsFromTo, IsInRange}
 
 sets-IfOk : {A B : Type 0} (f : A → B) (r : Result A ValueFault) (P : A → Type 0) (Q : B → Type 0)

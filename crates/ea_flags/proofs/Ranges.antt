@@ -1,6 +1,8 @@
 -- What flags set lies in the ranges that valid settings have.
 use Rattle.std.proofs.Common.{◌≤◌, arith}
-use Rattle.ea_model.specs.declared.units.TheConstants.{MAX_BYTES, MAX_GROWTH_CARRIERS, MAX_MEGABYTES, MAX_PERCENT, MAX_SCHEDULERS, MAX_SEARCH_DEPTH, MAX_UNITS}
+use Rattle.ea_model.specs.declared.units.TheConstants.{MAX_BYTES, MAX_GROWTH_CARRIERS}
+use Rattle.ea_model.specs.declared.units.TheConstants.{MAX_MEGABYTES, MAX_PERCENT, MAX_SCHEDULERS}
+use Rattle.ea_model.specs.declared.units.TheConstants.{MAX_SEARCH_DEPTH, MAX_UNITS}
 use Rattle.ea_model.specs.declared.settings.Settings.{Settings}
 use Rattle.ea_model.specs.declared.settings.Letter.TheVariants.{B, D, E, H, L, R, S, T}
 use Rattle.ea_model.specs.declared.settings.Config.{Config}

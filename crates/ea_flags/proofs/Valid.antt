@@ -43,7 +43,8 @@ migrating-IsValid s h = cond_both (nat_lt 0 s.acul && not (can_migrate s.strateg
 -- carriers of temp_alloc don't migrate
 temporary-IsValid : (s : Settings) → HasRanges s → IsValid (record s { acul = 0 })
 temporary-IsValid s h = valid_of (record s { acul = 0 })
-    (omega arith, h.1, h.2, h.3, h.4, h.5, h.6, h.7, h.8, h.9, h.10, h.11) (λ lt. absurd (omega (arith, lt)))
+    (omega arith, h.1, h.2, h.3, h.4, h.5, h.6, h.7, h.8, h.9, h.10, h.11)
+    (λ lt. absurd (omega (arith, lt)))
 
 letters-IsValid : (c : Config) → IsRanged c → (letter : Letter)
     → IsValid (settings_of (settled c) letter)

@@ -11,7 +11,8 @@ use Rattle.ea_flags.specs.declared.flag.Scope.TheVariants.{One, All}
 use Rattle.ea_flags.specs.declared.setting.Change.{Change}
 use Rattle.ea_flags.specs.declared.setting.Change.TheVariants as change
 use Rattle.ea_flags.specs.declared.setting.Setting.{Setting}
-use Rattle.ea_flags.specs.declared.setting.Setting.TheVariants.{Schedulers, SuperCarrier, Of, Nothing}
+use Rattle.ea_flags.specs.declared.setting.Setting.TheVariants.{Schedulers, SuperCarrier, Of}
+use Rattle.ea_flags.specs.declared.setting.Setting.TheVariants.{Nothing}
 
 abbrev pub changed : Change → Settings → Settings
 changed (change.As strategy) s = record s { strategy = strategy }

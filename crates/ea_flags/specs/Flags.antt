@@ -1,5 +1,6 @@
 -- The configuration that words ask for, or their first refusal.
-use Rattle.std.specs.Prelude.{ℕ, ◌+◌, if◌then◌else◌, List, [], ◌∷◌, Option, Some, None, Result, Ok, Err, fold}
+use Rattle.std.specs.Prelude.{ℕ, ◌+◌, if◌then◌else◌, List, [], ◌∷◌, Option, Some, None, Result, Ok}
+use Rattle.std.specs.Prelude.{Err, fold}
 use Rattle.ea_model.specs.declared.settings.Config.{Config}
 use Rattle.ea_flags.specs.declared.config.TheConstants.{DEFAULT_CONFIG}
 use Rattle.ea_flags.specs.declared.flag.Flag.{Flag}

@@ -3,3 +3,4 @@ pub mod Values
 pub mod Ranges
 pub mod Configs
 pub mod Flags
+pub mod Refusals

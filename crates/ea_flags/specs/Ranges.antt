@@ -1,11 +1,14 @@
 -- The ranges of what a flag sets.
 use Rattle.std.specs.Prelude.{◌≤◌, ℕ}
-use Rattle.ea_model.specs.declared.units.TheConstants.{MAX_BYTES, MAX_GROWTH_CARRIERS, MAX_MEGABYTES, MAX_PERCENT, MAX_SCHEDULERS, MAX_SEARCH_DEPTH, MAX_UNITS}
+use Rattle.ea_model.specs.declared.units.TheConstants.{MAX_BYTES, MAX_GROWTH_CARRIERS}
+use Rattle.ea_model.specs.declared.units.TheConstants.{MAX_MEGABYTES, MAX_PERCENT, MAX_SCHEDULERS}
+use Rattle.ea_model.specs.declared.units.TheConstants.{MAX_SEARCH_DEPTH, MAX_UNITS}
 use Rattle.ea_model.specs.Settings.{IsSize}
 use Rattle.ea_flags.specs.declared.setting.Change.{Change}
 use Rattle.ea_flags.specs.declared.setting.Change.TheVariants as change
 use Rattle.ea_flags.specs.declared.setting.Setting.{Setting}
-use Rattle.ea_flags.specs.declared.setting.Setting.TheVariants.{Schedulers, SuperCarrier, Of, Nothing}
+use Rattle.ea_flags.specs.declared.setting.Setting.TheVariants.{Schedulers, SuperCarrier, Of}
+use Rattle.ea_flags.specs.declared.setting.Setting.TheVariants.{Nothing}
 
 -- a number from low to high
 abbrev pub IsFromTo : ℕ → ℕ → ℕ → Type 0

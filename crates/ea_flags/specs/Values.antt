@@ -1,8 +1,14 @@
 -- What a flag and its value set.
-use Rattle.std.specs.Prelude.{ℕ, ◌*◌, Bool, true, false, nat_lt, if◌then◌else◌, List, Option, Some, None, Result, Ok, Err, codes, bytes_eq}
+use Rattle.std.specs.Prelude.{ℕ, ◌*◌, Bool, true, false, nat_lt, if◌then◌else◌, List, Option, Some}
+use Rattle.std.specs.Prelude.{None, Result, Ok, Err, codes, bytes_eq}
 use Rattle.ea_model.specs.declared.settings.Strategy.{Strategy}
-use Rattle.ea_model.specs.declared.settings.Strategy.TheVariants.{Bf, Aobf, Aoff, AoffCbf, AoffCaobf, AgeffCaoff, AgeffCbf, AgeffCaobf, Gf, Af}
-use Rattle.ea_model.specs.declared.units.TheConstants.{KILOBYTE_UNITS, MAX_BYTES, MAX_GROWTH_CARRIERS, MAX_MEGABYTES, MAX_PERCENT, MAX_SCHEDULERS, MAX_SEARCH_DEPTH}
+use Rattle.ea_model.specs.declared.settings.Strategy.TheVariants.{Bf, Aobf, Aoff, AoffCbf}
+use Rattle.ea_model.specs.declared.settings.Strategy.TheVariants.{AoffCaobf, AgeffCaoff, AgeffCbf}
+use Rattle.ea_model.specs.declared.settings.Strategy.TheVariants.{AgeffCaobf, Gf, Af}
+use Rattle.ea_model.specs.declared.units.TheConstants.{KILOBYTE_UNITS, MAX_BYTES}
+use Rattle.ea_model.specs.declared.units.TheConstants.{MAX_GROWTH_CARRIERS, MAX_MEGABYTES}
+use Rattle.ea_model.specs.declared.units.TheConstants.{MAX_PERCENT, MAX_SCHEDULERS}
+use Rattle.ea_model.specs.declared.units.TheConstants.{MAX_SEARCH_DEPTH}
 use Rattle.ea_model.specs.Words.{number}
 use Rattle.ea_flags.specs.declared.flag.Flag.{Flag}
 use Rattle.ea_flags.specs.declared.flag.Flag.TheVariants as flag
@@ -14,7 +20,8 @@ use Rattle.ea_flags.specs.declared.setting.Setting.{Setting}
 use Rattle.ea_flags.specs.declared.setting.Setting.TheVariants as setting
 use Rattle.ea_flags.specs.declared.setting.ValueFault.{ValueFault}
 use Rattle.ea_flags.specs.declared.setting.ValueFault.TheVariants.{Bad, Unsupported}
-use Rattle.ea_flags.specs.declared.value.TheConstants.{DEFAULT_ACUL, LEAST_ACNL, MAX_ACNL, MAX_KILOBYTES}
+use Rattle.ea_flags.specs.declared.value.TheConstants.{DEFAULT_ACUL, LEAST_ACNL, MAX_ACNL}
+use Rattle.ea_flags.specs.declared.value.TheConstants.{MAX_KILOBYTES}
 
 -- the strategy of this name
 abbrev pub strategy_named : List ℕ → Option Strategy

@@ -1,13 +1,18 @@
 -- The flag that a word is.
-use Rattle.std.specs.Prelude.{ℕ, Bool, true, false, ◌||◌, if◌then◌else◌, ◌==◌, List, [], ◌∷◌, drop, Option, Some, None, codes, bytes_eq, nat_eq}
+use Rattle.std.specs.Prelude.{ℕ, Bool, true, false, ◌||◌, if◌then◌else◌, ◌==◌, List, [], ◌∷◌, drop}
+use Rattle.std.specs.Prelude.{Option, Some, None, codes, bytes_eq, nat_eq}
 use Rattle.std.specs.List.{starts_with}
 use Rattle.ea_model.specs.declared.settings.Letter.TheVariants as letter
 use Rattle.ea_flags.specs.declared.flag.Scope.{Scope}
 use Rattle.ea_flags.specs.declared.flag.Scope.TheVariants.{One, All}
 use Rattle.ea_flags.specs.declared.flag.Parameter.{Parameter}
-use Rattle.ea_flags.specs.declared.flag.Parameter.TheVariants.{As, Acul, Acfml, Acnl, Sbct, Smbcs, Lmbcs, Mmbcs, Asbcst, Mbcgs, Mbsd, Rsbcmt, Rmbcmt, Rsbcst, Ramv, ThreadSafe, Enabled}
+use Rattle.ea_flags.specs.declared.flag.Parameter.TheVariants.{As, Acul, Acfml, Acnl, Sbct, Smbcs}
+use Rattle.ea_flags.specs.declared.flag.Parameter.TheVariants.{Lmbcs, Mmbcs, Asbcst, Mbcgs, Mbsd}
+use Rattle.ea_flags.specs.declared.flag.Parameter.TheVariants.{Rsbcmt, Rmbcmt, Rsbcst, Ramv}
+use Rattle.ea_flags.specs.declared.flag.Parameter.TheVariants.{ThreadSafe, Enabled}
 use Rattle.ea_flags.specs.declared.flag.Flag.{Flag}
-use Rattle.ea_flags.specs.declared.flag.Flag.TheVariants.{Schedulers, SuperCarrier, SuperCarrierOnly, Of, NotSimulated}
+use Rattle.ea_flags.specs.declared.flag.Flag.TheVariants.{Schedulers, SuperCarrier}
+use Rattle.ea_flags.specs.declared.flag.Flag.TheVariants.{SuperCarrierOnly, Of, NotSimulated}
 
 abbrev pub begins : List ℕ → List ℕ → Bool
 begins word front = starts_with nat_eq word front

@@ -2,7 +2,8 @@
 ghost use Rattle.std.specs.Prelude.{◌≡◌, ◌≤◌};
 ghost use Rattle.ea_model.specs.declared.units.TheConstants.{MAX_MEGABYTES};
 ghost use Rattle.ea_model.specs.Settings as model;
-ghost use Rattle.ea_flags.specs.Configs.{changed, changed_for, set_by, migrating, settled, fits_all};
+ghost use Rattle.ea_flags.specs.Configs.{changed, changed_for, set_by, migrating, settled};
+ghost use Rattle.ea_flags.specs.Configs.{fits_all};
 
 use crate::flag::Scope;
 use crate::setting::{Change, Setting};

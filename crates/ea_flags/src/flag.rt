@@ -1,6 +1,7 @@
 //! The flags, and the words that they are.
 ghost use Rattle.std.specs.Prelude.{◌≡◌};
-ghost use Rattle.ea_flags.specs.Words.{flag_of, flag_for, parameter_flag, parameter_of, scope_of, is_other_flag, is_other_parameter};
+ghost use Rattle.ea_flags.specs.Words.{flag_of, flag_for, parameter_flag, parameter_of, scope_of};
+ghost use Rattle.ea_flags.specs.Words.{is_other_flag, is_other_parameter};
 
 use ea_model::Letter;
 

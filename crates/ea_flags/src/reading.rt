@@ -1,5 +1,6 @@
 //! Reads the words, a flag and its value at a time.
-ghost use Rattle.std.specs.Prelude.{◌≡◌, ◌+◌, ◌<◌, ◌≤◌, ◌^◌, [], length, map, string_bytes, IfOk, IfErr, IfSome, IfNone, Ok, Err};
+ghost use Rattle.std.specs.Prelude.{◌≡◌, ◌+◌, ◌<◌, ◌≤◌, ◌^◌, [], length, map, string_bytes, IfOk};
+ghost use Rattle.std.specs.Prelude.{IfErr, IfSome, IfNone, Ok, Err};
 ghost use Rattle.ea_model.specs.Settings.{IsValidConfig};
 ghost use Rattle.ea_flags.specs.Words.{flag_of};
 ghost use Rattle.ea_flags.specs.Ranges.{IsInRange};

@@ -4,3 +4,4 @@ pub mod Says
 pub mod Ranges
 pub mod Knows
 pub mod TurnLines
+pub mod Refusals

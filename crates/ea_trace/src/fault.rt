@@ -1,5 +1,6 @@
 //! Why a text is no trace.
 ghost use Rattle.std.specs.Prelude.{◌≡◌};
+ghost use Rattle.ea_trace.specs.Refusals.{line_of, message_of};
 ghost use Rattle.ea_trace.specs.declared.fault.TraceFault.TheVariants as fault;
 
 use ea_model::OutOfMemory;
@@ -12,30 +13,63 @@ use thiserror::Error;
 pub enum TraceFault {
     /// The line isn't one that may stand there, or is malformed, or a number that isn't a
     /// scheduler's is out of its range.
-    #[error("line {line}: syntax")]
+    #[error("line {line}: {}", self.message())]
     Syntax { line: u32 },
     /// The line begins another section than the next due, names a scheduler that isn't there, or
     /// ends the sections too early.
-    #[error("line {line}: bad scheduler")]
+    #[error("line {line}: {}", self.message())]
     BadScheduler { line: u32 },
     /// The line makes a name that an earlier line made, or gives a name that an earlier line gave.
-    #[error("line {line}: name reused")]
+    #[error("line {line}: {}", self.message())]
     NameReused { line: u32 },
     /// The line needs a name that no earlier line of its section made or took.
-    #[error("line {line}: name not held")]
+    #[error("line {line}: {}", self.message())]
     NotHeld { line: u32 },
     /// No line gives the name that the line takes to its scheduler.
-    #[error("line {line}: name not addressed")]
+    #[error("line {line}: {}", self.message())]
     NotAddressed { line: u32 },
     /// With this line the operations, the tries or the turns are more than a trace may have.
-    #[error("line {line}: too many")]
+    #[error("line {line}: {}", self.message())]
     TooMany { line: u32 },
     /// The text ends before an `end` line.
-    #[error("no end line")]
+    #[error("{}", self.message())]
     NoEnd,
     /// There was no memory.
-    #[error("out of memory")]
+    #[error("{}", self.message())]
     OutOfMemory,
+}
+
+impl TraceFault {
+    /// The number of the refused line; None where no line alone is refused.
+    pub fn line(&self) -> Option<u32>
+        ensures { result ≡ line_of self.now }
+    {
+        match self {
+            TraceFault::Syntax { line }
+            | TraceFault::BadScheduler { line }
+            | TraceFault::NameReused { line }
+            | TraceFault::NotHeld { line }
+            | TraceFault::NotAddressed { line }
+            | TraceFault::TooMany { line } => Some(*line),
+            TraceFault::NoEnd | TraceFault::OutOfMemory => None,
+        }
+    }
+
+    /// What is wrong, without the number of the line.
+    pub fn message(&self) -> &'static str
+        ensures { result.now ≡ message_of self.now }
+    {
+        match self {
+            TraceFault::Syntax { .. } => "syntax",
+            TraceFault::BadScheduler { .. } => "bad scheduler",
+            TraceFault::NameReused { .. } => "name reused",
+            TraceFault::NotHeld { .. } => "name not held",
+            TraceFault::NotAddressed { .. } => "name not addressed",
+            TraceFault::TooMany { .. } => "too many",
+            TraceFault::NoEnd => "no end line",
+            TraceFault::OutOfMemory => OutOfMemory.message(),
+        }
+    }
 }
 
 impl From<OutOfMemory> for TraceFault {

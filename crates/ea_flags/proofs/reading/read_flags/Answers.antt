@@ -7,4 +7,5 @@ use Rattle.ea_flags.proofs.reading.read_flags.Goals as goal
 pub returns-clause-valid : goal.returns-clause-valid
 returns-clause-valid c = subst IsValidConfig (sym c.settled_config-config.ensures)
     (settled-IsValidConfig c.loop-setting.config c.loop-setting.invariant.ranges
-    (sym (c.main_carriers_fit.ensures ∙ ap fits_all c.settled_config-config.ensures) ∙ c.if-not-main_carriers_fit.false))
+    (sym (c.main_carriers_fit.ensures ∙ ap fits_all c.settled_config-config.ensures)
+    ∙ c.if-not-main_carriers_fit.false))
