@@ -1,21 +1,25 @@
+-- What there is: of a run, of what schedulers share, and of one of them.
+pub mod Setup
 pub mod Owners
 pub mod Nodes
 pub mod Alike
 pub mod Shared
-pub mod Setup
 pub mod Actor
 pub mod State
+-- The atomic steps.
 pub mod Rows
 pub mod Table
-pub mod Releases
-pub mod Tasks
+pub mod Guards
+-- What a scheduler does between two of them.
+pub mod Walks
+pub mod Operations
 pub mod Placements
 pub mod Reallocations
+pub mod Releases
+pub mod Tasks
 pub mod Statistics
-pub mod Operations
-pub mod Walks
+-- Runs, and what is printed of them.
 pub mod Machine
-pub mod Guards
 pub mod Completion
 pub mod Courses
 pub mod Outcome

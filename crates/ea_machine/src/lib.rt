@@ -2,23 +2,26 @@
 //! the protocol of blocks that another scheduler frees than the one that allocated them, and of
 //! carriers that are abandoned into a pool and fetched from it.
 //!
-//! There is no code here but nine types. The machine is defined in `specs/`, which read as its
-//! manual, in this order:
+//! There is no code here but nine types, each in its module. The machine is defined in `specs/`,
+//! which read as its manual, in this order:
 //!
 //! - `Setup` is what stays the same in a run; `Owners` and `Nodes` are what is shared of a carrier
-//!   and of a queue, `Shared` is all that is; `Actor` is one scheduler, and where it is in its
-//!   operation.
+//!   and of a queue, `Alike` says which nodes are those of one name, and `Shared` is all that is
+//!   shared; `Actor` is one scheduler, `State` is all of them with what they share.
 //! - `Rows` names the atomic steps, `Table` says what each of them answers and does, and `Guards`
 //!   what holds whenever one is wanted.
 //! - What a scheduler does between two steps is its own affair: `Walks` begins an operation,
 //!   `Operations` has each of the seven, `Placements`, `Reallocations` and `Releases` what becomes
-//!   of a block, `Abandonment` when a carrier is abandoned, `Employment` how carriers come and go,
-//!   `Tasks` how an operation ends, and `Statistics` its figures.
+//!   of a block, `Tasks` how an operation ends, and `Statistics` its figures. When a carrier is
+//!   abandoned, and how carriers come to an instance and leave it, are `Abandonment` and
+//!   `Employment` of ea_model.
 //! - `Machine` puts them together: a scheduler wants a row, the row is answered, the scheduler goes
 //!   on. A run is a list of scheduler numbers, one for each step.
-//! - `Completion` adds the turns until every scheduler has ended, and `Outcome` is what is printed.
-//! - `Sound` says when a state is sound, and `MachineLaws` what holds of each run: of its states, of
-//!   the entries that schedulers make, and of the blocks that are released.
+//! - `Completion` adds the turns until every scheduler has ended, `Courses` has the lists of turns
+//!   that runs may be, and `Outcome` is what is printed.
+//! - `Sums` are sums over lists and over what is numbered.
+//!
+//! When a state is sound, and what holds of each run, is said and proved in ea_sound.
 #![tactic(auto)]
 
 pub mod asks;

@@ -2,7 +2,7 @@
 ghost use Rattle.std.specs.Prelude.{◌≡◌, ◌*◌, nat_le, nat_lt};
 ghost use Rattle.ea_model.specs.Decision.{decision, in_multi, in_place, in_single};
 
-use ea_model::{Decision, HEADER_UNITS, MIN_BLOCK, PAGE_UNITS, Settings, Where, least_pages};
+use ea_model::{Decision, HEADER_UNITS, MIN_BLOCK, Settings, Where, least_pages, pages_for};
 
 /// Whether that many units are more than that percentage of a whole.
 fn is_above(units: u32, percent: u32, whole: u32) -> bool
@@ -70,7 +70,7 @@ fn decide_single(settings: Settings, old: u32, fresh: u32, units: u32) -> Decisi
     }
     let pages = least_pages(fresh);
     if fresh < old
-        && pages < units.div_ceil(PAGE_UNITS)
+        && pages < pages_for(units)
         && tail >= settings.asbcst
         && is_at_least(tail, settings.rsbcst, units)
     {

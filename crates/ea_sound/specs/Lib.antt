@@ -1,23 +1,28 @@
+-- A state: what is counted, where it stands and lies, and when it is sound.
 pub mod Contents
 pub mod Names
+pub mod NodePlaces
+pub mod Places
 pub mod NamePlaces
 pub mod Ranges
-pub mod Places
 pub mod Units
-pub mod NodePlaces
 pub mod Sound
+-- Turns, and what entries tell of those before them.
 pub mod Turns
 pub mod Needs
 pub mod Searches
+pub mod Fetches
 pub mod Exhausted
 pub mod Chosen
-pub mod Released
 pub mod HandedOver
+pub mod Released
 pub mod Entries
-pub mod Fetches
+-- Rows: their guards, and answers that never come.
 pub mod Guarded
 pub mod Heard
+-- What holds of each run.
 pub mod MachineLaws
+-- The rule that each step keeps, and the middle of a step.
 pub mod Orderly
 pub mod Blocks
 pub mod Rule
@@ -25,6 +30,7 @@ pub mod Present
 pub mod Moments
 pub mod Here
 pub mod Leaves
+-- What the code and threads need beside it.
 pub mod Steady
 pub mod Standing
 pub mod OwnWork

@@ -2,10 +2,25 @@
 //! steps its schedulers take. There is no code here; the law is a clause of a function that does
 //! nothing, so that the check asks for its proof.
 //!
+//! `specs/` say what holds:
+//!
+//! - `Sound` is when a state is sound. What it counts and where things stand and lie is said in
+//!   `Contents`, `Names`, `NodePlaces`, `Places`, `NamePlaces`, `Ranges` and `Units`.
+//! - `Entries` is what each entry of a log tells of the turns before it, with `Turns`, `Needs`,
+//!   `Searches`, `Fetches`, `Exhausted`, `Chosen`, `HandedOver` and `Released`.
+//! - `Guarded` says that no scheduler does a row that it may not do, `Heard` which answers never
+//!   come.
+//! - `MachineLaws` puts them together: `Protocol` is what holds of each run.
+//!
 //! The proof goes by a rule that each step keeps. `Rule` has what is kept whatever a scheduler is in
 //! the middle of: where contents lie and carriers are, whose names stand where, and which nodes are
 //! on their way; each as a balance of sums. `Present` has what each scheduler is in the middle of,
-//! and `Leaves` what a row leaves to the local work that follows it.
+//! and `Leaves` what a row leaves to the local work that follows it; `Orderly`, `Blocks`, `Moments`
+//! and `Here` are words of these. `Steady`, `Standing` and `OwnWork` are what the code and threads
+//! need beside the rule.
+//!
+//! `proofs/Lib.antt` lists the proofs in the order in which they are read, part by part: sums, one
+//! instance, one moment, rows, the work between rows, a step, the rule, and what follows from it.
 #![tactic(auto)]
 
 ghost use Rattle.ea_sound.specs.MachineLaws.{Always, Protocol};
