@@ -3,3 +3,4 @@ pub mod Counts
 pub mod Fronts
 pub mod Memory
 pub mod Standard
+pub mod Messages

@@ -4,10 +4,11 @@ ghost use Rattle.std.specs.Io.KnownBytes.{IsAtEnd};
 ghost use Rattle.ea_io.specs.Calls.{StopsAtFault};
 ghost use Rattle.ea_io.specs.Counts.{Rose};
 ghost use Rattle.ea_io.specs.Fronts.{ConsumesAtMost, ConsumesMany};
+ghost use Rattle.ea_io.specs.Messages.{message_of};
 ghost use Rattle.ea_io.specs.declared.reading.ReadAllFault.TheVariants.{OutOfMemory};
 
 use crate::ends::Source;
-use ea_model::List;
+use ea_model::{List, OutOfMemory as NoMemory};
 use std::alloc::{AllocError, Global};
 use thiserror::Error;
 
@@ -15,14 +16,27 @@ use thiserror::Error;
 #[derive(Debug, Drop, Error)]
 pub enum ReadAllFault {
     /// A read failed: the source's count of faults rose.
-    #[error("read failed")]
+    #[error("{}", self.message())]
     ReadFault,
     /// The source gave one byte more than the limit.
-    #[error("input too long")]
+    #[error("{}", self.message())]
     TooLong,
     /// There was no memory for the bytes.
-    #[error("out of memory")]
+    #[error("{}", self.message())]
     OutOfMemory,
+}
+
+impl ReadAllFault {
+    /// What went wrong.
+    pub fn message(&self) -> &'static str
+        ensures { result.now ≡ message_of self.now }
+    {
+        match self {
+            ReadAllFault::ReadFault => "read failed",
+            ReadAllFault::TooLong => "input too long",
+            ReadAllFault::OutOfMemory => NoMemory.message(),
+        }
+    }
 }
 
 impl From<AllocError> for ReadAllFault {

@@ -1,7 +1,8 @@
 //! The lines of a log.
 ghost use Rattle.std.specs.Prelude.{◌≡◌, ◌++◌, map, OnOk};
 ghost use Rattle.std.specs.List.{flat_map};
-ghost use Rattle.ea_model.specs.declared.entries.Entry.TheVariants.{Alloc, AllocFail, ReallocFail, Info};
+ghost use Rattle.ea_model.specs.declared.entries.Entry.TheVariants.{Alloc, AllocFail, ReallocFail};
+ghost use Rattle.ea_model.specs.declared.entries.Entry.TheVariants.{Info};
 ghost use Rattle.ea_report.specs.Text.{cause_text, report_text, realloc_text, entry_text};
 ghost use Rattle.ea_report.specs.Printed.{word_text};
 

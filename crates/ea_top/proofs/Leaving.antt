@@ -12,7 +12,8 @@ use Rattle.ea_trace.specs.declared.fault.TraceFault.{TraceFault}
 use Rattle.ea_trace.specs.declared.fault.TraceFault.TheVariants as trace
 use Rattle.ea_trace.specs.Language.{Answer}
 use Rattle.ea_top.specs.declared.faults.Fault.{Fault}
-use Rattle.ea_top.specs.declared.faults.Fault.TheVariants.{Words, Trace, TooLong, NotBuilt, ReadFailed, WriteFailed, OutOfMemory}
+use Rattle.ea_top.specs.declared.faults.Fault.TheVariants.{Words, Trace, TooLong, NotBuilt}
+use Rattle.ea_top.specs.declared.faults.Fault.TheVariants.{ReadFailed, WriteFailed, OutOfMemory}
 use Rattle.ea_top.specs.Answers.{GivesText, GoodInput, GoodWords, IsBuiltFor, WroteText, spelled}
 use Rattle.ea_top.specs.Faults.{status_of, trace_status}
 use Rattle.ea_top.specs.Output.{IsOutputUnder, is_built_under, read_for, read_under}

@@ -1,5 +1,6 @@
 -- What each fault says of the words, the input and the ends.
-use Rattle.std.specs.Prelude.{◌≡◌, ℕ, ◌+◌, ◌<◌, ◌≤◌, false, Option, IfSome, IsOk, Result, Ok, Err, List, length}
+use Rattle.std.specs.Prelude.{◌≡◌, ℕ, ◌+◌, ◌<◌, ◌≤◌, false, Option, IfSome, IsOk, Result, Ok, Err}
+use Rattle.std.specs.Prelude.{List, length}
 use Rattle.std.specs.Io.KnownBytes.{IsAtEnd}
 use Rattle.std.specs.Result.{result_ok}
 use Rattle.std.specs.declared.string.String.{String}
@@ -12,7 +13,8 @@ use Rattle.ea_trace.specs.declared.fault.TraceFault.{TraceFault}
 use Rattle.ea_trace.specs.Language.{Gives, trace}
 use Rattle.ea_top.specs.Output.{is_built_for, is_built_under}
 use Rattle.ea_top.specs.declared.faults.Fault.{Fault}
-use Rattle.ea_top.specs.declared.faults.Fault.TheVariants.{Words, Trace, TooLong, NotBuilt, ReadFailed, WriteFailed, OutOfMemory}
+use Rattle.ea_top.specs.declared.faults.Fault.TheVariants.{Words, Trace, TooLong, NotBuilt}
+use Rattle.ea_top.specs.declared.faults.Fault.TheVariants.{ReadFailed, WriteFailed, OutOfMemory}
 use Rattle.ea_top.specs.Answers.{GoodWords, GoodInput, HasOutput, spelled}
 
 -- under the configuration the input gives this refusal, unless there was no memory to read it

@@ -4,11 +4,11 @@ ghost use Rattle.std.specs.Io.KnownBytes.{Appends};
 ghost use Rattle.ea_io.specs.Calls.{StopsAtFault};
 ghost use Rattle.ea_io.specs.Counts.{Calm};
 ghost use Rattle.ea_io.specs.Fronts.{AppendsFront};
-ghost use Rattle.ea_top.specs.Faults.{flag_text, trace_text, status_of, numbered_text, line_with, fault_line, Complains};
+ghost use Rattle.ea_top.specs.Faults.{Complains, fault_line, line_with, refusal_text, status_of};
 ghost use Rattle.ea_top.specs.declared.faults.Fault.TheVariants as fault;
 
 use ea_flags::FlagFault;
-use ea_io::{Failed, Sink, write_texts};
+use ea_io::{Failed, ReadAllFault, Sink, write_texts};
 use ea_model::OutOfMemory;
 use ea_trace::TraceFault;
 use itoa::Buffer;
@@ -82,60 +82,29 @@ fn write_with<E: Sink>(err: &mut E, text: &str) -> Result<(), Failed>
     write_texts(err, &["erts_alloc_run: ", text, "\n"])
 }
 
-/// Writes the line that names a word or a line by its number, and says what is wrong with it.
-fn write_numbered<E: Sink>(err: &mut E, thing: &str, number: u32, what: &str) -> Result<(), Failed>
+/// Writes the line of a refusal: what is refused, by its number if it has one, and what is wrong.
+fn write_refusal<E: Sink>(
+    err: &mut E,
+    thing: &str,
+    number: Option<u32>,
+    what: &str,
+) -> Result<(), Failed>
     ensures whole { OnOk result (Appends (E.taken err.old) (E.taken err.new)
-        (line_with (numbered_text thing.now number what.now))) }
+        (line_with (refusal_text thing.now number what.now))) }
     ensures front { AppendsFront (E.taken err.old) (E.taken err.new)
-        (line_with (numbered_text thing.now number what.now)) }
+        (line_with (refusal_text thing.now number what.now)) }
     ensures kept { OnOk result (E.faults err.new ≡ E.faults err.old) }
     ensures stops { OnErr result (StopsAtFault E.taken E.faults err.old err.new) }
 {
+    let Some(number) = number else {
+        return write_with(err, what);
+    };
     let mut buffer = Buffer::new();
     let digits = buffer.format(number);
     write_texts(
         err,
         &["erts_alloc_run: ", thing, " ", digits, ": ", what, "\n"],
     )
-}
-
-fn write_flag_fault<E: Sink>(err: &mut E, refusal: FlagFault) -> Result<(), Failed>
-    ensures whole { OnOk result
-        (Appends (E.taken err.old) (E.taken err.new) (line_with (flag_text refusal))) }
-    ensures front { AppendsFront (E.taken err.old) (E.taken err.new)
-        (line_with (flag_text refusal)) }
-    ensures kept { OnOk result (E.faults err.new ≡ E.faults err.old) }
-    ensures stops { OnErr result (StopsAtFault E.taken E.faults err.old err.new) }
-{
-    match refusal {
-        FlagFault::Unknown { word } => write_numbered(err, "word", word, "unknown flag"),
-        FlagFault::NoValue { word } => write_numbered(err, "word", word, "value missing"),
-        FlagFault::BadValue { word } => write_numbered(err, "word", word, "bad value"),
-        FlagFault::Unsupported { word } => write_numbered(err, "word", word, "unsupported"),
-        FlagFault::SpaceTooSmall => write_with(err, "super carrier too small"),
-    }
-}
-
-fn write_trace_fault<E: Sink>(err: &mut E, refusal: TraceFault) -> Result<(), Failed>
-    ensures whole { OnOk result
-        (Appends (E.taken err.old) (E.taken err.new) (line_with (trace_text refusal))) }
-    ensures front { AppendsFront (E.taken err.old) (E.taken err.new)
-        (line_with (trace_text refusal)) }
-    ensures kept { OnOk result (E.faults err.new ≡ E.faults err.old) }
-    ensures stops { OnErr result (StopsAtFault E.taken E.faults err.old err.new) }
-{
-    match refusal {
-        TraceFault::Syntax { line } => write_numbered(err, "line", line, "syntax"),
-        TraceFault::BadScheduler { line } => write_numbered(err, "line", line, "bad scheduler"),
-        TraceFault::NameReused { line } => write_numbered(err, "line", line, "name reused"),
-        TraceFault::NotHeld { line } => write_numbered(err, "line", line, "name not held"),
-        TraceFault::NotAddressed { line } => {
-            write_numbered(err, "line", line, "name not addressed")
-        }
-        TraceFault::TooMany { line } => write_numbered(err, "line", line, "too many"),
-        TraceFault::NoEnd => write_with(err, "no end line"),
-        TraceFault::OutOfMemory => write_with(err, "out of memory"),
-    }
 }
 
 fn write_line<E: Sink>(err: &mut E, fault: Fault) -> Result<(), Failed>
@@ -145,13 +114,13 @@ fn write_line<E: Sink>(err: &mut E, fault: Fault) -> Result<(), Failed>
     ensures stops { OnErr result (StopsAtFault E.taken E.faults err.old err.new) }
 {
     match fault {
-        Fault::Words(refusal) => write_flag_fault(err, refusal),
-        Fault::Trace(refusal) => write_trace_fault(err, refusal),
-        Fault::TooLong => write_with(err, "input too long"),
+        Fault::Words(refusal) => write_refusal(err, "word", refusal.word(), refusal.message()),
+        Fault::Trace(refusal) => write_refusal(err, "line", refusal.line(), refusal.message()),
+        Fault::TooLong => write_with(err, ReadAllFault::TooLong.message()),
         Fault::NotBuilt => write_with(err, "not built yet"),
-        Fault::ReadFailed => write_with(err, "read failed"),
+        Fault::ReadFailed => write_with(err, ReadAllFault::ReadFault.message()),
         Fault::WriteFailed => write_with(err, "write failed"),
-        Fault::OutOfMemory => write_with(err, "out of memory"),
+        Fault::OutOfMemory => write_with(err, OutOfMemory.message()),
     }
 }
 

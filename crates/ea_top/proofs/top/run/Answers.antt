@@ -2,7 +2,8 @@ use Rattle.std.proofs.Common.{◌≡◌, sym, ◌∙◌, ap, refl, arith}
 use Rattle.ea_io.specs.Counts.{next_count}
 use Rattle.std.specs.Prelude.{Err}
 use Rattle.ea_top.specs.declared.faults.Fault.{Fault}
-use Rattle.ea_top.specs.declared.faults.Fault.TheVariants.{Words, Trace, TooLong, NotBuilt, ReadFailed, WriteFailed, OutOfMemory}
+use Rattle.ea_top.specs.declared.faults.Fault.TheVariants.{Words, Trace, TooLong, NotBuilt}
+use Rattle.ea_top.specs.declared.faults.Fault.TheVariants.{ReadFailed, WriteFailed, OutOfMemory}
 use Rattle.ea_top.specs.Faults.{status_of, trace_status}
 use Rattle.ea_trace.specs.declared.fault.TraceFault.{TraceFault}
 use Rattle.ea_trace.specs.declared.fault.TraceFault.TheVariants as trace
