@@ -1,5 +1,5 @@
 -- The moments of a run, one after another.
-use Rattle.std.specs.Prelude.{ℕ, Bool, true, false, List, [], ◌∷◌, ◌++◌, Option, None, Some, flat_map, replicate}
+use Rattle.std.specs.Prelude.{ℕ, Bool, true, false, List, [], ◌∷◌, ◌++◌, Option, None, Some, flat_map, if◌then◌else◌, replicate}
 use Rattle.ea_model.specs.declared.trace.Turns.{Turns}
 use Rattle.ea_model.specs.Words.{words}
 use Rattle.ea_trace.specs.Lines.{turns_in}
@@ -34,17 +34,12 @@ abbrev pub is_searching : Stage Content → Bool
 is_searching (Searching ask at looked) = true
 is_searching _ = false
 
--- the state, unless it is within a search
-abbrev pub unless : Bool → State → List State
-unless true state = []
-unless false state = state ∷ []
-
 module _ (setup : Setup) where
   -- the states after each of these turns, without those within a search of who stepped
   abbrev pub states_after : State → List ℕ → List State
   states_after state [] = []
   states_after state (s ∷ ss) = let next = step setup state s in
-      unless (is_searching (next.actors s).stage) next ++ states_after next ss
+      (if is_searching (next.actors s).stage then [] else next ∷ []) ++ states_after next ss
 
 -- the states of a course, without those within a search
 abbrev pub states_of : Course → List State
