@@ -22,8 +22,8 @@ length-segments [] = refl
 length-segments (o ∷ os) = length-entered start_of (segment_of o) (segments os)
     ∙ ap (λ n. n + 1) (length-segments os) ∙ omega arith
 
-other_base : (x o : OwnCarrier) → HasPages x → HasPages o → SegmentApart x.base x.pages (segment_of o)
-    → o.base ≢ x.base
+other_base : (x o : OwnCarrier) → HasPages x → HasPages o
+    → SegmentApart x.base x.pages (segment_of o) → o.base ≢ x.base
 other_base x o some pages apart =
     elim apart [ inl p ↦ λ e. omega (arith, pages) | inr q ↦ λ e. omega (arith, some) ]
 
@@ -36,7 +36,9 @@ segments-with_own x (o ∷ os) some pages apart =
     elim (cases_lt x.number o.number) [
       | inl p ↦ ap segments (entered_here own_number x o os p)
       | inr q ↦
-          let both = entered-All start_of (SegmentApart x.base x.pages) (segment_of o) (segments os) apart in
+          let both =
+          entered-All start_of (SegmentApart x.base x.pages) (segment_of o) (segments os) apart
+          in
           ap segments (entered_past own_number x o os q)
           ∙ ap (with_segment (segment_of o))
           (segments-with_own x os some (All-tail HasPages o os pages) both.1)

@@ -80,7 +80,8 @@ single-own i number c st there =
 pub employed-own : (i : Instance) (number : ℕ) (c : Content) → Stands i → i.settings.acul ≡ 0
     → content_of (employed i) number ≡ Some c → own_at i.own number ≡ Some (own_of c)
 employed-own i number c st off there =
-    subst (λ n. own_at i.own n ≡ Some (own_of c)) (item_at-key number_of number c (employed i) there)
+    subst (λ n. own_at i.own n ≡ Some (own_of c))
+    (item_at-key number_of number c (employed i) there)
     (item_at-All number_of (λ d. IsOwn i.own (own_of d)) number c (employed i)
     (merged-All number_of (λ d. IsOwn i.own (own_of d)) i.contents i.singles (st.home off) st.owned)
     there)
@@ -373,7 +374,8 @@ module _ (i : Instance) (x : Content) (st : Stands i)
     others_number : All (λ c. c.number ≢ x.number) (employed i)
     others_number = none-other number_of x.number (employed i) new
 
-    each_other : All (λ c. c.number ≢ x.number) i.contents × All (λ c. c.number ≢ x.number) i.singles
+    each_other : All (λ c. c.number ≢ x.number) i.contents
+        × All (λ c. c.number ≢ x.number) i.singles
     each_other = merged-each number_of (λ c. c.number ≢ x.number) i.contents i.singles others_number
 
     once_more : IsRising (with_content x (employed i))
@@ -466,7 +468,8 @@ module _ (i : Instance) (need : ℕ) (p : CarrierPlan) (st : Stands i) (asked : 
 
     meets_none : All (ContentsApart planned_content) (employed i)
     meets_none = λ k d within.
-        meets_not (get_or (employed i) k d) (employed-whole i st k d within) (employed-someones i st k d within)
+        meets_not (get_or (employed i) k d) (employed-whole i st k d within)
+        (employed-someones i st k d within)
 
     pub planned-apart : All (ContentsApart planned_content) i.contents
     planned-apart = (merged-each number_of (ContentsApart planned_content)
@@ -490,7 +493,8 @@ module _ (i : Instance) (need : ℕ) (p : CarrierPlan) (st : Stands i) (asked : 
       alone = st.alone;
       apart = st.apart;
       someones = all-someones i (with_own (planned_own p) i.own) i.contents
-          (λ k d within. same_as_before (get_or i.contents k d) (planned-new k d within)) st.someones;
+          (λ k d within. same_as_before (get_or i.contents k d) (planned-new k d within))
+          st.someones;
       owned = all-own i (with_own (planned_own p) i.own) i.singles
           (λ k d within. same_as_before (get_or i.singles k d) (planned-alone k d within)) st.owned;
       home = λ off. all-own i (with_own (planned_own p) i.own) i.contents
@@ -702,7 +706,8 @@ new_with s number first pages valid own within main some =
       apart = AllPairs-cons ContentsApart m [] (All-nil (ContentsApart m))
           (pairs_nil ContentsApart);
       someones = All-cons (λ c. IsSomeones begun (own_of c)) m []
-          (inl (item_here own_number o.number o [] refl)) (All-nil (λ c. IsSomeones begun (own_of c)));
+          (inl (item_here own_number o.number o [] refl))
+          (All-nil (λ c. IsSomeones begun (own_of c)));
       owned = All-nil (λ c. IsOwn begun.own (own_of c));
       home = λ off. All-cons (λ c. IsOwn begun.own (own_of c)) m []
           (item_here own_number o.number o [] refl) (All-nil (λ c. IsOwn begun.own (own_of c)));

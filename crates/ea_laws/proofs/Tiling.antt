@@ -19,7 +19,8 @@ Tiled-Ordered at end (b ∷ bs) t =
 pub one-Ordered : (units : ℕ) (bs : List BlockAt) → 8 ≤ units → HasOneBlock units bs
     → Ordered 8 units bs
 one-Ordered units [] some h = some
-one-Ordered units (b ∷ []) some h = (omega (arith, h.0), omega (arith, h.1), omega (arith, h.0, h.3))
+one-Ordered units (b ∷ []) some h =
+    (omega (arith, h.0), omega (arith, h.1), omega (arith, h.0, h.3))
 one-Ordered units (b ∷ c ∷ bs) some h = absurd h
 
 -- the blocks and gaps fit between the ends

@@ -20,8 +20,8 @@ unfolding unused_from
 unused_from-free_here k n os h = cond-false (is_used n os) (unused_from k (n + 1) os) (Some n) h
 
 -- at a number that isn't in use the search is over
-pub stops_here : (left k first : ℕ) (os : List OwnCarrier) (all : Option ℕ) → left + k ≡ 256 → k < 256
-    → is_used (first + k) os ≡ false → unused_from left (first + k) os ≡ all
+pub stops_here : (left k first : ℕ) (os : List OwnCarrier) (all : Option ℕ) → left + k ≡ 256
+    → k < 256 → is_used (first + k) os ≡ false → unused_from left (first + k) os ≡ all
     → Some (first + k) ≡ all
 stops_here zero k first os all e h unused same = absurd (omega arith)
 stops_here (suc left) k first os all e h unused same = sym

@@ -23,11 +23,11 @@ ranges cs = flat_map ranges_in cs
 abbrev pub RangesApart : Range → Range → Type 0
 RangesApart a b = AreApart a.first a.units b.first b.units
 
--- no two blocks have a unit in common; in a multiblock carrier they lie one after another, after its
--- header and with whole gaps between them, and a singleblock carrier has one at most; each carrier
--- has whole pages and a number of its own, and they lie apart; the carriers that the instance owns
--- have its numbers, and their segments lie apart, inside its region;
--- blocks, gaps and headers are all units of the carriers
+-- no two blocks have a unit in common; in a multiblock carrier they lie one after another, after
+-- its header and with whole gaps between them, and a singleblock carrier has one at most; each
+-- carrier has whole pages and a number of its own, and they lie apart; the carriers that the
+-- instance owns have its numbers, and their segments lie apart, inside its region; blocks, gaps and
+-- headers are all units of the carriers
 pub record IsInOrder (i : Instance) : Type 0 where
   pub disjoint : AllPairs RangesApart (ranges (employed i))
   pub tiled : All (λ c. Tiled HEADER_UNITS c.units c.blocks) i.contents

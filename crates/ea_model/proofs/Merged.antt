@@ -177,7 +177,8 @@ module _ {A : Type 0} (key_of : A → ℕ) where
   entered_front : (x : A) (ys : List A) → All (IsBelow key_of x) ys
       → entered key_of x ys ≡ x ∷ ys
   entered_front x [] below = refl
-  entered_front x (y ∷ ys) below = entered_here key_of x y ys (All-head (IsBelow key_of x) y ys below)
+  entered_front x (y ∷ ys) below =
+      entered_here key_of x y ys (All-head (IsBelow key_of x) y ys below)
 
   -- the first of all is the first of the one list or of the other
   pub merged-first_left : (x : A) (xs ys : List A) → All (IsBelow key_of x) xs

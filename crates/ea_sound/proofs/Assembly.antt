@@ -163,8 +163,8 @@ module _ (e : Setup) (w : State) (s : Shared) (me : ℕ) (P : Actor → Type 0) 
     route-holds h y a k = routed-holds (migration e) h y a refl k
 
     -- a route that goes on, or what follows it
-    carried_by-holds : (y : Why) (over : Gone → Actor → Actor) (r : Option (Route Content)) (g : Gone)
-        (a : Actor) → HoldsAt y g a r → (P (at Begin a) → P (over g a))
+    carried_by-holds : (y : Why) (over : Gone → Actor → Actor) (r : Option (Route Content))
+        (g : Gone) (a : Actor) → HoldsAt y g a r → (P (at Begin a) → P (over g a))
         → P (carried_by y over g a r)
     carried_by-holds y over (Some r) g a h f = h
     carried_by-holds y over None g a h f = f h

@@ -1,7 +1,8 @@
 -- What the calls of a scheduler on what is shared ask for, in each reached state: names are of the
 -- trace, and nodes of its names and carriers; a node that is to be pushed stands nowhere, and one
 -- that is to be linked stands unlinked; a name that is to be given isn't given, and one that is to
--- be taken isn't held; and the operation that a scheduler is in the middle of is the first one left.
+-- be taken isn't held; and the operation that a scheduler is in the middle of is the first one
+-- left.
 use Rattle.std.proofs.Common.{◌≡◌, ◌≢◌, ◌⊎◌, ℕ, ◌<◌, true, List, [], ◌∷◌, refl, sym, ap, ◌∙◌, subst, inl, inr, arith}
 use Rattle.std.specs.Prelude.{◌==◌, All, Contains, Option, None, Some, option_map}
 use Rattle.std.proofs.lemmas.Bool.{cases_Bool}

@@ -1,8 +1,8 @@
 -- What the calls of a scheduler on carriers ask for, and what it has of a carrier that it gets, in
 -- each reached state: carriers are of the schedulers; one that is settled is busy, one that is
 -- abandoned, sent home or cleared is employed, one that is collected has returned; the block in the
--- hand is in a carrier that its scheduler employs, and in one that it makes busy; and a carrier that
--- it fetches fits into its instance.
+-- hand is in a carrier that its scheduler employs, and in one that it makes busy; and a carrier
+-- that it fetches fits into its instance.
 use Rattle.std.proofs.Common.{◌≡◌, ◌≢◌, ℕ, ◌<◌, true, false, refl, sym, ap, ◌∙◌, subst, inl, inr, arith}
 use Rattle.std.specs.Prelude.{All, None, Some}
 use Rattle.ea_model.specs.declared.carriers.BlockAt.{BlockAt}
@@ -31,12 +31,12 @@ use Rattle.ea_machine.specs.declared.stages.Stage.TheVariants.{Collecting, Creat
 use Rattle.ea_machine.specs.declared.stages.Route.{Route}
 use Rattle.ea_machine.specs.declared.stages.Route.TheVariants.{Clearing, Looking, Settling, Trying}
 use Rattle.ea_machine.specs.Actor.{Actor}
-use Rattle.ea_sound.specs.Contents.{AtHome, Everywhere, hand_sum, home_sum, seats}
+use Rattle.ea_sound.specs.Contents.{AtHome, Everywhere, InHand, hand_sum, home_sum, seats}
 use Rattle.ea_machine.specs.Machine.{IsReached}
 use Rattle.ea_sound.specs.Names.{of_hand, only_at}
 use Rattle.ea_machine.specs.Owners.{CarrierAt, Absent, Busy, Employed, Pooled, Returning, word_of}
 use Rattle.ea_sound.specs.Places.{IsNumber, has_number, is_there, none}
-use Rattle.ea_sound.specs.Ranges.{IsApartFrom}
+use Rattle.ea_sound.specs.Ranges.{IsApartFrom, IsLaidOutAsKind}
 use Rattle.ea_machine.specs.Rows.{Answer, Won}
 use Rattle.ea_machine.specs.Setup.{Setup, is_scheduler, setup_of}
 use Rattle.ea_machine.specs.Shared.{Shared}
@@ -110,7 +110,8 @@ module _ (e : Setup) (w : State) (s : Shared) (me : ℕ) (is : is_scheduler e me
   pub hand-block : HasBlock a.instance h.name h.spot
   hand-block =
       let now = at (Routed (Looking h) why gone) a in
-      hit e (with_actor w s me now) me (scheduler-seat e me is) k now (put-here w.actors me now me refl)
+      hit e (with_actor w s me now) me (scheduler-seat e me is) k now
+      (put-here w.actors me now me refl)
       h.name h.spot here (omega (arith, only_at-itself h.name h.spot)) refl
 
 module _ (c : Config) (t : Trace) (valid : IsValidConfig c)
@@ -216,9 +217,9 @@ module _ (c : Config) (t : Trace) (valid : IsValidConfig c)
         pub settle-laid : a.stage ≡ Routed (Settling x) why gone → IsLaidOut x
         settle-laid now = let laid = k.ranges.hand_laid me in by a.stage now laid where
           by : (stage : Stage Content) → stage ≡ Routed (Settling x) why gone
-              → Rattle.ea_sound.specs.Contents.InHand IsLaidOut Rattle.ea_sound.specs.Ranges.IsLaidOutAsKind stage
+              → InHand IsLaidOut IsLaidOutAsKind stage
               → IsLaidOut x
-          by stage q laid = subst (Rattle.ea_sound.specs.Contents.InHand IsLaidOut Rattle.ea_sound.specs.Ranges.IsLaidOutAsKind) q laid
+          by stage q laid = subst (InHand IsLaidOut IsLaidOutAsKind) q laid
 
         pub settle-largest : a.stage ≡ Routed (Settling x) why gone
             → IsLargest (largest (gaps_of x))
@@ -234,9 +235,10 @@ module _ (c : Config) (t : Trace) (valid : IsValidConfig c)
             (owner-has e w k x (somewhere-hand e w k x me (ap (hand_sum _ _) now)))
           where
             belongs : Belongs e me x
-            belongs = subst (Rattle.ea_sound.specs.Contents.InHand (Belongs e me) (Belongs e me)) now (k.ranges.in_hand me)
+            belongs = subst (InHand (Belongs e me) (Belongs e me)) now (k.ranges.in_hand me)
 
-    -- a carrier that is collected: it has returned, its owner has it, and employs none of its number
+    -- a carrier that is collected: it has returned, its owner has it, and employs none of its
+    -- number
     module _ (n : ℕ) (now : a.stage ≡ Collecting n) where
       pub collect-home : (x : Content) × (w.shared.places n ≡ Returning me x)
       collect-home = collecting-home e w k me seat n now
@@ -305,7 +307,8 @@ module _ (c : Config) (t : Trace) (valid : IsValidConfig c)
           | inl on ↦ let never : Pooled fetched.0 fetched.1 x ≡ Employed me =
               sym fetched.2 ∙ on.1 in cc
           | inr off ↦ absurd
-              (let never : true ≡ false = sym (fits (Fetching ask n looked seen) now).5 ∙ off.0 in cc)
+              (let never : true ≡ false =
+              sym (fits (Fetching ask n looked seen) now).5 ∙ off.0 in cc)
         ])
 
         -- apart from all that the instance employs

@@ -356,8 +356,8 @@ pushed-longer e L s j log n (Queued to) o = record {
   owner = o.owner;
 }
 
-way-longer : (e : Setup) (L : List ℕ) (s j : ℕ) (log : List Entry) (n : ℕ) (r : Route Content) (g : Gone)
-    → OnWay e L s log n r g → OnWay e (L ++ j ∷ []) s log n r g
+way-longer : (e : Setup) (L : List ℕ) (s j : ℕ) (log : List Entry) (n : ℕ) (r : Route Content)
+    (g : Gone) → OnWay e L s log n r g → OnWay e (L ++ j ∷ []) s log n r g
 way-longer e L s j log n (Looking h) g w = (w.0, w.1, held-longer e L s j n h log w.2)
 way-longer e L s j log n (Trying h seen) g w = (w.0, w.1, held-longer e L s j n h log w.2)
 way-longer e L s j log n (Settling x) g w = left-longer e L j n g w
@@ -375,7 +375,8 @@ module _ (e : Setup) (L : List ℕ) (s j : ℕ) (ne : j ≢ s) where
       let d : (j == s) ≡ false = grind (arith, ne) in
       further e L s j need R P P false d refl (λ xs p. subst P (sym (append-nil xs)) p) u
 
-  pub other-so_far : (a : Actor) (st : Stage Content) → SoFar e L s a st → SoFar e (L ++ j ∷ []) s a st
+  pub other-so_far : (a : Actor) (st : Stage Content) → SoFar e L s a st
+      → SoFar e (L ++ j ∷ []) s a st
   other-so_far a (Searching ask at looked) h = record {
     of = h.of;
     on = h.on;

@@ -257,8 +257,8 @@ module _ (e : Setup) (rules : (L : List ℕ) → Rule e (run e L)) (L : List ℕ
       by (Queued to) y = y
 
     -- with the block in the hand before
-    pub hand-becomes : (task : Task) (h : Named) → h.name ≡ name_in task → (o : Option (Route Content))
-        (g : Gone) (b : Actor) → Yields h o g → GoesOut task b
+    pub hand-becomes : (task : Task) (h : Named) → h.name ≡ name_in task
+        → (o : Option (Route Content)) (g : Gone) (b : Actor) → Yields h o g → GoesOut task b
         → HasHeld e turn me (name_in task) h acting.log → (migration e ≡ false → ⊥)
         → Becomes task o g b
     hand-becomes task h name None Open b y out held on =
@@ -291,8 +291,8 @@ module _ (e : Setup) (rules : (L : List ℕ) → Rule e (run e L)) (L : List ℕ
         ∙ stays-gone e rules (all_of n) o.before o.since o.none o.never
 
     -- where it had left the hand before
-    pub left-becomes : (task : Task) (o : Option (Route Content)) (g : Gone) (b : Actor) → NotByWord o
-        → LeftBy e turn (name_in task) g → Becomes task o g b
+    pub left-becomes : (task : Task) (o : Option (Route Content)) (g : Gone) (b : Actor)
+        → NotByWord o → LeftBy e turn (name_in task) g → Becomes task o g b
     left-becomes task o (Queued to) b y l = absurd l
     left-becomes task None Open b y l = λ now. out-now (name_in task) l
     left-becomes task None Here b y l = λ now. out-now (name_in task) l
@@ -414,8 +414,8 @@ module _ (e : Setup) (rules : (L : List ℕ) → Rule e (run e L)) (L : List ℕ
     task-made (Moving o m p) Here b n q = absurd cc
     task-made (Moving o m p) (Queued to) b n q = absurd cc
 
-    pub carried-fine : (task : Task) (r : Option (Route Content)) (g : Gone) (b : Actor) → Keeps acting b
-        → OfTask task acting.todo → Queues g r → Becomes task r g b
+    pub carried-fine : (task : Task) (r : Option (Route Content)) (g : Gone) (b : Actor)
+        → Keeps acting b → OfTask task acting.todo → Queues g r → Becomes task r g b
         → (IsAfter b → Placing e turn me acting.log task)
         → Fine (carried (For task) (task_over task) (record { actor = b; route = r; gone = g }))
     carried-fine task None g b k o w out h = logged-fine (entry_of task g) b k

@@ -314,7 +314,8 @@ module _ (e : Setup) (rules : (L : List ℕ) → Rule e (run e L)) (L : List ℕ
     took-fine n tries left (Home x) st ans h = halted-fine
 
     -- what isn't Ready is done with
-    onward-by : (b : Actor) (st : Stage Content) → b.stage ≡ st → Fine b → Fine (onward_at e me b st)
+    onward-by : (b : Actor) (st : Stage Content) → b.stage ≡ st → Fine b
+        → Fine (onward_at e me b st)
     onward-by b Ready q h = absurd (h.0 q)
     onward-by b Begin q h = h
     onward-by b (Routed r y g) q h = h

@@ -66,8 +66,8 @@ module _ (e : Setup) (me : ℕ) where
   moved-marks (Got x) c p s = refl
 
   -- a row of a route adds no mark of mine, unless it pushes to me
-  route-marks : (r : Route Content) (y : Why) (g : Gone) (s : Shared) → PushesElsewhere me (Routed r y g)
-      → marks (effect me (wants_on r) s) ≡ marks s
+  route-marks : (r : Route Content) (y : Why) (g : Gone) (s : Shared)
+      → PushesElsewhere me (Routed r y g) → marks (effect me (wants_on r) s) ≡ marks s
   unfolding effect
   route-marks (Looking h) y g s f = refl
   route-marks (Trying h seen) y g s f =

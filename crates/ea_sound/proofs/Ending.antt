@@ -244,8 +244,8 @@ module _ (e : Setup) (me : ℕ) where
   onward-less b = onward-by b b.stage refl
 
   -- a walk
-  carried-walk : (over : Gone → Actor → Actor) (r : Option (Route Content)) (g : Gone) (b : Actor) (k : ℕ)
-      → some_rows r ≤ k → actor_rows e (over g b) ≤ whole_rows b
+  carried-walk : (over : Gone → Actor → Actor) (r : Option (Route Content)) (g : Gone) (b : Actor)
+      (k : ℕ) → some_rows r ≤ k → actor_rows e (over g b) ≤ whole_rows b
       → actor_rows e (carried Walk over (record { actor = b; route = r; gone = g }))
       ≤ whole_rows b + k
   carried-walk over None g b k l h = omega (arith, h)

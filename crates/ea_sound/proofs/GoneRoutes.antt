@@ -84,7 +84,8 @@ Yields h (Some (Clearing x)) g = NotSent g
 Yields h (Some (Pushing node to)) g = (node ≡ block_node h) × (g ≡ Queued to)
 Yields h (Some (Linking node to)) g = ⊥
 
-bare-yields : (h : Named) (o : Option (Route Content)) (g : Gone) → IsBare o → NotSent g → Yields h o g
+bare-yields : (h : Named) (o : Option (Route Content)) (g : Gone) → IsBare o → NotSent g
+    → Yields h o g
 bare-yields h None g b n = n
 bare-yields h (Some (Looking k)) g b n = b
 bare-yields h (Some (Trying k seen)) g b n = absurd b

@@ -68,7 +68,8 @@ module _ (e : Setup) (w : State) (rule : Rule e w) (steady : AreSteady e w) (me 
   fits-at : (stage : Stage Content) → a.stage ≡ stage → Fits e w me a stage
   fits-at stage now = subst (Fits e w me a) now (rule.present.fits me)
 
-  steady-at : (stage : Stage Content) → a.stage ≡ stage → IsSteadyStage e me a.instance.contents stage
+  steady-at : (stage : Stage Content) → a.stage ≡ stage
+      → IsSteadyStage e me a.instance.contents stage
   steady-at stage now = subst (IsSteadyStage e me a.instance.contents) now (steady me).route
 
   is-one : (stage : Stage Content) → a.stage ≡ stage → stage ≢ Ended → is_scheduler e me ≡ true
@@ -188,7 +189,8 @@ module _ (e : Setup) (w : State) (rule : Rule e w) (steady : AreSteady e w) (me 
     begin-off None = refl
     begin-off (Some node) = refl
 
-    stage-off : (stage : Stage Content) → a.stage ≡ stage → is_on_word (wants_at a.next stage) ≡ false
+    stage-off : (stage : Stage Content) → a.stage ≡ stage
+        → is_on_word (wants_at a.next stage) ≡ false
     stage-off Begin now = begin-off a.next
     stage-off (Routed route why gone) now =
         route-off route (fits-at (Routed route why gone) now).0

@@ -35,8 +35,8 @@ use Rattle.ea_sound.proofs.PlaceRows.{MayBe}
 use Rattle.ea_sound.proofs.RangeRows.{LiesAtHome, lie-same}
 
 -- the stage of scheduler `me` becomes another one, and with it the place of carrier c
-pub record Turns (e : Setup) (me c : ℕ) (old : Stage Content) (from : CarrierAt) (new : Stage Content)
-    (to : CarrierAt) : Type 0 where
+pub record Turns (e : Setup) (me c : ℕ) (old : Stage Content) (from : CarrierAt)
+    (new : Stage Content) (to : CarrierAt) : Type 0 where
   pub names : (f : ℕ → Spot → ℕ) → of_hand f new
       + (hand_sum (of_content f) (of_content f) old + home_sum (of_content f) from)
       ≡ of_hand f old

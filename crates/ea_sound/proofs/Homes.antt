@@ -124,7 +124,8 @@ module _ (e : Setup) (w : State) (k : Kept e w) where
     -- the block of a name that stands with a scheduler
     module _ (me : ℕ) (seat : me < seats e) (a : Actor) (is : w.actors me ≡ a) (h : Named)
         (at : h.spot.carrier ≡ c) (stands : 1 ≤ names_of (only_at h.name h.spot) a) where
-      pub pooled-hit : (b : BlockAt) × (block_at x.blocks h.spot.offset ≡ Some b) × (b.name ≡ h.name)
+      pub pooled-hit : (b : BlockAt) × (block_at x.blocks h.spot.offset ≡ Some b)
+          × (b.name ≡ h.name)
       pooled-hit = content-hit h.name h.spot x (laid-rising x pooled-laid) (omega (
         arith,
         stands,

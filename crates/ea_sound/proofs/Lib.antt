@@ -136,8 +136,8 @@ pub mod StandingOnce
 pub mod SpotRanges
 pub mod Takings
 pub mod OwnWork
--- For the code: what calls ask for, and, where carriers don't migrate, what schedulers do and what is
--- printed.
+-- For the code: what calls ask for, and, where carriers don't migrate, what schedulers do and what
+-- is printed.
 pub mod Asked
 pub mod TraceNames
 pub mod Calls

@@ -131,8 +131,8 @@ module _ (e : Setup) (w : State) (me : ℕ) (rule : Rule e w) (is : is_scheduler
     starts None = tt
     starts (Some node) = tt
 
-    on : (r : Route Content) (y : Why) (g : Gone) → a.stage ≡ Routed r y g → Fits e w me a (Routed r y g)
-        → PushesNot i (wants_on r)
+    on : (r : Route Content) (y : Why) (g : Gone) → a.stage ≡ Routed r y g
+        → Fits e w me a (Routed r y g) → PushesNot i (wants_on r)
     on (Looking h) y g now f = tt
     on (Trying h seen) y g now f = tt
     on (Settling x) y g now f = tt
@@ -175,7 +175,8 @@ module _ (e : Setup) (w : State) (me : ℕ) (rule : Rule e w) (is : is_scheduler
     on (Pushing node to) = tt
     on (Linking node to) = tt
 
-    by : (st : Stage Content) → a.stage ≡ st → Fits e w me a st → GivesNew w.shared (wants_at a.next st)
+    by : (st : Stage Content) → a.stage ≡ st → Fits e w me a st
+        → GivesNew w.shared (wants_at a.next st)
     by Begin now f = starts a.next
     by (Routed r y g) now f = on r
     by (Collecting c) now f = tt

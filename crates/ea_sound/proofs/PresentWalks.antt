@@ -86,7 +86,8 @@ module _ (e : Setup) (s : Shared) (me : ℕ) (home bound : Counting → ℕ) whe
   still-suits a Ended n q = q
   still-suits a Ready n q = absurd (n refl)
 
-  still-good : (a : Actor) (st : Stage Content) → a.stage ≡ st → st ≢ Ready → GoodAfterRow a → GoodAfter a
+  still-good : (a : Actor) (st : Stage Content) → a.stage ≡ st → st ≢ Ready → GoodAfterRow a
+      → GoodAfter a
   still-good a st q n g = record {
     core = g.core;
     suits = still-suits a a.stage (λ r. n (sym q ∙ r)) g.suits;

@@ -129,7 +129,8 @@ module _ (e : Setup) (w : State) (me : ℕ) (is : is_scheduler e me ≡ true) (r
       → a.stage ≢ Ready → InOperation e w s me a
   in_operation s a moved todo busy = record { kept = moved.0; busy = busy }
 
-  routed-left : (route : Route Content) (why : Why) (gone : Gone) → old.stage ≡ Routed route why gone
+  routed-left : (route : Route Content) (why : Why) (gone : Gone)
+      → old.stage ≡ Routed route why gone
       → Left (effect me (wants_on route) w.shared) (Routed route why gone)
       (answer me (wants_on route) w.shared)
   routed-left route Walk gone now = route-left e w me is rule (λ s. InWalk e w s me)
@@ -219,7 +220,8 @@ module _ (e : Setup) (w : State) (me : ℕ) (is : is_scheduler e me ≡ true) (r
         nodes = λ g. sym (bare.nodes g me);
       })
 
-  bare-left : (ask : Ask) (stage : Stage Content) → IsBare stage → old.stage ≡ stage → Asked e w old ask
+  bare-left : (ask : Ask) (stage : Stage Content) → IsBare stage → old.stage ≡ stage
+      → Asked e w old ask
       → Wanted e w w.shared me old ask × InOperation e w w.shared me (at Begin old)
   bare-left ask stage bare now asked =
       let moved = bare-moved stage bare now in (

@@ -152,8 +152,8 @@ module _ (e : Setup) (w : State) (k : Kept e w) where
   home-multi c (Returning i x) at = (k.placed.returning c i x at).1
 
 module _ (e : Setup) (w : State) (i : ℕ) where
-  route-stays : (r : Route Content) → FitsRoute e w.shared i r → OnRoute (Belongs e i) (Belongs e i) r
-      → OnRoute IsMulti (IsMultiOrOwn i) r
+  route-stays : (r : Route Content) → FitsRoute e w.shared i r
+      → OnRoute (Belongs e i) (Belongs e i) r → OnRoute IsMulti (IsMultiOrOwn i) r
   route-stays (Looking hand) fits belongs = tt
   route-stays (Trying hand seen) fits belongs = tt
   route-stays (Settling x) fits belongs = fits.0
@@ -163,8 +163,8 @@ module _ (e : Setup) (w : State) (i : ℕ) where
   route-stays (Pushing node to) fits belongs = tt
   route-stays (Linking node to) fits belongs = tt
 
-  hand-stays : (a : Actor) (s : Stage Content) → Fits e w i a s → InHand (Belongs e i) (Belongs e i) s
-      → InHand IsMulti (IsMultiOrOwn i) s
+  hand-stays : (a : Actor) (s : Stage Content) → Fits e w i a s
+      → InHand (Belongs e i) (Belongs e i) s → InHand IsMulti (IsMultiOrOwn i) s
   hand-stays a Begin fits belongs = tt
   hand-stays a (Routed r why gone) fits belongs = route-stays r fits.0 belongs
   hand-stays a (Collecting number) fits belongs = tt

@@ -188,7 +188,8 @@ module _ (e : Setup) (w : State) (s : Shared) (me : ℕ)
   already-holds a Ended q g = g
 
   -- all local work
-  pub after-holds : (a : Actor) (r : Answer) (st : Stage Content) → LeavesAt a st r → G (after e me a r st)
+  pub after-holds : (a : Actor) (r : Answer) (st : Stage Content) → LeavesAt a st r
+      → G (after e me a r st)
   unfolding after
   after-holds a r st l =
       let b = after_row e me a r st in

@@ -187,12 +187,13 @@ module _ (e : Setup) (w : State) (s : Shared) (me : ℕ) (is : is_scheduler e me
           busy = busy;
         }) h (kept-still a b same (keeps.kept a h))
 
-    pub turn : (st t : Stage Content) (a : Actor) → SameHand me st t → t ≢ Ready → P (at st a) → P (at t a)
+    pub turn : (st t : Stage Content) (a : Actor) → SameHand me st t → t ≢ Ready → P (at st a)
+        → P (at t a)
     turn st t a same busy =
         goes-still (at st a) (at t a) (still-turned me st t a same) (λ n. omega arith) busy
 
-    pub why-goes : (r : Route Content) (y z : Why) (g h : Gone) (a : Actor) → P (at (Routed r y g) a)
-        → P (at (Routed r z h) a)
+    pub why-goes : (r : Route Content) (y z : Why) (g h : Gone) (a : Actor)
+        → P (at (Routed r y g) a) → P (at (Routed r z h) a)
     why-goes r y z g h a = turn (Routed r y g) (Routed r z h) a (record {
       content = λ f g. refl;
       holds = λ B E q. q;

@@ -26,7 +26,8 @@ told-begins : (next : Option Node) → Told (begins next) Begin
 told-begins None = tt
 told-begins (Some node) = tt
 
-told-on : (route : Route Content) (why : Why) (gone : Gone) → Told (wants_on route) (Routed route why gone)
+told-on : (route : Route Content) (why : Why) (gone : Gone)
+    → Told (wants_on route) (Routed route why gone)
 told-on (Looking hand) why gone = tt
 told-on (Trying hand seen) why gone = tt
 told-on (Settling x) why gone = tt

@@ -21,9 +21,9 @@ use Rattle.ea_sound.specs.Released.{LiesAt}
 use Rattle.ea_sound.specs.Turns.{IsBegun, advanced, answered, begun, log_after}
 use Rattle.ea_sound.specs.Needs.{AsksFor, HasNeed}
 
--- the carrier that is created for a block of this need, in a step of s: with migration on in a step of
--- its own, from the plan that was made for it; with migration off in the step in which the begin of
--- the operation is over. It is still the plan of the instance then
+-- the carrier that is created for a block of this need, in a step of s: with migration on in a step
+-- of its own, from the plan that was made for it; with migration off in the step in which the begin
+-- of the operation is over. It is still the plan of the instance then
 pub data Creates (setup : Setup) (state : State) (s need : ℕ) (i : Instance) (p : CarrierPlan)
     : Type 0 where
   ByItself : (on : migration setup ≡ true) (ask : Ask)
@@ -66,8 +66,8 @@ pub record IsAlone (setup : Setup) (state : State) (s need : ℕ) (place : Place
   pub single : plan.single ≡ true
   pub is : place ≡ single_place plan need
 
--- a block up to the singleblock threshold is placed where the strategy chooses, and a larger one in a
--- carrier of its own
+-- a block up to the singleblock threshold is placed where the strategy chooses, and a larger one in
+-- a carrier of its own
 abbrev pub IsPlacedAt : Setup → State → ℕ → ℕ → Place → Type 0
 IsPlacedAt setup state s need place =
     ((need ≤ setup.settings.sbct) × IsChosen setup state s need place)
@@ -83,9 +83,9 @@ pub record HasAsked (setup : Setup) (turns : List ℕ) (s need : ℕ) (log : Lis
   pub asks : AsksFor (begun setup before s) (begun setup before s).todo need
   pub same : (begun setup before s).log ≡ log
 
--- s placed a block in its step after `before`, for the operation of which it has made the entry in its
--- step after the steps `turns`: the same step, or, where the old block of a reallocation went then, an
--- earlier one. Once it is placed, a block of that name lies there
+-- s placed a block in its step after `before`, for the operation of which it has made the entry in
+-- its step after the steps `turns`: the same step, or, where the old block of a reallocation went
+-- then, an earlier one. Once it is placed, a block of that name lies there
 pub record IsPlacement (setup : Setup) (turns : List ℕ) (s name : ℕ) (place : Place) : Type 0
   where
     pub before : List ℕ
@@ -97,8 +97,8 @@ pub record IsPlacement (setup : Setup) (turns : List ℕ) (s name : ℕ) (place 
     pub placed : IsPlacedAt setup (run setup before) s need place
     pub there : LiesAt setup name place (run setup (before ++ s ∷ []))
 
--- a block that is reallocated in its place, in the step of s after the steps `turns`, keeps its spot,
--- and has the units that are decided. After this step a block of the new name lies there
+-- a block that is reallocated in its place, in the step of s after the steps `turns`, keeps its
+-- spot, and has the units that are decided. After this step a block of the new name lies there
 pub record IsResized (setup : Setup) (turns : List ℕ) (s old fresh : ℕ) (place : Place) : Type 0
   where
     pub begins : IsBegun setup (run setup turns) s

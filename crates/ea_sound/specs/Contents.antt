@@ -1,5 +1,5 @@
--- The contents of carriers, wherever they are: with the instance that employs them, in the hand of a
--- scheduler, or at home beside their owner word.
+-- The contents of carriers, wherever they are: with the instance that employs them, in the hand of
+-- a scheduler, or at home beside their owner word.
 use Rattle.std.specs.Prelude.{ℕ, suc, ◌+◌, List, All, flat_map}
 use Rattle.ea_model.specs.Content.{Content}
 use Rattle.ea_model.specs.Instance.{employed}
@@ -24,8 +24,8 @@ slots setup = suc (greatest_number setup)
 abbrev pub all_employed : List Actor → List Content
 all_employed actors = flat_map (λ a. employed a.instance) actors
 
--- the content that a route holds, if it holds one, has the property: a busy one, or one that is still
--- employed
+-- the content that a route holds, if it holds one, has the property: a busy one, or one that is
+-- still employed
 abbrev pub OnRoute : (busy employed : Content → Type 0) → Route Content → Type 0
 OnRoute B E (Looking hand) = Unit {0}
 OnRoute B E (Trying hand seen) = Unit {0}

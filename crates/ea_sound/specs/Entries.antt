@@ -50,8 +50,8 @@ pub record LogsEach (setup : Setup) (state : State) (i : ℕ) : Type 0 where
   pub split : setup.texts i ≡ done ++ (state.actors i).todo
   pub each : AllZip Makes done (state.actors i).log
 
--- the name isn't held when the operation itself begins, in the step of s after the steps `turns`; and
--- s employs, owns and holds after this step what it did then
+-- the name isn't held when the operation itself begins, in the step of s after the steps `turns`;
+-- and s employs, owns and holds after this step what it did then
 pub record IsSkipped (setup : Setup) (turns : List ℕ) (s name : ℕ) : Type 0 where
   pub begins : IsBegun setup (run setup turns) s
   pub absent : named_at name (begun setup turns s).held ≡ None

@@ -16,10 +16,10 @@ use Rattle.ea_sound.specs.Searches.{IsSought, IsUnsought, Sight, sights}
 abbrev pub seen_since : Setup → List ℕ → ℕ → List ℕ → List Sight
 seen_since setup before s since = sights setup (run setup (before ++ s ∷ [])) s since
 
--- the begin of its operation was over in its step after `before`, and it asks for a place; up to the
--- singleblock threshold the strategy has no choice among the carriers that it employs then, and with
--- migration on the pool was searched in vain, with all of its steps since then; and no carrier can be
--- created, for want of numbers or of space
+-- the begin of its operation was over in its step after `before`, and it asks for a place; up to
+-- the singleblock threshold the strategy has no choice among the carriers that it employs then, and
+-- with migration on the pool was searched in vain, with all of its steps since then; and no carrier
+-- can be created, for want of numbers or of space
 pub record FindsNoPlace (setup : Setup) (before : List ℕ) (s : ℕ) (since : List ℕ)
     (need looked : ℕ) (why : NoCarrier) : Type 0 where
   pub begins : IsBegun setup (run setup before) s

@@ -39,10 +39,10 @@ on_its_way name spot state s =
     sum_over (of_node (only_at name spot)) (state.actors s).passed
     + of_hand (only_at name spot) (state.actors s).stage
 
--- a look at the carrier of a block in the hand shows an employer, and not that it is busy for the one
--- who looks; a lost try to make it busy shows another employer; a block that is worked off is at its
--- spot; a carrier that is collected has returned. So no scheduler ends before its text does, and none
--- rests where an operation is to begin
+-- a look at the carrier of a block in the hand shows an employer, and not that it is busy for the
+-- one who looks; a lost try to make it busy shows another employer; a block that is worked off is
+-- at its spot; a carrier that is collected has returned. So no scheduler ends before its text does,
+-- and none rests where an operation is to begin
 pub record HearsNoOther (setup : Setup) (state : State) : Type 0 where
   pub looks : (s : ℕ) (hand : Named) (why : Why) (gone : Gone) (seen : OwnerWord)
       → (state.actors s).stage ≡ Routed (Looking hand) why gone → answered state s ≡ Saw seen

@@ -1,5 +1,5 @@
--- Laws of the machine: what holds of each run of a valid trace under a valid configuration, whatever
--- steps its schedulers take.
+-- Laws of the machine: what holds of each run of a valid trace under a valid configuration,
+-- whatever steps its schedulers take.
 use Rattle.std.specs.Prelude.{◌≡◌, ℕ, List}
 use Rattle.ea_model.specs.declared.settings.Config.{Config}
 use Rattle.ea_model.specs.declared.trace.Trace.{Trace}
@@ -32,12 +32,12 @@ abbrev pub EndsAll : Setup → Type 0
 EndsAll setup = (turns : List ℕ) (s : ℕ)
     → ((run setup (complete setup turns)).actors s).stage ≡ Ended
 
--- each moment is sound, and what is printed of it are the sums of soundness; no scheduler does a row
--- that it may not do, and some answers never come; a carrier that is fetched fits; each operation
--- makes one entry, of its own kind, which tells how it came about: placements are chosen, and fails
--- are exhausted; where no place is found an operation fails, and where its name isn't held it is
--- skipped; no name is released twice, one that failed has no block, and both stay so; a block keeps
--- its place and its units; and a completed schedule ends
+-- each moment is sound, and what is printed of it are the sums of soundness; no scheduler does a
+-- row that it may not do, and some answers never come; a carrier that is fetched fits; each
+-- operation makes one entry, of its own kind, which tells how it came about: placements are chosen,
+-- and fails are exhausted; where no place is found an operation fails, and where its name isn't
+-- held it is skipped; no name is released twice, one that failed has no block, and both stay so; a
+-- block keeps its place and its units; and a completed schedule ends
 pub record Protocol (setup : Setup) : Type 0 where
   pub sound : AtEachMoment Sound setup
   pub prints : AtEachMoment PrintsSums setup

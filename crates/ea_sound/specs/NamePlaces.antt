@@ -9,7 +9,8 @@ use Rattle.ea_sound.specs.Names.{allocated, only, only_at, standing, to_make}
 
 -- a name stands in one place at most: a scheduler holds it, or it is given away, in a queue, in a
 -- walk or in a hand; and while an operation is still to make it, it stands nowhere. The names that
--- stand are those of the blocks, each at its block's spot. Held and given names stand by rising name
+-- stand are those of the blocks, each at its block's spot. Held and given names stand by rising
+-- name
 pub record PlacesNames (setup : Setup) (state : State) : Type 0 where
   pub one : (name : ℕ) → standing setup (only name) state + to_make setup name state ≤ 1
   pub allocated : (name : ℕ) (spot : Spot)

@@ -1,5 +1,5 @@
--- The names of blocks: where they stand, and the blocks that have them. What is summed here is given
--- by f, for a name and the spot where its block begins.
+-- The names of blocks: where they stand, and the blocks that have them. What is summed here is
+-- given by f, for a name and the spot where its block begins.
 use Rattle.std.specs.Prelude.{ℕ, ◌+◌, ◌&&◌, ◌==◌, List}
 use Rattle.ea_model.specs.declared.carriers.Spot.{Spot}
 use Rattle.ea_model.specs.declared.carriers.BlockAt.{BlockAt}
@@ -97,8 +97,8 @@ only name n p = one_if (n == name)
 abbrev pub only_at : ℕ → Spot → ℕ → Spot → ℕ
 only_at name spot n p = one_if ((n == name) && same_spot p spot)
 
--- the operations whose new names are still to come: one that moves its block has placed it under the
--- new name before the old one is released
+-- the operations whose new names are still to come: one that moves its block has placed it under
+-- the new name before the old one is released
 abbrev pub unplaced_by : Why → List Op → List Op
 unplaced_by Walk ops = ops
 unplaced_by (For (Freeing name)) ops = ops

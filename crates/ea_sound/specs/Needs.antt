@@ -20,8 +20,8 @@ abbrev pub IsToMove : Instance → ℕ → Option Named → Type 0
 IsToMove i need None = ⊥
 IsToMove i need (Some old) = decision_at i old.spot need ≡ Move
 
--- a scheduler whose first operation left is this one asks for a place of that need, once the begin is
--- over
+-- a scheduler whose first operation left is this one asks for a place of that need, once the begin
+-- is over
 abbrev pub AsksFor : Actor → List Op → ℕ → Type 0
 AsksFor a (op.Alloc name bytes ∷ ops) need = need ≡ need_of bytes
 AsksFor a (op.Realloc old fresh bytes ∷ ops) need =

@@ -42,9 +42,9 @@ is_there (Pooled i largest x) = true
 is_there (Busy i) = true
 is_there (Returning i x) = true
 
--- each carrier is in one place. Its content is with its employer, once; with the scheduler for which
--- it is busy, in its hand; or at home, where it is pooled or returning, by its own number. One that
--- is absent has no content
+-- each carrier is in one place. Its content is with its employer, once; with the scheduler for
+-- which it is busy, in its hand; or at home, where it is pooled or returning, by its own number.
+-- One that is absent has no content
 pub record AreInOnePlace (setup : Setup) (state : State) : Type 0 where
   pub one : (number : ℕ) → sum_everywhere setup (has_number number) state
       ≡ one_if (is_there (place_of setup state number))
@@ -71,9 +71,9 @@ MayStay i x = (is_vacant x ≡ false) × IsMultiOrOwn i x
 abbrev pub IsMulti : Content → Type 0
 IsMulti x = x.kind ≡ Multi
 
--- main and singleblock carriers are with their owner alone; one that is busy, pooled or returning is
--- a multiblock carrier. A carrier without blocks, other than the main one, is on its way from its
--- employer, in its hand
+-- main and singleblock carriers are with their owner alone; one that is busy, pooled or returning
+-- is a multiblock carrier. A carrier without blocks, other than the main one, is on its way from
+-- its employer, in its hand
 pub record StayWithOwners (state : State) : Type 0 where
   pub contents : (i : ℕ) → All (MayStay i) (state.actors i).instance.contents
   pub singles : (i : ℕ) → All (MayStay i) (state.actors i).instance.singles
@@ -87,8 +87,8 @@ same_own o p = (o.number == p.number) && ((o.base == p.base) && (o.pages == p.pa
 abbrev pub owned_as : ℕ → OwnCarrier → Content → ℕ
 owned_as i o x = one_if ((x.owner == i) && same_own (own_of x) o)
 
--- an instance owns the carriers that it created and that are there, with their base and pages, and no
--- other, wherever their contents are. Own carriers and contents stand by rising number
+-- an instance owns the carriers that it created and that are there, with their base and pages, and
+-- no other, wherever their contents are. Own carriers and contents stand by rising number
 pub record OwnTheirCarriers (setup : Setup) (state : State) : Type 0 where
   pub exactly : (i : ℕ) (o : OwnCarrier)
       → sum_over (λ p. one_if (same_own p o)) (state.actors i).instance.own

@@ -17,9 +17,9 @@ IsApartFrom x y = x.number ≢ y.number → ContentsApart x y
 
 -- in each main or multiblock carrier, wherever it is, the blocks lie one after another between its
 -- header and its end, even and of 6 units at least, with whole gaps between them; in each
--- singleblock carrier lies one block at most, after the header. Singleblock carriers stand in a list
--- of their own. No two carriers have a unit in common. Those that an instance owns have its numbers,
--- and lie in its region
+-- singleblock carrier lies one block at most, after the header. Singleblock carriers stand in a
+-- list of their own. No two carriers have a unit in common. Those that an instance owns have its
+-- numbers, and lie in its region
 pub record LaysOut (setup : Setup) (state : State) : Type 0 where
   pub contents : (i : ℕ) → All IsLaidOut (state.actors i).instance.contents
   pub singles : (i : ℕ) → All IsLaidOutAlone (state.actors i).instance.singles

@@ -91,7 +91,8 @@ abbrev pub of_owner : (ℕ → ℕ → ℕ → ℕ → ℕ) → Content → ℕ
 of_owner m x = m x.owner x.number x.base x.units
 
 abbrev pub of_own : (ℕ → ℕ → ℕ → ℕ → ℕ) → ℕ → Actor → ℕ
-of_own m i a = sum_over (λ (o : OwnCarrier). m i o.number o.base (PAGE_UNITS * o.pages)) a.instance.own
+of_own m i a =
+    sum_over (λ (o : OwnCarrier). m i o.number o.base (PAGE_UNITS * o.pages)) a.instance.own
 
 -- each content is where its carrier's word says, and the own carriers of the instances are those of
 -- all contents

@@ -13,8 +13,8 @@ use Rattle.ea_machine.specs.Placements.{counted, fits}
 use Rattle.ea_machine.specs.Machine.{step}
 use Rattle.ea_sound.specs.Turns.{answered}
 
--- the owner word of a number was seen, or the try to fetch the carrier was lost, and another word was
--- there
+-- the owner word of a number was seen, or the try to fetch the carrier was lost, and another word
+-- was there
 pub data Sight : Type 0 where
   Shown : (number : ℕ) (seen : OwnerWord) → Sight
   Missed : (number : ℕ) (present : OwnerWord) → Sight
@@ -34,15 +34,15 @@ sights setup state s [] = []
 sights setup state s (j ∷ js) = sight_if (j == s) (state.actors s).stage (answered state s)
     ++ sights setup (step setup state j) s js
 
--- the number m is looked at while `at` is next: it is that number, one is left, and so are words to be
--- counted
+-- the number m is looked at while `at` is next: it is that number, one is left, and so are words to
+-- be counted
 abbrev pub IsNextLook : ℕ → ℕ → ℕ → Type 0
 IsNextLook at looked m = (m ≡ at) × (0 < at) × (looked < SEARCH_LIMIT)
 
--- a search that stood before the number `at`, with `looked` words counted, saw this, and then stands
--- before the number `last`, with `sum` words counted. It looks at one number after another, downwards.
--- No word that it saw fits, or the try to fetch the carrier, which follows directly, was lost: another
--- word was there
+-- a search that stood before the number `at`, with `looked` words counted, saw this, and then
+-- stands before the number `last`, with `sum` words counted. It looks at one number after another,
+-- downwards. No word that it saw fits, or the try to fetch the carrier, which follows directly, was
+-- lost: another word was there
 abbrev pub Searched : ℕ → ℕ → ℕ → ℕ → ℕ → List Sight → Type 0
 Searched need at looked last sum [] = (at ≡ last) × (looked ≡ sum)
 Searched need at looked last sum (Missed m w ∷ xs) = ⊥

@@ -48,8 +48,8 @@ TellsShown e (Saw v) = IsShown e v
 TellsShown e _ = Unit {0}
 
 module _ (e : Setup) (me : ℕ) (employs : List Content) where
-  -- the word that was seen of a carrier that is to be busy is that of an own pooled one, that of one
-  -- to be fetched was shown, and a carrier that is to be abandoned is due
+  -- the word that was seen of a carrier that is to be busy is that of an own pooled one, that of
+  -- one to be fetched was shown, and a carrier that is to be abandoned is due
   abbrev pub IsSteadyRoute : Route Content → Type 0
   IsSteadyRoute (Looking hand) = Unit {0}
   IsSteadyRoute (Trying hand seen) =

@@ -13,8 +13,8 @@ use Rattle.ea_machine.specs.Machine.{after_row, run, wants}
 abbrev pub answered : State → ℕ → Answer
 answered state s = answer s (wants (state.actors s)) state.shared
 
--- the scheduler once that is worked in; where the begin of its operation is over by then, it is Ready,
--- and the operation itself follows in the same step
+-- the scheduler once that is worked in; where the begin of its operation is over by then, it is
+-- Ready, and the operation itself follows in the same step
 abbrev pub advanced : Setup → State → ℕ → Actor
 advanced setup state s =
     after_row setup s (state.actors s) (answered state s) (state.actors s).stage

@@ -12,12 +12,12 @@
 //!   come.
 //! - `MachineLaws` puts them together: `Protocol` is what holds of each run.
 //!
-//! The proof goes by a rule that each step keeps. `Rule` has what is kept whatever a scheduler is in
-//! the middle of: where contents lie and carriers are, whose names stand where, and which nodes are
-//! on their way; each as a balance of sums. `Present` has what each scheduler is in the middle of,
-//! and `Leaves` what a row leaves to the local work that follows it; `Orderly`, `Blocks`, `Moments`
-//! and `Here` are words of these. `Steady`, `Standing` and `OwnWork` are what the code and threads
-//! need beside the rule.
+//! The proof goes by a rule that each step keeps. `Rule` has what is kept whatever a scheduler is
+//! in the middle of: where contents lie and carriers are, whose names stand where, and which nodes
+//! are on their way; each as a balance of sums. `Present` has what each scheduler is in the middle
+//! of, and `Leaves` what a row leaves to the local work that follows it; `Orderly`, `Blocks`,
+//! `Moments` and `Here` are words of these. `Steady`, `Standing` and `OwnWork` are what the code
+//! and threads need beside the rule.
 //!
 //! `proofs/Lib.antt` lists the proofs in the order in which they are read, part by part: sums, one
 //! instance, one moment, rows, the work between rows, a step, the rule, and what follows from it.
@@ -25,9 +25,9 @@
 
 ghost use Rattle.ea_sound.specs.MachineLaws.{Always, Protocol};
 
-/// In each run of a valid trace under a valid configuration, after any list of steps: every moment is
-/// sound, what is printed of it adds up, no scheduler does a row that it may not do, each entry of a
-/// log tells how it came about, no block is released twice, and a completed schedule ends.
+/// In each run of a valid trace under a valid configuration, after any list of steps: every moment
+/// is sound, what is printed of it adds up, no scheduler does a row that it may not do, each entry
+/// of a log tells how it came about, no block is released twice, and a completed schedule ends.
 pub fn soundness()
     ensures protocol { Always Protocol }
 {}

@@ -11,8 +11,8 @@ IsCodable (Block name spot) = (1 ≤ name) × (name ≤ MAX_CODED_NAME) × (1 �
     × (spot.carrier ≤ MAX_CODED_CARRIER) × (spot.offset % 2 ≡ 0) × (spot.offset < CODED_UNITS)
 IsCodable (Carrier number) = (1 ≤ number) × (number ≤ MAX_CODED_CARRIER)
 
--- the number of a node: its kind, and above it the name, the carrier and half the offset of a block,
--- or the number of a carrier
+-- the number of a node: its kind, and above it the name, the carrier and half the offset of a
+-- block, or the number of a carrier
 abbrev pub code_of : Node → ℕ
 code_of (Block name spot) = BLOCK_KIND + 2 ^ NAME_SHIFT * (name - 1)
     + 2 ^ CARRIER_SHIFT * (spot.carrier - 1) + 2 ^ OFFSET_SHIFT * (spot.offset / 2)
