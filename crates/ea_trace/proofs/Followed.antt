@@ -123,14 +123,6 @@ early_schedule n at.Turns section m h e = absurd cc
 early_schedule n at.Closing section m h e = absurd cc
 early_schedule n at.Ended section m h e = absurd cc
 
-early_generate : (n : ℕ) (stage : Stage) (section : ℕ) (m : Option Mode) (seed count : ℕ)
-    → may_stand n stage section (Generate seed count) ≡ true → Early stage m → m ≡ None
-early_generate n at.Start section m seed count h e = absurd cc
-early_generate n at.Opening section m seed count h e = e
-early_generate n at.Turns section m seed count h e = absurd cc
-early_generate n at.Closing section m seed count h e = absurd cc
-early_generate n at.Ended section m seed count h e = absurd cc
-
 no_section : (n : ℕ) (stage : Stage) (section seed count : ℕ)
     → may_stand n stage section (Generate seed count) ≡ true → section ≡ 0
 no_section n at.Start section seed count h = absurd cc

@@ -7,7 +7,9 @@ ghost use Rattle.std.specs.Prelude.{◌≡◌, codes, true, []};
 ghost use Rattle.ea_model.specs.declared.settings.Strategy.TheVariants.{Bf, Aoff, Gf};
 ghost use Rattle.ea_model.specs.Words.{words};
 ghost use Rattle.ea_flags.specs.Flags.{flags};
-ghost use Rattle.ea_trials_flags.specs.Worked.{usual, plain, strategy_is, limit_is, both_are, for_all, with_h, with_t, given, unknown, no_value, bad_value, unsupported, too_small};
+ghost use Rattle.ea_trials_flags.specs.Worked.{usual, plain, strategy_is, limit_is, both_are};
+ghost use Rattle.ea_trials_flags.specs.Worked.{for_all, with_h, with_t, given, unknown, no_value};
+ghost use Rattle.ea_trials_flags.specs.Worked.{bad_value, unsupported, too_small};
 
 #[cfg(test)]
 mod tests;

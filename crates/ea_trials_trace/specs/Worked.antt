@@ -1,5 +1,6 @@
 -- Worked texts: in short what the language says of them.
-use Rattle.std.specs.Prelude.{ℕ, zero, suc, List, [], ◌++◌, Option, Some, None, Result, Ok, Err, take, map}
+use Rattle.std.specs.Prelude.{ℕ, zero, suc, List, [], ◌++◌, Option, Some, None, Result, Ok, Err}
+use Rattle.std.specs.Prelude.{take, map}
 use Rattle.std.specs.List.{range_with_len}
 use Rattle.ea_model.specs.Trace.{listed}
 use Rattle.ea_model.specs.declared.operations.Op.{Op}

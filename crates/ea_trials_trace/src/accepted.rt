@@ -1,6 +1,7 @@
 //! Texts that are traces, with what they hold, and every cut of a text.
 ghost use Rattle.std.specs.Prelude.{◌≡◌, codes, ◌++◌, [], ◌∷◌, Some, None, replicate};
-ghost use Rattle.ea_model.specs.declared.operations.Op.TheVariants.{Alloc, Free, Realloc, Give, Take, Info, Idle};
+ghost use Rattle.ea_model.specs.declared.operations.Op.TheVariants.{Alloc, Free, Realloc, Give};
+ghost use Rattle.ea_model.specs.declared.operations.Op.TheVariants.{Take, Info, Idle};
 ghost use Rattle.ea_model.specs.declared.settings.Letter.TheVariants.{B, D, H, T};
 ghost use Rattle.ea_model.specs.declared.trace.Mode.TheVariants.{Threads, Generated};
 ghost use Rattle.ea_trace.specs.Language.{trace};
