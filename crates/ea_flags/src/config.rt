@@ -7,7 +7,7 @@ ghost use Rattle.ea_flags.specs.Configs.{fits_all};
 
 use crate::flag::Scope;
 use crate::setting::{Change, Setting};
-use ea_model::{Config, Letter, PAGE_UNITS, Settings, Strategy};
+use ea_model::{Config, Letter, Settings, Strategy, pages_for};
 
 /// The settings of an allocator, where no flag says otherwise.
 pub const DEFAULT_SETTINGS: Settings = Settings {
@@ -150,7 +150,7 @@ pub fn settled_config(config: Config) -> Config
 fn fits(settings: Settings, pages: u32) -> bool
     ensures { result ≡ Rattle.ea_flags.specs.Configs.fits settings pages }
 {
-    settings.mmbcs.div_ceil(PAGE_UNITS) <= pages
+    pages_for(settings.mmbcs) <= pages
 }
 
 /// Whether each allocator's main carrier fits an instance's region.
