@@ -1,5 +1,6 @@
 -- The bin of a size, by its greatest power of two.
-use Rattle.std.proofs.Common.{zero, suc, ◌≡◌, ℕ, ◌+◌, ◌-◌, ◌<◌, ◌≤◌, sym, ap, ◌∙◌, inl, inr, pow_mono, pow-suc, arith}
+use Rattle.std.proofs.Common.{zero, suc, ◌≡◌, ℕ, ◌+◌, ◌-◌, ◌<◌, ◌≤◌, sym, ap, ◌∙◌, inl, inr}
+use Rattle.std.proofs.Common.{pow_mono, pow-suc, arith}
 use Rattle.std.specs.Prelude.{◌^◌, ◌*◌, nat_lt, if◌then◌else◌, min}
 use Rattle.std.proofs.lemmas.Bool.{cases_lt}
 use Rattle.ea_model.specs.GoodFit.{bin_of, powers}

@@ -1,10 +1,13 @@
 -- The gap that a search finds.
-use Rattle.std.proofs.Common.{◌≡◌, ℕ, ◌<◌, ◌≤◌, ◌↔◌, Bool, true, false, List, refl, sym, subst, arith}
-use Rattle.std.specs.Prelude.{Some, None, Option, IfSome, IsNone, IsTrue, filter, nat_le, All, AllPairs, Contains}
+use Rattle.std.proofs.Common.{◌≡◌, ℕ, ◌<◌, ◌≤◌, ◌↔◌, Bool, true, false, List, refl, sym, subst}
+use Rattle.std.proofs.Common.{arith}
+use Rattle.std.specs.Prelude.{Some, None, Option, IfSome, IsNone, IsTrue, filter, nat_le, All}
+use Rattle.std.specs.Prelude.{AllPairs, Contains}
 use Rattle.std.specs.Cmp.{IsStrictWeakOrder}
 use Rattle.std.specs.List.Sorted.{IsPermutation}
 use Rattle.std.proofs.lemmas.Bool.{leb-true, le-leb}
-use Rattle.std.proofs.lemmas.List.Elements.{All-weaker, All-filter, All-contains_itself, filter_passes}
+use Rattle.std.proofs.lemmas.List.Elements.{All-weaker, All-filter, All-contains_itself}
+use Rattle.std.proofs.lemmas.List.Elements.{filter_passes}
 use Rattle.std.proofs.lemmas.List.Folds.{list_any-from_Any}
 use Rattle.ea_model.specs.Choice.{first, IsFirst}
 use Rattle.ea_model.specs.GoodFit.{bin_of, is_inspected, good_fit}
@@ -12,7 +15,8 @@ use Rattle.ea_model.proofs.First.{first-All, first-IsFirst, first-none, large-no
 use Rattle.ea_model.proofs.Options.{if_some}
 use Rattle.ea_goodfit.specs.declared.gaps.BinnedGap.{BinnedGap}
 use Rattle.ea_goodfit.specs.Gaps.{is_same, is_held, smaller, inspected_fitting, IsBelow}
-use Rattle.ea_goodfit.proofs.AnyOrder.{passing-All, All-passing, smaller_low-order, IsApart, good_fit-is, good_fit-permuted}
+use Rattle.ea_goodfit.proofs.AnyOrder.{passing-All, All-passing, smaller_low-order, IsApart}
+use Rattle.ea_goodfit.proofs.AnyOrder.{good_fit-is, good_fit-permuted}
 use Rattle.ea_goodfit.proofs.Bin.{bin_of-rises}
 use Rattle.ea_goodfit.proofs.Inspected.{bins_inspected}
 

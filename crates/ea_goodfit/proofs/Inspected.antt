@@ -1,10 +1,15 @@
 -- The gaps that a search inspects, met by rising address with a count for each bin.
-use Rattle.std.proofs.Common.{◌≡◌, ◌≢◌, ℕ, ◌+◌, ◌<◌, ◌≤◌, Bool, true, false, List, [], ◌∷◌, ◌++◌, length, get_or, set, replicate, sym, ap, ◌∙◌, append-nil, fold, subst, refl, inl, inr, ◌⊎◌, arith}
-use Rattle.std.specs.Prelude.{◌&&◌, ◌==◌, if◌then◌else◌, filter, min, nat_lt, nat_le, Option, None, IsTrue, All, AllPairs}
+use Rattle.std.proofs.Common.{◌≡◌, ◌≢◌, ℕ, ◌+◌, ◌<◌, ◌≤◌, Bool, true, false, List, [], ◌∷◌, ◌++◌}
+use Rattle.std.proofs.Common.{length, get_or, set, replicate, sym, ap, ◌∙◌, append-nil, fold, subst}
+use Rattle.std.proofs.Common.{refl, inl, inr, ◌⊎◌, arith}
+use Rattle.std.specs.Prelude.{◌&&◌, ◌==◌, if◌then◌else◌, filter, min, nat_lt, nat_le, Option, None}
+use Rattle.std.specs.Prelude.{IsTrue, All, AllPairs}
 use Rattle.std.proofs.lemmas.Grind.{get_or-set_at}
 use Rattle.std.proofs.lemmas.Bool.{cases_lt, cases_eq}
-use Rattle.std.proofs.lemmas.List.{append_assoc, length-append, length-set, get_or-set_other, length-replicate, get_or-replicate}
-use Rattle.std.proofs.lemmas.List.Elements.{All-nil, All-cons, All-head, All-tail, All-push, All-weaker, filter-append}
+use Rattle.std.proofs.lemmas.List.{append_assoc, length-append, length-set, get_or-set_other}
+use Rattle.std.proofs.lemmas.List.{length-replicate, get_or-replicate}
+use Rattle.std.proofs.lemmas.List.Elements.{All-nil, All-cons, All-head, All-tail, All-push}
+use Rattle.std.proofs.lemmas.List.Elements.{All-weaker, filter-append}
 use Rattle.ea_model.specs.GoodFit.{bin_of, is_inspected, good_fit}
 use Rattle.ea_model.specs.Choice.{better, first}
 use Rattle.ea_model.proofs.First.{large-here, large-past}

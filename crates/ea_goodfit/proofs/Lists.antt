@@ -1,9 +1,11 @@
 -- Gaps that are held, with one more and without one.
-use Rattle.std.proofs.Common.{◌≡◌, ◌≢◌, ℕ, Bool, true, false, not, List, [], ◌∷◌, sym, ap, ◌∙◌, subst, refl, inl, inr, arith}
+use Rattle.std.proofs.Common.{◌≡◌, ◌≢◌, ℕ, Bool, true, false, not, List, [], ◌∷◌, sym, ap, ◌∙◌}
+use Rattle.std.proofs.Common.{subst, refl, inl, inr, arith}
 use Rattle.std.specs.Prelude.{◌&&◌, ◌||◌, IsSome}
 use Rattle.std.proofs.lemmas.Bool.{cases_Bool, cases_lt, cases_eq}
 use Rattle.ea_model.specs.Keyed.{has_key, item_at, entered, without}
-use Rattle.ea_model.proofs.Rising.{entered_here, entered_past, item_here, item_past, without_here, without_past}
+use Rattle.ea_model.proofs.Rising.{entered_here, entered_past, item_here, item_past, without_here}
+use Rattle.ea_model.proofs.Rising.{without_past}
 use Rattle.ea_goodfit.specs.declared.gaps.BinnedGap.{BinnedGap}
 use Rattle.ea_goodfit.specs.Gaps.{address_of, is_same, is_held}
 

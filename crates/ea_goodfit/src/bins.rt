@@ -1,10 +1,13 @@
 //! The bins and their calls.
-ghost use Rattle.std.specs.Prelude.{◌≡◌, ◌≢◌, ◌+◌, ◌-◌, ◌<◌, ◌≤◌, ◌↔◌, [], ◌∷◌, ◌++◌, ◌==◌, ◌&&◌, ◌||◌, not, List, Some, All, AllPairs, IsTrue, IsNone, IfSome, OnOk, OnErr, length};
+ghost use Rattle.std.specs.Prelude.{◌≡◌, ◌≢◌, ◌+◌, ◌-◌, ◌<◌, ◌≤◌, ◌↔◌, [], ◌∷◌, ◌++◌, ◌==◌, ◌&&◌};
+ghost use Rattle.std.specs.Prelude.{◌||◌, not, List, Some, All, AllPairs, IsTrue, IsNone, IfSome};
+ghost use Rattle.std.specs.Prelude.{OnOk, OnErr, length};
 ghost use Rattle.std.specs.List.Sorted.{IsPermutation};
 ghost use Rattle.ea_model.specs.GoodFit.{bin_of, good_fit, is_inspected};
 ghost use Rattle.ea_model.specs.Choice.{IsFirst};
 ghost use Rattle.ea_model.specs.Keyed.{entered, without};
-ghost use Rattle.ea_goodfit.specs.Gaps.{address_of, is_same, is_held, smaller, inspected_fitting, some_gap, gap_from, CanCut, CanJoin, IsBelow};
+ghost use Rattle.ea_goodfit.specs.Gaps.{address_of, is_same, is_held, smaller, inspected_fitting};
+ghost use Rattle.ea_goodfit.specs.Gaps.{some_gap, gap_from, CanCut, CanJoin, IsBelow};
 
 use crate::gaps::BinnedGap;
 use crate::walks::search;

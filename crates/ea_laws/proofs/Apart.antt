@@ -1,12 +1,14 @@
 -- Contents after a change of one of them.
-use Rattle.std.proofs.Common.{◌≡◌, ◌≢◌, ℕ, ◌≤◌, List, [], ◌∷◌, get_or, All, AllPairs, sym, ap, ◌∙◌, subst, refl, inl, inr, arith}
+use Rattle.std.proofs.Common.{◌≡◌, ◌≢◌, ℕ, ◌≤◌, List, [], ◌∷◌, get_or, All, AllPairs, sym, ap, ◌∙◌}
+use Rattle.std.proofs.Common.{subst, refl, inl, inr, arith}
 use Rattle.std.specs.Prelude.{Option, None, Some, ◌==◌, if◌then◌else◌}
 use Rattle.std.proofs.lemmas.Bool.{cases_eq, cond_both}
 use Rattle.std.proofs.lemmas.List.Elements.{All-nil, All-cons, All-head, All-tail}
 use Rattle.ea_model.specs.Content.{Content}
 use Rattle.ea_model.specs.Instance.{changed, content_of}
 use Rattle.ea_model.proofs.Pairs.{pairs_map}
-use Rattle.ea_model.proofs.Rising.{changed_here, changed_none, changed_past, item_at-each, none-other}
+use Rattle.ea_model.proofs.Rising.{changed_here, changed_none, changed_past, item_at-each}
+use Rattle.ea_model.proofs.Rising.{none-other}
 use Rattle.ea_laws.proofs.Changed.{KeepsPlace}
 use Rattle.ea_laws.proofs.Tiling.{Tiled-allocated}
 use Rattle.ea_laws.specs.Kept.{number_of, ContentsApart, IsLaidOut, IsRising}

@@ -1,14 +1,17 @@
 -- A block put among others, and taken out.
-use Rattle.std.proofs.Common.{◌≡◌, ◌≢◌, ℕ, ◌+◌, ◌-◌, ◌%◌, ◌<◌, ◌≤◌, List, [], ◌∷◌, ◌++◌, sym, ◌∙◌, subst, refl, inl, inr, ◌⊎◌, arith}
+use Rattle.std.proofs.Common.{◌≡◌, ◌≢◌, ℕ, ◌+◌, ◌-◌, ◌%◌, ◌<◌, ◌≤◌, List, [], ◌∷◌, ◌++◌, sym, ◌∙◌}
+use Rattle.std.proofs.Common.{subst, refl, inl, inr, ◌⊎◌, arith}
 use Rattle.std.specs.Prelude.{None, All, AllPairs}
 use Rattle.std.proofs.lemmas.Bool.{cases_eq}
 use Rattle.std.proofs.lemmas.List.Elements.{All-nil, All-cons, All-weaker}
 use Rattle.std.proofs.lemmas.List.Kept.{AllPairs-cons}
 use Rattle.ea_model.specs.declared.carriers.BlockAt.{BlockAt}
 use Rattle.ea_model.specs.declared.carriers.Gap.{Gap}
-use Rattle.ea_model.specs.Content.{Content, gap, gaps, gaps_of, gap_at, block_at, inserted, taken_of, IsGapSize, Tiled}
+use Rattle.ea_model.specs.Content.{Content, gap, gaps, gaps_of, gap_at, block_at, inserted}
+use Rattle.ea_model.specs.Content.{taken_of, IsGapSize, Tiled}
 use Rattle.ea_model.specs.Keyed.{without, IsBelow}
-use Rattle.ea_model.proofs.Rising.{entered_here, entered_past, item_past, without_here, without_past, without_none}
+use Rattle.ea_model.proofs.Rising.{entered_here, entered_past, item_past, without_here}
+use Rattle.ea_model.proofs.Rising.{without_past, without_none}
 
 -- the first of the gaps is the one at the offset, or another is
 pub gap_at-step : (a b offset : ℕ) (rest : List Gap)

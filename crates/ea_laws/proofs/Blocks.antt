@@ -6,15 +6,21 @@ use Rattle.ea_model.specs.declared.carriers.BlockAt.{BlockAt}
 use Rattle.ea_model.specs.declared.carriers.CarrierPlan.{CarrierPlan}
 use Rattle.ea_model.specs.declared.carriers.Kind.TheVariants.{Multi}
 use Rattle.ea_model.specs.declared.carriers.Spot.{Spot}
-use Rattle.ea_model.specs.Content.{Content, Tiled, block_at, gap_at, gaps_of, is_vacant, placed, released, taken_of}
-use Rattle.ea_model.specs.Instance.{Instance, block_in, changed, clearing, content_of, created_content, created_single, creating, creating_single, employed, place_at, placing_at, plan, releasing_at, single_place, size_for, with_content}
-use Rattle.ea_model.proofs.Rising.{changed_none, item_at-All, item_at-gone, item_at-new, item_at-old, item_at-stays, item_here, item_past, none-other}
+use Rattle.ea_model.specs.Content.{Content, Tiled, block_at, gap_at, gaps_of, is_vacant, placed}
+use Rattle.ea_model.specs.Content.{released, taken_of}
+use Rattle.ea_model.specs.Instance.{Instance, block_in, changed, clearing, content_of}
+use Rattle.ea_model.specs.Instance.{created_content, created_single, creating, creating_single}
+use Rattle.ea_model.specs.Instance.{employed, place_at, placing_at, plan, releasing_at}
+use Rattle.ea_model.specs.Instance.{single_place, size_for, with_content}
+use Rattle.ea_model.proofs.Rising.{changed_none, item_at-All, item_at-gone, item_at-new}
+use Rattle.ea_model.proofs.Rising.{item_at-old, item_at-stays, item_here, item_past, none-other}
 use Rattle.ea_laws.proofs.BlockLists.{offset_of, IsFront-gap}
 use Rattle.ea_laws.specs.Spots.{HasGap, HaveSameBlocks, IsOther, IsPlaced}
 use Rattle.ea_laws.specs.Kept.{number_of, IsLaidOut, Stands}
 use Rattle.ea_laws.proofs.Changed.{block_in-here, block_in-others, placed-keeps, released-keeps}
 use Rattle.ea_laws.proofs.Contents.{absent-none, block_among, same-with, same-without}
-use Rattle.ea_laws.proofs.Employed.{employed-changed, employed-cleared, employed-created, employed-placed, employed-single}
+use Rattle.ea_laws.proofs.Employed.{employed-changed, employed-cleared, employed-created}
+use Rattle.ea_laws.proofs.Employed.{employed-placed, employed-single}
 use Rattle.ea_laws.proofs.Standing.{employed-multi, employed-rising, planned-absent, planned-new}
 
 -- a block at the front of a gap begins where none began, and others stay

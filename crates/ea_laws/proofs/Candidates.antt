@@ -1,8 +1,11 @@
 -- Where the gaps of all carriers lie.
-use Rattle.std.proofs.Common.{◌≡◌, ◌≢◌, ℕ, ◌+◌, ◌*◌, ◌-◌, ◌<◌, ◌≤◌, Bool, true, List, [], ◌∷◌, refl, sym, ap, ◌∙◌, subst, inl, inr, arith}
+use Rattle.std.proofs.Common.{◌≡◌, ◌≢◌, ℕ, ◌+◌, ◌*◌, ◌-◌, ◌<◌, ◌≤◌, Bool, true, List, [], ◌∷◌, refl}
+use Rattle.std.proofs.Common.{sym, ap, ◌∙◌, subst, inl, inr, arith}
 use Rattle.std.specs.Prelude.{Some, All, AllPairs, Contains, ◌⊎◌, filter, nat_le}
 use Rattle.std.proofs.lemmas.Bool.{leb-true, cases_lt, cond-true, le-leb}
-use Rattle.std.proofs.lemmas.List.Elements.{filter_passes, All-nil, All-cons, All-head, All-tail, All-append, All-map, All-weaker, All-same, All-filter, All-contains}
+use Rattle.std.proofs.lemmas.List.Elements.{filter_passes, All-nil, All-cons, All-head, All-tail}
+use Rattle.std.proofs.lemmas.List.Elements.{All-append, All-map, All-weaker, All-same, All-filter}
+use Rattle.std.proofs.lemmas.List.Elements.{All-contains}
 use Rattle.ea_model.specs.declared.carriers.BlockAt.{BlockAt}
 use Rattle.ea_model.specs.declared.carriers.Candidate.{Candidate}
 use Rattle.ea_model.specs.declared.carriers.Kind.{Kind}

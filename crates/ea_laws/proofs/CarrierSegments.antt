@@ -1,5 +1,6 @@
 -- The segments of an instance's carriers.
-use Rattle.std.proofs.Common.{◌≡◌, ◌≢◌, ℕ, ◌+◌, ◌-◌, ◌<◌, ◌≤◌, true, List, [], ◌∷◌, ◌++◌, length, All, sym, ap, ◌∙◌, subst, refl, inl, inr, ◌⊎◌, arith}
+use Rattle.std.proofs.Common.{◌≡◌, ◌≢◌, ℕ, ◌+◌, ◌-◌, ◌<◌, ◌≤◌, true, List, [], ◌∷◌, ◌++◌, length}
+use Rattle.std.proofs.Common.{All, sym, ap, ◌∙◌, subst, refl, inl, inr, ◌⊎◌, arith}
 use Rattle.std.specs.Prelude.{Some, AllPairs, Any}
 use Rattle.std.proofs.lemmas.Bool.{cases_lt, cases_eq}
 use Rattle.std.proofs.lemmas.List.Elements.{All-nil, All-cons, All-head, All-tail}
@@ -7,13 +8,17 @@ use Rattle.std.proofs.lemmas.List.Kept.{AllPairs-cons}
 use Rattle.ea_model.specs.declared.carriers.Segment.{Segment}
 use Rattle.ea_model.specs.declared.carriers.OwnCarrier.{OwnCarrier}
 use Rattle.ea_model.specs.Keyed.{IsBelow, changed_at}
-use Rattle.ea_model.specs.Region.{stretch, with_segment, covers, cut_from, Laid, SegmentApart, AreFree, IsTailOf, IsTail}
+use Rattle.ea_model.specs.Region.{stretch, with_segment, covers, cut_from, Laid, SegmentApart}
+use Rattle.ea_model.specs.Region.{AreFree, IsTailOf, IsTail}
 use Rattle.ea_model.specs.Instance.{segment_of, segments, with_own, without_own, own_at}
 use Rattle.ea_model.proofs.Merged.{entered-All, entered-entered}
 use Rattle.ea_model.proofs.Pairs.{pairs_nil, pairs_tail}
-use Rattle.ea_model.proofs.Rising.{changed_here, changed_none, changed_past, entered_here, entered_past, item_at-All, length-entered, others, without_here, without_none, without_past}
+use Rattle.ea_model.proofs.Rising.{changed_here, changed_none, changed_past, entered_here}
+use Rattle.ea_model.proofs.Rising.{entered_past, item_at-All, length-entered, others, without_here}
+use Rattle.ea_model.proofs.Rising.{without_none, without_past}
 use Rattle.ea_laws.proofs.FreeRuns.{apart-before}
-use Rattle.ea_laws.proofs.Segments.{start_of, covers_cases, cut_past, cut_first, stretch_none, stretch_some, Laid-cut, any_cases, IsTail_cases, IsTail_behind}
+use Rattle.ea_laws.proofs.Segments.{start_of, covers_cases, cut_past, cut_first, stretch_none}
+use Rattle.ea_laws.proofs.Segments.{stretch_some, Laid-cut, any_cases, IsTail_cases, IsTail_behind}
 use Rattle.ea_laws.proofs.Tails.{any_here, any_later}
 use Rattle.ea_laws.specs.Kept.{own_number, HasPages, IsRisingOwn}
 

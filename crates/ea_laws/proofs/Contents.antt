@@ -1,5 +1,6 @@
 -- The contents that an instance employs, by rising number.
-use Rattle.std.proofs.Common.{◌≡◌, ◌≢◌, ℕ, true, false, List, [], ◌∷◌, All, sym, ap, ◌∙◌, refl, inl, inr, arith}
+use Rattle.std.proofs.Common.{◌≡◌, ◌≢◌, ℕ, true, false, List, [], ◌∷◌, All, sym, ap, ◌∙◌, refl, inl}
+use Rattle.std.proofs.Common.{inr, arith}
 use Rattle.std.specs.Prelude.{Option, Some, None, is_some}
 use Rattle.std.specs.Option.{option_and_then}
 use Rattle.std.proofs.lemmas.Bool.{cases_eq}
@@ -7,7 +8,8 @@ use Rattle.std.proofs.lemmas.List.Elements.{All-head, All-tail}
 use Rattle.ea_model.specs.declared.carriers.BlockAt.{BlockAt}
 use Rattle.ea_model.specs.Content.{Content, block_at, is_vacant}
 use Rattle.ea_model.specs.Instance.{with_content, without_content, content_of, has_content}
-use Rattle.ea_model.proofs.Rising.{item_at-gone, item_at-new, item_at-old, item_at-stays, item_past, none-other}
+use Rattle.ea_model.proofs.Rising.{item_at-gone, item_at-new, item_at-old, item_at-stays, item_past}
+use Rattle.ea_model.proofs.Rising.{none-other}
 use Rattle.ea_laws.specs.Kept.{number_of}
 use Rattle.ea_laws.specs.Spots.{HaveSameBlocks}
 

@@ -5,9 +5,12 @@ use Rattle.ea_model.specs.declared.carriers.CarrierPlan.{CarrierPlan}
 use Rattle.ea_model.specs.declared.carriers.Kind.TheVariants.{Multi}
 use Rattle.ea_model.specs.declared.carriers.Spot.{Spot}
 use Rattle.ea_model.specs.Content.{Content, placed}
-use Rattle.ea_model.specs.Instance.{Instance, changed, changing, clearing, content_of, created_content, created_single, creating, creating_single, employed, placing_at, shortened, with_content, without_content}
+use Rattle.ea_model.specs.Instance.{Instance, changed, changing, clearing, content_of}
+use Rattle.ea_model.specs.Instance.{created_content, created_single, creating, creating_single}
+use Rattle.ea_model.specs.Instance.{employed, placing_at, shortened, with_content, without_content}
 use Rattle.ea_model.specs.Keyed.{merged}
-use Rattle.ea_model.proofs.Merged.{merged-apart, merged-changed, merged-left, merged-right, merged-without}
+use Rattle.ea_model.proofs.Merged.{merged-apart, merged-changed, merged-left, merged-right}
+use Rattle.ea_model.proofs.Merged.{merged-without}
 use Rattle.ea_model.proofs.Rising.{changed_none}
 use Rattle.ea_laws.proofs.Changed.{KeepsPlace, placed-keeps}
 use Rattle.ea_laws.proofs.Owned.{with_units}

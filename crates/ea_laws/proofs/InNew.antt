@@ -1,20 +1,32 @@
 -- Where there was no choice, the choice with a new carrier lies in that carrier.
-use Rattle.std.proofs.Common.{◌≡◌, ℕ, ◌+◌, ◌<◌, ◌≤◌, Bool, true, false, List, [], ◌∷◌, ◌++◌, length, filter, get_or, append_assoc, length-append, sym, ap, ◌∙◌, subst, refl, inl, inr, ◌⊎◌, arith}
-use Rattle.std.specs.Prelude.{Option, Some, None, IfSome, IsNone, nat_le, All, AllPairs, Contains, option_map}
-use Rattle.std.proofs.lemmas.Bool.{cases_Bool, cases_lt, cases_order, cond-false, cond-true, leb-true, lt-ltb, ltb-false, ltb-true, true≢false}
-use Rattle.std.proofs.lemmas.List.Elements.{All-cons, All-contains, All-contains_itself, All-filter, All-head, All-nil, All-tail, All-weaker, at_from_Contains, Contains-append_cases, Contains-append_left, Contains-append_right, filter-append, filter_passes}
+use Rattle.std.proofs.Common.{◌≡◌, ℕ, ◌+◌, ◌<◌, ◌≤◌, Bool, true, false, List, [], ◌∷◌, ◌++◌, length}
+use Rattle.std.proofs.Common.{filter, get_or, append_assoc, length-append, sym, ap, ◌∙◌, subst}
+use Rattle.std.proofs.Common.{refl, inl, inr, ◌⊎◌, arith}
+use Rattle.std.specs.Prelude.{Option, Some, None, IfSome, IsNone, nat_le, All, AllPairs, Contains}
+use Rattle.std.specs.Prelude.{option_map}
+use Rattle.std.proofs.lemmas.Bool.{cases_Bool, cases_lt, cases_order, cond-false, cond-true}
+use Rattle.std.proofs.lemmas.Bool.{leb-true, lt-ltb, ltb-false, ltb-true, true≢false}
+use Rattle.std.proofs.lemmas.List.Elements.{All-cons, All-contains, All-contains_itself, All-filter}
+use Rattle.std.proofs.lemmas.List.Elements.{All-head, All-nil, All-tail, All-weaker}
+use Rattle.std.proofs.lemmas.List.Elements.{at_from_Contains, Contains-append_cases}
+use Rattle.std.proofs.lemmas.List.Elements.{Contains-append_left, Contains-append_right}
+use Rattle.std.proofs.lemmas.List.Elements.{filter-append, filter_passes}
 use Rattle.ea_model.specs.declared.carriers.Candidate.{Candidate}
 use Rattle.ea_model.specs.declared.carriers.CarrierPlan.{CarrierPlan}
 use Rattle.ea_model.specs.declared.carriers.Kind.TheVariants.{Multi}
 use Rattle.ea_model.specs.declared.carriers.Spot.{Spot}
 use Rattle.ea_model.specs.declared.settings.Settings.{Settings}
 use Rattle.ea_model.specs.declared.settings.Strategy.{Strategy}
-use Rattle.ea_model.specs.declared.settings.Strategy.TheVariants.{Bf, Aobf, Aoff, AoffCbf, AoffCaobf, AgeffCaoff, AgeffCbf, AgeffCaobf, Gf, Af}
+use Rattle.ea_model.specs.declared.settings.Strategy.TheVariants.{Bf, Aobf, Aoff, AoffCbf}
+use Rattle.ea_model.specs.declared.settings.Strategy.TheVariants.{AoffCaobf, AgeffCaoff, AgeffCbf}
+use Rattle.ea_model.specs.declared.settings.Strategy.TheVariants.{AgeffCaobf, Gf, Af}
 use Rattle.ea_model.specs.Choice.{first, IsFirst}
 use Rattle.ea_model.specs.Content.{Content, is_empty_multi}
 use Rattle.ea_model.specs.GoodFit.{is_ahead, is_inspected}
 use Rattle.ea_model.specs.Instance.{Instance, chosen_spot, created_content, creating, with_content}
-use Rattle.ea_model.specs.Strategies.{candidates, candidates_in, choice_among, choice_for, choice_empty, inspected_by, large_enough, lower, may_miss, only, or_else, spot_of, takes_first}
+use Rattle.ea_model.specs.Strategies.{candidates, candidates_in, choice_among, choice_for}
+use Rattle.ea_model.specs.Strategies.{choice_empty, inspected_by, large_enough, lower, may_miss}
+use Rattle.ea_model.specs.Strategies.{only, or_else, spot_of, takes_first}
 use Rattle.ea_model.proofs.First.{first-All, first-IsFirst, first-none}
 use Rattle.ea_model.proofs.Options.{if_some, some_holds, some_map, unmapped}
 use Rattle.ea_model.proofs.Rising.{All-entered, entered_here, entered_past}

@@ -1,5 +1,6 @@
 -- What an instance keeps of its carriers through each change.
-use Rattle.std.proofs.Common.{◌≡◌, ℕ, ◌+◌, ◌*◌, ◌/◌, ◌%◌, ◌<◌, ◌≤◌, false, List, length, All, sym, subst, refl, arith}
+use Rattle.std.proofs.Common.{◌≡◌, ℕ, ◌+◌, ◌*◌, ◌/◌, ◌%◌, ◌<◌, ◌≤◌, false, List, length, All, sym}
+use Rattle.std.proofs.Common.{subst, refl, arith}
 use Rattle.std.specs.Prelude.{Option, Some, None, Ok, IsSome, ◌==◌}
 use Rattle.std.proofs.lemmas.Bool.{cond_both}
 use Rattle.std.proofs.lemmas.List.Elements.{All-filter, All-map, All-weaker}
@@ -12,15 +13,21 @@ use Rattle.ea_model.specs.declared.carriers.Kind.TheVariants.{Multi}
 use Rattle.ea_model.specs.Content.{Content}
 use Rattle.ea_model.specs.Keyed.{IsBelow}
 use Rattle.ea_model.specs.Region.{AreFree, Laid, lowest_run, runs, with_segment}
-use Rattle.ea_model.specs.Instance.{Instance, segments, segment_of, first_number, own_at, own_of, planned_own, with_own, without_own, unused_from, is_used, free_run, is_alone, least_pages, next_pages, wanted_pages, planned, least_plan, sized_plan, numbered_plan, plan, created_content, creating, chosen_spot}
+use Rattle.ea_model.specs.Instance.{Instance, segments, segment_of, first_number, own_at, own_of}
+use Rattle.ea_model.specs.Instance.{planned_own, with_own, without_own, unused_from, is_used}
+use Rattle.ea_model.specs.Instance.{free_run, is_alone, least_pages, next_pages, wanted_pages}
+use Rattle.ea_model.specs.Instance.{planned, least_plan, sized_plan, numbered_plan, plan}
+use Rattle.ea_model.specs.Instance.{created_content, creating, chosen_spot}
 use Rattle.ea_model.proofs.Options.{some_holds}
-use Rattle.ea_model.proofs.Rising.{All-entered, change, key_stays, length-entered, rising-changed, rising-entered}
+use Rattle.ea_model.proofs.Rising.{All-entered, change, key_stays, length-entered, rising-changed}
+use Rattle.ea_model.proofs.Rising.{rising-entered}
 use Rattle.ea_laws.specs.Kept.{own_number, HasNumberIn, HasPages, IsRisingOwn, IsKept, IsLaidOut}
 use Rattle.ea_laws.proofs.FreeRuns.{Fits, lowest-Fits}
 use Rattle.ea_laws.proofs.Segments.{Laid-cut, Laid-entered}
 use Rattle.ea_laws.proofs.Owned.{rising-length, unused_from-free, unused-All}
 use Rattle.ea_laws.proofs.Room.{chosen-created}
-use Rattle.ea_laws.proofs.CarrierSegments.{segments-shortened, segments-with_own, segments-without, with_pages}
+use Rattle.ea_laws.proofs.CarrierSegments.{segments-shortened, segments-with_own, segments-without}
+use Rattle.ea_laws.proofs.CarrierSegments.{with_pages}
 
 -- the own carriers without one of them
 pub IsKept-cleared : (s : Settings) (n number first end : ℕ) (o : OwnCarrier)

@@ -1,5 +1,6 @@
 -- What a reallocation in place keeps, and what it changes.
-use Rattle.std.proofs.Common.{◌≡◌, ◌≢◌, ℕ, ◌+◌, ◌*◌, ◌%◌, ◌/◌, ◌<◌, ◌≤◌, List, [], ◌∷◌, AllPairs, get_or, sym, ap, ◌∙◌, subst, refl, inl, inr, arith}
+use Rattle.std.proofs.Common.{◌≡◌, ◌≢◌, ℕ, ◌+◌, ◌*◌, ◌%◌, ◌/◌, ◌<◌, ◌≤◌, List, [], ◌∷◌, AllPairs}
+use Rattle.std.proofs.Common.{get_or, sym, ap, ◌∙◌, subst, refl, inl, inr, arith}
 use Rattle.std.specs.Prelude.{Option, Some, None, IsSome, option_map, ◌==◌}
 use Rattle.std.proofs.lemmas.Bool.{cases_eq, cond_both, cond-false, cond-true}
 use Rattle.std.proofs.lemmas.List.Elements.{All-map, All-weaker}
@@ -7,18 +8,24 @@ use Rattle.ea_model.specs.declared.carriers.OwnCarrier.{OwnCarrier}
 use Rattle.ea_model.specs.declared.carriers.BlockAt.{BlockAt}
 use Rattle.ea_model.specs.declared.carriers.Spot.{Spot}
 use Rattle.ea_model.specs.declared.reallocation.Decision.{Decision}
-use Rattle.ea_model.specs.declared.reallocation.Decision.TheVariants.{Stay, ShrinkHere, GrowHere, ShrinkCarrier, Move}
+use Rattle.ea_model.specs.declared.reallocation.Decision.TheVariants.{Stay, ShrinkHere, GrowHere}
+use Rattle.ea_model.specs.declared.reallocation.Decision.TheVariants.{ShrinkCarrier, Move}
 use Rattle.ea_model.specs.declared.reallocation.Where.TheVariants.{Multi, Single}
 use Rattle.ea_model.specs.declared.settings.Settings.{Settings}
 use Rattle.ea_model.specs.Content.{Content, Tiled, block_at, gap_behind, resized, size_of}
 use Rattle.ea_model.specs.Decision.{decision, size_after}
-use Rattle.ea_model.specs.Instance.{Instance, block_in, changed, content_of, decision_at, employed, own_at, own_of, resized_by, resized_in, resized_to, resizing_at, shortened, size_at, where_at, where_in}
+use Rattle.ea_model.specs.Instance.{Instance, block_in, changed, content_of, decision_at, employed}
+use Rattle.ea_model.specs.Instance.{own_at, own_of, resized_by, resized_in, resized_to, resizing_at}
+use Rattle.ea_model.specs.Instance.{shortened, size_at, where_at, where_in}
 use Rattle.ea_model.specs.Keyed.{changed_at, has_key}
 use Rattle.ea_model.specs.Units.{pages_for}
 use Rattle.ea_model.proofs.Merged.{merged-apart, merged-second}
 use Rattle.ea_model.proofs.Options.{same-some, some_value}
-use Rattle.ea_model.proofs.Rising.{change, changed-found, changed-other, changed_here, item_at-All, item_at-changed, item_at-key, item_past, none-other, rising-changed}
-use Rattle.ea_laws.specs.Kept.{number_of, own_number, ContentsApart, HasOneBlock, IsLaidOut, IsLaidOutAlone, IsOwn, IsRising, Stands}
+use Rattle.ea_model.proofs.Rising.{change, changed-found, changed-other, changed_here, item_at-All}
+use Rattle.ea_model.proofs.Rising.{item_at-changed, item_at-key, item_past, none-other}
+use Rattle.ea_model.proofs.Rising.{rising-changed}
+use Rattle.ea_laws.specs.Kept.{number_of, own_number, ContentsApart, HasOneBlock, IsLaidOut}
+use Rattle.ea_laws.specs.Kept.{IsLaidOutAlone, IsOwn, IsRising, Stands}
 use Rattle.ea_laws.specs.Spots.{HaveSameBlocks, IsOther}
 use Rattle.ea_laws.proofs.Apart.{altered, apart-lessened, changed-All, only-item}
 use Rattle.ea_laws.proofs.BlockLists.{offset_of}
@@ -28,8 +35,10 @@ use Rattle.ea_laws.proofs.Contents.{block_among}
 use Rattle.ea_laws.proofs.Employed.{employed-changed, employed-shortened}
 use Rattle.ea_laws.proofs.Keeping.{IsKept-shortened}
 use Rattle.ea_laws.proofs.Owned.{with_units}
-use Rattle.ea_laws.proofs.Resized.{grown-tiled, renamed-tiled, resized-begins, resized-others, shrunk-tiled, with_size}
-use Rattle.ea_laws.proofs.Standing.{all-own, all-someones, changing-Stands, employed-multi, employed-rising, single-own}
+use Rattle.ea_laws.proofs.Resized.{grown-tiled, renamed-tiled, resized-begins, resized-others}
+use Rattle.ea_laws.proofs.Resized.{shrunk-tiled, with_size}
+use Rattle.ea_laws.proofs.Standing.{all-own, all-someones, changing-Stands, employed-multi}
+use Rattle.ea_laws.proofs.Standing.{employed-rising, single-own}
 
 -- what is decided of a block of `old` units in a multiblock carrier that is to have `fresh`
 abbrev DecidesMulti : ℕ → ℕ → ℕ → Decision → Type 0

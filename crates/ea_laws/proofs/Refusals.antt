@@ -1,5 +1,6 @@
 -- Why there is no choice, and why there is no plan.
-use Rattle.std.proofs.Common.{◌≡◌, ◌≢◌, ℕ, zero, suc, ◌+◌, ◌<◌, ◌≤◌, ◌↔◌, true, false, List, [], ◌∷◌, filter, All, sym, ◌∙◌, ap, subst, refl, inl, inr, arith}
+use Rattle.std.proofs.Common.{◌≡◌, ◌≢◌, ℕ, zero, suc, ◌+◌, ◌<◌, ◌≤◌, ◌↔◌, true, false, List, []}
+use Rattle.std.proofs.Common.{◌∷◌, filter, All, sym, ◌∙◌, ap, subst, refl, inl, inr, arith}
 use Rattle.std.specs.Prelude.{Bool, Option, Some, None, IsNone, Err, option_map}
 use Rattle.std.proofs.lemmas.Bool.{cases_Bool, cases_eq}
 use Rattle.std.proofs.lemmas.List.Elements.{All-nil, All-cons, All-head, All-tail}
@@ -12,8 +13,12 @@ use Rattle.ea_model.specs.declared.entries.NoCarrier.TheVariants.{Numbers, Space
 use Rattle.ea_model.specs.Choice.{first}
 use Rattle.ea_model.specs.Content.{Content, is_empty_multi}
 use Rattle.ea_model.specs.Region.{runs}
-use Rattle.ea_model.specs.Instance.{Instance, chosen_spot, unused_from, is_used, first_number, plan, numbered_plan, sized_plan, least_plan, free_run, wanted_pages, least_pages, segments}
-use Rattle.ea_model.specs.Strategies.{candidates, choice_among, choice_for, choice_empty, large_enough, inspected_by, lower, may_miss, or_else, takes_first, spot_of}
+use Rattle.ea_model.specs.Instance.{Instance, chosen_spot, unused_from, is_used, first_number, plan}
+use Rattle.ea_model.specs.Instance.{numbered_plan, sized_plan, least_plan, free_run, wanted_pages}
+use Rattle.ea_model.specs.Instance.{least_pages, segments}
+use Rattle.ea_model.specs.Strategies.{candidates, choice_among, choice_for, choice_empty}
+use Rattle.ea_model.specs.Strategies.{large_enough, inspected_by, lower, may_miss, or_else}
+use Rattle.ea_model.specs.Strategies.{takes_first, spot_of}
 use Rattle.ea_model.proofs.First.{first-none, large-none, none-large}
 use Rattle.ea_model.proofs.Options.{mapped, unmapped}
 use Rattle.ea_laws.proofs.FreeRuns.{lowest-none}

@@ -1,15 +1,19 @@
 -- A block that has another size, and what that makes of the gap directly behind it.
-use Rattle.std.proofs.Common.{◌≡◌, ◌≢◌, ℕ, ◌+◌, ◌-◌, ◌%◌, ◌<◌, ◌≤◌, List, [], ◌∷◌, ◌++◌, append_assoc, append-nil, refl, sym, ap, ◌∙◌, subst, inl, inr, arith}
+use Rattle.std.proofs.Common.{◌≡◌, ◌≢◌, ℕ, ◌+◌, ◌-◌, ◌%◌, ◌<◌, ◌≤◌, List, [], ◌∷◌, ◌++◌}
+use Rattle.std.proofs.Common.{append_assoc, append-nil, refl, sym, ap, ◌∙◌, subst, inl, inr, arith}
 use Rattle.std.specs.Prelude.{Some, All}
 use Rattle.std.specs.Option.{option_map_or}
 use Rattle.std.proofs.lemmas.Bool.{cases_eq, cases_lt}
 use Rattle.std.proofs.lemmas.List.Elements.{All-nil, All-cons, All-weaker}
 use Rattle.ea_model.specs.declared.carriers.BlockAt.{BlockAt}
 use Rattle.ea_model.specs.declared.carriers.Gap.{Gap}
-use Rattle.ea_model.specs.Content.{Content, gap, gaps, gaps_of, gap_at, gap_behind, block_at, end_of, taken_of, resized, IsGapSize, Tiled}
+use Rattle.ea_model.specs.Content.{Content, gap, gaps, gaps_of, gap_at, gap_behind, block_at}
+use Rattle.ea_model.specs.Content.{end_of, taken_of, resized, IsGapSize, Tiled}
 use Rattle.ea_model.specs.Keyed.{changed_at}
-use Rattle.ea_model.proofs.Rising.{item_at-key, item_at-All, changed_here, changed_past, changed_none, changed-found, changed-other}
-use Rattle.ea_laws.proofs.BlockLists.{offset_of, gap_at-step, gap_at-behind, gap_at-whole, block_at-past, Tiled-behind, Enters, taken_of-enters}
+use Rattle.ea_model.proofs.Rising.{item_at-key, item_at-All, changed_here, changed_past}
+use Rattle.ea_model.proofs.Rising.{changed_none, changed-found, changed-other}
+use Rattle.ea_laws.proofs.BlockLists.{offset_of, gap_at-step, gap_at-behind, gap_at-whole}
+use Rattle.ea_laws.proofs.BlockLists.{block_at-past, Tiled-behind, Enters, taken_of-enters}
 use Rattle.ea_laws.proofs.Ranges.{IsWithin, blocks_within}
 use Rattle.ea_laws.proofs.Tiling.{Tiled-Ordered, Tiled-allocated}
 

@@ -1,5 +1,6 @@
 -- A carrier with a large enough gap gives the strategy a choice.
-use Rattle.std.proofs.Common.{◌≡◌, ℕ, ◌+◌, ◌*◌, ◌<◌, ◌≤◌, true, false, List, [], ◌∷◌, length, filter, cond, ap, ◌∙◌, refl, inl, inr, arith, length-append}
+use Rattle.std.proofs.Common.{◌≡◌, ℕ, ◌+◌, ◌*◌, ◌<◌, ◌≤◌, true, false, List, [], ◌∷◌, length}
+use Rattle.std.proofs.Common.{filter, cond, ap, ◌∙◌, refl, inl, inr, arith, length-append}
 use Rattle.std.specs.Prelude.{Bool, Option, Some, None, IsSome, fold, nat_le}
 use Rattle.std.proofs.lemmas.Bool.{cases_lt, cases_Bool, cond-true, cond-false}
 use Rattle.std.proofs.lemmas.List.Elements.{filter-append}
@@ -9,7 +10,9 @@ use Rattle.ea_model.specs.declared.carriers.Kind.TheVariants.{Multi}
 use Rattle.ea_model.specs.Choice.{better, first}
 use Rattle.ea_model.specs.Content.{Content, is_empty_multi}
 use Rattle.ea_model.specs.Instance.{Instance, created_content, creating, chosen_spot, with_content}
-use Rattle.ea_model.specs.Strategies.{candidates, candidates_in, choice_among, choice_for, choice_empty, large_enough, inspected_by, lower, may_miss, or_else, takes_first, spot_of}
+use Rattle.ea_model.specs.Strategies.{candidates, candidates_in, choice_among, choice_for}
+use Rattle.ea_model.specs.Strategies.{choice_empty, large_enough, inspected_by, lower, may_miss}
+use Rattle.ea_model.specs.Strategies.{or_else, takes_first, spot_of}
 use Rattle.ea_model.proofs.Options.{is_some-map}
 use Rattle.ea_laws.proofs.Inspected.{all_inspected}
 use Rattle.ea_model.proofs.Rising.{entered_here, entered_past}

@@ -1,10 +1,12 @@
 -- Segments that lie one after another.
-use Rattle.std.proofs.Common.{suc, zero, ◌≡◌, ℕ, ◌+◌, ◌-◌, ◌<◌, ◌≤◌, true, false, List, [], ◌∷◌, ◌++◌, length, get_or, sym, ap, ◌∙◌, subst, refl, inl, inr, ◌⊎◌, arith}
+use Rattle.std.proofs.Common.{suc, zero, ◌≡◌, ℕ, ◌+◌, ◌-◌, ◌<◌, ◌≤◌, true, false, List, [], ◌∷◌}
+use Rattle.std.proofs.Common.{◌++◌, length, get_or, sym, ap, ◌∙◌, subst, refl, inl, inr, ◌⊎◌, arith}
 use Rattle.std.specs.Prelude.{Any}
 use Rattle.std.proofs.lemmas.Bool.{cases_lt}
 use Rattle.std.proofs.lemmas.List.Elements.{All-head, All-tail}
 use Rattle.ea_model.specs.declared.carriers.Segment.{Segment}
-use Rattle.ea_model.specs.Region.{stretch, with_segment, covers, cut_from, Laid, SegmentApart, AreFree, IsTailOf, IsTail}
+use Rattle.ea_model.specs.Region.{stretch, with_segment, covers, cut_from, Laid, SegmentApart}
+use Rattle.ea_model.specs.Region.{AreFree, IsTailOf, IsTail}
 use Rattle.ea_model.proofs.Rising.{entered_here, entered_past}
 
 -- they end at the end or before it

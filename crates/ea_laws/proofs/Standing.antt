@@ -1,9 +1,13 @@
 -- What holds of an instance at every moment.
-use Rattle.std.proofs.Common.{◌≡◌, ◌≢◌, ℕ, ◌+◌, ◌-◌, ◌*◌, ◌%◌, ◌<◌, ◌≤◌, get_or, Bool, true, false, List, [], ◌∷◌, filter, length, map, sym, ap, ◌∙◌, subst, refl, inl, inr, arith}
-use Rattle.std.specs.Prelude.{Option, Some, None, Ok, IfSome, All, AllPairs, Contains, nat_lt, option_map, ◌==◌, is_some}
+use Rattle.std.proofs.Common.{◌≡◌, ◌≢◌, ℕ, ◌+◌, ◌-◌, ◌*◌, ◌%◌, ◌<◌, ◌≤◌, get_or, Bool, true, false}
+use Rattle.std.proofs.Common.{List, [], ◌∷◌, filter, length, map, sym, ap, ◌∙◌, subst, refl, inl}
+use Rattle.std.proofs.Common.{inr, arith}
+use Rattle.std.specs.Prelude.{Option, Some, None, Ok, IfSome, All, AllPairs, Contains, nat_lt}
+use Rattle.std.specs.Prelude.{option_map, ◌==◌, is_some}
 use Rattle.std.proofs.lemmas.Bool.{cases_eq, cases_lt, cond_both, cond-true, cond-false}
 use Rattle.std.proofs.lemmas.List.{length-map}
-use Rattle.std.proofs.lemmas.List.Elements.{All-nil, All-cons, All-filter, All-contains_itself, All-map, All-tail, All-weaker}
+use Rattle.std.proofs.lemmas.List.Elements.{All-nil, All-cons, All-filter, All-contains_itself}
+use Rattle.std.proofs.lemmas.List.Elements.{All-map, All-tail, All-weaker}
 use Rattle.std.proofs.lemmas.List.Kept.{AllPairs-cons, AllPairs-filter}
 use Rattle.ea_model.specs.declared.settings.Settings.{Settings}
 use Rattle.ea_model.specs.declared.units.TheConstants.{MAX_PAGES, MAX_SCHEDULERS, NUMBERS}
@@ -13,7 +17,8 @@ use Rattle.ea_model.specs.declared.carriers.Candidate.{Candidate}
 use Rattle.ea_model.specs.declared.carriers.CarrierPlan.{CarrierPlan}
 use Rattle.ea_model.specs.declared.carriers.Kind.TheVariants.{Multi}
 use Rattle.ea_model.specs.declared.carriers.Spot.{Spot}
-use Rattle.ea_model.specs.Content.{Content, gap_at, gaps_of, is_empty_multi, placed, released, taken_of}
+use Rattle.ea_model.specs.Content.{Content, gap_at, gaps_of, is_empty_multi, placed, released}
+use Rattle.ea_model.specs.Content.{taken_of}
 use Rattle.ea_model.specs.Choice.{first}
 use Rattle.ea_model.specs.Keyed.{IsBelow, without}
 use Rattle.ea_model.specs.declared.carriers.OwnCarrier.{OwnCarrier}
@@ -21,20 +26,36 @@ use Rattle.ea_model.specs.Employment.{dismissing, disowning, employing}
 use Rattle.ea_model.specs.Region.{SegmentApart}
 use Rattle.ea_model.specs.Settings.{IsValid}
 use Rattle.ea_model.specs.Units.{pages_for}
-use Rattle.ea_model.specs.Strategies.{candidates, choice_among, choice_for, choice_empty, large_enough, inspected_by, lower, may_miss, or_else, spot_of, takes_first}
-use Rattle.ea_model.specs.Instance.{Instance, changing, chosen_spot, clearing, content_of, created_content, created_single, creating, creating_single, employed, first_number, has_content, is_used, main_content, new_instance, own_at, own_of, placing_at, plan, planned_own, releasing_at, segment_of, with_content, with_own, without_content, without_own}
+use Rattle.ea_model.specs.Strategies.{candidates, choice_among, choice_for, choice_empty}
+use Rattle.ea_model.specs.Strategies.{large_enough, inspected_by, lower, may_miss, or_else, spot_of}
+use Rattle.ea_model.specs.Strategies.{takes_first}
+use Rattle.ea_model.specs.Instance.{Instance, changing, chosen_spot, clearing, content_of}
+use Rattle.ea_model.specs.Instance.{created_content, created_single, creating, creating_single}
+use Rattle.ea_model.specs.Instance.{employed, first_number, has_content, is_used, main_content}
+use Rattle.ea_model.specs.Instance.{new_instance, own_at, own_of, placing_at, plan, planned_own}
+use Rattle.ea_model.specs.Instance.{releasing_at, segment_of, with_content, with_own}
+use Rattle.ea_model.specs.Instance.{without_content, without_own}
 use Rattle.ea_model.proofs.First.{first-All}
 use Rattle.ea_model.proofs.Options.{if_some, same-some, some_holds, some_map}
 use Rattle.ea_model.proofs.Pairs.{pairs_head, pairs_map, pairs_nil, pairs_tail}
-use Rattle.ea_model.proofs.Merged.{entered-with, length-merged, merged-All, merged-apart, merged-each, merged-first, merged-left, merged-pairs, merged-right, merged-without}
-use Rattle.ea_model.proofs.Rising.{All-entered, item_at-All, item_at-each, item_at-gone, item_at-key, item_at-new, item_at-old, item_at-stays, item_here, none-other, rising-changed, rising-entered, without_here, without_past}
+use Rattle.ea_model.proofs.Merged.{entered-with, length-merged, merged-All, merged-apart}
+use Rattle.ea_model.proofs.Merged.{merged-each, merged-first, merged-left, merged-pairs}
+use Rattle.ea_model.proofs.Merged.{merged-right, merged-without}
+use Rattle.ea_model.proofs.Rising.{All-entered, item_at-All, item_at-each, item_at-gone}
+use Rattle.ea_model.proofs.Rising.{item_at-key, item_at-new, item_at-old, item_at-stays, item_here}
+use Rattle.ea_model.proofs.Rising.{none-other, rising-changed, rising-entered, without_here}
+use Rattle.ea_model.proofs.Rising.{without_past}
 use Rattle.ea_laws.proofs.BlockLists.{gap_at-whole, taken_of-enters, Tiled-inserted, Tiled-released}
 use Rattle.ea_laws.specs.Spots.{HasGap}
 use Rattle.ea_laws.specs.InOrder.{IsInOrder}
-use Rattle.ea_laws.specs.Kept.{number_of, own_number, ContentsApart, HasNumberIn, HasOneBlock, HasPages, IsLaidOut, IsLaidOutAlone, IsOwn, IsRising, IsSomeones, IsWhole, Stands}
+use Rattle.ea_laws.specs.Kept.{number_of, own_number, ContentsApart, HasNumberIn, HasOneBlock}
+use Rattle.ea_laws.specs.Kept.{HasPages, IsLaidOut, IsLaidOutAlone, IsOwn, IsRising, IsSomeones}
+use Rattle.ea_laws.specs.Kept.{IsWhole, Stands}
 use Rattle.ea_laws.proofs.Changed.{KeepsPlace, placed-keeps, released-keeps}
 use Rattle.ea_laws.proofs.Contents.{absent-among, absent-none}
-use Rattle.ea_laws.proofs.Keeping.{IsKept-cleared, IsKept-made, IsLaidOut-made, other-numbers, own_of-made, pages_of_units, plan-IsPlanned, planned-free, planned-numbered, planned-within, whole_pages}
+use Rattle.ea_laws.proofs.Keeping.{IsKept-cleared, IsKept-made, IsLaidOut-made, other-numbers}
+use Rattle.ea_laws.proofs.Keeping.{own_of-made, pages_of_units, plan-IsPlanned, planned-free}
+use Rattle.ea_laws.proofs.Keeping.{planned-numbered, planned-within, whole_pages}
 use Rattle.ea_laws.proofs.Employed.{employed-changed, placing-is}
 use Rattle.ea_laws.proofs.Owned.{apart_from, rising-length, unused-All}
 use Rattle.ea_laws.proofs.CarrierSegments.{free-own}

@@ -1,11 +1,13 @@
 -- Which pages can be given back after a call.
-use Rattle.std.proofs.Common.{suc, ℕ, ◌+◌, ◌-◌, ◌<◌, ◌≤◌, List, [], ◌∷◌, ◌++◌, sym, subst, refl, inl, inr, ◌⊎◌, arith}
+use Rattle.std.proofs.Common.{suc, ℕ, ◌+◌, ◌-◌, ◌<◌, ◌≤◌, List, [], ◌∷◌, ◌++◌, sym, subst, refl}
+use Rattle.std.proofs.Common.{inl, inr, ◌⊎◌, arith}
 use Rattle.std.specs.Prelude.{Any}
 use Rattle.std.proofs.lemmas.Bool.{cases_lt}
 use Rattle.ea_model.specs.declared.carriers.Segment.{Segment}
 use Rattle.ea_model.specs.Region.{stretch, with_segment, cut_from, Laid, IsTailOf, IsTail}
 use Rattle.ea_model.proofs.Rising.{entered_here, entered_past}
-use Rattle.ea_laws.proofs.Segments.{covers_cases, stretch_some, stretch_none, cut_first, cut_past, start_of, IsTail_cases, IsTail_behind}
+use Rattle.ea_laws.proofs.Segments.{covers_cases, stretch_some, stretch_none, cut_first, cut_past}
+use Rattle.ea_laws.proofs.Segments.{start_of, IsTail_cases, IsTail_behind}
 
 pub any_here : {A : Type 0} (P : A → Type 0) (x : A) (xs : List A) → P x → Any P (x ∷ xs)
 any_here P x xs p = (0, x, omega arith, refl, p)

@@ -1,11 +1,14 @@
 -- The choice is taken first.
-use Rattle.std.proofs.Common.{◌≡◌, ◌⊎◌, ℕ, Bool, true, false, List, filter, sym, subst, refl, inl, inr}
+use Rattle.std.proofs.Common.{◌≡◌, ◌⊎◌, ℕ, Bool, true, false, List, filter, sym, subst, refl, inl}
+use Rattle.std.proofs.Common.{inr}
 use Rattle.std.specs.Prelude.{Option, Some, None, IsNone}
 use Rattle.ea_model.specs.declared.carriers.Candidate.{Candidate}
 use Rattle.ea_model.specs.declared.settings.Settings.{Settings}
 use Rattle.ea_model.specs.Choice.{IsFirst}
 use Rattle.ea_model.specs.Content.{Content, is_empty_multi}
-use Rattle.ea_model.specs.Strategies.{candidates, choice_among, choice_for, choice_empty, large_enough, inspected_by, lower, may_miss, or_else, takes_first}
+use Rattle.ea_model.specs.Strategies.{candidates, choice_among, choice_for, choice_empty}
+use Rattle.ea_model.specs.Strategies.{large_enough, inspected_by, lower, may_miss, or_else}
+use Rattle.ea_model.specs.Strategies.{takes_first}
 use Rattle.ea_model.proofs.First.{first-IsFirst}
 use Rattle.ea_model.proofs.Options.{some_holds}
 use Rattle.ea_laws.specs.ChoiceLaws.{IsTakenFirst}

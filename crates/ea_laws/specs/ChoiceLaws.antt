@@ -6,7 +6,8 @@ use Rattle.ea_model.specs.declared.settings.Settings.{Settings}
 use Rattle.ea_model.specs.declared.settings.Strategy.{Strategy}
 use Rattle.ea_model.specs.Choice.{IsFirst}
 use Rattle.ea_model.specs.Content.{Content, is_empty_multi}
-use Rattle.ea_model.specs.Strategies.{candidates, choice_among, choice_for, inspected_by, large_enough, lower, may_miss, takes_first}
+use Rattle.ea_model.specs.Strategies.{candidates, choice_among, choice_for, inspected_by}
+use Rattle.ea_model.specs.Strategies.{large_enough, lower, may_miss, takes_first}
 use Rattle.ea_laws.specs.Spots.{FindsNone}
 
 -- each strategy orders the candidates strictly

@@ -1,6 +1,7 @@
 -- Laws of an instance: that it stands at its beginning and through each change, and what each
 -- change does to its blocks.
-use Rattle.std.specs.Prelude.{◌≡◌, ◌↔◌, ℕ, ◌+◌, ◌%◌, ◌≢◌, ◌<◌, ◌≤◌, true, None, Some, Ok, Err, All, IsSome}
+use Rattle.std.specs.Prelude.{◌≡◌, ◌↔◌, ℕ, ◌+◌, ◌%◌, ◌≢◌, ◌<◌, ◌≤◌, true, None, Some, Ok, Err, All}
+use Rattle.std.specs.Prelude.{IsSome}
 use Rattle.ea_model.specs.declared.carriers.CarrierPlan.{CarrierPlan}
 use Rattle.ea_model.specs.declared.carriers.Spot.{Spot}
 use Rattle.ea_model.specs.declared.entries.NoCarrier.TheVariants.{Numbers, Space}
@@ -8,7 +9,10 @@ use Rattle.ea_model.specs.declared.reallocation.Decision.TheVariants.{Move}
 use Rattle.ea_model.specs.declared.settings.Settings.{Settings}
 use Rattle.ea_model.specs.declared.units.TheConstants.{MAX_PAGES, MAX_SCHEDULERS, MIN_BLOCK}
 use Rattle.ea_model.specs.Content.{Content, is_vacant}
-use Rattle.ea_model.specs.Instance.{Instance, block_in, chosen_spot, clearing, content_of, creating, creating_single, decision_at, employed, least_pages, new_instance, own_of, place_at, placing_at, plan, releasing_at, resized_to, resizing_at, segments, single_place}
+use Rattle.ea_model.specs.Instance.{Instance, block_in, chosen_spot, clearing, content_of, creating}
+use Rattle.ea_model.specs.Instance.{creating_single, decision_at, employed, least_pages}
+use Rattle.ea_model.specs.Instance.{new_instance, own_of, place_at, placing_at, plan, releasing_at}
+use Rattle.ea_model.specs.Instance.{resized_to, resizing_at, segments, single_place}
 use Rattle.ea_model.specs.Region.{runs}
 use Rattle.ea_model.specs.Settings.{IsValid}
 use Rattle.ea_model.specs.Units.{pages_for}

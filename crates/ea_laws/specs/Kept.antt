@@ -1,11 +1,13 @@
 -- The carriers of an instance: those that it owns, those that it employs, where they lie, and what
 -- holds of them at every moment.
-use Rattle.std.specs.Prelude.{◌≡◌, ◌⊎◌, ℕ, ◌+◌, ◌*◌, ◌%◌, ◌/◌, ◌<◌, ◌≤◌, true, List, [], ◌∷◌, All, AllPairs, Some}
+use Rattle.std.specs.Prelude.{◌≡◌, ◌⊎◌, ℕ, ◌+◌, ◌*◌, ◌%◌, ◌/◌, ◌<◌, ◌≤◌, true, List, [], ◌∷◌, All}
+use Rattle.std.specs.Prelude.{AllPairs, Some}
 use Rattle.ea_model.specs.declared.carriers.BlockAt.{BlockAt}
 use Rattle.ea_model.specs.declared.carriers.Kind.TheVariants.{Single}
 use Rattle.ea_model.specs.declared.carriers.OwnCarrier.{OwnCarrier}
 use Rattle.ea_model.specs.declared.settings.Settings.{Settings}
-use Rattle.ea_model.specs.declared.units.TheConstants.{HEADER_UNITS, MAX_PAGES, MAX_SCHEDULERS, MAX_UNITS, MIN_BLOCK, NUMBERS, PAGE_UNITS}
+use Rattle.ea_model.specs.declared.units.TheConstants.{HEADER_UNITS, MAX_PAGES, MAX_SCHEDULERS}
+use Rattle.ea_model.specs.declared.units.TheConstants.{MAX_UNITS, MIN_BLOCK, NUMBERS, PAGE_UNITS}
 use Rattle.ea_model.specs.Content.{Content, Tiled}
 use Rattle.ea_model.specs.Keyed.{IsBelow}
 use Rattle.ea_model.specs.Settings.{IsValid}

@@ -1,5 +1,7 @@
 //! Laws of an instance.
-ghost use Rattle.ea_laws.specs.InstanceLaws.{StandsAtBeginning, Clears, Creates, CreatesSingle, Places, RefusesNumbers, RefusesSpace, Releases, Resizes, StandsInOrder};
+ghost use Rattle.ea_laws.specs.InstanceLaws.{StandsAtBeginning, Clears, Creates, CreatesSingle};
+ghost use Rattle.ea_laws.specs.InstanceLaws.{Places, RefusesNumbers, RefusesSpace, Releases};
+ghost use Rattle.ea_laws.specs.InstanceLaws.{Resizes, StandsInOrder};
 
 /// An instance stands at its beginning, and after each placement, release, creation, clearing and
 /// reallocation in place. While it stands it is in order. What each change does to its blocks is

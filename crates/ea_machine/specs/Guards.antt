@@ -12,7 +12,9 @@ use Rattle.ea_machine.specs.Shared.{Shared}
 use Rattle.ea_machine.specs.declared.stages.Stage.TheVariants.{Collecting, Fetching}
 use Rattle.ea_machine.specs.Actor.{Actor}
 use Rattle.ea_machine.specs.declared.asks.Ask.{Ask}
-use Rattle.ea_machine.specs.Rows.{Row, TakeAll, TakeLink, Look, Push, Link, BusyTry, Settle, Abandon, FetchTry, Create, SendHome, Clear, Give, TakeTry, Nothing}
+use Rattle.ea_machine.specs.Rows.{Row, TakeAll, TakeLink, Look, Push, Link, BusyTry, Settle}
+use Rattle.ea_machine.specs.Rows.{Abandon, FetchTry, Create, SendHome, Clear, Give, TakeTry}
+use Rattle.ea_machine.specs.Rows.{Nothing}
 use Rattle.ea_model.specs.Abandonment.{is_due}
 use Rattle.ea_machine.specs.Placements.{fits}
 use Rattle.ea_machine.specs.Statistics.{employed_multis, leaving_at}

@@ -10,7 +10,9 @@ use Rattle.ea_model.specs.Content.{Content}
 use Rattle.ea_model.specs.Instance.{figures}
 use Rattle.ea_machine.specs.declared.stages.Stage.{Stage}
 use Rattle.ea_machine.specs.declared.stages.Route.{Route}
-use Rattle.ea_machine.specs.declared.stages.Route.TheVariants.{Looking, Trying, Settling, Abandoning, Sending, Clearing, Pushing, Linking}
+use Rattle.ea_machine.specs.declared.stages.Route.TheVariants.{Looking, Trying, Settling}
+use Rattle.ea_machine.specs.declared.stages.Route.TheVariants.{Abandoning, Sending, Clearing}
+use Rattle.ea_machine.specs.declared.stages.Route.TheVariants.{Pushing, Linking}
 use Rattle.ea_machine.specs.Actor.{Actor, Stat, on_route}
 use Rattle.ea_machine.specs.Tasks.{logged}
 

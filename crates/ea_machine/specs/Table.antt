@@ -2,11 +2,15 @@
 use Rattle.std.specs.Prelude.{ℕ, Bool, true, false, List, [], ◌∷◌, Option, None, Some}
 use Rattle.ea_model.specs.Content.{Content, gaps_of, is_nil, largest}
 use Rattle.ea_machine.specs.declared.owners.OwnerWord.{OwnerWord}
-use Rattle.ea_machine.specs.Nodes.{Mark, first_node, link_in, pushed, spot_named, with_name, without_name}
-use Rattle.ea_machine.specs.Owners.{CarrierAt, Absent, Employed, Pooled, Busy, Returning, same_word, word_of}
+use Rattle.ea_machine.specs.Nodes.{Mark, first_node, link_in, pushed, spot_named, with_name}
+use Rattle.ea_machine.specs.Nodes.{without_name}
+use Rattle.ea_machine.specs.Owners.{CarrierAt, Absent, Employed, Pooled, Busy, Returning, same_word}
+use Rattle.ea_machine.specs.Owners.{word_of}
 use Rattle.ea_model.specs.Instance.{owner_of}
 use Rattle.ea_machine.specs.Shared.{Shared, at_place, put}
-use Rattle.ea_machine.specs.Rows.{Answer, Done, Head, Rests, Passes, Saw, Won, Lost, Home, Got, Row, TakeAll, TakeLink, Look, Push, Link, BusyTry, Settle, Abandon, FetchTry, Create, SendHome, Clear, Give, TakeTry, Nothing}
+use Rattle.ea_machine.specs.Rows.{Answer, Done, Head, Rests, Passes, Saw, Won, Lost, Home, Got, Row}
+use Rattle.ea_machine.specs.Rows.{TakeAll, TakeLink, Look, Push, Link, BusyTry, Settle, Abandon}
+use Rattle.ea_machine.specs.Rows.{FetchTry, Create, SendHome, Clear, Give, TakeTry, Nothing}
 
 -- by whether the word is the one seen
 abbrev pub won_if : Bool → CarrierAt → Answer

@@ -1,5 +1,6 @@
 -- Two lists of items by rising key as one.
-use Rattle.std.proofs.Common.{◌≡◌, ◌≢◌, ℕ, ◌+◌, ◌<◌, List, [], ◌∷◌, length, sym, ap, ◌∙◌, subst, refl, inl, inr, arith}
+use Rattle.std.proofs.Common.{◌≡◌, ◌≢◌, ℕ, ◌+◌, ◌<◌, List, [], ◌∷◌, length, sym, ap, ◌∙◌, subst}
+use Rattle.std.proofs.Common.{refl, inl, inr, arith}
 use Rattle.std.specs.Prelude.{Some, None, All, AllPairs, sum_by}
 use Rattle.std.proofs.lemmas.Bool.{cases_lt, cases_eq}
 use Rattle.std.proofs.lemmas.List.Elements.{All-nil, All-cons, All-filter, All-head, All-tail}
@@ -7,7 +8,10 @@ use Rattle.std.proofs.lemmas.List.Kept.{AllPairs-cons}
 use Rattle.std.proofs.lemmas.List.Sums.{sum_by-cons}
 use Rattle.ea_model.specs.Keyed.{item_at, entered, merged, without, changed_at, IsBelow}
 use Rattle.ea_model.proofs.Pairs.{pairs_head, pairs_nil, pairs_tail}
-use Rattle.ea_model.proofs.Rising.{All-entered, change, entered_here, entered_past, item_at-All, item_at-key, item_at-new, item_at-old, item_here, item_past, key_stays, length-entered, none-other, without_here, without_past}
+use Rattle.ea_model.proofs.Rising.{All-entered, change, entered_here, entered_past, item_at-All}
+use Rattle.ea_model.proofs.Rising.{item_at-key, item_at-new, item_at-old, item_here, item_past}
+use Rattle.ea_model.proofs.Rising.{key_stays, length-entered, none-other, without_here}
+use Rattle.ea_model.proofs.Rising.{without_past}
 
 module _ {A : Type 0} (key_of : A → ℕ) where
   entered_only : (a b : A) → key_of a ≢ key_of b

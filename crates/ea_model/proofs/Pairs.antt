@@ -1,7 +1,8 @@
 -- The pairs of a list.
 use Rattle.std.proofs.Common.{suc, zero, List, [], ◌∷◌, ◌++◌, map, arith}
 use Rattle.std.specs.Prelude.{All, AllPairs}
-use Rattle.std.proofs.lemmas.List.Elements.{All-append, All-cons, All-head, All-map, All-nil, All-tail}
+use Rattle.std.proofs.lemmas.List.Elements.{All-append, All-cons, All-head, All-map, All-nil}
+use Rattle.std.proofs.lemmas.List.Elements.{All-tail}
 use Rattle.std.proofs.lemmas.List.Kept.{AllPairs-cons}
 
 pub all_unmap : {A B : Type 0} (P : A → Type 0) (f : B → A) (ys : List B) → All P (map f ys)

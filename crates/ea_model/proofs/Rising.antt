@@ -1,6 +1,9 @@
 -- Items by rising key, with one more and without one.
-use Rattle.std.proofs.Common.{zero, suc, map, ◌≡◌, ◌≢◌, ℕ, ◌+◌, ◌<◌, ◌≤◌, true, false, cond, List, [], ◌∷◌, length, get_or, set, sym, ap, ◌∙◌, subst, refl, inl, inr, arith}
-use Rattle.std.specs.Prelude.{insert, remove, Some, None, option_map, ◌==◌, if◌then◌else◌, All, AllPairs}
+use Rattle.std.proofs.Common.{zero, suc, map, ◌≡◌, ◌≢◌, ℕ, ◌+◌, ◌<◌, ◌≤◌, true, false, cond, List}
+use Rattle.std.proofs.Common.{[], ◌∷◌, length, get_or, set, sym, ap, ◌∙◌, subst, refl, inl, inr}
+use Rattle.std.proofs.Common.{arith}
+use Rattle.std.specs.Prelude.{insert, remove, Some, None, option_map, ◌==◌, if◌then◌else◌, All}
+use Rattle.std.specs.Prelude.{AllPairs}
 use Rattle.std.specs.List.{position_or_len}
 use Rattle.std.proofs.lemmas.Bool.{cases_lt, cases_eq, cond-true, cond-false, cond_both}
 use Rattle.std.proofs.lemmas.List.Elements.{All-nil, All-cons, All-head, All-tail, All-weaker}

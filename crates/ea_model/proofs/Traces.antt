@@ -1,5 +1,6 @@
 -- A trace and what a definition answers for it say the same.
-use Rattle.std.proofs.Common.{◌≡◌, ℕ, ◌+◌, ◌≤◌, true, List, [], ◌∷◌, length, map, refl, sym, ap, subst, ◌∙◌}
+use Rattle.std.proofs.Common.{◌≡◌, ℕ, ◌+◌, ◌≤◌, true, List, [], ◌∷◌, length, map, refl, sym, ap}
+use Rattle.std.proofs.Common.{subst, ◌∙◌}
 use Rattle.std.specs.List.{All, count_by, flat_map, list_any, sum_by}
 use Rattle.ea_model.specs.Lists.{Items}
 use Rattle.ea_model.specs.declared.operations.Op.{Op}
@@ -7,7 +8,9 @@ use Rattle.ea_model.specs.declared.trace.Mode.{Mode}
 use Rattle.ea_model.specs.declared.trace.Mode.TheVariants.{Threads, Schedule, Generated}
 use Rattle.ea_model.specs.declared.trace.Trace.{Trace}
 use Rattle.ea_model.specs.declared.units.TheConstants.{MAX_ALL_TRIES, MAX_OPS}
-use Rattle.ea_model.specs.Trace.{BringsBefore, HasTexts, IsOperation, IsValidMode, IsValidTrace, gives, gives_to, greatest_of, listed, makes, plain, plain_mode, takes, text_at, texts_of, tries_of}
+use Rattle.ea_model.specs.Trace.{BringsBefore, HasTexts, IsOperation, IsValidMode, IsValidTrace}
+use Rattle.ea_model.specs.Trace.{gives, gives_to, greatest_of, listed, makes, plain, plain_mode}
+use Rattle.ea_model.specs.Trace.{takes, text_at, texts_of, tries_of}
 
 same_items : (texts : List (Items Op))
     → map (λ text. text.items) (map (λ text. listed text.items) texts)

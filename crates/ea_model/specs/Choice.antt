@@ -1,5 +1,6 @@
 -- The choice among gaps.
-use Rattle.std.specs.Prelude.{◌≡◌, ℕ, Bool, false, ◌&&◌, ◌||◌, if◌then◌else◌, nat_lt, nat_le, ◌==◌, List, Option, Some, None, filter, fold, All, Contains}
+use Rattle.std.specs.Prelude.{◌≡◌, ℕ, Bool, false, ◌&&◌, ◌||◌, if◌then◌else◌, nat_lt, nat_le, ◌==◌}
+use Rattle.std.specs.Prelude.{List, Option, Some, None, filter, fold, All, Contains}
 use Rattle.ea_model.specs.declared.carriers.Gap.{Gap}
 use Rattle.ea_model.specs.declared.carriers.Inner.{Inner}
 use Rattle.ea_model.specs.declared.carriers.Inner.TheVariants.{Bf, Aobf, Aoff}

@@ -5,7 +5,8 @@ use Rattle.ea_model.specs.declared.units.TheConstants.{HEADER_UNITS, MIN_BLOCK}
 use Rattle.ea_model.specs.Content.{taken_of}
 use Rattle.ea_model.specs.Units.{pages_for}
 use Rattle.ea_model.specs.declared.reallocation.Decision.{Decision}
-use Rattle.ea_model.specs.declared.reallocation.Decision.TheVariants.{Stay, ShrinkHere, GrowHere, ShrinkCarrier, Move}
+use Rattle.ea_model.specs.declared.reallocation.Decision.TheVariants.{Stay, ShrinkHere, GrowHere}
+use Rattle.ea_model.specs.declared.reallocation.Decision.TheVariants.{ShrinkCarrier, Move}
 use Rattle.ea_model.specs.declared.reallocation.Where.{Where}
 use Rattle.ea_model.specs.declared.reallocation.Where.TheVariants.{Foreign, Multi, Single}
 

@@ -1,5 +1,6 @@
 -- Good fit: bins of gaps, of which a search inspects the first few.
-use Rattle.std.specs.Prelude.{ℕ, ◌+◌, ◌^◌, Bool, ◌&&◌, if◌then◌else◌, nat_lt, nat_le, ◌==◌, List, Option, filter, length}
+use Rattle.std.specs.Prelude.{ℕ, ◌+◌, ◌^◌, Bool, ◌&&◌, if◌then◌else◌, nat_lt, nat_le, ◌==◌, List}
+use Rattle.std.specs.Prelude.{Option, filter, length}
 use Rattle.std.specs.List.{range_with_len}
 use Rattle.ea_model.specs.Choice.{first, less}
 

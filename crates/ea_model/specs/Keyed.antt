@@ -1,5 +1,6 @@
 -- Items with a key each, by rising key.
-use Rattle.std.specs.Prelude.{ℕ, ◌<◌, Bool, not, if◌then◌else◌, nat_lt, ◌==◌, List, [], ◌∷◌, Option, filter, find, map}
+use Rattle.std.specs.Prelude.{ℕ, ◌<◌, Bool, not, if◌then◌else◌, nat_lt, ◌==◌, List, [], ◌∷◌, Option}
+use Rattle.std.specs.Prelude.{filter, find, map}
 
 module _ {A : Type 0} (key_of : A → ℕ) where
   -- whether the item has the key

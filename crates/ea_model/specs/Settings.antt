@@ -3,10 +3,15 @@ use Rattle.std.specs.Prelude.{◌≡◌, ℕ, ◌*◌, ◌/◌, ◌<◌, ◌≤�
 use Rattle.ea_model.specs.declared.settings.Letter.{Letter}
 use Rattle.ea_model.specs.declared.settings.Letter.TheVariants.{B, D, E, H, L, R, S, T}
 use Rattle.ea_model.specs.declared.settings.Strategy.{Strategy}
-use Rattle.ea_model.specs.declared.settings.Strategy.TheVariants.{Bf, Aobf, Aoff, AoffCbf, AoffCaobf, AgeffCaoff, AgeffCbf, AgeffCaobf, Gf, Af}
+use Rattle.ea_model.specs.declared.settings.Strategy.TheVariants.{Bf, Aobf, Aoff, AoffCbf}
+use Rattle.ea_model.specs.declared.settings.Strategy.TheVariants.{AoffCaobf, AgeffCaoff, AgeffCbf}
+use Rattle.ea_model.specs.declared.settings.Strategy.TheVariants.{AgeffCaobf, Gf, Af}
 use Rattle.ea_model.specs.declared.settings.Settings.{Settings}
 use Rattle.ea_model.specs.declared.settings.Config.{Config}
-use Rattle.ea_model.specs.declared.units.TheConstants.{KILOBYTE_UNITS, MAX_BYTES, MAX_GROWTH_CARRIERS, MAX_MEGABYTES, MAX_PERCENT, MAX_SCHEDULERS, MAX_SEARCH_DEPTH, MAX_UNITS, MEGABYTE_PAGES}
+use Rattle.ea_model.specs.declared.units.TheConstants.{KILOBYTE_UNITS, MAX_BYTES}
+use Rattle.ea_model.specs.declared.units.TheConstants.{MAX_GROWTH_CARRIERS, MAX_MEGABYTES}
+use Rattle.ea_model.specs.declared.units.TheConstants.{MAX_PERCENT, MAX_SCHEDULERS}
+use Rattle.ea_model.specs.declared.units.TheConstants.{MAX_SEARCH_DEPTH, MAX_UNITS, MEGABYTE_PAGES}
 use Rattle.ea_model.specs.Units.{pages_for}
 
 -- the settings of an allocator

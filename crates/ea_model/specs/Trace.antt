@@ -1,14 +1,18 @@
 -- What a trace holds, and the traces that are valid.
-use Rattle.std.specs.Prelude.{◌≡◌, ℕ, ◌+◌, ◌*◌, ◌≤◌, ◌⊎◌, max, Bool, true, false, ◌&&◌, ◌||◌, ◌==◌, List, [], ◌∷◌, ◌++◌, All, count_by, flat_map, length, map, slice_index_or, sum_by}
+use Rattle.std.specs.Prelude.{◌≡◌, ℕ, ◌+◌, ◌*◌, ◌≤◌, ◌⊎◌, max, Bool, true, false, ◌&&◌, ◌||◌, ◌==◌}
+use Rattle.std.specs.Prelude.{List, [], ◌∷◌, ◌++◌, All, count_by, flat_map, length, map}
+use Rattle.std.specs.Prelude.{slice_index_or, sum_by}
 use Rattle.std.specs.List.{list_any}
 use Rattle.ea_model.specs.Lists.{Items}
 use Rattle.ea_model.specs.declared.operations.Op.{Op}
-use Rattle.ea_model.specs.declared.operations.Op.TheVariants.{Alloc, Free, Realloc, Give, Take, Info, Idle}
+use Rattle.ea_model.specs.declared.operations.Op.TheVariants.{Alloc, Free, Realloc, Give, Take}
+use Rattle.ea_model.specs.declared.operations.Op.TheVariants.{Info, Idle}
 use Rattle.ea_model.specs.declared.trace.Turns.{Turns}
 use Rattle.ea_model.specs.declared.trace.Mode.{Mode}
 use Rattle.ea_model.specs.declared.trace.Mode.TheVariants.{Threads, Schedule, Generated}
 use Rattle.ea_model.specs.declared.trace.Trace.{Trace}
-use Rattle.ea_model.specs.declared.units.TheConstants.{MAX_ALL_TRIES, MAX_BYTES, MAX_NAME, MAX_OPS, MAX_SEED, MAX_TRIES, MAX_TURNS}
+use Rattle.ea_model.specs.declared.units.TheConstants.{MAX_ALL_TRIES, MAX_BYTES, MAX_NAME, MAX_OPS}
+use Rattle.ea_model.specs.declared.units.TheConstants.{MAX_SEED, MAX_TRIES, MAX_TURNS}
 
 -- a list as a definition answers it: definitions speak of no room for more
 abbrev pub listed : {A : Type 0} → List A → Items A

@@ -1,5 +1,6 @@
 //! Items with a key each, which stand by rising key.
-ghost use Rattle.std.specs.Prelude.{◌≡◌, ℕ, ◌+◌, ◌<◌, ◌≤◌, AllPairs, Some, IsSome, OnOk, OnErr, get_or, length, option_map, vec_len, vec_capacity};
+ghost use Rattle.std.specs.Prelude.{◌≡◌, ℕ, ◌+◌, ◌<◌, ◌≤◌, AllPairs, Some, IsSome, OnOk, OnErr};
+ghost use Rattle.std.specs.Prelude.{get_or, length, option_map, vec_len, vec_capacity};
 ghost use Rattle.std.specs.List.{position_or_len};
 ghost use Rattle.ea_model.specs.Keyed.{has_key, is_after, item_at, entered, without, IsBelow};
 

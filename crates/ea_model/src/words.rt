@@ -1,5 +1,6 @@
 //! Lines, words and numbers of a text.
-ghost use Rattle.std.specs.Prelude.{◌≡◌, ◌+◌, ◌<◌, take, false, ◌≤◌, ◌∷◌, [], length, IfSome, fold, if◌then◌else◌, Some, None};
+ghost use Rattle.std.specs.Prelude.{◌≡◌, ◌+◌, ◌<◌, take, false, ◌≤◌, ◌∷◌, [], length, IfSome, fold};
+ghost use Rattle.std.specs.Prelude.{if◌then◌else◌, Some, None};
 ghost use Rattle.std.specs.List.{slice_split, list_all, list_any};
 ghost use Rattle.std.specs.Char.{is_ascii_digit};
 ghost use Rattle.std.specs.Option.{option_map_or};

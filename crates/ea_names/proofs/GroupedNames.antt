@@ -1,12 +1,16 @@
 -- The names of groups are those of their places, and what is done at one place is done to its name.
-use Rattle.std.proofs.Common.{zero, suc, ◌≡◌, ◌≢◌, ℕ, ◌+◌, ◌*◌, ◌<◌, ◌≤◌, Bool, true, false, List, [], ◌∷◌, ◌++◌, Option, Some, None, get_or, length, map, replicate, set, Vec, Global, sym, ap, ◌∙◌, refl, subst, inl, inr, arith}
+use Rattle.std.proofs.Common.{zero, suc, ◌≡◌, ◌≢◌, ℕ, ◌+◌, ◌*◌, ◌<◌, ◌≤◌, Bool, true, false, List}
+use Rattle.std.proofs.Common.{[], ◌∷◌, ◌++◌, Option, Some, None, get_or, length, map, replicate}
+use Rattle.std.proofs.Common.{set, Vec, Global, sym, ap, ◌∙◌, refl, subst, inl, inr, arith}
 use Rattle.std.specs.Prelude.{◌==◌, All, option_map, sum_by}
 use Rattle.std.specs.Option.{option_map_or}
 use Rattle.std.proofs.lemmas.Bool.{cases_eq, cases_lt, eqb-true}
 use Rattle.std.specs.Vec.{vec_len, with_item}
-use Rattle.std.proofs.lemmas.List.{get_or-map, get_or-set_same, length-map, length-replicate, length-set, map-set, set-get_or}
+use Rattle.std.proofs.lemmas.List.{get_or-map, get_or-set_same, length-map, length-replicate}
+use Rattle.std.proofs.lemmas.List.{length-set, map-set, set-get_or}
 use Rattle.std.proofs.Math.Seq.{map-set_same}
-use Rattle.std.proofs.lemmas.List.Elements.{All-nil, All-cons, All-append, All-head, All-set, All-tail, All-weaker, filter-append}
+use Rattle.std.proofs.lemmas.List.Elements.{All-nil, All-cons, All-append, All-head, All-set}
+use Rattle.std.proofs.lemmas.List.Elements.{All-tail, All-weaker, filter-append}
 use Rattle.std.proofs.lemmas.List.Sums.{sum_by-append, sum_by-cons}
 use Rattle.ea_model.specs.declared.carriers.Spot.{Spot}
 use Rattle.ea_model.proofs.Rising.{entered_here, entered_past, item_here, item_past, without_none}
@@ -14,7 +18,8 @@ use Rattle.ea_machine.specs.declared.nodes.Named.{Named}
 use Rattle.ea_machine.specs.Nodes.{named_at, spot_named, with_name, without_name, name_of}
 use Rattle.ea_names.specs.Holding.{IsGroup, has_places, held_from, held_in, places_in}
 use Rattle.ea_names.specs.declared.groups.TheConstants.{GROUP}
-use Rattle.ea_names.proofs.NamesTable.{entered-first, held-after, held-none, hold-held, let-go-held, missing, spot-held, sum-held}
+use Rattle.ea_names.proofs.NamesTable.{entered-first, held-after, held-none, hold-held, let-go-held}
+use Rattle.ea_names.proofs.NamesTable.{missing, spot-held, sum-held}
 
 abbrev Group : Type 0
 Group = List (Option Spot)

@@ -1,11 +1,13 @@
 -- A table of names stands for the list of the held ones.
-use Rattle.std.proofs.Common.{zero, suc, ◌≡◌, ◌≢◌, ℕ, ◌+◌, ◌<◌, ◌≤◌, List, [], ◌∷◌, Option, Some, None, length, get_or, set, replicate, sym, ap, ◌∙◌, refl, arith}
+use Rattle.std.proofs.Common.{zero, suc, ◌≡◌, ◌≢◌, ℕ, ◌+◌, ◌<◌, ◌≤◌, List, [], ◌∷◌, Option, Some}
+use Rattle.std.proofs.Common.{None, length, get_or, set, replicate, sym, ap, ◌∙◌, refl, arith}
 use Rattle.std.specs.Prelude.{All, option_map, sum_by}
 use Rattle.std.specs.Option.{option_map_or}
 use Rattle.std.proofs.lemmas.List.Elements.{All-nil, All-cons, All-head, All-weaker}
 use Rattle.std.proofs.lemmas.List.Sums.{sum_by-cons}
 use Rattle.ea_model.specs.declared.carriers.Spot.{Spot}
-use Rattle.ea_model.proofs.Rising.{entered_here, entered_past, item_at-gone, item_here, item_past, without_here, without_none, without_past}
+use Rattle.ea_model.proofs.Rising.{entered_here, entered_past, item_at-gone, item_here, item_past}
+use Rattle.ea_model.proofs.Rising.{without_here, without_none, without_past}
 use Rattle.ea_machine.specs.declared.nodes.Named.{Named}
 use Rattle.ea_machine.specs.Nodes.{named_at, spot_named, with_name, without_name, name_of}
 use Rattle.ea_names.specs.Holding.{held_from}

@@ -1,5 +1,6 @@
 //! The table.
-ghost use Rattle.std.specs.Prelude.{◌≡◌, ℕ, ◌+◌, ◌/◌, ◌^◌, ◌≤◌, true, false, [], None, All, IfOk, OnOk, length, map, replicate, set, sum_by};
+ghost use Rattle.std.specs.Prelude.{◌≡◌, ℕ, ◌+◌, ◌/◌, ◌^◌, ◌≤◌, true, false, [], None, All, IfOk};
+ghost use Rattle.std.specs.Prelude.{OnOk, length, map, replicate, set, sum_by};
 ghost use Rattle.std.specs.Option.{option_map_or};
 ghost use Rattle.ea_machine.specs.Nodes.{spot_named, with_name, without_name};
 ghost use Rattle.ea_names.specs.Holding.{IsGroup, IsWhole, has_place, held_in, places_in};

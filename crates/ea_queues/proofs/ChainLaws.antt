@@ -1,6 +1,9 @@
 -- Chains of nodes, and how they change.
-use Rattle.ea_machine.proofs.AlikeNodes.{alike-append, alike-itself, link-count, link-none, link-there, linked, one-none}
-use Rattle.std.proofs.Common.{◌≡◌, ℕ, zero, suc, ◌+◌, ◌<◌, ◌≤◌, Bool, true, false, List, [], ◌∷◌, ◌++◌, Option, None, Some, length, get_or, map, set, take, drop, replicate, refl, sym, ap, subst, ◌∙◌, arith}
+use Rattle.ea_machine.proofs.AlikeNodes.{alike-append, alike-itself, link-count, link-none}
+use Rattle.ea_machine.proofs.AlikeNodes.{link-there, linked, one-none}
+use Rattle.std.proofs.Common.{◌≡◌, ℕ, zero, suc, ◌+◌, ◌<◌, ◌≤◌, Bool, true, false, List, [], ◌∷◌}
+use Rattle.std.proofs.Common.{◌++◌, Option, None, Some, length, get_or, map, set, take, drop}
+use Rattle.std.proofs.Common.{replicate, refl, sym, ap, subst, ◌∙◌, arith}
 use Rattle.std.specs.Prelude.{Contains}
 use Rattle.std.proofs.lemmas.List.{set-get_or}
 use Rattle.ea_machine.specs.declared.nodes.Node.{Node}
@@ -8,7 +11,8 @@ use Rattle.ea_machine.specs.Nodes.{Mark, first_node, link_in, pushed}
 use Rattle.ea_machine.specs.Rows.{Passes, Rests}
 use Rattle.ea_machine.specs.Table.{link_answer, link_read, rest_after, rest_by}
 use Rattle.ea_machine.specs.Alike.{alike_in, are_alike}
-use Rattle.ea_queues.specs.Chains.{alike_among, AreChains, chain, count_of, IsChain, marks_of, number_of}
+use Rattle.ea_queues.specs.Chains.{alike_among, AreChains, chain, count_of, IsChain, marks_of}
+use Rattle.ea_queues.specs.Chains.{number_of}
 use Rattle.ea_queues.specs.declared.cells.Cell.{Cell}
 use Rattle.ea_queues.proofs.AlikeNodes.{room}
 use Rattle.ea_queues.proofs.ListSums.{sum-set}

@@ -1,10 +1,13 @@
 -- What the tables of queues stand for after a row.
 use Rattle.ea_machine.proofs.AlikeNodes.{alike-equal, alike-itself, one-true}
-use Rattle.std.proofs.Common.{◌≡◌, ◌⊎◌, ℕ, zero, suc, ◌+◌, ◌*◌, ◌<◌, ◌≤◌, Bool, true, false, if◌then◌else◌, List, [], ◌∷◌, Option, None, Some, length, get_or, set, replicate, refl, sym, ap, subst, ◌∙◌, inl, inr, arith}
+use Rattle.std.proofs.Common.{◌≡◌, ◌⊎◌, ℕ, zero, suc, ◌+◌, ◌*◌, ◌<◌, ◌≤◌, Bool, true, false}
+use Rattle.std.proofs.Common.{if◌then◌else◌, List, [], ◌∷◌, Option, None, Some, length, get_or, set}
+use Rattle.std.proofs.Common.{replicate, refl, sym, ap, subst, ◌∙◌, inl, inr, arith}
 use Rattle.std.specs.Prelude.{Contains, ◌==◌}
 use Rattle.std.proofs.Math.Path.{fun_ext}
 use Rattle.std.proofs.lemmas.Bool.{cases_eq, cond-true, cond-false}
-use Rattle.std.proofs.lemmas.List.{get_or-set_other, get_or-set_same, get_or_read, length-replicate, length-set}
+use Rattle.std.proofs.lemmas.List.{get_or-set_other, get_or-set_same, get_or_read, length-replicate}
+use Rattle.std.proofs.lemmas.List.{length-set}
 use Rattle.ea_model.specs.declared.units.TheConstants.{NUMBERS}
 use Rattle.ea_machine.specs.declared.nodes.Node.{Node}
 use Rattle.ea_machine.specs.Nodes.{Mark, first_node, link_in, pushed}
@@ -13,10 +16,15 @@ use Rattle.ea_machine.specs.Shared.{put}
 use Rattle.ea_machine.specs.Sums.{one_if, sum_over}
 use Rattle.ea_machine.specs.Table.{link_answer, rest_after}
 use Rattle.ea_machine.specs.Alike.{IsNode, alike_in, are_alike}
-use Rattle.ea_queues.specs.Chains.{alike_among, AreChains, cell_at, count_of, HasSameCounts, IsChain, marks_of, Queueing, queueing_of, number_of, StandFor, standing_in}
+use Rattle.ea_queues.specs.Chains.{alike_among, AreChains, cell_at, count_of, HasSameCounts}
+use Rattle.ea_queues.specs.Chains.{IsChain, marks_of, Queueing, queueing_of, number_of, StandFor}
+use Rattle.ea_queues.specs.Chains.{standing_in}
 use Rattle.ea_queues.specs.declared.cells.Cell.{Cell}
 use Rattle.ea_queues.proofs.AlikeNodes.{alike-outside, number-in}
-use Rattle.ea_queues.proofs.ChainLaws.{chain-at, chain-first, chain-replaced, chain-set, chain-stays, chains-are, chains-length, chains-none, chains-stay, passes-there, rests-there, side-linked, side-one, side-other, side-sum}
+use Rattle.ea_queues.proofs.ChainLaws.{chain-at, chain-first, chain-replaced, chain-set}
+use Rattle.ea_queues.proofs.ChainLaws.{chain-stays, chains-are, chains-length, chains-none}
+use Rattle.ea_queues.proofs.ChainLaws.{chains-stay, passes-there, rests-there, side-linked}
+use Rattle.ea_queues.proofs.ChainLaws.{side-one, side-other, side-sum}
 use Rattle.ea_queues.proofs.ListSums.{sum-same, sum-set}
 
 -- the nodes of an instance are others

@@ -1,6 +1,7 @@
 -- A scheduler in place of another, between two rows: with names, nodes and contents that balance
 -- alike, all that every moment keeps is kept.
-use Rattle.std.proofs.Common.{◌≡◌, ℕ, ◌+◌, ◌<◌, ◌≤◌, Bool, true, false, refl, sym, ap, ◌∙◌, subst, inl, inr, arith}
+use Rattle.std.proofs.Common.{◌≡◌, ℕ, ◌+◌, ◌<◌, ◌≤◌, Bool, true, false, refl, sym, ap, ◌∙◌, subst}
+use Rattle.std.proofs.Common.{inl, inr, arith}
 use Rattle.std.proofs.Math.Path.{fun_ext}
 use Rattle.std.proofs.lemmas.Bool.{cases_eq}
 use Rattle.ea_model.specs.declared.carriers.Spot.{Spot}
@@ -14,7 +15,8 @@ use Rattle.ea_machine.specs.Shared.{Shared, put}
 use Rattle.ea_machine.specs.State.{State}
 use Rattle.ea_machine.specs.Sums.{total_at}
 use Rattle.ea_sound.specs.Moments.{with_actor}
-use Rattle.ea_sound.specs.Rule.{Kept, Placed, blocks_of, names_of, numbers_of, of_own, own_numbers, placed_by}
+use Rattle.ea_sound.specs.Rule.{Kept, Placed, blocks_of, names_of, numbers_of, of_own, own_numbers}
+use Rattle.ea_sound.specs.Rule.{placed_by}
 use Rattle.ea_sound.proofs.NameRows.{names_moved}
 use Rattle.ea_sound.proofs.Numbered.{scheduler-seat}
 use Rattle.ea_sound.proofs.PlaceRows.{by_owner}

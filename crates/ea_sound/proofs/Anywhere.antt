@@ -1,15 +1,21 @@
 -- What holds of each content that is laid out, belongs to an owner and counts: it holds of all.
-use Rattle.std.proofs.Common.{◌≡◌, ◌≢◌, ℕ, ◌+◌, ◌<◌, ◌∙◌, List, Bool, true, false, refl, sym, ap, subst, inl, inr, arith, get_or}
+use Rattle.std.proofs.Common.{◌≡◌, ◌≢◌, ℕ, ◌+◌, ◌<◌, ◌∙◌, List, Bool, true, false, refl, sym, ap}
+use Rattle.std.proofs.Common.{subst, inl, inr, arith, get_or}
 use Rattle.std.specs.Prelude.{All}
 use Rattle.std.proofs.lemmas.List.Elements.{All-nil, All-weaker}
 use Rattle.ea_model.specs.Content.{Content}
 use Rattle.ea_laws.specs.Kept.{IsLaidOut, IsLaidOutAlone}
 use Rattle.ea_machine.specs.declared.stages.Stage.{Stage}
-use Rattle.ea_machine.specs.declared.stages.Stage.TheVariants.{Begin, Routed, Collecting, Searching, Fetching, Creating, Giving, Taking, Ended, Ready}
+use Rattle.ea_machine.specs.declared.stages.Stage.TheVariants.{Begin, Routed, Collecting, Searching}
+use Rattle.ea_machine.specs.declared.stages.Stage.TheVariants.{Fetching, Creating, Giving, Taking}
+use Rattle.ea_machine.specs.declared.stages.Stage.TheVariants.{Ended, Ready}
 use Rattle.ea_machine.specs.declared.stages.Route.{Route}
-use Rattle.ea_machine.specs.declared.stages.Route.TheVariants.{Looking, Trying, Settling, Abandoning, Sending, Clearing, Pushing, Linking}
+use Rattle.ea_machine.specs.declared.stages.Route.TheVariants.{Looking, Trying, Settling}
+use Rattle.ea_machine.specs.declared.stages.Route.TheVariants.{Abandoning, Sending, Clearing}
+use Rattle.ea_machine.specs.declared.stages.Route.TheVariants.{Pushing, Linking}
 use Rattle.ea_machine.specs.Actor.{Actor}
-use Rattle.ea_sound.specs.Contents.{AtHome, Everywhere, InHand, OnRoute, hand_sum, home_sum, route_sum, seats}
+use Rattle.ea_sound.specs.Contents.{AtHome, Everywhere, InHand, OnRoute, hand_sum, home_sum}
+use Rattle.ea_sound.specs.Contents.{route_sum, seats}
 use Rattle.ea_machine.specs.Owners.{CarrierAt, Absent, Employed, Pooled, Busy, Returning}
 use Rattle.ea_sound.specs.Ranges.{IsLaidOutAsKind}
 use Rattle.ea_machine.specs.Setup.{Setup, is_scheduler}
@@ -17,7 +23,8 @@ use Rattle.ea_machine.specs.State.{State}
 use Rattle.ea_machine.specs.Sums.{sum_over}
 use Rattle.ea_sound.specs.Rule.{Belongs, Kept}
 use Rattle.ea_sound.proofs.ActorWeights.{hand-none}
-use Rattle.ea_sound.proofs.Counted.{Counts, CountsIn, at_actor, counts-all, counts-home, counts-more, counts-seat, list_sum}
+use Rattle.ea_sound.proofs.Counted.{Counts, CountsIn, at_actor, counts-all, counts-home}
+use Rattle.ea_sound.proofs.Counted.{counts-more, counts-seat, list_sum}
 use Rattle.ea_sound.proofs.Employers.{there-slot}
 use Rattle.ea_sound.proofs.Numbered.{scheduler-seat}
 use Rattle.ea_sound.proofs.Weights.{sum-none}

@@ -8,7 +8,8 @@ use Rattle.ea_model.specs.declared.operations.Op.{Op}
 use Rattle.ea_model.specs.declared.settings.Config.{Config}
 use Rattle.ea_model.specs.declared.trace.Trace.{Trace}
 use Rattle.ea_model.specs.Settings.{IsValidConfig}
-use Rattle.ea_model.specs.Trace.{IsOperation, IsValidTrace, greatest_in, greatest_of, operations_of, texts_of}
+use Rattle.ea_model.specs.Trace.{IsOperation, IsValidTrace, greatest_in, greatest_of, operations_of}
+use Rattle.ea_model.specs.Trace.{texts_of}
 use Rattle.ea_model.proofs.Options.{same-some}
 use Rattle.ea_model.proofs.Rising.{item_at-key}
 use Rattle.ea_machine.specs.declared.nodes.Named.{Named}

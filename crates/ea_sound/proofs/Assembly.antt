@@ -16,7 +16,9 @@ use Rattle.ea_machine.specs.declared.owners.OwnerWord.{OwnerWord}
 use Rattle.ea_machine.specs.declared.owners.OwnerWord.TheVariants as word
 use Rattle.ea_machine.specs.declared.stages.Stage.TheVariants.{Begin, Routed, Collecting, Ready}
 use Rattle.ea_machine.specs.declared.stages.Route.{Route}
-use Rattle.ea_machine.specs.declared.stages.Route.TheVariants.{Looking, Trying, Settling, Abandoning, Sending, Clearing, Pushing, Linking}
+use Rattle.ea_machine.specs.declared.stages.Route.TheVariants.{Looking, Trying, Settling}
+use Rattle.ea_machine.specs.declared.stages.Route.TheVariants.{Abandoning, Sending, Clearing}
+use Rattle.ea_machine.specs.declared.stages.Route.TheVariants.{Pushing, Linking}
 use Rattle.ea_machine.specs.Actor.{Actor}
 use Rattle.ea_machine.specs.declared.tasks.Task.{Task}
 use Rattle.ea_machine.specs.declared.tasks.Why.{Why}
@@ -25,12 +27,17 @@ use Rattle.ea_machine.specs.declared.tasks.Gone.{Gone}
 use Rattle.ea_machine.specs.declared.tasks.Gone.TheVariants.{Open, Here as HereGone, Queued}
 use Rattle.ea_machine.specs.Nodes.{block_node, named_at}
 use Rattle.ea_machine.specs.declared.nodes.Named.{Named}
-use Rattle.ea_machine.specs.Releases.{Turned, dismissed, disowned, employed_by, first_gone, forwarded, after_release, after_release_by, leaving_by, lightened, looked, looked_at, owned_by, pooled_by, release_here, route_of, routed, sent_to, settled, abandoned_if, tried, turned}
+use Rattle.ea_machine.specs.Releases.{Turned, dismissed, disowned, employed_by, first_gone}
+use Rattle.ea_machine.specs.Releases.{forwarded, after_release, after_release_by, leaving_by}
+use Rattle.ea_machine.specs.Releases.{lightened, looked, looked_at, owned_by, pooled_by}
+use Rattle.ea_machine.specs.Releases.{release_here, route_of, routed, sent_to, settled}
+use Rattle.ea_machine.specs.Releases.{abandoned_if, tried, turned}
 use Rattle.ea_machine.specs.Rows.{Answer, Done, Head, Rests, Passes, Saw, Won, Lost, Home, Got}
 use Rattle.ea_machine.specs.Setup.{Setup, migration}
 use Rattle.ea_machine.specs.Shared.{Shared}
 use Rattle.ea_machine.specs.State.{State}
-use Rattle.ea_machine.specs.Tasks.{carried, carried_by, entry_of, hands_over, let_go, logged, task_over}
+use Rattle.ea_machine.specs.Tasks.{carried, carried_by, entry_of, hands_over, let_go, logged}
+use Rattle.ea_machine.specs.Tasks.{task_over}
 use Rattle.ea_machine.specs.Walks.{worked_off}
 use Rattle.ea_sound.specs.Here.{Here}
 use Rattle.ea_sound.specs.Leaves.{LeavesRoute, LeavesSettled, Shows}

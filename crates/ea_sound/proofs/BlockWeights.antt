@@ -4,7 +4,8 @@ use Rattle.std.specs.Prelude.{Some, All, AllPairs}
 use Rattle.ea_model.specs.declared.carriers.BlockAt.{BlockAt}
 use Rattle.ea_model.specs.declared.carriers.Spot.{Spot}
 use Rattle.ea_model.specs.declared.reallocation.Decision.{Decision}
-use Rattle.ea_model.specs.declared.reallocation.Decision.TheVariants.{Stay, ShrinkHere, GrowHere, ShrinkCarrier, Move}
+use Rattle.ea_model.specs.declared.reallocation.Decision.TheVariants.{Stay, ShrinkHere, GrowHere}
+use Rattle.ea_model.specs.declared.reallocation.Decision.TheVariants.{ShrinkCarrier, Move}
 use Rattle.ea_model.specs.Content.{Content, block_at, placed, released, resized}
 use Rattle.ea_model.specs.Instance.{Instance, content_of, employed}
 use Rattle.ea_model.specs.Keyed.{IsBelow}
@@ -17,7 +18,8 @@ use Rattle.ea_sound.specs.Names.{of_block, of_content, only_at}
 use Rattle.ea_sound.specs.Blocks.{spot_at, employed_sum}
 use Rattle.ea_sound.specs.Orderly.{IsOrderly}
 use Rattle.ea_sound.proofs.EmployedWeights.{employed_sum-employed}
-use Rattle.ea_sound.proofs.KeyedWeights.{item-hit, times, times-once, sum-changed, sum-entered, sum-without}
+use Rattle.ea_sound.proofs.KeyedWeights.{item-hit, times, times-once, sum-changed, sum-entered}
+use Rattle.ea_sound.proofs.KeyedWeights.{sum-without}
 use Rattle.ea_sound.proofs.Laid.{alone-rising, laid-rising}
 use Rattle.ea_sound.proofs.Resizing.{content_after}
 use Rattle.ea_sound.proofs.Weights.{sum-zero}

@@ -3,7 +3,8 @@
 -- that is to be linked stands unlinked; a name that is to be given isn't given, and one that is to
 -- be taken isn't held; and the operation that a scheduler is in the middle of is the first one
 -- left.
-use Rattle.std.proofs.Common.{◌≡◌, ◌≢◌, ◌⊎◌, ℕ, ◌<◌, true, List, [], ◌∷◌, refl, sym, ap, ◌∙◌, subst, inl, inr, arith}
+use Rattle.std.proofs.Common.{◌≡◌, ◌≢◌, ◌⊎◌, ℕ, ◌<◌, true, List, [], ◌∷◌, refl, sym, ap, ◌∙◌, subst}
+use Rattle.std.proofs.Common.{inl, inr, arith}
 use Rattle.std.specs.Prelude.{◌==◌, All, Contains, Option, None, Some, option_map}
 use Rattle.std.proofs.lemmas.Bool.{cases_Bool}
 use Rattle.std.proofs.lemmas.List.Elements.{All-contains, All-head, All-nil, All-weaker}
@@ -50,7 +51,8 @@ use Rattle.ea_sound.proofs.Numbered.{scheduler-seat}
 use Rattle.ea_sound.proofs.RowLeaves.{no_first}
 use Rattle.ea_sound.proofs.SoundRanges.{number-scheduler}
 use Rattle.ea_sound.proofs.SpotRanges.{standing-spot}
-use Rattle.ea_sound.proofs.StandingNodes.{IsAt, all-parts, at-name, at-number, pushing-at, queue-at, rest-at}
+use Rattle.ea_sound.proofs.StandingNodes.{IsAt, all-parts, at-name, at-number, pushing-at, queue-at}
+use Rattle.ea_sound.proofs.StandingNodes.{rest-at}
 use Rattle.ea_sound.proofs.Totals.{total-part}
 use Rattle.ea_sound.proofs.TraceNames.{IsNameOf, name-range}
 use Rattle.ea_sound.proofs.Weights.{one-itself}

@@ -3,7 +3,8 @@
 -- abandoned, sent home or cleared is employed, one that is collected has returned; the block in the
 -- hand is in a carrier that its scheduler employs, and in one that it makes busy; and a carrier
 -- that it fetches fits into its instance.
-use Rattle.std.proofs.Common.{◌≡◌, ◌≢◌, ℕ, ◌<◌, true, false, refl, sym, ap, ◌∙◌, subst, inl, inr, arith}
+use Rattle.std.proofs.Common.{◌≡◌, ◌≢◌, ℕ, ◌<◌, true, false, refl, sym, ap, ◌∙◌, subst, inl, inr}
+use Rattle.std.proofs.Common.{arith}
 use Rattle.std.specs.Prelude.{All, None, Some}
 use Rattle.ea_model.specs.declared.carriers.BlockAt.{BlockAt}
 use Rattle.ea_model.specs.declared.carriers.CarrierPlan.{CarrierPlan}
@@ -27,7 +28,8 @@ use Rattle.ea_machine.specs.declared.owners.OwnerWord.TheVariants as word
 use Rattle.ea_machine.specs.declared.tasks.Gone.{Gone}
 use Rattle.ea_machine.specs.declared.tasks.Why.{Why}
 use Rattle.ea_machine.specs.declared.stages.Stage.{Stage}
-use Rattle.ea_machine.specs.declared.stages.Stage.TheVariants.{Collecting, Creating, Fetching, Routed, Searching}
+use Rattle.ea_machine.specs.declared.stages.Stage.TheVariants.{Collecting, Creating, Fetching}
+use Rattle.ea_machine.specs.declared.stages.Stage.TheVariants.{Routed, Searching}
 use Rattle.ea_machine.specs.declared.stages.Route.{Route}
 use Rattle.ea_machine.specs.declared.stages.Route.TheVariants.{Clearing, Looking, Settling, Trying}
 use Rattle.ea_machine.specs.Actor.{Actor}
@@ -57,7 +59,8 @@ use Rattle.ea_sound.proofs.Hits.{HasBlock, hit}
 use Rattle.ea_sound.proofs.Homes.{pooled-belongs, pooled-hit, pooled-laid, pooled-number, sum-there}
 use Rattle.ea_sound.proofs.NodeSeats.{collecting-home, returning-on}
 use Rattle.ea_sound.proofs.Numbered.{scheduler-seat}
-use Rattle.ea_sound.proofs.OwnEntries.{IsSomewhere, not_here-none, owner-has, owner-scheduler, somewhere-hand, somewhere-home, somewhere-returning, this}
+use Rattle.ea_sound.proofs.OwnEntries.{IsSomewhere, not_here-none, owner-has, owner-scheduler}
+use Rattle.ea_sound.proofs.OwnEntries.{somewhere-hand, somewhere-home, somewhere-returning, this}
 use Rattle.ea_sound.specs.Leaves.{InOperation, InWalk}
 use Rattle.ea_sound.specs.Steady.{AreSteady, IsLargest, IsShown, IsSteadyStage}
 use Rattle.ea_sound.proofs.Assembly.{Closed, Holds, turned-holds}

@@ -1,6 +1,7 @@
 -- Moves of a scheduler with a carrier: a block of it is released, and it leaves the instance or its
 -- owner.
-use Rattle.std.proofs.Common.{◌≡◌, ℕ, ◌+◌, ◌*◌, ◌/◌, List, [], ◌∷◌, true, false, refl, sym, ap, ◌∙◌, subst, inl, inr, arith}
+use Rattle.std.proofs.Common.{◌≡◌, ℕ, ◌+◌, ◌*◌, ◌/◌, List, [], ◌∷◌, true, false, refl, sym, ap, ◌∙◌}
+use Rattle.std.proofs.Common.{subst, inl, inr, arith}
 use Rattle.std.proofs.lemmas.Bool.{cases_eq, true≢false}
 use Rattle.std.proofs.lemmas.List.Elements.{All-filter, All-weaker}
 use Rattle.std.specs.Prelude.{Some, None, All}
@@ -10,10 +11,12 @@ use Rattle.ea_model.specs.declared.carriers.OwnCarrier.{OwnCarrier}
 use Rattle.ea_model.specs.declared.carriers.Spot.{Spot}
 use Rattle.ea_model.specs.Content.{Content, block_at, released}
 use Rattle.ea_model.specs.Keyed.{without}
-use Rattle.ea_model.specs.Instance.{Instance, changed, content_of, employed, own_at, own_of, releasing_at, without_own, owner_of}
+use Rattle.ea_model.specs.Instance.{Instance, changed, content_of, employed, own_at, own_of}
+use Rattle.ea_model.specs.Instance.{releasing_at, without_own, owner_of}
 use Rattle.ea_model.proofs.Options.{same-some}
 use Rattle.ea_model.proofs.Rising.{item_at-All, item_at-key, item_past, without_here}
-use Rattle.ea_laws.specs.Kept.{number_of, own_number, HasOneBlock, IsLaidOut, IsLaidOutAlone, IsRising}
+use Rattle.ea_laws.specs.Kept.{number_of, own_number, HasOneBlock, IsLaidOut, IsLaidOutAlone}
+use Rattle.ea_laws.specs.Kept.{IsRising}
 use Rattle.ea_laws.specs.Kinds.{is_shared}
 use Rattle.ea_laws.proofs.BlockLists.{offset_of}
 use Rattle.ea_laws.proofs.Apart.{changed-All}
@@ -45,10 +48,12 @@ use Rattle.ea_sound.proofs.EmployedWeights.{employed_sum-changing, employed_sum-
 use Rattle.ea_sound.proofs.KeyedWeights.{sum-without, times-once}
 use Rattle.ea_sound.proofs.Hits.{HasBlock, employed-holds, hit}
 use Rattle.ea_sound.proofs.Numbered.{scheduler-seat}
-use Rattle.ea_sound.proofs.Orderly.{changing-found, disowning-IsOrderly, dismissing-IsOrderly, releasing-IsOrderly}
+use Rattle.ea_sound.proofs.Orderly.{changing-found, disowning-IsOrderly, dismissing-IsOrderly}
+use Rattle.ea_sound.proofs.Orderly.{releasing-IsOrderly}
 use Rattle.ea_sound.proofs.RangeRows.{LieWell}
 use Rattle.ea_sound.proofs.OwnEntries.{owner-has, somewhere-hand, this}
-use Rattle.ea_sound.proofs.StillMoves.{Fewer, Keeps, clear-goes, goes-alike, hand-goes, log-goes, push-goes, send-goes, try-goes, why-goes}
+use Rattle.ea_sound.proofs.StillMoves.{Fewer, Keeps, clear-goes, goes-alike, hand-goes, log-goes}
+use Rattle.ea_sound.proofs.StillMoves.{push-goes, send-goes, try-goes, why-goes}
 use Rattle.ea_sound.proofs.Totals.{put-here}
 
 -- a content that is found is laid out, as its kind is

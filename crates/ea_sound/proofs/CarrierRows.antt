@@ -1,5 +1,6 @@
 -- Rows with which a scheduler comes to employ a carrier: fetch-try and create.
-use Rattle.std.proofs.Common.{◌≡◌, ℕ, ◌+◌, ◌*◌, ◌%◌, ◌<◌, ◌≤◌, true, false, [], refl, sym, ap, ◌∙◌, subst, inl, inr, arith}
+use Rattle.std.proofs.Common.{◌≡◌, ℕ, ◌+◌, ◌*◌, ◌%◌, ◌<◌, ◌≤◌, true, false, [], refl, sym, ap, ◌∙◌}
+use Rattle.std.proofs.Common.{subst, inl, inr, arith}
 use Rattle.std.specs.Prelude.{None, Ok, ◌==◌, All}
 use Rattle.std.proofs.lemmas.Bool.{cases_eq}
 use Rattle.ea_model.specs.declared.carriers.CarrierPlan.{CarrierPlan}
@@ -7,7 +8,9 @@ use Rattle.ea_model.specs.declared.carriers.Kind.TheVariants.{Multi, Single}
 use Rattle.ea_model.specs.declared.carriers.OwnCarrier.{OwnCarrier}
 use Rattle.ea_model.specs.declared.carriers.Spot.{Spot}
 use Rattle.ea_model.specs.Content.{Content}
-use Rattle.ea_model.specs.Instance.{content_of, created_content, created_single, creating, creating_single, employed, own_at, plan, planned_own, single_place, owner_of}
+use Rattle.ea_model.specs.Instance.{content_of, created_content, created_single, creating}
+use Rattle.ea_model.specs.Instance.{creating_single, employed, own_at, plan, planned_own}
+use Rattle.ea_model.specs.Instance.{single_place, owner_of}
 use Rattle.ea_model.proofs.Rising.{All-entered}
 use Rattle.ea_laws.specs.Kept.{number_of, own_number}
 use Rattle.ea_machine.specs.declared.nodes.Node.{Node}
@@ -27,11 +30,15 @@ use Rattle.ea_machine.specs.State.{State}
 use Rattle.ea_machine.specs.Sums.{one_if, sum_over}
 use Rattle.ea_sound.specs.Blocks.{employed_sum}
 use Rattle.ea_sound.specs.Moments.{at, with_actor}
-use Rattle.ea_sound.specs.Rule.{Belongs, Kept, Standing, blocks_of, employed_at, of_own, of_owner, returning_at}
-use Rattle.ea_sound.proofs.Created.{created-Belongs, created-owner, created-slot, creating-Standing, creating_single-Standing}
-use Rattle.ea_sound.proofs.EmployedWeights.{employed_sum-creating, employed_sum-creating_single, employed_sum-employing}
+use Rattle.ea_sound.specs.Rule.{Belongs, Kept, Standing, blocks_of, employed_at, of_own, of_owner}
+use Rattle.ea_sound.specs.Rule.{returning_at}
+use Rattle.ea_sound.proofs.Created.{created-Belongs, created-owner, created-slot, creating-Standing}
+use Rattle.ea_sound.proofs.Created.{creating_single-Standing}
+use Rattle.ea_sound.proofs.EmployedWeights.{employed_sum-creating, employed_sum-creating_single}
+use Rattle.ea_sound.proofs.EmployedWeights.{employed_sum-employing}
 use Rattle.ea_sound.proofs.HandRows.{belongs-taken}
-use Rattle.ea_sound.proofs.Homes.{pooled-belongs, pooled-laid, pooled-number, pooled-on, pooled-slot}
+use Rattle.ea_sound.proofs.Homes.{pooled-belongs, pooled-laid, pooled-number, pooled-on}
+use Rattle.ea_sound.proofs.Homes.{pooled-slot}
 use Rattle.ea_sound.proofs.KeyedWeights.{sum-entered}
 use Rattle.ea_sound.proofs.Moved.{FitsPlace, Moved, place_kept, place_moved}
 use Rattle.ea_sound.proofs.Numbered.{scheduler-seat}

@@ -1,5 +1,6 @@
 -- An operation itself, once its begin is over: what it makes of what the turns before say.
-use Rattle.std.proofs.Common.{◌≡◌, ◌≢◌, ◌⊎◌, ℕ, ◌<◌, ◌≤◌, List, [], ◌∷◌, Bool, true, false, refl, sym, ap, ◌∙◌, subst, inl, inr, arith, ◌++◌}
+use Rattle.std.proofs.Common.{◌≡◌, ◌≢◌, ◌⊎◌, ℕ, ◌<◌, ◌≤◌, List, [], ◌∷◌, Bool, true, false, refl}
+use Rattle.std.proofs.Common.{sym, ap, ◌∙◌, subst, inl, inr, arith, ◌++◌}
 use Rattle.std.specs.Prelude.{All, Option, Some, None, ◌==◌, count_by, filter, not}
 use Rattle.std.proofs.lemmas.List.Elements.{All-head}
 use Rattle.ea_model.specs.declared.carriers.Figures.{Figures}
@@ -9,8 +10,10 @@ use Rattle.ea_model.specs.declared.entries.Entry.TheVariants as entry
 use Rattle.ea_model.specs.declared.operations.Op.{Op}
 use Rattle.ea_model.specs.declared.operations.Op.TheVariants as op
 use Rattle.ea_model.specs.declared.reallocation.Decision.{Decision}
-use Rattle.ea_model.specs.declared.reallocation.Decision.TheVariants.{Stay, ShrinkHere, GrowHere, ShrinkCarrier, Move}
-use Rattle.ea_model.specs.Instance.{chosen_spot, decision_at, figures, is_alone, plan, resizing_at, Instance}
+use Rattle.ea_model.specs.declared.reallocation.Decision.TheVariants.{Stay, ShrinkHere, GrowHere}
+use Rattle.ea_model.specs.declared.reallocation.Decision.TheVariants.{ShrinkCarrier, Move}
+use Rattle.ea_model.specs.Instance.{chosen_spot, decision_at, figures, is_alone, plan, resizing_at}
+use Rattle.ea_model.specs.Instance.{Instance}
 use Rattle.ea_model.specs.Units.{need_of}
 use Rattle.ea_model.proofs.Rising.{item_at-key}
 use Rattle.ea_machine.specs.declared.stages.Stage.TheVariants.{Ready, Ended, Begin}
@@ -26,7 +29,8 @@ use Rattle.ea_machine.specs.Operations.{freed, giving, itself}
 use Rattle.ea_machine.specs.Placements.{chosen_by, holding, new_carrier, search_if, seek, seek_by}
 use Rattle.ea_machine.specs.Reallocations.{reallocated, reallocated_by, resized_here, resized_place}
 use Rattle.ea_machine.specs.Setup.{Setup, greatest_number, migration, is_scheduler}
-use Rattle.ea_machine.specs.Statistics.{employed_multis, employed_singles, informed, is_single, leaving_at, observed, report, restarted}
+use Rattle.ea_machine.specs.Statistics.{employed_multis, employed_singles, informed, is_single}
+use Rattle.ea_machine.specs.Statistics.{leaving_at, observed, report, restarted}
 use Rattle.ea_machine.specs.Tasks.{let_go, logged}
 use Rattle.ea_sound.specs.Turns.{actor_after, begun}
 use Rattle.ea_sound.specs.Present.{HasTry, OfAsk, OfTask, OldHeld, Rule}
@@ -38,7 +42,9 @@ use Rattle.ea_sound.proofs.Orderly.{resizing-fixed, stays-employed}
 use Rattle.ea_sound.proofs.ShortRoutes.{Keeps}
 use Rattle.ea_sound.proofs.Weights.{sum_by-sum_over}
 use Rattle.ea_machine.specs.Sums.{one_if}
-use Rattle.ea_sound.proofs.ChroniclePlaces.{Fine as IsFine, IsAsking, IsNow, IsWanted as Wants, landed, shared, choice-fine, logged-fine, planned-fine, search-fine, task-fine, big, little, fails}
+use Rattle.ea_sound.proofs.ChroniclePlaces.{Fine as IsFine, IsAsking, IsNow, IsWanted as Wants}
+use Rattle.ea_sound.proofs.ChroniclePlaces.{landed, shared, choice-fine, logged-fine, planned-fine}
+use Rattle.ea_sound.proofs.ChroniclePlaces.{search-fine, task-fine, big, little, fails}
 use Rattle.ea_model.specs.Trace.{makes}
 use Rattle.std.proofs.lemmas.Bool.{eqb-true}
 use Rattle.ea_model.proofs.Needs.{need-even, need-least}

@@ -1,6 +1,7 @@
 -- A turn of a scheduler that places a block, plans a carrier or searches for one: what it makes of
 -- what the turns before say.
-use Rattle.std.proofs.Common.{◌≡◌, ◌⊎◌, ℕ, zero, suc, ◌<◌, ◌≤◌, List, [], ◌∷◌, ◌++◌, Bool, true, false, refl, sym, ap, ◌∙◌, subst, inl, inr, arith, ◌≢◌}
+use Rattle.std.proofs.Common.{◌≡◌, ◌⊎◌, ℕ, zero, suc, ◌<◌, ◌≤◌, List, [], ◌∷◌, ◌++◌, Bool, true}
+use Rattle.std.proofs.Common.{false, refl, sym, ap, ◌∙◌, subst, inl, inr, arith, ◌≢◌}
 use Rattle.std.specs.Prelude.{Option, Some, None, Result, Ok, Err, ◌&&◌, nat_lt, ◌==◌}
 use Rattle.ea_model.specs.declared.carriers.CarrierPlan.{CarrierPlan}
 use Rattle.ea_model.specs.declared.carriers.Place.{Place}
@@ -10,12 +11,15 @@ use Rattle.ea_model.specs.declared.entries.Entry.TheVariants as entry
 use Rattle.ea_model.specs.declared.entries.NoCarrier.{NoCarrier}
 use Rattle.ea_model.specs.declared.entries.NoCarrier.TheVariants.{Space}
 use Rattle.ea_model.specs.declared.units.TheConstants.{SEARCH_LIMIT}
-use Rattle.ea_model.specs.Instance.{chosen_spot, creating, is_alone, place_at, plan, single_place, creating_single, placing_at, owner_of}
+use Rattle.ea_model.specs.Instance.{chosen_spot, creating, is_alone, place_at, plan, single_place}
+use Rattle.ea_model.specs.Instance.{creating_single, placing_at, owner_of}
 use Rattle.ea_laws.proofs.Keeping.{plan-IsPlanned}
 use Rattle.ea_model.specs.Content.{Content}
 use Rattle.ea_machine.specs.declared.stages.Stage.TheVariants.{Begin, Ready, Ended, Routed}
 use Rattle.ea_machine.specs.declared.stages.Route.{Route}
-use Rattle.ea_machine.specs.declared.stages.Route.TheVariants.{Looking, Trying, Settling, Abandoning, Sending, Clearing, Pushing, Linking}
+use Rattle.ea_machine.specs.declared.stages.Route.TheVariants.{Looking, Trying, Settling}
+use Rattle.ea_machine.specs.declared.stages.Route.TheVariants.{Abandoning, Sending, Clearing}
+use Rattle.ea_machine.specs.declared.stages.Route.TheVariants.{Pushing, Linking}
 use Rattle.ea_machine.specs.Actor.{Actor}
 use Rattle.ea_machine.specs.declared.tasks.Task.{Task}
 use Rattle.ea_machine.specs.declared.tasks.Task.TheVariants.{Freeing, Moving}
@@ -30,7 +34,9 @@ use Rattle.ea_sound.specs.HandedOver.{HasHeld, IsAnother}
 use Rattle.ea_sound.specs.Exhausted.{FindsNoPlace, IsExhausted, IsFailOf}
 use Rattle.ea_machine.specs.Machine.{run, wants}
 use Rattle.ea_machine.specs.declared.nodes.Named.{Named}
-use Rattle.ea_machine.specs.Placements.{created, created_by, failed, making, new_carrier_by, placed_at, placed_by, search_at, searched_by, stands, holding, spot_of_place}
+use Rattle.ea_machine.specs.Placements.{created, created_by, failed, making, new_carrier_by}
+use Rattle.ea_machine.specs.Placements.{placed_at, placed_by, search_at, searched_by, stands}
+use Rattle.ea_machine.specs.Placements.{holding, spot_of_place}
 use Rattle.ea_machine.specs.Releases.{Turned, owned_by, release_here, route_of, routed}
 use Rattle.ea_sound.specs.Searches.{Searched}
 use Rattle.ea_machine.specs.Setup.{Setup, greatest_number, migration, is_scheduler}
@@ -38,7 +44,9 @@ use Rattle.ea_machine.specs.Statistics.{observed}
 use Rattle.ea_machine.specs.Tasks.{carried, entry_of, hands_over, later, let_go, logged, task_over}
 use Rattle.ea_sound.specs.Turns.{actor_after, begun}
 use Rattle.ea_sound.specs.Present.{OfAsk, OfTask, OldHeld, Rule, Fits, FitsRoute}
-use Rattle.ea_sound.proofs.Chronicle.{HasOld, IsOut, LeftBy, OnWay, PushedBy, PushesBy, Sent, IsOfFirst, IsSame, Outcomes, Placement, Placing, SoFar, Underway, WentTo, failed-is, name_in, outcomes, task-first}
+use Rattle.ea_sound.proofs.Chronicle.{HasOld, IsOut, LeftBy, OnWay, PushedBy, PushesBy, Sent}
+use Rattle.ea_sound.proofs.Chronicle.{IsOfFirst, IsSame, Outcomes, Placement, Placing, SoFar}
+use Rattle.ea_sound.proofs.Chronicle.{Underway, WentTo, failed-is, name_in, outcomes, task-first}
 use Rattle.ea_sound.proofs.ShortRoutes.{Keeps, here-short, keeps-on, route-keeps}
 use Rattle.ea_sound.specs.Contents.{actor_sum, seats}
 use Rattle.ea_machine.specs.Nodes.{named_at, block_node, without_name}
@@ -62,7 +70,8 @@ use Rattle.ea_sound.proofs.Numbered.{scheduler-seat}
 use Rattle.ea_sound.proofs.Operating.{closed-operation, held-other, held-stays, made-wanted}
 use Rattle.ea_sound.proofs.Totals.{put-here, total-part}
 use Rattle.ea_sound.proofs.Created.{scheduler-number}
-use Rattle.ea_sound.proofs.GoneRoutes.{IsBare, NotByWord, NotSent, Yields, here-bare, here-not_sent, route-queued}
+use Rattle.ea_sound.proofs.GoneRoutes.{IsBare, NotByWord, NotSent, Yields, here-bare, here-not_sent}
+use Rattle.ea_sound.proofs.GoneRoutes.{route-queued}
 use Rattle.ea_sound.proofs.GoneBlocks.{NoneNow, held-out}
 use Rattle.ea_sound.proofs.Fading.{stays-gone}
 use Rattle.ea_sound.proofs.FewBlocks.{all_of}

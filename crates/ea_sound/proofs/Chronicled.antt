@@ -1,5 +1,6 @@
 -- Each entry of a log tells how it came about, and each operation makes one.
-use Rattle.std.proofs.Common.{◌≡◌, ◌≢◌, ◌⊎◌, ℕ, List, [], ◌∷◌, ◌++◌, Bool, true, false, refl, sym, ap, ◌∙◌, subst, inl, inr}
+use Rattle.std.proofs.Common.{◌≡◌, ◌≢◌, ◌⊎◌, ℕ, List, [], ◌∷◌, ◌++◌, Bool, true, false, refl, sym}
+use Rattle.std.proofs.Common.{ap, ◌∙◌, subst, inl, inr}
 use Rattle.std.specs.List.{AllZip}
 use Rattle.std.proofs.lemmas.Bool.{cases_eq}
 use Rattle.std.proofs.lemmas.List.{append_assoc}
@@ -23,7 +24,8 @@ use Rattle.ea_sound.proofs.Chronicle.{SoFar, other-so_far}
 use Rattle.ea_sound.proofs.ChroniclePlaces.{OneMore, Stays}
 use Rattle.ea_sound.proofs.ChronicleTurns.{begun-keeps, turn-fine}
 use Rattle.ea_sound.proofs.Global.{working-scheduler}
-use Rattle.ea_sound.proofs.TurnLists.{by-turns, ended-or, run-snoc, step-ended, step-mine, step-other}
+use Rattle.ea_sound.proofs.TurnLists.{by-turns, ended-or, run-snoc, step-ended, step-mine}
+use Rattle.ea_sound.proofs.TurnLists.{step-other}
 
 module _ (e : Setup) where
   -- where the begin is over, the operation itself follows in the same step

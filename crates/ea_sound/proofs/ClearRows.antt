@@ -1,5 +1,6 @@
 -- Clear: a scheduler owns an empty carrier no longer, which it employed or which came home to it.
-use Rattle.std.proofs.Common.{◌≡◌, ◌≢◌, ℕ, ◌+◌, ◌*◌, ◌/◌, ◌<◌, [], true, false, sym, ap, ◌∙◌, subst, arith}
+use Rattle.std.proofs.Common.{◌≡◌, ◌≢◌, ℕ, ◌+◌, ◌*◌, ◌/◌, ◌<◌, [], true, false, sym, ap, ◌∙◌, subst}
+use Rattle.std.proofs.Common.{arith}
 use Rattle.std.specs.Prelude.{Some}
 use Rattle.ea_model.specs.declared.carriers.OwnCarrier.{OwnCarrier}
 use Rattle.ea_model.specs.declared.carriers.Spot.{Spot}
@@ -23,7 +24,8 @@ use Rattle.ea_machine.specs.Shared.{at_place}
 use Rattle.ea_machine.specs.State.{State}
 use Rattle.ea_machine.specs.Sums.{sum_over}
 use Rattle.ea_sound.specs.Moments.{at}
-use Rattle.ea_sound.specs.Rule.{Belongs, Kept, Standing, employed_at, of_own, of_owner, returning_at}
+use Rattle.ea_sound.specs.Rule.{Belongs, Kept, Standing, employed_at, of_own, of_owner}
+use Rattle.ea_sound.specs.Rule.{returning_at}
 use Rattle.ea_sound.proofs.Employers.{there-on, there-slot}
 use Rattle.ea_sound.proofs.KeyedWeights.{sum-without, times-once}
 use Rattle.ea_sound.proofs.Moved.{Moved, place_moved}

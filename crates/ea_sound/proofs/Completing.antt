@@ -1,5 +1,6 @@
 -- A schedule that is completed ends every scheduler.
-use Rattle.std.proofs.Common.{◌≡◌, ◌≢◌, ◌⊎◌, ℕ, zero, suc, ◌+◌, ◌*◌, ◌<◌, ◌≤◌, List, [], ◌∷◌, ◌++◌, Bool, true, false, refl, sym, ap, ◌∙◌, subst, inl, inr, arith}
+use Rattle.std.proofs.Common.{◌≡◌, ◌≢◌, ◌⊎◌, ℕ, zero, suc, ◌+◌, ◌*◌, ◌<◌, ◌≤◌, List, [], ◌∷◌, ◌++◌}
+use Rattle.std.proofs.Common.{Bool, true, false, refl, sym, ap, ◌∙◌, subst, inl, inr, arith}
 use Rattle.std.specs.Prelude.{Option, Some, None, length}
 use Rattle.std.proofs.lemmas.Bool.{cases_eq}
 use Rattle.ea_model.specs.declared.entries.Entry.TheVariants as entry
@@ -7,15 +8,21 @@ use Rattle.ea_model.specs.Content.{Content}
 use Rattle.ea_machine.specs.declared.nodes.Node.{Node}
 use Rattle.ea_machine.specs.declared.nodes.Node.TheVariants.{Block, Carrier}
 use Rattle.ea_machine.specs.declared.stages.Stage.{Stage}
-use Rattle.ea_machine.specs.declared.stages.Stage.TheVariants.{Begin, Routed, Collecting, Searching, Fetching, Creating, Giving, Taking, Ended, Ready}
+use Rattle.ea_machine.specs.declared.stages.Stage.TheVariants.{Begin, Routed, Collecting, Searching}
+use Rattle.ea_machine.specs.declared.stages.Stage.TheVariants.{Fetching, Creating, Giving, Taking}
+use Rattle.ea_machine.specs.declared.stages.Stage.TheVariants.{Ended, Ready}
 use Rattle.ea_machine.specs.declared.stages.Route.{Route}
-use Rattle.ea_machine.specs.declared.stages.Route.TheVariants.{Looking, Trying, Settling, Abandoning, Sending, Clearing, Pushing, Linking}
+use Rattle.ea_machine.specs.declared.stages.Route.TheVariants.{Looking, Trying, Settling}
+use Rattle.ea_machine.specs.declared.stages.Route.TheVariants.{Abandoning, Sending, Clearing}
+use Rattle.ea_machine.specs.declared.stages.Route.TheVariants.{Pushing, Linking}
 use Rattle.ea_machine.specs.Actor.{Actor}
 use Rattle.ea_machine.specs.declared.tasks.Why.{Why}
 use Rattle.ea_machine.specs.declared.tasks.Why.TheVariants.{Walk, For}
 use Rattle.ea_machine.specs.declared.tasks.Gone.{Gone}
-use Rattle.ea_machine.specs.Completion.{actor_rows, begin_rows, completing, ending, finishing, next_rows, passed_rows, stage_rows, work}
-use Rattle.ea_machine.specs.Machine.{IsReached, after_row, begins, first_stage, run, run_on, start, step, wants_at, wants_on}
+use Rattle.ea_machine.specs.Completion.{actor_rows, begin_rows, completing, ending, finishing}
+use Rattle.ea_machine.specs.Completion.{next_rows, passed_rows, stage_rows, work}
+use Rattle.ea_machine.specs.Machine.{IsReached, after_row, begins, first_stage, run, run_on, start}
+use Rattle.ea_machine.specs.Machine.{step, wants_at, wants_on}
 use Rattle.ea_sound.specs.MachineLaws.{EndsAll}
 use Rattle.ea_machine.specs.Nodes.{Mark, first_node, link_in, pushed}
 use Rattle.ea_machine.specs.Owners.{CarrierAt, Employed, Busy}
@@ -24,15 +31,19 @@ use Rattle.ea_machine.specs.Rows.{Answer, Done, Head, Rests, Passes, Saw, Won, L
 use Rattle.ea_machine.specs.Setup.{Setup, is_scheduler}
 use Rattle.ea_machine.specs.Shared.{Shared, put}
 use Rattle.ea_machine.specs.State.{State}
-use Rattle.ea_machine.specs.Table.{answer, effect, link_answer, link_read, moved_if, rest_after, rest_by, tried_at}
+use Rattle.ea_machine.specs.Table.{answer, effect, link_answer, link_read, moved_if, rest_after}
+use Rattle.ea_machine.specs.Table.{rest_by, tried_at}
 use Rattle.ea_machine.specs.Tasks.{let_go}
 use Rattle.ea_sound.specs.Turns.{advanced}
 use Rattle.ea_machine.specs.Walks.{begun, with_passed}
 use Rattle.ea_sound.specs.Present.{Fits, FitsRoute, Rule}
-use Rattle.ea_sound.proofs.Ending.{created-less, fetched-less, logged-less, onward-less, searched-less, task-route, took-less, walk-route, walk_rows, whole_rows, worked-less}
+use Rattle.ea_sound.proofs.Ending.{created-less, fetched-less, logged-less, onward-less}
+use Rattle.ea_sound.proofs.Ending.{searched-less, task-route, took-less, walk-route, walk_rows}
+use Rattle.ea_sound.proofs.Ending.{whole_rows, worked-less}
 use Rattle.ea_sound.proofs.OtherRows.{linked-rest}
 use Rattle.ea_sound.proofs.Totals.{put-here, put-other}
-use Rattle.ea_sound.proofs.TurnLists.{by-turns, ended-or, run-append, run-snoc, step-ended, step-mine, step-other, step-shared}
+use Rattle.ea_sound.proofs.TurnLists.{by-turns, ended-or, run-append, run-snoc, step-ended}
+use Rattle.ea_sound.proofs.TurnLists.{step-mine, step-other, step-shared}
 
 -- a node is pushed to another scheduler's queue
 abbrev pub PushesElsewhere : ℕ → Stage Content → Type 0

@@ -1,10 +1,13 @@
 -- The carrier of a plan, as it comes to the instance of a scheduler.
-use Rattle.std.proofs.Common.{◌≡◌, ℕ, ◌+◌, ◌*◌, ◌%◌, ◌<◌, ◌≤◌, ◌-◌, List, true, false, sym, ap, ◌∙◌, inr, arith}
+use Rattle.std.proofs.Common.{◌≡◌, ℕ, ◌+◌, ◌*◌, ◌%◌, ◌<◌, ◌≤◌, ◌-◌, List, true, false, sym, ap, ◌∙◌}
+use Rattle.std.proofs.Common.{inr, arith}
 use Rattle.std.specs.Prelude.{None, Ok, ◌&&◌, nat_lt, nat_le}
 use Rattle.ea_model.specs.declared.carriers.BlockAt.{BlockAt}
 use Rattle.ea_model.specs.declared.carriers.CarrierPlan.{CarrierPlan}
 use Rattle.ea_model.specs.declared.carriers.Kind.{Kind}
-use Rattle.ea_model.specs.Instance.{Instance, content_of, created_content, creating, creating_single, employed, plan, planned_own, with_own, owner_of}
+use Rattle.ea_model.specs.Instance.{Instance, content_of, created_content, creating}
+use Rattle.ea_model.specs.Instance.{creating_single, employed, plan, planned_own, with_own}
+use Rattle.ea_model.specs.Instance.{owner_of}
 use Rattle.ea_model.specs.Strategies.{may_miss}
 use Rattle.ea_model.proofs.Rising.{item_at-new}
 use Rattle.ea_laws.specs.Kept.{own_number}

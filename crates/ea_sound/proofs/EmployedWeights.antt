@@ -6,9 +6,13 @@ use Rattle.ea_model.specs.declared.carriers.OwnCarrier.{OwnCarrier}
 use Rattle.ea_model.specs.declared.carriers.Kind.TheVariants.{Multi}
 use Rattle.ea_model.specs.declared.carriers.Spot.{Spot}
 use Rattle.ea_model.specs.declared.reallocation.Decision.{Decision}
-use Rattle.ea_model.specs.declared.reallocation.Decision.TheVariants.{Stay, ShrinkHere, GrowHere, ShrinkCarrier, Move}
+use Rattle.ea_model.specs.declared.reallocation.Decision.TheVariants.{Stay, ShrinkHere, GrowHere}
+use Rattle.ea_model.specs.declared.reallocation.Decision.TheVariants.{ShrinkCarrier, Move}
 use Rattle.ea_model.specs.Content.{Content, placed, resized}
-use Rattle.ea_model.specs.Instance.{Instance, changing, content_of, created_content, created_single, creating, creating_single, decision_at, employed, own_at, own_of, placing_at, resized_by, resized_in, resized_to, resizing_at, shortened, without_content}
+use Rattle.ea_model.specs.Instance.{Instance, changing, content_of, created_content, created_single}
+use Rattle.ea_model.specs.Instance.{creating, creating_single, decision_at, employed, own_at}
+use Rattle.ea_model.specs.Instance.{own_of, placing_at, resized_by, resized_in, resized_to}
+use Rattle.ea_model.specs.Instance.{resizing_at, shortened, without_content}
 use Rattle.ea_model.proofs.Rising.{changed-found, rising-changed}
 use Rattle.ea_laws.specs.Kept.{number_of, own_number}
 use Rattle.ea_laws.proofs.Changed.{KeepsPlace, resized-keeps}
@@ -20,7 +24,8 @@ use Rattle.ea_model.specs.Employment.{dismissing, employing}
 use Rattle.ea_sound.specs.Blocks.{employed_sum}
 use Rattle.ea_machine.specs.Sums.{sum_over}
 use Rattle.ea_sound.specs.Orderly.{IsOrderly}
-use Rattle.ea_sound.proofs.KeyedWeights.{times, times-once, sum-changed, sum-entered, sum-merged, sum-without}
+use Rattle.ea_sound.proofs.KeyedWeights.{times, times-once, sum-changed, sum-entered, sum-merged}
+use Rattle.ea_sound.proofs.KeyedWeights.{sum-without}
 use Rattle.ea_sound.proofs.Orderly.{employed-alone}
 use Rattle.ea_sound.proofs.Resizing.{content_after}
 

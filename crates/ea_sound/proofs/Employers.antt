@@ -1,5 +1,6 @@
 -- Who has the content of a carrier, and where the carrier is.
-use Rattle.std.proofs.Common.{◌≡◌, ◌≢◌, ℕ, zero, suc, ◌<◌, ◌≤◌, true, false, refl, sym, ap, ◌∙◌, inl, inr, arith}
+use Rattle.std.proofs.Common.{◌≡◌, ◌≢◌, ℕ, zero, suc, ◌<◌, ◌≤◌, true, false, refl, sym, ap, ◌∙◌}
+use Rattle.std.proofs.Common.{inl, inr, arith}
 use Rattle.std.specs.Prelude.{Some, ◌==◌, ◌&&◌}
 use Rattle.std.proofs.lemmas.Bool.{cases_Bool, cases_eq, cases_lt}
 use Rattle.ea_model.specs.declared.carriers.OwnCarrier.{OwnCarrier}
@@ -22,7 +23,8 @@ use Rattle.ea_sound.proofs.ActorWeights.{actor-none}
 use Rattle.ea_sound.proofs.EmployedWeights.{employed_sum-employed}
 use Rattle.ea_sound.proofs.Global.{anywhere-only, nobody-weighs, weighs-scheduler}
 use Rattle.ea_sound.proofs.KeyedWeights.{counts-key, sum-item}
-use Rattle.ea_sound.proofs.Numbered.{OnlyOf, no_scheduler-beyond, numbered-off, numbered-on, scheduler-seat, total_at-exact}
+use Rattle.ea_sound.proofs.Numbered.{OnlyOf, no_scheduler-beyond, numbered-off, numbered-on}
+use Rattle.ea_sound.proofs.Numbered.{scheduler-seat, total_at-exact}
 use Rattle.ea_sound.proofs.Totals.{total_at-part}
 use Rattle.ea_sound.proofs.Weights.{one-itself, sum-zero}
 

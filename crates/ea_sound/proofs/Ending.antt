@@ -1,5 +1,6 @@
 -- Each row that a scheduler does leaves it less work.
-use Rattle.std.proofs.Common.{◌≡◌, ℕ, zero, suc, ◌+◌, ◌-◌, ◌*◌, ◌<◌, ◌≤◌, List, [], ◌∷◌, Bool, true, false, refl, sym, ap, subst, arith}
+use Rattle.std.proofs.Common.{◌≡◌, ℕ, zero, suc, ◌+◌, ◌-◌, ◌*◌, ◌<◌, ◌≤◌, List, [], ◌∷◌, Bool, true}
+use Rattle.std.proofs.Common.{false, refl, sym, ap, subst, arith}
 use Rattle.std.specs.Prelude.{Option, Some, None, Result, Ok, Err, ◌&&◌, nat_lt}
 use Rattle.std.proofs.lemmas.List.Sums.{sum_by-cons}
 use Rattle.ea_model.specs.declared.carriers.CarrierPlan.{CarrierPlan}
@@ -11,31 +12,41 @@ use Rattle.ea_model.specs.declared.entries.NoCarrier.{NoCarrier}
 use Rattle.ea_model.specs.declared.operations.Op.{Op}
 use Rattle.ea_model.specs.declared.operations.Op.TheVariants as op
 use Rattle.ea_model.specs.declared.reallocation.Decision.{Decision}
-use Rattle.ea_model.specs.declared.reallocation.Decision.TheVariants.{Stay, ShrinkHere, GrowHere, ShrinkCarrier, Move}
+use Rattle.ea_model.specs.declared.reallocation.Decision.TheVariants.{Stay, ShrinkHere, GrowHere}
+use Rattle.ea_model.specs.declared.reallocation.Decision.TheVariants.{ShrinkCarrier, Move}
 use Rattle.ea_model.specs.declared.units.TheConstants.{SEARCH_LIMIT}
-use Rattle.ea_model.specs.Instance.{chosen_spot, creating, creating_single, decision_at, is_alone, place_at, placing_at, plan, single_place}
+use Rattle.ea_model.specs.Instance.{chosen_spot, creating, creating_single, decision_at, is_alone}
+use Rattle.ea_model.specs.Instance.{place_at, placing_at, plan, single_place}
 use Rattle.ea_model.specs.Units.{need_of}
 use Rattle.ea_model.specs.Content.{Content}
 use Rattle.ea_machine.specs.declared.nodes.Node.{Node}
 use Rattle.ea_machine.specs.declared.nodes.Node.TheVariants.{Block, Carrier}
 use Rattle.ea_machine.specs.declared.owners.OwnerWord.{OwnerWord}
 use Rattle.ea_machine.specs.declared.stages.Stage.{Stage}
-use Rattle.ea_machine.specs.declared.stages.Stage.TheVariants.{Begin, Routed, Collecting, Searching, Fetching, Creating, Giving, Taking, Ended, Ready}
+use Rattle.ea_machine.specs.declared.stages.Stage.TheVariants.{Begin, Routed, Collecting, Searching}
+use Rattle.ea_machine.specs.declared.stages.Stage.TheVariants.{Fetching, Creating, Giving, Taking}
+use Rattle.ea_machine.specs.declared.stages.Stage.TheVariants.{Ended, Ready}
 use Rattle.ea_machine.specs.declared.stages.Route.{Route}
-use Rattle.ea_machine.specs.declared.stages.Route.TheVariants.{Looking, Trying, Settling, Abandoning, Sending, Clearing, Pushing, Linking}
+use Rattle.ea_machine.specs.declared.stages.Route.TheVariants.{Looking, Trying, Settling}
+use Rattle.ea_machine.specs.declared.stages.Route.TheVariants.{Abandoning, Sending, Clearing}
+use Rattle.ea_machine.specs.declared.stages.Route.TheVariants.{Pushing, Linking}
 use Rattle.ea_machine.specs.Actor.{Actor}
 use Rattle.ea_machine.specs.declared.tasks.Task.{Task}
 use Rattle.ea_machine.specs.declared.tasks.Task.TheVariants.{Freeing, Moving}
 use Rattle.ea_machine.specs.declared.tasks.Why.TheVariants.{Walk, For}
 use Rattle.ea_machine.specs.declared.tasks.Gone.{Gone}
 use Rattle.ea_machine.specs.declared.asks.Ask.{Ask}
-use Rattle.ea_machine.specs.Completion.{actor_rows, begin_rows, next_rows, operation_rows, passed_rows, route_rows, search_rows, stage_rows, text_rows}
+use Rattle.ea_machine.specs.Completion.{actor_rows, begin_rows, next_rows, operation_rows}
+use Rattle.ea_machine.specs.Completion.{passed_rows, route_rows, search_rows, stage_rows, text_rows}
 use Rattle.ea_model.specs.Employment.{employing}
 use Rattle.ea_machine.specs.Machine.{after_row, onward, onward_at}
 use Rattle.ea_machine.specs.Nodes.{named_at}
 use Rattle.ea_machine.specs.declared.nodes.Named.{Named}
 use Rattle.ea_machine.specs.Operations.{freed, giving, itself, took}
-use Rattle.ea_machine.specs.Placements.{chosen_by, counted, created_by, failed, fetched, fits, holding, making, new_carrier, new_carrier_by, placed_by, saw_by, search_at, search_if, searched, searched_by, seek, seek_by, spot_of_place, stands}
+use Rattle.ea_machine.specs.Placements.{chosen_by, counted, created_by, failed, fetched, fits}
+use Rattle.ea_machine.specs.Placements.{holding, making, new_carrier, new_carrier_by, placed_by}
+use Rattle.ea_machine.specs.Placements.{saw_by, search_at, search_if, searched, searched_by, seek}
+use Rattle.ea_machine.specs.Placements.{seek_by, spot_of_place, stands}
 use Rattle.ea_machine.specs.Reallocations.{reallocated, reallocated_by, resized_here}
 use Rattle.ea_machine.specs.Releases.{looked, route_of, turned}
 use Rattle.ea_machine.specs.Rows.{Answer, Done, Head, Rests, Passes, Saw, Won, Lost, Home, Got}

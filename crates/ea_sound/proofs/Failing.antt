@@ -1,5 +1,6 @@
 -- Where no place is found, an operation fails.
-use Rattle.std.proofs.Common.{◌≡◌, ◌≢◌, ◌⊎◌, ℕ, zero, suc, ◌-◌, ◌<◌, ◌≤◌, List, [], ◌∷◌, ◌++◌, Bool, true, false, refl, sym, ap, ◌∙◌, subst, inl, inr, arith}
+use Rattle.std.proofs.Common.{◌≡◌, ◌≢◌, ◌⊎◌, ℕ, zero, suc, ◌-◌, ◌<◌, ◌≤◌, List, [], ◌∷◌, ◌++◌, Bool}
+use Rattle.std.proofs.Common.{true, false, refl, sym, ap, ◌∙◌, subst, inl, inr, arith}
 use Rattle.std.specs.Prelude.{Option, Some, None, Err, ◌==◌, ◌&&◌, count_by, length, nat_lt}
 use Rattle.std.proofs.lemmas.Bool.{cases_eq}
 use Rattle.std.proofs.lemmas.List.{length-append}
@@ -22,10 +23,13 @@ use Rattle.ea_machine.specs.Nodes.{named_at, name_of}
 use Rattle.ea_machine.specs.declared.nodes.Named.{Named}
 use Rattle.ea_machine.specs.Operations.{itself}
 use Rattle.ea_machine.specs.Owners.{word_of}
-use Rattle.ea_machine.specs.Placements.{chosen_by, counted, failed, fetched, fits, new_carrier, new_carrier_by, saw_by, search_at, search_if, searched, searched_by, seek, seek_by}
+use Rattle.ea_machine.specs.Placements.{chosen_by, counted, failed, fetched, fits, new_carrier}
+use Rattle.ea_machine.specs.Placements.{new_carrier_by, saw_by, search_at, search_if, searched}
+use Rattle.ea_machine.specs.Placements.{searched_by, seek, seek_by}
 use Rattle.ea_machine.specs.Reallocations.{reallocated, reallocated_by}
 use Rattle.ea_machine.specs.Rows.{Answer, Saw, Won, Lost}
-use Rattle.ea_sound.specs.Searches.{IsNextLook, IsSought, IsUnsought, Missed, Searched, Shown, Sight, sight, sights}
+use Rattle.ea_sound.specs.Searches.{IsNextLook, IsSought, IsUnsought, Missed, Searched, Shown}
+use Rattle.ea_sound.specs.Searches.{Sight, sight, sights}
 use Rattle.ea_machine.specs.Setup.{Setup, greatest_number, migration}
 use Rattle.ea_machine.specs.State.{State}
 use Rattle.ea_machine.specs.Statistics.{observed}
@@ -37,7 +41,9 @@ use Rattle.ea_sound.specs.Present.{OfAsk, Rule}
 use Rattle.ea_sound.proofs.Chronicle.{failed-is}
 use Rattle.ea_sound.proofs.Chronicled.{begun-now, begun-settings}
 use Rattle.ea_sound.proofs.TurnLists.{run-since, step-mine, step-other}
-use Rattle.ea_sound.proofs.SearchTurns.{Next, WonOrLost, count-mine, count-other, fetch-tries, look-saw, next, sight-most, sights-mine, sights-most, sights-other, tails, won-or_lost}
+use Rattle.ea_sound.proofs.SearchTurns.{Next, WonOrLost, count-mine, count-other, fetch-tries}
+use Rattle.ea_sound.proofs.SearchTurns.{look-saw, next, sight-most, sights-mine, sights-most}
+use Rattle.ea_sound.proofs.SearchTurns.{sights-other, tails, won-or_lost}
 
 -- an operation that asks for a place seeks one
 record Seeks (e : Setup) (s : ℕ) (b : Actor) (need : ℕ) : Type 0 where

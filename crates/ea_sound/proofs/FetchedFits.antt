@@ -1,5 +1,6 @@
 -- A carrier that is fetched has a gap for the block, which is placed there.
-use Rattle.std.proofs.Common.{◌≡◌, ℕ, ◌≤◌, ◌∙◌, Bool, true, false, List, [], ◌∷◌, refl, sym, ap, subst, inl, inr, arith}
+use Rattle.std.proofs.Common.{◌≡◌, ℕ, ◌≤◌, ◌∙◌, Bool, true, false, List, [], ◌∷◌, refl, sym, ap}
+use Rattle.std.proofs.Common.{subst, inl, inr, arith}
 use Rattle.std.specs.Prelude.{Any}
 use Rattle.std.proofs.lemmas.Bool.{cases_lt}
 use Rattle.ea_model.specs.declared.carriers.Gap.{Gap}
@@ -14,7 +15,8 @@ use Rattle.ea_machine.specs.declared.asks.Ask.{Ask}
 use Rattle.ea_model.specs.Employment.{employing}
 use Rattle.ea_sound.specs.Fetches.{FetchFits, FetchesFit}
 use Rattle.ea_machine.specs.Machine.{after_row, wants_at}
-use Rattle.ea_machine.specs.Owners.{CarrierAt, Absent, Employed, Pooled, Busy, Returning, same_word, word_of}
+use Rattle.ea_machine.specs.Owners.{CarrierAt, Absent, Employed, Pooled, Busy, Returning, same_word}
+use Rattle.ea_machine.specs.Owners.{word_of}
 use Rattle.ea_machine.specs.Placements.{placed_by}
 use Rattle.ea_machine.specs.Rows.{Answer, Won}
 use Rattle.ea_machine.specs.Setup.{Setup, is_scheduler}

@@ -6,9 +6,11 @@ use Rattle.ea_model.specs.declared.carriers.BlockAt.{BlockAt}
 use Rattle.ea_model.specs.declared.carriers.CarrierPlan.{CarrierPlan}
 use Rattle.ea_model.specs.declared.carriers.Spot.{Spot}
 use Rattle.ea_model.specs.declared.reallocation.Decision.{Decision}
-use Rattle.ea_model.specs.declared.reallocation.Decision.TheVariants.{Stay, ShrinkHere, GrowHere, ShrinkCarrier, Move}
+use Rattle.ea_model.specs.declared.reallocation.Decision.TheVariants.{Stay, ShrinkHere, GrowHere}
+use Rattle.ea_model.specs.declared.reallocation.Decision.TheVariants.{ShrinkCarrier, Move}
 use Rattle.ea_model.specs.Content.{Content, block_at, gap_at, gaps_of, released, taken_of}
-use Rattle.ea_model.specs.Instance.{Instance, creating, creating_single, decision_at, placing_at, releasing_at, resized_to, resizing_at}
+use Rattle.ea_model.specs.Instance.{Instance, creating, creating_single, decision_at, placing_at}
+use Rattle.ea_model.specs.Instance.{releasing_at, resized_to, resizing_at}
 use Rattle.ea_model.specs.Keyed.{changed_at}
 use Rattle.ea_model.proofs.Rising.{changed_here, changed_past}
 use Rattle.ea_laws.specs.Kept.{number_of}
@@ -23,8 +25,10 @@ use Rattle.ea_machine.specs.Sums.{one_if, sum_over}
 use Rattle.ea_sound.specs.Blocks.{employed_sum}
 use Rattle.ea_sound.specs.Orderly.{IsOrderly}
 use Rattle.ea_sound.proofs.BlockWeights.{HasRisingBlocks, block-rising}
-use Rattle.ea_sound.proofs.EmployedWeights.{employed_sum-creating, employed_sum-creating_single, employed_sum-placing, employed_sum-resizing}
-use Rattle.ea_sound.proofs.KeyedWeights.{changed-missing, sum-changed, sum-entered, sum-without_less, times-once}
+use Rattle.ea_sound.proofs.EmployedWeights.{employed_sum-creating, employed_sum-creating_single}
+use Rattle.ea_sound.proofs.EmployedWeights.{employed_sum-placing, employed_sum-resizing}
+use Rattle.ea_sound.proofs.KeyedWeights.{changed-missing, sum-changed, sum-entered}
+use Rattle.ea_sound.proofs.KeyedWeights.{sum-without_less, times-once}
 use Rattle.ea_sound.proofs.Orderly.{stays-employed}
 use Rattle.ea_sound.proofs.Resizing.{content_after}
 

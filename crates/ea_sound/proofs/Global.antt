@@ -1,6 +1,7 @@
 -- One content of a number at most is at all schedulers, and all that a carrier has is where its
 -- content is.
-use Rattle.std.proofs.Common.{◌≡◌, ◌≢◌, ℕ, ◌+◌, ◌<◌, ◌≤◌, Bool, true, false, refl, sym, ap, ◌∙◌, inl, inr, arith}
+use Rattle.std.proofs.Common.{◌≡◌, ◌≢◌, ℕ, ◌+◌, ◌<◌, ◌≤◌, Bool, true, false, refl, sym, ap, ◌∙◌}
+use Rattle.std.proofs.Common.{inl, inr, arith}
 use Rattle.std.specs.Prelude.{not, ◌==◌, ◌&&◌}
 use Rattle.std.proofs.lemmas.Bool.{cases_Bool, cases_lt}
 use Rattle.ea_model.specs.declared.carriers.OwnCarrier.{OwnCarrier}
@@ -18,7 +19,8 @@ use Rattle.ea_sound.specs.Here.{Here}
 use Rattle.ea_sound.specs.Rule.{Kept, employed_at, numbers_of, own_numbers}
 use Rattle.ea_sound.proofs.ActorWeights.{actor-none}
 use Rattle.ea_sound.proofs.KeyedWeights.{times-once}
-use Rattle.ea_sound.proofs.Numbered.{OnlyOf, no_scheduler-beyond, numbered-off, numbered-on, total_at-exact}
+use Rattle.ea_sound.proofs.Numbered.{OnlyOf, no_scheduler-beyond, numbered-off, numbered-on}
+use Rattle.ea_sound.proofs.Numbered.{total_at-exact}
 use Rattle.ea_sound.proofs.Totals.{total-part, total_at-part}
 use Rattle.ea_sound.proofs.Weights.{one-most, sum-zero}
 

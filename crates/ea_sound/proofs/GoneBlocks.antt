@@ -1,5 +1,6 @@
 -- Blocks that are gone: once its name has left the hand on a release route, no block has it.
-use Rattle.std.proofs.Common.{◌≡◌, ◌≢◌, ℕ, ◌+◌, ◌<◌, ◌≤◌, List, [], ◌∷◌, ◌++◌, refl, sym, ap, ◌∙◌, subst, arith}
+use Rattle.std.proofs.Common.{◌≡◌, ◌≢◌, ℕ, ◌+◌, ◌<◌, ◌≤◌, List, [], ◌∷◌, ◌++◌, refl, sym, ap, ◌∙◌}
+use Rattle.std.proofs.Common.{subst, arith}
 use Rattle.std.specs.Prelude.{Some, ◌==◌}
 use Rattle.ea_model.proofs.Rising.{item_at-gone}
 use Rattle.ea_model.specs.declared.carriers.Spot.{Spot}
@@ -16,7 +17,8 @@ use Rattle.ea_sound.specs.Names.{allocated, of_hand, of_named, of_node, only, to
 use Rattle.ea_machine.specs.Nodes.{named_at, pushed, without_name, name_of}
 use Rattle.ea_machine.specs.Owners.{Busy, CarrierAt}
 use Rattle.ea_sound.specs.Released.{blocks_named}
-use Rattle.ea_machine.specs.Rows.{Answer, BusyTry, Done, Got, Head, Home, Look, Lost, Passes, Push, Rests, Saw, Won}
+use Rattle.ea_machine.specs.Rows.{Answer, BusyTry, Done, Got, Head, Home, Look, Lost, Passes, Push}
+use Rattle.ea_machine.specs.Rows.{Rests, Saw, Won}
 use Rattle.ea_machine.specs.Setup.{Setup}
 use Rattle.ea_machine.specs.Shared.{Shared}
 use Rattle.ea_machine.specs.State.{State}

@@ -1,5 +1,6 @@
 -- No name is released twice; a released name stays so, and a failed one.
-use Rattle.std.proofs.Common.{◌≡◌, ℕ, zero, suc, ◌+◌, ◌<◌, ◌≤◌, List, [], ◌∷◌, ◌++◌, Bool, true, false, refl, sym, ap, ◌∙◌, subst, inl, inr, arith}
+use Rattle.std.proofs.Common.{◌≡◌, ℕ, zero, suc, ◌+◌, ◌<◌, ◌≤◌, List, [], ◌∷◌, ◌++◌, Bool, true}
+use Rattle.std.proofs.Common.{false, refl, sym, ap, ◌∙◌, subst, inl, inr, arith}
 use Rattle.std.specs.Prelude.{◌||◌}
 use Rattle.std.specs.List.{AllZip, list_any}
 use Rattle.std.proofs.lemmas.Bool.{cases_Bool, cases_eq}
@@ -11,7 +12,9 @@ use Rattle.ea_model.specs.Trace.{makes}
 use Rattle.ea_sound.specs.Turns.{log_after}
 use Rattle.ea_model.specs.Content.{Content}
 use Rattle.ea_machine.specs.declared.stages.Stage.{Stage}
-use Rattle.ea_machine.specs.declared.stages.Stage.TheVariants.{Begin, Collecting, Creating, Ended, Fetching, Giving, Ready, Routed, Searching, Taking}
+use Rattle.ea_machine.specs.declared.stages.Stage.TheVariants.{Begin, Collecting, Creating, Ended}
+use Rattle.ea_machine.specs.declared.stages.Stage.TheVariants.{Fetching, Giving, Ready, Routed}
+use Rattle.ea_machine.specs.declared.stages.Stage.TheVariants.{Searching, Taking}
 use Rattle.ea_machine.specs.Actor.{Actor}
 use Rattle.ea_machine.specs.declared.tasks.Task.TheVariants.{Freeing, Moving}
 use Rattle.ea_machine.specs.declared.tasks.Why.TheVariants.{Walk, For}
@@ -19,7 +22,8 @@ use Rattle.ea_sound.specs.Contents.{seats}
 use Rattle.ea_sound.specs.Entries.{LogsEach, Makes}
 use Rattle.ea_machine.specs.Machine.{first_stage, run}
 use Rattle.ea_sound.specs.Names.{made_in, to_make, unplaced}
-use Rattle.ea_sound.specs.Released.{FailedHaveNone, IsGone, ReleasesOnce, StaysGone, blocks_named, says_failed, says_made}
+use Rattle.ea_sound.specs.Released.{FailedHaveNone, IsGone, ReleasesOnce, StaysGone, blocks_named}
+use Rattle.ea_sound.specs.Released.{says_failed, says_made}
 use Rattle.ea_machine.specs.Setup.{Setup, is_scheduler}
 use Rattle.ea_machine.specs.Sums.{one_if, total}
 use Rattle.ea_sound.specs.Present.{Fits, Rule}

@@ -1,6 +1,7 @@
 -- Rows that move a carrier's content between the hand of a scheduler and its home, or change the
 -- word of the carrier whose content is in the hand: busy-try, settle, abandon and send-home.
-use Rattle.std.proofs.Common.{◌≡◌, ◌≢◌, ℕ, ◌+◌, ◌<◌, ◌≤◌, [], true, refl, sym, ap, ◌∙◌, subst, inl, inr, arith}
+use Rattle.std.proofs.Common.{◌≡◌, ◌≢◌, ℕ, ◌+◌, ◌<◌, ◌≤◌, [], true, refl, sym, ap, ◌∙◌, subst, inl}
+use Rattle.std.proofs.Common.{inr, arith}
 use Rattle.ea_model.specs.declared.carriers.Kind.TheVariants.{Multi, Single}
 use Rattle.ea_model.specs.declared.carriers.Spot.{Spot}
 use Rattle.ea_model.specs.Content.{Content, released}
@@ -12,7 +13,8 @@ use Rattle.ea_machine.specs.declared.nodes.Named.{Named}
 use Rattle.ea_laws.proofs.Standing.{released-IsLaidOut}
 use Rattle.ea_machine.specs.declared.stages.Stage.{Stage}
 use Rattle.ea_machine.specs.declared.stages.Stage.TheVariants.{Begin, Routed}
-use Rattle.ea_machine.specs.declared.stages.Route.TheVariants.{Abandoning, Pushing, Sending, Settling, Trying}
+use Rattle.ea_machine.specs.declared.stages.Route.TheVariants.{Abandoning, Pushing, Sending}
+use Rattle.ea_machine.specs.declared.stages.Route.TheVariants.{Settling, Trying}
 use Rattle.ea_machine.specs.declared.tasks.Why.{Why}
 use Rattle.ea_machine.specs.declared.tasks.Gone.{Gone}
 use Rattle.ea_sound.specs.Contents.{InHand, hand_sum, home_sum, slots}
@@ -28,7 +30,8 @@ use Rattle.ea_machine.specs.Table.{pooled}
 use Rattle.ea_sound.specs.Moments.{at}
 use Rattle.ea_sound.specs.Rule.{Belongs, Kept, employed_at, of_owner, returning_at}
 use Rattle.ea_sound.proofs.BlockWeights.{only_at-itself}
-use Rattle.ea_sound.proofs.Homes.{pooled-belongs, pooled-laid, pooled-number, pooled-on, pooled-released, pooled-slot}
+use Rattle.ea_sound.proofs.Homes.{pooled-belongs, pooled-laid, pooled-number, pooled-on}
+use Rattle.ea_sound.proofs.Homes.{pooled-released, pooled-slot}
 use Rattle.ea_sound.proofs.Moved.{Moved, place_moved}
 use Rattle.ea_sound.proofs.Numbered.{scheduler-seat}
 use Rattle.ea_sound.proofs.PlaceRows.{MayBe}

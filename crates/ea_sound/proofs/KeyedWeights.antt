@@ -1,10 +1,13 @@
 -- Weights of items with a key each, by rising key.
-use Rattle.std.proofs.Common.{◌≡◌, ◌≢◌, ℕ, ◌+◌, ◌≤◌, List, [], ◌∷◌, sym, ap, ◌∙◌, refl, inl, inr, arith}
+use Rattle.std.proofs.Common.{◌≡◌, ◌≢◌, ℕ, ◌+◌, ◌≤◌, List, [], ◌∷◌, sym, ap, ◌∙◌, refl, inl, inr}
+use Rattle.std.proofs.Common.{arith}
 use Rattle.std.specs.Prelude.{Option, Some, None, All, AllPairs, ◌==◌, if◌then◌else◌}
 use Rattle.std.proofs.lemmas.Bool.{cases_eq, cases_lt}
 use Rattle.ea_model.specs.Keyed.{item_at, entered, merged, without, changed_at, IsBelow}
 use Rattle.ea_model.proofs.Pairs.{pairs_tail}
-use Rattle.ea_model.proofs.Rising.{changed_here, changed_none, changed_past, entered_here, entered_past, item_here, item_past, none-other, others, without_here, without_none, without_past}
+use Rattle.ea_model.proofs.Rising.{changed_here, changed_none, changed_past, entered_here}
+use Rattle.ea_model.proofs.Rising.{entered_past, item_here, item_past, none-other, others}
+use Rattle.ea_model.proofs.Rising.{without_here, without_none, without_past}
 use Rattle.ea_machine.specs.Sums.{sum_over}
 use Rattle.ea_sound.proofs.Weights.{sum-filter, sum-zero}
 

@@ -14,7 +14,8 @@ use Rattle.ea_machine.specs.declared.tasks.Why.{Why}
 use Rattle.ea_machine.specs.declared.tasks.Gone.{Gone}
 use Rattle.ea_sound.specs.Contents.{InHand, hand_sum, seats}
 use Rattle.ea_sound.specs.Names.{of_hand, of_mark, of_named, of_node, only}
-use Rattle.ea_sound.specs.NodePlaces.{of_carrier_hand, of_carrier_mark, of_carrier_node, of_link, of_unlinked, unlinked_at}
+use Rattle.ea_sound.specs.NodePlaces.{of_carrier_hand, of_carrier_mark, of_carrier_node, of_link}
+use Rattle.ea_sound.specs.NodePlaces.{of_unlinked, unlinked_at}
 use Rattle.ea_machine.specs.Nodes.{Mark, named_at, name_of}
 use Rattle.ea_machine.specs.declared.nodes.Named.{Named}
 use Rattle.ea_machine.specs.Placements.{holding}
@@ -28,7 +29,8 @@ use Rattle.ea_machine.specs.Tasks.{let_go}
 use Rattle.ea_sound.specs.Moments.{at}
 use Rattle.ea_sound.specs.Rule.{Belongs, Kept, names_of}
 use Rattle.ea_sound.proofs.KeyedWeights.{sum-entered, sum-without, times, without-missing}
-use Rattle.ea_sound.proofs.MarkRows.{marks-linked, marks-push, marks-take_all, marks-with_rest, with_rest}
+use Rattle.ea_sound.proofs.MarkRows.{marks-linked, marks-push, marks-take_all, marks-with_rest}
+use Rattle.ea_sound.proofs.MarkRows.{with_rest}
 use Rattle.ea_sound.proofs.Moved.{Moved, lists_moved}
 use Rattle.ea_sound.proofs.Numbered.{scheduler-seat}
 use Rattle.ea_sound.proofs.Totals.{total-part}

@@ -1,6 +1,7 @@
 -- A block of a name at its place: it lies there once it is placed or resized, and still does when
 -- another block of the instance is released.
-use Rattle.std.proofs.Common.{◌≡◌, ◌≢◌, ℕ, ◌≤◌, [], Bool, true, false, refl, sym, ap, ◌∙◌, subst, inl, inr, arith}
+use Rattle.std.proofs.Common.{◌≡◌, ◌≢◌, ℕ, ◌≤◌, [], Bool, true, false, refl, sym, ap, ◌∙◌, subst}
+use Rattle.std.proofs.Common.{inl, inr, arith}
 use Rattle.std.specs.Prelude.{Option, None, Some, ◌==◌}
 use Rattle.std.proofs.lemmas.Bool.{eqb-true, true≢false}
 use Rattle.ea_model.specs.declared.carriers.Kind.{Kind}
@@ -14,7 +15,9 @@ use Rattle.ea_machine.specs.declared.tasks.Gone.TheVariants.{Here, Open}
 use Rattle.ea_machine.specs.declared.nodes.Named.{Named}
 use Rattle.ea_model.specs.Employment.{dismissing}
 use Rattle.ea_model.specs.Instance.{owner_of}
-use Rattle.ea_machine.specs.Releases.{abandoned_if, after_release, after_release_by, dismissed, first_gone, leaving_by, lightened, owned_by, release_here, route_of, routed}
+use Rattle.ea_machine.specs.Releases.{abandoned_if, after_release, after_release_by, dismissed}
+use Rattle.ea_machine.specs.Releases.{first_gone, leaving_by, lightened, owned_by, release_here}
+use Rattle.ea_machine.specs.Releases.{route_of, routed}
 use Rattle.ea_machine.specs.Setup.{Setup, migration}
 use Rattle.ea_sound.proofs.Assembly.{nil-is}
 use Rattle.ea_sound.proofs.BlockWeights.{block-rising}
@@ -27,9 +30,13 @@ use Rattle.ea_model.specs.declared.carriers.CarrierPlan.{CarrierPlan}
 use Rattle.ea_model.specs.declared.carriers.Place.{Place}
 use Rattle.ea_model.specs.declared.carriers.Spot.{Spot}
 use Rattle.ea_model.specs.declared.reallocation.Decision.{Decision}
-use Rattle.ea_model.specs.declared.reallocation.Decision.TheVariants.{Stay, ShrinkHere, GrowHere, ShrinkCarrier, Move}
-use Rattle.ea_model.specs.Content.{Content, block_at, gap_at, gaps_of, is_nil, placed, released, taken_of}
-use Rattle.ea_model.specs.Instance.{Instance, content_of, creating_single, decision_at, employed, place_at, placing_at, releasing_at, resized_to, resizing_at, single_place, size_for}
+use Rattle.ea_model.specs.declared.reallocation.Decision.TheVariants.{Stay, ShrinkHere, GrowHere}
+use Rattle.ea_model.specs.declared.reallocation.Decision.TheVariants.{ShrinkCarrier, Move}
+use Rattle.ea_model.specs.Content.{Content, block_at, gap_at, gaps_of, is_nil, placed, released}
+use Rattle.ea_model.specs.Content.{taken_of}
+use Rattle.ea_model.specs.Instance.{Instance, content_of, creating_single, decision_at, employed}
+use Rattle.ea_model.specs.Instance.{place_at, placing_at, releasing_at, resized_to, resizing_at}
+use Rattle.ea_model.specs.Instance.{single_place, size_for}
 use Rattle.ea_model.specs.Keyed.{changed_at}
 use Rattle.ea_model.proofs.Rising.{changed-found, item_at-key}
 use Rattle.ea_laws.specs.Kept.{number_of}
@@ -39,7 +46,9 @@ use Rattle.ea_machine.specs.Reallocations.{resized_place}
 use Rattle.ea_sound.specs.Released.{is_block}
 use Rattle.ea_machine.specs.Sums.{one_if, sum_over}
 use Rattle.ea_sound.specs.Orderly.{IsOrderly}
-use Rattle.ea_sound.proofs.EmployedWeights.{employed_sum-changing, employed_sum-creating_single, employed_sum-dismissing, employed_sum-employed, employed_sum-resizing}
+use Rattle.ea_sound.proofs.EmployedWeights.{employed_sum-changing, employed_sum-creating_single}
+use Rattle.ea_sound.proofs.EmployedWeights.{employed_sum-dismissing, employed_sum-employed}
+use Rattle.ea_sound.proofs.EmployedWeights.{employed_sum-resizing}
 use Rattle.ea_sound.proofs.FewBlocks.{Counting, all_named, blocks_named}
 use Rattle.ea_sound.proofs.KeyedWeights.{sum-entered, sum-item, sum-without, times-once}
 use Rattle.ea_sound.proofs.Resizing.{content_after}

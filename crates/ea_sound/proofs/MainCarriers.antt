@@ -1,5 +1,6 @@
 -- The main carrier of an instance, through each change of it.
-use Rattle.std.proofs.Common.{◌≡◌, ◌≢◌, ℕ, ◌+◌, ◌<◌, ◌≤◌, List, [], ◌∷◌, Bool, true, false, refl, ap, get_or, inl, inr, arith}
+use Rattle.std.proofs.Common.{◌≡◌, ◌≢◌, ℕ, ◌+◌, ◌<◌, ◌≤◌, List, [], ◌∷◌, Bool, true, false, refl}
+use Rattle.std.proofs.Common.{ap, get_or, inl, inr, arith}
 use Rattle.std.specs.Prelude.{Some, nat_lt, if◌then◌else◌}
 use Rattle.std.proofs.lemmas.Bool.{cases_eq}
 use Rattle.ea_model.specs.declared.carriers.CarrierPlan.{CarrierPlan}
@@ -7,9 +8,12 @@ use Rattle.ea_model.specs.declared.carriers.Kind.{Kind}
 use Rattle.ea_model.specs.declared.carriers.Kind.TheVariants.{Main, Multi, Single}
 use Rattle.ea_model.specs.declared.carriers.Spot.{Spot}
 use Rattle.ea_model.specs.declared.reallocation.Decision.{Decision}
-use Rattle.ea_model.specs.declared.reallocation.Decision.TheVariants.{Stay, ShrinkHere, GrowHere, ShrinkCarrier, Move}
+use Rattle.ea_model.specs.declared.reallocation.Decision.TheVariants.{Stay, ShrinkHere, GrowHere}
+use Rattle.ea_model.specs.declared.reallocation.Decision.TheVariants.{ShrinkCarrier, Move}
 use Rattle.ea_model.specs.Content.{Content, can_go, placed, released, resized}
-use Rattle.ea_model.specs.Instance.{Instance, content_of, creating, creating_single, decision_at, employed, first_number, main_content, placing_at, releasing_at, resized_by, resized_in, resized_to, resizing_at}
+use Rattle.ea_model.specs.Instance.{Instance, content_of, creating, creating_single, decision_at}
+use Rattle.ea_model.specs.Instance.{employed, first_number, main_content, placing_at, releasing_at}
+use Rattle.ea_model.specs.Instance.{resized_by, resized_in, resized_to, resizing_at}
 use Rattle.ea_model.specs.Keyed.{changed_at}
 use Rattle.ea_model.proofs.Rising.{changed_here, changed_past}
 use Rattle.ea_laws.specs.Kept.{IsLaidOutAlone, number_of}
@@ -21,7 +25,8 @@ use Rattle.ea_machine.specs.Setup.{Setup, first_page}
 use Rattle.ea_machine.specs.Sums.{sum_over}
 use Rattle.ea_sound.specs.Blocks.{EmploysMain, main_count}
 use Rattle.ea_sound.specs.Orderly.{IsOrderly}
-use Rattle.ea_sound.proofs.EmployedWeights.{employed_sum-creating, employed_sum-creating_single, employed_sum-dismissing, employed_sum-employing}
+use Rattle.ea_sound.proofs.EmployedWeights.{employed_sum-creating, employed_sum-creating_single}
+use Rattle.ea_sound.proofs.EmployedWeights.{employed_sum-dismissing, employed_sum-employing}
 use Rattle.ea_sound.proofs.KeyedWeights.{item-hit, times-once}
 use Rattle.ea_sound.proofs.Weights.{sum-zero}
 

@@ -17,7 +17,8 @@ use Rattle.ea_machine.specs.Shared.{Shared, at_place}
 use Rattle.ea_machine.specs.State.{State}
 use Rattle.ea_machine.specs.Sums.{sum_over, total, total_at}
 use Rattle.ea_sound.specs.Moments.{with_actor}
-use Rattle.ea_sound.specs.Rule.{Belongs, Kept, Unlinked, blocks_of, employed_at, names_of, numbers_of, of_own, of_owner, returning_at}
+use Rattle.ea_sound.specs.Rule.{Belongs, Kept, Unlinked, blocks_of, employed_at, names_of}
+use Rattle.ea_sound.specs.Rule.{numbers_of, of_own, of_owner, returning_at}
 use Rattle.ea_sound.proofs.MarkRows.{marks}
 use Rattle.ea_sound.proofs.NameRows.{NoMore, names_moved, names_outside, no_more}
 use Rattle.ea_sound.proofs.Numbered.{scheduler-seat}

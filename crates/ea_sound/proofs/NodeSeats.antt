@@ -1,5 +1,6 @@
 -- Where a scheduler links a node, and whose a carrier is that returns.
-use Rattle.std.proofs.Common.{◌≡◌, ◌≢◌, ℕ, zero, suc, ◌+◌, ◌<◌, ◌≤◌, true, refl, sym, ap, ◌∙◌, subst, inl, inr, arith}
+use Rattle.std.proofs.Common.{◌≡◌, ◌≢◌, ℕ, zero, suc, ◌+◌, ◌<◌, ◌≤◌, true, refl, sym, ap, ◌∙◌}
+use Rattle.std.proofs.Common.{subst, inl, inr, arith}
 use Rattle.std.proofs.lemmas.Bool.{cases_eq}
 use Rattle.ea_model.specs.Content.{Content}
 use Rattle.ea_machine.specs.declared.nodes.Node.{Node}
@@ -10,7 +11,8 @@ use Rattle.ea_machine.specs.Actor.{Actor}
 use Rattle.ea_machine.specs.declared.tasks.Why.{Why}
 use Rattle.ea_machine.specs.declared.tasks.Gone.{Gone}
 use Rattle.ea_sound.specs.Contents.{AtHome, seats}
-use Rattle.ea_sound.specs.NodePlaces.{anywhere, carrier_nodes, node_at, of_carrier_actor, of_carrier_hand, of_link, of_unlinked}
+use Rattle.ea_sound.specs.NodePlaces.{anywhere, carrier_nodes, node_at, of_carrier_actor}
+use Rattle.ea_sound.specs.NodePlaces.{of_carrier_hand, of_link, of_unlinked}
 use Rattle.ea_machine.specs.Owners.{CarrierAt, Absent, Employed, Pooled, Busy, Returning}
 use Rattle.ea_model.specs.Instance.{owner_of}
 use Rattle.ea_machine.specs.Setup.{Setup, is_scheduler, migration}

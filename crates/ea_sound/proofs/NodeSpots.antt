@@ -1,8 +1,10 @@
 -- Where the node is that a scheduler is about to push, or to link.
-use Rattle.std.proofs.Common.{◌≡◌, ℕ, zero, suc, ◌+◌, ◌<◌, ◌≤◌, Bool, true, false, List, [], ◌∷◌, refl, sym, ap, subst, inl, inr, arith}
+use Rattle.std.proofs.Common.{◌≡◌, ℕ, zero, suc, ◌+◌, ◌<◌, ◌≤◌, Bool, true, false, List, [], ◌∷◌}
+use Rattle.std.proofs.Common.{refl, sym, ap, subst, inl, inr, arith}
 use Rattle.std.specs.Prelude.{All, Contains, ◌==◌, ◌&&◌}
 use Rattle.std.proofs.lemmas.Bool.{cases_lt}
-use Rattle.std.proofs.lemmas.List.Elements.{All-cons, All-nil, All-weaker, Contains-append_left, Contains-append_right, Contains-push}
+use Rattle.std.proofs.lemmas.List.Elements.{All-cons, All-nil, All-weaker, Contains-append_left}
+use Rattle.std.proofs.lemmas.List.Elements.{Contains-append_right, Contains-push}
 use Rattle.ea_model.specs.declared.carriers.Spot.{Spot}
 use Rattle.ea_machine.specs.declared.nodes.Node.{Node}
 use Rattle.ea_machine.specs.declared.nodes.Node.TheVariants.{Block, Carrier}
@@ -14,7 +16,8 @@ use Rattle.ea_machine.specs.declared.tasks.Gone.{Gone}
 use Rattle.ea_sound.specs.Contents.{seats}
 use Rattle.ea_machine.specs.Guards.{IsNowhere, IsUnlinkedAt}
 use Rattle.ea_sound.specs.Names.{of_hand, of_mark, of_node, only}
-use Rattle.ea_sound.specs.NodePlaces.{anywhere, node_at, of_carrier_actor, of_carrier_hand, of_carrier_mark, of_carrier_node, of_link, of_unlinked}
+use Rattle.ea_sound.specs.NodePlaces.{anywhere, node_at, of_carrier_actor, of_carrier_hand}
+use Rattle.ea_sound.specs.NodePlaces.{of_carrier_mark, of_carrier_node, of_link, of_unlinked}
 use Rattle.ea_machine.specs.Nodes.{Mark, pushed, same_node, same_spot}
 use Rattle.ea_machine.specs.Owners.{CarrierAt, Absent, Employed, Pooled, Busy, Returning}
 use Rattle.ea_machine.specs.Setup.{Setup}

@@ -1,16 +1,21 @@
 -- Carriers that have a block, and what holds of each carrier after a reallocation in place.
-use Rattle.std.proofs.Common.{◌≡◌, ◌≢◌, ℕ, ◌≤◌, false, ◌&&◌, List, [], ◌∷◌, length, refl, sym, ap, ◌∙◌, subst, arith}
+use Rattle.std.proofs.Common.{◌≡◌, ◌≢◌, ℕ, ◌≤◌, false, ◌&&◌, List, [], ◌∷◌, length, refl, sym, ap}
+use Rattle.std.proofs.Common.{◌∙◌, subst, arith}
 use Rattle.std.specs.Prelude.{Option, Some, None, All}
 use Rattle.std.proofs.lemmas.Bool.{and_right}
 use Rattle.ea_model.specs.declared.carriers.BlockAt.{BlockAt}
 use Rattle.ea_model.specs.declared.carriers.Spot.{Spot}
 use Rattle.ea_model.specs.declared.reallocation.Decision.{Decision}
-use Rattle.ea_model.specs.declared.reallocation.Decision.TheVariants.{Stay, ShrinkHere, GrowHere, ShrinkCarrier, Move}
-use Rattle.ea_model.specs.Content.{Content, can_go, gap_at, gaps_of, inserted, is_nil, taken_of, is_vacant, placed, resized}
-use Rattle.ea_model.specs.Instance.{Instance, content_of, decision_at, employed, resized_by, resized_in, resized_to, resizing_at, shortened}
+use Rattle.ea_model.specs.declared.reallocation.Decision.TheVariants.{Stay, ShrinkHere, GrowHere}
+use Rattle.ea_model.specs.declared.reallocation.Decision.TheVariants.{ShrinkCarrier, Move}
+use Rattle.ea_model.specs.Content.{Content, can_go, gap_at, gaps_of, inserted, is_nil, taken_of}
+use Rattle.ea_model.specs.Content.{is_vacant, placed, resized}
+use Rattle.ea_model.specs.Instance.{Instance, content_of, decision_at, employed, resized_by}
+use Rattle.ea_model.specs.Instance.{resized_in, resized_to, resizing_at, shortened}
 use Rattle.ea_model.specs.Keyed.{changed_at}
 use Rattle.ea_model.proofs.Options.{same-some}
-use Rattle.ea_model.proofs.Rising.{changed-found, item_at-All, item_at-key, length-entered, rising-changed}
+use Rattle.ea_model.proofs.Rising.{changed-found, item_at-All, item_at-key, length-entered}
+use Rattle.ea_model.proofs.Rising.{rising-changed}
 use Rattle.ea_laws.specs.Kept.{number_of}
 use Rattle.ea_laws.proofs.Apart.{changed-All}
 use Rattle.ea_laws.proofs.BlockLists.{offset_of}

@@ -1,5 +1,6 @@
 -- An instance stays in order through each change, whoever owns the carriers that it employs.
-use Rattle.std.proofs.Common.{◌≡◌, ◌≢◌, ℕ, ◌+◌, ◌%◌, ◌/◌, ◌<◌, ◌≤◌, List, refl, sym, ap, ◌∙◌, subst, inl, inr, arith}
+use Rattle.std.proofs.Common.{◌≡◌, ◌≢◌, ℕ, ◌+◌, ◌%◌, ◌/◌, ◌<◌, ◌≤◌, List, refl, sym, ap, ◌∙◌, subst}
+use Rattle.std.proofs.Common.{inl, inr, arith}
 use Rattle.std.specs.Prelude.{Option, Some, None, Ok, All, option_map, ◌⊎◌}
 use Rattle.std.proofs.lemmas.Bool.{cond_both}
 use Rattle.std.proofs.lemmas.List.Elements.{All-filter}
@@ -11,22 +12,32 @@ use Rattle.ea_model.specs.declared.carriers.Kind.TheVariants.{Multi}
 use Rattle.ea_model.specs.declared.carriers.Spot.{Spot}
 use Rattle.ea_model.specs.declared.settings.Settings.{Settings}
 use Rattle.ea_model.specs.declared.reallocation.Decision.{Decision}
-use Rattle.ea_model.specs.declared.reallocation.Decision.TheVariants.{Stay, ShrinkHere, GrowHere, ShrinkCarrier, Move}
+use Rattle.ea_model.specs.declared.reallocation.Decision.TheVariants.{Stay, ShrinkHere, GrowHere}
+use Rattle.ea_model.specs.declared.reallocation.Decision.TheVariants.{ShrinkCarrier, Move}
 use Rattle.ea_model.specs.declared.reallocation.Where.{Where}
 use Rattle.ea_model.specs.declared.reallocation.Where.TheVariants as whereabouts
-use Rattle.ea_model.specs.Content.{Content, block_at, gap_behind, placed, released, resized, size_of}
+use Rattle.ea_model.specs.Content.{Content, block_at, gap_behind, placed, released, resized}
+use Rattle.ea_model.specs.Content.{size_of}
 use Rattle.ea_model.specs.Decision.{decision, size_after}
-use Rattle.ea_model.specs.Instance.{Instance, changing, content_of, created_content, created_single, creating, creating_single, decision_at, employed, own_at, own_of, placing_at, plan, releasing_at, resized_by, resized_in, resized_to, resizing_at, shortened, size_at, where_at, where_in, with_content, without_own}
+use Rattle.ea_model.specs.Instance.{Instance, changing, content_of, created_content, created_single}
+use Rattle.ea_model.specs.Instance.{creating, creating_single, decision_at, employed, own_at}
+use Rattle.ea_model.specs.Instance.{own_of, placing_at, plan, releasing_at, resized_by, resized_in}
+use Rattle.ea_model.specs.Instance.{resized_to, resizing_at, shortened, size_at, where_at, where_in}
+use Rattle.ea_model.specs.Instance.{with_content, without_own}
 use Rattle.ea_model.specs.Keyed.{IsBelow}
-use Rattle.ea_model.proofs.Merged.{merged-apart, merged-each, merged-first, merged-left, merged-right, merged-second}
+use Rattle.ea_model.proofs.Merged.{merged-apart, merged-each, merged-first, merged-left}
+use Rattle.ea_model.proofs.Merged.{merged-right, merged-second}
 use Rattle.ea_model.proofs.Options.{same-some}
-use Rattle.ea_model.proofs.Rising.{All-entered, item_at-All, item_at-changed, item_at-key, change, changed-found, none-other, rising-changed, rising-entered}
-use Rattle.ea_laws.specs.Kept.{number_of, own_number, IsKept, IsLaidOut, IsLaidOutAlone, IsRising, Stands}
+use Rattle.ea_model.proofs.Rising.{All-entered, item_at-All, item_at-changed, item_at-key, change}
+use Rattle.ea_model.proofs.Rising.{changed-found, none-other, rising-changed, rising-entered}
+use Rattle.ea_laws.specs.Kept.{number_of, own_number, IsKept, IsLaidOut, IsLaidOutAlone, IsRising}
+use Rattle.ea_laws.specs.Kept.{Stands}
 use Rattle.ea_laws.specs.Spots.{HasGap}
 use Rattle.ea_laws.proofs.Apart.{changed-All}
 use Rattle.ea_laws.proofs.Changed.{KeepsPlace, placed-keeps, released-keeps, resized-keeps}
 use Rattle.ea_laws.proofs.Contents.{block_among}
-use Rattle.ea_laws.proofs.Employed.{employed-changed, employed-cleared, employed-shortened, placing-is}
+use Rattle.ea_laws.proofs.Employed.{employed-changed, employed-cleared, employed-shortened}
+use Rattle.ea_laws.proofs.Employed.{placing-is}
 use Rattle.ea_laws.proofs.Keeping.{IsKept-cleared, IsKept-made, IsKept-shortened, IsLaidOut-made}
 use Rattle.ea_laws.proofs.Owned.{with_units}
 use Rattle.ea_laws.proofs.Reallocating.{shortened-alone}
@@ -34,7 +45,8 @@ use Rattle.ea_laws.proofs.Standing.{employed-rising, placed-IsLaidOut, released-
 use Rattle.ea_model.specs.Employment.{dismissing, disowning, employing}
 use Rattle.ea_sound.specs.Orderly.{IsOrderly}
 use Rattle.ea_sound.proofs.KeyedWeights.{without-missing}
-use Rattle.ea_sound.proofs.Resizing.{content_after, resized-IsLaidOut, resized-IsLaidOutAlone, single-resized, single-shortens}
+use Rattle.ea_sound.proofs.Resizing.{content_after, resized-IsLaidOut, resized-IsLaidOutAlone}
+use Rattle.ea_sound.proofs.Resizing.{single-resized, single-shortens}
 use Rattle.ea_sound.proofs.Laid.{created_single-IsLaidOutAlone, released-IsLaidOutAlone}
 
 -- an instance that employs what it owns is in order

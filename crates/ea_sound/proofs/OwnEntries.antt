@@ -16,7 +16,8 @@ use Rattle.ea_machine.specs.State.{State}
 use Rattle.ea_machine.specs.Sums.{one_if, sum_over}
 use Rattle.ea_sound.specs.Here.{Here}
 use Rattle.ea_sound.specs.Rule.{Kept, of_own, of_owner, own_numbers}
-use Rattle.ea_sound.proofs.Employers.{at_least_one, employed-here, found-counts, found-one, found-weighs, there-slot}
+use Rattle.ea_sound.proofs.Employers.{at_least_one, employed-here, found-counts, found-one}
+use Rattle.ea_sound.proofs.Employers.{found-weighs, there-slot}
 use Rattle.ea_sound.proofs.Global.{anywhere-only, sum-actor}
 use Rattle.ea_sound.proofs.Homes.{sum-there}
 use Rattle.ea_sound.proofs.KeyedWeights.{counts-other, sum-missing}

@@ -1,5 +1,6 @@
 -- A step leaves its scheduler less work of its own.
-use Rattle.std.proofs.Common.{◌≡◌, ◌≢◌, ◌⊎◌, ℕ, ◌*◌, ◌<◌, ◌≤◌, [], ◌∷◌, refl, sym, ap, ◌∙◌, inl, inr, arith, mul-le-mul_left}
+use Rattle.std.proofs.Common.{◌≡◌, ◌≢◌, ◌⊎◌, ℕ, ◌*◌, ◌<◌, ◌≤◌, [], ◌∷◌, refl, sym, ap, ◌∙◌, inl}
+use Rattle.std.proofs.Common.{inr, arith, mul-le-mul_left}
 use Rattle.std.specs.Prelude.{Option, None, Some, length}
 use Rattle.std.proofs.lemmas.Bool.{cases_lt}
 use Rattle.std.proofs.lemmas.List.Elements.{All-weaker}
@@ -14,9 +15,13 @@ use Rattle.ea_machine.specs.declared.nodes.Node.TheVariants.{Block, Carrier}
 use Rattle.ea_machine.specs.declared.tasks.Gone.{Gone}
 use Rattle.ea_machine.specs.declared.tasks.Why.{Why}
 use Rattle.ea_machine.specs.declared.stages.Stage.{Stage}
-use Rattle.ea_machine.specs.declared.stages.Stage.TheVariants.{Begin, Routed, Collecting, Searching, Fetching, Creating, Giving, Taking, Ended, Ready}
+use Rattle.ea_machine.specs.declared.stages.Stage.TheVariants.{Begin, Routed, Collecting, Searching}
+use Rattle.ea_machine.specs.declared.stages.Stage.TheVariants.{Fetching, Creating, Giving, Taking}
+use Rattle.ea_machine.specs.declared.stages.Stage.TheVariants.{Ended, Ready}
 use Rattle.ea_machine.specs.declared.stages.Route.{Route}
-use Rattle.ea_machine.specs.declared.stages.Route.TheVariants.{Looking, Trying, Settling, Abandoning, Sending, Clearing, Pushing, Linking}
+use Rattle.ea_machine.specs.declared.stages.Route.TheVariants.{Looking, Trying, Settling}
+use Rattle.ea_machine.specs.declared.stages.Route.TheVariants.{Abandoning, Sending, Clearing}
+use Rattle.ea_machine.specs.declared.stages.Route.TheVariants.{Pushing, Linking}
 use Rattle.ea_machine.specs.Actor.{Actor}
 use Rattle.ea_machine.specs.Alike.{IsNode, alike_in}
 use Rattle.ea_machine.specs.Completion.{work}

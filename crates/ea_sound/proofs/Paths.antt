@@ -4,12 +4,14 @@ use Rattle.std.proofs.Common.{refl, ap, ◌∙◌}
 use Rattle.ea_model.specs.declared.carriers.CarrierPlan.{CarrierPlan}
 use Rattle.ea_model.specs.declared.carriers.Spot.{Spot}
 use Rattle.ea_model.specs.declared.reallocation.Decision.{Decision}
-use Rattle.ea_model.specs.declared.reallocation.Decision.TheVariants.{Stay, ShrinkHere, GrowHere, ShrinkCarrier, Move}
+use Rattle.ea_model.specs.declared.reallocation.Decision.TheVariants.{Stay, ShrinkHere, GrowHere}
+use Rattle.ea_model.specs.declared.reallocation.Decision.TheVariants.{ShrinkCarrier, Move}
 use Rattle.ea_model.specs.Instance.{chosen_spot, creating, decision_at, is_alone, plan}
 use Rattle.ea_machine.specs.declared.asks.Ask.{Ask}
 use Rattle.ea_machine.specs.declared.nodes.Named.{Named}
 use Rattle.ea_machine.specs.Actor.{Actor}
-use Rattle.ea_machine.specs.Placements.{chosen_by, created_by, making, new_carrier, new_carrier_by, placed_at, placed_by, search_if, seek, seek_by}
+use Rattle.ea_machine.specs.Placements.{chosen_by, created_by, making, new_carrier, new_carrier_by}
+use Rattle.ea_machine.specs.Placements.{placed_at, placed_by, search_if, seek, seek_by}
 use Rattle.ea_machine.specs.Reallocations.{reallocated_by, resized_here}
 use Rattle.ea_machine.specs.Setup.{Setup, migration}
 

@@ -1,5 +1,6 @@
 -- Each content stays where its carrier's word says.
-use Rattle.std.proofs.Common.{◌≡◌, ◌≢◌, ℕ, ◌+◌, ◌*◌, ◌<◌, [], true, false, refl, sym, ap, ◌∙◌, subst, arith}
+use Rattle.std.proofs.Common.{◌≡◌, ◌≢◌, ℕ, ◌+◌, ◌*◌, ◌<◌, [], true, false, refl, sym, ap, ◌∙◌}
+use Rattle.std.proofs.Common.{subst, arith}
 use Rattle.std.specs.Prelude.{Bool}
 use Rattle.ea_model.specs.declared.carriers.Kind.TheVariants.{Multi}
 use Rattle.ea_model.specs.declared.carriers.OwnCarrier.{OwnCarrier}
@@ -13,7 +14,8 @@ use Rattle.ea_machine.specs.Shared.{Shared, at_place, put}
 use Rattle.ea_machine.specs.State.{State}
 use Rattle.ea_machine.specs.Sums.{sum_over, total, total_at}
 use Rattle.ea_sound.specs.Moments.{with_actor}
-use Rattle.ea_sound.specs.Rule.{Kept, Placed, employed_at, numbers_of, of_own, of_owner, own_numbers, placed_by}
+use Rattle.ea_sound.specs.Rule.{Kept, Placed, employed_at, numbers_of, of_own, of_owner}
+use Rattle.ea_sound.specs.Rule.{own_numbers, placed_by}
 use Rattle.ea_sound.proofs.Totals.{put-other, total-put, total_at-put}
 
 -- where a carrier may be: in the pool with its blocks and its largest gap, or on its way to its

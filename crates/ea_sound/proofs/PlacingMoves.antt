@@ -1,5 +1,6 @@
 -- Moves of a scheduler that place a block: in a carrier that it employs, or in one that it makes.
-use Rattle.std.proofs.Common.{◌≡◌, ◌≢◌, ℕ, ◌+◌, ◌*◌, ◌≤◌, [], Bool, true, false, refl, sym, ap, ◌∙◌, subst, inl, inr, arith}
+use Rattle.std.proofs.Common.{◌≡◌, ◌≢◌, ℕ, ◌+◌, ◌*◌, ◌≤◌, [], Bool, true, false, refl, sym, ap, ◌∙◌}
+use Rattle.std.proofs.Common.{subst, inl, inr, arith}
 use Rattle.std.proofs.lemmas.Bool.{cases_eq, true≢false}
 use Rattle.std.specs.Prelude.{Some, None, Ok, ◌==◌}
 use Rattle.ea_model.specs.declared.carriers.CarrierPlan.{CarrierPlan}
@@ -7,7 +8,9 @@ use Rattle.ea_model.specs.declared.carriers.Kind.TheVariants.{Multi, Single}
 use Rattle.ea_model.specs.declared.carriers.OwnCarrier.{OwnCarrier}
 use Rattle.ea_model.specs.declared.carriers.Spot.{Spot}
 use Rattle.ea_model.specs.Content.{Content, placed}
-use Rattle.ea_model.specs.Instance.{chosen_spot, content_of, created_content, created_single, creating, creating_single, employed, own_at, plan, planned_own, placing_at, with_own}
+use Rattle.ea_model.specs.Instance.{chosen_spot, content_of, created_content, created_single}
+use Rattle.ea_model.specs.Instance.{creating, creating_single, employed, own_at, plan, planned_own}
+use Rattle.ea_model.specs.Instance.{placing_at, with_own}
 use Rattle.ea_model.proofs.Rising.{All-entered, item_at-All, item_at-key}
 use Rattle.ea_laws.specs.Kept.{number_of, own_number}
 use Rattle.ea_laws.specs.Spots.{HasGap}
@@ -28,8 +31,10 @@ use Rattle.ea_sound.specs.Rule.{Belongs, Kept, Standing, blocks_of, of_owner}
 use Rattle.ea_sound.proofs.Alike.{Alike, allocated-with, fewer-once, kept-with, lies-with}
 use Rattle.ea_sound.proofs.BlockWeights.{sum-placed}
 use Rattle.ea_sound.proofs.Choosing.{chosen-gap}
-use Rattle.ea_sound.proofs.Created.{created-Belongs, created-owner, creating-Standing, creating_single-Standing}
-use Rattle.ea_sound.proofs.EmployedWeights.{employed_sum-creating, employed_sum-creating_single, employed_sum-placing}
+use Rattle.ea_sound.proofs.Created.{created-Belongs, created-owner, creating-Standing}
+use Rattle.ea_sound.proofs.Created.{creating_single-Standing}
+use Rattle.ea_sound.proofs.EmployedWeights.{employed_sum-creating, employed_sum-creating_single}
+use Rattle.ea_sound.proofs.EmployedWeights.{employed_sum-placing}
 use Rattle.ea_sound.proofs.KeyedWeights.{sum-entered}
 use Rattle.ea_sound.proofs.Orderly.{placing-IsOrderly}
 use Rattle.ea_sound.proofs.OwnEntries.{unused-none}

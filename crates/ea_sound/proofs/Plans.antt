@@ -1,11 +1,13 @@
 -- What a plan says of the carrier, and where own carriers lie.
-use Rattle.std.proofs.Common.{refl, ap, sym, ◌∙◌, ◌≡◌, ℕ, ◌+◌, ◌*◌, ◌<◌, ◌≤◌, false, List, [], ◌∷◌, arith}
+use Rattle.std.proofs.Common.{refl, ap, sym, ◌∙◌, ◌≡◌, ℕ, ◌+◌, ◌*◌, ◌<◌, ◌≤◌, false, List, [], ◌∷◌}
+use Rattle.std.proofs.Common.{arith}
 use Rattle.std.specs.Prelude.{Option, None, Some, Ok, All, is_some}
 use Rattle.std.proofs.lemmas.List.Elements.{All-cons, All-nil, All-weaker}
 use Rattle.ea_model.specs.declared.carriers.CarrierPlan.{CarrierPlan}
 use Rattle.ea_model.specs.declared.carriers.OwnCarrier.{OwnCarrier}
 use Rattle.ea_model.specs.declared.carriers.Segment.{Segment}
-use Rattle.ea_model.specs.Instance.{Instance, first_number, is_used, own_at, plan, segment_of, segments, owner_of}
+use Rattle.ea_model.specs.Instance.{Instance, first_number, is_used, own_at, plan, segment_of}
+use Rattle.ea_model.specs.Instance.{segments, owner_of}
 use Rattle.ea_model.specs.Region.{Laid}
 use Rattle.ea_model.proofs.Merged.{entered-All}
 use Rattle.ea_model.proofs.Rising.{item_at-All, item_at-key}

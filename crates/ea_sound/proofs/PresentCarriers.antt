@@ -10,7 +10,8 @@ use Rattle.std.proofs.lemmas.List.Folds.{find-append, flat_map-map}
 use Rattle.ea_model.specs.declared.carriers.OwnCarrier.{OwnCarrier}
 use Rattle.ea_model.specs.declared.carriers.Standing.TheVariants as standing
 use Rattle.ea_model.specs.Content.{Content}
-use Rattle.ea_model.specs.Instance.{Instance, carrier_line, content_of, employed, first_number, owner_of}
+use Rattle.ea_model.specs.Instance.{Instance, carrier_line, content_of, employed, first_number}
+use Rattle.ea_model.specs.Instance.{owner_of}
 use Rattle.ea_model.specs.Instance.{is_used, own_at, own_of}
 use Rattle.ea_model.specs.Keyed.{has_key, merged}
 use Rattle.ea_model.proofs.Merged.{merged-All, merged-first, merged-second}
@@ -19,12 +20,14 @@ use Rattle.ea_model.proofs.NumberedItems.{if_there, in-parts, map-flat_map}
 use Rattle.ea_model.proofs.Rising.{item_at-All, item_at-key}
 use Rattle.ea_laws.specs.Kept.{HasNumberIn, IsOwn, IsRising, Stands, number_of, own_number}
 use Rattle.ea_machine.specs.declared.stages.Route.{Route}
-use Rattle.ea_machine.specs.declared.stages.Route.TheVariants.{Looking, Trying, Settling, Abandoning, Sending}
+use Rattle.ea_machine.specs.declared.stages.Route.TheVariants.{Looking, Trying, Settling}
+use Rattle.ea_machine.specs.declared.stages.Route.TheVariants.{Abandoning, Sending}
 use Rattle.ea_machine.specs.Actor.{Actor}
 use Rattle.ea_machine.specs.declared.stages.Stage.{Stage}
 use Rattle.ea_machine.specs.declared.stages.Stage.TheVariants.{Begin, Routed, Collecting}
 use Rattle.ea_machine.specs.declared.stages.Route.TheVariants.{Clearing, Pushing, Linking}
-use Rattle.ea_machine.specs.declared.stages.Stage.TheVariants.{Searching, Fetching, Creating, Giving, Taking, Ended, Ready}
+use Rattle.ea_machine.specs.declared.stages.Stage.TheVariants.{Searching, Fetching, Creating}
+use Rattle.ea_machine.specs.declared.stages.Stage.TheVariants.{Giving, Taking, Ended, Ready}
 use Rattle.ea_machine.specs.Outcome.{Present, actors_of, line_of, owned_place, place_in, place_of}
 use Rattle.ea_machine.specs.Outcome.{present, present_at, present_if, settling_at}
 use Rattle.ea_machine.specs.Setup.{Setup, is_scheduler, migration}

@@ -1,5 +1,6 @@
 -- Where the operation itself leaves a scheduler, from a begin that is over.
-use Rattle.std.proofs.Common.{◌≡◌, ◌⊎◌, ℕ, ◌+◌, ◌≤◌, List, [], ◌∷◌, ◌++◌, Bool, true, false, refl, sym, ◌∙◌, subst, inl, inr, arith}
+use Rattle.std.proofs.Common.{◌≡◌, ◌⊎◌, ℕ, ◌+◌, ◌≤◌, List, [], ◌∷◌, ◌++◌, Bool, true, false, refl}
+use Rattle.std.proofs.Common.{sym, ◌∙◌, subst, inl, inr, arith}
 use Rattle.std.specs.Prelude.{Option, None, Some, Ok, All, ◌==◌}
 use Rattle.std.specs.List.{AllZip}
 use Rattle.std.proofs.lemmas.Bool.{cases_Bool, true≢false}
@@ -10,7 +11,8 @@ use Rattle.ea_model.specs.declared.carriers.Spot.{Spot}
 use Rattle.ea_model.specs.declared.entries.Entry.{Entry}
 use Rattle.ea_model.specs.declared.entries.Entry.TheVariants as entry
 use Rattle.ea_model.specs.declared.operations.Op.{Op}
-use Rattle.ea_model.specs.Instance.{Instance, chosen_spot, content_of, creating, creating_single, employed, place_at, placing_at, plan, single_place}
+use Rattle.ea_model.specs.Instance.{Instance, chosen_spot, content_of, creating, creating_single}
+use Rattle.ea_model.specs.Instance.{employed, place_at, placing_at, plan, single_place}
 use Rattle.ea_model.specs.Content.{Content, is_empty_multi}
 use Rattle.ea_model.specs.Strategies.{may_miss}
 use Rattle.ea_model.proofs.Options.{some_value}
@@ -30,23 +32,30 @@ use Rattle.ea_sound.specs.Names.{made_in, unplaced_by}
 use Rattle.ea_machine.specs.declared.nodes.Named.{Named}
 use Rattle.ea_sound.specs.Places.{MayStay}
 use Rattle.ea_machine.specs.Sums.{one_if}
-use Rattle.ea_machine.specs.Placements.{created, created_by, holding, placed_at, placed_by, spot_of_place, stands}
+use Rattle.ea_machine.specs.Placements.{created, created_by, holding, placed_at, placed_by}
+use Rattle.ea_machine.specs.Placements.{spot_of_place, stands}
 use Rattle.ea_machine.specs.Releases.{route_of}
 use Rattle.ea_machine.specs.Setup.{Setup, migration}
 use Rattle.ea_machine.specs.Shared.{Shared}
-use Rattle.ea_machine.specs.Tasks.{carried_by, entry_of, hands_over, later, let_go, logged, task_over}
+use Rattle.ea_machine.specs.Tasks.{carried_by, entry_of, hands_over, later, let_go, logged}
+use Rattle.ea_machine.specs.Tasks.{task_over}
 use Rattle.ea_sound.specs.Blocks.{EmploysMain}
 use Rattle.ea_sound.specs.Present.{OfAsk, OfTask, OfWhy}
 use Rattle.ea_sound.specs.Rule.{Standing}
 use Rattle.ea_sound.proofs.Choosing.{chosen-gap, chosen-in_planned}
 use Rattle.ea_sound.proofs.Created.{sure-strategy}
-use Rattle.ea_sound.proofs.Entries.{OfFirst, append-one, ask-allocated, ask-even, ask-least, ask-made, ask-moving, entries-more, task-entry, task-made}
-use Rattle.ea_sound.proofs.FewBlocks.{Counting, all_named, creating-fewer, creating_single-fewer, placing-fewer}
-use Rattle.ea_sound.proofs.HeldNames.{holding-names, holding-rising, let_go-rising, let_go-times, times_held, turned-equal}
+use Rattle.ea_sound.proofs.Entries.{OfFirst, append-one, ask-allocated, ask-even, ask-least}
+use Rattle.ea_sound.proofs.Entries.{ask-made, ask-moving, entries-more, task-entry, task-made}
+use Rattle.ea_sound.proofs.FewBlocks.{Counting, all_named, creating-fewer, creating_single-fewer}
+use Rattle.ea_sound.proofs.FewBlocks.{placing-fewer}
+use Rattle.ea_sound.proofs.HeldNames.{holding-names, holding-rising, let_go-rising, let_go-times}
+use Rattle.ea_sound.proofs.HeldNames.{times_held, turned-equal}
 use Rattle.ea_sound.proofs.MainCarriers.{creating-main, creating_single-main, placing-main}
-use Rattle.ea_sound.proofs.Orderly.{creating-IsOrderly, creating_single-IsOrderly, placing-IsOrderly}
+use Rattle.ea_sound.proofs.Orderly.{creating-IsOrderly, creating_single-IsOrderly}
+use Rattle.ea_sound.proofs.Orderly.{placing-IsOrderly}
 use Rattle.ea_sound.proofs.ReleaseRoutes.{route-good}
-use Rattle.ea_sound.proofs.Staying.{AllStay, AllStayBut, but-stay, creating-stay, creating_single-stay, placing-stay, vacant-empty}
+use Rattle.ea_sound.proofs.Staying.{AllStay, AllStayBut, but-stay, creating-stay}
+use Rattle.ea_sound.proofs.Staying.{creating_single-stay, placing-stay, vacant-empty}
 use Rattle.ea_sound.proofs.Suits.{Bare, CoreOf, Good, RouteGood}
 
 module _ (e : Setup) (s : Shared) (me : ℕ) (home bound : Counting → ℕ) (R : Actor → Type 0) where

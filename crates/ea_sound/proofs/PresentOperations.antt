@@ -1,5 +1,6 @@
 -- Where the operation itself leaves a scheduler, once its begin is over.
-use Rattle.std.proofs.Common.{◌≡◌, ◌≢◌, ◌⊎◌, ℕ, ◌+◌, ◌<◌, ◌≤◌, List, [], ◌∷◌, Bool, true, false, refl, sym, ap, ◌∙◌, subst, inl, inr, arith}
+use Rattle.std.proofs.Common.{◌≡◌, ◌≢◌, ◌⊎◌, ℕ, ◌+◌, ◌<◌, ◌≤◌, List, [], ◌∷◌, Bool, true, false}
+use Rattle.std.proofs.Common.{refl, sym, ap, ◌∙◌, subst, inl, inr, arith}
 use Rattle.std.specs.Prelude.{Option, None, Some, Result, Ok, Err, ◌==◌, ◌&&◌, nat_lt}
 use Rattle.ea_model.specs.declared.carriers.CarrierPlan.{CarrierPlan}
 use Rattle.ea_model.specs.declared.carriers.Spot.{Spot}
@@ -9,7 +10,8 @@ use Rattle.ea_model.specs.declared.entries.NoCarrier.{NoCarrier}
 use Rattle.ea_model.specs.declared.operations.Op.{Op}
 use Rattle.ea_model.specs.declared.operations.Op.TheVariants as op
 use Rattle.ea_model.specs.declared.reallocation.Decision.{Decision}
-use Rattle.ea_model.specs.declared.reallocation.Decision.TheVariants.{Stay, ShrinkHere, GrowHere, ShrinkCarrier, Move}
+use Rattle.ea_model.specs.declared.reallocation.Decision.TheVariants.{Stay, ShrinkHere, GrowHere}
+use Rattle.ea_model.specs.declared.reallocation.Decision.TheVariants.{ShrinkCarrier, Move}
 use Rattle.ea_model.specs.declared.units.TheConstants.{SEARCH_LIMIT}
 use Rattle.ea_model.specs.Instance.{chosen_spot, decision_at, figures, is_alone, plan, resizing_at}
 use Rattle.ea_model.specs.Units.{need_of}
@@ -24,17 +26,21 @@ use Rattle.ea_sound.specs.Names.{made_in}
 use Rattle.ea_machine.specs.Nodes.{named_at, name_of}
 use Rattle.ea_machine.specs.declared.nodes.Named.{Named}
 use Rattle.ea_machine.specs.Operations.{freed, giving, itself}
-use Rattle.ea_machine.specs.Placements.{chosen_by, failed, holding, making, new_carrier, new_carrier_by, search_at, search_if, searched_by, seek, seek_by}
+use Rattle.ea_machine.specs.Placements.{chosen_by, failed, holding, making, new_carrier}
+use Rattle.ea_machine.specs.Placements.{new_carrier_by, search_at, search_if, searched_by, seek}
+use Rattle.ea_machine.specs.Placements.{seek_by}
 use Rattle.ea_machine.specs.Reallocations.{reallocated, reallocated_by, resized_here, resized_place}
 use Rattle.ea_machine.specs.Setup.{Setup, greatest_number, migration}
 use Rattle.ea_machine.specs.Shared.{Shared}
-use Rattle.ea_machine.specs.Statistics.{employed_multis, employed_singles, observed, report, restarted}
+use Rattle.ea_machine.specs.Statistics.{employed_multis, employed_singles, observed, report}
+use Rattle.ea_machine.specs.Statistics.{restarted}
 use Rattle.ea_machine.specs.Sums.{one_if}
 use Rattle.ea_machine.specs.Tasks.{later, let_go, logged}
 use Rattle.ea_sound.specs.Present.{OfAsk, OfTask}
 use Rattle.ea_sound.proofs.Entries.{OfFirst, ask-failed, later-made}
 use Rattle.ea_sound.proofs.FewBlocks.{Counting, resizing-fewer}
-use Rattle.ea_sound.proofs.HeldNames.{holding-names, holding-rising, let_go-rising, let_go-times, times_held, turned-equal}
+use Rattle.ea_sound.proofs.HeldNames.{holding-names, holding-rising, let_go-rising, let_go-times}
+use Rattle.ea_sound.proofs.HeldNames.{times_held, turned-equal}
 use Rattle.ea_sound.proofs.MainCarriers.{resizing-main}
 use Rattle.ea_sound.proofs.PresentMoves.{created-good, hands-good, log-good, placed-good}
 use Rattle.ea_sound.proofs.Staying.{resizing-stay}

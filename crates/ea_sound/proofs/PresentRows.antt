@@ -1,5 +1,6 @@
 -- Where each row leaves the scheduler that does it.
-use Rattle.std.proofs.Common.{◌≡◌, ◌≢◌, ℕ, zero, suc, ◌+◌, ◌-◌, ◌≤◌, List, [], ◌∷◌, Bool, true, false, ◌&&◌, refl, sym, ap, ◌∙◌, subst, inl, arith}
+use Rattle.std.proofs.Common.{◌≡◌, ◌≢◌, ℕ, zero, suc, ◌+◌, ◌-◌, ◌≤◌, List, [], ◌∷◌, Bool, true}
+use Rattle.std.proofs.Common.{false, ◌&&◌, refl, sym, ap, ◌∙◌, subst, inl, arith}
 use Rattle.std.specs.Prelude.{Option, None, Some, option_map, ◌==◌, nat_le}
 use Rattle.std.proofs.lemmas.Bool.{and_right, true≢false}
 use Rattle.ea_model.specs.declared.carriers.BlockAt.{BlockAt}
@@ -10,7 +11,9 @@ use Rattle.ea_model.specs.Content.{Content, can_go, is_nil}
 use Rattle.ea_machine.specs.declared.owners.OwnerWord.{OwnerWord}
 use Rattle.ea_machine.specs.declared.owners.OwnerWord.TheVariants as word
 use Rattle.ea_machine.specs.declared.stages.Stage.{Stage}
-use Rattle.ea_machine.specs.declared.stages.Stage.TheVariants.{Begin, Routed, Collecting, Searching, Fetching, Creating, Giving, Taking, Ended, Ready}
+use Rattle.ea_machine.specs.declared.stages.Stage.TheVariants.{Begin, Routed, Collecting, Searching}
+use Rattle.ea_machine.specs.declared.stages.Stage.TheVariants.{Fetching, Creating, Giving, Taking}
+use Rattle.ea_machine.specs.declared.stages.Stage.TheVariants.{Ended, Ready}
 use Rattle.ea_machine.specs.Actor.{Actor}
 use Rattle.ea_machine.specs.declared.asks.Ask.{Ask}
 use Rattle.ea_sound.specs.Contents.{home_sum, seats, slots}
@@ -23,8 +26,10 @@ use Rattle.ea_sound.specs.Names.{made_in, of_named, only, unplaced}
 use Rattle.ea_machine.specs.Nodes.{named_at, name_of}
 use Rattle.ea_machine.specs.declared.nodes.Named.{Named}
 use Rattle.ea_machine.specs.Operations.{gave, took_by}
-use Rattle.ea_machine.specs.Owners.{CarrierAt, Absent, Employed, Pooled, Busy, Returning, same_word, word_of}
-use Rattle.ea_machine.specs.Placements.{created, holding, counted, counted_by, counts, fetched, fits as word_fits, placed_by, saw_by, searched}
+use Rattle.ea_machine.specs.Owners.{CarrierAt, Absent, Employed, Pooled, Busy, Returning, same_word}
+use Rattle.ea_machine.specs.Owners.{word_of}
+use Rattle.ea_machine.specs.Placements.{created, holding, counted, counted_by, counts, fetched}
+use Rattle.ea_machine.specs.Placements.{fits as word_fits, placed_by, saw_by, searched}
 use Rattle.ea_machine.specs.Releases.{disowned, looked, turned}
 use Rattle.ea_machine.specs.Rows.{Lost, Saw, Won}
 use Rattle.ea_machine.specs.Setup.{Setup, is_scheduler}
@@ -37,7 +42,8 @@ use Rattle.ea_sound.specs.Present.{Asked, Fits, Rule}
 use Rattle.ea_sound.specs.Rule.{Kept, Standing, names_of}
 use Rattle.ea_sound.proofs.FewBlocks.{Counting, blocks_named}
 use Rattle.ea_sound.proofs.EmployedWeights.{employed_sum-employing}
-use Rattle.ea_sound.proofs.HeldNames.{holding-names, holding-rising, let_go-rising, let_go-times, times_held, turned-equal}
+use Rattle.ea_sound.proofs.HeldNames.{holding-names, holding-rising, let_go-rising, let_go-times}
+use Rattle.ea_sound.proofs.HeldNames.{times_held, turned-equal}
 use Rattle.ea_sound.proofs.Homes.{pooled-slot}
 use Rattle.ea_sound.proofs.KeyedWeights.{sum-item}
 use Rattle.ea_sound.proofs.MainCarriers.{employing-main}
@@ -46,7 +52,8 @@ use Rattle.ea_sound.proofs.Staying.{employing-stay}
 use Rattle.ea_sound.proofs.PresentMoves.{carried-good, created-good, placed-good}
 use Rattle.ea_sound.proofs.PresentOperations.{first-good, search-good}
 use Rattle.ea_sound.proofs.PresentWalks.{GoodAfterRow, InOrder, route_over-good, work-good}
-use Rattle.ea_sound.proofs.RowCores.{bound_of, core, disowned-bare, hand_named, home_of, own, put-more, seat}
+use Rattle.ea_sound.proofs.RowCores.{bound_of, core, disowned-bare, hand_named, home_of, own}
+use Rattle.ea_sound.proofs.RowCores.{put-more, seat}
 use Rattle.ea_sound.proofs.BeginRows.{begin-good}
 use Rattle.ea_sound.proofs.RouteRows.{turned-good}
 use Rattle.ea_sound.proofs.RowLeaves.{creating-bare, row-left}

@@ -1,5 +1,6 @@
 -- The carriers that are printed are those that are there, with all contents.
-use Rattle.std.proofs.Common.{◌≡◌, ◌≢◌, ℕ, zero, suc, ◌+◌, ◌<◌, ◌∙◌, List, ◌++◌, map, refl, sym, ap, arith}
+use Rattle.std.proofs.Common.{◌≡◌, ◌≢◌, ℕ, zero, suc, ◌+◌, ◌<◌, ◌∙◌, List, ◌++◌, map, refl, sym, ap}
+use Rattle.std.proofs.Common.{arith}
 use Rattle.std.specs.Prelude.{Option, None, Some, filter, not, ◌==◌}
 use Rattle.std.specs.List.{range_with_len}
 use Rattle.ea_model.specs.declared.carriers.Standing.TheVariants as standing
@@ -8,21 +9,29 @@ use Rattle.ea_model.specs.Instance.{content_of}
 use Rattle.ea_model.proofs.Rising.{item_at-All, item_at-key}
 use Rattle.ea_laws.specs.Kept.{number_of}
 use Rattle.ea_machine.specs.declared.stages.Stage.{Stage}
-use Rattle.ea_machine.specs.declared.stages.Stage.TheVariants.{Begin, Routed, Collecting, Searching, Fetching, Creating, Giving, Taking, Ended, Ready}
+use Rattle.ea_machine.specs.declared.stages.Stage.TheVariants.{Begin, Routed, Collecting, Searching}
+use Rattle.ea_machine.specs.declared.stages.Stage.TheVariants.{Fetching, Creating, Giving, Taking}
+use Rattle.ea_machine.specs.declared.stages.Stage.TheVariants.{Ended, Ready}
 use Rattle.ea_machine.specs.declared.stages.Route.{Route}
-use Rattle.ea_machine.specs.declared.stages.Route.TheVariants.{Looking, Trying, Settling, Abandoning, Sending, Clearing, Pushing, Linking}
+use Rattle.ea_machine.specs.declared.stages.Route.TheVariants.{Looking, Trying, Settling}
+use Rattle.ea_machine.specs.declared.stages.Route.TheVariants.{Abandoning, Sending, Clearing}
+use Rattle.ea_machine.specs.declared.stages.Route.TheVariants.{Pushing, Linking}
 use Rattle.ea_machine.specs.Actor.{Actor}
 use Rattle.ea_sound.specs.Contents.{hand_sum, home_sum, route_sum, seats, sum_everywhere}
-use Rattle.ea_machine.specs.Outcome.{Present, place_of, present, present_at, present_if, settling_at, settling_on}
+use Rattle.ea_machine.specs.Outcome.{Present, place_of, present, present_at, present_if}
+use Rattle.ea_machine.specs.Outcome.{settling_at, settling_on}
 use Rattle.ea_machine.specs.Owners.{CarrierAt, Absent, Employed, Pooled, Busy, Returning}
 use Rattle.ea_sound.specs.Places.{busy_count, employed_count, has_number, is_there, none}
 use Rattle.ea_machine.specs.Setup.{Setup, greatest_number}
 use Rattle.ea_machine.specs.State.{State}
-use Rattle.ea_machine.specs.Statistics.{employed_multis, employed_singles, is_single, leaving_at, leaving_on}
+use Rattle.ea_machine.specs.Statistics.{employed_multis, employed_singles, is_single, leaving_at}
+use Rattle.ea_machine.specs.Statistics.{leaving_on}
 use Rattle.ea_machine.specs.Sums.{one_if, sum_over}
 use Rattle.ea_sound.specs.Rule.{Kept}
 use Rattle.ea_sound.proofs.Anywhere.{everywhere}
-use Rattle.ea_sound.proofs.Counted.{Counts, CountsIn, IsOfCounted, all-counted, at_actor, counts-all, counts-home, counts-less, counts-more, counts-only, counts-seat, list_sum}
+use Rattle.ea_sound.proofs.Counted.{Counts, CountsIn, IsOfCounted, all-counted, at_actor}
+use Rattle.ea_sound.proofs.Counted.{counts-all, counts-home, counts-less, counts-more, counts-only}
+use Rattle.ea_sound.proofs.Counted.{counts-seat, list_sum}
 use Rattle.ea_sound.proofs.Employers.{there-slot}
 use Rattle.ea_sound.proofs.Global.{IsOf}
 use Rattle.ea_sound.proofs.KeyedWeights.{counts-key, counts-other, sum-missing}

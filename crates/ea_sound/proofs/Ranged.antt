@@ -1,5 +1,6 @@
 -- Sums over lists of lists, and over numbers from 1 on.
-use Rattle.std.proofs.Common.{◌≡◌, ◌≢◌, ℕ, zero, suc, ◌+◌, ◌≤◌, Bool, true, false, List, [], ◌∷◌, refl, ap, arith}
+use Rattle.std.proofs.Common.{◌≡◌, ◌≢◌, ℕ, zero, suc, ◌+◌, ◌≤◌, Bool, true, false, List, [], ◌∷◌}
+use Rattle.std.proofs.Common.{refl, ap, arith}
 use Rattle.std.specs.Prelude.{filter, flat_map, if◌then◌else◌, not, ◌==◌}
 use Rattle.std.specs.List.{range_with_len}
 use Rattle.ea_machine.specs.Sums.{sum_over, total}

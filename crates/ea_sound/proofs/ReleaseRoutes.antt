@@ -1,5 +1,6 @@
 -- What the release of a block, and the way of its carrier, leave to a scheduler.
-use Rattle.std.proofs.Common.{◌≡◌, ◌≢◌, ◌⊎◌, ℕ, ◌+◌, ◌≤◌, List, [], ◌∷◌, Bool, true, false, ◌&&◌, refl, sym, ap, ◌∙◌, subst, inl, inr, arith}
+use Rattle.std.proofs.Common.{◌≡◌, ◌≢◌, ◌⊎◌, ℕ, ◌+◌, ◌≤◌, List, [], ◌∷◌, Bool, true, false, ◌&&◌}
+use Rattle.std.proofs.Common.{refl, sym, ap, ◌∙◌, subst, inl, inr, arith}
 use Rattle.std.specs.Prelude.{Option, None, Some, ◌==◌}
 use Rattle.std.proofs.lemmas.Bool.{cases_Bool, eqb-false, eqb-true, true≢false}
 use Rattle.ea_model.specs.declared.carriers.BlockAt.{BlockAt}
@@ -23,7 +24,9 @@ use Rattle.ea_machine.specs.declared.tasks.Gone.TheVariants.{Open, Here}
 use Rattle.ea_model.specs.Employment.{dismissing}
 use Rattle.ea_sound.specs.Names.{unplaced_by}
 use Rattle.ea_machine.specs.declared.nodes.Named.{Named}
-use Rattle.ea_machine.specs.Releases.{Turned, abandoned_if, after_release, after_release_by, dismissed, disowned, first_gone, leaving, leaving_by, lightened, owned_by, release_here, route_of, routed, sent_to}
+use Rattle.ea_machine.specs.Releases.{Turned, abandoned_if, after_release, after_release_by}
+use Rattle.ea_machine.specs.Releases.{dismissed, disowned, first_gone, leaving, leaving_by}
+use Rattle.ea_machine.specs.Releases.{lightened, owned_by, release_here, route_of, routed, sent_to}
 use Rattle.ea_machine.specs.Setup.{Setup, is_scheduler, migration}
 use Rattle.ea_machine.specs.Shared.{Shared}
 use Rattle.ea_sound.specs.Blocks.{EmploysMain}
@@ -34,7 +37,8 @@ use Rattle.ea_sound.proofs.EmployedWeights.{employed_sum-dismissing}
 use Rattle.ea_sound.proofs.FewBlocks.{Counting, all_named, blocks_named, releasing-fewer}
 use Rattle.ea_sound.proofs.KeyedWeights.{changed-missing}
 use Rattle.ea_sound.proofs.MainCarriers.{dismissing-main, releasing-main}
-use Rattle.ea_sound.proofs.Orderly.{changing-found, disowning-IsOrderly, dismissing-IsOrderly, releasing-IsOrderly}
+use Rattle.ea_sound.proofs.Orderly.{changing-found, disowning-IsOrderly, dismissing-IsOrderly}
+use Rattle.ea_sound.proofs.Orderly.{releasing-IsOrderly}
 use Rattle.ea_sound.proofs.Staying.{AllStay, AllStayBut, dismissing-stay, here-stay, releasing-stay}
 use Rattle.ea_sound.proofs.Suits.{Bare, CoreOf, TurnedGood}
 use Rattle.ea_sound.proofs.Unmoved.{due-unmoved, employed-owner, leaving-Stands, off-acul}

@@ -1,5 +1,6 @@
 -- A scheduler that resizes a block in its place, under a new name, keeps what every moment keeps.
-use Rattle.std.proofs.Common.{◌≡◌, ◌≢◌, ℕ, ◌+◌, ◌*◌, ◌/◌, ◌%◌, ◌<◌, ◌≤◌, true, refl, sym, ap, ◌∙◌, subst, inl, inr, arith}
+use Rattle.std.proofs.Common.{◌≡◌, ◌≢◌, ℕ, ◌+◌, ◌*◌, ◌/◌, ◌%◌, ◌<◌, ◌≤◌, true, refl, sym, ap, ◌∙◌}
+use Rattle.std.proofs.Common.{subst, inl, inr, arith}
 use Rattle.std.proofs.lemmas.Bool.{true≢false}
 use Rattle.std.specs.Prelude.{Some, None, All}
 use Rattle.ea_model.specs.declared.carriers.BlockAt.{BlockAt}
@@ -7,11 +8,13 @@ use Rattle.ea_model.specs.declared.carriers.Kind.TheVariants.{Multi, Single}
 use Rattle.ea_model.specs.declared.carriers.OwnCarrier.{OwnCarrier}
 use Rattle.ea_model.specs.declared.carriers.Spot.{Spot}
 use Rattle.ea_model.specs.declared.reallocation.Decision.{Decision}
-use Rattle.ea_model.specs.declared.reallocation.Decision.TheVariants.{Stay, ShrinkHere, GrowHere, ShrinkCarrier, Move}
+use Rattle.ea_model.specs.declared.reallocation.Decision.TheVariants.{Stay, ShrinkHere, GrowHere}
+use Rattle.ea_model.specs.declared.reallocation.Decision.TheVariants.{ShrinkCarrier, Move}
 use Rattle.ea_model.specs.declared.reallocation.Where.TheVariants as whereabouts
 use Rattle.ea_model.specs.Content.{Content, block_at}
 use Rattle.ea_model.specs.Decision.{decision}
-use Rattle.ea_model.specs.Instance.{Instance, content_of, decision_at, employed, own_at, own_of, resized_by, resized_to, resizing_at, where_at}
+use Rattle.ea_model.specs.Instance.{Instance, content_of, decision_at, employed, own_at, own_of}
+use Rattle.ea_model.specs.Instance.{resized_by, resized_to, resizing_at, where_at}
 use Rattle.ea_model.proofs.Rising.{item_at-All, item_at-key}
 use Rattle.ea_laws.specs.Kept.{number_of, IsLaidOutAlone}
 use Rattle.ea_laws.proofs.Keeping.{pages_of_units}
@@ -38,7 +41,8 @@ use Rattle.ea_sound.proofs.Hits.{employed-holds, held-stands}
 use Rattle.ea_sound.proofs.KeyedWeights.{sum-entered, sum-without}
 use Rattle.ea_sound.proofs.Numbered.{scheduler-seat}
 use Rattle.ea_sound.proofs.Occupied.{resizing-All}
-use Rattle.ea_sound.proofs.Orderly.{resizing-IsOrderly, resizing-fixed, resizing-size, resizing-where, stays-employed}
+use Rattle.ea_sound.proofs.Orderly.{resizing-IsOrderly, resizing-fixed, resizing-size}
+use Rattle.ea_sound.proofs.Orderly.{resizing-where, stays-employed}
 use Rattle.ea_sound.proofs.OwnEntries.{owner-has, somewhere-found}
 use Rattle.ea_sound.proofs.PlacingMoves.{new-once}
 use Rattle.ea_sound.proofs.RangeRows.{LieWell}

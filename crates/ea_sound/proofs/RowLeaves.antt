@@ -1,5 +1,6 @@
 -- What a row leaves that a scheduler wanted, by where it is in its operation.
-use Rattle.std.proofs.Common.{◌≡◌, ◌≢◌, ℕ, ◌<◌, ◌≤◌, List, [], ◌∷◌, Bool, true, false, refl, sym, ap, ◌∙◌, subst, arith}
+use Rattle.std.proofs.Common.{◌≡◌, ◌≢◌, ℕ, ◌<◌, ◌≤◌, List, [], ◌∷◌, Bool, true, false, refl, sym}
+use Rattle.std.proofs.Common.{ap, ◌∙◌, subst, arith}
 use Rattle.std.specs.Prelude.{Option, Some, None, option_map, if◌then◌else◌}
 use Rattle.ea_model.specs.declared.carriers.CarrierPlan.{CarrierPlan}
 use Rattle.ea_model.specs.declared.carriers.Spot.{Spot}
@@ -11,7 +12,9 @@ use Rattle.ea_machine.specs.declared.nodes.Node.{Node}
 use Rattle.ea_machine.specs.declared.owners.OwnerWord.{OwnerWord}
 use Rattle.ea_machine.specs.declared.owners.OwnerWord.TheVariants as word
 use Rattle.ea_machine.specs.declared.stages.Stage.{Stage}
-use Rattle.ea_machine.specs.declared.stages.Stage.TheVariants.{Begin, Collecting, Creating, Ended, Fetching, Giving, Ready, Routed, Searching, Taking}
+use Rattle.ea_machine.specs.declared.stages.Stage.TheVariants.{Begin, Collecting, Creating, Ended}
+use Rattle.ea_machine.specs.declared.stages.Stage.TheVariants.{Fetching, Giving, Ready, Routed}
+use Rattle.ea_machine.specs.declared.stages.Stage.TheVariants.{Searching, Taking}
 use Rattle.ea_machine.specs.declared.stages.Route.{Route}
 use Rattle.ea_machine.specs.Actor.{Actor}
 use Rattle.ea_machine.specs.declared.tasks.Why.{Why}
@@ -25,27 +28,32 @@ use Rattle.ea_sound.specs.Names.{allocated, made_in, of_content, of_mark, only, 
 use Rattle.ea_sound.specs.NodePlaces.{of_carrier_mark, of_unlinked}
 use Rattle.ea_machine.specs.Nodes.{Mark, first_node, named_at}
 use Rattle.ea_machine.specs.declared.nodes.Named.{Named}
-use Rattle.ea_machine.specs.Owners.{CarrierAt, Absent, Employed, Pooled, Busy, Returning, same_word, word_of}
+use Rattle.ea_machine.specs.Owners.{CarrierAt, Absent, Employed, Pooled, Busy, Returning, same_word}
+use Rattle.ea_machine.specs.Owners.{word_of}
 use Rattle.ea_machine.specs.Placements.{holding}
 use Rattle.ea_machine.specs.Releases.{disowned}
-use Rattle.ea_machine.specs.Rows.{Answer, Got, Clear, Create, FetchTry, Give, Look, TakeAll, TakeLink, TakeTry}
+use Rattle.ea_machine.specs.Rows.{Answer, Got, Clear, Create, FetchTry, Give, Look, TakeAll}
+use Rattle.ea_machine.specs.Rows.{TakeLink, TakeTry}
 use Rattle.ea_machine.specs.Setup.{Setup, is_scheduler}
 use Rattle.ea_machine.specs.Shared.{Shared, at_place}
 use Rattle.ea_machine.specs.State.{State}
 use Rattle.ea_machine.specs.Sums.{sum_over}
-use Rattle.ea_machine.specs.Table.{answer, effect, link_answer, link_read, moved_if, rest_after, rest_by, won_if}
+use Rattle.ea_machine.specs.Table.{answer, effect, link_answer, link_read, moved_if, rest_after}
+use Rattle.ea_machine.specs.Table.{rest_by, won_if}
 use Rattle.ea_machine.specs.Tasks.{let_go}
 use Rattle.ea_machine.specs.Walks.{with_passed}
 use Rattle.ea_sound.specs.Leaves.{InOperation, InWalk, Leaves, Wanted, making}
 use Rattle.ea_sound.specs.Moments.{at, with_actor}
 use Rattle.ea_sound.specs.Present.{Asked, Fits, OldHeld, Rule}
 use Rattle.ea_sound.specs.Rule.{Kept, Standing}
-use Rattle.ea_sound.proofs.CarrierRows.{IsBare, create_absent, create_slot, created_alone, created_many, fetched_carrier}
+use Rattle.ea_sound.proofs.CarrierRows.{IsBare, create_absent, create_slot, created_alone}
+use Rattle.ea_sound.proofs.CarrierRows.{created_many, fetched_carrier}
 use Rattle.ea_sound.proofs.Choosing.{chosen-fetched}
 use Rattle.ea_sound.proofs.Created.{sure-strategy}
 use Rattle.ea_sound.proofs.Entries.{ask-even, ask-least}
 use Rattle.ea_sound.proofs.ClearRows.{collected_carrier}
-use Rattle.ea_sound.proofs.ListRows.{given_away, looked, missed_name, passed_on, took_all, took_name}
+use Rattle.ea_sound.proofs.ListRows.{given_away, looked, missed_name, passed_on, took_all}
+use Rattle.ea_sound.proofs.ListRows.{took_name}
 use Rattle.ea_sound.proofs.MarkRows.{with_rest}
 use Rattle.ea_sound.proofs.Moved.{Moved}
 use Rattle.ea_sound.proofs.NameRows.{NoMore, no_more}

@@ -6,7 +6,9 @@ use Rattle.ea_model.specs.Keyed.{IsBelow}
 use Rattle.ea_model.proofs.Rising.{rising-entered}
 use Rattle.ea_machine.specs.Nodes.{link_in, pushed, name_of}
 use Rattle.ea_machine.specs.Owners.{CarrierAt, Busy, Employed}
-use Rattle.ea_machine.specs.Rows.{Answer, Done, Head, Rests, Passes, Saw, Won, Lost, Home, Got, Row, TakeAll, TakeLink, Look, Push, Link, BusyTry, Settle, Abandon, FetchTry, Create, SendHome, Clear, Give, TakeTry, Nothing}
+use Rattle.ea_machine.specs.Rows.{Answer, Done, Head, Rests, Passes, Saw, Won, Lost, Home, Got, Row}
+use Rattle.ea_machine.specs.Rows.{TakeAll, TakeLink, Look, Push, Link, BusyTry, Settle, Abandon}
+use Rattle.ea_machine.specs.Rows.{FetchTry, Create, SendHome, Clear, Give, TakeTry, Nothing}
 use Rattle.ea_machine.specs.Shared.{Shared}
 use Rattle.ea_machine.specs.Table.{effect, moved_if, tried_at}
 use Rattle.ea_sound.proofs.HeldNames.{let_go-rising, times_held}

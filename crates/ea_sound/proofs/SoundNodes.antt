@@ -1,5 +1,6 @@
 -- Nodes of carriers that return, and nodes that aren't linked.
-use Rattle.std.proofs.Common.{◌≡◌, ◌≢◌, ℕ, ◌<◌, ◌≤◌, Bool, true, false, refl, ap, ◌∙◌, inl, inr, arith}
+use Rattle.std.proofs.Common.{◌≡◌, ◌≢◌, ℕ, ◌<◌, ◌≤◌, Bool, true, false, refl, ap, ◌∙◌, inl, inr}
+use Rattle.std.proofs.Common.{arith}
 use Rattle.std.specs.Prelude.{◌==◌, ◌&&◌}
 use Rattle.std.proofs.lemmas.Bool.{cases_lt}
 use Rattle.ea_model.specs.declared.carriers.Spot.{Spot}
@@ -8,7 +9,9 @@ use Rattle.ea_machine.specs.declared.nodes.Node.{Node}
 use Rattle.ea_machine.specs.declared.nodes.Node.TheVariants.{Block, Carrier}
 use Rattle.ea_sound.specs.Contents.{seats, slots}
 use Rattle.ea_sound.specs.Names.{of_mark, of_node, only}
-use Rattle.ea_sound.specs.NodePlaces.{LinksNodes, ReturnsCarriers, anywhere, at_instance, before_link, carrier_nodes, is_returning, node_at, of_carrier_mark, of_carrier_node, of_unlinked, unlinked_at}
+use Rattle.ea_sound.specs.NodePlaces.{LinksNodes, ReturnsCarriers, anywhere, at_instance}
+use Rattle.ea_sound.specs.NodePlaces.{before_link, carrier_nodes, is_returning, node_at}
+use Rattle.ea_sound.specs.NodePlaces.{of_carrier_mark, of_carrier_node, of_unlinked, unlinked_at}
 use Rattle.ea_machine.specs.Nodes.{Mark, same_spot}
 use Rattle.ea_machine.specs.Owners.{CarrierAt, Absent, Employed, Pooled, Busy, Returning}
 use Rattle.ea_model.specs.Instance.{owner_of}

@@ -5,28 +5,36 @@ use Rattle.ea_model.specs.Instance.{is_used, owner_of}
 use Rattle.ea_model.specs.Trace.{IsScheduler}
 use Rattle.ea_model.specs.Content.{Content}
 use Rattle.ea_machine.specs.declared.stages.Stage.{Stage}
-use Rattle.ea_machine.specs.declared.stages.Stage.TheVariants.{Begin, Routed, Collecting, Searching, Fetching, Creating, Giving, Taking, Ended, Ready}
+use Rattle.ea_machine.specs.declared.stages.Stage.TheVariants.{Begin, Routed, Collecting, Searching}
+use Rattle.ea_machine.specs.declared.stages.Stage.TheVariants.{Fetching, Creating, Giving, Taking}
+use Rattle.ea_machine.specs.declared.stages.Stage.TheVariants.{Ended, Ready}
 use Rattle.ea_machine.specs.declared.stages.Route.{Route}
-use Rattle.ea_machine.specs.declared.stages.Route.TheVariants.{Looking, Trying, Settling, Abandoning, Sending, Clearing, Pushing, Linking}
+use Rattle.ea_machine.specs.declared.stages.Route.TheVariants.{Looking, Trying, Settling}
+use Rattle.ea_machine.specs.declared.stages.Route.TheVariants.{Abandoning, Sending, Clearing}
+use Rattle.ea_machine.specs.declared.stages.Route.TheVariants.{Pushing, Linking}
 use Rattle.ea_machine.specs.Actor.{Actor}
 use Rattle.ea_sound.specs.Contents.{AtHome, InHand, OnRoute, seats, sum_everywhere}
 use Rattle.ea_sound.specs.NodePlaces.{anywhere}
 use Rattle.ea_machine.specs.Outcome.{owned_place, place_in, place_of}
 use Rattle.ea_machine.specs.Owners.{CarrierAt, Absent, Employed, Pooled, Busy, Returning}
-use Rattle.ea_sound.specs.Places.{AreInOnePlace, IsMulti, IsMultiOrOwn, IsNumber, PlacesCarriers, RecordsGaps, StayWithOwners, busy_count, employed_count, has_number, is_there, none}
+use Rattle.ea_sound.specs.Places.{AreInOnePlace, IsMulti, IsMultiOrOwn, IsNumber, PlacesCarriers}
+use Rattle.ea_sound.specs.Places.{RecordsGaps, StayWithOwners, busy_count, employed_count}
+use Rattle.ea_sound.specs.Places.{has_number, is_there, none}
 use Rattle.ea_machine.specs.Setup.{Setup, migration}
 use Rattle.ea_machine.specs.State.{State}
 use Rattle.ea_machine.specs.Sums.{one_if}
 use Rattle.ea_sound.specs.Present.{FitsRoute, Fits, Rule}
 use Rattle.ea_sound.specs.Rule.{Belongs, Kept, numbers_of}
 use Rattle.ea_sound.proofs.Created.{scheduler-number}
-use Rattle.ea_sound.proofs.Employers.{busy-once, busy-scheduler, employed-once, employed-owner, employed-scheduler, nothing, nothing-only}
+use Rattle.ea_sound.proofs.Employers.{busy-once, busy-scheduler, employed-once, employed-owner}
+use Rattle.ea_sound.proofs.Employers.{employed-scheduler, nothing, nothing-only}
 use Rattle.ea_sound.proofs.MainCarriers.{main-there}
 use Rattle.ea_sound.proofs.SoundRanges.{number-scheduler}
 use Rattle.ea_sound.proofs.Global.{anywhere-only, nobody-weighs, weighs-scheduler}
 use Rattle.ea_sound.proofs.Homes.{sum-there}
 use Rattle.ea_sound.proofs.Numbered.{no_scheduler-beyond, numbered-off, total_at-exact}
-use Rattle.ea_sound.proofs.SoundOwners.{content-number, number-owned, own-rising, own-used, sound-own}
+use Rattle.ea_sound.proofs.SoundOwners.{content-number, number-owned, own-rising, own-used}
+use Rattle.ea_sound.proofs.SoundOwners.{sound-own}
 
 module _ (e : Setup) (w : State) (k : Kept e w) where
   -- where a carrier is, by its word or by its owner

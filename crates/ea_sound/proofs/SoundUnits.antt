@@ -1,5 +1,6 @@
 -- Blocks, gaps and headers are all units, and each name that stands has the units of its block.
-use Rattle.std.proofs.Common.{◌≡◌, refl, ◌≢◌, ℕ, ◌+◌, ◌<◌, ◌∙◌, length, sym, ap, inl, inr, arith, get_or}
+use Rattle.std.proofs.Common.{◌≡◌, refl, ◌≢◌, ℕ, ◌+◌, ◌<◌, ◌∙◌, length, sym, ap, inl, inr, arith}
+use Rattle.std.proofs.Common.{get_or}
 use Rattle.std.specs.Prelude.{AllPairs, if◌then◌else◌, ◌==◌}
 use Rattle.ea_model.specs.declared.carriers.BlockAt.{BlockAt}
 use Rattle.ea_model.specs.declared.carriers.Spot.{Spot}

@@ -1,6 +1,7 @@
 -- The spots of names that stand are in their ranges: blocks lie at even offsets, in carriers that
 -- have a number.
-use Rattle.std.proofs.Common.{◌≡◌, ℕ, ◌+◌, ◌%◌, ◌<◌, ◌≤◌, Bool, List, [], ◌∷◌, refl, inl, inr, arith}
+use Rattle.std.proofs.Common.{◌≡◌, ℕ, ◌+◌, ◌%◌, ◌<◌, ◌≤◌, Bool, List, [], ◌∷◌, refl, inl, inr}
+use Rattle.std.proofs.Common.{arith}
 use Rattle.std.specs.Prelude.{All, ◌==◌, ◌&&◌, nat_lt, not}
 use Rattle.std.proofs.lemmas.List.Elements.{All-head, All-tail}
 use Rattle.ea_model.specs.declared.carriers.BlockAt.{BlockAt}
@@ -9,11 +10,16 @@ use Rattle.ea_model.specs.declared.units.TheConstants.{MAX_UNITS}
 use Rattle.ea_model.specs.Content.{Content, Tiled}
 use Rattle.ea_laws.specs.Kept.{HasOneBlock, IsLaidOut, IsLaidOutAlone}
 use Rattle.ea_machine.specs.declared.stages.Stage.{Stage}
-use Rattle.ea_machine.specs.declared.stages.Stage.TheVariants.{Begin, Routed, Collecting, Searching, Fetching, Creating, Giving, Taking, Ended, Ready}
+use Rattle.ea_machine.specs.declared.stages.Stage.TheVariants.{Begin, Routed, Collecting, Searching}
+use Rattle.ea_machine.specs.declared.stages.Stage.TheVariants.{Fetching, Creating, Giving, Taking}
+use Rattle.ea_machine.specs.declared.stages.Stage.TheVariants.{Ended, Ready}
 use Rattle.ea_machine.specs.declared.stages.Route.{Route}
-use Rattle.ea_machine.specs.declared.stages.Route.TheVariants.{Looking, Trying, Settling, Abandoning, Sending, Clearing, Pushing, Linking}
+use Rattle.ea_machine.specs.declared.stages.Route.TheVariants.{Looking, Trying, Settling}
+use Rattle.ea_machine.specs.declared.stages.Route.TheVariants.{Abandoning, Sending, Clearing}
+use Rattle.ea_machine.specs.declared.stages.Route.TheVariants.{Pushing, Linking}
 use Rattle.ea_machine.specs.Alike.{IsSpot}
-use Rattle.ea_sound.specs.Contents.{AtHome, InHand, OnRoute, actor_sum, hand_sum, home_sum, route_sum, seats, slots, sum_everywhere}
+use Rattle.ea_sound.specs.Contents.{AtHome, InHand, OnRoute, actor_sum, hand_sum, home_sum}
+use Rattle.ea_sound.specs.Contents.{route_sum, seats, slots, sum_everywhere}
 use Rattle.ea_sound.specs.Names.{allocated, of_block, of_content, only_at}
 use Rattle.ea_machine.specs.Owners.{CarrierAt, Absent, Employed, Pooled, Busy, Returning}
 use Rattle.ea_sound.specs.Places.{has_number}

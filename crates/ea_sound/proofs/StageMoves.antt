@@ -2,7 +2,9 @@
 use Rattle.std.proofs.Common.{◌≡◌, ◌≢◌, ℕ, true, refl, subst, arith}
 use Rattle.ea_model.specs.Content.{Content}
 use Rattle.ea_machine.specs.declared.stages.Stage.{Stage}
-use Rattle.ea_machine.specs.declared.stages.Stage.TheVariants.{Begin, Routed, Collecting, Searching, Fetching, Creating, Giving, Taking, Ended, Ready}
+use Rattle.ea_machine.specs.declared.stages.Stage.TheVariants.{Begin, Routed, Collecting, Searching}
+use Rattle.ea_machine.specs.declared.stages.Stage.TheVariants.{Fetching, Creating, Giving, Taking}
+use Rattle.ea_machine.specs.declared.stages.Stage.TheVariants.{Ended, Ready}
 use Rattle.ea_machine.specs.Actor.{Actor}
 use Rattle.ea_sound.specs.Names.{of_content, only}
 use Rattle.ea_machine.specs.Setup.{Setup, is_scheduler}
@@ -12,7 +14,9 @@ use Rattle.ea_machine.specs.Statistics.{informed, observed}
 use Rattle.ea_sound.specs.Leaves.{InOperation, InWalk}
 use Rattle.ea_sound.specs.Moments.{at}
 use Rattle.ea_sound.proofs.Assembly.{ClosedWalk}
-use Rattle.ea_sound.proofs.StillMoves.{SameHand, block-goes, carrier-goes, fresh-goes, goes-still, keeps-operation, keeps-walk, kept-still, next-goes, still-sum, still-turned, todo-later, turn}
+use Rattle.ea_sound.proofs.StillMoves.{SameHand, block-goes, carrier-goes, fresh-goes, goes-still}
+use Rattle.ea_sound.proofs.StillMoves.{keeps-operation, keeps-walk, kept-still, next-goes}
+use Rattle.ea_sound.proofs.StillMoves.{still-sum, still-turned, todo-later, turn}
 use Rattle.ea_sound.proofs.Working.{HasNoHand}
 
 -- nothing is in the hand

@@ -19,7 +19,8 @@ use Rattle.ea_sound.specs.Present.{HasEmployer}
 use Rattle.ea_sound.specs.Rule.{Kept, names_of}
 use Rattle.ea_sound.proofs.ActorWeights.{actor-none, hand-none, home-none}
 use Rattle.ea_sound.proofs.BlockWeights.{other-content}
-use Rattle.ea_sound.proofs.Employers.{at_least_one, busy-hand, employed-here, found-counts, found-one, found-weighs}
+use Rattle.ea_sound.proofs.Employers.{at_least_one, busy-hand, employed-here, found-counts}
+use Rattle.ea_sound.proofs.Employers.{found-one, found-weighs}
 use Rattle.ea_sound.proofs.Global.{contents_once, of_anywhere}
 use Rattle.ea_sound.proofs.Hits.{hit}
 use Rattle.ea_sound.proofs.Homes.{sum-absent, sum-returning}

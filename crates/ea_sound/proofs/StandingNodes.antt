@@ -1,6 +1,7 @@
 -- Nodes in queues and in walks, and those that are about to be pushed: a block's has a name that a
 -- block has, and a carrier's is that of a carrier that returns to its owner.
-use Rattle.std.proofs.Common.{◌≡◌, ℕ, ◌<◌, ◌≤◌, false, List, [], ◌∷◌, sym, ap, subst, inl, inr, arith}
+use Rattle.std.proofs.Common.{◌≡◌, ℕ, ◌<◌, ◌≤◌, false, List, [], ◌∷◌, sym, ap, subst, inl, inr}
+use Rattle.std.proofs.Common.{arith}
 use Rattle.std.specs.Prelude.{All}
 use Rattle.std.proofs.lemmas.Bool.{cases_lt}
 use Rattle.std.proofs.lemmas.List.Elements.{All-cons, All-nil}
@@ -14,7 +15,8 @@ use Rattle.ea_machine.specs.declared.stages.Stage.TheVariants.{Routed}
 use Rattle.ea_machine.specs.declared.stages.Route.TheVariants.{Pushing}
 use Rattle.ea_sound.specs.Contents.{seats}
 use Rattle.ea_sound.specs.Names.{allocated, of_hand, of_mark, of_node, only}
-use Rattle.ea_sound.specs.NodePlaces.{anywhere, carrier_nodes, of_carrier_actor, of_carrier_hand, of_carrier_mark, of_carrier_node}
+use Rattle.ea_sound.specs.NodePlaces.{anywhere, carrier_nodes, of_carrier_actor, of_carrier_hand}
+use Rattle.ea_sound.specs.NodePlaces.{of_carrier_mark, of_carrier_node}
 use Rattle.ea_machine.specs.Nodes.{Mark}
 use Rattle.ea_machine.specs.Owners.{Returning}
 use Rattle.ea_sound.specs.Places.{IsNumber, is_there}

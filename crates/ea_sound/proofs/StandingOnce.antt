@@ -5,7 +5,8 @@ use Rattle.std.specs.Prelude.{All}
 use Rattle.std.proofs.lemmas.List.Elements.{All-head, All-tail}
 use Rattle.ea_model.specs.declared.carriers.Spot.{Spot}
 use Rattle.ea_model.specs.declared.operations.Op.{Op}
-use Rattle.ea_model.specs.declared.operations.Op.TheVariants.{Alloc, Free, Realloc, Give, Take, Info, Idle}
+use Rattle.ea_model.specs.declared.operations.Op.TheVariants.{Alloc, Free, Realloc, Give, Take}
+use Rattle.ea_model.specs.declared.operations.Op.TheVariants.{Info, Idle}
 use Rattle.ea_model.specs.declared.trace.Trace.{Trace}
 use Rattle.ea_model.specs.declared.units.TheConstants.{MAX_NAME}
 use Rattle.ea_model.specs.Trace.{IsOperation, IsValidTrace, greatest_in, greatest_of, operations_of}

@@ -1,5 +1,6 @@
 -- The state before the first step keeps what every moment keeps.
-use Rattle.std.proofs.Common.{◌≡◌, ◌≢◌, ℕ, zero, suc, ◌+◌, ◌*◌, ◌<◌, ◌≤◌, [], ◌∷◌, Bool, true, false, refl, sym, ap, ◌∙◌, subst, inl, inr, arith}
+use Rattle.std.proofs.Common.{◌≡◌, ◌≢◌, ℕ, zero, suc, ◌+◌, ◌*◌, ◌<◌, ◌≤◌, [], ◌∷◌, Bool, true}
+use Rattle.std.proofs.Common.{false, refl, sym, ap, ◌∙◌, subst, inl, inr, arith}
 use Rattle.std.proofs.lemmas.Bool.{cases_eq}
 use Rattle.std.proofs.lemmas.List.Elements.{All-cons, All-nil}
 use Rattle.std.specs.Prelude.{All, nat_lt, ◌&&◌, ◌==◌, if◌then◌else◌, map}
@@ -7,7 +8,8 @@ use Rattle.ea_model.specs.declared.carriers.OwnCarrier.{OwnCarrier}
 use Rattle.ea_model.specs.declared.carriers.Spot.{Spot}
 use Rattle.ea_model.specs.declared.units.TheConstants.{NUMBERS}
 use Rattle.ea_model.specs.Content.{Content}
-use Rattle.ea_model.specs.Instance.{first_number, main_carriers, main_content, new_instance, own_at, own_of, owner_of}
+use Rattle.ea_model.specs.Instance.{first_number, main_carriers, main_content, new_instance, own_at}
+use Rattle.ea_model.specs.Instance.{own_of, owner_of}
 use Rattle.ea_model.proofs.Rising.{item_here}
 use Rattle.ea_model.specs.declared.settings.Config.{Config}
 use Rattle.ea_model.specs.declared.trace.Trace.{Trace}
@@ -18,15 +20,19 @@ use Rattle.ea_laws.proofs.Keeping.{pages_of_units}
 use Rattle.ea_machine.specs.declared.nodes.Node.{Node}
 use Rattle.ea_machine.specs.Actor.{Actor}
 use Rattle.ea_sound.specs.Contents.{AtHome, InHand, hand_sum, home_sum, seats, slots}
-use Rattle.ea_machine.specs.Machine.{first_actor, first_place, first_stage, instance_by, is_main, place_by, start}
+use Rattle.ea_machine.specs.Machine.{first_actor, first_place, first_stage, instance_by, is_main}
+use Rattle.ea_machine.specs.Machine.{place_by, start}
 use Rattle.ea_sound.specs.Names.{allocated, of_content, of_hand, of_mark, only}
-use Rattle.ea_sound.specs.NodePlaces.{of_carrier_actor, of_carrier_hand, of_carrier_mark, of_link, of_unlinked}
+use Rattle.ea_sound.specs.NodePlaces.{of_carrier_actor, of_carrier_hand, of_carrier_mark, of_link}
+use Rattle.ea_sound.specs.NodePlaces.{of_unlinked}
 use Rattle.ea_machine.specs.Nodes.{Mark}
 use Rattle.ea_machine.specs.Owners.{Absent, Pooled, Returning}
 use Rattle.ea_sound.specs.Ranges.{IsLaidOutAsKind}
 use Rattle.ea_machine.specs.Setup.{Setup, first_page, is_scheduler, migration, setup_of}
 use Rattle.ea_machine.specs.Sums.{sum_over, total_at}
-use Rattle.ea_sound.specs.Rule.{Belongs, HasNoCarrier, Kept, Standing, blocks_of, employed_at, names_of, numbers_of, of_own, of_owner, own_numbers, placed_by, returning_at}
+use Rattle.ea_sound.specs.Rule.{Belongs, HasNoCarrier, Kept, Standing, blocks_of, employed_at}
+use Rattle.ea_sound.specs.Rule.{names_of, numbers_of, of_own, of_owner, own_numbers, placed_by}
+use Rattle.ea_sound.specs.Rule.{returning_at}
 use Rattle.ea_sound.proofs.Created.{scheduler-number}
 use Rattle.ea_sound.proofs.Numbered.{no_scheduler-beyond}
 use Rattle.ea_sound.proofs.PlaceRows.{by_owner}

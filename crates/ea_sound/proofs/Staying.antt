@@ -8,9 +8,13 @@ use Rattle.ea_model.specs.declared.carriers.Kind.{Kind}
 use Rattle.ea_model.specs.declared.carriers.Kind.TheVariants.{Main, Multi, Single}
 use Rattle.ea_model.specs.declared.carriers.Spot.{Spot}
 use Rattle.ea_model.specs.declared.reallocation.Decision.{Decision}
-use Rattle.ea_model.specs.declared.reallocation.Decision.TheVariants.{Stay, ShrinkHere, GrowHere, ShrinkCarrier, Move}
-use Rattle.ea_model.specs.Content.{Content, can_go, is_empty_multi, is_multi, is_nil, is_vacant, placed, released, resized}
-use Rattle.ea_model.specs.Instance.{Instance, changed, content_of, created_content, created_single, creating, creating_single, decision_at, employed, placing_at, releasing_at, resized_by, resized_in, resized_to, resizing_at}
+use Rattle.ea_model.specs.declared.reallocation.Decision.TheVariants.{Stay, ShrinkHere, GrowHere}
+use Rattle.ea_model.specs.declared.reallocation.Decision.TheVariants.{ShrinkCarrier, Move}
+use Rattle.ea_model.specs.Content.{Content, can_go, is_empty_multi, is_multi, is_nil, is_vacant}
+use Rattle.ea_model.specs.Content.{placed, released, resized}
+use Rattle.ea_model.specs.Instance.{Instance, changed, content_of, created_content, created_single}
+use Rattle.ea_model.specs.Instance.{creating, creating_single, decision_at, employed, placing_at}
+use Rattle.ea_model.specs.Instance.{releasing_at, resized_by, resized_in, resized_to, resizing_at}
 use Rattle.ea_model.specs.Keyed.{has_key}
 use Rattle.ea_model.proofs.Merged.{merged-All}
 use Rattle.ea_model.proofs.Rising.{All-entered, change, item_at-All, item_at-key}

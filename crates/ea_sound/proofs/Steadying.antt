@@ -4,8 +4,10 @@ use Rattle.ea_laws.specs.Kept.{IsLaidOut}
 use Rattle.ea_model.specs.Content.{Content}
 use Rattle.ea_machine.specs.Nodes.{Mark}
 use Rattle.ea_sound.specs.Contents.{AtHome}
-use Rattle.ea_machine.specs.Owners.{CarrierAt, Absent, Busy, Employed, Pooled, Returning, same_word, word_of}
-use Rattle.ea_machine.specs.Rows.{Abandon, BusyTry, Clear, Create, FetchTry, Give, Link, Look, Nothing, Push, Row, SendHome, Settle, TakeAll, TakeLink, TakeTry}
+use Rattle.ea_machine.specs.Owners.{CarrierAt, Absent, Busy, Employed, Pooled, Returning, same_word}
+use Rattle.ea_machine.specs.Owners.{word_of}
+use Rattle.ea_machine.specs.Rows.{Abandon, BusyTry, Clear, Create, FetchTry, Give, Link, Look}
+use Rattle.ea_machine.specs.Rows.{Nothing, Push, Row, SendHome, Settle, TakeAll, TakeLink, TakeTry}
 use Rattle.ea_machine.specs.declared.stages.Stage.{Stage}
 use Rattle.ea_machine.specs.declared.stages.Stage.TheVariants.{Ended}
 use Rattle.ea_machine.specs.Machine.{after, first_stage, start, step, stepped, wants_at}
@@ -13,7 +15,8 @@ use Rattle.ea_machine.specs.Setup.{Setup, is_scheduler}
 use Rattle.ea_machine.specs.State.{State}
 use Rattle.ea_machine.specs.Table.{answer, link_answer, link_read, won_if}
 use Rattle.ea_sound.specs.Rule.{Kept}
-use Rattle.ea_sound.specs.Steady.{AreSteady, IsLargest, IsShown, IsSteady, IsSteadyStage, TellsShown}
+use Rattle.ea_sound.specs.Steady.{AreSteady, IsLargest, IsShown, IsSteady, IsSteadyStage}
+use Rattle.ea_sound.specs.Steady.{TellsShown}
 use Rattle.ea_sound.proofs.LargestGaps.{laid-largest}
 use Rattle.ea_sound.proofs.SteadyWork.{after-steady}
 use Rattle.ea_sound.proofs.StepKept.{step-holds}

@@ -2,7 +2,9 @@
 use Rattle.std.proofs.Common.{◌≡◌, ◌≢◌, ℕ, Bool, true, false, refl, sym, subst}
 use Rattle.ea_model.specs.Content.{Content}
 use Rattle.ea_machine.specs.declared.stages.Stage.{Stage}
-use Rattle.ea_machine.specs.declared.stages.Stage.TheVariants.{Begin, Collecting, Creating, Ended, Fetching, Giving, Ready, Routed, Searching, Taking}
+use Rattle.ea_machine.specs.declared.stages.Stage.TheVariants.{Begin, Collecting, Creating, Ended}
+use Rattle.ea_machine.specs.declared.stages.Stage.TheVariants.{Fetching, Giving, Ready, Routed}
+use Rattle.ea_machine.specs.declared.stages.Stage.TheVariants.{Searching, Taking}
 use Rattle.ea_machine.specs.Machine.{step, step_at, stepped, wants_at}
 use Rattle.ea_machine.specs.Setup.{Setup, is_scheduler}
 use Rattle.ea_machine.specs.State.{State}

@@ -1,5 +1,6 @@
 -- What a row leaves, the local work after it keeps.
-use Rattle.std.proofs.Common.{◌≡◌, ◌≢◌, ◌⊎◌, ℕ, zero, suc, ◌-◌, List, [], ◌∷◌, true, refl, sym, ap, ◌∙◌, subst, inl, inr, arith}
+use Rattle.std.proofs.Common.{◌≡◌, ◌≢◌, ◌⊎◌, ℕ, zero, suc, ◌-◌, List, [], ◌∷◌, true, refl, sym, ap}
+use Rattle.std.proofs.Common.{◌∙◌, subst, inl, inr, arith}
 use Rattle.std.specs.Prelude.{Some, None, ◌==◌}
 use Rattle.ea_model.specs.declared.entries.Entry.TheVariants as entry
 use Rattle.ea_model.specs.declared.operations.Op.{Op}
@@ -8,7 +9,9 @@ use Rattle.ea_model.specs.Trace.{makes}
 use Rattle.ea_model.specs.Content.{Content}
 use Rattle.ea_machine.specs.declared.owners.OwnerWord.{OwnerWord}
 use Rattle.ea_machine.specs.declared.stages.Stage.{Stage}
-use Rattle.ea_machine.specs.declared.stages.Stage.TheVariants.{Begin, Routed, Collecting, Searching, Fetching, Creating, Giving, Taking, Ended, Ready}
+use Rattle.ea_machine.specs.declared.stages.Stage.TheVariants.{Begin, Routed, Collecting, Searching}
+use Rattle.ea_machine.specs.declared.stages.Stage.TheVariants.{Fetching, Creating, Giving, Taking}
+use Rattle.ea_machine.specs.declared.stages.Stage.TheVariants.{Ended, Ready}
 use Rattle.ea_machine.specs.Actor.{Actor}
 use Rattle.ea_machine.specs.declared.tasks.Why.TheVariants.{Walk, For}
 use Rattle.ea_machine.specs.declared.asks.Ask.{Ask}
@@ -28,7 +31,8 @@ use Rattle.ea_machine.specs.Walks.{after_route, begun, with_passed}
 use Rattle.ea_sound.specs.Leaves.{InOperation, InWalk, IsFresh, Leaves}
 use Rattle.ea_sound.specs.Moments.{at}
 use Rattle.ea_sound.proofs.Assembly.{Closed, ClosedWalk, carried-holds, turned-holds, worked-holds}
-use Rattle.ea_sound.proofs.Working.{ClosedOperation, FirstFresh, created-holds, itself-holds, placed-holds, saw-holds, search-holds}
+use Rattle.ea_sound.proofs.Working.{ClosedOperation, FirstFresh, created-holds, itself-holds}
+use Rattle.ea_sound.proofs.Working.{placed-holds, saw-holds, search-holds}
 
 same-number : (n : ℕ) → (n == n) ≡ true
 same-number n = grind arith

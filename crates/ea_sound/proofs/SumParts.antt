@@ -4,10 +4,15 @@ use Rattle.std.specs.Prelude.{All}
 use Rattle.std.proofs.lemmas.List.Elements.{All-head, All-tail}
 use Rattle.ea_model.specs.Content.{Content}
 use Rattle.ea_machine.specs.declared.stages.Stage.{Stage}
-use Rattle.ea_machine.specs.declared.stages.Stage.TheVariants.{Begin, Routed, Collecting, Searching, Fetching, Creating, Giving, Taking, Ended, Ready}
+use Rattle.ea_machine.specs.declared.stages.Stage.TheVariants.{Begin, Routed, Collecting, Searching}
+use Rattle.ea_machine.specs.declared.stages.Stage.TheVariants.{Fetching, Creating, Giving, Taking}
+use Rattle.ea_machine.specs.declared.stages.Stage.TheVariants.{Ended, Ready}
 use Rattle.ea_machine.specs.declared.stages.Route.{Route}
-use Rattle.ea_machine.specs.declared.stages.Route.TheVariants.{Looking, Trying, Settling, Abandoning, Sending, Clearing, Pushing, Linking}
-use Rattle.ea_sound.specs.Contents.{AtHome, Everywhere, InHand, OnRoute, actor_sum, hand_sum, home_sum, route_sum, seats, slots, sum_everywhere}
+use Rattle.ea_machine.specs.declared.stages.Route.TheVariants.{Looking, Trying, Settling}
+use Rattle.ea_machine.specs.declared.stages.Route.TheVariants.{Abandoning, Sending, Clearing}
+use Rattle.ea_machine.specs.declared.stages.Route.TheVariants.{Pushing, Linking}
+use Rattle.ea_sound.specs.Contents.{AtHome, Everywhere, InHand, OnRoute, actor_sum, hand_sum}
+use Rattle.ea_sound.specs.Contents.{home_sum, route_sum, seats, slots, sum_everywhere}
 use Rattle.ea_machine.specs.Owners.{CarrierAt, Absent, Employed, Pooled, Busy, Returning}
 use Rattle.ea_machine.specs.Setup.{Setup}
 use Rattle.ea_machine.specs.State.{State}

@@ -1,6 +1,7 @@
 -- No row that a scheduler does lets it take its queue more often, and where it takes the queue it
 -- does so less often from then on.
-use Rattle.std.proofs.Common.{◌≡◌, ◌≢◌, ℕ, zero, suc, ◌-◌, ◌<◌, ◌≤◌, List, [], ◌∷◌, Bool, true, false, refl, ap, arith}
+use Rattle.std.proofs.Common.{◌≡◌, ◌≢◌, ℕ, zero, suc, ◌-◌, ◌<◌, ◌≤◌, List, [], ◌∷◌, Bool, true}
+use Rattle.std.proofs.Common.{false, refl, ap, arith}
 use Rattle.std.specs.Prelude.{Option, Some, None, Result, Ok, Err, ◌&&◌, length, nat_lt}
 use Rattle.ea_model.specs.declared.carriers.CarrierPlan.{CarrierPlan}
 use Rattle.ea_model.specs.declared.carriers.Place.{Place}
@@ -11,16 +12,20 @@ use Rattle.ea_model.specs.declared.entries.NoCarrier.{NoCarrier}
 use Rattle.ea_model.specs.declared.operations.Op.{Op}
 use Rattle.ea_model.specs.declared.operations.Op.TheVariants as op
 use Rattle.ea_model.specs.declared.reallocation.Decision.{Decision}
-use Rattle.ea_model.specs.declared.reallocation.Decision.TheVariants.{Stay, ShrinkHere, GrowHere, ShrinkCarrier, Move}
+use Rattle.ea_model.specs.declared.reallocation.Decision.TheVariants.{Stay, ShrinkHere, GrowHere}
+use Rattle.ea_model.specs.declared.reallocation.Decision.TheVariants.{ShrinkCarrier, Move}
 use Rattle.ea_model.specs.declared.units.TheConstants.{SEARCH_LIMIT}
-use Rattle.ea_model.specs.Instance.{chosen_spot, creating, creating_single, decision_at, is_alone, place_at, placing_at, plan, single_place}
+use Rattle.ea_model.specs.Instance.{chosen_spot, creating, creating_single, decision_at, is_alone}
+use Rattle.ea_model.specs.Instance.{place_at, placing_at, plan, single_place}
 use Rattle.ea_model.specs.Units.{need_of}
 use Rattle.ea_model.specs.Content.{Content}
 use Rattle.ea_machine.specs.declared.nodes.Node.{Node}
 use Rattle.ea_machine.specs.declared.nodes.Node.TheVariants.{Block, Carrier}
 use Rattle.ea_machine.specs.declared.owners.OwnerWord.{OwnerWord}
 use Rattle.ea_machine.specs.declared.stages.Stage.{Stage}
-use Rattle.ea_machine.specs.declared.stages.Stage.TheVariants.{Begin, Routed, Collecting, Searching, Fetching, Creating, Giving, Taking, Ended, Ready}
+use Rattle.ea_machine.specs.declared.stages.Stage.TheVariants.{Begin, Routed, Collecting, Searching}
+use Rattle.ea_machine.specs.declared.stages.Stage.TheVariants.{Fetching, Creating, Giving, Taking}
+use Rattle.ea_machine.specs.declared.stages.Stage.TheVariants.{Ended, Ready}
 use Rattle.ea_machine.specs.declared.stages.Route.{Route}
 use Rattle.ea_machine.specs.Actor.{Actor}
 use Rattle.ea_machine.specs.declared.tasks.Task.{Task}
@@ -33,7 +38,10 @@ use Rattle.ea_machine.specs.Machine.{after_row, onward, onward_at, step, wants}
 use Rattle.ea_machine.specs.Nodes.{named_at}
 use Rattle.ea_machine.specs.declared.nodes.Named.{Named}
 use Rattle.ea_machine.specs.Operations.{freed, giving, itself, took, took_by}
-use Rattle.ea_machine.specs.Placements.{chosen_by, counted, created_by, failed, fetched, fits, holding, making, new_carrier, new_carrier_by, placed_by, saw_by, search_at, search_if, searched, searched_by, seek, seek_by, spot_of_place, stands}
+use Rattle.ea_machine.specs.Placements.{chosen_by, counted, created_by, failed, fetched, fits}
+use Rattle.ea_machine.specs.Placements.{holding, making, new_carrier, new_carrier_by, placed_by}
+use Rattle.ea_machine.specs.Placements.{saw_by, search_at, search_if, searched, searched_by, seek}
+use Rattle.ea_machine.specs.Placements.{seek_by, spot_of_place, stands}
 use Rattle.ea_machine.specs.Reallocations.{reallocated, reallocated_by, resized_here}
 use Rattle.ea_machine.specs.Releases.{disowned, route_of, turned}
 use Rattle.ea_machine.specs.Rows.{Answer, Done, Head, Rests, Passes, Saw, Won, Lost, Home, Got}

@@ -5,13 +5,16 @@ use Rattle.ea_model.specs.declared.carriers.BlockAt.{BlockAt}
 use Rattle.ea_model.specs.declared.carriers.CarrierPlan.{CarrierPlan}
 use Rattle.ea_model.specs.declared.carriers.Spot.{Spot}
 use Rattle.ea_model.specs.declared.reallocation.Decision.{Decision}
-use Rattle.ea_model.specs.declared.reallocation.Decision.TheVariants.{Stay, ShrinkHere, GrowHere, ShrinkCarrier, Move}
+use Rattle.ea_model.specs.declared.reallocation.Decision.TheVariants.{Stay, ShrinkHere, GrowHere}
+use Rattle.ea_model.specs.declared.reallocation.Decision.TheVariants.{ShrinkCarrier, Move}
 use Rattle.ea_model.specs.declared.reallocation.Where.{Where}
 use Rattle.ea_model.specs.declared.reallocation.Where.TheVariants as whereabouts
 use Rattle.ea_model.specs.declared.settings.Settings.{Settings}
 use Rattle.ea_model.specs.Content.{Content, resized, size_of, Tiled}
 use Rattle.ea_model.specs.Decision.{decision}
-use Rattle.ea_model.specs.Instance.{Instance, block_in, content_of, decision_at, employed, own_of, plan, resized_by, resized_in, resized_to, resizing_at, where_at, owner_of}
+use Rattle.ea_model.specs.Instance.{Instance, block_in, content_of, decision_at, employed, own_of}
+use Rattle.ea_model.specs.Instance.{plan, resized_by, resized_in, resized_to, resizing_at, where_at}
+use Rattle.ea_model.specs.Instance.{owner_of}
 use Rattle.ea_model.proofs.Rising.{item_at-All, item_at-key}
 use Rattle.ea_laws.specs.Kept.{number_of, HasOneBlock, IsLaidOut, IsLaidOutAlone, Stands}
 use Rattle.ea_laws.proofs.BlockLists.{offset_of}
@@ -19,7 +22,8 @@ use Rattle.ea_laws.proofs.Changed.{resized-keeps}
 use Rattle.ea_laws.proofs.Contents.{absent-none, block_among}
 use Rattle.ea_laws.proofs.Reallocating.{resizing-Stands}
 use Rattle.ea_laws.proofs.Resized.{with_size}
-use Rattle.ea_laws.proofs.Standing.{changing-Stands, clearing-Stands, employed-multi, employed-own, planned-absent}
+use Rattle.ea_laws.proofs.Standing.{changing-Stands, clearing-Stands, employed-multi, employed-own}
+use Rattle.ea_laws.proofs.Standing.{planned-absent}
 use Rattle.ea_model.specs.Abandonment.{is_due}
 use Rattle.ea_model.specs.Employment.{dismissing, disowning}
 use Rattle.ea_machine.specs.Setup.{Setup, migration}

@@ -1,5 +1,6 @@
 -- What the moves of an operation keep, the operation itself keeps.
-use Rattle.std.proofs.Common.{◌≡◌, ◌≢◌, ℕ, ◌-◌, ◌%◌, ◌≤◌, List, [], ◌∷◌, Bool, true, false, refl, sym, ◌∙◌, subst}
+use Rattle.std.proofs.Common.{◌≡◌, ◌≢◌, ℕ, ◌-◌, ◌%◌, ◌≤◌, List, [], ◌∷◌, Bool, true, false, refl}
+use Rattle.std.proofs.Common.{sym, ◌∙◌, subst}
 use Rattle.std.specs.Prelude.{Option, Some, None, Result, Ok, Err, nat_lt, ◌&&◌}
 use Rattle.ea_model.specs.declared.carriers.CarrierPlan.{CarrierPlan}
 use Rattle.ea_model.specs.declared.carriers.Place.{Place}
@@ -9,9 +10,11 @@ use Rattle.ea_model.specs.declared.entries.NoCarrier.{NoCarrier}
 use Rattle.ea_model.specs.declared.operations.Op.{Op}
 use Rattle.ea_model.specs.declared.operations.Op.TheVariants as op
 use Rattle.ea_model.specs.declared.reallocation.Decision.{Decision}
-use Rattle.ea_model.specs.declared.reallocation.Decision.TheVariants.{Stay, ShrinkHere, GrowHere, ShrinkCarrier, Move}
+use Rattle.ea_model.specs.declared.reallocation.Decision.TheVariants.{Stay, ShrinkHere, GrowHere}
+use Rattle.ea_model.specs.declared.reallocation.Decision.TheVariants.{ShrinkCarrier, Move}
 use Rattle.ea_model.specs.declared.units.TheConstants.{SEARCH_LIMIT}
-use Rattle.ea_model.specs.Instance.{chosen_spot, creating, decision_at, is_alone, place_at, plan, single_place}
+use Rattle.ea_model.specs.Instance.{chosen_spot, creating, decision_at, is_alone, place_at, plan}
+use Rattle.ea_model.specs.Instance.{single_place}
 use Rattle.ea_model.specs.Units.{need_of}
 use Rattle.ea_model.proofs.Options.{some_value}
 use Rattle.ea_model.proofs.Rising.{item_at-key}
@@ -20,14 +23,18 @@ use Rattle.ea_model.proofs.Needs.{need-even, need-least}
 use Rattle.ea_model.specs.Content.{Content}
 use Rattle.ea_machine.specs.declared.owners.OwnerWord.{OwnerWord}
 use Rattle.ea_machine.specs.declared.stages.Stage.{Stage}
-use Rattle.ea_machine.specs.declared.stages.Stage.TheVariants.{Begin, Searching, Fetching, Creating, Giving, Taking, Ended}
+use Rattle.ea_machine.specs.declared.stages.Stage.TheVariants.{Begin, Searching, Fetching, Creating}
+use Rattle.ea_machine.specs.declared.stages.Stage.TheVariants.{Giving, Taking, Ended}
 use Rattle.ea_machine.specs.Actor.{Actor}
 use Rattle.ea_machine.specs.declared.tasks.Task.TheVariants.{Freeing, Moving}
 use Rattle.ea_machine.specs.declared.asks.Ask.{Ask}
 use Rattle.ea_machine.specs.Nodes.{named_at, name_of}
 use Rattle.ea_machine.specs.declared.nodes.Named.{Named}
 use Rattle.ea_machine.specs.Operations.{freed, giving, itself}
-use Rattle.ea_machine.specs.Placements.{chosen_by, created, failed, holding, making as making_by, placed_at, placed_by, created_by, placed_in_choice, new_carrier, new_carrier_by, saw_by, search_at, search_if, searched_by, seek, seek_by, spot_of_place, stands}
+use Rattle.ea_machine.specs.Placements.{chosen_by, created, failed, holding, making as making_by}
+use Rattle.ea_machine.specs.Placements.{placed_at, placed_by, created_by, placed_in_choice}
+use Rattle.ea_machine.specs.Placements.{new_carrier, new_carrier_by, saw_by, search_at, search_if}
+use Rattle.ea_machine.specs.Placements.{searched_by, seek, seek_by, spot_of_place, stands}
 use Rattle.ea_machine.specs.Reallocations.{reallocated, reallocated_by, resized_here}
 use Rattle.ea_machine.specs.Setup.{Setup, greatest_number, migration}
 use Rattle.ea_machine.specs.Shared.{Shared}

@@ -1,5 +1,6 @@
 -- Where carriers are.
-use Rattle.std.specs.Prelude.{◌≡◌, ◌≢◌, ◌⊎◌, ℕ, ◌<◌, ◌≤◌, Bool, true, false, ◌&&◌, ◌==◌, [], Some, All}
+use Rattle.std.specs.Prelude.{◌≡◌, ◌≢◌, ◌⊎◌, ℕ, ◌<◌, ◌≤◌, Bool, true, false, ◌&&◌, ◌==◌, [], Some}
+use Rattle.std.specs.Prelude.{All}
 use Rattle.ea_model.specs.declared.carriers.Kind.TheVariants.{Main, Multi}
 use Rattle.ea_model.specs.declared.carriers.OwnCarrier.{OwnCarrier}
 use Rattle.ea_model.specs.Content.{Content, gaps_of, is_vacant, largest}

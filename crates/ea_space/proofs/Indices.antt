@@ -1,12 +1,14 @@
 -- The taken segments by their index.
-use Rattle.std.proofs.Common.{◌≡◌, ◌≢◌, ℕ, ◌+◌, ◌-◌, ◌<◌, ◌≤◌, true, false, List, [], ◌∷◌, ◌++◌, length, get_or, set, drop, sym, ap, ◌∙◌, subst, refl, inl, inr, arith}
+use Rattle.std.proofs.Common.{◌≡◌, ◌≢◌, ℕ, ◌+◌, ◌-◌, ◌<◌, ◌≤◌, true, false, List, [], ◌∷◌, ◌++◌}
+use Rattle.std.proofs.Common.{length, get_or, set, drop, sym, ap, ◌∙◌, subst, refl, inl, inr, arith}
 use Rattle.std.specs.Prelude.{remove}
 use Rattle.std.specs.List.{position_or_len}
 use Rattle.std.proofs.lemmas.List.{drop_more, get_or_default}
 use Rattle.ea_model.specs.declared.carriers.Segment.{Segment}
 use Rattle.ea_model.specs.Region.{stretch, covers, cut_from, Laid, IsTailOf, IsTail}
 use Rattle.ea_model.proofs.Rising.{get_or_cons, remove_cons, set_cons}
-use Rattle.ea_laws.proofs.Segments.{covers_cases, cut_first, cut_past, stretch_none, IsTail_cases, IsTail_behind}
+use Rattle.ea_laws.proofs.Segments.{covers_cases, cut_first, cut_past, stretch_none, IsTail_cases}
+use Rattle.ea_laws.proofs.Segments.{IsTail_behind}
 
 -- the default of an index past the end
 abbrev pub no_segment : Segment

@@ -1,5 +1,6 @@
 //! The region and its calls.
-ghost use Rattle.std.specs.Prelude.{◌≡◌, ◌⊎◌, ℕ, ◌+◌, ◌-◌, ◌^◌, ◌<◌, ◌≤◌, ◌↔◌, [], All, Some, IsNone, IfSome, IfOk, length};
+ghost use Rattle.std.specs.Prelude.{◌≡◌, ◌⊎◌, ℕ, ◌+◌, ◌-◌, ◌^◌, ◌<◌, ◌≤◌, ◌↔◌, [], All, Some};
+ghost use Rattle.std.specs.Prelude.{IsNone, IfSome, IfOk, length};
 ghost use Rattle.ea_model.specs.declared.units.TheConstants.{NUMBERS};
 ghost use Rattle.ea_model.specs.Region.{runs_of, lowest_run, longest, with_segment, cut_from, Laid};
 ghost use Rattle.ea_model.specs.Region.{AreFree, IsTail};

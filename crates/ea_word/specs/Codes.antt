@@ -2,7 +2,9 @@
 use Rattle.std.specs.Prelude.{◌≡◌, ℕ, ◌+◌, ◌-◌, ◌*◌, ◌/◌, ◌%◌, ◌^◌, ◌<◌, ◌≤◌, Option, None, Some}
 use Rattle.ea_machine.specs.declared.nodes.Node.{Node}
 use Rattle.ea_machine.specs.declared.nodes.Node.TheVariants.{Block, Carrier}
-use Rattle.ea_word.specs.declared.nodes.TheConstants.{BLOCK_KIND, CARRIER_KIND, CARRIER_SHIFT, CODED_UNITS, MAX_CODED_CARRIER, MAX_CODED_NAME, NAME_SHIFT, OFFSET_SHIFT}
+use Rattle.ea_word.specs.declared.nodes.TheConstants.{BLOCK_KIND, CARRIER_KIND, CARRIER_SHIFT}
+use Rattle.ea_word.specs.declared.nodes.TheConstants.{CODED_UNITS, MAX_CODED_CARRIER}
+use Rattle.ea_word.specs.declared.nodes.TheConstants.{MAX_CODED_NAME, NAME_SHIFT, OFFSET_SHIFT}
 use Rattle.ea_word.specs.declared.words.TheConstants.{NO_NODE, OLDEST}
 
 -- the node's fields have room in a number

@@ -2,11 +2,14 @@ use Rattle.std.proofs.Common.{ap, sym, ◌∙◌}
 use Rattle.ea_model.specs.Instance.{employed, own_at, own_of}
 use Rattle.ea_model.proofs.Rising.{item_at-key}
 use Rattle.ea_laws.specs.Kept.{number_of}
-use Rattle.ea_laws.proofs.Blocks.{clearing-same, creating-same, creating_single-IsPlaced, placing-IsPlaced, releasing-gone, releasing-others}
+use Rattle.ea_laws.proofs.Blocks.{clearing-same, creating-same, creating_single-IsPlaced}
+use Rattle.ea_laws.proofs.Blocks.{placing-IsPlaced, releasing-gone, releasing-others}
 use Rattle.ea_laws.proofs.Keeping.{chosen-planned}
 use Rattle.ea_laws.proofs.Reallocating.{resizing-Stands, resizing-begins, resizing-others}
 use Rattle.ea_laws.proofs.Refusals.{plan-numbers, plan-space}
-use Rattle.ea_laws.proofs.Standing.{Stands-IsInOrder, chosen-Stands, chosen_spot-HasGap, clearing-Stands, creating-Stands, creating_single-Stands, new-Stands, releasing-Stands}
+use Rattle.ea_laws.proofs.Standing.{Stands-IsInOrder, chosen-Stands, chosen_spot-HasGap}
+use Rattle.ea_laws.proofs.Standing.{clearing-Stands, creating-Stands, creating_single-Stands}
+use Rattle.ea_laws.proofs.Standing.{new-Stands, releasing-Stands}
 use Rattle.ea_laws.proofs.instances.instances.Goals as goal
 
 pub returns-clause-begins : goal.returns-clause-begins

@@ -3,7 +3,9 @@ use Rattle.std.specs.Prelude.{IfSome, IsNone, IsTrue, All, AllPairs}
 use Rattle.ea_model.specs.Choice.{IsFirst}
 use Rattle.ea_model.specs.GoodFit.{bin_of, good_fit, is_inspected}
 use Rattle.ea_goodfit.specs.Gaps.{HeldGaps, is_held, smaller, inspected_fitting, IsBelow}
-use Rattle.ea_goodfit.proofs.Found.{good_fit-none, good_fit-IsFirst, good_fit-held, good_fit-inspected, good_fit-fits, good_fit-bin, good_fit-above, good_fit-only, good_fit-order}
+use Rattle.ea_goodfit.proofs.Found.{good_fit-none, good_fit-IsFirst, good_fit-held}
+use Rattle.ea_goodfit.proofs.Found.{good_fit-inspected, good_fit-fits, good_fit-bin, good_fit-above}
+use Rattle.ea_goodfit.proofs.Found.{good_fit-only, good_fit-order}
 use Rattle.ea_goodfit.proofs.bins.Bins.find.Goals as goal
 
 -- the answer is the choice

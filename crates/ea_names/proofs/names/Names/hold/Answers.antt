@@ -1,8 +1,10 @@
-use Rattle.std.proofs.Common.{◌≡◌, ◌<◌, ◌/◌, ◌%◌, [], Some, None, sym, ap, ◌∙◌, get_or, length, arith}
+use Rattle.std.proofs.Common.{◌≡◌, ◌<◌, ◌/◌, ◌%◌, [], Some, None, sym, ap, ◌∙◌, get_or, length}
+use Rattle.std.proofs.Common.{arith}
 use Rattle.ea_machine.specs.Nodes.{spot_named, with_name}
 use Rattle.ea_names.specs.Holding.{has_place, held_in}
 use Rattle.ea_names.specs.declared.groups.TheConstants.{GROUP}
-use Rattle.ea_names.proofs.GroupedNames.{group-at, groups-length, hold-in, item-are, item-groups, item-length, item-places, items_of, place-size, spot-in}
+use Rattle.ea_names.proofs.GroupedNames.{group-at, groups-length, hold-in, item-are, item-groups}
+use Rattle.ea_names.proofs.GroupedNames.{item-length, item-places, items_of, place-size, spot-in}
 use Rattle.ea_names.proofs.names.Names.hold.Goals as goal
 
 pub index_mut-requires-2 : goal.index_mut-requires-2

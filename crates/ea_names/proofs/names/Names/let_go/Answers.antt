@@ -2,7 +2,8 @@ use Rattle.std.proofs.Common.{◌<◌, ◌/◌, ◌%◌, None, sym, ap, ◌∙�
 use Rattle.ea_machine.specs.Nodes.{without_name}
 use Rattle.ea_names.specs.Holding.{has_place, held_in}
 use Rattle.ea_names.specs.declared.groups.TheConstants.{GROUP}
-use Rattle.ea_names.proofs.GroupedNames.{group-at, group-full, item-are, item-groups, item-length, item-places, items_of, let-go-in, none-gone, not-empty}
+use Rattle.ea_names.proofs.GroupedNames.{group-at, group-full, item-are, item-groups, item-length}
+use Rattle.ea_names.proofs.GroupedNames.{item-places, items_of, let-go-in, none-gone, not-empty}
 use Rattle.ea_names.proofs.names.Names.let_go.Goals as goal
 
 pub returns-then-is_empty-clause-held : goal.returns-then-is_empty-clause-held

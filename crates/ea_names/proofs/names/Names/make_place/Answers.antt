@@ -1,7 +1,8 @@
 use Rattle.std.proofs.Common.{◌<◌, ◌/◌, true, set, sym, ap, ◌∙◌, length, length-set, arith, rules}
 use Rattle.ea_names.specs.Holding.{has_place}
 use Rattle.ea_names.specs.declared.groups.TheConstants.{GROUP}
-use Rattle.ea_names.proofs.GroupedNames.{made-are, made-held, made-kept, made-place, made-places, place-there, places-there}
+use Rattle.ea_names.proofs.GroupedNames.{made-are, made-held, made-kept, made-place, made-places}
+use Rattle.ea_names.proofs.GroupedNames.{place-there, places-there}
 use Rattle.ea_names.proofs.names.Names.make_place.Goals as goal
 
 pub invariant_of-self : goal.invariant_of-self

@@ -2,7 +2,8 @@ use Rattle.std.proofs.Common.{◌<◌, ◌/◌, ◌%◌, None, sym, ap, ◌∙�
 use Rattle.std.proofs.lemmas.List.{get_or_read}
 use Rattle.ea_machine.specs.Nodes.{spot_named}
 use Rattle.ea_names.specs.declared.groups.TheConstants.{GROUP}
-use Rattle.ea_names.proofs.GroupedNames.{group-at, group-full, items_of, none-named, not-empty, spot-in}
+use Rattle.ea_names.proofs.GroupedNames.{group-at, group-full, items_of, none-named, not-empty}
+use Rattle.ea_names.proofs.GroupedNames.{spot-in}
 use Rattle.ea_names.proofs.names.Names.spot_of.Goals as goal
 
 pub returns-then-is_empty : goal.returns-then-is_empty

@@ -1,5 +1,6 @@
 use Rattle.ea_queues.proofs.AlikeNodes.{none-standing}
-use Rattle.ea_queues.proofs.QueueMoves.{becomes-laid, becomes-queues, becomes-rests, newest, put-first}
+use Rattle.ea_queues.proofs.QueueMoves.{becomes-laid, becomes-queues, becomes-rests, newest}
+use Rattle.ea_queues.proofs.QueueMoves.{put-first}
 use Rattle.ea_queues.proofs.queues.Queues.push.Goals as goal
 
 pub invariant_of-self : goal.invariant_of-self

@@ -1,5 +1,6 @@
 use Rattle.std.proofs.Common.{◌≡◌, Bool, not, true, false, refl, ◌∙◌}
-use Rattle.ea_queues.proofs.QueueMoves.{becomes-laid, becomes-rests, passes, passes-answer, rests-answer, rests-same}
+use Rattle.ea_queues.proofs.QueueMoves.{becomes-laid, becomes-rests, passes, passes-answer}
+use Rattle.ea_queues.proofs.QueueMoves.{rests-answer, rests-same}
 use Rattle.ea_queues.proofs.queues.Queues.take_link.Goals as goal
 
 is-off : (b : Bool) → not b ≡ true → b ≡ false

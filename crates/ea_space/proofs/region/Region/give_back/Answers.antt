@@ -1,4 +1,5 @@
-use Rattle.std.proofs.Common.{◌≡◌, ◌-◌, ◌<◌, ◌≤◌, sym, ◌∙◌, ap, subst, refl, arith, set, length, length-set, ◌+◌}
+use Rattle.std.proofs.Common.{◌≡◌, ◌-◌, ◌<◌, ◌≤◌, sym, ◌∙◌, ap, subst, refl, arith, set, length}
+use Rattle.std.proofs.Common.{length-set, ◌+◌}
 use Rattle.std.specs.List.{position_or_len}
 use Rattle.ea_model.specs.declared.carriers.Segment.{Segment}
 use Rattle.ea_model.specs.Region.{covers, cut_from, Laid}
