@@ -6,7 +6,7 @@ ghost use Rattle.ea_cset.specs.Carriers.{number_of, is_held, carrier_of, with_fi
 use crate::keys::{CarrierFit, CarrierKey};
 use crate::walks::{lowest, oldest};
 use ea_model::OutOfMemory;
-use ea_model::keyed::{enter_within, index_of, item_of, take_out};
+use ea_model::keyed::{enter_within, index_of, take_out};
 use std::alloc::Global;
 use std::marker::Model;
 
@@ -38,13 +38,6 @@ impl CarrierSet {
             room,
             held: Vec::with_capacity(alloc, room as usize)?,
         })
-    }
-
-    /// Whether the carrier with the number is in the set.
-    pub fn holds(&self, number: u32) -> bool
-        ensures { result ≡ is_held number self.now.held }
-    {
-        item_of(number, &self.held).is_some()
     }
 
     /// Adds a carrier whose largest gap has `fit` units.

@@ -56,7 +56,6 @@ fn an_empty_set_finds_none(rt: HostRuntime) -> Result<(), Fail> {
     let set = CarrierSet::new(rt.alloc(), 250)?;
     assert_eq!(rt; set.first_by_address(0), None);
     assert_eq!(rt; set.first_by_age(0), None);
-    assert!(rt; !set.holds(0));
     Ok(())
 }
 
@@ -70,8 +69,6 @@ fn a_changed_fit_and_a_removed_carrier_count(rt: HostRuntime) -> Result<(), Fail
     assert_eq!(rt; set.first_by_age(51), None);
 
     set.remove(3);
-    assert!(rt; !set.holds(3));
-    assert!(rt; set.holds(258));
     assert_eq!(rt; set.first_by_address(0), Some(5));
     assert_eq!(rt; set.first_by_age(8), Some(258));
     assert_eq!(rt; set.first_by_age(9), Some(5));

@@ -22,11 +22,12 @@ use Rattle.ea_model.proofs.Rising.{All-entered, item_at-All}
 use Rattle.std.proofs.lemmas.Bool.{cases_eq}
 use Rattle.std.proofs.lemmas.List.Elements.{All-head, All-tail}
 use Rattle.ea_instance.specs.Binned.{Hold}
-use Rattle.ea_instance.specs.Changes.{AreLaid, IsPlacing, IsReleasing}
+use Rattle.ea_instance.specs.Changes.{AreLaid}
+use Rattle.ea_instance.proofs.Changing.{IsPlacing, IsReleasing}
 use Rattle.ea_goodfit.specs.Gaps.{gap_from, CanCut, CanJoin}
 use Rattle.ea_instance.specs.Listed.{all_gaps}
-use Rattle.ea_instance.specs.declared.changes.Joined.{Joined}
-use Rattle.ea_instance.specs.declared.changes.Placed.{Placed}
+use Rattle.ea_mbc.specs.declared.carrier.Freed.{Freed}
+use Rattle.ea_mbc.specs.declared.carrier.Placed.{Placed}
 use Rattle.ea_instance.proofs.Gaps.{at_base, at_gap, gap_from-some, gaps-replaced, gaps-with, gaps-without, empty_gaps}
 use Rattle.ea_instance.proofs.Listed.{first-alone, DifferIn}
 use Rattle.ea_instance.proofs.Located.{gaps-distinct}
@@ -348,19 +349,19 @@ placing-IsCut need name x p cs new laid even least w =
     w.chosen.address (omega (arith, w.size, taken-le x.size need w.chosen.fits)) taken)
 
 -- a release joins the gaps beside the block
-pub releasing-IsJoin : (number offset : ℕ) (j : Joined) (cs new : List Content) → AreLaid cs
-    → IsReleasing number offset j cs new
-    → IsJoin (all_gaps cs) (all_gaps new) j.address j.block.before j.block.size j.block.after
-releasing-IsJoin number offset j cs new laid w =
+pub releasing-IsJoin : (number offset address : ℕ) (j : Freed) (cs new : List Content) → AreLaid cs
+    → IsReleasing number offset address j cs new
+    → IsJoin (all_gaps cs) (all_gaps new) address j.before j.size j.after
+releasing-IsJoin number offset address j cs new laid w =
     let c = w.content in
     let f : Content → Content = λ d. released d offset in
     let here = item_at-All number_of IsLaidOut number c cs laid.sound w.there in
     let a = gap_before c offset in
     let b = gap_behind c offset in
     let joins : ℕ → ℕ → Type 0 =
-    λ m o. IsJoin (all_gaps cs) (all_gaps (changed f number cs)) j.address m j.block.size o in
-    subst (λ ys. IsJoin (all_gaps cs) (all_gaps ys) j.address j.block.before j.block.size
-    j.block.after) (sym w.is)
-    (subst (λ m. joins m j.block.after) (sym w.before) (subst (joins a) (sym w.after)
+    λ m o. IsJoin (all_gaps cs) (all_gaps (changed f number cs)) address m j.size o in
+    subst (λ ys. IsJoin (all_gaps cs) (all_gaps ys) address j.before j.size
+    j.after) (sym w.is)
+    (subst (λ m. joins m j.after) (sym w.before) (subst (joins a) (sym w.after)
     (is-join f (released-keeps offset) number c cs w.there laid (released-IsLaidOut c offset here)
-    j.address offset a j.block.size b w.address (gap_up_to-le (gaps_of c) offset) w.joined)))
+    address offset a j.size b w.place (gap_up_to-le (gaps_of c) offset) w.joined)))

@@ -22,10 +22,11 @@ use Rattle.ea_laws.proofs.Standing.{placed-IsLaidOut}
 use Rattle.ea_laws.proofs.Ranges.{IsOrdered}
 use Rattle.ea_laws.proofs.Sums.{all-units}
 use Rattle.ea_laws.proofs.Tiling.{Ordered-allocated, Tiled-allocated, Tiled-length, one-Ordered}
-use Rattle.ea_instance.specs.Changes.{AreLaid, IsPlacing, IsResizing}
+use Rattle.ea_instance.specs.Changes.{AreLaid}
+use Rattle.ea_instance.proofs.Changing.{IsPlacing, IsResizing}
 use Rattle.ea_instance.specs.Counted.{with_block, with_carrier, with_whole}
-use Rattle.ea_instance.specs.declared.changes.Placed.{Placed}
-use Rattle.ea_instance.specs.declared.employed.Resized.{Resized}
+use Rattle.ea_mbc.specs.declared.carrier.Placed.{Placed}
+use Rattle.ea_mbc.specs.declared.carrier.Resized.{Resized}
 
 sum-ones : {A : Type 0} (xs : List A) → sum_by (λ (x : A). 1) xs ≡ length xs
 sum-ones [] = refl
@@ -417,24 +418,24 @@ one-block units offset [] h some = absurd cc
 one-block units offset (b ∷ []) h some = refl
 one-block units offset (b ∷ d ∷ bs) h some = absurd h
 
-module _ (number offset : ℕ) (units : Content → ℕ) (name : ℕ) (r : Resized)
+module _ (number offset : ℕ) (units : Content → ℕ) (name address : ℕ) (r : Resized)
     (cs new : List Content) (laid : AreLaid cs)
-    (w : IsResizing number offset units name r cs new) (f : Figures) where
+    (w : IsResizing number offset units name address r cs new) (f : Figures) where
   -- the figures of the carriers where a block has another size
   pub resized-counted : (g : Figures) → f ≡ figures cs
-      → with_block r.was.size g ≡ with_block r.size f → g ≡ figures new
+      → with_block r.was g ≡ with_block r.size f → g ≡ figures new
   resized-counted g counted is =
-      cancel-block r.was.size g (figures new)
+      cancel-block r.was g (figures new)
       (is ∙ ap (with_block r.size) counted
       ∙ ap (λ s. with_block s (figures cs)) w.block.size
-      ∙ sym (ap (λ xs. with_block r.was.size (figures xs)) w.is
-      ∙ figures-resized number w.content cs offset r.was.size laid w.there w.block.block w.block.was
+      ∙ sym (ap (λ xs. with_block r.was (figures xs)) w.is
+      ∙ figures-resized number w.content cs offset r.was laid w.there w.block.block w.block.was
       units name))
 
-  pub resized-within : f ≡ figures cs → r.was.size ≤ f.blocks_size
+  pub resized-within : f ≡ figures cs → r.was ≤ f.blocks_size
   resized-within counted =
-      (within-block r.was.size _ f
-      (figures-released number w.content cs offset r.was.size laid w.there w.block.block w.block.was
+      (within-block r.was _ f
+      (figures-released number w.content cs offset r.was laid w.there w.block.block w.block.was
       ∙ sym counted)).1
 
 module _ (n : ℕ) (x : Content) (cs : List Content) where

@@ -1,5 +1,6 @@
 pub mod ByCarrier
 pub mod Changed
+pub mod Changing
 pub mod Choosing
 pub mod Counting
 pub mod Folding

@@ -1,12 +1,11 @@
 -- The carriers and their bins where a block has another size.
 use Rattle.std.proofs.Common.{◌≡◌, ℕ, ◌+◌, ◌-◌, ◌<◌, ◌≤◌, List, [], ◌∷◌, ◌++◌, append-nil, map, sym, ap, ◌∙◌, subst, refl, arith}
-use Rattle.std.specs.Prelude.{Option, IsSome}
+use Rattle.std.specs.Prelude.{Option}
 use Rattle.std.proofs.lemmas.List.Sorted.{IsPermutation-sym, IsPermutation-trans}
 use Rattle.ea_model.specs.declared.carriers.Gap as model
 use Rattle.ea_model.specs.declared.settings.Strategy.{Strategy}
-use Rattle.ea_model.specs.Content.{Content, block_at, gap, gap_behind, gaps_of, largest, resized, size_of, taken_of}
+use Rattle.ea_model.specs.Content.{Content, block_at, gap, gaps_of, largest, resized, size_of}
 use Rattle.ea_model.specs.Instance.{changed}
-use Rattle.ea_model.proofs.Options.{some_value}
 use Rattle.ea_model.proofs.Rising.{item_at-All}
 use Rattle.ea_mbc.specs.Gaps.{Replaced}
 use Rattle.ea_goodfit.specs.declared.gaps.BinnedGap.{BinnedGap}
@@ -16,26 +15,14 @@ use Rattle.ea_laws.specs.Kept.{number_of, IsLaidOut}
 use Rattle.ea_laws.proofs.Apart.{only-item}
 use Rattle.ea_laws.proofs.Changed.{KeepsPlace}
 use Rattle.ea_laws.proofs.Chosen.{gap_none, gap_some}
-use Rattle.ea_laws.proofs.Resized.{block_at-IsBlock}
 use Rattle.ea_instance.specs.Binned.{Hold}
-use Rattle.ea_instance.specs.Changes.{AreLaid, IsRenaming, IsResizing}
+use Rattle.ea_instance.specs.Changes.{AreLaid}
+use Rattle.ea_instance.proofs.Changing.{IsRenaming, IsResizing}
 use Rattle.ea_instance.specs.Listed.{all_gaps, held_of, IsListed}
-use Rattle.ea_instance.specs.declared.employed.Resized.{Resized}
+use Rattle.ea_mbc.specs.declared.carrier.Resized.{Resized}
 use Rattle.ea_instance.proofs.BinsAfter.{is-cut, is-join, Hold-permuted, IsCut, IsJoin}
 use Rattle.ea_instance.proofs.Changed.{map-kept}
 use Rattle.ea_instance.proofs.Gaps.{at_base, gaps-replaced}
-
--- a block and the gap behind it lie in their carrier
-pub extent-within : (c : Content) (offset : ℕ) → IsLaidOut c → IsSome (block_at c.blocks offset)
-    → offset + size_of (block_at c.blocks offset) + gap_behind c offset ≤ c.units
-extent-within c offset laid h =
-    let s = some_value (block_at c.blocks offset) h in
-    omega (arith, (block_at-IsBlock c offset s.0 laid.tiled s.1).within, ap size_of s.1)
-
--- what a block takes of room that is enough
-pub taken-between : (room need : ℕ) → need ≤ room
-    → (need ≤ taken_of room need) × (taken_of room need ≤ room)
-taken-between room need le = (grind arith, grind arith)
 
 -- another size, which the carrier gives, changes blocks alone
 pub resized_by-keeps : (offset : ℕ) (units : Content → ℕ) (name : ℕ)
@@ -57,20 +44,20 @@ one_gap a b offset size lt e f =
     gap_some a b lt ∙ ap (λ n. record { offset = a; size = n } ∷ []) (sym f)
     ∙ ap (λ n. record { offset = n; size = size } ∷ []) (sym e)
 
-module _ (number offset : ℕ) (units : Content → ℕ) (name : ℕ) (r : Resized)
+module _ (number offset : ℕ) (units : Content → ℕ) (name address : ℕ) (r : Resized)
     (cs new : List Content) (laid : AreLaid cs)
-    (w : IsResizing number offset units name r cs new) where
+    (w : IsResizing number offset units name address r cs new) where
   abbrev f : Content → Content
   f c = resized c offset (units c) name
 
   abbrev Replaces : List model.Gap → List model.Gap → Type 0
   Replaces gone made = Replaced (gaps_of w.content) (gaps_of (f w.content)) gone made
 
-  resized_gap : Replaces (gap (offset + r.was.size) (offset + r.was.size + r.was.after))
-      (gap (offset + r.size) (offset + r.was.size + r.was.after))
+  resized_gap : Replaces (gap (offset + r.was) (offset + r.was + r.after))
+      (gap (offset + r.size) (offset + r.was + r.after))
   resized_gap =
-      subst (λ n. Replaces (gap (offset + r.was.size) (offset + r.was.size + n))
-      (gap (offset + r.size) (offset + r.was.size + n))) (sym w.block.after) w.block.gap
+      subst (λ n. Replaces (gap (offset + r.was) (offset + r.was + n))
+      (gap (offset + r.size) (offset + r.was + n))) (sym w.block.after) w.block.gap
 
   sound : IsLaidOut (f w.content)
   sound =
@@ -83,47 +70,47 @@ module _ (number offset : ℕ) (units : Content → ℕ) (name : ℕ) (r : Resiz
       }
 
   -- what the block gives back joins the gap behind it
-  pub shrinking-IsJoin : r.size < r.was.size
-      → IsJoin (all_gaps cs) (all_gaps new) (r.was.address + r.size) 0 (r.was.size - r.size)
-      r.was.after
+  pub shrinking-IsJoin : r.size < r.was
+      → IsJoin (all_gaps cs) (all_gaps new) (address + r.size) 0 (r.was - r.size)
+      r.after
   shrinking-IsJoin fewer =
       let o : ℕ = offset + r.size in
-      let s : ℕ = r.was.size - r.size in
-      let gone : gap (offset + r.was.size) (offset + r.was.size + r.was.after)
-      ≡ gap (o - 0) o ++ gap (o + s) (o + s + r.was.after) =
-      same_gap (offset + r.was.size) (offset + r.was.size + r.was.after) (o + s)
-      (o + s + r.was.after) (omega arith) (omega arith)
-      ∙ ap (λ gs. gs ++ gap (o + s) (o + s + r.was.after)) (sym (gap_none (o - 0) o (omega arith)))
+      let s : ℕ = r.was - r.size in
+      let gone : gap (offset + r.was) (offset + r.was + r.after)
+      ≡ gap (o - 0) o ++ gap (o + s) (o + s + r.after) =
+      same_gap (offset + r.was) (offset + r.was + r.after) (o + s)
+      (o + s + r.after) (omega arith) (omega arith)
+      ∙ ap (λ gs. gs ++ gap (o + s) (o + s + r.after)) (sym (gap_none (o - 0) o (omega arith)))
       in
-      let made : gap (offset + r.size) (offset + r.was.size + r.was.after)
-      ≡ record { offset = o - 0; size = 0 + s + r.was.after } ∷ [] =
-      one_gap (offset + r.size) (offset + r.was.size + r.was.after) (o - 0)
-      (0 + s + r.was.after) (omega arith) (omega arith) (omega arith) in
-      subst (λ ys. IsJoin (all_gaps cs) (all_gaps ys) (r.was.address + r.size) 0
-      (r.was.size - r.size) r.was.after) (sym w.is)
+      let made : gap (offset + r.size) (offset + r.was + r.after)
+      ≡ record { offset = o - 0; size = 0 + s + r.after } ∷ [] =
+      one_gap (offset + r.size) (offset + r.was + r.after) (o - 0)
+      (0 + s + r.after) (omega arith) (omega arith) (omega arith) in
+      subst (λ ys. IsJoin (all_gaps cs) (all_gaps ys) (address + r.size) 0
+      (r.was - r.size) r.after) (sym w.is)
       (is-join f (resized_by-keeps offset units name) number w.content cs w.there laid sound
-      (r.was.address + r.size) o 0 s r.was.after (omega (arith, w.block.address)) (omega arith)
-      (subst (λ gs. Replaces gs (record { offset = o - 0; size = 0 + s + r.was.after } ∷ [])) gone
-      (subst (Replaces (gap (offset + r.was.size) (offset + r.was.size + r.was.after))) made
+      (address + r.size) o 0 s r.after (omega (arith, w.block.place)) (omega arith)
+      (subst (λ gs. Replaces gs (record { offset = o - 0; size = 0 + s + r.after } ∷ [])) gone
+      (subst (Replaces (gap (offset + r.was) (offset + r.was + r.after))) made
       resized_gap)))
 
   -- what the block takes is the front of the gap behind it
-  pub growing-IsCut : r.was.size < r.size → r.size ≤ r.was.size + r.was.after
-      → IsCut (all_gaps cs) (all_gaps new) (r.was.address + r.was.size) r.was.after
-      (r.size - r.was.size)
+  pub growing-IsCut : r.was < r.size → r.size ≤ r.was + r.after
+      → IsCut (all_gaps cs) (all_gaps new) (address + r.was) r.after
+      (r.size - r.was)
   growing-IsCut more fits =
-      let o : ℕ = offset + r.was.size in
-      let s : ℕ = r.size - r.was.size in
-      let gone : gap o (o + r.was.after) ≡ record { offset = o; size = r.was.after } ∷ [] =
-      one_gap o (o + r.was.after) o r.was.after (omega arith) refl (omega arith) in
-      let made : gap (offset + r.size) (o + r.was.after) ≡ gap (o + s) (o + r.was.after) =
-      ap (λ n. gap n (o + r.was.after)) (omega arith) in
-      subst (λ ys. IsCut (all_gaps cs) (all_gaps ys) (r.was.address + r.was.size) r.was.after
-      (r.size - r.was.size)) (sym w.is)
+      let o : ℕ = offset + r.was in
+      let s : ℕ = r.size - r.was in
+      let gone : gap o (o + r.after) ≡ record { offset = o; size = r.after } ∷ [] =
+      one_gap o (o + r.after) o r.after (omega arith) refl (omega arith) in
+      let made : gap (offset + r.size) (o + r.after) ≡ gap (o + s) (o + r.after) =
+      ap (λ n. gap n (o + r.after)) (omega arith) in
+      subst (λ ys. IsCut (all_gaps cs) (all_gaps ys) (address + r.was) r.after
+      (r.size - r.was)) (sym w.is)
       (is-cut f (resized_by-keeps offset units name) number w.content cs w.there laid sound
-      (r.was.address + r.was.size) o r.was.after s (omega (arith, w.block.address)) (omega arith)
-      (subst (λ gs. Replaces gs (gap (o + s) (o + r.was.after))) gone
-      (subst (Replaces (gap o (o + r.was.after))) made resized_gap)))
+      (address + r.was) o r.after s (omega (arith, w.block.place)) (omega arith)
+      (subst (λ gs. Replaces gs (gap (o + s) (o + r.after))) gone
+      (subst (Replaces (gap o (o + r.after))) made resized_gap)))
 
 -- another name changes neither the set nor the bins
 pub renaming-IsListed : (number offset name : ℕ) (cs new : List Content) (s : Strategy)

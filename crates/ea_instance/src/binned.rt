@@ -8,7 +8,6 @@ ghost use Rattle.ea_goodfit.specs.Gaps.{some_gap, gap_from, CanCut, CanJoin};
 ghost use Rattle.ea_instance.specs.Binned.{Hold, HaveRoom};
 
 use ea_goodfit::{BinnedGap, Bins};
-use ea_mbc::Freed;
 use ea_model::{OutOfMemory, Strategy};
 use std::alloc::Global;
 
@@ -48,20 +47,20 @@ pub fn note_placed(bins: &mut Option<Bins>, address: u32, whole: u32, size: u32)
     }
 }
 
-/// Notes that the block at the address is free, and one gap with those beside it.
-pub fn note_released(bins: &mut Option<Bins>, address: u32, freed: Freed)
+/// Notes that the `size` units at the address are free, and one gap with the `before` units before
+/// them and the `after` units after them.
+pub fn note_released(bins: &mut Option<Bins>, address: u32, before: u32, size: u32, after: u32)
     requires room { HaveRoom bins.old }
     requires held { IfSome bins.old
-        (λ b. CanJoin b.held address freed.before freed.size freed.after) }
+        (λ b. CanJoin b.held address before size after) }
     ensures some { is_some bins.new ≡ is_some bins.old }
     ensures joined { (rest : List gaps.BinnedGap)
-        → Hold bins.old (gap_from (address - freed.before) freed.before
-        ++ (gap_from (address + freed.size) freed.after ++ rest))
-        → Hold bins.new (gap_from (address - freed.before)
-        (freed.before + freed.size + freed.after) ++ rest) }
+        → Hold bins.old (gap_from (address - before) before
+        ++ (gap_from (address + size) after ++ rest))
+        → Hold bins.new (gap_from (address - before) (before + size + after) ++ rest) }
 {
     if let Some(bins) = bins {
-        bins.join(address, freed.before, freed.size, freed.after);
+        bins.join(address, before, size, after);
     }
 }
 

@@ -17,7 +17,6 @@ ghost use Rattle.ea_instance.specs.Listed.{candidate_in};
 ghost use Rattle.ea_instance.specs.Searches.{is_better};
 
 use crate::binned::{bins_for, make_room, note_entered, note_left, note_placed, note_released};
-use crate::changes;
 use crate::choice::Choice;
 use crate::employed::Employed;
 use crate::figures::{
@@ -27,9 +26,8 @@ use crate::strategies::{Search, inner_of, search_of};
 use crate::walks::{best_choice, choice_at, lowest_empty};
 use ea_cset::CarrierSet;
 use ea_goodfit::{BinnedGap, Bins};
-use ea_mbc::Freed;
 use ea_model::keyed::{enter, enter_within, index_of, take_out};
-use ea_model::{Figures, HEADER_UNITS, Inner, MAX_SCHEDULERS, NUMBERS, OutOfMemory, Strategy};
+use ea_model::{Figures, Gap, HEADER_UNITS, Inner, MAX_SCHEDULERS, NUMBERS, OutOfMemory, Strategy};
 use std::alloc::Global;
 use std::marker::Model;
 
@@ -170,7 +168,7 @@ impl Carriers {
         requires few { length self.old.contents ≤ NUMBERS * MAX_SCHEDULERS }
         requires choice { IsChoice need self.old.contents choice }
         requires even { need % 2 ≡ 0 }
-        requires least { 6 ≤ need }
+        requires least { MIN_BLOCK ≤ need }
         ensures size { IfOk result (λ size. size
             ≡ size_for (content_of self.old.contents choice.candidate.number)
             choice.candidate.offset need) }
@@ -181,10 +179,14 @@ impl Carriers {
         }) }
         ensures err { OnErr result (self.new ≡ self.old) }
     {
-        let gap = choice.candidate;
-        let placed = changes::place(&mut self.list, choice, need, name)?;
-        self.set.update(gap.number, placed.largest);
-        note_placed(&mut self.bins, gap.address, gap.size, placed.size);
+        let Choice { index, candidate } = choice;
+        let gap = Gap {
+            offset: candidate.offset,
+            size: candidate.size,
+        };
+        let placed = self.list[index].carrier.place(gap, need, name)?;
+        self.set.update(candidate.number, placed.largest);
+        note_placed(&mut self.bins, candidate.address, gap.size, placed.size);
         self.figures = with_block(self.figures, placed.size);
         Ok(placed.size)
     }
@@ -203,11 +205,20 @@ impl Carriers {
         ensures err { OnErr result (self.new ≡ self.old) }
     {
         make_room(&mut self.bins)?;
-        let joined = changes::release(&mut self.list, number, offset)?;
-        self.set.update(number, joined.largest);
-        note_released(&mut self.bins, joined.address, joined.block);
-        self.figures = without_block(self.figures, joined.block.size);
-        Ok(joined.vacant)
+        let index = index_of(number, &self.list);
+        let address = self.list[index].address(offset);
+        let freed = self.list[index].carrier.release(offset)?;
+        let vacant = self.list[index].is_vacant();
+        self.set.update(number, freed.largest);
+        note_released(
+            &mut self.bins,
+            address,
+            freed.before,
+            freed.size,
+            freed.after,
+        );
+        self.figures = without_block(self.figures, freed.size);
+        Ok(vacant)
     }
 
     /// The block at the offset in the carrier with the number has this name from now on. Answers its
@@ -223,7 +234,8 @@ impl Carriers {
               number self.old.contents;
         } }
     {
-        changes::rename(&mut self.list, number, offset, name)
+        let index = index_of(number, &self.list);
+        self.list[index].carrier.rename(offset, name)
     }
 
     /// The block at the offset in the carrier with the number has `need` units and this name from
@@ -248,15 +260,13 @@ impl Carriers {
         ensures err { OnErr result (self.new ≡ self.old) }
     {
         make_room(&mut self.bins)?;
-        let block = changes::shrink(&mut self.list, number, offset, need, name);
+        let index = index_of(number, &self.list);
+        let address = self.list[index].address(offset);
+        let block = self.list[index].carrier.shrink(offset, need, name);
         self.set.update(number, block.largest);
-        let freed = Freed {
-            before: 0,
-            size: block.was.size - block.size,
-            after: block.was.after,
-        };
-        note_released(&mut self.bins, block.was.address + block.size, freed);
-        self.figures = with_size(self.figures, block.was.size, block.size);
+        let rest = block.was - block.size;
+        note_released(&mut self.bins, address + block.size, 0, rest, block.after);
+        self.figures = with_size(self.figures, block.was, block.size);
         Ok(())
     }
 
@@ -280,16 +290,15 @@ impl Carriers {
               number self.old.contents;
         } }
     {
-        let block = changes::grow(&mut self.list, number, offset, need, name);
+        let index = index_of(number, &self.list);
+        let address = self.list[index].address(offset);
+        let Some(block) = self.list[index].carrier.grow(offset, need, name) else {
+            unreachable!();
+        };
         self.set.update(number, block.largest);
-        let end = block.was.address + block.was.size;
-        note_placed(
-            &mut self.bins,
-            end,
-            block.was.after,
-            block.size - block.was.size,
-        );
-        self.figures = with_size(self.figures, block.was.size, block.size);
+        let more = block.size - block.was;
+        note_placed(&mut self.bins, address + block.was, block.after, more);
+        self.figures = with_size(self.figures, block.was, block.size);
         block.size
     }
 
@@ -311,6 +320,7 @@ impl Carriers {
     {
         make_room(&mut self.bins)?;
         let key = employed.carrier_key();
+        employed.carrier.laid_out();
         let size = employed.carrier.largest();
         let address = employed.address(HEADER_UNITS);
         let units = employed.carrier.units();

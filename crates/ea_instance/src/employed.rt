@@ -8,7 +8,6 @@ ghost use Rattle.ea_model.specs.Instance.{carrier_line};
 ghost use Rattle.ea_mbc.specs.Gaps.{room_at};
 ghost use Rattle.ea_laws.specs.Kept.{IsLaidOut};
 ghost use Rattle.ea_laws.specs.Kinds.{is_shared};
-ghost use Rattle.ea_instance.specs.Changes.{IsResized};
 ghost use Rattle.ea_instance.specs.Choices.{candidate_of, IsChosenIn};
 ghost use Rattle.ea_instance.specs.Listed.{chosen_in, held_of, located, spans};
 
@@ -23,23 +22,10 @@ use std::marker::Model;
 /// A block, and the gap directly after it.
 #[derive(Clone, Copy)]
 pub struct Extent {
-    /// Where the block begins in the super carrier.
-    pub address: u32,
-    /// Its units.
+    /// The units of the block.
     pub size: u32,
     /// The units of the gap, or 0.
     pub after: u32,
-}
-
-/// A block that has another size now.
-#[derive(Clone, Copy)]
-pub struct Resized {
-    /// The block as it was.
-    pub was: Extent,
-    /// Its units now.
-    pub size: u32,
-    /// The units of the largest gap that its carrier has now.
-    pub largest: u32,
 }
 
 /// A main or multiblock carrier of an instance. Contracts see it as its content.
@@ -145,89 +131,19 @@ impl Employed {
         self.carrier.block_at(offset)
     }
 
-    /// The units of the block at `offset`.
-    fn size_at(&self, offset: u32) -> u32
-        requires { IsSome (block_at self.now.blocks offset) }
-        ensures { result ≡ size_of (block_at self.now.blocks offset) }
-    {
-        match self.carrier.block_at(offset) {
-            Some(block) => block.size,
-            None => unreachable!(),
-        }
-    }
-
     /// The block at `offset`, and the gap directly after it.
     pub fn extent(&self, offset: u32) -> Extent
-        requires laid { IsLaidOut self.now }
-        requires begins { IsSome (block_at self.now.blocks offset) }
-        ensures address { result.address ≡ PAGE_UNITS * self.now.base + offset }
+        requires { IsSome (block_at self.now.blocks offset) }
         ensures size { result.size ≡ size_of (block_at self.now.blocks offset) }
         ensures after { result.after ≡ gap_behind self.now offset }
-        ensures low { result.address + result.size + result.after ≤ MAX_UNITS }
     {
-        Extent {
-            address: self.address(offset),
-            size: self.size_at(offset),
-            after: self.carrier.gap_behind(offset),
+        match self.carrier.block_at(offset) {
+            Some(block) => Extent {
+                size: block.size,
+                after: self.carrier.gap_behind(offset),
+            },
+            None => unreachable!(),
         }
-    }
-
-    /// The block at `offset` has `need` units and this name from now on. It gives back at least 6
-    /// units.
-    pub fn shrink(&mut self, offset: u32, need: u32, name: u32) -> Resized
-        requires laid { IsLaidOut self.old }
-        requires begins { IsSome (block_at self.old.blocks offset) }
-        requires fewer { need + MIN_BLOCK ≤ size_of (block_at self.old.blocks offset) }
-        requires even { need % 2 ≡ 0 }
-        requires least { MIN_BLOCK ≤ need }
-        ensures resized { IsResized offset need name result self.old self.new }
-        ensures fewer { result.size + MIN_BLOCK ≤ result.was.size }
-        ensures low { result.was.address + result.was.size + result.was.after ≤ MAX_UNITS }
-    {
-        let was = self.extent(offset);
-        self.carrier.shrink(offset, need, name);
-        Resized {
-            was,
-            size: need,
-            largest: self.carrier.largest(),
-        }
-    }
-
-    /// The block at `offset` takes of the gap directly after it what it needs to have `need` units,
-    /// or the whole gap where fewer than 6 units would be left of it, and has this name from now
-    /// on.
-    pub fn grow(&mut self, offset: u32, need: u32, name: u32) -> Resized
-        requires laid { IsLaidOut self.old }
-        requires begins { IsSome (block_at self.old.blocks offset) }
-        requires more { size_of (block_at self.old.blocks offset) < need }
-        requires fits { need ≤ room_at self.old offset }
-        requires even { need % 2 ≡ 0 }
-        ensures resized { IsResized offset (taken_of (room_at self.old offset) need) name result
-            self.old self.new }
-        ensures more { result.was.size < result.size }
-        ensures fits { result.size ≤ result.was.size + result.was.after }
-        ensures low { result.was.address + result.was.size + result.was.after ≤ MAX_UNITS }
-    {
-        let was = self.extent(offset);
-        self.carrier.grow(offset, need, name);
-        Resized {
-            was,
-            size: self.size_at(offset),
-            largest: self.carrier.largest(),
-        }
-    }
-
-    /// The block at `offset` has this name from now on. Answers its units.
-    pub fn rename(&mut self, offset: u32, name: u32) -> u32
-        requires { IsSome (block_at self.old.blocks offset) }
-        ensures size { result ≡ size_of (block_at self.old.blocks offset) }
-        ensures renamed { self.new
-            ≡ resized self.old offset (size_of (block_at self.old.blocks offset)) name }
-        ensures gaps { gaps_of self.new ≡ gaps_of self.old }
-    {
-        let size = self.size_at(offset);
-        self.carrier.rename(offset, name);
-        size
     }
 
     /// Whether it is to be deallocated: it has no blocks and isn't the main carrier.
@@ -272,7 +188,7 @@ impl Employed {
         ensures { result ≡ self }
     {
         let carrier = self.carrier;
-        carrier.units();
+        carrier.laid_out();
         carrier
     }
 

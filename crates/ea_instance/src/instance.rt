@@ -110,15 +110,6 @@ fn main_plan(settings: Settings, instance: u32, first: u32) -> CarrierPlan
     }
 }
 
-/// The carrier of a plan, without blocks.
-fn planned_carrier(alloc: Global, plan: CarrierPlan, owner: u32) -> Result<Mbc, OutOfMemory>
-    requires { (1 ≤ plan.pages) × (plan.pages ≤ MAX_PAGES) }
-    ensures { IfOk result (λ carrier. carrier ≡ created_content owner Multi plan) }
-{
-    let units = plan.pages * PAGE_UNITS;
-    Mbc::new(alloc, units, plan.base, plan.birth, owner, plan.number)
-}
-
 /// Whether fewer than `acul` percent of the units are allocated.
 fn is_sparse(settings: Settings, used: u64, units: u64) -> bool
     requires used { 100 * used < 2 ^ 64 }
@@ -169,7 +160,7 @@ impl Instance {
         let mut created = 0;
         if settings.mmbcs > 0 {
             let plan = main_plan(settings, number, first);
-            let carrier = planned_carrier(alloc, plan, number)?;
+            let carrier = Mbc::new(alloc, plan, number)?;
             let kind = Kind::Main;
             carriers.enter(Employed { kind, carrier })?;
             own.add(plan);
@@ -428,7 +419,7 @@ impl Instance {
         requires multi { plan.single ≡ false }
         ensures { IfOk result (λ carrier. carrier ≡ created_content self.now.number Multi plan) }
     {
-        planned_carrier(alloc, plan, self.number)
+        Mbc::new(alloc, plan, self.number)
     }
 
     /// Employs the multiblock carrier of its present plan for a block of `need` units. Where there
@@ -460,15 +451,8 @@ impl Instance {
         ensures place { result ≡ single_place plan need }
         ensures blocks { IsPlaced (employed self.old) (employed self.new) name result }
     {
-        self.singles.enter(Sbc::new(
-            plan.number,
-            self.number,
-            plan.birth,
-            plan.base,
-            plan.pages,
-            need,
-            name,
-        ));
+        let block = Block { name, size: need };
+        self.singles.enter(Sbc::new(plan, self.number, block));
         self.own.add(plan);
         self.created = plan.birth;
         Place {

@@ -4,7 +4,6 @@
 
 mod binned;
 mod carriers;
-mod changes;
 mod choice;
 mod employed;
 mod figures;

@@ -2,19 +2,29 @@
 ghost use Rattle.std.specs.Prelude.{◌≡◌, ◌≢◌, ℕ, ◌+◌, ◌%◌, ◌<◌, ◌≤◌, ◌↔◌, [], All, Some, None, IsTrue, IsSome, IsNone, IfSome, OnOk, OnErr, IfOk, length, option_map};
 ghost use Rattle.std.specs.Bool.{OnTrue, OnFalse};
 ghost use Rattle.ea_model.specs.declared.carriers.Kind.TheVariants.{Multi};
-ghost use Rattle.ea_model.specs.declared.units.TheConstants.{MIN_BLOCK, PAGE_UNITS};
+ghost use Rattle.ea_model.specs.declared.units.TheConstants.{HEADER_UNITS, MAX_PAGES, MIN_BLOCK};
 ghost use Rattle.ea_model.specs.Content.{gaps_of, gap_at, gap_before, gap_behind, block_at, size_of, named, taken_of, placed, released, resized, allocated, largest, free_units, Tiled};
 ghost use Rattle.ea_model.specs.Choice.{before, fitting, choice, IsFirst};
+ghost use Rattle.ea_model.specs.Instance.{created_content};
 ghost use Rattle.ea_mbc.specs.Gaps.{room_at, GapTaken, GapsJoined, GapResized};
 
 use crate::walks::{
-    allocated_units, best_gap, count_of, free_before, free_behind, gap_from, largest_gap, resize,
-    room_from, taken,
+    allocated_units, best_gap, count_of, free_before, free_behind, gap_from, header_fits,
+    largest_gap, resize, room_from, taken,
 };
 use ea_model::keyed::{enter, index_of, item_of, take_out};
-use ea_model::{Block, BlockAt, Carried, Gap, Inner, OutOfMemory};
+use ea_model::{Block, BlockAt, Carried, CarrierPlan, Gap, Inner, OutOfMemory, PAGE_UNITS};
 use std::alloc::Global;
 use std::marker::Model;
+
+/// A block that was placed.
+#[derive(Debug, Clone, Copy, PartialEq, Eq)]
+pub struct Placed {
+    /// Its units.
+    pub size: u32,
+    /// The units of the carrier's largest gap now, or 0.
+    pub largest: u32,
+}
 
 /// A block that was released, with the gaps directly before and after it, which it joins.
 #[derive(Debug, Clone, Copy, PartialEq, Eq)]
@@ -25,6 +35,21 @@ pub struct Freed {
     pub size: u32,
     /// The units of the gap after it, or 0.
     pub after: u32,
+    /// The units of the carrier's largest gap now.
+    pub largest: u32,
+}
+
+/// A block that has another size now.
+#[derive(Debug, Clone, Copy, PartialEq, Eq)]
+pub struct Resized {
+    /// Its units before.
+    pub was: u32,
+    /// The units of the gap directly after it then, or 0.
+    pub after: u32,
+    /// Its units now.
+    pub size: u32,
+    /// The units of the carrier's largest gap now, or 0.
+    pub largest: u32,
 }
 
 /// A carrier of many blocks. Contracts see it as its content: number, owner, base, birth, units and
@@ -41,6 +66,7 @@ pub struct Mbc {
 
 impl Model for Mbc {
     ghost use Rattle.ea_model.specs.declared.carriers.Kind.TheVariants.{Multi};
+    ghost use Rattle.ea_model.specs.declared.units.TheConstants.{HEADER_UNITS};
     ghost use Rattle.ea_model.specs.Content.{Content, Tiled};
 
     ghost Value = { Content };
@@ -55,7 +81,7 @@ impl Model for Mbc {
       blocks = m.blocks.items;
     } };
 
-    ghost invariant = { λ m. Tiled 8 m.units m.blocks.items };
+    ghost invariant = { λ m. Tiled HEADER_UNITS m.units m.blocks.items };
 }
 
 impl Carried for Mbc {
@@ -63,37 +89,28 @@ impl Carried for Mbc {
 }
 
 impl Mbc {
-    /// A carrier without blocks: `units` units, its own header of 8 included, that begin at page
-    /// `base`. `birth` is its number in the order of creation, `owner` the instance that creates
-    /// it, and `number` its own.
-    pub fn new(
-        alloc: Global,
-        units: u32,
-        base: u32,
-        birth: u32,
-        owner: u32,
-        number: u32,
-    ) -> Result<Mbc, OutOfMemory>
-        requires some { 0 < units }
-        requires pages { units % PAGE_UNITS ≡ 0 }
-        ensures { IfOk result (λ m. m ≡ record {
-          number = number;
-          owner = owner;
-          base = base;
-          birth = birth;
-          units = units;
-          kind = Multi;
-          blocks = [];
-        }) }
+    /// The multiblock carrier of a plan, without blocks. `owner` is the instance that creates it.
+    pub fn new(alloc: Global, plan: CarrierPlan, owner: u32) -> Result<Mbc, OutOfMemory>
+        requires { (1 ≤ plan.pages) × (plan.pages ≤ MAX_PAGES) }
+        ensures { IfOk result (λ m. m ≡ created_content owner Multi plan) }
     {
         Ok(Mbc {
-            number,
+            number: plan.number,
             owner,
-            base,
-            birth,
-            units,
+            base: plan.base,
+            birth: plan.birth,
+            units: plan.pages * PAGE_UNITS,
             blocks: Vec::new(alloc),
         })
+    }
+
+    /// Its blocks lie one after another, behind its header, with whole gaps between them.
+    pub fn laid_out(&self)
+        ensures kind { self.now.kind ≡ Multi }
+        ensures header { HEADER_UNITS ≤ self.now.units }
+        ensures tiled { Tiled HEADER_UNITS self.now.units self.now.blocks }
+    {
+        header_fits(self.units, &self.blocks);
     }
 
     /// The gap that is chosen for `need` units, or None where no gap has that many.
@@ -110,33 +127,35 @@ impl Mbc {
         best_gap(inner, need, self.units, &self.blocks)
     }
 
-    /// Puts a block at the front of a gap of its own, and answers its units: `need`, or the whole
-    /// gap where fewer than 6 units would be left of it. Where there is no memory, nothing changes.
-    pub fn place(&mut self, gap: Gap, need: u32, name: u32) -> Result<u32, OutOfMemory>
+    /// Puts a block at the front of a gap of its own. It has `need` units, or the whole gap where
+    /// fewer than 6 units would be left of it. Where there is no memory, nothing changes.
+    pub fn place(&mut self, gap: Gap, need: u32, name: u32) -> Result<Placed, OutOfMemory>
         requires gap { gap_at (gaps_of self.old) gap.offset ≡ gap.size }
         requires fits { need ≤ gap.size }
         requires even { need % 2 ≡ 0 }
-        requires least { 6 ≤ need }
-        ensures size { IfOk result (λ size. size ≡ taken_of gap.size need) }
+        requires least { MIN_BLOCK ≤ need }
+        ensures size { IfOk result (λ p. p.size ≡ taken_of gap.size need) }
+        ensures largest { IfOk result (λ p. p.largest ≡ largest (gaps_of self.new)) }
         ensures ok { OnOk result (self.new ≡ placed self.old gap.offset need name) }
         ensures err { OnErr result (self.new ≡ self.old) }
 
         // No block began at the offset, one begins there now, and the others are as before.
-        ensures behind_header { 8 ≤ gap.offset }
+        ensures behind_header { HEADER_UNITS ≤ gap.offset }
         ensures fresh { block_at self.old.blocks gap.offset ≡ None }
-        ensures begins { IfOk result (λ size. block_at self.new.blocks gap.offset
-            ≡ Some (record { name = name; offset = gap.offset; size = size })) }
+        ensures begins { IfOk result (λ p. block_at self.new.blocks gap.offset
+            ≡ Some (record { name = name; offset = gap.offset; size = p.size })) }
         ensures others { (at : ℕ) → at ≢ gap.offset →
             block_at self.new.blocks at ≡ block_at self.old.blocks at }
 
         // Of the gaps only that one changes: what the block leaves of it is a gap, if it leaves
         // any.
-        ensures gap_taken { IfOk result (GapTaken self.old self.new gap.offset) }
+        ensures gap_taken { IfOk result (λ p. GapTaken self.old self.new gap.offset p.size) }
     {
         let size = taken(gap.size, need);
         let offset = gap.offset;
         enter(BlockAt { name, offset, size }, &mut self.blocks)?;
-        Ok(size)
+        let largest = largest_gap(self.units, &self.blocks);
+        Ok(Placed { size, largest })
     }
 
     /// Takes out the block at `offset`, whose units are free from then on, and answers it with the
@@ -147,6 +166,7 @@ impl Mbc {
             option_map (λ b. b.size) (block_at self.old.blocks offset) ≡ Some f.size) }
         ensures gaps { IfOk result (λ f.
             (f.before ≡ gap_before self.old offset) × (f.after ≡ gap_behind self.old offset)) }
+        ensures largest { IfOk result (λ f. f.largest ≡ largest (gaps_of self.new)) }
         ensures ok { OnOk result (self.new ≡ released self.old offset) }
         ensures err { OnErr result (self.new ≡ self.old) }
 
@@ -162,21 +182,27 @@ impl Mbc {
         let before = free_before(self.units, &self.blocks, offset);
         let after = free_behind(self.units, &self.blocks, offset);
         let size = take_out(offset, &mut self.blocks).size;
+        let largest = largest_gap(self.units, &self.blocks);
         Ok(Freed {
             before,
             size,
             after,
+            largest,
         })
     }
 
     /// The block at `offset` has `need` units and this name from now on. What it gives back, at
     /// least 6 units, is one gap with the gap directly after it. It takes no memory.
-    pub fn shrink(&mut self, offset: u32, need: u32, name: u32)
+    pub fn shrink(&mut self, offset: u32, need: u32, name: u32) -> Resized
         requires begins { IsSome (block_at self.old.blocks offset) }
         requires fewer { need + MIN_BLOCK ≤ size_of (block_at self.old.blocks offset) }
         requires even { need % 2 ≡ 0 }
         requires least { MIN_BLOCK ≤ need }
         ensures shrunk { self.new ≡ resized self.old offset need name }
+        ensures was { result.was ≡ size_of (block_at self.old.blocks offset) }
+        ensures after { result.after ≡ gap_behind self.old offset }
+        ensures size { result.size ≡ need }
+        ensures largest { result.largest ≡ largest (gaps_of self.new) }
 
         // The block has that many units now, and the others are as before.
         ensures begins { block_at self.new.blocks offset
@@ -188,42 +214,56 @@ impl Mbc {
         ensures gap_resized { GapResized self.old self.new offset
             (size_of (block_at self.old.blocks offset)) need }
     {
+        let after = self.gap_behind(offset);
+        let was = self.room(offset) - after;
         resize(offset, need, name, &mut self.blocks);
+        Resized {
+            was,
+            after,
+            size: need,
+            largest: largest_gap(self.units, &self.blocks),
+        }
     }
 
     /// The block at `offset` takes of the gap directly after it what it needs to have `need` units,
     /// or the whole gap where fewer than 6 units would be left of it, and has this name from now
-    /// on. Returns false, and changes nothing, exactly when block and gap have fewer than `need`
+    /// on. Returns None, and changes nothing, exactly when block and gap have fewer than `need`
     /// units. It takes no memory.
-    pub fn grow(&mut self, offset: u32, need: u32, name: u32) -> bool
+    pub fn grow(&mut self, offset: u32, need: u32, name: u32) -> Option<Resized>
         requires begins { IsSome (block_at self.old.blocks offset) }
         requires more { size_of (block_at self.old.blocks offset) < need }
         requires even { need % 2 ≡ 0 }
-        ensures fits { IsTrue result ↔ (need ≤ room_at self.old offset) }
-        ensures refused { OnFalse result (self.new ≡ self.old) }
-        ensures grown { OnTrue result
-            (self.new ≡ resized self.old offset (taken_of (room_at self.old offset) need) name) }
+        ensures fits { IsNone result ↔ (room_at self.old offset < need) }
+        ensures refused { IsNone result → self.new ≡ self.old }
+        ensures grown { IfSome result (λ r. self.new ≡ resized self.old offset r.size name) }
+        ensures was { IfSome result (λ r. r.was ≡ size_of (block_at self.old.blocks offset)) }
+        ensures after { IfSome result (λ r. r.after ≡ gap_behind self.old offset) }
+        ensures size { IfSome result (λ r. r.size ≡ taken_of (room_at self.old offset) need) }
+        ensures largest { IfSome result (λ r. r.largest ≡ largest (gaps_of self.new)) }
 
         // The block has that many units then, and the others are as before.
-        ensures begins { OnTrue result (block_at self.new.blocks offset ≡ Some (record {
-          name = name;
-          offset = offset;
-          size = taken_of (room_at self.old offset) need;
-        })) }
+        ensures begins { IfSome result (λ r. block_at self.new.blocks offset
+            ≡ Some (record { name = name; offset = offset; size = r.size })) }
         ensures others { (at : ℕ) → at ≢ offset →
             block_at self.new.blocks at ≡ block_at self.old.blocks at }
 
         // Of the gaps only that after the block changes: it begins where the block ends then.
-        ensures gap_resized { OnTrue result (GapResized self.old self.new offset
-            (size_of (block_at self.old.blocks offset))
-            (taken_of (room_at self.old offset) need)) }
+        ensures gap_resized { IfSome result
+            (λ r. GapResized self.old self.new offset r.was r.size) }
     {
         let room = self.room(offset);
         if room < need {
-            return false;
+            return None;
         }
-        resize(offset, taken(room, need), name, &mut self.blocks);
-        true
+        let after = self.gap_behind(offset);
+        let size = taken(room, need);
+        resize(offset, size, name, &mut self.blocks);
+        Some(Resized {
+            was: room - after,
+            after,
+            size,
+            largest: largest_gap(self.units, &self.blocks),
+        })
     }
 
     /// The units of the block at `offset` and of the gap directly after it.
@@ -234,9 +274,10 @@ impl Mbc {
         room_from(self.units, &self.blocks, offset)
     }
 
-    /// The block at `offset` has this name from now on. It takes no memory.
-    pub fn rename(&mut self, offset: u32, name: u32)
+    /// The block at `offset` has this name from now on. Answers its units. It takes no memory.
+    pub fn rename(&mut self, offset: u32, name: u32) -> u32
         requires { IsSome (block_at self.old.blocks offset) }
+        ensures size { result ≡ size_of (block_at self.old.blocks offset) }
         ensures renamed { self.new
             ≡ resized self.old offset (size_of (block_at self.old.blocks offset)) name }
 
@@ -251,7 +292,9 @@ impl Mbc {
         ensures gaps { gaps_of self.new ≡ gaps_of self.old }
     {
         let index = index_of(offset, &self.blocks);
+        let size = self.blocks[index].size;
         self.blocks[index].name = name;
+        size
     }
 
     /// The block that begins at `offset`, if one does.
@@ -293,10 +336,7 @@ impl Mbc {
 
     /// The units of its largest gap, or 0.
     pub fn largest(&self) -> u32
-        ensures units { result ≡ largest (gaps_of self.now) }
-
-        // Its blocks lie one after another, with whole gaps between them.
-        ensures tiled { Tiled 8 self.now.units self.now.blocks }
+        ensures { result ≡ largest (gaps_of self.now) }
     {
         largest_gap(self.units, &self.blocks)
     }
@@ -304,7 +344,7 @@ impl Mbc {
     /// The units of its blocks. Blocks, gaps and header are the whole carrier.
     pub fn allocated(&self) -> u32
         ensures blocks { result ≡ allocated self.now.blocks }
-        ensures sum { result + free_units (gaps_of self.now) + 8 ≡ self.now.units }
+        ensures sum { result + free_units (gaps_of self.now) + HEADER_UNITS ≡ self.now.units }
     {
         allocated_units(self.units, &self.blocks)
     }
@@ -325,9 +365,7 @@ impl Mbc {
 
     /// All its units, its header included.
     pub fn units(&self) -> u32
-        ensures units { result ≡ self.now.units }
-        ensures header { 8 ≤ result }
-        ensures kind { self.now.kind ≡ Multi }
+        ensures { result ≡ self.now.units }
     {
         self.units
     }

@@ -7,4 +7,4 @@ pub mod carrier;
 mod tests;
 mod walks;
 
-pub use carrier::{Freed, Mbc};
+pub use carrier::{Freed, Mbc, Placed, Resized};

@@ -1,20 +1,33 @@
 //! Worked examples.
 ghost use Rattle.std.specs.Prelude.{◌≡◌, ◌%◌, ◌≤◌};
+ghost use Rattle.ea_model.specs.declared.units.TheConstants.{MIN_BLOCK};
 
-use crate::{Freed, Mbc};
-use ea_model::{Block, Gap, Inner, OutOfMemory};
+use crate::{Freed, Mbc, Placed, Resized};
+use ea_model::{Block, CarrierPlan, Gap, Inner, OutOfMemory};
 use std::alloc::Global;
 use std::test::Fail;
 
-// Puts a block where the choice is, and answers its offset and size.
+// A carrier of one page, without blocks.
+fn one_page(alloc: Global) -> Result<Mbc, OutOfMemory> {
+    let plan = CarrierPlan {
+        number: 1,
+        base: 0,
+        pages: 1,
+        birth: 1,
+        single: false,
+    };
+    Mbc::new(alloc, plan, 1)
+}
+
+// Puts a block where the choice is, and answers its offset and what was placed.
 fn put(
     carrier: &mut Mbc,
     inner: Inner,
     need: u32,
     name: u32,
-) -> Result<Option<(u32, u32)>, OutOfMemory>
+) -> Result<Option<(u32, Placed)>, OutOfMemory>
     requires even { need % 2 ≡ 0 }
-    requires least { 6 ≤ need }
+    requires least { MIN_BLOCK ≤ need }
 {
     match carrier.choose(inner, need) {
         Some(gap) => Ok(Some((gap.offset, carrier.place(gap, need, name)?))),
@@ -31,28 +44,42 @@ fn take_out(carrier: &mut Mbc, offset: u32) -> Result<Option<Freed>, OutOfMemory
     }
 }
 
-fn freed(before: u32, size: u32, after: u32) -> Option<Freed> {
+fn placed(offset: u32, size: u32, largest: u32) -> Option<(u32, Placed)> {
+    Some((offset, Placed { size, largest }))
+}
+
+fn freed(before: u32, size: u32, after: u32, largest: u32) -> Option<Freed> {
     Some(Freed {
         before,
         size,
         after,
+        largest,
+    })
+}
+
+fn resized(was: u32, after: u32, size: u32, largest: u32) -> Option<Resized> {
+    Some(Resized {
+        was,
+        after,
+        size,
+        largest,
     })
 }
 
 #[test]
 fn released_neighbours_are_one_gap(rt: HostRuntime) -> Result<(), Fail> {
-    let mut carrier = Mbc::new(rt.alloc(), 512, 0, 1, 1, 1)?;
-    assert_eq!(rt; put(&mut carrier, Inner::Bf, 14, 1)?, Some((8, 14)));
-    assert_eq!(rt; put(&mut carrier, Inner::Bf, 14, 2)?, Some((22, 14)));
-    assert_eq!(rt; put(&mut carrier, Inner::Bf, 14, 3)?, Some((36, 14)));
-    assert_eq!(rt; take_out(&mut carrier, 8)?, freed(0, 14, 0));
-    assert_eq!(rt; take_out(&mut carrier, 22)?, freed(14, 14, 0));
+    let mut carrier = one_page(rt.alloc())?;
+    assert_eq!(rt; put(&mut carrier, Inner::Bf, 14, 1)?, placed(8, 14, 490));
+    assert_eq!(rt; put(&mut carrier, Inner::Bf, 14, 2)?, placed(22, 14, 476));
+    assert_eq!(rt; put(&mut carrier, Inner::Bf, 14, 3)?, placed(36, 14, 462));
+    assert_eq!(rt; take_out(&mut carrier, 8)?, freed(0, 14, 0, 462));
+    assert_eq!(rt; take_out(&mut carrier, 22)?, freed(14, 14, 0, 462));
     assert_eq!(rt; take_out(&mut carrier, 22)?, None);
 
     // A rest of 2 units stays in the block.
-    assert_eq!(rt; put(&mut carrier, Inner::Bf, 26, 4)?, Some((8, 28)));
+    assert_eq!(rt; put(&mut carrier, Inner::Bf, 26, 4)?, placed(8, 28, 462));
     assert_eq!(rt; carrier.block_at(8), Some(Block { name: 4, size: 28 }));
-    assert_eq!(rt; take_out(&mut carrier, 36)?, freed(0, 14, 462));
+    assert_eq!(rt; take_out(&mut carrier, 36)?, freed(0, 14, 462, 476));
     assert_eq!(rt; carrier.allocated(), 28);
     Ok(())
 }
@@ -63,7 +90,7 @@ fn at(gap: Option<Gap>) -> Option<u32> {
 
 #[test]
 fn each_order_takes_its_own_gap(rt: HostRuntime) -> Result<(), Fail> {
-    let mut carrier = Mbc::new(rt.alloc(), 512, 0, 1, 1, 1)?;
+    let mut carrier = one_page(rt.alloc())?;
     for (name, need) in [(1, 20), (2, 6), (3, 14), (4, 6), (5, 14), (6, 6)] {
         put(&mut carrier, Inner::Aoff, need, name)?;
     }
@@ -100,18 +127,18 @@ fn each_order_takes_its_own_gap(rt: HostRuntime) -> Result<(), Fail> {
 
 #[test]
 fn a_carrier_fills_up(rt: HostRuntime) -> Result<(), Fail> {
-    let mut carrier = Mbc::new(rt.alloc(), 512, 0, 1, 1, 1)?;
+    let mut carrier = one_page(rt.alloc())?;
 
     // A rest of 4 units stays in the block, and one of 6 is a gap.
-    assert_eq!(rt; put(&mut carrier, Inner::Bf, 500, 1)?, Some((8, 504)));
+    assert_eq!(rt; put(&mut carrier, Inner::Bf, 500, 1)?, placed(8, 504, 0));
     assert_eq!(rt; carrier.largest(), 0);
     assert_eq!(rt; put(&mut carrier, Inner::Bf, 6, 2)?, None);
-    assert_eq!(rt; take_out(&mut carrier, 8)?, freed(0, 504, 0));
-    assert_eq!(rt; put(&mut carrier, Inner::Bf, 498, 3)?, Some((8, 498)));
+    assert_eq!(rt; take_out(&mut carrier, 8)?, freed(0, 504, 0, 504));
+    assert_eq!(rt; put(&mut carrier, Inner::Bf, 498, 3)?, placed(8, 498, 6));
     assert_eq!(rt; carrier.largest(), 6);
 
     // A block fills a gap exactly.
-    assert_eq!(rt; put(&mut carrier, Inner::Bf, 6, 4)?, Some((506, 6)));
+    assert_eq!(rt; put(&mut carrier, Inner::Bf, 6, 4)?, placed(506, 6, 0));
     assert_eq!(rt; carrier.largest(), 0);
     assert_eq!(rt; carrier.allocated(), 504);
     Ok(())
@@ -120,7 +147,7 @@ fn a_carrier_fills_up(rt: HostRuntime) -> Result<(), Fail> {
 // A block of 20 units at 8, a gap of 12, blocks of 14 at 40 and of 6 at 54, and a gap of 452 up to
 // the end. The blocks are called 1, 3 and 4.
 fn with_two_gaps(alloc: Global) -> Result<Mbc, OutOfMemory> {
-    let mut carrier = Mbc::new(alloc, 512, 0, 1, 1, 1)?;
+    let mut carrier = one_page(alloc)?;
     for (name, need) in [(1, 20), (2, 12), (3, 14), (4, 6)] {
         put(&mut carrier, Inner::Aoff, need, name)?;
     }
@@ -135,23 +162,22 @@ fn at_offset(carrier: &Mbc, offset: u32) -> Option<(u32, u32, u32)> {
 }
 
 // Lets the block at the offset grow, if there is one that has fewer units. The units are even.
-fn grow(carrier: &mut Mbc, offset: u32, need: u32, name: u32) -> Option<bool> {
+fn grow(carrier: &mut Mbc, offset: u32, need: u32, name: u32) -> Option<Resized> {
     let block = carrier.block_at(offset)?;
     if need % 2 != 0 || need <= block.size {
         return None;
     }
-    Some(carrier.grow(offset, need, name))
+    carrier.grow(offset, need, name)
 }
 
 // Shrinks the block at the offset, if there is one that gives back 6 units at least. The units are
 // even, and 6 at least.
-fn shrink(carrier: &mut Mbc, offset: u32, need: u32, name: u32) -> Option<()> {
+fn shrink(carrier: &mut Mbc, offset: u32, need: u32, name: u32) -> Option<Resized> {
     let block = carrier.block_at(offset)?;
     if need % 2 != 0 || need < 6 || block.size < need || block.size - need < 6 {
         return None;
     }
-    carrier.shrink(offset, need, name);
-    Some(())
+    Some(carrier.shrink(offset, need, name))
 }
 
 // Renames the block at the offset, if there is one.
@@ -165,23 +191,23 @@ fn rename(carrier: &mut Mbc, offset: u32, name: u32) -> Option<()> {
 fn a_block_grows_into_the_gap_after_it(rt: HostRuntime) -> Result<(), Fail> {
     for (offset, need, grown, then) in [
         // A rest of 6 units is a gap, and one of 4, 2 or 0 stays in the block.
-        (8, 26, true, (9, 26, 6)),
-        (8, 28, true, (9, 32, 0)),
-        (8, 30, true, (9, 32, 0)),
-        (8, 32, true, (9, 32, 0)),
-        (8, 34, false, (1, 20, 12)),
+        (8, 26, resized(20, 12, 26, 452), (9, 26, 6)),
+        (8, 28, resized(20, 12, 32, 452), (9, 32, 0)),
+        (8, 30, resized(20, 12, 32, 452), (9, 32, 0)),
+        (8, 32, resized(20, 12, 32, 452), (9, 32, 0)),
+        (8, 34, None, (1, 20, 12)),
         // There is no gap.
-        (40, 16, false, (3, 14, 0)),
+        (40, 16, None, (3, 14, 0)),
         // The gap ends with the carrier.
-        (54, 452, true, (9, 452, 6)),
-        (54, 454, true, (9, 458, 0)),
-        (54, 458, true, (9, 458, 0)),
-        (54, 460, false, (4, 6, 452)),
+        (54, 452, resized(6, 452, 452, 12), (9, 452, 6)),
+        (54, 454, resized(6, 452, 458, 12), (9, 458, 0)),
+        (54, 458, resized(6, 452, 458, 12), (9, 458, 0)),
+        (54, 460, None, (4, 6, 452)),
     ] {
         let mut carrier = with_two_gaps(rt.alloc())?;
         assert_eq!(rt;
             grow(&mut carrier, offset, need, 9),
-            Some(grown),
+            grown,
             "{offset} to {need}"
         );
         assert_eq!(rt;
@@ -195,17 +221,17 @@ fn a_block_grows_into_the_gap_after_it(rt: HostRuntime) -> Result<(), Fail> {
 
 #[test]
 fn a_block_shrinks_and_is_renamed_in_its_place(rt: HostRuntime) -> Result<(), Fail> {
-    for (offset, need, after) in [
+    for (offset, need, shrunk, after) in [
         // What is given back, 6 and 14 units, and the gap of 12 units are one gap.
-        (8, 14, 18),
-        (8, 6, 26),
+        (8, 14, resized(20, 12, 14, 452), 18),
+        (8, 6, resized(20, 12, 6, 452), 26),
         // There was no gap.
-        (40, 8, 6),
+        (40, 8, resized(14, 0, 8, 452), 6),
     ] {
         let mut carrier = with_two_gaps(rt.alloc())?;
         assert_eq!(rt;
             shrink(&mut carrier, offset, need, 9),
-            Some(()),
+            shrunk,
             "{offset} to {need}"
         );
         assert_eq!(rt;

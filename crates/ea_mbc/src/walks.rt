@@ -1,6 +1,7 @@
 //! Walks over the blocks of a carrier, by rising offset.
 ghost use Rattle.std.specs.Prelude.{◌≡◌, ◌+◌, ◌<◌, ◌≤◌, fold, length, AllPairs, IsSome};
 ghost use Rattle.std.specs.List.{position_or_len};
+ghost use Rattle.ea_model.specs.declared.units.TheConstants.{HEADER_UNITS};
 ghost use Rattle.ea_model.specs.Content.{gap, gaps, gap_at, gap_up_to, allocated, largest, block_at, end_of, size_of, taken_of, Tiled};
 ghost use Rattle.ea_model.specs.Keyed.{changed_at, IsBelow};
 ghost use Rattle.ea_model.specs.Choice.{before, better, fitting, choice};
@@ -46,8 +47,8 @@ fn better_of(inner: Inner, need: u32, best: Option<Gap>, from: u32, to: u32) -> 
 
 /// The gap that is chosen for `need`.
 pub fn best_gap(inner: Inner, need: u32, units: u32, blocks: &[BlockAt]) -> Option<Gap>
-    requires { Tiled 8 units blocks.now }
-    ensures { result ≡ choice inner need (gaps 8 units blocks.now) }
+    requires { Tiled HEADER_UNITS units blocks.now }
+    ensures { result ≡ choice inner need (gaps HEADER_UNITS units blocks.now) }
 {
     let mut at = HEADER_UNITS;
     let mut best = None;
@@ -60,8 +61,8 @@ pub fn best_gap(inner: Inner, need: u32, units: u32, blocks: &[BlockAt]) -> Opti
 
 /// The units of the largest gap, or 0.
 pub fn largest_gap(units: u32, blocks: &[BlockAt]) -> u32
-    requires { Tiled 8 units blocks.now }
-    ensures { result ≡ largest (gaps 8 units blocks.now) }
+    requires { Tiled HEADER_UNITS units blocks.now }
+    ensures { result ≡ largest (gaps HEADER_UNITS units blocks.now) }
 {
     let mut at = HEADER_UNITS;
     let mut most = 0;
@@ -74,7 +75,7 @@ pub fn largest_gap(units: u32, blocks: &[BlockAt]) -> u32
 
 /// The units of all blocks.
 pub fn allocated_units(units: u32, blocks: &[BlockAt]) -> u32
-    requires { Tiled 8 units blocks.now }
+    requires { Tiled HEADER_UNITS units blocks.now }
     ensures { result ≡ allocated blocks.now }
 {
     let mut sum = 0;
@@ -86,7 +87,7 @@ pub fn allocated_units(units: u32, blocks: &[BlockAt]) -> u32
 
 /// How many blocks there are.
 pub fn count_of(units: u32, blocks: &[BlockAt]) -> u32
-    requires { Tiled 8 units blocks.now }
+    requires { Tiled HEADER_UNITS units blocks.now }
     ensures { result ≡ length blocks.now }
 {
     blocks.len() as u32
@@ -106,18 +107,18 @@ fn gap_end(units: u32, blocks: &[BlockAt], offset: u32) -> u32
 
 /// The units of the gap that begins at the offset.
 pub fn gap_from(units: u32, blocks: &[BlockAt], offset: u32) -> u32
-    requires tiled { Tiled 8 units blocks.now }
-    requires begins { 0 < gap_at (gaps 8 units blocks.now) offset }
-    ensures { result ≡ gap_at (gaps 8 units blocks.now) offset }
+    requires tiled { Tiled HEADER_UNITS units blocks.now }
+    requires begins { 0 < gap_at (gaps HEADER_UNITS units blocks.now) offset }
+    ensures { result ≡ gap_at (gaps HEADER_UNITS units blocks.now) offset }
 {
     gap_end(units, blocks, offset) - offset
 }
 
 /// The units of the gap directly after the block that begins at the offset, or 0.
 pub fn free_behind(units: u32, blocks: &[BlockAt], offset: u32) -> u32
-    requires tiled { Tiled 8 units blocks.now }
+    requires tiled { Tiled HEADER_UNITS units blocks.now }
     requires begins { IsSome (block_at blocks.now offset) }
-    ensures { result ≡ gap_at (gaps 8 units blocks.now) (end_of blocks.now offset) }
+    ensures { result ≡ gap_at (gaps HEADER_UNITS units blocks.now) (end_of blocks.now offset) }
 {
     match item_of(offset, blocks) {
         Some(block) => gap_end(units, blocks, offset) - (offset + block.size),
@@ -127,9 +128,9 @@ pub fn free_behind(units: u32, blocks: &[BlockAt], offset: u32) -> u32
 
 /// The units of the gap directly before the block that begins at the offset, or 0.
 pub fn free_before(units: u32, blocks: &[BlockAt], offset: u32) -> u32
-    requires tiled { Tiled 8 units blocks.now }
+    requires tiled { Tiled HEADER_UNITS units blocks.now }
     requires begins { IsSome (block_at blocks.now offset) }
-    ensures { result ≡ gap_up_to (gaps 8 units blocks.now) offset }
+    ensures { result ≡ gap_up_to (gaps HEADER_UNITS units blocks.now) offset }
 {
     let mut at = HEADER_UNITS;
     for block in blocks {
@@ -141,6 +142,12 @@ pub fn free_before(units: u32, blocks: &[BlockAt], offset: u32) -> u32
     unreachable!()
 }
 
+/// A carrier whose blocks are tiled has its header.
+pub fn header_fits(units: u32, blocks: &[BlockAt])
+    requires { Tiled HEADER_UNITS units blocks.now }
+    ensures { HEADER_UNITS ≤ units }
+{}
+
 /// The units that a block takes of a gap.
 pub fn taken(gap: u32, need: u32) -> u32
     requires { need ≤ gap }
@@ -151,10 +158,10 @@ pub fn taken(gap: u32, need: u32) -> u32
 
 /// The units of the block that begins at the offset and of the gap directly after it.
 pub fn room_from(units: u32, blocks: &[BlockAt], offset: u32) -> u32
-    requires tiled { Tiled 8 units blocks.now }
+    requires tiled { Tiled HEADER_UNITS units blocks.now }
     requires begins { IsSome (block_at blocks.now offset) }
     ensures { result ≡ size_of (block_at blocks.now offset)
-        + gap_at (gaps 8 units blocks.now) (end_of blocks.now offset) }
+        + gap_at (gaps HEADER_UNITS units blocks.now) (end_of blocks.now offset) }
 {
     gap_end(units, blocks, offset) - offset
 }

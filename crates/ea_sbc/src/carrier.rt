@@ -4,14 +4,15 @@ ghost use Rattle.ea_model.specs.declared.carriers.Block.{Block};
 ghost use Rattle.ea_model.specs.declared.carriers.Kind.TheVariants.{Single};
 ghost use Rattle.ea_model.specs.declared.units.TheConstants.{HEADER_UNITS, MAX_PAGES, MAX_UNITS, PAGE_UNITS};
 ghost use Rattle.ea_model.specs.Content.{allocated, block_at, free_units, gaps_of, largest, named, released, resized};
+ghost use Rattle.ea_model.specs.Instance.{created_single};
 ghost use Rattle.ea_sbc.specs.Blocks.{blocks_of};
 
 use ea_model::keyed::Keyed;
-use ea_model::{Block, HEADER_UNITS, PAGE_UNITS};
+use ea_model::{Block, CarrierPlan, HEADER_UNITS, PAGE_UNITS};
 use std::marker::Model;
 
 /// A carrier of one block. Contracts see it as its content: number, owner, base, birth, units and
-/// the one block, which begins at unit 8, until it is released. What the block leaves of the
+/// the one block, directly behind its header, until it is released. What the block leaves of the
 /// carrier is its tail, its one gap, in which nothing is ever placed.
 #[derive(Drop)]
 pub struct Sbc {
@@ -55,36 +56,19 @@ impl Keyed for Sbc {
 }
 
 impl Sbc {
-    /// Carrier `number` of `pages` pages from page `base` on, `birth`-th of its owner, with a block
-    /// of `size` units.
-    pub fn new(
-        number: u32,
-        owner: u32,
-        birth: u32,
-        base: u32,
-        pages: u32,
-        size: u32,
-        name: u32,
-    ) -> Sbc
-        requires fits { HEADER_UNITS + size ≤ PAGE_UNITS * pages }
-        requires pages { pages ≤ MAX_PAGES }
-        ensures { result ≡ record {
-          number = number;
-          owner = owner;
-          base = base;
-          birth = birth;
-          units = PAGE_UNITS * pages;
-          kind = Single;
-          blocks = blocks_of (Some (record { name = name; size = size }));
-        } }
+    /// The singleblock carrier of a plan, with its block. `owner` is the instance that creates it.
+    pub fn new(plan: CarrierPlan, owner: u32, block: Block) -> Sbc
+        requires fits { HEADER_UNITS + block.size ≤ PAGE_UNITS * plan.pages }
+        requires pages { plan.pages ≤ MAX_PAGES }
+        ensures { result ≡ created_single owner plan block.size block.name }
     {
         Sbc {
-            number,
+            number: plan.number,
             owner,
-            base,
-            birth,
-            pages,
-            block: Some(Block { name, size }),
+            base: plan.base,
+            birth: plan.birth,
+            pages: plan.pages,
+            block: Some(block),
         }
     }
 
@@ -137,13 +121,6 @@ impl Sbc {
         self.base
     }
 
-    /// Its owner's creation count when it was created.
-    pub fn birth(&self) -> u32
-        ensures { result ≡ self.now.birth }
-    {
-        self.birth
-    }
-
     /// The units of the whole carrier.
     pub fn units(&self) -> u32
         ensures units { result ≡ self.now.units }
@@ -170,13 +147,6 @@ impl Sbc {
         } else {
             None
         }
-    }
-
-    /// How many blocks it has.
-    pub fn len(&self) -> u32
-        ensures { result ≡ length self.now.blocks }
-    {
-        if self.block.is_some() { 1 } else { 0 }
     }
 
     /// The units of its block, or 0.

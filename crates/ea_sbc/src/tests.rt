@@ -1,13 +1,23 @@
 //! A carrier whose block grows and shrinks.
 use crate::Sbc;
-use ea_model::Block;
+use ea_model::{Block, CarrierPlan};
 
 #[test]
 fn a_carrier_has_one_block_and_its_tail_until_it_is_released(rt: HostRuntime) {
-    let mut carrier = Sbc::new(258, 2, 3, 640, 130, 66_000, 7);
+    let plan = CarrierPlan {
+        number: 258,
+        base: 640,
+        pages: 130,
+        birth: 3,
+        single: true,
+    };
+    let block = Block {
+        name: 7,
+        size: 66_000,
+    };
+    let mut carrier = Sbc::new(plan, 2, block);
     assert_eq!(rt; carrier.number(), 258);
     assert_eq!(rt; carrier.owner(), 2);
-    assert_eq!(rt; carrier.birth(), 3);
     assert_eq!(rt; carrier.base(), 640);
     assert_eq!(rt; carrier.units(), 66_560);
     assert_eq!(rt; carrier.tail(), 552);
@@ -33,14 +43,12 @@ fn a_carrier_has_one_block_and_its_tail_until_it_is_released(rt: HostRuntime) {
     };
     assert_eq!(rt; carrier.block(), Some(shorter));
     assert_eq!(rt; carrier.allocated(), 65_600);
-    assert_eq!(rt; carrier.len(), 1);
 
     if carrier.block_at(8).is_some() {
         carrier.release(8);
     }
     assert_eq!(rt; carrier.block(), None);
     assert_eq!(rt; carrier.block_at(8), None);
-    assert_eq!(rt; carrier.len(), 0);
     assert_eq!(rt; carrier.allocated(), 0);
     assert_eq!(rt; carrier.tail(), 66_040);
 }

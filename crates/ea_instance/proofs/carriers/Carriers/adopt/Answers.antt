@@ -51,7 +51,7 @@ with_whole-self-inside-requires c =
     let one = laid-bounded c.args.employed c.requires.carrier in
     let len = c.len-blocks.ensures ∙ ap blocks_in c.employed.view_is in
     let sum = c.allocated-size.ensures.blocks ∙ ap allocated_in c.employed.view_is in
-    let units = c.units-units.ensures.units ∙ ap (λ (m : Content). m.units) c.employed.view_is in (
+    let units = c.units-units.ensures ∙ ap (λ (m : Content). m.units) c.employed.view_is in (
       omega (arith, bounded.blocks, one.blocks, len),
       omega (arith, bounded.blocks_size, one.sum, sum),
       omega (arith, bounded.carriers),
@@ -65,7 +65,7 @@ invariant_of-self c =
     record {
       listed = IsListed-entered _ _ _ x _ _ _ _ _ _ c.self.invariant.listed
           c.enter_within.ensures.items c.carrier_key-key.ensures
-          (c.largest-fit.ensures.units ∙ ap (λ m. largest (gaps_of m)) c.employed.view_is)
+          (c.largest-fit.ensures ∙ ap (λ m. largest (gaps_of m)) c.employed.view_is)
           c.add.ensures.added refl
           (no_bins-Hold c.self.inside.strategy cs c.self.inside.set c.self.inside.bins
           c.self.invariant.listed
@@ -81,6 +81,6 @@ invariant_of-self c =
           ∙ ap (λ n. with_whole (blocks_in x) n c.units-units.result (figures cs))
           (c.allocated-size.ensures.blocks ∙ ap allocated_in c.employed.view_is)
           ∙ ap (λ n. with_whole (blocks_in x) (allocated_in x) n (figures cs))
-          (c.units-units.ensures.units ∙ ap (λ (m : Content). m.units) c.employed.view_is)
+          (c.units-units.ensures ∙ ap (λ (m : Content). m.units) c.employed.view_is)
           ∙ sym (ap figures c.enter_within.ensures.items ∙ figures-with x cs);
     }

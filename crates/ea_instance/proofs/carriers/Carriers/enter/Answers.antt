@@ -38,7 +38,7 @@ add-requires-clause-base c =
       whole = c.requires.whole;
       shared = c.requires.shared;
       tiled = subst (λ (m : Content). Tiled 8 m.units m.blocks) c.employed.view_is
-          c.largest-size.ensures.tiled;
+          c.laid_out.ensures.tiled;
       low = c.requires.low;
     } in
     let laid = subst (λ (l : CarrierList). AreLaid l.contents) (sym c.self.view_is)
@@ -60,7 +60,7 @@ note_entered-requires-clause-address c = λ some.
       whole = c.requires.whole;
       shared = c.requires.shared;
       tiled = subst (λ (m : Content). Tiled 8 m.units m.blocks) c.employed.view_is
-          c.largest-size.ensures.tiled;
+          c.laid_out.ensures.tiled;
       low = c.requires.low;
     } in
     let laid = subst (λ (l : CarrierList). AreLaid l.contents) (sym c.self.view_is)
@@ -68,7 +68,7 @@ note_entered-requires-clause-address c = λ some.
     let apart = subst (λ (l : CarrierList). All (ContentsApart x) l.contents)
     (sym c.self.view_is) c.requires.apart in
     entered-free x sound c.requires.empty c.address-address.result c.largest-size.result
-    c.address-address.ensures (c.largest-size.ensures.units
+    c.address-address.ensures (c.largest-size.ensures
     ∙ ap (λ m. largest (gaps_of m)) c.employed.view_is) _ c.make_room.new.bins laid apart
     (c.make_room.ensures.held _ c.self.invariant.listed.gaps) some
 
@@ -80,16 +80,16 @@ invariant_of-self-2 c =
       whole = c.requires.whole;
       shared = c.requires.shared;
       tiled = subst (λ (m : Content). Tiled 8 m.units m.blocks) c.employed.view_is
-          c.largest-size.ensures.tiled;
+          c.laid_out.ensures.tiled;
       low = c.requires.low;
     } in
     record {
       listed = IsListed-entered _ _ _ x _ _ _ _ _ _ c.self.invariant.listed c.in_ok-enter.ensures.ok
-          c.carrier_key-key.ensures (c.largest-size.ensures.units
+          c.carrier_key-key.ensures (c.largest-size.ensures
           ∙ ap (λ m. largest (gaps_of m)) c.employed.view_is) c.add.ensures.added
           (c.note_entered.ensures.some ∙ c.make_room.ensures.some)
           (entered-gaps x sound c.requires.empty c.address-address.result c.largest-size.result
-          c.address-address.ensures (c.largest-size.ensures.units
+          c.address-address.ensures (c.largest-size.ensures
           ∙ ap (λ m. largest (gaps_of m)) c.employed.view_is) _ _ c.note_entered.new.bins
           c.in_ok-enter.ensures.ok
           (c.note_entered.ensures.entered _
@@ -99,7 +99,7 @@ invariant_of-self-2 c =
           c.with_carrier-self-inside.ensures
           ∙ ap (with_carrier c.units-units.result) c.self.invariant.counted
           ∙ ap (λ u. with_carrier u (figures c.self.inside.list.items))
-          (c.units-units.ensures.units ∙ ap (λ (m : Content). m.units) c.employed.view_is)
+          (c.units-units.ensures ∙ ap (λ (m : Content). m.units) c.employed.view_is)
           ∙ sym (ap figures c.in_ok-enter.ensures.ok
           ∙ figures-entered x c.self.inside.list.items c.requires.empty);
     }
@@ -111,7 +111,7 @@ with_carrier-self-inside-requires c =
     let few = ap (λ (l : CarrierList). length l.contents) c.self.view_is in
     let bounded = subst AreBounded (sym c.self.invariant.counted)
     (laid-figures c.self.inside.list.items laid (omega (arith, few, c.requires.room))) in
-    let units = c.units-units.ensures.units ∙ ap (λ (m : Content). m.units) c.employed.view_is in (
+    let units = c.units-units.ensures ∙ ap (λ (m : Content). m.units) c.employed.view_is in (
       omega (arith, bounded.carriers),
       omega (arith, bounded.carriers_size, units, c.requires.low),
     )

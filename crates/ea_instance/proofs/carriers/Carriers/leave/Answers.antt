@@ -69,7 +69,7 @@ note_left-requires c = by c.self.inside.bins refl where
       c.self.inside.strategy c.self.inside.set c.self.inside.bins b c.self.view_is
       c.self.invariant.listed c.requires.bins c.take_out-employed.ensures.item some) c.address-address.result c.largest-size.result
       c.address-address.ensures
-      (c.largest-size.ensures.units ∙ ap (λ m. largest (gaps_of m)) c.employed.view_is)
+      (c.largest-size.ensures ∙ ap (λ m. largest (gaps_of m)) c.employed.view_is)
       c.args.number c.self.inside.list.items c.self.inside.bins laid
       c.take_out-employed.ensures.item c.self.invariant.listed.gaps
 
@@ -85,7 +85,7 @@ left c =
     ∙ ap (λ n. with_whole (blocks_in x) n c.units.result c.without_whole-self-inside.result)
     (c.allocated.ensures.blocks ∙ ap allocated_in c.employed.view_is)
     ∙ ap (λ n. with_whole (blocks_in x) (allocated_in x) n c.without_whole-self-inside.result)
-    (c.units.ensures.units ∙ ap (λ (m : Content). m.units) c.employed.view_is))
+    (c.units.ensures ∙ ap (λ (m : Content). m.units) c.employed.view_is))
     ∙ c.without_whole-self-inside.ensures ∙ c.self.invariant.counted
     ∙ sym (ap (λ xs. with_whole (blocks_in x) (allocated_in x) x.units (figures xs))
     c.take_out-employed.ensures.rest
@@ -115,7 +115,7 @@ without_whole-self-inside-requires c =
       omega (
         arith,
         ap (λ (f : Figures). f.carriers_size) all,
-        c.units.ensures.units,
+        c.units.ensures,
         ap (λ (m : Content). m.units) c.employed.view_is,
       ),
     )
@@ -147,6 +147,6 @@ invariant_of-self c = record {
       c.self.inside.strategy c.self.inside.set c.self.inside.bins b c.self.view_is
       c.self.invariant.listed c.requires.bins c.take_out-employed.ensures.item some) c.address-address.result c.largest-size.result
       c.address-address.ensures
-      (c.largest-size.ensures.units ∙ ap (λ m. largest (gaps_of m)) c.employed.view_is)
+      (c.largest-size.ensures ∙ ap (λ m. largest (gaps_of m)) c.employed.view_is)
       c.args.number c.self.inside.list.items c.self.inside.bins laid
       c.take_out-employed.ensures.item c.self.invariant.listed.gaps

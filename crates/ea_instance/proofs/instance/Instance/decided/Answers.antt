@@ -1,21 +1,11 @@
 use Rattle.std.proofs.Common.{◌∙◌, ap, sym}
 use Rattle.std.specs.Prelude.{option_map}
 use Rattle.ea_model.specs.Instance.{content_of}
-use Rattle.ea_model.proofs.Rising.{item_at-All}
-use Rattle.ea_laws.specs.Kept.{number_of, IsLaidOut}
 use Rattle.ea_instance.proofs.Reallocating.{begins-multi, decided-multi, decided-single, never-none}
 use Rattle.ea_instance.proofs.instance.Instance.decided.Goals as goal
 
-pub extent-block-requires-clause-laid : goal.extent-block-requires-clause-laid
-extent-block-requires-clause-laid c =
-    let number = c.args.spot.carrier in
-    let there = sym (c.item_of.ensures ∙ ap (λ cs. content_of cs number) c.as_slice.ensures)
-    ∙ ap (option_map (λ x. x.now)) c.in-Some.is in
-    item_at-All number_of IsLaidOut number _ c.self.inside.carriers.contents
-    c.self.invariant.laid.sound there
-
-pub extent-block-requires-clause-begins : goal.extent-block-requires-clause-begins
-extent-block-requires-clause-begins c =
+pub extent-block-requires : goal.extent-block-requires
+extent-block-requires c =
     let number = c.args.spot.carrier in
     let there = sym (c.item_of.ensures ∙ ap (λ cs. content_of cs number) c.as_slice.ensures)
     ∙ ap (option_map (λ x. x.now)) c.in-Some.is in

@@ -1,5 +1,7 @@
-use Rattle.std.proofs.Common.{◌≡◌, ℕ, ◌≤◌, sym, ◌∙◌, ap, subst, arith}
-use Rattle.ea_model.specs.Content.{Content, gap_at, gaps, gaps_of, block_at, taken_of, Tiled}
+use Rattle.std.proofs.Common.{List, ◌%◌, ◌≡◌, ℕ, ◌≤◌, sym, ◌∙◌, ap, subst, arith}
+use Rattle.ea_model.specs.declared.carriers.BlockAt.{BlockAt}
+use Rattle.ea_model.specs.declared.carriers.Gap.{Gap}
+use Rattle.ea_model.specs.Content.{inserted, Content, gap_at, gaps_of, block_at, taken_of, Tiled}
 use Rattle.ea_laws.proofs.BlockLists.{gap_at-whole, taken_of-enters, Tiled-inserted, IsFront, IsFront-gap, offset_of}
 use Rattle.ea_model.proofs.Rising.{item_at-new, item_at-old, none-other}
 use Rattle.ea_mbc.proofs.Replacing.{placed-GapTaken}
@@ -12,18 +14,30 @@ front here now offset size need same tiled gap fits least =
     IsFront-gap now offset need (subst (λ m. Tiled 8 m.units m.blocks) same tiled)
     (subst (λ n. need ≤ n) (sym gap) fits) least
 
+tiled : (here now : Content) (gap : Gap) (need name size : ℕ) (blocks : List BlockAt)
+    → here ≡ now → Tiled 8 here.units here.blocks → gap_at (gaps_of now) gap.offset ≡ gap.size
+    → need ≤ gap.size → need % 2 ≡ 0 → 6 ≤ need → size ≡ taken_of gap.size need
+    → blocks ≡ inserted (record { name = name; offset = gap.offset; size = size }) here.blocks
+    → Tiled 8 here.units blocks
+tiled here now gap need name size blocks same t is fits even least s e =
+    let there = ap (λ m. gap_at (gaps_of m) gap.offset) same ∙ is in
+    subst (Tiled 8 here.units) (sym e)
+    (Tiled-inserted 8 here.units _ here.blocks t
+    (taken_of-enters _ _ need (subst (λ n. need ≤ n) (sym there) fits) least even
+    (gap_at-whole 8 here.units gap.offset here.blocks t)
+    (s ∙ ap (λ g. taken_of g need) (sym there))))
+
+pub largest_gap-largest-requires : goal.largest_gap-largest-requires
+largest_gap-largest-requires c =
+    tiled _ c.args.self.now c.args.gap c.args.need c.args.name c.taken-size.result _ c.self.view_is
+    c.self.invariant c.requires.gap c.requires.fits c.requires.even c.requires.least
+    c.taken-size.ensures (c.deref.ensures.value ∙ c.in_ok-enter.ensures.ok)
+
 pub invariant_of-self-2 : goal.invariant_of-self-2
 invariant_of-self-2 c =
-    let blocks = c.self.inside.blocks.items in
-    let units = c.self.inside.units in
-    let gap : gap_at (gaps 8 units blocks) c.args.gap.offset ≡ c.args.gap.size =
-    ap (λ m. gap_at (gaps_of m) c.args.gap.offset) c.self.view_is ∙ c.requires.gap in
-    let fits = subst (λ n. c.args.need ≤ n) (sym gap) c.requires.fits in
-    let size = c.taken-size.ensures ∙ ap (λ g. taken_of g c.args.need) (sym gap) in
-    subst (Tiled 8 units) (sym c.in_ok-enter.ensures.ok)
-    (Tiled-inserted 8 units _ blocks c.self.invariant
-    (taken_of-enters _ _ c.args.need fits c.requires.least c.requires.even
-    (gap_at-whole 8 units c.args.gap.offset blocks c.self.invariant) size))
+    tiled _ c.args.self.now c.args.gap c.args.need c.args.name c.taken-size.result _ c.self.view_is
+    c.self.invariant c.requires.gap c.requires.fits c.requires.even c.requires.least
+    c.taken-size.ensures c.in_ok-enter.ensures.ok
 
 pub returns-in_err-enter-clause-behind_header : goal.returns-in_err-enter-clause-behind_header
 returns-in_err-enter-clause-behind_header c = (front _ _ _ _ _ c.self.view_is c.self.invariant
