@@ -1,9 +1,10 @@
 -- What an instance keeps of its carriers through its calls.
 use Rattle.std.proofs.Common.{◌≡◌, ◌≢◌, ℕ, ◌+◌, ◌*◌, ◌%◌, ◌<◌, ◌≤◌, true, false, List, length, All, sym, ap, ◌∙◌, subst, refl, arith}
-use Rattle.std.specs.Prelude.{Option, Some, None, Result, Ok, Err, IfOk, is_some, option_map}
+use Rattle.std.specs.Prelude.{◌↔◌, IsNone, Option, Some, None, Result, Ok, Err, IfOk, is_some, option_map}
 use Rattle.ea_model.specs.declared.settings.Settings.{Settings}
 use Rattle.ea_model.specs.declared.carriers.Candidate.{Candidate}
 use Rattle.ea_model.specs.declared.carriers.OwnCarrier.{OwnCarrier}
+use Rattle.ea_model.specs.declared.carriers.Place.{Place}
 use Rattle.ea_model.specs.declared.carriers.Spot.{Spot}
 use Rattle.ea_model.specs.declared.carriers.CarrierPlan.{CarrierPlan}
 use Rattle.ea_model.specs.declared.entries.NoCarrier.{NoCarrier}
@@ -11,7 +12,7 @@ use Rattle.ea_model.specs.declared.carriers.Kind.TheVariants.{Multi}
 use Rattle.ea_model.specs.Content.{Content, block_at, placed, released}
 use Rattle.ea_model.specs.Instance.{Instance, block_in, changed, changing, chosen_spot, content_of, created_content, created_single, creating, creating_single, employed, free_run, has_content, is_used, own_at, own_of, place_at, placing_at, plan, planned_own, releasing_at, single_place, size_for, with_content, with_own, without_content, without_own}
 use Rattle.ea_model.specs.Employment.{dismissing, employing}
-use Rattle.ea_model.specs.Strategies.{choice_among, choice_empty, may_miss, or_else, spot_of}
+use Rattle.ea_model.specs.Strategies.{candidates, choice_among, choice_empty, may_miss, or_else, spot_of}
 use Rattle.ea_instance.specs.Answers.{placing_if}
 use Rattle.ea_instance.specs.Choices.{IsChoice}
 use Rattle.ea_instance.specs.declared.choice.Choice.{Choice}
@@ -19,16 +20,17 @@ use Rattle.ea_instance.specs.Kept.{KeepsCarriers, seen_as}
 use Rattle.ea_instance.specs.Listed.{CarrierList}
 use Rattle.ea_instance.specs.Own.{OwnList}
 use Rattle.ea_instance.proofs.Changed.{at_choice}
-use Rattle.ea_laws.specs.Kept.{number_of, ContentsApart, IsLaidOut, IsSomeones, IsWhole, Stands}
-use Rattle.ea_laws.specs.Spots.{HasGap, HaveSameBlocks, IsPlaced}
+use Rattle.ea_laws.specs.Kept.{number_of, ContentsApart, IsLaidOut, IsRising, IsSomeones, IsWhole, Stands}
+use Rattle.ea_laws.specs.Spots.{FindsNone, HasGap, HaveSameBlocks, IsPlaced}
 use Rattle.ea_laws.proofs.Blocks.{creating-same, creating_single-IsPlaced, placing-IsPlaced}
 use Rattle.ea_laws.proofs.Keeping.{IsLaidOut-made, has-number, lies-low, other-numbers, plan-IsPlanned}
+use Rattle.ea_laws.proofs.Refusals.{chosen-none, chosen-none_at_all}
 use Rattle.ea_laws.proofs.Standing.{creating-Stands, dismissing-Stands, disowning-Stands, employing-Stands, creating_single-Stands, employed-few, employed-multi, employed-rising, multi-apart, placing-Stands, planned-alone, planned-apart, planned-new, releasing-Stands, singles-few}
 use Rattle.ea_model.specs.declared.units.TheConstants.{MAX_PAGES, MAX_SCHEDULERS, MAX_UNITS, NUMBERS}
 use Rattle.ea_laws.proofs.Changed.{KeepsPlace, released-keeps}
 use Rattle.ea_laws.proofs.Contents.{absent-among}
-use Rattle.ea_model.proofs.Merged.{merged-apart, merged-each, merged-second}
-use Rattle.ea_model.proofs.Rising.{changed_none, item_at-All, item_at-key, length-entered, none-other, without_none}
+use Rattle.ea_model.proofs.Merged.{merged-apart, merged-each, merged-second, merged-without}
+use Rattle.ea_model.proofs.Rising.{changed_none, item_at-All, item_at-gone, item_at-key, length-entered, none-other, without_none}
 use Rattle.std.specs.Option.{option_and_then}
 
 -- the carrier that enters is the planned one
@@ -47,6 +49,21 @@ planned-pages i need st (Ok p) is = (
   omega (arith, (plan-IsPlanned i need p (sym is)).enough),
   omega (arith, lies-low i need p st.kept (sym is)),
 )
+
+-- a block has no place where nothing large enough is inspected
+pub finds-none : (i : Instance) (need : ℕ) (o : Option Place)
+    → o ≡ option_map (λ spot. place_at i spot need) (chosen_spot i need)
+    → IsNone o ↔ FindsNone i.settings need i.contents
+finds-none i need o is = subst (λ p. IsNone p ↔ FindsNone i.settings need i.contents) (sym is)
+    (chosen-none (λ spot. place_at i spot need) i need)
+
+pub finds-all : (i : Instance) (need : ℕ) (o : Option Place)
+    → o ≡ option_map (λ spot. place_at i spot need) (chosen_spot i need)
+    → may_miss i.settings.strategy ≡ false
+    → IsNone o ↔ All (λ x. x.size < need) (candidates i.contents)
+finds-all i need o is misses =
+    subst (λ p. IsNone p ↔ All (λ (x : Candidate). x.size < need) (candidates i.contents)) (sym is)
+    (chosen-none_at_all (λ spot. place_at i spot need) i need misses)
 
 -- an instance that stands is kept
 pub keeping : (s : Settings) (n : ℕ) (own : OwnList) (ks : CarrierList) (ss : List Content)
@@ -253,6 +270,16 @@ module _ (s : Settings) (n : ℕ) (own : OwnList) (ks : CarrierList) (ss : List 
           → seen_as s n own ks rest created ≡ dismissing now number
       seen-single-dismissed now seen = seen_dismissed now seen ks rest same_list lacks
 
+  -- it is employed no longer
+  pub dismissed-gone : (number : ℕ) (now after : Instance) → here ≡ now
+      → after ≡ dismissing now number → content_of (employed after) number ≡ None
+  dismissed-gone number now after seen is =
+      let rising = subst (λ i. IsRising (employed i)) seen (employed-rising here k.stands) in
+      ap (λ i. content_of (employed i) number) is
+      ∙ ap (λ cs. content_of cs number)
+      (sym (merged-without number_of number now.contents now.singles rising))
+      ∙ item_at-gone number_of number (employed now)
+
   -- a carrier that isn't employed goes from those that are owned
   module _ (number : ℕ) (o : OwnCarrier) (there : own_at own.carriers number ≡ Some o)
       (none : content_of (employed here) number ≡ None) (left : OwnList)
@@ -289,6 +316,17 @@ module _ (s : Settings) (n : ℕ) (own : OwnList) (ks : CarrierList) (ss : List 
         → KeepsCarriers s n own new ss created
     kept-adopted new is = subst (λ xs. KeepsCarriers s n own xs ss created) (sym is)
         (keeping _ _ _ _ _ _ k.strategy more)
+
+  -- where the carriers choose no gap the instance does not
+  pub none-chosen : (need : ℕ) (now : Instance) → here ≡ now
+      → None ≡ or_else (may_miss ks.strategy)
+      (choice_among ks.strategy s.mbsd need ks.contents) (choice_empty need ks.contents)
+      → None ≡ option_map (λ spot. place_at now spot need) (chosen_spot now need)
+  none-chosen need now seen none =
+      ap (λ o. option_map (λ spot. place_at now spot need) (option_map spot_of o))
+      (none ∙ ap (λ t. or_else (may_miss t)
+      (choice_among t s.mbsd need ks.contents) (choice_empty need ks.contents)) k.strategy)
+      ∙ ap (λ i. option_map (λ spot. place_at now spot need) (chosen_spot i need)) seen
 
   -- a gap that the carriers choose is the one that the instance does
   module _ (need : ℕ) (found : Choice) (now : Instance) (seen : here ≡ now)

@@ -16,3 +16,4 @@ pub mod Owned
 pub mod Reallocating
 pub mod Resizing
 pub mod Migrating
+pub mod Planning

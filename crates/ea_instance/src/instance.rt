@@ -31,7 +31,8 @@ use ea_mbc::Mbc;
 use ea_model::keyed::item_of;
 use ea_model::{
     Block, CarrierLine, CarrierPlan, Decision, Figures, HEADER_UNITS, Kind, List, NUMBERS,
-    NoCarrier, OutOfMemory, PAGE_UNITS, Place, Settings, Spot, Where, least_pages,
+    NoCarrier, OutOfMemory, PAGE_UNITS, Place, Settings, Spot, Where, first_number, least_pages,
+    pages_for,
 };
 use ea_resize::decide;
 use ea_sbc::Sbc;
@@ -62,14 +63,6 @@ impl Model for Instance {
     ghost invariant = { λ i. KeepsCarriers i.settings i.number i.own i.carriers i.singles i.created };
 }
 
-/// The pages that hold that many units.
-fn pages_for(units: u32) -> u32
-    requires { units ≤ 2 ^ 31 }
-    ensures { result ≡ pages_for units }
-{
-    units.div_ceil(PAGE_UNITS)
-}
-
 /// The units of the next multiblock carrier after `count` others.
 fn growth(settings: Settings, count: usize) -> u32
     requires valid { IsValid settings }
@@ -83,15 +76,6 @@ fn growth(settings: Settings, count: usize) -> u32
     }
     let grown = count as u64 * u64::from(largest - settings.smbcs) / u64::from(settings.mbcgs);
     settings.smbcs + grown as u32
-}
-
-/// The number of the first carrier that an instance creates.
-fn first_number(instance: u32) -> u32
-    requires { (1 ≤ instance) × (instance ≤ MAX_SCHEDULERS) }
-    ensures first { result ≡ instances.first_number instance }
-    ensures fits { result + NUMBERS < 2 ^ 32 }
-{
-    (instance - 1) * NUMBERS + 1
 }
 
 /// The plan of an instance's main carrier: the first one that it creates, from its region's first
@@ -174,6 +158,15 @@ impl Instance {
             singles,
             created,
         })
+    }
+
+    /// What holds of an instance at every moment: it stands, its blocks and carriers lie apart, and
+    /// blocks, gaps and headers are all units. It does nothing: it is there for its contract.
+    pub fn stands(&self)
+        ensures stands { Stands self.now }
+        ensures order { IsInOrder self.now }
+    {
+        let _created = self.created;
     }
 
     /// How many carriers it created.
@@ -260,10 +253,7 @@ impl Instance {
 
     /// The units of all gaps of its carriers.
     pub fn free_units(&self) -> u64
-        ensures units { result ≡ sum_by (λ c. free_units (gaps_of c)) (employed self.now) }
-
-        // With blocks and headers they are all units, and blocks and carriers lie apart.
-        ensures order { IsInOrder self.now }
+        ensures { result ≡ sum_by (λ c. free_units (gaps_of c)) (employed self.now) }
     {
         free_of(self.carriers.figures()) + free_of(self.singles.figures())
     }
@@ -291,21 +281,6 @@ impl Instance {
         ensures blocks { IfOk result (λ found. IfSome found (λ place.
             IsPlaced (employed self.old) (employed self.new) name place)) }
     {
-        self.place_chosen(need, name)
-    }
-
-    /// Places the block as `try_alloc` does.
-    fn place_chosen(&mut self, need: u32, name: u32) -> Result<Option<Place>, OutOfMemory>
-        requires even { need % 2 ≡ 0 }
-        requires least { 6 ≤ need }
-        ensures place { IfOk result (λ place. place
-            ≡ option_map (λ spot. place_at self.old spot need) (chosen_spot self.old need)) }
-        ensures ok { OnOk result
-            (self.new ≡ placing_if self.old (chosen_spot self.old need) need name) }
-        ensures err { OnErr result (self.new ≡ self.old) }
-        ensures blocks { IfOk result (λ found. IfSome found (λ place.
-            IsPlaced (employed self.old) (employed self.new) name place)) }
-    {
         let Some(choice) = self.carriers.chosen(need, self.settings.mbsd) else {
             return Ok(None);
         };
@@ -315,23 +290,6 @@ impl Instance {
             offset: choice.candidate.offset,
             size,
         }))
-    }
-
-    /// The lowest of its carrier numbers that isn't in use. What holds of an instance at every
-    /// moment holds of this one.
-    fn unused_number(&self) -> Option<u32>
-        ensures stands { Stands self.now }
-        ensures number { result ≡ unused_from NUMBERS (instances.first_number self.now.number)
-            self.now.own }
-    {
-        self.own.unused_number(first_number(self.number))
-    }
-
-    /// Where the lowest free run of its region with that many pages begins.
-    fn free_run(&self, pages: u32) -> Option<u32>
-        ensures { result ≡ instances.free_run self.now pages }
-    {
-        self.own.free_run(pages)
     }
 
     /// The pages of the next multiblock carrier: as many as it would have by its turn, and no fewer
@@ -350,10 +308,11 @@ impl Instance {
         need > self.settings.sbct
     }
 
-    /// The carrier that it would create for a block of `need` units, or why it can't: up to the
-    /// threshold `sbct` a multiblock carrier, and above it a singleblock carrier of the least pages.
-    pub fn plan_carrier(&self, need: u32) -> Result<CarrierPlan, NoCarrier>
-        requires { self.now.created + 1 < 2 ^ 32 }
+    /// The carrier that it would create for a block of `need` units, or why it can't: a multiblock
+    /// carrier, or, for one that is alone, a singleblock carrier of the least pages.
+    pub fn plan_carrier(&self, need: u32, alone: bool) -> Result<CarrierPlan, NoCarrier>
+        requires count { self.now.created + 1 < 2 ^ 32 }
+        requires alone { alone ≡ is_alone self.now need }
         ensures plan { result ≡ plan self.now need }
 
         // Numbers exactly where all its numbers are in use; Space exactly where one is not, and no
@@ -363,31 +322,17 @@ impl Instance {
             ↔ ((AllUsed self.now → ⊥) × All (λ r. r.pages < least_pages need)
             (runs self.now.first self.now.end (segments self.now.own))) }
         ensures pages { IfOk result (λ p. (1 ≤ p.pages) × (p.pages ≤ MAX_PAGES)) }
-        ensures single { IfOk result (λ p. p.single ≡ is_alone self.now need) }
+        ensures single { IfOk result (λ p. p.single ≡ alone) }
     {
-        self.plan_for(need)
-    }
-
-    /// Plans the carrier as `plan_carrier` does.
-    fn plan_for(&self, need: u32) -> Result<CarrierPlan, NoCarrier>
-        requires { self.now.created + 1 < 2 ^ 32 }
-        ensures plan { result ≡ plan self.now need }
-        ensures stands { Stands self.now }
-    {
-        let Some(number) = self.unused_number() else {
+        let Some(number) = self.own.unused_number(first_number(self.number)) else {
             return Err(NoCarrier::Numbers);
         };
-        let single = self.is_alone(need);
         let least = least_pages(need);
-        let wanted = if single {
-            least
-        } else {
-            self.next_pages(least)
-        };
-        match self.free_run(wanted) {
-            Some(base) => Ok(self.planned(number, base, wanted, single)),
-            None => match self.free_run(least) {
-                Some(base) => Ok(self.planned(number, base, least, single)),
+        let wanted = if alone { least } else { self.next_pages(least) };
+        match self.own.free_run(wanted) {
+            Some(base) => Ok(self.planned(number, base, wanted, alone)),
+            None => match self.own.free_run(least) {
+                Some(base) => Ok(self.planned(number, base, least, alone)),
                 None => Err(NoCarrier::Space),
             },
         }
@@ -652,7 +597,8 @@ impl Instance {
     /// it still does. It takes no memory.
     pub fn dismiss(&mut self, number: u32)
         requires { has_vacant number (employed self.old) ≡ true }
-        ensures { self.new ≡ dismissing self.old number }
+        ensures dismissed { self.new ≡ dismissing self.old number }
+        ensures gone { content_of (employed self.new) number ≡ None }
     {
         if self.has_multi(number) {
             self.carriers.leave(number);

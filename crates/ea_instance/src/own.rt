@@ -35,19 +35,6 @@ impl Model for OwnCarriers {
     ghost invariant = { λ o. HaveSegments (vec_capacity o.list) o.list.items o.region };
 }
 
-/// The lowest of an instance's numbers, from `first` on, that no carrier has.
-fn unused_number(first: u32, carriers: &[OwnCarrier]) -> Option<u32>
-    requires { first + NUMBERS < 2 ^ 32 }
-    ensures { result ≡ unused_from NUMBERS first carriers.now }
-{
-    for k in 0..NUMBERS {
-        if item_of(first + k, carriers).is_none() {
-            return Some(first + k);
-        }
-    }
-    None
-}
-
 impl OwnCarriers {
     /// No carriers, and a region of `pages` pages from page `first` on. It takes the memory for as
     /// many carriers as an instance has numbers.
@@ -71,7 +58,12 @@ impl OwnCarriers {
         requires { first + NUMBERS < 2 ^ 32 }
         ensures { result ≡ unused_from NUMBERS first self.now.carriers }
     {
-        unused_number(first, &self.list)
+        for k in 0..NUMBERS {
+            if item_of(first + k, &self.list).is_none() {
+                return Some(first + k);
+            }
+        }
+        None
     }
 
     /// Where the lowest free run with that many pages begins.

@@ -4,7 +4,7 @@ use Rattle.ea_model.specs.Content.{Content}
 use Rattle.ea_model.specs.Instance.{content_of, employed, has_content}
 use Rattle.ea_model.proofs.Options.{some_value}
 use Rattle.ea_instance.proofs.Following.{vacant-found}
-use Rattle.ea_instance.proofs.Keeping.{found-multi, found-single, is-none, kept-dismissed, kept-single-dismissed, seen-dismissed, seen-single-dismissed}
+use Rattle.ea_instance.proofs.Keeping.{dismissed-gone, found-multi, found-single, is-none, kept-dismissed, kept-single-dismissed, seen-dismissed, seen-single-dismissed}
 use Rattle.ea_instance.proofs.instance.Instance.dismiss.Goals as goal
 
 pub leave-requires-clause-bins : goal.leave-requires-clause-bins
@@ -25,9 +25,15 @@ invariant_of-self c = kept-dismissed _ _ c.self.inside.own c.self.inside.carrier
     c.leave.ensures.carrier _ c.leave.ensures.rest
 
 pub returns-then-has_multi : goal.returns-then-has_multi
-returns-then-has_multi c = seen-dismissed _ _ c.self.inside.own c.self.inside.carriers
-    c.self.inside.singles c.self.inside.created c.self.invariant c.args.number c.leave.result
-    c.leave.ensures.carrier _ c.leave.ensures.rest _ c.self.view_is
+returns-then-has_multi c =
+    let is = seen-dismissed _ _ c.self.inside.own c.self.inside.carriers c.self.inside.singles
+    c.self.inside.created c.self.invariant c.args.number c.leave.result c.leave.ensures.carrier _
+    c.leave.ensures.rest _ c.self.view_is in
+    record {
+      dismissed = is;
+      gone = dismissed-gone _ _ c.self.inside.own c.self.inside.carriers c.self.inside.singles
+          c.self.inside.created c.self.invariant c.args.number _ _ c.self.view_is is;
+    }
 
 pub leave-requires-else-has_multi : goal.leave-requires-else-has_multi
 leave-requires-else-has_multi c =
@@ -49,7 +55,13 @@ invariant_of-self-else-has_multi c = kept-single-dismissed _ _ c.self.inside.own
     c.leave-else-has_multi.ensures.rest
 
 pub returns-else-has_multi : goal.returns-else-has_multi
-returns-else-has_multi c = seen-single-dismissed _ _ c.self.inside.own
-    c.self.inside.carriers c.self.inside.singles c.self.inside.created c.self.invariant
-    c.args.number c.leave-else-has_multi.result c.leave-else-has_multi.ensures.carrier _
-    c.leave-else-has_multi.ensures.rest _ c.self.view_is
+returns-else-has_multi c =
+    let is = seen-single-dismissed _ _ c.self.inside.own c.self.inside.carriers
+    c.self.inside.singles c.self.inside.created c.self.invariant c.args.number
+    c.leave-else-has_multi.result c.leave-else-has_multi.ensures.carrier _
+    c.leave-else-has_multi.ensures.rest _ c.self.view_is in
+    record {
+      dismissed = is;
+      gone = dismissed-gone _ _ c.self.inside.own c.self.inside.carriers c.self.inside.singles
+          c.self.inside.created c.self.invariant c.args.number _ _ c.self.view_is is;
+    }

@@ -1,12 +1,11 @@
-use Rattle.std.proofs.Common.{ℕ, List, arith, ap, subst}
+use Rattle.std.proofs.Common.{ℕ, List, arith, ap}
 use Rattle.std.specs.Prelude.{sum_by}
 use Rattle.ea_model.specs.declared.carriers.Figures.{Figures}
 use Rattle.ea_model.specs.Content.{Content, free_units, gaps_of}
 use Rattle.ea_model.specs.Instance.{Instance, employed}
 use Rattle.ea_model.proofs.Merged.{sum-merged}
-use Rattle.ea_laws.specs.InOrder.{IsInOrder}
 use Rattle.ea_laws.specs.Kept.{number_of}
-use Rattle.ea_laws.proofs.Standing.{Stands-IsInOrder, multi-bounded, single-bounded}
+use Rattle.ea_laws.proofs.Standing.{multi-bounded, single-bounded}
 use Rattle.ea_laws.proofs.Sums.{units-most}
 use Rattle.ea_instance.proofs.Counting.{free-left}
 use Rattle.ea_instance.proofs.Keeping.{kept-few}
@@ -48,8 +47,8 @@ overflow_add-result c =
       units-most ss (single-bounded _ st).1,
     )
 
-pub returns-clause-units : goal.returns-clause-units
-returns-clause-units c =
+pub returns : goal.returns
+returns c =
     let cs = c.self.inside.carriers.contents in
     let ss = c.self.inside.singles in
     omega (
@@ -61,7 +60,3 @@ returns-clause-units c =
       sum-merged number_of (λ (x : Content). free_units (gaps_of x)) cs ss,
       ap (λ (i : Instance). free_in (employed i)) c.self.view_is,
     )
-
-pub returns-clause-order : goal.returns-clause-order
-returns-clause-order c =
-    subst IsInOrder c.self.view_is (Stands-IsInOrder _ c.self.invariant.stands)

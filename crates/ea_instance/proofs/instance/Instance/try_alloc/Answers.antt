@@ -1,31 +1,67 @@
-use Rattle.std.proofs.Common.{◌≡◌, ◌<◌, ◌↔◌, All, sym, subst}
-use Rattle.std.specs.Prelude.{Option, IsNone, option_map}
-use Rattle.std.proofs.lemmas.Result.{IfOk-weaker}
-use Rattle.ea_model.specs.declared.carriers.Place.{Place}
-use Rattle.ea_model.specs.declared.carriers.Candidate.{Candidate}
-use Rattle.ea_model.specs.Instance.{chosen_spot, place_at}
-use Rattle.ea_model.specs.Strategies.{candidates}
-use Rattle.ea_laws.specs.Spots.{FindsNone}
-use Rattle.ea_laws.proofs.Refusals.{chosen-none, chosen-none_at_all}
+use Rattle.std.proofs.Common.{arith, sym, ap, ◌∙◌}
+use Rattle.ea_instance.specs.Choices.{candidate_of}
+use Rattle.ea_instance.proofs.Keeping.{blocks-placed, finds-all, finds-none, kept-few, kept-placed, none-chosen, place-chosen, seen-placed}
 use Rattle.ea_instance.proofs.instance.Instance.try_alloc.Goals as goal
+
+pub place-requires-clause-few : goal.place-requires-clause-few
+place-requires-clause-few c =
+    omega (
+      arith,
+      kept-few _ _ c.self.inside.own c.self.inside.carriers c.self.inside.singles
+          c.self.inside.created c.self.invariant,
+    )
+
+pub invariant_of-self-2 : goal.invariant_of-self-2
+invariant_of-self-2 c =
+    kept-placed _ _ c.self.inside.own c.self.inside.carriers c.self.inside.singles
+    c.self.inside.created c.self.invariant c.args.need c.in-Some.choice _ c.self.view_is c.in-Some.ensures.chosen
+    c.in-Some.ensures.choice c.args.name c.requires.even c.requires.least _
+    c.in_ok-size.ensures.ok
+
+pub returns-clause-place : goal.returns-clause-place
+returns-clause-place c =
+    place-chosen _ _ c.self.inside.own c.self.inside.carriers c.self.inside.singles
+    c.self.inside.created c.self.invariant c.args.need c.in-Some.choice _ c.self.view_is c.in-Some.ensures.chosen
+    c.in-Some.ensures.choice c.in_ok-size.size c.in_ok-size.ensures.size
+
+pub returns-clause-ok : goal.returns-clause-ok
+returns-clause-ok c =
+    seen-placed _ _ c.self.inside.own c.self.inside.carriers c.self.inside.singles
+    c.self.inside.created c.self.invariant c.args.need c.in-Some.choice _ c.self.view_is c.in-Some.ensures.chosen
+    c.in-Some.ensures.choice c.args.name c.requires.even c.requires.least _
+    c.in_ok-size.ensures.ok
+
+pub returns-clause-blocks : goal.returns-clause-blocks
+returns-clause-blocks c =
+    blocks-placed _ _ c.self.inside.own c.self.inside.carriers c.self.inside.singles
+    c.self.inside.created c.self.invariant c.args.need c.in-Some.choice _ c.self.view_is c.in-Some.ensures.chosen
+    c.in-Some.ensures.choice c.args.name c.requires.even c.requires.least _
+    c.in_ok-size.ensures.ok c.in_ok-size.size c.in_ok-size.ensures.size
+
+pub returns-in_default-clause-none : goal.returns-in_default-clause-none
+returns-in_default-clause-none c =
+    finds-none c.args.self.now c.args.need _
+    (none-chosen _ _ c.self.inside.own c.self.inside.carriers c.self.inside.singles
+    c.self.inside.created c.self.invariant c.args.need _ c.self.view_is
+    (ap candidate_of (sym c.in_default.is) ∙ c.chosen.ensures.chosen))
+
+pub returns-in_default-clause-all : goal.returns-in_default-clause-all
+returns-in_default-clause-all c =
+    finds-all c.args.self.now c.args.need _
+    (none-chosen _ _ c.self.inside.own c.self.inside.carriers c.self.inside.singles
+    c.self.inside.created c.self.invariant c.args.need _ c.self.view_is
+    (ap candidate_of (sym c.in_default.is) ∙ c.chosen.ensures.chosen))
 
 pub returns-clause-none : goal.returns-clause-none
 returns-clause-none c =
-    let i = c.args.self.now in
-    let need = c.args.need in
-    let none : Option Place → Type 0 = λ o. IsNone o ↔ FindsNone i.settings need i.contents in
-    IfOk-weaker c.place_chosen.result
-    (λ (o : Option Place). o ≡ option_map (λ spot. place_at i spot need) (chosen_spot i need)) none
-    (λ o e. subst none (sym e) (chosen-none (λ spot. place_at i spot need) i need))
-    c.place_chosen.ensures.place
+    finds-none c.args.self.now c.args.need _
+    (place-chosen _ _ c.self.inside.own c.self.inside.carriers c.self.inside.singles
+    c.self.inside.created c.self.invariant c.args.need c.in-Some.choice _ c.self.view_is
+    c.in-Some.ensures.chosen c.in-Some.ensures.choice c.in_ok-size.size c.in_ok-size.ensures.size)
 
 pub returns-clause-all : goal.returns-clause-all
-returns-clause-all c = λ miss_none.
-    let i = c.args.self.now in
-    let need = c.args.need in
-    let none : Option Place → Type 0 =
-    λ o. IsNone o ↔ All (λ (x : Candidate). x.size < need) (candidates i.contents) in
-    IfOk-weaker c.place_chosen.result
-    (λ (o : Option Place). o ≡ option_map (λ spot. place_at i spot need) (chosen_spot i need)) none
-    (λ o e. subst none (sym e) (chosen-none_at_all (λ spot. place_at i spot need) i need miss_none))
-    c.place_chosen.ensures.place
+returns-clause-all c =
+    finds-all c.args.self.now c.args.need _
+    (place-chosen _ _ c.self.inside.own c.self.inside.carriers c.self.inside.singles
+    c.self.inside.created c.self.invariant c.args.need c.in-Some.choice _ c.self.view_is
+    c.in-Some.ensures.chosen c.in-Some.ensures.choice c.in_ok-size.size c.in_ok-size.ensures.size)
