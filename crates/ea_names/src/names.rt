@@ -133,6 +133,20 @@ impl Names {
         self.groups[(name / GROUP) as usize][(name % GROUP) as usize] = Some(spot);
     }
 
+    /// Holds the name no longer, and answers where its block begins, if it was held.
+    pub fn take(&mut self, name: u32) -> Option<Spot>
+        requires place { name ≤ self.old.greatest }
+        ensures spot { result ≡ spot_named name self.old.held }
+        ensures held { self.new.held ≡ without_name name self.old.held }
+        ensures places { self.new.places ≡ self.old.places }
+        ensures whole { IsWhole self.old → IsWhole self.new }
+        ensures same { self.new.greatest ≡ self.old.greatest }
+    {
+        let spot = self.spot_of(name);
+        self.let_go(name);
+        spot
+    }
+
     /// Holds the name no longer.
     pub fn let_go(&mut self, name: u32)
         requires place { name ≤ self.old.greatest }

@@ -28,8 +28,9 @@ fn a_held_name_has_its_spot_until_it_is_let_go(rt: HostRuntime) -> Result<(), Fa
     names.hold(1, SECOND);
     assert_eq!(rt; names.spot_of(3), Some(FIRST));
 
-    // A name that isn't held is let go without effect.
-    names.let_go(2);
+    // A name that is taken isn't held, and one that isn't held is let go without effect.
+    assert_eq!(rt; names.take(2), Some(FIRST));
+    assert_eq!(rt; names.take(2), None);
     names.let_go(0);
     assert_eq!(rt; names.spot_of(1), Some(SECOND));
     assert_eq!(rt; names.spot_of(2), None);

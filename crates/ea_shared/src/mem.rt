@@ -100,9 +100,7 @@ impl<C: Carried + Drop> Shared for MemShared<C> {
     }
 
     fn take_try(&mut self, _me: u32, name: u32) -> Option<Spot> {
-        let spot = self.given.spot_of(name);
-        self.given.let_go(name);
-        spot
+        self.given.take(name)
     }
 }
 

@@ -4,10 +4,10 @@ use Rattle.ea_shared.proofs.mem.MemSharedShared.take_try.Goals as goal
 
 pub invariant_of-self : goal.invariant_of-self
 invariant_of-self g c = (
-  c.let_go.ensures.same ∙ c.self.invariant.0,
-  c.let_go.ensures.whole c.self.invariant.1,
+  c.take.ensures.same ∙ c.self.invariant.0,
+  c.take.ensures.whole c.self.invariant.1,
 )
 
 pub returns-clause-row : goal.returns-clause-row
-returns-clause-row g c = took-try _ _ _ _ _ c.self.view_is _ _ c.spot_of-spot.ensures
-    c.let_go.ensures.held
+returns-clause-row g c = took-try _ _ _ _ _ c.self.view_is _ _ c.take.ensures.spot
+    c.take.ensures.held
