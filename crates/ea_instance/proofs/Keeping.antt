@@ -14,12 +14,11 @@ use Rattle.ea_model.specs.Instance.{Instance, block_in, changed, changing, chose
 use Rattle.ea_model.specs.Employment.{dismissing, employing}
 use Rattle.ea_model.specs.Strategies.{candidates, choice_among, choice_empty, may_miss, or_else, spot_of}
 use Rattle.ea_instance.specs.Answers.{placing_if}
-use Rattle.ea_instance.specs.Choices.{IsChoice}
-use Rattle.ea_instance.specs.declared.choice.Choice.{Choice}
+use Rattle.ea_employed.specs.Choices.{IsChoice}
+use Rattle.ea_employed.specs.declared.choice.Choice.{Choice}
 use Rattle.ea_instance.specs.Kept.{KeepsCarriers, seen_as}
-use Rattle.ea_instance.specs.Listed.{CarrierList}
+use Rattle.ea_employed.specs.Listed.{CarrierList}
 use Rattle.ea_instance.specs.Own.{OwnList}
-use Rattle.ea_instance.proofs.Changed.{at_choice}
 use Rattle.ea_laws.specs.Kept.{number_of, ContentsApart, IsLaidOut, IsRising, IsSomeones, IsWhole, Stands}
 use Rattle.ea_laws.specs.Spots.{FindsNone, HasGap, HaveSameBlocks, IsPlaced}
 use Rattle.ea_laws.proofs.Blocks.{creating-same, creating_single-IsPlaced, placing-IsPlaced}
@@ -30,7 +29,7 @@ use Rattle.ea_model.specs.declared.units.TheConstants.{MAX_PAGES, MAX_SCHEDULERS
 use Rattle.ea_laws.proofs.Changed.{KeepsPlace, released-keeps}
 use Rattle.ea_laws.proofs.Contents.{absent-among}
 use Rattle.ea_model.proofs.Merged.{merged-apart, merged-each, merged-second, merged-without}
-use Rattle.ea_model.proofs.Rising.{changed_none, item_at-All, item_at-gone, item_at-key, length-entered, none-other, without_none}
+use Rattle.ea_model.proofs.Rising.{changed_none, item_at-All, item_at-each, item_at-gone, item_at-key, length-entered, none-other, without_none}
 use Rattle.std.specs.Option.{option_and_then}
 
 -- the carrier that enters is the planned one
@@ -352,9 +351,11 @@ module _ (s : Settings) (n : ℕ) (own : OwnList) (ks : CarrierList) (ss : List 
 
     has-gap : HasGap need x.number x.offset ks.contents
     has-gap =
-        let at = at_choice need ks.contents found choice.content k.stands.rising
-        (sym choice.is) choice in
-        (choice.content, at.there, omega (arith, choice.chosen.gap, choice.chosen.fits))
+        let number = choice.chosen.number ∙ sym (ap number_of choice.is) in
+        let there = ap (content_of ks.contents) number
+        ∙ item_at-each number_of found.index choice.content ks.contents k.stands.rising choice.within
+        ∙ ap Some choice.is in
+        (choice.content, there, omega (arith, choice.chosen.gap, choice.chosen.fits))
 
     module _ (name : ℕ) (even : need % 2 ≡ 0) (least : 6 ≤ need) (new : CarrierList)
         (is : new ≡ record ks {

@@ -11,7 +11,7 @@ use Rattle.ea_model.proofs.Merged.{merged-first_left}
 use Rattle.ea_model.proofs.Rising.{entered_past}
 use Rattle.ea_laws.specs.Kept.{number_of, IsRising}
 use Rattle.ea_instance.specs.Merging.{GoesFirst}
-use Rattle.ea_instance.proofs.Changed.{same-at}
+use Rattle.std.proofs.lemmas.List.{get_or_default}
 
 -- the first of the second list goes first where none of the first list has a lower number
 first_right : (xs : List Content) (y : Content) (ys : List Content)
@@ -30,7 +30,7 @@ module _ (cs : List Content) (rising : IsRising cs) (i : ℕ) (d : Content) (wit
     later : (k : ℕ) (e : Content) → i < k → k < length cs
         → (get_or cs i d).number < (get_or cs k e).number
     later k e lt inside =
-        omega (arith, rising i k e lt inside, ap number_of (same-at cs i d e within))
+        omega (arith, rising i k e lt inside, ap number_of (get_or_default cs i d e within))
 
     from_here : All (λ c. (get_or cs i d).number ≤ c.number) (drop i cs)
     from_here = λ k e inside.
@@ -42,7 +42,7 @@ module _ (cs : List Content) (rising : IsRising cs) (i : ℕ) (d : Content) (wit
             arith,
             at,
             ap (λ j. (get_or cs j e).number) (no_more k here),
-            ap number_of (same-at cs i d e within),
+            ap number_of (get_or_default cs i d e within),
           )
         ] where
           no_more : (k : ℕ) → k ≤ 0 → i + k ≡ i
@@ -79,7 +79,7 @@ module _ (employer : ℕ) (cs ds : List Content) (rising_cs : IsRising cs) (risi
         arith,
         first.1 e within,
         from_here ds rising_ds s e within k e inside,
-        ap number_of (same-at cs m d e first.0),
+        ap number_of (get_or_default cs m d e first.0),
       ) in
       ap (λ xs. merged number_of xs (drop s ds)) (drop_more cs m d first.0)
       ∙ merged-first_left number_of x (drop (m + 1) cs) (drop s ds)
@@ -96,7 +96,7 @@ module _ (employer : ℕ) (cs ds : List Content) (rising_cs : IsRising cs) (risi
         arith,
         first.1 e within,
         from_here cs rising_cs m e within k e inside,
-        ap number_of (same-at ds s d e first.0),
+        ap number_of (get_or_default ds s d e first.0),
       ) in
       ap (merged number_of (drop m cs)) (drop_more ds s d first.0)
       ∙ first_right (drop m cs) y (drop (s + 1) ds) beside

@@ -24,7 +24,7 @@ use Rattle.ea_laws.proofs.Owned.{with_units}
 use Rattle.ea_laws.proofs.Reallocating.{multi-decided, multi-grows, multi-resized_to, multi-shrinks, resizing-Stands, single-decided, single-fits, single-resized_to, single-shortens, single-stays}
 use Rattle.ea_laws.proofs.Standing.{employed-multi, single-own}
 use Rattle.ea_instance.specs.Kept.{KeepsCarriers, seen_as}
-use Rattle.ea_instance.specs.Listed.{CarrierList}
+use Rattle.ea_employed.specs.Listed.{CarrierList}
 use Rattle.ea_instance.specs.Own.{OwnList}
 use Rattle.ea_instance.proofs.Following.{some-content}
 use Rattle.ea_instance.proofs.Keeping.{block-single, changed-multi, changed-single, keeping}

@@ -4,8 +4,8 @@ use Rattle.ea_model.specs.declared.settings.Settings.{Settings}
 use Rattle.ea_model.specs.Content.{Content}
 use Rattle.ea_model.specs.Instance.{Instance}
 use Rattle.ea_laws.specs.Kept.{Stands}
-use Rattle.ea_instance.specs.Changes.{AreLaid}
-use Rattle.ea_instance.specs.Listed.{CarrierList}
+use Rattle.ea_employed.specs.Laid.{AreLaid}
+use Rattle.ea_employed.specs.Listed.{CarrierList}
 use Rattle.ea_instance.specs.Own.{OwnList}
 
 -- the instance of these fields

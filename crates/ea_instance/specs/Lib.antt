@@ -1,10 +1,3 @@
-pub mod Better
-pub mod Searches
-pub mod Choices
-pub mod Changes
-pub mod Counted
-pub mod Binned
-pub mod Listed
 pub mod Own
 pub mod Merging
 pub mod Kept

@@ -20,13 +20,9 @@ ghost use Rattle.ea_model.specs.Abandonment.{is_due, is_sparse};
 ghost use Rattle.ea_model.specs.Employment.{dismissing, disowning, employing};
 ghost use Rattle.ea_laws.specs.Spots.{AllUsed, FindsNone, HaveSameBlocks, IsOther, IsPlaced};
 
-use crate::carriers::Carriers;
-use crate::employed::Employed;
-use crate::figures::free_of;
 use crate::lines::{put_merged, single_line};
 use crate::own::OwnCarriers;
-use crate::singles::Singles;
-use crate::walks::multi_count;
+use ea_employed::{Carriers, Employed, Singles};
 use ea_mbc::Mbc;
 use ea_model::keyed::item_of;
 use ea_model::{
@@ -119,6 +115,15 @@ fn is_due(settings: Settings, figures: Figures, multi: &Employed) -> bool
         )
         && is_sparse(settings, figures.blocks_size, figures.carriers_size)
         && u64::from(settings.acfml) <= 8 * u64::from(multi.largest())
+}
+
+/// The units that blocks and headers leave of the carriers.
+fn free_of(figures: Figures) -> u64
+    requires { figures.blocks_size + HEADER_UNITS * figures.carriers ≤ figures.carriers_size }
+    ensures { result + figures.blocks_size + HEADER_UNITS * figures.carriers
+        ≡ figures.carriers_size }
+{
+    figures.carriers_size - figures.blocks_size - u64::from(HEADER_UNITS) * figures.carriers
 }
 
 impl Instance {
@@ -298,7 +303,7 @@ impl Instance {
         ensures { result ≡ max least
             (pages_for (growth self.now.settings (multis self.now.contents))) }
     {
-        least.max(pages_for(growth(self.settings, multi_count(self.carriers.as_slice()))))
+        least.max(pages_for(growth(self.settings, self.carriers.multi_count())))
     }
 
     /// Whether a block of `need` units has a carrier of its own: it is above the threshold `sbct`.

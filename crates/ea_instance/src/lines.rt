@@ -5,7 +5,7 @@ ghost use Rattle.ea_model.specs.Instance.{carrier_line};
 ghost use Rattle.ea_laws.specs.Kept.{IsRising, number_of};
 ghost use Rattle.ea_instance.specs.Merging.{GoesFirst};
 
-use crate::employed::Employed;
+use ea_employed::Employed;
 use ea_model::keyed::Keyed;
 use ea_model::{CarrierLine, Kind, List, PAGE_UNITS, Standing};
 use ea_sbc::Sbc;

@@ -1,15 +1,27 @@
-use Rattle.std.proofs.Common.{ℕ, List, arith, ap}
+use Rattle.std.proofs.Common.{◌≡◌, ◌+◌, ◌*◌, ℕ, List, All, arith, ap}
 use Rattle.std.specs.Prelude.{sum_by}
 use Rattle.ea_model.specs.declared.carriers.Figures.{Figures}
 use Rattle.ea_model.specs.Content.{Content, free_units, gaps_of}
-use Rattle.ea_model.specs.Instance.{Instance, employed}
+use Rattle.ea_model.specs.Instance.{Instance, employed, figures}
 use Rattle.ea_model.proofs.Merged.{sum-merged}
 use Rattle.ea_laws.specs.Kept.{number_of}
+use Rattle.ea_laws.proofs.Ranges.{IsOrdered}
 use Rattle.ea_laws.proofs.Standing.{multi-bounded, single-bounded}
-use Rattle.ea_laws.proofs.Sums.{units-most}
-use Rattle.ea_instance.proofs.Counting.{free-left}
+use Rattle.ea_laws.proofs.Sums.{all-units, units-most}
 use Rattle.ea_instance.proofs.Keeping.{kept-few}
 use Rattle.ea_instance.proofs.instance.Instance.free_units.Goals as goal
+
+-- blocks and headers leave the gaps
+free-left : (cs : List Content) → All IsOrdered cs → (f : Figures) → f ≡ figures cs
+    → sum_by (λ c. free_units (gaps_of c)) cs + f.blocks_size + 8 * f.carriers ≡ f.carriers_size
+free-left cs ordered f is =
+    omega (
+      arith,
+      all-units cs ordered,
+      ap (λ (g : Figures). g.blocks_size) is,
+      ap (λ (g : Figures). g.carriers) is,
+      ap (λ (g : Figures). g.carriers_size) is,
+    )
 
 abbrev free_in : List Content → ℕ
 free_in cs = sum_by (λ c. free_units (gaps_of c)) cs

@@ -1,4 +1,4 @@
-use Rattle.std.proofs.Common.{length, arith, ap}
+use Rattle.std.proofs.Common.{arith}
 use Rattle.ea_instance.proofs.Keeping.{kept-few}
 use Rattle.ea_instance.proofs.instance.Instance.next_pages.Goals as goal
 
@@ -8,5 +8,4 @@ growth-requires-clause-count c =
       arith,
       kept-few _ _ _ _ _ _ c.self.invariant,
       c.multi_count.ensures.within,
-      ap length c.as_slice.ensures,
     )

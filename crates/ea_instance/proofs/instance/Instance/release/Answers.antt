@@ -8,7 +8,7 @@ use Rattle.ea_model.proofs.Options.{some_value}
 use Rattle.ea_model.proofs.Rising.{changed-found, item_at-All}
 use Rattle.ea_laws.specs.Kept.{number_of, IsLaidOut, IsLaidOutAlone}
 use Rattle.ea_laws.proofs.Blocks.{releasing-gone, releasing-others}
-use Rattle.ea_instance.specs.Listed.{CarrierList}
+use Rattle.ea_employed.specs.Listed.{CarrierList}
 use Rattle.ea_instance.proofs.Following.{shared-not_single, single-emptied, single-vacant, some-content}
 use Rattle.ea_instance.proofs.Keeping.{block-multi, block-single, found-multi, found-single, is-none, kept-released, kept-single-released, seen-released, seen-single-released}
 use Rattle.ea_instance.proofs.instance.Instance.release.Goals as goal

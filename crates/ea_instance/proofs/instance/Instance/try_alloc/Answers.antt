@@ -1,5 +1,5 @@
 use Rattle.std.proofs.Common.{arith, sym, ap, ◌∙◌}
-use Rattle.ea_instance.specs.Choices.{candidate_of}
+use Rattle.ea_employed.specs.Choices.{candidate_of}
 use Rattle.ea_instance.proofs.Keeping.{blocks-placed, finds-all, finds-none, kept-few, kept-placed, none-chosen, place-chosen, seen-placed}
 use Rattle.ea_instance.proofs.instance.Instance.try_alloc.Goals as goal
 

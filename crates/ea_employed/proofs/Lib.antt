@@ -1,0 +1,12 @@
+pub mod BinsAfter
+pub mod ByCarrier
+pub mod Changed
+pub mod Changing
+pub mod Choosing
+pub mod Counting
+pub mod Folding
+pub mod Gaps
+pub mod Listed
+pub mod Located
+pub mod Missing
+pub mod Resizing

@@ -1,0 +1,164 @@
+-- The set of the carriers, after a change.
+use Rattle.std.proofs.Common.{◌≡◌, ◌≤◌, ◌≢◌, ℕ, true, false, List, [], ◌∷◌, map, All, AllPairs, sym, ap, ◌∙◌, subst, refl, inl, inr, arith, suc, Bool}
+use Rattle.std.specs.Prelude.{Option, IfSome, IsSome, None, Some, is_some, ◌==◌}
+use Rattle.std.proofs.lemmas.Bool.{cases_eq}
+use Rattle.std.proofs.lemmas.List.Elements.{All-head, All-tail}
+use Rattle.ea_model.specs.Content.{Content, gaps_of, largest}
+use Rattle.ea_model.specs.Instance.{changed, content_of, with_content, without_content}
+use Rattle.ea_cset.specs.declared.keys.CarrierKey.{CarrierKey}
+use Rattle.ea_cset.specs.Carriers.{Carriers, is_held, refitted, with_fit, number_of as set_number}
+use Rattle.ea_model.specs.Keyed.{entered, without}
+use Rattle.ea_model.proofs.Options.{if_some, is_some-map}
+use Rattle.ea_model.proofs.Rising.{changed_here, changed_past, entered-map, item_at-map, without-map}
+use Rattle.std.specs.List.Sorted.{IsPermutation}
+use Rattle.std.proofs.lemmas.Map.Keys.{IsDistinct-IsPermutation, IsDistinct-from_apart, apart_from_distinct}
+use Rattle.ea_model.specs.declared.settings.Strategy.{Strategy}
+use Rattle.ea_model.specs.declared.settings.Strategy.TheVariants.{Gf}
+use Rattle.ea_goodfit.specs.declared.gaps.BinnedGap.{BinnedGap}
+use Rattle.ea_goodfit.specs.Gaps.{HeldGaps}
+use Rattle.ea_laws.specs.Kept.{number_of, IsRising}
+use Rattle.ea_employed.specs.Binned.{Hold}
+use Rattle.ea_employed.specs.Listed.{all_gaps, held_of, IsListed}
+use Rattle.ea_laws.proofs.Changed.{KeepsPlace}
+use Rattle.ea_laws.proofs.Apart.{only-item}
+
+-- a carrier that is listed is held
+pub held-some : (n : ℕ) (cs : List Content) → IsSome (content_of cs n)
+    → is_held n (map held_of cs) ≡ true
+held-some n cs h = subst (λ o. IsSome o) (sym (item_at-map set_number held_of n cs))
+    (is_some-map held_of (content_of cs n) ∙ h)
+
+pub held-there : (n : ℕ) (c : Content) (cs : List Content) → content_of cs n ≡ Some c
+    → is_held n (map held_of cs) ≡ true
+held-there n c cs there = held-some n cs (subst (λ o. IsSome o) (sym there) refl)
+
+-- and a carrier that is held is listed
+pub held-listed : (n : ℕ) (cs : List Content) → is_held n (map held_of cs) ≡ true
+    → IsSome (content_of cs n)
+held-listed n cs h =
+    sym (is_some-map held_of (content_of cs n))
+    ∙ subst (λ o. IsSome o) (item_at-map set_number held_of n cs) h
+
+pub found-listed : (o : Option ℕ) (cs now : List Content) (set : Carriers)
+    → set.held ≡ map held_of cs → cs ≡ now → IfSome o (λ n. is_held n set.held ≡ true)
+    → IfSome o (λ n. IsSome (content_of now n))
+found-listed o cs now set held seen h =
+    if_some o (λ n. is_held n set.held ≡ true) (λ n. IsSome (content_of now n))
+    (λ n there. held-listed n now
+    (sym (ap (is_held n) (held ∙ ap (map held_of) seen)) ∙ there)) h
+
+module _ (f : Content → Content) (k : KeepsPlace f) (n : ℕ) (item : Content) where
+  -- the carrier with another fit is the changed carrier
+  held_changed : (c : Content) → c.number ≡ n → c ≡ item
+      → with_fit n (largest (gaps_of (f item))) (held_of c) ≡ held_of (f c)
+  held_changed c e same = let number = k.number c in let base = k.base c in let birth =
+      k.birth c in grind arith
+
+  held_other : (c : Content) (fit : ℕ) → c.number ≢ n → with_fit n fit (held_of c) ≡ held_of c
+  held_other c fit o = grind arith
+
+  held-changed : (cs : List Content) → All (λ c. c.number ≡ n → c ≡ item) cs
+      → refitted n (largest (gaps_of (f item))) (map held_of cs) ≡ map held_of (changed f n cs)
+  held-changed [] one = refl
+  held-changed (c ∷ cs) one =
+      let is_item : Content → Type 0 = λ x. x.number ≡ n → x ≡ item in
+      let more = held-changed cs (All-tail is_item c cs one) in
+      elim (cases_eq c.number n) [
+        | inl e ↦ ap (λ h. h ∷ refitted n (largest (gaps_of (f item))) (map held_of cs))
+            (held_changed c e (All-head is_item c cs one e)) ∙ ap (λ hs. held_of (f c) ∷ hs) more
+            ∙ sym (ap (map held_of) (changed_here number_of f n c cs e))
+        | inr o ↦ ap (λ h. h ∷ refitted n (largest (gaps_of (f item))) (map held_of cs))
+            (held_other c (largest (gaps_of (f item))) o) ∙ ap (λ hs. held_of c ∷ hs) more
+            ∙ sym (ap (map held_of) (changed_past number_of f n c cs o))
+      ]
+
+  -- the list, the set and the bins with a changed carrier
+  pub IsListed-changed : (s : Strategy) (cs new : List Content) (fit : ℕ) (set after : Carriers)
+      (bins left : Option HeldGaps) → content_of cs n ≡ Some item → IsRising cs
+      → IsListed s cs set bins → new ≡ changed f n cs → fit ≡ largest (gaps_of (f item))
+      → after ≡ record set { held = refitted n fit set.held } → is_some left ≡ is_some bins
+      → Hold left (all_gaps new) → IsListed s new after left
+  IsListed-changed s cs new fit set after bins left there rising l is fits e same gaps = record {
+    held =
+        ap (λ (x : Carriers). x.held) e ∙ ap (refitted n fit) l.held
+        ∙ ap (λ m. refitted n m (map held_of cs)) fits
+        ∙ held-changed cs (only-item n item cs rising there) ∙ sym (ap (map held_of) is);
+    room = subst (λ (x : Carriers). 4096 ≤ x.room) (sym e) l.room;
+    some = (λ gf. same ∙ l.some.0 gf, λ h. l.some.1 (sym same ∙ h));
+    gaps = gaps;
+  }
+
+-- with one carrier more
+pub IsListed-entered : (s : Strategy) (cs new : List Content) (x : Content) (key : CarrierKey)
+    (fit : ℕ) (set after : Carriers) (bins left : Option HeldGaps) → IsListed s cs set bins
+    → new ≡ with_content x cs → key ≡ (held_of x).key → fit ≡ largest (gaps_of x)
+    → after ≡ record set { held = entered set_number (record { key = key; fit = fit }) set.held }
+    → is_some left ≡ is_some bins → Hold left (all_gaps new) → IsListed s new after left
+IsListed-entered s cs new x key fit set after bins left l is keyed fits e same gaps = record {
+  held =
+      ap (λ (c : Carriers). c.held) e
+      ∙ ap (entered set_number (record { key = key; fit = fit })) l.held
+      ∙ ap (λ j. entered set_number (record { key = j; fit = fit }) (map held_of cs)) keyed
+      ∙ ap (λ m. entered set_number (record { key = (held_of x).key; fit = m }) (map held_of cs))
+      fits
+      ∙ entered-map set_number held_of x cs ∙ sym (ap (map held_of) is);
+  room = subst (λ (c : Carriers). 4096 ≤ c.room) (sym e) l.room;
+  some = (λ gf. same ∙ l.some.0 gf, λ h. l.some.1 (sym same ∙ h));
+  gaps = gaps;
+}
+
+-- with one carrier less
+pub IsListed-left : (s : Strategy) (cs new : List Content) (n : ℕ) (set after : Carriers)
+    (bins left : Option HeldGaps) → IsListed s cs set bins → new ≡ without_content n cs
+    → after ≡ record set { held = without set_number n set.held } → is_some left ≡ is_some bins
+    → Hold left (all_gaps new) → IsListed s new after left
+IsListed-left s cs new n set after bins left l is e same gaps = record {
+  held =
+      ap (λ (c : Carriers). c.held) e ∙ ap (without set_number n) l.held
+      ∙ without-map set_number held_of n cs ∙ sym (ap (map held_of) is);
+  room = subst (λ (c : Carriers). 4096 ≤ c.room) (sym e) l.room;
+  some = (λ gf. same ∙ l.some.0 gf, λ h. l.some.1 (sym same ∙ h));
+  gaps = gaps;
+}
+
+-- where the strategy isn't good fit there are no bins
+pub no_bins : (s : Strategy) (cs : List Content) (set : Carriers) (bins : Option HeldGaps)
+    → IsListed s cs set bins → s ≢ Gf → bins ≡ None
+no_bins s cs set None l other = refl
+no_bins s cs set (Some b) l other = absurd (other (l.some.1 refl))
+
+pub no_bins-Hold : (s : Strategy) (cs : List Content) (set : Carriers) (bins : Option HeldGaps)
+    → IsListed s cs set bins → s ≢ Gf → (gs : List BinnedGap) → Hold bins gs
+no_bins-Hold s cs set bins l other gs =
+    subst (λ o. Hold o gs) (sym (no_bins s cs set bins l other)) tt
+
+-- gaps at different addresses stay so in another order
+abbrev pub DifferIn : List BinnedGap → Type 0
+DifferIn gs = AllPairs (λ g h. g.address ≢ h.address) gs
+
+abbrev same_address : BinnedGap → BinnedGap → Bool
+same_address g h = g.address == h.address
+
+differ_false : (a b : ℕ) → a ≢ b → (a == b) ≡ false
+differ_false a b n = grind arith
+
+false_differ : (a b : ℕ) → (a == b) ≡ false → a ≢ b
+false_differ a b f = grind arith
+
+turns : (g h : BinnedGap) → same_address g h ≡ same_address h g
+turns g h = elim (cases_eq g.address h.address) [ inl e ↦ grind arith | inr n ↦ grind arith ]
+
+differ-permuted : (xs ys : List BinnedGap) → IsPermutation xs ys → DifferIn xs → DifferIn ys
+differ-permuted xs ys m differ =
+    let distinct = IsDistinct-IsPermutation same_address turns xs ys m
+    (IsDistinct-from_apart same_address xs
+    (λ i j d lt within. differ_false _ _ (differ i j d lt within))) in
+    λ i j d lt within. false_differ _ _
+    (apart_from_distinct same_address ys i j d distinct lt within)
+
+-- the first of gaps at different addresses has an address of its own
+pub first-alone : (all : List BinnedGap) (g : BinnedGap) (rest : List BinnedGap) → DifferIn all
+    → IsPermutation all (g ∷ rest) → All (λ h. h.address ≢ g.address) rest
+first-alone all g rest differ m =
+    let pairs = differ-permuted all (g ∷ rest) m differ in
+    λ i d within e. pairs 0 (suc i) d (omega arith) (omega arith) (sym e)

@@ -1,0 +1,117 @@
+use Rattle.std.proofs.Common.{◌≢◌, arith, length, map, All, ◌∙◌, ap, sym, subst}
+use Rattle.std.proofs.lemmas.List.Elements.{All-map}
+use Rattle.ea_model.specs.Content.{Content, gaps_of, largest, Tiled}
+use Rattle.ea_model.specs.Instance.{figures}
+use Rattle.ea_cset.specs.declared.keys.CarrierKey.{CarrierKey}
+use Rattle.ea_cset.specs.declared.keys.CarrierFit.{CarrierFit}
+use Rattle.ea_laws.specs.Kept.{ContentsApart, IsLaidOut}
+use Rattle.ea_laws.proofs.Apart.{other-bases}
+use Rattle.ea_laws.proofs.Contents.{absent-All}
+use Rattle.ea_employed.specs.Laid.{AreLaid}
+use Rattle.ea_employed.specs.Counted.{with_carrier}
+use Rattle.ea_employed.specs.Listed.{CarrierList, held_of}
+use Rattle.ea_employed.proofs.BinsAfter.{entered-free, entered-gaps}
+use Rattle.ea_employed.proofs.Counting.{AreBounded, figures-entered, laid-figures}
+use Rattle.ea_employed.proofs.Listed.{IsListed-entered}
+use Rattle.ea_employed.proofs.carriers.Carriers.enter.Goals as goal
+
+pub add-requires-clause-number : goal.add-requires-clause-number
+add-requires-clause-number c =
+    let x = c.args.employed in
+    let cs = c.self.inside.list.items in
+    let other : CarrierList → Type 0 =
+    λ l. All (λ (y : Content). y.number ≢ x.number) l.contents in
+    subst (All (λ (h : CarrierFit). h.key.number ≢ c.carrier_key-key.result.number))
+    (sym c.self.invariant.listed.held)
+    (subst (λ (k : CarrierKey). All (λ (h : CarrierFit). h.key.number ≢ k.number) (map held_of cs))
+    (sym c.carrier_key-key.ensures)
+    (All-map (λ (h : CarrierFit). h.key.number ≢ x.number) held_of cs
+    (subst other (sym c.self.view_is)
+    (absent-All x.number c.args.self.now.contents c.requires.number))))
+
+pub add-requires-clause-base : goal.add-requires-clause-base
+add-requires-clause-base c =
+    let x = c.args.employed in
+    let cs = c.self.inside.list.items in
+    let sound : IsLaidOut x =
+    record {
+      whole = c.requires.whole;
+      shared = c.requires.shared;
+      tiled = subst (λ (m : Content). Tiled 8 m.units m.blocks) c.employed.view_is
+          c.laid_out.ensures.tiled;
+      low = c.requires.low;
+    } in
+    let laid = subst (λ (l : CarrierList). AreLaid l.contents) (sym c.self.view_is)
+    c.requires.laid in
+    let apart = subst (λ (l : CarrierList). All (ContentsApart x) l.contents)
+    (sym c.self.view_is) c.requires.apart in
+    subst (All (λ (h : CarrierFit). h.key.base ≢ c.carrier_key-key.result.base))
+    (sym c.self.invariant.listed.held)
+    (subst (λ (k : CarrierKey). All (λ (h : CarrierFit). h.key.base ≢ k.base) (map held_of cs))
+    (sym c.carrier_key-key.ensures)
+    (All-map (λ (h : CarrierFit). h.key.base ≢ x.base) held_of cs
+    (other-bases x cs sound laid.sound apart)))
+
+pub note_entered-requires-clause-address : goal.note_entered-requires-clause-address
+note_entered-requires-clause-address c = λ some.
+    let x = c.args.employed in
+    let sound : IsLaidOut x =
+    record {
+      whole = c.requires.whole;
+      shared = c.requires.shared;
+      tiled = subst (λ (m : Content). Tiled 8 m.units m.blocks) c.employed.view_is
+          c.laid_out.ensures.tiled;
+      low = c.requires.low;
+    } in
+    let laid = subst (λ (l : CarrierList). AreLaid l.contents) (sym c.self.view_is)
+    c.requires.laid in
+    let apart = subst (λ (l : CarrierList). All (ContentsApart x) l.contents)
+    (sym c.self.view_is) c.requires.apart in
+    entered-free x sound c.requires.empty c.address-address.result c.largest-size.result
+    c.address-address.ensures (c.largest-size.ensures
+    ∙ ap (λ m. largest (gaps_of m)) c.employed.view_is) _ c.make_room.new.bins laid apart
+    (c.make_room.ensures.held _ c.self.invariant.listed.gaps) some
+
+pub invariant_of-self-2 : goal.invariant_of-self-2
+invariant_of-self-2 c =
+    let x = c.args.employed in
+    let sound : IsLaidOut x =
+    record {
+      whole = c.requires.whole;
+      shared = c.requires.shared;
+      tiled = subst (λ (m : Content). Tiled 8 m.units m.blocks) c.employed.view_is
+          c.laid_out.ensures.tiled;
+      low = c.requires.low;
+    } in
+    record {
+      listed = IsListed-entered _ _ _ x _ _ _ _ _ _ c.self.invariant.listed c.in_ok-enter.ensures.ok
+          c.carrier_key-key.ensures (c.largest-size.ensures
+          ∙ ap (λ m. largest (gaps_of m)) c.employed.view_is) c.add.ensures.added
+          (c.note_entered.ensures.some ∙ c.make_room.ensures.some)
+          (entered-gaps x sound c.requires.empty c.address-address.result c.largest-size.result
+          c.address-address.ensures (c.largest-size.ensures
+          ∙ ap (λ m. largest (gaps_of m)) c.employed.view_is) _ _ c.note_entered.new.bins
+          c.in_ok-enter.ensures.ok
+          (c.note_entered.ensures.entered _
+          (c.make_room.ensures.held _ c.self.invariant.listed.gaps)));
+      room = omega (arith, c.self.invariant.room, c.in_ok-enter.ensures.capacity);
+      counted =
+          c.with_carrier-self-inside.ensures
+          ∙ ap (with_carrier c.units-units.result) c.self.invariant.counted
+          ∙ ap (λ u. with_carrier u (figures c.self.inside.list.items))
+          (c.units-units.ensures ∙ ap (λ (m : Content). m.units) c.employed.view_is)
+          ∙ sym (ap figures c.in_ok-enter.ensures.ok
+          ∙ figures-entered x c.self.inside.list.items c.requires.empty);
+    }
+
+pub with_carrier-self-inside-requires : goal.with_carrier-self-inside-requires
+with_carrier-self-inside-requires c =
+    let laid = subst (λ (l : CarrierList). AreLaid l.contents) (sym c.self.view_is)
+    c.requires.laid in
+    let few = ap (λ (l : CarrierList). length l.contents) c.self.view_is in
+    let bounded = subst AreBounded (sym c.self.invariant.counted)
+    (laid-figures c.self.inside.list.items laid (omega (arith, few, c.requires.room))) in
+    let units = c.units-units.ensures ∙ ap (λ (m : Content). m.units) c.employed.view_is in (
+      omega (arith, bounded.carriers),
+      omega (arith, bounded.carriers_size, units, c.requires.low),
+    )

@@ -1,0 +1,130 @@
+use Rattle.std.proofs.Common.{◌∙◌, ap, sym, subst, refl}
+use Rattle.std.specs.Prelude.{false}
+use Rattle.std.specs.Option.{option_map_or}
+use Rattle.std.proofs.lemmas.Grind.{get_or-set_at}
+use Rattle.ea_model.specs.Content.{Content, is_vacant, released}
+use Rattle.ea_model.specs.Instance.{changed, content_of, figures}
+use Rattle.ea_model.proofs.Rising.{changed-found}
+use Rattle.ea_cset.specs.Carriers.{is_held}
+use Rattle.ea_laws.specs.Kept.{number_of}
+use Rattle.ea_laws.proofs.Changed.{released-keeps}
+use Rattle.ea_employed.specs.Laid.{AreLaid}
+use Rattle.ea_employed.specs.Counted.{with_block}
+use Rattle.ea_employed.specs.Listed.{CarrierList}
+use Rattle.ea_employed.proofs.BinsAfter.{can-join, join-noted, releasing-IsJoin}
+use Rattle.ea_employed.proofs.Changing.{found-at, releasing}
+use Rattle.ea_employed.proofs.Counting.{cancel-block, figures-released, within-block}
+use Rattle.ea_employed.proofs.Listed.{IsListed-changed, held-there}
+use Rattle.ea_employed.proofs.carriers.Carriers.release.Goals as goal
+
+pub address-address-requires-clause-within : goal.address-address-requires-clause-within
+address-address-requires-clause-within c =
+    (found-at _ c.args.self.now c.args.number c.args.offset _ _ c.index.result.now c.self.view_is
+    c.requires.laid c.requires.block c.deref.ensures.value c.index_of-index.ensures.within
+    c.index_of-index.ensures.item c.index.ensures).within
+
+pub update-requires : goal.update-requires
+update-requires c =
+    let w = releasing _ c.args.self.now c.args.number c.args.offset _ _ c.index.result.now c.index_mut.result.now
+    c.self.view_is c.requires.laid c.requires.block c.deref.ensures.value
+    c.index_of-index.ensures.within c.index_of-index.ensures.item c.index.ensures
+    c.index_mut.ensures.value _ _ _ c.behind-self.view_is
+    c.address-address.result c.in_ok-freed.freed c.address-address.ensures c.in_ok-freed.ensures.ok
+    c.in_ok-freed.ensures.size c.in_ok-freed.ensures.gaps c.in_ok-freed.ensures.largest
+    c.in_ok-freed.ensures.gaps_joined in
+    ap (is_held c.args.number) c.self.invariant.listed.held
+    ∙ held-there c.args.number w.content c.self.inside.list.items w.there
+
+pub note_released-requires-clause-held : goal.note_released-requires-clause-held
+note_released-requires-clause-held c =
+    let w = releasing _ c.args.self.now c.args.number c.args.offset _ _ c.index.result.now c.index_mut.result.now
+    c.self.view_is c.requires.laid c.requires.block c.deref.ensures.value
+    c.index_of-index.ensures.within c.index_of-index.ensures.item c.index.ensures
+    c.index_mut.ensures.value _ _ _ c.behind-self.view_is
+    c.address-address.result c.in_ok-freed.freed c.address-address.ensures c.in_ok-freed.ensures.ok
+    c.in_ok-freed.ensures.size c.in_ok-freed.ensures.gaps c.in_ok-freed.ensures.largest
+    c.in_ok-freed.ensures.gaps_joined in
+    let laid = subst (λ (l : CarrierList). AreLaid l.contents) (sym c.self.view_is)
+    c.requires.laid in
+    can-join _ _ _ _ _ _ (releasing-IsJoin c.args.number c.args.offset c.address-address.result c.in_ok-freed.freed _ _
+    laid w) c.make_room.new.bins
+    (c.make_room.ensures.held _ c.self.invariant.listed.gaps)
+
+pub without_block-self-inside-requires : goal.without_block-self-inside-requires
+without_block-self-inside-requires c =
+    let w = releasing _ c.args.self.now c.args.number c.args.offset _ _ c.index.result.now c.index_mut.result.now
+    c.self.view_is c.requires.laid c.requires.block c.deref.ensures.value
+    c.index_of-index.ensures.within c.index_of-index.ensures.item c.index.ensures
+    c.index_mut.ensures.value _ _ _ c.behind-self.view_is
+    c.address-address.result c.in_ok-freed.freed c.address-address.ensures c.in_ok-freed.ensures.ok
+    c.in_ok-freed.ensures.size c.in_ok-freed.ensures.gaps c.in_ok-freed.ensures.largest
+    c.in_ok-freed.ensures.gaps_joined in
+    let laid = subst (λ (l : CarrierList). AreLaid l.contents) (sym c.self.view_is)
+    c.requires.laid in
+    within-block c.in_ok-freed.freed.size _ _
+    (figures-released c.args.number w.content _ c.args.offset _ laid w.there w.block w.size
+    ∙ sym c.self.invariant.counted)
+
+pub invariant_of-self-2 : goal.invariant_of-self-2
+invariant_of-self-2 c =
+    let w = releasing _ c.args.self.now c.args.number c.args.offset _ _ c.index.result.now c.index_mut.result.now
+    c.self.view_is c.requires.laid c.requires.block c.deref.ensures.value
+    c.index_of-index.ensures.within c.index_of-index.ensures.item c.index.ensures
+    c.index_mut.ensures.value _ _ _ c.behind-self.view_is
+    c.address-address.result c.in_ok-freed.freed c.address-address.ensures c.in_ok-freed.ensures.ok
+    c.in_ok-freed.ensures.size c.in_ok-freed.ensures.gaps c.in_ok-freed.ensures.largest
+    c.in_ok-freed.ensures.gaps_joined in
+    let laid = subst (λ (l : CarrierList). AreLaid l.contents) (sym c.self.view_is)
+    c.requires.laid in
+    let join = releasing-IsJoin c.args.number c.args.offset c.address-address.result c.in_ok-freed.freed _ _ laid w in
+    record {
+      listed =
+          IsListed-changed (λ m. released m c.args.offset) (released-keeps _) c.args.number
+          w.content _ _ _ _ _ _ _ _ w.there laid.rising c.self.invariant.listed w.is w.largest
+          c.update.ensures.updated (c.note_released.ensures.some ∙ c.make_room.ensures.some)
+          (join-noted _ _ _ _ _ _ join c.make_room.new.bins
+          (c.make_room.ensures.held _ c.self.invariant.listed.gaps) c.note_released.new.bins
+          c.note_released.ensures.joined);
+      room = c.self.invariant.room;
+      counted =
+          cancel-block c.in_ok-freed.freed.size _ _
+          (c.without_block-self-inside.ensures ∙ c.self.invariant.counted
+          ∙ sym (ap (λ cs. with_block c.in_ok-freed.freed.size (figures cs)) w.is
+          ∙ figures-released c.args.number w.content _ c.args.offset _ laid w.there w.block
+          w.size));
+    }
+
+pub returns-clause-vacant : goal.returns-clause-vacant
+returns-clause-vacant c =
+    let cs = c.self.inside.list.items in
+    let w = releasing _ c.args.self.now c.args.number c.args.offset _ _ c.index.result.now c.index_mut.result.now
+    c.self.view_is c.requires.laid c.requires.block c.deref.ensures.value
+    c.index_of-index.ensures.within c.index_of-index.ensures.item c.index.ensures
+    c.index_mut.ensures.value _ _ _ c.behind-self.view_is
+    c.address-address.result c.in_ok-freed.freed c.address-address.ensures c.in_ok-freed.ensures.ok
+    c.in_ok-freed.ensures.size c.in_ok-freed.ensures.gaps c.in_ok-freed.ensures.largest
+    c.in_ok-freed.ensures.gaps_joined in
+    let f = (found-at _ c.args.self.now c.args.number c.args.offset _ _ c.index_mut.result.now c.self.view_is
+    c.requires.laid c.requires.block c.deref.ensures.value c.index_of-index.ensures.within
+    c.index_of-index.ensures.item c.index_mut.ensures.value) in
+    c.is_vacant-vacant.ensures.vacant
+    ∙ ap is_vacant (c.index-2.ensures ∙ get_or-set_at _ _ _ _ _ refl f.at.within
+    ∙ ap (λ (m : Content). record m { kind = c.behind-self.inside.kind }) c.in_ok-freed.ensures.ok
+    ∙ ap (λ m. released m c.args.offset) c.behind-self.view_is)
+    ∙ sym (ap (λ o. option_map_or is_vacant o false) (ap (λ xs. content_of xs c.args.number) w.is
+    ∙ changed-found number_of (λ m. released m c.args.offset) c.args.number (λ m. refl)
+    c.index_mut.result.now cs f.at.there))
+
+pub returns-clause-ok : goal.returns-clause-ok
+returns-clause-ok c =
+    let w = releasing _ c.args.self.now c.args.number c.args.offset _ _ c.index.result.now c.index_mut.result.now
+    c.self.view_is c.requires.laid c.requires.block c.deref.ensures.value
+    c.index_of-index.ensures.within c.index_of-index.ensures.item c.index.ensures
+    c.index_mut.ensures.value _ _ _ c.behind-self.view_is
+    c.address-address.result c.in_ok-freed.freed c.address-address.ensures c.in_ok-freed.ensures.ok
+    c.in_ok-freed.ensures.size c.in_ok-freed.ensures.gaps c.in_ok-freed.ensures.largest
+    c.in_ok-freed.ensures.gaps_joined in
+    ap (λ cs. record { strategy = c.self.inside.strategy; contents = cs }) w.is
+    ∙ ap (λ (l : CarrierList). record l {
+      contents = changed (λ m. released m c.args.offset) c.args.number l.contents;
+    }) c.self.view_is

@@ -1,0 +1,391 @@
+//! The carriers that an instance employs.
+ghost use Rattle.std.specs.Prelude.{◌≡◌, ◌≢◌, ℕ, ◌*◌, ◌+◌, ◌%◌, ◌<◌, ◌≤◌, [], All, Some, None, true, false, IsSome, IfSome, IfOk, OnOk, OnErr, length};
+ghost use Rattle.std.specs.Option.{option_and_then};
+ghost use Rattle.ea_model.specs.declared.settings.Strategy.TheVariants.{Gf, Af};
+ghost use Rattle.ea_model.specs.declared.units.TheConstants.{MAX_SCHEDULERS, MAX_UNITS, MIN_BLOCK, NUMBERS, PAGE_UNITS};
+ghost use Rattle.ea_model.specs.Content.{Content, block_at, placed, released, resized, size_of, taken_of};
+ghost use Rattle.ea_model.specs.Choice.{first};
+ghost use Rattle.ea_model.specs.Strategies.{candidates, choice_among, choice_empty, inner_of, large_enough, may_miss, or_else};
+ghost use Rattle.ea_model.specs.Instance.{changed, content_of, block_in, has_content, has_vacant, multis, size_for, with_content, without_content};
+ghost use Rattle.ea_model.specs.Instance as instances;
+ghost use Rattle.ea_mbc.specs.Gaps.{room_at};
+ghost use Rattle.ea_laws.specs.Kinds.{is_shared};
+ghost use Rattle.ea_laws.specs.Kept.{ContentsApart, IsLaidOut, IsWhole};
+ghost use Rattle.ea_employed.specs.Laid.{AreLaid};
+ghost use Rattle.ea_employed.specs.Choices.{candidate_of, IsChoice};
+ghost use Rattle.ea_employed.specs.Listed.{candidate_in};
+ghost use Rattle.ea_employed.specs.Searches.{is_better};
+
+use crate::binned::{bins_for, make_room, note_entered, note_left, note_placed, note_released};
+use crate::choice::Choice;
+use crate::employed::Employed;
+use crate::figures::{
+    no_figures, with_block, with_carrier, with_size, with_whole, without_block, without_whole,
+};
+use crate::strategies::{Search, inner_of, search_of};
+use crate::walks::{best_choice, choice_at, lowest_empty, multi_count};
+use ea_cset::CarrierSet;
+use ea_goodfit::{BinnedGap, Bins};
+use ea_model::keyed::{enter, enter_within, index_of, take_out};
+use ea_model::{Figures, Gap, HEADER_UNITS, Inner, MAX_SCHEDULERS, NUMBERS, OutOfMemory, Strategy};
+use std::alloc::Global;
+use std::marker::Model;
+
+/// The main and multiblock carriers that an instance employs, with what its strategy finds gaps by:
+/// a set of carriers, and under good fit bins of all gaps; and their figures. Contracts see the
+/// strategy, and the carriers' contents by rising number.
+#[derive(Drop)]
+pub struct Carriers {
+    strategy: Strategy,
+    list: Vec<Employed>,
+    set: CarrierSet,
+    bins: Option<Bins>,
+    figures: Figures,
+}
+
+impl Model for Carriers {
+    ghost use Rattle.std.specs.Prelude.{◌≡◌, ◌*◌, ◌≤◌, vec_capacity};
+    ghost use Rattle.ea_model.specs.declared.units.TheConstants.{MAX_SCHEDULERS, NUMBERS};
+    ghost use Rattle.ea_model.specs.Instance as instances;
+    ghost use Rattle.ea_employed.specs.Listed.{CarrierList, IsListed};
+
+    ghost Value = { CarrierList };
+
+    ghost view = { λ c. record { strategy = c.strategy; contents = c.list.items } };
+
+    ghost invariant = { λ c. record {
+      listed : IsListed c.strategy c.list.items c.set c.bins;
+      room : NUMBERS * MAX_SCHEDULERS ≤ vec_capacity c.list;
+      counted : c.figures ≡ instances.figures c.list.items;
+    } };
+}
+
+impl Carriers {
+    /// No carriers, and the memory for as many as there are numbers.
+    pub fn new(alloc: Global, strategy: Strategy) -> Result<Carriers, OutOfMemory>
+        ensures { IfOk result (λ c. c ≡ record { strategy = strategy; contents = [] }) }
+    {
+        let room = NUMBERS * MAX_SCHEDULERS;
+        let set = CarrierSet::new(alloc, room)?;
+        Ok(Carriers {
+            strategy,
+            list: Vec::with_capacity(alloc, room as usize)?,
+            set,
+            bins: bins_for(alloc, strategy),
+            figures: no_figures(),
+        })
+    }
+
+    /// The carriers, by rising number.
+    pub fn as_slice(&self) -> &[Employed]
+        ensures { result.now ≡ self.now.contents }
+    {
+        &self.list
+    }
+
+    /// Blocks and carriers, and their units.
+    pub fn figures(&self) -> Figures
+        ensures { result ≡ instances.figures self.now.contents }
+    {
+        self.figures
+    }
+
+    /// How many of them are multiblock carriers, the main one not counted.
+    pub fn multi_count(&self) -> usize
+        ensures count { result ≡ multis self.now.contents }
+        ensures within { result ≤ length self.now.contents }
+    {
+        multi_count(&self.list)
+    }
+
+    /// The gap that the strategy chooses among those of all carriers. Good fit inspects `depth`
+    /// gaps of a bin.
+    pub fn chosen(&self, need: u32, depth: u32) -> Option<Choice>
+        requires laid { AreLaid self.now.contents }
+        requires some { 1 ≤ need }
+        ensures chosen { candidate_of result ≡ or_else (may_miss self.now.strategy)
+            (choice_among self.now.strategy depth need self.now.contents)
+            (choice_empty need self.now.contents) }
+        ensures choice { IfSome result (IsChoice need self.now.contents) }
+    {
+        match search_of(self.strategy) {
+            Search::Gaps => best_choice(inner_of(self.strategy), need, &self.list),
+            Search::Address => self.choice_in(self.set.first_by_address(need), need),
+            Search::Age => self.choice_in(self.set.first_by_age(need), need),
+            Search::Bins => self.or_empty(self.inspected(need, depth), need),
+            Search::Lowest => self.or_empty(self.lowest(need), need),
+        }
+    }
+
+    /// The gap that is chosen in the carrier that was found.
+    fn choice_in(&self, found: Option<u32>, need: u32) -> Option<Choice>
+        requires laid { AreLaid self.now.contents }
+        requires some { 1 ≤ need }
+        requires there { IfSome found (λ n. IsSome (content_of self.now.contents n)) }
+        ensures chosen { candidate_of result
+            ≡ option_and_then
+            (candidate_in (inner_of self.now.strategy) need self.now.contents) found }
+        ensures choice { IfSome result (IsChoice need self.now.contents) }
+    {
+        let index = index_of(found?, &self.list);
+        self.list[index].choose(index, inner_of(self.strategy), need)
+    }
+
+    /// The gap that good fit chooses of those that it inspects.
+    fn inspected(&self, need: u32, depth: u32) -> Option<Choice>
+        requires strategy { self.now.strategy ≡ Gf }
+        requires laid { AreLaid self.now.contents }
+        ensures chosen { candidate_of result ≡ choice_among Gf depth need self.now.contents }
+        ensures choice { IfSome result (IsChoice need self.now.contents) }
+    {
+        choice_at(self.bins.as_ref()?.find(need, depth)?, &self.list)
+    }
+
+    /// The lowest gap, if it has at least `need` units.
+    fn lowest(&self, need: u32) -> Option<Choice>
+        requires laid { AreLaid self.now.contents }
+        ensures chosen { (depth : ℕ) → candidate_of result
+            ≡ choice_among Af depth need self.now.contents }
+        ensures choice { IfSome result (IsChoice need self.now.contents) }
+    {
+        let found = best_choice(Inner::Aoff, 1, &self.list)?;
+        if found.candidate.size < need {
+            return None;
+        }
+        Some(found)
+    }
+
+    /// What was found, or else the gap of a carrier that was created where nothing was.
+    fn or_empty(&self, found: Option<Choice>, need: u32) -> Option<Choice>
+        requires laid { AreLaid self.now.contents }
+        requires some { 1 ≤ need }
+        requires choice { IfSome found (IsChoice need self.now.contents) }
+        ensures chosen { candidate_of result
+            ≡ or_else true (candidate_of found) (choice_empty need self.now.contents) }
+        ensures choice { IfSome result (IsChoice need self.now.contents) }
+    {
+        if found.is_some() {
+            return found;
+        }
+        lowest_empty(need, &self.list)
+    }
+
+    /// Places a block in the chosen gap, and answers its units.
+    pub fn place(&mut self, choice: Choice, need: u32, name: u32) -> Result<u32, OutOfMemory>
+        requires laid { AreLaid self.old.contents }
+        requires few { length self.old.contents ≤ NUMBERS * MAX_SCHEDULERS }
+        requires choice { IsChoice need self.old.contents choice }
+        requires even { need % 2 ≡ 0 }
+        requires least { MIN_BLOCK ≤ need }
+        ensures size { IfOk result (λ size. size
+            ≡ size_for (content_of self.old.contents choice.candidate.number)
+            choice.candidate.offset need) }
+        ensures ok { OnOk result (self.new ≡ record self.old {
+          contents =
+              changed (λ c. placed c choice.candidate.offset need name) choice.candidate.number
+              self.old.contents;
+        }) }
+        ensures err { OnErr result (self.new ≡ self.old) }
+    {
+        let Choice { index, candidate } = choice;
+        let gap = Gap {
+            offset: candidate.offset,
+            size: candidate.size,
+        };
+        let placed = self.list[index].carrier.place(gap, need, name)?;
+        self.set.update(candidate.number, placed.largest);
+        note_placed(&mut self.bins, candidate.address, gap.size, placed.size);
+        self.figures = with_block(self.figures, placed.size);
+        Ok(placed.size)
+    }
+
+    /// Releases the block at the offset in the carrier with the number, and says whether the carrier
+    /// is to be deallocated.
+    pub fn release(&mut self, number: u32, offset: u32) -> Result<bool, OutOfMemory>
+        requires laid { AreLaid self.old.contents }
+        requires block { IsSome (block_in self.old.contents
+            (record { carrier = number; offset = offset })) }
+        ensures vacant { IfOk result (λ vacant. vacant ≡ has_vacant number self.new.contents) }
+        ensures ok { OnOk result (self.new ≡ record self.old {
+          contents =
+              changed (λ c. released c offset) number self.old.contents;
+        }) }
+        ensures err { OnErr result (self.new ≡ self.old) }
+    {
+        make_room(&mut self.bins)?;
+        let index = index_of(number, &self.list);
+        let address = self.list[index].address(offset);
+        let freed = self.list[index].carrier.release(offset)?;
+        let vacant = self.list[index].is_vacant();
+        self.set.update(number, freed.largest);
+        note_released(
+            &mut self.bins,
+            address,
+            freed.before,
+            freed.size,
+            freed.after,
+        );
+        self.figures = without_block(self.figures, freed.size);
+        Ok(vacant)
+    }
+
+    /// The block at the offset in the carrier with the number has this name from now on. Answers its
+    /// units. It takes no memory.
+    pub fn rename(&mut self, number: u32, offset: u32, name: u32) -> u32
+        requires laid { AreLaid self.old.contents }
+        requires block { IsSome (block_in self.old.contents
+            (record { carrier = number; offset = offset })) }
+        ensures size { result ≡ size_of (block_in self.old.contents
+            (record { carrier = number; offset = offset })) }
+        ensures renamed { self.new ≡ record self.old {
+          contents = changed (λ c. resized c offset (size_of (block_at c.blocks offset)) name)
+              number self.old.contents;
+        } }
+    {
+        let index = index_of(number, &self.list);
+        self.list[index].carrier.rename(offset, name)
+    }
+
+    /// The block at the offset in the carrier with the number has `need` units and this name from
+    /// now on. It gives back at least 6 units.
+    pub fn shrink(
+        &mut self,
+        number: u32,
+        offset: u32,
+        need: u32,
+        name: u32,
+    ) -> Result<(), OutOfMemory>
+        requires laid { AreLaid self.old.contents }
+        requires block { IsSome (block_in self.old.contents
+            (record { carrier = number; offset = offset })) }
+        requires fewer { need + MIN_BLOCK ≤ size_of (block_in self.old.contents
+            (record { carrier = number; offset = offset })) }
+        requires even { need % 2 ≡ 0 }
+        requires least { MIN_BLOCK ≤ need }
+        ensures ok { OnOk result (self.new ≡ record self.old {
+          contents = changed (λ c. resized c offset need name) number self.old.contents;
+        }) }
+        ensures err { OnErr result (self.new ≡ self.old) }
+    {
+        make_room(&mut self.bins)?;
+        let index = index_of(number, &self.list);
+        let address = self.list[index].address(offset);
+        let block = self.list[index].carrier.shrink(offset, need, name);
+        self.set.update(number, block.largest);
+        let rest = block.was - block.size;
+        note_released(&mut self.bins, address + block.size, 0, rest, block.after);
+        self.figures = with_size(self.figures, block.was, block.size);
+        Ok(())
+    }
+
+    /// The block at the offset in the carrier with the number takes of the gap directly after it
+    /// what it needs to have `need` units, or the whole gap where fewer than 6 units would be left
+    /// of it, and has this name from now on. Answers its units. It takes no memory.
+    pub fn grow(&mut self, number: u32, offset: u32, need: u32, name: u32) -> u32
+        requires laid { AreLaid self.old.contents }
+        requires few { length self.old.contents ≤ NUMBERS * MAX_SCHEDULERS }
+        requires block { IsSome (block_in self.old.contents
+            (record { carrier = number; offset = offset })) }
+        requires more { size_of (block_in self.old.contents
+            (record { carrier = number; offset = offset })) < need }
+        requires fits { IfSome (content_of self.old.contents number)
+            (λ c. need ≤ room_at c offset) }
+        requires even { need % 2 ≡ 0 }
+        ensures size { IfSome (content_of self.old.contents number)
+            (λ c. result ≡ taken_of (room_at c offset) need) }
+        ensures grown { self.new ≡ record self.old {
+          contents = changed (λ c. resized c offset (taken_of (room_at c offset) need) name)
+              number self.old.contents;
+        } }
+    {
+        let index = index_of(number, &self.list);
+        let address = self.list[index].address(offset);
+        let Some(block) = self.list[index].carrier.grow(offset, need, name) else {
+            unreachable!();
+        };
+        self.set.update(number, block.largest);
+        let more = block.size - block.was;
+        note_placed(&mut self.bins, address + block.was, block.after, more);
+        self.figures = with_size(self.figures, block.was, block.size);
+        block.size
+    }
+
+    /// Puts a carrier without blocks among the others, by its number.
+    pub fn enter(&mut self, employed: Employed) -> Result<(), OutOfMemory>
+        requires laid { AreLaid self.old.contents }
+        requires room { length self.old.contents < NUMBERS * MAX_SCHEDULERS }
+        requires number { has_content employed.number self.old.contents ≡ false }
+        requires apart { All (ContentsApart employed) self.old.contents }
+        requires low { PAGE_UNITS * employed.base + employed.units ≤ MAX_UNITS }
+        requires whole { IsWhole employed }
+        requires shared { is_shared employed.kind ≡ true }
+        requires empty { employed.blocks ≡ [] }
+        ensures ok { OnOk result (self.new ≡ record self.old {
+          contents =
+              with_content employed self.old.contents;
+        }) }
+        ensures err { OnErr result (self.new ≡ self.old) }
+    {
+        make_room(&mut self.bins)?;
+        let key = employed.carrier_key();
+        employed.carrier.laid_out();
+        let size = employed.carrier.largest();
+        let address = employed.address(HEADER_UNITS);
+        let units = employed.carrier.units();
+        enter(employed, &mut self.list)?;
+        self.set.add(key, size);
+        note_entered(&mut self.bins, BinnedGap { address, size });
+        self.figures = with_carrier(self.figures, units);
+        Ok(())
+    }
+
+    /// Puts a carrier with its blocks among the others, by its number. There are no bins. It takes
+    /// no memory.
+    pub fn adopt(&mut self, employed: Employed)
+        requires strategy { self.old.strategy ≢ Gf }
+        requires laid { AreLaid self.old.contents }
+        requires room { length self.old.contents < NUMBERS * MAX_SCHEDULERS }
+        requires number { has_content employed.number self.old.contents ≡ false }
+        requires apart { All (ContentsApart employed) self.old.contents }
+        requires carrier { IsLaidOut employed }
+        ensures { self.new ≡ record self.old {
+          contents =
+              with_content employed self.old.contents;
+        } }
+    {
+        let key = employed.carrier_key();
+        let fit = employed.carrier.largest();
+        let blocks = employed.carrier.len();
+        let size = employed.carrier.allocated();
+        let units = employed.carrier.units();
+        enter_within(employed, &mut self.list);
+        self.set.add(key, fit);
+        self.figures = with_whole(self.figures, blocks, size, units);
+    }
+
+    /// Takes out a carrier. Where there are bins it has no blocks. It takes no memory.
+    pub fn leave(&mut self, number: u32) -> Employed
+        requires laid { AreLaid self.old.contents }
+        requires there { IsSome (content_of self.old.contents number) }
+        requires bins { self.old.strategy ≡ Gf
+            → IfSome (content_of self.old.contents number) (λ c. c.blocks ≡ []) }
+        ensures carrier { content_of self.old.contents number ≡ Some result }
+        ensures rest { self.new ≡ record self.old {
+          contents =
+              without_content number self.old.contents;
+        } }
+    {
+        self.set.remove(number);
+        let employed = take_out(number, &mut self.list);
+        let address = employed.address(HEADER_UNITS);
+        let size = employed.carrier.largest();
+        note_left(&mut self.bins, BinnedGap { address, size });
+        self.figures = without_whole(
+            self.figures,
+            employed.carrier.len(),
+            employed.carrier.allocated(),
+            employed.carrier.units(),
+        );
+        employed
+    }
+}
