@@ -11,7 +11,7 @@ ghost use Rattle.ea_model.specs.Region.{runs};
 ghost use Rattle.ea_model.specs.Settings.{IsValid};
 ghost use Rattle.ea_model.specs.Units.{pages_for};
 ghost use Rattle.ea_model.specs.Strategies.{candidates, may_miss};
-ghost use Rattle.ea_model.specs.Instance.{carrier_line, main_content, new_instance, growth, is_alone, multis, unused_from, plan, created_content, creating, creating_single, chosen_spot, employed, single_place, place_at, releasing_at, own_of, resized_to, resizing_at, decision_at, content_of, block_in, has_content, has_vacant, own_at, segments, least_pages};
+ghost use Rattle.ea_model.specs.Instance.{carrier_line, main_content, new_instance, growth, is_alone, multis, unused_from, plan, created_content, creating, creating_single, chosen_spot, employed, single_place, place_at, releasing_at, own_of, resized_to, resizing_at, decision_at, content_of, block_in, has_content, has_vacant, is_used, own_at, segments, least_pages};
 ghost use Rattle.ea_model.specs.Instance as instances;
 ghost use Rattle.ea_instance.specs.Answers.{placing_if};
 ghost use Rattle.ea_laws.specs.InOrder.{IsInOrder};
@@ -127,9 +127,9 @@ fn free_of(figures: Figures) -> u64
 }
 
 impl Instance {
-    /// An instance before its first operation: instance `number` of `schedulers`, with the region of
-    /// `pages` pages from page `first` on. Where the settings ask for a main carrier, it is created.
-    /// It takes the memory for as many carriers as there are numbers.
+    /// An instance before its first operation: instance `number` of `schedulers`, with the region
+    /// of `pages` pages from page `first` on. Where the settings ask for a main carrier, it is
+    /// created. It takes the memory for as many carriers as there are numbers.
     pub fn new(
         alloc: Global,
         settings: Settings,
@@ -186,6 +186,13 @@ impl Instance {
         ensures { result ≡ has_content carrier (employed self.now) }
     {
         self.has_multi(carrier) || item_of(carrier, self.singles.as_slice()).is_some()
+    }
+
+    /// Whether it owns the carrier, whoever employs it.
+    pub fn owns(&self, carrier: u32) -> bool
+        ensures { result ≡ is_used carrier self.now.own }
+    {
+        self.own.has(carrier)
     }
 
     /// Whether it employs the carrier, and it is a main or multiblock carrier.
@@ -390,8 +397,8 @@ impl Instance {
         Ok(())
     }
 
-    /// Employs the singleblock carrier of its present plan with a block of `need` units, and answers
-    /// the block's place.
+    /// Employs the singleblock carrier of its present plan with a block of `need` units, and
+    /// answers the block's place.
     pub fn create_single(&mut self, plan: CarrierPlan, need: u32, name: u32) -> Place
         requires even { need % 2 ≡ 0 }
         requires least { 6 ≤ need }
@@ -412,8 +419,8 @@ impl Instance {
         }
     }
 
-    /// Releases the block at the spot, and says whether the carrier is to be deallocated: it is left
-    /// without blocks and isn't a main carrier. It stays employed until it is dismissed.
+    /// Releases the block at the spot, and says whether the carrier is to be deallocated: it is
+    /// left without blocks and isn't a main carrier. It stays employed until it is dismissed.
     pub fn release(&mut self, spot: Spot) -> Result<bool, OutOfMemory>
         requires { IsSome (block_in (employed self.old) spot) }
         ensures ok { OnOk result (self.new ≡ releasing_at self.old spot) }
@@ -434,22 +441,22 @@ impl Instance {
         Ok(true)
     }
 
-    /// Whether the carrier is to be abandoned: it isn't the main one and not empty, it is sparse, and
-    /// so are all main and multiblock carriers together, and its largest gap is large enough.
+    /// Whether the carrier is to be abandoned: it isn't the main one and not empty, it is sparse,
+    /// and so are all main and multiblock carriers together, and its largest gap is large enough.
     pub fn due(&self, number: u32) -> bool
-        requires { IsSome (content_of self.now.contents number) }
-        ensures { IfSome (content_of self.now.contents number)
+        requires { has_content number (employed self.now) ≡ true }
+        ensures { IfSome (content_of (employed self.now) number)
             (λ c. result ≡ is_due self.now.settings self.now.contents c) }
     {
         let figures = self.multi_figures();
         match item_of(number, self.carriers.as_slice()) {
             Some(multi) => is_due(self.settings, figures, multi),
-            None => unreachable!(),
+            None => false,
         }
     }
 
-    /// Resizes the block at the spot as is decided for `need` units, with this name from now on, and
-    /// answers its units. None, and nothing changed, where the decision is that it is to move.
+    /// Resizes the block at the spot as is decided for `need` units, with this name from now on,
+    /// and answers its units. None, and nothing changed, where the decision is that it is to move.
     pub fn resize(&mut self, spot: Spot, need: u32, name: u32) -> Result<Option<u32>, OutOfMemory>
         requires block { IsSome (block_in (employed self.old) spot) }
         requires even { need % 2 ≡ 0 }
@@ -501,8 +508,8 @@ impl Instance {
         }
     }
 
-    /// Carries out the decision for a block of a multiblock carrier, and answers its units unless it
-    /// is to move.
+    /// Carries out the decision for a block of a multiblock carrier, and answers its units unless
+    /// it is to move.
     fn resize_multi(
         &mut self,
         decision: Decision,
@@ -534,8 +541,8 @@ impl Instance {
         }
     }
 
-    /// Carries out the decision for the block of a singleblock carrier, and answers its units unless
-    /// it is to move.
+    /// Carries out the decision for the block of a singleblock carrier, and answers its units
+    /// unless it is to move.
     fn resize_single(&mut self, decision: Decision, spot: Spot, need: u32, name: u32) -> Option<u32>
         requires block { IsSome (block_in (employed self.old) spot) }
         requires single { has_content spot.carrier self.old.contents ≡ false }

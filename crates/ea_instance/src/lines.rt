@@ -44,8 +44,8 @@ pub fn single_line(employer: u32, carrier: &Sbc) -> CarrierLine
     }
 }
 
-/// Adds the lines of all these carriers, which the instance employs, by rising number. There is room
-/// for them.
+/// Adds the lines of all these carriers, which the instance employs, by rising number. There is
+/// room for them.
 pub fn put_merged(
     employer: u32,
     multis: &[Employed],

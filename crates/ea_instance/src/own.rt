@@ -66,6 +66,13 @@ impl OwnCarriers {
         None
     }
 
+    /// Whether the carrier with the number is one of them.
+    pub fn has(&self, number: u32) -> bool
+        ensures { result ≡ is_used number self.now.carriers }
+    {
+        item_of(number, &self.list).is_some()
+    }
+
     /// Where the lowest free run with that many pages begins.
     pub fn free_run(&self, pages: u32) -> Option<u32>
         ensures { result ≡ lowest_run pages
