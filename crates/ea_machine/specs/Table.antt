@@ -68,7 +68,7 @@ unfoldable pub answer : ℕ → Row → Shared → Answer
 answer me TakeAll s = Head (first_node (s.queues me))
 answer me TakeLink s = link_answer (s.rests me)
 answer me (Look number) s = Saw (word_of (s.places number))
-answer me (Push node to) s = Head (first_node (s.queues to))
+answer me (Push node to) s = Done
 answer me (Link node to) s = Done
 answer me (BusyTry number seen) s = tried_at seen (s.places number)
 answer me (Settle x) s = Done

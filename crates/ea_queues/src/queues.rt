@@ -104,12 +104,11 @@ impl Queues {
         passed(cell.older)
     }
 
-    /// Puts the node in front of the queue of `to`, not linked: answers the node that was newest.
-    pub fn push(&mut self, to: u32, node: Node) -> Option<Node>
+    /// Puts the node in front of the queue of `to`, not linked.
+    pub fn push(&mut self, to: u32, node: Node)
         requires scheduler { to ≤ self.old.schedulers }
         requires node { IsNode self.old.schedulers self.old.greatest node }
         requires nowhere { HasNone node self.old }
-        ensures node { result ≡ first_node (marks_of self.old.queues to) }
         ensures queues { marks_of self.new.queues
             ≡ put (marks_of self.old.queues) to (pushed node ∷ marks_of self.old.queues to) }
         ensures rests { marks_of self.new.rests ≡ marks_of self.old.rests }
@@ -124,7 +123,6 @@ impl Queues {
             },
         );
         self.heads[to as usize] = Some(node);
-        older
     }
 
     /// Links the node, which stands in the queue of `to` or in what is left of its walk.

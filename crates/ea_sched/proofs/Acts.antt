@@ -16,7 +16,6 @@ use Rattle.ea_model.specs.declared.entries.Entry.TheVariants as entry
 use Rattle.ea_model.specs.declared.reallocation.Decision.{Decision}
 use Rattle.ea_model.specs.declared.reallocation.Decision.TheVariants.{Stay, ShrinkHere, GrowHere, ShrinkCarrier, Move}
 use Rattle.ea_machine.specs.Reallocations.{resized_here, resized_place}
-use Rattle.ea_sched.specs.Deciding.{is_move}
 use Rattle.ea_instance.specs.Answers.{placing_if}
 use Rattle.ea_machine.specs.Setup.{Setup}
 use Rattle.ea_machine.specs.Nodes.{spot_named, with_name, without_name, name_of}
@@ -24,7 +23,8 @@ use Rattle.ea_machine.specs.Placements.{holding, placed_at, spot_of_place, stand
 use Rattle.ea_machine.specs.declared.asks.Ask.{Ask}
 use Rattle.ea_sound.proofs.Asked.{unnamed-spot}
 use Rattle.ea_machine.specs.declared.nodes.Named.{Named}
-use Rattle.ea_machine.specs.Actor.{Actor, Begin}
+use Rattle.ea_machine.specs.declared.stages.Stage.TheVariants.{Begin}
+use Rattle.ea_machine.specs.Actor.{Actor}
 use Rattle.ea_machine.specs.Tasks.{later, logged}
 
 pub finished : (a : Actor) (x : Entry) (todo : List Op) (log : List Entry)
@@ -82,17 +82,6 @@ unheld-let_go n name held e =
           (item_at-stays name_of n name held other ∙ none)
     ]
 
--- a decision
-pub is-Move : (d : Decision) → is_move d ≡ true → d ≡ Move
-is-Move Stay e = absurd cc
-is-Move ShrinkHere e = absurd cc
-is-Move GrowHere e = absurd cc
-is-Move (ShrinkCarrier pages) e = absurd cc
-is-Move Move e = refl
-
-pub not-Move : (d : Decision) → is_move d ≡ false → d ≢ Move
-not-Move d e same = let f : true ≡ false = sym (ap is_move same) ∙ e in absurd cc
-
 -- a block that is reallocated in its place
 module _ (a : Actor) (old : Named) (fresh need : ℕ) where
   abbrev pub kept_as : Place → Instance → List Named → Actor
@@ -109,11 +98,6 @@ module _ (a : Actor) (old : Named) (fresh need : ℕ) where
       ∙ ap (λ j. kept_as (resized_place a.instance old.spot need) j held) f
       ∙ ap (kept_as (resized_place a.instance old.spot need)
       (resizing_at a.instance old.spot need fresh)) g
-
--- the units of a block that was found
-abbrev pub size_found : Option Block → ℕ
-size_found None = 0
-size_found (Some b) = b.size
 
 -- a call that didn't fail
 pub went : {T E P : Type 0} (r : Result T E) → OnOk r P → false ≡ is_err r → P

@@ -7,6 +7,7 @@ use Rattle.ea_model.specs.declared.operations.Op.TheVariants as op
 use Rattle.ea_model.specs.declared.units.TheConstants.{NUMBERS}
 use Rattle.ea_model.specs.Trace.{IsScheduler}
 use Rattle.ea_model.proofs.Options.{if_some, some_value}
+use Rattle.ea_model.specs.Content.{Content}
 use Rattle.ea_machine.specs.declared.nodes.Named.{Named}
 use Rattle.ea_machine.specs.declared.nodes.Node.{Node}
 use Rattle.ea_machine.specs.declared.nodes.Node.TheVariants.{Block, Carrier}
@@ -14,7 +15,11 @@ use Rattle.ea_machine.specs.declared.tasks.Gone.{Gone}
 use Rattle.ea_machine.specs.declared.tasks.Task.{Task}
 use Rattle.ea_machine.specs.declared.tasks.Why.{Why}
 use Rattle.ea_machine.specs.declared.tasks.Why.TheVariants.{Walk, For}
-use Rattle.ea_machine.specs.Actor.{Actor, Begin, Giving, Linking, Pushing, Route, Routed, Stage, Taking}
+use Rattle.ea_machine.specs.declared.stages.Stage.{Stage}
+use Rattle.ea_machine.specs.declared.stages.Stage.TheVariants.{Begin, Giving, Routed, Taking}
+use Rattle.ea_machine.specs.declared.stages.Route.{Route}
+use Rattle.ea_machine.specs.declared.stages.Route.TheVariants.{Linking, Pushing}
+use Rattle.ea_machine.specs.Actor.{Actor}
 use Rattle.ea_machine.specs.Alike.{HasNoAlike, IsNode, IsSpot}
 use Rattle.ea_machine.specs.Guards.{IsUnlinkedAt}
 use Rattle.ea_machine.specs.Machine.{after_row, begins, onward, wants_at}
@@ -28,9 +33,8 @@ use Rattle.ea_machine.specs.Walks.{ready, with_passed, worked_off}
 use Rattle.ea_shared.specs.Calls.{Caller, Did}
 use Rattle.ea_names.specs.Holding.{has_place}
 use Rattle.ea_sound.proofs.Calls as calls
-use Rattle.ea_sched.specs.declared.stage.Stage.TheVariants as stage
 use Rattle.ea_sched.specs.declared.state.Scheduler.{Scheduler}
-use Rattle.ea_sched.specs.Acting.{actor_of, setup_for, stage_of}
+use Rattle.ea_sched.specs.Acting.{actor_of, setup_for}
 use Rattle.ea_sched.specs.Asking.{HasMore, IsFresh, SuitsNext}
 use Rattle.ea_sched.specs.Steps.{DidRow, IsReady}
 use Rattle.ea_sched.specs.Walking.{CanAllGo, worked}
@@ -85,7 +89,7 @@ module _ (s : Scheduler) {shared : Option Shared} {caller : Option Caller}
   number : IsScheduler s.config.schedulers me
   number = (s.number_from, s.number_to)
 
-  in_state : (stage : Stage) → a.stage ≡ stage → (h.state.actors me).stage ≡ stage
+  in_state : (stage : Stage Content) → a.stage ≡ stage → (h.state.actors me).stage ≡ stage
   in_state stage now = ap (λ (x : Actor). x.stage) h.actor ∙ now
 
   -- what holds of what is shared in that state holds of it as it is told
@@ -105,7 +109,7 @@ module _ (s : Scheduler) {shared : Option Shared} {caller : Option Caller}
       (ap (λ (x : Actor). x.next) h.actor ∙ none))
 
   -- it had no nodes
-  pub taken-suits : s.stage ≡ stage.Begin → s.next ≡ None → SuitsNext s.instance s
+  pub taken-suits : s.stage ≡ Begin → s.next ≡ None → SuitsNext s.instance s
   taken-suits begin none = suits-taken s h.config h.trace h.state h.reached h.actor begin none
 
   -- the link of the walk's next node is to be read
@@ -164,7 +168,7 @@ module _ (s : Scheduler) {shared : Option Shared} {caller : Option Caller}
     linked-suits = suits-linked s h.config h.trace h.state h.reached h.actor node to gone now
 
   -- the operation whose block is on its route is left
-  pub task-more : (route : Route) (task : Task) (gone : Gone)
+  pub task-more : (route : Route Content) (task : Task) (gone : Gone)
       → a.stage ≡ Routed route (For task) gone → HasMore s
   task-more route task gone now =
       let first = calls.task-first s.config s.trace.now h.config h.trace h.state h.reached me number
@@ -219,7 +223,7 @@ module _ (s : Scheduler) {shared : Option Shared} {caller : Option Caller}
         did
 
     -- the scheduler has gone on by the answer
-    pub row-done : {t : Scheduler} (row : Row) (got : Answer) (stage : Stage) → a.stage ≡ stage
+    pub row-done : {t : Scheduler} (row : Row) (got : Answer) (stage : Stage Content) → a.stage ≡ stage
         → wants_at a.next stage ≡ row → Did me row got shared new caller now
         → actor_of t ≡ onward e me (after_row e me a got stage)
         → DidRow s t shared new caller now
@@ -232,14 +236,14 @@ module _ (s : Scheduler) {shared : Option Shared} {caller : Option Caller}
     }
 
     -- the walk's next node isn't linked
-    pub rests-suits : (node : Node) → s.stage ≡ stage.Begin → s.next ≡ Some node
+    pub rests-suits : (node : Node) → s.stage ≡ Begin → s.next ≡ Some node
         → Did me TakeLink Rests shared new caller now → SuitsNext s.instance s
     rests-suits node begin next did =
         let u = in-answered TakeLink Rests did in
         suits-rests s h.config h.trace u.state u.reached u.actor node begin next (sym u.answered)
 
     -- it was passed
-    module _ (node : Node) (begin : s.stage ≡ stage.Begin) (next : s.next ≡ Some node)
+    module _ (node : Node) (begin : s.stage ≡ Begin) (next : s.next ≡ Some node)
         (nodes : List Node) (are : nodes ≡ node ∷ s.passed.nodes) where
       -- and is the oldest one
       module _ (did : Did me TakeLink (Passes None) shared new caller now) where
@@ -267,7 +271,7 @@ module _ (s : Scheduler) {shared : Option Shared} {caller : Option Caller}
         pub passed-ended : {t : Scheduler} → actor_of t ≡ onward e me
             (worked_off e me nodes (record a { passed = nodes; next = None }))
             → DidRow s t shared new caller now
-        passed-ended is = row-done TakeLink (Passes None) Begin (ap stage_of begin)
+        passed-ended is = row-done TakeLink (Passes None) Begin begin
             (ap begins next) did (is ∙ ap (onward e me) ended-is)
 
       -- an older one is next
@@ -276,10 +280,10 @@ module _ (s : Scheduler) {shared : Option Shared} {caller : Option Caller}
           → actor_of t ≡ record a { passed = nodes; next = Some older }
           → DidRow s t shared new caller now
       passed-next older did is = row-done TakeLink (Passes (Some older)) Begin
-          (ap stage_of begin) (ap begins next) did
+          begin (ap begins next) did
           (is
           ∙ ap (λ stage. record a { stage = stage; passed = nodes; next = Some older })
-          (ap stage_of begin)
+          begin
           ∙ ap (λ ns. record a { stage = Begin; passed = ns; next = Some older })
           (are ∙ sym (ap (λ o. with_passed o s.passed.nodes) next)))
 

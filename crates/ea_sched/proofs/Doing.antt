@@ -3,10 +3,11 @@ use Rattle.std.specs.Prelude.{◌≡◌, ◌≢◌, ◌⊎◌, ℕ, true, false,
 use Rattle.std.proofs.Common.{Bor, refl, sym, ap, ◌∙◌, subst, inl, inr}
 use Rattle.ea_model.specs.declared.settings.Config.{Config}
 use Rattle.ea_model.specs.declared.trace.Trace.{Trace}
+use Rattle.ea_model.specs.Content.{Content}
 use Rattle.ea_model.specs.Settings.{IsValidConfig}
 use Rattle.ea_model.specs.Trace.{IsValidTrace}
 use Rattle.ea_model.proofs.Options.{both_some, if_some, some_value}
-use Rattle.ea_machine.specs.Actor.{Actor, Ended}
+use Rattle.ea_machine.specs.Actor.{Actor}
 use Rattle.ea_machine.specs.Machine.{IsReached, after, after_row, onward, step, wants}
 use Rattle.ea_machine.specs.Rows.{Answer, Row}
 use Rattle.ea_machine.specs.Setup.{Setup, setup_of}
@@ -17,11 +18,11 @@ use Rattle.ea_machine.specs.Table.{answer, effect}
 use Rattle.ea_shared.specs.Calls.{Caller, Did, HasEffect, TookStep, caller_of}
 use Rattle.ea_sound.proofs.Completing.{reached-step}
 use Rattle.ea_sound.proofs.TurnLists.{step-ended, step-mine, step-shared}
-use Rattle.ea_sched.specs.declared.stage.Stage.{Stage}
-use Rattle.ea_sched.specs.declared.stage.Stage.TheVariants as code
-use Rattle.ea_sched.specs.declared.stage.Route.TheVariants as route
+use Rattle.ea_machine.specs.declared.stages.Stage.{Stage}
+use Rattle.ea_machine.specs.declared.stages.Stage.TheVariants as stages
+use Rattle.ea_machine.specs.declared.stages.Stage.TheVariants.{Ended}
 use Rattle.ea_sched.specs.declared.state.Scheduler.{Scheduler}
-use Rattle.ea_sched.specs.Acting.{actor_of, is_ended, stage_of}
+use Rattle.ea_sched.specs.Acting.{actor_of, is_ended}
 use Rattle.ea_sched.specs.Steps.{DidRow, IsReady, Ready, Stepped}
 
 -- what is told is told again
@@ -163,20 +164,20 @@ module _ (c : Config) (t : Trace) (me : ℕ) (a : Actor) where
       }
 
 -- by whether its text is done
-pub stage-goes : (stage : Stage) → is_ended stage ≡ false → stage_of stage ≢ Ended
-stage-goes (code.Routed (route.Pushing node to) why gone) goes = λ ended. absurd cc
-stage-goes (code.Routed (route.Linking node to) why gone) goes = λ ended. absurd cc
-stage-goes code.Begin goes = λ ended. absurd cc
-stage-goes (code.Giving given to) goes = λ ended. absurd cc
-stage-goes (code.Taking name tries left) goes = λ ended. absurd cc
-stage-goes code.Ended goes = absurd cc
+pub stage-goes : (stage : Stage Content) → is_ended stage ≡ false → stage ≢ Ended
+stage-goes stage goes ended = let no : true ≡ false = ap is_ended (sym ended) ∙ goes in cc
 
-pub stage-ends : (stage : Stage) → is_ended stage ≡ true → stage_of stage ≡ Ended
-stage-ends (code.Routed route why gone) ends = absurd cc
-stage-ends code.Begin ends = absurd cc
-stage-ends (code.Giving given to) ends = absurd cc
-stage-ends (code.Taking name tries left) ends = absurd cc
-stage-ends code.Ended ends = refl
+pub stage-ends : (stage : Stage Content) → is_ended stage ≡ true → stage ≡ Ended
+stage-ends (stages.Routed route why gone) ends = absurd cc
+stage-ends stages.Begin ends = absurd cc
+stage-ends (stages.Collecting number) ends = absurd cc
+stage-ends (stages.Searching ask at looked) ends = absurd cc
+stage-ends (stages.Fetching ask at looked seen) ends = absurd cc
+stage-ends (stages.Creating ask p) ends = absurd cc
+stage-ends (stages.Giving given to) ends = absurd cc
+stage-ends (stages.Taking name tries left) ends = absurd cc
+stage-ends stages.Ended ends = refl
+stage-ends stages.Ready ends = absurd cc
 
 -- a step is a row that was done, and the figures observed
 pub row-stepped : (s t : Scheduler) (b : Actor) (shared new : Option Shared)

@@ -1,14 +1,14 @@
 -- The release of a block where carriers don't migrate: by its carrier's owner, or on the way to it.
-use Rattle.std.specs.Prelude.{◌≡◌, ℕ, Bool, true, false, ◌==◌, ◌&&◌, if◌then◌else◌, Option, None, Some, IfSome, []}
+use Rattle.std.specs.Prelude.{◌≡◌, ℕ, Bool, true, false, ◌==◌, ◌&&◌, Option, None, Some, IfSome, []}
+use Rattle.std.specs.Option.{option_map_or}
 use Rattle.std.proofs.Common.{refl, sym, ap, ◌∙◌, arith}
 use Rattle.std.proofs.lemmas.Bool.{eqb-true}
 use Rattle.ea_model.specs.declared.carriers.Kind.{Kind}
 use Rattle.ea_model.specs.declared.carriers.Kind.TheVariants.{Main, Multi, Single}
-use Rattle.ea_model.specs.Content.{Content, can_go, is_nil}
-use Rattle.ea_model.specs.Instance.{Instance, clearing, content_of, employed, releasing_at}
+use Rattle.ea_model.specs.Content.{Content, can_go, is_nil, is_vacant}
+use Rattle.ea_model.specs.Employment.{dismissing, disowning}
+use Rattle.ea_model.specs.Instance.{Instance, content_of, employed, owner_of, releasing_at}
 use Rattle.ea_model.proofs.Rising.{item_at-key}
-use Rattle.ea_instance.specs.declared.released.Released.TheVariants.{Kept, EmptyOwn}
-use Rattle.ea_instance.specs.Answers.{follow_up, vacated}
 use Rattle.ea_laws.specs.Kept.{number_of}
 use Rattle.ea_machine.specs.declared.nodes.Named.{Named}
 use Rattle.ea_machine.specs.declared.tasks.Gone.{Gone}
@@ -17,12 +17,11 @@ use Rattle.ea_machine.specs.declared.tasks.Task.{Task}
 use Rattle.ea_machine.specs.declared.tasks.Task.TheVariants.{Freeing, Moving}
 use Rattle.ea_machine.specs.declared.tasks.Why.{Why}
 use Rattle.ea_machine.specs.Actor.{Actor}
-use Rattle.ea_machine.specs.Owners.{owner_of}
 use Rattle.ea_machine.specs.Releases.{Turned, abandoned_if, after_release, after_release_by, dismissed, leaving, leaving_by, lightened, owned_by, route_of, routed}
 use Rattle.ea_machine.specs.Setup.{Setup, migration}
 use Rattle.ea_machine.specs.Tasks.{carried, task_over}
 use Rattle.ea_sound.proofs.Unmoved.{due-unmoved}
-use Rattle.ea_sched.specs.Releasing.{cleared_if, freed_at, is_gone}
+use Rattle.ea_sched.specs.Releasing.{deallocated_if, freed_at}
 use Rattle.ea_sched.specs.Walking.{sent}
 
 -- what the log says doesn't depend on whether the block was there
@@ -46,7 +45,8 @@ module _ (setup : Setup) (me : ℕ) (off : migration setup ≡ false) (why : Why
       b = record a { instance = i }
 
       -- an emptied carrier is deallocated
-      leaves : comes (leaving setup me x Here (dismissed x.number b)) ≡ done (clearing i x.number)
+      leaves : comes (leaving setup me x Here (dismissed x.number b))
+          ≡ done (disowning (dismissing i x.number) x.number)
       leaves =
           let c = dismissed x.number b in
           let own : (owner_of x.number == me) ≡ true = grind (arith, mine) in
@@ -54,31 +54,29 @@ module _ (setup : Setup) (me : ℕ) (off : migration setup ≡ false) (why : Why
           ∙ ap (λ on. comes (leaving_by setup me true on x Here c)) off
 
       lightens : (empty : Bool) → comes (lightened setup me empty x Here b)
-          ≡ done (cleared_if (is_gone (if empty then EmptyOwn else Kept)) i x.number)
+          ≡ done (deallocated_if empty i x.number)
       lightens true = leaves
       lightens false = ap (λ due. comes (abandoned_if due x Here b))
           (due-unmoved setup i.contents x off)
 
       by-kind : (k : Kind) → (k ≡ Single → x.blocks ≡ [])
           → comes (after_release_by setup me k x Here b)
-          ≡ done (cleared_if
-          (is_gone (if can_go k && is_nil x.blocks then vacated k else Kept)) i x.number)
+          ≡ done (deallocated_if (can_go k && is_nil x.blocks) i x.number)
       by-kind Main emptied = refl
       by-kind Multi emptied = lightens (is_nil x.blocks)
       by-kind Single emptied = leaves
-          ∙ sym (ap (λ bs. done (cleared_if
-          (is_gone (if can_go Single && is_nil bs then vacated Single else Kept)) i x.number))
+          ∙ sym (ap (λ bs. done (deallocated_if (can_go Single && is_nil bs) i x.number))
           (emptied refl))
 
     by-content : (i : Instance) (n : ℕ) → owner_of n ≡ me → (o : Option Content)
         → content_of (employed i) n ≡ o → IfSome o (λ c. c.kind ≡ Single → c.blocks ≡ [])
         → comes (after_release setup me Open (record a { instance = i }) o)
-        ≡ done (cleared_if (is_gone (follow_up o)) i n)
+        ≡ done (deallocated_if (option_map_or is_vacant o false) i n)
     by-content i n mine None none emptied = alike (record a { instance = i })
     by-content i n mine (Some x) there emptied =
         let number = item_at-key number_of n x (employed i) there in
         by-kind i x (ap owner_of number ∙ mine) x.kind emptied
-        ∙ ap (λ m. done (cleared_if (is_gone (follow_up (Some x))) i m)) number
+        ∙ ap (λ m. done (deallocated_if (is_vacant x) i m)) number
 
     module _ (hand : Named) where
       abbrev n : ℕ

@@ -1,5 +1,7 @@
 pub mod Doing
 pub mod Acts
+pub mod StandsOff
+pub mod OwnCarriers
 pub mod Freed
 pub mod Walked
 pub mod OutcomeGiven

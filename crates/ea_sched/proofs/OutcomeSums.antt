@@ -105,12 +105,13 @@ module _ (c : Config) (t : Trace) (valid : IsValidConfig c) (made : IsValidTrace
   printed = present-contents e w rule off ∙ ap all_employed (sym stand.actors)
       ∙ flat_map-map (λ (a : Actor). employed a.instance) actor_of ss
 
+  abbrev lines_by : Actor → List CarrierLine
+  lines_by a = map (carrier_line a.instance.number) (employed a.instance)
+
   lines-printed : map line_of (present e w)
-      ≡ flat_map (λ s. map carrier_line (employed s.instance)) ss
+      ≡ flat_map (λ s. map (carrier_line s.instance.number) (employed s.instance)) ss
   lines-printed = present-lines e w rule off
-      ∙ ap (λ actors. map carrier_line (all_employed actors)) (sym stand.actors)
-      ∙ ap (map carrier_line) (flat_map-map (λ (a : Actor). employed a.instance) actor_of ss)
-      ∙ map-flat_map carrier_line (λ (s : Scheduler). employed s.instance) ss
+      ∙ ap (flat_map lines_by) (sym stand.actors) ∙ flat_map-map lines_by actor_of ss
 
   abbrev totals : Totals
   totals = (outcome e w).totals
@@ -160,7 +161,7 @@ module _ (c : Config) (t : Trace) (valid : IsValidConfig c) (made : IsValidTrace
       (sym free-printed) (ap (λ n. 8 * n) (sym carriers-printed))
 
   module _ (o : Outcome) (logs : map (λ log. log.items) o.logs.items ≡ map (λ s. s.log.items) ss)
-      (lines : o.carriers.items ≡ flat_map (λ s. map carrier_line (employed s.instance)) ss)
+      (lines : o.carriers.items ≡ flat_map (λ s. map (carrier_line s.instance.number) (employed s.instance)) ss)
       (sums : o.totals ≡ totals_by ss given) where
     logs-are : listed (map listed (map (λ log. log.items) o.logs.items))
         ≡ listed (map (λ (a : Actor). listed a.log) (actors_of e w))

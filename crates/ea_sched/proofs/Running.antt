@@ -5,10 +5,12 @@ use Rattle.std.proofs.Math.Path.{fun_ext}
 use Rattle.std.proofs.lemmas.List.{replicate-append-replicate}
 use Rattle.ea_model.specs.declared.settings.Config.{Config}
 use Rattle.ea_model.specs.declared.trace.Trace.{Trace}
-use Rattle.ea_machine.specs.Actor.{Actor, Ended}
+use Rattle.ea_machine.specs.declared.stages.Stage.TheVariants.{Ended}
+use Rattle.ea_machine.specs.Actor.{Actor}
 use Rattle.ea_machine.specs.Completion.{actor_rows, ending, work}
 use Rattle.ea_machine.specs.Machine.{after_row, is_main, onward, place_by, run_on, start, step, wants}
-use Rattle.ea_machine.specs.Owners.{CarrierAt, owner_of}
+use Rattle.ea_model.specs.Instance.{owner_of}
+use Rattle.ea_machine.specs.Owners.{CarrierAt}
 use Rattle.ea_machine.specs.Setup.{Setup, migration, setup_of}
 use Rattle.ea_machine.specs.Shared.{Shared}
 use Rattle.ea_machine.specs.State.{State}

@@ -9,7 +9,7 @@ use Rattle.ea_model.specs.declared.carriers.Spot.{Spot}
 use Rattle.ea_model.specs.declared.operations.Op.{Op}
 use Rattle.ea_model.specs.declared.operations.Op.TheVariants as op
 use Rattle.ea_model.specs.Content.{Content}
-use Rattle.ea_model.specs.Instance.{Instance, content_of, employed, releasing_at}
+use Rattle.ea_model.specs.Instance.{Instance, content_of, employed, owner_of, releasing_at}
 use Rattle.ea_model.specs.Settings.{IsValidConfig}
 use Rattle.ea_model.specs.Trace.{IsOperation, IsScheduler, IsValidTrace, greatest_in}
 use Rattle.ea_model.proofs.Rising.{item_at-key}
@@ -18,10 +18,12 @@ use Rattle.ea_machine.specs.declared.nodes.Node.{Node}
 use Rattle.ea_machine.specs.declared.nodes.Node.TheVariants.{Block, Carrier}
 use Rattle.ea_machine.specs.declared.tasks.Gone.{Gone}
 use Rattle.ea_machine.specs.declared.tasks.Why.TheVariants.{Walk}
-use Rattle.ea_machine.specs.Actor.{Actor, Begin, Linking, Route, Routed}
+use Rattle.ea_machine.specs.declared.stages.Stage.TheVariants.{Begin, Routed}
+use Rattle.ea_machine.specs.declared.stages.Route.{Route}
+use Rattle.ea_machine.specs.declared.stages.Route.TheVariants.{Linking}
+use Rattle.ea_machine.specs.Actor.{Actor}
 use Rattle.ea_machine.specs.Machine.{IsReached}
 use Rattle.ea_machine.specs.Nodes.{named_at, name_of}
-use Rattle.ea_machine.specs.Owners.{owner_of}
 use Rattle.ea_machine.specs.Releases.{Turned, route_of}
 use Rattle.ea_machine.specs.Rows.{Link, Passes, Rests, TakeAll, TakeLink}
 use Rattle.ea_machine.specs.Setup.{Setup, is_scheduler, migration}
@@ -34,11 +36,10 @@ use Rattle.ea_names.specs.Holding.{has_place}
 use Rattle.ea_sound.specs.Leaves.{InWalk}
 use Rattle.ea_sound.specs.Moments.{at}
 use Rattle.ea_sound.proofs.Asked.{first-operation}
-use Rattle.ea_sound.proofs.OffWalks.{link-walks, passed-carrier, passed-emptied, passed-here, take_all-walks, take_link-passes, take_link-rests, walk-fresh_alloc, walk-fresh_realloc, walk-held, walk-here, walk-moves, walk-on}
+use Rattle.ea_sound.proofs.OffWalks.{link-walks, passed-carrier, passed-emptied, passed-here, passed-own, take_all-walks, take_link-passes, take_link-rests, walk-fresh_alloc, walk-fresh_realloc, walk-held, walk-here, walk-moves, walk-on, walk-own}
 use Rattle.ea_sound.proofs.SoundRanges.{number-scheduler}
-use Rattle.ea_sched.specs.declared.stage.Stage.TheVariants as stage
 use Rattle.ea_sched.specs.declared.state.Scheduler.{Scheduler}
-use Rattle.ea_sched.specs.Acting.{actor_of, setup_for, stage_of}
+use Rattle.ea_sched.specs.Acting.{actor_of, setup_for}
 use Rattle.ea_sched.specs.Brought.{HavePlaces, is_placed, name_brought}
 use Rattle.ea_sched.specs.Asking.{HasName, IsFresh, IsHere, Moves, Suits, SuitsNext}
 use Rattle.ea_sched.specs.Releasing.{freed_at}
@@ -75,11 +76,12 @@ module _ (e : Setup) (v : State) (s : Shared) (me : ℕ) (is : is_scheduler e me
     can-go own = record {
       block = passed-here e v s me is off (record a { passed = Block n p ∷ ns }) walks n p ns
           refl own;
+      own = passed-own e v s me is off (record a { passed = Block n p ∷ ns }) walks n p ns refl own;
       emptied = emptied own _ refl;
     }
 
     -- it is released, and the walk goes on with the others
-    abbrev turned : Option Route → Actor
+    abbrev turned : Option (Route Content) → Actor
     turned o = carried_by Walk (λ gone b. at Begin b) turn.gone turn.actor o
 
     abbrev then : Actor
@@ -87,12 +89,12 @@ module _ (e : Setup) (v : State) (s : Shared) (me : ℕ) (is : is_scheduler e me
 
     freed : (owner_of p.carrier == me) ≡ true → Walks then
     freed own = by turn.route refl where
-      as-freed : (o : Option Route) → turn.route ≡ o → turned o ≡ at Begin then
+      as-freed : (o : Option (Route Content)) → turn.route ≡ o → turned o ≡ at Begin then
       as-freed o same = ap turned (sym same)
           ∙ released-here e me off Walk (λ gone b. at Begin b) (λ b. refl) rest hand own
           (can-go (eqb-true (owner_of p.carrier) me own)).emptied
 
-      by : (o : Option Route) → turn.route ≡ o → Walks then
+      by : (o : Option (Route Content)) → turn.route ≡ o → Walks then
       by None over = subst (InWalk e v s me) (as-freed None over)
           (walk-on e v s me is off n p ns a walks over)
       by (Some r) goes = absurd
@@ -184,6 +186,7 @@ module _ (s : Scheduler) (valid : IsValidConfig s.config)
           name = omega
               (arith, item_at-key name_of name x s.names.held held, upto, s.names_upto);
           block = walk-here e v part me is off a walks name x held;
+          own = walk-own e v part me is off a walks name x held;
         }
 
     moves : (o : Option Named) → IfSome o (Moves i s)
@@ -222,14 +225,14 @@ module _ (s : Scheduler) (valid : IsValidConfig s.config)
         (first-operation s.config s.trace.now valid made w reached me o ops
         (ap (λ (a : Actor). a.todo) here ∙ left))
 
-  begins : s.stage ≡ stage.Begin → (w.actors me).stage ≡ Begin
-  begins begin = ap (λ (a : Actor). a.stage) here ∙ ap stage_of begin
+  begins : s.stage ≡ Begin → (w.actors me).stage ≡ Begin
+  begins begin = ap (λ (a : Actor). a.stage) here ∙ begin
 
   next-is : (next : Option Node) → s.next ≡ next → (w.actors me).next ≡ next
   next-is next same = ap (λ (a : Actor). a.next) here ∙ same
 
   -- the scheduler has no walk, and took its queue
-  pub suits-taken : s.stage ≡ stage.Begin → s.next ≡ None → SuitsNext s.instance s
+  pub suits-taken : s.stage ≡ Begin → s.next ≡ None → SuitsNext s.instance s
   suits-taken begin none =
       let part = effect me TakeAll w.shared in
       suits-next w part s.instance s.passed.nodes
@@ -238,7 +241,7 @@ module _ (s : Scheduler) (valid : IsValidConfig s.config)
       (next-is None none)))
 
   -- its walk rests
-  pub suits-rests : (node : Node) → s.stage ≡ stage.Begin → s.next ≡ Some node
+  pub suits-rests : (node : Node) → s.stage ≡ Begin → s.next ≡ Some node
       → answer s.number TakeLink w.shared ≡ Rests → SuitsNext s.instance s
   suits-rests node begin next rests =
       let part = effect me TakeLink w.shared in
@@ -248,7 +251,7 @@ module _ (s : Scheduler) (valid : IsValidConfig s.config)
       (next-is (Some node) next) rests))
 
   -- its walk passed its next node
-  module _ (node : Node) (older : Option Node) (begin : s.stage ≡ stage.Begin)
+  module _ (node : Node) (older : Option Node) (begin : s.stage ≡ Begin)
       (next : s.next ≡ Some node) (passes : answer s.number TakeLink w.shared ≡ Passes older) where
     abbrev after_link : Shared
     after_link = effect me TakeLink w.shared

@@ -1,42 +1,36 @@
 -- A scheduler as an actor of the machine.
 use Rattle.std.specs.Prelude.{◌≡◌, Bool, true, false, drop}
+use Rattle.ea_model.specs.Content.{Content}
 use Rattle.ea_machine.specs.Setup.{Setup, setup_of}
-use Rattle.ea_machine.specs.Actor as actor
+use Rattle.ea_machine.specs.declared.stages.Stage.{Stage}
+use Rattle.ea_machine.specs.declared.stages.Stage.TheVariants.{Begin, Routed, Collecting, Searching, Fetching, Creating, Giving, Taking, Ended, Ready}
+use Rattle.ea_machine.specs.Actor.{Actor}
 use Rattle.ea_machine.specs.Walks.{ready}
-use Rattle.ea_sched.specs.declared.stage.Stage.{Stage}
-use Rattle.ea_sched.specs.declared.stage.Stage.TheVariants.{Begin, Routed, Giving, Taking, Ended}
-use Rattle.ea_sched.specs.declared.stage.Route.{Route}
-use Rattle.ea_sched.specs.declared.stage.Route.TheVariants.{Pushing, Linking}
 use Rattle.ea_sched.specs.declared.state.Scheduler.{Scheduler}
 
 -- the setup of the run
 abbrev pub setup_for : Scheduler → Setup
 setup_for s = setup_of s.config s.trace.now
 
-abbrev pub way_of : Route → actor.Route
-way_of (Pushing node to) = actor.Pushing node to
-way_of (Linking node to) = actor.Linking node to
-
-abbrev pub stage_of : Stage → actor.Stage
-stage_of Begin = actor.Begin
-stage_of (Routed route why gone) = actor.Routed (way_of route) why gone
-stage_of (Giving given to) = actor.Giving given to
-stage_of (Taking name tries left) = actor.Taking name tries left
-stage_of Ended = actor.Ended
-
-abbrev pub is_ended : Stage → Bool
+-- whether its text is done
+abbrev pub is_ended : Stage Content → Bool
 is_ended Begin = false
 is_ended (Routed route why gone) = false
+is_ended (Collecting number) = false
+is_ended (Searching ask at looked) = false
+is_ended (Fetching ask at looked seen) = false
+is_ended (Creating ask p) = false
 is_ended (Giving given to) = false
 is_ended (Taking name tries left) = false
 is_ended Ended = true
+is_ended Ready = false
 
-abbrev pub actor_of : Scheduler → actor.Actor
+abbrev pub actor_of : Scheduler → Actor
 actor_of s = record {
   instance = s.instance;
   held = s.names.held;
   todo = drop s.done s.text.now;
-  stage = stage_of s.stage;
+  stage = s.stage;
   passed = s.passed.nodes;
   next = s.next;
   mbcs = s.mbcs;
@@ -45,7 +39,7 @@ actor_of s = record {
 }
 
 -- the scheduler once the begin of its operation is over
-abbrev pub ready_of : Scheduler → actor.Actor
+abbrev pub ready_of : Scheduler → Actor
 ready_of s = ready (actor_of s)
 
 -- it is the same scheduler, in the same run

@@ -4,11 +4,10 @@ use Rattle.ea_model.specs.declared.operations.Op.{Op}
 use Rattle.ea_model.specs.declared.operations.Op.TheVariants.{Alloc, Free, Realloc, Give, Take, Info, Idle}
 use Rattle.ea_model.specs.declared.reallocation.Decision.TheVariants.{Move}
 use Rattle.ea_model.specs.declared.units.TheConstants.{MAX_BYTES}
-use Rattle.ea_model.specs.Instance.{Instance, block_in, decision_at, employed}
+use Rattle.ea_model.specs.Instance.{Instance, block_in, decision_at, employed, own_at, owner_of}
 use Rattle.ea_machine.specs.declared.asks.Ask.{Ask}
 use Rattle.ea_machine.specs.declared.nodes.Named.{Named}
 use Rattle.ea_machine.specs.Nodes.{named_at, spot_named}
-use Rattle.ea_machine.specs.Owners.{owner_of}
 use Rattle.ea_names.specs.Holding.{Holding, has_place}
 use Rattle.ea_sched.specs.declared.state.Scheduler.{Scheduler}
 
@@ -22,10 +21,11 @@ pub record IsFreshIn (names : Holding) (name : ℕ) : Type 0 where
   pub fresh : spot_named name names.held ≡ None
 
 -- a name up to the greatest one, whose block lies at its spot in the instance if `me` owns its
--- carrier
+-- carrier, and then the instance does
 pub record IsHereIn (i : Instance) (me greatest : ℕ) (x : Named) : Type 0 where
   pub name : x.name ≤ greatest
   pub block : owner_of x.spot.carrier ≡ me → IsSome (block_in (employed i) x.spot)
+  pub own : owner_of x.spot.carrier ≡ me → IsSome (own_at i.own x.spot.carrier)
 
 -- a name with a place that the scheduler doesn't hold
 abbrev pub IsFresh : Scheduler → ℕ → Type 0

@@ -5,6 +5,5 @@ pub mod Walking
 pub mod Acting
 pub mod Steps
 pub mod Asking
-pub mod Deciding
 pub mod Running
 pub mod Brought

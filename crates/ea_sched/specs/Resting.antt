@@ -7,7 +7,7 @@ use Rattle.ea_model.specs.declared.outcome.Outcome.{Outcome}
 use Rattle.ea_model.specs.declared.settings.Config.{Config}
 use Rattle.ea_model.specs.declared.trace.Trace.{Trace}
 use Rattle.ea_model.specs.Content.{Content, free_units, gaps_of}
-use Rattle.ea_model.specs.Instance.{employed, size_at}
+use Rattle.ea_model.specs.Instance.{employed, owner_of, size_at}
 use Rattle.ea_model.specs.Keyed.{IsBelow}
 use Rattle.ea_model.specs.Outcome.{plain_outcome}
 use Rattle.ea_machine.specs.declared.nodes.Named.{Named}
@@ -15,7 +15,6 @@ use Rattle.ea_machine.specs.Actor.{Actor}
 use Rattle.ea_machine.specs.Machine.{IsReached}
 use Rattle.ea_machine.specs.Nodes.{name_of}
 use Rattle.ea_machine.specs.Outcome as machine
-use Rattle.ea_machine.specs.Owners.{owner_of}
 use Rattle.ea_machine.specs.Setup.{setup_of}
 use Rattle.ea_machine.specs.State.{State}
 use Rattle.ea_sched.specs.declared.state.Scheduler.{Scheduler}

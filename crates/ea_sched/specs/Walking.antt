@@ -2,15 +2,16 @@
 use Rattle.std.specs.Prelude.{◌≡◌, ℕ, Bool, true, false, ◌==◌, List, [], ◌∷◌, Option, None, Some, IfSome, IsSome}
 use Rattle.ea_model.specs.declared.carriers.Kind.TheVariants.{Single}
 use Rattle.ea_model.specs.declared.carriers.Spot.{Spot}
-use Rattle.ea_model.specs.Instance.{Instance, block_in, content_of, employed, releasing_at}
+use Rattle.ea_model.specs.Instance.{Instance, block_in, content_of, employed, own_at, owner_of, releasing_at}
 use Rattle.ea_machine.specs.declared.nodes.Named.{Named}
 use Rattle.ea_machine.specs.declared.nodes.Node.{Node}
 use Rattle.ea_machine.specs.declared.nodes.Node.TheVariants.{Block, Carrier}
 use Rattle.ea_machine.specs.declared.tasks.Gone.TheVariants.{Queued}
 use Rattle.ea_machine.specs.declared.tasks.Why.{Why}
-use Rattle.ea_machine.specs.Actor.{Actor, Pushing, Routed}
+use Rattle.ea_machine.specs.declared.stages.Stage.TheVariants.{Routed}
+use Rattle.ea_machine.specs.declared.stages.Route.TheVariants.{Pushing}
+use Rattle.ea_machine.specs.Actor.{Actor}
 use Rattle.ea_machine.specs.Nodes.{block_node}
-use Rattle.ea_machine.specs.Owners.{owner_of}
 use Rattle.ea_sched.specs.Releasing.{freed_at}
 
 -- nodes, oldest first, and for how many more there is room
@@ -26,9 +27,11 @@ left_if false i spot = i
 abbrev pub left_by : ℕ → Instance → Spot → Instance
 left_by me i spot = left_if (owner_of spot.carrier == me) i spot
 
--- a block can be released: it is there, and a singleblock carrier is empty without it
+-- a block can be released: it is there, in a carrier that the instance owns, and a singleblock
+-- carrier is empty without it
 pub record CanGo (i : Instance) (spot : Spot) : Type 0 where
   pub block : IsSome (block_in (employed i) spot)
+  pub own : IsSome (own_at i.own spot.carrier)
   pub emptied : IfSome (content_of (employed (releasing_at i spot)) spot.carrier)
       (λ c. c.kind ≡ Single → c.blocks ≡ [])
 

@@ -11,22 +11,13 @@ ghost use Rattle.ea_machine.specs.Reallocations as reallocations;
 ghost use Rattle.ea_machine.specs.Statistics as statistics;
 ghost use Rattle.ea_machine.specs.Tasks as tasks;
 ghost use Rattle.ea_sched.specs.Acting.{IsSame, actor_of, ready_of, setup_for};
-ghost use Rattle.ea_sched.specs.Deciding as deciding;
 ghost use Rattle.ea_sched.specs.Asking.{HasMore, HasName, IsFresh, IsHere, Moves, Suits};
 
-use crate::releases::owner_of;
-use crate::stage::Stage;
+use crate::releases::employer_of;
 use crate::state::Scheduler;
-use ea_machine::{Ask, Named};
-use ea_model::{Decision, Entry, Op, OutOfMemory, Place, Spot, need};
+use ea_machine::{Ask, Named, Stage};
+use ea_model::{Entry, Op, OutOfMemory, Place, Spot, need};
 use std::alloc::Global;
-
-/// Whether the block is to move.
-fn is_move(decision: Decision) -> bool
-    ensures { result ≡ deciding.is_move decision }
-{
-    matches!(decision, Decision::Move)
-}
 
 impl<'t> Scheduler<'t> {
     /// Reallocates the block of a name that is held.
@@ -54,22 +45,18 @@ impl<'t> Scheduler<'t> {
             need,
             old: Some(old),
         };
-        if owner_of(old.spot.carrier) != self.number {
+        if employer_of(old.spot.carrier) != self.number {
             return self.seek(alloc, ask);
         }
-        let decision = self.instance.resize(old.spot, need, fresh)?;
-        if is_move(decision) {
+        let Some(size) = self.instance.resize(old.spot, need, fresh)? else {
             return self.seek(alloc, ask);
-        }
-        let Some(block) = self.instance.block_at(old.spot) else {
-            unreachable!()
         };
         self.names.let_go(old.name);
         self.names.hold(fresh, old.spot);
         let place = Place {
             carrier: old.spot.carrier,
             offset: old.spot.offset,
-            size: block.size,
+            size,
         };
         self.finish(Entry::ReallocHere {
             old: old.name,

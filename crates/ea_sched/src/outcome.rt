@@ -33,7 +33,7 @@ fn logs_of(alloc: Global, schedulers: List<Scheduler<'_>>) -> Result<List<List<E
 /// The lines of the carriers that the schedulers employ.
 fn lines_of(alloc: Global, schedulers: &[Scheduler<'_>]) -> Result<List<CarrierLine>, OutOfMemory>
     ensures { IfOk result (λ lines. lines.items
-        ≡ flat_map (λ s. map carrier_line (employed s.instance)) schedulers.now) }
+        ≡ flat_map (λ s. map (carrier_line s.instance.number) (employed s.instance)) schedulers.now) }
 {
     let mut lines = List::new(alloc);
     for scheduler in schedulers {
@@ -45,7 +45,7 @@ fn lines_of(alloc: Global, schedulers: &[Scheduler<'_>]) -> Result<List<CarrierL
 /// How many carriers an instance employs.
 fn carriers_in(instance: &Instance) -> u32
     ensures carriers { result ≡ length (employed instance.now) }
-    ensures few { result ≤ 2 * NUMBERS }
+    ensures few { result ≤ 2 * (NUMBERS * MAX_SCHEDULERS) }
 {
     let multi = instance.multi_figures();
     let single = instance.single_figures();
@@ -55,7 +55,7 @@ fn carriers_in(instance: &Instance) -> u32
 /// The units of the carriers that an instance employs.
 fn units_in(instance: &Instance) -> u64
     ensures units { result ≡ sum_by (λ c. c.units) (employed instance.now) }
-    ensures small { result ≤ 2 * MAX_UNITS * NUMBERS }
+    ensures small { result ≤ 2 * (MAX_UNITS * (NUMBERS * MAX_SCHEDULERS)) }
 {
     let multi = instance.multi_figures();
     let single = instance.single_figures();

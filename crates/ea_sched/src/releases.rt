@@ -1,63 +1,60 @@
 //! The release of a block, and the end of an operation.
 ghost use Rattle.std.specs.Prelude.{◌≡◌, ◌+◌, ◌<◌, ◌≤◌, ◌==◌, [], IfOk, IfSome, IsSome, OnOk, drop};
 ghost use Rattle.ea_model.specs.declared.carriers.Kind.TheVariants.{Single};
-ghost use Rattle.ea_model.specs.Instance.{block_in, content_of, employed, releasing_at};
+ghost use Rattle.ea_model.specs.Instance.{block_in, content_of, employed, own_at, owner_of, releasing_at};
 ghost use Rattle.ea_machine.specs.Nodes as nodes;
 ghost use Rattle.ea_machine.specs.Operations as operations;
-ghost use Rattle.ea_machine.specs.Owners as owners;
 ghost use Rattle.ea_machine.specs.Tasks as tasks;
 ghost use Rattle.ea_sched.specs.Acting.{IsSame, actor_of, ready_of, setup_for};
 ghost use Rattle.ea_sched.specs.Asking.{HasMore, HasName, IsHere};
 ghost use Rattle.ea_sched.specs.Releasing as releasing;
 ghost use Rattle.ea_sched.specs.Walking as walking;
 
-use crate::stage::{Route, Stage};
 use crate::state::Scheduler;
-use ea_instance::{Instance, Released};
-use ea_machine::{Gone, Named, Node, Task, Why};
-use ea_model::{Entry, NUMBERS, OutOfMemory, Spot};
+use ea_instance::Instance;
+use ea_machine::{Gone, Named, Node, Route, Stage, Task, Why};
+use ea_model::{Entry, OutOfMemory, Spot, owner_of};
 
-/// The instance that owns the carrier with that number, which is at least 1.
-pub fn owner_of(carrier: u32) -> u32
-    ensures { result ≡ owners.owner_of carrier }
+/// The instance that employs the carrier with that number, which is at least 1: where carriers don't
+/// migrate, that is its owner.
+pub fn employer_of(carrier: u32) -> u32
+    ensures { result ≡ owner_of carrier }
 {
-    carrier.saturating_sub(1) / NUMBERS + 1
-}
-
-/// Whether the carrier is to be deallocated.
-fn is_gone(next: Released) -> bool
-    ensures { result ≡ releasing.is_gone next }
-{
-    matches!(next, Released::EmptyOwn | Released::SingleGone)
+    owner_of(carrier)
 }
 
 /// Releases the block at the spot; a carrier that it leaves without blocks, other than the main
 /// one, is deallocated.
 fn free_at(instance: &mut Instance, spot: Spot) -> Result<(), OutOfMemory>
-    requires { IsSome (block_in (employed instance.old) spot) }
+    requires block { IsSome (block_in (employed instance.old) spot) }
+    requires own { IsSome (own_at instance.old.own spot.carrier) }
     ensures ok { OnOk result (instance.new ≡ releasing.freed_at instance.old spot) }
     ensures emptied { OnOk result
         (IfSome (content_of (employed (releasing_at instance.old spot)) spot.carrier)
         (λ c. c.kind ≡ Single → c.blocks ≡ [])) }
 {
-    let next = instance.release(spot)?;
-    if is_gone(next) {
-        instance.clear(spot.carrier);
+    let is_vacant = instance.release(spot)?;
+    if is_vacant {
+        instance.dismiss(spot.carrier);
+        instance.disown(spot.carrier);
     }
     Ok(())
 }
 
-/// Releases the block at the spot, if scheduler `me`, whose instance this is, owns its carrier;
+/// Releases the block at the spot, if scheduler `me`, whose instance this is, employs its carrier;
 /// else nothing changes. Answers whether it does.
 pub fn release(instance: &mut Instance, me: u32, spot: Spot) -> Result<bool, OutOfMemory>
-    requires { owners.owner_of spot.carrier ≡ me → IsSome (block_in (employed instance.old) spot) }
-    ensures own { IfOk result (λ own. own ≡ (owners.owner_of spot.carrier == me)) }
+    requires block { owner_of spot.carrier ≡ me
+        → IsSome (block_in (employed instance.old) spot) }
+    requires own { owner_of spot.carrier ≡ me
+        → IsSome (own_at instance.old.own spot.carrier) }
+    ensures own { IfOk result (λ own. own ≡ (owner_of spot.carrier == me)) }
     ensures ok { OnOk result (instance.new ≡ walking.left_by me instance.old spot) }
-    ensures emptied { OnOk result (owners.owner_of spot.carrier ≡ me
+    ensures emptied { OnOk result (owner_of spot.carrier ≡ me
         → IfSome (content_of (employed (releasing_at instance.old spot)) spot.carrier)
         (λ c. c.kind ≡ Single → c.blocks ≡ [])) }
 {
-    if owner_of(spot.carrier) != me {
+    if employer_of(spot.carrier) != me {
         return Ok(false);
     }
     free_at(instance, spot)?;
@@ -106,13 +103,13 @@ impl<'t> Scheduler<'t> {
         self.finish(entry_of(task, gone));
     }
 
-    /// The block goes to the queue of the instance that owns its carrier.
+    /// The block goes to the queue of the instance that employs its carrier.
     pub(crate) fn send(&mut self, hand: Named, why: Why)
         ensures actor { actor_of self.new ≡ walking.sent hand why (actor_of self.old) }
         ensures same { IsSame self.old self.new }
     {
         let Named { name, spot } = hand;
-        let to = owner_of(spot.carrier);
+        let to = employer_of(spot.carrier);
         self.stage = Stage::Routed {
             route: Route::Pushing {
                 node: Node::Block { name, spot },
@@ -124,7 +121,7 @@ impl<'t> Scheduler<'t> {
     }
 
     /// The name is held no longer, and its block is released: here, which ends the operation, or by
-    /// the owner of its carrier, to whose queue it goes.
+    /// the employer of its carrier, to whose queue it goes.
     pub(crate) fn hand_over(&mut self, hand: Named, task: Task) -> Result<(), OutOfMemory>
         requires more { HasMore self.old }
         requires here { IsHere self.old.instance self.old hand }

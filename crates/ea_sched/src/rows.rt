@@ -2,12 +2,11 @@
 ghost use Rattle.std.specs.Prelude.{◌≡◌, Some, None, OnOk};
 ghost use Rattle.ea_sched.specs.Acting.{IsSame, actor_of};
 ghost use Rattle.ea_sched.specs.Steps.{DidRow, IsReady};
-ghost use Rattle.ea_sched.specs.declared.stage.Stage.TheVariants as stage;
-ghost use Rattle.ea_sched.specs.declared.stage.Route.TheVariants as route;
+ghost use Rattle.ea_machine.specs.declared.stages.Stage.TheVariants as stage;
+ghost use Rattle.ea_machine.specs.declared.stages.Route.TheVariants as route;
 
-use crate::stage::{Route, Stage};
 use crate::state::Scheduler;
-use ea_machine::{Gone, Named, Node, Why};
+use ea_machine::{Gone, Named, Node, Route, Stage, Why};
 use ea_mbc::Mbc;
 use ea_model::OutOfMemory;
 use ea_shared::{Link, Shared};
@@ -73,7 +72,7 @@ impl<'t> Scheduler<'t> {
         }
     }
 
-    /// The node of a block is pushed to the queue of the instance that owns its carrier.
+    /// The node of a block is pushed to the queue of the instance that employs its carrier.
     pub(crate) fn push<S: Shared<Content = Mbc>>(
         &mut self,
         shared: &mut S,

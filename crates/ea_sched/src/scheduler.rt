@@ -8,9 +8,9 @@ ghost use Rattle.ea_sched.specs.Acting.{actor_of, is_ended, setup_for};
 
 use crate::brought::names_for;
 use crate::passed::Passed;
-use crate::stage::Stage;
 use crate::state::Scheduler;
 use ea_instance::Instance;
+use ea_machine::Stage;
 use ea_model::{Config, Entry, List, OutOfMemory, Trace};
 use ea_stats::Stats;
 use std::alloc::Global;
@@ -40,7 +40,6 @@ impl<'t> Scheduler<'t> {
         let instance = Instance::new(
             alloc,
             config.of(trace.letter),
-            config.schedulers,
             number,
             (number - 1) * pages,
             pages,

@@ -6,9 +6,9 @@ ghost use Rattle.ea_sched.specs.Brought.{HavePlaces};
 ghost use Rattle.ea_sched.specs.Built.{is_built_run};
 
 use crate::passed::Passed;
-use crate::stage::Stage;
 use ea_instance::Instance;
-use ea_machine::Node;
+use ea_machine::{Node, Stage};
+use ea_mbc::Mbc;
 use ea_model::{Config, Entry, List, Op, Trace};
 use ea_names::Names;
 use ea_stats::Stats;
@@ -27,7 +27,7 @@ pub struct Scheduler<'t> {
     pub done: usize,
     pub instance: Instance,
     pub names: Names,
-    pub stage: Stage,
+    pub stage: Stage<Mbc>,
     pub passed: Passed,
     pub next: Option<Node>,
     pub mbcs: Stats,

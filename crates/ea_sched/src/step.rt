@@ -1,13 +1,13 @@
 //! A step of a scheduler.
-ghost use Rattle.std.specs.Prelude.{◌≡◌, ◌≢◌, ◌↔◌, true, false, IfOk, OnErr, OnOk, Ok, Err};
-ghost use Rattle.ea_machine.specs.Actor as machine;
+ghost use Rattle.std.specs.Prelude.{◌≡◌, ◌≢◌, ◌↔◌, true, false, [], IfOk, OnErr, OnOk, Ok, Err};
+ghost use Rattle.ea_machine.specs.declared.stages.Stage.TheVariants as stage;
 ghost use Rattle.ea_machine.specs.Statistics as statistics;
 ghost use Rattle.ea_sched.specs.Acting.{IsSame, actor_of, is_ended};
 ghost use Rattle.ea_sched.specs.declared.step.Progress.TheVariants as progress;
 ghost use Rattle.ea_sched.specs.Steps.{DidRow, IsReady, Stepped};
 
-use crate::stage::{Route, Stage};
 use crate::state::Scheduler;
+use ea_machine::{Route, Stage};
 use ea_mbc::Mbc;
 use ea_model::OutOfMemory;
 use ea_shared::Shared;
@@ -23,8 +23,9 @@ pub enum Progress {
 }
 
 impl<'t> Scheduler<'t> {
-    /// Observes the figures of its carriers as they are.
+    /// Observes the figures of its carriers as they are, where none is in its hand.
     fn observe(&mut self)
+        requires hand { statistics.leaving_at self.old.stage ≡ [] }
         ensures actor { actor_of self.new ≡ statistics.observed (actor_of self.old) }
         ensures same { IsSame self.old self.new }
     {
@@ -47,27 +48,34 @@ impl<'t> Scheduler<'t> {
         ensures row { OnOk result (DidRow self.old self.new (S.shared shared.old)
             (S.shared shared.new) (S.caller shared.old) (S.caller shared.new)) }
     {
-        match self.stage {
+        match &self.stage {
             Stage::Begin => match self.next {
                 None => self.take_queue(alloc, shared),
                 Some(node) => self.pass(alloc, shared, node),
             },
             Stage::Routed { route, why, gone } => match route {
                 Route::Pushing { node, to } => {
+                    let (node, to, why, gone) = (*node, *to, *why, *gone);
                     self.push(shared, node, to, why, gone);
                     Ok(())
                 }
-                Route::Linking { node, to } => self.link(alloc, shared, node, to, why, gone),
+                Route::Linking { node, to } => {
+                    let (node, to, why, gone) = (*node, *to, *why, *gone);
+                    self.link(alloc, shared, node, to, why, gone)
+                }
+                _ => unreachable!(),
             },
             Stage::Giving { given, to } => {
+                let (given, to) = (*given, *to);
                 self.give(shared, given, to);
                 Ok(())
             }
             Stage::Taking { name, tries, left } => {
+                let (name, tries, left) = (*name, *tries, *left);
                 self.try_take(shared, name, tries, left);
                 Ok(())
             }
-            Stage::Ended => unreachable!(),
+            _ => unreachable!(),
         }
     }
 
@@ -91,7 +99,7 @@ impl<'t> Scheduler<'t> {
         ensures ready { OnOk result (IsReady self.new (S.shared shared.new) (S.caller shared.new)) }
         ensures goes { OnOk result (self.old.failed ≡ false × self.new.failed ≡ false) }
         ensures went { IfOk result (λ p. p ≡ progress.Went
-            → (actor_of self.old).stage ≢ machine.Ended) }
+            → (actor_of self.old).stage ≢ stage.Ended) }
         ensures ended { IfOk result (λ p. (p ≡ progress.Ended) ↔ (is_ended self.old.stage ≡ true)) }
         ensures rests { IfOk result (λ p. p ≡ progress.Ended → (self.new ≡ self.old)
             × (shared.new ≡ shared.old)) }

@@ -5,7 +5,7 @@ ghost use Rattle.ea_names.specs.declared.groups.TheConstants.{GROUP};
 ghost use Rattle.ea_sched.specs.Resting.{AreGiven};
 ghost use Rattle.ea_sched.specs.Resting as resting;
 
-use crate::releases::owner_of;
+use crate::releases::employer_of;
 use crate::state::Scheduler;
 use ea_mbc::Mbc;
 use ea_model::Spot;
@@ -18,7 +18,7 @@ fn units_at(schedulers: &[Scheduler<'_>], spot: Spot) -> u64
     ensures units { result ≡ resting.units_at schedulers.now spot }
     ensures small { result < 2 ^ 32 }
 {
-    let index = owner_of(spot.carrier) as usize - 1;
+    let index = employer_of(spot.carrier) as usize - 1;
     let Some(owner) = schedulers.get(index) else {
         return 0;
     };

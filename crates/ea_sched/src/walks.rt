@@ -8,10 +8,9 @@ ghost use Rattle.ea_sched.specs.Walking.{CanAllGo, worked};
 
 use crate::passed::Passed;
 use crate::releases::release;
-use crate::stage::Stage;
 use crate::state::Scheduler;
 use ea_instance::Instance;
-use ea_machine::{Named, Node, Why};
+use ea_machine::{Named, Node, Stage, Why};
 use ea_model::OutOfMemory;
 use std::alloc::Global;
 

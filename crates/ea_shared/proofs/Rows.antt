@@ -78,14 +78,12 @@ module _ (me : ℕ) (s : Sharing) (q r : Queueing) (given : List Named)
   unfolding answer effect
   took-link got e f g = queues-do TakeLink got e (told-same f g refl)
 
-  pub did-push : (to : ℕ) (node : Node) (head : Option Node)
-      → head ≡ first_node (marks_of q.queues to)
+  pub did-push : (to : ℕ) (node : Node)
       → marks_of r.queues ≡ put (marks_of q.queues) to (pushed node ∷ marks_of q.queues to)
       → marks_of r.rests ≡ marks_of q.rests
-      → Requeues (Push node to) (Head head)
+      → Requeues (Push node to) Done
   unfolding answer effect
-  did-push to node head e f g = queues-do (Push node to) (Head head) (ap Head e)
-      (told-same f g refl)
+  did-push to node f g = queues-do (Push node to) Done refl (told-same f g refl)
 
   pub did-link : (to : ℕ) (node : Node)
       → marks_of r.queues ≡ put (marks_of q.queues) to (link_in node (marks_of q.queues to))

@@ -87,8 +87,8 @@ impl<C: Carried + Drop> Shared for MemShared<C> {
         self.queues.take_link(me, node)
     }
 
-    fn push(&mut self, _me: u32, to: u32, node: Node) -> Option<Node> {
-        self.queues.push(to, node)
+    fn push(&mut self, _me: u32, to: u32, node: Node) {
+        self.queues.push(to, node);
     }
 
     fn link(&mut self, _me: u32, to: u32, node: Node) {

@@ -61,16 +61,15 @@ pub trait Shared {
         ensures row { Did me TakeLink (told_by result) (shared self.old) (shared self.new)
             (caller self.old) (caller self.new) };
 
-    /// Puts the node in front of the queue of instance `to`, not linked yet to the older ones:
-    /// answers the node that was newest there, None exactly where the queue was empty.
-    fn push(&mut self, me: u32, to: u32, node: Node) -> Option<Node>
+    /// Puts the node in front of the queue of instance `to`, not linked yet to the older ones.
+    fn push(&mut self, me: u32, to: u32, node: Node)
         requires scheduler { (1 ≤ me) × (me ≤ schedulers self.old) }
         requires target { (1 ≤ to) × (to ≤ schedulers self.old) }
         requires node { IsNode (schedulers self.old) (greatest self.old) node }
         requires nowhere { IfSome (shared self.old) (HasNoAlike node) }
         requires wanted { IsWanted me (Push node to) (caller self.old) }
         ensures stays { stays self.old self.new }
-        ensures row { Did me (Push node to) (Head result) (shared self.old) (shared self.new)
+        ensures row { Did me (Push node to) Done (shared self.old) (shared self.new)
             (caller self.old) (caller self.new) };
 
     /// Links the node, which was pushed to instance `to`, to the older ones: a walk passes it only

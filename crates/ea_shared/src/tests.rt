@@ -109,7 +109,7 @@ fn a_given_name_is_taken_once(rt: HostRuntime) -> Result<(), Fail> {
 #[test]
 fn a_walk_rests_until_its_next_node_is_linked(rt: HostRuntime) -> Result<(), Fail> {
     let mut shared = start(rt.alloc())?;
-    assert_eq!(rt; shared.push(1, 2, OLDER), None);
+    shared.push(1, 2, OLDER);
     assert_eq!(rt; shared.take_all(2), Some(OLDER));
     assert_eq!(rt; shared.take_link(2, OLDER), Link::Rest);
     shared.link(1, 2, OLDER);
@@ -122,9 +122,9 @@ fn a_walk_rests_until_its_next_node_is_linked(rt: HostRuntime) -> Result<(), Fai
 fn a_walk_passes_the_newest_node_first(rt: HostRuntime) -> Result<(), Fail> {
     let mut shared = start(rt.alloc())?;
     assert_eq!(rt; shared.take_all(1), None);
-    assert_eq!(rt; shared.push(2, 1, OLDER), None);
+    shared.push(2, 1, OLDER);
     shared.link(2, 1, OLDER);
-    assert_eq!(rt; shared.push(2, 1, NEWER), Some(OLDER));
+    shared.push(2, 1, NEWER);
     shared.link(2, 1, NEWER);
     assert_eq!(rt; shared.take_all(1), Some(NEWER));
     assert_eq!(rt; shared.take_link(1, NEWER), Link::Next { node: OLDER });

@@ -143,6 +143,7 @@ pub mod TraceNames
 pub mod Calls
 pub mod CarrierCalls
 pub mod OffWalks
+pub mod OffStages
 pub mod Paths
 pub mod PresentCarriers
 pub mod PresentLive

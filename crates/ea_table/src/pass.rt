@@ -82,15 +82,14 @@ impl Pass {
         }
     }
 
-    pub(crate) fn push(&mut self, board: &Board<'_>, me: u32, to: u32, node: Node) -> Option<Node>
+    pub(crate) fn push(&mut self, board: &Board<'_>, me: u32, to: u32, node: Node)
         requires seated { IsSeatedAt board.now self.old }
         requires scheduler { IsScheduler board.now.schedulers me }
         requires target { IsScheduler board.now.schedulers to }
         requires node { IsNode board.now.schedulers board.now.greatest node }
         requires wanted { WantsRow me (Push node to) (caller_in self.old.seat.me.0) }
         ensures seated { self.new.seat.table_id ≡ self.old.seat.table_id }
-        ensures row { DidRow me (Push node to) (Head result) self.old.seat.me.0
-            self.new.seat.me.0 }
+        ensures row { DidRow me (Push node to) Done self.old.seat.me.0 self.new.seat.me.0 }
     {
         let new = encode_node(node);
         let found = board
@@ -98,7 +97,6 @@ impl Pass {
             .shared
             .swap::<Steps>(&mut self.seat, head_place(to), new);
         self.older = if found == NO_NODE { OLDEST } else { found };
-        decode_node(found)
     }
 
     pub(crate) fn link(&mut self, board: &Board<'_>, me: u32, to: u32, node: Node)

@@ -71,8 +71,8 @@ impl<'a, 't> Shared for TableShared<'a, 't> {
         self.pass.take_link(self.board, me, node)
     }
 
-    fn push(&mut self, me: u32, to: u32, node: Node) -> Option<Node> {
-        self.pass.push(self.board, me, to, node)
+    fn push(&mut self, me: u32, to: u32, node: Node) {
+        self.pass.push(self.board, me, to, node);
     }
 
     fn link(&mut self, me: u32, to: u32, node: Node) {

@@ -42,5 +42,5 @@ returns g c = λ w stand.
     })
     c.in_ok-logs_of.ensures
     (c.in_ok-lines_of.ensures
-    ∙ ap (flat_map (λ s. map carrier_line (employed s.instance))) c.as_slice.ensures)
+    ∙ ap (flat_map (λ s. map (carrier_line s.instance.number) (employed s.instance))) c.as_slice.ensures)
     (c.totals_of.ensures ∙ ap (λ l. totals_by l shared) c.as_slice-2.ensures)

@@ -1,6 +1,5 @@
 use Rattle.ea_queues.proofs.AlikeNodes.{none-standing}
-use Rattle.ea_queues.proofs.QueueMoves.{becomes-laid, becomes-queues, becomes-rests, newest}
-use Rattle.ea_queues.proofs.QueueMoves.{put-first}
+use Rattle.ea_queues.proofs.QueueMoves.{becomes-laid, becomes-queues, becomes-rests, put-first}
 use Rattle.ea_queues.proofs.queues.Queues.push.Goals as goal
 
 pub invariant_of-self : goal.invariant_of-self
@@ -9,10 +8,6 @@ invariant_of-self c = becomes-laid _ _ _ _ _ _ _
     c.put.ensures.names c.put.ensures.carriers c.requires.node c.requires.scheduler
     (none-standing c.args.node c.args.self.now c.requires.nowhere)
     c.index-older.ensures)
-
-pub returns-clause-node : goal.returns-clause-node
-returns-clause-node c = newest _ _ _ _ _ c.self.view_is c.self.invariant _ _
-    c.requires.scheduler c.index-older.ensures
 
 pub returns-clause-queues : goal.returns-clause-queues
 returns-clause-queues c = becomes-queues _ _ _ _ _ _ _

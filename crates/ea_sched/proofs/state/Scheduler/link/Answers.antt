@@ -1,53 +1,53 @@
 use Rattle.std.proofs.Common.{refl, ap, ◌∙◌, arith}
 use Rattle.std.proofs.lemmas.Result.{on_ok_weaker}
 use Rattle.ea_machine.specs.declared.tasks.Why.TheVariants.{For, Walk}
-use Rattle.ea_machine.specs.Actor.{Linking, Routed}
+use Rattle.ea_machine.specs.declared.stages.Stage.TheVariants.{Routed}
+use Rattle.ea_machine.specs.declared.stages.Route.TheVariants.{Linking}
 use Rattle.ea_machine.specs.Rows.{Done, Link}
-use Rattle.ea_sched.specs.Acting.{stage_of}
 use Rattle.ea_sched.proofs.Calling.{as-node, link-node, link-target, link-unlinked, linked-can, linked-suits, row-done, task-more}
 use Rattle.ea_sched.proofs.state.Scheduler.link.Goals as goal
 
 pub link-requires-clause-target : goal.link-requires-clause-target
 link-requires-clause-target g c =
     let target = link-target c.args.self.now c.requires.ready c.args.node c.args.to c.args.why
-    c.args.gone (ap stage_of c.requires.stage) in
+    c.args.gone c.requires.stage in
     omega (arith, target, c.requires.schedulers)
 
 pub link-requires-clause-node : goal.link-requires-clause-node
 link-requires-clause-node g c = as-node c.args.node c.requires.schedulers c.requires.greatest
     (link-node c.args.self.now c.requires.ready c.args.node c.args.to c.args.why c.args.gone
-    (ap stage_of c.requires.stage))
+    c.requires.stage)
 
 pub link-requires-clause-unlinked : goal.link-requires-clause-unlinked
 link-requires-clause-unlinked g c = link-unlinked c.args.self.now c.requires.ready c.args.node
-    c.args.to c.args.why c.args.gone (ap stage_of c.requires.stage)
+    c.args.to c.args.why c.args.gone c.requires.stage
 
 pub end_walk-requires-clause-passed : goal.end_walk-requires-clause-passed
 end_walk-requires-clause-passed g c =
     let s = c.args.self.now in
     linked-can s c.requires.ready c.args.node c.args.to c.args.gone
-    (ap stage_of c.requires.stage
+    (c.requires.stage
     ∙ ap (λ why. Routed (Linking c.args.node c.args.to) why c.args.gone) c.in-Walk.is)
 
 pub end_walk-requires-clause-next : goal.end_walk-requires-clause-next
 end_walk-requires-clause-next g c =
     let s = c.args.self.now in
     linked-suits s c.requires.ready c.args.node c.args.to c.args.gone
-    (ap stage_of c.requires.stage
+    (c.requires.stage
     ∙ ap (λ why. Routed (Linking c.args.node c.args.to) why c.args.gone) c.in-Walk.is)
 
 pub finish_task-requires : goal.finish_task-requires
 finish_task-requires g c =
     let s = c.args.self.now in
     task-more s c.requires.ready (Linking c.args.node c.args.to) c.in-For.task c.args.gone
-    (ap stage_of c.requires.stage
+    (c.requires.stage
     ∙ ap (λ why. Routed (Linking c.args.node c.args.to) why c.args.gone) c.in-For.is)
 
 pub returns-in-Walk-clause-row : goal.returns-in-Walk-clause-row
 returns-in-Walk-clause-row g c = on_ok_weaker c.end_walk.result
     (row-done c.args.self.now c.requires.ready (Link c.args.node c.args.to) Done
     (Routed (Linking c.args.node c.args.to) Walk c.args.gone)
-    (ap stage_of c.requires.stage
+    (c.requires.stage
     ∙ ap (λ why. Routed (Linking c.args.node c.args.to) why c.args.gone) c.in-Walk.is)
     refl c.link.ensures.row)
     c.end_walk.ensures.actor
@@ -56,6 +56,6 @@ pub returns-in-For-clause-row : goal.returns-in-For-clause-row
 returns-in-For-clause-row g c = row-done c.args.self.now c.requires.ready
     (Link c.args.node c.args.to) Done
     (Routed (Linking c.args.node c.args.to) (For c.in-For.task) c.args.gone)
-    (ap stage_of c.requires.stage
+    (c.requires.stage
     ∙ ap (λ why. Routed (Linking c.args.node c.args.to) why c.args.gone) c.in-For.is)
     refl c.link.ensures.row c.finish_task.ensures.actor

@@ -1,9 +1,9 @@
 use Rattle.std.proofs.Common.{◌∷◌, ap, refl, ◌∙◌}
 use Rattle.std.proofs.lemmas.Result.{on_ok_weaker}
-use Rattle.ea_machine.specs.Actor.{Begin}
+use Rattle.ea_machine.specs.declared.stages.Stage.TheVariants.{Begin}
 use Rattle.ea_machine.specs.Machine.{begins, onward}
 use Rattle.ea_machine.specs.Rows.{Rests, TakeLink}
-use Rattle.ea_sched.specs.Acting.{ready_of, setup_for, stage_of}
+use Rattle.ea_sched.specs.Acting.{ready_of, setup_for}
 use Rattle.ea_sched.proofs.Calling.{as-node, pass-next, pass-node, passed-can, passed-ended, passed-next, passed-suits, rests-suits, row-done}
 use Rattle.ea_sched.proofs.state.Scheduler.pass.Goals as goal
 
@@ -37,7 +37,7 @@ pub returns-in-Rest-clause-row : goal.returns-in-Rest-clause-row
 returns-in-Rest-clause-row g c =
     let s = c.args.self.now in
     on_ok_weaker c.go_on.result
-    (λ is. row-done s c.requires.ready TakeLink Rests Begin (ap stage_of c.requires.stage)
+    (λ is. row-done s c.requires.ready TakeLink Rests Begin c.requires.stage
     (ap begins c.requires.next) c.in-Rest.ensures.row
     (is ∙ ap (λ nodes. onward (setup_for s) s.number (record (ready_of s) { passed = nodes }))
     c.reserve.ensures.nodes))

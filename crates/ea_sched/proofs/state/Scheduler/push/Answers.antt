@@ -1,26 +1,26 @@
 use Rattle.std.proofs.Common.{refl, ap, arith}
-use Rattle.ea_machine.specs.Actor.{Pushing, Routed}
-use Rattle.ea_machine.specs.Rows.{Head, Push}
-use Rattle.ea_sched.specs.Acting.{stage_of}
+use Rattle.ea_machine.specs.declared.stages.Stage.TheVariants.{Routed}
+use Rattle.ea_machine.specs.declared.stages.Route.TheVariants.{Pushing}
+use Rattle.ea_machine.specs.Rows.{Done, Push}
 use Rattle.ea_sched.proofs.Calling.{as-node, push-node, push-nowhere, push-target, row-done}
 use Rattle.ea_sched.proofs.state.Scheduler.push.Goals as goal
 
 pub push-requires-clause-target : goal.push-requires-clause-target
 push-requires-clause-target g c =
     let target = push-target c.args.self.now c.requires.ready c.args.node c.args.to c.args.why
-    c.args.gone (ap stage_of c.requires.stage) in
+    c.args.gone c.requires.stage in
     omega (arith, target, c.requires.schedulers)
 
 pub push-requires-clause-node : goal.push-requires-clause-node
 push-requires-clause-node g c = as-node c.args.node c.requires.schedulers c.requires.greatest
     (push-node c.args.self.now c.requires.ready c.args.node c.args.to c.args.why c.args.gone
-    (ap stage_of c.requires.stage))
+    c.requires.stage)
 
 pub push-requires-clause-nowhere : goal.push-requires-clause-nowhere
 push-requires-clause-nowhere g c = push-nowhere c.args.self.now c.requires.ready c.args.node
-    c.args.to c.args.why c.args.gone (ap stage_of c.requires.stage)
+    c.args.to c.args.why c.args.gone c.requires.stage
 
 pub returns-clause-row : goal.returns-clause-row
 returns-clause-row g c = row-done c.args.self.now c.requires.ready (Push c.args.node c.args.to)
-    (Head c.push.result) (Routed (Pushing c.args.node c.args.to) c.args.why c.args.gone)
-    (ap stage_of c.requires.stage) refl c.push.ensures.row refl
+    Done (Routed (Pushing c.args.node c.args.to) c.args.why c.args.gone)
+    c.requires.stage refl c.push.ensures.row refl

@@ -1,10 +1,13 @@
-use Rattle.std.proofs.Common.{sym, ap, ◌∙◌}
-use Rattle.ea_model.specs.Instance.{chosen_spot}
+use Rattle.std.proofs.Common.{refl, sym, ap, subst, ◌∙◌}
+use Rattle.std.specs.Prelude.{IfSome, IsSome}
+use Rattle.ea_model.specs.Instance.{Instance, chosen_spot, employed, own_at}
+use Rattle.ea_laws.specs.Spots.{IsPlaced}
 use Rattle.ea_machine.specs.Placements.{new_carrier}
 use Rattle.ea_sched.specs.Acting.{ready_of, setup_for}
 use Rattle.ea_sched.proofs.Acts.{chosen-place, made-as, stood-placed, unplaced}
 use Rattle.ea_sound.proofs.Paths.{seek-chosen, seek-new}
 use Rattle.ea_sched.proofs.Texts.{off-built}
+use Rattle.ea_sched.proofs.OwnCarriers.{asked-again, placed-block, placing-own}
 use Rattle.ea_sched.proofs.state.Scheduler.seek.Goals as goal
 
 pub returns-in-Some-clause-actor : goal.returns-in-Some-clause-actor
@@ -31,3 +34,18 @@ returns-in-None-clause-actor c =
     (ap (λ i. new_carrier (setup_for s) s.number ask 0 (record (ready_of s) { instance = i })) same
     ∙ sym (seek-new (setup_for s) s.number (ready_of s) ask
     (off-built s.config s.trace.now s.built) (sym c.is_alone.ensures ∙ c.if-is_alone.false) none))
+
+pub stand-requires-clause-asked : goal.stand-requires-clause-asked
+stand-requires-clause-asked c =
+    let s = c.args.self.now in
+    let ask = c.args.ask in
+    let new = c.try_alloc.new.self in
+    let placed = subst
+    (λ o. IfSome o (λ place. IsPlaced (employed s.instance) (employed new) ask.name place))
+    c.in-Some.is c.in_ok-place.ensures.blocks in
+    asked-again s _ refl refl s.instance new
+    (placed-block (employed s.instance) (employed new) ask.name c.in-Some.place placed)
+    (λ n is. subst (λ os. IsSome (own_at os n))
+    (sym (ap (λ (i : Instance). i.own) c.in_ok-place.ensures.ok
+    ∙ placing-own s.instance (chosen_spot s.instance ask.need) ask.need ask.name)) is)
+    ask c.requires.asked

@@ -1,10 +1,10 @@
 use Rattle.std.proofs.Common.{ap}
 use Rattle.std.specs.Prelude.{None, Some}
 use Rattle.std.proofs.lemmas.Result.{on_ok_weaker}
-use Rattle.ea_machine.specs.Actor.{Begin}
+use Rattle.ea_machine.specs.declared.stages.Stage.TheVariants.{Begin}
 use Rattle.ea_machine.specs.Machine.{begins}
 use Rattle.ea_machine.specs.Rows.{Head, TakeAll}
-use Rattle.ea_sched.specs.Acting.{actor_of, stage_of}
+use Rattle.ea_sched.specs.Acting.{actor_of}
 use Rattle.ea_sched.proofs.Calling.{row-done, take-walked, taken-suits}
 use Rattle.ea_sched.proofs.state.Scheduler.take_queue.Goals as goal
 
@@ -19,13 +19,13 @@ go_on-requires g c = record {
 pub returns-in-None-clause-row : goal.returns-in-None-clause-row
 returns-in-None-clause-row g c = on_ok_weaker c.go_on.result
     (row-done c.args.self.now c.requires.ready TakeAll (Head None) Begin
-    (ap stage_of c.requires.stage) (ap begins c.requires.next) c.in-None.ensures.row)
+    c.requires.stage (ap begins c.requires.next) c.in-None.ensures.row)
     c.go_on.ensures.actor
 
 pub returns-in-Some-clause-row : goal.returns-in-Some-clause-row
 returns-in-Some-clause-row g c =
     let s = c.args.self.now in
     row-done s c.requires.ready TakeAll (Head (Some c.in-Some.newest)) Begin
-    (ap stage_of c.requires.stage) (ap begins c.requires.next) c.in-Some.ensures.row
+    c.requires.stage (ap begins c.requires.next) c.in-Some.ensures.row
     (ap (λ stage. record (actor_of s) { stage = stage; next = Some c.in-Some.newest })
-    (ap stage_of c.requires.stage))
+    c.requires.stage)

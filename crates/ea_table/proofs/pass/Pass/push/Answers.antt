@@ -1,11 +1,10 @@
 use Rattle.std.proofs.Common.{refl, arith}
 use mathlib.Core.Option.{none}
 use Rattle.atomic_table.specs.Table.{step}
-use Rattle.ea_machine.specs.Nodes.{first_node}
-use Rattle.ea_machine.specs.Rows.{Push}
+use Rattle.ea_machine.specs.Rows.{Done, Push}
 use Rattle.ea_machine.specs.Table.{answer}
 use Rattle.ea_table.proofs.Seating.{pushes}
-use Rattle.ea_table.proofs.Told.{head-row, reads-row, s}
+use Rattle.ea_table.proofs.Told.{did}
 use Rattle.ea_table.proofs.Worded.{codable}
 use Rattle.ea_table.proofs.pass.Pass.push.Goals as goal
 
@@ -33,9 +32,5 @@ unfolding answer
 returns-clause-row c =
     let v = c.args.self.now.seat.me.0 in
     let u = c.swap-found.new.seat.me.0 in
-    let row = Push c.args.node c.args.to in
-    let took = c.swap-found.ensures.2.0 in
-    let reads = reads-row v u c.args.me c.swap-found.result row took c.requires.wanted in
-    head-row v u c.args.me c.swap-found.result row took c.requires.wanted
-    (first_node ((s v u c.args.me c.swap-found.result row took c.requires.wanted).queues c.args.to))
-    c.decode_node.result refl reads (c.decode_node.ensures.coded, c.decode_node.ensures.only)
+    did v u c.args.me c.swap-found.result (Push c.args.node c.args.to) c.swap-found.ensures.2.0
+    c.requires.wanted Done refl
