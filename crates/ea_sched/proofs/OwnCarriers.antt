@@ -1,17 +1,14 @@
--- What an instance owns it still owns where a block is placed or a carrier created; and it employs
--- no carrier that it has dismissed.
+-- What an instance owns it still owns where a block is placed or a carrier created.
 use Rattle.std.proofs.Common.{◌≡◌, ◌≢◌, ℕ, true, false, List, ◌≤◌, refl, sym, ap, ◌∙◌, subst}
-use Rattle.std.specs.Prelude.{All, Ok, Option, None, Some, IfSome, IsSome}
+use Rattle.std.specs.Prelude.{Ok, Option, None, Some, IfSome, IsSome}
 use Rattle.std.specs.Option.{option_and_then}
 use Rattle.ea_model.specs.declared.carriers.CarrierPlan.{CarrierPlan}
 use Rattle.ea_model.specs.declared.carriers.Place.{Place}
 use Rattle.ea_model.specs.declared.carriers.Spot.{Spot}
 use Rattle.ea_model.specs.Content.{Content, block_at}
-use Rattle.ea_model.specs.Employment.{dismissing}
 use Rattle.ea_model.specs.Instance.{Instance, block_in, content_of, employed, own_at, plan, planned_own, with_own}
-use Rattle.ea_model.proofs.Merged.{merged-All}
-use Rattle.ea_model.proofs.Rising.{item_at-All, item_at-gone, item_at-key, item_at-old, none-other}
-use Rattle.ea_laws.specs.Kept.{number_of, own_number}
+use Rattle.ea_model.proofs.Rising.{item_at-old}
+use Rattle.ea_laws.specs.Kept.{own_number}
 use Rattle.ea_laws.specs.Spots.{IsPlaced}
 use Rattle.ea_machine.specs.declared.asks.Ask.{Ask}
 use Rattle.ea_machine.specs.declared.nodes.Named.{Named}
@@ -19,20 +16,6 @@ use Rattle.ea_sound.proofs.Plans.{planned-unused}
 use Rattle.ea_instance.specs.Answers.{placing_if}
 use Rattle.ea_sched.specs.declared.state.Scheduler.{Scheduler}
 use Rattle.ea_sched.specs.Asking.{IsAsked, IsFreshIn, IsHere}
-
-others_none : (n : ℕ) (cs : List Content) → All (λ c. c.number ≢ n) cs → content_of cs n ≡ None
-others_none n cs all = by (content_of cs n) refl where
-  by : (o : Option Content) → content_of cs n ≡ o → o ≡ None
-  by None q = refl
-  by (Some x) q = absurd (item_at-All number_of (λ c. c.number ≢ n) n x cs all q
-      (item_at-key number_of n x cs q))
-
--- a carrier that was dismissed
-pub dismissed-none : (i : Instance) (n : ℕ) → content_of (employed (dismissing i n)) n ≡ None
-dismissed-none i n = others_none n (employed (dismissing i n))
-    (merged-All number_of (λ c. c.number ≢ n) _ _
-    (none-other number_of n _ (item_at-gone number_of n i.contents))
-    (none-other number_of n _ (item_at-gone number_of n i.singles)))
 
 -- a block is placed
 pub placing-own : (i : Instance) (o : Option Spot) (need name : ℕ)

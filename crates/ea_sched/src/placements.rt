@@ -89,11 +89,13 @@ impl<'t> Scheduler<'t> {
         }
     }
 
-    /// Places the block in a carrier that is created for it; if none can be, the operation fails.
+    /// Places the block in a carrier that is created for it, of its own if it is alone; if none can
+    /// be, the operation fails.
     /// A count of carriers that has no greater number counts as want of memory.
-    fn seek_new(&mut self, alloc: Global, ask: Ask) -> Result<(), OutOfMemory>
+    fn seek_new(&mut self, alloc: Global, ask: Ask, alone: bool) -> Result<(), OutOfMemory>
         requires more { HasMore self.old }
         requires asked { IsAsked self.old.instance self.old ask }
+        requires alone { alone ≡ instances.is_alone self.old.instance ask.need }
         ensures actor { OnOk result (actor_of self.new ≡ placements.new_carrier
             (setup_for self.old) self.old.number ask 0 (ready_of self.old)) }
         ensures same { IsSame self.old self.new }
@@ -101,7 +103,7 @@ impl<'t> Scheduler<'t> {
         if self.instance.created() == u32::MAX {
             return Err(OutOfMemory);
         }
-        match self.instance.plan_carrier(ask.need) {
+        match self.instance.plan_carrier(ask.need, alone) {
             Ok(plan) => self.create(alloc, ask, plan),
             Err(why) => {
                 self.finish(failed(ask, why));
@@ -120,11 +122,11 @@ impl<'t> Scheduler<'t> {
         ensures same { IsSame self.old self.new }
     {
         if self.instance.is_alone(ask.need) {
-            return self.seek_new(alloc, ask);
+            return self.seek_new(alloc, ask, true);
         }
         match self.instance.try_alloc(ask.need, ask.name)? {
             Some(place) => self.stand(ask, place),
-            None => self.seek_new(alloc, ask),
+            None => self.seek_new(alloc, ask, false),
         }
     }
 }

@@ -17,7 +17,7 @@ overflow_add-units c = omega (
   sum_by-drop_more free c.args.schedulers.now c.loop-scheduler.scheduler-index
       c.scheduler-item.result c.loop-scheduler-test.true,
   ap free c.scheduler-item.is,
-  c.free_units-units.ensures.units,
+  c.free_units-units.ensures,
 )
 
 pub loop-scheduler-preserved : goal.loop-scheduler-preserved
@@ -27,5 +27,5 @@ loop-scheduler-preserved c = omega (
   sum_by-drop_more free c.args.schedulers.now c.loop-scheduler.scheduler-index
       c.scheduler-item.result c.loop-scheduler-test.true,
   ap free c.scheduler-item.is,
-  c.free_units-units.ensures.units,
+  c.free_units-units.ensures,
 )
