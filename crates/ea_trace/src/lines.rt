@@ -13,7 +13,7 @@ use ea_model::words::{first_word, number};
 use ea_model::{Letter, MAX_SEED, MAX_TRIES, Op};
 
 /// What one line says. `T` holds the turns of a line of turns: in definitions their list, in code
-/// the text of the line.
+/// the text of the line, which may turn out to be malformed when its turns are read.
 #[derive(Clone, Copy)]
 pub enum Line<T> {
     /// A line without words, or a comment.
