@@ -1,5 +1,7 @@
 //! Runs each case of a text through the top call, and prints what it gave. The cases are in the
-//! file stdin beside src/, and what they have to give is in stdout: rt ci compares it.
+//! file stdin beside src/, and what they have to give is in stdout: rt ci compares it, and leaves
+//! what was printed in out/stdout. A case is added to both files by hand: what it has to give is
+//! worked out, and never taken from the program.
 //!
 //! Empty lines and lines that begin with # are skipped. The lines of a case are, in this order:
 //!
