@@ -1,12 +1,13 @@
 //! An instance beside the plain choice: both do the same generated operations, under each strategy.
 ghost use Rattle.std.specs.Prelude.{◌≡◌, ◌+◌, ◌*◌, ◌%◌, ◌^◌, ◌<◌, ◌≤◌, IfSome, length};
+ghost use Rattle.ea_model.specs.declared.units.TheConstants.{MIN_BLOCK, PAGE_UNITS};
 ghost use Rattle.ea_model.specs.Settings.{IsValid};
 
 use crate::plain::{NoChoice, PlainCarrier, choice};
-use ea_instance::{Instance, Released};
+use ea_instance::Instance;
 use ea_model::{
-    BlockAt, Candidate, CarrierPlan, Gap, Kind, List, MAX_SEARCH_DEPTH, OutOfMemory, Place,
-    Settings, Spot, Strategy,
+    BlockAt, Candidate, CarrierPlan, Gap, Kind, List, MAX_SEARCH_DEPTH, OutOfMemory, PAGE_UNITS,
+    Place, Settings, Spot, Strategy,
 };
 use std::alloc::Global;
 use std::process::Abort;
@@ -58,7 +59,7 @@ impl Numbers {
     // The units that a block needs: mostly few, sometimes all or nearly all of a carrier.
     fn need(&mut self) -> u32
         ensures even { result % 2 ≡ 0 }
-        ensures least { 6 ≤ result }
+        ensures least { MIN_BLOCK ≤ result }
         ensures most { result ≤ 1016 }
     {
         match self.below(8) {
@@ -145,7 +146,7 @@ impl Sides {
     fn new(alloc: Global, settings: Settings) -> Result<Sides, OutOfMemory>
         requires valid { IsValid settings }
         requires stays { settings.acul ≡ 0 }
-        requires main { settings.mmbcs ≤ 512 }
+        requires main { settings.mmbcs ≤ PAGE_UNITS }
     {
         let mut carriers = Vec::new(alloc);
         if settings.mmbcs > 0 {
@@ -160,7 +161,7 @@ impl Sides {
         }
         Ok(Sides {
             settings,
-            instance: Instance::new(alloc, settings, 1, 1, 0, PAGES)?,
+            instance: Instance::new(alloc, settings, 1, 0, PAGES)?,
             carriers,
             live: Vec::new(alloc),
         })
@@ -175,7 +176,7 @@ impl Sides {
         name: u32,
     ) -> Result<bool, NoChoice>
         requires even { need % 2 ≡ 0 }
-        requires least { 6 ≤ need }
+        requires least { MIN_BLOCK ≤ need }
     {
         let strategy = self.settings.strategy;
         let wanted = choice(alloc, self.settings, need, &self.carriers)?;
@@ -211,10 +212,11 @@ impl Sides {
     // Creates a carrier for a block of `need` units, where one can be.
     fn create(&mut self, rt: &impl Abort, alloc: Global, need: u32) -> Result<bool, OutOfMemory> {
         assert!(rt; self.instance.created() < 1000);
-        let Ok(plan) = self.instance.plan_carrier(need) else {
+        let alone = self.instance.is_alone(need);
+        assert!(rt; !alone);
+        let Ok(plan) = self.instance.plan_carrier(need, alone) else {
             return Ok(false);
         };
-        assert!(rt; !plan.single);
         let carrier = self.instance.prepare(alloc, plan)?;
         self.instance.create(plan, need, carrier)?;
         push_carrier(
@@ -233,7 +235,7 @@ impl Sides {
         name: u32,
     ) -> Result<(), NoChoice>
         requires even { need % 2 ≡ 0 }
-        requires least { 6 ≤ need }
+        requires least { MIN_BLOCK ≤ need }
     {
         if self.place(rt, alloc, need, name)? {
             return Ok(());
@@ -249,12 +251,13 @@ impl Sides {
     fn free(&mut self, rt: &impl Abort, alloc: Global, spot: Spot) -> Result<(), NoChoice> {
         let index = position(spot.carrier, &self.carriers).expect(rt, "the carrier is there");
         assert!(rt; self.instance.block_at(spot).is_some());
-        let released = self.instance.release(spot)?;
+        let vacant = self.instance.release(spot)?;
         self.carriers[index].release(alloc, spot.offset)?;
-        let is_empty = self.carriers[index].is_empty_multi();
-        assert_eq!(rt; released == Released::EmptyOwn, is_empty);
-        if released == Released::EmptyOwn {
-            self.instance.clear(spot.carrier);
+        assert_eq!(rt; vacant, self.carriers[index].is_empty_multi());
+        if vacant {
+            self.instance.dismiss(spot.carrier);
+            assert!(rt; self.instance.owns(spot.carrier));
+            self.instance.disown(spot.carrier);
             let _gone = self.carriers.remove(index);
         }
         Ok(())
@@ -299,9 +302,9 @@ impl Sides {
 
 // The units of the main carrier: every fourth list has one.
 fn main_units(seed: u64) -> u32
-    ensures { result ≤ 512 }
+    ensures { result ≤ PAGE_UNITS }
 {
-    if seed % 4 == 0 { 512 } else { 0 }
+    if seed % 4 == 0 { PAGE_UNITS } else { 0 }
 }
 
 // One list of operations. Blocks are mostly placed at first, mostly released then, and so on in
@@ -309,7 +312,7 @@ fn main_units(seed: u64) -> u32
 fn run_list(rt: &impl Abort, alloc: Global, settings: Settings, seed: u64) -> Result<(), NoChoice>
     requires valid { IsValid settings }
     requires stays { settings.acul ≡ 0 }
-    requires main { settings.mmbcs ≤ 512 }
+    requires main { settings.mmbcs ≤ PAGE_UNITS }
 {
     let mut numbers = Numbers { state: seed };
     let mut sides = Sides::new(alloc, settings)?;

@@ -2,6 +2,7 @@
 ghost use Rattle.std.specs.Prelude.{◌≡◌, ◌+◌, ◌*◌, ◌^◌, ◌<◌, ◌≤◌, ◌==◌, not, if◌then◌else◌};
 ghost use Rattle.std.specs.Prelude.{◌++◌, [], ◌∷◌, Some, IfOk, IfSome, OnOk, OnErr};
 ghost use Rattle.std.specs.Prelude.{filter, length, map};
+ghost use Rattle.ea_model.specs.declared.units.TheConstants.{PAGE_UNITS};
 ghost use Rattle.ea_model.specs.Content.{gap, gap_at, gaps_of, inserted, is_empty_multi, placed};
 ghost use Rattle.ea_model.specs.Content.{released, taken_of};
 ghost use Rattle.ea_model.specs.Choice.{better, first, less};
@@ -141,7 +142,7 @@ fn without(alloc: Global, offset: u32, blocks: &[BlockAt]) -> Result<List<BlockA
 impl PlainCarrier {
     /// The carrier of a plan, without blocks.
     pub fn new(alloc: Global, owner: u32, kind: Kind, plan: CarrierPlan) -> PlainCarrier
-        requires { 512 * plan.pages < 2 ^ 32 }
+        requires { PAGE_UNITS * plan.pages < 2 ^ 32 }
         ensures { result ≡ created_content owner kind plan }
     {
         PlainCarrier {
