@@ -37,7 +37,7 @@ use Rattle.ea_sched.specs.declared.state.Scheduler.{Scheduler}
 use Rattle.ea_sched.specs.Acting.{actor_of, setup_for}
 use Rattle.ea_sched.specs.Asking.{HasMore, IsFresh, SuitsNext}
 use Rattle.ea_sched.specs.Steps.{DidRow, IsReady}
-use Rattle.ea_sched.specs.Walking.{CanAllGo, worked}
+use Rattle.ea_sound.specs.Walking.{CanAllGo, worked}
 use Rattle.ea_sched.proofs.Doing.{Answered, answered-so}
 use Rattle.ea_sched.proofs.Suiting.{goes-linked, goes-passed, next-placed, suits-linked, suits-passed, suits-rests, suits-taken}
 

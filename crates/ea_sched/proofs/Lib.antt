@@ -2,8 +2,6 @@ pub mod Doing
 pub mod Acts
 pub mod StandsOff
 pub mod OwnCarriers
-pub mod Freed
-pub mod Walked
 pub mod OutcomeGiven
 pub mod OutcomeSums
 pub mod Texts

@@ -42,9 +42,9 @@ use Rattle.ea_sched.specs.declared.state.Scheduler.{Scheduler}
 use Rattle.ea_sched.specs.Acting.{actor_of, setup_for}
 use Rattle.ea_sched.specs.Brought.{HavePlaces, is_placed, name_brought}
 use Rattle.ea_sched.specs.Asking.{HasName, IsFresh, IsHere, Moves, Suits, SuitsNext}
-use Rattle.ea_sched.specs.Releasing.{freed_at}
-use Rattle.ea_sched.specs.Walking.{CanAllGo, CanGo, Worked, left_if, worked, worked_if}
-use Rattle.ea_sched.proofs.Freed.{released-here}
+use Rattle.ea_sound.specs.Releasing.{freed_at}
+use Rattle.ea_sound.specs.Walking.{CanAllGo, CanGo, Worked, left_if, worked, worked_if}
+use Rattle.ea_sound.proofs.Freed.{released-here}
 use Rattle.ea_sched.proofs.Texts.{off-built}
 
 -- the nodes that scheduler `me` passed

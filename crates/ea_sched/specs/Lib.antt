@@ -1,7 +1,6 @@
 pub mod Resting
 pub mod Built
-pub mod Releasing
-pub mod Walking
+pub mod Passing
 pub mod Acting
 pub mod Steps
 pub mod Asking

@@ -15,7 +15,7 @@ pub struct Passed {
 
 impl Model for Passed {
     ghost use Rattle.std.specs.Prelude.{◌-◌, reverse, vec_capacity, vec_len};
-    ghost use Rattle.ea_sched.specs.Walking.{Passing};
+    ghost use Rattle.ea_sched.specs.Passing.{Passing};
 
     ghost Value = { Passing };
 

@@ -7,8 +7,8 @@ ghost use Rattle.ea_machine.specs.Operations as operations;
 ghost use Rattle.ea_machine.specs.Tasks as tasks;
 ghost use Rattle.ea_sched.specs.Acting.{IsSame, actor_of, ready_of, setup_for};
 ghost use Rattle.ea_sched.specs.Asking.{HasMore, HasName, IsHere};
-ghost use Rattle.ea_sched.specs.Releasing as releasing;
-ghost use Rattle.ea_sched.specs.Walking as walking;
+ghost use Rattle.ea_sound.specs.Releasing as releasing;
+ghost use Rattle.ea_sound.specs.Walking as walking;
 
 use crate::state::Scheduler;
 use ea_instance::Instance;

@@ -4,7 +4,7 @@ ghost use Rattle.ea_machine.specs.Machine as machine;
 ghost use Rattle.ea_machine.specs.Walks as walks;
 ghost use Rattle.ea_sched.specs.Acting.{IsSame, actor_of, ready_of, setup_for};
 ghost use Rattle.ea_sched.specs.Asking.{SuitsNext};
-ghost use Rattle.ea_sched.specs.Walking.{CanAllGo, worked};
+ghost use Rattle.ea_sound.specs.Walking.{CanAllGo, worked};
 
 use crate::passed::Passed;
 use crate::releases::release;

@@ -145,5 +145,7 @@ pub mod CarrierCalls
 pub mod OffWalks
 pub mod OffStages
 pub mod Paths
+pub mod Freed
+pub mod Walked
 pub mod PresentCarriers
 pub mod PresentLive

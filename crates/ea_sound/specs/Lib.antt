@@ -34,3 +34,5 @@ pub mod Leaves
 pub mod Steady
 pub mod Standing
 pub mod OwnWork
+pub mod Releasing
+pub mod Walking

@@ -17,7 +17,8 @@
 //! are on their way; each as a balance of sums. `Present` has what each scheduler is in the middle
 //! of, and `Leaves` what a row leaves to the local work that follows it; `Orderly`, `Blocks`,
 //! `Moments` and `Here` are words of these. `Steady`, `Standing` and `OwnWork` are what the code
-//! and threads need beside the rule.
+//! and threads need beside the rule; `Releasing` and `Walking` say what a release and a walk come
+//! to where carriers don't migrate.
 //!
 //! `proofs/Lib.antt` lists the proofs in the order in which they are read, part by part: sums, one
 //! instance, one moment, rows, the work between rows, a step, the rule, and what follows from it.

@@ -1,5 +1,5 @@
 use Rattle.std.proofs.Common.{◌≡◌, length}
-use Rattle.ea_sched.specs.Walking.{CanAllGo, worked}
+use Rattle.ea_sound.specs.Walking.{CanAllGo, worked}
 use Rattle.ea_sched.proofs.walks.work_off.Given as goal
 
 abbrev pub invariant-loop-node : goal.invariant-loop-node

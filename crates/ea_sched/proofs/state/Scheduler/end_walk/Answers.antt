@@ -2,10 +2,10 @@ use Rattle.std.proofs.Common.{◌≡◌, None, sym, ap, subst, ◌∙◌}
 use Rattle.ea_machine.specs.Machine.{onward}
 use Rattle.ea_sched.specs.Acting.{actor_of, setup_for}
 use Rattle.ea_sched.specs.Asking.{SuitsNext}
-use Rattle.ea_sched.specs.Walking.{Worked, worked}
+use Rattle.ea_sound.specs.Walking.{Worked, worked}
 use Rattle.ea_sched.proofs.Acts.{made-as}
 use Rattle.ea_sched.proofs.Texts.{off-built}
-use Rattle.ea_sched.proofs.Walked.{walked-none, walked-some}
+use Rattle.ea_sound.proofs.Walked.{walked-none, walked-some}
 use Rattle.ea_sched.proofs.state.Scheduler.end_walk.Goals as goal
 
 pub go_on-requires : goal.go_on-requires

@@ -6,10 +6,10 @@ use Rattle.ea_machine.specs.Nodes.{without_name}
 use Rattle.ea_model.specs.Instance.{owner_of}
 use Rattle.ea_machine.specs.Tasks.{let_go, task_over}
 use Rattle.ea_sched.specs.Acting.{ready_of, setup_for}
-use Rattle.ea_sched.specs.Releasing.{freed_at}
-use Rattle.ea_sched.specs.Walking.{left_if, sent}
+use Rattle.ea_sound.specs.Releasing.{freed_at}
+use Rattle.ea_sound.specs.Walking.{left_if, sent}
 use Rattle.ea_sched.proofs.Acts.{handed}
-use Rattle.ea_sched.proofs.Freed.{released-away, released-here, task-open}
+use Rattle.ea_sound.proofs.Freed.{released-away, released-here, task-open}
 use Rattle.ea_sched.proofs.Texts.{off-built}
 use Rattle.ea_sched.proofs.state.Scheduler.hand_over.Goals as goal
 

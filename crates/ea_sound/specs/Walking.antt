@@ -1,8 +1,10 @@
 -- The nodes that a walk passed, and how they are worked off where carriers don't migrate.
-use Rattle.std.specs.Prelude.{◌≡◌, ℕ, Bool, true, false, ◌==◌, List, [], ◌∷◌, Option, None, Some, IfSome, IsSome}
+use Rattle.std.specs.Prelude.{◌≡◌, ℕ, Bool, true, false, ◌==◌, List, [], ◌∷◌, Option, None, Some}
+use Rattle.std.specs.Prelude.{IfSome, IsSome}
 use Rattle.ea_model.specs.declared.carriers.Kind.TheVariants.{Single}
 use Rattle.ea_model.specs.declared.carriers.Spot.{Spot}
-use Rattle.ea_model.specs.Instance.{Instance, block_in, content_of, employed, own_at, owner_of, releasing_at}
+use Rattle.ea_model.specs.Instance.{Instance, block_in, content_of, employed, own_at, owner_of}
+use Rattle.ea_model.specs.Instance.{releasing_at}
 use Rattle.ea_machine.specs.declared.nodes.Named.{Named}
 use Rattle.ea_machine.specs.declared.nodes.Node.{Node}
 use Rattle.ea_machine.specs.declared.nodes.Node.TheVariants.{Block, Carrier}
@@ -12,12 +14,7 @@ use Rattle.ea_machine.specs.declared.stages.Stage.TheVariants.{Routed}
 use Rattle.ea_machine.specs.declared.stages.Route.TheVariants.{Pushing}
 use Rattle.ea_machine.specs.Actor.{Actor}
 use Rattle.ea_machine.specs.Nodes.{block_node}
-use Rattle.ea_sched.specs.Releasing.{freed_at}
-
--- nodes, oldest first, and for how many more there is room
-pub record Passing : Type 0 where
-  pub nodes : List Node
-  pub room : ℕ
+use Rattle.ea_sound.specs.Releasing.{freed_at}
 
 -- the instance once a block is released, if `me` owns its carrier
 abbrev pub left_if : Bool → Instance → Spot → Instance

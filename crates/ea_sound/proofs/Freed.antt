@@ -17,12 +17,14 @@ use Rattle.ea_machine.specs.declared.tasks.Task.{Task}
 use Rattle.ea_machine.specs.declared.tasks.Task.TheVariants.{Freeing, Moving}
 use Rattle.ea_machine.specs.declared.tasks.Why.{Why}
 use Rattle.ea_machine.specs.Actor.{Actor}
-use Rattle.ea_machine.specs.Releases.{Turned, abandoned_if, after_release, after_release_by, dismissed, leaving, leaving_by, lightened, owned_by, route_of, routed}
+use Rattle.ea_machine.specs.Releases.{Turned, abandoned_if, after_release, after_release_by}
+use Rattle.ea_machine.specs.Releases.{dismissed, leaving, leaving_by, lightened, owned_by, route_of}
+use Rattle.ea_machine.specs.Releases.{routed}
 use Rattle.ea_machine.specs.Setup.{Setup, migration}
 use Rattle.ea_machine.specs.Tasks.{carried, task_over}
 use Rattle.ea_sound.proofs.Unmoved.{due-unmoved}
-use Rattle.ea_sched.specs.Releasing.{deallocated_if, freed_at}
-use Rattle.ea_sched.specs.Walking.{sent}
+use Rattle.ea_sound.specs.Releasing.{deallocated_if, freed_at}
+use Rattle.ea_sound.specs.Walking.{sent}
 
 -- what the log says doesn't depend on whether the block was there
 pub task-open : (task : Task) (a : Actor) → task_over task Open a ≡ task_over task Here a

@@ -11,9 +11,9 @@ use Rattle.ea_machine.specs.declared.tasks.Why.TheVariants.{Walk}
 use Rattle.ea_machine.specs.Actor.{Actor}
 use Rattle.ea_machine.specs.Setup.{Setup, migration}
 use Rattle.ea_machine.specs.Walks.{ready, worked_off}
-use Rattle.ea_sched.specs.Releasing.{freed_at}
-use Rattle.ea_sched.specs.Walking.{CanAllGo, CanGo, Worked, left_if, sent, worked, worked_if}
-use Rattle.ea_sched.proofs.Freed.{released-away, released-here}
+use Rattle.ea_sound.specs.Releasing.{freed_at}
+use Rattle.ea_sound.specs.Walking.{CanAllGo, CanGo, Worked, left_if, sent, worked, worked_if}
+use Rattle.ea_sound.proofs.Freed.{released-away, released-here}
 
 -- where the nodes leave a scheduler: ready, or with a block that goes to its carrier's owner
 abbrev pub walked_by : Option Named → Worked → Actor → Actor
