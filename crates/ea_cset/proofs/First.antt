@@ -1,15 +1,20 @@
 -- The first carrier that fits.
-use Rattle.std.proofs.Common.{◌≡◌, ℕ, ◌<◌, ◌≤◌, ◌↔◌, Bool, true, false, List, [], ◌∷◌, refl, sym, subst, inl, inr, arith}
-use Rattle.std.specs.Prelude.{None, IfSome, IsNone, IsTrue, option_map, nat_le, nat_lt, All, Contains}
+use Rattle.std.proofs.Common.{◌≡◌, ℕ, ◌<◌, ◌≤◌, ◌↔◌, Bool, true, false, List}
+use Rattle.std.proofs.Common.{[], ◌∷◌, refl, sym, subst, inl, inr, arith}
+use Rattle.std.specs.Prelude.{None, IfSome, IsNone, IsTrue, option_map}
+use Rattle.std.specs.Prelude.{nat_le, nat_lt, All, Contains}
 use Rattle.std.specs.Cmp.{IsStrictWeakOrder}
 use Rattle.std.proofs.lemmas.Bool.{cases_lt, leb-true}
-use Rattle.std.proofs.lemmas.List.Elements.{All-nil, All-cons, All-head, All-tail, All-filter, All-contains_itself, filter_passes}
+use Rattle.std.proofs.lemmas.List.Elements.{All-nil, All-cons, All-head, All-tail}
+use Rattle.std.proofs.lemmas.List.Elements.{All-filter, All-contains_itself, filter_passes}
 use Rattle.ea_model.specs.Choice.{first}
-use Rattle.ea_model.proofs.First.{both_All, IsLeast, first-All, first-IsLeast, first-none, large-here, large-none, large-past, none-large}
+use Rattle.ea_model.proofs.First.{both_All, IsLeast, first-All, first-IsLeast, first-none}
+use Rattle.ea_model.proofs.First.{large-here, large-none, large-past, none-large}
 use Rattle.ea_model.proofs.Options.{both_some, some_map, unmapped}
 use Rattle.ea_cset.specs.declared.keys.CarrierFit.{CarrierFit}
 use Rattle.ea_model.proofs.Orders.{rising-order, less-order}
-use Rattle.ea_cset.specs.Carriers.{number_of, is_held, lower, older, fitting, first_number, IsFirstOf}
+use Rattle.ea_cset.specs.Carriers.{number_of, is_held, lower, older}
+use Rattle.ea_cset.specs.Carriers.{fitting, first_number, IsFirstOf}
 use Rattle.ea_cset.proofs.Found.{all_held}
 
 pub lower-order : IsStrictWeakOrder lower

@@ -1,5 +1,7 @@
 -- The carriers of a set, and which of them comes first.
-use Rattle.std.specs.Prelude.{◌≡◌, ◌≢◌, ℕ, ◌<◌, ◌≤◌, Bool, false, if◌then◌else◌, nat_lt, nat_le, List, Option, All, AllPairs, Any, filter, map, length, is_some, option_map}
+use Rattle.std.specs.Prelude.{◌≡◌, ◌≢◌, ℕ, ◌<◌, ◌≤◌, Bool, false, if◌then◌else◌}
+use Rattle.std.specs.Prelude.{nat_lt, nat_le, List, Option, All, AllPairs, Any}
+use Rattle.std.specs.Prelude.{filter, map, length, is_some, option_map}
 use Rattle.ea_model.specs.Choice.{first, less}
 use Rattle.ea_model.specs.Keyed.{has_key, item_at}
 use Rattle.ea_cset.specs.declared.keys.CarrierFit.{CarrierFit}

@@ -1,7 +1,10 @@
 //! The set and its calls.
-ghost use Rattle.std.specs.Prelude.{◌≡◌, ◌≢◌, ℕ, ◌+◌, ◌<◌, ◌↔◌, [], ◌==◌, if◌then◌else◌, All, AllPairs, Some, None, IsTrue, IsNone, IfSome, IfOk, length, option_map};
+ghost use Rattle.std.specs.Prelude.{◌≡◌, ◌≢◌, ℕ, ◌+◌, ◌<◌, ◌↔◌, [], ◌==◌};
+ghost use Rattle.std.specs.Prelude.{if◌then◌else◌, All, AllPairs, Some, None, IsTrue};
+ghost use Rattle.std.specs.Prelude.{IsNone, IfSome, IfOk, length, option_map};
 ghost use Rattle.ea_model.specs.Keyed.{entered, without};
-ghost use Rattle.ea_cset.specs.Carriers.{number_of, is_held, carrier_of, with_fit, refitted, lower, older, first_number, IsBefore, IsFirstOf};
+ghost use Rattle.ea_cset.specs.Carriers.{number_of, is_held, carrier_of, with_fit, refitted};
+ghost use Rattle.ea_cset.specs.Carriers.{lower, older, first_number, IsBefore, IsFirstOf};
 
 use crate::keys::{CarrierFit, CarrierKey};
 use crate::walks::{lowest, oldest};

@@ -1,11 +1,13 @@
 -- The bins after a change of the carriers.
-use Rattle.std.proofs.Common.{◌≡◌, ◌≢◌, ℕ, ◌+◌, ◌*◌, ◌-◌, ◌%◌, ◌^◌, ◌<◌, ◌≤◌, List, [], ◌∷◌, ◌++◌, map, All, append_assoc, sym, ap, ◌∙◌, subst, arith, inl, inr}
+use Rattle.std.proofs.Common.{◌≡◌, ◌≢◌, ℕ, ◌+◌, ◌*◌, ◌-◌, ◌%◌, ◌^◌, ◌<◌, ◌≤◌, List, [], ◌∷◌}
+use Rattle.std.proofs.Common.{◌++◌, map, All, append_assoc, sym, ap, ◌∙◌, subst, arith, inl, inr}
 use Rattle.std.specs.Prelude.{Option, Some, IfSome}
 use Rattle.std.specs.List.Sorted.{IsPermutation}
 use Rattle.std.proofs.lemmas.List.{map-append}
 use Rattle.std.proofs.lemmas.List.Sorted.{All-permutation, IsPermutation-sym, IsPermutation-trans}
 use Rattle.ea_model.specs.declared.carriers.Candidate.{Candidate}
-use Rattle.ea_model.specs.Content.{Content, gap, gaps_of, gap_at, gap_before, gap_behind, gap_up_to, largest, placed, released, taken_of}
+use Rattle.ea_model.specs.Content.{Content, gap, gaps_of, gap_at, gap_before, gap_behind}
+use Rattle.ea_model.specs.Content.{gap_up_to, largest, placed, released, taken_of}
 use Rattle.ea_model.specs.Instance.{changed, content_of, with_content, without_content}
 use Rattle.ea_model.specs.declared.carriers.Gap as model
 use Rattle.ea_mbc.specs.Gaps.{Replaced}
@@ -28,7 +30,8 @@ use Rattle.ea_goodfit.specs.Gaps.{gap_from, CanCut, CanJoin}
 use Rattle.ea_employed.specs.Listed.{all_gaps}
 use Rattle.ea_mbc.specs.declared.carrier.Freed.{Freed}
 use Rattle.ea_mbc.specs.declared.carrier.Placed.{Placed}
-use Rattle.ea_employed.proofs.Gaps.{at_base, at_gap, gap_from-some, gaps-replaced, gaps-with, gaps-without, empty_gaps}
+use Rattle.ea_employed.proofs.Gaps.{at_base, at_gap, gap_from-some, gaps-replaced}
+use Rattle.ea_employed.proofs.Gaps.{gaps-with, gaps-without, empty_gaps}
 use Rattle.ea_employed.proofs.Listed.{first-alone, DifferIn}
 use Rattle.ea_employed.proofs.Located.{gaps-distinct}
 

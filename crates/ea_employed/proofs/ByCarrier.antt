@@ -1,11 +1,14 @@
 -- The gap that is chosen in the first carrier that fits is the one that is chosen among all.
-use Rattle.std.proofs.Common.{◌≡◌, ◌≢◌, ℕ, ◌<◌, ◌≤◌, Bool, true, List, [], ◌∷◌, fold, map, All, AllPairs, sym, ap, ◌∙◌, subst, refl, inl, inr, arith}
+use Rattle.std.proofs.Common.{◌≡◌, ◌≢◌, ℕ, ◌<◌, ◌≤◌, Bool, true, List, [], ◌∷◌, fold, map}
+use Rattle.std.proofs.Common.{All, AllPairs, sym, ap, ◌∙◌, subst, refl, inl, inr, arith}
 use Rattle.std.specs.Prelude.{Option, Some, None, IsNone, nat_lt, option_map}
 use Rattle.std.specs.Option.{option_and_then}
 use Rattle.std.proofs.lemmas.Bool.{cases_Bool, cases_lt, cond-true, cond-false}
 use Rattle.std.proofs.lemmas.List.Elements.{All-nil, All-cons, All-head, All-tail}
 use Rattle.ea_model.specs.declared.settings.Strategy.{Strategy}
-use Rattle.ea_model.specs.declared.settings.Strategy.TheVariants.{Bf, Aobf, Aoff, AoffCbf, AoffCaobf, AgeffCaoff, AgeffCbf, AgeffCaobf, Gf, Af}
+use Rattle.ea_model.specs.declared.settings.Strategy.TheVariants.{Bf, Aobf, Aoff, AoffCbf}
+use Rattle.ea_model.specs.declared.settings.Strategy.TheVariants.{AoffCaobf, AgeffCaoff}
+use Rattle.ea_model.specs.declared.settings.Strategy.TheVariants.{AgeffCbf, AgeffCaobf, Gf, Af}
 use Rattle.ea_model.specs.declared.carriers.Kind.{Kind}
 use Rattle.ea_model.specs.declared.carriers.Kind.TheVariants.{Main, Multi, Single}
 use Rattle.ea_model.specs.declared.carriers.Inner.{Inner}
@@ -14,7 +17,8 @@ use Rattle.ea_model.specs.declared.carriers.Candidate.{Candidate}
 use Rattle.ea_model.specs.Content.{Content, gaps_of, largest}
 use Rattle.ea_model.specs.Choice.{before, better, choice, first, less}
 use Rattle.ea_model.specs.Choice as gaps
-use Rattle.ea_model.specs.Strategies.{candidate, candidates, candidates_in, inner_of, large_enough, takes_first}
+use Rattle.ea_model.specs.Strategies.{candidate, candidates, candidates_in}
+use Rattle.ea_model.specs.Strategies.{inner_of, large_enough, takes_first}
 use Rattle.ea_model.specs.Strategies as strategies
 use Rattle.ea_model.specs.Instance.{content_of}
 use Rattle.ea_model.proofs.First.{first-none, large-here, large-none, large-past, none-large}

@@ -1,5 +1,6 @@
 -- A change of the content at an index of the carriers.
-use Rattle.std.proofs.Common.{◌≡◌, ℕ, zero, suc, ◌+◌, ◌<◌, ◌≤◌, List, [], ◌∷◌, All, length, get_or, map, set, sym, ap, ◌∙◌, subst, refl, inl, inr, arith}
+use Rattle.std.proofs.Common.{◌≡◌, ℕ, zero, suc, ◌+◌, ◌<◌, ◌≤◌, List, [], ◌∷◌, All, length}
+use Rattle.std.proofs.Common.{get_or, map, set, sym, ap, ◌∙◌, subst, refl, inl, inr, arith}
 use Rattle.std.specs.Prelude.{Option, Some, IsSome}
 use Rattle.std.specs.Option.{option_and_then}
 use Rattle.std.proofs.lemmas.List.{get_or_default}
@@ -10,7 +11,8 @@ use Rattle.ea_model.specs.Keyed.{IsBelow}
 use Rattle.ea_model.specs.Content.{Content, block_at, Tiled}
 use Rattle.ea_model.specs.Instance.{block_in, content_of, changed}
 use Rattle.ea_model.proofs.Pairs.{pairs_head, pairs_tail}
-use Rattle.ea_model.proofs.Rising.{changed_here, changed_none, changed_past, item_at-each, item_at-key, others}
+use Rattle.ea_model.proofs.Rising.{changed_here, changed_none, changed_past}
+use Rattle.ea_model.proofs.Rising.{item_at-each, item_at-key, others}
 use Rattle.ea_laws.specs.Kept.{number_of, IsRising}
 use Rattle.ea_laws.proofs.BlockLists.{block_at-past}
 use Rattle.ea_laws.proofs.Tiling.{Tiled-allocated}

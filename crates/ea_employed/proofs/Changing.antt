@@ -1,11 +1,14 @@
 -- What a call makes of one of the carriers.
-use Rattle.std.proofs.Common.{◌≡◌, ℕ, ◌+◌, ◌*◌, ◌%◌, ◌<◌, ◌≤◌, List, length, get_or, set, ap, ◌∙◌, subst, refl, sym, arith}
+use Rattle.std.proofs.Common.{◌≡◌, ℕ, ◌+◌, ◌*◌, ◌%◌, ◌<◌, ◌≤◌, List, length}
+use Rattle.std.proofs.Common.{get_or, set, ap, ◌∙◌, subst, refl, sym, arith}
 use Rattle.std.specs.Prelude.{Option, Some, None, IfSome, IsSome, option_map}
 use Rattle.ea_model.specs.declared.carriers.BlockAt.{BlockAt}
 use Rattle.ea_model.specs.declared.carriers.Candidate.{Candidate}
 use Rattle.ea_model.specs.declared.carriers.Kind.{Kind}
-use Rattle.ea_model.specs.declared.units.TheConstants.{HEADER_UNITS, MAX_UNITS, MIN_BLOCK, PAGE_UNITS}
-use Rattle.ea_model.specs.Content.{Content, block_at, gaps_of, gap_before, gap_behind, largest, placed, released, resized, size_of, taken_of, Tiled}
+use Rattle.ea_model.specs.declared.units.TheConstants.{HEADER_UNITS, MAX_UNITS}
+use Rattle.ea_model.specs.declared.units.TheConstants.{MIN_BLOCK, PAGE_UNITS}
+use Rattle.ea_model.specs.Content.{Content, block_at, gaps_of, gap_before, gap_behind, largest}
+use Rattle.ea_model.specs.Content.{placed, released, resized, size_of, taken_of, Tiled}
 use Rattle.ea_model.specs.Instance.{block_in, changed, content_of}
 use Rattle.ea_model.proofs.Options.{some_holds, some_value}
 use Rattle.ea_model.proofs.Rising.{item_at-All}
@@ -19,7 +22,8 @@ use Rattle.ea_employed.specs.declared.choice.Choice.{Choice}
 use Rattle.ea_employed.specs.Laid.{AreLaid}
 use Rattle.ea_employed.specs.Choices.{IsChoice, IsChosenIn}
 use Rattle.ea_employed.specs.Listed.{CarrierList}
-use Rattle.ea_employed.proofs.Changed.{at_choice, at_index, block-there, block-within, choice-same, same-item, set_is_changed, IsAt}
+use Rattle.ea_employed.proofs.Changed.{at_choice, at_index, block-there, block-within}
+use Rattle.ea_employed.proofs.Changed.{choice-same, same-item, set_is_changed, IsAt}
 
 -- a block was placed in the gap
 pub record IsPlacing (need name : ℕ) (x : Candidate) (p : Placed) (old new : List Content) : Type 0
@@ -234,7 +238,8 @@ module _ (l now : CarrierList) (number offset i : ℕ) (seen : List Content) (he
           record {
             content = item;
             there = w.at.there;
-            is = set_is_changed f cs i number item (record next { kind = kind }) w.at w.laid.rising made;
+            is = set_is_changed f cs i number item (record next { kind = kind }) w.at w.laid.rising
+                made;
             block = w.begins;
             size = with_size (block_at carrier.blocks offset) r.size size
                 ∙ ap (λ (m : Content). size_of (block_at m.blocks offset)) view;
@@ -243,7 +248,8 @@ module _ (l now : CarrierList) (number offset i : ℕ) (seen : List Content) (he
             after = gaps.1 ∙ ap (λ m. gap_behind m offset) view;
             largest = most ∙ ap (λ m. largest (gaps_of m)) made;
             joined = subst (λ m. GapsJoined m (f item) offset r.size) view
-                (subst (λ m. GapsJoined (record carrier { kind = kind }) m offset r.size) made joined);
+                (subst (λ m. GapsJoined (record carrier { kind = kind }) m offset r.size) made
+                joined);
           }
 
       pub resizing : (units : Content → ℕ) (name address : ℕ) (r : Resized)
@@ -253,7 +259,9 @@ module _ (l now : CarrierList) (number offset i : ℕ) (seen : List Content) (he
           → r.size ≡ units item → r.largest ≡ largest (gaps_of next)
           → Tiled HEADER_UNITS item.units (resized item offset (units item) name).blocks
           → GapResized carrier next offset r.was r.size
-          → IsResizing number offset units name address r cs (set cs i (record next { kind = kind }))
+          → IsResizing number offset units name address r cs (set cs i (record next {
+            kind = kind;
+          }))
       resizing units name address r place is size after now most tiled gap =
           let f : Content → Content = λ m. resized m offset (units item) name in
           let made : record next { kind = kind } ≡ f item =
@@ -273,13 +281,15 @@ module _ (l now : CarrierList) (number offset i : ℕ) (seen : List Content) (he
               largest = most ∙ ap (λ m. largest (gaps_of m)) made;
               tiled = tiled;
               gap = subst (λ m. GapResized m (f item) offset r.was r.size) view
-                  (subst (λ m. GapResized (record carrier { kind = kind }) m offset r.was r.size) made
+                  (subst (λ m. GapResized (record carrier { kind = kind }) m offset r.was r.size)
+                  made
                   gap);
             };
           }
 
       -- with fewer units, or with more
-      pub shrinking : (need name address : ℕ) (r : Resized) → address ≡ PAGE_UNITS * here.base + offset
+      pub shrinking : (need name address : ℕ) (r : Resized) → address ≡ PAGE_UNITS * here.base +
+          offset
           → next ≡ resized carrier offset need name
           → need + MIN_BLOCK
           ≤ size_of (block_in now.contents (record { carrier = number; offset = offset }))
@@ -295,14 +305,17 @@ module _ (l now : CarrierList) (number offset i : ℕ) (seen : List Content) (he
           (shrunk-tiled item offset need name block.0 w.sound.tiled block.1
           (omega (arith, found-fewer (need + MIN_BLOCK) fewer, ap size_of block.1)) even least)
           (subst (λ n. GapResized carrier next offset n r.size) (sym size)
-          (subst (GapResized carrier next offset (size_of (block_at carrier.blocks offset))) (sym now)
+          (subst (GapResized carrier next offset (size_of (block_at carrier.blocks offset))) (sym
+          now)
           gap))
 
-      pub growing : (need name address : ℕ) (r : Resized) → address ≡ PAGE_UNITS * here.base + offset
+      pub growing : (need name address : ℕ) (r : Resized) → address ≡ PAGE_UNITS * here.base +
+          offset
           → next ≡ resized carrier offset r.size name
           → size_of (block_in now.contents (record { carrier = number; offset = offset })) < need
           → need % 2 ≡ 0
-          → IfSome (content_of now.contents number) (λ m. need ≤ room_at m offset) → r.was ≡ size_of (block_at carrier.blocks offset)
+          → IfSome (content_of now.contents number) (λ m. need ≤ room_at m offset) → r.was ≡
+          size_of (block_at carrier.blocks offset)
           → r.after ≡ gap_behind carrier offset → r.size ≡ taken_of (room_at carrier offset) need
           → r.largest ≡ largest (gaps_of next) → GapResized carrier next offset r.was r.size
           → IsResizing number offset (λ m. taken_of (room_at m offset) need) name address r cs
@@ -312,10 +325,12 @@ module _ (l now : CarrierList) (number offset i : ℕ) (seen : List Content) (he
           let units : Content → ℕ = λ m. taken_of (room_at m offset) need in
           let size_now : r.size ≡ units item = now ∙ ap units view in
           let is_size = ap size_of block.1 in
-          resizing units name address r place (is ∙ ap (λ n. resized carrier offset n name) size_now)
+          resizing units name address r place (is ∙ ap (λ n. resized carrier offset n name)
+          size_now)
           size after size_now most
           (subst (λ n. Tiled HEADER_UNITS item.units
-          (resized item offset (taken_of (n + gap_behind item offset) need) name).blocks) (sym is_size)
+          (resized item offset (taken_of (n + gap_behind item offset) need) name).blocks) (sym
+          is_size)
           (grown-tiled item offset need name block.0 w.sound.tiled block.1
           (omega (arith, found-more need more, is_size)) even
           (omega (arith, found-room need fits, is_size)))) gap
@@ -332,7 +347,8 @@ module _ (l now : CarrierList) (number offset i : ℕ) (seen : List Content) (he
           record {
             content = item;
             there = w.at.there;
-            is = set_is_changed f cs i number item (record next { kind = kind }) w.at w.laid.rising made;
+            is = set_is_changed f cs i number item (record next { kind = kind }) w.at w.laid.rising
+                made;
             gaps = sym (ap gaps_of made) ∙ same ∙ ap gaps_of view;
           }
 

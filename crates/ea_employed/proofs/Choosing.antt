@@ -2,14 +2,18 @@
 use Rattle.std.proofs.Common.{◌≡◌, ℕ, true, false, List, sym, ap, ◌∙◌, refl}
 use Rattle.std.specs.Prelude.{Option, Some, None}
 use Rattle.ea_model.specs.declared.settings.Strategy.{Strategy}
-use Rattle.ea_model.specs.declared.settings.Strategy.TheVariants.{Bf, Aobf, Aoff, AoffCbf, AoffCaobf, AgeffCaoff, AgeffCbf, AgeffCaobf, Gf, Af}
+use Rattle.ea_model.specs.declared.settings.Strategy.TheVariants.{Bf, Aobf, Aoff, AoffCbf}
+use Rattle.ea_model.specs.declared.settings.Strategy.TheVariants.{AoffCaobf, AgeffCaoff}
+use Rattle.ea_model.specs.declared.settings.Strategy.TheVariants.{AgeffCbf, AgeffCaobf, Gf, Af}
 use Rattle.ea_model.specs.declared.carriers.Candidate.{Candidate}
 use Rattle.ea_model.specs.Content.{Content}
 use Rattle.ea_model.specs.Choice.{first}
-use Rattle.ea_model.specs.Strategies.{candidates, choice_among, choice_empty, inner_of, large_enough, may_miss, or_else, takes_first}
+use Rattle.ea_model.specs.Strategies.{candidates, choice_among, choice_empty, inner_of}
+use Rattle.ea_model.specs.Strategies.{large_enough, may_miss, or_else, takes_first}
 use Rattle.ea_laws.proofs.Inspected.{all_inspected}
 use Rattle.ea_employed.specs.Searches.{is_better, search_of}
-use Rattle.ea_employed.specs.declared.strategies.Search.TheVariants.{Gaps, Address, Age, Bins, Lowest}
+use Rattle.ea_employed.specs.declared.strategies.Search.TheVariants.{Gaps, Address}
+use Rattle.ea_employed.specs.declared.strategies.Search.TheVariants.{Age, Bins, Lowest}
 
 pub gaps-is_better : (s : Strategy) → search_of s ≡ Gaps → is_better (inner_of s) ≡ takes_first s
 gaps-is_better Bf e = refl

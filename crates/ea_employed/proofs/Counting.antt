@@ -1,5 +1,6 @@
 -- The figures of carriers, after a change.
-use Rattle.std.proofs.Common.{◌≡◌, ℕ, ◌+◌, ◌*◌, ◌%◌, ◌≤◌, List, [], ◌∷◌, length, All, AllPairs, refl, sym, ap, ◌∙◌, subst, inl, inr, arith}
+use Rattle.std.proofs.Common.{◌≡◌, ℕ, ◌+◌, ◌*◌, ◌%◌, ◌≤◌, List, [], ◌∷◌, length, All}
+use Rattle.std.proofs.Common.{AllPairs, refl, sym, ap, ◌∙◌, subst, inl, inr, arith}
 use Rattle.std.specs.Prelude.{Some, IsSome, sum_by}
 use Rattle.std.proofs.lemmas.Bool.{cases_eq}
 use Rattle.std.proofs.lemmas.List.{length-map}
@@ -9,13 +10,16 @@ use Rattle.ea_model.specs.declared.carriers.BlockAt.{BlockAt}
 use Rattle.ea_model.specs.declared.carriers.Candidate.{Candidate}
 use Rattle.ea_model.specs.declared.carriers.Figures.{Figures}
 use Rattle.ea_model.specs.declared.units.TheConstants.{MAX_SCHEDULERS, MAX_UNITS, NUMBERS}
-use Rattle.ea_model.specs.Content.{Content, allocated, block_at, gap_at, gaps_of, inserted, placed, released, resized, size_of, taken_of}
+use Rattle.ea_model.specs.Content.{Content, allocated, block_at, gap_at, gaps_of}
+use Rattle.ea_model.specs.Content.{inserted, placed, released, resized, size_of, taken_of}
 use Rattle.ea_model.specs.Instance.{changed, content_of, figures, with_content, without_content}
 use Rattle.ea_model.specs.Keyed.{changed_at, item_at, without, IsBelow}
 use Rattle.ea_model.proofs.Merged.{sum-merged}
 use Rattle.ea_model.proofs.Options.{some_value}
 use Rattle.ea_model.proofs.Pairs.{pairs_tail}
-use Rattle.ea_model.proofs.Rising.{changed_here, changed_none, changed_past, item_at-All, item_here, item_past, length-entered, others, without_here, without_none, without_past}
+use Rattle.ea_model.proofs.Rising.{changed_here, changed_none, changed_past}
+use Rattle.ea_model.proofs.Rising.{item_at-All, item_here, item_past, length-entered}
+use Rattle.ea_model.proofs.Rising.{others, without_here, without_none, without_past}
 use Rattle.ea_laws.specs.Kept.{number_of, HasOneBlock, IsLaidOut, IsLaidOutAlone, IsRising}
 use Rattle.ea_laws.proofs.BlockLists.{offset_of, Tiled-rising}
 use Rattle.ea_laws.proofs.Standing.{placed-IsLaidOut}
@@ -300,7 +304,8 @@ figures-without n x cs rising there =
     (with_whole (blocks_in x) (allocated_in x) x.units (figures (without_content n cs)))
     (figures cs) (sum-without number_of n x blocks_in cs rising there)
     (sum-without number_of n x allocated_in cs rising there)
-    (length-without number_of n x cs rising there) (sum-without number_of n x units_in cs rising there)
+    (length-without number_of n x cs rising there) (sum-without number_of n x units_in cs rising
+    there)
 
 pub cancel-whole : (blocks size units : ℕ) (f g : Figures)
     → with_whole blocks size units f ≡ with_whole blocks size units g → f ≡ g
@@ -388,7 +393,8 @@ figures-bounded cs bounded few =
       carriers_size = most units_in (λ c b. b.units);
     }
 
-pub laid-figures : (cs : List Content) → AreLaid cs → length cs ≤ MAX_CARRIERS → AreBounded (figures cs)
+pub laid-figures : (cs : List Content) → AreLaid cs → length cs ≤ MAX_CARRIERS → AreBounded
+    (figures cs)
 laid-figures cs laid few = figures-bounded cs
     (All-weaker IsLaidOut IsBounded laid-bounded cs laid.sound) few
 

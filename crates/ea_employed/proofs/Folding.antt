@@ -1,6 +1,8 @@
 -- Choosing carrier by carrier is choosing among all gaps.
-use Rattle.std.proofs.Common.{◌≡◌, ℕ, ◌<◌, Bool, true, false, cond, List, [], ◌∷◌, fold, filter, map, refl, sym, ◌∙◌, ap, subst, inl, inr, arith}
-use Rattle.std.specs.Prelude.{Option, Some, None, IfSome, length, option_map, nat_le, slice_index_or}
+use Rattle.std.proofs.Common.{◌≡◌, ℕ, ◌<◌, Bool, true, false, cond, List, [], ◌∷◌, fold}
+use Rattle.std.proofs.Common.{filter, map, refl, sym, ◌∙◌, ap, subst, inl, inr, arith}
+use Rattle.std.specs.Prelude.{Option, Some, None, IfSome, length}
+use Rattle.std.specs.Prelude.{option_map, nat_le, slice_index_or}
 use Rattle.std.specs.Cmp.{IsStrictWeakOrder}
 use Rattle.std.proofs.lemmas.Bool.{cases_Bool, cond-true, cond-false, cond_both}
 use Rattle.std.proofs.lemmas.List.Sums.{fold-append}
@@ -8,11 +10,14 @@ use Rattle.std.proofs.lemmas.List.Elements.{filter-append}
 use Rattle.ea_model.specs.declared.carriers.Gap.{Gap}
 use Rattle.ea_model.specs.declared.carriers.Candidate.{Candidate}
 use Rattle.ea_model.specs.declared.settings.Strategy.{Strategy}
-use Rattle.ea_model.specs.declared.settings.Strategy.TheVariants.{Bf, Aobf, Aoff, AoffCbf, AoffCaobf, AgeffCaoff, AgeffCbf, AgeffCaobf, Gf, Af}
+use Rattle.ea_model.specs.declared.settings.Strategy.TheVariants.{Bf, Aobf, Aoff, AoffCbf}
+use Rattle.ea_model.specs.declared.settings.Strategy.TheVariants.{AoffCaobf, AgeffCaoff}
+use Rattle.ea_model.specs.declared.settings.Strategy.TheVariants.{AgeffCbf, AgeffCaobf, Gf, Af}
 use Rattle.ea_model.specs.Content.{Content, gaps_of, is_empty_multi}
 use Rattle.ea_model.specs.Choice.{before, better, first, fitting, choice}
 use Rattle.ea_laws.proofs.Orders.{takes_first-order}
-use Rattle.ea_model.specs.Strategies.{candidate, candidates, candidates_in, takes_first, inner_of, large_enough, lower}
+use Rattle.ea_model.specs.Strategies.{candidate, candidates, candidates_in}
+use Rattle.ea_model.specs.Strategies.{takes_first, inner_of, large_enough, lower}
 use Rattle.ea_model.specs.declared.carriers.Inner.{Inner}
 use Rattle.ea_model.specs.declared.carriers.Inner.TheVariants as inner
 use Rattle.ea_employed.specs.Better.{better_of}

@@ -1,10 +1,13 @@
 -- The gaps of all carriers, as the bins hold them, after a change.
-use Rattle.std.proofs.Common.{◌≡◌, ℕ, ◌+◌, ◌*◌, ◌-◌, ◌<◌, true, List, [], ◌∷◌, ◌++◌, map, append_assoc, append-nil, sym, ap, ◌∙◌, subst, refl, inl, inr, arith}
+use Rattle.std.proofs.Common.{◌≡◌, ℕ, ◌+◌, ◌*◌, ◌-◌, ◌<◌, true, List, [], ◌∷◌, ◌++◌, map}
+use Rattle.std.proofs.Common.{append_assoc, append-nil, sym, ap, ◌∙◌, subst, refl, inl, inr, arith}
 use Rattle.std.specs.Prelude.{Some}
 use Rattle.std.specs.List.Sorted.{IsPermutation}
 use Rattle.std.proofs.lemmas.Bool.{cases_eq, cases_lt}
 use Rattle.std.proofs.lemmas.List.{map-append}
-use Rattle.std.proofs.lemmas.List.Sorted.{IsPermutation-refl, IsPermutation-trans, IsPermutation-append_comm, IsPermutation-append_left, IsPermutation-append_right}
+use Rattle.std.proofs.lemmas.List.Sorted.{IsPermutation-refl, IsPermutation-trans}
+use Rattle.std.proofs.lemmas.List.Sorted.{IsPermutation-append_comm, IsPermutation-append_left}
+use Rattle.std.proofs.lemmas.List.Sorted.{IsPermutation-append_right}
 use Rattle.ea_model.specs.declared.carriers.Kind.{Kind}
 use Rattle.ea_model.specs.declared.carriers.Kind.TheVariants.{Main, Multi, Single}
 use Rattle.ea_model.specs.declared.carriers.Gap as model
@@ -19,7 +22,9 @@ use Rattle.ea_goodfit.specs.Gaps.{gap_from}
 use Rattle.ea_employed.specs.Listed.{all_gaps, gap_of}
 use Rattle.ea_model.specs.Keyed.{IsBelow}
 use Rattle.ea_model.proofs.Pairs.{pairs_tail}
-use Rattle.ea_model.proofs.Rising.{changed_here, changed_none, changed_past, entered_here, entered_past, item_here, item_past, others, without_here, without_none, without_past}
+use Rattle.ea_model.proofs.Rising.{changed_here, changed_none, changed_past}
+use Rattle.ea_model.proofs.Rising.{entered_here, entered_past, item_here, item_past}
+use Rattle.ea_model.proofs.Rising.{others, without_here, without_none, without_past}
 
 -- the gap of a carrier with this base, as the bins know it
 abbrev pub at_base : ℕ → model.Gap → BinnedGap

@@ -1,5 +1,6 @@
 -- The set of the carriers, after a change.
-use Rattle.std.proofs.Common.{◌≡◌, ◌≤◌, ◌≢◌, ℕ, true, false, List, [], ◌∷◌, map, All, AllPairs, sym, ap, ◌∙◌, subst, refl, inl, inr, arith, suc, Bool}
+use Rattle.std.proofs.Common.{◌≡◌, ◌≤◌, ◌≢◌, ℕ, true, false, List, [], ◌∷◌, map, All}
+use Rattle.std.proofs.Common.{AllPairs, sym, ap, ◌∙◌, subst, refl, inl, inr, arith, suc, Bool}
 use Rattle.std.specs.Prelude.{Option, IfSome, IsSome, None, Some, is_some, ◌==◌}
 use Rattle.std.proofs.lemmas.Bool.{cases_eq}
 use Rattle.std.proofs.lemmas.List.Elements.{All-head, All-tail}
@@ -9,9 +10,11 @@ use Rattle.ea_cset.specs.declared.keys.CarrierKey.{CarrierKey}
 use Rattle.ea_cset.specs.Carriers.{Carriers, is_held, refitted, with_fit, number_of as set_number}
 use Rattle.ea_model.specs.Keyed.{entered, without}
 use Rattle.ea_model.proofs.Options.{if_some, is_some-map}
-use Rattle.ea_model.proofs.Rising.{changed_here, changed_past, entered-map, item_at-map, without-map}
+use Rattle.ea_model.proofs.Rising.{changed_here, changed_past}
+use Rattle.ea_model.proofs.Rising.{entered-map, item_at-map, without-map}
 use Rattle.std.specs.List.Sorted.{IsPermutation}
-use Rattle.std.proofs.lemmas.Map.Keys.{IsDistinct-IsPermutation, IsDistinct-from_apart, apart_from_distinct}
+use Rattle.std.proofs.lemmas.Map.Keys.{IsDistinct-IsPermutation}
+use Rattle.std.proofs.lemmas.Map.Keys.{IsDistinct-from_apart, apart_from_distinct}
 use Rattle.ea_model.specs.declared.settings.Strategy.{Strategy}
 use Rattle.ea_model.specs.declared.settings.Strategy.TheVariants.{Gf}
 use Rattle.ea_goodfit.specs.declared.gaps.BinnedGap.{BinnedGap}

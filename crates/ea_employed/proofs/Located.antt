@@ -1,10 +1,13 @@
 -- A gap is found by its address.
-use Rattle.std.proofs.Common.{◌≡◌, ◌≢◌, ℕ, ◌+◌, ◌*◌, ◌<◌, ◌≤◌, Bool, true, false, List, [], ◌∷◌, length, map, refl, ap, ◌∙◌, inl, inr, arith}
-use Rattle.std.specs.Prelude.{Option, None, Some, IfSome, All, AllPairs, filter, fold, option_map, nat_le, nat_lt, ◌==◌, ◌&&◌, if◌then◌else◌}
+use Rattle.std.proofs.Common.{◌≡◌, ◌≢◌, ℕ, ◌+◌, ◌*◌, ◌<◌, ◌≤◌, Bool, true, false, List}
+use Rattle.std.proofs.Common.{[], ◌∷◌, length, map, refl, ap, ◌∙◌, inl, inr, arith}
+use Rattle.std.specs.Prelude.{Option, None, Some, IfSome, All, AllPairs, filter, fold}
+use Rattle.std.specs.Prelude.{option_map, nat_le, nat_lt, ◌==◌, ◌&&◌, if◌then◌else◌}
 use Rattle.std.specs.Option.{option_and_then}
 use Rattle.std.proofs.lemmas.Bool.{cond-true, cond-false}
 use Rattle.std.proofs.lemmas.List.{length-map}
-use Rattle.std.proofs.lemmas.List.Elements.{All-nil, All-head, All-tail, All-append, All-weaker, All-filter, filter_agree}
+use Rattle.std.proofs.lemmas.List.Elements.{All-nil, All-head, All-tail, All-append}
+use Rattle.std.proofs.lemmas.List.Elements.{All-weaker, All-filter, filter_agree}
 use Rattle.ea_model.specs.declared.carriers.Candidate.{Candidate}
 use Rattle.ea_model.specs.declared.carriers.Gap as model
 use Rattle.ea_model.specs.Content.{Content, gaps_of}
@@ -16,7 +19,8 @@ use Rattle.ea_goodfit.specs.declared.gaps.BinnedGap.{BinnedGap}
 use Rattle.ea_model.proofs.Pairs.{pairs_head, pairs_tail, pairs_map}
 use Rattle.ea_laws.specs.Kept.{IsLaidOut, ContentsApart}
 use Rattle.ea_employed.specs.Listed.{all_gaps, gap_of, candidate_at, spans}
-use Rattle.ea_laws.proofs.Candidates.{Inside, IsOutside, gaps_Inside, candidates-distinct, in_kind, others_outside}
+use Rattle.ea_laws.proofs.Candidates.{Inside, IsOutside, gaps_Inside}
+use Rattle.ea_laws.proofs.Candidates.{candidates-distinct, in_kind, others_outside}
 
 -- no two gaps lie at one address
 pub gaps-distinct : (cs : List Content) → All IsLaidOut cs → AllPairs ContentsApart cs

@@ -10,7 +10,8 @@ use Rattle.ea_model.specs.Instance.{content_of}
 use Rattle.ea_model.proofs.Rising.{item_at-each}
 use Rattle.ea_model.specs.Choice.{first}
 use Rattle.ea_model.specs.GoodFit.{good_fit, is_inspected}
-use Rattle.ea_model.specs.Strategies.{candidates, choice_among, large_enough, inspected_by, lower, only, takes_first}
+use Rattle.ea_model.specs.Strategies.{candidates, choice_among, large_enough}
+use Rattle.ea_model.specs.Strategies.{inspected_by, lower, only, takes_first}
 use Rattle.ea_model.proofs.First.{first-All, large-here, large-past}
 use Rattle.ea_model.proofs.Options.{same-some, some_holds}
 use Rattle.ea_goodfit.specs.declared.gaps.BinnedGap.{BinnedGap}

@@ -1,5 +1,6 @@
 -- What a search among an instance's carriers finds.
-use Rattle.std.specs.Prelude.{◌≡◌, ℕ, ◌+◌, ◌*◌, ◌<◌, ◌≤◌, List, Option, length, option_map, slice_index_or}
+use Rattle.std.specs.Prelude.{◌≡◌, ℕ, ◌+◌, ◌*◌, ◌<◌, ◌≤◌, List, Option}
+use Rattle.std.specs.Prelude.{length, option_map, slice_index_or}
 use Rattle.ea_model.specs.declared.carriers.Candidate.{Candidate}
 use Rattle.ea_model.specs.Content.{Content, gaps_of, gap_at}
 use Rattle.ea_employed.specs.declared.choice.Choice.{Choice}

@@ -1,14 +1,17 @@
 -- How a strategy searches, and how gaps of all carriers are compared.
 use Rattle.std.specs.Prelude.{Bool}
 use Rattle.ea_model.specs.declared.settings.Strategy.{Strategy}
-use Rattle.ea_model.specs.declared.settings.Strategy.TheVariants.{Bf, Aobf, Aoff, AoffCbf, AoffCaobf, AgeffCaoff, AgeffCbf, AgeffCaobf, Gf, Af}
+use Rattle.ea_model.specs.declared.settings.Strategy.TheVariants.{Bf, Aobf, Aoff, AoffCbf}
+use Rattle.ea_model.specs.declared.settings.Strategy.TheVariants.{AoffCaobf, AgeffCaoff}
+use Rattle.ea_model.specs.declared.settings.Strategy.TheVariants.{AgeffCbf, AgeffCaobf, Gf, Af}
 use Rattle.ea_model.specs.declared.carriers.Inner.{Inner}
 use Rattle.ea_model.specs.declared.carriers.Inner.TheVariants as inner
 use Rattle.ea_model.specs.declared.carriers.Candidate.{Candidate}
 use Rattle.ea_model.specs.Strategies.{lower, smaller_high, smaller_low}
 use Rattle.ea_employed.specs.declared.choice.Choice.{Choice}
 use Rattle.ea_employed.specs.declared.strategies.Search.{Search}
-use Rattle.ea_employed.specs.declared.strategies.Search.TheVariants.{Gaps, Address, Age, Bins, Lowest}
+use Rattle.ea_employed.specs.declared.strategies.Search.TheVariants.{Gaps, Address}
+use Rattle.ea_employed.specs.declared.strategies.Search.TheVariants.{Age, Bins, Lowest}
 
 abbrev pub search_of : Strategy → Search
 search_of Bf = Gaps

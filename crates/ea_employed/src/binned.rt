@@ -1,6 +1,7 @@
 //! The gaps of an instance's carriers in its bins, where its strategy has bins. A gap of no units
 //! is none.
-ghost use Rattle.std.specs.Prelude.{◌≡◌, ◌≢◌, ◌+◌, ◌-◌, ◌^◌, ◌<◌, ◌≤◌, ◌++◌, ◌↔◌, [], List, All, IsSome, IfSome, OnOk, is_some};
+ghost use Rattle.std.specs.Prelude.{◌≡◌, ◌≢◌, ◌+◌, ◌-◌, ◌^◌, ◌<◌, ◌≤◌, ◌++◌, ◌↔◌};
+ghost use Rattle.std.specs.Prelude.{[], List, All, IsSome, IfSome, OnOk, is_some};
 ghost use Rattle.std.specs.List.Sorted.{IsPermutation};
 ghost use Rattle.ea_goodfit.specs.declared.gaps.BinnedGap as gaps;
 ghost use Rattle.ea_model.specs.declared.settings.Strategy.TheVariants.{Gf};

@@ -1,12 +1,17 @@
 //! The carriers that an instance employs.
-ghost use Rattle.std.specs.Prelude.{◌≡◌, ◌≢◌, ℕ, ◌*◌, ◌+◌, ◌%◌, ◌<◌, ◌≤◌, [], All, Some, None, true, false, IsSome, IfSome, IfOk, OnOk, OnErr, length};
+ghost use Rattle.std.specs.Prelude.{◌≡◌, ◌≢◌, ℕ, ◌*◌, ◌+◌, ◌%◌, ◌<◌, ◌≤◌, [], All, Some, None};
+ghost use Rattle.std.specs.Prelude.{true, false, IsSome, IfSome, IfOk, OnOk, OnErr, length};
 ghost use Rattle.std.specs.Option.{option_and_then};
 ghost use Rattle.ea_model.specs.declared.settings.Strategy.TheVariants.{Gf, Af};
-ghost use Rattle.ea_model.specs.declared.units.TheConstants.{MAX_SCHEDULERS, MAX_UNITS, MIN_BLOCK, NUMBERS, PAGE_UNITS};
-ghost use Rattle.ea_model.specs.Content.{Content, block_at, placed, released, resized, size_of, taken_of};
+ghost use Rattle.ea_model.specs.declared.units.TheConstants.{MAX_SCHEDULERS, MAX_UNITS};
+ghost use Rattle.ea_model.specs.declared.units.TheConstants.{MIN_BLOCK, NUMBERS, PAGE_UNITS};
+ghost use Rattle.ea_model.specs.Content.{Content, block_at, placed, released};
+ghost use Rattle.ea_model.specs.Content.{resized, size_of, taken_of};
 ghost use Rattle.ea_model.specs.Choice.{first};
-ghost use Rattle.ea_model.specs.Strategies.{candidates, choice_among, choice_empty, inner_of, large_enough, may_miss, or_else};
-ghost use Rattle.ea_model.specs.Instance.{changed, content_of, block_in, has_content, has_vacant, multis, size_for, with_content, without_content};
+ghost use Rattle.ea_model.specs.Strategies.{candidates, choice_among, choice_empty};
+ghost use Rattle.ea_model.specs.Strategies.{inner_of, large_enough, may_miss, or_else};
+ghost use Rattle.ea_model.specs.Instance.{changed, content_of, block_in, has_content, has_vacant};
+ghost use Rattle.ea_model.specs.Instance.{multis, size_for, with_content, without_content};
 ghost use Rattle.ea_model.specs.Instance as instances;
 ghost use Rattle.ea_mbc.specs.Gaps.{room_at};
 ghost use Rattle.ea_laws.specs.Kinds.{is_shared};
@@ -199,8 +204,8 @@ impl Carriers {
         Ok(placed.size)
     }
 
-    /// Releases the block at the offset in the carrier with the number, and says whether the carrier
-    /// is to be deallocated.
+    /// Releases the block at the offset in the carrier with the number, and says whether that is to
+    /// be deallocated.
     pub fn release(&mut self, number: u32, offset: u32) -> Result<bool, OutOfMemory>
         requires laid { AreLaid self.old.contents }
         requires block { IsSome (block_in self.old.contents
@@ -229,8 +234,8 @@ impl Carriers {
         Ok(vacant)
     }
 
-    /// The block at the offset in the carrier with the number has this name from now on. Answers its
-    /// units. It takes no memory.
+    /// The block at the offset in the carrier with the number has this name from now on. Answers
+    /// the block's units. It takes no memory.
     pub fn rename(&mut self, number: u32, offset: u32, name: u32) -> u32
         requires laid { AreLaid self.old.contents }
         requires block { IsSome (block_in self.old.contents

@@ -1,8 +1,11 @@
 //! A carrier that an instance employs.
-ghost use Rattle.std.specs.Prelude.{not, ◌&&◌, ◌≡◌, ◌+◌, ◌*◌, ◌%◌, ◌<◌, ◌≤◌, IfSome, IsSome, Some, true, map, option_map};
+ghost use Rattle.std.specs.Prelude.{not, ◌&&◌, ◌≡◌, ◌+◌, ◌*◌, ◌%◌, ◌<◌, ◌≤◌};
+ghost use Rattle.std.specs.Prelude.{IfSome, IsSome, Some, true, map, option_map};
 ghost use Rattle.ea_model.specs.declared.carriers.Kind.TheVariants.{Multi};
 ghost use Rattle.ea_model.specs.declared.units.TheConstants.{MAX_UNITS, MIN_BLOCK};
-ghost use Rattle.ea_model.specs.Content.{allocated, block_at, gap_behind, gaps_of, is_empty_multi, is_multi, is_nil, is_vacant, largest, named, resized, size_of, taken_of};
+ghost use Rattle.ea_model.specs.Content.{allocated, block_at, gap_behind, gaps_of};
+ghost use Rattle.ea_model.specs.Content.{is_empty_multi, is_multi, is_nil, is_vacant};
+ghost use Rattle.ea_model.specs.Content.{largest, named, resized, size_of, taken_of};
 ghost use Rattle.ea_model.specs.Strategies.{candidate, candidates_in};
 ghost use Rattle.ea_model.specs.Instance.{carrier_line};
 ghost use Rattle.ea_mbc.specs.Gaps.{room_at};

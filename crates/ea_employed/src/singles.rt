@@ -1,8 +1,10 @@
 //! The singleblock carriers that an instance employs.
-ghost use Rattle.std.specs.Prelude.{◌≡◌, ◌+◌, ◌*◌, ◌<◌, ◌≤◌, [], All, IfOk, IfSome, IsSome, Some, false, length};
+ghost use Rattle.std.specs.Prelude.{◌≡◌, ◌+◌, ◌*◌, ◌<◌, ◌≤◌, [], All, IfOk};
+ghost use Rattle.std.specs.Prelude.{IfSome, IsSome, Some, false, length};
 ghost use Rattle.ea_model.specs.declared.units.TheConstants.{HEADER_UNITS, NUMBERS, PAGE_UNITS};
 ghost use Rattle.ea_model.specs.Content.{Content, allocated, released, resized};
-ghost use Rattle.ea_model.specs.Instance.{block_in, changed, content_of, has_content, with_content, without_content};
+ghost use Rattle.ea_model.specs.Instance.{block_in, changed, content_of, has_content};
+ghost use Rattle.ea_model.specs.Instance.{with_content, without_content};
 ghost use Rattle.ea_model.specs.Instance as instances;
 ghost use Rattle.ea_laws.specs.Kept.{IsLaidOutAlone};
 

@@ -1,16 +1,20 @@
 -- What a block that is put or released makes of the gaps.
-use Rattle.std.proofs.Common.{◌≡◌, ◌≢◌, ℕ, ◌+◌, ◌-◌, ◌<◌, ◌≤◌, List, [], ◌∷◌, ◌++◌, append_assoc, append-nil, refl, sym, ap, ◌∙◌, subst, inl, inr, arith}
+use Rattle.std.proofs.Common.{◌≡◌, ◌≢◌, ℕ, ◌+◌, ◌-◌, ◌<◌, ◌≤◌, List, [], ◌∷◌, ◌++◌, append_assoc}
+use Rattle.std.proofs.Common.{append-nil, refl, sym, ap, ◌∙◌, subst, inl, inr, arith}
 use Rattle.std.specs.Prelude.{Some}
 use Rattle.std.proofs.lemmas.Bool.{cases_eq}
 use Rattle.ea_model.specs.declared.carriers.BlockAt.{BlockAt}
 use Rattle.ea_model.specs.declared.carriers.Gap.{Gap}
-use Rattle.ea_model.specs.Content.{Content, gap, gaps, gaps_of, gap_at, gap_up_to, gap_before, gap_behind, block_at, end_of, inserted, Tiled}
+use Rattle.ea_model.specs.Content.{Content, gap, gaps, gaps_of, gap_at, gap_up_to}
+use Rattle.ea_model.specs.Content.{gap_before, gap_behind, block_at, end_of, inserted, Tiled}
 use Rattle.ea_mbc.specs.Gaps.{Replaced, GapTaken, GapsJoined}
-use Rattle.ea_laws.proofs.BlockLists.{offset_of, gap_at-step, only_gap, without-behind, block_at-past}
+use Rattle.ea_laws.proofs.BlockLists.{offset_of, gap_at-step, only_gap}
+use Rattle.ea_laws.proofs.BlockLists.{without-behind, block_at-past}
 use Rattle.ea_mbc.proofs.Reaching.{gap_at-next}
 use Rattle.ea_model.specs.Keyed.{without}
 use Rattle.ea_model.proofs.Rising.{entered_here, entered_past, without_here, without_past}
-use Rattle.ea_laws.proofs.Resized.{first_at, behind_first, gaps-first, gap_at-first, gap_at-past, none_there, same_block, end_of-block, regroup}
+use Rattle.ea_laws.proofs.Resized.{first_at, behind_first, gaps-first, gap_at-first}
+use Rattle.ea_laws.proofs.Resized.{gap_at-past, none_there, same_block, end_of-block, regroup}
 use Rattle.ea_mbc.proofs.Beside.{gap_up_to-step, gap_up_to-first, block_at-Lies}
 use Rattle.ea_laws.proofs.Chosen.{gap_some, gap_none}
 

@@ -1,15 +1,18 @@
 -- A block that is given another size or name at its index.
-use Rattle.std.proofs.Common.{◌≡◌, ◌≢◌, ℕ, ◌+◌, ◌%◌, ◌<◌, ◌≤◌, List, length, get_or, set, refl, sym, ap, ◌∙◌, subst, arith}
+use Rattle.std.proofs.Common.{◌≡◌, ◌≢◌, ℕ, ◌+◌, ◌%◌, ◌<◌, ◌≤◌, List, length}
+use Rattle.std.proofs.Common.{get_or, set, refl, sym, ap, ◌∙◌, subst, arith}
 use Rattle.std.specs.Prelude.{Some, IsSome, AllPairs}
 use Rattle.std.specs.List.{position_or_len}
 use Rattle.ea_model.specs.declared.carriers.BlockAt.{BlockAt}
-use Rattle.ea_model.specs.Content.{Content, gaps_of, gap_behind, block_at, size_of, taken_of, resized, Tiled}
+use Rattle.ea_model.specs.Content.{Content, gaps_of, gap_behind, block_at}
+use Rattle.ea_model.specs.Content.{size_of, taken_of, resized, Tiled}
 use Rattle.ea_model.specs.Keyed.{has_key, IsBelow}
 use Rattle.ea_mbc.specs.Gaps.{room_at, GapResized}
 use Rattle.ea_model.proofs.Options.{some_value}
 use Rattle.ea_model.proofs.Rising.{set-changed, item_at-place}
 use Rattle.ea_laws.proofs.BlockLists.{offset_of}
-use Rattle.ea_laws.proofs.Resized.{with_size, with_block, shrunk-tiled, grown-tiled, renamed-tiled, resized-gaps, resized-same_gaps, resized-begins, resized-others}
+use Rattle.ea_laws.proofs.Resized.{with_size, with_block, shrunk-tiled, grown-tiled, renamed-tiled}
+use Rattle.ea_laws.proofs.Resized.{resized-gaps, resized-same_gaps, resized-begins, resized-others}
 
 -- a write at the index of the block is the change of that block
 pub set-with_block : (offset size name i : ℕ) (d x : BlockAt) (bs : List BlockAt)

@@ -1,7 +1,8 @@
 -- What a call makes of the gaps of a carrier.
 use Rattle.std.specs.Prelude.{◌≡◌, ℕ, ◌+◌, ◌-◌, List, [], ◌∷◌, ◌++◌}
 use Rattle.ea_model.specs.declared.carriers.Gap.{Gap}
-use Rattle.ea_model.specs.Content.{Content, gap, gaps_of, gap_at, gap_before, gap_behind, block_at, size_of}
+use Rattle.ea_model.specs.Content.{Content, gap, gaps_of, gap_at, gap_before}
+use Rattle.ea_model.specs.Content.{gap_behind, block_at, size_of}
 
 -- the units of the block at the offset and of the gap directly behind it
 abbrev pub room_at : Content → ℕ → ℕ

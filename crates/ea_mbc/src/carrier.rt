@@ -1,9 +1,13 @@
 //! The carrier and its calls.
-ghost use Rattle.std.specs.Prelude.{◌≡◌, ◌≢◌, ℕ, ◌+◌, ◌%◌, ◌<◌, ◌≤◌, ◌↔◌, [], All, Some, None, IsTrue, IsSome, IsNone, IfSome, OnOk, OnErr, IfOk, length, option_map};
+ghost use Rattle.std.specs.Prelude.{◌≡◌, ◌≢◌, ℕ, ◌+◌, ◌%◌, ◌<◌, ◌≤◌, ◌↔◌, [], All};
+ghost use Rattle.std.specs.Prelude.{Some, None, IsTrue, IsSome, IsNone, IfSome};
+ghost use Rattle.std.specs.Prelude.{OnOk, OnErr, IfOk, length, option_map};
 ghost use Rattle.std.specs.Bool.{OnTrue, OnFalse};
 ghost use Rattle.ea_model.specs.declared.carriers.Kind.TheVariants.{Multi};
 ghost use Rattle.ea_model.specs.declared.units.TheConstants.{HEADER_UNITS, MAX_PAGES, MIN_BLOCK};
-ghost use Rattle.ea_model.specs.Content.{gaps_of, gap_at, gap_before, gap_behind, block_at, size_of, named, taken_of, placed, released, resized, allocated, largest, free_units, Tiled};
+ghost use Rattle.ea_model.specs.Content.{gaps_of, gap_at, gap_before, gap_behind, block_at};
+ghost use Rattle.ea_model.specs.Content.{size_of, named, taken_of, placed, released};
+ghost use Rattle.ea_model.specs.Content.{resized, allocated, largest, free_units, Tiled};
 ghost use Rattle.ea_model.specs.Choice.{before, fitting, choice, IsFirst};
 ghost use Rattle.ea_model.specs.Instance.{created_content};
 ghost use Rattle.ea_mbc.specs.Gaps.{room_at, GapTaken, GapsJoined, GapResized};

@@ -2,7 +2,8 @@
 ghost use Rattle.std.specs.Prelude.{◌≡◌, ◌+◌, ◌<◌, ◌≤◌, fold, length, AllPairs, IsSome};
 ghost use Rattle.std.specs.List.{position_or_len};
 ghost use Rattle.ea_model.specs.declared.units.TheConstants.{HEADER_UNITS};
-ghost use Rattle.ea_model.specs.Content.{gap, gaps, gap_at, gap_up_to, allocated, largest, block_at, end_of, size_of, taken_of, Tiled};
+ghost use Rattle.ea_model.specs.Content.{gap, gaps, gap_at, gap_up_to, allocated, largest};
+ghost use Rattle.ea_model.specs.Content.{block_at, end_of, size_of, taken_of, Tiled};
 ghost use Rattle.ea_model.specs.Keyed.{changed_at, IsBelow};
 ghost use Rattle.ea_model.specs.Choice.{before, better, fitting, choice};
 ghost use Rattle.ea_mbc.specs.Walks.{next_of};

@@ -2,8 +2,10 @@
 ghost use Rattle.std.specs.Prelude.{◌≡◌, ◌+◌, ◌-◌, ◌*◌, ◌≤◌, Some, IsSome, [], length, option_map};
 ghost use Rattle.ea_model.specs.declared.carriers.Block.{Block};
 ghost use Rattle.ea_model.specs.declared.carriers.Kind.TheVariants.{Single};
-ghost use Rattle.ea_model.specs.declared.units.TheConstants.{HEADER_UNITS, MAX_PAGES, MAX_UNITS, PAGE_UNITS};
-ghost use Rattle.ea_model.specs.Content.{allocated, block_at, free_units, gaps_of, largest, named, released, resized};
+ghost use Rattle.ea_model.specs.declared.units.TheConstants.{HEADER_UNITS, MAX_PAGES};
+ghost use Rattle.ea_model.specs.declared.units.TheConstants.{MAX_UNITS, PAGE_UNITS};
+ghost use Rattle.ea_model.specs.Content.{allocated, block_at, free_units, gaps_of};
+ghost use Rattle.ea_model.specs.Content.{largest, named, released, resized};
 ghost use Rattle.ea_model.specs.Instance.{created_single};
 ghost use Rattle.ea_sbc.specs.Blocks.{blocks_of};
 
@@ -27,7 +29,8 @@ pub struct Sbc {
 impl Model for Sbc {
     ghost use Rattle.std.specs.Prelude.{◌+◌, ◌*◌, ◌≤◌};
     ghost use Rattle.ea_model.specs.declared.carriers.Kind.TheVariants.{Single};
-    ghost use Rattle.ea_model.specs.declared.units.TheConstants.{HEADER_UNITS, MAX_PAGES, PAGE_UNITS};
+    ghost use Rattle.ea_model.specs.declared.units.TheConstants.{HEADER_UNITS};
+    ghost use Rattle.ea_model.specs.declared.units.TheConstants.{MAX_PAGES, PAGE_UNITS};
     ghost use Rattle.ea_model.specs.Content.{Content, allocated};
     ghost use Rattle.ea_sbc.specs.Blocks.{blocks_of};
 

@@ -6,7 +6,8 @@ use Rattle.ea_model.specs.Strategies.{candidates, large_enough}
 use Rattle.ea_employed.specs.Better.{better_of}
 use Rattle.ea_employed.specs.Choices.{candidate_of, IsChoice}
 use Rattle.ea_employed.specs.Searches.{goes_before, is_better}
-use Rattle.ea_employed.proofs.Folding.{better_of-candidates, better_of-either, choice_more-inner, chosen_here}
+use Rattle.ea_employed.proofs.Folding.{better_of-candidates, better_of-either}
+use Rattle.ea_employed.proofs.Folding.{choice_more-inner, chosen_here}
 use Rattle.ea_employed.proofs.walks.best_choice.Goals as goal
 
 pub loop-index-preserved : goal.loop-index-preserved

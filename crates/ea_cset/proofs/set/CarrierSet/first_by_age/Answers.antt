@@ -2,7 +2,8 @@ use Rattle.std.proofs.Common.{◌≡◌, ◌<◌, ◌↔◌, All, sym, subst, ar
 use Rattle.std.specs.Prelude.{IfSome, IsNone, IsTrue}
 use Rattle.std.proofs.lemmas.Grind.{common_steps}
 use Rattle.ea_cset.specs.Carriers.{is_held, older, first_number, IsFirstOf}
-use Rattle.ea_cset.proofs.First.{older-order, first_number-none, first_number-IsFirstOf, first_number-held}
+use Rattle.ea_cset.proofs.First.{older-order, first_number-none}
+use Rattle.ea_cset.proofs.First.{first_number-IsFirstOf, first_number-held}
 use Rattle.ea_cset.proofs.set.CarrierSet.first_by_age.Goals as goal
 
 -- the answer is the number of the first carrier that fits

@@ -10,7 +10,8 @@ use Rattle.ea_laws.proofs.Contents.{absent-All}
 use Rattle.ea_employed.specs.Laid.{AreLaid}
 use Rattle.ea_employed.specs.Counted.{with_whole}
 use Rattle.ea_employed.specs.Listed.{CarrierList, held_of}
-use Rattle.ea_employed.proofs.Counting.{AreBounded, allocated_in, blocks_in, figures-with, laid-bounded, laid-figures}
+use Rattle.ea_employed.proofs.Counting.{AreBounded, allocated_in, blocks_in}
+use Rattle.ea_employed.proofs.Counting.{figures-with, laid-bounded, laid-figures}
 use Rattle.ea_employed.proofs.Listed.{IsListed-entered, no_bins-Hold}
 use Rattle.ea_employed.proofs.carriers.Carriers.adopt.Goals as goal
 

@@ -7,9 +7,11 @@ use Rattle.ea_cset.specs.Carriers.{lower, older}
 use Rattle.ea_employed.specs.Choices.{candidate_of}
 use Rattle.ea_employed.specs.Listed.{CarrierList}
 use Rattle.ea_employed.specs.Searches.{is_better, search_of}
-use Rattle.ea_employed.specs.declared.strategies.Search.TheVariants.{Gaps, Address, Age, Bins, Lowest}
+use Rattle.ea_employed.specs.declared.strategies.Search.TheVariants.{Gaps, Address}
+use Rattle.ea_employed.specs.declared.strategies.Search.TheVariants.{Age, Bins, Lowest}
 use Rattle.ea_employed.proofs.ByCarrier.{address-GoesBy, age-GoesBy, choice-first}
-use Rattle.ea_employed.proofs.Choosing.{address-miss_none, age-miss_none, bins-gf, choice-all, choice-else, gaps-is_better, gaps-miss_none, lowest-af}
+use Rattle.ea_employed.proofs.Choosing.{address-miss_none, age-miss_none, bins-gf, choice-all}
+use Rattle.ea_employed.proofs.Choosing.{choice-else, gaps-is_better, gaps-miss_none, lowest-af}
 use Rattle.ea_employed.proofs.Listed.{found-listed}
 use Rattle.ea_employed.proofs.carriers.Carriers.chosen.Goals as goal
 

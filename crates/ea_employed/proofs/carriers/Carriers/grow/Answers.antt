@@ -20,7 +20,8 @@ address-address-requires-clause-within c =
 
 pub update-requires : goal.update-requires
 update-requires c =
-    let w = growing _ c.args.self.now c.args.number c.args.offset _ _ c.index.result.now c.index_mut.result.now
+    let w = growing _ c.args.self.now c.args.number c.args.offset _ _ c.index.result.now
+    c.index_mut.result.now
     c.self.view_is c.requires.laid c.requires.block c.deref.ensures.value
     c.index_of-index.ensures.within c.index_of-index.ensures.item c.index.ensures
     c.index_mut.ensures.value _ _ _ c.behind-self.view_is
@@ -33,7 +34,8 @@ update-requires c =
 
 pub note_placed-requires : goal.note_placed-requires
 note_placed-requires c =
-    let w = growing _ c.args.self.now c.args.number c.args.offset _ _ c.index.result.now c.index_mut.result.now
+    let w = growing _ c.args.self.now c.args.number c.args.offset _ _ c.index.result.now
+    c.index_mut.result.now
     c.self.view_is c.requires.laid c.requires.block c.deref.ensures.value
     c.index_of-index.ensures.within c.index_of-index.ensures.item c.index.ensures
     c.index_mut.ensures.value _ _ _ c.behind-self.view_is
@@ -47,14 +49,16 @@ note_placed-requires c =
     let laid = subst (λ (l : CarrierList). AreLaid l.contents) (sym c.self.view_is)
     c.requires.laid in
     can-cut _ _ _ _ _ (growing-IsCut c.args.number c.args.offset
-    (λ m. taken_of (room_at m c.args.offset) c.args.need) c.args.name c.address-address.result c.in-Some.block _ _ laid
+    (λ m. taken_of (room_at m c.args.offset) c.args.need) c.args.name c.address-address.result
+    c.in-Some.block _ _ laid
     w between.0 between.1)
     c.self.inside.bins c.self.invariant.listed.gaps
 
 pub invariant_of-self-2 : goal.invariant_of-self-2
 invariant_of-self-2 c =
     let units : Content → ℕ = λ m. taken_of (room_at m c.args.offset) c.args.need in
-    let w = growing _ c.args.self.now c.args.number c.args.offset _ _ c.index.result.now c.index_mut.result.now
+    let w = growing _ c.args.self.now c.args.number c.args.offset _ _ c.index.result.now
+    c.index_mut.result.now
     c.self.view_is c.requires.laid c.requires.block c.deref.ensures.value
     c.index_of-index.ensures.within c.index_of-index.ensures.item c.index.ensures
     c.index_mut.ensures.value _ _ _ c.behind-self.view_is
@@ -67,7 +71,8 @@ invariant_of-self-2 c =
     c.requires.fits in
     let laid = subst (λ (l : CarrierList). AreLaid l.contents) (sym c.self.view_is)
     c.requires.laid in
-    let cut = growing-IsCut c.args.number c.args.offset units c.args.name c.address-address.result c.in-Some.block _ _
+    let cut = growing-IsCut c.args.number c.args.offset units c.args.name c.address-address.result
+    c.in-Some.block _ _
     laid w between.0 between.1 in
     record {
       listed =
@@ -85,7 +90,8 @@ invariant_of-self-2 c =
 
 pub with_size-self-inside-requires : goal.with_size-self-inside-requires
 with_size-self-inside-requires c =
-    let w = growing _ c.args.self.now c.args.number c.args.offset _ _ c.index.result.now c.index_mut.result.now
+    let w = growing _ c.args.self.now c.args.number c.args.offset _ _ c.index.result.now
+    c.index_mut.result.now
     c.self.view_is c.requires.laid c.requires.block c.deref.ensures.value
     c.index_of-index.ensures.within c.index_of-index.ensures.item c.index.ensures
     c.index_mut.ensures.value _ _ _ c.behind-self.view_is
@@ -105,7 +111,8 @@ with_size-self-inside-requires c =
     (λ m. taken_of (room_at m c.args.offset) c.args.need) c.args.name c.address-address.result
     c.in-Some.block _ _ laid w in (
       resized-within c.args.number c.args.offset
-          (λ m. taken_of (room_at m c.args.offset) c.args.need) c.args.name c.address-address.result c.in-Some.block _ _
+          (λ m. taken_of (room_at m c.args.offset) c.args.need) c.args.name
+          c.address-address.result c.in-Some.block _ _
           laid w _ c.self.invariant.counted,
       omega (
         arith,
@@ -117,7 +124,8 @@ with_size-self-inside-requires c =
 
 pub overflow_sub-more : goal.overflow_sub-more
 overflow_sub-more c =
-    let w = growing _ c.args.self.now c.args.number c.args.offset _ _ c.index.result.now c.index_mut.result.now
+    let w = growing _ c.args.self.now c.args.number c.args.offset _ _ c.index.result.now
+    c.index_mut.result.now
     c.self.view_is c.requires.laid c.requires.block c.deref.ensures.value
     c.index_of-index.ensures.within c.index_of-index.ensures.item c.index.ensures
     c.index_mut.ensures.value _ _ _ c.behind-self.view_is
@@ -132,7 +140,8 @@ overflow_sub-more c =
 
 pub overflow_add-address : goal.overflow_add-address
 overflow_add-address c =
-    let w = growing _ c.args.self.now c.args.number c.args.offset _ _ c.index.result.now c.index_mut.result.now
+    let w = growing _ c.args.self.now c.args.number c.args.offset _ _ c.index.result.now
+    c.index_mut.result.now
     c.self.view_is c.requires.laid c.requires.block c.deref.ensures.value
     c.index_of-index.ensures.within c.index_of-index.ensures.item c.index.ensures
     c.index_mut.ensures.value _ _ _ c.behind-self.view_is
@@ -151,7 +160,8 @@ overflow_add-address c =
 
 pub returns-clause-grown : goal.returns-clause-grown
 returns-clause-grown c =
-    let w = growing _ c.args.self.now c.args.number c.args.offset _ _ c.index.result.now c.index_mut.result.now
+    let w = growing _ c.args.self.now c.args.number c.args.offset _ _ c.index.result.now
+    c.index_mut.result.now
     c.self.view_is c.requires.laid c.requires.block c.deref.ensures.value
     c.index_of-index.ensures.within c.index_of-index.ensures.item c.index.ensures
     c.index_mut.ensures.value _ _ _ c.behind-self.view_is

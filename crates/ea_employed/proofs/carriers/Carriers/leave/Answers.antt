@@ -46,10 +46,15 @@ empty now cs n x s set bins b seen listed none there some =
     (none (ap (λ (l : CarrierList). l.strategy) (sym seen) ∙ gf))
 
 pub address-address-requires-clause-low : goal.address-address-requires-clause-low
-address-address-requires-clause-low c = (laid_out c.args.self.now _ c.args.number c.take_out-employed.result c.self.view_is c.requires.laid c.take_out-employed.ensures.item).low
+address-address-requires-clause-low c = (laid_out c.args.self.now _ c.args.number
+    c.take_out-employed.result c.self.view_is c.requires.laid c.take_out-employed.ensures.item).low
 
 pub address-address-requires-clause-within : goal.address-address-requires-clause-within
-address-address-requires-clause-within c = omega (arith, (laid_out c.args.self.now _ c.args.number c.take_out-employed.result c.self.view_is c.requires.laid c.take_out-employed.ensures.item).whole)
+address-address-requires-clause-within c = omega (
+  arith,
+  (laid_out c.args.self.now _ c.args.number c.take_out-employed.result c.self.view_is
+      c.requires.laid c.take_out-employed.ensures.item).whole,
+)
 
 pub note_left-requires : goal.note_left-requires
 note_left-requires c = by c.self.inside.bins refl where
@@ -65,22 +70,27 @@ note_left-requires c = by c.self.inside.bins refl where
   by (Some b) some =
       let laid = subst (λ (l : CarrierList). AreLaid l.contents) (sym c.self.view_is)
       c.requires.laid in
-      left-held x (laid_out c.args.self.now _ c.args.number c.take_out-employed.result c.self.view_is c.requires.laid c.take_out-employed.ensures.item) (empty c.args.self.now c.self.inside.list.items c.args.number c.take_out-employed.result
+      left-held x (laid_out c.args.self.now _ c.args.number c.take_out-employed.result
+      c.self.view_is c.requires.laid c.take_out-employed.ensures.item) (empty c.args.self.now
+      c.self.inside.list.items c.args.number c.take_out-employed.result
       c.self.inside.strategy c.self.inside.set c.self.inside.bins b c.self.view_is
-      c.self.invariant.listed c.requires.bins c.take_out-employed.ensures.item some) c.address-address.result c.largest-size.result
+      c.self.invariant.listed c.requires.bins c.take_out-employed.ensures.item some)
+      c.address-address.result c.largest-size.result
       c.address-address.ensures
       (c.largest-size.ensures ∙ ap (λ m. largest (gaps_of m)) c.employed.view_is)
       c.args.number c.self.inside.list.items c.self.inside.bins laid
       c.take_out-employed.ensures.item c.self.invariant.listed.gaps
 
-left : (c : goal.After-self-1) → c.without_whole-self-inside.result ≡ figures c.take_out-employed.new.items.items
+left : (c : goal.After-self-1) → c.without_whole-self-inside.result ≡ figures
+    c.take_out-employed.new.items.items
 left c =
     let x = c.take_out-employed.result in
     let cs = c.self.inside.list.items in
     let laid = subst (λ (l : CarrierList). AreLaid l.contents) (sym c.self.view_is)
     c.requires.laid in
     cancel-whole (blocks_in x) (allocated_in x) x.units _ _
-    (sym (ap (λ n. with_whole n c.allocated.result c.units.result c.without_whole-self-inside.result)
+    (sym (ap (λ n. with_whole n c.allocated.result c.units.result
+    c.without_whole-self-inside.result)
     (c.len.ensures ∙ ap blocks_in c.employed.view_is)
     ∙ ap (λ n. with_whole (blocks_in x) n c.units.result c.without_whole-self-inside.result)
     (c.allocated.ensures.blocks ∙ ap allocated_in c.employed.view_is)
@@ -143,9 +153,12 @@ invariant_of-self c = record {
   by (Some b) some =
       let laid = subst (λ (l : CarrierList). AreLaid l.contents) (sym c.self.view_is)
       c.requires.laid in
-      left-gaps x (laid_out c.args.self.now _ c.args.number c.take_out-employed.result c.self.view_is c.requires.laid c.take_out-employed.ensures.item) (empty c.args.self.now c.self.inside.list.items c.args.number c.take_out-employed.result
+      left-gaps x (laid_out c.args.self.now _ c.args.number c.take_out-employed.result
+      c.self.view_is c.requires.laid c.take_out-employed.ensures.item) (empty c.args.self.now
+      c.self.inside.list.items c.args.number c.take_out-employed.result
       c.self.inside.strategy c.self.inside.set c.self.inside.bins b c.self.view_is
-      c.self.invariant.listed c.requires.bins c.take_out-employed.ensures.item some) c.address-address.result c.largest-size.result
+      c.self.invariant.listed c.requires.bins c.take_out-employed.ensures.item some)
+      c.address-address.result c.largest-size.result
       c.address-address.ensures
       (c.largest-size.ensures ∙ ap (λ m. largest (gaps_of m)) c.employed.view_is)
       c.args.number c.self.inside.list.items c.self.inside.bins laid

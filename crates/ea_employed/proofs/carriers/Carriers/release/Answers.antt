@@ -25,7 +25,8 @@ address-address-requires-clause-within c =
 
 pub update-requires : goal.update-requires
 update-requires c =
-    let w = releasing _ c.args.self.now c.args.number c.args.offset _ _ c.index.result.now c.index_mut.result.now
+    let w = releasing _ c.args.self.now c.args.number c.args.offset _ _ c.index.result.now
+    c.index_mut.result.now
     c.self.view_is c.requires.laid c.requires.block c.deref.ensures.value
     c.index_of-index.ensures.within c.index_of-index.ensures.item c.index.ensures
     c.index_mut.ensures.value _ _ _ c.behind-self.view_is
@@ -37,7 +38,8 @@ update-requires c =
 
 pub note_released-requires-clause-held : goal.note_released-requires-clause-held
 note_released-requires-clause-held c =
-    let w = releasing _ c.args.self.now c.args.number c.args.offset _ _ c.index.result.now c.index_mut.result.now
+    let w = releasing _ c.args.self.now c.args.number c.args.offset _ _ c.index.result.now
+    c.index_mut.result.now
     c.self.view_is c.requires.laid c.requires.block c.deref.ensures.value
     c.index_of-index.ensures.within c.index_of-index.ensures.item c.index.ensures
     c.index_mut.ensures.value _ _ _ c.behind-self.view_is
@@ -46,13 +48,15 @@ note_released-requires-clause-held c =
     c.in_ok-freed.ensures.gaps_joined in
     let laid = subst (λ (l : CarrierList). AreLaid l.contents) (sym c.self.view_is)
     c.requires.laid in
-    can-join _ _ _ _ _ _ (releasing-IsJoin c.args.number c.args.offset c.address-address.result c.in_ok-freed.freed _ _
+    can-join _ _ _ _ _ _ (releasing-IsJoin c.args.number c.args.offset c.address-address.result
+    c.in_ok-freed.freed _ _
     laid w) c.make_room.new.bins
     (c.make_room.ensures.held _ c.self.invariant.listed.gaps)
 
 pub without_block-self-inside-requires : goal.without_block-self-inside-requires
 without_block-self-inside-requires c =
-    let w = releasing _ c.args.self.now c.args.number c.args.offset _ _ c.index.result.now c.index_mut.result.now
+    let w = releasing _ c.args.self.now c.args.number c.args.offset _ _ c.index.result.now
+    c.index_mut.result.now
     c.self.view_is c.requires.laid c.requires.block c.deref.ensures.value
     c.index_of-index.ensures.within c.index_of-index.ensures.item c.index.ensures
     c.index_mut.ensures.value _ _ _ c.behind-self.view_is
@@ -67,7 +71,8 @@ without_block-self-inside-requires c =
 
 pub invariant_of-self-2 : goal.invariant_of-self-2
 invariant_of-self-2 c =
-    let w = releasing _ c.args.self.now c.args.number c.args.offset _ _ c.index.result.now c.index_mut.result.now
+    let w = releasing _ c.args.self.now c.args.number c.args.offset _ _ c.index.result.now
+    c.index_mut.result.now
     c.self.view_is c.requires.laid c.requires.block c.deref.ensures.value
     c.index_of-index.ensures.within c.index_of-index.ensures.item c.index.ensures
     c.index_mut.ensures.value _ _ _ c.behind-self.view_is
@@ -76,7 +81,8 @@ invariant_of-self-2 c =
     c.in_ok-freed.ensures.gaps_joined in
     let laid = subst (λ (l : CarrierList). AreLaid l.contents) (sym c.self.view_is)
     c.requires.laid in
-    let join = releasing-IsJoin c.args.number c.args.offset c.address-address.result c.in_ok-freed.freed _ _ laid w in
+    let join = releasing-IsJoin c.args.number c.args.offset c.address-address.result
+    c.in_ok-freed.freed _ _ laid w in
     record {
       listed =
           IsListed-changed (λ m. released m c.args.offset) (released-keeps _) c.args.number
@@ -97,14 +103,16 @@ invariant_of-self-2 c =
 pub returns-clause-vacant : goal.returns-clause-vacant
 returns-clause-vacant c =
     let cs = c.self.inside.list.items in
-    let w = releasing _ c.args.self.now c.args.number c.args.offset _ _ c.index.result.now c.index_mut.result.now
+    let w = releasing _ c.args.self.now c.args.number c.args.offset _ _ c.index.result.now
+    c.index_mut.result.now
     c.self.view_is c.requires.laid c.requires.block c.deref.ensures.value
     c.index_of-index.ensures.within c.index_of-index.ensures.item c.index.ensures
     c.index_mut.ensures.value _ _ _ c.behind-self.view_is
     c.address-address.result c.in_ok-freed.freed c.address-address.ensures c.in_ok-freed.ensures.ok
     c.in_ok-freed.ensures.size c.in_ok-freed.ensures.gaps c.in_ok-freed.ensures.largest
     c.in_ok-freed.ensures.gaps_joined in
-    let f = (found-at _ c.args.self.now c.args.number c.args.offset _ _ c.index_mut.result.now c.self.view_is
+    let f = (found-at _ c.args.self.now c.args.number c.args.offset _ _ c.index_mut.result.now
+    c.self.view_is
     c.requires.laid c.requires.block c.deref.ensures.value c.index_of-index.ensures.within
     c.index_of-index.ensures.item c.index_mut.ensures.value) in
     c.is_vacant-vacant.ensures.vacant
@@ -117,7 +125,8 @@ returns-clause-vacant c =
 
 pub returns-clause-ok : goal.returns-clause-ok
 returns-clause-ok c =
-    let w = releasing _ c.args.self.now c.args.number c.args.offset _ _ c.index.result.now c.index_mut.result.now
+    let w = releasing _ c.args.self.now c.args.number c.args.offset _ _ c.index.result.now
+    c.index_mut.result.now
     c.self.view_is c.requires.laid c.requires.block c.deref.ensures.value
     c.index_of-index.ensures.within c.index_of-index.ensures.item c.index.ensures
     c.index_mut.ensures.value _ _ _ c.behind-self.view_is

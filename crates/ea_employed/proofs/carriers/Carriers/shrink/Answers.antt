@@ -19,7 +19,8 @@ address-address-requires-clause-within c =
 
 pub update-requires : goal.update-requires
 update-requires c =
-    let w = shrinking _ c.args.self.now c.args.number c.args.offset _ _ c.index.result.now c.index_mut.result.now
+    let w = shrinking _ c.args.self.now c.args.number c.args.offset _ _ c.index.result.now
+    c.index_mut.result.now
     c.self.view_is c.requires.laid c.requires.block c.deref.ensures.value
     c.index_of-index.ensures.within c.index_of-index.ensures.item c.index.ensures
     c.index_mut.ensures.value _ _ _ c.behind-self.view_is
@@ -32,7 +33,8 @@ update-requires c =
 
 pub note_released-requires-clause-held : goal.note_released-requires-clause-held
 note_released-requires-clause-held c =
-    let w = shrinking _ c.args.self.now c.args.number c.args.offset _ _ c.index.result.now c.index_mut.result.now
+    let w = shrinking _ c.args.self.now c.args.number c.args.offset _ _ c.index.result.now
+    c.index_mut.result.now
     c.self.view_is c.requires.laid c.requires.block c.deref.ensures.value
     c.index_of-index.ensures.within c.index_of-index.ensures.item c.index.ensures
     c.index_mut.ensures.value _ _ _ c.behind-self.view_is
@@ -51,7 +53,8 @@ note_released-requires-clause-held c =
 
 pub invariant_of-self-2 : goal.invariant_of-self-2
 invariant_of-self-2 c =
-    let w = shrinking _ c.args.self.now c.args.number c.args.offset _ _ c.index.result.now c.index_mut.result.now
+    let w = shrinking _ c.args.self.now c.args.number c.args.offset _ _ c.index.result.now
+    c.index_mut.result.now
     c.self.view_is c.requires.laid c.requires.block c.deref.ensures.value
     c.index_of-index.ensures.within c.index_of-index.ensures.item c.index.ensures
     c.index_mut.ensures.value _ _ _ c.behind-self.view_is
@@ -82,7 +85,8 @@ invariant_of-self-2 c =
 
 pub with_size-self-inside-requires : goal.with_size-self-inside-requires
 with_size-self-inside-requires c =
-    let w = shrinking _ c.args.self.now c.args.number c.args.offset _ _ c.index.result.now c.index_mut.result.now
+    let w = shrinking _ c.args.self.now c.args.number c.args.offset _ _ c.index.result.now
+    c.index_mut.result.now
     c.self.view_is c.requires.laid c.requires.block c.deref.ensures.value
     c.index_of-index.ensures.within c.index_of-index.ensures.item c.index.ensures
     c.index_mut.ensures.value _ _ _ c.behind-self.view_is
@@ -100,7 +104,8 @@ with_size-self-inside-requires c =
 
 pub overflow_sub-rest : goal.overflow_sub-rest
 overflow_sub-rest c =
-    let w = shrinking _ c.args.self.now c.args.number c.args.offset _ _ c.index.result.now c.index_mut.result.now
+    let w = shrinking _ c.args.self.now c.args.number c.args.offset _ _ c.index.result.now
+    c.index_mut.result.now
     c.self.view_is c.requires.laid c.requires.block c.deref.ensures.value
     c.index_of-index.ensures.within c.index_of-index.ensures.item c.index.ensures
     c.index_mut.ensures.value _ _ _ c.behind-self.view_is
@@ -114,7 +119,8 @@ overflow_sub-rest c =
 
 pub overflow_add-address : goal.overflow_add-address
 overflow_add-address c =
-    let w = shrinking _ c.args.self.now c.args.number c.args.offset _ _ c.index.result.now c.index_mut.result.now
+    let w = shrinking _ c.args.self.now c.args.number c.args.offset _ _ c.index.result.now
+    c.index_mut.result.now
     c.self.view_is c.requires.laid c.requires.block c.deref.ensures.value
     c.index_of-index.ensures.within c.index_of-index.ensures.item c.index.ensures
     c.index_mut.ensures.value _ _ _ c.behind-self.view_is
@@ -135,7 +141,8 @@ overflow_add-address c =
 
 pub returns-clause-ok : goal.returns-clause-ok
 returns-clause-ok c =
-    let w = shrinking _ c.args.self.now c.args.number c.args.offset _ _ c.index.result.now c.index_mut.result.now
+    let w = shrinking _ c.args.self.now c.args.number c.args.offset _ _ c.index.result.now
+    c.index_mut.result.now
     c.self.view_is c.requires.laid c.requires.block c.deref.ensures.value
     c.index_of-index.ensures.within c.index_of-index.ensures.item c.index.ensures
     c.index_mut.ensures.value _ _ _ c.behind-self.view_is

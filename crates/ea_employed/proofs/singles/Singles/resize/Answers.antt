@@ -8,7 +8,8 @@ use Rattle.ea_laws.specs.Kept.{number_of, IsLaidOutAlone, IsRising}
 use Rattle.ea_model.proofs.Rising.{rising-changed}
 use Rattle.ea_employed.specs.Counted.{with_block}
 use Rattle.ea_employed.proofs.Changed.{at_index, block-there, same-item, set_is_changed}
-use Rattle.ea_employed.proofs.Counting.{alone-figures, cancel-block, single-resized, single-within, AreBounded}
+use Rattle.ea_employed.proofs.Counting.{alone-figures, cancel-block}
+use Rattle.ea_employed.proofs.Counting.{single-resized, single-within, AreBounded}
 use Rattle.ea_employed.proofs.singles.Singles.resize.Goals as goal
 
 pub with_size-self-inside-requires : goal.with_size-self-inside-requires

@@ -2,7 +2,8 @@ use Rattle.std.proofs.Common.{List, ◌%◌, ◌≡◌, ℕ, ◌≤◌, sym, ◌
 use Rattle.ea_model.specs.declared.carriers.BlockAt.{BlockAt}
 use Rattle.ea_model.specs.declared.carriers.Gap.{Gap}
 use Rattle.ea_model.specs.Content.{inserted, Content, gap_at, gaps_of, block_at, taken_of, Tiled}
-use Rattle.ea_laws.proofs.BlockLists.{gap_at-whole, taken_of-enters, Tiled-inserted, IsFront, IsFront-gap, offset_of}
+use Rattle.ea_laws.proofs.BlockLists.{gap_at-whole, taken_of-enters, Tiled-inserted}
+use Rattle.ea_laws.proofs.BlockLists.{IsFront, IsFront-gap, offset_of}
 use Rattle.ea_model.proofs.Rising.{item_at-new, item_at-old, none-other}
 use Rattle.ea_mbc.proofs.Replacing.{placed-GapTaken}
 use Rattle.ea_mbc.proofs.carrier.Mbc.place.Goals as goal
