@@ -7,10 +7,10 @@ use crate::tests::Step::{
     BlockAt, Create, Created, Employs, FreeUnits, IsAlone, MultiFigures, Plan, PlanSingle, Put,
     PutSingle, Resize, SingleFigures, TakeOut,
 };
-use ea_instance::{CarrierPlan, Instance, Released};
+use ea_instance::{CarrierPlan, Instance};
 use ea_model::{
-    Block, CarrierLine, Decision, Figures, Kind, List, NoCarrier, OutOfMemory, Place, Settings,
-    Spot, Standing, Strategy,
+    Block, CarrierLine, Figures, Kind, List, NoCarrier, OutOfMemory, Place, Settings, Spot,
+    Standing, Strategy,
 };
 use std::alloc::Global;
 use std::process::Abort;
@@ -53,11 +53,12 @@ enum Step {
     // A block of this need and name has a singleblock carrier of this plan: the block's carrier,
     // offset and size.
     PutSingle(u32, u32, (u32, u32, u32, u32), (u32, u32, u32)),
-    // The block of the carrier at the offset is released, and the carrier cleared where that is to
-    // follow.
-    TakeOut(u32, u32, Released),
-    // The block of the carrier at the offset is resized for this need, under this name.
-    Resize(u32, u32, u32, u32, Decision),
+    // The block of the carrier at the offset is released, and the carrier deallocated where that is
+    // to follow, which is told.
+    TakeOut(u32, u32, bool),
+    // The block of the carrier at the offset is resized for this need, under this name: its units,
+    // unless it is to move.
+    Resize(u32, u32, u32, u32, Option<u32>),
     // The name and size of the block of the carrier at the offset.
     BlockAt(u32, u32, Option<(u32, u32)>),
     Employs(u32, bool),
@@ -89,13 +90,14 @@ impl Trial {
         requires main { pages_for settings.mmbcs ≤ pages }
     {
         Ok(Trial {
-            instance: Instance::new(alloc, settings, 16, number, first_page, pages)?,
+            instance: Instance::new(alloc, settings, number, first_page, pages)?,
         })
     }
 
-    fn plan(&self, rt: &impl Abort, need: u32) -> Result<CarrierPlan, NoCarrier> {
+    fn plan(&self, rt: &impl Abort, need: u32, alone: bool) -> Result<CarrierPlan, NoCarrier> {
         assert!(rt; self.instance.created() < 1000);
-        self.instance.plan_carrier(need)
+        assert!(rt; self.instance.is_alone(need) == alone);
+        self.instance.plan_carrier(need, alone)
     }
 
     fn create(
@@ -104,12 +106,11 @@ impl Trial {
         alloc: Global,
         need: u32,
     ) -> Result<Result<CarrierPlan, NoCarrier>, OutOfMemory> {
-        assert!(rt; self.instance.created() < 1000);
-        let plan = match self.instance.plan_carrier(need) {
+        assert!(rt; self.instance.created() < 1000 && !self.instance.is_alone(need));
+        let plan = match self.instance.plan_carrier(need, false) {
             Ok(plan) => plan,
             Err(cause) => return Ok(Err(cause)),
         };
-        assert!(rt; !plan.single);
         let carrier = self.instance.prepare(alloc, plan)?;
         self.instance.create(plan, need, carrier)?;
         Ok(Ok(plan))
@@ -123,20 +124,21 @@ impl Trial {
         name: u32,
     ) -> Result<(CarrierPlan, Place), NoCarrier> {
         assert!(rt; need >= 6 && need % 2 == 0 && self.instance.created() < 1000);
-        let plan = self.instance.plan_carrier(need)?;
-        assert!(rt; plan.single);
+        assert!(rt; self.instance.is_alone(need));
+        let plan = self.instance.plan_carrier(need, true)?;
         let place = self.instance.create_single(plan, need, name);
         Ok((plan, place))
     }
 
-    fn take_out(&mut self, rt: &impl Abort, spot: Spot) -> Result<Released, OutOfMemory> {
+    fn take_out(&mut self, rt: &impl Abort, spot: Spot) -> Result<bool, OutOfMemory> {
         assert!(rt; self.instance.block_at(spot).is_some());
-        let released = self.instance.release(spot)?;
-        match released {
-            Released::EmptyOwn | Released::SingleGone => self.instance.clear(spot.carrier),
-            _ => {}
+        let vacant = self.instance.release(spot)?;
+        if vacant {
+            self.instance.dismiss(spot.carrier);
+            assert!(rt; self.instance.owns(spot.carrier));
+            self.instance.disown(spot.carrier);
         }
-        Ok(released)
+        Ok(vacant)
     }
 
     fn resize(
@@ -145,7 +147,7 @@ impl Trial {
         spot: Spot,
         need: u32,
         name: u32,
-    ) -> Result<Decision, OutOfMemory> {
+    ) -> Result<Option<u32>, OutOfMemory> {
         assert!(rt; need >= 6 && need % 2 == 0 && self.instance.block_at(spot).is_some());
         self.instance.resize(spot, need, name)
     }
@@ -156,10 +158,14 @@ impl Trial {
                 assert_eq!(rt; self.instance.is_alone(need), alone, "{step:?}");
             }
             Plan(need, plan) => {
-                assert_eq!(rt; self.plan(rt, need), plan.map(plan_of), "{step:?}");
+                assert_eq!(rt; self.plan(rt, need, false), plan.map(plan_of), "{step:?}");
             }
             PlanSingle(need, plan) => {
-                assert_eq!(rt; self.plan(rt, need), plan.map(single_plan_of), "{step:?}");
+                assert_eq!(rt;
+                    self.plan(rt, need, true),
+                    plan.map(single_plan_of),
+                    "{step:?}"
+                );
             }
             Create(need, plan) => {
                 assert_eq!(rt;
@@ -190,9 +196,9 @@ impl Trial {
                     "{step:?}"
                 );
             }
-            Resize(carrier, offset, need, name, decision) => {
+            Resize(carrier, offset, need, name, size) => {
                 let spot = Spot { carrier, offset };
-                assert_eq!(rt; self.resize(rt, spot, need, name)?, decision, "{step:?}");
+                assert_eq!(rt; self.resize(rt, spot, need, name)?, size, "{step:?}");
             }
             BlockAt(carrier, offset, block) => {
                 let found = self.instance.block_at(Spot { carrier, offset });
@@ -309,7 +315,7 @@ fn the_least_carrier_is_tried_where_the_next_one_has_no_room(rt: HostRuntime) ->
         Create(504, Ok((3, 5, 1, 3))),
         Create(6, Err(NoCarrier::Space)),
         // Without the first carrier its number and its pages are free again.
-        TakeOut(1, 8, Released::EmptyOwn),
+        TakeOut(1, 8, true),
         Employs(1, false),
         Plan(1018, Err(NoCarrier::Space)),
         Create(1016, Ok((1, 0, 2, 4))),
@@ -337,13 +343,13 @@ fn an_empty_carrier_is_cleared_but_for_the_main_one(rt: HostRuntime) -> Result<(
             carriers_size: 2048,
         }),
         // The blocks of the other carrier are released, and it is gone.
-        TakeOut(2, 8, Released::Kept),
+        TakeOut(2, 8, false),
         BlockAt(2, 8, None),
         BlockAt(2, 28, Some((3, 6))),
-        TakeOut(2, 28, Released::EmptyOwn),
+        TakeOut(2, 28, true),
         Employs(2, false),
         // The main carrier stays without blocks.
-        TakeOut(1, 8, Released::Kept),
+        TakeOut(1, 8, false),
         Employs(1, true),
         MultiFigures(Figures {
             blocks: 0,
@@ -424,7 +430,7 @@ fn a_tail_is_free(rt: HostRuntime) -> Result<(), Fail> {
             carriers: 1,
             carriers_size: 1024,
         }),
-        TakeOut(1, 8, Released::SingleGone),
+        TakeOut(1, 8, true),
         SingleFigures(none),
         FreeUnits(996),
     ];
@@ -491,7 +497,7 @@ fn a_singleblock_carrier_is_cleared_after_its_block(rt: HostRuntime) -> Result<(
         PutSingle(600, 1, (1, 0, 2, 1), (1, 8, 600)),
         PutSingle(1100, 2, (2, 2, 3, 2), (2, 8, 1100)),
         PlanSingle(402, Err(NoCarrier::Space)),
-        TakeOut(1, 8, Released::SingleGone),
+        TakeOut(1, 8, true),
         Employs(1, false),
         BlockAt(1, 8, None),
         BlockAt(2, 8, Some((2, 1100))),
@@ -500,7 +506,7 @@ fn a_singleblock_carrier_is_cleared_after_its_block(rt: HostRuntime) -> Result<(
         PlanSingle(1018, Err(NoCarrier::Space)),
         Create(20, Ok((1, 0, 2, 3))),
         Put(20, 3, Some((1, 8, 20))),
-        TakeOut(2, 8, Released::SingleGone),
+        TakeOut(2, 8, true),
         PutSingle(1528, 4, (2, 2, 3, 4), (2, 8, 1528)),
         Created(4),
     ];
@@ -549,7 +555,7 @@ fn multiblock_and_singleblock_carriers_share_256_numbers(rt: HostRuntime) -> Res
     let steps = [
         PlanSingle(504, Err(NoCarrier::Numbers)),
         Plan(20, Err(NoCarrier::Numbers)),
-        TakeOut(101, 8, Released::SingleGone),
+        TakeOut(101, 8, true),
         Plan(20, Ok((101, 100, 1, 257))),
         PlanSingle(504, Ok((101, 100, 1, 257))),
         PlanSingle(506, Ok((101, 256, 2, 257))),
@@ -591,7 +597,7 @@ fn lines_of_carriers_of_any_kind_stand_by_rising_number(rt: HostRuntime) -> Resu
         PutSingle(410, 4, (5, 7, 1, 5), (5, 8, 410)),
         // A multiblock carrier takes the number of a singleblock carrier that is gone, before that
         // of the two others.
-        TakeOut(2, 8, Released::SingleGone),
+        TakeOut(2, 8, true),
         Create(20, Ok((2, 8, 3, 6))),
     ];
     trial.steps(&rt, rt.alloc(), &steps)?;
@@ -627,34 +633,34 @@ fn a_block_of_a_multiblock_carrier_is_resized_in_its_place(rt: HostRuntime) -> R
             Put(100, 1, Some((1, 8, 100))),
             Put(100, 2, Some((1, 108, 100))),
             // It gives back fewer than 6 units, and so none.
-            Resize(1, 8, 100, 3, Decision::Stay),
+            Resize(1, 8, 100, 3, Some(100)),
             BlockAt(1, 8, Some((3, 100))),
-            Resize(1, 8, 96, 4, Decision::Stay),
+            Resize(1, 8, 96, 4, Some(100)),
             BlockAt(1, 8, Some((4, 100))),
             // What it gives back is a gap, in which a block is placed and released.
-            Resize(1, 8, 94, 5, Decision::ShrinkHere),
+            Resize(1, 8, 94, 5, Some(94)),
             BlockAt(1, 8, Some((5, 94))),
             Put(6, 6, Some((1, 102, 6))),
-            TakeOut(1, 102, Released::Kept),
+            TakeOut(1, 102, false),
             // It takes the gap back, and the next block lies elsewhere.
-            Resize(1, 8, 100, 7, Decision::GrowHere),
+            Resize(1, 8, 100, 7, Some(100)),
             BlockAt(1, 8, Some((7, 100))),
             Put(6, 8, Some((1, 208, 6))),
-            TakeOut(1, 208, Released::Kept),
+            TakeOut(1, 208, false),
             // Of a large gap it takes the front.
-            Resize(1, 108, 108, 9, Decision::GrowHere),
+            Resize(1, 108, 108, 9, Some(108)),
             BlockAt(1, 108, Some((9, 108))),
             Put(6, 10, Some((1, 216, 6))),
-            TakeOut(1, 216, Released::Kept),
+            TakeOut(1, 216, false),
             // A rest of 4 units stays in the block, and no gap is left.
-            Resize(1, 108, 912, 11, Decision::GrowHere),
+            Resize(1, 108, 912, 11, Some(916)),
             BlockAt(1, 108, Some((11, 916))),
             FreeUnits(0),
             Put(6, 12, None),
             // More than half of it would be given back, and then just half.
-            Resize(1, 108, 456, 13, Decision::Move),
+            Resize(1, 108, 456, 13, None),
             BlockAt(1, 108, Some((11, 916))),
-            Resize(1, 108, 458, 14, Decision::ShrinkHere),
+            Resize(1, 108, 458, 14, Some(458)),
             FreeUnits(458),
             Put(458, 15, Some((1, 566, 458))),
             BlockAt(1, 8, Some((7, 100))),
@@ -670,17 +676,17 @@ fn a_block_of_a_singleblock_carrier_is_resized_in_its_place(rt: HostRuntime) -> 
     let steps = [
         PutSingle(600, 1, (1, 0, 2, 1), (1, 8, 600)),
         // It fills its carrier, and has two units too many.
-        Resize(1, 8, 1016, 2, Decision::GrowHere),
+        Resize(1, 8, 1016, 2, Some(1016)),
         FreeUnits(0),
-        Resize(1, 8, 1018, 3, Decision::Move),
+        Resize(1, 8, 1018, 3, None),
         BlockAt(1, 8, Some((2, 1016))),
-        Resize(1, 8, 500, 4, Decision::ShrinkHere),
+        Resize(1, 8, 500, 4, Some(500)),
         FreeUnits(516),
-        Resize(1, 8, 500, 5, Decision::Stay),
+        Resize(1, 8, 500, 5, Some(500)),
         BlockAt(1, 8, Some((5, 500))),
         // It would have a multiblock carrier if it left four fifths of this one.
-        Resize(1, 8, 196, 6, Decision::Move),
-        Resize(1, 8, 198, 7, Decision::ShrinkHere),
+        Resize(1, 8, 196, 6, None),
+        Resize(1, 8, 198, 7, Some(198)),
         BlockAt(1, 8, Some((7, 198))),
         FreeUnits(818),
     ];
@@ -699,7 +705,7 @@ fn a_singleblock_carrier_gives_back_pages_with_its_block(rt: HostRuntime) -> Res
         PutSingle(2000, 1, (1, 0, 4, 1), (1, 8, 2000)),
         PutSingle(600, 2, (2, 4, 2, 2), (2, 8, 600)),
         PlanSingle(1018, Err(NoCarrier::Space)),
-        Resize(1, 8, 500, 3, Decision::ShrinkCarrier { pages: 1 }),
+        Resize(1, 8, 500, 3, Some(500)),
         BlockAt(1, 8, Some((3, 500))),
         BlockAt(2, 8, Some((2, 600))),
         FreeUnits(420),
@@ -712,7 +718,7 @@ fn a_singleblock_carrier_gives_back_pages_with_its_block(rt: HostRuntime) -> Res
         // Its last three pages are free again, and no more of them.
         PutSingle(1528, 4, (3, 1, 3, 3), (3, 8, 1528)),
         PlanSingle(1018, Err(NoCarrier::Space)),
-        TakeOut(1, 8, Released::SingleGone),
+        TakeOut(1, 8, true),
         PlanSingle(504, Ok((1, 0, 1, 4))),
     ];
     trial.steps(&rt, rt.alloc(), &steps)?;
@@ -730,8 +736,8 @@ fn each_block_is_to_move_where_the_settings_say_so(rt: HostRuntime) -> Result<()
         Create(20, Ok((1, 0, 2, 1))),
         Put(100, 1, Some((1, 8, 100))),
         PutSingle(600, 2, (2, 2, 2, 2), (2, 8, 600)),
-        Resize(1, 8, 100, 3, Decision::Move),
-        Resize(2, 8, 600, 4, Decision::Move),
+        Resize(1, 8, 100, 3, None),
+        Resize(2, 8, 600, 4, None),
         BlockAt(1, 8, Some((1, 100))),
         BlockAt(2, 8, Some((2, 600))),
     ];
