@@ -37,8 +37,8 @@ abbrev pub moment_under : List ℕ → Result Config FlagFault → Option Moment
 moment_under input (Ok c) = option_map (moment_of c) (result_ok (trace input c.schedulers))
 moment_under input (Err f) = None
 
--- the moment after the turns of an input's schedule, under the configuration that the words ask for;
--- none where one of them is refused
+-- the moment after the turns of an input's schedule, under the configuration that the words ask
+-- for; none where one of them is refused
 abbrev pub moment : List (List ℕ) → List ℕ → Option Moment
 moment words input = moment_under input (flags words)
 

@@ -3,8 +3,10 @@
 ghost use Rattle.std.specs.Prelude.{◌≡◌, codes, Some, [], ◌∷◌};
 ghost use Rattle.ea_machine.specs.declared.owners.OwnerWord.TheVariants as word;
 ghost use Rattle.ea_machine.specs.Rows.{TakeAll, Look, Abandon, FetchTry, Create, Clear};
-ghost use Rattle.ea_trials_moments.specs.Moments.{contents_of, held_by, owner_word, own_of, row_of, sums};
-ghost use Rattle.ea_trials_moments.specs.Runs.{abandon_and_fetch, moved_block, single_block, main_carriers, carrier_with, named, sums_of, usual};
+ghost use Rattle.ea_trials_moments.specs.Moments.{contents_of, held_by, owner_word, own_of, row_of};
+ghost use Rattle.ea_trials_moments.specs.Moments.{sums};
+ghost use Rattle.ea_trials_moments.specs.Runs.{abandon_and_fetch, moved_block, single_block};
+ghost use Rattle.ea_trials_moments.specs.Runs.{main_carriers, carrier_with, named, sums_of, usual};
 
 /// What stands after so many turns.
 pub fn abandoning()

@@ -3,8 +3,11 @@
 ghost use Rattle.std.specs.Prelude.{◌≡◌, codes, Some, [], ◌∷◌};
 ghost use Rattle.ea_machine.specs.declared.owners.OwnerWord.TheVariants as word;
 ghost use Rattle.ea_machine.specs.Rows.{TakeLink, Look, Push, BusyTry, Settle, Abandon, Give};
-ghost use Rattle.ea_trials_moments.specs.Moments.{given, held_by, owner_word, passed_by, queue_of, rest_of, row_of, sums};
-ghost use Rattle.ea_trials_moments.specs.Runs.{forwarded_block, two_freed, two_in_the_queue, block, carrier_with, linked, named, sums_of, unlinked, usual};
+ghost use Rattle.ea_trials_moments.specs.Moments.{given, held_by, owner_word, passed_by, queue_of};
+ghost use Rattle.ea_trials_moments.specs.Moments.{rest_of, row_of, sums};
+ghost use Rattle.ea_trials_moments.specs.Runs.{forwarded_block, two_freed, two_in_the_queue, block};
+ghost use Rattle.ea_trials_moments.specs.Runs.{carrier_with, linked, named, sums_of, unlinked};
+ghost use Rattle.ea_trials_moments.specs.Runs.{usual};
 
 /// What stands after so many turns.
 pub fn queues()

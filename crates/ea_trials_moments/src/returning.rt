@@ -3,9 +3,12 @@
 ghost use Rattle.std.specs.Prelude.{◌≡◌, codes, Some, [], ◌∷◌};
 ghost use Rattle.ea_machine.specs.declared.nodes.Node.TheVariants.{Carrier};
 ghost use Rattle.ea_machine.specs.declared.owners.OwnerWord.TheVariants as word;
-ghost use Rattle.ea_machine.specs.Rows.{Look, Push, BusyTry, Settle, Abandon, FetchTry, SendHome, Clear};
-ghost use Rattle.ea_trials_moments.specs.Moments.{contents_of, owner_word, own_of, queue_of, rest_of, row_of, sums};
-ghost use Rattle.ea_trials_moments.specs.Runs.{returned_carrier, block, carrier_with, linked, sums_of, unlinked, usual};
+ghost use Rattle.ea_machine.specs.Rows.{Look, Push, BusyTry, Settle, Abandon, FetchTry, SendHome};
+ghost use Rattle.ea_machine.specs.Rows.{Clear};
+ghost use Rattle.ea_trials_moments.specs.Moments.{contents_of, owner_word, own_of, queue_of};
+ghost use Rattle.ea_trials_moments.specs.Moments.{rest_of, row_of, sums};
+ghost use Rattle.ea_trials_moments.specs.Runs.{returned_carrier, block, carrier_with, linked};
+ghost use Rattle.ea_trials_moments.specs.Runs.{sums_of, unlinked, usual};
 
 /// What stands after so many turns.
 pub fn returning()

@@ -4,7 +4,8 @@ ghost use Rattle.std.specs.Prelude.{◌≡◌, codes, Some, [], ◌∷◌};
 ghost use Rattle.ea_machine.specs.declared.owners.OwnerWord.TheVariants as word;
 ghost use Rattle.ea_machine.specs.Rows.{Push, BusyTry, Settle, FetchTry, Create};
 ghost use Rattle.ea_trials_moments.specs.Moments.{contents_of, owner_word, row_of, sums};
-ghost use Rattle.ea_trials_moments.specs.Runs.{pooled_twice, fetched_once, block, carrier_with, sums_of, usual};
+ghost use Rattle.ea_trials_moments.specs.Runs.{pooled_twice, fetched_once, block, carrier_with};
+ghost use Rattle.ea_trials_moments.specs.Runs.{sums_of, usual};
 
 /// What stands after so many turns.
 pub fn tries()

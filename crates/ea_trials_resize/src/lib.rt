@@ -4,7 +4,9 @@
 ghost use Rattle.std.specs.Prelude.{◌≡◌, true};
 ghost use Rattle.ea_model.specs.declared.units.TheConstants.{MAX_UNITS};
 ghost use Rattle.ea_model.specs.Decision.{decision};
-ghost use Rattle.ea_model.specs.declared.reallocation.Decision.TheVariants.{Stay, ShrinkHere, GrowHere, ShrinkCarrier, Move};
+ghost use Rattle.ea_model.specs.declared.reallocation.Decision.TheVariants.{Stay, ShrinkHere};
+ghost use Rattle.ea_model.specs.declared.reallocation.Decision.TheVariants.{GrowHere};
+ghost use Rattle.ea_model.specs.declared.reallocation.Decision.TheVariants.{ShrinkCarrier, Move};
 ghost use Rattle.ea_model.specs.declared.reallocation.Where.TheVariants.{Foreign, Multi, Single};
 ghost use Rattle.ea_trials_resize.specs.Worked.{multi, single, usual};
 

@@ -1,5 +1,6 @@
 -- A worked failure, from what is computed of the run.
-use Rattle.std.proofs.Common.{◌≡◌, ◌≤◌, ℕ, true, ◌==◌, List, [], ◌∷◌, ◌++◌, None, Err, refl, sym, ◌∙◌, ap, subst, inl, inr}
+use Rattle.std.proofs.Common.{◌≡◌, ◌≤◌, ℕ, true, ◌==◌, List, [], ◌∷◌, ◌++◌, None, Err, refl, sym}
+use Rattle.std.proofs.Common.{◌∙◌, ap, subst, inl, inr}
 use Rattle.std.specs.Prelude.{count_by, length}
 use Rattle.ea_model.specs.declared.entries.Entry.{Entry}
 use Rattle.ea_model.specs.declared.entries.NoCarrier.{NoCarrier}

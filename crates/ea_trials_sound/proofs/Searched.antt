@@ -1,5 +1,6 @@
 -- What a search saw, as a test.
-use Rattle.std.proofs.Common.{◌≡◌, ℕ, ◌-◌, Bool, true, false, ◌==◌, ◌&&◌, not, nat_lt, List, [], ◌∷◌, refl, arith}
+use Rattle.std.proofs.Common.{◌≡◌, ℕ, ◌-◌, Bool, true, false, ◌==◌, ◌&&◌, not, nat_lt, List, []}
+use Rattle.std.proofs.Common.{◌∷◌, refl, arith}
 use Rattle.ea_model.specs.declared.units.TheConstants.{SEARCH_LIMIT}
 use Rattle.ea_machine.specs.Owners.{same_word}
 use Rattle.ea_machine.specs.Placements.{counted, fits}

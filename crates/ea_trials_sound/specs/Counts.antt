@@ -4,19 +4,22 @@ use Rattle.std.specs.List.{list_all, list_any, range_with_len}
 use Rattle.ea_model.specs.declared.carriers.OwnCarrier.{OwnCarrier}
 use Rattle.ea_model.specs.declared.carriers.Spot.{Spot}
 use Rattle.ea_model.specs.declared.carriers.Totals.{Totals}
-use Rattle.ea_model.specs.Content.{Content, allocated as allocated_units, free_units, gaps_of, is_multi, is_nil, is_vacant, largest}
+use Rattle.ea_model.specs.Content.{Content, allocated as allocated_units, free_units, gaps_of}
+use Rattle.ea_model.specs.Content.{is_multi, is_nil, is_vacant, largest}
 use Rattle.ea_laws.specs.Kinds.{is_shared}
 use Rattle.ea_machine.specs.declared.nodes.Node.{Node}
 use Rattle.ea_machine.specs.Actor.{Actor}
 use Rattle.ea_sound.specs.Contents.{actor_sum, seats, sum_everywhere}
 use Rattle.ea_sound.specs.Names.{allocated, only, only_at, standing, to_make}
-use Rattle.ea_sound.specs.NodePlaces.{anywhere, at_instance, before_link, carrier_nodes, is_returning, unlinked_at}
+use Rattle.ea_sound.specs.NodePlaces.{anywhere, at_instance, before_link, carrier_nodes}
+use Rattle.ea_sound.specs.NodePlaces.{is_returning, unlinked_at}
 use Rattle.ea_machine.specs.Nodes.{same_spot}
 use Rattle.ea_machine.specs.declared.nodes.Named.{Named}
 use Rattle.ea_machine.specs.Outcome.{outcome, place_of}
 use Rattle.ea_machine.specs.Owners.{CarrierAt, Absent, Employed, Pooled, Busy, Returning}
 use Rattle.ea_model.specs.Instance.{owner_of}
-use Rattle.ea_sound.specs.Places.{busy_count, employed_count, has_number, is_there, owned_as, same_own}
+use Rattle.ea_sound.specs.Places.{busy_count, employed_count, has_number, is_there, owned_as}
+use Rattle.ea_sound.specs.Places.{same_own}
 use Rattle.ea_machine.specs.Setup.{Setup}
 use Rattle.ea_machine.specs.State.{State}
 use Rattle.ea_machine.specs.Sums.{one_if, sum_over, total, total_at}

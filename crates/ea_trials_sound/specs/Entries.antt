@@ -1,5 +1,6 @@
 -- Worked entries of a log: a block that finds no place, and blocks that find one.
-use Rattle.std.specs.Prelude.{ℕ, zero, suc, ◌-◌, List, [], ◌∷◌, ◌++◌, Option, codes, IfSome, option_map}
+use Rattle.std.specs.Prelude.{ℕ, zero, suc, ◌-◌, List, [], ◌∷◌, ◌++◌, Option, codes, IfSome}
+use Rattle.std.specs.Prelude.{option_map}
 use Rattle.ea_model.specs.declared.carriers.Place.{Place}
 use Rattle.ea_model.specs.declared.entries.Entry.{Entry}
 use Rattle.ea_model.specs.declared.entries.NoCarrier.{NoCarrier}

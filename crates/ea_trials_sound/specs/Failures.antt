@@ -1,12 +1,15 @@
 -- The items that fail at the moments of a run.
-use Rattle.std.specs.Prelude.{ℕ, suc, Bool, true, false, List, [], ◌∷◌, ◌++◌, ◌&&◌, Option, map, option_map}
+use Rattle.std.specs.Prelude.{ℕ, suc, Bool, true, false, List, [], ◌∷◌, ◌++◌, ◌&&◌, Option, map}
+use Rattle.std.specs.Prelude.{option_map}
 use Rattle.ea_model.specs.declared.carriers.OwnCarrier.{OwnCarrier}
 use Rattle.ea_machine.specs.declared.nodes.Node.{Node}
 use Rattle.ea_machine.specs.declared.nodes.Node.TheVariants as node
 use Rattle.ea_machine.specs.Nodes.{block_node}
 use Rattle.ea_machine.specs.Setup.{Setup, greatest_number}
 use Rattle.ea_machine.specs.State.{State}
-use Rattle.ea_trials_sound.specs.Counts.{Seen, counts_carriers, counts_links, counts_names, counts_nodes, counts_own, counts_units, lays_out, prints_sums, stay_with_owners, records_gaps}
+use Rattle.ea_trials_sound.specs.Counts.{Seen, counts_carriers, counts_links, counts_names}
+use Rattle.ea_trials_sound.specs.Counts.{counts_nodes, counts_own, counts_units, lays_out}
+use Rattle.ea_trials_sound.specs.Counts.{prints_sums, stay_with_owners, records_gaps}
 use Rattle.ea_trials_sound.specs.Courses.{Course, states_of}
 
 -- what is counted in a state

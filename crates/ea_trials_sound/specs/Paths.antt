@@ -1,6 +1,7 @@
 -- The places through which a name, and the content of a carrier, go in a run, by the counts of the
 -- items.
-use Rattle.std.specs.Prelude.{ℕ, zero, suc, Bool, true, false, ◌==◌, if◌then◌else◌, List, [], ◌∷◌, Option, map, option_map}
+use Rattle.std.specs.Prelude.{ℕ, zero, suc, Bool, true, false, ◌==◌, if◌then◌else◌, List, [], ◌∷◌}
+use Rattle.std.specs.Prelude.{Option, map, option_map}
 use Rattle.ea_sound.specs.Contents.{home_sum, slots}
 use Rattle.ea_sound.specs.Names.{given, held, in_hands, only, queued, walked}
 use Rattle.ea_sound.specs.Places.{busy_count, employed_count, has_number}
@@ -10,7 +11,8 @@ use Rattle.ea_machine.specs.Sums.{total}
 use Rattle.ea_trials_sound.specs.Courses.{Course, states_of}
 
 -- where something is: a name is held, given, in a queue, in a walk or in a hand; a content is with
--- an instance that employs it, in the hand of one for which it is busy, or at home; or it is nowhere
+-- an instance that employs it, in the hand of one for which it is busy, or at home; or it is
+-- nowhere
 pub data Stop : Type 0 where
   Nowhere : Stop
   Held : Stop

@@ -4,7 +4,8 @@ use Rattle.ea_model.specs.declared.carriers.OwnCarrier.{OwnCarrier}
 use Rattle.ea_model.specs.Words.{words}
 use Rattle.ea_machine.specs.declared.nodes.Named.{Named}
 use Rattle.ea_trials_moments.specs.Moments.{Moment, moment}
-use Rattle.ea_trials_moments.specs.Runs.{forwarded_block, named, pooled_twice, returned_carrier, scheduled, two_freed}
+use Rattle.ea_trials_moments.specs.Runs.{forwarded_block, named, pooled_twice, returned_carrier}
+use Rattle.ea_trials_moments.specs.Runs.{scheduled, two_freed}
 use Rattle.ea_trials_sound.specs.Counts.{Seen}
 use Rattle.ea_trials_sound.specs.Courses.{Course, from}
 

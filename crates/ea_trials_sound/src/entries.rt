@@ -6,7 +6,8 @@ ghost use Rattle.ea_model.specs.declared.entries.NoCarrier.TheVariants.{Space};
 ghost use Rattle.ea_machine.specs.declared.owners.OwnerWord.TheVariants as word;
 ghost use Rattle.ea_sound.specs.Searches.{Missed, Shown};
 ghost use Rattle.ea_trials_moments.specs.Runs.{single_block};
-ghost use Rattle.ea_trials_sound.specs.Entries.{FindsNone, FindsPlace, absent_from, full_region, log_of, place, sights_of, two_gaps};
+ghost use Rattle.ea_trials_sound.specs.Entries.{FindsNone, FindsPlace, absent_from, full_region};
+ghost use Rattle.ea_trials_sound.specs.Entries.{log_of, place, sights_of, two_gaps};
 ghost use Rattle.ea_trials_sound.specs.Runs.{moved_away};
 
 /// What a search saw, and that the entries say what is so.

@@ -2,7 +2,8 @@
 
 ghost use Rattle.std.specs.Prelude.{◌≡◌, Some, [], ◌∷◌};
 ghost use Rattle.ea_trials_sound.specs.Failures.{failures};
-ghost use Rattle.ea_trials_sound.specs.Paths.{path_of, content_path, Nowhere, Held, Queued, Walked, InHand, Employed, Busy, Home};
+ghost use Rattle.ea_trials_sound.specs.Paths.{path_of, content_path, Nowhere, Held, Queued, Walked};
+ghost use Rattle.ea_trials_sound.specs.Paths.{InHand, Employed, Busy, Home};
 ghost use Rattle.ea_trials_sound.specs.Runs.{moving, returning, seen_moving, seen_returning};
 
 /// What holds at each moment.

@@ -2,7 +2,8 @@
 
 ghost use Rattle.std.specs.Prelude.{◌≡◌, Some, [], ◌∷◌};
 ghost use Rattle.ea_trials_sound.specs.Failures.{failures};
-ghost use Rattle.ea_trials_sound.specs.Paths.{path_of, content_path, Nowhere, Held, Given, Queued, Walked, InHand, Employed, Home};
+ghost use Rattle.ea_trials_sound.specs.Paths.{path_of, content_path, Nowhere, Held, Given, Queued};
+ghost use Rattle.ea_trials_sound.specs.Paths.{Walked, InHand, Employed, Home};
 ghost use Rattle.ea_trials_sound.specs.Runs.{forwarding, resting, seen_forwarding, seen_resting};
 
 /// What holds at each moment.

@@ -74,7 +74,8 @@ pub returns-clause-two_by_age_with_singles : goal.returns-clause-two_by_age_with
 unfolding digits unused_from bin_of powers answer effect after step_at
 returns-clause-two_by_age_with_singles c = refl
 
-pub returns-clause-four_under_address_order_best_fit : goal.returns-clause-four_under_address_order_best_fit
+pub returns-clause-four_under_address_order_best_fit
+    : goal.returns-clause-four_under_address_order_best_fit
 unfolding digits unused_from bin_of powers answer effect after step_at
 returns-clause-four_under_address_order_best_fit c = refl
 
@@ -106,7 +107,8 @@ pub returns-clause-at_half_utilization : goal.returns-clause-at_half_utilization
 unfolding digits unused_from bin_of powers answer effect after step_at
 returns-clause-at_half_utilization c = refl
 
-pub returns-clause-five_with_carriers_of_one_page : goal.returns-clause-five_with_carriers_of_one_page
+pub returns-clause-five_with_carriers_of_one_page
+    : goal.returns-clause-five_with_carriers_of_one_page
 unfolding digits unused_from bin_of powers answer effect after step_at
 returns-clause-five_with_carriers_of_one_page c = refl
 

@@ -86,7 +86,8 @@ pub returns-clause-two_that_queue : goal.returns-clause-two_that_queue
 unfolding digits unused_from bin_of powers answer effect after step_at
 returns-clause-two_that_queue c = refl
 
-pub returns-clause-two_under_address_order_best_fit : goal.returns-clause-two_under_address_order_best_fit
+pub returns-clause-two_under_address_order_best_fit
+    : goal.returns-clause-two_under_address_order_best_fit
 unfolding digits unused_from bin_of powers answer effect after step_at
 returns-clause-two_under_address_order_best_fit c = refl
 

@@ -26,7 +26,8 @@ pub returns-clause-moves_of_temporary_blocks : goal.returns-clause-moves_of_temp
 unfolding digits unused_from bin_of powers answer effect after step_at
 returns-clause-moves_of_temporary_blocks c = refl
 
-pub returns-clause-failed_move_keeps_the_old_block : goal.returns-clause-failed_move_keeps_the_old_block
+pub returns-clause-failed_move_keeps_the_old_block
+    : goal.returns-clause-failed_move_keeps_the_old_block
 unfolding digits unused_from bin_of powers answer effect after step_at
 returns-clause-failed_move_keeps_the_old_block c = refl
 
@@ -34,7 +35,8 @@ pub returns-clause-in_place_and_moved : goal.returns-clause-in_place_and_moved
 unfolding digits unused_from bin_of powers answer effect after step_at
 returns-clause-in_place_and_moved c = refl
 
-pub returns-clause-address_order_with_many_singles : goal.returns-clause-address_order_with_many_singles
+pub returns-clause-address_order_with_many_singles
+    : goal.returns-clause-address_order_with_many_singles
 unfolding digits unused_from bin_of powers answer effect after step_at
 returns-clause-address_order_with_many_singles c = refl
 
@@ -42,7 +44,8 @@ pub returns-clause-age_order_best_fit : goal.returns-clause-age_order_best_fit
 unfolding digits unused_from bin_of powers answer effect after step_at
 returns-clause-age_order_best_fit c = refl
 
-pub returns-clause-age_order_address_order_best_fit : goal.returns-clause-age_order_address_order_best_fit
+pub returns-clause-age_order_address_order_best_fit
+    : goal.returns-clause-age_order_address_order_best_fit
 unfolding digits unused_from bin_of powers answer effect after step_at
 returns-clause-age_order_address_order_best_fit c = refl
 
@@ -50,7 +53,8 @@ pub returns-clause-age_order_with_two_singles : goal.returns-clause-age_order_wi
 unfolding digits unused_from bin_of powers answer effect after step_at
 returns-clause-age_order_with_two_singles c = refl
 
-pub returns-clause-address_fit_with_three_singles : goal.returns-clause-address_fit_with_three_singles
+pub returns-clause-address_fit_with_three_singles
+    : goal.returns-clause-address_fit_with_three_singles
 unfolding digits unused_from bin_of powers answer effect after step_at
 returns-clause-address_fit_with_three_singles c = refl
 
@@ -66,7 +70,8 @@ pub returns-clause-shrinks_stay : goal.returns-clause-shrinks_stay
 unfolding digits unused_from bin_of powers answer effect after step_at
 returns-clause-shrinks_stay c = refl
 
-pub returns-clause-address_fit_over_several_carriers : goal.returns-clause-address_fit_over_several_carriers
+pub returns-clause-address_fit_over_several_carriers
+    : goal.returns-clause-address_fit_over_several_carriers
 unfolding digits unused_from bin_of powers answer effect after step_at
 returns-clause-address_fit_over_several_carriers c = refl
 

@@ -8,7 +8,8 @@ use Rattle.ea_machine.specs.Machine.{after, step_at}
 use Rattle.ea_trials_moments.specs.Runs.{carrier_with, named, usual}
 use Rattle.ea_trials_sound.specs.Courses.{turns}
 use Rattle.ea_trials_sound.specs.Entries.{absent_from, full_region, place}
-use Rattle.ea_trials_sound.proofs.Placed.{asked, created-placement, fetched-placement, single-placement}
+use Rattle.ea_trials_sound.proofs.Placed.{asked, created-placement, fetched-placement}
+use Rattle.ea_trials_sound.proofs.Placed.{single-placement}
 use Rattle.ea_trials_sound.proofs.Setups.{full_instance, full_setup, moving_setup, under-setup}
 use Rattle.ea_trials_sound.proofs.Exhausted.{exhausted}
 use Rattle.ea_sound.specs.Exhausted.{IsExhausted}
