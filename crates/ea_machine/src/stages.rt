@@ -1,5 +1,5 @@
-//! Where a scheduler is in its operation. A type parameter stands for the content of a carrier: with
-//! the contents of the definitions it is theirs, and with what keeps them it is that of the code.
+//! Where a scheduler is in its operation. A type parameter stands for the content of a carrier:
+//! with the contents of the definitions it is theirs, and with what keeps them that of the code.
 
 use crate::asks::Ask;
 use crate::nodes::{Named, Node};
@@ -7,7 +7,8 @@ use crate::owners::OwnerWord;
 use crate::tasks::{Gone, Why};
 use ea_model::CarrierPlan;
 
-/// The release route of a block, by the row that is next; a content on it is in the scheduler's hand.
+/// The release route of a block, by the row that is next. A content on it is in the scheduler's
+/// hand.
 #[derive(Drop)]
 pub enum Route<C> {
     /// A look at the owner word of the block's carrier.

@@ -3,11 +3,13 @@ use Rattle.std.proofs.Common.{◌≡◌, ℕ, List, [], ◌∷◌, Option, Some,
 use Rattle.ea_model.specs.declared.carriers.Spot.{Spot}
 use Rattle.ea_machine.specs.declared.nodes.Named.{Named}
 use Rattle.ea_machine.specs.declared.nodes.Node.{Node}
-use Rattle.ea_machine.specs.Nodes.{Mark, first_node, link_in, pushed, spot_named, with_name, without_name}
+use Rattle.ea_machine.specs.Nodes.{Mark, first_node, link_in, pushed}
+use Rattle.ea_machine.specs.Nodes.{spot_named, with_name, without_name}
 use Rattle.ea_machine.specs.Alike.{HasNoAlike}
 use Rattle.ea_machine.specs.Owners.{Absent}
 use Rattle.ea_machine.specs.Shared.{Shared, put}
-use Rattle.ea_machine.specs.Rows.{Answer, Done, Give, Got, Head, Link, Push, Row, TakeAll, TakeLink, TakeTry}
+use Rattle.ea_machine.specs.Rows.{Answer, Done, Give, Got, Head, Link}
+use Rattle.ea_machine.specs.Rows.{Push, Row, TakeAll, TakeLink, TakeTry}
 use Rattle.ea_machine.specs.Table.{answer, effect, link_answer, rest_after}
 use Rattle.ea_queues.specs.Chains.{HasNone, Queueing, marks_of}
 use Rattle.ea_shared.specs.Calls.{Did}

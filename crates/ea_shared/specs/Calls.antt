@@ -38,8 +38,8 @@ abbrev pub HasEffect : ℕ → Row → Answer → Option Shared → Shared → T
 HasEffect me row got after before = (got ≡ answer me row before)
     × (after ≡ Some (effect me row before))
 
--- the caller stood so in a reached state, in which the row is answered so and what is shared is as it
--- is told, and took its step there
+-- the caller stood so in a reached state, in which the row is answered so and what is shared is as
+-- it is told, and took its step there
 abbrev pub TookStep : ℕ → Row → Answer → Option Shared → Option Caller → Caller → Type 0
 TookStep me row got shared after before = (state : State) × IsReached before.setup state
     × (before ≡ caller_of before.setup me state) × IfSome shared (λ s. s ≡ state.shared)
