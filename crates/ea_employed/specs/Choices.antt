@@ -2,6 +2,7 @@
 use Rattle.std.specs.Prelude.{◌≡◌, ℕ, ◌+◌, ◌*◌, ◌<◌, ◌≤◌, List, Option}
 use Rattle.std.specs.Prelude.{length, option_map, slice_index_or}
 use Rattle.ea_model.specs.declared.carriers.Candidate.{Candidate}
+use Rattle.ea_model.specs.declared.units.TheConstants.{PAGE_UNITS}
 use Rattle.ea_model.specs.Content.{Content, gaps_of, gap_at}
 use Rattle.ea_employed.specs.declared.choice.Choice.{Choice}
 
@@ -12,7 +13,7 @@ candidate_of found = option_map (λ x. x.candidate) found
 -- the candidate is a whole gap of the content, of at least `need` units
 pub record IsChosenIn (need : ℕ) (c : Content) (x : Candidate) : Type 0 where
   pub number : x.number ≡ c.number
-  pub address : x.address ≡ 512 * c.base + x.offset
+  pub address : x.address ≡ PAGE_UNITS * c.base + x.offset
   pub gap : gap_at (gaps_of c) x.offset ≡ x.size
   pub fits : need ≤ x.size
 
@@ -29,4 +30,4 @@ pub record StandsAt (cs : List Content) (found : Choice) : Type 0 where
   pub within : found.index < length cs
   pub is : slice_index_or cs found.index content ≡ content
   pub number : found.candidate.number ≡ content.number
-  pub address : found.candidate.address ≡ 512 * content.base + found.candidate.offset
+  pub address : found.candidate.address ≡ PAGE_UNITS * content.base + found.candidate.offset

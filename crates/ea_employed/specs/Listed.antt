@@ -14,7 +14,7 @@ use Rattle.ea_cset.specs.declared.keys.CarrierFit.{CarrierFit}
 use Rattle.ea_cset.specs.Carriers.{Carriers}
 use Rattle.ea_goodfit.specs.declared.gaps.BinnedGap.{BinnedGap}
 use Rattle.ea_goodfit.specs.Gaps.{HeldGaps}
-use Rattle.ea_model.specs.declared.units.TheConstants.{MAX_SCHEDULERS, NUMBERS}
+use Rattle.ea_model.specs.declared.units.TheConstants.{MAX_SCHEDULERS, NUMBERS, PAGE_UNITS}
 use Rattle.ea_employed.specs.Binned.{Hold}
 
 -- the carriers of an instance by rising number, and the strategy that chooses among their gaps
@@ -55,7 +55,8 @@ candidate_in inner need cs number = option_and_then (chosen_in inner need) (cont
 
 -- whether the unit at the address is one of the carrier
 abbrev pub spans : ℕ → Content → Bool
-spans address c = nat_le (512 * c.base) address && nat_lt address (512 * c.base + c.units)
+spans address c = nat_le (PAGE_UNITS * c.base) address
+    && nat_lt address (PAGE_UNITS * c.base + c.units)
 
 -- the gap as one of the carrier
 abbrev pub located : BinnedGap → Content → Candidate
@@ -63,7 +64,7 @@ located g c = record {
   number = c.number;
   base = c.base;
   birth = c.birth;
-  offset = g.address - 512 * c.base;
+  offset = g.address - PAGE_UNITS * c.base;
   address = g.address;
   size = g.size;
 }
