@@ -7,7 +7,8 @@ use Rattle.ea_model.specs.Trace.{IsValidTrace}
 use Rattle.ea_machine.specs.declared.nodes.Node.{Node}
 use Rattle.ea_machine.specs.declared.tasks.Gone.{Gone}
 use Rattle.ea_machine.specs.declared.tasks.Why.{Why}
-use Rattle.ea_machine.specs.Actor.{Ended, Linking, Pushing, Routed}
+use Rattle.ea_machine.specs.declared.stages.Stage.TheVariants.{Ended, Routed}
+use Rattle.ea_machine.specs.declared.stages.Route.TheVariants.{Linking, Pushing}
 use Rattle.ea_machine.specs.Machine.{run, step, wants}
 use Rattle.ea_machine.specs.Rows.{Push}
 use Rattle.ea_machine.specs.Setup.{Setup, setup_of}

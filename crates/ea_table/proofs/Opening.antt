@@ -12,7 +12,10 @@ use Rattle.ea_model.specs.declared.settings.Config.{Config}
 use Rattle.ea_model.specs.declared.trace.Trace.{Trace}
 use Rattle.ea_model.specs.Settings.{IsValidConfig}
 use Rattle.ea_model.specs.Trace.{IsValidTrace}
-use Rattle.ea_machine.specs.Actor.{Linking, Route, Routed}
+use Rattle.ea_model.specs.Content.{Content}
+use Rattle.ea_machine.specs.declared.stages.Stage.TheVariants.{Routed}
+use Rattle.ea_machine.specs.declared.stages.Route.{Route}
+use Rattle.ea_machine.specs.declared.stages.Route.TheVariants.{Linking}
 use Rattle.ea_machine.specs.declared.tasks.Gone.{Gone}
 use Rattle.ea_machine.specs.declared.tasks.Why.{Why}
 use Rattle.ea_machine.specs.Machine.{first_stage, start}
@@ -29,7 +32,7 @@ zeros zero i = refl
 zeros (suc k) zero = refl
 zeros (suc k) (suc i) = zeros k i
 
-not-routed : (e : Setup) (b : Bool) (route : Route) (why : Why) (gone : Gone)
+not-routed : (e : Setup) (b : Bool) (route : Route Content) (why : Why) (gone : Gone)
     → first_stage e b ≢ Routed route why gone
 not-routed e true route why gone = λ q. cc
 not-routed e false route why gone = λ q. cc

@@ -15,7 +15,9 @@ use Rattle.ea_model.specs.Settings.{IsValidConfig}
 use Rattle.ea_model.specs.Trace.{IsValidTrace}
 use Rattle.ea_machine.specs.declared.nodes.Node.{Node}
 use Rattle.ea_machine.specs.declared.nodes.Node.TheVariants.{Block, Carrier}
-use Rattle.ea_machine.specs.Actor.{Actor, Ended, Linking, Routed}
+use Rattle.ea_machine.specs.declared.stages.Stage.TheVariants.{Ended, Routed}
+use Rattle.ea_machine.specs.declared.stages.Route.TheVariants.{Linking}
+use Rattle.ea_machine.specs.Actor.{Actor}
 use Rattle.ea_machine.specs.Machine.{run, step, wants, wants_at}
 use Rattle.ea_machine.specs.Nodes.{first_node, pushed}
 use Rattle.ea_machine.specs.Rows.{Row, Nothing, Push}

@@ -12,7 +12,8 @@ use Rattle.ea_model.specs.declared.settings.Config.{Config}
 use Rattle.ea_model.specs.declared.trace.Trace.{Trace}
 use Rattle.ea_model.specs.Settings.{IsValidConfig, settings_of}
 use Rattle.ea_model.specs.Trace.{IsValidTrace}
-use Rattle.ea_machine.specs.Actor.{Actor, Ended}
+use Rattle.ea_machine.specs.declared.stages.Stage.TheVariants.{Ended}
+use Rattle.ea_machine.specs.Actor.{Actor}
 use Rattle.ea_machine.specs.Machine.{first_actor, run, start}
 use Rattle.ea_machine.specs.Setup.{migration, setup_of}
 use Rattle.ea_sched.specs.Acting.{actor_of, setup_for}

@@ -19,7 +19,9 @@ use Rattle.ea_machine.specs.declared.nodes.Node.{Node}
 use Rattle.ea_machine.specs.declared.nodes.Node.TheVariants.{Block}
 use Rattle.ea_machine.specs.declared.tasks.Gone.{Gone}
 use Rattle.ea_machine.specs.declared.tasks.Why.{Why}
-use Rattle.ea_machine.specs.Actor.{Actor, Linking, Routed}
+use Rattle.ea_machine.specs.declared.stages.Stage.TheVariants.{Routed}
+use Rattle.ea_machine.specs.declared.stages.Route.TheVariants.{Linking}
+use Rattle.ea_machine.specs.Actor.{Actor}
 use Rattle.ea_machine.specs.Courses.{AreSteps}
 use Rattle.ea_machine.specs.Machine.{run, wants}
 use Rattle.ea_machine.specs.Nodes.{Mark, first_node, spot_named}

@@ -5,7 +5,7 @@ use Rattle.ea_model.specs.declared.outcome.Outcome.{Outcome}
 use Rattle.ea_model.specs.declared.settings.Config.{Config}
 use Rattle.ea_model.specs.declared.trace.Trace.{Trace}
 use Rattle.ea_model.specs.Outcome.{plain_outcome}
-use Rattle.ea_machine.specs.Actor.{Ended}
+use Rattle.ea_machine.specs.declared.stages.Stage.TheVariants.{Ended}
 use Rattle.ea_machine.specs.Courses.{AreSteps, HaveEnded}
 use Rattle.ea_machine.specs.Machine.{first_actor, run}
 use Rattle.ea_machine.specs.Outcome as machine

@@ -86,7 +86,21 @@ fn run_workers<'t, R: Threads + Sync, G: Gate + Sync>(
         → HasEnded board.now.table.shared.key.config board.now.table.shared.key.trace.now
         board.now.table.shared.table_id (k + 1) (slice_index_or fs.items k d)) }
 {
-    Ok(thread::map_vec(rt, workers, &|w| { run_worker(w, alloc, board, gate) })?)
+    Ok(thread::map_vec(
+        rt,
+        workers,
+        &|w: Worker<'_>|
+            requires config { IsValidConfig board.now.table.shared.key.config }
+            requires trace { IsValidTrace board.now.table.shared.key.config.schedulers
+                board.now.table.shared.key.trace.now }
+            requires fresh { IsFresh board.now.table.shared.key.config
+                board.now.table.shared.key.trace.now board.now.table.shared.table_id
+                w.scheduler.number w }
+            ensures { HasEnded board.entry.now.table.shared.key.config
+                board.entry.now.table.shared.key.trace.now board.entry.now.table.shared.table_id
+                w.entry.scheduler.number result }
+        { run_worker(w, alloc, board, gate) },
+    )?)
 }
 
 /// Whether a scheduler had no memory.

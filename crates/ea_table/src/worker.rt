@@ -1,6 +1,6 @@
 //! A scheduler that runs beside others.
 ghost use Rattle.std.specs.Prelude.{◌≡◌, false, Some, None, IsFalse};
-ghost use Rattle.ea_machine.specs.Actor.{Ended};
+ghost use Rattle.ea_machine.specs.declared.stages.Stage.TheVariants.{Ended};
 ghost use Rattle.ea_sched.specs.Acting.{actor_of};
 ghost use Rattle.ea_sched.specs.Steps.{IsReady};
 ghost use Rattle.ea_table.specs.Ruling.{acting, actor_in, caller_in};

@@ -4,7 +4,7 @@ use Rattle.ea_table.specs.declared.worker.Finished.{Finished}
 use Rattle.ea_table.proofs.threads.run_workers.Goals as goal
 
 pub map_vec-requires-after_bounds : goal.map_vec-requires-after_bounds
-map_vec-requires-after_bounds g c κs within = λ i x less is _ _ _ _ _ _.
+map_vec-requires-after_bounds g c κs within = λ i x less is.
     let b = c.args.board.now in
     let w = subst (IsFresh b.table.shared.key.config b.table.shared.key.trace.now
     b.table.shared.table_id (i + 1)) (sym is) (c.requires.each i x (omega (
