@@ -8,6 +8,7 @@ use crate::tests::Step::{
     PutSingle, Resize, SingleFigures, TakeOut,
 };
 use ea_instance::{CarrierPlan, Instance};
+use ea_mbc::Mbc;
 use ea_model::{
     Block, CarrierLine, Figures, Kind, List, NoCarrier, OutOfMemory, Place, Settings, Spot,
     Standing, Strategy,
@@ -742,5 +743,64 @@ fn each_block_is_to_move_where_the_settings_say_so(rt: HostRuntime) -> Result<()
         BlockAt(2, 8, Some((2, 600))),
     ];
     trial.steps(&rt, rt.alloc(), &steps)?;
+    Ok(())
+}
+
+// A carrier may be abandoned where fewer than 60 percent of its units are allocated.
+const MIGRATING: Settings = Settings {
+    strategy: Strategy::AoffCbf,
+    acul: 60,
+    ..LOW_THRESHOLD
+};
+
+// Carriers of two pages: a multiblock carrier that instance 1 created, and the first singleblock
+// carrier of instance 2.
+const FOREIGN: CarrierPlan = CarrierPlan {
+    number: 1,
+    base: 0,
+    pages: 2,
+    birth: 1,
+    single: false,
+};
+
+const SINGLE: CarrierPlan = CarrierPlan {
+    number: 257,
+    base: 128,
+    pages: 2,
+    birth: 1,
+    single: true,
+};
+
+#[test]
+fn a_carrier_of_another_instance_comes_and_goes(rt: HostRuntime) -> Result<(), Fail> {
+    let mut instance = Instance::new(rt.alloc(), MIGRATING, 2, 128, 100)?;
+    instance.adopt(Mbc::new(rt.alloc(), FOREIGN, 1)?);
+    assert!(rt; !instance.owns(1));
+    let carrier = instance.give_up(1);
+    assert!(rt; !instance.employs(1));
+    instance.adopt(carrier);
+    // Of its 1024 units 614 are less than 60 percent, and 620 are not.
+    for (need, offset, due) in [(310, 8, true), (304, 318, true), (6, 622, false)] {
+        let place = instance.try_alloc(need, offset)?;
+        assert_eq!(rt; place, Some(place_of((1, offset, need))));
+        assert!(rt; instance.employs(1));
+        assert!(rt; instance.due(1) == due, "{need}");
+    }
+    Ok(())
+}
+
+#[test]
+fn a_singleblock_carrier_without_its_block_is_given_up(rt: HostRuntime) -> Result<(), Fail> {
+    let mut instance = Instance::new(rt.alloc(), MIGRATING, 2, 128, 100)?;
+    assert!(rt; instance.is_alone(600));
+    assert_eq!(rt; instance.plan_carrier(600, true), Ok(SINGLE));
+    let Place {
+        carrier,
+        offset,
+        ..
+    } = instance.create_single(SINGLE, 600, 1);
+    assert!(rt; instance.release(Spot { carrier, offset })?);
+    let single = instance.give_up_single(257);
+    assert!(rt; single.number() == 257 && instance.owns(257) && !instance.employs(257));
     Ok(())
 }
