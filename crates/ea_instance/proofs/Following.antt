@@ -42,7 +42,8 @@ pub single-emptied : (c : Content) (offset : ℕ) → IsLaidOutAlone c
 single-emptied c offset alone some = one_gone c.units offset c.blocks alone.block some
 
 -- and is to be deallocated
-pub single-vacant : (c : Content) (offset : ℕ) → IsLaidOutAlone c → IsSome (block_at c.blocks offset)
+pub single-vacant : (c : Content) (offset : ℕ) → IsLaidOutAlone c → IsSome (block_at c.blocks
+    offset)
     → true ≡ is_vacant (released c offset)
 single-vacant c offset alone some =
     sym (ap (λ k. can_go k && is_nil (released c offset).blocks) alone.single

@@ -1,6 +1,8 @@
 -- What an instance keeps of its carriers through its calls.
-use Rattle.std.proofs.Common.{◌≡◌, ◌≢◌, ℕ, ◌+◌, ◌*◌, ◌%◌, ◌<◌, ◌≤◌, true, false, List, length, All, sym, ap, ◌∙◌, subst, refl, arith}
-use Rattle.std.specs.Prelude.{◌↔◌, IsNone, Option, Some, None, Result, Ok, Err, IfOk, is_some, option_map}
+use Rattle.std.proofs.Common.{◌≡◌, ◌≢◌, ℕ, ◌+◌, ◌*◌, ◌%◌, ◌<◌, ◌≤◌, true, false, List, length, All}
+use Rattle.std.proofs.Common.{sym, ap, ◌∙◌, subst, refl, arith}
+use Rattle.std.specs.Prelude.{◌↔◌, IsNone, Option, Some, None, Result, Ok, Err, IfOk, is_some}
+use Rattle.std.specs.Prelude.{option_map}
 use Rattle.ea_model.specs.declared.settings.Settings.{Settings}
 use Rattle.ea_model.specs.declared.carriers.Candidate.{Candidate}
 use Rattle.ea_model.specs.declared.carriers.OwnCarrier.{OwnCarrier}
@@ -10,26 +12,40 @@ use Rattle.ea_model.specs.declared.carriers.CarrierPlan.{CarrierPlan}
 use Rattle.ea_model.specs.declared.entries.NoCarrier.{NoCarrier}
 use Rattle.ea_model.specs.declared.carriers.Kind.TheVariants.{Multi}
 use Rattle.ea_model.specs.Content.{Content, block_at, placed, released}
-use Rattle.ea_model.specs.Instance.{Instance, block_in, changed, changing, chosen_spot, content_of, created_content, created_single, creating, creating_single, employed, free_run, has_content, is_used, own_at, own_of, place_at, placing_at, plan, planned_own, releasing_at, single_place, size_for, with_content, with_own, without_content, without_own}
+use Rattle.ea_model.specs.Instance.{Instance, block_in, changed, changing, chosen_spot, content_of}
+use Rattle.ea_model.specs.Instance.{created_content, created_single, creating, creating_single}
+use Rattle.ea_model.specs.Instance.{employed, free_run, has_content, is_used, own_at, own_of}
+use Rattle.ea_model.specs.Instance.{place_at, placing_at, plan, planned_own, releasing_at}
+use Rattle.ea_model.specs.Instance.{single_place, size_for, with_content, with_own, without_content}
+use Rattle.ea_model.specs.Instance.{without_own}
 use Rattle.ea_model.specs.Employment.{dismissing, employing}
-use Rattle.ea_model.specs.Strategies.{candidates, choice_among, choice_empty, may_miss, or_else, spot_of}
+use Rattle.ea_model.specs.Strategies.{candidates, choice_among, choice_empty, may_miss, or_else}
+use Rattle.ea_model.specs.Strategies.{spot_of}
 use Rattle.ea_instance.specs.Answers.{placing_if}
 use Rattle.ea_employed.specs.Choices.{IsChoice}
 use Rattle.ea_employed.specs.declared.choice.Choice.{Choice}
 use Rattle.ea_instance.specs.Kept.{KeepsCarriers, seen_as}
 use Rattle.ea_employed.specs.Listed.{CarrierList}
 use Rattle.ea_instance.specs.Own.{OwnList}
-use Rattle.ea_laws.specs.Kept.{number_of, ContentsApart, IsLaidOut, IsRising, IsSomeones, IsWhole, Stands}
+use Rattle.ea_laws.specs.Kept.{number_of, ContentsApart, IsLaidOut, IsRising, IsSomeones, IsWhole}
+use Rattle.ea_laws.specs.Kept.{Stands}
 use Rattle.ea_laws.specs.Spots.{FindsNone, HasGap, HaveSameBlocks, IsPlaced}
 use Rattle.ea_laws.proofs.Blocks.{creating-same, creating_single-IsPlaced, placing-IsPlaced}
-use Rattle.ea_laws.proofs.Keeping.{IsLaidOut-made, has-number, lies-low, other-numbers, plan-IsPlanned}
+use Rattle.ea_laws.proofs.Keeping.{IsLaidOut-made, has-number, lies-low, other-numbers}
+use Rattle.ea_laws.proofs.Keeping.{plan-IsPlanned}
 use Rattle.ea_laws.proofs.Refusals.{chosen-none, chosen-none_at_all}
-use Rattle.ea_laws.proofs.Standing.{creating-Stands, dismissing-Stands, disowning-Stands, employing-Stands, creating_single-Stands, employed-few, employed-multi, employed-rising, multi-apart, placing-Stands, planned-alone, planned-apart, planned-new, releasing-Stands, singles-few}
-use Rattle.ea_model.specs.declared.units.TheConstants.{MAX_PAGES, MAX_SCHEDULERS, MAX_UNITS, NUMBERS}
+use Rattle.ea_laws.proofs.Standing.{creating-Stands, dismissing-Stands, disowning-Stands}
+use Rattle.ea_laws.proofs.Standing.{employing-Stands, creating_single-Stands, employed-few}
+use Rattle.ea_laws.proofs.Standing.{employed-multi, employed-rising, multi-apart, placing-Stands}
+use Rattle.ea_laws.proofs.Standing.{planned-alone, planned-apart, planned-new, releasing-Stands}
+use Rattle.ea_laws.proofs.Standing.{singles-few}
+use Rattle.ea_model.specs.declared.units.TheConstants.{MAX_PAGES, MAX_SCHEDULERS, MAX_UNITS}
+use Rattle.ea_model.specs.declared.units.TheConstants.{NUMBERS}
 use Rattle.ea_laws.proofs.Changed.{KeepsPlace, released-keeps}
 use Rattle.ea_laws.proofs.Contents.{absent-among}
 use Rattle.ea_model.proofs.Merged.{merged-apart, merged-each, merged-second, merged-without}
-use Rattle.ea_model.proofs.Rising.{changed_none, item_at-All, item_at-each, item_at-gone, item_at-key, length-entered, none-other, without_none}
+use Rattle.ea_model.proofs.Rising.{changed_none, item_at-All, item_at-each, item_at-gone}
+use Rattle.ea_model.proofs.Rising.{item_at-key, length-entered, none-other, without_none}
 use Rattle.std.specs.Option.{option_and_then}
 
 -- the carrier that enters is the planned one
@@ -353,7 +369,8 @@ module _ (s : Settings) (n : ℕ) (own : OwnList) (ks : CarrierList) (ss : List 
     has-gap =
         let number = choice.chosen.number ∙ sym (ap number_of choice.is) in
         let there = ap (content_of ks.contents) number
-        ∙ item_at-each number_of found.index choice.content ks.contents k.stands.rising choice.within
+        ∙ item_at-each number_of found.index choice.content ks.contents k.stands.rising
+        choice.within
         ∙ ap Some choice.is in
         (choice.content, there, omega (arith, choice.chosen.gap, choice.chosen.fits))
 
@@ -473,7 +490,8 @@ module _ (s : Settings) (n : ℕ) (own : OwnList) (ks : CarrierList) (ss : List 
         kept-single-created =
             subst (λ ys. KeepsCarriers s n more ks ys p.birth) (sym is)
             (subst (λ os. KeepsCarriers s n os ks
-            (with_content (created_single n p need name) ss) p.birth) (sym added) (keeping _ _ _ _ _ _ k.strategy
+            (with_content (created_single n p need name) ss) p.birth) (sym added) (keeping _ _ _ _
+            _ _ k.strategy
             (creating_single-Stands here need p k.stands asked_here name least even)))
 
         pub seen-single-created : seen_as s n more ks new p.birth

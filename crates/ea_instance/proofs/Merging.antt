@@ -1,5 +1,6 @@
 -- The lines of two lists of carriers, by rising number.
-use Rattle.std.proofs.Common.{◌≡◌, ℕ, ◌+◌, ◌<◌, ◌≤◌, ◌++◌, true, false, List, [], ◌∷◌, length, map, get_or, drop, All, sym, ap, ◌∙◌, refl, inl, inr, arith, append_assoc}
+use Rattle.std.proofs.Common.{◌≡◌, ℕ, ◌+◌, ◌<◌, ◌≤◌, ◌++◌, true, false, List, [], ◌∷◌, length, map}
+use Rattle.std.proofs.Common.{get_or, drop, All, sym, ap, ◌∙◌, refl, inl, inr, arith, append_assoc}
 use Rattle.std.proofs.lemmas.Bool.{cases_lt}
 use Rattle.std.proofs.lemmas.List.{drop_more, get_or-drop, length-drop}
 use Rattle.std.proofs.lemmas.List.Elements.{All-head, All-tail}
@@ -37,7 +38,15 @@ module _ (cs : List Content) (rising : IsRising cs) (i : ℕ) (d : Content) (wit
         let at = ap number_of (get_or-drop i cs k e) in
         let last = length-drop i cs in
         elim (cases_lt 0 k) [
-          | inl more ↦ omega (arith, at, later (i + k) e (omega arith) (omega (arith, inside, last)))
+          | inl more ↦ omega (
+            arith,
+            at,
+            later (i + k) e (omega arith) (omega (
+              arith,
+              inside,
+              last,
+            )),
+          )
           | inr here ↦ omega (
             arith,
             at,
@@ -57,7 +66,8 @@ module _ (cs : List Content) (rising : IsRising cs) (i : ℕ) (d : Content) (wit
         )
 
 -- the same lines, at the same places
-pub lines-same : (employer : ℕ) (cs ds : List Content) (ls now all : List CarrierLine) (m n s t : ℕ) → now ≡ ls
+pub lines-same : (employer : ℕ) (cs ds : List Content) (ls now all : List CarrierLine) (m n s t :
+    ℕ) → now ≡ ls
     → n ≡ m → t ≡ s
     → ls ++ map (carrier_line employer) (merged number_of (drop m cs) (drop s ds)) ≡ all
     → now ++ map (carrier_line employer) (merged number_of (drop n cs) (drop t ds)) ≡ all
@@ -66,7 +76,8 @@ lines-same employer cs ds ls now all m n s t e f g so =
     ∙ ap (λ k. ls ++ map (carrier_line employer) (merged number_of (drop k cs) (drop t ds))) f
     ∙ ap (λ k. ls ++ map (carrier_line employer) (merged number_of (drop m cs) (drop k ds))) g ∙ so
 
-module _ (employer : ℕ) (cs ds : List Content) (rising_cs : IsRising cs) (rising_ds : IsRising ds) (m s : ℕ)
+module _ (employer : ℕ) (cs ds : List Content) (rising_cs : IsRising cs) (rising_ds : IsRising ds)
+    (m s : ℕ)
     (d : Content) where
   next_left : GoesFirst true cs m ds s
       → merged number_of (drop m cs) (drop s ds)
@@ -110,7 +121,8 @@ module _ (employer : ℕ) (cs ds : List Content) (rising_cs : IsRising cs) (risi
       ∙ append_assoc lines (carrier_line employer x ∷ []) rest ∙ so
 
   pub more-left : GoesFirst true cs m ds s → (lines new all : List CarrierLine)
-      → (line : CarrierLine) → new ≡ lines ++ line ∷ [] → line ≡ carrier_line employer (get_or cs m d)
+      → (line : CarrierLine) → new ≡ lines ++ line ∷ [] → line ≡ carrier_line employer (get_or cs m
+      d)
       → lines ++ map (carrier_line employer) (merged number_of (drop m cs) (drop s ds)) ≡ all
       → new ++ map (carrier_line employer) (merged number_of (drop (m + 1) cs) (drop s ds)) ≡ all
   more-left first lines new all line is made so =
@@ -119,7 +131,8 @@ module _ (employer : ℕ) (cs ds : List Content) (rising_cs : IsRising cs) (risi
       (sym (ap (λ xs. lines ++ map (carrier_line employer) xs) (next_left first)) ∙ so)
 
   pub more-right : GoesFirst false cs m ds s → (lines new all : List CarrierLine)
-      → (line : CarrierLine) → new ≡ lines ++ line ∷ [] → line ≡ carrier_line employer (get_or ds s d)
+      → (line : CarrierLine) → new ≡ lines ++ line ∷ [] → line ≡ carrier_line employer (get_or ds s
+      d)
       → lines ++ map (carrier_line employer) (merged number_of (drop m cs) (drop s ds)) ≡ all
       → new ++ map (carrier_line employer) (merged number_of (drop m cs) (drop (s + 1) ds)) ≡ all
   more-right first lines new all line is made so =

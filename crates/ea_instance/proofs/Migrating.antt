@@ -1,6 +1,7 @@
 -- Which carriers migrate.
 use Rattle.std.specs.Prelude.{Option, None, Some, IfSome, ◌&&◌, not}
-use Rattle.std.proofs.Common.{All, List, ◌≡◌, ◌≢◌, ℕ, zero, suc, ◌<◌, true, false, refl, sym, ap, ◌∙◌, arith}
+use Rattle.std.proofs.Common.{All, List, ◌≡◌, ◌≢◌, ℕ, zero, suc, ◌<◌, true, false, refl, sym, ap}
+use Rattle.std.proofs.Common.{◌∙◌, arith}
 use Rattle.ea_model.specs.declared.settings.Settings.{Settings}
 use Rattle.ea_model.specs.declared.settings.Strategy.TheVariants.{Gf}
 use Rattle.ea_model.specs.Settings.{IsValid, can_migrate}

@@ -1,5 +1,6 @@
 -- The carriers that an instance owns, with one more, with one less and with one of fewer pages.
-use Rattle.std.proofs.Common.{◌≡◌, ℕ, ◌+◌, ◌<◌, ◌≤◌, refl, false, List, [], ◌∷◌, length, get_or, set, inl, inr, sym, ap, ◌∙◌, subst, arith}
+use Rattle.std.proofs.Common.{◌≡◌, ℕ, ◌+◌, ◌<◌, ◌≤◌, refl, false, List, [], ◌∷◌, length, get_or}
+use Rattle.std.proofs.Common.{set, inl, inr, sym, ap, ◌∙◌, subst, arith}
 use Rattle.std.specs.Prelude.{IfSome, Some, ◌==◌}
 use Rattle.std.proofs.lemmas.Bool.{cond_both}
 use Rattle.std.proofs.lemmas.List.Elements.{All-filter, All-map, All-weaker}
@@ -13,7 +14,8 @@ use Rattle.ea_model.specs.Region.{Laid, Region, AreFree, IsTail, cut_from, with_
 use Rattle.ea_model.proofs.Options.{some_holds}
 use Rattle.ea_model.proofs.Rising.{change, All-entered, rising-changed, rising-entered, set-changed}
 use Rattle.ea_laws.specs.Kept.{own_number, HasPages}
-use Rattle.ea_laws.proofs.CarrierSegments.{length-segments, own_at-IsTail, segments-shortened, segments-with_own, segments-without, with_pages}
+use Rattle.ea_laws.proofs.CarrierSegments.{length-segments, own_at-IsTail, segments-shortened}
+use Rattle.ea_laws.proofs.CarrierSegments.{segments-with_own, segments-without, with_pages}
 use Rattle.ea_laws.proofs.Owned.{unused-All}
 use Rattle.ea_laws.proofs.Segments.{IsTail_cases, Laid-end}
 use Rattle.ea_instance.specs.Own.{HaveSegments}

@@ -1,27 +1,34 @@
 -- What a reallocation in place makes of an instance.
-use Rattle.std.proofs.Common.{◌≡◌, ◌≢◌, ℕ, ◌+◌, ◌*◌, ◌/◌, ◌%◌, ◌<◌, ◌≤◌, List, [], ◌∷◌, All, sym, ap, ◌∙◌, subst, refl, inl, inr, arith}
+use Rattle.std.proofs.Common.{◌≡◌, ◌≢◌, ℕ, ◌+◌, ◌*◌, ◌/◌, ◌%◌, ◌<◌, ◌≤◌, List, [], ◌∷◌, All, sym}
+use Rattle.std.proofs.Common.{ap, ◌∙◌, subst, refl, inl, inr, arith}
 use Rattle.std.specs.Prelude.{◌↔◌, Option, Some, None, IsNone, IsSome, IfSome}
 use Rattle.std.proofs.lemmas.Bool.{cases_eq}
 use Rattle.std.proofs.lemmas.List.Elements.{All-head, All-tail}
 use Rattle.ea_model.specs.declared.carriers.BlockAt.{BlockAt}
 use Rattle.ea_model.specs.declared.carriers.Spot.{Spot}
 use Rattle.ea_model.specs.declared.reallocation.Decision.{Decision}
-use Rattle.ea_model.specs.declared.reallocation.Decision.TheVariants.{Stay, ShrinkHere, GrowHere, ShrinkCarrier, Move}
+use Rattle.ea_model.specs.declared.reallocation.Decision.TheVariants.{Stay, ShrinkHere, GrowHere}
+use Rattle.ea_model.specs.declared.reallocation.Decision.TheVariants.{ShrinkCarrier, Move}
 use Rattle.ea_model.specs.declared.reallocation.Where.TheVariants.{Multi, Single}
 use Rattle.ea_model.specs.declared.settings.Settings.{Settings}
 use Rattle.ea_model.specs.Content.{Content, allocated, block_at, gap_behind, resized, size_of}
 use Rattle.ea_model.specs.Decision.{decision, size_after}
-use Rattle.ea_model.specs.Instance.{Instance, block_in, changed, content_of, decision_at, employed, own_at, own_of, resized_by, resized_in, resized_to, resizing_at, shortened}
+use Rattle.ea_model.specs.Instance.{Instance, block_in, changed, content_of, decision_at, employed}
+use Rattle.ea_model.specs.Instance.{own_at, own_of, resized_by, resized_in, resized_to, resizing_at}
+use Rattle.ea_model.specs.Instance.{shortened}
 use Rattle.ea_model.specs.Keyed.{changed_at}
 use Rattle.ea_model.proofs.Options.{same-some, some_value}
-use Rattle.ea_model.proofs.Rising.{changed-found, changed_here, changed_past, item_at-All, item_here, item_past}
+use Rattle.ea_model.proofs.Rising.{changed-found, changed_here, changed_past, item_at-All}
+use Rattle.ea_model.proofs.Rising.{item_here, item_past}
 use Rattle.ea_mbc.specs.Gaps.{room_at}
 use Rattle.ea_laws.specs.Kept.{number_of, HasOneBlock, IsLaidOutAlone, Stands}
 use Rattle.ea_laws.proofs.Apart.{only-item}
 use Rattle.ea_laws.proofs.Changed.{resized-keeps}
 use Rattle.ea_laws.proofs.Contents.{block_among}
 use Rattle.ea_laws.proofs.Owned.{with_units}
-use Rattle.ea_laws.proofs.Reallocating.{multi-decided, multi-grows, multi-resized_to, multi-shrinks, resizing-Stands, single-decided, single-fits, single-resized_to, single-shortens, single-stays}
+use Rattle.ea_laws.proofs.Reallocating.{multi-decided, multi-grows, multi-resized_to, multi-shrinks}
+use Rattle.ea_laws.proofs.Reallocating.{resizing-Stands, single-decided, single-fits}
+use Rattle.ea_laws.proofs.Reallocating.{single-resized_to, single-shortens, single-stays}
 use Rattle.ea_laws.proofs.Standing.{employed-multi, single-own}
 use Rattle.ea_instance.specs.Kept.{KeepsCarriers, seen_as}
 use Rattle.ea_employed.specs.Listed.{CarrierList}
@@ -76,8 +83,16 @@ one_block : (units offset : ℕ) (b : BlockAt) (bs : List BlockAt) → HasOneBlo
     → block_at bs offset ≡ Some b → (offset ≡ 8) × (allocated bs ≡ b.size)
 one_block units offset b [] h found = absurd cc
 one_block units offset b (x ∷ []) h found = elim (cases_eq x.offset offset) [
-  | inl e ↦ (sym e ∙ h.0, omega (arith, ap size_of (sym (item_here (λ y. y.offset) offset x [] e) ∙ found)))
-  | inr n ↦ absurd (let e : None ≡ Some b = sym (item_past (λ y. y.offset) offset x [] n) ∙ found in cc)
+  | inl e ↦ (
+    sym e ∙ h.0,
+    omega (
+      arith,
+      ap size_of (sym (item_here (λ y. y.offset) offset x [] e) ∙
+          found),
+    ),
+  )
+  | inr n ↦ absurd (let e : None ≡ Some b = sym (item_past (λ y. y.offset) offset x [] n) ∙
+      found in cc)
 ]
 one_block units offset b (x ∷ y ∷ bs) h found = absurd h
 
@@ -193,7 +208,8 @@ module _ (s : Settings) (n : ℕ) (own : OwnList) (ks : CarrierList) (ss : List 
             (changed_same (λ x. resized x offset (units x) name) g number c ks.contents
             (only-item number c ks.contents k.laid.rising there)
             (ap (λ m. resized c offset m name) units_there))
-            ∙ changed-multi s n own ks ss created k g (resized-keeps offset size name) number c there
+            ∙ changed-multi s n own ks ss created k g (resized-keeps offset size name) number c
+            there
             ∙ resized_here e place here spot size name
             ∙ ap (λ x. resized_by x here spot size name) (sym (decided_here d decided ∙ arm))
 

@@ -1,17 +1,28 @@
 //! The instance and its calls.
-ghost use Rattle.std.specs.Prelude.{◌≡◌, [], ◌≢◌, ℕ, ◌+◌, ◌*◌, ◌/◌, ◌%◌, ◌^◌, ◌<◌, ◌≤◌, ◌++◌, max, true, false, Some, None, Ok, Err, Result, All, IsNone, ◌↔◌, IsSome, IfSome, IfOk, List as Items, OnOk, OnErr, map, sum_by, option_map};
+ghost use Rattle.std.specs.Prelude.{◌≡◌, [], ◌≢◌, ℕ, ◌+◌, ◌*◌, ◌/◌, ◌%◌, ◌^◌, ◌<◌, ◌≤◌, ◌++◌, max};
+ghost use Rattle.std.specs.Prelude.{true, false, Some, None, Ok, Err, Result, All, IsNone, ◌↔◌};
+ghost use Rattle.std.specs.Prelude.{IsSome, IfSome, IfOk, List as Items, OnOk, OnErr, map, sum_by};
+ghost use Rattle.std.specs.Prelude.{option_map};
 ghost use Rattle.ea_model.specs.declared.carriers.Kind.TheVariants.{Multi, Single};
 ghost use Rattle.ea_model.specs.declared.carriers.Spot.{Spot};
 ghost use Rattle.ea_model.specs.declared.carriers.CarrierPlan.{CarrierPlan};
 ghost use Rattle.ea_model.specs.declared.reallocation.Decision.TheVariants.{Move};
-ghost use Rattle.ea_model.specs.declared.units.TheConstants.{MAX_PAGES, MAX_PERCENT, MAX_SCHEDULERS, MAX_UNITS, NUMBERS};
+ghost use Rattle.ea_model.specs.declared.units.TheConstants.{MAX_PAGES, MAX_PERCENT};
+ghost use Rattle.ea_model.specs.declared.units.TheConstants.{MAX_SCHEDULERS, MAX_UNITS, MIN_BLOCK};
+ghost use Rattle.ea_model.specs.declared.units.TheConstants.{NUMBERS};
 ghost use Rattle.ea_model.specs.Content.{Content, named, free_units, gaps_of};
 ghost use Rattle.ea_model.specs.declared.entries.NoCarrier.TheVariants.{Numbers, Space};
 ghost use Rattle.ea_model.specs.Region.{runs};
 ghost use Rattle.ea_model.specs.Settings.{IsValid};
 ghost use Rattle.ea_model.specs.Units.{pages_for};
 ghost use Rattle.ea_model.specs.Strategies.{candidates, may_miss};
-ghost use Rattle.ea_model.specs.Instance.{carrier_line, main_content, new_instance, growth, is_alone, multis, unused_from, plan, created_content, creating, creating_single, chosen_spot, employed, single_place, place_at, releasing_at, own_of, resized_to, resizing_at, decision_at, content_of, block_in, has_content, has_vacant, is_used, own_at, segments, least_pages};
+ghost use Rattle.ea_model.specs.Instance.{carrier_line, main_content, new_instance, growth};
+ghost use Rattle.ea_model.specs.Instance.{is_alone, multis, unused_from, plan, created_content};
+ghost use Rattle.ea_model.specs.Instance.{creating, creating_single, chosen_spot, employed};
+ghost use Rattle.ea_model.specs.Instance.{single_place, place_at, releasing_at, own_of, resized_to};
+ghost use Rattle.ea_model.specs.Instance.{resizing_at, decision_at, content_of, block_in};
+ghost use Rattle.ea_model.specs.Instance.{has_content, has_vacant, is_used, own_at, segments};
+ghost use Rattle.ea_model.specs.Instance.{least_pages};
 ghost use Rattle.ea_model.specs.Instance as instances;
 ghost use Rattle.ea_instance.specs.Answers.{placing_if};
 ghost use Rattle.ea_laws.specs.InOrder.{IsInOrder};
@@ -27,7 +38,7 @@ use ea_mbc::Mbc;
 use ea_model::keyed::item_of;
 use ea_model::{
     Block, CarrierLine, CarrierPlan, Decision, Figures, HEADER_UNITS, Kind, List, NUMBERS,
-    NoCarrier, OutOfMemory, PAGE_UNITS, Place, Settings, Spot, Where, first_number, least_pages,
+    NoCarrier, OutOfMemory, Place, Settings, Spot, UNIT_BYTES, Where, first_number, least_pages,
     pages_for,
 };
 use ea_resize::decide;
@@ -56,7 +67,8 @@ impl Model for Instance {
 
     ghost view = { λ i. seen_as i.settings i.number i.own i.carriers i.singles i.created };
 
-    ghost invariant = { λ i. KeepsCarriers i.settings i.number i.own i.carriers i.singles i.created };
+    ghost invariant = { λ i.
+        KeepsCarriers i.settings i.number i.own i.carriers i.singles i.created };
 }
 
 /// The units of the next multiblock carrier after `count` others.
@@ -114,7 +126,7 @@ fn is_due(settings: Settings, figures: Figures, multi: &Employed) -> bool
             u64::from(multi.units()),
         )
         && is_sparse(settings, figures.blocks_size, figures.carriers_size)
-        && u64::from(settings.acfml) <= 8 * u64::from(multi.largest())
+        && u64::from(settings.acfml) <= u64::from(UNIT_BYTES) * u64::from(multi.largest())
 }
 
 /// The units that blocks and headers leave of the carriers.
@@ -274,7 +286,7 @@ impl Instance {
     /// changed, where there is no choice.
     pub fn try_alloc(&mut self, need: u32, name: u32) -> Result<Option<Place>, OutOfMemory>
         requires even { need % 2 ≡ 0 }
-        requires least { 6 ≤ need }
+        requires least { MIN_BLOCK ≤ need }
         ensures place { IfOk result (λ place. place
             ≡ option_map (λ spot. place_at self.old spot need) (chosen_spot self.old need)) }
         ensures ok { OnOk result
@@ -401,7 +413,7 @@ impl Instance {
     /// answers the block's place.
     pub fn create_single(&mut self, plan: CarrierPlan, need: u32, name: u32) -> Place
         requires even { need % 2 ≡ 0 }
-        requires least { 6 ≤ need }
+        requires least { MIN_BLOCK ≤ need }
         requires plan { instances.plan self.old need ≡ Ok plan }
         requires single { plan.single ≡ true }
         ensures created { self.new ≡ creating_single self.old plan need name }
@@ -460,7 +472,7 @@ impl Instance {
     pub fn resize(&mut self, spot: Spot, need: u32, name: u32) -> Result<Option<u32>, OutOfMemory>
         requires block { IsSome (block_in (employed self.old) spot) }
         requires even { need % 2 ≡ 0 }
-        requires least { 6 ≤ need }
+        requires least { MIN_BLOCK ≤ need }
         ensures moves { IfOk result (λ size.
             IsNone size ↔ (decision_at self.old spot need ≡ Move)) }
         ensures size { IfOk result (λ size. IfSome size (λ units.
@@ -521,7 +533,7 @@ impl Instance {
         requires multi { has_content spot.carrier self.old.contents ≡ true }
         requires decision { decision ≡ decision_at self.old spot need }
         requires even { need % 2 ≡ 0 }
-        requires least { 6 ≤ need }
+        requires least { MIN_BLOCK ≤ need }
         ensures moves { IfOk result (λ size. IsNone size ↔ (decision ≡ Move)) }
         ensures size { IfOk result (λ size. IfSome size (λ units.
             units ≡ resized_to self.old spot need)) }
@@ -548,7 +560,7 @@ impl Instance {
         requires single { has_content spot.carrier self.old.contents ≡ false }
         requires decision { decision ≡ decision_at self.old spot need }
         requires even { need % 2 ≡ 0 }
-        requires least { 6 ≤ need }
+        requires least { MIN_BLOCK ≤ need }
         ensures moves { IsNone result ↔ (decision ≡ Move) }
         ensures size { IfSome result (λ units. units ≡ resized_to self.old spot need) }
         ensures resized { self.new ≡ resizing_at self.old spot need name }

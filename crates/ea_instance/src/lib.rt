@@ -1,5 +1,5 @@
-//! One allocator instance: the carriers that it owns with the pages of its region, and those that it
-//! employs.
+//! One allocator instance: the carriers that it owns with the pages of its region, and those that
+//! it employs.
 #![tactic(auto)]
 
 mod instance;

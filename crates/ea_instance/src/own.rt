@@ -1,7 +1,9 @@
 //! The carriers that an instance owns, and the pages of its region that they have.
-ghost use Rattle.std.specs.Prelude.{◌≡◌, ◌+◌, ◌^◌, ◌<◌, ◌≤◌, [], IfOk, IfSome, IsSome, Some, false, length};
+ghost use Rattle.std.specs.Prelude.{◌≡◌, ◌+◌, ◌^◌, ◌<◌, ◌≤◌, [], IfOk, IfSome, IsSome, Some, false};
+ghost use Rattle.std.specs.Prelude.{length};
 ghost use Rattle.ea_model.specs.declared.units.TheConstants.{NUMBERS};
-ghost use Rattle.ea_model.specs.Instance.{is_used, own_at, planned_own, segments, unused_from, with_own, without_own};
+ghost use Rattle.ea_model.specs.Instance.{is_used, own_at, planned_own, segments, unused_from};
+ghost use Rattle.ea_model.specs.Instance.{with_own, without_own};
 ghost use Rattle.ea_model.specs.Keyed.{changed_at};
 ghost use Rattle.ea_model.specs.Region.{lowest_run, runs};
 

@@ -26,7 +26,8 @@ loop-k-preserved c =
               omega (arith, first.0, w.m-is),
             );
             singles = omega (arith, i.singles, w.m-is);
-            lines = lines-same c.args.employer ms ss _ _ _ _ _ _ _ (ap (λ l. l.items) w.lines-is) w.m-is
+            lines = lines-same c.args.employer ms ss _ _ _ _ _ _ _ (ap (λ l. l.items) w.lines-is)
+                w.m-is
                 (omega (arith, w.m-is, i.multis.0)) more;
             room = omega (arith, i.room, w.push_within.ensures.room, ap (λ l. l.room) w.lines-is);
           }
@@ -37,14 +38,16 @@ loop-k-preserved c =
           w.index-singles-s.result first c.loop-k.lines.items
           w.push_within-else-goes_first.new.self.items _ w.single_line.result
           w.push_within-else-goes_first.ensures.items
-          (w.single_line.ensures ∙ ap (carrier_line c.args.employer) w.index-singles-s.is) i.lines in
+          (w.single_line.ensures ∙ ap (carrier_line c.args.employer) w.index-singles-s.is)
+          i.lines in
           record {
             multis = (
               omega (arith, i.multis.0, w.m-is),
               omega (arith, i.multis.1, w.m-is),
             );
             singles = omega (arith, first.0, i.multis.0, w.m-is);
-            lines = lines-same c.args.employer ms ss _ _ _ _ _ _ _ (ap (λ l. l.items) w.lines-is) w.m-is
+            lines = lines-same c.args.employer ms ss _ _ _ _ _ _ _ (ap (λ l. l.items) w.lines-is)
+                w.m-is
                 (omega (arith, w.m-is, i.multis.0)) more;
             room = omega (
               arith,

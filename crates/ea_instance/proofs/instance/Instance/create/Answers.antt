@@ -2,12 +2,15 @@ use Rattle.std.proofs.Common.{◌≡◌, ◌+◌, ◌*◌, ◌≤◌, arith, fal
 use Rattle.std.specs.Prelude.{IsSome}
 use Rattle.ea_model.specs.declared.units.TheConstants.{MAX_UNITS}
 use Rattle.ea_model.specs.Content.{Content}
-use Rattle.ea_model.specs.Instance.{Instance, chosen_spot, creating, employed, has_content, with_content}
+use Rattle.ea_model.specs.Instance.{Instance, chosen_spot, creating, employed, has_content}
+use Rattle.ea_model.specs.Instance.{with_content}
 use Rattle.ea_laws.specs.Kept.{ContentsApart, IsWhole}
 use Rattle.ea_laws.specs.Spots.{HaveSameBlocks}
 use Rattle.ea_laws.proofs.Keeping.{chosen-planned}
 use Rattle.ea_instance.specs.Kept.{seen_as}
-use Rattle.ea_instance.proofs.Keeping.{blocks-created, entering, few-employed, few-own, free-run, kept-created, low-enough, new-multi, others-apart, seen-created, unused-number, whole-pages}
+use Rattle.ea_instance.proofs.Keeping.{blocks-created, entering, few-employed, few-own, free-run}
+use Rattle.ea_instance.proofs.Keeping.{kept-created, low-enough, new-multi, others-apart}
+use Rattle.ea_instance.proofs.Keeping.{seen-created, unused-number, whole-pages}
 use Rattle.ea_instance.proofs.instance.Instance.create.Goals as goal
 
 pub enter-requires-clause-room : goal.enter-requires-clause-room
@@ -72,7 +75,8 @@ invariant_of-self-2 c =
     let cs = c.self.inside.carriers in
     let carrier = entering c.self.inside.number _ c.args.plan c.args.carrier
     (ap (λ (i : Instance). i.number) c.self.view_is) c.requires.carrier in
-    kept-created _ _ c.self.inside.own cs c.self.inside.singles c.self.inside.created c.self.invariant c.args.need
+    kept-created _ _ c.self.inside.own cs c.self.inside.singles c.self.inside.created
+    c.self.invariant c.args.need
     c.args.plan _ c.self.view_is c.requires.plan _ c.add.ensures _
     (c.in_ok-enter.ensures.ok
     ∙ ap (λ x. record cs { contents = with_content x cs.contents }) carrier)
@@ -85,7 +89,8 @@ now_is c =
     let cs = c.self.inside.carriers in
     let carrier = entering c.self.inside.number _ c.args.plan c.args.carrier
     (ap (λ (i : Instance). i.number) c.self.view_is) c.requires.carrier in
-    seen-created _ _ c.self.inside.own cs c.self.inside.singles c.self.inside.created c.self.invariant c.args.need
+    seen-created _ _ c.self.inside.own cs c.self.inside.singles c.self.inside.created
+    c.self.invariant c.args.need
     c.args.plan _ c.self.view_is c.requires.plan _ c.add.ensures _
     (c.in_ok-enter.ensures.ok
     ∙ ap (λ x. record cs { contents = with_content x cs.contents }) carrier)
@@ -97,7 +102,8 @@ returns-clause-choice c =
 
 pub returns-clause-blocks : goal.returns-clause-blocks
 returns-clause-blocks c =
-    subst (λ (i : Instance). HaveSameBlocks (employed c.args.self.now) (employed i)) (sym (now_is c))
+    subst (λ (i : Instance). HaveSameBlocks (employed c.args.self.now) (employed i)) (sym (now_is
+    c))
     (blocks-created _ _ c.self.inside.own c.self.inside.carriers c.self.inside.singles
     c.self.inside.created
     c.self.invariant c.args.need c.args.plan _ c.self.view_is c.requires.plan)

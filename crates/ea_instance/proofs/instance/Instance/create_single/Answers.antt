@@ -1,8 +1,10 @@
 use Rattle.std.proofs.Common.{◌≡◌, false, sym, ap, ◌∙◌, subst}
 use Rattle.ea_model.specs.Content.{Content}
-use Rattle.ea_model.specs.Instance.{Instance, created_single, employed, has_content, single_place, with_content}
+use Rattle.ea_model.specs.Instance.{Instance, created_single, employed, has_content, single_place}
+use Rattle.ea_model.specs.Instance.{with_content}
 use Rattle.ea_laws.specs.Spots.{IsPlaced}
-use Rattle.ea_instance.proofs.Keeping.{blocks-single, few-alone, few-own, kept-single-created, new-single, pages-most, seen-single-created, unused-number}
+use Rattle.ea_instance.proofs.Keeping.{blocks-single, few-alone, few-own, kept-single-created}
+use Rattle.ea_instance.proofs.Keeping.{new-single, pages-most, seen-single-created, unused-number}
 use Rattle.ea_instance.proofs.instance.Instance.create_single.Goals as goal
 
 pub new-requires-clause-pages : goal.new-requires-clause-pages
@@ -43,7 +45,8 @@ entered c = c.enter.ensures
 pub invariant_of-self : goal.invariant_of-self
 invariant_of-self c =
     kept-single-created _ _ c.self.inside.own c.self.inside.carriers c.self.inside.singles
-    c.self.inside.created c.self.invariant c.args.need c.args.plan _ c.self.view_is c.requires.plan _
+    c.self.inside.created c.self.invariant c.args.need c.args.plan _ c.self.view_is c.requires.plan
+    _
     c.add.ensures c.args.name c.requires.least c.requires.even _ (entered c)
 
 pub returns-clause-blocks : goal.returns-clause-blocks
@@ -51,7 +54,9 @@ returns-clause-blocks c =
     subst (λ (i : Instance). IsPlaced (employed c.args.self.now) (employed i) c.args.name
     (single_place c.args.plan c.args.need))
     (sym (seen-single-created _ _ c.self.inside.own c.self.inside.carriers c.self.inside.singles
-    c.self.inside.created c.self.invariant c.args.need c.args.plan _ c.self.view_is c.requires.plan _
+    c.self.inside.created c.self.invariant c.args.need c.args.plan _ c.self.view_is c.requires.plan
+    _
     c.add.ensures c.args.name c.requires.least c.requires.even _ (entered c)))
     (blocks-single _ _ c.self.inside.own c.self.inside.carriers c.self.inside.singles
-    c.self.inside.created c.self.invariant c.args.need c.args.plan _ c.self.view_is c.requires.plan c.args.name)
+    c.self.inside.created c.self.invariant c.args.need c.args.plan _ c.self.view_is c.requires.plan
+    c.args.name)

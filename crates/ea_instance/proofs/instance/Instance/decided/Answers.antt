@@ -9,7 +9,8 @@ extent-block-requires c =
     let number = c.args.spot.carrier in
     let there = sym (c.item_of.ensures ∙ ap (λ cs. content_of cs number) c.as_slice.ensures)
     ∙ ap (option_map (λ x. x.now)) c.in-Some.is in
-    begins-multi _ _ c.self.inside.own c.self.inside.carriers c.self.inside.singles c.self.inside.created
+    begins-multi _ _ c.self.inside.own c.self.inside.carriers c.self.inside.singles
+    c.self.inside.created
     c.self.invariant c.args.spot c.args.need _ c.self.view_is c.requires _ there
 
 pub returns-in-Some : goal.returns-in-Some
@@ -17,7 +18,8 @@ returns-in-Some c =
     let number = c.args.spot.carrier in
     let there = sym (c.item_of.ensures ∙ ap (λ cs. content_of cs number) c.as_slice.ensures)
     ∙ ap (option_map (λ x. x.now)) c.in-Some.is in
-    c.decide.ensures ∙ decided-multi _ _ c.self.inside.own c.self.inside.carriers c.self.inside.singles c.self.inside.created
+    c.decide.ensures ∙ decided-multi _ _ c.self.inside.own c.self.inside.carriers
+    c.self.inside.singles c.self.inside.created
     c.self.invariant c.args.spot c.args.need _ c.self.view_is c.requires _ there _ _
     c.extent-block.ensures.size c.extent-block.ensures.after
 
@@ -29,7 +31,8 @@ unreachable-requires c =
     let second = sym (c.item_of-2.ensures
     ∙ ap (λ cs. content_of cs number) c.as_slice-2.ensures)
     ∙ ap (option_map (λ x. x.now)) c.in-None.is in
-    never-none _ _ c.self.inside.own c.self.inside.carriers c.self.inside.singles c.self.inside.created
+    never-none _ _ c.self.inside.own c.self.inside.carriers c.self.inside.singles
+    c.self.inside.created
     c.self.invariant c.args.spot c.args.need _ c.self.view_is c.requires none second
 
 pub returns : goal.returns
@@ -40,6 +43,7 @@ returns c =
     let second = sym (c.item_of-2.ensures
     ∙ ap (λ cs. content_of cs number) c.as_slice-2.ensures)
     ∙ ap (option_map (λ x. x.now)) c.in-Some-item_of.is in
-    c.decide-in-Some-item_of.ensures ∙ decided-single _ _ c.self.inside.own c.self.inside.carriers c.self.inside.singles c.self.inside.created
+    c.decide-in-Some-item_of.ensures ∙ decided-single _ _ c.self.inside.own c.self.inside.carriers
+    c.self.inside.singles c.self.inside.created
     c.self.invariant c.args.spot c.args.need _ c.self.view_is c.requires none _ _ _ second
     c.allocated.ensures c.units-units.ensures.units

@@ -4,7 +4,9 @@ use Rattle.ea_model.specs.Content.{Content}
 use Rattle.ea_model.specs.Instance.{content_of, employed, has_content}
 use Rattle.ea_model.proofs.Options.{some_value}
 use Rattle.ea_instance.proofs.Following.{vacant-found}
-use Rattle.ea_instance.proofs.Keeping.{dismissed-gone, found-multi, found-single, is-none, kept-dismissed, kept-single-dismissed, seen-dismissed, seen-single-dismissed}
+use Rattle.ea_instance.proofs.Keeping.{dismissed-gone, found-multi, found-single, is-none}
+use Rattle.ea_instance.proofs.Keeping.{kept-dismissed, kept-single-dismissed, seen-dismissed}
+use Rattle.ea_instance.proofs.Keeping.{seen-single-dismissed}
 use Rattle.ea_instance.proofs.instance.Instance.dismiss.Goals as goal
 
 pub leave-requires-clause-bins : goal.leave-requires-clause-bins

@@ -9,7 +9,8 @@ use Rattle.ea_instance.proofs.instance.Instance.give_up.Goals as goal
 
 pub leave-requires-clause-bins : goal.leave-requires-clause-bins
 leave-requires-clause-bins c = λ gf.
-    subst (λ (i : Instance). IfSome (content_of i.contents c.args.number) (λ (x : Content). x.blocks ≡ []))
+    subst (λ (i : Instance). IfSome (content_of i.contents c.args.number) (λ (x : Content).
+    x.blocks ≡ []))
     (sym c.self.view_is)
     (c.requires.empty (ap (λ (i : Instance). i.settings.acul) (sym c.self.view_is)
     ∙ stays-acul c.self.inside.settings c.self.invariant.stands.kept.valid

@@ -1,6 +1,7 @@
 use Rattle.std.proofs.Common.{ap, ◌∙◌, sym}
 use Rattle.ea_model.specs.Instance.{content_of, employed}
-use Rattle.ea_instance.proofs.Keeping.{found-dismissed, kept-single-dismissed, seen-single-dismissed}
+use Rattle.ea_instance.proofs.Keeping.{found-dismissed, kept-single-dismissed}
+use Rattle.ea_instance.proofs.Keeping.{seen-single-dismissed}
 use Rattle.ea_instance.proofs.instance.Instance.give_up_single.Goals as goal
 
 pub invariant_of-self : goal.invariant_of-self

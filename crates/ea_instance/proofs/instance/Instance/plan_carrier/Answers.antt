@@ -2,12 +2,14 @@ use Rattle.std.proofs.Common.{◌≡◌, ℕ, ◌+◌, ap, sym, subst, ◌∙◌
 use Rattle.std.specs.Prelude.{max, Err, Ok, Some}
 use Rattle.ea_model.specs.declared.entries.NoCarrier.TheVariants.{Numbers, Space}
 use Rattle.ea_model.specs.declared.units.TheConstants.{NUMBERS}
-use Rattle.ea_model.specs.Instance.{Instance, first_number, free_run, growth, multis, plan, segments, unused_from, wanted_pages}
+use Rattle.ea_model.specs.Instance.{Instance, first_number, free_run, growth, multis, plan}
+use Rattle.ea_model.specs.Instance.{segments, unused_from, wanted_pages}
 use Rattle.ea_model.specs.Region.{lowest_run, runs}
 use Rattle.ea_model.specs.Units.{pages_for}
 use Rattle.ea_laws.specs.Kept.{Stands}
 use Rattle.ea_instance.proofs.Keeping.{planned-pages}
-use Rattle.ea_instance.proofs.Planning.{plan-least, plan-no_number, plan-no_space, plan-wanted, told-numbers, told-space, wanted-least, wanted-next}
+use Rattle.ea_instance.proofs.Planning.{plan-least, plan-no_number, plan-no_space, plan-wanted}
+use Rattle.ea_instance.proofs.Planning.{told-numbers, told-space, wanted-least, wanted-next}
 use Rattle.ea_instance.proofs.instance.Instance.plan_carrier.Goals as goal
 use Rattle.ea_instance.proofs.instance.Instance.plan_carrier.Goals.{then-alone, else-alone}
 

@@ -9,8 +9,11 @@ use Rattle.ea_model.proofs.Rising.{changed-found, item_at-All}
 use Rattle.ea_laws.specs.Kept.{number_of, IsLaidOut, IsLaidOutAlone}
 use Rattle.ea_laws.proofs.Blocks.{releasing-gone, releasing-others}
 use Rattle.ea_employed.specs.Listed.{CarrierList}
-use Rattle.ea_instance.proofs.Following.{shared-not_single, single-emptied, single-vacant, some-content}
-use Rattle.ea_instance.proofs.Keeping.{block-multi, block-single, found-multi, found-single, is-none, kept-released, kept-single-released, seen-released, seen-single-released}
+use Rattle.ea_instance.proofs.Following.{shared-not_single, single-emptied, single-vacant}
+use Rattle.ea_instance.proofs.Following.{some-content}
+use Rattle.ea_instance.proofs.Keeping.{block-multi, block-single, found-multi, found-single}
+use Rattle.ea_instance.proofs.Keeping.{is-none, kept-released, kept-single-released, seen-released}
+use Rattle.ea_instance.proofs.Keeping.{seen-single-released}
 use Rattle.ea_instance.proofs.instance.Instance.release.Goals as goal
 
 -- a singleblock carrier is left without blocks
@@ -58,9 +61,11 @@ returns-then-has_multi-clause-vacant c =
     ap (λ (l : CarrierList). content_of l.contents spot.carrier) c.in_ok-vacant.ensures.ok
     ∙ changed-found number_of f spot.carrier (λ y. refl) x ks.contents there in
     let kept = kept-released _ _ c.self.inside.own c.self.inside.carriers c.self.inside.singles
-    c.self.inside.created c.self.invariant spot _ c.self.view_is x there _ c.in_ok-vacant.ensures.ok in
+    c.self.inside.created c.self.invariant spot _ c.self.view_is x there _
+    c.in_ok-vacant.ensures.ok in
     c.in_ok-vacant.ensures.vacant
-    ∙ ap (λ o. option_map_or is_vacant o false) (now ∙ sym (found-multi _ _ c.self.inside.own c.release.new.self
+    ∙ ap (λ o. option_map_or is_vacant o false) (now ∙ sym (found-multi _ _ c.self.inside.own
+    c.release.new.self
     c.self.inside.singles c.self.inside.created kept _ refl spot.carrier (f x) now))
 
 pub returns-then-has_multi-clause-emptied : goal.returns-then-has_multi-clause-emptied
@@ -75,7 +80,8 @@ returns-then-has_multi-clause-emptied c =
     ap (λ (l : CarrierList). content_of l.contents spot.carrier) c.in_ok-vacant.ensures.ok
     ∙ changed-found number_of f spot.carrier (λ y. refl) x ks.contents there in
     let kept = kept-released _ _ c.self.inside.own c.self.inside.carriers c.self.inside.singles
-    c.self.inside.created c.self.invariant spot _ c.self.view_is x there _ c.in_ok-vacant.ensures.ok in
+    c.self.inside.created c.self.invariant spot _ c.self.view_is x there _
+    c.in_ok-vacant.ensures.ok in
     let laid = item_at-All number_of IsLaidOut spot.carrier x ks.contents
     c.self.invariant.stands.sound there in
     subst IsEmptied
@@ -91,7 +97,8 @@ returns-then-has_multi-clause-gone c =
     ∙ sym c.has_multi.ensures ∙ c.if-has_multi.true) in
     ap (λ i. block_in (employed i) spot)
     (seen-released _ _ c.self.inside.own c.self.inside.carriers c.self.inside.singles
-    c.self.inside.created c.self.invariant spot _ c.self.view_is x there _ c.in_ok-vacant.ensures.ok)
+    c.self.inside.created c.self.invariant spot _ c.self.view_is x there _
+    c.in_ok-vacant.ensures.ok)
     ∙ releasing-gone c.args.self.now spot
 
 pub returns-then-has_multi-clause-others : goal.returns-then-has_multi-clause-others
@@ -102,7 +109,8 @@ returns-then-has_multi-clause-others c = λ at other.
     ∙ sym c.has_multi.ensures ∙ c.if-has_multi.true) in
     ap (λ i. block_in (employed i) at)
     (seen-released _ _ c.self.inside.own c.self.inside.carriers c.self.inside.singles
-    c.self.inside.created c.self.invariant spot _ c.self.view_is x there _ c.in_ok-vacant.ensures.ok)
+    c.self.inside.created c.self.invariant spot _ c.self.view_is x there _
+    c.in_ok-vacant.ensures.ok)
     ∙ releasing-others c.args.self.now spot at other
 
 pub release-requires-2-clause-block : goal.release-requires-2-clause-block
@@ -150,12 +158,14 @@ returns-clause-vacant c =
     let now : content_of c.release-2.new.self spot.carrier ≡ Some (f y) =
     ap (λ cs. content_of cs spot.carrier) c.release-2.ensures
     ∙ changed-found number_of f spot.carrier (λ x. refl) y ss there in
-    let kept = kept-single-released _ _ c.self.inside.own c.self.inside.carriers c.self.inside.singles
+    let kept = kept-single-released _ _ c.self.inside.own c.self.inside.carriers
+    c.self.inside.singles
     c.self.inside.created c.self.invariant spot _ c.self.view_is none _ c.release-2.ensures in
     single-vacant y spot.offset
     (item_at-All number_of IsLaidOutAlone spot.carrier y ss
     c.self.invariant.stands.alone there) block
-    ∙ ap (λ o. option_map_or is_vacant o false) (sym (found-single _ _ c.self.inside.own c.self.inside.carriers
+    ∙ ap (λ o. option_map_or is_vacant o false) (sym (found-single _ _ c.self.inside.own
+    c.self.inside.carriers
     c.release-2.new.self c.self.inside.created kept _ refl spot.carrier none ∙ now))
 
 pub returns-clause-emptied : goal.returns-clause-emptied
@@ -174,7 +184,8 @@ returns-clause-emptied c =
     let now : content_of c.release-2.new.self spot.carrier ≡ Some (f y) =
     ap (λ cs. content_of cs spot.carrier) c.release-2.ensures
     ∙ changed-found number_of f spot.carrier (λ x. refl) y ss there in
-    let kept = kept-single-released _ _ c.self.inside.own c.self.inside.carriers c.self.inside.singles
+    let kept = kept-single-released _ _ c.self.inside.own c.self.inside.carriers
+    c.self.inside.singles
     c.self.inside.created c.self.invariant spot _ c.self.view_is none _ c.release-2.ensures in
     subst IsEmptied
     (sym (found-single _ _ c.self.inside.own c.self.inside.carriers c.release-2.new.self

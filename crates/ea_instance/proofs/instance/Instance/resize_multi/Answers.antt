@@ -6,22 +6,26 @@ use Rattle.ea_mbc.specs.Gaps.{room_at}
 use Rattle.ea_model.specs.Instance.{content_of, has_content}
 use Rattle.ea_model.proofs.Options.{some_value}
 use Rattle.ea_instance.proofs.Keeping.{kept-few}
-use Rattle.ea_instance.proofs.Reallocating.{block-multi, grows-fits, grows-more, kept-multi, same-size, seen-multi, shrinks, told-multi}
+use Rattle.ea_instance.proofs.Reallocating.{block-multi, grows-fits, grows-more, kept-multi}
+use Rattle.ea_instance.proofs.Reallocating.{same-size, seen-multi, shrinks, told-multi}
 use Rattle.ea_instance.proofs.instance.Instance.resize_multi.Goals as goal
 
 pub rename-requires-clause-block : goal.rename-requires-clause-block
 rename-requires-clause-block c =
     let (x, there) = some_value (content_of c.self.inside.carriers.contents c.args.spot.carrier)
     (ap (λ i. has_content c.args.spot.carrier i.contents) c.self.view_is ∙ c.requires.multi) in
-    block-multi _ _ c.self.inside.own c.self.inside.carriers c.self.inside.singles c.self.inside.created
+    block-multi _ _ c.self.inside.own c.self.inside.carriers c.self.inside.singles
+    c.self.inside.created
     c.self.invariant c.args.spot c.args.need _ c.self.view_is c.requires.block x there
 
 pub invariant_of-self : goal.invariant_of-self
 invariant_of-self c =
     let (x, there) = some_value (content_of c.self.inside.carriers.contents c.args.spot.carrier)
     (ap (λ i. has_content c.args.spot.carrier i.contents) c.self.view_is ∙ c.requires.multi) in
-    kept-multi _ _ c.self.inside.own c.self.inside.carriers c.self.inside.singles c.self.inside.created
-    c.self.invariant c.args.spot c.args.need _ c.self.view_is c.requires.block x there c.args.decision
+    kept-multi _ _ c.self.inside.own c.self.inside.carriers c.self.inside.singles
+    c.self.inside.created
+    c.self.invariant c.args.spot c.args.need _ c.self.view_is c.requires.block x there
+    c.args.decision
     c.requires.decision c.args.name c.requires.least c.requires.even Stay c.in-Stay.is tt
     c.rename.new.self c.rename.ensures.renamed
 
@@ -29,8 +33,10 @@ pub returns-in-Stay-clause-ok : goal.returns-in-Stay-clause-ok
 returns-in-Stay-clause-ok c =
     let (x, there) = some_value (content_of c.self.inside.carriers.contents c.args.spot.carrier)
     (ap (λ i. has_content c.args.spot.carrier i.contents) c.self.view_is ∙ c.requires.multi) in
-    seen-multi _ _ c.self.inside.own c.self.inside.carriers c.self.inside.singles c.self.inside.created
-    c.self.invariant c.args.spot c.args.need _ c.self.view_is c.requires.block x there c.args.decision
+    seen-multi _ _ c.self.inside.own c.self.inside.carriers c.self.inside.singles
+    c.self.inside.created
+    c.self.invariant c.args.spot c.args.need _ c.self.view_is c.requires.block x there
+    c.args.decision
     c.requires.decision c.args.name c.requires.least c.requires.even Stay c.in-Stay.is tt
     c.rename.new.self c.rename.ensures.renamed
 
@@ -38,7 +44,8 @@ pub shrink-requires-clause-block : goal.shrink-requires-clause-block
 shrink-requires-clause-block c =
     let (x, there) = some_value (content_of c.self.inside.carriers.contents c.args.spot.carrier)
     (ap (λ i. has_content c.args.spot.carrier i.contents) c.self.view_is ∙ c.requires.multi) in
-    block-multi _ _ c.self.inside.own c.self.inside.carriers c.self.inside.singles c.self.inside.created
+    block-multi _ _ c.self.inside.own c.self.inside.carriers c.self.inside.singles
+    c.self.inside.created
     c.self.invariant c.args.spot c.args.need _ c.self.view_is c.requires.block x there
 
 pub shrink-requires-clause-fewer : goal.shrink-requires-clause-fewer
@@ -46,25 +53,32 @@ shrink-requires-clause-fewer c =
     let (x, there) = some_value (content_of c.self.inside.carriers.contents c.args.spot.carrier)
     (ap (λ i. has_content c.args.spot.carrier i.contents) c.self.view_is ∙ c.requires.multi) in
     shrinks _ _ c.self.inside.own c.self.inside.carriers c.self.inside.singles c.self.inside.created
-    c.self.invariant c.args.spot c.args.need _ c.self.view_is c.requires.block x there c.args.decision
+    c.self.invariant c.args.spot c.args.need _ c.self.view_is c.requires.block x there
+    c.args.decision
     c.requires.decision c.in-ShrinkHere.is
 
 pub invariant_of-self-in-ShrinkHere : goal.invariant_of-self-in-ShrinkHere
 invariant_of-self-in-ShrinkHere c =
     let (x, there) = some_value (content_of c.self.inside.carriers.contents c.args.spot.carrier)
     (ap (λ i. has_content c.args.spot.carrier i.contents) c.self.view_is ∙ c.requires.multi) in
-    kept-multi _ _ c.self.inside.own c.self.inside.carriers c.self.inside.singles c.self.inside.created
-    c.self.invariant c.args.spot c.args.need _ c.self.view_is c.requires.block x there c.args.decision
-    c.requires.decision c.args.name c.requires.least c.requires.even ShrinkHere c.in-ShrinkHere.is tt
+    kept-multi _ _ c.self.inside.own c.self.inside.carriers c.self.inside.singles
+    c.self.inside.created
+    c.self.invariant c.args.spot c.args.need _ c.self.view_is c.requires.block x there
+    c.args.decision
+    c.requires.decision c.args.name c.requires.least c.requires.even ShrinkHere c.in-ShrinkHere.is
+    tt
     c.shrink.new.self c.in_ok-shrink-in-ShrinkHere.ensures.ok
 
 pub returns-in_ok-shrink-in-ShrinkHere-clause-ok : goal.returns-in_ok-shrink-in-ShrinkHere-clause-ok
 returns-in_ok-shrink-in-ShrinkHere-clause-ok c =
     let (x, there) = some_value (content_of c.self.inside.carriers.contents c.args.spot.carrier)
     (ap (λ i. has_content c.args.spot.carrier i.contents) c.self.view_is ∙ c.requires.multi) in
-    seen-multi _ _ c.self.inside.own c.self.inside.carriers c.self.inside.singles c.self.inside.created
-    c.self.invariant c.args.spot c.args.need _ c.self.view_is c.requires.block x there c.args.decision
-    c.requires.decision c.args.name c.requires.least c.requires.even ShrinkHere c.in-ShrinkHere.is tt
+    seen-multi _ _ c.self.inside.own c.self.inside.carriers c.self.inside.singles
+    c.self.inside.created
+    c.self.invariant c.args.spot c.args.need _ c.self.view_is c.requires.block x there
+    c.args.decision
+    c.requires.decision c.args.name c.requires.least c.requires.even ShrinkHere c.in-ShrinkHere.is
+    tt
     c.shrink.new.self c.in_ok-shrink-in-ShrinkHere.ensures.ok
 
 pub grow-requires-clause-few : goal.grow-requires-clause-few
@@ -79,31 +93,38 @@ pub grow-requires-clause-block : goal.grow-requires-clause-block
 grow-requires-clause-block c =
     let (x, there) = some_value (content_of c.self.inside.carriers.contents c.args.spot.carrier)
     (ap (λ i. has_content c.args.spot.carrier i.contents) c.self.view_is ∙ c.requires.multi) in
-    block-multi _ _ c.self.inside.own c.self.inside.carriers c.self.inside.singles c.self.inside.created
+    block-multi _ _ c.self.inside.own c.self.inside.carriers c.self.inside.singles
+    c.self.inside.created
     c.self.invariant c.args.spot c.args.need _ c.self.view_is c.requires.block x there
 
 pub grow-requires-clause-more : goal.grow-requires-clause-more
 grow-requires-clause-more c =
     let (x, there) = some_value (content_of c.self.inside.carriers.contents c.args.spot.carrier)
     (ap (λ i. has_content c.args.spot.carrier i.contents) c.self.view_is ∙ c.requires.multi) in
-    grows-more _ _ c.self.inside.own c.self.inside.carriers c.self.inside.singles c.self.inside.created
-    c.self.invariant c.args.spot c.args.need _ c.self.view_is c.requires.block x there c.args.decision
+    grows-more _ _ c.self.inside.own c.self.inside.carriers c.self.inside.singles
+    c.self.inside.created
+    c.self.invariant c.args.spot c.args.need _ c.self.view_is c.requires.block x there
+    c.args.decision
     c.requires.decision c.in-GrowHere.is
 
 pub grow-requires-clause-fits : goal.grow-requires-clause-fits
 grow-requires-clause-fits c =
     let (x, there) = some_value (content_of c.self.inside.carriers.contents c.args.spot.carrier)
     (ap (λ i. has_content c.args.spot.carrier i.contents) c.self.view_is ∙ c.requires.multi) in
-    grows-fits _ _ c.self.inside.own c.self.inside.carriers c.self.inside.singles c.self.inside.created
-    c.self.invariant c.args.spot c.args.need _ c.self.view_is c.requires.block x there c.args.decision
+    grows-fits _ _ c.self.inside.own c.self.inside.carriers c.self.inside.singles
+    c.self.inside.created
+    c.self.invariant c.args.spot c.args.need _ c.self.view_is c.requires.block x there
+    c.args.decision
     c.requires.decision c.in-GrowHere.is
 
 pub invariant_of-self-in-GrowHere : goal.invariant_of-self-in-GrowHere
 invariant_of-self-in-GrowHere c =
     let (x, there) = some_value (content_of c.self.inside.carriers.contents c.args.spot.carrier)
     (ap (λ i. has_content c.args.spot.carrier i.contents) c.self.view_is ∙ c.requires.multi) in
-    kept-multi _ _ c.self.inside.own c.self.inside.carriers c.self.inside.singles c.self.inside.created
-    c.self.invariant c.args.spot c.args.need _ c.self.view_is c.requires.block x there c.args.decision
+    kept-multi _ _ c.self.inside.own c.self.inside.carriers c.self.inside.singles
+    c.self.inside.created
+    c.self.invariant c.args.spot c.args.need _ c.self.view_is c.requires.block x there
+    c.args.decision
     c.requires.decision c.args.name c.requires.least c.requires.even GrowHere c.in-GrowHere.is tt
     c.grow.new.self c.grow.ensures.grown
 
@@ -111,8 +132,10 @@ pub returns-in-GrowHere-clause-ok : goal.returns-in-GrowHere-clause-ok
 returns-in-GrowHere-clause-ok c =
     let (x, there) = some_value (content_of c.self.inside.carriers.contents c.args.spot.carrier)
     (ap (λ i. has_content c.args.spot.carrier i.contents) c.self.view_is ∙ c.requires.multi) in
-    seen-multi _ _ c.self.inside.own c.self.inside.carriers c.self.inside.singles c.self.inside.created
-    c.self.invariant c.args.spot c.args.need _ c.self.view_is c.requires.block x there c.args.decision
+    seen-multi _ _ c.self.inside.own c.self.inside.carriers c.self.inside.singles
+    c.self.inside.created
+    c.self.invariant c.args.spot c.args.need _ c.self.view_is c.requires.block x there
+    c.args.decision
     c.requires.decision c.args.name c.requires.least c.requires.even GrowHere c.in-GrowHere.is tt
     c.grow.new.self c.grow.ensures.grown
 

@@ -1,7 +1,9 @@
 use Rattle.std.proofs.Common.{arith, ◌∙◌, ap}
 use Rattle.ea_model.specs.Instance.{content_of, has_content}
 use Rattle.ea_instance.proofs.Keeping.{is-none, kept-few_alone}
-use Rattle.ea_instance.proofs.Reallocating.{block-header, fewer-own, fewer-then, fits-single, fits-then, in-place, kept-less, kept-single, seen-less, seen-single, there-own, there-then}
+use Rattle.ea_instance.proofs.Reallocating.{block-header, fewer-own, fewer-then, fits-single}
+use Rattle.ea_instance.proofs.Reallocating.{fits-then, in-place, kept-less, kept-single, seen-less}
+use Rattle.ea_instance.proofs.Reallocating.{seen-single, there-own, there-then}
 use Rattle.ea_instance.proofs.instance.Instance.resize_single.Goals as goal
 
 pub resize-requires-clause-few : goal.resize-requires-clause-few
@@ -16,14 +18,16 @@ pub resize-requires-clause-block : goal.resize-requires-clause-block
 resize-requires-clause-block c =
     let none = is-none (content_of c.self.inside.carriers.contents c.args.spot.carrier)
     (ap (λ i. has_content c.args.spot.carrier i.contents) c.self.view_is ∙ c.requires.single) in
-    block-header _ _ c.self.inside.own c.self.inside.carriers c.self.inside.singles c.self.inside.created
+    block-header _ _ c.self.inside.own c.self.inside.carriers c.self.inside.singles
+    c.self.inside.created
     c.self.invariant c.args.spot c.args.need _ c.self.view_is c.requires.block none
 
 pub shorten-requires-clause-there : goal.shorten-requires-clause-there
 shorten-requires-clause-there c =
     let none = is-none (content_of c.self.inside.carriers.contents c.args.spot.carrier)
     (ap (λ i. has_content c.args.spot.carrier i.contents) c.self.view_is ∙ c.requires.single) in
-    there-then _ _ c.self.inside.own c.self.inside.carriers c.self.inside.singles c.self.inside.created
+    there-then _ _ c.self.inside.own c.self.inside.carriers c.self.inside.singles
+    c.self.inside.created
     c.self.invariant c.args.spot c.args.need _ c.self.view_is c.requires.block none c.args.decision
     c.requires.decision c.args.name c.requires.least c.requires.even c.resize.new.self
     c.resize.ensures c.in-ShrinkCarrier.pages c.in-ShrinkCarrier.is
@@ -32,7 +36,8 @@ pub shorten-requires-clause-fits : goal.shorten-requires-clause-fits
 shorten-requires-clause-fits c =
     let none = is-none (content_of c.self.inside.carriers.contents c.args.spot.carrier)
     (ap (λ i. has_content c.args.spot.carrier i.contents) c.self.view_is ∙ c.requires.single) in
-    fits-then _ _ c.self.inside.own c.self.inside.carriers c.self.inside.singles c.self.inside.created
+    fits-then _ _ c.self.inside.own c.self.inside.carriers c.self.inside.singles
+    c.self.inside.created
     c.self.invariant c.args.spot c.args.need _ c.self.view_is c.requires.block none c.args.decision
     c.requires.decision c.args.name c.requires.least c.requires.even c.resize.new.self
     c.resize.ensures c.in-ShrinkCarrier.pages c.in-ShrinkCarrier.is
@@ -41,25 +46,30 @@ pub shorten-requires-clause-fewer : goal.shorten-requires-clause-fewer
 shorten-requires-clause-fewer c =
     let none = is-none (content_of c.self.inside.carriers.contents c.args.spot.carrier)
     (ap (λ i. has_content c.args.spot.carrier i.contents) c.self.view_is ∙ c.requires.single) in
-    fewer-then _ _ c.self.inside.own c.self.inside.carriers c.self.inside.singles c.self.inside.created
+    fewer-then _ _ c.self.inside.own c.self.inside.carriers c.self.inside.singles
+    c.self.inside.created
     c.self.invariant c.args.spot c.args.need _ c.self.view_is c.requires.block none c.args.decision
     c.requires.decision c.args.name c.requires.least c.requires.even c.resize.new.self
     c.resize.ensures c.in-ShrinkCarrier.pages c.in-ShrinkCarrier.is
 
-pub shorten-requires-in-ShrinkCarrier-clause-there : goal.shorten-requires-in-ShrinkCarrier-clause-there
+pub shorten-requires-in-ShrinkCarrier-clause-there :
+    goal.shorten-requires-in-ShrinkCarrier-clause-there
 shorten-requires-in-ShrinkCarrier-clause-there c =
     let none = is-none (content_of c.self.inside.carriers.contents c.args.spot.carrier)
     (ap (λ i. has_content c.args.spot.carrier i.contents) c.self.view_is ∙ c.requires.single) in
-    there-own _ _ c.self.inside.own c.self.inside.carriers c.self.inside.singles c.self.inside.created
+    there-own _ _ c.self.inside.own c.self.inside.carriers c.self.inside.singles
+    c.self.inside.created
     c.self.invariant c.args.spot c.args.need _ c.self.view_is c.requires.block none c.args.decision
     c.requires.decision c.args.name c.requires.least c.requires.even c.resize.new.self
     c.resize.ensures c.in-ShrinkCarrier.pages c.in-ShrinkCarrier.is
 
-pub shorten-requires-in-ShrinkCarrier-clause-fewer : goal.shorten-requires-in-ShrinkCarrier-clause-fewer
+pub shorten-requires-in-ShrinkCarrier-clause-fewer :
+    goal.shorten-requires-in-ShrinkCarrier-clause-fewer
 shorten-requires-in-ShrinkCarrier-clause-fewer c =
     let none = is-none (content_of c.self.inside.carriers.contents c.args.spot.carrier)
     (ap (λ i. has_content c.args.spot.carrier i.contents) c.self.view_is ∙ c.requires.single) in
-    fewer-own _ _ c.self.inside.own c.self.inside.carriers c.self.inside.singles c.self.inside.created
+    fewer-own _ _ c.self.inside.own c.self.inside.carriers c.self.inside.singles
+    c.self.inside.created
     c.self.invariant c.args.spot c.args.need _ c.self.view_is c.requires.block none c.args.decision
     c.requires.decision c.args.name c.requires.least c.requires.even c.resize.new.self
     c.resize.ensures c.in-ShrinkCarrier.pages c.in-ShrinkCarrier.is
@@ -68,7 +78,8 @@ pub invariant_of-self : goal.invariant_of-self
 invariant_of-self c =
     let none = is-none (content_of c.self.inside.carriers.contents c.args.spot.carrier)
     (ap (λ i. has_content c.args.spot.carrier i.contents) c.self.view_is ∙ c.requires.single) in
-    kept-less _ _ c.self.inside.own c.self.inside.carriers c.self.inside.singles c.self.inside.created
+    kept-less _ _ c.self.inside.own c.self.inside.carriers c.self.inside.singles
+    c.self.inside.created
     c.self.invariant c.args.spot c.args.need _ c.self.view_is c.requires.block none c.args.decision
     c.requires.decision c.args.name c.requires.least c.requires.even c.resize.new.self
     c.resize.ensures c.in-ShrinkCarrier.pages c.in-ShrinkCarrier.is
@@ -79,7 +90,8 @@ pub returns-in-ShrinkCarrier-clause-resized : goal.returns-in-ShrinkCarrier-clau
 returns-in-ShrinkCarrier-clause-resized c =
     let none = is-none (content_of c.self.inside.carriers.contents c.args.spot.carrier)
     (ap (λ i. has_content c.args.spot.carrier i.contents) c.self.view_is ∙ c.requires.single) in
-    seen-less _ _ c.self.inside.own c.self.inside.carriers c.self.inside.singles c.self.inside.created
+    seen-less _ _ c.self.inside.own c.self.inside.carriers c.self.inside.singles
+    c.self.inside.created
     c.self.invariant c.args.spot c.args.need _ c.self.view_is c.requires.block none c.args.decision
     c.requires.decision c.args.name c.requires.least c.requires.even c.resize.new.self
     c.resize.ensures c.in-ShrinkCarrier.pages c.in-ShrinkCarrier.is
@@ -97,10 +109,13 @@ resize-requires-in_default c =
         kept-few_alone _ _ c.self.inside.own c.self.inside.carriers c.self.inside.singles
             c.self.inside.created c.self.invariant,
       );
-      block = block-header _ _ c.self.inside.own c.self.inside.carriers c.self.inside.singles c.self.inside.created
+      block = block-header _ _ c.self.inside.own c.self.inside.carriers c.self.inside.singles
+          c.self.inside.created
           c.self.invariant c.args.spot c.args.need _ c.self.view_is c.requires.block none;
-      fits = fits-single _ _ c.self.inside.own c.self.inside.carriers c.self.inside.singles c.self.inside.created
-          c.self.invariant c.args.spot c.args.need _ c.self.view_is c.requires.block none c.args.decision
+      fits = fits-single _ _ c.self.inside.own c.self.inside.carriers c.self.inside.singles
+          c.self.inside.created
+          c.self.invariant c.args.spot c.args.need _ c.self.view_is c.requires.block none
+          c.args.decision
           c.requires.decision c.in_default.not-Move;
     }
 
@@ -108,7 +123,8 @@ pub invariant_of-self-in_default : goal.invariant_of-self-in_default
 invariant_of-self-in_default c =
     let none = is-none (content_of c.self.inside.carriers.contents c.args.spot.carrier)
     (ap (λ i. has_content c.args.spot.carrier i.contents) c.self.view_is ∙ c.requires.single) in
-    kept-single _ _ c.self.inside.own c.self.inside.carriers c.self.inside.singles c.self.inside.created
+    kept-single _ _ c.self.inside.own c.self.inside.carriers c.self.inside.singles
+    c.self.inside.created
     c.self.invariant c.args.spot c.args.need _ c.self.view_is c.requires.block none c.args.decision
     c.requires.decision c.args.name c.requires.least c.requires.even
     c.resize-in_default.new.self c.resize-in_default.ensures
@@ -118,7 +134,8 @@ pub returns-in_default-clause-resized : goal.returns-in_default-clause-resized
 returns-in_default-clause-resized c =
     let none = is-none (content_of c.self.inside.carriers.contents c.args.spot.carrier)
     (ap (λ i. has_content c.args.spot.carrier i.contents) c.self.view_is ∙ c.requires.single) in
-    seen-single _ _ c.self.inside.own c.self.inside.carriers c.self.inside.singles c.self.inside.created
+    seen-single _ _ c.self.inside.own c.self.inside.carriers c.self.inside.singles
+    c.self.inside.created
     c.self.invariant c.args.spot c.args.need _ c.self.view_is c.requires.block none c.args.decision
     c.requires.decision c.args.name c.requires.least c.requires.even
     c.resize-in_default.new.self c.resize-in_default.ensures

@@ -1,6 +1,7 @@
 use Rattle.std.proofs.Common.{arith, sym, ap, ◌∙◌}
 use Rattle.ea_employed.specs.Choices.{candidate_of}
-use Rattle.ea_instance.proofs.Keeping.{blocks-placed, finds-all, finds-none, kept-few, kept-placed, none-chosen, place-chosen, seen-placed}
+use Rattle.ea_instance.proofs.Keeping.{blocks-placed, finds-all, finds-none, kept-few, kept-placed}
+use Rattle.ea_instance.proofs.Keeping.{none-chosen, place-chosen, seen-placed}
 use Rattle.ea_instance.proofs.instance.Instance.try_alloc.Goals as goal
 
 pub place-requires-clause-few : goal.place-requires-clause-few
@@ -14,27 +15,31 @@ place-requires-clause-few c =
 pub invariant_of-self-2 : goal.invariant_of-self-2
 invariant_of-self-2 c =
     kept-placed _ _ c.self.inside.own c.self.inside.carriers c.self.inside.singles
-    c.self.inside.created c.self.invariant c.args.need c.in-Some.choice _ c.self.view_is c.in-Some.ensures.chosen
+    c.self.inside.created c.self.invariant c.args.need c.in-Some.choice _ c.self.view_is
+    c.in-Some.ensures.chosen
     c.in-Some.ensures.choice c.args.name c.requires.even c.requires.least _
     c.in_ok-size.ensures.ok
 
 pub returns-clause-place : goal.returns-clause-place
 returns-clause-place c =
     place-chosen _ _ c.self.inside.own c.self.inside.carriers c.self.inside.singles
-    c.self.inside.created c.self.invariant c.args.need c.in-Some.choice _ c.self.view_is c.in-Some.ensures.chosen
+    c.self.inside.created c.self.invariant c.args.need c.in-Some.choice _ c.self.view_is
+    c.in-Some.ensures.chosen
     c.in-Some.ensures.choice c.in_ok-size.size c.in_ok-size.ensures.size
 
 pub returns-clause-ok : goal.returns-clause-ok
 returns-clause-ok c =
     seen-placed _ _ c.self.inside.own c.self.inside.carriers c.self.inside.singles
-    c.self.inside.created c.self.invariant c.args.need c.in-Some.choice _ c.self.view_is c.in-Some.ensures.chosen
+    c.self.inside.created c.self.invariant c.args.need c.in-Some.choice _ c.self.view_is
+    c.in-Some.ensures.chosen
     c.in-Some.ensures.choice c.args.name c.requires.even c.requires.least _
     c.in_ok-size.ensures.ok
 
 pub returns-clause-blocks : goal.returns-clause-blocks
 returns-clause-blocks c =
     blocks-placed _ _ c.self.inside.own c.self.inside.carriers c.self.inside.singles
-    c.self.inside.created c.self.invariant c.args.need c.in-Some.choice _ c.self.view_is c.in-Some.ensures.chosen
+    c.self.inside.created c.self.invariant c.args.need c.in-Some.choice _ c.self.view_is
+    c.in-Some.ensures.chosen
     c.in-Some.ensures.choice c.args.name c.requires.even c.requires.least _
     c.in_ok-size.ensures.ok c.in_ok-size.size c.in_ok-size.ensures.size
 
