@@ -183,6 +183,7 @@ impl Instance {
         ensures stands { Stands self.now }
         ensures order { IsInOrder self.now }
     {
+        // A field is read, so that the proof sees what the instance keeps.
         let _created = self.created;
     }
 
