@@ -1,7 +1,7 @@
 -- The first carrier that fits.
 use Rattle.std.proofs.Common.{◌≡◌, ℕ, ◌<◌, ◌≤◌, ◌↔◌, Bool, true, false, List}
 use Rattle.std.proofs.Common.{[], ◌∷◌, refl, sym, subst, inl, inr, arith}
-use Rattle.std.specs.Prelude.{None, IfSome, IsNone, IsTrue, option_map}
+use Rattle.std.specs.Prelude.{Option, Some, None, IfSome, IsNone, option_map}
 use Rattle.std.specs.Prelude.{nat_le, nat_lt, All, Contains}
 use Rattle.std.specs.Cmp.{IsStrictWeakOrder}
 use Rattle.std.proofs.lemmas.Bool.{cases_lt, leb-true}
@@ -12,10 +12,10 @@ use Rattle.ea_model.proofs.First.{both_All, IsLeast, first-All, first-IsLeast, f
 use Rattle.ea_model.proofs.First.{large-here, large-none, large-past, none-large}
 use Rattle.ea_model.proofs.Options.{both_some, some_map, unmapped}
 use Rattle.ea_cset.specs.declared.keys.CarrierFit.{CarrierFit}
+use Rattle.ea_cset.specs.declared.keys.Found.{Found}
 use Rattle.ea_model.proofs.Orders.{rising-order, less-order}
-use Rattle.ea_cset.specs.Carriers.{number_of, is_held, lower, older}
-use Rattle.ea_cset.specs.Carriers.{fitting, first_number, IsFirstOf}
-use Rattle.ea_cset.proofs.Found.{all_held}
+use Rattle.ea_cset.specs.Carriers.{number_of, lower, older}
+use Rattle.ea_cset.specs.Carriers.{fitting, first_number, number_found, IsFirstOf}
 
 pub lower-order : IsStrictWeakOrder lower
 lower-order = rising-order (λ (h : CarrierFit). h.key.base)
@@ -80,12 +80,13 @@ first_number-IsFirstOf before o need hs =
     (filter_passes (λ h. nat_le need h.fit) hs)))
     (first-IsLeast before o (fitting need hs)))
 
--- the number found is held
-pub first_number-held : (before : CarrierFit → CarrierFit → Bool) (need : ℕ) (hs : List CarrierFit)
-    → IfSome (first_number before need hs) (λ number. IsTrue (is_held number hs))
-first_number-held before need hs =
-    some_map (λ (h : CarrierFit). h.key.number) (λ number. IsTrue (is_held number hs))
-    (first before (fitting need hs))
-    (first-All (λ h. is_held h.key.number hs ≡ true) before None (fitting need hs) tt
-    (All-filter (λ h. nat_le need h.fit) (λ h. is_held h.key.number hs ≡ true) hs
-    (all_held hs)))
+-- what holds of the number of a carrier that was found
+pub number_found-IsNone : (P : Type 0) (found : Option Found) → IsNone (number_found found) ↔ P
+    → IsNone found ↔ P
+number_found-IsNone P None h = h
+number_found-IsNone P (Some f) h = h
+
+pub number_found-IfSome : (P : ℕ → Type 0) (found : Option Found) → IfSome (number_found found) P
+    → IfSome found (λ f. P f.carrier.key.number)
+number_found-IfSome P None h = h
+number_found-IfSome P (Some f) h = h

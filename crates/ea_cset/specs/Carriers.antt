@@ -1,10 +1,11 @@
 -- The carriers of a set, and which of them comes first.
 use Rattle.std.specs.Prelude.{◌≡◌, ◌≢◌, ℕ, ◌<◌, ◌≤◌, Bool, false, if◌then◌else◌}
 use Rattle.std.specs.Prelude.{nat_lt, nat_le, List, Option, All, AllPairs, Any}
-use Rattle.std.specs.Prelude.{filter, map, length, is_some, option_map}
+use Rattle.std.specs.Prelude.{filter, map, length, get_or, is_some, option_map}
 use Rattle.ea_model.specs.Choice.{first, less}
 use Rattle.ea_model.specs.Keyed.{has_key, item_at}
 use Rattle.ea_cset.specs.declared.keys.CarrierFit.{CarrierFit}
+use Rattle.ea_cset.specs.declared.keys.Found.{Found}
 
 -- the carriers by rising number, and how many there is room for
 pub record Carriers : Type 0 where
@@ -46,6 +47,17 @@ fitting need hs = filter (λ h. nat_le need h.fit) hs
 -- the number of the first carrier that fits
 abbrev pub first_number : (CarrierFit → CarrierFit → Bool) → ℕ → List CarrierFit → Option ℕ
 first_number before need hs = option_map (λ h. h.key.number) (first before (fitting need hs))
+
+-- the carrier that was found, and its number
+abbrev pub carrier_found : Option Found → Option CarrierFit
+carrier_found found = option_map (λ f. f.carrier) found
+
+abbrev pub number_found : Option Found → Option ℕ
+number_found found = option_map (λ f. f.carrier.key.number) found
+
+-- it is the one at its place among the carriers
+abbrev pub StandsIn : List CarrierFit → Found → Type 0
+StandsIn hs f = (f.index < length hs) × (get_or hs f.index f.carrier ≡ f.carrier)
 
 -- a has the lower number, and they have different bases
 abbrev pub IsBefore : CarrierFit → CarrierFit → Type 0

@@ -22,6 +22,14 @@ pub struct CarrierFit {
     pub fit: u32,
 }
 
+/// A carrier that was found in a set.
+#[derive(Debug, Clone, Copy, PartialEq, Eq)]
+pub struct Found {
+    /// Its place among the carriers, by rising number.
+    pub index: usize,
+    pub carrier: CarrierFit,
+}
+
 impl Keyed for CarrierFit {
     ghost key_of = { λ h. h.key.number };
 

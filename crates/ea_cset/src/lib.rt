@@ -8,5 +8,5 @@ pub mod set;
 mod tests;
 mod walks;
 
-pub use keys::{CarrierFit, CarrierKey};
+pub use keys::{CarrierFit, CarrierKey, Found};
 pub use set::CarrierSet;

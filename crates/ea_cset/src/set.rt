@@ -4,9 +4,10 @@ ghost use Rattle.std.specs.Prelude.{if◌then◌else◌, All, AllPairs, Some, No
 ghost use Rattle.std.specs.Prelude.{IsNone, IfSome, IfOk, length, option_map};
 ghost use Rattle.ea_model.specs.Keyed.{entered, without};
 ghost use Rattle.ea_cset.specs.Carriers.{number_of, is_held, carrier_of, with_fit, refitted};
-ghost use Rattle.ea_cset.specs.Carriers.{lower, older, first_number, IsBefore, IsFirstOf};
+ghost use Rattle.ea_cset.specs.Carriers.{lower, older, first_number, IsBefore, IsFirstOf, StandsIn};
+ghost use Rattle.ea_cset.specs.Carriers.{number_found};
 
-use crate::keys::{CarrierFit, CarrierKey};
+use crate::keys::{CarrierFit, CarrierKey, Found};
 use crate::walks::{lowest, oldest};
 use ea_model::OutOfMemory;
 use ea_model::keyed::{enter_within, index_of, take_out};
@@ -93,30 +94,32 @@ impl CarrierSet {
         self.held[index].fit = fit;
     }
 
-    /// The number of the carrier of the lowest base whose largest gap has at least `need` units, or
+    /// The carrier of the lowest base whose largest gap has at least `need` units, or
     /// None where no carrier's has that many.
-    pub fn first_by_address(&self, need: u32) -> Option<u32>
-        ensures found { result ≡ first_number lower need self.now.held }
+    pub fn first_by_address(&self, need: u32) -> Option<Found>
+        ensures found { number_found result ≡ first_number lower need self.now.held }
         ensures none { IsNone result ↔ All (λ h. h.fit < need) self.now.held }
 
         // The carrier found is one that fits, and none that fits comes before it.
-        ensures first { IfSome result (IsFirstOf lower need self.now.held) }
-        ensures held { IfSome result (λ number. IsTrue (is_held number self.now.held)) }
+        ensures first { IfSome result
+            (λ f. IsFirstOf lower need self.now.held f.carrier.key.number) }
+        ensures stands { IfSome result (StandsIn self.now.held) }
         ensures rising { AllPairs IsBefore self.now.held }
     {
         lowest(need, &self.held)
     }
 
-    /// The number of the oldest carrier whose largest gap has at least `need` units, or None where
+    /// The oldest carrier whose largest gap has at least `need` units, or None where
     /// no carrier's has that many. The oldest is the one of the least birth, among equals of the
     /// least number.
-    pub fn first_by_age(&self, need: u32) -> Option<u32>
-        ensures found { result ≡ first_number older need self.now.held }
+    pub fn first_by_age(&self, need: u32) -> Option<Found>
+        ensures found { number_found result ≡ first_number older need self.now.held }
         ensures none { IsNone result ↔ All (λ h. h.fit < need) self.now.held }
 
         // The carrier found is one that fits, and none that fits comes before it.
-        ensures first { IfSome result (IsFirstOf older need self.now.held) }
-        ensures held { IfSome result (λ number. IsTrue (is_held number self.now.held)) }
+        ensures first { IfSome result
+            (λ f. IsFirstOf older need self.now.held f.carrier.key.number) }
+        ensures stands { IfSome result (StandsIn self.now.held) }
         ensures rising { AllPairs IsBefore self.now.held }
     {
         oldest(need, &self.held)

@@ -1,28 +1,34 @@
 //! Walks over the carriers of a set.
-ghost use Rattle.std.specs.Prelude.{◌≡◌, Some};
+ghost use Rattle.std.specs.Prelude.{◌≡◌, List, Some, IfSome};
 ghost use Rattle.ea_model.specs.Choice.{better};
-ghost use Rattle.ea_cset.specs.Carriers.{lower, older, first_number};
+ghost use Rattle.ea_cset.specs.declared.keys.CarrierFit as keys;
+ghost use Rattle.ea_cset.specs.Carriers.{lower, older, first_number, carrier_found, number_found};
+ghost use Rattle.ea_cset.specs.Carriers.{StandsIn};
 
-use crate::keys::CarrierFit;
+use crate::keys::{CarrierFit, Found};
 
 /// The lower of the best so far and the next carrier.
-fn lower_of(best: Option<CarrierFit>, next: CarrierFit) -> CarrierFit
-    ensures { Some result ≡ better lower best next }
+fn lower_of(best: Option<Found>, next: Found) -> Found
+    ensures carrier { Some result.carrier ≡ better lower (carrier_found best) next.carrier }
+    ensures stands { (hs : List keys.CarrierFit) → IfSome best (StandsIn hs) → StandsIn hs next
+        → StandsIn hs result }
 {
     match best {
-        Some(other) if other.key.base <= next.key.base => other,
+        Some(other) if other.carrier.key.base <= next.carrier.key.base => other,
         _ => next,
     }
 }
 
 /// The older of the best so far and the next carrier.
-fn older_of(best: Option<CarrierFit>, next: CarrierFit) -> CarrierFit
-    ensures { Some result ≡ better older best next }
+fn older_of(best: Option<Found>, next: Found) -> Found
+    ensures carrier { Some result.carrier ≡ better older (carrier_found best) next.carrier }
+    ensures stands { (hs : List keys.CarrierFit) → IfSome best (StandsIn hs) → StandsIn hs next
+        → StandsIn hs result }
 {
     match best {
         None => next,
         Some(other) => {
-            let (a, b) = (next.key, other.key);
+            let (a, b) = (next.carrier.key, other.carrier.key);
             if a.birth < b.birth || (a.birth == b.birth && a.number < b.number) {
                 next
             } else {
@@ -32,28 +38,32 @@ fn older_of(best: Option<CarrierFit>, next: CarrierFit) -> CarrierFit
     }
 }
 
-/// The number of the lowest carrier that fits.
-pub fn lowest(need: u32, held: &[CarrierFit]) -> Option<u32>
-    ensures { result ≡ first_number lower need held.now }
+/// The lowest carrier that fits.
+pub fn lowest(need: u32, held: &[CarrierFit]) -> Option<Found>
+    ensures found { number_found result ≡ first_number lower need held.now }
+    ensures stands { IfSome result (StandsIn held.now) }
 {
     let mut best = None;
-    for next in held {
-        if need <= next.fit {
-            best = Some(lower_of(best, *next));
+    for (index, next) in held.iter().enumerate() {
+        let carrier = *next;
+        if need <= carrier.fit {
+            best = Some(lower_of(best, Found { index, carrier }));
         }
     }
-    best.map(|h: CarrierFit| h.key.number)
+    best
 }
 
-/// The number of the oldest carrier that fits.
-pub fn oldest(need: u32, held: &[CarrierFit]) -> Option<u32>
-    ensures { result ≡ first_number older need held.now }
+/// The oldest carrier that fits.
+pub fn oldest(need: u32, held: &[CarrierFit]) -> Option<Found>
+    ensures found { number_found result ≡ first_number older need held.now }
+    ensures stands { IfSome result (StandsIn held.now) }
 {
     let mut best = None;
-    for next in held {
-        if need <= next.fit {
-            best = Some(older_of(best, *next));
+    for (index, next) in held.iter().enumerate() {
+        let carrier = *next;
+        if need <= carrier.fit {
+            best = Some(older_of(best, Found { index, carrier }));
         }
     }
-    best.map(|h: CarrierFit| h.key.number)
+    best
 }

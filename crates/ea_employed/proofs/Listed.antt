@@ -1,16 +1,21 @@
 -- The set of the carriers, after a change.
-use Rattle.std.proofs.Common.{◌≡◌, ◌≤◌, ◌≢◌, ℕ, true, false, List, [], ◌∷◌, map, All}
-use Rattle.std.proofs.Common.{AllPairs, sym, ap, ◌∙◌, subst, refl, inl, inr, arith, suc, Bool}
+use Rattle.std.proofs.Common.{◌≡◌, ◌<◌, ◌≤◌, ◌≢◌, ℕ, true, false, List, [], ◌∷◌, map, All}
+use Rattle.std.proofs.Common.{AllPairs, get_or, length, sym, ap, ◌∙◌, subst, refl, inl, inr, arith}
+use Rattle.std.proofs.Common.{suc, Bool}
 use Rattle.std.specs.Prelude.{Option, IfSome, IsSome, None, Some, is_some, ◌==◌}
 use Rattle.std.proofs.lemmas.Bool.{cases_eq}
 use Rattle.std.proofs.lemmas.List.Elements.{All-head, All-tail}
 use Rattle.ea_model.specs.Content.{Content, gaps_of, largest}
 use Rattle.ea_model.specs.Instance.{changed, content_of, with_content, without_content}
 use Rattle.ea_cset.specs.declared.keys.CarrierKey.{CarrierKey}
+use Rattle.ea_cset.specs.declared.keys.CarrierFit.{CarrierFit}
+use Rattle.ea_cset.specs.declared.keys.Found.{Found}
+use Rattle.ea_cset.specs.Carriers.{StandsIn}
 use Rattle.ea_cset.specs.Carriers.{Carriers, is_held, refitted, with_fit, number_of as set_number}
 use Rattle.ea_model.specs.Keyed.{entered, without}
-use Rattle.ea_model.proofs.Options.{if_some, is_some-map}
-use Rattle.ea_model.proofs.Rising.{changed_here, changed_past}
+use Rattle.std.proofs.lemmas.List.{get_or-map, length-map}
+use Rattle.ea_model.proofs.Options.{is_some-map}
+use Rattle.ea_model.proofs.Rising.{changed_here, changed_past, item_at-each}
 use Rattle.ea_model.proofs.Rising.{entered-map, item_at-map, without-map}
 use Rattle.std.specs.List.Sorted.{IsPermutation}
 use Rattle.std.proofs.lemmas.Map.Keys.{IsDistinct-IsPermutation}
@@ -35,20 +40,26 @@ pub held-there : (n : ℕ) (c : Content) (cs : List Content) → content_of cs n
     → is_held n (map held_of cs) ≡ true
 held-there n c cs there = held-some n cs (subst (λ o. IsSome o) (sym there) refl)
 
--- and a carrier that is held is listed
-pub held-listed : (n : ℕ) (cs : List Content) → is_held n (map held_of cs) ≡ true
-    → IsSome (content_of cs n)
-held-listed n cs h =
-    sym (is_some-map held_of (content_of cs n))
-    ∙ subst (λ o. IsSome o) (item_at-map set_number held_of n cs) h
+-- a carrier that the set found stands at the same place among the carriers
+pub found-stands : (o : Option Found) (cs now : List Content) (set : Carriers)
+    → set.held ≡ map held_of cs → cs ≡ now → IfSome o (StandsIn set.held)
+    → IfSome o (StandsIn (map held_of now))
+found-stands o cs now set held seen h =
+    subst (λ hs. IfSome o (StandsIn hs)) (held ∙ ap (map held_of) seen) h
 
-pub found-listed : (o : Option ℕ) (cs now : List Content) (set : Carriers)
-    → set.held ≡ map held_of cs → cs ≡ now → IfSome o (λ n. is_held n set.held ≡ true)
-    → IfSome o (λ n. IsSome (content_of now n))
-found-listed o cs now set held seen h =
-    if_some o (λ n. is_held n set.held ≡ true) (λ n. IsSome (content_of now n))
-    (λ n there. held-listed n now
-    (sym (ap (is_held n) (held ∙ ap (map held_of) seen)) ∙ there)) h
+pub found-within : (cs : List Content) (f : Found) → StandsIn (map held_of cs) f
+    → f.index < length cs
+found-within cs f stands = omega (arith, stands.0, length-map cs held_of)
+
+pub found-there : (cs : List Content) (f : Found) (item : Content) → IsRising cs
+    → StandsIn (map held_of cs) f → item ≡ get_or cs f.index item
+    → content_of cs f.carrier.key.number ≡ Some item
+found-there cs f item rising stands is =
+    let within = found-within cs f stands in
+    let same : held_of item ≡ f.carrier =
+    ap held_of is ∙ sym (get_or-map held_of cs f.index item f.carrier within) ∙ stands.1 in
+    ap (content_of cs) (ap (λ (x : CarrierFit). x.key.number) (sym same) ∙ ap number_of is)
+    ∙ item_at-each number_of f.index item cs rising within ∙ ap Some (sym is)
 
 module _ (f : Content → Content) (k : KeepsPlace f) (n : ℕ) (item : Content) where
   -- the carrier with another fit is the changed carrier

@@ -1,6 +1,7 @@
 //! The carriers that an instance employs.
 ghost use Rattle.std.specs.Prelude.{◌≡◌, ◌≢◌, ℕ, ◌*◌, ◌+◌, ◌%◌, ◌<◌, ◌≤◌, [], All, Some, None};
 ghost use Rattle.std.specs.Prelude.{true, false, IsSome, IfSome, IfOk, OnOk, OnErr, length};
+ghost use Rattle.std.specs.Prelude.{map};
 ghost use Rattle.std.specs.Option.{option_and_then};
 ghost use Rattle.ea_model.specs.declared.settings.Strategy.TheVariants.{Gf, Af};
 ghost use Rattle.ea_model.specs.declared.units.TheConstants.{MAX_SCHEDULERS, MAX_UNITS};
@@ -18,7 +19,8 @@ ghost use Rattle.ea_laws.specs.Kinds.{is_shared};
 ghost use Rattle.ea_laws.specs.Kept.{ContentsApart, IsLaidOut, IsWhole};
 ghost use Rattle.ea_employed.specs.Laid.{AreLaid};
 ghost use Rattle.ea_employed.specs.Choices.{candidate_of, IsChoice};
-ghost use Rattle.ea_employed.specs.Listed.{candidate_in};
+ghost use Rattle.ea_cset.specs.Carriers.{number_found, StandsIn};
+ghost use Rattle.ea_employed.specs.Listed.{candidate_in, held_of};
 ghost use Rattle.ea_employed.specs.Searches.{is_better};
 
 use crate::binned::{bins_for, make_room, note_entered, note_left, note_placed, note_released};
@@ -29,7 +31,7 @@ use crate::figures::{
 };
 use crate::strategies::{Search, inner_of, search_of};
 use crate::walks::{best_choice, choice_at, lowest_empty, multi_count};
-use ea_cset::CarrierSet;
+use ea_cset::{CarrierSet, Found};
 use ea_goodfit::{BinnedGap, Bins};
 use ea_model::keyed::{enter, enter_within, index_of, take_out};
 use ea_model::{Figures, Gap, HEADER_UNITS, Inner, MAX_SCHEDULERS, NUMBERS, OutOfMemory, Strategy};
@@ -123,16 +125,17 @@ impl Carriers {
     }
 
     /// The gap that is chosen in the carrier that was found.
-    fn choice_in(&self, found: Option<u32>, need: u32) -> Option<Choice>
+    fn choice_in(&self, found: Option<Found>, need: u32) -> Option<Choice>
         requires laid { AreLaid self.now.contents }
         requires some { 1 ≤ need }
-        requires there { IfSome found (λ n. IsSome (content_of self.now.contents n)) }
+        requires stands { IfSome found (StandsIn (map held_of self.now.contents)) }
         ensures chosen { candidate_of result
             ≡ option_and_then
-            (candidate_in (inner_of self.now.strategy) need self.now.contents) found }
+            (candidate_in (inner_of self.now.strategy) need self.now.contents)
+            (number_found found) }
         ensures choice { IfSome result (IsChoice need self.now.contents) }
     {
-        let index = index_of(found?, &self.list);
+        let index = found?.index;
         self.list[index].choose(index, inner_of(self.strategy), need)
     }
 

@@ -3,7 +3,7 @@ use Rattle.ea_model.specs.declared.settings.Strategy.TheVariants.{Gf, Af}
 use Rattle.ea_model.specs.Choice.{first}
 use Rattle.ea_model.specs.Content.{Content}
 use Rattle.ea_model.specs.Strategies.{candidates, inner_of, large_enough}
-use Rattle.ea_cset.specs.Carriers.{lower, older}
+use Rattle.ea_cset.specs.Carriers.{lower, number_found, older}
 use Rattle.ea_employed.specs.Choices.{candidate_of}
 use Rattle.ea_employed.specs.Listed.{CarrierList}
 use Rattle.ea_employed.specs.Searches.{is_better, search_of}
@@ -12,7 +12,7 @@ use Rattle.ea_employed.specs.declared.strategies.Search.TheVariants.{Age, Bins, 
 use Rattle.ea_employed.proofs.ByCarrier.{address-GoesBy, age-GoesBy, choice-first}
 use Rattle.ea_employed.proofs.Choosing.{address-miss_none, age-miss_none, bins-gf, choice-all}
 use Rattle.ea_employed.proofs.Choosing.{choice-else, gaps-is_better, gaps-miss_none, lowest-af}
-use Rattle.ea_employed.proofs.Listed.{found-listed}
+use Rattle.ea_employed.proofs.Listed.{found-stands}
 use Rattle.ea_employed.proofs.carriers.Carriers.chosen.Goals as goal
 
 pub returns-in-Gaps-clause-chosen : goal.returns-in-Gaps-clause-chosen
@@ -31,15 +31,15 @@ returns-in-Gaps-clause-chosen c =
     ∙ ap (λ before. first before (large_enough c.args.need (candidates c.args.self.now.contents)))
     (gaps-is_better s search))
 
-pub choice_in-requires-clause-there : goal.choice_in-requires-clause-there
-choice_in-requires-clause-there c =
-    found-listed c.first_by_address.result _ _ c.self.inside.set c.self.invariant.listed.held
-    (ap (λ (l : CarrierList). l.contents) c.self.view_is) c.first_by_address.ensures.held
+pub choice_in-requires-clause-stands : goal.choice_in-requires-clause-stands
+choice_in-requires-clause-stands c =
+    found-stands c.first_by_address.result _ _ c.self.inside.set c.self.invariant.listed.held
+    (ap (λ (l : CarrierList). l.contents) c.self.view_is) c.first_by_address.ensures.stands
 
-pub choice_in-requires-in-Age-clause-there : goal.choice_in-requires-in-Age-clause-there
-choice_in-requires-in-Age-clause-there c =
-    found-listed c.first_by_age.result _ _ c.self.inside.set c.self.invariant.listed.held
-    (ap (λ (l : CarrierList). l.contents) c.self.view_is) c.first_by_age.ensures.held
+pub choice_in-requires-in-Age-clause-stands : goal.choice_in-requires-in-Age-clause-stands
+choice_in-requires-in-Age-clause-stands c =
+    found-stands c.first_by_age.result _ _ c.self.inside.set c.self.invariant.listed.held
+    (ap (λ (l : CarrierList). l.contents) c.self.view_is) c.first_by_age.ensures.stands
 
 pub returns-in-Address-clause-chosen : goal.returns-in-Address-clause-chosen
 returns-in-Address-clause-chosen c =
@@ -50,8 +50,8 @@ returns-in-Address-clause-chosen c =
     (address-miss_none s search)
     (choice-first s lower (address-GoesBy s search) c.args.need c.requires.some _ _ _ _ _
     c.self.invariant.listed (ap (λ (l : CarrierList). l.contents) c.self.view_is) c.requires.laid
-    c.first_by_address.result (candidate_of c.choice_in.result) c.first_by_address.ensures.found
-    c.first_by_address.ensures.rising c.choice_in.ensures.chosen)
+    (number_found c.first_by_address.result) (candidate_of c.choice_in.result)
+    c.first_by_address.ensures.found c.first_by_address.ensures.rising c.choice_in.ensures.chosen)
 
 pub returns-in-Age-clause-chosen : goal.returns-in-Age-clause-chosen
 returns-in-Age-clause-chosen c =
@@ -62,8 +62,8 @@ returns-in-Age-clause-chosen c =
     (candidate_of c.choice_in-in-Age.result) (age-miss_none s search)
     (choice-first s older (age-GoesBy s search) c.args.need c.requires.some _ _ _ _ _
     c.self.invariant.listed (ap (λ (l : CarrierList). l.contents) c.self.view_is) c.requires.laid
-    c.first_by_age.result (candidate_of c.choice_in-in-Age.result) c.first_by_age.ensures.found
-    c.first_by_age.ensures.rising c.choice_in-in-Age.ensures.chosen)
+    (number_found c.first_by_age.result) (candidate_of c.choice_in-in-Age.result)
+    c.first_by_age.ensures.found c.first_by_age.ensures.rising c.choice_in-in-Age.ensures.chosen)
 
 pub returns-in-Bins-clause-chosen : goal.returns-in-Bins-clause-chosen
 returns-in-Bins-clause-chosen c =
