@@ -62,7 +62,7 @@ pub planned-pages : (i : Instance) (need : ℕ) → Stands i → (r : Result Car
 planned-pages i need st (Err why) is = tt
 planned-pages i need st (Ok p) is = (
   omega (arith, (plan-IsPlanned i need p (sym is)).enough),
-  omega (arith, lies-low i need p st.kept (sym is)),
+  omega (arith, lies-low i need p st.orderly.kept (sym is)),
 )
 
 -- a block has no place where nothing large enough is inspected
@@ -89,8 +89,8 @@ keeping s n own ks ss created strategy stands =
     record {
       strategy = strategy;
       laid = record {
-        rising = stands.rising;
-        sound = stands.sound;
+        rising = stands.orderly.rising;
+        sound = stands.orderly.laid;
         apart = multi-apart i stands;
       };
       stands = stands;
@@ -369,7 +369,7 @@ module _ (s : Settings) (n : ℕ) (own : OwnList) (ks : CarrierList) (ss : List 
     has-gap =
         let number = choice.chosen.number ∙ sym (ap number_of choice.is) in
         let there = ap (content_of ks.contents) number
-        ∙ item_at-each number_of found.index choice.content ks.contents k.stands.rising
+        ∙ item_at-each number_of found.index choice.content ks.contents k.stands.orderly.rising
         choice.within
         ∙ ap Some choice.is in
         (choice.content, there, omega (arith, choice.chosen.gap, choice.chosen.fits))
@@ -414,7 +414,7 @@ module _ (s : Settings) (n : ℕ) (own : OwnList) (ks : CarrierList) (ss : List 
 
     -- it has a number of its own, also among those that are employed
     pub unused-number : is_used p.number own.carriers ≡ false
-    unused-number = other-numbers here need p k.stands.kept asked_here
+    unused-number = other-numbers here need p k.stands.orderly.kept asked_here
 
     pub new-multi : has_content p.number ks.contents ≡ false
     new-multi = absent-among p.number ks.contents (planned-new here need p k.stands asked_here)
@@ -427,10 +427,10 @@ module _ (s : Settings) (n : ℕ) (own : OwnList) (ks : CarrierList) (ss : List 
     others-apart = planned-apart here need p k.stands asked_here
 
     pub low-enough : 512 * p.base + 512 * p.pages ≤ MAX_UNITS
-    low-enough = lies-low here need p k.stands.kept asked_here
+    low-enough = lies-low here need p k.stands.orderly.kept asked_here
 
     pub whole-pages : IsWhole (created_content n Multi p)
-    whole-pages = (IsLaidOut-made here need p k.stands.kept asked_here).whole
+    whole-pages = (IsLaidOut-made here need p k.stands.orderly.kept asked_here).whole
 
     -- there are fewer carriers than numbers
     pub few-employed : length ks.contents < NUMBERS * MAX_SCHEDULERS
@@ -452,7 +452,7 @@ module _ (s : Settings) (n : ℕ) (own : OwnList) (ks : CarrierList) (ss : List 
         )
 
     pub few-own : length own.carriers < 256
-    few-own = has-number here need p k.stands.kept asked_here
+    few-own = has-number here need p k.stands.orderly.kept asked_here
 
     -- its pages are the lowest free run of the region that holds them
     pub free-run : free_run here p.pages ≡ Some p.base

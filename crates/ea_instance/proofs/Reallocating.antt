@@ -251,7 +251,7 @@ module _ (s : Settings) (n : ℕ) (own : OwnList) (ks : CarrierList) (ss : List 
     b = alone.1
 
     laid_alone : IsLaidOutAlone c
-    laid_alone = item_at-All number_of IsLaidOutAlone number c ss k.stands.alone alone.2
+    laid_alone = item_at-All number_of IsLaidOutAlone number c ss k.stands.orderly.alone alone.2
 
     one_here : (offset ≡ 8) × (allocated c.blocks ≡ b.size)
     one_here = one_block c.units offset b c.blocks laid_alone.block alone.3
@@ -357,7 +357,7 @@ module _ (s : Settings) (n : ℕ) (own : OwnList) (ks : CarrierList) (ss : List 
 
           laid_less : IsLaidOutAlone (with_units pages (f c))
           laid_less = item_at-All number_of IsLaidOutAlone number (with_units pages (f c)) last
-              stands_less.alone
+              stands_less.orderly.alone
               (changed-found number_of (with_units pages) number (λ _. refl) (f c)
               (changed f number ss)
               (changed-found number_of f number (λ _. refl) c ss alone.2))

@@ -53,7 +53,7 @@ pub placing-IsPlaced : (i : Instance) (spot : Spot) (need name : ℕ) → Stands
     → HasGap need spot.carrier spot.offset i.contents → 6 ≤ need
     → IsPlaced (employed i) (employed (placing_at i spot need name)) name (place_at i spot need)
 placing-IsPlaced i spot need name st (c, there, fits) least =
-    let sound = item_at-All number_of IsLaidOut spot.carrier c i.contents st.sound there in
+    let sound = item_at-All number_of IsLaidOut spot.carrier c i.contents st.orderly.laid there in
     let sized : taken_of (gap_at (gaps_of c) spot.offset) need
     ≡ size_for (content_of i.contents spot.carrier) spot.offset need = sym
     (ap (λ o. size_for o spot.offset need) there) in

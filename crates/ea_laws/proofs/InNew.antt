@@ -290,6 +290,6 @@ chosen-in-new i need p spot st none full is =
     some_holds (option_map spot_of o) spot (λ at. at.carrier ≡ p.number) is
     (some_map spot_of (λ at. at.carrier ≡ p.number) o
     (choice-new i.settings need (created_content i.number Multi p) i.contents
-    (candidates-distinct i.contents st.sound (multi-apart i st))
+    (candidates-distinct i.contents st.orderly.laid (multi-apart i st))
     (unmapped spot_of (choice_for i.settings need i.contents) (subst IsNone (sym none) refl))
     full))

@@ -71,7 +71,7 @@ module _ (i : Instance) (number pages : ℕ) (c : Content) (st : Stands i)
     (some : 1 ≤ pages) (fewer : 512 * pages < c.units)
     (holds : HasOneBlock (512 * pages) c.blocks) where
   alone_in : IsLaidOutAlone c
-  alone_in = item_at-All number_of IsLaidOutAlone number c i.singles st.alone there
+  alone_in = item_at-All number_of IsLaidOutAlone number c i.singles st.orderly.alone there
 
   employed_in : content_of (employed i) number ≡ Some c
   employed_in = merged-second number_of number i.contents i.singles others ∙ there
@@ -127,17 +127,21 @@ module _ (i : Instance) (number pages : ℕ) (c : Content) (st : Stands i)
       let own = with_pages number pages i.own in
       let no_multi = none-other number_of number i.contents others in
       let is = employed-shortened i number pages no_multi in
-      let one = only-item number c (employed i) st.once employed_in in
+      let one = only-item number c (employed i) st.orderly.once employed_in in
       record {
-        kept = IsKept-shortened i.settings i.number number i.first i.end pages (own_of c) i.own
-            st.kept (single-own i number c st there) some
-            (omega (arith, fewer, alone_in.whole.0));
-        rising = st.rising;
-        rising_singles = rising-changed number_of f number (λ _. refl) i.singles st.rising_singles;
-        once = subst IsRising (sym is)
-            (rising-changed number_of f number (λ _. refl) (employed i) st.once);
-        sound = st.sound;
-        alone = changed-All IsLaidOutAlone f number i.singles st.rising_singles st.alone less_alone;
+        orderly = record {
+          kept = IsKept-shortened i.settings i.number number i.first i.end pages (own_of c) i.own
+              st.orderly.kept (single-own i number c st there) some
+              (omega (arith, fewer, alone_in.whole.0));
+          rising = st.orderly.rising;
+          rising_singles = rising-changed number_of f number (λ _. refl) i.singles
+              st.orderly.rising_singles;
+          once = subst IsRising (sym is)
+              (rising-changed number_of f number (λ _. refl) (employed i) st.orderly.once);
+          laid = st.orderly.laid;
+          alone = changed-All IsLaidOutAlone f number i.singles st.orderly.rising_singles
+              st.orderly.alone less_alone;
+        };
         apart = subst (AllPairs ContentsApart) (sym is)
             (apart-lessened f (λ _. refl) number (employed i)
             (λ k d within. less_units (get_or (employed i) k d) (one k d within)) st.apart);
@@ -192,7 +196,7 @@ module _ (i : Instance) (spot : Spot) (need : ℕ) (c : Content) (b : BlockAt) (
 
   module _ (name : ℕ) (least : 6 ≤ need) (even : need % 2 ≡ 0) where
     laid_in : IsLaidOut c
-    laid_in = item_at-All number_of IsLaidOut spot.carrier c i.contents st.sound there
+    laid_in = item_at-All number_of IsLaidOut spot.carrier c i.contents st.orderly.laid there
 
     multi_resized : (size : ℕ) → Tiled 8 c.units (resized c spot.offset size name).blocks
         → Stands (resized_in i spot size name)
@@ -276,7 +280,7 @@ module _ (i : Instance) (spot : Spot) (need : ℕ) (c : Content) (b : BlockAt) (
       (sym single-decided ∙ e) (decides_single i.settings b.size need c.units)
 
   laid_alone : IsLaidOutAlone c
-  laid_alone = item_at-All number_of IsLaidOutAlone spot.carrier c i.singles st.alone there
+  laid_alone = item_at-All number_of IsLaidOutAlone spot.carrier c i.singles st.orderly.alone there
 
   -- it stays where it has the units already, and its carrier holds what it is to have
   pub single-stays : decision_at i spot need ≡ Stay → need ≡ b.size

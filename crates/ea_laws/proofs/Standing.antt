@@ -68,7 +68,7 @@ use Rattle.ea_laws.proofs.Tiling.{Tiled-Ordered, one-Ordered}
 
 -- the numbers of all contents rise
 pub employed-rising : (i : Instance) → Stands i → IsRising (employed i)
-employed-rising i st = st.once
+employed-rising i st = st.orderly.once
 
 laid_whole : (cs : List Content) → All IsLaidOut cs → All IsWhole cs
 laid_whole cs sound = All-weaker IsLaidOut IsWhole (λ c laid. laid.whole) cs sound
@@ -78,7 +78,7 @@ alone_whole cs sound = All-weaker IsLaidOutAlone IsWhole (λ c laid. laid.whole)
 
 pub employed-whole : (i : Instance) → Stands i → All IsWhole (employed i)
 employed-whole i st = merged-All number_of IsWhole i.contents i.singles
-    (laid_whole i.contents st.sound) (alone_whole i.singles st.alone)
+    (laid_whole i.contents st.orderly.laid) (alone_whole i.singles st.orderly.alone)
 
 pub multi-apart : (i : Instance) → Stands i → AllPairs ContentsApart i.contents
 multi-apart i st = (merged-pairs number_of ContentsApart turned-apart i.contents i.singles
@@ -112,7 +112,7 @@ pub own-numbered : (i : Instance) → Stands i → (o : OwnCarrier) → IsOwn i.
     → HasNumberIn (first_number i.number) (first_number i.number + 256) o
 own-numbered i st o own = item_at-All own_number
     (HasNumberIn (first_number i.number) (first_number i.number + 256)) o.number o i.own
-    st.kept.numbers own
+    st.orderly.kept.numbers own
 
 -- each number is a carrier's
 abbrev pub IsNumbered : Content → Type 0
@@ -124,7 +124,8 @@ employed-numbered i st = All-weaker (λ c. IsSomeones i (own_of c)) IsNumbered n
       numbered : (c : Content) → IsSomeones i (own_of c) → IsNumbered c
       numbered c (inl own) =
           let has = own-numbered i st (own_of c) own in
-          (omega (arith, has.0), omega (arith, has.1, st.kept.instance.0, st.kept.instance.1))
+          let mine = st.orderly.kept.instance in
+          (omega (arith, has.0), omega (arith, has.1, mine.0, mine.1))
       numbered c (inr foreign) = foreign.numbered
 
 -- there are no more of them than numbers
@@ -152,7 +153,7 @@ pub employed-few : (i : Instance) → Stands i
     → length i.contents + length i.singles ≤ NUMBERS * MAX_SCHEDULERS
 employed-few i st = omega (
   arith,
-  numbered_few 1 (employed i) st.once (employed-numbered i st),
+  numbered_few 1 (employed i) st.orderly.once (employed-numbered i st),
   length-merged number_of i.contents i.singles,
 )
 
@@ -161,7 +162,7 @@ pub singles-few : (i : Instance) → Stands i → length i.singles ≤ 256
 singles-few i st = omega (
   arith,
   rising-length (first_number i.number) (first_number i.number + 256) (map own_of i.singles)
-      (pairs_map (IsBelow own_number) own_of i.singles st.rising_singles)
+      (pairs_map (IsBelow own_number) own_of i.singles st.orderly.rising_singles)
       (All-map (HasNumberIn (first_number i.number) (first_number i.number + 256)) own_of i.singles
       (All-weaker (λ c. IsOwn i.own (own_of c))
       (λ c. HasNumberIn (first_number i.number) (first_number i.number + 256) (own_of c))
@@ -178,14 +179,14 @@ alone-ordered c laid = one-Ordered c.units c.blocks (omega (arith, laid.whole.1)
 -- their blocks lie in order, and their units are bounded
 pub multi-bounded : (i : Instance) → Stands i → All IsOrdered i.contents × All IsSmall i.contents
 multi-bounded i st = (
-  All-weaker IsLaidOut IsOrdered laid-ordered i.contents st.sound,
-  All-weaker IsLaidOut IsSmall (λ c laid. omega (arith, laid.low)) i.contents st.sound,
+  All-weaker IsLaidOut IsOrdered laid-ordered i.contents st.orderly.laid,
+  All-weaker IsLaidOut IsSmall (λ c laid. omega (arith, laid.low)) i.contents st.orderly.laid,
 )
 
 pub single-bounded : (i : Instance) → Stands i → All IsOrdered i.singles × All IsSmall i.singles
 single-bounded i st = (
-  All-weaker IsLaidOutAlone IsOrdered alone-ordered i.singles st.alone,
-  All-weaker IsLaidOutAlone IsSmall (λ c laid. omega (arith, laid.low)) i.singles st.alone,
+  All-weaker IsLaidOutAlone IsOrdered alone-ordered i.singles st.orderly.alone,
+  All-weaker IsLaidOutAlone IsSmall (λ c laid. omega (arith, laid.low)) i.singles st.orderly.alone,
 )
 
 pub Stands-IsInOrder : (i : Instance) → Stands i → IsInOrder i
@@ -194,13 +195,13 @@ Stands-IsInOrder i st =
     (single-bounded i st).0 in
     record {
       disjoint = blocks-disjoint (employed i) ordered st.apart;
-      tiled = λ k d within. (st.sound k d within).tiled;
-      single = λ k d within. (st.alone k d within).block;
+      tiled = λ k d within. (st.orderly.laid k d within).tiled;
+      single = λ k d within. (st.orderly.alone k d within).block;
       whole = employed-whole i st;
       numbers = employed-rising i st;
       apart = st.apart;
-      owned = st.kept.numbers;
-      laid = st.kept.laid;
+      owned = st.orderly.kept.numbers;
+      laid = st.orderly.kept.laid;
       sum = all-units (employed i) ordered;
     }
 
@@ -224,13 +225,17 @@ pub changing-Stands : (f : Content → Content) → KeepsPlace f → (n : ℕ) (
 changing-Stands f keeps n i st sound alone =
     let is = employed-changed f keeps n i in
     record {
-      kept = st.kept;
-      rising = rising-changed number_of f n keeps.number i.contents st.rising;
-      rising_singles = rising-changed number_of f n keeps.number i.singles st.rising_singles;
-      once = subst IsRising (sym is)
-          (rising-changed number_of f n keeps.number (employed i) st.once);
-      sound = changed-All IsLaidOut f n i.contents st.rising st.sound sound;
-      alone = changed-All IsLaidOutAlone f n i.singles st.rising_singles st.alone alone;
+      orderly = record {
+        kept = st.orderly.kept;
+        rising = rising-changed number_of f n keeps.number i.contents st.orderly.rising;
+        rising_singles = rising-changed number_of f n keeps.number i.singles
+            st.orderly.rising_singles;
+        once = subst IsRising (sym is)
+            (rising-changed number_of f n keeps.number (employed i) st.orderly.once);
+        laid = changed-All IsLaidOut f n i.contents st.orderly.rising st.orderly.laid sound;
+        alone = changed-All IsLaidOutAlone f n i.singles st.orderly.rising_singles
+            st.orderly.alone alone;
+      };
       apart = subst (AllPairs ContentsApart) (sym is)
           (apart-changed f keeps n (employed i) st.apart);
       someones = All-map (λ c. IsSomeones i (own_of c)) (altered f n) i.contents
@@ -272,7 +277,7 @@ placing-Stands i spot need name st gap least even =
     (λ c there. subst (λ x. IsLaidOut (placed x spot.offset need name))
     (same-some (content_of i.contents n) gap.0 c gap.1 there)
     (placed-IsLaidOut gap.0 spot.offset need name
-    (item_at-All number_of IsLaidOut n gap.0 i.contents st.sound gap.1) gap.2 least even))
+    (item_at-All number_of IsLaidOut n gap.0 i.contents st.orderly.laid gap.1) gap.2 least even))
     (λ c there. absurd (item_at-All number_of (λ x. x.number ≢ n) n c i.singles
     (merged-apart number_of n gap.0 i.contents i.singles rising gap.1) there
     (item_at-key number_of n c i.singles there))))
@@ -309,9 +314,9 @@ pub releasing-Stands : (i : Instance) (spot : Spot) → Stands i → Stands (rel
 releasing-Stands i spot st =
     changing-Stands (λ c. released c spot.offset) (released-keeps spot.offset) spot.carrier i st
     (λ c there. released-IsLaidOut c spot.offset
-    (item_at-All number_of IsLaidOut spot.carrier c i.contents st.sound there))
+    (item_at-All number_of IsLaidOut spot.carrier c i.contents st.orderly.laid there))
     (λ c there. released_alone c spot.offset
-    (item_at-All number_of IsLaidOutAlone spot.carrier c i.singles st.alone there))
+    (item_at-All number_of IsLaidOutAlone spot.carrier c i.singles st.orderly.alone there))
 
 -- other carriers are the instance's or another's as they were
 abbrev pub SameOwn : (own more : List OwnCarrier) → OwnCarrier → Type 0
@@ -339,14 +344,17 @@ module _ (i : Instance) (own : List OwnCarrier) where
 pub dismissing-Stands : (i : Instance) (number : ℕ) → Stands i → Stands (dismissing i number)
 dismissing-Stands i number st =
     let is : employed (dismissing i number) ≡ without_content number (employed i) =
-    sym (merged-without number_of number i.contents i.singles st.once) in
+    sym (merged-without number_of number i.contents i.singles st.orderly.once) in
     record {
-      kept = st.kept;
-      rising = AllPairs-filter (IsBelow number_of) _ i.contents st.rising;
-      rising_singles = AllPairs-filter (IsBelow number_of) _ i.singles st.rising_singles;
-      once = subst IsRising (sym is) (AllPairs-filter (IsBelow number_of) _ (employed i) st.once);
-      sound = All-filter _ IsLaidOut i.contents st.sound;
-      alone = All-filter _ IsLaidOutAlone i.singles st.alone;
+      orderly = record {
+        kept = st.orderly.kept;
+        rising = AllPairs-filter (IsBelow number_of) _ i.contents st.orderly.rising;
+        rising_singles = AllPairs-filter (IsBelow number_of) _ i.singles st.orderly.rising_singles;
+        once = subst IsRising (sym is)
+            (AllPairs-filter (IsBelow number_of) _ (employed i) st.orderly.once);
+        laid = All-filter _ IsLaidOut i.contents st.orderly.laid;
+        alone = All-filter _ IsLaidOutAlone i.singles st.orderly.alone;
+      };
       apart = subst (AllPairs ContentsApart) (sym is)
           (AllPairs-filter ContentsApart _ (employed i) st.apart);
       someones = All-filter _ (λ c. IsSomeones i (own_of c)) i.contents st.someones;
@@ -363,12 +371,15 @@ disowning-Stands i number o st there none =
     let others = merged-each number_of (λ c. c.number ≢ number) i.contents i.singles
     (none-other number_of number (employed i) none) in
     record {
-      kept = IsKept-cleared i.settings i.number number i.first i.end o i.own st.kept there;
-      rising = st.rising;
-      rising_singles = st.rising_singles;
-      once = st.once;
-      sound = st.sound;
-      alone = st.alone;
+      orderly = record {
+        kept = IsKept-cleared i.settings i.number number i.first i.end o i.own st.orderly.kept
+            there;
+        rising = st.orderly.rising;
+        rising_singles = st.orderly.rising_singles;
+        once = st.orderly.once;
+        laid = st.orderly.laid;
+        alone = st.orderly.alone;
+      };
       apart = st.apart;
       someones = all-someones i own i.contents
           (λ k d within. item_at-stays own_number _ number i.own (others.0 k d within)) st.someones;
@@ -385,7 +396,7 @@ pub clearing-Stands : (i : Instance) (number : ℕ) (o : OwnCarrier) → Stands 
 clearing-Stands i number o st there =
     disowning-Stands (dismissing i number) number o (dismissing-Stands i number st) there
     (ap (λ cs. content_of cs number)
-    (sym (merged-without number_of number i.contents i.singles st.once))
+    (sym (merged-without number_of number i.contents i.singles st.orderly.once))
     ∙ item_at-gone number_of number (employed i))
 
 -- a carrier comes that isn't employed, lies apart from those that are, and is someone's
@@ -400,7 +411,7 @@ module _ (i : Instance) (x : Content) (st : Stands i)
     each_other = merged-each number_of (λ c. c.number ≢ x.number) i.contents i.singles others_number
 
     once_more : IsRising (with_content x (employed i))
-    once_more = rising-entered number_of x (employed i) st.once others_number
+    once_more = rising-entered number_of x (employed i) st.orderly.once others_number
 
     apart_more : AllPairs ContentsApart (with_content x (employed i))
     apart_more = entered-with number_of ContentsApart turned-apart x (employed i) st.apart away
@@ -410,12 +421,14 @@ module _ (i : Instance) (x : Content) (st : Stands i)
     employing-Stands laid someones own =
         let is = merged-left number_of x i.contents i.singles each_other.0 in
         record {
-          kept = st.kept;
-          rising = rising-entered number_of x i.contents st.rising each_other.0;
-          rising_singles = st.rising_singles;
-          once = subst IsRising (sym is) once_more;
-          sound = All-entered number_of IsLaidOut x i.contents laid st.sound;
-          alone = st.alone;
+          orderly = record {
+            kept = st.orderly.kept;
+            rising = rising-entered number_of x i.contents st.orderly.rising each_other.0;
+            rising_singles = st.orderly.rising_singles;
+            once = subst IsRising (sym is) once_more;
+            laid = All-entered number_of IsLaidOut x i.contents laid st.orderly.laid;
+            alone = st.orderly.alone;
+          };
           apart = subst (AllPairs ContentsApart) (sym is) apart_more;
           someones = All-entered number_of (λ c. IsSomeones i (own_of c)) x i.contents someones
               st.someones;
@@ -429,12 +442,15 @@ module _ (i : Instance) (x : Content) (st : Stands i)
     employing_single-Stands laid own =
         let is = merged-right number_of x i.contents i.singles each_other.0 in
         record {
-          kept = st.kept;
-          rising = st.rising;
-          rising_singles = rising-entered number_of x i.singles st.rising_singles each_other.1;
-          once = subst IsRising (sym is) once_more;
-          sound = st.sound;
-          alone = All-entered number_of IsLaidOutAlone x i.singles laid st.alone;
+          orderly = record {
+            kept = st.orderly.kept;
+            rising = st.orderly.rising;
+            rising_singles = rising-entered number_of x i.singles st.orderly.rising_singles
+                each_other.1;
+            once = subst IsRising (sym is) once_more;
+            laid = st.orderly.laid;
+            alone = All-entered number_of IsLaidOutAlone x i.singles laid st.orderly.alone;
+          };
           apart = subst (AllPairs ContentsApart) (sym is) apart_more;
           someones = st.someones;
           owned = All-entered number_of (λ c. IsOwn i.own (own_of c)) x i.singles own st.owned;
@@ -448,9 +464,10 @@ module _ (i : Instance) (need : ℕ) (p : CarrierPlan) (st : Stands i) (asked : 
     other-carrier c (inl own) same =
         let used : is_used p.number i.own ≡ true =
         ap (λ n. is_used n i.own) (sym same) ∙ ap is_some own in
-        absurd (let never : true ≡ false = sym used ∙ other-numbers i need p st.kept asked in cc)
+        absurd (let never : true ≡ false =
+        sym used ∙ other-numbers i need p st.orderly.kept asked in cc)
     other-carrier c (inr foreign) same =
-        let has = planned-numbered i need p st.kept asked in
+        let has = planned-numbered i need p st.orderly.kept asked in
         foreign.other (omega (arith, has.0, same), omega (arith, has.1, same))
 
     new_number : All (λ c. c.number ≢ p.number) (employed i)
@@ -477,11 +494,12 @@ module _ (i : Instance) (need : ℕ) (p : CarrierPlan) (st : Stands i) (asked : 
     meets_not c whole (inl own) =
         let beside : SegmentApart p.base p.pages (segment_of (own_of c)) =
         item_at-All own_number (λ o. SegmentApart p.base p.pages (segment_of o)) c.number
-        (own_of c) i.own (free-own p.base p.pages i.own (planned-free i need p st.kept asked))
+        (own_of c) i.own
+        (free-own p.base p.pages i.own (planned-free i need p st.orderly.kept asked))
         own in
         apart_from planned_content c p.pages refl whole beside
     meets_not c whole (inr foreign) =
-        let within = planned-within i need p st.kept asked in
+        let within = planned-within i need p st.orderly.kept asked in
         apart_from planned_content c p.pages refl whole (elim foreign.outside [
           | inl before ↦ inl (omega (arith, before, within.0))
           | inr behind ↦ inr (omega (arith, behind, within.1))
@@ -506,12 +524,14 @@ module _ (i : Instance) (need : ℕ) (p : CarrierPlan) (st : Stands i) (asked : 
 
     owning-Stands : Stands owning
     owning-Stands = record {
-      kept = IsKept-made i need p st.kept asked;
-      rising = st.rising;
-      rising_singles = st.rising_singles;
-      once = st.once;
-      sound = st.sound;
-      alone = st.alone;
+      orderly = record {
+        kept = IsKept-made i need p st.orderly.kept asked;
+        rising = st.orderly.rising;
+        rising_singles = st.orderly.rising_singles;
+        once = st.orderly.once;
+        laid = st.orderly.laid;
+        alone = st.orderly.alone;
+      };
       apart = st.apart;
       someones = all-someones i (with_own (planned_own p) i.own) i.contents
           (λ k d within. same_as_before (get_or i.contents k d) (planned-new k d within))
@@ -525,18 +545,18 @@ module _ (i : Instance) (need : ℕ) (p : CarrierPlan) (st : Stands i) (asked : 
 
     own_found : IsOwn (with_own (planned_own p) i.own) (planned_own p)
     own_found = item_at-new own_number (planned_own p) i.own
-        (unused-All p.number i.own (other-numbers i need p st.kept asked))
+        (unused-All p.number i.own (other-numbers i need p st.orderly.kept asked))
 
     made_own : IsOwn (with_own (planned_own p) i.own) (own_of planned_content)
     made_own = subst (IsOwn (with_own (planned_own p) i.own))
-        (sym (own_of-made i need p st.kept asked)) own_found
+        (sym (own_of-made i need p st.orderly.kept asked)) own_found
 
     -- a planned multiblock carrier comes
     pub creating-Stands : Stands (creating i p)
     creating-Stands =
         employing-Stands owning planned_content owning-Stands
         (absent-none p.number (employed i) planned-absent) meets_none
-        (IsLaidOut-made i need p st.kept asked)
+        (IsLaidOut-made i need p st.orderly.kept asked)
         (inl made_own) (λ off. made_own)
 
     -- a planned singleblock carrier comes with its block
@@ -544,7 +564,7 @@ module _ (i : Instance) (need : ℕ) (p : CarrierPlan) (st : Stands i) (asked : 
         → Stands (creating_single i p need name)
     creating_single-Stands name least even =
         let x : Content = created_single i.number p need name in
-        let made = IsLaidOut-made i need p st.kept asked in
+        let made = IsLaidOut-made i need p st.orderly.kept asked in
         employing_single-Stands owning x owning-Stands
         (absent-none p.number (employed i) planned-absent) meets_none
         (record {
@@ -559,7 +579,7 @@ module _ (i : Instance) (need : ℕ) (p : CarrierPlan) (st : Stands i) (asked : 
           low = made.low;
         })
         (subst (IsOwn (with_own (planned_own p) i.own))
-        (sym (own_of-made i need p st.kept asked)) own_found)
+        (sym (own_of-made i need p st.orderly.kept asked)) own_found)
 
 -- the candidate is a gap of at least `need` units, in the carrier of its number
 abbrev pub IsOwnGap : ℕ → List Content → Candidate → Type 0
@@ -622,7 +642,7 @@ chosen_spot-HasGap i need spot st is =
     let o = choice_for i.settings need i.contents in
     let gap = if_some o (IsOwnGap need i.contents) (λ x. has (spot_of x))
     (λ x own. (own.0.0, own.0.1, omega (arith, own.0.2, own.1)))
-    (chosen-owned need i.contents st.rising st.sound i.settings) in
+    (chosen-owned need i.contents st.orderly.rising st.orderly.laid i.settings) in
     some_holds (option_map spot_of o) spot has is (some_map spot_of has o gap)
 
 -- a block is placed there
@@ -646,20 +666,22 @@ new_without : (s : Settings) (number first pages : ℕ) → IsValid s
       created = 0;
     })
 new_without s number first pages valid own within = record {
-  kept = record {
-    valid = valid;
-    instance = own;
-    rising = pairs_nil (IsBelow own_number);
-    numbers = All-nil (HasNumberIn (first_number number) (first_number number + 256));
-    pages = All-nil HasPages;
-    within = within;
-    laid = omega arith;
+  orderly = record {
+    kept = record {
+      valid = valid;
+      instance = own;
+      rising = pairs_nil (IsBelow own_number);
+      numbers = All-nil (HasNumberIn (first_number number) (first_number number + 256));
+      pages = All-nil HasPages;
+      within = within;
+      laid = omega arith;
+    };
+    rising = pairs_nil (IsBelow number_of);
+    rising_singles = pairs_nil (IsBelow number_of);
+    once = pairs_nil (IsBelow number_of);
+    laid = All-nil IsLaidOut;
+    alone = All-nil IsLaidOutAlone;
   };
-  rising = pairs_nil (IsBelow number_of);
-  rising_singles = pairs_nil (IsBelow number_of);
-  once = pairs_nil (IsBelow number_of);
-  sound = All-nil IsLaidOut;
-  alone = All-nil IsLaidOutAlone;
   apart = pairs_nil ContentsApart;
   someones = All-nil _;
   owned = All-nil _;
@@ -696,34 +718,36 @@ new_with s number first pages valid own within main some =
     let one : 1 ≤ n = omega arith in
     let same = pages_of_units n in
     record {
-      kept = record {
-        valid = valid;
-        instance = own;
-        rising = AllPairs-cons (IsBelow own_number) o [] (All-nil (IsBelow own_number o))
-            (pairs_nil (IsBelow own_number));
-        numbers = All-cons (HasNumberIn (first_number number) (first_number number + 256)) o []
-            (omega arith, omega arith)
-            (All-nil (HasNumberIn (first_number number) (first_number number + 256)));
-        pages = All-cons HasPages o [] (omega (arith, one, same)) (All-nil HasPages);
-        within = within;
-        laid = (omega arith, omega (arith, one, same), omega (arith, main, same));
+      orderly = record {
+        kept = record {
+          valid = valid;
+          instance = own;
+          rising = AllPairs-cons (IsBelow own_number) o [] (All-nil (IsBelow own_number o))
+              (pairs_nil (IsBelow own_number));
+          numbers = All-cons (HasNumberIn (first_number number) (first_number number + 256)) o []
+              (omega arith, omega arith)
+              (All-nil (HasNumberIn (first_number number) (first_number number + 256)));
+          pages = All-cons HasPages o [] (omega (arith, one, same)) (All-nil HasPages);
+          within = within;
+          laid = (omega arith, omega (arith, one, same), omega (arith, main, same));
+        };
+        rising = AllPairs-cons (IsBelow number_of) m [] (All-nil (IsBelow number_of m))
+            (pairs_nil (IsBelow number_of));
+        rising_singles = pairs_nil (IsBelow number_of);
+        once = AllPairs-cons (IsBelow number_of) m [] (All-nil (IsBelow number_of m))
+            (pairs_nil (IsBelow number_of));
+        laid = All-cons IsLaidOut m []
+            (record {
+              whole = (whole_pages n, omega (arith, one, same));
+              shared = refl;
+              tiled = (
+                omega (arith, one),
+                record { even = omega arith; whole = λ _. omega (arith, one) },
+              );
+              low = omega (arith, main, within);
+            }) (All-nil IsLaidOut);
+        alone = All-nil IsLaidOutAlone;
       };
-      rising = AllPairs-cons (IsBelow number_of) m [] (All-nil (IsBelow number_of m))
-          (pairs_nil (IsBelow number_of));
-      rising_singles = pairs_nil (IsBelow number_of);
-      once = AllPairs-cons (IsBelow number_of) m [] (All-nil (IsBelow number_of m))
-          (pairs_nil (IsBelow number_of));
-      sound = All-cons IsLaidOut m []
-          (record {
-            whole = (whole_pages n, omega (arith, one, same));
-            shared = refl;
-            tiled = (
-              omega (arith, one),
-              record { even = omega arith; whole = λ _. omega (arith, one) },
-            );
-            low = omega (arith, main, within);
-          }) (All-nil IsLaidOut);
-      alone = All-nil IsLaidOutAlone;
       apart = AllPairs-cons ContentsApart m [] (All-nil (ContentsApart m))
           (pairs_nil ContentsApart);
       someones = All-cons (λ c. IsSomeones begun (own_of c)) m []

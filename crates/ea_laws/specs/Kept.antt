@@ -96,16 +96,22 @@ IsOwn own o = own_at own o.number ≡ Some o
 abbrev pub IsSomeones : Instance → OwnCarrier → Type 0
 IsSomeones i o = IsOwn i.own o ⊎ IsForeign i.number i.first i.end o
 
--- an instance keeps the carriers that it owns; those that it employs are laid out and lie apart,
--- their numbers rise, and each is its own as it knows it or another instance's; a singleblock
--- carrier is its own, and so is each where carriers don't migrate
-pub record Stands (i : Instance) : Type 0 where
+-- an instance in order, whoever owns the carriers that it employs: it keeps those that it owns,
+-- their segments lie apart in its region, and it employs carriers of many blocks and of one, each
+-- number once, which are laid out
+pub record IsOrderly (i : Instance) : Type 0 where
   pub kept : IsKept i.settings i.number i.first i.end i.own
   pub rising : IsRising i.contents
   pub rising_singles : IsRising i.singles
   pub once : IsRising (employed i)
-  pub sound : All IsLaidOut i.contents
+  pub laid : All IsLaidOut i.contents
   pub alone : All IsLaidOutAlone i.singles
+
+-- an instance is in order; the carriers that it employs lie apart, and each is its own as it knows
+-- it or another instance's; a singleblock carrier is its own, and so is each where carriers don't
+-- migrate
+pub record Stands (i : Instance) : Type 0 where
+  pub orderly : IsOrderly i
   pub apart : AllPairs ContentsApart (employed i)
   pub someones : All (λ c. IsSomeones i (own_of c)) i.contents
   pub owned : All (λ c. IsOwn i.own (own_of c)) i.singles

@@ -11,12 +11,11 @@ use Rattle.ea_model.specs.Instance.{Instance, content_of, employed}
 use Rattle.ea_model.specs.Keyed.{IsBelow}
 use Rattle.ea_model.proofs.Merged.{merged-All}
 use Rattle.ea_model.proofs.Rising.{item_at-All, item_at-key}
-use Rattle.ea_laws.specs.Kept.{number_of}
+use Rattle.ea_laws.specs.Kept.{number_of, IsOrderly}
 use Rattle.ea_laws.proofs.BlockLists.{offset_of}
 use Rattle.ea_laws.proofs.Resized.{with_size}
 use Rattle.ea_sound.specs.Names.{of_block, of_content, only_at}
 use Rattle.ea_sound.specs.Blocks.{spot_at, employed_sum}
-use Rattle.ea_sound.specs.Orderly.{IsOrderly}
 use Rattle.ea_sound.proofs.EmployedWeights.{employed_sum-employed}
 use Rattle.ea_sound.proofs.KeyedWeights.{item-hit, times, times-once, sum-changed, sum-entered}
 use Rattle.ea_sound.proofs.KeyedWeights.{sum-without}

@@ -16,7 +16,7 @@ use Rattle.ea_model.specs.Instance.{releasing_at, without_own, owner_of}
 use Rattle.ea_model.proofs.Options.{same-some}
 use Rattle.ea_model.proofs.Rising.{item_at-All, item_at-key, item_past, without_here}
 use Rattle.ea_laws.specs.Kept.{number_of, own_number, HasOneBlock, IsLaidOut, IsLaidOutAlone}
-use Rattle.ea_laws.specs.Kept.{IsRising}
+use Rattle.ea_laws.specs.Kept.{IsOrderly, IsRising}
 use Rattle.ea_laws.specs.Kinds.{is_shared}
 use Rattle.ea_laws.proofs.BlockLists.{offset_of}
 use Rattle.ea_laws.proofs.Apart.{changed-All}
@@ -39,7 +39,6 @@ use Rattle.ea_machine.specs.Sums.{sum_over}
 use Rattle.ea_sound.specs.Here.{Here}
 use Rattle.ea_sound.specs.Blocks.{employed_sum, spot_at}
 use Rattle.ea_sound.specs.Moments.{at, with_actor}
-use Rattle.ea_sound.specs.Orderly.{IsOrderly}
 use Rattle.ea_sound.specs.Rule.{Belongs, Kept, Standing, of_owner}
 use Rattle.ea_sound.proofs.Assembly.{Closed}
 use Rattle.ea_sound.proofs.Alike.{Alike, lies-with}

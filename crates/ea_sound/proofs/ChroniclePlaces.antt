@@ -60,7 +60,7 @@ use Rattle.ea_machine.specs.Shared.{Shared}
 use Rattle.ea_machine.specs.Table.{effect}
 use Rattle.ea_sound.specs.Leaves.{InOperation, IsFresh, Wanted, making as with_carrier}
 use Rattle.ea_sound.specs.Moments.{at, with_actor}
-use Rattle.ea_sound.specs.Orderly.{IsOrderly}
+use Rattle.ea_laws.specs.Kept.{IsOrderly}
 use Rattle.ea_sound.proofs.Alike.{allocated-with, lies-with}
 use Rattle.ea_sound.proofs.Choosing.{chosen-gap}
 use Rattle.ea_sound.proofs.FewBlocks.{blocks_named}

@@ -7,9 +7,8 @@ use Rattle.ea_model.specs.Content.{Content, allocated, is_multi, is_nil}
 use Rattle.ea_model.specs.Instance.{Instance, content_of, employed, figures, without_content}
 use Rattle.ea_model.proofs.Options.{same-some}
 use Rattle.ea_model.proofs.Rising.{item_at-All}
-use Rattle.ea_laws.specs.Kept.{number_of, IsLaidOutAlone, IsRising}
+use Rattle.ea_laws.specs.Kept.{number_of, IsLaidOutAlone, IsOrderly, IsRising}
 use Rattle.ea_model.specs.Abandonment.{has_large_gap, is_due, is_sparse, is_sparse_carrier}
-use Rattle.ea_sound.specs.Orderly.{IsOrderly}
 use Rattle.ea_sound.proofs.KeyedWeights.{sum-without, times-once}
 use Rattle.ea_sound.proofs.Orderly.{employed-alone, employed-many}
 use Rattle.ea_sound.proofs.Weights.{sum_by-sum_over}

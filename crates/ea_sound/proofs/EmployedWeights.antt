@@ -14,7 +14,7 @@ use Rattle.ea_model.specs.Instance.{creating, creating_single, decision_at, empl
 use Rattle.ea_model.specs.Instance.{own_of, placing_at, resized_by, resized_in, resized_to}
 use Rattle.ea_model.specs.Instance.{resizing_at, shortened, without_content}
 use Rattle.ea_model.proofs.Rising.{changed-found, rising-changed}
-use Rattle.ea_laws.specs.Kept.{number_of, own_number}
+use Rattle.ea_laws.specs.Kept.{number_of, own_number, IsOrderly}
 use Rattle.ea_laws.proofs.Changed.{KeepsPlace, resized-keeps}
 use Rattle.ea_laws.proofs.Employed.{employed-changed, employed-cleared}
 use Rattle.ea_laws.proofs.Keeping.{pages_of_units}
@@ -23,7 +23,6 @@ use Rattle.ea_laws.proofs.Reallocating.{shortened-alone}
 use Rattle.ea_model.specs.Employment.{dismissing, employing}
 use Rattle.ea_sound.specs.Blocks.{employed_sum}
 use Rattle.ea_machine.specs.Sums.{sum_over}
-use Rattle.ea_sound.specs.Orderly.{IsOrderly}
 use Rattle.ea_sound.proofs.KeyedWeights.{times, times-once, sum-changed, sum-entered, sum-merged}
 use Rattle.ea_sound.proofs.KeyedWeights.{sum-without}
 use Rattle.ea_sound.proofs.Orderly.{employed-alone}

@@ -13,7 +13,7 @@ use Rattle.ea_model.specs.Instance.{Instance, creating, creating_single, decisio
 use Rattle.ea_model.specs.Instance.{releasing_at, resized_to, resizing_at}
 use Rattle.ea_model.specs.Keyed.{changed_at}
 use Rattle.ea_model.proofs.Rising.{changed_here, changed_past}
-use Rattle.ea_laws.specs.Kept.{number_of}
+use Rattle.ea_laws.specs.Kept.{number_of, IsOrderly}
 use Rattle.ea_laws.specs.Spots.{HasGap}
 use Rattle.ea_laws.proofs.BlockLists.{offset_of}
 use Rattle.ea_laws.proofs.Resized.{with_size}
@@ -23,7 +23,6 @@ use Rattle.ea_machine.specs.Setup.{Setup}
 use Rattle.ea_machine.specs.State.{State}
 use Rattle.ea_machine.specs.Sums.{one_if, sum_over}
 use Rattle.ea_sound.specs.Blocks.{employed_sum}
-use Rattle.ea_sound.specs.Orderly.{IsOrderly}
 use Rattle.ea_sound.proofs.BlockWeights.{HasRisingBlocks, block-rising}
 use Rattle.ea_sound.proofs.EmployedWeights.{employed_sum-creating, employed_sum-creating_single}
 use Rattle.ea_sound.proofs.EmployedWeights.{employed_sum-placing, employed_sum-resizing}

@@ -39,13 +39,12 @@ use Rattle.ea_model.specs.Instance.{place_at, placing_at, releasing_at, resized_
 use Rattle.ea_model.specs.Instance.{single_place, size_for}
 use Rattle.ea_model.specs.Keyed.{changed_at}
 use Rattle.ea_model.proofs.Rising.{changed-found, item_at-key}
-use Rattle.ea_laws.specs.Kept.{number_of}
+use Rattle.ea_laws.specs.Kept.{number_of, IsOrderly}
 use Rattle.ea_laws.proofs.BlockLists.{offset_of}
 use Rattle.ea_laws.proofs.Resized.{with_size}
 use Rattle.ea_machine.specs.Reallocations.{resized_place}
 use Rattle.ea_sound.specs.Released.{is_block}
 use Rattle.ea_machine.specs.Sums.{one_if, sum_over}
-use Rattle.ea_sound.specs.Orderly.{IsOrderly}
 use Rattle.ea_sound.proofs.EmployedWeights.{employed_sum-changing, employed_sum-creating_single}
 use Rattle.ea_sound.proofs.EmployedWeights.{employed_sum-dismissing, employed_sum-employed}
 use Rattle.ea_sound.proofs.EmployedWeights.{employed_sum-resizing}

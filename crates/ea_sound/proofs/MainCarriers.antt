@@ -16,7 +16,7 @@ use Rattle.ea_model.specs.Instance.{employed, first_number, main_content, placin
 use Rattle.ea_model.specs.Instance.{resized_by, resized_in, resized_to, resizing_at}
 use Rattle.ea_model.specs.Keyed.{changed_at}
 use Rattle.ea_model.proofs.Rising.{changed_here, changed_past}
-use Rattle.ea_laws.specs.Kept.{IsLaidOutAlone, number_of}
+use Rattle.ea_laws.specs.Kept.{number_of, IsLaidOutAlone, IsOrderly}
 use Rattle.ea_laws.proofs.Owned.{with_units}
 use Rattle.ea_model.specs.Employment.{dismissing, employing}
 use Rattle.ea_machine.specs.Machine.{full_instance}
@@ -24,7 +24,6 @@ use Rattle.ea_sound.specs.Places.{HasMain}
 use Rattle.ea_machine.specs.Setup.{Setup, first_page}
 use Rattle.ea_machine.specs.Sums.{sum_over}
 use Rattle.ea_sound.specs.Blocks.{EmploysMain, main_count}
-use Rattle.ea_sound.specs.Orderly.{IsOrderly}
 use Rattle.ea_sound.proofs.EmployedWeights.{employed_sum-creating, employed_sum-creating_single}
 use Rattle.ea_sound.proofs.EmployedWeights.{employed_sum-dismissing, employed_sum-employing}
 use Rattle.ea_sound.proofs.KeyedWeights.{item-hit, times-once}

@@ -16,13 +16,12 @@ use Rattle.ea_model.specs.Keyed.{changed_at}
 use Rattle.ea_model.proofs.Options.{same-some}
 use Rattle.ea_model.proofs.Rising.{changed-found, item_at-All, item_at-key, length-entered}
 use Rattle.ea_model.proofs.Rising.{rising-changed}
-use Rattle.ea_laws.specs.Kept.{number_of}
+use Rattle.ea_laws.specs.Kept.{number_of, IsOrderly}
 use Rattle.ea_laws.proofs.Apart.{changed-All}
 use Rattle.ea_laws.proofs.BlockLists.{offset_of}
 use Rattle.ea_laws.proofs.Owned.{with_units}
 use Rattle.ea_laws.proofs.Reallocating.{shortened-alone}
 use Rattle.ea_laws.proofs.Resized.{with_size}
-use Rattle.ea_sound.specs.Orderly.{IsOrderly}
 use Rattle.ea_sound.proofs.Orderly.{employed-alone, employed-many, many-not_alone}
 use Rattle.ea_sound.proofs.Others.{others-changed, others-mended}
 use Rattle.ea_sound.proofs.Resizing.{content_after}

@@ -23,7 +23,7 @@ use Rattle.ea_model.specs.Settings.{IsValidConfig}
 use Rattle.ea_model.specs.Trace.{IsScheduler, IsValidTrace}
 use Rattle.ea_model.proofs.Merged.{merged-All}
 use Rattle.ea_model.proofs.Rising.{item_at-All, item_at-key}
-use Rattle.ea_laws.specs.Kept.{number_of}
+use Rattle.ea_laws.specs.Kept.{number_of, IsOrderly}
 use Rattle.ea_machine.specs.declared.nodes.Named.{Named}
 use Rattle.ea_machine.specs.declared.nodes.Node.{Node}
 use Rattle.ea_machine.specs.declared.nodes.Node.TheVariants.{Block, Carrier}
@@ -50,7 +50,6 @@ use Rattle.ea_machine.specs.Table.{answer, effect}
 use Rattle.ea_machine.specs.Walks.{with_passed}
 use Rattle.ea_sound.specs.Leaves.{InWalk, Leaves}
 use Rattle.ea_sound.specs.Moments.{at, with_actor}
-use Rattle.ea_sound.specs.Orderly.{IsOrderly}
 use Rattle.ea_sound.specs.Present.{Rule}
 use Rattle.ea_sound.specs.Rule.{Belongs, Standing, names_of}
 use Rattle.ea_sound.proofs.Asked.{reached-rule}

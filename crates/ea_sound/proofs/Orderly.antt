@@ -30,8 +30,8 @@ use Rattle.ea_model.proofs.Merged.{merged-right, merged-second}
 use Rattle.ea_model.proofs.Options.{same-some}
 use Rattle.ea_model.proofs.Rising.{All-entered, item_at-All, item_at-changed, item_at-key, change}
 use Rattle.ea_model.proofs.Rising.{changed-found, none-other, rising-changed, rising-entered}
-use Rattle.ea_laws.specs.Kept.{number_of, own_number, IsKept, IsLaidOut, IsLaidOutAlone, IsRising}
-use Rattle.ea_laws.specs.Kept.{Stands}
+use Rattle.ea_laws.specs.Kept.{number_of, own_number, IsKept, IsLaidOut, IsLaidOutAlone, IsOrderly}
+use Rattle.ea_laws.specs.Kept.{IsRising}
 use Rattle.ea_laws.specs.Spots.{HasGap}
 use Rattle.ea_laws.proofs.Apart.{changed-All}
 use Rattle.ea_laws.proofs.Changed.{KeepsPlace, placed-keeps, released-keeps, resized-keeps}
@@ -41,24 +41,12 @@ use Rattle.ea_laws.proofs.Employed.{placing-is}
 use Rattle.ea_laws.proofs.Keeping.{IsKept-cleared, IsKept-made, IsKept-shortened, IsLaidOut-made}
 use Rattle.ea_laws.proofs.Owned.{with_units}
 use Rattle.ea_laws.proofs.Reallocating.{shortened-alone}
-use Rattle.ea_laws.proofs.Standing.{employed-rising, placed-IsLaidOut, released-IsLaidOut}
+use Rattle.ea_laws.proofs.Standing.{placed-IsLaidOut, released-IsLaidOut}
 use Rattle.ea_model.specs.Employment.{dismissing, disowning, employing}
-use Rattle.ea_sound.specs.Orderly.{IsOrderly}
 use Rattle.ea_sound.proofs.KeyedWeights.{without-missing}
 use Rattle.ea_sound.proofs.Resizing.{content_after, resized-IsLaidOut, resized-IsLaidOutAlone}
 use Rattle.ea_sound.proofs.Resizing.{single-resized, single-shortens}
 use Rattle.ea_sound.proofs.Laid.{created_single-IsLaidOutAlone, released-IsLaidOutAlone}
-
--- an instance that employs what it owns is in order
-pub Stands-IsOrderly : (i : Instance) → Stands i → IsOrderly i
-Stands-IsOrderly i st = record {
-  kept = st.kept;
-  rising = st.rising;
-  rising_singles = st.rising_singles;
-  once = employed-rising i st;
-  laid = st.sound;
-  alone = st.alone;
-}
 
 -- the content with a number, among the contents of many blocks or among those of one
 pub employed-many : (i : Instance) (n : ℕ) (c : Content) → IsOrderly i

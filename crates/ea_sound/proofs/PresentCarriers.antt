@@ -214,7 +214,7 @@ module _ (e : Setup) (w : State) (rule : Rule e w) (off : migration e ≡ false)
         (HasKeyIn number_of (first_number j.number) 256)
         (λ x own. item_at-All own_number
         (HasNumberIn (first_number j.number) (first_number j.number + 256)) x.number (own_of x)
-        j.own stands.kept.numbers own)
+        j.own stands.orderly.kept.numbers own)
         (employed j) owns)
 
     -- under its numbers they are all that it employs

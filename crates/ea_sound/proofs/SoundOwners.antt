@@ -7,7 +7,7 @@ use Rattle.ea_model.specs.Instance.{Instance, first_number, is_used, own_at, own
 use Rattle.ea_model.specs.Keyed.{IsBelow}
 use Rattle.ea_model.proofs.Pairs.{pairs_nil}
 use Rattle.ea_model.proofs.Rising.{item_at-All, item_at-key}
-use Rattle.ea_laws.specs.Kept.{HasNumberIn, IsRising, IsRisingOwn, number_of, own_number}
+use Rattle.ea_laws.specs.Kept.{number_of, own_number, HasNumberIn, IsOrderly, IsRising, IsRisingOwn}
 use Rattle.ea_laws.proofs.Keeping.{pages_of_units}
 use Rattle.ea_machine.specs.Actor.{Actor}
 use Rattle.ea_sound.specs.Contents.{seats, sum_everywhere}
@@ -16,7 +16,6 @@ use Rattle.ea_sound.specs.Places.{IsNumber, OwnTheirCarriers, has_number, owned_
 use Rattle.ea_machine.specs.Setup.{Setup, is_scheduler}
 use Rattle.ea_machine.specs.State.{State}
 use Rattle.ea_machine.specs.Sums.{one_if, sum_over}
-use Rattle.ea_sound.specs.Orderly.{IsOrderly}
 use Rattle.ea_sound.specs.Rule.{HasNoCarrier, Kept, of_own, own_numbers}
 use Rattle.ea_sound.proofs.Created.{scheduler-number}
 use Rattle.ea_sound.proofs.Global.{anywhere-only}

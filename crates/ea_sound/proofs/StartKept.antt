@@ -37,7 +37,6 @@ use Rattle.ea_sound.proofs.Created.{scheduler-number}
 use Rattle.ea_sound.proofs.Numbered.{no_scheduler-beyond}
 use Rattle.ea_sound.proofs.PlaceRows.{by_owner}
 use Rattle.ea_sound.proofs.Plans.{numbered-owner, own-between}
-use Rattle.ea_sound.proofs.Orderly.{Stands-IsOrderly}
 use Rattle.ea_sound.proofs.Starting.{first-Stands}
 use Rattle.ea_sound.proofs.Totals.{total_at-none, total_at-same, total-is, total-none}
 
@@ -288,7 +287,7 @@ module _ (e : Setup) where
       number = refl;
       first = refl;
       end = refl;
-      order = Stands-IsOrderly _ (may i is);
+      order = (may i is).orderly;
     })
 
     start-nobody : (i : ℕ) → is_scheduler e i ≡ false → HasNoCarrier (first_actor e i)
@@ -304,7 +303,7 @@ module _ (e : Setup) where
     main-belongs i is some =
         let lies = own-between (first_page e i) (first_page e i + e.pages) (first_number i)
         (own_of (main_of i)) (map own_of (main_carriers e.settings i (first_page e i)))
-        (may i is).kept.laid
+        (may i is).orderly.kept.laid
         (ap (λ b. own_at (map own_of (if b then main_of i ∷ [] else [])) (first_number i)) some
         ∙ item_here own_number (first_number i) (own_of (main_of i)) [] refl)
         in

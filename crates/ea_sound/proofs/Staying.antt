@@ -18,11 +18,10 @@ use Rattle.ea_model.specs.Instance.{releasing_at, resized_by, resized_in, resize
 use Rattle.ea_model.specs.Keyed.{has_key}
 use Rattle.ea_model.proofs.Merged.{merged-All}
 use Rattle.ea_model.proofs.Rising.{All-entered, change, item_at-All, item_at-key}
-use Rattle.ea_laws.specs.Kept.{number_of}
+use Rattle.ea_laws.specs.Kept.{number_of, IsOrderly}
 use Rattle.ea_laws.proofs.Owned.{with_units}
 use Rattle.ea_model.specs.Employment.{dismissing, employing}
 use Rattle.ea_sound.specs.Places.{IsMultiOrOwn, MayStay}
-use Rattle.ea_sound.specs.Orderly.{IsOrderly}
 use Rattle.ea_sound.proofs.Occupied.{after-vacant, placed-occupied}
 use Rattle.ea_sound.proofs.Orderly.{employed-alone, employed-many, many-not_alone}
 use Rattle.ea_sound.proofs.Others.{others-here, others-without}

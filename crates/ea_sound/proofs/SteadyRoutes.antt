@@ -7,7 +7,7 @@ use Rattle.ea_model.specs.declared.carriers.Kind.TheVariants.{Main, Multi, Singl
 use Rattle.ea_model.specs.Content.{Content, is_nil}
 use Rattle.ea_model.specs.Instance.{content_of, employed, releasing_at, without_content, owner_of}
 use Rattle.ea_model.proofs.Rising.{item_at-key}
-use Rattle.ea_laws.specs.Kept.{number_of}
+use Rattle.ea_laws.specs.Kept.{number_of, IsOrderly}
 use Rattle.ea_machine.specs.declared.nodes.Node.{Node}
 use Rattle.ea_machine.specs.declared.owners.OwnerWord.{OwnerWord}
 use Rattle.ea_machine.specs.declared.owners.OwnerWord.TheVariants as word
@@ -26,7 +26,6 @@ use Rattle.ea_machine.specs.Releases.{lightened, looked, looked_at, owned_by, po
 use Rattle.ea_machine.specs.Releases.{release_here, route_of, routed, settled, tried, turned}
 use Rattle.ea_machine.specs.Rows.{Answer, Done, Head, Rests, Passes, Saw, Won, Lost, Home, Got}
 use Rattle.ea_machine.specs.Setup.{Setup, migration}
-use Rattle.ea_sound.specs.Orderly.{IsOrderly}
 use Rattle.ea_sound.specs.Steady.{IsShown, IsSteadyRoute, TellsShown}
 use Rattle.ea_sound.proofs.Due.{due-in_hand, multi-found}
 use Rattle.ea_sound.proofs.Orderly.{releasing-IsOrderly}

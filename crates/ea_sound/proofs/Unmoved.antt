@@ -28,7 +28,7 @@ use Rattle.ea_model.specs.Abandonment.{is_due}
 use Rattle.ea_model.specs.Employment.{dismissing, disowning}
 use Rattle.ea_machine.specs.Setup.{Setup, migration}
 use Rattle.ea_sound.proofs.KeyedWeights.{changed-missing}
-use Rattle.ea_sound.proofs.Orderly.{Stands-IsOrderly, employed-alone, many-not_alone}
+use Rattle.ea_sound.proofs.Orderly.{employed-alone, many-not_alone}
 use Rattle.ea_sound.proofs.Resizing.{InMulti, InSingle, in_multi, in_single}
 use Rattle.ea_sound.proofs.Plans.{own-owner}
 
@@ -50,7 +50,7 @@ module _ (i : Instance) (st : Stands i) (off : i.settings.acul ≡ 0) where
       → owner_of c.number ≡ i.number
   employed-owner n c there =
       ap owner_of (item_at-key number_of n c (employed i) there)
-      ∙ own-owner i n (own_of c) st.kept (employed-own i n c st off there)
+      ∙ own-owner i n (own_of c) st.orderly.kept (employed-own i n c st off there)
 
   -- a carrier that leaves it is deallocated
   pub leaving-Stands : (n : ℕ) (c : Content) → content_of (employed i) n ≡ Some c
@@ -90,14 +90,15 @@ module _ (i : Instance) (spot : Spot) (need name : ℕ) (st : Stands i)
   in_singles None e c there = employed-alone i at e ∙ there
   in_singles (Some d) e c there =
       absurd (item_at-All number_of (λ x. x.number ≢ at) at c i.singles
-      (many-not_alone i at d (Stands-IsOrderly i st) e) there
+      (many-not_alone i at d st.orderly e) there
       (item_at-key number_of at c i.singles there))
 
   in_place : (size : ℕ) → Stands (resized_in i spot size name)
   in_place size =
       changing-Stands (λ c. resized c spot.offset size name)
       (resized-keeps spot.offset size name) at i st
-      (λ c there. let laid = item_at-All number_of IsLaidOut at c i.contents st.sound there in
+      (λ c there.
+      let laid = item_at-All number_of IsLaidOut at c i.contents st.orderly.laid there in
       record {
         whole = laid.whole;
         shared = laid.shared;
@@ -105,7 +106,8 @@ module _ (i : Instance) (spot : Spot) (need name : ℕ) (st : Stands i)
             (sym (same_blocks size c (employed-multi i at c st there))) laid.tiled;
         low = laid.low;
       })
-      (λ c there. let laid = item_at-All number_of IsLaidOutAlone at c i.singles st.alone there in
+      (λ c there.
+      let laid = item_at-All number_of IsLaidOutAlone at c i.singles st.orderly.alone there in
       record {
         whole = laid.whole;
         single = laid.single;

@@ -23,7 +23,6 @@ pub mod Heard
 -- What holds of each run.
 pub mod MachineLaws
 -- The rule that each step keeps, and the middle of a step.
-pub mod Orderly
 pub mod Blocks
 pub mod Rule
 pub mod Present

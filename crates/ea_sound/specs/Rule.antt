@@ -7,7 +7,7 @@ use Rattle.ea_model.specs.declared.carriers.Spot.{Spot}
 use Rattle.ea_model.specs.declared.units.TheConstants.{PAGE_UNITS}
 use Rattle.ea_model.specs.Content.{Content, gaps_of, largest}
 use Rattle.ea_model.specs.Instance.{Instance, owner_of}
-use Rattle.ea_laws.specs.Kept.{IsLaidOut}
+use Rattle.ea_laws.specs.Kept.{IsLaidOut, IsOrderly}
 use Rattle.ea_machine.specs.declared.nodes.Node.{Node}
 use Rattle.ea_machine.specs.declared.stages.Stage.TheVariants.{Ended}
 use Rattle.ea_machine.specs.Actor.{Actor}
@@ -20,7 +20,6 @@ use Rattle.ea_sound.specs.Names.{allocated, of_content, of_hand, of_mark, of_nam
 use Rattle.ea_sound.specs.NodePlaces.{of_carrier_actor, of_carrier_mark, of_link, of_unlinked}
 use Rattle.ea_sound.specs.Places.{IsMultiOrOwn}
 use Rattle.ea_sound.specs.Ranges.{IsLaidOutAsKind}
-use Rattle.ea_sound.specs.Orderly.{IsOrderly}
 
 -- the names that stand with a scheduler: held, passed by its walk, or in its hand
 abbrev pub names_of : (ℕ → Spot → ℕ) → Actor → ℕ

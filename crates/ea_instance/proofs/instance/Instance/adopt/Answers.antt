@@ -12,7 +12,7 @@ as_multi x multi = ap (λ k. record x { kind = k }) (sym multi)
 
 pub adopt-requires-clause-strategy : goal.adopt-requires-clause-strategy
 adopt-requires-clause-strategy c = λ gf.
-    migrates-not_gf c.self.inside.settings c.self.invariant.stands.kept.valid
+    migrates-not_gf c.self.inside.settings c.self.invariant.stands.orderly.kept.valid
     (subst (λ (i : Instance). 0 < i.settings.acul) (sym c.self.view_is) c.requires.migrates)
     (sym c.self.invariant.strategy ∙ gf)
 

@@ -30,4 +30,4 @@ returns-in-None c =
     (sym (found-single _ _ c.self.inside.own c.self.inside.carriers c.self.inside.singles
     c.self.inside.created c.self.invariant _ c.self.view_is number none))
     (singles-stay i.settings i.contents number c.self.inside.singles
-    c.self.invariant.stands.alone)
+    c.self.invariant.stands.orderly.alone)

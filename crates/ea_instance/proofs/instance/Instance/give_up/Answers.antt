@@ -13,7 +13,7 @@ leave-requires-clause-bins c = λ gf.
     x.blocks ≡ []))
     (sym c.self.view_is)
     (c.requires.empty (ap (λ (i : Instance). i.settings.acul) (sym c.self.view_is)
-    ∙ stays-acul c.self.inside.settings c.self.invariant.stands.kept.valid
+    ∙ stays-acul c.self.inside.settings c.self.invariant.stands.orderly.kept.valid
     (sym c.self.invariant.strategy ∙ gf)))
 
 pub invariant_of-self : goal.invariant_of-self

@@ -83,7 +83,7 @@ returns-then-has_multi-clause-emptied c =
     c.self.inside.created c.self.invariant spot _ c.self.view_is x there _
     c.in_ok-vacant.ensures.ok in
     let laid = item_at-All number_of IsLaidOut spot.carrier x ks.contents
-    c.self.invariant.stands.sound there in
+    c.self.invariant.stands.orderly.laid there in
     subst IsEmptied
     (sym (found-multi _ _ c.self.inside.own c.release.new.self c.self.inside.singles
     c.self.inside.created kept _ refl spot.carrier (f x) now))
@@ -163,7 +163,7 @@ returns-clause-vacant c =
     c.self.inside.created c.self.invariant spot _ c.self.view_is none _ c.release-2.ensures in
     single-vacant y spot.offset
     (item_at-All number_of IsLaidOutAlone spot.carrier y ss
-    c.self.invariant.stands.alone there) block
+    c.self.invariant.stands.orderly.alone there) block
     ∙ ap (λ o. option_map_or is_vacant o false) (sym (found-single _ _ c.self.inside.own
     c.self.inside.carriers
     c.release-2.new.self c.self.inside.created kept _ refl spot.carrier none ∙ now))
@@ -192,7 +192,7 @@ returns-clause-emptied c =
     c.self.inside.created kept _ refl spot.carrier none ∙ now))
     (λ single. single-emptied y spot.offset
     (item_at-All number_of IsLaidOutAlone spot.carrier y ss
-    c.self.invariant.stands.alone there) block)
+    c.self.invariant.stands.orderly.alone there) block)
 
 pub returns-clause-gone : goal.returns-clause-gone
 returns-clause-gone c =

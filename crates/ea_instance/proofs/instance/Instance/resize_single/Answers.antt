@@ -103,7 +103,7 @@ resize-requires-in_default c =
     let none = is-none (content_of c.self.inside.carriers.contents c.args.spot.carrier)
     (ap (λ i. has_content c.args.spot.carrier i.contents) c.self.view_is ∙ c.requires.single) in
     record {
-      laid = c.self.invariant.stands.alone;
+      laid = c.self.invariant.stands.orderly.alone;
       few = omega (
         arith,
         kept-few_alone _ _ c.self.inside.own c.self.inside.carriers c.self.inside.singles
