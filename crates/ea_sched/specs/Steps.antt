@@ -48,6 +48,14 @@ pub record Stepped (c : Config) (t : Trace) (me : ℕ) (a b : Actor) (shared aft
 abbrev pub IsReady : Scheduler → Option Shared → Option Caller → Type 0
 IsReady s shared caller = Ready s.config s.trace.now s.number (actor_of s) shared caller
 
+-- the scheduler is to do its row on what is shared, which is of that many schedulers and of names up
+-- to a greatest one
+pub record StartsRow (s : Scheduler) (count last : ℕ) (shared : Option Shared)
+    (caller : Option Caller) : Type 0 where
+  pub schedulers : count ≡ s.config.schedulers
+  pub greatest : last ≡ s.trace.now.greatest
+  pub ready : IsReady s shared caller
+
 -- the row that the scheduler wanted was done, and it has gone on by the answer, up to its next row
 pub record DidRow (s t : Scheduler) (shared after : Option Shared) (caller now : Option Caller) :
     Type 0 where

@@ -1,7 +1,7 @@
 //! The rows of the machine's table, each with what a scheduler does once it is answered.
 ghost use Rattle.std.specs.Prelude.{◌≡◌, Some, None, OnOk};
 ghost use Rattle.ea_sched.specs.Acting.{IsSame, actor_of};
-ghost use Rattle.ea_sched.specs.Steps.{DidRow, IsReady};
+ghost use Rattle.ea_sched.specs.Steps.{DidRow, StartsRow};
 ghost use Rattle.ea_machine.specs.declared.stages.Stage.TheVariants as stage;
 ghost use Rattle.ea_machine.specs.declared.stages.Route.TheVariants as route;
 
@@ -19,9 +19,8 @@ impl<'t> Scheduler<'t> {
         alloc: Global,
         shared: &mut S,
     ) -> Result<(), OutOfMemory>
-        requires schedulers { S.schedulers shared.old ≡ self.old.config.schedulers }
-        requires greatest { S.greatest shared.old ≡ self.old.trace.now.greatest }
-        requires ready { IsReady self.old (S.shared shared.old) (S.caller shared.old) }
+        requires starts { StartsRow self.old (S.schedulers shared.old) (S.greatest shared.old)
+            (S.shared shared.old) (S.caller shared.old) }
         requires stage { self.old.stage ≡ stage.Begin }
         requires next { self.old.next ≡ None }
         ensures stays { S.stays shared.old shared.new }
@@ -46,9 +45,8 @@ impl<'t> Scheduler<'t> {
         shared: &mut S,
         node: Node,
     ) -> Result<(), OutOfMemory>
-        requires schedulers { S.schedulers shared.old ≡ self.old.config.schedulers }
-        requires greatest { S.greatest shared.old ≡ self.old.trace.now.greatest }
-        requires ready { IsReady self.old (S.shared shared.old) (S.caller shared.old) }
+        requires starts { StartsRow self.old (S.schedulers shared.old) (S.greatest shared.old)
+            (S.shared shared.old) (S.caller shared.old) }
         requires stage { self.old.stage ≡ stage.Begin }
         requires next { self.old.next ≡ Some node }
         ensures stays { S.stays shared.old shared.new }
@@ -81,9 +79,8 @@ impl<'t> Scheduler<'t> {
         why: Why,
         gone: Gone,
     )
-        requires schedulers { S.schedulers shared.old ≡ self.old.config.schedulers }
-        requires greatest { S.greatest shared.old ≡ self.old.trace.now.greatest }
-        requires ready { IsReady self.old (S.shared shared.old) (S.caller shared.old) }
+        requires starts { StartsRow self.old (S.schedulers shared.old) (S.greatest shared.old)
+            (S.shared shared.old) (S.caller shared.old) }
         requires stage { self.old.stage ≡ stage.Routed (route.Pushing node to) why gone }
         ensures stays { S.stays shared.old shared.new }
         ensures same { IsSame self.old self.new }
@@ -106,9 +103,8 @@ impl<'t> Scheduler<'t> {
         why: Why,
         gone: Gone,
     ) -> Result<(), OutOfMemory>
-        requires schedulers { S.schedulers shared.old ≡ self.old.config.schedulers }
-        requires greatest { S.greatest shared.old ≡ self.old.trace.now.greatest }
-        requires ready { IsReady self.old (S.shared shared.old) (S.caller shared.old) }
+        requires starts { StartsRow self.old (S.schedulers shared.old) (S.greatest shared.old)
+            (S.shared shared.old) (S.caller shared.old) }
         requires stage { self.old.stage ≡ stage.Routed (route.Linking node to) why gone }
         ensures stays { S.stays shared.old shared.new }
         ensures same { IsSame self.old self.new }
@@ -127,9 +123,8 @@ impl<'t> Scheduler<'t> {
 
     /// A held name is given, to whoever takes it.
     pub(crate) fn give<S: Shared<Content = Mbc>>(&mut self, shared: &mut S, given: Named, to: u32)
-        requires schedulers { S.schedulers shared.old ≡ self.old.config.schedulers }
-        requires greatest { S.greatest shared.old ≡ self.old.trace.now.greatest }
-        requires ready { IsReady self.old (S.shared shared.old) (S.caller shared.old) }
+        requires starts { StartsRow self.old (S.schedulers shared.old) (S.greatest shared.old)
+            (S.shared shared.old) (S.caller shared.old) }
         requires stage { self.old.stage ≡ stage.Giving given to }
         ensures stays { S.stays shared.old shared.new }
         ensures same { IsSame self.old self.new }
@@ -148,9 +143,8 @@ impl<'t> Scheduler<'t> {
         tries: u32,
         left: u32,
     )
-        requires schedulers { S.schedulers shared.old ≡ self.old.config.schedulers }
-        requires greatest { S.greatest shared.old ≡ self.old.trace.now.greatest }
-        requires ready { IsReady self.old (S.shared shared.old) (S.caller shared.old) }
+        requires starts { StartsRow self.old (S.schedulers shared.old) (S.greatest shared.old)
+            (S.shared shared.old) (S.caller shared.old) }
         requires stage { self.old.stage ≡ stage.Taking name tries left }
         ensures stays { S.stays shared.old shared.new }
         ensures same { IsSame self.old self.new }

@@ -155,17 +155,6 @@ fn run_to_end<'t>(alloc: Global, config: Config, trace: &'t Trace) -> Result<Run
     Ok(Run { schedulers, shared })
 }
 
-/// Runs a trace whose run is built.
-fn run_built(alloc: Global, config: Config, trace: &Trace) -> Result<Outcome, OutOfMemory>
-    requires config { IsValidConfig config }
-    requires trace { IsValidTrace config.schedulers trace.now }
-    requires built { is_built_run config trace.now ≡ true }
-    ensures { IfOk result (λ outcome. plain_outcome outcome ≡ machine.outcome_of config trace.now) }
-{
-    let Run { schedulers, shared } = run_to_end(alloc, config, trace)?;
-    outcome_of(alloc, config, trace, List::from_vec(schedulers), &shared)
-}
-
 /// Runs a trace that has a schedule: the schedulers take its turns, each one atomic step, and then
 /// scheduler 1 goes on until it has ended, then scheduler 2, up to the last one. Answers what is
 /// printed of the state then; it fails only where there is no memory. Whatever it answers, each run
@@ -179,5 +168,6 @@ pub fn run_given(alloc: Global, config: Config, trace: &Trace) -> Result<Outcome
         plain_outcome outcome ≡ machine.outcome_of config trace.now) }
     ensures protocol { Protocol (setup_of config trace.now) }
 {
-    run_built(alloc, config, trace)
+    let Run { schedulers, shared } = run_to_end(alloc, config, trace)?;
+    outcome_of(alloc, config, trace, List::from_vec(schedulers), &shared)
 }

@@ -4,7 +4,7 @@ ghost use Rattle.ea_machine.specs.declared.stages.Stage.TheVariants as stage;
 ghost use Rattle.ea_machine.specs.Statistics as statistics;
 ghost use Rattle.ea_sched.specs.Acting.{IsSame, actor_of, is_ended};
 ghost use Rattle.ea_sched.specs.declared.step.Progress.TheVariants as progress;
-ghost use Rattle.ea_sched.specs.Steps.{DidRow, IsReady, Stepped};
+ghost use Rattle.ea_sched.specs.Steps.{DidRow, IsReady, StartsRow, Stepped};
 
 use crate::state::Scheduler;
 use ea_machine::{Route, Stage};
@@ -39,9 +39,8 @@ impl<'t> Scheduler<'t> {
         alloc: Global,
         shared: &mut S,
     ) -> Result<(), OutOfMemory>
-        requires schedulers { S.schedulers shared.old ≡ self.old.config.schedulers }
-        requires greatest { S.greatest shared.old ≡ self.old.trace.now.greatest }
-        requires ready { IsReady self.old (S.shared shared.old) (S.caller shared.old) }
+        requires starts { StartsRow self.old (S.schedulers shared.old) (S.greatest shared.old)
+            (S.shared shared.old) (S.caller shared.old) }
         requires goes { is_ended self.old.stage ≡ false }
         ensures stays { S.stays shared.old shared.new }
         ensures same { IsSame self.old self.new }

@@ -9,43 +9,43 @@ use Rattle.ea_sched.proofs.state.Scheduler.link.Goals as goal
 
 pub link-requires-clause-target : goal.link-requires-clause-target
 link-requires-clause-target g c =
-    let target = link-target c.args.self.now c.requires.ready c.args.node c.args.to c.args.why
+    let target = link-target c.args.self.now c.requires.starts.ready c.args.node c.args.to c.args.why
     c.args.gone c.requires.stage in
-    omega (arith, target, c.requires.schedulers)
+    omega (arith, target, c.requires.starts.schedulers)
 
 pub link-requires-clause-node : goal.link-requires-clause-node
-link-requires-clause-node g c = as-node c.args.node c.requires.schedulers c.requires.greatest
-    (link-node c.args.self.now c.requires.ready c.args.node c.args.to c.args.why c.args.gone
+link-requires-clause-node g c = as-node c.args.node c.requires.starts.schedulers c.requires.starts.greatest
+    (link-node c.args.self.now c.requires.starts.ready c.args.node c.args.to c.args.why c.args.gone
     c.requires.stage)
 
 pub link-requires-clause-unlinked : goal.link-requires-clause-unlinked
-link-requires-clause-unlinked g c = link-unlinked c.args.self.now c.requires.ready c.args.node
+link-requires-clause-unlinked g c = link-unlinked c.args.self.now c.requires.starts.ready c.args.node
     c.args.to c.args.why c.args.gone c.requires.stage
 
 pub end_walk-requires-clause-passed : goal.end_walk-requires-clause-passed
 end_walk-requires-clause-passed g c =
     let s = c.args.self.now in
-    linked-can s c.requires.ready c.args.node c.args.to c.args.gone
+    linked-can s c.requires.starts.ready c.args.node c.args.to c.args.gone
     (c.requires.stage
     ∙ ap (λ why. Routed (Linking c.args.node c.args.to) why c.args.gone) c.in-Walk.is)
 
 pub end_walk-requires-clause-next : goal.end_walk-requires-clause-next
 end_walk-requires-clause-next g c =
     let s = c.args.self.now in
-    linked-suits s c.requires.ready c.args.node c.args.to c.args.gone
+    linked-suits s c.requires.starts.ready c.args.node c.args.to c.args.gone
     (c.requires.stage
     ∙ ap (λ why. Routed (Linking c.args.node c.args.to) why c.args.gone) c.in-Walk.is)
 
 pub finish_task-requires : goal.finish_task-requires
 finish_task-requires g c =
     let s = c.args.self.now in
-    task-more s c.requires.ready (Linking c.args.node c.args.to) c.in-For.task c.args.gone
+    task-more s c.requires.starts.ready (Linking c.args.node c.args.to) c.in-For.task c.args.gone
     (c.requires.stage
     ∙ ap (λ why. Routed (Linking c.args.node c.args.to) why c.args.gone) c.in-For.is)
 
 pub returns-in-Walk-clause-row : goal.returns-in-Walk-clause-row
 returns-in-Walk-clause-row g c = on_ok_weaker c.end_walk.result
-    (row-done c.args.self.now c.requires.ready (Link c.args.node c.args.to) Done
+    (row-done c.args.self.now c.requires.starts.ready (Link c.args.node c.args.to) Done
     (Routed (Linking c.args.node c.args.to) Walk c.args.gone)
     (c.requires.stage
     ∙ ap (λ why. Routed (Linking c.args.node c.args.to) why c.args.gone) c.in-Walk.is)
@@ -53,7 +53,7 @@ returns-in-Walk-clause-row g c = on_ok_weaker c.end_walk.result
     c.end_walk.ensures.actor
 
 pub returns-in-For-clause-row : goal.returns-in-For-clause-row
-returns-in-For-clause-row g c = row-done c.args.self.now c.requires.ready
+returns-in-For-clause-row g c = row-done c.args.self.now c.requires.starts.ready
     (Link c.args.node c.args.to) Done
     (Routed (Linking c.args.node c.args.to) (For c.in-For.task) c.args.gone)
     (c.requires.stage

@@ -8,27 +8,27 @@ use Rattle.ea_sched.proofs.Calling.{as-node, pass-next, pass-node, passed-can, p
 use Rattle.ea_sched.proofs.state.Scheduler.pass.Goals as goal
 
 pub take_link-requires-clause-node : goal.take_link-requires-clause-node
-take_link-requires-clause-node g c = as-node c.args.node c.requires.schedulers c.requires.greatest
-    (pass-node c.args.self.now c.requires.ready c.args.node c.requires.next)
+take_link-requires-clause-node g c = as-node c.args.node c.requires.starts.schedulers c.requires.starts.greatest
+    (pass-node c.args.self.now c.requires.starts.ready c.args.node c.requires.next)
 
 pub take_link-requires-clause-next : goal.take_link-requires-clause-next
 take_link-requires-clause-next g c =
-    pass-next c.args.self.now c.requires.ready c.args.node c.requires.next
+    pass-next c.args.self.now c.requires.starts.ready c.args.node c.requires.next
 
 pub go_on-requires : goal.go_on-requires
 go_on-requires g c = record {
-  next = rests-suits c.args.self.now c.requires.ready c.args.node c.requires.stage c.requires.next
+  next = rests-suits c.args.self.now c.requires.starts.ready c.args.node c.requires.stage c.requires.next
       c.in-Rest.ensures.row;
 }
 
 pub end_walk-requires-clause-passed : goal.end_walk-requires-clause-passed
-end_walk-requires-clause-passed g c = passed-can c.args.self.now c.requires.ready c.args.node
+end_walk-requires-clause-passed g c = passed-can c.args.self.now c.requires.starts.ready c.args.node
     c.requires.stage c.requires.next c.add.new.self.nodes
     (c.add.ensures ∙ ap (λ nodes. c.args.node ∷ nodes) c.reserve.ensures.nodes)
     c.in-End.ensures.row
 
 pub end_walk-requires-clause-next : goal.end_walk-requires-clause-next
-end_walk-requires-clause-next g c = passed-suits c.args.self.now c.requires.ready c.args.node
+end_walk-requires-clause-next g c = passed-suits c.args.self.now c.requires.starts.ready c.args.node
     c.requires.stage c.requires.next c.add.new.self.nodes
     (c.add.ensures ∙ ap (λ nodes. c.args.node ∷ nodes) c.reserve.ensures.nodes)
     c.in-End.ensures.row
@@ -37,7 +37,7 @@ pub returns-in-Rest-clause-row : goal.returns-in-Rest-clause-row
 returns-in-Rest-clause-row g c =
     let s = c.args.self.now in
     on_ok_weaker c.go_on.result
-    (λ is. row-done s c.requires.ready TakeLink Rests Begin c.requires.stage
+    (λ is. row-done s c.requires.starts.ready TakeLink Rests Begin c.requires.stage
     (ap begins c.requires.next) c.in-Rest.ensures.row
     (is ∙ ap (λ nodes. onward (setup_for s) s.number (record (ready_of s) { passed = nodes }))
     c.reserve.ensures.nodes))
@@ -45,14 +45,14 @@ returns-in-Rest-clause-row g c =
 
 pub returns-in-End-clause-row : goal.returns-in-End-clause-row
 returns-in-End-clause-row g c = on_ok_weaker c.end_walk.result
-    (passed-ended c.args.self.now c.requires.ready c.args.node c.requires.stage c.requires.next
+    (passed-ended c.args.self.now c.requires.starts.ready c.args.node c.requires.stage c.requires.next
     c.add.new.self.nodes
     (c.add.ensures ∙ ap (λ nodes. c.args.node ∷ nodes) c.reserve.ensures.nodes)
     c.in-End.ensures.row)
     c.end_walk.ensures.actor
 
 pub returns-in-Next-clause-row : goal.returns-in-Next-clause-row
-returns-in-Next-clause-row g c = passed-next c.args.self.now c.requires.ready c.args.node
+returns-in-Next-clause-row g c = passed-next c.args.self.now c.requires.starts.ready c.args.node
     c.requires.stage c.requires.next c.add-in-Next.new.self.nodes
     (c.add-in-Next.ensures ∙ ap (λ nodes. c.args.node ∷ nodes) c.reserve.ensures.nodes)
     c.in-Next.older c.in-Next.ensures.row refl

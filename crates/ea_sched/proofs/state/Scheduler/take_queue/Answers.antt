@@ -9,23 +9,23 @@ use Rattle.ea_sched.proofs.Calling.{row-done, take-walked, taken-suits}
 use Rattle.ea_sched.proofs.state.Scheduler.take_queue.Goals as goal
 
 pub take_all-requires-clause-walked : goal.take_all-requires-clause-walked
-take_all-requires-clause-walked g c = take-walked c.args.self.now c.requires.ready c.requires.next
+take_all-requires-clause-walked g c = take-walked c.args.self.now c.requires.starts.ready c.requires.next
 
 pub go_on-requires : goal.go_on-requires
 go_on-requires g c = record {
-  next = taken-suits c.args.self.now c.requires.ready c.requires.stage c.requires.next;
+  next = taken-suits c.args.self.now c.requires.starts.ready c.requires.stage c.requires.next;
 }
 
 pub returns-in-None-clause-row : goal.returns-in-None-clause-row
 returns-in-None-clause-row g c = on_ok_weaker c.go_on.result
-    (row-done c.args.self.now c.requires.ready TakeAll (Head None) Begin
+    (row-done c.args.self.now c.requires.starts.ready TakeAll (Head None) Begin
     c.requires.stage (ap begins c.requires.next) c.in-None.ensures.row)
     c.go_on.ensures.actor
 
 pub returns-in-Some-clause-row : goal.returns-in-Some-clause-row
 returns-in-Some-clause-row g c =
     let s = c.args.self.now in
-    row-done s c.requires.ready TakeAll (Head (Some c.in-Some.newest)) Begin
+    row-done s c.requires.starts.ready TakeAll (Head (Some c.in-Some.newest)) Begin
     c.requires.stage (ap begins c.requires.next) c.in-Some.ensures.row
     (ap (λ stage. record (actor_of s) { stage = stage; next = Some c.in-Some.newest })
     c.requires.stage)

@@ -7,23 +7,23 @@ use Rattle.ea_sched.proofs.state.Scheduler.try_take.Goals as goal
 
 pub take_try-found-requires-clause-name : goal.take_try-found-requires-clause-name
 take_try-found-requires-clause-name g c =
-    let name = take-name c.args.self.now c.requires.ready c.args.name c.args.tries c.args.left
+    let name = take-name c.args.self.now c.requires.starts.ready c.args.name c.args.tries c.args.left
     c.requires.stage in
-    omega (arith, name, c.requires.greatest)
+    omega (arith, name, c.requires.starts.greatest)
 
 pub took-requires-clause-more : goal.took-requires-clause-more
-took-requires-clause-more g c = take-more c.args.self.now c.requires.ready c.args.name c.args.tries
+took-requires-clause-more g c = take-more c.args.self.now c.requires.starts.ready c.args.name c.args.tries
     c.args.left c.requires.stage
 
 pub took-requires-clause-fresh : goal.took-requires-clause-fresh
-took-requires-clause-fresh g c = take-fresh c.args.self.now c.requires.ready c.args.name
+took-requires-clause-fresh g c = take-fresh c.args.self.now c.requires.starts.ready c.args.name
     c.args.tries c.args.left c.take_try-found.result c.requires.stage
     c.take_try-found.ensures.row
 
 pub returns-clause-row : goal.returns-clause-row
 returns-clause-row g c =
     let s = c.args.self.now in
-    row-done s c.requires.ready (TakeTry c.args.name) (Got c.take_try-found.result)
+    row-done s c.requires.starts.ready (TakeTry c.args.name) (Got c.take_try-found.result)
     (Taking c.args.name c.args.tries c.args.left) c.requires.stage refl
     c.take_try-found.ensures.row
     (c.took.ensures.actor
