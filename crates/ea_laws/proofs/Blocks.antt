@@ -8,7 +8,8 @@ use Rattle.ea_model.specs.declared.carriers.Kind.TheVariants.{Multi}
 use Rattle.ea_model.specs.declared.carriers.Spot.{Spot}
 use Rattle.ea_model.specs.Content.{Content, Tiled, block_at, gap_at, gaps_of, is_vacant, placed}
 use Rattle.ea_model.specs.Content.{released, taken_of}
-use Rattle.ea_model.specs.Instance.{Instance, block_in, changed, clearing, content_of}
+use Rattle.ea_model.specs.Employment.{dismissing}
+use Rattle.ea_model.specs.Instance.{Instance, block_in, changed, content_of}
 use Rattle.ea_model.specs.Instance.{created_content, created_single, creating, creating_single}
 use Rattle.ea_model.specs.Instance.{employed, place_at, placing_at, plan, releasing_at}
 use Rattle.ea_model.specs.Instance.{single_place, size_for, with_content}
@@ -19,7 +20,7 @@ use Rattle.ea_laws.specs.Spots.{HasGap, HaveSameBlocks, IsOther, IsPlaced}
 use Rattle.ea_laws.specs.Kept.{number_of, IsLaidOut, Stands}
 use Rattle.ea_laws.proofs.Changed.{block_in-here, block_in-others, placed-keeps, released-keeps}
 use Rattle.ea_laws.proofs.Contents.{absent-none, block_among, same-with, same-without}
-use Rattle.ea_laws.proofs.Employed.{employed-changed, employed-cleared, employed-created}
+use Rattle.ea_laws.proofs.Employed.{employed-changed, employed-dismissed, employed-created}
 use Rattle.ea_laws.proofs.Employed.{employed-placed, employed-single}
 use Rattle.ea_laws.proofs.Standing.{employed-multi, employed-rising, planned-absent, planned-new}
 
@@ -104,12 +105,12 @@ releasing-gone i spot =
     (employed-changed (λ c. released c spot.offset) (released-keeps spot.offset) spot.carrier i)
     ∙ gone_in (employed i) spot (content_of (employed i) spot.carrier) refl
 
--- a carrier without blocks that goes takes none away
-pub clearing-same : (i : Instance) (number : ℕ) (c : Content) → Stands i
+-- a carrier without blocks that is dismissed takes none away
+pub dismissing-same : (i : Instance) (number : ℕ) (c : Content) → Stands i
     → content_of (employed i) number ≡ Some c → is_vacant c ≡ true
-    → HaveSameBlocks (employed i) (employed (clearing i number))
-clearing-same i number c st there vacant at =
-    ap (λ cs. block_in cs at) (employed-cleared i number (employed-rising i st))
+    → HaveSameBlocks (employed i) (employed (dismissing i number))
+dismissing-same i number c st there vacant at =
+    ap (λ cs. block_in cs at) (employed-dismissed i number (employed-rising i st))
     ∙ same-without number c (employed i) there vacant at
 
 -- a multiblock carrier that is created brings no block and takes none away

@@ -5,7 +5,8 @@ use Rattle.ea_model.specs.declared.carriers.CarrierPlan.{CarrierPlan}
 use Rattle.ea_model.specs.declared.carriers.Kind.TheVariants.{Multi}
 use Rattle.ea_model.specs.declared.carriers.Spot.{Spot}
 use Rattle.ea_model.specs.Content.{Content, placed}
-use Rattle.ea_model.specs.Instance.{Instance, changed, changing, clearing, content_of}
+use Rattle.ea_model.specs.Employment.{dismissing}
+use Rattle.ea_model.specs.Instance.{Instance, changed, changing, content_of}
 use Rattle.ea_model.specs.Instance.{created_content, created_single, creating, creating_single}
 use Rattle.ea_model.specs.Instance.{employed, placing_at, shortened, with_content, without_content}
 use Rattle.ea_model.specs.Keyed.{merged}
@@ -55,9 +56,9 @@ pub employed-single : (i : Instance) (p : CarrierPlan) (need name : ℕ)
 employed-single i p need name new =
     merged-right number_of (created_single i.number p need name) i.contents i.singles new
 
-pub employed-cleared : (i : Instance) (number : ℕ) → IsRising (employed i)
-    → employed (clearing i number) ≡ without_content number (employed i)
-employed-cleared i number rising =
+pub employed-dismissed : (i : Instance) (number : ℕ) → IsRising (employed i)
+    → employed (dismissing i number) ≡ without_content number (employed i)
+employed-dismissed i number rising =
     sym (merged-without number_of number i.contents i.singles rising)
 
 -- a carrier that isn't among the multiblock ones has fewer pages

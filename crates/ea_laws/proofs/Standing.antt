@@ -29,7 +29,7 @@ use Rattle.ea_model.specs.Units.{pages_for}
 use Rattle.ea_model.specs.Strategies.{candidates, choice_among, choice_for, choice_empty}
 use Rattle.ea_model.specs.Strategies.{large_enough, inspected_by, lower, may_miss, or_else, spot_of}
 use Rattle.ea_model.specs.Strategies.{takes_first}
-use Rattle.ea_model.specs.Instance.{Instance, changing, chosen_spot, clearing, content_of}
+use Rattle.ea_model.specs.Instance.{Instance, changing, chosen_spot, content_of}
 use Rattle.ea_model.specs.Instance.{created_content, created_single, creating, creating_single}
 use Rattle.ea_model.specs.Instance.{employed, first_number, has_content, is_used, main_content}
 use Rattle.ea_model.specs.Instance.{new_instance, own_at, own_of, placing_at, plan, planned_own}
@@ -391,9 +391,9 @@ disowning-Stands i number o st there none =
     }
 
 -- a carrier goes
-pub clearing-Stands : (i : Instance) (number : ℕ) (o : OwnCarrier) → Stands i
-    → own_at i.own number ≡ Some o → Stands (clearing i number)
-clearing-Stands i number o st there =
+pub deallocated-Stands : (i : Instance) (number : ℕ) (o : OwnCarrier) → Stands i
+    → own_at i.own number ≡ Some o → Stands (disowning (dismissing i number) number)
+deallocated-Stands i number o st there =
     disowning-Stands (dismissing i number) number o (dismissing-Stands i number st) there
     (ap (λ cs. content_of cs number)
     (sym (merged-without number_of number i.contents i.singles st.orderly.once))

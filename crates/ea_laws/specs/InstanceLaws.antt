@@ -3,21 +3,23 @@
 use Rattle.std.specs.Prelude.{◌≡◌, ◌↔◌, ℕ, ◌+◌, ◌%◌, ◌≢◌, ◌<◌, ◌≤◌, true, None, Some, Ok, Err, All}
 use Rattle.std.specs.Prelude.{IsSome}
 use Rattle.ea_model.specs.declared.carriers.CarrierPlan.{CarrierPlan}
+use Rattle.ea_model.specs.declared.carriers.OwnCarrier.{OwnCarrier}
 use Rattle.ea_model.specs.declared.carriers.Spot.{Spot}
 use Rattle.ea_model.specs.declared.entries.NoCarrier.TheVariants.{Numbers, Space}
 use Rattle.ea_model.specs.declared.reallocation.Decision.TheVariants.{Move}
 use Rattle.ea_model.specs.declared.settings.Settings.{Settings}
 use Rattle.ea_model.specs.declared.units.TheConstants.{MAX_PAGES, MAX_SCHEDULERS, MIN_BLOCK}
 use Rattle.ea_model.specs.Content.{Content, is_vacant}
-use Rattle.ea_model.specs.Instance.{Instance, block_in, chosen_spot, clearing, content_of, creating}
+use Rattle.ea_model.specs.Employment.{dismissing, disowning}
+use Rattle.ea_model.specs.Instance.{Instance, block_in, chosen_spot, content_of, creating}
 use Rattle.ea_model.specs.Instance.{creating_single, decision_at, employed, least_pages}
-use Rattle.ea_model.specs.Instance.{new_instance, own_of, place_at, placing_at, plan, releasing_at}
+use Rattle.ea_model.specs.Instance.{new_instance, own_at, place_at, placing_at, plan, releasing_at}
 use Rattle.ea_model.specs.Instance.{resized_to, resizing_at, segments, single_place}
 use Rattle.ea_model.specs.Region.{runs}
 use Rattle.ea_model.specs.Settings.{IsValid}
 use Rattle.ea_model.specs.Units.{pages_for}
 use Rattle.ea_laws.specs.InOrder.{IsInOrder}
-use Rattle.ea_laws.specs.Kept.{IsOwn, Stands}
+use Rattle.ea_laws.specs.Kept.{Stands}
 use Rattle.ea_laws.specs.Spots.{AllUsed, HaveSameBlocks, IsOther, IsPlaced}
 
 -- an instance may begin with these settings, this number and the pages from `first` on: the main
@@ -49,11 +51,17 @@ Releases = (i : Instance) (spot : Spot) → Stands i
     × ((at : Spot) → IsOther spot.carrier spot.offset at
     → block_in (employed (releasing_at i spot)) at ≡ block_in (employed i) at)
 
--- an own carrier without blocks goes, and no block with it
-abbrev pub Clears : Type 0
-Clears = (i : Instance) (number : ℕ) (c : Content) → Stands i
-    → content_of (employed i) number ≡ Some c → IsOwn i.own (own_of c) → is_vacant c ≡ true
-    → Stands (clearing i number) × HaveSameBlocks (employed i) (employed (clearing i number))
+-- a carrier without blocks is employed no longer, and no block goes with it
+abbrev pub Dismisses : Type 0
+Dismisses = (i : Instance) (number : ℕ) (c : Content) → Stands i
+    → content_of (employed i) number ≡ Some c → is_vacant c ≡ true
+    → Stands (dismissing i number) × HaveSameBlocks (employed i) (employed (dismissing i number))
+
+-- a carrier that isn't employed is owned no longer
+abbrev pub Disowns : Type 0
+Disowns = (i : Instance) (number : ℕ) (o : OwnCarrier) → Stands i
+    → own_at i.own number ≡ Some o → content_of (employed i) number ≡ None
+    → Stands (disowning i number)
 
 -- a planned multiblock carrier comes, and no block with it; it has a choice for the need
 abbrev pub Creates : Type 0

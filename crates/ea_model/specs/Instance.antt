@@ -281,14 +281,6 @@ without_content number cs = without (λ c. c.number) number cs
 abbrev pub without_own : ℕ → List OwnCarrier → List OwnCarrier
 without_own number os = without (λ o. o.number) number os
 
--- the instance without a carrier
-abbrev pub clearing : Instance → ℕ → Instance
-clearing i number = record i {
-  own = without_own number i.own;
-  contents = without_content number i.contents;
-  singles = without_content number i.singles;
-}
-
 -- the block at a spot
 abbrev pub block_in : List Content → Spot → Option BlockAt
 block_in cs spot = option_and_then (λ c. block_at c.blocks spot.offset) (content_of cs spot.carrier)

@@ -16,7 +16,7 @@ use Rattle.ea_model.specs.Instance.{resizing_at, shortened, without_content}
 use Rattle.ea_model.proofs.Rising.{changed-found, rising-changed}
 use Rattle.ea_laws.specs.Kept.{number_of, own_number, IsOrderly}
 use Rattle.ea_laws.proofs.Changed.{KeepsPlace, resized-keeps}
-use Rattle.ea_laws.proofs.Employed.{employed-changed, employed-cleared}
+use Rattle.ea_laws.proofs.Employed.{employed-changed, employed-dismissed}
 use Rattle.ea_laws.proofs.Keeping.{pages_of_units}
 use Rattle.ea_laws.proofs.Owned.{with_units}
 use Rattle.ea_laws.proofs.Reallocating.{shortened-alone}
@@ -57,7 +57,7 @@ module _ (f : Content → ℕ) (i : Instance) where
     employed_sum-dismissing = omega (
       arith,
       sum-without number_of f n c (employed i) once there,
-      ap (sum_over f) (employed-cleared i n order.once),
+      ap (sum_over f) (employed-dismissed i n order.once),
       sum-merged number_of f (without_content n i.contents) (without_content n i.singles),
       employed_sum-employed,
     )

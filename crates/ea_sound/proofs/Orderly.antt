@@ -36,7 +36,7 @@ use Rattle.ea_laws.specs.Spots.{HasGap}
 use Rattle.ea_laws.proofs.Apart.{changed-All}
 use Rattle.ea_laws.proofs.Changed.{KeepsPlace, placed-keeps, released-keeps, resized-keeps}
 use Rattle.ea_laws.proofs.Contents.{block_among}
-use Rattle.ea_laws.proofs.Employed.{employed-changed, employed-cleared, employed-shortened}
+use Rattle.ea_laws.proofs.Employed.{employed-changed, employed-dismissed, employed-shortened}
 use Rattle.ea_laws.proofs.Employed.{placing-is}
 use Rattle.ea_laws.proofs.Keeping.{IsKept-cleared, IsKept-made, IsKept-shortened, IsLaidOut-made}
 use Rattle.ea_laws.proofs.Owned.{with_units}
@@ -180,7 +180,7 @@ dismissing-IsOrderly i n order = record {
   kept = order.kept;
   rising = AllPairs-filter (IsBelow number_of) _ i.contents order.rising;
   rising_singles = AllPairs-filter (IsBelow number_of) _ i.singles order.rising_singles;
-  once = subst IsRising (sym (employed-cleared i n order.once))
+  once = subst IsRising (sym (employed-dismissed i n order.once))
       (AllPairs-filter (IsBelow number_of) _ (employed i) order.once);
   laid = All-filter _ IsLaidOut i.contents order.laid;
   alone = All-filter _ IsLaidOutAlone i.singles order.alone;

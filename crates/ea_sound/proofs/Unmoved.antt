@@ -22,7 +22,8 @@ use Rattle.ea_laws.proofs.Changed.{resized-keeps}
 use Rattle.ea_laws.proofs.Contents.{absent-none, block_among}
 use Rattle.ea_laws.proofs.Reallocating.{resizing-Stands}
 use Rattle.ea_laws.proofs.Resized.{with_size}
-use Rattle.ea_laws.proofs.Standing.{changing-Stands, clearing-Stands, employed-multi, employed-own}
+use Rattle.ea_laws.proofs.Standing.{changing-Stands, deallocated-Stands}
+use Rattle.ea_laws.proofs.Standing.{employed-multi, employed-own}
 use Rattle.ea_laws.proofs.Standing.{planned-absent}
 use Rattle.ea_model.specs.Abandonment.{is_due}
 use Rattle.ea_model.specs.Employment.{dismissing, disowning}
@@ -56,7 +57,7 @@ module _ (i : Instance) (st : Stands i) (off : i.settings.acul ≡ 0) where
   pub leaving-Stands : (n : ℕ) (c : Content) → content_of (employed i) n ≡ Some c
       → Stands (disowning (dismissing i n) n)
   leaving-Stands n c there =
-      clearing-Stands i n (own_of c) st (employed-own i n c st off there)
+      deallocated-Stands i n (own_of c) st (employed-own i n c st off there)
 
 module _ (i : Instance) (st : Stands i) where
   -- a planned carrier is none that it employs

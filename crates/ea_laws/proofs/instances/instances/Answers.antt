@@ -1,14 +1,11 @@
-use Rattle.std.proofs.Common.{ap, sym, ◌∙◌}
-use Rattle.ea_model.specs.Instance.{employed, own_at, own_of}
-use Rattle.ea_model.proofs.Rising.{item_at-key}
-use Rattle.ea_laws.specs.Kept.{number_of}
-use Rattle.ea_laws.proofs.Blocks.{clearing-same, creating-same, creating_single-IsPlaced}
+use Rattle.ea_laws.proofs.Blocks.{dismissing-same, creating-same, creating_single-IsPlaced}
 use Rattle.ea_laws.proofs.Blocks.{placing-IsPlaced, releasing-gone, releasing-others}
 use Rattle.ea_laws.proofs.Keeping.{chosen-planned}
 use Rattle.ea_laws.proofs.Reallocating.{resizing-Stands, resizing-begins, resizing-others}
 use Rattle.ea_laws.proofs.Refusals.{plan-numbers, plan-space}
 use Rattle.ea_laws.proofs.Standing.{Stands-IsInOrder, chosen-Stands, chosen_spot-HasGap}
-use Rattle.ea_laws.proofs.Standing.{clearing-Stands, creating-Stands, creating_single-Stands}
+use Rattle.ea_laws.proofs.Standing.{dismissing-Stands, disowning-Stands}
+use Rattle.ea_laws.proofs.Standing.{creating-Stands, creating_single-Stands}
 use Rattle.ea_laws.proofs.Standing.{new-Stands, releasing-Stands}
 use Rattle.ea_laws.proofs.instances.instances.Goals as goal
 
@@ -29,12 +26,12 @@ pub returns-clause-releases : goal.returns-clause-releases
 returns-clause-releases c = λ i spot st.
     (releasing-Stands i spot st, releasing-gone i spot, releasing-others i spot)
 
-pub returns-clause-clears : goal.returns-clause-clears
-returns-clause-clears c = λ i number x st there own vacant. (
-  clearing-Stands i number (own_of x) st (ap (own_at i.own)
-      (sym (item_at-key number_of number x (employed i) there)) ∙ own),
-  clearing-same i number x st there vacant,
-)
+pub returns-clause-dismisses : goal.returns-clause-dismisses
+returns-clause-dismisses c = λ i number x st there vacant.
+    (dismissing-Stands i number st, dismissing-same i number x st there vacant)
+
+pub returns-clause-disowns : goal.returns-clause-disowns
+returns-clause-disowns c = disowning-Stands
 
 pub returns-clause-creates : goal.returns-clause-creates
 returns-clause-creates c = λ i need p st asked. (
