@@ -161,7 +161,8 @@ module _ (c : Config) (t : Trace) (valid : IsValidConfig c) (made : IsValidTrace
       (sym free-printed) (ap (λ n. 8 * n) (sym carriers-printed))
 
   module _ (o : Outcome) (logs : map (λ log. log.items) o.logs.items ≡ map (λ s. s.log.items) ss)
-      (lines : o.carriers.items ≡ flat_map (λ s. map (carrier_line s.instance.number) (employed s.instance)) ss)
+      (lines : o.carriers.items
+      ≡ flat_map (λ s. map (carrier_line s.instance.number) (employed s.instance)) ss)
       (sums : o.totals ≡ totals_by ss given) where
     logs-are : listed (map listed (map (λ log. log.items) o.logs.items))
         ≡ listed (map (λ (a : Actor). listed a.log) (actors_of e w))

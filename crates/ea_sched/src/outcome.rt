@@ -33,7 +33,8 @@ fn logs_of(alloc: Global, schedulers: List<Scheduler<'_>>) -> Result<List<List<E
 /// The lines of the carriers that the schedulers employ.
 fn lines_of(alloc: Global, schedulers: &[Scheduler<'_>]) -> Result<List<CarrierLine>, OutOfMemory>
     ensures { IfOk result (λ lines. lines.items
-        ≡ flat_map (λ s. map (carrier_line s.instance.number) (employed s.instance)) schedulers.now) }
+        ≡ flat_map (λ s. map (carrier_line s.instance.number) (employed s.instance))
+        schedulers.now) }
 {
     let mut lines = List::new(alloc);
     for scheduler in schedulers {

@@ -15,8 +15,8 @@ use ea_instance::Instance;
 use ea_machine::{Gone, Named, Node, Route, Stage, Task, Why};
 use ea_model::{Entry, OutOfMemory, Spot, owner_of};
 
-/// The instance that employs the carrier with that number, which is at least 1: where carriers don't
-/// migrate, that is its owner.
+/// The instance that employs the carrier with that number, which is at least 1: where carriers
+/// don't migrate, that is its owner.
 pub fn employer_of(carrier: u32) -> u32
     ensures { result ≡ owner_of carrier }
 {
