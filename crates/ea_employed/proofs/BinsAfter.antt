@@ -18,7 +18,7 @@ use Rattle.ea_laws.proofs.Apart.{apart-changed, changed-All, turned-apart}
 use Rattle.ea_model.proofs.Merged.{entered-with}
 use Rattle.ea_laws.proofs.Candidates.{gaps_Inside, Inside}
 use Rattle.ea_laws.proofs.Changed.{KeepsPlace, placed-keeps, released-keeps}
-use Rattle.ea_laws.proofs.Standing.{placed-IsLaidOut, released-IsLaidOut}
+use Rattle.ea_laws.proofs.Laid.{placed-IsLaidOut, released-IsLaidOut}
 use Rattle.ea_model.proofs.Options.{if_some, same-some}
 use Rattle.ea_model.proofs.Rising.{All-entered, item_at-All}
 use Rattle.std.proofs.lemmas.Bool.{cases_eq}

@@ -22,7 +22,7 @@ use Rattle.ea_model.proofs.Rising.{item_at-All, item_here, item_past, length-ent
 use Rattle.ea_model.proofs.Rising.{others, without_here, without_none, without_past}
 use Rattle.ea_laws.specs.Kept.{number_of, HasOneBlock, IsLaidOut, IsLaidOutAlone, IsRising}
 use Rattle.ea_laws.proofs.BlockLists.{offset_of, Tiled-rising}
-use Rattle.ea_laws.proofs.Standing.{placed-IsLaidOut}
+use Rattle.ea_laws.proofs.Laid.{placed-IsLaidOut}
 use Rattle.ea_laws.proofs.Tiling.{Ordered-allocated, Tiled-allocated, Tiled-length, one-Ordered}
 use Rattle.ea_employed.specs.Laid.{AreLaid}
 use Rattle.ea_employed.proofs.Changing.{IsPlacing, IsResizing}

@@ -11,12 +11,15 @@ pub mod FreeRuns
 pub mod InNew
 pub mod Inspected
 pub mod Keeping
+pub mod Laid
+pub mod Orderly
 pub mod Orders
 pub mod Owned
 pub mod Ranges
 pub mod Reallocating
 pub mod Refusals
 pub mod Resized
+pub mod Resizing
 pub mod Room
 pub mod Segments
 pub mod Standing

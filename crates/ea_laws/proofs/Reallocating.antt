@@ -1,5 +1,5 @@
 -- What a reallocation in place keeps, and what it changes.
-use Rattle.std.proofs.Common.{◌≡◌, ◌≢◌, ℕ, ◌+◌, ◌*◌, ◌%◌, ◌/◌, ◌<◌, ◌≤◌, List, [], ◌∷◌, AllPairs}
+use Rattle.std.proofs.Common.{◌≡◌, ◌≢◌, ℕ, ◌+◌, ◌*◌, ◌%◌, ◌/◌, ◌<◌, ◌≤◌, List, AllPairs}
 use Rattle.std.proofs.Common.{get_or, sym, ap, ◌∙◌, subst, refl, inl, inr, arith}
 use Rattle.std.specs.Prelude.{Option, Some, None, IsSome, option_map, ◌==◌}
 use Rattle.std.proofs.lemmas.Bool.{cases_eq, cond_both, cond-false, cond-true}
@@ -11,59 +11,32 @@ use Rattle.ea_model.specs.declared.reallocation.Decision.{Decision}
 use Rattle.ea_model.specs.declared.reallocation.Decision.TheVariants.{Stay, ShrinkHere, GrowHere}
 use Rattle.ea_model.specs.declared.reallocation.Decision.TheVariants.{ShrinkCarrier, Move}
 use Rattle.ea_model.specs.declared.reallocation.Where.TheVariants.{Multi, Single}
-use Rattle.ea_model.specs.declared.settings.Settings.{Settings}
-use Rattle.ea_model.specs.Content.{Content, Tiled, block_at, gap_behind, resized, size_of}
+use Rattle.ea_model.specs.Content.{Content, block_at, gap_behind, resized, size_of}
 use Rattle.ea_model.specs.Decision.{decision, size_after}
 use Rattle.ea_model.specs.Instance.{Instance, block_in, changed, content_of, decision_at, employed}
 use Rattle.ea_model.specs.Instance.{own_at, own_of, resized_by, resized_in, resized_to, resizing_at}
 use Rattle.ea_model.specs.Instance.{shortened, size_at, where_at, where_in}
-use Rattle.ea_model.specs.Keyed.{changed_at, has_key}
+use Rattle.ea_model.specs.Keyed.{has_key}
 use Rattle.ea_model.specs.Units.{pages_for}
 use Rattle.ea_model.proofs.Merged.{merged-apart, merged-second}
 use Rattle.ea_model.proofs.Options.{same-some, some_value}
-use Rattle.ea_model.proofs.Rising.{change, changed-found, changed-other, changed_here, item_at-All}
-use Rattle.ea_model.proofs.Rising.{item_at-changed, item_at-key, item_past, none-other}
-use Rattle.ea_model.proofs.Rising.{rising-changed}
+use Rattle.ea_model.proofs.Rising.{change, changed-found, changed-other, item_at-All}
+use Rattle.ea_model.proofs.Rising.{item_at-changed, item_at-key, none-other}
 use Rattle.ea_laws.specs.Kept.{number_of, own_number, ContentsApart, HasOneBlock, IsLaidOut}
-use Rattle.ea_laws.specs.Kept.{IsLaidOutAlone, IsOwn, IsRising, Stands}
+use Rattle.ea_laws.specs.Kept.{IsLaidOutAlone, IsOwn, Stands}
 use Rattle.ea_laws.specs.Spots.{HaveSameBlocks, IsOther}
-use Rattle.ea_laws.proofs.Apart.{altered, apart-lessened, changed-All, only-item}
-use Rattle.ea_laws.proofs.BlockLists.{offset_of}
+use Rattle.ea_laws.proofs.Apart.{altered, apart-lessened, only-item}
 use Rattle.ea_laws.proofs.CarrierSegments.{with_pages}
 use Rattle.ea_laws.proofs.Changed.{KeepsPlace, block_in-here, block_in-others, resized-keeps}
 use Rattle.ea_laws.proofs.Contents.{block_among}
 use Rattle.ea_laws.proofs.Employed.{employed-changed, employed-shortened}
-use Rattle.ea_laws.proofs.Keeping.{IsKept-shortened}
 use Rattle.ea_laws.proofs.Owned.{with_units}
-use Rattle.ea_laws.proofs.Resized.{grown-tiled, renamed-tiled, resized-begins, resized-others}
-use Rattle.ea_laws.proofs.Resized.{shrunk-tiled, with_size}
+use Rattle.ea_laws.proofs.Resized.{resized-begins, resized-others}
+use Rattle.ea_laws.proofs.Orderly.{shortened-IsOrderly}
+use Rattle.ea_laws.proofs.Resizing.{content_after, InMulti, InSingle, in_multi, in_single}
+use Rattle.ea_laws.proofs.Resizing.{one_resized, resized-IsLaidOut, shortened-alone, single-resized}
 use Rattle.ea_laws.proofs.Standing.{all-own, all-someones, changing-Stands, employed-multi}
 use Rattle.ea_laws.proofs.Standing.{employed-rising, single-own}
-
--- what is decided of a block of `old` units in a multiblock carrier that is to have `fresh`
-abbrev DecidesMulti : ℕ → ℕ → ℕ → Decision → Type 0
-DecidesMulti old fresh behind Stay = Unit {0}
-DecidesMulti old fresh behind ShrinkHere = fresh + 6 ≤ old
-DecidesMulti old fresh behind GrowHere = (old < fresh) × (fresh ≤ old + behind)
-DecidesMulti old fresh behind (ShrinkCarrier pages) = ⊥
-DecidesMulti old fresh behind Move = Unit {0}
-
--- and of one in a singleblock carrier
-abbrev DecidesSingle : ℕ → ℕ → ℕ → Decision → Type 0
-DecidesSingle old fresh units Stay = (fresh ≡ old) × (8 + fresh ≤ units)
-DecidesSingle old fresh units ShrinkHere = (fresh < old) × (8 + fresh ≤ units)
-DecidesSingle old fresh units GrowHere = (old < fresh) × (8 + fresh ≤ units)
-DecidesSingle old fresh units (ShrinkCarrier pages) =
-    (pages ≡ pages_for (8 + fresh)) × (pages < pages_for units)
-DecidesSingle old fresh units Move = Unit {0}
-
-decides_multi : (s : Settings) (old fresh behind : ℕ)
-    → DecidesMulti old fresh behind (decision s old fresh (Multi behind))
-decides_multi s old fresh behind = grind arith
-
-decides_single : (s : Settings) (old fresh units : ℕ)
-    → DecidesSingle old fresh units (decision s old fresh (Single units))
-decides_single s old fresh units = grind arith
 
 -- a singleblock carrier that still holds its block has fewer pages
 module _ (i : Instance) (number pages : ℕ) (c : Content) (st : Stands i)
@@ -76,17 +49,13 @@ module _ (i : Instance) (number pages : ℕ) (c : Content) (st : Stands i)
   employed_in : content_of (employed i) number ≡ Some c
   employed_in = merged-second number_of number i.contents i.singles others ∙ there
 
-  less_alone : (d : Content) → content_of i.singles number ≡ Some d
-      → IsLaidOutAlone (with_units pages d)
-  less_alone d is =
-      subst (λ x. IsLaidOutAlone (with_units pages x))
-      (same-some (content_of i.singles number) c d there is)
-      (record {
-        whole = (omega arith, omega (arith, some));
-        single = alone_in.single;
-        block = holds;
-        low = omega (arith, fewer, alone_in.low);
-      })
+  less_alone : IsLaidOutAlone (with_units pages c)
+  less_alone = record {
+    whole = (omega arith, omega (arith, some));
+    single = alone_in.single;
+    block = holds;
+    low = omega (arith, fewer, alone_in.low);
+  }
 
   abbrev shorter : OwnCarrier → OwnCarrier
   shorter o = record o { pages = pages }
@@ -129,19 +98,9 @@ module _ (i : Instance) (number pages : ℕ) (c : Content) (st : Stands i)
       let is = employed-shortened i number pages no_multi in
       let one = only-item number c (employed i) st.orderly.once employed_in in
       record {
-        orderly = record {
-          kept = IsKept-shortened i.settings i.number number i.first i.end pages (own_of c) i.own
-              st.orderly.kept (single-own i number c st there) some
-              (omega (arith, fewer, alone_in.whole.0));
-          rising = st.orderly.rising;
-          rising_singles = rising-changed number_of f number (λ _. refl) i.singles
-              st.orderly.rising_singles;
-          once = subst IsRising (sym is)
-              (rising-changed number_of f number (λ _. refl) (employed i) st.orderly.once);
-          laid = st.orderly.laid;
-          alone = changed-All IsLaidOutAlone f number i.singles st.orderly.rising_singles
-              st.orderly.alone less_alone;
-        };
+        orderly = shortened-IsOrderly i number pages c st.orderly others there
+            (single-own i number c st there) some (omega (arith, fewer, alone_in.whole.0))
+            less_alone;
         apart = subst (AllPairs ContentsApart) (sym is)
             (apart-lessened f (λ _. refl) number (employed i)
             (λ k d within. less_units (get_or (employed i) k d) (one k d within)) st.apart);
@@ -181,9 +140,9 @@ module _ (i : Instance) (spot : Spot) (need : ℕ) (c : Content) (b : BlockAt) (
       ∙ ap (size_after (decision_at i spot need) b.size need) multi-where
 
   multi_decides : (d : Decision) → decision_at i spot need ≡ d
-      → DecidesMulti b.size need (gap_behind c spot.offset) d
-  multi_decides d e = subst (DecidesMulti b.size need (gap_behind c spot.offset))
-      (sym multi-decided ∙ e) (decides_multi i.settings b.size need (gap_behind c spot.offset))
+      → InMulti b.size need (gap_behind c spot.offset) d
+  multi_decides d e = subst (InMulti b.size need (gap_behind c spot.offset))
+      (sym multi-decided ∙ e) (in_multi i.settings b.size need (gap_behind c spot.offset))
 
   -- it shrinks by 6 units at least, it grows into the gap behind it, and its carrier keeps its
   -- pages
@@ -198,56 +157,36 @@ module _ (i : Instance) (spot : Spot) (need : ℕ) (c : Content) (b : BlockAt) (
     laid_in : IsLaidOut c
     laid_in = item_at-All number_of IsLaidOut spot.carrier c i.contents st.orderly.laid there
 
-    multi_resized : (size : ℕ) → Tiled 8 c.units (resized c spot.offset size name).blocks
+    multi_resized : (size : ℕ) → IsLaidOut (resized c spot.offset size name)
         → Stands (resized_in i spot size name)
-    multi_resized size tiled =
+    multi_resized size laid =
         let n = spot.carrier in
         changing-Stands (λ x. resized x spot.offset size name) (resized-keeps spot.offset size name)
         n i st
         (λ d is. subst (λ x. IsLaidOut (resized x spot.offset size name))
-        (same-some (content_of i.contents n) c d there is)
-        (record {
-          whole = laid_in.whole;
-          shared = laid_in.shared;
-          tiled = tiled;
-          low = laid_in.low;
-        }))
+        (same-some (content_of i.contents n) c d there is) laid)
         (λ d is. absurd (item_at-All number_of (λ x. x.number ≢ n) n d i.singles
         (merged-apart number_of n c i.contents i.singles (employed-rising i st) there) is
         (item_at-key number_of n d i.singles is)))
 
-    multi_by : (d : Decision) → DecidesMulti b.size need (gap_behind c spot.offset) d
+    multi_by : (d : Decision) → InMulti b.size need (gap_behind c spot.offset) d
+        → IsLaidOut (content_after d spot.offset
+        (size_after d b.size need (Multi (gap_behind c spot.offset))) name c)
         → Stands (resized_by d i spot
         (size_after d b.size need (Multi (gap_behind c spot.offset))) name)
-    multi_by Stay h = multi_resized b.size
-        (renamed-tiled c spot.offset name b laid_in.tiled found)
-    multi_by ShrinkHere h = multi_resized need
-        (shrunk-tiled c spot.offset need name b laid_in.tiled found h even least)
-    multi_by GrowHere h = multi_resized _
-        (grown-tiled c spot.offset need name b laid_in.tiled found h.0 even h.1)
-    multi_by (ShrinkCarrier pages) h = absurd h
-    multi_by Move h = st
+    multi_by Stay h laid = multi_resized _ laid
+    multi_by ShrinkHere h laid = multi_resized _ laid
+    multi_by GrowHere h laid = multi_resized _ laid
+    multi_by (ShrinkCarrier pages) h laid = absurd h
+    multi_by Move h laid = st
 
     pub multi-Stands : Stands (resizing_at i spot need name)
     multi-Stands =
         let d = decision_at i spot need in
         subst (λ n. Stands (resized_by d i spot n name)) (sym multi-resized_to)
-        (multi_by d (multi_decides d refl))
-
--- a block alone that gets a size that fits
-one_resized : (units more offset size name : ℕ) (b : BlockAt) (bs : List BlockAt)
-    → HasOneBlock units bs → block_at bs offset ≡ Some b → 6 ≤ size → size % 2 ≡ 0
-    → 8 + size ≤ more → HasOneBlock more (changed_at offset_of (with_size size name) offset bs)
-one_resized units more offset size name b [] h found least even fits = tt
-one_resized units more offset size name b (x ∷ []) h found least even fits =
-    elim (cases_eq x.offset offset) [
-      | inl e ↦ subst (HasOneBlock more)
-          (sym (changed_here offset_of (with_size size name) offset x [] e))
-          (h.0, least, even, fits)
-      | inr n ↦ absurd
-          (let e : None ≡ Some b = sym (item_past offset_of offset x [] n) ∙ found in cc)
-    ]
-one_resized units more offset size name b (x ∷ y ∷ bs) h found least even fits = absurd h
+        (multi_by d (multi_decides d refl)
+        (resized-IsLaidOut i.settings c b spot.offset need name found least even laid_in d
+        (sym multi-decided)))
 
 -- the block of a singleblock carrier
 module _ (i : Instance) (spot : Spot) (need : ℕ) (c : Content) (b : BlockAt) (st : Stands i)
@@ -275,9 +214,9 @@ module _ (i : Instance) (spot : Spot) (need : ℕ) (c : Content) (b : BlockAt) (
       ∙ ap (size_after (decision_at i spot need) b.size need) single-where
 
   single_decides : (d : Decision) → decision_at i spot need ≡ d
-      → DecidesSingle b.size need c.units d
-  single_decides d e = subst (DecidesSingle b.size need c.units)
-      (sym single-decided ∙ e) (decides_single i.settings b.size need c.units)
+      → InSingle b.size need c.units d
+  single_decides d e = subst (InSingle b.size need c.units)
+      (sym single-decided ∙ e) (in_single i.settings b.size need c.units)
 
   laid_alone : IsLaidOutAlone c
   laid_alone = item_at-All number_of IsLaidOutAlone spot.carrier c i.singles st.orderly.alone there
@@ -286,7 +225,7 @@ module _ (i : Instance) (spot : Spot) (need : ℕ) (c : Content) (b : BlockAt) (
   pub single-stays : decision_at i spot need ≡ Stay → need ≡ b.size
   single-stays e = (single_decides Stay e).0
 
-  fits_by : (d : Decision) → d ≢ Move → DecidesSingle b.size need c.units d → 8 + need ≤ c.units
+  fits_by : (d : Decision) → d ≢ Move → InSingle b.size need c.units d → 8 + need ≤ c.units
   fits_by Stay not h = h.1
   fits_by ShrinkHere not h = h.1
   fits_by GrowHere not h = h.1
@@ -311,27 +250,18 @@ module _ (i : Instance) (spot : Spot) (need : ℕ) (c : Content) (b : BlockAt) (
       )
 
   module _ (name : ℕ) (least : 6 ≤ need) (even : need % 2 ≡ 0) where
-    one_in : (units size : ℕ) → 6 ≤ size → size % 2 ≡ 0 → 8 + size ≤ units
-        → HasOneBlock units (resized c spot.offset size name).blocks
-    one_in units size =
-        one_resized c.units units spot.offset size name b c.blocks laid_alone.block found
-
     -- its block has a size that fits
     single_resized : (size : ℕ) → 6 ≤ size → size % 2 ≡ 0 → 8 + size ≤ c.units
         → Stands (resized_in i spot size name)
-    single_resized size least even fits =
+    single_resized size some whole fits =
         let n = spot.carrier in
         changing-Stands (λ x. resized x spot.offset size name) (resized-keeps spot.offset size name)
         n i st
         (λ d is. absurd (let e : None ≡ Some d = sym others ∙ is in cc))
         (λ d is. subst (λ x. IsLaidOutAlone (resized x spot.offset size name))
         (same-some (content_of i.singles n) c d there is)
-        (record {
-          whole = laid_alone.whole;
-          single = laid_alone.single;
-          block = one_in c.units size least even fits;
-          low = laid_alone.low;
-        }))
+        (single-resized i.settings c b spot.offset need name found least even laid_alone size some
+        whole fits))
 
     -- and its carrier has fewer pages
     single_shortened : (pages : ℕ) → decision_at i spot need ≡ ShrinkCarrier pages
@@ -345,7 +275,8 @@ module _ (i : Instance) (spot : Spot) (need : ℕ) (c : Content) (b : BlockAt) (
         (item_at-changed number_of f n (λ _. refl) n i.contents
         ∙ ap (option_map (change number_of f n)) others)
         (changed-found number_of f n (λ _. refl) c i.singles there) less.1 less.2
-        (one_in (512 * pages) need least even less.4)
+        (one_resized c.units (512 * pages) spot.offset need name b c.blocks laid_alone.block found
+        least even less.4)
 
     single_by : (d : Decision) → decision_at i spot need ≡ d
         → Stands (resized_by d i spot (size_after d b.size need (Single c.units)) name)
@@ -389,24 +320,6 @@ module _ (i : Instance) (spot : Spot) (need name : ℕ) (st : Stands i) (least :
 
   pub resizing-Stands : Stands (resizing_at i spot need name)
   resizing-Stands = stands_by (content_of i.contents spot.carrier) refl
-
--- only a singleblock carrier has fewer pages
-alone_by : (i : Instance) (spot : Spot) (need pages : ℕ) (o : Option Content)
-    → content_of i.contents spot.carrier ≡ o → decision_at i spot need ≡ ShrinkCarrier pages
-    → o ≡ None
-alone_by i spot need pages None e d = refl
-alone_by i spot need pages (Some c) e d =
-    let old = size_at i spot in
-    let gap = gap_behind c spot.offset in
-    let multi : where_at i spot ≡ Multi gap =
-    ap (λ o. where_in spot.offset o (content_of i.singles spot.carrier)) e in
-    absurd (subst (DecidesMulti old need gap)
-    (sym (ap (decision i.settings old need) multi) ∙ d) (decides_multi i.settings old need gap))
-
-pub shortened-alone : (i : Instance) (spot : Spot) (need pages : ℕ)
-    → decision_at i spot need ≡ ShrinkCarrier pages → content_of i.contents spot.carrier ≡ None
-shortened-alone i spot need pages d =
-    alone_by i spot need pages (content_of i.contents spot.carrier) refl d
 
 -- no block changes where a carrier has other units
 same_block : (offset number pages : ℕ) (o : Option Content)

@@ -4,7 +4,7 @@ use Rattle.std.proofs.Common.{List, [], ◌∷◌, filter, length, map, sym, ap,
 use Rattle.std.proofs.Common.{inr, arith}
 use Rattle.std.specs.Prelude.{Option, Some, None, Ok, IfSome, All, AllPairs, Contains, nat_lt}
 use Rattle.std.specs.Prelude.{option_map, ◌==◌, is_some}
-use Rattle.std.proofs.lemmas.Bool.{cases_eq, cases_lt, cond_both, cond-true, cond-false}
+use Rattle.std.proofs.lemmas.Bool.{cases_lt, cond_both, cond-true, cond-false}
 use Rattle.std.proofs.lemmas.List.{length-map}
 use Rattle.std.proofs.lemmas.List.Elements.{All-nil, All-cons, All-filter, All-contains_itself}
 use Rattle.std.proofs.lemmas.List.Elements.{All-map, All-tail, All-weaker}
@@ -12,15 +12,13 @@ use Rattle.std.proofs.lemmas.List.Kept.{AllPairs-cons, AllPairs-filter}
 use Rattle.ea_model.specs.declared.settings.Settings.{Settings}
 use Rattle.ea_model.specs.declared.units.TheConstants.{MAX_PAGES, MAX_SCHEDULERS, NUMBERS}
 use Rattle.ea_model.specs.declared.settings.Strategy.{Strategy}
-use Rattle.ea_model.specs.declared.carriers.BlockAt.{BlockAt}
 use Rattle.ea_model.specs.declared.carriers.Candidate.{Candidate}
 use Rattle.ea_model.specs.declared.carriers.CarrierPlan.{CarrierPlan}
 use Rattle.ea_model.specs.declared.carriers.Kind.TheVariants.{Multi}
 use Rattle.ea_model.specs.declared.carriers.Spot.{Spot}
-use Rattle.ea_model.specs.Content.{Content, gap_at, gaps_of, is_empty_multi, placed, released}
-use Rattle.ea_model.specs.Content.{taken_of}
+use Rattle.ea_model.specs.Content.{Content, is_empty_multi, placed, released}
 use Rattle.ea_model.specs.Choice.{first}
-use Rattle.ea_model.specs.Keyed.{IsBelow, without}
+use Rattle.ea_model.specs.Keyed.{IsBelow}
 use Rattle.ea_model.specs.declared.carriers.OwnCarrier.{OwnCarrier}
 use Rattle.ea_model.specs.Employment.{dismissing, disowning, employing}
 use Rattle.ea_model.specs.Region.{SegmentApart}
@@ -34,32 +32,35 @@ use Rattle.ea_model.specs.Instance.{created_content, created_single, creating, c
 use Rattle.ea_model.specs.Instance.{employed, first_number, has_content, is_used, main_content}
 use Rattle.ea_model.specs.Instance.{new_instance, own_at, own_of, placing_at, plan, planned_own}
 use Rattle.ea_model.specs.Instance.{releasing_at, segment_of, with_content, with_own}
-use Rattle.ea_model.specs.Instance.{without_content, without_own}
+use Rattle.ea_model.specs.Instance.{without_own}
 use Rattle.ea_model.proofs.First.{first-All}
-use Rattle.ea_model.proofs.Options.{if_some, same-some, some_holds, some_map}
+use Rattle.ea_model.proofs.Options.{if_some, some_holds, some_map}
 use Rattle.ea_model.proofs.Pairs.{pairs_head, pairs_map, pairs_nil, pairs_tail}
-use Rattle.ea_model.proofs.Merged.{entered-with, length-merged, merged-All, merged-apart}
+use Rattle.ea_model.proofs.Merged.{entered-with, length-merged, merged-All}
 use Rattle.ea_model.proofs.Merged.{merged-each, merged-first, merged-left, merged-pairs}
-use Rattle.ea_model.proofs.Merged.{merged-right, merged-without}
+use Rattle.ea_model.proofs.Merged.{merged-right}
 use Rattle.ea_model.proofs.Rising.{All-entered, item_at-All, item_at-each, item_at-gone}
 use Rattle.ea_model.proofs.Rising.{item_at-key, item_at-new, item_at-old, item_at-stays, item_here}
-use Rattle.ea_model.proofs.Rising.{none-other, rising-changed, rising-entered, without_here}
-use Rattle.ea_model.proofs.Rising.{without_past}
-use Rattle.ea_laws.proofs.BlockLists.{gap_at-whole, taken_of-enters, Tiled-inserted, Tiled-released}
+use Rattle.ea_model.proofs.Rising.{none-other, rising-entered}
 use Rattle.ea_laws.specs.Spots.{HasGap}
 use Rattle.ea_laws.specs.InOrder.{IsInOrder}
-use Rattle.ea_laws.specs.Kept.{number_of, own_number, ContentsApart, HasNumberIn, HasOneBlock}
+use Rattle.ea_laws.specs.Kept.{number_of, own_number, ContentsApart, HasNumberIn}
 use Rattle.ea_laws.specs.Kept.{HasPages, IsLaidOut, IsLaidOutAlone, IsOwn, IsRising, IsSomeones}
 use Rattle.ea_laws.specs.Kept.{IsWhole, Stands}
 use Rattle.ea_laws.proofs.Changed.{KeepsPlace, placed-keeps, released-keeps}
 use Rattle.ea_laws.proofs.Contents.{absent-among, absent-none}
-use Rattle.ea_laws.proofs.Keeping.{IsKept-cleared, IsKept-made, IsLaidOut-made, other-numbers}
-use Rattle.ea_laws.proofs.Keeping.{own_of-made, pages_of_units, plan-IsPlanned, planned-free}
+use Rattle.ea_laws.proofs.Keeping.{IsKept-made, IsLaidOut-made, other-numbers}
+use Rattle.ea_laws.proofs.Keeping.{own_of-made, pages_of_units, planned-free}
 use Rattle.ea_laws.proofs.Keeping.{planned-numbered, planned-within, whole_pages}
-use Rattle.ea_laws.proofs.Employed.{employed-changed, placing-is}
+use Rattle.ea_laws.proofs.Employed.{employed-changed, employed-dismissed, placing-is}
+use Rattle.ea_laws.proofs.Laid.{created_single-IsLaidOutAlone, released-IsLaidOut}
+use Rattle.ea_laws.proofs.Laid.{released-IsLaidOutAlone}
+use Rattle.ea_laws.proofs.Orderly.{changing-IsOrderly, dismissing-IsOrderly, disowning-IsOrderly}
+use Rattle.ea_laws.proofs.Orderly.{employing-IsOrderly, employing_single-IsOrderly}
+use Rattle.ea_laws.proofs.Orderly.{owning-IsOrderly, placing-alone, placing-laid}
 use Rattle.ea_laws.proofs.Owned.{apart_from, rising-length, unused-All}
 use Rattle.ea_laws.proofs.CarrierSegments.{free-own}
-use Rattle.ea_laws.proofs.Apart.{altered, apart-changed, changed-All, turned-apart}
+use Rattle.ea_laws.proofs.Apart.{altered, apart-changed, turned-apart}
 use Rattle.ea_laws.proofs.Candidates.{candidate-IsOwned, IsOwned, IsLarge, large_among}
 use Rattle.ea_laws.proofs.Inspected.{inspected_by-among}
 use Rattle.ea_laws.proofs.Ranges.{IsOrdered, blocks-disjoint}
@@ -225,17 +226,7 @@ pub changing-Stands : (f : Content → Content) → KeepsPlace f → (n : ℕ) (
 changing-Stands f keeps n i st sound alone =
     let is = employed-changed f keeps n i in
     record {
-      orderly = record {
-        kept = st.orderly.kept;
-        rising = rising-changed number_of f n keeps.number i.contents st.orderly.rising;
-        rising_singles = rising-changed number_of f n keeps.number i.singles
-            st.orderly.rising_singles;
-        once = subst IsRising (sym is)
-            (rising-changed number_of f n keeps.number (employed i) st.orderly.once);
-        laid = changed-All IsLaidOut f n i.contents st.orderly.rising st.orderly.laid sound;
-        alone = changed-All IsLaidOutAlone f n i.singles st.orderly.rising_singles
-            st.orderly.alone alone;
-      };
+      orderly = changing-IsOrderly f keeps n i st.orderly sound alone;
       apart = subst (AllPairs ContentsApart) (sym is)
           (apart-changed f keeps n (employed i) st.apart);
       someones = All-map (λ c. IsSomeones i (own_of c)) (altered f n) i.contents
@@ -249,73 +240,22 @@ changing-Stands f keeps n i st sound alone =
           (λ c one. subst (IsOwn i.own) (altered-own f keeps n c) one) i.contents (st.home off));
     }
 
-pub placed-IsLaidOut : (c : Content) (offset need name : ℕ) → IsLaidOut c
-    → need ≤ gap_at (gaps_of c) offset → 6 ≤ need → need % 2 ≡ 0
-    → IsLaidOut (placed c offset need name)
-placed-IsLaidOut c offset need name s fits least even =
-    let g = gap_at (gaps_of c) offset in
-    let x : BlockAt = record { name = name; offset = offset; size = taken_of g need } in
-    record {
-      whole = s.whole;
-      shared = s.shared;
-      tiled = Tiled-inserted 8 c.units x c.blocks s.tiled
-          (taken_of-enters x g need fits least even (gap_at-whole 8 c.units offset c.blocks s.tiled)
-          refl);
-      low = s.low;
-    }
-
 -- a block is placed in a gap that is large enough
 pub placing-Stands : (i : Instance) (spot : Spot) (need name : ℕ) → Stands i
     → HasGap need spot.carrier spot.offset i.contents → 6 ≤ need → need % 2 ≡ 0
     → Stands (placing_at i spot need name)
 placing-Stands i spot need name st gap least even =
-    let n = spot.carrier in
-    let rising = employed-rising i st in
-    subst Stands (sym (placing-is i spot need name gap.0 rising gap.1))
-    (changing-Stands (λ c. placed c spot.offset need name) (placed-keeps spot.offset need name) n
-    i st
-    (λ c there. subst (λ x. IsLaidOut (placed x spot.offset need name))
-    (same-some (content_of i.contents n) gap.0 c gap.1 there)
-    (placed-IsLaidOut gap.0 spot.offset need name
-    (item_at-All number_of IsLaidOut n gap.0 i.contents st.orderly.laid gap.1) gap.2 least even))
-    (λ c there. absurd (item_at-All number_of (λ x. x.number ≢ n) n c i.singles
-    (merged-apart number_of n gap.0 i.contents i.singles rising gap.1) there
-    (item_at-key number_of n c i.singles there))))
-
-pub released-IsLaidOut : (c : Content) (offset : ℕ) → IsLaidOut c → IsLaidOut (released c offset)
-released-IsLaidOut c offset s =
-    record {
-      whole = s.whole;
-      shared = s.shared;
-      tiled = Tiled-released 8 c.units offset c.blocks s.tiled;
-      low = s.low;
-    }
-
-one_less : (units offset : ℕ) (bs : List BlockAt) → HasOneBlock units bs
-    → HasOneBlock units (without (λ b. b.offset) offset bs)
-one_less units offset [] h = h
-one_less units offset (b ∷ []) h =
-    elim (cases_eq b.offset offset) [
-      | inl e ↦ subst (HasOneBlock units) (sym (without_here (λ x. x.offset) offset b [] e)) tt
-      | inr n ↦ subst (HasOneBlock units) (sym (without_past (λ x. x.offset) offset b [] n)) h
-    ]
-one_less units offset (b ∷ c ∷ bs) h = absurd h
-
-released_alone : (c : Content) (offset : ℕ) → IsLaidOutAlone c → IsLaidOutAlone (released c offset)
-released_alone c offset s =
-    record {
-      whole = s.whole;
-      single = s.single;
-      block = one_less c.units offset c.blocks s.block;
-      low = s.low;
-    }
+    subst Stands (sym (placing-is i spot need name gap.0 st.orderly.once gap.1))
+    (changing-Stands (λ c. placed c spot.offset need name) (placed-keeps spot.offset need name)
+    spot.carrier i st (placing-laid i spot need name st.orderly gap least even)
+    (placing-alone i spot need name st.orderly gap))
 
 pub releasing-Stands : (i : Instance) (spot : Spot) → Stands i → Stands (releasing_at i spot)
 releasing-Stands i spot st =
     changing-Stands (λ c. released c spot.offset) (released-keeps spot.offset) spot.carrier i st
     (λ c there. released-IsLaidOut c spot.offset
     (item_at-All number_of IsLaidOut spot.carrier c i.contents st.orderly.laid there))
-    (λ c there. released_alone c spot.offset
+    (λ c there. released-IsLaidOutAlone c spot.offset
     (item_at-All number_of IsLaidOutAlone spot.carrier c i.singles st.orderly.alone there))
 
 -- other carriers are the instance's or another's as they were
@@ -343,18 +283,9 @@ module _ (i : Instance) (own : List OwnCarrier) where
 -- a carrier goes from those that are employed
 pub dismissing-Stands : (i : Instance) (number : ℕ) → Stands i → Stands (dismissing i number)
 dismissing-Stands i number st =
-    let is : employed (dismissing i number) ≡ without_content number (employed i) =
-    sym (merged-without number_of number i.contents i.singles st.orderly.once) in
+    let is = employed-dismissed i number st.orderly.once in
     record {
-      orderly = record {
-        kept = st.orderly.kept;
-        rising = AllPairs-filter (IsBelow number_of) _ i.contents st.orderly.rising;
-        rising_singles = AllPairs-filter (IsBelow number_of) _ i.singles st.orderly.rising_singles;
-        once = subst IsRising (sym is)
-            (AllPairs-filter (IsBelow number_of) _ (employed i) st.orderly.once);
-        laid = All-filter _ IsLaidOut i.contents st.orderly.laid;
-        alone = All-filter _ IsLaidOutAlone i.singles st.orderly.alone;
-      };
+      orderly = dismissing-IsOrderly i number st.orderly;
       apart = subst (AllPairs ContentsApart) (sym is)
           (AllPairs-filter ContentsApart _ (employed i) st.apart);
       someones = All-filter _ (λ c. IsSomeones i (own_of c)) i.contents st.someones;
@@ -371,15 +302,7 @@ disowning-Stands i number o st there none =
     let others = merged-each number_of (λ c. c.number ≢ number) i.contents i.singles
     (none-other number_of number (employed i) none) in
     record {
-      orderly = record {
-        kept = IsKept-cleared i.settings i.number number i.first i.end o i.own st.orderly.kept
-            there;
-        rising = st.orderly.rising;
-        rising_singles = st.orderly.rising_singles;
-        once = st.orderly.once;
-        laid = st.orderly.laid;
-        alone = st.orderly.alone;
-      };
+      orderly = disowning-IsOrderly i number st.orderly;
       apart = st.apart;
       someones = all-someones i own i.contents
           (λ k d within. item_at-stays own_number _ number i.own (others.0 k d within)) st.someones;
@@ -395,8 +318,7 @@ pub deallocated-Stands : (i : Instance) (number : ℕ) (o : OwnCarrier) → Stan
     → own_at i.own number ≡ Some o → Stands (disowning (dismissing i number) number)
 deallocated-Stands i number o st there =
     disowning-Stands (dismissing i number) number o (dismissing-Stands i number st) there
-    (ap (λ cs. content_of cs number)
-    (sym (merged-without number_of number i.contents i.singles st.orderly.once))
+    (ap (λ cs. content_of cs number) (employed-dismissed i number st.orderly.once)
     ∙ item_at-gone number_of number (employed i))
 
 -- a carrier comes that isn't employed, lies apart from those that are, and is someone's
@@ -421,14 +343,7 @@ module _ (i : Instance) (x : Content) (st : Stands i)
     employing-Stands laid someones own =
         let is = merged-left number_of x i.contents i.singles each_other.0 in
         record {
-          orderly = record {
-            kept = st.orderly.kept;
-            rising = rising-entered number_of x i.contents st.orderly.rising each_other.0;
-            rising_singles = st.orderly.rising_singles;
-            once = subst IsRising (sym is) once_more;
-            laid = All-entered number_of IsLaidOut x i.contents laid st.orderly.laid;
-            alone = st.orderly.alone;
-          };
+          orderly = employing-IsOrderly i st.orderly x new laid;
           apart = subst (AllPairs ContentsApart) (sym is) apart_more;
           someones = All-entered number_of (λ c. IsSomeones i (own_of c)) x i.contents someones
               st.someones;
@@ -442,15 +357,7 @@ module _ (i : Instance) (x : Content) (st : Stands i)
     employing_single-Stands laid own =
         let is = merged-right number_of x i.contents i.singles each_other.0 in
         record {
-          orderly = record {
-            kept = st.orderly.kept;
-            rising = st.orderly.rising;
-            rising_singles = rising-entered number_of x i.singles st.orderly.rising_singles
-                each_other.1;
-            once = subst IsRising (sym is) once_more;
-            laid = st.orderly.laid;
-            alone = All-entered number_of IsLaidOutAlone x i.singles laid st.orderly.alone;
-          };
+          orderly = employing_single-IsOrderly i st.orderly x new laid;
           apart = subst (AllPairs ContentsApart) (sym is) apart_more;
           someones = st.someones;
           owned = All-entered number_of (λ c. IsOwn i.own (own_of c)) x i.singles own st.owned;
@@ -524,14 +431,8 @@ module _ (i : Instance) (need : ℕ) (p : CarrierPlan) (st : Stands i) (asked : 
 
     owning-Stands : Stands owning
     owning-Stands = record {
-      orderly = record {
-        kept = IsKept-made i need p st.orderly.kept asked;
-        rising = st.orderly.rising;
-        rising_singles = st.orderly.rising_singles;
-        once = st.orderly.once;
-        laid = st.orderly.laid;
-        alone = st.orderly.alone;
-      };
+      orderly = owning-IsOrderly i (with_own (planned_own p) i.own) p.birth st.orderly
+          (IsKept-made i need p st.orderly.kept asked);
       apart = st.apart;
       someones = all-someones i (with_own (planned_own p) i.own) i.contents
           (λ k d within. same_as_before (get_or i.contents k d) (planned-new k d within))
@@ -564,20 +465,9 @@ module _ (i : Instance) (need : ℕ) (p : CarrierPlan) (st : Stands i) (asked : 
         → Stands (creating_single i p need name)
     creating_single-Stands name least even =
         let x : Content = created_single i.number p need name in
-        let made = IsLaidOut-made i need p st.orderly.kept asked in
         employing_single-Stands owning x owning-Stands
         (absent-none p.number (employed i) planned-absent) meets_none
-        (record {
-          whole = made.whole;
-          single = refl;
-          block = (
-            refl,
-            least,
-            even,
-            omega (arith, (plan-IsPlanned i need p asked).enough),
-          );
-          low = made.low;
-        })
+        (created_single-IsLaidOutAlone i need name p st.orderly.kept asked least even)
         (subst (IsOwn (with_own (planned_own p) i.own))
         (sym (own_of-made i need p st.orderly.kept asked)) own_found)
 

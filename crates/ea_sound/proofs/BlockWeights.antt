@@ -20,7 +20,7 @@ use Rattle.ea_sound.proofs.EmployedWeights.{employed_sum-employed}
 use Rattle.ea_sound.proofs.KeyedWeights.{item-hit, times, times-once, sum-changed, sum-entered}
 use Rattle.ea_sound.proofs.KeyedWeights.{sum-without}
 use Rattle.ea_sound.proofs.Laid.{alone-rising, laid-rising}
-use Rattle.ea_sound.proofs.Resizing.{content_after}
+use Rattle.ea_laws.proofs.Resizing.{content_after}
 use Rattle.ea_sound.proofs.Weights.{sum-zero}
 
 -- the blocks of each carrier that is employed stand by rising offset

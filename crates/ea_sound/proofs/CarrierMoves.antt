@@ -47,8 +47,8 @@ use Rattle.ea_sound.proofs.EmployedWeights.{employed_sum-changing, employed_sum-
 use Rattle.ea_sound.proofs.KeyedWeights.{sum-without, times-once}
 use Rattle.ea_sound.proofs.Hits.{HasBlock, employed-holds, hit}
 use Rattle.ea_sound.proofs.Numbered.{scheduler-seat}
-use Rattle.ea_sound.proofs.Orderly.{changing-found, disowning-IsOrderly, dismissing-IsOrderly}
-use Rattle.ea_sound.proofs.Orderly.{releasing-IsOrderly}
+use Rattle.ea_laws.proofs.Orderly.{changing-found, disowning-IsOrderly, dismissing-IsOrderly}
+use Rattle.ea_laws.proofs.Orderly.{releasing-IsOrderly}
 use Rattle.ea_sound.proofs.RangeRows.{LieWell}
 use Rattle.ea_sound.proofs.OwnEntries.{owner-has, somewhere-hand, this}
 use Rattle.ea_sound.proofs.StillMoves.{Fewer, Keeps, clear-goes, goes-alike, hand-goes, log-goes}

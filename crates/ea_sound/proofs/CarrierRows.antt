@@ -42,7 +42,7 @@ use Rattle.ea_sound.proofs.Homes.{pooled-slot}
 use Rattle.ea_sound.proofs.KeyedWeights.{sum-entered}
 use Rattle.ea_sound.proofs.Moved.{FitsPlace, Moved, place_kept, place_moved}
 use Rattle.ea_sound.proofs.Numbered.{scheduler-seat}
-use Rattle.ea_sound.proofs.Orderly.{employing-IsOrderly}
+use Rattle.ea_laws.proofs.Orderly.{employing-IsOrderly}
 use Rattle.ea_sound.proofs.OwnEntries.{not_here-none, unused-absent, unused-none}
 use Rattle.ea_sound.proofs.Plans.{planned-unused}
 use Rattle.ea_sound.proofs.Totals.{total-put}

@@ -38,7 +38,7 @@ use Rattle.ea_sound.proofs.Chronicle.{HasOld, IsOfFirst}
 use Rattle.ea_sound.specs.HandedOver.{HasHeld}
 use Rattle.ea_sound.proofs.HandedNames.{never-first}
 use Rattle.ea_sound.proofs.TextTotals.{All-back}
-use Rattle.ea_sound.proofs.Orderly.{resizing-fixed, stays-employed}
+use Rattle.ea_laws.proofs.Orderly.{resizing-fixed, stays-employed}
 use Rattle.ea_sound.proofs.ShortRoutes.{Keeps}
 use Rattle.ea_sound.proofs.Weights.{sum_by-sum_over}
 use Rattle.ea_machine.specs.Sums.{one_if}

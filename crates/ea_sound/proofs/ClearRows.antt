@@ -30,7 +30,7 @@ use Rattle.ea_sound.proofs.Employers.{there-on, there-slot}
 use Rattle.ea_sound.proofs.KeyedWeights.{sum-without, times-once}
 use Rattle.ea_sound.proofs.Moved.{Moved, place_moved}
 use Rattle.ea_sound.proofs.Numbered.{scheduler-seat}
-use Rattle.ea_sound.proofs.Orderly.{disowning-IsOrderly}
+use Rattle.ea_laws.proofs.Orderly.{disowning-IsOrderly}
 use Rattle.ea_sound.proofs.OwnEntries.{owner-has, somewhere-hand, somewhere-returning, this}
 use Rattle.ea_sound.proofs.RangeRows.{LieWell}
 use Rattle.ea_sound.proofs.Laid.{as_kind-whole}

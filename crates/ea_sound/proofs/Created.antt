@@ -17,7 +17,7 @@ use Rattle.ea_sound.specs.Contents.{slots}
 use Rattle.ea_machine.specs.Setup.{Setup, first_page, is_scheduler, migration}
 use Rattle.ea_sound.specs.Rule.{Belongs, Standing}
 use Rattle.ea_sound.proofs.Choosing.{migrating-misses_none}
-use Rattle.ea_sound.proofs.Orderly.{creating-IsOrderly, creating_single-IsOrderly}
+use Rattle.ea_laws.proofs.Orderly.{creating-IsOrderly, creating_single-IsOrderly}
 use Rattle.ea_sound.proofs.Plans.{numbered-most, own-between, planned-number, planned-owner}
 
 -- who is a scheduler has a number from 1 on

@@ -10,7 +10,7 @@ use Rattle.ea_model.proofs.Rising.{item_at-All}
 use Rattle.ea_laws.specs.Kept.{number_of, IsLaidOutAlone, IsOrderly, IsRising}
 use Rattle.ea_model.specs.Abandonment.{has_large_gap, is_due, is_sparse, is_sparse_carrier}
 use Rattle.ea_sound.proofs.KeyedWeights.{sum-without, times-once}
-use Rattle.ea_sound.proofs.Orderly.{employed-alone, employed-many}
+use Rattle.ea_laws.proofs.Orderly.{employed-alone, employed-many}
 use Rattle.ea_sound.proofs.Weights.{sum_by-sum_over}
 
 -- the carrier in front of the others weighs as among them

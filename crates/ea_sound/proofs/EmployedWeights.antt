@@ -19,14 +19,14 @@ use Rattle.ea_laws.proofs.Changed.{KeepsPlace, resized-keeps}
 use Rattle.ea_laws.proofs.Employed.{employed-changed, employed-dismissed}
 use Rattle.ea_laws.proofs.Keeping.{pages_of_units}
 use Rattle.ea_laws.proofs.Owned.{with_units}
-use Rattle.ea_laws.proofs.Reallocating.{shortened-alone}
+use Rattle.ea_laws.proofs.Resizing.{shortened-alone}
 use Rattle.ea_model.specs.Employment.{dismissing, employing}
 use Rattle.ea_sound.specs.Blocks.{employed_sum}
 use Rattle.ea_machine.specs.Sums.{sum_over}
 use Rattle.ea_sound.proofs.KeyedWeights.{times, times-once, sum-changed, sum-entered, sum-merged}
 use Rattle.ea_sound.proofs.KeyedWeights.{sum-without}
-use Rattle.ea_sound.proofs.Orderly.{employed-alone}
-use Rattle.ea_sound.proofs.Resizing.{content_after}
+use Rattle.ea_laws.proofs.Orderly.{employed-alone}
+use Rattle.ea_laws.proofs.Resizing.{content_after}
 
 module _ (f : Content → ℕ) (i : Instance) where
   pub employed_sum-employed : sum_over f (employed i) ≡ employed_sum f i

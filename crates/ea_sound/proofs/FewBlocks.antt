@@ -28,8 +28,8 @@ use Rattle.ea_sound.proofs.EmployedWeights.{employed_sum-creating, employed_sum-
 use Rattle.ea_sound.proofs.EmployedWeights.{employed_sum-placing, employed_sum-resizing}
 use Rattle.ea_sound.proofs.KeyedWeights.{changed-missing, sum-changed, sum-entered}
 use Rattle.ea_sound.proofs.KeyedWeights.{sum-without_less, times-once}
-use Rattle.ea_sound.proofs.Orderly.{stays-employed}
-use Rattle.ea_sound.proofs.Resizing.{content_after}
+use Rattle.ea_laws.proofs.Orderly.{stays-employed}
+use Rattle.ea_laws.proofs.Resizing.{content_after}
 
 -- a name, and what is counted of its blocks, by the numbers of their carriers: each once at most
 pub record Counting : Type 0 where

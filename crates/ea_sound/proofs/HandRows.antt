@@ -10,7 +10,7 @@ use Rattle.ea_machine.specs.declared.nodes.Node.{Node}
 use Rattle.ea_machine.specs.declared.nodes.Node.TheVariants.{Carrier}
 use Rattle.ea_machine.specs.declared.owners.OwnerWord.{OwnerWord}
 use Rattle.ea_machine.specs.declared.nodes.Named.{Named}
-use Rattle.ea_laws.proofs.Standing.{released-IsLaidOut}
+use Rattle.ea_laws.proofs.Laid.{released-IsLaidOut}
 use Rattle.ea_machine.specs.declared.stages.Stage.{Stage}
 use Rattle.ea_machine.specs.declared.stages.Stage.TheVariants.{Begin, Routed}
 use Rattle.ea_machine.specs.declared.stages.Route.TheVariants.{Abandoning, Pushing, Sending}

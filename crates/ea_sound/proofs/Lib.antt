@@ -10,9 +10,7 @@ pub mod EmployedWeights
 pub mod BlockWeights
 pub mod SumParts
 -- One instance, through each change of it.
-pub mod Orderly
 pub mod Laid
-pub mod Resizing
 pub mod Choosing
 pub mod Plans
 pub mod OwnCarriers

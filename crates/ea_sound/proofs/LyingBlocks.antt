@@ -23,7 +23,7 @@ use Rattle.ea_sound.proofs.Assembly.{nil-is}
 use Rattle.ea_sound.proofs.BlockWeights.{block-rising}
 use Rattle.ea_sound.proofs.CarrierMoves.{found-laid, one-released}
 use Rattle.ea_sound.proofs.Hits.{HasBlock}
-use Rattle.ea_sound.proofs.Orderly.{changing-found, releasing-IsOrderly}
+use Rattle.ea_laws.proofs.Orderly.{changing-found, releasing-IsOrderly}
 use Rattle.ea_sound.proofs.Unmoved.{due-unmoved}
 use Rattle.ea_model.specs.declared.carriers.BlockAt.{BlockAt}
 use Rattle.ea_model.specs.declared.carriers.CarrierPlan.{CarrierPlan}
@@ -50,7 +50,7 @@ use Rattle.ea_sound.proofs.EmployedWeights.{employed_sum-dismissing, employed_su
 use Rattle.ea_sound.proofs.EmployedWeights.{employed_sum-resizing}
 use Rattle.ea_sound.proofs.FewBlocks.{Counting, all_named, blocks_named}
 use Rattle.ea_sound.proofs.KeyedWeights.{sum-entered, sum-item, sum-without, times-once}
-use Rattle.ea_sound.proofs.Resizing.{content_after}
+use Rattle.ea_laws.proofs.Resizing.{content_after}
 
 -- the block of the name at the place
 abbrev pub lies : ℕ → Place → ℕ → BlockAt → ℕ

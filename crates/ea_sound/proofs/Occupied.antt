@@ -20,11 +20,11 @@ use Rattle.ea_laws.specs.Kept.{number_of, IsOrderly}
 use Rattle.ea_laws.proofs.Apart.{changed-All}
 use Rattle.ea_laws.proofs.BlockLists.{offset_of}
 use Rattle.ea_laws.proofs.Owned.{with_units}
-use Rattle.ea_laws.proofs.Reallocating.{shortened-alone}
+use Rattle.ea_laws.proofs.Resizing.{shortened-alone}
 use Rattle.ea_laws.proofs.Resized.{with_size}
-use Rattle.ea_sound.proofs.Orderly.{employed-alone, employed-many, many-not_alone}
+use Rattle.ea_laws.proofs.Orderly.{employed-alone, employed-many, many-not_alone}
 use Rattle.ea_sound.proofs.Others.{others-changed, others-mended}
-use Rattle.ea_sound.proofs.Resizing.{content_after}
+use Rattle.ea_laws.proofs.Resizing.{content_after}
 
 not_nil : (bs : List BlockAt) → 1 ≤ length bs → is_nil bs ≡ false
 not_nil [] some = absurd (omega (arith, some))

@@ -62,7 +62,7 @@ use Rattle.ea_sound.proofs.KeyedWeights.{sum-item}
 use Rattle.ea_sound.proofs.NodeSeats.{node-returning, returning-on}
 use Rattle.ea_sound.proofs.Numbered.{scheduler-seat}
 use Rattle.ea_sound.proofs.OwnEntries.{owner-has, somewhere-found}
-use Rattle.ea_sound.proofs.Orderly.{stays-employed}
+use Rattle.ea_laws.proofs.Orderly.{stays-employed}
 use Rattle.ea_sound.proofs.RowLeaves.{row-left}
 use Rattle.ea_sound.proofs.SoundRanges.{number-scheduler}
 use Rattle.ea_sound.proofs.StageMoves.{closed-walk}

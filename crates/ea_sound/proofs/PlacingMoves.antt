@@ -36,7 +36,7 @@ use Rattle.ea_sound.proofs.Created.{creating_single-Standing}
 use Rattle.ea_sound.proofs.EmployedWeights.{employed_sum-creating, employed_sum-creating_single}
 use Rattle.ea_sound.proofs.EmployedWeights.{employed_sum-placing}
 use Rattle.ea_sound.proofs.KeyedWeights.{sum-entered}
-use Rattle.ea_sound.proofs.Orderly.{placing-IsOrderly}
+use Rattle.ea_laws.proofs.Orderly.{placing-IsOrderly}
 use Rattle.ea_sound.proofs.OwnEntries.{unused-none}
 use Rattle.ea_sound.proofs.Plans.{planned-unused}
 use Rattle.ea_sound.proofs.RangeRows.{LieWell}

@@ -51,8 +51,8 @@ use Rattle.ea_sound.proofs.FewBlocks.{placing-fewer}
 use Rattle.ea_sound.proofs.HeldNames.{holding-names, holding-rising, let_go-rising, let_go-times}
 use Rattle.ea_sound.proofs.HeldNames.{times_held, turned-equal}
 use Rattle.ea_sound.proofs.MainCarriers.{creating-main, creating_single-main, placing-main}
-use Rattle.ea_sound.proofs.Orderly.{creating-IsOrderly, creating_single-IsOrderly}
-use Rattle.ea_sound.proofs.Orderly.{placing-IsOrderly}
+use Rattle.ea_laws.proofs.Orderly.{creating-IsOrderly, creating_single-IsOrderly}
+use Rattle.ea_laws.proofs.Orderly.{placing-IsOrderly}
 use Rattle.ea_sound.proofs.ReleaseRoutes.{route-good}
 use Rattle.ea_sound.proofs.Staying.{AllStay, AllStayBut, but-stay, creating-stay}
 use Rattle.ea_sound.proofs.Staying.{creating_single-stay, placing-stay, vacant-empty}

@@ -37,8 +37,8 @@ use Rattle.ea_sound.proofs.EmployedWeights.{employed_sum-dismissing}
 use Rattle.ea_sound.proofs.FewBlocks.{Counting, all_named, blocks_named, releasing-fewer}
 use Rattle.ea_sound.proofs.KeyedWeights.{changed-missing}
 use Rattle.ea_sound.proofs.MainCarriers.{dismissing-main, releasing-main}
-use Rattle.ea_sound.proofs.Orderly.{changing-found, disowning-IsOrderly, dismissing-IsOrderly}
-use Rattle.ea_sound.proofs.Orderly.{releasing-IsOrderly}
+use Rattle.ea_laws.proofs.Orderly.{changing-found, disowning-IsOrderly, dismissing-IsOrderly}
+use Rattle.ea_laws.proofs.Orderly.{releasing-IsOrderly}
 use Rattle.ea_sound.proofs.Staying.{AllStay, AllStayBut, dismissing-stay, here-stay, releasing-stay}
 use Rattle.ea_sound.proofs.Suits.{Bare, CoreOf, TurnedGood}
 use Rattle.ea_sound.proofs.Unmoved.{due-unmoved, employed-owner, leaving-Stands, off-acul}

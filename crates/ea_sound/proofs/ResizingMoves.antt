@@ -18,7 +18,7 @@ use Rattle.ea_model.specs.Instance.{resized_by, resized_to, resizing_at, where_a
 use Rattle.ea_model.proofs.Rising.{item_at-All, item_at-key}
 use Rattle.ea_laws.specs.Kept.{number_of, IsLaidOutAlone}
 use Rattle.ea_laws.proofs.Keeping.{pages_of_units}
-use Rattle.ea_laws.proofs.Reallocating.{shortened-alone}
+use Rattle.ea_laws.proofs.Resizing.{shortened-alone}
 use Rattle.ea_machine.specs.declared.stages.Stage.TheVariants.{Begin}
 use Rattle.ea_machine.specs.Actor.{Actor}
 use Rattle.ea_sound.specs.Names.{of_content, of_named, only}
@@ -41,12 +41,12 @@ use Rattle.ea_sound.proofs.Hits.{employed-holds, held-stands}
 use Rattle.ea_sound.proofs.KeyedWeights.{sum-entered, sum-without}
 use Rattle.ea_sound.proofs.Numbered.{scheduler-seat}
 use Rattle.ea_sound.proofs.Occupied.{resizing-All}
-use Rattle.ea_sound.proofs.Orderly.{resizing-IsOrderly, resizing-fixed, resizing-size}
-use Rattle.ea_sound.proofs.Orderly.{resizing-where, stays-employed}
+use Rattle.ea_laws.proofs.Orderly.{resizing-IsOrderly, resizing-fixed, resizing-size}
+use Rattle.ea_laws.proofs.Orderly.{resizing-where, stays-employed}
 use Rattle.ea_sound.proofs.OwnEntries.{owner-has, somewhere-found}
 use Rattle.ea_sound.proofs.PlacingMoves.{new-once}
 use Rattle.ea_sound.proofs.RangeRows.{LieWell}
-use Rattle.ea_sound.proofs.Resizing.{content_after, single-shortens}
+use Rattle.ea_laws.proofs.Resizing.{content_after, single-shortens}
 use Rattle.ea_sound.proofs.StandingBlocks.{hit-found}
 use Rattle.ea_sound.proofs.StillMoves.{held-once}
 use Rattle.ea_sound.proofs.Totals.{put-here}

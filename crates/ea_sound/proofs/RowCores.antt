@@ -20,7 +20,7 @@ use Rattle.ea_sound.proofs.FewBlocks.{Counting, blocks_named}
 use Rattle.ea_sound.proofs.HeldNames.{times_held}
 use Rattle.ea_sound.proofs.Hits.{stands-allocated}
 use Rattle.ea_sound.proofs.Numbered.{scheduler-seat}
-use Rattle.ea_sound.proofs.Orderly.{disowning-IsOrderly}
+use Rattle.ea_laws.proofs.Orderly.{disowning-IsOrderly}
 use Rattle.ea_sound.proofs.Suits.{Bare, CoreOf}
 use Rattle.ea_sound.proofs.Totals.{total-part, total-put, total_at_past}
 

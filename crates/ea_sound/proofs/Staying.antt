@@ -23,9 +23,9 @@ use Rattle.ea_laws.proofs.Owned.{with_units}
 use Rattle.ea_model.specs.Employment.{dismissing, employing}
 use Rattle.ea_sound.specs.Places.{IsMultiOrOwn, MayStay}
 use Rattle.ea_sound.proofs.Occupied.{after-vacant, placed-occupied}
-use Rattle.ea_sound.proofs.Orderly.{employed-alone, employed-many, many-not_alone}
+use Rattle.ea_laws.proofs.Orderly.{employed-alone, employed-many, many-not_alone}
 use Rattle.ea_sound.proofs.Others.{others-here, others-without}
-use Rattle.ea_sound.proofs.Resizing.{content_after}
+use Rattle.ea_laws.proofs.Resizing.{content_after}
 
 module _ (me : ℕ) where
   -- all carriers that an instance employs may stay with it

@@ -28,7 +28,7 @@ use Rattle.ea_machine.specs.Rows.{Answer, Done, Head, Rests, Passes, Saw, Won, L
 use Rattle.ea_machine.specs.Setup.{Setup, migration}
 use Rattle.ea_sound.specs.Steady.{IsShown, IsSteadyRoute, TellsShown}
 use Rattle.ea_sound.proofs.Due.{due-in_hand, multi-found}
-use Rattle.ea_sound.proofs.Orderly.{releasing-IsOrderly}
+use Rattle.ea_laws.proofs.Orderly.{releasing-IsOrderly}
 use Rattle.ea_sound.proofs.Unmoved.{due-unmoved}
 
 module _ (e : Setup) (me : ℕ) where

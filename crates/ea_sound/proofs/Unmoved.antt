@@ -29,8 +29,8 @@ use Rattle.ea_model.specs.Abandonment.{is_due}
 use Rattle.ea_model.specs.Employment.{dismissing, disowning}
 use Rattle.ea_machine.specs.Setup.{Setup, migration}
 use Rattle.ea_sound.proofs.KeyedWeights.{changed-missing}
-use Rattle.ea_sound.proofs.Orderly.{employed-alone, many-not_alone}
-use Rattle.ea_sound.proofs.Resizing.{InMulti, InSingle, in_multi, in_single}
+use Rattle.ea_laws.proofs.Orderly.{employed-alone, many-not_alone}
+use Rattle.ea_laws.proofs.Resizing.{InMulti, InSingle, in_multi, in_single}
 use Rattle.ea_sound.proofs.Plans.{own-owner}
 
 -- no carrier is abandoned

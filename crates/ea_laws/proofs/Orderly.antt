@@ -19,6 +19,7 @@ use Rattle.ea_model.specs.declared.reallocation.Where.TheVariants as whereabouts
 use Rattle.ea_model.specs.Content.{Content, block_at, gap_behind, placed, released, resized}
 use Rattle.ea_model.specs.Content.{size_of}
 use Rattle.ea_model.specs.Decision.{decision, size_after}
+use Rattle.ea_model.specs.Employment.{dismissing, disowning, employing}
 use Rattle.ea_model.specs.Instance.{Instance, changing, content_of, created_content, created_single}
 use Rattle.ea_model.specs.Instance.{creating, creating_single, decision_at, employed, own_at}
 use Rattle.ea_model.specs.Instance.{own_of, placing_at, plan, releasing_at, resized_by, resized_in}
@@ -30,6 +31,7 @@ use Rattle.ea_model.proofs.Merged.{merged-right, merged-second}
 use Rattle.ea_model.proofs.Options.{same-some}
 use Rattle.ea_model.proofs.Rising.{All-entered, item_at-All, item_at-changed, item_at-key, change}
 use Rattle.ea_model.proofs.Rising.{changed-found, none-other, rising-changed, rising-entered}
+use Rattle.ea_model.proofs.Rising.{without_none}
 use Rattle.ea_laws.specs.Kept.{number_of, own_number, IsKept, IsLaidOut, IsLaidOutAlone, IsOrderly}
 use Rattle.ea_laws.specs.Kept.{IsRising}
 use Rattle.ea_laws.specs.Spots.{HasGap}
@@ -39,14 +41,11 @@ use Rattle.ea_laws.proofs.Contents.{block_among}
 use Rattle.ea_laws.proofs.Employed.{employed-changed, employed-dismissed, employed-shortened}
 use Rattle.ea_laws.proofs.Employed.{placing-is}
 use Rattle.ea_laws.proofs.Keeping.{IsKept-cleared, IsKept-made, IsKept-shortened, IsLaidOut-made}
+use Rattle.ea_laws.proofs.Laid.{created_single-IsLaidOutAlone, placed-IsLaidOut}
+use Rattle.ea_laws.proofs.Laid.{released-IsLaidOut, released-IsLaidOutAlone}
 use Rattle.ea_laws.proofs.Owned.{with_units}
-use Rattle.ea_laws.proofs.Reallocating.{shortened-alone}
-use Rattle.ea_laws.proofs.Standing.{placed-IsLaidOut, released-IsLaidOut}
-use Rattle.ea_model.specs.Employment.{dismissing, disowning, employing}
-use Rattle.ea_sound.proofs.KeyedWeights.{without-missing}
-use Rattle.ea_sound.proofs.Resizing.{content_after, resized-IsLaidOut, resized-IsLaidOutAlone}
-use Rattle.ea_sound.proofs.Resizing.{single-resized, single-shortens}
-use Rattle.ea_sound.proofs.Laid.{created_single-IsLaidOutAlone, released-IsLaidOutAlone}
+use Rattle.ea_laws.proofs.Resizing.{content_after, resized-IsLaidOut, resized-IsLaidOutAlone}
+use Rattle.ea_laws.proofs.Resizing.{shortened-alone, single-resized, single-shortens}
 
 -- the content with a number, among the contents of many blocks or among those of one
 pub employed-many : (i : Instance) (n : ℕ) (c : Content) → IsOrderly i
@@ -65,7 +64,7 @@ many-not_alone i n c order there = merged-apart number_of n c i.contents i.singl
 -- a content that keeps its place is changed
 module _ (f : Content → Content) (keeps : KeepsPlace f) (n : ℕ) (i : Instance) (order : IsOrderly i)
   where
-    changing-IsOrderly : ((c : Content) → content_of i.contents n ≡ Some c → IsLaidOut (f c))
+    pub changing-IsOrderly : ((c : Content) → content_of i.contents n ≡ Some c → IsLaidOut (f c))
         → ((c : Content) → content_of i.singles n ≡ Some c → IsLaidOutAlone (f c))
         → IsOrderly (changing i f n)
     changing-IsOrderly many one = record {
@@ -79,20 +78,31 @@ module _ (f : Content → Content) (keeps : KeepsPlace f) (n : ℕ) (i : Instanc
     }
 
 -- a block is placed where there is a gap
+module _ (i : Instance) (spot : Spot) (need name : ℕ) (order : IsOrderly i)
+    (gap : HasGap need spot.carrier spot.offset i.contents) where
+  pub placing-laid : 6 ≤ need → need % 2 ≡ 0 → (c : Content)
+      → content_of i.contents spot.carrier ≡ Some c → IsLaidOut (placed c spot.offset need name)
+  placing-laid least even c there = subst (λ x. IsLaidOut (placed x spot.offset need name))
+      (same-some (content_of i.contents spot.carrier) gap.0 c gap.1 there)
+      (placed-IsLaidOut gap.0 spot.offset need name
+      (item_at-All number_of IsLaidOut spot.carrier gap.0 i.contents order.laid gap.1)
+      gap.2 least even)
+
+  pub placing-alone : (c : Content) → content_of i.singles spot.carrier ≡ Some c
+      → IsLaidOutAlone (placed c spot.offset need name)
+  placing-alone c there = absurd (item_at-All number_of (λ x. x.number ≢ spot.carrier)
+      spot.carrier c i.singles (many-not_alone i spot.carrier gap.0 order gap.1) there
+      (item_at-key number_of spot.carrier c i.singles there))
+
 pub placing-IsOrderly : (i : Instance) (spot : Spot) (need name : ℕ) → IsOrderly i
     → HasGap need spot.carrier spot.offset i.contents → 6 ≤ need → need % 2 ≡ 0
     → IsOrderly (placing_at i spot need name)
-placing-IsOrderly i spot need name order (c, there, fits) least even =
-    let n = spot.carrier in
-    let f : Content → Content = λ x. placed x spot.offset need name in
-    subst IsOrderly (sym (placing-is i spot need name c order.once there))
-    (changing-IsOrderly f (placed-keeps spot.offset need name) n i order
-    (λ d is. let same : c ≡ d = (let e : Some c ≡ Some d = sym there ∙ is in cc) in
-    subst (λ x. IsLaidOut (f x)) same
-    (placed-IsLaidOut c spot.offset need name
-    (item_at-All number_of IsLaidOut n c i.contents order.laid there) fits least even))
-    (λ d is. absurd (item_at-All number_of (λ x. x.number ≢ n) n d i.singles
-    (many-not_alone i n c order there) is (item_at-key number_of n d i.singles is))))
+placing-IsOrderly i spot need name order gap least even =
+    subst IsOrderly (sym (placing-is i spot need name gap.0 order.once gap.1))
+    (changing-IsOrderly (λ c. placed c spot.offset need name)
+    (placed-keeps spot.offset need name) spot.carrier i order
+    (placing-laid i spot need name order gap least even)
+    (placing-alone i spot need name order gap))
 
 -- the block at a spot is released
 pub releasing-IsOrderly : (i : Instance) (spot : Spot) → IsOrderly i
@@ -130,7 +140,7 @@ module _ (i : Instance) (order : IsOrderly i) (x : Content)
     alone = order.alone;
   }
 
-  employing_single-IsOrderly : IsLaidOutAlone x
+  pub employing_single-IsOrderly : IsLaidOutAlone x
       → IsOrderly (record i { singles = with_content x i.singles })
   employing_single-IsOrderly laid = record {
     kept = order.kept;
@@ -143,7 +153,7 @@ module _ (i : Instance) (order : IsOrderly i) (x : Content)
   }
 
 -- other carriers are owned, or more were created
-owning-IsOrderly : (i : Instance) (os : List OwnCarrier) (created : ℕ) → IsOrderly i
+pub owning-IsOrderly : (i : Instance) (os : List OwnCarrier) (created : ℕ) → IsOrderly i
     → IsKept i.settings i.number i.first i.end os
     → IsOrderly (record i { own = os; created = created })
 owning-IsOrderly i os created order kept = record {
@@ -193,7 +203,7 @@ IsKept-without i n kept = by (own_at i.own n) refl where
   by : (o : Option OwnCarrier) → own_at i.own n ≡ o
       → IsKept i.settings i.number i.first i.end (without_own n i.own)
   by None none = subst (IsKept i.settings i.number i.first i.end)
-      (sym (without-missing own_number n i.own none)) kept
+      (sym (without_none own_number n i.own (none-other own_number n i.own none))) kept
   by (Some o) there = IsKept-cleared i.settings i.number n i.first i.end o i.own kept there
 
 pub disowning-IsOrderly : (i : Instance) (n : ℕ) → IsOrderly i → IsOrderly (disowning i n)
@@ -205,7 +215,7 @@ module _ (i : Instance) (n pages : ℕ) (c : Content) (order : IsOrderly i)
     (others : content_of i.contents n ≡ None) (there : content_of i.singles n ≡ Some c)
     (owns : own_at i.own n ≡ Some (own_of c)) (some : 1 ≤ pages) (fewer : pages < c.units / 512)
     (laid : IsLaidOutAlone (with_units pages c)) where
-  shortened-IsOrderly : IsOrderly (shortened i n pages)
+  pub shortened-IsOrderly : IsOrderly (shortened i n pages)
   shortened-IsOrderly =
       let f = with_units pages in
       record {
