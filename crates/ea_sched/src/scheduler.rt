@@ -67,6 +67,13 @@ impl<'t> Scheduler<'t> {
         })
     }
 
+    /// Its number, from 1.
+    pub fn number(&self) -> u32
+        ensures { result ≡ self.now.number }
+    {
+        self.number
+    }
+
     /// What came of its operations so far, in order.
     pub fn log(&self) -> &List<Entry>
         ensures { result.now ≡ self.now.log }

@@ -76,7 +76,7 @@ impl<'t> Worker<'t> {
         } = self;
         let mut shared = TableShared::new(board, pass);
         let memory = loop {
-            gate.pass(scheduler.number);
+            gate.pass(scheduler.number());
             match scheduler.step(alloc, &mut shared) {
                 Ok(Progress::Went) => {}
                 Ok(Progress::Ended) => break false,
