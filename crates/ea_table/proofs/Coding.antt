@@ -1,18 +1,23 @@
 -- The words after a row are the coding of what is shared then.
-use Rattle.ea_machine.proofs.AlikeNodes.{alike-append, alike-equal, alike-itself, link-count, link-none, link-there, linked, one-none}
-use Rattle.std.proofs.Common.{◌≡◌, ◌≢◌, ◌⊎◌, ℕ, zero, suc, ◌+◌, ◌*◌, ◌<◌, ◌≤◌, Bool, true, false, List, [], ◌∷◌, ◌++◌, Option, None, length, slice_index, set, refl, sym, ap, ◌∙◌, subst, inl, inr, arith}
+use Rattle.ea_machine.proofs.AlikeNodes.{alike-append, alike-equal, alike-itself, link-count}
+use Rattle.ea_machine.proofs.AlikeNodes.{link-none, link-there, linked, one-none}
+use Rattle.std.proofs.Common.{◌≡◌, ◌≢◌, ◌⊎◌, ℕ, zero, suc, ◌+◌, ◌*◌, ◌<◌, ◌≤◌, Bool, true}
+use Rattle.std.proofs.Common.{false, List, [], ◌∷◌, ◌++◌, Option, None, length}
+use Rattle.std.proofs.Common.{slice_index, set, refl, sym, ap, ◌∙◌, subst, inl, inr, arith}
 use Rattle.std.specs.Prelude.{All, if◌then◌else◌, option_map}
 use Rattle.std.proofs.Math.Path.{fun_ext}
 use Rattle.std.proofs.lemmas.Bool.{cases_Bool, cases_eq, cases_lt}
 use Rattle.std.proofs.lemmas.List.{get_or-set_other, get_or-set_same, length-set}
 use Rattle.std.proofs.lemmas.List.Elements.{All-cons, All-head, All-nil, All-tail, All-weaker}
 use Rattle.ea_model.specs.declared.units.TheConstants.{NUMBERS}
-use Rattle.ea_model.proofs.Rising.{item_at-gone, item_at-new, item_at-old, item_at-stays, none-other}
+use Rattle.ea_model.proofs.Rising.{item_at-gone, item_at-new, item_at-old}
+use Rattle.ea_model.proofs.Rising.{item_at-stays, none-other}
 use Rattle.ea_machine.specs.declared.nodes.Named.{Named}
 use Rattle.ea_machine.specs.declared.nodes.Node.{Node}
 use Rattle.ea_machine.specs.declared.nodes.Node.TheVariants.{Block, Carrier}
 use Rattle.ea_machine.specs.Alike.{IsNode, alike_in, are_alike}
-use Rattle.ea_machine.specs.Nodes.{Mark, block_node, first_node, link_in, pushed, same_node, spot_named, with_name, without_name, name_of}
+use Rattle.ea_machine.specs.Nodes.{Mark, block_node, first_node, link_in, pushed}
+use Rattle.ea_machine.specs.Nodes.{same_node, spot_named, with_name, without_name, name_of}
 use Rattle.ea_machine.specs.Rows.{Give, Link, Push, TakeAll, TakeLink, TakeTry}
 use Rattle.ea_machine.specs.Shared.{Shared, put}
 use Rattle.ea_machine.specs.Sums.{one_if, total}
@@ -22,7 +27,8 @@ use Rattle.ea_sound.proofs.Totals.{put-all, put-here, put-other, total-part, tot
 use Rattle.ea_sound.specs.Standing.{standing}
 use Rattle.ea_word.specs.Codes.{code_of, head_code, link_code}
 use Rattle.ea_table.specs.declared.places.TheConstants.{HEAD_WORDS}
-use Rattle.ea_table.specs.Words.{AreFit, Codes, IsFit, IsWorded, LinksAre, given_code, head_at, link_at, mark_code, name_at}
+use Rattle.ea_table.specs.Words.{AreFit, Codes, IsFit, IsWorded, LinksAre}
+use Rattle.ea_table.specs.Words.{given_code, head_at, link_at, mark_code, name_at}
 
 -- a word that was written, and the others
 word-here : (ws : List ℕ) (p v q : ℕ) → p < length ws → q ≡ p → slice_index (set ws p v) q ≡ v

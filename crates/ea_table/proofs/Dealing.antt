@@ -1,5 +1,6 @@
 -- Seats that are dealt, one for each scheduler.
-use Rattle.std.proofs.Common.{◌≡◌, ◌≢◌, ℕ, suc, ◌+◌, ◌-◌, ◌<◌, ◌≤◌, List, [], ◌∷◌, ◌++◌, map, length, get_or, refl, sym, ap, ◌∙◌, subst, arith}
+use Rattle.std.proofs.Common.{◌≡◌, ◌≢◌, ℕ, suc, ◌+◌, ◌-◌, ◌<◌, ◌≤◌, List, [], ◌∷◌, ◌++◌}
+use Rattle.std.proofs.Common.{map, length, get_or, refl, sym, ap, ◌∙◌, subst, arith}
 use Rattle.std.specs.Prelude.{All}
 use Rattle.std.specs.List.{range_with_len}
 use Rattle.std.proofs.lemmas.List.{length_push}
@@ -12,7 +13,8 @@ use Rattle.ea_model.specs.declared.trace.Trace.{Trace}
 use Rattle.ea_table.specs.declared.pass.Pass.{Pass}
 use Rattle.ea_table.specs.declared.views.About.{About}
 use Rattle.ea_table.specs.declared.views.View.{View}
-use Rattle.ea_table.specs.Ruling.{IsSingle, acting, dealt_left, dealt_right, holds, waiting, waiting_from}
+use Rattle.ea_table.specs.Ruling.{IsSingle, acting, dealt_left, dealt_right}
+use Rattle.ea_table.specs.Ruling.{holds, waiting, waiting_from}
 use Rattle.ea_table.specs.Threads.{IsDealt}
 use Rattle.ea_table.proofs.Opening.{splits}
 use Rattle.ea_table.proofs.Threading.{one-more}

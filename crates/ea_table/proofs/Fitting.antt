@@ -1,5 +1,6 @@
 -- What each row finds in its word, and the words that it leaves.
-use Rattle.std.proofs.Common.{◌≡◌, ℕ, suc, ◌≤◌, List, [], ◌∷◌, Option, None, Some, slice_index, slice_set, set, refl, sym, ap, ◌∙◌, subst, inl, inr, arith}
+use Rattle.std.proofs.Common.{◌≡◌, ℕ, suc, ◌≤◌, List, [], ◌∷◌, Option, None, Some, slice_index}
+use Rattle.std.proofs.Common.{slice_set, set, refl, sym, ap, ◌∙◌, subst, inl, inr, arith}
 use Rattle.std.specs.Prelude.{IfSome}
 use Rattle.std.proofs.lemmas.Bool.{cases_Bool}
 use Rattle.std.proofs.lemmas.List.Elements.{All-head, All-tail}
@@ -29,8 +30,10 @@ use Rattle.ea_sound.specs.Standing.{standing}
 use Rattle.ea_word.specs.Codes.{IsCodable, code_of}
 use Rattle.ea_table.specs.declared.views.View.{View}
 use Rattle.ea_table.specs.Ruling.{Reads, ReadsLink, acting, actor_in, setup_in}
-use Rattle.ea_table.specs.Words.{AreFit, Codes, IsFit, IsWorded, LinksAre, head_at, link_at, name_at}
-use Rattle.ea_table.proofs.Coding.{codes-given, codes-linked, codes-passes, codes-pushed, codes-rests, codes-taken, codes-tried}
+use Rattle.ea_table.specs.Words.{AreFit, Codes, IsFit, IsWorded}
+use Rattle.ea_table.specs.Words.{LinksAre, head_at, link_at, name_at}
+use Rattle.ea_table.proofs.Coding.{codes-given, codes-linked, codes-passes}
+use Rattle.ea_table.proofs.Coding.{codes-pushed, codes-rests, codes-taken, codes-tried}
 use Rattle.ea_table.proofs.Laws.{worded}
 use Rattle.ea_table.proofs.Rows.{FitsWord}
 use Rattle.ea_sound.proofs.Wanting.{gives, links, pushes}

@@ -1,9 +1,12 @@
 -- The rule at the table's start, and where seats are split off and taken in.
-use Rattle.std.proofs.Common.{◌≡◌, ◌≢◌, ◌⊎◌, ℕ, zero, suc, Bool, true, false, ◌==◌, if◌then◌else◌, List, [], ◌∷◌, ◌++◌, map, length, get_or, replicate, slice_index, set, refl, sym, ap, ◌∙◌, subst, inl, inr, arith}
+use Rattle.std.proofs.Common.{◌≡◌, ◌≢◌, ◌⊎◌, ℕ, zero, suc, Bool, true, false, ◌==◌}
+use Rattle.std.proofs.Common.{if◌then◌else◌, List, [], ◌∷◌, ◌++◌, map, length, get_or, replicate}
+use Rattle.std.proofs.Common.{slice_index, set, refl, sym, ap, ◌∙◌, subst, inl, inr, arith}
 use Rattle.std.specs.Prelude.{All}
 use Rattle.std.specs.List.{range_with_len}
 use Rattle.std.proofs.lemmas.List.{length-replicate}
-use Rattle.std.proofs.lemmas.List.Elements.{All-append, All-cons, All-head, All-map, All-nil, All-tail, All-weaker}
+use Rattle.std.proofs.lemmas.List.Elements.{All-append, All-cons, All-head}
+use Rattle.std.proofs.lemmas.List.Elements.{All-map, All-nil, All-tail, All-weaker}
 use mathlib.Core.Option.{some, some-injective, some-ne-none}
 use lib.ListN.{get_elem?}
 use Rattle.atomic_table.specs.Table.{Joins, Splits, opening}
@@ -24,7 +27,8 @@ use Rattle.ea_sound.proofs.OtherTurns.{no-step}
 use Rattle.ea_table.specs.declared.views.About.{About}
 use Rattle.ea_table.specs.declared.views.Seated.{Seated}
 use Rattle.ea_table.specs.declared.views.View.{View}
-use Rattle.ea_table.specs.Ruling.{Knows, Sits, acting, after_first, dealt_left, dealt_right, first, holds, spent_view, taken_in, waiting}
+use Rattle.ea_table.specs.Ruling.{Knows, Sits, acting, after_first, dealt_left}
+use Rattle.ea_table.specs.Ruling.{dealt_right, first, holds, spent_view, taken_in, waiting}
 use Rattle.ea_table.specs.Words.{Codes, head_at, link_at, name_at, words_in}
 
 zeros : (k i : ℕ) → slice_index (replicate k 0) i ≡ 0

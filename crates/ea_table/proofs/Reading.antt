@@ -1,5 +1,6 @@
 -- Given names that are read off words, one by one.
-use Rattle.std.proofs.Common.{◌≡◌, ◌≢◌, ℕ, zero, suc, ◌+◌, ◌<◌, ◌≤◌, List, [], ◌∷◌, Option, None, Some, slice_index, refl, sym, ap, ◌∙◌, subst, inl, inr, arith}
+use Rattle.std.proofs.Common.{◌≡◌, ◌≢◌, ℕ, zero, suc, ◌+◌, ◌<◌, ◌≤◌, List, [], ◌∷◌, Option, None}
+use Rattle.std.proofs.Common.{Some, slice_index, refl, sym, ap, ◌∙◌, subst, inl, inr, arith}
 use Rattle.std.specs.Prelude.{All, AllPairs, option_map}
 use mathlib.Core.Option.{some, some-injective, some-ne-none}
 use lib.ListN.{get_elem?}
@@ -8,7 +9,8 @@ use Rattle.std.proofs.lemmas.List.Elements.{All-head, All-tail, All-weaker}
 use Rattle.ea_model.proofs.Pairs.{pairs_head, pairs_tail}
 use Rattle.ea_model.specs.declared.carriers.Spot.{Spot}
 use Rattle.ea_model.specs.Keyed.{IsBelow}
-use Rattle.ea_model.proofs.Rising.{item_at-new, item_at-old, item_here, item_past, none-other, rising-entered}
+use Rattle.ea_model.proofs.Rising.{item_at-new, item_at-old, item_here}
+use Rattle.ea_model.proofs.Rising.{item_past, none-other, rising-entered}
 use Rattle.ea_machine.specs.declared.nodes.Named.{Named}
 use Rattle.ea_machine.specs.declared.nodes.Node.{Node}
 use Rattle.ea_machine.specs.declared.nodes.Node.TheVariants.{Block}

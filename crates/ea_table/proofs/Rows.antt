@@ -1,12 +1,15 @@
 -- Each row, as a step of a seat, keeps the rule.
 use Rattle.std.specs.Prelude.{All}
-use Rattle.std.proofs.Common.{◌≡◌, ◌≢◌, ℕ, ◌≤◌, true, List, [], ◌∷◌, ◌++◌, Option, None, Some, slice_index, slice_set, set, refl, sym, ap, ◌∙◌, subst, inl, inr, arith}
+use Rattle.std.proofs.Common.{◌≡◌, ◌≢◌, ℕ, ◌≤◌, true, List, [], ◌∷◌, ◌++◌}
+use Rattle.std.proofs.Common.{Option, None, Some, slice_index, slice_set, set}
+use Rattle.std.proofs.Common.{refl, sym, ap, ◌∙◌, subst, inl, inr, arith}
 use Rattle.std.proofs.lemmas.List.{append_assoc, append-nil}
 use Rattle.std.proofs.lemmas.List.Elements.{All-cons, All-head, All-nil, All-push, All-weaker}
 use mathlib.Core.Option.{some}
 use mathlib.Core.Option as maybe
 use lib.ListN.{get_elem?}
-use Rattle.atomic_table.specs.Table.{Act, Allows, Step, Valid, carried_after, keeps, stepped as table_stepped}
+use Rattle.atomic_table.specs.Table.{Act, Allows, Step, Valid, carried_after}
+use Rattle.atomic_table.specs.Table.{keeps, stepped as table_stepped}
 use Rattle.atomic_table.specs.Table as table
 use Rattle.atomic_table.proofs.Lists.{at_set}
 use Rattle.ea_model.specs.declared.settings.Config.{Config}
@@ -33,7 +36,9 @@ use Rattle.ea_sound.specs.Standing.{IsOlderAt}
 use Rattle.ea_table.specs.declared.views.About.{About}
 use Rattle.ea_table.specs.declared.views.Seated.{Seated}
 use Rattle.ea_table.specs.declared.views.View.{View}
-use Rattle.ea_table.specs.Ruling.{IsSingle, Keeps, Knows, Reads, ReadsHead, Remembers, Sits, acting, actor_in, holds, older_after, older_word, setup_in, stepped, steps}
+use Rattle.ea_table.specs.Ruling.{IsSingle, Keeps, Knows, Reads, ReadsHead}
+use Rattle.ea_table.specs.Ruling.{Remembers, Sits, acting, actor_in, holds}
+use Rattle.ea_table.specs.Ruling.{older_after, older_word, setup_in, stepped, steps}
 use Rattle.ea_table.specs.Words.{Codes}
 use Rattle.ea_table.proofs.Laws.{linking-came, older-stays}
 

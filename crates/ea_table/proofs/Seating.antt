@@ -16,7 +16,8 @@ use Rattle.ea_table.specs.declared.views.View.{View}
 use Rattle.ea_table.specs.Ruling.{IsSingle, acting, actor_in, caller_in, holds, steps}
 use Rattle.ea_table.specs.Seating.{IsSeatedAt}
 use Rattle.ea_table.specs.Words.{head_at, link_at, name_at}
-use Rattle.ea_table.proofs.Fitting.{fits-given, fits-linked, fits-linked_to, fits-pushed, fits-taken, fits-tried}
+use Rattle.ea_table.proofs.Fitting.{fits-given, fits-linked, fits-linked_to}
+use Rattle.ea_table.proofs.Fitting.{fits-pushed, fits-taken, fits-tried}
 use Rattle.ea_table.proofs.Rows.{allows}
 
 module _ {S : Type 0} (b : Board) (p : Pass) (xs : List (ℕ × S)) (at : IsSeatedAt b p) (me : ℕ)

@@ -1,5 +1,6 @@
 -- What a call answers, by the word that its step found.
-use Rattle.std.proofs.Common.{◌≡◌, ◌≢◌, ℕ, ◌≤◌, Bool, true, false, List, [], ◌∷◌, ◌++◌, Option, None, Some, refl, sym, ap, ◌∙◌, subst, arith}
+use Rattle.std.proofs.Common.{◌≡◌, ◌≢◌, ℕ, ◌≤◌, Bool, true, false, List, [], ◌∷◌, ◌++◌}
+use Rattle.std.proofs.Common.{Option, None, Some, refl, sym, ap, ◌∙◌, subst, arith}
 use Rattle.std.specs.Prelude.{All, IfSome, option_map}
 use Rattle.ea_model.specs.declared.carriers.Spot.{Spot}
 use Rattle.ea_machine.specs.declared.nodes.Node.{Node}
@@ -15,7 +16,8 @@ use Rattle.ea_sound.proofs.OtherTurns.{actor-since, rest-since}
 use Rattle.ea_sound.proofs.TurnLists.{run-snoc}
 use Rattle.ea_word.specs.Codes.{IsCodable, code_of, link_code}
 use Rattle.ea_table.specs.declared.views.View.{View}
-use Rattle.ea_table.specs.Ruling.{DidRow, Reads, ReadsHead, ReadsLink, ReadsName, Took, acting, actor_in, caller_in, older_after, setup_in, shared_since, stepped}
+use Rattle.ea_table.specs.Ruling.{DidRow, Reads, ReadsHead, ReadsLink, ReadsName, Took, acting}
+use Rattle.ea_table.specs.Ruling.{actor_in, caller_in, older_after, setup_in, shared_since, stepped}
 use Rattle.ea_table.specs.Words.{block_spot, mark_code}
 use Rattle.ea_table.proofs.Rows.{code-more}
 

@@ -1,6 +1,7 @@
 -- The rule of the table: its words are the coding of what is shared after a list of steps, and each
 -- seat knows its scheduler as that stands then.
-use Rattle.std.specs.Prelude.{◌≡◌, ◌≢◌, ℕ, true, false, ◌==◌, if◌then◌else◌, List, [], ◌∷◌, ◌++◌, All, map, Option, IfSome}
+use Rattle.std.specs.Prelude.{◌≡◌, ◌≢◌, ℕ, true, false, ◌==◌, if◌then◌else◌}
+use Rattle.std.specs.Prelude.{List, [], ◌∷◌, ◌++◌, All, map, Option, IfSome}
 use Rattle.std.specs.List.{range_with_len}
 use mathlib.Core.Option.{some}
 use lib.ListN.{get_elem?}
@@ -25,7 +26,9 @@ use Rattle.ea_machine.specs.Actor.{Actor}
 use Rattle.ea_machine.specs.Courses.{AreSteps}
 use Rattle.ea_machine.specs.Machine.{run, wants}
 use Rattle.ea_machine.specs.Nodes.{Mark, first_node, spot_named}
-use Rattle.ea_machine.specs.Rows.{Answer, Row, TakeAll, TakeLink, Look, Push, Link, BusyTry, Settle, Abandon, FetchTry, Create, SendHome, Clear, Give, TakeTry, Nothing}
+use Rattle.ea_machine.specs.Rows.{Answer, Row, TakeAll, TakeLink, Look, Push}
+use Rattle.ea_machine.specs.Rows.{Link, BusyTry, Settle, Abandon, FetchTry}
+use Rattle.ea_machine.specs.Rows.{Create, SendHome, Clear, Give, TakeTry, Nothing}
 use Rattle.ea_machine.specs.Setup.{Setup, migration, setup_of}
 use Rattle.ea_machine.specs.Shared.{Shared}
 use Rattle.ea_machine.specs.State.{State}

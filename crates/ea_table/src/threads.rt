@@ -1,5 +1,6 @@
 //! A run in which the schedulers step beside each other.
-ghost use Rattle.std.specs.Prelude.{◌≡◌, ℕ, ◌+◌, ◌<◌, true, false, All, IfOk, IsFalse, length, slice_index_or};
+ghost use Rattle.std.specs.Prelude.{◌≡◌, ℕ, ◌+◌, ◌<◌, true, false, All};
+ghost use Rattle.std.specs.Prelude.{IfOk, IsFalse, length, slice_index_or};
 ghost use Rattle.ea_model.specs.Settings.{IsValidConfig};
 ghost use Rattle.ea_model.specs.Trace.{IsValidTrace};
 ghost use Rattle.ea_sound.specs.MachineLaws.{Protocol};

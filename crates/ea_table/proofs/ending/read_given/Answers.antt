@@ -1,7 +1,8 @@
 use Rattle.std.proofs.Common.{◌≡◌, ◌+◌, slice_index, sym, ap, ◌∙◌, subst, arith}
 use Rattle.std.specs.Mem.Slots.{slots_items}
 use Rattle.ea_names.specs.Holding.{has_place}
-use Rattle.ea_table.proofs.Reading.{AreRead, all-read, element-index, missing-spot, none-read, one-less, one-more}
+use Rattle.ea_table.proofs.Reading.{AreRead, all-read, element-index}
+use Rattle.ea_table.proofs.Reading.{missing-spot, none-read, one-less, one-more}
 use Rattle.ea_table.proofs.ending.read_given.Goals.{in-Some, in_default}
 use Rattle.ea_table.proofs.ending.read_given.Goals as goal
 

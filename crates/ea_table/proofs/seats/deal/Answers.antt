@@ -1,6 +1,7 @@
 use Rattle.std.proofs.Common.{◌≡◌, suc, ◌+◌, ◌-◌, refl, sym, ap, ◌∙◌, subst, arith}
 use Rattle.ea_table.specs.Ruling.{waiting_from}
-use Rattle.ea_table.proofs.Dealing.{ArePasses, deals, last-is, left-is, none-dealt, older-is, one-dealt, right-is, single-is}
+use Rattle.ea_table.proofs.Dealing.{ArePasses, deals, last-is, left-is, none-dealt}
+use Rattle.ea_table.proofs.Dealing.{older-is, one-dealt, right-is, single-is}
 use Rattle.ea_table.proofs.seats.deal.Goals as goal
 
 pub loop-init : goal.loop-init

@@ -1,4 +1,5 @@
-use Rattle.std.proofs.Common.{◌≡◌, Bool, false, true, Some, None, IsFalse, refl, sym, ap, ◌∙◌, subst}
+use Rattle.std.proofs.Common.{◌≡◌, Bool, false, true, Some, None}
+use Rattle.std.proofs.Common.{IsFalse, refl, sym, ap, ◌∙◌, subst}
 use Rattle.ea_sched.specs.Steps.{IsReady}
 use Rattle.ea_shared.specs.Calls.{Caller}
 use Rattle.ea_table.specs.declared.pass.Pass.{Pass}
