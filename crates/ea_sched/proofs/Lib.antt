@@ -3,6 +3,7 @@ pub mod Acts
 pub mod StandsOff
 pub mod OwnCarriers
 pub mod OutcomeGiven
+pub mod OutcomeBlocks
 pub mod OutcomeSums
 pub mod Texts
 pub mod Suiting

@@ -1,5 +1,6 @@
 -- What is printed of a state is what its schedulers come to, where their carriers don't migrate.
-use Rattle.std.proofs.Common.{◌≡◌, ℕ, ◌+◌, ◌*◌, ◌≤◌, true, false, List, length, map, sym, ap, ◌∙◌, subst, arith}
+use Rattle.std.proofs.Common.{◌≡◌, ℕ, ◌+◌, ◌*◌, ◌≤◌, true, false, List, length, map, sym, ap, ◌∙◌}
+use Rattle.std.proofs.Common.{subst, arith}
 use Rattle.std.specs.Prelude.{flat_map, sum_by}
 use Rattle.std.proofs.Math.Path.{fun_ext}
 use Rattle.std.proofs.lemmas.List.{length-map}
@@ -37,9 +38,11 @@ use Rattle.ea_sched.specs.declared.state.Scheduler.{Scheduler}
 use Rattle.ea_sched.specs.Acting.{actor_of}
 use Rattle.ea_sched.specs.Built.{is_built_run}
 use Rattle.ea_sound.specs.Contents.{all_employed}
-use Rattle.ea_sched.specs.Resting.{AreGiven, HaveParts, StandIn, count_employed, live_units, sum_employed, totals_by}
+use Rattle.ea_sched.specs.Resting.{AreGiven, AreLive, HaveBlocks, HaveParts, StandIn}
+use Rattle.ea_sched.specs.Resting.{count_employed, live_units, sum_employed, totals_by}
 use Rattle.ea_sound.proofs.PresentCarriers.{present-contents, present-lines}
 use Rattle.ea_sound.proofs.PresentLive.{live-printed}
+use Rattle.ea_sound.proofs.LiveBlocks.{given-found, held-found}
 use Rattle.ea_model.proofs.NumberedItems.{map-flat_map}
 use Rattle.ea_sched.proofs.Texts.{off-built}
 
@@ -99,6 +102,14 @@ module _ (c : Config) (t : Trace) (valid : IsValidConfig c) (made : IsValidTrace
         rising = rule.present.given;
         within = given-range c t valid made w stand.reached;
       })
+
+  -- their blocks and those of held names are there
+  pub are-live : AreLive ss given
+  are-live = record {
+    held = held-found e w rule off actor_of ss stand.actors;
+    given = subst (HaveBlocks ss) (sym stand.given)
+        (given-found e w rule off actor_of ss stand.actors);
+  }
 
   -- the contents that are printed are those that the schedulers employ
   printed : map (λ p. p.content) (present e w) ≡ flat_map (λ s. employed s.instance) ss

@@ -1,17 +1,18 @@
 -- Schedulers in a state in which nobody steps.
-use Rattle.std.specs.Prelude.{◌≡◌, ℕ, ◌+◌, ◌-◌, ◌*◌, ◌≤◌, List, All, AllPairs, flat_map, length, map, slice_get, sum_by}
-use Rattle.std.specs.Option.{option_map_or}
+use Rattle.std.specs.Prelude.{◌≡◌, ℕ, ◌+◌, ◌-◌, ◌*◌, ◌≤◌, List, All, AllPairs, IsSome, Option}
+use Rattle.std.specs.Prelude.{length, map, slice_get, sum_by}
+use Rattle.std.specs.Option.{option_and_then, option_map_or}
+use Rattle.ea_model.specs.declared.carriers.BlockAt.{BlockAt}
 use Rattle.ea_model.specs.declared.carriers.Spot.{Spot}
 use Rattle.ea_model.specs.declared.carriers.Totals.{Totals}
 use Rattle.ea_model.specs.declared.outcome.Outcome.{Outcome}
 use Rattle.ea_model.specs.declared.settings.Config.{Config}
 use Rattle.ea_model.specs.declared.trace.Trace.{Trace}
 use Rattle.ea_model.specs.Content.{Content, free_units, gaps_of}
-use Rattle.ea_model.specs.Instance.{employed, owner_of, size_at}
+use Rattle.ea_model.specs.Instance.{block_in, employed, owner_of, size_at}
 use Rattle.ea_model.specs.Keyed.{IsBelow}
 use Rattle.ea_model.specs.Outcome.{plain_outcome}
 use Rattle.ea_machine.specs.declared.nodes.Named.{Named}
-use Rattle.ea_machine.specs.Actor.{Actor}
 use Rattle.ea_machine.specs.Machine.{IsReached}
 use Rattle.ea_machine.specs.Nodes.{name_of}
 use Rattle.ea_machine.specs.Outcome as machine
@@ -29,6 +30,19 @@ pub record AreGiven (greatest : ℕ) (given : List Named) : Type 0 where
   pub rising : AllPairs (IsBelow name_of) given
   pub within : All (λ n. (1 ≤ n.name) × (n.name ≤ greatest)) given
 
+-- the block at a spot, in the instance that owns its carrier
+abbrev pub block_by : List Scheduler → Spot → Option BlockAt
+block_by schedulers spot = option_and_then (λ s. block_in (employed s.instance) spot)
+    (slice_get schedulers (owner_of spot.carrier - 1))
+
+-- the instance has a block there
+abbrev pub HasBlock : List Scheduler → Spot → Type 0
+HasBlock schedulers spot = IsSome (block_by schedulers spot)
+
+-- each of the names has its block
+abbrev pub HaveBlocks : List Scheduler → List Named → Type 0
+HaveBlocks schedulers names = All (λ n. HasBlock schedulers n.spot) names
+
 -- the units of the block at a spot, in the instance that owns its carrier; 0 if it has none there
 abbrev pub units_at : List Scheduler → Spot → ℕ
 units_at schedulers spot = option_map_or (λ s. size_at s.instance spot)
@@ -42,6 +56,11 @@ units_named schedulers names = sum_by (λ n. units_at schedulers n.spot) names
 abbrev pub live_units : List Scheduler → List Named → ℕ
 live_units schedulers given = sum_by (λ s. units_named schedulers s.names.held) schedulers
     + units_named schedulers given
+
+-- each of these names has its block
+pub record AreLive (schedulers : List Scheduler) (named : List Named) : Type 0 where
+  pub held : All (λ s. HaveBlocks schedulers s.names.held) schedulers
+  pub given : HaveBlocks schedulers named
 
 -- how many contents schedulers employ
 abbrev pub count_employed : List Scheduler → ℕ

@@ -1,12 +1,14 @@
 //! The outcome of a run in which nobody steps any more.
-ghost use Rattle.std.specs.Prelude.{◌≡◌, ◌*◌, ◌^◌, ◌<◌, ◌≤◌, true, IfOk, flat_map, length, map, sum_by};
+ghost use Rattle.std.specs.Prelude.{◌≡◌, ◌*◌, ◌^◌, ◌<◌, ◌≤◌, true, IfOk, flat_map, length, map};
+ghost use Rattle.std.specs.Prelude.{sum_by};
 ghost use Rattle.ea_model.specs.declared.units.TheConstants.{MAX_SCHEDULERS, MAX_UNITS, NUMBERS};
 ghost use Rattle.ea_model.specs.Content.{free_units, gaps_of};
 ghost use Rattle.ea_model.specs.Instance.{carrier_line, employed};
 ghost use Rattle.ea_model.specs.Settings.{IsValidConfig};
 ghost use Rattle.ea_model.specs.Trace.{IsValidTrace};
 ghost use Rattle.ea_sched.specs.Built.{is_built_run};
-ghost use Rattle.ea_sched.specs.Resting.{AreGiven, HaveParts, IsOutcome, Stand, count_employed, sum_employed, totals_by};
+ghost use Rattle.ea_sched.specs.Resting.{AreGiven, AreLive, HaveParts, IsOutcome, Stand};
+ghost use Rattle.ea_sched.specs.Resting.{count_employed, sum_employed, totals_by};
 
 use crate::state::Scheduler;
 use crate::units::live_units;
@@ -97,6 +99,7 @@ fn totals_of<H: Rested<Content = Mbc>>(
     requires few { length schedulers.now ≤ MAX_SCHEDULERS }
     requires greatest { greatest ≡ H.greatest shared.now }
     requires given { AreGiven greatest (H.named shared.now) }
+    requires live { AreLive schedulers.now (H.named shared.now) }
     requires parts { HaveParts (totals_by schedulers.now (H.named shared.now)) }
     ensures { result ≡ totals_by schedulers.now (H.named shared.now) }
 {

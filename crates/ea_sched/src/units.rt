@@ -1,8 +1,8 @@
 //! The units of live blocks, name by name.
-ghost use Rattle.std.specs.Prelude.{◌≡◌, ◌^◌, ◌<◌, ◌≤◌, length, sum_by};
+ghost use Rattle.std.specs.Prelude.{◌≡◌, ◌^◌, ◌<◌, ◌≤◌, All, IfSome, length, sum_by};
 ghost use Rattle.std.specs.Option.{option_map_or};
 ghost use Rattle.ea_names.specs.declared.groups.TheConstants.{GROUP};
-ghost use Rattle.ea_sched.specs.Resting.{AreGiven};
+ghost use Rattle.ea_sched.specs.Resting.{AreGiven, AreLive, HasBlock, HaveBlocks};
 ghost use Rattle.ea_sched.specs.Resting as resting;
 
 use crate::releases::employer_of;
@@ -12,25 +12,26 @@ use ea_model::Spot;
 use ea_names::Names;
 use ea_shared::Rested;
 
-/// The units of the block at the spot, which the instance has that owns its carrier; 0 if it has
-/// none there.
+/// The units of the block at the spot, which the instance has that owns its carrier.
 fn units_at(schedulers: &[Scheduler<'_>], spot: Spot) -> u64
+    requires block { HasBlock schedulers.now spot }
     ensures units { result ≡ resting.units_at schedulers.now spot }
     ensures small { result < 2 ^ 32 }
 {
     let index = employer_of(spot.carrier) as usize - 1;
     let Some(owner) = schedulers.get(index) else {
-        return 0;
+        unreachable!()
     };
     match owner.instance.block_at(spot) {
         Some(block) => u64::from(block.size),
-        None => 0,
+        None => unreachable!(),
     }
 }
 
 /// The units of the blocks at the spots of a group of names.
 fn units_of(schedulers: &[Scheduler<'_>], spots: &[Option<Spot>]) -> u64
-    requires { length spots.now ≤ GROUP }
+    requires group { length spots.now ≤ GROUP }
+    requires blocks { All (λ s. IfSome s (HasBlock schedulers.now)) spots.now }
     ensures units { result
         ≡ sum_by (λ s. option_map_or (resting.units_at schedulers.now) s 0) spots.now }
     ensures small { result < 2 ^ 41 }
@@ -46,6 +47,7 @@ fn units_of(schedulers: &[Scheduler<'_>], spots: &[Option<Spot>]) -> u64
 
 /// The units of the blocks of names that a scheduler holds.
 fn units_held(schedulers: &[Scheduler<'_>], names: &Names) -> u64
+    requires { HaveBlocks schedulers.now names.now.held }
     ensures { result ≡ resting.units_named schedulers.now names.now.held }
 {
     let mut units = 0;
@@ -64,6 +66,7 @@ fn units_given<H: Rested<Content = Mbc>>(
 ) -> u64
     requires greatest { greatest ≡ H.greatest shared.now }
     requires given { AreGiven greatest (H.named shared.now) }
+    requires blocks { HaveBlocks schedulers.now (H.named shared.now) }
     ensures { result ≡ resting.units_named schedulers.now (H.named shared.now) }
 {
     let mut units = 0;
@@ -83,6 +86,7 @@ pub fn live_units<H: Rested<Content = Mbc>>(
 ) -> u64
     requires greatest { greatest ≡ H.greatest shared.now }
     requires given { AreGiven greatest (H.named shared.now) }
+    requires live { AreLive schedulers.now (H.named shared.now) }
     requires fits { resting.live_units schedulers.now (H.named shared.now) < 2 ^ 64 }
     ensures { result ≡ resting.live_units schedulers.now (H.named shared.now) }
 {

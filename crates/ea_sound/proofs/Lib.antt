@@ -147,3 +147,4 @@ pub mod Freed
 pub mod Walked
 pub mod PresentCarriers
 pub mod PresentLive
+pub mod LiveBlocks

@@ -1,8 +1,8 @@
 use Rattle.std.proofs.Common.{length, sym, ap, ◌∙◌, subst, arith}
 use Rattle.std.specs.Prelude.{flat_map, map}
 use Rattle.ea_model.specs.Instance.{carrier_line, employed}
-use Rattle.ea_sched.specs.Resting.{HaveParts, totals_by}
-use Rattle.ea_sched.proofs.OutcomeSums.{are-given, few-schedulers, have-parts, outcome-is}
+use Rattle.ea_sched.specs.Resting.{AreLive, HaveParts, totals_by}
+use Rattle.ea_sched.proofs.OutcomeSums.{are-given, are-live, few-schedulers, have-parts, outcome-is}
 use Rattle.ea_sched.proofs.outcome.outcome_of.Goals as goal
 
 pub totals_of-requires-clause-few : goal.totals_of-requires-clause-few
@@ -21,6 +21,14 @@ totals_of-requires-clause-given g c =
     let (w, stand) = c.requires.stand in
     are-given c.args.config c.args.trace.now c.requires.config c.requires.trace c.requires.built
     c.args.schedulers.items (g.H.Rested.named c.args.shared.now) w stand
+
+pub totals_of-requires-clause-live : goal.totals_of-requires-clause-live
+totals_of-requires-clause-live g c =
+    let (w, stand) = c.requires.stand in
+    let shared = g.H.Rested.named c.args.shared.now in
+    subst (λ ss. AreLive ss shared) (sym c.as_slice-2.ensures)
+    (are-live c.args.config c.args.trace.now c.requires.config c.requires.trace c.requires.built
+    c.args.schedulers.items shared w stand)
 
 pub totals_of-requires-clause-parts : goal.totals_of-requires-clause-parts
 totals_of-requires-clause-parts g c =
@@ -42,5 +50,6 @@ returns g c = λ w stand.
     })
     c.in_ok-logs_of.ensures
     (c.in_ok-lines_of.ensures
-    ∙ ap (flat_map (λ s. map (carrier_line s.instance.number) (employed s.instance))) c.as_slice.ensures)
+    ∙ ap (flat_map (λ s. map (carrier_line s.instance.number) (employed s.instance)))
+    c.as_slice.ensures)
     (c.totals_of.ensures ∙ ap (λ l. totals_by l shared) c.as_slice-2.ensures)

@@ -1,8 +1,16 @@
 use Rattle.std.proofs.Common.{sym, ap, ◌∙◌, arith}
-use Rattle.ea_sched.specs.Resting.{units_at}
+use Rattle.ea_sched.specs.Resting.{HasBlock, units_at}
+use Rattle.ea_sched.proofs.OutcomeBlocks.{spot-holds}
 use Rattle.ea_sched.proofs.OutcomeGiven.{given-sum, missing, next-summed, of_name, of_spot}
 use Rattle.ea_sched.proofs.units.units_given.Goals as goal
 use Rattle.ea_sched.proofs.units.units_given.Goals.{in-Some, in_default}
+
+pub units_at-units-requires : goal.units_at-units-requires
+units_at-units-requires g c = record {
+  block = spot-holds (HasBlock c.args.schedulers.now) _ c.in-Some.spot
+      (g.H.Rested.named c.args.shared.now) c.requires.blocks
+      (sym c.given.ensures ∙ c.in-Some.is);
+}
 
 pub loop-before-preserved : goal.loop-before-preserved
 loop-before-preserved g c =
