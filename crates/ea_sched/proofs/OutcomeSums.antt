@@ -36,7 +36,6 @@ use Rattle.ea_sound.proofs.SoundUnits.{sound-sums}
 use Rattle.ea_sound.proofs.Weights.{sum_by-sum_over}
 use Rattle.ea_sched.specs.declared.state.Scheduler.{Scheduler}
 use Rattle.ea_sched.specs.Acting.{actor_of}
-use Rattle.ea_sched.specs.Built.{is_built_run}
 use Rattle.ea_sound.specs.Contents.{all_employed}
 use Rattle.ea_sched.specs.Resting.{AreGiven, AreLive, HaveBlocks, HaveParts, StandIn}
 use Rattle.ea_sched.specs.Resting.{count_employed, live_units, sum_employed, totals_by}
@@ -44,7 +43,6 @@ use Rattle.ea_sound.proofs.PresentCarriers.{present-contents, present-lines}
 use Rattle.ea_sound.proofs.PresentLive.{live-printed}
 use Rattle.ea_sound.proofs.LiveBlocks.{given-found, held-found}
 use Rattle.ea_model.proofs.NumberedItems.{map-flat_map}
-use Rattle.ea_sched.proofs.Texts.{off-built}
 
 -- outcomes with the same parts
 abbrev IsOutcome : Outcome → Outcome → Type 0
@@ -74,16 +72,13 @@ sum_by-flat f g xs =
     ∙ ap (λ h. sum_over h xs) (fun_ext (λ x. sum_by-sum_over f (g x))))
 
 module _ (c : Config) (t : Trace) (valid : IsValidConfig c) (made : IsValidTrace c.schedulers t)
-    (built : is_built_run c t ≡ true) (ss : List Scheduler) (given : List Named) (w : State)
+    (off : migration (setup_of c t) ≡ false) (ss : List Scheduler) (given : List Named) (w : State)
     (stand : StandIn c t ss given w) where
   abbrev e : Setup
   e = setup_of c t
 
   rule : Rule e w
   rule = reached-rule c t valid made w stand.reached
-
-  off : migration e ≡ false
-  off = off-built c t built
 
   -- the schedulers are few
   pub few-schedulers : length ss ≤ MAX_SCHEDULERS

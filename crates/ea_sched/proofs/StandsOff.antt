@@ -27,7 +27,6 @@ use Rattle.ea_sched.specs.declared.state.Scheduler.{Scheduler}
 use Rattle.ea_sched.specs.Acting.{actor_of, is_ended, setup_for}
 use Rattle.ea_sched.specs.Steps.{DidRow, IsReady}
 use Rattle.ea_sched.proofs.Doing.{row-stepped}
-use Rattle.ea_sched.proofs.Texts.{off-built}
 
 -- no carrier is in the hand
 off-leaving : (stage : Stage Content) → IsOffStage stage → leaving_at stage ≡ []
@@ -88,7 +87,7 @@ module _ (s : Scheduler) {shared : Option Shared} {caller : Option Caller}
   in-state w reached = is-off e w
       (reached-rule s.config s.trace.now h.config h.trace w reached) s.number
       (number-scheduler e s.number (s.number_from, s.number_to))
-      (off-built s.config s.trace.now s.built)
+      s.off
 
   -- a scheduler that is ready for its row
   pub stands-off : IsOffStage s.stage

@@ -45,7 +45,6 @@ use Rattle.ea_sched.specs.Asking.{HasName, IsFresh, IsHere, Moves, Suits, SuitsN
 use Rattle.ea_sound.specs.Releasing.{freed_at}
 use Rattle.ea_sound.specs.Walking.{CanAllGo, CanGo, Worked, left_if, worked, worked_if}
 use Rattle.ea_sound.proofs.Freed.{released-here}
-use Rattle.ea_sched.proofs.Texts.{off-built}
 
 -- the nodes that scheduler `me` passed
 module _ (e : Setup) (v : State) (s : Shared) (me : ℕ) (is : is_scheduler e me ≡ true)
@@ -165,7 +164,7 @@ module _ (s : Scheduler) (valid : IsValidConfig s.config)
   is = number-scheduler e me number
 
   off : migration e ≡ false
-  off = off-built s.config s.trace.now s.built
+  off = s.off
 
   -- in its walk
   abbrev walker : Instance → List Node → Actor

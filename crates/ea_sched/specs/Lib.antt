@@ -1,5 +1,4 @@
 pub mod Resting
-pub mod Built
 pub mod Passing
 pub mod Acting
 pub mod Steps

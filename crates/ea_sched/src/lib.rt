@@ -2,7 +2,7 @@
 #![tactic(auto)]
 
 mod brought;
-mod built;
+mod migration;
 mod operations;
 mod outcome;
 mod passed;
@@ -16,7 +16,7 @@ mod step;
 mod units;
 mod walks;
 
-pub use built::is_built;
+pub use migration::migrates;
 pub use outcome::outcome_of;
 pub use passed::Passed;
 pub use run::run_given;

@@ -1,12 +1,12 @@
 //! The outcome of a run in which nobody steps any more.
-ghost use Rattle.std.specs.Prelude.{◌≡◌, ◌*◌, ◌^◌, ◌<◌, ◌≤◌, true, IfOk, flat_map, length, map};
-ghost use Rattle.std.specs.Prelude.{sum_by};
+ghost use Rattle.std.specs.Prelude.{◌≡◌, ◌*◌, ◌^◌, ◌<◌, ◌≤◌, false, IfOk};
+ghost use Rattle.std.specs.Prelude.{flat_map, length, map, sum_by};
 ghost use Rattle.ea_model.specs.declared.units.TheConstants.{MAX_SCHEDULERS, MAX_UNITS, NUMBERS};
 ghost use Rattle.ea_model.specs.Content.{free_units, gaps_of};
 ghost use Rattle.ea_model.specs.Instance.{carrier_line, employed};
 ghost use Rattle.ea_model.specs.Settings.{IsValidConfig};
 ghost use Rattle.ea_model.specs.Trace.{IsValidTrace};
-ghost use Rattle.ea_sched.specs.Built.{is_built_run};
+ghost use Rattle.ea_machine.specs.Setup.{migration, setup_of};
 ghost use Rattle.ea_sched.specs.Resting.{AreGiven, AreLive, HaveParts, IsOutcome, Stand};
 ghost use Rattle.ea_sched.specs.Resting.{count_employed, sum_employed, totals_by};
 
@@ -130,7 +130,7 @@ pub fn outcome_of<H: Rested<Content = Mbc>>(
 ) -> Result<Outcome, OutOfMemory>
     requires config { IsValidConfig config }
     requires trace { IsValidTrace config.schedulers trace.now }
-    requires built { is_built_run config trace.now ≡ true }
+    requires off { migration (setup_of config trace.now) ≡ false }
     requires greatest { trace.now.greatest ≡ H.greatest shared.now }
     requires stand { Stand config trace.now schedulers.items (H.named shared.now) }
     ensures { IfOk result (IsOutcome config trace.now schedulers.entry.items

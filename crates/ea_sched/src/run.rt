@@ -1,6 +1,7 @@
 //! The run of a trace that has a schedule.
-ghost use Rattle.std.specs.Prelude.{◌≡◌, ◌≢◌, ◌+◌, ◌<◌, true, [], ◌∷◌, IfOk, OnOk, All, flat_map, length, replicate};
-ghost use Rattle.ea_model.specs.declared.trace.Mode.TheVariants.{Threads};
+ghost use Rattle.std.specs.Prelude.{◌≡◌, ◌+◌, ◌<◌, false, [], ◌∷◌, IfOk, OnOk, All};
+ghost use Rattle.std.specs.Prelude.{flat_map, length, replicate};
+ghost use Rattle.ea_model.specs.declared.trace.Mode.TheVariants.{Schedule};
 ghost use Rattle.ea_model.specs.Outcome.{plain_outcome};
 ghost use Rattle.ea_model.specs.Settings.{IsValidConfig};
 ghost use Rattle.ea_model.specs.Trace.{IsScheduler, IsValidTrace};
@@ -9,8 +10,7 @@ ghost use Rattle.ea_machine.specs.Completion.{completing, finishing};
 ghost use Rattle.ea_machine.specs.Machine.{start};
 ghost use Rattle.ea_sound.specs.MachineLaws.{Protocol};
 ghost use Rattle.ea_machine.specs.Outcome as machine;
-ghost use Rattle.ea_machine.specs.Setup.{setup_of};
-ghost use Rattle.ea_sched.specs.Built.{is_built_run};
+ghost use Rattle.ea_machine.specs.Setup.{migration, setup_of};
 ghost use Rattle.ea_sched.specs.Running.{AllStand, AllStandAt, AllTook, IsAtEnd, Stands, Took};
 
 use crate::outcome::outcome_of;
@@ -45,7 +45,8 @@ fn schedulers_of<'t>(
 ) -> Result<Vec<Scheduler<'t>>, OutOfMemory>
     requires config { IsValidConfig config }
     requires trace { IsValidTrace config.schedulers trace.now }
-    requires built { is_built_run config trace.now ≡ true }
+    requires texts { length trace.now.texts.items ≡ config.schedulers }
+    requires off { migration (setup_of config trace.now) ≡ false }
     ensures { IfOk result (λ schedulers. AllStandAt config trace.now schedulers.items
         (start (setup_of config trace.now))) }
 {
@@ -145,7 +146,8 @@ fn complete(
 fn run_to_end<'t>(alloc: Global, config: Config, trace: &'t Trace) -> Result<Run<'t>, OutOfMemory>
     requires config { IsValidConfig config }
     requires trace { IsValidTrace config.schedulers trace.now }
-    requires built { is_built_run config trace.now ≡ true }
+    requires texts { length trace.now.texts.items ≡ config.schedulers }
+    requires off { migration (setup_of config trace.now) ≡ false }
     ensures { IfOk result (IsAtEnd config trace.now) }
 {
     let mut shared = MemShared::new(alloc, config, trace)?;
@@ -162,8 +164,8 @@ fn run_to_end<'t>(alloc: Global, config: Config, trace: &'t Trace) -> Result<Run
 pub fn run_given(alloc: Global, config: Config, trace: &Trace) -> Result<Outcome, OutOfMemory>
     requires config { IsValidConfig config }
     requires trace { IsValidTrace config.schedulers trace.now }
-    requires built { is_built_run config trace.now ≡ true }
-    requires schedule { trace.now.mode ≢ Threads }
+    requires schedule { (turns : _) × (trace.now.mode ≡ Schedule turns) }
+    requires off { migration (setup_of config trace.now) ≡ false }
     ensures outcome { IfOk result (λ outcome.
         plain_outcome outcome ≡ machine.outcome_of config trace.now) }
     ensures protocol { Protocol (setup_of config trace.now) }

@@ -1,9 +1,9 @@
 //! A scheduler before its first step, and what it tells.
-ghost use Rattle.std.specs.Prelude.{◌≡◌, ◌≤◌, true, false, IfOk};
+ghost use Rattle.std.specs.Prelude.{◌≡◌, ◌≤◌, false, IfOk, length};
 ghost use Rattle.ea_model.specs.Settings.{IsValidConfig};
 ghost use Rattle.ea_model.specs.Trace.{IsValidTrace};
 ghost use Rattle.ea_machine.specs.Machine.{first_actor};
-ghost use Rattle.ea_sched.specs.Built.{is_built_run};
+ghost use Rattle.ea_machine.specs.Setup.{migration, setup_of};
 ghost use Rattle.ea_sched.specs.Acting.{actor_of, is_ended, setup_for};
 
 use crate::brought::names_for;
@@ -26,7 +26,8 @@ impl<'t> Scheduler<'t> {
     ) -> Result<Scheduler<'t>, OutOfMemory>
         requires config { IsValidConfig config }
         requires trace { IsValidTrace config.schedulers trace.now }
-        requires built { is_built_run config trace.now ≡ true }
+        requires texts { length trace.now.texts.items ≡ config.schedulers }
+        requires off { migration (setup_of config trace.now) ≡ false }
         requires from { 1 ≤ number }
         requires to { number ≤ config.schedulers }
         ensures actor { IfOk result (λ s. actor_of s ≡ first_actor (setup_for s) number) }

@@ -1,9 +1,8 @@
 //! What a scheduler keeps.
-ghost use Rattle.std.specs.Prelude.{◌≡◌, ◌+◌, ◌≤◌, true, length};
+ghost use Rattle.std.specs.Prelude.{◌≡◌, ◌+◌, ◌≤◌, false, length};
 ghost use Rattle.ea_model.specs.Trace.{texts_of};
-ghost use Rattle.ea_machine.specs.Setup.{text_for};
+ghost use Rattle.ea_machine.specs.Setup.{migration, setup_of, text_for};
 ghost use Rattle.ea_sched.specs.Brought.{HavePlaces};
-ghost use Rattle.ea_sched.specs.Built.{is_built_run};
 
 use crate::passed::Passed;
 use ea_instance::Instance;
@@ -34,7 +33,7 @@ pub struct Scheduler<'t> {
     pub(crate) sbcs: Stats,
     pub(crate) log: List<Entry>,
     pub(crate) failed: bool,
-    ghost built: { is_built_run config trace.now ≡ true },
+    ghost off: { migration (setup_of config trace.now) ≡ false },
     ghost number_from: { 1 ≤ number },
     ghost number_to: { number ≤ config.schedulers },
     ghost text_is: { text.now ≡ text_for (texts_of trace.now) number },

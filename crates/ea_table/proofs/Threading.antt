@@ -1,25 +1,28 @@
 -- Schedulers that run beside each other.
-use Rattle.std.proofs.Common.{◌≡◌, inl, inr, ℕ, ◌+◌, ◌-◌, ◌<◌, Bool, true, false}
+use Rattle.std.proofs.Common.{◌≡◌, inl, inr, ℕ, ◌+◌, ◌-◌, ◌<◌, false}
 use Rattle.std.proofs.Common.{IsFalse, List, [], ◌∷◌, ◌++◌, length, map, get_or}
 use Rattle.std.proofs.Common.{Some, None, refl, sym, ap, ◌∙◌, subst, arith}
 use Rattle.std.proofs.Math.ListN.{get_or-map}
-use Rattle.std.proofs.lemmas.List.{get_or_append_left, get_or-append_right}
+use Rattle.std.proofs.lemmas.List.{get_or_append_left, get_or-append_right, length-map}
 use Rattle.std.proofs.lemmas.List.FromFn.{get_or-map-range_with_len}
-use Rattle.std.proofs.lemmas.Bool.{cases_lt, eqb-true}
-use Rattle.std.specs.Prelude.{◌&&◌, nat_lt}
+use Rattle.std.proofs.lemmas.Bool.{cases_lt}
+use Rattle.std.specs.Prelude.{◌≢◌}
 use Rattle.std.specs.List.{range_with_len}
 use Rattle.ea_model.specs.declared.outcome.Outcome.{Outcome}
 use Rattle.atomic_table.specs.Seated.{TableId}
 use Rattle.ea_model.specs.declared.settings.Config.{Config}
+use Rattle.ea_model.specs.declared.operations.Op.{Op}
+use Rattle.ea_model.specs.declared.trace.Mode.{Mode}
+use Rattle.ea_model.specs.declared.trace.Mode.TheVariants.{Threads, Schedule, Generated}
 use Rattle.ea_model.specs.declared.trace.Trace.{Trace}
-use Rattle.ea_model.specs.Settings.{IsValidConfig, settings_of}
-use Rattle.ea_model.specs.Trace.{IsValidTrace}
+use Rattle.ea_model.specs.Lists.{Items}
+use Rattle.ea_model.specs.Settings.{IsValidConfig}
+use Rattle.ea_model.specs.Trace.{HasTexts, IsValidTrace, texts_of}
 use Rattle.ea_machine.specs.declared.stages.Stage.TheVariants.{Ended}
 use Rattle.ea_machine.specs.Actor.{Actor}
 use Rattle.ea_machine.specs.Machine.{first_actor, run, start}
-use Rattle.ea_machine.specs.Setup.{migration, setup_of}
+use Rattle.ea_machine.specs.Setup.{setup_of}
 use Rattle.ea_sched.specs.Acting.{actor_of, setup_for}
-use Rattle.ea_sched.specs.Built.{is_built_config, is_built_mode, is_built_run}
 use Rattle.ea_sched.specs.declared.state.Scheduler.{Scheduler}
 use Rattle.ea_table.specs.declared.pass.Pass.{Pass}
 use Rattle.ea_sched.specs.Steps.{IsReady, Ready}
@@ -31,14 +34,17 @@ use Rattle.ea_table.specs.Ruling.{acting, actor_in, caller_in}
 use Rattle.ea_table.specs.Threads.{HasEnded, IsDealt, IsFirst, IsFresh, IsOfRun}
 use Rattle.ea_table.proofs.Rows.{moved}
 
--- the carriers of a run that is built don't migrate
-pub off-built : (c : Config) (t : Trace) → is_built_run c t ≡ true
-    → migration (setup_of c t) ≡ false
-off-built c t built = ap (λ n. nat_lt 0 n) (eqb-true (settings_of c t.letter).acul 0
-    (first (is_built_config c t.letter) (is_built_mode t.mode) built)) where
-      first : (a b : Bool) → (a && b) ≡ true → a ≡ true
-      first true b e = refl
-      first false b e = absurd cc
+-- each scheduler has a text where the operations of the trace are given
+pub texts-many : (n : ℕ) (t : Trace) → ((seed count : ℕ) → t.mode ≢ Generated seed count)
+    → IsValidTrace n t → length t.texts.items ≡ n
+texts-many n t given valid =
+    sym (length-map t.texts.items (λ (x : Items Op). x.items)) ∙ by t.mode given valid.texts
+  where
+    by : (m : Mode) → ((seed count : ℕ) → m ≢ Generated seed count) → HasTexts n m (texts_of t)
+        → length (texts_of t) ≡ n
+    by Threads given has = has
+    by (Schedule turns) given has = has
+    by (Generated seed count) given has = absurd (given seed count refl)
 
 module _ (c : Config) (t : Trace) (id : TableId) (i : ℕ) where
   pub first-ready : IsValidConfig c → IsValidTrace c.schedulers t → (w : Worker)

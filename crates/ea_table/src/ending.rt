@@ -1,10 +1,10 @@
 //! The end of a run: the seats are taken in, and the table is read.
-ghost use Rattle.std.specs.Prelude.{◌≡◌, ℕ, ◌+◌, ◌<◌, true, ◌++◌, All};
+ghost use Rattle.std.specs.Prelude.{◌≡◌, ℕ, ◌+◌, ◌<◌, false, ◌++◌, All};
 ghost use Rattle.std.specs.Prelude.{IfOk, length, map, slice_index_or};
 ghost use Rattle.std.specs.Mem.Slots.{IsFull, slots_items, slots_len};
 ghost use Rattle.ea_model.specs.Settings.{IsValidConfig};
 ghost use Rattle.ea_model.specs.Trace.{IsValidTrace};
-ghost use Rattle.ea_sched.specs.Built.{is_built_run};
+ghost use Rattle.ea_machine.specs.Setup.{migration, setup_of};
 ghost use Rattle.ea_sched.specs.Resting.{IsOutcome, Stand};
 ghost use Rattle.ea_table.specs.Ending.{AreGiven, Closes, IsEnd, IsLast};
 ghost use Rattle.ea_table.specs.Words.{words_in};
@@ -142,7 +142,7 @@ fn outcome_with(
 ) -> Result<Outcome, OutOfMemory>
     requires config { IsValidConfig config }
     requires trace { IsValidTrace config.schedulers trace.now }
-    requires built { is_built_run config trace.now ≡ true }
+    requires off { migration (setup_of config trace.now) ≡ false }
     requires greatest { given.greatest ≡ trace.now.greatest }
     requires stand { Stand config trace.now schedulers.items given.held }
     ensures { IfOk result (IsOutcome config trace.now schedulers.entry.items given.held) }
@@ -162,7 +162,7 @@ pub fn gather<'t>(
 ) -> Result<Outcome, OutOfMemory>
     requires config { IsValidConfig config }
     requires trace { IsValidTrace config.schedulers trace.now }
-    requires built { is_built_run config trace.now ≡ true }
+    requires off { migration (setup_of config trace.now) ≡ false }
     requires key_config { board.table.shared.key.config ≡ config }
     requires key_trace { board.table.shared.key.trace.now ≡ trace.now }
     requires all { length finished.items ≡ config.schedulers }

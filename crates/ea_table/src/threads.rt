@@ -1,11 +1,11 @@
 //! A run in which the schedulers step beside each other.
-ghost use Rattle.std.specs.Prelude.{◌≡◌, ℕ, ◌+◌, ◌<◌, true, false, All};
+ghost use Rattle.std.specs.Prelude.{◌≡◌, ◌≢◌, ℕ, ◌+◌, ◌<◌, false, All};
 ghost use Rattle.std.specs.Prelude.{IfOk, IsFalse, length, slice_index_or};
+ghost use Rattle.ea_model.specs.declared.trace.Mode.TheVariants.{Generated};
 ghost use Rattle.ea_model.specs.Settings.{IsValidConfig};
 ghost use Rattle.ea_model.specs.Trace.{IsValidTrace};
 ghost use Rattle.ea_sound.specs.MachineLaws.{Protocol};
-ghost use Rattle.ea_machine.specs.Setup.{setup_of};
-ghost use Rattle.ea_sched.specs.Built.{is_built_run};
+ghost use Rattle.ea_machine.specs.Setup.{migration, setup_of};
 ghost use Rattle.ea_table.specs.Threads.{HasEnded, IsDealt, IsFresh, IsOfRun};
 
 use crate::board::Board;
@@ -28,7 +28,8 @@ fn workers_of<'t>(
 ) -> Result<Vec<Worker<'t>>, OutOfMemory>
     requires config { IsValidConfig config }
     requires trace { IsValidTrace config.schedulers trace.now }
-    requires built { is_built_run config trace.now ≡ true }
+    requires texts { length trace.now.texts.items ≡ config.schedulers }
+    requires off { migration (setup_of config trace.now) ≡ false }
     requires all { length passes.items ≡ config.schedulers }
     ensures all { IfOk result (λ ws. length ws.items ≡ config.schedulers) }
     ensures each { IfOk result (λ ws. (id : _)
@@ -125,7 +126,8 @@ pub fn run_threads<R: Threads + Sync, G: Gate + Sync>(
 ) -> Result<Outcome, OutOfMemory>
     requires config { IsValidConfig config }
     requires trace { IsValidTrace config.schedulers trace.now }
-    requires built { is_built_run config trace.now ≡ true }
+    requires given { (seed count : ℕ) → trace.now.mode ≢ Generated seed count }
+    requires off { migration (setup_of config trace.now) ≡ false }
     ensures outcome { IfOk result (IsOfRun config trace.now) }
     ensures protocol { Protocol (setup_of config trace.now) }
 {

@@ -21,9 +21,9 @@ use Rattle.ea_machine.specs.Machine.{run}
 use Rattle.ea_machine.specs.Outcome.{outcome}
 use Rattle.ea_machine.specs.Setup.{Setup, setup_of, text_for}
 use Rattle.ea_report.specs.Text.{outcome_text}
-use Rattle.ea_sched.specs.Built.{is_built_mode, is_built_run}
 use Rattle.ea_trace.specs.Language.{trace}
 use Rattle.ea_top.specs.Answers.{GivesText, HasOutput, spelled}
+use Rattle.ea_top.specs.Built.{is_built_mode, is_built_run}
 use Rattle.ea_top.specs.Output.{IsOutputUnder, IsRunOutcome, IsRunText, outcome_after, read_under}
 
 same_mode : (m : Mode) → is_built_mode (plain_mode m) ≡ is_built_mode m

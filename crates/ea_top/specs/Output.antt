@@ -11,8 +11,8 @@ use Rattle.ea_machine.specs.Machine.{run}
 use Rattle.ea_machine.specs.Outcome.{outcome}
 use Rattle.ea_machine.specs.Setup.{setup_of}
 use Rattle.ea_report.specs.Text.{outcome_text}
-use Rattle.ea_sched.specs.Built.{is_built_run}
 use Rattle.ea_trace.specs.Language.{trace}
+use Rattle.ea_top.specs.Built.{is_built_run}
 
 module _ (c : Config) (t : Trace) where
   -- the logs, carriers and totals once these turns are taken

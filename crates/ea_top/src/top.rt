@@ -10,8 +10,8 @@ ghost use Rattle.ea_model.specs.declared.units.TheConstants.{MAX_INPUT};
 ghost use Rattle.ea_model.specs.Outcome.{plain_outcome};
 ghost use Rattle.ea_model.specs.Settings.{IsValidConfig};
 ghost use Rattle.ea_model.specs.Trace.{IsValidTrace};
-ghost use Rattle.ea_sched.specs.Built.{is_built_run};
 ghost use Rattle.ea_trace.specs.Language as language;
+ghost use Rattle.ea_top.specs.Built.{is_built_run};
 ghost use Rattle.ea_top.specs.Output.{IsOutputUnder, IsRunOutcome};
 ghost use Rattle.ea_top.specs.Answers.{GoodWords, GoodInput, IsBuiltFor, WroteText, WroteFront};
 ghost use Rattle.ea_sound.specs.MachineLaws.{Protocol};
@@ -25,7 +25,7 @@ use ea_flags::read_flags;
 use ea_io::{ReadAllFault, Sink, Source, read_all, write_all};
 use ea_model::{Config, List, MAX_INPUT, Mode, OutOfMemory, Outcome, Trace};
 use ea_report::print;
-use ea_sched::{is_built, run_given};
+use ea_sched::{migrates, run_given};
 use ea_table::{OpenGate, run_threads};
 use ea_trace::read_trace;
 use std::alloc::Global;
@@ -207,6 +207,13 @@ fn text_of<R: Threads + Sync>(
     Ok(print(alloc, &outcome)?)
 }
 
+/// Whether the run of a trace is built: its operations are given, and its carriers don't migrate.
+fn is_built(config: Config, trace: &Trace) -> bool
+    ensures { result ≡ is_built_run config trace.now }
+{
+    !migrates(config, trace) && !matches!(trace.mode, Mode::Generated { .. })
+}
+
 /// Runs a trace whose run is built, as its mode says: each scheduler on a thread of its own, or all
 /// by the schedule.
 fn run_trace<R: Threads + Sync>(
@@ -222,6 +229,7 @@ fn run_trace<R: Threads + Sync>(
 {
     match trace.mode {
         Mode::Threads => run_threads(rt, alloc, config, trace, &OpenGate),
-        Mode::Schedule { .. } | Mode::Generated { .. } => run_given(alloc, config, trace),
+        Mode::Schedule { .. } => run_given(alloc, config, trace),
+        Mode::Generated { .. } => unreachable!(),
     }
 }

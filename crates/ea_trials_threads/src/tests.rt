@@ -1,8 +1,9 @@
 //! That schedulers run beside each other.
 use crate::meeting::Meeting;
 use ea_flags::read_flags;
+use ea_model::Mode;
 use ea_report::print;
-use ea_sched::is_built;
+use ea_sched::migrates;
 use ea_table::run_threads;
 use ea_trace::read_trace;
 use std::process::Abort;
@@ -30,7 +31,8 @@ fn each_scheduler_is_at_its_second_step_while_the_other_is(rt: HostRuntime) -> R
     assert!(rt; words.len() < 1 << 32);
     let config = read_flags(&words)?;
     let trace = read_trace(alloc, INPUT.as_bytes(), config.schedulers)?;
-    assert!(rt; is_built(config, &trace));
+    assert!(rt; matches!(trace.mode, Mode::Threads));
+    assert!(rt; !migrates(config, &trace));
 
     let meeting = Meeting::new();
     let outcome = run_threads(&rt, alloc, config, &trace, &meeting)?;

@@ -12,14 +12,14 @@ totals_of-requires-clause-few g c =
       arith,
       ap length c.as_slice-2.ensures,
       few-schedulers c.args.config c.args.trace.now c.requires.config c.requires.trace
-          c.requires.built c.args.schedulers.items (g.H.Rested.named c.args.shared.now) w
+          c.requires.off c.args.schedulers.items (g.H.Rested.named c.args.shared.now) w
           stand,
     )
 
 pub totals_of-requires-clause-given : goal.totals_of-requires-clause-given
 totals_of-requires-clause-given g c =
     let (w, stand) = c.requires.stand in
-    are-given c.args.config c.args.trace.now c.requires.config c.requires.trace c.requires.built
+    are-given c.args.config c.args.trace.now c.requires.config c.requires.trace c.requires.off
     c.args.schedulers.items (g.H.Rested.named c.args.shared.now) w stand
 
 pub totals_of-requires-clause-live : goal.totals_of-requires-clause-live
@@ -27,7 +27,7 @@ totals_of-requires-clause-live g c =
     let (w, stand) = c.requires.stand in
     let shared = g.H.Rested.named c.args.shared.now in
     subst (λ ss. AreLive ss shared) (sym c.as_slice-2.ensures)
-    (are-live c.args.config c.args.trace.now c.requires.config c.requires.trace c.requires.built
+    (are-live c.args.config c.args.trace.now c.requires.config c.requires.trace c.requires.off
     c.args.schedulers.items shared w stand)
 
 pub totals_of-requires-clause-parts : goal.totals_of-requires-clause-parts
@@ -35,13 +35,13 @@ totals_of-requires-clause-parts g c =
     let (w, stand) = c.requires.stand in
     let shared = g.H.Rested.named c.args.shared.now in
     subst (λ ss. HaveParts (totals_by ss shared)) (sym c.as_slice-2.ensures)
-    (have-parts c.args.config c.args.trace.now c.requires.config c.requires.trace c.requires.built
+    (have-parts c.args.config c.args.trace.now c.requires.config c.requires.trace c.requires.off
     c.args.schedulers.items shared w stand)
 
 pub returns : goal.returns
 returns g c = λ w stand.
     let shared = g.H.Rested.named c.args.shared.now in
-    outcome-is c.args.config c.args.trace.now c.requires.config c.requires.trace c.requires.built
+    outcome-is c.args.config c.args.trace.now c.requires.config c.requires.trace c.requires.off
     c.args.schedulers.items shared w stand
     (record {
       logs = c.in_ok-logs_of.field-0;

@@ -7,7 +7,12 @@ use Rattle.ea_machine.specs.Setup.{setup_of}
 use Rattle.ea_sound.proofs.Protocols.{always-protocol}
 use Rattle.ea_sched.specs.Resting.{IsOutcome, StandIn}
 use Rattle.ea_sched.proofs.Ends.{stand-in}
+use Rattle.ea_sched.proofs.Texts.{texts-many}
 use Rattle.ea_sched.proofs.run.run_given.Goals as goal
+
+pub run_to_end-requires-clause-texts : goal.run_to_end-requires-clause-texts
+run_to_end-requires-clause-texts c =
+    texts-many c.args.config.schedulers c.args.trace.now c.requires.schedule c.requires.trace
 
 pub outcome_of-requires-clause-greatest : goal.outcome_of-requires-clause-greatest
 outcome_of-requires-clause-greatest c = sym c.in_ok-schedulers.ensures.shared.names

@@ -7,7 +7,6 @@ use Rattle.ea_machine.specs.Machine.{start}
 use Rattle.ea_machine.specs.Setup.{setup_of}
 use Rattle.ea_sched.specs.Running.{AllStand, AllStandAt, AllTook}
 use Rattle.ea_sched.proofs.Ends.{all-took-stand, end-stands, start-shares, turns-theirs, turns_from, written}
-use Rattle.ea_sched.proofs.Texts.{off-built}
 use Rattle.ea_sched.proofs.run.run_to_end.Goals as goal
 
 pub take_schedule-requires-clause-stand : goal.take_schedule-requires-clause-stand
@@ -20,7 +19,7 @@ take_schedule-requires-clause-stand c =
       t,
       w,
       start-shares d t c.in_ok-shared.shared c.requires.config c.requires.trace
-          (off-built d t c.requires.built) new.schedulers new.greatest new.nothing,
+          c.requires.off new.schedulers new.greatest new.nothing,
       subst (λ xs. AllStandAt d t xs w) (sym c.deref_mut.ensures.value)
           c.in_ok-schedulers.ensures,
     )
@@ -42,7 +41,7 @@ complete-requires c =
     let us = c.take_schedule.new.schedulers in
     let w = start (setup_of d t) in
     let shares = start-shares d t c.in_ok-shared.shared c.requires.config c.requires.trace
-    (off-built d t c.requires.built) new.schedulers new.greatest new.nothing in
+    c.requires.off new.schedulers new.greatest new.nothing in
     let stand = subst (λ xs. AllStandAt d t xs w) (sym c.deref_mut.ensures.value)
     c.in_ok-schedulers.ensures in
     let many : length us ≡ c.in_ok-schedulers.schedulers.len = c.take_schedule.auto.schedulers
@@ -63,7 +62,7 @@ returns c =
     let p = c.complete.new.shared in
     let e = setup_of d t in
     let shares = start-shares d t c.in_ok-shared.shared c.requires.config c.requires.trace
-    (off-built d t c.requires.built) new.schedulers new.greatest new.nothing in
+    c.requires.off new.schedulers new.greatest new.nothing in
     let stand = subst (λ xs. AllStandAt d t xs (start e)) (sym c.deref_mut.ensures.value)
     c.in_ok-schedulers.ensures in
     let many : length us ≡ c.in_ok-schedulers.schedulers.len = c.take_schedule.auto.schedulers

@@ -6,12 +6,12 @@ use Rattle.ea_sound.proofs.Protocols.{always-protocol}
 use Rattle.ea_table.specs.Ending.{IsEnd, IsLast}
 use Rattle.ea_table.specs.Threads.{HasEnded, IsFresh, IsOfRun}
 use Rattle.ea_table.specs.declared.worker.Finished.{Finished}
-use Rattle.ea_table.proofs.Threading.{of-run, off-built, there}
+use Rattle.ea_table.proofs.Threading.{of-run, texts-many, there}
 use Rattle.ea_table.proofs.threads.run_threads.Goals as goal
 
-pub make_seats-requires-clause-off : goal.make_seats-requires-clause-off
-make_seats-requires-clause-off g c =
-    off-built c.args.config c.args.trace.now c.requires.built
+pub workers_of-requires-clause-texts : goal.workers_of-requires-clause-texts
+workers_of-requires-clause-texts g c =
+    texts-many c.args.config.schedulers c.args.trace.now c.requires.given c.requires.trace
 
 pub run_workers-requires-clause-each : goal.run_workers-requires-clause-each
 run_workers-requires-clause-each g c κs within =

@@ -2,7 +2,7 @@ use Rattle.std.proofs.Common.{◌≡◌, true, refl, sym, subst, ap, ◌∙◌}
 use Rattle.std.specs.Prelude.{Ok, IsOk}
 use Rattle.std.specs.Result.{result_ok}
 use Rattle.ea_model.specs.Trace.{plain}
-use Rattle.ea_sched.specs.Built.{is_built_run}
+use Rattle.ea_top.specs.Built.{is_built_run}
 use Rattle.ea_top.specs.Output.{IsOutputUnder, IsRunText, is_built_under}
 use Rattle.ea_top.proofs.Texts.{run-text, same_built}
 use Rattle.ea_top.proofs.top.text_of.Goals as goal

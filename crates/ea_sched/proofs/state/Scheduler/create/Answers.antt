@@ -6,7 +6,6 @@ use Rattle.ea_machine.specs.Placements.{placed_at}
 use Rattle.ea_sched.specs.Acting.{ready_of, setup_for}
 use Rattle.ea_sched.proofs.Acts.{chosen-place, made-as, stood-placed}
 use Rattle.ea_sound.proofs.Paths.{multi}
-use Rattle.ea_sched.proofs.Texts.{off-built}
 use Rattle.ea_sched.proofs.OwnCarriers.{asked-again, created-own, placed-block, placing-own}
 use Rattle.ea_sched.proofs.state.Scheduler.create.Goals as goal
 
@@ -23,7 +22,7 @@ returns-clause-actor c =
     c.try_alloc.new.self spot c.in-Some.place is new
     ∙ ap (λ i. placed_at (setup_for s) s.number ask (record (ready_of s) { instance = i }) spot)
     c.in_ok-create.ensures.ok
-    ∙ sym (multi (setup_for s) s.number (ready_of s) ask (off-built s.config s.trace.now s.built)
+    ∙ sym (multi (setup_for s) s.number (ready_of s) ask s.off
     c.args.plan c.requires.plan spot c.if-plan.false
     (ap (λ i. chosen_spot i ask.need) (sym c.in_ok-create.ensures.ok) ∙ chosen)))
 

@@ -4,7 +4,6 @@ use Rattle.ea_sched.specs.Acting.{actor_of, setup_for}
 use Rattle.ea_sched.specs.Asking.{SuitsNext}
 use Rattle.ea_sound.specs.Walking.{Worked, worked}
 use Rattle.ea_sched.proofs.Acts.{made-as}
-use Rattle.ea_sched.proofs.Texts.{off-built}
 use Rattle.ea_sound.proofs.Walked.{walked-none, walked-some}
 use Rattle.ea_sched.proofs.state.Scheduler.end_walk.Goals as goal
 
@@ -26,7 +25,7 @@ returns-in-None-clause-actor c =
     let left = c.work_off.new.passed.nodes in
     made-as c.go_on.result _ c.go_on.ensures.actor
     (ap (onward (setup_for s) s.number)
-    (walked-none (setup_for s) s.number (off-built s.config s.trace.now s.built) (actor_of s)
+    (walked-none (setup_for s) s.number s.off (actor_of s)
     s.passed.nodes c.requires.passed i left
     (ap (λ hand. record { instance = i; left = left; hand = hand }) (sym c.in-None.is)
     ∙ c.in_ok-work_off.ensures)))
@@ -38,7 +37,7 @@ returns-in-Some-clause-actor c =
     let left = c.work_off.new.passed.nodes in
     c.send.ensures.actor
     ∙ ap (onward (setup_for s) s.number)
-    (walked-some (setup_for s) s.number (off-built s.config s.trace.now s.built) (actor_of s)
+    (walked-some (setup_for s) s.number s.off (actor_of s)
     s.passed.nodes c.requires.passed i left c.in-Some.hand
     (ap (λ hand. record { instance = i; left = left; hand = hand }) (sym c.in-Some.is)
     ∙ c.in_ok-work_off.ensures))

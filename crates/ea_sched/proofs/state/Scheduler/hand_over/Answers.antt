@@ -10,7 +10,6 @@ use Rattle.ea_sound.specs.Releasing.{freed_at}
 use Rattle.ea_sound.specs.Walking.{left_if, sent}
 use Rattle.ea_sched.proofs.Acts.{handed}
 use Rattle.ea_sound.proofs.Freed.{released-away, released-here, task-open}
-use Rattle.ea_sched.proofs.Texts.{off-built}
 use Rattle.ea_sched.proofs.state.Scheduler.hand_over.Goals as goal
 
 pub returns-then-branch-clause-actor : goal.returns-then-branch-clause-actor
@@ -25,7 +24,7 @@ returns-then-branch-clause-actor c =
     (freed_at s.instance hand.spot) c.let_go.new.self.held (without_name hand.name s.names.held)
     (c.in_ok-release.ensures.ok ∙ ap (λ own. left_if own s.instance hand.spot) own)
     c.let_go.ensures.held
-    ∙ sym (released-here (setup_for s) s.number (off-built s.config s.trace.now s.built) (For task)
+    ∙ sym (released-here (setup_for s) s.number s.off (For task)
     (task_over task) (task-open task) (let_go hand.name (ready_of s)) hand own
     (c.in_ok-release.ensures.emptied (eqb-true (owner_of hand.spot.carrier) s.number own)))
 
@@ -41,5 +40,5 @@ returns-else-branch-clause-actor c =
     s.instance c.let_go.new.self.held (without_name hand.name s.names.held)
     (c.in_ok-release.ensures.ok ∙ ap (λ own. left_if own s.instance hand.spot) other)
     c.let_go.ensures.held
-    ∙ sym (released-away (setup_for s) s.number (off-built s.config s.trace.now s.built) (For task)
+    ∙ sym (released-away (setup_for s) s.number s.off (For task)
     (task_over task) (task-open task) (let_go hand.name (ready_of s)) hand other)

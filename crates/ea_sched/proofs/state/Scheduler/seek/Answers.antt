@@ -6,7 +6,6 @@ use Rattle.ea_machine.specs.Placements.{new_carrier}
 use Rattle.ea_sched.specs.Acting.{ready_of, setup_for}
 use Rattle.ea_sched.proofs.Acts.{chosen-place, made-as, stood-placed, unplaced}
 use Rattle.ea_sound.proofs.Paths.{seek-chosen, seek-new}
-use Rattle.ea_sched.proofs.Texts.{off-built}
 use Rattle.ea_sched.proofs.OwnCarriers.{asked-again, placed-block, placing-own}
 use Rattle.ea_sched.proofs.state.Scheduler.seek.Goals as goal
 
@@ -33,7 +32,7 @@ returns-in-None-clause-actor c =
     made-as c.seek_new-in-None.result _ c.seek_new-in-None.ensures.actor
     (ap (λ i. new_carrier (setup_for s) s.number ask 0 (record (ready_of s) { instance = i })) same
     ∙ sym (seek-new (setup_for s) s.number (ready_of s) ask
-    (off-built s.config s.trace.now s.built) (sym c.is_alone.ensures ∙ c.if-is_alone.false) none))
+    s.off (sym c.is_alone.ensures ∙ c.if-is_alone.false) none))
 
 pub stand-requires-clause-asked : goal.stand-requires-clause-asked
 stand-requires-clause-asked c =
