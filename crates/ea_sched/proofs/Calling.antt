@@ -1,5 +1,6 @@
 -- What the calls of a scheduler on what is shared ask for, and where their answers leave it.
-use Rattle.std.proofs.Common.{◌≡◌, ℕ, zero, suc, ◌*◌, ◌<◌, ◌≤◌, true, List, [], ◌∷◌, drop, length, refl, sym, ap, ◌∙◌, subst, arith}
+use Rattle.std.proofs.Common.{◌≡◌, ℕ, zero, suc, ◌*◌, ◌<◌, ◌≤◌, true, List, []}
+use Rattle.std.proofs.Common.{◌∷◌, drop, length, refl, sym, ap, ◌∙◌, subst, arith}
 use Rattle.std.specs.Prelude.{Option, None, Some, IfSome, IsSome}
 use Rattle.ea_model.specs.declared.carriers.Spot.{Spot}
 use Rattle.ea_model.specs.declared.operations.Op.{Op}
@@ -39,7 +40,8 @@ use Rattle.ea_sched.specs.Asking.{HasMore, IsFresh, SuitsNext}
 use Rattle.ea_sched.specs.Steps.{DidRow, IsReady}
 use Rattle.ea_sound.specs.Walking.{CanAllGo, worked}
 use Rattle.ea_sched.proofs.Doing.{Answered, answered-so}
-use Rattle.ea_sched.proofs.Suiting.{goes-linked, goes-passed, next-placed, suits-linked, suits-passed, suits-rests, suits-taken}
+use Rattle.ea_sched.proofs.Suiting.{goes-linked, goes-passed, next-placed, suits-linked}
+use Rattle.ea_sched.proofs.Suiting.{suits-passed, suits-rests, suits-taken}
 
 -- something is left where a first one is
 left-more : {A : Type 0} (k : ℕ) (xs ys : List A) (x : A) → drop k xs ≡ x ∷ ys → k < length xs
@@ -223,7 +225,8 @@ module _ (s : Scheduler) {shared : Option Shared} {caller : Option Caller}
         did
 
     -- the scheduler has gone on by the answer
-    pub row-done : {t : Scheduler} (row : Row) (got : Answer) (stage : Stage Content) → a.stage ≡ stage
+    pub row-done : {t : Scheduler} (row : Row) (got : Answer) (stage : Stage Content) → a.stage ≡
+        stage
         → wants_at a.next stage ≡ row → Did me row got shared new caller now
         → actor_of t ≡ onward e me (after_row e me a got stage)
         → DidRow s t shared new caller now

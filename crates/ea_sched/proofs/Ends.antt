@@ -1,9 +1,12 @@
 -- The run of all schedulers, from its start to its end.
-use Rattle.std.proofs.Common.{◌≡◌, ◌≢◌, ℕ, zero, suc, ◌+◌, ◌-◌, ◌<◌, ◌≤◌, List, [], ◌∷◌, ◌++◌, length, length-set, get_or, get_or-set_other, get_or-set_same, set, take, append-nil, inl, inr, refl, sym, ap, subst, ◌∙◌, arith}
+use Rattle.std.proofs.Common.{◌≡◌, ◌≢◌, ℕ, zero, suc, ◌+◌, ◌-◌, ◌<◌, ◌≤◌, List, [], ◌∷◌, ◌++◌}
+use Rattle.std.proofs.Common.{length, length-set, get_or, get_or-set_other, get_or-set_same}
+use Rattle.std.proofs.Common.{set, take, append-nil, inl, inr, refl, sym, ap, subst, ◌∙◌, arith}
 use Rattle.std.specs.Prelude.{All, false, flat_map, map, replicate}
 use Rattle.std.specs.List.{range_with_len}
 use Rattle.std.proofs.lemmas.Bool.{cases_eq, cases_lt}
-use Rattle.std.proofs.lemmas.List.{get_or_append_left, get_or-append_right, length_push, take-append-le, take_all, take_more}
+use Rattle.std.proofs.lemmas.List.{get_or_append_left, get_or-append_right}
+use Rattle.std.proofs.lemmas.List.{length_push, take-append-le, take_all, take_more}
 use Rattle.std.proofs.lemmas.Grind.{flat_map-append}
 use Rattle.ea_model.specs.declared.settings.Config.{Config}
 use Rattle.ea_model.specs.declared.trace.Trace.{Trace}
@@ -22,7 +25,8 @@ use Rattle.ea_shared.specs.Memory.{Sharing, nothing_shared, shared_of}
 use Rattle.ea_sched.specs.declared.state.Scheduler.{Scheduler}
 use Rattle.ea_sched.specs.Acting.{actor_of, setup_for}
 use Rattle.ea_sched.specs.Resting.{StandIn}
-use Rattle.ea_sched.specs.Running.{AllStand, AllStandAt, AllTook, CompletesTo, SharesAt, Stands, StandsAt, Took}
+use Rattle.ea_sched.specs.Running.{AllStand, AllStandAt, AllTook, CompletesTo}
+use Rattle.ea_sched.specs.Running.{SharesAt, Stands, StandsAt, Took}
 use Rattle.ea_sched.proofs.Running.{start-nothing}
 
 -- turns of one scheduler leave the others as they are

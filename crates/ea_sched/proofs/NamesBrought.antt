@@ -1,5 +1,6 @@
 -- Where places are made for the names that the operations of a text bring, one after another.
-use Rattle.std.proofs.Common.{◌≡◌, ℕ, ◌+◌, ◌<◌, Bool, true, List, Option, None, Some, length, slice_index_or, ap, ◌∙◌, refl, subst, inl, inr, arith}
+use Rattle.std.proofs.Common.{◌≡◌, ℕ, ◌+◌, ◌<◌, Bool, true, List, Option, None, Some}
+use Rattle.std.proofs.Common.{length, slice_index_or, ap, ◌∙◌, refl, subst, inl, inr, arith}
 use Rattle.std.specs.List.{AllWithin}
 use Rattle.std.proofs.lemmas.Bool.{cases_lt}
 use Rattle.std.proofs.lemmas.List.{get_or_default}

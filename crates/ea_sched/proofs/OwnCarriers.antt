@@ -6,7 +6,8 @@ use Rattle.ea_model.specs.declared.carriers.CarrierPlan.{CarrierPlan}
 use Rattle.ea_model.specs.declared.carriers.Place.{Place}
 use Rattle.ea_model.specs.declared.carriers.Spot.{Spot}
 use Rattle.ea_model.specs.Content.{Content, block_at}
-use Rattle.ea_model.specs.Instance.{Instance, block_in, content_of, employed, own_at, plan, planned_own, with_own}
+use Rattle.ea_model.specs.Instance.{Instance, block_in, content_of, employed}
+use Rattle.ea_model.specs.Instance.{own_at, plan, planned_own, with_own}
 use Rattle.ea_model.proofs.Rising.{item_at-old}
 use Rattle.ea_laws.specs.Kept.{own_number}
 use Rattle.ea_laws.specs.Spots.{IsPlaced}

@@ -1,6 +1,7 @@
 -- A scheduler can work off the nodes that its walk passed, where carriers don't migrate, and once
 -- its walk is over it may do its next operation.
-use Rattle.std.proofs.Common.{◌≡◌, ℕ, ◌≤◌, Bool, true, false, List, [], ◌∷◌, drop, refl, sym, ap, ◌∙◌, subst, arith}
+use Rattle.std.proofs.Common.{◌≡◌, ℕ, ◌≤◌, Bool, true, false, List, []}
+use Rattle.std.proofs.Common.{◌∷◌, drop, refl, sym, ap, ◌∙◌, subst, arith}
 use Rattle.std.specs.Prelude.{◌==◌, Option, None, Some, IfSome, option_map}
 use Rattle.std.proofs.lemmas.Bool.{eqb-true}
 use Rattle.std.proofs.lemmas.List.Elements.{All-drop, All-head}
@@ -36,7 +37,10 @@ use Rattle.ea_names.specs.Holding.{has_place}
 use Rattle.ea_sound.specs.Leaves.{InWalk}
 use Rattle.ea_sound.specs.Moments.{at}
 use Rattle.ea_sound.proofs.Asked.{first-operation}
-use Rattle.ea_sound.proofs.OffWalks.{link-walks, passed-carrier, passed-emptied, passed-here, passed-own, take_all-walks, take_link-passes, take_link-rests, walk-fresh_alloc, walk-fresh_realloc, walk-held, walk-here, walk-moves, walk-on, walk-own}
+use Rattle.ea_sound.proofs.OffWalks.{link-walks, passed-carrier, passed-emptied, passed-here}
+use Rattle.ea_sound.proofs.OffWalks.{passed-own, take_all-walks, take_link-passes}
+use Rattle.ea_sound.proofs.OffWalks.{take_link-rests, walk-fresh_alloc, walk-fresh_realloc}
+use Rattle.ea_sound.proofs.OffWalks.{walk-held, walk-here, walk-moves, walk-on, walk-own}
 use Rattle.ea_sound.proofs.SoundRanges.{number-scheduler}
 use Rattle.ea_sched.specs.declared.state.Scheduler.{Scheduler}
 use Rattle.ea_sched.specs.Acting.{actor_of, setup_for}

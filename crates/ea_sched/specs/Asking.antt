@@ -1,7 +1,9 @@
 -- What the local work of a scheduler asks for, of its instance and of the names that it holds.
-use Rattle.std.specs.Prelude.{◌≡◌, ◌≢◌, ℕ, ◌%◌, ◌<◌, ◌≤◌, true, List, ◌∷◌, None, IfSome, IsSome, drop, length}
+use Rattle.std.specs.Prelude.{◌≡◌, ◌≢◌, ℕ, ◌%◌, ◌<◌, ◌≤◌, true, List}
+use Rattle.std.specs.Prelude.{◌∷◌, None, IfSome, IsSome, drop, length}
 use Rattle.ea_model.specs.declared.operations.Op.{Op}
-use Rattle.ea_model.specs.declared.operations.Op.TheVariants.{Alloc, Free, Realloc, Give, Take, Info, Idle}
+use Rattle.ea_model.specs.declared.operations.Op.TheVariants.{Alloc, Free, Realloc}
+use Rattle.ea_model.specs.declared.operations.Op.TheVariants.{Give, Take, Info, Idle}
 use Rattle.ea_model.specs.declared.reallocation.Decision.TheVariants.{Move}
 use Rattle.ea_model.specs.declared.units.TheConstants.{MAX_BYTES}
 use Rattle.ea_model.specs.Instance.{Instance, block_in, decision_at, employed, own_at, owner_of}

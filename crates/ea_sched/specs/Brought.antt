@@ -1,7 +1,8 @@
 -- The names that operations bring to their scheduler.
 use Rattle.std.specs.Prelude.{◌≡◌, ℕ, Bool, true, List, Option, None, Some, All}
 use Rattle.ea_model.specs.declared.operations.Op.{Op}
-use Rattle.ea_model.specs.declared.operations.Op.TheVariants.{Alloc, Free, Realloc, Give, Take, Info, Idle}
+use Rattle.ea_model.specs.declared.operations.Op.TheVariants.{Alloc, Free, Realloc}
+use Rattle.ea_model.specs.declared.operations.Op.TheVariants.{Give, Take, Info, Idle}
 use Rattle.ea_names.specs.Holding.{has_place}
 
 -- the name that the operation brings to its scheduler, if it brings one

@@ -48,8 +48,8 @@ pub record Stepped (c : Config) (t : Trace) (me : ℕ) (a b : Actor) (shared aft
 abbrev pub IsReady : Scheduler → Option Shared → Option Caller → Type 0
 IsReady s shared caller = Ready s.config s.trace.now s.number (actor_of s) shared caller
 
--- the scheduler is to do its row on what is shared, which is of that many schedulers and of names up
--- to a greatest one
+-- the scheduler is to do its row on what is shared, which is of that many schedulers and of names
+-- up to a greatest one
 pub record StartsRow (s : Scheduler) (count last : ℕ) (shared : Option Shared)
     (caller : Option Caller) : Type 0 where
   pub schedulers : count ≡ s.config.schedulers

@@ -1,7 +1,8 @@
 //! The release of a block, and the end of an operation.
 ghost use Rattle.std.specs.Prelude.{◌≡◌, ◌+◌, ◌<◌, ◌≤◌, ◌==◌, [], IfOk, IfSome, IsSome, OnOk, drop};
 ghost use Rattle.ea_model.specs.declared.carriers.Kind.TheVariants.{Single};
-ghost use Rattle.ea_model.specs.Instance.{block_in, content_of, employed, own_at, owner_of, releasing_at};
+ghost use Rattle.ea_model.specs.Instance.{block_in, content_of, employed};
+ghost use Rattle.ea_model.specs.Instance.{own_at, owner_of, releasing_at};
 ghost use Rattle.ea_machine.specs.Nodes as nodes;
 ghost use Rattle.ea_machine.specs.Operations as operations;
 ghost use Rattle.ea_machine.specs.Tasks as tasks;

@@ -182,8 +182,8 @@ Reads me (Give given) s found = Unit {0}
 Reads me (TakeTry name) s found = ReadsName name (spot_named name s.given) found
 Reads me Nothing s found = Unit {0}
 
--- others took some turns since those that the seat knew, and then its scheduler took a step, in which
--- its row found that word; now the seat knows all turns up to that step
+-- others took some turns since those that the seat knew, and then its scheduler took a step, in
+-- which its row found that word; now the seat knows all turns up to that step
 pub record Took (v : View) (found : ℕ) (u : View) : Type 0 where
   pub since : List ℕ
   pub others : All (λ i. i ≢ (acting v).number) since

@@ -5,4 +5,5 @@ use Rattle.ea_sched.proofs.outcome.lines_of.Given as goal
 
 abbrev pub invariant-loop-scheduler : goal.invariant-loop-scheduler
 invariant-loop-scheduler l = l.lines.items
-    ≡ flat_map (λ s. map (carrier_line s.instance.number) (employed s.instance)) (take l.scheduler-index l.schedulers)
+    ≡ flat_map (λ s. map (carrier_line s.instance.number) (employed s.instance)) (take
+    l.scheduler-index l.schedulers)

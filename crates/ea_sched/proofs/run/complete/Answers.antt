@@ -3,7 +3,8 @@ use Rattle.ea_machine.specs.Completion.{completing, finishing}
 use Rattle.ea_machine.specs.Machine.{run_on}
 use Rattle.ea_machine.specs.Setup.{setup_of}
 use Rattle.ea_sched.specs.Running.{AllStandAt, SharesAt}
-use Rattle.ea_sched.proofs.Ends.{all-after, completes-first, completes-last, completes-next, finishing-others, one-stands}
+use Rattle.ea_sched.proofs.Ends.{all-after, completes-first, completes-last}
+use Rattle.ea_sched.proofs.Ends.{completes-next, finishing-others, one-stands}
 use Rattle.ea_sched.proofs.run.complete.Goals as goal
 
 pub loop-scheduler-init : goal.loop-scheduler-init

@@ -3,7 +3,8 @@ use Rattle.ea_machine.specs.Completion.{finishing}
 use Rattle.ea_machine.specs.Machine.{run_on, step}
 use Rattle.ea_machine.specs.Setup.{setup_of}
 use Rattle.ea_sched.specs.Running.{SharesAt, StandsAt}
-use Rattle.ea_sched.proofs.Running.{leads-last, leads-next, stands-ended, stands-going, stands-less, work-is}
+use Rattle.ea_sched.proofs.Running.{leads-last, leads-next, stands-ended}
+use Rattle.ea_sched.proofs.Running.{stands-going, stands-less, work-is}
 use Rattle.ea_sched.proofs.run.run_out.Goals as goal
 
 pub loop-alloc-smaller : goal.loop-alloc-smaller

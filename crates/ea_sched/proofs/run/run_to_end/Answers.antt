@@ -6,7 +6,8 @@ use Rattle.ea_machine.specs.Completion.{completing, end_of}
 use Rattle.ea_machine.specs.Machine.{start}
 use Rattle.ea_machine.specs.Setup.{setup_of}
 use Rattle.ea_sched.specs.Running.{AllStand, AllStandAt, AllTook}
-use Rattle.ea_sched.proofs.Ends.{all-took-stand, end-stands, start-shares, turns-theirs, turns_from, written}
+use Rattle.ea_sched.proofs.Ends.{all-took-stand, end-stands, start-shares}
+use Rattle.ea_sched.proofs.Ends.{turns-theirs, turns_from, written}
 use Rattle.ea_sched.proofs.run.run_to_end.Goals as goal
 
 pub take_schedule-requires-clause-stand : goal.take_schedule-requires-clause-stand

@@ -17,11 +17,13 @@ give-requires-clause-spot g c =
     (spot.0, omega (arith, spot.1, c.requires.starts.schedulers), spot.2, spot.3)
 
 pub give-requires-clause-fresh : goal.give-requires-clause-fresh
-give-requires-clause-fresh g c = give-fresh c.args.self.now c.requires.starts.ready c.args.given c.args.to
+give-requires-clause-fresh g c = give-fresh c.args.self.now c.requires.starts.ready c.args.given
+    c.args.to
     c.requires.stage
 
 pub gave-requires-clause-more : goal.gave-requires-clause-more
-gave-requires-clause-more g c = give-more c.args.self.now c.requires.starts.ready c.args.given c.args.to
+gave-requires-clause-more g c = give-more c.args.self.now c.requires.starts.ready c.args.given
+    c.args.to
     c.requires.stage
 
 pub gave-requires-clause-name : goal.gave-requires-clause-name

@@ -4,22 +4,26 @@ use Rattle.ea_machine.specs.declared.tasks.Why.TheVariants.{For, Walk}
 use Rattle.ea_machine.specs.declared.stages.Stage.TheVariants.{Routed}
 use Rattle.ea_machine.specs.declared.stages.Route.TheVariants.{Linking}
 use Rattle.ea_machine.specs.Rows.{Done, Link}
-use Rattle.ea_sched.proofs.Calling.{as-node, link-node, link-target, link-unlinked, linked-can, linked-suits, row-done, task-more}
+use Rattle.ea_sched.proofs.Calling.{as-node, link-node, link-target, link-unlinked}
+use Rattle.ea_sched.proofs.Calling.{linked-can, linked-suits, row-done, task-more}
 use Rattle.ea_sched.proofs.state.Scheduler.link.Goals as goal
 
 pub link-requires-clause-target : goal.link-requires-clause-target
 link-requires-clause-target g c =
-    let target = link-target c.args.self.now c.requires.starts.ready c.args.node c.args.to c.args.why
+    let target = link-target c.args.self.now c.requires.starts.ready c.args.node c.args.to
+    c.args.why
     c.args.gone c.requires.stage in
     omega (arith, target, c.requires.starts.schedulers)
 
 pub link-requires-clause-node : goal.link-requires-clause-node
-link-requires-clause-node g c = as-node c.args.node c.requires.starts.schedulers c.requires.starts.greatest
+link-requires-clause-node g c = as-node c.args.node c.requires.starts.schedulers
+    c.requires.starts.greatest
     (link-node c.args.self.now c.requires.starts.ready c.args.node c.args.to c.args.why c.args.gone
     c.requires.stage)
 
 pub link-requires-clause-unlinked : goal.link-requires-clause-unlinked
-link-requires-clause-unlinked g c = link-unlinked c.args.self.now c.requires.starts.ready c.args.node
+link-requires-clause-unlinked g c = link-unlinked c.args.self.now c.requires.starts.ready
+    c.args.node
     c.args.to c.args.why c.args.gone c.requires.stage
 
 pub end_walk-requires-clause-passed : goal.end_walk-requires-clause-passed

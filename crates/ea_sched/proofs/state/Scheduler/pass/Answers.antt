@@ -4,11 +4,13 @@ use Rattle.ea_machine.specs.declared.stages.Stage.TheVariants.{Begin}
 use Rattle.ea_machine.specs.Machine.{begins, onward}
 use Rattle.ea_machine.specs.Rows.{Rests, TakeLink}
 use Rattle.ea_sched.specs.Acting.{ready_of, setup_for}
-use Rattle.ea_sched.proofs.Calling.{as-node, pass-next, pass-node, passed-can, passed-ended, passed-next, passed-suits, rests-suits, row-done}
+use Rattle.ea_sched.proofs.Calling.{as-node, pass-next, pass-node, passed-can, passed-ended}
+use Rattle.ea_sched.proofs.Calling.{passed-next, passed-suits, rests-suits, row-done}
 use Rattle.ea_sched.proofs.state.Scheduler.pass.Goals as goal
 
 pub take_link-requires-clause-node : goal.take_link-requires-clause-node
-take_link-requires-clause-node g c = as-node c.args.node c.requires.starts.schedulers c.requires.starts.greatest
+take_link-requires-clause-node g c = as-node c.args.node c.requires.starts.schedulers
+    c.requires.starts.greatest
     (pass-node c.args.self.now c.requires.starts.ready c.args.node c.requires.next)
 
 pub take_link-requires-clause-next : goal.take_link-requires-clause-next
@@ -17,7 +19,8 @@ take_link-requires-clause-next g c =
 
 pub go_on-requires : goal.go_on-requires
 go_on-requires g c = record {
-  next = rests-suits c.args.self.now c.requires.starts.ready c.args.node c.requires.stage c.requires.next
+  next = rests-suits c.args.self.now c.requires.starts.ready c.args.node c.requires.stage
+      c.requires.next
       c.in-Rest.ensures.row;
 }
 
@@ -45,7 +48,8 @@ returns-in-Rest-clause-row g c =
 
 pub returns-in-End-clause-row : goal.returns-in-End-clause-row
 returns-in-End-clause-row g c = on_ok_weaker c.end_walk.result
-    (passed-ended c.args.self.now c.requires.starts.ready c.args.node c.requires.stage c.requires.next
+    (passed-ended c.args.self.now c.requires.starts.ready c.args.node c.requires.stage
+    c.requires.next
     c.add.new.self.nodes
     (c.add.ensures ∙ ap (λ nodes. c.args.node ∷ nodes) c.reserve.ensures.nodes)
     c.in-End.ensures.row)

@@ -7,12 +7,14 @@ use Rattle.ea_sched.proofs.state.Scheduler.push.Goals as goal
 
 pub push-requires-clause-target : goal.push-requires-clause-target
 push-requires-clause-target g c =
-    let target = push-target c.args.self.now c.requires.starts.ready c.args.node c.args.to c.args.why
+    let target = push-target c.args.self.now c.requires.starts.ready c.args.node c.args.to
+    c.args.why
     c.args.gone c.requires.stage in
     omega (arith, target, c.requires.starts.schedulers)
 
 pub push-requires-clause-node : goal.push-requires-clause-node
-push-requires-clause-node g c = as-node c.args.node c.requires.starts.schedulers c.requires.starts.greatest
+push-requires-clause-node g c = as-node c.args.node c.requires.starts.schedulers
+    c.requires.starts.greatest
     (push-node c.args.self.now c.requires.starts.ready c.args.node c.args.to c.args.why c.args.gone
     c.requires.stage)
 
@@ -21,6 +23,7 @@ push-requires-clause-nowhere g c = push-nowhere c.args.self.now c.requires.start
     c.args.to c.args.why c.args.gone c.requires.stage
 
 pub returns-clause-row : goal.returns-clause-row
-returns-clause-row g c = row-done c.args.self.now c.requires.starts.ready (Push c.args.node c.args.to)
+returns-clause-row g c = row-done c.args.self.now c.requires.starts.ready (Push c.args.node
+    c.args.to)
     Done (Routed (Pushing c.args.node c.args.to) c.args.why c.args.gone)
     c.requires.stage refl c.push.ensures.row refl

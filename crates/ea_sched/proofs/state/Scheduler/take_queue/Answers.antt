@@ -9,7 +9,8 @@ use Rattle.ea_sched.proofs.Calling.{row-done, take-walked, taken-suits}
 use Rattle.ea_sched.proofs.state.Scheduler.take_queue.Goals as goal
 
 pub take_all-requires-clause-walked : goal.take_all-requires-clause-walked
-take_all-requires-clause-walked g c = take-walked c.args.self.now c.requires.starts.ready c.requires.next
+take_all-requires-clause-walked g c = take-walked c.args.self.now c.requires.starts.ready
+    c.requires.next
 
 pub go_on-requires : goal.go_on-requires
 go_on-requires g c = record {

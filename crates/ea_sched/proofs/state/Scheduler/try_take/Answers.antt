@@ -7,12 +7,14 @@ use Rattle.ea_sched.proofs.state.Scheduler.try_take.Goals as goal
 
 pub take_try-found-requires-clause-name : goal.take_try-found-requires-clause-name
 take_try-found-requires-clause-name g c =
-    let name = take-name c.args.self.now c.requires.starts.ready c.args.name c.args.tries c.args.left
+    let name = take-name c.args.self.now c.requires.starts.ready c.args.name c.args.tries
+    c.args.left
     c.requires.stage in
     omega (arith, name, c.requires.starts.greatest)
 
 pub took-requires-clause-more : goal.took-requires-clause-more
-took-requires-clause-more g c = take-more c.args.self.now c.requires.starts.ready c.args.name c.args.tries
+took-requires-clause-more g c = take-more c.args.self.now c.requires.starts.ready c.args.name
+    c.args.tries
     c.args.left c.requires.stage
 
 pub took-requires-clause-fresh : goal.took-requires-clause-fresh
