@@ -14,6 +14,7 @@ use Rattle.ea_model.specs.declared.units.TheConstants.{SEARCH_LIMIT}
 use Rattle.ea_model.specs.Instance.{chosen_spot, plan, owner_of}
 use Rattle.ea_model.specs.Content.{Content}
 use Rattle.ea_machine.specs.declared.owners.OwnerWord.{OwnerWord}
+use Rattle.ea_machine.specs.declared.owners.OwnerWord.TheVariants as word
 use Rattle.ea_machine.specs.declared.stages.Stage.{Stage}
 use Rattle.ea_machine.specs.declared.stages.Stage.TheVariants.{Begin, Routed, Collecting, Searching}
 use Rattle.ea_machine.specs.declared.stages.Stage.TheVariants.{Fetching, Creating, Giving, Taking}
@@ -32,7 +33,7 @@ use Rattle.ea_machine.specs.declared.tasks.Gone.TheVariants.{Open, Here, Queued}
 use Rattle.ea_machine.specs.declared.asks.Ask.{Ask}
 use Rattle.ea_sound.specs.Chosen.{HasAsked, IsPlacedAt}
 use Rattle.ea_sound.specs.Entries.{Makes}
-use Rattle.ea_sound.specs.HandedOver.{HasHeld, HasPushed, IsAnother}
+use Rattle.ea_sound.specs.HandedOver.{HasHeld, HasPushed, HasSeen, IsAnother}
 use Rattle.ea_machine.specs.declared.nodes.Node.{Node}
 use Rattle.ea_machine.specs.Nodes.{block_node}
 use Rattle.ea_sound.specs.Exhausted.{IsFailOf, seen_since}
@@ -167,13 +168,14 @@ LeftBy e L n Open = IsOut e L n
 LeftBy e L n Here = IsOut e L n
 LeftBy e L n (Queued to) = ⊥
 
--- the node is that of the block that was held when the operation began, and `to` is its owner where
--- carriers don't migrate
+-- the node is that of the block that was held when the operation began, and `to` is the employer
+-- that s saw; where carriers don't migrate, the owner
 pub record Sends (e : Setup) (L : List ℕ) (s : ℕ) (log : List Entry) (n : ℕ) (node : Node)
     (to : ℕ) : Type 0 where
   pub named : Named
   pub is : node ≡ block_node named
   pub held : HasHeld e L s n named log
+  pub seen : migration e ≡ true → HasSeen e L s named to log
   pub owner : migration e ≡ false → to ≡ owner_of named.spot.carrier
 
 -- and it was pushed
@@ -181,6 +183,7 @@ pub record Sent (e : Setup) (L : List ℕ) (s : ℕ) (log : List Entry) (n to : 
   pub named : Named
   pub held : HasHeld e L s n named log
   pub pushed : HasPushed e L s named to log
+  pub seen : migration e ≡ true → HasSeen e L s named to log
   pub owner : migration e ≡ false → to ≡ owner_of named.spot.carrier
 
 -- the block is gone, or its node is to be pushed
@@ -199,6 +202,7 @@ PushedBy e L s log n (Queued to) = Sent e L s log n to
 abbrev pub OnWay : Setup → List ℕ → ℕ → List Entry → ℕ → Route Content → Gone → Type 0
 OnWay e L s log n (Looking h) g = (h.name ≡ n) × (g ≡ Open) × HasHeld e L s n h log
 OnWay e L s log n (Trying h seen) g = (h.name ≡ n) × (g ≡ Open) × HasHeld e L s n h log
+    × ((l : ℕ) × (seen ≡ word.Pooled s l))
 OnWay e L s log n (Settling x) g = LeftBy e L n g
 OnWay e L s log n (Abandoning x) g = LeftBy e L n g
 OnWay e L s log n (Sending x) g = LeftBy e L n g
@@ -309,6 +313,16 @@ held-longer e L s j n h log has = record {
   held = has.held;
 }
 
+pub seen-longer : (e : Setup) (L : List ℕ) (s j : ℕ) (h : Named) (to : ℕ) (log : List Entry)
+    → HasSeen e L s h to log → HasSeen e (L ++ j ∷ []) s h to log
+seen-longer e L s j h to log has = record {
+  before = has.before;
+  since = has.since ++ j ∷ [];
+  split = longer L has.before has.since s j has.split;
+  same = has.same;
+  sees = has.sees;
+}
+
 pub old-longer : (e : Setup) (L : List ℕ) (s j : ℕ) (log : List Entry) (old : Option Named)
     → HasOld e L s log old → HasOld e (L ++ j ∷ []) s log old
 old-longer e L s j log None has = tt
@@ -339,6 +353,7 @@ pushes-longer e L s j log n node to (Queued i) o = (
     named = o.0.named;
     is = o.0.is;
     held = held-longer e L s j n o.0.named log o.0.held;
+    seen = λ on. seen-longer e L s j o.0.named to log (o.0.seen on);
     owner = o.0.owner;
   },
   o.1,
@@ -358,13 +373,15 @@ pushed-longer e L s j log n (Queued to) o = record {
     same = o.pushed.same;
     queue = o.pushed.queue;
   };
+  seen = λ on. seen-longer e L s j o.named to log (o.seen on);
   owner = o.owner;
 }
 
 way-longer : (e : Setup) (L : List ℕ) (s j : ℕ) (log : List Entry) (n : ℕ) (r : Route Content)
     (g : Gone) → OnWay e L s log n r g → OnWay e (L ++ j ∷ []) s log n r g
 way-longer e L s j log n (Looking h) g w = (w.0, w.1, held-longer e L s j n h log w.2)
-way-longer e L s j log n (Trying h seen) g w = (w.0, w.1, held-longer e L s j n h log w.2)
+way-longer e L s j log n (Trying h seen) g w =
+    (w.0, w.1, held-longer e L s j n h log w.2, w.3)
 way-longer e L s j log n (Settling x) g w = left-longer e L j n g w
 way-longer e L s j log n (Abandoning x) g w = left-longer e L j n g w
 way-longer e L s j log n (Sending x) g w = left-longer e L j n g w

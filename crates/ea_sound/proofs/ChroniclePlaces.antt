@@ -30,7 +30,7 @@ use Rattle.ea_machine.specs.declared.tasks.Gone.TheVariants.{Open, Here, Queued}
 use Rattle.ea_machine.specs.declared.asks.Ask.{Ask}
 use Rattle.ea_sound.specs.Chosen.{Created, Creates, HasAsked, IsJustBefore, IsPlacedAt, IsPlacement}
 use Rattle.ea_sound.specs.Entries.{Tells}
-use Rattle.ea_sound.specs.HandedOver.{HasHeld, IsAnother}
+use Rattle.ea_sound.specs.HandedOver.{HasHeld, IsAnother, SeesEmployer}
 use Rattle.ea_sound.specs.Exhausted.{FindsNoPlace, IsExhausted, IsFailOf}
 use Rattle.ea_machine.specs.Machine.{run, wants}
 use Rattle.ea_machine.specs.declared.nodes.Named.{Named}
@@ -223,6 +223,7 @@ module _ (e : Setup) (rules : (L : List ℕ) → Rule e (run e L)) (L : List ℕ
           named = o.named;
           held = o.held;
           pushed = o.pushed;
+          seen = o.seen;
           owner = o.owner;
         }
     entry-tells (Moving o n p) Open h w out = (placed n p h, out)
@@ -234,6 +235,7 @@ module _ (e : Setup) (rules : (L : List ℕ) → Rule e (run e L)) (L : List ℕ
         named = out.named;
         held = out.held;
         pushed = out.pushed;
+        seen = out.seen;
         owner = out.owner;
       },
     )
@@ -267,33 +269,50 @@ module _ (e : Setup) (rules : (L : List ℕ) → Rule e (run e L)) (L : List ℕ
 
     -- with the block in the hand before
     pub hand-becomes : (task : Task) (h : Named) → h.name ≡ name_in task
-        → (o : Option (Route Content)) (g : Gone) (b : Actor) → Yields h o g → GoesOut task b
-        → HasHeld e turn me (name_in task) h acting.log → (migration e ≡ false → ⊥)
+        → (o : Option (Route Content)) (g : Gone) (b : Actor) (Shows : ℕ → Type 0)
+        → Yields me Shows h o g → GoesOut task b
+        → HasHeld e turn me (name_in task) h acting.log
+        → ((to : ℕ) → Shows to → SeesEmployer (run e L) me h to) → (migration e ≡ false → ⊥)
         → Becomes task o g b
-    hand-becomes task h name None Open b y out held on =
+    hand-becomes task h name None Open b Shows y out held sees on =
         λ now. (out (logged (entry_of task Open) b) now refl refl refl).0
-    hand-becomes task h name None Here b y out held on =
+    hand-becomes task h name None Here b Shows y out held sees on =
         λ now. (out (logged (entry_of task Here) b) now refl refl refl).0
-    hand-becomes task h name None (Queued to) b y out held on = absurd y
-    hand-becomes task h name (Some (Looking k)) g b y out held on = absurd y
-    hand-becomes task h name (Some (Trying k seen)) g b y out held on =
+    hand-becomes task h name None (Queued to) b Shows y out held sees on = absurd y
+    hand-becomes task h name (Some (Looking k)) g b Shows y out held sees on = absurd y
+    hand-becomes task h name (Some (Trying k seen)) g b Shows y out held sees on =
         λ now. (
           ap (λ (x : Named). x.name) y.0 ∙ name,
           y.1,
           subst (λ m. HasHeld e turn me (name_in task) m acting.log) (sym y.0) held,
+          y.2,
         )
-    hand-becomes task h name (Some (Settling x)) g b y out held on =
+    hand-becomes task h name (Some (Settling x)) g b Shows y out held sees on =
         λ now. left-out (name_in task) g y (out _ now refl refl refl)
-    hand-becomes task h name (Some (Abandoning x)) g b y out held on =
+    hand-becomes task h name (Some (Abandoning x)) g b Shows y out held sees on =
         λ now. left-out (name_in task) g y (out _ now refl refl refl)
-    hand-becomes task h name (Some (Sending x)) g b y out held on =
+    hand-becomes task h name (Some (Sending x)) g b Shows y out held sees on =
         λ now. left-out (name_in task) g y (out _ now refl refl refl)
-    hand-becomes task h name (Some (Clearing x)) g b y out held on =
+    hand-becomes task h name (Some (Clearing x)) g b Shows y out held sees on =
         λ now. left-out (name_in task) g y (out _ now refl refl refl)
-    hand-becomes task h name (Some (Pushing node to)) g b y out held on =
-        λ now. subst (PushesBy e turn me acting.log (name_in task) node to) (sym y.1)
-        (record { named = h; is = y.0; held = held; owner = λ off. absurd (on off) }, refl)
-    hand-becomes task h name (Some (Linking node to)) g b y out held on = absurd y
+    hand-becomes task h name (Some (Pushing node to)) g b Shows y out held sees on =
+        λ now. subst (PushesBy e turn me acting.log (name_in task) node to) (sym y.1) (
+          record {
+            named = h;
+            is = y.0;
+            held = held;
+            seen = λ m. record {
+              before = L;
+              since = [];
+              split = refl;
+              same = refl;
+              sees = sees to y.2;
+            };
+            owner = λ off. absurd (on off);
+          },
+          refl,
+        )
+    hand-becomes task h name (Some (Linking node to)) g b Shows y out held sees on = absurd y
 
     out-now : (n : ℕ) → IsOut e turn n → blocks_of_name e n (run e turn) ≡ 0
     out-now n o = ap (λ K. blocks_of_name e n (run e K)) o.split
@@ -373,7 +392,16 @@ module _ (e : Setup) (rules : (L : List ℕ) → Rule e (run e L)) (L : List ℕ
           bare off t.route t.gone t.actor (here-bare e me h Open a) (here-not_sent e me h a)
           same.5 same.0
       owned off false =
-          λ now. (record { named = h; is = refl; held = had; owner = λ off. refl }, refl)
+          λ now. (
+            record {
+              named = h;
+              is = refl;
+              held = had;
+              seen = λ on. absurd (true≢false (sym on ∙ off));
+              owner = λ off. refl;
+            },
+            refl,
+          )
 
       by : (on : Bool) → migration e ≡ on → Goes (routed e me on h a)
       by true on = λ now. (name, refl, had)

@@ -36,7 +36,7 @@ use Rattle.ea_sound.specs.Turns.{actor_after, answered, begun}
 use Rattle.ea_sound.proofs.Chronicle.{AndShown, Fetches, IsSame, Searches, SoFar, Takes, Underway}
 use Rattle.ea_sound.proofs.Chronicle.{asked-longer, further, placing-longer, way-asked, LeftBy}
 use Rattle.ea_sound.proofs.Chronicle.{OnWay, WentTo, left-longer, out-longer, pushed-longer}
-use Rattle.ea_sound.proofs.Chronicle.{name_in, held-longer, old-longer, HasOld}
+use Rattle.ea_sound.proofs.Chronicle.{name_in, held-longer, old-longer, seen-longer, HasOld}
 use Rattle.ea_sound.proofs.HandedNames.{NeverGiven, is-given, is-taken, never-mine, tried-given}
 use Rattle.ea_sound.proofs.TurnLists.{longer, run-snoc, step-shared}
 use Rattle.ea_machine.specs.Nodes.{block_node, named_at, pushed, spot_named}
@@ -57,7 +57,10 @@ use Rattle.ea_sound.specs.Leaves.{Leaves}
 use Rattle.ea_sound.specs.Present.{Fits, FitsRoute, OfAsk, OldHeld, Rule}
 use Rattle.ea_sound.proofs.Operating.{begun-kept}
 use Rattle.ea_sound.proofs.RowLeaves.{row-left}
-use Rattle.ea_sound.proofs.GoneRoutes.{ByWord, looking-yields, settled-gone, settled-not}
+use Rattle.ea_machine.specs.declared.owners.OwnerWord.TheVariants as word
+use Rattle.ea_sound.specs.HandedOver.{HasSeen, Looks, SeesEmployer, Tries}
+use Rattle.ea_sound.proofs.GoneRoutes.{ByWord, LookShows, TryShows, looking-yields, settled-gone}
+use Rattle.ea_sound.proofs.GoneRoutes.{settled-not}
 use Rattle.ea_sound.proofs.GoneRoutes.{trying-yields, turned-queued}
 use Rattle.ea_sound.proofs.GoneBlocks.{pushed-after, hand-out, look-names, name-one, try-names}
 use Rattle.ea_machine.specs.declared.tasks.Task.{Task}
@@ -364,57 +367,87 @@ module _ (e : Setup) (rules : (L : List ℕ) → Rule e (run e L)) (L : List ℕ
     abbrev Goes : Task → Turned → Type 0
     Goes task t = Becomes e rules L me set is works task t.route t.gone t.actor
 
-    row-becomes : (task : Task) (g : Gone) (z : Answer) (r : Route Content)
-        → acting.stage ≡ Routed r (For task) g → OnWay e L me acting.log (name_in task) r g
-        → Goes task (turned e me r g acting z)
-    row-becomes task g z (Looking h) q w =
+    look-sees : (task : Task) (h : Named) (z : Answer) → answered (run e L) me ≡ z
+        → acting.stage ≡ Routed (Looking h) (For task) Open → (to : ℕ) → LookShows z to
+        → SeesEmployer (run e L) me h to
+    look-sees task h (Saw v) ans q to w = Looks task v q ans w
+    look-sees task h Done ans q to w = absurd w
+    look-sees task h (Head x) ans q to w = absurd w
+    look-sees task h Rests ans q to w = absurd w
+    look-sees task h (Passes x) ans q to w = absurd w
+    look-sees task h (Won x) ans q to w = absurd w
+    look-sees task h (Lost x) ans q to w = absurd w
+    look-sees task h (Home x) ans q to w = absurd w
+    look-sees task h (Got x) ans q to w = absurd w
+
+    try-sees : (task : Task) (h : Named) (l : ℕ) (z : Answer) → answered (run e L) me ≡ z
+        → acting.stage ≡ Routed (Trying h (word.Pooled me l)) (For task) Open → (to : ℕ)
+        → TryShows z to → SeesEmployer (run e L) me h to
+    try-sees task h l (Lost v) ans q to w = Tries task l v q ans w
+    try-sees task h l Done ans q to w = absurd w
+    try-sees task h l (Head x) ans q to w = absurd w
+    try-sees task h l Rests ans q to w = absurd w
+    try-sees task h l (Passes x) ans q to w = absurd w
+    try-sees task h l (Saw x) ans q to w = absurd w
+    try-sees task h l (Won x) ans q to w = absurd w
+    try-sees task h l (Home x) ans q to w = absurd w
+    try-sees task h l (Got x) ans q to w = absurd w
+
+    row-becomes : (task : Task) (g : Gone) (z : Answer) → answered (run e L) me ≡ z
+        → (r : Route Content) → acting.stage ≡ Routed r (For task) g
+        → OnWay e L me acting.log (name_in task) r g → Goes task (turned e me r g acting z)
+    row-becomes task g z ans (Looking h) q w =
         subst (λ k. Goes task (turned e me (Looking h) k acting z)) (sym w.1)
         (let t = turned e me (Looking h) Open acting z in
         let same = (turned-short e me (Looking h) Open acting z).1 in
-        hand-becomes e rules L me set is works task h w.0 t.route t.gone t.actor
+        hand-becomes e rules L me set is works task h w.0 t.route t.gone t.actor (LookShows z)
         (looking-yields e me h acting z)
         (λ c now empty held passed. hand-out e rules L me (name_in task) works
         (Routed (Looking h) (For task) g) q (name-one (name_in task) h w.0)
         (look-names e (only (name_in task)) me h.spot.carrier (run e L).shared) c now empty
         (held ∙ same.5) (passed ∙ same.0))
         (held-longer e L me me (name_in task) h acting.log w.2)
+        (look-sees task h z ans (q ∙ ap (Routed (Looking h) (For task)) w.1))
         (λ off. words-on (Looking h) (For task) g q off tt))
-    row-becomes task g z (Trying h seen) q w =
+    row-becomes task g z ans (Trying h seen) q w =
         subst (λ k. Goes task (turned e me (Trying h seen) k acting z)) (sym w.1)
         (let t = turned e me (Trying h seen) Open acting z in
         let same = (turned-short e me (Trying h seen) Open acting z).1 in
-        hand-becomes e rules L me set is works task h w.0 t.route t.gone t.actor
+        hand-becomes e rules L me set is works task h w.0 t.route t.gone t.actor (TryShows z)
         (trying-yields e me h acting z)
         (λ c now empty held passed. hand-out e rules L me (name_in task) works
         (Routed (Trying h seen) (For task) g) q (name-one (name_in task) h w.0)
         (try-names e (only (name_in task)) me h.spot.carrier seen (run e L).shared) c now empty
         (held ∙ same.5) (passed ∙ same.0))
         (held-longer e L me me (name_in task) h acting.log w.2)
+        (try-sees task h w.3.0 z ans
+        (q ∙ ap (Routed (Trying h seen) (For task)) w.1
+        ∙ ap (λ v. Routed (Trying h v) (For task) Open) w.3.1))
         (λ off. words-on (Trying h seen) (For task) g q off tt))
-    row-becomes task g z (Settling x) q w =
+    row-becomes task g z ans (Settling x) q w =
         let t = turned e me (Settling x) g acting z in
         left-becomes e rules L me set is works task t.route t.gone t.actor
         (settled-not e me (is_nil x.blocks) x g acting)
         (subst (LeftBy e turn (name_in task))
         (sym (settled-gone e me (is_nil x.blocks) x g acting))
         (left-longer e L me (name_in task) g w))
-    row-becomes task g z (Abandoning x) q w =
+    row-becomes task g z ans (Abandoning x) q w =
         left-becomes e rules L me set is works task None g acting tt
         (left-longer e L me (name_in task) g w)
-    row-becomes task g z (Sending x) q w =
+    row-becomes task g z ans (Sending x) q w =
         left-becomes e rules L me set is works task
         (Some (Pushing (Carrier x.number) (owner_of x.number))) g acting tt
         (left-longer e L me (name_in task) g w)
-    row-becomes task g z (Clearing x) q w =
+    row-becomes task g z ans (Clearing x) q w =
         left-becomes e rules L me set is works task None g (disowned x.number acting) tt
         (left-longer e L me (name_in task) g w)
-    row-becomes task Open z (Pushing node to) q w =
+    row-becomes task Open z ans (Pushing node to) q w =
         left-becomes e rules L me set is works task (Some (Linking node to)) Open acting tt
         (out-longer e L me (name_in task) w)
-    row-becomes task Here z (Pushing node to) q w =
+    row-becomes task Here z ans (Pushing node to) q w =
         left-becomes e rules L me set is works task (Some (Linking node to)) Here acting tt
         (out-longer e L me (name_in task) w)
-    row-becomes task (Queued i) z (Pushing node to) q w = λ now. record {
+    row-becomes task (Queued i) z ans (Pushing node to) q w = λ now. record {
       named = w.0.named;
       held = held-longer e L me me (name_in task) w.0.named acting.log w.0.held;
       pushed = record {
@@ -430,9 +463,11 @@ module _ (e : Setup) (rules : (L : List ℕ) → Rule e (run e L)) (L : List ℕ
             ∙ ap (λ st. (effect me (wants_at acting.next st) (run e L).shared).queues to) q
             ∙ pushed-after me node to (run e L).shared));
       };
+      seen = λ on. seen-longer e L me me w.0.named i acting.log
+          (subst (λ j. HasSeen e L me w.0.named j acting.log) (sym w.1) (w.0.seen on));
       owner = λ off. w.1 ∙ w.0.owner off;
     }
-    row-becomes task g z (Linking node to) q w =
+    row-becomes task g z ans (Linking node to) q w =
         pushed-becomes e rules L me set is works task g acting
         (pushed-longer e L me me acting.log (name_in task) g w)
 
@@ -453,7 +488,7 @@ module _ (e : Setup) (rules : (L : List ℕ) → Rule e (run e L)) (L : List ℕ
           | inl before ↦ inl (subst (WentTo e me) before h.2)
           | inr pushes ↦ inr pushes
         ])
-        (row-becomes task g (answered (run e L) me) r q h.3)
+        (row-becomes task g (answered (run e L) me) refl r q h.3)
         (λ now. placing-longer e L me me acting.log task h.1))
     row-fine (Searching ask at looked) q h ne =
         inr (searched-fine ask at looked (answered (run e L) me) q refl

@@ -25,6 +25,8 @@ use Rattle.ea_machine.specs.Releases.{release_here, route_of, routed, sent_to, s
 use Rattle.ea_machine.specs.Releases.{turned}
 use Rattle.ea_machine.specs.Rows.{Answer, Done, Head, Rests, Passes, Saw, Won, Lost, Home, Got}
 use Rattle.ea_machine.specs.Setup.{Setup, migration}
+use Rattle.ea_sound.specs.HandedOver.{ShowsEmployer}
+use Rattle.std.proofs.lemmas.Bool.{eqb-true}
 
 -- the block was queued there before, or its node is to be pushed there
 abbrev pub IsQueuedBy : Gone → Turned → Type 0
@@ -78,29 +80,41 @@ NotSent Open = Unit {0}
 NotSent Here = Unit {0}
 NotSent (Queued to) = ⊥
 
--- what is left of a route with h in the hand, once its row is answered
-abbrev pub Yields : Named → Option (Route Content) → Gone → Type 0
-Yields h None g = NotSent g
-Yields h (Some (Looking k)) g = ⊥
-Yields h (Some (Trying k seen)) g = (k ≡ h) × (g ≡ Open)
-Yields h (Some (Settling x)) g = NotSent g
-Yields h (Some (Abandoning x)) g = NotSent g
-Yields h (Some (Sending x)) g = NotSent g
-Yields h (Some (Clearing x)) g = NotSent g
-Yields h (Some (Pushing node to)) g = (node ≡ block_node h) × (g ≡ Queued to)
-Yields h (Some (Linking node to)) g = ⊥
+-- the employer that the answer of a look shows, or of a try to make a carrier busy
+abbrev pub LookShows : Answer → ℕ → Type 0
+LookShows (Saw v) to = ShowsEmployer to v
+LookShows _ to = ⊥
 
-bare-yields : (h : Named) (o : Option (Route Content)) (g : Gone) → IsBare o → NotSent g
-    → Yields h o g
-bare-yields h None g b n = n
-bare-yields h (Some (Looking k)) g b n = b
-bare-yields h (Some (Trying k seen)) g b n = absurd b
-bare-yields h (Some (Settling x)) g b n = n
-bare-yields h (Some (Abandoning x)) g b n = n
-bare-yields h (Some (Sending x)) g b n = n
-bare-yields h (Some (Clearing x)) g b n = n
-bare-yields h (Some (Pushing node to)) g b n = absurd b
-bare-yields h (Some (Linking node to)) g b n = b
+abbrev pub TryShows : Answer → ℕ → Type 0
+TryShows (Lost v) to = ShowsEmployer to v
+TryShows _ to = ⊥
+
+-- what is left of a route with h in the hand, once its row is answered, by the employers that the
+-- answer shows
+abbrev pub Yields : ℕ → (ℕ → Type 0) → Named → Option (Route Content) → Gone → Type 0
+Yields me Shows h None g = NotSent g
+Yields me Shows h (Some (Looking k)) g = ⊥
+Yields me Shows h (Some (Trying k seen)) g =
+    (k ≡ h) × (g ≡ Open) × ((l : ℕ) × (seen ≡ word.Pooled me l))
+Yields me Shows h (Some (Settling x)) g = NotSent g
+Yields me Shows h (Some (Abandoning x)) g = NotSent g
+Yields me Shows h (Some (Sending x)) g = NotSent g
+Yields me Shows h (Some (Clearing x)) g = NotSent g
+Yields me Shows h (Some (Pushing node to)) g =
+    (node ≡ block_node h) × (g ≡ Queued to) × Shows to
+Yields me Shows h (Some (Linking node to)) g = ⊥
+
+bare-yields : (me : ℕ) (Shows : ℕ → Type 0) (h : Named) (o : Option (Route Content)) (g : Gone)
+    → IsBare o → NotSent g → Yields me Shows h o g
+bare-yields me Shows h None g b n = n
+bare-yields me Shows h (Some (Looking k)) g b n = b
+bare-yields me Shows h (Some (Trying k seen)) g b n = absurd b
+bare-yields me Shows h (Some (Settling x)) g b n = n
+bare-yields me Shows h (Some (Abandoning x)) g b n = n
+bare-yields me Shows h (Some (Sending x)) g b n = n
+bare-yields me Shows h (Some (Clearing x)) g b n = n
+bare-yields me Shows h (Some (Pushing node to)) g b n = absurd b
+bare-yields me Shows h (Some (Linking node to)) g b n = b
 
 -- no owner word is read next, or tried
 abbrev pub NotByWord : Option (Route Content) → Type 0
@@ -291,36 +305,41 @@ module _ (e : Setup) (me : ℕ) where
         by b None = tt
         by b (Some x) = subst NotSent (sym (by_kind-gone x.kind x Here b)) tt
 
-  abbrev Gives : Named → Turned → Type 0
-  Gives h t = Yields h t.route t.gone
+  abbrev Gives : (ℕ → Type 0) → Named → Turned → Type 0
+  Gives Shows h t = Yields me Shows h t.route t.gone
 
-  employed-yields : (mine : Bool) (i : ℕ) (h : Named) (a : Actor)
-      → Gives h (employed_by e me mine i h Open a)
-  employed-yields true i h a =
+  employed-yields : (mine : Bool) (i : ℕ) (h : Named) (a : Actor) → (i == me) ≡ mine
+      → Gives (LookShows (Saw (word.Employed i))) h (employed_by e me mine i h Open a)
+  employed-yields true i h a q =
       let t = release_here e me h Open a in
-      bare-yields h t.route t.gone (here-bare h Open a) (here-not_sent h a)
-  employed-yields false i h a = (refl, refl)
+      bare-yields me (LookShows (Saw (word.Employed i))) h t.route t.gone (here-bare h Open a)
+      (here-not_sent h a)
+  employed-yields false i h a q = (refl, refl, refl)
 
-  pooled-yields : (mine : Bool) (i l : ℕ) (h : Named) (a : Actor)
-      → Gives h (pooled_by mine i l h Open a)
-  pooled-yields true i l h a = (refl, refl)
-  pooled-yields false i l h a = (refl, refl)
+  pooled-yields : (mine : Bool) (i l : ℕ) (h : Named) (a : Actor) → (i == me) ≡ mine
+      → Gives (LookShows (Saw (word.Pooled i l))) h (pooled_by mine i l h Open a)
+  pooled-yields true i l h a q =
+      (refl, refl, (l, ap (λ j. word.Pooled j l) (eqb-true i me q)))
+  pooled-yields false i l h a q = (refl, refl, refl)
 
-  looked-yields : (h : Named) (a : Actor) (v : OwnerWord) → Gives h (looked e me h Open a v)
+  looked-yields : (h : Named) (a : Actor) (v : OwnerWord)
+      → Gives (LookShows (Saw v)) h (looked e me h Open a v)
   looked-yields h a word.Absent = tt
-  looked-yields h a (word.Employed i) = employed-yields (i == me) i h a
-  looked-yields h a (word.Pooled i l) = pooled-yields (i == me) i l h a
-  looked-yields h a (word.Busy i) = (refl, refl)
+  looked-yields h a (word.Employed i) = employed-yields (i == me) i h a refl
+  looked-yields h a (word.Pooled i l) = pooled-yields (i == me) i l h a refl
+  looked-yields h a (word.Busy i) = (refl, refl, refl)
   looked-yields h a (word.Returning i) = tt
 
-  forwarded-yields : (h : Named) (a : Actor) (v : OwnerWord) → Gives h (forwarded h Open a v)
+  forwarded-yields : (h : Named) (a : Actor) (v : OwnerWord)
+      → Gives (TryShows (Lost v)) h (forwarded h Open a v)
   forwarded-yields h a word.Absent = tt
-  forwarded-yields h a (word.Employed i) = (refl, refl)
-  forwarded-yields h a (word.Pooled i l) = (refl, refl)
-  forwarded-yields h a (word.Busy i) = (refl, refl)
+  forwarded-yields h a (word.Employed i) = (refl, refl, refl)
+  forwarded-yields h a (word.Pooled i l) = (refl, refl, refl)
+  forwarded-yields h a (word.Busy i) = (refl, refl, refl)
   forwarded-yields h a (word.Returning i) = tt
 
-  pub looking-yields : (h : Named) (a : Actor) (z : Answer) → Gives h (looked_at e me h Open a z)
+  pub looking-yields : (h : Named) (a : Actor) (z : Answer)
+      → Gives (LookShows z) h (looked_at e me h Open a z)
   looking-yields h a (Saw v) = looked-yields h a v
   looking-yields h a Done = tt
   looking-yields h a (Head n) = tt
@@ -331,7 +350,8 @@ module _ (e : Setup) (me : ℕ) where
   looking-yields h a (Home x) = tt
   looking-yields h a (Got p) = tt
 
-  pub trying-yields : (h : Named) (a : Actor) (z : Answer) → Gives h (tried h Open a z)
+  pub trying-yields : (h : Named) (a : Actor) (z : Answer)
+      → Gives (TryShows z) h (tried h Open a z)
   trying-yields h a (Won x) = tt
   trying-yields h a (Lost v) = forwarded-yields h a v
   trying-yields h a (Saw v) = tt
