@@ -208,14 +208,18 @@ module _ (c : Config) (t : Trace) (valid : IsValidConfig c)
               )
 
       module _ (x : Content) where
-        busy : a.stage ≡ Routed (Settling x) why gone → w.shared.places x.number ≡ Busy me
-        busy now = busy-place e w k me x.number (omega
+        -- a carrier that is settled
+        pub settle-many : a.stage ≡ Routed (Settling x) why gone → x.kind ≡ Multi
+        settle-many now = (fits (Routed (Settling x) why gone) now).0.0
+
+        pub settle-place : a.stage ≡ Routed (Settling x) why gone
+            → w.shared.places x.number ≡ Busy me
+        settle-place now = busy-place e w k me x.number (omega
             (arith, ap (hand_sum (has_number x.number) none) now, one-itself x.number))
 
-        -- a carrier that is settled
         pub settle-number : a.stage ≡ Routed (Settling x) why gone → IsNumber e x.number
         settle-number now = there-number x.number
-            (λ q. let never : Busy me ≡ Absent = sym (busy now) ∙ q in cc)
+            (λ q. let never : Busy me ≡ Absent = sym (settle-place now) ∙ q in cc)
 
         pub settle-laid : a.stage ≡ Routed (Settling x) why gone → IsLaidOut x
         settle-laid now = let laid = k.ranges.hand_laid me in by a.stage now laid where

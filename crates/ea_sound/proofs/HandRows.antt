@@ -119,7 +119,7 @@ belongs-taken multi l =
     record { owner = l.owner; low = l.low; high = l.high; stays = inl multi }
 
 -- a multiblock carrier is laid out for many blocks
-multi-laid : (x : Content) → x.kind ≡ Multi → IsLaidOutAsKind x → IsLaidOut x
+pub multi-laid : (x : Content) → x.kind ≡ Multi → IsLaidOutAsKind x → IsLaidOut x
 multi-laid x multi laid = elim laid [
   | inl many ↦ many
   | inr one ↦ absurd (let t : Multi ≡ Single = sym multi ∙ one.single in cc)

@@ -140,6 +140,7 @@ pub mod Asked
 pub mod TraceNames
 pub mod Calls
 pub mod CarrierCalls
+pub mod LeavingCalls
 pub mod OffWalks
 pub mod OffStages
 pub mod Paths
