@@ -141,6 +141,9 @@ pub mod TraceNames
 pub mod Calls
 pub mod CarrierCalls
 pub mod LeavingCalls
+pub mod HeldBlocks
+pub mod ReleasingCalls
+pub mod WalkCalls
 pub mod OffWalks
 pub mod OffStages
 pub mod Paths
