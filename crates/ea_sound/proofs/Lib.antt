@@ -143,6 +143,7 @@ pub mod CarrierCalls
 pub mod LeavingCalls
 pub mod HeldBlocks
 pub mod ReleasingCalls
+pub mod AskedCalls
 pub mod WalkCalls
 pub mod OffWalks
 pub mod OffStages

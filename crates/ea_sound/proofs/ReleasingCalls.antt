@@ -118,8 +118,8 @@ module _ (c : Config) (t : Trace) (valid : IsValidConfig c)
     pub release-block : IsSome (block_in (employed a.instance) hand.spot)
     release-block =
         let (x, found, (b, there, named)) = block in
-        subst IsSome (sym (ap (option_and_then (λ (z : Content). block_at z.blocks hand.spot.offset))
-        found ∙ there)) refl
+        let at_spot = option_and_then (λ (z : Content). block_at z.blocks hand.spot.offset) in
+        subst IsSome (sym (ap at_spot found ∙ there)) refl
 
     -- the carrier after the release
     released-found : content_of (employed after) at_hand

@@ -1,0 +1,191 @@
+-- What a scheduler has that asks for a place, in each reached state, while it searches, before it
+-- fetches, and before it creates a carrier: the operation is left that asks, its need can be placed,
+-- its name is one of the trace and isn't held, and the old block of a reallocation is; nothing is
+-- chosen among the employed carriers; a carrier that is fetched has a choice; and the plan of one
+-- that is created is still the plan.
+use Rattle.std.proofs.Common.{◌≡◌, ℕ, ◌%◌, ◌<◌, ◌≤◌, true, List, [], ◌∷◌, sym, ap, ◌∙◌, subst}
+use Rattle.std.proofs.Common.{refl, arith}
+use Rattle.std.specs.Prelude.{None, Some, Ok, ◌⊎◌}
+use Rattle.ea_model.specs.declared.carriers.CarrierPlan.{CarrierPlan}
+use Rattle.ea_model.specs.declared.carriers.Spot.{Spot}
+use Rattle.ea_model.specs.declared.operations.Op.{Op}
+use Rattle.ea_model.specs.declared.operations.Op.TheVariants as op
+use Rattle.ea_model.specs.declared.settings.Config.{Config}
+use Rattle.ea_model.specs.declared.trace.Trace.{Trace}
+use Rattle.ea_model.specs.declared.units.TheConstants.{MAX_PAGES, MIN_BLOCK, SEARCH_LIMIT}
+use Rattle.ea_model.specs.Content.{Content}
+use Rattle.ea_model.specs.Employment.{employing}
+use Rattle.ea_model.specs.Instance.{Instance, chosen_spot, plan, planned_own, with_own}
+use Rattle.ea_model.specs.Settings.{IsValidConfig}
+use Rattle.ea_model.specs.Trace.{IsScheduler, IsValidTrace}
+use Rattle.ea_model.proofs.Options.{same-some}
+use Rattle.ea_model.proofs.Rising.{item_at-All, item_at-new}
+use Rattle.ea_laws.specs.Kept.{HasPages, IsKept, own_number}
+use Rattle.ea_laws.proofs.Keeping.{IsKept-made}
+use Rattle.ea_laws.proofs.Owned.{unused-All}
+use Rattle.ea_machine.specs.declared.asks.Ask.{Ask}
+use Rattle.ea_machine.specs.declared.nodes.Named.{Named}
+use Rattle.ea_machine.specs.declared.owners.OwnerWord.{OwnerWord}
+use Rattle.ea_machine.specs.declared.stages.Stage.{Stage}
+use Rattle.ea_machine.specs.declared.stages.Stage.TheVariants.{Creating, Fetching, Searching}
+use Rattle.ea_machine.specs.Actor.{Actor}
+use Rattle.ea_machine.specs.Machine.{IsReached}
+use Rattle.ea_machine.specs.Nodes.{named_at}
+use Rattle.ea_machine.specs.Rows.{Won}
+use Rattle.ea_machine.specs.Setup.{Setup, is_scheduler, setup_of}
+use Rattle.ea_machine.specs.State.{State}
+use Rattle.ea_machine.specs.Table.{tried_at}
+use Rattle.ea_sound.specs.Present.{Asked, Fits, OfAsk, OldHeld, Rule}
+use Rattle.ea_sound.specs.Rule.{Kept}
+use Rattle.ea_sound.proofs.Asked.{first-operation, reached-rule}
+use Rattle.ea_sound.proofs.Entries.{ask-even, ask-least}
+use Rattle.ea_sound.proofs.FetchedFits.{won-from}
+use Rattle.ea_sound.proofs.HeldBlocks.{not_held}
+use Rattle.ea_sound.proofs.Numbered.{scheduler-seat}
+use Rattle.ea_sound.proofs.Plans.{own-between, planned-number}
+use Rattle.ea_sound.proofs.RowLeaves as rows
+use Rattle.ea_sound.proofs.SoundRanges.{number-scheduler}
+use Rattle.ea_sound.proofs.TraceNames.{IsNameOf}
+
+-- a planned carrier has a page at least, and no more than there can be
+pub plan-pages : (i : Instance) (need : ℕ) (p : CarrierPlan)
+    → IsKept i.settings i.number i.first i.end i.own → plan i need ≡ Ok p
+    → (1 ≤ p.pages) × (p.pages ≤ MAX_PAGES)
+plan-pages i need p kept asked =
+    let own = with_own (planned_own p) i.own in
+    let made = IsKept-made i need p kept asked in
+    let there = item_at-new own_number (planned_own p) i.own
+    (unused-All p.number i.own (planned-number i need p asked).2) in
+    let lies = own-between i.first i.end p.number (planned_own p) own made.laid there in (
+      item_at-All own_number HasPages p.number (planned_own p) own made.pages there,
+      omega (arith, lies.1, kept.within),
+    )
+
+module _ (c : Config) (t : Trace) (valid : IsValidConfig c)
+    (made : IsValidTrace c.schedulers t) (w : State) (reached : IsReached (setup_of c t) w)
+    (me : ℕ) (number : IsScheduler c.schedulers me) where
+  abbrev e : Setup
+  e = setup_of c t
+
+  abbrev a : Actor
+  a = w.actors me
+
+  is : is_scheduler e me ≡ true
+  is = number-scheduler e me number
+
+  rule : Rule e w
+  rule = reached-rule c t valid made w reached
+
+  k : Kept e w
+  k = rule.kept
+
+  fits : (stage : Stage Content) → a.stage ≡ stage → Fits e w me a stage
+  fits stage now = subst (Fits e w me a) now (rule.present.fits me)
+
+  -- the operation that asks is left
+  first-by : (ask : Ask) (todo : List Op) → a.todo ≡ todo → OfAsk ask todo
+      → (o : Op) × (ops : List Op) × (a.todo ≡ o ∷ ops)
+  first-by ask [] first of = absurd of
+  first-by ask (o ∷ ops) first of = (o, ops, first)
+
+  -- its name is one of the trace
+  name-by : (ask : Ask) (todo : List Op) → a.todo ≡ todo → OfAsk ask todo → IsNameOf t ask.name
+  name-by ask (op.Alloc name bytes ∷ ops) first of =
+      let is = first-operation c t valid made w reached me (op.Alloc name bytes) ops first in
+      subst (IsNameOf t) (sym of.0) (is.0.0.0, is.1)
+  name-by ask (op.Realloc old name bytes ∷ ops) first of =
+      let is = first-operation c t valid made w reached me (op.Realloc old name bytes) ops first in
+      subst (IsNameOf t) (sym of.0) (is.0.1.0, omega (arith, is.1))
+  name-by ask todo first of = absurd of
+
+  -- so is the old one
+  old-by : (ask : Ask) (todo : List Op) → a.todo ≡ todo → OfAsk ask todo → (h : Named)
+      → ask.old ≡ Some h → IsNameOf t h.name
+  old-by ask (op.Alloc name bytes ∷ ops) first of h old =
+      absurd (let never : None ≡ Some h = sym of.2 ∙ old in cc)
+  old-by ask (op.Realloc name fresh bytes ∷ ops) first of h old =
+      let is = first-operation c t valid made w reached me (op.Realloc name fresh bytes) ops first in
+      let (g, has, named) = of.2 in
+      let same : h.name ≡ name = ap (λ (x : Named). x.name) (same-some ask.old h g old has) ∙ named in
+      subst (IsNameOf t) (sym same) (is.0.0.0, omega (arith, is.1))
+  old-by ask todo first of h old = absurd of
+
+  -- of what is asked for
+  module _ (ask : Ask) (asked : Asked e w a ask) where
+    pub asked-even : ask.need % 2 ≡ 0
+    asked-even = ask-even ask a.todo asked.of
+
+    pub asked-least : MIN_BLOCK ≤ ask.need
+    asked-least = ask-least ask a.todo asked.of
+
+    pub asked-first : (o : Op) × (ops : List Op) × (a.todo ≡ o ∷ ops)
+    asked-first = first-by ask a.todo refl asked.of
+
+    pub asked-name : IsNameOf t ask.name
+    asked-name = name-by ask a.todo refl asked.of
+
+    pub asked-unheld : named_at ask.name a.held ≡ None
+    asked-unheld = not_held e w me (scheduler-seat e me is) k a refl ask.name asked.fresh
+
+    -- the old block is held, under a name of the trace
+    module _ (old : Named) (of : ask.old ≡ Some old) where
+      pub asked-old : named_at old.name a.held ≡ Some old
+      asked-old = subst (λ o. OldHeld o a.held) of asked.old
+
+      pub asked-old_name : IsNameOf t old.name
+      asked-old_name = old-by ask a.todo refl asked.of old of
+
+  -- in a search
+  module _ (ask : Ask) (n looked : ℕ) (now : a.stage ≡ Searching ask n looked) where
+    searches : Fits e w me a (Searching ask n looked)
+    searches = fits (Searching ask n looked) now
+
+    pub search-asked : Asked e w a ask
+    search-asked = searches.0
+
+    pub search-limit : looked < SEARCH_LIMIT
+    search-limit = searches.3
+
+    pub search-none : chosen_spot a.instance ask.need ≡ None
+    search-none = searches.4
+
+  -- before a try to fetch
+  module _ (ask : Ask) (n looked : ℕ) (seen : OwnerWord)
+      (now : a.stage ≡ Fetching ask n looked seen) where
+    fetches : Fits e w me a (Fetching ask n looked seen)
+    fetches = fits (Fetching ask n looked seen) now
+
+    pub fetch-asked : Asked e w a ask
+    fetch-asked = fetches.0
+
+    pub fetch-limit : looked ≤ SEARCH_LIMIT
+    fetch-limit = fetches.3
+
+    pub fetch-none : chosen_spot a.instance ask.need ≡ None
+    fetch-none = fetches.4
+
+    -- there is a choice with what it brings
+    pub fetched-chosen : (x : Content) → tried_at seen (w.shared.places n) ≡ Won x
+        → (spot : Spot) × (chosen_spot (employing a.instance x) ask.need ≡ Some spot)
+    fetched-chosen x won =
+        let (i, g, word, same) = won-from seen (w.shared.places n) x won in
+        rows.fetched-chosen e w me is rule ask n looked seen now i g x word same
+
+  -- before a carrier is created
+  module _ (ask : Ask) (p : CarrierPlan) (now : a.stage ≡ Creating ask p) where
+    creates : Fits e w me a (Creating ask p)
+    creates = fits (Creating ask p) now
+
+    pub create-asked : Asked e w a ask
+    create-asked = creates.0
+
+    pub create-plan : plan a.instance ask.need ≡ Ok p
+    create-plan = creates.1
+
+    -- where many blocks are to come to it, nothing is chosen before it
+    pub create-none : (p.single ≡ true) ⊎ (chosen_spot a.instance ask.need ≡ None)
+    create-none = creates.3
+
+    pub create-pages : (1 ≤ p.pages) × (p.pages ≤ MAX_PAGES)
+    create-pages = plan-pages a.instance ask.need p (k.ranges.instances me is).order.kept
+        creates.1
