@@ -2,3 +2,4 @@ pub mod Own
 pub mod Merging
 pub mod Kept
 pub mod Answers
+pub mod Hands

@@ -2,9 +2,11 @@
 //! it employs.
 #![tactic(auto)]
 
+mod held;
 mod instance;
 mod lines;
 mod own;
 
 pub use ea_model::CarrierPlan;
+pub use held::Held;
 pub use instance::Instance;

@@ -1,0 +1,87 @@
+//! A carrier in a scheduler's hand.
+ghost use Rattle.std.specs.Prelude.{◌≡◌, [], ◌↔◌, IsTrue};
+ghost use Rattle.ea_model.specs.declared.carriers.Kind.TheVariants as kind;
+
+use ea_mbc::Mbc;
+use ea_sbc::Sbc;
+use std::marker::Model;
+
+/// A carrier by its kind.
+#[derive(Drop)]
+enum Part {
+    /// One that may have many blocks.
+    Multi { carrier: Mbc },
+    /// One that has one block at most.
+    Single { carrier: Sbc },
+}
+
+/// A multiblock or singleblock carrier that a scheduler has in its hand. Contracts see it as its
+/// content.
+#[derive(Drop)]
+pub struct Held {
+    part: Part,
+}
+
+impl Model for Held {
+    ghost use Rattle.ea_model.specs.Content.{Content};
+    ghost use Rattle.ea_instance.specs.Hands.{IsOfKind, content_in};
+
+    ghost Value = { Content };
+
+    ghost view = { λ h. content_in h.part };
+
+    ghost invariant = { λ h. IsOfKind h.part };
+}
+
+impl Held {
+    /// A multiblock carrier.
+    pub fn multi(carrier: Mbc) -> Held
+        ensures { result ≡ carrier }
+    {
+        carrier.laid_out();
+        Held {
+            part: Part::Multi { carrier },
+        }
+    }
+
+    /// A singleblock carrier.
+    pub fn single(carrier: Sbc) -> Held
+        ensures { result ≡ carrier }
+    {
+        carrier.units();
+        Held {
+            part: Part::Single { carrier },
+        }
+    }
+
+    /// Its number.
+    pub fn number(&self) -> u32
+        ensures { result ≡ self.now.number }
+    {
+        match &self.part {
+            Part::Multi { carrier } => carrier.number(),
+            Part::Single { carrier } => carrier.number(),
+        }
+    }
+
+    /// Whether it has no block.
+    pub fn is_empty(&self) -> bool
+        ensures { IsTrue result ↔ (self.now.blocks ≡ []) }
+    {
+        match &self.part {
+            Part::Multi { carrier } => carrier.is_empty(),
+            Part::Single { carrier } => carrier.block().is_none(),
+        }
+    }
+
+    /// The carrier itself, where it is a multiblock carrier.
+    pub fn into_multi(self) -> Mbc
+        requires { self.kind ≡ kind.Multi }
+        ensures { result ≡ self }
+    {
+        match self.part {
+            Part::Multi { carrier } => carrier,
+            Part::Single { .. } => unreachable!(),
+        }
+    }
+}
