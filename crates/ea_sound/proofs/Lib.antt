@@ -142,6 +142,7 @@ pub mod Calls
 pub mod CarrierCalls
 pub mod LeavingCalls
 pub mod HeldBlocks
+pub mod WordCalls
 pub mod ReleasingCalls
 pub mod AskedCalls
 pub mod WalkCalls
