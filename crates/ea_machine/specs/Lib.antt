@@ -1,6 +1,7 @@
 -- What there is: of a run, of what schedulers share, and of one of them.
 pub mod Setup
 pub mod Owners
+pub mod Words
 pub mod Nodes
 pub mod Alike
 pub mod Shared

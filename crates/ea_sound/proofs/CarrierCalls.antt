@@ -62,7 +62,8 @@ use Rattle.ea_sound.proofs.Numbered.{scheduler-seat}
 use Rattle.ea_sound.proofs.OwnEntries.{IsSomewhere, not_here-none, owner-has, owner-scheduler}
 use Rattle.ea_sound.proofs.OwnEntries.{somewhere-hand, somewhere-home, somewhere-returning, this}
 use Rattle.ea_sound.specs.Leaves.{InOperation, InWalk}
-use Rattle.ea_sound.specs.Steady.{AreSteady, IsLargest, IsShown, IsSteadyStage}
+use Rattle.ea_machine.specs.Words.{IsLargest}
+use Rattle.ea_sound.specs.Steady.{AreSteady, IsShown, IsSteadyStage}
 use Rattle.ea_sound.proofs.Assembly.{Closed, Holds, turned-holds}
 use Rattle.ea_sound.proofs.CarrierMoves.{closed}
 use Rattle.ea_sound.proofs.LargestGaps.{laid-largest}

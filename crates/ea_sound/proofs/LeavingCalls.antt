@@ -27,7 +27,7 @@ use Rattle.ea_sound.specs.Places.{IsNumber, has_number, none}
 use Rattle.ea_sound.specs.Present.{Fits, Rule}
 use Rattle.ea_sound.specs.Ranges.{IsLaidOutAsKind}
 use Rattle.ea_sound.specs.Rule.{Belongs, Kept, of_owner}
-use Rattle.ea_sound.specs.Steady.{IsLargest}
+use Rattle.ea_machine.specs.Words.{IsLargest}
 use Rattle.ea_sound.proofs.Asked.{reached-rule}
 use Rattle.ea_sound.proofs.CarrierCalls.{there-number}
 use Rattle.ea_sound.proofs.Created.{scheduler-number}

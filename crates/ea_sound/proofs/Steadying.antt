@@ -15,7 +15,8 @@ use Rattle.ea_machine.specs.Setup.{Setup, is_scheduler}
 use Rattle.ea_machine.specs.State.{State}
 use Rattle.ea_machine.specs.Table.{answer, link_answer, link_read, won_if}
 use Rattle.ea_sound.specs.Rule.{Kept}
-use Rattle.ea_sound.specs.Steady.{AreSteady, IsLargest, IsShown, IsSteady, IsSteadyStage}
+use Rattle.ea_machine.specs.Words.{IsLargest}
+use Rattle.ea_sound.specs.Steady.{AreSteady, IsShown, IsSteady, IsSteadyStage}
 use Rattle.ea_sound.specs.Steady.{TellsShown}
 use Rattle.ea_sound.proofs.LargestGaps.{laid-largest}
 use Rattle.ea_sound.proofs.SteadyWork.{after-steady}

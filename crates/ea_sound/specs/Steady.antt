@@ -1,6 +1,5 @@
 -- What the steps of a scheduler keep of its walk and of its route, whatever the others do.
-use Rattle.std.specs.Prelude.{◌≡◌, ℕ, ◌%◌, ◌≤◌, Bool, true, false, List, [], ◌∷◌, None}
-use Rattle.ea_model.specs.declared.units.TheConstants.{MAX_UNITS}
+use Rattle.std.specs.Prelude.{◌≡◌, ℕ, Bool, true, false, List, [], ◌∷◌, None}
 use Rattle.ea_model.specs.Content.{Content}
 use Rattle.ea_machine.specs.declared.owners.OwnerWord.{OwnerWord}
 use Rattle.ea_machine.specs.declared.owners.OwnerWord.TheVariants as word
@@ -19,6 +18,7 @@ use Rattle.ea_machine.specs.declared.tasks.Why.TheVariants.{Walk, For}
 use Rattle.ea_machine.specs.Rows.{Answer, Saw}
 use Rattle.ea_machine.specs.Setup.{Setup, is_scheduler}
 use Rattle.ea_machine.specs.State.{State}
+use Rattle.ea_machine.specs.Words.{IsLargest}
 
 -- whether a route is that of a node of the walk
 abbrev pub is_walked : Why → Bool
@@ -37,10 +37,6 @@ works_off (Giving given to) = false
 works_off (Taking name tries left) = false
 works_off Ended = false
 works_off Ready = false
-
--- the units of a largest gap that a word can show
-abbrev pub IsLargest : ℕ → Type 0
-IsLargest units = (units % 2 ≡ 0) × (units ≤ MAX_UNITS)
 
 -- a word that a look can show, by what it says of the pool
 abbrev pub IsShown : Setup → OwnerWord → Type 0
