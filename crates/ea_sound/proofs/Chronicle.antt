@@ -33,7 +33,8 @@ use Rattle.ea_machine.specs.declared.tasks.Gone.TheVariants.{Open, Here, Queued}
 use Rattle.ea_machine.specs.declared.asks.Ask.{Ask}
 use Rattle.ea_sound.specs.Chosen.{HasAsked, IsPlacedAt}
 use Rattle.ea_sound.specs.Entries.{Makes}
-use Rattle.ea_sound.specs.HandedOver.{HasHeld, HasPushed, HasSeen, IsAnother}
+use Rattle.ea_sound.specs.HandedOver.{HasHeld, HasPushed, IsAnother, IsReleasedHere}
+use Rattle.ea_sound.specs.Shown.{HasSeen, SeesEmployer, SeesItself}
 use Rattle.ea_machine.specs.declared.nodes.Node.{Node}
 use Rattle.ea_machine.specs.Nodes.{block_node}
 use Rattle.ea_sound.specs.Exhausted.{IsFailOf, seen_since}
@@ -136,7 +137,7 @@ pub record Placement (e : Setup) (L : List ℕ) (s : ℕ) (log : List Entry) (na
   pub same : log_after e before s ≡ log
   pub need : ℕ
   pub asked : HasAsked e (before ++ s ∷ []) s need log
-  pub placed : IsPlacedAt e (run e before) s need place
+  pub placed : IsPlacedAt e before s need place
   pub there : LiesAt e name place (run e (before ++ s ∷ []))
 
 abbrev pub Placing : Setup → List ℕ → ℕ → List Entry → Task → Type 0
@@ -162,11 +163,15 @@ pub record IsOut (e : Setup) (L : List ℕ) (n : ℕ) : Type 0 where
   pub none : blocks_named e n (run e before) ≡ 0
   pub never : to_make e n (run e before) ≡ 0
 
+-- and the block that was held under it was released by s itself
+abbrev pub IsOver : Setup → List ℕ → ℕ → List Entry → ℕ → Type 0
+IsOver e L s log n = IsOut e L n × IsReleasedHere e L s n log
+
 -- so where the block is gone: it isn't queued
-abbrev pub LeftBy : Setup → List ℕ → ℕ → Gone → Type 0
-LeftBy e L n Open = IsOut e L n
-LeftBy e L n Here = IsOut e L n
-LeftBy e L n (Queued to) = ⊥
+abbrev pub LeftBy : Setup → List ℕ → ℕ → List Entry → ℕ → Gone → Type 0
+LeftBy e L s log n Open = IsOver e L s log n
+LeftBy e L s log n Here = IsOver e L s log n
+LeftBy e L s log n (Queued to) = ⊥
 
 -- the node is that of the block that was held when the operation began, and `to` is the employer
 -- that s saw; where carriers don't migrate, the owner
@@ -175,7 +180,7 @@ pub record Sends (e : Setup) (L : List ℕ) (s : ℕ) (log : List Entry) (n : �
   pub named : Named
   pub is : node ≡ block_node named
   pub held : HasHeld e L s n named log
-  pub seen : migration e ≡ true → HasSeen e L s named to log
+  pub seen : migration e ≡ true → HasSeen e L s log (SeesEmployer s named to)
   pub owner : migration e ≡ false → to ≡ owner_of named.spot.carrier
 
 -- and it was pushed
@@ -183,19 +188,19 @@ pub record Sent (e : Setup) (L : List ℕ) (s : ℕ) (log : List Entry) (n to : 
   pub named : Named
   pub held : HasHeld e L s n named log
   pub pushed : HasPushed e L s named to log
-  pub seen : migration e ≡ true → HasSeen e L s named to log
+  pub seen : migration e ≡ true → HasSeen e L s log (SeesEmployer s named to)
   pub owner : migration e ≡ false → to ≡ owner_of named.spot.carrier
 
 -- the block is gone, or its node is to be pushed
 abbrev pub PushesBy : Setup → List ℕ → ℕ → List Entry → ℕ → Node → ℕ → Gone → Type 0
-PushesBy e L s log n node to Open = IsOut e L n
-PushesBy e L s log n node to Here = IsOut e L n
+PushesBy e L s log n node to Open = IsOver e L s log n
+PushesBy e L s log n node to Here = IsOver e L s log n
 PushesBy e L s log n node to (Queued i) = Sends e L s log n node to × (i ≡ to)
 
 -- the block is gone, or its node was pushed
 abbrev pub PushedBy : Setup → List ℕ → ℕ → List Entry → ℕ → Gone → Type 0
-PushedBy e L s log n Open = IsOut e L n
-PushedBy e L s log n Here = IsOut e L n
+PushedBy e L s log n Open = IsOver e L s log n
+PushedBy e L s log n Here = IsOver e L s log n
 PushedBy e L s log n (Queued to) = Sent e L s log n to
 
 -- the block that was held under the name is in the hand, or it left that
@@ -203,10 +208,10 @@ abbrev pub OnWay : Setup → List ℕ → ℕ → List Entry → ℕ → Route C
 OnWay e L s log n (Looking h) g = (h.name ≡ n) × (g ≡ Open) × HasHeld e L s n h log
 OnWay e L s log n (Trying h seen) g = (h.name ≡ n) × (g ≡ Open) × HasHeld e L s n h log
     × ((l : ℕ) × (seen ≡ word.Pooled s l))
-OnWay e L s log n (Settling x) g = LeftBy e L n g
-OnWay e L s log n (Abandoning x) g = LeftBy e L n g
-OnWay e L s log n (Sending x) g = LeftBy e L n g
-OnWay e L s log n (Clearing x) g = LeftBy e L n g
+OnWay e L s log n (Settling x) g = LeftBy e L s log n g
+OnWay e L s log n (Abandoning x) g = LeftBy e L s log n g
+OnWay e L s log n (Sending x) g = LeftBy e L s log n g
+OnWay e L s log n (Clearing x) g = LeftBy e L s log n g
 OnWay e L s log n (Pushing node to) g = PushesBy e L s log n node to g
 OnWay e L s log n (Linking node to) g = PushedBy e L s log n g
 
@@ -313,9 +318,9 @@ held-longer e L s j n h log has = record {
   held = has.held;
 }
 
-pub seen-longer : (e : Setup) (L : List ℕ) (s j : ℕ) (h : Named) (to : ℕ) (log : List Entry)
-    → HasSeen e L s h to log → HasSeen e (L ++ j ∷ []) s h to log
-seen-longer e L s j h to log has = record {
+pub seen-longer : (e : Setup) (L : List ℕ) (s j : ℕ) (log : List Entry) (Sees : State → Type 0)
+    → HasSeen e L s log Sees → HasSeen e (L ++ j ∷ []) s log Sees
+seen-longer e L s j log Sees has = record {
   before = has.before;
   since = has.since ++ j ∷ [];
   split = longer L has.before has.since s j has.split;
@@ -337,23 +342,35 @@ out-longer e L j n o = record {
   never = o.never;
 }
 
-pub left-longer : (e : Setup) (L : List ℕ) (j n : ℕ) (g : Gone) → LeftBy e L n g
-    → LeftBy e (L ++ j ∷ []) n g
-left-longer e L j n Open o = out-longer e L j n o
-left-longer e L j n Here o = out-longer e L j n o
-left-longer e L j n (Queued to) o = absurd o
+pub over-longer : (e : Setup) (L : List ℕ) (s j : ℕ) (log : List Entry) (n : ℕ)
+    → IsOver e L s log n → IsOver e (L ++ j ∷ []) s log n
+over-longer e L s j log n o = (
+  out-longer e L j n o.0,
+  record {
+    named = o.1.named;
+    held = held-longer e L s j n o.1.named log o.1.held;
+    seen = λ on. seen-longer e L s j log (SeesItself s o.1.named) (o.1.seen on);
+    owner = o.1.owner;
+  },
+)
+
+pub left-longer : (e : Setup) (L : List ℕ) (s j : ℕ) (log : List Entry) (n : ℕ) (g : Gone)
+    → LeftBy e L s log n g → LeftBy e (L ++ j ∷ []) s log n g
+left-longer e L s j log n Open o = over-longer e L s j log n o
+left-longer e L s j log n Here o = over-longer e L s j log n o
+left-longer e L s j log n (Queued to) o = absurd o
 
 pub pushes-longer : (e : Setup) (L : List ℕ) (s j : ℕ) (log : List Entry) (n : ℕ) (node : Node)
     (to : ℕ) (g : Gone) → PushesBy e L s log n node to g
     → PushesBy e (L ++ j ∷ []) s log n node to g
-pushes-longer e L s j log n node to Open o = out-longer e L j n o
-pushes-longer e L s j log n node to Here o = out-longer e L j n o
+pushes-longer e L s j log n node to Open o = over-longer e L s j log n o
+pushes-longer e L s j log n node to Here o = over-longer e L s j log n o
 pushes-longer e L s j log n node to (Queued i) o = (
   record {
     named = o.0.named;
     is = o.0.is;
     held = held-longer e L s j n o.0.named log o.0.held;
-    seen = λ on. seen-longer e L s j o.0.named to log (o.0.seen on);
+    seen = λ on. seen-longer e L s j log (SeesEmployer s o.0.named to) (o.0.seen on);
     owner = o.0.owner;
   },
   o.1,
@@ -361,8 +378,8 @@ pushes-longer e L s j log n node to (Queued i) o = (
 
 pub pushed-longer : (e : Setup) (L : List ℕ) (s j : ℕ) (log : List Entry) (n : ℕ) (g : Gone)
     → PushedBy e L s log n g → PushedBy e (L ++ j ∷ []) s log n g
-pushed-longer e L s j log n Open o = out-longer e L j n o
-pushed-longer e L s j log n Here o = out-longer e L j n o
+pushed-longer e L s j log n Open o = over-longer e L s j log n o
+pushed-longer e L s j log n Here o = over-longer e L s j log n o
 pushed-longer e L s j log n (Queued to) o = record {
   named = o.named;
   held = held-longer e L s j n o.named log o.held;
@@ -373,7 +390,7 @@ pushed-longer e L s j log n (Queued to) o = record {
     same = o.pushed.same;
     queue = o.pushed.queue;
   };
-  seen = λ on. seen-longer e L s j o.named to log (o.seen on);
+  seen = λ on. seen-longer e L s j log (SeesEmployer s o.named to) (o.seen on);
   owner = o.owner;
 }
 
@@ -382,10 +399,10 @@ way-longer : (e : Setup) (L : List ℕ) (s j : ℕ) (log : List Entry) (n : ℕ)
 way-longer e L s j log n (Looking h) g w = (w.0, w.1, held-longer e L s j n h log w.2)
 way-longer e L s j log n (Trying h seen) g w =
     (w.0, w.1, held-longer e L s j n h log w.2, w.3)
-way-longer e L s j log n (Settling x) g w = left-longer e L j n g w
-way-longer e L s j log n (Abandoning x) g w = left-longer e L j n g w
-way-longer e L s j log n (Sending x) g w = left-longer e L j n g w
-way-longer e L s j log n (Clearing x) g w = left-longer e L j n g w
+way-longer e L s j log n (Settling x) g w = left-longer e L s j log n g w
+way-longer e L s j log n (Abandoning x) g w = left-longer e L s j log n g w
+way-longer e L s j log n (Sending x) g w = left-longer e L s j log n g w
+way-longer e L s j log n (Clearing x) g w = left-longer e L s j log n g w
 way-longer e L s j log n (Pushing node to) g w = pushes-longer e L s j log n node to g w
 way-longer e L s j log n (Linking node to) g w = pushed-longer e L s j log n g w
 

@@ -30,7 +30,8 @@ use Rattle.ea_machine.specs.declared.tasks.Gone.TheVariants.{Open, Here, Queued}
 use Rattle.ea_machine.specs.declared.asks.Ask.{Ask}
 use Rattle.ea_sound.specs.Chosen.{Created, Creates, HasAsked, IsJustBefore, IsPlacedAt, IsPlacement}
 use Rattle.ea_sound.specs.Entries.{Tells}
-use Rattle.ea_sound.specs.HandedOver.{HasHeld, IsAnother, SeesEmployer}
+use Rattle.ea_sound.specs.HandedOver.{HasHeld, IsAnother, IsReleasedHere}
+use Rattle.ea_sound.specs.Shown.{SeesEmployer, SeesItself}
 use Rattle.ea_sound.specs.Exhausted.{FindsNoPlace, IsExhausted, IsFailOf}
 use Rattle.ea_machine.specs.Machine.{run, wants}
 use Rattle.ea_machine.specs.declared.nodes.Named.{Named}
@@ -206,10 +207,14 @@ module _ (e : Setup) (rules : (L : List ℕ) → Rule e (run e L)) (L : List ℕ
       there = h.there;
     }
 
-    -- none of its name is left, or its node was pushed
+    -- the block that was held under the name is released by the scheduler itself
+    abbrev IsMine : ℕ → Type 0
+    IsMine n = IsReleasedHere e turn me n acting.log
+
+    -- and none of its name is left, or its node was pushed
     abbrev pub EndsOut : ℕ → Gone → Type 0
-    EndsOut n Open = blocks_of_name e n (run e turn) ≡ 0
-    EndsOut n Here = blocks_of_name e n (run e turn) ≡ 0
+    EndsOut n Open = (blocks_of_name e n (run e turn) ≡ 0) × IsMine n
+    EndsOut n Here = (blocks_of_name e n (run e turn) ≡ 0) × IsMine n
     EndsOut n (Queued to) = Sent e turn me acting.log n to
 
     entry-tells : (task : Task) (g : Gone) → Placing e turn me acting.log task
@@ -251,8 +256,9 @@ module _ (e : Setup) (rules : (L : List ℕ) → Rule e (run e L)) (L : List ℕ
     GoesOut task b = (c : Actor) → IsNow c → of_hand (only (name_in task)) c.stage ≡ 0
         → c.held ≡ b.held → c.passed ≡ b.passed → NoneNow e rules L me (name_in task)
 
-    left-out : (n : ℕ) (g : Gone) → NotSent g → NoneNow e rules L me n → LeftBy e turn n g
-    left-out n g not none = by g not where
+    left-out : (n : ℕ) (g : Gone) → NotSent g → NoneNow e rules L me n → IsMine n
+        → LeftBy e turn me acting.log n g
+    left-out n g not none mine = by g not where
       out : IsOut e turn n
       out = record {
         before = turn;
@@ -262,57 +268,71 @@ module _ (e : Setup) (rules : (L : List ℕ) → Rule e (run e L)) (L : List ℕ
         never = none.1;
       }
 
-      by : (g : Gone) → NotSent g → LeftBy e turn n g
-      by Open y = out
-      by Here y = out
+      by : (g : Gone) → NotSent g → LeftBy e turn me acting.log n g
+      by Open y = (out, mine)
+      by Here y = (out, mine)
       by (Queued to) y = y
 
     -- with the block in the hand before
-    pub hand-becomes : (task : Task) (h : Named) → h.name ≡ name_in task
-        → (o : Option (Route Content)) (g : Gone) (b : Actor) (Shows : ℕ → Type 0)
-        → Yields me Shows h o g → GoesOut task b
-        → HasHeld e turn me (name_in task) h acting.log
-        → ((to : ℕ) → Shows to → SeesEmployer (run e L) me h to) → (migration e ≡ false → ⊥)
-        → Becomes task o g b
-    hand-becomes task h name None Open b Shows y out held sees on =
-        λ now. (out (logged (entry_of task Open) b) now refl refl refl).0
-    hand-becomes task h name None Here b Shows y out held sees on =
-        λ now. (out (logged (entry_of task Here) b) now refl refl refl).0
-    hand-becomes task h name None (Queued to) b Shows y out held sees on = absurd y
-    hand-becomes task h name (Some (Looking k)) g b Shows y out held sees on = absurd y
-    hand-becomes task h name (Some (Trying k seen)) g b Shows y out held sees on =
-        λ now. (
-          ap (λ (x : Named). x.name) y.0 ∙ name,
-          y.1,
-          subst (λ m. HasHeld e turn me (name_in task) m acting.log) (sym y.0) held,
-          y.2,
-        )
-    hand-becomes task h name (Some (Settling x)) g b Shows y out held sees on =
-        λ now. left-out (name_in task) g y (out _ now refl refl refl)
-    hand-becomes task h name (Some (Abandoning x)) g b Shows y out held sees on =
-        λ now. left-out (name_in task) g y (out _ now refl refl refl)
-    hand-becomes task h name (Some (Sending x)) g b Shows y out held sees on =
-        λ now. left-out (name_in task) g y (out _ now refl refl refl)
-    hand-becomes task h name (Some (Clearing x)) g b Shows y out held sees on =
-        λ now. left-out (name_in task) g y (out _ now refl refl refl)
-    hand-becomes task h name (Some (Pushing node to)) g b Shows y out held sees on =
-        λ now. subst (PushesBy e turn me acting.log (name_in task) node to) (sym y.1) (
-          record {
-            named = h;
-            is = y.0;
-            held = held;
-            seen = λ m. record {
-              before = L;
-              since = [];
-              split = refl;
-              same = refl;
-              sees = sees to y.2;
-            };
-            owner = λ off. absurd (on off);
-          },
-          refl,
-        )
-    hand-becomes task h name (Some (Linking node to)) g b Shows y out held sees on = absurd y
+    module _ (task : Task) (h : Named) (name : h.name ≡ name_in task) (Shows : ℕ → Type 0)
+        (Mine : Type 0) (held : HasHeld e turn me (name_in task) h acting.log)
+        (sees : (to : ℕ) → Shows to → SeesEmployer me h to (run e L))
+        (itself : Mine → SeesItself me h (run e L)) (on : migration e ≡ false → ⊥) where
+      hand-mine : Mine → IsMine (name_in task)
+      hand-mine mine = record {
+        named = h;
+        held = held;
+        seen = λ m. record {
+          before = L;
+          since = [];
+          split = refl;
+          same = refl;
+          sees = itself mine;
+        };
+        owner = λ off. absurd (on off);
+      }
+
+      pub hand-becomes : (o : Option (Route Content)) (g : Gone) (b : Actor)
+          → Yields me Shows Mine h o g → GoesOut task b → Becomes task o g b
+      hand-becomes None Open b y out =
+          λ now. ((out (logged (entry_of task Open) b) now refl refl refl).0, hand-mine y.1)
+      hand-becomes None Here b y out =
+          λ now. ((out (logged (entry_of task Here) b) now refl refl refl).0, hand-mine y.1)
+      hand-becomes None (Queued to) b y out = absurd y.0
+      hand-becomes (Some (Looking k)) g b y out = absurd y
+      hand-becomes (Some (Trying k seen)) g b y out =
+          λ now. (
+            ap (λ (x : Named). x.name) y.0 ∙ name,
+            y.1,
+            subst (λ m. HasHeld e turn me (name_in task) m acting.log) (sym y.0) held,
+            y.2,
+          )
+      hand-becomes (Some (Settling x)) g b y out =
+          λ now. left-out (name_in task) g y.0 (out _ now refl refl refl) (hand-mine y.1)
+      hand-becomes (Some (Abandoning x)) g b y out =
+          λ now. left-out (name_in task) g y.0 (out _ now refl refl refl) (hand-mine y.1)
+      hand-becomes (Some (Sending x)) g b y out =
+          λ now. left-out (name_in task) g y.0 (out _ now refl refl refl) (hand-mine y.1)
+      hand-becomes (Some (Clearing x)) g b y out =
+          λ now. left-out (name_in task) g y.0 (out _ now refl refl refl) (hand-mine y.1)
+      hand-becomes (Some (Pushing node to)) g b y out =
+          λ now. subst (PushesBy e turn me acting.log (name_in task) node to) (sym y.1) (
+            record {
+              named = h;
+              is = y.0;
+              held = held;
+              seen = λ m. record {
+                before = L;
+                since = [];
+                split = refl;
+                same = refl;
+                sees = sees to y.2;
+              };
+              owner = λ off. absurd (on off);
+            },
+            refl,
+          )
+      hand-becomes (Some (Linking node to)) g b y out = absurd y
 
     out-now : (n : ℕ) → IsOut e turn n → blocks_of_name e n (run e turn) ≡ 0
     out-now n o = ap (λ K. blocks_of_name e n (run e K)) o.split
@@ -320,10 +340,10 @@ module _ (e : Setup) (rules : (L : List ℕ) → Rule e (run e L)) (L : List ℕ
 
     -- where it had left the hand before
     pub left-becomes : (task : Task) (o : Option (Route Content)) (g : Gone) (b : Actor)
-        → NotByWord o → LeftBy e turn (name_in task) g → Becomes task o g b
+        → NotByWord o → LeftBy e turn me acting.log (name_in task) g → Becomes task o g b
     left-becomes task o (Queued to) b y l = absurd l
-    left-becomes task None Open b y l = λ now. out-now (name_in task) l
-    left-becomes task None Here b y l = λ now. out-now (name_in task) l
+    left-becomes task None Open b y l = λ now. (out-now (name_in task) l.0, l.1)
+    left-becomes task None Here b y l = λ now. (out-now (name_in task) l.0, l.1)
     left-becomes task (Some (Looking k)) g b y l = absurd y
     left-becomes task (Some (Trying k seen)) g b y l = absurd y
     left-becomes task (Some (Settling x)) g b y l = λ now. l
@@ -338,8 +358,8 @@ module _ (e : Setup) (rules : (L : List ℕ) → Rule e (run e L)) (L : List ℕ
     -- where its node was pushed
     pub pushed-becomes : (task : Task) (g : Gone) (b : Actor)
         → PushedBy e turn me acting.log (name_in task) g → Becomes task None g b
-    pushed-becomes task Open b p = λ now. out-now (name_in task) p
-    pushed-becomes task Here b p = λ now. out-now (name_in task) p
+    pushed-becomes task Open b p = λ now. (out-now (name_in task) p.0, p.1)
+    pushed-becomes task Here b p = λ now. (out-now (name_in task) p.0, p.1)
     pushed-becomes task (Queued to) b p = λ now. p
 
     -- where carriers don't migrate nothing is done with a carrier in a step of its own
@@ -371,27 +391,41 @@ module _ (e : Setup) (rules : (L : List ℕ) → Rule e (run e L)) (L : List ℕ
       Goes : Turned → Type 0
       Goes t = Becomes task t.route t.gone t.actor
 
-      bare : migration e ≡ false → (o : Option (Route Content)) (g' : Gone) (c : Actor) → IsBare o
-          → NotSent g' → c.held ≡ a.held → c.passed ≡ a.passed → Becomes task o g' c
-      bare off None Open c i sent held passed = λ now.
-          held-out e rules L me (name_in task) works h b name there g.kept
-          (logged (entry_of task Open) c) now refl
-          (held ∙ ap (λ m. without_name m b.held) name) passed
-      bare off None Here c i sent held passed = λ now.
-          held-out e rules L me (name_in task) works h b name there g.kept
-          (logged (entry_of task Here) c) now refl
-          (held ∙ ap (λ m. without_name m b.held) name) passed
-      bare off None (Queued to) c i sent held passed = absurd sent
-      bare off (Some r) g' c i sent held passed =
+      mine : migration e ≡ false → owner_of h.spot.carrier ≡ me → IsMine (name_in task)
+      mine off own = record {
+        named = h;
+        held = had;
+        seen = λ on. absurd (true≢false (sym on ∙ off));
+        owner = λ off. own;
+      }
+
+      bare : migration e ≡ false → owner_of h.spot.carrier ≡ me → (o : Option (Route Content))
+          (g' : Gone) (c : Actor) → IsBare o → NotSent g' → c.held ≡ a.held → c.passed ≡ a.passed
+          → Becomes task o g' c
+      bare off own None Open c i sent held passed = λ now. (
+        held-out e rules L me (name_in task) works h b name there g.kept
+            (logged (entry_of task Open) c) now refl
+            (held ∙ ap (λ m. without_name m b.held) name) passed,
+        mine off own,
+      )
+      bare off own None Here c i sent held passed = λ now. (
+        held-out e rules L me (name_in task) works h b name there g.kept
+            (logged (entry_of task Here) c) now refl
+            (held ∙ ap (λ m. without_name m b.held) name) passed,
+        mine off own,
+      )
+      bare off own None (Queued to) c i sent held passed = absurd sent
+      bare off own (Some r) g' c i sent held passed =
           λ now. absurd (off-bare task r g' off i (sym (ap (λ (d : Actor). d.stage) now)))
 
-      owned : migration e ≡ false → (own : Bool) → Goes (owned_by e me own h a)
-      owned off true =
+      owned : migration e ≡ false → (own : Bool) → (owner_of h.spot.carrier == me) ≡ own
+          → Goes (owned_by e me own h a)
+      owned off true q =
           let t = release_here e me h Open a in
           let same = (here-short e me h Open a).1 in
-          bare off t.route t.gone t.actor (here-bare e me h Open a) (here-not_sent e me h a)
-          same.5 same.0
-      owned off false =
+          bare off (eqb-true (owner_of h.spot.carrier) me q) t.route t.gone t.actor
+          (here-bare e me h Open a) (here-not_sent e me h a) same.5 same.0
+      owned off false q =
           λ now. (
             record {
               named = h;
@@ -405,7 +439,7 @@ module _ (e : Setup) (rules : (L : List ℕ) → Rule e (run e L)) (L : List ℕ
 
       by : (on : Bool) → migration e ≡ on → Goes (routed e me on h a)
       by true on = λ now. (name, refl, had)
-      by false off = owned off (owner_of h.spot.carrier == me)
+      by false off = owned off (owner_of h.spot.carrier == me) refl
 
     -- where a block is queued, by the route that is left
     abbrev pub Queues : Gone → Option (Route Content) → Type 0
@@ -509,7 +543,7 @@ module _ (e : Setup) (rules : (L : List ℕ) → Rule e (run e L)) (L : List ℕ
 
     -- a block is placed
     stands-fine : (ask : Ask) (place : Place) (spot : Spot) (c : Actor) → Keeps acting c
-        → IsAsking ask → IsPlacedAt e (run e L) me ask.need place
+        → IsAsking ask → IsPlacedAt e L me ask.need place
         → OldHeld ask.old c.held → LiesWith ask.name place c.instance
         → IsGoing (holding ask.name spot c)
         → Fine (stands e me ask.name place ask.old (holding ask.name spot c))
@@ -550,7 +584,7 @@ module _ (e : Setup) (rules : (L : List ℕ) → Rule e (run e L)) (L : List ℕ
             now))
 
     placed_at-fine : (ask : Ask) (b : Actor) (spot : Spot) → Keeps acting b → IsAsking ask
-        → IsPlacedAt e (run e L) me ask.need (place_at b.instance spot ask.need)
+        → IsPlacedAt e L me ask.need (place_at b.instance spot ask.need)
         → chosen_spot b.instance ask.need ≡ Some spot → IsWanted b ask → IsGoing b
         → Fine (placed_at e me ask b spot)
     placed_at-fine ask b spot k o p chosen want g =
@@ -564,7 +598,7 @@ module _ (e : Setup) (rules : (L : List ℕ) → Rule e (run e L)) (L : List ℕ
     pub choice-fine : (ask : Ask) (b : Actor) (o : Option Spot)
         → chosen_spot b.instance ask.need ≡ o → Keeps acting b → IsAsking ask
         → ask.need ≤ e.settings.sbct
-        → IsJustBefore e (run e L) me ask.need b.instance → IsWanted b ask → IsGoing b
+        → IsJustBefore e L me ask.need b.instance → IsWanted b ask → IsGoing b
         → Fine (placed_by e me ask b o)
     choice-fine ask b None c k o small j want g =
         ((λ q. absurd cc), k.2 ∙ set, λ now. (tt, inl (k.0, k.1)))

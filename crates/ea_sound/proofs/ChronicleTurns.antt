@@ -20,6 +20,8 @@ use Rattle.ea_machine.specs.Actor.{Actor}
 use Rattle.ea_machine.specs.declared.tasks.Why.TheVariants.{Walk, For}
 use Rattle.ea_machine.specs.declared.asks.Ask.{Ask}
 use Rattle.ea_sound.specs.Chosen.{ByItself, Fetched}
+use Rattle.ea_sound.specs.FirstFits.{IsFirstFit}
+use Rattle.ea_sound.proofs.FetchedFits.{fetched-number, fetched-there}
 use Rattle.ea_model.specs.Employment.{employing}
 use Rattle.ea_machine.specs.Machine.{after_row, onward, onward_at, run, wants_at}
 use Rattle.ea_machine.specs.Operations.{took}
@@ -35,7 +37,7 @@ use Rattle.ea_machine.specs.Tasks.{halted, logged, let_go}
 use Rattle.ea_sound.specs.Turns.{actor_after, answered, begun}
 use Rattle.ea_sound.proofs.Chronicle.{AndShown, Fetches, IsSame, Searches, SoFar, Takes, Underway}
 use Rattle.ea_sound.proofs.Chronicle.{asked-longer, further, placing-longer, way-asked, LeftBy}
-use Rattle.ea_sound.proofs.Chronicle.{OnWay, WentTo, left-longer, out-longer, pushed-longer}
+use Rattle.ea_sound.proofs.Chronicle.{OnWay, WentTo, left-longer, over-longer, pushed-longer}
 use Rattle.ea_sound.proofs.Chronicle.{name_in, held-longer, old-longer, seen-longer, HasOld}
 use Rattle.ea_sound.proofs.HandedNames.{NeverGiven, is-given, is-taken, never-mine, tried-given}
 use Rattle.ea_sound.proofs.TurnLists.{longer, run-snoc, step-shared}
@@ -45,7 +47,8 @@ use Rattle.ea_machine.specs.State.{State}
 use Rattle.ea_machine.specs.Sums.{one_if}
 use Rattle.ea_sound.proofs.SearchLists.{count-snoc, counted-most, searched-look, searched-lost}
 use Rattle.ea_sound.proofs.SearchLists.{searched-on}
-use Rattle.ea_sound.proofs.SearchTurns.{fetch-tries, lost-other}
+use Rattle.ea_sound.proofs.SearchTurns.{busy-tries, fetch-tries, look-saw, lost-other}
+use Rattle.ea_sound.proofs.SearchTurns.{won-or_lost}
 use Rattle.ea_sound.proofs.BeginTurns.{IsInBegin, Walks, walks}
 use Rattle.ea_sound.proofs.ShortRoutes.{Keeps, keeps-same, turned-keeps, turned-short}
 use Rattle.ea_sound.proofs.ChroniclePlaces.{Becomes, Fine as IsFine, IsAsking, hand-becomes}
@@ -58,10 +61,15 @@ use Rattle.ea_sound.specs.Present.{Fits, FitsRoute, OfAsk, OldHeld, Rule}
 use Rattle.ea_sound.proofs.Operating.{begun-kept}
 use Rattle.ea_sound.proofs.RowLeaves.{row-left}
 use Rattle.ea_machine.specs.declared.owners.OwnerWord.TheVariants as word
-use Rattle.ea_sound.specs.HandedOver.{HasSeen, Looks, SeesEmployer, Tries}
-use Rattle.ea_sound.proofs.GoneRoutes.{ByWord, LookShows, TryShows, looking-yields, settled-gone}
-use Rattle.ea_sound.proofs.GoneRoutes.{settled-not}
-use Rattle.ea_sound.proofs.GoneRoutes.{trying-yields, turned-queued}
+use Rattle.ea_sound.specs.Shown.{Employs, HasSeen, Looks, Loses, SeesEmployer, SeesItself, Wins}
+use Rattle.ea_sound.specs.Heard.{HearsNoOther}
+use Rattle.ea_sound.proofs.Hearing.{hears-no_other}
+use Rattle.ea_machine.specs.Owners.{word_of}
+use Rattle.ea_machine.specs.Table.{tried_at}
+use Rattle.ea_sound.proofs.GoneRoutes.{ByWord, LookGives, LookShows, LookShowsMe, TryGives}
+use Rattle.ea_sound.proofs.GoneRoutes.{TryIsWon, TryShows, looking-yields, losing-yields}
+use Rattle.ea_sound.proofs.GoneRoutes.{settled-gone, settled-not, winning-yields}
+use Rattle.ea_sound.proofs.GoneRoutes.{turned-queued}
 use Rattle.ea_sound.proofs.GoneBlocks.{pushed-after, hand-out, look-names, name-one, try-names}
 use Rattle.ea_machine.specs.declared.tasks.Task.{Task}
 use Rattle.ea_machine.specs.declared.tasks.Gone.TheVariants.{Open, Here, Queued}
@@ -218,6 +226,26 @@ module _ (e : Setup) (rules : (L : List ℕ) → Rule e (run e L)) (L : List ℕ
     searched-fine ask at looked (Home x) st ans l h = halted-fine
     searched-fine ask at looked (Got x) st ans l h = halted-fine
 
+    -- the number that it tries to fetch is the first whose word fits
+    first-fit : (ask : Ask) (at looked : ℕ) (seen : OwnerWord)
+        → Fetches e L me acting ask at looked seen → IsFirstFit e L me ask.need at seen
+    first-fit ask at looked seen h = record {
+      before = h.way.before;
+      since = h.way.since;
+      split = h.way.split;
+      begins = h.way.begins;
+      same = sym h.way.same.0;
+      asks = h.way.asks;
+      none = h.way.none;
+      passed = h.way.saw.0;
+      looked = h.old;
+      searched = h.way.saw.2;
+      next = (refl, h.low, h.room);
+      fit = h.fit;
+      saw = h.way.saw.1;
+      steps = h.way.steps;
+    }
+
     fetched-fine : (ask : Ask) (at looked : ℕ) (seen : OwnerWord) (r : Answer)
         → acting.stage ≡ Fetching ask at looked seen → answered (run e L) me ≡ r
         → LeftAt (Fetching ask at looked seen) r → Fetches e L me acting ask at looked seen
@@ -227,8 +255,18 @@ module _ (e : Setup) (rules : (L : List ℕ) → Rule e (run e L)) (L : List ℕ
         (record acting { instance = employing acting.instance x })
         (chosen_spot (employing acting.instance x) ask.need) refl (refl, refl, refl)
         (asking ask _ h.of l.0.old h.way) h.small
-        (Fetched ask at looked seen x st refl
-        (ap (λ i. chosen_spot i ask.need) h.way.same.2 ∙ h.way.none) ans refl) l.0 l.2
+        (Fetched x (record {
+          ask = ask;
+          number = at;
+          looked = looked;
+          seen = seen;
+          stage = st;
+          asks = refl;
+          won = ans;
+          is = fetched-number e (run e L) (rules L) me at looked ask seen x st ans;
+          first = first-fit ask at looked seen h;
+          there = fetched-there e (run e L) (rules L) me at looked ask seen x st ans;
+        }) (ap (λ i. chosen_spot i ask.need) h.way.same.2 ∙ h.way.none) refl) l.0 l.2
     fetched-fine ask at looked seen (Lost u) st ans l h =
         subst (λ k. Fine (search_at e me ask (at - 1) k acting)) (sym h.counts)
         (search-fine e rules L me set is works ask (at - 1) (counted seen h.old) acting
@@ -367,31 +405,46 @@ module _ (e : Setup) (rules : (L : List ℕ) → Rule e (run e L)) (L : List ℕ
     abbrev Goes : Task → Turned → Type 0
     Goes task t = Becomes e rules L me set is works task t.route t.gone t.actor
 
-    look-sees : (task : Task) (h : Named) (z : Answer) → answered (run e L) me ≡ z
-        → acting.stage ≡ Routed (Looking h) (For task) Open → (to : ℕ) → LookShows z to
-        → SeesEmployer (run e L) me h to
-    look-sees task h (Saw v) ans q to w = Looks task v q ans w
-    look-sees task h Done ans q to w = absurd w
-    look-sees task h (Head x) ans q to w = absurd w
-    look-sees task h Rests ans q to w = absurd w
-    look-sees task h (Passes x) ans q to w = absurd w
-    look-sees task h (Won x) ans q to w = absurd w
-    look-sees task h (Lost x) ans q to w = absurd w
-    look-sees task h (Home x) ans q to w = absurd w
-    look-sees task h (Got x) ans q to w = absurd w
+    -- the look at the carrier of a block is answered, and the try to make it busy
+    module _ (task : Task) (h : Named) (z : Answer) (ans : answered (run e L) me ≡ z) where
+      hears : HearsNoOther e (run e L)
+      hears = hears-no_other e (run e L) (rules L)
 
-    try-sees : (task : Task) (h : Named) (l : ℕ) (z : Answer) → answered (run e L) me ≡ z
-        → acting.stage ≡ Routed (Trying h (word.Pooled me l)) (For task) Open → (to : ℕ)
-        → TryShows z to → SeesEmployer (run e L) me h to
-    try-sees task h l (Lost v) ans q to w = Tries task l v q ans w
-    try-sees task h l Done ans q to w = absurd w
-    try-sees task h l (Head x) ans q to w = absurd w
-    try-sees task h l Rests ans q to w = absurd w
-    try-sees task h l (Passes x) ans q to w = absurd w
-    try-sees task h l (Saw x) ans q to w = absurd w
-    try-sees task h l (Won x) ans q to w = absurd w
-    try-sees task h l (Home x) ans q to w = absurd w
-    try-sees task h l (Got x) ans q to w = absurd w
+      module _ (q : acting.stage ≡ Routed (Looking h) (For task) Open) where
+        look-gives : LookGives e me z h (turned e me (Looking h) Open acting z)
+        look-gives =
+            let v = word_of ((run e L).shared.places h.spot.carrier) in
+            let saw : answered (run e L) me ≡ Saw v =
+            ap (λ st. answer me (wants_at acting.next st) (run e L).shared) q
+            ∙ look-saw me h.spot.carrier (run e L).shared in
+            looking-yields e me h acting z v (sym ans ∙ saw)
+            (hears.looks me h (For task) Open v q saw)
+
+        look-sees : (to : ℕ) → LookShows z to → SeesEmployer me h to (run e L)
+        look-sees to w = Looks task w.0 q (ans ∙ w.1) w.2
+
+        look-itself : LookShowsMe z me → SeesItself me h (run e L)
+        look-itself w = Employs task q (ans ∙ w)
+
+      module _ (l : ℕ) (q : acting.stage ≡ Routed (Trying h (word.Pooled me l)) (For task) Open)
+        where
+          try-gives : TryGives e me z h (turned e me (Trying h (word.Pooled me l)) Open acting z)
+          try-gives =
+              let p = (run e L).shared.places h.spot.carrier in
+              let is : answered (run e L) me ≡ tried_at (word.Pooled me l) p =
+              ap (λ st. answer me (wants_at acting.next st) (run e L).shared) q
+              ∙ busy-tries me h.spot.carrier (word.Pooled me l) (run e L).shared in
+              elim (won-or_lost (word.Pooled me l) p) [
+                | inl x ↦ winning-yields e me h acting z (x.0, sym ans ∙ is ∙ x.1)
+                | inr u ↦ losing-yields e me h acting z u.0 (sym ans ∙ is ∙ u.1)
+                    (hears.tries me h (word.Pooled me l) (For task) Open u.0 q (is ∙ u.1))
+              ]
+
+          try-sees : (to : ℕ) → TryShows z to → SeesEmployer me h to (run e L)
+          try-sees to w = Loses task l w.0 q (ans ∙ w.1) w.2
+
+          try-itself : TryIsWon z → SeesItself me h (run e L)
+          try-itself w = Wins task l w.0 q (ans ∙ w.1)
 
     row-becomes : (task : Task) (g : Gone) (z : Answer) → answered (run e L) me ≡ z
         → (r : Route Content) → acting.stage ≡ Routed r (For task) g
@@ -400,53 +453,53 @@ module _ (e : Setup) (rules : (L : List ℕ) → Rule e (run e L)) (L : List ℕ
         subst (λ k. Goes task (turned e me (Looking h) k acting z)) (sym w.1)
         (let t = turned e me (Looking h) Open acting z in
         let same = (turned-short e me (Looking h) Open acting z).1 in
-        hand-becomes e rules L me set is works task h w.0 t.route t.gone t.actor (LookShows z)
-        (looking-yields e me h acting z)
+        let at = q ∙ ap (Routed (Looking h) (For task)) w.1 in
+        hand-becomes e rules L me set is works task h w.0 (LookShows z) (LookShowsMe z me)
+        (held-longer e L me me (name_in task) h acting.log w.2) (look-sees task h z ans at)
+        (look-itself task h z ans at) (λ off. words-on (Looking h) (For task) g q off tt)
+        t.route t.gone t.actor (look-gives task h z ans at)
         (λ c now empty held passed. hand-out e rules L me (name_in task) works
         (Routed (Looking h) (For task) g) q (name-one (name_in task) h w.0)
         (look-names e (only (name_in task)) me h.spot.carrier (run e L).shared) c now empty
-        (held ∙ same.5) (passed ∙ same.0))
-        (held-longer e L me me (name_in task) h acting.log w.2)
-        (look-sees task h z ans (q ∙ ap (Routed (Looking h) (For task)) w.1))
-        (λ off. words-on (Looking h) (For task) g q off tt))
+        (held ∙ same.5) (passed ∙ same.0)))
     row-becomes task g z ans (Trying h seen) q w =
         subst (λ k. Goes task (turned e me (Trying h seen) k acting z)) (sym w.1)
         (let t = turned e me (Trying h seen) Open acting z in
         let same = (turned-short e me (Trying h seen) Open acting z).1 in
-        hand-becomes e rules L me set is works task h w.0 t.route t.gone t.actor (TryShows z)
-        (trying-yields e me h acting z)
+        let at = q ∙ ap (Routed (Trying h seen) (For task)) w.1
+        ∙ ap (λ v. Routed (Trying h v) (For task) Open) w.3.1 in
+        hand-becomes e rules L me set is works task h w.0 (TryShows z) (TryIsWon z)
+        (held-longer e L me me (name_in task) h acting.log w.2) (try-sees task h z ans w.3.0 at)
+        (try-itself task h z ans w.3.0 at)
+        (λ off. words-on (Trying h seen) (For task) g q off tt) t.route t.gone t.actor
+        (try-gives task h z ans w.3.0 at)
         (λ c now empty held passed. hand-out e rules L me (name_in task) works
         (Routed (Trying h seen) (For task) g) q (name-one (name_in task) h w.0)
         (try-names e (only (name_in task)) me h.spot.carrier seen (run e L).shared) c now empty
-        (held ∙ same.5) (passed ∙ same.0))
-        (held-longer e L me me (name_in task) h acting.log w.2)
-        (try-sees task h w.3.0 z ans
-        (q ∙ ap (Routed (Trying h seen) (For task)) w.1
-        ∙ ap (λ v. Routed (Trying h v) (For task) Open) w.3.1))
-        (λ off. words-on (Trying h seen) (For task) g q off tt))
+        (held ∙ same.5) (passed ∙ same.0)))
     row-becomes task g z ans (Settling x) q w =
         let t = turned e me (Settling x) g acting z in
         left-becomes e rules L me set is works task t.route t.gone t.actor
         (settled-not e me (is_nil x.blocks) x g acting)
-        (subst (LeftBy e turn (name_in task))
+        (subst (LeftBy e turn me acting.log (name_in task))
         (sym (settled-gone e me (is_nil x.blocks) x g acting))
-        (left-longer e L me (name_in task) g w))
+        (left-longer e L me me acting.log (name_in task) g w))
     row-becomes task g z ans (Abandoning x) q w =
         left-becomes e rules L me set is works task None g acting tt
-        (left-longer e L me (name_in task) g w)
+        (left-longer e L me me acting.log (name_in task) g w)
     row-becomes task g z ans (Sending x) q w =
         left-becomes e rules L me set is works task
         (Some (Pushing (Carrier x.number) (owner_of x.number))) g acting tt
-        (left-longer e L me (name_in task) g w)
+        (left-longer e L me me acting.log (name_in task) g w)
     row-becomes task g z ans (Clearing x) q w =
         left-becomes e rules L me set is works task None g (disowned x.number acting) tt
-        (left-longer e L me (name_in task) g w)
+        (left-longer e L me me acting.log (name_in task) g w)
     row-becomes task Open z ans (Pushing node to) q w =
         left-becomes e rules L me set is works task (Some (Linking node to)) Open acting tt
-        (out-longer e L me (name_in task) w)
+        (over-longer e L me me acting.log (name_in task) w)
     row-becomes task Here z ans (Pushing node to) q w =
         left-becomes e rules L me set is works task (Some (Linking node to)) Here acting tt
-        (out-longer e L me (name_in task) w)
+        (over-longer e L me me acting.log (name_in task) w)
     row-becomes task (Queued i) z ans (Pushing node to) q w = λ now. record {
       named = w.0.named;
       held = held-longer e L me me (name_in task) w.0.named acting.log w.0.held;
@@ -463,8 +516,9 @@ module _ (e : Setup) (rules : (L : List ℕ) → Rule e (run e L)) (L : List ℕ
             ∙ ap (λ st. (effect me (wants_at acting.next st) (run e L).shared).queues to) q
             ∙ pushed-after me node to (run e L).shared));
       };
-      seen = λ on. seen-longer e L me me w.0.named i acting.log
-          (subst (λ j. HasSeen e L me w.0.named j acting.log) (sym w.1) (w.0.seen on));
+      seen = λ on. seen-longer e L me me acting.log (SeesEmployer me w.0.named i)
+          (subst (λ j. HasSeen e L me acting.log (SeesEmployer me w.0.named j)) (sym w.1)
+          (w.0.seen on));
       owner = λ off. w.1 ∙ w.0.owner off;
     }
     row-becomes task g z ans (Linking node to) q w =

@@ -1,9 +1,11 @@
 -- A carrier that is fetched has a gap for the block, which is placed there.
 use Rattle.std.proofs.Common.{◌≡◌, ℕ, ◌≤◌, ◌∙◌, Bool, true, false, List, [], ◌∷◌, refl, sym, ap}
 use Rattle.std.proofs.Common.{subst, inl, inr, arith}
-use Rattle.std.specs.Prelude.{Any}
+use Rattle.std.specs.Prelude.{Any, Some}
 use Rattle.std.proofs.lemmas.Bool.{cases_lt}
 use Rattle.ea_model.specs.declared.carriers.Gap.{Gap}
+use Rattle.ea_model.specs.declared.carriers.Spot.{Spot}
+use Rattle.ea_model.specs.Instance.{chosen_spot}
 use Rattle.ea_model.specs.Content.{Content, gaps_of, largest}
 use Rattle.ea_laws.proofs.Tails.{any_here, any_later}
 use Rattle.ea_machine.specs.declared.owners.OwnerWord.{OwnerWord}
@@ -70,8 +72,27 @@ module _ (e : Setup) (w : State) (rule : Rule e w) (s at looked : ℕ) (ask : As
   unfolding answer
   tried = sym (ap (λ (t : Stage Content). answer s (wants_at a.next t) w.shared) now) ∙ won
 
+  -- the carrier is that of the number
+  pub fetched-number : x.number ≡ at
+  fetched-number =
+      let (i, g, word, same) = won-from seen (w.shared.places at) x tried in
+      (rule.kept.placed.pooled at i g x word).0
+
   abbrev with_carrier : Actor
   with_carrier = record a { instance = employing a.instance x }
+
+  fits : Fits e w s a (Fetching ask at looked seen)
+  fits = subst (Fits e w s a) now (rule.present.fits s)
+
+  -- and what the strategy chooses then is in it
+  chosen-there : (spot : Spot) → chosen_spot with_carrier.instance ask.need ≡ Some spot
+      → spot.carrier ≡ x.number
+  chosen-there spot chosen = chosen-in_fetched a.instance ask.need x spot
+      (sure-strategy e s a.instance (rule.kept.ranges.instances s is) fits.5) fits.4 chosen
+
+  pub fetched-there : (spot : Spot) → chosen_spot with_carrier.instance ask.need ≡ Some spot
+      → spot.carrier ≡ at
+  fetched-there spot chosen = chosen-there spot chosen ∙ fetched-number
 
   fetch-fits : FetchFits e w s ask x
   fetch-fits =
@@ -83,15 +104,11 @@ module _ (e : Setup) (w : State) (rule : Rule e w) (s at looked : ℕ) (ask : As
         gap = large-gap ask.need (gaps_of x) least (omega (arith, room, pooled.3));
         spot = chosen.0;
         chosen = chosen.1;
-        there = chosen-in_fetched a.instance ask.need x chosen.0
-            (sure-strategy e s a.instance (rule.kept.ranges.instances s is) fits.5) fits.4 chosen.1;
+        there = chosen-there chosen.0 chosen.1;
         placed = ap (λ (r : Answer). after_row e s a r a.stage) won
             ∙ ap (after_row e s a (Won x)) now
             ∙ ap (placed_by e s ask with_carrier) chosen.1;
       } where
-        fits : Fits e w s a (Fetching ask at looked seen)
-        fits = subst (Fits e w s a) now (rule.present.fits s)
-
         least : 1 ≤ ask.need
         least = omega (arith, ask-least ask a.todo fits.0.of)
 

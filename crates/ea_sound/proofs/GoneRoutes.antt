@@ -25,7 +25,8 @@ use Rattle.ea_machine.specs.Releases.{release_here, route_of, routed, sent_to, s
 use Rattle.ea_machine.specs.Releases.{turned}
 use Rattle.ea_machine.specs.Rows.{Answer, Done, Head, Rests, Passes, Saw, Won, Lost, Home, Got}
 use Rattle.ea_machine.specs.Setup.{Setup, migration}
-use Rattle.ea_sound.specs.HandedOver.{ShowsEmployer}
+use Rattle.ea_sound.specs.Shown.{ShowsEmployer}
+use Rattle.ea_sound.specs.Heard.{NamesAnother, NamesEmployer}
 use Rattle.std.proofs.lemmas.Bool.{eqb-true}
 
 -- the block was queued there before, or its node is to be pushed there
@@ -80,41 +81,47 @@ NotSent Open = Unit {0}
 NotSent Here = Unit {0}
 NotSent (Queued to) = ⊥
 
--- the employer that the answer of a look shows, or of a try to make a carrier busy
+-- the answer of a look shows this employer, and that of a lost try to make a carrier busy
 abbrev pub LookShows : Answer → ℕ → Type 0
-LookShows (Saw v) to = ShowsEmployer to v
-LookShows _ to = ⊥
+LookShows z to = (v : OwnerWord) × (z ≡ Saw v) × ShowsEmployer to v
 
 abbrev pub TryShows : Answer → ℕ → Type 0
-TryShows (Lost v) to = ShowsEmployer to v
-TryShows _ to = ⊥
+TryShows z to = (v : OwnerWord) × (z ≡ Lost v) × ShowsEmployer to v
+
+-- it shows me
+abbrev pub LookShowsMe : Answer → ℕ → Type 0
+LookShowsMe z me = z ≡ Saw (word.Employed me)
+
+abbrev pub TryIsWon : Answer → Type 0
+TryIsWon z = (x : Content) × (z ≡ Won x)
 
 -- what is left of a route with h in the hand, once its row is answered, by the employers that the
--- answer shows
-abbrev pub Yields : ℕ → (ℕ → Type 0) → Named → Option (Route Content) → Gone → Type 0
-Yields me Shows h None g = NotSent g
-Yields me Shows h (Some (Looking k)) g = ⊥
-Yields me Shows h (Some (Trying k seen)) g =
+-- answer shows, and whether it shows me
+abbrev pub Yields : ℕ → (ℕ → Type 0) → Type 0 → Named → Option (Route Content) → Gone → Type 0
+Yields me Shows Mine h None g = NotSent g × Mine
+Yields me Shows Mine h (Some (Looking k)) g = ⊥
+Yields me Shows Mine h (Some (Trying k seen)) g =
     (k ≡ h) × (g ≡ Open) × ((l : ℕ) × (seen ≡ word.Pooled me l))
-Yields me Shows h (Some (Settling x)) g = NotSent g
-Yields me Shows h (Some (Abandoning x)) g = NotSent g
-Yields me Shows h (Some (Sending x)) g = NotSent g
-Yields me Shows h (Some (Clearing x)) g = NotSent g
-Yields me Shows h (Some (Pushing node to)) g =
+Yields me Shows Mine h (Some (Settling x)) g = NotSent g × Mine
+Yields me Shows Mine h (Some (Abandoning x)) g = NotSent g × Mine
+Yields me Shows Mine h (Some (Sending x)) g = NotSent g × Mine
+Yields me Shows Mine h (Some (Clearing x)) g = NotSent g × Mine
+Yields me Shows Mine h (Some (Pushing node to)) g =
     (node ≡ block_node h) × (g ≡ Queued to) × Shows to
-Yields me Shows h (Some (Linking node to)) g = ⊥
+Yields me Shows Mine h (Some (Linking node to)) g = ⊥
 
-bare-yields : (me : ℕ) (Shows : ℕ → Type 0) (h : Named) (o : Option (Route Content)) (g : Gone)
-    → IsBare o → NotSent g → Yields me Shows h o g
-bare-yields me Shows h None g b n = n
-bare-yields me Shows h (Some (Looking k)) g b n = b
-bare-yields me Shows h (Some (Trying k seen)) g b n = absurd b
-bare-yields me Shows h (Some (Settling x)) g b n = n
-bare-yields me Shows h (Some (Abandoning x)) g b n = n
-bare-yields me Shows h (Some (Sending x)) g b n = n
-bare-yields me Shows h (Some (Clearing x)) g b n = n
-bare-yields me Shows h (Some (Pushing node to)) g b n = absurd b
-bare-yields me Shows h (Some (Linking node to)) g b n = b
+bare-yields : (me : ℕ) (Shows : ℕ → Type 0) (Mine : Type 0) (h : Named)
+    (o : Option (Route Content)) (g : Gone) → IsBare o → NotSent g → Mine
+    → Yields me Shows Mine h o g
+bare-yields me Shows Mine h None g b n m = (n, m)
+bare-yields me Shows Mine h (Some (Looking k)) g b n m = b
+bare-yields me Shows Mine h (Some (Trying k seen)) g b n m = absurd b
+bare-yields me Shows Mine h (Some (Settling x)) g b n m = (n, m)
+bare-yields me Shows Mine h (Some (Abandoning x)) g b n m = (n, m)
+bare-yields me Shows Mine h (Some (Sending x)) g b n m = (n, m)
+bare-yields me Shows Mine h (Some (Clearing x)) g b n m = (n, m)
+bare-yields me Shows Mine h (Some (Pushing node to)) g b n m = absurd b
+bare-yields me Shows Mine h (Some (Linking node to)) g b n m = b
 
 -- no owner word is read next, or tried
 abbrev pub NotByWord : Option (Route Content) → Type 0
@@ -305,59 +312,59 @@ module _ (e : Setup) (me : ℕ) where
         by b None = tt
         by b (Some x) = subst NotSent (sym (by_kind-gone x.kind x Here b)) tt
 
-  abbrev Gives : (ℕ → Type 0) → Named → Turned → Type 0
-  Gives Shows h t = Yields me Shows h t.route t.gone
+  abbrev Gives : (ℕ → Type 0) → Type 0 → Named → Turned → Type 0
+  Gives Shows Mine h t = Yields me Shows Mine h t.route t.gone
+
+  -- by a look
+  abbrev pub LookGives : Answer → Named → Turned → Type 0
+  LookGives z h t = Gives (LookShows z) (LookShowsMe z me) h t
 
   employed-yields : (mine : Bool) (i : ℕ) (h : Named) (a : Actor) → (i == me) ≡ mine
-      → Gives (LookShows (Saw (word.Employed i))) h (employed_by e me mine i h Open a)
+      → LookGives (Saw (word.Employed i)) h (employed_by e me mine i h Open a)
   employed-yields true i h a q =
       let t = release_here e me h Open a in
-      bare-yields me (LookShows (Saw (word.Employed i))) h t.route t.gone (here-bare h Open a)
-      (here-not_sent h a)
-  employed-yields false i h a q = (refl, refl, refl)
+      bare-yields me (LookShows (Saw (word.Employed i))) (LookShowsMe (Saw (word.Employed i)) me) h
+      t.route t.gone (here-bare h Open a) (here-not_sent h a)
+      (ap (λ j. Saw (word.Employed j)) (eqb-true i me q))
+  employed-yields false i h a q = (refl, refl, (word.Employed i, refl, refl))
 
   pooled-yields : (mine : Bool) (i l : ℕ) (h : Named) (a : Actor) → (i == me) ≡ mine
-      → Gives (LookShows (Saw (word.Pooled i l))) h (pooled_by mine i l h Open a)
+      → LookGives (Saw (word.Pooled i l)) h (pooled_by mine i l h Open a)
   pooled-yields true i l h a q =
       (refl, refl, (l, ap (λ j. word.Pooled j l) (eqb-true i me q)))
-  pooled-yields false i l h a q = (refl, refl, refl)
+  pooled-yields false i l h a q = (refl, refl, (word.Pooled i l, refl, refl))
 
-  looked-yields : (h : Named) (a : Actor) (v : OwnerWord)
-      → Gives (LookShows (Saw v)) h (looked e me h Open a v)
-  looked-yields h a word.Absent = tt
-  looked-yields h a (word.Employed i) = employed-yields (i == me) i h a refl
-  looked-yields h a (word.Pooled i l) = pooled-yields (i == me) i l h a refl
-  looked-yields h a (word.Busy i) = (refl, refl, refl)
-  looked-yields h a (word.Returning i) = tt
+  looked-yields : (h : Named) (a : Actor) (v : OwnerWord) → NamesEmployer me v
+      → LookGives (Saw v) h (looked e me h Open a v)
+  looked-yields h a word.Absent names = absurd names
+  looked-yields h a (word.Employed i) names = employed-yields (i == me) i h a refl
+  looked-yields h a (word.Pooled i l) names = pooled-yields (i == me) i l h a refl
+  looked-yields h a (word.Busy i) names = (refl, refl, (word.Busy i, refl, refl))
+  looked-yields h a (word.Returning i) names = absurd names
 
-  forwarded-yields : (h : Named) (a : Actor) (v : OwnerWord)
-      → Gives (TryShows (Lost v)) h (forwarded h Open a v)
-  forwarded-yields h a word.Absent = tt
-  forwarded-yields h a (word.Employed i) = (refl, refl, refl)
-  forwarded-yields h a (word.Pooled i l) = (refl, refl, refl)
-  forwarded-yields h a (word.Busy i) = (refl, refl, refl)
-  forwarded-yields h a (word.Returning i) = tt
+  pub looking-yields : (h : Named) (a : Actor) (z : Answer) (v : OwnerWord) → z ≡ Saw v
+      → NamesEmployer me v → LookGives z h (looked_at e me h Open a z)
+  looking-yields h a z v q names =
+      subst (λ z. LookGives z h (looked_at e me h Open a z)) (sym q) (looked-yields h a v names)
 
-  pub looking-yields : (h : Named) (a : Actor) (z : Answer)
-      → Gives (LookShows z) h (looked_at e me h Open a z)
-  looking-yields h a (Saw v) = looked-yields h a v
-  looking-yields h a Done = tt
-  looking-yields h a (Head n) = tt
-  looking-yields h a Rests = tt
-  looking-yields h a (Passes n) = tt
-  looking-yields h a (Won x) = tt
-  looking-yields h a (Lost v) = tt
-  looking-yields h a (Home x) = tt
-  looking-yields h a (Got p) = tt
+  -- and by a try
+  abbrev pub TryGives : Answer → Named → Turned → Type 0
+  TryGives z h t = Gives (TryShows z) (TryIsWon z) h t
 
-  pub trying-yields : (h : Named) (a : Actor) (z : Answer)
-      → Gives (TryShows z) h (tried h Open a z)
-  trying-yields h a (Won x) = tt
-  trying-yields h a (Lost v) = forwarded-yields h a v
-  trying-yields h a (Saw v) = tt
-  trying-yields h a Done = tt
-  trying-yields h a (Head n) = tt
-  trying-yields h a Rests = tt
-  trying-yields h a (Passes n) = tt
-  trying-yields h a (Home x) = tt
-  trying-yields h a (Got p) = tt
+  forwarded-yields : (h : Named) (a : Actor) (v : OwnerWord) → NamesAnother me v
+      → TryGives (Lost v) h (forwarded h Open a v)
+  forwarded-yields h a word.Absent names = absurd names
+  forwarded-yields h a (word.Employed i) names = (refl, refl, (word.Employed i, refl, refl))
+  forwarded-yields h a (word.Pooled i l) names = (refl, refl, (word.Pooled i l, refl, refl))
+  forwarded-yields h a (word.Busy i) names = (refl, refl, (word.Busy i, refl, refl))
+  forwarded-yields h a (word.Returning i) names = absurd names
+
+  pub winning-yields : (h : Named) (a : Actor) (z : Answer) → TryIsWon z
+      → TryGives z h (tried h Open a z)
+  winning-yields h a z won =
+      subst (λ z. TryGives z h (tried h Open a z)) (sym won.1) (tt, (won.0, refl))
+
+  pub losing-yields : (h : Named) (a : Actor) (z : Answer) (v : OwnerWord) → z ≡ Lost v
+      → NamesAnother me v → TryGives z h (tried h Open a z)
+  losing-yields h a z v q names =
+      subst (λ z. TryGives z h (tried h Open a z)) (sym q) (forwarded-yields h a v names)

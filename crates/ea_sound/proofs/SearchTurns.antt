@@ -16,7 +16,7 @@ use Rattle.ea_machine.specs.Owners.{CarrierAt, Absent, Employed, Pooled, Busy, R
 use Rattle.ea_machine.specs.Owners.{word_of}
 use Rattle.ea_machine.specs.Placements.{counted, fits}
 use Rattle.ea_machine.specs.Rows.{Answer, Done, Head, Rests, Passes, Saw, Won, Lost, Home, Got}
-use Rattle.ea_machine.specs.Rows.{FetchTry, Look}
+use Rattle.ea_machine.specs.Rows.{BusyTry, FetchTry, Look}
 use Rattle.ea_sound.specs.Searches.{Missed, Searched, Shown, Sight, sight, sight_if, sights}
 use Rattle.ea_machine.specs.Setup.{Setup}
 use Rattle.ea_machine.specs.Shared.{Shared}
@@ -107,7 +107,7 @@ module _ (e : Setup) (s : ℕ) where
         )
       ]
 
--- the answers of a look and of a try to fetch a carrier
+-- the answers of a look, and of a try to fetch a carrier or to make it busy
 pub look-saw : (me number : ℕ) (s : Shared)
     → answer me (Look number) s ≡ Saw (word_of (s.places number))
 unfolding answer
@@ -117,6 +117,11 @@ pub fetch-tries : (me number : ℕ) (seen : OwnerWord) (s : Shared)
     → answer me (FetchTry number seen) s ≡ tried_at seen (s.places number)
 unfolding answer
 fetch-tries me number seen s = refl
+
+pub busy-tries : (me number : ℕ) (seen : OwnerWord) (s : Shared)
+    → answer me (BusyTry number seen) s ≡ tried_at seen (s.places number)
+unfolding answer
+busy-tries me number seen s = refl
 
 -- such a try is won or lost
 abbrev pub WonOrLost : Answer → Type 0

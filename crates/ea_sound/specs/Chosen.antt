@@ -9,19 +9,18 @@ use Rattle.ea_model.specs.declared.reallocation.Decision.TheVariants.{Move}
 use Rattle.ea_model.specs.Content.{Content}
 use Rattle.ea_model.specs.Instance.{Instance, chosen_spot, creating, decision_at, place_at, plan}
 use Rattle.ea_model.specs.Instance.{resized_to, single_place}
-use Rattle.ea_machine.specs.declared.owners.OwnerWord.{OwnerWord}
 use Rattle.ea_machine.specs.Nodes.{named_at}
 use Rattle.ea_machine.specs.declared.nodes.Named.{Named}
 use Rattle.ea_machine.specs.Setup.{Setup, migration}
-use Rattle.ea_machine.specs.declared.stages.Stage.TheVariants.{Creating, Fetching}
+use Rattle.ea_machine.specs.declared.stages.Stage.TheVariants.{Creating}
 use Rattle.ea_machine.specs.declared.asks.Ask.{Ask}
 use Rattle.ea_machine.specs.State.{State}
-use Rattle.ea_machine.specs.Rows.{Won}
 use Rattle.ea_model.specs.Employment.{employing}
 use Rattle.ea_machine.specs.Machine.{run}
 use Rattle.ea_sound.specs.Released.{LiesAt}
-use Rattle.ea_sound.specs.Turns.{IsBegun, advanced, answered, begun, log_after}
+use Rattle.ea_sound.specs.Turns.{IsBegun, actor_after, advanced, begun, log_after}
 use Rattle.ea_sound.specs.Needs.{AsksFor, HasNeed}
+use Rattle.ea_sound.specs.FirstFits.{IsFetched}
 
 -- the carrier that is created for a block of this need, in a step of s: with migration on in a step
 -- of its own, from the plan that was made for it; with migration off in the step in which the begin
@@ -36,26 +35,26 @@ pub data Creates (setup : Setup) (state : State) (s need : ℕ) (i : Instance) (
       (is : i ≡ (advanced setup state s).instance) (planned : plan i need ≡ Ok p)
       → Creates setup state s need i p
 
--- the instance of s as it is just before it places a block of this need: as it is once the begin of
--- the operation is over; or, where it has no choice, with a carrier that it fetched, or one that it
--- created
-pub data IsJustBefore (setup : Setup) (state : State) (s need : ℕ) (i : Instance) : Type 0 where
-  Had : (begins : IsBegun setup state s) (is : i ≡ (advanced setup state s).instance)
-      → IsJustBefore setup state s need i
-  Fetched : (ask : Ask) (at looked : ℕ) (seen : OwnerWord) (x : Content)
-      (stage : (state.actors s).stage ≡ Fetching ask at looked seen) (asks : ask.need ≡ need)
-      (none : chosen_spot (state.actors s).instance need ≡ None)
-      (won : answered state s ≡ Won x) (is : i ≡ employing (state.actors s).instance x)
-      → IsJustBefore setup state s need i
-  Created : (old : Instance) (p : CarrierPlan) (creates : Creates setup state s need old p)
+-- the instance of s as it is just before it places a block of this need, in its step after the
+-- steps `turns`: as it is once the begin of the operation is over; or, where it has no choice, with
+-- a carrier that it fetched, or one that it created
+pub data IsJustBefore (setup : Setup) (turns : List ℕ) (s need : ℕ) (i : Instance) : Type 0 where
+  Had : (begins : IsBegun setup (run setup turns) s) (is : i ≡ (begun setup turns s).instance)
+      → IsJustBefore setup turns s need i
+  Fetched : (x : Content) (fetched : IsFetched setup turns s need x)
+      (none : chosen_spot (actor_after setup turns s).instance need ≡ None)
+      (is : i ≡ employing (actor_after setup turns s).instance x)
+      → IsJustBefore setup turns s need i
+  Created : (old : Instance) (p : CarrierPlan)
+      (creates : Creates setup (run setup turns) s need old p)
       (none : chosen_spot old need ≡ None) (is : i ≡ creating old p)
-      → IsJustBefore setup state s need i
+      → IsJustBefore setup turns s need i
 
 -- the place is the strategy's choice among the carriers that s employs just before, with the units
 -- that the block takes of that gap
-pub record IsChosen (setup : Setup) (state : State) (s need : ℕ) (place : Place) : Type 0 where
+pub record IsChosen (setup : Setup) (turns : List ℕ) (s need : ℕ) (place : Place) : Type 0 where
   pub instance : Instance
-  pub before : IsJustBefore setup state s need instance
+  pub before : IsJustBefore setup turns s need instance
   pub spot : Spot
   pub chosen : chosen_spot instance need ≡ Some spot
   pub is : place ≡ place_at instance spot need
@@ -70,10 +69,10 @@ pub record IsAlone (setup : Setup) (state : State) (s need : ℕ) (place : Place
 
 -- a block up to the singleblock threshold is placed where the strategy chooses, and a larger one in
 -- a carrier of its own
-abbrev pub IsPlacedAt : Setup → State → ℕ → ℕ → Place → Type 0
-IsPlacedAt setup state s need place =
-    ((need ≤ setup.settings.sbct) × IsChosen setup state s need place)
-    ⊎ ((setup.settings.sbct < need) × IsAlone setup state s need place)
+abbrev pub IsPlacedAt : Setup → List ℕ → ℕ → ℕ → Place → Type 0
+IsPlacedAt setup turns s need place =
+    ((need ≤ setup.settings.sbct) × IsChosen setup turns s need place)
+    ⊎ ((setup.settings.sbct < need) × IsAlone setup (run setup turns) s need place)
 
 -- the begin of an operation of s was over in a step among these turns, with this log, and the
 -- operation asks for a place for a block of this need: so a block that is reallocated is to move
@@ -96,7 +95,7 @@ pub record IsPlacement (setup : Setup) (turns : List ℕ) (s name : ℕ) (place 
     pub same : log_after setup before s ≡ log_after setup turns s
     pub need : ℕ
     pub asked : HasAsked setup (before ++ s ∷ []) s need (log_after setup turns s)
-    pub placed : IsPlacedAt setup (run setup before) s need place
+    pub placed : IsPlacedAt setup before s need place
     pub there : LiesAt setup name place (run setup (before ++ s ∷ []))
 
 -- a block that is reallocated in its place, in the step of s after the steps `turns`, keeps its

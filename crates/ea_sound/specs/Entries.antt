@@ -19,7 +19,7 @@ use Rattle.ea_sound.specs.Turns.{IsBegun, actor_after, begun, log_after}
 use Rattle.ea_sound.specs.Chosen.{IsPlacement, IsResized}
 use Rattle.ea_sound.specs.Exhausted.{IsExhausted}
 use Rattle.ea_sound.specs.Released.{HasNoBlock}
-use Rattle.ea_sound.specs.HandedOver.{HasTried, IsGiven, IsQueued, IsTaken}
+use Rattle.ea_sound.specs.HandedOver.{HasTried, IsGiven, IsQueued, IsReleasedHere, IsTaken}
 
 -- an operation makes an entry of its own kind, with its own names and numbers
 abbrev pub Makes : Op → Entry → Type 0
@@ -64,22 +64,29 @@ abbrev pub Reports : Report → List Content → Type 0
 Reports r xs = (r.blocks.now ≡ (figures xs).blocks) × (r.blocks_size.now ≡ (figures xs).blocks_size)
     × (r.carriers.now ≡ (figures xs).carriers) × (r.carriers_size.now ≡ (figures xs).carriers_size)
 
+-- s released the block itself that it held under the name when the operation began, of which it
+-- made the entry in its step after the steps `turns`, and no block has the name after this step
+abbrev pub IsDone : Setup → List ℕ → ℕ → ℕ → Type 0
+IsDone setup turns s name = HasNoBlock setup turns s name
+    × IsReleasedHere setup (turns ++ s ∷ []) s name (log_after setup turns s)
+
 -- what an entry tells, which s made in its step after the steps `turns`: a block was placed where
--- the strategy chooses, or in a carrier of its own; a block keeps its spot; no place was found; a
--- name isn't held, and nothing changes; a block is gone, or it went to another scheduler's queue,
--- where carriers don't migrate to that of the owner of its carrier; a name was given, or taken,
+-- the strategy chooses, in the first carrier of the pool that fitted among them, or in a carrier of
+-- its own; a block keeps its spot; no place was found; a name isn't held, and nothing changes; a
+-- block is gone, and s released it itself, or it went to another scheduler's queue, by who was seen
+-- to employ its carrier, or, where carriers don't migrate, owns it; a name was given, or taken,
 -- with its spot, or tried for in vain as often as it was to be; and what carriers are employed then
 abbrev pub Tells : Setup → List ℕ → ℕ → Entry → Type 0
 Tells setup turns s (entry.Alloc name place) = IsPlacement setup turns s name place
 Tells setup turns s (entry.AllocFail name need looked why) =
     IsExhausted setup turns s (entry.AllocFail name need looked why) need looked why
-Tells setup turns s (entry.Free name) = HasNoBlock setup turns s name
+Tells setup turns s (entry.Free name) = IsDone setup turns s name
 Tells setup turns s (entry.FreeQueued name to) = IsQueued setup turns s name to
 Tells setup turns s (entry.FreeSkipped name) = IsSkipped setup turns s name
 Tells setup turns s (entry.ReallocHere old fresh place) =
     IsResized setup turns s old fresh place
 Tells setup turns s (entry.ReallocMoved old fresh place) =
-    IsPlacement setup turns s fresh place × HasNoBlock setup turns s old
+    IsPlacement setup turns s fresh place × IsDone setup turns s old
 Tells setup turns s (entry.ReallocQueued old fresh place to) =
     IsPlacement setup turns s fresh place × IsQueued setup turns s old to
 Tells setup turns s (entry.ReallocFail old fresh need looked why) =

@@ -1,25 +1,17 @@
 -- How names and blocks go from one scheduler to another: one gives a name, and another takes it;
--- and a block goes to another's queue.
+-- and a block goes to another's queue, or is released by the scheduler itself.
 use Rattle.std.specs.Prelude.{◌≡◌, ◌≢◌, ℕ, ◌==◌, true, false, List, [], ◌∷◌, ◌++◌, None, Some}
 use Rattle.std.specs.Prelude.{count_by}
 use Rattle.ea_model.specs.declared.carriers.Spot.{Spot}
 use Rattle.ea_model.specs.declared.entries.Entry.{Entry}
 use Rattle.ea_model.specs.Trace.{IsScheduler}
-use Rattle.ea_machine.specs.declared.owners.OwnerWord.{OwnerWord}
-use Rattle.ea_machine.specs.declared.owners.OwnerWord.TheVariants as word
 use Rattle.ea_machine.specs.declared.nodes.Named.{Named}
 use Rattle.ea_machine.specs.Nodes.{block_node, named_at, pushed, spot_named}
 use Rattle.ea_model.specs.Instance.{owner_of}
 use Rattle.ea_machine.specs.Setup.{Setup, migration}
-use Rattle.ea_machine.specs.declared.stages.Stage.TheVariants.{Routed}
-use Rattle.ea_machine.specs.declared.stages.Route.TheVariants.{Looking, Trying}
-use Rattle.ea_machine.specs.declared.tasks.Task.{Task}
-use Rattle.ea_machine.specs.declared.tasks.Why.TheVariants.{For}
-use Rattle.ea_machine.specs.declared.tasks.Gone.TheVariants.{Open}
-use Rattle.ea_machine.specs.State.{State}
-use Rattle.ea_machine.specs.Rows.{Lost, Saw}
 use Rattle.ea_machine.specs.Machine.{run}
-use Rattle.ea_sound.specs.Turns.{IsBegun, actor_after, answered, begun, log_after}
+use Rattle.ea_sound.specs.Turns.{IsBegun, actor_after, begun, log_after}
+use Rattle.ea_sound.specs.Shown.{HasSeen, SeesEmployer, SeesItself}
 
 -- s held the name just before its step after the steps `turns`; after this step the name is given,
 -- with the spot that it had, and s holds it no longer
@@ -79,38 +71,6 @@ pub record HasPushed (setup : Setup) (turns : List ℕ) (s : ℕ) (named : Named
   pub queue : (run setup (before ++ s ∷ [])).shared.queues to
       ≡ pushed (block_node named) ∷ (run setup before).shared.queues to
 
--- the owner word shows this employer of the carrier: it employs it, or has put it into the pool, or
--- has made it busy there
-abbrev pub ShowsEmployer : ℕ → OwnerWord → Type 0
-ShowsEmployer to word.Absent = ⊥
-ShowsEmployer to (word.Employed i) = i ≡ to
-ShowsEmployer to (word.Pooled i largest) = i ≡ to
-ShowsEmployer to (word.Busy i) = i ≡ to
-ShowsEmployer to (word.Returning i) = ⊥
-
--- s looks at the carrier of the block that its operation releases, and sees this employer; or it
--- tries to make the carrier busy, which it has put into the pool, and the try is lost to this
--- employer. Nothing became of the block before
-pub data SeesEmployer (state : State) (s : ℕ) (named : Named) (to : ℕ) : Type 0 where
-  Looks : (task : Task) (seen : OwnerWord)
-      (stage : (state.actors s).stage ≡ Routed (Looking named) (For task) Open)
-      (saw : answered state s ≡ Saw seen) (shows : ShowsEmployer to seen)
-      → SeesEmployer state s named to
-  Tries : (task : Task) (largest : ℕ) (present : OwnerWord)
-      (stage : (state.actors s).stage
-      ≡ Routed (Trying named (word.Pooled s largest)) (For task) Open)
-      (lost : answered state s ≡ Lost present) (shows : ShowsEmployer to present)
-      → SeesEmployer state s named to
-
--- s saw this employer of the block's carrier in a step among these turns, with this log
-pub record HasSeen (setup : Setup) (turns : List ℕ) (s : ℕ) (named : Named) (to : ℕ)
-    (log : List Entry) : Type 0 where
-  pub before : List ℕ
-  pub since : List ℕ
-  pub split : turns ≡ before ++ s ∷ since
-  pub same : log_after setup before s ≡ log
-  pub sees : SeesEmployer (run setup before) s named to
-
 -- the block that was held under the name when the operation began, of which s made the entry in its
 -- step after the steps `turns`, was pushed to the queue of another scheduler: of the employer that
 -- s saw of its carrier; where carriers don't migrate, of the carrier's owner
@@ -120,5 +80,15 @@ pub record IsQueued (setup : Setup) (turns : List ℕ) (s name to : ℕ) : Type 
   pub held : HasHeld setup (turns ++ s ∷ []) s name named (log_after setup turns s)
   pub pushed : HasPushed setup (turns ++ s ∷ []) s named to (log_after setup turns s)
   pub seen : migration setup ≡ true
-      → HasSeen setup (turns ++ s ∷ []) s named to (log_after setup turns s)
+      → HasSeen setup (turns ++ s ∷ []) s (log_after setup turns s) (SeesEmployer s named to)
   pub owner : migration setup ≡ false → to ≡ owner_of named.spot.carrier
+
+-- the block that was held under the name when an operation of s began with this log, in a step
+-- among these turns, is one that s releases itself: it saw that it is the employer of its carrier;
+-- where carriers don't migrate, it is the carrier's owner
+pub record IsReleasedHere (setup : Setup) (turns : List ℕ) (s name : ℕ) (log : List Entry)
+    : Type 0 where
+  pub named : Named
+  pub held : HasHeld setup turns s name named log
+  pub seen : migration setup ≡ true → HasSeen setup turns s log (SeesItself s named)
+  pub owner : migration setup ≡ false → owner_of named.spot.carrier ≡ s

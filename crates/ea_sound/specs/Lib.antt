@@ -13,7 +13,9 @@ pub mod Needs
 pub mod Searches
 pub mod Fetches
 pub mod Exhausted
+pub mod FirstFits
 pub mod Chosen
+pub mod Shown
 pub mod HandedOver
 pub mod Released
 pub mod Entries

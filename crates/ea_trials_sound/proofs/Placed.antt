@@ -1,6 +1,8 @@
 -- A worked placement, from what is computed of the run.
 use Rattle.std.proofs.Common.{◌≡◌, ◌≤◌, ◌<◌, ℕ, true, List, [], ◌∷◌, ◌++◌, None, Some, Ok, refl}
-use Rattle.std.proofs.Common.{sym, ◌∙◌, inl, inr, arith}
+use Rattle.std.proofs.Common.{sym, ap, ◌∙◌, inl, inr, arith}
+use Rattle.std.specs.Prelude.{◌==◌, count_by, length}
+use Rattle.ea_model.proofs.Options.{same-some}
 use Rattle.ea_model.specs.declared.carriers.CarrierPlan.{CarrierPlan}
 use Rattle.ea_model.specs.declared.carriers.Place.{Place}
 use Rattle.ea_model.specs.declared.carriers.Spot.{Spot}
@@ -9,6 +11,10 @@ use Rattle.ea_model.specs.Content.{Content}
 use Rattle.ea_model.specs.Instance.{chosen_spot, creating, place_at, plan, single_place}
 use Rattle.ea_machine.specs.declared.owners.OwnerWord.{OwnerWord}
 use Rattle.ea_machine.specs.declared.stages.Stage.TheVariants.{Creating, Fetching}
+use Rattle.ea_machine.specs.Placements.{fits}
+use Rattle.ea_sound.specs.FirstFits.{IsFirstFit}
+use Rattle.ea_sound.specs.Searches.{IsNextLook, Shown, Sight}
+use Rattle.ea_sound.specs.Exhausted.{seen_since}
 use Rattle.ea_machine.specs.declared.asks.Ask.{Ask}
 use Rattle.ea_sound.specs.Chosen.{ByItself, Created, Fetched, HasAsked, IsPlacement}
 use Rattle.ea_model.specs.Employment.{employing}
@@ -16,7 +22,8 @@ use Rattle.ea_machine.specs.Machine.{run}
 use Rattle.ea_sound.specs.Needs.{AsksFor}
 use Rattle.ea_sound.specs.Released.{blocks_at}
 use Rattle.ea_machine.specs.Rows.{Won}
-use Rattle.ea_machine.specs.Setup.{Setup, migration}
+use Rattle.ea_machine.specs.Setup.{Setup, greatest_number, migration}
+use Rattle.ea_trials_sound.proofs.Searched.{is_searched, searched}
 use Rattle.ea_sound.specs.Turns.{IsBegun, actor_after, answered, begun, log_after}
 
 -- the operation asked for a place in one of these turns
@@ -36,6 +43,39 @@ asked setup turns before since s need then now split begins asks was is = record
   same = was ∙ sym is;
 }
 
+-- the number was the first that fitted in a search since one of these turns
+pub first_fit : (setup : Setup) (turns before since : List ℕ) (s need number looked : ℕ)
+    (seen : OwnerWord) (passed : List Sight) (log : List Entry)
+    → turns ≡ before ++ s ∷ since
+    → IsBegun setup (run setup before) s
+    → (begun setup before s).log ≡ log
+    → log_after setup turns s ≡ log
+    → AsksFor (begun setup before s) (begun setup before s).todo need
+    → chosen_spot (begun setup before s).instance need ≡ None
+    → is_searched need (greatest_number setup) 0 number looked passed ≡ true
+    → IsNextLook number looked number
+    → fits need seen ≡ true
+    → seen_since setup before s since ≡ passed ++ Shown number seen ∷ []
+    → count_by (λ j. j == s) since ≡ length (seen_since setup before s since)
+    → IsFirstFit setup turns s need number seen
+first_fit setup turns before since s need number looked seen passed log split begins was now asks
+    none search next fit saw steps = record {
+      before = before;
+      since = since;
+      split = split;
+      begins = begins;
+      same = was ∙ sym now;
+      asks = asks;
+      none = none;
+      passed = passed;
+      looked = looked;
+      searched = searched need (greatest_number setup) 0 number looked passed search;
+      next = next;
+      fit = fit;
+      saw = saw;
+      steps = steps;
+    }
+
 -- a block is placed in a carrier that was fetched, and its entry made in the same step
 pub fetched-placement : (setup : Setup) (turns : List ℕ) (s name : ℕ) (place : Place) (ask : Ask)
     (at looked : ℕ) (seen : OwnerWord) (x : Content) (spot : Spot)
@@ -44,12 +84,15 @@ pub fetched-placement : (setup : Setup) (turns : List ℕ) (s name : ℕ) (place
     → (actor_after setup turns s).stage ≡ Fetching ask at looked seen
     → chosen_spot (actor_after setup turns s).instance ask.need ≡ None
     → answered (run setup turns) s ≡ Won x
+    → x.number ≡ at
+    → IsFirstFit setup turns s ask.need at seen
     → chosen_spot (employing (actor_after setup turns s).instance x) ask.need ≡ Some spot
+    → spot.carrier ≡ at
     → place_at (employing (actor_after setup turns s).instance x) spot ask.need ≡ place
     → blocks_at setup name place (run setup (turns ++ s ∷ [])) ≡ 1
     → IsPlacement setup turns s name place
-fetched-placement setup turns s name place ask at looked seen x spot small asks stage none won
-    chosen is lies =
+fetched-placement setup turns s name place ask at looked seen x spot small asks stage none won of
+    first chosen there is lies =
     record {
       before = turns;
       since = [];
@@ -61,7 +104,20 @@ fetched-placement setup turns s name place ask at looked seen x spot small asks 
         small,
         record {
           instance = employing (actor_after setup turns s).instance x;
-          before = Fetched ask at looked seen x stage refl none won refl;
+          before = Fetched x (record {
+            ask = ask;
+            number = at;
+            looked = looked;
+            seen = seen;
+            stage = stage;
+            asks = refl;
+            won = won;
+            is = of;
+            first = first;
+            there = λ other q. ap (λ (p : Spot). p.carrier)
+                (same-some (chosen_spot (employing (actor_after setup turns s).instance x) ask.need)
+                other spot q chosen) ∙ there;
+          }) none refl;
           spot = spot;
           chosen = chosen;
           is = sym is;

@@ -8,7 +8,7 @@ use Rattle.ea_machine.specs.Machine.{after, step_at}
 use Rattle.ea_trials_moments.specs.Runs.{carrier_with, named, usual}
 use Rattle.ea_trials_sound.specs.Courses.{turns}
 use Rattle.ea_trials_sound.specs.Entries.{absent_from, full_region, place}
-use Rattle.ea_trials_sound.proofs.Placed.{asked, created-placement, fetched-placement}
+use Rattle.ea_trials_sound.proofs.Placed.{asked, created-placement, fetched-placement, first_fit}
 use Rattle.ea_trials_sound.proofs.Placed.{single-placement}
 use Rattle.ea_trials_sound.proofs.Setups.{full_instance, full_setup, moving_setup, under-setup}
 use Rattle.ea_trials_sound.proofs.Exhausted.{exhausted}
@@ -48,7 +48,11 @@ returns-clause-in_a_fetched_carrier c = fetched-placement _ _ _ _ _
     (asked _ _ (turns (codes "1*262")) (turns (codes "1*257")) 1 14
     (entry.Alloc 1 (place 1 8 18) ∷ entry.Alloc 2 (place 1 26 14) ∷ entry.Free 1 ∷ []) _ refl refl
     refl refl refl) refl
-    refl refl refl refl refl
+    refl refl refl
+    (first_fit _ _ (turns (codes "1*262")) (turns (codes "1*256")) 1 14 1 0 (word.Pooled 1 32728)
+    (absent_from 256 255)
+    (entry.Alloc 1 (place 1 8 18) ∷ entry.Alloc 2 (place 1 26 14) ∷ entry.Free 1 ∷ []) refl refl
+    refl refl refl refl refl (refl, omega arith, omega arith) refl refl refl) refl refl refl refl
 
 pub returns-clause-in_a_new_carrier : goal.returns-clause-in_a_new_carrier
 unfolding unused_from answer effect after step_at
