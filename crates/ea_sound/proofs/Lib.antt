@@ -120,6 +120,7 @@ pub mod ChronicleOperations
 pub mod ChronicleTurns
 pub mod Chronicled
 pub mod Failing
+pub mod Queueing
 -- Each schedule ends.
 pub mod Ending
 pub mod Completing

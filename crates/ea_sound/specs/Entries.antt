@@ -1,5 +1,5 @@
 -- What the log of a scheduler says of its operations.
-use Rattle.std.specs.Prelude.{◌≡◌, ◌⊎◌, ℕ, List, [], ◌∷◌, ◌++◌, None}
+use Rattle.std.specs.Prelude.{◌≡◌, ◌≢◌, ◌⊎◌, ℕ, List, [], ◌∷◌, ◌++◌, None}
 use Rattle.std.specs.List.{AllZip}
 use Rattle.ea_model.specs.declared.entries.Entry.{Entry}
 use Rattle.ea_model.specs.declared.entries.Entry.TheVariants as entry
@@ -9,6 +9,7 @@ use Rattle.ea_model.specs.declared.operations.Op.TheVariants as op
 use Rattle.ea_model.specs.Content.{Content}
 use Rattle.ea_model.specs.Instance.{figures}
 use Rattle.ea_model.specs.Units.{need_of}
+use Rattle.ea_machine.specs.declared.nodes.Named.{Named}
 use Rattle.ea_machine.specs.Nodes.{named_at}
 use Rattle.ea_machine.specs.Setup.{Setup}
 use Rattle.ea_machine.specs.Actor.{Actor}
@@ -19,6 +20,7 @@ use Rattle.ea_sound.specs.Turns.{IsBegun, actor_after, begun, log_after}
 use Rattle.ea_sound.specs.Chosen.{IsPlacement, IsResized}
 use Rattle.ea_sound.specs.Exhausted.{IsExhausted}
 use Rattle.ea_sound.specs.Released.{HasNoBlock}
+use Rattle.ea_sound.specs.Shown.{SeesEmployer}
 use Rattle.ea_sound.specs.HandedOver.{HasTried, IsGiven, IsQueued, IsReleasedHere, IsTaken}
 
 -- an operation makes an entry of its own kind, with its own names and numbers
@@ -123,3 +125,18 @@ abbrev pub SkipsUnheld : Setup → Type 0
 SkipsUnheld setup = (turns : List ℕ) (s : ℕ) → IsBegun setup (run setup turns) s
     → HasSkipped (begun setup turns s) (begun setup turns s).todo
     (log_after setup (turns ++ s ∷ []) s)
+
+-- the entry says that a block was queued to this scheduler
+abbrev pub SaysQueued : ℕ → Entry → Type 0
+SaysQueued to (entry.FreeQueued name i) = i ≡ to
+SaysQueued to (entry.ReallocQueued old fresh place i) = i ≡ to
+SaysQueued to x = ⊥
+
+-- where s sees another employer of the carrier of the block that its operation releases, the entry
+-- that this operation makes, once it is over, says that the block was queued to that one
+abbrev pub QueuesIfSeen : Setup → Type 0
+QueuesIfSeen setup = (turns more : List ℕ) (s to : ℕ) (named : Named) → to ≢ s
+    → SeesEmployer s named to (run setup turns)
+    → (log_after setup (turns ++ s ∷ more) s ≡ log_after setup turns s)
+    ⊎ ((x : Entry) × (later : List Entry) × (log_after setup (turns ++ s ∷ more) s
+    ≡ log_after setup turns s ++ x ∷ later) × SaysQueued to x)

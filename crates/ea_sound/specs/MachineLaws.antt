@@ -14,7 +14,7 @@ use Rattle.ea_sound.specs.Units.{PrintsSums}
 use Rattle.ea_sound.specs.Sound.{Sound}
 use Rattle.ea_sound.specs.Released.{FailedHaveNone, KeepsPlaces, ReleasesOnce, StaysGone}
 use Rattle.ea_sound.specs.Exhausted.{FailsIfExhausted}
-use Rattle.ea_sound.specs.Entries.{EntersOne, LogsEach, SkipsUnheld}
+use Rattle.ea_sound.specs.Entries.{EntersOne, LogsEach, QueuesIfSeen, SkipsUnheld}
 use Rattle.ea_sound.specs.Fetches.{FetchesFit}
 use Rattle.ea_sound.specs.Guarded.{IsGuarded}
 use Rattle.ea_sound.specs.Heard.{HearsNoOther}
@@ -35,9 +35,10 @@ EndsAll setup = (turns : List ℕ) (s : ℕ)
 -- each moment is sound, and what is printed of it are the sums of soundness; no scheduler does a
 -- row that it may not do, and some answers never come; a carrier that is fetched fits; each
 -- operation makes one entry, of its own kind, which tells how it came about: placements are chosen,
--- and fails are exhausted; where no place is found an operation fails, and where its name isn't
--- held it is skipped; no name is released twice, one that failed has no block, and both stay so; a
--- block keeps its place and its units; and a completed schedule ends
+-- and fails are exhausted; where no place is found an operation fails, where its name isn't held it
+-- is skipped, and where another employer is seen its block is queued to that; no name is released
+-- twice, one that failed has no block, and both stay so; a block keeps its place and its units; and
+-- a completed schedule ends
 pub record Protocol (setup : Setup) : Type 0 where
   pub sound : AtEachMoment Sound setup
   pub prints : AtEachMoment PrintsSums setup
@@ -48,6 +49,7 @@ pub record Protocol (setup : Setup) : Type 0 where
   pub enters : EntersOne setup
   pub fails : FailsIfExhausted setup
   pub skips : SkipsUnheld setup
+  pub queues : QueuesIfSeen setup
   pub once : ReleasesOnce setup
   pub failed : AtEachMoment FailedHaveNone setup
   pub gone : StaysGone setup
