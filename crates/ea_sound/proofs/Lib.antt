@@ -153,5 +153,7 @@ pub mod Paths
 pub mod Freed
 pub mod Walked
 pub mod PresentCarriers
+pub mod PresentContents
+pub mod PresentPlaces
 pub mod PresentLive
 pub mod LiveBlocks

@@ -65,7 +65,7 @@ actor-nothing f weightless a = omega (
 )
 
 -- of two lists as one, one after the other or by rising number, the same item is found
-found-merged : (xs ys : List Content) (c : ℕ) → IsRising (merged number_of xs ys)
+pub found-merged : (xs ys : List Content) (c : ℕ) → IsRising (merged number_of xs ys)
     → content_of (xs ++ ys) c ≡ content_of (merged number_of xs ys) c
 found-merged xs ys c once = find-append (has_key number_of c) xs ys ∙ by (content_of xs c) refl
   where

@@ -94,7 +94,7 @@ option-counted : (o : Option Content) → IsOfCounted (λ f. of_option f o)
 option-counted None g f h z = refl
 option-counted (Some x) g f h z = h x z
 
-has-number : (c n : ℕ) → one_if (n == c) ≡ 1 → n ≡ c
+pub has-number : (c n : ℕ) → one_if (n == c) ≡ 1 → n ≡ c
 has-number c n one = grind (arith, one)
 
 module _ (e : Setup) (w : State) (k : Kept e w) where

@@ -1,0 +1,123 @@
+-- Where the content of a carrier that is printed is with its employer: in its hand, where the carrier
+-- is about to leave it or is busy, and with its instance else.
+use Rattle.std.proofs.Common.{◌≡◌, ◌≢◌, ℕ, Bool, true, false, List, [], ◌∷◌, ◌++◌, refl, sym}
+use Rattle.std.proofs.Common.{ap, ◌∙◌, arith}
+use Rattle.std.specs.Prelude.{Option, None, Some, filter, not, if◌then◌else◌}
+use Rattle.std.specs.Option.{option_or}
+use Rattle.std.proofs.lemmas.List.Folds.{find-append}
+use Rattle.ea_model.specs.Content.{Content}
+use Rattle.ea_model.specs.Instance.{Instance, content_of, employed}
+use Rattle.ea_model.specs.Keyed.{has_key}
+use Rattle.ea_model.proofs.Rising.{item_at-key, item_here, item_past}
+use Rattle.ea_laws.specs.Kept.{number_of}
+use Rattle.ea_machine.specs.Actor.{Actor}
+use Rattle.ea_machine.specs.Outcome.{place_of, settling_at}
+use Rattle.ea_machine.specs.Owners.{Busy}
+use Rattle.ea_machine.specs.Setup.{Setup, is_scheduler}
+use Rattle.ea_machine.specs.State.{State}
+use Rattle.ea_machine.specs.Statistics.{employed_multis, employed_singles, is_single, leaving_at}
+use Rattle.ea_machine.specs.Sums.{sum_over}
+use Rattle.ea_sound.specs.Places.{has_number, none}
+use Rattle.ea_sound.specs.Rule.{Kept}
+use Rattle.ea_sound.proofs.Employers.{busy-hand}
+use Rattle.ea_sound.proofs.Global.{sum-actor}
+use Rattle.ea_sound.proofs.KeyedWeights.{counts-key, sum-item}
+use Rattle.ea_sound.proofs.PresentCarriers.{found-merged}
+use Rattle.ea_sound.proofs.PresentContents.{settling-number}
+use Rattle.ea_sound.proofs.Printed.{hand-leaves, of_option}
+use Rattle.ea_sound.proofs.SoundOwners.{number-once}
+use Rattle.ea_sound.proofs.SoundPlaces.{away-on}
+use Rattle.ea_sound.proofs.Weights.{sum-zero}
+
+-- the contents of an instance with one in the hand, by whether that is of a singleblock carrier
+abbrev with_hand : Bool → Content → Instance → List Content
+with_hand true x j = j.contents ++ (x ∷ j.singles)
+with_hand false x j = (x ∷ j.contents) ++ j.singles
+
+abbrev listed : List Content → Instance → List Content
+listed left j = (filter (λ x. not (is_single x.kind)) left ++ j.contents)
+    ++ (filter (λ x. is_single x.kind) left ++ j.singles)
+
+listed-by : (x : Content) (j : Instance) (b : Bool) → is_single x.kind ≡ b
+    → listed (x ∷ []) j ≡ with_hand b x j
+listed-by x j true single = ap (λ b. ((if not b then x ∷ [] else []) ++ j.contents)
+    ++ ((if b then x ∷ [] else []) ++ j.singles)) single
+listed-by x j false many = ap (λ b. ((if not b then x ∷ [] else []) ++ j.contents)
+    ++ ((if b then x ∷ [] else []) ++ j.singles)) many
+
+module _ (e : Setup) (w : State) (k : Kept e w) where
+  -- a busy carrier
+  pub busy-settling : (c i : ℕ) → place_of e w c ≡ Busy i
+      → (x : Content) × (settling_at (w.actors i).stage ≡ Some x) × (x.number ≡ c)
+  busy-settling c i at = by (settling_at (w.actors i).stage) refl where
+    busy : w.shared.places c ≡ Busy i
+    busy = away-on e w k c (Busy i) (λ j q. cc) (λ q. cc) at
+
+    by : (o : Option Content) → settling_at (w.actors i).stage ≡ o
+        → (x : Content) × (o ≡ Some x) × (x.number ≡ c)
+    by (Some x) there = (x, refl, settling-number e w k c i busy x there)
+    by None none_there = absurd (omega (
+      arith,
+      busy-hand e w k c i busy,
+      hand-leaves (has_number c) none (w.actors i).stage,
+      sum-zero none (leaving_at (w.actors i).stage) (λ j d within. refl),
+      ap (of_option (has_number c)) none_there,
+    ))
+
+  module _ (i : ℕ) (is : is_scheduler e i ≡ true) where
+    abbrev a : Actor
+    a = w.actors i
+
+    abbrev j : Instance
+    j = a.instance
+
+    merged : (c : ℕ) → content_of (j.contents ++ j.singles) c ≡ content_of (employed j) c
+    merged c = found-merged j.contents j.singles c (k.ranges.instances i is).order.once
+
+    -- where none is about to leave
+    pub stays-found : leaving_at a.stage ≡ [] → (c : ℕ)
+        → content_of (employed_multis a ++ employed_singles a) c ≡ content_of (employed j) c
+    stays-found leaves c = ap (λ left. content_of (listed left j) c) leaves ∙ merged c
+
+    module _ (x : Content) (leaves : leaving_at a.stage ≡ x ∷ []) where
+      -- it is the only one of its number
+      not-many : content_of j.contents x.number ≡ None
+      not-many = by (content_of j.contents x.number) refl where
+        by : (o : Option Content) → content_of j.contents x.number ≡ o → o ≡ None
+        by None q = refl
+        by (Some y) q = absurd (omega (
+          arith,
+          number-once e w k x.number,
+          sum-actor e w k (has_number x.number) i,
+          hand-leaves (has_number x.number) (has_number x.number) a.stage,
+          ap (sum_over (has_number x.number)) leaves,
+          counts-key number_of x.number x refl,
+          sum-item number_of (has_number x.number) x.number y j.contents q,
+          counts-key number_of x.number y (item_at-key number_of x.number y j.contents q),
+        ))
+
+      here-by : (b : Bool) → content_of (with_hand b x j) x.number ≡ Some x
+      here-by true = find-append (has_key number_of x.number) j.contents (x ∷ j.singles)
+          ∙ ap (λ o. option_or o (content_of (x ∷ j.singles) x.number)) not-many
+          ∙ item_here number_of x.number x j.singles refl
+      here-by false = item_here number_of x.number x (j.contents ++ j.singles) refl
+
+      other-by : (c : ℕ) → x.number ≢ c → (b : Bool)
+          → content_of (with_hand b x j) c ≡ content_of (j.contents ++ j.singles) c
+      other-by c other true = find-append (has_key number_of c) j.contents (x ∷ j.singles)
+          ∙ ap (option_or (content_of j.contents c)) (item_past number_of c x j.singles other)
+          ∙ sym (find-append (has_key number_of c) j.contents j.singles)
+      other-by c other false = item_past number_of c x (j.contents ++ j.singles) other
+
+      as-listed : (c : ℕ) → content_of (employed_multis a ++ employed_singles a) c
+          ≡ content_of (with_hand (is_single x.kind) x j) c
+      as-listed c = ap (λ left. content_of (listed left j) c) leaves
+          ∙ ap (λ xs. content_of xs c) (listed-by x j (is_single x.kind) refl)
+
+      pub leaving-found : content_of (employed_multis a ++ employed_singles a) x.number ≡ Some x
+      leaving-found = as-listed x.number ∙ here-by (is_single x.kind)
+
+      pub leaving-others : (c : ℕ) → x.number ≢ c
+          → content_of (employed_multis a ++ employed_singles a) c ≡ content_of (employed j) c
+      leaving-others c other =
+          as-listed c ∙ other-by c other (is_single x.kind) ∙ merged c
