@@ -52,7 +52,7 @@ use Rattle.ea_sound.specs.Rule.{Belongs, Kept, Standing, of_owner}
 use Rattle.ea_sound.proofs.Asked.{reached-rule}
 use Rattle.ea_sound.proofs.BlockWeights.{only_at-itself}
 use Rattle.ea_sound.proofs.CarrierRows.{create_absent}
-use Rattle.ea_sound.proofs.Created.{created-owner}
+use Rattle.ea_sound.proofs.Created.{created-owner, created-slot}
 use Rattle.ea_sound.proofs.Employers.{busy-place, there-on}
 use Rattle.ea_sound.proofs.FetchedFits.{won-from}
 use Rattle.ea_sound.proofs.Hits.{HasBlock, hit}
@@ -60,6 +60,7 @@ use Rattle.ea_sound.proofs.Homes.{pooled-belongs, pooled-hit, pooled-laid, poole
 use Rattle.ea_sound.proofs.NodeSeats.{collecting-home, returning-on}
 use Rattle.ea_sound.proofs.Numbered.{scheduler-seat}
 use Rattle.ea_sound.proofs.OwnEntries.{IsSomewhere, not_here-none, owner-has, owner-scheduler}
+use Rattle.ea_sound.proofs.Plans.{planned-number}
 use Rattle.ea_sound.proofs.OwnEntries.{somewhere-hand, somewhere-home, somewhere-returning, this}
 use Rattle.ea_sound.specs.Leaves.{InOperation, InWalk}
 use Rattle.ea_machine.specs.Words.{IsLargest}
@@ -251,6 +252,9 @@ module _ (c : Config) (t : Trace) (valid : IsValidConfig c)
       pub collect-home : (x : Content) × (w.shared.places n ≡ Returning me x)
       collect-home = collecting-home e w k me seat n now
 
+      pub collect-mine : owner_of n ≡ me
+      collect-mine = fits (Collecting n) now
+
       pub collect-number : IsNumber e n
       collect-number = there-number n (λ q.
           let never : Returning me collect-home.0 ≡ Absent = sym collect-home.1 ∙ q in cc)
@@ -410,10 +414,19 @@ module _ (c : Config) (t : Trace) (valid : IsValidConfig c)
           route (For task) gone a got
           (row-left e w me is rule (Routed route (For task) gone) (λ q. cc) now)
 
-    pub create-number : (ask : Ask) (p : CarrierPlan) → a.stage ≡ Creating ask p
-        → (owner_of p.number ≡ me) × (w.shared.places p.number ≡ Absent)
-    create-number ask p now =
-        let f = fits (Creating ask p) now in (
-          created-owner e me a.instance (k.ranges.instances me is) ask.need p f.1,
-          create_absent e w me is k (Creating ask p) (creating-bare ask p) now f.2 ask.need p f.1,
-        )
+    -- a carrier that is created
+    module _ (ask : Ask) (p : CarrierPlan) (now : a.stage ≡ Creating ask p) where
+      pub create-number : (owner_of p.number ≡ me) × (w.shared.places p.number ≡ Absent)
+      create-number =
+          let f = fits (Creating ask p) now in (
+            created-owner e me a.instance (k.ranges.instances me is) ask.need p f.1,
+            create_absent e w me is k (Creating ask p) (creating-bare ask p) now f.2 ask.need p f.1,
+          )
+
+      pub create-range : IsNumber e p.number
+      create-range =
+          let f = fits (Creating ask p) now in
+          let own = k.ranges.instances me is in (
+            omega (arith, (planned-number a.instance ask.need p f.1).0),
+            omega (arith, created-slot e me a.instance own ask.need p f.1 is),
+          )
