@@ -2,12 +2,7 @@ pub mod Doing
 pub mod Acts
 pub mod StandsOff
 pub mod OwnCarriers
-pub mod OutcomeGiven
-pub mod OutcomeBlocks
-pub mod OutcomeSums
 pub mod Texts
 pub mod Suiting
 pub mod Calling
-pub mod Running
-pub mod Ends
 pub mod NamesBrought

@@ -10,16 +10,6 @@ use Rattle.ea_model.specs.Trace.{HasTexts, IsValidTrace, texts_of}
 use Rattle.ea_machine.specs.Setup.{text_for}
 use Rattle.ea_machine.specs.Tasks.{later}
 
-length-texts : (texts : List (Items Op)) → length (map (λ t. t.items) texts) ≡ length texts
-length-texts [] = refl
-length-texts (t ∷ texts) = ap suc (length-texts texts)
-
--- each scheduler has a text where the trace has a schedule
-pub texts-many : (n : ℕ) (t : Trace) → (turns : Items Turns) × (t.mode ≡ Schedule turns)
-    → IsValidTrace n t → length t.texts.items ≡ n
-texts-many n t (turns, schedule) valid = sym (length-texts t.texts.items)
-    ∙ subst (λ m. HasTexts n m (texts_of t)) schedule valid.texts
-
 text_in : (texts : List (Items Op)) (i : ℕ) (text : Items Op) → i < length texts
     → text ≡ slice_index_or texts i text → text.items ≡ text_for (map (λ t. t.items) texts) (suc i)
 text_in [] i text h e = absurd (omega (arith, h))

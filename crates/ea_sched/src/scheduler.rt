@@ -12,6 +12,7 @@ use crate::state::Scheduler;
 use ea_instance::Instance;
 use ea_machine::Stage;
 use ea_model::{Config, Entry, List, OutOfMemory, Trace};
+use ea_names::Names;
 use ea_stats::Stats;
 use std::alloc::Global;
 
@@ -80,6 +81,27 @@ impl<'t> Scheduler<'t> {
         ensures { result.now ≡ self.now.log }
     {
         &self.log
+    }
+
+    /// Its log, by value. It is not copied.
+    pub fn into_log(self) -> List<Entry>
+        ensures { result ≡ self.entry.log }
+    {
+        self.log
+    }
+
+    /// Its allocator instance.
+    pub fn instance(&self) -> &Instance
+        ensures { result.now ≡ self.now.instance }
+    {
+        &self.instance
+    }
+
+    /// The names that it holds.
+    pub fn names(&self) -> &Names
+        ensures { result.now ≡ self.now.names }
+    {
+        &self.names
     }
 
     /// Whether its text is done.

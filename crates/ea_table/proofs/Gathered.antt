@@ -21,7 +21,7 @@ use Rattle.ea_machine.specs.Nodes.{block_node, name_of}
 use Rattle.ea_machine.specs.Outcome.{actors_of}
 use Rattle.ea_machine.specs.Setup.{Setup, setup_of}
 use Rattle.ea_sched.specs.Acting.{actor_of}
-use Rattle.ea_sched.specs.Resting.{StandIn}
+use Rattle.ea_outcome.specs.Resting.{StandIn}
 use Rattle.ea_sched.specs.declared.state.Scheduler.{Scheduler}
 use Rattle.ea_sound.proofs.Asked.{named-spot}
 use Rattle.ea_sound.proofs.Calls as calls

@@ -22,10 +22,11 @@ ghost use Rattle.ea_top.specs.declared.faults.Fault.{Fault};
 
 use crate::faults::{Fault, complain};
 use ea_flags::read_flags;
+use ea_given::run_given;
 use ea_io::{ReadAllFault, Sink, Source, read_all, write_all};
 use ea_model::{Config, List, MAX_INPUT, Mode, OutOfMemory, Outcome, Trace};
 use ea_report::print;
-use ea_sched::{migrates, run_given};
+use ea_sched::migrates;
 use ea_table::{OpenGate, run_threads};
 use ea_trace::read_trace;
 use std::alloc::Global;

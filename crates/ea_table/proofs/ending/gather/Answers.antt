@@ -3,7 +3,7 @@ use Rattle.std.proofs.lemmas.List.{get_or_append_left, length-append}
 use Rattle.std.proofs.lemmas.Result.{IfOk-weaker}
 use Rattle.ea_machine.specs.Machine.{run}
 use Rattle.ea_machine.specs.Setup.{setup_of}
-use Rattle.ea_sched.specs.Resting.{IsOutcome}
+use Rattle.ea_outcome.specs.Resting.{IsOutcome}
 use Rattle.ea_table.specs.declared.worker.Finished.{Finished}
 use Rattle.ea_table.specs.Ending.{IsEnd}
 use Rattle.ea_table.proofs.Gathered.{gathered}

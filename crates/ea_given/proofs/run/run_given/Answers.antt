@@ -1,0 +1,50 @@
+use Rattle.std.proofs.Common.{◌≡◌, sym, subst}
+use Rattle.std.proofs.lemmas.Result.{IfOk-weaker}
+use Rattle.ea_model.specs.Outcome.{plain_outcome}
+use Rattle.ea_machine.specs.Completion.{end_of}
+use Rattle.ea_machine.specs.Outcome.{outcome_of}
+use Rattle.ea_machine.specs.Setup.{setup_of}
+use Rattle.ea_sound.proofs.Protocols.{always-protocol}
+use Rattle.ea_outcome.specs.Resting.{IsOutcome, StandIn}
+use Rattle.ea_given.proofs.Ends.{stand-in}
+use Rattle.ea_given.proofs.Texts.{texts-many}
+use Rattle.ea_given.proofs.run.run_given.Goals as goal
+
+pub run_to_end-requires-clause-texts : goal.run_to_end-requires-clause-texts
+run_to_end-requires-clause-texts c =
+    texts-many c.args.config.schedulers c.args.trace.now c.requires.schedule c.requires.trace
+
+pub outcome_of-requires-clause-greatest : goal.outcome_of-requires-clause-greatest
+outcome_of-requires-clause-greatest c = sym c.in_ok-schedulers.ensures.shared.names
+
+pub outcome_of-requires-clause-stand : goal.outcome_of-requires-clause-stand
+outcome_of-requires-clause-stand c =
+    let d = c.args.config in
+    let t = c.args.trace.now in
+    let run = c.in_ok-schedulers.field-0 in
+    let end = c.in_ok-schedulers.ensures in
+    let w = end_of (setup_of d t) t.mode in (
+      w,
+      subst (λ xs. StandIn d t xs run.shared.given w) (sym c.from_vec.ensures)
+          (stand-in d t run.schedulers.items run.shared w end.shared end.schedulers),
+    )
+
+pub returns-clause-outcome : goal.returns-clause-outcome
+returns-clause-outcome c =
+    let d = c.args.config in
+    let t = c.args.trace.now in
+    let run = c.in_ok-schedulers.field-0 in
+    let end = c.in_ok-schedulers.ensures in
+    let w = end_of (setup_of d t) t.mode in
+    let stands = subst (λ xs. StandIn d t xs run.shared.given w) (sym c.from_vec.ensures)
+    (stand-in d t run.schedulers.items run.shared w end.shared end.schedulers) in
+    IfOk-weaker c.outcome_of.result (IsOutcome d t c.from_vec.result.items run.shared.given)
+    (λ o. plain_outcome o ≡ outcome_of d t) (λ o is. is w stands) c.outcome_of.ensures
+
+pub returns-clause-protocol : goal.returns-clause-protocol
+returns-clause-protocol c = always-protocol c.args.config c.args.trace.now c.requires.config
+    c.requires.trace
+
+pub returns-in_err-schedulers-clause-protocol : goal.returns-in_err-schedulers-clause-protocol
+returns-in_err-schedulers-clause-protocol c = always-protocol c.args.config c.args.trace.now
+    c.requires.config c.requires.trace

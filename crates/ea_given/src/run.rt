@@ -1,0 +1,175 @@
+//! The run of a trace that has a schedule.
+ghost use Rattle.std.specs.Prelude.{◌≡◌, ◌+◌, ◌<◌, false, [], ◌∷◌, IfOk, OnOk, All};
+ghost use Rattle.std.specs.Prelude.{flat_map, length, replicate};
+ghost use Rattle.ea_model.specs.declared.trace.Mode.TheVariants.{Schedule};
+ghost use Rattle.ea_model.specs.Outcome.{plain_outcome};
+ghost use Rattle.ea_model.specs.Settings.{IsValidConfig};
+ghost use Rattle.ea_model.specs.Trace.{IsScheduler, IsValidTrace};
+ghost use Rattle.ea_model.specs.Trace as traces;
+ghost use Rattle.ea_machine.specs.Completion.{completing, finishing};
+ghost use Rattle.ea_machine.specs.Machine.{start};
+ghost use Rattle.ea_sound.specs.MachineLaws.{Protocol};
+ghost use Rattle.ea_machine.specs.Outcome as machine;
+ghost use Rattle.ea_machine.specs.Setup.{migration, setup_of};
+ghost use Rattle.ea_given.specs.Running.{AllStand, AllStandAt, AllTook, IsAtEnd, Stands, Took};
+
+use ea_mbc::Mbc;
+use ea_model::{Config, List, Mode, OutOfMemory, Outcome, Trace, Turns};
+use ea_outcome::outcome_of;
+use ea_sched::Scheduler;
+use ea_shared::MemShared;
+use std::alloc::Global;
+
+/// The turns of a schedule; another mode has none.
+fn turns_of(mode: &Mode) -> &[Turns]
+    ensures { result.now ≡ traces.turns_of mode.now }
+{
+    match mode {
+        Mode::Schedule { turns } => turns.as_slice(),
+        Mode::Threads | Mode::Generated { .. } => &[],
+    }
+}
+
+/// A run: all its schedulers, in order, and what they share.
+#[derive(Drop)]
+struct Run<'t> {
+    schedulers: Vec<Scheduler<'t>>,
+    shared: MemShared<Mbc>,
+}
+
+/// All schedulers of the run of a trace, in order, before their first step.
+fn schedulers_of<'t>(
+    alloc: Global,
+    config: Config,
+    trace: &'t Trace,
+) -> Result<Vec<Scheduler<'t>>, OutOfMemory>
+    requires config { IsValidConfig config }
+    requires trace { IsValidTrace config.schedulers trace.now }
+    requires texts { length trace.now.texts.items ≡ config.schedulers }
+    requires off { migration (setup_of config trace.now) ≡ false }
+    ensures { IfOk result (λ schedulers. AllStandAt config trace.now schedulers.items
+        (start (setup_of config trace.now))) }
+{
+    let mut schedulers = Vec::new(alloc);
+    for before in 0..config.schedulers {
+        schedulers.push(Scheduler::new(alloc, config, trace, before + 1)?)?;
+    }
+    Ok(schedulers)
+}
+
+/// Takes one step of the scheduler.
+fn take_turn(
+    scheduler: &mut Scheduler<'_>,
+    alloc: Global,
+    shared: &mut MemShared<Mbc>,
+) -> Result<(), OutOfMemory>
+    requires { Stands scheduler.old shared.old }
+    ensures { OnOk result (Took (λ _ _ me. me ∷ []) scheduler.old shared.old scheduler.new
+        shared.new) }
+{
+    scheduler.step(alloc, shared)?;
+    Ok(())
+}
+
+/// Takes that many turns of the scheduler. Those after its end change nothing, and are left out.
+fn take_turns(
+    scheduler: &mut Scheduler<'_>,
+    alloc: Global,
+    shared: &mut MemShared<Mbc>,
+    count: u32,
+) -> Result<(), OutOfMemory>
+    requires { Stands scheduler.old shared.old }
+    ensures { OnOk result (Took (λ _ _ me. replicate count me) scheduler.old shared.old
+        scheduler.new shared.new) }
+{
+    for _turn in 0..count {
+        if scheduler.ended() {
+            return Ok(());
+        }
+        take_turn(scheduler, alloc, shared)?;
+    }
+    Ok(())
+}
+
+/// Steps until the scheduler has ended.
+fn run_out(
+    scheduler: &mut Scheduler<'_>,
+    alloc: Global,
+    shared: &mut MemShared<Mbc>,
+) -> Result<(), OutOfMemory>
+    requires { Stands scheduler.old shared.old }
+    ensures { OnOk result (Took finishing scheduler.old shared.old scheduler.new shared.new) }
+{
+    while !scheduler.ended() {
+        take_turn(scheduler, alloc, shared)?;
+    }
+    Ok(())
+}
+
+/// Takes the turns of a schedule.
+fn take_schedule(
+    schedulers: &mut [Scheduler<'_>],
+    alloc: Global,
+    shared: &mut MemShared<Mbc>,
+    schedule: &[Turns],
+) -> Result<(), OutOfMemory>
+    requires stand { AllStand schedulers.old shared.old }
+    requires theirs { All (λ t. IsScheduler (length schedulers.old) t.scheduler) schedule.now }
+    ensures { OnOk result (AllTook
+        (λ _ _. flat_map (λ t. replicate t.count t.scheduler) schedule.now) schedulers.old
+        shared.old schedulers.new shared.new) }
+{
+    for turns in schedule {
+        let index = turns.scheduler as usize - 1;
+        take_turns(&mut schedulers[index], alloc, shared, turns.count)?;
+    }
+    Ok(())
+}
+
+/// Steps until the first scheduler has ended, then until the next one has, up to the last one.
+fn complete(
+    schedulers: &mut [Scheduler<'_>],
+    alloc: Global,
+    shared: &mut MemShared<Mbc>,
+) -> Result<(), OutOfMemory>
+    requires { AllStand schedulers.old shared.old }
+    ensures { OnOk result (AllTook (λ e w. completing e e.schedulers 1 w) schedulers.old shared.old
+        schedulers.new shared.new) }
+{
+    for scheduler in schedulers.iter_mut() {
+        run_out(scheduler, alloc, shared)?;
+    }
+    Ok(())
+}
+
+/// Runs a trace from its start to its end: the turns of its schedule, and what completes them.
+fn run_to_end<'t>(alloc: Global, config: Config, trace: &'t Trace) -> Result<Run<'t>, OutOfMemory>
+    requires config { IsValidConfig config }
+    requires trace { IsValidTrace config.schedulers trace.now }
+    requires texts { length trace.now.texts.items ≡ config.schedulers }
+    requires off { migration (setup_of config trace.now) ≡ false }
+    ensures { IfOk result (IsAtEnd config trace.now) }
+{
+    let mut shared = MemShared::new(alloc, config, trace)?;
+    let mut schedulers = schedulers_of(alloc, config, trace)?;
+    take_schedule(&mut schedulers, alloc, &mut shared, turns_of(&trace.mode))?;
+    complete(&mut schedulers, alloc, &mut shared)?;
+    Ok(Run { schedulers, shared })
+}
+
+/// Runs a trace that has a schedule: the schedulers take its turns, each one atomic step, and then
+/// scheduler 1 goes on until it has ended, then scheduler 2, up to the last one. Answers what is
+/// printed of the state then; it fails only where there is no memory. Whatever it answers, each run
+/// of the trace keeps the machine's protocol, whatever steps its schedulers take.
+pub fn run_given(alloc: Global, config: Config, trace: &Trace) -> Result<Outcome, OutOfMemory>
+    requires config { IsValidConfig config }
+    requires trace { IsValidTrace config.schedulers trace.now }
+    requires schedule { (turns : _) × (trace.now.mode ≡ Schedule turns) }
+    requires off { migration (setup_of config trace.now) ≡ false }
+    ensures outcome { IfOk result (λ outcome.
+        plain_outcome outcome ≡ machine.outcome_of config trace.now) }
+    ensures protocol { Protocol (setup_of config trace.now) }
+{
+    let Run { schedulers, shared } = run_to_end(alloc, config, trace)?;
+    outcome_of(alloc, config, trace, List::from_vec(schedulers), &shared)
+}

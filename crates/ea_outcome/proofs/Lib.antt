@@ -1,0 +1,3 @@
+pub mod OutcomeGiven
+pub mod OutcomeBlocks
+pub mod OutcomeSums

@@ -1,0 +1,10 @@
+use Rattle.std.proofs.Common.{◌≡◌, ◌+◌, drop}
+use Rattle.std.specs.Prelude.{sum_by}
+use Rattle.ea_outcome.specs.Resting.{units_named}
+use Rattle.ea_outcome.proofs.units.live_units.Given as goal
+
+-- with those of the names that the other schedulers hold they are all
+abbrev pub invariant-loop-scheduler : goal.invariant-loop-scheduler
+invariant-loop-scheduler g l = l.units
+    + sum_by (λ s. units_named l.schedulers s.names.held) (drop l.scheduler-index l.schedulers)
+    ≡ l.initial.units + sum_by (λ s. units_named l.schedulers s.names.held) l.schedulers

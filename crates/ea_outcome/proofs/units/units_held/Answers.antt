@@ -1,0 +1,26 @@
+use Rattle.std.proofs.Common.{sym, ap, ◌∙◌, subst}
+use Rattle.std.specs.Prelude.{All, IfSome, is_some, sum_by}
+use Rattle.std.proofs.lemmas.List.{take_all}
+use Rattle.std.specs.Option.{option_map_or}
+use Rattle.ea_outcome.specs.Resting.{HasBlock, block_by, units_at}
+use Rattle.ea_outcome.proofs.OutcomeBlocks.{group-holds}
+use Rattle.ea_outcome.proofs.units.units_held.Goals as goal
+
+pub units_of-units-requires-clause-blocks : goal.units_of-units-requires-clause-blocks
+units_of-units-requires-clause-blocks c =
+    let schedulers = c.args.schedulers.now in
+    let groups = c.groups-groups.result.now in
+    subst (All (λ s. IfSome s (HasBlock schedulers)))
+    (ap (λ g. g.items) (sym c.group-item.is) ∙ sym c.deref.ensures.value)
+    (group-holds (λ p. is_some (block_by schedulers p)) (λ g. g.items) groups
+    c.args.names.now.held c.groups-groups.ensures.sums c.requires
+    c.loop-group.group-index c.group-item.result c.loop-group-test.true)
+
+pub returns : goal.returns
+returns c =
+    let size = units_at c.args.schedulers.now in
+    let groups = c.groups-groups.result.now in
+    c.loop-group.invariant.1
+    ∙ ap (sum_by (λ g. sum_by (λ s. option_map_or size s 0) g.items))
+    (take_all c.loop-group.group-index groups c.loop-group-test.false)
+    ∙ sym (c.groups-groups.ensures.sums size)

@@ -1,0 +1,11 @@
+use Rattle.std.proofs.Common.{◌≡◌, ◌*◌, ◌^◌, ◌≤◌, take}
+use Rattle.std.specs.Prelude.{sum_by}
+use Rattle.std.specs.Option.{option_map_or}
+use Rattle.ea_outcome.specs.Resting.{units_at}
+use Rattle.ea_outcome.proofs.units.units_held.Given as goal
+
+-- the units of the blocks of the groups passed
+abbrev pub invariant-loop-group : goal.invariant-loop-group
+invariant-loop-group l = (l.units ≤ 2 ^ 41 * l.group-index)
+    × (l.units ≡ sum_by (λ g. sum_by (λ s. option_map_or (units_at l.schedulers) s 0) g.items)
+    (take l.group-index l.groups))

@@ -1,7 +1,0 @@
-use Rattle.std.specs.Prelude.{replicate}
-use Rattle.ea_sched.specs.Running.{Took}
-use Rattle.ea_sched.proofs.run.take_turns.Given as goal
-
-abbrev pub invariant-loop-turn : goal.invariant-loop-turn
-invariant-loop-turn l = Took (λ e w me. replicate l._turn me) l.initial.scheduler l.initial.shared
-    l.scheduler l.shared
