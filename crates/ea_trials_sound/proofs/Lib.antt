@@ -1,4 +1,5 @@
 mod Exhausted
 mod Placed
+mod Handed
 mod Searched
 mod Setups

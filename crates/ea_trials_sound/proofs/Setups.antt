@@ -40,6 +40,26 @@ moving_setup = record {
       ∷ (op.Alloc 3 100 ∷ op.Free 3 ∷ op.Idle ∷ []) ∷ []);
 }
 
+-- one scheduler frees block 1, and abandons its carrier
+abbrev pub gaps_setup : Setup
+gaps_setup = record {
+  schedulers = 1;
+  settings = usual_settings;
+  pages = 16384;
+  texts = text_for
+      ((op.Alloc 1 130 ∷ op.Alloc 2 100 ∷ op.Free 1 ∷ op.Alloc 3 100 ∷ []) ∷ []);
+}
+
+-- scheduler 2 takes and frees block 1
+abbrev pub handed_setup : Setup
+handed_setup = record {
+  schedulers = 2;
+  settings = usual_settings;
+  pages = 8192;
+  texts = text_for
+      ((op.Alloc 1 100 ∷ op.Give 1 2 ∷ []) ∷ (op.Take 1 1 ∷ op.Free 1 ∷ []) ∷ []);
+}
+
 -- scheduler 2 has no room for a second carrier
 abbrev pub full_setup : Setup
 full_setup = record {

@@ -8,6 +8,8 @@ use Rattle.ea_model.specs.Words.{words}
 use Rattle.ea_machine.specs.declared.owners.OwnerWord.TheVariants as word
 use Rattle.ea_sound.specs.Chosen.{IsPlacement}
 use Rattle.ea_sound.specs.Exhausted.{IsExhausted, seen_since}
+use Rattle.ea_sound.specs.Entries.{IsDone}
+use Rattle.ea_sound.specs.HandedOver.{IsQueued}
 use Rattle.ea_sound.specs.Searches.{Sight, Shown}
 use Rattle.ea_sound.specs.Turns.{log_after}
 use Rattle.ea_trials_moments.specs.Moments.{Moment, moment}
@@ -28,6 +30,13 @@ abbrev pub two_gaps : List ℕ → Option Moment
 two_gaps schedule = moment []
     (scheduled
     (codes "type H\nscheduler 1\nalloc 1 130\nalloc 2 100\nfree 1\nalloc 3 100\n") schedule)
+
+-- scheduler 2 takes a block of scheduler 1, and frees it
+abbrev pub handed_over : List ℕ → Option Moment
+handed_over schedule = moment (words (codes "+S 2"))
+    (scheduled
+    (codes "type H\nscheduler 1\nalloc 1 100\ngive 1 2\n"
+    ++ codes "scheduler 2\ntake 1 1\nfree 1\n") schedule)
 
 -- that many numbers from `at` downwards were looked at, and no carrier has them
 abbrev pub absent_from : ℕ → ℕ → List Sight
@@ -54,6 +63,16 @@ FindsNone run after s x need looked why =
 abbrev pub FindsPlace : (List ℕ → Option Moment) → List ℕ → ℕ → ℕ → Place → Type 0
 FindsPlace run after s name place =
     IfSome (run []) (λ m. IsPlacement m.setup (turns after) s name place)
+
+-- the block of this name for which s makes the entry in its step after these turns went to the
+-- queue of the employer of its carrier
+abbrev pub GoesTo : (List ℕ → Option Moment) → List ℕ → ℕ → ℕ → ℕ → Type 0
+GoesTo run after s name to =
+    IfSome (run []) (λ m. IsQueued m.setup (turns after) s name to)
+
+-- s released it itself
+abbrev pub StaysHere : (List ℕ → Option Moment) → List ℕ → ℕ → ℕ → Type 0
+StaysHere run after s name = IfSome (run []) (λ m. IsDone m.setup (turns after) s name)
 
 -- a place in a carrier
 abbrev pub place : ℕ → ℕ → ℕ → Place

@@ -1,4 +1,4 @@
-//! A block that finds no place, and blocks that find one.
+//! A block that finds no place, and blocks that find one; blocks that are queued, and released.
 
 ghost use Rattle.std.specs.Prelude.{◌≡◌, ◌++◌, codes, Some, [], ◌∷◌};
 ghost use Rattle.ea_model.specs.declared.entries.Entry.TheVariants as entry;
@@ -6,8 +6,9 @@ ghost use Rattle.ea_model.specs.declared.entries.NoCarrier.TheVariants.{Space};
 ghost use Rattle.ea_machine.specs.declared.owners.OwnerWord.TheVariants as word;
 ghost use Rattle.ea_sound.specs.Searches.{Missed, Shown};
 ghost use Rattle.ea_trials_moments.specs.Runs.{single_block};
-ghost use Rattle.ea_trials_sound.specs.Entries.{FindsNone, FindsPlace, absent_from, full_region};
-ghost use Rattle.ea_trials_sound.specs.Entries.{log_of, place, sights_of, two_gaps};
+ghost use Rattle.ea_trials_sound.specs.Entries.{FindsNone, FindsPlace, GoesTo, StaysHere};
+ghost use Rattle.ea_trials_sound.specs.Entries.{absent_from, full_region, handed_over, log_of};
+ghost use Rattle.ea_trials_sound.specs.Entries.{place, sights_of, two_gaps};
 ghost use Rattle.ea_trials_sound.specs.Runs.{moved_away};
 
 /// What a search saw, and that the entries say what is so.
@@ -24,4 +25,6 @@ pub fn entries()
     ensures in_a_new_carrier { FindsPlace moved_away (codes "1*518 2*514 1*513 1*3 2*4") 1 4
         (place 2 8 26) }
     ensures in_a_carrier_of_its_own { FindsPlace single_block (codes "1") 1 1 (place 1 8 75002) }
+    ensures to_the_employer { GoesTo handed_over (codes "1*516 2*5") 2 1 1 }
+    ensures by_itself { StaysHere two_gaps (codes "1*261") 1 1 }
 {}

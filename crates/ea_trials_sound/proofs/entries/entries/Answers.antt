@@ -4,18 +4,25 @@ use Rattle.ea_model.specs.declared.entries.NoCarrier.TheVariants.{Space}
 use Rattle.ea_model.specs.Instance.{unused_from}
 use Rattle.ea_machine.specs.declared.owners.OwnerWord.TheVariants as word
 use Rattle.ea_machine.specs.Table.{answer, effect}
-use Rattle.ea_machine.specs.Machine.{after, step_at}
+use Rattle.ea_machine.specs.Machine.{after, run, step_at}
 use Rattle.ea_trials_moments.specs.Runs.{carrier_with, named, usual}
 use Rattle.ea_trials_sound.specs.Courses.{turns}
-use Rattle.ea_trials_sound.specs.Entries.{absent_from, full_region, place}
+use Rattle.ea_trials_sound.specs.Entries.{absent_from, full_region, handed_over, place, two_gaps}
 use Rattle.ea_trials_sound.proofs.Placed.{asked, created-placement, fetched-placement, first_fit}
 use Rattle.ea_trials_sound.proofs.Placed.{single-placement}
-use Rattle.ea_trials_sound.proofs.Setups.{full_instance, full_setup, moving_setup, under-setup}
+use Rattle.ea_trials_sound.proofs.Setups.{full_instance, full_setup, gaps_setup, handed_setup}
+use Rattle.ea_trials_sound.proofs.Setups.{moving_setup, under-setup}
 use Rattle.ea_trials_sound.proofs.Exhausted.{exhausted}
 use Rattle.ea_sound.specs.Exhausted.{IsExhausted}
 use Rattle.ea_sound.specs.Searches.{Missed, Shown}
 use Rattle.ea_trials_sound.specs.Runs.{moved_away, named_in}
 use Rattle.ea_sound.specs.Chosen.{IsPlacement}
+use Rattle.ea_sound.specs.Entries.{IsDone}
+use Rattle.ea_sound.specs.HandedOver.{HasHeld, IsQueued}
+use Rattle.ea_sound.specs.Shown.{Employs, Looks, SeesEmployer}
+use Rattle.ea_sound.specs.Turns.{log_after}
+use Rattle.ea_machine.specs.declared.tasks.Task.TheVariants.{Freeing}
+use Rattle.ea_trials_sound.proofs.Handed.{queued, released, was_held}
 use Rattle.ea_trials_sound.proofs.entries.entries.Goals as goal
 
 pub returns-clause-sights : goal.returns-clause-sights
@@ -76,3 +83,47 @@ returns-clause-in_a_carrier_of_its_own c = single-placement _ _ _ _
     (record { name = 1; need = 75002; old = None })
     (record { number = 1; base = 0; pages = 147; birth = 1; single = true }) refl (omega arith)
     (asked _ _ [] (1 ∷ []) 1 75002 [] _ refl refl refl refl refl) refl refl refl refl
+
+-- the block that scheduler 2 frees
+taken-held : HasHeld handed_setup (turns (codes "1*516 2*5") ++ 2 ∷ []) 2 1 (named 1 8)
+    (log_after handed_setup (turns (codes "1*516 2*5")) 2)
+unfolding unused_from answer effect after step_at
+taken-held = was_held handed_setup _ (turns (codes "1*516 2*2")) (turns (codes "2*3")) 2 1
+    (named 1 8) (entry.Take 1 ∷ []) _ refl refl refl refl refl
+
+-- its carrier is employed by scheduler 1
+taken-seen : SeesEmployer 2 (named 1 8) 1 (run handed_setup (turns (codes "1*516 2*3")))
+unfolding unused_from answer effect after step_at
+taken-seen = Looks (Freeing 1) (word.Employed 1) refl refl refl
+
+taken-queued : IsQueued handed_setup (turns (codes "1*516 2*5")) 2 1 1
+unfolding unused_from answer effect after step_at
+taken-queued = queued handed_setup (turns (codes "1*516 2*5")) 2 1 1 (named 1 8)
+    (entry.Take 1 ∷ []) (turns (codes "1*516 2*4")) (turns (codes "2"))
+    (turns (codes "1*516 2*3")) (turns (codes "2*2")) refl (omega arith, omega arith) (omega arith)
+    refl taken-held refl refl refl refl refl taken-seen
+
+pub returns-clause-to_the_employer : goal.returns-clause-to_the_employer
+unfolding unused_from answer effect after step_at
+returns-clause-to_the_employer c = under-setup
+    (λ setup. IsQueued setup (turns (codes "1*516 2*5")) 2 1 1) handed_setup (handed_over []) refl
+    taken-queued
+
+-- the block that the one scheduler frees
+freed-held : HasHeld gaps_setup (turns (codes "1*261") ++ 1 ∷ []) 1 1 (named 1 8)
+    (log_after gaps_setup (turns (codes "1*261")) 1)
+unfolding unused_from answer effect after step_at
+freed-held = was_held gaps_setup _ (turns (codes "1*259")) (turns (codes "1*2")) 1 1 (named 1 8)
+    (entry.Alloc 1 (place 1 8 18) ∷ entry.Alloc 2 (place 1 26 14) ∷ []) _ refl refl refl refl refl
+
+freed-done : IsDone gaps_setup (turns (codes "1*261")) 1 1
+unfolding unused_from answer effect after step_at
+freed-done = released gaps_setup (turns (codes "1*261")) 1 1 (named 1 8)
+    (entry.Alloc 1 (place 1 8 18) ∷ entry.Alloc 2 (place 1 26 14) ∷ [])
+    (turns (codes "1*260")) (turns (codes "1")) refl refl refl freed-held refl refl
+    (Employs (Freeing 1) refl refl)
+
+pub returns-clause-by_itself : goal.returns-clause-by_itself
+unfolding unused_from answer effect after step_at
+returns-clause-by_itself c = under-setup (λ setup. IsDone setup (turns (codes "1*261")) 1 1)
+    gaps_setup (two_gaps []) refl freed-done
