@@ -215,6 +215,7 @@ module _ (c : Config) (t : Trace) where
   start-shares m config trace off made names nothing = record {
     config = config;
     trace = trace;
+    off = off;
     made = made;
     names = names;
     reached = ([], refl);

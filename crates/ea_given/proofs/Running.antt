@@ -27,7 +27,7 @@ use Rattle.ea_sound.proofs.Completing.{ending-none, ending-one, reached-step, ru
 use Rattle.ea_sound.proofs.TurnLists.{ended-or, run-append, step-ended, step-mine, step-shared}
 use Rattle.ea_shared.specs.Memory.{Sharing, nothing_shared, shared_of}
 use Rattle.ea_sched.specs.declared.state.Scheduler.{Scheduler}
-use Rattle.ea_sched.specs.Acting.{actor_of, is_ended}
+use Rattle.ea_sched.specs.Acting.{actor_of, is_ended, setup_for}
 use Rattle.ea_given.specs.Running.{LeadsTo, SharesAt, Stands, StandsAt, Took, alone_in, work_left}
 use Rattle.ea_sched.specs.Steps.{Stepped}
 use Rattle.ea_sched.specs.Steps as steps
@@ -138,6 +138,9 @@ module _ (c : Config) (t : Trace) (me : ℕ) (s : Scheduler) (w : State)
           told = inl refl;
         })
 
+    pub stands-off : migration (setup_for s) ≡ false
+    stands-off = as-run (λ d u k. migration (setup_of d u) ≡ false) shares.off
+
     -- and stands in the next state after it
     pub stepped-stands : (u : Scheduler) (n : Sharing) → u.config ≡ s.config
         → u.trace ≡ s.trace → u.number ≡ s.number
@@ -157,6 +160,7 @@ module _ (c : Config) (t : Trace) (me : ℕ) (s : Scheduler) (w : State)
           record {
             config = shares.config;
             trace = shares.trace;
+            off = shares.off;
             made = made ∙ shares.made;
             names = names ∙ shares.names;
             reached = reached-step e w me shares.reached;

@@ -5,7 +5,7 @@ use Rattle.ea_model.specs.declared.trace.Trace.{Trace}
 use Rattle.ea_model.specs.Settings.{IsValidConfig}
 use Rattle.ea_model.specs.Trace.{IsValidTrace}
 use Rattle.ea_machine.specs.Completion.{completing, end_of, ending, work}
-use Rattle.ea_machine.specs.Setup.{Setup, setup_of}
+use Rattle.ea_machine.specs.Setup.{Setup, migration, setup_of}
 use Rattle.ea_machine.specs.State.{State}
 use Rattle.ea_machine.specs.Machine.{IsReached, run_on}
 use Rattle.ea_shared.specs.Memory.{Sharing, shared_of}
@@ -14,10 +14,12 @@ use Rattle.ea_sched.specs.declared.state.Scheduler.{Scheduler}
 use Rattle.ea_sched.specs.Acting.{actor_of, setup_for}
 
 module _ (c : Config) (t : Trace) where
-  -- what is shared in a reached state of the run of a valid trace is in the memory
+  -- what is shared in a reached state of the run of a valid trace, in which carriers don't migrate,
+  -- is in the memory
   pub record SharesAt (shared : Sharing) (state : State) : Type 0 where
     pub config : IsValidConfig c
     pub trace : IsValidTrace c.schedulers t
+    pub off : migration (setup_of c t) ≡ false
     pub made : shared.schedulers ≡ c.schedulers
     pub names : shared.greatest ≡ t.greatest
     pub reached : IsReached (setup_of c t) state

@@ -46,7 +46,6 @@ fn schedulers_of<'t>(
     requires config { IsValidConfig config }
     requires trace { IsValidTrace config.schedulers trace.now }
     requires texts { length trace.now.texts.items ≡ config.schedulers }
-    requires off { migration (setup_of config trace.now) ≡ false }
     ensures { IfOk result (λ schedulers. AllStandAt config trace.now schedulers.items
         (start (setup_of config trace.now))) }
 {

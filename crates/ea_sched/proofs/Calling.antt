@@ -1,5 +1,5 @@
 -- What the calls of a scheduler on what is shared ask for, and where their answers leave it.
-use Rattle.std.proofs.Common.{◌≡◌, ℕ, zero, suc, ◌*◌, ◌<◌, ◌≤◌, true, List, []}
+use Rattle.std.proofs.Common.{◌≡◌, ℕ, zero, suc, ◌*◌, ◌<◌, ◌≤◌, true, false, List, []}
 use Rattle.std.proofs.Common.{◌∷◌, drop, length, refl, sym, ap, ◌∙◌, subst, arith}
 use Rattle.std.specs.Prelude.{Option, None, Some, IfSome, IsSome}
 use Rattle.ea_model.specs.declared.carriers.Spot.{Spot}
@@ -27,7 +27,7 @@ use Rattle.ea_machine.specs.Machine.{after_row, begins, onward, wants_at}
 use Rattle.ea_machine.specs.Nodes.{first_node, spot_named}
 use Rattle.ea_machine.specs.Operations.{took_by}
 use Rattle.ea_machine.specs.Rows.{Answer, Got, Passes, Rests, Row, TakeLink, TakeTry}
-use Rattle.ea_machine.specs.Setup.{Setup}
+use Rattle.ea_machine.specs.Setup.{Setup, migration}
 use Rattle.ea_machine.specs.Shared.{Shared}
 use Rattle.ea_machine.specs.Table.{answer}
 use Rattle.ea_machine.specs.Walks.{ready, with_passed, worked_off}
@@ -35,9 +35,9 @@ use Rattle.ea_shared.specs.Calls.{Caller, Did}
 use Rattle.ea_names.specs.Holding.{has_place}
 use Rattle.ea_sound.proofs.Calls as calls
 use Rattle.ea_sched.specs.declared.state.Scheduler.{Scheduler}
-use Rattle.ea_sched.specs.Acting.{actor_of, setup_for}
+use Rattle.ea_sched.specs.Acting.{actor_of, setup_for, standing_at}
 use Rattle.ea_sched.specs.Asking.{HasMore, IsFresh, SuitsNext}
-use Rattle.ea_sched.specs.Steps.{DidRow, IsReady}
+use Rattle.ea_sched.specs.Steps.{DidRow, IsReadyAt}
 use Rattle.ea_sound.specs.Walking.{CanAllGo, worked}
 use Rattle.ea_sched.proofs.Doing.{Answered, answered-so}
 use Rattle.ea_sched.proofs.Suiting.{goes-linked, goes-passed, next-placed, suits-linked}
@@ -76,9 +76,9 @@ module _ (e : Setup) (me : ℕ) where
   onward-took name tries (suc zero) a None = refl
   onward-took name tries (suc (suc left)) a None = refl
 
--- a scheduler that is ready for its row
-module _ (s : Scheduler) {shared : Option Shared} {caller : Option Caller}
-    (h : IsReady s shared caller) where
+-- a scheduler that is ready for its row, at a stage
+module _ {stage : Stage Content} (s : Scheduler) {shared : Option Shared} {caller : Option Caller}
+    (h : IsReadyAt stage s shared caller) where
   abbrev me : ℕ
   me = s.number
 
@@ -86,13 +86,13 @@ module _ (s : Scheduler) {shared : Option Shared} {caller : Option Caller}
   e = setup_for s
 
   abbrev a : Actor
-  a = actor_of s
+  a = standing_at stage s
 
   number : IsScheduler s.config.schedulers me
   number = (s.number_from, s.number_to)
 
-  in_state : (stage : Stage Content) → a.stage ≡ stage → (h.state.actors me).stage ≡ stage
-  in_state stage now = ap (λ (x : Actor). x.stage) h.actor ∙ now
+  in_state : (at : Stage Content) → stage ≡ at → (h.state.actors me).stage ≡ at
+  in_state at now = ap (λ (x : Actor). x.stage) h.actor ∙ now
 
   -- what holds of what is shared in that state holds of it as it is told
   told-so : (P : Shared → Type 0) → P h.state.shared → IfSome shared P
@@ -111,8 +111,9 @@ module _ (s : Scheduler) {shared : Option Shared} {caller : Option Caller}
       (ap (λ (x : Actor). x.next) h.actor ∙ none))
 
   -- it had no nodes
-  pub taken-suits : s.stage ≡ Begin → s.next ≡ None → SuitsNext s.instance s
-  taken-suits begin none = suits-taken s h.config h.trace h.state h.reached h.actor begin none
+  pub taken-suits : migration e ≡ false → stage ≡ Begin → s.next ≡ None → SuitsNext s.instance s
+  taken-suits off begin none =
+      suits-taken stage s off h.config h.trace h.state h.reached h.actor begin none
 
   -- the link of the walk's next node is to be read
   module _ (node : Node) (next : s.next ≡ Some node) where
@@ -129,7 +130,7 @@ module _ (s : Scheduler) {shared : Option Shared} {caller : Option Caller}
 
   -- a node is to be pushed
   module _ (node : Node) (to : ℕ) (why : Why) (gone : Gone)
-      (now : a.stage ≡ Routed (Pushing node to) why gone) where
+      (now : stage ≡ Routed (Pushing node to) why gone) where
     pub push-target : IsScheduler s.config.schedulers to
     push-target = (calls.push-target s.config s.trace.now h.config h.trace h.state h.reached me
         number node to why gone (in_state (Routed (Pushing node to) why gone) now)).0
@@ -145,7 +146,7 @@ module _ (s : Scheduler) {shared : Option Shared} {caller : Option Caller}
 
   -- a node is to be linked
   module _ (node : Node) (to : ℕ) (why : Why) (gone : Gone)
-      (now : a.stage ≡ Routed (Linking node to) why gone) where
+      (now : stage ≡ Routed (Linking node to) why gone) where
     pub link-target : IsScheduler s.config.schedulers to
     link-target = calls.link-target s.config s.trace.now h.config h.trace h.state h.reached me
         number node to why gone (in_state (Routed (Linking node to) why gone) now)
@@ -161,24 +162,26 @@ module _ (s : Scheduler) {shared : Option Shared} {caller : Option Caller}
 
   -- the walk to which it belonged is to go on
   module _ (node : Node) (to : ℕ) (gone : Gone)
-      (now : a.stage ≡ Routed (Linking node to) Walk gone) where
-    pub linked-can : CanAllGo me s.instance s.passed.nodes
-    linked-can = goes-linked s h.config h.trace h.state h.reached h.actor node to gone now
+      (now : stage ≡ Routed (Linking node to) Walk gone) where
+    pub linked-can : migration e ≡ false → CanAllGo me s.instance s.passed.nodes
+    linked-can off =
+        goes-linked stage s off h.config h.trace h.state h.reached h.actor node to gone now
 
-    pub linked-suits : (worked me s.instance s.passed.nodes).hand ≡ None
+    pub linked-suits : migration e ≡ false → (worked me s.instance s.passed.nodes).hand ≡ None
         → SuitsNext (worked me s.instance s.passed.nodes).instance s
-    linked-suits = suits-linked s h.config h.trace h.state h.reached h.actor node to gone now
+    linked-suits off =
+        suits-linked stage s off h.config h.trace h.state h.reached h.actor node to gone now
 
   -- the operation whose block is on its route is left
   pub task-more : (route : Route Content) (task : Task) (gone : Gone)
-      → a.stage ≡ Routed route (For task) gone → HasMore s
+      → stage ≡ Routed route (For task) gone → HasMore s
   task-more route task gone now =
       let first = calls.task-first s.config s.trace.now h.config h.trace h.state h.reached me number
       route task gone (in_state (Routed route (For task) gone) now) in
       more first.0 first.1 first.2
 
   -- a name is to be given
-  module _ (given : Named) (to : ℕ) (now : a.stage ≡ Giving given to) where
+  module _ (given : Named) (to : ℕ) (now : stage ≡ Giving given to) where
     pub give-name : (1 ≤ given.name) × (given.name ≤ s.trace.now.greatest)
     give-name = calls.give-name s.config s.trace.now h.config h.trace h.state h.reached me number
         given to (in_state (Giving given to) now)
@@ -199,7 +202,7 @@ module _ (s : Scheduler) {shared : Option Shared} {caller : Option Caller}
         more _ first.0 first.1
 
   -- a name is to be taken
-  module _ (name tries left : ℕ) (now : a.stage ≡ Taking name tries left) where
+  module _ (name tries left : ℕ) (now : stage ≡ Taking name tries left) where
     pub take-name : (1 ≤ name) × (name ≤ s.trace.now.greatest)
     take-name = calls.take-name s.config s.trace.now h.config h.trace h.state h.reached me number
         name tries left (in_state (Taking name tries left) now)
@@ -225,44 +228,43 @@ module _ (s : Scheduler) {shared : Option Shared} {caller : Option Caller}
         did
 
     -- the scheduler has gone on by the answer
-    pub row-done : {t : Scheduler} (row : Row) (got : Answer) (stage : Stage Content) → a.stage ≡
-        stage
-        → wants_at a.next stage ≡ row → Did me row got shared new caller now
-        → actor_of t ≡ onward e me (after_row e me a got stage)
-        → DidRow s t shared new caller now
-    row-done row got stage at want did is = record {
+    pub row-done : {t : Scheduler} (row : Row) (got : Answer) (at : Stage Content) → stage ≡ at
+        → wants_at a.next at ≡ row → Did me row got shared new caller now
+        → actor_of t ≡ onward e me (after_row e me a got at)
+        → DidRow stage s t shared new caller now
+    row-done row got at same want did is = record {
       row = row;
       got = got;
-      wanted = ap (wants_at a.next) at ∙ want;
+      wanted = ap (wants_at a.next) same ∙ want;
       did = did;
-      is = is ∙ sym (ap (λ x. onward e me (after_row e me a got x)) at);
+      is = is ∙ sym (ap (λ x. onward e me (after_row e me a got x)) same);
     }
 
     -- the walk's next node isn't linked
-    pub rests-suits : (node : Node) → s.stage ≡ Begin → s.next ≡ Some node
+    pub rests-suits : migration e ≡ false → (node : Node) → stage ≡ Begin → s.next ≡ Some node
         → Did me TakeLink Rests shared new caller now → SuitsNext s.instance s
-    rests-suits node begin next did =
+    rests-suits off node begin next did =
         let u = in-answered TakeLink Rests did in
-        suits-rests s h.config h.trace u.state u.reached u.actor node begin next (sym u.answered)
+        suits-rests stage s off h.config h.trace u.state u.reached u.actor node begin next (sym u.answered)
 
     -- it was passed
-    module _ (node : Node) (begin : s.stage ≡ Begin) (next : s.next ≡ Some node)
+    module _ (node : Node) (begin : stage ≡ Begin) (next : s.next ≡ Some node)
         (nodes : List Node) (are : nodes ≡ node ∷ s.passed.nodes) where
       -- and is the oldest one
       module _ (did : Did me TakeLink (Passes None) shared new caller now) where
         u : Answered e me a TakeLink (Passes None) shared caller now
         u = in-answered TakeLink (Passes None) did
 
-        pub passed-can : CanAllGo me s.instance nodes
-        passed-can = subst (CanAllGo me s.instance) (sym are)
-            (goes-passed s h.config h.trace u.state u.reached u.actor node None begin next
+        pub passed-can : migration e ≡ false → CanAllGo me s.instance nodes
+        passed-can off = subst (CanAllGo me s.instance) (sym are)
+            (goes-passed stage s off h.config h.trace u.state u.reached u.actor node None begin next
             (sym u.answered))
 
-        pub passed-suits : (worked me s.instance nodes).hand ≡ None
+        pub passed-suits : migration e ≡ false → (worked me s.instance nodes).hand ≡ None
             → SuitsNext (worked me s.instance nodes).instance s
-        passed-suits = subst (λ ns. (worked me s.instance ns).hand ≡ None
+        passed-suits off = subst (λ ns. (worked me s.instance ns).hand ≡ None
             → SuitsNext (worked me s.instance ns).instance s) (sym are)
-            (suits-passed s h.config h.trace u.state u.reached u.actor node None begin next
+            (suits-passed stage s off h.config h.trace u.state u.reached u.actor node None begin next
             (sym u.answered))
 
         ended-is : worked_off e me nodes (record a { passed = nodes; next = None })
@@ -273,26 +275,24 @@ module _ (s : Scheduler) {shared : Option Shared} {caller : Option Caller}
 
         pub passed-ended : {t : Scheduler} → actor_of t ≡ onward e me
             (worked_off e me nodes (record a { passed = nodes; next = None }))
-            → DidRow s t shared new caller now
+            → DidRow stage s t shared new caller now
         passed-ended is = row-done TakeLink (Passes None) Begin begin
             (ap begins next) did (is ∙ ap (onward e me) ended-is)
 
       -- an older one is next
       pub passed-next : {t : Scheduler} (older : Node)
           → Did me TakeLink (Passes (Some older)) shared new caller now
-          → actor_of t ≡ record a { passed = nodes; next = Some older }
-          → DidRow s t shared new caller now
+          → actor_of t ≡ record a { stage = Begin; passed = nodes; next = Some older }
+          → DidRow stage s t shared new caller now
       passed-next older did is = row-done TakeLink (Passes (Some older)) Begin
           begin (ap begins next) did
           (is
-          ∙ ap (λ stage. record a { stage = stage; passed = nodes; next = Some older })
-          begin
           ∙ ap (λ ns. record a { stage = Begin; passed = ns; next = Some older })
           (are ∙ sym (ap (λ o. with_passed o s.passed.nodes) next)))
 
     -- a name was taken
     pub take-fresh : (name tries left : ℕ) (found : Option Spot)
-        → a.stage ≡ Taking name tries left
+        → stage ≡ Taking name tries left
         → Did me (TakeTry name) (Got found) shared new caller now → IsSome found → IsFresh s name
     unfolding answer
     take-fresh name tries left found at did is =

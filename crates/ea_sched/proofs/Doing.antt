@@ -22,7 +22,7 @@ use Rattle.ea_machine.specs.declared.stages.Stage.{Stage}
 use Rattle.ea_machine.specs.declared.stages.Stage.TheVariants as stages
 use Rattle.ea_machine.specs.declared.stages.Stage.TheVariants.{Ended}
 use Rattle.ea_sched.specs.declared.state.Scheduler.{Scheduler}
-use Rattle.ea_sched.specs.Acting.{actor_of, is_ended}
+use Rattle.ea_sched.specs.Acting.{actor_of, is_ended, setup_for, standing_at}
 use Rattle.ea_sched.specs.Steps.{DidRow, IsReady, Ready, Stepped}
 
 -- what is told is told again
@@ -179,10 +179,29 @@ stage-ends (stages.Taking name tries left) ends = absurd cc
 stage-ends stages.Ended ends = refl
 stage-ends stages.Ready ends = absurd cc
 
+-- a row that was done by a scheduler, and by one that stands the same but at its own stage
+pub restaged : (s u t : Scheduler) (stage at : Stage Content) {shared new : Option Shared}
+    {caller now : Option Caller} → stage ≡ at → u.config ≡ s.config → u.trace.now ≡ s.trace.now
+    → u.number ≡ s.number → standing_at stage u ≡ standing_at stage s
+    → DidRow stage u t shared new caller now → DidRow at s t shared new caller now
+restaged s u t stage at {shared} {new} {caller} {now} same config trace number standing d = record {
+  row = d.row;
+  got = d.got;
+  wanted = ap (λ x. wants (standing_at x s)) (sym same) ∙ (ap wants (sym standing) ∙ d.wanted);
+  did = subst (λ n. Did n d.row d.got shared new caller now) number d.did;
+  is = d.is ∙ ap (λ c. goes (setup_of c u.trace.now) u.number (standing_at stage u) stage) config
+      ∙ ap (λ x. goes (setup_of s.config x) u.number (standing_at stage u) stage) trace
+      ∙ ap (λ n. goes (setup_for s) n (standing_at stage u) stage) number
+      ∙ ap (λ a. goes (setup_for s) s.number a stage) standing
+      ∙ ap (λ x. goes (setup_for s) s.number (standing_at x s) x) same;
+} where
+  goes : Setup → ℕ → Actor → Stage Content → Actor
+  goes e me a x = onward e me (after_row e me a d.got x)
+
 -- a step is a row that was done, and the figures observed
 pub row-stepped : (s t : Scheduler) (b : Actor) (shared new : Option Shared)
     (caller now : Option Caller) → IsReady s shared caller → is_ended s.stage ≡ false
-    → DidRow s t shared new caller now → b ≡ observed (actor_of t)
+    → DidRow s.stage s t shared new caller now → b ≡ observed (actor_of t)
     → Stepped s.config s.trace.now s.number (actor_of s) b shared new caller now
 unfolding after
 row-stepped s t b shared new caller now h goes d is =

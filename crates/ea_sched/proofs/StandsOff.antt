@@ -16,7 +16,7 @@ use Rattle.ea_machine.specs.declared.tasks.Gone.{Gone}
 use Rattle.ea_machine.specs.declared.tasks.Why.{Why}
 use Rattle.ea_machine.specs.Actor.{Actor}
 use Rattle.ea_machine.specs.Machine.{IsReached, step}
-use Rattle.ea_machine.specs.Setup.{Setup}
+use Rattle.ea_machine.specs.Setup.{Setup, migration}
 use Rattle.ea_machine.specs.Shared.{Shared}
 use Rattle.ea_machine.specs.State.{State}
 use Rattle.ea_machine.specs.Statistics.{leaving_at, observed}
@@ -82,8 +82,8 @@ no-stage (Fetching ask at looked seen) is goes begin routed giving taking = is
 no-stage (Creating ask p) is goes begin routed giving taking = is
 no-stage Ready is goes begin routed giving taking = is
 
-module _ (s : Scheduler) {shared : Option Shared} {caller : Option Caller}
-    (h : IsReady s shared caller) where
+module _ (s : Scheduler) (off : migration (setup_for s) ≡ false) {shared : Option Shared}
+    {caller : Option Caller} (h : IsReady s shared caller) where
   abbrev e : Setup
   e = setup_for s
 
@@ -91,7 +91,7 @@ module _ (s : Scheduler) {shared : Option Shared} {caller : Option Caller}
   in-state w reached = is-off e w
       (reached-rule s.config s.trace.now h.config h.trace w reached) s.number
       (number-scheduler e s.number (s.number_from, s.number_to))
-      s.off
+      off
 
   -- a scheduler that is ready for its row
   pub stands-off : IsOffStage s.stage
@@ -99,7 +99,7 @@ module _ (s : Scheduler) {shared : Option Shared} {caller : Option Caller}
 
   -- it has done its row
   pub row-off : {new : Option Shared} {now : Option Caller} (t : Scheduler)
-      → is_ended s.stage ≡ false → DidRow s t shared new caller now → leaving_at t.stage ≡ []
+      → is_ended s.stage ≡ false → DidRow s.stage s t shared new caller now → leaving_at t.stage ≡ []
   row-off {new} {now} t goes d =
       let o = row-stepped s t (observed (actor_of t)) shared new caller now h goes d refl in
       off-leaving t.stage (subst (λ (x : Actor). IsOffStage x.stage) (sym o.is)

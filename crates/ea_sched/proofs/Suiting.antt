@@ -19,6 +19,7 @@ use Rattle.ea_machine.specs.declared.nodes.Node.{Node}
 use Rattle.ea_machine.specs.declared.nodes.Node.TheVariants.{Block, Carrier}
 use Rattle.ea_machine.specs.declared.tasks.Gone.{Gone}
 use Rattle.ea_machine.specs.declared.tasks.Why.TheVariants.{Walk}
+use Rattle.ea_machine.specs.declared.stages.Stage.{Stage}
 use Rattle.ea_machine.specs.declared.stages.Stage.TheVariants.{Begin, Routed}
 use Rattle.ea_machine.specs.declared.stages.Route.{Route}
 use Rattle.ea_machine.specs.declared.stages.Route.TheVariants.{Linking}
@@ -43,7 +44,7 @@ use Rattle.ea_sound.proofs.OffWalks.{take_link-rests, walk-fresh_alloc, walk-fre
 use Rattle.ea_sound.proofs.OffWalks.{walk-held, walk-here, walk-moves, walk-on, walk-own}
 use Rattle.ea_sound.proofs.SoundRanges.{number-scheduler}
 use Rattle.ea_sched.specs.declared.state.Scheduler.{Scheduler}
-use Rattle.ea_sched.specs.Acting.{actor_of, setup_for}
+use Rattle.ea_sched.specs.Acting.{actor_of, setup_for, standing_at}
 use Rattle.ea_sched.specs.Brought.{HavePlaces, is_placed, name_brought}
 use Rattle.ea_sched.specs.Asking.{HasName, IsFresh, IsHere, Moves, Suits, SuitsNext}
 use Rattle.ea_sound.specs.Releasing.{freed_at}
@@ -151,10 +152,10 @@ next-placed s o ops left = All-head (λ p. is_placed s.names.places (name_brough
     (subst (HavePlaces s.names.places) left
     (All-drop (λ p. is_placed s.names.places (name_brought p) ≡ true) s.done s.text.now s.places))
 
--- a scheduler that stands so in a reached state
-module _ (s : Scheduler) (valid : IsValidConfig s.config)
+-- a scheduler that stands so in a reached state, at a stage, where carriers don't migrate
+module _ (stage : Stage Content) (s : Scheduler) (off : migration (setup_for s) ≡ false) (valid : IsValidConfig s.config)
     (made : IsValidTrace s.config.schedulers s.trace.now) (w : State)
-    (reached : IsReached (setup_for s) w) (here : w.actors s.number ≡ actor_of s) where
+    (reached : IsReached (setup_for s) w) (here : w.actors s.number ≡ standing_at stage s) where
   abbrev e : Setup
   e = setup_for s
 
@@ -166,9 +167,6 @@ module _ (s : Scheduler) (valid : IsValidConfig s.config)
 
   is : is_scheduler e me ≡ true
   is = number-scheduler e me number
-
-  off : migration e ≡ false
-  off = s.off
 
   -- in its walk
   abbrev walker : Instance → List Node → Actor
@@ -228,14 +226,14 @@ module _ (s : Scheduler) (valid : IsValidConfig s.config)
         (first-operation s.config s.trace.now valid made w reached me o ops
         (ap (λ (a : Actor). a.todo) here ∙ left))
 
-  begins : s.stage ≡ Begin → (w.actors me).stage ≡ Begin
+  begins : stage ≡ Begin → (w.actors me).stage ≡ Begin
   begins begin = ap (λ (a : Actor). a.stage) here ∙ begin
 
   next-is : (next : Option Node) → s.next ≡ next → (w.actors me).next ≡ next
   next-is next same = ap (λ (a : Actor). a.next) here ∙ same
 
   -- the scheduler has no walk, and took its queue
-  pub suits-taken : s.stage ≡ Begin → s.next ≡ None → SuitsNext s.instance s
+  pub suits-taken : stage ≡ Begin → s.next ≡ None → SuitsNext s.instance s
   suits-taken begin none =
       let part = effect me TakeAll w.shared in
       suits-next w part s.instance s.passed.nodes
@@ -244,7 +242,7 @@ module _ (s : Scheduler) (valid : IsValidConfig s.config)
       (next-is None none)))
 
   -- its walk rests
-  pub suits-rests : (node : Node) → s.stage ≡ Begin → s.next ≡ Some node
+  pub suits-rests : (node : Node) → stage ≡ Begin → s.next ≡ Some node
       → answer s.number TakeLink w.shared ≡ Rests → SuitsNext s.instance s
   suits-rests node begin next rests =
       let part = effect me TakeLink w.shared in
@@ -254,7 +252,7 @@ module _ (s : Scheduler) (valid : IsValidConfig s.config)
       (next-is (Some node) next) rests))
 
   -- its walk passed its next node
-  module _ (node : Node) (older : Option Node) (begin : s.stage ≡ Begin)
+  module _ (node : Node) (older : Option Node) (begin : stage ≡ Begin)
       (next : s.next ≡ Some node) (passes : answer s.number TakeLink w.shared ≡ Passes older) where
     abbrev after_link : Shared
     after_link = effect me TakeLink w.shared
@@ -281,7 +279,7 @@ module _ (s : Scheduler) (valid : IsValidConfig s.config)
 
   -- a node of its walk was pushed to another's queue and linked there
   module _ (node : Node) (to : ℕ) (gone : Gone)
-      (now : (actor_of s).stage ≡ Routed (Linking node to) Walk gone) where
+      (now : stage ≡ Routed (Linking node to) Walk gone) where
     abbrev linked : Shared
     linked = effect me (Link node to) w.shared
 

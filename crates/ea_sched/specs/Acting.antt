@@ -27,18 +27,22 @@ is_ended (Taking name tries left) = false
 is_ended Ended = true
 is_ended Ready = false
 
-abbrev pub actor_of : Scheduler → Actor
-actor_of s = record {
+-- the scheduler at a stage, whatever its own is
+abbrev pub standing_at : Stage Content → Scheduler → Actor
+standing_at stage s = record {
   instance = s.instance;
   held = s.names.held;
   todo = drop s.done s.text.now;
-  stage = s.stage;
+  stage = stage;
   passed = s.passed.nodes;
   next = s.next;
   mbcs = s.mbcs;
   sbcs = s.sbcs;
   log = s.log.items;
 }
+
+abbrev pub actor_of : Scheduler → Actor
+actor_of s = standing_at s.stage s
 
 -- the scheduler once the begin of its operation is over
 abbrev pub ready_of : Scheduler → Actor

@@ -2,10 +2,12 @@
 use Rattle.std.specs.Prelude.{◌≡◌, ◌⊎◌, ℕ, Option, None, Some, IfSome, IsSome}
 use Rattle.ea_model.specs.declared.settings.Config.{Config}
 use Rattle.ea_model.specs.declared.trace.Trace.{Trace}
+use Rattle.ea_model.specs.Content.{Content}
 use Rattle.ea_model.specs.Settings.{IsValidConfig}
 use Rattle.ea_model.specs.Trace.{IsValidTrace}
 use Rattle.ea_machine.specs.Setup.{setup_of}
 use Rattle.ea_machine.specs.Shared.{Shared}
+use Rattle.ea_machine.specs.declared.stages.Stage.{Stage}
 use Rattle.ea_machine.specs.Actor.{Actor}
 use Rattle.ea_machine.specs.State.{State}
 use Rattle.ea_machine.specs.Machine.{IsReached, step}
@@ -13,7 +15,7 @@ use Rattle.ea_machine.specs.Machine.{after_row, onward, wants}
 use Rattle.ea_machine.specs.Rows.{Answer, Row}
 use Rattle.ea_shared.specs.Calls.{Caller, Did, caller_of}
 use Rattle.ea_sched.specs.declared.state.Scheduler.{Scheduler}
-use Rattle.ea_sched.specs.Acting.{actor_of, setup_for}
+use Rattle.ea_sched.specs.Acting.{actor_of, setup_for, standing_at}
 
 -- scheduler `me` stands so in a reached state of a run of a valid trace under a valid
 -- configuration; what is shared is as it is told, or the caller that is told is this scheduler, or
@@ -44,24 +46,30 @@ pub record Stepped (c : Config) (t : Trace) (me : ℕ) (a b : Actor) (shared aft
       × (now ≡ Some (caller_of (setup_of c t) me (step (setup_of c t) state me))))
   pub calls_untold : caller ≡ None → now ≡ None
 
--- the scheduler stands so
-abbrev pub IsReady : Scheduler → Option Shared → Option Caller → Type 0
-IsReady s shared caller = Ready s.config s.trace.now s.number (actor_of s) shared caller
+-- the scheduler stands so, at a stage
+abbrev pub IsReadyAt : Stage Content → Scheduler → Option Shared → Option Caller → Type 0
+IsReadyAt stage s shared caller =
+    Ready s.config s.trace.now s.number (standing_at stage s) shared caller
 
--- the scheduler is to do its row on what is shared, which is of that many schedulers and of names
--- up to a greatest one
-pub record StartsRow (s : Scheduler) (count last : ℕ) (shared : Option Shared)
+-- at its own
+abbrev pub IsReady : Scheduler → Option Shared → Option Caller → Type 0
+IsReady s shared caller = IsReadyAt s.stage s shared caller
+
+-- the scheduler, at the stage, is to do its row on what is shared, which is of that many schedulers
+-- and of names up to a greatest one
+pub record StartsRow (stage : Stage Content) (s : Scheduler) (count last : ℕ) (shared : Option Shared)
     (caller : Option Caller) : Type 0 where
   pub schedulers : count ≡ s.config.schedulers
   pub greatest : last ≡ s.trace.now.greatest
-  pub ready : IsReady s shared caller
+  pub ready : IsReadyAt stage s shared caller
 
--- the row that the scheduler wanted was done, and it has gone on by the answer, up to its next row
-pub record DidRow (s t : Scheduler) (shared after : Option Shared) (caller now : Option Caller) :
-    Type 0 where
+-- the row that the scheduler wanted at the stage was done, and it has gone on by the answer, up to
+-- its next row
+pub record DidRow (stage : Stage Content) (s t : Scheduler) (shared after : Option Shared)
+    (caller now : Option Caller) : Type 0 where
   pub row : Row
   pub got : Answer
-  pub wanted : wants (actor_of s) ≡ row
+  pub wanted : wants (standing_at stage s) ≡ row
   pub did : Did s.number row got shared after caller now
   pub is : actor_of t ≡ onward (setup_for s) s.number
-      (after_row (setup_for s) s.number (actor_of s) got (actor_of s).stage)
+      (after_row (setup_for s) s.number (standing_at stage s) got stage)

@@ -1,5 +1,5 @@
 //! The operations themselves, once their begin is over.
-ghost use Rattle.std.specs.Prelude.{◌≡◌, ◌≢◌, ◌≤◌, ◌+◌, ◌%◌, ◌∷◌, Some, IfSome, IsSome, OnOk, drop};
+ghost use Rattle.std.specs.Prelude.{◌≡◌, false, ◌≢◌, ◌≤◌, ◌+◌, ◌%◌, ◌∷◌, Some, IfSome, IsSome, OnOk, drop};
 ghost use Rattle.ea_model.specs.declared.reallocation.Decision.TheVariants.{Move};
 ghost use Rattle.ea_model.specs.declared.carriers.BlockAt.{BlockAt};
 ghost use Rattle.ea_model.specs.declared.units.TheConstants.{MAX_BYTES};
@@ -10,6 +10,7 @@ ghost use Rattle.ea_machine.specs.Operations as operations;
 ghost use Rattle.ea_machine.specs.Reallocations as reallocations;
 ghost use Rattle.ea_machine.specs.Statistics as statistics;
 ghost use Rattle.ea_machine.specs.Tasks as tasks;
+ghost use Rattle.ea_machine.specs.Setup.{migration};
 ghost use Rattle.ea_sched.specs.Acting.{IsSame, actor_of, ready_of, setup_for};
 ghost use Rattle.ea_sched.specs.Asking.{HasMore, HasName, IsFresh, IsHere, Moves, Suits};
 
@@ -35,6 +36,7 @@ impl<'t> Scheduler<'t> {
         requires fresh { IsFresh self.old fresh }
         requires even { need % 2 ≡ 0 }
         requires least { 6 ≤ need }
+        requires off { migration (setup_for self.old) ≡ false }
         ensures actor { OnOk result (actor_of self.new ≡ reallocations.reallocated_by
             (setup_for self.old) self.old.number old fresh need (ready_of self.old)
             (decision_at self.old.instance old.spot need)) }
@@ -80,6 +82,7 @@ impl<'t> Scheduler<'t> {
             (Moves self.old.instance self.old) }
         requires fresh { IsFresh self.old fresh }
         requires bytes { bytes ≤ MAX_BYTES }
+        requires off { migration (setup_for self.old) ≡ false }
         ensures actor { OnOk result (actor_of self.new ≡ reallocations.reallocated
             (setup_for self.old) self.old.number old fresh (need_of bytes) (ready_of self.old)
             (nodes.named_at old self.old.names.held)) }
@@ -164,6 +167,7 @@ impl<'t> Scheduler<'t> {
     pub(crate) fn operate(&mut self, alloc: Global, op: Op) -> Result<(), OutOfMemory>
         requires more { HasMore self.old }
         requires fits { Suits self.old.instance self.old op }
+        requires off { migration (setup_for self.old) ≡ false }
         ensures actor { OnOk result (actor_of self.new ≡ operations.itself
             (setup_for self.old) self.old.number (ready_of self.old)
             (op ∷ drop (self.old.done + 1) self.old.text.now)) }

@@ -1,8 +1,9 @@
 //! How a scheduler finds a place for a block.
-ghost use Rattle.std.specs.Prelude.{◌≡◌, ◌≤◌, Ok, OnOk};
+ghost use Rattle.std.specs.Prelude.{◌≡◌, false, ◌≤◌, Ok, OnOk};
 ghost use Rattle.ea_model.specs.declared.units.TheConstants.{MAX_PAGES};
 ghost use Rattle.ea_model.specs.Instance as instances;
 ghost use Rattle.ea_machine.specs.Placements as placements;
+ghost use Rattle.ea_machine.specs.Setup.{migration};
 ghost use Rattle.ea_sched.specs.Acting.{IsSame, actor_of, ready_of, setup_for};
 ghost use Rattle.ea_sched.specs.Asking.{HasMore, IsAsked};
 
@@ -39,6 +40,7 @@ impl<'t> Scheduler<'t> {
     fn stand(&mut self, ask: Ask, place: Place) -> Result<(), OutOfMemory>
         requires more { HasMore self.old }
         requires asked { IsAsked self.old.instance self.old ask }
+        requires off { migration (setup_for self.old) ≡ false }
         ensures actor { OnOk result (actor_of self.new ≡ placements.stands (setup_for self.old)
             self.old.number ask.name place ask.old
             (placements.holding ask.name (placements.spot_of_place place) (ready_of self.old))) }
@@ -73,6 +75,7 @@ impl<'t> Scheduler<'t> {
         requires asked { IsAsked self.old.instance self.old ask }
         requires plan { instances.plan self.old.instance ask.need ≡ Ok plan }
         requires pages { (1 ≤ plan.pages) × (plan.pages ≤ MAX_PAGES) }
+        requires off { migration (setup_for self.old) ≡ false }
         ensures actor { OnOk result (actor_of self.new ≡ placements.new_carrier
             (setup_for self.old) self.old.number ask 0 (ready_of self.old)) }
         ensures same { IsSame self.old self.new }
@@ -96,6 +99,7 @@ impl<'t> Scheduler<'t> {
         requires more { HasMore self.old }
         requires asked { IsAsked self.old.instance self.old ask }
         requires alone { alone ≡ instances.is_alone self.old.instance ask.need }
+        requires off { migration (setup_for self.old) ≡ false }
         ensures actor { OnOk result (actor_of self.new ≡ placements.new_carrier
             (setup_for self.old) self.old.number ask 0 (ready_of self.old)) }
         ensures same { IsSame self.old self.new }
@@ -117,6 +121,7 @@ impl<'t> Scheduler<'t> {
     pub(crate) fn seek(&mut self, alloc: Global, ask: Ask) -> Result<(), OutOfMemory>
         requires more { HasMore self.old }
         requires asked { IsAsked self.old.instance self.old ask }
+        requires off { migration (setup_for self.old) ≡ false }
         ensures actor { OnOk result (actor_of self.new ≡ placements.seek
             (setup_for self.old) self.old.number ask (ready_of self.old)) }
         ensures same { IsSame self.old self.new }

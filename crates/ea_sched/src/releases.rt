@@ -1,11 +1,12 @@
 //! The release of a block, and the end of an operation.
-ghost use Rattle.std.specs.Prelude.{◌≡◌, ◌+◌, ◌<◌, ◌≤◌, ◌==◌, [], IfOk, IfSome, IsSome, OnOk, drop};
+ghost use Rattle.std.specs.Prelude.{◌≡◌, false, ◌+◌, ◌<◌, ◌≤◌, ◌==◌, [], IfOk, IfSome, IsSome, OnOk, drop};
 ghost use Rattle.ea_model.specs.declared.carriers.Kind.TheVariants.{Single};
 ghost use Rattle.ea_model.specs.Instance.{block_in, content_of, employed};
 ghost use Rattle.ea_model.specs.Instance.{own_at, owner_of, releasing_at};
 ghost use Rattle.ea_machine.specs.Nodes as nodes;
 ghost use Rattle.ea_machine.specs.Operations as operations;
 ghost use Rattle.ea_machine.specs.Tasks as tasks;
+ghost use Rattle.ea_machine.specs.Setup.{migration};
 ghost use Rattle.ea_sched.specs.Acting.{IsSame, actor_of, ready_of, setup_for};
 ghost use Rattle.ea_sched.specs.Asking.{HasMore, HasName, IsHere};
 ghost use Rattle.ea_sound.specs.Releasing as releasing;
@@ -126,6 +127,7 @@ impl<'t> Scheduler<'t> {
     pub(crate) fn hand_over(&mut self, hand: Named, task: Task) -> Result<(), OutOfMemory>
         requires more { HasMore self.old }
         requires here { IsHere self.old.instance self.old hand }
+        requires off { migration (setup_for self.old) ≡ false }
         ensures actor { OnOk result (actor_of self.new ≡ tasks.hands_over (setup_for self.old)
             self.old.number task hand (ready_of self.old)) }
         ensures same { IsSame self.old self.new }
@@ -143,6 +145,7 @@ impl<'t> Scheduler<'t> {
     pub(crate) fn free(&mut self, name: u32) -> Result<(), OutOfMemory>
         requires more { HasMore self.old }
         requires name { HasName self.old.instance self.old name }
+        requires off { migration (setup_for self.old) ≡ false }
         ensures actor { OnOk result (actor_of self.new ≡ operations.freed (setup_for self.old)
             self.old.number name (ready_of self.old)
             (nodes.named_at name self.old.names.held)) }

@@ -1,6 +1,7 @@
 //! The rows of the machine's table, each with what a scheduler does once it is answered.
-ghost use Rattle.std.specs.Prelude.{◌≡◌, Some, None, OnOk};
-ghost use Rattle.ea_sched.specs.Acting.{IsSame, actor_of};
+ghost use Rattle.std.specs.Prelude.{◌≡◌, Some, None, OnOk, false};
+ghost use Rattle.ea_machine.specs.Setup.{migration};
+ghost use Rattle.ea_sched.specs.Acting.{IsSame, setup_for};
 ghost use Rattle.ea_sched.specs.Steps.{DidRow, StartsRow};
 ghost use Rattle.ea_machine.specs.declared.stages.Stage.TheVariants as stage;
 ghost use Rattle.ea_machine.specs.declared.stages.Route.TheVariants as route;
@@ -19,14 +20,17 @@ impl<'t> Scheduler<'t> {
         alloc: Global,
         shared: &mut S,
     ) -> Result<(), OutOfMemory>
-        requires starts { StartsRow self.old (S.schedulers shared.old) (S.greatest shared.old)
-            (S.shared shared.old) (S.caller shared.old) }
+        requires starts { StartsRow stage.Begin self.old
+            (S.schedulers shared.old) (S.greatest shared.old) (S.shared shared.old)
+            (S.caller shared.old) }
         requires stage { self.old.stage ≡ stage.Begin }
         requires next { self.old.next ≡ None }
+        requires off { migration (setup_for self.old) ≡ false }
         ensures stays { S.stays shared.old shared.new }
         ensures same { IsSame self.old self.new }
-        ensures row { OnOk result (DidRow self.old self.new (S.shared shared.old)
-            (S.shared shared.new) (S.caller shared.old) (S.caller shared.new)) }
+        ensures row { OnOk result (DidRow stage.Begin self.old self.new
+            (S.shared shared.old) (S.shared shared.new)
+            (S.caller shared.old) (S.caller shared.new)) }
     {
         match shared.take_all(self.number) {
             None => self.go_on(alloc),
@@ -45,14 +49,17 @@ impl<'t> Scheduler<'t> {
         shared: &mut S,
         node: Node,
     ) -> Result<(), OutOfMemory>
-        requires starts { StartsRow self.old (S.schedulers shared.old) (S.greatest shared.old)
-            (S.shared shared.old) (S.caller shared.old) }
+        requires starts { StartsRow stage.Begin self.old
+            (S.schedulers shared.old) (S.greatest shared.old) (S.shared shared.old)
+            (S.caller shared.old) }
         requires stage { self.old.stage ≡ stage.Begin }
         requires next { self.old.next ≡ Some node }
+        requires off { migration (setup_for self.old) ≡ false }
         ensures stays { S.stays shared.old shared.new }
         ensures same { IsSame self.old self.new }
-        ensures row { OnOk result (DidRow self.old self.new (S.shared shared.old)
-            (S.shared shared.new) (S.caller shared.old) (S.caller shared.new)) }
+        ensures row { OnOk result (DidRow stage.Begin self.old self.new
+            (S.shared shared.old) (S.shared shared.new)
+            (S.caller shared.old) (S.caller shared.new)) }
     {
         self.passed.reserve()?;
         match shared.take_link(self.number, node) {
@@ -79,12 +86,13 @@ impl<'t> Scheduler<'t> {
         why: Why,
         gone: Gone,
     )
-        requires starts { StartsRow self.old (S.schedulers shared.old) (S.greatest shared.old)
-            (S.shared shared.old) (S.caller shared.old) }
-        requires stage { self.old.stage ≡ stage.Routed (route.Pushing node to) why gone }
+        requires starts { StartsRow (stage.Routed (route.Pushing node to) why gone) self.old
+            (S.schedulers shared.old) (S.greatest shared.old) (S.shared shared.old)
+            (S.caller shared.old) }
         ensures stays { S.stays shared.old shared.new }
         ensures same { IsSame self.old self.new }
-        ensures row { DidRow self.old self.new (S.shared shared.old) (S.shared shared.new)
+        ensures row { DidRow (stage.Routed (route.Pushing node to) why gone) self.old self.new
+            (S.shared shared.old) (S.shared shared.new)
             (S.caller shared.old) (S.caller shared.new) }
     {
         shared.push(self.number, to, node);
@@ -103,13 +111,15 @@ impl<'t> Scheduler<'t> {
         why: Why,
         gone: Gone,
     ) -> Result<(), OutOfMemory>
-        requires starts { StartsRow self.old (S.schedulers shared.old) (S.greatest shared.old)
-            (S.shared shared.old) (S.caller shared.old) }
-        requires stage { self.old.stage ≡ stage.Routed (route.Linking node to) why gone }
+        requires starts { StartsRow (stage.Routed (route.Linking node to) why gone) self.old
+            (S.schedulers shared.old) (S.greatest shared.old) (S.shared shared.old)
+            (S.caller shared.old) }
+        requires off { migration (setup_for self.old) ≡ false }
         ensures stays { S.stays shared.old shared.new }
         ensures same { IsSame self.old self.new }
-        ensures row { OnOk result (DidRow self.old self.new (S.shared shared.old)
-            (S.shared shared.new) (S.caller shared.old) (S.caller shared.new)) }
+        ensures row { OnOk result (DidRow (stage.Routed (route.Linking node to) why gone)
+            self.old self.new (S.shared shared.old) (S.shared shared.new)
+            (S.caller shared.old) (S.caller shared.new)) }
     {
         shared.link(self.number, to, node);
         match why {
@@ -123,12 +133,13 @@ impl<'t> Scheduler<'t> {
 
     /// A held name is given, to whoever takes it.
     pub(crate) fn give<S: Shared<Content = Mbc>>(&mut self, shared: &mut S, given: Named, to: u32)
-        requires starts { StartsRow self.old (S.schedulers shared.old) (S.greatest shared.old)
-            (S.shared shared.old) (S.caller shared.old) }
-        requires stage { self.old.stage ≡ stage.Giving given to }
+        requires starts { StartsRow (stage.Giving given to) self.old
+            (S.schedulers shared.old) (S.greatest shared.old) (S.shared shared.old)
+            (S.caller shared.old) }
         ensures stays { S.stays shared.old shared.new }
         ensures same { IsSame self.old self.new }
-        ensures row { DidRow self.old self.new (S.shared shared.old) (S.shared shared.new)
+        ensures row { DidRow (stage.Giving given to) self.old self.new
+            (S.shared shared.old) (S.shared shared.new)
             (S.caller shared.old) (S.caller shared.new) }
     {
         shared.give(self.number, given.name, given.spot);
@@ -143,12 +154,13 @@ impl<'t> Scheduler<'t> {
         tries: u32,
         left: u32,
     )
-        requires starts { StartsRow self.old (S.schedulers shared.old) (S.greatest shared.old)
-            (S.shared shared.old) (S.caller shared.old) }
-        requires stage { self.old.stage ≡ stage.Taking name tries left }
+        requires starts { StartsRow (stage.Taking name tries left) self.old
+            (S.schedulers shared.old) (S.greatest shared.old) (S.shared shared.old)
+            (S.caller shared.old) }
         ensures stays { S.stays shared.old shared.new }
         ensures same { IsSame self.old self.new }
-        ensures row { DidRow self.old self.new (S.shared shared.old) (S.shared shared.new)
+        ensures row { DidRow (stage.Taking name tries left) self.old self.new
+            (S.shared shared.old) (S.shared shared.new)
             (S.caller shared.old) (S.caller shared.new) }
     {
         let found = shared.take_try(self.number, name);

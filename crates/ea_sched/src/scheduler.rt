@@ -3,10 +3,10 @@ ghost use Rattle.std.specs.Prelude.{◌≡◌, ◌≤◌, false, IfOk, length};
 ghost use Rattle.ea_model.specs.Settings.{IsValidConfig};
 ghost use Rattle.ea_model.specs.Trace.{IsValidTrace};
 ghost use Rattle.ea_machine.specs.Machine.{first_actor};
-ghost use Rattle.ea_machine.specs.Setup.{migration, setup_of};
 ghost use Rattle.ea_sched.specs.Acting.{actor_of, is_ended, setup_for};
 
 use crate::brought::names_for;
+use crate::migration::migrates;
 use crate::passed::Passed;
 use crate::state::Scheduler;
 use ea_instance::Instance;
@@ -28,7 +28,6 @@ impl<'t> Scheduler<'t> {
         requires config { IsValidConfig config }
         requires trace { IsValidTrace config.schedulers trace.now }
         requires texts { length trace.now.texts.items ≡ config.schedulers }
-        requires off { migration (setup_of config trace.now) ≡ false }
         requires from { 1 ≤ number }
         requires to { number ≤ config.schedulers }
         ensures actor { IfOk result (λ s. actor_of s ≡ first_actor (setup_for s) number) }
@@ -54,6 +53,7 @@ impl<'t> Scheduler<'t> {
         Ok(Scheduler {
             config,
             trace,
+            migrates: migrates(config, trace),
             number,
             text,
             done: 0,

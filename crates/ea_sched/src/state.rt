@@ -1,39 +1,39 @@
 //! What a scheduler keeps.
-ghost use Rattle.std.specs.Prelude.{◌≡◌, ◌+◌, ◌≤◌, false, length};
+ghost use Rattle.std.specs.Prelude.{◌≡◌, ◌+◌, ◌≤◌, length};
 ghost use Rattle.ea_model.specs.Trace.{texts_of};
 ghost use Rattle.ea_machine.specs.Setup.{migration, setup_of, text_for};
 ghost use Rattle.ea_sched.specs.Brought.{HavePlaces};
 
 use crate::passed::Passed;
-use ea_instance::Instance;
+use ea_instance::{Held, Instance};
 use ea_machine::{Node, Stage};
-use ea_mbc::Mbc;
 use ea_model::{Config, Entry, List, Op, Trace};
 use ea_names::Names;
 use ea_stats::Stats;
 
-/// Scheduler `number` in the run of a trace. Of the run it knows the configuration and the trace;
-/// for itself it keeps its text, how many of its operations are done, its allocator instance, the
-/// names that it holds, with a place for each that its text brings, where it is in its operation,
-/// the nodes that its walk passed and the next one, the statistics of its multiblock and of its
-/// singleblock carriers, and its log. Once it had no memory it has failed.
+/// Scheduler `number` in the run of a trace. Of the run it knows the configuration, the trace, and
+/// whether carriers migrate; for itself it keeps its text, how many of its operations are done, its
+/// allocator instance, the names that it holds, with a place for each that its text brings, where
+/// it is in its operation, the nodes that its walk passed and the next one, the statistics of its
+/// multiblock and of its singleblock carriers, and its log. Once it had no memory it has failed.
 #[derive(Drop)]
 pub struct Scheduler<'t> {
     pub(crate) config: Config,
     pub(crate) trace: &'t Trace,
+    pub(crate) migrates: bool,
     pub(crate) number: u32,
     pub(crate) text: &'t [Op],
     pub(crate) done: usize,
     pub(crate) instance: Instance,
     pub(crate) names: Names,
-    pub(crate) stage: Stage<Mbc>,
+    pub(crate) stage: Stage<Held>,
     pub(crate) passed: Passed,
     pub(crate) next: Option<Node>,
     pub(crate) mbcs: Stats,
     pub(crate) sbcs: Stats,
     pub(crate) log: List<Entry>,
     pub(crate) failed: bool,
-    ghost off: { migration (setup_of config trace.now) ≡ false },
+    ghost migrates_so: { migrates ≡ migration (setup_of config trace.now) },
     ghost number_from: { 1 ≤ number },
     ghost number_to: { number ≤ config.schedulers },
     ghost text_is: { text.now ≡ text_for (texts_of trace.now) number },

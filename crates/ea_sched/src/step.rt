@@ -2,7 +2,8 @@
 ghost use Rattle.std.specs.Prelude.{◌≡◌, ◌≢◌, ◌↔◌, true, false, [], IfOk, OnErr, OnOk, Ok, Err};
 ghost use Rattle.ea_machine.specs.declared.stages.Stage.TheVariants as stage;
 ghost use Rattle.ea_machine.specs.Statistics as statistics;
-ghost use Rattle.ea_sched.specs.Acting.{IsSame, actor_of, is_ended};
+ghost use Rattle.ea_machine.specs.Setup.{migration};
+ghost use Rattle.ea_sched.specs.Acting.{IsSame, actor_of, is_ended, setup_for};
 ghost use Rattle.ea_sched.specs.declared.step.Progress.TheVariants as progress;
 ghost use Rattle.ea_sched.specs.Steps.{DidRow, IsReady, StartsRow, Stepped};
 
@@ -12,6 +13,7 @@ use ea_mbc::Mbc;
 use ea_model::OutOfMemory;
 use ea_shared::Shared;
 use std::alloc::Global;
+use std::mem;
 
 /// What came of a step.
 #[derive(Debug, Clone, Copy, PartialEq, Eq)]
@@ -39,38 +41,35 @@ impl<'t> Scheduler<'t> {
         alloc: Global,
         shared: &mut S,
     ) -> Result<(), OutOfMemory>
-        requires starts { StartsRow self.old (S.schedulers shared.old) (S.greatest shared.old)
-            (S.shared shared.old) (S.caller shared.old) }
+        requires starts { StartsRow self.old.stage self.old
+            (S.schedulers shared.old) (S.greatest shared.old) (S.shared shared.old)
+            (S.caller shared.old) }
         requires goes { is_ended self.old.stage ≡ false }
+        requires off { migration (setup_for self.old) ≡ false }
         ensures stays { S.stays shared.old shared.new }
         ensures same { IsSame self.old self.new }
-        ensures row { OnOk result (DidRow self.old self.new (S.shared shared.old)
-            (S.shared shared.new) (S.caller shared.old) (S.caller shared.new)) }
+        ensures row { OnOk result (DidRow self.old.stage self.old self.new
+            (S.shared shared.old) (S.shared shared.new)
+            (S.caller shared.old) (S.caller shared.new)) }
     {
-        match &self.stage {
+        match mem::replace(&mut self.stage, Stage::Begin) {
             Stage::Begin => match self.next {
                 None => self.take_queue(alloc, shared),
                 Some(node) => self.pass(alloc, shared, node),
             },
             Stage::Routed { route, why, gone } => match route {
                 Route::Pushing { node, to } => {
-                    let (node, to, why, gone) = (*node, *to, *why, *gone);
                     self.push(shared, node, to, why, gone);
                     Ok(())
                 }
-                Route::Linking { node, to } => {
-                    let (node, to, why, gone) = (*node, *to, *why, *gone);
-                    self.link(alloc, shared, node, to, why, gone)
-                }
+                Route::Linking { node, to } => self.link(alloc, shared, node, to, why, gone),
                 _ => unreachable!(),
             },
             Stage::Giving { given, to } => {
-                let (given, to) = (*given, *to);
                 self.give(shared, given, to);
                 Ok(())
             }
             Stage::Taking { name, tries, left } => {
-                let (name, tries, left) = (*name, *tries, *left);
                 self.try_take(shared, name, tries, left);
                 Ok(())
             }
@@ -87,6 +86,7 @@ impl<'t> Scheduler<'t> {
     ) -> Result<Progress, OutOfMemory>
         requires schedulers { S.schedulers shared.old ≡ self.old.config.schedulers }
         requires greatest { S.greatest shared.old ≡ self.old.trace.now.greatest }
+        requires off { migration (setup_for self.old) ≡ false }
         requires ready { self.old.failed ≡ false
             → IsReady self.old (S.shared shared.old) (S.caller shared.old) }
         ensures stays { S.stays shared.old shared.new }

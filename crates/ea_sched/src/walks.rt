@@ -1,8 +1,9 @@
 //! The walk through the nodes of a scheduler's queue, and how they are worked off.
-ghost use Rattle.std.specs.Prelude.{◌≡◌, None, IfOk, OnOk};
+ghost use Rattle.std.specs.Prelude.{◌≡◌, false, None, IfOk, OnOk};
 ghost use Rattle.ea_machine.specs.Machine as machine;
 ghost use Rattle.ea_machine.specs.Walks as walks;
-ghost use Rattle.ea_sched.specs.Acting.{IsSame, actor_of, ready_of, setup_for};
+ghost use Rattle.ea_machine.specs.Setup.{migration};
+ghost use Rattle.ea_sched.specs.Acting.{IsSame, actor_of, ready_of, setup_for, standing_at};
 ghost use Rattle.ea_sched.specs.Asking.{SuitsNext};
 ghost use Rattle.ea_sound.specs.Walking.{CanAllGo, worked};
 
@@ -45,6 +46,7 @@ impl<'t> Scheduler<'t> {
     /// Does the operation itself, once its begin is over; where none is left, its text is done.
     pub(crate) fn go_on(&mut self, alloc: Global) -> Result<(), OutOfMemory>
         requires next { SuitsNext self.old.instance self.old }
+        requires off { migration (setup_for self.old) ≡ false }
         ensures actor { OnOk result (actor_of self.new ≡ machine.onward (setup_for self.old)
             self.old.number (ready_of self.old)) }
         ensures same { IsSame self.old self.new }
@@ -64,9 +66,10 @@ impl<'t> Scheduler<'t> {
         requires next { (worked self.old.number self.old.instance self.old.passed.nodes).hand ≡ None
             → SuitsNext (worked self.old.number self.old.instance self.old.passed.nodes).instance
             self.old }
-        ensures actor { OnOk result (actor_of self.new ≡ machine.onward (setup_for self.old)
-            self.old.number (walks.worked_off (setup_for self.old) self.old.number
-            self.old.passed.nodes (actor_of self.old))) }
+        requires off { migration (setup_for self.old) ≡ false }
+        ensures actor { OnOk result ((at : _) → actor_of self.new ≡ machine.onward
+            (setup_for self.old) self.old.number (walks.worked_off (setup_for self.old)
+            self.old.number self.old.passed.nodes (standing_at at self.old))) }
         ensures same { IsSame self.old self.new }
     {
         match work_off(&mut self.passed, &mut self.instance, self.number)? {

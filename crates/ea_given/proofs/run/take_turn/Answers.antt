@@ -1,10 +1,15 @@
-use Rattle.ea_given.proofs.Running.{stands-ready, stepped-stands}
+use Rattle.ea_given.proofs.Running.{stands-off, stands-ready, stepped-stands}
 use Rattle.ea_given.proofs.run.take_turn.Goals as goal
 
 pub step-requires-clause-ready : goal.step-requires-clause-ready
 step-requires-clause-ready c =
     let (d, t, me, w, shares, at) = c.requires in
     λ going. stands-ready d t me c.args.scheduler.now w at c.args.shared.now shares
+
+pub step-requires-clause-off : goal.step-requires-clause-off
+step-requires-clause-off c =
+    let (d, t, me, w, shares, at) = c.requires in
+    stands-off d t me c.args.scheduler.now w at c.args.shared.now shares
 
 pub returns : goal.returns
 returns c = λ d t me w shares at.

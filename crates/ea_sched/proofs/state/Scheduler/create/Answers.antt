@@ -22,7 +22,7 @@ returns-clause-actor c =
     c.try_alloc.new.self spot c.in-Some.place is new
     ∙ ap (λ i. placed_at (setup_for s) s.number ask (record (ready_of s) { instance = i }) spot)
     c.in_ok-create.ensures.ok
-    ∙ sym (multi (setup_for s) s.number (ready_of s) ask s.off
+    ∙ sym (multi (setup_for s) s.number (ready_of s) ask c.requires.off
     c.args.plan c.requires.plan spot c.if-plan.false
     (ap (λ i. chosen_spot i ask.need) (sym c.in_ok-create.ensures.ok) ∙ chosen)))
 

@@ -1,9 +1,9 @@
 use Rattle.std.proofs.Common.{◌≡◌, None, sym, ap, subst, ◌∙◌}
+use Rattle.std.proofs.lemmas.Result.{on_ok_weaker}
 use Rattle.ea_machine.specs.Machine.{onward}
-use Rattle.ea_sched.specs.Acting.{actor_of, setup_for}
+use Rattle.ea_sched.specs.Acting.{setup_for, standing_at}
 use Rattle.ea_sched.specs.Asking.{SuitsNext}
 use Rattle.ea_sound.specs.Walking.{Worked, worked}
-use Rattle.ea_sched.proofs.Acts.{made-as}
 use Rattle.ea_sound.proofs.Walked.{walked-none, walked-some}
 use Rattle.ea_sched.proofs.state.Scheduler.end_walk.Goals as goal
 
@@ -16,6 +16,7 @@ go_on-requires c =
     record {
       next = subst (λ j. SuitsNext j s) (ap (λ (w : Worked). w.instance) (sym is))
           (c.requires.next none);
+      off = c.requires.off;
     }
 
 pub returns-in-None-clause-actor : goal.returns-in-None-clause-actor
@@ -23,21 +24,22 @@ returns-in-None-clause-actor c =
     let s = c.args.self.now in
     let i = c.work_off.new.instance in
     let left = c.work_off.new.passed.nodes in
-    made-as c.go_on.result _ c.go_on.ensures.actor
-    (ap (onward (setup_for s) s.number)
-    (walked-none (setup_for s) s.number s.off (actor_of s)
+    on_ok_weaker c.go_on.result (λ is at. is
+    ∙ ap (onward (setup_for s) s.number)
+    (walked-none (setup_for s) s.number c.requires.off (standing_at at s)
     s.passed.nodes c.requires.passed i left
     (ap (λ hand. record { instance = i; left = left; hand = hand }) (sym c.in-None.is)
     ∙ c.in_ok-work_off.ensures)))
+    c.go_on.ensures.actor
 
 pub returns-in-Some-clause-actor : goal.returns-in-Some-clause-actor
 returns-in-Some-clause-actor c =
     let s = c.args.self.now in
     let i = c.work_off.new.instance in
     let left = c.work_off.new.passed.nodes in
-    c.send.ensures.actor
+    λ at. c.send.ensures.actor
     ∙ ap (onward (setup_for s) s.number)
-    (walked-some (setup_for s) s.number s.off (actor_of s)
+    (walked-some (setup_for s) s.number c.requires.off (standing_at at s)
     s.passed.nodes c.requires.passed i left c.in-Some.hand
     (ap (λ hand. record { instance = i; left = left; hand = hand }) (sym c.in-Some.is)
     ∙ c.in_ok-work_off.ensures))

@@ -24,7 +24,7 @@ returns-then-branch-clause-actor c =
     (freed_at s.instance hand.spot) c.let_go.new.self.held (without_name hand.name s.names.held)
     (c.in_ok-release.ensures.ok ∙ ap (λ own. left_if own s.instance hand.spot) own)
     c.let_go.ensures.held
-    ∙ sym (released-here (setup_for s) s.number s.off (For task)
+    ∙ sym (released-here (setup_for s) s.number c.requires.off (For task)
     (task_over task) (task-open task) (let_go hand.name (ready_of s)) hand own
     (c.in_ok-release.ensures.emptied (eqb-true (owner_of hand.spot.carrier) s.number own)))
 
@@ -40,5 +40,5 @@ returns-else-branch-clause-actor c =
     s.instance c.let_go.new.self.held (without_name hand.name s.names.held)
     (c.in_ok-release.ensures.ok ∙ ap (λ own. left_if own s.instance hand.spot) other)
     c.let_go.ensures.held
-    ∙ sym (released-away (setup_for s) s.number s.off (For task)
+    ∙ sym (released-away (setup_for s) s.number c.requires.off (For task)
     (task_over task) (task-open task) (let_go hand.name (ready_of s)) hand other)

@@ -12,54 +12,52 @@ pub link-requires-clause-target : goal.link-requires-clause-target
 link-requires-clause-target g c =
     let target = link-target c.args.self.now c.requires.starts.ready c.args.node c.args.to
     c.args.why
-    c.args.gone c.requires.stage in
+    c.args.gone refl in
     omega (arith, target, c.requires.starts.schedulers)
 
 pub link-requires-clause-node : goal.link-requires-clause-node
 link-requires-clause-node g c = as-node c.args.node c.requires.starts.schedulers
     c.requires.starts.greatest
     (link-node c.args.self.now c.requires.starts.ready c.args.node c.args.to c.args.why c.args.gone
-    c.requires.stage)
+    refl)
 
 pub link-requires-clause-unlinked : goal.link-requires-clause-unlinked
 link-requires-clause-unlinked g c = link-unlinked c.args.self.now c.requires.starts.ready
     c.args.node
-    c.args.to c.args.why c.args.gone c.requires.stage
+    c.args.to c.args.why c.args.gone refl
 
 pub end_walk-requires-clause-passed : goal.end_walk-requires-clause-passed
 end_walk-requires-clause-passed g c =
     let s = c.args.self.now in
     linked-can s c.requires.starts.ready c.args.node c.args.to c.args.gone
-    (c.requires.stage
-    ∙ ap (λ why. Routed (Linking c.args.node c.args.to) why c.args.gone) c.in-Walk.is)
+    (ap (λ why. Routed (Linking c.args.node c.args.to) why c.args.gone) c.in-Walk.is)
+    c.requires.off
 
 pub end_walk-requires-clause-next : goal.end_walk-requires-clause-next
 end_walk-requires-clause-next g c =
     let s = c.args.self.now in
     linked-suits s c.requires.starts.ready c.args.node c.args.to c.args.gone
-    (c.requires.stage
-    ∙ ap (λ why. Routed (Linking c.args.node c.args.to) why c.args.gone) c.in-Walk.is)
+    (ap (λ why. Routed (Linking c.args.node c.args.to) why c.args.gone) c.in-Walk.is)
+    c.requires.off
 
 pub finish_task-requires : goal.finish_task-requires
 finish_task-requires g c =
     let s = c.args.self.now in
     task-more s c.requires.starts.ready (Linking c.args.node c.args.to) c.in-For.task c.args.gone
-    (c.requires.stage
-    ∙ ap (λ why. Routed (Linking c.args.node c.args.to) why c.args.gone) c.in-For.is)
+    (ap (λ why. Routed (Linking c.args.node c.args.to) why c.args.gone) c.in-For.is)
 
 pub returns-in-Walk-clause-row : goal.returns-in-Walk-clause-row
 returns-in-Walk-clause-row g c = on_ok_weaker c.end_walk.result
-    (row-done c.args.self.now c.requires.starts.ready (Link c.args.node c.args.to) Done
+    (λ is. row-done c.args.self.now c.requires.starts.ready (Link c.args.node c.args.to) Done
     (Routed (Linking c.args.node c.args.to) Walk c.args.gone)
-    (c.requires.stage
-    ∙ ap (λ why. Routed (Linking c.args.node c.args.to) why c.args.gone) c.in-Walk.is)
-    refl c.link.ensures.row)
+    (ap (λ why. Routed (Linking c.args.node c.args.to) why c.args.gone) c.in-Walk.is)
+    refl c.link.ensures.row
+    (is (Routed (Linking c.args.node c.args.to) c.args.why c.args.gone)))
     c.end_walk.ensures.actor
 
 pub returns-in-For-clause-row : goal.returns-in-For-clause-row
 returns-in-For-clause-row g c = row-done c.args.self.now c.requires.starts.ready
     (Link c.args.node c.args.to) Done
     (Routed (Linking c.args.node c.args.to) (For c.in-For.task) c.args.gone)
-    (c.requires.stage
-    ∙ ap (λ why. Routed (Linking c.args.node c.args.to) why c.args.gone) c.in-For.is)
+    (ap (λ why. Routed (Linking c.args.node c.args.to) why c.args.gone) c.in-For.is)
     refl c.link.ensures.row c.finish_task.ensures.actor

@@ -1,9 +1,9 @@
-use Rattle.std.proofs.Common.{◌∷◌, ap, refl, ◌∙◌}
+use Rattle.std.proofs.Common.{◌∷◌, Some, ap, refl, ◌∙◌}
 use Rattle.std.proofs.lemmas.Result.{on_ok_weaker}
 use Rattle.ea_machine.specs.declared.stages.Stage.TheVariants.{Begin}
 use Rattle.ea_machine.specs.Machine.{begins, onward}
 use Rattle.ea_machine.specs.Rows.{Rests, TakeLink}
-use Rattle.ea_sched.specs.Acting.{ready_of, setup_for}
+use Rattle.ea_sched.specs.Acting.{actor_of, ready_of, setup_for}
 use Rattle.ea_sched.proofs.Calling.{as-node, pass-next, pass-node, passed-can, passed-ended}
 use Rattle.ea_sched.proofs.Calling.{passed-next, passed-suits, rests-suits, row-done}
 use Rattle.ea_sched.proofs.state.Scheduler.pass.Goals as goal
@@ -19,28 +19,29 @@ take_link-requires-clause-next g c =
 
 pub go_on-requires : goal.go_on-requires
 go_on-requires g c = record {
-  next = rests-suits c.args.self.now c.requires.starts.ready c.args.node c.requires.stage
+  next = rests-suits c.args.self.now c.requires.starts.ready c.requires.off c.args.node refl
       c.requires.next
       c.in-Rest.ensures.row;
+  off = c.requires.off;
 }
 
 pub end_walk-requires-clause-passed : goal.end_walk-requires-clause-passed
 end_walk-requires-clause-passed g c = passed-can c.args.self.now c.requires.starts.ready c.args.node
-    c.requires.stage c.requires.next c.add.new.self.nodes
+    refl c.requires.next c.add.new.self.nodes
     (c.add.ensures ∙ ap (λ nodes. c.args.node ∷ nodes) c.reserve.ensures.nodes)
-    c.in-End.ensures.row
+    c.in-End.ensures.row c.requires.off
 
 pub end_walk-requires-clause-next : goal.end_walk-requires-clause-next
 end_walk-requires-clause-next g c = passed-suits c.args.self.now c.requires.starts.ready c.args.node
-    c.requires.stage c.requires.next c.add.new.self.nodes
+    refl c.requires.next c.add.new.self.nodes
     (c.add.ensures ∙ ap (λ nodes. c.args.node ∷ nodes) c.reserve.ensures.nodes)
-    c.in-End.ensures.row
+    c.in-End.ensures.row c.requires.off
 
 pub returns-in-Rest-clause-row : goal.returns-in-Rest-clause-row
 returns-in-Rest-clause-row g c =
     let s = c.args.self.now in
     on_ok_weaker c.go_on.result
-    (λ is. row-done s c.requires.starts.ready TakeLink Rests Begin c.requires.stage
+    (λ is. row-done s c.requires.starts.ready TakeLink Rests Begin refl
     (ap begins c.requires.next) c.in-Rest.ensures.row
     (is ∙ ap (λ nodes. onward (setup_for s) s.number (record (ready_of s) { passed = nodes }))
     c.reserve.ensures.nodes))
@@ -48,15 +49,19 @@ returns-in-Rest-clause-row g c =
 
 pub returns-in-End-clause-row : goal.returns-in-End-clause-row
 returns-in-End-clause-row g c = on_ok_weaker c.end_walk.result
-    (passed-ended c.args.self.now c.requires.starts.ready c.args.node c.requires.stage
-    c.requires.next
+    (λ is. passed-ended c.args.self.now c.requires.starts.ready c.args.node refl c.requires.next
     c.add.new.self.nodes
     (c.add.ensures ∙ ap (λ nodes. c.args.node ∷ nodes) c.reserve.ensures.nodes)
-    c.in-End.ensures.row)
+    c.in-End.ensures.row (is Begin))
     c.end_walk.ensures.actor
 
 pub returns-in-Next-clause-row : goal.returns-in-Next-clause-row
 returns-in-Next-clause-row g c = passed-next c.args.self.now c.requires.starts.ready c.args.node
-    c.requires.stage c.requires.next c.add-in-Next.new.self.nodes
+    refl c.requires.next c.add-in-Next.new.self.nodes
     (c.add-in-Next.ensures ∙ ap (λ nodes. c.args.node ∷ nodes) c.reserve.ensures.nodes)
-    c.in-Next.older c.in-Next.ensures.row refl
+    c.in-Next.older c.in-Next.ensures.row
+    (ap (λ stage. record (actor_of c.args.self.now) {
+      stage = stage;
+      passed = c.add-in-Next.new.self.nodes;
+      next = Some c.in-Next.older;
+    }) c.requires.stage)

@@ -32,7 +32,7 @@ returns-in-None-clause-actor c =
     made-as c.seek_new-in-None.result _ c.seek_new-in-None.ensures.actor
     (ap (λ i. new_carrier (setup_for s) s.number ask 0 (record (ready_of s) { instance = i })) same
     ∙ sym (seek-new (setup_for s) s.number (ready_of s) ask
-    s.off (sym c.is_alone.ensures ∙ c.if-is_alone.false) none))
+    c.requires.off (sym c.is_alone.ensures ∙ c.if-is_alone.false) none))
 
 pub stand-requires-clause-asked : goal.stand-requires-clause-asked
 stand-requires-clause-asked c =

@@ -42,7 +42,7 @@ returns-clause-ready g c =
 
 pub observe-requires : goal.observe-requires
 observe-requires g c = record {
-  hand = row-off c.args.self.now (c.requires.ready c.if-self.false) c.advance.new.self
+  hand = row-off c.args.self.now c.requires.off (c.requires.ready c.if-self.false) c.advance.new.self
       (sym c.ended.ensures ∙ c.if-ended.false)
       (went c.advance.result c.advance.ensures.row c.if-is_err.ensures.value);
 }

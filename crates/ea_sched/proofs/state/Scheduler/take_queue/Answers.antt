@@ -1,4 +1,4 @@
-use Rattle.std.proofs.Common.{ap}
+use Rattle.std.proofs.Common.{refl, ap}
 use Rattle.std.specs.Prelude.{None, Some}
 use Rattle.std.proofs.lemmas.Result.{on_ok_weaker}
 use Rattle.ea_machine.specs.declared.stages.Stage.TheVariants.{Begin}
@@ -14,19 +14,20 @@ take_all-requires-clause-walked g c = take-walked c.args.self.now c.requires.sta
 
 pub go_on-requires : goal.go_on-requires
 go_on-requires g c = record {
-  next = taken-suits c.args.self.now c.requires.starts.ready c.requires.stage c.requires.next;
+  next = taken-suits c.args.self.now c.requires.starts.ready c.requires.off refl c.requires.next;
+  off = c.requires.off;
 }
 
 pub returns-in-None-clause-row : goal.returns-in-None-clause-row
 returns-in-None-clause-row g c = on_ok_weaker c.go_on.result
     (row-done c.args.self.now c.requires.starts.ready TakeAll (Head None) Begin
-    c.requires.stage (ap begins c.requires.next) c.in-None.ensures.row)
+    refl (ap begins c.requires.next) c.in-None.ensures.row)
     c.go_on.ensures.actor
 
 pub returns-in-Some-clause-row : goal.returns-in-Some-clause-row
 returns-in-Some-clause-row g c =
     let s = c.args.self.now in
     row-done s c.requires.starts.ready TakeAll (Head (Some c.in-Some.newest)) Begin
-    c.requires.stage (ap begins c.requires.next) c.in-Some.ensures.row
+    refl (ap begins c.requires.next) c.in-Some.ensures.row
     (ap (λ stage. record (actor_of s) { stage = stage; next = Some c.in-Some.newest })
     c.requires.stage)

@@ -1,5 +1,7 @@
-use Rattle.std.proofs.Common.{◌≡◌, Bool, false, true, Some, None}
+use Rattle.std.proofs.Common.{◌≡◌, Bool, Bor, false, true, Some, None}
 use Rattle.std.proofs.Common.{IsFalse, refl, sym, ap, ◌∙◌, subst}
+use Rattle.ea_model.specs.declared.trace.Trace.{Trace}
+use Rattle.ea_machine.specs.Setup.{migration, setup_of}
 use Rattle.ea_sched.specs.Steps.{IsReady}
 use Rattle.ea_shared.specs.Calls.{Caller}
 use Rattle.ea_table.specs.declared.pass.Pass.{Pass}
@@ -34,6 +36,13 @@ step-requires-clause-greatest g c =
     let i = c.loop.invariant in
     ap (λ t. t.greatest) (i.trace ∙ c.requires.trace)
     ∙ sym (ap (λ t. t.now.greatest) i.scheduler_trace)
+
+pub step-requires-clause-off : goal.step-requires-clause-off
+step-requires-clause-off g c =
+    let i = c.loop.invariant in
+    subst (λ d. migration (setup_of d c.loop.scheduler.trace.now) ≡ false) (sym i.scheduler_config)
+    (subst (λ (t : Bor Trace). migration (setup_of c.args.self.scheduler.config t.now) ≡ false)
+    (sym i.scheduler_trace) c.requires.off)
 
 pub step-requires-clause-ready : goal.step-requires-clause-ready
 step-requires-clause-ready g c = λ going. c.loop.invariant.ready
