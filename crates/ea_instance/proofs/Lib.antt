@@ -5,3 +5,4 @@ pub mod Owned
 pub mod Reallocating
 pub mod Migrating
 pub mod Planning
+pub mod HandingOut

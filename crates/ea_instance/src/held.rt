@@ -1,7 +1,11 @@
 //! A carrier in a scheduler's hand.
-ghost use Rattle.std.specs.Prelude.{◌≡◌, [], ◌↔◌, IsTrue};
+ghost use Rattle.std.specs.Prelude.{◌≡◌, ◌↔◌, true, [], Some, IfSome, IsTrue};
 ghost use Rattle.ea_model.specs.declared.carriers.Kind.TheVariants as kind;
+ghost use Rattle.ea_model.specs.Content.{can_go};
+ghost use Rattle.ea_model.specs.Employment.{dismissing};
+ghost use Rattle.ea_model.specs.Instance.{content_of, employed, has_content};
 
+use crate::instance::Instance;
 use ea_mbc::Mbc;
 use ea_sbc::Sbc;
 use std::marker::Model;
@@ -83,5 +87,27 @@ impl Held {
             Part::Multi { carrier } => carrier,
             Part::Single { .. } => unreachable!(),
         }
+    }
+}
+
+impl Instance {
+    /// Gives up a carrier that it employs and that isn't the main one, into the hand: answers it. If
+    /// it owns it, it still does. It takes no memory.
+    pub fn hand_out(&mut self, number: u32) -> Held
+        requires there { has_content number (employed self.old) ≡ true }
+        requires goes { IfSome (content_of (employed self.old) number)
+            (λ c. can_go c.kind ≡ true) }
+        requires gone { IfSome (content_of (employed self.old) number)
+            (λ c. c.kind ≡ kind.Single → c.blocks ≡ []) }
+        requires empty { self.old.settings.acul ≡ 0
+            → IfSome (content_of (employed self.old) number) (λ c. c.blocks ≡ []) }
+        ensures content { content_of (employed self.old) number ≡ Some result }
+        ensures rest { self.new ≡ dismissing self.old number }
+    {
+        self.stands();
+        if self.has_multi(number) {
+            return Held::multi(self.give_up(number));
+        }
+        Held::single(self.give_up_single(number))
     }
 }

@@ -209,7 +209,7 @@ impl Instance {
     }
 
     /// Whether it employs the carrier, and it is a main or multiblock carrier.
-    fn has_multi(&self, carrier: u32) -> bool
+    pub(crate) fn has_multi(&self, carrier: u32) -> bool
         ensures { result ≡ has_content carrier self.now.contents }
     {
         item_of(carrier, self.carriers.as_slice()).is_some()
