@@ -1,5 +1,6 @@
 pub mod Doing
 pub mod Acts
+pub mod Placing
 pub mod StandsOff
 pub mod OwnCarriers
 pub mod Texts

@@ -50,6 +50,7 @@ placed-block old new name place placed at is =
 
 -- a place is asked for as before, where blocks and carriers that were there are still there
 module _ (s t : Scheduler) (number : t.number ≡ s.number) (names : t.names ≡ s.names)
+    (moves : t.migrates ≡ s.migrates)
     (i j : Instance) (blocks : (at : Spot) → IsSome (block_in (employed i) at)
     → IsSome (block_in (employed j) at))
     (own : (n : ℕ) → IsSome (own_at i.own n) → IsSome (own_at j.own n)) where
@@ -57,8 +58,8 @@ module _ (s t : Scheduler) (number : t.number ≡ s.number) (names : t.names ≡
   here None h = tt
   here (Some x) h = record {
     name = subst (λ ns. x.name ≤ ns.greatest) (sym names) h.name;
-    block = λ mine. blocks x.spot (h.block (mine ∙ number));
-    own = λ mine. own x.spot.carrier (h.own (mine ∙ number));
+    block = λ off mine. blocks x.spot (h.block (sym moves ∙ off) (mine ∙ number));
+    own = λ off mine. own x.spot.carrier (h.own (sym moves ∙ off) (mine ∙ number));
   }
 
   pub asked-again : (ask : Ask) → IsAsked i s ask → IsAsked j t ask

@@ -40,13 +40,14 @@ use Rattle.ea_sound.specs.Moments.{at}
 use Rattle.ea_sound.proofs.Asked.{first-operation}
 use Rattle.ea_sound.proofs.OffWalks.{link-walks, passed-carrier, passed-emptied, passed-here}
 use Rattle.ea_sound.proofs.OffWalks.{passed-own, take_all-walks, take_link-passes}
-use Rattle.ea_sound.proofs.OffWalks.{take_link-rests, walk-fresh_alloc, walk-fresh_realloc}
-use Rattle.ea_sound.proofs.OffWalks.{walk-held, walk-here, walk-moves, walk-on, walk-own}
+use Rattle.ea_sound.proofs.OffWalks.{take_link-rests}
+use Rattle.ea_sound.proofs.OffWalks.{walk-held, walk-here, walk-on, walk-own}
+use Rattle.ea_sound.proofs.HeldBlocks.{walk-alloc, walk-block, walk-realloc}
 use Rattle.ea_sound.proofs.SoundRanges.{number-scheduler}
 use Rattle.ea_sched.specs.declared.state.Scheduler.{Scheduler}
 use Rattle.ea_sched.specs.Acting.{actor_of, setup_for, standing_at}
 use Rattle.ea_sched.specs.Brought.{HavePlaces, is_placed, name_brought}
-use Rattle.ea_sched.specs.Asking.{HasName, IsFresh, IsHere, Moves, Suits, SuitsNext}
+use Rattle.ea_sched.specs.Asking.{HasName, IsFresh, IsHere, Lies, Suits, SuitsNext}
 use Rattle.ea_sound.specs.Releasing.{freed_at}
 use Rattle.ea_sound.specs.Walking.{CanAllGo, CanGo, Worked, left_if, worked, worked_if}
 use Rattle.ea_sound.proofs.Freed.{released-here}
@@ -186,13 +187,13 @@ module _ (stage : Stage Content) (s : Scheduler) (off : migration (setup_for s) 
         by (Some x) held = record {
           name = omega
               (arith, item_at-key name_of name x s.names.held held, upto, s.names_upto);
-          block = walk-here e v part me is off a walks name x held;
-          own = walk-own e v part me is off a walks name x held;
+          block = λ _. walk-here e v part me is off a walks name x held;
+          own = λ _. walk-own e v part me is off a walks name x held;
         }
 
-    moves : (o : Option Named) → IfSome o (Moves i s)
-    moves None = tt
-    moves (Some x) = λ other need. walk-moves e v part me is off a walks x.spot need other
+    lies : (name : ℕ) (o : Option Named) → named_at name s.names.held ≡ o → IfSome o (Lies i)
+    lies name None held = tt
+    lies name (Some x) held = walk-block e v part me is a walks name x held
 
     is_fresh : (name : ℕ) → has_place s.names.places name ≡ true
         → named_at name s.names.held ≡ None → IsFresh s name
@@ -205,15 +206,15 @@ module _ (stage : Stage Content) (s : Scheduler) (off : migration (setup_for s) 
         → IsOperation s.config.schedulers o × (greatest_in o ≤ s.trace.now.greatest) → Suits i s o
     suits (op.Alloc name bytes) ops left (is_op, upto) = (
       is_fresh name (next-placed s (op.Alloc name bytes) ops left)
-          (walk-fresh_alloc e v part me is off a walks name bytes ops left),
+          (walk-alloc e v part me is a walks name bytes ops left),
       is_op.1,
     )
     suits (op.Free name) ops left (is_op, upto) = has_name name upto
     suits (op.Realloc old fresh bytes) ops left (is_op, upto) = (
       has_name old (omega (arith, upto)),
-      moves (named_at old s.names.held),
+      lies old (named_at old s.names.held) refl,
       is_fresh fresh (next-placed s (op.Realloc old fresh bytes) ops left)
-          (walk-fresh_realloc e v part me is off a walks old fresh bytes ops left),
+          (walk-realloc e v part me is a walks old fresh bytes ops left),
       is_op.2,
     )
     suits (op.Give name to) ops left (is_op, upto) = omega (arith, upto, s.names_upto)

@@ -1,12 +1,12 @@
 -- What the local work of a scheduler asks for, of its instance and of the names that it holds.
-use Rattle.std.specs.Prelude.{◌≡◌, ◌≢◌, ℕ, ◌%◌, ◌<◌, ◌≤◌, true, List}
+use Rattle.std.specs.Prelude.{◌≡◌, ℕ, ◌%◌, ◌<◌, ◌≤◌, Bool, true, false, List}
 use Rattle.std.specs.Prelude.{◌∷◌, None, IfSome, IsSome, drop, length}
 use Rattle.ea_model.specs.declared.operations.Op.{Op}
 use Rattle.ea_model.specs.declared.operations.Op.TheVariants.{Alloc, Free, Realloc}
 use Rattle.ea_model.specs.declared.operations.Op.TheVariants.{Give, Take, Info, Idle}
-use Rattle.ea_model.specs.declared.reallocation.Decision.TheVariants.{Move}
 use Rattle.ea_model.specs.declared.units.TheConstants.{MAX_BYTES}
-use Rattle.ea_model.specs.Instance.{Instance, block_in, decision_at, employed, own_at, owner_of}
+use Rattle.ea_model.specs.Instance.{Instance, block_in, employed, has_content, own_at}
+use Rattle.ea_model.specs.Instance.{owner_of}
 use Rattle.ea_machine.specs.declared.asks.Ask.{Ask}
 use Rattle.ea_machine.specs.declared.nodes.Named.{Named}
 use Rattle.ea_machine.specs.Nodes.{named_at, spot_named}
@@ -22,21 +22,27 @@ pub record IsFreshIn (names : Holding) (name : ℕ) : Type 0 where
   pub place : has_place names.places name ≡ true
   pub fresh : spot_named name names.held ≡ None
 
--- a name up to the greatest one, whose block lies at its spot in the instance if `me` owns its
--- carrier, and then the instance does
-pub record IsHereIn (i : Instance) (me greatest : ℕ) (x : Named) : Type 0 where
+-- a name up to the greatest one; where carriers don't migrate, its block lies at its spot in the
+-- instance if `me` owns its carrier, and then the instance does
+pub record IsHereIn (i : Instance) (migrates : Bool) (me greatest : ℕ) (x : Named) : Type 0 where
   pub name : x.name ≤ greatest
-  pub block : owner_of x.spot.carrier ≡ me → IsSome (block_in (employed i) x.spot)
-  pub own : owner_of x.spot.carrier ≡ me → IsSome (own_at i.own x.spot.carrier)
+  pub block : migrates ≡ false → owner_of x.spot.carrier ≡ me
+      → IsSome (block_in (employed i) x.spot)
+  pub own : migrates ≡ false → owner_of x.spot.carrier ≡ me → IsSome (own_at i.own x.spot.carrier)
 
 -- a name with a place that the scheduler doesn't hold
 abbrev pub IsFresh : Scheduler → ℕ → Type 0
 IsFresh s name = IsFreshIn s.names name
 
+-- the block of a name lies in its carrier, if the instance employs that
+abbrev pub Lies : Instance → Named → Type 0
+Lies i x = has_content x.spot.carrier (employed i) ≡ true → IsSome (block_in (employed i) x.spot)
+
 module _ (i : Instance) (s : Scheduler) where
-  -- a name of the trace, whose block is here if the scheduler owns its carrier
+  -- a name of the trace; where carriers don't migrate, its block is here if the scheduler owns its
+  -- carrier
   abbrev pub IsHere : Named → Type 0
-  IsHere x = IsHereIn i s.number s.names.greatest x
+  IsHere x = IsHereIn i s.migrates s.number s.names.greatest x
 
   -- a place is asked for as operations ask for one
   pub record IsAsked (ask : Ask) : Type 0 where
@@ -44,10 +50,6 @@ module _ (i : Instance) (s : Scheduler) where
     pub least : 6 ≤ ask.need
     pub fresh : IsFresh s ask.name
     pub old : IfSome ask.old IsHere
-
-  -- a block whose carrier another scheduler owns is to move where it is reallocated
-  abbrev pub Moves : Named → Type 0
-  Moves x = owner_of x.spot.carrier ≢ s.number → (need : ℕ) → decision_at i x.spot need ≡ Move
 
   -- the name of an operation is one of the trace, and its block is here if it is held
   abbrev pub HasName : ℕ → Type 0
@@ -57,7 +59,7 @@ module _ (i : Instance) (s : Scheduler) where
   abbrev pub Suits : Op → Type 0
   Suits (Alloc name bytes) = IsFresh s name × (bytes ≤ MAX_BYTES)
   Suits (Free name) = HasName name
-  Suits (Realloc old fresh bytes) = HasName old × IfSome (named_at old s.names.held) Moves
+  Suits (Realloc old fresh bytes) = HasName old × IfSome (named_at old s.names.held) (Lies i)
       × IsFresh s fresh × (bytes ≤ MAX_BYTES)
   Suits (Give name to) = name ≤ s.names.greatest
   Suits (Take name tries) = Unit {0}

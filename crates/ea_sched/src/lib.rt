@@ -9,6 +9,7 @@ mod placements;
 mod releases;
 mod rows;
 mod scheduler;
+mod searches;
 mod state;
 mod step;
 mod walks;

@@ -1,5 +1,5 @@
 //! The operations themselves, once their begin is over.
-ghost use Rattle.std.specs.Prelude.{◌≡◌, false, ◌≢◌, ◌≤◌, ◌+◌, ◌%◌, ◌∷◌, Some, IfSome, IsSome, OnOk, drop};
+ghost use Rattle.std.specs.Prelude.{◌≡◌, ◌≢◌, ◌≤◌, ◌+◌, ◌%◌, ◌∷◌, Some, IfSome, IsSome, OnOk, drop};
 ghost use Rattle.ea_model.specs.declared.reallocation.Decision.TheVariants.{Move};
 ghost use Rattle.ea_model.specs.declared.carriers.BlockAt.{BlockAt};
 ghost use Rattle.ea_model.specs.declared.units.TheConstants.{MAX_BYTES};
@@ -10,11 +10,9 @@ ghost use Rattle.ea_machine.specs.Operations as operations;
 ghost use Rattle.ea_machine.specs.Reallocations as reallocations;
 ghost use Rattle.ea_machine.specs.Statistics as statistics;
 ghost use Rattle.ea_machine.specs.Tasks as tasks;
-ghost use Rattle.ea_machine.specs.Setup.{migration};
 ghost use Rattle.ea_sched.specs.Acting.{IsSame, actor_of, ready_of, setup_for};
-ghost use Rattle.ea_sched.specs.Asking.{HasMore, HasName, IsFresh, IsHere, Moves, Suits};
+ghost use Rattle.ea_sched.specs.Asking.{HasMore, HasName, IsFresh, IsHere, Lies, Suits};
 
-use crate::releases::employer_of;
 use crate::state::Scheduler;
 use ea_machine::{Ask, Named, Stage};
 use ea_model::{Entry, Op, OutOfMemory, Place, Spot, need};
@@ -31,12 +29,11 @@ impl<'t> Scheduler<'t> {
     ) -> Result<(), OutOfMemory>
         requires more { HasMore self.old }
         requires here { IsHere self.old.instance self.old old }
-        requires away { Moves self.old.instance self.old old }
+        requires lies { Lies self.old.instance old }
         requires held { nodes.named_at old.name self.old.names.held ≡ Some old }
         requires fresh { IsFresh self.old fresh }
         requires even { need % 2 ≡ 0 }
         requires least { 6 ≤ need }
-        requires off { migration (setup_for self.old) ≡ false }
         ensures actor { OnOk result (actor_of self.new ≡ reallocations.reallocated_by
             (setup_for self.old) self.old.number old fresh need (ready_of self.old)
             (decision_at self.old.instance old.spot need)) }
@@ -47,7 +44,8 @@ impl<'t> Scheduler<'t> {
             need,
             old: Some(old),
         };
-        if employer_of(old.spot.carrier) != self.number {
+        self.instance.stands();
+        if !self.instance.employs(old.spot.carrier) {
             return self.seek(alloc, ask);
         }
         let Some(size) = self.instance.resize(old.spot, need, fresh)? else {
@@ -78,11 +76,10 @@ impl<'t> Scheduler<'t> {
     ) -> Result<(), OutOfMemory>
         requires more { HasMore self.old }
         requires old { HasName self.old.instance self.old old }
-        requires away { IfSome (nodes.named_at old self.old.names.held)
-            (Moves self.old.instance self.old) }
+        requires lies { IfSome (nodes.named_at old self.old.names.held)
+            (Lies self.old.instance) }
         requires fresh { IsFresh self.old fresh }
         requires bytes { bytes ≤ MAX_BYTES }
-        requires off { migration (setup_for self.old) ≡ false }
         ensures actor { OnOk result (actor_of self.new ≡ reallocations.reallocated
             (setup_for self.old) self.old.number old fresh (need_of bytes) (ready_of self.old)
             (nodes.named_at old self.old.names.held)) }
@@ -167,7 +164,6 @@ impl<'t> Scheduler<'t> {
     pub(crate) fn operate(&mut self, alloc: Global, op: Op) -> Result<(), OutOfMemory>
         requires more { HasMore self.old }
         requires fits { Suits self.old.instance self.old op }
-        requires off { migration (setup_for self.old) ≡ false }
         ensures actor { OnOk result (actor_of self.new ≡ operations.itself
             (setup_for self.old) self.old.number (ready_of self.old)
             (op ∷ drop (self.old.done + 1) self.old.text.now)) }

@@ -1,5 +1,6 @@
 //! How a scheduler finds a place for a block.
-ghost use Rattle.std.specs.Prelude.{◌≡◌, false, ◌≤◌, Ok, OnOk};
+ghost use Rattle.std.specs.Prelude.{◌≡◌, ◌≤◌, true, false, Ok, OnOk, IsSome};
+ghost use Rattle.ea_model.specs.declared.carriers.Kind.TheVariants.{Multi};
 ghost use Rattle.ea_model.specs.declared.units.TheConstants.{MAX_PAGES};
 ghost use Rattle.ea_model.specs.Instance as instances;
 ghost use Rattle.ea_machine.specs.Placements as placements;
@@ -8,27 +9,30 @@ ghost use Rattle.ea_sched.specs.Acting.{IsSame, actor_of, ready_of, setup_for};
 ghost use Rattle.ea_sched.specs.Asking.{HasMore, IsAsked};
 
 use crate::state::Scheduler;
-use ea_machine::{Ask, Task};
-use ea_model::{CarrierPlan, Entry, NoCarrier, OutOfMemory, Place, Spot};
+use ea_machine::{Ask, Stage, Task};
+use ea_mbc::Mbc;
+use ea_model::{CarrierPlan, Entry, NUMBERS, NoCarrier, OutOfMemory, Place, Spot};
+use ea_search::Search;
 use std::alloc::Global;
 
-/// What the log says if no carrier was created.
-fn failed(ask: Ask, why: NoCarrier) -> Entry
-    ensures { result ≡ placements.failed ask 0 why ask.old }
+/// What the log says if no carrier was fetched or created, after a search that counted `looked`
+/// words.
+fn failed(ask: Ask, looked: u32, why: NoCarrier) -> Entry
+    ensures { result ≡ placements.failed ask looked why ask.old }
 {
     let Ask { name, need, old } = ask;
     match old {
         None => Entry::AllocFail {
             name,
             need,
-            looked: 0,
+            looked,
             why,
         },
         Some(old) => Entry::ReallocFail {
             old: old.name,
             fresh: name,
             need,
-            looked: 0,
+            looked,
             why,
         },
     }
@@ -40,7 +44,6 @@ impl<'t> Scheduler<'t> {
     fn stand(&mut self, ask: Ask, place: Place) -> Result<(), OutOfMemory>
         requires more { HasMore self.old }
         requires asked { IsAsked self.old.instance self.old ask }
-        requires off { migration (setup_for self.old) ≡ false }
         ensures actor { OnOk result (actor_of self.new ≡ placements.stands (setup_for self.old)
             self.old.number ask.name place ask.old
             (placements.holding ask.name (placements.spot_of_place place) (ready_of self.old))) }
@@ -69,69 +72,152 @@ impl<'t> Scheduler<'t> {
         }
     }
 
-    /// Creates the carrier of the plan, and places the block in it.
-    fn create(&mut self, alloc: Global, ask: Ask, plan: CarrierPlan) -> Result<(), OutOfMemory>
+    /// Places the block where the strategy chooses; there is a choice.
+    pub(crate) fn place(&mut self, ask: Ask) -> Result<(), OutOfMemory>
         requires more { HasMore self.old }
         requires asked { IsAsked self.old.instance self.old ask }
-        requires plan { instances.plan self.old.instance ask.need ≡ Ok plan }
-        requires pages { (1 ≤ plan.pages) × (plan.pages ≤ MAX_PAGES) }
-        requires off { migration (setup_for self.old) ≡ false }
-        ensures actor { OnOk result (actor_of self.new ≡ placements.new_carrier
-            (setup_for self.old) self.old.number ask 0 (ready_of self.old)) }
+        requires choice { IsSome (instances.chosen_spot self.old.instance ask.need) }
+        ensures actor { OnOk result (actor_of self.new ≡ placements.placed_in_choice
+            (setup_for self.old) self.old.number ask (ready_of self.old)) }
         ensures same { IsSame self.old self.new }
     {
-        if plan.single {
-            let place = self.instance.create_single(plan, ask.need, ask.name);
-            return self.stand(ask, place);
-        }
-        let carrier = self.instance.prepare(alloc, plan)?;
-        self.instance.create(plan, ask.need, carrier)?;
         match self.instance.try_alloc(ask.need, ask.name)? {
             Some(place) => self.stand(ask, place),
             None => unreachable!(),
         }
     }
 
+    /// Creates the singleblock carrier of the plan, with the block in it.
+    pub(crate) fn create_single(&mut self, ask: Ask, plan: CarrierPlan) -> Result<(), OutOfMemory>
+        requires more { HasMore self.old }
+        requires asked { IsAsked self.old.instance self.old ask }
+        requires plan { instances.plan self.old.instance ask.need ≡ Ok plan }
+        requires single { plan.single ≡ true }
+        ensures actor { OnOk result (actor_of self.new ≡ placements.created
+            (setup_for self.old) self.old.number ask plan (ready_of self.old)) }
+        ensures same { IsSame self.old self.new }
+    {
+        let place = self.instance.create_single(plan, ask.need, ask.name);
+        self.stand(ask, place)
+    }
+
+    /// Employs the multiblock carrier of the plan, and places the block where the strategy chooses
+    /// then.
+    pub(crate) fn create_multi(
+        &mut self,
+        ask: Ask,
+        plan: CarrierPlan,
+        carrier: Mbc,
+    ) -> Result<(), OutOfMemory>
+        requires more { HasMore self.old }
+        requires asked { IsAsked self.old.instance self.old ask }
+        requires plan { instances.plan self.old.instance ask.need ≡ Ok plan }
+        requires multi { plan.single ≡ false }
+        requires carrier { carrier ≡ instances.created_content self.old.instance.number Multi plan }
+        ensures actor { OnOk result (actor_of self.new ≡ placements.created
+            (setup_for self.old) self.old.number ask plan (ready_of self.old)) }
+        ensures same { IsSame self.old self.new }
+    {
+        self.instance.create(plan, ask.need, carrier)?;
+        self.place(ask)
+    }
+
+    /// Creates the carrier of the plan, and places the block.
+    fn create(&mut self, alloc: Global, ask: Ask, plan: CarrierPlan) -> Result<(), OutOfMemory>
+        requires more { HasMore self.old }
+        requires asked { IsAsked self.old.instance self.old ask }
+        requires plan { instances.plan self.old.instance ask.need ≡ Ok plan }
+        requires pages { (1 ≤ plan.pages) × (plan.pages ≤ MAX_PAGES) }
+        ensures actor { OnOk result (actor_of self.new ≡ placements.created
+            (setup_for self.old) self.old.number ask plan (ready_of self.old)) }
+        ensures same { IsSame self.old self.new }
+    {
+        if plan.single {
+            return self.create_single(ask, plan);
+        }
+        let carrier = self.instance.prepare(alloc, plan)?;
+        self.create_multi(ask, plan, carrier)
+    }
+
+    /// Has the carrier of the plan created: where carriers migrate, in a step of its own.
+    fn plan(&mut self, alloc: Global, ask: Ask, plan: CarrierPlan) -> Result<(), OutOfMemory>
+        requires more { HasMore self.old }
+        requires asked { IsAsked self.old.instance self.old ask }
+        requires plan { instances.plan self.old.instance ask.need ≡ Ok plan }
+        requires pages { (1 ≤ plan.pages) × (plan.pages ≤ MAX_PAGES) }
+        ensures actor { OnOk result (actor_of self.new ≡ placements.making (setup_for self.old)
+            self.old.number ask plan (ready_of self.old) (migration (setup_for self.old))) }
+        ensures same { IsSame self.old self.new }
+    {
+        if self.migrates {
+            self.stage = Stage::Creating { ask, plan };
+            return Ok(());
+        }
+        self.create(alloc, ask, plan)
+    }
+
     /// Places the block in a carrier that is created for it, of its own if it is alone; if none can
-    /// be, the operation fails.
+    /// be, the operation fails. A search before counted `looked` words.
     /// A count of carriers that has no greater number counts as want of memory.
-    fn seek_new(&mut self, alloc: Global, ask: Ask, alone: bool) -> Result<(), OutOfMemory>
+    pub(crate) fn seek_new(
+        &mut self,
+        alloc: Global,
+        ask: Ask,
+        alone: bool,
+        looked: u32,
+    ) -> Result<(), OutOfMemory>
         requires more { HasMore self.old }
         requires asked { IsAsked self.old.instance self.old ask }
         requires alone { alone ≡ instances.is_alone self.old.instance ask.need }
-        requires off { migration (setup_for self.old) ≡ false }
         ensures actor { OnOk result (actor_of self.new ≡ placements.new_carrier
-            (setup_for self.old) self.old.number ask 0 (ready_of self.old)) }
+            (setup_for self.old) self.old.number ask looked (ready_of self.old)) }
         ensures same { IsSame self.old self.new }
     {
         if self.instance.created() == u32::MAX {
             return Err(OutOfMemory);
         }
         match self.instance.plan_carrier(ask.need, alone) {
-            Ok(plan) => self.create(alloc, ask, plan),
+            Ok(plan) => self.plan(alloc, ask, plan),
             Err(why) => {
-                self.finish(failed(ask, why));
+                self.finish(failed(ask, looked, why));
                 Ok(())
             }
         }
     }
 
+    /// Places the block, for which nothing is chosen, in a carrier from the pool, where carriers
+    /// migrate, or in a new one.
+    fn seek_beyond(&mut self, alloc: Global, ask: Ask) -> Result<(), OutOfMemory>
+        requires more { HasMore self.old }
+        requires asked { IsAsked self.old.instance self.old ask }
+        requires shared { instances.is_alone self.old.instance ask.need ≡ false }
+        ensures actor { OnOk result (actor_of self.new ≡ placements.search_if
+            (setup_for self.old) self.old.number ask (ready_of self.old)
+            (migration (setup_for self.old))) }
+        ensures same { IsSame self.old self.new }
+    {
+        if self.migrates {
+            let greatest = self.config.schedulers * NUMBERS;
+            return self.search_on(alloc, ask, Search::new(greatest));
+        }
+        self.seek_new(alloc, ask, false, 0)
+    }
+
     /// Places the block: above the singleblock threshold in a carrier of its own, else where the
-    /// strategy chooses among the employed carriers, or in a new one.
+    /// strategy chooses among the employed carriers, or in one from the pool, or in a new one.
     pub(crate) fn seek(&mut self, alloc: Global, ask: Ask) -> Result<(), OutOfMemory>
         requires more { HasMore self.old }
         requires asked { IsAsked self.old.instance self.old ask }
-        requires off { migration (setup_for self.old) ≡ false }
         ensures actor { OnOk result (actor_of self.new ≡ placements.seek
             (setup_for self.old) self.old.number ask (ready_of self.old)) }
         ensures same { IsSame self.old self.new }
     {
         if self.instance.is_alone(ask.need) {
-            return self.seek_new(alloc, ask, true);
+            return self.seek_new(alloc, ask, true, 0);
         }
         match self.instance.try_alloc(ask.need, ask.name)? {
             Some(place) => self.stand(ask, place),
-            None => self.seek_new(alloc, ask, false),
+            None => self.seek_beyond(alloc, ask),
         }
     }
 }

@@ -123,16 +123,24 @@ impl<'t> Scheduler<'t> {
     }
 
     /// The name is held no longer, and its block is released: here, which ends the operation, or by
-    /// the employer of its carrier, to whose queue it goes.
+    /// the employer of its carrier, to whose queue it goes. Where carriers migrate, a look at the
+    /// carrier's owner word is to tell who that is.
     pub(crate) fn hand_over(&mut self, hand: Named, task: Task) -> Result<(), OutOfMemory>
         requires more { HasMore self.old }
         requires here { IsHere self.old.instance self.old hand }
-        requires off { migration (setup_for self.old) ≡ false }
         ensures actor { OnOk result (actor_of self.new ≡ tasks.hands_over (setup_for self.old)
             self.old.number task hand (ready_of self.old)) }
         ensures same { IsSame self.old self.new }
     {
         self.names.let_go(hand.name);
+        if self.migrates {
+            self.stage = Stage::Routed {
+                route: Route::Looking { hand },
+                why: Why::For { task },
+                gone: Gone::Open,
+            };
+            return Ok(());
+        }
         if release(&mut self.instance, self.number, hand.spot)? {
             self.finish_task(task, Gone::Here);
         } else {
@@ -145,7 +153,6 @@ impl<'t> Scheduler<'t> {
     pub(crate) fn free(&mut self, name: u32) -> Result<(), OutOfMemory>
         requires more { HasMore self.old }
         requires name { HasName self.old.instance self.old name }
-        requires off { migration (setup_for self.old) ≡ false }
         ensures actor { OnOk result (actor_of self.new ≡ operations.freed (setup_for self.old)
             self.old.number name (ready_of self.old)
             (nodes.named_at name self.old.names.held)) }

@@ -1,5 +1,6 @@
 //! What a scheduler keeps.
 ghost use Rattle.std.specs.Prelude.{◌≡◌, ◌+◌, ◌≤◌, length};
+ghost use Rattle.ea_model.specs.declared.units.TheConstants.{MAX_SCHEDULERS};
 ghost use Rattle.ea_model.specs.Trace.{texts_of};
 ghost use Rattle.ea_machine.specs.Setup.{migration, setup_of, text_for};
 ghost use Rattle.ea_sched.specs.Brought.{HavePlaces};
@@ -34,6 +35,7 @@ pub struct Scheduler<'t> {
     pub(crate) log: List<Entry>,
     pub(crate) failed: bool,
     ghost migrates_so: { migrates ≡ migration (setup_of config trace.now) },
+    ghost schedulers_to: { config.schedulers ≤ MAX_SCHEDULERS },
     ghost number_from: { 1 ≤ number },
     ghost number_to: { number ≤ config.schedulers },
     ghost text_is: { text.now ≡ text_for (texts_of trace.now) number },

@@ -4,7 +4,7 @@ use Rattle.ea_machine.specs.Reallocations.{reallocated}
 use Rattle.ea_model.specs.Units.{need_of}
 use Rattle.ea_sound.proofs.Asked.{named-spot}
 use Rattle.ea_sched.specs.Acting.{ready_of, setup_for}
-use Rattle.ea_sched.specs.Asking.{Moves}
+use Rattle.ea_sched.specs.Asking.{Lies}
 use Rattle.ea_sched.proofs.Acts.{made-as}
 use Rattle.ea_sched.proofs.state.Scheduler.realloc.Goals as goal
 
@@ -13,12 +13,12 @@ reallocate-requires-clause-held c =
     named-spot c.args.old c.in-Some.spot c.args.self.now.names.held
     (sym c.spot_of.ensures ∙ c.in-Some.is)
 
-pub reallocate-requires-clause-away : goal.reallocate-requires-clause-away
-reallocate-requires-clause-away c =
+pub reallocate-requires-clause-lies : goal.reallocate-requires-clause-lies
+reallocate-requires-clause-lies c =
     let s = c.args.self.now in
     let held = named-spot c.args.old c.in-Some.spot s.names.held
     (sym c.spot_of.ensures ∙ c.in-Some.is) in
-    subst (λ o. IfSome o (Moves s.instance s)) held c.requires.away
+    subst (λ o. IfSome o (Lies s.instance)) held c.requires.lies
 
 pub returns-in-Some-clause-actor : goal.returns-in-Some-clause-actor
 returns-in-Some-clause-actor c =

@@ -5,17 +5,18 @@ use Rattle.ea_model.specs.Instance.{decision_at, resized_by, resized_to}
 use Rattle.ea_machine.specs.Nodes.{spot_named, with_name}
 use Rattle.ea_machine.specs.Placements.{seek}
 use Rattle.ea_sched.specs.Acting.{ready_of, setup_for}
+use Rattle.ea_sched.proofs.Placing.{foreign-moves}
 use Rattle.ea_sched.proofs.Acts.{kept-resized, made-as, unheld-let_go}
 use Rattle.ea_sound.proofs.Paths.{moves, resized}
 use Rattle.ea_sched.proofs.state.Scheduler.reallocate.Goals as goal
 
-pub returns-then-employer_of-self-clause-actor : goal.returns-then-employer_of-self-clause-actor
-returns-then-employer_of-self-clause-actor c =
+pub returns-then-employs-clause-actor : goal.returns-then-employs-clause-actor
+returns-then-employs-clause-actor c =
     let s = c.args.self.now in
     let old = c.args.old in
     let need = c.args.need in
-    let goes : decision_at s.instance old.spot need ≡ Move =
-    c.requires.away (λ e. c.if-employer_of-self.true (c.employer_of.ensures ∙ e)) need in
+    let goes = foreign-moves s.instance old.spot need c.stands.ensures.stands.orderly
+    (sym c.employs.ensures ∙ c.if-employs.false) in
     made-as c.seek.result _ c.seek.ensures.actor
     (sym (moves (setup_for s) s.number (ready_of s) old c.args.fresh need goes))
 

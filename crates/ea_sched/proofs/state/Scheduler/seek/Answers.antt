@@ -2,10 +2,12 @@ use Rattle.std.proofs.Common.{refl, sym, ap, subst, ◌∙◌}
 use Rattle.std.specs.Prelude.{IfSome, IsSome}
 use Rattle.ea_model.specs.Instance.{Instance, chosen_spot, employed, own_at}
 use Rattle.ea_laws.specs.Spots.{IsPlaced}
-use Rattle.ea_machine.specs.Placements.{new_carrier}
+use Rattle.ea_machine.specs.Placements.{search_if}
+use Rattle.ea_machine.specs.Setup.{migration}
 use Rattle.ea_sched.specs.Acting.{ready_of, setup_for}
 use Rattle.ea_sched.proofs.Acts.{chosen-place, made-as, stood-placed, unplaced}
-use Rattle.ea_sound.proofs.Paths.{seek-chosen, seek-new}
+use Rattle.ea_sound.proofs.Paths.{seek-chosen}
+use Rattle.ea_sched.proofs.Placing.{seek-beyond}
 use Rattle.ea_sched.proofs.OwnCarriers.{asked-again, placed-block, placing-own}
 use Rattle.ea_sched.proofs.state.Scheduler.seek.Goals as goal
 
@@ -25,14 +27,15 @@ returns-in-Some-clause-actor c =
 pub returns-in-None-clause-actor : goal.returns-in-None-clause-actor
 returns-in-None-clause-actor c =
     let s = c.args.self.now in
+    let e = setup_for s in
     let ask = c.args.ask in
     let (none, same) = unplaced s.instance c.try_alloc.new.self
     (chosen_spot s.instance ask.need) ask.need ask.name
     (sym c.in_ok-place.ensures.place ∙ c.in-None.is) c.in_ok-place.ensures.ok in
-    made-as c.seek_new-in-None.result _ c.seek_new-in-None.ensures.actor
-    (ap (λ i. new_carrier (setup_for s) s.number ask 0 (record (ready_of s) { instance = i })) same
-    ∙ sym (seek-new (setup_for s) s.number (ready_of s) ask
-    c.requires.off (sym c.is_alone.ensures ∙ c.if-is_alone.false) none))
+    made-as c.seek_beyond.result _ c.seek_beyond.ensures.actor
+    (ap (λ i. search_if e s.number ask (record (ready_of s) { instance = i }) (migration e)) same
+    ∙ sym (seek-beyond e s.number (ready_of s) ask
+    (sym c.is_alone.ensures ∙ c.if-is_alone.false) none))
 
 pub stand-requires-clause-asked : goal.stand-requires-clause-asked
 stand-requires-clause-asked c =
@@ -42,7 +45,7 @@ stand-requires-clause-asked c =
     let placed = subst
     (λ o. IfSome o (λ place. IsPlaced (employed s.instance) (employed new) ask.name place))
     c.in-Some.is c.in_ok-place.ensures.blocks in
-    asked-again s _ refl refl s.instance new
+    asked-again s _ refl refl refl s.instance new
     (placed-block (employed s.instance) (employed new) ask.name c.in-Some.place placed)
     (λ n is. subst (λ os. IsSome (own_at os n))
     (sym (ap (λ (i : Instance). i.own) c.in_ok-place.ensures.ok

@@ -1,0 +1,168 @@
+-- What the placing of a block makes of an actor, by what it changes.
+use Rattle.std.proofs.Common.{◌≡◌, ◌≢◌, ℕ, ◌-◌, ◌&&◌, Bool, true, false, refl, sym, ap, ◌∙◌}
+use Rattle.std.specs.Prelude.{Option, None, Some, Result, Ok, Err, is_some, nat_lt}
+use Rattle.std.specs.Prelude.{if◌then◌else◌}
+use Rattle.ea_model.specs.declared.carriers.CarrierPlan.{CarrierPlan}
+use Rattle.ea_model.specs.declared.carriers.Place.{Place}
+use Rattle.ea_model.specs.declared.carriers.Spot.{Spot}
+use Rattle.ea_model.specs.declared.entries.NoCarrier.{NoCarrier}
+use Rattle.ea_model.specs.declared.reallocation.Decision.{Decision}
+use Rattle.ea_model.specs.declared.reallocation.Decision.TheVariants.{Stay, ShrinkHere, GrowHere}
+use Rattle.ea_model.specs.declared.reallocation.Decision.TheVariants.{ShrinkCarrier, Move}
+use Rattle.ea_model.specs.declared.units.TheConstants.{SEARCH_LIMIT}
+use Rattle.ea_model.specs.Content.{Content}
+use Rattle.ea_model.specs.Employment.{employing}
+use Rattle.ea_model.specs.Instance.{Instance, chosen_spot, creating, creating_single, decision_at}
+use Rattle.ea_model.specs.Instance.{employed, has_content, is_alone, place_at, placing_at, plan}
+use Rattle.ea_model.specs.Instance.{single_place}
+use Rattle.ea_laws.specs.Kept.{IsOrderly}
+use Rattle.ea_laws.proofs.Orderly.{stays-employed}
+use Rattle.ea_machine.specs.declared.asks.Ask.{Ask}
+use Rattle.ea_machine.specs.declared.nodes.Named.{Named}
+use Rattle.ea_machine.specs.declared.owners.OwnerWord.{OwnerWord}
+use Rattle.ea_machine.specs.declared.stages.Route.TheVariants.{Looking}
+use Rattle.ea_machine.specs.declared.stages.Stage.TheVariants.{Creating, Fetching, Routed}
+use Rattle.ea_machine.specs.declared.tasks.Gone.TheVariants.{Open}
+use Rattle.ea_machine.specs.declared.tasks.Task.{Task}
+use Rattle.ea_machine.specs.declared.tasks.Task.TheVariants.{Moving}
+use Rattle.ea_machine.specs.declared.tasks.Why.TheVariants.{For}
+use Rattle.ea_machine.specs.Actor.{Actor}
+use Rattle.ea_machine.specs.Machine.{onward}
+use Rattle.ea_machine.specs.Placements.{chosen_by, counted, created, created_by, fetched, fits}
+use Rattle.ea_machine.specs.Placements.{holding, making, new_carrier, new_carrier_by, placed_by}
+use Rattle.ea_machine.specs.Placements.{placed_in_choice, saw_by, search_at, search_if, searched}
+use Rattle.ea_machine.specs.Placements.{searched_by, seek, seek_by, spot_of_place, stands}
+use Rattle.ea_machine.specs.Releases.{routed}
+use Rattle.ea_machine.specs.Rows.{Saw, Won}
+use Rattle.ea_machine.specs.Setup.{Setup, greatest_number, migration}
+use Rattle.ea_machine.specs.Tasks.{carried, hands_over, let_go, task_over}
+use Rattle.ea_machine.specs.Walks.{ready}
+use Rattle.ea_search.specs.declared.search.Search.{Search}
+use Rattle.ea_search.specs.Looks.{next_number}
+
+-- a block whose carrier isn't employed here is to move where it is reallocated
+pub foreign-moves : (i : Instance) (spot : Spot) (need : ℕ) → IsOrderly i
+    → has_content spot.carrier (employed i) ≡ false → decision_at i spot need ≡ Move
+foreign-moves i spot need order other = by (decision_at i spot need) refl where
+  never : decision_at i spot need ≢ Move → ⊥
+  never stays =
+      let (x, there) = stays-employed i spot need order stays in
+      let no : true ≡ false = sym (ap is_some there) ∙ other in cc
+
+  by : (d : Decision) → decision_at i spot need ≡ d → decision_at i spot need ≡ Move
+  by Stay e = absurd (never (λ q. let no : Stay ≡ Move = sym e ∙ q in cc))
+  by ShrinkHere e = absurd (never (λ q. let no : ShrinkHere ≡ Move = sym e ∙ q in cc))
+  by GrowHere e = absurd (never (λ q. let no : GrowHere ≡ Move = sym e ∙ q in cc))
+  by (ShrinkCarrier pages) e =
+      absurd (never (λ q. let no : ShrinkCarrier pages ≡ Move = sym e ∙ q in cc))
+  by Move e = e
+
+-- a number is next exactly if the search goes on
+looks-by : (b : Bool) (x n : ℕ) → (if b then Some x else None) ≡ Some n → b ≡ true
+looks-by true x n e = refl
+looks-by false x n e = absurd cc
+
+ends-by : (b : Bool) (x : ℕ) → (if b then Some x else None) ≡ None → b ≡ false
+ends-by true x e = absurd cc
+ends-by false x e = refl
+
+at-by : (b : Bool) (x n : ℕ) → (if b then Some x else None) ≡ Some n → n ≡ x
+at-by true x n e = cc
+at-by false x n e = absurd cc
+
+pub next-at : (s : Search) (n : ℕ) → next_number s ≡ Some n → n ≡ s.at
+next-at s n = at-by (nat_lt 0 s.at && nat_lt s.looked SEARCH_LIMIT) s.at n
+
+pub next-looks : (s : Search) (n : ℕ) → next_number s ≡ Some n
+    → (nat_lt 0 s.at && nat_lt s.looked SEARCH_LIMIT) ≡ true
+next-looks s n = looks-by (nat_lt 0 s.at && nat_lt s.looked SEARCH_LIMIT) s.at n
+
+pub next-ends : (s : Search) → next_number s ≡ None
+    → (nat_lt 0 s.at && nat_lt s.looked SEARCH_LIMIT) ≡ false
+next-ends s = ends-by (nat_lt 0 s.at && nat_lt s.looked SEARCH_LIMIT) s.at
+
+-- where carriers migrate
+module _ (e : Setup) (me : ℕ) (on : migration e ≡ true) where
+  -- a block that is handed over is to be looked at
+  pub handed-on : (task : Task) (h : Named) (a : Actor) → hands_over e me task h a
+      ≡ record (let_go h.name a) { stage = Routed (Looking h) (For task) Open }
+  handed-on task h a =
+      ap (λ m. carried (For task) (task_over task) (routed e me m h (let_go h.name a))) on
+
+  -- a block that finds a place after a row ends its step as it would at the begin
+  onward-stands : (name : ℕ) (p : Place) (old : Option Named) (a : Actor)
+      → onward e me (stands e me name p old a) ≡ stands e me name p old (ready a)
+  onward-stands name p None a = refl
+  onward-stands name p (Some old) a =
+      ap (onward e me) (handed-on (Moving old.name name p) old a)
+      ∙ sym (handed-on (Moving old.name name p) old (ready a))
+
+  module _ (ask : Ask) where
+    onward-placed : (a : Actor) (o : Option Spot)
+        → onward e me (placed_by e me ask a o) ≡ placed_by e me ask (ready a) o
+    onward-placed a None = refl
+    onward-placed a (Some spot) = onward-stands ask.name (place_at a.instance spot ask.need) ask.old
+        (holding ask.name spot
+        (record a { instance = placing_at a.instance spot ask.need ask.name }))
+
+    onward-chosen : (a : Actor) → onward e me (placed_in_choice e me ask a)
+        ≡ placed_in_choice e me ask (ready a)
+    onward-chosen a = onward-placed a (chosen_spot a.instance ask.need)
+
+    -- a carrier was fetched
+    pub onward-won : (a : Actor) (at looked : ℕ) (x : Content)
+        → onward e me (fetched e me ask at looked a (Won x))
+        ≡ placed_in_choice e me ask (record (ready a) { instance = employing a.instance x })
+    onward-won a at looked x = onward-chosen (record a { instance = employing a.instance x })
+
+    -- a carrier was created
+    created-by : (p : CarrierPlan) (a : Actor) (single : Bool)
+        → onward e me (created_by e me ask p a single) ≡ created_by e me ask p (ready a) single
+    created-by p a true = onward-stands ask.name (single_place p ask.need) ask.old
+        (holding ask.name (spot_of_place (single_place p ask.need))
+        (record a { instance = creating_single a.instance p ask.need ask.name }))
+    created-by p a false = onward-chosen (record a { instance = creating a.instance p })
+
+    pub onward-created : (p : CarrierPlan) (a : Actor)
+        → onward e me (created e me ask p a) ≡ created e me ask p (ready a)
+    onward-created p a = created-by p a p.single
+
+    new-by : (looked : ℕ) (a : Actor) (r : Result CarrierPlan NoCarrier)
+        → onward e me (new_carrier_by e me ask looked a r) ≡ new_carrier_by e me ask looked (ready a) r
+    new-by looked a (Ok p) = ap (λ m. onward e me (making e me ask p a m)) on
+        ∙ sym (ap (making e me ask p (ready a)) on)
+    new-by looked a (Err why) = refl
+
+    -- the search goes on
+    searched-by : (at looked : ℕ) (a : Actor) (b : Bool)
+        → onward e me (searched_by e me ask at looked a b)
+        ≡ searched_by e me ask at looked (ready a) b
+    searched-by at looked a true = refl
+    searched-by at looked a false = new-by looked a (plan a.instance ask.need)
+
+    pub onward-search : (at looked : ℕ) (a : Actor)
+        → onward e me (search_at e me ask at looked a) ≡ search_at e me ask at looked (ready a)
+    onward-search at looked a =
+        searched-by at looked a (nat_lt 0 at && nat_lt looked SEARCH_LIMIT)
+
+    -- it saw a word that fits
+    pub onward-try : (at looked : ℕ) (a : Actor) (w : OwnerWord) → fits ask.need w ≡ true
+        → onward e me (searched e me ask at looked a (Saw w))
+        ≡ record a { stage = Fetching ask at (counted w looked) w }
+    onward-try at looked a w fit =
+        ap (λ b. onward e me (saw_by e me ask at (counted w looked) a w b)) fit
+
+    -- or one that doesn't
+    pub onward-skip : (at looked : ℕ) (a : Actor) (w : OwnerWord) → fits ask.need w ≡ false
+        → onward e me (searched e me ask at looked a (Saw w))
+        ≡ search_at e me ask (at - 1) (counted w looked) (ready a)
+    onward-skip at looked a w other =
+        ap (λ b. onward e me (saw_by e me ask at (counted w looked) a w b)) other
+        ∙ onward-search (at - 1) (counted w looked) a
+
+-- nothing is chosen among the employed carriers
+pub seek-beyond : (e : Setup) (me : ℕ) (a : Actor) (ask : Ask)
+    → is_alone a.instance ask.need ≡ false → chosen_spot a.instance ask.need ≡ None
+    → seek e me ask a ≡ search_if e me ask a (migration e)
+seek-beyond e me a ask shared none =
+    ap (seek_by e me ask a) shared ∙ ap (chosen_by e me ask a) none
