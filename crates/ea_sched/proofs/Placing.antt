@@ -128,7 +128,8 @@ module _ (e : Setup) (me : ℕ) (on : migration e ≡ true) where
     onward-created p a = created-by p a p.single
 
     new-by : (looked : ℕ) (a : Actor) (r : Result CarrierPlan NoCarrier)
-        → onward e me (new_carrier_by e me ask looked a r) ≡ new_carrier_by e me ask looked (ready a) r
+        → onward e me (new_carrier_by e me ask looked a r)
+        ≡ new_carrier_by e me ask looked (ready a) r
     new-by looked a (Ok p) = ap (λ m. onward e me (making e me ask p a m)) on
         ∙ sym (ap (making e me ask p (ready a)) on)
     new-by looked a (Err why) = refl

@@ -10,13 +10,13 @@ use Rattle.ea_sched.proofs.Acts.{kept-resized, made-as, unheld-let_go}
 use Rattle.ea_sound.proofs.Paths.{moves, resized}
 use Rattle.ea_sched.proofs.state.Scheduler.reallocate.Goals as goal
 
-pub returns-then-employs-clause-actor : goal.returns-then-employs-clause-actor
-returns-then-employs-clause-actor c =
+pub returns-then-not-employs-clause-actor : goal.returns-then-not-employs-clause-actor
+returns-then-not-employs-clause-actor c =
     let s = c.args.self.now in
     let old = c.args.old in
     let need = c.args.need in
     let goes = foreign-moves s.instance old.spot need c.stands.ensures.stands.orderly
-    (sym c.employs.ensures ∙ c.if-employs.false) in
+    (sym c.employs.ensures ∙ c.if-not-employs.true) in
     made-as c.seek.result _ c.seek.ensures.actor
     (sym (moves (setup_for s) s.number (ready_of s) old c.args.fresh need goes))
 
