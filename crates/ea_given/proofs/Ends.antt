@@ -21,13 +21,12 @@ use Rattle.ea_machine.specs.Setup.{Setup, migration, setup_of}
 use Rattle.ea_machine.specs.State.{State}
 use Rattle.ea_sound.proofs.Completing.{ending-others}
 use Rattle.ea_sound.proofs.TurnLists.{run-append, step-other}
-use Rattle.ea_shared.specs.Memory.{Sharing, nothing_shared, shared_of}
+use Rattle.ea_shared.specs.Memory.{Sharing, shared_of}
 use Rattle.ea_sched.specs.declared.state.Scheduler.{Scheduler}
 use Rattle.ea_sched.specs.Acting.{actor_of, setup_for}
 use Rattle.ea_outcome.specs.Resting.{StandIn}
 use Rattle.ea_given.specs.Running.{AllStand, AllStandAt, AllTook, CompletesTo}
 use Rattle.ea_given.specs.Running.{SharesAt, Stands, StandsAt, Took}
-use Rattle.ea_given.proofs.Running.{start-nothing}
 
 -- turns of one scheduler leave the others as they are
 pub replicate-others : (e : Setup) (me n j : ℕ) (w : State) → j ≢ me
@@ -207,19 +206,21 @@ module _ (c : Config) (t : Trace) where
         none : (n : ℕ) → n - n ≡ 0
         none n = omega arith
 
-  -- nothing is shared there
-  pub start-shares : (m : Sharing) → IsValidConfig c
-      → IsValidTrace c.schedulers t → migration (setup_of c t) ≡ false
+  -- what is shared there
+  pub start-shares : (m : Sharing) → IsValidConfig c → IsValidTrace c.schedulers t
+      → migration (setup_of c t) ≡ false
       → m.schedulers ≡ c.schedulers → m.greatest ≡ t.greatest
-      → shared_of m ≡ nothing_shared → SharesAt c t m (start (setup_of c t))
-  start-shares m config trace off made names nothing = record {
+      → m.migrates ≡ migration (setup_of c t) → shared_of m ≡ (start (setup_of c t)).shared
+      → SharesAt c t m (start (setup_of c t))
+  start-shares m config trace off made names moves shares = record {
     config = config;
     trace = trace;
     off = off;
     made = made;
     names = names;
+    moves = moves;
     reached = ([], refl);
-    shares = nothing ∙ start-nothing (setup_of c t) off;
+    shares = shares;
   }
 
   -- the schedulers of a state are those that are printed

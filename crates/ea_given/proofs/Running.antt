@@ -25,7 +25,7 @@ use Rattle.ea_machine.specs.Table.{answer, effect}
 use Rattle.ea_sound.proofs.Asked.{reached-rule}
 use Rattle.ea_sound.proofs.Completing.{ending-none, ending-one, reached-step, rule-less}
 use Rattle.ea_sound.proofs.TurnLists.{ended-or, run-append, step-ended, step-mine, step-shared}
-use Rattle.ea_shared.specs.Memory.{Sharing, nothing_shared, shared_of}
+use Rattle.ea_shared.specs.Memory.{Sharing, shared_of}
 use Rattle.ea_sched.specs.declared.state.Scheduler.{Scheduler}
 use Rattle.ea_sched.specs.Acting.{actor_of, is_ended, setup_for}
 use Rattle.ea_given.specs.Running.{LeadsTo, SharesAt, Stands, StandsAt, Took, alone_in, work_left}
@@ -44,12 +44,6 @@ ended-is (Giving given to) is = absurd cc
 ended-is (Taking name tries left) is = absurd cc
 ended-is Ended is = refl
 ended-is Ready is = absurd cc
-
--- where carriers don't migrate nothing is shared at the start
-pub start-nothing : (e : Setup) → migration e ≡ false → nothing_shared ≡ (start e).shared
-start-nothing e off =
-    ap (λ (f : ℕ → CarrierAt). record { places = f; queues = λ i. []; rests = λ i. []; given = [] })
-    (fun_ext (λ n. sym (ap (λ on. place_by e (on && is_main e (owner_of n) n) (owner_of n)) off)))
 
 -- a step of a scheduler is the same from each state in which it and what is shared are the same
 module _ (e : Setup) (me : ℕ) (v w : State) (same : v.actors me ≡ w.actors me)
@@ -141,15 +135,19 @@ module _ (c : Config) (t : Trace) (me : ℕ) (s : Scheduler) (w : State)
     pub stands-off : migration (setup_for s) ≡ false
     stands-off = as-run (λ d u k. migration (setup_of d u) ≡ false) shares.off
 
+    -- carriers migrate in the memory exactly if they do in its run
+    pub stands-moves : m.migrates ≡ migration (setup_for s)
+    stands-moves = as-run (λ d u k. m.migrates ≡ migration (setup_of d u)) shares.moves
+
     -- and stands in the next state after it
     pub stepped-stands : (u : Scheduler) (n : Sharing) → u.config ≡ s.config
         → u.trace ≡ s.trace → u.number ≡ s.number
-        → n.schedulers ≡ m.schedulers → n.greatest ≡ m.greatest
+        → n.schedulers ≡ m.schedulers → n.greatest ≡ m.greatest → n.migrates ≡ m.migrates
         → u.failed ≡ false
         → Stepped s.config s.trace.now s.number (actor_of s) (actor_of u) (Some (shared_of m))
         (Some (shared_of n)) None None
         → (let v = step (setup_of c t) w me in SharesAt c t n v × StandsAt c t me u v)
-    stepped-stands u n config trace number made names going stepped =
+    stepped-stands u n config trace number made names moves going stepped =
         let e = setup_of c t in
         let v = step e w me in
         let took = of-run (λ d x k. Stepped d x k (actor_of s) (actor_of u) (Some (shared_of m))
@@ -163,6 +161,7 @@ module _ (c : Config) (t : Trace) (me : ℕ) (s : Scheduler) (w : State)
             off = shares.off;
             made = made ∙ shares.made;
             names = names ∙ shares.names;
+            moves = moves ∙ shares.moves;
             reached = reached-step e w me shares.reached;
             shares = became ∙ alike.1;
           },

@@ -22,6 +22,7 @@ module _ (c : Config) (t : Trace) where
     pub off : migration (setup_of c t) ≡ false
     pub made : shared.schedulers ≡ c.schedulers
     pub names : shared.greatest ≡ t.greatest
+    pub moves : shared.migrates ≡ migration (setup_of c t)
     pub reached : IsReached (setup_of c t) state
     pub shares : shared_of shared ≡ state.shared
 

@@ -1,11 +1,11 @@
 -- A scheduler in a run, and its step there.
-use Rattle.std.specs.Prelude.{◌≡◌, ◌⊎◌, ℕ, Option, None, Some, IfSome, IsSome}
+use Rattle.std.specs.Prelude.{◌≡◌, ◌⊎◌, ℕ, Bool, Option, None, Some, IfSome, IsSome}
 use Rattle.ea_model.specs.declared.settings.Config.{Config}
 use Rattle.ea_model.specs.declared.trace.Trace.{Trace}
 use Rattle.ea_model.specs.Content.{Content}
 use Rattle.ea_model.specs.Settings.{IsValidConfig}
 use Rattle.ea_model.specs.Trace.{IsValidTrace}
-use Rattle.ea_machine.specs.Setup.{setup_of}
+use Rattle.ea_machine.specs.Setup.{migration, setup_of}
 use Rattle.ea_machine.specs.Shared.{Shared}
 use Rattle.ea_machine.specs.declared.stages.Stage.{Stage}
 use Rattle.ea_machine.specs.Actor.{Actor}
@@ -56,11 +56,12 @@ abbrev pub IsReady : Scheduler → Option Shared → Option Caller → Type 0
 IsReady s shared caller = IsReadyAt s.stage s shared caller
 
 -- the scheduler, at the stage, is to do its row on what is shared, which is of that many schedulers
--- and of names up to a greatest one
-pub record StartsRow (stage : Stage Content) (s : Scheduler) (count last : ℕ) (shared : Option Shared)
-    (caller : Option Caller) : Type 0 where
+-- and of names up to a greatest one, and whose carriers migrate exactly if the scheduler's do
+pub record StartsRow (stage : Stage Content) (s : Scheduler) (count last : ℕ) (moves : Bool)
+    (shared : Option Shared) (caller : Option Caller) : Type 0 where
   pub schedulers : count ≡ s.config.schedulers
   pub greatest : last ≡ s.trace.now.greatest
+  pub migrates : moves ≡ migration (setup_for s)
   pub ready : IsReadyAt stage s shared caller
 
 -- the row that the scheduler wanted at the stage was done, and it has gone on by the answer, up to

@@ -21,8 +21,8 @@ impl<'t> Scheduler<'t> {
         shared: &mut S,
     ) -> Result<(), OutOfMemory>
         requires starts { StartsRow stage.Begin self.old
-            (S.schedulers shared.old) (S.greatest shared.old) (S.shared shared.old)
-            (S.caller shared.old) }
+            (S.schedulers shared.old) (S.greatest shared.old) (S.migrates shared.old)
+            (S.shared shared.old) (S.caller shared.old) }
         requires stage { self.old.stage ≡ stage.Begin }
         requires next { self.old.next ≡ None }
         requires off { migration (setup_for self.old) ≡ false }
@@ -50,8 +50,8 @@ impl<'t> Scheduler<'t> {
         node: Node,
     ) -> Result<(), OutOfMemory>
         requires starts { StartsRow stage.Begin self.old
-            (S.schedulers shared.old) (S.greatest shared.old) (S.shared shared.old)
-            (S.caller shared.old) }
+            (S.schedulers shared.old) (S.greatest shared.old) (S.migrates shared.old)
+            (S.shared shared.old) (S.caller shared.old) }
         requires stage { self.old.stage ≡ stage.Begin }
         requires next { self.old.next ≡ Some node }
         requires off { migration (setup_for self.old) ≡ false }
@@ -87,8 +87,8 @@ impl<'t> Scheduler<'t> {
         gone: Gone,
     )
         requires starts { StartsRow (stage.Routed (route.Pushing node to) why gone) self.old
-            (S.schedulers shared.old) (S.greatest shared.old) (S.shared shared.old)
-            (S.caller shared.old) }
+            (S.schedulers shared.old) (S.greatest shared.old) (S.migrates shared.old)
+            (S.shared shared.old) (S.caller shared.old) }
         ensures stays { S.stays shared.old shared.new }
         ensures same { IsSame self.old self.new }
         ensures row { DidRow (stage.Routed (route.Pushing node to) why gone) self.old self.new
@@ -112,8 +112,8 @@ impl<'t> Scheduler<'t> {
         gone: Gone,
     ) -> Result<(), OutOfMemory>
         requires starts { StartsRow (stage.Routed (route.Linking node to) why gone) self.old
-            (S.schedulers shared.old) (S.greatest shared.old) (S.shared shared.old)
-            (S.caller shared.old) }
+            (S.schedulers shared.old) (S.greatest shared.old) (S.migrates shared.old)
+            (S.shared shared.old) (S.caller shared.old) }
         requires off { migration (setup_for self.old) ≡ false }
         ensures stays { S.stays shared.old shared.new }
         ensures same { IsSame self.old self.new }
@@ -134,8 +134,8 @@ impl<'t> Scheduler<'t> {
     /// A held name is given, to whoever takes it.
     pub(crate) fn give<S: Shared<Content = Mbc>>(&mut self, shared: &mut S, given: Named, to: u32)
         requires starts { StartsRow (stage.Giving given to) self.old
-            (S.schedulers shared.old) (S.greatest shared.old) (S.shared shared.old)
-            (S.caller shared.old) }
+            (S.schedulers shared.old) (S.greatest shared.old) (S.migrates shared.old)
+            (S.shared shared.old) (S.caller shared.old) }
         ensures stays { S.stays shared.old shared.new }
         ensures same { IsSame self.old self.new }
         ensures row { DidRow (stage.Giving given to) self.old self.new
@@ -155,8 +155,8 @@ impl<'t> Scheduler<'t> {
         left: u32,
     )
         requires starts { StartsRow (stage.Taking name tries left) self.old
-            (S.schedulers shared.old) (S.greatest shared.old) (S.shared shared.old)
-            (S.caller shared.old) }
+            (S.schedulers shared.old) (S.greatest shared.old) (S.migrates shared.old)
+            (S.shared shared.old) (S.caller shared.old) }
         ensures stays { S.stays shared.old shared.new }
         ensures same { IsSame self.old self.new }
         ensures row { DidRow (stage.Taking name tries left) self.old self.new

@@ -1,8 +1,8 @@
 //! A step of a scheduler.
 ghost use Rattle.std.specs.Prelude.{◌≡◌, ◌≢◌, ◌↔◌, true, false, [], IfOk, OnErr, OnOk, Ok, Err};
 ghost use Rattle.ea_machine.specs.declared.stages.Stage.TheVariants as stage;
-ghost use Rattle.ea_machine.specs.Statistics as statistics;
 ghost use Rattle.ea_machine.specs.Setup.{migration};
+ghost use Rattle.ea_machine.specs.Statistics as statistics;
 ghost use Rattle.ea_sched.specs.Acting.{IsSame, actor_of, is_ended, setup_for};
 ghost use Rattle.ea_sched.specs.declared.step.Progress.TheVariants as progress;
 ghost use Rattle.ea_sched.specs.Steps.{DidRow, IsReady, StartsRow, Stepped};
@@ -42,8 +42,8 @@ impl<'t> Scheduler<'t> {
         shared: &mut S,
     ) -> Result<(), OutOfMemory>
         requires starts { StartsRow self.old.stage self.old
-            (S.schedulers shared.old) (S.greatest shared.old) (S.shared shared.old)
-            (S.caller shared.old) }
+            (S.schedulers shared.old) (S.greatest shared.old) (S.migrates shared.old)
+            (S.shared shared.old) (S.caller shared.old) }
         requires goes { is_ended self.old.stage ≡ false }
         requires off { migration (setup_for self.old) ≡ false }
         ensures stays { S.stays shared.old shared.new }
@@ -86,6 +86,7 @@ impl<'t> Scheduler<'t> {
     ) -> Result<Progress, OutOfMemory>
         requires schedulers { S.schedulers shared.old ≡ self.old.config.schedulers }
         requires greatest { S.greatest shared.old ≡ self.old.trace.now.greatest }
+        requires migrates { S.migrates shared.old ≡ migration (setup_for self.old) }
         requires off { migration (setup_for self.old) ≡ false }
         requires ready { self.old.failed ≡ false
             → IsReady self.old (S.shared shared.old) (S.caller shared.old) }

@@ -1,14 +1,23 @@
 //! The steps that a scheduler takes on what is shared.
-ghost use Rattle.std.specs.Prelude.{◌≡◌, ℕ, ◌≤◌, [], Option, None, Some, IfSome};
+ghost use Rattle.std.specs.Prelude.{◌≡◌, ◌≢◌, ℕ, ◌≤◌, true, [], Option, None, Some, IfSome};
+ghost use Rattle.ea_model.specs.Content.{Content};
+ghost use Rattle.ea_model.specs.Instance.{owner_of};
 ghost use Rattle.ea_machine.specs.Alike.{HasNoAlike, IsNode, IsSpot};
 ghost use Rattle.ea_machine.specs.Guards.{IsUnlinkedAt};
 ghost use Rattle.ea_machine.specs.Nodes.{first_node, spot_named};
-ghost use Rattle.ea_machine.specs.Rows.{Done, Give, Got, Head, Push, TakeAll, TakeLink, TakeTry};
+ghost use Rattle.ea_machine.specs.Owners as owners;
+ghost use Rattle.ea_machine.specs.Rows.{Abandon, BusyTry, Clear, Create, Done, FetchTry, Give};
+ghost use Rattle.ea_machine.specs.Rows.{Got, Head, Home, Look, Push, Saw, SendHome, Settle};
+ghost use Rattle.ea_machine.specs.Rows.{TakeAll, TakeLink, TakeTry};
 ghost use Rattle.ea_machine.specs.Rows as rows;
 ghost use Rattle.ea_queues.specs.Links.{told_by};
+ghost use Rattle.ea_shared.specs.Carriers as carriers;
+ghost use Rattle.ea_shared.specs.Carriers.{HasReturned, IsCarrier, IsCollecting, IsEmptied};
+ghost use Rattle.ea_shared.specs.Carriers.{IsFor, IsLeaving, IsPooled, IsPooledBy, SettlesEmptied};
 ghost use Rattle.ea_shared.specs.Calls.{Did, IsWanted};
 
-use ea_machine::Node;
+use crate::tried::Tried;
+use ea_machine::{Node, OwnerWord};
 use ea_model::{Carried, Spot};
 use ea_queues::Link;
 
@@ -16,7 +25,7 @@ use ea_queues::Link;
 /// call takes memory, and none fails. An object may tell what is shared, as plain memory does, or
 /// the caller, as a scheduler's seat does where others step beside it.
 pub trait Shared {
-    ghost use Rattle.std.specs.Prelude.{◌≡◌, ℕ, Option};
+    ghost use Rattle.std.specs.Prelude.{◌≡◌, ℕ, Bool, Option};
     ghost use Rattle.ea_machine.specs.Shared as machine;
     ghost use Rattle.ea_shared.specs.Calls.{Caller};
 
@@ -28,6 +37,9 @@ pub trait Shared {
 
     // the greatest name of a block
     ghost greatest: { Self → ℕ };
+
+    // whether carriers migrate
+    ghost migrates: { Self → Bool };
 
     // what is shared, where that is told
     ghost shared: { Self → Option machine.Shared };
@@ -60,6 +72,130 @@ pub trait Shared {
         ensures stays { stays self.old self.new }
         ensures row { Did me TakeLink (told_by result) (shared self.old) (shared self.new)
             (caller self.old) (caller self.new) };
+
+    /// Reads the owner word of a carrier.
+    fn look(&mut self, me: u32, carrier: u32) -> OwnerWord
+        requires scheduler { (1 ≤ me) × (me ≤ schedulers self.old) }
+        requires migrates { migrates self.old ≡ true }
+        requires carrier { IsCarrier (schedulers self.old) carrier }
+        requires wanted { IsWanted me (Look carrier) (caller self.old) }
+        ensures stays { stays self.old self.new }
+        ensures row { Did me (Look carrier) (Saw result) (shared self.old) (shared self.new)
+            (caller self.old) (caller self.new) };
+
+    /// Makes a carrier busy that `me` has in the pool, if its owner word is still the one seen:
+    /// then its content comes to the caller.
+    fn busy_try(&mut self, me: u32, carrier: u32, seen: OwnerWord) -> Tried<Self::Content>
+        requires scheduler { (1 ≤ me) × (me ≤ schedulers self.old) }
+        requires migrates { migrates self.old ≡ true }
+        requires carrier { IsCarrier (schedulers self.old) carrier }
+        requires seen { IsPooledBy me seen }
+        requires wanted { IsWanted me (BusyTry carrier seen) (caller self.old) }
+        ensures stays { stays self.old self.new }
+        ensures row { Did me (BusyTry carrier seen) (carriers.told_by Self.Content.content result)
+            (shared self.old) (shared self.new) (caller self.old) (caller self.new) };
+
+    /// Puts a busy carrier back into the pool, with its content, whose largest gap has that many
+    /// units.
+    fn settle_pooled(&mut self, me: u32, carrier: u32, content: Self::Content, largest: u32)
+        requires scheduler { (1 ≤ me) × (me ≤ schedulers self.old) }
+        requires migrates { migrates self.old ≡ true }
+        requires carrier { IsCarrier (schedulers self.old) carrier }
+        requires content { IsFor carrier largest (Self.Content.content content) }
+        requires busy { IfSome (shared self.old) (λ s. s.places carrier ≡ owners.Busy me) }
+        requires wanted { IsWanted me (Settle (Self.Content.content content)) (caller self.old) }
+        ensures stays { stays self.old self.new }
+        ensures row { Did me (Settle (Self.Content.content content)) Done (shared self.old)
+            (shared self.new) (caller self.old) (caller self.new) };
+
+    /// Employs a busy carrier that has no blocks; its content stays with the caller.
+    fn settle_employed(&mut self, me: u32, carrier: u32)
+        requires scheduler { (1 ≤ me) × (me ≤ schedulers self.old) }
+        requires migrates { migrates self.old ≡ true }
+        requires carrier { IsCarrier (schedulers self.old) carrier }
+        requires busy { IfSome (shared self.old) (λ s. s.places carrier ≡ owners.Busy me) }
+        requires wanted { IfSome (caller self.old) (SettlesEmptied me carrier) }
+        ensures stays { stays self.old self.new }
+        ensures row { (x : Content) → IsEmptied carrier x → IsWanted me (Settle x) (caller self.old)
+            → Did me (Settle x) Done (shared self.old) (shared self.new) (caller self.old)
+            (caller self.new) };
+
+    /// Puts a carrier that `me` employs into the pool, with its content, whose largest gap has that
+    /// many units.
+    fn abandon(&mut self, me: u32, carrier: u32, content: Self::Content, largest: u32)
+        requires scheduler { (1 ≤ me) × (me ≤ schedulers self.old) }
+        requires migrates { migrates self.old ≡ true }
+        requires carrier { IsCarrier (schedulers self.old) carrier }
+        requires content { IsFor carrier largest (Self.Content.content content) }
+        requires employed { IfSome (shared self.old) (λ s. s.places carrier ≡ owners.Employed me) }
+        requires wanted { IsWanted me (Abandon (Self.Content.content content)) (caller self.old) }
+        ensures stays { stays self.old self.new }
+        ensures row { Did me (Abandon (Self.Content.content content)) Done (shared self.old)
+            (shared self.new) (caller self.old) (caller self.new) };
+
+    /// Employs a pooled carrier, if its owner word is still the one seen: then its content comes to
+    /// the caller.
+    fn fetch_try(&mut self, me: u32, carrier: u32, seen: OwnerWord) -> Tried<Self::Content>
+        requires scheduler { (1 ≤ me) × (me ≤ schedulers self.old) }
+        requires migrates { migrates self.old ≡ true }
+        requires carrier { IsCarrier (schedulers self.old) carrier }
+        requires seen { IsPooled (schedulers self.old) seen }
+        requires wanted { IsWanted me (FetchTry carrier seen) (caller self.old) }
+        ensures stays { stays self.old self.new }
+        ensures row { Did me (FetchTry carrier seen) (carriers.told_by Self.Content.content result)
+            (shared self.old) (shared self.new) (caller self.old) (caller self.new) };
+
+    /// Employs a new carrier, with a number of `me`.
+    fn create(&mut self, me: u32, carrier: u32)
+        requires scheduler { (1 ≤ me) × (me ≤ schedulers self.old) }
+        requires migrates { migrates self.old ≡ true }
+        requires own { owner_of carrier ≡ me }
+        requires carrier { IsCarrier (schedulers self.old) carrier }
+        requires absent { IfSome (shared self.old) (λ s. s.places carrier ≡ owners.Absent) }
+        requires wanted { IsWanted me (Create carrier) (caller self.old) }
+        ensures stays { stays self.old self.new }
+        ensures row { Did me (Create carrier) Done (shared self.old) (shared self.new)
+            (caller self.old) (caller self.new) };
+
+    /// Marks a carrier without blocks that `me` employs as returning to its owner, another
+    /// instance; its content goes home.
+    fn send_home(&mut self, me: u32, carrier: u32, content: Self::Content, owner: u32)
+        requires scheduler { (1 ≤ me) × (me ≤ schedulers self.old) }
+        requires migrates { migrates self.old ≡ true }
+        requires carrier { IsCarrier (schedulers self.old) carrier }
+        requires content { IsEmptied carrier (Self.Content.content content) }
+        requires owner { (owner ≡ owner_of carrier) × (owner ≢ me) }
+        requires employed { IfSome (shared self.old) (λ s. s.places carrier ≡ owners.Employed me) }
+        requires wanted { IsWanted me (SendHome (Self.Content.content content)) (caller self.old) }
+        ensures stays { stays self.old self.new }
+        ensures row { Did me (SendHome (Self.Content.content content)) Done (shared self.old)
+            (shared self.new) (caller self.old) (caller self.new) };
+
+    /// Deallocates a carrier that `me` owns and employs, which has no blocks.
+    fn clear_own(&mut self, me: u32, carrier: u32)
+        requires scheduler { (1 ≤ me) × (me ≤ schedulers self.old) }
+        requires migrates { migrates self.old ≡ true }
+        requires carrier { IsCarrier (schedulers self.old) carrier }
+        requires own { owner_of carrier ≡ me }
+        requires employed { IfSome (shared self.old) (λ s. s.places carrier ≡ owners.Employed me) }
+        requires leaves { IfSome (caller self.old) IsLeaving }
+        requires wanted { IsWanted me (Clear carrier) (caller self.old) }
+        ensures stays { stays self.old self.new }
+        ensures row { Did me (Clear carrier) (Home None) (shared self.old) (shared self.new)
+            (caller self.old) (caller self.new) };
+
+    /// Deallocates a carrier that has returned to `me`, its owner: answers its content.
+    fn clear_returned(&mut self, me: u32, carrier: u32) -> Self::Content
+        requires scheduler { (1 ≤ me) × (me ≤ schedulers self.old) }
+        requires migrates { migrates self.old ≡ true }
+        requires carrier { IsCarrier (schedulers self.old) carrier }
+        requires own { owner_of carrier ≡ me }
+        requires returned { IfSome (shared self.old) (λ s. HasReturned me (s.places carrier)) }
+        requires collects { IfSome (caller self.old) (IsCollecting carrier) }
+        requires wanted { IsWanted me (Clear carrier) (caller self.old) }
+        ensures stays { stays self.old self.new }
+        ensures row { Did me (Clear carrier) (Home (Some (Self.Content.content result)))
+            (shared self.old) (shared self.new) (caller self.old) (caller self.new) };
 
     /// Puts the node in front of the queue of instance `to`, not linked yet to the older ones.
     fn push(&mut self, me: u32, to: u32, node: Node)
@@ -111,4 +247,6 @@ pub trait Shared {
     ghost stays_shared: { (x y : Self) → stays x y → schedulers y ≡ schedulers x };
 
     ghost stays_greatest: { (x y : Self) → stays x y → greatest y ≡ greatest x };
+
+    ghost stays_migrates: { (x y : Self) → stays x y → migrates y ≡ migrates x };
 }

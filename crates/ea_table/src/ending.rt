@@ -18,6 +18,7 @@ use crate::rule::{Ruled, TakesIn};
 use crate::views::{About, View};
 use crate::worker::Finished;
 use atomic_table::{Closed, Seat, Table};
+use ea_machine::OwnerWord;
 use ea_mbc::Mbc;
 use ea_model::{Config, List, OutOfMemory, Outcome, Spot, Trace};
 use ea_names::Names;
@@ -69,18 +70,37 @@ fn take_in<'t>(
     Ok(Taken { seat, schedulers })
 }
 
-/// Given names, read off a table where nobody steps any more.
+/// Given names, read off a table of that many schedulers where nobody steps any more. No carrier
+/// migrates there.
 #[derive(Drop)]
 struct Still {
+    schedulers: u32,
     given: Names,
 }
 
 impl Rested for Still {
+    ghost use Rattle.std.specs.Prelude.{false};
+    ghost use Rattle.ea_machine.specs.Owners.{Absent};
+
     type Content = Mbc;
+
+    ghost schedulers = { λ s. s.schedulers };
 
     ghost greatest = { λ s. s.given.greatest };
 
+    ghost migrates = { λ s. false };
+
+    ghost places = { λ s. λ number. Absent };
+
     ghost named = { λ s. s.given.held };
+
+    fn word(&self, _carrier: u32) -> OwnerWord {
+        unreachable!()
+    }
+
+    fn home(&self, _carrier: u32) -> Option<&Mbc> {
+        unreachable!()
+    }
 
     fn given(&self, name: u32) -> Option<Spot> {
         self.given.spot_of(name)
@@ -148,7 +168,11 @@ fn outcome_with(
     requires stand { Stand config trace.now schedulers.items given.held }
     ensures { IfOk result (IsOutcome config trace.now schedulers.entry.items given.held) }
 {
-    outcome_of(alloc, config, trace, schedulers, &Still { given })
+    let still = Still {
+        schedulers: config.schedulers,
+        given,
+    };
+    outcome_of(alloc, config, trace, schedulers, &still)
 }
 
 /// What is printed of the state in which the table is closed, whose schedulers these are: the board

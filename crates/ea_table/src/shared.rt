@@ -4,13 +4,14 @@ ghost use Rattle.ea_table.specs.Seating.{IsSeatedAt};
 
 use crate::board::Board;
 use crate::pass::Pass;
-use ea_machine::Node;
+use ea_machine::{Node, OwnerWord};
 use ea_mbc::Mbc;
 use ea_model::Spot;
 use ea_queues::Link;
-use ea_shared::Shared;
+use ea_shared::{Shared, Tried};
 
-/// The table as one scheduler steps on it: it tells that scheduler.
+/// The table as one scheduler steps on it: it tells that scheduler. It is made for runs in which no
+/// carrier migrates, and has no owner words: so the steps on carriers are never called.
 #[derive(Drop)]
 pub struct TableShared<'a, 't> {
     board: &'a Board<'t>,
@@ -39,7 +40,7 @@ impl<'a, 't> TableShared<'a, 't> {
 }
 
 impl<'a, 't> Shared for TableShared<'a, 't> {
-    ghost use Rattle.std.specs.Prelude.{◌≡◌, Some, None};
+    ghost use Rattle.std.specs.Prelude.{◌≡◌, false, Some, None};
     ghost use Rattle.std.proofs.Common.{refl, ap};
     ghost use Rattle.ea_table.specs.Ruling.{caller_in};
 
@@ -48,6 +49,8 @@ impl<'a, 't> Shared for TableShared<'a, 't> {
     ghost schedulers = { λ t. t.pass.seat.me.0.config.schedulers };
 
     ghost greatest = { λ t. t.pass.seat.me.0.trace.greatest };
+
+    ghost migrates = { λ _. false };
 
     ghost shared = { λ _. None };
 
@@ -63,12 +66,54 @@ impl<'a, 't> Shared for TableShared<'a, 't> {
 
     ghost stays_greatest = { λ x y h. ap (λ t. t.greatest) h.2 };
 
+    ghost stays_migrates = { λ x y h. refl };
+
     fn take_all(&mut self, me: u32) -> Option<Node> {
         self.pass.take_all(self.board, me)
     }
 
     fn take_link(&mut self, me: u32, node: Node) -> Link {
         self.pass.take_link(self.board, me, node)
+    }
+
+    fn look(&mut self, _me: u32, _carrier: u32) -> OwnerWord {
+        unreachable!()
+    }
+
+    fn busy_try(&mut self, _me: u32, _carrier: u32, _seen: OwnerWord) -> Tried<Mbc> {
+        unreachable!()
+    }
+
+    fn settle_pooled(&mut self, _me: u32, _carrier: u32, _content: Mbc, _largest: u32) {
+        unreachable!()
+    }
+
+    fn settle_employed(&mut self, _me: u32, _carrier: u32) {
+        unreachable!()
+    }
+
+    fn abandon(&mut self, _me: u32, _carrier: u32, _content: Mbc, _largest: u32) {
+        unreachable!()
+    }
+
+    fn fetch_try(&mut self, _me: u32, _carrier: u32, _seen: OwnerWord) -> Tried<Mbc> {
+        unreachable!()
+    }
+
+    fn create(&mut self, _me: u32, _carrier: u32) {
+        unreachable!()
+    }
+
+    fn send_home(&mut self, _me: u32, _carrier: u32, _content: Mbc, _owner: u32) {
+        unreachable!()
+    }
+
+    fn clear_own(&mut self, _me: u32, _carrier: u32) {
+        unreachable!()
+    }
+
+    fn clear_returned(&mut self, _me: u32, _carrier: u32) -> Mbc {
+        unreachable!()
     }
 
     fn push(&mut self, me: u32, to: u32, node: Node) {

@@ -1,4 +1,4 @@
-use Rattle.ea_given.proofs.Running.{stands-off, stands-ready, stepped-stands}
+use Rattle.ea_given.proofs.Running.{stands-moves, stands-off, stands-ready, stepped-stands}
 use Rattle.ea_given.proofs.run.take_turn.Goals as goal
 
 pub step-requires-clause-ready : goal.step-requires-clause-ready
@@ -11,8 +11,13 @@ step-requires-clause-off c =
     let (d, t, me, w, shares, at) = c.requires in
     stands-off d t me c.args.scheduler.now w at c.args.shared.now shares
 
+pub step-requires-clause-migrates : goal.step-requires-clause-migrates
+step-requires-clause-migrates c =
+    let (d, t, me, w, shares, at) = c.requires in
+    stands-moves d t me c.args.scheduler.now w at c.args.shared.now shares
+
 pub returns : goal.returns
 returns c = λ d t me w shares at.
     let e = c.in_ok-step.ensures in
     stepped-stands d t me c.args.scheduler.now w at c.args.shared.now shares c.step.new.self
-    c.step.new.shared e.run.0 e.run.1 e.run.2 e.stays.0 e.stays.1 e.goes.1 e.step
+    c.step.new.shared e.run.0 e.run.1 e.run.2 e.stays.0 e.stays.1 e.stays.2 e.goes.1 e.step

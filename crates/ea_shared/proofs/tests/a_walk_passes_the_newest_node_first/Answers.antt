@@ -7,8 +7,7 @@ use Rattle.ea_machine.specs.Nodes.{first_node}
 use Rattle.ea_machine.specs.Rows.{Link, Push, TakeAll}
 use Rattle.ea_machine.specs.Shared.{Shared}
 use Rattle.ea_machine.specs.Table.{effect}
-use Rattle.ea_shared.specs.Memory.{nothing_shared}
-use Rattle.ea_shared.proofs.Following.{after-row, none-there}
+use Rattle.ea_shared.proofs.Following.{after-row, none-there, nothing_shared}
 use Rattle.ea_shared.proofs.tests.a_walk_passes_the_newest_node_first.Goals as goal
 
 abbrev older : Node

@@ -6,8 +6,7 @@ use Rattle.ea_machine.specs.Guards.{IsUnlinkedAt}
 use Rattle.ea_machine.specs.Nodes.{first_node}
 use Rattle.ea_machine.specs.Shared.{Shared}
 use Rattle.ea_machine.specs.Table.{effect}
-use Rattle.ea_shared.specs.Memory.{nothing_shared}
-use Rattle.ea_shared.proofs.Following.{after-row, none-there}
+use Rattle.ea_shared.proofs.Following.{after-row, none-there, nothing_shared}
 use Rattle.ea_shared.proofs.tests.a_walk_rests_until_its_next_node_is_linked.Goals as goal
 
 abbrev older : Node

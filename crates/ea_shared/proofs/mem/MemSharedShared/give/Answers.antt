@@ -10,7 +10,8 @@ pub invariant_of-self : goal.invariant_of-self
 invariant_of-self g c = (
   c.hold.ensures.same ∙ c.self.invariant.0,
   c.hold.ensures.whole c.self.invariant.1,
+  c.self.invariant.2,
 )
 
 pub returns-clause-row : goal.returns-clause-row
-returns-clause-row g c = did-give _ _ _ _ _ c.self.view_is _ c.hold.ensures.held
+returns-clause-row g c = did-give _ _ _ _ _ _ _ c.self.view_is _ c.hold.ensures.held

@@ -44,6 +44,13 @@ step-requires-clause-off g c =
     (subst (λ (t : Bor Trace). migration (setup_of c.args.self.scheduler.config t.now) ≡ false)
     (sym i.scheduler_trace) c.requires.off)
 
+pub step-requires-clause-migrates : goal.step-requires-clause-migrates
+step-requires-clause-migrates g c =
+    let i = c.loop.invariant in
+    sym (ap (λ d. migration (setup_of d c.loop.scheduler.trace.now)) i.scheduler_config
+    ∙ ap (λ (t : Bor Trace). migration (setup_of c.args.self.scheduler.config t.now))
+    i.scheduler_trace ∙ c.requires.off)
+
 pub step-requires-clause-ready : goal.step-requires-clause-ready
 step-requires-clause-ready g c = λ going. c.loop.invariant.ready
 

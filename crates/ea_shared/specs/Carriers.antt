@@ -1,0 +1,114 @@
+-- Carriers in plain memory, what a try to get one tells, and what is handed to a call that puts one
+-- home.
+use Rattle.std.specs.Prelude.{◌≡◌, ◌≢◌, ℕ, ◌*◌, ◌≤◌, ◌&&◌, ◌==◌, Bool, true, false, nat_le}
+use Rattle.std.specs.Prelude.{List, [], ◌∷◌, Option, None, Some, get_or, set}
+use Rattle.ea_model.specs.declared.units.TheConstants.{NUMBERS}
+use Rattle.ea_model.specs.Content.{Content, gaps_of, largest}
+use Rattle.ea_model.specs.Instance.{first_number, owner_of}
+use Rattle.ea_machine.specs.declared.owners.OwnerWord.{OwnerWord}
+use Rattle.ea_machine.specs.declared.owners.OwnerWord.TheVariants as word
+use Rattle.ea_machine.specs.declared.stages.Stage.TheVariants.{Collecting}
+use Rattle.ea_machine.specs.Owners.{CarrierAt}
+use Rattle.ea_machine.specs.Owners as owners
+use Rattle.ea_machine.specs.Rows.{Answer, Settle}
+use Rattle.ea_machine.specs.Rows as rows
+use Rattle.ea_machine.specs.Statistics.{leaving_at}
+use Rattle.ea_machine.specs.Words.{IsLargest}
+use Rattle.ea_shared.specs.Calls.{Caller, WantsRow}
+use Rattle.ea_shared.specs.declared.carriers.Place.{Place}
+use Rattle.ea_shared.specs.declared.carriers.Place.TheVariants.{Absent, Employed, Pooled, Busy}
+use Rattle.ea_shared.specs.declared.carriers.Place.TheVariants.{Returning}
+use Rattle.ea_shared.specs.declared.tried.Tried.{Tried}
+use Rattle.ea_shared.specs.declared.tried.Tried.TheVariants.{Won, Lost}
+
+module _ {C : Type 0} (content : C → Content) where
+  -- what a try tells
+  abbrev pub told_by : Tried C → Answer
+  told_by (Won x) = rows.Won (content x)
+  told_by (Lost w) = rows.Lost w
+
+  -- where a carrier is, with the content that the value at home stands for
+  abbrev pub placed : Place C → CarrierAt
+  placed Absent = owners.Absent
+  placed (Employed i) = owners.Employed i
+  placed (Pooled i g x) = owners.Pooled i g (content x)
+  placed (Busy i) = owners.Busy i
+  placed (Returning i x) = owners.Returning i (content x)
+
+-- where the carrier of a number is, among places from 0 on
+abbrev pub place_at : List CarrierAt → ℕ → CarrierAt
+place_at places number = get_or places number owners.Absent
+
+-- where the carrier of a number is, if each of the first schedulers employs its main carrier and no
+-- other is there
+abbrev pub is_first_upto : ℕ → ℕ → Bool
+is_first_upto last number = nat_le (owner_of number) last
+    && (number == first_number (owner_of number))
+
+abbrev pub employed_if : Bool → ℕ → CarrierAt
+employed_if true i = owners.Employed i
+employed_if false i = owners.Absent
+
+abbrev pub main_upto : ℕ → ℕ → CarrierAt
+main_upto last number = employed_if (is_first_upto last number) (owner_of number)
+
+-- places after a try: it leaves another one where it is won
+abbrev pub after_try : Answer → ℕ → CarrierAt → List CarrierAt → List CarrierAt
+after_try (rows.Won x) number place places = set places number place
+after_try _ number place places = places
+
+-- the content that is at home
+abbrev pub home_of : CarrierAt → Option Content
+home_of owners.Absent = None
+home_of (owners.Employed i) = None
+home_of (owners.Pooled i g x) = Some x
+home_of (owners.Busy i) = None
+home_of (owners.Returning i x) = Some x
+
+-- a carrier number of that many schedulers
+abbrev pub IsCarrier : ℕ → ℕ → Type 0
+IsCarrier schedulers number = (1 ≤ number) × (number ≤ NUMBERS * schedulers)
+
+-- the word of a carrier that one of that many schedulers has in the pool
+pub record IsPooled (schedulers : ℕ) (seen : OwnerWord) : Type 0 where
+  pub instance : ℕ
+  pub largest : ℕ
+  pub is : seen ≡ word.Pooled instance largest
+  pub scheduler : (1 ≤ instance) × (instance ≤ schedulers)
+  pub units : IsLargest largest
+
+-- by that scheduler
+pub record IsPooledBy (me : ℕ) (seen : OwnerWord) : Type 0 where
+  pub largest : ℕ
+  pub is : seen ≡ word.Pooled me largest
+  pub units : IsLargest largest
+
+-- the content is that of the carrier, which goes into the pool with this largest gap
+pub record IsFor (carrier gap : ℕ) (x : Content) : Type 0 where
+  pub number : x.number ≡ carrier
+  pub blocks : x.blocks ≢ []
+  pub is : gap ≡ largest (gaps_of x)
+  pub units : IsLargest gap
+
+-- the content is that of the carrier, and without blocks
+pub record IsEmptied (carrier : ℕ) (x : Content) : Type 0 where
+  pub number : x.number ≡ carrier
+  pub empty : x.blocks ≡ []
+
+-- the caller wants to settle a content of the carrier that is without blocks
+pub record SettlesEmptied (me carrier : ℕ) (y : Caller) : Type 0 where
+  pub content : Content
+  pub emptied : IsEmptied carrier content
+  pub wants : WantsRow me (Settle content) y
+
+-- the caller has a content in its hand whose carrier it employs
+abbrev pub IsLeaving : Caller → Type 0
+IsLeaving y = (x : Content) × (leaving_at y.actor.stage ≡ x ∷ [])
+
+-- the caller has the node of the carrier in its hand
+abbrev pub IsCollecting : ℕ → Caller → Type 0
+IsCollecting carrier y = y.actor.stage ≡ Collecting carrier
+
+-- the carrier has returned to the scheduler
+abbrev pub HasReturned : ℕ → CarrierAt → Type 0
+HasReturned me p = (x : Content) × (p ≡ owners.Returning me x)
