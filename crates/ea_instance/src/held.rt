@@ -1,12 +1,14 @@
 //! A carrier in a scheduler's hand.
-ghost use Rattle.std.specs.Prelude.{◌≡◌, ◌↔◌, true, [], Some, IfSome, IsTrue};
+ghost use Rattle.std.specs.Prelude.{◌≡◌, ◌↔◌, true, [], Some, IfSome, IsTrue, option_map};
 ghost use Rattle.ea_model.specs.declared.carriers.Kind.TheVariants as kind;
-ghost use Rattle.ea_model.specs.Content.{can_go};
+ghost use Rattle.ea_model.specs.Content.{block_at, can_go, named};
 ghost use Rattle.ea_model.specs.Employment.{dismissing};
-ghost use Rattle.ea_model.specs.Instance.{content_of, employed, has_content};
+ghost use Rattle.ea_model.specs.Instance.{carrier_line, content_of, employed, has_content};
 
 use crate::instance::Instance;
+use crate::lines::{multi_line, single_line};
 use ea_mbc::Mbc;
+use ea_model::{Block, CarrierLine};
 use ea_sbc::Sbc;
 use std::marker::Model;
 
@@ -75,6 +77,26 @@ impl Held {
         match &self.part {
             Part::Multi { carrier } => carrier.is_empty(),
             Part::Single { carrier } => carrier.block().is_none(),
+        }
+    }
+
+    /// The block that begins at `offset`, if one does.
+    pub fn block_at(&self, offset: u32) -> Option<Block>
+        ensures { result ≡ option_map named (block_at self.now.blocks offset) }
+    {
+        match &self.part {
+            Part::Multi { carrier } => carrier.block_at(offset),
+            Part::Single { carrier } => carrier.block_at(offset),
+        }
+    }
+
+    /// Its line among the carriers of the output, with that employer.
+    pub fn line(&self, employer: u32) -> CarrierLine
+        ensures { result ≡ carrier_line employer self.now }
+    {
+        match &self.part {
+            Part::Multi { carrier } => multi_line(employer, carrier),
+            Part::Single { carrier } => single_line(employer, carrier),
         }
     }
 

@@ -10,3 +10,4 @@ mod own;
 pub use ea_model::CarrierPlan;
 pub use held::Held;
 pub use instance::Instance;
+pub use lines::multi_line;

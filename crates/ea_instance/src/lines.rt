@@ -6,6 +6,7 @@ ghost use Rattle.ea_laws.specs.Kept.{IsRising, number_of};
 ghost use Rattle.ea_instance.specs.Merging.{GoesFirst};
 
 use ea_employed::Employed;
+use ea_mbc::Mbc;
 use ea_model::keyed::Keyed;
 use ea_model::{CarrierLine, Kind, List, PAGE_UNITS, Standing};
 use ea_sbc::Sbc;
@@ -27,7 +28,25 @@ fn goes_first(multis: &[Employed], m: usize, singles: &[Sbc], s: usize) -> bool
     multis[m].key() < singles[s].key()
 }
 
-/// The line of a singleblock carrier that the instance employs.
+/// The line of a multiblock carrier, with that employer.
+pub fn multi_line(employer: u32, carrier: &Mbc) -> CarrierLine
+    ensures { result ≡ carrier_line employer carrier.now }
+{
+    carrier.laid_out();
+    CarrierLine {
+        number: carrier.number(),
+        kind: Kind::Multi,
+        owner: carrier.owner(),
+        word: Standing::Employed,
+        employer,
+        base: carrier.base(),
+        pages: carrier.units() / PAGE_UNITS,
+        allocated: carrier.allocated(),
+        largest: carrier.largest(),
+    }
+}
+
+/// The line of a singleblock carrier, with that employer.
 pub fn single_line(employer: u32, carrier: &Sbc) -> CarrierLine
     ensures { result ≡ carrier_line employer carrier.now }
 {

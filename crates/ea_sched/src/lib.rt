@@ -2,6 +2,7 @@
 #![tactic(auto)]
 
 mod brought;
+mod hands;
 mod migration;
 mod operations;
 mod passed;

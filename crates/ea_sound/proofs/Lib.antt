@@ -101,6 +101,7 @@ pub mod Guarding
 pub mod FetchedFits
 pub mod Printed
 pub mod PrintedSums
+pub mod PrintedUnits
 pub mod Fading
 pub mod GoneNames
 pub mod KeptPlaces

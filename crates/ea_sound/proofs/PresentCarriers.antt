@@ -207,6 +207,16 @@ module _ (e : Setup) (w : State) (rule : Rule e w) (off : migration e ≡ false)
     shown c None none = refl
     shown c (Some x) there = ap (λ o. present_if o standing.Employed i) there
 
+    -- what is printed of a number of the scheduler
+    pub present-owner : (c : ℕ) → owner_of c ≡ i
+        → present_at e w c (place_of e w c) ≡ if_there (at_home i) (content_of (employed j) c)
+    present-owner c own = ap (present_at e w c) (place c own)
+        ∙ shown c (content_of (employed j) c) (found c)
+
+    -- none is on its way from it
+    pub leaves-nothing : leaving_at a.stage ≡ []
+    leaves-nothing = leaves-none i a a.stage (rule.present.fits i)
+
     pub numbers : All (HasKeyIn number_of (first_number i) 256) (employed j)
     numbers = subst (λ n. All (HasKeyIn number_of (first_number n) 256) (employed j))
         standing_at.number

@@ -1,7 +1,8 @@
 -- Where the content of a carrier that is printed is with its employer: in its hand, where the carrier
 -- is about to leave it or is busy, and with its instance else.
 use Rattle.std.proofs.Common.{◌≡◌, ◌≢◌, ℕ, Bool, true, false, List, [], ◌∷◌, ◌++◌, refl, sym}
-use Rattle.std.proofs.Common.{ap, ◌∙◌, arith}
+use Rattle.std.proofs.Common.{ap, ◌∙◌, subst, inl, inr, arith}
+use Rattle.std.proofs.lemmas.Bool.{cases_eq}
 use Rattle.std.specs.Prelude.{Option, None, Some, filter, not, if◌then◌else◌}
 use Rattle.std.specs.Option.{option_or}
 use Rattle.std.proofs.lemmas.List.Folds.{find-append}
@@ -10,12 +11,21 @@ use Rattle.ea_model.specs.Instance.{Instance, content_of, employed}
 use Rattle.ea_model.specs.Keyed.{has_key}
 use Rattle.ea_model.proofs.Rising.{item_at-key, item_here, item_past}
 use Rattle.ea_laws.specs.Kept.{number_of}
+use Rattle.ea_machine.specs.declared.stages.Route.{Route}
+use Rattle.ea_machine.specs.declared.stages.Route.TheVariants.{Looking, Trying, Settling}
+use Rattle.ea_machine.specs.declared.stages.Route.TheVariants.{Abandoning, Sending, Clearing}
+use Rattle.ea_machine.specs.declared.stages.Route.TheVariants.{Pushing, Linking}
+use Rattle.ea_machine.specs.declared.stages.Stage.{Stage}
+use Rattle.ea_machine.specs.declared.stages.Stage.TheVariants.{Begin, Routed, Collecting, Searching}
+use Rattle.ea_machine.specs.declared.stages.Stage.TheVariants.{Fetching, Creating, Giving, Taking}
+use Rattle.ea_machine.specs.declared.stages.Stage.TheVariants.{Ended, Ready}
 use Rattle.ea_machine.specs.Actor.{Actor}
 use Rattle.ea_machine.specs.Outcome.{place_of, settling_at}
 use Rattle.ea_machine.specs.Owners.{Busy}
 use Rattle.ea_machine.specs.Setup.{Setup, is_scheduler}
 use Rattle.ea_machine.specs.State.{State}
 use Rattle.ea_machine.specs.Statistics.{employed_multis, employed_singles, is_single, leaving_at}
+use Rattle.ea_machine.specs.Statistics.{leaving_on}
 use Rattle.ea_machine.specs.Sums.{sum_over}
 use Rattle.ea_sound.specs.Places.{has_number, none}
 use Rattle.ea_sound.specs.Rule.{Kept}
@@ -44,6 +54,34 @@ listed-by x j true single = ap (λ b. ((if not b then x ∷ [] else []) ++ j.con
     ++ ((if b then x ∷ [] else []) ++ j.singles)) single
 listed-by x j false many = ap (λ b. ((if not b then x ∷ [] else []) ++ j.contents)
     ++ ((if b then x ∷ [] else []) ++ j.singles)) many
+
+-- at most one leaves
+abbrev IsOneOrNone : List Content → Type 0
+IsOneOrNone [] = Unit {0}
+IsOneOrNone (x ∷ []) = Unit {0}
+IsOneOrNone (x ∷ y ∷ left) = ⊥
+
+route-leaves-one : (r : Route Content) → IsOneOrNone (leaving_on r)
+route-leaves-one (Looking hand) = tt
+route-leaves-one (Trying hand seen) = tt
+route-leaves-one (Settling x) = tt
+route-leaves-one (Abandoning x) = tt
+route-leaves-one (Sending x) = tt
+route-leaves-one (Clearing x) = tt
+route-leaves-one (Pushing node to) = tt
+route-leaves-one (Linking node to) = tt
+
+one-leaves : (s : Stage Content) → IsOneOrNone (leaving_at s)
+one-leaves Begin = tt
+one-leaves (Routed r why gone) = route-leaves-one r
+one-leaves (Collecting number) = tt
+one-leaves (Searching ask at looked) = tt
+one-leaves (Fetching ask at looked seen) = tt
+one-leaves (Creating ask p) = tt
+one-leaves (Giving given to) = tt
+one-leaves (Taking name tries left) = tt
+one-leaves Ended = tt
+one-leaves Ready = tt
 
 module _ (e : Setup) (w : State) (k : Kept e w) where
   -- a busy carrier
@@ -121,3 +159,24 @@ module _ (e : Setup) (w : State) (k : Kept e w) where
           → content_of (employed_multis a ++ employed_singles a) c ≡ content_of (employed j) c
       leaving-others c other =
           as-listed c ∙ other-by c other (is_single x.kind) ∙ merged c
+
+    -- so it is in the hand, or with the instance
+    either-by : (left : List Content) → leaving_at a.stage ≡ left → IsOneOrNone left → (c : ℕ)
+        → content_of (employed_multis a ++ employed_singles a) c
+        ≡ option_or (content_of left c) (content_of (employed j) c)
+    either-by [] leaves one c = stays-found leaves c
+    either-by (x ∷ []) leaves one c = elim (cases_eq x.number c) [
+      | inl same ↦ subst (λ n. content_of (employed_multis a ++ employed_singles a) n
+          ≡ option_or (content_of (x ∷ []) n) (content_of (employed j) n)) same
+          (leaving-found x leaves
+          ∙ sym (ap (λ o. option_or o (content_of (employed j) x.number))
+          (item_here number_of x.number x [] refl)))
+      | inr other ↦ leaving-others x leaves c other
+          ∙ sym (ap (λ o. option_or o (content_of (employed j) c))
+          (item_past number_of c x [] other))
+    ]
+    either-by (x ∷ y ∷ left) leaves one c = absurd one
+
+    pub employed-either : (c : ℕ) → content_of (employed_multis a ++ employed_singles a) c
+        ≡ option_or (content_of (leaving_at a.stage) c) (content_of (employed j) c)
+    employed-either c = either-by (leaving_at a.stage) refl (one-leaves a.stage) c

@@ -39,7 +39,7 @@ size-here n c size is = grind (arith, is)
 as-rising : (x : Content) → IsLaidOutAsKind x → AllPairs (IsBelow offset_of) x.blocks
 as-rising x laid = elim laid [ inl many ↦ laid-rising x many | inr one ↦ alone-rising x one ]
 
-as-units : (x : Content) → IsLaidOutAsKind x
+pub as-units : (x : Content) → IsLaidOutAsKind x
     → 8 + allocated x.blocks + free_units (gaps_of x) ≡ x.units
 as-units x laid = elim laid [ inl many ↦ laid-units x many | inr one ↦ alone-units x one ]
 
