@@ -1,11 +1,10 @@
 -- What the local work makes of an actor, by what it changes.
-use Rattle.std.proofs.Common.{◌≡◌, ◌≢◌, ℕ, true, false, List, [], ◌∷◌}
+use Rattle.std.proofs.Common.{◌≡◌, ℕ, false, List, [], ◌∷◌}
 use Rattle.std.proofs.Common.{◌++◌, inl, inr, refl, sym, ap, ◌∙◌}
 use Rattle.std.specs.Prelude.{Option, None, Some, option_map, Result, Ok, Err, OnOk}
 use Rattle.std.specs.Result.{is_err}
 use Rattle.std.proofs.lemmas.Bool.{cases_eq}
 use Rattle.std.proofs.lemmas.Result.{on_ok_weaker}
-use Rattle.ea_model.specs.declared.carriers.Block.{Block}
 use Rattle.ea_model.specs.declared.carriers.Place.{Place}
 use Rattle.ea_model.specs.declared.carriers.Spot.{Spot}
 use Rattle.ea_model.specs.declared.entries.Entry.{Entry}
@@ -14,9 +13,6 @@ use Rattle.ea_model.specs.Instance.{Instance, place_at, placing_at, resizing_at}
 use Rattle.ea_model.specs.Keyed.{item_at}
 use Rattle.ea_model.proofs.Rising.{item_at-gone, item_at-stays}
 use Rattle.ea_model.specs.declared.entries.Entry.TheVariants as entry
-use Rattle.ea_model.specs.declared.reallocation.Decision.{Decision}
-use Rattle.ea_model.specs.declared.reallocation.Decision.TheVariants.{Stay, ShrinkHere, GrowHere}
-use Rattle.ea_model.specs.declared.reallocation.Decision.TheVariants.{ShrinkCarrier, Move}
 use Rattle.ea_machine.specs.Reallocations.{resized_here, resized_place}
 use Rattle.ea_instance.specs.Answers.{placing_if}
 use Rattle.ea_machine.specs.Setup.{Setup}

@@ -44,7 +44,7 @@ use Rattle.ea_sched.proofs.Suiting.{goes-linked, goes-passed, next-placed, suits
 use Rattle.ea_sched.proofs.Suiting.{suits-passed, suits-rests, suits-taken}
 
 -- something is left where a first one is
-left-more : {A : Type 0} (k : ℕ) (xs ys : List A) (x : A) → drop k xs ≡ x ∷ ys → k < length xs
+pub left-more : {A : Type 0} (k : ℕ) (xs ys : List A) (x : A) → drop k xs ≡ x ∷ ys → k < length xs
 left-more zero [] ys x e = absurd cc
 left-more zero (y ∷ xs) ys x e = omega arith
 left-more (suc k) [] ys x e = absurd cc

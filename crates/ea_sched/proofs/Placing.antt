@@ -21,7 +21,7 @@ use Rattle.ea_machine.specs.declared.asks.Ask.{Ask}
 use Rattle.ea_machine.specs.declared.nodes.Named.{Named}
 use Rattle.ea_machine.specs.declared.owners.OwnerWord.{OwnerWord}
 use Rattle.ea_machine.specs.declared.stages.Route.TheVariants.{Looking}
-use Rattle.ea_machine.specs.declared.stages.Stage.TheVariants.{Creating, Fetching, Routed}
+use Rattle.ea_machine.specs.declared.stages.Stage.TheVariants.{Fetching, Routed}
 use Rattle.ea_machine.specs.declared.tasks.Gone.TheVariants.{Open}
 use Rattle.ea_machine.specs.declared.tasks.Task.{Task}
 use Rattle.ea_machine.specs.declared.tasks.Task.TheVariants.{Moving}
@@ -29,12 +29,12 @@ use Rattle.ea_machine.specs.declared.tasks.Why.TheVariants.{For}
 use Rattle.ea_machine.specs.Actor.{Actor}
 use Rattle.ea_machine.specs.Machine.{onward}
 use Rattle.ea_machine.specs.Placements.{chosen_by, counted, created, created_by, fetched, fits}
-use Rattle.ea_machine.specs.Placements.{holding, making, new_carrier, new_carrier_by, placed_by}
+use Rattle.ea_machine.specs.Placements.{holding, making, new_carrier_by, placed_by}
 use Rattle.ea_machine.specs.Placements.{placed_in_choice, saw_by, search_at, search_if, searched}
 use Rattle.ea_machine.specs.Placements.{searched_by, seek, seek_by, spot_of_place, stands}
 use Rattle.ea_machine.specs.Releases.{routed}
 use Rattle.ea_machine.specs.Rows.{Saw, Won}
-use Rattle.ea_machine.specs.Setup.{Setup, greatest_number, migration}
+use Rattle.ea_machine.specs.Setup.{Setup, migration}
 use Rattle.ea_machine.specs.Tasks.{carried, hands_over, let_go, task_over}
 use Rattle.ea_machine.specs.Walks.{ready}
 use Rattle.ea_search.specs.declared.search.Search.{Search}

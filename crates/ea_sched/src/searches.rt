@@ -1,14 +1,18 @@
-//! How a scheduler searches the pool.
+//! How a scheduler searches the pool, fetches a carrier, or creates one.
 ghost use Rattle.std.specs.Prelude.{◌≡◌, true, OnOk};
+ghost use Rattle.ea_machine.specs.declared.stages.Stage.TheVariants as stage;
 ghost use Rattle.ea_machine.specs.Placements as placements;
 ghost use Rattle.ea_machine.specs.Setup.{migration};
 ghost use Rattle.ea_sched.specs.Acting.{IsSame, actor_of, ready_of, setup_for};
 ghost use Rattle.ea_sched.specs.Asking.{HasMore, IsAsked};
+ghost use Rattle.ea_sched.specs.Steps.{DidRow, StartsRow};
 
 use crate::state::Scheduler;
-use ea_machine::{Ask, Stage};
-use ea_model::OutOfMemory;
-use ea_search::Search;
+use ea_machine::{Ask, OwnerWord, Stage};
+use ea_mbc::Mbc;
+use ea_model::{CarrierPlan, OutOfMemory};
+use ea_search::{Search, Verdict};
+use ea_shared::{Shared, Tried};
 use std::alloc::Global;
 
 impl<'t> Scheduler<'t> {
@@ -38,5 +42,99 @@ impl<'t> Scheduler<'t> {
                 self.seek_new(alloc, ask, alone, looked)
             }
         }
+    }
+
+    /// A look of the search, at the owner word of its next carrier: one that fits is to be fetched,
+    /// and past another one the search goes on.
+    pub(crate) fn search<S: Shared<Content = Mbc>>(
+        &mut self,
+        alloc: Global,
+        shared: &mut S,
+        ask: Ask,
+        at: u32,
+        looked: u32,
+    ) -> Result<(), OutOfMemory>
+        requires starts { StartsRow (stage.Searching ask at looked) self.old
+            (S.schedulers shared.old) (S.greatest shared.old) (S.migrates shared.old)
+            (S.shared shared.old) (S.caller shared.old) }
+        ensures stays { S.stays shared.old shared.new }
+        ensures same { IsSame self.old self.new }
+        ensures row { OnOk result (DidRow (stage.Searching ask at looked) self.old self.new
+            (S.shared shared.old) (S.shared shared.new) (S.caller shared.old)
+            (S.caller shared.new)) }
+    {
+        let seen = shared.look(self.number, at);
+        let mut search = Search { at, looked };
+        match search.saw(seen, ask.need) {
+            Verdict::Try => {
+                let looked = search.looked;
+                self.stage = Stage::Fetching {
+                    ask,
+                    at,
+                    looked,
+                    seen,
+                };
+                Ok(())
+            }
+            Verdict::Skip => self.search_on(alloc, ask, search),
+        }
+    }
+
+    /// One try to fetch the carrier that the search saw: it is employed, and the block placed; or
+    /// another scheduler was faster, and the search goes on.
+    pub(crate) fn fetch<S: Shared<Content = Mbc>>(
+        &mut self,
+        alloc: Global,
+        shared: &mut S,
+        ask: Ask,
+        at: u32,
+        looked: u32,
+        seen: OwnerWord,
+    ) -> Result<(), OutOfMemory>
+        requires starts { StartsRow (stage.Fetching ask at looked seen) self.old
+            (S.schedulers shared.old) (S.greatest shared.old) (S.migrates shared.old)
+            (S.shared shared.old) (S.caller shared.old) }
+        ensures stays { S.stays shared.old shared.new }
+        ensures same { IsSame self.old self.new }
+        ensures row { OnOk result (DidRow (stage.Fetching ask at looked seen) self.old self.new
+            (S.shared shared.old) (S.shared shared.new) (S.caller shared.old)
+            (S.caller shared.new)) }
+    {
+        match shared.fetch_try(self.number, at, seen) {
+            Tried::Won { content } => {
+                self.instance.adopt(content);
+                self.place(ask)
+            }
+            Tried::Lost { .. } => {
+                let at = at - 1;
+                self.search_on(alloc, ask, Search { at, looked })
+            }
+        }
+    }
+
+    /// The carrier of the plan is created, and the block placed. Memory for it is taken before.
+    pub(crate) fn make<S: Shared<Content = Mbc>>(
+        &mut self,
+        alloc: Global,
+        shared: &mut S,
+        ask: Ask,
+        plan: CarrierPlan,
+    ) -> Result<(), OutOfMemory>
+        requires starts { StartsRow (stage.Creating ask plan) self.old
+            (S.schedulers shared.old) (S.greatest shared.old) (S.migrates shared.old)
+            (S.shared shared.old) (S.caller shared.old) }
+        ensures stays { S.stays shared.old shared.new }
+        ensures same { IsSame self.old self.new }
+        ensures row { OnOk result (DidRow (stage.Creating ask plan) self.old self.new
+            (S.shared shared.old) (S.shared shared.new) (S.caller shared.old)
+            (S.caller shared.new)) }
+    {
+        if plan.single {
+            shared.create(self.number, plan.number);
+            return self.create_single(ask, plan);
+        }
+        let carrier = self.instance.prepare(alloc, plan)?;
+        shared.create(self.number, plan.number);
+        self.create_multi(ask, plan, carrier)
     }
 }

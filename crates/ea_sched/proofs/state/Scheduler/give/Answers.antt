@@ -1,4 +1,4 @@
-use Rattle.std.proofs.Common.{refl, ap, arith}
+use Rattle.std.proofs.Common.{refl, arith}
 use Rattle.ea_machine.specs.declared.stages.Stage.TheVariants.{Giving}
 use Rattle.ea_machine.specs.Rows.{Done, Give}
 use Rattle.ea_sched.proofs.Calling.{give-fresh, give-more, give-name, give-spot, row-done}

@@ -1,4 +1,4 @@
-use Rattle.std.proofs.Common.{refl, ap, ◌∙◌, arith}
+use Rattle.std.proofs.Common.{refl, ap, arith}
 use Rattle.std.proofs.lemmas.Result.{on_ok_weaker}
 use Rattle.ea_machine.specs.declared.tasks.Why.TheVariants.{For, Walk}
 use Rattle.ea_machine.specs.declared.stages.Stage.TheVariants.{Routed}

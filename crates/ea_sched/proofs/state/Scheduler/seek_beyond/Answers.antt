@@ -1,5 +1,4 @@
-use Rattle.std.proofs.Common.{◌*◌, sym, ap, ◌∙◌}
-use Rattle.ea_model.specs.declared.units.TheConstants.{NUMBERS}
+use Rattle.std.proofs.Common.{sym, ap, ◌∙◌}
 use Rattle.ea_machine.specs.Placements.{search_at, search_if}
 use Rattle.ea_search.specs.declared.search.Search.{Search}
 use Rattle.ea_sched.specs.Acting.{ready_of, setup_for}

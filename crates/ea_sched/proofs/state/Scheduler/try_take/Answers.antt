@@ -1,4 +1,4 @@
-use Rattle.std.proofs.Common.{refl, sym, ap, ◌∙◌, arith}
+use Rattle.std.proofs.Common.{refl, sym, ◌∙◌, arith}
 use Rattle.ea_machine.specs.declared.stages.Stage.TheVariants.{Taking}
 use Rattle.ea_machine.specs.Rows.{Got, TakeTry}
 use Rattle.ea_sched.specs.Acting.{setup_for, standing_at}

@@ -1,0 +1,94 @@
+use Rattle.std.proofs.Common.{refl, sym, ◌∙◌}
+use Rattle.std.proofs.lemmas.Result.{on_ok_weaker}
+use Rattle.ea_machine.specs.declared.stages.Stage.TheVariants.{Creating}
+use Rattle.ea_machine.specs.Rows.{Create, Done}
+use Rattle.ea_sched.specs.Acting.{setup_for, standing_at}
+use Rattle.ea_sched.proofs.Calling.{row-done}
+use Rattle.ea_sched.proofs.Placing.{onward-created}
+use Rattle.ea_sched.proofs.Seeking.{create-absent, create-asked, create-carrier, create-more}
+use Rattle.ea_sched.proofs.Seeking.{create-on, create-own, create-pages, create-plan}
+use Rattle.ea_sched.proofs.state.Scheduler.make.Goals as goal
+
+pub create-requires-clause-migrates : goal.create-requires-clause-migrates
+create-requires-clause-migrates g c = c.requires.starts.migrates
+    ∙ create-on c.args.self.now c.requires.starts.ready c.args.ask c.args.plan refl
+
+pub create-requires-clause-own : goal.create-requires-clause-own
+create-requires-clause-own g c =
+    create-own c.args.self.now c.requires.starts.ready c.args.ask c.args.plan refl
+
+pub create-requires-clause-carrier : goal.create-requires-clause-carrier
+create-requires-clause-carrier g c = create-carrier c.args.self.now c.requires.starts.ready
+    c.args.ask c.args.plan refl c.requires.starts.schedulers
+
+pub create-requires-clause-absent : goal.create-requires-clause-absent
+create-requires-clause-absent g c = create-absent c.args.self.now c.requires.starts.ready
+    c.args.ask c.args.plan refl
+
+pub create-requires-2-clause-migrates : goal.create-requires-2-clause-migrates
+create-requires-2-clause-migrates g c = c.requires.starts.migrates
+    ∙ create-on c.args.self.now c.requires.starts.ready c.args.ask c.args.plan refl
+
+pub create-requires-2-clause-own : goal.create-requires-2-clause-own
+create-requires-2-clause-own g c =
+    create-own c.args.self.now c.requires.starts.ready c.args.ask c.args.plan refl
+
+pub create-requires-2-clause-carrier : goal.create-requires-2-clause-carrier
+create-requires-2-clause-carrier g c = create-carrier c.args.self.now c.requires.starts.ready
+    c.args.ask c.args.plan refl c.requires.starts.schedulers
+
+pub create-requires-2-clause-absent : goal.create-requires-2-clause-absent
+create-requires-2-clause-absent g c = create-absent c.args.self.now c.requires.starts.ready
+    c.args.ask c.args.plan refl
+
+pub create_single-requires-clause-more : goal.create_single-requires-clause-more
+create_single-requires-clause-more g c =
+    create-more c.args.self.now c.requires.starts.ready c.args.ask c.args.plan refl
+
+pub create_single-requires-clause-asked : goal.create_single-requires-clause-asked
+create_single-requires-clause-asked g c =
+    create-asked c.args.self.now c.requires.starts.ready c.args.ask c.args.plan refl
+
+pub create_single-requires-clause-plan : goal.create_single-requires-clause-plan
+create_single-requires-clause-plan g c =
+    create-plan c.args.self.now c.requires.starts.ready c.args.ask c.args.plan refl
+
+pub create_multi-requires-clause-more : goal.create_multi-requires-clause-more
+create_multi-requires-clause-more g c =
+    create-more c.args.self.now c.requires.starts.ready c.args.ask c.args.plan refl
+
+pub create_multi-requires-clause-asked : goal.create_multi-requires-clause-asked
+create_multi-requires-clause-asked g c =
+    create-asked c.args.self.now c.requires.starts.ready c.args.ask c.args.plan refl
+
+pub create_multi-requires-clause-plan : goal.create_multi-requires-clause-plan
+create_multi-requires-clause-plan g c =
+    create-plan c.args.self.now c.requires.starts.ready c.args.ask c.args.plan refl
+
+pub prepare-requires-clause-pages : goal.prepare-requires-clause-pages
+prepare-requires-clause-pages g c =
+    create-pages c.args.self.now c.requires.starts.ready c.args.ask c.args.plan refl
+
+pub returns-then-plan-clause-row : goal.returns-then-plan-clause-row
+returns-then-plan-clause-row g c =
+    let s = c.args.self.now in
+    let ask = c.args.ask in
+    let p = c.args.plan in
+    on_ok_weaker c.create_single.result
+    (λ is. row-done s c.requires.starts.ready (Create p.number) Done (Creating ask p) refl refl
+    c.create.ensures.row
+    (is ∙ sym (onward-created (setup_for s) s.number
+    (create-on s c.requires.starts.ready ask p refl) ask p (standing_at (Creating ask p) s))))
+    c.create_single.ensures.actor
+
+pub returns-clause-row : goal.returns-clause-row
+returns-clause-row g c =
+    let s = c.args.self.now in
+    let ask = c.args.ask in
+    let p = c.args.plan in
+    on_ok_weaker c.create_multi.result
+    (λ is. row-done s c.requires.starts.ready (Create p.number) Done (Creating ask p) refl refl
+    c.create-2.ensures.row
+    (is ∙ sym (onward-created (setup_for s) s.number
+    (create-on s c.requires.starts.ready ask p refl) ask p (standing_at (Creating ask p) s))))
+    c.create_multi.ensures.actor
