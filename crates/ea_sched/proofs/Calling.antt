@@ -40,7 +40,8 @@ use Rattle.ea_sched.specs.Asking.{HasMore, IsFresh, SuitsNext}
 use Rattle.ea_sched.specs.Steps.{DidRow, IsReadyAt}
 use Rattle.ea_sound.specs.Walking.{CanAllGo, worked}
 use Rattle.ea_sched.proofs.Doing.{Answered, answered-so}
-use Rattle.ea_sched.proofs.Suiting.{goes-linked, goes-passed, next-placed, suits-linked}
+use Rattle.ea_sched.proofs.AfterWalk.{next-placed}
+use Rattle.ea_sched.proofs.Suiting.{goes-linked, goes-passed, suits-linked}
 use Rattle.ea_sched.proofs.Suiting.{suits-passed, suits-rests, suits-taken}
 
 -- something is left where a first one is
@@ -91,11 +92,11 @@ module _ {stage : Stage Content} (s : Scheduler) {shared : Option Shared} {calle
   number : IsScheduler s.config.schedulers me
   number = (s.number_from, s.number_to)
 
-  in_state : (at : Stage Content) → stage ≡ at → (h.state.actors me).stage ≡ at
+  pub in_state : (at : Stage Content) → stage ≡ at → (h.state.actors me).stage ≡ at
   in_state at now = ap (λ (x : Actor). x.stage) h.actor ∙ now
 
   -- what holds of what is shared in that state holds of it as it is told
-  told-so : (P : Shared → Type 0) → P h.state.shared → IfSome shared P
+  pub told-so : (P : Shared → Type 0) → P h.state.shared → IfSome shared P
   told-so P holds = if_some shared (λ x. x ≡ h.state.shared) P (λ x same. subst P (sym same) holds)
       h.shares
 
@@ -113,7 +114,7 @@ module _ {stage : Stage Content} (s : Scheduler) {shared : Option Shared} {calle
   -- it had no nodes
   pub taken-suits : migration e ≡ false → stage ≡ Begin → s.next ≡ None → SuitsNext s.instance s
   taken-suits off begin none =
-      suits-taken stage s off h.config h.trace h.state h.reached h.actor begin none
+      suits-taken stage s h.config h.trace h.state h.reached h.actor begin none
 
   -- the link of the walk's next node is to be read
   module _ (node : Node) (next : s.next ≡ Some node) where
@@ -165,12 +166,12 @@ module _ {stage : Stage Content} (s : Scheduler) {shared : Option Shared} {calle
       (now : stage ≡ Routed (Linking node to) Walk gone) where
     pub linked-can : migration e ≡ false → CanAllGo me s.instance s.passed.nodes
     linked-can off =
-        goes-linked stage s off h.config h.trace h.state h.reached h.actor node to gone now
+        goes-linked stage s h.config h.trace h.state h.reached h.actor off node to gone now
 
     pub linked-suits : migration e ≡ false → (worked me s.instance s.passed.nodes).hand ≡ None
         → SuitsNext (worked me s.instance s.passed.nodes).instance s
     linked-suits off =
-        suits-linked stage s off h.config h.trace h.state h.reached h.actor node to gone now
+        suits-linked stage s h.config h.trace h.state h.reached h.actor off node to gone now
 
   -- the operation whose block is on its route is left
   pub task-more : (route : Route Content) (task : Task) (gone : Gone)
@@ -222,7 +223,7 @@ module _ {stage : Stage Content} (s : Scheduler) {shared : Option Shared} {calle
 
   -- a row was answered
   module _ {new : Option Shared} {now : Option Caller} where
-    in-answered : (row : Row) (got : Answer) → Did me row got shared new caller now
+    pub in-answered : (row : Row) (got : Answer) → Did me row got shared new caller now
         → Answered e me a row got shared caller now
     in-answered row got did = answered-so s.config s.trace.now me a row got shared new caller now h
         did
@@ -245,7 +246,7 @@ module _ {stage : Stage Content} (s : Scheduler) {shared : Option Shared} {calle
         → Did me TakeLink Rests shared new caller now → SuitsNext s.instance s
     rests-suits off node begin next did =
         let u = in-answered TakeLink Rests did in
-        suits-rests stage s off h.config h.trace u.state u.reached u.actor node begin next (sym u.answered)
+        suits-rests stage s h.config h.trace u.state u.reached u.actor node begin next (sym u.answered)
 
     -- it was passed
     module _ (node : Node) (begin : stage ≡ Begin) (next : s.next ≡ Some node)
@@ -257,14 +258,14 @@ module _ {stage : Stage Content} (s : Scheduler) {shared : Option Shared} {calle
 
         pub passed-can : migration e ≡ false → CanAllGo me s.instance nodes
         passed-can off = subst (CanAllGo me s.instance) (sym are)
-            (goes-passed stage s off h.config h.trace u.state u.reached u.actor node None begin next
+            (goes-passed stage s h.config h.trace u.state u.reached u.actor off node None begin next
             (sym u.answered))
 
         pub passed-suits : migration e ≡ false → (worked me s.instance nodes).hand ≡ None
             → SuitsNext (worked me s.instance nodes).instance s
         passed-suits off = subst (λ ns. (worked me s.instance ns).hand ≡ None
             → SuitsNext (worked me s.instance ns).instance s) (sym are)
-            (suits-passed stage s off h.config h.trace u.state u.reached u.actor node None begin next
+            (suits-passed stage s h.config h.trace u.state u.reached u.actor off node None begin next
             (sym u.answered))
 
         ended-is : worked_off e me nodes (record a { passed = nodes; next = None })

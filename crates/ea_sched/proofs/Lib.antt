@@ -5,6 +5,9 @@ pub mod Seeking
 pub mod StandsOff
 pub mod OwnCarriers
 pub mod Texts
+pub mod AfterWalk
 pub mod Suiting
 pub mod Calling
+pub mod CarrierCalling
+pub mod WalkSuiting
 pub mod NamesBrought

@@ -1,19 +1,15 @@
 -- A scheduler can work off the nodes that its walk passed, where carriers don't migrate, and once
 -- its walk is over it may do its next operation.
-use Rattle.std.proofs.Common.{◌≡◌, ℕ, ◌≤◌, Bool, true, false, List, []}
-use Rattle.std.proofs.Common.{◌∷◌, drop, refl, sym, ap, ◌∙◌, subst, arith}
-use Rattle.std.specs.Prelude.{◌==◌, Option, None, Some, IfSome, option_map}
+use Rattle.std.proofs.Common.{◌≡◌, ℕ, Bool, true, false, List, []}
+use Rattle.std.proofs.Common.{◌∷◌, refl, sym, ap, ◌∙◌, subst}
+use Rattle.std.specs.Prelude.{◌==◌, Option, None, Some, IfSome}
 use Rattle.std.proofs.lemmas.Bool.{eqb-true}
-use Rattle.std.proofs.lemmas.List.Elements.{All-drop, All-head}
 use Rattle.ea_model.specs.declared.carriers.Kind.TheVariants.{Single}
 use Rattle.ea_model.specs.declared.carriers.Spot.{Spot}
-use Rattle.ea_model.specs.declared.operations.Op.{Op}
-use Rattle.ea_model.specs.declared.operations.Op.TheVariants as op
 use Rattle.ea_model.specs.Content.{Content}
 use Rattle.ea_model.specs.Instance.{Instance, content_of, employed, owner_of, releasing_at}
 use Rattle.ea_model.specs.Settings.{IsValidConfig}
-use Rattle.ea_model.specs.Trace.{IsOperation, IsScheduler, IsValidTrace, greatest_in}
-use Rattle.ea_model.proofs.Rising.{item_at-key}
+use Rattle.ea_model.specs.Trace.{IsScheduler, IsValidTrace}
 use Rattle.ea_machine.specs.declared.nodes.Named.{Named}
 use Rattle.ea_machine.specs.declared.nodes.Node.{Node}
 use Rattle.ea_machine.specs.declared.nodes.Node.TheVariants.{Block, Carrier}
@@ -25,7 +21,6 @@ use Rattle.ea_machine.specs.declared.stages.Route.{Route}
 use Rattle.ea_machine.specs.declared.stages.Route.TheVariants.{Linking}
 use Rattle.ea_machine.specs.Actor.{Actor}
 use Rattle.ea_machine.specs.Machine.{IsReached}
-use Rattle.ea_machine.specs.Nodes.{named_at, name_of}
 use Rattle.ea_machine.specs.Releases.{Turned, route_of}
 use Rattle.ea_machine.specs.Rows.{Link, Passes, Rests, TakeAll, TakeLink}
 use Rattle.ea_machine.specs.Setup.{Setup, is_scheduler, migration}
@@ -34,20 +29,17 @@ use Rattle.ea_machine.specs.State.{State}
 use Rattle.ea_machine.specs.Table.{answer, effect}
 use Rattle.ea_machine.specs.Tasks.{carried_by}
 use Rattle.ea_machine.specs.Walks.{with_passed}
-use Rattle.ea_names.specs.Holding.{has_place}
 use Rattle.ea_sound.specs.Leaves.{InWalk}
 use Rattle.ea_sound.specs.Moments.{at}
-use Rattle.ea_sound.proofs.Asked.{first-operation}
 use Rattle.ea_sound.proofs.OffWalks.{link-walks, passed-carrier, passed-emptied, passed-here}
 use Rattle.ea_sound.proofs.OffWalks.{passed-own, take_all-walks, take_link-passes}
 use Rattle.ea_sound.proofs.OffWalks.{take_link-rests}
-use Rattle.ea_sound.proofs.OffWalks.{walk-held, walk-here, walk-on, walk-own}
-use Rattle.ea_sound.proofs.HeldBlocks.{walk-alloc, walk-block, walk-realloc}
+use Rattle.ea_sound.proofs.OffWalks.{walk-held, walk-on}
 use Rattle.ea_sound.proofs.SoundRanges.{number-scheduler}
 use Rattle.ea_sched.specs.declared.state.Scheduler.{Scheduler}
 use Rattle.ea_sched.specs.Acting.{actor_of, setup_for, standing_at}
-use Rattle.ea_sched.specs.Brought.{HavePlaces, is_placed, name_brought}
-use Rattle.ea_sched.specs.Asking.{HasName, IsFresh, IsHere, Lies, Suits, SuitsNext}
+use Rattle.ea_sched.specs.Asking.{SuitsNext}
+use Rattle.ea_sched.proofs.AfterWalk.{suits-next}
 use Rattle.ea_sound.specs.Releasing.{freed_at}
 use Rattle.ea_sound.specs.Walking.{CanAllGo, CanGo, Worked, left_if, worked, worked_if}
 use Rattle.ea_sound.proofs.Freed.{released-here}
@@ -146,15 +138,8 @@ module _ (e : Setup) (v : State) (s : Shared) (me : ℕ) (is : is_scheduler e me
   worked-walks (Carrier d ∷ ns) a walks none = absurd
       (passed-carrier e v s me is off (record a { passed = Carrier d ∷ ns }) walks d ns refl)
 
--- the name that the next operation of a scheduler brings has a place
-pub next-placed : (s : Scheduler) (o : Op) (ops : List Op) → drop s.done s.text.now ≡ o ∷ ops
-    → is_placed s.names.places (name_brought o) ≡ true
-next-placed s o ops left = All-head (λ p. is_placed s.names.places (name_brought p) ≡ true) o ops
-    (subst (HavePlaces s.names.places) left
-    (All-drop (λ p. is_placed s.names.places (name_brought p) ≡ true) s.done s.text.now s.places))
-
--- a scheduler that stands so in a reached state, at a stage, where carriers don't migrate
-module _ (stage : Stage Content) (s : Scheduler) (off : migration (setup_for s) ≡ false) (valid : IsValidConfig s.config)
+-- a scheduler that stands so in a reached state, at a stage
+module _ (stage : Stage Content) (s : Scheduler) (valid : IsValidConfig s.config)
     (made : IsValidTrace s.config.schedulers s.trace.now) (w : State)
     (reached : IsReached (setup_for s) w) (here : w.actors s.number ≡ standing_at stage s) where
   abbrev e : Setup
@@ -166,66 +151,12 @@ module _ (stage : Stage Content) (s : Scheduler) (off : migration (setup_for s) 
   number : IsScheduler s.config.schedulers me
   number = (s.number_from, s.number_to)
 
-  is : is_scheduler e me ≡ true
-  is = number-scheduler e me number
-
-  -- in its walk
-  abbrev walker : Instance → List Node → Actor
-  walker i ns = record (actor_of s) { instance = i; passed = ns }
-
-  -- once that is over it may do the next operation
-  module _ (v : State) (part : Shared) (i : Instance) (ns : List Node)
-      (walks : InWalk e v part me (at Begin (walker i ns))) where
-    abbrev a : Actor
-    a = walker i ns
-
-    has_name : (name : ℕ) → name ≤ s.trace.now.greatest → HasName i s name
-    has_name name upto = (omega (arith, upto, s.names_upto), by (named_at name s.names.held) refl)
-      where
-        by : (o : Option Named) → named_at name s.names.held ≡ o → IfSome o (IsHere i s)
-        by None held = tt
-        by (Some x) held = record {
-          name = omega
-              (arith, item_at-key name_of name x s.names.held held, upto, s.names_upto);
-          block = λ _. walk-here e v part me is off a walks name x held;
-          own = λ _. walk-own e v part me is off a walks name x held;
-        }
-
-    lies : (name : ℕ) (o : Option Named) → named_at name s.names.held ≡ o → IfSome o (Lies i)
-    lies name None held = tt
-    lies name (Some x) held = walk-block e v part me is a walks name x held
-
-    is_fresh : (name : ℕ) → has_place s.names.places name ≡ true
-        → named_at name s.names.held ≡ None → IsFresh s name
-    is_fresh name place none = record {
-      place = place;
-      fresh = ap (option_map (λ (x : Named). x.spot)) none;
-    }
-
-    suits : (o : Op) (ops : List Op) → drop s.done s.text.now ≡ o ∷ ops
-        → IsOperation s.config.schedulers o × (greatest_in o ≤ s.trace.now.greatest) → Suits i s o
-    suits (op.Alloc name bytes) ops left (is_op, upto) = (
-      is_fresh name (next-placed s (op.Alloc name bytes) ops left)
-          (walk-alloc e v part me is a walks name bytes ops left),
-      is_op.1,
-    )
-    suits (op.Free name) ops left (is_op, upto) = has_name name upto
-    suits (op.Realloc old fresh bytes) ops left (is_op, upto) = (
-      has_name old (omega (arith, upto)),
-      lies old (named_at old s.names.held) refl,
-      is_fresh fresh (next-placed s (op.Realloc old fresh bytes) ops left)
-          (walk-realloc e v part me is a walks old fresh bytes ops left),
-      is_op.2,
-    )
-    suits (op.Give name to) ops left (is_op, upto) = omega (arith, upto, s.names_upto)
-    suits (op.Take name tries) ops left (is_op, upto) = tt
-    suits op.Info ops left (is_op, upto) = tt
-    suits op.Idle ops left (is_op, upto) = tt
-
-    suits-next : SuitsNext i s
-    suits-next o ops left = suits o ops left
-        (first-operation s.config s.trace.now valid made w reached me o ops
-        (ap (λ (a : Actor). a.todo) here ∙ left))
+  -- after a walk it may do the next operation
+  after-walk : (part : Shared) (i : Instance) (ns : List Node)
+      → InWalk e w part me (at Begin (record (actor_of s) { instance = i; passed = ns }))
+      → SuitsNext i s
+  after-walk part i ns walks =
+      suits-next s valid made w reached (ap (λ (a : Actor). a.todo) here) w part i ns walks
 
   begins : stage ≡ Begin → (w.actors me).stage ≡ Begin
   begins begin = ap (λ (a : Actor). a.stage) here ∙ begin
@@ -237,7 +168,7 @@ module _ (stage : Stage Content) (s : Scheduler) (off : migration (setup_for s) 
   pub suits-taken : stage ≡ Begin → s.next ≡ None → SuitsNext s.instance s
   suits-taken begin none =
       let part = effect me TakeAll w.shared in
-      suits-next w part s.instance s.passed.nodes
+      after-walk part s.instance s.passed.nodes
       (subst (λ a. InWalk e w part me (at Begin a)) here
       (take_all-walks s.config s.trace.now valid made w reached me number (begins begin)
       (next-is None none)))
@@ -247,52 +178,58 @@ module _ (stage : Stage Content) (s : Scheduler) (off : migration (setup_for s) 
       → answer s.number TakeLink w.shared ≡ Rests → SuitsNext s.instance s
   suits-rests node begin next rests =
       let part = effect me TakeLink w.shared in
-      suits-next w part s.instance s.passed.nodes
+      after-walk part s.instance s.passed.nodes
       (subst (λ a. InWalk e w part me (at Begin a)) here
       (take_link-rests s.config s.trace.now valid made w reached me number node (begins begin)
       (next-is (Some node) next) rests))
 
-  -- its walk passed its next node
-  module _ (node : Node) (older : Option Node) (begin : stage ≡ Begin)
-      (next : s.next ≡ Some node) (passes : answer s.number TakeLink w.shared ≡ Passes older) where
-    abbrev after_link : Shared
-    after_link = effect me TakeLink w.shared
+  -- where carriers don't migrate
+  module _ (off : migration e ≡ false) where
+    is : is_scheduler e me ≡ true
+    is = number-scheduler e me number
 
-    abbrev nodes : List Node
-    nodes = node ∷ s.passed.nodes
+    -- its walk passed its next node
+    module _ (node : Node) (older : Option Node) (begin : stage ≡ Begin)
+        (next : s.next ≡ Some node) (passes : answer s.number TakeLink w.shared ≡ Passes older) where
+      abbrev after_link : Shared
+      after_link = effect me TakeLink w.shared
 
-    passed-walks : InWalk e w after_link me (at Begin (record (actor_of s) { passed = nodes }))
-    passed-walks =
-        subst (λ o. InWalk e w after_link me
-        (at Begin (record (actor_of s) { passed = with_passed o s.passed.nodes }))) next
-        (subst (λ (a : Actor). InWalk e w after_link me
-        (at Begin (record a { passed = with_passed a.next a.passed }))) here
-        (take_link-passes s.config s.trace.now valid made w reached me number node older
-        (begins begin) (next-is (Some node) next) passes))
+      abbrev nodes : List Node
+      nodes = node ∷ s.passed.nodes
 
-    pub goes-passed : CanAllGo s.number s.instance (node ∷ s.passed.nodes)
-    goes-passed = can-all e w after_link me is off nodes (actor_of s) passed-walks
+      passed-walks : InWalk e w after_link me (at Begin (record (actor_of s) { passed = nodes }))
+      passed-walks =
+          subst (λ o. InWalk e w after_link me
+          (at Begin (record (actor_of s) { passed = with_passed o s.passed.nodes }))) next
+          (subst (λ (a : Actor). InWalk e w after_link me
+          (at Begin (record a { passed = with_passed a.next a.passed }))) here
+          (take_link-passes s.config s.trace.now valid made w reached me number node older
+          (begins begin)
+          (next-is (Some node) next) passes))
 
-    pub suits-passed : (worked s.number s.instance (node ∷ s.passed.nodes)).hand ≡ None
-        → SuitsNext (worked s.number s.instance (node ∷ s.passed.nodes)).instance s
-    suits-passed none = suits-next w after_link (worked me s.instance nodes).instance []
-        (worked-walks e w after_link me is off nodes (actor_of s) passed-walks none)
+      pub goes-passed : CanAllGo s.number s.instance (node ∷ s.passed.nodes)
+      goes-passed = can-all e w after_link me is off nodes (actor_of s) passed-walks
 
-  -- a node of its walk was pushed to another's queue and linked there
-  module _ (node : Node) (to : ℕ) (gone : Gone)
-      (now : stage ≡ Routed (Linking node to) Walk gone) where
-    abbrev linked : Shared
-    linked = effect me (Link node to) w.shared
+      pub suits-passed : (worked s.number s.instance (node ∷ s.passed.nodes)).hand ≡ None
+          → SuitsNext (worked s.number s.instance (node ∷ s.passed.nodes)).instance s
+      suits-passed none = after-walk after_link (worked me s.instance nodes).instance []
+          (worked-walks e w after_link me is off nodes (actor_of s) passed-walks none)
 
-    linked-walks : InWalk e w linked me (at Begin (actor_of s))
-    linked-walks = subst (λ a. InWalk e w linked me (at Begin a)) here
-        (link-walks s.config s.trace.now valid made w reached me number node to gone
-        (ap (λ (a : Actor). a.stage) here ∙ now))
+    -- a node of its walk was pushed to another's queue and linked there
+    module _ (node : Node) (to : ℕ) (gone : Gone)
+        (now : stage ≡ Routed (Linking node to) Walk gone) where
+      abbrev linked : Shared
+      linked = effect me (Link node to) w.shared
 
-    pub goes-linked : CanAllGo s.number s.instance s.passed.nodes
-    goes-linked = can-all e w linked me is off s.passed.nodes (actor_of s) linked-walks
+      linked-walks : InWalk e w linked me (at Begin (actor_of s))
+      linked-walks = subst (λ a. InWalk e w linked me (at Begin a)) here
+          (link-walks s.config s.trace.now valid made w reached me number node to gone
+          (ap (λ (a : Actor). a.stage) here ∙ now))
 
-    pub suits-linked : (worked s.number s.instance s.passed.nodes).hand ≡ None
-        → SuitsNext (worked s.number s.instance s.passed.nodes).instance s
-    suits-linked none = suits-next w linked (worked me s.instance s.passed.nodes).instance []
-        (worked-walks e w linked me is off s.passed.nodes (actor_of s) linked-walks none)
+      pub goes-linked : CanAllGo s.number s.instance s.passed.nodes
+      goes-linked = can-all e w linked me is off s.passed.nodes (actor_of s) linked-walks
+
+      pub suits-linked : (worked s.number s.instance s.passed.nodes).hand ≡ None
+          → SuitsNext (worked s.number s.instance s.passed.nodes).instance s
+      suits-linked none = after-walk linked (worked me s.instance s.passed.nodes).instance []
+          (worked-walks e w linked me is off s.passed.nodes (actor_of s) linked-walks none)

@@ -1,0 +1,343 @@
+-- What the calls of a scheduler on carriers ask for, as what is shared is told, and what it has of a
+-- carrier by their answers.
+use Rattle.std.proofs.Common.{◌≡◌, ◌≢◌, ℕ, ◌*◌, ◌<◌, ◌≤◌, true, [], refl, sym, ap, ◌∙◌}
+use Rattle.std.proofs.Common.{subst, arith}
+use Rattle.std.specs.Prelude.{IfSome, IsSome, None, Option, Some}
+use Rattle.ea_model.specs.declared.carriers.Kind.TheVariants.{Multi, Single}
+use Rattle.ea_model.specs.declared.units.TheConstants.{NUMBERS}
+use Rattle.ea_model.specs.Content.{Content, block_at, gaps_of, largest}
+use Rattle.ea_model.specs.Instance.{Instance, block_in, content_of, employed, own_at}
+use Rattle.ea_model.specs.Instance.{has_content, owner_of, releasing_at}
+use Rattle.ea_model.specs.Trace.{IsScheduler}
+use Rattle.ea_machine.specs.declared.nodes.Named.{Named}
+use Rattle.ea_machine.specs.declared.owners.OwnerWord.{OwnerWord}
+use Rattle.ea_machine.specs.declared.owners.OwnerWord.TheVariants as word
+use Rattle.ea_machine.specs.declared.tasks.Gone.{Gone}
+use Rattle.ea_machine.specs.declared.tasks.Why.{Why}
+use Rattle.ea_machine.specs.declared.stages.Stage.{Stage}
+use Rattle.ea_machine.specs.declared.stages.Stage.TheVariants.{Collecting, Routed}
+use Rattle.ea_machine.specs.declared.stages.Route.TheVariants.{Abandoning, Clearing, Looking}
+use Rattle.ea_machine.specs.declared.stages.Route.TheVariants.{Sending, Settling, Trying}
+use Rattle.ea_machine.specs.Actor.{Actor}
+use Rattle.ea_machine.specs.Owners.{Busy, Employed, Returning}
+use Rattle.ea_machine.specs.Rows.{Answer, BusyTry, Look, Lost, Row, Saw, Won}
+use Rattle.ea_machine.specs.Setup.{Setup, migration}
+use Rattle.ea_machine.specs.Shared.{Shared}
+use Rattle.ea_machine.specs.Words.{IsLargest}
+use Rattle.ea_shared.specs.Calls.{Caller, Did}
+use Rattle.ea_sound.specs.Places.{IsNumber}
+use Rattle.ea_sound.proofs.CarrierCalls as carriers
+use Rattle.ea_sound.proofs.LeavingCalls as leaving
+use Rattle.ea_sound.proofs.ReleasingCalls as releasing
+use Rattle.ea_sound.proofs.WordCalls as words
+use Rattle.ea_sound.proofs.WordCalls.{NamesEmployer}
+use Rattle.ea_sched.specs.declared.state.Scheduler.{Scheduler}
+use Rattle.ea_sched.specs.Acting.{setup_for, standing_at}
+use Rattle.ea_sched.specs.Steps.{IsReadyAt}
+use Rattle.ea_sched.proofs.Calling.{in-answered, in_state, told-so}
+use Rattle.ea_sched.proofs.Doing.{Answered}
+
+-- a carrier number of that many schedulers
+abbrev pub IsCarrier : ℕ → ℕ → Type 0
+IsCarrier schedulers n = (1 ≤ n) × (n ≤ NUMBERS * schedulers)
+
+-- a scheduler that is ready for its row, at a stage
+module _ {stage : Stage Content} (s : Scheduler) {shared : Option Shared} {caller : Option Caller}
+    (h : IsReadyAt stage s shared caller) where
+  abbrev me : ℕ
+  me = s.number
+
+  abbrev e : Setup
+  e = setup_for s
+
+  number : IsScheduler s.config.schedulers me
+  number = (s.number_from, s.number_to)
+
+  -- a number of the run is one of its schedulers'
+  of-run : (n : ℕ) → IsNumber e n → IsCarrier s.config.schedulers n
+  of-run n is = (is.0, omega (arith, is.1))
+
+  -- the instance in that state is the scheduler's
+  its : (P : Instance → Type 0) → P (h.state.actors me).instance → P s.instance
+  its P holds = subst (λ (a : Actor). P a.instance) h.actor holds
+
+  module _ (why : Why) (gone : Gone) where
+    -- the owner word of the carrier of the block in the hand is to be read
+    module _ (hand : Named) (now : stage ≡ Routed (Looking hand) why gone) where
+      pub look-carrier : IsCarrier s.config.schedulers hand.spot.carrier
+      look-carrier = of-run hand.spot.carrier
+          (carriers.look-number s.config s.trace.now h.config h.trace h.state h.reached me number
+          why gone hand (in_state s h (Routed (Looking hand) why gone) now))
+
+    -- the carrier is to be made busy
+    module _ (hand : Named) (seen : OwnerWord) (now : stage ≡ Routed (Trying hand seen) why gone)
+      where
+        pub try-carrier : IsCarrier s.config.schedulers hand.spot.carrier
+        try-carrier = of-run hand.spot.carrier
+            (carriers.try-number s.config s.trace.now h.config h.trace h.state h.reached me number
+            why gone hand seen (in_state s h (Routed (Trying hand seen) why gone) now))
+
+        pub try-seen : (g : ℕ) × (seen ≡ word.Pooled me g) × IsLargest g
+        try-seen = carriers.try-seen s.config s.trace.now h.config h.trace h.state
+            h.reached me number why gone hand seen
+            (in_state s h (Routed (Trying hand seen) why gone) now)
+
+    module _ (x : Content) where
+      -- a busy carrier is to be settled
+      module _ (now : stage ≡ Routed (Settling x) why gone) where
+        pub settle-many : x.kind ≡ Multi
+        settle-many = carriers.settle-many s.config s.trace.now h.config h.trace h.state h.reached
+            me number why gone x (in_state s h (Routed (Settling x) why gone) now)
+
+        pub settle-carrier : IsCarrier s.config.schedulers x.number
+        settle-carrier = of-run x.number
+            (carriers.settle-number s.config s.trace.now h.config h.trace h.state h.reached me
+            number why gone x (in_state s h (Routed (Settling x) why gone) now))
+
+        pub settle-busy : IfSome shared (λ y. y.places x.number ≡ Busy me)
+        settle-busy = told-so s h (λ y. y.places x.number ≡ Busy me)
+            (carriers.settle-place s.config s.trace.now h.config h.trace h.state h.reached me
+            number why gone x (in_state s h (Routed (Settling x) why gone) now))
+
+        pub settle-largest : IsLargest (largest (gaps_of x))
+        settle-largest = carriers.settle-largest s.config s.trace.now h.config h.trace h.state
+            h.reached me number why gone x (in_state s h (Routed (Settling x) why gone) now)
+
+      -- one is to be abandoned
+      module _ (now : stage ≡ Routed (Abandoning x) why gone) where
+        pub abandon-many : x.kind ≡ Multi
+        abandon-many = leaving.abandon-many s.config s.trace.now h.config h.trace h.state h.reached
+            me number why gone x (in_state s h (Routed (Abandoning x) why gone) now)
+
+        pub abandon-carrier : IsCarrier s.config.schedulers x.number
+        abandon-carrier = of-run x.number
+            (leaving.abandon-number s.config s.trace.now h.config h.trace h.state h.reached me
+            number why gone x (in_state s h (Routed (Abandoning x) why gone) now))
+
+        pub abandon-employed : IfSome shared (λ y. y.places x.number ≡ Employed me)
+        abandon-employed = told-so s h (λ y. y.places x.number ≡ Employed me)
+            (leaving.abandon-place s.config s.trace.now h.config h.trace h.state h.reached me
+            number why gone x (in_state s h (Routed (Abandoning x) why gone) now))
+
+        pub abandon-some : x.blocks ≢ []
+        abandon-some = leaving.abandon-some s.config s.trace.now h.config h.trace h.state h.reached
+            me number why gone x (in_state s h (Routed (Abandoning x) why gone) now)
+
+        pub abandon-largest : IsLargest (largest (gaps_of x))
+        abandon-largest = leaving.abandon-largest s.config s.trace.now h.config h.trace h.state
+            h.reached me number why gone x (in_state s h (Routed (Abandoning x) why gone) now)
+
+      -- one is to be sent home
+      module _ (now : stage ≡ Routed (Sending x) why gone) where
+        pub send-many : x.kind ≡ Multi
+        send-many = leaving.send-many s.config s.trace.now h.config h.trace h.state h.reached
+            me number why gone x (in_state s h (Routed (Sending x) why gone) now)
+
+        pub send-empty : x.blocks ≡ []
+        send-empty = leaving.send-empty s.config s.trace.now h.config h.trace h.state h.reached
+            me number why gone x (in_state s h (Routed (Sending x) why gone) now)
+
+        pub send-other : owner_of x.number ≢ me
+        send-other = leaving.send-other s.config s.trace.now h.config h.trace h.state h.reached
+            me number why gone x (in_state s h (Routed (Sending x) why gone) now)
+
+        pub send-carrier : IsCarrier s.config.schedulers x.number
+        send-carrier = of-run x.number
+            (leaving.send-number s.config s.trace.now h.config h.trace h.state h.reached me
+            number why gone x (in_state s h (Routed (Sending x) why gone) now))
+
+        pub send-employed : IfSome shared (λ y. y.places x.number ≡ Employed me)
+        send-employed = told-so s h (λ y. y.places x.number ≡ Employed me)
+            (leaving.send-place s.config s.trace.now h.config h.trace h.state h.reached me
+            number why gone x (in_state s h (Routed (Sending x) why gone) now))
+
+      -- one is to be cleared
+      module _ (now : stage ≡ Routed (Clearing x) why gone) where
+        pub clear-mine : owner_of x.number ≡ me
+        clear-mine = leaving.clear-mine s.config s.trace.now h.config h.trace h.state h.reached
+            me number why gone x (in_state s h (Routed (Clearing x) why gone) now)
+
+        pub clear-carrier : IsCarrier s.config.schedulers x.number
+        clear-carrier = of-run x.number
+            (leaving.clear-number s.config s.trace.now h.config h.trace h.state h.reached me
+            number why gone x (in_state s h (Routed (Clearing x) why gone) now))
+
+        pub clear-employed : IfSome shared (λ y. y.places x.number ≡ Employed me)
+        clear-employed = told-so s h (λ y. y.places x.number ≡ Employed me)
+            (leaving.clear-place s.config s.trace.now h.config h.trace h.state h.reached me
+            number why gone x (in_state s h (Routed (Clearing x) why gone) now))
+
+        -- the instance has it no longer, and owns it
+        pub clear-none : content_of (employed s.instance) x.number ≡ None
+        clear-none = its (λ i. content_of (employed i) x.number ≡ None)
+            (leaving.clear-none s.config s.trace.now h.config h.trace h.state h.reached me
+            number why gone x (in_state s h (Routed (Clearing x) why gone) now))
+
+        pub clear-own : IsSome (own_at s.instance.own x.number)
+        clear-own = its (λ i. IsSome (own_at i.own x.number))
+            (subst IsSome (sym (carriers.clear-own s.config s.trace.now h.config h.trace h.state
+            h.reached me number why gone x
+            (in_state s h (Routed (Clearing x) why gone) now))) refl)
+
+  -- the settings of its instance are those of the run
+  pub own-settings : s.instance.settings ≡ e.settings
+  own-settings = its (λ i. i.settings ≡ e.settings)
+      (releasing.own-settings s.config s.trace.now h.config h.trace h.state h.reached me number)
+
+  pub own-migrates : migration e ≡ true → 0 < s.instance.settings.acul
+  own-migrates on = its (λ i. 0 < i.settings.acul)
+      (releasing.own-migrates s.config s.trace.now h.config h.trace h.state h.reached me number on)
+
+  -- a carrier that has returned is to be cleared
+  module _ (n : ℕ) (now : stage ≡ Collecting n) where
+    pub collect-mine : owner_of n ≡ me
+    collect-mine = carriers.collect-mine s.config s.trace.now h.config h.trace h.state h.reached me
+        number n (in_state s h (Collecting n) now)
+
+    pub collect-carrier : IsCarrier s.config.schedulers n
+    collect-carrier = of-run n
+        (carriers.collect-number s.config s.trace.now h.config h.trace h.state h.reached me
+        number n (in_state s h (Collecting n) now))
+
+    pub collect-returned :
+        IfSome shared (λ y. (x : Content) × (y.places n ≡ Returning me x))
+    collect-returned = told-so s h (λ y. (x : Content) × (y.places n ≡ Returning me x))
+        (carriers.collect-home s.config s.trace.now h.config h.trace h.state h.reached me number n
+        (in_state s h (Collecting n) now))
+
+    pub collect-none : content_of (employed s.instance) n ≡ None
+    collect-none = its (λ i. content_of (employed i) n ≡ None)
+        (carriers.collect-none s.config s.trace.now h.config h.trace h.state h.reached me
+        number n (in_state s h (Collecting n) now))
+
+    pub collect-own : IsSome (own_at s.instance.own n)
+    collect-own = its (λ i. IsSome (own_at i.own n))
+        (subst IsSome (sym (carriers.collect-own s.config s.trace.now h.config h.trace h.state
+        h.reached me number n (in_state s h (Collecting n) now))) refl)
+
+  -- a row was answered
+  module _ {new : Option Shared} {then : Option Caller} where
+    -- in that state the scheduler stood at the stage, too, with its instance
+    module _ (row : Row) (got : Answer) (did : Did me row got shared new caller then) where
+      abbrev u : Answered e me (standing_at stage s) row got shared caller then
+      u = in-answered s h row got did
+
+      there : (at : Stage Content) → stage ≡ at → (u.state.actors me).stage ≡ at
+      there at now = ap (λ (a : Actor). a.stage) u.actor ∙ now
+
+      own : (P : Instance → Type 0) → P (u.state.actors me).instance → P s.instance
+      own P holds = subst (λ (a : Actor). P a.instance) u.actor holds
+
+    module _ (why : Why) (gone : Gone) (hand : Named) where
+      -- the word that a look showed
+      module _ (now : stage ≡ Routed (Looking hand) why gone) where
+        pub saw-named : (v : OwnerWord)
+            → Did me (Look hand.spot.carrier) (Saw v) shared new caller then
+            → NamesEmployer v
+        saw-named v did =
+            let u = in-answered s h (Look hand.spot.carrier) (Saw v) did in
+            words.saw-named s.config s.trace.now h.config h.trace u.state u.reached me number
+            why gone hand (there (Look hand.spot.carrier) (Saw v) did
+            (Routed (Looking hand) why gone) now) v (sym u.answered)
+
+        -- the block is here
+        pub saw-block : Did me (Look hand.spot.carrier) (Saw (word.Employed me)) shared new caller
+            then
+            → IsSome (block_in (employed s.instance) hand.spot)
+        saw-block did =
+            let row = Look hand.spot.carrier in
+            let got = Saw (word.Employed me) in
+            let u = in-answered s h row got did in
+            own row got did (λ i. IsSome (block_in (employed i) hand.spot))
+            (releasing.release-block s.config s.trace.now h.config h.trace u.state u.reached me
+            number why gone hand (there row got did (Routed (Looking hand) why gone) now)
+            (words.saw-employed me hand.spot.carrier u.state.shared me (sym u.answered)))
+
+        pub saw-here : (v : OwnerWord)
+            → Did me (Look hand.spot.carrier) (Saw v) shared new caller then
+            → v ≡ word.Employed me → IsSome (block_in (employed s.instance) hand.spot)
+        saw-here v did same = saw-block
+            (subst (λ u. Did me (Look hand.spot.carrier) (Saw u) shared new caller then) same did)
+
+        -- and its carrier is, once it is released, among those of its kind
+        module _ (did : Did me (Look hand.spot.carrier) (Saw (word.Employed me)) shared new caller
+            then) (y : Content)
+            (found : content_of (employed (releasing_at s.instance hand.spot)) hand.spot.carrier
+            ≡ Some y) where
+          abbrev Found : Instance → Type 0
+          Found i = content_of (employed (releasing_at i hand.spot)) hand.spot.carrier ≡ Some y
+
+          looks : Answered e me (standing_at stage s) (Look hand.spot.carrier)
+              (Saw (word.Employed me)) shared caller then
+          looks = in-answered s h (Look hand.spot.carrier) (Saw (word.Employed me)) did
+
+          then-at : (looks.state.actors me).stage ≡ Routed (Looking hand) why gone
+          then-at = ap (λ (a : Actor). a.stage) looks.actor ∙ now
+
+          is-mine : looks.state.shared.places hand.spot.carrier ≡ Employed me
+          is-mine =
+              words.saw-employed me hand.spot.carrier looks.state.shared me (sym looks.answered)
+
+          found-there : Found (looks.state.actors me).instance
+          found-there = subst (λ (a : Actor). Found a.instance) (sym looks.actor) found
+
+          pub saw-many : y.kind ≡ Multi
+              → content_of (releasing_at s.instance hand.spot).contents hand.spot.carrier ≡ Some y
+          saw-many many = subst (λ (a : Actor).
+              content_of (releasing_at a.instance hand.spot).contents hand.spot.carrier ≡ Some y)
+              looks.actor
+              (releasing.released-many s.config s.trace.now h.config h.trace looks.state
+              looks.reached me number why gone hand then-at is-mine y found-there many)
+
+          pub saw-alone : y.kind ≡ Single
+              → content_of (releasing_at s.instance hand.spot).singles hand.spot.carrier ≡ Some y
+          saw-alone single = subst (λ (a : Actor).
+              content_of (releasing_at a.instance hand.spot).singles hand.spot.carrier ≡ Some y)
+              looks.actor
+              (releasing.released-alone s.config s.trace.now h.config h.trace looks.state
+              looks.reached me number why gone hand then-at is-mine y found-there single)
+
+          pub saw-empty : y.kind ≡ Single → y.blocks ≡ []
+          saw-empty = releasing.released-empty s.config s.trace.now h.config h.trace looks.state
+              looks.reached me number why gone hand then-at is-mine y found-there
+
+          pub saw-mine : y.kind ≡ Single → owner_of y.number ≡ me
+          saw-mine = releasing.released-mine s.config s.trace.now h.config h.trace looks.state
+              looks.reached me number why gone hand then-at is-mine y found-there
+
+        pub saw-has : Did me (Look hand.spot.carrier) (Saw (word.Employed me)) shared new caller then
+            → has_content hand.spot.carrier (employed (releasing_at s.instance hand.spot)) ≡ true
+        saw-has did =
+            let row = Look hand.spot.carrier in
+            let got = Saw (word.Employed me) in
+            let u = in-answered s h row got did in
+            own row got did
+            (λ i. has_content hand.spot.carrier (employed (releasing_at i hand.spot)) ≡ true)
+            (releasing.released-has s.config s.trace.now h.config h.trace u.state u.reached me
+            number why gone hand (there row got did (Routed (Looking hand) why gone) now)
+            (words.saw-employed me hand.spot.carrier u.state.shared me (sym u.answered)))
+
+      -- a try to make the carrier busy
+      module _ (seen : OwnerWord) (now : stage ≡ Routed (Trying hand seen) why gone) where
+        pub won-block : (x : Content)
+            → Did me (BusyTry hand.spot.carrier seen) (Won x) shared new caller then
+            → (x.number ≡ hand.spot.carrier) × (x.kind ≡ Multi)
+            × IsSome (block_at x.blocks hand.spot.offset)
+        won-block x did =
+            let row = BusyTry hand.spot.carrier seen in
+            let u = in-answered s h row (Won x) did in
+            let (same, many, (b, at, named)) = carriers.won-block s.config s.trace.now h.config
+            h.trace u.state u.reached me number why gone hand seen
+            (there row (Won x) did (Routed (Trying hand seen) why gone) now) x
+            (words.busy-won me hand.spot.carrier u.state.shared seen x (sym u.answered)) in
+            (same, many, subst IsSome (sym at) refl)
+
+        pub lost-named : (v : OwnerWord)
+            → Did me (BusyTry hand.spot.carrier seen) (Lost v) shared new caller then
+            → NamesEmployer v
+        lost-named v did =
+            let row = BusyTry hand.spot.carrier seen in
+            let u = in-answered s h row (Lost v) did in
+            words.lost-named s.config s.trace.now h.config h.trace u.state u.reached me number
+            why gone hand seen (there row (Lost v) did (Routed (Trying hand seen) why gone) now) v
+            (sym u.answered)

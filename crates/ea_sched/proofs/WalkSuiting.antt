@@ -1,0 +1,123 @@
+-- Once a walk is over by a row of a route, or by a carrier that was collected, the scheduler may do
+-- its next operation.
+use Rattle.std.proofs.Common.{◌≡◌, ℕ, sym, ap, ◌∙◌, subst}
+use Rattle.std.specs.Prelude.{None, Option}
+use Rattle.ea_model.specs.Content.{Content}
+use Rattle.ea_model.specs.Settings.{IsValidConfig}
+use Rattle.ea_model.specs.Trace.{IsScheduler, IsValidTrace}
+use Rattle.ea_machine.specs.declared.tasks.Gone.{Gone}
+use Rattle.ea_machine.specs.declared.tasks.Why.TheVariants.{Walk}
+use Rattle.ea_machine.specs.declared.stages.Stage.TheVariants.{Begin, Collecting, Routed}
+use Rattle.ea_machine.specs.declared.stages.Route.{Route}
+use Rattle.ea_machine.specs.Actor.{Actor}
+use Rattle.ea_machine.specs.Machine.{IsReached, wants_on}
+use Rattle.ea_machine.specs.Releases.{Turned, disowned, turned}
+use Rattle.ea_machine.specs.Rows.{Answer, Clear}
+use Rattle.ea_machine.specs.Setup.{Setup, setup_of}
+use Rattle.ea_machine.specs.Shared.{Shared}
+use Rattle.ea_machine.specs.State.{State}
+use Rattle.ea_machine.specs.Table.{effect}
+use Rattle.ea_shared.specs.Calls.{Caller, Did}
+use Rattle.ea_sound.specs.Leaves.{InWalk}
+use Rattle.ea_sound.specs.Moments.{at}
+use Rattle.ea_sound.proofs.Assembly.{HoldsAt}
+use Rattle.ea_sound.proofs.CarrierCalls.{turned-walk, walks}
+use Rattle.ea_sound.proofs.ShortRoutes.{turned-keeps}
+use Rattle.ea_sound.proofs.WalkCalls.{collected-walks}
+use Rattle.ea_sched.specs.declared.state.Scheduler.{Scheduler}
+use Rattle.ea_sched.specs.Acting.{IsSame, setup_for, standing_at}
+use Rattle.ea_sched.specs.Asking.{SuitsNext}
+use Rattle.ea_sched.specs.Steps.{IsReadyAt}
+use Rattle.ea_sched.proofs.Calling.{in-answered}
+use Rattle.ea_sched.proofs.Doing.{Answered}
+use Rattle.ea_sched.proofs.AfterWalk.{suits-next}
+
+-- what is left of the operations, and where the walk is, tell it of a scheduler in the same run
+module _ (s t : Scheduler) (same : IsSame s t) (valid : IsValidConfig s.config)
+    (made : IsValidTrace s.config.schedulers s.trace.now) (w : State)
+    (reached : IsReached (setup_for s) w) (part : Shared) (b : Actor)
+    (todo : (w.actors s.number).todo ≡ b.todo) (is : standing_at Begin t ≡ at Begin b) where
+  run-same : setup_for t ≡ setup_for s
+  run-same = ap (λ c. setup_of c t.trace.now) same.config
+      ∙ ap (λ r. setup_of s.config r.now) same.trace
+
+  made-same : IsValidTrace t.config.schedulers t.trace.now
+  made-same = subst (λ c. IsValidTrace c.schedulers t.trace.now) (sym same.config)
+      (subst (λ r. IsValidTrace s.config.schedulers r.now) (sym same.trace) made)
+
+  pub suits-same : InWalk (setup_for s) w part s.number (at Begin b) → SuitsNext t.instance t
+  suits-same walks = suits-next t (subst IsValidConfig (sym same.config) valid) made-same w
+      (subst (λ e. IsReached e w) (sym run-same) reached)
+      (ap (λ n. (w.actors n).todo) same.number ∙ todo ∙ sym (ap (λ (a : Actor). a.todo) is))
+      w part t.instance t.passed.nodes
+      (subst (λ n. InWalk (setup_for t) w part n (standing_at Begin t)) (sym same.number)
+      (subst (λ e. InWalk e w part s.number (standing_at Begin t)) (sym run-same)
+      (subst (InWalk (setup_for s) w part s.number) (sym is) walks)))
+
+-- the row of a route was done, and the route is over
+module _ (s t : Scheduler) (same : IsSame s t) (route : Route Content) (gone : Gone)
+    {shared new : Option Shared} {caller then : Option Caller}
+    (h : IsReadyAt (Routed route Walk gone) s shared caller) (got : Answer)
+    (did : Did s.number (wants_on route) got shared new caller then) where
+  abbrev e : Setup
+  e = setup_for s
+
+  abbrev me : ℕ
+  me = s.number
+
+  abbrev a : Actor
+  a = standing_at (Routed route Walk gone) s
+
+  abbrev turn : Turned
+  turn = turned e me route gone a got
+
+  number : IsScheduler s.config.schedulers me
+  number = (s.number_from, s.number_to)
+
+  u : Answered e me a (wants_on route) got shared caller then
+  u = in-answered s h (wants_on route) got did
+
+  abbrev moved : Shared
+  moved = effect me (wants_on route) u.state.shared
+
+  abbrev Left : Actor → Answer → Type 0
+  Left b r =
+      let t = turned e me route gone b r in
+      HoldsAt e u.state moved me (InWalk e u.state moved me)
+      (walks s.config s.trace.now h.config h.trace u.state u.reached me number route gone)
+      Walk t.gone t.actor t.route
+
+  left : Left a got
+  left = subst (λ b. Left b got) u.actor
+      (subst (Left (u.state.actors me)) (sym u.answered)
+      (turned-walk s.config s.trace.now h.config h.trace u.state u.reached me number route gone
+      (ap (λ (b : Actor). b.stage) u.actor)).0)
+
+  by-route : (o : Option (Route Content))
+      → HoldsAt e u.state moved me (InWalk e u.state moved me)
+      (walks s.config s.trace.now h.config h.trace u.state u.reached me number route gone)
+      Walk turn.gone turn.actor o
+      → o ≡ None → InWalk e u.state moved me (at Begin turn.actor)
+  by-route o holds over = subst (HoldsAt e u.state moved me (InWalk e u.state moved me)
+      (walks s.config s.trace.now h.config h.trace u.state u.reached me number route gone)
+      Walk turn.gone turn.actor) over holds
+
+  pub suits-turned : turn.route ≡ None → standing_at Begin t ≡ at Begin turn.actor
+      → SuitsNext t.instance t
+  suits-turned over is = suits-same s t same h.config h.trace u.state u.reached moved turn.actor
+      (ap (λ (b : Actor). b.todo) u.actor ∙ sym (turned-keeps e me route gone a got).1) is
+      (by-route turn.route left over)
+
+-- a carrier was collected
+module _ (s t : Scheduler) (same : IsSame s t) (n : ℕ) {shared : Option Shared}
+    {caller : Option Caller} (h : IsReadyAt (Collecting n) s shared caller) where
+  abbrev cleared : Shared
+  cleared = effect s.number (Clear n) h.state.shared
+
+  pub suits-collected : standing_at Begin t
+      ≡ at Begin (disowned n (standing_at (Collecting n) s)) → SuitsNext t.instance t
+  suits-collected is = suits-same s t same h.config h.trace h.state h.reached cleared
+      (disowned n (standing_at (Collecting n) s)) (ap (λ (b : Actor). b.todo) h.actor) is
+      (subst (λ b. InWalk (setup_for s) h.state cleared s.number (at Begin (disowned n b))) h.actor
+      (collected-walks s.config s.trace.now h.config h.trace h.state h.reached s.number (s.number_from, s.number_to) n
+      (ap (λ (b : Actor). b.stage) h.actor)))
