@@ -1,5 +1,5 @@
--- Once its walk is over a scheduler may do its next operation: the name that this brings has a place
--- and isn't held, and the block of a held name lies where the operation asks for it.
+-- Once its walk is over a scheduler may do its next operation: the name that this brings has a
+-- place and isn't held, and the block of a held name lies where the operation asks for it.
 use Rattle.std.proofs.Common.{◌≡◌, ℕ, ◌≤◌, true, false, List}
 use Rattle.std.proofs.Common.{◌∷◌, drop, refl, sym, ap, ◌∙◌, subst, arith}
 use Rattle.std.specs.Prelude.{Option, None, Some, IfSome, option_map}

@@ -246,7 +246,8 @@ module _ {stage : Stage Content} (s : Scheduler) {shared : Option Shared} {calle
         → Did me TakeLink Rests shared new caller now → SuitsNext s.instance s
     rests-suits off node begin next did =
         let u = in-answered TakeLink Rests did in
-        suits-rests stage s h.config h.trace u.state u.reached u.actor node begin next (sym u.answered)
+        suits-rests stage s h.config h.trace u.state u.reached u.actor node begin next
+        (sym u.answered)
 
     -- it was passed
     module _ (node : Node) (begin : stage ≡ Begin) (next : s.next ≡ Some node)
@@ -265,8 +266,8 @@ module _ {stage : Stage Content} (s : Scheduler) {shared : Option Shared} {calle
             → SuitsNext (worked me s.instance nodes).instance s
         passed-suits off = subst (λ ns. (worked me s.instance ns).hand ≡ None
             → SuitsNext (worked me s.instance ns).instance s) (sym are)
-            (suits-passed stage s h.config h.trace u.state u.reached u.actor off node None begin next
-            (sym u.answered))
+            (suits-passed stage s h.config h.trace u.state u.reached u.actor off node None begin
+            next (sym u.answered))
 
         ended-is : worked_off e me nodes (record a { passed = nodes; next = None })
             ≡ after_row e me a (Passes None) Begin

@@ -47,7 +47,7 @@ use Rattle.ea_sched.specs.Asking.{HasMore, IsAsked, IsHere}
 use Rattle.ea_sched.specs.Steps.{IsReadyAt}
 use Rattle.ea_sched.proofs.Calling.{left-more}
 use Rattle.ea_sched.proofs.Doing.{Answered, answered-so}
-use Rattle.ea_sched.proofs.Suiting.{next-placed}
+use Rattle.ea_sched.proofs.AfterWalk.{next-placed}
 
 -- the name that is asked for has a place
 module _ (s : Scheduler) (ask : Ask) where

@@ -190,7 +190,8 @@ module _ (stage : Stage Content) (s : Scheduler) (valid : IsValidConfig s.config
 
     -- its walk passed its next node
     module _ (node : Node) (older : Option Node) (begin : stage ≡ Begin)
-        (next : s.next ≡ Some node) (passes : answer s.number TakeLink w.shared ≡ Passes older) where
+        (next : s.next ≡ Some node)
+        (passes : answer s.number TakeLink w.shared ≡ Passes older) where
       abbrev after_link : Shared
       after_link = effect me TakeLink w.shared
 

@@ -119,5 +119,6 @@ module _ (s t : Scheduler) (same : IsSame s t) (n : ℕ) {shared : Option Shared
   suits-collected is = suits-same s t same h.config h.trace h.state h.reached cleared
       (disowned n (standing_at (Collecting n) s)) (ap (λ (b : Actor). b.todo) h.actor) is
       (subst (λ b. InWalk (setup_for s) h.state cleared s.number (at Begin (disowned n b))) h.actor
-      (collected-walks s.config s.trace.now h.config h.trace h.state h.reached s.number (s.number_from, s.number_to) n
+      (collected-walks s.config s.trace.now h.config h.trace h.state h.reached s.number
+      (s.number_from, s.number_to) n
       (ap (λ (b : Actor). b.stage) h.actor)))
