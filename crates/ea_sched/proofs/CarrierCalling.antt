@@ -1,14 +1,16 @@
--- What the calls of a scheduler on carriers ask for, as what is shared is told, and what it has of
--- a carrier by their answers.
-use Rattle.std.proofs.Common.{◌≡◌, ◌≢◌, ℕ, ◌*◌, ◌<◌, ◌≤◌, true, [], refl, sym, ap, ◌∙◌}
+-- What the calls of a scheduler on carriers ask for, as what is shared is told, and what it has of a
+-- carrier by their answers.
+use Rattle.std.proofs.Common.{◌≡◌, ◌≢◌, ℕ, ◌%◌, ◌*◌, ◌<◌, ◌≤◌, true, List, [], refl, sym, ap, ◌∙◌}
 use Rattle.std.proofs.Common.{subst, arith}
 use Rattle.std.specs.Prelude.{IfSome, IsSome, None, Option, Some}
 use Rattle.ea_model.specs.declared.carriers.Kind.TheVariants.{Multi, Single}
+use Rattle.ea_model.specs.declared.carriers.Spot.{Spot}
 use Rattle.ea_model.specs.declared.units.TheConstants.{NUMBERS}
 use Rattle.ea_model.specs.Content.{Content, block_at, gaps_of, largest}
 use Rattle.ea_model.specs.Instance.{Instance, block_in, content_of, employed, own_at}
 use Rattle.ea_model.specs.Instance.{has_content, owner_of, releasing_at}
 use Rattle.ea_model.specs.Trace.{IsScheduler}
+use Rattle.ea_model.proofs.Options.{if_some}
 use Rattle.ea_machine.specs.declared.nodes.Named.{Named}
 use Rattle.ea_machine.specs.declared.owners.OwnerWord.{OwnerWord}
 use Rattle.ea_machine.specs.declared.owners.OwnerWord.TheVariants as word
@@ -19,12 +21,12 @@ use Rattle.ea_machine.specs.declared.stages.Stage.TheVariants.{Collecting, Route
 use Rattle.ea_machine.specs.declared.stages.Route.TheVariants.{Abandoning, Clearing, Looking}
 use Rattle.ea_machine.specs.declared.stages.Route.TheVariants.{Sending, Settling, Trying}
 use Rattle.ea_machine.specs.Actor.{Actor}
-use Rattle.ea_machine.specs.Owners.{Busy, Employed, Returning}
+use Rattle.ea_machine.specs.Owners.{Busy, Employed}
 use Rattle.ea_machine.specs.Rows.{Answer, BusyTry, Look, Lost, Row, Saw, Won}
 use Rattle.ea_machine.specs.Setup.{Setup, migration}
 use Rattle.ea_machine.specs.Shared.{Shared}
-use Rattle.ea_machine.specs.Words.{IsLargest}
 use Rattle.ea_shared.specs.Calls.{Caller, Did}
+use Rattle.ea_shared.specs.Carriers.{HasReturned, IsCarrier, IsFor, IsPooledBy}
 use Rattle.ea_sound.specs.Places.{IsNumber}
 use Rattle.ea_sound.proofs.CarrierCalls as carriers
 use Rattle.ea_sound.proofs.LeavingCalls as leaving
@@ -36,10 +38,6 @@ use Rattle.ea_sched.specs.Acting.{setup_for, standing_at}
 use Rattle.ea_sched.specs.Steps.{IsReadyAt}
 use Rattle.ea_sched.proofs.Calling.{in-answered, in_state, told-so}
 use Rattle.ea_sched.proofs.Doing.{Answered}
-
--- a carrier number of that many schedulers
-abbrev pub IsCarrier : ℕ → ℕ → Type 0
-IsCarrier schedulers n = (1 ≤ n) × (n ≤ NUMBERS * schedulers)
 
 -- a scheduler that is ready for its row, at a stage
 module _ {stage : Stage Content} (s : Scheduler) {shared : Option Shared} {caller : Option Caller}
@@ -77,10 +75,12 @@ module _ {stage : Stage Content} (s : Scheduler) {shared : Option Shared} {calle
             (carriers.try-number s.config s.trace.now h.config h.trace h.state h.reached me number
             why gone hand seen (in_state s h (Routed (Trying hand seen) why gone) now))
 
-        pub try-seen : (g : ℕ) × (seen ≡ word.Pooled me g) × IsLargest g
-        try-seen = carriers.try-seen s.config s.trace.now h.config h.trace h.state
+        pub try-pooled : IsPooledBy me seen
+        try-pooled =
+            let (g, is, units) = carriers.try-seen s.config s.trace.now h.config h.trace h.state
             h.reached me number why gone hand seen
-            (in_state s h (Routed (Trying hand seen) why gone) now)
+            (in_state s h (Routed (Trying hand seen) why gone) now) in
+            record { largest = g; is = is; units = units }
 
     module _ (x : Content) where
       -- a busy carrier is to be settled
@@ -99,9 +99,17 @@ module _ {stage : Stage Content} (s : Scheduler) {shared : Option Shared} {calle
             (carriers.settle-place s.config s.trace.now h.config h.trace h.state h.reached me
             number why gone x (in_state s h (Routed (Settling x) why gone) now))
 
-        pub settle-largest : IsLargest (largest (gaps_of x))
-        settle-largest = carriers.settle-largest s.config s.trace.now h.config h.trace h.state
-            h.reached me number why gone x (in_state s h (Routed (Settling x) why gone) now)
+        pub settle-for : (gap : ℕ) → x.blocks ≢ [] → gap ≡ largest (gaps_of x)
+            → IsFor x.number gap x
+        settle-for gap some is =
+            let units = carriers.settle-largest s.config s.trace.now h.config h.trace h.state
+            h.reached me number why gone x (in_state s h (Routed (Settling x) why gone) now) in
+            record {
+              number = refl;
+              blocks = some;
+              is = is;
+              units = (ap (λ n. n % 2) is ∙ units.0, omega (arith, is, units.1));
+            }
 
       -- one is to be abandoned
       module _ (now : stage ≡ Routed (Abandoning x) why gone) where
@@ -119,13 +127,18 @@ module _ {stage : Stage Content} (s : Scheduler) {shared : Option Shared} {calle
             (leaving.abandon-place s.config s.trace.now h.config h.trace h.state h.reached me
             number why gone x (in_state s h (Routed (Abandoning x) why gone) now))
 
-        pub abandon-some : x.blocks ≢ []
-        abandon-some = leaving.abandon-some s.config s.trace.now h.config h.trace h.state h.reached
-            me number why gone x (in_state s h (Routed (Abandoning x) why gone) now)
-
-        pub abandon-largest : IsLargest (largest (gaps_of x))
-        abandon-largest = leaving.abandon-largest s.config s.trace.now h.config h.trace h.state
-            h.reached me number why gone x (in_state s h (Routed (Abandoning x) why gone) now)
+        pub abandon-for : (gap : ℕ) → gap ≡ largest (gaps_of x) → IsFor x.number gap x
+        abandon-for gap is =
+            let at = in_state s h (Routed (Abandoning x) why gone) now in
+            let units = leaving.abandon-largest s.config s.trace.now h.config h.trace h.state
+            h.reached me number why gone x at in
+            record {
+              number = refl;
+              blocks = leaving.abandon-some s.config s.trace.now h.config h.trace h.state h.reached
+                  me number why gone x at;
+              is = is;
+              units = (ap (λ n. n % 2) is ∙ units.0, omega (arith, is, units.1));
+            }
 
       -- one is to be sent home
       module _ (now : stage ≡ Routed (Sending x) why gone) where
@@ -199,9 +212,8 @@ module _ {stage : Stage Content} (s : Scheduler) {shared : Option Shared} {calle
         (carriers.collect-number s.config s.trace.now h.config h.trace h.state h.reached me
         number n (in_state s h (Collecting n) now))
 
-    pub collect-returned :
-        IfSome shared (λ y. (x : Content) × (y.places n ≡ Returning me x))
-    collect-returned = told-so s h (λ y. (x : Content) × (y.places n ≡ Returning me x))
+    pub collect-returned : IfSome shared (λ y. HasReturned me (y.places n))
+    collect-returned = told-so s h (λ y. HasReturned me (y.places n))
         (carriers.collect-home s.config s.trace.now h.config h.trace h.state h.reached me number n
         (in_state s h (Collecting n) now))
 
@@ -305,8 +317,7 @@ module _ {stage : Stage Content} (s : Scheduler) {shared : Option Shared} {calle
           saw-mine = releasing.released-mine s.config s.trace.now h.config h.trace looks.state
               looks.reached me number why gone hand then-at is-mine y found-there
 
-        pub saw-has : Did me (Look hand.spot.carrier) (Saw (word.Employed me)) shared new caller
-            then
+        pub saw-has : Did me (Look hand.spot.carrier) (Saw (word.Employed me)) shared new caller then
             → has_content hand.spot.carrier (employed (releasing_at s.instance hand.spot)) ≡ true
         saw-has did =
             let row = Look hand.spot.carrier in
