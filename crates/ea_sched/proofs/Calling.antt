@@ -41,7 +41,7 @@ use Rattle.ea_sched.specs.Steps.{DidRow, IsReadyAt}
 use Rattle.ea_sound.specs.Walking.{CanAllGo, worked}
 use Rattle.ea_sched.proofs.Doing.{Answered, answered-so}
 use Rattle.ea_sched.proofs.AfterWalk.{next-placed}
-use Rattle.ea_sched.proofs.Suiting.{goes-linked, goes-passed, suits-linked}
+use Rattle.ea_sched.proofs.Suiting.{goes-linked, goes-passed, suits-after_link, suits-linked}
 use Rattle.ea_sched.proofs.Suiting.{suits-passed, suits-rests, suits-taken}
 
 -- something is left where a first one is
@@ -112,8 +112,8 @@ module _ {stage : Stage Content} (s : Scheduler) {shared : Option Shared} {calle
       (ap (λ (x : Actor). x.next) h.actor ∙ none))
 
   -- it had no nodes
-  pub taken-suits : migration e ≡ false → stage ≡ Begin → s.next ≡ None → SuitsNext s.instance s
-  taken-suits off begin none =
+  pub taken-suits : stage ≡ Begin → s.next ≡ None → SuitsNext s.instance s
+  taken-suits begin none =
       suits-taken stage s h.config h.trace h.state h.reached h.actor begin none
 
   -- the link of the walk's next node is to be read
@@ -172,6 +172,10 @@ module _ {stage : Stage Content} (s : Scheduler) {shared : Option Shared} {calle
         → SuitsNext (worked me s.instance s.passed.nodes).instance s
     linked-suits off =
         suits-linked stage s h.config h.trace h.state h.reached h.actor off node to gone now
+
+    pub linked-next : SuitsNext s.instance s
+    linked-next =
+        suits-after_link stage s h.config h.trace h.state h.reached h.actor node to gone now
 
   -- the operation whose block is on its route is left
   pub task-more : (route : Route Content) (task : Task) (gone : Gone)
@@ -242,9 +246,9 @@ module _ {stage : Stage Content} (s : Scheduler) {shared : Option Shared} {calle
     }
 
     -- the walk's next node isn't linked
-    pub rests-suits : migration e ≡ false → (node : Node) → stage ≡ Begin → s.next ≡ Some node
+    pub rests-suits : (node : Node) → stage ≡ Begin → s.next ≡ Some node
         → Did me TakeLink Rests shared new caller now → SuitsNext s.instance s
-    rests-suits off node begin next did =
+    rests-suits node begin next did =
         let u = in-answered TakeLink Rests did in
         suits-rests stage s h.config h.trace u.state u.reached u.actor node begin next
         (sym u.answered)

@@ -1,5 +1,6 @@
 -- What the placing of a block makes of an actor, by what it changes.
-use Rattle.std.proofs.Common.{◌≡◌, ◌≢◌, ℕ, ◌-◌, ◌&&◌, Bool, true, false, refl, sym, ap, ◌∙◌}
+use Rattle.std.proofs.Common.{◌≡◌, ◌≢◌, ℕ, ◌-◌, ◌&&◌, Bool, true, false, List, ◌∷◌}
+use Rattle.std.proofs.Common.{refl, sym, ap, ◌∙◌}
 use Rattle.std.specs.Prelude.{Option, None, Some, Result, Ok, Err, is_some, nat_lt}
 use Rattle.std.specs.Prelude.{if◌then◌else◌}
 use Rattle.ea_model.specs.declared.carriers.CarrierPlan.{CarrierPlan}
@@ -19,13 +20,15 @@ use Rattle.ea_laws.specs.Kept.{IsOrderly}
 use Rattle.ea_laws.proofs.Orderly.{stays-employed}
 use Rattle.ea_machine.specs.declared.asks.Ask.{Ask}
 use Rattle.ea_machine.specs.declared.nodes.Named.{Named}
+use Rattle.ea_machine.specs.declared.nodes.Node.{Node}
+use Rattle.ea_machine.specs.declared.nodes.Node.TheVariants.{Block, Carrier}
 use Rattle.ea_machine.specs.declared.owners.OwnerWord.{OwnerWord}
 use Rattle.ea_machine.specs.declared.stages.Route.TheVariants.{Looking}
 use Rattle.ea_machine.specs.declared.stages.Stage.TheVariants.{Fetching, Routed}
 use Rattle.ea_machine.specs.declared.tasks.Gone.TheVariants.{Open}
 use Rattle.ea_machine.specs.declared.tasks.Task.{Task}
 use Rattle.ea_machine.specs.declared.tasks.Task.TheVariants.{Moving}
-use Rattle.ea_machine.specs.declared.tasks.Why.TheVariants.{For}
+use Rattle.ea_machine.specs.declared.tasks.Why.TheVariants.{For, Walk}
 use Rattle.ea_machine.specs.Actor.{Actor}
 use Rattle.ea_machine.specs.Machine.{onward}
 use Rattle.ea_machine.specs.Placements.{chosen_by, counted, created, created_by, fetched, fits}
@@ -36,9 +39,10 @@ use Rattle.ea_machine.specs.Releases.{routed}
 use Rattle.ea_machine.specs.Rows.{Saw, Won}
 use Rattle.ea_machine.specs.Setup.{Setup, migration}
 use Rattle.ea_machine.specs.Tasks.{carried, hands_over, let_go, task_over}
-use Rattle.ea_machine.specs.Walks.{ready}
+use Rattle.ea_machine.specs.Walks.{ready, worked_off}
 use Rattle.ea_search.specs.declared.search.Search.{Search}
 use Rattle.ea_search.specs.Looks.{next_number}
+use Rattle.ea_sched.specs.Passing.{stage_for}
 
 -- a block whose carrier isn't employed here is to move where it is reallocated
 pub foreign-moves : (i : Instance) (spot : Spot) (need : ℕ) → IsOrderly i
@@ -167,3 +171,12 @@ pub seek-beyond : (e : Setup) (me : ℕ) (a : Actor) (ask : Ask)
     → seek e me ask a ≡ search_if e me ask a (migration e)
 seek-beyond e me a ask shared none =
     ap (seek_by e me ask a) shared ∙ ap (chosen_by e me ask a) none
+
+-- a passed node is worked off, where carriers migrate
+pub worked-on : (e : Setup) (me : ℕ) → migration e ≡ true → (node : Node) (nodes : List Node)
+    (a : Actor) → onward e me (worked_off e me (node ∷ nodes) a)
+    ≡ record a { stage = stage_for node; passed = nodes }
+worked-on e me on (Block name spot) nodes a =
+    ap (λ m. onward e me (carried Walk (λ gone b. worked_off e me nodes b)
+    (routed e me m (record { name = name; spot = spot }) (record a { passed = nodes })))) on
+worked-on e me on (Carrier number) nodes a = refl

@@ -183,6 +183,18 @@ module _ (stage : Stage Content) (s : Scheduler) (valid : IsValidConfig s.config
       (take_link-rests s.config s.trace.now valid made w reached me number node (begins begin)
       (next-is (Some node) next) rests))
 
+  -- a node of its walk was pushed to another's queue and linked there
+  module _ (node : Node) (to : ℕ) (gone : Gone)
+      (now : stage ≡ Routed (Linking node to) Walk gone) where
+    linked-walks : InWalk e w (effect me (Link node to) w.shared) me (at Begin (actor_of s))
+    linked-walks = subst (λ a. InWalk e w (effect me (Link node to) w.shared) me (at Begin a)) here
+        (link-walks s.config s.trace.now valid made w reached me number node to gone
+        (ap (λ (a : Actor). a.stage) here ∙ now))
+
+    pub suits-after_link : SuitsNext s.instance s
+    suits-after_link = after-walk (effect me (Link node to) w.shared) s.instance s.passed.nodes
+        linked-walks
+
   -- where carriers don't migrate
   module _ (off : migration e ≡ false) where
     is : is_scheduler e me ≡ true
@@ -219,18 +231,13 @@ module _ (stage : Stage Content) (s : Scheduler) (valid : IsValidConfig s.config
     -- a node of its walk was pushed to another's queue and linked there
     module _ (node : Node) (to : ℕ) (gone : Gone)
         (now : stage ≡ Routed (Linking node to) Walk gone) where
-      abbrev linked : Shared
-      linked = effect me (Link node to) w.shared
-
-      linked-walks : InWalk e w linked me (at Begin (actor_of s))
-      linked-walks = subst (λ a. InWalk e w linked me (at Begin a)) here
-          (link-walks s.config s.trace.now valid made w reached me number node to gone
-          (ap (λ (a : Actor). a.stage) here ∙ now))
-
       pub goes-linked : CanAllGo s.number s.instance s.passed.nodes
-      goes-linked = can-all e w linked me is off s.passed.nodes (actor_of s) linked-walks
+      goes-linked = can-all e w (effect me (Link node to) w.shared) me is off s.passed.nodes
+          (actor_of s) (linked-walks node to gone now)
 
       pub suits-linked : (worked s.number s.instance s.passed.nodes).hand ≡ None
           → SuitsNext (worked s.number s.instance s.passed.nodes).instance s
-      suits-linked none = after-walk linked (worked me s.instance s.passed.nodes).instance []
-          (worked-walks e w linked me is off s.passed.nodes (actor_of s) linked-walks none)
+      suits-linked none = after-walk (effect me (Link node to) w.shared)
+          (worked me s.instance s.passed.nodes).instance []
+          (worked-walks e w (effect me (Link node to) w.shared) me is off s.passed.nodes
+          (actor_of s) (linked-walks node to gone now) none)

@@ -1,6 +1,5 @@
 //! The rows of the machine's table, each with what a scheduler does once it is answered.
 ghost use Rattle.std.specs.Prelude.{◌≡◌, Some, None, OnOk, false};
-ghost use Rattle.ea_machine.specs.Setup.{migration};
 ghost use Rattle.ea_sched.specs.Acting.{IsSame, setup_for};
 ghost use Rattle.ea_sched.specs.Steps.{DidRow, StartsRow};
 ghost use Rattle.ea_machine.specs.declared.stages.Stage.TheVariants as stage;
@@ -25,7 +24,6 @@ impl<'t> Scheduler<'t> {
             (S.shared shared.old) (S.caller shared.old) }
         requires stage { self.old.stage ≡ stage.Begin }
         requires next { self.old.next ≡ None }
-        requires off { migration (setup_for self.old) ≡ false }
         ensures stays { S.stays shared.old shared.new }
         ensures same { IsSame self.old self.new }
         ensures row { OnOk result (DidRow stage.Begin self.old self.new
@@ -54,7 +52,6 @@ impl<'t> Scheduler<'t> {
             (S.shared shared.old) (S.caller shared.old) }
         requires stage { self.old.stage ≡ stage.Begin }
         requires next { self.old.next ≡ Some node }
-        requires off { migration (setup_for self.old) ≡ false }
         ensures stays { S.stays shared.old shared.new }
         ensures same { IsSame self.old self.new }
         ensures row { OnOk result (DidRow stage.Begin self.old self.new
@@ -114,7 +111,6 @@ impl<'t> Scheduler<'t> {
         requires starts { StartsRow (stage.Routed (route.Linking node to) why gone) self.old
             (S.schedulers shared.old) (S.greatest shared.old) (S.migrates shared.old)
             (S.shared shared.old) (S.caller shared.old) }
-        requires off { migration (setup_for self.old) ≡ false }
         ensures stays { S.stays shared.old shared.new }
         ensures same { IsSame self.old self.new }
         ensures row { OnOk result (DidRow (stage.Routed (route.Linking node to) why gone)

@@ -1,17 +1,17 @@
 //! The walk through the nodes of a scheduler's queue, and how they are worked off.
-ghost use Rattle.std.specs.Prelude.{◌≡◌, false, None, IfOk, OnOk};
+ghost use Rattle.std.specs.Prelude.{◌≡◌, true, false, [], None, IfOk, OnOk};
 ghost use Rattle.ea_machine.specs.Machine as machine;
 ghost use Rattle.ea_machine.specs.Walks as walks;
-ghost use Rattle.ea_machine.specs.Setup.{migration};
 ghost use Rattle.ea_sched.specs.Acting.{IsSame, actor_of, ready_of, setup_for, standing_at};
 ghost use Rattle.ea_sched.specs.Asking.{SuitsNext};
+ghost use Rattle.ea_sched.specs.Passing.{stage_for};
 ghost use Rattle.ea_sound.specs.Walking.{CanAllGo, worked};
 
 use crate::passed::Passed;
 use crate::releases::release;
 use crate::state::Scheduler;
-use ea_instance::Instance;
-use ea_machine::{Named, Node, Stage, Why};
+use ea_instance::{Held, Instance};
+use ea_machine::{Gone, Named, Node, Route, Stage, Why};
 use ea_model::OutOfMemory;
 use std::alloc::Global;
 
@@ -42,11 +42,26 @@ fn work_off(
     Ok(None)
 }
 
+/// Where a scheduler is that is to work off a node of its walk, where carriers migrate.
+fn stage_of(node: Node) -> Stage<Held>
+    ensures { result ≡ stage_for node }
+{
+    match node {
+        Node::Block { name, spot } => Stage::Routed {
+            route: Route::Looking {
+                hand: Named { name, spot },
+            },
+            why: Why::Walk,
+            gone: Gone::Open,
+        },
+        Node::Carrier { number } => Stage::Collecting { number },
+    }
+}
+
 impl<'t> Scheduler<'t> {
     /// Does the operation itself, once its begin is over; where none is left, its text is done.
     pub(crate) fn go_on(&mut self, alloc: Global) -> Result<(), OutOfMemory>
         requires next { SuitsNext self.old.instance self.old }
-        requires off { migration (setup_for self.old) ≡ false }
         ensures actor { OnOk result (actor_of self.new ≡ machine.onward (setup_for self.old)
             self.old.number (ready_of self.old)) }
         ensures same { IsSame self.old self.new }
@@ -59,14 +74,34 @@ impl<'t> Scheduler<'t> {
         self.operate(alloc, op)
     }
 
-    /// Works off the nodes that its walk passed, and goes on with the operation itself, unless the
-    /// block of one goes to another instance's queue.
-    pub(crate) fn end_walk(&mut self, alloc: Global) -> Result<(), OutOfMemory>
+    /// Where carriers migrate: takes the oldest node that its walk passed. A look is to tell who
+    /// employs the carrier of a block, and a carrier that came home is to be collected. Where no
+    /// node is left, it goes on with the operation itself.
+    fn work_oldest(&mut self, alloc: Global) -> Result<(), OutOfMemory>
+        requires next { self.old.passed.nodes ≡ [] → SuitsNext self.old.instance self.old }
+        requires on { self.old.migrates ≡ true }
+        ensures actor { OnOk result ((at : _) → actor_of self.new ≡ machine.onward
+            (setup_for self.old) self.old.number (walks.worked_off (setup_for self.old)
+            self.old.number self.old.passed.nodes (standing_at at self.old))) }
+        ensures same { IsSame self.old self.new }
+    {
+        match self.passed.take_oldest() {
+            None => self.go_on(alloc),
+            Some(node) => {
+                self.stage = stage_of(node);
+                Ok(())
+            }
+        }
+    }
+
+    /// Where carriers don't migrate: works off the nodes that its walk passed, and goes on with the
+    /// operation itself, unless the block of one goes to another instance's queue.
+    fn work_all(&mut self, alloc: Global) -> Result<(), OutOfMemory>
         requires passed { CanAllGo self.old.number self.old.instance self.old.passed.nodes }
         requires next { (worked self.old.number self.old.instance self.old.passed.nodes).hand ≡ None
             → SuitsNext (worked self.old.number self.old.instance self.old.passed.nodes).instance
             self.old }
-        requires off { migration (setup_for self.old) ≡ false }
+        requires off { self.old.migrates ≡ false }
         ensures actor { OnOk result ((at : _) → actor_of self.new ≡ machine.onward
             (setup_for self.old) self.old.number (walks.worked_off (setup_for self.old)
             self.old.number self.old.passed.nodes (standing_at at self.old))) }
@@ -78,6 +113,29 @@ impl<'t> Scheduler<'t> {
                 self.send(hand, Why::Walk);
                 Ok(())
             }
+        }
+    }
+
+    /// Works off the nodes that its walk passed, up to the first that takes a row of its own, and
+    /// goes on with the operation itself where none does.
+    pub(crate) fn end_walk(&mut self, alloc: Global) -> Result<(), OutOfMemory>
+        requires passed { self.old.migrates ≡ false
+            → CanAllGo self.old.number self.old.instance self.old.passed.nodes }
+        requires next { self.old.migrates ≡ false
+            → (worked self.old.number self.old.instance self.old.passed.nodes).hand ≡ None
+            → SuitsNext (worked self.old.number self.old.instance self.old.passed.nodes).instance
+            self.old }
+        requires next_on { self.old.migrates ≡ true → self.old.passed.nodes ≡ []
+            → SuitsNext self.old.instance self.old }
+        ensures actor { OnOk result ((at : _) → actor_of self.new ≡ machine.onward
+            (setup_for self.old) self.old.number (walks.worked_off (setup_for self.old)
+            self.old.number self.old.passed.nodes (standing_at at self.old))) }
+        ensures same { IsSame self.old self.new }
+    {
+        if self.migrates {
+            self.work_oldest(alloc)
+        } else {
+            self.work_all(alloc)
         }
     }
 }

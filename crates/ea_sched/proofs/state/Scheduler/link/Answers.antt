@@ -1,11 +1,12 @@
-use Rattle.std.proofs.Common.{refl, ap, arith}
+use Rattle.std.proofs.Common.{refl, sym, ap, ◌∙◌, arith}
 use Rattle.std.proofs.lemmas.Result.{on_ok_weaker}
 use Rattle.ea_machine.specs.declared.tasks.Why.TheVariants.{For, Walk}
 use Rattle.ea_machine.specs.declared.stages.Stage.TheVariants.{Routed}
 use Rattle.ea_machine.specs.declared.stages.Route.TheVariants.{Linking}
 use Rattle.ea_machine.specs.Rows.{Done, Link}
 use Rattle.ea_sched.proofs.Calling.{as-node, link-node, link-target, link-unlinked}
-use Rattle.ea_sched.proofs.Calling.{linked-can, linked-suits, row-done, task-more}
+use Rattle.ea_sched.proofs.Calling.{linked-can, linked-next, linked-suits, row-done}
+use Rattle.ea_sched.proofs.Calling.{task-more}
 use Rattle.ea_sched.proofs.state.Scheduler.link.Goals as goal
 
 pub link-requires-clause-target : goal.link-requires-clause-target
@@ -29,16 +30,22 @@ link-requires-clause-unlinked g c = link-unlinked c.args.self.now c.requires.sta
 pub end_walk-requires-clause-passed : goal.end_walk-requires-clause-passed
 end_walk-requires-clause-passed g c =
     let s = c.args.self.now in
-    linked-can s c.requires.starts.ready c.args.node c.args.to c.args.gone
+    λ off. linked-can s c.requires.starts.ready c.args.node c.args.to c.args.gone
     (ap (λ why. Routed (Linking c.args.node c.args.to) why c.args.gone) c.in-Walk.is)
-    c.requires.off
+    (sym s.migrates_so ∙ off)
 
 pub end_walk-requires-clause-next : goal.end_walk-requires-clause-next
 end_walk-requires-clause-next g c =
     let s = c.args.self.now in
-    linked-suits s c.requires.starts.ready c.args.node c.args.to c.args.gone
+    λ off. linked-suits s c.requires.starts.ready c.args.node c.args.to c.args.gone
     (ap (λ why. Routed (Linking c.args.node c.args.to) why c.args.gone) c.in-Walk.is)
-    c.requires.off
+    (sym s.migrates_so ∙ off)
+
+pub end_walk-requires-clause-next_on : goal.end_walk-requires-clause-next_on
+end_walk-requires-clause-next_on g c =
+    let s = c.args.self.now in
+    λ on none. linked-next s c.requires.starts.ready c.args.node c.args.to c.args.gone
+    (ap (λ why. Routed (Linking c.args.node c.args.to) why c.args.gone) c.in-Walk.is)
 
 pub finish_task-requires : goal.finish_task-requires
 finish_task-requires g c =

@@ -1,4 +1,4 @@
-use Rattle.std.proofs.Common.{◌∷◌, Some, ap, refl, ◌∙◌}
+use Rattle.std.proofs.Common.{◌≡◌, [], ◌∷◌, Some, sym, ap, refl, ◌∙◌}
 use Rattle.std.proofs.lemmas.Result.{on_ok_weaker}
 use Rattle.ea_machine.specs.declared.stages.Stage.TheVariants.{Begin}
 use Rattle.ea_machine.specs.Machine.{begins, onward}
@@ -19,23 +19,26 @@ take_link-requires-clause-next g c =
 
 pub go_on-requires : goal.go_on-requires
 go_on-requires g c = record {
-  next = rests-suits c.args.self.now c.requires.starts.ready c.requires.off c.args.node refl
+  next = rests-suits c.args.self.now c.requires.starts.ready c.args.node refl
       c.requires.next
       c.in-Rest.ensures.row;
-  off = c.requires.off;
 }
 
 pub end_walk-requires-clause-passed : goal.end_walk-requires-clause-passed
-end_walk-requires-clause-passed g c = passed-can c.args.self.now c.requires.starts.ready c.args.node
-    refl c.requires.next c.add.new.self.nodes
+end_walk-requires-clause-passed g c = λ off. passed-can c.args.self.now c.requires.starts.ready
+    c.args.node refl c.requires.next c.add.new.self.nodes
     (c.add.ensures ∙ ap (λ nodes. c.args.node ∷ nodes) c.reserve.ensures.nodes)
-    c.in-End.ensures.row c.requires.off
+    c.in-End.ensures.row (sym c.args.self.now.migrates_so ∙ off)
 
 pub end_walk-requires-clause-next : goal.end_walk-requires-clause-next
-end_walk-requires-clause-next g c = passed-suits c.args.self.now c.requires.starts.ready c.args.node
-    refl c.requires.next c.add.new.self.nodes
+end_walk-requires-clause-next g c = λ off. passed-suits c.args.self.now c.requires.starts.ready
+    c.args.node refl c.requires.next c.add.new.self.nodes
     (c.add.ensures ∙ ap (λ nodes. c.args.node ∷ nodes) c.reserve.ensures.nodes)
-    c.in-End.ensures.row c.requires.off
+    c.in-End.ensures.row (sym c.args.self.now.migrates_so ∙ off)
+
+pub end_walk-requires-clause-next_on : goal.end_walk-requires-clause-next_on
+end_walk-requires-clause-next_on g c = λ on none. absurd
+    (let no : c.args.node ∷ c.reserve.new.self.nodes ≡ [] = sym c.add.ensures ∙ none in cc)
 
 pub returns-in-Rest-clause-row : goal.returns-in-Rest-clause-row
 returns-in-Rest-clause-row g c =

@@ -14,8 +14,7 @@ take_all-requires-clause-walked g c = take-walked c.args.self.now c.requires.sta
 
 pub go_on-requires : goal.go_on-requires
 go_on-requires g c = record {
-  next = taken-suits c.args.self.now c.requires.starts.ready c.requires.off refl c.requires.next;
-  off = c.requires.off;
+  next = taken-suits c.args.self.now c.requires.starts.ready refl c.requires.next;
 }
 
 pub returns-in-None-clause-row : goal.returns-in-None-clause-row

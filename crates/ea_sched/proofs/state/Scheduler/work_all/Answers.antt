@@ -5,7 +5,7 @@ use Rattle.ea_sched.specs.Acting.{setup_for, standing_at}
 use Rattle.ea_sched.specs.Asking.{SuitsNext}
 use Rattle.ea_sound.specs.Walking.{Worked, worked}
 use Rattle.ea_sound.proofs.Walked.{walked-none, walked-some}
-use Rattle.ea_sched.proofs.state.Scheduler.end_walk.Goals as goal
+use Rattle.ea_sched.proofs.state.Scheduler.work_all.Goals as goal
 
 pub go_on-requires : goal.go_on-requires
 go_on-requires c =
@@ -16,7 +16,6 @@ go_on-requires c =
     record {
       next = subst (λ j. SuitsNext j s) (ap (λ (w : Worked). w.instance) (sym is))
           (c.requires.next none);
-      off = c.requires.off;
     }
 
 pub returns-in-None-clause-actor : goal.returns-in-None-clause-actor
@@ -26,7 +25,7 @@ returns-in-None-clause-actor c =
     let left = c.work_off.new.passed.nodes in
     on_ok_weaker c.go_on.result (λ is at. is
     ∙ ap (onward (setup_for s) s.number)
-    (walked-none (setup_for s) s.number c.requires.off (standing_at at s)
+    (walked-none (setup_for s) s.number (sym s.migrates_so ∙ c.requires.off) (standing_at at s)
     s.passed.nodes c.requires.passed i left
     (ap (λ hand. record { instance = i; left = left; hand = hand }) (sym c.in-None.is)
     ∙ c.in_ok-work_off.ensures)))
@@ -39,7 +38,7 @@ returns-in-Some-clause-actor c =
     let left = c.work_off.new.passed.nodes in
     λ at. c.send.ensures.actor
     ∙ ap (onward (setup_for s) s.number)
-    (walked-some (setup_for s) s.number c.requires.off (standing_at at s)
+    (walked-some (setup_for s) s.number (sym s.migrates_so ∙ c.requires.off) (standing_at at s)
     s.passed.nodes c.requires.passed i left c.in-Some.hand
     (ap (λ hand. record { instance = i; left = left; hand = hand }) (sym c.in-Some.is)
     ∙ c.in_ok-work_off.ensures))
