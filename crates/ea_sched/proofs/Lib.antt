@@ -6,8 +6,11 @@ pub mod StandsOff
 pub mod OwnCarriers
 pub mod Texts
 pub mod AfterWalk
+pub mod CarrierCalling
+pub mod Carrying
+pub mod InHand
+pub mod Routing
 pub mod Suiting
 pub mod Calling
-pub mod CarrierCalling
 pub mod WalkSuiting
 pub mod NamesBrought

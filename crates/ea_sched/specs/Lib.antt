@@ -1,5 +1,6 @@
 pub mod Passing
 pub mod Acting
 pub mod Steps
+pub mod Turning
 pub mod Asking
 pub mod Brought

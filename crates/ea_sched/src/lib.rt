@@ -8,11 +8,13 @@ mod operations;
 mod passed;
 mod placements;
 mod releases;
+mod routes;
 mod rows;
 mod scheduler;
 mod searches;
 mod state;
 mod step;
+mod turns;
 mod walks;
 
 pub use migration::migrates;

@@ -1,0 +1,80 @@
+-- A row of a route is a row of its scheduler, which has gone on to the next one.
+use Rattle.std.proofs.Common.{◌≡◌, ℕ, Bool, true, false, refl, sym, ap, ◌∙◌, subst}
+use Rattle.std.specs.Prelude.{Option, None, Some}
+use Rattle.ea_model.specs.Content.{Content}
+use Rattle.ea_machine.specs.declared.stages.Stage.{Stage}
+use Rattle.ea_machine.specs.declared.stages.Stage.TheVariants.{Begin, Routed}
+use Rattle.ea_machine.specs.declared.stages.Route.{Route}
+use Rattle.ea_machine.specs.declared.tasks.Gone.{Gone}
+use Rattle.ea_machine.specs.declared.tasks.Why.{Why}
+use Rattle.ea_machine.specs.Actor.{Actor}
+use Rattle.ea_machine.specs.Machine.{onward, wants_on}
+use Rattle.ea_machine.specs.Releases.{Turned, turned}
+use Rattle.ea_machine.specs.Setup.{Setup}
+use Rattle.ea_machine.specs.Shared.{Shared}
+use Rattle.ea_machine.specs.Tasks.{carried_by}
+use Rattle.ea_machine.specs.Walks.{after_route}
+use Rattle.ea_shared.specs.Calls.{Caller}
+use Rattle.ea_sched.specs.declared.state.Scheduler.{Scheduler}
+use Rattle.ea_sched.specs.Acting.{actor_of, setup_for, standing_at}
+use Rattle.ea_sched.specs.Steps.{DidRow}
+use Rattle.ea_sched.specs.Turning.{TurnedBy, TurnedRow}
+
+module _ (e : Setup) (me : ℕ) (why : Why) (over : Gone → Actor → Actor) (gone : Gone) (a : Actor)
+  where
+    -- the next row of the route is next
+    next-by : (o : Option (Route Content)) (t : Scheduler) → TurnedBy why gone a o None t
+        → actor_of t ≡ onward e me (carried_by why over gone a o)
+    next-by None t is = let never = is.0 in absurd cc
+    next-by (Some r) t is = is.1
+
+    -- the route is over
+    over-by : (o : Option (Route Content)) (h : Gone) (t : Scheduler) (x : Actor)
+        → TurnedBy why gone a o (Some h) t
+        → ((at : Stage Content) → x ≡ onward e me (over h (standing_at at t)))
+        → x ≡ onward e me (carried_by why over gone a o)
+    over-by None h t x is ends =
+        let same : h ≡ gone = let some = is.0 in cc in
+        ends a.stage
+        ∙ ap (λ g. onward e me (over g (standing_at a.stage t))) same
+        ∙ ap (λ (z : Actor). onward e me (over gone (record z { stage = a.stage }))) is.1
+    over-by (Some r) h t x is ends = let never = is.0 in absurd cc
+
+-- a scheduler on a route
+module _ (route : Route Content) (why : Why) (gone : Gone) (s : Scheduler) where
+  abbrev e : Setup
+  e = setup_for s
+
+  abbrev a : Actor
+  a = standing_at (Routed route why gone) s
+
+  pub turned-next : {shared new : Option Shared} {caller now : Option Caller} (t : Scheduler)
+      → TurnedRow route why gone s t None shared new caller now
+      → DidRow (Routed route why gone) s t shared new caller now
+  turned-next t row =
+      let u : Turned = turned e s.number route gone a row.got in
+      record {
+        row = wants_on route;
+        got = row.got;
+        wanted = refl;
+        did = row.did;
+        is = next-by e s.number why (after_route e s.number why) u.gone u.actor u.route t
+            row.turned;
+      }
+
+  pub turned-over : {shared new : Option Shared} {caller now : Option Caller} (g : Gone)
+      (t v : Scheduler)
+      → TurnedRow route why gone s t (Some g) shared new caller now
+      → ((at : Stage Content) → actor_of v
+      ≡ onward e s.number (after_route e s.number why g (standing_at at t)))
+      → DidRow (Routed route why gone) s v shared new caller now
+  turned-over g t v row ends =
+      let u : Turned = turned e s.number route gone a row.got in
+      record {
+        row = wants_on route;
+        got = row.got;
+        wanted = refl;
+        did = row.did;
+        is = over-by e s.number why (after_route e s.number why) u.gone u.actor u.route g t
+            (actor_of v) row.turned ends;
+      }

@@ -1,0 +1,75 @@
+-- What the calls of a scheduler on a carrier in its hand ask for, as it knows the carrier.
+use Rattle.std.proofs.Common.{◌≡◌, ℕ, ◌*◌, ◌<◌, ◌≤◌, [], ◌∷◌, refl, sym, ap, ◌∙◌, subst}
+use Rattle.std.proofs.Common.{arith}
+use Rattle.std.specs.Prelude.{Option, IfSome, List, false}
+use Rattle.ea_model.specs.declared.units.TheConstants.{NUMBERS}
+use Rattle.ea_model.specs.declared.carriers.BlockAt.{BlockAt}
+use Rattle.ea_model.specs.Content.{Content, is_nil}
+use Rattle.ea_model.proofs.Options.{if_some}
+use Rattle.ea_machine.specs.declared.tasks.Gone.{Gone}
+use Rattle.ea_machine.specs.declared.tasks.Why.{Why}
+use Rattle.ea_machine.specs.declared.stages.Stage.{Stage}
+use Rattle.ea_machine.specs.declared.stages.Stage.TheVariants.{Collecting, Routed}
+use Rattle.ea_machine.specs.declared.stages.Route.TheVariants.{Clearing, Settling}
+use Rattle.ea_machine.specs.Actor.{Actor}
+use Rattle.ea_machine.specs.Machine.{wants_at}
+use Rattle.ea_machine.specs.Rows.{Settle}
+use Rattle.ea_machine.specs.Shared.{Shared}
+use Rattle.ea_machine.specs.Statistics.{leaving_at}
+use Rattle.ea_shared.specs.Calls.{Caller, IsWanted, WantsRow, caller_of}
+use Rattle.ea_shared.specs.Carriers.{IsCarrier, IsCollecting, IsEmptied, IsFor, IsLeaving}
+use Rattle.ea_shared.specs.Carriers.{SettlesEmptied}
+use Rattle.ea_sched.specs.declared.state.Scheduler.{Scheduler}
+use Rattle.ea_sched.specs.Acting.{setup_for}
+use Rattle.ea_sched.specs.Steps.{IsReadyAt}
+use Rattle.ea_sched.proofs.Calling.{in_state}
+
+-- how many schedulers there are is told by what is shared, too
+pub as-carrier : {n k count many : ℕ} → n ≡ k → count ≡ many → IsCarrier many k
+    → IsCarrier count n
+as-carrier {n} {k} same many is =
+    (omega (arith, same, is.0), omega (arith, same, is.1, ap (λ m. NUMBERS * m) many))
+
+-- and the carrier as it was taken
+pub as-for : {n k gap : ℕ} {x y : Content} → n ≡ k → y ≡ x → IsFor k gap x → IsFor n gap y
+as-for {n} {k} {gap} {x} {y} same is h =
+    subst (λ m. IsFor m gap y) (sym same) (subst (IsFor k gap) (sym is) h)
+
+module _ {stage : Stage Content} (s : Scheduler) {shared : Option Shared} {caller : Option Caller}
+    (h : IsReadyAt stage s shared caller) where
+  told-caller : (P : Caller → Type 0) → P (caller_of (setup_for s) s.number h.state)
+      → IfSome caller P
+  told-caller P holds = if_some caller (λ x. x ≡ caller_of (setup_for s) s.number h.state) P
+      (λ x same. subst P (sym same) holds) h.calls
+
+  pub collects : (n : ℕ) → stage ≡ Collecting n → IfSome caller (IsCollecting n)
+  collects n now = told-caller (IsCollecting n) (in_state s h (Collecting n) now)
+
+  module _ (why : Why) (gone : Gone) (x : Content) where
+    settle-row : stage ≡ Routed (Settling x) why gone
+        → WantsRow s.number (Settle x) (caller_of (setup_for s) s.number h.state)
+    settle-row now = (
+      refl,
+      ap (wants_at (h.state.actors s.number).next)
+          (in_state s h (Routed (Settling x) why gone) now),
+    )
+
+    pub settle-wanted : stage ≡ Routed (Settling x) why gone → IsWanted s.number (Settle x) caller
+    settle-wanted now = told-caller (WantsRow s.number (Settle x)) (settle-row now)
+
+    pub settles-emptied : (n : ℕ) → IsEmptied n x → stage ≡ Routed (Settling x) why gone
+        → IfSome caller (SettlesEmptied s.number n)
+    settles-emptied n emptied now = told-caller (SettlesEmptied s.number n) (record {
+      content = x;
+      emptied = emptied;
+      wants = settle-row now;
+    })
+
+    pub clear-leaving : stage ≡ Routed (Clearing x) why gone → IfSome caller IsLeaving
+    clear-leaving now = told-caller IsLeaving
+        (x, ap leaving_at (in_state s h (Routed (Clearing x) why gone) now))
+
+-- a carrier that isn't empty
+pub not-nil : (bs : List BlockAt) → (bs ≡ [] → ⊥) → is_nil bs ≡ false
+not-nil [] some = absurd (some refl)
+not-nil (b ∷ bs) some = refl

@@ -1,0 +1,209 @@
+//! The rows of a release route.
+ghost use Rattle.std.specs.Prelude.{◌≡◌, true, None, IfOk};
+ghost use Rattle.ea_machine.specs.declared.stages.Stage.TheVariants as stage;
+ghost use Rattle.ea_machine.specs.declared.stages.Route.TheVariants as route;
+ghost use Rattle.ea_machine.specs.Releases as releases;
+ghost use Rattle.ea_machine.specs.Setup.{migration};
+ghost use Rattle.ea_sched.specs.Acting.{IsSame, setup_for, standing_at};
+ghost use Rattle.ea_sched.specs.Steps.{StartsRow};
+ghost use Rattle.ea_sched.specs.Turning.{CollectedRow, HasTurned, TurnedRow};
+
+use crate::routes::first_gone;
+use crate::state::Scheduler;
+use ea_instance::Held;
+use ea_machine::{Gone, Named, Node, OwnerWord, Route, Stage, Why};
+use ea_mbc::Mbc;
+use ea_model::{OutOfMemory, owner_of};
+use ea_shared::{Shared, Tried};
+
+impl<'t> Scheduler<'t> {
+    /// The block goes to the queue of the instance that the owner word of its carrier names.
+    fn forward(&mut self, hand: Named, present: OwnerWord, why: Why, gone: Gone) -> Option<Gone>
+        ensures turned { (at : _) → HasTurned why
+            (releases.forwarded hand gone (standing_at at self.old) present) result self.new }
+        ensures same { IsSame self.old self.new }
+    {
+        match present {
+            OwnerWord::Absent | OwnerWord::Returning { .. } => Some(gone),
+            OwnerWord::Employed { instance } => self.send_to(hand, instance, why, gone),
+            OwnerWord::Pooled { instance, .. } => self.send_to(hand, instance, why, gone),
+            OwnerWord::Busy { instance } => self.send_to(hand, instance, why, gone),
+        }
+    }
+
+    /// A look at the owner word of the block's carrier.
+    fn look<S: Shared<Content = Mbc>>(
+        &mut self,
+        shared: &mut S,
+        hand: Named,
+        why: Why,
+        gone: Gone,
+    ) -> Result<Option<Gone>, OutOfMemory>
+        requires starts { StartsRow (stage.Routed (route.Looking hand) why gone) self.old
+            (S.schedulers shared.old) (S.greatest shared.old) (S.migrates shared.old)
+            (S.shared shared.old) (S.caller shared.old) }
+        requires on { migration (setup_for self.old) ≡ true }
+        ensures stays { S.stays shared.old shared.new }
+        ensures same { IsSame self.old self.new }
+        ensures row { IfOk result (λ over. TurnedRow (route.Looking hand) why gone self.old self.new
+            over (S.shared shared.old) (S.shared shared.new) (S.caller shared.old)
+            (S.caller shared.new)) }
+    {
+        let seen = shared.look(self.number, hand.spot.carrier);
+        self.looked(hand, seen, why, gone)
+    }
+
+    /// A try to make the pooled carrier of the block busy: if it is won, the block is released in
+    /// it.
+    fn try_busy<S: Shared<Content = Mbc>>(
+        &mut self,
+        shared: &mut S,
+        hand: Named,
+        seen: OwnerWord,
+        why: Why,
+        gone: Gone,
+    ) -> Result<Option<Gone>, OutOfMemory>
+        requires starts { StartsRow (stage.Routed (route.Trying hand seen) why gone) self.old
+            (S.schedulers shared.old) (S.greatest shared.old) (S.migrates shared.old)
+            (S.shared shared.old) (S.caller shared.old) }
+        requires on { migration (setup_for self.old) ≡ true }
+        ensures stays { S.stays shared.old shared.new }
+        ensures same { IsSame self.old self.new }
+        ensures row { IfOk result (λ over. TurnedRow (route.Trying hand seen) why gone self.old
+            self.new over (S.shared shared.old) (S.shared shared.new) (S.caller shared.old)
+            (S.caller shared.new)) }
+    {
+        match shared.busy_try(self.number, hand.spot.carrier, seen) {
+            Tried::Won { mut content } => {
+                content.release(hand.spot.offset)?;
+                let content = Held::multi(content);
+                let route = Route::Settling { content };
+                let gone = first_gone(gone, Gone::Here);
+                self.stage = Stage::Routed { route, why, gone };
+                Ok(None)
+            }
+            Tried::Lost { word } => Ok(self.forward(hand, word, why, gone)),
+        }
+    }
+
+    /// The busy carrier is settled: in the pool again, or, if it is empty, it leaves.
+    fn settle<S: Shared<Content = Mbc>>(
+        &mut self,
+        shared: &mut S,
+        content: Held,
+        why: Why,
+        gone: Gone,
+    ) -> Option<Gone>
+        requires starts { StartsRow (stage.Routed (route.Settling content) why gone) self.old
+            (S.schedulers shared.old) (S.greatest shared.old) (S.migrates shared.old)
+            (S.shared shared.old) (S.caller shared.old) }
+        requires on { migration (setup_for self.old) ≡ true }
+        ensures stays { S.stays shared.old shared.new }
+        ensures same { IsSame self.old self.new }
+        ensures row { TurnedRow (route.Settling content) why gone self.old self.new result
+            (S.shared shared.old) (S.shared shared.new) (S.caller shared.old)
+            (S.caller shared.new) }
+    {
+        let number = content.number();
+        if content.is_empty() {
+            shared.settle_employed(self.number, number);
+            self.leave(content, why, gone);
+            return None;
+        }
+        let carrier = content.into_multi();
+        let largest = carrier.largest();
+        shared.settle_pooled(self.number, number, carrier, largest);
+        Some(gone)
+    }
+
+    /// The carrier is abandoned into the pool.
+    fn abandon<S: Shared<Content = Mbc>>(
+        &mut self,
+        shared: &mut S,
+        content: Held,
+        why: Why,
+        gone: Gone,
+    ) -> Option<Gone>
+        requires starts { StartsRow (stage.Routed (route.Abandoning content) why gone) self.old
+            (S.schedulers shared.old) (S.greatest shared.old) (S.migrates shared.old)
+            (S.shared shared.old) (S.caller shared.old) }
+        requires on { migration (setup_for self.old) ≡ true }
+        ensures stays { S.stays shared.old shared.new }
+        ensures same { IsSame self.old self.new }
+        ensures row { TurnedRow (route.Abandoning content) why gone self.old self.new result
+            (S.shared shared.old) (S.shared shared.new) (S.caller shared.old)
+            (S.caller shared.new) }
+    {
+        let number = content.number();
+        let carrier = content.into_multi();
+        let largest = carrier.largest();
+        shared.abandon(self.number, number, carrier, largest);
+        Some(gone)
+    }
+
+    /// The empty carrier is sent home: its node goes to the queue of its owner.
+    fn send_home<S: Shared<Content = Mbc>>(
+        &mut self,
+        shared: &mut S,
+        content: Held,
+        why: Why,
+        gone: Gone,
+    )
+        requires starts { StartsRow (stage.Routed (route.Sending content) why gone) self.old
+            (S.schedulers shared.old) (S.greatest shared.old) (S.migrates shared.old)
+            (S.shared shared.old) (S.caller shared.old) }
+        requires on { migration (setup_for self.old) ≡ true }
+        ensures stays { S.stays shared.old shared.new }
+        ensures same { IsSame self.old self.new }
+        ensures row { TurnedRow (route.Sending content) why gone self.old self.new None
+            (S.shared shared.old) (S.shared shared.new) (S.caller shared.old)
+            (S.caller shared.new) }
+    {
+        let number = content.number();
+        let to = owner_of(number);
+        shared.send_home(self.number, number, content.into_multi(), to);
+        let node = Node::Carrier { number };
+        let route = Route::Pushing { node, to };
+        self.stage = Stage::Routed { route, why, gone };
+    }
+
+    /// The empty carrier, which the scheduler owns, is cleared: its number and pages are free again.
+    fn clear<S: Shared<Content = Mbc>>(
+        &mut self,
+        shared: &mut S,
+        content: Held,
+        why: Why,
+        gone: Gone,
+    ) -> Option<Gone>
+        requires starts { StartsRow (stage.Routed (route.Clearing content) why gone) self.old
+            (S.schedulers shared.old) (S.greatest shared.old) (S.migrates shared.old)
+            (S.shared shared.old) (S.caller shared.old) }
+        requires on { migration (setup_for self.old) ≡ true }
+        ensures stays { S.stays shared.old shared.new }
+        ensures same { IsSame self.old self.new }
+        ensures row { TurnedRow (route.Clearing content) why gone self.old self.new result
+            (S.shared shared.old) (S.shared shared.new) (S.caller shared.old)
+            (S.caller shared.new) }
+    {
+        let number = content.number();
+        shared.clear_own(self.number, number);
+        self.instance.disown(number);
+        Some(gone)
+    }
+
+    /// A carrier of the scheduler's own that came home is cleared: its content is dropped, and its
+    /// number and pages are free again.
+    fn collect<S: Shared<Content = Mbc>>(&mut self, shared: &mut S, number: u32)
+        requires starts { StartsRow (stage.Collecting number) self.old
+            (S.schedulers shared.old) (S.greatest shared.old) (S.migrates shared.old)
+            (S.shared shared.old) (S.caller shared.old) }
+        requires on { migration (setup_for self.old) ≡ true }
+        ensures stays { S.stays shared.old shared.new }
+        ensures same { IsSame self.old self.new }
+        ensures row { CollectedRow number self.old self.new (S.shared shared.old)
+            (S.shared shared.new) (S.caller shared.old) (S.caller shared.new) }
+    {
+        shared.clear_returned(self.number, number);
+        self.instance.disown(number);
+    }
+}
