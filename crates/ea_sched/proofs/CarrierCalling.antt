@@ -1,5 +1,5 @@
--- What the calls of a scheduler on carriers ask for, as what is shared is told, and what it has of a
--- carrier by their answers.
+-- What the calls of a scheduler on carriers ask for, as what is shared is told, and what it has of
+-- a carrier by their answers.
 use Rattle.std.proofs.Common.{◌≡◌, ◌≢◌, ℕ, ◌%◌, ◌*◌, ◌<◌, ◌≤◌, true, List, [], refl, sym, ap, ◌∙◌}
 use Rattle.std.proofs.Common.{subst, arith}
 use Rattle.std.specs.Prelude.{IfSome, IsSome, None, Option, Some}
@@ -317,7 +317,8 @@ module _ {stage : Stage Content} (s : Scheduler) {shared : Option Shared} {calle
           saw-mine = releasing.released-mine s.config s.trace.now h.config h.trace looks.state
               looks.reached me number why gone hand then-at is-mine y found-there
 
-        pub saw-has : Did me (Look hand.spot.carrier) (Saw (word.Employed me)) shared new caller then
+        pub saw-has : Did me (Look hand.spot.carrier) (Saw (word.Employed me)) shared new caller
+            then
             → has_content hand.spot.carrier (employed (releasing_at s.instance hand.spot)) ≡ true
         saw-has did =
             let row = Look hand.spot.carrier in

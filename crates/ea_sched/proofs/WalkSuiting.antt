@@ -1,7 +1,7 @@
 -- Once a walk is over by a row of a route, or by a carrier that was collected, the scheduler may do
 -- its next operation.
-use Rattle.std.proofs.Common.{◌≡◌, ℕ, sym, ap, ◌∙◌, subst}
-use Rattle.std.specs.Prelude.{None, Option}
+use Rattle.std.proofs.Common.{◌≡◌, ℕ, drop, refl, sym, ap, ◌∙◌, subst}
+use Rattle.std.specs.Prelude.{None, Option, Some}
 use Rattle.ea_model.specs.Content.{Content}
 use Rattle.ea_model.specs.Settings.{IsValidConfig}
 use Rattle.ea_model.specs.Trace.{IsScheduler, IsValidTrace}
@@ -28,6 +28,7 @@ use Rattle.ea_sched.specs.declared.state.Scheduler.{Scheduler}
 use Rattle.ea_sched.specs.Acting.{IsSame, setup_for, standing_at}
 use Rattle.ea_sched.specs.Asking.{SuitsNext}
 use Rattle.ea_sched.specs.Steps.{IsReadyAt}
+use Rattle.ea_sched.specs.Turning.{CollectedRow, HasTurned, TurnedBy, TurnedRow}
 use Rattle.ea_sched.proofs.Calling.{in-answered}
 use Rattle.ea_sched.proofs.Doing.{Answered}
 use Rattle.ea_sched.proofs.AfterWalk.{suits-next}
@@ -108,6 +109,14 @@ module _ (s t : Scheduler) (same : IsSame s t) (route : Route Content) (gone : G
       (ap (λ (b : Actor). b.todo) u.actor ∙ sym (turned-keeps e me route gone a got).1) is
       (by-route turn.route left over)
 
+  by-turned : (over : Gone) (o : Option (Route Content)) → turn.route ≡ o
+      → TurnedBy Walk turn.gone turn.actor o (Some over) t → SuitsNext t.instance t
+  by-turned over None q by = suits-turned q by.1
+  by-turned over (Some r) q by = absurd (let never : Some over ≡ None = by.0 in cc)
+
+  pub suits-over : (over : Gone) → HasTurned Walk turn (Some over) t → SuitsNext t.instance t
+  suits-over over by = by-turned over turn.route refl by
+
 -- a carrier was collected
 module _ (s t : Scheduler) (same : IsSame s t) (n : ℕ) {shared : Option Shared}
     {caller : Option Caller} (h : IsReadyAt (Collecting n) s shared caller) where
@@ -122,3 +131,17 @@ module _ (s t : Scheduler) (same : IsSame s t) (n : ℕ) {shared : Option Shared
       (collected-walks s.config s.trace.now h.config h.trace h.state h.reached s.number
       (s.number_from, s.number_to) n
       (ap (λ (b : Actor). b.stage) h.actor)))
+
+-- so it is where the code says so
+module _ (s t : Scheduler) (same : IsSame s t) {shared new : Option Shared}
+    {caller then : Option Caller} where
+  pub suits-row : (route : Route Content) (gone over : Gone)
+      → IsReadyAt (Routed route Walk gone) s shared caller
+      → TurnedRow route Walk gone s t (Some over) shared new caller then
+      → SuitsNext t.instance t
+  suits-row route gone over h row =
+      suits-over s t same route gone h row.got row.did over row.turned
+
+  pub suits-home : (n : ℕ) → IsReadyAt (Collecting n) s shared caller
+      → CollectedRow n s t shared new caller then → SuitsNext t.instance t
+  suits-home n h row = suits-collected s t same n h (row.is Begin)
