@@ -1,9 +1,9 @@
 -- A row of a route is a row of its scheduler, which has gone on to the next one.
-use Rattle.std.proofs.Common.{◌≡◌, ℕ, Bool, true, false, refl, sym, ap, ◌∙◌, subst}
+use Rattle.std.proofs.Common.{◌≡◌, ℕ, refl, ap, ◌∙◌}
 use Rattle.std.specs.Prelude.{Option, None, Some}
 use Rattle.ea_model.specs.Content.{Content}
 use Rattle.ea_machine.specs.declared.stages.Stage.{Stage}
-use Rattle.ea_machine.specs.declared.stages.Stage.TheVariants.{Begin, Routed}
+use Rattle.ea_machine.specs.declared.stages.Stage.TheVariants.{Routed}
 use Rattle.ea_machine.specs.declared.stages.Route.{Route}
 use Rattle.ea_machine.specs.declared.tasks.Gone.{Gone}
 use Rattle.ea_machine.specs.declared.tasks.Why.{Why}

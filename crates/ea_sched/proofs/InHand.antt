@@ -1,5 +1,5 @@
 -- What the calls of a scheduler on a carrier in its hand ask for, as it knows the carrier.
-use Rattle.std.proofs.Common.{◌≡◌, ℕ, ◌*◌, ◌<◌, ◌≤◌, [], ◌∷◌, refl, sym, ap, ◌∙◌, subst}
+use Rattle.std.proofs.Common.{◌≡◌, ℕ, ◌*◌, [], ◌∷◌, refl, sym, ap, subst}
 use Rattle.std.proofs.Common.{arith}
 use Rattle.std.specs.Prelude.{Option, IfSome, List, false}
 use Rattle.ea_model.specs.declared.units.TheConstants.{NUMBERS}
@@ -11,7 +11,6 @@ use Rattle.ea_machine.specs.declared.tasks.Why.{Why}
 use Rattle.ea_machine.specs.declared.stages.Stage.{Stage}
 use Rattle.ea_machine.specs.declared.stages.Stage.TheVariants.{Collecting, Routed}
 use Rattle.ea_machine.specs.declared.stages.Route.TheVariants.{Clearing, Settling}
-use Rattle.ea_machine.specs.Actor.{Actor}
 use Rattle.ea_machine.specs.Machine.{wants_at}
 use Rattle.ea_machine.specs.Rows.{Settle}
 use Rattle.ea_machine.specs.Shared.{Shared}

@@ -24,7 +24,8 @@ use Rattle.ea_machine.specs.declared.tasks.Gone.{Gone}
 use Rattle.ea_machine.specs.declared.tasks.Gone.TheVariants.{Here}
 use Rattle.ea_machine.specs.declared.tasks.Why.{Why}
 use Rattle.ea_machine.specs.Actor.{Actor}
-use Rattle.ea_machine.specs.Releases.{abandoned_if, after_release, after_release_by, dismissed, ends}
+use Rattle.ea_machine.specs.Releases.{abandoned_if, after_release}
+use Rattle.ea_machine.specs.Releases.{after_release_by, dismissed, ends}
 use Rattle.ea_machine.specs.Releases.{Turned, first_gone, goes_on, leaving, lightened}
 use Rattle.ea_machine.specs.Releases.{employed_by, looked, pooled_by, release_here, sent_to}
 use Rattle.ea_machine.specs.declared.owners.OwnerWord.{OwnerWord}
@@ -151,7 +152,8 @@ module _ (e : Setup) (me : ℕ) (why : Why) (hand : Named) (gone g : Gone) (a : 
   module _ (y : Content) (j : Instance) (q : found ≡ Some y) (left : j ≡ dismissing i n) where
     dismissed-is : record a { instance = j } ≡ dismissed y.number (record a { instance = i })
     dismissed-is = ap (λ k. record a { instance = k })
-        (left ∙ ap (dismissing i) (sym (item_at-key (λ (c : Content). c.number) n y (employed i) q)))
+        (left
+        ∙ ap (dismissing i) (sym (item_at-key (λ (c : Content). c.number) n y (employed i) q)))
 
     pub vacant-turned : has_vacant n (employed i) ≡ true
         → Ends (leaving e me y g (record a { instance = j })) → Ends (release_here e me hand gone a)

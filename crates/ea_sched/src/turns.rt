@@ -167,7 +167,8 @@ impl<'t> Scheduler<'t> {
         self.stage = Stage::Routed { route, why, gone };
     }
 
-    /// The empty carrier, which the scheduler owns, is cleared: its number and pages are free again.
+    /// The empty carrier, which the scheduler owns, is cleared: its number and pages are free
+    /// again.
     fn clear<S: Shared<Content = Mbc>>(
         &mut self,
         shared: &mut S,

@@ -1,9 +1,7 @@
 use Rattle.std.proofs.Common.{◌≡◌, refl, sym, ap, ◌∙◌, subst}
-use Rattle.std.specs.Prelude.{None, IfSome, IsSome}
+use Rattle.std.specs.Prelude.{IfSome, IsSome}
 use Rattle.ea_model.specs.Instance.{content_of, employed, own_at, owner_of}
 use Rattle.ea_machine.specs.Owners.{Employed}
-use Rattle.ea_machine.specs.Rows.{Clear, Home}
-use Rattle.ea_shared.specs.Calls.{Did}
 use Rattle.ea_sched.proofs.CarrierCalling.{clear-carrier, clear-employed, clear-mine, clear-none}
 use Rattle.ea_sched.proofs.CarrierCalling.{clear-own}
 use Rattle.ea_sched.proofs.InHand.{as-carrier, clear-leaving}
@@ -12,13 +10,15 @@ use Rattle.ea_sched.proofs.state.Scheduler.clear.Goals as goal
 pub clear_own-requires-clause-carrier : goal.clear_own-requires-clause-carrier
 clear_own-requires-clause-carrier g c = as-carrier c.number-number.ensures
     c.requires.starts.schedulers
-    (clear-carrier c.args.self.now c.requires.starts.ready c.args.why c.args.gone c.args.content refl)
+    (clear-carrier c.args.self.now c.requires.starts.ready c.args.why c.args.gone c.args.content
+    refl)
 
 pub clear_own-requires-clause-employed : goal.clear_own-requires-clause-employed
 clear_own-requires-clause-employed g c =
     subst (λ n. IfSome (g.S.Shared.shared c.args.shared.now)
     (λ s. s.places n ≡ Employed c.args.self.now.number)) (sym c.number-number.ensures)
-    (clear-employed c.args.self.now c.requires.starts.ready c.args.why c.args.gone c.args.content refl)
+    (clear-employed c.args.self.now c.requires.starts.ready c.args.why c.args.gone c.args.content
+    refl)
 
 pub clear_own-requires-clause-own : goal.clear_own-requires-clause-own
 clear_own-requires-clause-own g c = ap owner_of c.number-number.ensures

@@ -1,4 +1,4 @@
-use Rattle.std.proofs.Common.{refl, ap, ◌∙◌}
+use Rattle.std.proofs.Common.{refl, ap}
 use Rattle.std.specs.Prelude.{Some}
 use Rattle.ea_machine.specs.Rows.{Home}
 use Rattle.ea_sched.specs.Acting.{standing_at}
@@ -12,19 +12,24 @@ clear_returned-requires-clause-carrier g c = as-carrier refl c.requires.starts.s
     (collect-carrier c.args.self.now c.requires.starts.ready c.args.number refl)
 
 pub clear_returned-requires-clause-own : goal.clear_returned-requires-clause-own
-clear_returned-requires-clause-own g c = collect-mine c.args.self.now c.requires.starts.ready c.args.number refl
+clear_returned-requires-clause-own g c = collect-mine c.args.self.now c.requires.starts.ready
+    c.args.number refl
 
 pub clear_returned-requires-clause-returned : goal.clear_returned-requires-clause-returned
-clear_returned-requires-clause-returned g c = collect-returned c.args.self.now c.requires.starts.ready c.args.number refl
+clear_returned-requires-clause-returned g c = collect-returned c.args.self.now
+    c.requires.starts.ready c.args.number refl
 
 pub clear_returned-requires-clause-collects : goal.clear_returned-requires-clause-collects
-clear_returned-requires-clause-collects g c = collects c.args.self.now c.requires.starts.ready c.args.number refl
+clear_returned-requires-clause-collects g c = collects c.args.self.now c.requires.starts.ready
+    c.args.number refl
 
 pub disown-requires-clause-own : goal.disown-requires-clause-own
-disown-requires-clause-own g c = collect-own c.args.self.now c.requires.starts.ready c.args.number refl
+disown-requires-clause-own g c = collect-own c.args.self.now c.requires.starts.ready c.args.number
+    refl
 
 pub disown-requires-clause-not_here : goal.disown-requires-clause-not_here
-disown-requires-clause-not_here g c = collect-none c.args.self.now c.requires.starts.ready c.args.number refl
+disown-requires-clause-not_here g c = collect-none c.args.self.now c.requires.starts.ready
+    c.args.number refl
 
 pub returns-clause-row : goal.returns-clause-row
 returns-clause-row g c = record {

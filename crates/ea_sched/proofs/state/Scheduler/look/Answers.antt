@@ -1,4 +1,4 @@
-use Rattle.std.proofs.Common.{◌≡◌, ◌*◌, refl, ap, ◌∙◌, subst, arith}
+use Rattle.std.proofs.Common.{◌*◌, refl, ap, ◌∙◌, subst, arith}
 use Rattle.std.proofs.lemmas.Result.{IfOk-weaker}
 use Rattle.ea_model.specs.declared.units.TheConstants.{NUMBERS}
 use Rattle.ea_machine.specs.declared.stages.Stage.TheVariants.{Routed}

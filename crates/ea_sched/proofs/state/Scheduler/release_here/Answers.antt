@@ -2,7 +2,6 @@ use Rattle.std.proofs.Common.{◌≡◌, true, refl, sym, ap, ◌∙◌, subst}
 use Rattle.std.specs.Prelude.{None, Some, IfSome}
 use Rattle.ea_model.specs.declared.settings.Settings.{Settings}
 use Rattle.ea_model.specs.Abandonment.{is_due}
-use Rattle.ea_model.specs.Content.{Content}
 use Rattle.ea_model.specs.Instance.{Instance, content_of, employed, has_content}
 use Rattle.ea_sched.specs.Acting.{setup_for, standing_at}
 use Rattle.ea_sched.proofs.Routing.{due-turned, has-after, stays-turned, there-is}
@@ -36,7 +35,8 @@ returns-then-due-clause-turned c = λ at.
     let i = c.release.new.self in
     let y = c.hand_out-content-then-due.result in
     let q = c.hand_out-content-then-due.ensures.content in
-    let same = ap (λ (j : Instance). j.settings) c.in_ok-is_vacant.ensures.ok ∙ c.requires.settings in
+    let same = ap (λ (j : Instance). j.settings) c.in_ok-is_vacant.ensures.ok
+    ∙ c.requires.settings in
     let due = subst (λ o. IfSome o (λ z. c.due.result ≡ is_due i.settings i.contents z)) q
     c.due.ensures in
     due-turned (setup_for s) s.number c.args.why c.args.hand c.args.gone c.first_gone-gone.result
@@ -54,7 +54,8 @@ returns-clause-turned c = λ at.
     (subst (λ j. has_content c.args.hand.spot.carrier (employed j) ≡ true)
     (sym c.in_ok-is_vacant.ensures.ok)
     (has-after s.instance c.args.hand.spot c.requires.block)) in
-    let same = ap (λ (j : Instance). j.settings) c.in_ok-is_vacant.ensures.ok ∙ c.requires.settings in
+    let same = ap (λ (j : Instance). j.settings) c.in_ok-is_vacant.ensures.ok
+    ∙ c.requires.settings in
     let due = subst (λ o. IfSome o (λ z. c.due.result ≡ is_due i.settings i.contents z)) q
     c.due.ensures in
     stays-turned (setup_for s) s.number c.args.why c.args.hand c.args.gone c.first_gone-gone.result

@@ -1,22 +1,22 @@
-use Rattle.std.proofs.Common.{◌≡◌, ◌≢◌, true, false, [], refl, sym, ap, ◌∙◌, subst}
-use Rattle.std.specs.Prelude.{None, Some, IfSome}
+use Rattle.std.proofs.Common.{◌≡◌, true, false, refl, sym, ap, ◌∙◌, subst}
+use Rattle.std.specs.Prelude.{None, IfSome}
 use Rattle.ea_model.specs.Content.{Content, gaps_of, is_nil, largest}
 use Rattle.ea_machine.specs.declared.stages.Stage.TheVariants.{Routed}
 use Rattle.ea_machine.specs.declared.stages.Route.TheVariants.{Settling}
 use Rattle.ea_machine.specs.Owners.{Busy}
 use Rattle.ea_machine.specs.Releases.{settled}
-use Rattle.ea_machine.specs.Rows.{Done, Settle}
-use Rattle.ea_shared.specs.Calls.{Did, IsWanted}
+use Rattle.ea_machine.specs.Rows.{Done}
 use Rattle.ea_sched.specs.Acting.{setup_for, standing_at}
 use Rattle.ea_sched.specs.Turning.{HasTurned}
 use Rattle.ea_sched.proofs.CarrierCalling.{settle-busy, settle-carrier, settle-for, settle-many}
-use Rattle.ea_sched.proofs.InHand.{as-carrier, as-for, not-nil, settle-wanted}
+use Rattle.ea_sched.proofs.InHand.{as-carrier, as-for, settle-wanted}
 use Rattle.ea_sched.proofs.state.Scheduler.settle.Goals as goal
 
 pub settle_employed-requires-clause-carrier : goal.settle_employed-requires-clause-carrier
 settle_employed-requires-clause-carrier g c = as-carrier c.number-number.ensures
     c.requires.starts.schedulers
-    (settle-carrier c.args.self.now c.requires.starts.ready c.args.why c.args.gone c.args.content refl)
+    (settle-carrier c.args.self.now c.requires.starts.ready c.args.why c.args.gone c.args.content
+    refl)
 
 pub settle_employed-requires-clause-busy : goal.settle_employed-requires-clause-busy
 settle_employed-requires-clause-busy g c =
@@ -41,12 +41,14 @@ returns-then-is_empty-clause-row g c =
     }
 
 pub into_multi-carrier-requires : goal.into_multi-carrier-requires
-into_multi-carrier-requires g c = settle-many c.args.self.now c.requires.starts.ready c.args.why c.args.gone c.args.content refl
+into_multi-carrier-requires g c = settle-many c.args.self.now c.requires.starts.ready c.args.why
+    c.args.gone c.args.content refl
 
 pub settle_pooled-requires-clause-carrier : goal.settle_pooled-requires-clause-carrier
 settle_pooled-requires-clause-carrier g c = as-carrier c.number-number.ensures
     c.requires.starts.schedulers
-    (settle-carrier c.args.self.now c.requires.starts.ready c.args.why c.args.gone c.args.content refl)
+    (settle-carrier c.args.self.now c.requires.starts.ready c.args.why c.args.gone c.args.content
+    refl)
 
 pub settle_pooled-requires-clause-busy : goal.settle_pooled-requires-clause-busy
 settle_pooled-requires-clause-busy g c =
@@ -58,6 +60,8 @@ pub settle_pooled-requires-clause-content : goal.settle_pooled-requires-clause-c
 settle_pooled-requires-clause-content g c =
     let x = c.args.content in
     as-for c.number-number.ensures c.into_multi-carrier.ensures
-    (settle-for c.args.self.now c.requires.starts.ready c.args.why c.args.gone x refl c.largest-largest.result
+    (settle-for c.args.self.now c.requires.starts.ready c.args.why c.args.gone x
+    refl c.largest-largest.result
     (λ none. let no : false ≡ true = sym c.if-is_empty.false ∙ c.is_empty.ensures.1 none in cc)
-    (c.largest-largest.ensures ∙ ap (λ (y : Content). largest (gaps_of y)) c.into_multi-carrier.ensures))
+    (c.largest-largest.ensures
+    ∙ ap (λ (y : Content). largest (gaps_of y)) c.into_multi-carrier.ensures))

@@ -1,10 +1,5 @@
-use Rattle.std.proofs.Common.{◌≡◌, ◌*◌, refl, sym, ap, ◌∙◌, subst, arith}
-use Rattle.std.specs.Prelude.{IsSome}
+use Rattle.std.proofs.Common.{◌*◌, refl, ap, ◌∙◌, arith}
 use Rattle.ea_model.specs.declared.units.TheConstants.{NUMBERS}
-use Rattle.ea_machine.specs.declared.stages.Stage.TheVariants.{Routed}
-use Rattle.ea_machine.specs.declared.stages.Route.TheVariants.{Settling, Trying}
-use Rattle.ea_machine.specs.Rows.{Lost, Won}
-use Rattle.ea_sched.specs.Acting.{actor_of}
 use Rattle.ea_sched.proofs.CarrierCalling.{try-carrier, try-pooled, won-block}
 use Rattle.ea_sched.proofs.state.Scheduler.try_busy.Goals as goal
 
