@@ -1,29 +1,24 @@
 -- A walk where carriers don't migrate: what it passed are blocks; one whose carrier the scheduler
 -- owns lies there, as does each block that it holds in such a carrier; and this stays so from node
--- to node, with the names of the operations left standing nowhere.
-use Rattle.std.proofs.Common.{◌≡◌, ◌≢◌, ℕ, ◌<◌, ◌≤◌, true, false, List, [], ◌∷◌, refl, sym, ap, ◌∙◌}
+-- to node.
+use Rattle.std.proofs.Common.{◌≡◌, ℕ, ◌<◌, ◌≤◌, true, false, List, [], ◌∷◌, refl, sym, ap, ◌∙◌}
 use Rattle.std.proofs.Common.{subst, inr, arith}
-use Rattle.std.specs.Prelude.{All, Option, None, Some, IsSome, ◌==◌}
+use Rattle.std.specs.Prelude.{All, Option, None, Some, IsSome}
 use Rattle.std.specs.Option.{option_and_then}
 use Rattle.std.proofs.lemmas.Bool.{true≢false}
 use Rattle.ea_model.specs.declared.carriers.BlockAt.{BlockAt}
 use Rattle.ea_model.specs.declared.carriers.Kind.TheVariants.{Single}
 use Rattle.ea_model.specs.declared.carriers.Spot.{Spot}
-use Rattle.ea_model.specs.declared.operations.Op.{Op}
-use Rattle.ea_model.specs.declared.operations.Op.TheVariants as op
-use Rattle.ea_model.specs.declared.reallocation.Decision.{Decision}
-use Rattle.ea_model.specs.declared.reallocation.Decision.TheVariants.{Stay, ShrinkHere, GrowHere}
-use Rattle.ea_model.specs.declared.reallocation.Decision.TheVariants.{ShrinkCarrier, Move}
 use Rattle.ea_model.specs.declared.settings.Config.{Config}
 use Rattle.ea_model.specs.declared.trace.Trace.{Trace}
 use Rattle.ea_model.specs.Content.{Content, block_at}
-use Rattle.ea_model.specs.Instance.{block_in, content_of, decision_at, employed, own_at, own_of}
+use Rattle.ea_model.specs.Instance.{block_in, content_of, employed, own_at, own_of}
 use Rattle.ea_model.specs.Instance.{releasing_at, owner_of}
 use Rattle.ea_model.specs.Settings.{IsValidConfig}
 use Rattle.ea_model.specs.Trace.{IsScheduler, IsValidTrace}
 use Rattle.ea_model.proofs.Merged.{merged-All}
 use Rattle.ea_model.proofs.Rising.{item_at-All, item_at-key}
-use Rattle.ea_laws.specs.Kept.{number_of, IsOrderly}
+use Rattle.ea_laws.specs.Kept.{number_of}
 use Rattle.ea_machine.specs.declared.nodes.Named.{Named}
 use Rattle.ea_machine.specs.declared.nodes.Node.{Node}
 use Rattle.ea_machine.specs.declared.nodes.Node.TheVariants.{Block, Carrier}
@@ -34,35 +29,32 @@ use Rattle.ea_machine.specs.declared.stages.Stage.TheVariants.{Begin, Routed}
 use Rattle.ea_machine.specs.declared.stages.Route.{Route}
 use Rattle.ea_machine.specs.declared.stages.Route.TheVariants.{Linking, Looking}
 use Rattle.ea_machine.specs.Actor.{Actor}
-use Rattle.ea_sound.specs.Contents.{actor_sum, seats}
+use Rattle.ea_sound.specs.Contents.{seats}
 use Rattle.ea_machine.specs.Machine.{IsReached, begins}
-use Rattle.ea_sound.specs.Names.{made_in, of_named, of_node, only, only_at}
+use Rattle.ea_sound.specs.Names.{of_node, only_at}
 use Rattle.ea_sound.specs.NodePlaces.{anywhere, of_carrier_actor, of_carrier_node}
-use Rattle.ea_machine.specs.Nodes.{named_at, name_of}
-use Rattle.ea_sound.specs.Places.{has_number, none}
+use Rattle.ea_machine.specs.Nodes.{named_at}
+use Rattle.ea_sound.specs.Places.{none}
 use Rattle.ea_machine.specs.Releases.{Turned, route_of}
 use Rattle.ea_machine.specs.Rows.{Answer, Link, Passes, Rests, TakeAll, TakeLink}
 use Rattle.ea_machine.specs.Setup.{Setup, is_scheduler, migration, setup_of}
 use Rattle.ea_machine.specs.Shared.{Shared}
 use Rattle.ea_machine.specs.State.{State}
-use Rattle.ea_machine.specs.Sums.{one_if, sum_over}
+use Rattle.ea_machine.specs.Sums.{sum_over}
 use Rattle.ea_machine.specs.Table.{answer, effect}
 use Rattle.ea_machine.specs.Walks.{with_passed}
 use Rattle.ea_sound.specs.Leaves.{InWalk, Leaves}
 use Rattle.ea_sound.specs.Moments.{at, with_actor}
 use Rattle.ea_sound.specs.Present.{Rule}
-use Rattle.ea_sound.specs.Rule.{Belongs, Standing, names_of}
+use Rattle.ea_sound.specs.Rule.{Belongs, names_of}
 use Rattle.ea_sound.proofs.Asked.{reached-rule}
 use Rattle.ea_sound.proofs.Assembly.{Closed, HoldsAt, route-holds}
 use Rattle.ea_sound.proofs.BlockWeights.{only_at-itself}
 use Rattle.ea_sound.proofs.CarrierMoves.{closed}
-use Rattle.ea_sound.proofs.Employers.{employed-owner, found-counts}
-use Rattle.ea_sound.proofs.Hits.{held-stands, hit, stands-allocated}
-use Rattle.ea_sound.proofs.KeyedWeights.{sum-item}
+use Rattle.ea_sound.proofs.Hits.{held-stands, hit}
 use Rattle.ea_sound.proofs.NodeSeats.{node-returning, returning-on}
 use Rattle.ea_sound.proofs.Numbered.{scheduler-seat}
 use Rattle.ea_sound.proofs.OwnEntries.{owner-has, somewhere-found}
-use Rattle.ea_laws.proofs.Orderly.{stays-employed}
 use Rattle.ea_sound.proofs.RowLeaves.{row-left}
 use Rattle.ea_sound.proofs.SoundRanges.{number-scheduler}
 use Rattle.ea_sound.proofs.StageMoves.{closed-walk}
@@ -175,55 +167,6 @@ module _ (e : Setup) (v : State) (s : Shared) (me : ℕ) (is : is_scheduler e me
 
       pub walk-own : owner_of x.spot.carrier ≡ me → IsSome (own_at a.instance.own x.spot.carrier)
       walk-own owned = stands-own x.name x.spot (held-stands n x (at Begin a) held) owned
-
-    -- a block in a carrier that another owns isn't here, and is to move where it is reallocated
-    module _ (p : Spot) (need : ℕ) (other : owner_of p.carrier ≢ me) where
-      order : IsOrderly a.instance
-      order = (subst (λ (b : Actor). Standing e me b.instance) now
-          (walks.kept.ranges.instances me is)).order
-
-      must-move : decision_at a.instance p need ≢ Move → ⊥
-      must-move stays =
-          let (x, there) = stays-employed a.instance p need order stays in
-          other (employed-owner e u walks.kept me p.carrier (omega (
-            arith,
-            found-counts p.carrier x (at Begin a) there,
-            ap (actor_sum none (has_number p.carrier)) now,
-          )) off)
-
-      is-move : (d : Decision) → (d ≢ Move → ⊥) → d ≡ Move
-      is-move Move never = refl
-      is-move Stay never = absurd (never (λ q. cc))
-      is-move ShrinkHere never = absurd (never (λ q. cc))
-      is-move GrowHere never = absurd (never (λ q. cc))
-      is-move (ShrinkCarrier pages) never = absurd (never (λ q. cc))
-
-      pub walk-moves : decision_at a.instance p need ≡ Move
-      walk-moves = is-move (decision_at a.instance p need) must-move
-
-    -- a name that an operation is to make isn't held
-    pub walk-fresh : (n : ℕ) → 0 < made_in n a.todo → named_at n a.held ≡ None
-    walk-fresh n some = by (named_at n a.held) refl where
-      by : (o : Option Named) → named_at n a.held ≡ o → o ≡ None
-      by None held = refl
-      by (Some x) held = absurd (omega (
-        arith,
-        walks.fresh n some,
-        stands-allocated e u me seat walks.kept (at Begin a) now (only n),
-        sum-item name_of (of_named (only n)) n x a.held held,
-        ap (λ m. one_if (m == n)) (item_at-key name_of n x a.held held),
-        one-itself n,
-      ))
-
-    pub walk-fresh_alloc : (name bytes : ℕ) (ops : List Op) → a.todo ≡ op.Alloc name bytes ∷ ops
-        → named_at name a.held ≡ None
-    walk-fresh_alloc name bytes ops first =
-        walk-fresh name (omega (arith, ap (made_in name) first, one-itself name))
-
-    pub walk-fresh_realloc : (old fresh bytes : ℕ) (ops : List Op)
-        → a.todo ≡ op.Realloc old fresh bytes ∷ ops → named_at fresh a.held ≡ None
-    walk-fresh_realloc old fresh bytes ops first =
-        walk-fresh fresh (omega (arith, ap (made_in fresh) first, one-itself fresh))
 
   -- a block goes its route: where that is over the walk goes on with the other nodes
   module _ (n : ℕ) (p : Spot) (ns : List Node) (a : Actor)
