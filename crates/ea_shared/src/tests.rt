@@ -247,11 +247,10 @@ fn a_pooled_carrier_is_fetched_once(rt: HostRuntime) -> Result<(), Fail> {
     assert!(rt; shared.home(2).is_some());
     assert!(rt; is_won(shared.fetch_try(2, 2, POOLED)));
 
+    let found = Some(OwnerWord::Employed { instance: 2 });
     assert!(rt; shared.home(2).is_none());
-    assert_eq!(rt;
-        lost(shared.fetch_try(1, 2, POOLED)),
-        Some(OwnerWord::Employed { instance: 2 })
-    );
+    assert_eq!(rt; lost(shared.fetch_try(1, 2, POOLED)), found);
+    assert_eq!(rt; lost(shared.busy_try(1, 2, POOLED)), found);
     Ok(())
 }
 
