@@ -6,3 +6,4 @@ pub mod Reallocating
 pub mod Migrating
 pub mod Planning
 pub mod HandingOut
+pub mod HandFigures

@@ -1,14 +1,17 @@
 //! A carrier in a scheduler's hand.
-ghost use Rattle.std.specs.Prelude.{◌≡◌, ◌↔◌, true, [], Some, IfSome, IsTrue, option_map};
+ghost use Rattle.std.specs.Prelude.{◌≡◌, ◌↔◌, ◌≤◌, ◌*◌, true, [], ◌∷◌, Some, IfSome, IsTrue, length};
+ghost use Rattle.std.specs.Prelude.{List as Items, option_map};
 ghost use Rattle.ea_model.specs.declared.carriers.Kind.TheVariants as kind;
-ghost use Rattle.ea_model.specs.Content.{block_at, can_go, named};
+ghost use Rattle.ea_model.specs.declared.units.TheConstants.{MAX_SCHEDULERS, MAX_UNITS, NUMBERS};
+ghost use Rattle.ea_model.specs.Content.{Content, allocated, block_at, can_go, named};
 ghost use Rattle.ea_model.specs.Employment.{dismissing};
-ghost use Rattle.ea_model.specs.Instance.{carrier_line, content_of, employed, has_content};
+ghost use Rattle.ea_model.specs.Instance.{carrier_line, content_of, employed, figures};
+ghost use Rattle.ea_model.specs.Instance.{has_content};
 
 use crate::instance::Instance;
 use crate::lines::{multi_line, single_line};
 use ea_mbc::Mbc;
-use ea_model::{Block, CarrierLine};
+use ea_model::{Block, CarrierLine, Figures};
 use ea_sbc::Sbc;
 use std::marker::Model;
 
@@ -77,6 +80,71 @@ impl Held {
         match &self.part {
             Part::Multi { carrier } => carrier.is_empty(),
             Part::Single { carrier } => carrier.block().is_none(),
+        }
+    }
+
+    /// Whether it is a singleblock carrier.
+    pub fn is_single(&self) -> bool
+        ensures { IsTrue result ↔ (self.now.kind ≡ kind.Single) }
+    {
+        match &self.part {
+            Part::Multi { .. } => false,
+            Part::Single { carrier } => {
+                carrier.units();
+                true
+            }
+        }
+    }
+
+    /// How many blocks it has.
+    fn len(&self) -> u32
+        ensures { result ≡ length self.now.blocks }
+    {
+        match &self.part {
+            Part::Multi { carrier } => carrier.len(),
+            Part::Single { carrier } => match carrier.block() {
+                Some(_) => 1,
+                None => 0,
+            },
+        }
+    }
+
+    /// The units of its blocks.
+    fn allocated(&self) -> u32
+        ensures { result ≡ allocated self.now.blocks }
+    {
+        match &self.part {
+            Part::Multi { carrier } => carrier.allocated(),
+            Part::Single { carrier } => carrier.allocated(),
+        }
+    }
+
+    /// Its units.
+    fn units(&self) -> u32
+        ensures { result ≡ self.now.units }
+    {
+        match &self.part {
+            Part::Multi { carrier } => carrier.units(),
+            Part::Single { carrier } => carrier.units(),
+        }
+    }
+
+    /// The figures of those carriers and of this one.
+    pub fn counted_with(&self, others: Figures) -> Figures
+        requires blocks { others.blocks ≤ MAX_UNITS * (NUMBERS * MAX_SCHEDULERS) }
+        requires few { others.carriers ≤ NUMBERS * MAX_SCHEDULERS }
+        requires small { (others.blocks_size ≤ MAX_UNITS * (NUMBERS * MAX_SCHEDULERS))
+            × (others.carriers_size ≤ MAX_UNITS * (NUMBERS * MAX_SCHEDULERS)) }
+        ensures { (cs : Items Content) → others ≡ figures cs → result ≡ figures (self.now ∷ cs) }
+    {
+        let blocks = u64::from(self.len());
+        let size = u64::from(self.allocated());
+        let units = u64::from(self.units());
+        Figures {
+            blocks: others.blocks + blocks,
+            blocks_size: others.blocks_size + size,
+            carriers: others.carriers + 1,
+            carriers_size: others.carriers_size + units,
         }
     }
 

@@ -259,6 +259,7 @@ impl Instance {
     /// Blocks and carriers of its main and multiblock carriers, and their units.
     pub fn multi_figures(&self) -> Figures
         ensures figures { result ≡ instances.figures self.now.contents }
+        ensures blocks { result.blocks ≤ MAX_UNITS * (NUMBERS * MAX_SCHEDULERS) }
         ensures few { result.carriers ≤ NUMBERS * MAX_SCHEDULERS }
         ensures small { (result.blocks_size ≤ MAX_UNITS * (NUMBERS * MAX_SCHEDULERS))
             × (result.carriers_size ≤ MAX_UNITS * (NUMBERS * MAX_SCHEDULERS)) }
@@ -269,6 +270,7 @@ impl Instance {
     /// Blocks and carriers of its singleblock carriers, and their units.
     pub fn single_figures(&self) -> Figures
         ensures figures { result ≡ instances.figures self.now.singles }
+        ensures blocks { result.blocks ≤ MAX_UNITS * (NUMBERS * MAX_SCHEDULERS) }
         ensures few { result.carriers ≤ NUMBERS * MAX_SCHEDULERS }
         ensures small { (result.blocks_size ≤ MAX_UNITS * (NUMBERS * MAX_SCHEDULERS))
             × (result.carriers_size ≤ MAX_UNITS * (NUMBERS * MAX_SCHEDULERS)) }

@@ -1,6 +1,7 @@
 pub mod Doing
 pub mod Acts
 pub mod Placing
+pub mod Observing
 pub mod Seeking
 pub mod StandsOff
 pub mod OwnCarriers

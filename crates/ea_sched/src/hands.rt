@@ -1,11 +1,14 @@
 //! The carrier in a scheduler's hand.
 ghost use Rattle.std.specs.Prelude.{◌≡◌, [], ◌∷◌, MatchOption, option_map};
+ghost use Rattle.ea_model.specs.Instance.{figures};
 ghost use Rattle.ea_machine.specs.Outcome as outcome;
 ghost use Rattle.ea_machine.specs.Statistics as statistics;
+ghost use Rattle.ea_sched.specs.Acting.{actor_of};
 
 use crate::state::Scheduler;
 use ea_instance::Held;
 use ea_machine::{Route, Stage};
+use ea_model::Figures;
 
 /// The carrier on the route that is about to leave its employer, if there is one.
 fn leaving_on(route: &Route<Held>) -> Option<&Held>
@@ -75,5 +78,34 @@ impl<'t> Scheduler<'t> {
             | Stage::Ended
             | Stage::Ready => None,
         }
+    }
+
+    /// The figures of its main and multiblock carriers, with the one in its hand that is about to
+    /// leave.
+    pub(crate) fn multi_figures(&self) -> Figures
+        ensures { result ≡ figures (statistics.employed_multis (actor_of self.now)) }
+    {
+        let others = self.instance.multi_figures();
+        let Some(carrier) = self.leaving() else {
+            return others;
+        };
+        if carrier.is_single() {
+            return others;
+        }
+        carrier.counted_with(others)
+    }
+
+    /// The figures of its singleblock carriers, with the one in its hand that is about to leave.
+    pub(crate) fn single_figures(&self) -> Figures
+        ensures { result ≡ figures (statistics.employed_singles (actor_of self.now)) }
+    {
+        let others = self.instance.single_figures();
+        let Some(carrier) = self.leaving() else {
+            return others;
+        };
+        if carrier.is_single() {
+            return carrier.counted_with(others);
+        }
+        others
     }
 }

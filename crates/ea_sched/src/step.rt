@@ -25,14 +25,14 @@ pub enum Progress {
 }
 
 impl<'t> Scheduler<'t> {
-    /// Observes the figures of its carriers as they are, where none is in its hand.
+    /// Observes the figures of its carriers as they are.
     fn observe(&mut self)
-        requires hand { statistics.leaving_at self.old.stage ≡ [] }
         ensures actor { actor_of self.new ≡ statistics.observed (actor_of self.old) }
         ensures same { IsSame self.old self.new }
     {
-        self.mbcs.observe(self.instance.multi_figures());
-        self.sbcs.observe(self.instance.single_figures());
+        let (mbcs, sbcs) = (self.multi_figures(), self.single_figures());
+        self.mbcs.observe(mbcs);
+        self.sbcs.observe(sbcs);
     }
 
     /// Does the row that is next, and goes on by its answer.

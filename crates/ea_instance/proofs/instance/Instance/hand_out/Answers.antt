@@ -1,6 +1,6 @@
 use Rattle.std.proofs.Common.{◌≡◌, sym, ◌∙◌}
 use Rattle.std.specs.Prelude.{[]}
-use Rattle.ea_instance.proofs.HandingOut.{alone-gone, alone-there, among-many, as-alone, many-multi}
+use Rattle.ea_instance.proofs.HandingOut.{alone-gone, alone-there, among-many, many-multi}
 use Rattle.ea_instance.proofs.instance.Instance.hand_out.Goals as goal
 
 pub give_up-requires-clause-there : goal.give_up-requires-clause-there

@@ -3,6 +3,7 @@ use Rattle.ea_model.specs.declared.carriers.Figures.{Figures}
 use Rattle.ea_laws.proofs.Standing.{single-bounded}
 use Rattle.ea_laws.proofs.Sums.{allocated-most, units-most}
 use Rattle.ea_instance.proofs.Keeping.{kept-few}
+use Rattle.ea_instance.proofs.HandFigures.{alone-blocks}
 use Rattle.ea_instance.proofs.instance.Instance.single_figures.Goals as goal
 
 pub returns-clause-few : goal.returns-clause-few
@@ -13,6 +14,15 @@ returns-clause-few c =
           c.self.inside.created c.self.invariant,
       ap (λ (f : Figures). f.carriers) c.figures.ensures,
     )
+
+pub returns-clause-blocks : goal.returns-clause-blocks
+returns-clause-blocks c = omega (
+  arith,
+  kept-few _ _ c.self.inside.own c.self.inside.carriers c.self.inside.singles
+      c.self.inside.created c.self.invariant,
+  ap (λ (f : Figures). f.blocks) c.figures.ensures,
+  alone-blocks c.self.inside.singles c.self.invariant.stands.orderly.alone,
+)
 
 pub returns-clause-small : goal.returns-clause-small
 returns-clause-small c =

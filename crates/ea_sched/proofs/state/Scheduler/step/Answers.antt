@@ -2,7 +2,6 @@ use Rattle.std.proofs.Common.{sym, ◌∙◌}
 use Rattle.ea_sched.specs.Acting.{actor_of}
 use Rattle.ea_sched.proofs.Acts.{went}
 use Rattle.ea_sched.proofs.Doing.{ended-stepped, row-stepped, stage-ends, stage-goes, step-ready}
-use Rattle.ea_sched.proofs.StandsOff.{row-off}
 use Rattle.ea_sched.proofs.state.Scheduler.step.Goals as goal
 
 pub returns-then-ended-clause-step : goal.returns-then-ended-clause-step
@@ -39,10 +38,3 @@ returns-clause-ready g c =
     (g.S.Shared.caller c.args.shared.now) (g.S.Shared.caller c.advance.new.shared)
     (end.config ∙ mid.config) (end.trace ∙ mid.trace) (end.number ∙ mid.number)
     (c.requires.ready c.if-self.false) (after g c)
-
-pub observe-requires : goal.observe-requires
-observe-requires g c = record {
-  hand = row-off c.args.self.now c.requires.off (c.requires.ready c.if-self.false) c.advance.new.self
-      (sym c.ended.ensures ∙ c.if-ended.false)
-      (went c.advance.result c.advance.ensures.row c.if-is_err.ensures.value);
-}

@@ -1,0 +1,25 @@
+use Rattle.std.proofs.Common.{◌≡◌, true, false, refl, sym, ap, ◌∙◌, subst}
+use Rattle.ea_model.specs.declared.carriers.Kind.TheVariants.{Single}
+use Rattle.ea_model.specs.Instance.{figures}
+use Rattle.ea_machine.specs.Statistics.{is_single}
+use Rattle.ea_sched.specs.Acting.{actor_of}
+use Rattle.ea_sched.proofs.Observing.{kind-other, singles-none, singles-one}
+use Rattle.ea_sched.proofs.state.Scheduler.single_figures.Goals as goal
+
+pub returns-in_default : goal.returns-in_default
+returns-in_default c = c.single_figures-others.ensures.figures
+    ∙ sym (ap figures (singles-none (actor_of c.args.self.now) c.in_default.ensures))
+
+pub returns-then-is_single : goal.returns-then-is_single
+returns-then-is_single c = c.counted_with.ensures c.args.self.now.instance.singles
+    c.single_figures-others.ensures.figures
+    ∙ sym (ap figures (singles-one (actor_of c.args.self.now) c.in-Some.carrier.now
+    c.in-Some.ensures true
+    (ap is_single (c.is_single.ensures.0 c.if-is_single.true))))
+
+pub returns : goal.returns
+returns c = c.single_figures-others.ensures.figures
+    ∙ sym (ap figures (singles-one (actor_of c.args.self.now) c.in-Some.carrier.now
+    c.in-Some.ensures false
+    (kind-other c.in-Some.carrier.now.kind (λ single.
+    let no : true ≡ false = sym (c.is_single.ensures.1 single) ∙ c.if-is_single.false in cc))))
