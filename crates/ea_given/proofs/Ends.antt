@@ -21,6 +21,7 @@ use Rattle.ea_machine.specs.Setup.{Setup, migration, setup_of}
 use Rattle.ea_machine.specs.State.{State}
 use Rattle.ea_sound.proofs.Completing.{ending-others}
 use Rattle.ea_sound.proofs.TurnLists.{run-append, step-other}
+use Rattle.ea_shared.specs.Carriers.{place_at}
 use Rattle.ea_shared.specs.Memory.{Sharing, shared_of}
 use Rattle.ea_sched.specs.declared.state.Scheduler.{Scheduler}
 use Rattle.ea_sched.specs.Acting.{actor_of, setup_for}
@@ -240,12 +241,13 @@ module _ (c : Config) (t : Trace) where
         next : (low k : ℕ) → low + 1 + k ≡ low + suc k
         next low k = omega arith
 
-    pub stand-in : StandIn c t ss m.given w
+    pub stand-in : StandIn c t ss (place_at m.places) m.given w
     stand-in = record {
       reached = shares.reached;
       actors = actors_from 1 ss
           (λ k d within. ap w.actors (first k) ∙ (stand.each k d within).actor)
           ∙ ap (λ n. map w.actors (range_with_len 1 n)) stand.all;
+      told = λ on n. ap (λ s. s.places n) shares.shares;
       given = ap (λ s. s.given) shares.shares;
     } where
       first : (k : ℕ) → 1 + k ≡ k + 1

@@ -1,3 +1,4 @@
 pub mod OutcomeGiven
 pub mod OutcomeBlocks
+pub mod OutcomeLines
 pub mod OutcomeSums

@@ -1,97 +1,152 @@
 -- Schedulers in a state in which nobody steps.
-use Rattle.std.specs.Prelude.{◌≡◌, ℕ, ◌+◌, ◌-◌, ◌*◌, ◌≤◌, List, All, AllPairs, IsSome, Option}
-use Rattle.std.specs.Prelude.{length, map, slice_get, sum_by}
-use Rattle.std.specs.Option.{option_and_then, option_map_or}
+use Rattle.std.specs.Prelude.{◌≡◌, ℕ, ◌+◌, ◌-◌, ◌*◌, ◌≤◌, nat_le, Bool, true, false, ◌&&◌}
+use Rattle.std.specs.Prelude.{List, [], ◌∷◌, Option, None, Some, All, AllPairs, flat_map, is_some}
+use Rattle.std.specs.Prelude.{length, map, option_map, slice_get, sum_by}
+use Rattle.std.specs.List.{range_with_len}
+use Rattle.std.specs.Option.{option_and_then, option_or}
 use Rattle.ea_model.specs.declared.carriers.BlockAt.{BlockAt}
+use Rattle.ea_model.specs.declared.carriers.CarrierLine.{CarrierLine}
 use Rattle.ea_model.specs.declared.carriers.Spot.{Spot}
+use Rattle.ea_model.specs.declared.carriers.Standing.{Standing}
+use Rattle.ea_model.specs.declared.carriers.Standing.TheVariants as standing
 use Rattle.ea_model.specs.declared.carriers.Totals.{Totals}
 use Rattle.ea_model.specs.declared.outcome.Outcome.{Outcome}
 use Rattle.ea_model.specs.declared.settings.Config.{Config}
 use Rattle.ea_model.specs.declared.trace.Trace.{Trace}
-use Rattle.ea_model.specs.Content.{Content, free_units, gaps_of}
-use Rattle.ea_model.specs.Instance.{block_in, employed, owner_of, size_at}
+use Rattle.ea_model.specs.declared.units.TheConstants.{HEADER_UNITS, MAX_SCHEDULERS, NUMBERS}
+use Rattle.ea_model.specs.declared.units.TheConstants.{PAGE_UNITS}
+use Rattle.ea_model.specs.Content.{Content, block_at, size_of}
+use Rattle.ea_model.specs.Instance.{content_of, employed, owner_of}
 use Rattle.ea_model.specs.Keyed.{IsBelow}
 use Rattle.ea_model.specs.Outcome.{plain_outcome}
 use Rattle.ea_machine.specs.declared.nodes.Named.{Named}
 use Rattle.ea_machine.specs.Machine.{IsReached}
 use Rattle.ea_machine.specs.Nodes.{name_of}
 use Rattle.ea_machine.specs.Outcome as machine
-use Rattle.ea_machine.specs.Setup.{setup_of}
+use Rattle.ea_machine.specs.Outcome.{Present, line_of, settling_at}
+use Rattle.ea_machine.specs.Owners.{CarrierAt, Absent, Employed, Pooled, Busy, Returning}
+use Rattle.ea_machine.specs.Setup.{migration, setup_of}
 use Rattle.ea_machine.specs.State.{State}
+use Rattle.ea_machine.specs.Statistics.{leaving_at}
 use Rattle.ea_sched.specs.declared.state.Scheduler.{Scheduler}
 use Rattle.ea_sched.specs.Acting.{actor_of}
-
--- the sum of what f gives for them, scheduler by scheduler
-abbrev pub sum_employed : (Content → ℕ) → List Scheduler → ℕ
-sum_employed f schedulers = sum_by (λ s. sum_by f (employed s.instance)) schedulers
 
 -- given names stand by rising name, from 1 up to the greatest
 pub record AreGiven (greatest : ℕ) (given : List Named) : Type 0 where
   pub rising : AllPairs (IsBelow name_of) given
   pub within : All (λ n. (1 ≤ n.name) × (n.name ≤ greatest)) given
 
--- the block at a spot, in the instance that owns its carrier
-abbrev pub block_by : List Scheduler → Spot → Option BlockAt
-block_by schedulers spot = option_and_then (λ s. block_in (employed s.instance) spot)
-    (slice_get schedulers (owner_of spot.carrier - 1))
+-- where the carrier of a number is; where carriers don't migrate, it can only be with its owner
+abbrev pub place_by : Bool → (ℕ → CarrierAt) → ℕ → CarrierAt
+place_by true places number = places number
+place_by false places number = Employed (owner_of number)
 
--- the instance has a block there
-abbrev pub HasBlock : List Scheduler → Spot → Type 0
-HasBlock schedulers spot = IsSome (block_by schedulers spot)
+-- the content of a carrier that a scheduler employs: one that is about to leave is in its hand
+abbrev pub employed_by : ℕ → Scheduler → Option Content
+employed_by number s = option_or (content_of (leaving_at s.stage) number)
+    (content_of (employed s.instance) number)
 
--- each of the names has its block
-abbrev pub HaveBlocks : List Scheduler → List Named → Type 0
-HaveBlocks schedulers names = All (λ n. HasBlock schedulers n.spot) names
+-- a carrier that is there with its content
+abbrev pub found : Standing → ℕ → Option Content → Option Present
+found word i o = option_map (λ x. record { content = x; word = word; employer = i }) o
 
--- the units of the block at a spot, in the instance that owns its carrier; 0 if it has none there
-abbrev pub units_at : List Scheduler → Spot → ℕ
-units_at schedulers spot = option_map_or (λ s. size_at s.instance spot)
-    (slice_get schedulers (owner_of spot.carrier - 1)) 0
+module _ (schedulers : List Scheduler) where
+  -- what f finds with the scheduler of that number
+  abbrev pub with_scheduler : (Scheduler → Option Content) → ℕ → Option Content
+  with_scheduler f i = option_and_then f (slice_get schedulers (i - 1))
 
--- those of the blocks of names
-abbrev pub units_named : List Scheduler → List Named → ℕ
-units_named schedulers names = sum_by (λ n. units_at schedulers n.spot) names
+  -- the carrier of the number, if it is there, by where it is
+  abbrev pub carrier_at : ℕ → CarrierAt → Option Present
+  carrier_at number Absent = None
+  carrier_at number (Employed i) =
+      found standing.Employed i (with_scheduler (employed_by number) i)
+  carrier_at number (Pooled i largest x) = found standing.Pooled i (Some x)
+  carrier_at number (Busy i) =
+      found standing.Busy i (with_scheduler (λ s. settling_at s.stage) i)
+  carrier_at number (Returning i x) = found standing.Returning i (Some x)
 
--- of the names that schedulers hold, and of those that are given
-abbrev pub live_units : List Scheduler → List Named → ℕ
-live_units schedulers given = sum_by (λ s. units_named schedulers s.names.held) schedulers
-    + units_named schedulers given
+-- as a list of at most one
+abbrev pub lines_if : Option Present → List CarrierLine
+lines_if None = []
+lines_if (Some p) = line_of p ∷ []
 
--- each of these names has its block
-pub record AreLive (schedulers : List Scheduler) (named : List Named) : Type 0 where
-  pub held : All (λ s. HaveBlocks schedulers s.names.held) schedulers
-  pub given : HaveBlocks schedulers named
+-- schedulers that share these places, by whether carriers migrate
+module _ (migrates : Bool) (places : ℕ → CarrierAt) (schedulers : List Scheduler) where
+  -- the carrier of the number, if it is there
+  abbrev pub carrier_of : ℕ → Option Present
+  carrier_of number = carrier_at schedulers number (place_by migrates places number)
 
--- how many contents schedulers employ
-abbrev pub count_employed : List Scheduler → ℕ
-count_employed schedulers = sum_by (λ s. length (employed s.instance)) schedulers
+  -- the lines of the carriers of the first numbers
+  abbrev pub first_lines : ℕ → List CarrierLine
+  first_lines n = flat_map (λ number. lines_if (carrier_of number)) (range_with_len 1 n)
 
--- the totals of schedulers among which these names are given, where carriers don't migrate: blocks
--- that no name has are on their way to be released; a carrier's header has 8 units
-abbrev pub totals_by : List Scheduler → List Named → Totals
-totals_by schedulers given =
-    let units = sum_employed (λ c. c.units) schedulers in
-    let live = live_units schedulers given in
-    let free = sum_employed (λ c. free_units (gaps_of c)) schedulers in
-    let header = 8 * count_employed schedulers in
+  -- the block at a spot, where its carrier is
+  abbrev pub block_by : Spot → Option BlockAt
+  block_by spot = option_and_then (λ p. block_at p.content.blocks spot.offset)
+      (carrier_of spot.carrier)
+
+  -- whether the spot has a block in a carrier with a number
+  abbrev pub has_block : Spot → Bool
+  has_block spot = nat_le 1 spot.carrier
+      && (nat_le spot.carrier (NUMBERS * length schedulers) && is_some (block_by spot))
+
+  abbrev pub HasBlock : Spot → Type 0
+  HasBlock spot = has_block spot ≡ true
+
+  -- each of the names has its block
+  abbrev pub HaveBlocks : List Named → Type 0
+  HaveBlocks names = All (λ n. HasBlock n.spot) names
+
+  -- the units of the block at a spot, or 0
+  abbrev pub units_at : Spot → ℕ
+  units_at spot = size_of (block_by spot)
+
+  -- those of the blocks of names
+  abbrev pub units_named : List Named → ℕ
+  units_named names = sum_by (λ n. units_at n.spot) names
+
+  -- of the names that schedulers hold, and of those that are given
+  abbrev pub live_units : List Named → ℕ
+  live_units given = sum_by (λ s. units_named s.names.held) schedulers + units_named given
+
+  -- each of these names has its block
+  pub record AreLive (named : List Named) : Type 0 where
+    pub held : All (λ s. HaveBlocks s.names.held) schedulers
+    pub given : HaveBlocks named
+
+-- the totals of carriers with these lines, with that many live units: blocks that no name has are
+-- on their way to be released
+abbrev pub totals_by : List CarrierLine → ℕ → Totals
+totals_by lines live =
+    let units = sum_by (λ l. PAGE_UNITS * l.pages) lines in
+    let allocated = sum_by (λ l. l.allocated) lines in
+    let header = HEADER_UNITS * length lines in
     record {
-      carriers = count_employed schedulers;
+      carriers = length lines;
       units = units;
       live = live;
-      queued = units - live - free - header;
-      free = free;
+      queued = allocated - live;
+      free = units - header - allocated;
       header = header;
     }
 
--- live blocks, gaps and headers are no more than all units
-abbrev pub HaveParts : Totals → Type 0
-HaveParts t = t.live + t.free + t.header ≤ t.units
+-- live blocks are among all, blocks and headers have no more than all units, and the carriers are
+-- few
+pub record HaveParts (lines : List CarrierLine) (live : ℕ) : Type 0 where
+  pub among : live ≤ sum_by (λ l. l.allocated) lines
+  pub rest : sum_by (λ l. l.allocated) lines + HEADER_UNITS * length lines
+      ≤ sum_by (λ l. PAGE_UNITS * l.pages) lines
+  pub few : length lines ≤ NUMBERS * MAX_SCHEDULERS
 
-module _ (c : Config) (t : Trace) (schedulers : List Scheduler) (named : List Named) where
-  -- the schedulers are those of a reached state, in order, and the names are those given there
+module _ (c : Config) (t : Trace) (schedulers : List Scheduler) (places : ℕ → CarrierAt)
+    (named : List Named) where
+  -- the schedulers are those of a reached state, in order, and the names are those given there; if
+  -- carriers migrate, they are at these places there
   pub record StandIn (state : State) : Type 0 where
     pub reached : IsReached (setup_of c t) state
     pub actors : map actor_of schedulers ≡ machine.actors_of (setup_of c t) state
+    pub told : migration (setup_of c t) ≡ true → (number : ℕ)
+        → places number ≡ state.shared.places number
     pub given : named ≡ state.shared.given
 
   -- there is such a state

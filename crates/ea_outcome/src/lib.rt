@@ -1,6 +1,8 @@
-//! The outcome of a run in which nobody steps any more, read off its schedulers and what they share.
+//! The outcome of a run in which nobody steps any more, read off schedulers and what they share.
 #![tactic(auto)]
 
+mod finding;
+mod found;
 mod outcome;
 mod units;
 

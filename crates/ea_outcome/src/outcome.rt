@@ -1,22 +1,23 @@
 //! The outcome of a run in which nobody steps any more.
-ghost use Rattle.std.specs.Prelude.{◌≡◌, ◌*◌, ◌^◌, ◌<◌, ◌≤◌, false, IfOk};
-ghost use Rattle.std.specs.Prelude.{flat_map, length, map, sum_by};
-ghost use Rattle.ea_model.specs.declared.units.TheConstants.{MAX_SCHEDULERS, MAX_UNITS, NUMBERS};
-ghost use Rattle.ea_model.specs.Content.{free_units, gaps_of};
-ghost use Rattle.ea_model.specs.Instance.{carrier_line, employed};
+ghost use Rattle.std.specs.Prelude.{◌≡◌, ◌*◌, ◌^◌, ◌<◌, ◌≤◌, IfOk, length, map, option_map};
+ghost use Rattle.std.specs.Prelude.{sum_by};
+ghost use Rattle.ea_model.specs.declared.units.TheConstants.{MAX_SCHEDULERS, NUMBERS, PAGE_UNITS};
 ghost use Rattle.ea_model.specs.Settings.{IsValidConfig};
 ghost use Rattle.ea_model.specs.Trace.{IsValidTrace};
+ghost use Rattle.ea_machine.specs.Outcome.{line_of};
 ghost use Rattle.ea_machine.specs.Setup.{migration, setup_of};
-ghost use Rattle.ea_outcome.specs.Resting.{AreGiven, AreLive, HaveParts, IsOutcome, Stand};
-ghost use Rattle.ea_outcome.specs.Resting.{count_employed, sum_employed, totals_by};
+ghost use Rattle.ea_shared.specs.Carriers.{IsCarrier};
+ghost use Rattle.ea_outcome.specs.Resting.{HaveParts, IsOutcome, Stand};
+ghost use Rattle.ea_outcome.specs.Resting.{carrier_of, first_lines, totals_by};
 
+use crate::finding::find;
 use crate::units::live_units;
-use ea_instance::Instance;
 use ea_mbc::Mbc;
 use ea_model::{
-    CarrierLine, Config, Entry, HEADER_UNITS, List, OutOfMemory, Outcome, Totals, Trace,
+    CarrierLine, Config, Entry, HEADER_UNITS, List, NUMBERS, OutOfMemory, Outcome, PAGE_UNITS,
+    Totals, Trace,
 };
-use ea_sched::Scheduler;
+use ea_sched::{Scheduler, migrates};
 use ea_shared::Rested;
 use std::alloc::Global;
 
@@ -32,95 +33,90 @@ fn logs_of(alloc: Global, schedulers: List<Scheduler<'_>>) -> Result<List<List<E
     Ok(logs)
 }
 
-/// The lines of the carriers that the schedulers employ.
-fn lines_of(alloc: Global, schedulers: &[Scheduler<'_>]) -> Result<List<CarrierLine>, OutOfMemory>
+/// The line of the carrier with that number, if it is there.
+fn line_at<H: Rested<Content = Mbc>>(
+    schedulers: &[Scheduler<'_>],
+    shared: &H,
+    migrates: bool,
+    number: u32,
+) -> Option<CarrierLine>
+    requires migrates { migrates ≡ H.migrates shared.now }
+    requires number { IsCarrier (H.schedulers shared.now) number }
+    ensures { result ≡ option_map line_of
+        (carrier_of migrates (H.places shared.now) schedulers.now number) }
+{
+    match find(schedulers, shared, migrates, number) {
+        Some(carrier) => carrier.line(number),
+        None => None,
+    }
+}
+
+/// The lines of all carriers that are there, by number: there are that many numbers.
+fn lines_of<H: Rested<Content = Mbc>>(
+    alloc: Global,
+    schedulers: &[Scheduler<'_>],
+    shared: &H,
+    migrates: bool,
+    numbers: u32,
+) -> Result<List<CarrierLine>, OutOfMemory>
+    requires migrates { migrates ≡ H.migrates shared.now }
+    requires numbers { numbers ≡ NUMBERS * H.schedulers shared.now }
     ensures { IfOk result (λ lines. lines.items
-        ≡ flat_map (λ s. map (carrier_line s.instance.number) (employed s.instance))
-        schedulers.now) }
+        ≡ first_lines migrates (H.places shared.now) schedulers.now numbers) }
 {
     let mut lines = List::new(alloc);
-    for scheduler in schedulers {
-        scheduler.instance().put_lines(&mut lines)?;
+    for before in 0..numbers {
+        if let Some(line) = line_at(schedulers, shared, migrates, before + 1) {
+            lines.push(line)?;
+        }
     }
     Ok(lines)
 }
 
-/// How many carriers an instance employs.
-fn carriers_in(instance: &Instance) -> u32
-    ensures carriers { result ≡ length (employed instance.now) }
-    ensures few { result ≤ 2 * (NUMBERS * MAX_SCHEDULERS) }
+/// The units of the carrier with that line.
+fn units_on(line: &CarrierLine) -> u64
+    ensures units { result ≡ PAGE_UNITS * line.now.pages }
+    ensures small { result < 2 ^ 41 }
 {
-    let multi = instance.multi_figures();
-    let single = instance.single_figures();
-    (multi.carriers + single.carriers) as u32
+    u64::from(line.pages) * u64::from(PAGE_UNITS)
 }
 
-/// The units of the carriers that an instance employs.
-fn units_in(instance: &Instance) -> u64
-    ensures units { result ≡ sum_by (λ c. c.units) (employed instance.now) }
-    ensures small { result ≤ 2 * (MAX_UNITS * (NUMBERS * MAX_SCHEDULERS)) }
+/// The units of all carriers with these lines, which are few.
+fn units_of(lines: &[CarrierLine]) -> u64
+    requires { length lines.now ≤ NUMBERS * MAX_SCHEDULERS }
+    ensures { result ≡ sum_by (λ l. PAGE_UNITS * l.pages) lines.now }
 {
-    let multi = instance.multi_figures();
-    let single = instance.single_figures();
-    multi.carriers_size + single.carriers_size
+    lines.iter().map(|l| units_on(l)).sum()
 }
 
-fn carriers_of(schedulers: &[Scheduler<'_>]) -> u32
-    requires { length schedulers.now ≤ MAX_SCHEDULERS }
-    ensures { result ≡ count_employed schedulers.now }
+/// The units of the blocks of all these carriers.
+fn allocated_in(lines: &[CarrierLine]) -> u64
+    requires { length lines.now ≤ NUMBERS * MAX_SCHEDULERS }
+    ensures { result ≡ sum_by (λ l. l.allocated) lines.now }
 {
-    schedulers.iter().map(|s| carriers_in(s.instance())).sum()
+    lines.iter().map(|l| u64::from(l.allocated)).sum()
 }
 
-fn units_of(schedulers: &[Scheduler<'_>]) -> u64
-    requires { length schedulers.now ≤ MAX_SCHEDULERS }
-    ensures { result ≡ sum_employed (λ c. c.units) schedulers.now }
+/// The totals of carriers with these lines, which have that many units, of which so many are live.
+fn totals_of(lines: &[CarrierLine], units: u64, live: u64) -> Totals
+    requires units { units ≡ sum_by (λ l. PAGE_UNITS * l.pages) lines.now }
+    requires parts { HaveParts lines.now live }
+    ensures { result ≡ totals_by lines.now live }
 {
-    schedulers.iter().map(|s| units_in(s.instance())).sum()
-}
-
-fn free_of(schedulers: &[Scheduler<'_>]) -> u64
-    requires { sum_employed (λ c. free_units (gaps_of c)) schedulers.now < 2 ^ 64 }
-    ensures { result ≡ sum_employed (λ c. free_units (gaps_of c)) schedulers.now }
-{
-    let mut units = 0;
-    for scheduler in schedulers {
-        units += scheduler.instance().free_units();
-    }
-    units
-}
-
-/// The totals of schedulers that share this, live and queued blocks told apart.
-fn totals_of<H: Rested<Content = Mbc>>(
-    schedulers: &[Scheduler<'_>],
-    shared: &H,
-    greatest: u32,
-) -> Totals
-    requires few { length schedulers.now ≤ MAX_SCHEDULERS }
-    requires greatest { greatest ≡ H.greatest shared.now }
-    requires given { AreGiven greatest (H.named shared.now) }
-    requires live { AreLive schedulers.now (H.named shared.now) }
-    requires parts { HaveParts (totals_by schedulers.now (H.named shared.now)) }
-    ensures { result ≡ totals_by schedulers.now (H.named shared.now) }
-{
-    let carriers = carriers_of(schedulers);
-    let units = units_of(schedulers);
-    let live = live_units(schedulers, shared, greatest);
-    let free = free_of(schedulers);
-    let header = u64::from(HEADER_UNITS) * u64::from(carriers);
+    let allocated = allocated_in(lines);
+    let header = u64::from(HEADER_UNITS) * lines.len() as u64;
     Totals {
-        carriers,
+        carriers: lines.len() as u32,
         units,
         live,
-        queued: units - live - free - header,
-        free,
+        queued: allocated - live,
+        free: units - header - allocated,
         header,
     }
 }
 
 /// What is printed of a run in which nobody steps any more: of whatever state it is in which its
-/// schedulers, in order, and what they share stand so. Carriers don't migrate. It fails only where
-/// there is no memory.
+/// schedulers, in order, and what they share stand so. It fails only where there is no memory.
 pub fn outcome_of<H: Rested<Content = Mbc>>(
     alloc: Global,
     config: Config,
@@ -130,15 +126,23 @@ pub fn outcome_of<H: Rested<Content = Mbc>>(
 ) -> Result<Outcome, OutOfMemory>
     requires config { IsValidConfig config }
     requires trace { IsValidTrace config.schedulers trace.now }
-    requires off { migration (setup_of config trace.now) ≡ false }
+    requires schedulers { H.schedulers shared.now ≡ config.schedulers }
+    requires migrates { H.migrates shared.now ≡ migration (setup_of config trace.now) }
     requires greatest { trace.now.greatest ≡ H.greatest shared.now }
-    requires stand { Stand config trace.now schedulers.items (H.named shared.now) }
+    requires stand { Stand config trace.now schedulers.items (H.places shared.now)
+        (H.named shared.now) }
     ensures { IfOk result (IsOutcome config trace.now schedulers.entry.items
-        (H.named shared.now)) }
+        (H.places shared.now) (H.named shared.now)) }
 {
+    let on = migrates(config, trace);
+    let numbers = NUMBERS * config.schedulers;
+    let carriers = lines_of(alloc, schedulers.as_slice(), shared, on, numbers)?;
+    let units = units_of(carriers.as_slice());
+    let live = live_units(schedulers.as_slice(), shared, on, trace.greatest);
+    let totals = totals_of(carriers.as_slice(), units, live);
     Ok(Outcome {
-        carriers: lines_of(alloc, schedulers.as_slice())?,
-        totals: totals_of(schedulers.as_slice(), shared, trace.greatest),
         logs: logs_of(alloc, schedulers)?,
+        carriers,
+        totals,
     })
 }

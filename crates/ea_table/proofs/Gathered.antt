@@ -1,7 +1,8 @@
 -- The state in which the table was closed, and its schedulers.
 use Rattle.std.proofs.Common.{◌≡◌, ℕ, suc, ◌+◌, ◌<◌, List, [], ◌∷◌, ◌++◌, map}
 use Rattle.std.proofs.Common.{length, get_or, refl, sym, ap, ◌∙◌, subst, arith}
-use Rattle.std.specs.Prelude.{All}
+use Rattle.std.specs.Prelude.{All, false, true}
+use Rattle.std.proofs.lemmas.Bool.{false≢true}
 use Rattle.std.specs.List.{range_with_len}
 use Rattle.std.proofs.Math.ListN.{get_or-map}
 use Rattle.std.proofs.lemmas.List.{length-map, map-append, map_push}
@@ -19,7 +20,7 @@ use Rattle.ea_machine.specs.Courses.{AreSteps}
 use Rattle.ea_machine.specs.Machine.{run}
 use Rattle.ea_machine.specs.Nodes.{block_node, name_of}
 use Rattle.ea_machine.specs.Outcome.{actors_of}
-use Rattle.ea_machine.specs.Setup.{Setup, setup_of}
+use Rattle.ea_machine.specs.Setup.{Setup, migration, setup_of}
 use Rattle.ea_sched.specs.Acting.{actor_of}
 use Rattle.ea_outcome.specs.Resting.{StandIn}
 use Rattle.ea_sched.specs.declared.state.Scheduler.{Scheduler}
@@ -31,7 +32,7 @@ use Rattle.ea_table.specs.declared.views.About.{About}
 use Rattle.ea_table.specs.declared.views.Seated.{Seated}
 use Rattle.ea_table.specs.declared.views.View.{View}
 use Rattle.ea_table.specs.declared.worker.Finished.{Finished}
-use Rattle.ea_table.specs.Ending.{AreGiven, Closes, Gives, IsLast}
+use Rattle.ea_table.specs.Ending.{AreGiven, Closes, Gives, IsLast, nowhere}
 use Rattle.ea_table.specs.Ruling.{Keeps, Knows, Sits, acting, holds}
 use Rattle.ea_table.specs.Words.{IsFit}
 use Rattle.ea_table.proofs.Laws.{worded}
@@ -140,14 +141,15 @@ module _ (c : Config) (t : Trace) (valid : IsValidConfig c) (made : IsValidTrace
         ∙ ap (λ n. map (λ i. (run e turns).actors i) (range_with_len 1 n)) all
 
   -- the schedulers stand in the state in which the table was closed
-  stand-closed : (about : About) → about.config ≡ c → about.trace.now ≡ t → (j : ℕ) (v : View)
+  stand-closed : migration e ≡ false → (about : About) → about.config ≡ c
+      → about.trace.now ≡ t → (j : ℕ) (v : View)
       → v ≡ record (last.pass.seat.me.0) {
         seated = last.pass.seat.me.0.seated ++ map seat_of front;
       }
       → (names : List Named) → Closes about j v names → (ss : List Scheduler)
       → map (λ s. actor_of s) ss ≡ map (λ (f : Finished). actor_of f.scheduler) (front ++ last ∷ [])
-      → (turns : List ℕ) × AreSteps e turns × StandIn c t ss names (run e turns)
-  stand-closed about p q j v is names closed ss same =
+      → (turns : List ℕ) × AreSteps e turns × StandIn c t ss nowhere names (run e turns)
+  stand-closed off about p q j v is names closed ss same =
       let (ran, steps, f, knows, given) = moved about.config c about.trace.now t p q
       (ClosesRun j v names)
       (closed.ran, closed.steps, closed.seat_of, closed.knows, closed.given) in (
@@ -156,12 +158,14 @@ module _ (c : Config) (t : Trace) (valid : IsValidConfig c) (made : IsValidTrace
         record {
           reached = (ran, refl);
           actors = same ∙ actors-are ran f j v is knows.seated;
+          told = λ on number. absurd (false≢true (sym off ∙ on));
           given = given;
         },
       )
 
 -- the same of finished schedulers of which the last one's seat took in the others
 pub gathered : (c : Config) (t : Trace) → IsValidConfig c → IsValidTrace c.schedulers t
+    → migration (setup_of c t) ≡ false
     → (about : About) → about.config ≡ c → about.trace.now ≡ t → (id : TableId)
     → (finished : List Finished) → length finished ≡ c.schedulers
     → ((k : ℕ) (d : Finished) → k < c.schedulers → IsLast c t id (k + 1) (get_or finished k d))
@@ -173,11 +177,11 @@ pub gathered : (c : Config) (t : Trace) → IsValidConfig c → IsValidTrace c.s
     → (taken ss : List Scheduler) → ss ≡ taken ++ last.scheduler ∷ []
     → map (λ s. actor_of s) taken ≡ map (λ (f : Finished). actor_of f.scheduler) front
     → (turns : List ℕ) × AreSteps (setup_of c t) turns
-    × StandIn c t ss names (run (setup_of c t) turns)
+    × StandIn c t ss nowhere names (run (setup_of c t) turns)
     × (map (λ (f : Finished). actor_of f.scheduler) finished
     ≡ actors_of (setup_of c t) (run (setup_of c t) turns))
-gathered c t valid made about p q id finished all each front last items j v is names closed taken ss
-    pushed same =
+gathered c t valid made off about p q id finished all each front last items j v is names closed
+    taken ss pushed same =
     let same' = ap (map (λ s. actor_of s)) pushed
     ∙ map-append (λ s. actor_of s) taken (last.scheduler ∷ [])
     ∙ ap (λ xs. xs ++ actor_of last.scheduler ∷ []) same
@@ -185,7 +189,7 @@ gathered c t valid made about p q id finished all each front last items j v is n
     let (turns, steps, stand) = stand-closed c t valid made id front last
     (ap length (sym items) ∙ all)
     (λ k d less. subst (λ xs. IsLast c t id (k + 1) (get_or xs k d)) items (each k d less))
-    about p q j v is names closed ss same' in (
+    off about p q j v is names closed ss same' in (
       turns,
       steps,
       stand,

@@ -12,6 +12,7 @@ use Rattle.ea_machine.specs.declared.nodes.Node.TheVariants.{Block}
 use Rattle.ea_machine.specs.Courses.{AreSteps}
 use Rattle.ea_machine.specs.Machine.{run}
 use Rattle.ea_machine.specs.Nodes.{spot_named, name_of}
+use Rattle.ea_machine.specs.Owners.{CarrierAt, Absent}
 use Rattle.ea_machine.specs.Outcome as machine
 use Rattle.ea_machine.specs.Setup.{setup_of}
 use Rattle.ea_sched.specs.Acting.{actor_of}
@@ -34,6 +35,10 @@ pub record Gives (n g : ℕ) (ws : List ℕ) (given : List Named) : Type 0 where
 -- these are all names that the words give
 abbrev pub AreGiven : ℕ → ℕ → List ℕ → List Named → Type 0
 AreGiven n g ws names = (given : List Named) → Gives n g ws given → names ≡ given
+
+-- where carriers don't migrate none is told to be anywhere
+abbrev pub nowhere : ℕ → CarrierAt
+nowhere number = Absent
 
 -- the table was closed after these steps: its seat j knew its schedulers as they stood then, and
 -- these names were given

@@ -6,7 +6,7 @@ ghost use Rattle.ea_model.specs.Settings.{IsValidConfig};
 ghost use Rattle.ea_model.specs.Trace.{IsValidTrace};
 ghost use Rattle.ea_machine.specs.Setup.{migration, setup_of};
 ghost use Rattle.ea_outcome.specs.Resting.{IsOutcome, Stand};
-ghost use Rattle.ea_table.specs.Ending.{AreGiven, Closes, IsEnd, IsLast};
+ghost use Rattle.ea_table.specs.Ending.{AreGiven, Closes, IsEnd, IsLast, nowhere};
 ghost use Rattle.ea_table.specs.Words.{words_in};
 ghost use Rattle.ea_sched.specs.Acting.{actor_of};
 ghost use Rattle.ea_table.specs.Ruling.{acting};
@@ -165,8 +165,9 @@ fn outcome_with(
     requires trace { IsValidTrace config.schedulers trace.now }
     requires off { migration (setup_of config trace.now) ≡ false }
     requires greatest { given.greatest ≡ trace.now.greatest }
-    requires stand { Stand config trace.now schedulers.items given.held }
-    ensures { IfOk result (IsOutcome config trace.now schedulers.entry.items given.held) }
+    requires stand { Stand config trace.now schedulers.items nowhere given.held }
+    ensures { IfOk result (IsOutcome config trace.now schedulers.entry.items nowhere
+        given.held) }
 {
     let still = Still {
         schedulers: config.schedulers,

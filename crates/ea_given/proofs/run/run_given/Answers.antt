@@ -5,6 +5,7 @@ use Rattle.ea_machine.specs.Completion.{end_of}
 use Rattle.ea_machine.specs.Outcome.{outcome_of}
 use Rattle.ea_machine.specs.Setup.{setup_of}
 use Rattle.ea_sound.proofs.Protocols.{always-protocol}
+use Rattle.ea_shared.specs.Carriers.{place_at}
 use Rattle.ea_outcome.specs.Resting.{IsOutcome, StandIn}
 use Rattle.ea_given.proofs.Ends.{stand-in}
 use Rattle.ea_given.proofs.Texts.{texts-many}
@@ -13,6 +14,12 @@ use Rattle.ea_given.proofs.run.run_given.Goals as goal
 pub run_to_end-requires-clause-texts : goal.run_to_end-requires-clause-texts
 run_to_end-requires-clause-texts c =
     texts-many c.args.config.schedulers c.args.trace.now c.requires.schedule c.requires.trace
+
+pub outcome_of-requires-clause-schedulers : goal.outcome_of-requires-clause-schedulers
+outcome_of-requires-clause-schedulers c = c.in_ok-schedulers.ensures.shared.made
+
+pub outcome_of-requires-clause-migrates : goal.outcome_of-requires-clause-migrates
+outcome_of-requires-clause-migrates c = c.in_ok-schedulers.ensures.shared.moves
 
 pub outcome_of-requires-clause-greatest : goal.outcome_of-requires-clause-greatest
 outcome_of-requires-clause-greatest c = sym c.in_ok-schedulers.ensures.shared.names
@@ -25,7 +32,8 @@ outcome_of-requires-clause-stand c =
     let end = c.in_ok-schedulers.ensures in
     let w = end_of (setup_of d t) t.mode in (
       w,
-      subst (λ xs. StandIn d t xs run.shared.given w) (sym c.from_vec.ensures)
+      subst (λ xs. StandIn d t xs (place_at run.shared.places) run.shared.given w)
+          (sym c.from_vec.ensures)
           (stand-in d t run.schedulers.items run.shared w end.shared end.schedulers),
     )
 
@@ -36,9 +44,11 @@ returns-clause-outcome c =
     let run = c.in_ok-schedulers.field-0 in
     let end = c.in_ok-schedulers.ensures in
     let w = end_of (setup_of d t) t.mode in
-    let stands = subst (λ xs. StandIn d t xs run.shared.given w) (sym c.from_vec.ensures)
+    let stands = subst (λ xs. StandIn d t xs (place_at run.shared.places) run.shared.given w)
+    (sym c.from_vec.ensures)
     (stand-in d t run.schedulers.items run.shared w end.shared end.schedulers) in
-    IfOk-weaker c.outcome_of.result (IsOutcome d t c.from_vec.result.items run.shared.given)
+    IfOk-weaker c.outcome_of.result (IsOutcome d t c.from_vec.result.items
+    (place_at run.shared.places) run.shared.given)
     (λ o. plain_outcome o ≡ outcome_of d t) (λ o is. is w stands) c.outcome_of.ensures
 
 pub returns-clause-protocol : goal.returns-clause-protocol

@@ -5,16 +5,16 @@ use Rattle.ea_outcome.proofs.OutcomeGiven.{given-sum, missing, next-summed, of_n
 use Rattle.ea_outcome.proofs.units.units_given.Goals as goal
 use Rattle.ea_outcome.proofs.units.units_given.Goals.{in-Some, in_default}
 
-pub units_at-units-requires : goal.units_at-units-requires
-units_at-units-requires g c = record {
-  block = spot-holds (HasBlock c.args.schedulers.now) _ c.in-Some.spot
-      (g.H.Rested.named c.args.shared.now) c.requires.blocks
-      (sym c.given.ensures ∙ c.in-Some.is);
-}
+pub units_at-units-requires-clause-block : goal.units_at-units-requires-clause-block
+units_at-units-requires-clause-block g c =
+    spot-holds (HasBlock c.args.migrates (g.H.Rested.places c.args.shared.now)
+    c.args.schedulers.now) _ c.in-Some.spot (g.H.Rested.named c.args.shared.now)
+    c.requires.blocks (sym c.given.ensures ∙ c.in-Some.is)
 
 pub loop-before-preserved : goal.loop-before-preserved
 loop-before-preserved g c =
-    let size = units_at c.args.schedulers.now in
+    let size = units_at c.args.migrates (g.H.Rested.places c.args.shared.now)
+    c.args.schedulers.now in
     let given = (g.H.Rested.named c.args.shared.now) in
     let l = c.loop-before in
     elim c.match-given.branch [
@@ -33,6 +33,7 @@ loop-before-preserved g c =
 pub returns : goal.returns
 returns g c =
     c.loop-before.invariant.1
-    ∙ given-sum (units_at c.args.schedulers.now) c.args.greatest
+    ∙ given-sum (units_at c.args.migrates (g.H.Rested.places c.args.shared.now)
+    c.args.schedulers.now) c.args.greatest
     (g.H.Rested.named c.args.shared.now) c.requires.given c.loop-before.before
     (omega (arith, c.loop-before-test.false, c.loop-before.auto.before-end))

@@ -6,6 +6,7 @@ use Rattle.ea_outcome.proofs.units.units_held.Given as goal
 
 -- the units of the blocks of the groups passed
 abbrev pub invariant-loop-group : goal.invariant-loop-group
-invariant-loop-group l = (l.units ≤ 2 ^ 41 * l.group-index)
-    × (l.units ≡ sum_by (λ g. sum_by (λ s. option_map_or (units_at l.schedulers) s 0) g.items)
+invariant-loop-group g l = (l.units ≤ 2 ^ 41 * l.group-index)
+    × (l.units ≡ sum_by (λ x. sum_by (λ s. option_map_or
+    (units_at l.migrates (g.H.Rested.places l.shared) l.schedulers) s 0) x.items)
     (take l.group-index l.groups))

@@ -5,7 +5,7 @@ use Rattle.ea_machine.specs.Machine.{run}
 use Rattle.ea_machine.specs.Setup.{setup_of}
 use Rattle.ea_outcome.specs.Resting.{IsOutcome}
 use Rattle.ea_table.specs.declared.worker.Finished.{Finished}
-use Rattle.ea_table.specs.Ending.{IsEnd}
+use Rattle.ea_table.specs.Ending.{IsEnd, nowhere}
 use Rattle.ea_table.proofs.Gathered.{gathered}
 use Rattle.ea_table.proofs.ending.gather.Goals as goal
 
@@ -28,7 +28,7 @@ pub outcome_with-requires-clause-stand : goal.outcome_with-requires-clause-stand
 outcome_with-requires-clause-stand c =
     let b = c.args.board in
     let (turns, steps, stand, actors) = gathered c.args.config c.args.trace.now
-    c.requires.config c.requires.trace b.table.shared.key c.requires.key_config
+    c.requires.config c.requires.trace c.requires.off b.table.shared.key c.requires.key_config
     c.requires.key_trace b.table.shared.table_id
     c.args.finished.items c.requires.all c.requires.each c.pop.new.self.items c.in-Some.last
     (sym c.into_vec-finished.ensures ∙ c.in-Some.ensures.items) c.in_ok-seat.field-0.seat.id
@@ -41,7 +41,7 @@ pub returns : goal.returns
 returns c =
     let b = c.args.board in
     let (turns, steps, stand, actors) = gathered c.args.config c.args.trace.now
-    c.requires.config c.requires.trace b.table.shared.key c.requires.key_config
+    c.requires.config c.requires.trace c.requires.off b.table.shared.key c.requires.key_config
     c.requires.key_trace b.table.shared.table_id
     c.args.finished.items c.requires.all c.requires.each c.pop.new.self.items c.in-Some.last
     (sym c.into_vec-finished.ensures ∙ c.in-Some.ensures.items) c.in_ok-seat.field-0.seat.id
@@ -49,7 +49,8 @@ returns c =
     c.in_ok-given.ensures.named c.in_ok-seat.field-0.schedulers.items c.push.new.self.items
     c.in_ok-push.ensures.ok c.in_ok-seat.ensures.schedulers in
     IfOk-weaker c.outcome_with.result
-    (IsOutcome c.args.config c.args.trace.now c.push.new.self.items c.in_ok-given.given.held)
+    (IsOutcome c.args.config c.args.trace.now c.push.new.self.items nowhere
+    c.in_ok-given.given.held)
     (IsEnd c.args.config c.args.trace.now c.args.finished.items)
     (λ o is. record {
       turns = turns;
