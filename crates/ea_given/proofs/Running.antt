@@ -119,7 +119,8 @@ module _ (c : Config) (t : Trace) (me : ℕ) (s : Scheduler) (w : State)
 
   module _ (m : Sharing) (shares : SharesAt c t m w) where
     -- it is ready for its step
-    pub stands-ready : steps.Ready s.config s.trace.now s.number (actor_of s) (Some (shared_of m)) None
+    pub stands-ready : steps.Ready s.config s.trace.now s.number (actor_of s)
+        (Some (shared_of m)) None
     stands-ready = as-run (λ d u k. steps.Ready d u k (actor_of s) (Some (shared_of m)) None)
         (record {
           config = shares.config;

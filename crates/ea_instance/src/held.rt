@@ -1,5 +1,6 @@
 //! A carrier in a scheduler's hand.
-ghost use Rattle.std.specs.Prelude.{◌≡◌, ◌↔◌, ◌≤◌, ◌*◌, true, [], ◌∷◌, Some, IfSome, IsTrue, length};
+ghost use Rattle.std.specs.Prelude.{◌≡◌, ◌↔◌, ◌≤◌, ◌*◌, true, [], ◌∷◌, Some, IfSome, IsTrue};
+ghost use Rattle.std.specs.Prelude.{length};
 ghost use Rattle.std.specs.Prelude.{List as Items, option_map};
 ghost use Rattle.ea_model.specs.declared.carriers.Kind.TheVariants as kind;
 ghost use Rattle.ea_model.specs.declared.units.TheConstants.{MAX_SCHEDULERS, MAX_UNITS, NUMBERS};
@@ -181,8 +182,8 @@ impl Held {
 }
 
 impl Instance {
-    /// Gives up a carrier that it employs and that isn't the main one, into the hand: answers it. If
-    /// it owns it, it still does. It takes no memory.
+    /// Gives up a carrier that it employs and that isn't the main one, into the hand: answers it.
+    /// If it owns it, it still does. It takes no memory.
     pub fn hand_out(&mut self, number: u32) -> Held
         requires there { has_content number (employed self.old) ≡ true }
         requires goes { IfSome (content_of (employed self.old) number)

@@ -7,8 +7,8 @@
 //!
 //! - `Setup` is what stays the same in a run; `Owners` and `Nodes` are what is shared of a carrier
 //!   and of a queue, `Words` and `Alike` say what words can show and which nodes are those of one
-//!   name, and `Shared` is all that is shared; `Actor` is one scheduler, `State` is all of them with
-//!   what they share.
+//!   name, and `Shared` is all that is shared; `Actor` is one scheduler, `State` is all of them
+//!   with what they share.
 //! - `Rows` names the atomic steps, `Table` says what each of them answers and does, and `Guards`
 //!   what holds whenever one is wanted.
 //! - What a scheduler does between two steps is its own affair: `Walks` begins an operation,

@@ -1,5 +1,5 @@
 -- What is printed of a state is what its schedulers come to, whether carriers migrate or not.
-use Rattle.std.proofs.Common.{◌≡◌, ℕ, suc, ◌+◌, ◌-◌, ◌*◌, ◌<◌, ◌≤◌, true, false, List, [], ◌∷◌}
+use Rattle.std.proofs.Common.{◌≡◌, ℕ, ◌+◌, ◌-◌, ◌*◌, ◌<◌, ◌≤◌, true, false, List, [], ◌∷◌}
 use Rattle.std.proofs.Common.{◌++◌, length, map, get_or, refl, sym, ap, ◌∙◌, subst, inl, inr, arith}
 use Rattle.std.specs.Prelude.{All, Bool, IsSome, Option, None, Some, is_some, nat_le, ◌&&◌, ◌/◌}
 use Rattle.std.specs.Prelude.{flat_map, option_map, slice_get, sum_by}
@@ -22,7 +22,7 @@ use Rattle.ea_model.specs.declared.outcome.Outcome.{Outcome}
 use Rattle.ea_model.specs.declared.settings.Config.{Config}
 use Rattle.ea_model.specs.declared.trace.Trace.{Trace}
 use Rattle.ea_model.specs.declared.units.TheConstants.{MAX_SCHEDULERS, NUMBERS, PAGE_UNITS}
-use Rattle.ea_model.specs.Content.{Content, allocated, block_at, free_units, gaps_of, size_of}
+use Rattle.ea_model.specs.Content.{Content, allocated, block_at, size_of}
 use Rattle.ea_model.specs.Instance.{block_in, content_of, employed, owner_of}
 use Rattle.ea_model.specs.Lists.{Items}
 use Rattle.ea_model.specs.Outcome.{plain_outcome}
@@ -38,7 +38,6 @@ use Rattle.ea_machine.specs.Owners.{CarrierAt, Absent, Employed, Pooled, Busy, R
 use Rattle.ea_machine.specs.Setup.{Setup, greatest_number, is_scheduler, migration, setup_of}
 use Rattle.ea_machine.specs.State.{State}
 use Rattle.ea_machine.specs.Statistics.{employed_multis, employed_singles, leaving_at}
-use Rattle.ea_machine.specs.Sums.{sum_over}
 use Rattle.ea_sound.specs.Contents.{sum_everywhere}
 use Rattle.ea_sound.specs.Places.{IsNumber}
 use Rattle.ea_sound.specs.Present.{Rule}
@@ -62,7 +61,7 @@ use Rattle.ea_sched.specs.declared.state.Scheduler.{Scheduler}
 use Rattle.ea_sched.specs.Acting.{actor_of}
 use Rattle.ea_outcome.specs.Resting.{AreGiven, AreLive, HasBlock, HaveBlocks, HaveParts, StandIn}
 use Rattle.ea_outcome.specs.Resting.{block_by, carrier_at, carrier_of, employed_by, first_lines}
-use Rattle.ea_outcome.specs.Resting.{found, has_block, lines_if, live_units, place_by, totals_by}
+use Rattle.ea_outcome.specs.Resting.{found, lines_if, live_units, place_by, totals_by}
 use Rattle.ea_outcome.specs.Resting.{units_at, units_named, with_scheduler}
 
 -- outcomes with the same parts

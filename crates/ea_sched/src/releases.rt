@@ -1,5 +1,6 @@
 //! The release of a block, and the end of an operation.
-ghost use Rattle.std.specs.Prelude.{◌≡◌, false, ◌+◌, ◌<◌, ◌≤◌, ◌==◌, [], IfOk, IfSome, IsSome, OnOk, drop};
+ghost use Rattle.std.specs.Prelude.{◌≡◌, false, ◌+◌, ◌<◌, ◌≤◌, ◌==◌, [], IfOk, IfSome, IsSome};
+ghost use Rattle.std.specs.Prelude.{OnOk, drop};
 ghost use Rattle.ea_model.specs.declared.carriers.Kind.TheVariants.{Single};
 ghost use Rattle.ea_model.specs.Instance.{block_in, content_of, employed};
 ghost use Rattle.ea_model.specs.Instance.{own_at, owner_of, releasing_at};

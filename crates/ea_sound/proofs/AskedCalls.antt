@@ -1,8 +1,8 @@
 -- What a scheduler has that asks for a place, in each reached state, while it searches, before it
--- fetches, and before it creates a carrier: the operation is left that asks, its need can be placed,
--- its name is one of the trace and isn't held, and the old block of a reallocation is; nothing is
--- chosen among the employed carriers; a carrier that is fetched has a choice; and the plan of one
--- that is created is still the plan.
+-- fetches, and before it creates a carrier: the operation is left that asks, its need can be
+-- placed, its name is one of the trace and isn't held, and the old block of a reallocation is;
+-- nothing is chosen among the employed carriers; a carrier that is fetched has a choice; and the
+-- plan of one that is created is still the plan.
 use Rattle.std.proofs.Common.{◌≡◌, ℕ, ◌%◌, ◌<◌, ◌≤◌, true, List, [], ◌∷◌, sym, ap, ◌∙◌, subst}
 use Rattle.std.proofs.Common.{refl, arith}
 use Rattle.std.specs.Prelude.{None, Some, Ok, ◌⊎◌}
@@ -104,9 +104,11 @@ module _ (c : Config) (t : Trace) (valid : IsValidConfig c)
   old-by ask (op.Alloc name bytes ∷ ops) first of h old =
       absurd (let never : None ≡ Some h = sym of.2 ∙ old in cc)
   old-by ask (op.Realloc name fresh bytes ∷ ops) first of h old =
-      let is = first-operation c t valid made w reached me (op.Realloc name fresh bytes) ops first in
+      let is = first-operation c t valid made w reached me (op.Realloc name fresh bytes) ops
+          first in
       let (g, has, named) = of.2 in
-      let same : h.name ≡ name = ap (λ (x : Named). x.name) (same-some ask.old h g old has) ∙ named in
+      let same : h.name ≡ name =
+          ap (λ (x : Named). x.name) (same-some ask.old h g old has) ∙ named in
       subst (IsNameOf t) (sym same) (is.0.0.0, omega (arith, is.1))
   old-by ask todo first of h old = absurd of
 

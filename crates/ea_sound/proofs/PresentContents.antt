@@ -21,7 +21,8 @@ use Rattle.ea_laws.specs.Kept.{number_of}
 use Rattle.ea_machine.specs.declared.nodes.Named.{Named}
 use Rattle.ea_machine.specs.Actor.{Actor}
 use Rattle.ea_machine.specs.Outcome.{actors_of, live_spots, outcome}
-use Rattle.ea_machine.specs.Outcome.{Present, place_of, present, present_at, present_if, settling_at}
+use Rattle.ea_machine.specs.Outcome.{Present, place_of, present, present_at, present_if}
+use Rattle.ea_machine.specs.Outcome.{settling_at}
 use Rattle.ea_machine.specs.Owners.{CarrierAt, Absent, Busy, Employed, Pooled, Returning}
 use Rattle.ea_machine.specs.Setup.{Setup, greatest_number}
 use Rattle.ea_machine.specs.State.{State}

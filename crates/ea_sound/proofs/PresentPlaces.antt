@@ -1,5 +1,5 @@
--- Where the content of a carrier that is printed is with its employer: in its hand, where the carrier
--- is about to leave it or is busy, and with its instance else.
+-- Where the content of a carrier that is printed is with its employer: in its hand, where the
+-- carrier is about to leave it or is busy, and with its instance else.
 use Rattle.std.proofs.Common.{◌≡◌, ◌≢◌, ℕ, Bool, true, false, List, [], ◌∷◌, ◌++◌, refl, sym}
 use Rattle.std.proofs.Common.{ap, ◌∙◌, subst, inl, inr, arith}
 use Rattle.std.proofs.lemmas.Bool.{cases_eq}

@@ -1,5 +1,5 @@
--- What the answers of a look and of a try tell of a carrier's place, and which words they can show of
--- the carrier of a block in the hand: one that has an employer.
+-- What the answers of a look and of a try tell of a carrier's place, and which words they can show
+-- of the carrier of a block in the hand: one that has an employer.
 use Rattle.std.proofs.Common.{◌≡◌, ◌≢◌, ℕ, Bool, true, false, sym, ap, ◌∙◌, subst, inl, inr}
 use Rattle.ea_model.specs.declared.settings.Config.{Config}
 use Rattle.ea_model.specs.declared.trace.Trace.{Trace}
