@@ -1,16 +1,13 @@
 -- What the calls of a scheduler on carriers ask for, as what is shared is told, and what it has of
 -- a carrier by their answers.
-use Rattle.std.proofs.Common.{◌≡◌, ◌≢◌, ℕ, ◌%◌, ◌*◌, ◌<◌, ◌≤◌, true, List, [], refl, sym, ap, ◌∙◌}
+use Rattle.std.proofs.Common.{◌≡◌, ◌≢◌, ℕ, ◌%◌, ◌<◌, true, [], refl, sym, ap, ◌∙◌}
 use Rattle.std.proofs.Common.{subst, arith}
 use Rattle.std.specs.Prelude.{IfSome, IsSome, None, Option, Some}
 use Rattle.ea_model.specs.declared.carriers.Kind.TheVariants.{Multi, Single}
-use Rattle.ea_model.specs.declared.carriers.Spot.{Spot}
-use Rattle.ea_model.specs.declared.units.TheConstants.{NUMBERS}
 use Rattle.ea_model.specs.Content.{Content, block_at, gaps_of, largest}
 use Rattle.ea_model.specs.Instance.{Instance, block_in, content_of, employed, own_at}
 use Rattle.ea_model.specs.Instance.{has_content, owner_of, releasing_at}
 use Rattle.ea_model.specs.Trace.{IsScheduler}
-use Rattle.ea_model.proofs.Options.{if_some}
 use Rattle.ea_machine.specs.declared.nodes.Named.{Named}
 use Rattle.ea_machine.specs.declared.owners.OwnerWord.{OwnerWord}
 use Rattle.ea_machine.specs.declared.owners.OwnerWord.TheVariants as word

@@ -1,5 +1,5 @@
 -- The carriers that a scheduler employs, with the one in its hand that is about to leave.
-use Rattle.std.proofs.Common.{◌≡◌, Bool, true, false, List, [], ◌∷◌, ◌++◌, refl, ap, ◌∙◌}
+use Rattle.std.proofs.Common.{◌≡◌, Bool, false, [], ◌∷◌, ◌++◌, refl, ap, ◌∙◌}
 use Rattle.std.specs.Prelude.{filter, not, if◌then◌else◌}
 use Rattle.ea_model.specs.declared.carriers.Kind.{Kind}
 use Rattle.ea_model.specs.declared.carriers.Kind.TheVariants.{Main, Multi, Single}

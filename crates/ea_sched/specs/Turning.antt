@@ -7,10 +7,12 @@ use Rattle.ea_machine.specs.declared.stages.Route.{Route}
 use Rattle.ea_machine.specs.declared.tasks.Gone.{Gone}
 use Rattle.ea_machine.specs.declared.tasks.Why.{Why}
 use Rattle.ea_machine.specs.Actor.{Actor}
-use Rattle.ea_machine.specs.Machine.{wants_on}
+use Rattle.ea_machine.specs.Machine.{onward, wants_on}
 use Rattle.ea_machine.specs.Releases.{Turned, disowned, turned}
 use Rattle.ea_machine.specs.Rows.{Answer, Clear}
+use Rattle.ea_machine.specs.Setup.{Setup}
 use Rattle.ea_machine.specs.Shared.{Shared}
+use Rattle.ea_machine.specs.Walks.{after_route}
 use Rattle.ea_shared.specs.Calls.{Caller, Did}
 use Rattle.ea_sched.specs.declared.state.Scheduler.{Scheduler}
 use Rattle.ea_sched.specs.Acting.{actor_of, setup_for, standing_at}
@@ -41,3 +43,9 @@ pub record CollectedRow (number : ℕ) (s t : Scheduler) (shared after : Option 
   pub got : Answer
   pub did : Did s.number (Clear number) got shared after caller now
   pub is : (at : Stage Content) → standing_at at t ≡ disowned number (standing_at at s)
+
+-- what comes after a route is done, if the route is over; else nothing is
+abbrev pub EndsRoute : Setup → ℕ → Why → Option Gone → Scheduler → Scheduler → Type 0
+EndsRoute setup me why None s t = actor_of t ≡ actor_of s
+EndsRoute setup me why (Some gone) s t = (at : Stage Content)
+    → actor_of t ≡ onward setup me (after_route setup me why gone (standing_at at s))

@@ -14,6 +14,7 @@ mod scheduler;
 mod searches;
 mod state;
 mod step;
+mod turning;
 mod turns;
 mod walks;
 

@@ -32,7 +32,7 @@ impl<'t> Scheduler<'t> {
     }
 
     /// A look at the owner word of the block's carrier.
-    fn look<S: Shared<Content = Mbc>>(
+    pub(crate) fn look<S: Shared<Content = Mbc>>(
         &mut self,
         shared: &mut S,
         hand: Named,
@@ -55,7 +55,7 @@ impl<'t> Scheduler<'t> {
 
     /// A try to make the pooled carrier of the block busy: if it is won, the block is released in
     /// it.
-    fn try_busy<S: Shared<Content = Mbc>>(
+    pub(crate) fn try_busy<S: Shared<Content = Mbc>>(
         &mut self,
         shared: &mut S,
         hand: Named,
@@ -87,7 +87,7 @@ impl<'t> Scheduler<'t> {
     }
 
     /// The busy carrier is settled: in the pool again, or, if it is empty, it leaves.
-    fn settle<S: Shared<Content = Mbc>>(
+    pub(crate) fn settle<S: Shared<Content = Mbc>>(
         &mut self,
         shared: &mut S,
         content: Held,
@@ -117,7 +117,7 @@ impl<'t> Scheduler<'t> {
     }
 
     /// The carrier is abandoned into the pool.
-    fn abandon<S: Shared<Content = Mbc>>(
+    pub(crate) fn abandon<S: Shared<Content = Mbc>>(
         &mut self,
         shared: &mut S,
         content: Held,
@@ -142,7 +142,7 @@ impl<'t> Scheduler<'t> {
     }
 
     /// The empty carrier is sent home: its node goes to the queue of its owner.
-    fn send_home<S: Shared<Content = Mbc>>(
+    pub(crate) fn send_home<S: Shared<Content = Mbc>>(
         &mut self,
         shared: &mut S,
         content: Held,
@@ -169,7 +169,7 @@ impl<'t> Scheduler<'t> {
 
     /// The empty carrier, which the scheduler owns, is cleared: its number and pages are free
     /// again.
-    fn clear<S: Shared<Content = Mbc>>(
+    pub(crate) fn clear<S: Shared<Content = Mbc>>(
         &mut self,
         shared: &mut S,
         content: Held,

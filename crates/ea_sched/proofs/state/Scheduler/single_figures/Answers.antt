@@ -1,5 +1,4 @@
-use Rattle.std.proofs.Common.{◌≡◌, true, false, refl, sym, ap, ◌∙◌, subst}
-use Rattle.ea_model.specs.declared.carriers.Kind.TheVariants.{Single}
+use Rattle.std.proofs.Common.{◌≡◌, true, false, sym, ap, ◌∙◌}
 use Rattle.ea_model.specs.Instance.{figures}
 use Rattle.ea_machine.specs.Statistics.{is_single}
 use Rattle.ea_sched.specs.Acting.{actor_of}

@@ -1,0 +1,113 @@
+-- What comes after the row of a route.
+use Rattle.std.proofs.Common.{◌≡◌, ℕ, true, false, drop, sym, ap, ◌∙◌, subst}
+use Rattle.std.proofs.Common.{inl, inr}
+use Rattle.std.specs.Prelude.{Option, None, Some, IsSome}
+use Rattle.std.proofs.lemmas.Bool.{cases_Bool}
+use Rattle.ea_model.specs.Content.{Content}
+use Rattle.ea_model.specs.Trace.{IsScheduler}
+use Rattle.ea_machine.specs.declared.nodes.Node.{Node}
+use Rattle.ea_machine.specs.declared.stages.Stage.TheVariants.{Routed}
+use Rattle.ea_machine.specs.declared.stages.Route.{Route}
+use Rattle.ea_machine.specs.declared.stages.Route.TheVariants.{Linking, Pushing}
+use Rattle.ea_machine.specs.declared.tasks.Gone.{Gone}
+use Rattle.ea_machine.specs.declared.tasks.Task.{Task}
+use Rattle.ea_machine.specs.declared.tasks.Why.{Why}
+use Rattle.ea_machine.specs.declared.tasks.Why.TheVariants.{For, Walk}
+use Rattle.ea_machine.specs.Actor.{Actor}
+use Rattle.ea_machine.specs.Releases.{Turned, turned}
+use Rattle.ea_machine.specs.Setup.{Setup, migration, setup_of}
+use Rattle.ea_machine.specs.Shared.{Shared}
+use Rattle.ea_shared.specs.Calls.{Caller}
+use Rattle.ea_sound.proofs.Asked.{reached-rule}
+use Rattle.ea_sound.proofs.Calls as calls
+use Rattle.ea_sound.proofs.OffStages.{IsOffStage, is-off}
+use Rattle.ea_sound.proofs.ShortRoutes.{turned-keeps}
+use Rattle.ea_sound.proofs.SoundRanges.{number-scheduler}
+use Rattle.ea_sched.specs.declared.state.Scheduler.{Scheduler}
+use Rattle.ea_sched.specs.Acting.{IsSame, setup_for, standing_at}
+use Rattle.ea_sched.specs.Asking.{HasMore, SuitsNext}
+use Rattle.ea_sched.specs.Steps.{DidRow, IsReadyAt}
+use Rattle.ea_sched.specs.Turning.{EndsRoute, TurnedBy, TurnedRow}
+use Rattle.ea_sched.proofs.Calling.{left-more}
+use Rattle.ea_sched.proofs.Carrying.{turned-next, turned-over}
+use Rattle.ea_sched.proofs.StandsOff.{no-route}
+use Rattle.ea_sched.proofs.WalkSuiting.{suits-row}
+
+-- the same of another reason, and of what became of the block, that are equal
+pub ends-as : (e : Setup) (me : ℕ) (s t : Scheduler) (why y : Why) (o p : Option Gone) → why ≡ y
+    → o ≡ p → EndsRoute e me y p s t → EndsRoute e me why o s t
+ends-as e me s t why y o p q r ends = subst (λ x. EndsRoute e me x o s t) (sym q)
+    (subst (λ x. EndsRoute e me y x s t) (sym r) ends)
+
+-- a route on a carrier is one where carriers migrate
+pub route-on : {shared : Option Shared} {caller : Option Caller} (s : Scheduler)
+    (route : Route Content) (why : Why) (gone : Gone)
+    → IsReadyAt (Routed route why gone) s shared caller
+    → ((node : Node) (to : ℕ) → route ≡ Pushing node to → ⊥)
+    → ((node : Node) (to : ℕ) → route ≡ Linking node to → ⊥)
+    → migration (setup_for s) ≡ true
+route-on s route why gone h push link = elim (cases_Bool (migration (setup_for s))) [
+  | inl on ↦ on
+  | inr off ↦ absurd (no-route route
+      (subst (λ (x : Actor). IsOffStage x.stage) h.actor (is-off (setup_for s) h.state
+      (reached-rule s.config s.trace.now h.config h.trace h.state h.reached) s.number
+      (number-scheduler (setup_for s) s.number (s.number_from, s.number_to)) off)) push link)
+]
+
+module _ (s t : Scheduler) (same : IsSame s t) (route : Route Content) (why : Why) (gone : Gone)
+    {shared : Option Shared} {caller : Option Caller}
+    (h : IsReadyAt (Routed route why gone) s shared caller) where
+  abbrev e : Setup
+  e = setup_for s
+
+  run-same : setup_for t ≡ setup_for s
+  run-same = ap (λ c. setup_of c t.trace.now) same.config
+      ∙ ap (λ r. setup_of s.config r.now) same.trace
+
+  pub still-on : migration e ≡ true → t.migrates ≡ true
+  still-on on = t.migrates_so ∙ ap migration run-same ∙ on
+
+  number : IsScheduler s.config.schedulers s.number
+  number = (s.number_from, s.number_to)
+
+  todo-by : (u : Turned) (g : Gone) (o : Option (Route Content))
+      → TurnedBy why u.gone u.actor o (Some g) t → drop t.done t.text.now ≡ u.actor.todo
+  todo-by u g None by = ap (λ (a : Actor). a.todo) by.1
+  todo-by u g (Some r) by = absurd (let never : Some g ≡ None = by.0 in cc)
+
+  -- its row was done
+  module _ {new : Option Shared} {then : Option Caller} where
+    -- a walk that goes on may come to the next operation
+    pub over-next : (o : Option Gone) → TurnedRow route why gone s t o shared new caller then
+        → IsSome o → why ≡ Walk → SuitsNext t.instance t
+    over-next None row is walk = absurd (let no : false ≡ true = is in cc)
+    over-next (Some g) row is walk = suits-row s t same route gone g
+        (subst (λ y. IsReadyAt (Routed route y gone) s shared caller) walk h)
+        (subst (λ y. TurnedRow route y gone s t (Some g) shared new caller then) walk row)
+
+    -- the operation whose block is gone is left
+    pub over-more : (o : Option Gone) → TurnedRow route why gone s t o shared new caller then
+        → IsSome o → (task : Task) → why ≡ For task → HasMore t
+    over-more None row is task for = absurd (let no : false ≡ true = is in cc)
+    over-more (Some g) row is task for =
+        let a = standing_at (Routed route why gone) s in
+        let u = turned e s.number route gone a row.got in
+        let first = calls.task-first s.config s.trace.now h.config h.trace h.state h.reached s.number
+        number route task gone
+        (ap (λ (x : Actor). x.stage) h.actor ∙ ap (λ y. Routed route y gone) for) in
+        left-more t.done t.text.now first.1 first.0
+        (todo-by u g u.route row.turned
+        ∙ (turned-keeps e s.number route gone a row.got).1
+        ∙ sym (ap (λ (x : Actor). x.todo) h.actor) ∙ first.2)
+
+    -- the scheduler has gone on by the answer
+    pub turned-done : (o : Option Gone) (v : Scheduler)
+        → TurnedRow route why gone s t o shared new caller then
+        → EndsRoute (setup_for t) t.number why o t v
+        → DidRow (Routed route why gone) s v shared new caller then
+    turned-done None v row ends =
+        let d = turned-next route why gone s t row in
+        record { row = d.row; got = d.got; wanted = d.wanted; did = d.did; is = ends ∙ d.is }
+    turned-done (Some g) v row ends = turned-over route why gone s g t v row
+        (subst (λ n. EndsRoute e n why (Some g) t v) same.number
+        (subst (λ x. EndsRoute x t.number why (Some g) t v) run-same ends))
