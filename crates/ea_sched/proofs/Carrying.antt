@@ -3,22 +3,24 @@ use Rattle.std.proofs.Common.{◌≡◌, ℕ, refl, ap, ◌∙◌}
 use Rattle.std.specs.Prelude.{Option, None, Some}
 use Rattle.ea_model.specs.Content.{Content}
 use Rattle.ea_machine.specs.declared.stages.Stage.{Stage}
-use Rattle.ea_machine.specs.declared.stages.Stage.TheVariants.{Routed}
+use Rattle.ea_machine.specs.declared.stages.Stage.TheVariants.{Collecting, Routed}
 use Rattle.ea_machine.specs.declared.stages.Route.{Route}
 use Rattle.ea_machine.specs.declared.tasks.Gone.{Gone}
 use Rattle.ea_machine.specs.declared.tasks.Why.{Why}
 use Rattle.ea_machine.specs.Actor.{Actor}
 use Rattle.ea_machine.specs.Machine.{onward, wants_on}
 use Rattle.ea_machine.specs.Releases.{Turned, turned}
+use Rattle.ea_machine.specs.Rows.{Clear}
 use Rattle.ea_machine.specs.Setup.{Setup}
 use Rattle.ea_machine.specs.Shared.{Shared}
 use Rattle.ea_machine.specs.Tasks.{carried_by}
-use Rattle.ea_machine.specs.Walks.{after_route}
+use Rattle.ea_machine.specs.Walks.{after_route, worked_off}
 use Rattle.ea_shared.specs.Calls.{Caller}
 use Rattle.ea_sched.specs.declared.state.Scheduler.{Scheduler}
-use Rattle.ea_sched.specs.Acting.{actor_of, setup_for, standing_at}
+use Rattle.ea_sched.specs.Acting.{IsSame, actor_of, setup_for, standing_at}
 use Rattle.ea_sched.specs.Steps.{DidRow}
-use Rattle.ea_sched.specs.Turning.{TurnedBy, TurnedRow}
+use Rattle.ea_sched.specs.Turning.{CollectedRow, TurnedBy, TurnedRow}
+use Rattle.ea_sched.proofs.StandsOn.{same-setup}
 
 module _ (e : Setup) (me : ℕ) (why : Why) (over : Gone → Actor → Actor) (gone : Gone) (a : Actor)
   where
@@ -78,3 +80,23 @@ module _ (route : Route Content) (why : Why) (gone : Gone) (s : Scheduler) where
         is = over-by e s.number why (after_route e s.number why) u.gone u.actor u.route g t
             (actor_of v) row.turned ends;
       }
+
+-- a carrier was collected, and its walk has gone on
+pub home-walked : (n : ℕ) (s t v : Scheduler) → IsSame s t → {shared new : Option Shared}
+    {caller then : Option Caller} → CollectedRow n s t shared new caller then
+    → ((at : Stage Content) → actor_of v ≡ onward (setup_for t) t.number
+    (worked_off (setup_for t) t.number t.passed.nodes (standing_at at t)))
+    → DidRow (Collecting n) s v shared new caller then
+home-walked n s t v same row goes = record {
+  row = Clear n;
+  got = row.got;
+  wanted = refl;
+  did = row.did;
+  is = goes (Collecting n)
+      ∙ ap (λ d. onward d t.number
+      (worked_off d t.number t.passed.nodes (standing_at (Collecting n) t))) (same-setup s t same)
+      ∙ ap (λ m. onward (setup_for s) m
+      (worked_off (setup_for s) m t.passed.nodes (standing_at (Collecting n) t))) same.number
+      ∙ ap (λ (a : Actor). onward (setup_for s) s.number
+      (worked_off (setup_for s) s.number a.passed a)) (row.is (Collecting n));
+}

@@ -3,7 +3,7 @@ pub mod Acts
 pub mod Placing
 pub mod Observing
 pub mod Seeking
-pub mod StandsOff
+pub mod StandsOn
 pub mod OwnCarriers
 pub mod Texts
 pub mod AfterWalk

@@ -1,8 +1,6 @@
 -- What comes after the row of a route.
 use Rattle.std.proofs.Common.{◌≡◌, ℕ, true, false, drop, sym, ap, ◌∙◌, subst}
-use Rattle.std.proofs.Common.{inl, inr}
 use Rattle.std.specs.Prelude.{Option, None, Some, IsSome}
-use Rattle.std.proofs.lemmas.Bool.{cases_Bool}
 use Rattle.ea_model.specs.Content.{Content}
 use Rattle.ea_model.specs.Trace.{IsScheduler}
 use Rattle.ea_machine.specs.declared.nodes.Node.{Node}
@@ -15,14 +13,11 @@ use Rattle.ea_machine.specs.declared.tasks.Why.{Why}
 use Rattle.ea_machine.specs.declared.tasks.Why.TheVariants.{For, Walk}
 use Rattle.ea_machine.specs.Actor.{Actor}
 use Rattle.ea_machine.specs.Releases.{Turned, turned}
-use Rattle.ea_machine.specs.Setup.{Setup, migration, setup_of}
+use Rattle.ea_machine.specs.Setup.{Setup, migration}
 use Rattle.ea_machine.specs.Shared.{Shared}
 use Rattle.ea_shared.specs.Calls.{Caller}
-use Rattle.ea_sound.proofs.Asked.{reached-rule}
 use Rattle.ea_sound.proofs.Calls as calls
-use Rattle.ea_sound.proofs.OffStages.{IsOffStage, is-off}
 use Rattle.ea_sound.proofs.ShortRoutes.{turned-keeps}
-use Rattle.ea_sound.proofs.SoundRanges.{number-scheduler}
 use Rattle.ea_sched.specs.declared.state.Scheduler.{Scheduler}
 use Rattle.ea_sched.specs.Acting.{IsSame, setup_for, standing_at}
 use Rattle.ea_sched.specs.Asking.{HasMore, SuitsNext}
@@ -30,7 +25,7 @@ use Rattle.ea_sched.specs.Steps.{DidRow, IsReadyAt}
 use Rattle.ea_sched.specs.Turning.{EndsRoute, TurnedBy, TurnedRow}
 use Rattle.ea_sched.proofs.Calling.{left-more}
 use Rattle.ea_sched.proofs.Carrying.{turned-next, turned-over}
-use Rattle.ea_sched.proofs.StandsOff.{no-route}
+use Rattle.ea_sched.proofs.StandsOn.{no-route, same-setup, stands-on}
 use Rattle.ea_sched.proofs.WalkSuiting.{suits-row}
 
 -- the same of another reason, and of what became of the block, that are equal
@@ -46,13 +41,7 @@ pub route-on : {shared : Option Shared} {caller : Option Caller} (s : Scheduler)
     → ((node : Node) (to : ℕ) → route ≡ Pushing node to → ⊥)
     → ((node : Node) (to : ℕ) → route ≡ Linking node to → ⊥)
     → migration (setup_for s) ≡ true
-route-on s route why gone h push link = elim (cases_Bool (migration (setup_for s))) [
-  | inl on ↦ on
-  | inr off ↦ absurd (no-route route
-      (subst (λ (x : Actor). IsOffStage x.stage) h.actor (is-off (setup_for s) h.state
-      (reached-rule s.config s.trace.now h.config h.trace h.state h.reached) s.number
-      (number-scheduler (setup_for s) s.number (s.number_from, s.number_to)) off)) push link)
-]
+route-on s route why gone h push link = stands-on s h (λ off. no-route route off push link)
 
 module _ (s t : Scheduler) (same : IsSame s t) (route : Route Content) (why : Why) (gone : Gone)
     {shared : Option Shared} {caller : Option Caller}
@@ -60,12 +49,8 @@ module _ (s t : Scheduler) (same : IsSame s t) (route : Route Content) (why : Wh
   abbrev e : Setup
   e = setup_for s
 
-  run-same : setup_for t ≡ setup_for s
-  run-same = ap (λ c. setup_of c t.trace.now) same.config
-      ∙ ap (λ r. setup_of s.config r.now) same.trace
-
   pub still-on : migration e ≡ true → t.migrates ≡ true
-  still-on on = t.migrates_so ∙ ap migration run-same ∙ on
+  still-on on = t.migrates_so ∙ ap migration (same-setup s t same) ∙ on
 
   number : IsScheduler s.config.schedulers s.number
   number = (s.number_from, s.number_to)
@@ -92,8 +77,8 @@ module _ (s t : Scheduler) (same : IsSame s t) (route : Route Content) (why : Wh
     over-more (Some g) row is task for =
         let a = standing_at (Routed route why gone) s in
         let u = turned e s.number route gone a row.got in
-        let first = calls.task-first s.config s.trace.now h.config h.trace h.state h.reached s.number
-        number route task gone
+        let first = calls.task-first s.config s.trace.now h.config h.trace h.state h.reached
+        s.number number route task gone
         (ap (λ (x : Actor). x.stage) h.actor ∙ ap (λ y. Routed route y gone) for) in
         left-more t.done t.text.now first.1 first.0
         (todo-by u g u.route row.turned
@@ -110,4 +95,4 @@ module _ (s t : Scheduler) (same : IsSame s t) (route : Route Content) (why : Wh
         record { row = d.row; got = d.got; wanted = d.wanted; did = d.did; is = ends ∙ d.is }
     turned-done (Some g) v row ends = turned-over route why gone s g t v row
         (subst (λ n. EndsRoute e n why (Some g) t v) same.number
-        (subst (λ x. EndsRoute x t.number why (Some g) t v) run-same ends))
+        (subst (λ x. EndsRoute x t.number why (Some g) t v) (same-setup s t same) ends))

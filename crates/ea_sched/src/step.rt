@@ -8,7 +8,7 @@ ghost use Rattle.ea_sched.specs.declared.step.Progress.TheVariants as progress;
 ghost use Rattle.ea_sched.specs.Steps.{DidRow, IsReady, StartsRow, Stepped};
 
 use crate::state::Scheduler;
-use ea_machine::{Route, Stage};
+use ea_machine::Stage;
 use ea_mbc::Mbc;
 use ea_model::OutOfMemory;
 use ea_shared::Shared;
@@ -35,7 +35,7 @@ impl<'t> Scheduler<'t> {
         self.sbcs.observe(sbcs);
     }
 
-    /// Does the row that is next, and goes on by its answer.
+    /// Does the row that is next, and goes on by its answer, up to the next one.
     fn advance<S: Shared<Content = Mbc>>(
         &mut self,
         alloc: Global,
@@ -45,7 +45,6 @@ impl<'t> Scheduler<'t> {
             (S.schedulers shared.old) (S.greatest shared.old) (S.migrates shared.old)
             (S.shared shared.old) (S.caller shared.old) }
         requires goes { is_ended self.old.stage ≡ false }
-        requires off { migration (setup_for self.old) ≡ false }
         ensures stays { S.stays shared.old shared.new }
         ensures same { IsSame self.old self.new }
         ensures row { OnOk result (DidRow self.old.stage self.old self.new
@@ -57,14 +56,16 @@ impl<'t> Scheduler<'t> {
                 None => self.take_queue(alloc, shared),
                 Some(node) => self.pass(alloc, shared, node),
             },
-            Stage::Routed { route, why, gone } => match route {
-                Route::Pushing { node, to } => {
-                    self.push(shared, node, to, why, gone);
-                    Ok(())
-                }
-                Route::Linking { node, to } => self.link(alloc, shared, node, to, why, gone),
-                _ => unreachable!(),
-            },
+            Stage::Routed { route, why, gone } => self.turn(alloc, shared, route, why, gone),
+            Stage::Collecting { number } => self.receive(alloc, shared, number),
+            Stage::Searching { ask, at, looked } => self.search(alloc, shared, ask, at, looked),
+            Stage::Fetching {
+                ask,
+                at,
+                looked,
+                seen,
+            } => self.fetch(alloc, shared, ask, at, looked, seen),
+            Stage::Creating { ask, plan } => self.make(alloc, shared, ask, plan),
             Stage::Giving { given, to } => {
                 self.give(shared, given, to);
                 Ok(())
@@ -73,7 +74,7 @@ impl<'t> Scheduler<'t> {
                 self.try_take(shared, name, tries, left);
                 Ok(())
             }
-            _ => unreachable!(),
+            Stage::Ended | Stage::Ready => unreachable!(),
         }
     }
 
@@ -87,7 +88,6 @@ impl<'t> Scheduler<'t> {
         requires schedulers { S.schedulers shared.old ≡ self.old.config.schedulers }
         requires greatest { S.greatest shared.old ≡ self.old.trace.now.greatest }
         requires migrates { S.migrates shared.old ≡ migration (setup_for self.old) }
-        requires off { migration (setup_for self.old) ≡ false }
         requires ready { self.old.failed ≡ false
             → IsReady self.old (S.shared shared.old) (S.caller shared.old) }
         ensures stays { S.stays shared.old shared.new }

@@ -42,7 +42,8 @@ impl<'t> Scheduler<'t> {
         }
     }
 
-    /// Does the row of a route on a carrier: answers what became of the block, if the route is over.
+    /// Does the row of a route on a carrier, and answers what became of the block, if the route is
+    /// over.
     fn turn_carrier<S: Shared<Content = Mbc>>(
         &mut self,
         shared: &mut S,

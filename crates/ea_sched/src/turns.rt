@@ -1,11 +1,11 @@
 //! The rows of a release route.
-ghost use Rattle.std.specs.Prelude.{◌≡◌, true, None, IfOk};
+ghost use Rattle.std.specs.Prelude.{◌≡◌, true, None, IfOk, OnOk};
 ghost use Rattle.ea_machine.specs.declared.stages.Stage.TheVariants as stage;
 ghost use Rattle.ea_machine.specs.declared.stages.Route.TheVariants as route;
 ghost use Rattle.ea_machine.specs.Releases as releases;
 ghost use Rattle.ea_machine.specs.Setup.{migration};
 ghost use Rattle.ea_sched.specs.Acting.{IsSame, setup_for, standing_at};
-ghost use Rattle.ea_sched.specs.Steps.{StartsRow};
+ghost use Rattle.ea_sched.specs.Steps.{DidRow, StartsRow};
 ghost use Rattle.ea_sched.specs.Turning.{CollectedRow, HasTurned, TurnedRow};
 
 use crate::routes::first_gone;
@@ -15,6 +15,7 @@ use ea_machine::{Gone, Named, Node, OwnerWord, Route, Stage, Why};
 use ea_mbc::Mbc;
 use ea_model::{OutOfMemory, owner_of};
 use ea_shared::{Shared, Tried};
+use std::alloc::Global;
 
 impl<'t> Scheduler<'t> {
     /// The block goes to the queue of the instance that the owner word of its carrier names.
@@ -206,5 +207,25 @@ impl<'t> Scheduler<'t> {
     {
         shared.clear_returned(self.number, number);
         self.instance.disown(number);
+    }
+
+    /// A carrier that came home is collected, and the walk that brought it goes on.
+    pub(crate) fn receive<S: Shared<Content = Mbc>>(
+        &mut self,
+        alloc: Global,
+        shared: &mut S,
+        number: u32,
+    ) -> Result<(), OutOfMemory>
+        requires starts { StartsRow (stage.Collecting number) self.old
+            (S.schedulers shared.old) (S.greatest shared.old) (S.migrates shared.old)
+            (S.shared shared.old) (S.caller shared.old) }
+        ensures stays { S.stays shared.old shared.new }
+        ensures same { IsSame self.old self.new }
+        ensures row { OnOk result (DidRow (stage.Collecting number) self.old self.new
+            (S.shared shared.old) (S.shared shared.new) (S.caller shared.old)
+            (S.caller shared.new)) }
+    {
+        self.collect(shared, number);
+        self.end_walk(alloc)
     }
 }

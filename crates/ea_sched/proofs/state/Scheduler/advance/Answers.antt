@@ -1,25 +1,20 @@
-use Rattle.std.proofs.Common.{refl, sym, ap, ◌∙◌, subst}
+use Rattle.std.proofs.Common.{◌≡◌, true, false, inl, inr, refl, sym, ap, ◌∙◌}
 use Rattle.std.proofs.lemmas.Result.{on_ok_weaker}
-use Rattle.ea_machine.specs.declared.stages.Route.TheVariants.{Linking}
-use Rattle.ea_machine.specs.declared.stages.Stage.TheVariants.{Begin, Routed}
-use Rattle.ea_sound.proofs.OffStages.{IsOffStage}
+use Rattle.ea_machine.specs.declared.stages.Stage.TheVariants.{Begin, Routed, Collecting}
+use Rattle.ea_machine.specs.declared.stages.Stage.TheVariants.{Searching, Fetching, Creating}
+use Rattle.ea_sched.specs.Acting.{is_ended}
 use Rattle.ea_sched.proofs.Doing.{restaged}
-use Rattle.ea_sched.proofs.StandsOff.{no-route, no-stage, stands-off}
+use Rattle.ea_sched.proofs.StandsOn.{never-ready}
 use Rattle.ea_sched.proofs.state.Scheduler.advance.Goals as goal
 
 pub unreachable-requires : goal.unreachable-requires
-unreachable-requires g c = no-route c.in-Routed.route
-    (subst IsOffStage (sym c.replace.ensures.value ∙ c.in-Routed.is)
-    (stands-off c.args.self.now c.requires.off c.requires.starts.ready))
-    c.in_default-route.not-Pushing c.in_default-route.not-Linking
-
-pub unreachable-requires-in_default : goal.unreachable-requires-in_default
-unreachable-requires-in_default g c = no-stage c.args.self.now.stage
-    (stands-off c.args.self.now c.requires.off c.requires.starts.ready) c.requires.goes
-    (λ is. c.in_default.not-Begin (c.replace.ensures.value ∙ is))
-    (λ route why gone is. c.in_default.not-Routed route why gone (c.replace.ensures.value ∙ is))
-    (λ given to is. c.in_default.not-Giving given to (c.replace.ensures.value ∙ is))
-    (λ name tries left is. c.in_default.not-Taking name tries left (c.replace.ensures.value ∙ is))
+unreachable-requires g c = elim c.in-Ended.is [
+  | inl ended ↦
+      let no : true ≡ false = ap is_ended (sym ended ∙ c.replace.ensures.value) ∙ c.requires.goes in
+      cc
+  | inr ready ↦ never-ready c.args.self.now c.requires.starts.ready
+      (sym c.replace.ensures.value ∙ ready)
+]
 
 pub returns-in-None-clause-row : goal.returns-in-None-clause-row
 returns-in-None-clause-row g c = on_ok_weaker c.take_queue.result
@@ -33,13 +28,38 @@ returns-in-Some-clause-row g c = on_ok_weaker c.pass.result
     (sym c.in-Begin.is ∙ c.replace.ensures.value) refl refl refl refl)
     c.pass.ensures.row
 
-pub returns-in-Linking-clause-row : goal.returns-in-Linking-clause-row
-returns-in-Linking-clause-row g c =
-    let why = c.in-Routed.why in
-    let gone = c.in-Routed.gone in
-    on_ok_weaker c.link.result
-    (restaged c.args.self.now _ c.link.new.self
-    (Routed (Linking c.in-Linking.node c.in-Linking.to) why gone) c.args.self.now.stage
-    (ap (λ r. Routed r why gone) (sym c.in-Linking.is)
-    ∙ (sym c.in-Routed.is ∙ c.replace.ensures.value)) refl refl refl refl)
-    c.link.ensures.row
+pub returns-in-Routed-clause-row : goal.returns-in-Routed-clause-row
+returns-in-Routed-clause-row g c = on_ok_weaker c.turn.result
+    (restaged c.args.self.now _ c.turn.new.self
+    (Routed c.in-Routed.route c.in-Routed.why c.in-Routed.gone) c.args.self.now.stage
+    (sym c.in-Routed.is ∙ c.replace.ensures.value) refl refl refl refl)
+    c.turn.ensures.row
+
+pub returns-in-Collecting-clause-row : goal.returns-in-Collecting-clause-row
+returns-in-Collecting-clause-row g c = on_ok_weaker c.receive.result
+    (restaged c.args.self.now _ c.receive.new.self
+    (Collecting c.in-Collecting.number) c.args.self.now.stage
+    (sym c.in-Collecting.is ∙ c.replace.ensures.value) refl refl refl refl)
+    c.receive.ensures.row
+
+pub returns-in-Searching-clause-row : goal.returns-in-Searching-clause-row
+returns-in-Searching-clause-row g c = on_ok_weaker c.search.result
+    (restaged c.args.self.now _ c.search.new.self
+    (Searching c.in-Searching.ask c.in-Searching.at c.in-Searching.looked) c.args.self.now.stage
+    (sym c.in-Searching.is ∙ c.replace.ensures.value) refl refl refl refl)
+    c.search.ensures.row
+
+pub returns-in-Fetching-clause-row : goal.returns-in-Fetching-clause-row
+returns-in-Fetching-clause-row g c = on_ok_weaker c.fetch.result
+    (restaged c.args.self.now _ c.fetch.new.self
+    (Fetching c.in-Fetching.ask c.in-Fetching.at c.in-Fetching.looked c.in-Fetching.seen)
+    c.args.self.now.stage
+    (sym c.in-Fetching.is ∙ c.replace.ensures.value) refl refl refl refl)
+    c.fetch.ensures.row
+
+pub returns-in-Creating-clause-row : goal.returns-in-Creating-clause-row
+returns-in-Creating-clause-row g c = on_ok_weaker c.make.result
+    (restaged c.args.self.now _ c.make.new.self
+    (Creating c.in-Creating.ask c.in-Creating.plan) c.args.self.now.stage
+    (sym c.in-Creating.is ∙ c.replace.ensures.value) refl refl refl refl)
+    c.make.ensures.row

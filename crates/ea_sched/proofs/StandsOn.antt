@@ -1,0 +1,80 @@
+-- Where a scheduler stands shows that carriers migrate.
+use Rattle.std.proofs.Common.{◌≡◌, ℕ, Bor, true, false, refl, ap, ◌∙◌, subst}
+use Rattle.std.specs.Prelude.{Bool, Option}
+use Rattle.ea_model.specs.declared.trace.Trace.{Trace}
+use Rattle.ea_model.specs.Content.{Content}
+use Rattle.ea_machine.specs.declared.nodes.Node.{Node}
+use Rattle.ea_machine.specs.declared.stages.Route.{Route}
+use Rattle.ea_machine.specs.declared.stages.Route.TheVariants.{Looking, Trying, Settling}
+use Rattle.ea_machine.specs.declared.stages.Route.TheVariants.{Abandoning, Sending}
+use Rattle.ea_machine.specs.declared.stages.Route.TheVariants.{Clearing, Pushing, Linking}
+use Rattle.ea_machine.specs.declared.stages.Stage.{Stage}
+use Rattle.ea_machine.specs.declared.stages.Stage.TheVariants.{Collecting, Ready}
+use Rattle.ea_machine.specs.Actor.{Actor}
+use Rattle.ea_machine.specs.Setup.{Setup, migration, setup_of}
+use Rattle.ea_machine.specs.Shared.{Shared}
+use Rattle.ea_shared.specs.Calls.{Caller}
+use Rattle.ea_sound.specs.Present.{Fits}
+use Rattle.ea_sound.proofs.Asked.{reached-rule}
+use Rattle.ea_sound.proofs.OffStages.{IsOffRoute, IsOffStage, is-off}
+use Rattle.ea_sound.proofs.SoundRanges.{number-scheduler}
+use Rattle.ea_sched.specs.declared.state.Scheduler.{Scheduler}
+use Rattle.ea_sched.specs.Acting.{IsSame, setup_for}
+use Rattle.ea_sched.specs.Steps.{IsReadyAt}
+
+-- a route that is neither to push nor to link
+pub no-route : (route : Route Content) → IsOffRoute route
+    → ((node : Node) (to : ℕ) → route ≡ Pushing node to → ⊥)
+    → ((node : Node) (to : ℕ) → route ≡ Linking node to → ⊥) → ⊥
+no-route (Pushing node to) is push link = push node to refl
+no-route (Linking node to) is push link = link node to refl
+no-route (Looking hand) is push link = is
+no-route (Trying hand seen) is push link = is
+no-route (Settling x) is push link = is
+no-route (Abandoning x) is push link = is
+no-route (Sending x) is push link = is
+no-route (Clearing x) is push link = is
+
+-- a scheduler that is ready for its row, at a stage
+module _ {stage : Stage Content} (s : Scheduler) {shared : Option Shared} {caller : Option Caller}
+    (h : IsReadyAt stage s shared caller) where
+  abbrev e : Setup
+  e = setup_for s
+
+  in-state : (h.state.actors s.number).stage ≡ stage
+  in-state = ap (λ (x : Actor). x.stage) h.actor
+
+  -- where carriers don't migrate, it is at few of them
+  pub stays-off : migration e ≡ false → IsOffStage stage
+  stays-off off = subst IsOffStage in-state
+      (is-off e h.state (reached-rule s.config s.trace.now h.config h.trace h.state h.reached)
+      s.number (number-scheduler e s.number (s.number_from, s.number_to)) off)
+
+  by-migration : (b : Bool) → migration e ≡ b → (IsOffStage stage → ⊥) → b ≡ true
+  by-migration true q never = refl
+  by-migration false q never = absurd (never (stays-off q))
+
+  -- so at another one they do
+  pub stands-on : (IsOffStage stage → ⊥) → migration e ≡ true
+  stands-on never = let on = by-migration (migration e) refl never in on
+
+  -- it isn't in the middle of a step
+  pub never-ready : stage ≡ Ready → ⊥
+  never-ready is =
+      let rule = reached-rule s.config s.trace.now h.config h.trace h.state h.reached in
+      subst (Fits e h.state s.number (h.state.actors s.number)) (in-state ∙ is)
+      (rule.present.fits s.number)
+
+-- at a carrier that came home
+pub home-on : (n : ℕ) (s : Scheduler) {shared : Option Shared} {caller : Option Caller}
+    → IsReadyAt (Collecting n) s shared caller → migration (setup_for s) ≡ true
+home-on n s h = stands-on s h (λ off. off)
+
+-- it stays in the same run
+pub same-setup : (s t : Scheduler) → IsSame s t → setup_for t ≡ setup_for s
+same-setup s t same = ap (λ c. setup_of c t.trace.now) same.config
+    ∙ ap (λ (r : Bor Trace). setup_of s.config r.now) same.trace
+
+-- what it knows of migration, it knows after the row too
+pub same-migrates : (s t : Scheduler) → IsSame s t → t.migrates ≡ migration (setup_for s)
+same-migrates s t same = t.migrates_so ∙ ap migration (same-setup s t same)
