@@ -209,14 +209,12 @@ module _ (c : Config) (t : Trace) where
 
   -- what is shared there
   pub start-shares : (m : Sharing) → IsValidConfig c → IsValidTrace c.schedulers t
-      → migration (setup_of c t) ≡ false
       → m.schedulers ≡ c.schedulers → m.greatest ≡ t.greatest
       → m.migrates ≡ migration (setup_of c t) → shared_of m ≡ (start (setup_of c t)).shared
       → SharesAt c t m (start (setup_of c t))
-  start-shares m config trace off made names moves shares = record {
+  start-shares m config trace made names moves shares = record {
     config = config;
     trace = trace;
-    off = off;
     made = made;
     names = names;
     moves = moves;

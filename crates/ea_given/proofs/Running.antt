@@ -133,9 +133,6 @@ module _ (c : Config) (t : Trace) (me : ℕ) (s : Scheduler) (w : State)
           told = inl refl;
         })
 
-    pub stands-off : migration (setup_for s) ≡ false
-    stands-off = as-run (λ d u k. migration (setup_of d u) ≡ false) shares.off
-
     -- carriers migrate in the memory exactly if they do in its run
     pub stands-moves : m.migrates ≡ migration (setup_for s)
     stands-moves = as-run (λ d u k. m.migrates ≡ migration (setup_of d u)) shares.moves
@@ -159,7 +156,6 @@ module _ (c : Config) (t : Trace) (me : ℕ) (s : Scheduler) (w : State)
           record {
             config = shares.config;
             trace = shares.trace;
-            off = shares.off;
             made = made ∙ shares.made;
             names = names ∙ shares.names;
             moves = moves ∙ shares.moves;

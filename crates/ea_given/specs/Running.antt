@@ -14,12 +14,10 @@ use Rattle.ea_sched.specs.declared.state.Scheduler.{Scheduler}
 use Rattle.ea_sched.specs.Acting.{actor_of, setup_for}
 
 module _ (c : Config) (t : Trace) where
-  -- what is shared in a reached state of the run of a valid trace, in which carriers don't migrate,
-  -- is in the memory
+  -- what is shared in a reached state of the run of a valid trace is in the memory
   pub record SharesAt (shared : Sharing) (state : State) : Type 0 where
     pub config : IsValidConfig c
     pub trace : IsValidTrace c.schedulers t
-    pub off : migration (setup_of c t) ≡ false
     pub made : shared.schedulers ≡ c.schedulers
     pub names : shared.greatest ≡ t.greatest
     pub moves : shared.migrates ≡ migration (setup_of c t)

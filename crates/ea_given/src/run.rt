@@ -1,5 +1,5 @@
 //! The run of a trace that has a schedule.
-ghost use Rattle.std.specs.Prelude.{◌≡◌, ◌+◌, ◌<◌, false, [], ◌∷◌, IfOk, OnOk, All};
+ghost use Rattle.std.specs.Prelude.{◌≡◌, ◌+◌, ◌<◌, [], ◌∷◌, IfOk, OnOk, All};
 ghost use Rattle.std.specs.Prelude.{flat_map, length, replicate};
 ghost use Rattle.ea_model.specs.declared.trace.Mode.TheVariants.{Schedule};
 ghost use Rattle.ea_model.specs.Outcome.{plain_outcome};
@@ -10,7 +10,7 @@ ghost use Rattle.ea_machine.specs.Completion.{completing, finishing};
 ghost use Rattle.ea_machine.specs.Machine.{start};
 ghost use Rattle.ea_sound.specs.MachineLaws.{Protocol};
 ghost use Rattle.ea_machine.specs.Outcome as machine;
-ghost use Rattle.ea_machine.specs.Setup.{migration, setup_of};
+ghost use Rattle.ea_machine.specs.Setup.{setup_of};
 ghost use Rattle.ea_given.specs.Running.{AllStand, AllStandAt, AllTook, IsAtEnd, Stands, Took};
 
 use ea_mbc::Mbc;
@@ -146,7 +146,6 @@ fn run_to_end<'t>(alloc: Global, config: Config, trace: &'t Trace) -> Result<Run
     requires config { IsValidConfig config }
     requires trace { IsValidTrace config.schedulers trace.now }
     requires texts { length trace.now.texts.items ≡ config.schedulers }
-    requires off { migration (setup_of config trace.now) ≡ false }
     ensures { IfOk result (IsAtEnd config trace.now) }
 {
     let mut shared = MemShared::new(alloc, config, trace)?;
@@ -164,7 +163,6 @@ pub fn run_given(alloc: Global, config: Config, trace: &Trace) -> Result<Outcome
     requires config { IsValidConfig config }
     requires trace { IsValidTrace config.schedulers trace.now }
     requires schedule { (turns : _) × (trace.now.mode ≡ Schedule turns) }
-    requires off { migration (setup_of config trace.now) ≡ false }
     ensures outcome { IfOk result (λ outcome.
         plain_outcome outcome ≡ machine.outcome_of config trace.now) }
     ensures protocol { Protocol (setup_of config trace.now) }

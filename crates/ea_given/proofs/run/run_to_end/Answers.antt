@@ -20,7 +20,7 @@ take_schedule-requires-clause-stand c =
       t,
       w,
       start-shares d t c.in_ok-shared.shared c.requires.config c.requires.trace
-          c.requires.off new.schedulers new.greatest new.migrates new.start,
+          new.schedulers new.greatest new.migrates new.start,
       subst (λ xs. AllStandAt d t xs w) (sym c.deref_mut.ensures.value)
           c.in_ok-schedulers.ensures,
     )
@@ -42,7 +42,7 @@ complete-requires c =
     let us = c.take_schedule.new.schedulers in
     let w = start (setup_of d t) in
     let shares = start-shares d t c.in_ok-shared.shared c.requires.config c.requires.trace
-    c.requires.off new.schedulers new.greatest new.migrates new.start in
+    new.schedulers new.greatest new.migrates new.start in
     let stand = subst (λ xs. AllStandAt d t xs w) (sym c.deref_mut.ensures.value)
     c.in_ok-schedulers.ensures in
     let many : length us ≡ c.in_ok-schedulers.schedulers.len = c.take_schedule.auto.schedulers
@@ -63,7 +63,7 @@ returns c =
     let p = c.complete.new.shared in
     let e = setup_of d t in
     let shares = start-shares d t c.in_ok-shared.shared c.requires.config c.requires.trace
-    c.requires.off new.schedulers new.greatest new.migrates new.start in
+    new.schedulers new.greatest new.migrates new.start in
     let stand = subst (λ xs. AllStandAt d t xs (start e)) (sym c.deref_mut.ensures.value)
     c.in_ok-schedulers.ensures in
     let many : length us ≡ c.in_ok-schedulers.schedulers.len = c.take_schedule.auto.schedulers

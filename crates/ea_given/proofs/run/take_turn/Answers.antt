@@ -1,15 +1,10 @@
-use Rattle.ea_given.proofs.Running.{stands-moves, stands-off, stands-ready, stepped-stands}
+use Rattle.ea_given.proofs.Running.{stands-moves, stands-ready, stepped-stands}
 use Rattle.ea_given.proofs.run.take_turn.Goals as goal
 
 pub step-requires-clause-ready : goal.step-requires-clause-ready
 step-requires-clause-ready c =
     let (d, t, me, w, shares, at) = c.requires in
     λ going. stands-ready d t me c.args.scheduler.now w at c.args.shared.now shares
-
-pub step-requires-clause-off : goal.step-requires-clause-off
-step-requires-clause-off c =
-    let (d, t, me, w, shares, at) = c.requires in
-    stands-off d t me c.args.scheduler.now w at c.args.shared.now shares
 
 pub step-requires-clause-migrates : goal.step-requires-clause-migrates
 step-requires-clause-migrates c =

@@ -37,13 +37,6 @@ step-requires-clause-greatest g c =
     ap (λ t. t.greatest) (i.trace ∙ c.requires.trace)
     ∙ sym (ap (λ t. t.now.greatest) i.scheduler_trace)
 
-pub step-requires-clause-off : goal.step-requires-clause-off
-step-requires-clause-off g c =
-    let i = c.loop.invariant in
-    subst (λ d. migration (setup_of d c.loop.scheduler.trace.now) ≡ false) (sym i.scheduler_config)
-    (subst (λ (t : Bor Trace). migration (setup_of c.args.self.scheduler.config t.now) ≡ false)
-    (sym i.scheduler_trace) c.requires.off)
-
 pub step-requires-clause-migrates : goal.step-requires-clause-migrates
 step-requires-clause-migrates g c =
     let i = c.loop.invariant in
