@@ -1,8 +1,7 @@
 -- Schedulers take their turns on plain memory.
 use Rattle.std.proofs.Common.{◌≡◌, ◌≢◌, ℕ, zero, suc, ◌+◌, ◌-◌, ◌<◌, ◌≤◌, length, true, false}
-use Rattle.std.proofs.Common.{◌&&◌, List, [], ◌∷◌, inl, inr, refl, sym, ap, subst, ◌∙◌, arith}
+use Rattle.std.proofs.Common.{List, [], ◌∷◌, inl, inr, refl, sym, ap, subst, ◌∙◌, arith}
 use Rattle.std.specs.Prelude.{None, Some, replicate}
-use Rattle.std.proofs.Math.Path.{fun_ext}
 use Rattle.std.proofs.lemmas.List.{replicate-append-replicate}
 use Rattle.ea_model.specs.declared.settings.Config.{Config}
 use Rattle.ea_model.specs.declared.trace.Trace.{Trace}
@@ -13,10 +12,8 @@ use Rattle.ea_machine.specs.declared.stages.Stage.TheVariants.{Searching, Fetchi
 use Rattle.ea_machine.specs.declared.stages.Stage.TheVariants.{Giving, Taking, Ended, Ready}
 use Rattle.ea_machine.specs.Actor.{Actor}
 use Rattle.ea_machine.specs.Completion.{actor_rows, ending, work}
-use Rattle.ea_machine.specs.Machine.{after_row, is_main, onward, place_by}
-use Rattle.ea_machine.specs.Machine.{run_on, start, step, wants}
-use Rattle.ea_model.specs.Instance.{owner_of}
-use Rattle.ea_machine.specs.Owners.{CarrierAt}
+use Rattle.ea_machine.specs.Machine.{after_row, onward}
+use Rattle.ea_machine.specs.Machine.{run_on, step, wants}
 use Rattle.ea_machine.specs.Setup.{Setup, migration, setup_of}
 use Rattle.ea_machine.specs.Shared.{Shared}
 use Rattle.ea_machine.specs.State.{State}
