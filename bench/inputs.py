@@ -3,7 +3,8 @@
 
 They are the same bytes on every machine, and good under the flags +MMscs 512 +MHacul 0, with +S as many schedulers as
 they have. Those in FOLDER/strategies are
-for +MHlmbcs 256 and a strategy besides. In filled and changing no allocation fails under a strategy that looks at all
+for +MHlmbcs 256 and a strategy besides. Those in FOLDER/migrating are for any acul, the one with carriers of one page
+(+MHsmbcs 4 +MHlmbcs 4), the other with a main carrier of 20 MB. In filled and changing no allocation fails under a strategy that looks at all
 gaps. Good fit runs out of carriers there, and has fewer blocks in fewer-filled and fewer-changing; under address fit
 nearly each block would have a carrier, and it has blocks of one size in equal-filled and equal-changing. Those in
 FOLDER/threads end with `threads`, and the same operations by a schedule are in FOLDER/schedules.
@@ -185,6 +186,22 @@ def greatest_name():
     return sections_of(texts)
 
 
+def searching(schedulers, count):
+    """`count` operations in all, as many of each scheduler, for carriers of one page: a tenth allocate a block that fills
+    a carrier, so that all numbers are looked at and a carrier is created, and the rest find room beside a block that
+    keeps its carrier in use."""
+    names, texts = itertools.count(1), []
+    for _ in range(schedulers):
+        text = [f"alloc {next(names)} 2500\n"]
+        for _ in range(count // schedulers // 10):
+            large, small = next(names), [next(names) for _ in range(4)]
+            text.append(f"alloc {large} 3900\n")
+            text += [f"alloc {it} {TINY}\nfree {it}\n" for it in small]
+            text.append(f"free {large}\n")
+        texts.append(text)
+    return sections_of(texts) + CLOSING
+
+
 def for_threads():
     """Sections that run with `threads`, and the end of the same trace by a schedule."""
     for schedulers in (1, 2, 4):
@@ -204,6 +221,7 @@ def main(folder):
     os.makedirs(f"{folder}/strategies", exist_ok=True)
     os.makedirs(f"{folder}/threads", exist_ok=True)
     os.makedirs(f"{folder}/schedules", exist_ok=True)
+    os.makedirs(f"{folder}/migrating", exist_ok=True)
     made = {
         "comments": comments(),
         "long-comment": long_comment(),
@@ -218,6 +236,8 @@ def main(folder):
         "handed-over-16": handed_over(SCHEDULERS, 125, 25),
         "ended-turns": ended_turns(),
         "tries": tries(),
+        "migrating/searching": searching(SCHEDULERS, 100_000),
+        "migrating/staying": mixed(200000, 8, SMALL, 2),
         "strategies/filled": crowded(5600, 5000, 8000, 15000, 0),
         "strategies/changing": crowded(5600, 5000, 8000, 15000, 5000),
         "strategies/fewer-filled": crowded(5200, 4600, 8000, 15000, 0),
