@@ -1,5 +1,5 @@
 -- What a definition answers for a trace or an outcome has the same text.
-use Rattle.std.proofs.Common.{◌≡◌, ℕ, true, List, refl, sym, subst, ap, ◌∙◌}
+use Rattle.std.proofs.Common.{◌≡◌, ℕ, Bool, true, List, refl, sym, subst, ap, ◌∙◌}
 use Rattle.std.specs.Prelude.{◌≤◌, Ok, Option, None, Some, IfSome, length}
 use Rattle.std.specs.Result.{result_ok}
 use Rattle.std.specs.declared.string.String.{String}
@@ -19,20 +19,21 @@ use Rattle.ea_model.proofs.Traces.{plain-texts}
 use Rattle.ea_machine.specs.Courses.{IsCourse}
 use Rattle.ea_machine.specs.Machine.{run}
 use Rattle.ea_machine.specs.Outcome.{outcome}
-use Rattle.ea_machine.specs.Setup.{Setup, setup_of, text_for}
+use Rattle.ea_machine.specs.Setup.{Setup, migration, setup_of, text_for}
 use Rattle.ea_report.specs.Text.{outcome_text}
 use Rattle.ea_trace.specs.Language.{trace}
 use Rattle.ea_top.specs.Answers.{GivesText, HasOutput, spelled}
 use Rattle.ea_top.specs.Built.{is_built_mode, is_built_run}
 use Rattle.ea_top.specs.Output.{IsOutputUnder, IsRunOutcome, IsRunText, outcome_after, read_under}
 
-same_mode : (m : Mode) → is_built_mode (plain_mode m) ≡ is_built_mode m
-same_mode Threads = refl
-same_mode (Schedule turns) = refl
-same_mode (Generated seed count) = refl
+same_mode : (migrating : Bool) (m : Mode)
+    → is_built_mode migrating (plain_mode m) ≡ is_built_mode migrating m
+same_mode migrating Threads = refl
+same_mode migrating (Schedule turns) = refl
+same_mode migrating (Generated seed count) = refl
 
 pub same_built : (c : Config) (t : Trace) → is_built_run c (plain t) ≡ is_built_run c t
-same_built c t = rw (same_mode t.mode) refl
+same_built c t = same_mode (migration (setup_of c t)) t.mode
 
 same_setup : (c : Config) (t : Trace) → setup_of c (plain t) ≡ setup_of c t
 same_setup c t = ap (λ texts. record {

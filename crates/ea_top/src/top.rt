@@ -37,8 +37,8 @@ use std::thread::Threads;
 ///
 /// The status is 0 where the text was written; 1 where the words are refused; 2 where the input has
 /// more than 2^24 bytes or isn't a trace; 3 where the source failed; 4 where `out` failed; 5 where
-/// there was no memory; 6 where words and input are accepted, and the run isn't built: its carriers
-/// would migrate, or its operations are to be generated.
+/// there was no memory; 6 where words and input are accepted, and the run isn't built: carriers would
+/// migrate between threads, or operations are to be generated.
 pub fn run<R: Threads + Sync, S: Source, O: Sink, E: Sink>(
     rt: &R,
     alloc: Global,
@@ -208,11 +208,16 @@ fn text_of<R: Threads + Sync>(
     Ok(print(alloc, &outcome)?)
 }
 
-/// Whether the run of a trace is built: its operations are given, and its carriers don't migrate.
+/// Whether the run of a trace is built: its operations are given, and carriers don't migrate
+/// between threads.
 fn is_built(config: Config, trace: &Trace) -> bool
     ensures { result ≡ is_built_run config trace.now }
 {
-    !migrates(config, trace) && !matches!(trace.mode, Mode::Generated { .. })
+    match &trace.mode {
+        Mode::Threads => !migrates(config, trace),
+        Mode::Schedule { .. } => true,
+        Mode::Generated { .. } => false,
+    }
 }
 
 /// Runs a trace whose run is built, as its mode says: each scheduler on a thread of its own, or all

@@ -103,7 +103,11 @@ fn an_error_line_ends_where_its_write_fails(rt: HostRuntime) -> Result<(), Fail>
             (2, "", "erts_alloc_run: line 1: syntax\n"),
         ),
         (
-            Case { words: "", ..GOOD },
+            Case {
+                words: "",
+                input: b"type H\nscheduler 1\nthreads\nend\n",
+                ..GOOD
+            },
             (6, "", "erts_alloc_run: not built yet\n"),
         ),
         (
