@@ -105,10 +105,10 @@ module _ (c : Config) (t : Trace) (valid : IsValidConfig c)
       absurd (let never : None ≡ Some h = sym of.2 ∙ old in cc)
   old-by ask (op.Realloc name fresh bytes ∷ ops) first of h old =
       let is = first-operation c t valid made w reached me (op.Realloc name fresh bytes) ops
-          first in
+      first in
       let (g, has, named) = of.2 in
       let same : h.name ≡ name =
-          ap (λ (x : Named). x.name) (same-some ask.old h g old has) ∙ named in
+      ap (λ (x : Named). x.name) (same-some ask.old h g old has) ∙ named in
       subst (IsNameOf t) (sym same) (is.0.0.0, omega (arith, is.1))
   old-by ask todo first of h old = absurd of
 

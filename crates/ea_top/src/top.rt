@@ -37,8 +37,8 @@ use std::thread::Threads;
 ///
 /// The status is 0 where the text was written; 1 where the words are refused; 2 where the input has
 /// more than 2^24 bytes or isn't a trace; 3 where the source failed; 4 where `out` failed; 5 where
-/// there was no memory; 6 where words and input are accepted, and the run isn't built: carriers would
-/// migrate between threads, or operations are to be generated.
+/// there was no memory; 6 where words and input are accepted, and the run isn't built: carriers
+/// would migrate between threads, or operations are to be generated.
 pub fn run<R: Threads + Sync, S: Source, O: Sink, E: Sink>(
     rt: &R,
     alloc: Global,
