@@ -194,6 +194,11 @@ pub record Took (v : View) (found : ℕ) (u : View) : Type 0 where
 abbrev pub steps : {S : Type 0} → Step S → Me S View → ℕ → Me S View → Type 0
 steps step m found m' = Took m.0 found m'.0 × (m'.1 ≡ m.1)
 
+-- a look of a seat changes nothing; what it finds doesn't matter, but that its run is one in which
+-- carriers don't migrate
+abbrev pub looks : {S : Type 0} → Step S → Me S View → ℕ → Me S View → Type 0
+looks step m found m' = (m' ≡ m) × (migration (setup_in m.0) ≡ false)
+
 -- the row got that answer in a step of the seat
 pub record DidRow (me : ℕ) (row : Row) (got : Answer) (v u : View) : Type 0 where
   pub number : (acting v).number ≡ me

@@ -70,16 +70,16 @@ fn take_in<'t>(
     Ok(Taken { seat, schedulers })
 }
 
-/// Given names, read off a table of that many schedulers where nobody steps any more. No carrier
-/// migrates there.
+/// Given names, read off a table of that many schedulers where nobody steps any more. It has no
+/// owner words and no contents, since no carrier migrates there.
 #[derive(Drop)]
 struct Still {
     schedulers: u32,
     given: Names,
+    migrates: bool,
 }
 
 impl Rested for Still {
-    ghost use Rattle.std.specs.Prelude.{false};
     ghost use Rattle.ea_machine.specs.Owners.{Absent};
 
     type Content = Mbc;
@@ -88,18 +88,18 @@ impl Rested for Still {
 
     ghost greatest = { λ s. s.given.greatest };
 
-    ghost migrates = { λ s. false };
+    ghost migrates = { λ s. s.migrates };
 
     ghost places = { λ s. λ number. Absent };
 
     ghost named = { λ s. s.given.held };
 
     fn word(&self, _carrier: u32) -> OwnerWord {
-        unreachable!()
+        OwnerWord::Absent
     }
 
     fn home(&self, _carrier: u32) -> Option<&Mbc> {
-        unreachable!()
+        None
     }
 
     fn given(&self, name: u32) -> Option<Spot> {
@@ -172,6 +172,7 @@ fn outcome_with(
     let still = Still {
         schedulers: config.schedulers,
         given,
+        migrates: false,
     };
     outcome_of(alloc, config, trace, schedulers, &still)
 }

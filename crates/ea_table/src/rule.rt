@@ -25,6 +25,15 @@ impl Play<Option<Mbc>, View> for Steps {
     ghost then = { steps };
 }
 
+/// A look of a seat, by which it learns what the rule says of its run: carriers don't migrate.
+pub struct Looks;
+
+impl Play<Option<Mbc>, View> for Looks {
+    ghost use Rattle.ea_table.specs.Ruling.{looks};
+
+    ghost then = { looks };
+}
+
 /// A seat is split off for the first scheduler of another one.
 pub struct Deal;
 

@@ -10,8 +10,9 @@ use ea_model::Spot;
 use ea_queues::Link;
 use ea_shared::{Shared, Tried};
 
-/// The table as one scheduler steps on it: it tells that scheduler. It is made for runs in which no
-/// carrier migrates, and has no owner words: so the steps on carriers are never called.
+/// The table as one scheduler steps on it: it tells that scheduler. The rule of the table says that
+/// no carrier migrates in its run, and it has no owner words: so the steps on carriers are never
+/// called.
 #[derive(Drop)]
 pub struct TableShared<'a, 't> {
     board: &'a Board<'t>,
@@ -40,9 +41,10 @@ impl<'a, 't> TableShared<'a, 't> {
 }
 
 impl<'a, 't> Shared for TableShared<'a, 't> {
-    ghost use Rattle.std.specs.Prelude.{◌≡◌, false, Some, None};
-    ghost use Rattle.std.proofs.Common.{refl, ap};
-    ghost use Rattle.ea_table.specs.Ruling.{caller_in};
+    ghost use Rattle.std.specs.Prelude.{◌≡◌, Some, None};
+    ghost use Rattle.std.proofs.Common.{refl, ap, ◌∙◌};
+    ghost use Rattle.ea_machine.specs.Setup.{migration, setup_of};
+    ghost use Rattle.ea_table.specs.Ruling.{caller_in, setup_in};
 
     type Content = Mbc;
 
@@ -50,7 +52,7 @@ impl<'a, 't> Shared for TableShared<'a, 't> {
 
     ghost greatest = { λ t. t.pass.seat.me.0.trace.greatest };
 
-    ghost migrates = { λ _. false };
+    ghost migrates = { λ t. migration (setup_in t.pass.seat.me.0) };
 
     ghost shared = { λ _. None };
 
@@ -66,7 +68,9 @@ impl<'a, 't> Shared for TableShared<'a, 't> {
 
     ghost stays_greatest = { λ x y h. ap (λ t. t.greatest) h.2 };
 
-    ghost stays_migrates = { λ x y h. refl };
+    ghost stays_migrates = { λ x y h.
+        ap (λ c. migration (setup_of c y.pass.seat.me.0.trace)) h.1
+        ∙ ap (λ t. migration (setup_of x.pass.seat.me.0.config t)) h.2 };
 
     fn take_all(&mut self, me: u32) -> Option<Node> {
         self.pass.take_all(self.board, me)
@@ -76,43 +80,53 @@ impl<'a, 't> Shared for TableShared<'a, 't> {
         self.pass.take_link(self.board, me, node)
     }
 
-    fn look(&mut self, _me: u32, _carrier: u32) -> OwnerWord {
+    fn look(&mut self, me: u32, _carrier: u32) -> OwnerWord {
+        self.pass.stays_home(self.board, me);
         unreachable!()
     }
 
-    fn busy_try(&mut self, _me: u32, _carrier: u32, _seen: OwnerWord) -> Tried<Mbc> {
+    fn busy_try(&mut self, me: u32, _carrier: u32, _seen: OwnerWord) -> Tried<Mbc> {
+        self.pass.stays_home(self.board, me);
         unreachable!()
     }
 
-    fn settle_pooled(&mut self, _me: u32, _carrier: u32, _content: Mbc, _largest: u32) {
+    fn settle_pooled(&mut self, me: u32, _carrier: u32, _content: Mbc, _largest: u32) {
+        self.pass.stays_home(self.board, me);
         unreachable!()
     }
 
-    fn settle_employed(&mut self, _me: u32, _carrier: u32) {
+    fn settle_employed(&mut self, me: u32, _carrier: u32) {
+        self.pass.stays_home(self.board, me);
         unreachable!()
     }
 
-    fn abandon(&mut self, _me: u32, _carrier: u32, _content: Mbc, _largest: u32) {
+    fn abandon(&mut self, me: u32, _carrier: u32, _content: Mbc, _largest: u32) {
+        self.pass.stays_home(self.board, me);
         unreachable!()
     }
 
-    fn fetch_try(&mut self, _me: u32, _carrier: u32, _seen: OwnerWord) -> Tried<Mbc> {
+    fn fetch_try(&mut self, me: u32, _carrier: u32, _seen: OwnerWord) -> Tried<Mbc> {
+        self.pass.stays_home(self.board, me);
         unreachable!()
     }
 
-    fn create(&mut self, _me: u32, _carrier: u32) {
+    fn create(&mut self, me: u32, _carrier: u32) {
+        self.pass.stays_home(self.board, me);
         unreachable!()
     }
 
-    fn send_home(&mut self, _me: u32, _carrier: u32, _content: Mbc, _owner: u32) {
+    fn send_home(&mut self, me: u32, _carrier: u32, _content: Mbc, _owner: u32) {
+        self.pass.stays_home(self.board, me);
         unreachable!()
     }
 
-    fn clear_own(&mut self, _me: u32, _carrier: u32) {
+    fn clear_own(&mut self, me: u32, _carrier: u32) {
+        self.pass.stays_home(self.board, me);
         unreachable!()
     }
 
-    fn clear_returned(&mut self, _me: u32, _carrier: u32) -> Mbc {
+    fn clear_returned(&mut self, me: u32, _carrier: u32) -> Mbc {
+        self.pass.stays_home(self.board, me);
         unreachable!()
     }
 

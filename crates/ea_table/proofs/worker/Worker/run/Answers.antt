@@ -40,9 +40,10 @@ step-requires-clause-greatest g c =
 pub step-requires-clause-migrates : goal.step-requires-clause-migrates
 step-requires-clause-migrates g c =
     let i = c.loop.invariant in
-    sym (ap (λ d. migration (setup_of d c.loop.scheduler.trace.now)) i.scheduler_config
-    ∙ ap (λ (t : Bor Trace). migration (setup_of c.args.self.scheduler.config t.now))
-    i.scheduler_trace ∙ c.requires.off)
+    ap (λ d. migration (setup_of d c.loop.shared.pass.seat.me.0.trace))
+    (i.config ∙ c.requires.config ∙ sym i.scheduler_config)
+    ∙ ap (λ t. migration (setup_of c.loop.scheduler.config t))
+    (i.trace ∙ c.requires.trace ∙ sym (ap (λ (t : Bor Trace). t.now) i.scheduler_trace))
 
 pub step-requires-clause-ready : goal.step-requires-clause-ready
 step-requires-clause-ready g c = λ going. c.loop.invariant.ready
