@@ -9,10 +9,13 @@ use Rattle.ea_model.specs.declared.units.TheConstants.{MAX_UNITS}
 use Rattle.ea_model.specs.Content.{Content, allocated}
 use Rattle.ea_model.specs.Instance.{figures}
 use Rattle.ea_laws.specs.Kept.{HasOneBlock, IsLaidOut, IsLaidOutAlone}
-use Rattle.ea_employed.proofs.Counting.{laid-bounded}
+use Rattle.ea_laws.proofs.Tiling.{Tiled-length}
 
 abbrev HasFew : Content → Type 0
 HasFew c = length c.blocks ≤ MAX_UNITS
+
+laid-few : (c : Content) → IsLaidOut c → HasFew c
+laid-few c laid = omega (arith, Tiled-length 8 c.units c.blocks laid.tiled, laid.low)
 
 blocks-most : (cs : List Content) → All HasFew cs
     → sum_by (λ c. length c.blocks) cs ≤ MAX_UNITS * length cs
@@ -32,7 +35,7 @@ one-block units (b ∷ d ∷ bs) h = absurd h
 pub many-blocks : (cs : List Content) → All IsLaidOut cs
     → sum_by (λ c. length c.blocks) cs ≤ MAX_UNITS * length cs
 many-blocks cs laid = blocks-most cs
-    (All-weaker IsLaidOut HasFew (λ c here. (laid-bounded c here).blocks) cs laid)
+    (All-weaker IsLaidOut HasFew laid-few cs laid)
 
 pub alone-blocks : (cs : List Content) → All IsLaidOutAlone cs
     → sum_by (λ c. length c.blocks) cs ≤ MAX_UNITS * length cs
