@@ -23,7 +23,7 @@ use Rattle.ea_machine.specs.declared.stages.Stage.TheVariants as stages
 use Rattle.ea_machine.specs.declared.stages.Stage.TheVariants.{Ended}
 use Rattle.ea_sched.specs.declared.state.Scheduler.{Scheduler}
 use Rattle.ea_sched.specs.Acting.{actor_of, is_ended, setup_for, standing_at}
-use Rattle.ea_sched.specs.Steps.{DidRow, IsReady, Ready, Stepped}
+use Rattle.ea_sched.specs.Steps.{DidRow, IsReady, ObservedRow, Ready, Stepped}
 
 -- what is told is told again
 same-told : {A : Type 0} (o : Option A) (x : A) → IfSome o (λ y. y ≡ x)
@@ -199,14 +199,15 @@ restaged s u t stage at {shared} {new} {caller} {now} same config trace number s
   goes e me a x = onward e me (after_row e me a d.got x)
 
 -- a step is a row that was done, and the figures observed
-pub row-stepped : (s t : Scheduler) (b : Actor) (shared new : Option Shared)
-    (caller now : Option Caller) → IsReady s shared caller → is_ended s.stage ≡ false
-    → DidRow s.stage s t shared new caller now → b ≡ observed (actor_of t)
-    → Stepped s.config s.trace.now s.number (actor_of s) b shared new caller now
+pub row-stepped : (s t : Scheduler) (shared new : Option Shared) (caller now : Option Caller)
+    → IsReady s shared caller → is_ended s.stage ≡ false
+    → ObservedRow s.stage s t shared new caller now
+    → Stepped s.config s.trace.now s.number (actor_of s) (actor_of t) shared new caller now
 unfolding after
-row-stepped s t b shared new caller now h goes d is =
-    stepped s.config s.trace.now s.number (actor_of s) d.row d.got b d.wanted
-    (stage-goes s.stage goes) (is ∙ ap observed d.is) shared new caller now h d.did
+row-stepped s t shared new caller now h goes o =
+    let d = o.row in
+    stepped s.config s.trace.now s.number (actor_of s) d.row d.got (actor_of t) d.wanted
+    (stage-goes s.stage goes) (o.is ∙ ap observed d.is) shared new caller now h d.did
 
 -- after a step it stands in a reached state again
 module _ (c : Config) (t : Trace) (me : ℕ) (a b : Actor) (shared new : Option Shared)

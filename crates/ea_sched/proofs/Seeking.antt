@@ -28,6 +28,7 @@ use Rattle.ea_machine.specs.Rows.{FetchTry, Won}
 use Rattle.ea_machine.specs.Setup.{Setup, migration}
 use Rattle.ea_machine.specs.Shared.{Shared}
 use Rattle.ea_machine.specs.State.{State}
+use Rattle.ea_machine.specs.Statistics.{observed}
 use Rattle.ea_machine.specs.Table.{tried_at}
 use Rattle.ea_names.specs.Holding.{has_place}
 use Rattle.ea_search.specs.Looks.{next_number}
@@ -38,13 +39,14 @@ use Rattle.ea_sound.proofs.Asked.{reached-rule}
 use Rattle.ea_sound.proofs.AskedCalls as asks
 use Rattle.ea_sound.proofs.CarrierCalls as carriers
 use Rattle.ea_sound.proofs.Created.{scheduler-number}
+use Rattle.ea_sound.proofs.Observed.{reached-observed, searched-observed}
 use Rattle.ea_sound.proofs.Plans.{planned-number}
 use Rattle.ea_sound.proofs.ReleasingCalls.{own-migrates}
 use Rattle.ea_sound.proofs.WordCalls.{fetch-won}
 use Rattle.ea_sched.specs.declared.state.Scheduler.{Scheduler}
 use Rattle.ea_sched.specs.Acting.{setup_for, standing_at}
 use Rattle.ea_sched.specs.Asking.{HasMore, IsAsked, IsHere}
-use Rattle.ea_sched.specs.Steps.{IsReadyAt}
+use Rattle.ea_sched.specs.Steps.{DidRow, IsReadyAt, ObservedRow}
 use Rattle.ea_sched.proofs.Calling.{left-more}
 use Rattle.ea_sched.proofs.Doing.{Answered, answered-so}
 use Rattle.ea_sched.proofs.AfterWalk.{next-placed}
@@ -160,6 +162,23 @@ module _ {stage : Stage Content} (s : Scheduler) {shared : Option Shared} {calle
 
     pub search-asked : IsAsked s.instance s ask
     search-asked = ask-asked ask searches.0 search-on s refl refl s.instance
+
+    observes : observed (standing_at (Searching ask at looked) s)
+        ≡ standing_at (Searching ask at looked) s
+    observes = subst (λ st. observed (standing_at st s) ≡ standing_at st s) now
+        (subst (λ (x : Actor). observed x ≡ x) h.actor (reached-observed e me w h.reached))
+
+    -- after its look the figures are observed as they were before
+    pub search-observed : {t : Scheduler} {new : Option Shared} {then : Option Caller}
+        → DidRow (Searching ask at looked) s t shared new caller then
+        → ObservedRow (Searching ask at looked) s t shared new caller then
+    search-observed {t} d = record {
+      gone_on = t;
+      row = d;
+      is = sym (subst (λ (x : Actor). observed x ≡ x) (sym d.is)
+          (searched-observed (standing_at (Searching ask at looked) s) observes refl e me search-on
+          ask at looked d.got));
+    }
 
   -- a carrier is to be fetched
   module _ (ask : Ask) (at looked : ℕ) (seen : OwnerWord)

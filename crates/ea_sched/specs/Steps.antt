@@ -13,6 +13,7 @@ use Rattle.ea_machine.specs.State.{State}
 use Rattle.ea_machine.specs.Machine.{IsReached, step}
 use Rattle.ea_machine.specs.Machine.{after_row, onward, wants}
 use Rattle.ea_machine.specs.Rows.{Answer, Row}
+use Rattle.ea_machine.specs.Statistics.{observed}
 use Rattle.ea_shared.specs.Calls.{Caller, Did, caller_of}
 use Rattle.ea_sched.specs.declared.state.Scheduler.{Scheduler}
 use Rattle.ea_sched.specs.Acting.{actor_of, setup_for, standing_at}
@@ -74,3 +75,10 @@ pub record DidRow (stage : Stage Content) (s t : Scheduler) (shared after : Opti
   pub did : Did s.number row got shared after caller now
   pub is : actor_of t ≡ onward (setup_for s) s.number
       (after_row (setup_for s) s.number (standing_at stage s) got stage)
+
+-- the same, with the figures of the scheduler's carriers observed after it
+pub record ObservedRow (stage : Stage Content) (s t : Scheduler) (shared after : Option Shared)
+    (caller now : Option Caller) : Type 0 where
+  pub gone_on : Scheduler
+  pub row : DidRow stage s gone_on shared after caller now
+  pub is : actor_of t ≡ observed (actor_of gone_on)

@@ -1,11 +1,12 @@
 //! A step of a scheduler.
-ghost use Rattle.std.specs.Prelude.{◌≡◌, ◌≢◌, ◌↔◌, true, false, [], IfOk, OnErr, OnOk, Ok, Err};
+ghost use Rattle.std.specs.Prelude.{◌≡◌, ◌≢◌, ◌↔◌, ℕ, true, false, [], IfOk, OnErr, OnOk, Ok, Err};
+ghost use Rattle.ea_machine.specs.declared.asks.Ask.{Ask};
 ghost use Rattle.ea_machine.specs.declared.stages.Stage.TheVariants as stage;
 ghost use Rattle.ea_machine.specs.Setup.{migration};
 ghost use Rattle.ea_machine.specs.Statistics as statistics;
 ghost use Rattle.ea_sched.specs.Acting.{IsSame, actor_of, is_ended, setup_for};
 ghost use Rattle.ea_sched.specs.declared.step.Progress.TheVariants as progress;
-ghost use Rattle.ea_sched.specs.Steps.{DidRow, IsReady, StartsRow, Stepped};
+ghost use Rattle.ea_sched.specs.Steps.{DidRow, IsReady, ObservedRow, StartsRow, Stepped};
 
 use crate::state::Scheduler;
 use ea_machine::Stage;
@@ -35,8 +36,9 @@ impl<'t> Scheduler<'t> {
         self.sbcs.observe(sbcs);
     }
 
-    /// Does the row that is next, and goes on by its answer, up to the next one.
-    fn advance<S: Shared<Content = Mbc>>(
+    /// Does the row that is next, which is no look of a search, and goes on by its answer, up to
+    /// the next one.
+    fn do_row<S: Shared<Content = Mbc>>(
         &mut self,
         alloc: Global,
         shared: &mut S,
@@ -45,6 +47,8 @@ impl<'t> Scheduler<'t> {
             (S.schedulers shared.old) (S.greatest shared.old) (S.migrates shared.old)
             (S.shared shared.old) (S.caller shared.old) }
         requires goes { is_ended self.old.stage ≡ false }
+        requires other { (ask : Ask) (at looked : ℕ)
+            → self.old.stage ≢ stage.Searching ask at looked }
         ensures stays { S.stays shared.old shared.new }
         ensures same { IsSame self.old self.new }
         ensures row { OnOk result (DidRow self.old.stage self.old self.new
@@ -58,7 +62,6 @@ impl<'t> Scheduler<'t> {
             },
             Stage::Routed { route, why, gone } => self.turn(alloc, shared, route, why, gone),
             Stage::Collecting { number } => self.receive(alloc, shared, number),
-            Stage::Searching { ask, at, looked } => self.search(alloc, shared, ask, at, looked),
             Stage::Fetching {
                 ask,
                 at,
@@ -74,8 +77,33 @@ impl<'t> Scheduler<'t> {
                 self.try_take(shared, name, tries, left);
                 Ok(())
             }
-            Stage::Ended | Stage::Ready => unreachable!(),
+            Stage::Searching { .. } | Stage::Ended | Stage::Ready => unreachable!(),
         }
+    }
+
+    /// Does the row that is next, and goes on by its answer, up to the next one, with the figures
+    /// of its carriers observed. A look of a search changes none of them.
+    fn advance<S: Shared<Content = Mbc>>(
+        &mut self,
+        alloc: Global,
+        shared: &mut S,
+    ) -> Result<(), OutOfMemory>
+        requires starts { StartsRow self.old.stage self.old
+            (S.schedulers shared.old) (S.greatest shared.old) (S.migrates shared.old)
+            (S.shared shared.old) (S.caller shared.old) }
+        requires goes { is_ended self.old.stage ≡ false }
+        ensures stays { S.stays shared.old shared.new }
+        ensures same { IsSame self.old self.new }
+        ensures row { OnOk result (ObservedRow self.old.stage self.old self.new
+            (S.shared shared.old) (S.shared shared.new)
+            (S.caller shared.old) (S.caller shared.new)) }
+    {
+        if let Stage::Searching { ask, at, looked } = self.stage {
+            return self.search(alloc, shared, ask, at, looked);
+        }
+        self.do_row(alloc, shared)?;
+        self.observe();
+        Ok(())
     }
 
     /// Takes one atomic step on what is shared, and does all up to the next one. An `Err` says that
@@ -117,7 +145,6 @@ impl<'t> Scheduler<'t> {
             self.failed = true;
             return Err(OutOfMemory);
         }
-        self.observe();
         Ok(Progress::Went)
     }
 }

@@ -148,6 +148,7 @@ pub mod WordCalls
 pub mod ReleasingCalls
 pub mod AskedCalls
 pub mod WalkCalls
+pub mod Observed
 pub mod OffWalks
 pub mod OffStages
 pub mod Paths

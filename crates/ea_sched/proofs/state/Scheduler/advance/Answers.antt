@@ -1,65 +1,16 @@
-use Rattle.std.proofs.Common.{◌≡◌, true, false, inl, inr, refl, sym, ap, ◌∙◌}
+use Rattle.std.proofs.Common.{sym, subst}
 use Rattle.std.proofs.lemmas.Result.{on_ok_weaker}
-use Rattle.ea_machine.specs.declared.stages.Stage.TheVariants.{Begin, Routed, Collecting}
-use Rattle.ea_machine.specs.declared.stages.Stage.TheVariants.{Searching, Fetching, Creating}
-use Rattle.ea_sched.specs.Acting.{is_ended}
-use Rattle.ea_sched.proofs.Doing.{restaged}
-use Rattle.ea_sched.proofs.StandsOn.{never-ready}
+use Rattle.ea_sched.specs.Steps.{ObservedRow}
+use Rattle.ea_sched.proofs.Seeking.{search-observed}
 use Rattle.ea_sched.proofs.state.Scheduler.advance.Goals as goal
 
-pub unreachable-requires : goal.unreachable-requires
-unreachable-requires g c = elim c.in-Ended.is [
-  | inl ended ↦
-      let no : true ≡ false = ap is_ended (sym ended ∙ c.replace.ensures.value) ∙ c.requires.goes in
-      cc
-  | inr ready ↦ never-ready c.args.self.now c.requires.starts.ready
-      (sym c.replace.ensures.value ∙ ready)
-]
-
-pub returns-in-None-clause-row : goal.returns-in-None-clause-row
-returns-in-None-clause-row g c = on_ok_weaker c.take_queue.result
-    (restaged c.args.self.now _ c.take_queue.new.self Begin c.args.self.now.stage
-    (sym c.in-Begin.is ∙ c.replace.ensures.value) refl refl refl refl)
-    c.take_queue.ensures.row
-
-pub returns-in-Some-clause-row : goal.returns-in-Some-clause-row
-returns-in-Some-clause-row g c = on_ok_weaker c.pass.result
-    (restaged c.args.self.now _ c.pass.new.self Begin c.args.self.now.stage
-    (sym c.in-Begin.is ∙ c.replace.ensures.value) refl refl refl refl)
-    c.pass.ensures.row
-
-pub returns-in-Routed-clause-row : goal.returns-in-Routed-clause-row
-returns-in-Routed-clause-row g c = on_ok_weaker c.turn.result
-    (restaged c.args.self.now _ c.turn.new.self
-    (Routed c.in-Routed.route c.in-Routed.why c.in-Routed.gone) c.args.self.now.stage
-    (sym c.in-Routed.is ∙ c.replace.ensures.value) refl refl refl refl)
-    c.turn.ensures.row
-
-pub returns-in-Collecting-clause-row : goal.returns-in-Collecting-clause-row
-returns-in-Collecting-clause-row g c = on_ok_weaker c.receive.result
-    (restaged c.args.self.now _ c.receive.new.self
-    (Collecting c.in-Collecting.number) c.args.self.now.stage
-    (sym c.in-Collecting.is ∙ c.replace.ensures.value) refl refl refl refl)
-    c.receive.ensures.row
-
 pub returns-in-Searching-clause-row : goal.returns-in-Searching-clause-row
-returns-in-Searching-clause-row g c = on_ok_weaker c.search.result
-    (restaged c.args.self.now _ c.search.new.self
-    (Searching c.in-Searching.ask c.in-Searching.at c.in-Searching.looked) c.args.self.now.stage
-    (sym c.in-Searching.is ∙ c.replace.ensures.value) refl refl refl refl)
+returns-in-Searching-clause-row g c =
+    let s = c.args.self.now in
+    on_ok_weaker c.search.result
+    (λ did. subst (λ at. ObservedRow at s c.search.new.self (g.S.Shared.shared c.args.shared.now)
+    (g.S.Shared.shared c.search.new.shared) (g.S.Shared.caller c.args.shared.now)
+    (g.S.Shared.caller c.search.new.shared)) (sym c.in-Searching.is)
+    (search-observed s c.requires.starts.ready c.in-Searching.ask c.in-Searching.at
+    c.in-Searching.looked c.in-Searching.is did))
     c.search.ensures.row
-
-pub returns-in-Fetching-clause-row : goal.returns-in-Fetching-clause-row
-returns-in-Fetching-clause-row g c = on_ok_weaker c.fetch.result
-    (restaged c.args.self.now _ c.fetch.new.self
-    (Fetching c.in-Fetching.ask c.in-Fetching.at c.in-Fetching.looked c.in-Fetching.seen)
-    c.args.self.now.stage
-    (sym c.in-Fetching.is ∙ c.replace.ensures.value) refl refl refl refl)
-    c.fetch.ensures.row
-
-pub returns-in-Creating-clause-row : goal.returns-in-Creating-clause-row
-returns-in-Creating-clause-row g c = on_ok_weaker c.make.result
-    (restaged c.args.self.now _ c.make.new.self
-    (Creating c.in-Creating.ask c.in-Creating.plan) c.args.self.now.stage
-    (sym c.in-Creating.is ∙ c.replace.ensures.value) refl refl refl refl)
-    c.make.ensures.row

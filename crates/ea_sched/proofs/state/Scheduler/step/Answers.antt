@@ -14,12 +14,11 @@ returns-then-ended-clause-step g c =
 after : goal.returns-clause-step
 after g c =
     let s = c.args.self.now in
-    row-stepped s c.advance.new.self (actor_of c.observe.new.self)
+    row-stepped s c.advance.new.self
     (g.S.Shared.shared c.args.shared.now) (g.S.Shared.shared c.advance.new.shared)
     (g.S.Shared.caller c.args.shared.now) (g.S.Shared.caller c.advance.new.shared)
     (c.requires.ready c.if-self.false) (sym c.ended.ensures ∙ c.if-ended.false)
     (went c.advance.result c.advance.ensures.row c.if-is_err.ensures.value)
-    c.observe.ensures.actor
 
 pub returns-clause-step : goal.returns-clause-step
 returns-clause-step g c = after g c
@@ -31,10 +30,8 @@ returns-clause-went g c = λ _.
 pub returns-clause-ready : goal.returns-clause-ready
 returns-clause-ready g c =
     let s = c.args.self.now in
-    let mid = c.advance.ensures.same in
-    let end = c.observe.ensures.same in
-    step-ready s c.observe.new.self
+    let same = c.advance.ensures.same in
+    step-ready s c.advance.new.self
     (g.S.Shared.shared c.args.shared.now) (g.S.Shared.shared c.advance.new.shared)
     (g.S.Shared.caller c.args.shared.now) (g.S.Shared.caller c.advance.new.shared)
-    (end.config ∙ mid.config) (end.trace ∙ mid.trace) (end.number ∙ mid.number)
-    (c.requires.ready c.if-self.false) (after g c)
+    same.config same.trace same.number (c.requires.ready c.if-self.false) (after g c)
