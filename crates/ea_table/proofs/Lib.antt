@@ -2,7 +2,6 @@ pub mod Worded
 pub mod Laws
 pub mod Coding
 pub mod Rows
-pub mod Looking
 pub mod Fitting
 pub mod Opening
 pub mod Told

@@ -1,4 +1,5 @@
 pub mod Words
+pub mod Slots
 pub mod Ruling
 pub mod Seating
 pub mod Threads

@@ -1,10 +1,17 @@
--- The numbers of nodes, and the words of queues and links.
+-- The numbers of nodes and of owner words, and the words of queues and links.
 use Rattle.std.specs.Prelude.{◌≡◌, ℕ, ◌+◌, ◌-◌, ◌*◌, ◌/◌, ◌%◌, ◌^◌, ◌<◌, ◌≤◌, Option, None, Some}
 use Rattle.ea_machine.specs.declared.nodes.Node.{Node}
 use Rattle.ea_machine.specs.declared.nodes.Node.TheVariants.{Block, Carrier}
+use Rattle.ea_machine.specs.declared.owners.OwnerWord.{OwnerWord}
+use Rattle.ea_machine.specs.declared.owners.OwnerWord.TheVariants.{Absent, Employed, Pooled}
+use Rattle.ea_machine.specs.declared.owners.OwnerWord.TheVariants.{Busy, Returning}
 use Rattle.ea_word.specs.declared.nodes.TheConstants.{BLOCK_KIND, CARRIER_KIND, CARRIER_SHIFT}
 use Rattle.ea_word.specs.declared.nodes.TheConstants.{CODED_UNITS, MAX_CODED_CARRIER}
 use Rattle.ea_word.specs.declared.nodes.TheConstants.{MAX_CODED_NAME, NAME_SHIFT, OFFSET_SHIFT}
+use Rattle.ea_word.specs.declared.owners.TheConstants.{ABSENT_STATE, BUSY_STATE, CODED_LARGEST}
+use Rattle.ea_word.specs.declared.owners.TheConstants.{EMPLOYED_STATE, INSTANCE_SHIFT}
+use Rattle.ea_word.specs.declared.owners.TheConstants.{LARGEST_SHIFT, MAX_CODED_INSTANCE}
+use Rattle.ea_word.specs.declared.owners.TheConstants.{POOLED_STATE, RETURNING_STATE}
 use Rattle.ea_word.specs.declared.words.TheConstants.{NO_NODE, OLDEST}
 
 -- the node's fields have room in a number
@@ -30,3 +37,22 @@ head_code (Some node) = code_of node
 abbrev pub link_code : Option Node → ℕ
 link_code None = OLDEST
 link_code (Some node) = code_of node
+
+-- the owner word's fields have room in a number
+abbrev pub IsShown : OwnerWord → Type 0
+IsShown Absent = Unit {0}
+IsShown (Employed instance) = (1 ≤ instance) × (instance ≤ MAX_CODED_INSTANCE)
+IsShown (Pooled instance largest) = (1 ≤ instance) × (instance ≤ MAX_CODED_INSTANCE)
+    × (largest % 2 ≡ 0) × (largest < CODED_LARGEST)
+IsShown (Busy instance) = (1 ≤ instance) × (instance ≤ MAX_CODED_INSTANCE)
+IsShown (Returning instance) = (1 ≤ instance) × (instance ≤ MAX_CODED_INSTANCE)
+
+-- the number of an owner word: its state, and above it the instance, and half the largest gap of a
+-- pooled carrier
+abbrev pub owner_code : OwnerWord → ℕ
+owner_code Absent = ABSENT_STATE
+owner_code (Employed instance) = EMPLOYED_STATE + 2 ^ INSTANCE_SHIFT * (instance - 1)
+owner_code (Pooled instance largest) = POOLED_STATE + 2 ^ INSTANCE_SHIFT * (instance - 1)
+    + 2 ^ LARGEST_SHIFT * (largest / 2)
+owner_code (Busy instance) = BUSY_STATE + 2 ^ INSTANCE_SHIFT * (instance - 1)
+owner_code (Returning instance) = RETURNING_STATE + 2 ^ INSTANCE_SHIFT * (instance - 1)

@@ -1,4 +1,5 @@
-//! Nodes of queues as numbers of 64 bits, for words that schedulers share.
+//! Nodes of queues, and owner words of carriers, as numbers of 64 bits, for words that schedulers
+//! share.
 //!
 //! | Bits | Of a block's number | Bits | Of a carrier's number |
 //! |---|---|---|---|
@@ -12,9 +13,21 @@
 //! units. Different nodes have different numbers, and a number gives its node back. The number 0 is
 //! no node's, and 1 isn't either: they are the words of a queue without nodes, and of a list's
 //! oldest node.
+//!
+//! | Bits | Of an owner word's number |
+//! |---|---|
+//! | 0 to 2 | 0 absent, 1 employed, 2 pooled, 3 busy, 4 returning |
+//! | 3 to 7 | its instance less one, or 0 if absent |
+//! | 8 to 38 | half of its largest gap in units if pooled, else 0 |
+//! | 39 to 63 | 0 |
+//!
+//! So instances of 1 to 32 have room, and even largest gaps below 2^32 units. Different owner words
+//! have different numbers, and a number gives its owner word back. A node may have the number of an
+//! owner word: who reads a word knows which of them it is.
 #![tactic(auto)]
 
 mod nodes;
+mod owners;
 #[cfg(test)]
 mod tests;
 mod words;
@@ -22,5 +35,9 @@ mod words;
 pub use nodes::{
     BLOCK_KIND, CARRIER_KIND, CARRIER_SHIFT, CODED_UNITS, KINDS, MAX_CODED_CARRIER, MAX_CODED_NAME,
     NAME_SHIFT, OFFSET_SHIFT, decode_node, encode_node,
+};
+pub use owners::{
+    ABSENT_STATE, BUSY_STATE, CODED_LARGEST, EMPLOYED_STATE, INSTANCE_SHIFT, LARGEST_SHIFT,
+    MAX_CODED_INSTANCE, POOLED_STATE, RETURNING_STATE, STATES, decode, encode,
 };
 pub use words::{NO_NODE, OLDEST};

@@ -1,6 +1,6 @@
-//! Nodes and their numbers.
-use crate::{decode_node, encode_node};
-use ea_machine::Node;
+//! Nodes, owner words and their numbers.
+use crate::{decode, decode_node, encode, encode_node};
+use ea_machine::{Node, OwnerWord};
 use ea_model::Spot;
 
 fn block(name: u32, carrier: u32, offset: u32) -> Node {
@@ -60,5 +60,80 @@ fn other_numbers_are_no_nodes(rt: HostRuntime) {
         18_446_744_073_709_551_615,
     ] {
         assert_eq!(rt; decode_node(number), None, "at {number}");
+    }
+}
+
+fn employed(instance: u32) -> OwnerWord {
+    OwnerWord::Employed { instance }
+}
+
+fn pooled(instance: u32, largest: u32) -> OwnerWord {
+    OwnerWord::Pooled { instance, largest }
+}
+
+fn busy(instance: u32) -> OwnerWord {
+    OwnerWord::Busy { instance }
+}
+
+fn returning(instance: u32) -> OwnerWord {
+    OwnerWord::Returning { instance }
+}
+
+#[test]
+fn each_owner_word_has_its_number(rt: HostRuntime) {
+    for (number, word) in [
+        (0, OwnerWord::Absent),
+        (1, employed(1)),
+        (9, employed(2)),
+        // The greatest of a run, and the greatest that has room.
+        (121, employed(16)),
+        (249, employed(32)),
+        (2, pooled(1, 0)),
+        (258, pooled(1, 2)),
+        (4_191_498, pooled(2, 32_746)),
+        (549_755_813_882, pooled(32, 4_294_967_294)),
+        (3, busy(1)),
+        (19, busy(3)),
+        (251, busy(32)),
+        (4, returning(1)),
+        (124, returning(16)),
+        (252, returning(32)),
+    ] {
+        match decode(number) {
+            Some(decoded) => {
+                assert_eq!(rt; decoded, word, "at {number}");
+                assert_eq!(rt; encode(decoded), number, "at {number}");
+            }
+            None => assert!(rt; false, "no owner word has {number}"),
+        }
+    }
+}
+
+#[test]
+fn other_numbers_are_no_owner_words(rt: HostRuntime) {
+    for number in [
+        // States that there aren't.
+        5,
+        6,
+        7,
+        13,
+        255,
+        // An instance where no carrier is.
+        8,
+        248,
+        // A gap of what isn't pooled.
+        256,
+        257,
+        259,
+        260,
+        // A gap of 2^31 pairs, and the bits above.
+        549_755_813_890,
+        1_099_511_627_776,
+        1_099_511_627_777,
+        1_099_511_627_778,
+        9_223_372_036_854_775_810,
+        18_446_744_073_709_551_615,
+    ] {
+        assert_eq!(rt; decode(number), None, "at {number}");
     }
 }
