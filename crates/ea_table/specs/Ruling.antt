@@ -203,8 +203,10 @@ move_since v since = move_of (wants (actor_in v))
 
 -- others took some turns since those that the seat knew, and then its scheduler took a step, in
 -- which its row found that word; now the seat knows all turns up to that step, and has the slots
--- that the row left it
+-- that the row left it. The run is that of a valid trace
 pub record Took (m : Me Slot View) (found : ℕ) (n : Me Slot View) : Type 0 where
+  pub valid : IsValidConfig m.0.config
+  pub made : IsValidTrace m.0.config.schedulers m.0.trace
   pub since : List ℕ
   pub others : All (λ i. i ≢ (acting m.0).number) since
   pub reads : Reads (acting m.0).number (wants (actor_in m.0)) (shared_since m.0 since) found
