@@ -1,6 +1,8 @@
 pub mod Worded
 pub mod Laws
+pub mod OwnerCodes
 pub mod Coding
+pub mod Housing
 pub mod Rows
 pub mod Fitting
 pub mod Opening

@@ -1,6 +1,6 @@
 -- The slots of the table: one for each carrier number, with the content that is at home there. A
 -- content is put into a slot, and taken out of it, by a seat that has claimed the slot.
-use Rattle.std.specs.Prelude.{◌≡◌, ◌≢◌, ◌⊎◌, ⊥, ℕ, ◌-◌, ◌*◌, ◌≤◌, Bool, true, false, List}
+use Rattle.std.specs.Prelude.{◌≡◌, ◌≢◌, ◌⊎◌, ℕ, ◌-◌, ◌*◌, ◌≤◌, Bool, true, false, List}
 use Rattle.std.specs.Prelude.{Option, None, Some, length}
 use mathlib.Core.Option.{some}
 use mathlib.Core.Option as maybe
@@ -48,8 +48,8 @@ module _ (homes : List (maybe.Option Slot)) where
   IsSlot claim_of number (Busy i) = IsEmpty claim_of i number
   IsSlot claim_of number (Returning i x) = IsHome number (Some x)
 
-  -- the slots have the contents that are at home. Each scheduler has claimed the slot of one carrier
-  -- that it has, or none, which is 0
+  -- the slots have the contents that are at home. Each scheduler has claimed the slot of one
+  -- carrier that it has, or none, which is 0
   pub record Houses (n : ℕ) (claim_of : ℕ → ℕ) (s : Shared) : Type 0 where
     pub count : length homes ≡ NUMBERS * n
     pub each : (number : ℕ) → 1 ≤ number → number ≤ NUMBERS * n
