@@ -329,6 +329,8 @@ module _ (about : About) (slots id i : ℕ) (f said : ℕ → ℕ) (v : View)
         (slice_set s.words i (f (slice_index s.words i))) (homes_after s.homes xs (act_of move))
         r.codes r.houses,
     record {
+      valid = h.valid;
+      made = h.made;
       since = sat.since;
       others = sat.others;
       reads = subst (λ l. Reads me (wants (actor_in v)) (run (setup_in v) l).shared found)
