@@ -90,6 +90,9 @@ module _ (hs : List (maybe.Option Slot)) (n : ℕ) (claim_of : ℕ → ℕ) (s :
     (h : Houses hs n claim_of s) (me : ℕ) where
   -- where one carrier changes, its slot, or what one scheduler has claimed
   module _ (k claim : ℕ) (now : List (maybe.Option Slot)) (u : Shared) where
+    abbrev Claimed : ℕ → ℕ → Type 0
+    Claimed i c = (c ≤ NUMBERS * n) × Has i c (u.places c)
+
     changed : length now ≡ length hs
         → ((j : ℕ) → 1 ≤ j → j ≢ k → get_elem? now (slot_at j) ≡ get_elem? hs (slot_at j))
         → ((j : ℕ) → j ≢ k → u.places j ≡ s.places j)
@@ -114,9 +117,6 @@ module _ (hs : List (maybe.Option Slot)) (n : ℕ) (claim_of : ℕ → ℕ) (s :
             (claimed_by i other (λ z. some_claim (put-other claim_of me claim i other ∙ z)))
       ];
     } where
-      abbrev Claimed : ℕ → ℕ → Type 0
-      Claimed i c = (c ≤ NUMBERS * n) × Has i c (u.places c)
-
       keeps_claim : (number : ℕ) → 1 ≤ number → number ≢ k → (i : ℕ) → claim_of i ≡ number
           → put claim_of me claim i ≡ number
       keeps_claim number low other i is = elim (cases_eq i me) [
@@ -131,6 +131,9 @@ module _ (hs : List (maybe.Option Slot)) (n : ℕ) (claim_of : ℕ → ℕ) (s :
         | inr ne ↦ subst (Has i (claim_of i)) (sym (stay (claim_of i) ne)) (h.claims i is).1
       ])
 
+  abbrev ClaimedAt : (ℕ → ℕ) → (ℕ → CarrierAt) → ℕ → Type 0
+  ClaimedAt f places i = (f i ≤ NUMBERS * n) × Has i (f i) (places (f i))
+
   -- a row that leaves all carriers where they are
   pub housed-same : (u : Shared) → u.places ≡ s.places
       → Houses hs n (put claim_of me (claim_of me)) u
@@ -141,13 +144,10 @@ module _ (hs : List (maybe.Option Slot)) (n : ℕ) (claim_of : ℕ → ℕ) (s :
         (sym same) (subst (λ f. IsSlot hs f number (s.places number)) (sym again)
         (h.each number low high));
     claims = λ i some_claim.
-        subst (λ (f : ℕ → CarrierAt). Claimed (put claim_of me (claim_of me)) f i)
-        (sym same) (subst (λ f. Claimed f s.places i) (sym again)
+        subst (λ (f : ℕ → CarrierAt). ClaimedAt (put claim_of me (claim_of me)) f i)
+        (sym same) (subst (λ f. ClaimedAt f s.places i) (sym again)
         (h.claims i (λ z. some_claim (ap (λ (f : ℕ → ℕ). f i) again ∙ z))));
   } where
-    abbrev Claimed : (ℕ → ℕ) → (ℕ → CarrierAt) → ℕ → Type 0
-    Claimed f places i = (f i ≤ NUMBERS * n) × Has i (f i) (places (f i))
-
     again : put claim_of me (claim_of me) ≡ claim_of
     again = put-again claim_of me (claim_of me) refl
 
