@@ -1,6 +1,6 @@
 -- The rule of the table: its words are the coding of what is shared after a list of steps, its slots
 -- have the contents that are at home, and each seat knows its scheduler as that stands then.
-use Rattle.std.specs.Prelude.{◌≡◌, ◌≢◌, ℕ, ◌≤◌, true, ◌==◌, if◌then◌else◌}
+use Rattle.std.specs.Prelude.{◌≡◌, ◌≢◌, ℕ, ◌≤◌, true, false, ◌==◌, if◌then◌else◌}
 use Rattle.std.specs.Prelude.{List, [], ◌∷◌, ◌++◌, All, map, Option, None, IfSome}
 use Rattle.std.specs.List.{range_with_len}
 use mathlib.Core.Option.{some}
