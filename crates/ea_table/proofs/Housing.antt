@@ -126,10 +126,13 @@ module _ (hs : List (maybe.Option Slot)) (n : ℕ) (claim_of : ℕ → ℕ) (s :
       ]
 
       claimed_by : (i : ℕ) → i ≢ me → claim_of i ≢ 0 → Claimed i (claim_of i)
-      claimed_by i other is = ((h.claims i is).0, elim (cases_eq (claim_of i) k) [
-        | inl q ↦ subst (λ c. Has i c (u.places c)) (sym q) (others i other q)
-        | inr ne ↦ subst (Has i (claim_of i)) (sym (stay (claim_of i) ne)) (h.claims i is).1
-      ])
+      claimed_by i other is = (
+        (h.claims i is).0,
+        elim (cases_eq (claim_of i) k) [
+          | inl q ↦ subst (λ c. Has i c (u.places c)) (sym q) (others i other q)
+          | inr ne ↦ subst (Has i (claim_of i)) (sym (stay (claim_of i) ne)) (h.claims i is).1
+        ],
+      )
 
   abbrev ClaimedAt : (ℕ → ℕ) → (ℕ → CarrierAt) → ℕ → Type 0
   ClaimedAt f places i = (f i ≤ NUMBERS * n) × Has i (f i) (places (f i))
@@ -177,12 +180,15 @@ module _ (hs : List (maybe.Option Slot)) (n : ℕ) (claim_of : ℕ → ℕ) (s :
       (had-slot hs (put claim_of me (claim_of me)) me k p has
       (subst (λ f. IsEmpty hs f me k) (sym (put-again claim_of me (claim_of me) refl))
       (slot-had hs claim_of me k (s.places k) had (h.each k low high)))))
-      (λ some_claim. ((h.claims me some_claim).0, elim (cases_eq (claim_of me) k) [
-        | inl q ↦ subst (λ c. Has me c (put s.places k p c)) (sym q)
-            (subst (Has me k) (sym here) has)
-        | inr other ↦ subst (Has me (claim_of me))
-            (sym (put-other s.places k p (claim_of me) other)) (h.claims me some_claim).1
-      ]))
+      (λ some_claim. (
+        (h.claims me some_claim).0,
+        elim (cases_eq (claim_of me) k) [
+          | inl q ↦ subst (λ c. Has me c (put s.places k p c)) (sym q)
+              (subst (Has me k) (sym here) has)
+          | inr other ↦ subst (Has me (claim_of me))
+              (sym (put-other s.places k p (claim_of me) other)) (h.claims me some_claim).1
+        ],
+      ))
       (λ i other is. absurd (other (has-one i me k (s.places k) (claimed-has i k low is) had)))
     where
       here : put s.places k p k ≡ p
