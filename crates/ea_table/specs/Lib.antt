@@ -2,5 +2,6 @@ pub mod Words
 pub mod Slots
 pub mod Ruling
 pub mod Seating
+pub mod Start
 pub mod Threads
 pub mod Ending
