@@ -5,6 +5,7 @@ pub mod Coding
 pub mod Housing
 pub mod Rows
 pub mod Fitting
+pub mod MainWords
 pub mod Opening
 pub mod Told
 pub mod Seating
