@@ -2,8 +2,10 @@
 
 It computes no placement. What it knows of time is the order of each section; that a give comes before the take that got
 its block, and after the last try of a take that did not; and that a block was put in a queue before another one lies in
-its place. These have to fit together. Only its owner places blocks in a carrier, so the lines of one section tell which
-of its blocks lie there at the same time, up to those that others queued and whose release no line tells.
+its place. These have to fit together. Where carriers don't migrate, only its owner places blocks in a carrier, so the
+lines of one section tell which of its blocks lie there at the same time, up to those that others queued and whose
+release no line tells. Where they migrate (`Moved`) less is known: two blocks that were placed over each other have an
+order, and those that no line ended lie there in the end.
 """
 import itertools
 import re
@@ -18,7 +20,8 @@ SMALLEST = 6
 MOST_SUBSETS = 2**12
 N = "(0|[1-9][0-9]*)"
 PLACE = f"{N} {N} {N}"
-FAIL = f"fail need {N} looked 0 (space|numbers)"
+FAIL = f"fail need {N} looked {N} (space|numbers)"
+MOST_LOOKED = 16
 FIGURES = " ".join(f"{it} {N} {N} {N}" for it in ("blocks", "blocks_size", "carriers", "carriers_size"))
 # What may follow the words of its operation that a line repeats.
 FORMS = {
@@ -38,7 +41,8 @@ FORMS = {
 }
 FORMS = {word: {it: re.compile(form) for it, form in forms.items()} for word, forms in FORMS.items()}
 REPEATED = {"alloc": 2, "realloc": 3, "take": 2}
-WORDS = f"owner {N} employed {N} base {N} pages {N} allocated {N} largest {N}"
+STANDINGS = "employed|pooled|busy|returning"
+WORDS = f"owner {N} ({STANDINGS}) {N} base {N} pages {N} allocated {N} largest {N}"
 CARRIER = re.compile(f"carrier {N} (main|multi|single) {WORDS}")
 TOTAL = re.compile(f"total carriers {N} units {N} live {N} queued {N} free {N} header {N}")
 
@@ -129,6 +133,7 @@ class Carrier:
     number: int
     kind: str
     owner: int
+    standing: str
     employer: int
     base: int
     pages: int
@@ -423,8 +428,9 @@ class History:
         return [it for it, lies in known if lies], [it for it, lies in known if lies is None]
 
     def check_failure(self, me, at, entry):
-        need, cause = entry.said
+        need, looked, cause = entry.said
         demand(need == need_of(entry.operation[-1]), f"'{entry}' does not need {need}")
+        demand(not looked, f"'{entry}' looked at {looked} carriers")
         if cause == "numbers":
             used = sum(it.owner == me and it.birth < at for it in self.blocks.values()) + bool(self.main)
             demand(used >= NUMBERS, f"'{entry}' had numbers")
@@ -475,17 +481,22 @@ class History:
         text = f"carrier {carrier.number}"
         regions, me = self.trace.regions, owner_of(carrier.number)
         demand(me < len(self.sections), f"{text} is nobody's")
-        demand(carrier.owner == carrier.employer == me + 1, f"{text} has another owner or employer than {me + 1}")
+        self.check_employer(carrier, me, text)
         inside = regions * me <= carrier.base and carrier.base + carrier.pages <= regions * (me + 1)
         demand(carrier.pages and inside, f"{text} lies outside its region")
         is_main = self.main > 0 and carrier.number == me * NUMBERS + 1
         demand((carrier.kind == "main") == is_main, f"{text} is {carrier.kind}")
         if is_main:
             demand((carrier.base, carrier.pages) == (regions * me, self.main), f"{text} is not where it was")
-        demand(is_main or carrier.allocated, f"{text} has no block")
+        is_away = carrier.standing == "returning"
+        demand(is_main or is_away or carrier.allocated, f"{text} has no block")
         rooms = {it.room for it in sure} or {it.room for it in maybe}
         demand(rooms <= {carrier.units if carrier.kind == "single" else 0}, f"{text} is {carrier.kind}")
         demand(are_some(carrier.has, sure, maybe), f"{text} has other blocks")
+
+    def check_employer(self, carrier, me, text):
+        demand(carrier.owner == carrier.employer == me + 1, f"{text} has another owner or employer than {me + 1}")
+        demand(carrier.standing == "employed", f"{text} is {carrier.standing}")
 
     def check_totals(self):
         carriers, allocated = len(self.carriers), sum(it.allocated for it in self.carriers)
@@ -510,5 +521,96 @@ def are_some(fits, sure, maybe):
     return 2 ** len(maybe) > MOST_SUBSETS or any(fits([*sure, *it]) for it in some)
 
 
+class Moved(History):
+    """The same of a trace whose carriers migrate: blocks of all schedulers may lie in a carrier, and who frees one tells
+    neither whose it was nor in which carrier's queue it was put."""
+
+    def place(self, me, at, entry):
+        number, offset, size = entry.place
+        demand(owner_of(number) < len(self.sections), f"'{entry}' placed in a carrier of nobody")
+        need = need_of(entry.operation[-1])
+        sizes, room = (need, need + 2, need + 4), 0
+        if entry.result == "here":
+            old = self.blocks.get(entry.operation[1])
+            demand(old and old.carrier == number and old.offset == offset, f"'{entry}' did not keep its place")
+            _, sizes, room = self.decide(old, need)
+        elif need > self.threshold:
+            demand(owner_of(number) == me, f"'{entry}' has a carrier of its own, of another scheduler")
+            sizes, room = (need,), pages_of(HEADER + need) * PAGE
+        demand(size in sizes, f"'{entry}' has {size} units and not {sizes}")
+        demand(offset == HEADER or not room and offset > HEADER and offset % 2 == 0, f"'{entry}' lies at {offset}")
+        demand(max(room, offset + size) <= self.trace.regions * PAGE, f"'{entry}' is larger than its region")
+        self.blocks[entry.operation[-2]] = Block(number, offset, size, room, (me, at))
+
+    def end_block(self, me, at, entry):
+        block = self.blocks.get(entry.operation[1])
+        is_there = block and (entry.result == "failed" or not block.death)
+        demand(is_there, f"'{entry}' is {entry.result}, and there is no such block")
+        if entry.result == "queued":
+            demand(entry.said[-1] != me + 1, f"'{entry}' is queued to its own scheduler")
+            demand(entry.said[-1] <= len(self.sections), f"'{entry}' is queued to nobody")
+        if entry.result != "failed":
+            block.death = me, at
+
+    def order_places(self):
+        carriers = {}
+        for block in self.blocks.values():
+            carriers.setdefault(block.carrier, []).append(block)
+        for blocks in carriers.values():
+            for one, other in itertools.combinations(blocks, 2):
+                if one.clashes(other):
+                    self.put_apart(one, other)
+
+    def put_apart(self, one, other):
+        """Of two blocks that cannot lie there together one ends before the other begins: which one is known where the
+        other never ends, or where a section has both."""
+        orders = [it for it in ((one, other), (other, one)) if self.may_follow(*it)]
+        demand(orders, f"two blocks lie at {one.offset} and {other.offset} of carrier {one.carrier}")
+        if len(orders) == 1:
+            (earlier, later), = orders
+            (section, end), (me, birth) = earlier.death, later.birth
+            if section != me:
+                self.order.put(self.order.first[section][end], self.order.last[me][birth])
+
+    def may_follow(self, earlier, later):
+        if not earlier.death:
+            return False
+        (section, end), (me, birth) = earlier.death, later.birth
+        return section != me or end < birth or end == birth and self.sections[me][birth].result == "here"
+
+    def check_failure(self, me, at, entry):
+        need, looked, _ = entry.said
+        demand(need == need_of(entry.operation[-1]), f"'{entry}' does not need {need}")
+        demand(looked <= (0 if need > self.threshold else MOST_LOOKED), f"'{entry}' looked at {looked} carriers")
+
+    def check_infos(self, me):
+        before = {}
+        for entry in self.sections[me]:
+            if entry.result == "told":
+                for kind, figures in enumerate((entry.said[:12], entry.said[12:])):
+                    check_columns(figures, before.get(kind))
+                    before[kind] = figures
+
+    def lying(self, me, at):
+        """At the end, the blocks of carriers of a scheduler that no line ended, and those that were queued."""
+        known = [it for it in self.blocks.values() if it.owner == me]
+        queued = [it for it in known if it.death and self.result_of(it.death) == "queued"]
+        return [it for it in known if not it.death], queued
+
+    def result_of(self, death):
+        section, at = death
+        return self.sections[section][at].result
+
+    def check_employer(self, carrier, me, text):
+        demand(carrier.owner == me + 1, f"{text} has another owner than {me + 1}")
+        demand(1 <= carrier.employer <= len(self.sections), f"{text} has an employer that there is not")
+        demand(carrier.standing != "busy", f"{text} is busy when all have ended")
+        stays = carrier.kind == "multi" or carrier.employer == me + 1 and carrier.standing == "employed"
+        demand(stays, f"{text} is {carrier.kind}, and left its owner")
+        is_home = carrier.standing != "returning" or carrier.employer == me + 1
+        demand(is_home, f"{text} returns to another than its owner")
+
+
 def check(trace, text):
-    History(trace, text).check()
+    kind = Moved if trace.values["acul"] else History
+    kind(trace, text).check()

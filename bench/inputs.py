@@ -2,12 +2,13 @@
 """Makes the traces that bench/measure runs: python3 bench/inputs.py FOLDER.
 
 They are the same bytes on every machine, and good under the flags +MMscs 512 +MHacul 0, with +S as many schedulers as
-they have. Those in FOLDER/strategies are
-for +MHlmbcs 256 and a strategy besides. Those in FOLDER/migrating are for any acul, the one with carriers of one page
-(+MHsmbcs 4 +MHlmbcs 4), the other with a main carrier of 20 MB. In filled and changing no allocation fails under a strategy that looks at all
-gaps. Good fit runs out of carriers there, and has fewer blocks in fewer-filled and fewer-changing; under address fit
-nearly each block would have a carrier, and it has blocks of one size in equal-filled and equal-changing. Those in
-FOLDER/threads end with `threads`, and the same operations by a schedule are in FOLDER/schedules.
+they have. Those in FOLDER/strategies are for +MHlmbcs 256 and a strategy besides. Those in FOLDER/migrating are for any
+acul, the one with carriers of one page (+MHsmbcs 4 +MHlmbcs 4), the other with a main carrier of 20 MB. In filled and
+changing no allocation fails under a strategy that looks at all gaps. Good fit runs out of carriers there, and has fewer
+blocks in fewer-filled and fewer-changing; under address fit nearly each block would have a carrier, and it has blocks of
+one size in equal-filled and equal-changing. Those in FOLDER/threads end with `threads`, and the same operations by a
+schedule are in FOLDER/schedules; mingled is for carriers of 512 kB, one of them main, and mingled and contended for an
+acul of 60.
 """
 import itertools
 import os
@@ -24,6 +25,7 @@ TRIES_IN_ALL = 10**8
 GREATEST_NAME = 2**18
 TINY = 100
 SMALL = 3000
+LARGE = 480_000
 LARGEST = 524280
 # Twenty blocks of that many bytes fill a carrier of 256 kB to its end.
 TWENTIETH = 13096
@@ -202,8 +204,60 @@ def searching(schedulers, count):
     return sections_of(texts) + CLOSING
 
 
+def mingled(schedulers, count):
+    """Some `count` operations in all, as many of each scheduler, which has about 1000 small blocks. A quarter of what it
+    frees it gives to the next one, which frees it. Every hundredth block that it allocates finds no room in the main
+    carrier, so that the pool is searched; it is freed at once."""
+    pick, names, often = random.Random(9).random, itertools.count(1), itertools.count(1)
+    texts, held, coming = ([[] for _ in range(schedulers)] for _ in range(3))
+
+    def work(me, going):
+        """What comes next of a scheduler; it notes what goes to the next one."""
+        if len(held[me]) < 900 or len(held[me]) < 1000 and pick() < 0.5:
+            name, is_large = next(names), next(often) % 100 == 0
+            texts[me].append(f"alloc {name} {LARGE if is_large else int(pick() * (TINY + 1))}\n")
+            if is_large:
+                texts[me].append(f"free {name}\n")
+            else:
+                held[me].append(name)
+            return
+        at = int(pick() * len(held[me]))
+        held[me][at], held[me][-1] = held[me][-1], held[me][at]
+        name = held[me].pop()
+        if pick() < 0.25:
+            texts[me].append(f"give {name} {(me + 1) % schedulers + 1}\n")
+            going.append(name)
+        else:
+            texts[me].append(f"free {name}\n")
+
+    while sum(map(len, texts)) < count:
+        went = [[] for _ in range(schedulers)]
+        for me in range(schedulers):
+            texts[me] += [f"take {it} 2000\nfree {it}\n" for it in coming[me]]
+            for _ in range(200):
+                work(me, went[(me + 1) % schedulers])
+        coming = went
+    return sections_of(texts)
+
+
+def contended(schedulers, count):
+    """`count` operations in all, as many of each scheduler: each second free leaves so little in a carrier that it is
+    abandoned, and the next block has to be placed in a carrier that is fetched, whosever it was."""
+    names, texts = itertools.count(1), []
+    for _ in range(schedulers):
+        text = []
+        for _ in range(count // schedulers // 4):
+            one, other = next(names), next(names)
+            text += [f"alloc {one} {TINY}\n", f"alloc {other} {TINY}\n", f"free {one}\n", f"free {other}\n"]
+        texts.append([f"alloc {next(names)} {TINY}\n", *text])
+    return sections_of(texts)
+
+
 def for_threads():
     """Sections that run with `threads`, and the end of the same trace by a schedule."""
+    for schedulers in (1, 4):
+        yield f"mingled-{schedulers}", mingled(schedulers, 200_000), CLOSING
+        yield f"contended-{schedulers}", contended(schedulers, 100_000), CLOSING
     for schedulers in (1, 2, 4):
         yield f"disjoint-{schedulers}", disjoint(schedulers, 200_000, 8, SMALL), CLOSING
         yield f"disjoint-crowded-{schedulers}", disjoint(schedulers, 200_000, 1000, TINY), CLOSING

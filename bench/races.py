@@ -1,9 +1,9 @@
 """The small random traces that bench/threads runs: the same for the same number on every machine.
 
-`race` makes one of 2 to 8 schedulers with operations of all kinds and random flags. In most of them all schedulers meet
-before their operations, so that these run beside each other, and in some once more after them, so that all queues are
-worked off in the end. `duel` makes one of two schedulers that meet and then have at most three operations each, and
-tells which lists of turns lead to all that these can give.
+`race` makes one of 2 to 8 schedulers with operations of all kinds and random flags; in half of them carriers migrate. In
+most of them all schedulers meet before their operations, so that these run beside each other, and in some once more
+after them, so that all queues are worked off in the end. `duel` makes one of two schedulers that meet and then have at
+most three operations each, and tells which lists of turns lead to all that these can give; there no carrier migrates.
 """
 import itertools
 import math
@@ -14,6 +14,7 @@ LETTERS = "BDEHLRST"
 STRATEGIES = "bf aobf aoff aoffcbf aoffcaobf ageffcaoff ageffcbf ageffcaobf gf af".split()
 DEFAULTS = {
     "as": "aoffcbf",
+    "acul": 0,
     "sbct": 512,
     "smbcs": 256,
     "lmbcs": 5120,
@@ -26,6 +27,7 @@ DEFAULTS = {
     "rmbcmt": 50,
     "ramv": "false",
 }
+ACULS = [20, 60, 60, 100]
 CHOICES = {
     "as": STRATEGIES,
     "sbct": [1, 2, 8, 64],
@@ -194,19 +196,24 @@ class Sections:
             self.take(it, going, PATIENCE)
 
 
-def some_values(pick, megabytes, schedulers):
-    """Values for half of the parameters; a main carrier takes half of its region at most."""
+def some_values(pick, megabytes, schedulers, may_migrate):
+    """Values for half of the parameters; a main carrier takes half of its region at most. Where they may, carriers
+    migrate in half of them."""
     values = {key: pick.choice(it) for key, it in CHOICES.items() if pick.random() < 0.5}
     most = megabytes * PAGES_OF_A_MB // schedulers * KB_OF_A_PAGE // 2
     if values.get("mmbcs", 0) > most or pick.random() < 0.5:
         values.pop("mmbcs", None)
+    if may_migrate and pick.random() < 0.5:
+        values["acul"] = pick.choice(ACULS)
+        if pick.random() < 0.3:
+            values["acfml"] = pick.choice([0, 1000, 100_000])
     return values
 
 
 def words_of(pick, letter, schedulers, megabytes, values):
     """The flags in a random order, some of them for all letters."""
     pairs = [("+S", schedulers), ("+MMscs", megabytes)]
-    if letter != "T" or pick.random() < 0.5:
+    if "acul" not in values and (letter != "T" or pick.random() < 0.5):
         pairs.append((f"+M{pick.choice(['u', letter])}acul", 0))
     pairs += [(f"+M{pick.choice(['u', letter])}{key}", it) for key, it in values.items()]
     pick.shuffle(pairs)
@@ -224,8 +231,8 @@ def race(number):
     """A trace of 2 to 8 schedulers."""
     pick = random.Random(number)
     schedulers, megabytes = pick.randint(2, 8), pick.choice([1, 1, 2, 4, 64])
-    values = some_values(pick, megabytes, schedulers)
     letter = pick.choice(LETTERS)
+    values = some_values(pick, megabytes, schedulers, letter != "T")
     threshold = values.get("sbct", DEFAULTS["sbct"])
     made = Sections(pick, schedulers, some_names(pick), threshold)
     if pick.random() < 0.8:
@@ -328,7 +335,7 @@ def duel(number):
 
 
 def some_duel(pick):
-    values, letter = some_values(pick, 64, 2), pick.choice(LETTERS)
+    values, letter = some_values(pick, 64, 2, False), pick.choice(LETTERS)
     threshold = min(values.get("sbct", DEFAULTS["sbct"]), 8)
     made = Sections(pick, 2, iter(range(1, 100)), threshold, TELLING_OPERATIONS, FEW_TRIES)
     opening = meeting(made, pick)
