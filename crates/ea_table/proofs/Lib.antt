@@ -8,6 +8,9 @@ pub mod Fitting
 pub mod MainWords
 pub mod Opening
 pub mod Told
+pub mod Owning
+pub mod OwnerSteps
+pub mod OwnerTold
 pub mod Seating
 pub mod Dealing
 pub mod Taking
