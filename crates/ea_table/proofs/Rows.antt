@@ -284,8 +284,8 @@ pub moved : (c d : Config) (t u : Trace) → c ≡ d → t ≡ u → (P : Config
     → P c t → P d u
 moved c d t u p q P x = subst (λ k. P k u) p (subst (λ k. P c k) q x)
 
--- what a row needs of words and slots that stand for what is shared: the word that it finds, and the
--- words and slots that it leaves
+-- what a row needs of words and slots that stand for what is shared: the word that it finds, and
+-- the words and slots that it leaves
 pub record Fits (v : View) (xs : List (ℕ × Slot)) (row : Row) (i : ℕ) (f said : ℕ → ℕ) (s : Shared)
     (claim_of : ℕ → ℕ) (ws : List ℕ) (hs : List (maybe.Option Slot)) : Type 0 where
   pub reads : Reads (acting v).number row s (said (slice_index ws i))
@@ -376,8 +376,8 @@ module _ (about : About) (slots id i : ℕ) (f said : ℕ → ℕ) (v : View)
       (λ c t. Keeps c t s → Result s c t)
       (allowed wanted goes fits s there) h
 
--- what a look needs of slots that stand for what is shared: those that it leaves, where the seat has
--- claimed the slot of that carrier
+-- what a look needs of slots that stand for what is shared: those that it leaves, where the seat
+-- has claimed the slot of that carrier
 abbrev pub FitsLook : View → List (ℕ × Slot) → Act Slot → ℕ → Type 0
 FitsLook v xs act claim = (L : List ℕ)
     → IsValidConfig v.config → IsValidTrace v.config.schedulers v.trace

@@ -90,8 +90,8 @@ module _ (b : Board) (p : Pass) (xs : List (ℕ × Slot)) (at : IsSeatedAt b p) 
       (λ n g. IsNode n g node → MayStep (head_at to) (λ _. code_of node) (λ found. found))
       (λ fits. allows about slots id (head_at to) (λ _. code_of node) (λ found. found) v xs st
       (Push node to) is wanted.1 (λ q. cc)
-      (fits-pushed v (mine wanted.0) xs node to fits target.0 (omega (arith, target.1, at.schedulers))
-      wanted.1)) fits)
+      (fits-pushed v (mine wanted.0) xs node to fits target.0
+      (omega (arith, target.1, at.schedulers)) wanted.1)) fits)
 
   pub links : (node : Node) (to : ℕ) → IsNode n g node → IsScheduler n to
       → WantsRow me (Link node to) (caller_in v) → (i new : ℕ) → i ≡ link_at n g node
@@ -124,4 +124,5 @@ module _ (b : Board) (p : Pass) (xs : List (ℕ × Slot)) (at : IsSeatedAt b p) 
       (λ n g. MayStep (name_at n g name) (λ _. 0) (λ found. found))
       (allows about slots id (name_at v.config.schedulers v.trace.greatest name) (λ _. 0)
       (λ found. found) v xs st (TakeTry name) is wanted.1 (λ q. cc)
-      (fits-tried v (mine wanted.0) xs name named.0 (omega (arith, named.1, at.greatest)) wanted.1)))
+      (fits-tried v (mine wanted.0) xs name named.0 (omega (arith, named.1, at.greatest))
+      wanted.1)))

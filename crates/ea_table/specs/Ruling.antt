@@ -1,5 +1,5 @@
--- The rule of the table: its words are the coding of what is shared after a list of steps, its slots
--- have the contents that are at home, and each seat knows its scheduler as that stands then.
+-- The rule of the table: its words are the coding of what is shared after a list of steps, its
+-- slots have the contents that are at home, and each seat knows its scheduler as that stands then.
 use Rattle.std.specs.Prelude.{◌≡◌, ◌≢◌, ℕ, ◌≤◌, true, false, ◌==◌, if◌then◌else◌}
 use Rattle.std.specs.Prelude.{List, [], ◌∷◌, ◌++◌, All, map, Option, None, IfSome}
 use Rattle.std.specs.List.{range_with_len}
@@ -218,8 +218,8 @@ pub record Took (m : Me Slot View) (found : ℕ) (n : Me Slot View) : Type 0 whe
 abbrev pub steps : Step Slot → Me Slot View → ℕ → Me Slot View → Type 0
 steps step m found n = Took m found n
 
--- a look of a seat at the owner word of a carrier, by which it claims the slot of the carrier, which
--- is empty. It is no step of its scheduler, and changes nothing that is shared
+-- a look of a seat at the owner word of a carrier, by which it claims the slot of the carrier,
+-- which is empty. It is no step of its scheduler, and changes nothing that is shared
 abbrev pub claims : Step Slot → Me Slot View → ℕ → Me Slot View → Type 0
 claims step m found n = (number : ℕ) → 1 ≤ number
     → step.word ≡ owner_at m.0.config.schedulers m.0.trace.greatest number

@@ -10,8 +10,8 @@ use ea_mbc::Mbc;
 use std::alloc::Global;
 
 /// The table of a run: what its schedulers share, in words that change in atomic steps, with a slot
-/// for the content of each carrier that no scheduler has. It keeps how many schedulers there are, and
-/// the greatest name of the trace.
+/// for the content of each carrier that no scheduler has. It keeps how many schedulers there are,
+/// and the greatest name of the trace.
 #[derive(Drop)]
 pub struct Board<'t> {
     pub table: Table<Option<Mbc>, View, About<'t>, Ruled, Global>,

@@ -29,6 +29,6 @@ returns-clause-row c =
     let took = c.swap-found.ensures.2 in
     let reads = reads-row m n c.args.me c.swap-found.result TakeAll took c.requires.wanted in
     head-row m n c.args.me c.swap-found.result TakeAll took c.requires.wanted
-    (first_node
-    ((s m n c.args.me c.swap-found.result TakeAll took c.requires.wanted).queues (acting m.0).number))
+    (first_node ((s m n c.args.me c.swap-found.result TakeAll took c.requires.wanted).queues
+    (acting m.0).number))
     c.decode_node.result refl reads (c.decode_node.ensures.coded, c.decode_node.ensures.only)
