@@ -55,6 +55,5 @@ same-is v w q = absurd cc
 pub other-code : (v w : OwnerWord) → IsShown v → IsShown w → same_word v w ≡ false
     → owner_code v ≢ owner_code w
 other-code v w p q other e =
-    let told : true ≡ false =
-        sym (same-itself v) ∙ ap (same_word v) (shown-same v w p q e) ∙ other in
-    absurd cc
+    let same = shown-same v w p q e in
+    let never : true ≡ false = sym (same-itself v) ∙ ap (same_word v) same ∙ other in absurd cc
