@@ -1,11 +1,17 @@
 -- Where carriers are, by the words and the slots of a closed table.
 use Rattle.std.proofs.Common.{◌≡◌, ◌≢◌, ℕ, zero, suc, ◌+◌, ◌*◌, ◌/◌, ◌%◌, ◌^◌, ◌≤◌, Bool, true}
-use Rattle.std.proofs.Common.{false, ◌&&◌, nat_le, List, [], ◌∷◌, Option, None, Some, slice_index}
+use Rattle.std.proofs.Common.{false, ◌&&◌, nat_le, List, [], ◌∷◌, None, Some, slice_index}
 use Rattle.std.proofs.Common.{slice_index_or, refl, sym, ap, ◌∙◌, subst, arith}
 use mathlib.Core.Option.{some, some-injective, some-ne-none}
 use lib.ListN.{get_elem?}
+use Rattle.ea_model.specs.declared.settings.Config.{Config}
+use Rattle.ea_model.specs.declared.trace.Trace.{Trace}
 use Rattle.ea_model.specs.declared.units.TheConstants.{NUMBERS}
 use Rattle.ea_model.specs.Content.{Content}
+use Rattle.ea_machine.specs.declared.nodes.Named.{Named}
+use Rattle.ea_machine.specs.State.{State}
+use Rattle.ea_outcome.specs.Resting.{StandIn}
+use Rattle.ea_sched.specs.declared.state.Scheduler.{Scheduler}
 use Rattle.ea_machine.specs.declared.owners.OwnerWord.{OwnerWord}
 use Rattle.ea_machine.specs.declared.owners.OwnerWord.TheVariants as word
 use Rattle.ea_machine.specs.Owners.{CarrierAt, Absent, Employed, Pooled, Busy, Returning, word_of}
@@ -14,7 +20,8 @@ use Rattle.ea_word.specs.declared.owners.TheConstants.{BUSY_STATE, EMPLOYED_STAT
 use Rattle.ea_word.specs.declared.owners.TheConstants.{LARGEST_SHIFT, MAX_CODED_INSTANCE}
 use Rattle.ea_word.specs.declared.owners.TheConstants.{POOLED_STATE, RETURNING_STATE, STATES}
 use Rattle.ea_word.specs.Codes.{IsShown, owner_code}
-use Rattle.ea_table.specs.Ending.{HasPlaces, place_by, place_if, places_in, word_by, word_in}
+use Rattle.ea_table.specs.Ending.{AreGiven, HasPlaces, IsClosedIn, place_by, place_if}
+use Rattle.ea_table.specs.Ending.{places_in, word_by, word_in}
 use Rattle.ea_table.specs.Slots.{Slot, slot_at}
 use Rattle.ea_table.specs.Words.{owner_at, place_code}
 
@@ -118,51 +125,15 @@ word-told w found slot p shown is at coded =
     at ∙ ap (λ v. place_by v slot) (ap word_in is ∙ word-back w shown) in
     told-by w slot (sym is ∙ coded ∙ ap place_code here) ∙ ap word_of (sym here)
 
--- what is at home
-home-of_slot : (w : OwnerWord) (slot : Slot) (i g : ℕ)
-    → word_of (place_by w slot) ≡ word.Pooled i g → home_of (place_by w slot) ≡ slot
-home-of_slot word.Absent slot i g q = absurd cc
-home-of_slot (word.Employed j) slot i g q = absurd cc
-home-of_slot (word.Pooled j h) None i g q = absurd cc
-home-of_slot (word.Pooled j h) (Some x) i g q = refl
-home-of_slot (word.Busy j) slot i g q = absurd cc
-home-of_slot (word.Returning j) None i g q = absurd cc
-home-of_slot (word.Returning j) (Some x) i g q = absurd cc
-
-home-returned : (w : OwnerWord) (slot : Slot) (i : ℕ)
-    → word_of (place_by w slot) ≡ word.Returning i → home_of (place_by w slot) ≡ slot
-home-returned word.Absent slot i q = absurd cc
-home-returned (word.Employed j) slot i q = absurd cc
-home-returned (word.Pooled j h) None i q = absurd cc
-home-returned (word.Pooled j h) (Some x) i q = absurd cc
-home-returned (word.Busy j) slot i q = absurd cc
-home-returned (word.Returning j) None i q = absurd cc
-home-returned (word.Returning j) (Some x) i q = refl
-
-module _ (p : CarrierAt) (w : OwnerWord) (slot : Slot) (at : p ≡ place_by w slot) where
-  pub home-pooled : (i g : ℕ) → word_of p ≡ word.Pooled i g → home_of p ≡ slot
-  home-pooled i g q = ap home_of at ∙ home-of_slot w slot i g (ap word_of (sym at) ∙ q)
-
-  pub home-returning : (i : ℕ) → word_of p ≡ word.Returning i → home_of p ≡ slot
-  home-returning i q = ap home_of at ∙ home-returned w slot i (ap word_of (sym at) ∙ q)
-
-pub none-absent : (p : CarrierAt) → word_of p ≡ word.Absent → home_of p ≡ None
-none-absent Absent q = refl
-none-absent (Employed i) q = refl
-none-absent (Pooled i g x) q = absurd cc
-none-absent (Busy i) q = refl
-none-absent (Returning i x) q = absurd cc
-
-pub none-employed : (p : CarrierAt) (i : ℕ) → word_of p ≡ word.Employed i → home_of p ≡ None
-none-employed Absent i q = refl
-none-employed (Employed j) i q = refl
-none-employed (Pooled j g x) i q = absurd cc
-none-employed (Busy j) i q = refl
-none-employed (Returning j x) i q = absurd cc
-
-pub none-busy : (p : CarrierAt) (i : ℕ) → word_of p ≡ word.Busy i → home_of p ≡ None
-none-busy Absent i q = refl
-none-busy (Employed j) i q = refl
-none-busy (Pooled j g x) i q = absurd cc
-none-busy (Busy j) i q = refl
-none-busy (Returning j x) i q = absurd cc
+-- the schedulers stand in the state in which the table was closed
+pub stand-in : (c : Config) (t : Trace) (ss : List Scheduler) (ws : List ℕ) (xs : List Slot)
+    (w : State) → IsClosedIn c t ss ws xs w → (names : List Named)
+    → AreGiven c.schedulers t.greatest ws names
+    → StandIn c t ss (places_in c.schedulers t.greatest ws xs) names w
+stand-in c t ss ws xs w closed names are = record {
+  reached = closed.reached;
+  actors = closed.actors;
+  told = λ on number.
+      places-read c.schedulers t.greatest ws xs w.shared.places closed.places number;
+  given = are w.shared.given closed.given;
+}

@@ -15,6 +15,7 @@ pub mod Seating
 pub mod Dealing
 pub mod Taking
 pub mod Reading
+pub mod Closing
 pub mod Gathered
 pub mod Threading
 pub mod Working

@@ -90,6 +90,7 @@ struct Still<'a> {
     ghost slots_full: { IsFull closed.now.slots },
     ghost words: { slots_len closed.now.words ≡ words_in schedulers greatest },
     ghost slots: { slots_len closed.now.slots ≡ NUMBERS * schedulers },
+    ghost greatest_is: { given.greatest ≡ greatest },
     ghost owners: { (number : ℕ) → IsCarrier schedulers number
         → slice_index (slots_items closed.now.words) (owner_at schedulers greatest number)
         ≡ place_code (places_in schedulers greatest (slots_items closed.now.words)
@@ -102,7 +103,7 @@ impl<'a> Still<'a> {
     /// What is in the slot of a carrier.
     fn slot(&self, carrier: u32) -> Option<&Mbc>
         requires { IsCarrier self.now.schedulers carrier }
-        ensures { option_map (λ x. Mbc.content x.now) result
+        ensures { option_map (λ x. x.now) result
             ≡ slice_index_or (slots_items self.now.closed.now.slots) (slot_at carrier) None }
     {
         match self.closed.slots.get(slot_place(carrier)) {
