@@ -7,10 +7,13 @@ pub invariant_of-self : goal.invariant_of-self
 invariant_of-self c =
     let p = c.args.self.now.pass in
     let w = c.requires.wanted in
-    at-after c.args.me (Settle w.content) Done p.seat.me.0 c.settle_employed.new.self.seat.me.0
-    (c.settle_employed.ensures.row w.content w.emptied w.wants) c.args.self.now.board.now
-    p.seat.table_id c.settle_employed.new.self.seat.table_id c.settle_employed.ensures.seated
-    c.args.self.now.seated
+    record {
+      seated = at-after c.args.me (Settle w.content) Done p.seat.me.0
+          c.settle_employed.new.self.seat.me.0
+          (c.settle_employed.ensures.row w.content w.emptied w.wants) c.args.self.now.board.now
+          p.seat.table_id c.settle_employed.new.self.seat.table_id
+          c.settle_employed.ensures.seated c.args.self.now.seated;
+    }
 
 pub returns-clause-stays : goal.returns-clause-stays
 returns-clause-stays c =
