@@ -27,7 +27,7 @@ use Rattle.ea_machine.specs.Setup.{Setup, setup_of}
 use Rattle.ea_machine.specs.State.{State}
 use Rattle.ea_sched.specs.Acting.{actor_of}
 use Rattle.ea_sched.specs.declared.state.Scheduler.{Scheduler}
-use Rattle.ea_shared.specs.Carriers.{IsCarrier, home_of}
+use Rattle.ea_shared.specs.Carriers.{home_of}
 use Rattle.ea_sound.proofs.Asked.{named-spot}
 use Rattle.ea_sound.proofs.CarrierCalls.{there-number}
 use Rattle.ea_sound.proofs.Calls as calls

@@ -1,5 +1,5 @@
 -- The rule at the table's start, and where seats are split off and taken in.
-use Rattle.std.proofs.Common.{◌≡◌, ◌≢◌, ◌⊎◌, ℕ, zero, suc, ◌*◌, ◌-◌, ◌<◌, ◌≤◌, Bool, true, false}
+use Rattle.std.proofs.Common.{◌≡◌, ◌≢◌, ◌⊎◌, ℕ, zero, suc, ◌*◌, ◌<◌, ◌≤◌, Bool, true, false}
 use Rattle.std.proofs.Common.{◌==◌, if◌then◌else◌, List, [], ◌∷◌, ◌++◌, map, length, get_or}
 use Rattle.std.proofs.Common.{◌&&◌, replicate, set, refl, sym, ap, ◌∙◌, subst, inl, inr}
 use Rattle.std.proofs.Common.{arith}
@@ -28,7 +28,7 @@ use Rattle.ea_machine.specs.declared.stages.Route.TheVariants.{Linking}
 use Rattle.ea_machine.specs.declared.tasks.Gone.{Gone}
 use Rattle.ea_machine.specs.declared.tasks.Why.{Why}
 use Rattle.ea_machine.specs.Alike.{IsNode}
-use Rattle.ea_machine.specs.Machine.{first_place, first_stage, is_main, place_by, start}
+use Rattle.ea_machine.specs.Machine.{first_stage, is_main, place_by, start}
 use Rattle.ea_machine.specs.Setup.{Setup, is_scheduler, migration, setup_of}
 use Rattle.ea_sound.proofs.OtherTurns.{no-step}
 use Rattle.ea_table.specs.declared.views.About.{About}

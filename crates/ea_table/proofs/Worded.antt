@@ -74,7 +74,7 @@ module _ (c : Config) (t : Trace) (valid : IsValidConfig c)
         let pooled = kept.placed.pooled number i g x q in
         let instance = instance-shown i pooled.4 in
         let units : IsLargest g = subst IsLargest (sym pooled.3)
-            (laid-largest x (subst (AtHome IsLaidOut) q (kept.ranges.home_laid number))) in
+        (laid-largest x (subst (AtHome IsLaidOut) q (kept.ranges.home_laid number))) in
         (instance.0, instance.1, units.0, omega (arith, units.1))
     place-shown number (Busy i) q =
         instance-shown i (busy-scheduler (setup_of c t) w kept number i q)

@@ -1,12 +1,10 @@
-use Rattle.std.proofs.Common.{◌*◌, length, replicate, sym, ap, ◌∙◌, subst}
+use Rattle.std.proofs.Common.{length, replicate, sym, ap, ◌∙◌, subst}
 use Rattle.std.specs.Prelude.{None}
-use Rattle.ea_model.specs.declared.units.TheConstants.{NUMBERS}
 use Rattle.atomic_table.specs.Table.{opening}
 use Rattle.ea_sound.proofs.StandingOnce.{small-names}
 use Rattle.ea_table.specs.declared.views.About.{About}
 use Rattle.ea_table.specs.Ruling.{first, holds}
 use Rattle.ea_table.specs.Slots.{Slot}
-use Rattle.ea_table.specs.Start.{AreFirst}
 use Rattle.ea_table.proofs.Opening.{opens}
 use Rattle.ea_table.proofs.seats.make_seats.Goals as goal
 

@@ -1,7 +1,6 @@
-use Rattle.std.proofs.Common.{◌≡◌, ℕ, None, Some, slice_index, slice_index_or, sym, ap, ◌∙◌}
+use Rattle.std.proofs.Common.{◌≡◌, None, slice_index, slice_index_or, sym, ap, ◌∙◌}
 use Rattle.std.proofs.lemmas.Grind.{not_there}
 use Rattle.std.specs.Mem.Slots.{slots_items}
-use Rattle.ea_machine.specs.Owners.{CarrierAt, word_of}
 use Rattle.ea_table.specs.Ending.{place_by, places_in, word_in}
 use Rattle.ea_table.specs.Slots.{slot_at}
 use Rattle.ea_table.specs.Words.{owner_at}
