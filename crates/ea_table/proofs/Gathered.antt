@@ -104,15 +104,15 @@ module _ (c : Config) (t : Trace) (s : table.State Slot View) (h : Keeps c t s) 
 
 -- the table was closed with these words and slots after some steps: its seat j knew its schedulers
 -- as they stood then, and the words and slots are of that state
-pub record Closes (j : ℕ) (v : View) (ws : List ℕ) (xs : List Slot) (c : Config) (t : Trace) : Type 0
-  where
-    pub ran : List ℕ
-    pub steps : AreSteps (setup_of c t) ran
-    pub seat_of : ℕ → ℕ
-    pub claim_of : ℕ → ℕ
-    pub knows : Knows c t ran seat_of claim_of j v
-    pub given : Gives c.schedulers t.greatest ws (run (setup_of c t) ran).shared.given
-    pub places : HasPlaces c.schedulers t.greatest ws xs (run (setup_of c t) ran).shared.places
+pub record Closes (j : ℕ) (v : View) (ws : List ℕ) (xs : List Slot) (c : Config)
+    (t : Trace) : Type 0 where
+  pub ran : List ℕ
+  pub steps : AreSteps (setup_of c t) ran
+  pub seat_of : ℕ → ℕ
+  pub claim_of : ℕ → ℕ
+  pub knows : Knows c t ran seat_of claim_of j v
+  pub given : Gives c.schedulers t.greatest ws (run (setup_of c t) ran).shared.given
+  pub places : HasPlaces c.schedulers t.greatest ws xs (run (setup_of c t) ran).shared.places
 
 pub closes : (about : About) (j : ℕ) (v : View) (ws : List ℕ) (xs : List Slot)
     → Final (Seen (holds about) j v) ws xs → Closes j v ws xs about.config about.trace.now

@@ -184,8 +184,10 @@ splits about id v is differ live s h there =
     let f = seat_put h.seat_of i n in
     let all : All (Sits c t h.ran h.seat_of h.claim_of id) (acting v ∷ after_first v.seated) =
     subst (All (Sits c t h.ran h.seat_of h.claim_of id)) is k.seated in
-    let head = All-head (Sits c t h.ran h.seat_of h.claim_of id) (acting v) (after_first v.seated) all in
-    let rest = All-tail (Sits c t h.ran h.seat_of h.claim_of id) (acting v) (after_first v.seated) all in
+    let head = All-head (Sits c t h.ran h.seat_of h.claim_of id) (acting v)
+    (after_first v.seated) all in
+    let rest = All-tail (Sits c t h.ran h.seat_of h.claim_of id) (acting v)
+    (after_first v.seated) all in
     let last = at_end (set s.views id (dealt_left v)) (dealt_right v) in
     record {
       valid = h.valid;
