@@ -11,6 +11,7 @@ pub mod Told
 pub mod Owning
 pub mod OwnerSteps
 pub mod OwnerTold
+pub mod OwnerRows
 pub mod Seating
 pub mod Dealing
 pub mod Taking

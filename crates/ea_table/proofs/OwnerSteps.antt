@@ -39,7 +39,7 @@ module _ (b : Board) (z : TableId) (id : ℕ) (v : View) (xs : List (ℕ × Slot
   to : k ≤ NUMBERS * v.config.schedulers
   to = omega (arith, carrier.1, at.schedulers)
 
-  there-so : i ≡ owner_at v.config.schedulers v.trace.greatest k
+  pub there-so : i ≡ owner_at v.config.schedulers v.trace.greatest k
   there-so = there ∙ ap (λ n. owner_at n b.greatest k) (sym at.schedulers)
       ∙ ap (λ g. owner_at v.config.schedulers g k) (sym at.greatest)
 

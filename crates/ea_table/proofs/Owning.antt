@@ -38,7 +38,7 @@ use Rattle.ea_table.proofs.OwnerCodes.{same-is, same-itself, shown-same}
 use Rattle.ea_table.proofs.Rows.{FitsLook, FitsWord}
 
 -- a try at a word that was seen pooled: it is won where the carrier has the word, else it is lost
-tried-won : (seen : OwnerWord) (place : CarrierAt) (i g : ℕ) → seen ≡ word.Pooled i g
+pub tried-won : (seen : OwnerWord) (place : CarrierAt) (i g : ℕ) → seen ≡ word.Pooled i g
     → word_of place ≡ seen
     → (x : Content) × (home_of place ≡ Some x) × (tried_at seen place ≡ Won x)
 tried-won seen Absent i g q is = absurd (let never = is ∙ q in cc)
@@ -48,7 +48,7 @@ tried-won seen (Pooled j h x) i g q is =
 tried-won seen (Busy j) i g q is = absurd (let never = is ∙ q in cc)
 tried-won seen (Returning j x) i g q is = absurd (let never = is ∙ q in cc)
 
-tried-lost : (seen : OwnerWord) (place : CarrierAt) → place_code place ≢ owner_code seen
+pub tried-lost : (seen : OwnerWord) (place : CarrierAt) → place_code place ≢ owner_code seen
     → tried_at seen place ≡ Lost (word_of place)
 tried-lost seen place other = by (same_word (word_of place) seen) refl where
   by : (b : Bool) → same_word (word_of place) seen ≡ b → won_if b place ≡ Lost (word_of place)

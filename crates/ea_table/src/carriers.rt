@@ -199,11 +199,9 @@ impl Pass {
         requires scheduler { IsScheduler board.now.schedulers me }
         requires carrier { IsCarrier board.now.schedulers carrier }
         requires content { IsFor carrier largest content }
-        requires wanted { WantsRow me (Settle content)
-            (caller_in self.old.seat.me.0) }
+        requires wanted { WantsRow me (Settle content) (caller_in self.old.seat.me.0) }
         ensures seated { self.new.seat.table_id ≡ self.old.seat.table_id }
-        ensures row { DidRow me (Settle content.entry) Done self.old.seat.me.0
-            self.new.seat.me.0 }
+        ensures row { DidRow me (Settle content) Done self.old.seat.me.0 self.new.seat.me.0 }
     {
         let word = OwnerWord::Pooled {
             instance: me,
@@ -238,11 +236,9 @@ impl Pass {
         requires scheduler { IsScheduler board.now.schedulers me }
         requires carrier { IsCarrier board.now.schedulers carrier }
         requires content { IsFor carrier largest content }
-        requires wanted { WantsRow me (Abandon content)
-            (caller_in self.old.seat.me.0) }
+        requires wanted { WantsRow me (Abandon content) (caller_in self.old.seat.me.0) }
         ensures seated { self.new.seat.table_id ≡ self.old.seat.table_id }
-        ensures row { DidRow me (Abandon content.entry) Done self.old.seat.me.0
-            self.new.seat.me.0 }
+        ensures row { DidRow me (Abandon content) Done self.old.seat.me.0 self.new.seat.me.0 }
     {
         let word = OwnerWord::Pooled {
             instance: me,
@@ -276,11 +272,9 @@ impl Pass {
         requires carrier { IsCarrier board.now.schedulers carrier }
         requires content { IsEmptied carrier content }
         requires owner { owner ≡ owner_of carrier }
-        requires wanted { WantsRow me (SendHome content)
-            (caller_in self.old.seat.me.0) }
+        requires wanted { WantsRow me (SendHome content) (caller_in self.old.seat.me.0) }
         ensures seated { self.new.seat.table_id ≡ self.old.seat.table_id }
-        ensures row { DidRow me (SendHome content.entry) Done self.old.seat.me.0
-            self.new.seat.me.0 }
+        ensures row { DidRow me (SendHome content) Done self.old.seat.me.0 self.new.seat.me.0 }
     {
         let word = OwnerWord::Returning { instance: owner };
         self.bring(board, carrier, content, word);
