@@ -1,6 +1,6 @@
 -- What each row on queues finds in its word, and the words and slots that it leaves.
 use Rattle.std.proofs.Common.{◌≡◌, ℕ, suc, ◌≤◌, List, [], ◌∷◌, Option, None, Some, slice_index}
-use Rattle.std.proofs.Common.{slice_set, set, refl, sym, ap, ◌∙◌, subst, inl, inr, arith}
+use Rattle.std.proofs.Common.{set, refl, sym, ap, ◌∙◌, subst, inl, inr, arith}
 use Rattle.std.specs.Prelude.{IfSome}
 use mathlib.Core.Option as maybe
 use Rattle.std.proofs.lemmas.Bool.{cases_Bool}
@@ -30,7 +30,7 @@ use Rattle.ea_sound.proofs.Totals.{total-none}
 use Rattle.ea_sound.specs.Standing.{standing}
 use Rattle.ea_word.specs.Codes.{IsCodable, code_of}
 use Rattle.ea_table.specs.declared.views.View.{View}
-use Rattle.ea_table.specs.Ruling.{Reads, ReadsLink, acting, actor_in, setup_in}
+use Rattle.ea_table.specs.Ruling.{ReadsLink, acting, actor_in, setup_in}
 use Rattle.ea_table.specs.Slots.{Houses, Slot}
 use Rattle.ea_table.specs.Words.{AreFit, Codes, IsFit, IsWorded}
 use Rattle.ea_table.specs.Words.{LinksAre, head_at, link_at, name_at}
