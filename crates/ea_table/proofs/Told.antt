@@ -3,10 +3,7 @@ use Rattle.std.proofs.Common.{◌≡◌, ◌≢◌, ℕ, ◌≤◌, Bool, true, 
 use Rattle.std.proofs.Common.{Option, None, Some, refl, sym, ap, ◌∙◌, subst, arith}
 use Rattle.std.specs.Prelude.{All, IfSome, option_map}
 use Rattle.atomic_table.specs.Table.{Me, carried_after}
-use Rattle.atomic_table.specs.Seated.{TableId}
 use Rattle.ea_model.specs.declared.carriers.Spot.{Spot}
-use Rattle.ea_model.specs.declared.settings.Config.{Config}
-use Rattle.ea_model.specs.declared.trace.Trace.{Trace}
 use Rattle.ea_machine.specs.declared.nodes.Node.{Node}
 use Rattle.ea_machine.specs.declared.nodes.Node.TheVariants.{Block}
 use Rattle.ea_machine.specs.Machine.{run, step, wants}
@@ -19,13 +16,11 @@ use Rattle.ea_shared.specs.Calls.{Did, WantsRow, caller_of}
 use Rattle.ea_sound.proofs.OtherTurns.{actor-since, rest-since}
 use Rattle.ea_sound.proofs.TurnLists.{run-snoc}
 use Rattle.ea_word.specs.Codes.{IsCodable, code_of, link_code}
-use Rattle.ea_table.specs.declared.board.Board.{Board}
 use Rattle.ea_table.specs.declared.views.Seated.{Seated}
 use Rattle.ea_table.specs.declared.views.View.{View}
 use Rattle.ea_table.specs.Ruling.{DidRow, IsSingle, Reads, ReadsHead, ReadsLink, ReadsName, Took}
 use Rattle.ea_table.specs.Ruling.{acting, actor_in, caller_in, claimed, move_since, older_after}
 use Rattle.ea_table.specs.Ruling.{setup_in, shared_since, stepped}
-use Rattle.ea_table.specs.Seating.{IsAt}
 use Rattle.ea_table.specs.Slots.{Move, Slot, act_of, claim_by, move_of}
 use Rattle.ea_table.specs.Words.{block_spot, mark_code}
 use Rattle.ea_table.proofs.Rows.{code-more}
@@ -133,37 +128,13 @@ module _ (m n : Me Slot View) (me found : ℕ) (row : Row) (took : Took m found 
   older-after = ap (λ (x : View). (acting x).older) took.view
       ∙ ap (λ r. older_after r found (acting m.0).older) wanted.1
 
--- after a row the seat is one of the same run
+-- after a row the seat knows the same run
 pub run-after : (me : ℕ) (row : Row) (got : Answer) (v u : View) → DidRow me row got v u
     → (u.config ≡ v.config) × (u.trace ≡ v.trace)
 run-after me row got v u d = (
   ap (λ (x : View). x.config) d.view,
   ap (λ (x : View). x.trace) d.view,
 )
-
--- and of the same table
-pub at-after : (me : ℕ) (row : Row) (got : Answer) (v u : View) → DidRow me row got v u
-    → (b : Board) (old new : TableId) → new ≡ old → IsAt b old v → IsAt b new u
-at-after me row got v u d b old new same at =
-    let run = run-after me row got v u d in
-    record {
-      table = same ∙ at.table;
-      schedulers = ap (λ (c : Config). c.schedulers) run.0 ∙ at.schedulers;
-      greatest = ap (λ (t : Trace). t.greatest) run.1 ∙ at.greatest;
-    }
-
--- a row that the seat took where it had claimed the slot of a carrier
-pub did-claimed : (me : ℕ) (row : Row) (got : Answer) (v u : View) (k : ℕ)
-    → DidRow me row got (claimed v k) u → DidRow me row got v u
-did-claimed me row got v u k d = record {
-  number = d.number;
-  since = d.since;
-  others = d.others;
-  answered = d.answered;
-  older = d.older;
-  claim = d.claim;
-  view = d.view;
-}
 
 -- a row after which it claimed a slot, or gave it back, by a look
 pub did-yielded : (me : ℕ) (row : Row) (got : Answer) (v u w : View) (k : ℕ)
