@@ -1,5 +1,5 @@
 -- Which rows on carriers the calls are: the place that each leaves, by its guard, and what it answers.
-use Rattle.std.proofs.Common.{◌≡◌, ◌≢◌, ℕ, true, false, List, [], ◌∷◌, Option, None, Some}
+use Rattle.std.proofs.Common.{◌≡◌, ◌≢◌, ℕ, false, List, [], ◌∷◌, None, Some}
 use Rattle.std.proofs.Common.{refl, sym, ap, ◌∙◌, subst, inl, inr}
 use Rattle.atomic_table.specs.Table.{Me}
 use Rattle.ea_model.specs.declared.carriers.BlockAt.{BlockAt}
@@ -9,14 +9,14 @@ use Rattle.ea_machine.specs.declared.owners.OwnerWord.{OwnerWord}
 use Rattle.ea_machine.specs.declared.owners.OwnerWord.TheVariants as word
 use Rattle.ea_machine.specs.Guards.{Guard}
 use Rattle.ea_machine.specs.Machine.{run, wants}
-use Rattle.ea_machine.specs.Owners.{CarrierAt, Absent, Busy, Employed, Pooled, Returning, word_of}
+use Rattle.ea_machine.specs.Owners.{CarrierAt, Absent, Employed, Returning, word_of}
 use Rattle.ea_machine.specs.Rows.{Abandon, Answer, BusyTry, Clear, Create, Done, FetchTry, Home}
 use Rattle.ea_machine.specs.Rows.{Row, SendHome, Settle}
-use Rattle.ea_machine.specs.Shared.{Shared, at_place}
+use Rattle.ea_machine.specs.Shared.{Shared}
 use Rattle.ea_machine.specs.Statistics.{leaving_at}
 use Rattle.ea_machine.specs.Table.{answer, effect, pooled, returned, settled_at}
 use Rattle.ea_shared.specs.Calls.{WantsRow}
-use Rattle.ea_shared.specs.Carriers.{IsCollecting, IsEmptied, IsFor, IsLeaving, IsPooled, IsPooledBy}
+use Rattle.ea_shared.specs.Carriers.{IsCollecting, IsEmptied, IsFor, IsLeaving}
 use Rattle.ea_shared.specs.Carriers.{home_of}
 use Rattle.ea_sound.proofs.Protocols.{protocol}
 use Rattle.ea_table.specs.declared.views.View.{View}
@@ -24,7 +24,7 @@ use Rattle.ea_table.specs.Handing.{Brings, HasSlot, IsTry, MovesSlot, Stores, Wh
 use Rattle.ea_table.specs.Handing.{row_in}
 use Rattle.ea_table.specs.Ruling.{DidRow, IsSingle, Took, acting, actor_in, caller_in, claimed}
 use Rattle.ea_table.specs.Ruling.{move_since, setup_in, shared_since}
-use Rattle.ea_table.specs.Slots.{Claims, Has, Slot, Stays, Yields, move_of, settled_move}
+use Rattle.ea_table.specs.Slots.{Claims, Has, Slot, Yields, move_of, settled_move}
 use Rattle.ea_table.proofs.OwnerTold.{IsIdle, first_slot, older-then, so-then, stayed}
 use Rattle.ea_table.proofs.OwnerTold.{taken-slot}
 use Rattle.ea_table.proofs.Told.{did, did-yielded}

@@ -1,14 +1,13 @@
 -- The steps and the looks that the calls on carriers take, at the owner words where the table has
 -- them.
-use Rattle.std.proofs.Common.{◌≡◌, ℕ, ◌<◌, ◌≤◌, List, [], ◌∷◌, None, Some}
-use Rattle.std.proofs.Common.{refl, sym, ap, ◌∙◌, subst, arith}
+use Rattle.std.proofs.Common.{◌≡◌, ℕ, ◌≤◌, List, ◌∷◌, None}
+use Rattle.std.proofs.Common.{refl, sym, ap, ◌∙◌, arith}
 use Rattle.std.specs.Prelude.{◌==◌, ◌*◌}
 use mathlib.Core.Option.{none}
 use prog.Atomic.{either}
 use Rattle.atomic_table.specs.Seated.{TableId}
-use Rattle.atomic_table.specs.Table.{Allows, Me, Step, gives, rest, step, takes}
+use Rattle.atomic_table.specs.Table.{Allows, Step, gives, step, takes}
 use Rattle.ea_model.specs.declared.units.TheConstants.{NUMBERS}
-use Rattle.ea_model.specs.Content.{Content}
 use Rattle.ea_machine.specs.declared.owners.OwnerWord.{OwnerWord}
 use Rattle.ea_machine.specs.Rows.{Look}
 use Rattle.ea_shared.specs.Calls.{WantsRow}
@@ -22,7 +21,7 @@ use Rattle.ea_table.specs.Ruling.{IsSingle, acting, caller_in, claimed, claims, 
 use Rattle.ea_table.specs.Seating.{IsAt}
 use Rattle.ea_table.specs.Slots.{Has, Slot, slot_at}
 use Rattle.ea_table.specs.Words.{owner_at}
-use Rattle.ea_table.proofs.Owning.{TriesAs, fits-claims, fits-exchanged, fits-looked, fits-stored}
+use Rattle.ea_table.proofs.Owning.{fits-claims, fits-exchanged, fits-looked, fits-stored}
 use Rattle.ea_table.proofs.Owning.{fits-yields, tries-as}
 use Rattle.ea_table.proofs.Rows.{allows, allows-look}
 

@@ -1,6 +1,6 @@
 -- What the calls on carriers answer, by the words that their steps found and the slots that the seat
 -- has then; and that a seat has no slot after them.
-use Rattle.std.proofs.Common.{◌≡◌, ◌≢◌, ℕ, ◌≤◌, ◌++◌, List, [], ◌∷◌, Option, None, Some}
+use Rattle.std.proofs.Common.{◌≡◌, ◌≢◌, ℕ, ◌≤◌, ◌++◌, List, [], ◌∷◌, None, Some}
 use Rattle.std.proofs.Common.{refl, sym, ap, ◌∙◌, subst, arith}
 use Rattle.std.specs.Prelude.{All}
 use Rattle.atomic_table.specs.Seated.{TableId}
@@ -8,7 +8,6 @@ use Rattle.atomic_table.specs.Table.{Me, Step, rest}
 use Rattle.ea_model.specs.Content.{Content}
 use Rattle.ea_model.specs.declared.units.TheConstants.{MAX_SCHEDULERS}
 use Rattle.ea_machine.specs.declared.owners.OwnerWord.{OwnerWord}
-use Rattle.ea_machine.specs.declared.owners.OwnerWord.TheVariants as word
 use Rattle.ea_machine.specs.Machine.{run}
 use Rattle.ea_machine.specs.Owners.{CarrierAt, word_of}
 use Rattle.ea_machine.specs.Rows.{Answer, Done, Look, Lost, Row, Saw, Won}

@@ -1,14 +1,13 @@
 -- What the rows on carriers need of words and slots, and what the looks of a seat at an owner word do.
-use Rattle.std.proofs.Common.{◌≡◌, ◌≢◌, ℕ, ◌*◌, ◌<◌, ◌≤◌, Bool, true, false, List, [], ◌∷◌}
-use Rattle.std.proofs.Common.{Option, None, Some, slice_index, slice_set, set, length}
-use Rattle.std.proofs.Common.{refl, sym, ap, ◌∙◌, subst, inl, inr, arith}
+use Rattle.std.proofs.Common.{◌≡◌, ◌≢◌, ℕ, ◌*◌, ◌≤◌, Bool, true, false, List}
+use Rattle.std.proofs.Common.{None, Some, slice_index, set}
+use Rattle.std.proofs.Common.{refl, sym, ap, ◌∙◌, subst, inl, inr}
 use Rattle.std.specs.Prelude.{◌==◌}
 use mathlib.Core.Option.{some, none}
 use mathlib.Core.Option as maybe
-use lib.ListN.{get_elem?}
 use prog.Atomic.{either}
-use Rattle.atomic_table.specs.Table.{Act, Me, Valid, carried_after, gives, homes_after, put_back}
-use Rattle.atomic_table.specs.Table.{rest, takes}
+use Rattle.atomic_table.specs.Table.{Me, Valid, gives, homes_after, put_back}
+use Rattle.atomic_table.specs.Table.{takes}
 use Rattle.atomic_table.proofs.Lists.{exchanged}
 use Rattle.ea_model.specs.declared.units.TheConstants.{NUMBERS}
 use Rattle.ea_model.specs.Content.{Content}
@@ -19,14 +18,14 @@ use Rattle.ea_machine.specs.declared.owners.OwnerWord.TheVariants as word
 use Rattle.ea_machine.specs.Machine.{run}
 use Rattle.ea_machine.specs.Owners.{CarrierAt, Absent, Employed, Pooled, Busy, Returning, same_word}
 use Rattle.ea_machine.specs.Owners.{word_of}
-use Rattle.ea_machine.specs.Rows.{Answer, BusyTry, FetchTry, Look, Lost, Nothing, Row, Won}
+use Rattle.ea_machine.specs.Rows.{BusyTry, FetchTry, Look, Lost, Nothing, Row, Won}
 use Rattle.ea_machine.specs.Shared.{Shared, at_place, put}
 use Rattle.ea_machine.specs.Table.{answer, effect, moved_if, tried_at, won_if}
 use Rattle.ea_shared.specs.Carriers.{home_of}
 use Rattle.ea_word.specs.Codes.{IsShown, owner_code}
 use Rattle.ea_table.specs.declared.views.View.{View}
 use Rattle.ea_table.specs.Handing.{HasSlot, IsTry, MovesSlot, Stores, Wherever, row_in}
-use Rattle.ea_table.specs.Ruling.{Reads, ReadsOwner, acting, actor_in, older_after, setup_in}
+use Rattle.ea_table.specs.Ruling.{Reads, ReadsOwner, acting, older_after, setup_in}
 use Rattle.ea_table.specs.Slots.{Claims, Has, Houses, Move, Slot, Stays, Yields, act_of, claim_by}
 use Rattle.ea_table.specs.Slots.{move_of, slot_at}
 use Rattle.ea_table.specs.Words.{Codes, IsWorded, owner_at, place_code}

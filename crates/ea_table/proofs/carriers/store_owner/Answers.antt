@@ -1,7 +1,6 @@
-use Rattle.std.proofs.Common.{subst, arith}
+use Rattle.std.proofs.Common.{arith}
 use mathlib.Core.Option.{none}
 use Rattle.atomic_table.specs.Table.{step}
-use Rattle.ea_table.specs.Ruling.{Took}
 use Rattle.ea_table.proofs.OwnerSteps.{stores}
 use Rattle.ea_table.proofs.carriers.store_owner.Goals as goal
 
