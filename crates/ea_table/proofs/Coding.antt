@@ -18,8 +18,9 @@ use Rattle.ea_machine.specs.declared.nodes.Node.TheVariants.{Block, Carrier}
 use Rattle.ea_machine.specs.Alike.{IsNode, alike_in, are_alike}
 use Rattle.ea_machine.specs.Nodes.{Mark, block_node, first_node, link_in, pushed}
 use Rattle.ea_machine.specs.Nodes.{same_node, spot_named, with_name, without_name, name_of}
+use Rattle.ea_machine.specs.Owners.{CarrierAt}
 use Rattle.ea_machine.specs.Rows.{Give, Link, Push, TakeAll, TakeLink, TakeTry}
-use Rattle.ea_machine.specs.Shared.{Shared, put}
+use Rattle.ea_machine.specs.Shared.{Shared, at_place, put}
 use Rattle.ea_machine.specs.Sums.{one_if, total}
 use Rattle.ea_machine.specs.Table.{effect, rest_after, rest_by}
 use Rattle.ea_sound.proofs.Asked.{unnamed-spot}
@@ -28,7 +29,8 @@ use Rattle.ea_sound.specs.Standing.{standing}
 use Rattle.ea_word.specs.Codes.{code_of, head_code, link_code}
 use Rattle.ea_table.specs.declared.places.TheConstants.{HEAD_WORDS}
 use Rattle.ea_table.specs.Words.{AreFit, Codes, IsFit, IsWorded, LinksAre}
-use Rattle.ea_table.specs.Words.{given_code, head_at, link_at, mark_code, name_at}
+use Rattle.ea_table.specs.Words.{given_code, head_at, link_at, mark_code, name_at, owner_at}
+use Rattle.ea_table.specs.Words.{place_code}
 
 -- a word that was written, and the others
 word-here : (ws : List ℕ) (p v q : ℕ) → p < length ws → q ≡ p → slice_index (set ws p v) q ≡ v
@@ -44,6 +46,12 @@ word-again [] p v same within = refl
 word-again (w ∷ ws) zero v same within = ap (λ (x : ℕ). x ∷ ws) (sym same)
 word-again (w ∷ ws) (suc p) v same within =
     ap (λ (xs : List ℕ). w ∷ xs) (word-again ws p v same (omega (arith, within)))
+
+-- and one that is read
+word-read : (ws : List ℕ) (p : ℕ) → set ws p (slice_index ws p) ≡ ws
+word-read [] p = refl
+word-read (w ∷ ws) zero = refl
+word-read (w ∷ ws) (suc p) = ap (λ (xs : List ℕ). w ∷ xs) (word-read ws p)
 
 -- a map whose value is put again
 pub put-again : {A : Type 0} (m : ℕ → A) (k : ℕ) (v : A) → m k ≡ v → put m k v ≡ m
@@ -110,14 +118,14 @@ module _ (n g : ℕ) where
   abbrev Fit : Mark → Type 0
   Fit m = IsFit n g m.node
 
-  -- no head, and no word of a name, is a link
+  -- no head, and no word of a name or a carrier, is a link
   apart-head : (p : ℕ) (ms : List Mark) → p < HEAD_WORDS * n → AreFit n g ms → Apart p ms
   apart-head p ms low fit = All-weaker Fit (λ m. link_at n g m.node ≢ p)
       (λ m is e. omega (arith, low, e, link-from m.node)) ms fit
 
-  apart-name : (p : ℕ) (ms : List Mark) → HEAD_WORDS * n + g + NUMBERS * n ≤ p → AreFit n g ms
+  apart-past : (p : ℕ) (ms : List Mark) → HEAD_WORDS * n + g + NUMBERS * n ≤ p → AreFit n g ms
       → Apart p ms
-  apart-name p ms high fit = All-weaker Fit (λ m. link_at n g m.node ≢ p)
+  apart-past p ms high fit = All-weaker Fit (λ m. link_at n g m.node ≢ p)
       (λ m is e. omega (arith, high, e, link-to m.node is.0)) ms fit
 
   -- and no link of another node
@@ -167,6 +175,13 @@ module _ (n g : ℕ) where
     within-name : (name : ℕ) → 1 ≤ name → name ≤ g → name_at n g name < length ws
     within-name name from to = omega (arith, codes.count, from, to)
 
+    pub within-owner : (k : ℕ) → 1 ≤ k → k ≤ NUMBERS * n → owner_at n g k < length ws
+    within-owner k from to = omega (arith, codes.count, from, to)
+
+    -- a word is read
+    pub codes-read : (i : ℕ) → Codes n g s (set ws i (slice_index ws i))
+    codes-read i = subst (Codes n g s) (sym (word-read ws i)) codes
+
     -- a head is written, and lists and given names are as they were
     module _ (i v : ℕ) (from : 1 ≤ i) (to : i ≤ n) where
       abbrev after : List ℕ
@@ -197,6 +212,11 @@ module _ (n g : ℕ) where
       head-name name = word-other ws (head_at i) v (name_at n g name)
           (λ e. omega (arith, e, low))
 
+      head-owner : (number : ℕ) → slice_index after (owner_at n g number)
+          ≡ slice_index ws (owner_at n g number)
+      head-owner number = word-other ws (head_at i) v (owner_at n g number)
+          (λ e. omega (arith, e, low))
+
     -- a queue is taken
     pub codes-taken : (me : ℕ) → 1 ≤ me → me ≤ n → s.rests me ≡ []
         → Codes n g (effect me TakeAll s) (set ws (head_at me) 0)
@@ -225,6 +245,7 @@ module _ (n g : ℕ) where
         ap (alike_in node) walked,
       ));
       names = λ name low high. head-name me 0 from to name ∙ codes.names name low high;
+      owners = λ number low high. head-owner me 0 from to number ∙ codes.owners number low high;
     }
 
     -- a node is pushed
@@ -257,6 +278,8 @@ module _ (n g : ℕ) where
             total-put (alike_in x) s.queues to queue (suc n) (omega (arith, most)),
           ));
           names = λ name low high. head-name to v from most name ∙ codes.names name low high;
+          owners = λ number low high. head-owner to v from most number
+              ∙ codes.owners number low high;
         }
 
     -- a link is written
@@ -272,6 +295,11 @@ module _ (n g : ℕ) where
       link-name : (name : ℕ) → slice_index relinked (name_at n g name)
           ≡ slice_index ws (name_at n g name)
       link-name name = word-other ws (link_at n g node) v (name_at n g name)
+          (λ e. omega (arith, e, link-to node is))
+
+      link-owner : (number : ℕ) → slice_index relinked (owner_at n g number)
+          ≡ slice_index ws (owner_at n g number)
+      link-owner number = word-other ws (link_at n g node) v (owner_at n g number)
           (λ e. omega (arith, e, link-to node is))
 
       link-links : (ms : List Mark) → AreFit n g ms → alike_in node ms ≡ 0 → LinksAre n g ws ms
@@ -341,6 +369,7 @@ module _ (n g : ℕ) where
                 ))
           ];
           names = λ name low high. link-name node 0 is name ∙ codes.names name low high;
+          owners = λ number low high. link-owner node 0 is number ∙ codes.owners number low high;
         }) where
           counts : (i : ℕ) → alike_in m.node (s.rests me) ≡ 1 + alike_in m.node ms
           counts i = ap (alike_in m.node) now
@@ -467,6 +496,7 @@ module _ (n g : ℕ) where
               ∙ codes.free x are (still x z)
         ];
         names = λ name low high. link-name node v is name ∙ codes.names name low high;
+        owners = λ number low high. link-owner node v is number ∙ codes.owners number low high;
       } where
         still : (x : Node)
             → total (suc n) (alike_in x) (put s.queues to (link_in node (s.queues to)))
@@ -548,7 +578,7 @@ module _ (n g : ℕ) where
       named-links : (ms : List Mark) → AreFit n g ms → LinksAre n g ws ms
           → LinksAre n g renamed ms
       named-links ms are links = links-stay ws (name_at n g name) v ms
-          (apart-name (name_at n g name) ms (omega arith) are) links
+          (apart-past (name_at n g name) ms (omega arith) are) links
 
       -- with other given names
       codes-named : (given : List Named)
@@ -570,6 +600,8 @@ module _ (n g : ℕ) where
           | inr other ↦ named-other m low other ∙ codes.names m low high
               ∙ ap (given_code m) (sym (others m other))
         ];
+        owners = λ number low high. word-other ws (name_at n g name) v (owner_at n g number)
+            (λ e. omega (arith, e, from, to)) ∙ codes.owners number low high;
       }
 
     -- a name is given
@@ -592,3 +624,32 @@ module _ (n g : ℕ) where
         (λ m other. ap (option_map (λ y. y.spot)) (item_at-stays name_of m name s.given other))
         (sym (ap (λ o. given_code name (option_map (λ (y : Named). y.spot) o))
         (item_at-gone name_of name s.given)))
+
+    -- a carrier is at another place
+    pub codes-placed : (k : ℕ) → 1 ≤ k → k ≤ NUMBERS * n → (p : CarrierAt)
+        → Codes n g (at_place k p s) (set ws (owner_at n g k) (place_code p))
+    codes-placed k from to p =
+        let v = place_code p in record {
+          count = length-set ws (owner_at n g k) v ∙ codes.count;
+          heads = λ i low high. word-other ws (owner_at n g k) v (head_at i)
+              (λ e. omega (arith, e, low, high)) ∙ codes.heads i low high;
+          queued = λ i. links-stay ws (owner_at n g k) v (s.queues i)
+              (apart-past (owner_at n g k) (s.queues i) (omega arith) (fit.queues i))
+              (codes.queued i);
+          rested = λ i. links-stay ws (owner_at n g k) v (s.rests i)
+              (apart-past (owner_at n g k) (s.rests i) (omega arith) (fit.rests i))
+              (codes.rested i);
+          free = λ node is z. word-other ws (owner_at n g k) v (link_at n g node)
+              (λ e. omega (arith, e, link-to node is)) ∙ codes.free node is z;
+          names = λ name low high. word-other ws (owner_at n g k) v (name_at n g name)
+              (λ e. omega (arith, e, low, high)) ∙ codes.names name low high;
+          owners = λ number low high. elim (cases_eq number k) [
+            | inl q ↦ word-here ws (owner_at n g k) v (owner_at n g number)
+                (within-owner k from to) (ap (owner_at n g) q)
+                ∙ ap place_code (sym (put-here s.places k p number q))
+            | inr other ↦ word-other ws (owner_at n g k) v (owner_at n g number)
+                (λ e. other (omega (arith, e, low, from)))
+                ∙ codes.owners number low high
+                ∙ ap place_code (sym (put-other s.places k p number other))
+          ];
+        }

@@ -27,11 +27,11 @@ apart-from i j count less = All-map (λ x. x.number ≢ i) waiting (range_with_l
       bound : (k : ℕ) → k < length (range_with_len j count) → k < count
       bound k within = omega (arith, within, length-range_with_len j count)
 
-pub deals : {S : Type 0} (about : About) (id i rest : ℕ) (v : View)
+pub deals : (about : About) (id i rest : ℕ) (v : View)
     → v ≡ waiting_from about.config about.trace.now i (suc rest)
-    → Splits {S = S} (holds about) id v (dealt_left v) (dealt_right v)
-deals {S} about id i rest v is =
-    subst (λ u. Splits {S = S} (holds about) id u (dealt_left u) (dealt_right u)) (sym is)
+    → Splits (holds about) id v (dealt_left v) (dealt_right v)
+deals about id i rest v is =
+    subst (λ u. Splits (holds about) id u (dealt_left u) (dealt_right u)) (sym is)
     (splits about id (waiting_from about.config about.trace.now i (suc rest)) refl
     (apart-from i (i + 1) rest (omega arith)) refl)
 
@@ -56,6 +56,10 @@ right-is c t i rest v u is right = right ∙ ap dealt_right is
 pub older-is : (c : Config) (t : Trace) (i : ℕ) (v : View) → v ≡ waiting_from c t i 1
     → 0 ≡ (acting v).older
 older-is c t i v is = sym (ap (λ (u : View). (acting u).older) is)
+
+pub claim-is : (c : Config) (t : Trace) (i : ℕ) (v : View) → v ≡ waiting_from c t i 1
+    → (acting v).claim ≡ 0
+claim-is c t i v is = ap (λ (u : View). (acting u).claim) is
 
 module _ (c : Config) (t : Trace) (id : TableId) where
   -- passes of the first n schedulers

@@ -1,8 +1,10 @@
 -- The state in which the table was closed, and its schedulers.
-use Rattle.std.proofs.Common.{◌≡◌, ℕ, suc, ◌+◌, ◌<◌, List, [], ◌∷◌, ◌++◌, map}
+use Rattle.std.proofs.Common.{◌≡◌, ◌≢◌, ℕ, suc, ◌+◌, ◌<◌, List, [], ◌∷◌, ◌++◌, map, Some}
 use Rattle.std.proofs.Common.{length, get_or, refl, sym, ap, ◌∙◌, subst, arith}
-use Rattle.std.specs.Prelude.{All, false}
-use Rattle.std.proofs.lemmas.Bool.{false≢true}
+use Rattle.std.specs.Prelude.{All}
+use mathlib.Core.Option.{some}
+use mathlib.Core.Option as maybe
+use lib.ListN.{get_elem?}
 use Rattle.std.specs.List.{range_with_len}
 use Rattle.std.proofs.Math.ListN.{get_or-map}
 use Rattle.std.proofs.lemmas.List.{length-map, map-append, map_push}
@@ -12,19 +14,22 @@ use Rattle.atomic_table.specs.Table.{Final, Seen}
 use Rattle.atomic_table.specs.Table as table
 use Rattle.ea_model.specs.declared.settings.Config.{Config}
 use Rattle.ea_model.specs.declared.trace.Trace.{Trace}
+use Rattle.ea_model.specs.Content.{Content}
 use Rattle.ea_model.specs.Settings.{IsValidConfig}
 use Rattle.ea_model.specs.Trace.{IsValidTrace}
 use Rattle.ea_model.proofs.Rising.{item_at-All}
-use Rattle.ea_machine.specs.declared.nodes.Named.{Named}
 use Rattle.ea_machine.specs.Courses.{AreSteps}
 use Rattle.ea_machine.specs.Machine.{run}
 use Rattle.ea_machine.specs.Nodes.{block_node, name_of}
 use Rattle.ea_machine.specs.Outcome.{actors_of}
-use Rattle.ea_machine.specs.Setup.{Setup, migration, setup_of}
+use Rattle.ea_machine.specs.Owners.{CarrierAt, Absent, Employed, Pooled, Busy, Returning}
+use Rattle.ea_machine.specs.Setup.{Setup, setup_of}
+use Rattle.ea_machine.specs.State.{State}
 use Rattle.ea_sched.specs.Acting.{actor_of}
-use Rattle.ea_outcome.specs.Resting.{StandIn}
 use Rattle.ea_sched.specs.declared.state.Scheduler.{Scheduler}
+use Rattle.ea_shared.specs.Carriers.{home_of}
 use Rattle.ea_sound.proofs.Asked.{named-spot}
+use Rattle.ea_sound.proofs.CarrierCalls.{there-number}
 use Rattle.ea_sound.proofs.Calls as calls
 use Rattle.ea_sound.proofs.OtherTurns.{actor-since}
 use Rattle.ea_sound.proofs.Protocols.{rule-run}
@@ -32,8 +37,9 @@ use Rattle.ea_table.specs.declared.views.About.{About}
 use Rattle.ea_table.specs.declared.views.Seated.{Seated}
 use Rattle.ea_table.specs.declared.views.View.{View}
 use Rattle.ea_table.specs.declared.worker.Finished.{Finished}
-use Rattle.ea_table.specs.Ending.{AreGiven, Closes, Gives, IsLast, nowhere}
+use Rattle.ea_table.specs.Ending.{Gives, HasPlaces, IsClosedIn, IsLast}
 use Rattle.ea_table.specs.Ruling.{Keeps, Knows, Sits, acting, holds}
+use Rattle.ea_table.specs.Slots.{IsSlot, Slot, slot_at}
 use Rattle.ea_table.specs.Words.{IsFit}
 use Rattle.ea_table.proofs.Laws.{worded}
 use Rattle.ea_table.proofs.Rows.{moved}
@@ -48,43 +54,84 @@ ranged f h i (x ∷ xs) same =
     ∙ ap (λ bs. h i ∷ bs) (ranged f h (i + 1) xs (λ k d less.
     same (suc k) d (omega (arith, less)) ∙ ap h (let e : i + suc k ≡ i + 1 + k = omega arith in e)))
 
--- the words of a table that keeps the rule give the names that are given then
-gives : {S : Type 0} (c : Config) (t : Trace) (s : table.State S View) (h : Keeps c t s)
-    → Gives c.schedulers t.greatest s.words (run (setup_of c t) h.ran).shared.given
-gives c t s h = record {
-  rising = (rule-run c t h.valid h.made h.ran).present.given;
-  within = calls.given-range c t h.valid h.made (run (setup_of c t) h.ran) (h.ran, refl);
-  words = h.coded.names;
-  codable = λ name spot there. (item_at-All name_of
-      (λ x. IsFit c.schedulers t.greatest (block_node x)) name
-      (record { name = name; spot = spot }) (run (setup_of c t) h.ran).shared.given
-      (worded c t h.valid h.made h.ran).given
-      (named-spot name spot (run (setup_of c t) h.ran).shared.given there)).1;
-}
+absent-by : (p : CarrierAt) → (p ≢ Absent → ⊥) → p ≡ Absent
+absent-by Absent not = refl
+absent-by (Employed i) not = absurd (not (λ q. cc))
+absent-by (Pooled i g x) not = absurd (not (λ q. cc))
+absent-by (Busy i) not = absurd (not (λ q. cc))
+absent-by (Returning i x) not = absurd (not (λ q. cc))
 
--- the table is closed, and its words were read
-pub closes : {S : Type 0} (about : About) (j : ℕ) (v : View) (ws : List ℕ) (xs : List S)
-    → Final (Seen (holds about) j v) ws xs → (n g : ℕ) → n ≡ about.config.schedulers
-    → g ≡ about.trace.now.greatest → (names : List Named) → AreGiven n g ws names
-    → Closes about j v names
-closes about j v ws xs final n g p q names are =
+-- the slot of a carrier whose content is at home
+slot-home : (hs : List (maybe.Option Slot)) (claim_of : ℕ → ℕ) (number : ℕ) (p : CarrierAt)
+    (x : Content) → home_of p ≡ Some x → IsSlot hs claim_of number p
+    → get_elem? hs (slot_at number) ≡ some (some (Some x))
+slot-home hs claim_of number Absent x home is = absurd cc
+slot-home hs claim_of number (Employed i) x home is = absurd cc
+slot-home hs claim_of number (Pooled i g y) x home is = is ∙ ap (λ z. some (some z)) home
+slot-home hs claim_of number (Busy i) x home is = absurd cc
+slot-home hs claim_of number (Returning i y) x home is = is ∙ ap (λ z. some (some z)) home
+
+module _ (c : Config) (t : Trace) (s : table.State Slot View) (h : Keeps c t s) where
+  abbrev w : State
+  w = run (setup_of c t) h.ran
+
+  -- the words of a table that keeps the rule give the names that are given then
+  gives : Gives c.schedulers t.greatest s.words w.shared.given
+  gives = record {
+    rising = (rule-run c t h.valid h.made h.ran).present.given;
+    within = calls.given-range c t h.valid h.made w (h.ran, refl);
+    words = h.coded.names;
+    codable = λ name spot there. (item_at-All name_of
+        (λ x. IsFit c.schedulers t.greatest (block_node x)) name
+        (record { name = name; spot = spot }) w.shared.given
+        (worded c t h.valid h.made h.ran).given
+        (named-spot name spot w.shared.given there)).1;
+  }
+
+  -- and its words and slots have the carriers where they are
+  has-places : (xs : List Slot) → ((k : ℕ) (y : Slot) → get_elem? s.homes k ≡ some (some y)
+      → get_elem? xs k ≡ some y) → HasPlaces c.schedulers t.greatest s.words xs w.shared.places
+  has-places xs home = record {
+    words = λ number is. h.coded.owners number is.0 is.1;
+    shown = (worded c t h.valid h.made h.ran).owners;
+    homes = λ number is x there. home (slot_at number) (Some x)
+        (slot-home s.homes h.claim_of number (w.shared.places number) x there
+        (h.housed.each number is.0 is.1));
+    beyond = λ number out. absent-by (w.shared.places number) (λ there.
+        let is = there-number c t h.valid h.made w (h.ran, refl) number there in
+        out (is.0, omega (arith, is.1)));
+  }
+
+-- the table was closed with these words and slots after some steps: its seat j knew its schedulers
+-- as they stood then, and the words and slots are of that state
+pub record Closes (j : ℕ) (v : View) (ws : List ℕ) (xs : List Slot) (c : Config)
+    (t : Trace) : Type 0 where
+  pub ran : List ℕ
+  pub steps : AreSteps (setup_of c t) ran
+  pub seat_of : ℕ → ℕ
+  pub claim_of : ℕ → ℕ
+  pub knows : Knows c t ran seat_of claim_of j v
+  pub given : Gives c.schedulers t.greatest ws (run (setup_of c t) ran).shared.given
+  pub places : HasPlaces c.schedulers t.greatest ws xs (run (setup_of c t) ran).shared.places
+
+pub closes : (about : About) (j : ℕ) (v : View) (ws : List ℕ) (xs : List Slot)
+    → Final (Seen (holds about) j v) ws xs → Closes j v ws xs about.config about.trace.now
+closes about j v ws xs final =
+    let c = about.config in
+    let t = about.trace.now in
     let h = final.1.0 in
-    let given = (run (setup_of about.config about.trace.now) h.ran).shared.given in
-    let words = subst (λ l. Gives about.config.schedulers about.trace.now.greatest l given) final.2
-    (gives about.config about.trace.now final.0 h) in
+    let w = run (setup_of c t) h.ran in
     record {
       ran = h.ran;
       steps = h.steps;
       seat_of = h.seat_of;
+      claim_of = h.claim_of;
       knows = h.each_seat j v final.1.1;
-      given = are given (subst (λ i. Gives i g ws given) (sym p)
-          (subst (λ i. Gives about.config.schedulers i ws given) (sym q) words));
+      given = subst (λ us. Gives c.schedulers t.greatest us w.shared.given) final.2
+          (gives c t final.0 h);
+      places = subst (λ us. HasPlaces c.schedulers t.greatest us xs w.shared.places) final.2
+          (has-places c t final.0 h xs final.4);
     }
-
--- the same of the run that a table's key tells
-abbrev ClosesRun : ℕ → View → List Named → Config → Trace → Type 0
-ClosesRun j v names c t = (ran : List ℕ) × AreSteps (setup_of c t) ran × (seat_of : ℕ → ℕ)
-    × Knows c t ran seat_of j v × (names ≡ (run (setup_of c t) ran).shared.given)
 
 module _ (c : Config) (t : Trace) (valid : IsValidConfig c) (made : IsValidTrace c.schedulers t)
     (id : TableId) (front : List Finished) (last : Finished)
@@ -97,13 +144,13 @@ module _ (c : Config) (t : Trace) (valid : IsValidConfig c) (made : IsValidTrace
   abbrev seat_of : Finished → Seated
   seat_of f = acting f.pass.seat.me.0
 
-  module _ (turns : List ℕ) (f_of : ℕ → ℕ) (j : ℕ) (v : View)
+  module _ (turns : List ℕ) (f_of claim_of : ℕ → ℕ) (j : ℕ) (v : View)
       (is : v ≡ record (last.pass.seat.me.0) {
         seated = last.pass.seat.me.0.seated ++ map seat_of front;
       })
-      (sit : All (Sits c t turns f_of j) v.seated) where
+      (sit : All (Sits c t turns f_of claim_of j) v.seated) where
     abbrev P : Seated → Type 0
-    P = Sits c t turns f_of j
+    P = Sits c t turns f_of claim_of j
 
     sits : All P (map seat_of (front ++ last ∷ []))
     sits =
@@ -140,32 +187,31 @@ module _ (c : Config) (t : Trace) (valid : IsValidConfig c) (made : IsValidTrace
         (front ++ last ∷ []) stands
         ∙ ap (λ n. map (λ i. (run e turns).actors i) (range_with_len 1 n)) all
 
-  -- the schedulers stand in the state in which the table was closed
-  stand-closed : migration e ≡ false → (about : About) → about.config ≡ c
-      → about.trace.now ≡ t → (j : ℕ) (v : View)
+  -- the table was closed in a state of the run, in which the schedulers stand so
+  closed-in : (about : About) → about.config ≡ c → about.trace.now ≡ t → (j : ℕ) (v : View)
       → v ≡ record (last.pass.seat.me.0) {
         seated = last.pass.seat.me.0.seated ++ map seat_of front;
       }
-      → (names : List Named) → Closes about j v names → (ss : List Scheduler)
+      → (ws : List ℕ) (xs : List Slot) → Final (Seen (holds about) j v) ws xs
+      → (ss : List Scheduler)
       → map (λ s. actor_of s) ss ≡ map (λ (f : Finished). actor_of f.scheduler) (front ++ last ∷ [])
-      → (turns : List ℕ) × AreSteps e turns × StandIn c t ss nowhere names (run e turns)
-  stand-closed off about p q j v is names closed ss same =
-      let (ran, steps, f, knows, given) = moved about.config c about.trace.now t p q
-      (ClosesRun j v names)
-      (closed.ran, closed.steps, closed.seat_of, closed.knows, closed.given) in (
-        ran,
-        steps,
+      → (turns : List ℕ) × AreSteps e turns × IsClosedIn c t ss ws xs (run e turns)
+  closed-in about p q j v is ws xs final ss same =
+      let closed = moved about.config c about.trace.now t p q (Closes j v ws xs)
+      (closes about j v ws xs final) in (
+        closed.ran,
+        closed.steps,
         record {
-          reached = (ran, refl);
-          actors = same ∙ actors-are ran f j v is knows.seated;
-          told = λ on number. absurd (false≢true (sym off ∙ on));
-          given = given;
+          reached = (closed.ran, refl);
+          actors = same
+              ∙ actors-are closed.ran closed.seat_of closed.claim_of j v is closed.knows.seated;
+          given = closed.given;
+          places = closed.places;
         },
       )
 
 -- the same of finished schedulers of which the last one's seat took in the others
 pub gathered : (c : Config) (t : Trace) → IsValidConfig c → IsValidTrace c.schedulers t
-    → migration (setup_of c t) ≡ false
     → (about : About) → about.config ≡ c → about.trace.now ≡ t → (id : TableId)
     → (finished : List Finished) → length finished ≡ c.schedulers
     → ((k : ℕ) (d : Finished) → k < c.schedulers → IsLast c t id (k + 1) (get_or finished k d))
@@ -173,25 +219,25 @@ pub gathered : (c : Config) (t : Trace) → IsValidConfig c → IsValidTrace c.s
     → (j : ℕ) (v : View) → v ≡ record (last.pass.seat.me.0) {
       seated = last.pass.seat.me.0.seated ++ map (λ f. acting f.pass.seat.me.0) front;
     }
-    → (names : List Named) → Closes about j v names
+    → (ws : List ℕ) (xs : List Slot) → Final (Seen (holds about) j v) ws xs
     → (taken ss : List Scheduler) → ss ≡ taken ++ last.scheduler ∷ []
     → map (λ s. actor_of s) taken ≡ map (λ (f : Finished). actor_of f.scheduler) front
     → (turns : List ℕ) × AreSteps (setup_of c t) turns
-    × StandIn c t ss nowhere names (run (setup_of c t) turns)
+    × IsClosedIn c t ss ws xs (run (setup_of c t) turns)
     × (map (λ (f : Finished). actor_of f.scheduler) finished
     ≡ actors_of (setup_of c t) (run (setup_of c t) turns))
-gathered c t valid made off about p q id finished all each front last items j v is names closed
-    taken ss pushed same =
+gathered c t valid made about p q id finished all each front last items j v is ws xs final taken ss
+    pushed same =
     let same' = ap (map (λ s. actor_of s)) pushed
     ∙ map-append (λ s. actor_of s) taken (last.scheduler ∷ [])
     ∙ ap (λ xs. xs ++ actor_of last.scheduler ∷ []) same
     ∙ sym (map-append (λ (f : Finished). actor_of f.scheduler) front (last ∷ [])) in
-    let (turns, steps, stand) = stand-closed c t valid made id front last
+    let (turns, steps, closed) = closed-in c t valid made id front last
     (ap length (sym items) ∙ all)
     (λ k d less. subst (λ xs. IsLast c t id (k + 1) (get_or xs k d)) items (each k d less))
-    off about p q j v is names closed ss same' in (
+    about p q j v is ws xs final ss same' in (
       turns,
       steps,
-      stand,
-      ap (map (λ (f : Finished). actor_of f.scheduler)) items ∙ sym same' ∙ stand.actors,
+      closed,
+      ap (map (λ (f : Finished). actor_of f.scheduler)) items ∙ sym same' ∙ closed.actors,
     )

@@ -15,13 +15,14 @@ use Rattle.ea_table.specs.declared.views.About.{About}
 use Rattle.ea_table.specs.declared.views.View.{View}
 use Rattle.ea_table.specs.Ruling.{IsSingle, acting, actor_in, caller_in, holds, steps}
 use Rattle.ea_table.specs.Seating.{IsSeatedAt}
+use Rattle.ea_table.specs.Slots.{Slot}
 use Rattle.ea_table.specs.Words.{head_at, link_at, name_at}
 use Rattle.ea_table.proofs.Fitting.{fits-given, fits-linked, fits-linked_to}
 use Rattle.ea_table.proofs.Fitting.{fits-pushed, fits-taken, fits-tried}
 use Rattle.ea_table.proofs.Rows.{allows}
 
-module _ {S : Type 0} (b : Board) (p : Pass) (xs : List (ℕ × S)) (at : IsSeatedAt b p) (me : ℕ)
-    (number : IsScheduler b.schedulers me) (st : Step S) where
+module _ (b : Board) (p : Pass) (xs : List (ℕ × Slot)) (at : IsSeatedAt b p) (me : ℕ)
+    (number : IsScheduler b.schedulers me) (st : Step Slot) where
   abbrev about : About
   about = b.table.shared.key
 
@@ -70,7 +71,7 @@ module _ {S : Type 0} (b : Board) (p : Pass) (xs : List (ℕ × S)) (at : IsSeat
   takes-all wanted i place = swapped i (head_at me) 0 0 place refl
       (subst (λ j. MayStep (head_at j) (λ _. 0) (λ found. found)) wanted.0
       (allows about slots id (head_at (acting v).number) (λ _. 0) (λ found. found) v xs st TakeAll
-      is wanted.1 (λ q. cc) (fits-taken v (mine wanted.0) wanted.1)))
+      is wanted.1 (λ q. cc) (fits-taken v (mine wanted.0) xs wanted.1)))
 
   pub takes-link : (node : Node) → IsNode n g node → (actor_in v).next ≡ Some node
       → WantsRow me TakeLink (caller_in v) → (i : ℕ) → i ≡ link_at n g node
@@ -79,7 +80,7 @@ module _ {S : Type 0} (b : Board) (p : Pass) (xs : List (ℕ × S)) (at : IsSeat
       (λ n g. IsNode n g node → MayStep (link_at n g node) (λ _. 0) (λ found. found))
       (λ fits. allows about slots id (link_at v.config.schedulers v.trace.greatest node) (λ _. 0)
       (λ found. found) v xs st TakeLink is wanted.1 (λ q. cc)
-      (fits-linked_to v (mine wanted.0) node fits next wanted.1)) fits)
+      (fits-linked_to v (mine wanted.0) xs node fits next wanted.1)) fits)
 
   pub pushes : (node : Node) (to : ℕ) → IsNode n g node → IsScheduler n to
       → WantsRow me (Push node to) (caller_in v) → (i new : ℕ) → i ≡ head_at to
@@ -89,8 +90,8 @@ module _ {S : Type 0} (b : Board) (p : Pass) (xs : List (ℕ × S)) (at : IsSeat
       (λ n g. IsNode n g node → MayStep (head_at to) (λ _. code_of node) (λ found. found))
       (λ fits. allows about slots id (head_at to) (λ _. code_of node) (λ found. found) v xs st
       (Push node to) is wanted.1 (λ q. cc)
-      (fits-pushed v (mine wanted.0) node to fits target.0 (omega (arith, target.1, at.schedulers))
-      wanted.1)) fits)
+      (fits-pushed v (mine wanted.0) xs node to fits target.0
+      (omega (arith, target.1, at.schedulers)) wanted.1)) fits)
 
   pub links : (node : Node) (to : ℕ) → IsNode n g node → IsScheduler n to
       → WantsRow me (Link node to) (caller_in v) → (i new : ℕ) → i ≡ link_at n g node
@@ -101,7 +102,7 @@ module _ {S : Type 0} (b : Board) (p : Pass) (xs : List (ℕ × S)) (at : IsSeat
       → MayStep (link_at n g node) (λ _. (acting v).older) (λ _. (acting v).older))
       (λ fits. allows about slots id (link_at v.config.schedulers v.trace.greatest node)
       (λ _. (acting v).older) (λ _. (acting v).older) v xs st (Link node to) is wanted.1 (λ q. cc)
-      (fits-linked v (mine wanted.0) node to fits (omega (arith, target.1, at.schedulers))
+      (fits-linked v (mine wanted.0) xs node to fits (omega (arith, target.1, at.schedulers))
       wanted.1))
       fits)
 
@@ -114,7 +115,7 @@ module _ {S : Type 0} (b : Board) (p : Pass) (xs : List (ℕ × S)) (at : IsSeat
       (λ _. code_of (block_node x)))
       (allows about slots id (name_at v.config.schedulers v.trace.greatest x.name)
       (λ _. code_of (block_node x)) (λ _. code_of (block_node x)) v xs st (Give x) is wanted.1
-      (λ q. cc) (fits-given v (mine wanted.0) x name.0 (omega (arith, name.1, at.greatest))
+      (λ q. cc) (fits-given v (mine wanted.0) xs x name.0 (omega (arith, name.1, at.greatest))
       wanted.1)))
 
   pub tries : (name : ℕ) → (1 ≤ name) × (name ≤ g) → WantsRow me (TakeTry name) (caller_in v)
@@ -123,4 +124,5 @@ module _ {S : Type 0} (b : Board) (p : Pass) (xs : List (ℕ × S)) (at : IsSeat
       (λ n g. MayStep (name_at n g name) (λ _. 0) (λ found. found))
       (allows about slots id (name_at v.config.schedulers v.trace.greatest name) (λ _. 0)
       (λ found. found) v xs st (TakeTry name) is wanted.1 (λ q. cc)
-      (fits-tried v (mine wanted.0) name named.0 (omega (arith, named.1, at.greatest)) wanted.1)))
+      (fits-tried v (mine wanted.0) xs name named.0 (omega (arith, named.1, at.greatest))
+      wanted.1)))

@@ -2,6 +2,7 @@
 use Rattle.std.proofs.Common.{◌≡◌, ◌≢◌, ℕ, ◌≤◌, Bool, true, false, List, [], ◌∷◌, ◌++◌}
 use Rattle.std.proofs.Common.{Option, None, Some, refl, sym, ap, ◌∙◌, subst, arith}
 use Rattle.std.specs.Prelude.{All, IfSome, option_map}
+use Rattle.atomic_table.specs.Table.{Me, carried_after}
 use Rattle.ea_model.specs.declared.carriers.Spot.{Spot}
 use Rattle.ea_machine.specs.declared.nodes.Node.{Node}
 use Rattle.ea_machine.specs.declared.nodes.Node.TheVariants.{Block}
@@ -15,9 +16,12 @@ use Rattle.ea_shared.specs.Calls.{Did, WantsRow, caller_of}
 use Rattle.ea_sound.proofs.OtherTurns.{actor-since, rest-since}
 use Rattle.ea_sound.proofs.TurnLists.{run-snoc}
 use Rattle.ea_word.specs.Codes.{IsCodable, code_of, link_code}
+use Rattle.ea_table.specs.declared.views.Seated.{Seated}
 use Rattle.ea_table.specs.declared.views.View.{View}
-use Rattle.ea_table.specs.Ruling.{DidRow, Reads, ReadsHead, ReadsLink, ReadsName, Took, acting}
-use Rattle.ea_table.specs.Ruling.{actor_in, caller_in, older_after, setup_in, shared_since, stepped}
+use Rattle.ea_table.specs.Ruling.{DidRow, IsSingle, Reads, ReadsHead, ReadsLink, ReadsName, Took}
+use Rattle.ea_table.specs.Ruling.{acting, actor_in, caller_in, claimed, move_since, older_after}
+use Rattle.ea_table.specs.Ruling.{setup_in, shared_since, stepped}
+use Rattle.ea_table.specs.Slots.{Move, Slot, act_of, claim_by, move_of}
 use Rattle.ea_table.specs.Words.{block_spot, mark_code}
 use Rattle.ea_table.proofs.Rows.{code-more}
 
@@ -64,29 +68,86 @@ pub name-told : (name : ℕ) (spot : Option Spot) (found : ℕ) (result : Option
 name-told name None found result reads d = small-none found result (omega (arith, reads.0)) d
 name-told name (Some p) found result reads d = d.0 (Block name p) reads.1 reads.0
 
-module _ (v u : View) (me found : ℕ) (row : Row) (took : Took v found u)
-    (wanted : WantsRow me row (caller_in v)) where
+-- a seat that has one scheduler has one with another of these
+single-with : (v : View) → IsSingle v → (x : Seated) → IsSingle (record v { seated = x ∷ [] })
+single-with v is x = ap (λ (l : Bool). record v { seated = x ∷ []; live = l })
+    (ap (λ (u : View). u.live) is)
+
+pub single-claimed : (v : View) → IsSingle v → (k : ℕ) → IsSingle (claimed v k)
+single-claimed v is k = single-with v is (record (acting v) { claim = k })
+
+module _ (m n : Me Slot View) (me found : ℕ) (row : Row) (took : Took m found n)
+    (wanted : WantsRow me row (caller_in m.0)) where
   abbrev pub s : Shared
-  s = shared_since v took.since
+  s = shared_since m.0 took.since
 
-  pub reads-row : Reads (acting v).number row s found
-  reads-row = subst (λ r. Reads (acting v).number r s found) wanted.1 took.reads
+  abbrev pub got_of : Answer
+  got_of = answer (acting m.0).number row s
 
-  pub did : (got : Answer) → got ≡ answer (acting v).number row s → DidRow me row got v u
+  pub reads-row : Reads (acting m.0).number row s found
+  reads-row = subst (λ r. Reads (acting m.0).number r s found) wanted.1 took.reads
+
+  pub did : (got : Answer) → got ≡ got_of → DidRow me row got m.0 n.0
   did got is = record {
     number = wanted.0;
     since = took.since;
     others = subst (λ i. All (λ j. j ≢ i) took.since) wanted.0 took.others;
     answered = is ∙ ap (λ i. answer i row s) wanted.0;
-    older = older_after (wants (actor_in v)) found (acting v).older;
+    older = older_after (wants (actor_in m.0)) found (acting m.0).older;
+    claim = claim_by (move_since m.0 took.since) (acting m.0).claim;
     view = took.view;
   }
 
   pub head-row : (newest : Option Node) (result : Option Node)
-      → answer (acting v).number row s ≡ Head newest → ReadsHead newest found
-      → Decodes found result → DidRow me row (Head result) v u
+      → got_of ≡ Head newest → ReadsHead newest found
+      → Decodes found result → DidRow me row (Head result) m.0 n.0
   head-row newest result is reads d = did (Head result)
       (ap Head (head-told newest found result reads d) ∙ sym is)
+
+  -- the slots that the seat has after the row, and the carrier whose slot it has claimed
+  module _ (move : Move) (moves : move_of row got_of ≡ move) where
+    move-is : move_since m.0 took.since ≡ move
+    move-is = ap (λ r. move_of r (answer (acting m.0).number r s)) wanted.1 ∙ moves
+
+    pub slots-after : n.1 ≡ carried_after m.1 (act_of move)
+    slots-after = took.slots ∙ ap (λ x. carried_after m.1 (act_of x)) move-is
+
+    pub claim-after : (acting n.0).claim ≡ claim_by move (acting m.0).claim
+    claim-after = ap (λ (x : View). (acting x).claim) took.view
+        ∙ ap (λ x. claim_by x (acting m.0).claim) move-is
+
+  -- it still has one scheduler
+  pub single-after : IsSingle m.0 → IsSingle n.0
+  single-after is = subst IsSingle (sym took.view)
+      (single-with m.0 is (acting (stepped m.0 took.since
+      (older_after (wants (actor_in m.0)) found (acting m.0).older)
+      (claim_by (move_since m.0 took.since) (acting m.0).claim))))
+
+  -- the link word that it keeps
+  pub older-after : (acting n.0).older ≡ older_after row found (acting m.0).older
+  older-after = ap (λ (x : View). (acting x).older) took.view
+      ∙ ap (λ r. older_after r found (acting m.0).older) wanted.1
+
+-- after a row the seat knows the same run
+pub run-after : (me : ℕ) (row : Row) (got : Answer) (v u : View) → DidRow me row got v u
+    → (u.config ≡ v.config) × (u.trace ≡ v.trace)
+run-after me row got v u d = (
+  ap (λ (x : View). x.config) d.view,
+  ap (λ (x : View). x.trace) d.view,
+)
+
+-- a row after which it claimed a slot, or gave it back, by a look
+pub did-yielded : (me : ℕ) (row : Row) (got : Answer) (v u w : View) (k : ℕ)
+    → DidRow me row got v u → w ≡ claimed u k → DidRow me row got v w
+did-yielded me row got v u w k d is = record {
+  number = d.number;
+  since = d.since;
+  others = d.others;
+  answered = d.answered;
+  older = d.older;
+  claim = k;
+  view = is ∙ ap (λ (x : View). claimed x k) d.view;
+}
 
 -- the caller stays as it is while others take turns
 caller-since : (e : Setup) (me : ℕ) (turns since : List ℕ) → All (λ i. i ≢ me) since
@@ -122,46 +183,46 @@ caller-did me row got v u d = record {
   stands = caller-since (setup_in v) me (acting v).turns d.since d.others
       ∙ ap (λ j. caller_of (setup_in v) j (run (setup_in v) (acting v).turns)) (sym d.number)
 
-  after : caller_in (stepped v d.since d.older)
+  after : caller_in (stepped v d.since d.older d.claim)
       ≡ caller_of (setup_in v) me (step (setup_in v) (run (setup_in v) ran) me)
   after = ap (caller_of (setup_in v) i) (run-snoc (setup_in v) ran i)
       ∙ ap (λ j. caller_of (setup_in v) j (step (setup_in v) (run (setup_in v) ran) j)) d.number
 
 -- a link was read
-module _ (v u : View) (me found : ℕ) (took : Took v found u)
-    (wanted : WantsRow me TakeLink (caller_in v)) where
+module _ (m n : Me Slot View) (me found : ℕ) (took : Took m found n)
+    (wanted : WantsRow me TakeLink (caller_in m.0)) where
   abbrev shared : Shared
-  shared = s v u me found TakeLink took wanted
+  shared = s m n me found TakeLink took wanted
 
-  reads-link : ReadsLink (shared.rests (acting v).number) found
-  reads-link = reads-row v u me found TakeLink took wanted
+  reads-link : ReadsLink (shared.rests (acting m.0).number) found
+  reads-link = reads-row m n me found TakeLink took wanted
 
-  pub rests-row : found ≡ 0 → DidRow me TakeLink Rests v u
+  pub rests-row : found ≡ 0 → DidRow me TakeLink Rests m.0 n.0
   unfolding answer
-  rests-row z = did v u me found TakeLink took wanted Rests
-      (sym (link-rests (shared.rests (acting v).number) found reads-link z))
+  rests-row z = did m n me found TakeLink took wanted Rests
+      (sym (link-rests (shared.rests (acting m.0).number) found reads-link z))
 
   pub passes-row : (result : Option Node) → found ≢ 0 → Decodes found result
-      → DidRow me TakeLink (Passes result) v u
+      → DidRow me TakeLink (Passes result) m.0 n.0
   unfolding answer
-  passes-row result other d = did v u me found TakeLink took wanted (Passes result)
-      (sym (link-passes (shared.rests (acting v).number) found result reads-link other d))
+  passes-row result other d = did m n me found TakeLink took wanted (Passes result)
+      (sym (link-passes (shared.rests (acting m.0).number) found result reads-link other d))
 
 -- a try to take a name
-module _ (v u : View) (me found name : ℕ) (took : Took v found u)
-    (wanted : WantsRow me (TakeTry name) (caller_in v)) where
+module _ (m n : Me Slot View) (me found name : ℕ) (took : Took m found n)
+    (wanted : WantsRow me (TakeTry name) (caller_in m.0)) where
   abbrev held : Option Spot
-  held = spot_named name (s v u me found (TakeTry name) took wanted).given
+  held = spot_named name (s m n me found (TakeTry name) took wanted).given
 
   told : (result : Option Node) → Decodes found result
       → result ≡ option_map (λ p. Block name p) held
   told result d = name-told name held found result
-      (reads-row v u me found (TakeTry name) took wanted) d
+      (reads-row m n me found (TakeTry name) took wanted) d
 
   pub spot-row : (result : Option Node) → Decodes found result
-      → DidRow me (TakeTry name) (Got (block_spot result)) v u
+      → DidRow me (TakeTry name) (Got (block_spot result)) m.0 n.0
   unfolding answer
-  spot-row result d = did v u me found (TakeTry name) took wanted (Got (block_spot result))
+  spot-row result d = did m n me found (TakeTry name) took wanted (Got (block_spot result))
       (ap (λ o. Got (block_spot o)) (told result d) ∙ ap Got (by held)) where
         by : (o : Option Spot) → block_spot (option_map (λ p. Block name p) o) ≡ o
         by None = refl

@@ -1,27 +1,40 @@
 -- How a run ends.
-use Rattle.std.specs.Prelude.{◌≡◌, ℕ, ◌≤◌, List, All, AllPairs, Some, map, slice_index}
+use Rattle.std.specs.Prelude.{◌≡◌, ℕ, ◌+◌, ◌*◌, ◌/◌, ◌%◌, ◌^◌, ◌≤◌, nat_le, ◌==◌}
+use Rattle.std.specs.Prelude.{Bool, true, false, ◌&&◌, if◌then◌else◌, List, All, AllPairs, None}
+use Rattle.std.specs.Prelude.{Some, map, slice_index, slice_index_or}
+use mathlib.Core.Option.{some}
+use lib.ListN.{get_elem?}
 use Rattle.atomic_table.specs.Seated.{TableId}
 use Rattle.ea_model.specs.declared.carriers.Spot.{Spot}
 use Rattle.ea_model.specs.declared.outcome.Outcome.{Outcome}
 use Rattle.ea_model.specs.declared.settings.Config.{Config}
 use Rattle.ea_model.specs.declared.trace.Trace.{Trace}
+use Rattle.ea_model.specs.declared.units.TheConstants.{NUMBERS}
+use Rattle.ea_model.specs.Content.{Content}
 use Rattle.ea_model.specs.Keyed.{IsBelow}
 use Rattle.ea_model.specs.Outcome.{plain_outcome}
 use Rattle.ea_machine.specs.declared.nodes.Named.{Named}
 use Rattle.ea_machine.specs.declared.nodes.Node.TheVariants.{Block}
+use Rattle.ea_machine.specs.declared.owners.OwnerWord.{OwnerWord}
+use Rattle.ea_machine.specs.declared.owners.OwnerWord.TheVariants as word
 use Rattle.ea_machine.specs.Courses.{AreSteps}
-use Rattle.ea_machine.specs.Machine.{run}
+use Rattle.ea_machine.specs.Machine.{IsReached, run}
 use Rattle.ea_machine.specs.Nodes.{spot_named, name_of}
-use Rattle.ea_machine.specs.Owners.{CarrierAt, Absent}
+use Rattle.ea_machine.specs.Owners.{CarrierAt, Absent, Employed, Pooled, Busy, Returning, word_of}
 use Rattle.ea_machine.specs.Outcome as machine
 use Rattle.ea_machine.specs.Setup.{setup_of}
+use Rattle.ea_machine.specs.State.{State}
+use Rattle.ea_sched.specs.declared.state.Scheduler.{Scheduler}
 use Rattle.ea_sched.specs.Acting.{actor_of}
-use Rattle.ea_word.specs.Codes.{IsCodable}
-use Rattle.ea_table.specs.declared.views.About.{About}
-use Rattle.ea_table.specs.declared.views.View.{View}
+use Rattle.ea_shared.specs.Carriers.{IsCarrier, home_of}
+use Rattle.ea_word.specs.declared.owners.TheConstants.{BUSY_STATE, EMPLOYED_STATE, INSTANCE_SHIFT}
+use Rattle.ea_word.specs.declared.owners.TheConstants.{LARGEST_SHIFT, MAX_CODED_INSTANCE}
+use Rattle.ea_word.specs.declared.owners.TheConstants.{POOLED_STATE, RETURNING_STATE, STATES}
+use Rattle.ea_word.specs.Codes.{IsCodable, IsShown}
 use Rattle.ea_table.specs.declared.worker.Finished.{Finished}
-use Rattle.ea_table.specs.Ruling.{Knows, acting, actor_in}
-use Rattle.ea_table.specs.Words.{given_code, name_at}
+use Rattle.ea_table.specs.Ruling.{acting, actor_in}
+use Rattle.ea_table.specs.Slots.{Slot, slot_at}
+use Rattle.ea_table.specs.Words.{given_code, name_at, owner_at, place_code}
 
 -- the words of names are those of these given names
 pub record Gives (n g : ℕ) (ws : List ℕ) (given : List Named) : Type 0 where
@@ -36,18 +49,59 @@ pub record Gives (n g : ℕ) (ws : List ℕ) (given : List Named) : Type 0 where
 abbrev pub AreGiven : ℕ → ℕ → List ℕ → List Named → Type 0
 AreGiven n g ws names = (given : List Named) → Gives n g ws given → names ≡ given
 
--- where carriers don't migrate none is told to be anywhere
-abbrev pub nowhere : ℕ → CarrierAt
-nowhere number = Absent
+-- the owner word with that number
 
--- the table was closed after these steps: its seat j knew its schedulers as they stood then, and
--- these names were given
-pub record Closes (about : About) (j : ℕ) (v : View) (names : List Named) : Type 0 where
-  pub ran : List ℕ
-  pub steps : AreSteps (setup_of about.config about.trace.now) ran
-  pub seat_of : ℕ → ℕ
-  pub knows : Knows about.config about.trace.now ran seat_of j v
-  pub given : names ≡ (run (setup_of about.config about.trace.now) ran).shared.given
+abbrev pub word_by : (state instance largest : ℕ) → OwnerWord
+word_by state instance largest =
+    if state == EMPLOYED_STATE then word.Employed instance
+    else if state == POOLED_STATE then word.Pooled instance largest
+    else if state == BUSY_STATE then word.Busy instance
+    else if state == RETURNING_STATE then word.Returning instance
+    else word.Absent
+
+abbrev pub word_in : ℕ → OwnerWord
+word_in found = word_by (found % STATES)
+    (found / 2 ^ INSTANCE_SHIFT % MAX_CODED_INSTANCE + 1) (2 * (found / 2 ^ LARGEST_SHIFT))
+
+-- where a carrier is, by its owner word and by what is in its slot
+abbrev pub place_by : OwnerWord → Slot → CarrierAt
+place_by word.Absent x = Absent
+place_by (word.Employed i) x = Employed i
+place_by (word.Pooled i largest) None = Absent
+place_by (word.Pooled i largest) (Some x) = Pooled i largest x
+place_by (word.Busy i) x = Busy i
+place_by (word.Returning i) None = Absent
+place_by (word.Returning i) (Some x) = Returning i x
+
+-- a table of that many schedulers, with names up to a greatest one, that was closed with these
+-- words, and with these slots
+module _ (n g : ℕ) (ws : List ℕ) (xs : List Slot) where
+  -- where each carrier is
+  abbrev pub place_if : Bool → ℕ → CarrierAt
+  place_if true number = place_by (word_in (slice_index ws (owner_at n g number)))
+      (slice_index_or xs (slot_at number) None)
+  place_if false number = Absent
+
+  abbrev pub places_in : ℕ → CarrierAt
+  places_in number = place_if (nat_le 1 number && nat_le number (NUMBERS * n)) number
+
+  -- the carriers are at these places: the owner words are theirs, the slots have the contents that
+  -- are at home, and no other number has a carrier
+  pub record HasPlaces (places : ℕ → CarrierAt) : Type 0 where
+    pub words : (number : ℕ) → IsCarrier n number
+        → slice_index ws (owner_at n g number) ≡ place_code (places number)
+    pub shown : (number : ℕ) → IsShown (word_of (places number))
+    pub homes : (number : ℕ) → IsCarrier n number → (x : Content)
+        → home_of (places number) ≡ Some x → get_elem? xs (slot_at number) ≡ some (Some x)
+    pub beyond : (number : ℕ) → (IsCarrier n number → ⊥) → places number ≡ Absent
+
+-- such a table was closed in that state of the run, in which its schedulers are these
+pub record IsClosedIn (c : Config) (t : Trace) (schedulers : List Scheduler) (ws : List ℕ)
+    (xs : List Slot) (w : State) : Type 0 where
+  pub reached : IsReached (setup_of c t) w
+  pub actors : map actor_of schedulers ≡ machine.actors_of (setup_of c t) w
+  pub given : Gives c.schedulers t.greatest ws w.shared.given
+  pub places : HasPlaces c.schedulers t.greatest ws xs w.shared.places
 
 -- scheduler i of the run with its pass of that table, which knows it as it stands
 pub record IsLast (c : Config) (t : Trace) (id : TableId) (i : ℕ) (f : Finished) : Type 0 where

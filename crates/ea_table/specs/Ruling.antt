@@ -1,11 +1,11 @@
--- The rule of the table: its words are the coding of what is shared after a list of steps, and each
--- seat knows its scheduler as that stands then.
-use Rattle.std.specs.Prelude.{◌≡◌, ◌≢◌, ℕ, true, false, ◌==◌, if◌then◌else◌}
-use Rattle.std.specs.Prelude.{List, [], ◌∷◌, ◌++◌, All, map, Option, IfSome}
+-- The rule of the table: its words are the coding of what is shared after a list of steps, its
+-- slots have the contents that are at home, and each seat knows its scheduler as that stands then.
+use Rattle.std.specs.Prelude.{◌≡◌, ◌≢◌, ℕ, ◌≤◌, true, false, ◌==◌, if◌then◌else◌}
+use Rattle.std.specs.Prelude.{List, [], ◌∷◌, ◌++◌, All, map, Option, None, IfSome}
 use Rattle.std.specs.List.{range_with_len}
 use mathlib.Core.Option.{some}
 use lib.ListN.{get_elem?}
-use Rattle.atomic_table.specs.Table.{Me, Step}
+use Rattle.atomic_table.specs.Table.{Me, Step, carried_after, rest}
 use Rattle.atomic_table.specs.Table as table
 use Rattle.ea_model.specs.declared.carriers.Spot.{Spot}
 use Rattle.ea_model.specs.declared.settings.Config.{Config}
@@ -26,18 +26,20 @@ use Rattle.ea_machine.specs.Actor.{Actor}
 use Rattle.ea_machine.specs.Courses.{AreSteps}
 use Rattle.ea_machine.specs.Machine.{run, wants}
 use Rattle.ea_machine.specs.Nodes.{Mark, first_node, spot_named}
+use Rattle.ea_machine.specs.Owners.{CarrierAt, word_of}
 use Rattle.ea_machine.specs.Rows.{Answer, Row, TakeAll, TakeLink, Look, Push}
 use Rattle.ea_machine.specs.Rows.{Link, BusyTry, Settle, Abandon, FetchTry}
 use Rattle.ea_machine.specs.Rows.{Create, SendHome, Clear, Give, TakeTry, Nothing}
-use Rattle.ea_machine.specs.Setup.{Setup, migration, setup_of}
+use Rattle.ea_machine.specs.Setup.{Setup, setup_of}
 use Rattle.ea_machine.specs.Shared.{Shared}
 use Rattle.ea_machine.specs.State.{State}
 use Rattle.ea_machine.specs.Table.{answer}
 use Rattle.ea_shared.specs.Calls.{Caller, caller_of}
 use Rattle.ea_sound.specs.Standing.{IsOlderAt}
 use Rattle.ea_word.specs.declared.words.TheConstants.{NO_NODE, OLDEST}
-use Rattle.ea_word.specs.Codes.{IsCodable, head_code, link_code}
-use Rattle.ea_table.specs.Words.{Codes, given_code, mark_code}
+use Rattle.ea_word.specs.Codes.{IsCodable, IsShown, head_code, link_code}
+use Rattle.ea_table.specs.Slots.{Houses, Move, Slot, act_of, claim_by, move_of, slot_at}
+use Rattle.ea_table.specs.Words.{Codes, given_code, mark_code, owner_at, place_code}
 use Rattle.ea_table.specs.declared.views.About.{About}
 use Rattle.ea_table.specs.declared.views.Seated.{Seated}
 use Rattle.ea_table.specs.declared.views.View.{View}
@@ -49,15 +51,16 @@ Remembers w s word = (node : Node) (to : ℕ) (why : Why) (gone : Gone)
     → (w.actors s).stage ≡ Routed (Linking node to) why gone
     → (older : Option Node) × (word ≡ link_code older) × IsOlderAt node to older w.shared
 
-module _ (c : Config) (t : Trace) (ran : List ℕ) (seat_of : ℕ → ℕ) (j : ℕ) where
+module _ (c : Config) (t : Trace) (ran : List ℕ) (seat_of claim_of : ℕ → ℕ) (j : ℕ) where
   -- the scheduler sits at the seat j, which knows the turns up to its last one: all that ran since
-  -- are turns of others
+  -- are turns of others. It knows the carrier whose slot the scheduler has claimed
   pub record Sits (x : Seated) : Type 0 where
     pub seat : seat_of x.number ≡ j
     pub since : List ℕ
     pub front : ran ≡ x.turns ++ since
     pub others : All (λ i. i ≢ x.number) since
     pub remembers : Remembers (run (setup_of c t) ran) x.number x.older
+    pub claim : claim_of x.number ≡ x.claim
 
   -- the seat j knows the run, while it is live, and how its schedulers stand
   pub record Knows (v : View) : Type 0 where
@@ -65,25 +68,27 @@ module _ (c : Config) (t : Trace) (ran : List ℕ) (seat_of : ℕ → ℕ) (j : 
     pub trace : v.live ≡ true → v.trace ≡ t
     pub seated : All Sits v.seated
 
--- after the steps that ran the words code what is shared, and each seat knows its schedulers
-pub record Keeps {S : Type 0} (c : Config) (t : Trace) (s : table.State S View) : Type 0 where
+-- after the steps that ran the words code what is shared, the slots have what is at home, and each
+-- seat knows its schedulers
+pub record Keeps (c : Config) (t : Trace) (s : table.State Slot View) : Type 0 where
   pub valid : IsValidConfig c
   pub made : IsValidTrace c.schedulers t
-  pub off : migration (setup_of c t) ≡ false
   pub ran : List ℕ
   pub steps : AreSteps (setup_of c t) ran
   pub coded : Codes c.schedulers t.greatest (run (setup_of c t) ran).shared s.words
+  pub claim_of : ℕ → ℕ
+  pub housed : Houses s.homes c.schedulers claim_of (run (setup_of c t) ran).shared
   pub seat_of : ℕ → ℕ
   pub each_seat : (j : ℕ) (v : View) → get_elem? s.views j ≡ some v
-      → Knows c t ran seat_of j v
+      → Knows c t ran seat_of claim_of j v
 
 -- the rule of the table of a run
-abbrev pub holds : {S : Type 0} → About → table.State S View → Type 0
+abbrev pub holds : About → table.State Slot View → Type 0
 holds a s = Keeps a.config a.trace.now s
 
 -- a scheduler before its first step
 abbrev pub waiting : ℕ → Seated
-waiting i = record { number = i; turns = []; older = NO_NODE }
+waiting i = record { number = i; turns = []; older = NO_NODE; claim = 0 }
 
 -- what a seat knows that has that many schedulers, from number i on, before their first step
 abbrev pub waiting_from : Config → Trace → ℕ → ℕ → View
@@ -141,14 +146,19 @@ abbrev pub shared_since : View → List ℕ → Shared
 shared_since v since = (run (setup_in v) ((acting v).turns ++ since)).shared
 
 -- what the seat knows after a step that follows these
-abbrev pub stepped : View → List ℕ → ℕ → View
-stepped v since older = record v {
+abbrev pub stepped : View → List ℕ → ℕ → ℕ → View
+stepped v since older claim = record v {
   seated = record {
     number = (acting v).number;
     turns = (acting v).turns ++ since ++ (acting v).number ∷ [];
     older = older;
+    claim = claim;
   } ∷ [];
 }
+
+-- and where its scheduler has claimed the slot of that carrier, or none
+abbrev pub claimed : View → ℕ → View
+claimed v number = record v { seated = record (acting v) { claim = number } ∷ [] }
 
 -- the word that a step finds: the head of a queue with that newest node
 abbrev pub ReadsHead : Option Node → ℕ → Type 0
@@ -164,17 +174,21 @@ abbrev pub ReadsName : ℕ → Option Spot → ℕ → Type 0
 ReadsName name spot found = (found ≡ given_code name spot)
     × IfSome spot (λ p. IsCodable (Block name p))
 
+-- the owner word of a carrier that is there
+abbrev pub ReadsOwner : CarrierAt → ℕ → Type 0
+ReadsOwner place found = (found ≡ place_code place) × IsShown (word_of place)
+
 -- the word that a row of scheduler me finds in what is shared, where it reads one
 abbrev pub Reads : ℕ → Row → Shared → ℕ → Type 0
 Reads me TakeAll s found = ReadsHead (first_node (s.queues me)) found
 Reads me TakeLink s found = ReadsLink (s.rests me) found
-Reads me (Look number) s found = Unit {0}
+Reads me (Look number) s found = ReadsOwner (s.places number) found
 Reads me (Push node to) s found = ReadsHead (first_node (s.queues to)) found
 Reads me (Link node to) s found = Unit {0}
-Reads me (BusyTry number seen) s found = Unit {0}
+Reads me (BusyTry number seen) s found = ReadsOwner (s.places number) found
 Reads me (Settle x) s found = Unit {0}
 Reads me (Abandon x) s found = Unit {0}
-Reads me (FetchTry number seen) s found = Unit {0}
+Reads me (FetchTry number seen) s found = ReadsOwner (s.places number) found
 Reads me (Create number) s found = Unit {0}
 Reads me (SendHome x) s found = Unit {0}
 Reads me (Clear number) s found = Unit {0}
@@ -182,22 +196,38 @@ Reads me (Give given) s found = Unit {0}
 Reads me (TakeTry name) s found = ReadsName name (spot_named name s.given) found
 Reads me Nothing s found = Unit {0}
 
+-- what the next row of the scheduler does with slots, after the turns that others took
+abbrev pub move_since : View → List ℕ → Move
+move_since v since = move_of (wants (actor_in v))
+    (answer (acting v).number (wants (actor_in v)) (shared_since v since))
+
 -- others took some turns since those that the seat knew, and then its scheduler took a step, in
--- which its row found that word; now the seat knows all turns up to that step
-pub record Took (v : View) (found : ℕ) (u : View) : Type 0 where
+-- which its row found that word; now the seat knows all turns up to that step, and has the slots
+-- that the row left it. The run is that of a valid trace
+pub record Took (m : Me Slot View) (found : ℕ) (n : Me Slot View) : Type 0 where
+  pub valid : IsValidConfig m.0.config
+  pub made : IsValidTrace m.0.config.schedulers m.0.trace
   pub since : List ℕ
-  pub others : All (λ i. i ≢ (acting v).number) since
-  pub reads : Reads (acting v).number (wants (actor_in v)) (shared_since v since) found
-  pub view : u ≡ stepped v since (older_after (wants (actor_in v)) found (acting v).older)
+  pub others : All (λ i. i ≢ (acting m.0).number) since
+  pub reads : Reads (acting m.0).number (wants (actor_in m.0)) (shared_since m.0 since) found
+  pub view : n.0 ≡ stepped m.0 since (older_after (wants (actor_in m.0)) found (acting m.0).older)
+      (claim_by (move_since m.0 since) (acting m.0).claim)
+  pub slots : n.1 ≡ carried_after m.1 (act_of (move_since m.0 since))
 
--- a step of a seat, which keeps its slots
-abbrev pub steps : {S : Type 0} → Step S → Me S View → ℕ → Me S View → Type 0
-steps step m found m' = Took m.0 found m'.0 × (m'.1 ≡ m.1)
+-- a step of a seat
+abbrev pub steps : Step Slot → Me Slot View → ℕ → Me Slot View → Type 0
+steps step m found n = Took m found n
 
--- a look of a seat changes nothing; what it finds doesn't matter, but that its run is one in which
--- carriers don't migrate
-abbrev pub looks : {S : Type 0} → Step S → Me S View → ℕ → Me S View → Type 0
-looks step m found m' = (m' ≡ m) × (migration (setup_in m.0) ≡ false)
+-- a look of a seat at the owner word of a carrier, by which it claims the slot of the carrier,
+-- which is empty. It is no step of its scheduler, and changes nothing that is shared
+abbrev pub claims : Step Slot → Me Slot View → ℕ → Me Slot View → Type 0
+claims step m found n = (number : ℕ) → 1 ≤ number
+    → step.word ≡ owner_at m.0.config.schedulers m.0.trace.greatest number
+    → (n.0 ≡ claimed m.0 number) × (n.1 ≡ (slot_at number, None) ∷ m.1)
+
+-- a look by which it gives back the slot that it has claimed, and that is empty
+abbrev pub yields : Step Slot → Me Slot View → ℕ → Me Slot View → Type 0
+yields step m found n = (n.0 ≡ claimed m.0 0) × (n.1 ≡ rest m.1)
 
 -- the row got that answer in a step of the seat
 pub record DidRow (me : ℕ) (row : Row) (got : Answer) (v u : View) : Type 0 where
@@ -206,7 +236,8 @@ pub record DidRow (me : ℕ) (row : Row) (got : Answer) (v u : View) : Type 0 wh
   pub others : All (λ i. i ≢ me) since
   pub answered : got ≡ answer me row (shared_since v since)
   pub older : ℕ
-  pub view : u ≡ stepped v since older
+  pub claim : ℕ
+  pub view : u ≡ stepped v since older claim
 
 -- a seat is split off for the first scheduler of another: what the two know then
 

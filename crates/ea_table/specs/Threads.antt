@@ -9,7 +9,7 @@ use Rattle.ea_machine.specs.declared.stages.Stage.TheVariants.{Ended}
 use Rattle.ea_machine.specs.Courses.{AreSteps, HaveEnded}
 use Rattle.ea_machine.specs.Machine.{first_actor, run}
 use Rattle.ea_machine.specs.Outcome as machine
-use Rattle.ea_machine.specs.Setup.{migration, setup_of}
+use Rattle.ea_machine.specs.Setup.{setup_of}
 use Rattle.ea_sched.specs.declared.state.Scheduler.{Scheduler}
 use Rattle.ea_sched.specs.Acting.{actor_of}
 use Rattle.ea_table.specs.declared.pass.Pass.{Pass}
@@ -32,9 +32,8 @@ module _ (c : Config) (t : Trace) where
     pub going : s.failed ≡ false
     pub actor : actor_of s ≡ first_actor (setup_of c t) i
 
-  -- scheduler i with its pass of that table, before its first step, where carriers don't migrate
+  -- scheduler i with its pass of that table, before its first step
   pub record IsFresh (id : TableId) (i : ℕ) (w : Worker) : Type 0 where
-    pub off : migration (setup_of c t) ≡ false
     pub scheduler : IsFirst i w.scheduler
     pub pass : IsDealt id i w.pass
 

@@ -1,5 +1,6 @@
 -- The words of the table, and what they stand for: first the heads of the queues, then a link for
--- each name and each carrier number, and then a word for each name that may be given.
+-- each name and each carrier number, then a word for each name that may be given, and then the
+-- owner word of each carrier number.
 use Rattle.std.specs.Prelude.{◌≡◌, ℕ, ◌+◌, ◌-◌, ◌*◌, ◌<◌, ◌≤◌, Bool, true, false, List}
 use Rattle.std.specs.Prelude.{[], ◌∷◌, All, Option, None, Some, length, slice_index}
 use Rattle.ea_model.specs.declared.carriers.Spot.{Spot}
@@ -8,11 +9,12 @@ use Rattle.ea_machine.specs.declared.nodes.Node.{Node}
 use Rattle.ea_machine.specs.declared.nodes.Node.TheVariants.{Block, Carrier}
 use Rattle.ea_machine.specs.Alike.{IsNode}
 use Rattle.ea_machine.specs.Nodes.{Mark, block_node, first_node, spot_named}
+use Rattle.ea_machine.specs.Owners.{CarrierAt, word_of}
 use Rattle.ea_machine.specs.Shared.{Shared}
 use Rattle.ea_sound.specs.Standing.{standing}
 use Rattle.ea_table.specs.declared.places.TheConstants.{HEAD_WORDS}
 use Rattle.ea_word.specs.declared.words.TheConstants.{NO_NODE}
-use Rattle.ea_word.specs.Codes.{IsCodable, code_of, head_code, link_code}
+use Rattle.ea_word.specs.Codes.{IsCodable, IsShown, code_of, head_code, link_code, owner_code}
 
 -- where words stand, of that many schedulers and with names up to a greatest one
 
@@ -26,8 +28,11 @@ link_at n g (Carrier number) = HEAD_WORDS * n + g + (number - 1)
 abbrev pub name_at : ℕ → ℕ → ℕ → ℕ
 name_at n g name = HEAD_WORDS * n + g + NUMBERS * n + (name - 1)
 
+abbrev pub owner_at : ℕ → ℕ → ℕ → ℕ
+owner_at n g number = HEAD_WORDS * n + g + NUMBERS * n + g + (number - 1)
+
 abbrev pub words_in : ℕ → ℕ → ℕ
-words_in n g = HEAD_WORDS * n + g + NUMBERS * n + g
+words_in n g = HEAD_WORDS * n + g + NUMBERS * n + g + NUMBERS * n
 
 -- the link word of a node, by whether it is linked, and the older ones
 abbrev pub mark_code : Bool → List Mark → ℕ
@@ -38,6 +43,10 @@ mark_code false older = NO_NODE
 abbrev pub given_code : ℕ → Option Spot → ℕ
 given_code name None = NO_NODE
 given_code name (Some spot) = code_of (Block name spot)
+
+-- the owner word of a carrier, by where it is
+abbrev pub place_code : CarrierAt → ℕ
+place_code place = owner_code (word_of place)
 
 -- where the block of a node begins
 abbrev pub block_spot : Option Node → Option Spot
@@ -52,7 +61,7 @@ module _ (n g : ℕ) where
   LinksAre ws (m ∷ ms) = (slice_index ws (link_at n g m.node) ≡ mark_code m.linked ms)
       × LinksAre ws ms
 
-  -- the words are the coding of what is shared, in a run without migration: carriers have no words
+  -- the words are the coding of what is shared
   pub record Codes (s : Shared) (ws : List ℕ) : Type 0 where
     pub count : length ws ≡ words_in n g
     pub heads : (i : ℕ) → 1 ≤ i → i ≤ n
@@ -63,6 +72,8 @@ module _ (n g : ℕ) where
         → slice_index ws (link_at n g node) ≡ 0
     pub names : (name : ℕ) → 1 ≤ name → name ≤ g
         → slice_index ws (name_at n g name) ≡ given_code name (spot_named name s.given)
+    pub owners : (number : ℕ) → 1 ≤ number → number ≤ NUMBERS * n
+        → slice_index ws (owner_at n g number) ≡ place_code (s.places number)
 
   -- a node that may stand in a queue
   abbrev pub IsFit : Node → Type 0
@@ -79,3 +90,4 @@ module _ (n g : ℕ) where
     pub once : (node : Node) → standing n node s ≤ 1
     pub nobody : (i : ℕ) → n < i → (s.queues i ≡ []) × (s.rests i ≡ [])
     pub given : All (λ x. IsFit (block_node x)) s.given
+    pub owners : (number : ℕ) → IsShown (word_of (s.places number))

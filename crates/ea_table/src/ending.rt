@@ -1,19 +1,26 @@
 //! The end of a run: the seats are taken in, and the table is read.
-ghost use Rattle.std.specs.Prelude.{◌≡◌, ℕ, ◌+◌, ◌<◌, false, ◌++◌, All};
-ghost use Rattle.std.specs.Prelude.{IfOk, length, map, slice_index_or};
+ghost use Rattle.std.specs.Prelude.{◌≡◌, ℕ, ◌+◌, ◌*◌, ◌<◌, ◌++◌, All, None};
+ghost use Rattle.std.specs.Prelude.{IfOk, length, map, option_map, slice_index, slice_index_or};
 ghost use Rattle.std.specs.Mem.Slots.{IsFull, slots_items, slots_len};
+ghost use Rattle.ea_model.specs.declared.units.TheConstants.{NUMBERS};
+ghost use Rattle.ea_model.specs.Outcome.{plain_outcome};
 ghost use Rattle.ea_model.specs.Settings.{IsValidConfig};
 ghost use Rattle.ea_model.specs.Trace.{IsValidTrace};
-ghost use Rattle.ea_machine.specs.Setup.{migration, setup_of};
-ghost use Rattle.ea_outcome.specs.Resting.{IsOutcome, Stand};
-ghost use Rattle.ea_table.specs.Ending.{AreGiven, Closes, IsEnd, IsLast, nowhere};
-ghost use Rattle.ea_table.specs.Words.{words_in};
+ghost use Rattle.ea_machine.specs.Outcome as machine;
+ghost use Rattle.ea_machine.specs.Owners.{word_of};
+ghost use Rattle.ea_machine.specs.Setup.{setup_of};
+ghost use Rattle.ea_machine.specs.State.{State};
+ghost use Rattle.ea_shared.specs.Carriers.{IsCarrier};
+ghost use Rattle.ea_table.specs.Ending.{AreGiven, IsClosedIn, IsEnd, IsLast, places_in};
+ghost use Rattle.ea_table.specs.Slots.{slot_at};
+ghost use Rattle.ea_table.specs.Words.{owner_at, place_code, words_in};
+ghost use Rattle.ea_word.specs.Codes.{IsShown};
 ghost use Rattle.ea_sched.specs.Acting.{actor_of};
 ghost use Rattle.ea_table.specs.Ruling.{acting};
 
 use crate::board::Board;
 use crate::pass::{Pass, block_spot};
-use crate::places::name_place;
+use crate::places::{name_place, owner_place, slot_place};
 use crate::rule::{Ruled, TakesIn};
 use crate::views::{About, View};
 use crate::worker::Finished;
@@ -25,7 +32,7 @@ use ea_names::Names;
 use ea_outcome::outcome_of;
 use ea_sched::Scheduler;
 use ea_shared::Rested;
-use ea_word::decode_node;
+use ea_word::{decode, decode_node};
 use std::alloc::Global;
 
 /// One seat, which has taken in the others, and the schedulers.
@@ -70,36 +77,69 @@ fn take_in<'t>(
     Ok(Taken { seat, schedulers })
 }
 
-/// Given names, read off a table of that many schedulers where nobody steps any more. It has no
-/// owner words and no contents, since no carrier migrates there.
+/// A closed table of that many schedulers, where nobody steps any more, with the names that are
+/// given there, up to a greatest one.
 #[derive(Drop)]
-struct Still {
+struct Still<'a> {
+    closed: &'a Closed<Option<Mbc>, Global>,
     schedulers: u32,
+    greatest: u32,
     given: Names,
     migrates: bool,
+    ghost full: { IsFull closed.now.words },
+    ghost slots_full: { IsFull closed.now.slots },
+    ghost words: { slots_len closed.now.words ≡ words_in schedulers greatest },
+    ghost slots: { slots_len closed.now.slots ≡ NUMBERS * schedulers },
+    ghost greatest_is: { given.greatest ≡ greatest },
+    ghost owners: { (number : ℕ) → IsCarrier schedulers number
+        → slice_index (slots_items closed.now.words) (owner_at schedulers greatest number)
+        ≡ place_code (places_in schedulers greatest (slots_items closed.now.words)
+        (slots_items closed.now.slots) number) },
+    ghost shown: { (number : ℕ) → ∥ IsShown (word_of (places_in schedulers greatest
+        (slots_items closed.now.words) (slots_items closed.now.slots) number)) ∥₁ },
 }
 
-impl Rested for Still {
-    ghost use Rattle.ea_machine.specs.Owners.{Absent};
+impl<'a> Still<'a> {
+    /// What is in the slot of a carrier.
+    fn slot(&self, carrier: u32) -> Option<&Mbc>
+        requires { IsCarrier self.now.schedulers carrier }
+        ensures { option_map (λ x. x.now) result
+            ≡ slice_index_or (slots_items self.now.closed.now.slots) (slot_at carrier) None }
+    {
+        match self.closed.slots.get(slot_place(carrier)) {
+            Some(content) => Some(content),
+            None => None,
+        }
+    }
+}
 
+impl<'a> Rested for Still<'a> {
     type Content = Mbc;
 
     ghost schedulers = { λ s. s.schedulers };
 
-    ghost greatest = { λ s. s.given.greatest };
+    ghost greatest = { λ s. s.greatest };
 
     ghost migrates = { λ s. s.migrates };
 
-    ghost places = { λ s. λ number. Absent };
+    ghost places = { λ s. places_in s.schedulers s.greatest (slots_items s.closed.now.words)
+        (slots_items s.closed.now.slots) };
 
     ghost named = { λ s. s.given.held };
 
-    fn word(&self, _carrier: u32) -> OwnerWord {
-        OwnerWord::Absent
+    fn word(&self, carrier: u32) -> OwnerWord {
+        let place = owner_place(self.schedulers, self.greatest, carrier);
+        match decode(self.closed.word(place)) {
+            Some(word) => word,
+            None => unreachable!(),
+        }
     }
 
-    fn home(&self, _carrier: u32) -> Option<&Mbc> {
-        None
+    fn home(&self, carrier: u32) -> Option<&Mbc> {
+        match self.word(carrier) {
+            OwnerWord::Pooled { .. } | OwnerWord::Returning { .. } => self.slot(carrier),
+            OwnerWord::Absent | OwnerWord::Employed { .. } | OwnerWord::Busy { .. } => None,
+        }
     }
 
     fn given(&self, name: u32) -> Option<Spot> {
@@ -131,50 +171,45 @@ fn read_given(
     Ok(given)
 }
 
-/// Closes the table, in which nobody steps any more, and reads the names that are given there.
-fn close(
-    alloc: Global,
-    board: Board<'_>,
-    seat: Seat<Option<Mbc>, View>,
-) -> Result<Names, OutOfMemory>
-    requires seated { seat.table_id ≡ board.table.shared.table_id }
-    ensures greatest { IfOk result (λ names. names.greatest ≡ board.entry.greatest) }
-    ensures named { IfOk result (λ names. Closes board.entry.table.shared.key seat.id seat.me.0
-        names.held) }
-{
-    let Board {
-        table,
-        schedulers,
-        greatest,
-    } = board;
-    let closed = table.close_with(seat);
-    let given = read_given(alloc, &closed, schedulers, greatest);
-    closed.free();
-    given
-}
-
-/// What is printed of a reached state with these schedulers, in order, and these given names.
-fn outcome_with(
+/// What is printed of the state in which a table was closed, with these schedulers, in order.
+fn outcome_of_closed(
     alloc: Global,
     config: Config,
     trace: &Trace,
     schedulers: List<Scheduler<'_>>,
-    given: Names,
+    closed: &Closed<Option<Mbc>, Global>,
 ) -> Result<Outcome, OutOfMemory>
     requires config { IsValidConfig config }
     requires trace { IsValidTrace config.schedulers trace.now }
-    requires off { migration (setup_of config trace.now) ≡ false }
-    requires greatest { given.greatest ≡ trace.now.greatest }
-    requires stand { Stand config trace.now schedulers.items nowhere given.held }
-    ensures { IfOk result (IsOutcome config trace.now schedulers.entry.items nowhere
-        given.held) }
+    requires full { IsFull closed.now.words }
+    requires slots_full { IsFull closed.now.slots }
+    requires words { slots_len closed.now.words ≡ words_in config.schedulers trace.now.greatest }
+    requires slots { slots_len closed.now.slots ≡ NUMBERS * config.schedulers }
+    requires stand { (w : State) × IsClosedIn config trace.now schedulers.items
+        (slots_items closed.now.words) (slots_items closed.now.slots) w }
+    ensures { IfOk result (λ o. (w : State) → IsClosedIn config trace.now schedulers.entry.items
+        (slots_items closed.now.words) (slots_items closed.now.slots) w
+        → plain_outcome o ≡ machine.outcome (setup_of config trace.now) w) }
 {
+    let given = read_given(alloc, closed, config.schedulers, trace.greatest)?;
     let still = Still {
+        closed,
         schedulers: config.schedulers,
+        greatest: trace.greatest,
         given,
-        migrates: false,
+        migrates: config.of(trace.letter).acul > 0,
     };
     outcome_of(alloc, config, trace, schedulers, &still)
+}
+
+/// Drops what is in the slots, and gives the memory of the table back.
+fn discard(mut closed: Closed<Option<Mbc>, Global>)
+    requires { IsFull closed.slots }
+{
+    for slot in 0..closed.slot_count() {
+        drop(closed.take(slot));
+    }
+    closed.free();
 }
 
 /// What is printed of the state in which the table is closed, whose schedulers these are: the board
@@ -189,7 +224,6 @@ pub fn gather<'t>(
 ) -> Result<Outcome, OutOfMemory>
     requires config { IsValidConfig config }
     requires trace { IsValidTrace config.schedulers trace.now }
-    requires off { migration (setup_of config trace.now) ≡ false }
     requires key_config { board.table.shared.key.config ≡ config }
     requires key_trace { board.table.shared.key.trace.now ≡ trace.now }
     requires all { length finished.items ≡ config.schedulers }
@@ -212,6 +246,8 @@ pub fn gather<'t>(
         mut schedulers,
     } = take_in(alloc, &board.table, pass.seat, finished)?;
     schedulers.push(scheduler)?;
-    let given = close(alloc, board, seat)?;
-    outcome_with(alloc, config, trace, schedulers, given)
+    let closed = board.table.close_with(seat);
+    let outcome = outcome_of_closed(alloc, config, trace, schedulers, &closed);
+    discard(closed);
+    outcome
 }

@@ -1,18 +1,17 @@
 //! A seat at the table, and the steps that its scheduler takes.
-ghost use Rattle.std.specs.Prelude.{◌≡◌, ◌≤◌, false, [], Some, None};
+ghost use Rattle.std.specs.Prelude.{◌≡◌, ◌≤◌, [], Some, None};
 ghost use Rattle.ea_model.specs.Trace.{IsScheduler};
 ghost use Rattle.ea_machine.specs.Alike.{IsNode, IsSpot};
 ghost use Rattle.ea_machine.specs.Rows.{Done, Give, Got, Head, Push, TakeAll, TakeLink, TakeTry};
 ghost use Rattle.ea_machine.specs.Rows as rows;
 ghost use Rattle.ea_queues.specs.Links.{told_by};
 ghost use Rattle.ea_shared.specs.Calls.{WantsRow};
-ghost use Rattle.ea_machine.specs.Setup.{migration};
-ghost use Rattle.ea_table.specs.Ruling.{DidRow, IsSingle, acting, actor_in, caller_in, setup_in};
+ghost use Rattle.ea_table.specs.Ruling.{DidRow, IsSingle, acting, actor_in, caller_in};
 ghost use Rattle.ea_table.specs.Words as words;
 
 use crate::board::Board;
 use crate::places::{head_place, link_place, name_place};
-use crate::rule::{Looks, Steps};
+use crate::rule::Steps;
 use crate::views::View;
 use atomic_table::Seat;
 use ea_machine::Node;
@@ -22,12 +21,14 @@ use ea_queues::Link;
 use ea_word::{NO_NODE, OLDEST, decode_node, encode_node};
 
 /// A seat with one scheduler. Between its push of a node and the link of it the pass keeps the word
-/// that goes into the link: the number of the next older node, or that of the oldest.
+/// that goes into the link: the number of the next older node, or that of the oldest. It has a slot
+/// only within a call that hands a content over.
 #[derive(Drop)]
 pub struct Pass {
     pub seat: Seat<Option<Mbc>, View>,
     pub older: u64,
     ghost bare: { seat.me.1 ≡ [] },
+    ghost unclaimed: { (acting seat.me.0).claim ≡ 0 },
     ghost single: { IsSingle seat.me.0 },
     ghost older_is: { older ≡ (acting seat.me.0).older },
 }
@@ -45,19 +46,6 @@ pub fn block_spot(node: Option<Node>) -> Option<Spot>
 
 impl Pass {
     ghost use Rattle.ea_table.specs.Seating.{IsSeatedAt};
-
-    /// Learns from the rule of the table that carriers don't migrate in its run: by a look, which
-    /// changes nothing.
-    pub(crate) fn stays_home(&mut self, board: &Board<'_>, me: u32)
-        requires seated { IsSeatedAt board.now self.old }
-        requires scheduler { (1 ≤ me) × (me ≤ self.old.seat.me.0.config.schedulers) }
-        ensures off { migration (setup_in self.old.seat.me.0) ≡ false }
-    {
-        board
-            .table
-            .shared
-            .load::<Looks>(&mut self.seat, head_place(me));
-    }
 
     pub(crate) fn take_all(&mut self, board: &Board<'_>, me: u32) -> Option<Node>
         requires seated { IsSeatedAt board.now self.old }

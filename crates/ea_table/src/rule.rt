@@ -5,7 +5,8 @@ use crate::views::{About, View};
 use atomic_table::{Join, Play, Split, TableRule};
 use ea_mbc::Mbc;
 
-/// The rule: the words code what is shared, and each seat knows its scheduler.
+/// The rule: the words code what is shared, the slots have the contents that are at home, and each
+/// seat knows its scheduler.
 pub struct Ruled;
 
 impl<'t> TableRule<Option<Mbc>, View, About<'t>> for Ruled {
@@ -25,13 +26,22 @@ impl Play<Option<Mbc>, View> for Steps {
     ghost then = { steps };
 }
 
-/// A look of a seat, by which it learns what the rule says of its run: carriers don't migrate.
-pub struct Looks;
+/// A look of a seat, by which it claims the empty slot of a carrier that its scheduler has.
+pub struct Claims;
 
-impl Play<Option<Mbc>, View> for Looks {
-    ghost use Rattle.ea_table.specs.Ruling.{looks};
+impl Play<Option<Mbc>, View> for Claims {
+    ghost use Rattle.ea_table.specs.Ruling.{claims};
 
-    ghost then = { looks };
+    ghost then = { claims };
+}
+
+/// A look of a seat, by which it gives back the slot that it has claimed, which is empty.
+pub struct Yields;
+
+impl Play<Option<Mbc>, View> for Yields {
+    ghost use Rattle.ea_table.specs.Ruling.{yields};
+
+    ghost then = { yields };
 }
 
 /// A seat is split off for the first scheduler of another one.

@@ -1,20 +1,24 @@
 //! Seats at a new table, one for each scheduler.
-ghost use Rattle.std.specs.Prelude.{◌≡◌, ℕ, ◌+◌, ◌<◌, ◌≤◌, [], false, IfOk, length, slice_index_or};
+ghost use Rattle.std.specs.Prelude.{◌≡◌, ℕ, ◌+◌, ◌<◌, ◌≤◌, [], IfOk, length, slice_index_or};
+ghost use Rattle.ea_model.specs.declared.units.TheConstants.{MAX_SCHEDULERS};
 ghost use Rattle.ea_model.specs.Settings.{IsValidConfig};
 ghost use Rattle.ea_model.specs.Trace.{IsValidTrace};
-ghost use Rattle.ea_machine.specs.Setup.{migration, setup_of};
+ghost use Rattle.ea_machine.specs.Owners.{Absent};
+ghost use Rattle.ea_shared.specs.Carriers.{main_upto};
 ghost use Rattle.ea_table.specs.Ruling.{waiting_from};
+ghost use Rattle.ea_table.specs.Start.{AreFirst, HasOwners};
 ghost use Rattle.ea_table.specs.Threads.{IsDealt};
 
 use crate::board::Board;
 use crate::pass::Pass;
-use crate::places::count_words;
+use crate::places::{count_slots, count_words, owner_place};
 use crate::rule::{Deal, Ruled};
 use crate::views::{About, View};
 use atomic_table::{Seat, Table};
+use ea_machine::OwnerWord;
 use ea_mbc::Mbc;
-use ea_model::{Config, List, OutOfMemory, Trace};
-use ea_word::NO_NODE;
+use ea_model::{Config, List, NUMBERS, OutOfMemory, Trace};
+use ea_word::{NO_NODE, encode};
 use std::alloc::Global;
 
 /// A table, and a pass for each scheduler, in order.
@@ -57,6 +61,34 @@ fn deal(
     Ok(passes)
 }
 
+/// The owner words in which each scheduler employs its main carrier, where no carrier was there.
+fn employ_mains(words: &mut [u64], schedulers: u32, greatest: u32)
+    requires few { schedulers ≤ MAX_SCHEDULERS }
+    requires absent { HasOwners schedulers greatest words.old (λ _. Absent) }
+    ensures mains { HasOwners schedulers greatest words.new (main_upto schedulers) }
+{
+    for before in 0..schedulers {
+        let instance = before + 1;
+        let place = owner_place(schedulers, greatest, NUMBERS * before + 1);
+        words[place] = encode(OwnerWord::Employed { instance });
+    }
+}
+
+/// The words before the first step: the owner words of main carriers, if carriers migrate and there
+/// are some, and 0 else.
+fn first_words(alloc: Global, config: Config, trace: &Trace) -> Result<Vec<u64>, OutOfMemory>
+    requires few { config.schedulers ≤ MAX_SCHEDULERS }
+    ensures { IfOk result (λ words. AreFirst config trace.now words.items) }
+{
+    let mut words = vec![in alloc; NO_NODE; count_words(config.schedulers, trace.greatest)]?;
+    let settings = config.of(trace.letter);
+    if settings.acul == 0 || settings.mmbcs == 0 {
+        return Ok(words);
+    }
+    employ_mains(&mut words, config.schedulers, trace.greatest);
+    Ok(words)
+}
+
 /// A table for the run of a trace before its first step, and a pass for each scheduler.
 pub fn make_seats<'t>(
     alloc: Global,
@@ -65,7 +97,6 @@ pub fn make_seats<'t>(
 ) -> Result<Made<'t>, OutOfMemory>
     requires config { IsValidConfig config }
     requires trace { IsValidTrace config.schedulers trace.now }
-    requires off { migration (setup_of config trace.now) ≡ false }
     ensures config { IfOk result (λ m. m.board.table.shared.key.config ≡ config) }
     ensures trace { IfOk result (λ m. m.board.table.shared.key.trace.now ≡ trace.now) }
     ensures all { IfOk result (λ m. length m.passes.items ≡ config.schedulers) }
@@ -73,9 +104,9 @@ pub fn make_seats<'t>(
         → IsDealt config trace.now m.board.table.shared.table_id (k + 1)
         (slice_index_or m.passes.items k d)) }
 {
-    let words = vec![in alloc; NO_NODE; count_words(config.schedulers, trace.greatest)]?;
+    let words = first_words(alloc, config, trace)?;
     let about = About { config, trace };
-    let (table, first) = Table::of_words(alloc, &words, &about)?;
+    let (table, first) = Table::vacant(alloc, &words, count_slots(config.schedulers), &about)?;
     let passes = deal(alloc, &table, first, config.schedulers)?;
     let board = Board {
         table,

@@ -10,9 +10,7 @@ use ea_model::Spot;
 use ea_queues::Link;
 use ea_shared::{Shared, Tried};
 
-/// The table as one scheduler steps on it: it tells that scheduler. The rule of the table says that
-/// no carrier migrates in its run, and it has no owner words: so the steps on carriers are never
-/// called.
+/// The table as one scheduler steps on it: it tells that scheduler.
 #[derive(Drop)]
 pub struct TableShared<'a, 't> {
     board: &'a Board<'t>,
@@ -80,54 +78,47 @@ impl<'a, 't> Shared for TableShared<'a, 't> {
         self.pass.take_link(self.board, me, node)
     }
 
-    fn look(&mut self, me: u32, _carrier: u32) -> OwnerWord {
-        self.pass.stays_home(self.board, me);
-        unreachable!()
+    fn look(&mut self, me: u32, carrier: u32) -> OwnerWord {
+        self.pass.look(self.board, me, carrier)
     }
 
-    fn busy_try(&mut self, me: u32, _carrier: u32, _seen: OwnerWord) -> Tried<Mbc> {
-        self.pass.stays_home(self.board, me);
-        unreachable!()
+    fn busy_try(&mut self, me: u32, carrier: u32, seen: OwnerWord) -> Tried<Mbc> {
+        self.pass.busy_try(self.board, me, carrier, seen)
     }
 
-    fn settle_pooled(&mut self, me: u32, _carrier: u32, _content: Mbc, _largest: u32) {
-        self.pass.stays_home(self.board, me);
-        unreachable!()
+    fn settle_pooled(&mut self, me: u32, carrier: u32, content: Mbc, largest: u32) {
+        self.pass
+            .settle_pooled(self.board, me, carrier, content, largest);
     }
 
-    fn settle_employed(&mut self, me: u32, _carrier: u32) {
-        self.pass.stays_home(self.board, me);
-        unreachable!()
+    fn settle_employed(&mut self, me: u32, carrier: u32) {
+        self.pass.settle_employed(self.board, me, carrier);
     }
 
-    fn abandon(&mut self, me: u32, _carrier: u32, _content: Mbc, _largest: u32) {
-        self.pass.stays_home(self.board, me);
-        unreachable!()
+    fn abandon(&mut self, me: u32, carrier: u32, content: Mbc, largest: u32) {
+        self.pass
+            .abandon(self.board, me, carrier, content, largest);
     }
 
-    fn fetch_try(&mut self, me: u32, _carrier: u32, _seen: OwnerWord) -> Tried<Mbc> {
-        self.pass.stays_home(self.board, me);
-        unreachable!()
+    fn fetch_try(&mut self, me: u32, carrier: u32, seen: OwnerWord) -> Tried<Mbc> {
+        self.pass.fetch_try(self.board, me, carrier, seen)
     }
 
-    fn create(&mut self, me: u32, _carrier: u32) {
-        self.pass.stays_home(self.board, me);
-        unreachable!()
+    fn create(&mut self, me: u32, carrier: u32) {
+        self.pass.create(self.board, me, carrier);
     }
 
-    fn send_home(&mut self, me: u32, _carrier: u32, _content: Mbc, _owner: u32) {
-        self.pass.stays_home(self.board, me);
-        unreachable!()
+    fn send_home(&mut self, me: u32, carrier: u32, content: Mbc, owner: u32) {
+        self.pass
+            .send_home(self.board, me, carrier, content, owner);
     }
 
-    fn clear_own(&mut self, me: u32, _carrier: u32) {
-        self.pass.stays_home(self.board, me);
-        unreachable!()
+    fn clear_own(&mut self, me: u32, carrier: u32) {
+        self.pass.clear_own(self.board, me, carrier);
     }
 
-    fn clear_returned(&mut self, me: u32, _carrier: u32) -> Mbc {
-        self.pass.stays_home(self.board, me);
-        unreachable!()
+    fn clear_returned(&mut self, me: u32, carrier: u32) -> Mbc {
+        self.pass.clear_returned(self.board, me, carrier)
     }
 
     fn push(&mut self, me: u32, to: u32, node: Node) {

@@ -5,7 +5,7 @@ ghost use Rattle.ea_model.specs.declared.trace.Mode.TheVariants.{Generated};
 ghost use Rattle.ea_model.specs.Settings.{IsValidConfig};
 ghost use Rattle.ea_model.specs.Trace.{IsValidTrace};
 ghost use Rattle.ea_sound.specs.MachineLaws.{Protocol};
-ghost use Rattle.ea_machine.specs.Setup.{migration, setup_of};
+ghost use Rattle.ea_machine.specs.Setup.{setup_of};
 ghost use Rattle.ea_table.specs.Threads.{HasEnded, IsDealt, IsFresh, IsOfRun};
 
 use crate::board::Board;
@@ -29,7 +29,6 @@ fn workers_of<'t>(
     requires config { IsValidConfig config }
     requires trace { IsValidTrace config.schedulers trace.now }
     requires texts { length trace.now.texts.items ≡ config.schedulers }
-    requires off { migration (setup_of config trace.now) ≡ false }
     requires all { length passes.items ≡ config.schedulers }
     ensures all { IfOk result (λ ws. length ws.items ≡ config.schedulers) }
     ensures each { IfOk result (λ ws. (id : _)
@@ -127,7 +126,6 @@ pub fn run_threads<R: Threads + Sync, G: Gate + Sync>(
     requires config { IsValidConfig config }
     requires trace { IsValidTrace config.schedulers trace.now }
     requires given { (seed count : ℕ) → trace.now.mode ≢ Generated seed count }
-    requires off { migration (setup_of config trace.now) ≡ false }
     ensures outcome { IfOk result (IsOfRun config trace.now) }
     ensures protocol { Protocol (setup_of config trace.now) }
 {

@@ -4,11 +4,13 @@ use ea_model::{Config, Trace};
 use std::collections::LinkedList;
 
 /// A scheduler as its seat knows it: as it stands after these turns, of which its own last one is
-/// the last. Where it is about to link a node, `older` is the word that goes into the link.
+/// the last. Where it is about to link a node, `older` is the word that goes into the link. `claim`
+/// is the carrier whose slot it has claimed, or 0.
 pub struct Seated {
     pub number: u32,
     pub turns: LinkedList<u32>,
     pub older: u64,
+    pub claim: u32,
 }
 
 /// What a seat knows: the run, and its schedulers. A seat that another one took in is spent: it is

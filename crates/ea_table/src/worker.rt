@@ -1,8 +1,7 @@
 //! A scheduler that runs beside others.
 ghost use Rattle.std.specs.Prelude.{◌≡◌, false, Some, None, IsFalse};
 ghost use Rattle.ea_machine.specs.declared.stages.Stage.TheVariants.{Ended};
-ghost use Rattle.ea_machine.specs.Setup.{migration};
-ghost use Rattle.ea_sched.specs.Acting.{actor_of, setup_for};
+ghost use Rattle.ea_sched.specs.Acting.{actor_of};
 ghost use Rattle.ea_sched.specs.Steps.{IsReady};
 ghost use Rattle.ea_table.specs.Ruling.{acting, actor_in, caller_in};
 ghost use Rattle.ea_table.specs.Seating.{IsSeatedAt};
@@ -57,7 +56,6 @@ impl<'t> Worker<'t> {
         requires config { self.pass.seat.me.0.config ≡ self.scheduler.config }
         requires trace { self.pass.seat.me.0.trace ≡ self.scheduler.trace.now }
         requires going { self.scheduler.failed ≡ false }
-        requires off { migration (setup_for self.scheduler) ≡ false }
         requires ready { IsReady self.scheduler None (Some (caller_in self.pass.seat.me.0)) }
         ensures seated { result.pass.seat.table_id ≡ board.now.table.shared.table_id }
         ensures same { (result.scheduler.number ≡ self.entry.scheduler.number)

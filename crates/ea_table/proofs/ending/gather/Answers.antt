@@ -1,11 +1,15 @@
-use Rattle.std.proofs.Common.{◌<◌, [], ◌∷◌, length, get_or, sym, ap, ◌∙◌, arith}
+use Rattle.std.proofs.Common.{◌≡◌, ◌<◌, [], ◌∷◌, length, get_or, sym, ap, ◌∙◌, arith}
 use Rattle.std.proofs.lemmas.List.{get_or_append_left, length-append}
 use Rattle.std.proofs.lemmas.Result.{IfOk-weaker}
+use Rattle.std.specs.Mem.Slots.{slots_items}
+use Rattle.ea_model.specs.declared.outcome.Outcome.{Outcome}
+use Rattle.ea_model.specs.Outcome.{plain_outcome}
 use Rattle.ea_machine.specs.Machine.{run}
+use Rattle.ea_machine.specs.Outcome as machine
 use Rattle.ea_machine.specs.Setup.{setup_of}
-use Rattle.ea_outcome.specs.Resting.{IsOutcome}
+use Rattle.ea_machine.specs.State.{State}
 use Rattle.ea_table.specs.declared.worker.Finished.{Finished}
-use Rattle.ea_table.specs.Ending.{IsEnd, nowhere}
+use Rattle.ea_table.specs.Ending.{IsClosedIn, IsEnd}
 use Rattle.ea_table.proofs.Gathered.{gathered}
 use Rattle.ea_table.proofs.ending.gather.Goals as goal
 
@@ -24,37 +28,45 @@ take_in-requires-clause-others c = λ k d less.
     ∙ ap (λ xs. get_or xs k d) (sym items))
     ∙ (c.requires.each k d size).seated
 
-pub outcome_with-requires-clause-stand : goal.outcome_with-requires-clause-stand
-outcome_with-requires-clause-stand c =
+pub outcome_of_closed-outcome-requires-clause-stand :
+    goal.outcome_of_closed-outcome-requires-clause-stand
+outcome_of_closed-outcome-requires-clause-stand c =
     let b = c.args.board in
-    let (turns, steps, stand, actors) = gathered c.args.config c.args.trace.now
-    c.requires.config c.requires.trace c.requires.off b.table.shared.key c.requires.key_config
+    let (turns, steps, closed, actors) = gathered c.args.config c.args.trace.now
+    c.requires.config c.requires.trace b.table.shared.key c.requires.key_config
     c.requires.key_trace b.table.shared.table_id
     c.args.finished.items c.requires.all c.requires.each c.pop.new.self.items c.in-Some.last
     (sym c.into_vec-finished.ensures ∙ c.in-Some.ensures.items) c.in_ok-seat.field-0.seat.id
-    c.in_ok-seat.field-0.seat.me.0 c.in_ok-seat.ensures.view c.in_ok-given.given.held
-    c.in_ok-given.ensures.named c.in_ok-seat.field-0.schedulers.items c.push.new.self.items
+    c.in_ok-seat.field-0.seat.me.0 c.in_ok-seat.ensures.view
+    (slots_items c.close_with-closed.result.words) (slots_items c.close_with-closed.result.slots)
+    c.close_with-closed.ensures.values.2
+    c.in_ok-seat.field-0.schedulers.items c.push.new.self.items
     c.in_ok-push.ensures.ok c.in_ok-seat.ensures.schedulers in
-    (run (setup_of c.args.config c.args.trace.now) turns, stand)
+    (run (setup_of c.args.config c.args.trace.now) turns, closed)
 
 pub returns : goal.returns
 returns c =
     let b = c.args.board in
-    let (turns, steps, stand, actors) = gathered c.args.config c.args.trace.now
-    c.requires.config c.requires.trace c.requires.off b.table.shared.key c.requires.key_config
+    let ws = slots_items c.close_with-closed.result.words in
+    let xs = slots_items c.close_with-closed.result.slots in
+    let e = setup_of c.args.config c.args.trace.now in
+    let (turns, steps, closed, actors) = gathered c.args.config c.args.trace.now
+    c.requires.config c.requires.trace b.table.shared.key c.requires.key_config
     c.requires.key_trace b.table.shared.table_id
     c.args.finished.items c.requires.all c.requires.each c.pop.new.self.items c.in-Some.last
     (sym c.into_vec-finished.ensures ∙ c.in-Some.ensures.items) c.in_ok-seat.field-0.seat.id
-    c.in_ok-seat.field-0.seat.me.0 c.in_ok-seat.ensures.view c.in_ok-given.given.held
-    c.in_ok-given.ensures.named c.in_ok-seat.field-0.schedulers.items c.push.new.self.items
+    c.in_ok-seat.field-0.seat.me.0 c.in_ok-seat.ensures.view ws xs
+    c.close_with-closed.ensures.values.2
+    c.in_ok-seat.field-0.schedulers.items c.push.new.self.items
     c.in_ok-push.ensures.ok c.in_ok-seat.ensures.schedulers in
-    IfOk-weaker c.outcome_with.result
-    (IsOutcome c.args.config c.args.trace.now c.push.new.self.items nowhere
-    c.in_ok-given.given.held)
+    IfOk-weaker c.outcome_of_closed-outcome.result
+    (λ (o : Outcome). (w : State)
+    → IsClosedIn c.args.config c.args.trace.now c.push.new.self.items ws xs w
+    → plain_outcome o ≡ machine.outcome e w)
     (IsEnd c.args.config c.args.trace.now c.args.finished.items)
     (λ o is. record {
       turns = turns;
       steps = steps;
       actors = actors;
-      printed = is (run (setup_of c.args.config c.args.trace.now) turns) stand;
-    }) c.outcome_with.ensures
+      printed = is (run e turns) closed;
+    }) c.outcome_of_closed-outcome.ensures

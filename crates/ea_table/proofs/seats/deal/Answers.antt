@@ -1,6 +1,6 @@
 use Rattle.std.proofs.Common.{◌≡◌, suc, ◌+◌, ◌-◌, refl, sym, ap, ◌∙◌, subst, arith}
 use Rattle.ea_table.specs.Ruling.{waiting_from}
-use Rattle.ea_table.proofs.Dealing.{ArePasses, deals, last-is, left-is, none-dealt}
+use Rattle.ea_table.proofs.Dealing.{ArePasses, claim-is, deals, last-is, left-is, none-dealt}
 use Rattle.ea_table.proofs.Dealing.{older-is, one-dealt, right-is, single-is}
 use Rattle.ea_table.proofs.seats.deal.Goals as goal
 
@@ -37,6 +37,7 @@ invariant_of-push c =
     record {
       bare = ap (λ m. m.1) c.split_seat-seat.ensures.4;
       single = single-is k.config k.trace.now (dealt + 1) c.split_seat-seat.result.me.0 right;
+      unclaimed = claim-is k.config k.trace.now (dealt + 1) c.split_seat-seat.result.me.0 right;
       older_is = older-is k.config k.trace.now (dealt + 1) c.split_seat-seat.result.me.0 right;
     }
 
@@ -71,6 +72,7 @@ invariant_of-push-2 c =
     record {
       bare = bare;
       single = single-is k.config k.trace.now (dealt + 1) c.loop.first.me.0 last;
+      unclaimed = claim-is k.config k.trace.now (dealt + 1) c.loop.first.me.0 last;
       older_is = older-is k.config k.trace.now (dealt + 1) c.loop.first.me.0 last;
     }
 

@@ -1,5 +1,4 @@
-use Rattle.std.proofs.Common.{◌≡◌, false, sym, ap, ◌∙◌, subst}
-use Rattle.ea_machine.specs.Setup.{migration, setup_of}
+use Rattle.std.proofs.Common.{sym, ap, ◌∙◌}
 use Rattle.ea_table.proofs.Threading.{first-ready, worker-ended}
 use Rattle.ea_table.proofs.threads.run_worker.Goals as goal
 
@@ -12,14 +11,6 @@ run-requires-clause-seated g c =
       schedulers = ap (λ v. v.config.schedulers) pass.view ∙ sym b.schedulers_are;
       greatest = ap (λ v. v.trace.greatest) pass.view ∙ sym b.greatest_is;
     }
-
-pub run-requires-clause-off : goal.run-requires-clause-off
-run-requires-clause-off g c =
-    let fresh = c.requires.fresh in
-    subst (λ d. migration (setup_of d c.args.worker.scheduler.trace.now) ≡ false)
-    (sym fresh.scheduler.config)
-    (subst (λ t. migration (setup_of c.args.board.now.table.shared.key.config t) ≡ false)
-    (sym fresh.scheduler.trace) fresh.off)
 
 pub run-requires-clause-ready : goal.run-requires-clause-ready
 run-requires-clause-ready g c =

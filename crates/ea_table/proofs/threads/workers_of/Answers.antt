@@ -80,7 +80,6 @@ pub returns-clause-each : goal.returns-clause-each
 returns-clause-each c = λ id dealt k d less.
     let i = c.loop-pass.invariant in
     record {
-      off = c.requires.off;
       scheduler = i.first k d (omega (arith, less, returns-clause-all c, i.number));
       pass = dealt-at c.args.config c.args.trace.now id c.loop-pass.workers.items
           c.args.passes.items (i.passes ∙ whole c) dealt k d less;

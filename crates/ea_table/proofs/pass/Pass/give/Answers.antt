@@ -33,8 +33,8 @@ store-requires c =
 pub returns-clause-row : goal.returns-clause-row
 unfolding answer
 returns-clause-row c =
-    let v = c.args.self.now.seat.me.0 in
-    let u = c.store.new.seat.me.0 in
-    did v u c.args.me c.encode_node-new.result
-    (Give (record { name = c.args.name; spot = c.args.spot })) c.store.ensures.2.0
+    let m = c.args.self.now.seat.me in
+    let n = c.store.new.seat.me in
+    did m n c.args.me c.encode_node-new.result
+    (Give (record { name = c.args.name; spot = c.args.spot })) c.store.ensures.2
     c.requires.wanted Done refl

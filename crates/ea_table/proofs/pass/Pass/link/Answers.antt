@@ -25,7 +25,7 @@ store-requires c =
 pub returns-clause-row : goal.returns-clause-row
 unfolding answer
 returns-clause-row c =
-    let v = c.args.self.now.seat.me.0 in
-    let u = c.store.new.seat.me.0 in
-    did v u c.args.me c.args.self.now.older (Link c.args.node c.args.to) c.store.ensures.2.0
+    let m = c.args.self.now.seat.me in
+    let n = c.store.new.seat.me in
+    did m n c.args.me c.args.self.now.older (Link c.args.node c.args.to) c.store.ensures.2
     c.requires.wanted Done refl

@@ -30,7 +30,7 @@ swap-found-requires c =
 pub returns-clause-row : goal.returns-clause-row
 unfolding answer
 returns-clause-row c =
-    let v = c.args.self.now.seat.me.0 in
-    let u = c.swap-found.new.seat.me.0 in
-    did v u c.args.me c.swap-found.result (Push c.args.node c.args.to) c.swap-found.ensures.2.0
+    let m = c.args.self.now.seat.me in
+    let n = c.swap-found.new.seat.me in
+    did m n c.args.me c.swap-found.result (Push c.args.node c.args.to) c.swap-found.ensures.2
     c.requires.wanted Done refl

@@ -24,11 +24,11 @@ swap-found-requires c =
 pub returns-clause-row : goal.returns-clause-row
 unfolding answer
 returns-clause-row c =
-    let v = c.args.self.now.seat.me.0 in
-    let u = c.swap-found.new.seat.me.0 in
-    let took = c.swap-found.ensures.2.0 in
-    let reads = reads-row v u c.args.me c.swap-found.result TakeAll took c.requires.wanted in
-    head-row v u c.args.me c.swap-found.result TakeAll took c.requires.wanted
-    (first_node
-    ((s v u c.args.me c.swap-found.result TakeAll took c.requires.wanted).queues (acting v).number))
+    let m = c.args.self.now.seat.me in
+    let n = c.swap-found.new.seat.me in
+    let took = c.swap-found.ensures.2 in
+    let reads = reads-row m n c.args.me c.swap-found.result TakeAll took c.requires.wanted in
+    head-row m n c.args.me c.swap-found.result TakeAll took c.requires.wanted
+    (first_node ((s m n c.args.me c.swap-found.result TakeAll took c.requires.wanted).queues
+    (acting m.0).number))
     c.decode_node.result refl reads (c.decode_node.ensures.coded, c.decode_node.ensures.only)

@@ -24,23 +24,23 @@ swap-found-requires c =
 
 pub returns-then-found-eq-NO_NODE-clause-row : goal.returns-then-found-eq-NO_NODE-clause-row
 returns-then-found-eq-NO_NODE-clause-row c =
-    rests-row c.args.self.now.seat.me.0 c.swap-found.new.seat.me.0 c.args.me c.swap-found.result
-    c.swap-found.ensures.2.0 c.requires.wanted c.if-found-eq-NO_NODE.true
+    rests-row c.args.self.now.seat.me c.swap-found.new.seat.me c.args.me c.swap-found.result
+    c.swap-found.ensures.2 c.requires.wanted c.if-found-eq-NO_NODE.true
 
 pub returns-in-Some-clause-row : goal.returns-in-Some-clause-row
 returns-in-Some-clause-row c =
-    let v = c.args.self.now.seat.me.0 in
-    let u = c.swap-found.new.seat.me.0 in
-    subst (λ o. DidRow c.args.me TakeLink (Passes o) v u) c.in-Some.is
-    (passes-row v u c.args.me c.swap-found.result c.swap-found.ensures.2.0 c.requires.wanted
+    let m = c.args.self.now.seat.me in
+    let n = c.swap-found.new.seat.me in
+    subst (λ o. DidRow c.args.me TakeLink (Passes o) m.0 n.0) c.in-Some.is
+    (passes-row m n c.args.me c.swap-found.result c.swap-found.ensures.2 c.requires.wanted
     c.decode_node.result c.if-found-eq-NO_NODE.false
     (c.decode_node.ensures.coded, c.decode_node.ensures.only))
 
 pub returns-in-None-clause-row : goal.returns-in-None-clause-row
 returns-in-None-clause-row c =
-    let v = c.args.self.now.seat.me.0 in
-    let u = c.swap-found.new.seat.me.0 in
-    subst (λ o. DidRow c.args.me TakeLink (Passes o) v u) c.in-None.is
-    (passes-row v u c.args.me c.swap-found.result c.swap-found.ensures.2.0 c.requires.wanted
+    let m = c.args.self.now.seat.me in
+    let n = c.swap-found.new.seat.me in
+    subst (λ o. DidRow c.args.me TakeLink (Passes o) m.0 n.0) c.in-None.is
+    (passes-row m n c.args.me c.swap-found.result c.swap-found.ensures.2 c.requires.wanted
     c.decode_node.result c.if-found-eq-NO_NODE.false
     (c.decode_node.ensures.coded, c.decode_node.ensures.only))

@@ -21,9 +21,9 @@ swap-found-requires c =
 
 pub returns-clause-row : goal.returns-clause-row
 returns-clause-row c =
-    let v = c.args.self.now.seat.me.0 in
-    let u = c.swap-found.new.seat.me.0 in
-    subst (λ o. DidRow c.args.me (TakeTry c.args.name) (Got o) v u) (sym c.block_spot.ensures)
-    (spot-row v u c.args.me c.swap-found.result c.args.name c.swap-found.ensures.2.0
+    let m = c.args.self.now.seat.me in
+    let n = c.swap-found.new.seat.me in
+    subst (λ o. DidRow c.args.me (TakeTry c.args.name) (Got o) m.0 n.0) (sym c.block_spot.ensures)
+    (spot-row m n c.args.me c.swap-found.result c.args.name c.swap-found.ensures.2
     c.requires.wanted c.decode_node.result
     (c.decode_node.ensures.coded, c.decode_node.ensures.only))
