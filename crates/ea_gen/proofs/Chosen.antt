@@ -57,18 +57,21 @@ takes_front : (m : Making) (ks : List ℕ) → m.waiting ≡ ks → IsChosen m (
 takes_front m [] e h = h
 takes_front m (k ∷ ks) e h = (subst (λ js. is_in k js ≡ true) (sym e) (first_in k ks), refl)
 
+found_first : (p : ℕ → Bool) (ks : List ℕ) (j k : ℕ) (b : Bool) → p j ≡ b
+    → cond b (Some j) (find p ks) ≡ Some k
+    → (find p ks ≡ Some k → (is_in k ks ≡ true) × (p k ≡ true))
+    → (is_in k (j ∷ ks) ≡ true) × (p k ≡ true)
+found_first p ks j k true t e h = let same : j ≡ k = cc in (
+  subst (λ i. is_in i (j ∷ ks) ≡ true) same (first_in j ks),
+  subst (λ i. p i ≡ true) same t,
+)
+found_first p ks j k false t e h = let f = h e in (in_more k j ks f.0, f.1)
+
 -- a name that is found is one of them, and passes
 found_in : (p : ℕ → Bool) (ks : List ℕ) (k : ℕ) → find p ks ≡ Some k
     → (is_in k ks ≡ true) × (p k ≡ true)
 found_in p [] k e = absurd cc
-found_in p (j ∷ ks) k e = at (p j) refl e
-  where
-    at : (b : Bool) → p j ≡ b → cond b (Some j) (find p ks) ≡ Some k
-        → (is_in k (j ∷ ks) ≡ true) × (p k ≡ true)
-    at true t h = let same : j ≡ k = cc in
-        (subst (λ i. is_in i (j ∷ ks) ≡ true) same (first_in j ks),
-        subst (λ i. p i ≡ true) same t)
-    at false t h = let f = found_in p ks k h in (in_more k j ks f.0, f.1)
+found_in p (j ∷ ks) k e = found_first p ks j k (p j) refl e (found_in p ks k)
 
 gives_found : (m : Making) (found : Option ℕ) (b : Bool)
     → nat_lt m.section.scheduler m.section.schedulers ≡ b
@@ -94,59 +97,79 @@ chosen m lt = of_kinds m (nat_lt (draw_of m % DRAW_KINDS) 5) (draw_of m % DRAW_K
 
 -- lists of names
 
+pub same_name : (k j : ℕ) → (k == j) ≡ true → j ≡ k
+same_name k j e = grind arith
+
+pub either : (P : Type 0) (a b : Bool) → (a || b) ≡ true → (a ≡ true → P) → (b ≡ true → P) → P
+either P true b h f g = f refl
+either P false b h f g = g h
+
 pub holds_one : (P : ℕ → Type 0) (ks : List ℕ) (k : ℕ) → AllByRecursion P ks → is_in k ks ≡ true
     → P k
 holds_one P [] k h e = absurd cc
-holds_one P (j ∷ ks) k h e = at (k == j) refl e
-  where
-    at : (b : Bool) → (k == j) ≡ b → (b || is_in k ks) ≡ true → P k
-    at true t f = let same : j ≡ k = grind arith in subst P same h.0
-    at false t f = holds_one P ks k h.1 f
+holds_one P (j ∷ ks) k h e = either (P k) (k == j) (is_in k ks) e
+    (λ t. subst P (same_name k j t) h.0) (λ t. holds_one P ks k h.1 t)
 
 pub all_push : (P : ℕ → Type 0) (ks : List ℕ) (k : ℕ) → AllByRecursion P ks → P k
     → AllByRecursion P (ks ++ k ∷ [])
 all_push P [] k h e = (e, tt)
 all_push P (j ∷ ks) k h e = (h.0, all_push P ks k h.1 e)
 
+all_or : (P : ℕ → Type 0) (b : Bool) (ks rest : List ℕ) (j : ℕ) → AllByRecursion P (j ∷ ks)
+    → AllByRecursion P rest → AllByRecursion P (cond b ks (j ∷ rest))
+all_or P true ks rest j h r = h.1
+all_or P false ks rest j h r = (h.0, r)
+
 pub all_without : (P : ℕ → Type 0) (ks : List ℕ) (k : ℕ) → AllByRecursion P ks
     → AllByRecursion P (without k ks)
 all_without P [] k h = tt
-all_without P (j ∷ ks) k h = at (j == k)
-  where
-    at : (b : Bool) → AllByRecursion P (cond b ks (j ∷ without k ks))
-    at true = h.1
-    at false = (h.0, all_without P ks k h.1)
+all_without P (j ∷ ks) k h = all_or P (j == k) ks (without k ks) j h (all_without P ks k h.1)
+
+or_right : (a b c : Bool) → (a || b) ≡ true → (b ≡ true → c ≡ true) → (a || c) ≡ true
+or_right true b c h f = refl
+or_right false b c h f = f h
+
+or_assoc : (a b c : Bool) → (a || (b || c)) ≡ ((a || b) || c)
+or_assoc true b c = refl
+or_assoc false b c = refl
+
+or_none : (a : Bool) → (a || false) ≡ (false || a)
+or_none true = refl
+or_none false = refl
 
 pub in_push : (ks : List ℕ) (j k : ℕ) → is_in k (ks ++ j ∷ []) ≡ (is_in k ks || (k == j))
-in_push [] j k = grind arith
-in_push (i ∷ ks) j k = grind (arith, in_push ks j k)
+in_push [] j k = or_none (k == j)
+in_push (i ∷ ks) j k = ap (λ b. (k == i) || b) (in_push ks j k)
+    ∙ or_assoc (k == i) (is_in k ks) (k == j)
+
+in_or : (b : Bool) (ks rest : List ℕ) (i k : ℕ) → is_in k (cond b ks (i ∷ rest)) ≡ true
+    → (is_in k rest ≡ true → is_in k ks ≡ true) → is_in k (i ∷ ks) ≡ true
+in_or true ks rest i k h f = in_more k i ks h
+in_or false ks rest i k h f = or_right (k == i) (is_in k rest) (is_in k ks) h f
 
 pub in_without : (ks : List ℕ) (j k : ℕ) → is_in k (without j ks) ≡ true → is_in k ks ≡ true
 in_without [] j k h = h
-in_without (i ∷ ks) j k h = at (i == j) h
-  where
-    at : (b : Bool) → is_in k (cond b ks (i ∷ without j ks)) ≡ true → is_in k (i ∷ ks) ≡ true
-    at true f = in_more k i ks f
-    at false f = more (k == i) f
-      where
-        more : (b : Bool) → (b || is_in k (without j ks)) ≡ true → (b || is_in k ks) ≡ true
-        more true g = refl
-        more false g = in_without ks j k g
+in_without (i ∷ ks) j k h = in_or (i == j) ks (without j ks) i k h (in_without ks j k)
 
 pub times_push : (ks : List ℕ) (j k : ℕ) → times k (ks ++ j ∷ []) ≡ times k ks + cond (k == j) 1 0
 times_push ks j k = sum_by_push (λ i. cond (k == i) 1 0) ks j
+
+in_rest : (i j : ℕ) (ks : List ℕ) → (i == j) ≡ false → is_in j (i ∷ ks) ≡ true
+    → is_in j ks ≡ true
+in_rest i j ks e h = grind arith
+
+without_one : (b : Bool) (ks rest : List ℕ) (i j k : ℕ) → (i == j) ≡ b
+    → is_in j (i ∷ ks) ≡ true
+    → (is_in j ks ≡ true → times k rest + cond (k == j) 1 0 ≡ times k ks)
+    → times k (cond b ks (i ∷ rest)) + cond (k == j) 1 0 ≡ times k (i ∷ ks)
+without_one true ks rest i j k e h f = omega (arith, sum_by-cons (λ x. cond (k == x) 1 0) i ks,
+    ap {B = ℕ} (λ x. cond (k == x) 1 0) (same_name i j e))
+without_one false ks rest i j k e h f = omega (arith, sum_by-cons (λ x. cond (k == x) 1 0) i ks,
+    sum_by-cons (λ x. cond (k == x) 1 0) i rest, f (in_rest i j ks e h))
 
 -- one that is among them is taken out once
 pub times_without : (ks : List ℕ) (j k : ℕ) → is_in j ks ≡ true
     → times k (without j ks) + cond (k == j) 1 0 ≡ times k ks
 times_without [] j k h = absurd cc
-times_without (i ∷ ks) j k h = at (i == j) refl
-  where
-    at : (b : Bool) → (i == j) ≡ b
-        → times k (cond b ks (i ∷ without j ks)) + cond (k == j) 1 0 ≡ times k (i ∷ ks)
-    at true t = let same : i ≡ j = grind arith in
-        omega (arith, sum_by-cons (λ x. cond (k == x) 1 0) i ks,
-        ap (λ x. cond (k == x) 1 0) same)
-    at false t = let rest : is_in j ks ≡ true = grind arith in
-        omega (arith, sum_by-cons (λ x. cond (k == x) 1 0) i ks,
-        sum_by-cons (λ x. cond (k == x) 1 0) i (without j ks), times_without ks j k rest)
+times_without (i ∷ ks) j k h = without_one (i == j) ks (without j ks) i j k refl h
+    (times_without ks j k)

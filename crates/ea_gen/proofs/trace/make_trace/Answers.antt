@@ -4,6 +4,7 @@ use Rattle.ea_model.specs.Trace.{IsValidTrace, greatest_of}
 use Rattle.ea_gen.specs.Generated.{generated, texts_from}
 use Rattle.ea_gen.proofs.Complete.{all_texts, greatest_more, is_generated, items_of}
 use Rattle.ea_gen.proofs.Growing.{texts_more}
+use Rattle.ea_gen.proofs.Valid.{valid_if_generated}
 use Rattle.ea_gen.proofs.trace.make_trace.Goals as goal
 
 pub loop-before-preserved : goal.loop-before-preserved
@@ -33,4 +34,5 @@ returns-clause-trace c = is_generated c.args.letter c.args.seed c.args.scheduler
     c.loop-before.invariant.texts) c.loop-before.invariant.greatest
 
 pub returns-clause-valid : goal.returns-clause-valid
-returns-clause-valid c = ?
+returns-clause-valid c = valid_if_generated c.args.letter c.args.seed c.args.schedulers
+    c.args.count _ c.requires.seed c.requires.count c.requires.room (returns-clause-trace c)
