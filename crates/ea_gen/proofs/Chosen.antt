@@ -162,10 +162,17 @@ without_one : (b : Bool) (ks rest : List ℕ) (i j k : ℕ) → (i == j) ≡ b
     → is_in j (i ∷ ks) ≡ true
     → (is_in j ks ≡ true → times k rest + cond (k == j) 1 0 ≡ times k ks)
     → times k (cond b ks (i ∷ rest)) + cond (k == j) 1 0 ≡ times k (i ∷ ks)
-without_one true ks rest i j k e h f = omega (arith, sum_by-cons (λ x. cond (k == x) 1 0) i ks,
-    ap {B = ℕ} (λ x. cond (k == x) 1 0) (same_name i j e))
-without_one false ks rest i j k e h f = omega (arith, sum_by-cons (λ x. cond (k == x) 1 0) i ks,
-    sum_by-cons (λ x. cond (k == x) 1 0) i rest, f (in_rest i j ks e h))
+without_one true ks rest i j k e h f = omega (
+  arith,
+  sum_by-cons (λ x. cond (k == x) 1 0) i ks,
+  ap {B = ℕ} (λ x. cond (k == x) 1 0) (same_name i j e),
+)
+without_one false ks rest i j k e h f = omega (
+  arith,
+  sum_by-cons (λ x. cond (k == x) 1 0) i ks,
+  sum_by-cons (λ x. cond (k == x) 1 0) i rest,
+  f (in_rest i j ks e h),
+)
 
 -- one that is among them is taken out once
 pub times_without : (ks : List ℕ) (j k : ℕ) → is_in j ks ≡ true

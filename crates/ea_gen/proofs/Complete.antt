@@ -27,8 +27,11 @@ greatest_more texts text greatest name e f =
     ap (flat_map (λ t. t)) (map-append (λ (t : Items Op). t.items) texts (text ∷ []))
     ∙ flat_map-append (λ t. t) (items_of texts) (text.items ∷ [])
     ∙ ap (λ os. flat_map (λ t. t) (items_of texts) ++ os) (append-nil text.items) in
-    omega (arith, ap greatest_of all,
-        greatest_append (flat_map (λ t. t) (items_of texts)) text.items)
+    omega (
+      arith,
+      ap greatest_of all,
+      greatest_append (flat_map (λ t. t) (items_of texts)) text.items,
+    )
 
 relisted : (texts : List (Items Op)) → map (λ text. listed text.items) texts
     ≡ map (λ text. listed text) (items_of texts)

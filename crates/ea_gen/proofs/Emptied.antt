@@ -135,8 +135,7 @@ module _ (p : Option ℕ → Bool) where
         (passes_at_first p ps (Some k) (omega arith)) in
         let passes : q k ≡ true = sym (same k) ∙ subst (λ y. p y ≡ true) (sym e) t in
         let none_before = before ps i (omega arith) in
-        let all = whole ps i (Some k) lt e in
-        (
+        let all = whole ps i (Some k) lt e in (
           sym (ap (λ xs. find q (names_in xs)) all
               ∙ found q (take i ps) (drop (i + 1) ps) k none_before passes),
           ap names_in (emptied ps i lt)

@@ -52,13 +52,19 @@ all_made (suc left) m k f = omega (
 gives_one : (m : Making) (op : Op) (k : ℕ) → IsChosen m op
     → cond (gives k op) 1 0 + times k (hand_after op m.hand) + times k (waiting_after op m.waiting)
     ≤ times k m.hand + times k m.waiting + cond (k == m.name) 1 0
-gives_one m (Alloc name bytes) k c = omega (arith, times_push m.hand name k,
-    ap {B = ℕ} (λ j. cond (k == j) 1 0) c.0)
+gives_one m (Alloc name bytes) k c = omega (
+  arith,
+  times_push m.hand name k,
+  ap {B = ℕ} (λ j. cond (k == j) 1 0) c.0,
+)
 gives_one m (Free name) k c = omega (arith, times_without m.hand name k c)
 gives_one m (Realloc old fresh bytes) k c = absurd c
 gives_one m (Give name to) k c = omega (arith, times_without m.hand name k c.0)
-gives_one m (Take name tries) k c = omega (arith, times_push m.hand name k,
-    times_without m.waiting name k c.0)
+gives_one m (Take name tries) k c = omega (
+  arith,
+  times_push m.hand name k,
+  times_without m.waiting name k c.0,
+)
 gives_one m Info k c = absurd c
 gives_one m Idle k c = absurd c
 

@@ -162,10 +162,20 @@ texts_good seed n count (suc left) i given h e room g =
     record {
       texts_made = ap suc rest.texts_made;
       good = all_append (IsOperation n) text (all_of texts) (all_good count m f) rest.good;
-      many = omega (arith, length-append text (all_of texts), all_count count m, rest.many,
-          suc-mul left count);
-      tries = omega (arith, sum_by-append tries_of text (all_of texts), all_tries count m f,
-          rest.tries, suc-mul left count);
+      many = omega (
+        arith,
+        length-append text (all_of texts),
+        all_count count m,
+        rest.many,
+        suc-mul left count,
+      );
+      tries = omega (
+        arith,
+        sum_by-append tries_of text (all_of texts),
+        all_tries count m f,
+        rest.tries,
+        suc-mul left count,
+      );
       made_once = λ k. subst (λ c. c ≤ inside ((i - 1) * count + 1) (suc left * count) k)
           (sym (sum_by-append (λ o. cond (makes k o) 1 0) text (all_of texts)))
           (counts_more i count left k (count_by (makes k) text)
@@ -207,10 +217,18 @@ generated_valid letter seed n count s c room =
           (All-from_recursion (IsOperation n) (all_of (generated seed n count)) g.good);
       few = omega (arith, ap length all, g.many);
       tries = omega (arith, ap (sum_by tries_of) all, g.tries);
-      made_once = λ k. omega (arith, ap (count_by (makes k)) all, g.made_once k,
-          inside_one ((1 - 1) * count + 1) (n * count) k);
-      given_once = λ k. omega (arith, ap (count_by (gives k)) all, g.given_once k,
-          inside_one ((1 - 1) * count + 1) (n * count) k);
+      made_once = λ k. omega (
+        arith,
+        ap (count_by (makes k)) all,
+        g.made_once k,
+        inside_one ((1 - 1) * count + 1) (n * count) k,
+      );
+      given_once = λ k. omega (
+        arith,
+        ap (count_by (gives k)) all,
+        g.given_once k,
+        inside_one ((1 - 1) * count + 1) (n * count) k,
+      );
       held = λ j. subst (λ xs. BringsBefore (text_at j xs)) (sym texts) (g.held j);
       addressed = λ j k h. subst (λ xs. list_any (gives_to k (j + 1)) xs ≡ true) (sym all)
           (addressed_all k (all_of (generated seed n count)) j (g.addressed j k

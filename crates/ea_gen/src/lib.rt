@@ -6,6 +6,8 @@ mod hand;
 mod maker;
 mod numbers;
 mod section;
+#[cfg(test)]
+mod tests;
 mod texts;
 mod trace;
 

@@ -22,8 +22,12 @@ loop-before-preserved c =
           ∙ rw c.in_ok-push.ensures.ok (greatest_more texts made.text c.loop-before.greatest
           c.greatest_of.result c.loop-before.invariant.greatest
           (c.greatest_of.ensures ∙ ap greatest_of c.as_slice.ensures));
-      length = omega (arith, ap length c.in_ok-push.ensures.ok, length_push texts made.text,
-          c.loop-before.invariant.length);
+      length = omega (
+        arith,
+        ap length c.in_ok-push.ensures.ok,
+        length_push texts made.text,
+        c.loop-before.invariant.length,
+      );
     }
 
 pub returns-clause-trace : goal.returns-clause-trace

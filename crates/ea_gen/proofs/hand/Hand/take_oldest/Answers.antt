@@ -25,8 +25,12 @@ invariant_of-self-2 c =
     c.first_name-place.ensures ∙ ap (position_or_len is_some) c.deref.ensures.value in
     record {
       any = omega (arith, later is_some refl items c.first_name-place.result);
-      own = omega (arith, later (has_within c.self.inside.low c.self.inside.high) refl items
-          c.first_name-place.result, c.self.invariant.own);
+      own = omega (
+        arith,
+        later (has_within c.self.inside.low c.self.inside.high) refl items
+            c.first_name-place.result,
+        c.self.invariant.own,
+      );
     }
 
 pub returns-clause-name : goal.returns-clause-name

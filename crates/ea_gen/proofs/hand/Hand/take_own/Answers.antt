@@ -25,8 +25,12 @@ invariant_of-self-2 c =
     c.first_own-place.ensures ∙ ap (position_or_len own) c.deref.ensures.value in
     record {
       any = omega (arith, later is_some refl items c.first_own-place.result, c.self.invariant.any);
-      own = omega (arith, later own refl items
-          c.first_own-place.result, c.self.invariant.own);
+      own = omega (
+        arith,
+        later own refl items
+            c.first_own-place.result,
+        c.self.invariant.own,
+      );
     }
 
 pub returns-clause-name : goal.returns-clause-name
