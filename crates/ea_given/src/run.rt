@@ -1,7 +1,6 @@
-//! The run of a trace that has a schedule.
+//! The run of a trace that has a schedule, or none.
 ghost use Rattle.std.specs.Prelude.{◌≡◌, ◌+◌, ◌<◌, [], ◌∷◌, IfOk, OnOk, All};
 ghost use Rattle.std.specs.Prelude.{flat_map, length, replicate};
-ghost use Rattle.ea_model.specs.declared.trace.Mode.TheVariants.{Schedule};
 ghost use Rattle.ea_model.specs.Outcome.{plain_outcome};
 ghost use Rattle.ea_model.specs.Settings.{IsValidConfig};
 ghost use Rattle.ea_model.specs.Trace.{IsScheduler, IsValidTrace};
@@ -155,14 +154,15 @@ fn run_to_end<'t>(alloc: Global, config: Config, trace: &'t Trace) -> Result<Run
     Ok(Run { schedulers, shared })
 }
 
-/// Runs a trace that has a schedule: the schedulers take its turns, each one atomic step, and then
-/// scheduler 1 goes on until it has ended, then scheduler 2, up to the last one. Answers what is
-/// printed of the state then; it fails only where there is no memory. Whatever it answers, each run
-/// of the trace keeps the machine's protocol, whatever steps its schedulers take.
+/// Runs a trace by its schedule: the schedulers take its turns, each one atomic step, and then
+/// scheduler 1 goes on until it has ended, then scheduler 2, up to the last one. A generated trace,
+/// whose operations have to be made before, has no turns. Answers what is printed of the state
+/// then; it fails only where there is no memory. Whatever it answers, each run of the trace keeps
+/// the machine's protocol, whatever steps its schedulers take.
 pub fn run_given(alloc: Global, config: Config, trace: &Trace) -> Result<Outcome, OutOfMemory>
     requires config { IsValidConfig config }
     requires trace { IsValidTrace config.schedulers trace.now }
-    requires schedule { (turns : _) × (trace.now.mode ≡ Schedule turns) }
+    requires texts { length trace.now.texts.items ≡ config.schedulers }
     ensures outcome { IfOk result (λ outcome.
         plain_outcome outcome ≡ machine.outcome_of config trace.now) }
     ensures protocol { Protocol (setup_of config trace.now) }

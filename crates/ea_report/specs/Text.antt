@@ -1,5 +1,6 @@
 -- The output text of a run.
-use Rattle.std.specs.Prelude.{ℕ, ◌+◌, List, [], ◌∷◌, ◌++◌, codes, decimal}
+use Rattle.std.specs.Prelude.{ℕ, ◌+◌, Bool, true, false, List, [], ◌∷◌, ◌++◌, codes, decimal}
+use Rattle.std.specs.Prelude.{count_by}
 use Rattle.std.specs.List.{flat_map}
 use Rattle.ea_model.specs.declared.carriers.Place.{Place}
 use Rattle.ea_model.specs.declared.carriers.Kind.{Kind}
@@ -15,6 +16,8 @@ use Rattle.ea_model.specs.declared.entries.Report.{Report}
 use Rattle.ea_model.specs.declared.entries.Entry.{Entry}
 use Rattle.ea_model.specs.declared.entries.Entry.TheVariants as entry
 use Rattle.ea_model.specs.Outcome.{logs_of}
+use Rattle.ea_report.specs.declared.summary.Counted.{Counted}
+use Rattle.ea_report.specs.declared.summary.Counted.TheVariants as counted
 
 -- a line: a first word, each further word after a space, and a line feed
 abbrev pub line : List ℕ → List (List ℕ) → List ℕ
@@ -105,3 +108,43 @@ logs_text i (log ∷ logs) = line (codes "scheduler") (decimal i ∷ []) ++ flat
 abbrev pub outcome_text : Outcome → List ℕ
 outcome_text o = logs_text 1 (logs_of o) ++ flat_map carrier_text o.carriers.items
     ++ totals_text o.totals
+
+-- whether the entry is one of these
+abbrev pub is_of : Counted → Entry → Bool
+is_of counted.Alloc (entry.Alloc name p) = true
+is_of counted.Alloc e = false
+is_of counted.Fail (entry.AllocFail name need looked why) = true
+is_of counted.Fail e = false
+is_of counted.Free (entry.Free name) = true
+is_of counted.Free e = false
+is_of counted.Queued (entry.FreeQueued name to) = true
+is_of counted.Queued e = false
+is_of counted.Give (entry.Give name to) = true
+is_of counted.Give e = false
+is_of counted.Take (entry.Take name) = true
+is_of counted.Take e = false
+
+-- how many entries of the log are of these
+abbrev pub count_of : Counted → List Entry → ℕ
+count_of kind log = count_by (is_of kind) log
+
+-- the line of a scheduler of a generated trace
+abbrev pub counts_text : ℕ → List Entry → List ℕ
+counts_text i log = line (codes "scheduler")
+    (decimal i ∷ codes "alloc" ∷ decimal (count_of counted.Alloc log)
+    ∷ codes "fail" ∷ decimal (count_of counted.Fail log)
+    ∷ codes "free" ∷ decimal (count_of counted.Free log)
+    ∷ codes "queued" ∷ decimal (count_of counted.Queued log)
+    ∷ codes "give" ∷ decimal (count_of counted.Give log)
+    ∷ codes "take" ∷ decimal (count_of counted.Take log) ∷ [])
+
+-- the lines of schedulers from that number on
+abbrev pub counted_text : ℕ → List (List Entry) → List ℕ
+counted_text i [] = []
+counted_text i (log ∷ logs) = counts_text i log ++ counted_text (i + 1) logs
+
+-- the text of a generated trace, of which this is the outcome: what it was made from, the counts of
+-- each scheduler's log, and the totals
+abbrev pub summary_text : ℕ → ℕ → Outcome → List ℕ
+summary_text seed count o = line (codes "generated") (decimal seed ∷ decimal count ∷ [])
+    ++ counted_text 1 (logs_of o) ++ totals_text o.totals

@@ -1,12 +1,14 @@
 //! Writes the output text of a run: the log of each scheduler, the carriers at its end, and the
-//! totals.
+//! totals; or, of a generated trace, how many entries each log has of each kind, and the totals.
 #![tactic(auto)]
 
 mod carriers;
 mod entries;
 mod lines;
+mod summary;
 #[cfg(test)]
 mod tests;
 mod text;
 
+pub use summary::print_summary;
 pub use text::print;

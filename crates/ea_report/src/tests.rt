@@ -1,7 +1,7 @@
-//! The line of each kind of entry, the words of carriers, and whole texts.
+//! The line of each kind of entry, the words of carriers, and whole texts of both forms.
 use crate::carriers::put_carrier;
 use crate::entries::put_entry;
-use crate::print;
+use crate::{print, print_summary};
 use ea_model::{
     CarrierLine, Entry, Kind, List, NoCarrier, OutOfMemory, Outcome, Place, Report, Standing,
     Totals, Triple,
@@ -273,6 +273,65 @@ fn each_log_stands_after_the_number_of_its_scheduler(rt: HostRuntime) -> Result<
     for (logs, carriers, text) in cases {
         let outcome = outcome(rt.alloc(), logs, carriers)?;
         let printed = print(rt.alloc(), &outcome)?;
+        assert_eq!(rt; printed.as_slice(), text.as_bytes());
+    }
+    Ok(())
+}
+
+const GENERATED: &[Entry] = &[
+    Entry::Take { name: 5 },
+    Entry::Alloc {
+        name: 1,
+        place: Place {
+            carrier: 1,
+            offset: 8,
+            size: 14,
+        },
+    },
+    Entry::Free { name: 1 },
+    Entry::FreeQueued { name: 5, to: 1 },
+    Entry::AllocFail {
+        name: 2,
+        need: 14,
+        looked: 0,
+        why: NoCarrier::Space,
+    },
+    Entry::FreeSkipped { name: 2 },
+    Entry::GiveSkipped { name: 2, to: 2 },
+    Entry::TakeAbsent { name: 6, tries: 1 },
+    Entry::Take { name: 7 },
+    Entry::Take { name: 8 },
+    Entry::Give { name: 7, to: 3 },
+    Entry::FreeQueued { name: 8, to: 1 },
+];
+
+#[test]
+fn the_text_of_a_generated_trace_counts_what_was_done(rt: HostRuntime) -> Result<(), Fail> {
+    let cases: [(&[&[Entry]], &str); 3] = [
+        (
+            &[PLACED, GENERATED],
+            "generated 2147483647 131072\n\
+            scheduler 1 alloc 1 fail 0 free 0 queued 0 give 0 take 0\n\
+            scheduler 2 alloc 1 fail 1 free 1 queued 2 give 1 take 3\n\
+            total carriers 1 units 16384 live 14 queued 28 free 16334 header 8\n",
+        ),
+        (
+            &[FREED, &[], PLACED],
+            "generated 2147483647 131072\n\
+            scheduler 1 alloc 0 fail 0 free 0 queued 1 give 0 take 1\n\
+            scheduler 2 alloc 0 fail 0 free 0 queued 0 give 0 take 0\n\
+            scheduler 3 alloc 1 fail 0 free 0 queued 0 give 0 take 0\n\
+            total carriers 1 units 16384 live 14 queued 28 free 16334 header 8\n",
+        ),
+        (
+            &[],
+            "generated 2147483647 131072\n\
+            total carriers 1 units 16384 live 14 queued 28 free 16334 header 8\n",
+        ),
+    ];
+    for (logs, text) in cases {
+        let outcome = outcome(rt.alloc(), logs, &[CARRIER])?;
+        let printed = print_summary(rt.alloc(), 2_147_483_647, 131_072, &outcome)?;
         assert_eq!(rt; printed.as_slice(), text.as_bytes());
     }
     Ok(())

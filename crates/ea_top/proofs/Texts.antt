@@ -16,15 +16,16 @@ use Rattle.ea_model.specs.Outcome.{logs_of, plain_outcome}
 use Rattle.ea_model.specs.Settings.{region_pages, settings_of}
 use Rattle.ea_model.specs.Trace.{listed, plain, plain_mode}
 use Rattle.ea_model.proofs.Traces.{plain-texts}
+use Rattle.ea_machine.specs.Completion.{end_of}
 use Rattle.ea_machine.specs.Courses.{IsCourse}
 use Rattle.ea_machine.specs.Machine.{run}
-use Rattle.ea_machine.specs.Outcome.{outcome}
+use Rattle.ea_machine.specs.Outcome.{outcome, outcome_of}
 use Rattle.ea_machine.specs.Setup.{Setup, migration, setup_of, text_for}
-use Rattle.ea_report.specs.Text.{outcome_text}
 use Rattle.ea_trace.specs.Language.{trace}
 use Rattle.ea_top.specs.Answers.{GivesText, HasOutput, spelled}
 use Rattle.ea_top.specs.Built.{is_built_mode, is_built_run}
-use Rattle.ea_top.specs.Output.{IsOutputUnder, IsRunOutcome, IsRunText, outcome_after, read_under}
+use Rattle.ea_top.specs.Output.{IsOutputUnder, IsRunOutcome, IsRunText, filled_by, outcome_after}
+use Rattle.ea_top.specs.Output.{read_under, run_setup, text_by}
 
 same_mode : (migrating : Bool) (m : Mode)
     → is_built_mode migrating (plain_mode m) ≡ is_built_mode migrating m
@@ -43,10 +44,35 @@ same_setup c t = ap (λ texts. record {
   texts = text_for texts;
 }) (plain-texts t)
 
+same_end : (setup : Setup) (m : Mode) → end_of setup (plain_mode m) ≡ end_of setup m
+same_end setup Threads = refl
+same_end setup (Schedule turns) = refl
+same_end setup (Generated seed count) = refl
+
+-- the run of a trace that was made has the outcome of the one that it answers for
+pub made-outcome : (c : Config) (made t : Trace) (o : Outcome) → plain made ≡ t
+    → o ≡ outcome_of c made → o ≡ outcome_of c t
+made-outcome c made t o is e = e
+    ∙ ap (λ setup. outcome setup (end_of setup made.mode)) (sym (same_setup c made))
+    ∙ ap (outcome (setup_of c (plain made)))
+    (sym (same_end (setup_of c (plain made)) made.mode))
+    ∙ ap (outcome_of c) is
+
+-- the operations that are run are the same
+same_filled : (c : Config) (t : Trace) (m : Mode)
+    → setup_of c (filled_by c.schedulers (plain t) (plain_mode m))
+    ≡ setup_of c (filled_by c.schedulers t m)
+same_filled c t Threads = same_setup c t
+same_filled c t (Schedule turns) = same_setup c t
+same_filled c t (Generated seed count) = refl
+
+same_run : (c : Config) (t : Trace) → run_setup c (plain t) ≡ run_setup c t
+same_run c t = same_filled c t t.mode
+
 -- the same turns have the same outcome
 same_outcome : (c : Config) (t : Trace) (turns : List ℕ)
     → outcome_after c (plain t) turns ≡ outcome_after c t turns
-same_outcome c t turns = ap (λ setup. outcome setup (run setup turns)) (same_setup c t)
+same_outcome c t turns = ap (λ setup. outcome setup (run setup turns)) (same_run c t)
 
 course_mode : (setup : Setup) (m : Mode) (turns : List ℕ) → IsCourse setup m turns
     → IsCourse setup (plain_mode m) turns
@@ -55,26 +81,29 @@ course_mode setup (Schedule given) turns h = h
 course_mode setup (Generated seed count) turns h = h
 
 -- and are a course of both
-same_course : (c : Config) (t : Trace) (turns : List ℕ) → IsCourse (setup_of c t) t.mode turns
-    → IsCourse (setup_of c (plain t)) (plain_mode t.mode) turns
+same_course : (c : Config) (t : Trace) (turns : List ℕ) → IsCourse (run_setup c t) t.mode turns
+    → IsCourse (run_setup c (plain t)) (plain_mode t.mode) turns
 same_course c t turns h = subst (λ setup. IsCourse setup (plain_mode t.mode) turns)
-    (sym (same_setup c t)) (course_mode (setup_of c t) t.mode turns h)
+    (sym (same_run c t)) (course_mode (run_setup c t) t.mode turns h)
 
 same_logs : (o : Outcome) → logs_of (plain_outcome o) ≡ logs_of o
 same_logs o = map-map (λ log. log.items) listed (logs_of o) ∙ map-id (logs_of o)
 
 -- an outcome has the text that it has as a definition answers it
-same_text : (o : Outcome) → outcome_text (plain_outcome o) ≡ outcome_text o
-same_text o = rw (same_logs o) refl
+same_text : (m : Mode) (o : Outcome) → text_by m o ≡ text_by (plain_mode m) (plain_outcome o)
+same_text Threads o = rw (same_logs o) refl
+same_text (Schedule turns) o = rw (same_logs o) refl
+same_text (Generated seed count) o = rw (same_logs o) refl
 
 -- the text of an outcome of the run of a trace is one of the trace as a definition answers it
 pub run-text : (c : Config) (t : Trace) (o : Outcome) → is_built_run c t ≡ true
-    → IsRunOutcome c t (plain_outcome o) → IsRunText c (plain t) (outcome_text o)
+    → IsRunOutcome c t (plain_outcome o) → IsRunText c (plain t) (text_by t.mode o)
 run-text c t o built h = (
   same_built c t ∙ built,
   h.0,
   same_course c t h.0 h.1,
-  sym (same_text o) ∙ ap outcome_text h.2 ∙ ap outcome_text (sym (same_outcome c t h.0)),
+  same_text t.mode o
+      ∙ ap (text_by (plain_mode t.mode)) (h.2 ∙ sym (same_outcome c t h.0)),
 )
 
 module _ {Z : Type 0} (words : List (String Z)) where

@@ -5,29 +5,47 @@ use Rattle.ea_flags.specs.declared.fault.FlagFault.{FlagFault}
 use Rattle.ea_flags.specs.Flags.{flags}
 use Rattle.ea_model.specs.declared.outcome.Outcome.{Outcome}
 use Rattle.ea_model.specs.declared.settings.Config.{Config}
+use Rattle.ea_model.specs.declared.trace.Mode.{Mode}
+use Rattle.ea_model.specs.declared.trace.Mode.TheVariants.{Threads, Schedule, Generated}
 use Rattle.ea_model.specs.declared.trace.Trace.{Trace}
+use Rattle.ea_gen.specs.Generated.{generated_trace}
 use Rattle.ea_machine.specs.Courses.{IsCourse}
 use Rattle.ea_machine.specs.Machine.{run}
 use Rattle.ea_machine.specs.Outcome.{outcome}
-use Rattle.ea_machine.specs.Setup.{setup_of}
-use Rattle.ea_report.specs.Text.{outcome_text}
+use Rattle.ea_machine.specs.Setup.{Setup, setup_of}
+use Rattle.ea_report.specs.Text.{outcome_text, summary_text}
 use Rattle.ea_trace.specs.Language.{trace}
 use Rattle.ea_top.specs.Built.{is_built_run}
 
+-- the trace, or the one that is generated for n schedulers where its mode says so
+abbrev pub filled_by : ℕ → Trace → Mode → Trace
+filled_by n t Threads = t
+filled_by n t (Schedule turns) = t
+filled_by n t (Generated seed count) = generated_trace t.letter seed n count
+
+-- the text of an outcome: all of it or, of a generated trace, the counts
+abbrev pub text_by : Mode → Outcome → List ℕ
+text_by Threads o = outcome_text o
+text_by (Schedule turns) o = outcome_text o
+text_by (Generated seed count) o = summary_text seed count o
+
 module _ (c : Config) (t : Trace) where
+  -- the run of the trace, whose operations were given or are generated
+  abbrev pub run_setup : Setup
+  run_setup = setup_of c (filled_by c.schedulers t t.mode)
+
   -- the logs, carriers and totals once these turns are taken
   abbrev pub outcome_after : List ℕ → Outcome
-  outcome_after turns = outcome (setup_of c t) (run (setup_of c t) turns)
+  outcome_after turns = outcome run_setup (run run_setup turns)
 
   -- they are those of a course of the run
   abbrev pub IsRunOutcome : Outcome → Type 0
-  IsRunOutcome o = (turns : List ℕ) × IsCourse (setup_of c t) t.mode turns
-      × (o ≡ outcome_after turns)
+  IsRunOutcome o = (turns : List ℕ) × IsCourse run_setup t.mode turns × (o ≡ outcome_after turns)
 
   -- the run is built, and the text is that of a course of it
   abbrev pub IsRunText : List ℕ → Type 0
   IsRunText text = (is_built_run c t ≡ true) × (turns : List ℕ)
-      × IsCourse (setup_of c t) t.mode turns × (text ≡ outcome_text (outcome_after turns))
+      × IsCourse run_setup t.mode turns × (text ≡ text_by t.mode (outcome_after turns))
 
 abbrev pub read_under : Result Config FlagFault → List ℕ → Option Trace
 read_under (Ok c) input = result_ok (trace input c.schedulers)

@@ -6,13 +6,16 @@ ghost use Rattle.std.specs.Io.KnownBytes.{IsAtEnd};
 ghost use Rattle.ea_io.specs.Calls.{StopsAtFault};
 ghost use Rattle.ea_io.specs.Counts.{Calm};
 ghost use Rattle.ea_io.specs.Fronts.{ConsumesAtMost};
+ghost use Rattle.ea_gen.specs.Generated.{generated_trace};
+ghost use Rattle.ea_machine.specs.Outcome.{outcome_of};
+ghost use Rattle.ea_model.specs.declared.trace.Mode.TheVariants.{Generated};
 ghost use Rattle.ea_model.specs.declared.units.TheConstants.{MAX_INPUT};
 ghost use Rattle.ea_model.specs.Outcome.{plain_outcome};
 ghost use Rattle.ea_model.specs.Settings.{IsValidConfig};
-ghost use Rattle.ea_model.specs.Trace.{IsValidTrace};
+ghost use Rattle.ea_model.specs.Trace.{IsValidMode, IsValidTrace};
 ghost use Rattle.ea_trace.specs.Language as language;
 ghost use Rattle.ea_top.specs.Built.{is_built_run};
-ghost use Rattle.ea_top.specs.Output.{IsOutputUnder, IsRunOutcome};
+ghost use Rattle.ea_top.specs.Output.{IsOutputUnder, IsRunOutcome, text_by};
 ghost use Rattle.ea_top.specs.Answers.{GoodWords, GoodInput, IsBuiltFor, WroteText, WroteFront};
 ghost use Rattle.ea_sound.specs.MachineLaws.{Protocol};
 ghost use Rattle.ea_top.specs.EachTrace.{ForEachTrace};
@@ -22,10 +25,11 @@ ghost use Rattle.ea_top.specs.declared.faults.Fault.{Fault};
 
 use crate::faults::{Fault, complain};
 use ea_flags::read_flags;
+use ea_gen::make_trace;
 use ea_given::run_given;
 use ea_io::{ReadAllFault, Sink, Source, read_all, write_all};
-use ea_model::{Config, List, MAX_INPUT, Mode, OutOfMemory, Outcome, Trace};
-use ea_report::print;
+use ea_model::{Config, Letter, List, MAX_INPUT, Mode, OutOfMemory, Outcome, Trace};
+use ea_report::{print, print_summary};
 use ea_sched::migrates;
 use ea_table::{OpenGate, run_threads};
 use ea_trace::read_trace;
@@ -38,7 +42,7 @@ use std::thread::Threads;
 /// The status is 0 where the text was written; 1 where the words are refused; 2 where the input has
 /// more than 2^24 bytes or isn't a trace; 3 where the source failed; 4 where `out` failed; 5 where
 /// there was no memory; 6 where words and input are accepted, and the run isn't built: carriers
-/// would migrate between threads, or operations are to be generated.
+/// would migrate between threads.
 pub fn run<R: Threads + Sync, S: Source, O: Sink, E: Sink>(
     rt: &R,
     alloc: Global,
@@ -53,8 +57,9 @@ pub fn run<R: Threads + Sync, S: Source, O: Sink, E: Sink>(
     // 0: the whole text of an input in the language, which was read to its end. It is the text of
     // a list of steps after which every scheduler has ended. Where the input has a schedule, these
     // are exactly the completed schedule: the turns that it asks for, and then those of each
-    // scheduler until it has ended. Where the source doesn't tell its bytes, as a terminal, this
-    // holds of some input.
+    // scheduler until it has ended. Where the input asks for generated operations, they are the
+    // ones that are defined, run by an empty schedule, and the text is the counts of them. Where
+    // the source doesn't tell its bytes, as a terminal, this holds of some input.
     ensures done { result ≡ 0
         → WroteText words.now (S.left source.old) (O.taken out.old) (O.taken out.new) }
     ensures end { result ≡ 0 → IsAtEnd (S.left source.new) }
@@ -205,23 +210,21 @@ fn text_of<R: Threads + Sync>(
         return Err(Fault::NotBuilt);
     }
     let outcome = run_trace(rt, alloc, config, &trace)?;
-    Ok(print(alloc, &outcome)?)
+    Ok(print_run(alloc, &trace.mode, &outcome)?)
 }
 
-/// Whether the run of a trace is built: its operations are given, and carriers don't migrate
-/// between threads.
+/// Whether the run of a trace is built: carriers don't migrate between threads.
 fn is_built(config: Config, trace: &Trace) -> bool
     ensures { result ≡ is_built_run config trace.now }
 {
     match &trace.mode {
         Mode::Threads => !migrates(config, trace),
-        Mode::Schedule { .. } => true,
-        Mode::Generated { .. } => false,
+        Mode::Schedule { .. } | Mode::Generated { .. } => true,
     }
 }
 
 /// Runs a trace whose run is built, as its mode says: each scheduler on a thread of its own, or all
-/// by the schedule.
+/// by the schedule, or with the operations that are generated.
 fn run_trace<R: Threads + Sync>(
     rt: &R,
     alloc: Global,
@@ -236,6 +239,35 @@ fn run_trace<R: Threads + Sync>(
     match trace.mode {
         Mode::Threads => run_threads(rt, alloc, config, trace, &OpenGate),
         Mode::Schedule { .. } => run_given(alloc, config, trace),
-        Mode::Generated { .. } => unreachable!(),
+        Mode::Generated { seed, count } => {
+            run_generated(alloc, config, trace.letter, seed, count)
+        }
+    }
+}
+
+/// Makes the operations of a generated trace, and runs it by an empty schedule.
+fn run_generated(
+    alloc: Global,
+    config: Config,
+    letter: Letter,
+    seed: u32,
+    count: u32,
+) -> Result<Outcome, OutOfMemory>
+    requires config { IsValidConfig config }
+    requires mode { IsValidMode config.schedulers (Generated seed count) }
+    ensures { IfOk result (λ outcome. plain_outcome outcome
+        ≡ outcome_of config (generated_trace letter seed config.schedulers count)) }
+{
+    let trace = make_trace(alloc, letter, seed, config.schedulers, count)?;
+    run_given(alloc, config, &trace)
+}
+
+/// The text of the outcome of a trace of this mode.
+fn print_run(alloc: Global, mode: &Mode, outcome: &Outcome) -> Result<List<u8>, OutOfMemory>
+    ensures { IfOk result (λ text. text.items ≡ text_by mode.now outcome.now) }
+{
+    match mode {
+        Mode::Threads | Mode::Schedule { .. } => print(alloc, outcome),
+        Mode::Generated { seed, count } => print_summary(alloc, *seed, *count, outcome),
     }
 }

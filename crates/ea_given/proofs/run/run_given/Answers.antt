@@ -8,12 +8,7 @@ use Rattle.ea_sound.proofs.Protocols.{always-protocol}
 use Rattle.ea_shared.specs.Carriers.{place_at}
 use Rattle.ea_outcome.specs.Resting.{IsOutcome, StandIn}
 use Rattle.ea_given.proofs.Ends.{stand-in}
-use Rattle.ea_given.proofs.Texts.{texts-many}
 use Rattle.ea_given.proofs.run.run_given.Goals as goal
-
-pub run_to_end-requires-clause-texts : goal.run_to_end-requires-clause-texts
-run_to_end-requires-clause-texts c =
-    texts-many c.args.config.schedulers c.args.trace.now c.requires.schedule c.requires.trace
 
 pub outcome_of-requires-clause-schedulers : goal.outcome_of-requires-clause-schedulers
 outcome_of-requires-clause-schedulers c = c.in_ok-schedulers.ensures.shared.made

@@ -22,8 +22,8 @@ returns-clause-ok g c =
     let t = c.in_ok-trace.trace in
     let built : is_built_run c.args.config t ≡ true = sym c.is_built.ensures
     ∙ c.if-not-is_built.false in
-    let text = c.in_ok-print.field-0.items in
+    let text = c.in_ok-print_run.field-0.items in
     subst (λ answer. IsOutputUnder (Ok c.args.config) (result_ok answer) text)
     (sym c.in_ok-trace.ensures.given)
-    (subst (IsRunText c.args.config (plain t)) (sym c.in_ok-print.ensures)
+    (subst (IsRunText c.args.config (plain t)) (sym c.in_ok-print_run.ensures)
     (run-text c.args.config t c.in_ok-outcome.outcome built c.in_ok-outcome.ensures))
