@@ -184,11 +184,13 @@ module _ (v : View) where
   pub leaves-employed : (k : ℕ) → row_in v ≡ Clear k → IsLeaving (caller_in v)
       → Wherever v (λ s. (owner_of k ≡ i) × (s.places k ≡ Employed i))
   leaves-employed k wanted leaves L valid made at =
-      let g = guarded (Clear k) wanted L valid made at in
-      (g.0, elim g.1 [
-        | inl emptied ↦ emptied.employed
-        | inr home ↦ absurd (let never = sym leaves.1 ∙ ap leaving_at home.collects in cc)
-      ])
+      let g = guarded (Clear k) wanted L valid made at in (
+        g.0,
+        elim g.1 [
+          | inl emptied ↦ emptied.employed
+          | inr home ↦ absurd (let never = sym leaves.1 ∙ ap leaving_at home.collects in cc)
+        ],
+      )
 
   pub collects-home : (k : ℕ) → row_in v ≡ Clear k → IsCollecting k (caller_in v)
       → Wherever v (λ s. (x : Content) × (owner_of k ≡ i) × (s.places k ≡ Returning i x))
@@ -228,9 +230,10 @@ module _ (m : Me Slot View) (is : IsSingle m.0) where
       (subst (λ b. Writes who (Settle x) x.number (settled_at who x b)) none
       (writes-settle who x))
       (λ L valid made at. subst (λ b. MovesSlot m x.number
-      ((run (setup_in m.0) L).shared.places x.number) (Employed who) (settled_move b)) (sym none)
-      (subst (Has who x.number) (sym (guarded m.0 (Settle x) wanted.1 L valid made at)) refl,
-      refl)))
+      ((run (setup_in m.0) L).shared.places x.number) (Employed who) (settled_move b)) (sym none) (
+        subst (Has who x.number) (sym (guarded m.0 (Settle x) wanted.1 L valid made at)) refl,
+        refl,
+      )))
 
   pub stores-create : (me k : ℕ) → WantsRow me (Create k) (caller_in m.0)
       → Stores k (word.Employed me) m
