@@ -1,4 +1,5 @@
--- Which rows on carriers the calls are: the place that each leaves, by its guard, and what it answers.
+-- Which rows on carriers the calls are: the place that each leaves, by its guard, and what it
+-- answers.
 use Rattle.std.proofs.Common.{◌≡◌, ◌≢◌, ℕ, false, List, [], ◌∷◌, None, Some}
 use Rattle.std.proofs.Common.{refl, sym, ap, ◌∙◌, subst, inl, inr}
 use Rattle.atomic_table.specs.Table.{Me}

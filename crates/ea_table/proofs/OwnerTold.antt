@@ -1,5 +1,5 @@
--- What the calls on carriers answer, by the words that their steps found and the slots that the seat
--- has then; and that a seat has no slot after them.
+-- What the calls on carriers answer, by the words that their steps found and the slots that the
+-- seat has then; and that a seat has no slot after them.
 use Rattle.std.proofs.Common.{◌≡◌, ◌≢◌, ℕ, ◌≤◌, ◌++◌, List, [], ◌∷◌, None, Some}
 use Rattle.std.proofs.Common.{refl, sym, ap, ◌∙◌, subst, arith}
 use Rattle.std.specs.Prelude.{All}

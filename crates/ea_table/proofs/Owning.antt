@@ -1,4 +1,5 @@
--- What the rows on carriers need of words and slots, and what the looks of a seat at an owner word do.
+-- What the rows on carriers need of words and slots, and what the looks of a seat at an owner word
+-- do.
 use Rattle.std.proofs.Common.{◌≡◌, ◌≢◌, ℕ, ◌*◌, ◌≤◌, Bool, true, false, List}
 use Rattle.std.proofs.Common.{None, Some, slice_index, set}
 use Rattle.std.proofs.Common.{refl, sym, ap, ◌∙◌, subst, inl, inr}
@@ -136,7 +137,8 @@ module _ (hs : List (maybe.Option Slot)) (n : ℕ) (claim_of : ℕ → ℕ) (s :
   pub slots-stay : Left s Stays
   slots-stay = (
     tt,
-    subst (λ c. Houses hs n (put claim_of (acting m.0).number c) s) same (housed-same hs n claim_of s h (acting m.0).number s refl),
+    subst (λ c. Houses hs n (put claim_of (acting m.0).number c) s) same
+        (housed-same hs n claim_of s h (acting m.0).number s refl),
   )
 
   pub slots-moved : (p : CarrierAt) (move : Move) → MovesSlot m k (s.places k) p move
@@ -148,7 +150,8 @@ module _ (hs : List (maybe.Option Slot)) (n : ℕ) (claim_of : ℕ → ℕ) (s :
   )
   slots-moved p (Claims number x) moves =
       subst (λ j. Left (at_place k p s) (Claims j x)) (sym moves.0)
-      (housed-won hs n claim_of s h (acting m.0).number k from to x moves.1 p moves.2 (same ∙ moves.3))
+      (housed-won hs n claim_of s h (acting m.0).number k from to x moves.1 p moves.2
+      (same ∙ moves.3))
   slots-moved p Yields moves = (
     tt,
     subst (λ ys. Houses (put_back hs ys) n (put claim_of (acting m.0).number 0) (at_place k p s))

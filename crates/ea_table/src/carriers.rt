@@ -1,10 +1,10 @@
 //! The steps on carriers that a scheduler takes at its seat.
 //!
-//! A content lies in the slot of its carrier while no scheduler has it. Who puts it there has claimed
-//! the slot before, and the step that changes the owner word gives the slot back. Who wins the
-//! carrier takes the slot in the step that changes the word, takes the content out, and gives the
-//! slot back empty. So a seat has no slot between its calls, and each call takes one step of its
-//! scheduler: claiming a slot, and giving it back empty, are looks that change no word.
+//! A content lies in the slot of its carrier while no scheduler has it. Who puts it there has
+//! claimed the slot before, and the step that changes the owner word gives the slot back. Who wins
+//! the carrier takes the slot in the step that changes the word, takes the content out, and gives
+//! the slot back empty. So a seat has no slot between its calls, and each call takes one step of
+//! its scheduler: claiming a slot, and giving it back empty, are looks that change no word.
 ghost use Rattle.std.specs.Prelude.{◌≡◌, ◌≤◌, [], None, Some};
 ghost use Rattle.ea_model.specs.Content.{Content};
 ghost use Rattle.ea_model.specs.Instance.{owner_of};
@@ -84,7 +84,8 @@ impl Pass {
         store_owner(board, &mut self.seat, carrier, word);
     }
 
-    /// Stores a word, if the owner word is still the one seen: then the content comes to the caller.
+    /// Stores a word, if the owner word is still the one seen: then the content comes to the
+    /// caller.
     fn try_for(
         &mut self,
         board: &Board<'_>,

@@ -25,7 +25,8 @@ store_owner-requires-clause-stores c =
     let s = p.seat in
     let place = c.owner_place-place in
     bring-stores p.older c.args.carrier c.args.content c.args.word s.me (idle-of p)
-    c.requires.carrier.0 c.requires.brings (step b.table.shared.table_id.slots place.result 0 0 none)
+    c.requires.carrier.0 c.requires.brings
+    (step b.table.shared.table_id.slots place.result 0 0 none)
     (there-so b s.table_id s.id s.me.0 s.me.1 c.requires.seated c.args.carrier c.requires.carrier
     place.result place.ensures) c.load.result c.load.new.seat.me c.load.ensures.2
     c.slot_place.result c.slot_place.ensures c.exchange.new.seat.me c.exchange.ensures.3
@@ -37,7 +38,8 @@ invariant_of-self c =
     let s = p.seat in
     let place = c.owner_place-place in
     let i = bring-idle p.older c.args.carrier c.args.content c.args.word s.me (idle-of p)
-    c.requires.carrier.0 c.requires.brings (step b.table.shared.table_id.slots place.result 0 0 none)
+    c.requires.carrier.0 c.requires.brings
+    (step b.table.shared.table_id.slots place.result 0 0 none)
     (there-so b s.table_id s.id s.me.0 s.me.1 c.requires.seated c.args.carrier c.requires.carrier
     place.result place.ensures) c.load.result c.load.new.seat.me c.load.ensures.2
     c.slot_place.result c.slot_place.ensures c.exchange.new.seat.me c.exchange.ensures.3
@@ -51,7 +53,8 @@ returns-clause-row c =
     let s = p.seat in
     let place = c.owner_place-place in
     bring-row p.older c.args.carrier c.args.content c.args.word s.me (idle-of p)
-    c.requires.carrier.0 c.requires.brings (step b.table.shared.table_id.slots place.result 0 0 none)
+    c.requires.carrier.0 c.requires.brings
+    (step b.table.shared.table_id.slots place.result 0 0 none)
     (there-so b s.table_id s.id s.me.0 s.me.1 c.requires.seated c.args.carrier c.requires.carrier
     place.result place.ensures) c.load.result c.load.new.seat.me c.load.ensures.2
     c.slot_place.result c.slot_place.ensures c.exchange.new.seat.me c.exchange.ensures.3
