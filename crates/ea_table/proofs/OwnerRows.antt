@@ -332,17 +332,3 @@ module _ (older : ℕ) (m n : Me Slot View) (found : ℕ) (took : Took m found n
 
         pub returned-slot : (x : Content) × HasSlot k (Some x) n
         returned-slot = (home-some.0, taken-slot m n found took older k home-some.0 idle moved)
-
-        pub returned-older : older ≡ (acting n.0).older
-        returned-older = older-then m n found took older
-            (stores-clear_returned m idle.single me k wanted collects idle.unclaimed).writes.older
-            idle.older_is
-
-        pub returned-row : (x : Content) → HasSlot k (Some x) n → (u : View) → u ≡ claimed n.0 0
-            → DidRow me (Clear k) (Home (Some x)) m.0 u
-        returned-row x slot u is =
-            let held = taken-slot m n found took older k home-some.0 idle moved in
-            let one : Some home-some.0 ≡ Some x = ap first_slot (sym held.slots ∙ slot.slots) in
-            did-yielded me (Clear k) (Home (Some x)) m.0 n.0 u 0
-            (did m n me found (Clear k) took wanted (Home (Some x))
-            (ap Home (sym one) ∙ sym home-some.1)) is
