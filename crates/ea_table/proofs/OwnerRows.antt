@@ -1,4 +1,5 @@
--- Which rows on carriers the calls are: the place that each leaves, by its guard, and what it answers.
+-- Which rows on carriers the calls are: the place that each leaves, by its guard, and what it
+-- answers.
 use Rattle.std.proofs.Common.{◌≡◌, ◌≢◌, ℕ, false, List, [], ◌∷◌, None, Some}
 use Rattle.std.proofs.Common.{refl, sym, ap, ◌∙◌, subst, inl, inr}
 use Rattle.atomic_table.specs.Table.{Me}
@@ -184,11 +185,13 @@ module _ (v : View) where
   pub leaves-employed : (k : ℕ) → row_in v ≡ Clear k → IsLeaving (caller_in v)
       → Wherever v (λ s. (owner_of k ≡ i) × (s.places k ≡ Employed i))
   leaves-employed k wanted leaves L valid made at =
-      let g = guarded (Clear k) wanted L valid made at in
-      (g.0, elim g.1 [
-        | inl emptied ↦ emptied.employed
-        | inr home ↦ absurd (let never = sym leaves.1 ∙ ap leaving_at home.collects in cc)
-      ])
+      let g = guarded (Clear k) wanted L valid made at in (
+        g.0,
+        elim g.1 [
+          | inl emptied ↦ emptied.employed
+          | inr home ↦ absurd (let never = sym leaves.1 ∙ ap leaving_at home.collects in cc)
+        ],
+      )
 
   pub collects-home : (k : ℕ) → row_in v ≡ Clear k → IsCollecting k (caller_in v)
       → Wherever v (λ s. (x : Content) × (owner_of k ≡ i) × (s.places k ≡ Returning i x))
@@ -228,9 +231,10 @@ module _ (m : Me Slot View) (is : IsSingle m.0) where
       (subst (λ b. Writes who (Settle x) x.number (settled_at who x b)) none
       (writes-settle who x))
       (λ L valid made at. subst (λ b. MovesSlot m x.number
-      ((run (setup_in m.0) L).shared.places x.number) (Employed who) (settled_move b)) (sym none)
-      (subst (Has who x.number) (sym (guarded m.0 (Settle x) wanted.1 L valid made at)) refl,
-      refl)))
+      ((run (setup_in m.0) L).shared.places x.number) (Employed who) (settled_move b)) (sym none) (
+        subst (Has who x.number) (sym (guarded m.0 (Settle x) wanted.1 L valid made at)) refl,
+        refl,
+      )))
 
   pub stores-create : (me k : ℕ) → WantsRow me (Create k) (caller_in m.0)
       → Stores k (word.Employed me) m
@@ -328,17 +332,3 @@ module _ (older : ℕ) (m n : Me Slot View) (found : ℕ) (took : Took m found n
 
         pub returned-slot : (x : Content) × HasSlot k (Some x) n
         returned-slot = (home-some.0, taken-slot m n found took older k home-some.0 idle moved)
-
-        pub returned-older : older ≡ (acting n.0).older
-        returned-older = older-then m n found took older
-            (stores-clear_returned m idle.single me k wanted collects idle.unclaimed).writes.older
-            idle.older_is
-
-        pub returned-row : (x : Content) → HasSlot k (Some x) n → (u : View) → u ≡ claimed n.0 0
-            → DidRow me (Clear k) (Home (Some x)) m.0 u
-        returned-row x slot u is =
-            let held = taken-slot m n found took older k home-some.0 idle moved in
-            let one : Some home-some.0 ≡ Some x = ap first_slot (sym held.slots ∙ slot.slots) in
-            did-yielded me (Clear k) (Home (Some x)) m.0 n.0 u 0
-            (did m n me found (Clear k) took wanted (Home (Some x))
-            (ap Home (sym one) ∙ sym home-some.1)) is

@@ -17,7 +17,8 @@ use Rattle.ea_table.specs.declared.board.Board.{Board}
 use Rattle.ea_table.specs.declared.views.About.{About}
 use Rattle.ea_table.specs.declared.views.View.{View}
 use Rattle.ea_table.specs.Handing.{HasSlot, IsTry, Stores, Wherever, row_in}
-use Rattle.ea_table.specs.Ruling.{IsSingle, acting, caller_in, claimed, claims, holds, steps, yields}
+use Rattle.ea_table.specs.Ruling.{IsSingle, acting, caller_in, claimed, claims, holds, steps}
+use Rattle.ea_table.specs.Ruling.{yields}
 use Rattle.ea_table.specs.Seating.{IsAt}
 use Rattle.ea_table.specs.Slots.{Has, Slot, slot_at}
 use Rattle.ea_table.specs.Words.{owner_at}

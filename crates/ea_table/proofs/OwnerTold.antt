@@ -1,5 +1,5 @@
--- What the calls on carriers answer, by the words that their steps found and the slots that the seat
--- has then; and that a seat has no slot after them.
+-- What the calls on carriers answer, by the words that their steps found and the slots that the
+-- seat has then; and that a seat has no slot after them.
 use Rattle.std.proofs.Common.{◌≡◌, ◌≢◌, ℕ, ◌≤◌, ◌++◌, List, [], ◌∷◌, None, Some}
 use Rattle.std.proofs.Common.{refl, sym, ap, ◌∙◌, subst, arith}
 use Rattle.std.specs.Prelude.{All}
@@ -47,12 +47,6 @@ idle-of p = record {
   single = p.single;
   older_is = p.older_is;
 }
-
--- a row that the scheduler of the seat wants
-pub as-wanted : (me : ℕ) (row : Row) (got : Answer) (v u : View) → WantsRow me row (caller_in v)
-    → DidRow (acting v).number (row_in v) got v u → DidRow me row got v u
-as-wanted me row got v u wanted d = subst (λ r. DidRow me r got v u) wanted.1
-    (subst (λ i. DidRow i (row_in v) got v u) wanted.0 d)
 
 -- a seat of the same table, with the same run
 pub at-same : (b : Board) (z y : TableId) (v u : View) → IsAt b z v → y ≡ z
@@ -199,21 +193,6 @@ module _ (m n : Me Slot View) (found : ℕ) (took : Took m found n) where
       pub won-slot : (older : ℕ) → IsIdle older m → (x : Content) × HasSlot k (Some x) n
       won-slot older idle = (won.0, taken-slot older k won.0 idle won-move)
 
-      -- the content that was in the slot is the one that was won
-      pub won-row : (older : ℕ) → IsIdle older m → (x : Content) → HasSlot k (Some x) n
-          → (u : View) → u ≡ claimed n.0 0 → DidRow i (row_in m.0) (Won x) m.0 u
-      won-row older idle x slot u is =
-          let held_it = taken-slot older k won.0 idle won-move in
-          let one : Some won.0 ≡ Some x =
-          ap first_slot (sym held_it.slots ∙ slot.slots) in
-          let content : x ≡ won.0 = cc in
-          did-yielded i (row_in m.0) (Won x) m.0 n.0 u 0
-          (did m n i found (row_in m.0) took (refl, refl) (Won x)
-          (ap Won content ∙ sym (o.row_is.answers s_then ∙ won.2))) is
-
-      pub won-older : (older : ℕ) → older ≡ (acting m.0).older → older ≡ (acting n.0).older
-      won-older older is = older-then older o.row_is.older is
-
     module _ (other : found ≢ owner_code seen) where
       lost : tried_at seen there ≡ Lost (word_of there)
       lost = tried-lost seen there (λ q. other (reads-there.0 ∙ q))
@@ -254,19 +233,6 @@ module _ (v : View) (k : ℕ) (x : Content) (w : OwnerWord) (o : Brings k x w v)
         (same ∙ sym (ap (λ u. (acting u).older) is)) k (Some x) slot
         (moves-so (answer (acting m.0).number (row_in m.0) (shared_since m.0 took.since)))
 
-    brought-row : DidRow (acting v).number (row_in v) Done v n.0
-    brought-row =
-        let older = older_after (row_in m.0) found (acting m.0).older in
-        let claim = claim_by (move_since m.0 took.since) (acting m.0).claim in record {
-          number = refl;
-          since = took.since;
-          others = subst (λ u. All (λ j. j ≢ (acting u).number) took.since) is took.others;
-          answered = sym (o.answers (shared_since v took.since));
-          older = older;
-          claim = claim;
-          view = took.view ∙ ap (λ u. stepped u took.since older claim) is;
-        }
-
 -- by a look, an exchange and a store
 module _ (older k : ℕ) (x : Content) (w : OwnerWord) (m : Me Slot View) (idle : IsIdle older m)
     (from : 1 ≤ k) (o : Brings k x w m.0) (st : Step Slot)
@@ -286,10 +252,6 @@ module _ (older k : ℕ) (x : Content) (w : OwnerWord) (m : Me Slot View) (idle 
   pub bring-idle : (u : Me Slot View) (found : ℕ) → Took n found u → IsIdle older u
   bring-idle u found took = brought-idle m.0 k x w o n claim-is put u found took older
       idle.older_is
-
-  pub bring-row : (u : Me Slot View) (found : ℕ) → Took n found u
-      → DidRow (acting m.0).number (row_in m.0) Done m.0 u.0
-  bring-row u found took = brought-row m.0 k x w o n claim-is put u found took
 
 module _ (m n : Me Slot View) (me found k : ℕ) (took : Took m found n)
     (wanted : WantsRow me (Look k) (caller_in m.0)) where

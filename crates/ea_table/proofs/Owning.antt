@@ -1,4 +1,5 @@
--- What the rows on carriers need of words and slots, and what the looks of a seat at an owner word do.
+-- What the rows on carriers need of words and slots, and what the looks of a seat at an owner word
+-- do.
 use Rattle.std.proofs.Common.{◌≡◌, ◌≢◌, ℕ, ◌*◌, ◌≤◌, Bool, true, false, List}
 use Rattle.std.proofs.Common.{None, Some, slice_index, set}
 use Rattle.std.proofs.Common.{refl, sym, ap, ◌∙◌, subst, inl, inr}
@@ -108,19 +109,19 @@ pub tries-as : (me : ℕ) (row : Row) (carrier : ℕ) (seen w : OwnerWord)
     → IsTry me row carrier seen w → TriesAs me row carrier seen w
 tries-as me row carrier seen w is = elim is [
   | inl busy ↦ record {
-      place = Busy me;
-      is = sym busy.1;
-      has = refl;
-      row_is = subst (λ r. TriesFor me r carrier seen (Busy me)) (sym busy.0)
-          (busy-tries me carrier seen);
-    }
+    place = Busy me;
+    is = sym busy.1;
+    has = refl;
+    row_is = subst (λ r. TriesFor me r carrier seen (Busy me)) (sym busy.0)
+        (busy-tries me carrier seen);
+  }
   | inr fetch ↦ record {
-      place = Employed me;
-      is = sym fetch.1;
-      has = refl;
-      row_is = subst (λ r. TriesFor me r carrier seen (Employed me)) (sym fetch.0)
-          (fetch-tries me carrier seen);
-    }
+    place = Employed me;
+    is = sym fetch.1;
+    has = refl;
+    row_is = subst (λ r. TriesFor me r carrier seen (Employed me)) (sym fetch.0)
+        (fetch-tries me carrier seen);
+  }
 ]
 
 -- slots after a step on the carrier
@@ -136,7 +137,8 @@ module _ (hs : List (maybe.Option Slot)) (n : ℕ) (claim_of : ℕ → ℕ) (s :
   pub slots-stay : Left s Stays
   slots-stay = (
     tt,
-    subst (λ c. Houses hs n (put claim_of (acting m.0).number c) s) same (housed-same hs n claim_of s h (acting m.0).number s refl),
+    subst (λ c. Houses hs n (put claim_of (acting m.0).number c) s) same
+        (housed-same hs n claim_of s h (acting m.0).number s refl),
   )
 
   pub slots-moved : (p : CarrierAt) (move : Move) → MovesSlot m k (s.places k) p move
@@ -148,7 +150,8 @@ module _ (hs : List (maybe.Option Slot)) (n : ℕ) (claim_of : ℕ → ℕ) (s :
   )
   slots-moved p (Claims number x) moves =
       subst (λ j. Left (at_place k p s) (Claims j x)) (sym moves.0)
-      (housed-won hs n claim_of s h (acting m.0).number k from to x moves.1 p moves.2 (same ∙ moves.3))
+      (housed-won hs n claim_of s h (acting m.0).number k from to x moves.1 p moves.2
+      (same ∙ moves.3))
   slots-moved p Yields moves = (
     tt,
     subst (λ ys. Houses (put_back hs ys) n (put claim_of (acting m.0).number 0) (at_place k p s))
@@ -214,80 +217,80 @@ module _ (v : View) (xs : List (ℕ × Slot)) (k : ℕ) (from : 1 ≤ k)
   module _ (seen w : OwnerWord) (old new : ℕ) (old_is : old ≡ owner_code seen)
       (new_is : new ≡ owner_code w) (j largest : ℕ) (pooled : seen ≡ word.Pooled j largest)
       (shown : IsShown seen) (o : TriesAs me (row_in v) k seen w) (none_yet : (acting v).claim ≡ 0)
-      where
-    abbrev to_new : ℕ → ℕ
-    to_new z = either (z == old) new z
+    where
+      abbrev to_new : ℕ → ℕ
+      to_new z = either (z == old) new z
 
-    module _ (L : List ℕ) (valid : IsValidConfig v.config)
-        (made : IsValidTrace v.config.schedulers v.trace) (claim_of : ℕ → ℕ)
-        (same : claim_of me ≡ (acting v).claim) (ws : List ℕ) (codes : Codes n g (s_of L) ws)
-        (hs : List (maybe.Option Slot)) (h : Houses hs n claim_of (s_of L)) where
-      abbrev s : Shared
-      s = s_of L
+      module _ (L : List ℕ) (valid : IsValidConfig v.config)
+          (made : IsValidTrace v.config.schedulers v.trace) (claim_of : ℕ → ℕ)
+          (same : claim_of me ≡ (acting v).claim) (ws : List ℕ) (codes : Codes n g (s_of L) ws)
+          (hs : List (maybe.Option Slot)) (h : Houses hs n claim_of (s_of L)) where
+        abbrev s : Shared
+        s = s_of L
 
-      abbrev p : CarrierAt
-      p = o.place
+        abbrev p : CarrierAt
+        p = o.place
 
-      fit : IsWorded n g s
-      fit = worded v.config v.trace valid made L
+        fit : IsWorded n g s
+        fit = worded v.config v.trace valid made L
 
-      abbrev move : Move
-      move = move_of (row_in v) (answer me (row_in v) s)
+        abbrev move : Move
+        move = move_of (row_in v) (answer me (row_in v) s)
 
-      abbrev Done : ℕ → Type 0
-      Done z = Codes n g (effect me (row_in v) s) (set ws (owner_at n g k) z)
-          × Left hs n claim_of s h (v, xs) same k from to (effect me (row_in v) s) move
+        abbrev Done : ℕ → Type 0
+        Done z = Codes n g (effect me (row_in v) s) (set ws (owner_at n g k) z)
+            × Left hs n claim_of s h (v, xs) same k from to (effect me (row_in v) s) move
 
-      found : slice_index ws (owner_at n g k) ≡ place_code (s.places k)
-      found = codes.owners k from to
+        found : slice_index ws (owner_at n g k) ≡ place_code (s.places k)
+        found = codes.owners k from to
 
-      -- the step, where what is shared and the move are these
-      done : (z : ℕ) (u : Shared) (to_move : Move) → effect me (row_in v) s ≡ u → move ≡ to_move
-          → Codes n g u (set ws (owner_at n g k) z)
-          → Left hs n claim_of s h (v, xs) same k from to u to_move → Done z
-      done z u to_move same_shared same_move coded left = (
-        subst (λ x. Codes n g x (set ws (owner_at n g k) z)) (sym same_shared) coded,
-        subst (λ x. Left hs n claim_of s h (v, xs) same k from to x move) (sym same_shared)
-            (subst (Left hs n claim_of s h (v, xs) same k from to u) (sym same_move) left),
-      )
+        -- the step, where what is shared and the move are these
+        done : (z : ℕ) (u : Shared) (to_move : Move) → effect me (row_in v) s ≡ u → move ≡ to_move
+            → Codes n g u (set ws (owner_at n g k) z)
+            → Left hs n claim_of s h (v, xs) same k from to u to_move → Done z
+        done z u to_move same_shared same_move coded left = (
+          subst (λ x. Codes n g x (set ws (owner_at n g k) z)) (sym same_shared) coded,
+          subst (λ x. Left hs n claim_of s h (v, xs) same k from to x move) (sym same_shared)
+              (subst (Left hs n claim_of s h (v, xs) same k from to u) (sym same_move) left),
+        )
 
-      hit : slice_index ws (owner_at n g k) ≡ old → Done new
-      hit is =
-          let word_is : word_of (s.places k) ≡ seen =
-          shown-same (word_of (s.places k)) seen (fit.owners k) shown
-          (sym found ∙ is ∙ old_is) in
-          let (x, home, won) = tried-won seen (s.places k) j largest pooled word_is in
-          done new (at_place k p s) (Claims k x)
-          (o.row_is.places s ∙ ap (λ r. moved_if r k p s) won)
-          (ap (move_of (row_in v)) (o.row_is.answers s ∙ won) ∙ o.row_is.won x)
-          (subst (λ z. Codes n g (at_place k p s) (set ws (owner_at n g k) z))
-          (ap owner_code o.is ∙ sym new_is) (codes-placed n g s fit ws codes k from to p))
-          (slots-moved hs n claim_of s h (v, xs) same k from to p (Claims k x)
-          (refl, home, o.has, none_yet))
+        hit : slice_index ws (owner_at n g k) ≡ old → Done new
+        hit is =
+            let word_is : word_of (s.places k) ≡ seen =
+            shown-same (word_of (s.places k)) seen (fit.owners k) shown
+            (sym found ∙ is ∙ old_is) in
+            let (x, home, won) = tried-won seen (s.places k) j largest pooled word_is in
+            done new (at_place k p s) (Claims k x)
+            (o.row_is.places s ∙ ap (λ r. moved_if r k p s) won)
+            (ap (move_of (row_in v)) (o.row_is.answers s ∙ won) ∙ o.row_is.won x)
+            (subst (λ z. Codes n g (at_place k p s) (set ws (owner_at n g k) z))
+            (ap owner_code o.is ∙ sym new_is) (codes-placed n g s fit ws codes k from to p))
+            (slots-moved hs n claim_of s h (v, xs) same k from to p (Claims k x)
+            (refl, home, o.has, none_yet))
 
-      miss : slice_index ws (owner_at n g k) ≢ old → Done (slice_index ws (owner_at n g k))
-      miss other =
-          let lost : tried_at seen (s.places k) ≡ Lost (word_of (s.places k)) =
-          tried-lost seen (s.places k) (λ q. other (found ∙ q ∙ sym old_is)) in
-          done (slice_index ws (owner_at n g k)) s Stays
-          (o.row_is.places s ∙ ap (λ r. moved_if r k p s) lost)
-          (ap (move_of (row_in v)) (o.row_is.answers s ∙ lost)
-          ∙ o.row_is.lost (word_of (s.places k)))
-          (codes-read n g s fit ws codes (owner_at n g k))
-          (slots-stay hs n claim_of s h (v, xs) same k from to)
+        miss : slice_index ws (owner_at n g k) ≢ old → Done (slice_index ws (owner_at n g k))
+        miss other =
+            let lost : tried_at seen (s.places k) ≡ Lost (word_of (s.places k)) =
+            tried-lost seen (s.places k) (λ q. other (found ∙ q ∙ sym old_is)) in
+            done (slice_index ws (owner_at n g k)) s Stays
+            (o.row_is.places s ∙ ap (λ r. moved_if r k p s) lost)
+            (ap (move_of (row_in v)) (o.row_is.answers s ∙ lost)
+            ∙ o.row_is.lost (word_of (s.places k)))
+            (codes-read n g s fit ws codes (owner_at n g k))
+            (slots-stay hs n claim_of s h (v, xs) same k from to)
 
-      exchange : Done (to_new (slice_index ws (owner_at n g k)))
-      exchange = exchanged (slice_index ws (owner_at n g k)) old new Done hit miss
+        exchange : Done (to_new (slice_index ws (owner_at n g k)))
+        exchange = exchanged (slice_index ws (owner_at n g k)) old new Done hit miss
 
-    pub fits-exchanged : FitsWord v xs (row_in v) i to_new (λ z. z)
-    fits-exchanged = placed to_new (λ z. z) (λ L valid made at rem claim_of same ws codes hs h.
-        let d = exchange L valid made claim_of same ws codes hs h in record {
-          reads = o.row_is.reads (s_of L) (slice_index ws (owner_at n g k))
-              (codes.owners k from to, (worded v.config v.trace valid made L).owners k);
-          codes = d.0;
-          valid = d.1.0;
-          houses = d.1.1;
-        })
+      pub fits-exchanged : FitsWord v xs (row_in v) i to_new (λ z. z)
+      fits-exchanged = placed to_new (λ z. z) (λ L valid made at rem claim_of same ws codes hs h.
+          let d = exchange L valid made claim_of same ws codes hs h in record {
+            reads = o.row_is.reads (s_of L) (slice_index ws (owner_at n g k))
+                (codes.owners k from to, (worded v.config v.trace valid made L).owners k);
+            codes = d.0;
+            valid = d.1.0;
+            houses = d.1.1;
+          })
 
 -- looks of a seat
 module _ (v : View) (k : ℕ) (from : 1 ≤ k) where

@@ -1,10 +1,10 @@
 //! The steps on carriers that a scheduler takes at its seat.
 //!
-//! A content lies in the slot of its carrier while no scheduler has it. Who puts it there has claimed
-//! the slot before, and the step that changes the owner word gives the slot back. Who wins the
-//! carrier takes the slot in the step that changes the word, takes the content out, and gives the
-//! slot back empty. So a seat has no slot between its calls, and each call takes one step of its
-//! scheduler: claiming a slot, and giving it back empty, are looks that change no word.
+//! A content lies in the slot of its carrier while no scheduler has it. Who puts it there has
+//! claimed the slot before, and the step that changes the owner word gives the slot back. Who wins
+//! the carrier takes the slot in the step that changes the word, takes the content out, and gives
+//! the slot back empty. So a seat has no slot between its calls, and each call takes one step of
+//! its scheduler: claiming a slot, and giving it back empty, are looks that change no word.
 ghost use Rattle.std.specs.Prelude.{◌≡◌, ◌≤◌, [], None, Some};
 ghost use Rattle.ea_model.specs.Content.{Content};
 ghost use Rattle.ea_model.specs.Instance.{owner_of};
@@ -31,12 +31,7 @@ use ea_shared::Tried;
 use ea_word::{decode, encode};
 
 /// Stores the owner word of a carrier.
-fn store_owner(
-    board: &Board<'_>,
-    seat: &mut Seat<Option<Mbc>, View>,
-    carrier: u32,
-    word: OwnerWord,
-)
+fn store_owner(board: &Board<'_>, seat: &mut Seat<Option<Mbc>, View>, carrier: u32, word: OwnerWord)
     requires seated { IsAt board.now seat.old.table_id seat.old.me.0 }
     requires carrier { IsCarrier board.now.schedulers carrier }
     requires shown { IsShown word }
@@ -45,10 +40,7 @@ fn store_owner(
     ensures took { Took seat.old.me (owner_code word) seat.new.me }
 {
     let place = owner_place(board.schedulers, board.greatest, carrier);
-    board
-        .table
-        .shared
-        .store::<Steps>(seat, place, encode(word));
+    board.table.shared.store::<Steps>(seat, place, encode(word));
 }
 
 /// Takes the content out of the slot of a carrier, which the seat has, and gives the slot back.
@@ -60,10 +52,7 @@ fn take_out(board: &Board<'_>, seat: &mut Seat<Option<Mbc>, View>, carrier: u32)
     ensures content { HasSlot carrier (Some result) seat.old.me }
     ensures seat { seat.new.me ≡ (claimed seat.old.me.0 0, []) }
 {
-    let found = board
-        .table
-        .shared
-        .exchange(seat, slot_place(carrier), None);
+    let found = board.table.shared.exchange(seat, slot_place(carrier), None);
     let place = owner_place(board.schedulers, board.greatest, carrier);
     board.table.shared.load::<Yields>(seat, place);
     match found {
@@ -87,10 +76,7 @@ impl Pass {
             self.old.seat.me.0 self.new.seat.me.0 }
     {
         let place = owner_place(board.schedulers, board.greatest, carrier);
-        board
-            .table
-            .shared
-            .load::<Claims>(&mut self.seat, place);
+        board.table.shared.load::<Claims>(&mut self.seat, place);
         board
             .table
             .shared
@@ -98,7 +84,8 @@ impl Pass {
         store_owner(board, &mut self.seat, carrier, word);
     }
 
-    /// Stores a word, if the owner word is still the one seen: then the content comes to the caller.
+    /// Stores a word, if the owner word is still the one seen: then the content comes to the
+    /// caller.
     fn try_for(
         &mut self,
         board: &Board<'_>,

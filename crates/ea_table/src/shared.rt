@@ -96,8 +96,7 @@ impl<'a, 't> Shared for TableShared<'a, 't> {
     }
 
     fn abandon(&mut self, me: u32, carrier: u32, content: Mbc, largest: u32) {
-        self.pass
-            .abandon(self.board, me, carrier, content, largest);
+        self.pass.abandon(self.board, me, carrier, content, largest);
     }
 
     fn fetch_try(&mut self, me: u32, carrier: u32, seen: OwnerWord) -> Tried<Mbc> {
@@ -109,8 +108,7 @@ impl<'a, 't> Shared for TableShared<'a, 't> {
     }
 
     fn send_home(&mut self, me: u32, carrier: u32, content: Mbc, owner: u32) {
-        self.pass
-            .send_home(self.board, me, carrier, content, owner);
+        self.pass.send_home(self.board, me, carrier, content, owner);
     }
 
     fn clear_own(&mut self, me: u32, carrier: u32) {

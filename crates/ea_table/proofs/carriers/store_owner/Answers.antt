@@ -13,5 +13,6 @@ store-requires c =
       omega (arith, b.words, place.ensures, c.requires.carrier),
       stores b s.table_id s.id s.me.0 s.me.1 c.requires.seated c.args.carrier c.requires.carrier
           place.result place.ensures c.args.word c.encode.result c.encode.ensures
-          c.requires.stores (step b.table.shared.table_id.slots place.result c.encode.result 0 none),
+          c.requires.stores
+          (step b.table.shared.table_id.slots place.result c.encode.result 0 none),
     )

@@ -19,7 +19,8 @@ compare_exchange-found-requires c =
           c.encode-old.result c.encode.result c.encode-old.ensures c.encode.ensures
           c.requires.seen (seen-shown b.schedulers c.args.seen b.few c.requires.seen)
           c.requires.wanted p.single p.unclaimed
-          (step b.table.shared.table_id.slots place.result c.encode-old.result c.encode.result none),
+          (step b.table.shared.table_id.slots place.result c.encode-old.result c.encode.result
+          none),
     )
 
 pub take_out-content-requires-clause-slot : goal.take_out-content-requires-clause-slot
