@@ -1,7 +1,7 @@
 -- What the placing of a block makes of an actor, by what it changes.
 use Rattle.std.proofs.Common.{◌≡◌, ◌≢◌, ℕ, ◌-◌, ◌&&◌, Bool, true, false, List, ◌∷◌}
 use Rattle.std.proofs.Common.{refl, sym, ap, ◌∙◌}
-use Rattle.std.specs.Prelude.{Option, None, Some, Result, Ok, Err, is_some, nat_lt}
+use Rattle.std.specs.Prelude.{◌↔◌, Option, None, Some, Result, Ok, Err, is_some, nat_lt}
 use Rattle.std.specs.Prelude.{if◌then◌else◌}
 use Rattle.ea_model.specs.declared.carriers.CarrierPlan.{CarrierPlan}
 use Rattle.ea_model.specs.declared.carriers.Place.{Place}
@@ -24,7 +24,7 @@ use Rattle.ea_machine.specs.declared.nodes.Node.{Node}
 use Rattle.ea_machine.specs.declared.nodes.Node.TheVariants.{Block, Carrier}
 use Rattle.ea_machine.specs.declared.owners.OwnerWord.{OwnerWord}
 use Rattle.ea_machine.specs.declared.stages.Route.TheVariants.{Looking}
-use Rattle.ea_machine.specs.declared.stages.Stage.TheVariants.{Fetching, Routed}
+use Rattle.ea_machine.specs.declared.stages.Stage.TheVariants.{Fetching, Routed, Searching}
 use Rattle.ea_machine.specs.declared.tasks.Gone.TheVariants.{Open}
 use Rattle.ea_machine.specs.declared.tasks.Task.{Task}
 use Rattle.ea_machine.specs.declared.tasks.Task.TheVariants.{Moving}
@@ -32,7 +32,7 @@ use Rattle.ea_machine.specs.declared.tasks.Why.TheVariants.{For, Walk}
 use Rattle.ea_machine.specs.Actor.{Actor}
 use Rattle.ea_machine.specs.Machine.{onward}
 use Rattle.ea_machine.specs.Placements.{chosen_by, counted, created, created_by, fetched, fits}
-use Rattle.ea_machine.specs.Placements.{holding, making, new_carrier_by, placed_by}
+use Rattle.ea_machine.specs.Placements.{holding, making, new_carrier, new_carrier_by, placed_by}
 use Rattle.ea_machine.specs.Placements.{placed_in_choice, saw_by, search_at, search_if, searched}
 use Rattle.ea_machine.specs.Placements.{searched_by, seek, seek_by, spot_of_place, stands}
 use Rattle.ea_machine.specs.Releases.{routed}
@@ -41,6 +41,8 @@ use Rattle.ea_machine.specs.Setup.{Setup, migration}
 use Rattle.ea_machine.specs.Tasks.{carried, hands_over, let_go, task_over}
 use Rattle.ea_machine.specs.Walks.{ready, worked_off}
 use Rattle.ea_search.specs.declared.search.Search.{Search}
+use Rattle.ea_search.specs.declared.search.Verdict.{Verdict}
+use Rattle.ea_search.specs.declared.search.Verdict.TheVariants.{Skip, Try}
 use Rattle.ea_search.specs.Looks.{next_number}
 use Rattle.ea_sched.specs.Passing.{stage_for}
 
@@ -74,16 +76,34 @@ at-by : (b : Bool) (x n : ℕ) → (if b then Some x else None) ≡ Some n → n
 at-by true x n e = cc
 at-by false x n e = absurd cc
 
-pub next-at : (s : Search) (n : ℕ) → next_number s ≡ Some n → n ≡ s.at
+next-at : (s : Search) (n : ℕ) → next_number s ≡ Some n → n ≡ s.at
 next-at s n = at-by (nat_lt 0 s.at && nat_lt s.looked SEARCH_LIMIT) s.at n
 
-pub next-looks : (s : Search) (n : ℕ) → next_number s ≡ Some n
+next-looks : (s : Search) (n : ℕ) → next_number s ≡ Some n
     → (nat_lt 0 s.at && nat_lt s.looked SEARCH_LIMIT) ≡ true
 next-looks s n = looks-by (nat_lt 0 s.at && nat_lt s.looked SEARCH_LIMIT) s.at n
 
-pub next-ends : (s : Search) → next_number s ≡ None
+next-ends : (s : Search) → next_number s ≡ None
     → (nat_lt 0 s.at && nat_lt s.looked SEARCH_LIMIT) ≡ false
 next-ends s = ends-by (nat_lt 0 s.at && nat_lt s.looked SEARCH_LIMIT) s.at
+
+module _ (e : Setup) (me : ℕ) (ask : Ask) (s : Search) (a : Actor) where
+  -- it looks at that number
+  pub next-searches : (n : ℕ) → next_number s ≡ Some n
+      → record a { stage = Searching ask n s.looked } ≡ search_at e me ask s.at s.looked a
+  next-searches n next = ap (λ m. record a { stage = Searching ask m s.looked }) (next-at s n next)
+      ∙ sym (ap (searched_by e me ask s.at s.looked a) (next-looks s n next))
+
+  -- where none is next a carrier is created
+  pub none-creates : next_number s ≡ None
+      → new_carrier e me ask s.looked a ≡ search_at e me ask s.at s.looked a
+  none-creates none = sym (ap (searched_by e me ask s.at s.looked a) (next-ends s none))
+
+-- it passes a carrier over that doesn't fit
+pub skips-unfit : {verdict : Verdict} (b : Bool) → (verdict ≡ Try) ↔ (b ≡ true)
+    → verdict ≡ Skip → b ≡ false
+skips-unfit true both skip = absurd (let no : Skip ≡ Try = sym skip ∙ both.1 refl in cc)
+skips-unfit false both skip = refl
 
 -- where carriers migrate
 module _ (e : Setup) (me : ℕ) (on : migration e ≡ true) where

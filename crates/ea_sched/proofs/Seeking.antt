@@ -22,6 +22,7 @@ use Rattle.ea_machine.specs.declared.owners.OwnerWord.{OwnerWord}
 use Rattle.ea_machine.specs.declared.stages.Stage.{Stage}
 use Rattle.ea_machine.specs.declared.stages.Stage.TheVariants.{Creating, Fetching, Searching}
 use Rattle.ea_machine.specs.Actor.{Actor}
+use Rattle.ea_machine.specs.Machine.{after_row, onward}
 use Rattle.ea_machine.specs.Owners as owners
 use Rattle.ea_machine.specs.Nodes.{named_at, spot_named}
 use Rattle.ea_machine.specs.Rows.{FetchTry, Won}
@@ -160,8 +161,9 @@ module _ {stage : Stage Content} (s : Scheduler) {shared : Option Shared} {calle
     pub search-more : HasMore s
     search-more = ask-more ask searches.0
 
-    pub search-asked : IsAsked s.instance s ask
-    search-asked = ask-asked ask searches.0 search-on s refl refl s.instance
+    pub search-asked : (t : Scheduler) → t.names ≡ s.names → t.migrates ≡ s.migrates
+        → IsAsked s.instance t ask
+    search-asked t names moves = ask-asked ask searches.0 search-on t names moves s.instance
 
     observes : observed (standing_at (Searching ask at looked) s)
         ≡ standing_at (Searching ask at looked) s
@@ -170,14 +172,14 @@ module _ {stage : Stage Content} (s : Scheduler) {shared : Option Shared} {calle
 
     -- after its look the figures are observed as they were before
     pub search-observed : {t : Scheduler} {new : Option Shared} {then : Option Caller}
-        → DidRow (Searching ask at looked) s t shared new caller then
-        → ObservedRow (Searching ask at looked) s t shared new caller then
-    search-observed {t} d = record {
+        → DidRow stage s t shared new caller then → ObservedRow stage s t shared new caller then
+    search-observed {t} did = record {
       gone_on = t;
-      row = d;
-      is = sym (subst (λ (x : Actor). observed x ≡ x) (sym d.is)
+      row = did;
+      is = sym (subst (λ (x : Actor). observed x ≡ x) (sym (did.is
+          ∙ ap (λ at. onward e me (after_row e me (standing_at at s) did.got at)) now))
           (searched-observed (standing_at (Searching ask at looked) s) observes refl e me search-on
-          ask at looked d.got));
+          ask at looked did.got));
     }
 
   -- a carrier is to be fetched

@@ -1,5 +1,5 @@
 //! How a scheduler searches the pool, fetches a carrier, or creates one.
-ghost use Rattle.std.specs.Prelude.{◌≡◌, true, OnOk};
+ghost use Rattle.std.specs.Prelude.{◌≡◌, ℕ, true, OnOk};
 ghost use Rattle.ea_machine.specs.declared.stages.Stage.TheVariants as stage;
 ghost use Rattle.ea_machine.specs.Placements as placements;
 ghost use Rattle.ea_machine.specs.Setup.{migration};
@@ -16,6 +16,18 @@ use ea_shared::{Shared, Tried};
 use std::alloc::Global;
 
 impl<'t> Scheduler<'t> {
+    /// A search that counted `looked` words is at its end: a carrier is created.
+    fn end_search(&mut self, alloc: Global, ask: Ask, looked: u32) -> Result<(), OutOfMemory>
+        requires more { HasMore self.old }
+        requires asked { IsAsked self.old.instance self.old ask }
+        ensures actor { OnOk result (actor_of self.new ≡ placements.new_carrier
+            (setup_for self.old) self.old.number ask looked (ready_of self.old)) }
+        ensures same { IsSame self.old self.new }
+    {
+        let alone = self.instance.is_alone(ask.need);
+        self.seek_new(alloc, ask, alone, looked)
+    }
+
     /// The search looks at its next number, or a carrier is created where it is at its end.
     pub(crate) fn search_on(
         &mut self,
@@ -37,37 +49,40 @@ impl<'t> Scheduler<'t> {
                 self.stage = Stage::Searching { ask, at, looked };
                 Ok(())
             }
-            None => {
-                let alone = self.instance.is_alone(ask.need);
-                self.seek_new(alloc, ask, alone, looked)
-            }
+            None => self.end_search(alloc, ask, looked),
         }
     }
 
     /// A look of the search, at the owner word of its next carrier: one that fits is to be fetched,
-    /// and past another one the search goes on.
+    /// and past another one the search goes on. Its stage is changed in its place, and what was
+    /// asked for isn't copied.
     pub(crate) fn search<S: Shared<Content = Mbc>>(
         &mut self,
         alloc: Global,
         shared: &mut S,
-        ask: Ask,
-        at: u32,
-        looked: u32,
     ) -> Result<(), OutOfMemory>
-        requires starts { StartsRow (stage.Searching ask at looked) self.old
+        requires starts { StartsRow self.old.stage self.old
             (S.schedulers shared.old) (S.greatest shared.old) (S.migrates shared.old)
             (S.shared shared.old) (S.caller shared.old) }
+        requires searches { (ask : Ask) × (at : ℕ) × (looked : ℕ)
+            × (self.old.stage ≡ stage.Searching ask at looked) }
         ensures stays { S.stays shared.old shared.new }
         ensures same { IsSame self.old self.new }
-        ensures row { OnOk result (DidRow (stage.Searching ask at looked) self.old self.new
+        ensures row { OnOk result (DidRow self.old.stage self.old self.new
             (S.shared shared.old) (S.shared shared.new) (S.caller shared.old)
             (S.caller shared.new)) }
     {
-        let seen = shared.look(self.number, at);
-        let mut search = Search { at, looked };
+        let Stage::Searching { ask, at, looked } = &mut self.stage else {
+            unreachable!()
+        };
+        let seen = shared.look(self.number, *at);
+        let mut search = Search {
+            at: *at,
+            looked: *looked,
+        };
         match search.saw(seen, ask.need) {
             Verdict::Try => {
-                let looked = search.looked;
+                let (ask, at, looked) = (*ask, *at, search.looked);
                 self.stage = Stage::Fetching {
                     ask,
                     at,
@@ -76,7 +91,17 @@ impl<'t> Scheduler<'t> {
                 };
                 Ok(())
             }
-            Verdict::Skip => self.search_on(alloc, ask, search),
+            Verdict::Skip => match search.next_look() {
+                Some(number) => {
+                    *at = number;
+                    *looked = search.looked;
+                    Ok(())
+                }
+                None => {
+                    let ask = *ask;
+                    self.end_search(alloc, ask, search.looked)
+                }
+            },
         }
     }
 

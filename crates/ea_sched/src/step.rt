@@ -38,6 +38,7 @@ impl<'t> Scheduler<'t> {
 
     /// Does the row that is next, which is no look of a search, and goes on by its answer, up to
     /// the next one.
+    #[inline(never)]
     fn do_row<S: Shared<Content = Mbc>>(
         &mut self,
         alloc: Global,
@@ -98,8 +99,8 @@ impl<'t> Scheduler<'t> {
             (S.shared shared.old) (S.shared shared.new)
             (S.caller shared.old) (S.caller shared.new)) }
     {
-        if let Stage::Searching { ask, at, looked } = self.stage {
-            return self.search(alloc, shared, ask, at, looked);
+        if let Stage::Searching { .. } = self.stage {
+            return self.search(alloc, shared);
         }
         self.do_row(alloc, shared)?;
         self.observe();
