@@ -1,17 +1,17 @@
 -- What is known of an operation that is made, and of the names after it.
-use Rattle.std.proofs.Common.{◌≡◌, ℕ, ◌+◌, ◌*◌, ◌/◌, ◌%◌, ◌<◌, ◌≤◌, zero, suc, Bool, true, false, cond}
-use Rattle.std.proofs.Common.{◌&&◌, ◌||◌, ◌==◌, nat_lt, nat_le, List, [], ◌∷◌, ◌++◌, Option, Some, None}
+use Rattle.std.proofs.Common.{◌≡◌, ℕ, ◌+◌, ◌*◌, ◌/◌, ◌<◌, ◌≤◌, Bool, true, false, cond}
+use Rattle.std.proofs.Common.{◌||◌, ◌==◌, nat_lt, List, [], ◌∷◌, ◌++◌, Option, Some, None}
 use Rattle.std.proofs.Common.{refl, sym, ap, subst, ◌∙◌, arith}
 use Rattle.std.specs.List.{AllByRecursion, count_by, find, list_any}
 use Rattle.std.proofs.lemmas.List.Sums.{sum_by-cons, sum_by_push}
-use Rattle.ea_model.specs.Trace.{IsName}
 use Rattle.ea_model.specs.declared.operations.Op.{Op}
 use Rattle.ea_model.specs.declared.operations.Op.TheVariants.{Alloc, Free, Realloc, Give, Take}
 use Rattle.ea_model.specs.declared.operations.Op.TheVariants.{Info, Idle}
 use Rattle.ea_model.specs.declared.units.TheConstants.{MAX_BYTES}
-use Rattle.ea_gen.specs.Generated.{Making, allocs, draw_of, free_or, frees, front, give_or, hands_on}
-use Rattle.ea_gen.specs.Generated.{is_own, of_kind, operation_of, picks, take_or, to_give, without}
-use Rattle.ea_gen.specs.declared.numbers.TheConstants.{DRAW_KINDS, DRAW_STEP, MODULUS, STEP_BYTES}
+use Rattle.ea_gen.specs.Generated.{Making, allocs, draw_of, free_or, frees, front, give_or}
+use Rattle.ea_gen.specs.Generated.{is_own, kind_of, modulus, of_kind, operation_of, take_or, to_give, without}
+use Rattle.ea_gen.specs.declared.kind.Kind.{Kind}
+use Rattle.ea_gen.specs.declared.kind.Kind.TheVariants as kind
 
 -- whether a name is among these
 abbrev pub is_in : ℕ → List ℕ → Bool
@@ -32,7 +32,7 @@ IsChosen m (Take name tries) = (is_in name m.waiting ≡ true) × (tries ≡ 1)
 IsChosen m Info = ⊥
 IsChosen m Idle = ⊥
 
-few_bytes : (number : ℕ) → number < MODULUS → STEP_BYTES * (number / DRAW_STEP) ≤ MAX_BYTES
+few_bytes : (number : ℕ) → number < modulus → 4 * (number / 65536) ≤ MAX_BYTES
 few_bytes number lt = omega arith
 
 first_in : (k : ℕ) (ks : List ℕ) → is_in k (k ∷ ks) ≡ true
@@ -41,7 +41,7 @@ first_in k ks = grind arith
 in_more : (k j : ℕ) (ks : List ℕ) → is_in k ks ≡ true → is_in k (j ∷ ks) ≡ true
 in_more k j ks h = grind arith
 
-allocates : (m : Making) → m.number < MODULUS → IsChosen m (allocs m)
+allocates : (m : Making) → m.number < modulus → IsChosen m (allocs m)
 allocates m lt = (refl, few_bytes m.number lt)
 
 frees_front : (m : Making) (ks : List ℕ) → m.hand ≡ ks → IsChosen m (allocs m)
@@ -49,7 +49,7 @@ frees_front : (m : Making) (ks : List ℕ) → m.hand ≡ ks → IsChosen m (all
 frees_front m [] e h = h
 frees_front m (k ∷ ks) e h = subst (λ js. is_in k js ≡ true) (sym e) (first_in k ks)
 
-frees_one : (m : Making) → m.number < MODULUS → IsChosen m (frees m)
+frees_one : (m : Making) → m.number < modulus → IsChosen m (frees m)
 frees_one m lt = frees_front m m.hand refl (allocates m lt)
 
 takes_front : (m : Making) (ks : List ℕ) → m.waiting ≡ ks → IsChosen m (frees m)
@@ -83,17 +83,15 @@ gives_found m (Some k) true t e h =
     let f = found_in (is_own m.section) m.hand k e in
     (f.0, f.1, refl, grind arith)
 
-of_kinds : (m : Making) (a b c : Bool) → m.number < MODULUS
-    → IsChosen m (cond a (allocs m) (cond b (frees m) (cond c (picks m) (hands_on m))))
-of_kinds m true b c lt = allocates m lt
-of_kinds m false true c lt = frees_one m lt
-of_kinds m false false true lt = takes_front m m.waiting refl (frees_one m lt)
-of_kinds m false false false lt = gives_found m (to_give m)
+chosen_kind : (k : Kind) (m : Making) → m.number < modulus → IsChosen m (of_kind k m)
+chosen_kind kind.Allocate m lt = allocates m lt
+chosen_kind kind.Free m lt = frees_one m lt
+chosen_kind kind.Take m lt = takes_front m m.waiting refl (frees_one m lt)
+chosen_kind kind.Give m lt = gives_found m (to_give m)
     (nat_lt m.section.scheduler m.section.schedulers) refl refl (frees_one m lt)
 
-pub chosen : (m : Making) → m.number < MODULUS → IsChosen m (operation_of m)
-chosen m lt = of_kinds m (nat_lt (draw_of m % DRAW_KINDS) 5) (draw_of m % DRAW_KINDS == 5)
-    (draw_of m % DRAW_KINDS == 6) lt
+pub chosen : (m : Making) → m.number < modulus → IsChosen m (operation_of m)
+chosen m lt = chosen_kind (kind_of (draw_of m)) m lt
 
 -- lists of names
 

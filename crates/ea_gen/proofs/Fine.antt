@@ -1,20 +1,18 @@
 -- What holds of a scheduler before each of its operations, and of the operations that follow.
-use Rattle.std.proofs.Common.{◌≡◌, ℕ, ◌+◌, ◌-◌, ◌*◌, ◌<◌, ◌≤◌, zero, suc, Bool, true, false, cond}
-use Rattle.std.proofs.Common.{◌&&◌, ◌||◌, ◌==◌, nat_lt, nat_le, List, [], ◌∷◌, ◌++◌, length, refl, sym}
-use Rattle.std.proofs.Common.{ap, subst, ◌∙◌, arith}
-use Rattle.std.specs.List.{AllByRecursion, count_by, list_any, sum_by}
+use Rattle.std.proofs.Common.{◌≡◌, ℕ, ◌+◌, ◌<◌, ◌≤◌, zero, suc}
+use Rattle.std.proofs.Common.{length, refl, sym}
+use Rattle.std.proofs.Common.{ap, subst, arith}
+use Rattle.std.specs.List.{AllByRecursion, sum_by}
 use Rattle.std.proofs.lemmas.List.Sums.{sum_by-cons}
-use Rattle.ea_model.specs.Trace.{IsName, IsOperation, brings, gives, gives_to, makes, needs, takes}
+use Rattle.ea_model.specs.Trace.{IsName, IsOperation}
 use Rattle.ea_model.specs.Trace.{tries_of}
 use Rattle.ea_model.specs.declared.operations.Op.{Op}
 use Rattle.ea_model.specs.declared.operations.Op.TheVariants.{Alloc, Free, Realloc, Give, Take}
 use Rattle.ea_model.specs.declared.operations.Op.TheVariants.{Info, Idle}
-use Rattle.ea_model.specs.declared.units.TheConstants.{MAX_NAME, MAX_TRIES}
-use Rattle.ea_gen.specs.Generated.{Making, after, base_of, following, given_to, hand_after, is_own}
-use Rattle.ea_gen.specs.Generated.{operation_of, operations_from, waiting_after, without}
-use Rattle.ea_gen.specs.declared.numbers.TheConstants.{INCREMENT, MODULUS, MULTIPLIER}
-use Rattle.ea_gen.proofs.Chosen.{IsChosen, all_push, all_without, chosen, holds_one, in_push, is_in}
-use Rattle.ea_gen.proofs.Chosen.{in_without, times, times_push, times_without}
+use Rattle.ea_model.specs.declared.units.TheConstants.{MAX_NAME}
+use Rattle.ea_gen.specs.Generated.{Making, after, base_of, following, hand_after}
+use Rattle.ea_gen.specs.Generated.{modulus, operation_of, operations_from, waiting_after}
+use Rattle.ea_gen.proofs.Chosen.{IsChosen, all_push, all_without, chosen, holds_one}
 
 -- a name of a scheduler before it
 abbrev pub IsBefore : ℕ → ℕ → Type 0
@@ -22,14 +20,14 @@ IsBefore base k = (1 ≤ k) × (k ≤ base)
 
 -- before that many operations
 pub record Fine (left : ℕ) (m : Making) : Type 0 where
-  pub number : m.number < MODULUS
+  pub number : m.number < modulus
   pub name : m.name + left ≡ base_of m.section + m.section.count + 1
   pub fresh : base_of m.section < m.name
   pub few : base_of m.section + m.section.count ≤ MAX_NAME
   pub hand : AllByRecursion IsName m.hand
   pub waiting : AllByRecursion (IsBefore (base_of m.section)) m.waiting
 
-pub small : (x : ℕ) → following x < MODULUS
+pub small : (x : ℕ) → following x < modulus
 small x = omega arith
 
 is_name : (base count k : ℕ) → base + count ≤ MAX_NAME → IsBefore base k → IsName k

@@ -1,17 +1,17 @@
 -- A text makes a name once at most and gives it once at most, needs only what it holds, and takes
 -- only what was given to its scheduler.
-use Rattle.std.proofs.Common.{◌≡◌, ℕ, ◌+◌, ◌-◌, ◌*◌, ◌<◌, ◌≤◌, zero, suc, Bool, true, false, cond}
-use Rattle.std.proofs.Common.{◌&&◌, ◌||◌, ◌==◌, nat_lt, nat_le, List, [], ◌∷◌, ◌++◌, length, refl, sym}
-use Rattle.std.proofs.Common.{ap, subst, ◌∙◌, arith}
-use Rattle.std.specs.List.{AllByRecursion, count_by, list_any, sum_by}
+use Rattle.std.proofs.Common.{◌≡◌, ℕ, ◌+◌, ◌<◌, ◌≤◌, zero, suc, Bool, true, false, cond}
+use Rattle.std.proofs.Common.{◌&&◌, ◌==◌, nat_lt, nat_le, List, [], ◌∷◌, refl}
+use Rattle.std.proofs.Common.{ap, arith}
+use Rattle.std.specs.List.{AllByRecursion, count_by}
 use Rattle.std.proofs.lemmas.List.Sums.{sum_by-cons}
-use Rattle.ea_model.specs.Trace.{BringsBefore, brings, gives, gives_to, makes, needs, takes}
+use Rattle.ea_model.specs.Trace.{gives, makes}
 use Rattle.ea_model.specs.declared.operations.Op.{Op}
 use Rattle.ea_model.specs.declared.operations.Op.TheVariants.{Alloc, Free, Realloc, Give, Take}
 use Rattle.ea_model.specs.declared.operations.Op.TheVariants.{Info, Idle}
 use Rattle.ea_gen.specs.Generated.{Making, after, base_of, given_to, hand_after, is_own}
-use Rattle.ea_gen.specs.Generated.{operation_of, operations_from, waiting_after, without}
-use Rattle.ea_gen.proofs.Chosen.{IsChosen, chosen, in_push, in_without, is_in, same_name, times}
+use Rattle.ea_gen.specs.Generated.{operation_of, operations_from, waiting_after}
+use Rattle.ea_gen.proofs.Chosen.{IsChosen, chosen, times}
 use Rattle.ea_gen.proofs.Chosen.{times_push, times_without}
 use Rattle.ea_gen.proofs.Fine.{Fine, IsBefore, next_fine}
 

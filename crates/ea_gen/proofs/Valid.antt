@@ -1,6 +1,6 @@
 -- A generated trace is valid.
-use Rattle.std.proofs.Common.{◌≡◌, ℕ, ◌+◌, ◌-◌, ◌*◌, ◌%◌, ◌<◌, ◌≤◌, inr, zero, suc, Bool, true, false, cond}
-use Rattle.std.proofs.Common.{◌||◌, ◌==◌, List, [], ◌∷◌, ◌++◌, length, map, refl, sym, ap, subst, ◌∙◌}
+use Rattle.std.proofs.Common.{◌≡◌, ℕ, ◌+◌, ◌-◌, ◌*◌, ◌%◌, ◌≤◌, inr, zero, suc, true, cond}
+use Rattle.std.proofs.Common.{List, [], ◌∷◌, ◌++◌, length, map, refl, sym, ap, subst, ◌∙◌}
 use Rattle.std.proofs.Common.{arith}
 use Rattle.std.specs.List.{All, AllByRecursion, count_by, flat_map, list_any, sum_by}
 use Rattle.std.proofs.Math.Nat.{mul-le-mul_right, suc-mul}
@@ -14,11 +14,10 @@ use Rattle.ea_model.specs.Trace.{tries_of}
 use Rattle.ea_model.specs.declared.operations.Op.{Op}
 use Rattle.ea_model.specs.declared.settings.Letter.{Letter}
 use Rattle.ea_model.specs.declared.trace.Trace.{Trace}
-use Rattle.ea_model.specs.declared.units.TheConstants.{MAX_ALL_TRIES, MAX_OPS, MAX_SEED}
+use Rattle.ea_model.specs.declared.units.TheConstants.{MAX_OPS, MAX_SEED}
 use Rattle.ea_model.proofs.Traces.{valid_from_plain}
-use Rattle.ea_gen.specs.Generated.{generated, generated_trace, given_to, operations_from, section_at}
-use Rattle.ea_gen.specs.Generated.{start, text_of, texts_from}
-use Rattle.ea_gen.specs.declared.numbers.TheConstants.{MODULUS}
+use Rattle.ea_gen.specs.Generated.{generated, generated_trace, given_to, section_at}
+use Rattle.ea_gen.specs.Generated.{modulus, start, text_of, texts_from}
 use Rattle.ea_gen.proofs.Chosen.{is_in}
 use Rattle.ea_gen.proofs.Fine.{Fine, IsBefore, all_count, all_good, all_tries, small}
 use Rattle.ea_gen.proofs.Holding.{all_brought, all_taken, given_by, or_last, or_left}
@@ -64,7 +63,7 @@ pub start_fine : (seed n count i : ℕ) (given : List ℕ) → 1 ≤ i → i ≤
     → AllByRecursion (IsBefore ((i - 1) * count)) given
     → Fine count (start seed (section_at n count i) given)
 start_fine seed n count i given h le room g = record {
-  number = small ((seed + i) % MODULUS);
+  number = small ((seed + i) % modulus);
   name = omega arith;
   fresh = omega arith;
   few = omega (arith, within n count i h le);

@@ -3,7 +3,7 @@
 -- high part is the draw: the draw modulo 8 tells the kind of the operation, and an allocation asks
 -- for four times the draw in bytes. The k-th operation of scheduler i allocates, if it does, the
 -- name (i - 1) * count + k. Texts are made one by one, scheduler 1's first.
-use Rattle.std.specs.Prelude.{ℕ, zero, suc, ◌+◌, ◌-◌, ◌*◌, ◌/◌, ◌%◌, Bool, ◌&&◌, ◌==◌, nat_lt, nat_le}
+use Rattle.std.specs.Prelude.{ℕ, zero, suc, ◌+◌, ◌-◌, ◌*◌, ◌/◌, ◌%◌, ◌^◌, Bool, ◌&&◌, ◌==◌, nat_lt, nat_le}
 use Rattle.std.specs.Prelude.{if◌then◌else◌, List, [], ◌∷◌, ◌++◌, Option, Some, None, find, flat_map}
 use Rattle.std.specs.Prelude.{map}
 use Rattle.ea_model.specs.Trace.{greatest_of, listed}
@@ -13,13 +13,17 @@ use Rattle.ea_model.specs.declared.operations.Op.TheVariants.{Info, Idle}
 use Rattle.ea_model.specs.declared.settings.Letter.{Letter}
 use Rattle.ea_model.specs.declared.trace.Mode.TheVariants.{Generated}
 use Rattle.ea_model.specs.declared.trace.Trace.{Trace}
-use Rattle.ea_gen.specs.declared.numbers.TheConstants.{DRAW_KINDS, DRAW_STEP, INCREMENT, MODULUS}
-use Rattle.ea_gen.specs.declared.numbers.TheConstants.{MULTIPLIER, STEP_BYTES}
+use Rattle.ea_gen.specs.declared.kind.Kind.{Kind}
+use Rattle.ea_gen.specs.declared.kind.Kind.TheVariants as kind
 use Rattle.ea_gen.specs.declared.section.Section.{Section}
+
+-- numbers are below it
+abbrev pub modulus : ℕ
+modulus = 2 ^ 31
 
 -- the number that follows
 abbrev pub following : ℕ → ℕ
-following x = (x * MULTIPLIER + INCREMENT) % MODULUS
+following x = (x * 1103515245 + 12345) % modulus
 
 -- the names that the schedulers before it make are up to this one
 abbrev pub base_of : Section → ℕ
@@ -56,21 +60,25 @@ abbrev pub without : ℕ → List ℕ → List ℕ
 without name [] = []
 without name (k ∷ ks) = if k == name then ks else k ∷ without name ks
 
+-- what a number tells
 abbrev pub draw_of : Making → ℕ
-draw_of m = m.number / DRAW_STEP
+draw_of m = m.number / 65536
 
--- allocates the name
+-- allocates the name that the operation makes
 abbrev pub allocs : Making → Op
-allocs m = Alloc m.name (STEP_BYTES * draw_of m)
+allocs m = Alloc m.name (4 * draw_of m)
 
+-- frees the name, or does the other operation where there is none
 abbrev pub free_or : Op → Option ℕ → Op
 free_or other None = other
 free_or other (Some name) = Free name
 
+-- takes the name, with one try, or does the other operation
 abbrev pub take_or : Op → Option ℕ → Op
 take_or other None = other
 take_or other (Some name) = Take name 1
 
+-- gives the name to the scheduler, or does the other operation
 abbrev pub give_or : ℕ → Op → Option ℕ → Op
 give_or to other None = other
 give_or to other (Some name) = Give name to
@@ -80,8 +88,8 @@ abbrev pub frees : Making → Op
 frees m = free_or (allocs m) (front m.hand)
 
 -- takes the first name that was given to it and has no take yet; where there is none, frees
-abbrev pub picks : Making → Op
-picks m = take_or (frees m) (front m.waiting)
+abbrev pub takes_given : Making → Op
+takes_given m = take_or (frees m) (front m.waiting)
 
 -- the oldest name at hand that is its own, if there is a scheduler after it
 abbrev pub to_give : Making → Option ℕ
@@ -89,16 +97,27 @@ to_give m = if nat_lt m.section.scheduler m.section.schedulers then find (is_own
     else None
 
 -- gives that name to the scheduler after it; where there is none, frees
-abbrev pub hands_on : Making → Op
-hands_on m = give_or (m.section.scheduler + 1) (frees m) (to_give m)
+abbrev pub gives_own : Making → Op
+gives_own m = give_or (m.section.scheduler + 1) (frees m) (to_give m)
 
--- five kinds of eight allocate, one frees, one takes, one gives
-abbrev pub of_kind : ℕ → Making → Op
-of_kind kind m = if nat_lt kind 5 then allocs m else (if kind == 5 then frees m else (
-    if kind == 6 then picks m else hands_on m))
+-- the kind that a draw tells: of eight remainders five allocate, one frees, one takes, one gives
+abbrev pub kind_of : ℕ → Kind
+kind_of draw =
+    let rest = draw % 8 in
+    if nat_lt rest 5 then kind.Allocate else (
+    if rest == 5 then kind.Free else (
+    if rest == 6 then kind.Take else kind.Give))
 
+-- the operation of a kind
+abbrev pub of_kind : Kind → Making → Op
+of_kind kind.Allocate m = allocs m
+of_kind kind.Free m = frees m
+of_kind kind.Take m = takes_given m
+of_kind kind.Give m = gives_own m
+
+-- the next operation
 abbrev pub operation_of : Making → Op
-operation_of m = of_kind (draw_of m % DRAW_KINDS) m
+operation_of m = of_kind (kind_of (draw_of m)) m
 
 -- the names at hand after an operation
 abbrev pub hand_after : Op → List ℕ → List ℕ
@@ -132,7 +151,7 @@ operations_from (suc left) m = operation_of m ∷ operations_from left (after (o
 abbrev pub start : ℕ → Section → List ℕ → Making
 start seed s given = record {
   section = s;
-  number = following ((seed + s.scheduler) % MODULUS);
+  number = following ((seed + s.scheduler) % modulus);
   name = base_of s + 1;
   hand = [];
   waiting = given;

@@ -1,6 +1,5 @@
 -- What the code keeps of a scheduler's names.
-use Rattle.std.specs.Prelude.{ℕ, ◌+◌, ◌*◌, ◌≤◌, Bool, false, List, [], ◌∷◌, Option, Some, None}
-use Rattle.std.specs.Prelude.{is_some}
+use Rattle.std.specs.Prelude.{ℕ, ◌*◌, ◌≤◌, Bool, false, List, [], ◌∷◌, Option, Some, None, is_some}
 use Rattle.std.specs.List.{position_or_len}
 use Rattle.ea_model.specs.declared.units.TheConstants.{MAX_OPS, MAX_SCHEDULERS}
 use Rattle.ea_gen.specs.Generated.{is_within, without}

@@ -3,6 +3,7 @@
 #![tactic(auto)]
 
 mod hand;
+mod kind;
 mod maker;
 mod numbers;
 mod section;

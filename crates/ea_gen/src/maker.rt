@@ -1,11 +1,12 @@
 //! Makes the operations of one scheduler.
-ghost use Rattle.std.specs.Prelude.{◌≡◌, ◌+◌, ◌<◌, ◌≤◌, ◌^◌, IfOk, OnOk};
-ghost use Rattle.ea_gen.specs.Generated.{after, allocs, base_of, frees, hands_on, moved};
-ghost use Rattle.ea_gen.specs.Generated.{of_kind, operation_of, picks, start};
+ghost use Rattle.std.specs.Prelude.{◌≡◌, ◌+◌, ◌<◌, ◌^◌, IfOk};
+ghost use Rattle.ea_gen.specs.Generated.{after, allocs, base_of, frees, gives_own, moved};
+ghost use Rattle.ea_gen.specs.Generated.{of_kind, operation_of, start, takes_given};
 ghost use Rattle.ea_gen.specs.Places.{IsSection};
 
 use crate::hand::Hand;
-use crate::numbers::{DRAW_KINDS, DRAW_STEP, STEP_BYTES, next_number, seed_of};
+use crate::kind::{Kind, drawn_kind};
+use crate::numbers::{DRAW_STEP, STEP_BYTES, next_number, seed_of};
 use crate::section::Section;
 use ea_model::{Op, OutOfMemory};
 use std::alloc::Global;
@@ -72,8 +73,8 @@ impl Maker {
     }
 
     /// Takes the first name that was given to it and has no take yet; where there is none, frees.
-    fn pick(&mut self) -> Result<Op, OutOfMemory>
-        ensures op { IfOk result (λ op. op ≡ picks (making self.old)) }
+    fn take(&mut self) -> Result<Op, OutOfMemory>
+        ensures op { IfOk result (λ op. op ≡ takes_given (making self.old)) }
         ensures names { IfOk result (λ op. making self.new ≡ moved op (making self.old)) }
     {
         if self.taken >= self.given.len() {
@@ -87,8 +88,8 @@ impl Maker {
 
     /// Gives the oldest of its own names at hand to the scheduler after it; where there is none,
     /// frees.
-    fn hand_on(&mut self) -> Result<Op, OutOfMemory>
-        ensures op { IfOk result (λ op. op ≡ hands_on (making self.old)) }
+    fn give(&mut self) -> Result<Op, OutOfMemory>
+        ensures op { IfOk result (λ op. op ≡ gives_own (making self.old)) }
         ensures names { IfOk result (λ op. making self.new ≡ moved op (making self.old)) }
     {
         let Section {
@@ -109,15 +110,15 @@ impl Maker {
     }
 
     /// An operation of a kind.
-    fn make(&mut self, kind: u32) -> Result<Op, OutOfMemory>
+    fn make(&mut self, kind: Kind) -> Result<Op, OutOfMemory>
         ensures op { IfOk result (λ op. op ≡ of_kind kind (making self.old)) }
         ensures names { IfOk result (λ op. making self.new ≡ moved op (making self.old)) }
     {
         match kind {
-            0..=4 => self.alloc(),
-            5 => self.free(),
-            6 => self.pick(),
-            _ => self.hand_on(),
+            Kind::Allocate => self.alloc(),
+            Kind::Free => self.free(),
+            Kind::Take => self.take(),
+            Kind::Give => self.give(),
         }
     }
 
@@ -127,7 +128,7 @@ impl Maker {
         ensures op { IfOk result (λ op. op ≡ operation_of (making self.old)) }
         ensures after { IfOk result (λ op. making self.new ≡ after op (making self.old)) }
     {
-        let op = self.make(self.number / DRAW_STEP % DRAW_KINDS)?;
+        let op = self.make(drawn_kind(self.number / DRAW_STEP))?;
         self.number = next_number(self.number);
         self.name += 1;
         Ok(op)

@@ -4,7 +4,7 @@ ghost use Rattle.ea_gen.specs.Generated.{base_of};
 ghost use Rattle.ea_gen.specs.Places.{IsSection};
 
 /// The scheduler whose text is made.
-#[derive(Debug, Clone, Copy, PartialEq, Eq)]
+#[derive(Clone, Copy)]
 pub struct Section {
     /// The scheduler, from 1.
     pub scheduler: u32,

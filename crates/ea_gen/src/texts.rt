@@ -1,5 +1,5 @@
 //! Makes the text of one scheduler.
-ghost use Rattle.std.specs.Prelude.{◌≡◌, ◌+◌, [], ◌∷◌, ◌++◌, IfOk, OnOk, max};
+ghost use Rattle.std.specs.Prelude.{◌≡◌, ◌+◌, [], ◌∷◌, ◌++◌, IfOk, OnOk};
 ghost use Rattle.ea_model.specs.Trace;
 ghost use Rattle.ea_gen.specs.Generated.{given_to, text_of};
 ghost use Rattle.ea_gen.specs.Places.{IsSection};

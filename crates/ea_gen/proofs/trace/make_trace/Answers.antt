@@ -1,7 +1,6 @@
-use Rattle.std.proofs.Common.{◌≡◌, ◌++◌, ◌∷◌, [], ap, map, sym, subst, ◌∙◌, arith, length}
+use Rattle.std.proofs.Common.{◌≡◌, ◌++◌, ◌∷◌, [], ap, ◌∙◌, arith, length}
 use Rattle.std.proofs.lemmas.List.{length_push, map-append}
-use Rattle.ea_model.specs.Trace.{IsValidTrace, greatest_of}
-use Rattle.ea_gen.specs.Generated.{generated, texts_from}
+use Rattle.ea_model.specs.Trace.{greatest_of}
 use Rattle.ea_gen.proofs.Complete.{all_texts, greatest_more, is_generated, items_of}
 use Rattle.ea_gen.proofs.Growing.{texts_more}
 use Rattle.ea_gen.proofs.Valid.{valid_if_generated}

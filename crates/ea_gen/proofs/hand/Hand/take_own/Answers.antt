@@ -1,7 +1,7 @@
-use Rattle.std.proofs.Common.{◌≡◌, ◌<◌, ℕ, Bool, List, Option, None, true, is_some, length, refl, sym, ap, ◌∙◌}
+use Rattle.std.proofs.Common.{◌≡◌, ℕ, List, is_some, length, refl, sym, ap, ◌∙◌}
 use Rattle.std.proofs.Common.{arith}
-use Rattle.std.specs.List.{find, position_or_len}
-use Rattle.ea_gen.specs.Places.{AtHand, names_in}
+use Rattle.std.specs.List.{position_or_len}
+use Rattle.ea_gen.specs.Places.{AtHand}
 use Rattle.ea_gen.proofs.Emptied.{later, none_found, taken_out}
 use Rattle.ea_gen.specs.Places.{has_within}
 use Rattle.ea_gen.specs.Generated.{is_within}
