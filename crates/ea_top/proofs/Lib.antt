@@ -1,3 +1,3 @@
 pub mod Texts
-pub mod Leaving
+pub mod Ending
 pub mod Running

@@ -1,5 +1,5 @@
 -- What a definition answers for a trace or an outcome has the same text.
-use Rattle.std.proofs.Common.{◌≡◌, ℕ, Bool, true, List, refl, sym, subst, ap, ◌∙◌}
+use Rattle.std.proofs.Common.{◌≡◌, ℕ, List, refl, sym, subst, ap, ◌∙◌}
 use Rattle.std.specs.Prelude.{◌≤◌, Ok, Option, None, Some, IfSome, length}
 use Rattle.std.specs.Result.{result_ok}
 use Rattle.std.specs.declared.string.String.{String}
@@ -20,21 +20,11 @@ use Rattle.ea_machine.specs.Completion.{end_of}
 use Rattle.ea_machine.specs.Courses.{IsCourse}
 use Rattle.ea_machine.specs.Machine.{run}
 use Rattle.ea_machine.specs.Outcome.{outcome, outcome_of}
-use Rattle.ea_machine.specs.Setup.{Setup, migration, setup_of, text_for}
+use Rattle.ea_machine.specs.Setup.{Setup, setup_of, text_for}
 use Rattle.ea_trace.specs.Language.{trace}
 use Rattle.ea_top.specs.Answers.{GivesText, HasOutput, spelled}
-use Rattle.ea_top.specs.Built.{is_built_mode, is_built_run}
 use Rattle.ea_top.specs.Output.{IsOutputUnder, IsRunOutcome, IsRunText, filled_by, outcome_after}
 use Rattle.ea_top.specs.Output.{read_under, run_setup, text_by}
-
-same_mode : (migrating : Bool) (m : Mode)
-    → is_built_mode migrating (plain_mode m) ≡ is_built_mode migrating m
-same_mode migrating Threads = refl
-same_mode migrating (Schedule turns) = refl
-same_mode migrating (Generated seed count) = refl
-
-pub same_built : (c : Config) (t : Trace) → is_built_run c (plain t) ≡ is_built_run c t
-same_built c t = same_mode (migration (setup_of c t)) t.mode
 
 same_setup : (c : Config) (t : Trace) → setup_of c (plain t) ≡ setup_of c t
 same_setup c t = ap (λ texts. record {
@@ -96,10 +86,9 @@ same_text (Schedule turns) o = rw (same_logs o) refl
 same_text (Generated seed count) o = rw (same_logs o) refl
 
 -- the text of an outcome of the run of a trace is one of the trace as a definition answers it
-pub run-text : (c : Config) (t : Trace) (o : Outcome) → is_built_run c t ≡ true
-    → IsRunOutcome c t (plain_outcome o) → IsRunText c (plain t) (text_by t.mode o)
-run-text c t o built h = (
-  same_built c t ∙ built,
+pub run-text : (c : Config) (t : Trace) (o : Outcome) → IsRunOutcome c t (plain_outcome o)
+    → IsRunText c (plain t) (text_by t.mode o)
+run-text c t o h = (
   h.0,
   same_course c t h.0 h.1,
   same_text t.mode o

@@ -1,12 +1,12 @@
 -- What the program answers, by its words and its input.
-use Rattle.std.specs.Prelude.{◌≡◌, ℕ, ◌≤◌, true, List, Option, IfSome, IsSome, IsOk, length, map}
+use Rattle.std.specs.Prelude.{◌≡◌, ℕ, ◌≤◌, List, Option, IfSome, IsSome, IsOk, length, map}
 use Rattle.std.specs.Prelude.{string_bytes}
 use Rattle.std.specs.Io.KnownBytes.{Appends}
 use Rattle.std.specs.declared.string.String.{String}
 use Rattle.ea_io.specs.Fronts.{AppendsFront}
 use Rattle.ea_flags.specs.Flags.{flags}
 use Rattle.ea_model.specs.declared.units.TheConstants.{MAX_INPUT}
-use Rattle.ea_top.specs.Output.{IsOutput, is_built_for, read_for}
+use Rattle.ea_top.specs.Output.{IsOutput, read_for}
 
 module _ {Z : Type 0} where
   -- what the words spell
@@ -20,10 +20,6 @@ module _ {Z : Type 0} where
   -- under these words the input is a trace, of MAX_INPUT bytes at most
   abbrev pub GoodInput : List (String Z) → List ℕ → Type 0
   GoodInput words input = (length input ≤ MAX_INPUT) × IsSome (read_for (spelled words) input)
-
-  -- the run that words and input ask for is built
-  abbrev pub IsBuiltFor : List (String Z) → List ℕ → Type 0
-  IsBuiltFor words input = is_built_for (spelled words) input ≡ true
 
   -- the input has MAX_INPUT bytes at most and, under these words, this output
   abbrev pub GivesText : List (String Z) → List ℕ → List ℕ → Type 0

@@ -4,7 +4,7 @@ use Rattle.std.specs.Io.KnownBytes.{Appends}
 use Rattle.ea_io.specs.Fronts.{AppendsFront}
 use Rattle.ea_flags.specs.Refusals as words
 use Rattle.ea_top.specs.declared.faults.Fault.{Fault}
-use Rattle.ea_top.specs.declared.faults.Fault.TheVariants.{Words, Trace, TooLong, NotBuilt}
+use Rattle.ea_top.specs.declared.faults.Fault.TheVariants.{Words, Trace, TooLong}
 use Rattle.ea_top.specs.declared.faults.Fault.TheVariants.{ReadFailed, WriteFailed, OutOfMemory}
 use Rattle.ea_trace.specs.declared.fault.TraceFault.{TraceFault}
 use Rattle.ea_trace.specs.declared.fault.TraceFault.TheVariants as refused
@@ -22,7 +22,6 @@ status_of TooLong = 2
 status_of ReadFailed = 3
 status_of WriteFailed = 4
 status_of OutOfMemory = 5
-status_of NotBuilt = 6
 
 -- what is refused, by its number if it has one, and what is wrong
 abbrev pub refusal_text : List ℕ → Option ℕ → List ℕ → List ℕ
@@ -39,7 +38,6 @@ fault_text TooLong = codes "input too long"
 fault_text ReadFailed = codes "read failed"
 fault_text WriteFailed = codes "write failed"
 fault_text OutOfMemory = codes "out of memory"
-fault_text NotBuilt = codes "not built yet"
 
 abbrev pub line_with : List ℕ → List ℕ
 line_with text = codes "erts_alloc_run: " ++ text ++ codes "\n"

@@ -1,4 +1,3 @@
-pub mod Built
 pub mod Output
 pub mod Answers
 pub mod Faults

@@ -1,5 +1,5 @@
 -- The output of a run, and of an input.
-use Rattle.std.specs.Prelude.{◌≡◌, ℕ, Bool, true, false, List, Option, None, Some, Result, Ok, Err}
+use Rattle.std.specs.Prelude.{◌≡◌, ℕ, List, Option, None, Some, Result, Ok, Err}
 use Rattle.std.specs.Result.{result_ok}
 use Rattle.ea_flags.specs.declared.fault.FlagFault.{FlagFault}
 use Rattle.ea_flags.specs.Flags.{flags}
@@ -15,7 +15,6 @@ use Rattle.ea_machine.specs.Outcome.{outcome}
 use Rattle.ea_machine.specs.Setup.{Setup, setup_of}
 use Rattle.ea_report.specs.Text.{outcome_text, summary_text}
 use Rattle.ea_trace.specs.Language.{trace}
-use Rattle.ea_top.specs.Built.{is_built_run}
 
 -- the trace, or the one that is generated for n schedulers where its mode says so
 abbrev pub filled_by : ℕ → Trace → Mode → Trace
@@ -42,10 +41,10 @@ module _ (c : Config) (t : Trace) where
   abbrev pub IsRunOutcome : Outcome → Type 0
   IsRunOutcome o = (turns : List ℕ) × IsCourse run_setup t.mode turns × (o ≡ outcome_after turns)
 
-  -- the run is built, and the text is that of a course of it
+  -- the text is that of a course of it
   abbrev pub IsRunText : List ℕ → Type 0
-  IsRunText text = (is_built_run c t ≡ true) × (turns : List ℕ)
-      × IsCourse run_setup t.mode turns × (text ≡ text_by t.mode (outcome_after turns))
+  IsRunText text = (turns : List ℕ) × IsCourse run_setup t.mode turns
+      × (text ≡ text_by t.mode (outcome_after turns))
 
 abbrev pub read_under : Result Config FlagFault → List ℕ → Option Trace
 read_under (Ok c) input = result_ok (trace input c.schedulers)
@@ -61,15 +60,6 @@ IsOutputUnder (Ok c) (Some t) text = IsRunText c t text
 IsOutputUnder (Ok c) None text = ⊥
 IsOutputUnder (Err f) t text = ⊥
 
--- there is one, and its run is built and has this text
+-- there is one, and its run has this text
 abbrev pub IsOutput : List (List ℕ) → List ℕ → List ℕ → Type 0
 IsOutput words input text = IsOutputUnder (flags words) (read_for words input) text
-
-abbrev pub is_built_under : Result Config FlagFault → Option Trace → Bool
-is_built_under (Ok c) (Some t) = is_built_run c t
-is_built_under (Ok c) None = false
-is_built_under (Err f) t = false
-
--- whether there is one, and its run is built
-abbrev pub is_built_for : List (List ℕ) → List ℕ → Bool
-is_built_for words input = is_built_under (flags words) (read_for words input)

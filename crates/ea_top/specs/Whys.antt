@@ -1,8 +1,7 @@
 -- What each fault says of the words, the input and the ends.
-use Rattle.std.specs.Prelude.{◌≡◌, ℕ, ◌+◌, ◌<◌, ◌≤◌, false, Option, IfSome, IsOk, Result, Ok, Err}
+use Rattle.std.specs.Prelude.{◌≡◌, ℕ, ◌+◌, ◌<◌, ◌≤◌, Option, IfSome, Result, Ok, Err}
 use Rattle.std.specs.Prelude.{List, length}
 use Rattle.std.specs.Io.KnownBytes.{IsAtEnd}
-use Rattle.std.specs.Result.{result_ok}
 use Rattle.std.specs.declared.string.String.{String}
 use Rattle.ea_io.specs.Fronts.{ConsumesAtMost, ConsumesMany}
 use Rattle.ea_flags.specs.declared.fault.FlagFault.{FlagFault}
@@ -11,11 +10,10 @@ use Rattle.ea_model.specs.declared.settings.Config.{Config}
 use Rattle.ea_model.specs.declared.units.TheConstants.{MAX_INPUT}
 use Rattle.ea_trace.specs.declared.fault.TraceFault.{TraceFault}
 use Rattle.ea_trace.specs.Language.{Gives, trace}
-use Rattle.ea_top.specs.Output.{is_built_for, is_built_under}
 use Rattle.ea_top.specs.declared.faults.Fault.{Fault}
-use Rattle.ea_top.specs.declared.faults.Fault.TheVariants.{Words, Trace, TooLong, NotBuilt}
+use Rattle.ea_top.specs.declared.faults.Fault.TheVariants.{Words, Trace, TooLong}
 use Rattle.ea_top.specs.declared.faults.Fault.TheVariants.{ReadFailed, WriteFailed, OutOfMemory}
-use Rattle.ea_top.specs.Answers.{GoodWords, GoodInput, HasOutput, spelled}
+use Rattle.ea_top.specs.Answers.{GoodWords, HasOutput, spelled}
 
 -- under the configuration the input gives this refusal, unless there was no memory to read it
 abbrev pub IsRefused : Result Config FlagFault → List ℕ → TraceFault → Type 0
@@ -33,8 +31,6 @@ IsWhy words before after read wrote (Trace refusal) = GoodWords words × IsAtEnd
 IsWhy words before after read wrote TooLong =
     GoodWords words × ConsumesMany before after (MAX_INPUT + 1)
     × IfSome before (λ input. MAX_INPUT < length input)
-IsWhy words before after read wrote NotBuilt = GoodWords words × IsAtEnd after
-    × IfSome before (λ input. GoodInput words input × (is_built_for (spelled words) input ≡ false))
 IsWhy words before after read wrote ReadFailed = GoodWords words
     × ConsumesAtMost before after MAX_INPUT × read
 IsWhy words before after read wrote WriteFailed = GoodWords words × IsAtEnd after
@@ -47,7 +43,6 @@ IsReadFault before after read (Words refusal) = ⊥
 IsReadFault before after read (Trace refusal) = ⊥
 IsReadFault before after read TooLong = ConsumesMany before after (MAX_INPUT + 1)
     × IfSome before (λ input. MAX_INPUT < length input)
-IsReadFault before after read NotBuilt = ⊥
 IsReadFault before after read ReadFailed = ConsumesAtMost before after MAX_INPUT × read
 IsReadFault before after read WriteFailed = ⊥
 IsReadFault before after read OutOfMemory = Unit {0}
@@ -57,8 +52,6 @@ abbrev pub IsTextFault : Config → List ℕ → Fault → Type 0
 IsTextFault config input (Words refusal) = ⊥
 IsTextFault config input (Trace refusal) = Gives (Err refusal) (trace input config.schedulers)
 IsTextFault config input TooLong = ⊥
-IsTextFault config input NotBuilt = IsOk (trace input config.schedulers)
-    × (is_built_under (Ok config) (result_ok (trace input config.schedulers)) ≡ false)
 IsTextFault config input ReadFailed = ⊥
 IsTextFault config input WriteFailed = ⊥
 IsTextFault config input OutOfMemory = Unit {0}

@@ -22,8 +22,6 @@ pub enum Fault {
     Trace(TraceFault),
     /// The input has more than 2^24 bytes.
     TooLong,
-    /// The run isn't built.
-    NotBuilt,
     /// The source failed.
     ReadFailed,
     /// The sink of the text failed.
@@ -67,7 +65,6 @@ impl Fault {
             Fault::Trace(_) | Fault::TooLong => 2,
             Fault::ReadFailed => 3,
             Fault::WriteFailed => 4,
-            Fault::NotBuilt => 6,
         }
     }
 }
@@ -117,7 +114,6 @@ fn write_line<E: Sink>(err: &mut E, fault: Fault) -> Result<(), Failed>
         Fault::Words(refusal) => write_refusal(err, "word", refusal.word(), refusal.message()),
         Fault::Trace(refusal) => write_refusal(err, "line", refusal.line(), refusal.message()),
         Fault::TooLong => write_with(err, ReadAllFault::TooLong.message()),
-        Fault::NotBuilt => write_with(err, "not built yet"),
         Fault::ReadFailed => write_with(err, ReadAllFault::ReadFault.message()),
         Fault::WriteFailed => write_with(err, "write failed"),
         Fault::OutOfMemory => write_with(err, OutOfMemory.message()),

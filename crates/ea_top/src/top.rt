@@ -14,9 +14,8 @@ ghost use Rattle.ea_model.specs.Outcome.{plain_outcome};
 ghost use Rattle.ea_model.specs.Settings.{IsValidConfig};
 ghost use Rattle.ea_model.specs.Trace.{IsValidMode, IsValidTrace};
 ghost use Rattle.ea_trace.specs.Language as language;
-ghost use Rattle.ea_top.specs.Built.{is_built_run};
 ghost use Rattle.ea_top.specs.Output.{IsOutputUnder, IsRunOutcome, text_by};
-ghost use Rattle.ea_top.specs.Answers.{GoodWords, GoodInput, IsBuiltFor, WroteText, WroteFront};
+ghost use Rattle.ea_top.specs.Answers.{GoodWords, GoodInput, WroteText, WroteFront};
 ghost use Rattle.ea_sound.specs.MachineLaws.{Protocol};
 ghost use Rattle.ea_top.specs.EachTrace.{ForEachTrace};
 ghost use Rattle.ea_top.specs.Whys.{IsWhy, IsReadFault, IsTextFault};
@@ -30,7 +29,6 @@ use ea_given::run_given;
 use ea_io::{ReadAllFault, Sink, Source, read_all, write_all};
 use ea_model::{Config, Letter, List, MAX_INPUT, Mode, OutOfMemory, Outcome, Trace};
 use ea_report::{print, print_summary};
-use ea_sched::migrates;
 use ea_table::{OpenGate, run_threads};
 use ea_trace::read_trace;
 use std::alloc::Global;
@@ -41,8 +39,7 @@ use std::thread::Threads;
 ///
 /// The status is 0 where the text was written; 1 where the words are refused; 2 where the input has
 /// more than 2^24 bytes or isn't a trace; 3 where the source failed; 4 where `out` failed; 5 where
-/// there was no memory; 6 where words and input are accepted, and the run isn't built: carriers
-/// would migrate between threads.
+/// there was no memory.
 pub fn run<R: Threads + Sync, S: Source, O: Sink, E: Sink>(
     rt: &R,
     alloc: Global,
@@ -52,7 +49,7 @@ pub fn run<R: Threads + Sync, S: Source, O: Sink, E: Sink>(
     err: &mut E,
 ) -> u8
     requires { length words.now < 2 ^ 32 }
-    ensures statuses { result ≤ 6 }
+    ensures statuses { result ≤ 5 }
 
     // 0: the whole text of an input in the language, which was read to its end. It is the text of
     // a list of steps after which every scheduler has ended. Where the input has a schedule, these
@@ -71,7 +68,7 @@ pub fn run<R: Threads + Sync, S: Source, O: Sink, E: Sink>(
     // its own if it is above the threshold; an allocation fails only where nothing that is looked
     // at fits and no carrier can be created, and then it does; what isn't held is skipped. No block
     // is released twice, and none changes its place. A completed schedule has ended all schedulers.
-    ensures protocol { (result ≡ 0) ⊎ (result ≡ 6) → ForEachTrace Protocol words.now }
+    ensures protocol { result ≡ 0 → ForEachTrace Protocol words.now }
 
     // 1: exactly for words that are refused, and nothing was read.
     ensures bad_words { (result ≡ 1) ↔ (GoodWords words.now → ⊥) }
@@ -84,14 +81,6 @@ pub fn run<R: Threads + Sync, S: Source, O: Sink, E: Sink>(
     ensures refuses { GoodWords words.now → Calm (S.faults source.old) (S.faults source.new)
         → IfSome (S.left source.old) (λ input. (GoodInput words.now input → ⊥)
         → (result ≡ 2) ⊎ (result ≡ 5)) }
-
-    // 6: only for a good input whose run isn't built; and such an input gives 6, unless its source
-    // fails.
-    ensures not_built { result ≡ 6 → IfSome (S.left source.old) (λ input. GoodInput words.now input
-        × (IsBuiltFor words.now input → ⊥)) }
-    ensures leaves { GoodWords words.now → Calm (S.faults source.old) (S.faults source.new)
-        → IfSome (S.left source.old) (λ input. GoodInput words.now input
-        → (IsBuiltFor words.now input → ⊥) → (result ≡ 6) ⊎ (result ≡ 5)) }
 
     // At most one byte more than the limit is read.
     ensures taken { ConsumesAtMost (S.left source.old) (S.left source.new) (MAX_INPUT + 1) }
@@ -106,11 +95,11 @@ pub fn run<R: Threads + Sync, S: Source, O: Sink, E: Sink>(
         → WroteFront words.now (S.left source.old) (O.taken out.old) (O.taken out.new) }
     ensures untouched { result ≢ 0 → result ≢ 4 → out.new ≡ out.old }
 
-    // Good words, a good input whose run is built, and no fault give 0, or 5.
+    // Good words, a good input and no fault give 0, or 5.
     ensures complete { GoodWords words.now → Calm (S.faults source.old) (S.faults source.new)
         → Calm (O.faults out.old) (O.faults out.new)
         → IfSome (S.left source.old) (λ input. GoodInput words.now input
-        → IsBuiltFor words.now input → (result ≡ 0) ⊎ (result ≡ 5)) }
+        → (result ≡ 0) ⊎ (result ≡ 5)) }
 
     // err: nothing at 0, else the line of a fault that has this status and is why there is no text.
     // This says also how far the source was read, and speaks where the source does not tell its
@@ -147,7 +136,6 @@ fn attempt<R: Threads + Sync, S: Source, O: Sink>(
         (WroteText words.now (S.left source.old) (O.taken out.old) (O.taken out.new)) }
     ensures end { OnOk result (IsAtEnd (S.left source.new)) }
     ensures protocol { OnOk result (ForEachTrace Protocol words.now) }
-    ensures protocol_left { IsErrOf result Fault.NotBuilt → ForEachTrace Protocol words.now }
     ensures why { IfErr result
         (IsWhy words.now (S.left source.old) (S.left source.new)
         (StopsAtFault S.left S.faults source.old source.new)
@@ -206,25 +194,12 @@ fn text_of<R: Threads + Sync>(
     ensures err { IfErr result (IsTextFault config input.now) }
 {
     let trace = read_trace(alloc, input, config.schedulers)?;
-    if !is_built(config, &trace) {
-        return Err(Fault::NotBuilt);
-    }
     let outcome = run_trace(rt, alloc, config, &trace)?;
     Ok(print_run(alloc, &trace.mode, &outcome)?)
 }
 
-/// Whether the run of a trace is built: carriers don't migrate between threads.
-fn is_built(config: Config, trace: &Trace) -> bool
-    ensures { result ≡ is_built_run config trace.now }
-{
-    match &trace.mode {
-        Mode::Threads => !migrates(config, trace),
-        Mode::Schedule { .. } | Mode::Generated { .. } => true,
-    }
-}
-
-/// Runs a trace whose run is built, as its mode says: each scheduler on a thread of its own, or all
-/// by the schedule, or with the operations that are generated.
+/// Runs a trace as its mode says: each scheduler on a thread of its own, or all by the schedule, or
+/// with the operations that are generated.
 fn run_trace<R: Threads + Sync>(
     rt: &R,
     alloc: Global,
@@ -233,7 +208,6 @@ fn run_trace<R: Threads + Sync>(
 ) -> Result<Outcome, OutOfMemory>
     requires config { IsValidConfig config }
     requires trace { IsValidTrace config.schedulers trace.now }
-    requires built { is_built_run config trace.now ≡ true }
     ensures { IfOk result (λ outcome. IsRunOutcome config trace.now (plain_outcome outcome)) }
 {
     match trace.mode {

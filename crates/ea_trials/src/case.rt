@@ -58,7 +58,7 @@ impl From<OutOfMemory> for NotRun {
 /// A run that is over.
 #[derive(Drop)]
 pub struct Ran {
-    /// From 0 to 6.
+    /// From 0 to 5.
     pub status: u8,
     /// Where the output went.
     pub out: MemSink,
@@ -82,7 +82,7 @@ fn text(bytes: &[u8]) -> &str {
 impl Case<'_> {
     /// Runs the case.
     pub fn run<R: Threads + Sync>(&self, rt: &R, alloc: Global) -> Result<Ran, NotRun>
-        ensures { IfOk result (λ ran. ran.status ≤ 6) }
+        ensures { IfOk result (λ ran. ran.status ≤ 5) }
     {
         let mut source = MemSource::new(
             list(alloc, self.input)?,
@@ -110,7 +110,7 @@ pub fn run_words<R: Threads + Sync, S: Source, O: Sink, E: Sink>(
     out: &mut O,
     err: &mut E,
 ) -> Result<u8, NotRun>
-    ensures { IfOk result (λ status. status ≤ 6) }
+    ensures { IfOk result (λ status. status ≤ 5) }
 {
     let words = words_of(alloc, line)?;
     if words.len() > MOST_WORDS {

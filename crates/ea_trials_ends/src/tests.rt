@@ -104,14 +104,6 @@ fn an_error_line_ends_where_its_write_fails(rt: HostRuntime) -> Result<(), Fail>
         ),
         (
             Case {
-                words: "",
-                input: b"type H\nscheduler 1\nthreads\nend\n",
-                ..GOOD
-            },
-            (6, "", "erts_alloc_run: not built yet\n"),
-        ),
-        (
-            Case {
                 failing_reads: &[2],
                 ..GOOD
             },

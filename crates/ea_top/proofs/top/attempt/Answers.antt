@@ -29,12 +29,6 @@ returns-clause-protocol g c = λ config e t valid.
     always-protocol config t
     (still_valid _ c.in_ok-config.config config (sym read.config) e read.valid) valid
 
-pub returns-in_err-text-clause-protocol_left : goal.returns-in_err-text-clause-protocol_left
-returns-in_err-text-clause-protocol_left g c = λ not_built config e t valid.
-    let read = c.in_ok-config.ensures in
-    always-protocol config t
-    (still_valid _ c.in_ok-config.config config (sym read.config) e read.valid) valid
-
 pub returns-then-is_err-clause-why : goal.returns-then-is_err-clause-why
 returns-then-is_err-clause-why g c =
     let words = c.args.words.now in

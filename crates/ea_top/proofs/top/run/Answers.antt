@@ -2,12 +2,12 @@ use Rattle.std.proofs.Common.{◌≡◌, sym, ◌∙◌, ap, refl, arith}
 use Rattle.ea_io.specs.Counts.{next_count}
 use Rattle.std.specs.Prelude.{Err}
 use Rattle.ea_top.specs.declared.faults.Fault.{Fault}
-use Rattle.ea_top.specs.declared.faults.Fault.TheVariants.{Words, Trace, TooLong, NotBuilt}
+use Rattle.ea_top.specs.declared.faults.Fault.TheVariants.{Words, Trace, TooLong}
 use Rattle.ea_top.specs.declared.faults.Fault.TheVariants.{ReadFailed, WriteFailed, OutOfMemory}
 use Rattle.ea_top.specs.Faults.{status_of, trace_status}
 use Rattle.ea_trace.specs.declared.fault.TraceFault.{TraceFault}
 use Rattle.ea_trace.specs.declared.fault.TraceFault.TheVariants as trace
-use Rattle.ea_top.proofs.Leaving.{leaving, refusing, written}
+use Rattle.ea_top.proofs.Ending.{completing, refusing, written}
 use Rattle.ea_top.proofs.top.run.Goals as goal
 
 -- a refused trace ends with 2, and want of memory with 5
@@ -26,7 +26,6 @@ ends_with_4 : (f : Fault) → status_of f ≡ 4 → f ≡ WriteFailed
 ends_with_4 (Words refusal) e = absurd cc
 ends_with_4 (Trace refusal) e = absurd (trace_ends refusal e)
 ends_with_4 TooLong e = absurd cc
-ends_with_4 NotBuilt e = absurd cc
 ends_with_4 ReadFailed e = absurd cc
 ends_with_4 WriteFailed e = refl
 ends_with_4 OutOfMemory e = absurd cc
@@ -49,8 +48,10 @@ returns-in-Err-clause-refuses g c = λ good calm.
     (λ stops. absurd (omega (arith, calm, stops.once, ap next_count stops.calm)))
     c.status.result _ c.in-Err.fault c.status.ensures c.in-Err.ensures.why
 
-pub returns-in-Err-clause-leaves : goal.returns-in-Err-clause-leaves
-returns-in-Err-clause-leaves g c = λ good calm.
-    leaving c.args.words.now _ _ _ good
+pub returns-in-Err-clause-complete : goal.returns-in-Err-clause-complete
+returns-in-Err-clause-complete g c = λ good calm dry.
+    completing c.args.words.now _ _ _ good
     (λ stops. absurd (omega (arith, calm, stops.once, ap next_count stops.calm)))
-    c.status.result _ c.in-Err.fault c.status.ensures c.in-Err.ensures.why
+    c.status.result
+    (λ stops. absurd (omega (arith, dry, stops.once, ap next_count stops.calm)))
+    _ c.in-Err.fault c.status.ensures c.in-Err.ensures.why

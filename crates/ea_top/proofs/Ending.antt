@@ -1,6 +1,5 @@
--- An input that isn't good ends with 2, and a good one whose run isn't built with 6, unless there
--- was no memory.
-use Rattle.std.proofs.Common.{◌≡◌, ℕ, true, List, inl, inr, refl, subst, ◌∙◌, arith}
+-- An input that isn't good ends with 2, and a good one has an output, unless there was no memory.
+use Rattle.std.proofs.Common.{◌≡◌, ℕ, List, inl, inr, refl, subst, ◌∙◌, arith}
 use Rattle.std.specs.Prelude.{◌⊎◌, Option, None, Some, Result, Ok, Err, IsOk, IsSome, IfSome}
 use Rattle.std.specs.Result.{result_ok}
 use Rattle.std.specs.declared.string.String.{String}
@@ -12,11 +11,11 @@ use Rattle.ea_trace.specs.declared.fault.TraceFault.{TraceFault}
 use Rattle.ea_trace.specs.declared.fault.TraceFault.TheVariants as trace
 use Rattle.ea_trace.specs.Language.{Answer}
 use Rattle.ea_top.specs.declared.faults.Fault.{Fault}
-use Rattle.ea_top.specs.declared.faults.Fault.TheVariants.{Words, Trace, TooLong, NotBuilt}
+use Rattle.ea_top.specs.declared.faults.Fault.TheVariants.{Words, Trace, TooLong}
 use Rattle.ea_top.specs.declared.faults.Fault.TheVariants.{ReadFailed, WriteFailed, OutOfMemory}
-use Rattle.ea_top.specs.Answers.{GivesText, GoodInput, GoodWords, IsBuiltFor, WroteText, spelled}
+use Rattle.ea_top.specs.Answers.{GivesText, GoodInput, GoodWords, WroteText, spelled}
 use Rattle.ea_top.specs.Faults.{status_of, trace_status}
-use Rattle.ea_top.specs.Output.{IsOutputUnder, is_built_under, read_for, read_under}
+use Rattle.ea_top.specs.Output.{IsOutputUnder, read_for, read_under}
 use Rattle.ea_top.specs.Whys.{IsRefused, IsWhy}
 
 -- what is refused is no trace
@@ -35,13 +34,6 @@ refused_trace (Ok c) input (trace.TooMany line) h s = unread _ _ h s
 refused_trace (Ok c) input trace.NoEnd h s = unread _ _ h s
 refused_trace (Ok c) input trace.OutOfMemory h s = refl
 refused_trace (Err e) input f h s = absurd h
-
--- what has an output is built
-has_run : (r : Result Config FlagFault) (t : Option model.Trace) (text : List ℕ)
-    → IsOutputUnder r t text → is_built_under r t ≡ true
-has_run (Ok c) (Some t) text h = h.0
-has_run (Ok c) None text h = absurd h
-has_run (Err f) t text h = absurd h
 
 -- what has an output is a trace
 is_trace : (r : Result Config FlagFault) (t : Option model.Trace) (text : List ℕ)
@@ -77,22 +69,7 @@ module _ {Z : Type 0} (words : List (String Z)) where
 
 module _ {Z : Type 0} (words : List (String Z)) (after : Option (List ℕ)) (read wrote : Type 0)
     (good : GoodWords words) (calm : read → ⊥) (status : ℕ) where
-  -- of an input that is told
-  told : (input : List ℕ) (f : Fault) → status ≡ status_of f
-      → IsWhy words (Some input) after read wrote f → GoodInput words input
-      → (IsBuiltFor words input → ⊥) → (status ≡ 6) ⊎ (status ≡ 5)
-  told input (Words refusal) e why trace unbuilt = let bad = subst IsOk why good in absurd cc
-  told input (Trace refusal) e why trace unbuilt = inr
-      (e ∙ refused_trace (flags (spelled words)) input refusal why.2.1 trace.1)
-  told input TooLong e why trace unbuilt = absurd (omega (arith, why.2, trace.0))
-  told input NotBuilt e why trace unbuilt = inl e
-  told input ReadFailed e why trace unbuilt = absurd (calm why.2)
-  told input WriteFailed e why trace unbuilt =
-      let (text, has) = why.2 in
-      absurd (unbuilt (has_run (flags (spelled words)) (read_for (spelled words) input) text has.1))
-  told input OutOfMemory e why trace unbuilt = inr e
-
-  -- the same where it isn't good
+  -- of an input that is told and isn't good
   told_bad : (input : List ℕ) (f : Fault) → status ≡ status_of f
       → IsWhy words (Some input) after read wrote f → (GoodInput words input → ⊥)
       → (status ≡ 2) ⊎ (status ≡ 5)
@@ -100,7 +77,6 @@ module _ {Z : Type 0} (words : List (String Z)) (after : Option (List ℕ)) (rea
   told_bad input (Trace refusal) e why bad =
       elim (refused_ends refusal) [ inl two ↦ inl (e ∙ two) | inr five ↦ inr (e ∙ five) ]
   told_bad input TooLong e why bad = inl e
-  told_bad input NotBuilt e why bad = absurd (bad why.2.0)
   told_bad input ReadFailed e why bad = absurd (calm why.2)
   told_bad input WriteFailed e why bad =
       let (text, gives) = why.2 in absurd (bad (is_good words input text gives))
@@ -112,8 +88,21 @@ module _ {Z : Type 0} (words : List (String Z)) (after : Option (List ℕ)) (rea
   refusing None f e why = tt
   refusing (Some input) f e why = told_bad input f e why
 
-  pub leaving : (before : Option (List ℕ)) (f : Fault) → status ≡ status_of f
-      → IsWhy words before after read wrote f → IfSome before (λ input. GoodInput words input
-      → (IsBuiltFor words input → ⊥) → (status ≡ 6) ⊎ (status ≡ 5))
-  leaving None f e why = tt
-  leaving (Some input) f e why = told input f e why
+  module _ (dry : wrote → ⊥) where
+    -- the same where it is good
+    told : (input : List ℕ) (f : Fault) → status ≡ status_of f
+        → IsWhy words (Some input) after read wrote f → GoodInput words input
+        → (status ≡ 0) ⊎ (status ≡ 5)
+    told input (Words refusal) e why trace = let bad = subst IsOk why good in absurd cc
+    told input (Trace refusal) e why trace = inr
+        (e ∙ refused_trace (flags (spelled words)) input refusal why.2.1 trace.1)
+    told input TooLong e why trace = absurd (omega (arith, why.2, trace.0))
+    told input ReadFailed e why trace = absurd (calm why.2)
+    told input WriteFailed e why trace = absurd (dry why.3)
+    told input OutOfMemory e why trace = inr e
+
+    pub completing : (before : Option (List ℕ)) (f : Fault) → status ≡ status_of f
+        → IsWhy words before after read wrote f → IfSome before (λ input.
+        GoodInput words input → (status ≡ 0) ⊎ (status ≡ 5))
+    completing None f e why = tt
+    completing (Some input) f e why = told input f e why
