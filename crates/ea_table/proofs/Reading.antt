@@ -25,10 +25,6 @@ element-index [] i a q = absurd (some-ne-none a (sym q))
 element-index (w ∷ ws) zero a q = some-injective w a q
 element-index (w ∷ ws) (suc i) a q = element-index ws i a q
 
-block_spot-is : (name : ℕ) (o : Option Spot) → block_spot (option_map (λ p. Block name p) o) ≡ o
-block_spot-is name None = refl
-block_spot-is name (Some p) = refl
-
 spot-here : (x : Named) (xs : List Named) → spot_named x.name (x ∷ xs) ≡ Some x.spot
 spot-here x xs = ap (option_map (λ (y : Named). y.spot)) (item_here name_of x.name x xs refl)
 
