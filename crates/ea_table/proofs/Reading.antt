@@ -13,7 +13,6 @@ use Rattle.ea_model.proofs.Rising.{item_at-new, item_at-old, item_here}
 use Rattle.ea_model.proofs.Rising.{item_past, none-other, rising-entered}
 use Rattle.ea_machine.specs.declared.nodes.Named.{Named}
 use Rattle.ea_machine.specs.declared.nodes.Node.{Node}
-use Rattle.ea_machine.specs.declared.nodes.Node.TheVariants.{Block}
 use Rattle.ea_machine.specs.Nodes.{spot_named, with_name, name_of}
 use Rattle.ea_sound.proofs.Asked.{unnamed-spot}
 use Rattle.ea_table.specs.Ending.{AreGiven, Gives}
