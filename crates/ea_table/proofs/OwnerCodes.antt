@@ -1,5 +1,5 @@
 -- Owner words, by their numbers and by whether they are told to be the same.
-use Rattle.std.proofs.Common.{◌≡◌, ◌≢◌, ℕ, true, false, Option, Some, refl, sym, ap, ◌∙◌, arith}
+use Rattle.std.proofs.Common.{◌≡◌, ℕ, true, Option, Some, refl, ap, ◌∙◌, arith}
 use Rattle.std.specs.Prelude.{IfSome}
 use Rattle.ea_machine.specs.declared.owners.OwnerWord.{OwnerWord}
 use Rattle.ea_machine.specs.declared.owners.OwnerWord.TheVariants.{Absent, Employed, Pooled}
@@ -50,10 +50,3 @@ same-is (Pooled i g) (Pooled j h) q =
 same-is (Busy i) (Busy j) q = let e : i ≡ j = grind (arith, q) in ap Busy e
 same-is (Returning i) (Returning j) q = let e : i ≡ j = grind (arith, q) in ap Returning e
 same-is v w q = absurd cc
-
--- a word that is told to be another has another number
-pub other-code : (v w : OwnerWord) → IsShown v → IsShown w → same_word v w ≡ false
-    → owner_code v ≢ owner_code w
-other-code v w p q other e =
-    let same = shown-same v w p q e in
-    let never : true ≡ false = sym (same-itself v) ∙ ap (same_word v) same ∙ other in absurd cc

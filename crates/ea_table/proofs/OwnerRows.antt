@@ -23,12 +23,12 @@ use Rattle.ea_sound.proofs.Protocols.{protocol}
 use Rattle.ea_table.specs.declared.views.View.{View}
 use Rattle.ea_table.specs.Handing.{Brings, HasSlot, IsTry, MovesSlot, Stores, Wherever, Writes}
 use Rattle.ea_table.specs.Handing.{row_in}
-use Rattle.ea_table.specs.Ruling.{DidRow, IsSingle, Took, acting, actor_in, caller_in, claimed}
+use Rattle.ea_table.specs.Ruling.{DidRow, IsSingle, Took, acting, actor_in, caller_in}
 use Rattle.ea_table.specs.Ruling.{move_since, setup_in, shared_since}
 use Rattle.ea_table.specs.Slots.{Claims, Has, Slot, Yields, move_of, settled_move}
-use Rattle.ea_table.proofs.OwnerTold.{IsIdle, first_slot, older-then, so-then, stayed}
+use Rattle.ea_table.proofs.OwnerTold.{IsIdle, so-then, stayed}
 use Rattle.ea_table.proofs.OwnerTold.{taken-slot}
-use Rattle.ea_table.proofs.Told.{did, did-yielded}
+use Rattle.ea_table.proofs.Told.{did}
 
 not-nil : (bs : List BlockAt) → bs ≢ [] → is_nil bs ≡ false
 not-nil [] some = absurd (some refl)

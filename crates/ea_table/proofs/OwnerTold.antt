@@ -2,7 +2,6 @@
 -- seat has then; and that a seat has no slot after them.
 use Rattle.std.proofs.Common.{◌≡◌, ◌≢◌, ℕ, ◌≤◌, ◌++◌, List, [], ◌∷◌, None, Some}
 use Rattle.std.proofs.Common.{refl, sym, ap, ◌∙◌, subst, arith}
-use Rattle.std.specs.Prelude.{All}
 use Rattle.atomic_table.specs.Seated.{TableId}
 use Rattle.atomic_table.specs.Table.{Me, Step, rest}
 use Rattle.ea_model.specs.Content.{Content}
@@ -10,7 +9,7 @@ use Rattle.ea_model.specs.declared.units.TheConstants.{MAX_SCHEDULERS}
 use Rattle.ea_machine.specs.declared.owners.OwnerWord.{OwnerWord}
 use Rattle.ea_machine.specs.Machine.{run}
 use Rattle.ea_machine.specs.Owners.{CarrierAt, word_of}
-use Rattle.ea_machine.specs.Rows.{Answer, Done, Look, Lost, Row, Saw, Won}
+use Rattle.ea_machine.specs.Rows.{Answer, Look, Lost, Saw, Won}
 use Rattle.ea_machine.specs.Shared.{Shared}
 use Rattle.ea_machine.specs.Table.{answer, tried_at}
 use Rattle.ea_shared.specs.Calls.{WantsRow}
@@ -24,13 +23,12 @@ use Rattle.ea_table.specs.Handing.{Brings, HasSlot, IsTry, MovesSlot, Stores, Wh
 use Rattle.ea_table.specs.Handing.{row_in}
 use Rattle.ea_table.specs.Ruling.{DidRow, IsSingle, ReadsOwner, Took, acting, caller_in, claimed}
 use Rattle.ea_table.specs.Ruling.{claims, move_since, older_after, setup_in, shared_since}
-use Rattle.ea_table.specs.Ruling.{stepped}
 use Rattle.ea_table.specs.Seating.{IsAt}
-use Rattle.ea_table.specs.Slots.{Claims, Slot, Stays, Yields, claim_by, move_of, slot_at}
+use Rattle.ea_table.specs.Slots.{Claims, Slot, Stays, Yields, move_of, slot_at}
 use Rattle.ea_table.specs.Words.{owner_at}
 use Rattle.ea_table.proofs.OwnerCodes.{DecodesOwner, owner-told, shown-same}
 use Rattle.ea_table.proofs.Owning.{TriesAs, tried-lost, tried-won, tries-as}
-use Rattle.ea_table.proofs.Told.{claim-after, did, did-yielded, older-after, reads-row}
+use Rattle.ea_table.proofs.Told.{claim-after, did, older-after, reads-row}
 use Rattle.ea_table.proofs.Told.{single-after, single-claimed, slots-after}
 
 -- a seat that has no slot

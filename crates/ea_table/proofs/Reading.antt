@@ -13,7 +13,6 @@ use Rattle.ea_model.proofs.Rising.{item_at-new, item_at-old, item_here}
 use Rattle.ea_model.proofs.Rising.{item_past, none-other, rising-entered}
 use Rattle.ea_machine.specs.declared.nodes.Named.{Named}
 use Rattle.ea_machine.specs.declared.nodes.Node.{Node}
-use Rattle.ea_machine.specs.declared.nodes.Node.TheVariants.{Block}
 use Rattle.ea_machine.specs.Nodes.{spot_named, with_name, name_of}
 use Rattle.ea_sound.proofs.Asked.{unnamed-spot}
 use Rattle.ea_table.specs.Ending.{AreGiven, Gives}
@@ -24,10 +23,6 @@ pub element-index : (ws : List ℕ) (i a : ℕ) → get_elem? ws i ≡ some a �
 element-index [] i a q = absurd (some-ne-none a (sym q))
 element-index (w ∷ ws) zero a q = some-injective w a q
 element-index (w ∷ ws) (suc i) a q = element-index ws i a q
-
-block_spot-is : (name : ℕ) (o : Option Spot) → block_spot (option_map (λ p. Block name p) o) ≡ o
-block_spot-is name None = refl
-block_spot-is name (Some p) = refl
 
 spot-here : (x : Named) (xs : List Named) → spot_named x.name (x ∷ xs) ≡ Some x.spot
 spot-here x xs = ap (option_map (λ (y : Named). y.spot)) (item_here name_of x.name x xs refl)

@@ -35,7 +35,7 @@ pub record HasSlot (carrier : ℕ) (x : Slot) (m : Me Slot View) : Type 0 where
   pub claim : (acting m.0).claim ≡ carrier
   pub slots : m.1 ≡ (slot_at carrier, x) ∷ []
 
--- what a step of a seat does with the slot of a carrier, which it moves from one place to another
+-- a step of a seat may do this with the slot of a carrier, which it moves from one place to another
 abbrev pub MovesSlot : Me Slot View → ℕ → CarrierAt → CarrierAt → Move → Type 0
 MovesSlot m carrier before after Stays =
     Has (acting m.0).number carrier before × Has (acting m.0).number carrier after
@@ -44,14 +44,16 @@ MovesSlot m carrier before after (Claims number x) = (number ≡ carrier) × (ho
 MovesSlot m carrier before after Yields =
     (x : Content) × (home_of after ≡ Some x) × HasSlot carrier (Some x) m
 
--- the row writes the owner word of the carrier: then the carrier is at that place
+-- the row writes the owner word of the carrier, whatever that was: then the carrier is at that
+-- place, and the link word that the scheduler keeps is as it was
 pub record Writes (me : ℕ) (row : Row) (carrier : ℕ) (place : CarrierAt) : Type 0 where
   pub goes : row ≢ Nothing
   pub blind : (s : Shared) (found : ℕ) → Reads me row s found
   pub older : (found was : ℕ) → older_after row found was ≡ was
   pub places : (s : Shared) → effect me row s ≡ at_place carrier place s
 
--- the scheduler wants a row that stores the word, and the step does so with the slot
+-- the scheduler wants a row that stores the word, and the seat has the slot of the carrier, or the
+-- slot the content, as the row asks
 pub record Stores (carrier : ℕ) (word : OwnerWord) (m : Me Slot View) : Type 0 where
   pub single : IsSingle m.0
   pub place : CarrierAt
