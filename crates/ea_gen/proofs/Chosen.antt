@@ -9,7 +9,8 @@ use Rattle.ea_model.specs.declared.operations.Op.TheVariants.{Alloc, Free, Reall
 use Rattle.ea_model.specs.declared.operations.Op.TheVariants.{Info, Idle}
 use Rattle.ea_model.specs.declared.units.TheConstants.{MAX_BYTES}
 use Rattle.ea_gen.specs.Generated.{Making, allocs, draw_of, free_or, frees, front, give_or}
-use Rattle.ea_gen.specs.Generated.{is_own, kind_of, modulus, of_kind, operation_of, take_or, to_give, without}
+use Rattle.ea_gen.specs.Generated.{is_own, kind_of, modulus, of_kind, operation_of, take_or}
+use Rattle.ea_gen.specs.Generated.{to_give, without}
 use Rattle.ea_gen.specs.declared.kind.Kind.{Kind}
 use Rattle.ea_gen.specs.declared.kind.Kind.TheVariants as kind
 

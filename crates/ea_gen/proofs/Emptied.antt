@@ -9,7 +9,8 @@ use Rattle.std.proofs.lemmas.List.Sums.{fails_before_first, passes_at_first, pre
 use Rattle.ea_gen.specs.Generated.{front, without}
 use Rattle.ea_gen.specs.Places.{less, names_in}
 
-pub names_push : (ps : List (Option ℕ)) (k : ℕ) → names_in (ps ++ Some k ∷ []) ≡ names_in ps ++ k ∷ []
+pub names_push : (ps : List (Option ℕ)) (k : ℕ)
+    → names_in (ps ++ Some k ∷ []) ≡ names_in ps ++ k ∷ []
 names_push [] k = refl
 names_push (None ∷ ps) k = names_push ps k
 names_push (Some j ∷ ps) k = ap (λ ks. j ∷ ks) (names_push ps k)

@@ -1,12 +1,12 @@
 -- Texts that are made from their begin, and the names that they give.
-use Rattle.std.proofs.Common.{◌≡◌, ℕ, ◌+◌, ◌-◌, ◌<◌, suc, max, Bool, true, false, cond, ◌==◌, List, []}
-use Rattle.std.proofs.Common.{◌∷◌, ◌++◌, refl, sym, ap, ◌∙◌, arith, append_assoc}
+use Rattle.std.proofs.Common.{◌≡◌, ℕ, ◌+◌, ◌-◌, ◌<◌, suc, max, Bool, true, false, cond, ◌==◌, List}
+use Rattle.std.proofs.Common.{[], ◌∷◌, ◌++◌, refl, sym, ap, ◌∙◌, arith, append_assoc}
 use Rattle.ea_model.specs.Trace.{greatest_of}
 use Rattle.ea_model.specs.declared.operations.Op.{Op}
 use Rattle.ea_model.specs.declared.operations.Op.TheVariants.{Alloc, Free, Realloc, Give, Take}
 use Rattle.ea_model.specs.declared.operations.Op.TheVariants.{Info, Idle}
-use Rattle.ea_gen.specs.Generated.{Making, after, given_to, operation_of, operations_from, section_at}
-use Rattle.ea_gen.specs.Generated.{text_of, texts_from}
+use Rattle.ea_gen.specs.Generated.{Making, after, given_to, operation_of, operations_from}
+use Rattle.ea_gen.specs.Generated.{section_at, text_of, texts_from}
 
 -- one more operation of a text
 pub text_more : (text : List Op) (op : Op) (count k : ℕ) (m next : Making) → k < count

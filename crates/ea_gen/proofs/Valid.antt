@@ -8,9 +8,9 @@ use Rattle.std.proofs.lemmas.List.{length-append}
 use Rattle.std.proofs.lemmas.List.Elements.{All-from_recursion}
 use Rattle.std.proofs.lemmas.List.Folds.{list_any-append}
 use Rattle.std.proofs.lemmas.List.Sums.{sum_by-append}
-use Rattle.ea_model.specs.Trace.{BringsBefore, IsOperation, IsValidTrace, gives, gives_to, greatest_of}
-use Rattle.ea_model.specs.Trace.{listed, makes, operations_of, plain, takes, text_at, texts_of}
-use Rattle.ea_model.specs.Trace.{tries_of}
+use Rattle.ea_model.specs.Trace.{BringsBefore, IsOperation, IsValidTrace, gives, gives_to}
+use Rattle.ea_model.specs.Trace.{greatest_of, listed, makes, operations_of, plain, takes, text_at}
+use Rattle.ea_model.specs.Trace.{texts_of, tries_of}
 use Rattle.ea_model.specs.declared.operations.Op.{Op}
 use Rattle.ea_model.specs.declared.settings.Letter.{Letter}
 use Rattle.ea_model.specs.declared.trace.Trace.{Trace}

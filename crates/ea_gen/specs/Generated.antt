@@ -3,9 +3,9 @@
 -- high part is the draw: the draw modulo 8 tells the kind of the operation, and an allocation asks
 -- for four times the draw in bytes. The k-th operation of scheduler i allocates, if it does, the
 -- name (i - 1) * count + k. Texts are made one by one, scheduler 1's first.
-use Rattle.std.specs.Prelude.{ℕ, zero, suc, ◌+◌, ◌-◌, ◌*◌, ◌/◌, ◌%◌, ◌^◌, Bool, ◌&&◌, ◌==◌, nat_lt, nat_le}
-use Rattle.std.specs.Prelude.{if◌then◌else◌, List, [], ◌∷◌, ◌++◌, Option, Some, None, find, flat_map}
-use Rattle.std.specs.Prelude.{map}
+use Rattle.std.specs.Prelude.{ℕ, zero, suc, ◌+◌, ◌-◌, ◌*◌, ◌/◌, ◌%◌, ◌^◌, Bool, ◌&&◌, ◌==◌, nat_lt}
+use Rattle.std.specs.Prelude.{nat_le, if◌then◌else◌, List, [], ◌∷◌, ◌++◌, Option, Some, None, find}
+use Rattle.std.specs.Prelude.{flat_map, map}
 use Rattle.ea_model.specs.Trace.{greatest_of, listed}
 use Rattle.ea_model.specs.declared.operations.Op.{Op}
 use Rattle.ea_model.specs.declared.operations.Op.TheVariants.{Alloc, Free, Realloc, Give, Take}

@@ -1,5 +1,4 @@
-use Rattle.std.proofs.Common.{◌≡◌, ℕ, List, is_some, length, refl, sym, ap, ◌∙◌}
-use Rattle.std.proofs.Common.{arith}
+use Rattle.std.proofs.Common.{◌≡◌, ℕ, List, is_some, length, refl, sym, ap, ◌∙◌, arith}
 use Rattle.std.specs.List.{position_or_len}
 use Rattle.ea_gen.specs.Places.{AtHand}
 use Rattle.ea_gen.proofs.Emptied.{later, none_found, taken_out}
@@ -25,12 +24,7 @@ invariant_of-self-2 c =
     c.first_own-place.ensures ∙ ap (position_or_len own) c.deref.ensures.value in
     record {
       any = omega (arith, later is_some refl items c.first_own-place.result, c.self.invariant.any);
-      own = omega (
-        arith,
-        later own refl items
-            c.first_own-place.result,
-        c.self.invariant.own,
-      );
+      own = omega (arith, later own refl items c.first_own-place.result, c.self.invariant.own);
     }
 
 pub returns-clause-name : goal.returns-clause-name
@@ -39,8 +33,8 @@ returns-clause-name c =
     let own = has_within c.self.inside.low c.self.inside.high in
     let at : c.first_own-place.result ≡ position_or_len own items =
     c.first_own-place.ensures ∙ ap (position_or_len own) c.deref.ensures.value in
-    let t = taken_out own (is_within c.self.inside.low c.self.inside.high) (λ k. refl) refl items c.first_own-place.result
-    c.index-name.result.now at
+    let t = taken_out own (is_within c.self.inside.low c.self.inside.high) (λ k. refl) refl items
+    c.first_own-place.result c.index-name.result.now at
     (omega (arith, ap length c.deref.ensures.value, c.deref.ensures.len)) c.index-name.ensures in
     t.0 ∙ rw (← c.self.view_is) refl
 
@@ -50,8 +44,8 @@ returns-clause-rest c =
     let own = has_within c.self.inside.low c.self.inside.high in
     let at : c.first_own-place.result ≡ position_or_len own items =
     c.first_own-place.ensures ∙ ap (position_or_len own) c.deref.ensures.value in
-    let t = taken_out own (is_within c.self.inside.low c.self.inside.high) (λ k. refl) refl items c.first_own-place.result
-    c.index-name.result.now at
+    let t = taken_out own (is_within c.self.inside.low c.self.inside.high) (λ k. refl) refl items
+    c.first_own-place.result c.index-name.result.now at
     (omega (arith, ap length c.deref.ensures.value, c.deref.ensures.len)) c.index-name.ensures in
     let as_hand : List ℕ → AtHand = λ ks. record {
       names = ks;
