@@ -37,7 +37,7 @@ impl<'t> Scheduler<'t> {
     }
 
     /// Does the row that is next, which is no look of a search, and goes on by its answer, up to
-    /// the next one.
+    /// the next one. It is kept out of `step`, so that a look doesn't pay for what other rows take.
     #[inline(never)]
     fn do_row<S: Shared<Content = Mbc>>(
         &mut self,
