@@ -2,11 +2,11 @@
 -- a carrier by their answers.
 use Rattle.std.proofs.Common.{◌≡◌, ◌≢◌, ℕ, ◌%◌, ◌<◌, true, [], refl, sym, ap, ◌∙◌}
 use Rattle.std.proofs.Common.{subst, arith}
-use Rattle.std.specs.Prelude.{IfSome, IsSome, None, Option, Some}
-use Rattle.ea_model.specs.declared.carriers.Kind.TheVariants.{Multi, Single}
+use Rattle.std.specs.Prelude.{IfSome, IsSome, None, Option}
+use Rattle.ea_model.specs.declared.carriers.Kind.TheVariants.{Multi}
 use Rattle.ea_model.specs.Content.{Content, block_at, gaps_of, largest}
 use Rattle.ea_model.specs.Instance.{Instance, block_in, content_of, employed, own_at}
-use Rattle.ea_model.specs.Instance.{has_content, owner_of, releasing_at}
+use Rattle.ea_model.specs.Instance.{owner_of}
 use Rattle.ea_model.specs.Trace.{IsScheduler}
 use Rattle.ea_machine.specs.declared.nodes.Named.{Named}
 use Rattle.ea_machine.specs.declared.owners.OwnerWord.{OwnerWord}
@@ -259,71 +259,6 @@ module _ {stage : Stage Content} (s : Scheduler) {shared : Option Shared} {calle
             let u = in-answered s h row got did in
             own row got did (λ i. IsSome (block_in (employed i) hand.spot))
             (releasing.release-block s.config s.trace.now h.config h.trace u.state u.reached me
-            number why gone hand (there row got did (Routed (Looking hand) why gone) now)
-            (words.saw-employed me hand.spot.carrier u.state.shared me (sym u.answered)))
-
-        pub saw-here : (v : OwnerWord)
-            → Did me (Look hand.spot.carrier) (Saw v) shared new caller then
-            → v ≡ word.Employed me → IsSome (block_in (employed s.instance) hand.spot)
-        saw-here v did same = saw-block
-            (subst (λ u. Did me (Look hand.spot.carrier) (Saw u) shared new caller then) same did)
-
-        -- and its carrier is, once it is released, among those of its kind
-        module _ (did : Did me (Look hand.spot.carrier) (Saw (word.Employed me)) shared new caller
-            then) (y : Content)
-            (found : content_of (employed (releasing_at s.instance hand.spot)) hand.spot.carrier
-            ≡ Some y) where
-          abbrev Found : Instance → Type 0
-          Found i = content_of (employed (releasing_at i hand.spot)) hand.spot.carrier ≡ Some y
-
-          looks : Answered e me (standing_at stage s) (Look hand.spot.carrier)
-              (Saw (word.Employed me)) shared caller then
-          looks = in-answered s h (Look hand.spot.carrier) (Saw (word.Employed me)) did
-
-          then-at : (looks.state.actors me).stage ≡ Routed (Looking hand) why gone
-          then-at = ap (λ (a : Actor). a.stage) looks.actor ∙ now
-
-          is-mine : looks.state.shared.places hand.spot.carrier ≡ Employed me
-          is-mine =
-              words.saw-employed me hand.spot.carrier looks.state.shared me (sym looks.answered)
-
-          found-there : Found (looks.state.actors me).instance
-          found-there = subst (λ (a : Actor). Found a.instance) (sym looks.actor) found
-
-          pub saw-many : y.kind ≡ Multi
-              → content_of (releasing_at s.instance hand.spot).contents hand.spot.carrier ≡ Some y
-          saw-many many = subst (λ (a : Actor).
-              content_of (releasing_at a.instance hand.spot).contents hand.spot.carrier ≡ Some y)
-              looks.actor
-              (releasing.released-many s.config s.trace.now h.config h.trace looks.state
-              looks.reached me number why gone hand then-at is-mine y found-there many)
-
-          pub saw-alone : y.kind ≡ Single
-              → content_of (releasing_at s.instance hand.spot).singles hand.spot.carrier ≡ Some y
-          saw-alone single = subst (λ (a : Actor).
-              content_of (releasing_at a.instance hand.spot).singles hand.spot.carrier ≡ Some y)
-              looks.actor
-              (releasing.released-alone s.config s.trace.now h.config h.trace looks.state
-              looks.reached me number why gone hand then-at is-mine y found-there single)
-
-          pub saw-empty : y.kind ≡ Single → y.blocks ≡ []
-          saw-empty = releasing.released-empty s.config s.trace.now h.config h.trace looks.state
-              looks.reached me number why gone hand then-at is-mine y found-there
-
-          pub saw-mine : y.kind ≡ Single → owner_of y.number ≡ me
-          saw-mine = releasing.released-mine s.config s.trace.now h.config h.trace looks.state
-              looks.reached me number why gone hand then-at is-mine y found-there
-
-        pub saw-has : Did me (Look hand.spot.carrier) (Saw (word.Employed me)) shared new caller
-            then
-            → has_content hand.spot.carrier (employed (releasing_at s.instance hand.spot)) ≡ true
-        saw-has did =
-            let row = Look hand.spot.carrier in
-            let got = Saw (word.Employed me) in
-            let u = in-answered s h row got did in
-            own row got did
-            (λ i. has_content hand.spot.carrier (employed (releasing_at i hand.spot)) ≡ true)
-            (releasing.released-has s.config s.trace.now h.config h.trace u.state u.reached me
             number why gone hand (there row got did (Routed (Looking hand) why gone) now)
             (words.saw-employed me hand.spot.carrier u.state.shared me (sym u.answered)))
 

@@ -16,8 +16,7 @@ use Rattle.ea_machine.specs.Rows.{Settle}
 use Rattle.ea_machine.specs.Shared.{Shared}
 use Rattle.ea_machine.specs.Statistics.{leaving_at}
 use Rattle.ea_shared.specs.Calls.{Caller, IsWanted, WantsRow, caller_of}
-use Rattle.ea_shared.specs.Carriers.{IsCarrier, IsCollecting, IsEmptied, IsFor, IsLeaving}
-use Rattle.ea_shared.specs.Carriers.{SettlesEmptied}
+use Rattle.ea_shared.specs.Carriers.{IsCarrier, IsCollecting, IsFor, IsLeaving}
 use Rattle.ea_sched.specs.declared.state.Scheduler.{Scheduler}
 use Rattle.ea_sched.specs.Acting.{setup_for}
 use Rattle.ea_sched.specs.Steps.{IsReadyAt}
@@ -55,14 +54,6 @@ module _ {stage : Stage Content} (s : Scheduler) {shared : Option Shared} {calle
 
     pub settle-wanted : stage ≡ Routed (Settling x) why gone → IsWanted s.number (Settle x) caller
     settle-wanted now = told-caller (WantsRow s.number (Settle x)) (settle-row now)
-
-    pub settles-emptied : (n : ℕ) → IsEmptied n x → stage ≡ Routed (Settling x) why gone
-        → IfSome caller (SettlesEmptied s.number n)
-    settles-emptied n emptied now = told-caller (SettlesEmptied s.number n) (record {
-      content = x;
-      emptied = emptied;
-      wants = settle-row now;
-    })
 
     pub clear-leaving : stage ≡ Routed (Clearing x) why gone → IfSome caller IsLeaving
     clear-leaving now = told-caller IsLeaving

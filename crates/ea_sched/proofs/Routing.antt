@@ -19,7 +19,7 @@ use Rattle.ea_model.proofs.Rising.{item_at-key}
 use Rattle.ea_laws.proofs.Changed.{released-keeps}
 use Rattle.ea_laws.proofs.Orderly.{changing-found}
 use Rattle.ea_machine.specs.declared.nodes.Named.{Named}
-use Rattle.ea_machine.specs.declared.stages.Route.TheVariants.{Abandoning, Trying}
+use Rattle.ea_machine.specs.declared.stages.Route.TheVariants.{Abandoning}
 use Rattle.ea_machine.specs.declared.tasks.Gone.{Gone}
 use Rattle.ea_machine.specs.declared.tasks.Gone.TheVariants.{Here}
 use Rattle.ea_machine.specs.declared.tasks.Why.{Why}
@@ -205,11 +205,6 @@ module _ (e : Setup) (me : ℕ) (hand : Named) (gone : Gone) (a : Actor) (v : Ow
 
   -- or as who abandoned the carrier
   module _ (g : ℕ) (q : v ≡ word.Pooled i g) where
-    pub looked-pooled : i ≡ me → goes_on (Trying hand v) gone a ≡ looked e me hand gone a v
-    looked-pooled same = ap (λ w. goes_on (Trying hand w) gone a) q
-        ∙ sym (ap (looked e me hand gone a) q
-        ∙ ap (λ b. pooled_by b i g hand gone a) (same-one same))
-
     pub looked-others_pool : (i ≡ me → ⊥) → sent_to hand i gone a ≡ looked e me hand gone a v
     looked-others_pool other = sym (ap (looked e me hand gone a) q
         ∙ ap (λ b. pooled_by b i g hand gone a) (other-one other))

@@ -157,5 +157,3 @@ pub mod Walked
 pub mod PresentCarriers
 pub mod PresentContents
 pub mod PresentPlaces
-pub mod PresentLive
-pub mod LiveBlocks

@@ -1,24 +1,21 @@
 -- Where carriers don't migrate, those that are there are those that the instances employ.
-use Rattle.std.proofs.Common.{◌≡◌, ◌≢◌, ℕ, ◌+◌, true, false, List, [], ◌∷◌, ◌++◌, map}
-use Rattle.std.proofs.Common.{refl, sym, ap, ◌∙◌, subst, arith}
-use Rattle.std.specs.Prelude.{Option, None, Some, All, filter, flat_map, is_some, not}
+use Rattle.std.proofs.Common.{◌≡◌, ◌≢◌, ℕ, true, false, List, [], ◌++◌}
+use Rattle.std.proofs.Common.{refl, sym, ap, ◌∙◌, arith}
+use Rattle.std.specs.Prelude.{Option, None, Some, All, filter, is_some, not}
 use Rattle.std.specs.Option.{option_or}
-use Rattle.std.specs.List.{range_with_len}
 use Rattle.std.proofs.lemmas.Bool.{false≢true}
-use Rattle.std.proofs.lemmas.List.Elements.{All-weaker}
-use Rattle.std.proofs.lemmas.List.Folds.{find-append, flat_map-map}
+use Rattle.std.proofs.lemmas.List.Folds.{find-append}
 use Rattle.ea_model.specs.declared.carriers.OwnCarrier.{OwnCarrier}
 use Rattle.ea_model.specs.declared.carriers.Standing.TheVariants as standing
 use Rattle.ea_model.specs.Content.{Content}
-use Rattle.ea_model.specs.Instance.{Instance, carrier_line, content_of, employed, first_number}
+use Rattle.ea_model.specs.Instance.{Instance, content_of, employed}
 use Rattle.ea_model.specs.Instance.{owner_of}
 use Rattle.ea_model.specs.Instance.{is_used, own_at, own_of}
 use Rattle.ea_model.specs.Keyed.{has_key, merged}
 use Rattle.ea_model.proofs.Merged.{merged-All, merged-first, merged-second}
-use Rattle.ea_model.proofs.NumberedItems.{HasKeyIn, all-items, each-range, flat_map-same}
-use Rattle.ea_model.proofs.NumberedItems.{if_there, in-parts, map-flat_map}
+use Rattle.ea_model.proofs.NumberedItems.{if_there}
 use Rattle.ea_model.proofs.Rising.{item_at-All, item_at-key}
-use Rattle.ea_laws.specs.Kept.{HasNumberIn, IsOwn, IsRising, Stands, number_of, own_number}
+use Rattle.ea_laws.specs.Kept.{IsOwn, IsRising, Stands, number_of, own_number}
 use Rattle.ea_machine.specs.declared.stages.Route.{Route}
 use Rattle.ea_machine.specs.declared.stages.Route.TheVariants.{Looking, Trying, Settling}
 use Rattle.ea_machine.specs.declared.stages.Route.TheVariants.{Abandoning, Sending}
@@ -28,24 +25,21 @@ use Rattle.ea_machine.specs.declared.stages.Stage.TheVariants.{Begin, Routed, Co
 use Rattle.ea_machine.specs.declared.stages.Route.TheVariants.{Clearing, Pushing, Linking}
 use Rattle.ea_machine.specs.declared.stages.Stage.TheVariants.{Searching, Fetching, Creating}
 use Rattle.ea_machine.specs.declared.stages.Stage.TheVariants.{Giving, Taking, Ended, Ready}
-use Rattle.ea_machine.specs.Outcome.{Present, actors_of, line_of, owned_place, place_in, place_of}
-use Rattle.ea_machine.specs.Outcome.{present, present_at, present_if, settling_at}
+use Rattle.ea_machine.specs.Outcome.{Present, owned_place, place_in, place_of}
+use Rattle.ea_machine.specs.Outcome.{present_at, present_if, settling_at}
 use Rattle.ea_machine.specs.Setup.{Setup, is_scheduler, migration}
 use Rattle.ea_machine.specs.State.{State}
 use Rattle.ea_machine.specs.Statistics.{employed_multis, employed_singles, is_single}
 use Rattle.ea_machine.specs.Statistics.{leaving_at, leaving_on}
 use Rattle.ea_machine.specs.Sums.{sum_over}
-use Rattle.ea_sound.specs.Contents.{actor_sum, all_employed, seats}
+use Rattle.ea_sound.specs.Contents.{actor_sum, seats}
 use Rattle.ea_sound.specs.Places.{none}
 use Rattle.ea_sound.specs.Present.{Fits, FitsRoute, Rule}
 use Rattle.ea_sound.specs.Rule.{Standing, numbers_of, own_numbers}
-use Rattle.ea_sound.proofs.Created.{scheduler-number}
 use Rattle.ea_sound.proofs.Employers.{mine, mine-itself, mine-only, not-mine, nothing, nothing-only}
 use Rattle.ea_sound.proofs.KeyedWeights.{sum-item, sum-merged, sum-missing}
 use Rattle.ea_sound.proofs.Numbered.{no_scheduler-beyond, numbered-off, total_at-exact}
-use Rattle.ea_sound.proofs.Plans.{numbered-owner}
 use Rattle.ea_sound.proofs.Printed.{hand-leaves, no_option}
-use Rattle.ea_sound.proofs.SoundRanges.{number-scheduler}
 use Rattle.ea_sound.proofs.Unmoved.{off-acul}
 use Rattle.ea_sound.proofs.Weights.{sum-zero}
 
@@ -79,15 +73,6 @@ found-merged xs ys c once = find-append (has_key number_of c) xs ys ∙ by (cont
 -- a carrier that instance i owns and employs
 abbrev pub at_home : ℕ → Content → Present
 at_home i x = record { content = x; word = standing.Employed; employer = i }
-
-contents-home : (i : ℕ) (xs : List Content) → map (λ p. p.content) (map (at_home i) xs) ≡ xs
-contents-home i [] = refl
-contents-home i (x ∷ xs) = ap (λ ys. x ∷ ys) (contents-home i xs)
-
-lines-home : (i : ℕ) (xs : List Content)
-    → map line_of (map (at_home i) xs) ≡ map (carrier_line i) xs
-lines-home i [] = refl
-lines-home i (x ∷ xs) = ap (λ ls. carrier_line i x ∷ ls) (lines-home i xs)
 
 module _ (e : Setup) (w : State) (rule : Rule e w) (off : migration e ≡ false) where
   not_on : migration e ≡ true → ⊥
@@ -216,62 +201,3 @@ module _ (e : Setup) (w : State) (rule : Rule e w) (off : migration e ≡ false)
     -- none is on its way from it
     pub leaves-nothing : leaving_at a.stage ≡ []
     leaves-nothing = leaves-none i a a.stage (rule.present.fits i)
-
-    pub numbers : All (HasKeyIn number_of (first_number i) 256) (employed j)
-    numbers = subst (λ n. All (HasKeyIn number_of (first_number n) 256) (employed j))
-        standing_at.number
-        (All-weaker (λ x. IsOwn j.own (own_of x))
-        (HasKeyIn number_of (first_number j.number) 256)
-        (λ x own. item_at-All own_number
-        (HasNumberIn (first_number j.number) (first_number j.number + 256)) x.number (own_of x)
-        j.own stands.orderly.kept.numbers own)
-        (employed j) owns)
-
-    -- under its numbers they are all that it employs
-    pub present-scheduler : flat_map (λ c. present_at e w c (place_of e w c))
-        (range_with_len (first_number i) 256) ≡ map (at_home i) (employed j)
-    present-scheduler = all-items number_of (at_home i)
-        (λ c. present_at e w c (place_of e w c)) 256 (first_number i) (employed j)
-        standing_at.order.once numbers
-        (λ c from below. ap (present_at e w c)
-        (place c (numbered-owner i c (scheduler-number e i is).0 from below))
-        ∙ shown c (content_of (employed j) c) (found c))
-
-  -- all carriers that are there, instance by instance
-  pub present-all : present e w
-      ≡ flat_map (λ i. map (at_home i) (employed (w.actors i).instance))
-      (range_with_len 1 e.schedulers)
-  present-all =
-      let shows = λ (c : ℕ). present_at e w c (place_of e w c) in
-      in-parts shows first_number 256 e.schedulers (λ i. omega arith)
-      ∙ flat_map-same (λ i. flat_map shows (range_with_len (first_number i) 256))
-      (λ i. map (at_home i) (employed (w.actors i).instance)) (range_with_len 1 e.schedulers)
-      (each-range e.schedulers _
-      (λ i some most. present-scheduler i (number-scheduler e i (some, most))))
-
-  module _ {B : Type 0} (f : Present → B) (g : Actor → List B)
-      (same : (i : ℕ) → is_scheduler e i ≡ true
-      → map f (map (at_home i) (employed (w.actors i).instance)) ≡ g (w.actors i)) where
-    map-present : map f (present e w) ≡ flat_map g (actors_of e w)
-    map-present =
-        let home = λ (i : ℕ). map (at_home i) (employed (w.actors i).instance) in
-        let seated = range_with_len 1 e.schedulers in
-        ap (map f) present-all
-        ∙ map-flat_map f home seated
-        ∙ flat_map-same (λ i. map f (home i)) (λ i. g (w.actors i)) seated
-        (each-range e.schedulers _ (λ i some most. same i (number-scheduler e i (some, most))))
-        ∙ sym (flat_map-map g w.actors seated)
-
-  -- their contents are those that the schedulers employ
-  pub present-contents : map (λ p. p.content) (present e w) ≡ all_employed (actors_of e w)
-  present-contents = map-present (λ p. p.content) (λ a. employed a.instance)
-      (λ i is. contents-home i (employed (w.actors i).instance))
-
-  -- and their lines are those of carriers with their employers
-  pub present-lines : map line_of (present e w)
-      ≡ flat_map (λ a. map (carrier_line a.instance.number) (employed a.instance)) (actors_of e w)
-  present-lines = map-present line_of
-      (λ a. map (carrier_line a.instance.number) (employed a.instance))
-      (λ i is. let j = (w.actors i).instance in
-      lines-home i (employed j)
-      ∙ ap (λ n. map (carrier_line n) (employed j)) (sym (rule.kept.ranges.instances i is).number))
