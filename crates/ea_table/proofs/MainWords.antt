@@ -1,13 +1,21 @@
 -- The words of the table before the first step, main carrier by main carrier.
-use Rattle.std.proofs.Common.{◌≡◌, ◌≢◌, ℕ, ◌+◌, ◌*◌, ◌<◌, true, List, length, set, slice_index}
-use Rattle.std.proofs.Common.{sym, ap, ◌∙◌, inl, inr, arith}
+use Rattle.std.proofs.Common.{◌≡◌, ◌≢◌, ℕ, ◌+◌, ◌*◌, ◌<◌, ◌≤◌, Bool, true, false, ◌==◌, nat_le}
+use Rattle.std.proofs.Common.{nat_lt, List, length, set, slice_index}
+use Rattle.std.proofs.Common.{refl, sym, ap, ◌∙◌, inl, inr, arith}
+use Rattle.std.specs.Prelude.{◌&&◌}
 use Rattle.std.proofs.lemmas.Bool.{cases_eq}
 use Rattle.std.proofs.lemmas.List.{get_or-set_other, get_or-set_same, length-set}
 use Rattle.ea_model.specs.declared.units.TheConstants.{NUMBERS}
+use Rattle.ea_model.specs.declared.settings.Config.{Config}
+use Rattle.ea_model.specs.declared.settings.Settings.{Settings}
+use Rattle.ea_model.specs.declared.trace.Trace.{Trace}
 use Rattle.ea_model.specs.Instance.{first_number, owner_of}
+use Rattle.ea_model.specs.Settings.{settings_of}
+use Rattle.ea_machine.specs.Machine.{first_place, is_main, place_by}
 use Rattle.ea_machine.specs.Owners.{Employed}
+use Rattle.ea_machine.specs.Setup.{Setup, migration, setup_of}
 use Rattle.ea_shared.specs.Carriers.{employed_if, is_first_upto, main_upto}
-use Rattle.ea_table.specs.Start.{HasOwners}
+use Rattle.ea_table.specs.Start.{AreFirst, HasOwners}
 use Rattle.ea_table.specs.Words.{owner_at, place_code}
 
 -- the main carrier of the next scheduler, and all other carriers
@@ -60,3 +68,34 @@ module _ (n g : ℕ) where
             ∙ has.owners number low high ∙ ap place_code (sym (other-main k number other))
       ];
     }
+
+-- the main carriers of all schedulers are those at the start, where carriers migrate and there are
+-- some
+
+main-asked : (acul mmbcs i n : ℕ) (b : Bool) → acul ≢ 0 → mmbcs ≢ 0 → 1 ≤ i → (nat_le i n && b)
+    ≡ (nat_lt 0 acul && (nat_lt 0 i && nat_le i n && (nat_lt 0 mmbcs && b)))
+main-asked acul mmbcs i n b migrates some from = grind (arith, migrates, some, from)
+
+main-place : (e : Setup) (b : Bool) (i : ℕ) → employed_if b i ≡ place_by e b i
+main-place e true i = refl
+main-place e false i = refl
+
+pub all-mains : (c : Config) (t : Trace) (ws : List ℕ) → (settings_of c t.letter).acul ≢ 0
+    → (settings_of c t.letter).mmbcs ≢ 0
+    → HasOwners c.schedulers t.greatest ws (main_upto c.schedulers) → AreFirst c t ws
+all-mains c t ws migrates some has = record {
+  count = has.count;
+  others = has.others;
+  owners = λ number low high. has.owners number low high ∙ ap place_code (first number);
+} where
+  settings : Settings
+  settings = settings_of c t.letter
+
+  first : (number : ℕ) → main_upto c.schedulers number ≡ first_place (setup_of c t) number
+  first number =
+      let i = owner_of number in
+      ap (λ b. employed_if b i)
+      (main-asked settings.acul settings.mmbcs i c.schedulers (number == first_number i) migrates
+      some (omega arith))
+      ∙ main-place (setup_of c t)
+      (migration (setup_of c t) && is_main (setup_of c t) i number) i
