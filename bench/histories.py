@@ -264,10 +264,7 @@ class History:
         }
 
     def check(self):
-        for me, entries in enumerate(self.sections):
-            for at, entry in enumerate(entries):
-                if entry.place:
-                    self.place(me, at, entry)
+        self.note_places()
         for me in range(len(self.sections)):
             self.follow(me)
         self.order_places()
@@ -279,6 +276,12 @@ class History:
             self.check_infos(me)
         self.check_carriers()
         self.check_totals()
+
+    def note_places(self):
+        for me, entries in enumerate(self.sections):
+            for at, entry in enumerate(entries):
+                if entry.place:
+                    self.place(me, at, entry)
 
     def place(self, me, at, entry):
         """Notes the block that an operation placed or kept."""
@@ -524,6 +527,16 @@ def are_some(fits, sure, maybe):
 class Moved(History):
     """The same of a trace whose carriers migrate: blocks of all schedulers may lie in a carrier, and who frees one tells
     neither whose it was nor in which carrier's queue it was put."""
+
+    def note_places(self):
+        """Blocks that another section placed before may keep their place, so these come when theirs are known."""
+        left = [(me, at, it) for me, entries in enumerate(self.sections) for at, it in enumerate(entries) if it.place]
+        while left:
+            now = [it for it in left if it[2].result != "here" or it[2].operation[1] in self.blocks]
+            demand(now, "a block kept its place that was never placed")
+            for it in now:
+                self.place(*it)
+            left = [it for it in left if it not in now]
 
     def place(self, me, at, entry):
         number, offset, size = entry.place
