@@ -8,7 +8,7 @@ changing no allocation fails under a strategy that looks at all gaps. Good fit r
 blocks in fewer-filled and fewer-changing; under address fit nearly each block would have a carrier, and it has blocks of
 one size in equal-filled and equal-changing. Those in FOLDER/threads end with `threads`, and the same operations by a
 schedule are in FOLDER/schedules; mingled is for carriers of 512 kB, one of them main, and mingled and contended for an
-acul of 60.
+acul of 60. That in FOLDER/generated is for +S 16 and no other flag.
 """
 import itertools
 import os
@@ -23,6 +23,7 @@ MOST_TURNS = 10**8
 MOST_TRIES = 10**7
 TRIES_IN_ALL = 10**8
 GREATEST_NAME = 2**18
+MOST_OPERATIONS = 2**18
 TINY = 100
 SMALL = 3000
 LARGE = 480_000
@@ -276,6 +277,7 @@ def main(folder):
     os.makedirs(f"{folder}/threads", exist_ok=True)
     os.makedirs(f"{folder}/schedules", exist_ok=True)
     os.makedirs(f"{folder}/migrating", exist_ok=True)
+    os.makedirs(f"{folder}/generated", exist_ok=True)
     made = {
         "comments": comments(),
         "long-comment": long_comment(),
@@ -290,6 +292,7 @@ def main(folder):
         "handed-over-16": handed_over(SCHEDULERS, 125, 25),
         "ended-turns": ended_turns(),
         "tries": tries(),
+        "generated/most": f"type H\ngenerate 7 {MOST_OPERATIONS // SCHEDULERS}\nend\n",
         "migrating/searching": searching(SCHEDULERS, 100_000),
         "migrating/staying": mixed(200000, 8, SMALL, 2),
         "strategies/filled": crowded(5600, 5000, 8000, 15000, 0),
