@@ -45,7 +45,9 @@ fn each_scheduler_is_at_its_second_step_while_the_other_is(rt: HostRuntime) -> R
         }
         assert!(rt; words.len() < 1 << 32);
         let config = read_flags(&words)?;
-        let trace = read_trace(alloc, input.as_bytes(), config.schedulers)?;
+        let bytes = input.as_bytes();
+        assert!(rt; bytes.len() < 1 << 31);
+        let trace = read_trace(alloc, bytes, config.schedulers)?;
         assert!(rt; matches!(trace.mode, Mode::Threads));
 
         let meeting = Meeting::new();
