@@ -19,7 +19,8 @@ use Rattle.ea_machine.specs.declared.stages.Stage.{Stage}
 use Rattle.ea_machine.specs.declared.stages.Stage.TheVariants.{Begin, Creating, Ended, Fetching}
 use Rattle.ea_machine.specs.declared.stages.Stage.TheVariants.{Searching}
 use Rattle.ea_machine.specs.Actor.{Actor, Stat}
-use Rattle.ea_machine.specs.Machine.{IsReached, first_instance, first_stage, onward, run, start, step}
+use Rattle.ea_machine.specs.Machine.{IsReached, first_instance, first_stage, onward, run, start}
+use Rattle.ea_machine.specs.Machine.{step}
 use Rattle.ea_machine.specs.Placements.{counted, fits, making, new_carrier_by, saw_by}
 use Rattle.ea_machine.specs.Placements.{searched, searched_by}
 use Rattle.ea_machine.specs.Rows.{Answer, Done, Got, Head, Home, Lost, Passes, Rests, Saw, Won}
