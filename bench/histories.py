@@ -493,8 +493,9 @@ class History:
             demand((carrier.base, carrier.pages) == (regions * me, self.main), f"{text} is not where it was")
         is_away = carrier.standing == "returning"
         demand(is_main or is_away or carrier.allocated, f"{text} has no block")
-        rooms = {it.room for it in sure} or {it.room for it in maybe}
-        demand(rooms <= {carrier.units if carrier.kind == "single" else 0}, f"{text} is {carrier.kind}")
+        room = carrier.units if carrier.kind == "single" else 0
+        demand({it.room for it in sure} <= {room}, f"{text} is {carrier.kind}")
+        maybe = [it for it in maybe if it.room == room]
         demand(are_some(carrier.has, sure, maybe), f"{text} has other blocks")
 
     def check_employer(self, carrier, me, text):
