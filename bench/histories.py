@@ -101,9 +101,9 @@ class Entry:
 @dataclass
 class Block:
     """A block with its place. `room` are the units of its singleblock carrier, and 0 in another. `birth` is the
-    operation of its carrier's owner that placed or kept it, `death` the section and the operation that freed or
-    replaced it. Of a block that another scheduler queued, `gone` is an operation of the owner before which it was
-    released for sure."""
+    operation of its carrier's owner that placed or kept it; where carriers migrate, its section and that operation.
+    `death` has the section and the operation that freed or replaced it. Of a block that another scheduler queued, `gone`
+    is an operation of the owner before which it was released for sure."""
 
     carrier: int
     offset: int
@@ -286,10 +286,8 @@ class History:
     def place(self, me, at, entry):
         """Notes the block that an operation placed or kept."""
         number, offset, size = entry.place
-        demand(owner_of(number) == me, f"'{entry}' placed in a carrier of another scheduler")
-        used = sum(it.owner == me for it in self.blocks.values()) + bool(self.main)
-        demand((number - 1) % NUMBERS <= used, f"'{entry}' placed in a carrier whose number is too large")
         need = need_of(entry.operation[-1])
+        self.check_number(me, entry, number, need)
         sizes, room = (need, need + 2, need + 4), 0
         if entry.result == "here":
             old = self.blocks.get(entry.operation[1])
@@ -300,7 +298,15 @@ class History:
         demand(size in sizes, f"'{entry}' has {size} units and not {sizes}")
         demand(offset == HEADER or not room and offset > HEADER and offset % 2 == 0, f"'{entry}' lies at {offset}")
         demand(max(room, offset + size) <= self.trace.regions * PAGE, f"'{entry}' is larger than its region")
-        self.blocks[entry.operation[-2]] = Block(number, offset, size, room, at)
+        self.blocks[entry.operation[-2]] = Block(number, offset, size, room, self.birth_of(me, at))
+
+    def check_number(self, me, entry, number, _):
+        demand(owner_of(number) == me, f"'{entry}' placed in a carrier of another scheduler")
+        used = sum(it.owner == me for it in self.blocks.values()) + bool(self.main)
+        demand((number - 1) % NUMBERS <= used, f"'{entry}' placed in a carrier whose number is too large")
+
+    def birth_of(self, _, at):
+        return at
 
     def decide(self, old, need):
         """Whether a reallocation may move a block of an own carrier, the sizes that the block may have if it stays, and
@@ -539,22 +545,13 @@ class Moved(History):
                 self.place(*it)
             left = [it for it in left if it not in now]
 
-    def place(self, me, at, entry):
-        number, offset, size = entry.place
+    def check_number(self, me, entry, number, need):
         demand(owner_of(number) < len(self.sections), f"'{entry}' placed in a carrier of nobody")
-        need = need_of(entry.operation[-1])
-        sizes, room = (need, need + 2, need + 4), 0
-        if entry.result == "here":
-            old = self.blocks.get(entry.operation[1])
-            demand(old and old.carrier == number and old.offset == offset, f"'{entry}' did not keep its place")
-            _, sizes, room = self.decide(old, need)
-        elif need > self.threshold:
-            demand(owner_of(number) == me, f"'{entry}' has a carrier of its own, of another scheduler")
-            sizes, room = (need,), pages_of(HEADER + need) * PAGE
-        demand(size in sizes, f"'{entry}' has {size} units and not {sizes}")
-        demand(offset == HEADER or not room and offset > HEADER and offset % 2 == 0, f"'{entry}' lies at {offset}")
-        demand(max(room, offset + size) <= self.trace.regions * PAGE, f"'{entry}' is larger than its region")
-        self.blocks[entry.operation[-2]] = Block(number, offset, size, room, (me, at))
+        is_own = entry.result == "here" or need <= self.threshold or owner_of(number) == me
+        demand(is_own, f"'{entry}' has a carrier of its own, of another scheduler")
+
+    def birth_of(self, me, at):
+        return me, at
 
     def end_block(self, me, at, entry):
         block = self.blocks.get(entry.operation[1])
