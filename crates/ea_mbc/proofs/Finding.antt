@@ -1,0 +1,1 @@
+-- What the units of a carrier say at a block, at a gap and at a boundary.

@@ -1,0 +1,1 @@
+-- The greatest gap, the units of all blocks and their number after a change.

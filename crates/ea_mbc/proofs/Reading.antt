@@ -1,0 +1,1 @@
+-- The blocks that are read off the units of a carrier.
