@@ -1,0 +1,1 @@
+-- Which units and names a carrier's blocks depend on.

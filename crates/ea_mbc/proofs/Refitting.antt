@@ -1,0 +1,1 @@
+-- A carrier's units and names after a block was given another size or name.
