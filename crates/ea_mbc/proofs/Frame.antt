@@ -1,12 +1,13 @@
 -- Which units and names a carrier's blocks depend on.
 use Rattle.std.proofs.Common.{◌≡◌, ◌≢◌, ℕ, ◌+◌, ◌-◌, ◌*◌, ◌/◌, ◌%◌, ◌<◌, ◌≤◌, List, [], ◌∷◌}
-use Rattle.std.proofs.Common.{sym, ◌∙◌, subst, inl, inr, arith}
+use Rattle.std.proofs.Common.{sym, ap, ◌∙◌, subst, inl, inr, arith}
 use Rattle.std.specs.Prelude.{nat_lt, slice_index, Some, ◌==◌, false}
 use Rattle.std.proofs.lemmas.Bool.{cases_lt, cases_eq}
 use Rattle.ea_model.specs.declared.carriers.BlockAt.{BlockAt}
 use Rattle.ea_model.specs.Content.{gap, gaps, gap_at, block_at, Tiled}
-use Rattle.ea_laws.proofs.BlockLists.{gap_at-step, only_gap, block_at-past}
-use Rattle.ea_laws.proofs.Resized.{first_at, none_there}
+use Rattle.ea_model.proofs.Rising.{item_at-key, item_at-All}
+use Rattle.ea_laws.proofs.BlockLists.{offset_of, gap_at-step, only_gap, block_at-past, Tiled-behind}
+use Rattle.ea_laws.proofs.Resized.{first_at, gap_at-first, gap_at-past, none_there}
 use Rattle.ea_laws.proofs.Tiling.{Tiled-allocated}
 use Rattle.ea_mbc.specs.Coding.{GapCoded, Unnamed, Coded, Told}
 
@@ -32,16 +33,20 @@ GapCoded-keeps ws vs end a b same h = λ some. (
 Unnamed-keeps : (ns ms : List ℕ) (a b : ℕ) → SameNames ns ms a b → Unnamed ns a b → Unnamed ms a b
 Unnamed-keeps ns ms a b same h = λ k lo hi. same k (omega arith) hi ∙ h k lo hi
 
--- no name stands from a up to c where none stands from a up to b and from b up to c
-pub Unnamed-join : (ns : List ℕ) (a b c : ℕ) → Unnamed ns a b → Unnamed ns b c → Unnamed ns a c
-Unnamed-join ns a b c first second = λ k lo hi.
-    elim (cases_lt (2 * k) b) [ inl lt ↦ first k lo lt | inr le ↦ second k le hi ]
-
 -- up to the first block or the end no name stands
 pub Unnamed-first : (ws ns : List ℕ) (end at : ℕ) (bs : List BlockAt) → Coded ws ns end at bs
     → Unnamed ns at (first_at end bs)
 Unnamed-first ws ns end at [] c = c.1
 Unnamed-first ws ns end at (b ∷ bs) c = c.1
+
+-- nor after the first unit of a block up to the next block or the end
+pub Unnamed-behind : (ws ns : List ℕ) (end at : ℕ) (b : BlockAt) (bs : List BlockAt)
+    → Coded ws ns end at (b ∷ bs) → Unnamed ns (b.offset + 1) (first_at end bs)
+Unnamed-behind ws ns end at b bs c = λ k lo hi.
+    elim (cases_lt (2 * k) (b.offset + b.size)) [
+      | inl lt ↦ c.3 k lo lt
+      | inr le ↦ Unnamed-first ws ns end (b.offset + b.size) bs c.4 k le hi
+    ]
 
 -- the first block and the gap before it stay as they are, whatever follows
 pub Coded-past : (ws vs ns ms : List ℕ) (end at : ℕ) (b : BlockAt) (bs cs : List BlockAt)
@@ -74,8 +79,8 @@ Coded-keeps ws vs ns ms end at (b ∷ bs) t words names c =
     (λ k lo hi. words k (omega (arith, t.0, t.2)) hi)
     (λ k lo hi. names k (omega (arith, t.0, t.2)) hi) c.4)
 
--- the blocks where `from` is what `at` was, the first of them or the end is at `stop`, and only what
--- its header says of the gap before it may have changed
+-- the blocks where `from` stands for `at`: the first of them, or the end, is at `stop`, and only what
+-- its header says of a gap before it may have changed
 pub Coded-told : (ws vs ns ms : List ℕ) (end at from stop : ℕ) (bs : List BlockAt)
     → Tiled at end bs → first_at end bs ≡ stop → GapCoded vs end from stop → Unnamed ms from stop
     → Told ws vs end stop (nat_lt from stop)
@@ -128,3 +133,27 @@ block_at-even at end offset b (x ∷ bs) t even found =
       | inr n ↦ block_at-even (x.offset + x.size) end offset b bs t.4
           (omega (arith, t.0, t.1.even, t.3)) (sym (block_at-past offset x bs n) ∙ found)
     ]
+
+-- the gap behind a block ends where the next block begins, or at the end
+pub first_behind : (at end offset stop : ℕ) (x b : BlockAt) (bs : List BlockAt)
+    → Tiled at end (x ∷ bs) → x.offset ≡ offset → x ≡ b
+    → stop ≡ offset + b.size + gap_at (gaps at end (x ∷ bs)) (offset + b.size)
+    → first_at end bs ≡ stop
+first_behind at end offset stop x b bs t e same is =
+    let size : x.size ≡ b.size = ap (λ (y : BlockAt). y.size) same in
+    let ends : x.offset + x.size ≡ offset + b.size = omega arith in
+    omega (
+      arith,
+      is,
+      gap_at-first (x.offset + x.size) end bs t.4,
+      gap_at-past at end (offset + b.size) x bs (omega (arith, t.2)),
+      ap (gap_at (gaps (x.offset + x.size) end bs)) ends,
+    )
+
+-- a block begins no earlier than the tiling
+pub block_at-behind : (at end offset : ℕ) (b : BlockAt) (bs : List BlockAt) → Tiled at end bs
+    → block_at bs offset ≡ Some b → at ≤ offset
+block_at-behind at end offset b bs t found =
+    subst (λ n. at ≤ n) (item_at-key offset_of offset b bs found)
+    (item_at-All offset_of (λ (x : BlockAt). at ≤ x.offset) offset b bs (Tiled-behind at end bs t)
+    found)

@@ -105,7 +105,7 @@ one_gap a offset stop n before size behind rest lt b le s e =
           ∙ whole_gap (offset - before) n (before + size + behind) (omega arith) (omega arith));
     }
 
-before_past : (at end offset : ℕ) (b : BlockAt) (bs : List BlockAt) → b.offset ≢ offset
+pub before_past : (at end offset : ℕ) (b : BlockAt) (bs : List BlockAt) → b.offset ≢ offset
     → gap_up_to (gaps at end (b ∷ bs)) offset ≡ gap_up_to (gaps (b.offset + b.size) end bs) offset
 before_past at end offset b bs n = elim
     (gap_up_to-step at b.offset offset (gaps (b.offset + b.size) end bs))
