@@ -23,14 +23,15 @@ SameNames ns ms a b = (k : ℕ) → a ≤ 2 * k + 1 → 2 * k < b → slice_inde
 abbrev pub OtherNames : List ℕ → List ℕ → ℕ → Type 0
 OtherNames ns ms offset = (k : ℕ) → k ≢ offset / 2 → slice_index ms k ≡ slice_index ns k
 
-GapCoded-keeps : (ws vs : List ℕ) (end a b : ℕ) → SameUnits ws vs a b → GapCoded ws end a b
+pub GapCoded-keeps : (ws vs : List ℕ) (end a b : ℕ) → SameUnits ws vs a b → GapCoded ws end a b
     → GapCoded vs end a b
 GapCoded-keeps ws vs end a b same h = λ some. (
   same a (omega arith) some ∙ (h some).0,
   same (b - 1) (omega arith) (omega arith) ∙ (h some).1,
 )
 
-Unnamed-keeps : (ns ms : List ℕ) (a b : ℕ) → SameNames ns ms a b → Unnamed ns a b → Unnamed ms a b
+pub Unnamed-keeps : (ns ms : List ℕ) (a b : ℕ) → SameNames ns ms a b → Unnamed ns a b
+    → Unnamed ms a b
 Unnamed-keeps ns ms a b same h = λ k lo hi. same k (omega arith) hi ∙ h k lo hi
 
 -- up to the first block or the end no name stands
@@ -79,8 +80,8 @@ Coded-keeps ws vs ns ms end at (b ∷ bs) t words names c =
     (λ k lo hi. words k (omega (arith, t.0, t.2)) hi)
     (λ k lo hi. names k (omega (arith, t.0, t.2)) hi) c.4)
 
--- the blocks where `from` stands for `at`: the first of them, or the end, is at `stop`, and only what
--- its header says of a gap before it may have changed
+-- the blocks where `from` stands for `at`: the first of them, or the end, is at `stop`, and only
+-- what its header says of a gap before it may have changed
 pub Coded-told : (ws vs ns ms : List ℕ) (end at from stop : ℕ) (bs : List BlockAt)
     → Tiled at end bs → first_at end bs ≡ stop → GapCoded vs end from stop → Unnamed ms from stop
     → Told ws vs end stop (nat_lt from stop)
