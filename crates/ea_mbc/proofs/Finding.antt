@@ -15,7 +15,8 @@ use Rattle.ea_laws.proofs.Chosen.{gaps-Begins}
 use Rattle.ea_laws.proofs.Candidates.{gaps_Inside}
 use Rattle.ea_laws.proofs.Tiling.{Tiled-allocated}
 use Rattle.ea_mbc.specs.Coding.{GapCoded, BlockCoded, Coded, IsCoded}
-use Rattle.ea_mbc.proofs.Beside.{gap_up_to-step, gap_up_to-first}
+use Rattle.ea_mbc.proofs.Beside.{gap_up_to-first}
+use Rattle.ea_mbc.proofs.Replacing.{before_past}
 
 same_header : (s t : ℕ) (a b c x y z : Bool) → s ≡ t → a ≡ x → b ≡ y → c ≡ z
     → (let h : Header = record { size = s; this_free = a; prev_free = b; last = c } in h)
@@ -97,12 +98,6 @@ lying_more words names end at a before b le h =
       footer = h.footer;
     }
 
-up_to_past : (at end offset : ℕ) (b : BlockAt) (bs : List BlockAt) → b.offset ≢ offset
-    → gap_up_to (gaps at end (b ∷ bs)) offset ≡ gap_up_to (gaps (b.offset + b.size) end bs) offset
-up_to_past at end offset b bs n =
-    elim (gap_up_to-step at b.offset offset (gaps (b.offset + b.size) end bs))
-    [ inl p ↦ absurd (n (sym p.1)) | inr q ↦ q.1 ]
-
 lying : (words names : List ℕ) (end at offset : ℕ) (b : BlockAt) (bs : List BlockAt) → at % 2 ≡ 0
     → Tiled at end bs → Coded words names end at bs → block_at bs offset ≡ Some b
     → Lying words names end at (gap_up_to (gaps at end bs) offset) b
@@ -116,7 +111,7 @@ lying words names end at offset b (x ∷ bs) even t c h =
           (subst (Lying words names end at (x.offset - at)) (same_block offset x b bs e h)
           (lying_here words names end at x bs even t c))
       | inr n ↦
-          subst (λ m. Lying words names end at m b) (sym (up_to_past at end offset x bs n))
+          subst (λ m. Lying words names end at m b) (sym (before_past at end offset x bs n))
           (lying_more words names end at (x.offset + x.size)
           (gap_up_to (gaps (x.offset + x.size) end bs) offset) b (omega (arith, t.0))
           (lying words names end (x.offset + x.size) offset b bs (omega (arith, even, t.0, t.1.even, t.3))
