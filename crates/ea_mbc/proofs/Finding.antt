@@ -1,6 +1,7 @@
 -- What the units of a carrier say where a block or a gap begins.
-use Rattle.std.proofs.Common.{◌≡◌, ◌≢◌, ℕ, ◌+◌, ◌-◌, ◌*◌, ◌/◌, ◌%◌, ◌^◌, ◌<◌, ◌≤◌, Bool, true, false}
-use Rattle.std.proofs.Common.{List, [], ◌∷◌, get_or, refl, sym, ap, ◌∙◌, subst, inl, inr, ◌⊎◌, arith}
+use Rattle.std.proofs.Common.{◌≡◌, ◌≢◌, ℕ, ◌+◌, ◌-◌, ◌*◌, ◌/◌, ◌%◌, ◌^◌, ◌<◌, ◌≤◌, ◌⊎◌, Bool, true}
+use Rattle.std.proofs.Common.{false, List, [], ◌∷◌, get_or, refl, sym, ap, ◌∙◌, subst, inl, inr}
+use Rattle.std.proofs.Common.{arith}
 use Rattle.std.specs.Prelude.{slice_index, nat_lt, ◌==◌, Some, None, IsSome, All}
 use Rattle.std.proofs.lemmas.Bool.{cases_lt, cases_eq}
 use Rattle.ea_model.specs.declared.carriers.BlockAt.{BlockAt}
@@ -114,8 +115,9 @@ lying words names end at offset b (x ∷ bs) even t c h =
           subst (λ m. Lying words names end at m b) (sym (before_past at end offset x bs n))
           (lying_more words names end at (x.offset + x.size)
           (gap_up_to (gaps (x.offset + x.size) end bs) offset) b (omega (arith, t.0))
-          (lying words names end (x.offset + x.size) offset b bs (omega (arith, even, t.0, t.1.even, t.3))
-          t.4 c.4 (sym (block_at-past offset x bs n) ∙ h)))
+          (lying words names end (x.offset + x.size) offset b bs
+          (omega (arith, even, t.0, t.1.even, t.3)) t.4 c.4
+          (sym (block_at-past offset x bs n) ∙ h)))
     ]
 
 there : (words names : List ℕ) (end at : ℕ) (b : BlockAt) (bs : List BlockAt)
@@ -161,8 +163,8 @@ header-of words names end offset b bs t c found h e =
       ap (λ (x : Header). x.prev_free) is,
     )
 
--- the header of a gap or of a block that stands at `stop`, where `free` units are free, in a carrier
--- of `end` units
+-- the header of a gap or of a block that stands at `stop`, where `free` units are free, of `end`
+-- units
 pub record HeaderAt (words : List ℕ) (end stop free : ℕ) (h : Header) : Type 0 where
   pub is : slice_index words stop ≡ code h
   pub least : 6 ≤ h.size
@@ -170,8 +172,8 @@ pub record HeaderAt (words : List ℕ) (end stop free : ℕ) (h : Header) : Type
   pub gap : h.this_free ≡ true → free ≡ h.size
   pub block : h.this_free ≡ false → free ≡ 0
 
--- what stands at `stop`, where a block or a gap ends, or the carrier's header does, and `free` units
--- are free
+-- what stands at `stop`, where a block, a gap or the carrier's header ends; there `free` units are
+-- free
 pub record Behind (words : List ℕ) (end stop free : ℕ) : Type 0 where
   pub within : stop + free ≤ end
   pub header : stop < end → (h : Header) × HeaderAt words end stop free h

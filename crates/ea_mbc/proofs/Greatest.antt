@@ -10,8 +10,8 @@ use Rattle.ea_model.specs.declared.carriers.Gap.{Gap}
 use Rattle.ea_model.specs.Content.{Content, gap, gaps_of, gap_at, gap_before, gap_behind}
 use Rattle.ea_model.specs.Content.{largest, allocated, inserted, block_at, Tiled}
 use Rattle.ea_model.specs.Keyed.{without}
-use Rattle.ea_model.proofs.Rising.{entered_here, entered_past, without_here, without_past, length-entered}
-use Rattle.ea_model.proofs.Rising.{change}
+use Rattle.ea_model.proofs.Rising.{entered_here, entered_past, length-entered, without_here}
+use Rattle.ea_model.proofs.Rising.{without_past, change}
 use Rattle.ea_laws.proofs.BlockLists.{offset_of, without-behind, block_at-past}
 use Rattle.ea_laws.proofs.Resized.{with_size, with_block, none_there, same_block}
 use Rattle.ea_mbc.specs.Gaps.{Replaced, GapTaken, GapsJoined, GapResized}

@@ -1,5 +1,6 @@
 -- Headers one after another, of gaps and blocks.
-use Rattle.std.proofs.Common.{◌≡◌, ℕ, ◌+◌, ◌-◌, ◌/◌, ◌^◌, ◌<◌, ◌≤◌, Bool, true, false, List, [], ◌∷◌, ◌++◌}
+use Rattle.std.proofs.Common.{◌≡◌, ℕ, ◌+◌, ◌-◌, ◌/◌, ◌^◌, ◌<◌, ◌≤◌, Bool, true, false, List, []}
+use Rattle.std.proofs.Common.{◌∷◌, ◌++◌}
 use Rattle.std.proofs.Common.{append-nil, refl, sym, ap, ◌∙◌, subst, inl, inr, arith}
 use Rattle.std.specs.Prelude.{slice_index, if◌then◌else◌, nat_lt, ◌==◌}
 use Rattle.std.proofs.lemmas.Bool.{cases_lt}
@@ -12,8 +13,8 @@ use Rattle.ea_laws.proofs.Tiling.{Tiled-allocated}
 use Rattle.ea_mbc.specs.Coding.{GapCoded, BlockCoded, Coded}
 use Rattle.ea_mbc.proofs.Finding.{code-injective, code-small}
 
--- header by header from `at` on, where a block or a gap ends or the carrier's header does, the units
--- are gaps and these blocks
+-- header by header from `at` on, where a block, a gap or the carrier's header ends, the units are
+-- gaps and these blocks
 abbrev pub Headed : List ℕ → List ℕ → ℕ → ℕ → List BlockAt → Type 0
 Headed words names end at [] = GapCoded words end at end
 Headed words names end at (b ∷ bs) = GapCoded words end at b.offset × (prev : Bool)
