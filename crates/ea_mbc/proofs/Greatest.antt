@@ -11,8 +11,9 @@ use Rattle.ea_model.specs.Content.{Content, gap, gaps_of, gap_at, gap_before, ga
 use Rattle.ea_model.specs.Content.{largest, allocated, inserted, block_at, Tiled}
 use Rattle.ea_model.specs.Keyed.{without}
 use Rattle.ea_model.proofs.Rising.{entered_here, entered_past, length-entered, without_here}
-use Rattle.ea_model.proofs.Rising.{without_past, change}
-use Rattle.ea_laws.proofs.BlockLists.{offset_of, without-behind, block_at-past}
+use Rattle.ea_model.proofs.Rising.{without_past, others, change, changed_here, changed_past}
+use Rattle.ea_model.proofs.Rising.{changed_none}
+use Rattle.ea_laws.proofs.BlockLists.{offset_of, without-behind, block_at-past, Tiled-rising}
 use Rattle.ea_laws.proofs.Resized.{with_size, with_block, none_there, same_block}
 use Rattle.ea_mbc.specs.Gaps.{Replaced, GapTaken, GapsJoined, GapResized}
 
@@ -162,6 +163,33 @@ length-without at end offset b (x ∷ bs) t h =
         arith,
         ap length (without_past offset_of offset x bs n),
         length-without (x.offset + x.size) end offset b bs t.4
+            (sym (block_at-past offset x bs n) ∙ h),
+      )
+    ]
+
+-- with a block of another size
+pub allocated-with_block : (at end offset size name : ℕ) (b : BlockAt) (bs : List BlockAt)
+    → Tiled at end bs → block_at bs offset ≡ Some b
+    → allocated (with_block offset size name bs) + b.size ≡ allocated bs + size
+allocated-with_block at end offset size name b [] t h = absurd (none_there offset b h)
+allocated-with_block at end offset size name b (x ∷ bs) t h =
+    elim (cases_eq x.offset offset) [
+      | inl e ↦ omega (
+        arith,
+        ap allocated (changed_here offset_of (with_size size name) offset x bs e),
+        ap (λ ys. allocated (with_size size name x ∷ ys))
+            (changed_none offset_of (with_size size name) offset bs
+            (others offset_of offset x bs (Tiled-rising at end (x ∷ bs) t) e)),
+        ap (λ (y : BlockAt). y.size) (same_block offset x b bs e h),
+        units_cons x bs,
+        units_cons (with_size size name x) bs,
+      )
+      | inr n ↦ omega (
+        arith,
+        ap allocated (changed_past offset_of (with_size size name) offset x bs n),
+        units_cons x bs,
+        units_cons x (with_block offset size name bs),
+        allocated-with_block (x.offset + x.size) end offset size name b bs t.4
             (sym (block_at-past offset x bs n) ∙ h),
       )
     ]
