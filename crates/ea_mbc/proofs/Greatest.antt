@@ -17,7 +17,7 @@ use Rattle.ea_laws.proofs.BlockLists.{offset_of, without-behind, block_at-past, 
 use Rattle.ea_laws.proofs.Resized.{with_size, with_block, none_there, same_block}
 use Rattle.ea_mbc.specs.Gaps.{Replaced, GapTaken, GapsJoined, GapResized}
 
-largest-append : (xs ys : List Gap) → largest (xs ++ ys) ≡ max (largest xs) (largest ys)
+pub largest-append : (xs ys : List Gap) → largest (xs ++ ys) ≡ max (largest xs) (largest ys)
 largest-append [] ys = omega arith
 largest-append (x ∷ xs) ys = omega (arith, largest-append xs ys)
 
