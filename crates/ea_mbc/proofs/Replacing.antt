@@ -8,14 +8,14 @@ use Rattle.ea_model.specs.declared.carriers.Gap.{Gap}
 use Rattle.ea_model.specs.Content.{Content, gap, gaps, gaps_of, gap_at, gap_up_to}
 use Rattle.ea_model.specs.Content.{gap_before, gap_behind, block_at, end_of, inserted, Tiled}
 use Rattle.ea_mbc.specs.Gaps.{Replaced, GapTaken, GapsJoined}
-use Rattle.ea_laws.proofs.BlockLists.{offset_of, gap_at-step, only_gap}
+use Rattle.ea_laws.proofs.BlockLists.{offset_of, gap_at-step, gap_at-behind, only_gap}
 use Rattle.ea_laws.proofs.BlockLists.{without-behind, block_at-past}
-use Rattle.ea_mbc.proofs.Reaching.{gap_at-next}
 use Rattle.ea_model.specs.Keyed.{without}
 use Rattle.ea_model.proofs.Rising.{entered_here, entered_past, without_here, without_past}
+use Rattle.ea_model.proofs.Rising.{item_at-key}
 use Rattle.ea_laws.proofs.Resized.{first_at, behind_first, gaps-first, gap_at-first}
 use Rattle.ea_laws.proofs.Resized.{gap_at-past, none_there, same_block, end_of-block, regroup}
-use Rattle.ea_mbc.proofs.Beside.{gap_up_to-step, gap_up_to-first, block_at-Lies}
+use Rattle.ea_mbc.proofs.Beside.{gap_up_to-step, gap_up_to-first, before-within}
 use Rattle.ea_laws.proofs.Chosen.{gap_some, gap_none}
 
 -- more gaps before the others
@@ -80,9 +80,9 @@ inserted-Replaced at end g x (b ∷ bs) t e some =
           (sym (entered_here offset_of x b bs (omega arith)))
           (front_taken at b.offset x.offset x.size g rest p.0 p.1 (e ∙ p.2))
       | inr q ↦
-          let reach = gap_at-next (b.offset + b.size) end x.offset bs t.4 (omega arith) in
+          let reach = gap_at-behind (b.offset + b.size) end x.offset bs t.4 (omega arith) in
           subst (λ ys. Taken (gap at b.offset ++ rest) (gaps at end ys) x.offset x.size g)
-          (sym (entered_past offset_of x b bs (omega (arith, reach.behind))))
+          (sym (entered_past offset_of x b bs (omega (arith, reach))))
           (Replaced-more (gap at b.offset) rest (gaps (b.offset + b.size) end (inserted x bs)) _ _
           (inserted-Replaced (b.offset + b.size) end g x bs t.4 (e ∙ q) some))
     ]
@@ -105,7 +105,7 @@ one_gap a offset stop n before size behind rest lt b le s e =
           ∙ whole_gap (offset - before) n (before + size + behind) (omega arith) (omega arith));
     }
 
-before_past : (at end offset : ℕ) (b : BlockAt) (bs : List BlockAt) → b.offset ≢ offset
+pub before_past : (at end offset : ℕ) (b : BlockAt) (bs : List BlockAt) → b.offset ≢ offset
     → gap_up_to (gaps at end (b ∷ bs)) offset ≡ gap_up_to (gaps (b.offset + b.size) end bs) offset
 before_past at end offset b bs n = elim
     (gap_up_to-step at b.offset offset (gaps (b.offset + b.size) end bs))
@@ -153,14 +153,14 @@ released-Replaced at end offset before behind b (x ∷ bs) t h p q =
           p q
       | inr n ↦
           let found = sym (block_at-past offset x bs n) ∙ h in
-          let lies = block_at-Lies (x.offset + x.size) end offset b bs t.4 found in
+          let room = before-within (x.offset + x.size) end offset b bs t.4 found in
           subst (λ ys. Joined (gaps at end (x ∷ bs)) (gaps at end ys) offset before b.size behind)
           (sym (without_past offset_of offset x bs n))
           (Replaced-more (gap at x.offset) (gaps (x.offset + x.size) end bs)
           (gaps (x.offset + x.size) end (without offset_of offset bs)) _ _
           (released-Replaced (x.offset + x.size) end offset before behind b bs t.4 found (p
           ∙ before_past at end offset x bs n) (q
-          ∙ gap_at-past at end (offset + b.size) x bs (omega (arith, lies.behind)))))
+          ∙ gap_at-past at end (offset + b.size) x bs (omega (arith, room)))))
     ]
 
 -- the same of a whole carrier, whose content is known as `now`
@@ -179,9 +179,9 @@ pub released-GapsJoined : (here now : Content) (offset : ℕ) (b : BlockAt) (cs 
     → cs ≡ without offset_of offset here.blocks
     → GapsJoined now (record here { blocks = cs }) offset b.size
 released-GapsJoined here now offset b cs same t found e =
-    let lies = block_at-Lies 8 here.units offset b here.blocks t found in
+    let begins = item_at-key offset_of offset b here.blocks found in
     let ends : end_of here.blocks offset ≡ offset + b.size = end_of-block offset b here.blocks found
-    ∙ ap (λ n. n + b.size) lies.begins in
+    ∙ ap (λ n. n + b.size) begins in
     subst (λ m. GapsJoined m (record here { blocks = cs }) offset b.size) same
     (subst (λ gs. Joined (gaps_of here) gs offset (gap_before here offset) b.size
     (gap_behind here offset)) (sym (ap (gaps 8 here.units) e))

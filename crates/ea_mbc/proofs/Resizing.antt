@@ -1,44 +1,14 @@
 -- A block that is given another size or name at its index.
-use Rattle.std.proofs.Common.{◌≡◌, ◌≢◌, ℕ, ◌+◌, ◌%◌, ◌<◌, ◌≤◌, List, length}
-use Rattle.std.proofs.Common.{get_or, set, refl, sym, ap, ◌∙◌, subst, arith}
-use Rattle.std.specs.Prelude.{Some, IsSome, AllPairs}
-use Rattle.std.specs.List.{position_or_len}
+use Rattle.std.proofs.Common.{◌≡◌, ◌≢◌, ℕ, ◌+◌, ◌%◌, ◌<◌, ◌≤◌, List}
+use Rattle.std.proofs.Common.{refl, sym, ap, ◌∙◌, subst, arith}
+use Rattle.std.specs.Prelude.{Some, IsSome}
 use Rattle.ea_model.specs.declared.carriers.BlockAt.{BlockAt}
 use Rattle.ea_model.specs.Content.{Content, gaps_of, gap_behind, block_at}
 use Rattle.ea_model.specs.Content.{size_of, taken_of, resized, Tiled}
-use Rattle.ea_model.specs.Keyed.{has_key, IsBelow}
 use Rattle.ea_mbc.specs.Gaps.{room_at, GapResized}
 use Rattle.ea_model.proofs.Options.{some_value}
-use Rattle.ea_model.proofs.Rising.{set-changed, item_at-place}
-use Rattle.ea_laws.proofs.BlockLists.{offset_of}
-use Rattle.ea_laws.proofs.Resized.{with_size, with_block, shrunk-tiled, grown-tiled, renamed-tiled}
+use Rattle.ea_laws.proofs.Resized.{with_block, shrunk-tiled, grown-tiled, renamed-tiled}
 use Rattle.ea_laws.proofs.Resized.{resized-gaps, resized-same_gaps, resized-begins, resized-others}
-
--- a write at the index of the block is the change of that block
-pub set-with_block : (offset size name i : ℕ) (d x : BlockAt) (bs : List BlockAt)
-    → AllPairs (IsBelow offset_of) bs → i ≡ position_or_len (has_key offset_of offset) bs
-    → i < length bs → x ≡ with_size size name (get_or bs i d)
-    → set bs i x ≡ with_block offset size name bs
-set-with_block offset size name i d x bs rising at within is =
-    ap (set bs i) is ∙ ap (λ k. set bs k (with_size size name (get_or bs k d))) at
-    ∙ set-changed offset_of (with_size size name) offset d bs rising
-    (subst (λ k. k < length bs) at within)
-
--- and so is a write of another name into it
-pub set-renamed : (offset name i : ℕ) (b : BlockAt) (bs : List BlockAt)
-    → AllPairs (IsBelow offset_of) bs → i ≡ position_or_len (has_key offset_of offset) bs
-    → i < length bs → b ≡ get_or bs i b
-    → set bs i (record { name = name; offset = b.offset; size = b.size })
-    ≡ with_block offset (size_of (block_at bs offset)) name bs
-set-renamed offset name i b bs rising at within is =
-    let there : block_at bs offset ≡ Some (get_or bs i b) = subst
-    (λ k. block_at bs offset ≡ Some (get_or bs k b)) (sym at)
-    (item_at-place offset_of offset bs b (subst (λ k. k < length bs) at within)) in
-    set-with_block offset (size_of (block_at bs offset)) name i b
-    (record { name = name; offset = b.offset; size = b.size }) bs rising at within
-    (ap (λ (x : BlockAt). record { name = name; offset = x.offset; size = x.size }) is
-    ∙ ap (λ n. record { name = name; offset = (get_or bs i b).offset; size = n })
-    (sym (ap size_of there)))
 
 -- new is old where the block at the offset has that many units and this name: the other blocks are
 -- as they were, and so are the gaps but for the one behind it

@@ -1,2 +1,5 @@
+pub mod Coding
 pub mod Gaps
+pub mod Layout
+pub mod Tagged
 pub mod Walks

@@ -1,8 +1,7 @@
--- What the walks over the blocks look for.
-use Rattle.std.specs.Prelude.{ℕ, if◌then◌else◌, nat_lt, List, [], ◌∷◌}
-use Rattle.ea_model.specs.declared.carriers.BlockAt.{BlockAt}
+-- What a walk over the headers of a carrier finds.
+use Rattle.std.specs.Prelude.{ℕ, if◌then◌else◌}
+use Rattle.ea_tags.specs.declared.header.Header.{Header}
 
--- where the first block after the offset begins, or the end
-abbrev pub next_of : ℕ → ℕ → List BlockAt → ℕ
-next_of end offset [] = end
-next_of end offset (b ∷ bs) = if nat_lt offset b.offset then b.offset else next_of end offset bs
+-- the free units that a header stands for
+abbrev pub free_of : Header → ℕ
+free_of h = if h.this_free then h.size else 0

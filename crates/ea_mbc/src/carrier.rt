@@ -1,8 +1,7 @@
 //! The carrier and its calls.
 ghost use Rattle.std.specs.Prelude.{◌≡◌, ◌≢◌, ℕ, ◌+◌, ◌%◌, ◌<◌, ◌≤◌, ◌↔◌, [], All};
 ghost use Rattle.std.specs.Prelude.{Some, None, IsTrue, IsSome, IsNone, IfSome};
-ghost use Rattle.std.specs.Prelude.{OnOk, OnErr, IfOk, length, option_map};
-ghost use Rattle.std.specs.Bool.{OnTrue, OnFalse};
+ghost use Rattle.std.specs.Prelude.{IfOk, length, option_map};
 ghost use Rattle.ea_model.specs.declared.carriers.Kind.TheVariants.{Multi};
 ghost use Rattle.ea_model.specs.declared.units.TheConstants.{HEADER_UNITS, MAX_PAGES, MIN_BLOCK};
 ghost use Rattle.ea_model.specs.Content.{gaps_of, gap_at, gap_before, gap_behind, block_at};
@@ -11,13 +10,14 @@ ghost use Rattle.ea_model.specs.Content.{resized, allocated, largest, free_units
 ghost use Rattle.ea_model.specs.Choice.{before, fitting, choice, IsFirst};
 ghost use Rattle.ea_model.specs.Instance.{created_content};
 ghost use Rattle.ea_mbc.specs.Gaps.{room_at, GapTaken, GapsJoined, GapResized};
+ghost use Rattle.ea_mbc.specs.Tagged.{BlockTagged, GapTagged};
 
-use crate::walks::{
-    allocated_units, best_gap, count_of, free_before, free_behind, gap_from, header_fits,
-    largest_gap, resize, room_from, taken,
+use crate::choosing::taken;
+use crate::units::CarrierUnits;
+use ea_model::{
+    Block, BlockAt, Carried, CarrierPlan, Gap, HEADER_UNITS, Inner, OutOfMemory, PAGE_UNITS,
 };
-use ea_model::keyed::{enter, index_of, item_of, take_out};
-use ea_model::{Block, BlockAt, Carried, CarrierPlan, Gap, Inner, OutOfMemory, PAGE_UNITS};
+use ea_tags::UnitArray;
 use std::alloc::Global;
 use std::marker::Model;
 
@@ -64,14 +64,16 @@ pub struct Mbc {
     owner: u32,
     base: u32,
     birth: u32,
-    units: u32,
-    blocks: Vec<BlockAt>,
+    units: CarrierUnits,
+    largest: u32,
+    allocated: u32,
+    count: u32,
 }
 
 impl Model for Mbc {
     ghost use Rattle.ea_model.specs.declared.carriers.Kind.TheVariants.{Multi};
-    ghost use Rattle.ea_model.specs.declared.units.TheConstants.{HEADER_UNITS};
-    ghost use Rattle.ea_model.specs.Content.{Content, Tiled};
+    ghost use Rattle.ea_model.specs.Content.{Content};
+    ghost use Rattle.ea_mbc.specs.Layout.{HasFigures};
 
     ghost Value = { Content };
 
@@ -80,12 +82,12 @@ impl Model for Mbc {
       owner = m.owner;
       base = m.base;
       birth = m.birth;
-      units = m.units;
+      units = m.units.end;
       kind = Multi;
-      blocks = m.blocks.items;
+      blocks = m.units.blocks;
     } };
 
-    ghost invariant = { λ m. Tiled HEADER_UNITS m.units m.blocks.items };
+    ghost invariant = { λ m. HasFigures m.units m.largest m.allocated m.count };
 }
 
 impl Carried for Mbc {
@@ -98,13 +100,17 @@ impl Mbc {
         requires { (1 ≤ plan.pages) × (plan.pages ≤ MAX_PAGES) }
         ensures { IfOk result (λ m. m ≡ created_content owner Multi plan) }
     {
+        let end = plan.pages * PAGE_UNITS;
+        let units = CarrierUnits::new(alloc, end)?;
         Ok(Mbc {
             number: plan.number,
             owner,
             base: plan.base,
             birth: plan.birth,
-            units: plan.pages * PAGE_UNITS,
-            blocks: Vec::new(alloc),
+            units,
+            largest: end - HEADER_UNITS,
+            allocated: 0,
+            count: 0,
         })
     }
 
@@ -114,7 +120,7 @@ impl Mbc {
         ensures header { HEADER_UNITS ≤ self.now.units }
         ensures tiled { Tiled HEADER_UNITS self.now.units self.now.blocks }
     {
-        header_fits(self.units, &self.blocks);
+        self.units.laid_out();
     }
 
     /// The gap that is chosen for `need` units, or None where no gap has that many.
@@ -128,71 +134,79 @@ impl Mbc {
         ensures within { IfSome result (λ g. g.offset + g.size ≤ self.now.units) }
         ensures first { IfSome result (IsFirst (before inner) (fitting need (gaps_of self.now))) }
     {
-        best_gap(inner, need, self.units, &self.blocks)
+        self.units.best_gap(inner, need)
     }
 
     /// Puts a block at the front of a gap of its own. It has `need` units, or the whole gap where
-    /// fewer than 6 units would be left of it. Where there is no memory, nothing changes.
-    pub fn place(&mut self, gap: Gap, need: u32, name: u32) -> Result<Placed, OutOfMemory>
+    /// fewer than 6 units would be left of it. It takes no memory.
+    pub fn place(&mut self, gap: Gap, need: u32, name: u32) -> Placed
         requires gap { gap_at (gaps_of self.old) gap.offset ≡ gap.size }
         requires fits { need ≤ gap.size }
         requires even { need % 2 ≡ 0 }
         requires least { MIN_BLOCK ≤ need }
-        ensures size { IfOk result (λ p. p.size ≡ taken_of gap.size need) }
-        ensures largest { IfOk result (λ p. p.largest ≡ largest (gaps_of self.new)) }
-        ensures ok { OnOk result (self.new ≡ placed self.old gap.offset need name) }
-        ensures err { OnErr result (self.new ≡ self.old) }
+        ensures size { result.size ≡ taken_of gap.size need }
+        ensures largest { result.largest ≡ largest (gaps_of self.new) }
+        ensures placed { self.new ≡ placed self.old gap.offset need name }
 
         // No block began at the offset, one begins there now, and the others are as before.
         ensures behind_header { HEADER_UNITS ≤ gap.offset }
         ensures fresh { block_at self.old.blocks gap.offset ≡ None }
-        ensures begins { IfOk result (λ p. block_at self.new.blocks gap.offset
-            ≡ Some (record { name = name; offset = gap.offset; size = p.size })) }
+        ensures begins { block_at self.new.blocks gap.offset
+            ≡ Some (record { name = name; offset = gap.offset; size = result.size }) }
         ensures others { (at : ℕ) → at ≢ gap.offset →
             block_at self.new.blocks at ≡ block_at self.old.blocks at }
 
         // Of the gaps only that one changes: what the block leaves of it is a gap, if it leaves
         // any.
-        ensures gap_taken { IfOk result (λ p. GapTaken self.old self.new gap.offset p.size) }
+        ensures gap_taken { GapTaken self.old self.new gap.offset result.size }
     {
         let size = taken(gap.size, need);
         let offset = gap.offset;
-        enter(BlockAt { name, offset, size }, &mut self.blocks)?;
-        let largest = largest_gap(self.units, &self.blocks);
-        Ok(Placed { size, largest })
+        self.units.enter(BlockAt { name, offset, size }, gap.size);
+        self.allocated += size;
+        self.count += 1;
+        self.largest = self.units.largest_after(gap.size, self.largest);
+        Placed {
+            size,
+            largest: self.largest,
+        }
     }
 
     /// Takes out the block at `offset`, whose units are free from then on, and answers it with the
-    /// gaps that it joins. Where there is no memory, nothing changes.
-    pub fn release(&mut self, offset: u32) -> Result<Freed, OutOfMemory>
+    /// gaps that it joins. It takes no memory.
+    pub fn release(&mut self, offset: u32) -> Freed
         requires { IsSome (block_at self.old.blocks offset) }
-        ensures size { IfOk result (λ f.
-            option_map (λ b. b.size) (block_at self.old.blocks offset) ≡ Some f.size) }
-        ensures gaps { IfOk result (λ f.
-            (f.before ≡ gap_before self.old offset) × (f.after ≡ gap_behind self.old offset)) }
-        ensures largest { IfOk result (λ f. f.largest ≡ largest (gaps_of self.new)) }
-        ensures ok { OnOk result (self.new ≡ released self.old offset) }
-        ensures err { OnErr result (self.new ≡ self.old) }
+        ensures size { option_map (λ b. b.size) (block_at self.old.blocks offset)
+            ≡ Some result.size }
+        ensures gaps { (result.before ≡ gap_before self.old offset)
+            × (result.after ≡ gap_behind self.old offset) }
+        ensures largest { result.largest ≡ largest (gaps_of self.new) }
+        ensures released { self.new ≡ released self.old offset }
 
         // No block begins at the offset now, and the others are as before.
-        ensures gone { OnOk result (block_at self.new.blocks offset ≡ None) }
+        ensures gone { block_at self.new.blocks offset ≡ None }
         ensures others { (at : ℕ) → at ≢ offset →
             block_at self.new.blocks at ≡ block_at self.old.blocks at }
 
         // Of the gaps only those directly before and after the block change: with it they are one
         // gap.
-        ensures gaps_joined { IfOk result (λ f. GapsJoined self.old self.new offset f.size) }
+        ensures gaps_joined { GapsJoined self.old self.new offset result.size }
     {
-        let before = free_before(self.units, &self.blocks, offset);
-        let after = free_behind(self.units, &self.blocks, offset);
-        let size = take_out(offset, &mut self.blocks).size;
-        let largest = largest_gap(self.units, &self.blocks);
-        Ok(Freed {
+        let before = self.units.gap_before(offset);
+        let after = self.units.gap_behind(offset);
+        let size = self.units.size(offset);
+        let start = offset - before;
+        let stop = offset + size + after;
+        self.units.leave(offset, start, stop);
+        self.allocated -= size;
+        self.count -= 1;
+        self.largest = self.largest.max(stop - start);
+        Freed {
             before,
             size,
             after,
-            largest,
-        })
+            largest: self.largest,
+        }
     }
 
     /// The block at `offset` has `need` units and this name from now on. What it gives back, at
@@ -218,14 +232,18 @@ impl Mbc {
         ensures gap_resized { GapResized self.old self.new offset
             (size_of (block_at self.old.blocks offset)) need }
     {
-        let after = self.gap_behind(offset);
-        let was = self.room(offset) - after;
-        resize(offset, need, name, &mut self.blocks);
+        let was = self.units.size(offset);
+        let after = self.units.gap_behind(offset);
+        let stop = offset + was + after;
+        let size = need;
+        self.units.refit(BlockAt { name, offset, size }, stop);
+        self.allocated = self.allocated - was + size;
+        self.largest = self.largest.max(stop - (offset + size));
         Resized {
             was,
             after,
-            size: need,
-            largest: largest_gap(self.units, &self.blocks),
+            size,
+            largest: self.largest,
         }
     }
 
@@ -255,27 +273,23 @@ impl Mbc {
         ensures gap_resized { IfSome result
             (λ r. GapResized self.old self.new offset r.was r.size) }
     {
-        let room = self.room(offset);
+        let was = self.units.size(offset);
+        let after = self.units.gap_behind(offset);
+        let room = was + after;
         if room < need {
             return None;
         }
-        let after = self.gap_behind(offset);
         let size = taken(room, need);
-        resize(offset, size, name, &mut self.blocks);
+        let stop = offset + room;
+        self.units.refit(BlockAt { name, offset, size }, stop);
+        self.allocated = self.allocated - was + size;
+        self.largest = self.units.largest_after(after, self.largest);
         Some(Resized {
-            was: room - after,
+            was,
             after,
             size,
-            largest: largest_gap(self.units, &self.blocks),
+            largest: self.largest,
         })
-    }
-
-    /// The units of the block at `offset` and of the gap directly after it.
-    fn room(&self, offset: u32) -> u32
-        requires { IsSome (block_at self.now.blocks offset) }
-        ensures { result ≡ room_at self.now offset }
-    {
-        room_from(self.units, &self.blocks, offset)
     }
 
     /// The block at `offset` has this name from now on. Answers its units. It takes no memory.
@@ -295,9 +309,8 @@ impl Mbc {
             block_at self.new.blocks at ≡ block_at self.old.blocks at }
         ensures gaps { gaps_of self.new ≡ gaps_of self.old }
     {
-        let index = index_of(offset, &self.blocks);
-        let size = self.blocks[index].size;
-        self.blocks[index].name = name;
+        let size = self.units.size(offset);
+        self.units.rename(offset, name);
         size
     }
 
@@ -305,7 +318,7 @@ impl Mbc {
     pub fn block_at(&self, offset: u32) -> Option<Block>
         ensures { result ≡ option_map named (block_at self.now.blocks offset) }
     {
-        let block = item_of(offset, &self.blocks)?;
+        let block = self.units.block_at(offset)?;
         Some(Block {
             name: block.name,
             size: block.size,
@@ -317,7 +330,7 @@ impl Mbc {
         requires { 0 < gap_at (gaps_of self.now) offset }
         ensures { result ≡ gap_at (gaps_of self.now) offset }
     {
-        gap_from(self.units, &self.blocks, offset)
+        self.units.gap_at(offset)
     }
 
     /// The units of the gap directly after the block that begins at `offset`, 0 where there is
@@ -326,7 +339,7 @@ impl Mbc {
         requires { IsSome (block_at self.now.blocks offset) }
         ensures { result ≡ gap_behind self.now offset }
     {
-        free_behind(self.units, &self.blocks, offset)
+        self.units.gap_behind(offset)
     }
 
     /// The units of the gap directly before the block that begins at `offset`, 0 where there is
@@ -335,14 +348,14 @@ impl Mbc {
         requires { IsSome (block_at self.now.blocks offset) }
         ensures { result ≡ gap_before self.now offset }
     {
-        free_before(self.units, &self.blocks, offset)
+        self.units.gap_before(offset)
     }
 
     /// The units of its largest gap, or 0.
     pub fn largest(&self) -> u32
         ensures { result ≡ largest (gaps_of self.now) }
     {
-        largest_gap(self.units, &self.blocks)
+        self.largest
     }
 
     /// The units of its blocks. Blocks, gaps and header are the whole carrier.
@@ -350,28 +363,39 @@ impl Mbc {
         ensures blocks { result ≡ allocated self.now.blocks }
         ensures sum { result + free_units (gaps_of self.now) + HEADER_UNITS ≡ self.now.units }
     {
-        allocated_units(self.units, &self.blocks)
+        self.allocated
     }
 
     /// How many blocks it has.
     pub fn len(&self) -> u32
         ensures { result ≡ length self.now.blocks }
     {
-        count_of(self.units, &self.blocks)
+        self.count
     }
 
     /// Whether it has no blocks.
     pub fn is_empty(&self) -> bool
         ensures { IsTrue result ↔ (self.now.blocks ≡ []) }
     {
-        self.blocks.is_empty()
+        self.count == 0
     }
 
     /// All its units, its header included.
     pub fn units(&self) -> u32
         ensures { result ≡ self.now.units }
     {
-        self.units
+        self.units.end()
+    }
+
+    /// The words of its units. The first unit of each block and of each gap is its header, and the
+    /// last unit of each gap its size.
+    pub fn tags(&self) -> &UnitArray
+        ensures as_many { length result.now ≡ self.now.units }
+        ensures blocks { All (BlockTagged result.now self.now.units (gaps_of self.now))
+            self.now.blocks }
+        ensures gaps { All (GapTagged result.now self.now.units) (gaps_of self.now) }
+    {
+        self.units.tags()
     }
 
     /// Its first page.

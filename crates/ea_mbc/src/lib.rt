@@ -1,10 +1,13 @@
-//! A multiblock carrier, kept as the sorted list of its blocks. Its gaps are what the blocks leave
-//! free, so neighbouring free units are always one gap.
+//! A multiblock carrier, whose blocks and gaps are told by tags in its own units: each has its
+//! header in its first unit, and each gap its size in its last one. So what lies beside a block is
+//! found at once. Two gaps never lie side by side.
 #![tactic(auto)]
 
 pub mod carrier;
+mod choosing;
+mod coding;
 #[cfg(test)]
 mod tests;
-mod walks;
+mod units;
 
 pub use carrier::{Freed, Mbc, Placed, Resized};

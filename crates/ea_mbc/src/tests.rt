@@ -30,7 +30,7 @@ fn put(
     requires least { MIN_BLOCK ≤ need }
 {
     match carrier.choose(inner, need) {
-        Some(gap) => Ok(Some((gap.offset, carrier.place(gap, need, name)?))),
+        Some(gap) => Ok(Some((gap.offset, carrier.place(gap, need, name)))),
         None => Ok(None),
     }
 }
@@ -38,7 +38,7 @@ fn put(
 // Releases the block that begins at the offset, if one does.
 fn take_out(carrier: &mut Mbc, offset: u32) -> Result<Option<Freed>, OutOfMemory> {
     if carrier.block_at(offset).is_some() {
-        Ok(Some(carrier.release(offset)?))
+        Ok(Some(carrier.release(offset)))
     } else {
         Ok(None)
     }

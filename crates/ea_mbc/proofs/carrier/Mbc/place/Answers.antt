@@ -1,79 +1,114 @@
-use Rattle.std.proofs.Common.{List, ◌%◌, ◌≡◌, ℕ, ◌≤◌, sym, ◌∙◌, ap, subst, arith}
-use Rattle.ea_model.specs.declared.carriers.BlockAt.{BlockAt}
-use Rattle.ea_model.specs.declared.carriers.Gap.{Gap}
-use Rattle.ea_model.specs.Content.{inserted, Content, gap_at, gaps_of, block_at, taken_of, Tiled}
-use Rattle.ea_laws.proofs.BlockLists.{gap_at-whole, taken_of-enters, Tiled-inserted}
-use Rattle.ea_laws.proofs.BlockLists.{IsFront, IsFront-gap, offset_of}
+use Rattle.std.proofs.Common.{◌≤◌, sym, ◌∙◌, ap, subst, arith}
+use Rattle.ea_model.specs.Content.{block_at}
 use Rattle.ea_model.proofs.Rising.{item_at-new, item_at-old, none-other}
-use Rattle.ea_mbc.proofs.Replacing.{placed-GapTaken}
+use Rattle.ea_laws.proofs.BlockLists.{IsFront-gap, offset_of}
+use Rattle.ea_mbc.proofs.Figures.{known, taken-enters, placing, placing-fits}
+use Rattle.ea_mbc.proofs.Figures.{placing-figures, placing-largest}
 use Rattle.ea_mbc.proofs.carrier.Mbc.place.Goals as goal
 
-front : (here now : Content) (offset size need : ℕ) → here ≡ now
-    → Tiled 8 here.units here.blocks → gap_at (gaps_of now) offset ≡ size → need ≤ size → 6 ≤ need
-    → IsFront now offset
-front here now offset size need same tiled gap fits least =
-    IsFront-gap now offset need (subst (λ m. Tiled 8 m.units m.blocks) same tiled)
-    (subst (λ n. need ≤ n) (sym gap) fits) least
+pub enter-requires-clause-even : goal.enter-requires-clause-even
+enter-requires-clause-even c =
+    let k = known _ _ _ _ _ _ _ _ c.args.self.now c.self.view_is c.self.invariant in
+    let into = taken-enters c.args.self.now c.args.name c.args.gap.offset c.args.gap.size
+    c.args.need c.taken-size.result k.tiled c.requires.gap c.requires.fits c.requires.even
+    c.requires.least c.taken-size.ensures in
+    into.even
 
-tiled : (here now : Content) (gap : Gap) (need name size : ℕ) (blocks : List BlockAt)
-    → here ≡ now → Tiled 8 here.units here.blocks → gap_at (gaps_of now) gap.offset ≡ gap.size
-    → need ≤ gap.size → need % 2 ≡ 0 → 6 ≤ need → size ≡ taken_of gap.size need
-    → blocks ≡ inserted (record { name = name; offset = gap.offset; size = size }) here.blocks
-    → Tiled 8 here.units blocks
-tiled here now gap need name size blocks same t is fits even least s e =
-    let there = ap (λ m. gap_at (gaps_of m) gap.offset) same ∙ is in
-    subst (Tiled 8 here.units) (sym e)
-    (Tiled-inserted 8 here.units _ here.blocks t
-    (taken_of-enters _ _ need (subst (λ n. need ≤ n) (sym there) fits) least even
-    (gap_at-whole 8 here.units gap.offset here.blocks t)
-    (s ∙ ap (λ g. taken_of g need) (sym there))))
+pub enter-requires-clause-rest : goal.enter-requires-clause-rest
+enter-requires-clause-rest c =
+    let k = known _ _ _ _ _ _ _ _ c.args.self.now c.self.view_is c.self.invariant in
+    let into = taken-enters c.args.self.now c.args.name c.args.gap.offset c.args.gap.size
+    c.args.need c.taken-size.result k.tiled c.requires.gap c.requires.fits c.requires.even
+    c.requires.least c.taken-size.ensures in
+    into.rest
 
-pub largest_gap-largest-requires : goal.largest_gap-largest-requires
-largest_gap-largest-requires c =
-    tiled _ c.args.self.now c.args.gap c.args.need c.args.name c.taken-size.result _ c.self.view_is
-    c.self.invariant c.requires.gap c.requires.fits c.requires.even c.requires.least
-    c.taken-size.ensures (c.deref.ensures.value ∙ c.in_ok-enter.ensures.ok)
+pub overflow_add-self : goal.overflow_add-self
+overflow_add-self c =
+    let k = known _ _ _ _ _ _ _ _ c.args.self.now c.self.view_is c.self.invariant in
+    let into = taken-enters c.args.self.now c.args.name c.args.gap.offset c.args.gap.size
+    c.args.need c.taken-size.result k.tiled c.requires.gap c.requires.fits c.requires.even
+    c.requires.least c.taken-size.ensures in
+    let p = placing _ _ _ c.args.gap.size _ c.enter.new.self c.args.self.now _ k
+    c.enter.ensures.end c.enter.ensures.blocks c.requires.gap into in
+    let fits = placing-fits _ _ _ _ c.enter.new.self c.args.self.now _ k p.enters in
+    omega (arith, fits.0)
 
-pub invariant_of-self-2 : goal.invariant_of-self-2
-invariant_of-self-2 c =
-    tiled _ c.args.self.now c.args.gap c.args.need c.args.name c.taken-size.result _ c.self.view_is
-    c.self.invariant c.requires.gap c.requires.fits c.requires.even c.requires.least
-    c.taken-size.ensures c.in_ok-enter.ensures.ok
+pub overflow_add-self-2 : goal.overflow_add-self-2
+overflow_add-self-2 c =
+    let k = known _ _ _ _ _ _ _ _ c.args.self.now c.self.view_is c.self.invariant in
+    let into = taken-enters c.args.self.now c.args.name c.args.gap.offset c.args.gap.size
+    c.args.need c.taken-size.result k.tiled c.requires.gap c.requires.fits c.requires.even
+    c.requires.least c.taken-size.ensures in
+    let p = placing _ _ _ c.args.gap.size _ c.enter.new.self c.args.self.now _ k
+    c.enter.ensures.end c.enter.ensures.blocks c.requires.gap into in
+    let fits = placing-fits _ _ _ _ c.enter.new.self c.args.self.now _ k p.enters in
+    omega (arith, fits.1)
 
-pub returns-in_err-enter-clause-behind_header : goal.returns-in_err-enter-clause-behind_header
-returns-in_err-enter-clause-behind_header c = (front _ _ _ _ _ c.self.view_is c.self.invariant
-    c.requires.gap c.requires.fits c.requires.least).behind_header
+pub largest_after-self-inside-requires : goal.largest_after-self-inside-requires
+largest_after-self-inside-requires c =
+    let k = known _ _ _ _ _ _ _ _ c.args.self.now c.self.view_is c.self.invariant in
+    let into = taken-enters c.args.self.now c.args.name c.args.gap.offset c.args.gap.size
+    c.args.need c.taken-size.result k.tiled c.requires.gap c.requires.fits c.requires.even
+    c.requires.least c.taken-size.ensures in
+    let p = placing _ _ _ c.args.gap.size _ c.enter.new.self c.args.self.now _ k
+    c.enter.ensures.end c.enter.ensures.blocks c.requires.gap into in
+    λ lt. placing-largest _ _ _ c.args.gap.size _ _ c.args.self.now _ k p c.requires.gap lt
 
-pub returns-in_err-enter-clause-fresh : goal.returns-in_err-enter-clause-fresh
-returns-in_err-enter-clause-fresh c = (front _ _ _ _ _ c.self.view_is c.self.invariant
-    c.requires.gap c.requires.fits c.requires.least).fresh
+pub invariant_of-self : goal.invariant_of-self
+invariant_of-self c =
+    let k = known _ _ _ _ _ _ _ _ c.args.self.now c.self.view_is c.self.invariant in
+    let into = taken-enters c.args.self.now c.args.name c.args.gap.offset c.args.gap.size
+    c.args.need c.taken-size.result k.tiled c.requires.gap c.requires.fits c.requires.even
+    c.requires.least c.taken-size.ensures in
+    let p = placing _ _ _ c.args.gap.size _ c.enter.new.self c.args.self.now _ k
+    c.enter.ensures.end c.enter.ensures.blocks c.requires.gap into in
+    placing-figures _ _ _ _ _ _ c.args.self.now _ k p c.largest_after-self-inside.ensures
 
 pub returns-clause-behind_header : goal.returns-clause-behind_header
-returns-clause-behind_header c = (front _ _ _ _ _ c.self.view_is c.self.invariant
-    c.requires.gap c.requires.fits c.requires.least).behind_header
+returns-clause-behind_header c =
+    let k = known _ _ _ _ _ _ _ _ c.args.self.now c.self.view_is c.self.invariant in
+    let f = IsFront-gap c.args.self.now c.args.gap.offset c.args.need k.tiled
+    (subst (λ n. c.args.need ≤ n) (sym c.requires.gap) c.requires.fits) c.requires.least in
+    f.behind_header
 
 pub returns-clause-fresh : goal.returns-clause-fresh
-returns-clause-fresh c = (front _ _ _ _ _ c.self.view_is c.self.invariant
-    c.requires.gap c.requires.fits c.requires.least).fresh
+returns-clause-fresh c =
+    let k = known _ _ _ _ _ _ _ _ c.args.self.now c.self.view_is c.self.invariant in
+    let f = IsFront-gap c.args.self.now c.args.gap.offset c.args.need k.tiled
+    (subst (λ n. c.args.need ≤ n) (sym c.requires.gap) c.requires.fits) c.requires.least in
+    f.fresh
 
 pub returns-clause-begins : goal.returns-clause-begins
 returns-clause-begins c =
-    let blocks = c.self.inside.blocks.items in
-    ap (λ bs. block_at bs c.args.gap.offset) c.in_ok-enter.ensures.ok
-    ∙ item_at-new offset_of _ blocks (none-other offset_of c.args.gap.offset blocks
-    (ap (λ m. block_at m.blocks c.args.gap.offset) c.self.view_is
-    ∙ (front _ _ _ _ _ c.self.view_is c.self.invariant
-    c.requires.gap c.requires.fits c.requires.least).fresh))
+    let k = known _ _ _ _ _ _ _ _ c.args.self.now c.self.view_is c.self.invariant in
+    let into = taken-enters c.args.self.now c.args.name c.args.gap.offset c.args.gap.size
+    c.args.need c.taken-size.result k.tiled c.requires.gap c.requires.fits c.requires.even
+    c.requires.least c.taken-size.ensures in
+    let p = placing _ _ _ c.args.gap.size _ c.enter.new.self c.args.self.now _ k
+    c.enter.ensures.end c.enter.ensures.blocks c.requires.gap into in
+    let f = IsFront-gap c.args.self.now c.args.gap.offset c.args.need k.tiled
+    (subst (λ n. c.args.need ≤ n) (sym c.requires.gap) c.requires.fits) c.requires.least in
+    ap (λ bs. block_at bs c.args.gap.offset) p.blocks
+    ∙ item_at-new offset_of _ c.args.self.now.blocks
+    (none-other offset_of c.args.gap.offset c.args.self.now.blocks f.fresh)
 
 pub returns-clause-others : goal.returns-clause-others
-returns-clause-others c = λ at n.
-    ap (λ bs. block_at bs at) c.in_ok-enter.ensures.ok
-    ∙ item_at-old offset_of at _ c.self.inside.blocks.items n
-    ∙ ap (λ m. block_at m.blocks at) c.self.view_is
+returns-clause-others c =
+    let k = known _ _ _ _ _ _ _ _ c.args.self.now c.self.view_is c.self.invariant in
+    let into = taken-enters c.args.self.now c.args.name c.args.gap.offset c.args.gap.size
+    c.args.need c.taken-size.result k.tiled c.requires.gap c.requires.fits c.requires.even
+    c.requires.least c.taken-size.ensures in
+    let p = placing _ _ _ c.args.gap.size _ c.enter.new.self c.args.self.now _ k
+    c.enter.ensures.end c.enter.ensures.blocks c.requires.gap into in
+    λ at n. ap (λ bs. block_at bs at) p.blocks
+    ∙ item_at-old offset_of at _ c.args.self.now.blocks n
 
 pub returns-clause-gap_taken : goal.returns-clause-gap_taken
 returns-clause-gap_taken c =
-    placed-GapTaken _ c.args.self.now
-    (record { name = c.args.name; offset = c.args.gap.offset; size = c.taken-size.result })
-    _ c.self.view_is c.self.invariant
-    (omega (arith, c.requires.gap, c.requires.fits, c.requires.least)) c.in_ok-enter.ensures.ok
+    let k = known _ _ _ _ _ _ _ _ c.args.self.now c.self.view_is c.self.invariant in
+    let into = taken-enters c.args.self.now c.args.name c.args.gap.offset c.args.gap.size
+    c.args.need c.taken-size.result k.tiled c.requires.gap c.requires.fits c.requires.even
+    c.requires.least c.taken-size.ensures in
+    let p = placing _ _ _ c.args.gap.size _ c.enter.new.self c.args.self.now _ k
+    c.enter.ensures.end c.enter.ensures.blocks c.requires.gap into in
+    p.taken

@@ -1,42 +1,95 @@
-use Rattle.std.proofs.Common.{◌≡◌, ℕ, List, sym, ◌∙◌, ap, subst}
-use Rattle.ea_model.specs.declared.carriers.BlockAt.{BlockAt}
-use Rattle.ea_model.specs.Keyed.{without}
-use Rattle.ea_model.specs.Content.{block_at, Tiled}
+use Rattle.std.proofs.Common.{◌∙◌, ap, arith}
+use Rattle.ea_model.specs.Content.{block_at}
 use Rattle.ea_model.proofs.Rising.{item_at-gone, item_at-stays}
-use Rattle.ea_laws.proofs.BlockLists.{offset_of, Tiled-released, Tiled-rising}
-use Rattle.ea_mbc.proofs.Replacing.{released-GapsJoined}
+use Rattle.ea_laws.proofs.BlockLists.{offset_of}
+use Rattle.ea_mbc.proofs.Figures.{known, block-known, block-among, releasing, releasing-figures}
+use Rattle.ea_mbc.proofs.Figures.{before-known, released-most}
 use Rattle.ea_mbc.proofs.carrier.Mbc.release.Goals as goal
 
-pub take_out-size-requires-clause-rising : goal.take_out-size-requires-clause-rising
-take_out-size-requires-clause-rising c = Tiled-rising 8 c.self.inside.units
-    c.self.inside.blocks.items c.self.invariant
+pub overflow_sub-start : goal.overflow_sub-start
+overflow_sub-start c =
+    let k = known _ _ _ _ _ _ _ _ c.args.self.now c.self.view_is c.self.invariant in
+    let g = before-known _ _ _ c.args.offset c.gap_before-before.result _ c.args.self.now k
+    c.requires c.gap_before-before.ensures in
+    g.1
 
-tiled : (units offset : ℕ) (blocks rest : List BlockAt) → rest ≡ without offset_of offset blocks
-    → Tiled 8 units blocks → Tiled 8 units rest
-tiled units offset blocks rest e t =
-    subst (Tiled 8 units) (sym e) (Tiled-released 8 units offset blocks t)
+pub overflow_add-stop : goal.overflow_add-stop
+overflow_add-stop c =
+    let k = known _ _ _ _ _ _ _ _ c.args.self.now c.self.view_is c.self.invariant in
+    let b = block-known _ _ _ c.args.offset c.size-size.result c.gap_behind-after.result _
+    c.args.self.now k c.requires c.size-size.ensures c.gap_behind-after.ensures in
+    omega (arith, b.size, b.is.within, k.small)
 
-pub largest_gap-largest-requires : goal.largest_gap-largest-requires
-largest_gap-largest-requires c =
-    tiled c.self.inside.units c.args.offset c.self.inside.blocks.items _
-    (c.deref-3.ensures.value ∙ c.take_out-size.ensures.rest) c.self.invariant
+pub overflow_add-stop-2 : goal.overflow_add-stop-2
+overflow_add-stop-2 c =
+    let k = known _ _ _ _ _ _ _ _ c.args.self.now c.self.view_is c.self.invariant in
+    let b = block-known _ _ _ c.args.offset c.size-size.result c.gap_behind-after.result _
+    c.args.self.now k c.requires c.size-size.ensures c.gap_behind-after.ensures in
+    omega (arith, b.size, b.behind, b.is.within, k.small)
+
+pub leave-requires-clause-start : goal.leave-requires-clause-start
+leave-requires-clause-start c =
+    let k = known _ _ _ _ _ _ _ _ c.args.self.now c.self.view_is c.self.invariant in
+    let g = before-known _ _ _ c.args.offset c.gap_before-before.result _ c.args.self.now k
+    c.requires c.gap_before-before.ensures in
+    omega (arith, g.1, c.gap_before-before.ensures)
+
+pub overflow_sub-self : goal.overflow_sub-self
+overflow_sub-self c =
+    let k = known _ _ _ _ _ _ _ _ c.args.self.now c.self.view_is c.self.invariant in
+    let b = block-known _ _ _ c.args.offset c.size-size.result c.gap_behind-after.result _
+    c.args.self.now k c.requires c.size-size.ensures c.gap_behind-after.ensures in
+    (block-among _ _ _ c.args.offset _ _ _ c.args.self.now k b).0
 
 pub invariant_of-self : goal.invariant_of-self
 invariant_of-self c =
-    tiled c.self.inside.units c.args.offset c.self.inside.blocks.items _
-    c.take_out-size.ensures.rest c.self.invariant
+    let k = known _ _ _ _ _ _ _ _ c.args.self.now c.self.view_is c.self.invariant in
+    let b = block-known _ _ _ c.args.offset c.size-size.result c.gap_behind-after.result _
+    c.args.self.now k c.requires c.size-size.ensures c.gap_behind-after.ensures in
+    let g = before-known _ _ _ c.args.offset c.gap_before-before.result _ c.args.self.now k
+    c.requires c.gap_before-before.ensures in
+    let r = releasing _ _ _ c.args.offset c.size-size.result c.gap_behind-after.result _
+    c.leave.new.self c.args.self.now k b c.leave.ensures.end c.leave.ensures.blocks in
+    releasing-figures _ _ _ _ c.args.offset _ c.gap_before-before.result _ _ _ c.args.self.now k b r
+    g.0 (c.max-self-inside.ensures ∙ released-most _ c.args.offset c.gap_before-before.result c.size-size.result _ g.1)
+
+pub returns-clause-largest : goal.returns-clause-largest
+returns-clause-largest c =
+    let k = known _ _ _ _ _ _ _ _ c.args.self.now c.self.view_is c.self.invariant in
+    let b = block-known _ _ _ c.args.offset c.size-size.result c.gap_behind-after.result _
+    c.args.self.now k c.requires c.size-size.ensures c.gap_behind-after.ensures in
+    let g = before-known _ _ _ c.args.offset c.gap_before-before.result _ c.args.self.now k
+    c.requires c.gap_before-before.ensures in
+    let r = releasing _ _ _ c.args.offset c.size-size.result c.gap_behind-after.result _
+    c.leave.new.self c.args.self.now k b c.leave.ensures.end c.leave.ensures.blocks in
+    (releasing-figures _ _ _ _ c.args.offset _ c.gap_before-before.result _ _ _ c.args.self.now k b r
+    g.0 (c.max-self-inside.ensures ∙ released-most _ c.args.offset c.gap_before-before.result c.size-size.result _ g.1)).greatest
 
 pub returns-clause-gone : goal.returns-clause-gone
-returns-clause-gone c = ap (λ bs. block_at bs c.args.offset) c.take_out-size.ensures.rest
-    ∙ item_at-gone offset_of c.args.offset c.self.inside.blocks.items
+returns-clause-gone c =
+    let k = known _ _ _ _ _ _ _ _ c.args.self.now c.self.view_is c.self.invariant in
+    let b = block-known _ _ _ c.args.offset c.size-size.result c.gap_behind-after.result _
+    c.args.self.now k c.requires c.size-size.ensures c.gap_behind-after.ensures in
+    let r = releasing _ _ _ c.args.offset c.size-size.result c.gap_behind-after.result _
+    c.leave.new.self c.args.self.now k b c.leave.ensures.end c.leave.ensures.blocks in
+    ap (λ bs. block_at bs c.args.offset) r.blocks
+    ∙ item_at-gone offset_of c.args.offset c.args.self.now.blocks
 
 pub returns-clause-others : goal.returns-clause-others
-returns-clause-others c = λ at n.
-    ap (λ bs. block_at bs at) c.take_out-size.ensures.rest
-    ∙ item_at-stays offset_of at c.args.offset c.self.inside.blocks.items n
-    ∙ ap (λ m. block_at m.blocks at) c.self.view_is
+returns-clause-others c =
+    let k = known _ _ _ _ _ _ _ _ c.args.self.now c.self.view_is c.self.invariant in
+    let b = block-known _ _ _ c.args.offset c.size-size.result c.gap_behind-after.result _
+    c.args.self.now k c.requires c.size-size.ensures c.gap_behind-after.ensures in
+    let r = releasing _ _ _ c.args.offset c.size-size.result c.gap_behind-after.result _
+    c.leave.new.self c.args.self.now k b c.leave.ensures.end c.leave.ensures.blocks in
+    λ at n. ap (λ bs. block_at bs at) r.blocks
+    ∙ item_at-stays offset_of at c.args.offset c.args.self.now.blocks n
 
 pub returns-clause-gaps_joined : goal.returns-clause-gaps_joined
 returns-clause-gaps_joined c =
-    released-GapsJoined _ c.args.self.now c.args.offset c.take_out-size.result _ c.self.view_is
-    c.self.invariant c.take_out-size.ensures.item c.take_out-size.ensures.rest
+    let k = known _ _ _ _ _ _ _ _ c.args.self.now c.self.view_is c.self.invariant in
+    let b = block-known _ _ _ c.args.offset c.size-size.result c.gap_behind-after.result _
+    c.args.self.now k c.requires c.size-size.ensures c.gap_behind-after.ensures in
+    let r = releasing _ _ _ c.args.offset c.size-size.result c.gap_behind-after.result _
+    c.leave.new.self c.args.self.now k b c.leave.ensures.end c.leave.ensures.blocks in
+    r.joined

@@ -1,63 +1,101 @@
-use Rattle.std.proofs.Common.{◌≡◌, ◌+◌, ◌%◌, ◌≤◌, ℕ, List, sym, ap, ◌∙◌, subst, arith}
-use Rattle.std.specs.Prelude.{IsSome, AllPairs}
-use Rattle.std.specs.Vec.{with_items}
-use Rattle.std.proofs.lemmas.List.{with_items_is}
-use Rattle.ea_model.specs.declared.carriers.BlockAt.{BlockAt}
-use Rattle.ea_model.specs.Content.{Content, block_at, size_of, Tiled}
-use Rattle.ea_model.specs.Keyed.{IsBelow}
-use Rattle.ea_laws.proofs.BlockLists.{offset_of, Tiled-rising}
-use Rattle.ea_laws.proofs.Resized.{with_block}
-use Rattle.ea_mbc.proofs.Resizing.{with_block-Resizes, shrunk-kept}
+use Rattle.std.proofs.Common.{◌∙◌, ap, arith}
+use Rattle.ea_model.specs.Content.{size_of}
+use Rattle.ea_mbc.proofs.Figures.{known, block-known, block-among, resizing, resizing-figures}
+use Rattle.ea_mbc.proofs.Figures.{shrinking-largest, shrunk-most}
+use Rattle.ea_mbc.proofs.Resizing.{shrunk-kept}
 use Rattle.ea_mbc.proofs.carrier.Mbc.shrink.Goals as goal
 
-pub resize-requires-clause-rising : goal.resize-requires-clause-rising
-resize-requires-clause-rising c =
-    subst (AllPairs (IsBelow offset_of)) (sym c.deref_mut.ensures.value)
-    (Tiled-rising 8 c.self.inside.units c.self.inside.blocks.items c.self.invariant)
+pub overflow_add-stop : goal.overflow_add-stop
+overflow_add-stop c =
+    let k = known _ _ _ _ _ _ _ _ c.args.self.now c.self.view_is c.self.invariant in
+    let b = block-known _ _ _ c.args.offset c.size-was.result c.gap_behind-after.result _
+    c.args.self.now k c.requires.begins c.size-was.ensures c.gap_behind-after.ensures in
+    omega (arith, b.size, b.is.within, k.small)
 
-tiled : (here now : Content) (offset need name : ℕ) (blocks : List BlockAt) → here ≡ now
-    → Tiled 8 here.units here.blocks → IsSome (block_at now.blocks offset)
-    → need + 6 ≤ size_of (block_at now.blocks offset) → need % 2 ≡ 0 → 6 ≤ need
-    → blocks ≡ with_block offset need name here.blocks → Tiled 8 here.units blocks
-tiled here now offset need name blocks same t there fewer even least e =
-    subst (Tiled 8 here.units) (sym e)
-    (shrunk-kept here now offset need name same t there fewer even least)
+pub overflow_add-stop-2 : goal.overflow_add-stop-2
+overflow_add-stop-2 c =
+    let k = known _ _ _ _ _ _ _ _ c.args.self.now c.self.view_is c.self.invariant in
+    let b = block-known _ _ _ c.args.offset c.size-was.result c.gap_behind-after.result _
+    c.args.self.now k c.requires.begins c.size-was.ensures c.gap_behind-after.ensures in
+    omega (arith, b.size, b.behind, b.is.within, k.small)
 
-pub largest_gap-requires : goal.largest_gap-requires
-largest_gap-requires c =
-    tiled _ c.args.self.now c.args.offset c.args.need c.args.name _ c.self.view_is
-    c.self.invariant c.requires.begins c.requires.fewer c.requires.even c.requires.least
-    (c.deref.ensures.value
-    ∙ with_items_is c.self.inside.blocks c.resize.new.blocks
-    (omega (arith, c.resize.auto.blocks, c.deref_mut.ensures.len))
-    ∙ c.resize.ensures
-    ∙ ap (with_block c.args.offset c.args.need c.args.name) c.deref_mut.ensures.value)
+pub refit-requires-clause-tiled : goal.refit-requires-clause-tiled
+refit-requires-clause-tiled c =
+    shrunk-kept _ c.args.self.now c.args.offset c.args.need c.args.name c.self.view_is
+    c.self.invariant.tiled c.requires.begins c.requires.fewer c.requires.even c.requires.least
 
-blocks : (c : goal.After-largest_gap)
-    → (with_items c.self.inside.blocks c.resize.new.blocks).items
-    ≡ with_block c.args.offset c.args.need c.args.name c.self.inside.blocks.items
-blocks c =
-    with_items_is c.self.inside.blocks c.resize.new.blocks
-    (omega (arith, c.resize.auto.blocks, c.deref_mut.ensures.len))
-    ∙ c.resize.ensures
-    ∙ ap (with_block c.args.offset c.args.need c.args.name) c.deref_mut.ensures.value
+pub overflow_sub-self : goal.overflow_sub-self
+overflow_sub-self c =
+    let k = known _ _ _ _ _ _ _ _ c.args.self.now c.self.view_is c.self.invariant in
+    let b = block-known _ _ _ c.args.offset c.size-was.result c.gap_behind-after.result _
+    c.args.self.now k c.requires.begins c.size-was.ensures c.gap_behind-after.ensures in
+    (block-among _ _ _ c.args.offset _ _ _ c.args.self.now k b).0
+
+pub overflow_add-offset : goal.overflow_add-offset
+overflow_add-offset c =
+    let k = known _ _ _ _ _ _ _ _ c.args.self.now c.self.view_is c.self.invariant in
+    let b = block-known _ _ _ c.args.offset c.size-was.result c.gap_behind-after.result _
+    c.args.self.now k c.requires.begins c.size-was.ensures c.gap_behind-after.ensures in
+    omega (arith, b.size, b.is.within, k.small, c.requires.fewer, ap size_of b.found)
 
 pub invariant_of-self : goal.invariant_of-self
 invariant_of-self c =
-    tiled _ c.args.self.now c.args.offset c.args.need c.args.name _ c.self.view_is
-    c.self.invariant c.requires.begins c.requires.fewer c.requires.even c.requires.least (blocks c)
+    let k = known _ _ _ _ _ _ _ _ c.args.self.now c.self.view_is c.self.invariant in
+    let b = block-known _ _ _ c.args.offset c.size-was.result c.gap_behind-after.result _
+    c.args.self.now k c.requires.begins c.size-was.ensures c.gap_behind-after.ensures in
+    let kept = shrunk-kept _ c.args.self.now c.args.offset c.args.need c.args.name c.self.view_is
+    c.self.invariant.tiled c.requires.begins c.requires.fewer c.requires.even c.requires.least in
+    let r = resizing _ _ _ c.args.offset c.size-was.result _ c.args.need c.args.name _
+    c.refit.new.self c.args.self.now k b c.refit.ensures.end c.refit.ensures.blocks kept in
+    let most = shrinking-largest _ _ _ _ c.args.offset _ _ _ c.args.name _ _ c.args.self.now k b r
+    (omega (arith, c.requires.fewer, b.size, ap size_of b.found)) (c.max-self-inside.ensures
+    ∙ shrunk-most _ c.args.offset c.size-was.result c.gap_behind-after.result c.args.need) in
+    resizing-figures _ _ _ _ _ c.args.offset _ _ _ c.args.name _ _ c.args.self.now k b r
+    (omega arith) most
+
+pub returns-clause-largest : goal.returns-clause-largest
+returns-clause-largest c =
+    let k = known _ _ _ _ _ _ _ _ c.args.self.now c.self.view_is c.self.invariant in
+    let b = block-known _ _ _ c.args.offset c.size-was.result c.gap_behind-after.result _
+    c.args.self.now k c.requires.begins c.size-was.ensures c.gap_behind-after.ensures in
+    let kept = shrunk-kept _ c.args.self.now c.args.offset c.args.need c.args.name c.self.view_is
+    c.self.invariant.tiled c.requires.begins c.requires.fewer c.requires.even c.requires.least in
+    let r = resizing _ _ _ c.args.offset c.size-was.result _ c.args.need c.args.name _
+    c.refit.new.self c.args.self.now k b c.refit.ensures.end c.refit.ensures.blocks kept in
+    let most = shrinking-largest _ _ _ _ c.args.offset _ _ _ c.args.name _ _ c.args.self.now k b r
+    (omega (arith, c.requires.fewer, b.size, ap size_of b.found)) (c.max-self-inside.ensures
+    ∙ shrunk-most _ c.args.offset c.size-was.result c.gap_behind-after.result c.args.need) in
+    most
 
 pub returns-clause-begins : goal.returns-clause-begins
 returns-clause-begins c =
-    (with_block-Resizes _ c.args.self.now c.args.offset c.args.need c.args.name _ c.self.view_is
-    c.self.invariant c.requires.begins (blocks c)).begins
+    let k = known _ _ _ _ _ _ _ _ c.args.self.now c.self.view_is c.self.invariant in
+    let b = block-known _ _ _ c.args.offset c.size-was.result c.gap_behind-after.result _
+    c.args.self.now k c.requires.begins c.size-was.ensures c.gap_behind-after.ensures in
+    let kept = shrunk-kept _ c.args.self.now c.args.offset c.args.need c.args.name c.self.view_is
+    c.self.invariant.tiled c.requires.begins c.requires.fewer c.requires.even c.requires.least in
+    let r = resizing _ _ _ c.args.offset c.size-was.result _ c.args.need c.args.name _
+    c.refit.new.self c.args.self.now k b c.refit.ensures.end c.refit.ensures.blocks kept in
+    r.begins
 
 pub returns-clause-others : goal.returns-clause-others
 returns-clause-others c =
-    (with_block-Resizes _ c.args.self.now c.args.offset c.args.need c.args.name _ c.self.view_is
-    c.self.invariant c.requires.begins (blocks c)).others
+    let k = known _ _ _ _ _ _ _ _ c.args.self.now c.self.view_is c.self.invariant in
+    let b = block-known _ _ _ c.args.offset c.size-was.result c.gap_behind-after.result _
+    c.args.self.now k c.requires.begins c.size-was.ensures c.gap_behind-after.ensures in
+    let kept = shrunk-kept _ c.args.self.now c.args.offset c.args.need c.args.name c.self.view_is
+    c.self.invariant.tiled c.requires.begins c.requires.fewer c.requires.even c.requires.least in
+    let r = resizing _ _ _ c.args.offset c.size-was.result _ c.args.need c.args.name _
+    c.refit.new.self c.args.self.now k b c.refit.ensures.end c.refit.ensures.blocks kept in
+    r.others
 
 pub returns-clause-gap_resized : goal.returns-clause-gap_resized
 returns-clause-gap_resized c =
-    (with_block-Resizes _ c.args.self.now c.args.offset c.args.need c.args.name _ c.self.view_is
-    c.self.invariant c.requires.begins (blocks c)).gap
+    let k = known _ _ _ _ _ _ _ _ c.args.self.now c.self.view_is c.self.invariant in
+    let b = block-known _ _ _ c.args.offset c.size-was.result c.gap_behind-after.result _
+    c.args.self.now k c.requires.begins c.size-was.ensures c.gap_behind-after.ensures in
+    let kept = shrunk-kept _ c.args.self.now c.args.offset c.args.need c.args.name c.self.view_is
+    c.self.invariant.tiled c.requires.begins c.requires.fewer c.requires.even c.requires.least in
+    let r = resizing _ _ _ c.args.offset c.size-was.result _ c.args.need c.args.name _
+    c.refit.new.self c.args.self.now k b c.refit.ensures.end c.refit.ensures.blocks kept in
+    r.known_gap

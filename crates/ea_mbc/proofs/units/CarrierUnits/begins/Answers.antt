@@ -1,0 +1,28 @@
+use Rattle.std.proofs.Common.{inl, inr, ◌∙◌, refl, arith}
+use Rattle.std.proofs.lemmas.List.{get_or_read}
+use Rattle.ea_mbc.proofs.Finding.{nothing-there, unnamed-IsCoded}
+use Rattle.ea_mbc.proofs.Seen.{seen}
+use Rattle.ea_mbc.proofs.Walking.{none-iff}
+use Rattle.ea_mbc.proofs.units.CarrierUnits.begins.Goals as goal
+use Rattle.ea_mbc.proofs.units.CarrierUnits.begins.Goals.{then-offset-ne0-via-then-offset-ne0}
+use Rattle.ea_mbc.proofs.units.CarrierUnits.begins.Goals.{then-offset-ne0-via-else-offset-ne0+then-offset-self}
+
+pub returns-then-offset-ne0 : goal.returns-then-offset-ne0
+returns-then-offset-ne0 c =
+    let s = seen _ _ _ c.args.self.now c.self.view_is c.self.invariant in
+    none-iff _ (nothing-there _ c.args.offset _ s.coded.tiled
+    (elim c.then-offset-ne0.branch [
+      | then-offset-ne0-via-then-offset-ne0 w ↦ inl (omega (arith, w.if-offset-ne0.true))
+      | then-offset-ne0-via-else-offset-ne0+then-offset-self w ↦ inr (inr (omega
+          (arith, w.if-offset-self.true, s.same)))
+    ]))
+
+pub returns-then-index-ne0 : goal.returns-then-index-ne0
+returns-then-index-ne0 c =
+    let s = seen _ _ _ c.args.self.now c.self.view_is c.self.invariant in
+    let name = get_or_read c.self.inside.names.items _ _
+    (omega (arith, s.coded.half, s.same, c.if-offset-self.false)) c.index.ensures 0 in
+    let there = unnamed-IsCoded _ _ _ c.args.offset _ s.coded c.if-offset-ne0.false
+    (omega (arith, s.same, c.if-offset-self.false))
+    (λ e. absurd (c.if-index-ne0.true (name ∙ e))) in
+    (λ _. there, λ _. refl)

@@ -1,0 +1,300 @@
+//! The units of a carrier, with its tags and the names of its blocks.
+ghost use Rattle.std.specs.Prelude.{◌≡◌, ◌≢◌, ℕ, ◌+◌, ◌-◌, ◌%◌, ◌<◌, ◌≤◌, ◌↔◌, [], All};
+ghost use Rattle.std.specs.Prelude.{Some, IsTrue, IsSome, IfOk, length};
+ghost use Rattle.ea_model.specs.declared.units.TheConstants.{HEADER_UNITS, MIN_BLOCK};
+ghost use Rattle.ea_model.specs.Content.{gaps, gap_at, gap_up_to, block_at, end_of, size_of};
+ghost use Rattle.ea_model.specs.Content.{inserted, largest, IsGapSize, Tiled};
+ghost use Rattle.ea_model.specs.Choice.{choice};
+ghost use Rattle.ea_model.specs.Keyed.{without, changed_at};
+ghost use Rattle.ea_mbc.specs.Tagged.{BlockTagged, GapTagged};
+
+use crate::choosing::{better_of, free_units};
+use crate::coding::{clear, lay, put_gap};
+use ea_model::{BlockAt, Gap, HEADER_UNITS, Inner, OutOfMemory};
+use ea_tags::UnitArray;
+use std::alloc::Global;
+use std::marker::Model;
+
+/// The units of a carrier. Contracts see its end and its blocks by rising offset. Each block and
+/// each gap has its header in its first unit, and each gap its size in its last one. The names
+/// stand by half offsets, 0 where no block begins.
+#[derive(Drop)]
+pub struct CarrierUnits {
+    tags: UnitArray,
+    names: Vec<u32>,
+    end: u32,
+}
+
+impl Model for CarrierUnits {
+    ghost use Rattle.std.specs.Prelude.{◌^◌, ◌<◌};
+    ghost use Rattle.ea_mbc.specs.Coding.{blocks_of, IsCoded};
+    ghost use Rattle.ea_mbc.specs.Layout.{Layout};
+
+    ghost Value = { Layout };
+
+    ghost view = { λ u. record { end = u.end; blocks = blocks_of u.tags u.names.items u.end } };
+
+    ghost invariant = { λ u.
+        IsCoded u.tags u.names.items u.end (blocks_of u.tags u.names.items u.end)
+        × (u.end < 2 ^ 32) };
+}
+
+impl CarrierUnits {
+    /// A header and one gap.
+    pub fn new(alloc: Global, end: u32) -> Result<CarrierUnits, OutOfMemory>
+        requires even { end % 2 ≡ 0 }
+        requires gap { HEADER_UNITS + MIN_BLOCK ≤ end }
+        ensures { IfOk result (λ u. u ≡ record { end = end; blocks = [] }) }
+    {
+        let mut tags = UnitArray::new(alloc, end)?;
+        put_gap(&mut tags, end, HEADER_UNITS, end);
+        let names = vec![in alloc; 0; (end / 2) as usize]?;
+        Ok(CarrierUnits { tags, names, end })
+    }
+
+    /// Its blocks lie one after another, with whole gaps between them.
+    pub fn laid_out(&self)
+        ensures header { HEADER_UNITS ≤ self.now.end }
+        ensures tiled { Tiled HEADER_UNITS self.now.end self.now.blocks }
+    {
+        let _end = self.end;
+    }
+
+    /// The number of all units.
+    pub fn end(&self) -> u32
+        ensures { result ≡ self.now.end }
+    {
+        self.end
+    }
+
+    /// The words of the units.
+    pub fn tags(&self) -> &UnitArray
+        ensures as_many { length result.now ≡ self.now.end }
+        ensures blocks { All
+            (BlockTagged result.now self.now.end (gaps HEADER_UNITS self.now.end self.now.blocks))
+            self.now.blocks }
+        ensures gaps { All (GapTagged result.now self.now.end)
+            (gaps HEADER_UNITS self.now.end self.now.blocks) }
+    {
+        &self.tags
+    }
+
+    /// The gap that is chosen for `need` units.
+    pub fn best_gap(&self, inner: Inner, need: u32) -> Option<Gap>
+        ensures { result
+            ≡ choice inner need (gaps HEADER_UNITS self.now.end self.now.blocks) }
+    {
+        let mut at = HEADER_UNITS;
+        let mut best = None;
+        while at < self.end {
+            let header = self.tags.header(at);
+            best = better_of(inner, need, best, at, free_units(header));
+            at += header.size;
+        }
+        best
+    }
+
+    /// The units of the largest gap, or 0.
+    fn greatest(&self) -> u32
+        ensures { result ≡ largest (gaps HEADER_UNITS self.now.end self.now.blocks) }
+    {
+        let mut at = HEADER_UNITS;
+        let mut most = 0;
+        while at < self.end {
+            let header = self.tags.header(at);
+            most = most.max(free_units(header));
+            at += header.size;
+        }
+        most
+    }
+
+    /// The units of the largest gap, or 0, where one of `gone` units has become smaller, and
+    /// `before` was the largest.
+    pub fn largest_after(&self, gone: u32, before: u32) -> u32
+        requires { gone < before
+            → before ≡ largest (gaps HEADER_UNITS self.now.end self.now.blocks) }
+        ensures { result ≡ largest (gaps HEADER_UNITS self.now.end self.now.blocks) }
+    {
+        if gone < before {
+            before
+        } else {
+            self.greatest()
+        }
+    }
+
+    /// Whether a block begins at the offset, found by a walk over the headers.
+    fn has_header(&self, offset: u32) -> bool
+        ensures { IsTrue result ↔ IsSome (block_at self.now.blocks offset) }
+    {
+        let mut at = HEADER_UNITS;
+        while at < self.end {
+            let header = self.tags.header(at);
+            if at == offset {
+                return !header.this_free;
+            }
+            at += header.size;
+        }
+        false
+    }
+
+    /// Whether a block begins at the offset. Only one that is called 0 has to be looked for.
+    fn begins(&self, offset: u32) -> bool
+        ensures { IsTrue result ↔ IsSome (block_at self.now.blocks offset) }
+    {
+        if offset % 2 != 0 || offset >= self.end {
+            return false;
+        }
+        if self.names[(offset / 2) as usize] != 0 {
+            return true;
+        }
+        self.has_header(offset)
+    }
+
+    /// The block that begins at the offset.
+    fn block(&self, offset: u32) -> BlockAt
+        requires { IsSome (block_at self.now.blocks offset) }
+        ensures { block_at self.now.blocks offset ≡ Some result }
+    {
+        BlockAt {
+            name: self.names[(offset / 2) as usize],
+            offset,
+            size: self.tags.header(offset).size,
+        }
+    }
+
+    /// The block that begins at the offset, if one does.
+    pub fn block_at(&self, offset: u32) -> Option<BlockAt>
+        ensures { result ≡ block_at self.now.blocks offset }
+    {
+        if self.begins(offset) {
+            Some(self.block(offset))
+        } else {
+            None
+        }
+    }
+
+    /// The units of the block that begins at the offset.
+    pub fn size(&self, offset: u32) -> u32
+        requires { IsSome (block_at self.now.blocks offset) }
+        ensures { result ≡ size_of (block_at self.now.blocks offset) }
+    {
+        self.tags.header(offset).size
+    }
+
+    /// The units of the gap that begins at the offset.
+    pub fn gap_at(&self, offset: u32) -> u32
+        requires { 0 < gap_at (gaps HEADER_UNITS self.now.end self.now.blocks) offset }
+        ensures { result ≡ gap_at (gaps HEADER_UNITS self.now.end self.now.blocks) offset }
+    {
+        self.tags.header(offset).size
+    }
+
+    /// The units of the gap directly after the block that begins at the offset, or 0.
+    pub fn gap_behind(&self, offset: u32) -> u32
+        requires { IsSome (block_at self.now.blocks offset) }
+        ensures { result ≡ gap_at (gaps HEADER_UNITS self.now.end self.now.blocks)
+            (end_of self.now.blocks offset) }
+    {
+        let stop = offset + self.tags.header(offset).size;
+        if stop == self.end {
+            return 0;
+        }
+        let next = self.tags.header(stop);
+        free_units(next)
+    }
+
+    /// The units of the gap directly before the block that begins at the offset, or 0.
+    pub fn gap_before(&self, offset: u32) -> u32
+        requires { IsSome (block_at self.now.blocks offset) }
+        ensures { result
+            ≡ gap_up_to (gaps HEADER_UNITS self.now.end self.now.blocks) offset }
+    {
+        if self.tags.header(offset).prev_free {
+            self.tags.footer(offset - 1)
+        } else {
+            0
+        }
+    }
+
+    /// Lays a block at the front of a gap of `gap` units.
+    pub fn enter(&mut self, block: BlockAt, gap: u32)
+        requires gap { gap
+            ≡ gap_at (gaps HEADER_UNITS self.old.end self.old.blocks) block.offset }
+        requires fits { block.size ≤ gap }
+        requires least { MIN_BLOCK ≤ block.size }
+        requires even { block.size % 2 ≡ 0 }
+        requires rest { IsGapSize (gap - block.size) }
+        ensures end { self.new.end ≡ self.old.end }
+        ensures blocks { self.new.blocks ≡ inserted block self.old.blocks }
+    {
+        let end = self.end;
+        let stop = block.offset + gap;
+        lay(&mut self.tags, &mut self.names, end, block, stop, false);
+    }
+
+    /// Makes the block at the offset one gap with the gaps beside it, from `start` up to `stop`.
+    pub fn leave(&mut self, offset: u32, start: u32, stop: u32)
+        requires begins { IsSome (block_at self.old.blocks offset) }
+        requires start { start
+            + gap_up_to (gaps HEADER_UNITS self.old.end self.old.blocks) offset ≡ offset }
+        requires stop { stop ≡ offset + size_of (block_at self.old.blocks offset)
+            + gap_at (gaps HEADER_UNITS self.old.end self.old.blocks)
+            (end_of self.old.blocks offset) }
+        ensures end { self.new.end ≡ self.old.end }
+        ensures blocks { self.new.blocks ≡ without (λ b. b.offset) offset self.old.blocks }
+    {
+        clear(
+            &mut self.tags,
+            &mut self.names,
+            self.end,
+            start,
+            offset,
+            stop,
+        );
+    }
+
+    /// Gives the block at the offset another size and name. The units after it up to `stop`, where
+    /// the next block or the end is, are a gap then, if there are any.
+    pub fn refit(&mut self, block: BlockAt, stop: u32)
+        requires begins { IsSome (block_at self.old.blocks block.offset) }
+        requires stop { stop
+            ≡ block.offset + size_of (block_at self.old.blocks block.offset)
+            + gap_at (gaps HEADER_UNITS self.old.end self.old.blocks)
+            (end_of self.old.blocks block.offset) }
+        requires least { MIN_BLOCK ≤ block.size }
+        requires even { block.size % 2 ≡ 0 }
+        requires fits { block.offset + block.size ≤ stop }
+        requires tiled { Tiled HEADER_UNITS self.old.end
+            (changed_at (λ b. b.offset)
+            (λ b. record { name = block.name; offset = b.offset; size = block.size })
+            block.offset self.old.blocks) }
+        ensures end { self.new.end ≡ self.old.end }
+        ensures blocks { self.new.blocks ≡ changed_at (λ b. b.offset)
+            (λ b. record { name = block.name; offset = b.offset; size = block.size })
+            block.offset self.old.blocks }
+    {
+        let prev_free = self.tags.header(block.offset).prev_free;
+        lay(
+            &mut self.tags,
+            &mut self.names,
+            self.end,
+            block,
+            stop,
+            prev_free,
+        );
+    }
+
+    /// Gives the block at the offset another name.
+    pub fn rename(&mut self, offset: u32, name: u32)
+        requires { IsSome (block_at self.old.blocks offset) }
+        ensures end { self.new.end ≡ self.old.end }
+        ensures blocks { self.new.blocks ≡ changed_at (λ b. b.offset)
+            (λ b. record {
+              name = name;
+              offset = b.offset;
+              size = size_of (block_at self.old.blocks offset);
+            }) offset self.old.blocks }
+    {
+        self.names[(offset / 2) as usize] = name;
+    }
+}

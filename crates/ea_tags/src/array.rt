@@ -1,0 +1,75 @@
+//! The units of a carrier, a word each.
+ghost use Rattle.std.specs.Prelude.{◌≡◌, ℕ, ◌^◌, ◌<◌, replicate, length, slice_index, slice_set, IfOk};
+ghost use Rattle.ea_tags.specs.Words.{code};
+
+use crate::header::{Header, decode, encode};
+use ea_model::OutOfMemory;
+use std::alloc::Global;
+use std::marker::Model;
+
+/// The units of a carrier. Contracts see them as the list of their words.
+#[derive(Drop)]
+pub struct UnitArray {
+    words: Vec<u64>,
+}
+
+impl Model for UnitArray {
+    ghost use Rattle.std.specs.Prelude.{ℕ, List};
+
+    ghost Value = { List ℕ };
+
+    ghost view = { λ a. a.words.items };
+}
+
+impl UnitArray {
+    /// That many units, all of them 0.
+    pub fn new(alloc: Global, units: u32) -> Result<UnitArray, OutOfMemory>
+        ensures { IfOk result (λ a. a ≡ replicate units 0) }
+    {
+        Ok(UnitArray {
+            words: vec![in alloc; 0; units as usize]?,
+        })
+    }
+
+    /// How many units there are.
+    pub fn len(&self) -> u32
+        requires { length self.now < 2 ^ 32 }
+        ensures { result ≡ length self.now }
+    {
+        self.words.len() as u32
+    }
+
+    /// The header in the unit at `at`. Each number below 2^35 is the word of just one header.
+    pub fn header(&self, at: u32) -> Header
+        requires within { at < length self.now }
+        requires header { slice_index self.now at < 2 ^ 35 }
+        ensures { code result ≡ slice_index self.now at }
+    {
+        decode(self.words[at as usize])
+    }
+
+    /// Puts the word of a header into the unit at `at`.
+    pub fn set_header(&mut self, at: u32, header: Header)
+        requires { at < length self.old }
+        ensures { self.new ≡ slice_set self.old at (code header) }
+    {
+        self.words[at as usize] = encode(header);
+    }
+
+    /// The number of units in the unit at `at`, the last one of a gap.
+    pub fn footer(&self, at: u32) -> u32
+        requires within { at < length self.now }
+        requires small { slice_index self.now at < 2 ^ 32 }
+        ensures { result ≡ slice_index self.now at }
+    {
+        self.words[at as usize] as u32
+    }
+
+    /// Puts a gap's number of units into the unit at `at`, its last one.
+    pub fn set_footer(&mut self, at: u32, size: u32)
+        requires { at < length self.old }
+        ensures { self.new ≡ slice_set self.old at size }
+    {
+        self.words[at as usize] = u64::from(size);
+    }
+}

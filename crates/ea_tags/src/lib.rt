@@ -1,0 +1,9 @@
+//! Boundary tags: what a block or a gap of a carrier says of itself in its first unit, and a gap in
+//! its last one.
+#![tactic(auto)]
+
+pub mod array;
+pub mod header;
+
+pub use array::UnitArray;
+pub use header::Header;
