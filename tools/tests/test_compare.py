@@ -34,6 +34,10 @@ def two(first, second, *turns):
     return "\n".join(["type H", "scheduler 1", *first, "scheduler 2", *second, "schedule", *turns, "end", ""])
 
 
+def program():
+    return PROGRAM[1] if PROGRAM else f"{TOP}/run"
+
+
 def flags_of(file):
     with open(file, encoding="utf-8") as source:
         return source.read().split()
@@ -134,8 +138,8 @@ class Compare(unittest.TestCase):
 
     def test_abandoned_and_fetched(self):
         pages = ["--each", "+MHsmbcs 4", "--each", "+MHlmbcs 4", "--each", "+MHacul 60 0"]
-        blocks = ["alloc 1 1000", "alloc 2 1000", "alloc 3 2000", "alloc 4 100", "free 3", "alloc 5 3000", "alloc 6 2000"]
-        migrating, kept = self.rows(self.file("a.trace", one(*blocks)), *pages)
+        first = ["alloc 1 1000", "alloc 2 1000", "alloc 3 2000", "alloc 4 100", "free 3"]
+        migrating, kept = self.rows(self.file("a.trace", one(*first, "alloc 5 3000", "alloc 6 2000")), *pages)
         # 126 + 126 + 252 units fill carrier 1. After the free it has 252 of 512, and is abandoned; block 6 fetches it.
         self.assertRow(migrating, abandoned=1, fetched=1, returned=0, carriers_most=2, units_most=1024)
         self.assertRow(migrating, utilisation_end=87.3)
@@ -173,7 +177,8 @@ class Compare(unittest.TestCase):
         words = ["--each", "+S 2", *KEPT_APART, "--each", "+MMscs 64 1"]
         roomy, tight = self.rows(self.file("a.trace", "type H\ngenerate 7 1000\nend\n"), *words)
         # Of docs/FORMATS.md: 5786268 live and 261192 queued of 6262784 units are 96.56 percent.
-        self.assertRow(roomy, carriers_end=20, units_end=6262784, utilisation_end=96.5, queued=261192, failed=0, moved=0)
+        self.assertRow(roomy, carriers_end=20, units_end=6262784, utilisation_end=96.5, queued=261192)
+        self.assertRow(roomy, failed=0, moved=0, returned=0)
         self.assertRow(roomy, carriers_most=None, units_most=None, failed_space=None, abandoned=0, fetched=0)
         self.assertGreaterEqual(tight["failed"], 578)
 
@@ -192,10 +197,10 @@ class Compare(unittest.TestCase):
             self.assertRow(row, utilisation_most=tenths / 10)
 
     def totals(self, name, lines):
-        program = PROGRAM[1] if PROGRAM else f"{TOP}/run"
         text = "\n".join([*lines, "schedule", "end", ""])
-        words = [program, *flags_of(f"{EXAMPLES}/{name}.flags")]
-        last = subprocess.run(words, input=text, capture_output=True, text=True, check=True).stdout.split("\n")[-2].split()
+        words = [program(), *flags_of(f"{EXAMPLES}/{name}.flags")]
+        ran = subprocess.run(words, input=text, capture_output=True, text=True, check=True)
+        last = ran.stdout.split("\n")[-2].split()
         return {word: int(number) for word, number in zip(last[1::2], last[2::2])}
 
     def test_every_example_of_one_scheduler_is_exact(self):
@@ -241,7 +246,8 @@ class Compare(unittest.TestCase):
         self.assertEqual([(it["list"], it["status"]) for it in json.loads(text)], [("bad.flags", 1), ("good.flags", 0)])
 
     def test_refused_flags_of_a_grid(self):
-        status, text, said = self.compare(self.file("a.trace", one()), "--each", "+MHas bf ff", "--columns", "list,status")
+        words = ["--each", "+MHas bf ff", "--columns", "list,status"]
+        status, text, said = self.compare(self.file("a.trace", one()), *words)
         self.assertEqual((status, said), (1, "compare: --each '+MHas ff': ff: bad value\n"))
         self.assertEqual(text, "list      status\n\n+MHas bf       0\n+MHas ff       1\n")
 
@@ -251,15 +257,17 @@ class Compare(unittest.TestCase):
 
     def test_files_that_are_not_there(self):
         trace = self.file("a.trace", one())
-        status, text, said = self.compare("b.trace", trace, "--flags", "c.flags", self.file("d.flags", ""), "--as", "json")
-        self.assertEqual(status, 1)
-        self.assertEqual(said, "compare: b.trace: No such file or directory\ncompare: c.flags: No such file or directory\n")
+        words = ["--as", "json", "--flags", "c.flags", self.file("d.flags", "")]
+        status, text, said = self.compare("b.trace", trace, *words)
+        lines = [f"compare: {it}: No such file or directory" for it in ("b.trace", "c.flags")]
+        self.assertEqual((status, said.splitlines()), (1, lines))
         self.assertEqual([it["status"] for it in json.loads(text)], [None, 0, None])
         self.assertEqual(self.compare("/", *KEPT_APART)[::2], (1, "compare: /: Is a directory\n"))
 
     def test_what_is_no_program(self):
         trace = self.file("a.trace", one())
-        self.assertEqual(self.compare("--program", "none", trace), (1, "", "compare: none: No such file or directory\n"))
+        said = "compare: none: No such file or directory\n"
+        self.assertEqual(self.compare("--program", "none", trace), (1, "", said))
         status, text, said = self.compare("--program", "/bin/true", trace)
         self.assertEqual((status, text), (1, ""))
         self.assertEqual(said, "compare: /bin/true: this is not the simulator: it ends with status 0\n")
@@ -293,16 +301,18 @@ class Compare(unittest.TestCase):
             self.assertEqual((ran.stderr.read(), ran.wait()), (b"", 1))
 
     def test_an_interrupt_leaves_what_had_ended(self):
-        real = subprocess.run([TOOL, *PROGRAM, "--print-commands", self.file("a.trace", one())],
-                              cwd=self.room, capture_output=True, text=True, check=True).stdout.split()
-        slow = self.file("slow", f'#!/bin/sh\n[ "${{2:-}}" = bf ] && exec sleep 60\nexec {real[real.index("--program") + 1]} "$@"\n')
+        self.file("a.trace", one())
+        lines = ["#!/bin/sh", '[ "${2:-}" = bf ] && touch begun && sleep 60', f'exec {shlex.quote(program())} "$@"', ""]
+        slow = self.file("slow", "\n".join(lines))
         os.chmod(f"{self.room}/slow", 0o755)
         words = ["a.trace", "--program", slow, "--jobs", "1", "--each", "+MHas gf bf af", "--columns", "list,status"]
         ran = subprocess.Popen(self.words(*words), cwd=self.room, stdout=subprocess.PIPE, stderr=subprocess.PIPE,
                                text=True, start_new_session=True)
-        time.sleep(3)
+        while not os.path.exists(f"{self.room}/begun"):
+            self.assertIsNone(ran.poll())
+            time.sleep(0.05)
         os.killpg(ran.pid, signal.SIGINT)
-        text, said = ran.communicate(timeout=20)
+        text, said = ran.communicate(timeout=50)
         self.assertEqual(ran.returncode, 130)
         self.assertTrue(said.startswith("compare: interrupted\n"), said)
         self.assertIn("+MHas gf       0\n", text)
@@ -310,8 +320,8 @@ class Compare(unittest.TestCase):
 
     def test_words_that_are_no_command(self):
         trace = self.file("a.trace", one())
-        for words in ([], [trace, "--by", "size"], [trace, "--each", "+MHas"], [trace, "--jobs", "0"], [trace, "--as", "xml"],
-                      ["--flags", "a.flags", trace], [trace, "--from", "a.json"], [trace, "--columns", "list,size"]):
+        options = ["--by size", "--each +MHas", "--jobs 0", "--as xml", "--from a.json", "--columns size", "--other"]
+        for words in ([], ["--flags", "a.flags", trace], *([trace, *it.split()] for it in options)):
             status, text, said = self.compare(*words)
             self.assertEqual((status, text), (2, ""), words)
             self.assertIn("compare: error: ", said)
@@ -362,6 +372,9 @@ class Compare(unittest.TestCase):
         self.file("a.json", '[\n{"list": "a", "status": 0}\n]\n')
         self.file("b.json", '[\n{"list":\n')
         self.file("c.json", '{"list": "a"}\n')
+        cells = [("size", 1), ("list", 1), ("moved", "many"), ("seconds", "<=1"), ("queued", [1]), ("failed", True)]
+        for name, value in cells:
+            self.assertEqual(self.compare("--from", self.file("e.json", json.dumps([{name: value}])))[0], 1, name)
         words = ["--from", "b.json", "a.json", "c.json", "d.json", "--columns", "list,carriers_end"]
         status, text, said = self.compare(*words)
         self.assertEqual((status, text), (1, "list  carriers\n           end\na            -\n"))
