@@ -263,6 +263,9 @@ class Compare(unittest.TestCase):
         self.assertEqual((status, said.splitlines()), (1, lines))
         self.assertEqual([it["status"] for it in json.loads(text)], [None, 0, None])
         self.assertEqual(self.compare("/", *KEPT_APART)[::2], (1, "compare: /: Is a directory\n"))
+        self.assertEqual(self.compare("/dev/null")[::2], (1, "compare: /dev/null: no regular file\n"))
+        words = [trace, "--flags", self.file("e.flags", "+MHas\nb\0f\n")]
+        self.assertEqual(self.compare(*words)[::2], (1, "compare: e.flags: line 2: a zero byte\n"))
 
     def test_what_is_no_program(self):
         trace = self.file("a.trace", one())
