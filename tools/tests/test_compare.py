@@ -387,7 +387,11 @@ class Compare(unittest.TestCase):
     def test_help(self):
         status, text, said = self.compare("--help")
         self.assertEqual((status, said), (0, ""))
-        self.assertIn("utilisation_most", text)
+        names = [it.split()[0] for it in text.partition("\nColumns:\n")[2].partition("\n\n")[0].splitlines()]
+        with open(f"{TOP}/docs/FORMATS.md", encoding="utf-8") as source:
+            section = source.read().partition("\n## The tools: compare\n")[2].partition("\n## ")[0]
+        self.assertEqual([it for it in names if f"`{it}`" not in section], [])
+        self.assertIn("utilisation_most", names)
 
 
 def main():
