@@ -249,7 +249,7 @@ class Compare(unittest.TestCase):
         words = ["--each", "+MHas bf ff", "--columns", "list,status"]
         status, text, said = self.compare(self.file("a.trace", one()), *words)
         self.assertEqual((status, said), (1, "compare: --each '+MHas ff': ff: bad value\n"))
-        self.assertEqual(text, "list      status\n\n+MHas bf       0\n+MHas ff       1\n")
+        self.assertEqual(text, "list      status\n+MHas bf       0\n+MHas ff       1\n")
 
     def test_a_main_carrier_that_does_not_fit(self):
         said = self.compare(self.file("a.trace", one()), "--each", "+MMscs 1", "--each", "+MHmmbcs 2000")[2]
