@@ -309,8 +309,10 @@ class Compare(unittest.TestCase):
         slow = self.file("slow", "\n".join(lines))
         os.chmod(f"{self.room}/slow", 0o755)
         words = ["a.trace", "--program", slow, "--jobs", "1", "--each", "+MHas gf bf af", "--columns", "list,status"]
-        ran = subprocess.Popen(self.words(*words), cwd=self.room, stdout=subprocess.PIPE, stderr=subprocess.PIPE,
-                               text=True, start_new_session=True)
+        # A shell starts what runs in the background with this signal ignored.
+        how = {"preexec_fn": lambda: signal.signal(signal.SIGINT, signal.SIG_DFL), "start_new_session": True}
+        streams = {"stdout": subprocess.PIPE, "stderr": subprocess.PIPE, "text": True}
+        ran = subprocess.Popen(self.words(*words), cwd=self.room, **streams, **how)
         while not os.path.exists(f"{self.room}/begun"):
             self.assertIsNone(ran.poll())
             time.sleep(0.05)
