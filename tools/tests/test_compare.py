@@ -1,0 +1,409 @@
+#!/usr/bin/env python3
+"""Tests of tools/compare: python3 tools/tests/test_compare.py [PROGRAM], without which ./run is asked for it.
+
+What is expected was worked out by hand from docs/FORMATS.md, or is counted here from runs of the program on the fronts
+of a trace; nothing is taken from the tool. The last line is 'N passed, M failed'.
+"""
+import csv
+import io
+import json
+import os
+import shlex
+import shutil
+import signal
+import subprocess
+import sys
+import tempfile
+import time
+import unittest
+
+TOP = os.path.dirname(os.path.dirname(os.path.dirname(os.path.realpath(__file__))))
+TOOL = f"{TOP}/tools/compare"
+EXAMPLES = f"{TOP}/examples"
+PROGRAM = []
+NOT_SECONDS = "list,trace,status,carriers_end,carriers_most,units_end,units_most,failed,moved,said"
+KEPT_APART = ["--each", "+MHacul 0"]
+
+
+def one(*operations):
+    """A trace of one scheduler."""
+    return "\n".join(["type H", "scheduler 1", *operations, "schedule", "end", ""])
+
+
+def two(first, second, *turns):
+    return "\n".join(["type H", "scheduler 1", *first, "scheduler 2", *second, "schedule", *turns, "end", ""])
+
+
+def program():
+    return PROGRAM[1] if PROGRAM else f"{TOP}/run"
+
+
+def flags_of(file):
+    with open(file, encoding="utf-8") as source:
+        return source.read().split()
+
+
+class Compare(unittest.TestCase):
+    def setUp(self):
+        self.room = tempfile.mkdtemp(prefix="test-compare-")
+        self.addCleanup(shutil.rmtree, self.room)
+
+    def file(self, name, text):
+        with open(f"{self.room}/{name}", "w", encoding="utf-8") as made:
+            made.write(text)
+        return name
+
+    def words(self, *words):
+        return [sys.executable, "-B", TOOL, *PROGRAM, *words]
+
+    def compare(self, *words, folder=None):
+        ran = subprocess.run(
+            self.words(*words), capture_output=True, text=True, cwd=folder or self.room, timeout=120, check=False
+        )
+        self.assertNotIn("Traceback", ran.stderr)
+        return ran.returncode, ran.stdout, ran.stderr
+
+    def rows(self, *words, status=0, folder=None):
+        ended, text, said = self.compare(*words, "--as", "json", folder=folder)
+        self.assertEqual((ended, said if status == 0 else ""), (status, ""))
+        return json.loads(text)
+
+    def row(self, trace, *words):
+        [row] = self.rows(self.file("a.trace", trace), *words)
+        return row
+
+    def assertRow(self, row, **wanted):
+        self.assertEqual({name: row[name] for name in wanted}, wanted)
+
+    # What the columns say
+
+    def test_one_block(self):
+        row = self.row(one("alloc 1 100"), *KEPT_APART)
+        self.assertRow(row, status=0, carriers_end=1, carriers_most=1, units_end=32768, units_most=32768)
+        self.assertRow(row, failed=0, moved=0, abandoned=0, fetched=0, returned=0, queued=0, said=None)
+        # 14 of 32768 units are 0.04 percent.
+        self.assertRow(row, utilisation_end=0.0, utilisation_most=0.0)
+        self.assertGreater(row["seconds"], 0)
+
+    def test_a_carrier_that_is_gone_at_the_end(self):
+        row = self.row(one("alloc 1 2000", "free 1"), *KEPT_APART, "--each", "+MHsbct 1")
+        # 252 units of 512 are 49.2 percent.
+        self.assertRow(row, carriers_end=0, carriers_most=1, units_end=0, units_most=512)
+        self.assertRow(row, utilisation_end=None, utilisation_most=49.2)
+
+    def test_single_and_multiblock_carriers(self):
+        operations = ["alloc 1 2000", "alloc 2 2000", "alloc 3 100", "free 1", "alloc 4 4000"]
+        row = self.row(one(*operations), *KEPT_APART, "--each", "+MHsbct 1")
+        # 768 units of 33792 are 2.27 percent. Two carriers of one page with 252 units each come first.
+        self.assertRow(row, carriers_end=3, carriers_most=3, units_end=33792, units_most=33792)
+        self.assertRow(row, utilisation_end=2.2, utilisation_most=49.2)
+
+    def test_a_peak(self):
+        [row] = self.rows("after-a-peak.trace", "--flags", "after-a-peak.flags", folder=EXAMPLES)
+        # Its first `info` tells 40 and 75002 units of blocks in 32768 and 75264 units: 69.46 percent.
+        self.assertRow(row, carriers_end=1, carriers_most=2, units_end=32768, units_most=32768 + 75264)
+        self.assertRow(row, utilisation_end=0.0, utilisation_most=69.4)
+
+    def test_the_table_of_growing_sizes(self):
+        kinds = {"start": 392, "smbcs128": 368, "lmbcs512": 360, "mbcgs2": 376}
+        lists = [f"growing-sizes.{it}.flags" for it in kinds]
+        rows = self.rows("growing-sizes.trace", "--flags", *lists, folder=EXAMPLES)
+        self.assertEqual([it["list"] for it in rows], lists)
+        self.assertEqual([it["carriers_most"] for it in rows], [8, 7, 5, 7])
+        self.assertEqual([it["units_most"] for it in rows], [512 * pages for pages in kinds.values()])
+
+    def test_a_singleblock_carrier_that_shrinks(self):
+        grid = [*KEPT_APART, "--each", "+MMscs 1", "--each", "+MHasbcst 256 1024"]
+        rows = self.rows(self.file("a.trace", one("alloc 1 1000000", "realloc 1 2 600000", "alloc 3 1000")), *grid)
+        # 245 pages; then 147, or as they were. A multiblock carrier of 64 pages, or one of the 11 that are left.
+        self.assertEqual([it["units_most"] for it in rows], [245 * 512, 246 * 512])
+        self.assertEqual([it["units_end"] for it in rows], [211 * 512, 246 * 512])
+
+    def test_moved_blocks_and_the_moment_of_a_move(self):
+        grid = [*KEPT_APART, "--each", "+MHsbct 1", "--each", "+MHramv true false"]
+        rows = self.rows(self.file("a.trace", one("alloc 1 2000", "realloc 1 2 2000")), *grid)
+        self.assertEqual([it["moved"] for it in rows], [1, 0])
+        # While it moves, the old carrier and the new one are both there.
+        self.assertEqual([it["carriers_most"] for it in rows], [2, 1])
+        self.assertEqual([it["units_most"] for it in rows], [1024, 512])
+
+    def test_failures_for_want_of_space(self):
+        row = self.row(one("alloc 1 524280", "alloc 2 524280", "alloc 3 100"), *KEPT_APART, "--each", "+MMscs 1")
+        self.assertRow(row, failed=1, failed_space=1, failed_numbers=0, carriers_most=1)
+
+    def test_failures_for_want_of_numbers(self):
+        operations = [f"alloc {it} 2000" for it in range(1, 259)]
+        row = self.row(one(*operations), *KEPT_APART, "--each", "+MHsbct 1", "--each", "+MMscs 2")
+        self.assertRow(row, failed=2, failed_space=0, failed_numbers=2, carriers_most=256, units_most=256 * 512)
+
+    def test_abandoned_and_fetched(self):
+        pages = ["--each", "+MHsmbcs 4", "--each", "+MHlmbcs 4", "--each", "+MHacul 60 0"]
+        first = ["alloc 1 1000", "alloc 2 1000", "alloc 3 2000", "alloc 4 100", "free 3"]
+        migrating, kept = self.rows(self.file("a.trace", one(*first, "alloc 5 3000", "alloc 6 2000")), *pages)
+        # 126 + 126 + 252 units fill carrier 1. After the free it has 252 of 512, and is abandoned; block 6 fetches it.
+        self.assertRow(migrating, abandoned=1, fetched=1, returned=0, carriers_most=2, units_most=1024)
+        self.assertRow(migrating, utilisation_end=87.3)
+        self.assertRow(kept, abandoned=0, fetched=0, returned=0, carriers_most=2)
+
+    def test_returned(self):
+        first = ["alloc 1 1000", "alloc 2 3000", "free 2", "give 1 2"]
+        second = ["take 1 1", "alloc 3 1000", "free 1", "free 3"]
+        pages = ["--each", "+S 2", "--each", "+MHsmbcs 4", "--each", "+MHlmbcs 4"]
+        row = self.row(two(first, second), *pages)
+        # Abandoned by 1, fetched by 2, abandoned by 2 and emptied there; its owner has ended.
+        self.assertRow(row, abandoned=2, fetched=1, returned=1, carriers_end=1, carriers_most=1, utilisation_end=0.0)
+
+    def test_queued_blocks_are_in_use(self):
+        row = self.row(two(["alloc 1 1000", "give 1 2"], ["take 1 1", "free 1"]), "--each", "+S 2", *KEPT_APART)
+        # 126 of 32768 units are 0.38 percent.
+        self.assertRow(row, queued=126, utilisation_end=0.3, utilisation_most=0.3, carriers_most=1)
+
+    def test_bounds_where_the_order_is_not_known(self):
+        lists = ["higher-acul.acul20.flags", "higher-acul.acul60.flags"]
+        above, migrating = self.rows("higher-acul.trace", "--flags", *lists, folder=EXAMPLES)
+        # Scheduler 1 has four carriers before scheduler 2 has its first. With 60 that fetches two of them.
+        self.assertRow(above, carriers_end=5, carriers_most="<=6", units_most=None, abandoned=None, fetched=None)
+        self.assertRow(migrating, carriers_end=4, carriers_most="<=5", units_most=None, abandoned=">=2", fetched=">=2")
+
+    def test_a_bound_by_infos(self):
+        sections = ["alloc 1 2000", "free 1", "info"], ["alloc 2 100", "info"]
+        flags = ["--each", "+S 2", *KEPT_APART, "--each", "+MHsbct 1"]
+        row = self.row(two(*sections, "1*1 2*3 1*3"), *flags)
+        self.assertRow(row, carriers_end=1, carriers_most="<=2", units_end=32768, units_most="<=33280")
+        sections[1].append("alloc 3 100")
+        self.assertRow(self.row(two(*sections, "1*1 2*3 1*3"), *flags), units_most=None, utilisation_most=None)
+
+    def test_a_generated_trace(self):
+        words = ["--each", "+S 2", *KEPT_APART, "--each", "+MMscs 64 1"]
+        roomy, tight = self.rows(self.file("a.trace", "type H\ngenerate 7 1000\nend\n"), *words)
+        # Of docs/FORMATS.md: 5786268 live and 261192 queued of 6262784 units are 96.56 percent.
+        self.assertRow(roomy, carriers_end=20, units_end=6262784, utilisation_end=96.5, queued=261192)
+        self.assertRow(roomy, failed=0, moved=0, returned=0)
+        self.assertRow(roomy, carriers_most=None, units_most=None, failed_space=None, abandoned=0, fetched=0)
+        self.assertGreaterEqual(tight["failed"], 578)
+
+    def test_at_most_is_the_greatest_of_all_fronts(self):
+        """The program's own totals on each front of an example, beside the replay."""
+        for name in ("mixed-sizes.sbct32", "main-carrier.with", "good-fit.depth1"):
+            file = f"{EXAMPLES}/{name.partition('.')[0]}.trace"
+            with open(file, encoding="utf-8") as source:
+                lines = [it for it in source.read().split("\n") if it and not it.startswith("#")]
+            head, operations = lines[:2], lines[2 : lines.index("schedule")]
+            totals = [self.totals(name, [*head, *operations[:count]]) for count in range(len(operations) + 1)]
+            [row] = self.rows(file, "--flags", f"{EXAMPLES}/{name}.flags")
+            self.assertRow(row, carriers_most=max(it["carriers"] for it in totals))
+            self.assertRow(row, units_most=max(it["units"] for it in totals))
+            tenths = max(1000 * it["live"] // it["units"] for it in totals if it["units"])
+            self.assertRow(row, utilisation_most=tenths / 10)
+
+    def totals(self, name, lines):
+        text = "\n".join([*lines, "schedule", "end", ""])
+        words = [program(), *flags_of(f"{EXAMPLES}/{name}.flags")]
+        ran = subprocess.run(words, input=text, capture_output=True, text=True, check=True)
+        last = ran.stdout.split("\n")[-2].split()
+        return {word: int(number) for word, number in zip(last[1::2], last[2::2])}
+
+    def test_every_example_of_one_scheduler_is_exact(self):
+        checked = 0
+        for trace in sorted(it for it in os.listdir(EXAMPLES) if it.endswith(".trace")):
+            name = trace.removesuffix(".trace")
+            lists = [it for it in os.listdir(EXAMPLES) if it.partition(".")[0] == name and it.endswith(".flags")]
+            with open(f"{EXAMPLES}/{trace}", encoding="utf-8") as source:
+                text = source.read()
+            if not lists or "generate" in text or text.count("\nscheduler ") > 1:
+                continue
+            for row in self.rows(trace, "--flags", *lists, folder=EXAMPLES):
+                for column in ("carriers_most", "units_most", "abandoned", "fetched", "returned"):
+                    self.assertIsInstance(row[column], int, f"{row['list']}: {column}")
+                checked += 1
+        self.assertGreater(checked, 50)
+
+    def test_the_example_of_twelve_lists(self):
+        """Its figures were counted by awk, from runs with an `info` after each operation."""
+        with open(f"{EXAMPLES}/busy-days.command", encoding="utf-8") as source:
+            line = shlex.join([sys.executable, "-B"]) + " " + source.read().strip() + " " + shlex.join(PROGRAM)
+        ran = subprocess.run(["sh", "-c", line], cwd=EXAMPLES, capture_output=True, text=True, check=False)
+        with open(f"{EXAMPLES}/busy-days.table", encoding="utf-8") as source:
+            self.assertEqual((ran.returncode, ran.stdout, ran.stderr), (0, source.read(), ""))
+
+    # Bad input
+
+    def test_a_refused_trace_is_a_line_of_the_table(self):
+        good, bad = self.file("good.trace", one("alloc 1 100")), self.file("bad.trace", one("frob 1"))
+        status, text, said = self.compare(bad, good, "--each", "+MHas bf gf", *KEPT_APART, "--as", "json")
+        self.assertEqual((status, said), (1, "compare: bad.trace: line 3: syntax\n"))
+        self.assertEqual([(it["trace"], it["status"], it["carriers_end"]) for it in json.loads(text)], [
+            ("bad.trace", 2, None), ("good.trace", 0, 1), ("bad.trace", 2, None), ("good.trace", 0, 1)])
+
+    def test_a_trace_without_an_end(self):
+        self.assertEqual(self.compare(self.file("a.trace", "type H\n"))[::2], (1, "compare: a.trace: no end line\n"))
+
+    def test_refused_flags_name_file_and_line(self):
+        self.file("bad.flags", "+MMscs\n1\n+MHas\nff\n")
+        words = [self.file("a.trace", one("alloc 1 100")), "--as", "json", "--flags", "bad.flags"]
+        status, text, said = self.compare(*words, self.file("good.flags", "+MHacul 0"))
+        self.assertEqual((status, said), (1, "compare: bad.flags: line 4: ff: bad value\n"))
+        self.assertEqual([(it["list"], it["status"]) for it in json.loads(text)], [("bad.flags", 1), ("good.flags", 0)])
+
+    def test_refused_flags_of_a_grid(self):
+        words = ["--each", "+MHas bf ff", "--columns", "list,status"]
+        status, text, said = self.compare(self.file("a.trace", one()), *words)
+        self.assertEqual((status, said), (1, "compare: --each '+MHas ff': ff: bad value\n"))
+        self.assertEqual(text, "list      status\n+MHas bf       0\n+MHas ff       1\n")
+
+    def test_a_main_carrier_that_does_not_fit(self):
+        said = self.compare(self.file("a.trace", one()), "--each", "+MMscs 1", "--each", "+MHmmbcs 2000")[2]
+        self.assertEqual(said, "compare: +MMscs 1 +MHmmbcs 2000: super carrier too small\n")
+
+    def test_files_that_are_not_there(self):
+        trace = self.file("a.trace", one())
+        words = ["--as", "json", "--flags", "c.flags", self.file("d.flags", "")]
+        status, text, said = self.compare("b.trace", trace, *words)
+        lines = [f"compare: {it}: No such file or directory" for it in ("b.trace", "c.flags")]
+        self.assertEqual((status, said.splitlines()), (1, lines))
+        self.assertEqual([it["status"] for it in json.loads(text)], [None, 0, None])
+        self.assertEqual(self.compare("/", *KEPT_APART)[::2], (1, "compare: /: Is a directory\n"))
+        self.assertEqual(self.compare("/dev/null")[::2], (1, "compare: /dev/null: no regular file\n"))
+        words = [trace, "--flags", self.file("e.flags", "+MHas\nb\0f\n")]
+        self.assertEqual(self.compare(*words)[::2], (1, "compare: e.flags: line 2: a zero byte\n"))
+
+    def test_what_is_no_program(self):
+        trace = self.file("a.trace", one())
+        said = "compare: none: No such file or directory\n"
+        self.assertEqual(self.compare("--program", "none", trace), (1, "", said))
+        status, text, said = self.compare("--program", "/bin/true", trace)
+        self.assertEqual((status, text), (1, ""))
+        self.assertEqual(said, "compare: /bin/true: this is not the simulator: it ends with status 0\n")
+
+    def test_an_output_that_cannot_be_written_is_said_first(self):
+        trace = self.file("a.trace", one())
+        said = self.compare(trace, "--output", "none/table")
+        self.assertEqual(said, (1, "", "compare: none/table: No such file or directory\n"))
+        self.assertEqual(self.compare(trace, "--output", "/"), (1, "", "compare: /: Is a directory\n"))
+        self.assertEqual(os.listdir(self.room), ["a.trace"])
+
+    def test_what_a_full_disk_does_not_take_goes_to_standard_output(self):
+        words = [self.file("a.trace", one("alloc 1 100")), "--columns", "carriers_end", "--output", "/dev/full"]
+        said = "compare: /dev/full: No space left on device: it is on standard output\n"
+        self.assertEqual(self.compare(*words), (1, "carriers\n     end\n       1\n", said))
+
+    def test_an_output_is_replaced_as_a_whole(self):
+        old = self.file("table", "old\n")
+        words = ["--columns", "carriers_end", "--output", old]
+        self.assertEqual(self.compare(self.file("a.trace", one("alloc 1 100")), *words), (0, "", ""))
+        with open(f"{self.room}/table", encoding="utf-8") as source:
+            self.assertEqual(source.read(), "carriers\n     end\n       1\n")
+        self.assertEqual(sorted(os.listdir(self.room)), ["a.trace", "table"])
+        self.assertEqual(os.stat(f"{self.room}/table").st_mode & 0o777, 0o666 & ~os.umask(0o022))
+        os.umask(0o022)
+
+    def test_a_closed_pipe(self):
+        trace = self.file("a.trace", one())
+        with subprocess.Popen(self.words(trace), cwd=self.room, stdout=subprocess.PIPE, stderr=subprocess.PIPE) as ran:
+            ran.stdout.close()
+            self.assertEqual((ran.stderr.read(), ran.wait()), (b"", 1))
+
+    def test_an_interrupt_leaves_what_had_ended(self):
+        self.file("a.trace", one())
+        lines = ["#!/bin/sh", '[ "${2:-}" = bf ] && touch begun && sleep 60', f'exec {shlex.quote(program())} "$@"', ""]
+        slow = self.file("slow", "\n".join(lines))
+        os.chmod(f"{self.room}/slow", 0o755)
+        words = ["a.trace", "--program", slow, "--jobs", "1", "--each", "+MHas gf bf af", "--columns", "list,status"]
+        # A shell starts what runs in the background with this signal ignored.
+        how = {"preexec_fn": lambda: signal.signal(signal.SIGINT, signal.SIG_DFL), "start_new_session": True}
+        streams = {"stdout": subprocess.PIPE, "stderr": subprocess.PIPE, "text": True}
+        ran = subprocess.Popen(self.words(*words), cwd=self.room, **streams, **how)
+        while not os.path.exists(f"{self.room}/begun"):
+            self.assertIsNone(ran.poll())
+            time.sleep(0.05)
+        os.killpg(ran.pid, signal.SIGINT)
+        text, said = ran.communicate(timeout=50)
+        self.assertEqual(ran.returncode, 130)
+        self.assertTrue(said.startswith("compare: interrupted\n"), said)
+        self.assertIn("+MHas gf       0\n", text)
+        self.assertNotIn("Traceback", said)
+
+    def test_words_that_are_no_command(self):
+        trace = self.file("a.trace", one())
+        options = ["--by size", "--each +MHas", "--jobs 0", "--as xml", "--from a.json", "--columns size", "--other"]
+        for words in ([], ["--flags", "a.flags", trace], *([trace, *it.split()] for it in options)):
+            status, text, said = self.compare(*words)
+            self.assertEqual((status, text), (2, ""), words)
+            self.assertIn("compare: error: ", said)
+
+    # Forms and order
+
+    def test_sorted_with_the_unknown_last(self):
+        trace = self.file("a.trace", one(*[f"alloc {it} 60000" for it in range(1, 21)]))
+        words = [trace, *KEPT_APART, "--each", "+MHlmbcs 256 0 512 2048", "--by", "carriers_end"]
+        rows = self.rows(*words, status=1)
+        self.assertEqual([it["carriers_end"] for it in rows], sorted(it["carriers_end"] for it in rows[:3]) + [None])
+        rows = self.rows(*words, "--reverse", status=1)
+        self.assertEqual([it["flags"].split()[-1] for it in rows], ["256", "512", "2048", "0"])
+
+    def test_a_bound_is_sorted_by_its_number(self):
+        table = [{"list": it[0], "carriers_most": it[1]} for it in (("a", 10), ("b", "<=9"), ("c", None), ("d", 8))]
+        rows = self.rows("--from", self.file("a.json", json.dumps(table)), "--by", "carriers_most")
+        self.assertEqual([it["list"] for it in rows], ["d", "b", "a", "c"])
+
+    def test_csv_and_json_have_the_same_cells(self):
+        words = [self.file("a.trace", one("alloc 1 2000", "free 1")), *KEPT_APART, "--each", "+MHsbct 1"]
+        words += ["--columns", "list,status,carriers_most,utilisation_end,utilisation_most"]
+        [row] = csv.DictReader(io.StringIO(self.compare(*words, "--as", "csv")[1]))
+        self.assertEqual(row, {"list": "+MHacul 0 +MHsbct 1", "status": "0", "carriers_most": "1",
+                               "utilisation_end": "", "utilisation_most": "49.2"})
+        [row] = self.rows(*words)
+        self.assertEqual(row, {"list": "+MHacul 0 +MHsbct 1", "status": 0, "carriers_most": 1,
+                               "utilisation_end": None, "utilisation_most": 49.2})
+
+    # Commands and results
+
+    def test_the_results_of_commands_make_the_same_table(self):
+        self.file("base.flags", "+MHacul\n0\n")
+        traces = [self.file("a b.trace", one("alloc 1 1000", "realloc 1 2 90000")), self.file("bad.trace", one("frob"))]
+        words = [*traces, "--flags", "base.flags", "--each", "+MHas bf gf ff", "--each", "+MHsbct 1 512"]
+        direct = self.compare(*words, "--columns", NOT_SECONDS, "--by", "carriers_most")
+        self.assertEqual(direct[0], 1)
+        status, lines, said = self.compare(*words, "--print-commands", "--results", "some results")
+        self.assertEqual((status, said, len(lines.splitlines())), (0, "", 12))
+        for number, line in enumerate(lines.splitlines(), 1):
+            subprocess.run(["sh", "-c", line], cwd=self.room, stderr=subprocess.DEVNULL, check=False)
+            self.assertEqual(len(os.listdir(f"{self.room}/some results")), number)
+        results = [f"some results/{it}" for it in sorted(os.listdir(f"{self.room}/some results"))]
+        again = self.compare("--from", *results, "--columns", NOT_SECONDS, "--by", "carriers_most")
+        self.assertEqual(again[:2], direct[:2])
+
+    def test_results_that_cannot_be_read(self):
+        self.file("a.json", '[\n{"list": "a", "status": 0}\n]\n')
+        self.file("b.json", '[\n{"list":\n')
+        self.file("c.json", '{"list": "a"}\n')
+        cells = [("size", 1), ("list", 1), ("moved", "many"), ("seconds", "<=1"), ("queued", [1]), ("failed", True)]
+        for name, value in cells:
+            self.assertEqual(self.compare("--from", self.file("e.json", json.dumps([{name: value}])))[0], 1, name)
+        words = ["--from", "b.json", "a.json", "c.json", "d.json", "--columns", "list,carriers_end"]
+        status, text, said = self.compare(*words)
+        self.assertEqual((status, text), (1, "list  carriers\n           end\na            -\n"))
+        self.assertEqual(said, "compare: b.json: line 3: no JSON: Expecting value\n"
+                               "compare: c.json: no table of this tool's\ncompare: d.json: No such file or directory\n")
+
+    def test_help(self):
+        status, text, said = self.compare("--help")
+        self.assertEqual((status, said), (0, ""))
+        names = [it.split()[0] for it in text.partition("\nColumns:\n")[2].partition("\n\n")[0].splitlines()]
+        with open(f"{TOP}/docs/FORMATS.md", encoding="utf-8") as source:
+            section = source.read().partition("\n## The tools: compare\n")[2].partition("\n## ")[0]
+        self.assertEqual([it for it in names if f"`{it}`" not in section], [])
+        self.assertIn("utilisation_most", names)
+
+
+def main():
+    if len(sys.argv) > 1:
+        PROGRAM.extend(["--program", os.path.abspath(sys.argv.pop(1))])
+    result = unittest.TextTestRunner(stream=sys.stdout).run(unittest.defaultTestLoader.loadTestsFromTestCase(Compare))
+    failed = len(result.failures) + len(result.errors)
+    print(f"{result.testsRun - failed - len(result.skipped)} passed, {failed} failed")
+    return 1 if failed else 0
+
+
+if __name__ == "__main__":
+    sys.exit(main())
