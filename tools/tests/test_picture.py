@@ -113,8 +113,8 @@ def count_in(svg):
     return len(names_in(svg)) + sum(map(int, shared))
 
 
-# Four blocks in a carrier of one page. 100 bytes are 14 units, 200 are 26, and offset 8 comes first. Block 1 leaves a gap
-# of 14 units. Block 2 has the end of the carrier behind it when it grows, so it stays.
+# Four blocks in a carrier of one page. 100 bytes are 14 units, 200 are 26, and offset 8 comes first. Block 1 leaves a
+# gap of 14 units. Block 2 has the end of the carrier behind it when it grows, so it stays.
 FEW = ("alloc 1 100", "alloc 2 100", "free 1", "realloc 2 3 200", "idle", "alloc 4 100", "free 3")
 FEW_FLAGS = ("+MHacul", "0", "+MHsmbcs", "4", "+MHlmbcs", "4", "+MHas", "aoff")
 FEW_BLOCKS = [[], [1], [1, 2], [2], [3], [3], [4, 3], [4]]
@@ -178,28 +178,32 @@ class Places(Case):
         self.assertEqual(spans_of(data, 1), [(1, 0, 245), (2, 0, 147)])
 
     def test_a_main_carrier_is_there_from_the_start(self):
-        data = self.data("--trace", self.trace("alloc 1 100", "free 1"), "--", "+MMscs", "1", "+MHacul", "0", "+MHmmbcs", "100")
+        flags = "+MMscs", "1", "+MHacul", "0", "+MHmmbcs", "100"
+        data = self.data("--trace", self.trace("alloc 1 100", "free 1"), "--", *flags)
         self.assertEqual([(it["kind"], it["born"], it["gone"]) for it in data["lives"]], [("main", 0, -1)])
         self.assertEqual(spans_of(data, 1), [(0, 0, 25)])
 
     def test_a_carrier_in_the_pool_is_told(self):
         """Block 2 alone is below 60 percent, so the carrier is abandoned; block 3 fetches it."""
-        data = self.data("--trace", self.trace("alloc 1 100", "alloc 2 100", "free 1", "alloc 3 100", "free 2", "free 3"), "--")
-        self.assertEqual([it[1:] for it in data["lives"][0]["told"]], [[0, 1], [2, 1], [0, 1], [2, 1]])
+        trace = self.trace("alloc 1 100", "alloc 2 100", "free 1", "alloc 3 100")
+        self.draw("--trace", trace, "--svg", self.path("a.svg"), "--at", "3")
+        self.assertIn("owner 1, pooled 1", self.read("a.svg"))
+        self.draw("--trace", trace, "--svg", self.path("a.svg"), "--at", "4")
+        self.assertIn("owner 1, employed 1", self.read("a.svg"))
 
     def test_what_is_not_asked_for_is_said(self):
         operations = [it for name in range(1, 41) for it in (f"alloc {name} 100", f"free {name}")]
         flags = "+MHacul", "0"
-        data = self.data("--trace", self.trace(*operations), "--fronts", "5", "--", *flags)
+        data = self.data("--fronts", "5", "--trace", self.trace(*operations), "--", *flags)
         self.assertTrue(35 <= data["unknown"] <= 40)
-        self.assertTrue(any(f"Of {data['unknown']} carriers" in it for it in data["notes"]))
+        self.assertTrue(any(f"all the time: {data['unknown']}." in it for it in data["notes"]))
         self.assertEqual(self.data("--trace", self.trace(*operations), "--", *flags)["unknown"], 0)
 
 
 class Schedulers(Case):
     def test_the_end_is_that_of_the_text(self):
-        names = ("unfinished-free", "returned-too-late", "higher-acul.acul60", "freed-in-the-pool", "threads-race", "lost-fetch")
-        for name in names:
+        migrating = "returned-too-late", "higher-acul.acul60", "freed-in-the-pool", "lost-fetch"
+        for name in ("unfinished-free", "threads-race", *migrating):
             with self.subTest(name=name):
                 data = self.data(*self.example(name))
                 left = [it for it in blocks_of(data) if it[6] is None]
@@ -244,17 +248,19 @@ class Refusals(Case):
         self.refused(f"{none}: No such file or directory", "--trace", trace, "--output", page, "--flags", none)
         self.refused(f"{none}/a.html: No such file or directory", "--trace", trace, "--output", f"{none}/a.html")
         self.refused(f"{self.folder}: it is a folder", "--trace", trace, "--output", self.folder)
-        ran = subprocess.run([TOOL, "--program", none, "--trace", trace, "--output", page], capture_output=True, text=True, check=False)
+        words = TOOL, "--program", none, "--trace", trace, "--output", page
+        ran = subprocess.run(words, capture_output=True, text=True, check=False)
         self.assertEqual((ran.returncode, ran.stderr), (1, f"picture: {none}: No such file or directory\n"))
 
     def test_a_generated_trace(self):
         trace = self.write("a.trace", "type H\ngenerate 7 10\nend\n")
-        said = f"{trace}: the text of a generated trace has counts and no entries, so there is nothing to draw"
+        said = f"{trace}: a generated trace's text has counts and no entries, so there is nothing to draw"
         self.refused(said, "--trace", trace, "--output", self.path("a.html"))
 
     def test_a_moment(self):
         trace = self.trace("idle")
-        self.refused(f"{trace}: there are moments 0 to 1, and no 2", "--trace", trace, "--svg", self.path("a.svg"), "--at", "2")
+        words = "--trace", trace, "--svg", self.path("a.svg"), "--at", "2"
+        self.refused(f"{trace}: there are moments 0 to 1, and no 2", *words)
 
     def test_what_is_there_stays(self):
         page = self.write("a.html", "old")
@@ -264,8 +270,8 @@ class Refusals(Case):
 
     def test_words(self):
         trace = self.trace("idle")
-        for words in ((), ("--trace", trace), ("--trace", trace, "--output", trace), ("--trace", trace, "--output", "x", "--at", "1")):
-            ran = self.run_tool(*words)
+        for words in ((), ("--output", trace), ("--output", "x", "--at", "1"), ("--svg", "x", "--output", "x")):
+            ran = self.run_tool("--trace", trace, *words)
             self.assertEqual((ran.returncode, ran.stdout), (2, ""))
             self.assertNotIn("Traceback", ran.stderr)
 
@@ -351,10 +357,9 @@ def guess(kind, left, up, corner):
 class Browser(Case):
     def browse(self, page, fragment, *words):
         profile = f"--user-data-dir={self.path('profile')}"
-        fixed = ["--headless=new", "--no-sandbox", "--disable-gpu", "--hide-scrollbars", "--window-size=1200,900", profile]
-        light = "--blink-settings=preferredColorScheme=1"
-        ran = subprocess.run([BROWSER, *fixed, light, *words, f"file://{page}{fragment}"], capture_output=True, text=True,
-                             timeout=60, check=False)
+        look = "--hide-scrollbars", "--window-size=1200,900", "--blink-settings=preferredColorScheme=1"
+        call = [BROWSER, "--headless=new", "--no-sandbox", "--disable-gpu", profile, *look, *words]
+        ran = subprocess.run([*call, f"file://{page}{fragment}"], capture_output=True, text=True, timeout=60, check=False)
         self.assertEqual(ran.returncode, 0, ran.stderr)
         return ran.stdout
 
@@ -423,7 +428,10 @@ class Browser(Case):
         self.draw("--trace", trace, "--output", self.path("a.html"), "--", *LONG_FLAGS)
         page = self.add_script("""
             const begun = performance.now(), jumps = 40;
-            for (let it = 0; it < jumps; it++) { goTo(it * 7919 * 13 % 100001); at("rows").getContext("2d").getImageData(0, 0, 1, 1); }
+            for (let it = 0; it < jumps; it++) {
+                goTo(it * 7919 * 13 % 100001);
+                at("rows").getContext("2d").getImageData(0, 0, 1, 1);
+            }
             document.body.dataset.jump = Math.round((performance.now() - begun) / jumps);
             document.body.dataset.start = Math.round(begun);
             goTo(60001);""")
@@ -436,7 +444,8 @@ class Browser(Case):
 
 
 def main():
-    result = unittest.TextTestRunner(verbosity=1).run(unittest.defaultTestLoader.loadTestsFromModule(sys.modules["__main__"]))
+    tests = unittest.defaultTestLoader.loadTestsFromModule(sys.modules["__main__"])
+    result = unittest.TextTestRunner(verbosity=1).run(tests)
     if not BROWSER:
         print("no chromium here: the tests with a browser were skipped")
     failed = len(result.failures) + len(result.errors)
