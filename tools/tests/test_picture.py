@@ -131,10 +131,10 @@ class Moment(Case):
 
     def test_a_block_is_drawn_to_scale(self):
         svg = self.svg(self.trace(*FEW), 2, *FEW_FLAGS)
-        carrier = re.search(r'class="gap" x="246" y="\S+" width="(\S+)" height="24"', svg)
+        carrier = re.search(r'class="gap" x="260" y="\S+" width="(\S+)" height="24"', svg)
         block = re.search(r'class="block" x="(\S+)" y="\S+" width="(\S+)" height="24"[^>]* data-name="2"', svg)
         scale = float(carrier.group(1)) / PAGE_OF_UNITS
-        self.assertAlmostEqual(float(block.group(1)), 246 + 22 * scale, delta=0.02)
+        self.assertAlmostEqual(float(block.group(1)), 260 + 22 * scale, delta=0.02)
         self.assertAlmostEqual(float(block.group(2)), 14 * scale, delta=0.5)
         self.assertIn("block 2: 14 units at 22 of carrier 1", svg)
 
@@ -277,10 +277,10 @@ class Refusals(Case):
 
 
 def long_trace(count):
-    """count operations: 250 blocks that fill a carrier of one page each, and then small ones, of which some hundred are
-    held at a time."""
-    lines = [f"alloc {name} 3500" for name in range(1, 251)]
-    name = freed = 250
+    """count operations: 256 blocks that have a carrier of one page each, and then small ones that lie beside them, of
+    which 300 are held at a time."""
+    lines = [f"alloc {name} 3500" for name in range(1, 257)]
+    name = freed = 256
     while len(lines) < count:
         if name - freed < 300:
             name += 1
@@ -359,7 +359,8 @@ class Browser(Case):
         profile = f"--user-data-dir={self.path('profile')}"
         look = "--hide-scrollbars", "--window-size=1200,900", "--blink-settings=preferredColorScheme=1"
         call = [BROWSER, "--headless=new", "--no-sandbox", "--disable-gpu", profile, *look, *words]
-        ran = subprocess.run([*call, f"file://{page}{fragment}"], capture_output=True, text=True, timeout=60, check=False)
+        address = f"file://{page}{fragment}"
+        ran = subprocess.run([*call, address], capture_output=True, text=True, timeout=60, check=False)
         self.assertEqual(ran.returncode, 0, ran.stderr)
         return ran.stdout
 
@@ -368,10 +369,6 @@ class Browser(Case):
         dom = self.browse(page, f"#at={moment}", "--dump-dom")
         found = re.search(r'<main id="picture"([^>]*)>', dom)
         return {name: int(value) for name, value in re.findall(r'data-(\w+)="(\d+)"', found.group(1))}
-
-    def add_script(self, script):
-        page = self.read("a.html").replace("</body>", f"<script>{script}</script></body>")
-        return self.write("b.html", page)
 
     def test_counts_and_picture(self):
         operations = [f"alloc {name} {name * 977 % 60000}" for name in range(1, 61)]
@@ -393,54 +390,56 @@ class Browser(Case):
         with open(trace, "rb") as file:
             return subprocess.run([program, *flags], stdin=file, capture_output=True, text=True, check=True).stdout
 
+    def said(self, page, fragment, script):
+        """What a script that is added to the page says."""
+        added = self.read(page).replace("</body>", f"<script>document.body.dataset.said = {script};</script></body>")
+        dom = self.browse(self.write("b.html", added), fragment, "--dump-dom")
+        return re.search(r'data-said="([^"]*)"', dom).group(1)
+
     def test_queued_blocks(self):
         self.draw(*self.example("producer-and-consumer"), "--output", self.path("a.html"))
-        for moment, wanted in ((6, (3, 0)), (11, (3, 1)), (16, (1, 0))):
-            shown = self.shown(self.path("a.html"), moment)
-            self.assertEqual((shown["blocks"], shown["queued"]), wanted)
+        script = """[6, 11, 16].map(moment => {
+            goTo(moment);
+            return at("picture").dataset.blocks + " " + at("picture").dataset.queued;
+        }).join(", ")"""
+        self.assertEqual(self.said("a.html", "", script), "3 0, 3 1, 1 0")
 
-    def test_pointing_tells(self):
+    def test_pointing_and_keys(self):
         """Block 2 of 14 units lies at offset 22, so its middle is at 29 of the 512 units of its carrier."""
         self.draw("--trace", self.trace(*FEW), "--output", self.path("a.html"), "--", *FEW_FLAGS)
-        page = self.add_script("""
+        script = """(() => {
             const box = at("rows").getBoundingClientRect(), x = box.left + LABEL + 29 * view.rows.scale;
             const y = box.top + view.rows.rows[1].y + 10;
             at("rows").dispatchEvent(new MouseEvent("mousemove", { clientX: x, clientY: y }));
-            document.body.dataset.said = tip.textContent;""")
-        said = re.search(r'data-said="([^"]*)"', self.browse(page, "#at=2", "--dump-dom")).group(1)
-        self.assertEqual(said.split("\n"), ["block 2, since entry 2", "carrier 1, offset 22, 14 units (112 bytes)",
-                                            "address 0xb0 in the super carrier"])
-
-    def test_keys(self):
-        self.draw("--trace", self.trace(*FEW), "--output", self.path("a.html"), "--", *FEW_FLAGS)
-        page = self.add_script("""
+            const pointed = tip.textContent;
             const moments = ["Home", "ArrowRight", "ArrowRight", "ArrowLeft", "End", "ArrowLeft"].map(key => {
                 window.dispatchEvent(new KeyboardEvent("keydown", { key }));
                 return at("picture").dataset.moment + ":" + at("picture").dataset.blocks;
             });
-            document.body.dataset.said = moments.join(" ");""")
-        said = re.search(r'data-said="([^"]*)"', self.browse(page, "", "--dump-dom")).group(1)
-        self.assertEqual(said, "0:0 1:1 2:2 1:1 7:1 6:2")
+            return [pointed, ...moments].join("; ");
+        })()"""
+        pointed = "block 2, since entry 2\ncarrier 1, offset 22, 14 units (112 bytes)\n"
+        pointed += "address 0xb0 in the super carrier"
+        self.assertEqual(self.said("a.html", "#at=2", script), f"{pointed}; 0:0; 1:1; 2:2; 1:1; 7:1; 6:2")
 
     def test_a_long_run_does_not_stall(self):
-        """Each step of a jump anywhere in a hundred thousand entries, and the page's start."""
+        """Jumps anywhere in a hundred thousand entries, and the page's start."""
         trace = self.trace(*long_trace(100_000))
         self.draw("--trace", trace, "--output", self.path("a.html"), "--", *LONG_FLAGS)
-        page = self.add_script("""
+        script = """(() => {
             const begun = performance.now(), jumps = 40;
             for (let it = 0; it < jumps; it++) {
                 goTo(it * 7919 * 13 % 100001);
                 at("rows").getContext("2d").getImageData(0, 0, 1, 1);
             }
-            document.body.dataset.jump = Math.round((performance.now() - begun) / jumps);
-            document.body.dataset.start = Math.round(begun);
-            goTo(60001);""")
-        dom = self.browse(page, "", "--dump-dom")
-        start, jump = (int(re.search(rf'data-{it}="(\d+)"', dom).group(1)) for it in ("start", "jump"))
+            const jump = (performance.now() - begun) / jumps;
+            goTo(60001);
+            return [begun, jump, at("picture").dataset.blocks].map(Math.round).join(" ");
+        })()"""
+        start, jump, blocks = map(int, self.said("a.html", "", script).split())
         print(f"a page of a hundred thousand entries: starts in {start} ms, {jump} ms for a jump")
         self.assertLess(jump, 1000 * LONGEST_STEP)
-        wanted = count_by_text(self.text_of(trace, LONG_FLAGS), 60001)
-        self.assertIn(f'data-moment="60001" data-blocks="{wanted}"', dom)
+        self.assertEqual(blocks, count_by_text(self.text_of(trace, LONG_FLAGS), 60001))
 
 
 def main():
