@@ -1,0 +1,456 @@
+#!/usr/bin/env python3
+"""Tests tools/picture: python3 tools/tests/test_picture.py [PROGRAM].
+
+Without PROGRAM the tool takes the one that ./run keeps. What is expected is worked out by hand, from the rules in
+docs/FORMATS.md, or read from the program's text by this file's own reading. The tests with a browser are skipped where
+there is no chromium.
+"""
+import json
+import os
+import re
+import shutil
+import struct
+import subprocess
+import sys
+import tempfile
+import time
+import unittest
+import zlib
+
+TOP = os.path.realpath(os.path.join(os.path.dirname(os.path.realpath(__file__)), "..", ".."))
+TOOL = f"{TOP}/tools/picture"
+PROGRAM = [f"--program={os.path.abspath(sys.argv[1])}"] if len(sys.argv) > 1 else []
+BROWSER = next(filter(None, map(shutil.which, ("chromium", "chromium-browser", "google-chrome"))), None)
+LARGEST_PAGE = 8_000_000
+LONGEST_SECONDS = 30
+LONGEST_STEP = 0.25
+BLUE = (0x4E, 0x79, 0xA7)
+PAGE_OF_UNITS = 512
+
+
+class Case(unittest.TestCase):
+    """A folder of its own, and calls of the tool."""
+
+    def setUp(self):
+        folder = tempfile.TemporaryDirectory()
+        self.addCleanup(folder.cleanup)
+        self.folder = folder.name
+
+    def path(self, name):
+        return f"{self.folder}/{name}"
+
+    def write(self, name, text):
+        with open(self.path(name), "w", encoding="utf-8") as file:
+            file.write(text)
+        return self.path(name)
+
+    def read(self, name):
+        with open(self.path(name), encoding="utf-8") as file:
+            return file.read()
+
+    def trace(self, *operations):
+        """A trace of one scheduler."""
+        return self.write("a.trace", "\n".join(["type H", "scheduler 1", *operations, "schedule", "end", ""]))
+
+    def run_tool(self, *words):
+        return subprocess.run([TOOL, *PROGRAM, *words], capture_output=True, text=True, check=False)
+
+    def draw(self, *words):
+        ran = self.run_tool(*words)
+        self.assertEqual((ran.returncode, ran.stdout, ran.stderr), (0, "", ""))
+
+    def svg(self, trace, moment, *flags):
+        self.draw("--trace", trace, "--svg", self.path("a.svg"), "--at", str(moment), "--", *flags)
+        return self.read("a.svg")
+
+    def data(self, *words):
+        """What the page's script reads."""
+        self.draw("--output", self.path("a.html"), *words)
+        return data_in(self.read("a.html"))
+
+    def example(self, name):
+        return "--trace", f"{TOP}/examples/{name.partition('.')[0]}.trace", "--flags", f"{TOP}/examples/{name}.flags"
+
+    def refused(self, said, *words):
+        ran = self.run_tool(*words)
+        self.assertEqual((ran.returncode, ran.stdout, ran.stderr), (1, "", f"picture: {said}\n"))
+
+
+def data_in(page):
+    return json.loads(re.search(r'<script type="application/json" id="data">(.*?)</script>', page, re.S).group(1))
+
+
+def summed(numbers):
+    found, at = [], 0
+    for it in numbers:
+        at += it
+        found.append(at)
+    return found
+
+
+def blocks_of(data):
+    """The name, carrier, offset, size and the moments of each block of a page."""
+    columns = data["blocks"]
+    born = summed(columns["born"])
+    since = lambda name: [None if it < 0 else start + it for it, start in zip(columns[name], born)]
+    carriers = [data["lives"][it]["number"] for it in summed(columns["life"])]
+    places = zip(summed(columns["name"]), carriers, columns["offset"], columns["size"])
+    return [(*place, *moments) for place, moments in zip(places, zip(born, since("queued"), since("gone")))]
+
+
+def spans_of(data, number):
+    """The moment, base and pages of each span of a carrier of this number."""
+    return [tuple(span) for life in data["lives"] if life["number"] == number for span in life["spans"]]
+
+
+def names_in(svg):
+    """The names of the blocks that stand each by itself below the regions."""
+    return [int(it) for it in re.findall(r'class="block(?: queued)?"[^>]* data-name="(\d+)"', svg)]
+
+
+def count_in(svg):
+    shared = re.findall(r'class="blocks(?: queued)?"[^>]* data-count="(\d+)"', svg)
+    return len(names_in(svg)) + sum(map(int, shared))
+
+
+# Four blocks in a carrier of one page. 100 bytes are 14 units, 200 are 26, and offset 8 comes first. Block 1 leaves a
+# gap of 14 units. Block 2 has the end of the carrier behind it when it grows, so it stays.
+FEW = ("alloc 1 100", "alloc 2 100", "free 1", "realloc 2 3 200", "idle", "alloc 4 100", "free 3")
+FEW_FLAGS = ("+MHacul", "0", "+MHsmbcs", "4", "+MHlmbcs", "4", "+MHas", "aoff")
+FEW_BLOCKS = [[], [1], [1, 2], [2], [3], [3], [4, 3], [4]]
+
+
+class Moment(Case):
+    def test_each_moment_has_its_blocks(self):
+        trace = self.trace(*FEW)
+        for moment, names in enumerate(FEW_BLOCKS):
+            with self.subTest(moment=moment):
+                svg = self.svg(trace, moment, *FEW_FLAGS)
+                self.assertEqual(names_in(svg), names)
+                self.assertIn(f'data-moment="{moment}" data-blocks="{len(names)}"', svg)
+
+    def test_a_block_is_drawn_to_scale(self):
+        svg = self.svg(self.trace(*FEW), 2, *FEW_FLAGS)
+        carrier = re.search(r'class="gap" x="260" y="\S+" width="(\S+)" height="24"', svg)
+        block = re.search(r'class="block" x="(\S+)" y="\S+" width="(\S+)" height="24"[^>]* data-name="2"', svg)
+        scale = float(carrier.group(1)) / PAGE_OF_UNITS
+        self.assertAlmostEqual(float(block.group(1)), 260 + 22 * scale, delta=0.02)
+        self.assertAlmostEqual(float(block.group(2)), 14 * scale, delta=0.5)
+        self.assertIn("block 2: 14 units at 22 of carrier 1", svg)
+
+    def test_without_a_moment_it_is_the_last(self):
+        self.draw("--trace", self.trace(*FEW), "--svg", self.path("a.svg"), "--", *FEW_FLAGS)
+        self.assertEqual(names_in(self.read("a.svg")), FEW_BLOCKS[-1])
+
+    def test_many_blocks_of_a_pixel_are_counted(self):
+        trace = self.trace(*(f"alloc {name} 40" for name in range(1, 301)), "free 7")
+        self.assertEqual(count_in(self.svg(trace, 300, "+MHacul", "0")), 300)
+        self.assertEqual(count_in(self.svg(trace, 301, "+MHacul", "0")), 299)
+
+    def test_queued_blocks_are_apart(self):
+        """Of the turns in the trace: blocks 1 and 2 are queued when block 4 is placed where block 1 was."""
+        wanted = {6: ([1, 2, 3], 0), 10: ([1, 2, 3], 2), 11: ([4, 2, 3], 1), 15: ([4], 0)}
+        for moment, (names, queued) in wanted.items():
+            with self.subTest(moment=moment):
+                at = () if moment == 15 else ("--at", str(moment))
+                self.draw(*self.example("producer-and-consumer"), "--svg", self.path("a.svg"), *at)
+                svg = self.read("a.svg")
+                self.assertEqual(names_in(svg), names)
+                self.assertEqual(len(re.findall('class="block queued"', svg)), queued)
+
+
+class Places(Case):
+    """Carriers that are gone at the end, or had other pages. The numbers stand in docs/FORMATS.md."""
+
+    def test_a_number_has_two_carriers(self):
+        trace = self.trace("alloc 1 2000", "alloc 2 2000", "alloc 3 100", "free 1", "alloc 4 4000", "free 2", "free 3")
+        data = self.data("--trace", trace, "--", "+MHacul", "0", "+MHsbct", "1")
+        self.assertEqual(spans_of(data, 1), [(1, 0, 1), (5, 0, 1)])
+        self.assertEqual(spans_of(data, 2), [(2, 1, 1)])
+        self.assertEqual(spans_of(data, 3), [(3, 2, 64)])
+        self.assertEqual([(it["born"], it["gone"]) for it in data["lives"]], [(1, 4), (2, 6), (3, 7), (5, -1)])
+        self.assertEqual(data["unknown"], 0)
+        wanted = [(1, 1, 8, 252, 1, None, 4), (2, 2, 8, 252, 2, None, 6), (3, 3, 8, 14, 3, None, 7)]
+        self.assertEqual(blocks_of(data), [*wanted, (4, 1, 8, 502, 5, None, None)])
+
+    def test_a_carrier_that_shrinks_has_two_sizes(self):
+        data = self.data(*self.example("shorter-carrier.asbcst256"))
+        self.assertEqual(spans_of(data, 1), [(1, 0, 245), (2, 0, 147)])
+
+    def test_a_main_carrier_is_there_from_the_start(self):
+        flags = "+MMscs", "1", "+MHacul", "0", "+MHmmbcs", "100"
+        data = self.data("--trace", self.trace("alloc 1 100", "free 1"), "--", *flags)
+        self.assertEqual([(it["kind"], it["born"], it["gone"]) for it in data["lives"]], [("main", 0, -1)])
+        self.assertEqual(spans_of(data, 1), [(0, 0, 25)])
+
+    def test_a_carrier_in_the_pool_is_told(self):
+        """Block 2 alone is below 60 percent, so the carrier is abandoned; block 3 fetches it."""
+        trace = self.trace("alloc 1 100", "alloc 2 100", "free 1", "alloc 3 100")
+        self.draw("--trace", trace, "--svg", self.path("a.svg"), "--at", "3")
+        self.assertIn("owner 1, pooled 1", self.read("a.svg"))
+        self.draw("--trace", trace, "--svg", self.path("a.svg"), "--at", "4")
+        self.assertIn("owner 1, employed 1", self.read("a.svg"))
+
+    def test_what_is_not_asked_for_is_said(self):
+        operations = [it for name in range(1, 41) for it in (f"alloc {name} 100", f"free {name}")]
+        flags = "+MHacul", "0"
+        data = self.data("--fronts", "5", "--trace", self.trace(*operations), "--", *flags)
+        self.assertTrue(35 <= data["unknown"] <= 40)
+        self.assertTrue(any(f"all the time: {data['unknown']}." in it for it in data["notes"]))
+        self.assertEqual(self.data("--trace", self.trace(*operations), "--", *flags)["unknown"], 0)
+
+
+class Schedulers(Case):
+    def test_the_end_is_that_of_the_text(self):
+        migrating = "returned-too-late", "higher-acul.acul60", "freed-in-the-pool", "lost-fetch"
+        for name in ("unfinished-free", "threads-race", *migrating):
+            with self.subTest(name=name):
+                data = self.data(*self.example(name))
+                left = [it for it in blocks_of(data) if it[6] is None]
+                self.assertEqual(sum(it[3] for it in left if it[5] is None), data["total"]["live"])
+                self.assertEqual(sum(it[3] for it in left if it[5] is not None), data["total"]["queued"])
+                self.assertEqual(sum(it["gone"] < 0 for it in data["lives"]), data["total"]["carriers"])
+                self.assertTrue(any("this page's own" in it for it in data["notes"]))
+
+    def test_the_order_fits_the_entries(self):
+        data = self.data(*self.example("producer-and-consumer"))
+        for name in (1, 2, 3):
+            self.assertLess(data["lines"].index(f"give {name} 2"), data["lines"].index(f"take {name} got"))
+        for scheduler, log in ((1, "alloc 1 1 8 126"), (2, "take 1 got")):
+            self.assertEqual(next(it for it, by in zip(data["lines"], data["by"]) if by == scheduler), log)
+
+    def test_a_place_that_two_schedulers_use_in_turn(self):
+        """Scheduler 2 fetches the carrier, and block 3 lies where block 1 was until that was freed."""
+        data = self.data(*self.example("returned-too-late"))
+        one, three = (next(it for it in blocks_of(data) if it[0] == name) for name in (1, 3))
+        self.assertEqual(one[1:3], three[1:3])
+        self.assertLessEqual(one[6], three[4])
+
+
+class Refusals(Case):
+    def test_a_trace(self):
+        trace = self.write("bad.trace", "type H\nscheduler 1\nfrob\n")
+        self.refused(f"{trace}: line 3: syntax", "--trace", trace, "--output", self.path("a.html"))
+        trace = self.write("short.trace", "type H\nscheduler 1\nschedule\n")
+        self.refused(f"{trace}: no end line", "--trace", trace, "--output", self.path("a.html"))
+        self.assertEqual(sorted(os.listdir(self.folder)), ["bad.trace", "short.trace"])
+
+    def test_flags(self):
+        words = "--trace", self.trace("idle"), "--output", self.path("a.html")
+        self.refused("the words after --: word 2: bad value", *words, "--", "+MHas", "ff")
+        flags = self.write("a.flags", "+MHacul\n0\n+MHfoo\n1\n")
+        self.refused(f"{flags}: line 3: unknown flag", *words, "--flags", flags)
+
+    def test_files(self):
+        trace, page = self.trace("idle"), self.path("a.html")
+        none = self.path("none")
+        self.refused(f"{none}: No such file or directory", "--trace", none, "--output", page)
+        self.refused(f"{none}: No such file or directory", "--trace", trace, "--output", page, "--flags", none)
+        self.refused(f"{none}/a.html: No such file or directory", "--trace", trace, "--output", f"{none}/a.html")
+        self.refused(f"{self.folder}: it is a folder", "--trace", trace, "--output", self.folder)
+        words = TOOL, "--program", none, "--trace", trace, "--output", page
+        ran = subprocess.run(words, capture_output=True, text=True, check=False)
+        self.assertEqual((ran.returncode, ran.stderr), (1, f"picture: {none}: No such file or directory\n"))
+
+    def test_a_generated_trace(self):
+        trace = self.write("a.trace", "type H\ngenerate 7 10\nend\n")
+        said = f"{trace}: a generated trace's text has counts and no entries, so there is nothing to draw"
+        self.refused(said, "--trace", trace, "--output", self.path("a.html"))
+
+    def test_a_moment(self):
+        trace = self.trace("idle")
+        words = "--trace", trace, "--svg", self.path("a.svg"), "--at", "2"
+        self.refused(f"{trace}: there are moments 0 to 1, and no 2", *words)
+
+    def test_what_is_there_stays(self):
+        page = self.write("a.html", "old")
+        trace = self.write("bad.trace", "type H\nfrob\n")
+        self.refused(f"{trace}: line 2: syntax", "--trace", trace, "--output", page)
+        self.assertEqual(self.read("a.html"), "old")
+
+    def test_words(self):
+        trace = self.trace("idle")
+        for words in ((), ("--output", trace), ("--output", "x", "--at", "1"), ("--svg", "x", "--output", "x")):
+            ran = self.run_tool("--trace", trace, *words)
+            self.assertEqual((ran.returncode, ran.stdout), (2, ""))
+            self.assertNotIn("Traceback", ran.stderr)
+
+
+def long_trace(count):
+    """count operations: 256 blocks that have a carrier of one page each, and then small ones that lie beside them, of
+    which 300 are held at a time."""
+    lines = [f"alloc {name} 3500" for name in range(1, 257)]
+    name = freed = 256
+    while len(lines) < count:
+        if name - freed < 300:
+            name += 1
+            lines.append(f"alloc {name} {name % 7 * 16}")
+        else:
+            freed += 1
+            lines.append(f"free {freed}")
+    return lines
+
+
+LONG_FLAGS = ("+MHacul", "0", "+MHsmbcs", "4", "+MHlmbcs", "4")
+
+
+class Long(Case):
+    def test_a_hundred_thousand_entries(self):
+        trace = self.trace(*long_trace(100_000))
+        begun = time.monotonic()
+        data = self.data("--trace", trace, "--", *LONG_FLAGS)
+        seconds, size = time.monotonic() - begun, os.path.getsize(self.path("a.html"))
+        print(f"a hundred thousand entries: {seconds:.1f} s, a page of {size:,} bytes")
+        self.assertEqual((data["last"], len(data["lines"])), (100_000, 100_000))
+        self.assertLess(size, LARGEST_PAGE)
+        self.assertLess(seconds, LONGEST_SECONDS)
+
+
+def count_by_text(text, moment):
+    """How many blocks there are after that many entries of one scheduler."""
+    there = 0
+    for line in text.split("\n")[1 : moment + 1]:
+        words = line.split()
+        there += words[0] == "alloc" and words[2] != "fail"
+        there -= words[0] == "free" and words[2] == "done"
+    return there
+
+
+def pixels(file):
+    """The rows of colours of a PNG with eight bits for each of red, green, blue and perhaps opacity."""
+    with open(file, "rb") as opened:
+        data = opened.read()
+    at, packed = 8, b""
+    while at < len(data):
+        length, kind = struct.unpack(">I4s", data[at : at + 8])
+        part = data[at + 8 : at + 8 + length]
+        if kind == b"IHDR":
+            width, height, depth, form = struct.unpack(">IIBB", part[:10])
+            assert depth == 8 and form in (2, 6)
+        packed += part if kind == b"IDAT" else b""
+        at += 12 + length
+    return unfiltered(zlib.decompress(packed), width, height, 3 if form == 2 else 4)
+
+
+def unfiltered(data, width, height, channels):
+    rows, above = [], bytes(width * channels)
+    for number in range(height):
+        start = number * (width * channels + 1)
+        kind, row = data[start], bytearray(data[start + 1 : start + 1 + width * channels])
+        for at in range(len(row)):
+            left = row[at - channels] if at >= channels else 0
+            corner = above[at - channels] if at >= channels else 0
+            row[at] = row[at] + guess(kind, left, above[at], corner) & 255
+        rows.append([tuple(row[at : at + 3]) for at in range(0, len(row), channels)])
+        above = row
+    return rows
+
+
+def guess(kind, left, up, corner):
+    if kind == 4:
+        whole = left + up - corner
+        return min((left, up, corner), key=lambda it: abs(whole - it))
+    return (0, left, up, (left + up) // 2)[kind]
+
+
+@unittest.skipUnless(BROWSER, "there is no chromium")
+class Browser(Case):
+    def browse(self, page, fragment, *words):
+        profile = f"--user-data-dir={self.path('profile')}"
+        look = "--hide-scrollbars", "--window-size=1200,900", "--blink-settings=preferredColorScheme=1"
+        call = [BROWSER, "--headless=new", "--no-sandbox", "--disable-gpu", profile, *look, *words]
+        address = f"file://{page}{fragment}"
+        ran = subprocess.run([*call, address], capture_output=True, text=True, timeout=60, check=False)
+        self.assertEqual(ran.returncode, 0, ran.stderr)
+        return ran.stdout
+
+    def shown(self, page, moment):
+        """What the page says that it shows at a moment."""
+        dom = self.browse(page, f"#at={moment}", "--dump-dom")
+        found = re.search(r'<main id="picture"([^>]*)>', dom)
+        return {name: int(value) for name, value in re.findall(r'data-(\w+)="(\d+)"', found.group(1))}
+
+    def test_counts_and_picture(self):
+        operations = [f"alloc {name} {name * 977 % 60000}" for name in range(1, 61)]
+        operations += [f"free {name}" for name in range(1, 61, 2)]
+        trace, flags = self.trace(*operations), ("+MMscs", "16", "+MHacul", "0")
+        self.draw("--trace", trace, "--output", self.path("a.html"), "--", *flags)
+        text = self.text_of(trace, flags)
+        for moment in (7, 60, 83):
+            shown = self.shown(self.path("a.html"), moment)
+            wanted = count_by_text(text, moment)
+            self.assertEqual((shown["moment"], shown["blocks"], shown["drawn"]), (moment, wanted, wanted))
+        picture = self.path("a.png")
+        self.browse(self.path("a.html"), "#at=60", f"--screenshot={picture}")
+        rows = pixels(picture)
+        self.assertGreater(sum(row.count(BLUE) for row in rows), 3000)
+
+    def text_of(self, trace, flags):
+        program = sys.argv[1] if len(sys.argv) > 1 else f"{TOP}/run"
+        with open(trace, "rb") as file:
+            return subprocess.run([program, *flags], stdin=file, capture_output=True, text=True, check=True).stdout
+
+    def said(self, page, fragment, script):
+        """What a script that is added to the page says."""
+        added = self.read(page).replace("</body>", f"<script>document.body.dataset.said = {script};</script></body>")
+        dom = self.browse(self.write("b.html", added), fragment, "--dump-dom")
+        return re.search(r'data-said="([^"]*)"', dom).group(1)
+
+    def test_queued_blocks(self):
+        self.draw(*self.example("producer-and-consumer"), "--output", self.path("a.html"))
+        script = """[6, 11, 16].map(moment => {
+            goTo(moment);
+            return at("picture").dataset.blocks + " " + at("picture").dataset.queued;
+        }).join(", ")"""
+        self.assertEqual(self.said("a.html", "", script), "3 0, 3 1, 1 0")
+
+    def test_pointing_and_keys(self):
+        """Block 2 of 14 units lies at offset 22, so its middle is at 29 of the 512 units of its carrier."""
+        self.draw("--trace", self.trace(*FEW), "--output", self.path("a.html"), "--", *FEW_FLAGS)
+        script = """(() => {
+            const box = at("rows").getBoundingClientRect(), x = box.left + LABEL + 29 * view.rows.scale;
+            const y = box.top + view.rows.rows[1].y + 10;
+            at("rows").dispatchEvent(new MouseEvent("mousemove", { clientX: x, clientY: y }));
+            const pointed = tip.textContent;
+            const moments = ["Home", "ArrowRight", "ArrowRight", "ArrowLeft", "End", "ArrowLeft"].map(key => {
+                window.dispatchEvent(new KeyboardEvent("keydown", { key }));
+                return at("picture").dataset.moment + ":" + at("picture").dataset.blocks;
+            });
+            return [pointed, ...moments].join("; ");
+        })()"""
+        pointed = "block 2, since entry 2\ncarrier 1, offset 22, 14 units (112 bytes)\n"
+        pointed += "address 0xb0 in the super carrier"
+        self.assertEqual(self.said("a.html", "#at=2", script), f"{pointed}; 0:0; 1:1; 2:2; 1:1; 7:1; 6:2")
+
+    def test_a_long_run_does_not_stall(self):
+        """Jumps anywhere in a hundred thousand entries, and the page's start."""
+        trace = self.trace(*long_trace(100_000))
+        self.draw("--trace", trace, "--output", self.path("a.html"), "--", *LONG_FLAGS)
+        script = """(() => {
+            const begun = performance.now(), jumps = 40;
+            for (let it = 0; it < jumps; it++) {
+                goTo(it * 7919 * 13 % 100001);
+                at("rows").getContext("2d").getImageData(0, 0, 1, 1);
+            }
+            const jump = (performance.now() - begun) / jumps;
+            goTo(60001);
+            return [begun, jump, at("picture").dataset.blocks].map(Math.round).join(" ");
+        })()"""
+        start, jump, blocks = map(int, self.said("a.html", "", script).split())
+        print(f"a page of a hundred thousand entries: starts in {start} ms, {jump} ms for a jump")
+        self.assertLess(jump, 1000 * LONGEST_STEP)
+        self.assertEqual(blocks, count_by_text(self.text_of(trace, LONG_FLAGS), 60001))
+
+
+def main():
+    tests = unittest.defaultTestLoader.loadTestsFromModule(sys.modules["__main__"])
+    result = unittest.TextTestRunner(verbosity=1).run(tests)
+    if not BROWSER:
+        print("no chromium here: the tests with a browser were skipped")
+    failed = len(result.failures) + len(result.errors)
+    print(f"{result.testsRun - failed - len(result.skipped)} passed, {failed} failed")
+    return failed > 0
+
+
+if __name__ == "__main__":
+    sys.exit(main())
