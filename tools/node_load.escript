@@ -17,7 +17,8 @@ main([Node, Cookie, Word, File]) ->
         connect(list_to_atom(Node), Cookie),
         write(File, load(list_to_atom(Node), Letter, Type))
     catch
-        throw:Line -> stop(1, Line)
+        throw:Line -> stop(1, Line);
+        _:Reason -> stop(1, io_lib:format("~ts: it tells what this does not know: ~0P", [Node, Reason, 9]))
     end;
 main(_) ->
     stop(2, "four words are due: NODE COOKIE ALLOCATOR FILE (see --help)").
@@ -36,7 +37,7 @@ usage() ->
     "\n"
     "The node must have the module instrument, of the application tools. Blocks are only counted\n"
     "where they have tags: those of binary_alloc and driver_alloc have them, for another give the\n"
-    "node its flag, +MHatags true for eheap_alloc say, or +Muatags true for all.\n"
+    "node its flag, +MHatags true for eheap_alloc say, or +Muatags true for all but temp_alloc.\n"
     "\n"
     "This needs Erlang/OTP 25 or later, and joins the node as a hidden one that listens nowhere.\n"
     "Statuses: 0; 1 if the node does not tell; 2 for other words than these.\n".

@@ -379,8 +379,8 @@ class Refusals(Case):
         path, see = self.file(SMALL), " (see --help)"
         for words, line in (
             ([], "the following arguments are required: FILE"),
-            (["--operations", "0"], "argument --operations: '0' is no number from 1 to 262144"),
-            (["--operations", "262145"], "argument --operations: '262145' is no number from 1 to 262144"),
+            (["--operations", "0"], "argument --operations: '0' is no number from 2 to 262144"),
+            (["--operations", "262145"], "argument --operations: '262145' is no number from 2 to 262144"),
             (["--schedulers", "17"], "argument --schedulers: '17' is no number from 1 to 16"),
             (["--seed", "2147483648"], "argument --seed: '2147483648' is no number from 0 to 2147483647"),
             (["--seed", "-1"], "argument --seed: '-1' is no number from 0 to 2147483647"),
