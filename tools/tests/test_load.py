@@ -27,7 +27,7 @@ TOP = os.path.realpath(os.path.join(os.path.dirname(os.path.realpath(__file__)),
 LOAD = f"{TOP}/tools/load"
 NODE_LOAD = f"{TOP}/tools/node_load.escript"
 LEFT_BY_GATE = f"{TOP}/crates/erts_alloc_run/out/erts_alloc_run"
-PROGRAM = [sys.argv[1] if len(sys.argv) > 1 else LEFT_BY_GATE]
+PROGRAM = os.path.abspath(sys.argv[1]) if len(sys.argv) > 1 else LEFT_BY_GATE
 FIRST = "node-load 1\n"
 SMALL = FIRST + "type B\nblocks 64 64 1\nblocks 128 128 2\nblocks 256 256 5\n"
 # The SHA-256 of what one machine made of SMALL with the words of test_same_bytes, so that a change of bytes is seen. It
@@ -410,8 +410,9 @@ class Refusals(Case):
         reader, writer = os.pipe()
         os.close(reader)
         with open(writer, "wb") as pipe:
-            done = self.process(path, stdout=pipe)
-        self.assertEqual((done.returncode, done.stderr), (1, "load: standard output: Broken pipe\n"))
+            for word in path, "--help":
+                done = self.process(word, stdout=pipe)
+                self.assertEqual((done.returncode, done.stderr), (1, "load: standard output: Broken pipe\n"))
         if stat.S_ISCHR(os.stat("/dev/full").st_mode):
             with open("/dev/full", "wb") as full:
                 done = self.process(path, stdout=full)
@@ -522,21 +523,16 @@ carriers by bytes of their largest gap
             self.refused(f"{text}: {line}", "--beside", text, path)
 
 
-def program():
-    return PROGRAM[0] if os.access(PROGRAM[0], os.X_OK) else None
+def run_of(test, path, *flags):
+    """The text of a trace's run."""
+    with open(path, "rb") as trace:
+        done = subprocess.run([PROGRAM, *flags], stdin=trace, capture_output=True, text=True, timeout=60, check=False)
+    test.assertEqual((done.returncode, done.stderr), (0, ""))
+    return done.stdout
 
 
-class Running(Case):
-    def run_of(self, path, *flags):
-        if not program():
-            self.skipTest(f"no program at {PROGRAM[0]}, so no trace was run")
-        with open(path, "rb") as trace:
-            done = subprocess.run([program(), *flags], stdin=trace, capture_output=True, text=True, timeout=60)
-        self.assertEqual((done.returncode, done.stderr), (0, ""))
-        return done.stdout
-
-
-class Runs(Running):
+class Runs(Case):
+    @unittest.skipUnless(os.access(PROGRAM, os.X_OK), f"no program at {PROGRAM}, so no trace was run")
     def test_it_runs(self):
         """Each operation has its line, an info two. No block is missed and none fails where no thread decides."""
         text = FIRST + "type B\nblocks 64 120 500\nblocks 4096 8184 20\nblocks 600000 700000 1\n"
@@ -547,7 +543,7 @@ class Runs(Running):
                 self.assertEqual(
                     self.load(*words, "--schedulers", 4, "--output", path, self.file(text)).returncode, 0
                 )
-                out = self.run_of(path, "+S", "4", "+MMscs", "256", "+MBacul", acul)
+                out = run_of(self, path, "+S", "4", "+MMscs", "256", "+MBacul", acul)
                 self.assertEqual(len(re.findall(r"^(?:alloc|free|realloc|give|take|info) ", out, re.M)), 6004)
                 if ending != "threads":
                     self.assertIsNone(re.search(r" (?:fail|skipped|absent)\b", out))
@@ -555,7 +551,7 @@ class Runs(Running):
                 self.assertEqual((beside.returncode, beside.stderr), (0, ""))
 
 
-class LiveNode(Running):
+class LiveNode(Case):
     """A node on the loopback with its own epmd, each with a time limit of its own, and ended by the process that was
     started."""
 
@@ -628,8 +624,9 @@ class LiveNode(Running):
         for low, high, count in slots:
             found = sum(low <= it + 8 <= high for it in made.sizes)
             self.assertLess(abs(found - len(made.sizes) * count / sum(it[2] for it in slots)), 1)
-        out = self.run_of(trace, "+MMscs", "128")
-        self.assertIsNone(re.search(r" (?:fail|skipped)\b", out))
+        if os.access(PROGRAM, os.X_OK):
+            out = run_of(self, trace, "+MMscs", "128")
+            self.assertIsNone(re.search(r" (?:fail|skipped)\b", out))
 
     def check_slots(self, slots):
         """The known binaries are in slots that lie around their sizes, and nothing else is there but a few."""
