@@ -47,6 +47,18 @@ def module_of(path):
 TOOL = module_of(LOAD)
 
 
+def within(seconds, attempt):
+    """What the attempt gives, once the system has what it wants."""
+    deadline = time.monotonic() + seconds
+    while True:
+        try:
+            return attempt()
+        except OSError:
+            if time.monotonic() > deadline:
+                raise
+            time.sleep(0.05)
+
+
 class Trace:
     """A trace, read by the rules of docs/FORMATS.md: what breaks one of them fails the test."""
 
@@ -424,8 +436,11 @@ class Refusals(Case):
         os.mkfifo(pipe)
         with open(f"{self.room}/read", "w+", encoding="ascii") as read:
             with subprocess.Popen(["cat", pipe], stdout=read) as reader:
-                self.assertEqual(self.load("--output", pipe, self.file(SMALL)).returncode, 0)
-                self.assertEqual(reader.wait(timeout=60), 0)
+                try:
+                    self.assertEqual(self.load("--output", pipe, self.file(SMALL)).returncode, 0)
+                    self.assertEqual(reader.wait(timeout=60), 0)
+                finally:
+                    reader.kill()
             read.seek(0)
             self.assertTrue(read.read().endswith("end\n"))
         self.assertTrue(stat.S_ISFIFO(os.stat(pipe).st_mode))
@@ -435,10 +450,13 @@ class Refusals(Case):
         path = f"{self.room}/pipe"
         os.mkfifo(path)
         with subprocess.Popen([LOAD, path], stdout=subprocess.PIPE, stderr=subprocess.PIPE, text=True) as waiting:
-            with open(path, "wb"):
-                time.sleep(0.5)
+            try:
+                writer = within(30, lambda: os.open(path, os.O_WRONLY | os.O_NONBLOCK))
                 waiting.send_signal(signal.SIGINT)
-                out, error = waiting.communicate(timeout=60)
+                out, error = waiting.communicate(timeout=30)
+                os.close(writer)
+            finally:
+                waiting.kill()
         self.assertEqual((waiting.returncode, out, error), (1, "", "load: interrupted\n"))
 
     def test_earlier_output_stays(self):
@@ -594,10 +612,7 @@ class LiveNode(Case):
         command = ["erl", "-noinput", "-start_epmd", "false", "-sname", self.NODE, "-setcookie", self.COOKIE,
                    "-kernel", "inet_dist_use_interface", "{127,0,0,1}", "-eval", words]
         with self.started(["epmd", "-address", "127.0.0.1", "-port", port], env, ""):
-            deadline = time.monotonic() + 10
-            while socket.socket().connect_ex(("127.0.0.1", int(port))):
-                self.assertLess(time.monotonic(), deadline)
-                time.sleep(0.1)
+            within(30, lambda: socket.create_connection(("127.0.0.1", int(port)), timeout=5).close())
             with self.started(command, env, "ready"):
                 yield env
 
