@@ -180,10 +180,13 @@ class Case(unittest.TestCase):
 class Sizes(Case):
     def test_each_slot_has_its_share(self):
         """101 operations with 100 blocks live are 100 allocations and the info: 12.5, 25 and 62.5 for counts of 1, 2
-        and 5 in 8. The one that is left goes to the first of those with the largest rest."""
+        and 5 in 8. The one that is left goes to the first of those with the largest rest. Of 102 they are 12.75, 25.5
+        and 63.75, and two are left."""
         trace = self.made(SMALL, "--operations", 101, "--live", 100)
         self.assertEqual(trace.operations[-1], ("info",))
         self.assertEqual(collections.Counter(trace.sizes), {56: 13, 120: 25, 248: 62})
+        trace = self.made(SMALL, "--operations", 103, "--live", 102)
+        self.assertEqual(collections.Counter(trace.sizes), {56: 13, 120: 25, 248: 64})
 
     def test_shares_of_many(self):
         """Of A sizes each slot has less than one more or less than A * count / all."""
@@ -446,7 +449,9 @@ class Refusals(Case):
         self.assertTrue(stat.S_ISFIFO(os.stat(pipe).st_mode))
 
     def test_interrupted(self):
-        """It is told to stop while it waits for a file that does not come."""
+        """It is told to stop while it waits for a file that does not come. A command in the background of a script is
+        not told so, and neither is what it starts, unless it says that it wants to be."""
+        self.addCleanup(signal.signal, signal.SIGINT, signal.signal(signal.SIGINT, signal.default_int_handler))
         path = f"{self.room}/pipe"
         os.mkfifo(path)
         with subprocess.Popen([LOAD, path], stdout=subprocess.PIPE, stderr=subprocess.PIPE, text=True) as waiting:
