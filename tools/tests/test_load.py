@@ -32,7 +32,7 @@ FIRST = "node-load 1\n"
 SMALL = FIRST + "type B\nblocks 64 64 1\nblocks 128 128 2\nblocks 256 256 5\n"
 # The SHA-256 of what one machine made of SMALL with the words of test_same_bytes, so that a change of bytes is seen. It
 # says nothing of what is right.
-MADE_ONCE = "75bc1ea31156d6e1f541c72d7f5304ef2887c7979d1408106013a91dc0bcbfe4"
+MADE_ONCE = "7b965a8b5cc60464875744423c38eed7a8720e6ce9676bd4cf57b1e599f8a14b"
 
 
 def module_of(path):
@@ -241,11 +241,10 @@ class Operations(Case):
             self.assertTrue(all(it[-1] == ("info",) for it in trace.sections))
 
     def test_grows_and_stays(self):
-        """It allocates until 500 are live, and then stays between 450 and 500."""
-        trace = self.made(SMALL, "--operations", 5001, "--live", 500)
-        live = trace.live(0)
-        self.assertEqual(live[:500], list(range(1, 501)))
-        self.assertTrue(all(449 <= it <= 500 for it in live[500:]))
+        """It allocates until 100 are live, and then stays between 90 and 100."""
+        live = self.made(SMALL, "--operations", 5001, "--live", 100).live(0)
+        self.assertEqual(live[:100], list(range(1, 101)))
+        self.assertEqual(set(live[100:]), set(range(90, 101)))
 
     def test_phases_end_in_valleys(self):
         """Of three phases of 2000 operations the first two end with 200 of 1000 blocks, or one more where the last
@@ -298,12 +297,21 @@ class Operations(Case):
         trace = self.made(
             SMALL, "--operations", 20000, "--live", 200, "--handed-over", 30, "--ending", "turns", schedulers=2
         )
-        gives, takes, frees = (len(trace.words(it)) for it in ("give", "take", "free"))
-        self.assertEqual(gives, takes)
-        self.near(gives, frees, 30)
+        self.near(len(trace.words("give")), len(trace.words("free")), 30)
+        self.check_taken(trace)
+
+    def check_taken(self, trace):
+        """What is given is taken, and freed by the operation after that."""
+        self.assertEqual(sorted(it[1] for it in trace.words("give")), sorted(it[1] for it in trace.words("take")))
         for section in trace.sections:
             taken = [at for at, it in enumerate(section) if it[0] == "take"]
             self.assertTrue(all(section[at + 1] == ("free", section[at][1]) for at in taken))
+
+    def test_handed_over_to_the_end(self):
+        """Also of the last operations nothing is given that the other has no operations left for."""
+        for seed in range(20):
+            words = "--operations", 100, "--live", 9, "--handed-over", 100, "--ending", "turns", "--seed", seed
+            self.check_taken(self.made(SMALL, *words, schedulers=3))
 
     def test_who_is_given_to(self):
         """With a schedule without turns later schedulers alone, else all others. One alone gives nothing."""
@@ -340,8 +348,8 @@ class Bytes(Case):
 
     def test_other_seed(self):
         path = self.file(SMALL)
-        texts = {self.load(*self.WORDS, "--seed", seed, path).stdout for seed in (0, 1, 2, 2147483647)}
-        self.assertEqual(len(texts), 4)
+        texts = [self.load(*self.WORDS, "--seed", seed, path).stdout for seed in (0, 1, 2, 2147483647)]
+        self.assertEqual(len({re.sub("#.*\n", "", it) for it in texts}), 4)
         self.assertEqual(self.load(*self.WORDS, "--seed", 1, path).stdout, self.load(*self.WORDS, path).stdout)
 
     def test_comment_makes_it_again(self):
