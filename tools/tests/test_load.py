@@ -32,7 +32,7 @@ FIRST = "node-load 1\n"
 SMALL = FIRST + "type B\nblocks 64 64 1\nblocks 128 128 2\nblocks 256 256 5\n"
 # The SHA-256 of what one machine made of SMALL with the words of test_same_bytes, so that a change of bytes is seen. It
 # says nothing of what is right.
-MADE_ONCE = "7b965a8b5cc60464875744423c38eed7a8720e6ce9676bd4cf57b1e599f8a14b"
+MADE_ONCE = "45b1cc57719d1ca07cfc6eec8165d677730e10943e965ab406d95508405e68c9"
 
 
 def module_of(path):
@@ -325,9 +325,9 @@ class Operations(Case):
         self.assertEqual(self.made(SMALL, "--operations", 9000).words("give"), [])
 
     def test_turns(self):
-        """Eight of each scheduler in a row, and eight for each operation of the longest section."""
+        """Eight of each scheduler in a row for each operation of the longest section, and then a thousand times 512."""
         trace = self.made(SMALL, "--operations", 300, "--ending", "turns", schedulers=3)
-        self.assertEqual(trace.turns, ["1*8", "2*8", "3*8"] * 100)
+        self.assertEqual(trace.turns, ["1*8", "2*8", "3*8"] * 100 + ["1*512", "2*512", "3*512"] * 1000)
 
 
 class Bytes(Case):
@@ -569,13 +569,13 @@ class Runs(Case):
         text = FIRST + "type B\nblocks 64 120 500\nblocks 4096 8184 20\nblocks 600000 700000 1\n"
         for ending in "schedule", "turns", "threads":
             for acul in "0", "60":
-                words = "--operations", 6000, "--reallocs", 20, "--handed-over", 30, "--phases", 2, "--ending", ending
+                words = "--operations", 600, "--reallocs", 20, "--handed-over", 30, "--phases", 2, "--ending", ending
                 path = f"{self.room}/trace"
                 self.assertEqual(
                     self.load(*words, "--schedulers", 4, "--output", path, self.file(text)).returncode, 0
                 )
                 out = run_of(self, path, "+S", "4", "+MMscs", "256", "+MBacul", acul)
-                self.assertEqual(len(re.findall(r"^(?:alloc|free|realloc|give|take|info) ", out, re.M)), 6004)
+                self.assertEqual(len(re.findall(r"^(?:alloc|free|realloc|give|take|info) ", out, re.M)), 604)
                 if ending != "threads":
                     self.assertIsNone(re.search(r" (?:fail|skipped|absent)\b", out))
                 beside = self.load("--beside", self.file(out, "text"), self.file(text, "node.load"))
@@ -645,7 +645,7 @@ class LiveNode(Case):
         self.check_slots(slots)
         self.check_carriers(slots, lines)
         trace = f"{self.room}/trace"
-        done = self.load("--operations", 20000, "--reallocs", 0, "--output", trace, path)
+        done = self.load("--operations", 3000, "--reallocs", 0, "--output", trace, path)
         self.assertEqual((done.returncode, done.stderr), (0, ""))
         with open(trace, encoding="ascii") as file:
             made = Trace(self, file.read(), 1)
