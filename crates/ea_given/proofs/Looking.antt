@@ -1,6 +1,7 @@
 -- A scheduler in a search takes looks in a row.
 use Rattle.std.proofs.Common.{◌≡◌, ℕ, ◌*◌, ◌-◌, ◌<◌, ◌≤◌, true, false, sym, ap, ◌∙◌, subst, arith}
-use Rattle.std.specs.Prelude.{None, Some, replicate}
+use Rattle.std.specs.Prelude.{None, Some, max, replicate}
+use Rattle.std.proofs.lemmas.Int.{clamps}
 use Rattle.ea_model.specs.declared.settings.Config.{Config}
 use Rattle.ea_model.specs.declared.trace.Trace.{Trace}
 use Rattle.ea_model.specs.declared.units.TheConstants.{NUMBERS}
@@ -29,6 +30,11 @@ use Rattle.ea_sched.specs.Acting.{IsSame, actor_of}
 use Rattle.ea_sched.specs.Looks.{HasPassed, next_look}
 use Rattle.ea_given.specs.Running.{SharesAt, StandsAt}
 use Rattle.ea_given.proofs.Running.{of-run}
+
+-- the number that a search is at after looks in a row is none after the last one that counts
+pub not-past : (last first few next : ℕ) → first ≡ max last 1 → next ≡ max first few
+    → last ≤ next
+not-past last first few next least is = omega (arith, clamps, least, is)
 
 -- a scheduler that is to look at a number is in a search
 looks-in : (st : Stage Content) (high : ℕ) → next_look st ≡ Some high
@@ -64,8 +70,14 @@ module _ (c : Config) (t : Trace) (me : ℕ) (s : Scheduler) (m : Sharing) (w : 
   pub search-moves : m.migrates ≡ true
   search-moves = shares.moves ∙ fits.2.5
 
-  pub search-some : 1 ≤ high
+  search-some : 1 ≤ high
   search-some = fits.2.1
+
+  -- it comes down from the number that it looks at, whatever turns it has
+  pub comes-down : (last most first few n : ℕ) → last ≤ high → first ≡ max last 1
+      → few ≡ high - most → n ≡ max first few → n ≤ high
+  comes-down last most first few n upto least turns is =
+      omega (arith, clamps, upto, search-some, least, turns, is)
 
   pub search-carrier : IsCarrier m.schedulers high
   search-carrier = (

@@ -119,16 +119,16 @@ impl<'t> Scheduler<'t> {
 
     /// Goes on with its search, down to a number from 1 on, by one turn for each number that it
     /// passes over: a look at an owner word that doesn't count.
-    pub fn pass_over(&mut self, number: u32)
-        requires some { 1 ≤ number }
-        requires from { (at : ℕ) × (looks.next_look self.old.stage ≡ Some at) × (number ≤ at) }
-        ensures passed { HasPassed number self.old self.new }
+    pub fn pass_over(&mut self, next: u32)
+        requires some { 1 ≤ next }
+        requires from { (at : ℕ) × (looks.next_look self.old.stage ≡ Some at) × (next ≤ at) }
+        ensures passed { HasPassed next self.old self.new }
         ensures same { IsSame self.old self.new }
     {
         let Stage::Searching { at, .. } = &mut self.stage else {
             unreachable!()
         };
-        *at = number;
+        *at = next;
     }
 
     /// One try to fetch the carrier that the search saw: it is employed, and the block placed; or

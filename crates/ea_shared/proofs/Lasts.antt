@@ -17,8 +17,12 @@ longer first end from to old new r within is = record {
   past = omega (arith, r.past);
   within = omega (arith, within, r.count);
   count = length-set new end to ∙ r.count;
-  before = λ n low. get_or-set_other new end n to 0 (λ same. absurd (omega (arith, low, same,
-      r.past))) ∙ r.before n low;
+  before = λ n low. get_or-set_other new end n to 0 (λ same. absurd (omega (
+    arith,
+    low,
+    same,
+    r.past,
+  ))) ∙ r.before n low;
   was = λ n from_first below. elim (cases_eq n end) [
     | inl same ↦ ap (λ i. get_or old i 0) same ∙ sym (r.after end (omega arith)) ∙ is
     | inr other ↦ r.was n from_first (omega (arith, below, other))
