@@ -180,6 +180,12 @@ module _ (c : Config) (t : Trace) (me : ℕ) (s : Scheduler) (w : State)
         own ∙ as-run (λ d x k. work (setup_of c t) (alone_in s m) me
         ≡ work (setup_of d x) (alone_in s m) k) refl
 
+-- no turns
+pub took-none : (s : Scheduler) (m : Sharing) (k : ℕ) → k ≡ 0
+    → Took (λ e w me. replicate k me) s m s m
+took-none s m k none = subst (λ n. Took (λ e w me. replicate n me) s m s m) (sym none)
+    (λ c t me w shares at. (shares, at))
+
 -- what a scheduler has taken
 module _ (s u : Scheduler) (m n : Sharing) where
   -- it stands after its turns
