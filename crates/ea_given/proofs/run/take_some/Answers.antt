@@ -1,4 +1,4 @@
-use Rattle.std.proofs.Common.{arith, replicate}
+use Rattle.std.proofs.Common.{◌+◌, arith, replicate}
 use Rattle.ea_given.proofs.Running.{took-count, took-more, took-stands}
 use Rattle.ea_given.proofs.run.take_some.Goals as goal
 
