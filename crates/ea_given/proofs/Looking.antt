@@ -1,6 +1,6 @@
 -- A scheduler in a search takes looks in a row.
 use Rattle.std.proofs.Common.{◌≡◌, ℕ, ◌*◌, ◌-◌, ◌<◌, ◌≤◌, true, false, sym, ap, ◌∙◌, subst, arith}
-use Rattle.std.specs.Prelude.{None, Some, max, replicate}
+use Rattle.std.specs.Prelude.{Some, max, replicate}
 use Rattle.std.proofs.lemmas.Int.{clamps}
 use Rattle.ea_model.specs.declared.settings.Config.{Config}
 use Rattle.ea_model.specs.declared.trace.Trace.{Trace}

@@ -1,6 +1,6 @@
 -- Schedulers take their turns on plain memory.
 use Rattle.std.proofs.Common.{◌≡◌, ◌≢◌, ℕ, zero, suc, ◌+◌, ◌-◌, ◌<◌, ◌≤◌, length, true, false}
-use Rattle.std.proofs.Common.{List, [], ◌∷◌, inl, inr, refl, sym, ap, subst, ◌∙◌, arith}
+use Rattle.std.proofs.Common.{List, inl, inr, refl, sym, ap, subst, ◌∙◌, arith}
 use Rattle.std.specs.Prelude.{None, Some, replicate}
 use Rattle.std.proofs.lemmas.List.{replicate-append-replicate}
 use Rattle.ea_model.specs.declared.settings.Config.{Config}

@@ -1,5 +1,4 @@
-use Rattle.std.proofs.Common.{◌≡◌, ◌-◌, ◌<◌, ◌≤◌, Some, sym, ◌∙◌, arith}
-use Rattle.ea_sched.specs.Looks.{next_look}
+use Rattle.std.proofs.Common.{sym, ◌∙◌, arith}
 use Rattle.ea_given.proofs.Looking.{comes-down, looks-taken, not-past, search-carrier}
 use Rattle.ea_given.proofs.Looking.{search-moves}
 use Rattle.ea_given.proofs.run.pass_looks.Goals as goal
