@@ -1,18 +1,20 @@
 -- Schedulers take their turns on plain memory.
 use Rattle.std.proofs.Common.{◌≡◌, ◌≢◌, ℕ, zero, suc, ◌+◌, ◌-◌, ◌<◌, ◌≤◌, length, true, false}
-use Rattle.std.proofs.Common.{List, [], ◌∷◌, inl, inr, refl, sym, ap, subst, ◌∙◌, arith}
+use Rattle.std.proofs.Common.{List, inl, inr, refl, sym, ap, subst, ◌∙◌, arith}
 use Rattle.std.specs.Prelude.{None, Some, replicate}
 use Rattle.std.proofs.lemmas.List.{replicate-append-replicate}
 use Rattle.ea_model.specs.declared.settings.Config.{Config}
 use Rattle.ea_model.specs.declared.trace.Trace.{Trace}
 use Rattle.ea_model.specs.Content.{Content}
+use Rattle.ea_model.specs.Settings.{IsValidConfig}
+use Rattle.ea_model.specs.Trace.{IsValidTrace}
 use Rattle.ea_machine.specs.declared.stages.Stage.{Stage}
 use Rattle.ea_machine.specs.declared.stages.Stage.TheVariants.{Begin, Routed, Collecting}
 use Rattle.ea_machine.specs.declared.stages.Stage.TheVariants.{Searching, Fetching, Creating}
 use Rattle.ea_machine.specs.declared.stages.Stage.TheVariants.{Giving, Taking, Ended, Ready}
 use Rattle.ea_machine.specs.Actor.{Actor}
 use Rattle.ea_machine.specs.Completion.{actor_rows, ending, work}
-use Rattle.ea_machine.specs.Machine.{after_row, onward}
+use Rattle.ea_machine.specs.Machine.{IsReached, after_row, onward}
 use Rattle.ea_machine.specs.Machine.{run_on, step, wants}
 use Rattle.ea_machine.specs.Setup.{Setup, migration, setup_of}
 use Rattle.ea_machine.specs.Shared.{Shared}
@@ -76,11 +78,11 @@ ended-stays e me w zero ended = refl
 ended-stays e me w (suc n) ended = ap (λ v. run_on e v (replicate n me)) (step-ended e w me ended)
     ∙ ended-stays e me w n ended
 
--- one more turn of it
-run-last : (e : Setup) (me : ℕ) (w : State) (n : ℕ)
-    → run_on e w (replicate (n + 1) me) ≡ step e (run_on e w (replicate n me)) me
-run-last e me w n = ap (run_on e w) (sym (replicate-append-replicate n 1 me))
-    ∙ run-append e w (replicate n me) (me ∷ [])
+-- more turns of it
+run-more : (e : Setup) (me : ℕ) (w : State) (n k : ℕ) → run_on e w (replicate (n + k) me)
+    ≡ run_on e (run_on e w (replicate n me)) (replicate k me)
+run-more e me w n k = ap (run_on e w) (sym (replicate-append-replicate n k me))
+    ∙ run-append e w (replicate n me) (replicate k me)
 
 -- as many as there are, once it has ended
 run-all : (e : Setup) (me : ℕ) (w : State) (n count : ℕ) → n ≤ count
@@ -178,11 +180,11 @@ module _ (c : Config) (t : Trace) (me : ℕ) (s : Scheduler) (w : State)
         own ∙ as-run (λ d x k. work (setup_of c t) (alone_in s m) me
         ≡ work (setup_of d x) (alone_in s m) k) refl
 
-    -- a step leaves it less
-    pub stands-less : (w.actors me).stage ≢ Ended
-        → work (setup_of c t) (step (setup_of c t) w me) me < work (setup_of c t) w me
-    stands-less going = rule-less (setup_of c t) w me
-        (reached-rule c t shares.config shares.trace w shares.reached) going
+-- no turns
+pub took-none : (s : Scheduler) (m : Sharing) (k : ℕ) → k ≡ 0
+    → Took (λ e w me. replicate k me) s m s m
+took-none s m k none = subst (λ n. Took (λ e w me. replicate n me) s m s m) (sym none)
+    (λ c t me w shares at. (shares, at))
 
 -- what a scheduler has taken
 module _ (s u : Scheduler) (m n : Sharing) where
@@ -195,16 +197,16 @@ module _ (s u : Scheduler) (m n : Sharing) where
       let then = took c t me w shares at in
       (c, t, me, run_on e w (turns e w me), then.0, then.1)
 
-  -- turns of a scheduler, and one more
-  pub took-more : (k : ℕ) (x : Scheduler) (p : Sharing)
-      → Took (λ e w me. replicate k me) s m u n → Took (λ e w me. me ∷ []) u n x p
-      → Took (λ e w me. replicate (k + 1) me) s m x p
-  took-more k x p before one c t me w shares at =
+  -- turns of a scheduler, and more
+  pub took-more : (k j : ℕ) (x : Scheduler) (p : Sharing)
+      → Took (λ e w me. replicate k me) s m u n → Took (λ e w me. replicate j me) u n x p
+      → Took (λ e w me. replicate (k + j) me) s m x p
+  took-more k j x p before more c t me w shares at =
       let e = setup_of c t in
       let v = run_on e w (replicate k me) in
       let then = before c t me w shares at in
-      let last = one c t me v then.0 then.1 in
-      subst (λ y. SharesAt c t p y × StandsAt c t me x y) (sym (run-last e me w k)) last
+      let last = more c t me v then.0 then.1 in
+      subst (λ y. SharesAt c t p y × StandsAt c t me x y) (sym (run-more e me w k j)) last
 
   -- the rest of the turns of one that has ended
   pub took-all : (k count : ℕ) → k ≤ count → is_ended u.stage ≡ true
@@ -244,3 +246,54 @@ module _ (e : Setup) (me : ℕ) where
       → work e (step e w me) me < work e w me → LeadsTo e me target w
       → LeadsTo e me target (step e w me)
   leads-next target w going less leads = leads_by leads.0 target w going less leads.1 leads.2
+
+-- turns of a scheduler, in a reached state of the run of a valid trace
+module _ (c : Config) (t : Trace) (config : IsValidConfig c) (trace : IsValidTrace c.schedulers t)
+    (me : ℕ) where
+  abbrev e : Setup
+  e = setup_of c t
+
+  module _ (w : State) (reached : IsReached e w) where
+    next-reached : IsReached e (step e w me)
+    next-reached = reached-step e w me reached
+
+    goes-less : (w.actors me).stage ≢ Ended → work e (step e w me) me < work e w me
+    goes-less = rule-less e w me (reached-rule c t config trace w reached)
+
+    one-more_not : work e (step e w me) me ≤ work e w me
+    one-more_not = elim (ended-or (w.actors me).stage) [
+      | inl ended ↦ omega (arith, ap (λ v. work e v me) (step-ended e w me ended))
+      | inr going ↦ omega (arith, goes-less going)
+    ]
+
+    one-leads : (target : State) → LeadsTo e me target w → LeadsTo e me target (step e w me)
+    one-leads target leads = elim (ended-or (w.actors me).stage) [
+      | inl ended ↦ subst (LeadsTo e me target) (sym (step-ended e w me ended)) leads
+      | inr going ↦ leads-next e me target w going (goes-less going) leads
+    ]
+
+  -- the run to its end is still to come after them
+  pub all-lead : (k : ℕ) (target w : State) → IsReached e w → LeadsTo e me target w
+      → LeadsTo e me target (run_on e w (replicate k me))
+  all-lead zero target w reached leads = leads
+  all-lead (suc k) target w reached leads = all-lead k target (step e w me)
+      (next-reached w reached) (one-leads w reached target leads)
+
+  not-more : (k : ℕ) (w : State) → IsReached e w
+      → work e (run_on e w (replicate k me)) me ≤ work e w me
+  not-more zero w reached = omega arith
+  not-more (suc k) w reached = omega (
+    arith,
+    not-more k (step e w me) (next-reached w reached),
+    one-more_not w reached,
+  )
+
+  -- they leave it less
+  pub some-less : (k : ℕ) (w : State) → IsReached e w → (w.actors me).stage ≢ Ended → 1 ≤ k
+      → work e (run_on e w (replicate k me)) me < work e w me
+  some-less zero w reached going some = absurd (omega (arith, some))
+  some-less (suc k) w reached going some = omega (
+    arith,
+    not-more k (step e w me) (next-reached w reached),
+    goes-less w reached going,
+  )

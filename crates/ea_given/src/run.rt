@@ -1,5 +1,5 @@
 //! The run of a trace that has a schedule, or none.
-ghost use Rattle.std.specs.Prelude.{◌≡◌, ◌+◌, ◌<◌, [], ◌∷◌, IfOk, OnOk, All};
+ghost use Rattle.std.specs.Prelude.{◌≡◌, ◌+◌, ◌<◌, ◌≤◌, [], ◌∷◌, IfOk, OnOk, All};
 ghost use Rattle.std.specs.Prelude.{flat_map, length, replicate};
 ghost use Rattle.ea_model.specs.Outcome.{plain_outcome};
 ghost use Rattle.ea_model.specs.Settings.{IsValidConfig};
@@ -69,6 +69,45 @@ fn take_turn(
     Ok(())
 }
 
+/// Takes the next looks of the scheduler's search in a row, up to one at an owner word that counts
+/// or at number 1, but not more than `most` of them. Answers how many it took.
+fn pass_looks(scheduler: &mut Scheduler<'_>, shared: &MemShared<Mbc>, most: u32) -> u32
+    requires { Stands scheduler.old shared.now }
+    ensures few { result ≤ most }
+    ensures took { Took (λ _ _ me. replicate result me) scheduler.old shared.now scheduler.new
+        shared.now }
+{
+    let Some(at) = scheduler.next_look() else {
+        return 0;
+    };
+    let last = shared.last_counted(at);
+    let next = last.max(1).max(at.saturating_sub(most));
+    scheduler.pass_over(next);
+    at - next
+}
+
+/// Takes turns of the scheduler, at least one and not more than `most`: looks of a search in a row,
+/// or one step. Answers how many it took.
+fn take_some(
+    scheduler: &mut Scheduler<'_>,
+    alloc: Global,
+    shared: &mut MemShared<Mbc>,
+    most: u32,
+) -> Result<u32, OutOfMemory>
+    requires stands { Stands scheduler.old shared.old }
+    requires some { 1 ≤ most }
+    ensures few { IfOk result (λ count. (1 ≤ count) × (count ≤ most)) }
+    ensures took { IfOk result (λ count. Took (λ _ _ me. replicate count me) scheduler.old
+        shared.old scheduler.new shared.new) }
+{
+    let passed = pass_looks(scheduler, shared, most);
+    if passed > 0 {
+        return Ok(passed);
+    }
+    take_turn(scheduler, alloc, shared)?;
+    Ok(1)
+}
+
 /// Takes that many turns of the scheduler. Those after its end change nothing, and are left out.
 fn take_turns(
     scheduler: &mut Scheduler<'_>,
@@ -80,11 +119,12 @@ fn take_turns(
     ensures { OnOk result (Took (λ _ _ me. replicate count me) scheduler.old shared.old
         scheduler.new shared.new) }
 {
-    for _turn in 0..count {
+    let mut left = count;
+    while left > 0 {
         if scheduler.ended() {
             return Ok(());
         }
-        take_turn(scheduler, alloc, shared)?;
+        left -= take_some(scheduler, alloc, shared, left)?;
     }
     Ok(())
 }
@@ -99,7 +139,7 @@ fn run_out(
     ensures { OnOk result (Took finishing scheduler.old shared.old scheduler.new shared.new) }
 {
     while !scheduler.ended() {
-        take_turn(scheduler, alloc, shared)?;
+        take_some(scheduler, alloc, shared, u32::MAX)?;
     }
     Ok(())
 }

@@ -16,3 +16,4 @@ pub mod Calling
 pub mod WalkSuiting
 pub mod NamesBrought
 pub mod RouteEnds
+pub mod LooksInRow

@@ -4,3 +4,4 @@ pub mod Steps
 pub mod Turning
 pub mod Asking
 pub mod Brought
+pub mod Looks

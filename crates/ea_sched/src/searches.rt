@@ -1,10 +1,12 @@
 //! How a scheduler searches the pool, fetches a carrier, or creates one.
-ghost use Rattle.std.specs.Prelude.{◌≡◌, ℕ, true, OnOk};
+ghost use Rattle.std.specs.Prelude.{◌≡◌, ℕ, ◌≤◌, true, Some, OnOk};
 ghost use Rattle.ea_machine.specs.declared.stages.Stage.TheVariants as stage;
 ghost use Rattle.ea_machine.specs.Placements as placements;
 ghost use Rattle.ea_machine.specs.Setup.{migration};
 ghost use Rattle.ea_sched.specs.Acting.{IsSame, actor_of, ready_of, setup_for};
 ghost use Rattle.ea_sched.specs.Asking.{HasMore, IsAsked};
+ghost use Rattle.ea_sched.specs.Looks as looks;
+ghost use Rattle.ea_sched.specs.Looks.{HasPassed};
 ghost use Rattle.ea_sched.specs.Steps.{DidRow, StartsRow};
 
 use crate::state::Scheduler;
@@ -103,6 +105,30 @@ impl<'t> Scheduler<'t> {
                 }
             },
         }
+    }
+
+    /// The number that its search looks at next. None exactly where it is in no search.
+    pub fn next_look(&self) -> Option<u32>
+        ensures { result ≡ looks.next_look self.now.stage }
+    {
+        match &self.stage {
+            Stage::Searching { at, .. } => Some(*at),
+            _ => None,
+        }
+    }
+
+    /// Goes on with its search, down to a number from 1 on, by one turn for each number that it
+    /// passes over: a look at an owner word that doesn't count.
+    pub fn pass_over(&mut self, next: u32)
+        requires some { 1 ≤ next }
+        requires from { (at : ℕ) × (looks.next_look self.old.stage ≡ Some at) × (next ≤ at) }
+        ensures passed { HasPassed next self.old self.new }
+        ensures same { IsSame self.old self.new }
+    {
+        let Stage::Searching { at, .. } = &mut self.stage else {
+            unreachable!()
+        };
+        *at = next;
     }
 
     /// One try to fetch the carrier that the search saw: it is employed, and the block placed; or

@@ -10,6 +10,7 @@ use Rattle.ea_machine.specs.declared.owners.OwnerWord.TheVariants as word
 use Rattle.ea_machine.specs.declared.stages.Stage.TheVariants.{Collecting}
 use Rattle.ea_machine.specs.Owners.{CarrierAt}
 use Rattle.ea_machine.specs.Owners as owners
+use Rattle.ea_machine.specs.Placements.{counts}
 use Rattle.ea_machine.specs.Rows.{Answer, Settle}
 use Rattle.ea_machine.specs.Rows as rows
 use Rattle.ea_machine.specs.Statistics.{leaving_at}
@@ -38,6 +39,10 @@ module _ {C : Type 0} (content : C → Content) where
 -- where the carrier of a number is, among places from 0 on
 abbrev pub place_at : List CarrierAt → ℕ → CarrierAt
 place_at places number = get_or places number owners.Absent
+
+-- whether a search of the pool counts the carrier
+abbrev pub counts_at : List CarrierAt → ℕ → Bool
+counts_at places number = counts (owners.word_of (place_at places number))
 
 -- where the carrier of a number is, if each of the first schedulers employs its main carrier and no
 -- other is there

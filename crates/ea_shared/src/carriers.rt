@@ -3,10 +3,13 @@ ghost use Rattle.std.specs.Prelude.{◌≡◌, ℕ, ◌<◌, ◌+◌, Some, IfOk
 ghost use Rattle.ea_model.specs.Content.{Content};
 ghost use Rattle.ea_machine.specs.declared.owners.OwnerWord.TheVariants as word;
 ghost use Rattle.ea_machine.specs.Owners as owners;
+ghost use Rattle.ea_machine.specs.Placements.{counts};
 ghost use Rattle.ea_machine.specs.Table.{tried_at};
-ghost use Rattle.ea_shared.specs.Carriers.{HasReturned, after_try, home_of, place_at, placed};
-ghost use Rattle.ea_shared.specs.Carriers.{told_by};
+ghost use Rattle.ea_shared.specs.Carriers.{HasReturned, after_try, counts_at, home_of, place_at};
+ghost use Rattle.ea_shared.specs.Carriers.{placed, told_by};
+ghost use Rattle.ea_shared.specs.Counted.{IsLast};
 
+use crate::counted::Counted;
 use crate::tried::Tried;
 use ea_machine::OwnerWord;
 use ea_model::{Carried, OutOfMemory};
@@ -35,21 +38,26 @@ pub enum Place<C> {
     },
 }
 
-/// Where carriers are, by their numbers. Contracts see the places from number 0 on, which is no
-/// carrier's.
+/// Where carriers are, by their numbers, and which of them count in a search of the pool. Contracts
+/// see the places from number 0 on, which is no carrier's.
 #[derive(Drop)]
 pub struct Places<C: Carried> {
     list: Vec<Place<C>>,
+    counted: Counted,
 }
 
 impl<C: Carried> Model for Places<C> {
-    ghost use Rattle.std.specs.Prelude.{List, map};
+    ghost use Rattle.std.specs.Prelude.{◌≡◌, List, length, map};
     ghost use Rattle.ea_machine.specs.Owners.{CarrierAt};
-    ghost use Rattle.ea_shared.specs.Carriers.{placed};
+    ghost use Rattle.ea_shared.specs.Carriers.{counts_at, placed};
+    ghost use Rattle.ea_shared.specs.Counted.{AreLast};
 
     ghost Value = { List CarrierAt };
 
     ghost view = { λ p. map (placed C.content) p.list.items };
+
+    ghost invariant = { λ p. (length p.counted ≡ length p.list.items)
+        × AreLast (counts_at (map (placed C.content) p.list.items)) p.counted };
 }
 
 /// The owner word of a carrier that is there.
@@ -78,6 +86,13 @@ fn word_of<C: Carried>(place: &Place<C>) -> OwnerWord
     }
 }
 
+/// Whether a search of the pool counts the carrier.
+fn is_counted<C: Carried>(place: &Place<C>) -> bool
+    ensures { result ≡ counts (owners.word_of (placed C.content place.now)) }
+{
+    matches!(place, Place::Pooled { .. } | Place::Busy { .. })
+}
+
 impl<C: Carried + Drop> Places<C> {
     /// Places of that many numbers, of which no carrier is there.
     pub fn new(alloc: Global, count: usize) -> Result<Places<C>, OutOfMemory>
@@ -88,7 +103,8 @@ impl<C: Carried + Drop> Places<C> {
         for _number in 0..count {
             list.push(Place::Absent)?;
         }
-        Ok(Places { list })
+        let counted = Counted::new(alloc, count)?;
+        Ok(Places { list, counted })
     }
 
     /// The owner word of a carrier.
@@ -110,12 +126,31 @@ impl<C: Carried + Drop> Places<C> {
         }
     }
 
+    /// The greatest number of a carrier up to this one that a search of the pool counts; 0 where
+    /// there is none.
+    pub fn last_counted(&self, upto: u32) -> u32
+        requires { upto < length self.now }
+        ensures { IsLast (counts_at self.now) upto result }
+    {
+        self.counted.last_upto(upto)
+    }
+
+    /// The carrier is at another place. Answers where it was.
+    fn replace(&mut self, number: u32, place: Place<C>) -> Place<C>
+        requires { number < length self.old }
+        ensures was { placed C.content result ≡ place_at self.old number }
+        ensures places { self.new ≡ set self.old number (placed C.content place) }
+    {
+        self.counted.note(number, is_counted(&place));
+        mem::replace(&mut self.list[number as usize], place)
+    }
+
     /// The carrier is at another place.
     pub fn put(&mut self, number: u32, place: Place<C>)
         requires { number < length self.old }
         ensures { self.new ≡ set self.old number (placed C.content place) }
     {
-        self.list[number as usize] = place;
+        self.replace(number, place);
     }
 
     /// Takes the content of a pooled carrier, if its owner word is still the one seen, and leaves
@@ -132,7 +167,7 @@ impl<C: Carried + Drop> Places<C> {
         if word != seen {
             return Tried::Lost { word };
         }
-        match mem::replace(&mut self.list[number as usize], left) {
+        match self.replace(number, left) {
             Place::Pooled { content, .. } => Tried::Won { content },
             _ => unreachable!(),
         }
@@ -145,7 +180,7 @@ impl<C: Carried + Drop> Places<C> {
         ensures content { home_of (place_at self.old number) ≡ Some (C.content result) }
         ensures places { self.new ≡ set self.old number owners.Absent }
     {
-        match mem::replace(&mut self.list[number as usize], Place::Absent) {
+        match self.replace(number, Place::Absent) {
             Place::Returning { content, .. } => content,
             _ => unreachable!(),
         }

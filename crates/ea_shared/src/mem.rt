@@ -5,7 +5,9 @@ ghost use Rattle.ea_model.specs.Instance.{owner_of};
 ghost use Rattle.ea_machine.specs.Owners.{Absent};
 ghost use Rattle.ea_machine.specs.Machine.{start};
 ghost use Rattle.ea_machine.specs.Setup.{migration, setup_of};
-ghost use Rattle.ea_shared.specs.Carriers.{employed_if, is_first_upto, main_upto, place_at};
+ghost use Rattle.ea_shared.specs.Carriers.{IsCarrier, counts_at, employed_if, is_first_upto};
+ghost use Rattle.ea_shared.specs.Carriers.{main_upto, place_at};
+ghost use Rattle.ea_shared.specs.Counted.{IsLast};
 ghost use Rattle.ea_shared.specs.Memory.{shared_of};
 
 use crate::carriers::{Place, Places};
@@ -118,6 +120,16 @@ impl<C: Carried + Drop> MemShared<C> {
             migrates,
             places,
         })
+    }
+
+    /// The greatest number of a carrier up to this one whose owner word counts in a search of the
+    /// pool: the carrier is pooled or busy. 0 where there is none.
+    pub fn last_counted(&self, upto: u32) -> u32
+        requires migrates { self.now.migrates ≡ true }
+        requires carrier { IsCarrier self.now.schedulers upto }
+        ensures { IsLast (counts_at self.now.places) upto result }
+    {
+        self.places.last_counted(upto)
     }
 }
 

@@ -280,6 +280,19 @@ fn an_emptied_carrier_is_employed_again_and_cleared(rt: HostRuntime) -> Result<(
 }
 
 #[test]
+fn the_last_carrier_that_counts_is_pooled_or_busy(rt: HostRuntime) -> Result<(), Fail> {
+    let mut shared = abandoned(rt.alloc())?;
+    assert_eq!(rt; shared.last_counted(1), 0);
+    assert_eq!(rt; shared.last_counted(2), 2);
+    assert_eq!(rt; shared.last_counted(512), 2);
+    assert!(rt; is_won(shared.busy_try(1, 2, POOLED)));
+    assert_eq!(rt; shared.last_counted(512), 2);
+    shared.settle_employed(1, 2);
+    assert_eq!(rt; shared.last_counted(512), 0);
+    Ok(())
+}
+
+#[test]
 fn an_empty_carrier_returns_to_who_created_it(rt: HostRuntime) -> Result<(), Fail> {
     let mut shared = abandoned(rt.alloc())?;
     assert!(rt; is_won(shared.fetch_try(2, 2, POOLED)));

@@ -234,7 +234,7 @@ module _ (e : Setup) where
   pub reached-step : (w : State) (s : ℕ) → IsReached e w → IsReached e (step e w s)
   reached-step w s r = (r.0 ++ s ∷ [], ap (λ v. step e v s) r.1 ∙ sym (run-snoc e r.0 s))
 
-  reached-run : (w : State) (js : List ℕ) → IsReached e w → IsReached e (run_on e w js)
+  pub reached-run : (w : State) (js : List ℕ) → IsReached e w → IsReached e (run_on e w js)
   reached-run w [] r = r
   reached-run w (j ∷ js) r = reached-run (step e w j) js (reached-step w j r)
 

@@ -149,6 +149,7 @@ pub mod ReleasingCalls
 pub mod AskedCalls
 pub mod WalkCalls
 pub mod Observed
+pub mod PassedLooks
 pub mod OffWalks
 pub mod OffStages
 pub mod Paths

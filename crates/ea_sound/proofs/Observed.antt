@@ -104,7 +104,7 @@ module _ (a : Actor) (is : observed a ≡ a) (none : leaving_at a.stage ≡ []) 
   }
 
   -- they are at another stage too, where it has none either
-  still-observed : (at : Stage Content) (todo : List Op) (log : List Entry) → leaving_at at ≡ []
+  pub still-observed : (at : Stage Content) (todo : List Op) (log : List Entry) → leaving_at at ≡ []
       → observed (record a { stage = at; todo = todo; log = log })
       ≡ record a { stage = at; todo = todo; log = log }
   still-observed at todo log none_too =

@@ -1,21 +1,38 @@
-use Rattle.std.proofs.Common.{arith, replicate, sym, ◌∙◌}
-use Rattle.ea_given.proofs.Running.{took-all, took-count, took-more, took-stands}
+use Rattle.std.proofs.Common.{◌+◌, ◌-◌, arith, replicate, sym, ◌∙◌}
+use Rattle.ea_given.proofs.Running.{took-all, took-count, took-more, took-none, took-stands}
 use Rattle.ea_given.proofs.run.take_turns.Goals as goal
 
+pub loop-left-init : goal.loop-left-init
+loop-left-init c = (
+  omega arith,
+  took-none c.args.scheduler.now c.args.shared.now (c.args.count - c.args.count) (omega arith),
+)
+
 pub returns-then-ended : goal.returns-then-ended
-returns-then-ended c = took-all c.args.scheduler.now c.loop-turn.scheduler c.args.shared.now
-    c.loop-turn.shared c.loop-turn._turn c.args.count (omega arith)
-    (sym c.ended.ensures ∙ c.if-ended.true) c.loop-turn.invariant
+returns-then-ended c = took-all c.args.scheduler.now c.loop-left.scheduler c.args.shared.now
+    c.loop-left.shared (c.args.count - c.loop-left.left) c.args.count (omega arith)
+    (sym c.ended.ensures ∙ c.if-ended.true) c.loop-left.invariant.1
 
-pub take_turn-requires : goal.take_turn-requires
-take_turn-requires c = took-stands c.args.scheduler.now c.loop-turn.scheduler c.args.shared.now
-    c.loop-turn.shared (λ e w me. replicate c.loop-turn._turn me) c.requires c.loop-turn.invariant
+pub take_some-requires-clause-stands : goal.take_some-requires-clause-stands
+take_some-requires-clause-stands c = took-stands c.args.scheduler.now c.loop-left.scheduler
+    c.args.shared.now c.loop-left.shared
+    (λ e w me. replicate (c.args.count - c.loop-left.left) me) c.requires c.loop-left.invariant.1
 
-pub loop-turn-preserved : goal.loop-turn-preserved
-loop-turn-preserved c = took-more c.args.scheduler.now c.loop-turn.scheduler c.args.shared.now
-    c.loop-turn.shared c.loop-turn._turn c.take_turn.new.scheduler c.take_turn.new.shared
-    c.loop-turn.invariant c.in_ok-take_turn.ensures
+pub loop-left-preserved : goal.loop-left-preserved
+loop-left-preserved c =
+    let before = c.args.count - c.loop-left.left in
+    let now = c.in_ok-left.field-0 in
+    let few = c.in_ok-left.ensures.few in (
+      omega (arith, c.loop-left.invariant.0),
+      took-count c.args.scheduler.now c.take_some.new.scheduler c.args.shared.now
+          c.take_some.new.shared (before + now) (c.args.count - (c.loop-left.left - now))
+          (omega (arith, c.loop-left.invariant.0, few.1))
+          (took-more c.args.scheduler.now c.loop-left.scheduler c.args.shared.now
+          c.loop-left.shared before now c.take_some.new.scheduler c.take_some.new.shared
+          c.loop-left.invariant.1 c.in_ok-left.ensures.took),
+    )
 
 pub returns : goal.returns
-returns c = took-count c.args.scheduler.now c.loop-turn.scheduler c.args.shared.now
-    c.loop-turn.shared c.loop-turn._turn c.args.count (omega arith) c.loop-turn.invariant
+returns c = took-count c.args.scheduler.now c.loop-left.scheduler c.args.shared.now
+    c.loop-left.shared (c.args.count - c.loop-left.left) c.args.count
+    (omega (arith, c.loop-left-test.false)) c.loop-left.invariant.1

@@ -1,7 +1,12 @@
+use Rattle.std.proofs.Common.{◌-◌, ◌≤◌}
 use Rattle.std.specs.Prelude.{replicate}
 use Rattle.ea_given.specs.Running.{Took}
 use Rattle.ea_given.proofs.run.take_turns.Given as goal
 
-abbrev pub invariant-loop-turn : goal.invariant-loop-turn
-invariant-loop-turn l = Took (λ e w me. replicate l._turn me) l.initial.scheduler l.initial.shared
+abbrev pub invariant-loop-left : goal.invariant-loop-left
+invariant-loop-left l = (l.left ≤ l.count)
+    × Took (λ e w me. replicate (l.count - l.left) me) l.initial.scheduler l.initial.shared
     l.scheduler l.shared
+
+abbrev pub decreases-loop-left : goal.decreases-loop-left
+decreases-loop-left l = l.left
