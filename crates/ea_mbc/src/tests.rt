@@ -1,18 +1,25 @@
 //! Worked examples.
 ghost use Rattle.std.specs.Prelude.{◌≡◌, ◌%◌, ◌≤◌};
-ghost use Rattle.ea_model.specs.declared.units.TheConstants.{MIN_BLOCK};
+ghost use Rattle.ea_model.specs.declared.units.TheConstants.{MAX_PAGES, MIN_BLOCK};
 
 use crate::{Freed, Mbc, Placed, Resized};
 use ea_model::{Block, CarrierPlan, Gap, Inner, OutOfMemory};
+use ea_tags::header::encode;
 use std::alloc::Global;
 use std::test::Fail;
 
 // A carrier of one page, without blocks.
 fn one_page(alloc: Global) -> Result<Mbc, OutOfMemory> {
+    of_pages(alloc, 1)
+}
+
+fn of_pages(alloc: Global, pages: u32) -> Result<Mbc, OutOfMemory>
+    requires { (1 ≤ pages) × (pages ≤ MAX_PAGES) }
+{
     let plan = CarrierPlan {
         number: 1,
         base: 0,
-        pages: 1,
+        pages,
         birth: 1,
         single: false,
     };
@@ -20,28 +27,18 @@ fn one_page(alloc: Global) -> Result<Mbc, OutOfMemory> {
 }
 
 // Puts a block where the choice is, and answers its offset and what was placed.
-fn put(
-    carrier: &mut Mbc,
-    inner: Inner,
-    need: u32,
-    name: u32,
-) -> Result<Option<(u32, Placed)>, OutOfMemory>
+fn put(carrier: &mut Mbc, inner: Inner, need: u32, name: u32) -> Option<(u32, Placed)>
     requires even { need % 2 ≡ 0 }
     requires least { MIN_BLOCK ≤ need }
 {
-    match carrier.choose(inner, need) {
-        Some(gap) => Ok(Some((gap.offset, carrier.place(gap, need, name)))),
-        None => Ok(None),
-    }
+    let gap = carrier.choose(inner, need)?;
+    Some((gap.offset, carrier.place(gap, need, name)))
 }
 
 // Releases the block that begins at the offset, if one does.
-fn take_out(carrier: &mut Mbc, offset: u32) -> Result<Option<Freed>, OutOfMemory> {
-    if carrier.block_at(offset).is_some() {
-        Ok(Some(carrier.release(offset)))
-    } else {
-        Ok(None)
-    }
+fn take_out(carrier: &mut Mbc, offset: u32) -> Option<Freed> {
+    carrier.block_at(offset)?;
+    Some(carrier.release(offset))
 }
 
 fn placed(offset: u32, size: u32, largest: u32) -> Option<(u32, Placed)> {
@@ -69,17 +66,17 @@ fn resized(was: u32, after: u32, size: u32, largest: u32) -> Option<Resized> {
 #[test]
 fn released_neighbours_are_one_gap(rt: HostRuntime) -> Result<(), Fail> {
     let mut carrier = one_page(rt.alloc())?;
-    assert_eq!(rt; put(&mut carrier, Inner::Bf, 14, 1)?, placed(8, 14, 490));
-    assert_eq!(rt; put(&mut carrier, Inner::Bf, 14, 2)?, placed(22, 14, 476));
-    assert_eq!(rt; put(&mut carrier, Inner::Bf, 14, 3)?, placed(36, 14, 462));
-    assert_eq!(rt; take_out(&mut carrier, 8)?, freed(0, 14, 0, 462));
-    assert_eq!(rt; take_out(&mut carrier, 22)?, freed(14, 14, 0, 462));
-    assert_eq!(rt; take_out(&mut carrier, 22)?, None);
+    assert_eq!(rt; put(&mut carrier, Inner::Bf, 14, 1), placed(8, 14, 490));
+    assert_eq!(rt; put(&mut carrier, Inner::Bf, 14, 2), placed(22, 14, 476));
+    assert_eq!(rt; put(&mut carrier, Inner::Bf, 14, 3), placed(36, 14, 462));
+    assert_eq!(rt; take_out(&mut carrier, 8), freed(0, 14, 0, 462));
+    assert_eq!(rt; take_out(&mut carrier, 22), freed(14, 14, 0, 462));
+    assert_eq!(rt; take_out(&mut carrier, 22), None);
 
     // A rest of 2 units stays in the block.
-    assert_eq!(rt; put(&mut carrier, Inner::Bf, 26, 4)?, placed(8, 28, 462));
+    assert_eq!(rt; put(&mut carrier, Inner::Bf, 26, 4), placed(8, 28, 462));
     assert_eq!(rt; carrier.block_at(8), Some(Block { name: 4, size: 28 }));
-    assert_eq!(rt; take_out(&mut carrier, 36)?, freed(0, 14, 462, 476));
+    assert_eq!(rt; take_out(&mut carrier, 36), freed(0, 14, 462, 476));
     assert_eq!(rt; carrier.allocated(), 28);
     Ok(())
 }
@@ -92,10 +89,10 @@ fn at(gap: Option<Gap>) -> Option<u32> {
 fn each_order_takes_its_own_gap(rt: HostRuntime) -> Result<(), Fail> {
     let mut carrier = one_page(rt.alloc())?;
     for (name, need) in [(1, 20), (2, 6), (3, 14), (4, 6), (5, 14), (6, 6)] {
-        put(&mut carrier, Inner::Aoff, need, name)?;
+        put(&mut carrier, Inner::Aoff, need, name);
     }
     for offset in [8, 34, 54] {
-        take_out(&mut carrier, offset)?;
+        take_out(&mut carrier, offset);
     }
 
     // The gaps have 20 units at 8, 14 at 34, 14 at 54 and 438 at 74.
@@ -130,15 +127,15 @@ fn a_carrier_fills_up(rt: HostRuntime) -> Result<(), Fail> {
     let mut carrier = one_page(rt.alloc())?;
 
     // A rest of 4 units stays in the block, and one of 6 is a gap.
-    assert_eq!(rt; put(&mut carrier, Inner::Bf, 500, 1)?, placed(8, 504, 0));
+    assert_eq!(rt; put(&mut carrier, Inner::Bf, 500, 1), placed(8, 504, 0));
     assert_eq!(rt; carrier.largest(), 0);
-    assert_eq!(rt; put(&mut carrier, Inner::Bf, 6, 2)?, None);
-    assert_eq!(rt; take_out(&mut carrier, 8)?, freed(0, 504, 0, 504));
-    assert_eq!(rt; put(&mut carrier, Inner::Bf, 498, 3)?, placed(8, 498, 6));
+    assert_eq!(rt; put(&mut carrier, Inner::Bf, 6, 2), None);
+    assert_eq!(rt; take_out(&mut carrier, 8), freed(0, 504, 0, 504));
+    assert_eq!(rt; put(&mut carrier, Inner::Bf, 498, 3), placed(8, 498, 6));
     assert_eq!(rt; carrier.largest(), 6);
 
     // A block fills a gap exactly.
-    assert_eq!(rt; put(&mut carrier, Inner::Bf, 6, 4)?, placed(506, 6, 0));
+    assert_eq!(rt; put(&mut carrier, Inner::Bf, 6, 4), placed(506, 6, 0));
     assert_eq!(rt; carrier.largest(), 0);
     assert_eq!(rt; carrier.allocated(), 504);
     Ok(())
@@ -149,9 +146,9 @@ fn a_carrier_fills_up(rt: HostRuntime) -> Result<(), Fail> {
 fn with_two_gaps(alloc: Global) -> Result<Mbc, OutOfMemory> {
     let mut carrier = one_page(alloc)?;
     for (name, need) in [(1, 20), (2, 12), (3, 14), (4, 6)] {
-        put(&mut carrier, Inner::Aoff, need, name)?;
+        put(&mut carrier, Inner::Aoff, need, name);
     }
-    take_out(&mut carrier, 28)?;
+    take_out(&mut carrier, 28);
     Ok(carrier)
 }
 
@@ -251,5 +248,76 @@ fn a_block_shrinks_and_is_renamed_in_its_place(rt: HostRuntime) -> Result<(), Fa
     assert_eq!(rt; at_offset(&carrier, 8), Some((1, 20, 12)));
     assert_eq!(rt; at_offset(&carrier, 40), Some((9, 14, 0)));
     assert_eq!(rt; at_offset(&carrier, 54), Some((4, 6, 452)));
+    Ok(())
+}
+
+// The word in the first unit of the block at the offset, if there is one.
+fn word(carrier: &Mbc, offset: u32) -> Option<u64> {
+    carrier.block_at(offset)?;
+    carrier.laid_out();
+    let _units = carrier.units();
+    Some(encode(carrier.tags().header(offset)))
+}
+
+// The words in the first and in the last unit of the gap after the block at the offset, if there
+// are both.
+fn gap_words(carrier: &Mbc, offset: u32) -> Option<(u64, u32)> {
+    let block = carrier.block_at(offset)?;
+    let size = carrier.gap_behind(offset);
+    if size == 0 {
+        return None;
+    }
+    carrier.laid_out();
+    let _units = carrier.units();
+    let at = offset + block.size;
+    let first = encode(carrier.tags().header(at));
+    Some((first, carrier.tags().footer(at + (size - 1))))
+}
+
+#[test]
+fn units_tell_of_blocks_and_gaps(rt: HostRuntime) -> Result<(), Fail> {
+    let mut carrier = of_pages(rt.alloc(), 64)?;
+    for name in 1..4 {
+        put(&mut carrier, Inner::Aoff, 14, name);
+    }
+
+    // Eight times the units, 1 more for a gap, 2 where a gap ends before it, 4 for the last one.
+    for (offset, of_block, of_gap) in [
+        (8, 112, None),
+        (22, 112, None),
+        (36, 112, Some((261_749, 32_718))),
+    ] {
+        assert_eq!(rt; word(&carrier, offset), Some(of_block), "at {offset}");
+        assert_eq!(rt; gap_words(&carrier, offset), of_gap, "after {offset}");
+    }
+
+    // The block at 22 is released, that at 8 takes of its gap, and then all of it.
+    for (need, before, of_gap, after) in [
+        (14, 112, Some((113, 14)), 114),
+        (20, 160, Some((65, 8)), 114),
+        (24, 224, None, 112),
+    ] {
+        take_out(&mut carrier, 22);
+        grow(&mut carrier, 8, need, 1);
+        assert_eq!(rt; word(&carrier, 8), Some(before), "at {need} units");
+        assert_eq!(rt; gap_words(&carrier, 8), of_gap, "at {need} units");
+        assert_eq!(rt; word(&carrier, 36), Some(after), "after {need} units");
+    }
+    Ok(())
+}
+
+#[test]
+fn the_last_one_ends_where_the_carrier_does(rt: HostRuntime) -> Result<(), Fail> {
+    let mut carrier = of_pages(rt.alloc(), 64)?;
+    put(&mut carrier, Inner::Aoff, 14, 1);
+    assert_eq!(rt; gap_words(&carrier, 8), Some((261_973, 32_746)));
+    put(&mut carrier, Inner::Aoff, 32_746, 2);
+    assert_eq!(rt; gap_words(&carrier, 8), None);
+    assert_eq!(rt; word(&carrier, 22), Some(261_972));
+    shrink(&mut carrier, 22, 14, 2);
+    assert_eq!(rt; word(&carrier, 22), Some(112));
+    assert_eq!(rt; gap_words(&carrier, 22), Some((261_861, 32_732)));
+    take_out(&mut carrier, 22);
+    assert_eq!(rt; gap_words(&carrier, 8), Some((261_973, 32_746)));
     Ok(())
 }

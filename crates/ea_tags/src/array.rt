@@ -14,11 +14,13 @@ pub struct UnitArray {
 }
 
 impl Model for UnitArray {
-    ghost use Rattle.std.specs.Prelude.{ℕ, List};
+    ghost use Rattle.std.specs.Prelude.{ℕ, ◌^◌, ◌<◌, List, vec_len};
 
     ghost Value = { List ℕ };
 
     ghost view = { λ a. a.words.items };
+
+    ghost invariant = { λ a. vec_len a.words < 2 ^ 32 };
 }
 
 impl UnitArray {
@@ -33,7 +35,6 @@ impl UnitArray {
 
     /// How many units there are.
     pub fn len(&self) -> u32
-        requires { length self.now < 2 ^ 32 }
         ensures { result ≡ length self.now }
     {
         self.words.len() as u32

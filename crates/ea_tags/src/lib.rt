@@ -4,6 +4,8 @@
 
 pub mod array;
 pub mod header;
+#[cfg(test)]
+mod tests;
 
 pub use array::UnitArray;
 pub use header::Header;

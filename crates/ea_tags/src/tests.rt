@@ -1,0 +1,50 @@
+//! Headers, their words, and the units that hold them.
+use crate::header::{decode, encode};
+use crate::{Header, UnitArray};
+use std::test::Fail;
+
+#[test]
+fn each_header_has_its_word(rt: HostRuntime) {
+    for (word, size, this_free, prev_free, last) in [
+        // A block after a block, a last gap after a block, and a block after a gap.
+        (112, 14, false, false, false),
+        (261_973, 32_746, true, false, true),
+        (114, 14, false, true, false),
+        // The least, each bit, and the greatest.
+        (0, 0, false, false, false),
+        (1, 0, true, false, false),
+        (2, 0, false, true, false),
+        (4, 0, false, false, true),
+        (8, 1, false, false, false),
+        (34_359_738_367, 4_294_967_295, true, true, true),
+    ] {
+        let header = Header {
+            size,
+            this_free,
+            prev_free,
+            last,
+        };
+        assert_eq!(rt; encode(header), word, "of {size} units");
+        assert!(rt; word < 34_359_738_368);
+        assert_eq!(rt; decode(word), header, "at {word}");
+    }
+}
+
+#[test]
+fn a_gap_has_its_header_and_its_size(rt: HostRuntime) -> Result<(), Fail> {
+    let mut units = UnitArray::new(rt.alloc(), 12)?;
+    assert_eq!(rt; units.len(), 12);
+    let gap = Header {
+        size: 10,
+        this_free: true,
+        prev_free: false,
+        last: true,
+    };
+    units.set_header(2, gap);
+    units.set_footer(11, 10);
+    assert_eq!(rt; units.footer(0), 0);
+    assert_eq!(rt; units.footer(2), 85);
+    assert_eq!(rt; units.footer(11), 10);
+    assert_eq!(rt; units.header(2), gap);
+    Ok(())
+}
