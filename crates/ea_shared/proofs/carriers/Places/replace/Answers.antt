@@ -1,4 +1,4 @@
-use Rattle.std.proofs.Common.{◌≡◌, ◌<◌, length, length-set, map, sym, ap, ◌∙◌, arith}
+use Rattle.std.proofs.Common.{◌<◌, length, length-set, map, sym, ap, ◌∙◌, arith}
 use Rattle.std.specs.Prelude.{set}
 use Rattle.ea_shared.specs.Carriers.{counts_at, placed}
 use Rattle.ea_shared.proofs.PlaceLists.{counts-itself, counts-others, places-set}
