@@ -178,33 +178,31 @@ impl Carriers {
         lowest_empty(need, &self.list)
     }
 
-    /// Places a block in the chosen gap, and answers its units.
-    pub fn place(&mut self, choice: Choice, need: u32, name: u32) -> Result<u32, OutOfMemory>
+    /// Places a block in the chosen gap, and answers its units. It takes no memory.
+    pub fn place(&mut self, choice: Choice, need: u32, name: u32) -> u32
         requires laid { AreLaid self.old.contents }
         requires few { length self.old.contents ≤ NUMBERS * MAX_SCHEDULERS }
         requires choice { IsChoice need self.old.contents choice }
         requires even { need % 2 ≡ 0 }
         requires least { MIN_BLOCK ≤ need }
-        ensures size { IfOk result (λ size. size
-            ≡ size_for (content_of self.old.contents choice.candidate.number)
-            choice.candidate.offset need) }
-        ensures ok { OnOk result (self.new ≡ record self.old {
+        ensures size { result ≡ size_for (content_of self.old.contents choice.candidate.number)
+            choice.candidate.offset need }
+        ensures placed { self.new ≡ record self.old {
           contents =
               changed (λ c. placed c choice.candidate.offset need name) choice.candidate.number
               self.old.contents;
-        }) }
-        ensures err { OnErr result (self.new ≡ self.old) }
+        } }
     {
         let Choice { index, candidate } = choice;
         let gap = Gap {
             offset: candidate.offset,
             size: candidate.size,
         };
-        let placed = self.list[index].carrier.place(gap, need, name)?;
+        let placed = self.list[index].carrier.place(gap, need, name);
         self.set.update(candidate.number, placed.largest);
         note_placed(&mut self.bins, candidate.address, gap.size, placed.size);
         self.figures = with_block(self.figures, placed.size);
-        Ok(placed.size)
+        placed.size
     }
 
     /// Releases the block at the offset in the carrier with the number, and says whether that is to
@@ -223,7 +221,7 @@ impl Carriers {
         make_room(&mut self.bins)?;
         let index = index_of(number, &self.list);
         let address = self.list[index].address(offset);
-        let freed = self.list[index].carrier.release(offset)?;
+        let freed = self.list[index].carrier.release(offset);
         let vacant = self.list[index].is_vacant();
         self.set.update(number, freed.largest);
         note_released(

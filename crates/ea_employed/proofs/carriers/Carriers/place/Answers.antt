@@ -25,34 +25,34 @@ sized x need name p l now new same w =
 pub update-requires : goal.update-requires
 update-requires c =
     let w = placing _ c.args.self.now c.args.need c.args.name c.args.choice _ _ _ _
-    c.in_ok-placed.placed c.self.view_is c.requires.laid c.requires.choice c.index_mut.ensures.value
-    c.behind-self.view_is c.in_ok-placed.ensures.ok c.in_ok-placed.ensures.size
-    c.in_ok-placed.ensures.largest c.in_ok-placed.ensures.gap_taken in
+    c.place-placed.result c.self.view_is c.requires.laid c.requires.choice c.index_mut.ensures.value
+    c.behind-self.view_is c.place-placed.ensures.placed c.place-placed.ensures.size
+    c.place-placed.ensures.largest c.place-placed.ensures.gap_taken in
     ap (is_held c.args.choice.candidate.number) c.self.invariant.listed.held
     ∙ held-there c.args.choice.candidate.number w.content c.self.inside.list.items w.there
 
 pub note_placed-requires : goal.note_placed-requires
 note_placed-requires c =
     let w = placing _ c.args.self.now c.args.need c.args.name c.args.choice _ _ _ _
-    c.in_ok-placed.placed c.self.view_is c.requires.laid c.requires.choice c.index_mut.ensures.value
-    c.behind-self.view_is c.in_ok-placed.ensures.ok c.in_ok-placed.ensures.size
-    c.in_ok-placed.ensures.largest c.in_ok-placed.ensures.gap_taken in
+    c.place-placed.result c.self.view_is c.requires.laid c.requires.choice c.index_mut.ensures.value
+    c.behind-self.view_is c.place-placed.ensures.placed c.place-placed.ensures.size
+    c.place-placed.ensures.largest c.place-placed.ensures.gap_taken in
     let laid = subst (λ (l : CarrierList). AreLaid l.contents) (sym c.self.view_is)
     c.requires.laid in
     can-cut _ _ _ _ _ (placing-IsCut c.args.need c.args.name c.args.choice.candidate
-    c.in_ok-placed.placed _ _ laid c.requires.even c.requires.least w)
+    c.place-placed.result _ _ laid c.requires.even c.requires.least w)
     c.self.inside.bins c.self.invariant.listed.gaps
 
-pub invariant_of-self-2 : goal.invariant_of-self-2
-invariant_of-self-2 c =
+pub invariant_of-self : goal.invariant_of-self
+invariant_of-self c =
     let x = c.args.choice.candidate in
     let w = placing _ c.args.self.now c.args.need c.args.name c.args.choice _ _ _ _
-    c.in_ok-placed.placed c.self.view_is c.requires.laid c.requires.choice c.index_mut.ensures.value
-    c.behind-self.view_is c.in_ok-placed.ensures.ok c.in_ok-placed.ensures.size
-    c.in_ok-placed.ensures.largest c.in_ok-placed.ensures.gap_taken in
+    c.place-placed.result c.self.view_is c.requires.laid c.requires.choice c.index_mut.ensures.value
+    c.behind-self.view_is c.place-placed.ensures.placed c.place-placed.ensures.size
+    c.place-placed.ensures.largest c.place-placed.ensures.gap_taken in
     let laid = subst (λ (l : CarrierList). AreLaid l.contents) (sym c.self.view_is)
     c.requires.laid in
-    let cut = placing-IsCut c.args.need c.args.name x c.in_ok-placed.placed _ _ laid
+    let cut = placing-IsCut c.args.need c.args.name x c.place-placed.result _ _ laid
     c.requires.even c.requires.least w in
     record {
       listed =
@@ -64,7 +64,7 @@ invariant_of-self-2 c =
       room = c.self.invariant.room;
       counted =
           c.with_block-self-inside.ensures
-          ∙ ap (with_block c.in_ok-placed.placed.size) c.self.invariant.counted
+          ∙ ap (with_block c.place-placed.result.size) c.self.invariant.counted
           ∙ sym (ap figures w.is
           ∙ figures-placed x.number w.content _ x.offset c.args.need c.args.name _ laid.rising
           w.there (w.size ∙ ap (λ g. taken_of g c.args.need) (sym w.chosen.gap)));
@@ -73,33 +73,33 @@ invariant_of-self-2 c =
 pub with_block-self-inside-requires : goal.with_block-self-inside-requires
 with_block-self-inside-requires c =
     let w = placing _ c.args.self.now c.args.need c.args.name c.args.choice _ _ _ _
-    c.in_ok-placed.placed c.self.view_is c.requires.laid c.requires.choice c.index_mut.ensures.value
-    c.behind-self.view_is c.in_ok-placed.ensures.ok c.in_ok-placed.ensures.size
-    c.in_ok-placed.ensures.largest c.in_ok-placed.ensures.gap_taken in
+    c.place-placed.result c.self.view_is c.requires.laid c.requires.choice c.index_mut.ensures.value
+    c.behind-self.view_is c.place-placed.ensures.placed c.place-placed.ensures.size
+    c.place-placed.ensures.largest c.place-placed.ensures.gap_taken in
     let laid = subst (λ (l : CarrierList). AreLaid l.contents) (sym c.self.view_is)
     c.requires.laid in
     let few = ap (λ (l : CarrierList). length l.contents) c.self.view_is in
     let bounded = subst AreBounded (sym c.self.invariant.counted)
     (laid-figures c.self.inside.list.items laid (omega (arith, few, c.requires.few))) in
-    let most = placed-most c.args.need c.args.name c.args.choice.candidate c.in_ok-placed.placed _ _
+    let most = placed-most c.args.need c.args.name c.args.choice.candidate c.place-placed.result _ _
     laid c.requires.even c.requires.least w in
     (omega (arith, bounded.blocks), omega (arith, bounded.blocks_size, most))
 
 pub returns-clause-size : goal.returns-clause-size
 returns-clause-size c =
     let w = placing _ c.args.self.now c.args.need c.args.name c.args.choice _ _ _ _
-    c.in_ok-placed.placed c.self.view_is c.requires.laid c.requires.choice c.index_mut.ensures.value
-    c.behind-self.view_is c.in_ok-placed.ensures.ok c.in_ok-placed.ensures.size
-    c.in_ok-placed.ensures.largest c.in_ok-placed.ensures.gap_taken in
-    sized c.args.choice.candidate c.args.need c.args.name c.in_ok-placed.placed _ _ _
+    c.place-placed.result c.self.view_is c.requires.laid c.requires.choice c.index_mut.ensures.value
+    c.behind-self.view_is c.place-placed.ensures.placed c.place-placed.ensures.size
+    c.place-placed.ensures.largest c.place-placed.ensures.gap_taken in
+    sized c.args.choice.candidate c.args.need c.args.name c.place-placed.result _ _ _
     c.self.view_is w
 
-pub returns-clause-ok : goal.returns-clause-ok
-returns-clause-ok c =
+pub returns-clause-placed : goal.returns-clause-placed
+returns-clause-placed c =
     let w = placing _ c.args.self.now c.args.need c.args.name c.args.choice _ _ _ _
-    c.in_ok-placed.placed c.self.view_is c.requires.laid c.requires.choice c.index_mut.ensures.value
-    c.behind-self.view_is c.in_ok-placed.ensures.ok c.in_ok-placed.ensures.size
-    c.in_ok-placed.ensures.largest c.in_ok-placed.ensures.gap_taken in
+    c.place-placed.result c.self.view_is c.requires.laid c.requires.choice c.index_mut.ensures.value
+    c.behind-self.view_is c.place-placed.ensures.placed c.place-placed.ensures.size
+    c.place-placed.ensures.largest c.place-placed.ensures.gap_taken in
     ap (λ cs. record { strategy = c.self.inside.strategy; contents = cs }) w.is
     ∙ ap (λ (l : CarrierList). record l {
       contents =

@@ -30,9 +30,10 @@ update-requires c =
     c.self.view_is c.requires.laid c.requires.block c.deref.ensures.value
     c.index_of-index.ensures.within c.index_of-index.ensures.item c.index.ensures
     c.index_mut.ensures.value _ _ _ c.behind-self.view_is
-    c.address-address.result c.in_ok-freed.freed c.address-address.ensures c.in_ok-freed.ensures.ok
-    c.in_ok-freed.ensures.size c.in_ok-freed.ensures.gaps c.in_ok-freed.ensures.largest
-    c.in_ok-freed.ensures.gaps_joined in
+    c.address-address.result c.release-freed.result c.address-address.ensures
+    c.release-freed.ensures.released
+    c.release-freed.ensures.size c.release-freed.ensures.gaps c.release-freed.ensures.largest
+    c.release-freed.ensures.gaps_joined in
     ap (is_held c.args.number) c.self.invariant.listed.held
     ∙ held-there c.args.number w.content c.self.inside.list.items w.there
 
@@ -43,13 +44,14 @@ note_released-requires-clause-held c =
     c.self.view_is c.requires.laid c.requires.block c.deref.ensures.value
     c.index_of-index.ensures.within c.index_of-index.ensures.item c.index.ensures
     c.index_mut.ensures.value _ _ _ c.behind-self.view_is
-    c.address-address.result c.in_ok-freed.freed c.address-address.ensures c.in_ok-freed.ensures.ok
-    c.in_ok-freed.ensures.size c.in_ok-freed.ensures.gaps c.in_ok-freed.ensures.largest
-    c.in_ok-freed.ensures.gaps_joined in
+    c.address-address.result c.release-freed.result c.address-address.ensures
+    c.release-freed.ensures.released
+    c.release-freed.ensures.size c.release-freed.ensures.gaps c.release-freed.ensures.largest
+    c.release-freed.ensures.gaps_joined in
     let laid = subst (λ (l : CarrierList). AreLaid l.contents) (sym c.self.view_is)
     c.requires.laid in
     can-join _ _ _ _ _ _ (releasing-IsJoin c.args.number c.args.offset c.address-address.result
-    c.in_ok-freed.freed _ _
+    c.release-freed.result _ _
     laid w) c.make_room.new.bins
     (c.make_room.ensures.held _ c.self.invariant.listed.gaps)
 
@@ -60,12 +62,13 @@ without_block-self-inside-requires c =
     c.self.view_is c.requires.laid c.requires.block c.deref.ensures.value
     c.index_of-index.ensures.within c.index_of-index.ensures.item c.index.ensures
     c.index_mut.ensures.value _ _ _ c.behind-self.view_is
-    c.address-address.result c.in_ok-freed.freed c.address-address.ensures c.in_ok-freed.ensures.ok
-    c.in_ok-freed.ensures.size c.in_ok-freed.ensures.gaps c.in_ok-freed.ensures.largest
-    c.in_ok-freed.ensures.gaps_joined in
+    c.address-address.result c.release-freed.result c.address-address.ensures
+    c.release-freed.ensures.released
+    c.release-freed.ensures.size c.release-freed.ensures.gaps c.release-freed.ensures.largest
+    c.release-freed.ensures.gaps_joined in
     let laid = subst (λ (l : CarrierList). AreLaid l.contents) (sym c.self.view_is)
     c.requires.laid in
-    within-block c.in_ok-freed.freed.size _ _
+    within-block c.release-freed.result.size _ _
     (figures-released c.args.number w.content _ c.args.offset _ laid w.there w.block w.size
     ∙ sym c.self.invariant.counted)
 
@@ -76,13 +79,14 @@ invariant_of-self-2 c =
     c.self.view_is c.requires.laid c.requires.block c.deref.ensures.value
     c.index_of-index.ensures.within c.index_of-index.ensures.item c.index.ensures
     c.index_mut.ensures.value _ _ _ c.behind-self.view_is
-    c.address-address.result c.in_ok-freed.freed c.address-address.ensures c.in_ok-freed.ensures.ok
-    c.in_ok-freed.ensures.size c.in_ok-freed.ensures.gaps c.in_ok-freed.ensures.largest
-    c.in_ok-freed.ensures.gaps_joined in
+    c.address-address.result c.release-freed.result c.address-address.ensures
+    c.release-freed.ensures.released
+    c.release-freed.ensures.size c.release-freed.ensures.gaps c.release-freed.ensures.largest
+    c.release-freed.ensures.gaps_joined in
     let laid = subst (λ (l : CarrierList). AreLaid l.contents) (sym c.self.view_is)
     c.requires.laid in
     let join = releasing-IsJoin c.args.number c.args.offset c.address-address.result
-    c.in_ok-freed.freed _ _ laid w in
+    c.release-freed.result _ _ laid w in
     record {
       listed =
           IsListed-changed (λ m. released m c.args.offset) (released-keeps _) c.args.number
@@ -93,9 +97,9 @@ invariant_of-self-2 c =
           c.note_released.ensures.joined);
       room = c.self.invariant.room;
       counted =
-          cancel-block c.in_ok-freed.freed.size _ _
+          cancel-block c.release-freed.result.size _ _
           (c.without_block-self-inside.ensures ∙ c.self.invariant.counted
-          ∙ sym (ap (λ cs. with_block c.in_ok-freed.freed.size (figures cs)) w.is
+          ∙ sym (ap (λ cs. with_block c.release-freed.result.size (figures cs)) w.is
           ∙ figures-released c.args.number w.content _ c.args.offset _ laid w.there w.block
           w.size));
     }
@@ -108,16 +112,18 @@ returns-clause-vacant c =
     c.self.view_is c.requires.laid c.requires.block c.deref.ensures.value
     c.index_of-index.ensures.within c.index_of-index.ensures.item c.index.ensures
     c.index_mut.ensures.value _ _ _ c.behind-self.view_is
-    c.address-address.result c.in_ok-freed.freed c.address-address.ensures c.in_ok-freed.ensures.ok
-    c.in_ok-freed.ensures.size c.in_ok-freed.ensures.gaps c.in_ok-freed.ensures.largest
-    c.in_ok-freed.ensures.gaps_joined in
+    c.address-address.result c.release-freed.result c.address-address.ensures
+    c.release-freed.ensures.released
+    c.release-freed.ensures.size c.release-freed.ensures.gaps c.release-freed.ensures.largest
+    c.release-freed.ensures.gaps_joined in
     let f = (found-at _ c.args.self.now c.args.number c.args.offset _ _ c.index_mut.result.now
     c.self.view_is
     c.requires.laid c.requires.block c.deref.ensures.value c.index_of-index.ensures.within
     c.index_of-index.ensures.item c.index_mut.ensures.value) in
     c.is_vacant-vacant.ensures.vacant
     ∙ ap is_vacant (c.index-2.ensures ∙ get_or-set_at _ _ _ _ _ refl f.at.within
-    ∙ ap (λ (m : Content). record m { kind = c.behind-self.inside.kind }) c.in_ok-freed.ensures.ok
+    ∙ ap (λ (m : Content). record m { kind = c.behind-self.inside.kind })
+    c.release-freed.ensures.released
     ∙ ap (λ m. released m c.args.offset) c.behind-self.view_is)
     ∙ sym (ap (λ o. option_map_or is_vacant o false) (ap (λ xs. content_of xs c.args.number) w.is
     ∙ changed-found number_of (λ m. released m c.args.offset) c.args.number (λ m. refl)
@@ -130,9 +136,10 @@ returns-clause-ok c =
     c.self.view_is c.requires.laid c.requires.block c.deref.ensures.value
     c.index_of-index.ensures.within c.index_of-index.ensures.item c.index.ensures
     c.index_mut.ensures.value _ _ _ c.behind-self.view_is
-    c.address-address.result c.in_ok-freed.freed c.address-address.ensures c.in_ok-freed.ensures.ok
-    c.in_ok-freed.ensures.size c.in_ok-freed.ensures.gaps c.in_ok-freed.ensures.largest
-    c.in_ok-freed.ensures.gaps_joined in
+    c.address-address.result c.release-freed.result c.address-address.ensures
+    c.release-freed.ensures.released
+    c.release-freed.ensures.size c.release-freed.ensures.gaps c.release-freed.ensures.largest
+    c.release-freed.ensures.gaps_joined in
     ap (λ cs. record { strategy = c.self.inside.strategy; contents = cs }) w.is
     ∙ ap (λ (l : CarrierList). record l {
       contents = changed (λ m. released m c.args.offset) c.args.number l.contents;
