@@ -8,7 +8,9 @@ changing no allocation fails under a strategy that looks at all gaps. Good fit r
 blocks in fewer-filled and fewer-changing; under address fit nearly each block would have a carrier, and it has blocks of
 one size in equal-filled and equal-changing. Those in FOLDER/threads end with `threads`, and the same operations by a
 schedule are in FOLDER/schedules; mingled is for carriers of 512 kB, one of them main, and mingled and contended for an
-acul of 60. That in FOLDER/generated is for +S 16 and no other flag.
+acul of 60. That in FOLDER/generated is for +S 16 and no other flag. Those in FOLDER/live are for carriers of 5 MB
+(+MHsmbcs 5120 +MHlmbcs 5120), of which each scheduler has one with all its blocks, and that in FOLDER/carriers is for
+carriers of any size.
 """
 import itertools
 import os
@@ -24,10 +26,13 @@ MOST_TRIES = 10**7
 TRIES_IN_ALL = 10**8
 GREATEST_NAME = 2**18
 MOST_OPERATIONS = 2**18
+LEAST = 40
 TINY = 100
 SMALL = 3000
 LARGE = 480_000
 LARGEST = 524280
+# Blocks of a carrier, and how many schedulers have one of these.
+LIVE = {1000: 16, 10_000: 4, 60_000: 1}
 # Twenty blocks of that many bytes fill a carrier of 256 kB to its end.
 TWENTIETH = 13096
 
@@ -79,6 +84,35 @@ def stacked(count):
     allocs = [f"alloc {name} {40 + name % 2 * 16}\n" for name in range(1, count + 1)]
     frees = [f"free {name}\n" for name in range(count, 0, -1)]
     return OPENING + "".join(allocs + frees) + CLOSING
+
+
+def filled_carriers(count):
+    """More blocks than 512 MB hold: the last ones find no carrier."""
+    return OPENING + "".join(f"alloc {name} {LARGEST - 4096}\n" for name in range(1, count + 1)) + CLOSING
+
+
+def carriers(count):
+    """count carriers, one after another: each is created for a block, and goes with it."""
+    return OPENING + "".join(f"alloc {name} {LEAST}\nfree {name}\n" for name in range(1, count + 1)) + CLOSING
+
+
+def live(count, schedulers):
+    """The sections of three traces: in the first each scheduler has `count` blocks of one size, in the second it frees
+    a random quarter of them then, and in the third it allocates as many anew."""
+    pick, names = random.Random(8), itertools.count(1)
+    filled, freed, refilled = ([] for _ in range(3))
+    for _ in range(schedulers):
+        held = [next(names) for _ in range(count)]
+        filled.append([f"alloc {it} {LEAST}\n" for it in held])
+        freed.append(filled[-1] + [f"free {it}\n" for it in pick.sample(held, count // 4)])
+        refilled.append(freed[-1] + [f"alloc {next(names)} {LEAST}\n" for _ in range(count // 4)])
+    return {"filled": filled, "freed": freed, "refilled": refilled}
+
+
+def live_traces():
+    for count, schedulers in LIVE.items():
+        for kind, texts in live(count, schedulers).items():
+            yield f"{count}-{kind}", sections_of(texts) + CLOSING
 
 
 def sections_of(texts):
@@ -278,6 +312,8 @@ def main(folder):
     os.makedirs(f"{folder}/schedules", exist_ok=True)
     os.makedirs(f"{folder}/migrating", exist_ok=True)
     os.makedirs(f"{folder}/generated", exist_ok=True)
+    os.makedirs(f"{folder}/live", exist_ok=True)
+    os.makedirs(f"{folder}/carriers", exist_ok=True)
     made = {
         "comments": comments(),
         "long-comment": long_comment(),
@@ -291,8 +327,10 @@ def main(folder):
         "handed-over-1": handed_over(1, 1000, 25),
         "handed-over-16": handed_over(SCHEDULERS, 125, 25),
         "ended-turns": ended_turns(),
+        "filled-512": filled_carriers(1100),
         "tries": tries(),
         "generated/most": f"type H\ngenerate 7 {MOST_OPERATIONS // SCHEDULERS}\nend\n",
+        "carriers/one-by-one": carriers(2000),
         "migrating/searching": searching(SCHEDULERS, 100_000),
         "migrating/staying": mixed(200000, 8, SMALL, 2),
         "strategies/filled": crowded(5600, 5000, 8000, 15000, 0),
@@ -302,6 +340,8 @@ def main(folder):
         "strategies/equal-filled": crowded(5120, 4600, TWENTIETH, TWENTIETH, 0),
         "strategies/equal-changing": crowded(5120, 4600, TWENTIETH, TWENTIETH, 5000),
     }
+    for name, text in live_traces():
+        made[f"live/{name}"] = text
     for name, sections, closing in for_threads():
         made[f"threads/{name}"] = sections + "threads\nend\n"
         made[f"schedules/{name}"] = sections + closing
