@@ -286,37 +286,32 @@ impl Instance {
     }
 
     /// Places a block of `need` units in the gap that its strategy chooses. None, and nothing
-    /// changed, where there is no choice.
-    pub fn try_alloc(&mut self, need: u32, name: u32) -> Result<Option<Place>, OutOfMemory>
+    /// changed, where there is no choice. It takes no memory.
+    pub fn try_alloc(&mut self, need: u32, name: u32) -> Option<Place>
         requires even { need % 2 ≡ 0 }
         requires least { MIN_BLOCK ≤ need }
-        ensures place { IfOk result (λ place. place
-            ≡ option_map (λ spot. place_at self.old spot need) (chosen_spot self.old need)) }
-        ensures ok { OnOk result
-            (self.new ≡ placing_if self.old (chosen_spot self.old need) need name) }
-        ensures err { OnErr result (self.new ≡ self.old) }
+        ensures place { result
+            ≡ option_map (λ spot. place_at self.old spot need) (chosen_spot self.old need) }
+        ensures placed { self.new ≡ placing_if self.old (chosen_spot self.old need) need name }
 
         // None exactly where nothing that the strategy inspects has that many units, and, where it
         // may miss a gap, no multiblock carrier without blocks has. Good fit and address fit alone
         // may miss one.
-        ensures none { IfOk result (λ found.
-            IsNone found ↔ FindsNone self.old.settings need self.old.contents) }
-        ensures all { may_miss self.old.settings.strategy ≡ false → IfOk result (λ found.
-            IsNone found ↔ All (λ x. x.size < need) (candidates self.old.contents)) }
+        ensures none { IsNone result ↔ FindsNone self.old.settings need self.old.contents }
+        ensures all { may_miss self.old.settings.strategy ≡ false →
+            IsNone result ↔ All (λ x. x.size < need) (candidates self.old.contents) }
 
         // It lies where no block began, and other blocks stay.
-        ensures blocks { IfOk result (λ found. IfSome found (λ place.
-            IsPlaced (employed self.old) (employed self.new) name place)) }
+        ensures blocks { IfSome result (λ place.
+            IsPlaced (employed self.old) (employed self.new) name place) }
     {
-        let Some(choice) = self.carriers.chosen(need, self.settings.mbsd) else {
-            return Ok(None);
-        };
-        let size = self.carriers.place(choice, need, name)?;
-        Ok(Some(Place {
+        let choice = self.carriers.chosen(need, self.settings.mbsd)?;
+        let size = self.carriers.place(choice, need, name);
+        Some(Place {
             carrier: choice.candidate.number,
             offset: choice.candidate.offset,
             size,
-        }))
+        })
     }
 
     /// The pages of the next multiblock carrier: as many as it would have by its turn, and no fewer
