@@ -81,7 +81,7 @@ impl<'t> Scheduler<'t> {
             (setup_for self.old) self.old.number ask (ready_of self.old)) }
         ensures same { IsSame self.old self.new }
     {
-        match self.instance.try_alloc(ask.need, ask.name)? {
+        match self.instance.try_alloc(ask.need, ask.name) {
             Some(place) => self.stand(ask, place),
             None => unreachable!(),
         }
@@ -215,7 +215,7 @@ impl<'t> Scheduler<'t> {
         if self.instance.is_alone(ask.need) {
             return self.seek_new(alloc, ask, true, 0);
         }
-        match self.instance.try_alloc(ask.need, ask.name)? {
+        match self.instance.try_alloc(ask.need, ask.name) {
             Some(place) => self.stand(ask, place),
             None => self.seek_beyond(alloc, ask),
         }

@@ -65,7 +65,7 @@ impl<'t> Scheduler<'t> {
     {
         match route {
             Route::Looking { hand } => self.look(shared, hand, why, gone),
-            Route::Trying { hand, seen } => self.try_busy(shared, hand, seen, why, gone),
+            Route::Trying { hand, seen } => Ok(self.try_busy(shared, hand, seen, why, gone)),
             Route::Settling { content } => Ok(self.settle(shared, content, why, gone)),
             Route::Abandoning { content } => Ok(self.abandon(shared, content, why, gone)),
             Route::Sending { content } => {

@@ -63,27 +63,27 @@ impl<'t> Scheduler<'t> {
         seen: OwnerWord,
         why: Why,
         gone: Gone,
-    ) -> Result<Option<Gone>, OutOfMemory>
+    ) -> Option<Gone>
         requires starts { StartsRow (stage.Routed (route.Trying hand seen) why gone) self.old
             (S.schedulers shared.old) (S.greatest shared.old) (S.migrates shared.old)
             (S.shared shared.old) (S.caller shared.old) }
         requires on { migration (setup_for self.old) ≡ true }
         ensures stays { S.stays shared.old shared.new }
         ensures same { IsSame self.old self.new }
-        ensures row { IfOk result (λ over. TurnedRow (route.Trying hand seen) why gone self.old
-            self.new over (S.shared shared.old) (S.shared shared.new) (S.caller shared.old)
-            (S.caller shared.new)) }
+        ensures row { TurnedRow (route.Trying hand seen) why gone self.old self.new result
+            (S.shared shared.old) (S.shared shared.new) (S.caller shared.old)
+            (S.caller shared.new) }
     {
         match shared.busy_try(self.number, hand.spot.carrier, seen) {
             Tried::Won { mut content } => {
-                content.release(hand.spot.offset)?;
+                content.release(hand.spot.offset);
                 let content = Held::multi(content);
                 let route = Route::Settling { content };
                 let gone = first_gone(gone, Gone::Here);
                 self.stage = Stage::Routed { route, why, gone };
-                Ok(None)
+                None
             }
-            Tried::Lost { word } => Ok(self.forward(hand, word, why, gone)),
+            Tried::Lost { word } => self.forward(hand, word, why, gone),
         }
     }
 

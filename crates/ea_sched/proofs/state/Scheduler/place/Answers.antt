@@ -14,7 +14,7 @@ returns-clause-actor c =
     let ask = c.args.ask in
     let (spot, chosen, is, new) = chosen-place s.instance c.try_alloc.new.self
     (chosen_spot s.instance ask.need) ask.need ask.name c.in-Some.place
-    (sym c.in_ok-place.ensures.place ∙ c.in-Some.is) c.in_ok-place.ensures.ok in
+    (sym c.try_alloc.ensures.place ∙ c.in-Some.is) c.try_alloc.ensures.placed in
     made-as c.stand.result _ c.stand.ensures.actor
     (stood-placed (setup_for s) s.number (ready_of s) ask c.try_alloc.new.self spot
     c.in-Some.place is new
@@ -27,10 +27,10 @@ stand-requires-clause-asked c =
     let new = c.try_alloc.new.self in
     let placed = subst
     (λ o. IfSome o (λ place. IsPlaced (employed s.instance) (employed new) ask.name place))
-    c.in-Some.is c.in_ok-place.ensures.blocks in
+    c.in-Some.is c.try_alloc.ensures.blocks in
     asked-again s _ refl refl refl s.instance new
     (placed-block (employed s.instance) (employed new) ask.name c.in-Some.place placed)
     (λ n is. subst (λ os. IsSome (own_at os n))
-    (sym (ap (λ (i : Instance). i.own) c.in_ok-place.ensures.ok
+    (sym (ap (λ (i : Instance). i.own) c.try_alloc.ensures.placed
     ∙ placing-own s.instance (chosen_spot s.instance ask.need) ask.need ask.name)) is)
     ask c.requires.asked
