@@ -6,14 +6,15 @@ use Rattle.std.specs.Option.{option_map_or}
 use Rattle.ea_model.specs.declared.carriers.Block.{Block}
 use Rattle.ea_model.specs.declared.carriers.BlockAt.{BlockAt}
 use Rattle.ea_model.specs.declared.carriers.Gap.{Gap}
-use Rattle.ea_model.specs.Content.{Content, gaps_of, gap_at, gap_up_to, block_at, named, Tiled}
+use Rattle.ea_model.specs.Content.{Content, gaps_of, gap_at, gap_behind, gap_up_to, block_at}
+use Rattle.ea_model.specs.Content.{end_of, named, Tiled}
 use Rattle.ea_model.specs.Keyed.{item_at}
 use Rattle.ea_model.proofs.Rising.{item_at-key, item_at-All}
 use Rattle.ea_tags.specs.declared.header.Header.{Header}
 use Rattle.ea_tags.specs.Words.{bit, code}
 use Rattle.ea_laws.proofs.BlockLists.{offset_of}
 use Rattle.ea_laws.proofs.Candidates.{gaps_Inside, Inside}
-use Rattle.ea_laws.proofs.Resized.{block_at-IsBlock}
+use Rattle.ea_laws.proofs.Resized.{block_at-IsBlock, end_of-block}
 use Rattle.ea_mbc.specs.Tagged.{BlockTagged, GapTagged}
 
 bit-small : (b : Bool) → bit b ≤ 1
@@ -61,6 +62,17 @@ block-tag ws c offset b t small long tags found =
       subst (λ n. n < 2 ^ 35) (sym (ap (slice_index ws) (sym is.begins) ∙ tag))
           (code-small (block_header c b) (omega (arith, is.within, small))),
     )
+
+-- where a block ends, and the gap that begins there
+pub gap-after : (c : Content) (offset : ℕ) (v : Block) → Tiled 8 c.units c.blocks
+    → option_map named (block_at c.blocks offset) ≡ Some v
+    → (offset + v.size ≤ c.units) × (gap_at (gaps_of c) (offset + v.size) ≡ gap_behind c offset)
+gap-after c offset v t e =
+    let (b, found, same) = block-there (block_at c.blocks offset) v e in
+    let is = block_at-IsBlock c offset b t found in
+    let stop : end_of c.blocks offset ≡ offset + v.size = end_of-block offset b c.blocks found
+    ∙ omega (arith, is.begins, same) in
+    (omega (arith, is.within, same), ap (gap_at (gaps_of c)) (sym stop))
 
 abbrev gap_offset : Gap → ℕ
 gap_offset g = g.offset
