@@ -3,12 +3,13 @@ ghost use Rattle.std.specs.Prelude.{◌≡◌, ◌+◌, ◌*◌, ◌%◌, ◌^�
 ghost use Rattle.ea_model.specs.declared.units.TheConstants.{MIN_BLOCK, PAGE_UNITS};
 ghost use Rattle.ea_model.specs.Settings.{IsValid};
 
-use crate::plain::{NoChoice, PlainCarrier, choice};
+use crate::plain::{NoChoice, choice};
 use ea_instance::Instance;
 use ea_model::{
     BlockAt, Candidate, CarrierPlan, Gap, Kind, List, MAX_SEARCH_DEPTH, OutOfMemory, PAGE_UNITS,
     Place, Settings, Spot, Strategy,
 };
+use ea_trials_carrier::PlainCarrier;
 use std::alloc::Global;
 use std::process::Abort;
 use std::test::Fail;
@@ -180,7 +181,7 @@ impl Sides {
     {
         let strategy = self.settings.strategy;
         let wanted = choice(alloc, self.settings, need, &self.carriers)?;
-        let got = self.instance.try_alloc(need, name)?;
+        let got = self.instance.try_alloc(need, name);
         assert_eq!(rt;
             got.map(spot_of_place),
             wanted.map(spot_of),

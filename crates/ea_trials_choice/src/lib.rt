@@ -8,4 +8,4 @@ pub mod plain;
 #[cfg(test)]
 mod tests;
 
-pub use plain::{NoChoice, PlainCarrier, choice};
+pub use plain::{NoChoice, choice};

@@ -1,6 +1,7 @@
 //! Choices that were worked out by hand.
-use crate::plain::{NoChoice, PlainCarrier, choice};
-use ea_model::{BlockAt, Candidate, CarrierPlan, Kind, OutOfMemory, Settings, Strategy};
+use crate::plain::{NoChoice, choice};
+use ea_model::{Candidate, CarrierPlan, Kind, OutOfMemory, Settings, Strategy};
+use ea_trials_carrier::PlainCarrier;
 use std::alloc::Global;
 use std::test::Fail;
 
@@ -58,26 +59,6 @@ fn place_of(
 ) -> Result<Option<(u32, u32)>, NoChoice> {
     let found = choice(alloc, settings, need, carriers)?;
     Ok(found.map(|x: Candidate| (x.number, x.offset)))
-}
-
-#[test]
-fn a_plain_carrier_keeps_its_blocks_in_order(rt: HostRuntime) -> Result<(), Fail> {
-    let mut carrier = carrier(rt.alloc(), Kind::Multi, 7, 3, 1);
-    assert_eq!(rt; (carrier.number(), carrier.base()), (7, 3));
-    assert!(rt; carrier.is_empty_multi());
-
-    // A rest of 4 units stays in the block at 28.
-    let blocks = [(8, 20), (28, 10), (38, 470), (28, 6)];
-    cut(rt.alloc(), &mut carrier, &blocks[..3], &[28])?;
-    cut(rt.alloc(), &mut carrier, &blocks[3..], &[])?;
-    let blocks = [(8, 8, 20), (28, 28, 10), (38, 38, 474)].map(|(name, offset, size)| BlockAt {
-        name,
-        offset,
-        size,
-    });
-    assert_eq!(rt; carrier.blocks(), blocks.as_slice());
-    assert!(rt; carrier.gaps(rt.alloc())?.len() == 0 && !carrier.is_empty_multi());
-    Ok(())
 }
 
 #[test]

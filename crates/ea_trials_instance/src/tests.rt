@@ -178,7 +178,7 @@ impl Trial {
             Put(need, name, place) => {
                 assert!(rt; need >= 6 && need % 2 == 0);
                 assert_eq!(rt;
-                    self.instance.try_alloc(need, name)?,
+                    self.instance.try_alloc(need, name),
                     place.map(place_of),
                     "{step:?}"
                 );
@@ -781,7 +781,7 @@ fn a_carrier_of_another_instance_comes_and_goes(rt: HostRuntime) -> Result<(), F
     instance.adopt(carrier);
     // Of its 1024 units 614 are less than 60 percent, and 620 are not.
     for (need, offset, due) in [(310, 8, true), (304, 318, true), (6, 622, false)] {
-        let place = instance.try_alloc(need, offset)?;
+        let place = instance.try_alloc(need, offset);
         assert_eq!(rt; place, Some(place_of((1, offset, need))));
         assert!(rt; instance.employs(1));
         assert!(rt; instance.due(1) == due, "{need}");

@@ -1,6 +1,6 @@
 use Rattle.std.proofs.Common.{◌≡◌, ◌++◌, drop}
 use Rattle.ea_model.specs.Content.{gaps, gaps_of}
-use Rattle.ea_trials_choice.proofs.plain.PlainCarrier.gaps.Given as goal
+use Rattle.ea_trials_carrier.proofs.plain.PlainCarrier.gaps.Given as goal
 
 -- the gaps so far, and those that are left, are all
 abbrev pub invariant-loop-block : goal.invariant-loop-block

@@ -1,6 +1,6 @@
 use Rattle.std.proofs.Common.{◌≡◌, ◌++◌, drop, filter, not}
 use Rattle.std.specs.Prelude.{◌==◌}
-use Rattle.ea_trials_choice.proofs.plain.without.Given as goal
+use Rattle.ea_trials_carrier.proofs.plain.without.Given as goal
 
 abbrev pub invariant-loop-block : goal.invariant-loop-block
 invariant-loop-block l =

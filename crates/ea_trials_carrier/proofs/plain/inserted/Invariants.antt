@@ -1,6 +1,6 @@
 use Rattle.std.proofs.Common.{◌≡◌, ◌++◌, drop}
 use Rattle.ea_model.specs.Content.{inserted}
-use Rattle.ea_trials_choice.proofs.plain.inserted.Given as goal
+use Rattle.ea_trials_carrier.proofs.plain.inserted.Given as goal
 
 abbrev pub invariant-loop-place : goal.invariant-loop-place
 invariant-loop-place l =
