@@ -1,11 +1,12 @@
 -- What can be read of the tags of a carrier where a block or a gap begins.
 use Rattle.std.proofs.Common.{◌≡◌, ◌≢◌, ℕ, suc, ◌+◌, ◌-◌, ◌^◌, ◌<◌, ◌≤◌, false, true, List, [], ◌∷◌, sym}
 use Rattle.std.proofs.Common.{ap, ◌∙◌, subst, inl, inr, arith}
-use Rattle.std.specs.Prelude.{All, Some, IsSome, slice_index, nat_lt, ◌==◌}
+use Rattle.std.specs.Prelude.{All, Option, Some, IsSome, option_map, slice_index, nat_lt, ◌==◌}
 use Rattle.std.proofs.lemmas.Bool.{cases_eq}
 use Rattle.ea_model.specs.declared.carriers.BlockAt.{BlockAt}
+use Rattle.ea_model.specs.declared.carriers.Block.{Block}
 use Rattle.ea_model.specs.declared.carriers.Gap.{Gap}
-use Rattle.ea_model.specs.Content.{Content, gaps_of, gap_at, gap_up_to, block_at, size_of, Tiled}
+use Rattle.ea_model.specs.Content.{Content, named, gaps_of, gap_at, gap_up_to, block_at, size_of, Tiled}
 use Rattle.ea_model.proofs.Options.{some_value}
 use Rattle.ea_tags.specs.Words.{code}
 use Rattle.ea_laws.proofs.BlockLists.{block_at-past}
@@ -131,3 +132,7 @@ gap-told words now offset t fits told some =
       word = here.0;
       footer = here.1;
     }
+
+-- a block of a name and units that is found is there
+pub named-there : (o : Option BlockAt) (x : Block) → option_map named o ≡ Some x → IsSome o
+named-there o x e = grind arith

@@ -253,25 +253,28 @@ fn a_block_shrinks_and_is_renamed_in_its_place(rt: HostRuntime) -> Result<(), Fa
 
 // The word in the first unit of the block at the offset, if there is one.
 fn word(carrier: &Mbc, offset: u32) -> Option<u64> {
-    carrier.block_at(offset)?;
-    carrier.laid_out();
-    let _units = carrier.units();
-    Some(encode(carrier.tags().header(offset)))
+    match carrier.block_at(offset) {
+        Some(_) => {
+            carrier.laid_out();
+            let _units = carrier.units();
+            Some(encode(carrier.tags().header(offset)))
+        }
+        None => None,
+    }
 }
 
-// The words in the first and in the last unit of the gap after the block at the offset, if there
-// are both.
-fn gap_words(carrier: &Mbc, offset: u32) -> Option<(u64, u32)> {
-    let block = carrier.block_at(offset)?;
-    let size = carrier.gap_behind(offset);
-    if size == 0 {
-        return None;
+// Where the first gap lies, and the words in its first and in its last unit, if there is a gap.
+fn first_gap(carrier: &Mbc) -> Option<(u32, u64, u32)> {
+    match carrier.choose(Inner::Aoff, 6) {
+        Some(gap) => {
+            carrier.laid_out();
+            let _units = carrier.units();
+            let first = encode(carrier.tags().header(gap.offset));
+            let last = gap.offset + (gap.size - 1);
+            Some((gap.offset, first, carrier.tags().footer(last)))
+        }
+        None => None,
     }
-    carrier.laid_out();
-    let _units = carrier.units();
-    let at = offset + block.size;
-    let first = encode(carrier.tags().header(at));
-    Some((first, carrier.tags().footer(at + (size - 1))))
 }
 
 #[test]
@@ -282,26 +285,22 @@ fn units_tell_of_blocks_and_gaps(rt: HostRuntime) -> Result<(), Fail> {
     }
 
     // Eight times the units, 1 more for a gap, 2 where a gap ends before it, 4 for the last one.
-    for (offset, of_block, of_gap) in [
-        (8, 112, None),
-        (22, 112, None),
-        (36, 112, Some((261_749, 32_718))),
-    ] {
-        assert_eq!(rt; word(&carrier, offset), Some(of_block), "at {offset}");
-        assert_eq!(rt; gap_words(&carrier, offset), of_gap, "after {offset}");
+    for offset in [8, 22, 36] {
+        assert_eq!(rt; word(&carrier, offset), Some(112), "at {offset}");
     }
+    assert_eq!(rt; first_gap(&carrier), Some((50, 261_749, 32_718)));
 
     // The block at 22 is released, that at 8 takes of its gap, and then all of it.
-    for (need, before, of_gap, after) in [
-        (14, 112, Some((113, 14)), 114),
-        (20, 160, Some((65, 8)), 114),
-        (24, 224, None, 112),
+    for (need, before, gap, after) in [
+        (14, 112, (22, 113, 14), 114),
+        (20, 160, (28, 65, 8), 114),
+        (24, 224, (50, 261_749, 32_718), 112),
     ] {
         take_out(&mut carrier, 22);
         grow(&mut carrier, 8, need, 1);
         assert_eq!(rt; word(&carrier, 8), Some(before), "at {need} units");
-        assert_eq!(rt; gap_words(&carrier, 8), of_gap, "at {need} units");
-        assert_eq!(rt; word(&carrier, 36), Some(after), "after {need} units");
+        assert_eq!(rt; first_gap(&carrier), Some(gap), "at {need} units");
+        assert_eq!(rt; word(&carrier, 36), Some(after), "at {need} units");
     }
     Ok(())
 }
@@ -310,14 +309,14 @@ fn units_tell_of_blocks_and_gaps(rt: HostRuntime) -> Result<(), Fail> {
 fn the_last_one_ends_where_the_carrier_does(rt: HostRuntime) -> Result<(), Fail> {
     let mut carrier = of_pages(rt.alloc(), 64)?;
     put(&mut carrier, Inner::Aoff, 14, 1);
-    assert_eq!(rt; gap_words(&carrier, 8), Some((261_973, 32_746)));
+    assert_eq!(rt; first_gap(&carrier), Some((22, 261_973, 32_746)));
     put(&mut carrier, Inner::Aoff, 32_746, 2);
-    assert_eq!(rt; gap_words(&carrier, 8), None);
+    assert_eq!(rt; first_gap(&carrier), None);
     assert_eq!(rt; word(&carrier, 22), Some(261_972));
     shrink(&mut carrier, 22, 14, 2);
     assert_eq!(rt; word(&carrier, 22), Some(112));
-    assert_eq!(rt; gap_words(&carrier, 22), Some((261_861, 32_732)));
+    assert_eq!(rt; first_gap(&carrier), Some((36, 261_861, 32_732)));
     take_out(&mut carrier, 22);
-    assert_eq!(rt; gap_words(&carrier, 8), Some((261_973, 32_746)));
+    assert_eq!(rt; first_gap(&carrier), Some((22, 261_973, 32_746)));
     Ok(())
 }
