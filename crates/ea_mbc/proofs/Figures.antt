@@ -128,7 +128,8 @@ placing-figures most sum number next l m now x k p is =
       small = subst (λ n. n < 2 ^ 32) (sym p.end) k.small;
       greatest = is;
       taken = omega (arith, k.taken, ap allocated p.blocks, allocated-inserted x now.blocks);
-      many = omega (arith, k.many, ap (length {A = BlockAt}) p.blocks, length-inserted x now.blocks);
+      many = omega
+          (arith, k.many, ap (length {A = BlockAt}) p.blocks, length-inserted x now.blocks);
     }
 
 -- the greatest gap is as before where the one that is taken wasn't the greatest
@@ -150,7 +151,8 @@ pub record BlockKnown (now : Content) (offset n after : ℕ) : Type 0 where
 pub block-known : (most sum number offset n after : ℕ) (l : Layout) (now : Content)
     → Known now l most sum number → IsSome (block_at now.blocks offset)
     → n ≡ size_of (block_at l.blocks offset)
-    → after ≡ gap_at (gaps 8 l.end l.blocks) (end_of l.blocks offset) → BlockKnown now offset n after
+    → after ≡ gap_at (gaps 8 l.end l.blocks) (end_of l.blocks offset)
+    → BlockKnown now offset n after
 block-known most sum number offset n after l now k some size behind =
     let block = some_value (block_at now.blocks offset) some in
     record {
@@ -250,8 +252,8 @@ resizing most sum number offset n after size name l m now k b e bs tiled =
     let now_blocks = bs ∙ ap (with_block offset size name) k.blocks in
     let w = with_block-Resizes now now offset size name m.blocks refl k.tiled
     (is_there (block_at now.blocks offset) b.b b.found) now_blocks in
-    let was : GapResized now (content 0 0 0 0 m) offset (size_of (block_at now.blocks offset)) size =
-    subst (λ units. GapResized now
+    let was : GapResized now (content 0 0 0 0 m) offset (size_of (block_at now.blocks offset))
+    size = subst (λ units. GapResized now
     (content 0 0 0 0 (record { end = units; blocks = m.blocks })) offset
     (size_of (block_at now.blocks offset)) size) (sym (e ∙ k.end)) w.gap in
     record {
@@ -362,7 +364,8 @@ grown-fits most sum number now offset need name n after size l same t k b more e
     let tiled = subst (λ a. Tiled 8 l.end (with_block offset a name l.blocks)) sizes grown in
     record {
       more = omega (arith, more, b.size, ap size_of b.found, taken-least (n + after) need fits, is);
-      even = subst (λ a. a % 2 ≡ 0) (sym is) (taken-even (n + after) need even (room-even now offset n after b));
+      even = subst (λ a. a % 2 ≡ 0) (sym is)
+          (taken-even (n + after) need even (room-even now offset n after b));
       tiled = tiled;
       sum = omega (
         arith,

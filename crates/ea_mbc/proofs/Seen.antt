@@ -1,7 +1,8 @@
 -- The units of a carrier whose blocks are known: what is read of them, and what a change makes of
 -- them.
 use Rattle.std.proofs.Common.{◌≡◌, ℕ, ◌+◌, ◌-◌, ◌*◌, ◌/◌, ◌%◌, ◌^◌, ◌<◌, ◌≤◌, Bool, true, false}
-use Rattle.std.proofs.Common.{List, [], length, set, replicate, sym, ap, ◌∙◌, subst, inl, inr, arith}
+use Rattle.std.proofs.Common.{List, [], length, set, replicate, sym, ap, ◌∙◌, subst, inl, inr}
+use Rattle.std.proofs.Common.{arith}
 use Rattle.std.specs.Prelude.{Some, IsSome, slice_index, nat_lt, ◌==◌}
 use Rattle.std.proofs.lemmas.Bool.{cases_Bool}
 use Rattle.std.proofs.lemmas.List.{length-set, length-replicate, get_or-replicate}
@@ -73,8 +74,8 @@ pub block-read : (words names : List ℕ) (end : ℕ) (now : Layout) (offset : �
     → BlockRead words names now offset
 block-read words names end now offset s some =
     let block = some_value (block_at now.blocks offset) some in
-    let there = block-coded words names now.end offset block.0 now.blocks s.coded.tiled s.coded.coded
-    block.1 in
+    let there = block-coded words names now.end offset block.0 now.blocks s.coded.tiled
+    s.coded.coded block.1 in
     record {
       b = block.0;
       found = block.1;
@@ -115,7 +116,8 @@ none_free : (prev : Bool) (free : ℕ) → prev ≡ nat_lt 0 free → prev ≡ f
 none_free prev free e told = grind arith
 
 pub before-read : (words names : List ℕ) (end : ℕ) (now : Layout) (offset : ℕ) (h : Header)
-    → Seen words names end now → BlockRead words names now offset → code h ≡ slice_index words offset
+    → Seen words names end now → BlockRead words names now offset
+    → code h ≡ slice_index words offset
     → BeforeRead words offset (gap_up_to (gaps 8 now.end now.blocks) offset) h.prev_free
 before-read words names end now offset h s r e =
     let free : ℕ = gap_up_to (gaps 8 now.end now.blocks) offset in
@@ -220,7 +222,8 @@ pub block-is : (words names : List ℕ) (now : Layout) (offset name size : ℕ)
     → size ≡ r.b.size
     → block_at now.blocks offset ≡ Some (record { name = name; offset = offset; size = size })
 block-is words names now offset name size r e f =
-    r.found ∙ ap Some (block_is r.b name offset size (sym (e ∙ r.there.name)) r.there.begins (sym f))
+    r.found
+    ∙ ap Some (block_is r.b name offset size (sym (e ∙ r.there.name)) r.there.begins (sym f))
 
 -- where the gap after a block ends
 pub stop-read : (words names : List ℕ) (end : ℕ) (now : Layout) (offset stop : ℕ)

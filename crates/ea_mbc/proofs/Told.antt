@@ -1,12 +1,13 @@
 -- What can be read of the tags of a carrier where a block or a gap begins.
-use Rattle.std.proofs.Common.{◌≡◌, ◌≢◌, ℕ, suc, ◌+◌, ◌-◌, ◌^◌, ◌<◌, ◌≤◌, false, true, List, [], ◌∷◌, sym}
-use Rattle.std.proofs.Common.{ap, ◌∙◌, subst, inl, inr, arith}
+use Rattle.std.proofs.Common.{◌≡◌, ◌≢◌, ℕ, suc, ◌+◌, ◌-◌, ◌^◌, ◌<◌, ◌≤◌, false, true, List, []}
+use Rattle.std.proofs.Common.{◌∷◌, sym, ap, ◌∙◌, subst, inl, inr, arith}
 use Rattle.std.specs.Prelude.{All, Option, Some, IsSome, option_map, slice_index, nat_lt, ◌==◌}
 use Rattle.std.proofs.lemmas.Bool.{cases_eq}
 use Rattle.ea_model.specs.declared.carriers.BlockAt.{BlockAt}
 use Rattle.ea_model.specs.declared.carriers.Block.{Block}
 use Rattle.ea_model.specs.declared.carriers.Gap.{Gap}
-use Rattle.ea_model.specs.Content.{Content, named, gaps_of, gap_at, gap_up_to, block_at, size_of, Tiled}
+use Rattle.ea_model.specs.Content.{Content, named, gaps_of, gap_at, gap_up_to, block_at}
+use Rattle.ea_model.specs.Content.{size_of, Tiled}
 use Rattle.ea_model.proofs.Options.{some_value}
 use Rattle.ea_tags.specs.Words.{code}
 use Rattle.ea_laws.proofs.BlockLists.{block_at-past}
@@ -66,8 +67,8 @@ pub block-told : (words : List ℕ) (now : Content) (offset : ℕ) → Tiled 8 n
 block-told words now offset t fits told some =
     let block = some_value (block_at now.blocks offset) some in
     let is = block_at-IsBlock now offset block.0 t block.1 in
-    let tag = block_listed (BlockTagged words now.units (gaps_of now)) offset block.0 now.blocks told
-    block.1 in
+    let tag = block_listed (BlockTagged words now.units (gaps_of now)) offset block.0 now.blocks
+    told block.1 in
     let word = subst (λ n. slice_index words n
     ≡ code (record {
       size = block.0.size;
@@ -111,12 +112,12 @@ pub gap-told : (words : List ℕ) (now : Content) (offset : ℕ) → Tiled 8 now
     → 0 < gap_at (gaps_of now) offset → GapTold words now offset (gap_at (gaps_of now) offset)
 gap-told words now offset t fits told some =
     let tag = gap_listed (GapTagged words now.units) offset (gaps_of now) told some in
-    let lies = gap_listed (Inside 8 now.units) offset (gaps_of now) (gaps_Inside 8 now.units now.blocks t)
-    some in
+    let lies = gap_listed (Inside 8 now.units) offset (gaps_of now)
+    (gaps_Inside 8 now.units now.blocks t) some in
     let within : offset + gap_at (gaps_of now) offset ≤ now.units = omega
     (arith, lies.1.within, lies.2, lies.3) in
-    let at_offset = subst (λ n. GapTagged words now.units (record { offset = n; size = tag.0.size }))
-    tag.2 tag.1 in
+    let at_offset = subst
+    (λ n. GapTagged words now.units (record { offset = n; size = tag.0.size })) tag.2 tag.1 in
     let here : GapTagged words now.units
     (record { offset = offset; size = gap_at (gaps_of now) offset }) = subst
     (λ n. GapTagged words now.units (record { offset = offset; size = n })) (sym tag.3) at_offset in

@@ -68,7 +68,8 @@ written-Laid ws w1 w2 vs ns ms end offset size stop name prev some le within lon
     }
 
 pub written-Cleared : (ws w2 vs ns ms : List ℕ) (end start offset stop : ℕ)
-    → (start ≤ offset) × (offset < stop) → stop ≤ end → end ≤ 2 * length ns → length w2 ≡ length ws → GapCoded w2 end start stop
+    → (start ≤ offset) × (offset < stop) → stop ≤ end → end ≤ 2 * length ns
+    → length w2 ≡ length ws → GapCoded w2 end start stop
     → Beside ws w2 start stop → length vs ≡ length w2 → Told w2 vs end stop true
     → But w2 vs stop → ms ≡ set ns (offset / 2) 0 → Cleared ws vs ns ms end start offset stop
 written-Cleared ws w2 vs ns ms end start offset stop lt within half l2 gap beside l3 told but names

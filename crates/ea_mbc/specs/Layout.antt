@@ -9,7 +9,8 @@ pub record Layout : Type 0 where
   pub end : ℕ
   pub blocks : List BlockAt
 
--- the blocks are tiled, the units fit a word, and these are their largest gap, their units and their number
+-- the blocks are tiled, the number of all units fits 32 bits, and these are the units of the largest
+-- gap, the units of the blocks, and how many blocks there are
 pub record HasFigures (l : Layout) (most sum number : ℕ) : Type 0 where
   pub tiled : Tiled HEADER_UNITS l.end l.blocks
   pub small : l.end < 2 ^ 32

@@ -141,7 +141,10 @@ impl CarrierUnits {
     fn begins(&self, offset: u32) -> bool
         ensures { IsTrue result ↔ IsSome (block_at self.now.blocks offset) }
     {
-        if offset % 2 != 0 || offset >= self.end {
+        if offset >= self.end {
+            return false;
+        }
+        if offset % 2 != 0 {
             return false;
         }
         if self.names[(offset / 2) as usize] != 0 {

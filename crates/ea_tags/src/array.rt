@@ -1,5 +1,6 @@
 //! The units of a carrier, a word each.
-ghost use Rattle.std.specs.Prelude.{◌≡◌, ℕ, ◌^◌, ◌<◌, replicate, length, slice_index, slice_set, IfOk};
+ghost use Rattle.std.specs.Prelude.{◌≡◌, ℕ, ◌^◌, ◌<◌, replicate, length, slice_index, slice_set};
+ghost use Rattle.std.specs.Prelude.{IfOk};
 ghost use Rattle.ea_tags.specs.Words.{code};
 
 use crate::header::{Header, decode, encode};

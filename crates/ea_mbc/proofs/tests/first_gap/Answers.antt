@@ -1,4 +1,4 @@
-use Rattle.std.proofs.Common.{◌≡◌, ◌^◌, ◌<◌, ◌≤◌, sym, ap, ◌∙◌, subst, arith}
+use Rattle.std.proofs.Common.{◌≡◌, ◌^◌, ◌<◌, ◌≤◌, sym, subst, arith}
 use Rattle.std.specs.Prelude.{slice_index}
 use Rattle.ea_model.specs.Content.{gaps_of, gap_at}
 use Rattle.ea_model.proofs.Options.{some_holds}
@@ -49,7 +49,8 @@ footer-requires-clause-within c =
     let fits = some_holds c.choose.result c.in-Some.gap (λ g. 6 ≤ g.size) c.in-Some.is
     c.choose.ensures.fits in
     let told = gap-told c.tags-in-Some.result.now now c.in-Some.gap.offset c.laid_out.ensures.tiled
-    (subst (λ n. n < 2 ^ 32) c.units-units.ensures c.units-units.type_inv) c.tags-in-Some.ensures.gaps
+    (subst (λ n. n < 2 ^ 32) c.units-units.ensures c.units-units.type_inv)
+    c.tags-in-Some.ensures.gaps
     (omega (arith, gap, fits)) in
     omega (arith, told.within, gap, fits, c.tags-in-Some.ensures.as_many)
 
@@ -61,7 +62,8 @@ footer-requires-clause-small c =
     let fits = some_holds c.choose.result c.in-Some.gap (λ g. 6 ≤ g.size) c.in-Some.is
     c.choose.ensures.fits in
     let told = gap-told c.tags-in-Some.result.now now c.in-Some.gap.offset c.laid_out.ensures.tiled
-    (subst (λ n. n < 2 ^ 32) c.units-units.ensures c.units-units.type_inv) c.tags-in-Some.ensures.gaps
+    (subst (λ n. n < 2 ^ 32) c.units-units.ensures c.units-units.type_inv)
+    c.tags-in-Some.ensures.gaps
     (omega (arith, gap, fits)) in
     subst (λ k. slice_index c.tags-in-Some.result.now k < 2 ^ 32) (omega (arith, gap, fits))
     (subst (λ n. n < 2 ^ 32) (sym told.footer)

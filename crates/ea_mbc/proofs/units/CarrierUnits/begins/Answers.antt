@@ -4,18 +4,19 @@ use Rattle.ea_mbc.proofs.Finding.{nothing-there, unnamed-IsCoded}
 use Rattle.ea_mbc.proofs.Seen.{seen}
 use Rattle.ea_mbc.proofs.Walking.{none-iff}
 use Rattle.ea_mbc.proofs.units.CarrierUnits.begins.Goals as goal
-use Rattle.ea_mbc.proofs.units.CarrierUnits.begins.Goals.{then-offset-ne0-via-then-offset-ne0}
-use Rattle.ea_mbc.proofs.units.CarrierUnits.begins.Goals.{then-offset-ne0-via-else-offset-ne0+then-offset-self}
 
 pub returns-then-offset-ne0 : goal.returns-then-offset-ne0
 returns-then-offset-ne0 c =
     let s = seen _ _ _ c.args.self.now c.self.view_is c.self.invariant in
-    none-iff _ (nothing-there _ c.args.offset _ s.coded.tiled
-    (elim c.then-offset-ne0.branch [
-      | then-offset-ne0-via-then-offset-ne0 w ↦ inl (omega (arith, w.if-offset-ne0.true))
-      | then-offset-ne0-via-else-offset-ne0+then-offset-self w ↦ inr (inr (omega
-          (arith, w.if-offset-self.true, s.same)))
-    ]))
+    none-iff _
+    (nothing-there _ c.args.offset _ s.coded.tiled (inl (omega (arith, c.if-offset-ne0.true))))
+
+pub returns-then-offset-self : goal.returns-then-offset-self
+returns-then-offset-self c =
+    let s = seen _ _ _ c.args.self.now c.self.view_is c.self.invariant in
+    none-iff _
+    (nothing-there _ c.args.offset _ s.coded.tiled
+    (inr (inr (omega (arith, c.if-offset-self.true, s.same)))))
 
 pub returns-then-index-ne0 : goal.returns-then-index-ne0
 returns-then-index-ne0 c =
