@@ -465,7 +465,12 @@ class Refusals(Case):
         with subprocess.Popen([LOAD, path], stdout=subprocess.PIPE, stderr=subprocess.PIPE, text=True) as waiting:
             try:
                 writer = within(30, lambda: os.open(path, os.O_WRONLY | os.O_NONBLOCK))
-                waiting.send_signal(signal.SIGINT)
+                # One that comes just before it reads would be seen only after the read.
+                for _ in range(6):
+                    if waiting.poll() is None:
+                        waiting.send_signal(signal.SIGINT)
+                    with contextlib.suppress(subprocess.TimeoutExpired):
+                        waiting.wait(timeout=5)
                 out, error = waiting.communicate(timeout=30)
                 os.close(writer)
             finally:

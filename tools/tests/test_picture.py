@@ -247,7 +247,7 @@ class Refusals(Case):
         self.refused(f"{none}: No such file or directory", "--trace", none, "--output", page)
         self.refused(f"{none}: No such file or directory", "--trace", trace, "--output", page, "--flags", none)
         self.refused(f"{none}/a.html: No such file or directory", "--trace", trace, "--output", f"{none}/a.html")
-        self.refused(f"{self.folder}: it is a folder", "--trace", trace, "--output", self.folder)
+        self.refused(f"{self.folder}: Is a directory", "--trace", trace, "--output", self.folder)
         words = TOOL, "--program", none, "--trace", trace, "--output", page
         ran = subprocess.run(words, capture_output=True, text=True, check=False)
         self.assertEqual((ran.returncode, ran.stderr), (1, f"picture: {none}: No such file or directory\n"))
