@@ -4,8 +4,8 @@ use Rattle.std.specs.Int.{IsPowerOfTwo}
 
 -- the node has the greater value of the two below it
 abbrev pub IsGreater : List ℕ → ℕ → Type 0
-IsGreater maxima node =
-    slice_index maxima node ≡ max (slice_index maxima (2 * node)) (slice_index maxima (2 * node + 1))
+IsGreater tree node = slice_index tree node ≡ max (slice_index tree (2 * node))
+    (slice_index tree (2 * node + 1))
 
 -- a tree with that many leaves
 pub record IsTree (leaves : ℕ) (maxima : List ℕ) : Type 0 where

@@ -1,7 +1,6 @@
-use Rattle.std.proofs.Common.{◌<◌, All, drop, refl, subst, arith}
+use Rattle.std.proofs.Common.{◌<◌, All, length, drop, refl, ap, subst, arith}
 use Rattle.ea_postree.specs.Firsts.{IsFirstAtLeast}
-use Rattle.ea_postree.proofs.Views.{values, values-lt, values-long, root-read, first-values}
-use Rattle.ea_postree.proofs.Views.{not-none}
+use Rattle.ea_postree.proofs.Views.{values-lt, values-long, root-read, first-values, not-none}
 use Rattle.ea_postree.proofs.tree.PosTree.first_at_least.Goals as goal
 
 pub returns-then-index-value-clause-none : goal.returns-then-index-value-clause-none
@@ -16,14 +15,14 @@ returns-then-index-value-clause-none c =
     )
 
 found : (c : goal.After-first_leaf)
-    → IsFirstAtLeast c.args.value (values c.self.inside.positions c.self.inside.leaves
-    c.self.inside.maxima.items) c.first_leaf.result
+    → IsFirstAtLeast c.args.value c.args.self.now c.first_leaf.result
 found c =
     let t = c.self.inside in
-    first-values c.args.value t.positions t.leaves t.maxima.items c.first_leaf.result
+    subst (λ vs. IsFirstAtLeast c.args.value vs c.first_leaf.result) c.self.view_is
+    (first-values c.args.value t.positions t.leaves t.maxima.items c.first_leaf.result
     c.self.invariant c.requires
     (subst (λ m. IsFirstAtLeast c.args.value (drop t.leaves m) c.first_leaf.result)
-    c.deref.ensures.value c.first_leaf.ensures)
+    c.deref.ensures.value c.first_leaf.ensures))
 
 pub overflow_cast-result : goal.overflow_cast-result
 overflow_cast-result c =
@@ -31,6 +30,7 @@ overflow_cast-result c =
     omega (
       arith,
       (found c).within,
+      ap length c.self.view_is,
       values-long t.positions t.leaves t.maxima.items c.self.invariant,
       c.self.invariant.small,
     )
@@ -38,7 +38,5 @@ overflow_cast-result c =
 pub returns-clause-none : goal.returns-clause-none
 returns-clause-none c = (
   λ e. absurd (cc),
-  λ a. absurd
-      (not-none c.args.value c.args.self.now c.first_leaf.result
-      (subst (λ vs. IsFirstAtLeast c.args.value vs c.first_leaf.result) c.self.view_is (found c)) a),
+  λ a. absurd (not-none c.args.value c.args.self.now c.first_leaf.result (found c) a),
 )
