@@ -27,6 +27,7 @@ pub fn update_above(leaf: usize, leaves: usize, maxima: &mut [u32])
 }
 
 /// The position of the first leaf with at least `value`, where some leaf has that much.
+#[tactic(auto, using(crate::proofs::Levels::go_left, crate::proofs::Levels::go_right))]
 pub fn first_leaf(value: u32, leaves: usize, maxima: &[u32]) -> usize
     requires tree { IsTree leaves maxima.now }
     requires some { value ≤ slice_index maxima.now 1 }
