@@ -10,11 +10,11 @@ use Rattle.ea_laws.proofs.Chosen.{gap_some, gap_none}
 use Rattle.ea_laws.proofs.Tiling.{Tiled-length}
 use Rattle.ea_mbc.specs.Indexed.{slot_of, AreApart}
 
--- offsets as far apart lie in different slots, the later one in a later slot
-pub slot-below : (a b : ℕ) → a + 12 ≤ b → slot_of a < slot_of b
+-- of two offsets as far apart the later one lies in a later slot
+slot-below : (a b : ℕ) → a + 12 ≤ b → slot_of a < slot_of b
 slot-below a b h = omega arith
 
-pub AreApart-earlier : (at to end : ℕ) (gs : List Gap) → at ≤ to → AreApart to end gs
+AreApart-earlier : (at to end : ℕ) (gs : List Gap) → at ≤ to → AreApart to end gs
     → AreApart at end gs
 AreApart-earlier at to end [] le a = tt
 AreApart-earlier at to end (g ∷ gs) le a = (omega (arith, a.0), a.1, a.2, a.3)
@@ -107,6 +107,7 @@ module _ (g : Gap) (rest : List Gap) where
       All-cons (IsElsewhere g) x (front ++ rest) (λ same. omega arith)
       (apart-elsewhere to end front a.3)
 
+-- without some of them the others lie apart
 pub apart-without : (at end : ℕ) (front gone rest : List Gap)
     → AreApart at end (front ++ (gone ++ rest)) → AreApart at end (front ++ rest)
 apart-without at end front [] rest a = a

@@ -19,7 +19,7 @@ use Rattle.ea_mbc.proofs.Apart.{all_whole}
 use Rattle.ea_mbc.proofs.Least.{choice-IsFirst}
 use Rattle.ea_mbc.proofs.Slots.{gap_of, gap_in, within}
 
--- the largest of the gaps is at least each of them, and at most what each of them is
+-- no gap is larger than the largest, which is no larger than what no gap is larger than
 largest-each : (gs : List Gap) → All (λ g. g.size ≤ largest gs) gs
 largest-each [] = All-nil (λ (g : Gap). g.size ≤ 0)
 largest-each (g ∷ gs) =
@@ -72,7 +72,8 @@ fitting-each need (g ∷ gs) =
           (λ _. All-head (Contains (g ∷ fitting need gs)) g (fitting need gs)
           (All-contains_itself (g ∷ fitting need gs)))
           (All-weaker (P (fitting need gs)) (P (g ∷ fitting need gs))
-          (λ h among fits. Contains-append_right (g ∷ []) (fitting need gs) h (among fits)) gs more))
+          (λ h among fits. Contains-append_right (g ∷ []) (fitting need gs) h (among fits)) gs
+          more))
     ]
 
 is_none : (o : Option Gap) → IsNone o → o ≡ None
@@ -130,7 +131,9 @@ module _ (at end units : ℕ) (s : Slots) (gs : List Gap) (a : AreApart at end g
   in_order g h c d le =
       elim (cases_eq (slot_of g.offset) (slot_of h.offset)) [
         | inl same ↦
-            let e = sym (in_slot g c).0 ∙ ap (λ k. slice_index s.offsets k) same ∙ (in_slot h d).0 in
+            let e = sym (in_slot g c).0
+            ∙ ap (λ k. slice_index s.offsets k) same
+            ∙ (in_slot h d).0 in
             omega arith
         | inr n ↦ slots-rise g.offset h.offset (omega arith)
       ]

@@ -16,7 +16,7 @@ use Rattle.ea_mbc.specs.Indexed.{slot_of, Slots, taken_out, put_in, IsInSlot, In
 use Rattle.ea_mbc.specs.Indexed.{AreApart, IsHeld, HasSlot}
 use Rattle.ea_mbc.proofs.Apart.{IsElsewhere, apart-within, apart-elsewhere}
 
--- the slots with that many units in the slot of the offset
+-- the slots without a gap in that of the offset, and with one that begins there
 abbrev emptied : ℕ → Slots → Slots
 emptied at s = record s { sizes = slice_set s.sizes (slot_of at) 0 }
 
