@@ -18,7 +18,7 @@ use Rattle.ea_employed.specs.declared.strategies.Search.TheVariants.{Age, Bins, 
 pub gaps-is_better : (s : Strategy) → search_of s ≡ Gaps → is_better (inner_of s) ≡ takes_first s
 gaps-is_better Bf e = refl
 gaps-is_better Aobf e = refl
-gaps-is_better Aoff e = refl
+gaps-is_better Aoff e = absurd cc
 gaps-is_better AoffCbf e = absurd cc
 gaps-is_better AoffCaobf e = absurd cc
 gaps-is_better AgeffCaoff e = absurd cc
@@ -30,7 +30,7 @@ gaps-is_better Af e = absurd cc
 pub gaps-miss_none : (s : Strategy) → search_of s ≡ Gaps → may_miss s ≡ false
 gaps-miss_none Bf e = refl
 gaps-miss_none Aobf e = refl
-gaps-miss_none Aoff e = refl
+gaps-miss_none Aoff e = absurd cc
 gaps-miss_none AoffCbf e = absurd cc
 gaps-miss_none AoffCaobf e = absurd cc
 gaps-miss_none AgeffCaoff e = absurd cc
@@ -42,7 +42,7 @@ gaps-miss_none Af e = absurd cc
 pub address-miss_none : (s : Strategy) → search_of s ≡ Address → may_miss s ≡ false
 address-miss_none Bf e = absurd cc
 address-miss_none Aobf e = absurd cc
-address-miss_none Aoff e = absurd cc
+address-miss_none Aoff e = refl
 address-miss_none AoffCbf e = refl
 address-miss_none AoffCaobf e = refl
 address-miss_none AgeffCaoff e = absurd cc

@@ -10,3 +10,4 @@ pub mod Listed
 pub mod Located
 pub mod Missing
 pub mod Resizing
+pub mod TwoCarriers

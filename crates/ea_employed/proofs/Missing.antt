@@ -1,8 +1,10 @@
 -- The choice of good fit and of address fit.
 use Rattle.std.proofs.Common.{◌≡◌, ℕ, ◌<◌, ◌≤◌, List, [], All, AllPairs, ap, ◌∙◌, sym, subst}
+use Rattle.std.proofs.Common.{arith}
 use Rattle.std.specs.Prelude.{Option, Some, None, IfSome, Contains}
 use Rattle.std.specs.Option.{option_and_then}
 use Rattle.std.proofs.lemmas.List.Elements.{All-contains_itself, All-filter}
+use Rattle.ea_model.specs.declared.settings.Strategy.{Strategy}
 use Rattle.ea_model.specs.declared.settings.Strategy.TheVariants.{Gf, Af}
 use Rattle.ea_model.specs.declared.carriers.Candidate.{Candidate}
 use Rattle.ea_model.specs.Content.{Content, gap_at, gaps_of}
@@ -11,17 +13,22 @@ use Rattle.ea_model.proofs.Rising.{item_at-each}
 use Rattle.ea_model.specs.Choice.{first}
 use Rattle.ea_model.specs.GoodFit.{good_fit, is_inspected}
 use Rattle.ea_model.specs.Strategies.{candidates, choice_among, large_enough}
-use Rattle.ea_model.specs.Strategies.{inspected_by, lower, only, takes_first}
+use Rattle.ea_model.specs.Strategies.{inner_of, inspected_by, lower, only, takes_first}
 use Rattle.ea_model.proofs.First.{first-All, large-here, large-past}
 use Rattle.ea_model.proofs.Options.{same-some, some_holds}
+use Rattle.ea_cset.specs.Carriers.{Carriers, first_number}
+use Rattle.ea_cset.specs.Carriers as sets
 use Rattle.ea_goodfit.specs.declared.gaps.BinnedGap.{BinnedGap}
+use Rattle.ea_goodfit.specs.Gaps.{HeldGaps}
 use Rattle.ea_laws.specs.Kept.{number_of, ContentsApart, IsLaidOut}
-use Rattle.ea_employed.specs.Listed.{all_gaps, candidate_at}
+use Rattle.ea_employed.specs.Listed.{all_gaps, candidate_at, candidate_in, IsListed}
 use Rattle.ea_laws.proofs.Candidates.{IsLarge, large_among, candidate-IsOwned, large-all}
 use Rattle.ea_employed.specs.Laid.{AreLaid}
 use Rattle.ea_employed.specs.Choices.{candidate_of, IsChoice, StandsAt}
 use Rattle.ea_employed.specs.declared.choice.Choice.{Choice}
+use Rattle.ea_employed.proofs.ByCarrier.{choice-first}
 use Rattle.ea_employed.proofs.Located.{good_fit-at}
+use Rattle.ea_employed.proofs.TwoCarriers.{af-GoesBy}
 
 -- the gap that the bins give, in its carrier, is the choice of good fit
 pub gf-choice : (depth need : ℕ) (cs now : List Content) (o : Option BinnedGap) → cs ≡ now
@@ -70,12 +77,17 @@ gf-IsChoice depth need cs (Some x) laid is stands =
       };
     }
 
--- the lowest candidate is found
-pub lowest-found : (cs now seen : List Content) (o : Option Choice) → cs ≡ now → AreLaid now
-    → seen ≡ cs → candidate_of o ≡ first lower (large_enough 1 (candidates seen))
-    → candidate_of o ≡ first lower (candidates now)
-lowest-found cs now seen o is laid shown found =
-    found ∙ ap (λ ds. first lower (large_enough 1 (candidates ds))) (shown ∙ is)
+-- the first gap of the lowest carrier that has one is the lowest candidate
+pub lowest-found : (t : Strategy) (cs now : List Content) (set : Carriers) (bins : Option HeldGaps)
+    → IsListed t cs set bins → cs ≡ now → AreLaid now
+    → (s : Strategy) → s ≡ Af → (number : Option ℕ) (found : Option Candidate)
+    → number ≡ first_number sets.lower 1 set.held
+    → found ≡ option_and_then (candidate_in (inner_of s) 1 now) number
+    → found ≡ first lower (candidates now)
+lowest-found t cs now set bins listed seen laid s af number found first_is is =
+    choice-first Af sets.lower af-GoesBy 1 (omega arith) t cs now set bins listed seen laid number
+    found first_is
+    (is ∙ ap (λ u. option_and_then (candidate_in (inner_of u) 1 now) number) af)
     ∙ ap (first lower) (large-all now laid.sound)
 
 -- address fit chooses it, if it is large enough

@@ -16,7 +16,7 @@ use Rattle.ea_employed.specs.declared.strategies.Search.TheVariants.{Age, Bins, 
 abbrev pub search_of : Strategy → Search
 search_of Bf = Gaps
 search_of Aobf = Gaps
-search_of Aoff = Gaps
+search_of Aoff = Address
 search_of AoffCbf = Address
 search_of AoffCaobf = Address
 search_of AgeffCaoff = Age

@@ -34,7 +34,7 @@ use crate::walks::{best_choice, choice_at, lowest_empty, multi_count};
 use ea_cset::{CarrierSet, Found};
 use ea_goodfit::{BinnedGap, Bins};
 use ea_model::keyed::{enter, enter_within, index_of, take_out};
-use ea_model::{Figures, Gap, HEADER_UNITS, Inner, MAX_SCHEDULERS, NUMBERS, OutOfMemory, Strategy};
+use ea_model::{Figures, Gap, HEADER_UNITS, MAX_SCHEDULERS, NUMBERS, OutOfMemory, Strategy};
 use std::alloc::Global;
 use std::marker::Model;
 
@@ -151,12 +151,13 @@ impl Carriers {
 
     /// The lowest gap, if it has at least `need` units.
     fn lowest(&self, need: u32) -> Option<Choice>
+        requires strategy { self.now.strategy ≡ Af }
         requires laid { AreLaid self.now.contents }
         ensures chosen { (depth : ℕ) → candidate_of result
             ≡ choice_among Af depth need self.now.contents }
         ensures choice { IfSome result (IsChoice need self.now.contents) }
     {
-        let found = best_choice(Inner::Aoff, 1, &self.list)?;
+        let found = self.choice_in(self.set.first_by_address(1), 1)?;
         if found.candidate.size < need {
             return None;
         }

@@ -27,9 +27,9 @@ pub fn search_of(strategy: Strategy) -> Search
     ensures { result ≡ search_of strategy }
 {
     match strategy {
-        Strategy::AoffCbf | Strategy::AoffCaobf => Search::Address,
+        Strategy::Aoff | Strategy::AoffCbf | Strategy::AoffCaobf => Search::Address,
         Strategy::AgeffCaoff | Strategy::AgeffCbf | Strategy::AgeffCaobf => Search::Age,
-        Strategy::Bf | Strategy::Aobf | Strategy::Aoff => Search::Gaps,
+        Strategy::Bf | Strategy::Aobf => Search::Gaps,
         Strategy::Gf => Search::Bins,
         Strategy::Af => Search::Lowest,
     }

@@ -9,10 +9,11 @@ use Rattle.ea_employed.specs.Listed.{CarrierList}
 use Rattle.ea_employed.specs.Searches.{is_better, search_of}
 use Rattle.ea_employed.specs.declared.strategies.Search.TheVariants.{Gaps, Address}
 use Rattle.ea_employed.specs.declared.strategies.Search.TheVariants.{Age, Bins, Lowest}
-use Rattle.ea_employed.proofs.ByCarrier.{address-GoesBy, age-GoesBy, choice-first}
+use Rattle.ea_employed.proofs.ByCarrier.{choice-first}
 use Rattle.ea_employed.proofs.Choosing.{address-miss_none, age-miss_none, bins-gf, choice-all}
 use Rattle.ea_employed.proofs.Choosing.{choice-else, gaps-is_better, gaps-miss_none, lowest-af}
 use Rattle.ea_employed.proofs.Listed.{found-stands}
+use Rattle.ea_employed.proofs.TwoCarriers.{address-GoesBy, age-GoesBy}
 use Rattle.ea_employed.proofs.carriers.Carriers.chosen.Goals as goal
 
 pub returns-in-Gaps-clause-chosen : goal.returns-in-Gaps-clause-chosen
@@ -51,7 +52,7 @@ returns-in-Address-clause-chosen c =
     (choice-first s lower (address-GoesBy s search) c.args.need c.requires.some _ _ _ _ _
     c.self.invariant.listed (ap (λ (l : CarrierList). l.contents) c.self.view_is) c.requires.laid
     (number_found c.first_by_address.result) (candidate_of c.choice_in.result)
-    c.first_by_address.ensures.found c.first_by_address.ensures.rising c.choice_in.ensures.chosen)
+    c.first_by_address.ensures.found c.choice_in.ensures.chosen)
 
 pub returns-in-Age-clause-chosen : goal.returns-in-Age-clause-chosen
 returns-in-Age-clause-chosen c =
@@ -63,7 +64,7 @@ returns-in-Age-clause-chosen c =
     (choice-first s older (age-GoesBy s search) c.args.need c.requires.some _ _ _ _ _
     c.self.invariant.listed (ap (λ (l : CarrierList). l.contents) c.self.view_is) c.requires.laid
     (number_found c.first_by_age.result) (candidate_of c.choice_in-in-Age.result)
-    c.first_by_age.ensures.found c.first_by_age.ensures.rising c.choice_in-in-Age.ensures.chosen)
+    c.first_by_age.ensures.found c.choice_in-in-Age.ensures.chosen)
 
 pub returns-in-Bins-clause-chosen : goal.returns-in-Bins-clause-chosen
 returns-in-Bins-clause-chosen c =
