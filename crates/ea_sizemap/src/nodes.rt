@@ -1,0 +1,103 @@
+//! Trees of positions by their keys. A tree is over a number of keys from some key on. The trees
+//! below its root are over the lower and over the upper half of these, so that a tree over 2^64 keys
+//! is at most 65 nodes deep, whatever is put in. A link to a tree is the position of its root + 1,
+//! or 0 where it is empty.
+ghost use Rattle.std.specs.Prelude.{◌≡◌, ◌≢◌, ℕ, ◌+◌, ◌^◌, ◌<◌, ◌⊎◌, length};
+ghost use Rattle.ea_sizemap.specs.Trees.{Tree, Has, Becomes, MayPut, MayTake, MayRaise};
+
+/// A position's size, and the links to the trees below it.
+#[derive(Debug, Clone, Copy)]
+pub struct Node {
+    /// The size that the position holds, or 0.
+    pub size: u32,
+    /// The link to the tree over the lower half of the keys.
+    pub low: u32,
+    /// The link to the tree over the upper half of the keys.
+    pub high: u32,
+}
+
+/// Puts the position of that key into the tree at the link, and answers the tree's link.
+pub fn put_in(nodes: &mut [Node], link: u32, from: u64, width: u64, key: u64, position: u32) -> u32
+    requires few { length nodes.old < 2 ^ 32 }
+    requires end { from + width < 2 ^ 64 }
+    requires may { (keys : ℕ → ℕ) × ((t : Tree)
+        × MayPut keys nodes.old link from width key position t) }
+    ensures { (keys : ℕ → ℕ) (t : Tree) → MayPut keys nodes.old link from width key position t
+        → Becomes keys nodes.old nodes.new t result from width
+        (λ q. (q ≡ position) ⊎ Has q t) }
+{
+    if link == 0 {
+        return position + 1;
+    }
+    let at = (link - 1) as usize;
+    let node = nodes[at];
+    let half = width / 2;
+    if key < from + half {
+        let low = put_in(nodes, node.low, from, half, key, position);
+        nodes[at].low = low;
+        return link;
+    }
+    let high = put_in(nodes, node.high, from + half, width - half, key, position);
+    nodes[at].high = high;
+    link
+}
+
+/// Takes the root out of the tree at the link, which is over that many keys, and answers the link
+/// to the tree of the others.
+pub fn raise(nodes: &mut [Node], link: u32, width: u64) -> u32
+    requires { (keys : ℕ → ℕ) × ((from : ℕ) × ((t : Tree)
+        × MayRaise keys nodes.old link from width t)) }
+    ensures { (keys : ℕ → ℕ) (from : ℕ) (t : Tree) → MayRaise keys nodes.old link from width t
+        → Becomes keys nodes.old nodes.new t result from width
+        (λ q. Has q t × (q + 1 ≢ link)) }
+{
+    let node = nodes[(link - 1) as usize];
+    let half = width / 2;
+    if node.low != 0 {
+        let low = raise(nodes, node.low, half);
+        let root = &mut nodes[(node.low - 1) as usize];
+        root.low = low;
+        root.high = node.high;
+        return node.low;
+    }
+    if node.high != 0 {
+        let high = raise(nodes, node.high, width - half);
+        let root = &mut nodes[(node.high - 1) as usize];
+        root.low = 0;
+        root.high = high;
+        return node.high;
+    }
+    0
+}
+
+/// Takes the position of that key out of the tree at the link, and answers the tree's link.
+pub fn take_out(
+    nodes: &mut [Node],
+    link: u32,
+    from: u64,
+    width: u64,
+    key: u64,
+    position: u32,
+) -> u32
+    requires end { from + width < 2 ^ 64 }
+    requires may { (keys : ℕ → ℕ) × ((t : Tree)
+        × MayTake keys nodes.old link from width key position t) }
+    ensures { (keys : ℕ → ℕ) (t : Tree) → MayTake keys nodes.old link from width key position t
+        → Becomes keys nodes.old nodes.new t result from width
+        (λ q. Has q t × (q ≢ position)) }
+{
+    if link - 1 == position {
+        return raise(nodes, link, width);
+    }
+    let at = (link - 1) as usize;
+    let node = nodes[at];
+    let half = width / 2;
+    if key < from + half {
+        let low = take_out(nodes, node.low, from, half, key, position);
+        nodes[at].low = low;
+        return link;
+    }
+    let high = take_out(nodes, node.high, from + half, width - half, key, position);
+    nodes[at].high = high;
+    link
+}
