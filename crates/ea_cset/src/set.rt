@@ -1,16 +1,17 @@
 //! The set and its calls.
 ghost use Rattle.std.specs.Prelude.{◌≡◌, ◌≢◌, ℕ, ◌+◌, ◌<◌, ◌↔◌, [], ◌==◌};
 ghost use Rattle.std.specs.Prelude.{if◌then◌else◌, All, AllPairs, Some, None, IsTrue};
-ghost use Rattle.std.specs.Prelude.{IsNone, IfSome, IfOk, length, option_map};
+ghost use Rattle.std.specs.Prelude.{IsNone, IfSome, IfOk, get_or, length, option_map};
 ghost use Rattle.ea_model.specs.Keyed.{entered, without};
 ghost use Rattle.ea_cset.specs.Carriers.{number_of, is_held, carrier_of, with_fit, refitted};
 ghost use Rattle.ea_cset.specs.Carriers.{lower, older, first_number, IsBefore, IsFirstOf, StandsIn};
 ghost use Rattle.ea_cset.specs.Carriers.{number_found};
+ghost use Rattle.ea_cset.specs.declared.keys.CarrierFit as keys;
 
 use crate::keys::{CarrierFit, CarrierKey, Found};
-use crate::walks::{lowest, oldest};
+use crate::walks::{lowest, oldest, place_in};
 use ea_model::OutOfMemory;
-use ea_model::keyed::{enter_within, index_of, take_out};
+use ea_model::keyed::{enter_within, take_out};
 use std::alloc::Global;
 use std::marker::Model;
 
@@ -90,8 +91,18 @@ impl CarrierSet {
         ensures carriers { (n : ℕ) → carrier_of self.new.held n ≡ option_map (with_fit number fit)
             (carrier_of self.old.held n) }
     {
-        let index = index_of(number, &self.held);
+        let index = place_in(number, &self.held);
         self.held[index].fit = fit;
+    }
+
+    /// The place of the carrier with the number among the carriers, by rising number.
+    pub fn place_of(&self, number: u32) -> usize
+        requires { IsTrue (is_held number self.now.held) }
+        ensures within { result < length self.now.held }
+        ensures carrier { (d : keys.CarrierFit) → carrier_of self.now.held number
+            ≡ Some (get_or self.now.held result d) }
+    {
+        place_in(number, &self.held)
     }
 
     /// The carrier of the lowest base whose largest gap has at least `need` units, or

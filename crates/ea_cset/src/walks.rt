@@ -1,9 +1,11 @@
 //! Walks over the carriers of a set.
-ghost use Rattle.std.specs.Prelude.{◌≡◌, List, Some, IfSome};
+ghost use Rattle.std.specs.Prelude.{◌≡◌, ◌<◌, List, AllPairs, Some, IfSome, IsTrue, get_or, length};
+ghost use Rattle.std.specs.List.{position_or_len};
+ghost use Rattle.ea_model.specs.Keyed.{has_key};
 ghost use Rattle.ea_model.specs.Choice.{better};
 ghost use Rattle.ea_cset.specs.declared.keys.CarrierFit as keys;
 ghost use Rattle.ea_cset.specs.Carriers.{lower, older, first_number, carrier_found, number_found};
-ghost use Rattle.ea_cset.specs.Carriers.{StandsIn};
+ghost use Rattle.ea_cset.specs.Carriers.{number_of, carrier_of, is_held, IsBefore, StandsIn};
 
 use crate::keys::{CarrierFit, Found};
 
@@ -66,4 +68,19 @@ pub fn oldest(need: u32, held: &[CarrierFit]) -> Option<Found>
         }
     }
     best
+}
+
+/// The place of the carrier with the number, which is held.
+pub fn place_in(number: u32, held: &[CarrierFit]) -> usize
+    requires there { IsTrue (is_held number held.now) }
+    requires rising { AllPairs IsBefore held.now }
+    ensures index { result ≡ position_or_len (has_key number_of number) held.now }
+    ensures within { result < length held.now }
+    ensures item { (d : keys.CarrierFit) → carrier_of held.now number
+        ≡ Some (get_or held.now result d) }
+{
+    match held.binary_search_by_key(&number, |carrier| carrier.key.number) {
+        Ok(place) => place,
+        Err(_) => unreachable!(),
+    }
 }

@@ -90,16 +90,17 @@ pub record IsFound (cs : List Content) (number offset i : ℕ) (item : Content) 
   pub begins : IsSome (block_at item.blocks offset)
   pub within : offset ≤ item.units
 
-pub found-at : (l now : CarrierList) (number offset i : ℕ) (seen : List Content) (item : Content)
+pub found-at : (l now : CarrierList) (number offset i : ℕ) (item : Content)
     → l ≡ now → AreLaid now.contents
     → IsSome (block_in now.contents (record { carrier = number; offset = offset }))
-    → seen ≡ l.contents → i < length seen
-    → ((d : Content) → content_of seen number ≡ Some (get_or seen i d))
+    → i < length now.contents
+    → ((d : Content) → content_of now.contents number ≡ Some (get_or now.contents i d))
     → item ≡ get_or l.contents i item → IsFound l.contents number offset i item
-found-at l now number offset i seen item same laid block deref within found is =
+found-at l now number offset i item same laid block within found is =
     let cs = l.contents in
     let here = subst (λ (m : CarrierList). AreLaid m.contents) (sym same) laid in
-    let at = at_index cs seen i number item deref within found is in
+    let at = at_index cs now.contents i number item
+    (ap (λ (m : CarrierList). m.contents) (sym same)) within found is in
     let begins = block-there (λ b. IsSome b) cs number offset item at.there
     (subst (λ (m : CarrierList). IsSome (block_in m.contents (record {
       carrier = number;
@@ -179,20 +180,20 @@ resizing-low number offset units name address r cs new laid w =
 
 -- the carrier with the number, `item`, becomes `next`, and keeps its kind; `here` is what was read
 -- of it before
-module _ (l now : CarrierList) (number offset i : ℕ) (seen : List Content) (here item : Content)
+module _ (l now : CarrierList) (number offset i : ℕ) (here item : Content)
     (same : l ≡ now) (laid : AreLaid now.contents)
     (block : IsSome (block_in now.contents (record { carrier = number; offset = offset })))
-    (deref : seen ≡ l.contents) (within : i < length seen)
-    (found : (d : Content) → content_of seen number ≡ Some (get_or seen i d))
+    (within : i < length now.contents)
+    (found : (d : Content) → content_of now.contents number ≡ Some (get_or now.contents i d))
     (is_here : here ≡ get_or l.contents i here) (is_item : item ≡ get_or l.contents i item) where
   abbrev cs : List Content
   cs = l.contents
 
   was : IsFound cs number offset i here
-  was = found-at l now number offset i seen here same laid block deref within found is_here
+  was = found-at l now number offset i here same laid block within found is_here
 
   w : IsFound cs number offset i item
-  w = found-at l now number offset i seen item same laid block deref within found is_item
+  w = found-at l now number offset i item same laid block within found is_item
 
   found-more : (need : ℕ)
       → size_of (block_in now.contents (record { carrier = number; offset = offset })) < need

@@ -10,12 +10,12 @@ use Rattle.ea_model.specs.Instance.{changed, content_of, with_content, without_c
 use Rattle.ea_cset.specs.declared.keys.CarrierKey.{CarrierKey}
 use Rattle.ea_cset.specs.declared.keys.CarrierFit.{CarrierFit}
 use Rattle.ea_cset.specs.declared.keys.Found.{Found}
-use Rattle.ea_cset.specs.Carriers.{StandsIn}
+use Rattle.ea_cset.specs.Carriers.{carrier_of, StandsIn}
 use Rattle.ea_cset.specs.Carriers.{Carriers, is_held, refitted, with_fit, number_of as set_number}
 use Rattle.ea_model.specs.Keyed.{entered, without}
 use Rattle.std.proofs.lemmas.List.{get_or-map, length-map}
 use Rattle.ea_model.proofs.Options.{is_some-map}
-use Rattle.ea_model.proofs.Rising.{changed_here, changed_past, item_at-each}
+use Rattle.ea_model.proofs.Rising.{changed_here, changed_past, item_at-each, item_at-key}
 use Rattle.ea_model.proofs.Rising.{entered-map, item_at-map, without-map}
 use Rattle.std.specs.List.Sorted.{IsPermutation}
 use Rattle.std.proofs.lemmas.Map.Keys.{IsDistinct-IsPermutation}
@@ -60,6 +60,23 @@ found-there cs f item rising stands is =
     ap held_of is ∙ sym (get_or-map held_of cs f.index item f.carrier within) ∙ stands.1 in
     ap (content_of cs) (ap (λ (x : CarrierFit). x.key.number) (sym same) ∙ ap number_of is)
     ∙ item_at-each number_of f.index item cs rising within ∙ ap Some (sym is)
+
+-- so does the carrier with the number
+pub place-within : (i : ℕ) (cs : List Content) (hs : List CarrierFit) → hs ≡ map held_of cs
+    → i < length hs → i < length cs
+place-within i cs hs held within = omega (arith, within, ap length held, length-map cs held_of)
+
+pub place-there : (n i : ℕ) (cs : List Content) (hs : List CarrierFit) → hs ≡ map held_of cs
+    → IsRising cs → i < length hs → ((h : CarrierFit) → carrier_of hs n ≡ Some (get_or hs i h))
+    → (d : Content) → content_of cs n ≡ Some (get_or cs i d)
+place-there n i cs hs held rising within found d =
+    let in_list = place-within i cs hs held within in
+    let number : number_of (get_or cs i d) ≡ n =
+    ap set_number (sym (get_or-map held_of cs i d (held_of d) in_list)
+    ∙ ap (λ ys. get_or ys i (held_of d)) (sym held))
+    ∙ item_at-key set_number n (get_or hs i (held_of d)) hs (found (held_of d)) in
+    subst (λ k. content_of cs k ≡ Some (get_or cs i d)) number
+    (item_at-each number_of i d cs rising in_list)
 
 module _ (f : Content → Content) (k : KeepsPlace f) (n : ℕ) (item : Content) where
   -- the carrier with another fit is the changed carrier

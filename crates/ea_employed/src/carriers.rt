@@ -1,7 +1,7 @@
 //! The carriers that an instance employs.
 ghost use Rattle.std.specs.Prelude.{◌≡◌, ◌≢◌, ℕ, ◌*◌, ◌+◌, ◌%◌, ◌<◌, ◌≤◌, [], All, Some, None};
 ghost use Rattle.std.specs.Prelude.{true, false, IsSome, IfSome, IfOk, OnOk, OnErr, length};
-ghost use Rattle.std.specs.Prelude.{map};
+ghost use Rattle.std.specs.Prelude.{get_or, map};
 ghost use Rattle.std.specs.Option.{option_and_then};
 ghost use Rattle.ea_model.specs.declared.settings.Strategy.TheVariants.{Gf, Af};
 ghost use Rattle.ea_model.specs.declared.units.TheConstants.{MAX_SCHEDULERS, MAX_UNITS};
@@ -33,7 +33,7 @@ use crate::strategies::{Search, inner_of, search_of};
 use crate::walks::{best_choice, choice_at, lowest_empty, multi_count};
 use ea_cset::{CarrierSet, Found};
 use ea_goodfit::{BinnedGap, Bins};
-use ea_model::keyed::{enter, enter_within, index_of, take_out};
+use ea_model::keyed::{enter, enter_within, take_out};
 use ea_model::{Figures, Gap, HEADER_UNITS, MAX_SCHEDULERS, NUMBERS, OutOfMemory, Strategy};
 use std::alloc::Global;
 use std::marker::Model;
@@ -103,6 +103,17 @@ impl Carriers {
         ensures within { result ≤ length self.now.contents }
     {
         multi_count(&self.list)
+    }
+
+    /// The place of the carrier with the number among the carriers, by rising number.
+    fn place_of(&self, number: u32) -> usize
+        requires laid { AreLaid self.now.contents }
+        requires there { IsSome (content_of self.now.contents number) }
+        ensures within { result < length self.now.contents }
+        ensures item { (d : Content) → content_of self.now.contents number
+            ≡ Some (get_or self.now.contents result d) }
+    {
+        self.set.place_of(number)
     }
 
     /// The gap that the strategy chooses among those of all carriers. Good fit inspects `depth`
@@ -219,8 +230,8 @@ impl Carriers {
         }) }
         ensures err { OnErr result (self.new ≡ self.old) }
     {
+        let index = self.place_of(number);
         make_room(&mut self.bins)?;
-        let index = index_of(number, &self.list);
         let address = self.list[index].address(offset);
         let freed = self.list[index].carrier.release(offset);
         let vacant = self.list[index].is_vacant();
@@ -249,7 +260,7 @@ impl Carriers {
               number self.old.contents;
         } }
     {
-        let index = index_of(number, &self.list);
+        let index = self.place_of(number);
         self.list[index].carrier.rename(offset, name)
     }
 
@@ -274,8 +285,8 @@ impl Carriers {
         }) }
         ensures err { OnErr result (self.new ≡ self.old) }
     {
+        let index = self.place_of(number);
         make_room(&mut self.bins)?;
-        let index = index_of(number, &self.list);
         let address = self.list[index].address(offset);
         let block = self.list[index].carrier.shrink(offset, need, name);
         self.set.update(number, block.largest);
@@ -305,7 +316,7 @@ impl Carriers {
               number self.old.contents;
         } }
     {
-        let index = index_of(number, &self.list);
+        let index = self.place_of(number);
         let address = self.list[index].address(offset);
         let Some(block) = self.list[index].carrier.grow(offset, need, name) else {
             unreachable!();

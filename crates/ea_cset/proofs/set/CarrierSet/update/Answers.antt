@@ -9,22 +9,22 @@ use Rattle.ea_cset.proofs.Places.{rising}
 use Rattle.ea_cset.proofs.set.CarrierSet.update.Goals as goal
 
 index : (c : goal.After-self-1)
-    → c.index_of-index.result ≡ position_or_len (has_key number_of c.args.number)
+    → c.place_in-index.result ≡ position_or_len (has_key number_of c.args.number)
     c.self.inside.held.items
-index c = c.index_of-index.ensures.index
+index c = c.place_in-index.ensures.index
     ∙ ap (position_or_len (has_key number_of c.args.number)) c.deref.ensures.value
 
-within : (c : goal.After-self-1) → c.index_of-index.result < length c.self.inside.held.items
-within c = subst (λ xs. c.index_of-index.result < length xs) c.deref.ensures.value
-    c.index_of-index.ensures.within
+within : (c : goal.After-self-1) → c.place_in-index.result < length c.self.inside.held.items
+within c = subst (λ xs. c.place_in-index.result < length xs) c.deref.ensures.value
+    c.place_in-index.ensures.within
 
 updated : (c : goal.After-self-1)
-    → set c.self.inside.held.items c.index_of-index.result
+    → set c.self.inside.held.items c.place_in-index.result
     (record { key = c.index_mut.result.now.key; fit = c.args.fit }) ≡ refitted c.args.number
     c.args.fit c.self.inside.held.items
 updated c =
     let hs = c.self.inside.held.items in
-    ap (λ (y : CarrierFit). set hs c.index_of-index.result
+    ap (λ (y : CarrierFit). set hs c.place_in-index.result
     (record { key = y.key; fit = c.args.fit })) c.index_mut.ensures.value
     ∙ ap (λ k. set hs k
     (record { key = (get_or hs k c.index_mut.result.now).key; fit = c.args.fit })) (index c)

@@ -14,16 +14,16 @@ use Rattle.ea_employed.proofs.carriers.Carriers.grow.Goals as goal
 
 pub address-address-requires-clause-within : goal.address-address-requires-clause-within
 address-address-requires-clause-within c =
-    (found-at _ c.args.self.now c.args.number c.args.offset _ _ c.index.result.now c.self.view_is
-    c.requires.laid c.requires.block c.deref.ensures.value c.index_of-index.ensures.within
-    c.index_of-index.ensures.item c.index.ensures).within
+    (found-at _ c.args.self.now c.args.number c.args.offset _ c.index.result.now c.self.view_is
+    c.requires.laid c.requires.block c.place_of-index.ensures.within
+    c.place_of-index.ensures.item c.index.ensures).within
 
 pub update-requires : goal.update-requires
 update-requires c =
-    let w = growing _ c.args.self.now c.args.number c.args.offset _ _ c.index.result.now
+    let w = growing _ c.args.self.now c.args.number c.args.offset _ c.index.result.now
     c.index_mut.result.now
-    c.self.view_is c.requires.laid c.requires.block c.deref.ensures.value
-    c.index_of-index.ensures.within c.index_of-index.ensures.item c.index.ensures
+    c.self.view_is c.requires.laid c.requires.block
+    c.place_of-index.ensures.within c.place_of-index.ensures.item c.index.ensures
     c.index_mut.ensures.value _ _ _ c.behind-self.view_is
     c.args.need c.args.name c.address-address.result c.in-Some.block c.address-address.ensures
     c.in-Some.ensures.grown c.requires.more c.requires.even c.requires.fits
@@ -34,10 +34,10 @@ update-requires c =
 
 pub note_placed-requires : goal.note_placed-requires
 note_placed-requires c =
-    let w = growing _ c.args.self.now c.args.number c.args.offset _ _ c.index.result.now
+    let w = growing _ c.args.self.now c.args.number c.args.offset _ c.index.result.now
     c.index_mut.result.now
-    c.self.view_is c.requires.laid c.requires.block c.deref.ensures.value
-    c.index_of-index.ensures.within c.index_of-index.ensures.item c.index.ensures
+    c.self.view_is c.requires.laid c.requires.block
+    c.place_of-index.ensures.within c.place_of-index.ensures.item c.index.ensures
     c.index_mut.ensures.value _ _ _ c.behind-self.view_is
     c.args.need c.args.name c.address-address.result c.in-Some.block c.address-address.ensures
     c.in-Some.ensures.grown c.requires.more c.requires.even c.requires.fits
@@ -57,10 +57,10 @@ note_placed-requires c =
 pub invariant_of-self-2 : goal.invariant_of-self-2
 invariant_of-self-2 c =
     let units : Content → ℕ = λ m. taken_of (room_at m c.args.offset) c.args.need in
-    let w = growing _ c.args.self.now c.args.number c.args.offset _ _ c.index.result.now
+    let w = growing _ c.args.self.now c.args.number c.args.offset _ c.index.result.now
     c.index_mut.result.now
-    c.self.view_is c.requires.laid c.requires.block c.deref.ensures.value
-    c.index_of-index.ensures.within c.index_of-index.ensures.item c.index.ensures
+    c.self.view_is c.requires.laid c.requires.block
+    c.place_of-index.ensures.within c.place_of-index.ensures.item c.index.ensures
     c.index_mut.ensures.value _ _ _ c.behind-self.view_is
     c.args.need c.args.name c.address-address.result c.in-Some.block c.address-address.ensures
     c.in-Some.ensures.grown c.requires.more c.requires.even c.requires.fits
@@ -90,10 +90,10 @@ invariant_of-self-2 c =
 
 pub with_size-self-inside-requires : goal.with_size-self-inside-requires
 with_size-self-inside-requires c =
-    let w = growing _ c.args.self.now c.args.number c.args.offset _ _ c.index.result.now
+    let w = growing _ c.args.self.now c.args.number c.args.offset _ c.index.result.now
     c.index_mut.result.now
-    c.self.view_is c.requires.laid c.requires.block c.deref.ensures.value
-    c.index_of-index.ensures.within c.index_of-index.ensures.item c.index.ensures
+    c.self.view_is c.requires.laid c.requires.block
+    c.place_of-index.ensures.within c.place_of-index.ensures.item c.index.ensures
     c.index_mut.ensures.value _ _ _ c.behind-self.view_is
     c.args.need c.args.name c.address-address.result c.in-Some.block c.address-address.ensures
     c.in-Some.ensures.grown c.requires.more c.requires.even c.requires.fits
@@ -124,10 +124,10 @@ with_size-self-inside-requires c =
 
 pub overflow_sub-more : goal.overflow_sub-more
 overflow_sub-more c =
-    let w = growing _ c.args.self.now c.args.number c.args.offset _ _ c.index.result.now
+    let w = growing _ c.args.self.now c.args.number c.args.offset _ c.index.result.now
     c.index_mut.result.now
-    c.self.view_is c.requires.laid c.requires.block c.deref.ensures.value
-    c.index_of-index.ensures.within c.index_of-index.ensures.item c.index.ensures
+    c.self.view_is c.requires.laid c.requires.block
+    c.place_of-index.ensures.within c.place_of-index.ensures.item c.index.ensures
     c.index_mut.ensures.value _ _ _ c.behind-self.view_is
     c.args.need c.args.name c.address-address.result c.in-Some.block c.address-address.ensures
     c.in-Some.ensures.grown c.requires.more c.requires.even c.requires.fits
@@ -140,10 +140,10 @@ overflow_sub-more c =
 
 pub overflow_add-address : goal.overflow_add-address
 overflow_add-address c =
-    let w = growing _ c.args.self.now c.args.number c.args.offset _ _ c.index.result.now
+    let w = growing _ c.args.self.now c.args.number c.args.offset _ c.index.result.now
     c.index_mut.result.now
-    c.self.view_is c.requires.laid c.requires.block c.deref.ensures.value
-    c.index_of-index.ensures.within c.index_of-index.ensures.item c.index.ensures
+    c.self.view_is c.requires.laid c.requires.block
+    c.place_of-index.ensures.within c.place_of-index.ensures.item c.index.ensures
     c.index_mut.ensures.value _ _ _ c.behind-self.view_is
     c.args.need c.args.name c.address-address.result c.in-Some.block c.address-address.ensures
     c.in-Some.ensures.grown c.requires.more c.requires.even c.requires.fits
@@ -160,10 +160,10 @@ overflow_add-address c =
 
 pub returns-clause-grown : goal.returns-clause-grown
 returns-clause-grown c =
-    let w = growing _ c.args.self.now c.args.number c.args.offset _ _ c.index.result.now
+    let w = growing _ c.args.self.now c.args.number c.args.offset _ c.index.result.now
     c.index_mut.result.now
-    c.self.view_is c.requires.laid c.requires.block c.deref.ensures.value
-    c.index_of-index.ensures.within c.index_of-index.ensures.item c.index.ensures
+    c.self.view_is c.requires.laid c.requires.block
+    c.place_of-index.ensures.within c.place_of-index.ensures.item c.index.ensures
     c.index_mut.ensures.value _ _ _ c.behind-self.view_is
     c.args.need c.args.name c.address-address.result c.in-Some.block c.address-address.ensures
     c.in-Some.ensures.grown c.requires.more c.requires.even c.requires.fits

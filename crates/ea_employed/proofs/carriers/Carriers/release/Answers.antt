@@ -19,16 +19,16 @@ use Rattle.ea_employed.proofs.carriers.Carriers.release.Goals as goal
 
 pub address-address-requires-clause-within : goal.address-address-requires-clause-within
 address-address-requires-clause-within c =
-    (found-at _ c.args.self.now c.args.number c.args.offset _ _ c.index.result.now c.self.view_is
-    c.requires.laid c.requires.block c.deref.ensures.value c.index_of-index.ensures.within
-    c.index_of-index.ensures.item c.index.ensures).within
+    (found-at _ c.args.self.now c.args.number c.args.offset _ c.index.result.now c.self.view_is
+    c.requires.laid c.requires.block c.place_of-index.ensures.within
+    c.place_of-index.ensures.item c.index.ensures).within
 
 pub update-requires : goal.update-requires
 update-requires c =
-    let w = releasing _ c.args.self.now c.args.number c.args.offset _ _ c.index.result.now
+    let w = releasing _ c.args.self.now c.args.number c.args.offset _ c.index.result.now
     c.index_mut.result.now
-    c.self.view_is c.requires.laid c.requires.block c.deref.ensures.value
-    c.index_of-index.ensures.within c.index_of-index.ensures.item c.index.ensures
+    c.self.view_is c.requires.laid c.requires.block
+    c.place_of-index.ensures.within c.place_of-index.ensures.item c.index.ensures
     c.index_mut.ensures.value _ _ _ c.behind-self.view_is
     c.address-address.result c.release-freed.result c.address-address.ensures
     c.release-freed.ensures.released
@@ -39,10 +39,10 @@ update-requires c =
 
 pub note_released-requires-clause-held : goal.note_released-requires-clause-held
 note_released-requires-clause-held c =
-    let w = releasing _ c.args.self.now c.args.number c.args.offset _ _ c.index.result.now
+    let w = releasing _ c.args.self.now c.args.number c.args.offset _ c.index.result.now
     c.index_mut.result.now
-    c.self.view_is c.requires.laid c.requires.block c.deref.ensures.value
-    c.index_of-index.ensures.within c.index_of-index.ensures.item c.index.ensures
+    c.self.view_is c.requires.laid c.requires.block
+    c.place_of-index.ensures.within c.place_of-index.ensures.item c.index.ensures
     c.index_mut.ensures.value _ _ _ c.behind-self.view_is
     c.address-address.result c.release-freed.result c.address-address.ensures
     c.release-freed.ensures.released
@@ -57,10 +57,10 @@ note_released-requires-clause-held c =
 
 pub without_block-self-inside-requires : goal.without_block-self-inside-requires
 without_block-self-inside-requires c =
-    let w = releasing _ c.args.self.now c.args.number c.args.offset _ _ c.index.result.now
+    let w = releasing _ c.args.self.now c.args.number c.args.offset _ c.index.result.now
     c.index_mut.result.now
-    c.self.view_is c.requires.laid c.requires.block c.deref.ensures.value
-    c.index_of-index.ensures.within c.index_of-index.ensures.item c.index.ensures
+    c.self.view_is c.requires.laid c.requires.block
+    c.place_of-index.ensures.within c.place_of-index.ensures.item c.index.ensures
     c.index_mut.ensures.value _ _ _ c.behind-self.view_is
     c.address-address.result c.release-freed.result c.address-address.ensures
     c.release-freed.ensures.released
@@ -74,10 +74,10 @@ without_block-self-inside-requires c =
 
 pub invariant_of-self-2 : goal.invariant_of-self-2
 invariant_of-self-2 c =
-    let w = releasing _ c.args.self.now c.args.number c.args.offset _ _ c.index.result.now
+    let w = releasing _ c.args.self.now c.args.number c.args.offset _ c.index.result.now
     c.index_mut.result.now
-    c.self.view_is c.requires.laid c.requires.block c.deref.ensures.value
-    c.index_of-index.ensures.within c.index_of-index.ensures.item c.index.ensures
+    c.self.view_is c.requires.laid c.requires.block
+    c.place_of-index.ensures.within c.place_of-index.ensures.item c.index.ensures
     c.index_mut.ensures.value _ _ _ c.behind-self.view_is
     c.address-address.result c.release-freed.result c.address-address.ensures
     c.release-freed.ensures.released
@@ -107,19 +107,19 @@ invariant_of-self-2 c =
 pub returns-clause-vacant : goal.returns-clause-vacant
 returns-clause-vacant c =
     let cs = c.self.inside.list.items in
-    let w = releasing _ c.args.self.now c.args.number c.args.offset _ _ c.index.result.now
+    let w = releasing _ c.args.self.now c.args.number c.args.offset _ c.index.result.now
     c.index_mut.result.now
-    c.self.view_is c.requires.laid c.requires.block c.deref.ensures.value
-    c.index_of-index.ensures.within c.index_of-index.ensures.item c.index.ensures
+    c.self.view_is c.requires.laid c.requires.block
+    c.place_of-index.ensures.within c.place_of-index.ensures.item c.index.ensures
     c.index_mut.ensures.value _ _ _ c.behind-self.view_is
     c.address-address.result c.release-freed.result c.address-address.ensures
     c.release-freed.ensures.released
     c.release-freed.ensures.size c.release-freed.ensures.gaps c.release-freed.ensures.largest
     c.release-freed.ensures.gaps_joined in
-    let f = (found-at _ c.args.self.now c.args.number c.args.offset _ _ c.index_mut.result.now
+    let f = (found-at _ c.args.self.now c.args.number c.args.offset _ c.index_mut.result.now
     c.self.view_is
-    c.requires.laid c.requires.block c.deref.ensures.value c.index_of-index.ensures.within
-    c.index_of-index.ensures.item c.index_mut.ensures.value) in
+    c.requires.laid c.requires.block c.place_of-index.ensures.within
+    c.place_of-index.ensures.item c.index_mut.ensures.value) in
     c.is_vacant-vacant.ensures.vacant
     ∙ ap is_vacant (c.index-2.ensures ∙ get_or-set_at _ _ _ _ _ refl f.at.within
     ∙ ap (λ (m : Content). record m { kind = c.behind-self.inside.kind })
@@ -131,10 +131,10 @@ returns-clause-vacant c =
 
 pub returns-clause-ok : goal.returns-clause-ok
 returns-clause-ok c =
-    let w = releasing _ c.args.self.now c.args.number c.args.offset _ _ c.index.result.now
+    let w = releasing _ c.args.self.now c.args.number c.args.offset _ c.index.result.now
     c.index_mut.result.now
-    c.self.view_is c.requires.laid c.requires.block c.deref.ensures.value
-    c.index_of-index.ensures.within c.index_of-index.ensures.item c.index.ensures
+    c.self.view_is c.requires.laid c.requires.block
+    c.place_of-index.ensures.within c.place_of-index.ensures.item c.index.ensures
     c.index_mut.ensures.value _ _ _ c.behind-self.view_is
     c.address-address.result c.release-freed.result c.address-address.ensures
     c.release-freed.ensures.released

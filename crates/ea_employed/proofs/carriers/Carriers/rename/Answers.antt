@@ -14,9 +14,9 @@ pub invariant_of-self : goal.invariant_of-self
 invariant_of-self c =
     let number = c.args.number in
     let offset = c.args.offset in
-    let w = renaming _ c.args.self.now c.args.number c.args.offset _ _ c.index_mut.result.now
-    c.index_mut.result.now c.self.view_is c.requires.laid c.requires.block c.deref.ensures.value
-    c.index_of-index.ensures.within c.index_of-index.ensures.item c.index_mut.ensures.value
+    let w = renaming _ c.args.self.now c.args.number c.args.offset _ c.index_mut.result.now
+    c.index_mut.result.now c.self.view_is c.requires.laid c.requires.block
+    c.place_of-index.ensures.within c.place_of-index.ensures.item c.index_mut.ensures.value
     c.index_mut.ensures.value _ _ _ c.behind-self.view_is
     c.args.name c.rename.ensures.renamed c.rename.ensures.gaps in
     let laid = subst (λ (l : CarrierList). AreLaid l.contents) (sym c.self.view_is)
@@ -38,9 +38,9 @@ invariant_of-self c =
 
 pub returns-clause-renamed : goal.returns-clause-renamed
 returns-clause-renamed c =
-    let w = renaming _ c.args.self.now c.args.number c.args.offset _ _ c.index_mut.result.now
-    c.index_mut.result.now c.self.view_is c.requires.laid c.requires.block c.deref.ensures.value
-    c.index_of-index.ensures.within c.index_of-index.ensures.item c.index_mut.ensures.value
+    let w = renaming _ c.args.self.now c.args.number c.args.offset _ c.index_mut.result.now
+    c.index_mut.result.now c.self.view_is c.requires.laid c.requires.block
+    c.place_of-index.ensures.within c.place_of-index.ensures.item c.index_mut.ensures.value
     c.index_mut.ensures.value _ _ _ c.behind-self.view_is
     c.args.name c.rename.ensures.renamed c.rename.ensures.gaps in
     ap (λ cs. record { strategy = c.self.inside.strategy; contents = cs }) w.is

@@ -13,16 +13,16 @@ use Rattle.ea_employed.proofs.carriers.Carriers.shrink.Goals as goal
 
 pub address-address-requires-clause-within : goal.address-address-requires-clause-within
 address-address-requires-clause-within c =
-    (found-at _ c.args.self.now c.args.number c.args.offset _ _ c.index.result.now c.self.view_is
-    c.requires.laid c.requires.block c.deref.ensures.value c.index_of-index.ensures.within
-    c.index_of-index.ensures.item c.index.ensures).within
+    (found-at _ c.args.self.now c.args.number c.args.offset _ c.index.result.now c.self.view_is
+    c.requires.laid c.requires.block c.place_of-index.ensures.within
+    c.place_of-index.ensures.item c.index.ensures).within
 
 pub update-requires : goal.update-requires
 update-requires c =
-    let w = shrinking _ c.args.self.now c.args.number c.args.offset _ _ c.index.result.now
+    let w = shrinking _ c.args.self.now c.args.number c.args.offset _ c.index.result.now
     c.index_mut.result.now
-    c.self.view_is c.requires.laid c.requires.block c.deref.ensures.value
-    c.index_of-index.ensures.within c.index_of-index.ensures.item c.index.ensures
+    c.self.view_is c.requires.laid c.requires.block
+    c.place_of-index.ensures.within c.place_of-index.ensures.item c.index.ensures
     c.index_mut.ensures.value _ _ _ c.behind-self.view_is
     c.args.need c.args.name c.address-address.result c.shrink-block.result c.address-address.ensures
     c.shrink-block.ensures.shrunk c.requires.fewer c.requires.even c.requires.least
@@ -33,10 +33,10 @@ update-requires c =
 
 pub note_released-requires-clause-held : goal.note_released-requires-clause-held
 note_released-requires-clause-held c =
-    let w = shrinking _ c.args.self.now c.args.number c.args.offset _ _ c.index.result.now
+    let w = shrinking _ c.args.self.now c.args.number c.args.offset _ c.index.result.now
     c.index_mut.result.now
-    c.self.view_is c.requires.laid c.requires.block c.deref.ensures.value
-    c.index_of-index.ensures.within c.index_of-index.ensures.item c.index.ensures
+    c.self.view_is c.requires.laid c.requires.block
+    c.place_of-index.ensures.within c.place_of-index.ensures.item c.index.ensures
     c.index_mut.ensures.value _ _ _ c.behind-self.view_is
     c.args.need c.args.name c.address-address.result c.shrink-block.result c.address-address.ensures
     c.shrink-block.ensures.shrunk c.requires.fewer c.requires.even c.requires.least
@@ -53,10 +53,10 @@ note_released-requires-clause-held c =
 
 pub invariant_of-self-2 : goal.invariant_of-self-2
 invariant_of-self-2 c =
-    let w = shrinking _ c.args.self.now c.args.number c.args.offset _ _ c.index.result.now
+    let w = shrinking _ c.args.self.now c.args.number c.args.offset _ c.index.result.now
     c.index_mut.result.now
-    c.self.view_is c.requires.laid c.requires.block c.deref.ensures.value
-    c.index_of-index.ensures.within c.index_of-index.ensures.item c.index.ensures
+    c.self.view_is c.requires.laid c.requires.block
+    c.place_of-index.ensures.within c.place_of-index.ensures.item c.index.ensures
     c.index_mut.ensures.value _ _ _ c.behind-self.view_is
     c.args.need c.args.name c.address-address.result c.shrink-block.result c.address-address.ensures
     c.shrink-block.ensures.shrunk c.requires.fewer c.requires.even c.requires.least
@@ -85,10 +85,10 @@ invariant_of-self-2 c =
 
 pub with_size-self-inside-requires : goal.with_size-self-inside-requires
 with_size-self-inside-requires c =
-    let w = shrinking _ c.args.self.now c.args.number c.args.offset _ _ c.index.result.now
+    let w = shrinking _ c.args.self.now c.args.number c.args.offset _ c.index.result.now
     c.index_mut.result.now
-    c.self.view_is c.requires.laid c.requires.block c.deref.ensures.value
-    c.index_of-index.ensures.within c.index_of-index.ensures.item c.index.ensures
+    c.self.view_is c.requires.laid c.requires.block
+    c.place_of-index.ensures.within c.place_of-index.ensures.item c.index.ensures
     c.index_mut.ensures.value _ _ _ c.behind-self.view_is
     c.args.need c.args.name c.address-address.result c.shrink-block.result c.address-address.ensures
     c.shrink-block.ensures.shrunk c.requires.fewer c.requires.even c.requires.least
@@ -104,10 +104,10 @@ with_size-self-inside-requires c =
 
 pub overflow_sub-rest : goal.overflow_sub-rest
 overflow_sub-rest c =
-    let w = shrinking _ c.args.self.now c.args.number c.args.offset _ _ c.index.result.now
+    let w = shrinking _ c.args.self.now c.args.number c.args.offset _ c.index.result.now
     c.index_mut.result.now
-    c.self.view_is c.requires.laid c.requires.block c.deref.ensures.value
-    c.index_of-index.ensures.within c.index_of-index.ensures.item c.index.ensures
+    c.self.view_is c.requires.laid c.requires.block
+    c.place_of-index.ensures.within c.place_of-index.ensures.item c.index.ensures
     c.index_mut.ensures.value _ _ _ c.behind-self.view_is
     c.args.need c.args.name c.address-address.result c.shrink-block.result c.address-address.ensures
     c.shrink-block.ensures.shrunk c.requires.fewer c.requires.even c.requires.least
@@ -119,10 +119,10 @@ overflow_sub-rest c =
 
 pub overflow_add-address : goal.overflow_add-address
 overflow_add-address c =
-    let w = shrinking _ c.args.self.now c.args.number c.args.offset _ _ c.index.result.now
+    let w = shrinking _ c.args.self.now c.args.number c.args.offset _ c.index.result.now
     c.index_mut.result.now
-    c.self.view_is c.requires.laid c.requires.block c.deref.ensures.value
-    c.index_of-index.ensures.within c.index_of-index.ensures.item c.index.ensures
+    c.self.view_is c.requires.laid c.requires.block
+    c.place_of-index.ensures.within c.place_of-index.ensures.item c.index.ensures
     c.index_mut.ensures.value _ _ _ c.behind-self.view_is
     c.args.need c.args.name c.address-address.result c.shrink-block.result c.address-address.ensures
     c.shrink-block.ensures.shrunk c.requires.fewer c.requires.even c.requires.least
@@ -141,10 +141,10 @@ overflow_add-address c =
 
 pub returns-clause-ok : goal.returns-clause-ok
 returns-clause-ok c =
-    let w = shrinking _ c.args.self.now c.args.number c.args.offset _ _ c.index.result.now
+    let w = shrinking _ c.args.self.now c.args.number c.args.offset _ c.index.result.now
     c.index_mut.result.now
-    c.self.view_is c.requires.laid c.requires.block c.deref.ensures.value
-    c.index_of-index.ensures.within c.index_of-index.ensures.item c.index.ensures
+    c.self.view_is c.requires.laid c.requires.block
+    c.place_of-index.ensures.within c.place_of-index.ensures.item c.index.ensures
     c.index_mut.ensures.value _ _ _ c.behind-self.view_is
     c.args.need c.args.name c.address-address.result c.shrink-block.result c.address-address.ensures
     c.shrink-block.ensures.shrunk c.requires.fewer c.requires.even c.requires.least
