@@ -4,6 +4,7 @@ pub mod Merging
 pub mod Owned
 pub mod Reallocating
 pub mod Migrating
+pub mod Numbering
 pub mod Planning
 pub mod HandingOut
 pub mod HandFigures

@@ -60,12 +60,21 @@ impl OwnCarriers {
         requires { first + NUMBERS < 2 ^ 32 }
         ensures { result ≡ unused_from NUMBERS first self.now.carriers }
     {
-        for k in 0..NUMBERS {
-            if item_of(first + k, &self.list).is_none() {
-                return Some(first + k);
+        let last = first + (NUMBERS - 1);
+        let mut number = first;
+        // The carriers stand by rising number, so one pass finds it.
+        for carrier in &self.list {
+            if number < carrier.number {
+                break;
+            }
+            if number == carrier.number {
+                if number == last {
+                    return None;
+                }
+                number += 1;
             }
         }
-        None
+        Some(number)
     }
 
     /// Whether the carrier with the number is one of them.

@@ -1,38 +1,39 @@
-use Rattle.std.proofs.Common.{◌≡◌, ◌+◌, sym, ap, ◌∙◌, refl, arith}
-use Rattle.std.specs.Prelude.{is_some}
-use Rattle.ea_model.specs.declared.units.TheConstants.{NUMBERS}
-use Rattle.ea_model.specs.Instance.{own_at, unused_from}
-use Rattle.ea_model.proofs.Options.{is_some-map}
-use Rattle.ea_laws.proofs.Unused.{stops_here, goes_on, ends}
+use Rattle.std.proofs.Common.{◌≡◌, sym, ap, ◌∙◌, subst}
+use Rattle.ea_laws.specs.Kept.{IsRisingOwn}
 use Rattle.ea_instance.specs.Own.{OwnList}
+use Rattle.ea_instance.proofs.Numbering.{IsNext, next_at, next_before, next_end, next_first}
+use Rattle.ea_instance.proofs.Numbering.{next_none, next_past, next_up}
 use Rattle.ea_instance.proofs.own.OwnCarriers.unused_number.Goals as goal
 
-pub loop-k-init : goal.loop-k-init
-loop-k-init c =
-    let at : c.args.first + 0 ≡ c.args.first = omega arith in
-    (NUMBERS, refl, ap (λ n. unused_from NUMBERS n c.args.self.now.carriers) at)
+pub loop-carrier-init : goal.loop-carrier-init
+loop-carrier-init c =
+    let first = c.args.first in
+    let own = c.args.self.now.carriers in
+    let seen : c.self.inside.list.items ≡ own = ap (λ (o : OwnList). o.carriers) c.self.view_is in
+    subst (λ os. IsNext first first os own) (sym (c.deref-carrier-items.ensures.value ∙ seen))
+    (next_first first own (subst IsRisingOwn seen c.self.invariant.rising))
 
-pub loop-k-preserved : goal.loop-k-preserved
-loop-k-preserved c =
-    let (left, count, same) = c.loop-k.invariant in
-    goes_on left c.loop-k.k c.args.first c.args.self.now.carriers _ count c.loop-k-test.true
-    (ap (λ (o : OwnList). is_some (own_at o.carriers (c.args.first + c.loop-k.k)))
-    (sym c.self.view_is)
-    ∙ ap (λ os. is_some (own_at os (c.args.first + c.loop-k.k))) (sym c.deref.ensures.value)
-    ∙ ap is_some (sym c.item_of.ensures) ∙ is_some-map _ c.item_of.result ∙ c.if-is_none.ensures)
-    same
+pub loop-carrier-preserved : goal.loop-carrier-preserved
+loop-carrier-preserved c =
+    let here = next_at _ _ _ _ _ c.loop-carrier-test.true c.loop-carrier.invariant in
+    elim c.if-number-carrier-2.branch [
+      | goal.then-number-carrier-2+else-number-last w ↦
+          next_up _ _ _ _ _ here _ w.number-is w.if-number-carrier-2.true w.if-number-last.false
+      | goal.else-number-carrier-2 w ↦
+          next_past _ _ _ _ _ here _ w.number-is c.if-number-carrier.false
+          w.if-number-carrier-2.false
+    ]
 
-pub returns-then-is_none : goal.returns-then-is_none
-returns-then-is_none c =
-    let (left, count, same) = c.loop-k.invariant in
-    stops_here left c.loop-k.k c.args.first c.args.self.now.carriers _ count c.loop-k-test.true
-    (ap (λ (o : OwnList). is_some (own_at o.carriers (c.args.first + c.loop-k.k)))
-    (sym c.self.view_is)
-    ∙ ap (λ os. is_some (own_at os (c.args.first + c.loop-k.k))) (sym c.deref.ensures.value)
-    ∙ ap is_some (sym c.item_of.ensures) ∙ is_some-map _ c.item_of.result ∙ c.if-is_none.ensures)
-    same
+pub returns-then-number-last : goal.returns-then-number-last
+returns-then-number-last c =
+    next_none _ _ _ _ _ (next_at _ _ _ _ _ c.loop-carrier-test.true c.loop-carrier.invariant)
+    c.if-number-carrier-2.true c.if-number-last.true
 
-pub returns : goal.returns
-returns c =
-    let (left, count, same) = c.loop-k.invariant in
-    ends left c.loop-k.k c.args.first c.args.self.now.carriers _ count (omega arith) same
+pub returns-then-number-carrier : goal.returns-then-number-carrier
+returns-then-number-carrier c =
+    next_before _ _ _ _ _ (next_at _ _ _ _ _ c.loop-carrier-test.true c.loop-carrier.invariant)
+    c.if-number-carrier.true
+
+pub returns-after-loop-carrier : goal.returns-after-loop-carrier
+returns-after-loop-carrier c =
+    next_end _ _ _ _ _ c.loop-carrier-test.false c.loop-carrier.invariant
