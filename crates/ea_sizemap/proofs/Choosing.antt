@@ -183,18 +183,19 @@ least_some ss n size above bound k en eb some i ne a =
     let w = (least_is ss n size above bound k en eb some i ne).0 in
     absurd (omega (arith, w.great, All-contains (λ s. s < size) ss (k / n) a w.held))
 
+-- the key of a position of the size
+key_of_size : (ss : List ℕ) (n size floor : ℕ) → n ≡ length ss → floor ≡ key n size 0 → (q : ℕ)
+    → slice_index ss q ≡ size → key (length ss) (slice_index ss q) q ≡ floor + q
+key_of_size ss n size floor en ef q e =
+    rw (← en, e) (omega (arith, key_at n size q, ef))
+
 -- the position of the first key of a size
 pub lowest_is : (ss : List ℕ) (n size above floor k : ℕ) → n ≡ length ss → floor ≡ key n size 0
     → 1 ≤ size → Contains ss size → IsFirstKey above floor ss k
     → IsLowestOf size ss (k - floor)
 lowest_is ss n size above floor k en ef some h i =
     let w = holder ss size h in
-    let key_of : (q : ℕ) → slice_index ss q ≡ size
-    → key (length ss) (slice_index ss q) q ≡ floor + q = λ q e.
-    ap (λ x. key x (slice_index ss q) q) (sym en)
-    ∙ ap (λ x. key n x q) e
-    ∙ key_at n size q
-    ∙ ap (λ x. x + q) (sym ef) in
+    let key_of = key_of_size ss n size floor en ef in
     let first : (q : ℕ) → slice_index ss q ≡ size → k ≤ floor + q = λ q e.
     omega (arith, key_of q e, i.least q (omega (arith, e, some)) (omega (arith, key_of q e))) in
     let ne : k ≢ above = λ e.
@@ -241,12 +242,7 @@ pub highest_is : (ss : List ℕ) (n size floor k : ℕ) → n ≡ length ss → 
     → IsHighestOf size ss (k - floor) × (floor ≤ k)
 highest_is ss n size floor k en ef some h i =
     let w = holder ss size h in
-    let key_of : (q : ℕ) → slice_index ss q ≡ size
-    → key (length ss) (slice_index ss q) q ≡ floor + q = λ q e.
-    ap (λ x. key x (slice_index ss q) q) (sym en)
-    ∙ ap (λ x. key n x q) e
-    ∙ key_at n size q
-    ∙ ap (λ x. x + q) (sym ef) in
+    let key_of = key_of_size ss n size floor en ef in
     let last : (q : ℕ) → q < length ss → slice_index ss q ≡ size → floor + q ≤ k = λ q in_q e.
     omega
     (arith, key_of q e, i.greatest q (omega (arith, e, some)) (omega (arith, key_of q e, in_q, en)))

@@ -8,7 +8,7 @@ use Rattle.ea_sizemap.specs.declared.nodes.Node.{Node}
 use Rattle.ea_sizemap.specs.Trees.{Tree, leaf, node, Has, Shows, IsTree, key, keys_of}
 use Rattle.ea_sizemap.specs.Trees.{node_at, sizes_of, IsGreatestKey}
 use Rattle.ea_sizemap.proofs.Standing.{within}
-use Rattle.ea_sizemap.proofs.Searching.{size-at}
+use Rattle.ea_sizemap.proofs.Searching.{size-at, root_key}
 
 pub greatest_empty : (keys : ℕ → ℕ) (nodes : List Node) (bound link from width : ℕ) (t : Tree)
     → IsTree keys nodes link from width t → link ≡ 0 → IsGreatestKey keys bound t 0
@@ -32,7 +32,9 @@ own_greatest bound k own e = elim (cases_lt bound k) [
   | inl lt ↦
       let f : own ≡ 0 = grind (arith, nat_tests) in
       (λ le. absurd (omega arith), λ ne. absurd (ne f))
-  | inr ge ↦ let f : own ≡ k = grind (arith, nat_tests) in (λ le. omega arith, λ ne. (f, omega arith))
+  | inr ge ↦
+      let f : own ≡ k = grind (arith, nat_tests) in
+      (λ le. omega arith, λ ne. (f, omega arith))
 ]
 
 -- what the greater of two is
@@ -43,16 +45,17 @@ greater a b = elim (cases_lt a b) [ inl lt ↦ inr (omega arith) | inr le ↦ in
 root_greatest : (span : ℕ) (nodes : List Node) (bound link from width own high best : ℕ)
     (l : Tree) (p : ℕ) (r : Tree)
     → IsTree (keys_of span (sizes_of nodes)) nodes link from width (node l p r)
-    → own ≡ (if nat_lt bound (key span (node_at nodes (link - 1)).size (link - 1)) then 0 else
-    key span (node_at nodes (link - 1)).size (link - 1))
+    → own ≡ (if nat_lt bound (root_key span nodes link) then 0 else
+    root_key span nodes link)
     → ((u : Tree) → IsTree (keys_of span (sizes_of nodes)) nodes (node_at nodes (link - 1)).high
-    (from + width / 2) (width - width / 2) u → IsGreatestKey (keys_of span (sizes_of nodes)) bound u high)
+    (from + width / 2) (width - width / 2) u
+    → IsGreatestKey (keys_of span (sizes_of nodes)) bound u high)
     → best ≡ max own high
     → IsGreatestKey (keys_of span (sizes_of nodes)) bound (node leaf p r) best
 root_greatest span nodes bound link from width own high best l p r i o f e =
     let keys = keys_of span (sizes_of nodes) in
     let at : link - 1 ≡ p = omega (arith, i.shown.0) in
-    let k : key span (node_at nodes (link - 1)).size (link - 1) ≡ keys p =
+    let k : root_key span nodes link ≡ keys p =
     ap (λ x. key span (node_at nodes x).size x) at ∙ ap (λ x. key span x p) (size-at nodes p) in
     let w = own_greatest bound (keys p) own
     (subst (λ x. own ≡ (if nat_lt bound x then 0 else x)) k o) in
@@ -86,10 +89,11 @@ in_whole l p r q h = elim h [
 
 pub greatest_half : (span : ℕ) (nodes : List Node) (bound link from width own high best : ℕ)
     (t : Tree) → IsTree (keys_of span (sizes_of nodes)) nodes link from width t → link ≢ 0
-    → own ≡ (if nat_lt bound (key span (node_at nodes (link - 1)).size (link - 1)) then 0 else
-    key span (node_at nodes (link - 1)).size (link - 1))
+    → own ≡ (if nat_lt bound (root_key span nodes link) then 0 else
+    root_key span nodes link)
     → ((u : Tree) → IsTree (keys_of span (sizes_of nodes)) nodes (node_at nodes (link - 1)).high
-    (from + width / 2) (width - width / 2) u → IsGreatestKey (keys_of span (sizes_of nodes)) bound u high)
+    (from + width / 2) (width - width / 2) u
+    → IsGreatestKey (keys_of span (sizes_of nodes)) bound u high)
     → best ≡ max own high → from + width / 2 ≤ best
     → IsGreatestKey (keys_of span (sizes_of nodes)) bound t best
 greatest_half span nodes bound link from width own high best leaf i ne o f e lt =
@@ -113,10 +117,11 @@ greatest_half span nodes bound link from width own high best (node l p r) i ne o
 pub greatest_whole : (span : ℕ) (nodes : List Node)
     (bound link from width own high best low out : ℕ) (t : Tree)
     → IsTree (keys_of span (sizes_of nodes)) nodes link from width t → link ≢ 0
-    → own ≡ (if nat_lt bound (key span (node_at nodes (link - 1)).size (link - 1)) then 0 else
-    key span (node_at nodes (link - 1)).size (link - 1))
+    → own ≡ (if nat_lt bound (root_key span nodes link) then 0 else
+    root_key span nodes link)
     → ((u : Tree) → IsTree (keys_of span (sizes_of nodes)) nodes (node_at nodes (link - 1)).high
-    (from + width / 2) (width - width / 2) u → IsGreatestKey (keys_of span (sizes_of nodes)) bound u high)
+    (from + width / 2) (width - width / 2) u
+    → IsGreatestKey (keys_of span (sizes_of nodes)) bound u high)
     → best ≡ max own high
     → ((u : Tree) → IsTree (keys_of span (sizes_of nodes)) nodes (node_at nodes (link - 1)).low from
     (width / 2) u

@@ -234,6 +234,9 @@ removed_map most nodes mid root out position low high m lt b =
 abbrev pub seen : ℕ → List Node → Sizes
 seen most nodes = record { most = most; held = sizes_of nodes }
 
+abbrev with_held : Sizes → List ℕ → Sizes
+with_held s ss = record s { held = ss }
+
 pub put_key : (most : ℕ) (nodes : List Node) (s : Sizes) (size position width n : ℕ)
     → seen most nodes ≡ s → (1 ≤ size) × (size ≤ s.most) → position < length s.held
     → n ≡ length nodes → width ≡ (most + 1) * n → key n size position < width
@@ -290,9 +293,8 @@ put_map most nodes start new end s root out size position width k n v m some lt 
     let b' = rw (es, ew, en') at b in (
       rw last (inserted_map most nodes new root out size position m some.0 lt' b'),
       rw last
-          (ap (λ (ss : List ℕ). let x : Sizes = record { most = most; held = ss } in x)
-          (inserted_sizes nodes new size position b'.sizes)
-          ∙ ap (λ (x : Sizes). let y : Sizes = record x { held = set x.held position size } in y) v),
+          (ap (with_held (seen most nodes)) (inserted_sizes nodes new size position b'.sizes)
+          ∙ ap (λ (x : Sizes). with_held x (set x.held position size)) v),
     )
 
 pub take_key : (most : ℕ) (nodes : List Node) (s : Sizes) (root size position width n : ℕ)
@@ -347,7 +349,6 @@ take_map most nodes start mid new s root out size position width k n low high v 
     let b' = rw (es, ew, en') at b in (
       rw last (removed_map most nodes mid root out position low high m lt' b'),
       rw last
-          (ap (λ (ss : List ℕ). let x : Sizes = record { most = most; held = ss } in x)
-          (removed_sizes mid nodes position low high b'.sizes)
-          ∙ ap (λ (x : Sizes). let y : Sizes = record x { held = set x.held position 0 } in y) v),
+          (ap (with_held (seen most nodes)) (removed_sizes mid nodes position low high b'.sizes)
+          ∙ ap (λ (x : Sizes). with_held x (set x.held position 0)) v),
     )

@@ -15,11 +15,15 @@ size-at [] p = refl
 size-at (n ∷ ns) zero = refl
 size-at (n ∷ ns) (suc p) = size-at ns p
 
+-- the key of the root of a tree
+abbrev pub root_key : ℕ → List Node → ℕ → ℕ
+root_key span nodes link = key span (node_at nodes (link - 1)).size (link - 1)
+
 -- a tree at a link that isn't 0
 pub here : (span : ℕ) (nodes : List Node) (link from width : ℕ) (t : Tree)
     → IsTree (keys_of span (sizes_of nodes)) nodes link from width t → link ≢ 0
     → (link - 1 < length nodes)
-    × (key span (node_at nodes (link - 1)).size (link - 1) < from + width)
+    × (root_key span nodes link < from + width)
 here span nodes link from width leaf i ne = absurd (ne i.shown)
 here span nodes link from width (node l p r) i ne =
     let e : p ≡ link - 1 = omega (arith, i.shown.0) in
@@ -90,7 +94,9 @@ own_least above bound k own e = elim (cases_lt k bound) [
   | inl lt ↦
       let f : own ≡ above = grind (arith, nat_tests) in
       (λ le. absurd (omega arith), λ ne. absurd (ne f))
-  | inr ge ↦ let f : own ≡ k = grind (arith, nat_tests) in (λ le. omega arith, λ ne. (f, omega arith))
+  | inr ge ↦
+      let f : own ≡ k = grind (arith, nat_tests) in
+      (λ le. omega arith, λ ne. (f, omega arith))
 ]
 
 -- what the lesser of two is
@@ -101,8 +107,8 @@ lesser a b = elim (cases_lt a b) [ inl lt ↦ inl (omega arith) | inr le ↦ inr
 root_least : (span : ℕ) (nodes : List Node) (above bound link from width own low best : ℕ)
     (l : Tree) (p : ℕ) (r : Tree)
     → IsTree (keys_of span (sizes_of nodes)) nodes link from width (node l p r)
-    → own ≡ (if nat_lt (key span (node_at nodes (link - 1)).size (link - 1)) bound then above else
-    key span (node_at nodes (link - 1)).size (link - 1))
+    → own ≡ (if nat_lt (root_key span nodes link) bound then above else
+    root_key span nodes link)
     → ((u : Tree) → IsTree (keys_of span (sizes_of nodes)) nodes (node_at nodes (link - 1)).low from
     (width / 2) u → IsLeastKey (keys_of span (sizes_of nodes)) above bound u low)
     → best ≡ min own low
@@ -110,7 +116,7 @@ root_least : (span : ℕ) (nodes : List Node) (above bound link from width own l
 root_least span nodes above bound link from width own low best l p r i o f e =
     let keys = keys_of span (sizes_of nodes) in
     let at : link - 1 ≡ p = omega (arith, i.shown.0) in
-    let k : key span (node_at nodes (link - 1)).size (link - 1) ≡ keys p =
+    let k : root_key span nodes link ≡ keys p =
     ap (λ x. key span (node_at nodes x).size x) at ∙ ap (λ x. key span x p) (size-at nodes p) in
     let w = own_least above bound (keys p) own
     (subst (λ x. own ≡ (if nat_lt x bound then above else x)) k o) in
@@ -144,8 +150,8 @@ in_whole l p r q h = elim h [
 
 pub least_half : (span : ℕ) (nodes : List Node) (above bound link from width own low best : ℕ)
     (t : Tree) → IsTree (keys_of span (sizes_of nodes)) nodes link from width t → link ≢ 0
-    → own ≡ (if nat_lt (key span (node_at nodes (link - 1)).size (link - 1)) bound then above else
-    key span (node_at nodes (link - 1)).size (link - 1))
+    → own ≡ (if nat_lt (root_key span nodes link) bound then above else
+    root_key span nodes link)
     → ((u : Tree) → IsTree (keys_of span (sizes_of nodes)) nodes (node_at nodes (link - 1)).low from
     (width / 2) u → IsLeastKey (keys_of span (sizes_of nodes)) above bound u low)
     → best ≡ min own low → best < from + width / 2
@@ -171,8 +177,8 @@ least_half span nodes above bound link from width own low best (node l p r) i ne
 pub least_whole : (span : ℕ) (nodes : List Node)
     (above bound link from width own low best high out : ℕ) (t : Tree)
     → IsTree (keys_of span (sizes_of nodes)) nodes link from width t → link ≢ 0
-    → own ≡ (if nat_lt (key span (node_at nodes (link - 1)).size (link - 1)) bound then above else
-    key span (node_at nodes (link - 1)).size (link - 1))
+    → own ≡ (if nat_lt (root_key span nodes link) bound then above else
+    root_key span nodes link)
     → ((u : Tree) → IsTree (keys_of span (sizes_of nodes)) nodes (node_at nodes (link - 1)).low from
     (width / 2) u → IsLeastKey (keys_of span (sizes_of nodes)) above bound u low)
     → best ≡ min own low

@@ -63,8 +63,7 @@ low_part keys nodes link from width key position l p r m ne lt =
         | inr n ↦ elim n [
           | inl x ↦ x
           | inr y ↦
-              let w = within keys (from + width / 2) (width - width / 2) r m.stands.laid.3 position y
-              in
+              let w = within keys _ _ r m.stands.laid.3 position y in
               absurd (omega (arith, w, m.key_is, lt))
         ]
       ];

@@ -5,5 +5,7 @@
 pub mod map;
 mod nodes;
 mod searches;
+#[cfg(test)]
+mod tests;
 
 pub use map::SizeMap;

@@ -1,6 +1,7 @@
 //! The map and its calls.
 ghost use Rattle.std.specs.Prelude.{◌≡◌, ℕ, ◌+◌, ◌-◌, ◌*◌, ◌^◌, ◌<◌, ◌≤◌, ◌↔◌, length};
-ghost use Rattle.std.specs.Prelude.{replicate, slice_index, slice_set, IfOk, IfSome, IsNone, All, Contains};
+ghost use Rattle.std.specs.Prelude.{replicate, slice_index, slice_set, IfOk, IfSome, IsNone};
+ghost use Rattle.std.specs.Prelude.{All, Contains};
 ghost use Rattle.ea_sizemap.specs.Held.{IsLeastAtLeast, IsLowestOf, IsHighestOf};
 ghost use Rattle.ea_sizemap.specs.Held.{IsFirstKey, IsLastKey};
 

@@ -1,7 +1,7 @@
 //! Trees of positions by their keys. A tree is over a number of keys from some key on. The trees
-//! below its root are over the lower and over the upper half of these, so that a tree over 2^64 keys
-//! is at most 65 nodes deep, whatever is put in. A link to a tree is the position of its root + 1,
-//! or 0 where it is empty.
+//! below its root are over the lower and over the upper half of these, so that a tree over 2^64
+//! keys is at most 65 nodes deep, whatever is put in. A link to a tree is the position of its
+//! root + 1, or 0 where it is empty.
 ghost use Rattle.std.specs.Prelude.{◌≡◌, ◌≢◌, ℕ, ◌+◌, ◌^◌, ◌<◌, ◌⊎◌, length};
 ghost use Rattle.ea_sizemap.specs.Trees.{Tree, Has, Becomes, MayPut, MayTake, MayRaise};
 
