@@ -35,7 +35,7 @@ unfolding key
 floor_fits span size s l =
     omega (arith, mul-le size span (2 ^ 32 - 1) (2 ^ 32 - 1) (omega arith) (omega arith))
 
--- a size below the bound's
+-- the key of a held size is above 0
 pub key_positive : (span s p : ℕ) → p < span → 0 < s → 0 < key span s p
 key_positive span s p lt l = omega (arith, key_rises span 0 p s p lt l)
 
@@ -72,13 +72,6 @@ small most nodes root m lt q = elim (cases_lt 0 (slice_index (sizes_of nodes) q)
       )
   | inr le ↦ omega (arith, le)
 ]
-
-pub tree_there : (most : ℕ) (nodes start : List Node) (root width n : ℕ) → IsMap most nodes root
-    → start ≡ nodes → n ≡ length nodes → width ≡ (most + 1) * n
-    → (t : Tree) × IsTree (keys_of n (sizes_of start)) start root 0 width t
-tree_there most nodes start root width n m es en ew =
-    let en' : n ≡ length (sizes_of nodes) = omega (arith, en, length-map nodes size_of) in
-    (m.tree, rw (es, ew, en') m.stands)
 
 pub first_is : (most : ℕ) (nodes start : List Node) (s : Sizes) (root width n above bound k : ℕ)
     → seen most nodes ≡ s → IsMap most nodes root → most < 2 ^ 32 → width < above + 1

@@ -4,7 +4,7 @@ use Rattle.std.proofs.Common.{sym, ap, ◌∙◌, subst, arith, List, [], ◌∷
 use Rattle.std.proofs.Common.{zero, suc, replicate, slice_index}
 use Rattle.std.proofs.lemmas.List.{get_or-set_same, get_or-set_other, length-set, length-map}
 use Rattle.std.proofs.lemmas.List.{map-set, length-replicate}
-use Rattle.std.proofs.lemmas.Nat.{mul-add-lt, same_from_place, mul-le}
+use Rattle.std.proofs.lemmas.Nat.{mul-add-lt, same_from_place}
 use Rattle.std.proofs.lemmas.Bool.{cases_eq}
 use Rattle.ea_sizemap.specs.declared.nodes.Node.{Node}
 use Rattle.ea_sizemap.specs.Trees.{Tree, leaf, node, Has, Shows, Laid, Becomes, IsMap}
@@ -24,12 +24,6 @@ pub key_apart : (span size position s q : ℕ) → position < span → q < span
     → key span s q ≡ key span size position → q ≡ position
 unfolding key
 key_apart span size position s q lt l e = (same_from_place s q size position span l lt e).1
-
-pub width_lt : (most positions : ℕ) → most < 2 ^ 32 → positions < 2 ^ 32
-    → (most + 1) * positions < 2 ^ 64 - 1
-width_lt most positions m p =
-    omega
-    (arith, mul-le (most + 1) positions (2 ^ 32) (2 ^ 32 - 1) (omega arith) (omega arith))
 
 -- a position that holds a size is one of all
 pub in_list : (ss : List ℕ) (q : ℕ) → 0 < slice_index ss q → q < length ss
@@ -318,16 +312,6 @@ take_must most nodes start s root size position width k n v m some held es en ew
     rw (es, ew, ek, en')
     (remove_may most nodes root size position m some
     (subst (λ (x : Sizes). slice_index x.held position ≡ size) (sym v) held))
-
-pub take_may : (most : ℕ) (nodes start : List Node) (s : Sizes) (root size position width k n : ℕ)
-    → seen most nodes ≡ s → IsMap most nodes root → 1 ≤ size
-    → slice_index s.held position ≡ size → start ≡ nodes → n ≡ length nodes
-    → width ≡ (most + 1) * n → k ≡ key n size position
-    → (x : ℕ → ℕ) × ((t : Tree) × MayTake x start root 0 width k position t)
-take_may most nodes start s root size position width k n v m some held es en ew ek = (
-  keys_of (length (sizes_of nodes)) (sizes_of nodes),
-  (m.tree, take_must most nodes start s root size position width k n v m some held es en ew ek),
-)
 
 pub take_map : (most : ℕ) (nodes start mid new : List Node) (s : Sizes)
     (root out size position width k n low high : ℕ) → seen most nodes ≡ s
