@@ -1,5 +1,6 @@
 //! How strategies search, and how they compare gaps.
-ghost use Rattle.std.specs.Prelude.{◌≡◌};
+ghost use Rattle.std.specs.Prelude.{◌≡◌, ◌≢◌};
+ghost use Rattle.ea_model.specs.declared.settings.Strategy.TheVariants.{Gf};
 ghost use Rattle.ea_model.specs.Strategies as strategies;
 ghost use Rattle.ea_employed.specs.Better.{better_of};
 ghost use Rattle.ea_employed.specs.Searches.{goes_before, is_better, search_of};
@@ -43,6 +44,17 @@ pub fn inner_of(strategy: Strategy) -> Inner
         Strategy::Bf | Strategy::AoffCbf | Strategy::AgeffCbf => Inner::Bf,
         Strategy::Aobf | Strategy::AoffCaobf | Strategy::AgeffCaobf | Strategy::Gf => Inner::Aobf,
         Strategy::Aoff | Strategy::AgeffCaoff | Strategy::Af => Inner::Aoff,
+    }
+}
+
+/// The order by which a carrier keeps its gaps under a strategy: that in which it is asked for
+/// them. Under good fit the bins choose among gaps.
+pub fn order_of(strategy: Strategy) -> Inner
+    ensures { strategy ≢ Gf → result ≡ strategies.inner_of strategy }
+{
+    match strategy {
+        Strategy::Gf => Inner::Aoff,
+        _ => inner_of(strategy),
     }
 }
 

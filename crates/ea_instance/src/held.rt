@@ -182,6 +182,17 @@ impl Held {
 }
 
 impl Instance {
+    /// Takes a carrier that is deallocated. The next one can be made of it if it is a multiblock
+    /// carrier without blocks, and else it is dropped.
+    pub fn discard(&mut self, content: Held)
+        ensures { self.new ≡ self.old }
+    {
+        match content.part {
+            Part::Multi { carrier } => self.spare.keep(carrier),
+            Part::Single { .. } => (),
+        }
+    }
+
     /// Gives up a carrier that it employs and that isn't the main one, into the hand: answers it.
     /// If it owns it, it still does. It takes no memory.
     pub fn hand_out(&mut self, number: u32) -> Held

@@ -33,8 +33,9 @@ ghost use Rattle.ea_laws.specs.Spots.{AllUsed, FindsNone, HaveSameBlocks, IsOthe
 
 use crate::lines::{put_merged, single_line};
 use crate::own::OwnCarriers;
+use ea_employed::strategies::order_of;
 use ea_employed::{Carriers, Employed, Singles};
-use ea_mbc::Mbc;
+use ea_mbc::{Mbc, Spare};
 use ea_model::keyed::item_of;
 use ea_model::{
     Block, CarrierLine, CarrierPlan, Decision, Figures, HEADER_UNITS, Kind, List, NUMBERS,
@@ -48,7 +49,8 @@ use std::marker::Model;
 
 /// An allocator instance. Contracts see its settings, its number, its region, the carriers that it
 /// owns, the contents of multiblock and of singleblock carriers that it employs, each by rising
-/// number, and how many carriers it created.
+/// number, and how many carriers it created. Beside these it keeps a carrier that was deallocated,
+/// of which the next one can be made.
 #[derive(Drop)]
 pub struct Instance {
     settings: Settings,
@@ -57,6 +59,7 @@ pub struct Instance {
     carriers: Carriers,
     singles: Singles,
     created: u32,
+    pub(crate) spare: Spare,
 }
 
 impl Model for Instance {
@@ -161,7 +164,7 @@ impl Instance {
         let mut created = 0;
         if settings.mmbcs > 0 {
             let plan = main_plan(settings, number, first);
-            let carrier = Mbc::new(alloc, plan, number)?;
+            let carrier = Mbc::new(alloc, plan, number, order_of(settings.strategy))?;
             let kind = Kind::Main;
             carriers.enter(Employed { kind, carrier })?;
             own.add(plan);
@@ -174,6 +177,7 @@ impl Instance {
             carriers,
             singles,
             created,
+            spare: Spare::new(),
         })
     }
 
@@ -380,13 +384,17 @@ impl Instance {
         }
     }
 
-    /// The multiblock carrier of a plan, without blocks. It isn't employed yet.
-    pub fn prepare(&self, alloc: Global, plan: CarrierPlan) -> Result<Mbc, OutOfMemory>
+    /// The multiblock carrier of a plan, without blocks. It isn't employed yet. It takes no memory
+    /// where a carrier that was deallocated last had as many units.
+    pub fn prepare(&mut self, alloc: Global, plan: CarrierPlan) -> Result<Mbc, OutOfMemory>
         requires pages { (1 ≤ plan.pages) × (plan.pages ≤ MAX_PAGES) }
         requires multi { plan.single ≡ false }
-        ensures { IfOk result (λ carrier. carrier ≡ created_content self.now.number Multi plan) }
+        ensures carrier { IfOk result
+            (λ carrier. carrier ≡ created_content self.old.number Multi plan) }
+        ensures same { self.new ≡ self.old }
     {
-        Mbc::new(alloc, plan, self.number)
+        let order = order_of(self.settings.strategy);
+        self.spare.carrier(alloc, plan, self.number, order)
     }
 
     /// Employs the multiblock carrier of its present plan for a block of `need` units. Where there
@@ -623,7 +631,8 @@ impl Instance {
         ensures gone { content_of (employed self.new) number ≡ None }
     {
         if self.has_multi(number) {
-            self.carriers.leave(number);
+            let employed = self.carriers.leave(number);
+            self.spare.keep(employed.carrier);
         } else {
             self.singles.leave(number);
         }

@@ -28,7 +28,7 @@ use Rattle.ea_mbc.proofs.Refitting.{resized-IsCoded, renamed-IsCoded}
 use Rattle.ea_mbc.proofs.Writing.{its_name-is, others-are}
 
 -- a content with these blocks
-abbrev as_content : Layout → Content
+abbrev pub as_content : Layout → Content
 as_content l =
     record {
       number = 0;

@@ -1,5 +1,6 @@
 pub mod Coding
 pub mod Gaps
+pub mod Index
 pub mod Indexed
 pub mod Layout
 pub mod Tagged

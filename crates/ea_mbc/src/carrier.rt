@@ -1,9 +1,11 @@
 //! The carrier and its calls.
-ghost use Rattle.std.specs.Prelude.{◌≡◌, ◌≢◌, ℕ, ◌+◌, ◌%◌, ◌<◌, ◌≤◌, ◌↔◌, [], All};
+ghost use Rattle.std.specs.Prelude.{◌≡◌, ◌≢◌, ℕ, ◌+◌, ◌*◌, ◌%◌, ◌<◌, ◌≤◌, ◌↔◌, []};
+ghost use Rattle.std.specs.Prelude.{All};
 ghost use Rattle.std.specs.Prelude.{Some, None, IsTrue, IsSome, IsNone, IfSome};
 ghost use Rattle.std.specs.Prelude.{IfOk, length, option_map};
 ghost use Rattle.ea_model.specs.declared.carriers.Kind.TheVariants.{Multi};
 ghost use Rattle.ea_model.specs.declared.units.TheConstants.{HEADER_UNITS, MAX_PAGES, MIN_BLOCK};
+ghost use Rattle.ea_model.specs.declared.units.TheConstants.{PAGE_UNITS};
 ghost use Rattle.ea_model.specs.Content.{gaps_of, gap_at, gap_before, gap_behind, block_at};
 ghost use Rattle.ea_model.specs.Content.{size_of, named, taken_of, placed, released};
 ghost use Rattle.ea_model.specs.Content.{resized, allocated, largest, free_units, Tiled};
@@ -95,13 +97,20 @@ impl Carried for Mbc {
 }
 
 impl Mbc {
-    /// The multiblock carrier of a plan, without blocks. `owner` is the instance that creates it.
-    pub fn new(alloc: Global, plan: CarrierPlan, owner: u32) -> Result<Mbc, OutOfMemory>
+    /// The multiblock carrier of a plan, without blocks. `owner` is the instance that creates it,
+    /// and `inner` the order in which its gaps will be chosen: in that order a choice takes a time
+    /// that is logarithmic in the carrier's units, and in others a walk over its blocks and gaps.
+    pub fn new(
+        alloc: Global,
+        plan: CarrierPlan,
+        owner: u32,
+        inner: Inner,
+    ) -> Result<Mbc, OutOfMemory>
         requires { (1 ≤ plan.pages) × (plan.pages ≤ MAX_PAGES) }
         ensures { IfOk result (λ m. m ≡ created_content owner Multi plan) }
     {
         let end = plan.pages * PAGE_UNITS;
-        let units = CarrierUnits::new(alloc, end)?;
+        let units = CarrierUnits::new(alloc, inner, end)?;
         Ok(Mbc {
             number: plan.number,
             owner,
@@ -112,6 +121,22 @@ impl Mbc {
             allocated: 0,
             count: 0,
         })
+    }
+
+    /// The multiblock carrier of a plan, made of this one, which has as many units and no blocks. It
+    /// takes no memory, and its gaps are found in the order in which this one's were.
+    pub fn renewed(self, plan: CarrierPlan, owner: u32) -> Mbc
+        requires units { PAGE_UNITS * plan.pages ≡ self.units }
+        requires empty { self.blocks ≡ [] }
+        ensures { result ≡ created_content owner Multi plan }
+    {
+        Mbc {
+            number: plan.number,
+            owner,
+            base: plan.base,
+            birth: plan.birth,
+            ..self
+        }
     }
 
     /// Its blocks lie one after another, behind its header, with whole gaps between them.

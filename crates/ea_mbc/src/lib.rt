@@ -6,8 +6,11 @@
 pub mod carrier;
 mod choosing;
 mod coding;
+mod index;
+pub mod spare;
 #[cfg(test)]
 mod tests;
 mod units;
 
 pub use carrier::{Freed, Mbc, Placed, Resized};
+pub use spare::Spare;

@@ -10,10 +10,10 @@ use std::test::Fail;
 
 // A carrier of one page, without blocks.
 fn one_page(alloc: Global) -> Result<Mbc, OutOfMemory> {
-    of_pages(alloc, 1)
+    of_pages(alloc, 1, Inner::Bf)
 }
 
-fn of_pages(alloc: Global, pages: u32) -> Result<Mbc, OutOfMemory>
+fn of_pages(alloc: Global, pages: u32, inner: Inner) -> Result<Mbc, OutOfMemory>
     requires { (1 ≤ pages) × (pages ≤ MAX_PAGES) }
 {
     let plan = CarrierPlan {
@@ -23,7 +23,7 @@ fn of_pages(alloc: Global, pages: u32) -> Result<Mbc, OutOfMemory>
         birth: 1,
         single: false,
     };
-    Mbc::new(alloc, plan, 1)
+    Mbc::new(alloc, plan, 1, inner)
 }
 
 // Puts a block where the choice is, and answers its offset and what was placed.
@@ -87,37 +87,32 @@ fn at(gap: Option<Gap>) -> Option<u32> {
 
 #[test]
 fn each_order_takes_its_own_gap(rt: HostRuntime) -> Result<(), Fail> {
-    let mut carrier = one_page(rt.alloc())?;
-    for (name, need) in [(1, 20), (2, 6), (3, 14), (4, 6), (5, 14), (6, 6)] {
-        put(&mut carrier, Inner::Aoff, need, name);
-    }
-    for offset in [8, 34, 54] {
-        take_out(&mut carrier, offset);
-    }
+    for kept in [Inner::Bf, Inner::Aobf, Inner::Aoff] {
+        let mut carrier = of_pages(rt.alloc(), 1, kept)?;
+        for (name, need) in [(1, 20), (2, 6), (3, 14), (4, 6), (5, 14), (6, 6)] {
+            put(&mut carrier, Inner::Aoff, need, name);
+        }
+        for offset in [8, 34, 54] {
+            take_out(&mut carrier, offset);
+        }
 
-    // The gaps have 20 units at 8, 14 at 34, 14 at 54 and 438 at 74.
-    for (need, bf, aobf, aoff) in [
-        (14, Some(54), Some(34), Some(8)),
-        (20, Some(8), Some(8), Some(8)),
-        (22, Some(74), Some(74), Some(74)),
-        (438, Some(74), Some(74), Some(74)),
-        (440, None, None, None),
-    ] {
-        assert_eq!(rt;
-            at(carrier.choose(Inner::Bf, need)),
-            bf,
-            "best fit of {need}"
-        );
-        assert_eq!(rt;
-            at(carrier.choose(Inner::Aobf, need)),
-            aobf,
-            "address order best fit of {need}"
-        );
-        assert_eq!(rt;
-            at(carrier.choose(Inner::Aoff, need)),
-            aoff,
-            "address order first fit of {need}"
-        );
+        // The gaps have 20 units at 8, 14 at 34, 14 at 54 and 438 at 74.
+        for (need, bf, aobf, aoff) in [
+            (0, Some(54), Some(34), Some(8)),
+            (14, Some(54), Some(34), Some(8)),
+            (20, Some(8), Some(8), Some(8)),
+            (22, Some(74), Some(74), Some(74)),
+            (438, Some(74), Some(74), Some(74)),
+            (440, None, None, None),
+        ] {
+            for (inner, offset) in [(Inner::Bf, bf), (Inner::Aobf, aobf), (Inner::Aoff, aoff)] {
+                assert_eq!(rt;
+                    at(carrier.choose(inner, need)),
+                    offset,
+                    "{inner:?} of {need}, kept by {kept:?}"
+                );
+            }
+        }
     }
     Ok(())
 }
@@ -279,7 +274,7 @@ fn first_gap(carrier: &Mbc) -> Option<(u32, u64, u32)> {
 
 #[test]
 fn units_tell_of_blocks_and_gaps(rt: HostRuntime) -> Result<(), Fail> {
-    let mut carrier = of_pages(rt.alloc(), 64)?;
+    let mut carrier = of_pages(rt.alloc(), 64, Inner::Aoff)?;
     for name in 1..4 {
         put(&mut carrier, Inner::Aoff, 14, name);
     }
@@ -307,7 +302,7 @@ fn units_tell_of_blocks_and_gaps(rt: HostRuntime) -> Result<(), Fail> {
 
 #[test]
 fn the_last_one_ends_where_the_carrier_does(rt: HostRuntime) -> Result<(), Fail> {
-    let mut carrier = of_pages(rt.alloc(), 64)?;
+    let mut carrier = of_pages(rt.alloc(), 64, Inner::Aoff)?;
     put(&mut carrier, Inner::Aoff, 14, 1);
     assert_eq!(rt; first_gap(&carrier), Some((22, 261_973, 32_746)));
     put(&mut carrier, Inner::Aoff, 32_746, 2);

@@ -1,4 +1,4 @@
-//! The units of a carrier, with its tags and the names of its blocks.
+//! The units of a carrier, with its tags, the names of its blocks and what finds its gaps.
 ghost use Rattle.std.specs.Prelude.{◌≡◌, ◌≢◌, ℕ, ◌+◌, ◌-◌, ◌%◌, ◌<◌, ◌≤◌, ◌↔◌, [], All};
 ghost use Rattle.std.specs.Prelude.{Some, IsTrue, IsSome, IfOk, length};
 ghost use Rattle.ea_model.specs.declared.units.TheConstants.{HEADER_UNITS, MIN_BLOCK};
@@ -10,6 +10,7 @@ ghost use Rattle.ea_mbc.specs.Tagged.{BlockTagged, GapTagged};
 
 use crate::choosing::{better_of, free_units};
 use crate::coding::{clear, lay, put_gap};
+use crate::index::GapIndex;
 use ea_model::{BlockAt, Gap, HEADER_UNITS, Inner, OutOfMemory};
 use ea_tags::UnitArray;
 use std::alloc::Global;
@@ -17,31 +18,39 @@ use std::marker::Model;
 
 /// The units of a carrier. Contracts see its end and its blocks by rising offset. Each block and
 /// each gap has its header in its first unit, and each gap its size in its last one. The names
-/// stand by half offsets, 0 where no block begins.
+/// stand by half offsets, 0 where no block begins. The index has the gaps once more, by the order
+/// in which they are chosen.
 #[derive(Drop)]
 pub struct CarrierUnits {
     tags: UnitArray,
     names: Vec<u32>,
+    index: GapIndex,
     end: u32,
 }
 
 impl Model for CarrierUnits {
     ghost use Rattle.std.specs.Prelude.{◌^◌, ◌<◌};
+    ghost use Rattle.ea_model.specs.declared.units.TheConstants.{HEADER_UNITS};
+    ghost use Rattle.ea_model.specs.Content.{gaps};
     ghost use Rattle.ea_mbc.specs.Coding.{blocks_of, IsCoded};
+    ghost use Rattle.ea_mbc.specs.Indexed.{Indexed};
     ghost use Rattle.ea_mbc.specs.Layout.{Layout};
 
     ghost Value = { Layout };
 
     ghost view = { λ u. record { end = u.end; blocks = blocks_of u.tags u.names.items u.end } };
 
-    ghost invariant = { λ u.
-        IsCoded u.tags u.names.items u.end (blocks_of u.tags u.names.items u.end)
-        × (u.end < 2 ^ 32) };
+    ghost invariant = { λ u. record {
+      coded : IsCoded u.tags u.names.items u.end (blocks_of u.tags u.names.items u.end)
+          × (u.end < 2 ^ 32);
+      indexed : Indexed u.end u.index
+          (gaps HEADER_UNITS u.end (blocks_of u.tags u.names.items u.end));
+    } };
 }
 
 impl CarrierUnits {
-    /// A header and one gap.
-    pub fn new(alloc: Global, end: u32) -> Result<CarrierUnits, OutOfMemory>
+    /// A header and one gap. The gap that is first in this order is found without a walk.
+    pub fn new(alloc: Global, inner: Inner, end: u32) -> Result<CarrierUnits, OutOfMemory>
         requires even { end % 2 ≡ 0 }
         requires gap { HEADER_UNITS + MIN_BLOCK ≤ end }
         ensures { IfOk result (λ u. u ≡ record { end = end; blocks = [] }) }
@@ -49,7 +58,14 @@ impl CarrierUnits {
         let mut tags = UnitArray::new(alloc, end)?;
         put_gap(&mut tags, end, HEADER_UNITS, end);
         let names = vec![in alloc; 0; (end / 2) as usize]?;
-        Ok(CarrierUnits { tags, names, end })
+        let mut index = GapIndex::new(alloc, inner, end)?;
+        index.put(HEADER_UNITS, end - HEADER_UNITS);
+        Ok(CarrierUnits {
+            tags,
+            names,
+            index,
+            end,
+        })
     }
 
     /// Its blocks lie one after another, with whole gaps between them.
@@ -84,6 +100,17 @@ impl CarrierUnits {
         ensures { result
             ≡ choice inner need (gaps HEADER_UNITS self.now.end self.now.blocks) }
     {
+        match self.index.first(inner, need) {
+            Some(found) => found,
+            None => self.walk(inner, need),
+        }
+    }
+
+    /// The gap that is chosen for `need` units, found by a walk over the headers.
+    fn walk(&self, inner: Inner, need: u32) -> Option<Gap>
+        ensures { result
+            ≡ choice inner need (gaps HEADER_UNITS self.now.end self.now.blocks) }
+    {
         let mut at = HEADER_UNITS;
         let mut best = None;
         while at < self.end {
@@ -98,14 +125,7 @@ impl CarrierUnits {
     fn greatest(&self) -> u32
         ensures { result ≡ largest (gaps HEADER_UNITS self.now.end self.now.blocks) }
     {
-        let mut at = HEADER_UNITS;
-        let mut most = 0;
-        while at < self.end {
-            let header = self.tags.header(at);
-            most = most.max(free_units(header));
-            at += header.size;
-        }
-        most
+        self.index.largest()
     }
 
     /// The units of the largest gap, or 0, where one of `gone` units has become smaller, and
@@ -233,6 +253,8 @@ impl CarrierUnits {
         let end = self.end;
         let stop = block.offset + gap;
         lay(&mut self.tags, &mut self.names, end, block, stop, false);
+        self.index.take(block.offset, gap);
+        self.index.put(block.offset + block.size, gap - block.size);
     }
 
     /// Makes the block at the offset one gap with the gaps beside it, from `start` up to `stop`.
@@ -246,6 +268,7 @@ impl CarrierUnits {
         ensures end { self.new.end ≡ self.old.end }
         ensures blocks { self.new.blocks ≡ without (λ b. b.offset) offset self.old.blocks }
     {
+        let behind = offset + self.tags.header(offset).size;
         clear(
             &mut self.tags,
             &mut self.names,
@@ -254,6 +277,9 @@ impl CarrierUnits {
             offset,
             stop,
         );
+        self.index.take(start, offset - start);
+        self.index.take(behind, stop - behind);
+        self.index.put(start, stop - start);
     }
 
     /// Gives the block at the offset another size and name. The units after it up to `stop`, where
@@ -276,15 +302,19 @@ impl CarrierUnits {
             (λ b. record { name = block.name; offset = b.offset; size = block.size })
             block.offset self.old.blocks }
     {
-        let prev_free = self.tags.header(block.offset).prev_free;
+        let was = self.tags.header(block.offset);
         lay(
             &mut self.tags,
             &mut self.names,
             self.end,
             block,
             stop,
-            prev_free,
+            was.prev_free,
         );
+        let behind = block.offset + was.size;
+        self.index.take(behind, stop - behind);
+        let behind = block.offset + block.size;
+        self.index.put(behind, stop - behind);
     }
 
     /// Gives the block at the offset another name.

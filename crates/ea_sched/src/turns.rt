@@ -190,11 +190,12 @@ impl<'t> Scheduler<'t> {
         let number = content.number();
         shared.clear_own(self.number, number);
         self.instance.disown(number);
+        self.instance.discard(content);
         Some(gone)
     }
 
-    /// A carrier of the scheduler's own that came home is cleared: its content is dropped, and its
-    /// number and pages are free again.
+    /// A carrier of the scheduler's own that came home is cleared: its number and pages are free
+    /// again.
     fn collect<S: Shared<Content = Mbc>>(&mut self, shared: &mut S, number: u32)
         requires starts { StartsRow (stage.Collecting number) self.old
             (S.schedulers shared.old) (S.greatest shared.old) (S.migrates shared.old)
@@ -205,8 +206,9 @@ impl<'t> Scheduler<'t> {
         ensures row { CollectedRow number self.old self.new (S.shared shared.old)
             (S.shared shared.new) (S.caller shared.old) (S.caller shared.new) }
     {
-        shared.clear_returned(self.number, number);
+        let content = Held::multi(shared.clear_returned(self.number, number));
         self.instance.disown(number);
+        self.instance.discard(content);
     }
 
     /// A carrier that came home is collected, and the walk that brought it goes on.

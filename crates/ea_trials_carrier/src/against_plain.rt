@@ -193,9 +193,9 @@ struct Sides {
 }
 
 impl Sides {
-    fn new(alloc: Global) -> Result<Sides, OutOfMemory> {
+    fn new(alloc: Global, kept: Inner) -> Result<Sides, OutOfMemory> {
         Ok(Sides {
-            carrier: Mbc::new(alloc, PLAN, 1)?,
+            carrier: Mbc::new(alloc, PLAN, 1, kept)?,
             plain: PlainCarrier::new(alloc, 1, Kind::Multi, PLAN),
         })
     }
@@ -371,6 +371,24 @@ impl Sides {
         Ok(())
     }
 
+    // Compares the gaps that are chosen in each order.
+    fn compare_choices(
+        &self,
+        rt: &impl Abort,
+        alloc: Global,
+        need: u32,
+    ) -> Result<(), OutOfMemory> {
+        let gaps = self.plain.gaps(alloc)?;
+        for inner in [Inner::Bf, Inner::Aobf, Inner::Aoff] {
+            assert_eq!(rt;
+                self.carrier.choose(inner, need),
+                chosen(inner, need, gaps.as_slice()),
+                "{inner:?}, {need} units"
+            );
+        }
+        Ok(())
+    }
+
     // Looks for a block at some offset, mostly in vain.
     fn look(&self, rt: &impl Abort, offset: u32) {
         let mut wanted = None;
@@ -411,14 +429,17 @@ impl Sides {
 
 #[test]
 fn a_carrier_does_as_the_list_of_its_blocks(rt: HostRuntime) -> Result<(), Fail> {
-    let mut numbers = Numbers { state: 1 };
-    let mut sides = Sides::new(rt.alloc())?;
-    for done in 0..OPERATIONS {
-        // Mostly placed at first, mostly released then, and so on in turn.
-        let frees = if done / 64 % 2 == 0 { 3 } else { 8 };
-        sides.step(&rt, rt.alloc(), &mut numbers, frees)?;
-        sides.compare(&rt, rt.alloc())?;
-        sides.look(&rt, numbers.below(UNITS + 8));
+    for kept in [Inner::Bf, Inner::Aobf, Inner::Aoff] {
+        let mut numbers = Numbers { state: 1 };
+        let mut sides = Sides::new(rt.alloc(), kept)?;
+        for done in 0..OPERATIONS {
+            // Mostly placed at first, mostly released then, and so on in turn.
+            let frees = if done / 64 % 2 == 0 { 3 } else { 8 };
+            sides.step(&rt, rt.alloc(), &mut numbers, frees)?;
+            sides.compare(&rt, rt.alloc())?;
+            sides.compare_choices(&rt, rt.alloc(), numbers.need())?;
+            sides.look(&rt, numbers.below(UNITS + 8));
+        }
     }
     Ok(())
 }

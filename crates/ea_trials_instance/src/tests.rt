@@ -10,7 +10,7 @@ use crate::tests::Step::{
 use ea_instance::{CarrierPlan, Instance};
 use ea_mbc::Mbc;
 use ea_model::{
-    Block, CarrierLine, Figures, Kind, List, NoCarrier, OutOfMemory, Place, Settings, Spot,
+    Block, CarrierLine, Figures, Inner, Kind, List, NoCarrier, OutOfMemory, Place, Settings, Spot,
     Standing, Strategy,
 };
 use std::alloc::Global;
@@ -774,7 +774,7 @@ const SINGLE: CarrierPlan = CarrierPlan {
 #[test]
 fn a_carrier_of_another_instance_comes_and_goes(rt: HostRuntime) -> Result<(), Fail> {
     let mut instance = Instance::new(rt.alloc(), MIGRATING, 2, 128, 100)?;
-    instance.adopt(Mbc::new(rt.alloc(), FOREIGN, 1)?);
+    instance.adopt(Mbc::new(rt.alloc(), FOREIGN, 1, Inner::Bf)?);
     assert!(rt; !instance.owns(1));
     let carrier = instance.give_up(1);
     assert!(rt; !instance.employs(1));

@@ -9,8 +9,8 @@ use Rattle.ea_instance.proofs.Keeping.{kept-dismissed, kept-single-dismissed, se
 use Rattle.ea_instance.proofs.Keeping.{seen-single-dismissed}
 use Rattle.ea_instance.proofs.instance.Instance.dismiss.Goals as goal
 
-pub leave-requires-clause-bins : goal.leave-requires-clause-bins
-leave-requires-clause-bins c = λ gf.
+pub leave-employed-requires-clause-bins : goal.leave-employed-requires-clause-bins
+leave-employed-requires-clause-bins c = λ gf.
     let n = c.args.number in
     let (x, there) = some_value (content_of c.self.inside.carriers.contents n)
     (ap (λ i. has_content n i.contents) c.self.view_is
@@ -23,22 +23,22 @@ leave-requires-clause-bins c = λ gf.
 
 pub invariant_of-self : goal.invariant_of-self
 invariant_of-self c = kept-dismissed _ _ c.self.inside.own c.self.inside.carriers
-    c.self.inside.singles c.self.inside.created c.self.invariant c.args.number c.leave.result
-    c.leave.ensures.carrier _ c.leave.ensures.rest
+    c.self.inside.singles c.self.inside.created c.self.invariant c.args.number c.leave-employed.result
+    c.leave-employed.ensures.carrier _ c.leave-employed.ensures.rest
 
 pub returns-then-has_multi : goal.returns-then-has_multi
 returns-then-has_multi c =
     let is = seen-dismissed _ _ c.self.inside.own c.self.inside.carriers c.self.inside.singles
-    c.self.inside.created c.self.invariant c.args.number c.leave.result c.leave.ensures.carrier _
-    c.leave.ensures.rest _ c.self.view_is in
+    c.self.inside.created c.self.invariant c.args.number c.leave-employed.result c.leave-employed.ensures.carrier _
+    c.leave-employed.ensures.rest _ c.self.view_is in
     record {
       dismissed = is;
       gone = dismissed-gone _ _ c.self.inside.own c.self.inside.carriers c.self.inside.singles
           c.self.inside.created c.self.invariant c.args.number _ _ c.self.view_is is;
     }
 
-pub leave-requires-else-has_multi : goal.leave-requires-else-has_multi
-leave-requires-else-has_multi c =
+pub leave-requires : goal.leave-requires
+leave-requires c =
     let n = c.args.number in
     let none = is-none (content_of c.self.inside.carriers.contents n)
     (ap (λ i. has_content n i.contents) c.self.view_is
@@ -53,15 +53,15 @@ leave-requires-else-has_multi c =
 pub invariant_of-self-else-has_multi : goal.invariant_of-self-else-has_multi
 invariant_of-self-else-has_multi c = kept-single-dismissed _ _ c.self.inside.own
     c.self.inside.carriers c.self.inside.singles c.self.inside.created c.self.invariant
-    c.args.number c.leave-else-has_multi.result c.leave-else-has_multi.ensures.carrier _
-    c.leave-else-has_multi.ensures.rest
+    c.args.number c.leave.result c.leave.ensures.carrier _
+    c.leave.ensures.rest
 
 pub returns-else-has_multi : goal.returns-else-has_multi
 returns-else-has_multi c =
     let is = seen-single-dismissed _ _ c.self.inside.own c.self.inside.carriers
     c.self.inside.singles c.self.inside.created c.self.invariant c.args.number
-    c.leave-else-has_multi.result c.leave-else-has_multi.ensures.carrier _
-    c.leave-else-has_multi.ensures.rest _ c.self.view_is in
+    c.leave.result c.leave.ensures.carrier _
+    c.leave.ensures.rest _ c.self.view_is in
     record {
       dismissed = is;
       gone = dismissed-gone _ _ c.self.inside.own c.self.inside.carriers c.self.inside.singles

@@ -7,20 +7,20 @@ use Rattle.ea_mbc.proofs.units.CarrierUnits.begins.Goals as goal
 
 pub returns-then-offset-ne0 : goal.returns-then-offset-ne0
 returns-then-offset-ne0 c =
-    let s = seen _ _ _ c.args.self.now c.self.view_is c.self.invariant in
+    let s = seen _ _ _ c.args.self.now c.self.view_is c.self.invariant.coded in
     none-iff _
     (nothing-there _ c.args.offset _ s.coded.tiled (inl (omega (arith, c.if-offset-ne0.true))))
 
 pub returns-then-offset-self : goal.returns-then-offset-self
 returns-then-offset-self c =
-    let s = seen _ _ _ c.args.self.now c.self.view_is c.self.invariant in
+    let s = seen _ _ _ c.args.self.now c.self.view_is c.self.invariant.coded in
     none-iff _
     (nothing-there _ c.args.offset _ s.coded.tiled
     (inr (inr (omega (arith, c.if-offset-self.true, s.same)))))
 
 pub returns-then-index-ne0 : goal.returns-then-index-ne0
 returns-then-index-ne0 c =
-    let s = seen _ _ _ c.args.self.now c.self.view_is c.self.invariant in
+    let s = seen _ _ _ c.args.self.now c.self.view_is c.self.invariant.coded in
     let name = get_or_read c.self.inside.names.items _ _
     (omega (arith, s.coded.half, s.same, c.if-offset-self.false)) c.index.ensures 0 in
     let there = unnamed-IsCoded _ _ _ c.args.offset _ s.coded c.if-offset-ne0.false

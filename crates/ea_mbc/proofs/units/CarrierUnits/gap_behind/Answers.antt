@@ -5,24 +5,24 @@ use Rattle.ea_mbc.proofs.units.CarrierUnits.gap_behind.Goals as goal
 
 pub header-requires-clause-within : goal.header-requires-clause-within
 header-requires-clause-within c =
-    let s = seen _ _ _ c.args.self.now c.self.view_is c.self.invariant in
+    let s = seen _ _ _ c.args.self.now c.self.view_is c.self.invariant.coded in
     (block-read _ _ _ _ c.args.offset s c.requires).inside
 
 pub header-requires-clause-header : goal.header-requires-clause-header
 header-requires-clause-header c =
-    let s = seen _ _ _ c.args.self.now c.self.view_is c.self.invariant in
+    let s = seen _ _ _ c.args.self.now c.self.view_is c.self.invariant.coded in
     (block-read _ _ _ _ c.args.offset s c.requires).word
 
 pub overflow_add-stop : goal.overflow_add-stop
 overflow_add-stop c =
-    let s = seen _ _ _ c.args.self.now c.self.view_is c.self.invariant in
+    let s = seen _ _ _ c.args.self.now c.self.view_is c.self.invariant.coded in
     let r = block-read _ _ _ _ c.args.offset s c.requires in
     let h = header-read _ _ _ _ c.args.offset c.header.result s r c.header.ensures in
     omega (arith, h.0, r.there.within, s.small)
 
 pub returns-then-stop-self : goal.returns-then-stop-self
 returns-then-stop-self c =
-    let s = seen _ _ _ c.args.self.now c.self.view_is c.self.invariant in
+    let s = seen _ _ _ c.args.self.now c.self.view_is c.self.invariant.coded in
     let r = block-read _ _ _ _ c.args.offset s c.requires in
     let h = header-read _ _ _ _ c.args.offset c.header.result s r c.header.ensures in
     let stop = ap (λ n. c.args.offset + n) h.0 in
@@ -31,14 +31,14 @@ returns-then-stop-self c =
 
 pub header-next-requires-clause-within : goal.header-next-requires-clause-within
 header-next-requires-clause-within c =
-    let s = seen _ _ _ c.args.self.now c.self.view_is c.self.invariant in
+    let s = seen _ _ _ c.args.self.now c.self.view_is c.self.invariant.coded in
     let r = block-read _ _ _ _ c.args.offset s c.requires in
     let h = header-read _ _ _ _ c.args.offset c.header.result s r c.header.ensures in
     omega (arith, h.0, r.there.within, s.same, s.coded.long, c.if-stop-self.false)
 
 pub header-next-requires-clause-header : goal.header-next-requires-clause-header
 header-next-requires-clause-header c =
-    let s = seen _ _ _ c.args.self.now c.self.view_is c.self.invariant in
+    let s = seen _ _ _ c.args.self.now c.self.view_is c.self.invariant.coded in
     let r = block-read _ _ _ _ c.args.offset s c.requires in
     let h = header-read _ _ _ _ c.args.offset c.header.result s r c.header.ensures in
     let stop = ap (λ n. c.args.offset + n) h.0 in
@@ -47,7 +47,7 @@ header-next-requires-clause-header c =
 
 pub returns : goal.returns
 returns c =
-    let s = seen _ _ _ c.args.self.now c.self.view_is c.self.invariant in
+    let s = seen _ _ _ c.args.self.now c.self.view_is c.self.invariant.coded in
     let r = block-read _ _ _ _ c.args.offset s c.requires in
     let h = header-read _ _ _ _ c.args.offset c.header.result s r c.header.ensures in
     let stop = ap (λ n. c.args.offset + n) h.0 in

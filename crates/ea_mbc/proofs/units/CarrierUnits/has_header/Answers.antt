@@ -7,11 +7,11 @@ use Rattle.ea_mbc.proofs.Walking.{none-iff}
 use Rattle.ea_mbc.proofs.units.CarrierUnits.has_header.Goals as goal
 
 pub loop-at-init : goal.loop-at-init
-loop-at-init c = walk-start _ _ _ _ _ c.self.invariant.0 refl
+loop-at-init c = walk-start _ _ _ _ _ c.self.invariant.coded.0 refl
 
 pub header-header-requires-clause-header : goal.header-header-requires-clause-header
 header-header-requires-clause-header c =
-    walk-word _ _ _ _ _ c.loop-at.invariant c.loop-at-test.true c.self.invariant.1
+    walk-word _ _ _ _ _ c.loop-at.invariant c.loop-at-test.true c.self.invariant.coded.1
 
 pub returns-then-at-offset : goal.returns-then-at-offset
 returns-then-at-offset c =
@@ -24,7 +24,7 @@ pub overflow_add-at : goal.overflow_add-at
 overflow_add-at c =
     let s = walk-step _ _ _ _ _ c.header-header.result c.loop-at.invariant c.loop-at-test.true
     c.header-header.ensures in
-    omega (arith, s.within, c.self.invariant.1)
+    omega (arith, s.within, c.self.invariant.coded.1)
 
 pub loop-at-smaller : goal.loop-at-smaller
 loop-at-smaller c =

@@ -1,14 +1,33 @@
-use Rattle.std.proofs.Common.{◌<◌, subst, arith}
+use Rattle.std.proofs.Common.{ℕ, ◌+◌, ◌-◌, ◌<◌, sym, ap, ◌∙◌, subst, arith}
 use Rattle.ea_model.specs.Keyed.{without}
 use Rattle.ea_laws.proofs.BlockLists.{offset_of}
 use Rattle.ea_mbc.specs.Coding.{IsCoded}
 use Rattle.ea_mbc.proofs.Reading.{blocks_of-coded, IsCoded-read}
-use Rattle.ea_mbc.proofs.Seen.{seen, block-read, stop-read, left}
+use Rattle.ea_mbc.specs.Indexed.{IsHeld, HasSlot, taken_out, put_in}
+use Rattle.ea_mbc.proofs.Seen.{seen, block-read, header-read, stop-read, left}
+use Rattle.ea_mbc.proofs.Slotted.{stands, leaving, slots-made}
 use Rattle.ea_mbc.proofs.units.CarrierUnits.leave.Goals as goal
+
+pub header-requires-clause-within : goal.header-requires-clause-within
+header-requires-clause-within c =
+    let s = seen _ _ _ c.args.self.now c.self.view_is c.self.invariant.coded in
+    (block-read _ _ _ _ c.args.offset s c.requires.begins).inside
+
+pub header-requires-clause-header : goal.header-requires-clause-header
+header-requires-clause-header c =
+    let s = seen _ _ _ c.args.self.now c.self.view_is c.self.invariant.coded in
+    (block-read _ _ _ _ c.args.offset s c.requires.begins).word
+
+pub overflow_add-behind : goal.overflow_add-behind
+overflow_add-behind c =
+    let s = seen _ _ _ c.args.self.now c.self.view_is c.self.invariant.coded in
+    let r = block-read _ _ _ _ c.args.offset s c.requires.begins in
+    let size = header-read _ _ _ _ c.args.offset c.header.result s r c.header.ensures in
+    omega (arith, size.0, r.there.within, s.small)
 
 pub clear-requires-clause-order : goal.clear-requires-clause-order
 clear-requires-clause-order c =
-    let s = seen _ _ _ c.args.self.now c.self.view_is c.self.invariant in
+    let s = seen _ _ _ c.args.self.now c.self.view_is c.self.invariant.coded in
     let r = block-read _ _ _ _ c.args.offset s c.requires.begins in (
       omega (arith, c.requires.start),
       omega (arith, c.requires.stop, r.size, r.there.least),
@@ -16,35 +35,92 @@ clear-requires-clause-order c =
 
 pub clear-requires-clause-whole : goal.clear-requires-clause-whole
 clear-requires-clause-whole c =
-    let s = seen _ _ _ c.args.self.now c.self.view_is c.self.invariant in
+    let s = seen _ _ _ c.args.self.now c.self.view_is c.self.invariant.coded in
     let r = block-read _ _ _ _ c.args.offset s c.requires.begins in
     omega (arith, c.requires.start, c.requires.stop, r.size, r.there.least)
 
 pub clear-requires-clause-within : goal.clear-requires-clause-within
 clear-requires-clause-within c =
-    let s = seen _ _ _ c.args.self.now c.self.view_is c.self.invariant in
+    let s = seen _ _ _ c.args.self.now c.self.view_is c.self.invariant.coded in
     let r = block-read _ _ _ _ c.args.offset s c.requires.begins in
     let ends = stop-read _ _ _ _ c.args.offset c.args.stop s r c.requires.stop in
     omega (arith, ends.0, s.same)
 
 pub clear-requires-clause-header : goal.clear-requires-clause-header
 clear-requires-clause-header c =
-    let s = seen _ _ _ c.args.self.now c.self.view_is c.self.invariant in
+    let s = seen _ _ _ c.args.self.now c.self.view_is c.self.invariant.coded in
     let r = block-read _ _ _ _ c.args.offset s c.requires.begins in
     let ends = stop-read _ _ _ _ c.args.offset c.args.stop s r c.requires.stop in
     λ lt. ends.1 (subst (λ n. c.args.stop < n) s.same lt)
 
-coded : (c : goal.After-clear)
+pub take-requires : goal.take-requires
+take-requires c =
+    let h = stands _ _ _ c.args.self.now c.self.inside.index c.self.view_is c.self.invariant.coded.0
+    c.self.invariant.indexed in
+    let s = seen _ _ _ c.args.self.now c.self.view_is c.self.invariant.coded in
+    let r = block-read _ _ _ _ c.args.offset s c.requires.begins in
+    let size = header-read _ _ _ _ c.args.offset c.header.result s r c.header.ensures in
+    let l = leaving _ _ c.args.self.now c.args.offset c.header.result.size c.args.start c.args.stop
+    c.self.inside.index h r size.0 c.requires.start c.requires.stop in
+    l.held_before
+
+pub overflow_sub-stop : goal.overflow_sub-stop
+overflow_sub-stop c =
+    let s = seen _ _ _ c.args.self.now c.self.view_is c.self.invariant.coded in
+    let r = block-read _ _ _ _ c.args.offset s c.requires.begins in
+    let size = header-read _ _ _ _ c.args.offset c.header.result s r c.header.ensures in
+    omega (arith, size.0, r.size, c.requires.stop)
+
+pub take-requires-2 : goal.take-requires-2
+take-requires-2 c =
+    let h = stands _ _ _ c.args.self.now c.self.inside.index c.self.view_is c.self.invariant.coded.0
+    c.self.invariant.indexed in
+    let s = seen _ _ _ c.args.self.now c.self.view_is c.self.invariant.coded in
+    let r = block-read _ _ _ _ c.args.offset s c.requires.begins in
+    let size = header-read _ _ _ _ c.args.offset c.header.result s r c.header.ensures in
+    let l = leaving _ _ c.args.self.now c.args.offset c.header.result.size c.args.start c.args.stop
+    c.self.inside.index h r size.0 c.requires.start c.requires.stop in
+    subst (IsHeld (c.args.offset + c.header.result.size)
+    (c.args.stop - (c.args.offset + c.header.result.size))) (sym c.take.ensures) l.held_after
+
+pub put-requires : goal.put-requires
+put-requires c =
+    let h = stands _ _ _ c.args.self.now c.self.inside.index c.self.view_is c.self.invariant.coded.0
+    c.self.invariant.indexed in
+    let s = seen _ _ _ c.args.self.now c.self.view_is c.self.invariant.coded in
+    let r = block-read _ _ _ _ c.args.offset s c.requires.begins in
+    let size = header-read _ _ _ _ c.args.offset c.header.result s r c.header.ensures in
+    let l = leaving _ _ c.args.self.now c.args.offset c.header.result.size c.args.start c.args.stop
+    c.self.inside.index h r size.0 c.requires.start c.requires.stop in
+    let at : ℕ = c.args.offset + c.header.result.size in
+    subst (HasSlot c.args.start (c.args.stop - c.args.start))
+    (sym (c.take-2.ensures ∙ ap (taken_out at (c.args.stop - at)) c.take.ensures)) l.slot
+
+coded : (c : goal.After-put)
     → IsCoded c.clear.new.tags c.clear.new.names.items c.self.inside.end
     (without offset_of c.args.offset c.args.self.now.blocks)
 coded c =
-    let s = seen _ _ _ c.args.self.now c.self.view_is c.self.invariant in
+    let s = seen _ _ _ c.args.self.now c.self.view_is c.self.invariant.coded in
     left _ _ _ _ c.self.inside.end c.args.start c.args.offset c.args.stop c.args.self.now s
     (block-read _ _ _ _ c.args.offset s c.requires.begins) c.requires.start c.requires.stop
     c.clear.ensures
 
 pub invariant_of-self : goal.invariant_of-self
-invariant_of-self c = (IsCoded-read _ _ _ _ (coded c), c.self.invariant.1)
+invariant_of-self c =
+    let h = stands _ _ _ c.args.self.now c.self.inside.index c.self.view_is c.self.invariant.coded.0
+    c.self.invariant.indexed in
+    let s = seen _ _ _ c.args.self.now c.self.view_is c.self.invariant.coded in
+    let r = block-read _ _ _ _ c.args.offset s c.requires.begins in
+    let size = header-read _ _ _ _ c.args.offset c.header.result s r c.header.ensures in
+    let l = leaving _ _ c.args.self.now c.args.offset c.header.result.size c.args.start c.args.stop
+    c.self.inside.index h r size.0 c.requires.start c.requires.stop in
+    let at : ℕ = c.args.offset + c.header.result.size in
+    record {
+      coded = (IsCoded-read _ _ _ _ (coded c), c.self.invariant.coded.1);
+      indexed = slots-made _ _ _ c.args.self.now _ _ s.same (blocks_of-coded _ _ _ _ (coded c))
+          (c.put.ensures ∙ ap (put_in c.args.start (c.args.stop - c.args.start))
+          (c.take-2.ensures ∙ ap (taken_out at (c.args.stop - at)) c.take.ensures)) l.indexed;
+    }
 
 pub returns-clause-blocks : goal.returns-clause-blocks
 returns-clause-blocks c = blocks_of-coded _ _ _ _ (coded c)

@@ -1,4 +1,4 @@
-use Rattle.std.proofs.Common.{refl, ap}
+use Rattle.std.proofs.Common.{refl, ap, ◌∙◌}
 use Rattle.std.specs.Prelude.{Some}
 use Rattle.ea_machine.specs.Rows.{Home}
 use Rattle.ea_sched.specs.Acting.{standing_at}
@@ -35,5 +35,6 @@ pub returns-clause-row : goal.returns-clause-row
 returns-clause-row g c = record {
   got = Home (Some c.clear_returned.result);
   did = c.clear_returned.ensures.row;
-  is = λ at. ap (λ i. record (standing_at at c.args.self.now) { instance = i }) c.disown.ensures;
+  is = λ at. ap (λ i. record (standing_at at c.args.self.now) { instance = i })
+      (c.discard.ensures ∙ c.disown.ensures);
 }

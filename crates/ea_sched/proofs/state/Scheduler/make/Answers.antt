@@ -1,8 +1,12 @@
-use Rattle.std.proofs.Common.{refl, sym, ◌∙◌}
+use Rattle.std.proofs.Common.{◌≡◌, refl, sym, ap, ◌∙◌, subst}
+use Rattle.std.specs.Prelude.{IfSome, OnOk}
 use Rattle.std.proofs.lemmas.Result.{on_ok_weaker}
 use Rattle.ea_machine.specs.declared.stages.Stage.TheVariants.{Creating}
 use Rattle.ea_machine.specs.Rows.{Create, Done}
-use Rattle.ea_sched.specs.Acting.{setup_for, standing_at}
+use Rattle.ea_machine.specs.Placements.{created}
+use Rattle.ea_model.specs.Instance.{plan}
+use Rattle.ea_sched.specs.Acting.{actor_of, ready_of, setup_for, standing_at}
+use Rattle.ea_sched.specs.Asking.{IsHere}
 use Rattle.ea_sched.proofs.Calling.{row-done}
 use Rattle.ea_sched.proofs.Placing.{onward-created}
 use Rattle.ea_sched.proofs.Seeking.{create-absent, create-asked, create-carrier, create-more}
@@ -59,11 +63,19 @@ create_multi-requires-clause-more g c =
 
 pub create_multi-requires-clause-asked : goal.create_multi-requires-clause-asked
 create_multi-requires-clause-asked g c =
-    create-asked c.args.self.now c.requires.starts.ready c.args.ask c.args.plan refl
+    let s = c.args.self.now in
+    let asked = create-asked s c.requires.starts.ready c.args.ask c.args.plan refl in
+    record {
+      even = asked.even;
+      least = asked.least;
+      fresh = asked.fresh;
+      old = subst (λ i. IfSome c.args.ask.old (IsHere i s)) (sym c.prepare.ensures.same) asked.old;
+    }
 
 pub create_multi-requires-clause-plan : goal.create_multi-requires-clause-plan
 create_multi-requires-clause-plan g c =
-    create-plan c.args.self.now c.requires.starts.ready c.args.ask c.args.plan refl
+    ap (λ i. plan i c.args.ask.need) c.prepare.ensures.same
+    ∙ create-plan c.args.self.now c.requires.starts.ready c.args.ask c.args.plan refl
 
 pub prepare-requires-clause-pages : goal.prepare-requires-clause-pages
 prepare-requires-clause-pages g c =
@@ -91,4 +103,6 @@ returns-clause-row g c =
     c.create-2.ensures.row
     (is ∙ sym (onward-created (setup_for s) s.number
     (create-on s c.requires.starts.ready ask p refl) ask p (standing_at (Creating ask p) s))))
-    c.create_multi.ensures.actor
+    (subst (λ i. OnOk c.create_multi.result (actor_of c.create_multi.new.self
+    ≡ created (setup_for s) s.number ask p (record (ready_of s) { instance = i })))
+    c.prepare.ensures.same c.create_multi.ensures.actor)
