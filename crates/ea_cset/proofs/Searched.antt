@@ -1,7 +1,7 @@
 -- The place of a carrier, found by its number.
-use Rattle.std.proofs.Common.{◌≡◌, ◌≢◌, ℕ, ◌<◌, ◌≤◌, true, List, Result, Ok, Err, length}
+use Rattle.std.proofs.Common.{◌≡◌, ◌≢◌, ℕ, ◌<◌, ◌≤◌, List, Result, Ok, Err, length}
 use Rattle.std.proofs.Common.{get_or, sym, subst, refl, inl, inr, arith}
-use Rattle.std.specs.Prelude.{IfOk, IfErr, All, AllPairs, Option, None, Some, IsTrue, is_some}
+use Rattle.std.specs.Prelude.{IfOk, IfErr, All, AllPairs, Option, None, Some}
 use Rattle.std.specs.List.{position_or_len}
 use Rattle.std.specs.List.Sorted.{IsSearchInRange, IsBinarySearchResult, IsNonDecreasingBy}
 use Rattle.std.specs.Ordering.{nat_cmp, ordering_index}
@@ -12,7 +12,7 @@ use Rattle.std.proofs.lemmas.List.Sums.{position_or_len_is}
 use Rattle.ea_model.specs.Keyed.{has_key}
 use Rattle.ea_model.proofs.Rising.{item_at-All, item_at-each, item_at-key}
 use Rattle.ea_cset.specs.declared.keys.CarrierFit.{CarrierFit}
-use Rattle.ea_cset.specs.Carriers.{number_of, carrier_of, is_held, IsBefore}
+use Rattle.ea_cset.specs.Carriers.{number_of, carrier_of, IsBefore}
 use Rattle.ea_cset.proofs.Places.{rising}
 
 -- the carrier with the number stands at the place
@@ -68,12 +68,12 @@ module _ (number : ℕ) (hs : List CarrierFit) (before : AllPairs IsBefore hs) w
   place-item i p d = subst (λ n. carrier_of hs n ≡ Some (get_or hs i d)) (p.has_it d)
       (item_at-each number_of i d hs (rising hs before) p.within)
 
-  none-held : (o : Option CarrierFit) → carrier_of hs number ≡ o → is_some o ≡ true
-      → All (λ h. h.key.number ≢ number) hs → ⊥
-  none-held None is some free = absurd cc
-  none-held (Some h) is some free = item_at-All number_of (λ x. x.key.number ≢ number) number h hs
-      free is (item_at-key number_of number h hs is)
+  none-of : (o : Option CarrierFit) → carrier_of hs number ≡ o
+      → All (λ h. h.key.number ≢ number) hs → o ≡ None
+  none-of None is free = refl
+  none-of (Some h) is free = absurd (item_at-All number_of (λ x. x.key.number ≢ number) number h hs
+      free is (item_at-key number_of number h hs is))
 
-  -- a number that is held isn't free
-  pub not-free : IsTrue (is_held number hs) → All (λ h. h.key.number ≢ number) hs → ⊥
-  not-free held free = none-held (carrier_of hs number) refl held free
+  -- no carrier has a number that is free
+  pub free-none : All (λ h. h.key.number ≢ number) hs → carrier_of hs number ≡ None
+  free-none free = none-of (carrier_of hs number) refl free

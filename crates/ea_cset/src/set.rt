@@ -1,7 +1,7 @@
 //! The set and its calls.
 ghost use Rattle.std.specs.Prelude.{◌≡◌, ◌≢◌, ℕ, ◌+◌, ◌<◌, ◌↔◌, [], ◌==◌};
 ghost use Rattle.std.specs.Prelude.{if◌then◌else◌, All, AllPairs, Some, None, IsTrue};
-ghost use Rattle.std.specs.Prelude.{IsNone, IfSome, IfOk, get_or, length, option_map};
+ghost use Rattle.std.specs.Prelude.{IsNone, IfSome, IfOk, get_or, length, is_some, option_map};
 ghost use Rattle.ea_model.specs.Keyed.{entered, without};
 ghost use Rattle.ea_cset.specs.Carriers.{number_of, is_held, carrier_of, with_fit, refitted};
 ghost use Rattle.ea_cset.specs.Carriers.{lower, older, first_number, IsBefore, IsFirstOf, StandsIn};
@@ -9,7 +9,7 @@ ghost use Rattle.ea_cset.specs.Carriers.{number_found};
 ghost use Rattle.ea_cset.specs.declared.keys.CarrierFit as keys;
 
 use crate::keys::{CarrierFit, CarrierKey, Found};
-use crate::walks::{lowest, oldest, place_in};
+use crate::walks::{find_in, lowest, oldest, place_in};
 use ea_model::OutOfMemory;
 use ea_model::keyed::{enter_within, take_out};
 use std::alloc::Global;
@@ -103,6 +103,18 @@ impl CarrierSet {
             ≡ Some (get_or self.now.held result d) }
     {
         place_in(number, &self.held)
+    }
+
+    /// The place of the carrier with the number among the carriers, by rising number, or None
+    /// exactly where no such carrier is held.
+    pub fn find(&self, number: u32) -> Option<usize>
+        ensures held { is_some result ≡ is_held number self.now.held }
+        ensures within { IfSome result (λ i. i < length self.now.held) }
+        ensures carrier { (d : keys.CarrierFit) → carrier_of self.now.held number
+            ≡ option_map (λ i. get_or self.now.held i d) result }
+        ensures rising { AllPairs IsBefore self.now.held }
+    {
+        find_in(number, &self.held)
     }
 
     /// The carrier of the lowest base whose largest gap has at least `need` units, or

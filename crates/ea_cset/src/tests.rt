@@ -56,6 +56,23 @@ fn an_order_finds_its_first_carrier_that_fits(rt: HostRuntime) -> Result<(), Fai
 }
 
 #[test]
+fn a_number_finds_the_place_of_its_carrier(rt: HostRuntime) -> Result<(), Fail> {
+    let set = four(rt.alloc())?;
+    for (number, place) in [
+        (0, None),
+        (1, Some(0)),
+        (2, None),
+        (3, Some(1)),
+        (5, Some(2)),
+        (258, Some(3)),
+        (259, None),
+    ] {
+        assert_eq!(rt; set.find(number), place);
+    }
+    Ok(())
+}
+
+#[test]
 fn an_empty_set_finds_none(rt: HostRuntime) -> Result<(), Fail> {
     let set = CarrierSet::new(rt.alloc(), 250)?;
     assert_eq!(rt; number(set.first_by_address(0)), None);

@@ -1,5 +1,6 @@
 //! Walks over the carriers of a set.
 ghost use Rattle.std.specs.Prelude.{◌≡◌, ◌<◌, List, AllPairs, Some, IfSome, IsTrue, get_or, length};
+ghost use Rattle.std.specs.Prelude.{option_map};
 ghost use Rattle.std.specs.List.{position_or_len};
 ghost use Rattle.ea_model.specs.Keyed.{has_key};
 ghost use Rattle.ea_model.specs.Choice.{better};
@@ -70,6 +71,20 @@ pub fn oldest(need: u32, held: &[CarrierFit]) -> Option<Found>
     best
 }
 
+/// The place of the carrier with the number, if it is held.
+pub fn find_in(number: u32, held: &[CarrierFit]) -> Option<usize>
+    requires rising { AllPairs IsBefore held.now }
+    ensures index { IfSome result (λ i. i ≡ position_or_len (has_key number_of number) held.now) }
+    ensures within { IfSome result (λ i. i < length held.now) }
+    ensures item { (d : keys.CarrierFit) → carrier_of held.now number
+        ≡ option_map (λ i. get_or held.now i d) result }
+{
+    match held.binary_search_by_key(&number, |carrier| carrier.key.number) {
+        Ok(place) => Some(place),
+        Err(_) => None,
+    }
+}
+
 /// The place of the carrier with the number, which is held.
 pub fn place_in(number: u32, held: &[CarrierFit]) -> usize
     requires there { IsTrue (is_held number held.now) }
@@ -79,8 +94,8 @@ pub fn place_in(number: u32, held: &[CarrierFit]) -> usize
     ensures item { (d : keys.CarrierFit) → carrier_of held.now number
         ≡ Some (get_or held.now result d) }
 {
-    match held.binary_search_by_key(&number, |carrier| carrier.key.number) {
-        Ok(place) => place,
-        Err(_) => unreachable!(),
+    match find_in(number, held) {
+        Some(place) => place,
+        None => unreachable!(),
     }
 }
