@@ -2,15 +2,16 @@
 use Rattle.std.proofs.Common.{◌≡◌, ◌<◌, ◌≤◌, ◌≢◌, ℕ, true, false, List, [], ◌∷◌, map, All}
 use Rattle.std.proofs.Common.{AllPairs, get_or, length, sym, ap, ◌∙◌, subst, refl, inl, inr, arith}
 use Rattle.std.proofs.Common.{suc, Bool}
-use Rattle.std.specs.Prelude.{Option, IfSome, IsSome, None, Some, is_some, ◌==◌}
+use Rattle.std.specs.Prelude.{Option, IfSome, IsSome, None, Some, is_some, option_map, ◌==◌}
 use Rattle.std.proofs.lemmas.Bool.{cases_eq}
 use Rattle.std.proofs.lemmas.List.Elements.{All-head, All-tail}
 use Rattle.ea_model.specs.Content.{Content, gaps_of, largest}
-use Rattle.ea_model.specs.Instance.{changed, content_of, with_content, without_content}
+use Rattle.ea_model.specs.Instance.{changed, content_of, has_content}
+use Rattle.ea_model.specs.Instance.{with_content, without_content}
 use Rattle.ea_cset.specs.declared.keys.CarrierKey.{CarrierKey}
 use Rattle.ea_cset.specs.declared.keys.CarrierFit.{CarrierFit}
 use Rattle.ea_cset.specs.declared.keys.Found.{Found}
-use Rattle.ea_cset.specs.Carriers.{carrier_of, StandsIn}
+use Rattle.ea_cset.specs.Carriers.{carrier_of, IsBefore, StandsIn}
 use Rattle.ea_cset.specs.Carriers.{Carriers, is_held, refitted, with_fit, number_of as set_number}
 use Rattle.ea_model.specs.Keyed.{entered, without}
 use Rattle.std.proofs.lemmas.List.{get_or-map, length-map}
@@ -29,6 +30,7 @@ use Rattle.ea_employed.specs.Binned.{Hold}
 use Rattle.ea_employed.specs.Listed.{all_gaps, held_of, IsListed}
 use Rattle.ea_laws.proofs.Changed.{KeepsPlace}
 use Rattle.ea_laws.proofs.Apart.{only-item}
+use Rattle.ea_laws.proofs.Contents.{absent-none}
 
 -- a carrier that is listed is held
 pub held-some : (n : ℕ) (cs : List Content) → IsSome (content_of cs n)
@@ -77,6 +79,37 @@ place-there n i cs hs held rising within found d =
     ∙ item_at-key set_number n (get_or hs i (held_of d)) hs (found (held_of d)) in
     subst (λ k. content_of cs k ≡ Some (get_or cs i d)) number
     (item_at-each number_of i d cs rising in_list)
+
+-- the carriers stand by rising number where the set holds them so
+held-rising : (cs : List Content) (hs : List CarrierFit) → hs ≡ map held_of cs
+    → AllPairs IsBefore hs → IsRising cs
+held-rising cs hs held rising = λ i j d lt within.
+    let same : (k : ℕ) → k < length cs
+    → (get_or hs k (held_of d)).key.number ≡ (get_or cs k d).number =
+    λ k le. ap set_number (ap (λ ys. get_or ys k (held_of d)) held
+    ∙ get_or-map held_of cs k d (held_of d) le) in
+    let here : (get_or hs i (held_of d)).key.number < (get_or hs j (held_of d)).key.number =
+    (rising i j (held_of d) lt (omega (arith, within, ap length held, length-map cs held_of))).0 in
+    omega (arith, here, same i (omega arith), same j within)
+
+-- what the set found by its number, if it did, is the carrier with the number
+module _ (n : ℕ) (cs now : List Content) (hs : List CarrierFit) (o : Option ℕ)
+    (held : hs ≡ map held_of cs) (seen : cs ≡ now) where
+  pub find-none : o ≡ None → is_some o ≡ is_held n hs → None ≡ content_of now n
+  find-none was same =
+      let none : has_content n cs ≡ false = sym (ap is_some (item_at-map set_number held_of n cs)
+      ∙ is_some-map held_of (content_of cs n)) ∙ ap (is_held n) (sym held) ∙ sym same
+      ∙ ap is_some was in
+      sym (absent-none n cs none) ∙ ap (λ ys. content_of ys n) seen
+
+  pub find-some : (i : ℕ) → o ≡ Some i → AllPairs IsBefore hs → IfSome o (λ k. k < length hs)
+      → ((h : CarrierFit) → carrier_of hs n ≡ option_map (λ k. get_or hs k h) o) → (d : Content)
+      → Some (get_or cs i d) ≡ content_of now n
+  find-some i was rising within found d =
+      sym (place-there n i cs hs held (held-rising cs hs held rising)
+      (subst (λ r. IfSome r (λ k. k < length hs)) was within)
+      (λ h. found h ∙ ap (option_map (λ k. get_or hs k h)) was) d)
+      ∙ ap (λ ys. content_of ys n) seen
 
 module _ (f : Content → Content) (k : KeepsPlace f) (n : ℕ) (item : Content) where
   -- the carrier with another fit is the changed carrier

@@ -1,7 +1,7 @@
 //! The carriers that an instance employs.
 ghost use Rattle.std.specs.Prelude.{◌≡◌, ◌≢◌, ℕ, ◌*◌, ◌+◌, ◌%◌, ◌<◌, ◌≤◌, [], All, Some, None};
 ghost use Rattle.std.specs.Prelude.{true, false, IsSome, IfSome, IfOk, OnOk, OnErr, length};
-ghost use Rattle.std.specs.Prelude.{get_or, map};
+ghost use Rattle.std.specs.Prelude.{get_or, map, option_map};
 ghost use Rattle.std.specs.Option.{option_and_then};
 ghost use Rattle.ea_model.specs.declared.settings.Strategy.TheVariants.{Gf, Af};
 ghost use Rattle.ea_model.specs.declared.units.TheConstants.{MAX_SCHEDULERS, MAX_UNITS};
@@ -88,6 +88,14 @@ impl Carriers {
         ensures { result.now ≡ self.now.contents }
     {
         &self.list
+    }
+
+    /// The carrier with the number, if there is one.
+    pub fn carrier(&self, number: u32) -> Option<&Employed>
+        ensures { option_map (λ x. x.now) result ≡ content_of self.now.contents number }
+    {
+        let index = self.set.find(number)?;
+        Some(&self.list[index])
     }
 
     /// Blocks and carriers, and their units.
