@@ -216,14 +216,14 @@ impl Instance {
     pub(crate) fn has_multi(&self, carrier: u32) -> bool
         ensures { result ≡ has_content carrier self.now.contents }
     {
-        item_of(carrier, self.carriers.as_slice()).is_some()
+        self.carriers.carrier(carrier).is_some()
     }
 
     /// The block at the spot, if it employs the carrier and a block begins there.
     pub fn block_at(&self, spot: Spot) -> Option<Block>
         ensures { result ≡ option_map named (block_in (employed self.now) spot) }
     {
-        if let Some(multi) = item_of(spot.carrier, self.carriers.as_slice()) {
+        if let Some(multi) = self.carriers.carrier(spot.carrier) {
             return multi.block_at(spot.offset);
         }
         match item_of(spot.carrier, self.singles.as_slice()) {
@@ -237,7 +237,7 @@ impl Instance {
         ensures { result ≡ option_map (carrier_line self.now.number)
             (content_of (employed self.now) carrier) }
     {
-        if let Some(multi) = item_of(carrier, self.carriers.as_slice()) {
+        if let Some(multi) = self.carriers.carrier(carrier) {
             return Some(multi.line(self.number));
         }
         match item_of(carrier, self.singles.as_slice()) {
@@ -467,7 +467,7 @@ impl Instance {
             (λ c. result ≡ is_due self.now.settings self.now.contents c) }
     {
         let figures = self.multi_figures();
-        match item_of(number, self.carriers.as_slice()) {
+        match self.carriers.carrier(number) {
             Some(multi) => is_due(self.settings, figures, multi),
             None => false,
         }
@@ -507,7 +507,7 @@ impl Instance {
         requires { IsSome (block_in (employed self.now) spot) }
         ensures { result ≡ decision_at self.now spot need }
     {
-        if let Some(multi) = item_of(spot.carrier, self.carriers.as_slice()) {
+        if let Some(multi) = self.carriers.carrier(spot.carrier) {
             let block = multi.extent(spot.offset);
             let behind = block.after;
             return decide(self.settings, block.size, need, Where::Multi { behind });

@@ -15,8 +15,7 @@ block_of offset o = option_map named
 pub returns-in-Some : goal.returns-in-Some
 returns-in-Some c =
     let number = c.args.spot.carrier in
-    let there = sym (c.item_of.ensures ∙ ap (λ cs. content_of cs number) c.as_slice.ensures)
-    ∙ ap (option_map (λ x. x.now)) c.in-Some.is in
+    let there = sym c.carrier.ensures ∙ ap (option_map (λ x. x.now)) c.in-Some.is in
     c.block_at.ensures
     ∙ sym (ap (block_of c.args.spot.offset)
     (found-multi _ _ c.self.inside.own c.self.inside.carriers c.self.inside.singles
@@ -25,10 +24,8 @@ returns-in-Some c =
 pub returns-in-Some-item_of : goal.returns-in-Some-item_of
 returns-in-Some-item_of c =
     let number = c.args.spot.carrier in
-    let none = sym (c.item_of.ensures ∙ ap (λ cs. content_of cs number) c.as_slice.ensures)
-    ∙ ap (option_map (λ x. x.now)) c.in_default.is in
-    let second = sym (c.item_of-2.ensures
-    ∙ ap (λ cs. content_of cs number) c.as_slice-2.ensures)
+    let none = sym c.carrier.ensures ∙ ap (option_map (λ x. x.now)) c.in_default.is in
+    let second = sym (c.item_of.ensures ∙ ap (λ cs. content_of cs number) c.as_slice.ensures)
     ∙ ap (option_map (λ x. x.now)) c.in-Some-item_of.is in
     c.block_at-in-Some-item_of.ensures
     ∙ sym (ap (block_of c.args.spot.offset)
@@ -38,10 +35,8 @@ returns-in-Some-item_of c =
 pub returns-in-None : goal.returns-in-None
 returns-in-None c =
     let number = c.args.spot.carrier in
-    let none = sym (c.item_of.ensures ∙ ap (λ cs. content_of cs number) c.as_slice.ensures)
-    ∙ ap (option_map (λ x. x.now)) c.in_default.is in
-    let second = sym (c.item_of-2.ensures
-    ∙ ap (λ cs. content_of cs number) c.as_slice-2.ensures)
+    let none = sym c.carrier.ensures ∙ ap (option_map (λ x. x.now)) c.in_default.is in
+    let second = sym (c.item_of.ensures ∙ ap (λ cs. content_of cs number) c.as_slice.ensures)
     ∙ ap (option_map (λ x. x.now)) c.in-None.is in
     sym (ap (block_of c.args.spot.offset)
     (found-single _ _ c.self.inside.own c.self.inside.carriers c.self.inside.singles

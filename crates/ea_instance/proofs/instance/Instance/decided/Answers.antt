@@ -7,8 +7,7 @@ use Rattle.ea_instance.proofs.instance.Instance.decided.Goals as goal
 pub extent-block-requires : goal.extent-block-requires
 extent-block-requires c =
     let number = c.args.spot.carrier in
-    let there = sym (c.item_of.ensures ∙ ap (λ cs. content_of cs number) c.as_slice.ensures)
-    ∙ ap (option_map (λ x. x.now)) c.in-Some.is in
+    let there = sym c.carrier.ensures ∙ ap (option_map (λ x. x.now)) c.in-Some.is in
     begins-multi _ _ c.self.inside.own c.self.inside.carriers c.self.inside.singles
     c.self.inside.created
     c.self.invariant c.args.spot c.args.need _ c.self.view_is c.requires _ there
@@ -16,8 +15,7 @@ extent-block-requires c =
 pub returns-in-Some : goal.returns-in-Some
 returns-in-Some c =
     let number = c.args.spot.carrier in
-    let there = sym (c.item_of.ensures ∙ ap (λ cs. content_of cs number) c.as_slice.ensures)
-    ∙ ap (option_map (λ x. x.now)) c.in-Some.is in
+    let there = sym c.carrier.ensures ∙ ap (option_map (λ x. x.now)) c.in-Some.is in
     c.decide.ensures ∙ decided-multi _ _ c.self.inside.own c.self.inside.carriers
     c.self.inside.singles c.self.inside.created
     c.self.invariant c.args.spot c.args.need _ c.self.view_is c.requires _ there _ _
@@ -26,10 +24,8 @@ returns-in-Some c =
 pub unreachable-requires : goal.unreachable-requires
 unreachable-requires c =
     let number = c.args.spot.carrier in
-    let none = sym (c.item_of.ensures ∙ ap (λ cs. content_of cs number) c.as_slice.ensures)
-    ∙ ap (option_map (λ x. x.now)) c.in_default.is in
-    let second = sym (c.item_of-2.ensures
-    ∙ ap (λ cs. content_of cs number) c.as_slice-2.ensures)
+    let none = sym c.carrier.ensures ∙ ap (option_map (λ x. x.now)) c.in_default.is in
+    let second = sym (c.item_of.ensures ∙ ap (λ cs. content_of cs number) c.as_slice.ensures)
     ∙ ap (option_map (λ x. x.now)) c.in-None.is in
     never-none _ _ c.self.inside.own c.self.inside.carriers c.self.inside.singles
     c.self.inside.created
@@ -38,10 +34,8 @@ unreachable-requires c =
 pub returns : goal.returns
 returns c =
     let number = c.args.spot.carrier in
-    let none = sym (c.item_of.ensures ∙ ap (λ cs. content_of cs number) c.as_slice.ensures)
-    ∙ ap (option_map (λ x. x.now)) c.in_default.is in
-    let second = sym (c.item_of-2.ensures
-    ∙ ap (λ cs. content_of cs number) c.as_slice-2.ensures)
+    let none = sym c.carrier.ensures ∙ ap (option_map (λ x. x.now)) c.in_default.is in
+    let second = sym (c.item_of.ensures ∙ ap (λ cs. content_of cs number) c.as_slice.ensures)
     ∙ ap (option_map (λ x. x.now)) c.in-Some-item_of.is in
     c.decide-in-Some-item_of.ensures ∙ decided-single _ _ c.self.inside.own c.self.inside.carriers
     c.self.inside.singles c.self.inside.created

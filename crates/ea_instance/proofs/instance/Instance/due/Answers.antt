@@ -2,7 +2,7 @@ use Rattle.std.proofs.Common.{◌≡◌, ap, sym, subst, ◌∙◌}
 use Rattle.std.specs.Prelude.{IfSome, false, option_map}
 use Rattle.ea_model.specs.Abandonment.{is_due}
 use Rattle.ea_model.specs.Content.{Content}
-use Rattle.ea_model.specs.Instance.{Instance, content_of}
+use Rattle.ea_model.specs.Instance.{Instance}
 use Rattle.ea_instance.proofs.Keeping.{found-multi, found-single}
 use Rattle.ea_instance.proofs.Migrating.{singles-stay}
 use Rattle.ea_instance.proofs.instance.Instance.due.Goals as goal
@@ -11,8 +11,7 @@ pub returns-in-Some : goal.returns-in-Some
 returns-in-Some c =
     let i = c.args.self.now in
     let number = c.args.number in
-    let there = sym (c.item_of.ensures ∙ ap (λ cs. content_of cs number) c.as_slice.ensures)
-    ∙ ap (option_map (λ x. x.now)) c.in-Some.is in
+    let there = sym c.carrier.ensures ∙ ap (option_map (λ x. x.now)) c.in-Some.is in
     let found = found-multi _ _ c.self.inside.own c.self.inside.carriers c.self.inside.singles
     c.self.inside.created c.self.invariant _ c.self.view_is number _ there in
     subst (λ o. IfSome o (λ (x : Content). c.is_due.result ≡ is_due i.settings i.contents x))
@@ -24,8 +23,7 @@ pub returns-in-None : goal.returns-in-None
 returns-in-None c =
     let i = c.args.self.now in
     let number = c.args.number in
-    let none = sym (c.item_of.ensures ∙ ap (λ cs. content_of cs number) c.as_slice.ensures)
-    ∙ ap (option_map (λ x. x.now)) c.in-None.is in
+    let none = sym c.carrier.ensures ∙ ap (option_map (λ x. x.now)) c.in-None.is in
     subst (λ o. IfSome o (λ (x : Content). false ≡ is_due i.settings i.contents x))
     (sym (found-single _ _ c.self.inside.own c.self.inside.carriers c.self.inside.singles
     c.self.inside.created c.self.invariant _ c.self.view_is number none))
