@@ -1,3 +1,6 @@
 pub mod First
-pub mod Places
+pub mod Rising
 pub mod Searched
+pub mod Ranked
+pub mod Orders
+pub mod Firsts

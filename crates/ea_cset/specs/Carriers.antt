@@ -1,6 +1,6 @@
 -- The carriers of a set, and which of them comes first.
 use Rattle.std.specs.Prelude.{◌≡◌, ◌≢◌, ℕ, ◌<◌, ◌≤◌, Bool, false, if◌then◌else◌}
-use Rattle.std.specs.Prelude.{nat_lt, nat_le, List, Option, All, AllPairs, Any}
+use Rattle.std.specs.Prelude.{nat_lt, nat_le, List, Option, All, Any}
 use Rattle.std.specs.Prelude.{filter, map, length, get_or, is_some, option_map}
 use Rattle.ea_model.specs.Choice.{first, less}
 use Rattle.ea_model.specs.Keyed.{has_key, item_at}
@@ -73,10 +73,3 @@ pub record IsAhead (before : CarrierFit → CarrierFit → Bool) (need : ℕ) (h
 -- the number is that of a held carrier that fits, and no carrier that fits comes before it
 abbrev pub IsFirstOf : (CarrierFit → CarrierFit → Bool) → ℕ → List CarrierFit → ℕ → Type 0
 IsFirstOf before need hs number = Any (IsAhead before need hs number) hs
-
--- the carriers stand by rising number and have different bases, there is room for them, and memory
--- for the room
-pub record IsKept (room capacity : ℕ) (hs : List CarrierFit) : Type 0 where
-  pub rising : AllPairs IsBefore hs
-  pub within : length hs ≤ room
-  pub reserved : room ≤ capacity

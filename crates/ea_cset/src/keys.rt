@@ -1,5 +1,8 @@
 //! What a set knows of a carrier.
 
+ghost use Rattle.std.specs.Prelude.{◌≡◌, ◌<◌, ◌^◌};
+ghost use Rattle.ea_cset.specs.Ranks.{address_key, age_key};
+
 use ea_model::keyed::Keyed;
 
 /// What tells a carrier from the others, and stays the same while it is employed.
@@ -36,4 +39,19 @@ impl Keyed for CarrierFit {
     fn key(&self) -> u32 {
         self.key.number
     }
+}
+
+/// A number that rises with the carrier's address.
+pub fn address_key(carrier: CarrierFit) -> u64
+    ensures { result ≡ address_key carrier }
+{
+    carrier.key.base as u64
+}
+
+/// A number that rises with the carrier's birth, and among equals with its number.
+pub fn age_key(carrier: CarrierFit) -> u64
+    ensures key { result ≡ age_key carrier }
+    ensures small { carrier.key.number < 2 ^ 32 }
+{
+    carrier.key.birth as u64 * (1 << 32) + carrier.key.number as u64
 }

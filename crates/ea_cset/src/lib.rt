@@ -3,10 +3,11 @@
 #![tactic(auto)]
 
 pub mod keys;
+mod places;
+mod ranking;
 pub mod set;
 #[cfg(test)]
 mod tests;
-mod walks;
 
 pub use keys::{CarrierFit, CarrierKey, Found};
 pub use set::CarrierSet;

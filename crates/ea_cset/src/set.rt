@@ -5,33 +5,39 @@ ghost use Rattle.std.specs.Prelude.{IsNone, IfSome, IfOk, get_or, length, is_som
 ghost use Rattle.ea_model.specs.Keyed.{entered, without};
 ghost use Rattle.ea_cset.specs.Carriers.{number_of, is_held, carrier_of, with_fit, refitted};
 ghost use Rattle.ea_cset.specs.Carriers.{lower, older, first_number, IsBefore, IsFirstOf, StandsIn};
-ghost use Rattle.ea_cset.specs.Carriers.{number_found};
+ghost use Rattle.ea_cset.specs.Carriers.{carrier_found, number_found};
 ghost use Rattle.ea_cset.specs.declared.keys.CarrierFit as keys;
 
-use crate::keys::{CarrierFit, CarrierKey, Found};
-use crate::walks::{find_in, lowest, oldest, place_in};
+use crate::keys::{CarrierFit, CarrierKey, Found, address_key, age_key};
+use crate::places::{find_in, place_in};
+use crate::ranking::{Rank, Ranking};
 use ea_model::OutOfMemory;
 use ea_model::keyed::{enter_within, take_out};
 use std::alloc::Global;
 use std::marker::Model;
 
-/// A set of carriers, of which no two have the same number or the same base. Contracts see it as
-/// its carriers by rising number, and how many carriers it has room for.
+/// A set of carriers, of which no two have the same number or the same base. It keeps them by
+/// rising number, and in both orders with a tree of their fits each. Contracts see it as its
+/// carriers by rising number, and how many carriers it has room for.
 #[derive(Drop)]
 pub struct CarrierSet {
     room: u32,
     held: Vec<CarrierFit>,
+    by_address: Ranking,
+    by_age: Ranking,
 }
 
 impl Model for CarrierSet {
     ghost use Rattle.std.specs.Prelude.{vec_capacity};
-    ghost use Rattle.ea_cset.specs.Carriers.{Carriers, IsKept};
+    ghost use Rattle.ea_cset.specs.Carriers.{Carriers};
+    ghost use Rattle.ea_cset.specs.Ranks.{IsKept};
 
     ghost Value = { Carriers };
 
     ghost view = { λ s. record { held = s.held.items; room = s.room } };
 
-    ghost invariant = { λ s. IsKept s.room (vec_capacity s.held) s.held.items };
+    ghost invariant = { λ s.
+        IsKept s.room (vec_capacity s.held) s.held.items s.by_address s.by_age };
 }
 
 impl CarrierSet {
@@ -39,9 +45,13 @@ impl CarrierSet {
     pub fn new(alloc: Global, room: u32) -> Result<CarrierSet, OutOfMemory>
         ensures { IfOk result (λ s. s ≡ record { held = []; room = room }) }
     {
+        let by_address = Ranking::new(alloc, room)?;
+        let by_age = Ranking::new(alloc, room)?;
         Ok(CarrierSet {
             room,
             held: Vec::with_capacity(alloc, room as usize)?,
+            by_address,
+            by_age,
         })
     }
 
@@ -61,7 +71,16 @@ impl CarrierSet {
             (if n == key.number then Some (record { key = key; fit = fit }) else carrier_of
             self.old.held n) }
     {
-        enter_within(CarrierFit { key, fit }, &mut self.held);
+        let carrier = CarrierFit { key, fit };
+        self.by_address.enter(Rank {
+            key: address_key(carrier),
+            carrier,
+        });
+        self.by_age.enter(Rank {
+            key: age_key(carrier),
+            carrier,
+        });
+        enter_within(carrier, &mut self.held);
     }
 
     /// Takes the carrier with the number out of the set.
@@ -77,7 +96,9 @@ impl CarrierSet {
             → carrier_of self.new.held n ≡
             (if n == number then None else carrier_of self.old.held n) }
     {
-        take_out(number, &mut self.held);
+        let carrier = take_out(number, &mut self.held);
+        self.by_address.leave(address_key(carrier));
+        self.by_age.leave(age_key(carrier));
     }
 
     /// Notes that the largest gap of the carrier with the number now has `fit` units.
@@ -92,6 +113,9 @@ impl CarrierSet {
             (carrier_of self.old.held n) }
     {
         let index = place_in(number, &self.held);
+        let carrier = self.held[index];
+        self.by_address.update(address_key(carrier), fit);
+        self.by_age.update(age_key(carrier), fit);
         self.held[index].fit = fit;
     }
 
@@ -129,7 +153,7 @@ impl CarrierSet {
         ensures stands { IfSome result (StandsIn self.now.held) }
         ensures rising { AllPairs IsBefore self.now.held }
     {
-        lowest(need, &self.held)
+        self.found(self.by_address.first(need))
     }
 
     /// The oldest carrier whose largest gap has at least `need` units, or None where
@@ -145,6 +169,17 @@ impl CarrierSet {
         ensures stands { IfSome result (StandsIn self.now.held) }
         ensures rising { AllPairs IsBefore self.now.held }
     {
-        oldest(need, &self.held)
+        self.found(self.by_age.first(need))
+    }
+
+    /// What is held of a carrier, with its place.
+    fn found(&self, first: Option<CarrierFit>) -> Option<Found>
+        requires { IfSome first (λ h. carrier_of self.now.held h.key.number ≡ Some h) }
+        ensures carrier { carrier_found result ≡ first }
+        ensures stands { IfSome result (StandsIn self.now.held) }
+    {
+        let carrier = first?;
+        let index = place_in(carrier.key.number, &self.held);
+        Some(Found { index, carrier })
     }
 }
