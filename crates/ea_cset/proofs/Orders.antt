@@ -1,5 +1,5 @@
 -- Carriers in an order, after a change of the set.
-use Rattle.std.proofs.Common.{◌≡◌, ◌≢◌, ℕ, ◌+◌, List, [], length, sym, ap, ◌∙◌, subst}
+use Rattle.std.proofs.Common.{◌≡◌, ◌≢◌, ℕ, ◌+◌, List, length, sym, ap, ◌∙◌, subst}
 use Rattle.std.proofs.Common.{refl, inl, inr, arith}
 use Rattle.std.specs.Prelude.{All, Option, Some, None}
 use Rattle.std.proofs.lemmas.Bool.{cases_eq}
@@ -14,16 +14,6 @@ use Rattle.ea_cset.specs.declared.keys.CarrierFit.{CarrierFit}
 use Rattle.ea_cset.specs.declared.ranking.Rank.{Rank}
 use Rattle.ea_cset.specs.Carriers.{number_of, carrier_of, refitted}
 use Rattle.ea_cset.specs.Ranks.{rank_key, rank_of, refit, IsRankedBy, Ranks}
-
-pub ranked-none : (by : CarrierFit → ℕ) (room : ℕ)
-    → IsRankedBy by room [] (record { ranks = []; room = room })
-ranked-none by room = record {
-  room_is = refl;
-  long = refl;
-  rising = λ i j d lt within. absurd (omega arith);
-  all = λ n h e. absurd cc;
-  only = λ k r e. absurd cc;
-}
 
 module _ (by : CarrierFit → ℕ) (room : ℕ) (hs : List CarrierFit) (o : Ranks)
     (ranked : IsRankedBy by room hs o) where

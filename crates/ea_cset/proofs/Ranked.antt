@@ -96,7 +96,8 @@ find-past : (need : ℕ) (rs : List Rank) → All (λ r. r.carrier.fit < need) r
     → find (fits need) rs ≡ None
 find-past need [] a = refl
 find-past need (r ∷ rs) a =
-    let past : fits need r ≡ false = let lt = All-head (λ (x : Rank). x.carrier.fit < need) r rs a in
+    let past : fits need r ≡ false =
+    let lt = All-head (λ (x : Rank). x.carrier.fit < need) r rs a in
     grind (arith, nat_tests) in
     cond-false (fits need r) (Some r) (find (fits need) rs) past
     ∙ find-past need rs (All-tail (λ (x : Rank). x.carrier.fit < need) r rs a)

@@ -1,5 +1,6 @@
 //! Places among carriers by rising number.
-ghost use Rattle.std.specs.Prelude.{◌≡◌, ◌<◌, AllPairs, Some, IfSome, IsTrue, get_or, length, option_map};
+ghost use Rattle.std.specs.Prelude.{◌≡◌, ◌<◌, AllPairs, Some, IfSome, IsTrue, get_or, length};
+ghost use Rattle.std.specs.Prelude.{option_map};
 ghost use Rattle.std.specs.List.{position_or_len};
 ghost use Rattle.ea_model.specs.Keyed.{has_key};
 ghost use Rattle.ea_cset.specs.declared.keys.CarrierFit as keys;

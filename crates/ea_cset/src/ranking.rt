@@ -1,10 +1,10 @@
 //! Carriers in an order, and the first of them that fits.
-ghost use Rattle.std.specs.Prelude.{◌≡◌, ◌≢◌, ◌+◌, ◌<◌, ◌≤◌, [], All, AllPairs, Some, IsNone, IsSome};
-ghost use Rattle.std.specs.Prelude.{◌^◌, IfOk, find, insert, length, option_map, vec_capacity, vec_len};
+ghost use Rattle.std.specs.Prelude.{◌≡◌, ◌≢◌, ◌+◌, ◌^◌, ◌<◌, ◌≤◌, [], All, AllPairs, IsSome, IfOk};
+ghost use Rattle.std.specs.Prelude.{find, insert, length, option_map, vec_capacity, vec_len};
 ghost use Rattle.std.specs.List.{position_or_len};
 ghost use Rattle.ea_model.specs.Keyed.{changed_at, entered, has_key, is_after, item_at, IsBelow};
 ghost use Rattle.ea_model.specs.Keyed.{without};
-ghost use Rattle.ea_cset.specs.Ranks.{fit_of, fits, rank_key, refit, AreFits, IsWritten};
+ghost use Rattle.ea_cset.specs.Ranks.{fits, rank_key, refit, AreFits, IsWritten};
 
 use crate::keys::CarrierFit;
 use ea_model::OutOfMemory;

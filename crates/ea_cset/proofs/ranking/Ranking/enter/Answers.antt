@@ -11,7 +11,8 @@ pub write_fits-requires-clause-others : goal.write_fits-requires-clause-others
 write_fits-requires-clause-others c =
     let rs = c.self.inside.ranks.items in
     let i = c.place_for-place.result in
-    let within = subst (λ xs. i ≤ length xs) c.deref.ensures.value c.place_for-place.ensures.within in
+    let within = subst (λ xs. i ≤ length xs) c.deref.ensures.value
+    c.place_for-place.ensures.within in
     subst (λ xs. IsWritten i c.len.result xs c.self.inside.tree)
     (sym (c.deref-2.ensures.value ∙ c.insert_within.ensures.items))
     (subst (λ n. IsWritten i n (insert rs i c.args.rank) c.self.inside.tree)

@@ -8,7 +8,8 @@ use Rattle.ea_cset.proofs.ranking.Ranking.first.Goals as goal
 pub returns-in_err-place : goal.returns-in_err-place
 returns-in_err-place c =
     c.from_residual.ensures
-    ∙ sym (ap (λ (r : Ranks). option_map (λ (x : Rank). x.carrier) (find (fits c.args.need) r.ranks))
+    ∙ sym (ap (λ (r : Ranks). option_map (λ (x : Rank). x.carrier)
+    (find (fits c.args.need) r.ranks))
     (sym c.self.view_is)
     ∙ ap (option_map (λ (x : Rank). x.carrier))
     (none-fits c.args.need c.self.inside.ranks.items c.self.inside.tree

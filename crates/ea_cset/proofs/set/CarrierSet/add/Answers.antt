@@ -74,7 +74,9 @@ invariant_of-self c =
           (ranked-entered address_key room hs o c.self.invariant.address x number
           (key-free address_key room hs o c.self.invariant.address c.args.key.base base)
           c.enter.new.self (c.enter.ensures.entered
-          ∙ ap (λ k. record o { ranks = entered rank_key (record { key = k; carrier = x }) o.ranks })
+          ∙ ap (λ k. record o {
+            ranks = entered rank_key (record { key = k; carrier = x }) o.ranks;
+          })
           c.address_key.ensures));
       age =
           let o = c.self.inside.by_age in
@@ -84,7 +86,9 @@ invariant_of-self c =
           (key-free age_key room hs o c.self.invariant.age (age_key x)
           (ages-differ x hs c.self.invariant.small c.age_key.ensures.small number))
           c.enter-2.new.self (c.enter-2.ensures.entered
-          ∙ ap (λ k. record o { ranks = entered rank_key (record { key = k; carrier = x }) o.ranks })
+          ∙ ap (λ k. record o {
+            ranks = entered rank_key (record { key = k; carrier = x }) o.ranks;
+          })
           c.age_key.ensures.key));
     }
 

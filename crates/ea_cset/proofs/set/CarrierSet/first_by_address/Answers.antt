@@ -23,7 +23,8 @@ found : (c : goal.After-found)
 found c =
     first-ranked address_key c.self.inside.room c.args.need c.self.inside.held.items
     c.self.inside.by_address c.self.invariant.rising c.self.invariant.address lower lower-order
-    (λ a b s t. refl) c.self.invariant.small c.found.result (c.found.ensures.carrier ∙ c.first.ensures)
+    (λ a b s t. refl) c.self.invariant.small c.found.result
+    (c.found.ensures.carrier ∙ c.first.ensures)
     ∙ ap (λ (s : Carriers). first_number lower c.args.need s.held) c.self.view_is
 
 pub returns-clause-found : goal.returns-clause-found
