@@ -8,9 +8,11 @@ changing no allocation fails under a strategy that looks at all gaps. Good fit r
 blocks in fewer-filled and fewer-changing; under address fit nearly each block would have a carrier, and it has blocks of
 one size in equal-filled and equal-changing. Those in FOLDER/threads end with `threads`, and the same operations by a
 schedule are in FOLDER/schedules; mingled is for carriers of 512 kB, one of them main, and mingled and contended for an
-acul of 60. That in FOLDER/generated is for +S 16 and no other flag. Those in FOLDER/live are for carriers of 5 MB
-(+MHsmbcs 5120 +MHlmbcs 5120), of which each scheduler has one with all its blocks, and that in FOLDER/carriers is for
-carriers of any size.
+acul of 60. That in FOLDER/generated is for +S 16 and no other flag. Those in FOLDER/live are for any strategy, and for
+carriers of which each scheduler has one with all its blocks: of 50 bytes for each block of one size, and of 700 for each
+of random ones, where address fit has too few carriers. Those in FOLDER/spread are for 1, 16 or 256 carriers of each
+scheduler, of 4096 kB in all for blocks of one size, and of 7168 kB for random ones. Those in FOLDER/operations and in
+FOLDER/carriers are for carriers of any size.
 """
 import itertools
 import os
@@ -32,7 +34,12 @@ SMALL = 3000
 LARGE = 480_000
 LARGEST = 524280
 # Blocks of a carrier, and how many schedulers have one of these.
-LIVE = {1000: 16, 10_000: 4, 60_000: 1}
+LIVE = {1000: 16, 10_000: 4, 100_000: 1, 200_000: 1}
+# The least and the most bytes of a block.
+SIZES = {"equal": (LEAST, LEAST), "random": (LEAST, 1000)}
+# Blocks that fill 256 carriers of 16 kB, or 254 of 28 kB, before 10,000 of them are kept, and their least and most bytes.
+# Those of one size, 40 units, fill carriers of 16 kB and of 256 kB to the end.
+SPREAD = {"equal": (13_056, 312, 312), "random": (13_600, LEAST, 1000)}
 # Twenty blocks of that many bytes fill a carrier of 256 kB to its end.
 TWENTIETH = 13096
 
@@ -96,23 +103,45 @@ def carriers(count):
     return OPENING + "".join(f"alloc {name} {LEAST}\nfree {name}\n" for name in range(1, count + 1)) + CLOSING
 
 
-def live(count, schedulers):
-    """The sections of three traces: in the first each scheduler has `count` blocks of one size, in the second it frees
-    a random quarter of them then, and in the third it allocates as many anew."""
+def live(schedulers, allocated, kept, least, most):
+    """The sections of three traces. In the first each scheduler allocates blocks of least to most bytes, and frees random
+    ones until `kept` are left; in the second it then frees a random quarter of these, or as many as there are operations
+    left for; in the third it then allocates as many anew."""
     pick, names = random.Random(8), itertools.count(1)
+    surplus = allocated - kept
+    changes = min(kept // 4, (MOST_OPERATIONS // schedulers - allocated - surplus) // 2)
+
+    def allocs(count):
+        return [f"alloc {next(names)} {least + int(pick.random() * (most - least + 1))}\n" for _ in range(count)]
+
     filled, freed, refilled = ([] for _ in range(3))
     for _ in range(schedulers):
-        held = [next(names) for _ in range(count)]
-        filled.append([f"alloc {it} {LEAST}\n" for it in held])
-        freed.append(filled[-1] + [f"free {it}\n" for it in pick.sample(held, count // 4)])
-        refilled.append(freed[-1] + [f"alloc {next(names)} {LEAST}\n" for _ in range(count // 4)])
+        held = allocs(allocated)
+        frees = [f"free {it.split()[1]}\n" for it in pick.sample(held, surplus + changes)]
+        filled.append(held + frees[:surplus])
+        freed.append(held + frees)
+        refilled.append(held + frees + allocs(changes))
     return {"filled": filled, "freed": freed, "refilled": refilled}
 
 
 def live_traces():
-    for count, schedulers in LIVE.items():
-        for kind, texts in live(count, schedulers).items():
-            yield f"{count}-{kind}", sections_of(texts) + CLOSING
+    for sizes, (least, most) in SIZES.items():
+        for count, schedulers in LIVE.items():
+            for kind, texts in live(schedulers, count, count, least, most).items():
+                yield f"live/{count}-{sizes}-{kind}", sections_of(texts) + CLOSING
+    for sizes, (allocated, least, most) in SPREAD.items():
+        for kind, texts in live(4, allocated, 10_000, least, most).items():
+            yield f"spread/{sizes}-{kind}", sections_of(texts) + CLOSING
+
+
+def without_change():
+    """As many operations as there may be: of these that do nothing, of frees that are skipped, and of an alloc and a free
+    in turn beside a block that stays; and a trace without these."""
+    first, rest = OPENING + f"alloc 1 {LEAST}\n", MOST_OPERATIONS - 2
+    yield "nothing", first + "free 1\n" + CLOSING
+    yield "idle", first + "free 1\n" + "idle\n" * rest + CLOSING
+    yield "skipped", first + "free 1\n" * (rest + 1) + CLOSING
+    yield "pairs", first + "".join(f"alloc {it} {LEAST}\nfree {it}\n" for it in range(2, rest // 2 + 2)) + CLOSING
 
 
 def sections_of(texts):
@@ -313,6 +342,8 @@ def main(folder):
     os.makedirs(f"{folder}/migrating", exist_ok=True)
     os.makedirs(f"{folder}/generated", exist_ok=True)
     os.makedirs(f"{folder}/live", exist_ok=True)
+    os.makedirs(f"{folder}/spread", exist_ok=True)
+    os.makedirs(f"{folder}/operations", exist_ok=True)
     os.makedirs(f"{folder}/carriers", exist_ok=True)
     made = {
         "comments": comments(),
@@ -340,8 +371,9 @@ def main(folder):
         "strategies/equal-filled": crowded(5120, 4600, TWENTIETH, TWENTIETH, 0),
         "strategies/equal-changing": crowded(5120, 4600, TWENTIETH, TWENTIETH, 5000),
     }
-    for name, text in live_traces():
-        made[f"live/{name}"] = text
+    made.update(live_traces())
+    for name, text in without_change():
+        made[f"operations/{name}"] = text
     for name, sections, closing in for_threads():
         made[f"threads/{name}"] = sections + "threads\nend\n"
         made[f"schedules/{name}"] = sections + closing
