@@ -5,6 +5,7 @@ pub mod Observing
 pub mod Seeking
 pub mod StandsOn
 pub mod OwnCarriers
+pub mod Starting
 pub mod Texts
 pub mod AfterWalk
 pub mod CarrierCalling

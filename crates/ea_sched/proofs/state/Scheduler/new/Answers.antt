@@ -1,7 +1,11 @@
-use Rattle.std.proofs.Common.{◌≤◌, sym, subst, ◌∙◌, arith}
-use Rattle.std.specs.Prelude.{All}
+use Rattle.std.proofs.Common.{◌≡◌, ℕ, ◌-◌, ◌*◌, ◌≤◌, true, ap, sym, subst, ◌∙◌, arith}
+use Rattle.std.specs.Prelude.{All, nat_lt, nat_le, ◌&&◌}
+use Rattle.ea_model.specs.Instance.{new_instance}
+use Rattle.ea_machine.specs.Setup.{setup_of}
+use Rattle.ea_machine.specs.Statistics.{seen, unseen}
 use Rattle.ea_model.specs.Trace.{greatest_in}
 use Rattle.ea_sound.proofs.Asked.{text-upto}
+use Rattle.ea_sched.proofs.Starting.{starts}
 use Rattle.ea_sched.proofs.Texts.{text-is}
 use Rattle.ea_sched.proofs.state.Scheduler.new.Goals as goal
 
@@ -26,3 +30,25 @@ invariant_of-result-clause-text_is c =
     c.as_slice-text.ensures
     ∙ text-is c.args.trace.now.texts.items c.args.number c.get.result.now c.requires.from
     (omega (arith, c.requires.texts, c.requires.to)) c.get.ensures
+
+is_there : (a b : ℕ) → 1 ≤ a → a ≤ b → (nat_lt 0 a && nat_le a b) ≡ true
+is_there a b from to = grind arith
+
+pub returns-clause-actor : goal.returns-clause-actor
+returns-clause-actor c =
+    let n = c.args.number in
+    let setup = setup_of c.args.config c.args.trace.now in
+    starts setup n c.in_ok-instance.instance _ _ _ _ _ _
+    (is_there n c.args.config.schedulers c.requires.from c.requires.to)
+    (c.in_ok-instance.ensures
+    ∙ ap (λ s. new_instance s n ((n - 1) * c.region_pages-pages.result)
+    c.region_pages-pages.result) c.of.ensures
+    ∙ ap (λ p. new_instance setup.settings n ((n - 1) * p) p) c.region_pages-pages.ensures)
+    c.in_ok-names.ensures.none
+    (c.as_slice-text.ensures
+    ∙ text-is c.args.trace.now.texts.items n c.get.result.now c.requires.from
+    (omega (arith, c.requires.texts, c.requires.to)) c.get.ensures)
+    c.new-2.ensures
+    (c.new-mbcs.ensures ∙ ap (λ f. seen f unseen) c.multi_figures.ensures.figures)
+    (c.new-sbcs.ensures ∙ ap (λ f. seen f unseen) c.single_figures.ensures.figures)
+    (c.reserve.ensures.items ∙ c.new-log.ensures)
