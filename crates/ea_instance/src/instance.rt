@@ -39,8 +39,8 @@ use ea_mbc::{Mbc, Spare};
 use ea_model::keyed::item_of;
 use ea_model::{
     Block, CarrierLine, CarrierPlan, Decision, Figures, HEADER_UNITS, Kind, List, NUMBERS,
-    NoCarrier, OutOfMemory, Place, Settings, Spot, UNIT_BYTES, Where, first_number, least_pages,
-    pages_for,
+    NoCarrier, OutOfMemory, PAGE_UNITS, Place, Settings, Spot, UNIT_BYTES, Where, first_number,
+    least_pages, pages_for,
 };
 use ea_resize::decide;
 use ea_sbc::Sbc;
@@ -49,8 +49,8 @@ use std::marker::Model;
 
 /// An allocator instance. Contracts see its settings, its number, its region, the carriers that it
 /// owns, the contents of multiblock and of singleblock carriers that it employs, each by rising
-/// number, and how many carriers it created. Beside these it keeps a carrier that was deallocated,
-/// of which the next one can be made.
+/// number, and how many carriers it created. Beside these it keeps carriers that were deallocated,
+/// of which the next ones can be made.
 #[derive(Drop)]
 pub struct Instance {
     settings: Settings,
@@ -177,7 +177,7 @@ impl Instance {
             carriers,
             singles,
             created,
-            spare: Spare::new(),
+            spare: Spare::new(alloc, pages * PAGE_UNITS),
         })
     }
 
@@ -385,7 +385,7 @@ impl Instance {
     }
 
     /// The multiblock carrier of a plan, without blocks. It isn't employed yet. It takes no memory
-    /// where a carrier that was deallocated last had as many units.
+    /// where a carrier with as many units was deallocated and is still kept.
     pub fn prepare(&mut self, alloc: Global, plan: CarrierPlan) -> Result<Mbc, OutOfMemory>
         requires pages { (1 ≤ plan.pages) × (plan.pages ≤ MAX_PAGES) }
         requires multi { plan.single ≡ false }

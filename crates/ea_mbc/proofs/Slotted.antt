@@ -1,10 +1,10 @@
 -- The slots of a carrier whose blocks change.
-use Rattle.std.proofs.Common.{◌≡◌, ℕ, ◌+◌, ◌-◌, ◌%◌, ◌<◌, ◌≤◌, List, refl, sym, ap, ◌∙◌, subst}
+use Rattle.std.proofs.Common.{◌≡◌, ℕ, ◌+◌, ◌-◌, ◌≤◌, List, refl, sym, ◌∙◌, subst}
 use Rattle.std.proofs.Common.{arith}
-use Rattle.std.specs.Prelude.{Some, IsSome}
+use Rattle.std.specs.Prelude.{IsSome}
 use Rattle.ea_model.specs.declared.carriers.BlockAt.{BlockAt}
-use Rattle.ea_model.specs.Content.{Content, gaps, gap_at, gap_up_to, gap_before, gap_behind}
-use Rattle.ea_model.specs.Content.{block_at, end_of, size_of, inserted, IsGapSize, Tiled}
+use Rattle.ea_model.specs.Content.{gaps, gap_at, gap_up_to, gap_before, gap_behind}
+use Rattle.ea_model.specs.Content.{block_at, end_of, size_of, inserted, Tiled}
 use Rattle.ea_model.specs.Keyed.{without}
 use Rattle.ea_laws.proofs.BlockLists.{offset_of, Enters, Tiled-inserted, Tiled-released}
 use Rattle.ea_laws.proofs.Resized.{with_block}
@@ -17,7 +17,7 @@ use Rattle.ea_mbc.proofs.Indexing.{slot-resized, indexed-resized}
 use Rattle.ea_mbc.proofs.Replacing.{placed-GapTaken, released-GapsJoined}
 use Rattle.ea_mbc.proofs.Resizing.{with_block-Resizes, renamed-gaps}
 use Rattle.ea_mbc.specs.Coding.{blocks_of, IsCoded}
-use Rattle.ea_mbc.proofs.Seen.{as_content, Seen, seen, BlockRead}
+use Rattle.ea_mbc.proofs.Seen.{as_content, BlockRead}
 
 -- the slots have the gaps of the layout
 abbrev pub HasSlots : Layout → Slots → Type 0

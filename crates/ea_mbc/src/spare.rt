@@ -1,6 +1,7 @@
-//! A carrier that is kept for the next one.
-ghost use Rattle.std.specs.Prelude.{◌≡◌, ◌≤◌, [], IfOk, IfSome, length};
-ghost use Rattle.std.specs.Option.{option_map_or};
+//! Carriers that are kept for the next ones.
+ghost use Rattle.std.specs.Prelude.{◌≡◌, ◌≤◌, ◌<◌, [], ◌∷◌, All, IfOk, IfSome, length, vec_capacity};
+ghost use Rattle.std.specs.Prelude.{false, get_or, vec_len};
+ghost use Rattle.ea_model.specs.Content.{Content};
 ghost use Rattle.ea_model.specs.declared.carriers.Kind.TheVariants.{Multi};
 ghost use Rattle.ea_model.specs.declared.units.TheConstants.{MAX_PAGES};
 ghost use Rattle.ea_model.specs.Instance.{created_content};
@@ -9,37 +10,92 @@ use crate::carrier::Mbc;
 use ea_model::{CarrierPlan, Inner, OutOfMemory, PAGE_UNITS};
 use std::alloc::Global;
 
-/// Room for a carrier that was deallocated: the next one with as many units is made of it, so that
-/// it needs no memory of its own. The carrier that is kept has no blocks.
+/// For how many carriers there is room once one was made.
+const ROOM: usize = 16;
+
+/// Carriers that were deallocated: the next one with as many units as one of them is made of that
+/// one, and needs no memory of its own. They have no blocks, and together `most` units at most.
 #[derive(Drop)]
 pub struct Spare {
-    carrier: Option<Mbc>,
-    ghost empty: { option_map_or (λ m. length m.blocks) carrier 0 ≡ 0 },
+    most: u32,
+    carriers: Vec<Mbc>,
+    ghost empty: { All (λ m. length m.blocks ≡ 0) carriers.items },
+}
+
+/// The units of the carriers, or 2^32 - 1 if they are more.
+fn units_of(carriers: &[Mbc]) -> u32 {
+    let mut sum = 0u32;
+    for carrier in carriers {
+        sum = sum.saturating_add(carrier.units());
+    }
+    sum
+}
+
+/// The place of a carrier with that many units.
+fn place_of(units: u32, carriers: &[Mbc]) -> Option<usize>
+    ensures within { IfSome result (λ place. place < length carriers.now) }
+    ensures units { (d : Content)
+        → IfSome result (λ place. (get_or carriers.now place d).units ≡ units) }
+{
+    for (place, carrier) in carriers.iter().enumerate() {
+        if carrier.units() == units {
+            return Some(place);
+        }
+    }
+    None
+}
+
+/// Puts a carrier before the others, where there is room.
+fn put_first(carrier: Mbc, carriers: &mut Vec<Mbc>)
+    requires room { vec_len carriers.old < vec_capacity carriers.old }
+    ensures items { carriers.new.items ≡ carrier ∷ carriers.old.items }
+    ensures capacity { vec_capacity carriers.new ≡ vec_capacity carriers.old }
+{
+    if carriers.insert(0, carrier).is_err() {
+        unreachable!();
+    }
 }
 
 impl Spare {
-    /// No carrier.
-    pub fn new() -> Spare {
-        Spare { carrier: None }
-    }
-
-    /// Keeps a carrier that is deallocated, in place of the one before. One that has blocks is
-    /// dropped.
-    pub fn keep(&mut self, carrier: Mbc) {
-        if carrier.is_empty() {
-            self.carrier = Some(carrier);
+    /// No carriers. It takes no memory.
+    pub fn new(alloc: Global, most: u32) -> Spare {
+        Spare {
+            most,
+            carriers: Vec::new(alloc),
         }
     }
 
-    /// The carrier that is kept, if it has that many units.
+    /// Whether one with that many units is too much beside those that are kept.
+    fn is_full(&self, units: u32) -> bool
+        ensures { result ≡ false → vec_len self.now.carriers < vec_capacity self.now.carriers }
+    {
+        self.carriers.len() >= self.carriers.capacity()
+            || units_of(&self.carriers).saturating_add(units) > self.most
+    }
+
+    /// Keeps a carrier that is deallocated. Where that is too much, those that have been kept for
+    /// longest are dropped. One that has blocks, or more units than all may have, is dropped itself.
+    pub fn keep(&mut self, carrier: Mbc) {
+        if !carrier.is_empty() {
+            return;
+        }
+        let units = carrier.units();
+        while self.is_full(units) {
+            if self.carriers.is_empty() {
+                return;
+            }
+            self.carriers.pop();
+        }
+        put_first(carrier, &mut self.carriers);
+    }
+
+    /// Takes a carrier with that many units out, if there is one.
     fn take(&mut self, units: u32) -> Option<Mbc>
         ensures units { IfSome result (λ m. m.units ≡ units) }
         ensures empty { IfSome result (λ m. m.blocks ≡ []) }
     {
-        if self.carrier.as_ref()?.units() != units {
-            return None;
-        }
-        self.carrier.take()
+        let place = place_of(units, &self.carriers)?;
+        Some(self.carriers.remove(place))
     }
 
     /// The multiblock carrier of a plan, as `Mbc::new` makes it. It takes no memory where one with
@@ -54,9 +110,12 @@ impl Spare {
         requires { (1 ≤ plan.pages) × (plan.pages ≤ MAX_PAGES) }
         ensures { IfOk result (λ m. m ≡ created_content owner Multi plan) }
     {
-        match self.take(plan.pages * PAGE_UNITS) {
-            Some(carrier) => Ok(carrier.renewed(plan, owner)),
-            None => Mbc::new(alloc, plan, owner, inner),
+        if let Some(carrier) = self.take(plan.pages * PAGE_UNITS) {
+            return Ok(carrier.renewed(plan, owner));
         }
+        if self.carriers.is_empty() {
+            self.carriers.reserve(ROOM)?;
+        }
+        Mbc::new(alloc, plan, owner, inner)
     }
 }

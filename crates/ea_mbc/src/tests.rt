@@ -2,7 +2,7 @@
 ghost use Rattle.std.specs.Prelude.{◌≡◌, ◌%◌, ◌≤◌};
 ghost use Rattle.ea_model.specs.declared.units.TheConstants.{MAX_PAGES, MIN_BLOCK};
 
-use crate::{Freed, Mbc, Placed, Resized};
+use crate::{Freed, Mbc, Placed, Resized, Spare};
 use ea_model::{Block, CarrierPlan, Gap, Inner, OutOfMemory};
 use ea_tags::header::encode;
 use std::alloc::Global;
@@ -313,5 +313,77 @@ fn the_last_one_ends_where_the_carrier_does(rt: HostRuntime) -> Result<(), Fail>
     assert_eq!(rt; first_gap(&carrier), Some((36, 261_861, 32_732)));
     take_out(&mut carrier, 22);
     assert_eq!(rt; first_gap(&carrier), Some((22, 261_973, 32_746)));
+    Ok(())
+}
+
+// What it is, and the units of its largest gap.
+fn told(carrier: &Mbc) -> (u32, u32, u32, u32, u32, u32) {
+    (
+        carrier.number(),
+        carrier.owner(),
+        carrier.base(),
+        carrier.birth(),
+        carrier.units(),
+        carrier.largest(),
+    )
+}
+
+#[test]
+fn a_carrier_that_is_kept_is_like_a_new_one(rt: HostRuntime) -> Result<(), Fail> {
+    // Three pages are kept at most.
+    let mut spare = Spare::new(rt.alloc(), 1536);
+    for (number, pages, blocks) in [
+        (1, 1, 3),
+        (2, 2, 5),
+        (3, 1, 0),
+        (4, 1, 7),
+        (5, 2, 2),
+        (6, 4, 1),
+        (7, 4, 1),
+        (8, 2, 1),
+    ] {
+        let plan = CarrierPlan {
+            number,
+            base: 10 * number,
+            pages,
+            birth: 100 * number,
+            single: false,
+        };
+        let mut carrier = spare.carrier(rt.alloc(), plan, 1, Inner::Aobf)?;
+        let units = 512 * pages;
+        assert_eq!(rt;
+            told(&carrier),
+            (number, 1, 10 * number, 100 * number, units, units - 8),
+            "carrier {number}"
+        );
+        assert_eq!(rt; carrier.len(), 0, "carrier {number}");
+        for name in 1..=blocks {
+            let offset = 8 + 6 * (name - 1);
+            assert_eq!(rt;
+                put(&mut carrier, Inner::Aobf, 6, name),
+                placed(offset, 6, units - offset - 6),
+                "block {name} of carrier {number}"
+            );
+        }
+        for name in 1..=blocks {
+            take_out(&mut carrier, 8 + 6 * (name - 1));
+        }
+        spare.keep(carrier);
+    }
+
+    // One that has a block is not kept: the next one has none.
+    let mut carrier = of_pages(rt.alloc(), 1, Inner::Aobf)?;
+    put(&mut carrier, Inner::Aobf, 6, 1);
+    spare.keep(carrier);
+    let plan = CarrierPlan {
+        number: 1,
+        base: 0,
+        pages: 1,
+        birth: 1,
+        single: false,
+    };
+    let next = spare.carrier(rt.alloc(), plan, 2, Inner::Aobf)?;
+    assert_eq!(rt; told(&next), (1, 2, 0, 1, 512, 504));
+    assert_eq!(rt; next.len(), 0);
     Ok(())
 }

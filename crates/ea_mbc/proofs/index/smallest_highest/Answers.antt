@@ -1,4 +1,4 @@
-use Rattle.std.proofs.Common.{◌≡◌, ◌≤◌, ◌<◌, All, refl, sym, ◌∙◌, subst}
+use Rattle.std.proofs.Common.{◌≤◌, ◌<◌, All, refl, sym, ◌∙◌, subst}
 use Rattle.ea_model.specs.declared.carriers.Inner.TheVariants.{Bf}
 use Rattle.ea_model.specs.declared.units.TheConstants.{HEADER_UNITS}
 use Rattle.ea_mbc.proofs.Chosen.{choice-nothing, choice-bf}
