@@ -47,6 +47,7 @@ fn greater(best: Reached, key: u64, position: u32, bound: u64) -> Reached
 }
 
 /// The least key of at least `bound` in the tree at the link, or `best` where that is less.
+#[cycle(first)]
 pub fn first_from(
     nodes: &[Node],
     link: u32,
@@ -66,6 +67,19 @@ pub fn first_from(
     if from + width <= bound {
         return best;
     }
+    first_below(nodes, link, from, width, bound, best)
+}
+
+/// The same where the tree isn't empty. It stands apart, so that an empty one costs no call.
+#[cycle(first)]
+#[inline(never)]
+fn first_below(nodes: &[Node], link: u32, from: u64, width: u64, bound: u64, best: Found) -> Found
+    requires some { 0 < link }
+    requires end { from + width < 2 ^ 64 }
+    requires tree { (t : Tree) × IsTree (key_at nodes.now) nodes.now link from width t }
+    ensures { (t : Tree) → IsTree (key_at nodes.now) nodes.now link from width t
+        → IsLeast (key_at nodes.now) bound t best result }
+{
     let position = link - 1;
     let node = nodes[position as usize];
     let own = lesser(best, node.key, position, bound);
@@ -78,6 +92,7 @@ pub fn first_from(
 }
 
 /// The greatest key of at most `bound` in the tree at the link, or `best` where that is greater.
+#[cycle(last)]
 pub fn last_up_to(
     nodes: &[Node],
     link: u32,
@@ -97,6 +112,26 @@ pub fn last_up_to(
     if bound < from {
         return best;
     }
+    last_below(nodes, link, from, width, bound, best)
+}
+
+/// The same where the tree isn't empty. It stands apart, so that an empty one costs no call.
+#[cycle(last)]
+#[inline(never)]
+fn last_below(
+    nodes: &[Node],
+    link: u32,
+    from: u64,
+    width: u64,
+    bound: u64,
+    best: Reached,
+) -> Reached
+    requires some { 0 < link }
+    requires end { from + width < 2 ^ 64 }
+    requires tree { (t : Tree) × IsTree (key_at nodes.now) nodes.now link from width t }
+    ensures { (t : Tree) → IsTree (key_at nodes.now) nodes.now link from width t
+        → IsGreatest (key_at nodes.now) bound t best result }
+{
     let position = link - 1;
     let node = nodes[position as usize];
     let own = greater(best, node.key, position, bound);
