@@ -1,5 +1,6 @@
 use Rattle.std.proofs.Common.{rules, ◌≡◌, ◌≤◌, ◌<◌, ◌↔◌, All, ap, subst, ◌∙◌}
-use Rattle.std.specs.Prelude.{IfSome, IsNone, IsSomeAnd, MatchOption, Option, None, Some, option_map}
+use Rattle.std.specs.Prelude.{IfSome, IsNone, IsSomeAnd, MatchOption, Option, None, Some}
+use Rattle.std.specs.Prelude.{option_map}
 use Rattle.ea_cset.specs.declared.keys.CarrierFit.{CarrierFit}
 use Rattle.ea_cset.specs.declared.ranking.Rank.{Rank}
 use Rattle.ea_cset.specs.Carriers.{carrier_found, Carriers}
