@@ -6,6 +6,7 @@ use Rattle.std.proofs.lemmas.Bool.{cases_eq, cases_lt}
 use Rattle.std.proofs.lemmas.List.{length-replicate, get_or-replicate, get_or_past}
 use Rattle.std.proofs.lemmas.List.Elements.{All-nil}
 use Rattle.ea_model.specs.declared.carriers.Gap.{Gap}
+use Rattle.ea_model.specs.declared.carriers.Inner.{Inner}
 use Rattle.ea_model.specs.declared.units.TheConstants.{HEADER_UNITS}
 use Rattle.ea_model.specs.Content.{Content, gap, gaps, gaps_of, gap_at, gap_up_to, gap_before}
 use Rattle.ea_model.specs.Content.{gap_behind, Tiled}
@@ -227,13 +228,13 @@ zero_there n k =
     ]
 
 -- a carrier without blocks
-module _ (units : ℕ) (t : Tiled HEADER_UNITS units []) where
-  no_gaps-Indexed : Indexed units (no_gaps units) []
+module _ (inner : Inner) (units : ℕ) (t : Tiled HEADER_UNITS units []) where
+  no_gaps-Indexed : Indexed units (no_gaps inner units) []
   no_gaps-Indexed =
       record {
         offsets_long = length-replicate {A = ℕ} (slots_of units) 0;
         sizes_long = length-replicate {A = ℕ} (slots_of units) 0;
-        kept = All-nil (IsInSlot (no_gaps units));
+        kept = All-nil (IsInSlot (no_gaps inner units));
         only = λ k h. absurd (let none = zero_there (slots_of units) k in omega arith);
       }
 
@@ -241,14 +242,15 @@ module _ (units : ℕ) (t : Tiled HEADER_UNITS units []) where
   one_apart = subst (AreApart HEADER_UNITS units) (sym (append-nil (gap HEADER_UNITS units)))
       (gaps-AreApart HEADER_UNITS units [] t)
 
-  pub slot-new : HasSlot HEADER_UNITS (units - HEADER_UNITS) (no_gaps units)
+  pub slot-new : HasSlot HEADER_UNITS (units - HEADER_UNITS) (no_gaps inner units)
   slot-new = run-HasSlot HEADER_UNITS units (units - HEADER_UNITS) [] [] refl HEADER_UNITS units
-      (no_gaps units) one_apart no_gaps-Indexed
+      (no_gaps inner units) one_apart no_gaps-Indexed
 
   pub indexed-new : Indexed units
-      (put_in HEADER_UNITS (units - HEADER_UNITS) (no_gaps units)) (gaps HEADER_UNITS units [])
+      (put_in HEADER_UNITS (units - HEADER_UNITS) (no_gaps inner units))
+      (gaps HEADER_UNITS units [])
   indexed-new =
-      let one = put_in HEADER_UNITS (units - HEADER_UNITS) (no_gaps units) in
+      let one = put_in HEADER_UNITS (units - HEADER_UNITS) (no_gaps inner units) in
       subst (Indexed units one) (append-nil (gap HEADER_UNITS units))
       (run-put HEADER_UNITS units (units - HEADER_UNITS) [] [] refl HEADER_UNITS units
-      (no_gaps units) one_apart no_gaps-Indexed)
+      (no_gaps inner units) one_apart no_gaps-Indexed)

@@ -22,7 +22,7 @@ emptied at s = record s { sizes = slice_set s.sizes (slot_of at) 0 }
 
 abbrev filled : ℕ → ℕ → Slots → Slots
 filled at size s =
-    record {
+    record s {
       offsets = slice_set s.offsets (slot_of at) at;
       sizes = slice_set s.sizes (slot_of at) size;
     }

@@ -2,7 +2,7 @@
 use Rattle.std.proofs.Common.{◌≡◌, ℕ, ◌+◌, ◌-◌, ◌/◌, ◌^◌, ◌<◌, ◌≤◌, Bool, true, false, List, []}
 use Rattle.std.proofs.Common.{◌∷◌, ◌++◌}
 use Rattle.std.proofs.Common.{append-nil, refl, sym, ap, ◌∙◌, subst, inl, inr, arith}
-use Rattle.std.specs.Prelude.{slice_index, if◌then◌else◌, nat_lt, ◌==◌}
+use Rattle.std.specs.Prelude.{slice_index, nat_lt, ◌==◌}
 use Rattle.std.proofs.lemmas.Bool.{cases_lt}
 use Rattle.ea_model.specs.declared.carriers.BlockAt.{BlockAt}
 use Rattle.ea_model.specs.Content.{gap, gaps, IsGapSize, Tiled}
@@ -11,6 +11,7 @@ use Rattle.ea_tags.specs.Words.{code}
 use Rattle.ea_laws.proofs.Chosen.{gap_none}
 use Rattle.ea_laws.proofs.Tiling.{Tiled-allocated}
 use Rattle.ea_mbc.specs.Coding.{GapCoded, BlockCoded, Coded}
+use Rattle.ea_mbc.specs.Walks.{free_of}
 use Rattle.ea_mbc.proofs.Finding.{code-injective, code-small}
 
 -- header by header from `at` on, where a block, a gap or the carrier's header ends, the units are
@@ -25,10 +26,6 @@ pub Coded-Headed : (words names : List ℕ) (end at : ℕ) (bs : List BlockAt)
 Coded-Headed words names end at [] c = c.0
 Coded-Headed words names end at (b ∷ bs) c =
     (c.0, nat_lt at b.offset, c.2, Coded-Headed words names end (b.offset + b.size) bs c.4)
-
--- the free units that a header stands for
-abbrev pub free_of : Header → ℕ
-free_of h = if h.this_free then h.size else 0
 
 -- behind the gap or block of the header at `at` the rest of the blocks follows
 pub record Stepped (words names : List ℕ) (end at : ℕ) (h : Header) (bs : List BlockAt)

@@ -4,6 +4,7 @@ use Rattle.std.specs.Prelude.{◌≡◌, ℕ, ◌+◌, ◌*◌, ◌/◌, ◌<◌
 use Rattle.std.specs.Prelude.{List, [], ◌∷◌, All, Contains, length, replicate, slice_index}
 use Rattle.std.specs.Prelude.{slice_set}
 use Rattle.ea_model.specs.declared.carriers.Gap.{Gap}
+use Rattle.ea_model.specs.declared.carriers.Inner.{Inner}
 use Rattle.ea_model.specs.declared.units.TheConstants.{MIN_BLOCK}
 
 -- the slot that an offset lies in
@@ -14,15 +15,21 @@ slot_of offset = offset / (2 * MIN_BLOCK)
 abbrev pub slots_of : ℕ → ℕ
 slots_of units = units / (2 * MIN_BLOCK) + 1
 
--- by slots: where the gap that begins there begins, and its units, 0 where none begins
+-- the order in which gaps are chosen, and by slots: where the gap that begins there begins, and its
+-- units, 0 where none begins
 pub record Slots : Type 0 where
+  pub inner : Inner
   pub offsets : List ℕ
   pub sizes : List ℕ
 
 -- the slots of a carrier of that many units, without gaps
-abbrev pub no_gaps : ℕ → Slots
-no_gaps units =
-    record { offsets = replicate (slots_of units) 0; sizes = replicate (slots_of units) 0 }
+abbrev pub no_gaps : Inner → ℕ → Slots
+no_gaps inner units =
+    record {
+      inner = inner;
+      offsets = replicate (slots_of units) 0;
+      sizes = replicate (slots_of units) 0;
+    }
 
 -- the slots without the gap of that many units at the offset; where those are 0 there is none
 abbrev pub taken_out : ℕ → ℕ → Slots → Slots
@@ -32,7 +39,7 @@ taken_out at size s =
 -- the slots with it
 abbrev pub put_in : ℕ → ℕ → Slots → Slots
 put_in at size s =
-    if size == 0 then s else record {
+    if size == 0 then s else record s {
       offsets = slice_set s.offsets (slot_of at) at;
       sizes = slice_set s.sizes (slot_of at) size;
     }

@@ -100,6 +100,7 @@ impl Mbc {
     /// The multiblock carrier of a plan, without blocks. `owner` is the instance that creates it,
     /// and `inner` the order in which its gaps will be chosen: in that order a choice takes a time
     /// that is logarithmic in the carrier's units, and in others a walk over its blocks and gaps.
+    /// A carrier made for best fit serves address order best fit as well, and the other way round.
     pub fn new(
         alloc: Global,
         plan: CarrierPlan,
@@ -123,8 +124,8 @@ impl Mbc {
         })
     }
 
-    /// The multiblock carrier of a plan, made of this one, which has as many units and no blocks. It
-    /// takes no memory, and its gaps are found in the order in which this one's were.
+    /// The multiblock carrier of a plan, made of this one, which has as many units and no blocks.
+    /// It takes no memory, and its gaps are found in the order in which this one's were.
     pub fn renewed(self, plan: CarrierPlan, owner: u32) -> Mbc
         requires units { PAGE_UNITS * plan.pages ≡ self.units }
         requires empty { self.blocks ≡ [] }

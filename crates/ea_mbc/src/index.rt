@@ -1,10 +1,12 @@
 //! The gaps of a carrier, kept by the order in which they are chosen.
 ghost use Rattle.std.specs.Prelude.{◌≡◌, ℕ, ◌<◌, ◌≤◌, List, All, IfSome, IfOk, Contains, replicate};
-ghost use Rattle.std.specs.Prelude.{length};
+ghost use Rattle.std.specs.Prelude.{is_some, length};
 ghost use Rattle.ea_model.specs.declared.carriers.Gap as carriers;
+ghost use Rattle.ea_model.specs.declared.carriers.Inner.{Inner};
 ghost use Rattle.ea_model.specs.declared.carriers.Inner.TheVariants.{Bf, Aobf, Aoff};
 ghost use Rattle.ea_model.specs.declared.units.TheConstants.{HEADER_UNITS};
 ghost use Rattle.ea_model.specs.Choice.{choice};
+ghost use Rattle.ea_mbc.specs.Index.{serves};
 ghost use Rattle.ea_mbc.specs.Indexed.{AreApart, HasSlot, Indexed, IsHeld, no_gaps, put_in};
 ghost use Rattle.ea_mbc.specs.Indexed.{taken_out};
 
@@ -20,8 +22,8 @@ const APART: u32 = 2 * MIN_BLOCK;
 /// The lowest gap of at least `need` units.
 fn lowest(offsets: &[u32], tree: &PosTree, need: u32) -> Option<Gap>
     requires { length tree.now ≤ length offsets.now }
-    ensures { (end : ℕ) (gs : List carriers.Gap)
-        → Indexed end (record { offsets = offsets.now; sizes = tree.now }) gs
+    ensures { (kept : Inner) (end : ℕ) (gs : List carriers.Gap)
+        → Indexed end (record { inner = kept; offsets = offsets.now; sizes = tree.now }) gs
         → AreApart HEADER_UNITS end gs → result ≡ choice Aoff need gs }
 {
     let slot = tree.first_at_least(need.max(1))?;
@@ -34,8 +36,8 @@ fn lowest(offsets: &[u32], tree: &PosTree, need: u32) -> Option<Gap>
 /// The lowest of the smallest gaps of at least `need` units.
 fn smallest_lowest(offsets: &[u32], map: &SizeMap, need: u32) -> Option<Gap>
     requires { length map.now.held ≤ length offsets.now }
-    ensures { (end : ℕ) (gs : List carriers.Gap)
-        → Indexed end (record { offsets = offsets.now; sizes = map.now.held }) gs
+    ensures { (kept : Inner) (end : ℕ) (gs : List carriers.Gap)
+        → Indexed end (record { inner = kept; offsets = offsets.now; sizes = map.now.held }) gs
         → AreApart HEADER_UNITS end gs → result ≡ choice Aobf need gs }
 {
     let size = map.least_at_least(need.max(1))?;
@@ -49,8 +51,8 @@ fn smallest_lowest(offsets: &[u32], map: &SizeMap, need: u32) -> Option<Gap>
 /// The highest of the smallest gaps of at least `need` units.
 fn smallest_highest(offsets: &[u32], map: &SizeMap, need: u32) -> Option<Gap>
     requires { length map.now.held ≤ length offsets.now }
-    ensures { (end : ℕ) (gs : List carriers.Gap)
-        → Indexed end (record { offsets = offsets.now; sizes = map.now.held }) gs
+    ensures { (kept : Inner) (end : ℕ) (gs : List carriers.Gap)
+        → Indexed end (record { inner = kept; offsets = offsets.now; sizes = map.now.held }) gs
         → AreApart HEADER_UNITS end gs → result ≡ choice Bf need gs }
 {
     let size = map.least_at_least(need.max(1))?;
@@ -62,8 +64,9 @@ fn smallest_highest(offsets: &[u32], map: &SizeMap, need: u32) -> Option<Gap>
 }
 
 /// The gaps of a carrier by slots of 12 units, in each of which one gap begins at most. Contracts
-/// see where the gap of each slot begins, and its units. The sizes are in the tree where the lowest
-/// gap is chosen, and else in the map; the other one has no positions.
+/// see the order that they are kept by, where the gap of each slot begins, and its units. The sizes
+/// are in the tree where the lowest gap is chosen, and else in the map; the other one has no
+/// positions.
 #[derive(Drop)]
 pub struct GapIndex {
     inner: Inner,
@@ -79,6 +82,7 @@ impl Model for GapIndex {
     ghost Value = { Slots };
 
     ghost view = { λ i. record {
+      inner = i.inner;
       offsets = i.offsets.items;
       sizes = sizes_by i.inner i.tree i.map;
     } };
@@ -89,7 +93,7 @@ impl Model for GapIndex {
 impl GapIndex {
     /// No gaps of a carrier of `end` units, which are going to be chosen in this order.
     pub fn new(alloc: Global, inner: Inner, end: u32) -> Result<GapIndex, OutOfMemory>
-        ensures { IfOk result (λ i. i ≡ no_gaps end) }
+        ensures { IfOk result (λ i. i ≡ no_gaps inner end) }
     {
         let slots = end / APART + 1;
         let (positions, held) = match inner {
@@ -104,10 +108,11 @@ impl GapIndex {
         })
     }
 
-    /// The gap that is chosen for `need` units in the order that the gaps are kept by. In another
-    /// order nothing is said.
+    /// The gap that is chosen for `need` units in the order, or None where the order that the gaps
+    /// are kept by does not tell which one that is.
     pub fn first(&self, inner: Inner, need: u32) -> Option<Option<Gap>>
-        ensures { (end : ℕ) (gs : List carriers.Gap) → Indexed end self.now gs
+        ensures served { is_some result ≡ serves self.now.inner inner }
+        ensures chosen { (end : ℕ) (gs : List carriers.Gap) → Indexed end self.now gs
             → AreApart HEADER_UNITS end gs → IfSome result (λ found. found ≡ choice inner need gs) }
     {
         match (self.inner, inner) {

@@ -1,6 +1,6 @@
 //! Carriers that are kept for the next ones.
-ghost use Rattle.std.specs.Prelude.{◌≡◌, ◌≤◌, ◌<◌, [], ◌∷◌, All, IfOk, IfSome, length, vec_capacity};
-ghost use Rattle.std.specs.Prelude.{false, get_or, vec_len};
+ghost use Rattle.std.specs.Prelude.{◌≡◌, ◌+◌, ◌^◌, ◌≤◌, ◌<◌, [], ◌∷◌, All, IfOk, IfSome, false};
+ghost use Rattle.std.specs.Prelude.{get_or, length, sum_by, vec_capacity, vec_len};
 ghost use Rattle.ea_model.specs.Content.{Content};
 ghost use Rattle.ea_model.specs.declared.carriers.Kind.TheVariants.{Multi};
 ghost use Rattle.ea_model.specs.declared.units.TheConstants.{MAX_PAGES};
@@ -20,13 +20,17 @@ pub struct Spare {
     most: u32,
     carriers: Vec<Mbc>,
     ghost empty: { All (λ m. length m.blocks ≡ 0) carriers.items },
+    ghost few: { sum_by (λ m. m.units) carriers.items ≤ most },
 }
 
-/// The units of the carriers, or 2^32 - 1 if they are more.
-fn units_of(carriers: &[Mbc]) -> u32 {
-    let mut sum = 0u32;
+/// The units of the carriers.
+fn units_of(carriers: &[Mbc]) -> u32
+    requires fits { sum_by (λ m. m.units) carriers.now < 2 ^ 32 }
+    ensures sum { result ≡ sum_by (λ m. m.units) carriers.now }
+{
+    let mut sum = 0;
     for carrier in carriers {
-        sum = sum.saturating_add(carrier.units());
+        sum += carrier.units();
     }
     sum
 }
@@ -67,14 +71,18 @@ impl Spare {
 
     /// Whether one with that many units is too much beside those that are kept.
     fn is_full(&self, units: u32) -> bool
-        ensures { result ≡ false → vec_len self.now.carriers < vec_capacity self.now.carriers }
+        ensures room { result ≡ false
+            → vec_len self.now.carriers < vec_capacity self.now.carriers }
+        ensures few { result ≡ false
+            → sum_by (λ m. m.units) self.now.carriers.items + units ≤ self.now.most }
     {
         self.carriers.len() >= self.carriers.capacity()
-            || units_of(&self.carriers).saturating_add(units) > self.most
+            || units > self.most - units_of(&self.carriers)
     }
 
     /// Keeps a carrier that is deallocated. Where that is too much, those that have been kept for
-    /// longest are dropped. One that has blocks, or more units than all may have, is dropped itself.
+    /// longest are dropped. One that has blocks, or more units than all may have, is itself
+    /// dropped.
     pub fn keep(&mut self, carrier: Mbc) {
         if !carrier.is_empty() {
             return;

@@ -17,7 +17,7 @@ tiled end even some = (omega arith, record { even = omega arith; whole = λ _. o
 pub put-requires : goal.put-requires
 put-requires c =
     subst (HasSlot HEADER_UNITS (c.args.end - HEADER_UNITS)) (sym c.in_ok-index.ensures)
-    (slot-new c.args.end (tiled c.args.end c.requires.even c.requires.gap))
+    (slot-new c.args.inner c.args.end (tiled c.args.end c.requires.even c.requires.gap))
 
 coded : (c : goal.After-put)
     → IsCoded c.put_gap.new.tags c.in_ok-names.names.items c.args.end []
@@ -34,7 +34,7 @@ invariant_of-result c =
           (blocks_of-coded _ _ _ _ (coded c))
           (c.put.ensures ∙ ap (put_in HEADER_UNITS (c.args.end - HEADER_UNITS))
           c.in_ok-index.ensures)
-          (indexed-new c.args.end (tiled c.args.end c.requires.even c.requires.gap));
+          (indexed-new c.args.inner c.args.end (tiled c.args.end c.requires.even c.requires.gap));
     }
 
 pub returns : goal.returns
