@@ -9,6 +9,7 @@ use Rattle.std.proofs.lemmas.List.Elements.{All-weaker}
 use Rattle.std.proofs.lemmas.List.Elements.{All-contains_itself, Contains-append_cases}
 use Rattle.std.proofs.lemmas.List.Elements.{Contains-append_left, Contains-append_right}
 use Rattle.ea_model.specs.declared.carriers.Gap.{Gap}
+use Rattle.ea_model.specs.declared.carriers.Inner.{Inner}
 use Rattle.ea_model.specs.Content.{gap}
 use Rattle.ea_model.proofs.First.{both_All}
 use Rattle.ea_laws.proofs.Chosen.{gap_some, gap_none}
@@ -38,6 +39,16 @@ put_none at size s e = grind arith
 
 put_some : (at size : ℕ) (s : Slots) → 0 < size → put_in at size s ≡ filled at size s
 put_some at size s h = grind arith
+
+same_parts : (inner : Inner) (os ns offsets sizes : List ℕ) → os ≡ offsets → ns ≡ sizes
+    → (let s : Slots = record { inner = inner; offsets = os; sizes = ns } in s)
+    ≡ record { inner = inner; offsets = offsets; sizes = sizes }
+same_parts inner os ns offsets sizes e f = cc
+
+-- slots whose offsets and sizes are known
+pub slots-of : (s : Slots) (offsets sizes : List ℕ) → s.offsets ≡ offsets → s.sizes ≡ sizes
+    → s ≡ record { inner = s.inner; offsets = offsets; sizes = sizes }
+slots-of s offsets sizes e f = same_parts s.inner s.offsets s.sizes offsets sizes e f
 
 -- a place that has something is there
 pub within : (xs : List ℕ) (k : ℕ) → 0 < slice_index xs k → k < length xs

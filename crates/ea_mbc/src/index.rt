@@ -2,12 +2,11 @@
 ghost use Rattle.std.specs.Prelude.{◌≡◌, ℕ, ◌<◌, ◌≤◌, List, All, IfSome, IfOk, Contains, replicate};
 ghost use Rattle.std.specs.Prelude.{is_some, length};
 ghost use Rattle.ea_model.specs.declared.carriers.Gap as carriers;
-ghost use Rattle.ea_model.specs.declared.carriers.Inner.{Inner};
 ghost use Rattle.ea_model.specs.declared.carriers.Inner.TheVariants.{Bf, Aobf, Aoff};
 ghost use Rattle.ea_model.specs.declared.units.TheConstants.{HEADER_UNITS};
 ghost use Rattle.ea_model.specs.Choice.{choice};
 ghost use Rattle.ea_mbc.specs.Index.{serves};
-ghost use Rattle.ea_mbc.specs.Indexed.{AreApart, HasSlot, Indexed, IsHeld, no_gaps, put_in};
+ghost use Rattle.ea_mbc.specs.Indexed.{AreApart, HasSlot, Indexed, IsHeld, Slots, no_gaps, put_in};
 ghost use Rattle.ea_mbc.specs.Indexed.{taken_out};
 
 use ea_model::{Gap, HEADER_UNITS, Inner, MIN_BLOCK, OutOfMemory};
@@ -22,9 +21,9 @@ const APART: u32 = 2 * MIN_BLOCK;
 /// The lowest gap of at least `need` units.
 fn lowest(offsets: &[u32], tree: &PosTree, need: u32) -> Option<Gap>
     requires { length tree.now ≤ length offsets.now }
-    ensures { (kept : Inner) (end : ℕ) (gs : List carriers.Gap)
-        → Indexed end (record { inner = kept; offsets = offsets.now; sizes = tree.now }) gs
-        → AreApart HEADER_UNITS end gs → result ≡ choice Aoff need gs }
+    ensures { (s : Slots) (end : ℕ) (gs : List carriers.Gap) → s.offsets ≡ offsets.now
+        → s.sizes ≡ tree.now → Indexed end s gs → AreApart HEADER_UNITS end gs
+        → result ≡ choice Aoff need gs }
 {
     let slot = tree.first_at_least(need.max(1))?;
     Some(Gap {
@@ -36,30 +35,28 @@ fn lowest(offsets: &[u32], tree: &PosTree, need: u32) -> Option<Gap>
 /// The lowest of the smallest gaps of at least `need` units.
 fn smallest_lowest(offsets: &[u32], map: &SizeMap, need: u32) -> Option<Gap>
     requires { length map.now.held ≤ length offsets.now }
-    ensures { (kept : Inner) (end : ℕ) (gs : List carriers.Gap)
-        → Indexed end (record { inner = kept; offsets = offsets.now; sizes = map.now.held }) gs
-        → AreApart HEADER_UNITS end gs → result ≡ choice Aobf need gs }
+    ensures { (s : Slots) (end : ℕ) (gs : List carriers.Gap) → s.offsets ≡ offsets.now
+        → s.sizes ≡ map.now.held → Indexed end s gs → AreApart HEADER_UNITS end gs
+        → result ≡ choice Aobf need gs }
 {
-    let size = map.least_at_least(need.max(1))?;
-    let slot = map.lowest_of(size);
+    let smallest = map.lowest_at_least(need.max(1))?;
     Some(Gap {
-        offset: offsets[slot as usize],
-        size,
+        offset: offsets[smallest.position as usize],
+        size: smallest.size,
     })
 }
 
 /// The highest of the smallest gaps of at least `need` units.
 fn smallest_highest(offsets: &[u32], map: &SizeMap, need: u32) -> Option<Gap>
     requires { length map.now.held ≤ length offsets.now }
-    ensures { (kept : Inner) (end : ℕ) (gs : List carriers.Gap)
-        → Indexed end (record { inner = kept; offsets = offsets.now; sizes = map.now.held }) gs
-        → AreApart HEADER_UNITS end gs → result ≡ choice Bf need gs }
+    ensures { (s : Slots) (end : ℕ) (gs : List carriers.Gap) → s.offsets ≡ offsets.now
+        → s.sizes ≡ map.now.held → Indexed end s gs → AreApart HEADER_UNITS end gs
+        → result ≡ choice Bf need gs }
 {
-    let size = map.least_at_least(need.max(1))?;
-    let slot = map.highest_of(size);
+    let smallest = map.highest_at_least(need.max(1))?;
     Some(Gap {
-        offset: offsets[slot as usize],
-        size,
+        offset: offsets[smallest.position as usize],
+        size: smallest.size,
     })
 }
 

@@ -1,21 +1,26 @@
 use Rattle.std.proofs.Common.{◌≤◌, ◌<◌, All, refl, sym, ◌∙◌, subst}
 use Rattle.ea_model.specs.declared.carriers.Inner.TheVariants.{Aobf}
 use Rattle.ea_model.specs.declared.units.TheConstants.{HEADER_UNITS}
+use Rattle.ea_mbc.specs.Indexed.{Indexed}
 use Rattle.ea_mbc.proofs.Chosen.{choice-nothing, choice-aobf}
+use Rattle.ea_mbc.proofs.Slots.{slots-of}
 use Rattle.ea_mbc.proofs.index.smallest_lowest.Goals as goal
 
-pub returns-in_err-size : goal.returns-in_err-size
-returns-in_err-size c = λ kept end gs i apart.
+pub returns-in_err-smallest : goal.returns-in_err-smallest
+returns-in_err-smallest c = λ s end gs offsets sizes indexed apart.
+    let i = subst (λ x. Indexed end x gs) (slots-of s _ _ offsets sizes) indexed in
     c.from_residual.ensures
     ∙ sym (choice-nothing HEADER_UNITS end end _ gs apart i Aobf c.args.need
     (subst (λ n. All (λ s. s < n) c.args.map.now.held) c.max.ensures
-    (c.in_err-size.ensures.none.0 refl)))
+    (c.in_err-smallest.ensures.none.0 refl)))
 
 pub returns : goal.returns
-returns c = λ kept end gs i apart.
-    let f = c.in_ok-size.ensures.found in
-    let at = c.lowest_of-slot.ensures in
-    sym (choice-aobf HEADER_UNITS end end _ gs apart i c.args.need c.in_ok-size.size
-    c.lowest_of-slot.result (subst (λ n. n ≤ c.in_ok-size.size) c.max.ensures f.great)
-    (subst (λ n. All (λ t. n ≤ t → c.in_ok-size.size ≤ t) c.args.map.now.held) c.max.ensures
-    f.least) at.held at.lowest)
+returns c = λ s end gs offsets sizes indexed apart.
+    let i = subst (λ x. Indexed end x gs) (slots-of s _ _ offsets sizes) indexed in
+    let f = c.in_ok-smallest.ensures.found in
+    let at = c.in_ok-smallest.ensures.lowest in
+    let size = c.in_ok-smallest.smallest.size in
+    sym (choice-aobf HEADER_UNITS end end _ gs apart i c.args.need size
+    c.in_ok-smallest.smallest.position (subst (λ n. n ≤ size) c.max.ensures f.great)
+    (subst (λ n. All (λ t. n ≤ t → size ≤ t) c.args.map.now.held) c.max.ensures f.least) at.held
+    at.lowest)
