@@ -112,7 +112,9 @@ impl Bins {
         requires size { self.old.fit ≢ Good → gap.size + 1 < 2 ^ 32 }
         ensures fit { self.new.fit ≡ self.old.fit }
         ensures order { IsPermutation self.new.held (some_gap gap ++ self.old.held) }
-        ensures capacity { length self.new.held + self.new.room
+
+        // As many gaps as before can be held without taking memory.
+        ensures places { length self.new.held + self.new.room
             ≡ length self.old.held + self.old.room }
     {
         if gap.size > 0 {
@@ -126,10 +128,12 @@ impl Bins {
         ensures fit { self.new.fit ≡ self.old.fit }
         ensures order { (rest : List BinnedGap) → IsPermutation self.old.held (some_gap gap ++ rest)
             → IsPermutation self.new.held rest }
-        ensures capacity { length self.new.held + self.new.room
-            ≡ length self.old.held + self.old.room }
         ensures room { self.old.room ≤ self.new.room }
         ensures freed { 0 < gap.size → self.old.room < self.new.room }
+
+        // As many gaps as before can be held without taking memory.
+        ensures places { length self.new.held + self.new.room
+            ≡ length self.old.held + self.old.room }
     {
         if gap.size > 0 {
             self.remove(gap);
@@ -144,7 +148,9 @@ impl Bins {
         ensures order { (rest : List BinnedGap)
             → IsPermutation self.old.held (gap_from address whole ++ rest)
             → IsPermutation self.new.held (gap_from (address + size) (whole - size) ++ rest) }
-        ensures capacity { length self.new.held + self.new.room
+
+        // As many gaps as before can be held without taking memory.
+        ensures places { length self.new.held + self.new.room
             ≡ length self.old.held + self.old.room }
     {
         self.take(BinnedGap {
@@ -167,7 +173,9 @@ impl Bins {
             (gap_from (address - before) before ++ (gap_from (address + size) behind ++ rest))
             → IsPermutation self.new.held
             (gap_from (address - before) (before + size + behind) ++ rest) }
-        ensures capacity { length self.new.held + self.new.room
+
+        // As many gaps as before can be held without taking memory.
+        ensures places { length self.new.held + self.new.room
             ≡ length self.old.held + self.old.room }
     {
         self.take(BinnedGap {
