@@ -1,9 +1,2 @@
-pub mod Standing
-pub mod Changes
-pub mod Putting
-pub mod Raising
-pub mod Taking
-pub mod Searching
-pub mod Greatest
-pub mod Holding
+pub mod Keying
 pub mod Choosing

@@ -1,2 +1,2 @@
 pub mod Held
-pub mod Trees
+pub mod Keyed

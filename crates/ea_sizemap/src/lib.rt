@@ -3,9 +3,7 @@
 #![tactic(auto)]
 
 pub mod map;
-mod nodes;
-mod searches;
 #[cfg(test)]
 mod tests;
 
-pub use map::SizeMap;
+pub use map::{HeldSize, SizeMap};

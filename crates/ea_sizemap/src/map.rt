@@ -1,43 +1,56 @@
 //! The map and its calls.
-ghost use Rattle.std.specs.Prelude.{◌≡◌, ℕ, ◌+◌, ◌-◌, ◌*◌, ◌^◌, ◌<◌, ◌≤◌, ◌↔◌, length};
+ghost use Rattle.std.specs.Prelude.{◌≡◌, ℕ, ◌+◌, ◌*◌, ◌^◌, ◌<◌, ◌≤◌, ◌↔◌, length};
 ghost use Rattle.std.specs.Prelude.{replicate, slice_index, slice_set, IfOk, IfSome, IsNone};
 ghost use Rattle.std.specs.Prelude.{All, Contains};
 ghost use Rattle.ea_sizemap.specs.Held.{IsLeastAtLeast, IsLowestOf, IsHighestOf};
-ghost use Rattle.ea_sizemap.specs.Held.{IsFirstKey, IsLastKey};
+ghost use Rattle.ea_sizemap.specs.Keyed.{key as key_by};
 
-use crate::nodes::{Node, put_in, take_out};
-use crate::searches::{ABOVE, first_from, key, last_up_to};
+use ea_keytree::KeyTree;
 use ea_model::OutOfMemory;
 use std::alloc::Global;
 use std::marker::Model;
+
+/// A size and a position that holds it.
+#[derive(Debug, Clone, Copy, PartialEq, Eq)]
+pub struct HeldSize {
+    pub size: u32,
+    pub position: u32,
+}
 
 /// Sizes by position. Contracts see the greatest size that it may hold, and the size held by each
 /// position, 0 where none is.
 #[derive(Drop)]
 pub struct SizeMap {
     most: u32,
-    root: u32,
-    nodes: Vec<Node>,
+    span: u64,
+    keys: KeyTree,
 }
 
 impl Model for SizeMap {
     ghost use Rattle.ea_sizemap.specs.Held.{Sizes};
-    ghost use Rattle.ea_sizemap.specs.Trees.{IsMap, sizes_of};
+    ghost use Rattle.ea_sizemap.specs.Keyed.{IsMap, sizes_in};
 
     ghost Value = { Sizes };
 
-    ghost view = { λ m. record { most = m.most; held = sizes_of m.nodes.items } };
+    ghost view = { λ m. record { most = m.most; held = sizes_in m.span m.keys.keys } };
 
-    ghost invariant = { λ m. IsMap m.most m.nodes.items m.root };
+    ghost invariant = { λ m. IsMap m.most m.span m.keys };
 }
 
 /// How many keys there are: sizes up to `most` at that many positions.
-fn width(most: u32, positions: usize) -> u64
-    requires { positions < 2 ^ 32 }
-    ensures count { result ≡ (most + 1) * positions }
-    ensures below { result < 2 ^ 64 - 1 }
+fn width(most: u32, positions: u32) -> u64
+    ensures { result ≡ (most + 1) * positions }
 {
-    (u64::from(most) + 1) * positions as u64
+    (u64::from(most) + 1) * u64::from(positions)
+}
+
+/// The key of a position that holds the size, among `span` positions.
+#[tactic(auto, unfolding(crate::specs::Keyed::key))]
+fn key(span: u64, size: u32, position: u32) -> u64
+    requires { key_by span size position < 2 ^ 64 }
+    ensures { result ≡ key_by span size position }
+{
+    u64::from(size) * span + u64::from(position)
 }
 
 impl SizeMap {
@@ -46,15 +59,10 @@ impl SizeMap {
     pub fn new(alloc: Global, sizes: u32, positions: u32) -> Result<SizeMap, OutOfMemory>
         ensures { IfOk result (λ m. m ≡ record { most = sizes; held = replicate positions 0 }) }
     {
-        let blank = Node {
-            size: 0,
-            low: 0,
-            high: 0,
-        };
         Ok(SizeMap {
             most: sizes,
-            root: 0,
-            nodes: vec![in alloc; blank; positions as usize]?,
+            span: u64::from(positions),
+            keys: KeyTree::with_positions(alloc, width(sizes, positions), positions)?,
         })
     }
 
@@ -65,15 +73,7 @@ impl SizeMap {
         requires free { slice_index self.old.held position ≡ 0 }
         ensures { self.new ≡ record self.old { held = slice_set self.old.held position size } }
     {
-        let positions = self.nodes.len();
-        let width = width(self.most, positions);
-        let key = key(positions as u64, size, position);
-        self.nodes[position as usize] = Node {
-            size,
-            low: 0,
-            high: 0,
-        };
-        self.root = put_in(&mut self.nodes, self.root, 0, width, key, position);
+        self.keys.insert(key(self.span, size, position), position);
     }
 
     /// Notes that the position holds the size no longer.
@@ -83,11 +83,41 @@ impl SizeMap {
         requires held { slice_index self.old.held position ≡ size }
         ensures { self.new ≡ record self.old { held = slice_set self.old.held position 0 } }
     {
-        let positions = self.nodes.len();
-        let width = width(self.most, positions);
-        let key = key(positions as u64, size, position);
-        self.root = take_out(&mut self.nodes, self.root, 0, width, key, position);
-        self.nodes[position as usize].size = 0;
+        self.keys.remove(key(self.span, size, position));
+    }
+
+    /// The least held size of at least `size`, with the lowest position that holds it, or None
+    /// where none is that great.
+    pub fn lowest_at_least(&self, size: u32) -> Option<HeldSize>
+        requires { 1 ≤ size }
+        ensures found { IfSome result (λ h. IsLeastAtLeast size self.now.held h.size) }
+        ensures lowest { IfSome result (λ h. IsLowestOf h.size self.now.held h.position) }
+        ensures none { IsNone result ↔ All (λ s. s < size) self.now.held }
+    {
+        match self.keys.first_from(key(self.span, size, 0)) {
+            Some(first) => Some(HeldSize {
+                size: (first.key / self.span) as u32,
+                position: first.position,
+            }),
+            None => None,
+        }
+    }
+
+    /// The least held size of at least `size`, with the highest position that holds it, or None
+    /// where none is that great.
+    pub fn highest_at_least(&self, size: u32) -> Option<HeldSize>
+        requires { 1 ≤ size }
+        ensures found { IfSome result (λ h. IsLeastAtLeast size self.now.held h.size) }
+        ensures highest { IfSome result (λ h. IsHighestOf h.size self.now.held h.position) }
+        ensures none { IsNone result ↔ All (λ s. s < size) self.now.held }
+    {
+        match self.least_at_least(size) {
+            Some(least) => Some(HeldSize {
+                size: least,
+                position: self.highest_of(least),
+            }),
+            None => None,
+        }
     }
 
     /// The least held size of at least `size`, or None where none is that great.
@@ -96,12 +126,10 @@ impl SizeMap {
         ensures found { IfSome result (IsLeastAtLeast size self.now.held) }
         ensures none { IsNone result ↔ All (λ s. s < size) self.now.held }
     {
-        let span = self.span();
-        let first = self.first(key(span, size, 0));
-        if first == ABOVE {
-            return None;
+        match self.lowest_at_least(size) {
+            Some(least) => Some(least.size),
+            None => None,
         }
-        Some((first / span) as u32)
     }
 
     /// The lowest position that holds the size.
@@ -110,8 +138,10 @@ impl SizeMap {
         requires held { Contains self.now.held size }
         ensures { IsLowestOf size self.now.held result }
     {
-        let floor = key(self.span(), size, 0);
-        (self.first(floor) - floor) as u32
+        match self.lowest_at_least(size) {
+            Some(lowest) => lowest.position,
+            None => unreachable!(),
+        }
     }
 
     /// The highest position that holds the size.
@@ -120,9 +150,13 @@ impl SizeMap {
         requires held { Contains self.now.held size }
         ensures { IsHighestOf size self.now.held result }
     {
-        let span = self.span();
-        let floor = key(span, size, 0);
-        (self.last(floor + (span - 1)) - floor) as u32
+        match self
+            .keys
+            .last_up_to(key(self.span, size, 0) + (self.span - 1))
+        {
+            Some(highest) => highest.position,
+            None => unreachable!(),
+        }
     }
 
     /// The greatest held size, or 0 where none is held.
@@ -130,36 +164,9 @@ impl SizeMap {
         ensures bound { All (λ s. s ≤ result) self.now.held }
         ensures met { 0 < result → Contains self.now.held result }
     {
-        let last = self.last(ABOVE);
-        if last == 0 {
-            return 0;
+        match self.keys.last_up_to(u64::MAX) {
+            Some(last) => (last.key / self.span) as u32,
+            None => 0,
         }
-        (last / self.span()) as u32
-    }
-
-    /// How many positions there are.
-    fn span(&self) -> u64
-        ensures count { result ≡ length self.now.held }
-        ensures few { result < 2 ^ 32 }
-    {
-        self.nodes.len() as u64
-    }
-
-    /// The least key of at least `bound`, or ABOVE where none is that great.
-    fn first(&self, bound: u64) -> u64
-        ensures { IsFirstKey ABOVE bound self.now.held result }
-    {
-        let positions = self.nodes.len();
-        let width = width(self.most, positions);
-        first_from(&self.nodes, positions as u64, self.root, 0, width, bound)
-    }
-
-    /// The greatest key of at most `bound`, or 0 where there is none.
-    fn last(&self, bound: u64) -> u64
-        ensures { IsLastKey bound self.now.held result }
-    {
-        let positions = self.nodes.len();
-        let width = width(self.most, positions);
-        last_up_to(&self.nodes, positions as u64, self.root, 0, width, bound)
     }
 }

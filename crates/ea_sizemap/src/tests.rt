@@ -35,6 +35,18 @@ fn found(map: &SizeMap, size: u32) -> Option<(u32, u32, u32)>
     }
 }
 
+/// The same by the calls that answer a size with a position.
+fn found_with_positions(map: &SizeMap, size: u32) -> Option<(u32, u32, u32)>
+    requires { 1 ≤ size }
+{
+    match (map.lowest_at_least(size), map.highest_at_least(size)) {
+        (Some(low), Some(high)) if low.size == high.size => {
+            Some((low.size, low.position, high.position))
+        }
+        _ => None,
+    }
+}
+
 /// The same by a walk.
 fn found_by_walk(held: &[u32], size: u32) -> Option<(u32, u32, u32)>
     requires { length held.now < 2 ^ 32 }
@@ -84,6 +96,7 @@ fn the_least_that_is_great_enough_is_found(rt: HostRuntime) -> Result<(), Fail> 
         assert!(rt; position < 9 && size <= 50 && least >= 1);
         put(&mut map, &mut held, position, size);
         assert_eq!(rt; found(&map, least), answer, "at {position}");
+        assert_eq!(rt; found_with_positions(&map, least), answer, "at {position}");
         assert_eq!(rt; map.greatest(), greatest, "at {position}");
     }
     Ok(())
@@ -94,14 +107,16 @@ fn many_steps_agree_with_a_walk(rt: HostRuntime) -> Result<(), Fail> {
     let mut map = SizeMap::new(rt.alloc(), 12, 40)?;
     let mut held = vec![in rt.alloc(); 0; 40]?;
     let mut number: u32 = 1;
-    for step in 0..3000 {
+    for step in 0..1000 {
         number = number.wrapping_mul(1_664_525).wrapping_add(1_013_904_223);
         let position = (number >> 8) % 40;
         put(&mut map, &mut held, position, (number >> 20) % 13);
         let least = 1 + (number >> 26) % 13;
+        let answer = found_by_walk(&held, least);
+        assert_eq!(rt; found(&map, least), answer, "after {step} steps");
         assert_eq!(rt;
-            found(&map, least),
-            found_by_walk(&held, least),
+            found_with_positions(&map, least),
+            answer,
             "after {step} steps"
         );
         let greatest = held.iter().copied().max().unwrap_or(0);

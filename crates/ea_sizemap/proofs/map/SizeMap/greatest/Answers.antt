@@ -1,23 +1,26 @@
-use Rattle.std.proofs.Common.{arith}
-use Rattle.ea_sizemap.proofs.Choosing.{greatest_none, greatest_is}
+use Rattle.std.proofs.Common.{arith, refl}
+use Rattle.ea_sizemap.proofs.Keying.{width_fits}
+use Rattle.ea_sizemap.proofs.Choosing.{greatest_is, greatest_none}
 use Rattle.ea_sizemap.proofs.map.SizeMap.greatest.Goals as goal
-
-pub returns-then-last-eq0-clause-bound : goal.returns-then-last-eq0-clause-bound
-returns-then-last-eq0-clause-bound c =
-    greatest_none _ _ _ (omega arith) c.last-last.ensures c.if-last-eq0.true
 
 pub overflow_cast-result : goal.overflow_cast-result
 overflow_cast-result c =
-    let w = greatest_is _ _ _ _ c.span.ensures.count (omega arith) c.last-last.ensures
-    c.if-last-eq0.false in
-    omega (arith, w.2)
+    let w = greatest_is _ _ _ _ _ _ c.self.invariant c.self.view_is
+    (width_fits _ _ c.self.invariant.small c.self.invariant.few) c.in-Some.ensures.found in
+    omega (arith, w.2, c.self.invariant.small)
 
-pub returns-clause-bound : goal.returns-clause-bound
-returns-clause-bound c =
-    (greatest_is _ _ _ _ c.span.ensures.count (omega arith) c.last-last.ensures
-    c.if-last-eq0.false).0
+pub returns-in-Some-clause-bound : goal.returns-in-Some-clause-bound
+returns-in-Some-clause-bound c =
+    (greatest_is _ _ _ _ _ _ c.self.invariant c.self.view_is
+    (width_fits _ _ c.self.invariant.small c.self.invariant.few) c.in-Some.ensures.found).0
 
-pub returns-clause-met : goal.returns-clause-met
-returns-clause-met c = λ _.
-    (greatest_is _ _ _ _ c.span.ensures.count (omega arith) c.last-last.ensures
-    c.if-last-eq0.false).1
+pub returns-in-Some-clause-met : goal.returns-in-Some-clause-met
+returns-in-Some-clause-met c = λ _.
+    (greatest_is _ _ _ _ _ _ c.self.invariant c.self.view_is
+    (width_fits _ _ c.self.invariant.small c.self.invariant.few) c.in-Some.ensures.found).1
+
+pub returns-in-None-clause-bound : goal.returns-in-None-clause-bound
+returns-in-None-clause-bound c =
+    greatest_none _ _ _ _ _ c.self.invariant c.self.view_is
+    (width_fits _ _ c.self.invariant.small c.self.invariant.few)
+    (c.in-None.ensures.none.0 refl)

@@ -1,31 +1,29 @@
-use Rattle.std.proofs.Common.{arith}
-use Rattle.ea_sizemap.proofs.Choosing.{floor_fits, highest_is}
+use Rattle.std.proofs.Common.{arith, ap, refl, ◌+◌, ◌-◌}
+use Rattle.ea_sizemap.proofs.Keying.{floor_fits}
+use Rattle.ea_sizemap.proofs.Choosing.{highest_is, highest_some}
 use Rattle.ea_sizemap.proofs.map.SizeMap.highest_of.Goals as goal
 
-pub key-floor-requires : goal.key-floor-requires
-key-floor-requires c =
-    omega (arith, floor_fits c.span-span.result c.args.size c.span-span.ensures.few (omega arith))
+pub key-requires : goal.key-requires
+key-requires c =
+    omega
+    (arith, floor_fits c.self.inside.span c.args.size c.self.invariant.few (omega arith))
 
-pub overflow_add-floor : goal.overflow_add-floor
-overflow_add-floor c =
+pub overflow_add-key : goal.overflow_add-key
+overflow_add-key c =
     omega (
       arith,
-      floor_fits c.span-span.result c.args.size c.span-span.ensures.few (omega arith),
-      c.key-floor.ensures,
+      floor_fits c.self.inside.span c.args.size c.self.invariant.few (omega arith),
+      c.key.ensures,
     )
 
-pub overflow_sub-result : goal.overflow_sub-result
-overflow_sub-result c =
-    (highest_is _ _ _ _ _ c.span-span.ensures.count c.key-floor.ensures c.requires.some
-    c.requires.held c.last.ensures).1
-
-pub overflow_cast-result : goal.overflow_cast-result
-overflow_cast-result c =
-    let w = (highest_is _ _ _ _ _ c.span-span.ensures.count c.key-floor.ensures c.requires.some
-    c.requires.held c.last.ensures).0 in
-    omega (arith, w.within, c.span-span.ensures.count, c.span-span.ensures.few)
+pub unreachable-requires : goal.unreachable-requires
+unreachable-requires c =
+    highest_some _ _ _ _ _ _ c.self.invariant c.self.view_is c.requires.some
+    (ap (λ x. x + (c.self.inside.span - 1)) c.key.ensures) c.requires.held
+    (c.in-None.ensures.none.0 refl)
 
 pub returns : goal.returns
 returns c =
-    (highest_is _ _ _ _ _ c.span-span.ensures.count c.key-floor.ensures c.requires.some
-    c.requires.held c.last.ensures).0
+    highest_is _ _ _ _ _ _ _ c.self.invariant c.self.view_is c.requires.some
+    (ap (λ x. x + (c.self.inside.span - 1)) c.key.ensures) c.requires.held
+    c.in-Some.ensures.found

@@ -1,33 +1,43 @@
-use Rattle.std.proofs.Common.{arith, ◌∙◌}
-use Rattle.std.proofs.lemmas.List.{take_at}
-use Rattle.ea_sizemap.proofs.Holding.{put_key, put_may, put_map}
+use Rattle.std.proofs.Common.{arith, ap, subst, ◌∙◌, ◌≢◌, All, Some, sym, set}
+use Rattle.ea_keytree.specs.Keys.{KeysHeld}
+use Rattle.ea_sizemap.specs.Held.{Sizes}
+use Rattle.ea_sizemap.proofs.Keying.{key_lt, width_fits, put_free, put_within, put_new, put_sizes}
+use Rattle.ea_sizemap.proofs.Keying.{seen}
 use Rattle.ea_sizemap.proofs.map.SizeMap.insert.Goals as goal
 
-pub key-key-requires : goal.key-key-requires
-key-key-requires c =
-    let k = put_key _ _ _ _ _ _ _ c.self.view_is c.requires.size c.requires.position
-    (c.len-positions.ensures ∙ c.self.inside.nodes.ok.0) c.width-width.ensures.count in
-    omega (arith, k)
+pub key-requires : goal.key-requires
+key-requires c =
+    omega (
+      arith,
+      key_lt c.self.inside.span c.args.size c.args.position c.self.inside.most
+          (omega (arith, c.requires.size.1, ap (λ (x : Sizes). x.most) c.self.view_is))
+          (put_within _ _ _ _ _ c.self.invariant c.self.view_is c.requires.position),
+      width_fits _ _ c.self.invariant.small c.self.invariant.few,
+    )
 
-pub put_in-self-inside-requires-clause-may : goal.put_in-self-inside-requires-clause-may
-put_in-self-inside-requires-clause-may c =
-    put_may _ _ _ _ _ _ _ _ _ _ c.self.view_is c.self.invariant c.requires.size
-    c.requires.position c.requires.free c.deref_mut.ensures.value
-    (c.len-positions.ensures ∙ c.self.inside.nodes.ok.0) c.width-width.ensures.count
-    c.key-key.ensures
+pub insert-requires-clause-free : goal.insert-requires-clause-free
+insert-requires-clause-free c =
+    put_free _ _ _ _ _ c.self.invariant c.self.view_is c.requires.free
 
-pub invariant_of-self : goal.invariant_of-self
-invariant_of-self c =
-    (put_map _ _ _ _ _ _ _ _ _ _ _ _ _ c.self.view_is c.self.invariant c.requires.size
-    c.requires.position c.requires.free c.deref_mut.ensures.value
-    (c.len-positions.ensures ∙ c.self.inside.nodes.ok.0) c.width-width.ensures.count
-    c.key-key.ensures c.put_in-self-inside.ensures
-    (take_at c.put_in-self-inside.new.nodes _ c.self.inside.nodes.len (omega arith))).0
+pub insert-requires-clause-key : goal.insert-requires-clause-key
+insert-requires-clause-key c =
+    omega (
+      arith,
+      key_lt c.self.inside.span c.args.size c.args.position c.self.inside.most
+          (omega (arith, c.requires.size.1, ap (λ (x : Sizes). x.most) c.self.view_is))
+          (put_within _ _ _ _ _ c.self.invariant c.self.view_is c.requires.position),
+      c.self.invariant.width,
+      c.key.ensures,
+    )
+
+pub insert-requires-clause-new : goal.insert-requires-clause-new
+insert-requires-clause-new c =
+    subst (λ x. All (λ k. k ≢ Some x) c.self.inside.keys.keys) (sym c.key.ensures)
+    (put_new _ _ _ _ _ _ c.self.invariant c.self.view_is c.requires.position c.requires.free)
 
 pub returns : goal.returns
 returns c =
-    (put_map _ _ _ _ _ _ _ _ _ _ _ _ _ c.self.view_is c.self.invariant c.requires.size
-    c.requires.position c.requires.free c.deref_mut.ensures.value
-    (c.len-positions.ensures ∙ c.self.inside.nodes.ok.0) c.width-width.ensures.count
-    c.key-key.ensures c.put_in-self-inside.ensures
-    (take_at c.put_in-self-inside.new.nodes _ c.self.inside.nodes.len (omega arith))).1
+    ap (seen c.self.inside.most c.self.inside.span)
+    (ap (λ (x : KeysHeld). x.keys) c.insert.ensures
+    ∙ ap (λ x. set c.self.inside.keys.keys c.args.position (Some x)) c.key.ensures)
+    ∙ put_sizes _ _ _ _ _ _ c.self.invariant c.self.view_is c.requires.position

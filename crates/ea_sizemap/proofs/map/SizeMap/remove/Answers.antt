@@ -1,27 +1,31 @@
-use Rattle.std.proofs.Common.{arith, ◌∙◌}
-use Rattle.std.proofs.lemmas.List.{take_at}
-use Rattle.ea_sizemap.proofs.Holding.{take_key, take_map}
+use Rattle.std.proofs.Common.{arith, ap, subst, ◌∙◌, Some, Contains, sym}
+use Rattle.ea_keytree.specs.Keys.{KeysHeld}
+use Rattle.ea_sizemap.proofs.Keying.{key_lt, width_fits, take_held, take_contains, take_sizes}
+use Rattle.ea_sizemap.proofs.Keying.{seen}
 use Rattle.ea_sizemap.proofs.map.SizeMap.remove.Goals as goal
 
-pub key-key-requires : goal.key-key-requires
-key-key-requires c =
-    let k = take_key _ _ _ _ _ _ _ _ c.self.view_is c.self.invariant c.requires.some
-    c.requires.held (c.len-positions.ensures ∙ c.self.inside.nodes.ok.0)
-    c.width-width.ensures.count in
-    omega (arith, k)
+pub key-requires : goal.key-requires
+key-requires c =
+    let h = take_held _ _ _ _ _ _ c.self.invariant c.self.view_is c.requires.some
+    c.requires.held in
+    omega (
+      arith,
+      key_lt c.self.inside.span c.args.size c.args.position c.self.inside.most h.may h.within,
+      width_fits _ _ c.self.invariant.small c.self.invariant.few,
+    )
 
-pub invariant_of-self : goal.invariant_of-self
-invariant_of-self c =
-    (take_map _ _ _ _ _ _ _ _ _ _ _ _ _ _ _ c.self.view_is c.self.invariant c.requires.some
-    c.requires.position c.requires.held c.deref_mut.ensures.value
-    (c.len-positions.ensures ∙ c.self.inside.nodes.ok.0) c.width-width.ensures.count
-    c.key-key.ensures c.take_out-self-inside.ensures
-    (take_at c.take_out-self-inside.new.nodes _ c.self.inside.nodes.len (omega arith))).0
+pub remove-requires : goal.remove-requires
+remove-requires c =
+    let h = take_held _ _ _ _ _ _ c.self.invariant c.self.view_is c.requires.some
+    c.requires.held in
+    subst (λ x. Contains c.self.inside.keys.keys (Some x)) (sym c.key.ensures)
+    (take_contains _ _ _ _ _ c.self.invariant h)
 
 pub returns : goal.returns
 returns c =
-    (take_map _ _ _ _ _ _ _ _ _ _ _ _ _ _ _ c.self.view_is c.self.invariant c.requires.some
-    c.requires.position c.requires.held c.deref_mut.ensures.value
-    (c.len-positions.ensures ∙ c.self.inside.nodes.ok.0) c.width-width.ensures.count
-    c.key-key.ensures c.take_out-self-inside.ensures
-    (take_at c.take_out-self-inside.new.nodes _ c.self.inside.nodes.len (omega arith))).1
+    let h = take_held _ _ _ _ _ _ c.self.invariant c.self.view_is c.requires.some
+    c.requires.held in
+    ap (seen c.self.inside.most c.self.inside.span)
+    (ap (λ (x : KeysHeld). x.keys) c.remove.ensures.keys)
+    ∙ take_sizes _ _ _ _ _ _ _ c.self.invariant c.self.view_is h
+    (c.remove.ensures.held ∙ ap Some c.key.ensures)

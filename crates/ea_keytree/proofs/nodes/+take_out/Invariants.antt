@@ -1,0 +1,4 @@
+use Rattle.ea_keytree.proofs.nodes.+take_out.Given as goal
+
+abbrev pub decreases-take_out : goal.decreases-take_out
+decreases-take_out l = l.width

@@ -1,9 +1,0 @@
-use Rattle.std.proofs.Common.{arith, ◌∙◌}
-use Rattle.ea_sizemap.proofs.Choosing.{last_is}
-use Rattle.ea_sizemap.proofs.map.SizeMap.last.Goals as goal
-
-pub returns : goal.returns
-returns c =
-    last_is _ _ _ _ _ _ _ _ _ c.self.view_is c.self.invariant (omega arith) (omega arith)
-    c.deref.ensures.value (c.len-positions.ensures ∙ c.self.inside.nodes.ok.0)
-    c.width-width.ensures.count c.last_up_to.ensures

@@ -1,4 +1,0 @@
-use Rattle.ea_sizemap.proofs.nodes.+raise.Given as goal
-
-abbrev pub decreases-raise : goal.decreases-raise
-decreases-raise l = l.width

@@ -1,4 +1,0 @@
-use Rattle.ea_sizemap.proofs.nodes.+take_out.Given as goal
-
-abbrev pub decreases-take_out : goal.decreases-take_out
-decreases-take_out l = l.width

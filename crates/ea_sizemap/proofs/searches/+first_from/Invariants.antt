@@ -1,6 +1,0 @@
-use Rattle.std.proofs.Common.{◌+◌, ◌*◌, min}
-use Rattle.ea_sizemap.proofs.searches.+first_from.Given as goal
-
--- a tree over one key has no tree below it
-abbrev pub decreases-first_from : goal.decreases-first_from
-decreases-first_from l = 2 * l.width + min 1 l.link

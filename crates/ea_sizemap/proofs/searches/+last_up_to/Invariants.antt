@@ -1,6 +1,0 @@
-use Rattle.std.proofs.Common.{◌+◌, ◌*◌, min}
-use Rattle.ea_sizemap.proofs.searches.+last_up_to.Given as goal
-
--- a tree over one key has no tree below it
-abbrev pub decreases-last_up_to : goal.decreases-last_up_to
-decreases-last_up_to l = 2 * l.width + min 1 l.link
