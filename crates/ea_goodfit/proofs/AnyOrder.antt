@@ -51,7 +51,8 @@ module _ {A : Type 0} (p : A → Bool) where
         | inr f ↦ subst (All P) (sym (filter_past x xs f)) more
       ]
 
-  Contains-passing : (xs : List A) (x : A) → Contains xs x → p x ≡ true → Contains (filter p xs) x
+  pub Contains-passing : (xs : List A) (x : A) → Contains xs x → p x ≡ true
+      → Contains (filter p xs) x
   Contains-passing xs x c t = All-contains (λ (x : A). IsTrue (p x) → Contains (filter p xs) x) xs x
       (passing-All (Contains (filter p xs)) xs (All-contains_itself (filter p xs))) c t
 
@@ -72,7 +73,7 @@ same_permuted xs ys m = record {
       (All-contains_itself ys);
 }
 
-passing_into : {A : Type 0} (p : A → Bool) (xs ys : List A) → All (Contains ys) xs
+pub passing_into : {A : Type 0} (p : A → Bool) (xs ys : List A) → All (Contains ys) xs
     → All (Contains (filter p ys)) (filter p xs)
 passing_into p xs ys a = All-passing p (Contains (filter p ys)) xs
     (All-weaker (Contains ys) (λ x. IsTrue (p x) → Contains (filter p ys) x)

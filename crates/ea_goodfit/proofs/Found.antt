@@ -30,7 +30,7 @@ same_self g = grind arith
 pub held-contained : (gs : List BinnedGap) (g : BinnedGap) → Contains gs g → IsTrue (is_held g gs)
 held-contained gs g c = list_any-from_Any (is_same g) gs (c.0, g, c.1, c.2, same_self g)
 
-all_held : (gs : List BinnedGap) → All (λ g. IsTrue (is_held g gs)) gs
+pub all_held : (gs : List BinnedGap) → All (λ g. IsTrue (is_held g gs)) gs
 all_held gs = All-weaker (Contains gs) (λ g. IsTrue (is_held g gs)) (λ g c. held-contained gs g c)
     gs (All-contains_itself gs)
 

@@ -1,10 +1,10 @@
 -- The gaps of the bins, by rising address, and the one that a search finds.
 use Rattle.std.specs.Prelude.{◌≢◌, ℕ, ◌+◌, ◌-◌, ◌^◌, ◌<◌, ◌≤◌, Bool, ◌&&◌, if◌then◌else◌, nat_le}
-use Rattle.std.specs.Prelude.{nat_lt, ◌==◌, List, [], ◌∷◌, ◌++◌, All, Option, filter}
+use Rattle.std.specs.Prelude.{nat_lt, ◌==◌, List, [], ◌∷◌, ◌++◌, All, Option, filter, take}
 use Rattle.std.specs.List.{list_any}
 use Rattle.std.specs.List.Sorted.{IsPermutation}
 use Rattle.ea_model.specs.Choice.{better, first, less}
-use Rattle.ea_model.specs.GoodFit.{is_inspected, smaller_low}
+use Rattle.ea_model.specs.GoodFit.{bin_of, is_inspected, smaller_low}
 use Rattle.ea_model.specs.Keyed as keyed
 use Rattle.ea_goodfit.specs.declared.gaps.BinnedGap.{BinnedGap}
 use Rattle.ea_goodfit.specs.declared.fits.Fit.{Fit}
@@ -59,9 +59,18 @@ inspected_fitting fit depth need gs = filter (λ g. nat_le need g.size) (inspect
 abbrev pub found_by : Fit → ℕ → ℕ → List BinnedGap → Option BinnedGap
 found_by fit depth need gs = first (takes_first fit) (inspected_fitting fit depth need gs)
 
+-- the gaps of a bin
+abbrev pub of_bin : ℕ → List BinnedGap → List BinnedGap
+of_bin bin gs = filter (λ g. bin_of g.size == bin) gs
+
+-- the gap that is taken of those that fit among the first `depth` of a bin
+abbrev pub found_in : ℕ → ℕ → ℕ → List BinnedGap → Option BinnedGap
+found_in bin depth need gs = first smaller (filter (λ g. nat_le need g.size)
+    (take depth (of_bin bin gs)))
+
 -- the better of the best so far and a gap, where that one fits
-abbrev pub considered : Fit → ℕ → Option BinnedGap → BinnedGap → Option BinnedGap
-considered fit need best g = if nat_le need g.size then better (takes_first fit) best g else best
+abbrev pub considered : ℕ → Option BinnedGap → BinnedGap → Option BinnedGap
+considered need best g = if nat_le need g.size then better smaller best g else best
 
 -- a gap as a list of at most one: a gap of no units is none
 abbrev pub some_gap : BinnedGap → List BinnedGap

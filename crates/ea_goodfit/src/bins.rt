@@ -1,5 +1,6 @@
 //! The bins and their calls.
-ghost use Rattle.std.specs.Prelude.{◌≡◌, ◌≢◌, ◌+◌, ◌-◌, ◌^◌, ◌<◌, ◌≤◌, ◌↔◌, [], ◌∷◌, ◌++◌, ◌==◌, ◌&&◌};
+ghost use Rattle.std.specs.Prelude.{◌≡◌, ◌≢◌, ◌+◌, ◌-◌, ◌^◌, ◌<◌, ◌≤◌, ◌↔◌, [], ◌∷◌, ◌++◌, ◌==◌};
+ghost use Rattle.std.specs.Prelude.{◌&&◌};
 ghost use Rattle.std.specs.Prelude.{◌||◌, not, List, Some, All, AllPairs, IsTrue, IsNone, IfSome};
 ghost use Rattle.std.specs.Prelude.{OnOk, OnErr, length};
 ghost use Rattle.std.specs.List.Sorted.{IsPermutation};
@@ -9,37 +10,51 @@ ghost use Rattle.ea_model.specs.Keyed.{entered, without};
 ghost use Rattle.ea_goodfit.specs.Gaps.{address_of, is_same, is_held, takes_first, inspected_by};
 ghost use Rattle.ea_goodfit.specs.Gaps.{inspected_fitting, found_by, some_gap, gap_from};
 ghost use Rattle.ea_goodfit.specs.Gaps.{CanCut, CanJoin, IsBelow};
+ghost use Rattle.ea_goodfit.specs.Gaps.{found_in, considered};
+ghost use Rattle.ea_goodfit.specs.Keys.{key_of, IsNext};
 ghost use Rattle.ea_goodfit.specs.declared.fits.Fit.TheVariants.{Good};
 
 use crate::fits::Fit;
 use crate::gaps::BinnedGap;
-use crate::walks::{search, walk};
+use crate::keys::{SPAN, bin_of, key, width};
+use ea_keytree::KeyTree;
 use ea_model::OutOfMemory;
-use ea_model::keyed::{enter_within, take_out};
 use std::alloc::Global;
 use std::marker::Model;
 
 /// The gaps that a search can find. Contracts see them by rising address, and beside them `room`:
-/// how many more can be inserted without taking memory.
+/// how many more can be inserted without taking memory. Only `reserve` takes memory. A gap is put
+/// in or taken out in one walk down a tree, which is as deep at most as a key has bits, and so is a
+/// search; under good fit it takes one walk for each gap that it may inspect of two bins, and one
+/// more.
 #[derive(Drop)]
 pub struct Bins {
     fit: Fit,
-    held: Vec<BinnedGap>,
+    /// How many positions more there can be without taking memory.
+    reserved: u32,
+    /// The key of each position.
+    tree: KeyTree,
+    /// The gap of each position.
+    gaps: Vec<Option<BinnedGap>>,
+    /// The positions that hold none.
+    free: Vec<u32>,
 }
 
 impl Model for Bins {
-    ghost use Rattle.std.specs.Prelude.{◌-◌, AllPairs, vec_len, vec_capacity};
-    ghost use Rattle.ea_goodfit.specs.Gaps.{HeldGaps, IsBelow};
+    ghost use Rattle.std.specs.Prelude.{◌+◌, vec_len, vec_capacity};
+    ghost use Rattle.ea_goodfit.specs.Gaps.{HeldGaps};
+    ghost use Rattle.ea_goodfit.specs.Keys.{by_address, AreHeld};
 
     ghost Value = { HeldGaps };
 
     ghost view = { λ b. record {
       fit = b.fit;
-      held = b.held.items;
-      room = vec_capacity b.held - vec_len b.held;
+      held = by_address b.gaps.items;
+      room = b.reserved + vec_len b.free;
     } };
 
-    ghost invariant = { λ b. AllPairs IsBelow b.held.items };
+    ghost invariant = { λ b. AreHeld b.fit b.reserved b.tree b.gaps.items b.free.items
+        (vec_capacity b.gaps) (vec_capacity b.free) };
 }
 
 impl Bins {
@@ -49,7 +64,10 @@ impl Bins {
     {
         Bins {
             fit,
-            held: Vec::new(alloc),
+            reserved: 0,
+            tree: KeyTree::new(alloc, width(fit)),
+            gaps: Vec::new(alloc),
+            free: Vec::new(alloc),
         }
     }
 
@@ -64,7 +82,18 @@ impl Bins {
         // It fails only where there is less room than was asked for.
         ensures full { OnErr result (self.old.room < extra) }
     {
-        Ok(self.held.reserve(extra as usize)?)
+        let more = (extra as usize).saturating_sub(self.free.len());
+        if more <= self.reserved as usize {
+            return Ok(());
+        }
+        if more > u32::MAX as usize - self.gaps.len() {
+            return Err(OutOfMemory);
+        }
+        self.gaps.reserve(more)?;
+        self.free.reserve(self.gaps.len() - self.free.len() + more)?;
+        self.tree.reserve(more as u32)?;
+        self.reserved = more as u32;
+        Ok(())
     }
 
     /// Adds a gap, where room was reserved. It takes no memory.
@@ -83,7 +112,31 @@ impl Bins {
             → is_held g self.new.held ≡ (is_same g gap || is_held g self.old.held) }
         ensures order { IsPermutation self.new.held (gap ∷ self.old.held) }
     {
-        enter_within(gap, &mut self.held);
+        self.enter(gap);
+    }
+
+    /// Puts a gap at a free position, or at a new one where none is free.
+    fn enter(&mut self, gap: BinnedGap)
+        requires room { 0 < self.old.room }
+        requires address { All (λ g. g.address ≢ gap.address) self.old.held }
+        requires size { self.old.fit ≢ Good → gap.size + 1 < 2 ^ 32 }
+        ensures held { self.new ≡ record self.old {
+          held = entered address_of gap self.old.held;
+          room = self.old.room - 1;
+        } }
+        ensures rising { AllPairs IsBelow self.old.held }
+    {
+        let key = key(self.fit, gap);
+        if let Some(position) = self.free.pop() {
+            self.tree.insert(key, position);
+            self.gaps[position as usize] = Some(gap);
+            return;
+        }
+        let position = self.gaps.len() as u32;
+        self.reserved -= 1;
+        self.tree.push();
+        self.tree.insert(key, position);
+        self.gaps.push_reserved(Some(gap));
     }
 
     /// Takes out a gap that is held.
@@ -102,7 +155,21 @@ impl Bins {
         ensures order { (rest : List BinnedGap) → IsPermutation self.old.held (gap ∷ rest)
             → IsPermutation self.new.held rest }
     {
-        take_out(gap.address, &mut self.held);
+        self.take_out(gap);
+    }
+
+    /// Takes out a gap that is held, and frees its position.
+    fn take_out(&mut self, gap: BinnedGap)
+        requires { IsTrue (is_held gap self.old.held) }
+        ensures held { self.new ≡ record self.old {
+          held = without address_of gap.address self.old.held;
+          room = self.old.room + 1;
+        } }
+        ensures rising { AllPairs IsBelow self.old.held }
+    {
+        let position = self.tree.remove(key(self.fit, gap));
+        self.gaps[position as usize] = None;
+        self.free.push_reserved(position);
     }
 
     /// Adds a gap, where room was reserved; one of no units is none. It takes no memory.
@@ -235,9 +302,71 @@ impl Bins {
         ensures rising { AllPairs IsBelow self.now.held }
     {
         match self.fit {
-            Fit::Good => search(need, depth, &self.held),
-            Fit::Best => walk(Fit::Best, need, &self.held),
-            Fit::AddressOrderBest => walk(Fit::AddressOrderBest, need, &self.held),
+            Fit::Good => self.found_good(need, depth),
+            Fit::Best | Fit::AddressOrderBest => self.first_from(u64::from(need) * SPAN),
         }
+    }
+
+    /// The gap that good fit finds: one of the need's bin, or else one of the next bin that has
+    /// any, where each fits.
+    fn found_good(&self, need: u32, depth: u32) -> Option<BinnedGap>
+        requires fit { self.now.fit ≡ Good }
+        requires rising { AllPairs IsBelow self.now.held }
+        requires bounded { All (λ g. g.address < 2 ^ 32) self.now.held }
+        ensures { result ≡ found_by Good depth need self.now.held }
+    {
+        let bin = bin_of(need);
+        let found = self.found_in(bin, need, depth);
+        if found.is_some() {
+            return found;
+        }
+        let higher = self.first_from((u64::from(bin) + 1) * SPAN)?;
+        self.found_in(bin_of(higher.size), need, depth)
+    }
+
+    /// The gap that is taken of those that fit among the first `depth` of a bin.
+    fn found_in(&self, bin: u32, need: u32, depth: u32) -> Option<BinnedGap>
+        requires fit { self.now.fit ≡ Good }
+        requires bin { bin < 90 }
+        ensures { result ≡ found_in bin depth need self.now.held }
+    {
+        let mut best = None;
+        let mut address = 0;
+        for index in 0..depth {
+            let Some(gap) = self.first_from(u64::from(bin) * SPAN + address) else {
+                return best;
+            };
+            if bin_of(gap.size) != bin {
+                return best;
+            }
+            best = better_of(need, best, gap);
+            address = u64::from(gap.address) + 1;
+        }
+        best
+    }
+
+    /// The gap of the least key of at least `bound`, or None where all keys are less.
+    fn first_from(&self, bound: u64) -> Option<BinnedGap>
+        ensures next { IfSome result (IsNext self.now.fit bound self.now.held) }
+        ensures none { IsNone result → All (λ g. key_of self.now.fit g < bound) self.now.held }
+        ensures rising { AllPairs IsBelow self.now.held }
+        ensures bounded { All (λ g. g.address < 2 ^ 32) self.now.held }
+    {
+        let found = self.tree.first_from(bound)?;
+        self.gaps[found.position as usize]
+    }
+}
+
+/// The better of `best` and the gap, where that one fits.
+fn better_of(need: u32, best: Option<BinnedGap>, gap: BinnedGap) -> Option<BinnedGap>
+    ensures { result ≡ considered need best gap }
+{
+    if gap.size < need {
+        return best;
+    }
+    match best {
+        Some(other) if other.size < gap.size => best,
+        Some(other) if other.size == gap.size && other.address <= gap.address => best,
+        _ => Some(gap),
     }
 }

@@ -7,9 +7,9 @@
 pub mod bins;
 pub mod fits;
 pub mod gaps;
+mod keys;
 #[cfg(test)]
 mod tests;
-mod walks;
 
 pub use bins::Bins;
 pub use fits::Fit;

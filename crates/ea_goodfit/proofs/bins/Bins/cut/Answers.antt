@@ -10,5 +10,6 @@ put-requires-clause-address c = λ some.
     c.take.new.self.held (IsPermutation-sym _ _ left) (c.requires.free (omega arith))
 
 pub returns-clause-order : goal.returns-clause-order
-returns-clause-order c = λ rest m. before-others c.put.new.self.held c.take.new.self.held _ rest c.put.ensures.order
+returns-clause-order c = λ rest m.
+    before-others c.put.new.self.held c.take.new.self.held _ rest c.put.ensures.order
     (c.take.ensures.order rest m)

@@ -11,5 +11,6 @@ put-requires-clause-address c = λ some.
     c.take-2.new.self.held (IsPermutation-sym _ _ left) c.requires.held.free
 
 pub returns-clause-order : goal.returns-clause-order
-returns-clause-order c = λ rest m. before-others c.put.new.self.held c.take-2.new.self.held _ rest c.put.ensures.order
+returns-clause-order c = λ rest m.
+    before-others c.put.new.self.held c.take-2.new.self.held _ rest c.put.ensures.order
     (c.take-2.ensures.order rest (c.take.ensures.order _ m))
