@@ -1,40 +1,25 @@
--- The gaps that a search inspects, met by rising address with a count for each bin.
-use Rattle.std.proofs.Common.{◌≡◌, ◌≢◌, ℕ, ◌+◌, ◌<◌, ◌≤◌, Bool, true, false, List, [], ◌∷◌, ◌++◌}
-use Rattle.std.proofs.Common.{length, get_or, set, replicate, sym, ap, ◌∙◌, append-nil, fold, subst}
-use Rattle.std.proofs.Common.{refl, inl, inr, ◌⊎◌, arith}
-use Rattle.std.specs.Prelude.{◌&&◌, ◌==◌, if◌then◌else◌, filter, min, nat_lt, nat_le, Option, None}
-use Rattle.std.specs.Prelude.{IsTrue, All, AllPairs}
-use Rattle.std.proofs.lemmas.Grind.{get_or-set_at}
-use Rattle.std.proofs.lemmas.Bool.{cases_lt, cases_eq}
-use Rattle.std.proofs.lemmas.List.{append_assoc, length-append, length-set, get_or-set_other}
-use Rattle.std.proofs.lemmas.List.{length-replicate, get_or-replicate}
+-- Of each bin the first few gaps by address are inspected.
+use Rattle.std.proofs.Common.{zero, suc, ◌≡◌, ◌≢◌, ℕ, ◌+◌, ◌-◌, ◌<◌, ◌≤◌, Bool, true, false, List}
+use Rattle.std.proofs.Common.{[]}
+use Rattle.std.proofs.Common.{◌∷◌, ◌++◌, length, take, sym, ap, ◌∙◌, append-nil, subst, refl, inl}
+use Rattle.std.proofs.Common.{inr}
+use Rattle.std.proofs.Common.{arith}
+use Rattle.std.proofs.Math.Seq.{take-nil}
+use Rattle.std.specs.Prelude.{◌&&◌, ◌==◌, filter, nat_lt, All, AllPairs, Contains}
+use Rattle.std.proofs.lemmas.Bool.{cases_Bool, cases_lt, cases_eq}
+use Rattle.std.proofs.lemmas.List.{append_assoc, length-append}
 use Rattle.std.proofs.lemmas.List.Elements.{All-nil, All-cons, All-head, All-tail, All-push}
-use Rattle.std.proofs.lemmas.List.Elements.{All-weaker, filter-append}
-use Rattle.ea_model.specs.GoodFit.{bin_of, is_inspected, good_fit}
-use Rattle.ea_model.specs.Choice.{better, first}
-use Rattle.ea_model.proofs.First.{large-here, large-past}
-use Rattle.ea_goodfit.specs.declared.gaps.BinnedGap.{BinnedGap}
-use Rattle.ea_goodfit.specs.Gaps.{smaller, considered, IsBelow}
-use Rattle.ea_goodfit.proofs.AnyOrder.{filter_here, filter_past}
-use Rattle.ea_goodfit.proofs.Bin.{bin_of-below}
+use Rattle.std.proofs.lemmas.List.Elements.{All-weaker, All-contains_itself, All-filter}
+use Rattle.std.proofs.lemmas.List.Elements.{filter-append}
+use Rattle.std.proofs.lemmas.List.Elements.{filter_passes}
+use Rattle.ea_model.specs.GoodFit.{bin_of, is_inspected}
 use Rattle.ea_model.proofs.Pairs.{pairs_head, pairs_tail}
+use Rattle.ea_goodfit.specs.declared.gaps.BinnedGap.{BinnedGap}
+use Rattle.ea_goodfit.specs.declared.fits.Fit.TheVariants.{Good}
+use Rattle.ea_goodfit.specs.Gaps.{inspected_by, of_bin, IsBelow}
+use Rattle.ea_goodfit.proofs.AnyOrder.{filter_here, filter_past, Contains-passing}
 
--- the gaps that are inspected, where `counts` of each bin were inspected before
-abbrev pub met : ℕ → List ℕ → List BinnedGap → List BinnedGap
-met depth counts [] = []
-met depth counts (g ∷ gs) = if nat_lt (get_or counts (bin_of g.size) 0) depth then g ∷ met depth
-    (set counts (bin_of g.size) (get_or counts (bin_of g.size) 0 + 1)) gs else met depth counts gs
-
--- the gaps of a bin
-abbrev of_bin : ℕ → List BinnedGap → List BinnedGap
-of_bin b gs = filter (λ g. bin_of g.size == b) gs
-
--- the counts are those of the gaps seen, up to `depth` in each bin
-pub record Counts (depth : ℕ) (counts : List ℕ) (seen : List BinnedGap) : Type 0 where
-  pub bins : length counts ≡ 90
-  pub each : (b : ℕ) → b < 90 → get_or counts b 0 ≡ min depth (length (of_bin b seen))
-
-filter_none : (p : BinnedGap → Bool) (gs : List BinnedGap) → All (λ g. p g ≡ false) gs
+pub filter_none : (p : BinnedGap → Bool) (gs : List BinnedGap) → All (λ g. p g ≡ false) gs
     → filter p gs ≡ []
 filter_none p [] a = refl
 filter_none p (g ∷ gs) a = rw (All-head (λ x. p x ≡ false) g gs a)
@@ -85,95 +70,34 @@ unfolding inspects
 inspected_is depth seen g gs before after = ap (λ hs. nat_lt (length hs) depth)
     (ahead_seen (bin_of g.size) seen g gs before after)
 
+pub bin_here : (b : ℕ) (g : BinnedGap) → bin_of g.size ≡ b → (bin_of g.size == b) ≡ true
+bin_here b g e = grind arith
+
+pub bin_past : (b : ℕ) (g : BinnedGap) → bin_of g.size ≢ b → (bin_of g.size == b) ≡ false
+bin_past b g n = grind arith
+
+pub of_bin-here : (b : ℕ) (g : BinnedGap) (gs : List BinnedGap) → bin_of g.size ≡ b
+    → of_bin b (g ∷ gs) ≡ g ∷ of_bin b gs
+of_bin-here b g gs e = filter_here (λ x. bin_of x.size == b) g gs (bin_here b g e)
+
+pub of_bin-past : (b : ℕ) (g : BinnedGap) (gs : List BinnedGap) → bin_of g.size ≢ b
+    → of_bin b (g ∷ gs) ≡ of_bin b gs
+of_bin-past b g gs n = filter_past (λ x. bin_of x.size == b) g gs (bin_past b g n)
+
 of_bin_more : (b : ℕ) (seen : List BinnedGap) (g : BinnedGap)
-    → length (of_bin b (seen ++ g ∷ [])) ≡ length (of_bin b seen) +
-    (if bin_of g.size == b then 1 else 0)
+    → length (of_bin b (seen ++ g ∷ [])) ≡ length (of_bin b seen) + length (of_bin b (g ∷ []))
 of_bin_more b seen g = ap length (filter-append (λ h. bin_of h.size == b) seen (g ∷ []))
     ∙ length-append (of_bin b seen) (of_bin b (g ∷ []))
-    ∙ ap (λ n. length (of_bin b seen) + n) (grind arith)
 
 one_more : (b : ℕ) (seen : List BinnedGap) (g : BinnedGap) → bin_of g.size ≡ b
     → length (of_bin b (seen ++ g ∷ [])) ≡ length (of_bin b seen) + 1
-one_more b seen g e = of_bin_more b seen g
-    ∙ plus_if (length (of_bin b seen)) (bin_of g.size) b e where
-      plus_if : (n a b : ℕ) → a ≡ b → n + (if a == b then 1 else 0) ≡ n + 1
-      plus_if n a b e = grind arith
+one_more b seen g e = omega
+    (arith, of_bin_more b seen g, ap length (of_bin-here b g [] e))
 
 none_more : (b : ℕ) (seen : List BinnedGap) (g : BinnedGap) → bin_of g.size ≢ b
     → length (of_bin b (seen ++ g ∷ [])) ≡ length (of_bin b seen)
-none_more b seen g ne = of_bin_more b seen g
-    ∙ plus_if (length (of_bin b seen)) (bin_of g.size) b ne where
-      plus_if : (n a b : ℕ) → a ≢ b → n + (if a == b then 1 else 0) ≡ n
-      plus_if n a b ne = grind arith
-
-full : (count depth n m : ℕ) → count ≡ min depth n → depth ≤ count → m ≡ n + 1 → count ≡ min depth m
-full count depth n m e le more = omega arith
-
-plus_one : (count depth n m : ℕ) → count ≡ min depth n → count < depth → m ≡ n + 1
-    → count + 1 ≡ min depth m
-plus_one count depth n m e lt more = omega arith
-
-min_none : (depth : ℕ) → 0 ≡ min depth 0
-min_none depth = omega arith
-
-pub Counts-none : (depth : ℕ) → Counts depth (replicate 90 0) []
-Counts-none depth =
-    record {
-      bins = length-replicate {A = ℕ} 90 0;
-      each = λ b h. get_or-replicate {A = ℕ} 90 b 0 0 h
-          ∙ min_none depth;
-    }
-
--- a gap that is inspected is counted
-counted : (depth : ℕ) (counts : List ℕ) (seen : List BinnedGap) (g : BinnedGap) → bin_of g.size < 90
-    → get_or counts (bin_of g.size) 0 < depth → Counts depth counts seen
-    → Counts depth (set counts (bin_of g.size) (get_or counts (bin_of g.size) 0 + 1))
-    (seen ++ g ∷ [])
-counted depth counts seen g within lt c =
-    let k = bin_of g.size in
-    let v = get_or counts k 0 + 1 in
-    record {
-      bins = length-set counts k v ∙ c.bins;
-      each = λ b h. elim (cases_eq k b) [
-        | inl e ↦
-            get_or-set_at counts k b v 0 (sym e) (omega (arith, c.bins))
-            ∙ plus_one (get_or counts k 0) depth (length (of_bin b seen))
-            (length (of_bin b (seen ++ g ∷ []))) (ap (λ i. get_or counts i 0) e ∙ c.each b h) lt
-            (one_more b seen g e)
-        | inr ne ↦ get_or-set_other counts k b v 0 (λ e. ne (sym e)) ∙ c.each b h
-            ∙ ap (min depth) (sym (none_more b seen g ne))
-      ];
-    }
-
--- one that is not leaves the counts as they are
-uncounted : (depth : ℕ) (counts : List ℕ) (seen : List BinnedGap) (g : BinnedGap)
-    → depth ≤ get_or counts (bin_of g.size) 0 → Counts depth counts seen
-    → Counts depth counts (seen ++ g ∷ [])
-uncounted depth counts seen g le c = record {
-  bins = c.bins;
-  each = λ b h. elim (cases_eq (bin_of g.size) b) [
-    | inl e ↦ full (get_or counts b 0) depth (length (of_bin b seen))
-        (length (of_bin b (seen ++ g ∷ []))) (c.each b h)
-        (subst (λ i. depth ≤ get_or counts i 0) e le) (one_more b seen g e)
-    | inr ne ↦ c.each b h ∙ ap (min depth) (sym (none_more b seen g ne))
-  ];
-}
-
-met_here : (depth : ℕ) (counts : List ℕ) (g : BinnedGap) (gs : List BinnedGap)
-    → get_or counts (bin_of g.size) 0 < depth
-    → met depth counts (g ∷ gs) ≡ g ∷ met depth
-    (set counts (bin_of g.size) (get_or counts (bin_of g.size) 0 + 1)) gs
-met_here depth counts g gs lt = grind arith
-
-met_past : (depth : ℕ) (counts : List ℕ) (g : BinnedGap) (gs : List BinnedGap)
-    → depth ≤ get_or counts (bin_of g.size) 0 → met depth counts (g ∷ gs) ≡ met depth counts gs
-met_past depth counts g gs le = grind arith
-
-more_counted : (count depth n : ℕ) → count ≡ min depth n → count < depth → nat_lt n depth ≡ true
-more_counted count depth n e lt = grind arith
-
-none_counted : (count depth n : ℕ) → count ≡ min depth n → depth ≤ count → nat_lt n depth ≡ false
-none_counted count depth n e le = grind arith
+none_more b seen g n = omega
+    (arith, of_bin_more b seen g, ap length (of_bin-past b g [] n))
 
 -- the gaps seen lie below one more
 seen_more : (seen : List BinnedGap) (g : BinnedGap) (gs : List BinnedGap)
@@ -183,127 +107,114 @@ seen_more seen g gs before after = All-push (λ h. All (IsBelow h) gs) seen g
     (All-weaker (λ h. All (IsBelow h) (g ∷ gs)) (λ h. All (IsBelow h) gs)
     (λ h a. All-tail (IsBelow h) g gs a) seen before) after
 
-met_inspected : (depth : ℕ) (counts : List ℕ) (all seen gs : List BinnedGap) → all ≡ seen ++ gs
-    → All (λ h. All (IsBelow h) gs) seen → AllPairs IsBelow gs → Counts depth counts seen
-    → met depth counts gs ≡ filter (inspects depth all) gs
-met_inspected depth counts all seen [] e before rise c = refl
-met_inspected depth counts all seen (g ∷ gs) e before rise c =
+pub take_none : (n : ℕ) (gs : List BinnedGap) → n ≡ 0 → take n gs ≡ []
+take_none n gs e = rw e refl
+
+pub take_one : (n m : ℕ) (g : BinnedGap) (gs : List BinnedGap) → n ≡ suc m
+    → take n (g ∷ gs) ≡ g ∷ take m gs
+take_one n m g gs e = rw e refl
+
+lt_is : (n depth : ℕ) → n < depth → nat_lt n depth ≡ true
+lt_is n depth lt = grind arith
+
+le_not : (n depth : ℕ) → depth ≤ n → nat_lt n depth ≡ false
+le_not n depth le = grind arith
+
+-- a gap of another bin is no matter
+passed_by : (b : ℕ) (p : BinnedGap → Bool) (g : BinnedGap) (gs : List BinnedGap)
+    → bin_of g.size ≢ b → of_bin b (filter p (g ∷ gs)) ≡ of_bin b (filter p gs)
+passed_by b p g gs n =
+    elim (cases_Bool (p g)) [
+      | inl t ↦ ap (of_bin b) (filter_here p g gs t) ∙ of_bin-past b g (filter p gs) n
+      | inr f ↦ ap (of_bin b) (filter_past p g gs f)
+    ]
+
+taken : (depth b : ℕ) (all seen gs : List BinnedGap) → all ≡ seen ++ gs
+    → All (λ h. All (IsBelow h) gs) seen → AllPairs IsBelow gs
+    → of_bin b (filter (inspects depth all) gs) ≡ take (depth - length (of_bin b seen))
+    (of_bin b gs)
+taken depth b all seen [] e before rise = sym (take-nil (depth - length (of_bin b seen)))
+taken depth b all seen (g ∷ gs) e before rise =
     let after = pairs_head IsBelow g gs rise in
-    let b = bin_of g.size in
-    let n = length (of_bin b seen) in
-    let count : get_or counts b 0 ≡ min depth n = c.each b (bin_of-below g.size) in
-    let is : inspects depth all g ≡ nat_lt n depth = ap (λ xs. inspects depth xs g) e
-    ∙ inspected_is depth seen g gs
-    (All-weaker (λ h. All (IsBelow h) (g ∷ gs)) (λ h. IsBelow h g)
-    (λ h a. All-head (IsBelow h) g gs a) seen before) after in
     let split : all ≡ (seen ++ g ∷ []) ++ gs = e ∙ sym (append_assoc seen (g ∷ []) gs) in
-    elim (cases_lt (get_or counts b 0) depth) [
-      | inl lt ↦
-          met_here depth counts g gs lt
-          ∙ ap (λ xs. g ∷ xs) (met_inspected depth (set counts b (get_or counts b 0 + 1)) all
-          (seen ++ g ∷ []) gs split (seen_more seen g gs before after)
-          (pairs_tail IsBelow g gs rise)
-          (counted depth counts seen g (bin_of-below g.size) lt c))
-          ∙ sym (filter_here (inspects depth all) g gs (is
-          ∙ more_counted (get_or counts b 0) depth n count lt))
-      | inr le ↦
-          met_past depth counts g gs le
-          ∙ met_inspected depth counts all (seen ++ g ∷ []) gs split
-          (seen_more seen g gs before after) (pairs_tail IsBelow g gs rise)
-          (uncounted depth counts seen g le c)
-          ∙ sym (filter_past (inspects depth all) g gs (is
-          ∙ none_counted (get_or counts b 0) depth n count le))
-    ]
-
-considered_past : (need : ℕ) (best : Option BinnedGap) (g : BinnedGap) → g.size < need
-    → considered need best g ≡ best
-considered_past need best g lt = grind arith
-
-considered_fits : (need : ℕ) (best : Option BinnedGap) (g : BinnedGap) → need ≤ g.size
-    → considered need best g ≡ better smaller best g
-considered_fits need best g le = grind arith
-
--- considering each gap is taking the better of those that fit
-considered_fitting : (need : ℕ) (best : Option BinnedGap) (gs : List BinnedGap)
-    → fold (considered need) best gs ≡ fold (better smaller) best
-    (filter (λ g. nat_le need g.size) gs)
-considered_fitting need best [] = refl
-considered_fitting need best (g ∷ gs) =
-    elim (cases_lt g.size need) [
-      | inl lt ↦
-          ap (λ o. fold (considered need) o gs) (considered_past need best g lt)
-          ∙ considered_fitting need best gs
-          ∙ ap (fold (better smaller) best)
-          (sym (large-past (λ (x : BinnedGap). x.size) need g gs lt))
-      | inr le ↦
-          ap (λ o. fold (considered need) o gs) (considered_fits need best g le)
-          ∙ considered_fitting need (better smaller best g) gs
-          ∙ ap (fold (better smaller) best)
-          (sym (large-here (λ (x : BinnedGap). x.size) need g gs le))
-    ]
-
--- what the gaps met by rising address give is the choice
-pub met-good_fit : (need depth : ℕ) (gs : List BinnedGap) → AllPairs IsBelow gs
-    → fold (considered need) None (met depth (replicate 90 0) gs) ≡ good_fit (λ g. g.address)
-    (λ g. g.size) depth need gs
-unfolding inspects
-met-good_fit need depth gs rise =
-    considered_fitting need None (met depth (replicate 90 0) gs)
-    ∙ ap (λ xs. first smaller (filter (λ g. nat_le need g.size) xs))
-    (met_inspected depth (replicate 90 0) gs [] gs refl (All-nil (λ h. All (IsBelow h) gs)) rise
-    (Counts-none depth))
-
--- a gap of the bin was seen before, or none was
-seen_or_none : (Q : ℕ → Type 0) (b : ℕ) (seen : List BinnedGap) → All (λ h. Q (bin_of h.size)) seen
-    → Q b ⊎ (of_bin b seen ≡ [])
-seen_or_none Q b [] a = inr refl
-seen_or_none Q b (h ∷ hs) a =
-    elim (cases_eq (bin_of h.size) b) [
-      | inl e ↦ inl (subst Q e (All-head (λ (x : BinnedGap). Q (bin_of x.size)) h hs a))
-      | inr ne ↦
-          let rest = All-tail (λ (x : BinnedGap). Q (bin_of x.size)) h hs a in
-          elim (seen_or_none Q b hs rest) [
-            | inl q ↦ inl q
-            | inr none ↦ inr
-                (filter_past (λ x. bin_of x.size == b) h hs (other (bin_of h.size) b ne) ∙ none)
+    let more = taken depth b all (seen ++ g ∷ []) gs split (seen_more seen g gs before after)
+    (pairs_tail IsBelow g gs rise) in
+    let n = length (of_bin b seen) in
+    elim (cases_eq (bin_of g.size) b) [
+      | inl here ↦
+          let is : inspects depth all g ≡ nat_lt n depth = ap (λ xs. inspects depth xs g) e
+          ∙ inspected_is depth seen g gs
+          (All-weaker (λ h. All (IsBelow h) (g ∷ gs)) (λ h. IsBelow h g)
+          (λ h a. All-head (IsBelow h) g gs a) seen before) after
+          ∙ ap (λ k. nat_lt (length (of_bin k seen)) depth) here in
+          let one = one_more b seen g here in
+          elim (cases_lt n depth) [
+            | inl lt ↦
+                ap (of_bin b) (filter_here (inspects depth all) g gs (is ∙ lt_is n depth lt))
+                ∙ of_bin-here b g (filter (inspects depth all) gs) here
+                ∙ ap (λ xs. g ∷ xs) more
+                ∙ sym (take_one (depth - n) (depth - length (of_bin b (seen ++ g ∷ []))) g
+                (of_bin b gs) (omega (arith, one)))
+                ∙ ap (take (depth - n)) (sym (of_bin-here b g gs here))
+            | inr le ↦
+                ap (of_bin b) (filter_past (inspects depth all) g gs (is ∙ le_not n depth le))
+                ∙ more
+                ∙ take_none (depth - length (of_bin b (seen ++ g ∷ []))) (of_bin b gs)
+                (omega (arith, one))
+                ∙ sym (take_none (depth - n) (of_bin b (g ∷ gs)) (omega arith))
           ]
-    ] where
-      other : (a b : ℕ) → a ≢ b → (a == b) ≡ false
-      other a b ne = grind arith
+      | inr past ↦
+          passed_by b (inspects depth all) g gs past ∙ more
+          ∙ ap (λ k. take (depth - k) (of_bin b gs)) (none_more b seen g past)
+          ∙ ap (take (depth - n)) (sym (of_bin-past b g gs past))
+    ]
 
-first_of_bin : (depth n : ℕ) → 1 ≤ depth → n ≡ 0 → nat_lt n depth ≡ true
-first_of_bin depth n one none = grind arith
+-- those inspected of a bin are its first `depth` gaps
+pub inspected-bin : (depth b : ℕ) (gs : List BinnedGap) → AllPairs IsBelow gs
+    → of_bin b (inspected_by Good depth gs) ≡ take depth (of_bin b gs)
+unfolding inspects
+inspected-bin depth b gs rise =
+    taken depth b gs [] gs refl (All-nil (λ (h : BinnedGap). All (IsBelow h) gs)) rise
+    ∙ ap (λ n. take n (of_bin b gs)) (all_left depth) where
+      all_left : (depth : ℕ) → depth - 0 ≡ depth
+      all_left depth = omega arith
 
-bins_met : (Q : ℕ → Type 0) (depth : ℕ) → 1 ≤ depth → (all seen gs : List BinnedGap)
-    → all ≡ seen ++ gs → All (λ h. All (IsBelow h) gs) seen → AllPairs IsBelow gs
-    → All (λ h. inspects depth all h ≡ true → Q (bin_of h.size)) gs
-    → All (λ h. Q (bin_of h.size)) seen → All (λ h. Q (bin_of h.size)) gs
-bins_met Q depth one all seen [] e before rise a s = All-nil (λ (x : BinnedGap). Q (bin_of x.size))
-bins_met Q depth one all seen (g ∷ gs) e before rise a s =
-    let after = pairs_head IsBelow g gs rise in
-    let is : inspects depth all g ≡ nat_lt (length (of_bin (bin_of g.size) seen)) depth = ap
-    (λ xs. inspects depth xs g) e
-    ∙ inspected_is depth seen g gs
-    (All-weaker (λ h. All (IsBelow h) (g ∷ gs)) (λ h. IsBelow h g)
-    (λ h b. All-head (IsBelow h) g gs b) seen before) after in
-    let here : Q (bin_of g.size) = elim (seen_or_none Q (bin_of g.size) seen s) [
-      | inl q ↦ q
-      | inr none ↦ All-head (λ (h : BinnedGap). inspects depth all h ≡ true
-          → Q (bin_of h.size)) g gs a (is
-          ∙ first_of_bin depth (length (of_bin (bin_of g.size) seen)) one (ap length none))
-    ] in
-    All-cons (λ (x : BinnedGap). Q (bin_of x.size)) g gs here
-    (bins_met Q depth one all (seen ++ g ∷ []) gs (e ∙ sym (append_assoc seen (g ∷ []) gs))
-    (seen_more seen g gs before after) (pairs_tail IsBelow g gs rise)
-    (All-tail (λ (h : BinnedGap). inspects depth all h ≡ true → Q (bin_of h.size)) g gs a)
-    (All-push (λ (x : BinnedGap). Q (bin_of x.size)) seen g s here))
+-- where none of a bin is inspected, nothing is
+pub inspected-none : (gs : List BinnedGap) → inspected_by Good 0 gs ≡ []
+unfolding inspects
+inspected-none gs = filter_none (inspects 0 gs) gs
+    (All-weaker (Contains gs) (λ g. inspects 0 gs g ≡ false) (λ g c. grind arith) gs
+    (All-contains_itself gs))
+
+pub first_of : (depth : ℕ) (g : BinnedGap) (gs : List BinnedGap) → 1 ≤ depth → Contains gs g
+    → (h : BinnedGap) × (hs : List BinnedGap) × (take depth gs ≡ h ∷ hs)
+first_of zero g gs one c = absurd (omega arith)
+first_of (suc depth) g [] one c = absurd (omega (arith, c.1))
+first_of (suc depth) g (h ∷ gs) one c = (h, take depth gs, refl)
+
+pub is_bin : (b : ℕ) (g : BinnedGap) → (bin_of g.size == b) ≡ true → bin_of g.size ≡ b
+is_bin b g t = grind arith
+
+-- what holds of the bins of some gaps holds of the bin that one of them is of
+bin_among : (Q : ℕ → Type 0) (b : ℕ) (gs : List BinnedGap) (g : BinnedGap) (hs : List BinnedGap)
+    → All (λ h. Q (bin_of h.size)) gs → of_bin b gs ≡ g ∷ hs → Q b
+bin_among Q b gs g hs a e =
+    let among : All (λ h. Q (bin_of h.size)) (g ∷ hs) = subst (All (λ h. Q (bin_of h.size))) e
+    (All-filter (λ h. bin_of h.size == b) (λ h. Q (bin_of h.size)) gs a) in
+    let passes : All (λ h. (bin_of h.size == b) ≡ true) (g ∷ hs) =
+    subst (All (λ h. (bin_of h.size == b) ≡ true)) e (filter_passes (λ h. bin_of h.size == b) gs) in
+    subst Q (is_bin b g (All-head (λ h. (bin_of h.size == b) ≡ true) g hs passes))
+    (All-head (λ (h : BinnedGap). Q (bin_of h.size)) g hs among)
 
 -- a search that inspects at least one gap of each bin inspects one of the bin of each gap
-pub bins_inspected : (Q : ℕ → Type 0) (depth : ℕ) → 1 ≤ depth → (gs : List BinnedGap)
-    → AllPairs IsBelow gs
-    → All (λ h. IsTrue (is_inspected (λ x. x.address) (λ x. x.size) depth gs h) → Q (bin_of h.size))
-    gs → All (λ h. Q (bin_of h.size)) gs
-unfolding inspects
-bins_inspected Q depth one gs rise a = bins_met Q depth one gs [] gs refl
-    (All-nil (λ (h : BinnedGap). All (IsBelow h) gs)) rise a
-    (All-nil (λ (h : BinnedGap). Q (bin_of h.size)))
+pub bins-inspected : (Q : ℕ → Type 0) (depth : ℕ) → 1 ≤ depth → (gs : List BinnedGap)
+    → AllPairs IsBelow gs → All (λ h. Q (bin_of h.size)) (inspected_by Good depth gs)
+    → All (λ h. Q (bin_of h.size)) gs
+bins-inspected Q depth one gs rise a =
+    All-weaker (Contains gs) (λ (h : BinnedGap). Q (bin_of h.size))
+    (λ g c.
+    let b = bin_of g.size in
+    let here = first_of depth g (of_bin b gs) one
+    (Contains-passing (λ h. bin_of h.size == b) gs g c (bin_here b g refl)) in
+    bin_among Q b (inspected_by Good depth gs) here.0 here.1 a
+    (inspected-bin depth b gs rise ∙ here.2)) gs (All-contains_itself gs)

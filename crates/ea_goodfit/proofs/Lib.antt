@@ -1,7 +1,12 @@
 pub mod AnyOrder
 pub mod Bin
 pub mod Found
+pub mod Holding
 pub mod Inspected
+pub mod KeyOrder
 pub mod Lists
+pub mod Orders
 pub mod Permuted
+pub mod Positioned
+pub mod Searching
 pub mod SomeGaps

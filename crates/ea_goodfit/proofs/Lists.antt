@@ -1,10 +1,10 @@
 -- Gaps that are held, with one more and without one.
-use Rattle.std.proofs.Common.{◌≡◌, ◌≢◌, ℕ, Bool, true, false, not, List, [], ◌∷◌, sym, ap, ◌∙◌}
-use Rattle.std.proofs.Common.{subst, refl, inl, inr, arith}
-use Rattle.std.specs.Prelude.{◌&&◌, ◌||◌, IsSome}
-use Rattle.std.proofs.lemmas.Bool.{cases_Bool, cases_lt, cases_eq}
-use Rattle.ea_model.specs.Keyed.{has_key, item_at, entered, without}
-use Rattle.ea_model.proofs.Rising.{entered_here, entered_past, item_here, item_past, without_here}
+use Rattle.std.proofs.Common.{◌≡◌, ◌≢◌, ℕ, Bool, true, false, not, List, [], ◌∷◌, ap, ◌∙◌}
+use Rattle.std.proofs.Common.{refl, inl, inr, arith}
+use Rattle.std.specs.Prelude.{◌&&◌, ◌||◌}
+use Rattle.std.proofs.lemmas.Bool.{cases_lt, cases_eq}
+use Rattle.ea_model.specs.Keyed.{has_key, entered, without}
+use Rattle.ea_model.proofs.Rising.{entered_here, entered_past, without_here}
 use Rattle.ea_model.proofs.Rising.{without_past}
 use Rattle.ea_goodfit.specs.declared.gaps.BinnedGap.{BinnedGap}
 use Rattle.ea_goodfit.specs.Gaps.{address_of, is_same, is_held}
@@ -52,17 +52,3 @@ same_parts p g t = grind arith
 pub held_past : (g h : BinnedGap) (gs : List BinnedGap) → is_same g h ≡ false
     → is_held g (h ∷ gs) ≡ true → is_held g gs ≡ true
 held_past g h gs f t = grind arith
-
--- where a gap is held, one lies at its address
-pub held-at : (y : BinnedGap) (gs : List BinnedGap) → is_held y gs ≡ true
-    → IsSome (item_at address_of gs y.address)
-held-at y [] h = absurd cc
-held-at y (g ∷ gs) h =
-    elim (cases_eq g.address y.address) [
-      | inl e ↦ subst (λ o. IsSome o) (sym (item_here address_of y.address g gs e)) refl
-      | inr n ↦ subst (λ o. IsSome o) (sym (item_past address_of y.address g gs n))
-          (held-at y gs (held_past y g gs (not_same y g n) h))
-    ] where
-      not_same : (y g : BinnedGap) → g.address ≢ y.address → is_same y g ≡ false
-      not_same y g n = elim (cases_Bool (is_same y g))
-          [ inl t ↦ absurd (n (same_parts y g t).0) | inr f ↦ f ]

@@ -25,7 +25,7 @@ times p g = if is_same p g then 1 else 0
 abbrev count : BinnedGap → List BinnedGap → ℕ
 count p gs = sum_by (times p) gs
 
-is_same-gap : (p g : BinnedGap) → is_same p g ≡ true → g ≡ p
+pub is_same-gap : (p g : BinnedGap) → is_same p g ≡ true → g ≡ p
 is_same-gap p g t =
     let parts = same_parts p g t in
     ap (λ a. record { address = a; size = g.size }) parts.0
@@ -107,7 +107,8 @@ above g h (x ∷ gs) a t =
     ]
 
 -- they are the gap that is taken out and those that are left
-held-permuted : (g : BinnedGap) (gs : List BinnedGap) → AllPairs IsBelow gs → is_held g gs ≡ true
+pub held-permuted : (g : BinnedGap) (gs : List BinnedGap) → AllPairs IsBelow gs
+    → is_held g gs ≡ true
     → IsPermutation gs (g ∷ without address_of g.address gs)
 held-permuted g [] r t = absurd cc
 held-permuted g (h ∷ gs) r t =

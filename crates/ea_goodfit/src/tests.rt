@@ -1,8 +1,11 @@
 //! Worked examples.
-ghost use Rattle.std.specs.Prelude.{◌≡◌, ◌≤◌, [], ◌∷◌, IfOk};
+ghost use Rattle.std.specs.Prelude.{◌≡◌, ◌+◌, ◌^◌, ◌<◌, ◌≤◌, [], ◌∷◌, AllPairs, IfOk, OnOk};
+ghost use Rattle.ea_model.specs.Keyed.{item_at};
+ghost use Rattle.ea_goodfit.specs.Gaps.{address_of, IsBelow};
 
-use crate::{BinnedGap, Bins};
+use crate::{BinnedGap, Bins, Fit};
 use ea_model::OutOfMemory;
+use ea_model::keyed::{enter, item_of, take_out};
 use std::alloc::Global;
 use std::test::Fail;
 
@@ -13,12 +16,12 @@ fn gap(address: u32, size: u32) -> BinnedGap
 }
 
 /// Gaps of 70 and 100 units, which share a bin, and a great one.
-fn three(alloc: Global) -> Result<Bins, OutOfMemory>
+fn three(alloc: Global, fit: Fit) -> Result<Bins, OutOfMemory>
     ensures { IfOk result
         (λ b. b.held ≡ record { address = 8; size = 70 } ∷ record { address = 84; size = 100 } ∷
         record { address = 190; size = 32578 } ∷ []) }
 {
-    let mut bins = Bins::new(alloc);
+    let mut bins = Bins::new(alloc, fit);
     bins.reserve(3)?;
     bins.insert(gap(190, 32578));
     bins.insert(gap(8, 70));
@@ -30,7 +33,7 @@ fn three(alloc: Global) -> Result<Bins, OutOfMemory>
 fn a_search_looks_at_the_first_gaps_of_each_bin_until_one_fits(
     rt: HostRuntime,
 ) -> Result<(), Fail> {
-    let bins = three(rt.alloc())?;
+    let bins = three(rt.alloc(), Fit::Good)?;
     for (need, depth, found) in [
         (80, 1, Some(gap(190, 32578))),
         (80, 2, Some(gap(84, 100))),
@@ -48,7 +51,7 @@ fn a_search_looks_at_the_first_gaps_of_each_bin_until_one_fits(
 
 #[test]
 fn bins_begin_at_64_and_at_128(rt: HostRuntime) -> Result<(), Fail> {
-    let mut bins = Bins::new(rt.alloc());
+    let mut bins = Bins::new(rt.alloc(), Fit::Good);
     bins.reserve(8)?;
 
     // 63 | 64, 127 | 128, 255 | 256: by address, the smaller of each bin after the greater.
@@ -77,7 +80,7 @@ fn bins_begin_at_64_and_at_128(rt: HostRuntime) -> Result<(), Fail> {
 
 #[test]
 fn each_size_below_64_has_a_bin(rt: HostRuntime) -> Result<(), Fail> {
-    let mut bins = Bins::new(rt.alloc());
+    let mut bins = Bins::new(rt.alloc(), Fit::Good);
     bins.reserve(4)?;
     bins.insert(gap(10, 63));
     bins.insert(gap(100, 62));
@@ -99,7 +102,7 @@ fn each_size_below_64_has_a_bin(rt: HostRuntime) -> Result<(), Fail> {
 
 #[test]
 fn the_lowest_of_equals_is_found(rt: HostRuntime) -> Result<(), Fail> {
-    let mut bins = Bins::new(rt.alloc());
+    let mut bins = Bins::new(rt.alloc(), Fit::Good);
     bins.reserve(3)?;
     bins.insert(gap(900, 1000));
     bins.insert(gap(2000, 1000));
@@ -117,7 +120,7 @@ fn the_lowest_of_equals_is_found(rt: HostRuntime) -> Result<(), Fail> {
 
 #[test]
 fn the_greatest_size_has_a_bin(rt: HostRuntime) -> Result<(), Fail> {
-    let mut bins = Bins::new(rt.alloc());
+    let mut bins = Bins::new(rt.alloc(), Fit::Good);
     bins.reserve(1)?;
     bins.insert(gap(0, u32::MAX));
     assert_eq!(rt; bins.find(u32::MAX, u32::MAX), Some(gap(0, u32::MAX)));
@@ -127,7 +130,7 @@ fn the_greatest_size_has_a_bin(rt: HostRuntime) -> Result<(), Fail> {
 
 #[test]
 fn a_removed_gap_uncovers_the_next_of_its_bin(rt: HostRuntime) -> Result<(), Fail> {
-    let mut bins = three(rt.alloc())?;
+    let mut bins = three(rt.alloc(), Fit::Good)?;
     bins.remove(gap(8, 70));
     assert_eq!(rt; bins.find(80, 1), Some(gap(84, 100)));
     assert_eq!(rt; bins.find(1, 1), Some(gap(84, 100)));
@@ -141,8 +144,124 @@ fn a_removed_gap_uncovers_the_next_of_its_bin(rt: HostRuntime) -> Result<(), Fai
 }
 
 #[test]
+fn best_fits_inspect_all_gaps_and_take_the_highest_or_the_lowest_of_equals(
+    rt: HostRuntime,
+) -> Result<(), Fail> {
+    for fit in [Fit::Best, Fit::AddressOrderBest] {
+        let mut bins = three(rt.alloc(), fit)?;
+        bins.reserve(1)?;
+        bins.insert(gap(40000, 100));
+        let high = fit == Fit::Best;
+        for (need, found) in [
+            (1, Some(gap(8, 70))),
+            (70, Some(gap(8, 70))),
+            (71, Some(gap(if high { 40000 } else { 84 }, 100))),
+            (100, Some(gap(if high { 40000 } else { 84 }, 100))),
+            (101, Some(gap(190, 32578))),
+            (32579, None),
+        ] {
+            assert_eq!(rt; bins.find(need, 1), found);
+        }
+    }
+    Ok(())
+}
+
+/// Whether two gaps lie in one bin.
+fn share_a_bin(size: u32, other: u32) -> bool {
+    size == other || (size >= 64 && other >= 64 && size.ilog2() == other.ilog2())
+}
+
+/// How many of the first `few` gaps lie in the bin of that size.
+fn sharing(size: u32, gaps: &[BinnedGap], few: usize) -> u32 {
+    let mut count = 0u32;
+    for (index, gap) in gaps.iter().enumerate() {
+        if index < few && share_a_bin(size, gap.size) {
+            count = count.saturating_add(1);
+        }
+    }
+    count
+}
+
+/// Whether the gap is taken before the other.
+fn comes_first(fit: Fit, gap: BinnedGap, other: BinnedGap) -> bool {
+    gap.size < other.size
+        || (gap.size == other.size && (fit == Fit::Best) == (other.address < gap.address))
+}
+
+/// The gap that is found by a walk over all gaps, by rising address.
+fn walked(fit: Fit, need: u32, depth: u32, gaps: &[BinnedGap]) -> Option<BinnedGap> {
+    let mut best = None;
+    for (index, gap) in gaps.iter().enumerate() {
+        let passed = fit == Fit::Good && sharing(gap.size, gaps, index) >= depth;
+        if !passed && gap.size >= need {
+            best = match best {
+                Some(other) if !comes_first(fit, *gap, other) => Some(other),
+                _ => Some(*gap),
+            };
+        }
+    }
+    best
+}
+
+/// The gap at the address.
+fn gap_at(address: u32, gaps: &[BinnedGap]) -> Option<BinnedGap>
+    ensures { result ≡ item_at address_of gaps.now address }
+{
+    Some(*item_of(address, gaps)?)
+}
+
+/// Takes the gap at the address out of the bins and of a plain list, or puts one of that size there
+/// where there is none.
+fn turn(bins: &mut Bins, plain: &mut Vec<BinnedGap>, gap: BinnedGap) -> Result<(), OutOfMemory>
+    requires same { bins.old.held ≡ plain.old.items }
+    requires rising { AllPairs IsBelow plain.old.items }
+    requires size { gap.size + 1 < 2 ^ 32 }
+    ensures same { OnOk result (bins.new.held ≡ plain.new.items) }
+    ensures rising { OnOk result (AllPairs IsBelow bins.new.held) }
+{
+    if let Some(held) = gap_at(gap.address, plain) {
+        bins.remove(held);
+        take_out(held.address, plain);
+        return Ok(());
+    }
+    enter(gap, plain)?;
+    bins.reserve(1)?;
+    bins.insert(gap);
+    Ok(())
+}
+
+/// How many of 200 steps, each with a search, leave the bins with what a walk finds.
+fn agreeing(alloc: Global, fit: Fit, depth: u32) -> Result<u32, OutOfMemory> {
+    let mut bins = Bins::new(alloc, fit);
+    let mut plain: Vec<BinnedGap> = Vec::new(alloc);
+    let mut seed = depth;
+    let mut agreeing = 0;
+    for step in 0..200u32 {
+        seed = seed.wrapping_mul(1_664_525).wrapping_add(1_013_904_223);
+        let address = (seed >> 16) % 32;
+        let size = 1 + (seed >> 8) % 150;
+        turn(&mut bins, &mut plain, gap(address, size))?;
+        let need = (seed >> 12) % 150;
+        if bins.find(need, depth) == walked(fit, need, depth, &plain) {
+            agreeing += 1;
+        }
+    }
+    Ok(agreeing)
+}
+
+#[test]
+fn a_search_finds_what_a_walk_over_all_gaps_finds(rt: HostRuntime) -> Result<(), Fail> {
+    for fit in [Fit::Good, Fit::Best, Fit::AddressOrderBest] {
+        for depth in 1..5 {
+            assert_eq!(rt; agreeing(rt.alloc(), fit, depth)?, 200);
+        }
+    }
+    Ok(())
+}
+
+#[test]
 fn empty_bins_find_none(rt: HostRuntime) -> Result<(), Fail> {
-    let bins = Bins::new(rt.alloc());
+    let bins = Bins::new(rt.alloc(), Fit::Good);
     assert_eq!(rt; bins.find(0, 3), None);
     Ok(())
 }

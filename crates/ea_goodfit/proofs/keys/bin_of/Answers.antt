@@ -1,7 +1,7 @@
 use Rattle.std.proofs.Common.{sym}
 use Rattle.ea_model.proofs.Powers.{bin_of-small}
 use Rattle.ea_goodfit.proofs.Bin.{bin_of-top}
-use Rattle.ea_goodfit.proofs.walks.bin_of.Goals as goal
+use Rattle.ea_goodfit.proofs.keys.bin_of.Goals as goal
 
 pub returns-then-size-lt-SHARED-clause-bin : goal.returns-then-size-lt-SHARED-clause-bin
 returns-then-size-lt-SHARED-clause-bin c = bin_of-small c.args.size c.if-size-lt-SHARED.true
