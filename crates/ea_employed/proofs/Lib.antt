@@ -5,9 +5,11 @@ pub mod Changing
 pub mod Choosing
 pub mod Counting
 pub mod Folding
+pub mod GapCarrier
 pub mod Gaps
 pub mod Listed
 pub mod Located
 pub mod Missing
+pub mod Places
 pub mod Resizing
 pub mod TwoCarriers
