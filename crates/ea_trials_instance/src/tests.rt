@@ -616,7 +616,7 @@ fn lines_of_carriers_of_any_kind_stand_by_rising_number(rt: HostRuntime) -> Resu
 
 #[test]
 fn a_block_of_a_multiblock_carrier_is_resized_in_its_place(rt: HostRuntime) -> Result<(), Fail> {
-    // The set of carriers is asked under the last of these, and bins under good fit.
+    // Bins are asked under the first two of these, and the set of carriers under the last.
     for strategy in [Strategy::Bf, Strategy::Gf, Strategy::AgeffCaobf] {
         let settings = Settings {
             strategy,
