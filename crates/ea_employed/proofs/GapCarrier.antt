@@ -1,5 +1,5 @@
 -- The carrier of the gap that is chosen: the one of the highest base that isn't beyond the gap.
-use Rattle.std.proofs.Common.{◌≡◌, ℕ, ◌+◌, ◌*◌, ◌/◌, ◌-◌, ◌<◌, ◌≤◌, true, List, [], ◌∷◌, All}
+use Rattle.std.proofs.Common.{◌≡◌, ℕ, ◌+◌, ◌*◌, ◌/◌, ◌<◌, ◌≤◌, true, List, [], ◌∷◌, All}
 use Rattle.std.proofs.Common.{AllPairs, get_or, map, refl, sym, ap, ◌∙◌, subst, inl, inr, arith}
 use Rattle.std.specs.Prelude.{◌⊎◌, Option, Some, None, IfSome, option_map}
 use Rattle.std.specs.List.Sorted.{IsPermutation}
@@ -9,7 +9,6 @@ use Rattle.ea_model.specs.declared.settings.Strategy.{Strategy}
 use Rattle.ea_model.specs.declared.carriers.Candidate.{Candidate}
 use Rattle.ea_model.specs.declared.carriers.Gap.{Gap}
 use Rattle.ea_model.specs.Content.{Content, gap_at, gaps_of}
-use Rattle.ea_model.specs.Choice.{first}
 use Rattle.ea_model.specs.Keyed.{IsBelow}
 use Rattle.ea_model.specs.Strategies.{candidate, candidates, choice_among, inspected_by}
 use Rattle.ea_model.specs.Strategies.{large_enough, takes_first}
@@ -33,7 +32,6 @@ use Rattle.ea_employed.specs.Choices.{IsChoice, IsChosenIn}
 use Rattle.ea_employed.specs.Laid.{AreLaid}
 use Rattle.ea_employed.specs.Listed.{all_gaps, gap_of, held_of, located, spans, CarrierList}
 use Rattle.ea_employed.specs.Listed.{IsListed}
-use Rattle.ea_employed.specs.declared.choice.Choice.{Choice}
 use Rattle.ea_employed.proofs.Listed.{found-held, found-there, found-within}
 use Rattle.ea_employed.proofs.Located.{found-chosen}
 

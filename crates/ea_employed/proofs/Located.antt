@@ -9,7 +9,6 @@ use Rattle.ea_model.specs.declared.settings.Strategy.{Strategy}
 use Rattle.ea_model.specs.declared.settings.Strategy.TheVariants.{Bf, Aobf, Aoff, AoffCbf}
 use Rattle.ea_model.specs.declared.settings.Strategy.TheVariants.{AoffCaobf, AgeffCaoff}
 use Rattle.ea_model.specs.declared.settings.Strategy.TheVariants.{AgeffCbf, AgeffCaobf, Gf, Af}
-use Rattle.ea_model.specs.declared.carriers.Candidate.{Candidate}
 use Rattle.ea_model.specs.Content.{Content}
 use Rattle.ea_model.specs.Choice.{better, first}
 use Rattle.ea_model.specs.GoodFit.{bin_of, is_inspected, smaller_low, good_fit}
