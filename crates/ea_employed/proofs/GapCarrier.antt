@@ -16,7 +16,7 @@ use Rattle.ea_model.specs.Instance.{content_of}
 use Rattle.ea_model.proofs.First.{both_All, first-All}
 use Rattle.ea_model.proofs.Options.{some_holds}
 use Rattle.ea_model.proofs.Pairs.{all_unmap, pairs_head, pairs_tail}
-use Rattle.ea_model.proofs.Rising.{item_at-All, item_at-each, item_here, item_past}
+use Rattle.ea_model.proofs.Rising.{item_at-All, item_at-each, item_past}
 use Rattle.ea_cset.specs.declared.keys.CarrierFit.{CarrierFit}
 use Rattle.ea_cset.specs.declared.keys.Found.{Found}
 use Rattle.ea_cset.specs.Carriers.{Carriers, StandsIn}
@@ -32,6 +32,7 @@ use Rattle.ea_employed.specs.Choices.{IsChoice, IsChosenIn}
 use Rattle.ea_employed.specs.Laid.{AreLaid}
 use Rattle.ea_employed.specs.Listed.{all_gaps, gap_of, held_of, located, spans, CarrierList}
 use Rattle.ea_employed.specs.Listed.{IsListed}
+use Rattle.ea_employed.proofs.Gaps.{found_here}
 use Rattle.ea_employed.proofs.Listed.{found-held, found-there, found-within}
 use Rattle.ea_employed.proofs.Located.{found-chosen}
 
@@ -72,11 +73,6 @@ chosen-IsGapOf s depth need cs x laid is =
     (large_enough need (inspected_by s depth all)) tt
     (large_among need all (inspected_by s depth all) (inspected_by-among s depth all))) in
     (All-contains (IsGapOf cs) all x (gaps-IsGapOf cs laid) large.0, large.1)
-
-found_here : (n : ℕ) (x c : Content) (xs : List Content) → x.number ≡ n
-    → content_of (x ∷ xs) n ≡ Some c → x ≡ c
-found_here n x c xs e there =
-    let same : Some x ≡ Some c = sym (item_here number_of n x xs e) ∙ there in cc
 
 -- two of the carriers are one, or have no unit in common
 same-apart : (m n : ℕ) (c d : Content) (cs : List Content) → IsRising cs
