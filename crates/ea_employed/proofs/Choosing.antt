@@ -1,6 +1,6 @@
 -- What is chosen under each strategy.
 use Rattle.std.proofs.Common.{◌≡◌, ℕ, true, false, List, sym, ap, ◌∙◌, refl}
-use Rattle.std.specs.Prelude.{Option}
+use Rattle.std.specs.Prelude.{Option, None, Some, IsNone}
 use Rattle.ea_model.specs.declared.settings.Strategy.{Strategy}
 use Rattle.ea_model.specs.declared.settings.Strategy.TheVariants.{Bf, Aobf, Aoff, AoffCbf}
 use Rattle.ea_model.specs.declared.settings.Strategy.TheVariants.{AoffCaobf, AgeffCaoff}
@@ -8,9 +8,12 @@ use Rattle.ea_model.specs.declared.settings.Strategy.TheVariants.{AgeffCbf, Agef
 use Rattle.ea_model.specs.declared.carriers.Candidate.{Candidate}
 use Rattle.ea_model.specs.Content.{Content}
 use Rattle.ea_model.specs.Choice.{first}
-use Rattle.ea_model.specs.Strategies.{candidates, choice_among, large_enough, may_miss, takes_first}
+use Rattle.ea_model.specs.Strategies.{candidates, choice_among, large_enough, may_miss, or_else}
+use Rattle.ea_model.specs.Strategies.{takes_first}
 use Rattle.ea_laws.proofs.Inspected.{all_inspected}
 use Rattle.ea_employed.specs.Binned.{has_bins}
+use Rattle.ea_employed.specs.Choices.{candidate_of}
+use Rattle.ea_employed.specs.declared.choice.Choice.{Choice}
 use Rattle.ea_employed.specs.Searches.{search_of}
 use Rattle.ea_employed.specs.declared.strategies.Search.TheVariants.{Address, Age, Bins, Lowest}
 
@@ -69,3 +72,10 @@ pub choice-all : (s : Strategy) (depth need : ℕ) (cs : List Content) (found : 
 choice-all s depth need cs found miss is =
     is ∙ ap (λ xs. first (takes_first s) (large_enough need xs))
     (sym (all_inspected s depth (candidates cs) miss))
+
+-- what is there otherwise is asked for where a strategy that may miss a gap found none
+pub or_else-missed : (s : Strategy) (found : Option Choice) (other : Option Candidate)
+    → IsNone found → may_miss s ≡ true
+    → or_else (may_miss s) (candidate_of found) other ≡ other
+or_else-missed s None other none miss = ap (λ b. or_else b None other) miss
+or_else-missed s (Some x) other none miss = absurd cc

@@ -81,7 +81,7 @@ better-map f b t same best x =
           ∙ sym (ap f (cond-false (b x best) x best loses))
     ]
 
-fold-better-map : {A B : Type 0} (f : A → B) (b : A → A → Bool) (t : B → B → Bool)
+pub fold-better-map : {A B : Type 0} (f : A → B) (b : A → A → Bool) (t : B → B → Bool)
     → ((x y : A) → t (f x) (f y) ≡ b x y) → (best : Option A) (xs : List A)
     → fold (better t) (option_map f best) (map f xs) ≡ option_map f (fold (better b) best xs)
 fold-better-map f b t same best [] = refl
@@ -106,7 +106,8 @@ filter-map_more f p x xs more =
           (cond-false (p (f x)) (x ∷ filter (λ y. p (f y)) xs) (filter (λ y. p (f y)) xs) loses))
     ]
 
-filter-map : {A B : Type 0} (f : A → B) (p : B → Bool) (xs : List A)
+-- what passes of what a function makes is made of what passes
+pub filter-map : {A B : Type 0} (f : A → B) (p : B → Bool) (xs : List A)
     → filter p (map f xs) ≡ map f (filter (λ y. p (f y)) xs)
 filter-map f p [] = refl
 filter-map f p (x ∷ xs) = filter-map_more f p x xs (filter-map f p xs)

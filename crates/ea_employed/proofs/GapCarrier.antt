@@ -1,5 +1,5 @@
 -- The carrier of the gap that is chosen: the one of the highest base that isn't beyond the gap.
-use Rattle.std.proofs.Common.{◌≡◌, ℕ, ◌+◌, ◌*◌, ◌/◌, ◌-◌, ◌<◌, ◌≤◌, true, List, [], ◌∷◌, All}
+use Rattle.std.proofs.Common.{◌≡◌, ℕ, ◌+◌, ◌*◌, ◌/◌, ◌<◌, ◌≤◌, true, List, [], ◌∷◌, All}
 use Rattle.std.proofs.Common.{AllPairs, get_or, map, refl, sym, ap, ◌∙◌, subst, inl, inr, arith}
 use Rattle.std.specs.Prelude.{◌⊎◌, Option, Some, None, IfSome, option_map}
 use Rattle.std.specs.List.Sorted.{IsPermutation}
@@ -9,7 +9,6 @@ use Rattle.ea_model.specs.declared.settings.Strategy.{Strategy}
 use Rattle.ea_model.specs.declared.carriers.Candidate.{Candidate}
 use Rattle.ea_model.specs.declared.carriers.Gap.{Gap}
 use Rattle.ea_model.specs.Content.{Content, gap_at, gaps_of}
-use Rattle.ea_model.specs.Choice.{first}
 use Rattle.ea_model.specs.Keyed.{IsBelow}
 use Rattle.ea_model.specs.Strategies.{candidate, candidates, choice_among, inspected_by}
 use Rattle.ea_model.specs.Strategies.{large_enough, takes_first}
@@ -17,7 +16,7 @@ use Rattle.ea_model.specs.Instance.{content_of}
 use Rattle.ea_model.proofs.First.{both_All, first-All}
 use Rattle.ea_model.proofs.Options.{some_holds}
 use Rattle.ea_model.proofs.Pairs.{all_unmap, pairs_head, pairs_tail}
-use Rattle.ea_model.proofs.Rising.{item_at-All, item_at-each, item_here, item_past}
+use Rattle.ea_model.proofs.Rising.{item_at-All, item_at-each, item_past}
 use Rattle.ea_cset.specs.declared.keys.CarrierFit.{CarrierFit}
 use Rattle.ea_cset.specs.declared.keys.Found.{Found}
 use Rattle.ea_cset.specs.Carriers.{Carriers, StandsIn}
@@ -33,7 +32,7 @@ use Rattle.ea_employed.specs.Choices.{IsChoice, IsChosenIn}
 use Rattle.ea_employed.specs.Laid.{AreLaid}
 use Rattle.ea_employed.specs.Listed.{all_gaps, gap_of, held_of, located, spans, CarrierList}
 use Rattle.ea_employed.specs.Listed.{IsListed}
-use Rattle.ea_employed.specs.declared.choice.Choice.{Choice}
+use Rattle.ea_employed.proofs.Gaps.{found_here}
 use Rattle.ea_employed.proofs.Listed.{found-held, found-there, found-within}
 use Rattle.ea_employed.proofs.Located.{found-chosen}
 
@@ -74,11 +73,6 @@ chosen-IsGapOf s depth need cs x laid is =
     (large_enough need (inspected_by s depth all)) tt
     (large_among need all (inspected_by s depth all) (inspected_by-among s depth all))) in
     (All-contains (IsGapOf cs) all x (gaps-IsGapOf cs laid) large.0, large.1)
-
-found_here : (n : ℕ) (x c : Content) (xs : List Content) → x.number ≡ n
-    → content_of (x ∷ xs) n ≡ Some c → x ≡ c
-found_here n x c xs e there =
-    let same : Some x ≡ Some c = sym (item_here number_of n x xs e) ∙ there in cc
 
 -- two of the carriers are one, or have no unit in common
 same-apart : (m n : ℕ) (c d : Content) (cs : List Content) → IsRising cs

@@ -127,7 +127,8 @@ pub gaps-with : (x : Content) (cs : List Content)
 gaps-with x cs = subst (λ l. IsPermutation (all_gaps (with_content x cs)) (l ++ all_gaps cs))
     (sym (own_only x)) (with_own x cs)
 
-found_here : (n : ℕ) (x c : Content) (xs : List Content) → x.number ≡ n
+-- what is found of a first content with the number is that content
+pub found_here : (n : ℕ) (x c : Content) (xs : List Content) → x.number ≡ n
     → content_of (x ∷ xs) n ≡ Some c → x ≡ c
 found_here n x c xs e h = let same : Some x ≡ Some c = sym (item_here number_of n x xs e) ∙ h in cc
 

@@ -1,3 +1,4 @@
+pub mod AddressFit
 pub mod BinsAfter
 pub mod ByCarrier
 pub mod Changed
@@ -9,7 +10,6 @@ pub mod GapCarrier
 pub mod Gaps
 pub mod Listed
 pub mod Located
-pub mod Missing
 pub mod Places
 pub mod Resizing
 pub mod TwoCarriers

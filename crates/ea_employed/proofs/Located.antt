@@ -1,17 +1,16 @@
 -- The gaps in the bins, and the candidates that they are.
-use Rattle.std.proofs.Common.{◌≡◌, ◌≢◌, ℕ, Bool, true, false, List, [], ◌∷◌, length, map}
+use Rattle.std.proofs.Common.{◌≡◌, ◌≢◌, ℕ, Bool, List, length, map}
 use Rattle.std.proofs.Common.{refl, sym, subst, ap, ◌∙◌}
-use Rattle.std.specs.Prelude.{Option, None, Some, All, AllPairs, filter, fold}
-use Rattle.std.specs.Prelude.{option_map, nat_le, nat_lt, ◌==◌, ◌&&◌, if◌then◌else◌}
+use Rattle.std.specs.Prelude.{None, Some, All, AllPairs, filter}
+use Rattle.std.specs.Prelude.{option_map, nat_le, nat_lt, ◌==◌, ◌&&◌}
 use Rattle.std.proofs.lemmas.List.{length-map}
 use Rattle.std.proofs.lemmas.List.Elements.{filter_agree}
 use Rattle.ea_model.specs.declared.settings.Strategy.{Strategy}
 use Rattle.ea_model.specs.declared.settings.Strategy.TheVariants.{Bf, Aobf, Aoff, AoffCbf}
 use Rattle.ea_model.specs.declared.settings.Strategy.TheVariants.{AoffCaobf, AgeffCaoff}
 use Rattle.ea_model.specs.declared.settings.Strategy.TheVariants.{AgeffCbf, AgeffCaobf, Gf, Af}
-use Rattle.ea_model.specs.declared.carriers.Candidate.{Candidate}
 use Rattle.ea_model.specs.Content.{Content}
-use Rattle.ea_model.specs.Choice.{better, first}
+use Rattle.ea_model.specs.Choice.{first}
 use Rattle.ea_model.specs.GoodFit.{bin_of, is_inspected, smaller_low, good_fit}
 use Rattle.ea_model.specs.Strategies.{candidates, choice_among, large_enough}
 use Rattle.ea_goodfit.specs.declared.fits.Fit.{Fit}
@@ -23,6 +22,7 @@ use Rattle.ea_laws.specs.Kept.{IsLaidOut, ContentsApart}
 use Rattle.ea_employed.specs.Binned.{fit_of}
 use Rattle.ea_employed.specs.Listed.{all_gaps, gap_of}
 use Rattle.ea_laws.proofs.Candidates.{candidates-distinct}
+use Rattle.ea_employed.proofs.Folding.{filter-map, fold-better-map}
 
 -- no two gaps lie at one address
 pub gaps-distinct : (cs : List Content) → All IsLaidOut cs → AllPairs ContentsApart cs
@@ -30,63 +30,40 @@ pub gaps-distinct : (cs : List Content) → All IsLaidOut cs → AllPairs Conten
 gaps-distinct cs sound apart = pairs_map (λ (g h : BinnedGap). g.address ≢ h.address) gap_of
     (candidates cs) (candidates-distinct cs sound apart)
 
-module _ {A B : Type 0} (f : A → B) where
-  filter_mapped : (p : B → Bool) (xs : List A)
-      → filter p (map f xs) ≡ map f (filter (λ x. p (f x)) xs)
-  filter_mapped p [] = refl
-  filter_mapped p (x ∷ xs) = keeps (p (f x)) x (filter p (map f xs)) (filter (λ y. p (f y)) xs)
-      (filter_mapped p xs) where
-        keeps : (b : Bool) (x : A) (us : List B) (vs : List A) → us ≡ map f vs
-            → (if b then f x ∷ us else us) ≡ map f (if b then x ∷ vs else vs)
-        keeps true x us vs e = ap (λ l. f x ∷ l) e
-        keeps false x us vs e = e
+module _ {A B : Type 0} (f : A → B) (address size : B → ℕ) (depth : ℕ) (xs : List A) where
+  seen : B → Bool
+  seen g = is_inspected address size depth (map f xs) g
 
-  chosen_mapped : (b : Bool) (x y : A) → (if b then f x else f y) ≡ f (if b then x else y)
-  chosen_mapped true x y = refl
-  chosen_mapped false x y = refl
+  seen_mapped : A → Bool
+  seen_mapped x = is_inspected (λ x. address (f x)) (λ x. size (f x)) depth xs x
 
-  first_mapped : (t : B → B → Bool) (best : Option A) (xs : List A)
-      → fold (better t) (option_map f best) (map f xs) ≡ option_map f
-      (fold (better (λ x y. t (f x) (f y))) best xs)
-  first_mapped t best [] = refl
-  first_mapped t None (x ∷ xs) = first_mapped t (Some x) xs
-  first_mapped t (Some y) (x ∷ xs) = ap (λ z. fold (better t) (Some z) (map f xs))
-      (chosen_mapped (t (f x) (f y)) x y)
-      ∙ first_mapped t (Some (if t (f x) (f y) then x else y)) xs
+  seen-same : (x : A) → seen (f x) ≡ seen_mapped x
+  unfolding seen seen_mapped
+  seen-same x =
+      let ahead : B → Bool = λ h. (bin_of (size h) == bin_of (size (f x))) && nat_lt (address h)
+      (address (f x)) in
+      ap (λ n. nat_lt n depth) (ap length (filter-map f ahead xs)
+      ∙ length-map (filter (λ y. ahead (f y)) xs) f)
 
-  module _ (address size : B → ℕ) (depth : ℕ) (xs : List A) where
-    seen : B → Bool
-    seen g = is_inspected address size depth (map f xs) g
+  first_seen : (need : ℕ)
+      → first (smaller_low address size)
+      (filter (λ g. nat_le need (size g)) (filter seen (map f xs)))
+      ≡ option_map f
+      (first (smaller_low (λ x. address (f x)) (λ x. size (f x)))
+      (filter (λ x. nat_le need (size (f x))) (filter seen_mapped xs)))
+  first_seen need =
+      let fits : B → Bool = λ g. nat_le need (size g) in
+      ap (λ l. first (smaller_low address size) (filter fits l)) (filter-map f seen xs
+      ∙ ap (map f) (filter_agree (λ x. seen (f x)) seen_mapped seen-same xs))
+      ∙ ap (first (smaller_low address size)) (filter-map f fits (filter seen_mapped xs))
+      ∙ fold-better-map f (smaller_low (λ x. address (f x)) (λ x. size (f x)))
+      (smaller_low address size) (λ _ _. refl) None
+      (filter (λ x. fits (f x)) (filter seen_mapped xs))
 
-    seen_mapped : A → Bool
-    seen_mapped x = is_inspected (λ x. address (f x)) (λ x. size (f x)) depth xs x
-
-    seen-same : (x : A) → seen (f x) ≡ seen_mapped x
-    unfolding seen seen_mapped
-    seen-same x =
-        let ahead : B → Bool = λ h. (bin_of (size h) == bin_of (size (f x))) && nat_lt (address h)
-        (address (f x)) in
-        ap (λ n. nat_lt n depth) (ap length (filter_mapped ahead xs)
-        ∙ length-map (filter (λ y. ahead (f y)) xs) f)
-
-    first_seen : (need : ℕ)
-        → first (smaller_low address size)
-        (filter (λ g. nat_le need (size g)) (filter seen (map f xs)))
-        ≡ option_map f
-        (first (smaller_low (λ x. address (f x)) (λ x. size (f x)))
-        (filter (λ x. nat_le need (size (f x))) (filter seen_mapped xs)))
-    first_seen need =
-        let fits : B → Bool = λ g. nat_le need (size g) in
-        ap (λ l. first (smaller_low address size) (filter fits l)) (filter_mapped seen xs
-        ∙ ap (map f) (filter_agree (λ x. seen (f x)) seen_mapped seen-same xs))
-        ∙ ap (first (smaller_low address size)) (filter_mapped fits (filter seen_mapped xs))
-        ∙ first_mapped (smaller_low address size) None
-        (filter (λ x. fits (f x)) (filter seen_mapped xs))
-
-    good_fit-mapped : (need : ℕ) → good_fit address size depth need (map f xs) ≡ option_map f
-        (good_fit (λ x. address (f x)) (λ x. size (f x)) depth need xs)
-    unfolding seen seen_mapped
-    good_fit-mapped need = first_seen need
+  good_fit-mapped : (need : ℕ) → good_fit address size depth need (map f xs) ≡ option_map f
+      (good_fit (λ x. address (f x)) (λ x. size (f x)) depth need xs)
+  unfolding seen seen_mapped
+  good_fit-mapped need = first_seen need
 
 module _ (depth need : ℕ) (cs : List Content) where
   -- the first of all gaps that fit
@@ -95,8 +72,9 @@ module _ (depth need : ℕ) (cs : List Content) where
       ≡ option_map gap_of
       (first (λ x y. t (gap_of x) (gap_of y)) (large_enough need (candidates cs)))
   best_mapped t =
-      ap (first t) (filter_mapped gap_of (λ g. nat_le need g.size) (candidates cs))
-      ∙ first_mapped gap_of t None (large_enough need (candidates cs))
+      ap (first t) (filter-map gap_of (λ g. nat_le need g.size) (candidates cs))
+      ∙ fold-better-map gap_of (λ x y. t (gap_of x) (gap_of y)) t (λ _ _. refl) None
+      (large_enough need (candidates cs))
 
   abbrev IsChosenBy : Strategy → Fit → Type 0
   IsChosenBy s f = found_by f depth need (all_gaps cs)

@@ -1,6 +1,6 @@
 -- The carriers of an instance, their set, and the bins of their gaps.
-use Rattle.std.specs.Prelude.{◌≡◌, ℕ, ◌+◌, ◌*◌, ◌-◌, ◌≤◌, Bool, true, ◌&&◌, if◌then◌else◌}
-use Rattle.std.specs.Prelude.{nat_lt, nat_le, List, [], ◌∷◌, Option, Some, None, map}
+use Rattle.std.specs.Prelude.{◌≡◌, ℕ, ◌+◌, ◌*◌, ◌-◌, ◌≤◌, Bool, true, ◌&&◌}
+use Rattle.std.specs.Prelude.{nat_lt, nat_le, List, Option, map}
 use Rattle.std.specs.Prelude.{option_map, sum_by}
 use Rattle.std.specs.Option.{option_and_then}
 use Rattle.ea_model.specs.declared.settings.Strategy.{Strategy}
@@ -38,9 +38,9 @@ gap_of x = record { address = x.address; size = x.size }
 abbrev pub all_gaps : List Content → List BinnedGap
 all_gaps cs = map gap_of (candidates cs)
 
--- the set holds the carriers and has room for as many as there are numbers, and the strategy has its
--- bins, which hold all gaps; where there are bins the carriers have no more units than they may, and
--- the bins have places for all gaps of that many units
+-- the set holds the carriers and has room for as many as there are numbers; the strategy has its
+-- bins, which hold all gaps; and where there are bins the carriers have no more units than they
+-- may, and the bins have places for all gaps of that many units
 pub record IsListed (strategy : Strategy) (units : ℕ) (list : List Content) (set : Carriers)
     (bins : Option HeldGaps) : Type 0 where
   pub held : set.held ≡ map held_of list

@@ -4,7 +4,7 @@ use Rattle.ea_cset.specs.Carriers.{lower, number_found, older}
 use Rattle.ea_employed.specs.Choices.{candidate_of}
 use Rattle.ea_employed.specs.Listed.{CarrierList}
 use Rattle.ea_employed.specs.Searches.{search_of}
-use Rattle.ea_employed.specs.declared.strategies.Search.TheVariants.{Address, Age, Bins, Lowest}
+use Rattle.ea_employed.specs.declared.strategies.Search.TheVariants.{Address, Age, Lowest}
 use Rattle.ea_employed.proofs.ByCarrier.{choice-first}
 use Rattle.ea_employed.proofs.Choosing.{address-miss_none, age-miss_none, bins-has_bins}
 use Rattle.ea_employed.proofs.Choosing.{choice-all, lowest-af}

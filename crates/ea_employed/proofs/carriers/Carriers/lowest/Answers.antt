@@ -2,7 +2,7 @@ use Rattle.std.proofs.Common.{sym, ap, ◌∙◌}
 use Rattle.ea_employed.specs.Choices.{candidate_of}
 use Rattle.ea_employed.specs.Listed.{CarrierList}
 use Rattle.ea_employed.proofs.Listed.{found-stands}
-use Rattle.ea_employed.proofs.Missing.{af-none, af-small, af-large, lowest-found}
+use Rattle.ea_employed.proofs.AddressFit.{af-none, af-small, af-large, lowest-found}
 use Rattle.ea_employed.proofs.carriers.Carriers.lowest.Goals as goal
 
 pub choice_in-requires-clause-stands : goal.choice_in-requires-clause-stands

@@ -1,26 +1,21 @@
 -- The choice of address fit.
-use Rattle.std.proofs.Common.{◌≡◌, ℕ, ◌<◌, ◌≤◌, List, [], All, AllPairs, ap, ◌∙◌, sym, subst}
+use Rattle.std.proofs.Common.{◌≡◌, ℕ, ◌<◌, ◌≤◌, List, [], ap, ◌∙◌}
 use Rattle.std.proofs.Common.{arith}
-use Rattle.std.specs.Prelude.{Option, Some, None, IfSome, Contains}
+use Rattle.std.specs.Prelude.{Option, Some, None}
 use Rattle.std.specs.Option.{option_and_then}
-use Rattle.std.proofs.lemmas.List.Elements.{All-contains_itself, All-filter}
 use Rattle.ea_model.specs.declared.settings.Strategy.{Strategy}
-use Rattle.ea_model.specs.declared.settings.Strategy.TheVariants.{Gf, Af}
+use Rattle.ea_model.specs.declared.settings.Strategy.TheVariants.{Af}
 use Rattle.ea_model.specs.declared.carriers.Candidate.{Candidate}
-use Rattle.ea_model.specs.Content.{Content, gap_at, gaps_of}
-use Rattle.ea_model.specs.Instance.{content_of}
-use Rattle.ea_model.proofs.Rising.{item_at-each}
+use Rattle.ea_model.specs.Content.{Content}
 use Rattle.ea_model.specs.Choice.{first}
 use Rattle.ea_model.specs.Strategies.{candidates, choice_among, large_enough}
-use Rattle.ea_model.specs.Strategies.{inner_of, inspected_by, lower, only, takes_first}
-use Rattle.ea_model.proofs.First.{first-All, large-here, large-past}
-use Rattle.ea_model.proofs.Options.{same-some, some_holds}
+use Rattle.ea_model.specs.Strategies.{inner_of, lower, only}
+use Rattle.ea_model.proofs.First.{large-here, large-past}
 use Rattle.ea_cset.specs.Carriers.{Carriers, first_number}
 use Rattle.ea_cset.specs.Carriers as sets
 use Rattle.ea_goodfit.specs.Gaps.{HeldGaps}
-use Rattle.ea_laws.specs.Kept.{number_of, ContentsApart, IsLaidOut}
 use Rattle.ea_employed.specs.Listed.{candidate_in, IsListed}
-use Rattle.ea_laws.proofs.Candidates.{IsLarge, large_among, candidate-IsOwned, large-all}
+use Rattle.ea_laws.proofs.Candidates.{large-all}
 use Rattle.ea_employed.specs.Laid.{AreLaid}
 use Rattle.ea_employed.proofs.ByCarrier.{choice-first}
 use Rattle.ea_employed.proofs.TwoCarriers.{af-GoesBy}
