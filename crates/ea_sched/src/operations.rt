@@ -48,7 +48,7 @@ impl<'t> Scheduler<'t> {
         if !self.instance.employs(old.spot.carrier) {
             return self.seek(alloc, ask);
         }
-        let Some(size) = self.instance.resize(old.spot, need, fresh)? else {
+        let Some(size) = self.instance.resize(old.spot, need, fresh) else {
             return self.seek(alloc, ask);
         };
         self.names.let_go(old.name);
@@ -175,7 +175,10 @@ impl<'t> Scheduler<'t> {
                 let old = None;
                 self.seek(alloc, Ask { name, need, old })
             }
-            Op::Free { name } => self.free(name),
+            Op::Free { name } => {
+                self.free(name);
+                Ok(())
+            }
             Op::Realloc { old, fresh, bytes } => self.realloc(alloc, old, fresh, bytes),
             Op::Info => {
                 self.inform();

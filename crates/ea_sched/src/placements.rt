@@ -41,12 +41,12 @@ fn failed(ask: Ask, looked: u32, why: NoCarrier) -> Entry
 impl<'t> Scheduler<'t> {
     /// The block was placed, and its name is held: an allocation is over, and of a reallocation the
     /// old block goes.
-    fn stand(&mut self, ask: Ask, place: Place) -> Result<(), OutOfMemory>
+    fn stand(&mut self, ask: Ask, place: Place)
         requires more { HasMore self.old }
         requires asked { IsAsked self.old.instance self.old ask }
-        ensures actor { OnOk result (actor_of self.new ≡ placements.stands (setup_for self.old)
+        ensures actor { actor_of self.new ≡ placements.stands (setup_for self.old)
             self.old.number ask.name place ask.old
-            (placements.holding ask.name (placements.spot_of_place place) (ready_of self.old))) }
+            (placements.holding ask.name (placements.spot_of_place place) (ready_of self.old)) }
         ensures same { IsSame self.old self.new }
     {
         let Place {
@@ -57,28 +57,25 @@ impl<'t> Scheduler<'t> {
         let name = ask.name;
         self.names.hold(name, Spot { carrier, offset });
         match ask.old {
-            None => {
-                self.finish(Entry::Alloc { name, place });
-                Ok(())
-            }
+            None => self.finish(Entry::Alloc { name, place }),
             Some(old) => {
                 let task = Task::Moving {
                     old: old.name,
                     fresh: name,
                     place,
                 };
-                self.hand_over(old, task)
+                self.hand_over(old, task);
             }
         }
     }
 
     /// Places the block where the strategy chooses; there is a choice.
-    pub(crate) fn place(&mut self, ask: Ask) -> Result<(), OutOfMemory>
+    pub(crate) fn place(&mut self, ask: Ask)
         requires more { HasMore self.old }
         requires asked { IsAsked self.old.instance self.old ask }
         requires choice { IsSome (instances.chosen_spot self.old.instance ask.need) }
-        ensures actor { OnOk result (actor_of self.new ≡ placements.placed_in_choice
-            (setup_for self.old) self.old.number ask (ready_of self.old)) }
+        ensures actor { actor_of self.new ≡ placements.placed_in_choice
+            (setup_for self.old) self.old.number ask (ready_of self.old) }
         ensures same { IsSame self.old self.new }
     {
         match self.instance.try_alloc(ask.need, ask.name) {
@@ -88,38 +85,33 @@ impl<'t> Scheduler<'t> {
     }
 
     /// Creates the singleblock carrier of the plan, with the block in it.
-    pub(crate) fn create_single(&mut self, ask: Ask, plan: CarrierPlan) -> Result<(), OutOfMemory>
+    pub(crate) fn create_single(&mut self, ask: Ask, plan: CarrierPlan)
         requires more { HasMore self.old }
         requires asked { IsAsked self.old.instance self.old ask }
         requires plan { instances.plan self.old.instance ask.need ≡ Ok plan }
         requires single { plan.single ≡ true }
-        ensures actor { OnOk result (actor_of self.new ≡ placements.created
-            (setup_for self.old) self.old.number ask plan (ready_of self.old)) }
+        ensures actor { actor_of self.new ≡ placements.created
+            (setup_for self.old) self.old.number ask plan (ready_of self.old) }
         ensures same { IsSame self.old self.new }
     {
         let place = self.instance.create_single(plan, ask.need, ask.name);
-        self.stand(ask, place)
+        self.stand(ask, place);
     }
 
     /// Employs the multiblock carrier of the plan, and places the block where the strategy chooses
     /// then.
-    pub(crate) fn create_multi(
-        &mut self,
-        ask: Ask,
-        plan: CarrierPlan,
-        carrier: Mbc,
-    ) -> Result<(), OutOfMemory>
+    pub(crate) fn create_multi(&mut self, ask: Ask, plan: CarrierPlan, carrier: Mbc)
         requires more { HasMore self.old }
         requires asked { IsAsked self.old.instance self.old ask }
         requires plan { instances.plan self.old.instance ask.need ≡ Ok plan }
         requires multi { plan.single ≡ false }
         requires carrier { carrier ≡ instances.created_content self.old.instance.number Multi plan }
-        ensures actor { OnOk result (actor_of self.new ≡ placements.created
-            (setup_for self.old) self.old.number ask plan (ready_of self.old)) }
+        ensures actor { actor_of self.new ≡ placements.created
+            (setup_for self.old) self.old.number ask plan (ready_of self.old) }
         ensures same { IsSame self.old self.new }
     {
-        self.instance.create(plan, ask.need, carrier)?;
-        self.place(ask)
+        self.instance.create(plan, ask.need, carrier);
+        self.place(ask);
     }
 
     /// Creates the carrier of the plan, and places the block.
@@ -133,10 +125,12 @@ impl<'t> Scheduler<'t> {
         ensures same { IsSame self.old self.new }
     {
         if plan.single {
-            return self.create_single(ask, plan);
+            self.create_single(ask, plan);
+            return Ok(());
         }
         let carrier = self.instance.prepare(alloc, plan)?;
-        self.create_multi(ask, plan, carrier)
+        self.create_multi(ask, plan, carrier);
+        Ok(())
     }
 
     /// Has the carrier of the plan created: where carriers migrate, in a step of its own.
@@ -216,7 +210,10 @@ impl<'t> Scheduler<'t> {
             return self.seek_new(alloc, ask, true, 0);
         }
         match self.instance.try_alloc(ask.need, ask.name) {
-            Some(place) => self.stand(ask, place),
+            Some(place) => {
+                self.stand(ask, place);
+                Ok(())
+            }
             None => self.seek_beyond(alloc, ask),
         }
     }

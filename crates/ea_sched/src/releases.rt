@@ -1,6 +1,5 @@
 //! The release of a block, and the end of an operation.
-ghost use Rattle.std.specs.Prelude.{◌≡◌, false, ◌+◌, ◌<◌, ◌≤◌, ◌==◌, [], IfOk, IfSome, IsSome};
-ghost use Rattle.std.specs.Prelude.{OnOk, drop};
+ghost use Rattle.std.specs.Prelude.{◌≡◌, false, ◌+◌, ◌<◌, ◌≤◌, ◌==◌, [], IfSome, IsSome, drop};
 ghost use Rattle.ea_model.specs.declared.carriers.Kind.TheVariants.{Single};
 ghost use Rattle.ea_model.specs.Instance.{block_in, content_of, employed};
 ghost use Rattle.ea_model.specs.Instance.{own_at, owner_of, releasing_at};
@@ -16,7 +15,7 @@ ghost use Rattle.ea_sound.specs.Walking as walking;
 use crate::state::Scheduler;
 use ea_instance::Instance;
 use ea_machine::{Gone, Named, Node, Route, Stage, Task, Why};
-use ea_model::{Entry, OutOfMemory, Spot, owner_of};
+use ea_model::{Entry, Spot, owner_of};
 
 /// The instance that employs the carrier with that number, which is at least 1: where carriers
 /// don't migrate, that is its owner.
@@ -28,40 +27,38 @@ pub fn employer_of(carrier: u32) -> u32
 
 /// Releases the block at the spot; a carrier that it leaves without blocks, other than the main
 /// one, is deallocated.
-fn free_at(instance: &mut Instance, spot: Spot) -> Result<(), OutOfMemory>
+fn free_at(instance: &mut Instance, spot: Spot)
     requires block { IsSome (block_in (employed instance.old) spot) }
     requires own { IsSome (own_at instance.old.own spot.carrier) }
-    ensures ok { OnOk result (instance.new ≡ releasing.freed_at instance.old spot) }
-    ensures emptied { OnOk result
-        (IfSome (content_of (employed (releasing_at instance.old spot)) spot.carrier)
-        (λ c. c.kind ≡ Single → c.blocks ≡ [])) }
+    ensures freed { instance.new ≡ releasing.freed_at instance.old spot }
+    ensures emptied { IfSome (content_of (employed (releasing_at instance.old spot)) spot.carrier)
+        (λ c. c.kind ≡ Single → c.blocks ≡ []) }
 {
-    let is_vacant = instance.release(spot)?;
+    let is_vacant = instance.release(spot);
     if is_vacant {
         instance.dismiss(spot.carrier);
         instance.disown(spot.carrier);
     }
-    Ok(())
 }
 
 /// Releases the block at the spot, if scheduler `me`, whose instance this is, employs its carrier;
 /// else nothing changes. Answers whether it does.
-pub fn release(instance: &mut Instance, me: u32, spot: Spot) -> Result<bool, OutOfMemory>
+pub fn release(instance: &mut Instance, me: u32, spot: Spot) -> bool
     requires block { owner_of spot.carrier ≡ me
         → IsSome (block_in (employed instance.old) spot) }
     requires own { owner_of spot.carrier ≡ me
         → IsSome (own_at instance.old.own spot.carrier) }
-    ensures own { IfOk result (λ own. own ≡ (owner_of spot.carrier == me)) }
-    ensures ok { OnOk result (instance.new ≡ walking.left_by me instance.old spot) }
-    ensures emptied { OnOk result (owner_of spot.carrier ≡ me
+    ensures own { result ≡ (owner_of spot.carrier == me) }
+    ensures left { instance.new ≡ walking.left_by me instance.old spot }
+    ensures emptied { owner_of spot.carrier ≡ me
         → IfSome (content_of (employed (releasing_at instance.old spot)) spot.carrier)
-        (λ c. c.kind ≡ Single → c.blocks ≡ [])) }
+        (λ c. c.kind ≡ Single → c.blocks ≡ []) }
 {
     if employer_of(spot.carrier) != me {
-        return Ok(false);
+        return false;
     }
-    free_at(instance, spot)?;
-    Ok(true)
+    free_at(instance, spot);
+    true
 }
 
 /// What the log says of an operation that released a block.
@@ -126,11 +123,11 @@ impl<'t> Scheduler<'t> {
     /// The name is held no longer, and its block is released: here, which ends the operation, or by
     /// the employer of its carrier, to whose queue it goes. Where carriers migrate, a look at the
     /// carrier's owner word is to tell who that is.
-    pub(crate) fn hand_over(&mut self, hand: Named, task: Task) -> Result<(), OutOfMemory>
+    pub(crate) fn hand_over(&mut self, hand: Named, task: Task)
         requires more { HasMore self.old }
         requires here { IsHere self.old.instance self.old hand }
-        ensures actor { OnOk result (actor_of self.new ≡ tasks.hands_over (setup_for self.old)
-            self.old.number task hand (ready_of self.old)) }
+        ensures actor { actor_of self.new ≡ tasks.hands_over (setup_for self.old)
+            self.old.number task hand (ready_of self.old) }
         ensures same { IsSame self.old self.new }
     {
         self.names.let_go(hand.name);
@@ -140,31 +137,27 @@ impl<'t> Scheduler<'t> {
                 why: Why::For { task },
                 gone: Gone::Open,
             };
-            return Ok(());
+            return;
         }
-        if release(&mut self.instance, self.number, hand.spot)? {
+        if release(&mut self.instance, self.number, hand.spot) {
             self.finish_task(task, Gone::Here);
         } else {
             self.send(hand, Why::For { task });
         }
-        Ok(())
     }
 
     /// Frees the block of a name; one that isn't held is skipped.
-    pub(crate) fn free(&mut self, name: u32) -> Result<(), OutOfMemory>
+    pub(crate) fn free(&mut self, name: u32)
         requires more { HasMore self.old }
         requires name { HasName self.old.instance self.old name }
-        ensures actor { OnOk result (actor_of self.new ≡ operations.freed (setup_for self.old)
+        ensures actor { actor_of self.new ≡ operations.freed (setup_for self.old)
             self.old.number name (ready_of self.old)
-            (nodes.named_at name self.old.names.held)) }
+            (nodes.named_at name self.old.names.held) }
         ensures same { IsSame self.old self.new }
     {
         match self.names.spot_of(name) {
             Some(spot) => self.hand_over(Named { name, spot }, Task::Freeing { name }),
-            None => {
-                self.finish(Entry::FreeSkipped { name });
-                Ok(())
-            }
+            None => self.finish(Entry::FreeSkipped { name }),
         }
     }
 }

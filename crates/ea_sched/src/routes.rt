@@ -1,5 +1,5 @@
 //! The rows of a release route.
-ghost use Rattle.std.specs.Prelude.{◌≡◌, true, None, IfOk, IsSome};
+ghost use Rattle.std.specs.Prelude.{◌≡◌, true, None, IsSome};
 ghost use Rattle.ea_model.specs.Instance.{block_in, employed};
 ghost use Rattle.ea_machine.specs.declared.owners.OwnerWord.TheVariants as word;
 ghost use Rattle.ea_machine.specs.Releases as releases;
@@ -10,7 +10,7 @@ ghost use Rattle.ea_sched.specs.Turning.{HasTurned};
 use crate::state::Scheduler;
 use ea_instance::Held;
 use ea_machine::{Gone, Named, Node, OwnerWord, Route, Stage, Why};
-use ea_model::{OutOfMemory, owner_of};
+use ea_model::owner_of;
 
 /// What first became of the block.
 pub fn first_gone(gone: Gone, now: Gone) -> Gone
@@ -56,35 +56,30 @@ impl<'t> Scheduler<'t> {
 
     /// Releases the block in a carrier that the scheduler employs. An emptied carrier leaves, and
     /// one is abandoned if that is due.
-    fn release_here(
-        &mut self,
-        hand: Named,
-        why: Why,
-        gone: Gone,
-    ) -> Result<Option<Gone>, OutOfMemory>
+    fn release_here(&mut self, hand: Named, why: Why, gone: Gone) -> Option<Gone>
         requires block { IsSome (block_in (employed self.old.instance) hand.spot) }
         requires settings { self.old.instance.settings ≡ (setup_for self.old).settings }
         requires on { migration (setup_for self.old) ≡ true }
-        ensures turned { IfOk result (λ over. (at : _) → HasTurned why
+        ensures turned { (at : _) → HasTurned why
             (releases.release_here (setup_for self.old) self.old.number hand gone
-            (standing_at at self.old)) over self.new) }
+            (standing_at at self.old)) result self.new }
         ensures same { IsSame self.old self.new }
     {
         let number = hand.spot.carrier;
         let gone = first_gone(gone, Gone::Here);
-        let is_vacant = self.instance.release(hand.spot)?;
+        let is_vacant = self.instance.release(hand.spot);
         if is_vacant {
             let content = self.instance.hand_out(number);
             self.leave(content, why, gone);
-            return Ok(None);
+            return None;
         }
         if self.instance.due(number) {
             let content = self.instance.hand_out(number);
             let route = Route::Abandoning { content };
             self.stage = Stage::Routed { route, why, gone };
-            return Ok(None);
+            return None;
         }
-        Ok(Some(gone))
+        Some(gone)
     }
 
     /// The owner word of the block's carrier was read: the block is released here, where the
@@ -96,14 +91,14 @@ impl<'t> Scheduler<'t> {
         seen: OwnerWord,
         why: Why,
         gone: Gone,
-    ) -> Result<Option<Gone>, OutOfMemory>
+    ) -> Option<Gone>
         requires block { seen ≡ word.Employed self.old.number
             → IsSome (block_in (employed self.old.instance) hand.spot) }
         requires settings { self.old.instance.settings ≡ (setup_for self.old).settings }
         requires on { migration (setup_for self.old) ≡ true }
-        ensures turned { IfOk result (λ over. (at : _) → HasTurned why
+        ensures turned { (at : _) → HasTurned why
             (releases.looked (setup_for self.old) self.old.number hand gone
-            (standing_at at self.old) seen) over self.new) }
+            (standing_at at self.old) seen) result self.new }
         ensures same { IsSame self.old self.new }
     {
         match seen {
@@ -111,18 +106,18 @@ impl<'t> Scheduler<'t> {
                 if instance == self.number {
                     return self.release_here(hand, why, gone);
                 }
-                Ok(self.send_to(hand, instance, why, gone))
+                self.send_to(hand, instance, why, gone)
             }
             OwnerWord::Pooled { instance, .. } => {
                 if instance == self.number {
                     let route = Route::Trying { hand, seen };
                     self.stage = Stage::Routed { route, why, gone };
-                    return Ok(None);
+                    return None;
                 }
-                Ok(self.send_to(hand, instance, why, gone))
+                self.send_to(hand, instance, why, gone)
             }
-            OwnerWord::Busy { instance } => Ok(self.send_to(hand, instance, why, gone)),
-            OwnerWord::Absent | OwnerWord::Returning { .. } => Ok(Some(gone)),
+            OwnerWord::Busy { instance } => self.send_to(hand, instance, why, gone),
+            OwnerWord::Absent | OwnerWord::Returning { .. } => Some(gone),
         }
     }
 }

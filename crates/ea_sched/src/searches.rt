@@ -154,7 +154,8 @@ impl<'t> Scheduler<'t> {
         match shared.fetch_try(self.number, at, seen) {
             Tried::Won { content } => {
                 self.instance.adopt(content);
-                self.place(ask)
+                self.place(ask);
+                Ok(())
             }
             Tried::Lost { .. } => {
                 let at = at - 1;
@@ -182,10 +183,12 @@ impl<'t> Scheduler<'t> {
     {
         if plan.single {
             shared.create(self.number, plan.number);
-            return self.create_single(ask, plan);
+            self.create_single(ask, plan);
+            return Ok(());
         }
         let carrier = self.instance.prepare(alloc, plan)?;
         shared.create(self.number, plan.number);
-        self.create_multi(ask, plan, carrier)
+        self.create_multi(ask, plan, carrier);
+        Ok(())
     }
 }

@@ -1,5 +1,5 @@
 //! The row of a release route that is next, and what comes after the route.
-ghost use Rattle.std.specs.Prelude.{◌≡◌, ◌≢◌, ℕ, true, IfOk, IsSome, OnOk};
+ghost use Rattle.std.specs.Prelude.{◌≡◌, ◌≢◌, ℕ, true, IsSome, OnOk};
 ghost use Rattle.ea_machine.specs.declared.nodes.Node.{Node};
 ghost use Rattle.ea_machine.specs.declared.stages.Route.TheVariants as routes;
 ghost use Rattle.ea_machine.specs.declared.stages.Stage.TheVariants as stage;
@@ -50,7 +50,7 @@ impl<'t> Scheduler<'t> {
         route: Route<Held>,
         why: Why,
         gone: Gone,
-    ) -> Result<Option<Gone>, OutOfMemory>
+    ) -> Option<Gone>
         requires starts { StartsRow (stage.Routed route why gone) self.old
             (S.schedulers shared.old) (S.greatest shared.old) (S.migrates shared.old)
             (S.shared shared.old) (S.caller shared.old) }
@@ -59,20 +59,20 @@ impl<'t> Scheduler<'t> {
         requires linking { (node : Node) (to : ℕ) → route ≢ routes.Linking node to }
         ensures stays { S.stays shared.old shared.new }
         ensures same { IsSame self.old self.new }
-        ensures row { IfOk result (λ over. TurnedRow route why gone self.old self.new over
+        ensures row { TurnedRow route why gone self.old self.new result
             (S.shared shared.old) (S.shared shared.new) (S.caller shared.old)
-            (S.caller shared.new)) }
+            (S.caller shared.new) }
     {
         match route {
             Route::Looking { hand } => self.look(shared, hand, why, gone),
-            Route::Trying { hand, seen } => Ok(self.try_busy(shared, hand, seen, why, gone)),
-            Route::Settling { content } => Ok(self.settle(shared, content, why, gone)),
-            Route::Abandoning { content } => Ok(self.abandon(shared, content, why, gone)),
+            Route::Trying { hand, seen } => self.try_busy(shared, hand, seen, why, gone),
+            Route::Settling { content } => self.settle(shared, content, why, gone),
+            Route::Abandoning { content } => self.abandon(shared, content, why, gone),
             Route::Sending { content } => {
                 self.send_home(shared, content, why, gone);
-                Ok(None)
+                None
             }
-            Route::Clearing { content } => Ok(self.clear(shared, content, why, gone)),
+            Route::Clearing { content } => self.clear(shared, content, why, gone),
             Route::Pushing { .. } | Route::Linking { .. } => unreachable!(),
         }
     }
@@ -102,7 +102,7 @@ impl<'t> Scheduler<'t> {
             }
             Route::Linking { node, to } => self.link(alloc, shared, node, to, why, gone),
             other => {
-                let over = self.turn_carrier(shared, other, why, gone)?;
+                let over = self.turn_carrier(shared, other, why, gone);
                 self.end_route(alloc, why, over)
             }
         }

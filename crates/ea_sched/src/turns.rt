@@ -1,5 +1,5 @@
 //! The rows of a release route.
-ghost use Rattle.std.specs.Prelude.{◌≡◌, true, None, IfOk, OnOk};
+ghost use Rattle.std.specs.Prelude.{◌≡◌, true, None, OnOk};
 ghost use Rattle.ea_machine.specs.declared.stages.Stage.TheVariants as stage;
 ghost use Rattle.ea_machine.specs.declared.stages.Route.TheVariants as route;
 ghost use Rattle.ea_machine.specs.Releases as releases;
@@ -39,16 +39,16 @@ impl<'t> Scheduler<'t> {
         hand: Named,
         why: Why,
         gone: Gone,
-    ) -> Result<Option<Gone>, OutOfMemory>
+    ) -> Option<Gone>
         requires starts { StartsRow (stage.Routed (route.Looking hand) why gone) self.old
             (S.schedulers shared.old) (S.greatest shared.old) (S.migrates shared.old)
             (S.shared shared.old) (S.caller shared.old) }
         requires on { migration (setup_for self.old) ≡ true }
         ensures stays { S.stays shared.old shared.new }
         ensures same { IsSame self.old self.new }
-        ensures row { IfOk result (λ over. TurnedRow (route.Looking hand) why gone self.old self.new
-            over (S.shared shared.old) (S.shared shared.new) (S.caller shared.old)
-            (S.caller shared.new)) }
+        ensures row { TurnedRow (route.Looking hand) why gone self.old self.new result
+            (S.shared shared.old) (S.shared shared.new) (S.caller shared.old)
+            (S.caller shared.new) }
     {
         let seen = shared.look(self.number, hand.spot.carrier);
         self.looked(hand, seen, why, gone)

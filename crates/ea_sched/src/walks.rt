@@ -1,5 +1,5 @@
 //! The walk through the nodes of a scheduler's queue, and how they are worked off.
-ghost use Rattle.std.specs.Prelude.{◌≡◌, true, false, [], None, IfOk, OnOk};
+ghost use Rattle.std.specs.Prelude.{◌≡◌, true, false, [], None, OnOk};
 ghost use Rattle.ea_machine.specs.Machine as machine;
 ghost use Rattle.ea_machine.specs.Walks as walks;
 ghost use Rattle.ea_sched.specs.Acting.{IsSame, actor_of, ready_of, setup_for, standing_at};
@@ -18,28 +18,24 @@ use std::alloc::Global;
 /// Works off the nodes that a walk of scheduler `me`, whose instance this is, has passed, oldest
 /// first: releases the blocks, up to the first whose carrier another instance owns, and answers
 /// that one, if it is reached.
-fn work_off(
-    passed: &mut Passed,
-    instance: &mut Instance,
-    me: u32,
-) -> Result<Option<Named>, OutOfMemory>
+fn work_off(passed: &mut Passed, instance: &mut Instance, me: u32) -> Option<Named>
     requires { CanAllGo me instance.old passed.old.nodes }
-    ensures { IfOk result (λ hand. (record {
+    ensures { (record {
       instance = instance.new;
       left = passed.new.nodes;
-      hand = hand;
-    }) ≡ worked me instance.old passed.old.nodes) }
+      hand = result;
+    }) ≡ worked me instance.old passed.old.nodes }
 {
     while let Some(node) = passed.take_oldest() {
         let (name, spot) = match node {
             Node::Block { name, spot } => (name, spot),
             Node::Carrier { .. } => unreachable!(),
         };
-        if !release(instance, me, spot)? {
-            return Ok(Some(Named { name, spot }));
+        if !release(instance, me, spot) {
+            return Some(Named { name, spot });
         }
     }
-    Ok(None)
+    None
 }
 
 /// Where a scheduler is that is to work off a node of its walk, where carriers migrate.
@@ -107,7 +103,7 @@ impl<'t> Scheduler<'t> {
             self.old.number self.old.passed.nodes (standing_at at self.old))) }
         ensures same { IsSame self.old self.new }
     {
-        match work_off(&mut self.passed, &mut self.instance, self.number)? {
+        match work_off(&mut self.passed, &mut self.instance, self.number) {
             None => self.go_on(alloc),
             Some(hand) => {
                 self.send(hand, Why::Walk);

@@ -3,7 +3,6 @@ use Rattle.std.specs.Prelude.{IsSome}
 use Rattle.ea_model.specs.Instance.{Instance, own_at}
 use Rattle.ea_machine.specs.Placements.{created_by, placed_in_choice}
 use Rattle.ea_sched.specs.Acting.{ready_of, setup_for}
-use Rattle.ea_sched.proofs.Acts.{made-as}
 use Rattle.ea_sched.proofs.OwnCarriers.{asked-again, created-own}
 use Rattle.ea_sched.proofs.state.Scheduler.create_multi.Goals as goal
 
@@ -11,10 +10,10 @@ pub returns-clause-actor : goal.returns-clause-actor
 returns-clause-actor c =
     let s = c.args.self.now in
     let ask = c.args.ask in
-    made-as c.place.result _ c.place.ensures.actor
-    (ap (λ i. placed_in_choice (setup_for s) s.number ask (record (ready_of s) { instance = i }))
-    c.in_ok-create.ensures.ok
-    ∙ sym (ap (created_by (setup_for s) s.number ask c.args.plan (ready_of s)) c.requires.multi))
+    c.place.ensures.actor
+    ∙ ap (λ i. placed_in_choice (setup_for s) s.number ask (record (ready_of s) { instance = i }))
+    c.create.ensures.ok
+    ∙ sym (ap (created_by (setup_for s) s.number ask c.args.plan (ready_of s)) c.requires.multi)
 
 pub place-requires-clause-asked : goal.place-requires-clause-asked
 place-requires-clause-asked c =
@@ -22,6 +21,6 @@ place-requires-clause-asked c =
     let ask = c.args.ask in
     let new = c.create.new.self in
     asked-again s _ refl refl refl s.instance new
-    (λ at is. subst IsSome (sym (c.in_ok-create.ensures.blocks at)) is)
-    (λ n is. subst (λ (i : Instance). IsSome (own_at i.own n)) (sym c.in_ok-create.ensures.ok)
+    (λ at is. subst IsSome (sym (c.create.ensures.blocks at)) is)
+    (λ n is. subst (λ (i : Instance). IsSome (own_at i.own n)) (sym c.create.ensures.ok)
     (created-own s.instance ask.need c.args.plan c.requires.plan n is)) ask c.requires.asked

@@ -76,16 +76,14 @@ returns-in-Won-clause-row g c =
     let ask = c.args.ask in
     let stage = Fetching ask c.args.at c.args.looked c.args.seen in
     let x = c.in-Won.content in
-    on_ok_weaker c.place.result
-    (λ is. row-done s c.requires.starts.ready (FetchTry c.args.at c.args.seen) (Won x) stage refl
+    row-done s c.requires.starts.ready (FetchTry c.args.at c.args.seen) (Won x) stage refl
     refl c.in-Won.ensures.row
-    (is
+    (c.place.ensures.actor
     ∙ ap (λ i. placed_in_choice (setup_for s) s.number ask (record (ready_of s) { instance = i }))
     c.adopt.ensures
     ∙ sym (onward-won (setup_for s) s.number
     (fetch-on s c.requires.starts.ready ask c.args.at c.args.looked c.args.seen refl) ask
-    (standing_at stage s) c.args.at c.args.looked x)))
-    c.place.ensures.actor
+    (standing_at stage s) c.args.at c.args.looked x))
 
 pub returns-in-Lost-clause-row : goal.returns-in-Lost-clause-row
 returns-in-Lost-clause-row g c =

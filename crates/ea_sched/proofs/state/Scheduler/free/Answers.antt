@@ -2,7 +2,6 @@ use Rattle.std.proofs.Common.{sym, ap, ◌∙◌}
 use Rattle.ea_machine.specs.Operations.{freed}
 use Rattle.ea_sound.proofs.Asked.{named-spot}
 use Rattle.ea_sched.specs.Acting.{ready_of, setup_for}
-use Rattle.ea_sched.proofs.Acts.{made-as}
 use Rattle.ea_sched.proofs.state.Scheduler.free.Goals as goal
 
 pub returns-in-Some-clause-actor : goal.returns-in-Some-clause-actor
@@ -10,5 +9,5 @@ returns-in-Some-clause-actor c =
     let s = c.args.self.now in
     let held = named-spot c.args.name c.in-Some.spot s.names.held
     (sym c.spot_of.ensures ∙ c.in-Some.is) in
-    made-as c.hand_over.result _ c.hand_over.ensures.actor
-    (sym (ap (freed (setup_for s) s.number c.args.name (ready_of s)) held))
+    c.hand_over.ensures.actor
+    ∙ sym (ap (freed (setup_for s) s.number c.args.name (ready_of s)) held)

@@ -1,5 +1,4 @@
 use Rattle.std.proofs.Common.{◌*◌, refl, ap, ◌∙◌, subst, arith}
-use Rattle.std.proofs.lemmas.Result.{IfOk-weaker}
 use Rattle.ea_model.specs.declared.units.TheConstants.{NUMBERS}
 use Rattle.ea_machine.specs.declared.stages.Stage.TheVariants.{Routed}
 use Rattle.ea_machine.specs.declared.stages.Route.TheVariants.{Looking}
@@ -29,8 +28,8 @@ pub looked-requires-clause-settings : goal.looked-requires-clause-settings
 looked-requires-clause-settings g c = own-settings c.args.self.now c.requires.starts.ready
 
 pub returns-clause-row : goal.returns-clause-row
-returns-clause-row g c = IfOk-weaker c.looked.result _ _ (λ over turned. record {
+returns-clause-row g c = record {
   got = Saw c.look-seen.result;
   did = c.look-seen.ensures.row;
-  turned = turned (Routed (Looking c.args.hand) c.args.why c.args.gone);
-}) c.looked.ensures.turned
+  turned = c.looked.ensures.turned (Routed (Looking c.args.hand) c.args.why c.args.gone);
+}

@@ -1,6 +1,5 @@
 use Rattle.std.proofs.Common.{sym, ap, subst}
 use Rattle.ea_machine.specs.Releases.{looked}
-use Rattle.std.proofs.lemmas.Result.{IfOk-weaker}
 use Rattle.ea_sched.specs.Acting.{setup_for, standing_at}
 use Rattle.ea_sched.specs.Turning.{HasTurned}
 use Rattle.ea_sched.proofs.Routing.{looked-mine, looked-others, looked-others_pool}
@@ -9,11 +8,10 @@ use Rattle.ea_sched.proofs.state.Scheduler.looked.Goals as goal
 pub returns-then-instance-self-clause-turned : goal.returns-then-instance-self-clause-turned
 returns-then-instance-self-clause-turned c =
     let s = c.args.self.now in
-    IfOk-weaker c.release_here.result _ _
-    (λ over turned at. subst (λ u. HasTurned c.args.why u over c.release_here.new.self)
+    λ at. subst (λ u. HasTurned c.args.why u c.release_here.result c.release_here.new.self)
     (looked-mine (setup_for s) s.number c.args.hand c.args.gone (standing_at at s) c.args.seen
-    c.in-Employed.instance c.in-Employed.is c.if-instance-self.true) (turned at))
-    c.release_here.ensures.turned
+    c.in-Employed.instance c.in-Employed.is c.if-instance-self.true)
+    (c.release_here.ensures.turned at)
 
 pub returns-else-instance-self-clause-turned : goal.returns-else-instance-self-clause-turned
 returns-else-instance-self-clause-turned c = λ at.

@@ -1,11 +1,10 @@
-use Rattle.std.proofs.Common.{◌≡◌, refl, sym, ap, ◌∙◌, subst}
-use Rattle.std.specs.Prelude.{IfSome, OnOk}
-use Rattle.std.proofs.lemmas.Result.{on_ok_weaker}
+use Rattle.std.proofs.Common.{refl, sym, ap, ◌∙◌, subst}
+use Rattle.std.specs.Prelude.{IfSome}
 use Rattle.ea_machine.specs.declared.stages.Stage.TheVariants.{Creating}
 use Rattle.ea_machine.specs.Rows.{Create, Done}
 use Rattle.ea_machine.specs.Placements.{created}
 use Rattle.ea_model.specs.Instance.{plan}
-use Rattle.ea_sched.specs.Acting.{actor_of, ready_of, setup_for, standing_at}
+use Rattle.ea_sched.specs.Acting.{ready_of, setup_for, standing_at}
 use Rattle.ea_sched.specs.Asking.{IsHere}
 use Rattle.ea_sched.proofs.Calling.{row-done}
 use Rattle.ea_sched.proofs.Placing.{onward-created}
@@ -86,23 +85,20 @@ returns-then-plan-clause-row g c =
     let s = c.args.self.now in
     let ask = c.args.ask in
     let p = c.args.plan in
-    on_ok_weaker c.create_single.result
-    (λ is. row-done s c.requires.starts.ready (Create p.number) Done (Creating ask p) refl refl
+    row-done s c.requires.starts.ready (Create p.number) Done (Creating ask p) refl refl
     c.create.ensures.row
-    (is ∙ sym (onward-created (setup_for s) s.number
-    (create-on s c.requires.starts.ready ask p refl) ask p (standing_at (Creating ask p) s))))
-    c.create_single.ensures.actor
+    (c.create_single.ensures.actor ∙ sym (onward-created (setup_for s) s.number
+    (create-on s c.requires.starts.ready ask p refl) ask p (standing_at (Creating ask p) s)))
 
 pub returns-clause-row : goal.returns-clause-row
 returns-clause-row g c =
     let s = c.args.self.now in
     let ask = c.args.ask in
     let p = c.args.plan in
-    on_ok_weaker c.create_multi.result
-    (λ is. row-done s c.requires.starts.ready (Create p.number) Done (Creating ask p) refl refl
+    row-done s c.requires.starts.ready (Create p.number) Done (Creating ask p) refl refl
     c.create-2.ensures.row
-    (is ∙ sym (onward-created (setup_for s) s.number
-    (create-on s c.requires.starts.ready ask p refl) ask p (standing_at (Creating ask p) s))))
-    (subst (λ i. OnOk c.create_multi.result (actor_of c.create_multi.new.self
-    ≡ created (setup_for s) s.number ask p (record (ready_of s) { instance = i })))
-    c.prepare.ensures.same c.create_multi.ensures.actor)
+    (c.create_multi.ensures.actor
+    ∙ ap (λ i. created (setup_for s) s.number ask p (record (ready_of s) { instance = i }))
+    c.prepare.ensures.same
+    ∙ sym (onward-created (setup_for s) s.number
+    (create-on s c.requires.starts.ready ask p refl) ask p (standing_at (Creating ask p) s)))

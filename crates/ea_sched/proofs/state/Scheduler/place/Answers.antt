@@ -4,7 +4,7 @@ use Rattle.ea_model.specs.Instance.{Instance, chosen_spot, employed, own_at}
 use Rattle.ea_laws.specs.Spots.{IsPlaced}
 use Rattle.ea_machine.specs.Placements.{placed_by}
 use Rattle.ea_sched.specs.Acting.{ready_of, setup_for}
-use Rattle.ea_sched.proofs.Acts.{chosen-place, made-as, stood-placed}
+use Rattle.ea_sched.proofs.Acts.{chosen-place, stood-placed}
 use Rattle.ea_sched.proofs.OwnCarriers.{asked-again, placed-block, placing-own}
 use Rattle.ea_sched.proofs.state.Scheduler.place.Goals as goal
 
@@ -15,10 +15,10 @@ returns-clause-actor c =
     let (spot, chosen, is, new) = chosen-place s.instance c.try_alloc.new.self
     (chosen_spot s.instance ask.need) ask.need ask.name c.in-Some.place
     (sym c.try_alloc.ensures.place ∙ c.in-Some.is) c.try_alloc.ensures.placed in
-    made-as c.stand.result _ c.stand.ensures.actor
-    (stood-placed (setup_for s) s.number (ready_of s) ask c.try_alloc.new.self spot
+    c.stand.ensures.actor
+    ∙ stood-placed (setup_for s) s.number (ready_of s) ask c.try_alloc.new.self spot
     c.in-Some.place is new
-    ∙ sym (ap (placed_by (setup_for s) s.number ask (ready_of s)) chosen))
+    ∙ sym (ap (placed_by (setup_for s) s.number ask (ready_of s)) chosen)
 
 pub stand-requires-clause-asked : goal.stand-requires-clause-asked
 stand-requires-clause-asked c =

@@ -32,8 +32,8 @@ returns-in_default-clause-actor c =
     let need = c.args.need in
     let fresh = c.args.fresh in
     let goes : decision_at s.instance old.spot need ≡ Move =
-    c.in_ok-size.ensures.moves.0 (subst IsNone (sym c.in_default.is) refl) in
-    let same = c.in_ok-size.ensures.ok
+    c.resize.ensures.moves.0 (subst IsNone (sym c.in_default.is) refl) in
+    let same = c.resize.ensures.ok
     ∙ ap (λ d. resized_by d s.instance old.spot (resized_to s.instance old.spot need) fresh) goes in
     made-as c.seek-in_default.result _ c.seek-in_default.ensures.actor
     (ap (λ i. seek (setup_for s) s.number (record { name = fresh; need = need; old = Some old })
@@ -47,16 +47,16 @@ returns-clause-actor c =
     let need = c.args.need in
     let fresh = c.args.fresh in
     let stays : decision_at s.instance old.spot need ≢ Move = λ e.
-    let no : true ≡ false = subst IsNone c.in-Some.is (c.in_ok-size.ensures.moves.1 e) in cc in
+    let no : true ≡ false = subst IsNone c.in-Some.is (c.resize.ensures.moves.1 e) in cc in
     let size : c.in-Some.size ≡ resized_to s.instance old.spot need =
     subst (λ o. IfSome o (λ units. units ≡ resized_to s.instance old.spot need)) c.in-Some.is
-    c.in_ok-size.ensures.size in
+    c.resize.ensures.size in
     c.finish.ensures.actor
     ∙ kept-resized (ready_of s) old fresh need
     (record { carrier = old.spot.carrier; offset = old.spot.offset; size = c.in-Some.size })
     c.resize.new.self c.hold.new.self.held
     (ap (λ n. record { carrier = old.spot.carrier; offset = old.spot.offset; size = n }) size)
-    c.in_ok-size.ensures.ok
+    c.resize.ensures.ok
     (c.hold.ensures.held
     ∙ ap (with_name (record { name = fresh; spot = old.spot })) c.let_go.ensures.held)
     ∙ sym (resized (setup_for s) s.number (ready_of s) old fresh need

@@ -18,11 +18,11 @@ returns-in-Some-clause-actor c =
     let (spot, chosen, is, new) = chosen-place s.instance c.try_alloc.new.self
     (chosen_spot s.instance ask.need) ask.need ask.name c.in-Some.place
     (sym c.try_alloc.ensures.place ∙ c.in-Some.is) c.try_alloc.ensures.placed in
-    made-as c.stand.result _ c.stand.ensures.actor
-    (stood-placed (setup_for s) s.number (ready_of s) ask c.try_alloc.new.self spot
+    c.stand.ensures.actor
+    ∙ stood-placed (setup_for s) s.number (ready_of s) ask c.try_alloc.new.self spot
     c.in-Some.place is new
     ∙ sym (seek-chosen (setup_for s) s.number (ready_of s) ask spot
-    (sym c.is_alone.ensures ∙ c.if-is_alone.false) chosen))
+    (sym c.is_alone.ensures ∙ c.if-is_alone.false) chosen)
 
 pub returns-in-None-clause-actor : goal.returns-in-None-clause-actor
 returns-in-None-clause-actor c =

@@ -3,7 +3,6 @@ use Rattle.ea_machine.specs.declared.tasks.Task.TheVariants.{Moving}
 use Rattle.ea_machine.specs.Placements.{holding, spot_of_place, stands}
 use Rattle.ea_machine.specs.Tasks.{hands_over}
 use Rattle.ea_sched.specs.Acting.{ready_of, setup_for}
-use Rattle.ea_sched.proofs.Acts.{made-as}
 use Rattle.ea_sched.proofs.state.Scheduler.stand.Goals as goal
 
 pub returns-in-Some-clause-actor : goal.returns-in-Some-clause-actor
@@ -13,8 +12,8 @@ returns-in-Some-clause-actor c =
     let place = c.args.place in
     let old = c.in-Some.old in
     let task = Moving old.name name place in
-    made-as c.hand_over.result _ c.hand_over.ensures.actor
-    (ap (λ h. hands_over (setup_for s) s.number task old (record (ready_of s) { held = h }))
+    c.hand_over.ensures.actor
+    ∙ ap (λ h. hands_over (setup_for s) s.number task old (record (ready_of s) { held = h }))
     c.hold.ensures.held
     ∙ sym (ap (λ o. stands (setup_for s) s.number name place o
-    (holding name (spot_of_place place) (ready_of s))) c.in-Some.is))
+    (holding name (spot_of_place place) (ready_of s))) c.in-Some.is)

@@ -10,7 +10,7 @@ use Rattle.ea_sched.proofs.state.Scheduler.work_all.Goals as goal
 pub go_on-requires : goal.go_on-requires
 go_on-requires c =
     let s = c.args.self.now in
-    let is = c.in_ok-work_off.ensures in
+    let is = c.work_off.ensures in
     let none : (worked s.number s.instance s.passed.nodes).hand ≡ None =
     ap (λ (w : Worked). w.hand) (sym is) ∙ c.in-None.is in
     record {
@@ -28,7 +28,7 @@ returns-in-None-clause-actor c =
     (walked-none (setup_for s) s.number (sym s.migrates_so ∙ c.requires.off) (standing_at at s)
     s.passed.nodes c.requires.passed i left
     (ap (λ hand. record { instance = i; left = left; hand = hand }) (sym c.in-None.is)
-    ∙ c.in_ok-work_off.ensures)))
+    ∙ c.work_off.ensures)))
     c.go_on.ensures.actor
 
 pub returns-in-Some-clause-actor : goal.returns-in-Some-clause-actor
@@ -41,4 +41,4 @@ returns-in-Some-clause-actor c =
     (walked-some (setup_for s) s.number (sym s.migrates_so ∙ c.requires.off) (standing_at at s)
     s.passed.nodes c.requires.passed i left c.in-Some.hand
     (ap (λ hand. record { instance = i; left = left; hand = hand }) (sym c.in-Some.is)
-    ∙ c.in_ok-work_off.ensures))
+    ∙ c.work_off.ensures))
