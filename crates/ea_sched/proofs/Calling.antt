@@ -1,11 +1,11 @@
 -- What the calls of a scheduler on what is shared ask for, and where their answers leave it.
-use Rattle.std.proofs.Common.{◌≡◌, ℕ, zero, suc, ◌*◌, ◌<◌, ◌≤◌, true, false, List, []}
+use Rattle.std.proofs.Common.{◌≡◌, ℕ, zero, suc, ◌+◌, ◌*◌, ◌<◌, ◌≤◌, true, false, List, []}
 use Rattle.std.proofs.Common.{◌∷◌, drop, length, refl, sym, ap, ◌∙◌, subst, arith}
 use Rattle.std.specs.Prelude.{Option, None, Some, IfSome, IsSome}
 use Rattle.ea_model.specs.declared.carriers.Spot.{Spot}
 use Rattle.ea_model.specs.declared.operations.Op.{Op}
 use Rattle.ea_model.specs.declared.operations.Op.TheVariants as op
-use Rattle.ea_model.specs.declared.units.TheConstants.{NUMBERS}
+use Rattle.ea_model.specs.declared.units.TheConstants.{MAX_NAME, MAX_SCHEDULERS, NUMBERS}
 use Rattle.ea_model.specs.Trace.{IsScheduler}
 use Rattle.ea_model.proofs.Options.{if_some, some_value}
 use Rattle.ea_model.specs.Content.{Content}
@@ -34,6 +34,7 @@ use Rattle.ea_machine.specs.Walks.{ready, with_passed, worked_off}
 use Rattle.ea_shared.specs.Calls.{Caller, Did}
 use Rattle.ea_names.specs.Holding.{has_place}
 use Rattle.ea_sound.proofs.Calls as calls
+use Rattle.ea_sound.proofs.FewPassed.{passes-few}
 use Rattle.ea_sched.specs.declared.state.Scheduler.{Scheduler}
 use Rattle.ea_sched.specs.Acting.{actor_of, setup_for, standing_at}
 use Rattle.ea_sched.specs.Asking.{HasMore, IsFresh, SuitsNext}
@@ -128,6 +129,17 @@ module _ {stage : Stage Content} (s : Scheduler) {shared : Option Shared} {calle
 
     pub pass-next : IfSome shared (λ x. first_node (x.rests me) ≡ Some node)
     pass-next = told-so (λ x. first_node (x.rests me) ≡ Some node) next-node.0
+
+    -- there is room for it among those that were passed
+    pub pass-few : length s.passed.nodes < MAX_NAME + NUMBERS * MAX_SCHEDULERS
+    pass-few =
+        let few = passes-few s.config s.trace.now h.config h.trace in
+        omega (
+          arith,
+          few.passes h.state h.reached me node (ap (λ (x : Actor). x.next) h.actor ∙ next),
+          few.few,
+          ap (λ (x : Actor). length x.passed) h.actor,
+        )
 
   -- a node is to be pushed
   module _ (node : Node) (to : ℕ) (why : Why) (gone : Gone)

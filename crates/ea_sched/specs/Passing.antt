@@ -1,5 +1,5 @@
 -- Nodes that a walk passed, and how one is worked off.
-use Rattle.std.specs.Prelude.{ℕ, List}
+use Rattle.std.specs.Prelude.{List}
 use Rattle.ea_model.specs.Content.{Content}
 use Rattle.ea_machine.specs.declared.nodes.Node.{Node}
 use Rattle.ea_machine.specs.declared.nodes.Node.TheVariants.{Block, Carrier}
@@ -9,10 +9,9 @@ use Rattle.ea_machine.specs.declared.stages.Stage.TheVariants.{Collecting, Route
 use Rattle.ea_machine.specs.declared.tasks.Gone.TheVariants.{Open}
 use Rattle.ea_machine.specs.declared.tasks.Why.TheVariants.{Walk}
 
--- nodes, oldest first, and for how many more there is room
+-- nodes, oldest first
 pub record Passing : Type 0 where
   pub nodes : List Node
-  pub room : ℕ
 
 -- where a scheduler is that is to work off a node, where carriers migrate: it is to look at the
 -- owner word of the block's carrier, or to collect the carrier that came home

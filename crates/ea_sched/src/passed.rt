@@ -1,57 +1,49 @@
 //! The nodes that a walk passed.
-ghost use Rattle.std.specs.Prelude.{◌≡◌, ◌<◌, [], ◌∷◌, MatchOption, OnOk};
+ghost use Rattle.std.specs.Prelude.{◌≡◌, ◌+◌, ◌*◌, ◌<◌, [], ◌∷◌, IfOk, MatchOption, length};
+ghost use Rattle.ea_model.specs.declared.units.TheConstants.{MAX_NAME, MAX_SCHEDULERS, NUMBERS};
 
 use ea_machine::Node;
-use ea_model::OutOfMemory;
+use ea_model::{MAX_NAME, MAX_SCHEDULERS, NUMBERS, OutOfMemory};
 use std::alloc::Global;
 use std::marker::Model;
 
-/// The nodes that a walk passed, which are to be worked off. Contracts see them oldest first, and
-/// for how many more there is room.
+/// The nodes that a walk passed, which are to be worked off. There is room for a node of each name
+/// and of each carrier number that a run may have. Contracts see the nodes oldest first.
 #[derive(Drop)]
 pub struct Passed {
     newest_first: Vec<Node>,
 }
 
 impl Model for Passed {
-    ghost use Rattle.std.specs.Prelude.{◌-◌, reverse, vec_capacity, vec_len};
+    ghost use Rattle.std.specs.Prelude.{◌+◌, ◌*◌, ◌≤◌, reverse, vec_capacity};
+    ghost use Rattle.ea_model.specs.declared.units.TheConstants.{MAX_NAME, MAX_SCHEDULERS};
+    ghost use Rattle.ea_model.specs.declared.units.TheConstants.{NUMBERS};
     ghost use Rattle.ea_sched.specs.Passing.{Passing};
 
     ghost Value = { Passing };
 
-    ghost view = { λ p. record {
-      nodes = reverse p.newest_first.items;
-      room = vec_capacity p.newest_first - vec_len p.newest_first;
-    } };
+    ghost view = { λ p. record { nodes = reverse p.newest_first.items } };
+
+    ghost invariant = { λ p. MAX_NAME + NUMBERS * MAX_SCHEDULERS ≤ vec_capacity p.newest_first };
 }
 
 impl Passed {
-    /// No nodes. It takes no memory.
-    pub fn new(alloc: Global) -> Passed
-        ensures { result.nodes ≡ [] }
+    /// No nodes. It takes the memory for all that a walk may pass.
+    pub fn new(alloc: Global) -> Result<Passed, OutOfMemory>
+        ensures { IfOk result (λ passed. passed.nodes ≡ []) }
     {
-        Passed {
-            newest_first: Vec::new(alloc),
-        }
+        let most = MAX_NAME as usize + NUMBERS as usize * MAX_SCHEDULERS as usize;
+        Ok(Passed {
+            newest_first: Vec::with_capacity(alloc, most)?,
+        })
     }
 
-    /// Makes room for one more.
-    pub fn reserve(&mut self) -> Result<(), OutOfMemory>
-        ensures nodes { self.new.nodes ≡ self.old.nodes }
-        ensures room { OnOk result (0 < self.new.room) }
-    {
-        Ok(self.newest_first.reserve(1)?)
-    }
-
-    /// Adds the node, which is older than the others, where there is room. It takes no memory.
+    /// Adds the node, which is older than the others. It takes no memory.
     pub fn add(&mut self, node: Node)
-        requires { 0 < self.old.room }
+        requires { length self.old.nodes < MAX_NAME + NUMBERS * MAX_SCHEDULERS }
         ensures { self.new.nodes ≡ node ∷ self.old.nodes }
     {
-        match self.newest_first.push(node) {
-            Ok(()) => (),
-            Err(_) => unreachable!(),
-        }
+        self.newest_first.push_reserved(node);
     }
 
     /// Takes the oldest node away; None exactly where there is none.

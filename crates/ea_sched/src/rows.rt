@@ -58,7 +58,6 @@ impl<'t> Scheduler<'t> {
             (S.shared shared.old) (S.shared shared.new)
             (S.caller shared.old) (S.caller shared.new)) }
     {
-        self.passed.reserve()?;
         match shared.take_link(self.number, node) {
             Link::Rest => self.go_on(alloc),
             Link::End => {

@@ -17,8 +17,8 @@ use ea_stats::Stats;
 use std::alloc::Global;
 
 impl<'t> Scheduler<'t> {
-    /// Scheduler `number` before its first step. It takes the memory for its log and for the names
-    /// that it may hold.
+    /// Scheduler `number` before its first step. It takes the memory for its log, for the names that
+    /// it may hold, and for the nodes that its walks pass.
     pub fn new(
         alloc: Global,
         config: Config,
@@ -48,6 +48,7 @@ impl<'t> Scheduler<'t> {
         let mut log = List::new(alloc);
         log.reserve(text.len())?;
         let names = names_for(alloc, text, trace.greatest)?;
+        let passed = Passed::new(alloc)?;
         let mbcs = Stats::new(instance.multi_figures());
         let sbcs = Stats::new(instance.single_figures());
         Ok(Scheduler {
@@ -60,7 +61,7 @@ impl<'t> Scheduler<'t> {
             instance,
             names,
             stage: Stage::Begin,
-            passed: Passed::new(alloc),
+            passed,
             next: None,
             mbcs,
             sbcs,

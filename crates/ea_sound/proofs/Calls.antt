@@ -52,7 +52,7 @@ use Rattle.ea_sound.proofs.RowLeaves.{no_first}
 use Rattle.ea_sound.proofs.SoundRanges.{number-scheduler}
 use Rattle.ea_sound.proofs.SpotRanges.{standing-spot}
 use Rattle.ea_sound.proofs.StandingNodes.{IsAt, all-parts, at-name, at-number, pushing-at, queue-at}
-use Rattle.ea_sound.proofs.StandingNodes.{rest-at}
+use Rattle.ea_sound.proofs.StandingNodes.{passed-at, rest-at}
 use Rattle.ea_sound.proofs.Totals.{total-part}
 use Rattle.ea_sound.proofs.TraceNames.{IsNameOf, name-range}
 use Rattle.ea_sound.proofs.Weights.{one-itself}
@@ -120,6 +120,11 @@ module _ (c : Config) (t : Trace) (valid : IsValidConfig c)
   rest-nodes i = All-weaker (λ m. IsAt e w i m.node)
       (λ m. IsNode c.schedulers t.greatest m.node) (λ m. at-node i m.node) (w.shared.rests i)
       (rest-at e w rule i)
+
+  pub passed-nodes : (i : ℕ) → i < seats e
+      → All (IsNode c.schedulers t.greatest) (w.actors i).passed
+  passed-nodes i seat = All-weaker (IsAt e w i) (IsNode c.schedulers t.greatest)
+      (λ node. at-node i node) (w.actors i).passed (passed-at e w rule.kept i seat)
 
   -- where no node is next nothing is left of the walk
   pub rest-none : (i : ℕ) → (w.actors i).next ≡ None → w.shared.rests i ≡ []

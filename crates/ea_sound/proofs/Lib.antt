@@ -141,6 +141,7 @@ pub mod OwnWork
 pub mod Asked
 pub mod TraceNames
 pub mod Calls
+pub mod FewPassed
 pub mod CarrierCalls
 pub mod LeavingCalls
 pub mod HeldBlocks

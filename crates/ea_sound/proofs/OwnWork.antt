@@ -1,17 +1,16 @@
 -- A step leaves its scheduler less work of its own.
-use Rattle.std.proofs.Common.{◌≡◌, ◌≢◌, ◌⊎◌, ℕ, ◌*◌, ◌<◌, ◌≤◌, [], ◌∷◌, refl, sym, ap, ◌∙◌, inl}
+use Rattle.std.proofs.Common.{◌≡◌, ◌≢◌, ◌⊎◌, ℕ, ◌<◌, ◌≤◌, [], ◌∷◌, refl, sym, ap, ◌∙◌, inl}
 use Rattle.std.proofs.Common.{inr, arith, mul-le-mul_left}
-use Rattle.std.specs.Prelude.{Option, None, Some, length}
+use Rattle.std.specs.Prelude.{Option, None, Some, length, map}
 use Rattle.std.proofs.lemmas.Bool.{cases_lt}
-use Rattle.std.proofs.lemmas.List.Elements.{All-weaker}
+use Rattle.std.proofs.lemmas.List.{length-map}
+use Rattle.std.proofs.lemmas.List.Elements.{All-map, All-weaker}
 use Rattle.ea_model.specs.declared.settings.Config.{Config}
 use Rattle.ea_model.specs.declared.trace.Trace.{Trace}
-use Rattle.ea_model.specs.declared.units.TheConstants.{NUMBERS}
 use Rattle.ea_model.specs.Settings.{IsValidConfig}
 use Rattle.ea_model.specs.Trace.{IsValidTrace}
 use Rattle.ea_model.specs.Content.{Content}
 use Rattle.ea_machine.specs.declared.nodes.Node.{Node}
-use Rattle.ea_machine.specs.declared.nodes.Node.TheVariants.{Block, Carrier}
 use Rattle.ea_machine.specs.declared.tasks.Gone.{Gone}
 use Rattle.ea_machine.specs.declared.tasks.Why.{Why}
 use Rattle.ea_machine.specs.declared.stages.Stage.{Stage}
@@ -23,29 +22,31 @@ use Rattle.ea_machine.specs.declared.stages.Route.TheVariants.{Looking, Trying, 
 use Rattle.ea_machine.specs.declared.stages.Route.TheVariants.{Abandoning, Sending, Clearing}
 use Rattle.ea_machine.specs.declared.stages.Route.TheVariants.{Pushing, Linking}
 use Rattle.ea_machine.specs.Actor.{Actor}
-use Rattle.ea_machine.specs.Alike.{IsNode, alike_in}
+use Rattle.ea_machine.specs.Alike.{IsNode, alike_in, are_alike}
 use Rattle.ea_machine.specs.Completion.{work}
 use Rattle.ea_sound.specs.Contents.{seats}
 use Rattle.ea_machine.specs.Machine.{IsReached, step, wants_at, wants_on}
-use Rattle.ea_machine.specs.Nodes.{pushed}
+use Rattle.ea_machine.specs.Nodes.{Mark, pushed}
 use Rattle.ea_machine.specs.Owners.{Busy, Employed}
 use Rattle.ea_machine.specs.Rows.{Row, TakeAll}
 use Rattle.ea_machine.specs.Setup.{Setup, greatest_number, setup_of}
 use Rattle.ea_machine.specs.Shared.{Shared}
 use Rattle.ea_machine.specs.State.{State}
+use Rattle.ea_machine.specs.Sums.{one_if}
 use Rattle.ea_machine.specs.Table.{effect, tried_at}
 use Rattle.ea_sound.specs.OwnWork.{most_queued, own_work}
 use Rattle.ea_sound.specs.Present.{Rule}
 use Rattle.ea_sound.proofs.Asked.{reached-rule}
 use Rattle.ea_sound.proofs.Calls.{queue-nodes, rest-none}
 use Rattle.ea_sound.proofs.Completing.{PushesElsewhere, fits-elsewhere, linked-marks, rule-less}
-use Rattle.ea_sound.proofs.FewNodes.{IsWithin, few-nodes}
+use Rattle.ea_sound.proofs.FewNodes.{IsWithin, few-nodes, is-within}
 use Rattle.ea_sound.proofs.Numbered.{no_scheduler-beyond}
 use Rattle.ea_sound.proofs.SharedRows.{tried-queues}
 use Rattle.ea_sound.proofs.StandingOnce.{standing-once}
 use Rattle.ea_sound.proofs.Takings.{step-few, taking-fewer}
 use Rattle.ea_sound.proofs.Totals.{put-here, put-other, total-part}
 use Rattle.ea_sound.proofs.TurnLists.{step-shared}
+use Rattle.ea_sound.proofs.Weights.{sum-map}
 
 module _ (me : ℕ) (s : Shared) where
   -- the row leaves as many nodes in the scheduler's own queue
@@ -104,11 +105,6 @@ takes-or next (Taking n tries left) = inr (λ q r. absurd cc)
 takes-or next Ended = inr (λ q r. absurd cc)
 takes-or next Ready = inr (λ q r. absurd cc)
 
--- a node of a run is of one of its names and carrier numbers
-is-within : (n g : ℕ) (node : Node) → IsNode n g node → IsWithin g (n * NUMBERS) node
-is-within n g (Block name spot) is = (is.0, is.1)
-is-within n g (Carrier number) is = (is.0, omega (arith, is.1))
-
 module _ (c : Config) (t : Trace) (valid : IsValidConfig c)
     (made : IsValidTrace c.schedulers t) (w : State) (reached : IsReached (setup_of c t) w) where
   abbrev e : Setup
@@ -120,15 +116,21 @@ module _ (c : Config) (t : Trace) (valid : IsValidConfig c)
   -- a queue has no more nodes than it can have
   pub queue-most : (i : ℕ) → length (w.shared.queues i) ≤ most_queued c t
   queue-most i = elim (cases_lt i (seats e)) [
-    | inl seat ↦ few-nodes t.greatest (greatest_number e) (w.shared.queues i)
-        (All-weaker (λ m. IsNode c.schedulers t.greatest m.node)
-        (λ m. IsWithin t.greatest (greatest_number e) m.node)
-        (λ m. is-within c.schedulers t.greatest m.node) (w.shared.queues i)
-        (queue-nodes c t valid made w reached i)) (λ node. omega (
-          arith,
-          standing-once e w rule node,
-          total-part (alike_in node) w.shared.queues i (seats e) seat,
-        ))
+    | inl seat ↦ omega (
+      arith,
+      length-map (w.shared.queues i) (λ m. m.node),
+      few-nodes t.greatest (greatest_number e) (map (λ m. m.node) (w.shared.queues i))
+          (All-map (IsWithin t.greatest (greatest_number e)) (λ m. m.node) (w.shared.queues i)
+          (All-weaker (λ m. IsNode c.schedulers t.greatest m.node)
+          (λ m. IsWithin t.greatest (greatest_number e) m.node)
+          (λ m. is-within c.schedulers t.greatest m.node) (w.shared.queues i)
+          (queue-nodes c t valid made w reached i))) (λ node. omega (
+            arith,
+            standing-once e w rule node,
+            total-part (alike_in node) w.shared.queues i (seats e) seat,
+            sum-map (λ d. one_if (are_alike node d)) (λ (m : Mark). m.node) (w.shared.queues i),
+          )),
+    )
     | inr past ↦ omega (
       arith,
       ap (λ ms. length ms) (rule.present.nobody i (no_scheduler-beyond e i past)).queue,

@@ -17,7 +17,7 @@ use Rattle.ea_machine.specs.Machine.{IsReached, after_row, onward, run_on, step,
 use Rattle.ea_machine.specs.Owners.{word_of}
 use Rattle.ea_machine.specs.Placements.{counted, counted_by, counts, fits, saw_by, search_at}
 use Rattle.ea_machine.specs.Placements.{searched, searched_by}
-use Rattle.ea_machine.specs.Rows.{Answer, Look, Saw}
+use Rattle.ea_machine.specs.Rows.{Look, Saw}
 use Rattle.ea_machine.specs.Setup.{Setup, setup_of}
 use Rattle.ea_machine.specs.Shared.{Shared}
 use Rattle.ea_machine.specs.State.{State}

@@ -82,6 +82,22 @@ module _ (e : Setup) (w : State) (k : Kept e w) where
       );
     }
 
+    -- those that its walk passed
+    pub passed-at : All (IsAt e w me) (w.actors me).passed
+    passed-at = all-parts (IsAt e w me) (w.actors me).passed (λ node part. record {
+      names = λ f. omega (
+        arith,
+        part (of_node f),
+        total-part (names_of f) w.actors me (seats e) seat,
+        k.names.balance f,
+      );
+      carriers = λ g. omega (
+        arith,
+        part (of_carrier_node g me),
+        total_at-part (of_carrier_actor g) w.actors me (seats e) seat,
+      );
+    })
+
 module _ (e : Setup) (w : State) (rule : Rule e w) where
   -- the nodes of queues, or those of walks that aren't passed
   module _ (lists : ℕ → List Mark)

@@ -1,10 +1,11 @@
 -- The turns until a scheduler has ended, whatever others do in between. Nodes that others push to
 -- its queue count when it takes the queue: it does so in some of its begins alone, and finds no
--- more nodes there than a queue can have.
-use Rattle.std.specs.Prelude.{ℕ, ◌+◌, ◌*◌, List, Option, None, Some, length}
+-- more nodes there than a queue can have. Nor does its walk pass more.
+use Rattle.std.specs.Prelude.{◌≡◌, ℕ, ◌+◌, ◌*◌, ◌<◌, ◌≤◌, List, Option, None, Some, length}
 use Rattle.ea_model.specs.declared.operations.Op.{Op}
 use Rattle.ea_model.specs.declared.settings.Config.{Config}
 use Rattle.ea_model.specs.declared.trace.Trace.{Trace}
+use Rattle.ea_model.specs.declared.units.TheConstants.{MAX_NAME, MAX_SCHEDULERS, NUMBERS}
 use Rattle.ea_model.specs.Content.{Content}
 use Rattle.ea_machine.specs.declared.nodes.Node.{Node}
 use Rattle.ea_machine.specs.declared.tasks.Why.TheVariants.{Walk, For}
@@ -14,7 +15,9 @@ use Rattle.ea_machine.specs.declared.stages.Stage.TheVariants.{Fetching, Creatin
 use Rattle.ea_machine.specs.declared.stages.Stage.TheVariants.{Ended, Ready}
 use Rattle.ea_machine.specs.Actor.{Actor}
 use Rattle.ea_machine.specs.Completion.{actor_rows}
+use Rattle.ea_machine.specs.Machine.{IsReached}
 use Rattle.ea_machine.specs.Setup.{greatest_number, setup_of}
+use Rattle.ea_machine.specs.State.{State}
 use Rattle.ea_machine.specs.Tasks.{later}
 
 -- how often a begin takes the queue: not where it goes on with a walk
@@ -55,3 +58,10 @@ most_queued c t = t.greatest + greatest_number (setup_of c t)
 -- where that many nodes are left of its walk
 abbrev pub own_work : Config → Trace → Actor → ℕ → ℕ
 own_work c t a rest = actor_rows (setup_of c t) a + 9 * rest + 9 * (most_queued c t * takings a)
+
+-- in each reached state of the trace's run a walk that has a next node has passed fewer nodes than
+-- a queue can have, and that is no more than all names and carrier numbers that any run may have
+pub record PassesFew (c : Config) (t : Trace) : Type 0 where
+  pub passes : (w : State) → IsReached (setup_of c t) w → (i : ℕ) (node : Node)
+      → (w.actors i).next ≡ Some node → length (w.actors i).passed < most_queued c t
+  pub few : most_queued c t ≤ MAX_NAME + NUMBERS * MAX_SCHEDULERS

@@ -24,11 +24,19 @@
 //! instance, one moment, rows, the work between rows, a step, the rule, and what follows from it.
 #![tactic(auto)]
 
+ghost use Rattle.ea_model.specs.declared.settings.Config.{Config};
+ghost use Rattle.ea_model.specs.declared.trace.Trace.{Trace};
+ghost use Rattle.ea_model.specs.Settings.{IsValidConfig};
+ghost use Rattle.ea_model.specs.Trace.{IsValidTrace};
 ghost use Rattle.ea_sound.specs.MachineLaws.{Always, Protocol};
+ghost use Rattle.ea_sound.specs.OwnWork.{PassesFew};
 
 /// In each run of a valid trace under a valid configuration, after any list of steps: every moment
 /// is sound, what is printed of it adds up, no scheduler does a row that it may not do, each entry
-/// of a log tells how it came about, no block is released twice, and a completed schedule ends.
+/// of a log tells how it came about, no block is released twice, and a completed schedule ends; and
+/// a walk passes no more nodes than the run has names and carrier numbers.
 pub fn soundness()
     ensures protocol { Always Protocol }
+    ensures walks { (c : Config) (t : Trace) → IsValidConfig c → IsValidTrace c.schedulers t
+        → PassesFew c t }
 {}

@@ -48,7 +48,7 @@ returns-clause-actor c =
     (c.as_slice-text.ensures
     ∙ text-is c.args.trace.now.texts.items n c.get.result.now c.requires.from
     (omega (arith, c.requires.texts, c.requires.to)) c.get.ensures)
-    c.new-2.ensures
+    c.in_ok-passed.ensures
     (c.new-mbcs.ensures ∙ ap (λ f. seen f unseen) c.multi_figures.ensures.figures)
     (c.new-sbcs.ensures ∙ ap (λ f. seen f unseen) c.single_figures.ensures.figures)
     (c.reserve.ensures.items ∙ c.new-log.ensures)

@@ -1,11 +1,11 @@
 use Rattle.std.proofs.Common.{◌≡◌, [], ◌∷◌, Some, sym, ap, refl, ◌∙◌}
 use Rattle.std.proofs.lemmas.Result.{on_ok_weaker}
 use Rattle.ea_machine.specs.declared.stages.Stage.TheVariants.{Begin}
-use Rattle.ea_machine.specs.Machine.{begins, onward}
+use Rattle.ea_machine.specs.Machine.{begins}
 use Rattle.ea_machine.specs.Rows.{Rests, TakeLink}
-use Rattle.ea_sched.specs.Acting.{actor_of, ready_of, setup_for}
-use Rattle.ea_sched.proofs.Calling.{as-node, pass-next, pass-node, passed-can, passed-ended}
-use Rattle.ea_sched.proofs.Calling.{passed-next, passed-suits, rests-suits, row-done}
+use Rattle.ea_sched.specs.Acting.{actor_of}
+use Rattle.ea_sched.proofs.Calling.{as-node, pass-few, pass-next, pass-node, passed-can}
+use Rattle.ea_sched.proofs.Calling.{passed-ended, passed-next, passed-suits, rests-suits, row-done}
 use Rattle.ea_sched.proofs.state.Scheduler.pass.Goals as goal
 
 pub take_link-requires-clause-node : goal.take_link-requires-clause-node
@@ -17,6 +17,13 @@ pub take_link-requires-clause-next : goal.take_link-requires-clause-next
 take_link-requires-clause-next g c =
     pass-next c.args.self.now c.requires.starts.ready c.args.node c.requires.next
 
+pub add-requires : goal.add-requires
+add-requires g c = pass-few c.args.self.now c.requires.starts.ready c.args.node c.requires.next
+
+pub add-requires-in-Next : goal.add-requires-in-Next
+add-requires-in-Next g c = pass-few c.args.self.now c.requires.starts.ready c.args.node
+    c.requires.next
+
 pub go_on-requires : goal.go_on-requires
 go_on-requires g c = record {
   next = rests-suits c.args.self.now c.requires.starts.ready c.args.node refl
@@ -27,41 +34,39 @@ go_on-requires g c = record {
 pub end_walk-requires-clause-passed : goal.end_walk-requires-clause-passed
 end_walk-requires-clause-passed g c = λ off. passed-can c.args.self.now c.requires.starts.ready
     c.args.node refl c.requires.next c.add.new.self.nodes
-    (c.add.ensures ∙ ap (λ nodes. c.args.node ∷ nodes) c.reserve.ensures.nodes)
+    c.add.ensures
     c.in-End.ensures.row (sym c.args.self.now.migrates_so ∙ off)
 
 pub end_walk-requires-clause-next : goal.end_walk-requires-clause-next
 end_walk-requires-clause-next g c = λ off. passed-suits c.args.self.now c.requires.starts.ready
     c.args.node refl c.requires.next c.add.new.self.nodes
-    (c.add.ensures ∙ ap (λ nodes. c.args.node ∷ nodes) c.reserve.ensures.nodes)
+    c.add.ensures
     c.in-End.ensures.row (sym c.args.self.now.migrates_so ∙ off)
 
 pub end_walk-requires-clause-next_on : goal.end_walk-requires-clause-next_on
 end_walk-requires-clause-next_on g c = λ on none. absurd
-    (let no : c.args.node ∷ c.reserve.new.self.nodes ≡ [] = sym c.add.ensures ∙ none in cc)
+    (let no : c.args.node ∷ c.args.self.now.passed.nodes ≡ [] = sym c.add.ensures ∙ none in cc)
 
 pub returns-in-Rest-clause-row : goal.returns-in-Rest-clause-row
 returns-in-Rest-clause-row g c =
     let s = c.args.self.now in
     on_ok_weaker c.go_on.result
     (λ is. row-done s c.requires.starts.ready TakeLink Rests Begin refl
-    (ap begins c.requires.next) c.in-Rest.ensures.row
-    (is ∙ ap (λ nodes. onward (setup_for s) s.number (record (ready_of s) { passed = nodes }))
-    c.reserve.ensures.nodes))
+    (ap begins c.requires.next) c.in-Rest.ensures.row is)
     c.go_on.ensures.actor
 
 pub returns-in-End-clause-row : goal.returns-in-End-clause-row
 returns-in-End-clause-row g c = on_ok_weaker c.end_walk.result
     (λ is. passed-ended c.args.self.now c.requires.starts.ready c.args.node refl c.requires.next
     c.add.new.self.nodes
-    (c.add.ensures ∙ ap (λ nodes. c.args.node ∷ nodes) c.reserve.ensures.nodes)
+    c.add.ensures
     c.in-End.ensures.row (is Begin))
     c.end_walk.ensures.actor
 
 pub returns-in-Next-clause-row : goal.returns-in-Next-clause-row
 returns-in-Next-clause-row g c = passed-next c.args.self.now c.requires.starts.ready c.args.node
     refl c.requires.next c.add-in-Next.new.self.nodes
-    (c.add-in-Next.ensures ∙ ap (λ nodes. c.args.node ∷ nodes) c.reserve.ensures.nodes)
+    c.add-in-Next.ensures
     c.in-Next.older c.in-Next.ensures.row
     (ap (λ stage. record (actor_of c.args.self.now) {
       stage = stage;
