@@ -4,3 +4,4 @@ pub mod Searched
 pub mod Ranked
 pub mod Orders
 pub mod Firsts
+pub mod Lasts

@@ -25,6 +25,12 @@ fits need r = nat_le need r.carrier.fit
 abbrev pub refit : ℕ → Rank → Rank
 refit fit r = record { key = r.key; carrier = record { key = r.carrier.key; fit = fit } }
 
+-- the carrier is one of them, its key is at most `key`, and no other such key is greater
+pub record IsLastUpTo (key : ℕ) (rs : List Rank) (r : Rank) : Type 0 where
+  pub there : item_at rank_key rs r.key ≡ Some r
+  pub low : r.key ≤ key
+  pub last : All (λ s. s.key ≤ key → s.key ≤ r.key) rs
+
 -- the value at the place is the fit of the carrier there, and 0 after the last one
 abbrev pub IsFitAt : List Rank → List ℕ → ℕ → Type 0
 IsFitAt rs values p = slice_index values p ≡ slice_index (map fit_of rs) p

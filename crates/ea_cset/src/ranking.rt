@@ -1,10 +1,11 @@
 //! Carriers in an order, and the first of them that fits.
-ghost use Rattle.std.specs.Prelude.{◌≡◌, ◌≢◌, ◌+◌, ◌^◌, ◌<◌, ◌≤◌, [], All, AllPairs, IsSome, IfOk};
+ghost use Rattle.std.specs.Prelude.{◌≡◌, ◌≢◌, ◌+◌, ◌^◌, ◌<◌, ◌≤◌, ◌↔◌, [], All, AllPairs, IfOk};
+ghost use Rattle.std.specs.Prelude.{IfSome, IsNone, IsSome};
 ghost use Rattle.std.specs.Prelude.{find, insert, length, option_map, vec_capacity, vec_len};
 ghost use Rattle.std.specs.List.{position_or_len};
 ghost use Rattle.ea_model.specs.Keyed.{changed_at, entered, has_key, is_after, item_at, IsBelow};
 ghost use Rattle.ea_model.specs.Keyed.{without};
-ghost use Rattle.ea_cset.specs.Ranks.{fits, rank_key, refit, AreFits, IsWritten};
+ghost use Rattle.ea_cset.specs.Ranks.{fits, rank_key, refit, AreFits, IsLastUpTo, IsWritten};
 
 use crate::keys::CarrierFit;
 use ea_model::OutOfMemory;
@@ -100,6 +101,14 @@ impl Ranking {
         let place = self.tree.first_at_least(need)?;
         Some(self.ranks[place as usize].carrier)
     }
+
+    /// The carrier of the greatest key of at most `key`, or None where all have greater ones.
+    pub fn last_up_to(&self, key: u64) -> Option<Rank>
+        ensures last { IfSome result (IsLastUpTo key self.now.ranks) }
+        ensures none { IsNone result ↔ All (λ r. key < r.key) self.now.ranks }
+    {
+        last_in(key, &self.ranks)
+    }
 }
 
 /// The place of the carrier with the key, which is there.
@@ -125,6 +134,19 @@ fn place_for(key: u64, ranks: &[Rank]) -> usize
     match ranks.binary_search_by_key(&key, |rank| rank.key) {
         Ok(_) => unreachable!(),
         Err(place) => place,
+    }
+}
+
+/// The carrier of the greatest key of at most `key`, or None where all have greater ones.
+fn last_in(key: u64, ranks: &[Rank]) -> Option<Rank>
+    requires rising { AllPairs (IsBelow rank_key) ranks.now }
+    ensures last { IfSome result (IsLastUpTo key ranks.now) }
+    ensures none { IsNone result ↔ All (λ r. key < r.key) ranks.now }
+{
+    match ranks.binary_search_by_key(&key, |rank| rank.key) {
+        Ok(place) => Some(ranks[place]),
+        Err(0) => None,
+        Err(place) => Some(ranks[place - 1]),
     }
 }
 

@@ -1,5 +1,5 @@
 //! The set and its calls.
-ghost use Rattle.std.specs.Prelude.{◌≡◌, ◌≢◌, ℕ, ◌+◌, ◌<◌, ◌↔◌, [], ◌==◌};
+ghost use Rattle.std.specs.Prelude.{◌≡◌, ◌≢◌, ℕ, ◌+◌, ◌<◌, ◌≤◌, ◌↔◌, [], ◌==◌};
 ghost use Rattle.std.specs.Prelude.{if◌then◌else◌, All, AllPairs, Some, None, IsTrue};
 ghost use Rattle.std.specs.Prelude.{IsNone, IfSome, IfOk, get_or, length, is_some, option_map};
 ghost use Rattle.ea_model.specs.Keyed.{entered, without};
@@ -170,6 +170,18 @@ impl CarrierSet {
         ensures rising { AllPairs IsBefore self.now.held }
     {
         self.found(self.by_age.first(need))
+    }
+
+    /// The carrier of the highest base of at most `base`, or None where all have higher ones.
+    pub fn last_up_to(&self, base: u32) -> Option<Found>
+        ensures last { IfSome result
+            (λ f. (f.carrier.key.base ≤ base)
+            × All (λ h. h.key.base ≤ base → h.key.base ≤ f.carrier.key.base) self.now.held) }
+        ensures none { IsNone result ↔ All (λ h. base < h.key.base) self.now.held }
+        ensures stands { IfSome result (StandsIn self.now.held) }
+    {
+        let last = self.by_address.last_up_to(base as u64);
+        self.found(last.map(|rank: Rank| rank.carrier))
     }
 
     /// What is held of a carrier, with its place.

@@ -73,6 +73,26 @@ fn a_number_finds_the_place_of_its_carrier(rt: HostRuntime) -> Result<(), Fail> 
 }
 
 #[test]
+fn a_base_finds_the_carrier_that_begins_last_up_to_it(rt: HostRuntime) -> Result<(), Fail> {
+    let mut set = four(rt.alloc())?;
+    set.remove(3);
+    for (base, last) in [
+        (0, None),
+        (99, None),
+        (100, Some(5)),
+        (101, Some(5)),
+        (299, Some(5)),
+        (300, Some(1)),
+        (899, Some(1)),
+        (900, Some(258)),
+        (u32::MAX, Some(258)),
+    ] {
+        assert_eq!(rt; number(set.last_up_to(base)), last);
+    }
+    Ok(())
+}
+
+#[test]
 fn an_empty_set_finds_none(rt: HostRuntime) -> Result<(), Fail> {
     let set = CarrierSet::new(rt.alloc(), 250)?;
     assert_eq!(rt; number(set.first_by_address(0)), None);

@@ -6,7 +6,7 @@ use Rattle.std.specs.List.Sorted.{IsPermutation}
 use Rattle.std.proofs.lemmas.List.{map-append}
 use Rattle.std.proofs.lemmas.List.Sorted.{All-permutation, IsPermutation-sym, IsPermutation-trans}
 use Rattle.ea_model.specs.declared.carriers.Candidate.{Candidate}
-use Rattle.ea_model.specs.Content.{Content, gap, gaps_of, gap_at, gap_before, gap_behind}
+use Rattle.ea_model.specs.Content.{Content, gap, gaps, gaps_of, gap_at, gap_before, gap_behind}
 use Rattle.ea_model.specs.Content.{gap_up_to, largest, placed, released, taken_of}
 use Rattle.ea_model.specs.Instance.{changed, content_of, with_content, without_content}
 use Rattle.ea_model.specs.declared.carriers.Gap as model
@@ -31,7 +31,7 @@ use Rattle.ea_employed.specs.Listed.{all_gaps}
 use Rattle.ea_mbc.specs.declared.carrier.Freed.{Freed}
 use Rattle.ea_mbc.specs.declared.carrier.Placed.{Placed}
 use Rattle.ea_employed.proofs.Gaps.{at_base, at_gap, gap_from-some, gaps-replaced}
-use Rattle.ea_employed.proofs.Gaps.{gaps-with, gaps-without, empty_gaps}
+use Rattle.ea_employed.proofs.Gaps.{gaps-with, gaps-without, empty_gaps, largest_gap}
 use Rattle.ea_employed.proofs.Listed.{first-alone, DifferIn}
 use Rattle.ea_employed.proofs.Located.{gaps-distinct}
 
@@ -65,6 +65,12 @@ module _ (x : Content) (sound : IsLaidOut x) (none : x.blocks ≡ []) (address f
       (Hold-permuted bins (gap_from address fit ++ all_gaps cs) (all_gaps (with_content x cs))
       (IsPermutation-sym (all_gaps (with_content x cs)) (gap_from address fit ++ all_gaps cs)
       (with_own cs)) h)
+
+  -- it has few enough units
+  pub entered-size : fit + 1 < 2 ^ 32
+  entered-size =
+      let one : gaps_of x ≡ gap 8 x.units = ap (gaps 8 x.units) none in
+      omega (arith, fits ∙ ap largest one ∙ largest_gap 8 x.units, sound.low)
 
   -- no other gap begins there
   pub entered-free : (cs : List Content) (bins : Option HeldGaps) → AreLaid cs
@@ -123,6 +129,7 @@ pub record IsCut (old new : List BinnedGap) (address whole size : ℕ) : Type 0 
   pub some : 0 < whole
   pub within : size ≤ whole
   pub fits : address + whole < 2 ^ 32
+  pub bounded : whole + 1 < 2 ^ 32
   pub rest : List BinnedGap
   pub was : IsPermutation old (gap_from address whole ++ rest)
   pub is : IsPermutation new (gap_from (address + size) (whole - size) ++ rest)
@@ -138,6 +145,7 @@ module _ (old new : List BinnedGap) (address whole size : ℕ)
         some = cut.some;
         within = cut.within;
         fits = cut.fits;
+        bounded = cut.bounded;
         rest = cut.rest;
         order = IsPermutation-trans b.held old (gap_from address whole ++ cut.rest) h cut.was;
         free = cut.free;
@@ -156,6 +164,7 @@ module _ (old new : List BinnedGap) (address whole size : ℕ)
 pub record IsJoin (old new : List BinnedGap) (address before size after : ℕ) : Type 0 where
   pub within : before ≤ address
   pub fits : address + size + after < 2 ^ 32
+  pub bounded : before + size + after + 1 < 2 ^ 32
   pub rest : List BinnedGap
   pub was : IsPermutation old
       (gap_from (address - before) before ++ (gap_from (address + size) after ++ rest))
@@ -171,6 +180,7 @@ module _ (old new : List BinnedGap) (address before size after : ℕ)
       (λ b h. record {
         within = join.within;
         fits = join.fits;
+        bounded = join.bounded;
         rest = join.rest;
         order = IsPermutation-trans b.held old
             (gap_from (address - before) before ++ (gap_from (address + size) after ++ join.rest))
@@ -250,6 +260,7 @@ module _ (f : Content → Content) (k : KeepsPlace f) (n : ℕ) (item : Content)
       some = inside.some;
       within = within;
       fits = omega (arith, e, inside.within, here.low);
+      bounded = omega (arith, inside.within, here.low);
       rest = replaced.0;
       was = subst (λ gs. IsPermutation (all_gaps cs) (gs ++ replaced.0)) was replaced.1;
       is = cut_now;
@@ -318,6 +329,7 @@ module _ (f : Content → Content) (k : KeepsPlace f) (n : ℕ) (item : Content)
     is-join = record {
       within = omega (arith, e, within);
       fits = omega (arith, e, within, joined_inside.within, k.units item, here.low);
+      bounded = omega (arith, joined_inside.within, k.units item, here.low);
       rest = joined.0;
       was = subst (IsPermutation (all_gaps cs))
           (append_assoc (gap_from (address - before) before) (gap_from (address + size) after)

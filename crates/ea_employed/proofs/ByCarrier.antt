@@ -214,14 +214,14 @@ module _ (s : Strategy) (comes_first : CarrierFit → CarrierFit → Bool) (goes
 pub choice-first : (s : Strategy) (comes_first : CarrierFit → CarrierFit → Bool)
     → GoesBy s comes_first
     → (need : ℕ) → 1 ≤ need
-    → (t : Strategy) (cs now : List Content) (set : Carriers) (bins : Option HeldGaps)
-    → IsListed t cs set bins → cs ≡ now → AreLaid now
+    → (t : Strategy) (units : ℕ) (cs now : List Content) (set : Carriers) (bins : Option HeldGaps)
+    → IsListed t units cs set bins → cs ≡ now → AreLaid now
     → (number : Option ℕ) (found : Option Candidate)
     → number ≡ first_number comes_first need set.held
     → found ≡ option_and_then (candidate_in (inner_of s) need now) number
     → found ≡ first (takes_first s) (large_enough need (candidates now))
-choice-first s comes_first goes need some t cs now set bins listed seen laid number found first_is
-    is =
+choice-first s comes_first goes need some t units cs now set bins listed seen laid number found
+    first_is is =
     let held : set.held ≡ map held_of now = listed.held ∙ ap (map held_of) seen in
     is ∙ ap (option_and_then (candidate_in (inner_of s) need now)) (first_is
     ∙ ap (first_number comes_first need) held)

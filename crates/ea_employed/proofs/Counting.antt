@@ -99,7 +99,7 @@ module _ {A : Type 0} (key_of : A → ℕ) (key : ℕ) (x : A) where
         sum-without (λ _. 1) xs rising there,
       )
 
-sum-entered : (g : Content → ℕ) (x : Content) (cs : List Content)
+pub sum-entered : (g : Content → ℕ) (x : Content) (cs : List Content)
     → sum_by g (with_content x cs) ≡ sum_by g cs + g x
 sum-entered g x cs = omega (arith, sum-merged number_of g (x ∷ []) cs, sum_by-cons g x [])
 

@@ -18,12 +18,10 @@ use Rattle.ea_model.specs.Choice.{before, better, first, fitting, choice}
 use Rattle.ea_laws.proofs.Orders.{takes_first-order}
 use Rattle.ea_model.specs.Strategies.{candidate, candidates, candidates_in}
 use Rattle.ea_model.specs.Strategies.{takes_first, inner_of, large_enough, lower}
-use Rattle.ea_model.specs.declared.carriers.Inner.{Inner}
 use Rattle.ea_model.specs.declared.carriers.Inner.TheVariants as inner
 use Rattle.ea_employed.specs.Better.{better_of}
 use Rattle.ea_employed.specs.Choices.{candidate_of, IsChoice, IsChosenIn}
 use Rattle.ea_employed.specs.declared.choice.Choice.{Choice}
-use Rattle.ea_employed.specs.Searches.{is_better}
 
 -- inside a carrier a strategy goes by its inner order
 same_bf : (c : Content) (g h : Gap)
@@ -83,7 +81,7 @@ better-map f b t same best x =
           ∙ sym (ap f (cond-false (b x best) x best loses))
     ]
 
-fold-better-map : {A B : Type 0} (f : A → B) (b : A → A → Bool) (t : B → B → Bool)
+pub fold-better-map : {A B : Type 0} (f : A → B) (b : A → A → Bool) (t : B → B → Bool)
     → ((x y : A) → t (f x) (f y) ≡ b x y) → (best : Option A) (xs : List A)
     → fold (better t) (option_map f best) (map f xs) ≡ option_map f (fold (better b) best xs)
 fold-better-map f b t same best [] = refl
@@ -108,7 +106,8 @@ filter-map_more f p x xs more =
           (cond-false (p (f x)) (x ∷ filter (λ y. p (f y)) xs) (filter (λ y. p (f y)) xs) loses))
     ]
 
-filter-map : {A B : Type 0} (f : A → B) (p : B → Bool) (xs : List A)
+-- what passes of what a function makes is made of what passes
+pub filter-map : {A B : Type 0} (f : A → B) (p : B → Bool) (xs : List A)
     → filter p (map f xs) ≡ map f (filter (λ y. p (f y)) xs)
 filter-map f p [] = refl
 filter-map f p (x ∷ xs) = filter-map_more f p x xs (filter-map f p xs)
@@ -190,18 +189,7 @@ better_of-either P t a None p q = p
 better_of-either P t None (Some y) p q = q
 better_of-either P t (Some x) (Some y) p q = cond_both (t y x) y x P (λ _. q) (λ _. p)
 
--- the same of gaps that are compared as inside a carrier
-pub choice_more-inner : (i : Inner) (need : ℕ) (best : Option Candidate) (c : Content)
-    (cs : List Content) → candidates_in c.kind c ≡ map (candidate c) (gaps_of c)
-    → fold (better (is_better i)) best (large_enough need (candidates (c ∷ cs))) ≡ fold
-    (better (is_better i))
-    (better_of (is_better i) best (option_map (candidate c) (choice i need (gaps_of c))))
-    (large_enough need (candidates cs))
-choice_more-inner inner.Bf need best c cs shared = choice_more Bf need best c cs shared
-choice_more-inner inner.Aobf need best c cs shared = choice_more Aobf need best c cs shared
-choice_more-inner inner.Aoff need best c cs shared = choice_more Aoff need best c cs shared
-
--- and of the gaps of carriers without blocks
+-- the same of the gaps of carriers without blocks
 module _ (need : ℕ) (best : Option Candidate) (c : Content) (cs : List Content) where
   abbrev of_empty : List Content → Option Candidate → Option Candidate
   of_empty ds o = fold (better lower) o (large_enough need (candidates (filter is_empty_multi ds)))

@@ -31,10 +31,10 @@ abbrev pub at_base : ℕ → model.Gap → BinnedGap
 at_base base g = record { address = 512 * base + g.offset; size = g.size }
 
 -- the gaps of one carrier, as the bins know them
-abbrev own_gaps : Content → List BinnedGap
+abbrev pub own_gaps : Content → List BinnedGap
 own_gaps c = map gap_of (candidates_in c.kind c)
 
-own_and_more : (c : Content) (cs : List Content) → all_gaps (c ∷ cs) ≡ own_gaps c ++ all_gaps cs
+pub own_and_more : (c : Content) (cs : List Content) → all_gaps (c ∷ cs) ≡ own_gaps c ++ all_gaps cs
 own_and_more c cs = map-append gap_of (candidates_in c.kind c) (candidates cs)
 
 own_only : (c : Content) → all_gaps (c ∷ []) ≡ own_gaps c
@@ -51,7 +51,8 @@ own_by_kind Main c h = own_mapped c (gaps_of c)
 own_by_kind Multi c h = own_mapped c (gaps_of c)
 own_by_kind Single c h = absurd cc
 
-own_shared : (c : Content) → is_shared c.kind ≡ true → own_gaps c ≡ map (at_base c.base) (gaps_of c)
+pub own_shared : (c : Content) → is_shared c.kind ≡ true
+    → own_gaps c ≡ map (at_base c.base) (gaps_of c)
 own_shared c h = own_by_kind c.kind c h
 
 pub gap_from-some : (address size : ℕ) → 0 < size
@@ -71,7 +72,7 @@ at_gap base a b =
           ∙ sym (gap_from-none (512 * base + a) (b - a) (omega arith))
     ]
 
-largest_gap : (a b : ℕ) → largest (gap a b) ≡ b - a
+pub largest_gap : (a b : ℕ) → largest (gap a b) ≡ b - a
 largest_gap a b = elim (cases_lt a b) [
   | inl lt ↦ ap largest (gap_some a b lt)
       ∙ omega arith
@@ -126,7 +127,8 @@ pub gaps-with : (x : Content) (cs : List Content)
 gaps-with x cs = subst (λ l. IsPermutation (all_gaps (with_content x cs)) (l ++ all_gaps cs))
     (sym (own_only x)) (with_own x cs)
 
-found_here : (n : ℕ) (x c : Content) (xs : List Content) → x.number ≡ n
+-- what is found of a first content with the number is that content
+pub found_here : (n : ℕ) (x c : Content) (xs : List Content) → x.number ≡ n
     → content_of (x ∷ xs) n ≡ Some c → x ≡ c
 found_here n x c xs e h = let same : Some x ≡ Some c = sym (item_here number_of n x xs e) ∙ h in cc
 

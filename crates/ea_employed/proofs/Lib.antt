@@ -1,3 +1,4 @@
+pub mod AddressFit
 pub mod BinsAfter
 pub mod ByCarrier
 pub mod Changed
@@ -5,9 +6,10 @@ pub mod Changing
 pub mod Choosing
 pub mod Counting
 pub mod Folding
+pub mod GapCarrier
 pub mod Gaps
 pub mod Listed
 pub mod Located
-pub mod Missing
+pub mod Places
 pub mod Resizing
 pub mod TwoCarriers

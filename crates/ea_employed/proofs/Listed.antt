@@ -2,7 +2,8 @@
 use Rattle.std.proofs.Common.{◌≡◌, ◌<◌, ◌≤◌, ◌≢◌, ℕ, true, false, List, [], ◌∷◌, map, All}
 use Rattle.std.proofs.Common.{AllPairs, get_or, length, sym, ap, ◌∙◌, subst, refl, inl, inr, arith}
 use Rattle.std.proofs.Common.{suc, Bool}
-use Rattle.std.specs.Prelude.{Option, IfSome, IsSome, None, Some, is_some, option_map, ◌==◌}
+use Rattle.std.specs.Prelude.{Option, IfSome, IsSome, None, Some, is_some, option_map, sum_by}
+use Rattle.std.specs.Prelude.{◌+◌, ◌==◌}
 use Rattle.std.proofs.lemmas.Bool.{cases_eq}
 use Rattle.std.proofs.lemmas.List.Elements.{All-head, All-tail}
 use Rattle.ea_model.specs.Content.{Content, gaps_of, largest}
@@ -22,15 +23,15 @@ use Rattle.std.specs.List.Sorted.{IsPermutation}
 use Rattle.std.proofs.lemmas.Map.Keys.{IsDistinct-IsPermutation}
 use Rattle.std.proofs.lemmas.Map.Keys.{IsDistinct-from_apart, apart_from_distinct}
 use Rattle.ea_model.specs.declared.settings.Strategy.{Strategy}
-use Rattle.ea_model.specs.declared.settings.Strategy.TheVariants.{Gf}
 use Rattle.ea_goodfit.specs.declared.gaps.BinnedGap.{BinnedGap}
 use Rattle.ea_goodfit.specs.Gaps.{HeldGaps}
 use Rattle.ea_laws.specs.Kept.{number_of, IsRising}
-use Rattle.ea_employed.specs.Binned.{Hold}
+use Rattle.ea_employed.specs.Binned.{fit_in, has_bins, HavePlaces, Hold}
 use Rattle.ea_employed.specs.Listed.{all_gaps, held_of, IsListed}
 use Rattle.ea_laws.proofs.Changed.{KeepsPlace}
 use Rattle.ea_laws.proofs.Apart.{only-item}
 use Rattle.ea_laws.proofs.Contents.{absent-none}
+use Rattle.ea_employed.proofs.Counting.{sum-changed, sum-entered, sum-without, units_in}
 
 -- a carrier that is listed is held
 pub held-some : (n : ℕ) (cs : List Content) → IsSome (content_of cs n)
@@ -53,13 +54,18 @@ pub found-within : (cs : List Content) (f : Found) → StandsIn (map held_of cs)
     → f.index < length cs
 found-within cs f stands = omega (arith, stands.0, length-map cs held_of)
 
+pub found-held : (cs : List Content) (f : Found) (item : Content) → StandsIn (map held_of cs) f
+    → item ≡ get_or cs f.index item → held_of item ≡ f.carrier
+found-held cs f item stands is =
+    ap held_of is ∙ sym (get_or-map held_of cs f.index item f.carrier (found-within cs f stands))
+    ∙ stands.1
+
 pub found-there : (cs : List Content) (f : Found) (item : Content) → IsRising cs
     → StandsIn (map held_of cs) f → item ≡ get_or cs f.index item
     → content_of cs f.carrier.key.number ≡ Some item
 found-there cs f item rising stands is =
     let within = found-within cs f stands in
-    let same : held_of item ≡ f.carrier =
-    ap held_of is ∙ sym (get_or-map held_of cs f.index item f.carrier within) ∙ stands.1 in
+    let same = found-held cs f item stands is in
     ap (content_of cs) (ap (λ (x : CarrierFit). x.key.number) (sym same) ∙ ap number_of is)
     ∙ item_at-each number_of f.index item cs rising within ∙ ap Some (sym is)
 
@@ -137,64 +143,87 @@ module _ (f : Content → Content) (k : KeepsPlace f) (n : ℕ) (item : Content)
       ]
 
   -- the list, the set and the bins with a changed carrier
-  pub IsListed-changed : (s : Strategy) (cs new : List Content) (fit : ℕ) (set after : Carriers)
-      (bins left : Option HeldGaps) → content_of cs n ≡ Some item → IsRising cs
-      → IsListed s cs set bins → new ≡ changed f n cs → fit ≡ largest (gaps_of (f item))
-      → after ≡ record set { held = refitted n fit set.held } → is_some left ≡ is_some bins
-      → Hold left (all_gaps new) → IsListed s new after left
-  IsListed-changed s cs new fit set after bins left there rising l is fits e same gaps = record {
-    held =
-        ap (λ (x : Carriers). x.held) e ∙ ap (refitted n fit) l.held
-        ∙ ap (λ m. refitted n m (map held_of cs)) fits
-        ∙ held-changed cs (only-item n item cs rising there) ∙ sym (ap (map held_of) is);
-    room = subst (λ (x : Carriers). 4096 ≤ x.room) (sym e) l.room;
-    some = (λ gf. same ∙ l.some.0 gf, λ h. l.some.1 (sym same ∙ h));
-    gaps = gaps;
-  }
+  pub IsListed-changed : (s : Strategy) (units : ℕ) (cs new : List Content) (fit : ℕ)
+      (set after : Carriers) (bins left : Option HeldGaps) → content_of cs n ≡ Some item
+      → IsRising cs → IsListed s units cs set bins → new ≡ changed f n cs
+      → fit ≡ largest (gaps_of (f item))
+      → after ≡ record set { held = refitted n fit set.held } → fit_in left ≡ fit_in bins
+      → ((n : ℕ) → HavePlaces n bins → HavePlaces n left) → Hold left (all_gaps new)
+      → IsListed s units new after left
+  IsListed-changed s units cs new fit set after bins left there rising l is fits e same kept gaps =
+      record {
+        held =
+            ap (λ (x : Carriers). x.held) e ∙ ap (refitted n fit) l.held
+            ∙ ap (λ m. refitted n m (map held_of cs)) fits
+            ∙ held-changed cs (only-item n item cs rising there) ∙ sym (ap (map held_of) is);
+        room = subst (λ (x : Carriers). 4096 ≤ x.room) (sym e) l.room;
+        fit = same ∙ l.fit;
+        gaps = gaps;
+        places = kept units l.places;
+        few = λ yes. omega (
+          arith,
+          l.few yes,
+          ap (sum_by units_in) is,
+          sum-changed number_of n item units_in f cs rising there,
+          k.units item,
+        );
+      }
 
 -- with one carrier more
-pub IsListed-entered : (s : Strategy) (cs new : List Content) (x : Content) (key : CarrierKey)
-    (fit : ℕ) (set after : Carriers) (bins left : Option HeldGaps) → IsListed s cs set bins
+pub IsListed-entered : (s : Strategy) (units : ℕ) (cs new : List Content) (x : Content)
+    (key : CarrierKey) (fit : ℕ) (set after : Carriers) (bins left : Option HeldGaps)
+    → IsListed s units cs set bins
+    → (has_bins s ≡ true → sum_by (λ c. c.units) cs + x.units ≤ units)
     → new ≡ with_content x cs → key ≡ (held_of x).key → fit ≡ largest (gaps_of x)
     → after ≡ record set { held = entered set_number (record { key = key; fit = fit }) set.held }
-    → is_some left ≡ is_some bins → Hold left (all_gaps new) → IsListed s new after left
-IsListed-entered s cs new x key fit set after bins left l is keyed fits e same gaps = record {
-  held =
-      ap (λ (c : Carriers). c.held) e
-      ∙ ap (entered set_number (record { key = key; fit = fit })) l.held
-      ∙ ap (λ j. entered set_number (record { key = j; fit = fit }) (map held_of cs)) keyed
-      ∙ ap (λ m. entered set_number (record { key = (held_of x).key; fit = m }) (map held_of cs))
-      fits
-      ∙ entered-map set_number held_of x cs ∙ sym (ap (map held_of) is);
-  room = subst (λ (c : Carriers). 4096 ≤ c.room) (sym e) l.room;
-  some = (λ gf. same ∙ l.some.0 gf, λ h. l.some.1 (sym same ∙ h));
-  gaps = gaps;
-}
+    → fit_in left ≡ fit_in bins → ((n : ℕ) → HavePlaces n bins → HavePlaces n left)
+    → Hold left (all_gaps new) → IsListed s units new after left
+IsListed-entered s units cs new x key fit set after bins left l few is keyed fits e same kept gaps =
+    record {
+      held =
+          ap (λ (c : Carriers). c.held) e
+          ∙ ap (entered set_number (record { key = key; fit = fit })) l.held
+          ∙ ap (λ j. entered set_number (record { key = j; fit = fit }) (map held_of cs)) keyed
+          ∙ ap (λ m. entered set_number (record { key = (held_of x).key; fit = m })
+          (map held_of cs)) fits
+          ∙ entered-map set_number held_of x cs ∙ sym (ap (map held_of) is);
+      room = subst (λ (c : Carriers). 4096 ≤ c.room) (sym e) l.room;
+      fit = same ∙ l.fit;
+      gaps = gaps;
+      places = kept units l.places;
+      few = λ yes. omega (arith, few yes, ap (sum_by units_in) is, sum-entered units_in x cs);
+    }
 
 -- with one carrier less
-pub IsListed-left : (s : Strategy) (cs new : List Content) (n : ℕ) (set after : Carriers)
-    (bins left : Option HeldGaps) → IsListed s cs set bins → new ≡ without_content n cs
-    → after ≡ record set { held = without set_number n set.held } → is_some left ≡ is_some bins
-    → Hold left (all_gaps new) → IsListed s new after left
-IsListed-left s cs new n set after bins left l is e same gaps = record {
+pub IsListed-left : (s : Strategy) (units : ℕ) (cs new : List Content) (n : ℕ) (x : Content)
+    (set after : Carriers) (bins left : Option HeldGaps) → content_of cs n ≡ Some x
+    → IsRising cs → IsListed s units cs set bins → new ≡ without_content n cs
+    → after ≡ record set { held = without set_number n set.held } → fit_in left ≡ fit_in bins
+    → ((n : ℕ) → HavePlaces n bins → HavePlaces n left) → Hold left (all_gaps new)
+    → IsListed s units new after left
+IsListed-left s units cs new n x set after bins left there rising l is e same kept gaps = record {
   held =
       ap (λ (c : Carriers). c.held) e ∙ ap (without set_number n) l.held
       ∙ without-map set_number held_of n cs ∙ sym (ap (map held_of) is);
   room = subst (λ (c : Carriers). 4096 ≤ c.room) (sym e) l.room;
-  some = (λ gf. same ∙ l.some.0 gf, λ h. l.some.1 (sym same ∙ h));
+  fit = same ∙ l.fit;
   gaps = gaps;
+  places = kept units l.places;
+  few = λ yes. omega (
+    arith,
+    l.few yes,
+    ap (sum_by units_in) is,
+    sum-without number_of n x units_in cs rising there,
+  );
 }
 
--- where the strategy isn't good fit there are no bins
-pub no_bins : (s : Strategy) (cs : List Content) (set : Carriers) (bins : Option HeldGaps)
-    → IsListed s cs set bins → s ≢ Gf → bins ≡ None
-no_bins s cs set None l other = refl
-no_bins s cs set (Some b) l other = absurd (other (l.some.1 refl))
-
-pub no_bins-Hold : (s : Strategy) (cs : List Content) (set : Carriers) (bins : Option HeldGaps)
-    → IsListed s cs set bins → s ≢ Gf → (gs : List BinnedGap) → Hold bins gs
-no_bins-Hold s cs set bins l other gs =
-    subst (λ o. Hold o gs) (sym (no_bins s cs set bins l other)) tt
+-- where the strategy has no bins there are none
+pub no_bins-Hold : (s : Strategy) (units : ℕ) (cs : List Content) (set : Carriers)
+    (bins : Option HeldGaps) → IsListed s units cs set bins → has_bins s ≡ false
+    → (gs : List BinnedGap) → Hold bins gs
+no_bins-Hold s units cs set None l none gs = tt
+no_bins-Hold s units cs set (Some b) l none gs =
+    absurd (let has : has_bins s ≡ true = ap is_some (sym l.fit) in cc)
 
 -- gaps at different addresses stay so in another order
 abbrev pub DifferIn : List BinnedGap → Type 0

@@ -1,7 +1,7 @@
 -- The carriers and their bins where a block has another size.
 use Rattle.std.proofs.Common.{◌≡◌, ℕ, ◌+◌, ◌-◌, ◌<◌, ◌≤◌, List, [], ◌∷◌, ◌++◌}
 use Rattle.std.proofs.Common.{append-nil, map, sym, ap, ◌∙◌, subst, refl, arith}
-use Rattle.std.specs.Prelude.{Option}
+use Rattle.std.specs.Prelude.{Option, sum_by}
 use Rattle.std.proofs.lemmas.List.Sorted.{IsPermutation-sym, IsPermutation-trans}
 use Rattle.ea_model.specs.declared.carriers.Gap as model
 use Rattle.ea_model.specs.declared.settings.Strategy.{Strategy}
@@ -23,6 +23,7 @@ use Rattle.ea_employed.specs.Listed.{all_gaps, held_of, IsListed}
 use Rattle.ea_mbc.specs.declared.carrier.Resized.{Resized}
 use Rattle.ea_employed.proofs.BinsAfter.{is-cut, is-join, Hold-permuted, IsCut, IsJoin}
 use Rattle.ea_employed.proofs.Changed.{map-kept}
+use Rattle.ea_employed.proofs.Counting.{sum-changed, units_in}
 use Rattle.ea_employed.proofs.Gaps.{at_base, gaps-replaced}
 
 -- another size, which the carrier gives, changes blocks alone
@@ -115,9 +116,10 @@ module _ (number offset : ℕ) (units : Content → ℕ) (name address : ℕ) (r
 
 -- another name changes neither the set nor the bins
 pub renaming-IsListed : (number offset name : ℕ) (cs new : List Content) (s : Strategy)
-    (set : Carriers) (bins : Option HeldGaps) → AreLaid cs → IsRenaming number offset name cs new
-    → IsListed s cs set bins → IsListed s new set bins
-renaming-IsListed number offset name cs new s set bins laid w l =
+    (units : ℕ) (set : Carriers) (bins : Option HeldGaps) → AreLaid cs
+    → IsRenaming number offset name cs new → IsListed s units cs set bins
+    → IsListed s units new set bins
+renaming-IsListed number offset name cs new s units set bins laid w l =
     let c = w.content in
     let f : Content → Content = λ d. resized d offset (size_of (block_at d.blocks offset)) name in
     let here = item_at-All number_of IsLaidOut number c cs laid.sound w.there in
@@ -134,9 +136,16 @@ renaming-IsListed number offset name cs new s set bins laid w l =
           }) w.gaps))
           ∙ sym (ap (map held_of) w.is);
       room = l.room;
-      some = l.some;
+      fit = l.fit;
       gaps = subst (λ ys. Hold bins (all_gaps ys)) (sym w.is)
           (Hold-permuted bins (all_gaps cs) (all_gaps (changed f number cs))
           (IsPermutation-trans (all_gaps cs) parts (all_gaps (changed f number cs)) all.1
           (IsPermutation-sym (all_gaps (changed f number cs)) parts all.2)) l.gaps);
+      places = l.places;
+      few = λ yes. omega (
+        arith,
+        l.few yes,
+        ap (sum_by units_in) w.is,
+        sum-changed number_of number c units_in f cs laid.rising w.there,
+      );
     }

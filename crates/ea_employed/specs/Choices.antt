@@ -23,11 +23,3 @@ pub record IsChoice (need : ℕ) (cs : List Content) (found : Choice) : Type 0 w
   pub within : found.index < length cs
   pub is : slice_index_or cs found.index content ≡ content
   pub chosen : IsChosenIn need content found.candidate
-
--- the candidate has the number of the content at the index, and an address of it
-pub record StandsAt (cs : List Content) (found : Choice) : Type 0 where
-  pub content : Content
-  pub within : found.index < length cs
-  pub is : slice_index_or cs found.index content ≡ content
-  pub number : found.candidate.number ≡ content.number
-  pub address : found.candidate.address ≡ PAGE_UNITS * content.base + found.candidate.offset

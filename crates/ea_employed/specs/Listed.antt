@@ -1,9 +1,9 @@
 -- The carriers of an instance, their set, and the bins of their gaps.
-use Rattle.std.specs.Prelude.{◌≡◌, ◌↔◌, ℕ, ◌+◌, ◌*◌, ◌-◌, ◌≤◌, Bool, ◌&&◌, if◌then◌else◌, nat_lt}
-use Rattle.std.specs.Prelude.{nat_le, List, [], ◌∷◌, Option, Some, None, IsSome, map, option_map}
+use Rattle.std.specs.Prelude.{◌≡◌, ℕ, ◌+◌, ◌*◌, ◌-◌, ◌≤◌, Bool, true, ◌&&◌}
+use Rattle.std.specs.Prelude.{nat_lt, nat_le, List, Option, map}
+use Rattle.std.specs.Prelude.{option_map, sum_by}
 use Rattle.std.specs.Option.{option_and_then}
 use Rattle.ea_model.specs.declared.settings.Strategy.{Strategy}
-use Rattle.ea_model.specs.declared.settings.Strategy.TheVariants.{Gf}
 use Rattle.ea_model.specs.declared.carriers.Inner.{Inner}
 use Rattle.ea_model.specs.declared.carriers.Candidate.{Candidate}
 use Rattle.ea_model.specs.Content.{Content, gaps_of, largest}
@@ -15,11 +15,13 @@ use Rattle.ea_cset.specs.Carriers.{Carriers}
 use Rattle.ea_goodfit.specs.declared.gaps.BinnedGap.{BinnedGap}
 use Rattle.ea_goodfit.specs.Gaps.{HeldGaps}
 use Rattle.ea_model.specs.declared.units.TheConstants.{MAX_SCHEDULERS, NUMBERS, PAGE_UNITS}
-use Rattle.ea_employed.specs.Binned.{Hold}
+use Rattle.ea_employed.specs.Binned.{fit_in, fit_of, has_bins, HavePlaces, Hold}
 
--- the carriers of an instance by rising number, and the strategy that chooses among their gaps
+-- the carriers of an instance by rising number, the strategy that chooses among their gaps, and how
+-- many units they may have together where it has bins
 pub record CarrierList : Type 0 where
   pub strategy : Strategy
+  pub units : ℕ
   pub contents : List Content
 
 -- what the set knows of a carrier: what tells it from the others, and its largest gap
@@ -36,14 +38,17 @@ gap_of x = record { address = x.address; size = x.size }
 abbrev pub all_gaps : List Content → List BinnedGap
 all_gaps cs = map gap_of (candidates cs)
 
--- the set holds the carriers and has room for as many as there are numbers, and there are bins
--- exactly under good fit, which hold all gaps
-pub record IsListed (strategy : Strategy) (list : List Content) (set : Carriers)
+-- the set holds the carriers and has room for as many as there are numbers; the strategy has its
+-- bins, which hold all gaps; and where there are bins the carriers have no more units than they
+-- may, and the bins have places for all gaps of that many units
+pub record IsListed (strategy : Strategy) (units : ℕ) (list : List Content) (set : Carriers)
     (bins : Option HeldGaps) : Type 0 where
   pub held : set.held ≡ map held_of list
   pub room : NUMBERS * MAX_SCHEDULERS ≤ set.room
-  pub some : (strategy ≡ Gf) ↔ IsSome bins
+  pub fit : fit_in bins ≡ fit_of strategy
   pub gaps : Hold bins (all_gaps list)
+  pub places : HavePlaces units bins
+  pub few : has_bins strategy ≡ true → sum_by (λ c. c.units) list ≤ units
 
 -- the gap that is chosen in a carrier
 abbrev pub chosen_in : Inner → ℕ → Content → Option Candidate
@@ -68,8 +73,3 @@ located g c = record {
   address = g.address;
   size = g.size;
 }
-
--- the gap as one of the first carrier that spans it
-abbrev pub candidate_at : BinnedGap → List Content → Option Candidate
-candidate_at g [] = None
-candidate_at g (c ∷ cs) = if spans g.address c then Some (located g c) else candidate_at g cs

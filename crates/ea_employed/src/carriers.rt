@@ -1,49 +1,52 @@
 //! The carriers that an instance employs.
-ghost use Rattle.std.specs.Prelude.{◌≡◌, ◌≢◌, ℕ, ◌*◌, ◌+◌, ◌%◌, ◌<◌, ◌≤◌, [], All, Some, None};
-ghost use Rattle.std.specs.Prelude.{true, false, IsSome, IfSome, IfOk, OnOk, OnErr, length};
-ghost use Rattle.std.specs.Prelude.{get_or, map, option_map};
+ghost use Rattle.std.specs.Prelude.{◌≡◌, ℕ, ◌*◌, ◌+◌, ◌%◌, ◌<◌, ◌≤◌, [], All, Some, None};
+ghost use Rattle.std.specs.Prelude.{true, false, IsSome, IfSome, IfOk, length};
+ghost use Rattle.std.specs.Prelude.{get_or, map, option_map, sum_by};
 ghost use Rattle.std.specs.Option.{option_and_then};
-ghost use Rattle.ea_model.specs.declared.settings.Strategy.TheVariants.{Gf, Af};
+ghost use Rattle.ea_model.specs.declared.settings.Strategy.TheVariants.{Af};
 ghost use Rattle.ea_model.specs.declared.units.TheConstants.{MAX_SCHEDULERS, MAX_UNITS};
 ghost use Rattle.ea_model.specs.declared.units.TheConstants.{MIN_BLOCK, NUMBERS, PAGE_UNITS};
 ghost use Rattle.ea_model.specs.Content.{Content, block_at, placed, released};
 ghost use Rattle.ea_model.specs.Content.{resized, size_of, taken_of};
-ghost use Rattle.ea_model.specs.Choice.{first};
-ghost use Rattle.ea_model.specs.Strategies.{candidates, choice_among, choice_empty};
-ghost use Rattle.ea_model.specs.Strategies.{inner_of, large_enough, may_miss, or_else};
+ghost use Rattle.ea_model.specs.Strategies.{choice_among, choice_empty, inner_of, may_miss};
+ghost use Rattle.ea_model.specs.Strategies.{or_else};
 ghost use Rattle.ea_model.specs.Instance.{changed, content_of, block_in, has_content, has_vacant};
 ghost use Rattle.ea_model.specs.Instance.{multis, size_for, with_content, without_content};
 ghost use Rattle.ea_model.specs.Instance as instances;
 ghost use Rattle.ea_mbc.specs.Gaps.{room_at};
 ghost use Rattle.ea_laws.specs.Kinds.{is_shared};
 ghost use Rattle.ea_laws.specs.Kept.{ContentsApart, IsLaidOut, IsWhole};
+ghost use Rattle.ea_employed.specs.Binned.{has_bins};
 ghost use Rattle.ea_employed.specs.Laid.{AreLaid};
 ghost use Rattle.ea_employed.specs.Choices.{candidate_of, IsChoice};
 ghost use Rattle.ea_cset.specs.Carriers.{number_found, StandsIn};
 ghost use Rattle.ea_employed.specs.Listed.{candidate_in, held_of};
-ghost use Rattle.ea_employed.specs.Searches.{is_better};
 
-use crate::binned::{bins_for, make_room, note_entered, note_left, note_placed, note_released};
+use crate::binned::{bins_for, note_entered, note_left, note_placed, note_released};
 use crate::choice::Choice;
 use crate::employed::Employed;
 use crate::figures::{
     no_figures, with_block, with_carrier, with_size, with_whole, without_block, without_whole,
 };
-use crate::strategies::{Search, inner_of, search_of};
-use crate::walks::{best_choice, choice_at, lowest_empty, multi_count};
+use crate::strategies::{Search, inner_of, may_miss, search_of};
+use crate::walks::{lowest_empty, multi_count};
 use ea_cset::{CarrierSet, Found};
 use ea_goodfit::{BinnedGap, Bins};
-use ea_model::keyed::{enter, enter_within, take_out};
-use ea_model::{Figures, Gap, HEADER_UNITS, MAX_SCHEDULERS, NUMBERS, OutOfMemory, Strategy};
+use ea_model::keyed::{enter_within, take_out};
+use ea_model::{
+    Figures, Gap, HEADER_UNITS, MAX_SCHEDULERS, NUMBERS, OutOfMemory, PAGE_UNITS, Strategy,
+};
 use std::alloc::Global;
 use std::marker::Model;
 
 /// The main and multiblock carriers that an instance employs, with what its strategy finds gaps by:
-/// a set of carriers, and under good fit bins of all gaps; and their figures. Contracts see the
-/// strategy, and the carriers' contents by rising number.
+/// a set of carriers, and under best fit, address order best fit and good fit bins of all gaps; and
+/// their figures. Contracts see the strategy, how many units the carriers may have together where
+/// there are bins, and the carriers' contents by rising number.
 #[derive(Drop)]
 pub struct Carriers {
     strategy: Strategy,
+    units: u32,
     list: Vec<Employed>,
     set: CarrierSet,
     bins: Option<Bins>,
@@ -58,27 +61,35 @@ impl Model for Carriers {
 
     ghost Value = { CarrierList };
 
-    ghost view = { λ c. record { strategy = c.strategy; contents = c.list.items } };
+    ghost view = { λ c. record {
+      strategy = c.strategy;
+      units = c.units;
+      contents = c.list.items;
+    } };
 
     ghost invariant = { λ c. record {
-      listed : IsListed c.strategy c.list.items c.set c.bins;
+      listed : IsListed c.strategy c.units c.list.items c.set c.bins;
       room : NUMBERS * MAX_SCHEDULERS ≤ vec_capacity c.list;
       counted : c.figures ≡ instances.figures c.list.items;
     } };
 }
 
 impl Carriers {
-    /// No carriers, and the memory for as many as there are numbers.
-    pub fn new(alloc: Global, strategy: Strategy) -> Result<Carriers, OutOfMemory>
-        ensures { IfOk result (λ c. c ≡ record { strategy = strategy; contents = [] }) }
+    /// No carriers. It takes the memory for as many as there are numbers, and where there are bins
+    /// for all gaps of carriers that have at most `units` units together. No other call takes any.
+    pub fn new(alloc: Global, strategy: Strategy, units: u32) -> Result<Carriers, OutOfMemory>
+        ensures { IfOk result
+            (λ c. c ≡ record { strategy = strategy; units = units; contents = [] }) }
     {
         let room = NUMBERS * MAX_SCHEDULERS;
         let set = CarrierSet::new(alloc, room)?;
+        let bins = bins_for(alloc, strategy, units)?;
         Ok(Carriers {
             strategy,
+            units,
             list: Vec::with_capacity(alloc, room as usize)?,
             set,
-            bins: bins_for(alloc, strategy),
+            bins,
             figures: no_figures(),
         })
     }
@@ -134,12 +145,22 @@ impl Carriers {
             (choice_empty need self.now.contents) }
         ensures choice { IfSome result (IsChoice need self.now.contents) }
     {
+        self.or_empty(self.inspected(need, depth), need)
+    }
+
+    /// The gap that the strategy takes first of those that it inspects.
+    fn inspected(&self, need: u32, depth: u32) -> Option<Choice>
+        requires laid { AreLaid self.now.contents }
+        requires some { 1 ≤ need }
+        ensures chosen { candidate_of result
+            ≡ choice_among self.now.strategy depth need self.now.contents }
+        ensures choice { IfSome result (IsChoice need self.now.contents) }
+    {
         match search_of(self.strategy) {
-            Search::Gaps => best_choice(inner_of(self.strategy), need, &self.list),
             Search::Address => self.choice_in(self.set.first_by_address(need), need),
             Search::Age => self.choice_in(self.set.first_by_age(need), need),
-            Search::Bins => self.or_empty(self.inspected(need, depth), need),
-            Search::Lowest => self.or_empty(self.lowest(need), need),
+            Search::Bins => self.binned(need, depth),
+            Search::Lowest => self.lowest(need),
         }
     }
 
@@ -158,14 +179,19 @@ impl Carriers {
         self.list[index].choose(index, inner_of(self.strategy), need)
     }
 
-    /// The gap that good fit chooses of those that it inspects.
-    fn inspected(&self, need: u32, depth: u32) -> Option<Choice>
-        requires strategy { self.now.strategy ≡ Gf }
+    /// The gap that the bins choose, as one of its carrier: that of the highest base that isn't
+    /// beyond the gap.
+    fn binned(&self, need: u32, depth: u32) -> Option<Choice>
+        requires bins { has_bins self.now.strategy ≡ true }
         requires laid { AreLaid self.now.contents }
-        ensures chosen { candidate_of result ≡ choice_among Gf depth need self.now.contents }
+        ensures chosen { candidate_of result
+            ≡ choice_among self.now.strategy depth need self.now.contents }
         ensures choice { IfSome result (IsChoice need self.now.contents) }
     {
-        choice_at(self.bins.as_ref()?.find(need, depth)?, &self.list)
+        let gap = self.bins.as_ref()?.find(need, depth)?;
+        let index = self.set.last_up_to(gap.address / PAGE_UNITS)?.index;
+        let candidate = self.list[index].located(gap);
+        Some(Choice { index, candidate })
     }
 
     /// The lowest gap, if it has at least `need` units.
@@ -183,19 +209,20 @@ impl Carriers {
         Some(found)
     }
 
-    /// What was found, or else the gap of a carrier that was created where nothing was.
+    /// What was found, or else, where the strategy may miss a gap, that of a carrier that was
+    /// created where nothing was found.
     fn or_empty(&self, found: Option<Choice>, need: u32) -> Option<Choice>
         requires laid { AreLaid self.now.contents }
         requires some { 1 ≤ need }
         requires choice { IfSome found (IsChoice need self.now.contents) }
-        ensures chosen { candidate_of result
-            ≡ or_else true (candidate_of found) (choice_empty need self.now.contents) }
+        ensures chosen { candidate_of result ≡ or_else (may_miss self.now.strategy)
+            (candidate_of found) (choice_empty need self.now.contents) }
         ensures choice { IfSome result (IsChoice need self.now.contents) }
     {
-        if found.is_some() {
-            return found;
+        if found.is_none() && may_miss(self.strategy) {
+            return lowest_empty(need, &self.list);
         }
-        lowest_empty(need, &self.list)
+        found
     }
 
     /// Places a block in the chosen gap, and answers its units. It takes no memory.
@@ -226,20 +253,18 @@ impl Carriers {
     }
 
     /// Releases the block at the offset in the carrier with the number, and says whether that is to
-    /// be deallocated.
-    pub fn release(&mut self, number: u32, offset: u32) -> Result<bool, OutOfMemory>
+    /// be deallocated. It takes no memory.
+    pub fn release(&mut self, number: u32, offset: u32) -> bool
         requires laid { AreLaid self.old.contents }
         requires block { IsSome (block_in self.old.contents
             (record { carrier = number; offset = offset })) }
-        ensures vacant { IfOk result (λ vacant. vacant ≡ has_vacant number self.new.contents) }
-        ensures ok { OnOk result (self.new ≡ record self.old {
+        ensures vacant { result ≡ has_vacant number self.new.contents }
+        ensures released { self.new ≡ record self.old {
           contents =
               changed (λ c. released c offset) number self.old.contents;
-        }) }
-        ensures err { OnErr result (self.new ≡ self.old) }
+        } }
     {
         let index = self.place_of(number);
-        make_room(&mut self.bins)?;
         let address = self.list[index].address(offset);
         let freed = self.list[index].carrier.release(offset);
         let vacant = self.list[index].is_vacant();
@@ -252,7 +277,7 @@ impl Carriers {
             freed.after,
         );
         self.figures = without_block(self.figures, freed.size);
-        Ok(vacant)
+        vacant
     }
 
     /// The block at the offset in the carrier with the number has this name from now on. Answers
@@ -273,14 +298,8 @@ impl Carriers {
     }
 
     /// The block at the offset in the carrier with the number has `need` units and this name from
-    /// now on. It gives back at least 6 units.
-    pub fn shrink(
-        &mut self,
-        number: u32,
-        offset: u32,
-        need: u32,
-        name: u32,
-    ) -> Result<(), OutOfMemory>
+    /// now on. It gives back at least 6 units. It takes no memory.
+    pub fn shrink(&mut self, number: u32, offset: u32, need: u32, name: u32)
         requires laid { AreLaid self.old.contents }
         requires block { IsSome (block_in self.old.contents
             (record { carrier = number; offset = offset })) }
@@ -288,20 +307,17 @@ impl Carriers {
             (record { carrier = number; offset = offset })) }
         requires even { need % 2 ≡ 0 }
         requires least { MIN_BLOCK ≤ need }
-        ensures ok { OnOk result (self.new ≡ record self.old {
+        ensures { self.new ≡ record self.old {
           contents = changed (λ c. resized c offset need name) number self.old.contents;
-        }) }
-        ensures err { OnErr result (self.new ≡ self.old) }
+        } }
     {
         let index = self.place_of(number);
-        make_room(&mut self.bins)?;
         let address = self.list[index].address(offset);
         let block = self.list[index].carrier.shrink(offset, need, name);
         self.set.update(number, block.largest);
         let rest = block.was - block.size;
         note_released(&mut self.bins, address + block.size, 0, rest, block.after);
         self.figures = with_size(self.figures, block.was, block.size);
-        Ok(())
     }
 
     /// The block at the offset in the carrier with the number takes of the gap directly after it
@@ -336,8 +352,8 @@ impl Carriers {
         block.size
     }
 
-    /// Puts a carrier without blocks among the others, by its number.
-    pub fn enter(&mut self, employed: Employed) -> Result<(), OutOfMemory>
+    /// Puts a carrier without blocks among the others, by its number. It takes no memory.
+    pub fn enter(&mut self, employed: Employed)
         requires laid { AreLaid self.old.contents }
         requires room { length self.old.contents < NUMBERS * MAX_SCHEDULERS }
         requires number { has_content employed.number self.old.contents ≡ false }
@@ -346,29 +362,28 @@ impl Carriers {
         requires whole { IsWhole employed }
         requires shared { is_shared employed.kind ≡ true }
         requires empty { employed.blocks ≡ [] }
-        ensures ok { OnOk result (self.new ≡ record self.old {
+        requires few { has_bins self.old.strategy ≡ true
+            → sum_by (λ c. c.units) self.old.contents + employed.units ≤ self.old.units }
+        ensures { self.new ≡ record self.old {
           contents =
               with_content employed self.old.contents;
-        }) }
-        ensures err { OnErr result (self.new ≡ self.old) }
+        } }
     {
-        make_room(&mut self.bins)?;
         let key = employed.carrier_key();
         employed.carrier.laid_out();
         let size = employed.carrier.largest();
         let address = employed.address(HEADER_UNITS);
         let units = employed.carrier.units();
-        enter(employed, &mut self.list)?;
+        enter_within(employed, &mut self.list);
         self.set.add(key, size);
         note_entered(&mut self.bins, BinnedGap { address, size });
         self.figures = with_carrier(self.figures, units);
-        Ok(())
     }
 
     /// Puts a carrier with its blocks among the others, by its number. There are no bins. It takes
     /// no memory.
     pub fn adopt(&mut self, employed: Employed)
-        requires strategy { self.old.strategy ≢ Gf }
+        requires strategy { has_bins self.old.strategy ≡ false }
         requires laid { AreLaid self.old.contents }
         requires room { length self.old.contents < NUMBERS * MAX_SCHEDULERS }
         requires number { has_content employed.number self.old.contents ≡ false }
@@ -393,7 +408,7 @@ impl Carriers {
     pub fn leave(&mut self, number: u32) -> Employed
         requires laid { AreLaid self.old.contents }
         requires there { IsSome (content_of self.old.contents number) }
-        requires bins { self.old.strategy ≡ Gf
+        requires bins { has_bins self.old.strategy ≡ true
             → IfSome (content_of self.old.contents number) (λ c. c.blocks ≡ []) }
         ensures carrier { content_of self.old.contents number ≡ Some result }
         ensures rest { self.new ≡ record self.old {

@@ -103,14 +103,6 @@ impl Employed {
         self.carrier.base() * PAGE_UNITS + offset
     }
 
-    /// Whether the unit at the address is one of its own.
-    pub fn spans(&self, address: u32) -> bool
-        requires { PAGE_UNITS * self.now.base + self.now.units ≤ MAX_UNITS }
-        ensures { result ≡ spans address self.now }
-    {
-        self.address(0) <= address && address < self.address(self.carrier.units())
-    }
-
     /// A gap of its own, as the bins hold it.
     pub fn located(&self, gap: BinnedGap) -> Candidate
         requires low { PAGE_UNITS * self.now.base + self.now.units ≤ MAX_UNITS }

@@ -1,23 +1,20 @@
 //! How strategies search, and how they compare gaps.
-ghost use Rattle.std.specs.Prelude.{◌≡◌, ◌≢◌};
-ghost use Rattle.ea_model.specs.declared.settings.Strategy.TheVariants.{Gf};
+ghost use Rattle.std.specs.Prelude.{◌≡◌, false};
 ghost use Rattle.ea_model.specs.Strategies as strategies;
-ghost use Rattle.ea_employed.specs.Better.{better_of};
-ghost use Rattle.ea_employed.specs.Searches.{goes_before, is_better, search_of};
+ghost use Rattle.ea_employed.specs.Binned.{fit_of, has_bins};
+ghost use Rattle.ea_employed.specs.Searches.{search_of};
 
-use crate::choice::Choice;
-use ea_model::{Candidate, Inner, Strategy};
+use ea_goodfit::Fit;
+use ea_model::{Inner, Strategy};
 
 /// How a strategy searches the carriers.
 #[derive(Debug, Clone, Copy, PartialEq, Eq)]
 pub enum Search {
-    /// It compares the gaps of all carriers.
-    Gaps,
     /// It takes the carrier of the lowest address that has a gap of the size.
     Address,
     /// It takes the oldest carrier that has a gap of the size.
     Age,
-    /// It inspects the first few gaps of each bin.
+    /// It takes a gap of the bins, which hold those of all carriers.
     Bins,
     /// It inspects the gap at the lowest address, and no other.
     Lowest,
@@ -30,10 +27,28 @@ pub fn search_of(strategy: Strategy) -> Search
     match strategy {
         Strategy::Aoff | Strategy::AoffCbf | Strategy::AoffCaobf => Search::Address,
         Strategy::AgeffCaoff | Strategy::AgeffCbf | Strategy::AgeffCaobf => Search::Age,
-        Strategy::Bf | Strategy::Aobf => Search::Gaps,
-        Strategy::Gf => Search::Bins,
+        Strategy::Bf | Strategy::Aobf | Strategy::Gf => Search::Bins,
         Strategy::Af => Search::Lowest,
     }
+}
+
+/// How the bins of a strategy that has some choose among gaps.
+pub fn fit_of(strategy: Strategy) -> Option<Fit>
+    ensures { result ≡ fit_of strategy }
+{
+    match strategy {
+        Strategy::Bf => Some(Fit::Best),
+        Strategy::Aobf => Some(Fit::AddressOrderBest),
+        Strategy::Gf => Some(Fit::Good),
+        _ => None,
+    }
+}
+
+/// Whether a strategy may look past a gap that is large enough.
+pub fn may_miss(strategy: Strategy) -> bool
+    ensures { result ≡ strategies.may_miss strategy }
+{
+    matches!(strategy, Strategy::Gf | Strategy::Af)
 }
 
 /// How a strategy compares gaps inside a carrier.
@@ -48,40 +63,12 @@ pub fn inner_of(strategy: Strategy) -> Inner
 }
 
 /// The order by which a carrier keeps its gaps under a strategy: that in which it is asked for
-/// them. Under good fit the bins choose among gaps.
+/// them. Where there are bins these choose among gaps.
 pub fn order_of(strategy: Strategy) -> Inner
-    ensures { strategy ≢ Gf → result ≡ strategies.inner_of strategy }
+    ensures { has_bins strategy ≡ false → result ≡ strategies.inner_of strategy }
 {
     match strategy {
-        Strategy::Gf => Inner::Aoff,
+        Strategy::Bf | Strategy::Aobf | Strategy::Gf => Inner::Aoff,
         _ => inner_of(strategy),
-    }
-}
-
-/// Whether gap `a` is taken before gap `b` of any carrier.
-fn is_better(inner: Inner, a: Candidate, b: Candidate) -> bool
-    ensures { result ≡ is_better inner a b }
-{
-    match inner {
-        Inner::Bf => a.size < b.size || (a.size == b.size && b.address < a.address),
-        Inner::Aobf => a.size < b.size || (a.size == b.size && a.address < b.address),
-        Inner::Aoff => a.address < b.address,
-    }
-}
-
-/// The one that is taken first of the best so far and another one.
-pub fn better_of(inner: Inner, best: Option<Choice>, found: Option<Choice>) -> Option<Choice>
-    ensures { result ≡ better_of (goes_before inner) best found }
-{
-    match (best, found) {
-        (Some(best), Some(found)) => {
-            if is_better(inner, found.candidate, best.candidate) {
-                Some(found)
-            } else {
-                Some(best)
-            }
-        }
-        (None, found) => found,
-        (best, None) => best,
     }
 }

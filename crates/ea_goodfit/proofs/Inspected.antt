@@ -3,19 +3,21 @@ use Rattle.std.proofs.Common.{◌≡◌, ◌≢◌, ℕ, ◌+◌, ◌<◌, ◌�
 use Rattle.std.proofs.Common.{length, get_or, set, replicate, sym, ap, ◌∙◌, append-nil, fold, subst}
 use Rattle.std.proofs.Common.{refl, inl, inr, ◌⊎◌, arith}
 use Rattle.std.specs.Prelude.{◌&&◌, ◌==◌, if◌then◌else◌, filter, min, nat_lt, nat_le, Option, None}
-use Rattle.std.specs.Prelude.{IsTrue, All, AllPairs}
+use Rattle.std.specs.Prelude.{All, AllPairs}
 use Rattle.std.proofs.lemmas.Grind.{get_or-set_at}
 use Rattle.std.proofs.lemmas.Bool.{cases_lt, cases_eq}
 use Rattle.std.proofs.lemmas.List.{append_assoc, length-append, length-set, get_or-set_other}
 use Rattle.std.proofs.lemmas.List.{length-replicate, get_or-replicate}
 use Rattle.std.proofs.lemmas.List.Elements.{All-nil, All-cons, All-head, All-tail, All-push}
 use Rattle.std.proofs.lemmas.List.Elements.{All-weaker, filter-append}
-use Rattle.ea_model.specs.GoodFit.{bin_of, is_inspected, good_fit}
+use Rattle.ea_model.specs.GoodFit.{bin_of, is_inspected}
 use Rattle.ea_model.specs.Choice.{better, first}
 use Rattle.ea_model.proofs.First.{large-here, large-past}
 use Rattle.ea_goodfit.specs.declared.gaps.BinnedGap.{BinnedGap}
-use Rattle.ea_goodfit.specs.Gaps.{smaller, considered, IsBelow}
-use Rattle.ea_goodfit.proofs.AnyOrder.{filter_here, filter_past}
+use Rattle.ea_goodfit.specs.declared.fits.Fit.{Fit}
+use Rattle.ea_goodfit.specs.declared.fits.Fit.TheVariants.{Good}
+use Rattle.ea_goodfit.specs.Gaps.{considered, found_by, inspected_by, takes_first, IsBelow}
+use Rattle.ea_goodfit.proofs.AnyOrder.{filter_here, filter_past, passing-All}
 use Rattle.ea_goodfit.proofs.Bin.{bin_of-below}
 use Rattle.ea_model.proofs.Pairs.{pairs_head, pairs_tail}
 
@@ -215,41 +217,41 @@ met_inspected depth counts all seen (g ∷ gs) e before rise c =
           ∙ none_counted (get_or counts b 0) depth n count le))
     ]
 
-considered_past : (need : ℕ) (best : Option BinnedGap) (g : BinnedGap) → g.size < need
-    → considered need best g ≡ best
-considered_past need best g lt = grind arith
+module _ (fit : Fit) (need : ℕ) where
+  considered_past : (best : Option BinnedGap) (g : BinnedGap) → g.size < need
+      → considered fit need best g ≡ best
+  considered_past best g lt = grind arith
 
-considered_fits : (need : ℕ) (best : Option BinnedGap) (g : BinnedGap) → need ≤ g.size
-    → considered need best g ≡ better smaller best g
-considered_fits need best g le = grind arith
+  considered_fits : (best : Option BinnedGap) (g : BinnedGap) → need ≤ g.size
+      → considered fit need best g ≡ better (takes_first fit) best g
+  considered_fits best g le = grind arith
 
--- considering each gap is taking the better of those that fit
-considered_fitting : (need : ℕ) (best : Option BinnedGap) (gs : List BinnedGap)
-    → fold (considered need) best gs ≡ fold (better smaller) best
-    (filter (λ g. nat_le need g.size) gs)
-considered_fitting need best [] = refl
-considered_fitting need best (g ∷ gs) =
-    elim (cases_lt g.size need) [
-      | inl lt ↦
-          ap (λ o. fold (considered need) o gs) (considered_past need best g lt)
-          ∙ considered_fitting need best gs
-          ∙ ap (fold (better smaller) best)
-          (sym (large-past (λ (x : BinnedGap). x.size) need g gs lt))
-      | inr le ↦
-          ap (λ o. fold (considered need) o gs) (considered_fits need best g le)
-          ∙ considered_fitting need (better smaller best g) gs
-          ∙ ap (fold (better smaller) best)
-          (sym (large-here (λ (x : BinnedGap). x.size) need g gs le))
-    ]
+  -- considering each gap is taking the better of those that fit
+  pub considered-fitting : (best : Option BinnedGap) (gs : List BinnedGap)
+      → fold (considered fit need) best gs ≡ fold (better (takes_first fit)) best
+      (filter (λ g. nat_le need g.size) gs)
+  considered-fitting best [] = refl
+  considered-fitting best (g ∷ gs) =
+      elim (cases_lt g.size need) [
+        | inl lt ↦
+            ap (λ o. fold (considered fit need) o gs) (considered_past best g lt)
+            ∙ considered-fitting best gs
+            ∙ ap (fold (better (takes_first fit)) best)
+            (sym (large-past (λ (x : BinnedGap). x.size) need g gs lt))
+        | inr le ↦
+            ap (λ o. fold (considered fit need) o gs) (considered_fits best g le)
+            ∙ considered-fitting (better (takes_first fit) best g) gs
+            ∙ ap (fold (better (takes_first fit)) best)
+            (sym (large-here (λ (x : BinnedGap). x.size) need g gs le))
+      ]
 
 -- what the gaps met by rising address give is the choice
-pub met-good_fit : (need depth : ℕ) (gs : List BinnedGap) → AllPairs IsBelow gs
-    → fold (considered need) None (met depth (replicate 90 0) gs) ≡ good_fit (λ g. g.address)
-    (λ g. g.size) depth need gs
+pub met-found : (need depth : ℕ) (gs : List BinnedGap) → AllPairs IsBelow gs
+    → fold (considered Good need) None (met depth (replicate 90 0) gs) ≡ found_by Good depth need gs
 unfolding inspects
-met-good_fit need depth gs rise =
-    considered_fitting need None (met depth (replicate 90 0) gs)
-    ∙ ap (λ xs. first smaller (filter (λ g. nat_le need g.size) xs))
+met-found need depth gs rise =
+    considered-fitting Good need None (met depth (replicate 90 0) gs)
+    ∙ ap (λ xs. first (takes_first Good) (filter (λ g. nat_le need g.size) xs))
     (met_inspected depth (replicate 90 0) gs [] gs refl (All-nil (λ h. All (IsBelow h) gs)) rise
     (Counts-none depth))
 
@@ -299,11 +301,11 @@ bins_met Q depth one all seen (g ∷ gs) e before rise a s =
     (All-push (λ (x : BinnedGap). Q (bin_of x.size)) seen g s here))
 
 -- a search that inspects at least one gap of each bin inspects one of the bin of each gap
-pub bins_inspected : (Q : ℕ → Type 0) (depth : ℕ) → 1 ≤ depth → (gs : List BinnedGap)
-    → AllPairs IsBelow gs
-    → All (λ h. IsTrue (is_inspected (λ x. x.address) (λ x. x.size) depth gs h) → Q (bin_of h.size))
-    gs → All (λ h. Q (bin_of h.size)) gs
+pub bins-inspected : (Q : ℕ → Type 0) (depth : ℕ) → 1 ≤ depth → (gs : List BinnedGap)
+    → AllPairs IsBelow gs → All (λ h. Q (bin_of h.size)) (inspected_by Good depth gs)
+    → All (λ h. Q (bin_of h.size)) gs
 unfolding inspects
-bins_inspected Q depth one gs rise a = bins_met Q depth one gs [] gs refl
-    (All-nil (λ (h : BinnedGap). All (IsBelow h) gs)) rise a
+bins-inspected Q depth one gs rise a = bins_met Q depth one gs [] gs refl
+    (All-nil (λ (h : BinnedGap). All (IsBelow h) gs)) rise
+    (passing-All (inspects depth gs) (λ h. Q (bin_of h.size)) gs a)
     (All-nil (λ (h : BinnedGap). Q (bin_of h.size)))

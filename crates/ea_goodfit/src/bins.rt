@@ -1,16 +1,19 @@
 //! The bins and their calls.
-ghost use Rattle.std.specs.Prelude.{◌≡◌, ◌≢◌, ◌+◌, ◌-◌, ◌<◌, ◌≤◌, ◌↔◌, [], ◌∷◌, ◌++◌, ◌==◌, ◌&&◌};
+ghost use Rattle.std.specs.Prelude.{◌≡◌, ◌≢◌, ◌+◌, ◌-◌, ◌^◌, ◌<◌, ◌≤◌, ◌↔◌, [], ◌∷◌, ◌++◌, ◌==◌, ◌&&◌};
 ghost use Rattle.std.specs.Prelude.{◌||◌, not, List, Some, All, AllPairs, IsTrue, IsNone, IfSome};
 ghost use Rattle.std.specs.Prelude.{OnOk, OnErr, length};
 ghost use Rattle.std.specs.List.Sorted.{IsPermutation};
-ghost use Rattle.ea_model.specs.GoodFit.{bin_of, good_fit, is_inspected};
+ghost use Rattle.ea_model.specs.GoodFit.{bin_of};
 ghost use Rattle.ea_model.specs.Choice.{IsFirst};
 ghost use Rattle.ea_model.specs.Keyed.{entered, without};
-ghost use Rattle.ea_goodfit.specs.Gaps.{address_of, is_same, is_held, smaller, inspected_fitting};
-ghost use Rattle.ea_goodfit.specs.Gaps.{some_gap, gap_from, CanCut, CanJoin, IsBelow};
+ghost use Rattle.ea_goodfit.specs.Gaps.{address_of, is_same, is_held, takes_first, inspected_by};
+ghost use Rattle.ea_goodfit.specs.Gaps.{inspected_fitting, found_by, some_gap, gap_from};
+ghost use Rattle.ea_goodfit.specs.Gaps.{CanCut, CanJoin, IsBelow};
+ghost use Rattle.ea_goodfit.specs.declared.fits.Fit.TheVariants.{Good};
 
+use crate::fits::Fit;
 use crate::gaps::BinnedGap;
-use crate::walks::search;
+use crate::walks::{search, walk};
 use ea_model::OutOfMemory;
 use ea_model::keyed::{enter_within, take_out};
 use std::alloc::Global;
@@ -20,6 +23,7 @@ use std::marker::Model;
 /// how many more can be inserted without taking memory.
 #[derive(Drop)]
 pub struct Bins {
+    fit: Fit,
     held: Vec<BinnedGap>,
 }
 
@@ -30,6 +34,7 @@ impl Model for Bins {
     ghost Value = { HeldGaps };
 
     ghost view = { λ b. record {
+      fit = b.fit;
       held = b.held.items;
       room = vec_capacity b.held - vec_len b.held;
     } };
@@ -39,10 +44,11 @@ impl Model for Bins {
 
 impl Bins {
     /// No gaps, and no room. It takes no memory.
-    pub fn new(alloc: Global) -> Bins
-        ensures { result ≡ record { held = []; room = 0 } }
+    pub fn new(alloc: Global, fit: Fit) -> Bins
+        ensures { result ≡ record { fit = fit; held = []; room = 0 } }
     {
         Bins {
+            fit,
             held: Vec::new(alloc),
         }
     }
@@ -50,6 +56,7 @@ impl Bins {
     /// Makes room for at least `extra` more gaps. The gaps stay, whatever the answer.
     pub fn reserve(&mut self, extra: u32) -> Result<(), OutOfMemory>
         ensures ok { OnOk result (extra ≤ self.new.room) }
+        ensures fit { self.new.fit ≡ self.old.fit }
         ensures held { self.new.held ≡ self.old.held }
         ensures room { self.old.room ≤ self.new.room }
         ensures err { OnErr result (self.new ≡ self.old) }
@@ -64,6 +71,8 @@ impl Bins {
     pub fn insert(&mut self, gap: BinnedGap)
         requires room { 0 < self.old.room }
         requires address { All (λ g. g.address ≢ gap.address) self.old.held }
+        requires size { self.old.fit ≢ Good → gap.size + 1 < 2 ^ 32 }
+        ensures fit { self.new.fit ≡ self.old.fit }
         ensures held { self.new.held ≡ entered address_of gap self.old.held }
         ensures room { self.new.room + 1 ≡ self.old.room }
         ensures count { length self.new.held ≡ length self.old.held + 1 }
@@ -80,6 +89,7 @@ impl Bins {
     /// Takes out a gap that is held.
     pub fn remove(&mut self, gap: BinnedGap)
         requires { IsTrue (is_held gap self.old.held) }
+        ensures fit { self.new.fit ≡ self.old.fit }
         ensures held { self.new.held ≡ without address_of gap.address self.old.held }
         ensures room { self.new.room ≡ self.old.room + 1 }
         ensures count { length self.new.held + 1 ≡ length self.old.held }
@@ -99,7 +109,13 @@ impl Bins {
     pub fn put(&mut self, gap: BinnedGap)
         requires room { 0 < self.old.room }
         requires address { 0 < gap.size → All (λ g. g.address ≢ gap.address) self.old.held }
-        ensures { IsPermutation self.new.held (some_gap gap ++ self.old.held) }
+        requires size { self.old.fit ≢ Good → gap.size + 1 < 2 ^ 32 }
+        ensures fit { self.new.fit ≡ self.old.fit }
+        ensures order { IsPermutation self.new.held (some_gap gap ++ self.old.held) }
+
+        // As many gaps as before can be held without taking memory.
+        ensures places { length self.new.held + self.new.room
+            ≡ length self.old.held + self.old.room }
     {
         if gap.size > 0 {
             self.insert(gap);
@@ -109,10 +125,15 @@ impl Bins {
     /// Takes out a gap that is held; one of no units is none.
     pub fn take(&mut self, gap: BinnedGap)
         requires { (rest : List BinnedGap) × IsPermutation self.old.held (some_gap gap ++ rest) }
+        ensures fit { self.new.fit ≡ self.old.fit }
         ensures order { (rest : List BinnedGap) → IsPermutation self.old.held (some_gap gap ++ rest)
             → IsPermutation self.new.held rest }
         ensures room { self.old.room ≤ self.new.room }
         ensures freed { 0 < gap.size → self.old.room < self.new.room }
+
+        // As many gaps as before can be held without taking memory.
+        ensures places { length self.new.held + self.new.room
+            ≡ length self.old.held + self.old.room }
     {
         if gap.size > 0 {
             self.remove(gap);
@@ -123,9 +144,14 @@ impl Bins {
     /// `address`: what is left of the gap is a gap, if anything is.
     pub fn cut(&mut self, address: u32, whole: u32, size: u32)
         requires { CanCut self.old.held address whole size }
-        ensures { (rest : List BinnedGap)
+        ensures fit { self.new.fit ≡ self.old.fit }
+        ensures order { (rest : List BinnedGap)
             → IsPermutation self.old.held (gap_from address whole ++ rest)
             → IsPermutation self.new.held (gap_from (address + size) (whole - size) ++ rest) }
+
+        // As many gaps as before can be held without taking memory.
+        ensures places { length self.new.held + self.new.room
+            ≡ length self.old.held + self.old.room }
     {
         self.take(BinnedGap {
             address,
@@ -142,10 +168,15 @@ impl Bins {
     pub fn join(&mut self, address: u32, before: u32, size: u32, behind: u32)
         requires room { 0 < self.old.room }
         requires held { CanJoin self.old.held address before size behind }
-        ensures { (rest : List BinnedGap) → IsPermutation self.old.held
+        ensures fit { self.new.fit ≡ self.old.fit }
+        ensures order { (rest : List BinnedGap) → IsPermutation self.old.held
             (gap_from (address - before) before ++ (gap_from (address + size) behind ++ rest))
             → IsPermutation self.new.held
             (gap_from (address - before) (before + size + behind) ++ rest) }
+
+        // As many gaps as before can be held without taking memory.
+        ensures places { length self.new.held + self.new.room
+            ≡ length self.old.held + self.old.room }
     {
         self.take(BinnedGap {
             address: address - before,
@@ -161,29 +192,27 @@ impl Bins {
         });
     }
 
-    /// The smallest gap of at least `need` units among those that the search inspects, of equals
-    /// the lowest, or None where none of these has that many. It inspects the first `depth` gaps of
-    /// each bin, by address.
+    /// The gap that a search for at least `need` units finds, or None where none of those that it
+    /// inspects has that many. Under good fit it inspects the first `depth` gaps of each bin, by
+    /// address, and otherwise all. It takes the smallest of those that fit, of equals the lowest,
+    /// or under best fit the highest.
     pub fn find(&self, need: u32, depth: u32) -> Option<BinnedGap>
-        ensures found { result ≡ good_fit (λ g. g.address) (λ g. g.size) depth need self.now.held }
-        ensures none { IsNone result ↔ All
-            (λ g. IsTrue (is_inspected (λ h. h.address) (λ h. h.size) depth self.now.held g)
-            → g.size < need) self.now.held }
+        ensures found { result ≡ found_by self.now.fit depth need self.now.held }
+        ensures none { IsNone result ↔ All (λ g. g.size < need)
+            (inspected_by self.now.fit depth self.now.held) }
 
         // The gap found is one that the search inspects and that fits, and none of these comes
         // before it.
-        ensures first { IfSome result
-            (IsFirst smaller (inspected_fitting depth need self.now.held)) }
+        ensures first { IfSome result (IsFirst (takes_first self.now.fit)
+            (inspected_fitting self.now.fit depth need self.now.held)) }
         ensures held { IfSome result (λ g. IsTrue (is_held g self.now.held)) }
         ensures inspected { IfSome result
-            (λ g. IsTrue (is_inspected (λ h. h.address) (λ h. h.size) depth self.now.held g)) }
+            (λ g. IsTrue (is_held g (inspected_by self.now.fit depth self.now.held))) }
         ensures fits { IfSome result (λ g. need ≤ g.size) }
 
         // No lower bin has a gap that the search inspects and that fits.
-        ensures bin { IfSome result
-            (λ g. All (λ h. IsTrue
-            (is_inspected (λ x. x.address) (λ x. x.size) depth self.now.held h) → need ≤ h.size
-            → bin_of g.size ≤ bin_of h.size) self.now.held) }
+        ensures bin { IfSome result (λ g. All (λ h. need ≤ h.size → bin_of g.size ≤ bin_of h.size)
+            (inspected_by self.now.fit depth self.now.held)) }
 
         // Where it finds none, though it inspects a gap of each bin at least, no gap lies in a bin
         // above that of the need.
@@ -191,12 +220,24 @@ impl Bins {
             → All (λ g. bin_of g.size ≤ bin_of need) self.now.held }
 
         // No other gap comes first, so the gaps give the same in any order.
-        ensures only { (g : BinnedGap)
-            → IsFirst smaller (inspected_fitting depth need self.now.held) g → result ≡ Some g }
+        ensures only { (g : BinnedGap) → IsFirst (takes_first self.now.fit)
+            (inspected_fitting self.now.fit depth need self.now.held) g → result ≡ Some g }
         ensures order { (gs : List BinnedGap) → IsPermutation self.now.held gs
-            → result ≡ good_fit (λ g. g.address) (λ g. g.size) depth need gs }
+            → result ≡ found_by self.now.fit depth need gs }
         ensures rising { AllPairs IsBelow self.now.held }
     {
-        search(need, depth, &self.held)
+        self.found(need, depth)
+    }
+
+    /// The gap that `find` finds.
+    fn found(&self, need: u32, depth: u32) -> Option<BinnedGap>
+        ensures found { result ≡ found_by self.now.fit depth need self.now.held }
+        ensures rising { AllPairs IsBelow self.now.held }
+    {
+        match self.fit {
+            Fit::Good => search(need, depth, &self.held),
+            Fit::Best => walk(Fit::Best, need, &self.held),
+            Fit::AddressOrderBest => walk(Fit::AddressOrderBest, need, &self.held),
+        }
     }
 }

@@ -1,7 +1,7 @@
 //! Worked examples.
 ghost use Rattle.std.specs.Prelude.{◌≡◌, ◌≤◌, [], ◌∷◌, IfOk};
 
-use crate::{BinnedGap, Bins};
+use crate::{BinnedGap, Bins, Fit};
 use ea_model::OutOfMemory;
 use std::alloc::Global;
 use std::test::Fail;
@@ -13,12 +13,12 @@ fn gap(address: u32, size: u32) -> BinnedGap
 }
 
 /// Gaps of 70 and 100 units, which share a bin, and a great one.
-fn three(alloc: Global) -> Result<Bins, OutOfMemory>
+fn three(alloc: Global, fit: Fit) -> Result<Bins, OutOfMemory>
     ensures { IfOk result
         (λ b. b.held ≡ record { address = 8; size = 70 } ∷ record { address = 84; size = 100 } ∷
         record { address = 190; size = 32578 } ∷ []) }
 {
-    let mut bins = Bins::new(alloc);
+    let mut bins = Bins::new(alloc, fit);
     bins.reserve(3)?;
     bins.insert(gap(190, 32578));
     bins.insert(gap(8, 70));
@@ -30,7 +30,7 @@ fn three(alloc: Global) -> Result<Bins, OutOfMemory>
 fn a_search_looks_at_the_first_gaps_of_each_bin_until_one_fits(
     rt: HostRuntime,
 ) -> Result<(), Fail> {
-    let bins = three(rt.alloc())?;
+    let bins = three(rt.alloc(), Fit::Good)?;
     for (need, depth, found) in [
         (80, 1, Some(gap(190, 32578))),
         (80, 2, Some(gap(84, 100))),
@@ -48,7 +48,7 @@ fn a_search_looks_at_the_first_gaps_of_each_bin_until_one_fits(
 
 #[test]
 fn bins_begin_at_64_and_at_128(rt: HostRuntime) -> Result<(), Fail> {
-    let mut bins = Bins::new(rt.alloc());
+    let mut bins = Bins::new(rt.alloc(), Fit::Good);
     bins.reserve(8)?;
 
     // 63 | 64, 127 | 128, 255 | 256: by address, the smaller of each bin after the greater.
@@ -77,7 +77,7 @@ fn bins_begin_at_64_and_at_128(rt: HostRuntime) -> Result<(), Fail> {
 
 #[test]
 fn each_size_below_64_has_a_bin(rt: HostRuntime) -> Result<(), Fail> {
-    let mut bins = Bins::new(rt.alloc());
+    let mut bins = Bins::new(rt.alloc(), Fit::Good);
     bins.reserve(4)?;
     bins.insert(gap(10, 63));
     bins.insert(gap(100, 62));
@@ -99,7 +99,7 @@ fn each_size_below_64_has_a_bin(rt: HostRuntime) -> Result<(), Fail> {
 
 #[test]
 fn the_lowest_of_equals_is_found(rt: HostRuntime) -> Result<(), Fail> {
-    let mut bins = Bins::new(rt.alloc());
+    let mut bins = Bins::new(rt.alloc(), Fit::Good);
     bins.reserve(3)?;
     bins.insert(gap(900, 1000));
     bins.insert(gap(2000, 1000));
@@ -117,7 +117,7 @@ fn the_lowest_of_equals_is_found(rt: HostRuntime) -> Result<(), Fail> {
 
 #[test]
 fn the_greatest_size_has_a_bin(rt: HostRuntime) -> Result<(), Fail> {
-    let mut bins = Bins::new(rt.alloc());
+    let mut bins = Bins::new(rt.alloc(), Fit::Good);
     bins.reserve(1)?;
     bins.insert(gap(0, u32::MAX));
     assert_eq!(rt; bins.find(u32::MAX, u32::MAX), Some(gap(0, u32::MAX)));
@@ -127,7 +127,7 @@ fn the_greatest_size_has_a_bin(rt: HostRuntime) -> Result<(), Fail> {
 
 #[test]
 fn a_removed_gap_uncovers_the_next_of_its_bin(rt: HostRuntime) -> Result<(), Fail> {
-    let mut bins = three(rt.alloc())?;
+    let mut bins = three(rt.alloc(), Fit::Good)?;
     bins.remove(gap(8, 70));
     assert_eq!(rt; bins.find(80, 1), Some(gap(84, 100)));
     assert_eq!(rt; bins.find(1, 1), Some(gap(84, 100)));
@@ -141,8 +141,31 @@ fn a_removed_gap_uncovers_the_next_of_its_bin(rt: HostRuntime) -> Result<(), Fai
 }
 
 #[test]
+fn best_fits_inspect_all_gaps_and_take_the_highest_or_the_lowest_of_equals(
+    rt: HostRuntime,
+) -> Result<(), Fail> {
+    for fit in [Fit::Best, Fit::AddressOrderBest] {
+        let mut bins = three(rt.alloc(), fit)?;
+        bins.reserve(1)?;
+        bins.insert(gap(40000, 100));
+        let high = fit == Fit::Best;
+        for (need, found) in [
+            (1, Some(gap(8, 70))),
+            (70, Some(gap(8, 70))),
+            (71, Some(gap(if high { 40000 } else { 84 }, 100))),
+            (100, Some(gap(if high { 40000 } else { 84 }, 100))),
+            (101, Some(gap(190, 32578))),
+            (32579, None),
+        ] {
+            assert_eq!(rt; bins.find(need, 1), found);
+        }
+    }
+    Ok(())
+}
+
+#[test]
 fn empty_bins_find_none(rt: HostRuntime) -> Result<(), Fail> {
-    let bins = Bins::new(rt.alloc());
+    let bins = Bins::new(rt.alloc(), Fit::Good);
     assert_eq!(rt; bins.find(0, 3), None);
     Ok(())
 }

@@ -1,8 +1,11 @@
 //! Walks over the gaps, by rising address.
-ghost use Rattle.std.specs.Prelude.{◌≡◌, ◌<◌, AllPairs};
-ghost use Rattle.ea_model.specs.GoodFit.{bin_of, good_fit};
-ghost use Rattle.ea_goodfit.specs.Gaps.{considered, IsBelow};
+ghost use Rattle.std.specs.Prelude.{◌≡◌, ◌<◌, AllPairs, filter, nat_le};
+ghost use Rattle.ea_model.specs.GoodFit.{bin_of};
+ghost use Rattle.ea_model.specs.Choice.{first};
+ghost use Rattle.ea_goodfit.specs.Gaps.{considered, found_by, takes_first, IsBelow};
+ghost use Rattle.ea_goodfit.specs.declared.fits.Fit.TheVariants.{Good};
 
+use crate::fits::Fit;
 use crate::gaps::BinnedGap;
 
 /// The least size, in units, that shares its bin with others.
@@ -22,24 +25,38 @@ fn bin_of(size: u32) -> usize
     58 + size.ilog2() as usize
 }
 
+/// Whether a gap is taken before another.
+fn takes_first(fit: Fit, gap: BinnedGap, other: BinnedGap) -> bool
+    ensures { result ≡ takes_first fit gap other }
+{
+    if gap.size != other.size {
+        return gap.size < other.size;
+    }
+    match fit {
+        Fit::Good => gap.address < other.address,
+        Fit::Best => other.address < gap.address,
+        Fit::AddressOrderBest => gap.address < other.address,
+    }
+}
+
 /// The better of `best` and the gap, where that one fits.
-fn better_of(need: u32, best: Option<BinnedGap>, gap: BinnedGap) -> Option<BinnedGap>
-    ensures { result ≡ considered need best gap }
+fn better_of(fit: Fit, need: u32, best: Option<BinnedGap>, gap: BinnedGap) -> Option<BinnedGap>
+    ensures { result ≡ considered fit need best gap }
 {
     if gap.size < need {
         return best;
     }
     match best {
-        Some(other) if other.size < gap.size => best,
-        Some(other) if other.size == gap.size && other.address <= gap.address => best,
-        _ => Some(gap),
+        Some(other) if takes_first(fit, gap, other) => Some(gap),
+        Some(other) => Some(other),
+        None => Some(gap),
     }
 }
 
 /// The gap that a search finds which inspects the first `depth` gaps of each bin.
 pub fn search(need: u32, depth: u32, held: &[BinnedGap]) -> Option<BinnedGap>
     requires { AllPairs IsBelow held.now }
-    ensures { result ≡ good_fit (λ g. g.address) (λ g. g.size) depth need held.now }
+    ensures { result ≡ found_by Good depth need held.now }
 {
     let mut counts = [0u32; BINS];
     let mut best = None;
@@ -47,8 +64,19 @@ pub fn search(need: u32, depth: u32, held: &[BinnedGap]) -> Option<BinnedGap>
         let bin = bin_of(gap.size);
         if counts[bin] < depth {
             counts[bin] += 1;
-            best = better_of(need, best, *gap);
+            best = better_of(Fit::Good, need, best, *gap);
         }
+    }
+    best
+}
+
+/// The gap that is taken of all that fit.
+pub fn walk(fit: Fit, need: u32, held: &[BinnedGap]) -> Option<BinnedGap>
+    ensures { result ≡ first (takes_first fit) (filter (λ g. nat_le need g.size) held.now) }
+{
+    let mut best = None;
+    for gap in held {
+        best = better_of(fit, need, best, *gap);
     }
     best
 }

@@ -1,8 +1,10 @@
 -- What an instance keeps of its carriers through its calls.
-use Rattle.std.proofs.Common.{◌≡◌, ◌≢◌, ℕ, ◌+◌, ◌*◌, ◌%◌, ◌<◌, ◌≤◌, true, false, List, length, All}
+use Rattle.std.proofs.Common.{◌≡◌, ◌≢◌, ℕ, ◌+◌, ◌-◌, ◌*◌, ◌%◌, ◌<◌, ◌≤◌, true, false, List, []}
+use Rattle.std.proofs.Common.{◌∷◌, length, All}
 use Rattle.std.proofs.Common.{sym, ap, ◌∙◌, subst, refl, arith}
 use Rattle.std.specs.Prelude.{◌↔◌, IsNone, Option, Some, None, Result, Ok, Err, IfOk, is_some}
-use Rattle.std.specs.Prelude.{option_map}
+use Rattle.std.specs.Prelude.{option_map, sum_by}
+use Rattle.std.proofs.lemmas.List.Sums.{sum_by-cons}
 use Rattle.ea_model.specs.declared.settings.Settings.{Settings}
 use Rattle.ea_model.specs.declared.carriers.Candidate.{Candidate}
 use Rattle.ea_model.specs.declared.carriers.OwnCarrier.{OwnCarrier}
@@ -22,6 +24,7 @@ use Rattle.ea_model.specs.Employment.{dismissing, employing}
 use Rattle.ea_model.specs.Strategies.{candidates, choice_among, choice_empty, may_miss, or_else}
 use Rattle.ea_model.specs.Strategies.{spot_of}
 use Rattle.ea_instance.specs.Answers.{placing_if}
+use Rattle.ea_employed.specs.Binned.{has_bins}
 use Rattle.ea_employed.specs.Choices.{IsChoice}
 use Rattle.ea_employed.specs.declared.choice.Choice.{Choice}
 use Rattle.ea_instance.specs.Kept.{KeepsCarriers, seen_as}
@@ -34,19 +37,22 @@ use Rattle.ea_laws.proofs.Blocks.{creating-same, creating_single-IsPlaced, placi
 use Rattle.ea_laws.proofs.Keeping.{IsLaidOut-made, has-number, lies-low, other-numbers}
 use Rattle.ea_laws.proofs.Keeping.{plan-IsPlanned}
 use Rattle.ea_laws.proofs.Refusals.{chosen-none, chosen-none_at_all}
+use Rattle.ea_laws.proofs.RegionUnits.{employed-within}
 use Rattle.ea_laws.proofs.Standing.{creating-Stands, dismissing-Stands, disowning-Stands}
 use Rattle.ea_laws.proofs.Standing.{employing-Stands, creating_single-Stands, employed-few}
 use Rattle.ea_laws.proofs.Standing.{employed-multi, employed-rising, multi-apart, placing-Stands}
 use Rattle.ea_laws.proofs.Standing.{planned-alone, planned-apart, planned-new, releasing-Stands}
 use Rattle.ea_laws.proofs.Standing.{singles-few}
 use Rattle.ea_model.specs.declared.units.TheConstants.{MAX_PAGES, MAX_SCHEDULERS, MAX_UNITS}
-use Rattle.ea_model.specs.declared.units.TheConstants.{NUMBERS}
+use Rattle.ea_model.specs.declared.units.TheConstants.{NUMBERS, PAGE_UNITS}
 use Rattle.ea_laws.proofs.Changed.{KeepsPlace, released-keeps}
 use Rattle.ea_laws.proofs.Contents.{absent-among}
 use Rattle.ea_model.proofs.Merged.{merged-apart, merged-each, merged-second, merged-without}
+use Rattle.ea_model.proofs.Merged.{sum-merged}
 use Rattle.ea_model.proofs.Rising.{changed_none, item_at-All, item_at-each, item_at-gone}
 use Rattle.ea_model.proofs.Rising.{item_at-key, length-entered, none-other, without_none}
 use Rattle.std.specs.Option.{option_and_then}
+use Rattle.ea_instance.proofs.Migrating.{bins-stay}
 
 -- the carrier that enters is the planned one
 pub entering : (n number : ℕ) (p : CarrierPlan) (carrier : Content) → n ≡ number
@@ -82,12 +88,13 @@ finds-all i need o is misses =
 
 -- an instance that stands is kept
 pub keeping : (s : Settings) (n : ℕ) (own : OwnList) (ks : CarrierList) (ss : List Content)
-    (created : ℕ) → ks.strategy ≡ s.strategy → Stands (seen_as s n own ks ss created)
-    → KeepsCarriers s n own ks ss created
-keeping s n own ks ss created strategy stands =
+    (created : ℕ) → ks.strategy ≡ s.strategy → ks.units ≡ PAGE_UNITS * (own.end - own.first)
+    → Stands (seen_as s n own ks ss created) → KeepsCarriers s n own ks ss created
+keeping s n own ks ss created strategy units stands =
     let i = seen_as s n own ks ss created in
     record {
       strategy = strategy;
+      units = units;
       laid = record {
         rising = stands.orderly.rising;
         sound = stands.orderly.laid;
@@ -203,7 +210,8 @@ module _ (s : Settings) (n : ℕ) (own : OwnList) (ks : CarrierList) (ss : List 
 
       pub kept-released : KeepsCarriers s n own new ss created
       kept-released =
-          subst (λ xs. KeepsCarriers s n own xs ss created) (sym is) (keeping _ _ _ _ _ _ k.strategy
+          subst (λ xs. KeepsCarriers s n own xs ss created) (sym is)
+          (keeping _ _ _ _ _ _ k.strategy k.units
           (subst Stands
           (sym (changed-multi f (released-keeps spot.offset) spot.carrier c there))
           (releasing-Stands here spot k.stands)))
@@ -219,7 +227,8 @@ module _ (s : Settings) (n : ℕ) (own : OwnList) (ks : CarrierList) (ss : List 
 
       pub kept-single-released : KeepsCarriers s n own ks new created
       kept-single-released =
-          subst (λ xs. KeepsCarriers s n own ks xs created) (sym is) (keeping _ _ _ _ _ _ k.strategy
+          subst (λ xs. KeepsCarriers s n own ks xs created) (sym is)
+          (keeping _ _ _ _ _ _ k.strategy k.units
           (subst Stands
           (sym (changed-single f (released-keeps spot.offset) spot.carrier none))
           (releasing-Stands here spot k.stands)))
@@ -233,7 +242,7 @@ module _ (s : Settings) (n : ℕ) (own : OwnList) (ks : CarrierList) (ss : List 
         subst (λ xs. KeepsCarriers s n own xs rest created) (sym is)
         (subst (λ ys. KeepsCarriers s n own
         (record ks { contents = without_content number ks.contents }) ys created) (sym lacks)
-        (keeping _ _ _ _ _ _ k.strategy (dismissing-Stands here number k.stands)))
+        (keeping _ _ _ _ _ _ k.strategy k.units (dismissing-Stands here number k.stands)))
 
     seen_dismissed : (now : Instance) → here ≡ now → (new : CarrierList) (rest : List Content)
         → new ≡ record ks { contents = without_content number ks.contents }
@@ -301,7 +310,8 @@ module _ (s : Settings) (n : ℕ) (own : OwnList) (ks : CarrierList) (ss : List 
       (gone : left ≡ record own { carriers = without_own number own.carriers }) where
     pub kept-disowned : KeepsCarriers s n left ks ss created
     kept-disowned = subst (λ os. KeepsCarriers s n os ks ss created) (sym gone)
-        (keeping _ _ _ _ _ _ k.strategy (disowning-Stands here number o k.stands there none))
+        (keeping _ _ _ _ _ _ k.strategy k.units
+        (disowning-Stands here number o k.stands there none))
 
   -- a carrier comes
   module _ (x : Content) (absent : content_of (employed here) x.number ≡ None)
@@ -330,7 +340,7 @@ module _ (s : Settings) (n : ℕ) (own : OwnList) (ks : CarrierList) (ss : List 
         → new ≡ record ks { contents = with_content x ks.contents }
         → KeepsCarriers s n own new ss created
     kept-adopted new is = subst (λ xs. KeepsCarriers s n own xs ss created) (sym is)
-        (keeping _ _ _ _ _ _ k.strategy more)
+        (keeping _ _ _ _ _ _ k.strategy k.units more)
 
   -- where the carriers choose no gap the instance does not
   pub none-chosen : (need : ℕ) (now : Instance) → here ≡ now
@@ -388,7 +398,8 @@ module _ (s : Settings) (n : ℕ) (own : OwnList) (ks : CarrierList) (ss : List 
 
       pub kept-placed : KeepsCarriers s n own new ss created
       kept-placed =
-          subst (λ xs. KeepsCarriers s n own xs ss created) (sym is) (keeping _ _ _ _ _ _ k.strategy
+          subst (λ xs. KeepsCarriers s n own xs ss created) (sym is)
+          (keeping _ _ _ _ _ _ k.strategy k.units
           (placing-Stands here (spot_of x) need name k.stands has-gap least even))
 
       pub blocks-placed : (size : ℕ)
@@ -432,6 +443,20 @@ module _ (s : Settings) (n : ℕ) (own : OwnList) (ks : CarrierList) (ss : List 
     pub whole-pages : IsWhole (created_content n Multi p)
     whole-pages = (IsLaidOut-made here need p k.stands.orderly.kept asked_here).whole
 
+    -- with it, carriers that don't migrate have no more units than the region
+    pub few-units : has_bins ks.strategy ≡ true
+        → sum_by (λ c. c.units) ks.contents + PAGE_UNITS * p.pages ≤ ks.units
+    few-units bins =
+        let x : Content = created_content n Multi p in
+        let off = bins-stay s k.stands.orderly.kept.valid (ap has_bins (sym k.strategy) ∙ bins) in
+        omega (
+          arith,
+          k.units,
+          employed-within (creating here p) (creating-Stands here need p k.stands asked_here) off,
+          sum-merged number_of (λ c. c.units) (x ∷ []) ks.contents,
+          sum_by-cons (λ (c : Content). c.units) x [],
+        )
+
     -- there are fewer carriers than numbers
     pub few-employed : length ks.contents < NUMBERS * MAX_SCHEDULERS
     few-employed =
@@ -473,7 +498,7 @@ module _ (s : Settings) (n : ℕ) (own : OwnList) (ks : CarrierList) (ss : List 
             subst (λ ys. KeepsCarriers s n more ys ss p.birth) (sym is)
             (subst (λ os. KeepsCarriers s n os
             (record ks { contents = with_content (created_content n Multi p) ks.contents }) ss
-            p.birth) (sym added) (keeping _ _ _ _ _ _ k.strategy
+            p.birth) (sym added) (keeping _ _ _ _ _ _ k.strategy k.units
             (creating-Stands here need p k.stands asked_here)))
 
         pub seen-created : seen_as s n more new ss p.birth ≡ creating now p
@@ -491,7 +516,7 @@ module _ (s : Settings) (n : ℕ) (own : OwnList) (ks : CarrierList) (ss : List 
             subst (λ ys. KeepsCarriers s n more ks ys p.birth) (sym is)
             (subst (λ os. KeepsCarriers s n os ks
             (with_content (created_single n p need name) ss) p.birth) (sym added) (keeping _ _ _ _
-            _ _ k.strategy
+            _ _ k.strategy k.units
             (creating_single-Stands here need p k.stands asked_here name least even)))
 
         pub seen-single-created : seen_as s n more ks new p.birth

@@ -1,26 +1,43 @@
 -- Which carriers migrate.
 use Rattle.std.specs.Prelude.{Option, None, Some, IfSome, ◌&&◌, not}
-use Rattle.std.proofs.Common.{All, List, ◌≡◌, ◌≢◌, ℕ, zero, suc, ◌<◌, true, false, refl, sym, ap}
+use Rattle.std.proofs.Common.{All, List, ◌≡◌, ℕ, zero, suc, ◌<◌, true, false, refl, sym, ap}
 use Rattle.std.proofs.Common.{◌∙◌, arith}
 use Rattle.ea_model.specs.declared.settings.Settings.{Settings}
-use Rattle.ea_model.specs.declared.settings.Strategy.TheVariants.{Gf}
+use Rattle.ea_model.specs.declared.settings.Strategy.{Strategy}
+use Rattle.ea_model.specs.declared.settings.Strategy.TheVariants.{Bf, Aobf, Aoff, AoffCbf}
+use Rattle.ea_model.specs.declared.settings.Strategy.TheVariants.{AoffCaobf, AgeffCaoff, AgeffCbf}
+use Rattle.ea_model.specs.declared.settings.Strategy.TheVariants.{AgeffCaobf, Gf, Af}
 use Rattle.ea_model.specs.Settings.{IsValid, can_migrate}
 use Rattle.ea_model.specs.Abandonment.{are_sparse, has_large_gap, is_due, is_sparse_carrier}
 use Rattle.ea_model.specs.Content.{Content, is_multi, is_nil}
 use Rattle.ea_model.specs.Instance.{content_of}
 use Rattle.ea_model.proofs.Rising.{item_at-All}
 use Rattle.ea_laws.specs.Kept.{IsLaidOutAlone, number_of}
+use Rattle.ea_employed.specs.Binned.{has_bins}
 
--- good fit isn't a strategy under which they do
-pub migrates-not_gf : (s : Settings) → IsValid s → 0 < s.acul → s.strategy ≢ Gf
-migrates-not_gf s valid some gf =
-    let never : true ≡ false = sym (valid.migrates some) ∙ ap can_migrate gf in cc
+-- a strategy under which they do has no bins
+migrates-binless : (t : Strategy) → can_migrate t ≡ true → has_bins t ≡ false
+migrates-binless Bf can = absurd cc
+migrates-binless Aobf can = absurd cc
+migrates-binless Aoff can = refl
+migrates-binless AoffCbf can = refl
+migrates-binless AoffCaobf can = refl
+migrates-binless AgeffCaoff can = refl
+migrates-binless AgeffCbf can = refl
+migrates-binless AgeffCaobf can = refl
+migrates-binless Gf can = absurd cc
+migrates-binless Af can = absurd cc
 
-pub stays-acul : (s : Settings) → IsValid s → s.strategy ≡ Gf → s.acul ≡ 0
-stays-acul s valid gf = by s.acul refl where
+pub migrates-no_bins : (s : Settings) → IsValid s → 0 < s.acul → has_bins s.strategy ≡ false
+migrates-no_bins s valid some = migrates-binless s.strategy (valid.migrates some)
+
+pub bins-stay : (s : Settings) → IsValid s → has_bins s.strategy ≡ true → s.acul ≡ 0
+bins-stay s valid bins = by s.acul refl where
   by : (n : ℕ) → s.acul ≡ n → n ≡ 0
   by zero q = refl
-  by (suc n) q = absurd (migrates-not_gf s valid (omega (arith, q)) gf)
+  by (suc n) q =
+      absurd (let never : true ≡ false = sym bins
+      ∙ migrates-no_bins s valid (omega (arith, q)) in cc)
 
 -- no singleblock carrier is abandoned
 pub singles-stay : (s : Settings) (xs : List Content) (number : ℕ) (ss : List Content)

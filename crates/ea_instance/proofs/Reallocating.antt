@@ -224,7 +224,7 @@ module _ (s : Settings) (n : ℕ) (own : OwnList) (ks : CarrierList) (ss : List 
         pub kept-multi : KeepsCarriers s n own new ss created
         kept-multi =
             subst (λ xs. KeepsCarriers s n own xs ss created) (sym is)
-            (keeping _ _ _ _ _ _ k.strategy
+            (keeping _ _ _ _ _ _ k.strategy k.units
             (subst Stands (sym is_then) (stands_then name least even)))
 
   -- in a singleblock carrier
@@ -325,7 +325,7 @@ module _ (s : Settings) (n : ℕ) (own : OwnList) (ks : CarrierList) (ss : List 
           pub kept-single : KeepsCarriers s n own ks new created
           kept-single =
               subst (λ xs. KeepsCarriers s n own ks xs created) (sym is)
-              (keeping _ _ _ _ _ _ k.strategy
+              (keeping _ _ _ _ _ _ k.strategy k.units
               (subst Stands (sym is_there) (stands_then name least even)))
 
         -- it has fewer
@@ -407,7 +407,7 @@ module _ (s : Settings) (n : ℕ) (own : OwnList) (ks : CarrierList) (ss : List 
             kept-less =
                 subst (λ os. KeepsCarriers s n os ks end created) (sym gone)
                 (subst (λ xs. KeepsCarriers s n less_own ks xs created) (sym is_last)
-                (keeping _ _ _ _ _ _ k.strategy stands_less))
+                (keeping _ _ _ _ _ _ k.strategy k.units stands_less))
 
 -- a block that was resized begins with the units that were told
 pub told-begins : (size : Option ℕ) (d : Decision) (found : Option BlockAt)

@@ -1,6 +1,7 @@
 -- What an instance keeps of its carriers.
-use Rattle.std.specs.Prelude.{◌≡◌, ℕ, List}
+use Rattle.std.specs.Prelude.{◌≡◌, ℕ, ◌-◌, ◌*◌, List}
 use Rattle.ea_model.specs.declared.settings.Settings.{Settings}
+use Rattle.ea_model.specs.declared.units.TheConstants.{PAGE_UNITS}
 use Rattle.ea_model.specs.Content.{Content}
 use Rattle.ea_model.specs.Instance.{Instance}
 use Rattle.ea_laws.specs.Kept.{Stands}
@@ -21,9 +22,11 @@ seen_as settings number own carriers singles created = record {
   created = created;
 }
 
--- the carriers choose by the settings' strategy and are laid out, and the instance stands
+-- the carriers choose by the settings' strategy, may have as many units together as the region, and
+-- are laid out, and the instance stands
 pub record KeepsCarriers (settings : Settings) (number : ℕ) (own : OwnList)
     (carriers : CarrierList) (singles : List Content) (created : ℕ) : Type 0 where
   pub strategy : carriers.strategy ≡ settings.strategy
+  pub units : carriers.units ≡ PAGE_UNITS * (own.end - own.first)
   pub laid : AreLaid carriers.contents
   pub stands : Stands (seen_as settings number own carriers singles created)

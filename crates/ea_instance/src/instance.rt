@@ -144,7 +144,8 @@ fn free_of(figures: Figures) -> u64
 impl Instance {
     /// An instance before its first operation: instance `number` of `schedulers`, with the region
     /// of `pages` pages from page `first` on. Where the settings ask for a main carrier, it is
-    /// created. It takes the memory for as many carriers as there are numbers.
+    /// created. It takes the memory for as many carriers as there are numbers, and, where its
+    /// strategy searches bins, for all gaps of a region.
     pub fn new(
         alloc: Global,
         settings: Settings,
@@ -158,15 +159,16 @@ impl Instance {
         requires main { pages_for settings.mmbcs ≤ pages }
         ensures { IfOk result (λ i. i ≡ new_instance settings number first pages) }
     {
+        let units = pages * PAGE_UNITS;
         let mut own = OwnCarriers::new(alloc, first, pages)?;
-        let mut carriers = Carriers::new(alloc, settings.strategy)?;
+        let mut carriers = Carriers::new(alloc, settings.strategy, units)?;
         let singles = Singles::new(alloc)?;
         let mut created = 0;
         if settings.mmbcs > 0 {
             let plan = main_plan(settings, number, first);
             let carrier = Mbc::new(alloc, plan, number, order_of(settings.strategy))?;
             let kind = Kind::Main;
-            carriers.enter(Employed { kind, carrier })?;
+            carriers.enter(Employed { kind, carrier });
             own.add(plan);
             created = plan.birth;
         }
@@ -177,7 +179,7 @@ impl Instance {
             carriers,
             singles,
             created,
-            spare: Spare::new(alloc, pages * PAGE_UNITS),
+            spare: Spare::new(alloc, units),
         })
     }
 
@@ -397,22 +399,20 @@ impl Instance {
         self.spare.carrier(alloc, plan, self.number, order)
     }
 
-    /// Employs the multiblock carrier of its present plan for a block of `need` units. Where there
-    /// is no memory, the carrier is dropped and nothing changes.
-    pub fn create(&mut self, plan: CarrierPlan, need: u32, carrier: Mbc) -> Result<(), OutOfMemory>
+    /// Employs the multiblock carrier of its present plan for a block of `need` units. It takes no
+    /// memory.
+    pub fn create(&mut self, plan: CarrierPlan, need: u32, carrier: Mbc)
         requires plan { instances.plan self.old need ≡ Ok plan }
         requires multi { plan.single ≡ false }
         requires carrier { carrier ≡ created_content self.old.number Multi plan }
-        ensures ok { OnOk result (self.new ≡ creating self.old plan) }
-        ensures choice { OnOk result (IsSome (chosen_spot self.new need)) }
-        ensures blocks { OnOk result (HaveSameBlocks (employed self.old) (employed self.new)) }
-        ensures err { OnErr result (self.new ≡ self.old) }
+        ensures ok { self.new ≡ creating self.old plan }
+        ensures choice { IsSome (chosen_spot self.new need) }
+        ensures blocks { HaveSameBlocks (employed self.old) (employed self.new) }
     {
         let kind = Kind::Multi;
-        self.carriers.enter(Employed { kind, carrier })?;
+        self.carriers.enter(Employed { kind, carrier });
         self.own.add(plan);
         self.created = plan.birth;
-        Ok(())
     }
 
     /// Employs the singleblock carrier of its present plan with a block of `need` units, and
@@ -438,25 +438,23 @@ impl Instance {
     }
 
     /// Releases the block at the spot, and says whether the carrier is to be deallocated: it is
-    /// left without blocks and isn't a main carrier. It stays employed until it is dismissed.
-    pub fn release(&mut self, spot: Spot) -> Result<bool, OutOfMemory>
+    /// left without blocks and isn't a main carrier. It stays employed until it is dismissed. It
+    /// takes no memory.
+    pub fn release(&mut self, spot: Spot) -> bool
         requires { IsSome (block_in (employed self.old) spot) }
-        ensures ok { OnOk result (self.new ≡ releasing_at self.old spot) }
-        ensures vacant { IfOk result (λ vacant. vacant
-            ≡ has_vacant spot.carrier (employed self.new)) }
-        ensures emptied { OnOk result (IfSome (content_of (employed self.new) spot.carrier)
-            (λ c. c.kind ≡ Single → c.blocks ≡ [])) }
-        ensures gone { OnOk result (block_in (employed self.new) spot ≡ None) }
+        ensures ok { self.new ≡ releasing_at self.old spot }
+        ensures vacant { result ≡ has_vacant spot.carrier (employed self.new) }
+        ensures emptied { IfSome (content_of (employed self.new) spot.carrier)
+            (λ c. c.kind ≡ Single → c.blocks ≡ []) }
+        ensures gone { block_in (employed self.new) spot ≡ None }
         ensures others { (at : Spot) → IsOther spot.carrier spot.offset at
             → block_in (employed self.new) at ≡ block_in (employed self.old) at }
-        ensures err { OnErr result (self.new ≡ self.old) }
     {
         if self.has_multi(spot.carrier) {
-            let vacant = self.carriers.release(spot.carrier, spot.offset)?;
-            return Ok(vacant);
+            return self.carriers.release(spot.carrier, spot.offset);
         }
         self.singles.release(spot.carrier, spot.offset);
-        Ok(true)
+        true
     }
 
     /// Whether the carrier is to be abandoned: it isn't the main one and not empty, it is sparse,
@@ -475,31 +473,28 @@ impl Instance {
 
     /// Resizes the block at the spot as is decided for `need` units, with this name from now on,
     /// and answers its units. None, and nothing changed, where the decision is that it is to move.
-    pub fn resize(&mut self, spot: Spot, need: u32, name: u32) -> Result<Option<u32>, OutOfMemory>
+    /// It takes no memory.
+    pub fn resize(&mut self, spot: Spot, need: u32, name: u32) -> Option<u32>
         requires block { IsSome (block_in (employed self.old) spot) }
         requires even { need % 2 ≡ 0 }
         requires least { MIN_BLOCK ≤ need }
-        ensures moves { IfOk result (λ size.
-            IsNone size ↔ (decision_at self.old spot need ≡ Move)) }
-        ensures size { IfOk result (λ size. IfSome size (λ units.
-            units ≡ resized_to self.old spot need)) }
-        ensures ok { OnOk result (self.new ≡ resizing_at self.old spot need name) }
-        ensures begins { IfOk result (λ size. IfSome size (λ units.
+        ensures moves { IsNone result ↔ (decision_at self.old spot need ≡ Move) }
+        ensures size { IfSome result (λ units. units ≡ resized_to self.old spot need) }
+        ensures ok { self.new ≡ resizing_at self.old spot need name }
+        ensures begins { IfSome result (λ units.
             block_in (employed self.new) spot ≡ Some (record {
               name = name;
               offset = spot.offset;
               size = units;
-            }))) }
+            })) }
         ensures others { (at : Spot) → IsOther spot.carrier spot.offset at
             → block_in (employed self.new) at ≡ block_in (employed self.old) at }
-        ensures err { OnErr result (self.new ≡ self.old) }
     {
         let decision = self.decided(spot, need);
         if self.has_multi(spot.carrier) {
-            let size = self.resize_multi(decision, spot, need, name)?;
-            return Ok(size);
+            return self.resize_multi(decision, spot, need, name);
         }
-        Ok(self.resize_single(decision, spot, need, name))
+        self.resize_single(decision, spot, need, name)
     }
 
     /// What is decided where the block at the spot is to have `need` units.
@@ -528,34 +523,26 @@ impl Instance {
 
     /// Carries out the decision for a block of a multiblock carrier, and answers its units unless
     /// it is to move.
-    fn resize_multi(
-        &mut self,
-        decision: Decision,
-        spot: Spot,
-        need: u32,
-        name: u32,
-    ) -> Result<Option<u32>, OutOfMemory>
+    fn resize_multi(&mut self, decision: Decision, spot: Spot, need: u32, name: u32) -> Option<u32>
         requires block { IsSome (block_in (employed self.old) spot) }
         requires multi { has_content spot.carrier self.old.contents ≡ true }
         requires decision { decision ≡ decision_at self.old spot need }
         requires even { need % 2 ≡ 0 }
         requires least { MIN_BLOCK ≤ need }
-        ensures moves { IfOk result (λ size. IsNone size ↔ (decision ≡ Move)) }
-        ensures size { IfOk result (λ size. IfSome size (λ units.
-            units ≡ resized_to self.old spot need)) }
-        ensures ok { OnOk result (self.new ≡ resizing_at self.old spot need name) }
-        ensures err { OnErr result (self.new ≡ self.old) }
+        ensures moves { IsNone result ↔ (decision ≡ Move) }
+        ensures size { IfSome result (λ units. units ≡ resized_to self.old spot need) }
+        ensures resized { self.new ≡ resizing_at self.old spot need name }
     {
         let Spot { carrier, offset } = spot;
         match decision {
-            Decision::Stay => Ok(Some(self.carriers.rename(carrier, offset, name))),
+            Decision::Stay => Some(self.carriers.rename(carrier, offset, name)),
             Decision::ShrinkHere => {
-                self.carriers.shrink(carrier, offset, need, name)?;
-                Ok(Some(need))
+                self.carriers.shrink(carrier, offset, need, name);
+                Some(need)
             }
-            Decision::GrowHere => Ok(Some(self.carriers.grow(carrier, offset, need, name))),
+            Decision::GrowHere => Some(self.carriers.grow(carrier, offset, need, name)),
             Decision::ShrinkCarrier { .. } => unreachable!(),
-            Decision::Move => Ok(None),
+            Decision::Move => None,
         }
     }
 

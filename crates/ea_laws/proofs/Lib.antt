@@ -18,6 +18,7 @@ pub mod Owned
 pub mod Ranges
 pub mod Reallocating
 pub mod Refusals
+pub mod RegionUnits
 pub mod Resized
 pub mod Resizing
 pub mod Room

@@ -1,7 +1,7 @@
 -- Laws of an instance: that it stands at its beginning and through each change, and what each
 -- change does to its blocks.
 use Rattle.std.specs.Prelude.{◌≡◌, ◌↔◌, ℕ, ◌+◌, ◌%◌, ◌≢◌, ◌<◌, ◌≤◌, true, None, Some, Ok, Err, All}
-use Rattle.std.specs.Prelude.{IsSome}
+use Rattle.std.specs.Prelude.{◌-◌, ◌*◌, IsSome, sum_by}
 use Rattle.ea_model.specs.declared.carriers.CarrierPlan.{CarrierPlan}
 use Rattle.ea_model.specs.declared.carriers.OwnCarrier.{OwnCarrier}
 use Rattle.ea_model.specs.declared.carriers.Spot.{Spot}
@@ -9,6 +9,7 @@ use Rattle.ea_model.specs.declared.entries.NoCarrier.TheVariants.{Numbers, Space
 use Rattle.ea_model.specs.declared.reallocation.Decision.TheVariants.{Move}
 use Rattle.ea_model.specs.declared.settings.Settings.{Settings}
 use Rattle.ea_model.specs.declared.units.TheConstants.{MAX_PAGES, MAX_SCHEDULERS, MIN_BLOCK}
+use Rattle.ea_model.specs.declared.units.TheConstants.{PAGE_UNITS}
 use Rattle.ea_model.specs.Content.{Content, is_vacant}
 use Rattle.ea_model.specs.Employment.{dismissing, disowning}
 use Rattle.ea_model.specs.Instance.{Instance, block_in, chosen_spot, content_of, creating}
@@ -36,6 +37,12 @@ StandsAtBeginning = (s : Settings) (number first pages : ℕ) → MayBegin s num
 
 abbrev pub StandsInOrder : Type 0
 StandsInOrder = (i : Instance) → Stands i → IsInOrder i
+
+-- where carriers don't migrate, the instance employs no more units in its main and multiblock
+-- carriers than its region has
+abbrev pub EmploysWithinRegion : Type 0
+EmploysWithinRegion = (i : Instance) → Stands i → i.settings.acul ≡ 0
+    → sum_by (λ c. c.units) i.contents ≤ PAGE_UNITS * (i.end - i.first)
 
 -- a block at the chosen spot, of a need as requests have it
 abbrev pub Places : Type 0

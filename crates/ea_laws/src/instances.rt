@@ -1,16 +1,18 @@
 //! Laws of an instance.
 ghost use Rattle.ea_laws.specs.InstanceLaws.{StandsAtBeginning, Creates, CreatesSingle};
-ghost use Rattle.ea_laws.specs.InstanceLaws.{Dismisses, Disowns};
+ghost use Rattle.ea_laws.specs.InstanceLaws.{Dismisses, Disowns, EmploysWithinRegion};
 ghost use Rattle.ea_laws.specs.InstanceLaws.{Places, RefusesNumbers, RefusesSpace, Releases};
 ghost use Rattle.ea_laws.specs.InstanceLaws.{Resizes, StandsInOrder};
 
 /// An instance stands at its beginning, and after each placement, release, creation and
 /// reallocation in place, and after a carrier was dismissed or disowned. While it stands it is in
-/// order. What each change does to its blocks is said, and that other blocks stay; and why there is
-/// no plan for a carrier.
+/// order, and where carriers don't migrate it employs no more units than its region has. What each
+/// change does to its blocks is said, and that other blocks stay; and why there is no plan for a
+/// carrier.
 pub fn instances()
     ensures begins { StandsAtBeginning }
     ensures order { StandsInOrder }
+    ensures region { EmploysWithinRegion }
     ensures places { Places }
     ensures releases { Releases }
     ensures dismisses { Dismisses }

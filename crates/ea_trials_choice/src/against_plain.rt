@@ -219,7 +219,7 @@ impl Sides {
             return Ok(false);
         };
         let carrier = self.instance.prepare(alloc, plan)?;
-        self.instance.create(plan, need, carrier)?;
+        self.instance.create(plan, need, carrier);
         push_carrier(
             &mut self.carriers,
             PlainCarrier::new(alloc, 1, Kind::Multi, plan),
@@ -252,7 +252,7 @@ impl Sides {
     fn free(&mut self, rt: &impl Abort, alloc: Global, spot: Spot) -> Result<(), NoChoice> {
         let index = position(spot.carrier, &self.carriers).expect(rt, "the carrier is there");
         assert!(rt; self.instance.block_at(spot).is_some());
-        let vacant = self.instance.release(spot)?;
+        let vacant = self.instance.release(spot);
         self.carriers[index].release(alloc, spot.offset)?;
         assert_eq!(rt; vacant, self.carriers[index].is_empty_multi());
         if vacant {

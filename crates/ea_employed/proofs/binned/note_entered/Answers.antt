@@ -8,5 +8,5 @@ pub returns-in-Some-clause-entered : goal.returns-in-Some-clause-entered
 returns-in-Some-clause-entered c = λ held h.
     let gap = some_gap c.args.gap in
     let was = c.in-Some.bins.held in
-    IsPermutation-trans c.put.new.self.held (gap ++ was) (gap ++ held) c.put.ensures
+    IsPermutation-trans c.put.new.self.held (gap ++ was) (gap ++ held) c.put.ensures.order
     (IsPermutation-append_right gap was held (subst (λ o. Hold o held) c.in-Some.is h))

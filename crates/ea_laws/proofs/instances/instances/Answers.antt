@@ -3,6 +3,7 @@ use Rattle.ea_laws.proofs.Blocks.{placing-IsPlaced, releasing-gone, releasing-ot
 use Rattle.ea_laws.proofs.Keeping.{chosen-planned}
 use Rattle.ea_laws.proofs.Reallocating.{resizing-Stands, resizing-begins, resizing-others}
 use Rattle.ea_laws.proofs.Refusals.{plan-numbers, plan-space}
+use Rattle.ea_laws.proofs.RegionUnits.{employed-within}
 use Rattle.ea_laws.proofs.Standing.{Stands-IsInOrder, chosen-Stands, chosen_spot-HasGap}
 use Rattle.ea_laws.proofs.Standing.{dismissing-Stands, disowning-Stands}
 use Rattle.ea_laws.proofs.Standing.{creating-Stands, creating_single-Stands}
@@ -15,6 +16,9 @@ returns-clause-begins c = λ s number first pages may.
 
 pub returns-clause-order : goal.returns-clause-order
 returns-clause-order c = Stands-IsInOrder
+
+pub returns-clause-region : goal.returns-clause-region
+returns-clause-region c = employed-within
 
 pub returns-clause-places : goal.returns-clause-places
 returns-clause-places c = λ i need name spot st least even chosen. (

@@ -1,4 +1,4 @@
-use Rattle.std.proofs.Common.{◌≢◌, arith, length, map, All, ◌∙◌, ap, refl, sym, subst}
+use Rattle.std.proofs.Common.{◌≡◌, ◌≢◌, false, arith, length, map, All, ◌∙◌, ap, refl, sym, subst}
 use Rattle.std.proofs.lemmas.List.Elements.{All-map}
 use Rattle.ea_model.specs.Content.{Content, gaps_of, largest}
 use Rattle.ea_model.specs.Instance.{figures}
@@ -7,6 +7,7 @@ use Rattle.ea_cset.specs.declared.keys.CarrierFit.{CarrierFit}
 use Rattle.ea_laws.specs.Kept.{ContentsApart}
 use Rattle.ea_laws.proofs.Apart.{other-bases}
 use Rattle.ea_laws.proofs.Contents.{absent-All}
+use Rattle.ea_employed.specs.Binned.{has_bins}
 use Rattle.ea_employed.specs.Laid.{AreLaid}
 use Rattle.ea_employed.specs.Counted.{with_whole}
 use Rattle.ea_employed.specs.Listed.{CarrierList, held_of}
@@ -59,19 +60,21 @@ with_whole-self-inside-requires c =
       omega (arith, bounded.carriers_size, one.units, units),
     )
 
+none : (c : goal.After-self-1) → has_bins c.self.inside.strategy ≡ false
+none c = ap (λ (l : CarrierList). has_bins l.strategy) c.self.view_is ∙ c.requires.strategy
+
 pub invariant_of-self : goal.invariant_of-self
 invariant_of-self c =
     let x = c.args.employed in
     let cs = c.self.inside.list.items in
     record {
-      listed = IsListed-entered _ _ _ x _ _ _ _ _ _ c.self.invariant.listed
+      listed = IsListed-entered _ _ _ _ x _ _ _ _ _ _ c.self.invariant.listed
+          (λ yes. absurd (let no = none c in cc))
           c.enter_within.ensures.items c.carrier_key-key.ensures
           (c.largest-fit.ensures ∙ ap (λ m. largest (gaps_of m)) c.employed.view_is)
-          c.add.ensures.added refl
-          (no_bins-Hold c.self.inside.strategy cs c.self.inside.set c.self.inside.bins
-          c.self.invariant.listed
-          (λ gf. c.requires.strategy (ap (λ (l : CarrierList). l.strategy) (sym c.self.view_is)
-          ∙ gf)) _);
+          c.add.ensures.added refl (λ _ kept. kept)
+          (no_bins-Hold c.self.inside.strategy c.self.inside.units cs c.self.inside.set
+          c.self.inside.bins c.self.invariant.listed (none c) _);
       room = omega (arith, c.self.invariant.room, c.enter_within.ensures.capacity);
       counted =
           c.with_whole-self-inside.ensures

@@ -1,4 +1,6 @@
-use Rattle.std.proofs.Common.{◌≢◌, arith, length, map, All, ◌∙◌, ap, sym, subst}
+use Rattle.std.proofs.Common.{◌≡◌, ◌≢◌, ◌+◌, ◌≤◌, true, arith, length, map, All, ◌∙◌, ap, sym}
+use Rattle.std.proofs.Common.{subst}
+use Rattle.std.specs.Prelude.{sum_by}
 use Rattle.std.proofs.lemmas.List.Elements.{All-map}
 use Rattle.ea_model.specs.Content.{Content, gaps_of, largest, Tiled}
 use Rattle.ea_model.specs.Instance.{figures}
@@ -7,12 +9,14 @@ use Rattle.ea_cset.specs.declared.keys.CarrierFit.{CarrierFit}
 use Rattle.ea_laws.specs.Kept.{ContentsApart, IsLaidOut}
 use Rattle.ea_laws.proofs.Apart.{other-bases}
 use Rattle.ea_laws.proofs.Contents.{absent-All}
+use Rattle.ea_employed.specs.Binned.{has_bins}
 use Rattle.ea_employed.specs.Laid.{AreLaid}
 use Rattle.ea_employed.specs.Counted.{with_carrier}
 use Rattle.ea_employed.specs.Listed.{CarrierList, held_of}
-use Rattle.ea_employed.proofs.BinsAfter.{entered-free, entered-gaps}
+use Rattle.ea_employed.proofs.BinsAfter.{entered-free, entered-gaps, entered-size}
 use Rattle.ea_employed.proofs.Counting.{AreBounded, figures-entered, laid-figures}
 use Rattle.ea_employed.proofs.Listed.{IsListed-entered}
+use Rattle.ea_employed.proofs.Places.{has-room}
 use Rattle.ea_employed.proofs.carriers.Carriers.enter.Goals as goal
 
 pub add-requires-clause-number : goal.add-requires-clause-number
@@ -69,11 +73,32 @@ note_entered-requires-clause-address c = λ some.
     (sym c.self.view_is) c.requires.apart in
     entered-free x sound c.requires.empty c.address-address.result c.largest-size.result
     c.address-address.ensures (c.largest-size.ensures
-    ∙ ap (λ m. largest (gaps_of m)) c.employed.view_is) _ c.make_room.new.bins laid apart
-    (c.make_room.ensures.held _ c.self.invariant.listed.gaps) some
+    ∙ ap (λ m. largest (gaps_of m)) c.employed.view_is) _ c.self.inside.bins laid apart
+    c.self.invariant.listed.gaps some
 
-pub invariant_of-self-2 : goal.invariant_of-self-2
-invariant_of-self-2 c =
+pub note_entered-requires-clause-size : goal.note_entered-requires-clause-size
+note_entered-requires-clause-size c =
+    let x = c.args.employed in
+    let sound : IsLaidOut x =
+    record {
+      whole = c.requires.whole;
+      shared = c.requires.shared;
+      tiled = subst (λ (m : Content). Tiled 8 m.units m.blocks) c.employed.view_is
+          c.laid_out.ensures.tiled;
+      low = c.requires.low;
+    } in
+    entered-size x sound c.requires.empty c.address-address.result c.largest-size.result
+    c.address-address.ensures (c.largest-size.ensures
+    ∙ ap (λ m. largest (gaps_of m)) c.employed.view_is)
+
+pub note_entered-requires-clause-room : goal.note_entered-requires-clause-room
+note_entered-requires-clause-room c =
+    let laid = subst (λ (l : CarrierList). AreLaid l.contents) (sym c.self.view_is)
+    c.requires.laid in
+    has-room _ _ _ _ _ c.self.invariant.listed laid.sound
+
+pub invariant_of-self : goal.invariant_of-self
+invariant_of-self c =
     let x = c.args.employed in
     let sound : IsLaidOut x =
     record {
@@ -84,23 +109,25 @@ invariant_of-self-2 c =
       low = c.requires.low;
     } in
     record {
-      listed = IsListed-entered _ _ _ x _ _ _ _ _ _ c.self.invariant.listed c.in_ok-enter.ensures.ok
+      listed = IsListed-entered _ _ _ _ x _ _ _ _ _ _ c.self.invariant.listed
+          (subst (λ (l : CarrierList). has_bins l.strategy ≡ true
+          → sum_by (λ m. m.units) l.contents + x.units ≤ l.units) (sym c.self.view_is)
+          c.requires.few) c.enter_within.ensures.items
           c.carrier_key-key.ensures (c.largest-size.ensures
           ∙ ap (λ m. largest (gaps_of m)) c.employed.view_is) c.add.ensures.added
-          (c.note_entered.ensures.some ∙ c.make_room.ensures.some)
+          c.note_entered.ensures.fit c.note_entered.ensures.places
           (entered-gaps x sound c.requires.empty c.address-address.result c.largest-size.result
           c.address-address.ensures (c.largest-size.ensures
           ∙ ap (λ m. largest (gaps_of m)) c.employed.view_is) _ _ c.note_entered.new.bins
-          c.in_ok-enter.ensures.ok
-          (c.note_entered.ensures.entered _
-          (c.make_room.ensures.held _ c.self.invariant.listed.gaps)));
-      room = omega (arith, c.self.invariant.room, c.in_ok-enter.ensures.capacity);
+          c.enter_within.ensures.items
+          (c.note_entered.ensures.entered _ c.self.invariant.listed.gaps));
+      room = omega (arith, c.self.invariant.room, c.enter_within.ensures.capacity);
       counted =
           c.with_carrier-self-inside.ensures
           ∙ ap (with_carrier c.units-units.result) c.self.invariant.counted
           ∙ ap (λ u. with_carrier u (figures c.self.inside.list.items))
           (c.units-units.ensures ∙ ap (λ (m : Content). m.units) c.employed.view_is)
-          ∙ sym (ap figures c.in_ok-enter.ensures.ok
+          ∙ sym (ap figures c.enter_within.ensures.items
           ∙ figures-entered x c.self.inside.list.items c.requires.empty);
     }
 

@@ -78,8 +78,8 @@ invariant_of-self-2 c =
       listed =
           IsListed-changed (λ m. resized m c.args.offset (units m) c.args.name)
           (resized_by-keeps c.args.offset units c.args.name) c.args.number w.content _ _ _ _ _ _ _ _
-          w.there laid.rising c.self.invariant.listed w.is w.block.largest c.update.ensures.updated
-          c.note_placed.ensures.some
+          _ w.there laid.rising c.self.invariant.listed w.is w.block.largest
+          c.update.ensures.updated c.note_placed.ensures.fit c.note_placed.ensures.places
           (cut-noted _ _ _ _ _ cut c.self.inside.bins c.self.invariant.listed.gaps
           c.note_placed.new.bins c.note_placed.ensures.cut);
       room = c.self.invariant.room;
@@ -169,7 +169,11 @@ returns-clause-grown c =
     c.in-Some.ensures.grown c.requires.more c.requires.even c.requires.fits
     c.in-Some.ensures.was c.in-Some.ensures.after c.in-Some.ensures.size
     c.in-Some.ensures.largest c.in-Some.ensures.gap_resized in
-    ap (λ cs. record { strategy = c.self.inside.strategy; contents = cs }) w.is
+    ap (λ cs. record {
+      strategy = c.self.inside.strategy;
+      units = c.self.inside.units;
+      contents = cs;
+    }) w.is
     ∙ ap (λ (l : CarrierList). record l {
       contents =
           changed

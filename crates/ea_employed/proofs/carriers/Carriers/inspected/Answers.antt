@@ -1,53 +1,61 @@
-use Rattle.std.proofs.Common.{◌≡◌, List, sym, ap, ◌∙◌, subst}
-use Rattle.std.specs.Prelude.{IfSome}
-use Rattle.std.specs.Option.{option_and_then, option_copied}
-use Rattle.ea_model.specs.declared.settings.Strategy.TheVariants.{Gf}
-use Rattle.ea_model.specs.Content.{Content}
+use Rattle.std.proofs.Common.{◌≡◌, sym, ap, ◌∙◌}
 use Rattle.ea_model.specs.Strategies.{choice_among}
-use Rattle.ea_employed.specs.Binned.{Hold}
-use Rattle.ea_employed.specs.Laid.{AreLaid}
-use Rattle.ea_employed.specs.Choices.{candidate_of, StandsAt}
-use Rattle.ea_employed.specs.Listed.{CarrierList, all_gaps, candidate_at}
-use Rattle.ea_employed.proofs.Missing.{gf-choice, gf-IsChoice}
+use Rattle.ea_cset.specs.Carriers.{lower, number_found, older}
+use Rattle.ea_employed.specs.Choices.{candidate_of}
+use Rattle.ea_employed.specs.Listed.{CarrierList}
+use Rattle.ea_employed.specs.Searches.{search_of}
+use Rattle.ea_employed.specs.declared.strategies.Search.TheVariants.{Address, Age, Lowest}
+use Rattle.ea_employed.proofs.ByCarrier.{choice-first}
+use Rattle.ea_employed.proofs.Choosing.{address-miss_none, age-miss_none, bins-has_bins}
+use Rattle.ea_employed.proofs.Choosing.{choice-all, lowest-af}
+use Rattle.ea_employed.proofs.Listed.{found-stands}
+use Rattle.ea_employed.proofs.TwoCarriers.{address-GoesBy, age-GoesBy}
 use Rattle.ea_employed.proofs.carriers.Carriers.inspected.Goals as goal
 
-pub returns-in_err-find-clause-chosen : goal.returns-in_err-find-clause-chosen
-returns-in_err-find-clause-chosen c =
-    let cs = c.self.inside.list.items in
-    let laid = subst (λ (l : CarrierList). AreLaid l.contents) (sym c.self.view_is)
-    c.requires.laid in
-    let held = subst (λ o. Hold o (all_gaps cs)) (sym c.as_ref.ensures.value
-    ∙ ap option_copied c.in_ok-as_ref.was)
-    c.self.invariant.listed.gaps in
-    ap candidate_of c.from_residual-in_err-find.ensures
-    ∙ ap (option_and_then (λ g. candidate_at g cs)) (sym c.in_err-find.was)
-    ∙ gf-choice c.args.depth c.args.need cs _ c.find.result
-    (ap (λ (l : CarrierList). l.contents) c.self.view_is) laid.sound laid.apart
-    (c.find.ensures.order _ held)
+pub choice_in-requires-clause-stands : goal.choice_in-requires-clause-stands
+choice_in-requires-clause-stands c =
+    found-stands c.first_by_address.result _ _ c.self.inside.set c.self.invariant.listed.held
+    (ap (λ (l : CarrierList). l.contents) c.self.view_is) c.first_by_address.ensures.stands
 
-chosen : (c : goal.After-choice_at)
-    → candidate_of c.choice_at.result
-    ≡ choice_among Gf c.args.depth c.args.need c.args.self.now.contents
-chosen c =
-    let cs = c.self.inside.list.items in
-    let laid = subst (λ (l : CarrierList). AreLaid l.contents) (sym c.self.view_is)
-    c.requires.laid in
-    let held = subst (λ o. Hold o (all_gaps cs)) (sym c.as_ref.ensures.value
-    ∙ ap option_copied c.in_ok-as_ref.was)
-    c.self.invariant.listed.gaps in
-    c.choice_at.ensures.found ∙ ap (candidate_at c.in_ok-find.field-0) c.deref.ensures.value
-    ∙ ap (option_and_then (λ g. candidate_at g cs)) (sym c.in_ok-find.was)
-    ∙ gf-choice c.args.depth c.args.need cs _ c.find.result
-    (ap (λ (l : CarrierList). l.contents) c.self.view_is) laid.sound laid.apart
-    (c.find.ensures.order _ held)
+pub choice_in-requires-in-Age-clause-stands : goal.choice_in-requires-in-Age-clause-stands
+choice_in-requires-in-Age-clause-stands c =
+    found-stands c.first_by_age.result _ _ c.self.inside.set c.self.invariant.listed.held
+    (ap (λ (l : CarrierList). l.contents) c.self.view_is) c.first_by_age.ensures.stands
 
-pub returns-clause-chosen : goal.returns-clause-chosen
-returns-clause-chosen c = chosen c
+pub returns-in-Address-clause-chosen : goal.returns-in-Address-clause-chosen
+returns-in-Address-clause-chosen c =
+    let s = c.args.self.now.strategy in
+    let search : search_of s ≡ Address = ap (λ (l : CarrierList). search_of l.strategy)
+    (sym c.self.view_is) ∙ sym c.search_of.ensures ∙ c.in-Address.is in
+    choice-all s c.args.depth c.args.need c.args.self.now.contents (candidate_of c.choice_in.result)
+    (address-miss_none s search)
+    (choice-first s lower (address-GoesBy s search) c.args.need c.requires.some _ _ _ _ _ _
+    c.self.invariant.listed (ap (λ (l : CarrierList). l.contents) c.self.view_is) c.requires.laid
+    (number_found c.first_by_address.result) (candidate_of c.choice_in.result)
+    c.first_by_address.ensures.found c.choice_in.ensures.chosen)
 
-pub returns-clause-choice : goal.returns-clause-choice
-returns-clause-choice c =
-    gf-IsChoice c.args.depth c.args.need c.args.self.now.contents c.choice_at.result
-    c.requires.laid (chosen c)
-    (subst (λ (cs : List Content). IfSome c.choice_at.result (StandsAt cs))
-    (c.deref.ensures.value ∙ ap (λ (l : CarrierList). l.contents) c.self.view_is)
-    c.choice_at.ensures.stands)
+pub returns-in-Age-clause-chosen : goal.returns-in-Age-clause-chosen
+returns-in-Age-clause-chosen c =
+    let s = c.args.self.now.strategy in
+    let search : search_of s ≡ Age = ap (λ (l : CarrierList). search_of l.strategy)
+    (sym c.self.view_is) ∙ sym c.search_of.ensures ∙ c.in-Age.is in
+    choice-all s c.args.depth c.args.need c.args.self.now.contents
+    (candidate_of c.choice_in-in-Age.result) (age-miss_none s search)
+    (choice-first s older (age-GoesBy s search) c.args.need c.requires.some _ _ _ _ _ _
+    c.self.invariant.listed (ap (λ (l : CarrierList). l.contents) c.self.view_is) c.requires.laid
+    (number_found c.first_by_age.result) (candidate_of c.choice_in-in-Age.result)
+    c.first_by_age.ensures.found c.choice_in-in-Age.ensures.chosen)
+
+pub binned-requires-clause-bins : goal.binned-requires-clause-bins
+binned-requires-clause-bins c =
+    bins-has_bins c.args.self.now.strategy (ap (λ (l : CarrierList). search_of l.strategy)
+    (sym c.self.view_is) ∙ sym c.search_of.ensures ∙ c.in-Bins.is)
+
+pub returns-in-Lowest-clause-chosen : goal.returns-in-Lowest-clause-chosen
+returns-in-Lowest-clause-chosen c =
+    let now = c.args.self.now in
+    let search : search_of now.strategy ≡ Lowest = ap (λ (l : CarrierList). search_of l.strategy)
+    (sym c.self.view_is) ∙ sym c.search_of.ensures ∙ c.in-Lowest.is in
+    c.lowest.ensures.chosen c.args.depth
+    ∙ ap (λ t. choice_among t c.args.depth c.args.need now.contents)
+    (sym (lowest-af now.strategy search))

@@ -1,8 +1,7 @@
-use Rattle.std.proofs.Common.{◌≡◌, ℕ, [], List, ◌++◌, arith, ◌∙◌, ap, refl, sym, subst}
-use Rattle.std.specs.Prelude.{IfSome, IsSome, None, Option, Some}
+use Rattle.std.proofs.Common.{◌≡◌, ℕ, true, [], List, ◌++◌, arith, ◌∙◌, ap, refl, sym, subst}
+use Rattle.std.specs.Prelude.{IfSome, is_some, None, Option, Some}
 use Rattle.std.specs.List.Sorted.{IsPermutation}
 use Rattle.ea_model.specs.declared.settings.Strategy.{Strategy}
-use Rattle.ea_model.specs.declared.settings.Strategy.TheVariants.{Gf}
 use Rattle.ea_model.specs.declared.carriers.Figures.{Figures}
 use Rattle.ea_model.specs.Content.{Content, gaps_of, largest}
 use Rattle.ea_model.specs.Instance.{content_of, figures, without_content}
@@ -11,8 +10,8 @@ use Rattle.ea_model.proofs.Rising.{item_at-All}
 use Rattle.ea_cset.specs.Carriers.{Carriers, is_held}
 use Rattle.ea_goodfit.specs.declared.gaps.BinnedGap.{BinnedGap}
 use Rattle.ea_goodfit.specs.Gaps.{HeldGaps, gap_from}
-use Rattle.ea_laws.specs.Kept.{number_of, IsLaidOut}
-use Rattle.ea_employed.specs.Binned.{Hold}
+use Rattle.ea_laws.specs.Kept.{number_of, IsLaidOut, IsRising}
+use Rattle.ea_employed.specs.Binned.{fit_in, has_bins, Hold}
 use Rattle.ea_employed.specs.Laid.{AreLaid}
 use Rattle.ea_employed.specs.Counted.{with_whole}
 use Rattle.ea_employed.specs.Listed.{CarrierList, IsListed, all_gaps}
@@ -34,16 +33,16 @@ laid_out : (now here : CarrierList) (n : ℕ) (x : Content) → here ≡ now →
 laid_out now here n x seen laid there = item_at-All number_of IsLaidOut n x here.contents
     (subst (λ (l : CarrierList). AreLaid l.contents) (sym seen) laid).sound there
 
-empty : (now : CarrierList) (cs : List Content) (n : ℕ) (x : Content) (s : Strategy)
+empty : (now : CarrierList) (cs : List Content) (n : ℕ) (x : Content) (s : Strategy) (units : ℕ)
     (set : Carriers) (bins : Option HeldGaps) (b : HeldGaps)
-    → record { strategy = s; contents = cs } ≡ now → IsListed s cs set bins
-    → (now.strategy ≡ Gf → IfSome (content_of now.contents n) (λ c. c.blocks ≡ []))
+    → record { strategy = s; units = units; contents = cs } ≡ now → IsListed s units cs set bins
+    → (has_bins now.strategy ≡ true → IfSome (content_of now.contents n) (λ c. c.blocks ≡ []))
     → content_of cs n ≡ Some x → bins ≡ Some b → x.blocks ≡ []
-empty now cs n x s set bins b seen listed none there some =
-    let gf = listed.some.1 (subst IsSome (sym some) refl) in
+empty now cs n x s units set bins b seen listed none there some =
+    let has : has_bins s ≡ true = ap is_some (sym listed.fit ∙ ap fit_in some) in
     subst (λ o. IfSome o (λ (c : Content). c.blocks ≡ []))
     (ap (λ (l : CarrierList). content_of l.contents n) (sym seen) ∙ there)
-    (none (ap (λ (l : CarrierList). l.strategy) (sym seen) ∙ gf))
+    (none (ap (λ (l : CarrierList). has_bins l.strategy) (sym seen) ∙ has))
 
 pub address-address-requires-clause-low : goal.address-address-requires-clause-low
 address-address-requires-clause-low c = (laid_out c.args.self.now _ c.args.number
@@ -73,8 +72,8 @@ note_left-requires c = by c.self.inside.bins refl where
       left-held x (laid_out c.args.self.now _ c.args.number c.take_out-employed.result
       c.self.view_is c.requires.laid c.take_out-employed.ensures.item) (empty c.args.self.now
       c.self.inside.list.items c.args.number c.take_out-employed.result
-      c.self.inside.strategy c.self.inside.set c.self.inside.bins b c.self.view_is
-      c.self.invariant.listed c.requires.bins c.take_out-employed.ensures.item some)
+      c.self.inside.strategy c.self.inside.units c.self.inside.set c.self.inside.bins b
+      c.self.view_is c.self.invariant.listed c.requires.bins c.take_out-employed.ensures.item some)
       c.address-address.result c.largest-size.result
       c.address-address.ensures
       (c.largest-size.ensures ∙ ap (λ m. largest (gaps_of m)) c.employed.view_is)
@@ -130,10 +129,16 @@ without_whole-self-inside-requires c =
       ),
     )
 
+rising : (c : goal.After-self-1) → IsRising c.self.inside.list.items
+rising c = (subst (λ (l : CarrierList). AreLaid l.contents) (sym c.self.view_is)
+    c.requires.laid).rising
+
 pub invariant_of-self : goal.invariant_of-self
 invariant_of-self c = record {
-  listed = IsListed-left _ _ _ c.args.number _ _ _ _ c.self.invariant.listed
-      c.take_out-employed.ensures.rest c.remove.ensures.removed c.note_left.ensures.some
+  listed = IsListed-left _ _ _ _ c.args.number x _ _ _ _ c.take_out-employed.ensures.item
+      (rising c) c.self.invariant.listed
+      c.take_out-employed.ensures.rest c.remove.ensures.removed c.note_left.ensures.fit
+      c.note_left.ensures.places
       (subst (λ ys. Hold c.note_left.new.bins (all_gaps ys))
       (sym c.take_out-employed.ensures.rest)
       (c.note_left.ensures.left (all_gaps (without_content c.args.number c.self.inside.list.items))
@@ -156,8 +161,8 @@ invariant_of-self c = record {
       left-gaps x (laid_out c.args.self.now _ c.args.number c.take_out-employed.result
       c.self.view_is c.requires.laid c.take_out-employed.ensures.item) (empty c.args.self.now
       c.self.inside.list.items c.args.number c.take_out-employed.result
-      c.self.inside.strategy c.self.inside.set c.self.inside.bins b c.self.view_is
-      c.self.invariant.listed c.requires.bins c.take_out-employed.ensures.item some)
+      c.self.inside.strategy c.self.inside.units c.self.inside.set c.self.inside.bins b
+      c.self.view_is c.self.invariant.listed c.requires.bins c.take_out-employed.ensures.item some)
       c.address-address.result c.largest-size.result
       c.address-address.ensures
       (c.largest-size.ensures ∙ ap (λ m. largest (gaps_of m)) c.employed.view_is)

@@ -2,7 +2,7 @@ use Rattle.std.proofs.Common.{sym, ap, ◌∙◌}
 use Rattle.ea_employed.specs.Choices.{candidate_of}
 use Rattle.ea_employed.specs.Listed.{CarrierList}
 use Rattle.ea_employed.proofs.Listed.{found-stands}
-use Rattle.ea_employed.proofs.Missing.{af-none, af-small, af-large, lowest-found}
+use Rattle.ea_employed.proofs.AddressFit.{af-none, af-small, af-large, lowest-found}
 use Rattle.ea_employed.proofs.carriers.Carriers.lowest.Goals as goal
 
 pub choice_in-requires-clause-stands : goal.choice_in-requires-clause-stands
@@ -14,7 +14,7 @@ pub returns-in_err-found-clause-chosen : goal.returns-in_err-found-clause-chosen
 returns-in_err-found-clause-chosen c = λ depth.
     ap candidate_of c.from_residual.ensures
     ∙ sym (af-none depth c.args.need c.args.self.now.contents
-    (sym (lowest-found _ _ _ _ _ c.self.invariant.listed
+    (sym (lowest-found _ _ _ _ _ _ c.self.invariant.listed
     (ap (λ (l : CarrierList). l.contents) c.self.view_is) c.requires.laid _ c.requires.strategy _ _
     c.first_by_address.ensures.found c.choice_in.ensures.chosen)
     ∙ ap candidate_of c.in_err-found.was))
@@ -22,7 +22,7 @@ returns-in_err-found-clause-chosen c = λ depth.
 pub returns-then-found-need-clause-chosen : goal.returns-then-found-need-clause-chosen
 returns-then-found-need-clause-chosen c = λ depth.
     sym (af-small depth c.args.need c.args.self.now.contents c.in_ok-found.found.candidate
-    (sym (lowest-found _ _ _ _ _ c.self.invariant.listed
+    (sym (lowest-found _ _ _ _ _ _ c.self.invariant.listed
     (ap (λ (l : CarrierList). l.contents) c.self.view_is) c.requires.laid _ c.requires.strategy _ _
     c.first_by_address.ensures.found c.choice_in.ensures.chosen)
     ∙ ap candidate_of c.in_ok-found.was) c.if-found-need.true)
@@ -30,7 +30,7 @@ returns-then-found-need-clause-chosen c = λ depth.
 pub returns-clause-chosen : goal.returns-clause-chosen
 returns-clause-chosen c = λ depth.
     sym (af-large depth c.args.need c.args.self.now.contents c.in_ok-found.found.candidate
-    (sym (lowest-found _ _ _ _ _ c.self.invariant.listed
+    (sym (lowest-found _ _ _ _ _ _ c.self.invariant.listed
     (ap (λ (l : CarrierList). l.contents) c.self.view_is) c.requires.laid _ c.requires.strategy _ _
     c.first_by_address.ensures.found c.choice_in.ensures.chosen)
     ∙ ap candidate_of c.in_ok-found.was) c.if-found-need.false)

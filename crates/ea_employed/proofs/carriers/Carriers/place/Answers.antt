@@ -57,8 +57,9 @@ invariant_of-self c =
     record {
       listed =
           IsListed-changed (λ m. placed m x.offset c.args.need c.args.name) (placed-keeps _ _ _)
-          x.number w.content _ _ _ _ _ _ _ _ w.there laid.rising c.self.invariant.listed w.is
-          w.largest c.update.ensures.updated c.note_placed.ensures.some
+          x.number w.content _ _ _ _ _ _ _ _ _ w.there laid.rising c.self.invariant.listed w.is
+          w.largest c.update.ensures.updated c.note_placed.ensures.fit
+          c.note_placed.ensures.places
           (cut-noted _ _ _ _ _ cut c.self.inside.bins c.self.invariant.listed.gaps
           c.note_placed.new.bins c.note_placed.ensures.cut);
       room = c.self.invariant.room;
@@ -100,7 +101,11 @@ returns-clause-placed c =
     c.place-placed.result c.self.view_is c.requires.laid c.requires.choice c.index_mut.ensures.value
     c.behind-self.view_is c.place-placed.ensures.placed c.place-placed.ensures.size
     c.place-placed.ensures.largest c.place-placed.ensures.gap_taken in
-    ap (λ cs. record { strategy = c.self.inside.strategy; contents = cs }) w.is
+    ap (λ cs. record {
+      strategy = c.self.inside.strategy;
+      units = c.self.inside.units;
+      contents = cs;
+    }) w.is
     ∙ ap (λ (l : CarrierList). record l {
       contents =
           changed (λ m. placed m c.args.choice.candidate.offset c.args.need c.args.name)

@@ -15,6 +15,7 @@ use Rattle.ea_employed.proofs.BinsAfter.{can-join, join-noted, releasing-IsJoin}
 use Rattle.ea_employed.proofs.Changing.{found-at, releasing}
 use Rattle.ea_employed.proofs.Counting.{cancel-block, figures-released, within-block}
 use Rattle.ea_employed.proofs.Listed.{IsListed-changed, held-there}
+use Rattle.ea_employed.proofs.Places.{has-room}
 use Rattle.ea_employed.proofs.carriers.Carriers.release.Goals as goal
 
 pub address-address-requires-clause-within : goal.address-address-requires-clause-within
@@ -52,8 +53,14 @@ note_released-requires-clause-held c =
     c.requires.laid in
     can-join _ _ _ _ _ _ (releasing-IsJoin c.args.number c.args.offset c.address-address.result
     c.release-freed.result _ _
-    laid w) c.make_room.new.bins
-    (c.make_room.ensures.held _ c.self.invariant.listed.gaps)
+    laid w) c.self.inside.bins
+    c.self.invariant.listed.gaps
+
+pub note_released-requires-clause-room : goal.note_released-requires-clause-room
+note_released-requires-clause-room c =
+    let laid = subst (λ (l : CarrierList). AreLaid l.contents) (sym c.self.view_is)
+    c.requires.laid in
+    has-room _ _ _ _ _ c.self.invariant.listed laid.sound
 
 pub without_block-self-inside-requires : goal.without_block-self-inside-requires
 without_block-self-inside-requires c =
@@ -72,8 +79,8 @@ without_block-self-inside-requires c =
     (figures-released c.args.number w.content _ c.args.offset _ laid w.there w.block w.size
     ∙ sym c.self.invariant.counted)
 
-pub invariant_of-self-2 : goal.invariant_of-self-2
-invariant_of-self-2 c =
+pub invariant_of-self : goal.invariant_of-self
+invariant_of-self c =
     let w = releasing _ c.args.self.now c.args.number c.args.offset _ c.index.result.now
     c.index_mut.result.now
     c.self.view_is c.requires.laid c.requires.block
@@ -90,10 +97,11 @@ invariant_of-self-2 c =
     record {
       listed =
           IsListed-changed (λ m. released m c.args.offset) (released-keeps _) c.args.number
-          w.content _ _ _ _ _ _ _ _ w.there laid.rising c.self.invariant.listed w.is w.largest
-          c.update.ensures.updated (c.note_released.ensures.some ∙ c.make_room.ensures.some)
-          (join-noted _ _ _ _ _ _ join c.make_room.new.bins
-          (c.make_room.ensures.held _ c.self.invariant.listed.gaps) c.note_released.new.bins
+          w.content _ _ _ _ _ _ _ _ _ w.there laid.rising c.self.invariant.listed w.is w.largest
+          c.update.ensures.updated c.note_released.ensures.fit
+          c.note_released.ensures.places
+          (join-noted _ _ _ _ _ _ join c.self.inside.bins
+          c.self.invariant.listed.gaps c.note_released.new.bins
           c.note_released.ensures.joined);
       room = c.self.invariant.room;
       counted =
@@ -129,8 +137,8 @@ returns-clause-vacant c =
     ∙ changed-found number_of (λ m. released m c.args.offset) c.args.number (λ m. refl)
     c.index_mut.result.now cs f.at.there))
 
-pub returns-clause-ok : goal.returns-clause-ok
-returns-clause-ok c =
+pub returns-clause-released : goal.returns-clause-released
+returns-clause-released c =
     let w = releasing _ c.args.self.now c.args.number c.args.offset _ c.index.result.now
     c.index_mut.result.now
     c.self.view_is c.requires.laid c.requires.block
@@ -140,7 +148,11 @@ returns-clause-ok c =
     c.release-freed.ensures.released
     c.release-freed.ensures.size c.release-freed.ensures.gaps c.release-freed.ensures.largest
     c.release-freed.ensures.gaps_joined in
-    ap (λ cs. record { strategy = c.self.inside.strategy; contents = cs }) w.is
+    ap (λ cs. record {
+      strategy = c.self.inside.strategy;
+      units = c.self.inside.units;
+      contents = cs;
+    }) w.is
     ∙ ap (λ (l : CarrierList). record l {
       contents = changed (λ m. released m c.args.offset) c.args.number l.contents;
     }) c.self.view_is

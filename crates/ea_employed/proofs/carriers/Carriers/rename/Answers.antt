@@ -27,7 +27,7 @@ invariant_of-self c =
       offset = offset;
     }))) (sym c.self.view_is) c.requires.block) in
     record {
-      listed = renaming-IsListed number offset c.args.name _ _ _ _ _ laid w
+      listed = renaming-IsListed number offset c.args.name _ _ _ _ _ _ laid w
           c.self.invariant.listed;
       room = c.self.invariant.room;
       counted =
@@ -43,7 +43,11 @@ returns-clause-renamed c =
     c.place_of-index.ensures.within c.place_of-index.ensures.item c.index_mut.ensures.value
     c.index_mut.ensures.value _ _ _ c.behind-self.view_is
     c.args.name c.rename.ensures.renamed c.rename.ensures.gaps in
-    ap (λ cs. record { strategy = c.self.inside.strategy; contents = cs }) w.is
+    ap (λ cs. record {
+      strategy = c.self.inside.strategy;
+      units = c.self.inside.units;
+      contents = cs;
+    }) w.is
     ∙ ap (λ (l : CarrierList). record l {
       contents =
           changed

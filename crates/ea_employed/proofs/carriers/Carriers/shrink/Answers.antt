@@ -8,6 +8,7 @@ use Rattle.ea_employed.proofs.BinsAfter.{can-join, join-noted}
 use Rattle.ea_employed.proofs.Changing.{found-at, resizing-low, shrinking, shrinking-below}
 use Rattle.ea_employed.proofs.Counting.{resized-counted, resized-within}
 use Rattle.ea_employed.proofs.Listed.{IsListed-changed, held-there}
+use Rattle.ea_employed.proofs.Places.{has-room}
 use Rattle.ea_employed.proofs.Resizing.{resized_by-keeps, shrinking-IsJoin}
 use Rattle.ea_employed.proofs.carriers.Carriers.shrink.Goals as goal
 
@@ -48,11 +49,11 @@ note_released-requires-clause-held c =
     c.requires.laid in
     can-join _ _ _ _ _ _ (shrinking-IsJoin c.args.number c.args.offset (λ m. c.args.need)
     c.args.name c.address-address.result c.shrink-block.result _ _ laid w
-    (omega (arith, below))) c.make_room.new.bins
-    (c.make_room.ensures.held _ c.self.invariant.listed.gaps)
+    (omega (arith, below))) c.self.inside.bins
+    c.self.invariant.listed.gaps
 
-pub invariant_of-self-2 : goal.invariant_of-self-2
-invariant_of-self-2 c =
+pub invariant_of-self : goal.invariant_of-self
+invariant_of-self c =
     let w = shrinking _ c.args.self.now c.args.number c.args.offset _ c.index.result.now
     c.index_mut.result.now
     c.self.view_is c.requires.laid c.requires.block
@@ -72,16 +73,23 @@ invariant_of-self-2 c =
       listed =
           IsListed-changed (λ m. resized m c.args.offset c.args.need c.args.name)
           (resized_by-keeps c.args.offset (λ m. c.args.need) c.args.name) c.args.number w.content
-          _ _ _ _ _ _ _ _ w.there laid.rising c.self.invariant.listed w.is w.block.largest
-          c.update.ensures.updated (c.note_released.ensures.some ∙ c.make_room.ensures.some)
-          (join-noted _ _ _ _ _ _ join c.make_room.new.bins
-          (c.make_room.ensures.held _ c.self.invariant.listed.gaps) c.note_released.new.bins
+          _ _ _ _ _ _ _ _ _ w.there laid.rising c.self.invariant.listed w.is w.block.largest
+          c.update.ensures.updated c.note_released.ensures.fit
+          c.note_released.ensures.places
+          (join-noted _ _ _ _ _ _ join c.self.inside.bins
+          c.self.invariant.listed.gaps c.note_released.new.bins
           c.note_released.ensures.joined);
       room = c.self.invariant.room;
       counted =
           resized-counted c.args.number c.args.offset (λ m. c.args.need) c.args.name _ _ _ _ laid w
           _ _ c.self.invariant.counted c.with_size-self-inside.ensures;
     }
+
+pub note_released-requires-clause-room : goal.note_released-requires-clause-room
+note_released-requires-clause-room c =
+    let laid = subst (λ (l : CarrierList). AreLaid l.contents) (sym c.self.view_is)
+    c.requires.laid in
+    has-room _ _ _ _ _ c.self.invariant.listed laid.sound
 
 pub with_size-self-inside-requires : goal.with_size-self-inside-requires
 with_size-self-inside-requires c =
@@ -139,8 +147,8 @@ overflow_add-address c =
           c.address-address.result c.shrink-block.result _ _ laid w,
     )
 
-pub returns-clause-ok : goal.returns-clause-ok
-returns-clause-ok c =
+pub returns : goal.returns
+returns c =
     let w = shrinking _ c.args.self.now c.args.number c.args.offset _ c.index.result.now
     c.index_mut.result.now
     c.self.view_is c.requires.laid c.requires.block
@@ -150,7 +158,11 @@ returns-clause-ok c =
     c.shrink-block.ensures.shrunk c.requires.fewer c.requires.even c.requires.least
     c.shrink-block.ensures.was c.shrink-block.ensures.after c.shrink-block.ensures.size
     c.shrink-block.ensures.largest c.shrink-block.ensures.gap_resized in
-    ap (λ cs. record { strategy = c.self.inside.strategy; contents = cs }) w.is
+    ap (λ cs. record {
+      strategy = c.self.inside.strategy;
+      units = c.self.inside.units;
+      contents = cs;
+    }) w.is
     ∙ ap (λ (l : CarrierList). record l {
       contents =
           changed (λ m. resized m c.args.offset c.args.need c.args.name) c.args.number l.contents;

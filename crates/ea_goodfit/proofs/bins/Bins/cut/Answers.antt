@@ -9,6 +9,6 @@ put-requires-clause-address c = λ some.
     All-permutation (λ g. g.address ≢ c.args.address + c.args.size) c.requires.rest
     c.take.new.self.held (IsPermutation-sym _ _ left) (c.requires.free (omega arith))
 
-pub returns : goal.returns
-returns c = λ rest m. before-others c.put.new.self.held c.take.new.self.held _ rest c.put.ensures
+pub returns-clause-order : goal.returns-clause-order
+returns-clause-order c = λ rest m. before-others c.put.new.self.held c.take.new.self.held _ rest c.put.ensures.order
     (c.take.ensures.order rest m)

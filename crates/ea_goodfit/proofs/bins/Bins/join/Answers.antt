@@ -10,6 +10,6 @@ put-requires-clause-address c = λ some.
     All-permutation (λ g. g.address ≢ c.args.address - c.args.before) c.requires.held.rest
     c.take-2.new.self.held (IsPermutation-sym _ _ left) c.requires.held.free
 
-pub returns : goal.returns
-returns c = λ rest m. before-others c.put.new.self.held c.take-2.new.self.held _ rest c.put.ensures
+pub returns-clause-order : goal.returns-clause-order
+returns-clause-order c = λ rest m. before-others c.put.new.self.held c.take-2.new.self.held _ rest c.put.ensures.order
     (c.take-2.ensures.order rest (c.take.ensures.order _ m))

@@ -3,18 +3,19 @@ use Rattle.ea_model.specs.declared.carriers.Kind.TheVariants.{Multi}
 use Rattle.ea_model.specs.Content.{Content}
 use Rattle.ea_model.specs.Instance.{Instance, content_of, employed, own_of, with_content}
 use Rattle.ea_laws.specs.Kept.{ContentsApart, IsSomeones}
+use Rattle.ea_employed.specs.Binned.{has_bins}
 use Rattle.ea_instance.proofs.Keeping.{apart-adopted, few-adopted, kept-adopted, new-adopted}
-use Rattle.ea_instance.proofs.Migrating.{migrates-not_gf}
+use Rattle.ea_instance.proofs.Migrating.{migrates-no_bins}
 use Rattle.ea_instance.proofs.instance.Instance.adopt.Goals as goal
 
 as_multi : (x : Content) → x.kind ≡ Multi → record x { kind = Multi } ≡ x
 as_multi x multi = ap (λ k. record x { kind = k }) (sym multi)
 
 pub adopt-requires-clause-strategy : goal.adopt-requires-clause-strategy
-adopt-requires-clause-strategy c = λ gf.
-    migrates-not_gf c.self.inside.settings c.self.invariant.stands.orderly.kept.valid
+adopt-requires-clause-strategy c =
+    ap has_bins c.self.invariant.strategy
+    ∙ migrates-no_bins c.self.inside.settings c.self.invariant.stands.orderly.kept.valid
     (subst (λ (i : Instance). 0 < i.settings.acul) (sym c.self.view_is) c.requires.migrates)
-    (sym c.self.invariant.strategy ∙ gf)
 
 pub adopt-requires-clause-room : goal.adopt-requires-clause-room
 adopt-requires-clause-room c = few-adopted _ _ c.self.inside.own c.self.inside.carriers

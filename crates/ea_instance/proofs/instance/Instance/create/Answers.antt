@@ -1,5 +1,5 @@
 use Rattle.std.proofs.Common.{◌≡◌, ◌+◌, ◌*◌, ◌≤◌, arith, false, All, ◌∙◌, ap, sym, subst}
-use Rattle.std.specs.Prelude.{IsSome}
+use Rattle.std.specs.Prelude.{IsSome, sum_by}
 use Rattle.ea_model.specs.declared.units.TheConstants.{MAX_UNITS}
 use Rattle.ea_model.specs.Content.{Content}
 use Rattle.ea_model.specs.Instance.{Instance, chosen_spot, creating, employed, has_content}
@@ -8,7 +8,8 @@ use Rattle.ea_laws.specs.Kept.{ContentsApart, IsWhole}
 use Rattle.ea_laws.specs.Spots.{HaveSameBlocks}
 use Rattle.ea_laws.proofs.Keeping.{chosen-planned}
 use Rattle.ea_instance.specs.Kept.{seen_as}
-use Rattle.ea_instance.proofs.Keeping.{blocks-created, entering, few-employed, few-own, free-run}
+use Rattle.ea_instance.proofs.Keeping.{blocks-created, entering, few-employed, few-own, few-units}
+use Rattle.ea_instance.proofs.Keeping.{free-run}
 use Rattle.ea_instance.proofs.Keeping.{kept-created, low-enough, new-multi, others-apart}
 use Rattle.ea_instance.proofs.Keeping.{seen-created, unused-number, whole-pages}
 use Rattle.ea_instance.proofs.instance.Instance.create.Goals as goal
@@ -21,6 +22,14 @@ enter-requires-clause-room c =
           c.self.inside.created c.self.invariant c.args.need c.args.plan _ c.self.view_is
           c.requires.plan,
     )
+
+pub enter-requires-clause-few : goal.enter-requires-clause-few
+enter-requires-clause-few c = λ bins.
+    subst (λ (x : Content). sum_by (λ c. c.units) c.self.inside.carriers.contents + x.units
+    ≤ c.self.inside.carriers.units) (sym c.requires.carrier)
+    (few-units _ _ c.self.inside.own c.self.inside.carriers c.self.inside.singles
+    c.self.inside.created
+    c.self.invariant c.args.need c.args.plan _ c.self.view_is c.requires.plan bins)
 
 pub enter-requires-clause-number : goal.enter-requires-clause-number
 enter-requires-clause-number c =
@@ -70,15 +79,15 @@ add-requires-clause-found c =
     c.self.inside.created
     c.self.invariant c.args.need c.args.plan _ c.self.view_is c.requires.plan
 
-pub invariant_of-self-2 : goal.invariant_of-self-2
-invariant_of-self-2 c =
+pub invariant_of-self : goal.invariant_of-self
+invariant_of-self c =
     let cs = c.self.inside.carriers in
     let carrier = entering c.self.inside.number _ c.args.plan c.args.carrier
     (ap (λ (i : Instance). i.number) c.self.view_is) c.requires.carrier in
     kept-created _ _ c.self.inside.own cs c.self.inside.singles c.self.inside.created
     c.self.invariant c.args.need
     c.args.plan _ c.self.view_is c.requires.plan _ c.add.ensures _
-    (c.in_ok-enter.ensures.ok
+    (c.enter.ensures
     ∙ ap (λ x. record cs { contents = with_content x cs.contents }) carrier)
 
 now_is : (c : goal.After-self-1)
@@ -92,7 +101,7 @@ now_is c =
     seen-created _ _ c.self.inside.own cs c.self.inside.singles c.self.inside.created
     c.self.invariant c.args.need
     c.args.plan _ c.self.view_is c.requires.plan _ c.add.ensures _
-    (c.in_ok-enter.ensures.ok
+    (c.enter.ensures
     ∙ ap (λ x. record cs { contents = with_content x cs.contents }) carrier)
 
 pub returns-clause-choice : goal.returns-clause-choice

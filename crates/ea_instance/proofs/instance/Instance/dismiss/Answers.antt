@@ -10,7 +10,7 @@ use Rattle.ea_instance.proofs.Keeping.{seen-single-dismissed}
 use Rattle.ea_instance.proofs.instance.Instance.dismiss.Goals as goal
 
 pub leave-employed-requires-clause-bins : goal.leave-employed-requires-clause-bins
-leave-employed-requires-clause-bins c = λ gf.
+leave-employed-requires-clause-bins c = λ bins.
     let n = c.args.number in
     let (x, there) = some_value (content_of c.self.inside.carriers.contents n)
     (ap (λ i. has_content n i.contents) c.self.view_is
@@ -23,13 +23,15 @@ leave-employed-requires-clause-bins c = λ gf.
 
 pub invariant_of-self : goal.invariant_of-self
 invariant_of-self c = kept-dismissed _ _ c.self.inside.own c.self.inside.carriers
-    c.self.inside.singles c.self.inside.created c.self.invariant c.args.number c.leave-employed.result
+    c.self.inside.singles c.self.inside.created c.self.invariant c.args.number
+    c.leave-employed.result
     c.leave-employed.ensures.carrier _ c.leave-employed.ensures.rest
 
 pub returns-then-has_multi : goal.returns-then-has_multi
 returns-then-has_multi c =
     let is = seen-dismissed _ _ c.self.inside.own c.self.inside.carriers c.self.inside.singles
-    c.self.inside.created c.self.invariant c.args.number c.leave-employed.result c.leave-employed.ensures.carrier _
+    c.self.inside.created c.self.invariant c.args.number c.leave-employed.result
+    c.leave-employed.ensures.carrier _
     c.leave-employed.ensures.rest _ c.self.view_is in
     record {
       dismissed = is;

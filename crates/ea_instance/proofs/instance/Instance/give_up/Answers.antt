@@ -3,18 +3,19 @@ use Rattle.std.specs.Prelude.{IfSome, Some}
 use Rattle.ea_model.specs.declared.carriers.Kind.TheVariants.{Multi}
 use Rattle.ea_model.specs.Content.{Content}
 use Rattle.ea_model.specs.Instance.{Instance, content_of}
+use Rattle.ea_employed.specs.Binned.{has_bins}
 use Rattle.ea_instance.proofs.Keeping.{found-multi, kept-dismissed, seen-dismissed}
-use Rattle.ea_instance.proofs.Migrating.{stays-acul}
+use Rattle.ea_instance.proofs.Migrating.{bins-stay}
 use Rattle.ea_instance.proofs.instance.Instance.give_up.Goals as goal
 
 pub leave-requires-clause-bins : goal.leave-requires-clause-bins
-leave-requires-clause-bins c = λ gf.
+leave-requires-clause-bins c = λ bins.
     subst (λ (i : Instance). IfSome (content_of i.contents c.args.number) (λ (x : Content).
     x.blocks ≡ []))
     (sym c.self.view_is)
     (c.requires.empty (ap (λ (i : Instance). i.settings.acul) (sym c.self.view_is)
-    ∙ stays-acul c.self.inside.settings c.self.invariant.stands.orderly.kept.valid
-    (sym c.self.invariant.strategy ∙ gf)))
+    ∙ bins-stay c.self.inside.settings c.self.invariant.stands.orderly.kept.valid
+    (ap has_bins (sym c.self.invariant.strategy) ∙ bins)))
 
 pub invariant_of-self : goal.invariant_of-self
 invariant_of-self c = kept-dismissed _ _ c.self.inside.own c.self.inside.carriers

@@ -12,7 +12,7 @@ invariant_of-result c =
     let is : seen_as s c.args.number c.if-settings-gt0.own c.if-settings-gt0.carriers
     c.in_ok-singles.singles c.if-settings-gt0.created
     ≡ new_instance s c.args.number c.args.first c.args.pages = search rules in
-    keeping _ _ _ _ _ _ (search rules)
+    keeping _ _ _ _ _ _ (search rules) (search rules)
     (subst Stands (sym is)
     (new-Stands s c.args.number c.args.first c.args.pages c.requires.valid
     c.requires.number

@@ -31,14 +31,15 @@ release-requires-clause-block c =
     ∙ block-multi _ _ c.self.inside.own c.self.inside.carriers c.self.inside.singles
     c.self.inside.created c.self.invariant spot x there) c.requires
 
-pub invariant_of-self-then-has_multi : goal.invariant_of-self-then-has_multi
-invariant_of-self-then-has_multi c =
+pub invariant_of-self : goal.invariant_of-self
+invariant_of-self c =
     let spot = c.args.spot in
     let (x, there) = some_value (content_of c.self.inside.carriers.contents spot.carrier)
     (ap (λ i. has_content spot.carrier i.contents) c.self.view_is
     ∙ sym c.has_multi.ensures ∙ c.if-has_multi.true) in
     kept-released _ _ c.self.inside.own c.self.inside.carriers c.self.inside.singles
-    c.self.inside.created c.self.invariant spot _ c.self.view_is x there _ c.in_ok-vacant.ensures.ok
+    c.self.inside.created c.self.invariant spot _ c.self.view_is x there _
+    c.release.ensures.released
 
 pub returns-then-has_multi-clause-ok : goal.returns-then-has_multi-clause-ok
 returns-then-has_multi-clause-ok c =
@@ -47,7 +48,8 @@ returns-then-has_multi-clause-ok c =
     (ap (λ i. has_content spot.carrier i.contents) c.self.view_is
     ∙ sym c.has_multi.ensures ∙ c.if-has_multi.true) in
     seen-released _ _ c.self.inside.own c.self.inside.carriers c.self.inside.singles
-    c.self.inside.created c.self.invariant spot _ c.self.view_is x there _ c.in_ok-vacant.ensures.ok
+    c.self.inside.created c.self.invariant spot _ c.self.view_is x there _
+    c.release.ensures.released
 
 pub returns-then-has_multi-clause-vacant : goal.returns-then-has_multi-clause-vacant
 returns-then-has_multi-clause-vacant c =
@@ -58,12 +60,12 @@ returns-then-has_multi-clause-vacant c =
     ∙ sym c.has_multi.ensures ∙ c.if-has_multi.true) in
     let f : Content → Content = λ y. released y spot.offset in
     let now : content_of c.release.new.self.contents spot.carrier ≡ Some (f x) =
-    ap (λ (l : CarrierList). content_of l.contents spot.carrier) c.in_ok-vacant.ensures.ok
+    ap (λ (l : CarrierList). content_of l.contents spot.carrier) c.release.ensures.released
     ∙ changed-found number_of f spot.carrier (λ y. refl) x ks.contents there in
     let kept = kept-released _ _ c.self.inside.own c.self.inside.carriers c.self.inside.singles
     c.self.inside.created c.self.invariant spot _ c.self.view_is x there _
-    c.in_ok-vacant.ensures.ok in
-    c.in_ok-vacant.ensures.vacant
+    c.release.ensures.released in
+    c.release.ensures.vacant
     ∙ ap (λ o. option_map_or is_vacant o false) (now ∙ sym (found-multi _ _ c.self.inside.own
     c.release.new.self
     c.self.inside.singles c.self.inside.created kept _ refl spot.carrier (f x) now))
@@ -77,11 +79,11 @@ returns-then-has_multi-clause-emptied c =
     ∙ sym c.has_multi.ensures ∙ c.if-has_multi.true) in
     let f : Content → Content = λ y. released y spot.offset in
     let now : content_of c.release.new.self.contents spot.carrier ≡ Some (f x) =
-    ap (λ (l : CarrierList). content_of l.contents spot.carrier) c.in_ok-vacant.ensures.ok
+    ap (λ (l : CarrierList). content_of l.contents spot.carrier) c.release.ensures.released
     ∙ changed-found number_of f spot.carrier (λ y. refl) x ks.contents there in
     let kept = kept-released _ _ c.self.inside.own c.self.inside.carriers c.self.inside.singles
     c.self.inside.created c.self.invariant spot _ c.self.view_is x there _
-    c.in_ok-vacant.ensures.ok in
+    c.release.ensures.released in
     let laid = item_at-All number_of IsLaidOut spot.carrier x ks.contents
     c.self.invariant.stands.orderly.laid there in
     subst IsEmptied
@@ -98,7 +100,7 @@ returns-then-has_multi-clause-gone c =
     ap (λ i. block_in (employed i) spot)
     (seen-released _ _ c.self.inside.own c.self.inside.carriers c.self.inside.singles
     c.self.inside.created c.self.invariant spot _ c.self.view_is x there _
-    c.in_ok-vacant.ensures.ok)
+    c.release.ensures.released)
     ∙ releasing-gone c.args.self.now spot
 
 pub returns-then-has_multi-clause-others : goal.returns-then-has_multi-clause-others
@@ -110,7 +112,7 @@ returns-then-has_multi-clause-others c = λ at other.
     ap (λ i. block_in (employed i) at)
     (seen-released _ _ c.self.inside.own c.self.inside.carriers c.self.inside.singles
     c.self.inside.created c.self.invariant spot _ c.self.view_is x there _
-    c.in_ok-vacant.ensures.ok)
+    c.release.ensures.released)
     ∙ releasing-others c.args.self.now spot at other
 
 pub release-requires-2-clause-block : goal.release-requires-2-clause-block

@@ -29,8 +29,8 @@ invariant_of-self c =
     c.requires.decision c.args.name c.requires.least c.requires.even Stay c.in-Stay.is tt
     c.rename.new.self c.rename.ensures.renamed
 
-pub returns-in-Stay-clause-ok : goal.returns-in-Stay-clause-ok
-returns-in-Stay-clause-ok c =
+pub returns-in-Stay-clause-resized : goal.returns-in-Stay-clause-resized
+returns-in-Stay-clause-resized c =
     let (x, there) = some_value (content_of c.self.inside.carriers.contents c.args.spot.carrier)
     (ap (λ i. has_content c.args.spot.carrier i.contents) c.self.view_is ∙ c.requires.multi) in
     seen-multi _ _ c.self.inside.own c.self.inside.carriers c.self.inside.singles
@@ -67,10 +67,10 @@ invariant_of-self-in-ShrinkHere c =
     c.args.decision
     c.requires.decision c.args.name c.requires.least c.requires.even ShrinkHere c.in-ShrinkHere.is
     tt
-    c.shrink.new.self c.in_ok-shrink-in-ShrinkHere.ensures.ok
+    c.shrink.new.self c.shrink.ensures
 
-pub returns-in_ok-shrink-in-ShrinkHere-clause-ok : goal.returns-in_ok-shrink-in-ShrinkHere-clause-ok
-returns-in_ok-shrink-in-ShrinkHere-clause-ok c =
+pub returns-in-ShrinkHere-clause-resized : goal.returns-in-ShrinkHere-clause-resized
+returns-in-ShrinkHere-clause-resized c =
     let (x, there) = some_value (content_of c.self.inside.carriers.contents c.args.spot.carrier)
     (ap (λ i. has_content c.args.spot.carrier i.contents) c.self.view_is ∙ c.requires.multi) in
     seen-multi _ _ c.self.inside.own c.self.inside.carriers c.self.inside.singles
@@ -79,7 +79,7 @@ returns-in_ok-shrink-in-ShrinkHere-clause-ok c =
     c.args.decision
     c.requires.decision c.args.name c.requires.least c.requires.even ShrinkHere c.in-ShrinkHere.is
     tt
-    c.shrink.new.self c.in_ok-shrink-in-ShrinkHere.ensures.ok
+    c.shrink.new.self c.shrink.ensures
 
 pub grow-requires-clause-few : goal.grow-requires-clause-few
 grow-requires-clause-few c =
@@ -128,8 +128,8 @@ invariant_of-self-in-GrowHere c =
     c.requires.decision c.args.name c.requires.least c.requires.even GrowHere c.in-GrowHere.is tt
     c.grow.new.self c.grow.ensures.grown
 
-pub returns-in-GrowHere-clause-ok : goal.returns-in-GrowHere-clause-ok
-returns-in-GrowHere-clause-ok c =
+pub returns-in-GrowHere-clause-resized : goal.returns-in-GrowHere-clause-resized
+returns-in-GrowHere-clause-resized c =
     let (x, there) = some_value (content_of c.self.inside.carriers.contents c.args.spot.carrier)
     (ap (λ i. has_content c.args.spot.carrier i.contents) c.self.view_is ∙ c.requires.multi) in
     seen-multi _ _ c.self.inside.own c.self.inside.carriers c.self.inside.singles
