@@ -1,10 +1,10 @@
 -- What the local work makes of an actor, by what it changes.
-use Rattle.std.proofs.Common.{◌≡◌, ℕ, false, List, [], ◌∷◌}
-use Rattle.std.proofs.Common.{◌++◌, inl, inr, refl, sym, ap, ◌∙◌}
-use Rattle.std.specs.Prelude.{Option, None, Some, option_map, Result, Ok, Err, OnOk}
+use Rattle.std.proofs.Common.{◌≡◌, ℕ, true, false, List, [], ◌∷◌}
+use Rattle.std.proofs.Common.{◌+◌, ◌++◌, inl, inr, refl, sym, ap, ◌∙◌, subst}
+use Rattle.std.specs.Prelude.{Option, None, Some, option_map, Result, Ok, Err, OnErr, OnOk}
 use Rattle.std.specs.Result.{is_err}
 use Rattle.std.proofs.lemmas.Bool.{cases_eq}
-use Rattle.std.proofs.lemmas.Result.{on_ok_weaker}
+use Rattle.std.proofs.lemmas.Result.{on_err_weaker, on_ok_weaker}
 use Rattle.ea_model.specs.declared.carriers.Place.{Place}
 use Rattle.ea_model.specs.declared.carriers.Spot.{Spot}
 use Rattle.ea_model.specs.declared.entries.Entry.{Entry}
@@ -24,6 +24,7 @@ use Rattle.ea_machine.specs.declared.nodes.Named.{Named}
 use Rattle.ea_machine.specs.declared.stages.Stage.TheVariants.{Begin}
 use Rattle.ea_machine.specs.Actor.{Actor}
 use Rattle.ea_machine.specs.Tasks.{later, logged}
+use Rattle.ea_sched.specs.Creations.{IsCreation}
 
 pub finished : (a : Actor) (x : Entry) (todo : List Op) (log : List Entry)
     → todo ≡ later a.todo → log ≡ a.log ++ x ∷ []
@@ -106,3 +107,28 @@ went (Err x) h e = absurd cc
 pub made-as : {T E : Type 0} (r : Result T E) (b : Actor) {x y : Actor} → OnOk r (b ≡ x) → x ≡ y
     → OnOk r (b ≡ y)
 made-as r b h e = on_ok_weaker r (λ is. is ∙ e) h
+
+-- a call that failed
+pub failed-so : {T E P : Type 0} (r : Result T E) → OnErr r P → true ≡ is_err r → P
+failed-so (Ok x) h e = absurd cc
+failed-so (Err x) h e = h
+
+-- what holds at an exit for want of memory
+pub at-exit : {T E P : Type 0} (r : Result T E) → P → OnErr r P
+at-exit (Ok x) p = tt
+at-exit (Err x) p = p
+
+-- what it was to make is a creation
+pub creates-as : {T E : Type 0} (r : Result T E) (i : Instance) {x y : Actor}
+    → OnErr r (IsCreation i x) → x ≡ y → OnErr r (IsCreation i y)
+creates-as r i h e = on_err_weaker r (subst (IsCreation i) e) h
+
+-- a creation is one for an instance that has created as many
+pub creation-from : (i j : Instance) (a : Actor) → i.created ≡ j.created → IsCreation i a
+    → IsCreation j a
+creation-from i j a e creation = record {
+  counts = elim creation.counts [
+    | inl more ↦ inl (more ∙ ap (λ n. n + 1) e)
+    | inr full ↦ inr (sym e ∙ full)
+  ];
+}

@@ -36,11 +36,12 @@ use Rattle.ea_names.specs.Holding.{has_place}
 use Rattle.ea_sound.proofs.Calls as calls
 use Rattle.ea_sound.proofs.FewPassed.{passes-few}
 use Rattle.ea_sched.specs.declared.state.Scheduler.{Scheduler}
-use Rattle.ea_sched.specs.Acting.{actor_of, setup_for, standing_at}
+use Rattle.ea_sched.specs.Acting.{actor_of, is_ended, setup_for, standing_at}
 use Rattle.ea_sched.specs.Asking.{HasMore, IsFresh, SuitsNext}
+use Rattle.ea_sched.specs.Creations.{CreatesAt, IsCreation}
 use Rattle.ea_sched.specs.Steps.{DidRow, IsReadyAt}
 use Rattle.ea_sound.specs.Walking.{CanAllGo, worked}
-use Rattle.ea_sched.proofs.Doing.{Answered, answered-so}
+use Rattle.ea_sched.proofs.Doing.{Answered, answered-so, creates-so, stage-goes}
 use Rattle.ea_sched.proofs.AfterWalk.{next-placed}
 use Rattle.ea_sched.proofs.Suiting.{goes-linked, goes-passed, suits-after_link, suits-linked}
 use Rattle.ea_sched.proofs.Suiting.{suits-passed, suits-rests, suits-taken}
@@ -257,6 +258,17 @@ module _ {stage : Stage Content} (s : Scheduler) {shared : Option Shared} {calle
       is = is ∙ sym (ap (λ x. onward e me (after_row e me a got x)) same);
     }
 
+    -- what goes on from it creates a carrier
+    pub row-creates : (row : Row) (got : Answer) (at : Stage Content) → stage ≡ at
+        → is_ended at ≡ false → wants_at a.next at ≡ row → Did me row got shared new caller now
+        → IsCreation s.instance (onward e me (after_row e me a got at))
+        → CreatesAt stage s shared caller
+    row-creates row got at same goes want did creates =
+        creates-so s.config s.trace.now me a row got (ap (wants_at a.next) same ∙ want)
+        (stage-goes stage (ap is_ended same ∙ goes))
+        (subst (λ x. IsCreation s.instance (onward e me (after_row e me a got x))) (sym same)
+        creates) shared new caller now h did
+
     -- the walk's next node isn't linked
     pub rests-suits : (node : Node) → stage ≡ Begin → s.next ≡ Some node
         → Did me TakeLink Rests shared new caller now → SuitsNext s.instance s
@@ -296,6 +308,13 @@ module _ {stage : Stage Content} (s : Scheduler) {shared : Option Shared} {calle
             → DidRow stage s t shared new caller now
         passed-ended is = row-done TakeLink (Passes None) Begin begin
             (ap begins next) did (is ∙ ap (onward e me) ended-is)
+
+        pub ended-creates : IsCreation s.instance (onward e me
+            (worked_off e me nodes (record a { passed = nodes; next = None })))
+            → CreatesAt stage s shared caller
+        ended-creates creates = row-creates TakeLink (Passes None) Begin begin refl
+            (ap begins next) did
+            (subst (IsCreation s.instance) (ap (onward e me) ended-is) creates)
 
       -- an older one is next
       pub passed-next : {t : Scheduler} (older : Node)

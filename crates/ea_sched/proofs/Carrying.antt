@@ -14,7 +14,7 @@ use Rattle.ea_machine.specs.Rows.{Clear}
 use Rattle.ea_machine.specs.Setup.{Setup}
 use Rattle.ea_machine.specs.Shared.{Shared}
 use Rattle.ea_machine.specs.Tasks.{carried_by}
-use Rattle.ea_machine.specs.Walks.{after_route, worked_off}
+use Rattle.ea_machine.specs.Walks.{after_route, collected, worked_off}
 use Rattle.ea_shared.specs.Calls.{Caller}
 use Rattle.ea_sched.specs.declared.state.Scheduler.{Scheduler}
 use Rattle.ea_sched.specs.Acting.{IsSame, actor_of, setup_for, standing_at}
@@ -31,16 +31,14 @@ module _ (e : Setup) (me : ℕ) (why : Why) (over : Gone → Actor → Actor) (g
     next-by (Some r) t is = is.1
 
     -- the route is over
-    over-by : (o : Option (Route Content)) (h : Gone) (t : Scheduler) (x : Actor)
-        → TurnedBy why gone a o (Some h) t
-        → ((at : Stage Content) → x ≡ onward e me (over h (standing_at at t)))
-        → x ≡ onward e me (carried_by why over gone a o)
-    over-by None h t x is ends =
+    pub over-by : (o : Option (Route Content)) (h : Gone) (t : Scheduler)
+        → TurnedBy why gone a o (Some h) t → onward e me (over h (standing_at a.stage t))
+        ≡ onward e me (carried_by why over gone a o)
+    over-by None h t is =
         let same : h ≡ gone = let some = is.0 in cc in
-        ends a.stage
-        ∙ ap (λ g. onward e me (over g (standing_at a.stage t))) same
+        ap (λ g. onward e me (over g (standing_at a.stage t))) same
         ∙ ap (λ (z : Actor). onward e me (over gone (record z { stage = a.stage }))) is.1
-    over-by (Some r) h t x is ends = let never = is.0 in absurd cc
+    over-by (Some r) h t is = let never = is.0 in absurd cc
 
 -- a scheduler on a route
 module _ (route : Route Content) (why : Why) (gone : Gone) (s : Scheduler) where
@@ -77,26 +75,35 @@ module _ (route : Route Content) (why : Why) (gone : Gone) (s : Scheduler) where
         got = row.got;
         wanted = refl;
         did = row.did;
-        is = over-by e s.number why (after_route e s.number why) u.gone u.actor u.route g t
-            (actor_of v) row.turned ends;
+        is = ends u.actor.stage
+            ∙ over-by e s.number why (after_route e s.number why) u.gone u.actor u.route g t
+            row.turned;
       }
 
--- a carrier was collected, and its walk has gone on
-pub home-walked : (n : ℕ) (s t v : Scheduler) → IsSame s t → {shared new : Option Shared}
-    {caller then : Option Caller} → CollectedRow n s t shared new caller then
-    → ((at : Stage Content) → actor_of v ≡ onward (setup_for t) t.number
-    (worked_off (setup_for t) t.number t.passed.nodes (standing_at at t)))
-    → DidRow (Collecting n) s v shared new caller then
-home-walked n s t v same row goes = record {
-  row = Clear n;
-  got = row.got;
-  wanted = refl;
-  did = row.did;
-  is = goes (Collecting n)
-      ∙ ap (λ d. onward d t.number
+-- a carrier was collected
+module _ (n : ℕ) (s t : Scheduler) (same : IsSame s t) {shared new : Option Shared}
+    {caller then : Option Caller} (row : CollectedRow n s t shared new caller then) where
+  -- its walk goes on
+  pub home-on : onward (setup_for t) t.number
+      (worked_off (setup_for t) t.number t.passed.nodes (standing_at (Collecting n) t))
+      ≡ onward (setup_for s) s.number
+      (collected (setup_for s) s.number n (standing_at (Collecting n) s))
+  home-on = ap (λ d. onward d t.number
       (worked_off d t.number t.passed.nodes (standing_at (Collecting n) t))) (same-setup s t same)
       ∙ ap (λ m. onward (setup_for s) m
       (worked_off (setup_for s) m t.passed.nodes (standing_at (Collecting n) t))) same.number
       ∙ ap (λ (a : Actor). onward (setup_for s) s.number
-      (worked_off (setup_for s) s.number a.passed a)) (row.is (Collecting n));
-}
+      (worked_off (setup_for s) s.number a.passed a)) (row.is (Collecting n))
+
+  -- and has gone on
+  pub home-walked : (v : Scheduler) → ((at : Stage Content) → actor_of v
+      ≡ onward (setup_for t) t.number
+      (worked_off (setup_for t) t.number t.passed.nodes (standing_at at t)))
+      → DidRow (Collecting n) s v shared new caller then
+  home-walked v goes = record {
+    row = Clear n;
+    got = row.got;
+    wanted = refl;
+    did = row.did;
+    is = goes (Collecting n) ∙ home-on;
+  }

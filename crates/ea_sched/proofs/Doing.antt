@@ -23,6 +23,7 @@ use Rattle.ea_machine.specs.declared.stages.Stage.TheVariants as stages
 use Rattle.ea_machine.specs.declared.stages.Stage.TheVariants.{Ended}
 use Rattle.ea_sched.specs.declared.state.Scheduler.{Scheduler}
 use Rattle.ea_sched.specs.Acting.{actor_of, is_ended, setup_for, standing_at}
+use Rattle.ea_sched.specs.Creations.{Creates, CreatesAt, IsCreation}
 use Rattle.ea_sched.specs.Steps.{DidRow, IsReady, ObservedRow, Ready, Stepped}
 
 -- what is told is told again
@@ -141,6 +142,36 @@ module _ (c : Config) (t : Trace) (me : ℕ) (a : Actor) where
             calls_untold = did.caller_untold;
           }
 
+    -- it creates a carrier by it
+    module _ (want : wants a ≡ row) (goes : a.stage ≢ Ended)
+        (creates : IsCreation a.instance (onward e me (after_row e me a got a.stage))) where
+      -- in a state where it is answered so
+      pub creates-in : (w : State) → IsReached e w → w.actors me ≡ a
+          → got ≡ answer me row w.shared → (shared : Option Shared) (caller : Option Caller)
+          → IfSome shared (λ s. s ≡ w.shared) → IfSome caller (λ x. x ≡ caller_of e me w)
+          → Creates c t me a shared caller
+      unfolding after
+      creates-in w reached at answered shared caller shares calls = record {
+        state = w;
+        reached = reached;
+        actor = at;
+        shares = shares;
+        calls = calls;
+        creation = subst (IsCreation a.instance)
+            (ap (λ r. after e me a r a.stage) answered
+            ∙ sym (step-own e w me a at row want goes)) (record { counts = creates.counts });
+      }
+
+      pub creates-so : (shared new : Option Shared) (caller now : Option Caller)
+          → Ready c t me a shared caller → Did me row got shared new caller now
+          → Creates c t me a shared caller
+      creates-so shared new caller now h did =
+          let u = answered-so shared new caller now h did in
+          let calls = if_some caller (λ x. (x ≡ caller_of e me u.state)
+          × (now ≡ Some (caller_of e me (step e u.state me)))) (λ x. x ≡ caller_of e me u.state)
+          (λ x both. both.0) u.calls in
+          creates-in u.state u.reached u.actor u.answered shared caller u.shares calls
+
   -- an ended scheduler stays as it is
   pub ended-stepped : (shared : Option Shared) (caller : Option Caller)
       → Ready c t me a shared caller → a.stage ≡ Ended
@@ -197,6 +228,13 @@ restaged s u t stage at {shared} {new} {caller} {now} same config trace number s
 } where
   goes : Setup → ℕ → Actor → Stage Content → Actor
   goes e me a x = onward e me (after_row e me a d.got x)
+
+-- a scheduler creates a carrier at its own stage
+pub restaged-creates : (s : Scheduler) (stage at : Stage Content) {shared : Option Shared}
+    {caller : Option Caller} → stage ≡ at → CreatesAt stage s shared caller
+    → CreatesAt at s shared caller
+restaged-creates s stage at {shared} {caller} same =
+    subst (λ x. CreatesAt x s shared caller) same
 
 -- a step is a row that was done, and the figures observed
 pub row-stepped : (s t : Scheduler) (shared new : Option Shared) (caller now : Option Caller)

@@ -1,10 +1,11 @@
 -- What comes after the row of a route.
-use Rattle.std.proofs.Common.{◌≡◌, ℕ, true, false, drop, sym, ap, ◌∙◌, subst}
+use Rattle.std.proofs.Common.{◌≡◌, ℕ, true, false, drop, refl, sym, ap, ◌∙◌, subst}
 use Rattle.std.specs.Prelude.{Option, None, Some, IsSome}
 use Rattle.ea_model.specs.Content.{Content}
 use Rattle.ea_model.specs.Trace.{IsScheduler}
 use Rattle.ea_machine.specs.declared.nodes.Node.{Node}
-use Rattle.ea_machine.specs.declared.stages.Stage.TheVariants.{Routed}
+use Rattle.ea_machine.specs.declared.stages.Stage.{Stage}
+use Rattle.ea_machine.specs.declared.stages.Stage.TheVariants.{Collecting, Routed}
 use Rattle.ea_machine.specs.declared.stages.Route.{Route}
 use Rattle.ea_machine.specs.declared.stages.Route.TheVariants.{Linking, Pushing}
 use Rattle.ea_machine.specs.declared.tasks.Gone.{Gone}
@@ -12,19 +13,24 @@ use Rattle.ea_machine.specs.declared.tasks.Task.{Task}
 use Rattle.ea_machine.specs.declared.tasks.Why.{Why}
 use Rattle.ea_machine.specs.declared.tasks.Why.TheVariants.{For, Walk}
 use Rattle.ea_machine.specs.Actor.{Actor}
+use Rattle.ea_machine.specs.Machine.{onward, wants_on}
 use Rattle.ea_machine.specs.Releases.{Turned, turned}
+use Rattle.ea_machine.specs.Rows.{Clear}
 use Rattle.ea_machine.specs.Setup.{Setup, migration}
 use Rattle.ea_machine.specs.Shared.{Shared}
+use Rattle.ea_machine.specs.Walks.{after_route, worked_off}
 use Rattle.ea_shared.specs.Calls.{Caller}
 use Rattle.ea_sound.proofs.Calls as calls
-use Rattle.ea_sound.proofs.ShortRoutes.{turned-keeps}
+use Rattle.ea_sound.proofs.ShortRoutes.{turned-created, turned-keeps}
 use Rattle.ea_sched.specs.declared.state.Scheduler.{Scheduler}
 use Rattle.ea_sched.specs.Acting.{IsSame, setup_for, standing_at}
 use Rattle.ea_sched.specs.Asking.{HasMore, SuitsNext}
 use Rattle.ea_sched.specs.Steps.{DidRow, IsReadyAt}
-use Rattle.ea_sched.specs.Turning.{EndsRoute, TurnedBy, TurnedRow}
-use Rattle.ea_sched.proofs.Calling.{left-more}
-use Rattle.ea_sched.proofs.Carrying.{turned-next, turned-over}
+use Rattle.ea_sched.specs.Creations.{CreatesAfter, CreatesAt, IsCreation}
+use Rattle.ea_sched.specs.Turning.{CollectedRow, EndsRoute, TurnedBy, TurnedRow}
+use Rattle.ea_sched.proofs.Acts.{creation-from}
+use Rattle.ea_sched.proofs.Calling.{left-more, row-creates}
+use Rattle.ea_sched.proofs.Carrying.{home-on, over-by, turned-next, turned-over}
 use Rattle.ea_sched.proofs.StandsOn.{no-route, same-setup, stands-on}
 use Rattle.ea_sched.proofs.WalkSuiting.{suits-row}
 
@@ -33,6 +39,11 @@ pub ends-as : (e : Setup) (me : ℕ) (s t : Scheduler) (why y : Why) (o p : Opti
     → o ≡ p → EndsRoute e me y p s t → EndsRoute e me why o s t
 ends-as e me s t why y o p q r ends = subst (λ x. EndsRoute e me x o s t) (sym q)
     (subst (λ x. EndsRoute e me y x s t) (sym r) ends)
+
+pub creates-after_as : (e : Setup) (me : ℕ) (s : Scheduler) (why y : Why) (o p : Option Gone)
+    → why ≡ y → o ≡ p → CreatesAfter e me y p s → CreatesAfter e me why o s
+creates-after_as e me s why y o p q r creates = subst (λ x. CreatesAfter e me x o s) (sym q)
+    (subst (λ x. CreatesAfter e me y x s) (sym r) creates)
 
 -- a route on a carrier is one where carriers migrate
 pub route-on : {shared : Option Shared} {caller : Option Caller} (s : Scheduler)
@@ -59,6 +70,11 @@ module _ (s t : Scheduler) (same : IsSame s t) (route : Route Content) (why : Wh
       → TurnedBy why u.gone u.actor o (Some g) t → drop t.done t.text.now ≡ u.actor.todo
   todo-by u g None by = ap (λ (a : Actor). a.todo) by.1
   todo-by u g (Some r) by = absurd (let never : Some g ≡ None = by.0 in cc)
+
+  created-by : (u : Turned) (g : Gone) (o : Option (Route Content))
+      → TurnedBy why u.gone u.actor o (Some g) t → t.instance.created ≡ u.actor.instance.created
+  created-by u g None by = ap (λ (a : Actor). a.instance.created) by.1
+  created-by u g (Some r) by = absurd (let never : Some g ≡ None = by.0 in cc)
 
   -- its row was done
   module _ {new : Option Shared} {then : Option Caller} where
@@ -96,3 +112,34 @@ module _ (s t : Scheduler) (same : IsSame s t) (route : Route Content) (why : Wh
     turned-done (Some g) v row ends = turned-over route why gone s g t v row
         (subst (λ n. EndsRoute e n why (Some g) t v) same.number
         (subst (λ x. EndsRoute x t.number why (Some g) t v) (same-setup s t same) ends))
+
+    -- what comes after the route creates a carrier
+    pub turned-creates : (o : Option Gone) → TurnedRow route why gone s t o shared new caller then
+        → CreatesAfter (setup_for t) t.number why o t
+        → CreatesAt (Routed route why gone) s shared caller
+    turned-creates None row never = absurd never
+    turned-creates (Some g) row creates =
+        let a = standing_at (Routed route why gone) s in
+        let u = turned e s.number route gone a row.got in
+        let after : CreatesAfter e s.number why (Some g) t =
+        subst (λ n. CreatesAfter e n why (Some g) t) same.number
+        (subst (λ x. CreatesAfter x t.number why (Some g) t) (same-setup s t same) creates) in
+        row-creates s h (wants_on route) row.got (Routed route why gone) refl refl refl row.did
+        (creation-from t.instance s.instance _
+        (created-by u g u.route row.turned ∙ turned-created e s.number route gone a row.got)
+        (subst (IsCreation t.instance)
+        (over-by e s.number why (after_route e s.number why) u.gone u.actor u.route g t row.turned)
+        (after u.actor.stage)))
+
+-- what goes on from a carrier that was collected creates a carrier
+pub home-creates : (n : ℕ) (s : Scheduler) {shared new : Option Shared}
+    {caller then : Option Caller} → IsReadyAt (Collecting n) s shared caller → (t : Scheduler)
+    → IsSame s t → CollectedRow n s t shared new caller then
+    → ((at : Stage Content) → IsCreation t.instance (onward (setup_for t) t.number
+    (worked_off (setup_for t) t.number t.passed.nodes (standing_at at t))))
+    → CreatesAt (Collecting n) s shared caller
+home-creates n s h t same row creates =
+    row-creates s h (Clear n) row.got (Collecting n) refl refl refl row.did
+    (creation-from t.instance s.instance _
+    (ap (λ (a : Actor). a.instance.created) (row.is (Collecting n)))
+    (subst (IsCreation t.instance) (home-on n s t same row) (creates (Collecting n))))

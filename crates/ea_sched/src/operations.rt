@@ -1,5 +1,6 @@
 //! The operations themselves, once their begin is over.
-ghost use Rattle.std.specs.Prelude.{◌≡◌, ◌≢◌, ◌≤◌, ◌+◌, ◌%◌, ◌∷◌, Some, IfSome, IsSome, OnOk, drop};
+ghost use Rattle.std.specs.Prelude.{◌≡◌, ◌≢◌, ◌≤◌, ◌+◌, ◌%◌, ◌∷◌, Some, IfSome, IsSome, OnErr};
+ghost use Rattle.std.specs.Prelude.{OnOk, drop};
 ghost use Rattle.ea_model.specs.declared.reallocation.Decision.TheVariants.{Move};
 ghost use Rattle.ea_model.specs.declared.carriers.BlockAt.{BlockAt};
 ghost use Rattle.ea_model.specs.declared.units.TheConstants.{MAX_BYTES};
@@ -12,6 +13,7 @@ ghost use Rattle.ea_machine.specs.Statistics as statistics;
 ghost use Rattle.ea_machine.specs.Tasks as tasks;
 ghost use Rattle.ea_sched.specs.Acting.{IsSame, actor_of, ready_of, setup_for};
 ghost use Rattle.ea_sched.specs.Asking.{HasMore, HasName, IsFresh, IsHere, Lies, Suits};
+ghost use Rattle.ea_sched.specs.Creations.{IsCreation};
 
 use crate::state::Scheduler;
 use ea_machine::{Ask, Named, Stage};
@@ -37,6 +39,9 @@ impl<'t> Scheduler<'t> {
         ensures actor { OnOk result (actor_of self.new ≡ reallocations.reallocated_by
             (setup_for self.old) self.old.number old fresh need (ready_of self.old)
             (decision_at self.old.instance old.spot need)) }
+        ensures memory { OnErr result (IsCreation self.old.instance
+            (reallocations.reallocated_by (setup_for self.old) self.old.number old fresh need
+            (ready_of self.old) (decision_at self.old.instance old.spot need))) }
         ensures same { IsSame self.old self.new }
     {
         let ask = Ask {
@@ -83,6 +88,9 @@ impl<'t> Scheduler<'t> {
         ensures actor { OnOk result (actor_of self.new ≡ reallocations.reallocated
             (setup_for self.old) self.old.number old fresh (need_of bytes) (ready_of self.old)
             (nodes.named_at old self.old.names.held)) }
+        ensures memory { OnErr result (IsCreation self.old.instance
+            (reallocations.reallocated (setup_for self.old) self.old.number old fresh
+            (need_of bytes) (ready_of self.old) (nodes.named_at old self.old.names.held))) }
         ensures same { IsSame self.old self.new }
     {
         match self.names.spot_of(old) {
@@ -167,6 +175,9 @@ impl<'t> Scheduler<'t> {
         ensures actor { OnOk result (actor_of self.new ≡ operations.itself
             (setup_for self.old) self.old.number (ready_of self.old)
             (op ∷ drop (self.old.done + 1) self.old.text.now)) }
+        ensures memory { OnErr result (IsCreation self.old.instance
+            (operations.itself (setup_for self.old) self.old.number (ready_of self.old)
+            (op ∷ drop (self.old.done + 1) self.old.text.now))) }
         ensures same { IsSame self.old self.new }
     {
         match op {

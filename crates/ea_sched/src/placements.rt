@@ -1,5 +1,5 @@
 //! How a scheduler finds a place for a block.
-ghost use Rattle.std.specs.Prelude.{◌≡◌, ◌≤◌, true, false, Ok, OnOk, IsSome};
+ghost use Rattle.std.specs.Prelude.{◌≡◌, ◌≤◌, true, false, Ok, OnErr, OnOk, IsSome};
 ghost use Rattle.ea_model.specs.declared.carriers.Kind.TheVariants.{Multi};
 ghost use Rattle.ea_model.specs.declared.units.TheConstants.{MAX_PAGES};
 ghost use Rattle.ea_model.specs.Instance as instances;
@@ -7,6 +7,7 @@ ghost use Rattle.ea_machine.specs.Placements as placements;
 ghost use Rattle.ea_machine.specs.Setup.{migration};
 ghost use Rattle.ea_sched.specs.Acting.{IsSame, actor_of, ready_of, setup_for};
 ghost use Rattle.ea_sched.specs.Asking.{HasMore, IsAsked};
+ghost use Rattle.ea_sched.specs.Creations.{IsCreation};
 
 use crate::state::Scheduler;
 use ea_machine::{Ask, Stage, Task};
@@ -122,6 +123,9 @@ impl<'t> Scheduler<'t> {
         requires pages { (1 ≤ plan.pages) × (plan.pages ≤ MAX_PAGES) }
         ensures actor { OnOk result (actor_of self.new ≡ placements.created
             (setup_for self.old) self.old.number ask plan (ready_of self.old)) }
+        ensures memory { OnErr result (IsCreation self.old.instance
+            (placements.created (setup_for self.old) self.old.number ask plan
+            (ready_of self.old))) }
         ensures same { IsSame self.old self.new }
     {
         if plan.single {
@@ -141,6 +145,9 @@ impl<'t> Scheduler<'t> {
         requires pages { (1 ≤ plan.pages) × (plan.pages ≤ MAX_PAGES) }
         ensures actor { OnOk result (actor_of self.new ≡ placements.making (setup_for self.old)
             self.old.number ask plan (ready_of self.old) (migration (setup_for self.old))) }
+        ensures memory { OnErr result (IsCreation self.old.instance
+            (placements.making (setup_for self.old) self.old.number ask plan (ready_of self.old)
+            (migration (setup_for self.old)))) }
         ensures same { IsSame self.old self.new }
     {
         if self.migrates {
@@ -165,6 +172,9 @@ impl<'t> Scheduler<'t> {
         requires alone { alone ≡ instances.is_alone self.old.instance ask.need }
         ensures actor { OnOk result (actor_of self.new ≡ placements.new_carrier
             (setup_for self.old) self.old.number ask looked (ready_of self.old)) }
+        ensures memory { OnErr result (IsCreation self.old.instance
+            (placements.new_carrier (setup_for self.old) self.old.number ask looked
+            (ready_of self.old))) }
         ensures same { IsSame self.old self.new }
     {
         if self.instance.created() == u32::MAX {
@@ -188,6 +198,9 @@ impl<'t> Scheduler<'t> {
         ensures actor { OnOk result (actor_of self.new ≡ placements.search_if
             (setup_for self.old) self.old.number ask (ready_of self.old)
             (migration (setup_for self.old))) }
+        ensures memory { OnErr result (IsCreation self.old.instance
+            (placements.search_if (setup_for self.old) self.old.number ask (ready_of self.old)
+            (migration (setup_for self.old)))) }
         ensures same { IsSame self.old self.new }
     {
         if self.migrates {
@@ -204,6 +217,8 @@ impl<'t> Scheduler<'t> {
         requires asked { IsAsked self.old.instance self.old ask }
         ensures actor { OnOk result (actor_of self.new ≡ placements.seek
             (setup_for self.old) self.old.number ask (ready_of self.old)) }
+        ensures memory { OnErr result (IsCreation self.old.instance
+            (placements.seek (setup_for self.old) self.old.number ask (ready_of self.old))) }
         ensures same { IsSame self.old self.new }
     {
         if self.instance.is_alone(ask.need) {

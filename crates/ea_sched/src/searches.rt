@@ -1,10 +1,11 @@
 //! How a scheduler searches the pool, fetches a carrier, or creates one.
-ghost use Rattle.std.specs.Prelude.{◌≡◌, ℕ, ◌≤◌, true, Some, OnOk};
+ghost use Rattle.std.specs.Prelude.{◌≡◌, ℕ, ◌≤◌, true, Some, OnErr, OnOk};
 ghost use Rattle.ea_machine.specs.declared.stages.Stage.TheVariants as stage;
 ghost use Rattle.ea_machine.specs.Placements as placements;
 ghost use Rattle.ea_machine.specs.Setup.{migration};
 ghost use Rattle.ea_sched.specs.Acting.{IsSame, actor_of, ready_of, setup_for};
 ghost use Rattle.ea_sched.specs.Asking.{HasMore, IsAsked};
+ghost use Rattle.ea_sched.specs.Creations.{CreatesAt, IsCreation};
 ghost use Rattle.ea_sched.specs.Looks as looks;
 ghost use Rattle.ea_sched.specs.Looks.{HasPassed};
 ghost use Rattle.ea_sched.specs.Steps.{DidRow, StartsRow};
@@ -24,6 +25,9 @@ impl<'t> Scheduler<'t> {
         requires asked { IsAsked self.old.instance self.old ask }
         ensures actor { OnOk result (actor_of self.new ≡ placements.new_carrier
             (setup_for self.old) self.old.number ask looked (ready_of self.old)) }
+        ensures memory { OnErr result (IsCreation self.old.instance
+            (placements.new_carrier (setup_for self.old) self.old.number ask looked
+            (ready_of self.old))) }
         ensures same { IsSame self.old self.new }
     {
         let alone = self.instance.is_alone(ask.need);
@@ -43,6 +47,9 @@ impl<'t> Scheduler<'t> {
         ensures actor { OnOk result (actor_of self.new ≡ placements.search_at
             (setup_for self.old) self.old.number ask search.at search.looked
             (ready_of self.old)) }
+        ensures memory { OnErr result (IsCreation self.old.instance
+            (placements.search_at (setup_for self.old) self.old.number ask search.at search.looked
+            (ready_of self.old))) }
         ensures same { IsSame self.old self.new }
     {
         let looked = search.looked;
@@ -73,6 +80,8 @@ impl<'t> Scheduler<'t> {
         ensures row { OnOk result (DidRow self.old.stage self.old self.new
             (S.shared shared.old) (S.shared shared.new) (S.caller shared.old)
             (S.caller shared.new)) }
+        ensures memory { OnErr result (CreatesAt self.old.stage self.old
+            (S.shared shared.old) (S.caller shared.old)) }
     {
         let Stage::Searching { ask, at, looked } = &mut self.stage else {
             unreachable!()
@@ -150,6 +159,8 @@ impl<'t> Scheduler<'t> {
         ensures row { OnOk result (DidRow (stage.Fetching ask at looked seen) self.old self.new
             (S.shared shared.old) (S.shared shared.new) (S.caller shared.old)
             (S.caller shared.new)) }
+        ensures memory { OnErr result (CreatesAt (stage.Fetching ask at looked seen) self.old
+            (S.shared shared.old) (S.caller shared.old)) }
     {
         match shared.fetch_try(self.number, at, seen) {
             Tried::Won { content } => {
@@ -180,6 +191,8 @@ impl<'t> Scheduler<'t> {
         ensures row { OnOk result (DidRow (stage.Creating ask plan) self.old self.new
             (S.shared shared.old) (S.shared shared.new) (S.caller shared.old)
             (S.caller shared.new)) }
+        ensures memory { OnErr result (CreatesAt (stage.Creating ask plan) self.old
+            (S.shared shared.old) (S.caller shared.old)) }
     {
         if plan.single {
             shared.create(self.number, plan.number);

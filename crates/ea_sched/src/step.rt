@@ -5,6 +5,7 @@ ghost use Rattle.ea_machine.specs.declared.stages.Stage.TheVariants as stage;
 ghost use Rattle.ea_machine.specs.Setup.{migration};
 ghost use Rattle.ea_machine.specs.Statistics as statistics;
 ghost use Rattle.ea_sched.specs.Acting.{IsSame, actor_of, is_ended, setup_for};
+ghost use Rattle.ea_sched.specs.Creations.{CreatesAt};
 ghost use Rattle.ea_sched.specs.declared.step.Progress.TheVariants as progress;
 ghost use Rattle.ea_sched.specs.Steps.{DidRow, IsReady, ObservedRow, StartsRow, Stepped};
 
@@ -55,6 +56,8 @@ impl<'t> Scheduler<'t> {
         ensures row { OnOk result (DidRow self.old.stage self.old self.new
             (S.shared shared.old) (S.shared shared.new)
             (S.caller shared.old) (S.caller shared.new)) }
+        ensures memory { OnErr result (CreatesAt self.old.stage self.old
+            (S.shared shared.old) (S.caller shared.old)) }
     {
         match mem::replace(&mut self.stage, Stage::Begin) {
             Stage::Begin => match self.next {
@@ -98,6 +101,8 @@ impl<'t> Scheduler<'t> {
         ensures row { OnOk result (ObservedRow self.old.stage self.old self.new
             (S.shared shared.old) (S.shared shared.new)
             (S.caller shared.old) (S.caller shared.new)) }
+        ensures memory { OnErr result (CreatesAt self.old.stage self.old
+            (S.shared shared.old) (S.caller shared.old)) }
     {
         if let Stage::Searching { .. } = self.stage {
             return self.search(alloc, shared);
@@ -108,7 +113,9 @@ impl<'t> Scheduler<'t> {
     }
 
     /// Takes one atomic step on what is shared, and does all up to the next one. An `Err` says that
-    /// there was no memory; from then on it is all that this scheduler answers.
+    /// the step is one that creates a carrier, and that there was no memory for it, or no number
+    /// left to count it with: no other step fails. From then on an `Err` is all that this scheduler
+    /// answers.
     pub fn step<S: Shared<Content = Mbc>>(
         &mut self,
         alloc: Global,
@@ -133,6 +140,8 @@ impl<'t> Scheduler<'t> {
         ensures rests { IfOk result (λ p. p ≡ progress.Ended → (self.new ≡ self.old)
             × (shared.new ≡ shared.old)) }
         ensures fails { OnErr result (self.new.failed ≡ true) }
+        ensures memory { OnErr result (self.old.failed ≡ false → CreatesAt self.old.stage self.old
+            (S.shared shared.old) (S.caller shared.old)) }
         ensures failed { self.old.failed ≡ true → (result ≡ Err (record {}))
             × (self.new ≡ self.old) × (shared.new ≡ shared.old) }
     {

@@ -1,5 +1,5 @@
 //! The row of a release route that is next, and what comes after the route.
-ghost use Rattle.std.specs.Prelude.{◌≡◌, ◌≢◌, ℕ, true, IsSome, OnOk};
+ghost use Rattle.std.specs.Prelude.{◌≡◌, ◌≢◌, ℕ, true, IsSome, OnErr, OnOk};
 ghost use Rattle.ea_machine.specs.declared.nodes.Node.{Node};
 ghost use Rattle.ea_machine.specs.declared.stages.Route.TheVariants as routes;
 ghost use Rattle.ea_machine.specs.declared.stages.Stage.TheVariants as stage;
@@ -8,6 +8,7 @@ ghost use Rattle.ea_machine.specs.declared.tasks.Why.TheVariants as reason;
 ghost use Rattle.ea_machine.specs.Setup.{migration};
 ghost use Rattle.ea_sched.specs.Acting.{IsSame, setup_for};
 ghost use Rattle.ea_sched.specs.Asking.{HasMore, SuitsNext};
+ghost use Rattle.ea_sched.specs.Creations.{CreatesAfter, CreatesAt};
 ghost use Rattle.ea_sched.specs.Steps.{DidRow, StartsRow};
 ghost use Rattle.ea_sched.specs.Turning.{EndsRoute, TurnedRow};
 
@@ -28,6 +29,8 @@ impl<'t> Scheduler<'t> {
         requires more { IsSome over → (task : Task) → why ≡ reason.For task → HasMore self.old }
         ensures ends { OnOk result (EndsRoute (setup_for self.old) self.old.number why over self.old
             self.new) }
+        ensures memory { OnErr result (CreatesAfter (setup_for self.old) self.old.number why over
+            self.old) }
         ensures same { IsSame self.old self.new }
     {
         let Some(gone) = over else {
@@ -94,6 +97,8 @@ impl<'t> Scheduler<'t> {
         ensures row { OnOk result (DidRow (stage.Routed route why gone) self.old self.new
             (S.shared shared.old) (S.shared shared.new) (S.caller shared.old)
             (S.caller shared.new)) }
+        ensures memory { OnErr result (CreatesAt (stage.Routed route why gone) self.old
+            (S.shared shared.old) (S.caller shared.old)) }
     {
         match route {
             Route::Pushing { node, to } => {

@@ -1,9 +1,10 @@
 //! The walk through the nodes of a scheduler's queue, and how they are worked off.
-ghost use Rattle.std.specs.Prelude.{◌≡◌, true, false, [], None, OnOk};
+ghost use Rattle.std.specs.Prelude.{◌≡◌, true, false, [], None, OnErr, OnOk};
 ghost use Rattle.ea_machine.specs.Machine as machine;
 ghost use Rattle.ea_machine.specs.Walks as walks;
 ghost use Rattle.ea_sched.specs.Acting.{IsSame, actor_of, ready_of, setup_for, standing_at};
 ghost use Rattle.ea_sched.specs.Asking.{SuitsNext};
+ghost use Rattle.ea_sched.specs.Creations.{IsCreation};
 ghost use Rattle.ea_sched.specs.Passing.{stage_for};
 ghost use Rattle.ea_sound.specs.Walking.{CanAllGo, worked};
 
@@ -60,6 +61,8 @@ impl<'t> Scheduler<'t> {
         requires next { SuitsNext self.old.instance self.old }
         ensures actor { OnOk result (actor_of self.new ≡ machine.onward (setup_for self.old)
             self.old.number (ready_of self.old)) }
+        ensures memory { OnErr result (IsCreation self.old.instance
+            (machine.onward (setup_for self.old) self.old.number (ready_of self.old))) }
         ensures same { IsSame self.old self.new }
     {
         if self.done >= self.text.len() {
@@ -79,6 +82,10 @@ impl<'t> Scheduler<'t> {
         ensures actor { OnOk result ((at : _) → actor_of self.new ≡ machine.onward
             (setup_for self.old) self.old.number (walks.worked_off (setup_for self.old)
             self.old.number self.old.passed.nodes (standing_at at self.old))) }
+        ensures memory { OnErr result ((at : _) → IsCreation self.old.instance
+            (machine.onward (setup_for self.old) self.old.number
+            (walks.worked_off (setup_for self.old) self.old.number self.old.passed.nodes
+            (standing_at at self.old)))) }
         ensures same { IsSame self.old self.new }
     {
         match self.passed.take_oldest() {
@@ -101,6 +108,10 @@ impl<'t> Scheduler<'t> {
         ensures actor { OnOk result ((at : _) → actor_of self.new ≡ machine.onward
             (setup_for self.old) self.old.number (walks.worked_off (setup_for self.old)
             self.old.number self.old.passed.nodes (standing_at at self.old))) }
+        ensures memory { OnErr result ((at : _) → IsCreation self.old.instance
+            (machine.onward (setup_for self.old) self.old.number
+            (walks.worked_off (setup_for self.old) self.old.number self.old.passed.nodes
+            (standing_at at self.old)))) }
         ensures same { IsSame self.old self.new }
     {
         match work_off(&mut self.passed, &mut self.instance, self.number) {
@@ -126,6 +137,10 @@ impl<'t> Scheduler<'t> {
         ensures actor { OnOk result ((at : _) → actor_of self.new ≡ machine.onward
             (setup_for self.old) self.old.number (walks.worked_off (setup_for self.old)
             self.old.number self.old.passed.nodes (standing_at at self.old))) }
+        ensures memory { OnErr result ((at : _) → IsCreation self.old.instance
+            (machine.onward (setup_for self.old) self.old.number
+            (walks.worked_off (setup_for self.old) self.old.number self.old.passed.nodes
+            (standing_at at self.old)))) }
         ensures same { IsSame self.old self.new }
     {
         if self.migrates {

@@ -156,6 +156,7 @@ pub mod OffStages
 pub mod Paths
 pub mod Freed
 pub mod Walked
+pub mod Creations
 pub mod PresentCarriers
 pub mod PresentContents
 pub mod PresentPlaces

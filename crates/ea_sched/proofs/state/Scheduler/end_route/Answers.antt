@@ -1,9 +1,9 @@
 use Rattle.std.proofs.Common.{◌≡◌, true, false, refl, sym, ◌∙◌, subst}
 use Rattle.std.specs.Prelude.{IsSome, Some}
-use Rattle.std.proofs.lemmas.Result.{on_ok_weaker}
+use Rattle.std.proofs.lemmas.Result.{on_err_weaker, on_ok_weaker}
 use Rattle.ea_machine.specs.declared.tasks.Why.TheVariants.{For, Walk}
 use Rattle.ea_sched.specs.Acting.{setup_for}
-use Rattle.ea_sched.proofs.RouteEnds.{ends-as}
+use Rattle.ea_sched.proofs.RouteEnds.{creates-after_as, ends-as}
 use Rattle.ea_sched.proofs.state.Scheduler.end_route.Goals as goal
 
 pub end_walk-requires : goal.end_walk-requires
@@ -31,3 +31,11 @@ returns-in-For-clause-ends c =
     ends-as (setup_for s) s.number s c.finish_task.new.self c.args.why (For c.in-For.task)
     c.args.over (Some c.in-Some.gone) c.in-For.is c.in-Some.is
     (λ at. c.finish_task.ensures.actor)
+
+pub returns-in-Walk-clause-memory : goal.returns-in-Walk-clause-memory
+returns-in-Walk-clause-memory c =
+    let s = c.args.self.now in
+    on_err_weaker c.end_walk.result
+    (λ creates. creates-after_as (setup_for s) s.number s c.args.why Walk c.args.over
+    (Some c.in-Some.gone) c.in-Walk.is c.in-Some.is creates)
+    c.end_walk.ensures.memory

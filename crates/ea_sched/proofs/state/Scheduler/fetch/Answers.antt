@@ -1,12 +1,13 @@
 use Rattle.std.proofs.Common.{◌-◌, refl, sym, ap, ◌∙◌, subst, arith}
 use Rattle.std.specs.Prelude.{IsSome}
-use Rattle.std.proofs.lemmas.Result.{on_ok_weaker}
+use Rattle.std.proofs.lemmas.Result.{on_err_weaker, on_ok_weaker}
 use Rattle.ea_machine.specs.declared.stages.Stage.TheVariants.{Fetching}
 use Rattle.ea_machine.specs.Placements.{placed_in_choice}
 use Rattle.ea_machine.specs.Rows.{FetchTry, Lost, Won}
 use Rattle.ea_model.specs.Instance.{chosen_spot}
 use Rattle.ea_sched.specs.Acting.{ready_of, setup_for, standing_at}
-use Rattle.ea_sched.proofs.Calling.{row-done}
+use Rattle.ea_sched.specs.Creations.{IsCreation}
+use Rattle.ea_sched.proofs.Calling.{row-creates, row-done}
 use Rattle.ea_sched.proofs.Placing.{onward-search, onward-won}
 use Rattle.ea_sched.proofs.Seeking.{fetch-asked, fetch-carrier, fetch-more, fetch-on, fetch-pooled}
 use Rattle.ea_sched.proofs.Seeking.{fetch-some, won-apart, won-choice, won-kind, won-laid}
@@ -104,3 +105,16 @@ overflow_sub-at g c = omega (
   fetch-some c.args.self.now c.requires.starts.ready c.args.ask c.args.at c.args.looked
       c.args.seen refl,
 )
+
+pub returns-in-Lost-clause-memory : goal.returns-in-Lost-clause-memory
+returns-in-Lost-clause-memory g c =
+    let s = c.args.self.now in
+    let ask = c.args.ask in
+    let stage = Fetching ask c.args.at c.args.looked c.args.seen in
+    on_err_weaker c.search_on.result
+    (λ is. row-creates s c.requires.starts.ready (FetchTry c.args.at c.args.seen)
+    (Lost c.in-Lost.word) stage refl refl refl c.in-Lost.ensures.row
+    (subst (IsCreation s.instance) (sym (onward-search (setup_for s) s.number
+    (fetch-on s c.requires.starts.ready ask c.args.at c.args.looked c.args.seen refl) ask
+    (c.args.at - 1) c.args.looked (standing_at stage s))) is))
+    c.search_on.ensures.memory

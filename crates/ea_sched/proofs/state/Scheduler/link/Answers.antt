@@ -1,12 +1,12 @@
 use Rattle.std.proofs.Common.{refl, sym, ap, ◌∙◌, arith}
-use Rattle.std.proofs.lemmas.Result.{on_ok_weaker}
+use Rattle.std.proofs.lemmas.Result.{on_err_weaker, on_ok_weaker}
 use Rattle.ea_machine.specs.declared.tasks.Why.TheVariants.{For, Walk}
 use Rattle.ea_machine.specs.declared.stages.Stage.TheVariants.{Routed}
 use Rattle.ea_machine.specs.declared.stages.Route.TheVariants.{Linking}
 use Rattle.ea_machine.specs.Rows.{Done, Link}
 use Rattle.ea_sched.proofs.Calling.{as-node, link-node, link-target, link-unlinked}
 use Rattle.ea_sched.proofs.Calling.{linked-can, linked-next, linked-suits, row-done}
-use Rattle.ea_sched.proofs.Calling.{task-more}
+use Rattle.ea_sched.proofs.Calling.{row-creates, task-more}
 use Rattle.ea_sched.proofs.state.Scheduler.link.Goals as goal
 
 pub link-requires-clause-target : goal.link-requires-clause-target
@@ -68,3 +68,12 @@ returns-in-For-clause-row g c = row-done c.args.self.now c.requires.starts.ready
     (Routed (Linking c.args.node c.args.to) (For c.in-For.task) c.args.gone)
     (ap (λ why. Routed (Linking c.args.node c.args.to) why c.args.gone) c.in-For.is)
     refl c.link.ensures.row c.finish_task.ensures.actor
+
+pub returns-in-Walk-clause-memory : goal.returns-in-Walk-clause-memory
+returns-in-Walk-clause-memory g c = on_err_weaker c.end_walk.result
+    (λ is. row-creates c.args.self.now c.requires.starts.ready (Link c.args.node c.args.to) Done
+    (Routed (Linking c.args.node c.args.to) Walk c.args.gone)
+    (ap (λ why. Routed (Linking c.args.node c.args.to) why c.args.gone) c.in-Walk.is)
+    refl refl c.link.ensures.row
+    (is (Routed (Linking c.args.node c.args.to) c.args.why c.args.gone)))
+    c.end_walk.ensures.memory

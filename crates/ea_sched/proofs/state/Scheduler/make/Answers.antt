@@ -1,11 +1,16 @@
-use Rattle.std.proofs.Common.{refl, sym, ap, ◌∙◌, subst}
+use Rattle.std.proofs.Common.{inl, refl, sym, ap, ◌∙◌, subst}
 use Rattle.std.specs.Prelude.{IfSome}
 use Rattle.ea_machine.specs.declared.stages.Stage.TheVariants.{Creating}
 use Rattle.ea_machine.specs.Rows.{Create, Done}
+use Rattle.ea_machine.specs.Table.{answer}
+use Rattle.ea_sound.proofs.Creations.{created-one}
 use Rattle.ea_machine.specs.Placements.{created}
 use Rattle.ea_model.specs.Instance.{plan}
 use Rattle.ea_sched.specs.Acting.{ready_of, setup_for, standing_at}
 use Rattle.ea_sched.specs.Asking.{IsHere}
+use Rattle.ea_sched.specs.Creations.{IsCreation}
+use Rattle.ea_sched.proofs.Acts.{at-exit}
+use Rattle.ea_sched.proofs.Doing.{creates-in, stage-goes}
 use Rattle.ea_sched.proofs.Calling.{row-done}
 use Rattle.ea_sched.proofs.Placing.{onward-created}
 use Rattle.ea_sched.proofs.Seeking.{create-absent, create-asked, create-carrier, create-more}
@@ -102,3 +107,23 @@ returns-clause-row g c =
     c.prepare.ensures.same
     ∙ sym (onward-created (setup_for s) s.number
     (create-on s c.requires.starts.ready ask p refl) ask p (standing_at (Creating ask p) s)))
+
+pub returns-in_err-carrier-clause-memory : goal.returns-in_err-carrier-clause-memory
+unfolding answer
+returns-in_err-carrier-clause-memory g c =
+    let s = c.args.self.now in
+    let h = c.requires.starts.ready in
+    let ask = c.args.ask in
+    let p = c.args.plan in
+    let a = standing_at (Creating ask p) s in
+    at-exit c.from_residual.result
+    (creates-in s.config s.trace.now s.number a (Create p.number) Done refl
+    (stage-goes (Creating ask p) refl)
+    (subst (IsCreation s.instance)
+    (sym (onward-created (setup_for s) s.number (create-on s h ask p refl) ask p a))
+    (record {
+      counts = inl
+          (created-one (setup_for s) s.number ask p (ready_of s) (create-plan s h ask p refl));
+    }))
+    h.state h.reached h.actor refl (g.S.Shared.shared c.args.shared.now)
+    (g.S.Shared.caller c.args.shared.now) h.shares h.calls)

@@ -1,11 +1,12 @@
 use Rattle.std.proofs.Common.{◌≡◌, [], ◌∷◌, Some, sym, ap, refl, ◌∙◌}
-use Rattle.std.proofs.lemmas.Result.{on_ok_weaker}
+use Rattle.std.proofs.lemmas.Result.{on_err_weaker, on_ok_weaker}
 use Rattle.ea_machine.specs.declared.stages.Stage.TheVariants.{Begin}
 use Rattle.ea_machine.specs.Machine.{begins}
 use Rattle.ea_machine.specs.Rows.{Rests, TakeLink}
 use Rattle.ea_sched.specs.Acting.{actor_of}
-use Rattle.ea_sched.proofs.Calling.{as-node, pass-few, pass-next, pass-node, passed-can}
-use Rattle.ea_sched.proofs.Calling.{passed-ended, passed-next, passed-suits, rests-suits, row-done}
+use Rattle.ea_sched.proofs.Calling.{as-node, ended-creates, pass-few, pass-next, pass-node}
+use Rattle.ea_sched.proofs.Calling.{passed-can, passed-ended, passed-next, passed-suits}
+use Rattle.ea_sched.proofs.Calling.{rests-suits, row-creates, row-done}
 use Rattle.ea_sched.proofs.state.Scheduler.pass.Goals as goal
 
 pub take_link-requires-clause-node : goal.take_link-requires-clause-node
@@ -73,3 +74,15 @@ returns-in-Next-clause-row g c = passed-next c.args.self.now c.requires.starts.r
       passed = c.add-in-Next.new.self.nodes;
       next = Some c.in-Next.older;
     }) c.requires.stage)
+
+pub returns-in-Rest-clause-memory : goal.returns-in-Rest-clause-memory
+returns-in-Rest-clause-memory g c = on_err_weaker c.go_on.result
+    (row-creates c.args.self.now c.requires.starts.ready TakeLink Rests Begin refl refl
+    (ap begins c.requires.next) c.in-Rest.ensures.row)
+    c.go_on.ensures.memory
+
+pub returns-in-End-clause-memory : goal.returns-in-End-clause-memory
+returns-in-End-clause-memory g c = on_err_weaker c.end_walk.result
+    (λ is. ended-creates c.args.self.now c.requires.starts.ready c.args.node refl c.requires.next
+    c.add.new.self.nodes c.add.ensures c.in-End.ensures.row (is Begin))
+    c.end_walk.ensures.memory

@@ -1,7 +1,7 @@
 use Rattle.std.proofs.Common.{sym, ap, ◌∙◌}
 use Rattle.ea_machine.specs.Placements.{making}
 use Rattle.ea_sched.specs.Acting.{ready_of, setup_for}
-use Rattle.ea_sched.proofs.Acts.{made-as}
+use Rattle.ea_sched.proofs.Acts.{creates-as, made-as}
 use Rattle.ea_sched.proofs.state.Scheduler.plan.Goals as goal
 
 pub returns-then-self-clause-actor : goal.returns-then-self-clause-actor
@@ -14,5 +14,12 @@ pub returns-clause-actor : goal.returns-clause-actor
 returns-clause-actor c =
     let s = c.args.self.now in
     made-as c.create.result _ c.create.ensures.actor
+    (sym (ap (making (setup_for s) s.number c.args.ask c.args.plan (ready_of s))
+    (sym s.migrates_so ∙ c.if-self.false)))
+
+pub returns-clause-memory : goal.returns-clause-memory
+returns-clause-memory c =
+    let s = c.args.self.now in
+    creates-as c.create.result s.instance c.create.ensures.memory
     (sym (ap (making (setup_for s) s.number c.args.ask c.args.plan (ready_of s))
     (sym s.migrates_so ∙ c.if-self.false)))

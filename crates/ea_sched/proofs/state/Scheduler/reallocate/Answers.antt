@@ -1,12 +1,14 @@
 use Rattle.std.proofs.Common.{◌≡◌, ◌≢◌, true, false, refl, sym, ap, subst, ◌∙◌}
 use Rattle.std.specs.Prelude.{IfSome, IsNone, Some}
+use Rattle.std.proofs.lemmas.Result.{on_err_weaker}
 use Rattle.ea_model.specs.declared.reallocation.Decision.TheVariants.{Move}
-use Rattle.ea_model.specs.Instance.{decision_at, resized_by, resized_to}
+use Rattle.ea_model.specs.Instance.{Instance, decision_at, resized_by, resized_to}
 use Rattle.ea_machine.specs.Nodes.{spot_named, with_name}
 use Rattle.ea_machine.specs.Placements.{seek}
 use Rattle.ea_sched.specs.Acting.{ready_of, setup_for}
 use Rattle.ea_sched.proofs.Placing.{foreign-moves}
-use Rattle.ea_sched.proofs.Acts.{kept-resized, made-as, unheld-let_go}
+use Rattle.ea_sched.proofs.Acts.{creates-as, creation-from, kept-resized, made-as}
+use Rattle.ea_sched.proofs.Acts.{unheld-let_go}
 use Rattle.ea_sound.proofs.Paths.{moves, resized}
 use Rattle.ea_sched.proofs.state.Scheduler.reallocate.Goals as goal
 
@@ -61,3 +63,30 @@ returns-clause-actor c =
     ∙ ap (with_name (record { name = fresh; spot = old.spot })) c.let_go.ensures.held)
     ∙ sym (resized (setup_for s) s.number (ready_of s) old fresh need
     (decision_at s.instance old.spot need) refl stays)
+
+pub returns-then-not-employs-clause-memory : goal.returns-then-not-employs-clause-memory
+returns-then-not-employs-clause-memory c =
+    let s = c.args.self.now in
+    let old = c.args.old in
+    let need = c.args.need in
+    let goes = foreign-moves s.instance old.spot need c.stands.ensures.stands.orderly
+    (sym c.employs.ensures ∙ c.if-not-employs.true) in
+    creates-as c.seek.result s.instance c.seek.ensures.memory
+    (sym (moves (setup_for s) s.number (ready_of s) old c.args.fresh need goes))
+
+pub returns-in_default-clause-memory : goal.returns-in_default-clause-memory
+returns-in_default-clause-memory c =
+    let s = c.args.self.now in
+    let old = c.args.old in
+    let need = c.args.need in
+    let fresh = c.args.fresh in
+    let goes : decision_at s.instance old.spot need ≡ Move =
+    c.resize.ensures.moves.0 (subst IsNone (sym c.in_default.is) refl) in
+    let same = c.resize.ensures.ok
+    ∙ ap (λ d. resized_by d s.instance old.spot (resized_to s.instance old.spot need) fresh) goes in
+    creates-as c.seek-in_default.result s.instance
+    (on_err_weaker c.seek-in_default.result (creation-from c.resize.new.self s.instance _
+    (ap (λ (i : Instance). i.created) same)) c.seek-in_default.ensures.memory)
+    (ap (λ i. seek (setup_for s) s.number (record { name = fresh; need = need; old = Some old })
+    (record (ready_of s) { instance = i })) same
+    ∙ sym (moves (setup_for s) s.number (ready_of s) old fresh need goes))

@@ -1,6 +1,7 @@
 use Rattle.std.proofs.Common.{◌≡◌, true, false, sym, ◌∙◌}
-use Rattle.std.proofs.lemmas.Result.{on_ok_weaker}
+use Rattle.std.proofs.lemmas.Result.{on_err_weaker, on_ok_weaker}
 use Rattle.ea_sched.proofs.Carrying.{home-walked}
+use Rattle.ea_sched.proofs.RouteEnds.{home-creates}
 use Rattle.ea_sched.proofs.StandsOn.{home-on, same-migrates}
 use Rattle.ea_sched.proofs.WalkSuiting.{suits-home}
 use Rattle.ea_sched.proofs.state.Scheduler.receive.Goals as goal
@@ -28,6 +29,12 @@ end_walk-requires-clause-next_on g c = λ on none.
 
 pub returns-clause-row : goal.returns-clause-row
 returns-clause-row g c = on_ok_weaker c.end_walk.result
-    (home-walked c.args.number c.args.self.now c.collect.new.self c.end_walk.new.self
-    c.collect.ensures.same c.collect.ensures.row)
+    (home-walked c.args.number c.args.self.now c.collect.new.self c.collect.ensures.same
+    c.collect.ensures.row c.end_walk.new.self)
     c.end_walk.ensures.actor
+
+pub returns-clause-memory : goal.returns-clause-memory
+returns-clause-memory g c = on_err_weaker c.end_walk.result
+    (home-creates c.args.number c.args.self.now c.requires.starts.ready c.collect.new.self
+    c.collect.ensures.same c.collect.ensures.row)
+    c.end_walk.ensures.memory

@@ -1,11 +1,13 @@
 use Rattle.std.proofs.Common.{refl, sym, ap, subst, ◌∙◌}
 use Rattle.std.specs.Prelude.{IfSome, IsSome}
+use Rattle.std.proofs.lemmas.Result.{on_err_weaker}
 use Rattle.ea_model.specs.Instance.{Instance, chosen_spot, employed, own_at}
 use Rattle.ea_laws.specs.Spots.{IsPlaced}
 use Rattle.ea_machine.specs.Placements.{search_if}
 use Rattle.ea_machine.specs.Setup.{migration}
 use Rattle.ea_sched.specs.Acting.{ready_of, setup_for}
-use Rattle.ea_sched.proofs.Acts.{chosen-place, made-as, stood-placed, unplaced}
+use Rattle.ea_sched.proofs.Acts.{chosen-place, creates-as, creation-from, made-as}
+use Rattle.ea_sched.proofs.Acts.{stood-placed, unplaced}
 use Rattle.ea_sound.proofs.Paths.{seek-chosen}
 use Rattle.ea_sched.proofs.Placing.{seek-beyond}
 use Rattle.ea_sched.proofs.OwnCarriers.{asked-again, placed-block, placing-own}
@@ -51,3 +53,18 @@ stand-requires-clause-asked c =
     (sym (ap (λ (i : Instance). i.own) c.try_alloc.ensures.placed
     ∙ placing-own s.instance (chosen_spot s.instance ask.need) ask.need ask.name)) is)
     ask c.requires.asked
+
+pub returns-in-None-clause-memory : goal.returns-in-None-clause-memory
+returns-in-None-clause-memory c =
+    let s = c.args.self.now in
+    let e = setup_for s in
+    let ask = c.args.ask in
+    let (none, same) = unplaced s.instance c.try_alloc.new.self
+    (chosen_spot s.instance ask.need) ask.need ask.name
+    (sym c.try_alloc.ensures.place ∙ c.in-None.is) c.try_alloc.ensures.placed in
+    creates-as c.seek_beyond.result s.instance
+    (on_err_weaker c.seek_beyond.result (creation-from c.try_alloc.new.self s.instance _
+    (ap (λ (i : Instance). i.created) same)) c.seek_beyond.ensures.memory)
+    (ap (λ i. search_if e s.number ask (record (ready_of s) { instance = i }) (migration e)) same
+    ∙ sym (seek-beyond e s.number (ready_of s) ask
+    (sym c.is_alone.ensures ∙ c.if-is_alone.false) none))

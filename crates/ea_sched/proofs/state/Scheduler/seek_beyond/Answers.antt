@@ -2,7 +2,7 @@ use Rattle.std.proofs.Common.{sym, ap, ◌∙◌}
 use Rattle.ea_machine.specs.Placements.{search_at, search_if}
 use Rattle.ea_search.specs.declared.search.Search.{Search}
 use Rattle.ea_sched.specs.Acting.{ready_of, setup_for}
-use Rattle.ea_sched.proofs.Acts.{made-as}
+use Rattle.ea_sched.proofs.Acts.{creates-as, made-as}
 use Rattle.ea_sched.proofs.state.Scheduler.seek_beyond.Goals as goal
 
 pub returns-then-self-clause-actor : goal.returns-then-self-clause-actor
@@ -22,5 +22,22 @@ pub returns-clause-actor : goal.returns-clause-actor
 returns-clause-actor c =
     let s = c.args.self.now in
     made-as c.seek_new.result _ c.seek_new.ensures.actor
+    (sym (ap (search_if (setup_for s) s.number c.args.ask (ready_of s))
+    (sym s.migrates_so ∙ c.if-self.false)))
+
+pub returns-then-self-clause-memory : goal.returns-then-self-clause-memory
+returns-then-self-clause-memory c =
+    let s = c.args.self.now in
+    let ask = c.args.ask in
+    creates-as c.search_on.result s.instance c.search_on.ensures.memory
+    (ap (λ (x : Search). search_at (setup_for s) s.number ask x.at x.looked (ready_of s))
+    c.new.ensures
+    ∙ sym (ap (search_if (setup_for s) s.number ask (ready_of s))
+    (sym s.migrates_so ∙ c.if-self.true)))
+
+pub returns-clause-memory : goal.returns-clause-memory
+returns-clause-memory c =
+    let s = c.args.self.now in
+    creates-as c.seek_new.result s.instance c.seek_new.ensures.memory
     (sym (ap (search_if (setup_for s) s.number c.args.ask (ready_of s))
     (sym s.migrates_so ∙ c.if-self.false)))

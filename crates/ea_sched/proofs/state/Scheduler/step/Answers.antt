@@ -1,6 +1,6 @@
 use Rattle.std.proofs.Common.{sym, ◌∙◌}
 use Rattle.ea_sched.specs.Acting.{actor_of}
-use Rattle.ea_sched.proofs.Acts.{went}
+use Rattle.ea_sched.proofs.Acts.{failed-so, went}
 use Rattle.ea_sched.proofs.Doing.{ended-stepped, row-stepped, stage-ends, stage-goes, step-ready}
 use Rattle.ea_sched.proofs.state.Scheduler.step.Goals as goal
 
@@ -35,3 +35,7 @@ returns-clause-ready g c =
     (g.S.Shared.shared c.args.shared.now) (g.S.Shared.shared c.advance.new.shared)
     (g.S.Shared.caller c.args.shared.now) (g.S.Shared.caller c.advance.new.shared)
     same.config same.trace same.number (c.requires.ready c.if-self.false) (after g c)
+
+pub returns-then-is_err-clause-memory : goal.returns-then-is_err-clause-memory
+returns-then-is_err-clause-memory g c = λ _.
+    failed-so c.advance.result c.advance.ensures.memory c.if-is_err.ensures.value

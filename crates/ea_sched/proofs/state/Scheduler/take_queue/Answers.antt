@@ -1,11 +1,11 @@
 use Rattle.std.proofs.Common.{refl, ap}
 use Rattle.std.specs.Prelude.{None, Some}
-use Rattle.std.proofs.lemmas.Result.{on_ok_weaker}
+use Rattle.std.proofs.lemmas.Result.{on_err_weaker, on_ok_weaker}
 use Rattle.ea_machine.specs.declared.stages.Stage.TheVariants.{Begin}
 use Rattle.ea_machine.specs.Machine.{begins}
 use Rattle.ea_machine.specs.Rows.{Head, TakeAll}
 use Rattle.ea_sched.specs.Acting.{actor_of}
-use Rattle.ea_sched.proofs.Calling.{row-done, take-walked, taken-suits}
+use Rattle.ea_sched.proofs.Calling.{row-creates, row-done, take-walked, taken-suits}
 use Rattle.ea_sched.proofs.state.Scheduler.take_queue.Goals as goal
 
 pub take_all-requires-clause-walked : goal.take_all-requires-clause-walked
@@ -30,3 +30,9 @@ returns-in-Some-clause-row g c =
     refl (ap begins c.requires.next) c.in-Some.ensures.row
     (ap (λ stage. record (actor_of s) { stage = stage; next = Some c.in-Some.newest })
     c.requires.stage)
+
+pub returns-in-None-clause-memory : goal.returns-in-None-clause-memory
+returns-in-None-clause-memory g c = on_err_weaker c.go_on.result
+    (row-creates c.args.self.now c.requires.starts.ready TakeAll (Head None) Begin
+    refl refl (ap begins c.requires.next) c.in-None.ensures.row)
+    c.go_on.ensures.memory

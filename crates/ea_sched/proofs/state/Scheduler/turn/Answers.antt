@@ -1,6 +1,6 @@
-use Rattle.std.proofs.lemmas.Result.{on_ok_weaker}
+use Rattle.std.proofs.lemmas.Result.{on_err_weaker, on_ok_weaker}
 use Rattle.ea_sched.proofs.RouteEnds.{over-more, over-next, route-on, still-on}
-use Rattle.ea_sched.proofs.RouteEnds.{turned-done}
+use Rattle.ea_sched.proofs.RouteEnds.{turned-creates, turned-done}
 use Rattle.ea_sched.proofs.state.Scheduler.turn.Goals as goal
 
 pub turn_carrier-over-requires-clause-on : goal.turn_carrier-over-requires-clause-on
@@ -35,3 +35,10 @@ returns-in_default-clause-row g c = on_ok_weaker c.end_route.result
     c.turn_carrier-over.ensures.same c.args.route c.args.why c.args.gone c.requires.starts.ready
     c.turn_carrier-over.result c.end_route.new.self c.turn_carrier-over.ensures.row)
     c.end_route.ensures.ends
+
+pub returns-in_default-clause-memory : goal.returns-in_default-clause-memory
+returns-in_default-clause-memory g c = on_err_weaker c.end_route.result
+    (turned-creates c.args.self.now c.turn_carrier-over.new.self
+    c.turn_carrier-over.ensures.same c.args.route c.args.why c.args.gone c.requires.starts.ready
+    c.turn_carrier-over.result c.turn_carrier-over.ensures.row)
+    c.end_route.ensures.memory

@@ -1,9 +1,12 @@
 use Rattle.std.proofs.Common.{◌≡◌, None, sym, ap, subst, ◌∙◌}
-use Rattle.std.proofs.lemmas.Result.{on_ok_weaker}
+use Rattle.std.proofs.lemmas.Result.{on_err_weaker, on_ok_weaker}
 use Rattle.ea_machine.specs.Machine.{onward}
 use Rattle.ea_sched.specs.Acting.{setup_for, standing_at}
 use Rattle.ea_sched.specs.Asking.{SuitsNext}
+use Rattle.ea_sched.specs.Creations.{IsCreation}
+use Rattle.ea_sched.proofs.Acts.{creation-from}
 use Rattle.ea_sound.specs.Walking.{Worked, worked}
+use Rattle.ea_sound.proofs.Creations.{worked-created}
 use Rattle.ea_sound.proofs.Walked.{walked-none, walked-some}
 use Rattle.ea_sched.proofs.state.Scheduler.work_all.Goals as goal
 
@@ -42,3 +45,19 @@ returns-in-Some-clause-actor c =
     s.passed.nodes c.requires.passed i left c.in-Some.hand
     (ap (λ hand. record { instance = i; left = left; hand = hand }) (sym c.in-Some.is)
     ∙ c.work_off.ensures))
+
+pub returns-in-None-clause-memory : goal.returns-in-None-clause-memory
+returns-in-None-clause-memory c =
+    let s = c.args.self.now in
+    let i = c.work_off.new.instance in
+    let left = c.work_off.new.passed.nodes in
+    let same = ap (λ (w : Worked). w.instance.created) c.work_off.ensures
+    ∙ worked-created s.number s.passed.nodes s.instance in
+    on_err_weaker c.go_on.result (λ is at. subst (IsCreation s.instance)
+    (ap (onward (setup_for s) s.number)
+    (walked-none (setup_for s) s.number (sym s.migrates_so ∙ c.requires.off) (standing_at at s)
+    s.passed.nodes c.requires.passed i left
+    (ap (λ hand. record { instance = i; left = left; hand = hand }) (sym c.in-None.is)
+    ∙ c.work_off.ensures)))
+    (creation-from i s.instance _ same is))
+    c.go_on.ensures.memory

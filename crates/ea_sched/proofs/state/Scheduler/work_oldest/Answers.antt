@@ -1,8 +1,9 @@
-use Rattle.std.proofs.Common.{sym, ap, ◌∙◌}
-use Rattle.std.proofs.lemmas.Result.{on_ok_weaker}
+use Rattle.std.proofs.Common.{sym, ap, subst, ◌∙◌}
+use Rattle.std.proofs.lemmas.Result.{on_err_weaker, on_ok_weaker}
 use Rattle.ea_machine.specs.Machine.{onward}
 use Rattle.ea_machine.specs.Walks.{ready, worked_off}
 use Rattle.ea_sched.specs.Acting.{setup_for, standing_at}
+use Rattle.ea_sched.specs.Creations.{IsCreation}
 use Rattle.ea_sched.proofs.Placing.{worked-on}
 use Rattle.ea_sched.proofs.state.Scheduler.work_oldest.Goals as goal
 
@@ -28,3 +29,13 @@ returns-in-Some-clause-actor c =
     (standing_at at s))
     ∙ sym (ap (λ ns. onward (setup_for s) s.number
     (worked_off (setup_for s) s.number ns (standing_at at s))) c.in-Some.ensures)
+
+pub returns-in-None-clause-memory : goal.returns-in-None-clause-memory
+returns-in-None-clause-memory c =
+    let s = c.args.self.now in
+    on_err_weaker c.go_on.result (λ is at. subst (IsCreation s.instance)
+    (ap (λ ns. onward (setup_for s) s.number
+    (ready (record (standing_at at s) { passed = ns }))) c.in-None.ensures.1
+    ∙ sym (ap (λ ns. onward (setup_for s) s.number
+    (worked_off (setup_for s) s.number ns (standing_at at s))) c.in-None.ensures.0)) is)
+    c.go_on.ensures.memory
