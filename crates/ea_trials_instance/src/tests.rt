@@ -793,7 +793,7 @@ fn a_singleblock_carrier_without_its_block_is_given_up(rt: HostRuntime) -> Resul
         offset,
         ..
     } = instance.create_single(SINGLE, 600, 1);
-    assert!(rt; instance.release(Spot { carrier, offset })?);
+    assert!(rt; instance.release(Spot { carrier, offset }));
     let single = instance.give_up_single(257);
     assert!(rt; single.number() == 257 && instance.owns(257) && !instance.employs(257));
     Ok(())
