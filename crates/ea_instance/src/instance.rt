@@ -405,7 +405,7 @@ impl Instance {
         requires plan { instances.plan self.old need ≡ Ok plan }
         requires multi { plan.single ≡ false }
         requires carrier { carrier ≡ created_content self.old.number Multi plan }
-        ensures ok { self.new ≡ creating self.old plan }
+        ensures created { self.new ≡ creating self.old plan }
         ensures choice { IsSome (chosen_spot self.new need) }
         ensures blocks { HaveSameBlocks (employed self.old) (employed self.new) }
     {
@@ -442,7 +442,7 @@ impl Instance {
     /// takes no memory.
     pub fn release(&mut self, spot: Spot) -> bool
         requires { IsSome (block_in (employed self.old) spot) }
-        ensures ok { self.new ≡ releasing_at self.old spot }
+        ensures released { self.new ≡ releasing_at self.old spot }
         ensures vacant { result ≡ has_vacant spot.carrier (employed self.new) }
         ensures emptied { IfSome (content_of (employed self.new) spot.carrier)
             (λ c. c.kind ≡ Single → c.blocks ≡ []) }
@@ -480,7 +480,7 @@ impl Instance {
         requires least { MIN_BLOCK ≤ need }
         ensures moves { IsNone result ↔ (decision_at self.old spot need ≡ Move) }
         ensures size { IfSome result (λ units. units ≡ resized_to self.old spot need) }
-        ensures ok { self.new ≡ resizing_at self.old spot need name }
+        ensures resized { self.new ≡ resizing_at self.old spot need name }
         ensures begins { IfSome result (λ units.
             block_in (employed self.new) spot ≡ Some (record {
               name = name;

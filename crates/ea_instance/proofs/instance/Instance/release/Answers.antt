@@ -41,8 +41,8 @@ invariant_of-self c =
     c.self.inside.created c.self.invariant spot _ c.self.view_is x there _
     c.release.ensures.released
 
-pub returns-then-has_multi-clause-ok : goal.returns-then-has_multi-clause-ok
-returns-then-has_multi-clause-ok c =
+pub returns-then-has_multi-clause-released : goal.returns-then-has_multi-clause-released
+returns-then-has_multi-clause-released c =
     let spot = c.args.spot in
     let (x, there) = some_value (content_of c.self.inside.carriers.contents spot.carrier)
     (ap (λ i. has_content spot.carrier i.contents) c.self.view_is
@@ -135,8 +135,8 @@ invariant_of-self-2 c =
     kept-single-released _ _ c.self.inside.own c.self.inside.carriers c.self.inside.singles
     c.self.inside.created c.self.invariant spot _ c.self.view_is none _ c.release-2.ensures
 
-pub returns-clause-ok : goal.returns-clause-ok
-returns-clause-ok c =
+pub returns-clause-released : goal.returns-clause-released
+returns-clause-released c =
     let spot = c.args.spot in
     let none = is-none (content_of c.self.inside.carriers.contents spot.carrier)
     (ap (λ i. has_content spot.carrier i.contents) c.self.view_is

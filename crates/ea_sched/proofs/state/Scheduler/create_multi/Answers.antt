@@ -12,7 +12,7 @@ returns-clause-actor c =
     let ask = c.args.ask in
     c.place.ensures.actor
     ∙ ap (λ i. placed_in_choice (setup_for s) s.number ask (record (ready_of s) { instance = i }))
-    c.create.ensures.ok
+    c.create.ensures.created
     ∙ sym (ap (created_by (setup_for s) s.number ask c.args.plan (ready_of s)) c.requires.multi)
 
 pub place-requires-clause-asked : goal.place-requires-clause-asked
@@ -22,5 +22,5 @@ place-requires-clause-asked c =
     let new = c.create.new.self in
     asked-again s _ refl refl refl s.instance new
     (λ at is. subst IsSome (sym (c.create.ensures.blocks at)) is)
-    (λ n is. subst (λ (i : Instance). IsSome (own_at i.own n)) (sym c.create.ensures.ok)
+    (λ n is. subst (λ (i : Instance). IsSome (own_at i.own n)) (sym c.create.ensures.created)
     (created-own s.instance ask.need c.args.plan c.requires.plan n is)) ask c.requires.asked

@@ -35,7 +35,7 @@ returns-in_default-clause-actor c =
     let fresh = c.args.fresh in
     let goes : decision_at s.instance old.spot need ≡ Move =
     c.resize.ensures.moves.0 (subst IsNone (sym c.in_default.is) refl) in
-    let same = c.resize.ensures.ok
+    let same = c.resize.ensures.resized
     ∙ ap (λ d. resized_by d s.instance old.spot (resized_to s.instance old.spot need) fresh) goes in
     made-as c.seek-in_default.result _ c.seek-in_default.ensures.actor
     (ap (λ i. seek (setup_for s) s.number (record { name = fresh; need = need; old = Some old })
@@ -58,7 +58,7 @@ returns-clause-actor c =
     (record { carrier = old.spot.carrier; offset = old.spot.offset; size = c.in-Some.size })
     c.resize.new.self c.hold.new.self.held
     (ap (λ n. record { carrier = old.spot.carrier; offset = old.spot.offset; size = n }) size)
-    c.resize.ensures.ok
+    c.resize.ensures.resized
     (c.hold.ensures.held
     ∙ ap (with_name (record { name = fresh; spot = old.spot })) c.let_go.ensures.held)
     ∙ sym (resized (setup_for s) s.number (ready_of s) old fresh need
@@ -82,7 +82,7 @@ returns-in_default-clause-memory c =
     let fresh = c.args.fresh in
     let goes : decision_at s.instance old.spot need ≡ Move =
     c.resize.ensures.moves.0 (subst IsNone (sym c.in_default.is) refl) in
-    let same = c.resize.ensures.ok
+    let same = c.resize.ensures.resized
     ∙ ap (λ d. resized_by d s.instance old.spot (resized_to s.instance old.spot need) fresh) goes in
     creates-as c.seek-in_default.result s.instance
     (on_err_weaker c.seek-in_default.result (creation-from c.resize.new.self s.instance _
