@@ -8,3 +8,4 @@ pub mod Numbering
 pub mod Planning
 pub mod HandingOut
 pub mod HandFigures
+pub mod Beginning
