@@ -9,6 +9,7 @@ use Rattle.ea_model.specs.Trace.{greatest_of, listed, plain}
 use Rattle.ea_model.specs.declared.operations.Op.{Op}
 use Rattle.ea_model.specs.declared.settings.Letter.{Letter}
 use Rattle.ea_model.specs.declared.trace.Mode.TheVariants.{Generated}
+use Rattle.ea_model.specs.declared.trace.Stop.{Stop}
 use Rattle.ea_model.specs.declared.trace.Trace.{Trace}
 use Rattle.ea_gen.specs.Generated.{generated, generated_trace, texts_from}
 use Rattle.ea_gen.proofs.Growing.{greatest_append}
@@ -48,24 +49,34 @@ all_texts seed n count k texts given le e =
     ∙ ap (λ j. texts ++ texts_from seed n count j (k + 1) given) none ∙ e
 
 pub is_generated : (letter : Letter) (seed n count greatest room : ℕ) (texts : List (Items Op))
-    → items_of texts ≡ generated seed n count
+    (stops : Items Stop) → stops.items ≡ [] → items_of texts ≡ generated seed n count
     → greatest ≡ greatest_of (flat_map (λ t. t) (items_of texts))
     → plain (record {
       letter = letter;
       texts = record { items = texts; room = room };
+      stops = stops;
       mode = Generated seed count;
       greatest = greatest;
     }) ≡ generated_trace letter seed n count
-is_generated letter seed n count greatest room texts e f =
+is_generated letter seed n count greatest room texts stops none e f =
     let made : List (List Op) → ℕ → Trace = λ ts g. record {
       letter = letter;
       texts = listed (map (λ text. listed text) ts);
+      stops = listed [];
       mode = Generated seed count;
       greatest = g;
     } in
-    ap (λ ts. record {
+    ap (λ xs. record {
+      letter = letter;
+      texts = listed (map (λ text. listed text.items) texts);
+      stops = listed xs;
+      mode = Generated seed count;
+      greatest = greatest;
+    }) none
+    ∙ ap (λ ts. record {
       letter = letter;
       texts = listed ts;
+      stops = listed [];
       mode = Generated seed count;
       greatest = greatest;
     }) (relisted texts)

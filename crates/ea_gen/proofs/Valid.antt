@@ -212,6 +212,9 @@ generated_valid letter seed n count s c room =
     record {
       texts = inr (ap length texts ∙ g.texts_made);
       mode = (s, c, room);
+      stops = λ k d h. absurd (omega (arith, h));
+      stopped_once = λ i. omega arith;
+      may_stop = refl;
       operations = subst (All (IsOperation n)) (sym all)
           (All-from_recursion (IsOperation n) (all_of (generated seed n count)) g.good);
       few = omega (arith, ap length all, g.many);

@@ -188,6 +188,7 @@ generated_trace letter seed n count =
     record {
       letter = letter;
       texts = listed (map (λ text. listed text) texts);
+      stops = listed [];
       mode = Generated seed count;
       greatest = greatest_of (flat_map (λ text. text) texts);
     }

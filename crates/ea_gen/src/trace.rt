@@ -47,6 +47,7 @@ pub fn make_trace(
     Ok(Trace {
         letter,
         texts,
+        stops: List::new(alloc),
         mode: Mode::Generated { seed, count },
         greatest,
     })

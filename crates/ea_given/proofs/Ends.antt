@@ -2,9 +2,10 @@
 use Rattle.std.proofs.Common.{◌≡◌, ◌≢◌, ℕ, zero, suc, ◌+◌, ◌-◌, ◌<◌, ◌≤◌, List, [], ◌∷◌, ◌++◌}
 use Rattle.std.proofs.Common.{length, length-set, get_or, get_or-set_other, get_or-set_same}
 use Rattle.std.proofs.Common.{set, take, append-nil, inl, inr, refl, sym, ap, subst, ◌∙◌, arith}
-use Rattle.std.specs.Prelude.{All, false, flat_map, map, replicate}
+use Rattle.std.specs.Prelude.{All, Option, None, Some, false, flat_map, map, replicate}
+use mathlib.Core.Path.{fun_ext}
 use Rattle.std.specs.List.{range_with_len}
-use Rattle.std.proofs.lemmas.Bool.{cases_eq, cases_lt}
+use Rattle.std.proofs.lemmas.Bool.{cases_Bool, cases_eq, cases_lt}
 use Rattle.std.proofs.lemmas.List.{get_or_append_left, get_or-append_right}
 use Rattle.std.proofs.lemmas.List.{length_push, take-append-le, take_all, take_more}
 use Rattle.std.proofs.lemmas.Grind.{flat_map-append}
@@ -14,55 +15,70 @@ use Rattle.ea_model.specs.declared.trace.Turns.{Turns}
 use Rattle.ea_model.specs.Settings.{IsValidConfig}
 use Rattle.ea_model.specs.declared.trace.Mode.{Mode}
 use Rattle.ea_model.specs.declared.trace.Mode.TheVariants.{Threads, Schedule, Generated}
-use Rattle.ea_model.specs.Trace.{IsScheduler, IsValidMode, IsValidTrace, turns_of}
-use Rattle.ea_machine.specs.Completion.{completing, end_of, finishing, turns_in}
+use Rattle.ea_model.specs.Trace.{IsScheduler, IsValidMode, IsValidTrace, stop_in, turns_of}
+use Rattle.ea_machine.specs.Actor.{Actor}
+use Rattle.ea_machine.specs.Completion.{completing, end_of, finishing, turns_in, work}
+use Rattle.ea_machine.specs.Courses.{Rests}
 use Rattle.ea_machine.specs.Machine.{first_actor, run, run_on, start, step}
 use Rattle.ea_machine.specs.Setup.{Setup, migration, setup_of}
 use Rattle.ea_machine.specs.State.{State}
-use Rattle.ea_sound.proofs.Completing.{ending-others}
-use Rattle.ea_sound.proofs.TurnLists.{run-append, step-other}
+use Rattle.ea_machine.specs.Shared.{put}
+use Rattle.ea_machine.specs.Stops.{cut, left_after, left_by, less, stop_at, stop_of, up_to}
+use Rattle.ea_sound.proofs.Completing.{ending-own, replicate-others}
+use Rattle.ea_sound.proofs.Stopping.{count-append, count-others, count-replicate, cut-append}
+use Rattle.ea_sound.proofs.Stopping.{cut-left, cut-replicate, left-more, less-none, stop-same}
+use Rattle.ea_sound.proofs.Stopping.{up_to-some}
+use Rattle.ea_sound.proofs.Totals.{put-here, put-other}
+use Rattle.ea_sound.proofs.TurnLists.{run-append}
 use Rattle.ea_shared.specs.Carriers.{place_at}
 use Rattle.ea_shared.specs.Memory.{Sharing, shared_of}
 use Rattle.ea_sched.specs.declared.state.Scheduler.{Scheduler}
-use Rattle.ea_sched.specs.Acting.{actor_of, setup_for}
+use Rattle.ea_sched.specs.Acting.{actor_of, is_ended, setup_for, stop_line}
 use Rattle.ea_outcome.specs.Resting.{StandIn}
-use Rattle.ea_given.specs.Running.{AllStand, AllStandAt, AllTook, CompletesTo}
+use Rattle.ea_given.specs.Running.{AllEnded, AllStand, AllStandAt, AllTook, CompletesTo, IsAfter}
 use Rattle.ea_given.specs.Running.{SharesAt, Stands, StandsAt, Took}
+use Rattle.ea_given.proofs.Running.{ended-is}
 
 -- turns of one scheduler leave the others as they are
-pub replicate-others : (e : Setup) (me n j : ℕ) (w : State) → j ≢ me
-    → (run_on e w (replicate n me)).actors j ≡ w.actors j
-replicate-others e me zero j w other = refl
-replicate-others e me (suc n) j w other =
-    replicate-others e me n j (step e w me) other ∙ step-other e w me j other
+up_to-others : (e : Setup) (me n j : ℕ) (steps : Option ℕ) (w : State) → j ≢ me
+    → (run_on e w (up_to steps (replicate n me))).actors j ≡ w.actors j
+up_to-others e me n j steps w other =
+    let some = up_to-some steps n me in
+    ap (λ js. (run_on e w js).actors j) some.1 ∙ replicate-others e some.0 w me j other
 
-pub finishing-others : (e : Setup) (me j : ℕ) (w : State) → j ≢ me
-    → (run_on e w (finishing e w me)).actors j ≡ w.actors j
-finishing-others e me j w other = ending-others e _ w me j (w.actors me).stage other
+pub finishing-others : (e : Setup) (me j : ℕ) (steps : Option ℕ) (w : State) → j ≢ me
+    → (run_on e w (finishing e w steps me)).actors j ≡ w.actors j
+finishing-others e me j steps w other =
+    let own = ending-own e (work e w me) w me (w.actors me).stage in
+    ap (λ js. (run_on e w (up_to steps js)).actors j) own.1 ∙ up_to-others e me own.0 j steps w other
 
 -- schedulers that all stand in a state of a run, of which one takes its turns
-module _ (c : Config) (t : Trace) (ss : List Scheduler) (w : State) (stand : AllStandAt c t ss w)
-    (k : ℕ) (within : k < length ss) where
-  pub one-stands : (s : Scheduler) → StandsAt c t (k + 1) (get_or ss k s) w
+module _ (c : Config) (t : Trace) (steps : ℕ → Option ℕ) (ss : List Scheduler) (w : State)
+    (stand : AllStandAt c t steps ss w) (k : ℕ) (within : k < length ss) where
+  pub one-stands : (s : Scheduler) → StandsAt c t (k + 1) (steps (k + 1)) (get_or ss k s) w
   one-stands s = stand.each k s within
 
-  pub all-after : (u : Scheduler) (v : State) → StandsAt c t (k + 1) u v
-      → ((j : ℕ) → j ≢ k + 1 → v.actors j ≡ w.actors j) → AllStandAt c t (set ss k u) v
-  all-after u v at others = record {
+  pub all-after : (more : ℕ → Option ℕ) (u : Scheduler) (v : State)
+      → StandsAt c t (k + 1) (more (k + 1)) u v → ((j : ℕ) → j ≢ k + 1 → v.actors j ≡ w.actors j)
+      → ((j : ℕ) → j ≢ k + 1 → more j ≡ steps j) → AllStandAt c t more (set ss k u) v
+  all-after more u v at others still = record {
     all = length-set ss k u ∙ stand.all;
     each = λ i d h. let below : i < length ss = omega (arith, h, length-set ss k u) in
         elim (cases_eq i k) [
-          | inl same ↦ subst (λ n. StandsAt c t (n + 1) (get_or (set ss k u) n d) v) (sym same)
-              (subst (λ s. StandsAt c t (k + 1) s v) (sym (get_or-set_same ss k u d within)) at)
-          | inr other ↦ subst (λ s. StandsAt c t (i + 1) s v)
+          | inl same ↦ subst (λ n. StandsAt c t (n + 1) (more (n + 1)) (get_or (set ss k u) n d) v)
+              (sym same) (subst (λ s. StandsAt c t (k + 1) (more (k + 1)) s v)
+              (sym (get_or-set_same ss k u d within)) at)
+          | inr other ↦ subst (λ s. StandsAt c t (i + 1) (more (i + 1)) s v)
               (sym (get_or-set_other ss k i u d other)) (
               let was = stand.each i d below in
+              let apart = (λ (e : i + 1 ≡ k + 1). other (omega (arith, e))) in
               record {
                 config = was.config;
                 trace = was.trace;
                 number = was.number;
                 going = was.going;
-                actor = others (i + 1) (λ e. other (omega (arith, e))) ∙ was.actor;
+                actor = others (i + 1) apart ∙ was.actor;
+                left = λ going. was.left going ∙ sym (still (i + 1) apart);
               })
         ];
   }
@@ -82,21 +98,53 @@ turns-more schedule i d within =
     ∙ flat_map-append f (take i schedule) (x ∷ [])
     ∙ ap (λ ys. turns_from (take i schedule) ++ ys) (append-nil (f x))
 
+-- with other steps left
+module _ (c : Config) (t : Trace) (steps : ℕ → Option ℕ) (ss : List Scheduler) (w : State)
+    (stand : AllStandAt c t steps ss w) where
+  with-left : (more : ℕ → Option ℕ) → ((k : ℕ) → k < length ss → more (k + 1) ≡ steps (k + 1))
+      → AllStandAt c t more ss w
+  with-left more same = record {
+    all = stand.all;
+    each = λ k d within. let was = stand.each k d within in
+        record {
+          config = was.config;
+          trace = was.trace;
+          number = was.number;
+          going = was.going;
+          actor = was.actor;
+          left = λ going. was.left going ∙ sym (same k within);
+        };
+  }
+
+  pub other-left : (more : ℕ → Option ℕ) → ((k : ℕ) → more (k + 1) ≡ steps (k + 1))
+      → AllStandAt c t more ss w
+  other-left more same = with-left more (λ k within. same k)
+
+  pub all-over : ((k : ℕ) → k < length ss → steps (k + 1) ≡ Some 0)
+      → AllStandAt c t (λ _. Some 0) ss w
+  all-over over = with-left (λ _. Some 0) (λ k within. sym (over k within))
+
+-- no turns
+pub none-taken : (ss : List Scheduler) (m : Sharing) → AllTook [] ss m ss m
+none-taken ss m c t steps w shares stand = (
+  shares,
+  other-left c t steps ss w stand (left_by steps []) (λ k. less-none (steps (k + 1))),
+)
+
 module _ (ss us : List Scheduler) (m n : Sharing) where
-  pub all-took-stand : (turns : Setup → State → List ℕ) → AllStand ss m → AllTook turns ss m us n
-      → AllStand us n
+  pub all-took-stand : (turns : List ℕ) → AllStand ss m → AllTook turns ss m us n → AllStand us n
   all-took-stand turns h took =
-      let (c, t, w, shares, stand) = h in
+      let (c, t, steps, w, shares, stand) = h in
       let e = setup_of c t in
-      let then = took c t w shares stand in
-      (c, t, run_on e w (turns e w), then.0, then.1)
+      let then = took c t steps w shares stand in
+      (c, t, left_by steps turns, run_on e w (cut steps turns), then.0, then.1)
 
   -- one of them stands
   pub all-stand-one : (k : ℕ) (s : Scheduler) → k < length us → AllStand us n
       → Stands (get_or us k s) n
   all-stand-one k s within h =
-      let (c, t, w, shares, stand) = h in
-      (c, t, k + 1, w, shares, one-stands c t us w stand k within s)
+      let (c, t, steps, w, shares, stand) = h in
+      (c, t, k + 1, steps (k + 1), w, shares, one-stands c t steps us w stand k within s)
 
   -- and takes the turns of the next entry of a schedule
   module _ (schedule : List Turns) (i : ℕ) (d : Turns) (more : i < length schedule)
@@ -106,100 +154,144 @@ module _ (ss us : List Scheduler) (m n : Sharing) where
     abbrev x : Turns
     x = get_or schedule i d
 
-    pub schedule-more : AllTook (λ e w. turns_from (take i schedule)) ss m us n
-        → Took (λ e w me. replicate x.count me) (get_or us (x.scheduler - 1) s) n u p
-        → AllTook (λ e w. turns_from (take (i + 1) schedule)) ss m (set us (x.scheduler - 1) u) p
-    schedule-more before took c t w shares stand =
+    pub schedule-more : AllTook (turns_from (take i schedule)) ss m us n
+        → Took x.count (get_or us (x.scheduler - 1) s) n u p
+        → AllTook (turns_from (take (i + 1) schedule)) ss m (set us (x.scheduler - 1) u) p
+    schedule-more before took c t steps w shares stand =
         let e = setup_of c t in
-        let v = run_on e w (turns_from (take i schedule)) in
-        let then = before c t w shares stand in
+        let first = turns_from (take i schedule) in
+        let left = left_by steps first in
+        let v = run_on e w (cut steps first) in
+        let then = before c t steps w shares stand in
         let k = x.scheduler - 1 in
         let below : k < length us = omega (arith, some, within) in
         let me : k + 1 ≡ x.scheduler = omega (arith, some) in
-        let now = took c t (k + 1) v then.0 (one-stands c t us v then.1 k below s) in
-        let after = run_on e v (replicate x.count (k + 1)) in
-        let turns : run_on e w (turns_from (take (i + 1) schedule)) ≡ after =
-        ap (run_on e w) (turns-more schedule i d more)
-        ∙ run-append e w (turns_from (take i schedule)) (replicate x.count x.scheduler)
-        ∙ ap (λ j. run_on e v (replicate x.count j)) (sym me) in
-        subst (λ y. SharesAt c t p y × AllStandAt c t (set us k u) y) (sym turns) (
+        let now = took c t (k + 1) (left (k + 1)) v then.0
+        (one-stands c t left us v then.1 k below s) in
+        let last = replicate x.count (k + 1) in
+        let after = run_on e v (up_to (left (k + 1)) last) in
+        let turns : turns_from (take (i + 1) schedule) ≡ first ++ last =
+        turns-more schedule i d more ∙ ap (λ j. first ++ replicate x.count j) (sym me) in
+        subst (λ ys. SharesAt c t p (run_on e w (cut steps ys))
+        × AllStandAt c t (left_by steps ys) (set us k u) (run_on e w (cut steps ys))) (sym turns)
+        (subst (λ y. SharesAt c t p y × AllStandAt c t (left_by steps (first ++ last)) (set us k u) y)
+        (sym (ap (run_on e w) (cut-append steps first last
+        ∙ ap (λ zs. cut steps first ++ zs) (cut-replicate left x.count (k + 1)))
+        ∙ run-append e w (cut steps first) (up_to (left (k + 1)) last))) (
           now.0,
-          all-after c t us v then.1 k below u after now.1
-              (λ j other. replicate-others e (k + 1) x.count j v other),
-        )
+          all-after c t left us v then.1 k below (left_by steps (first ++ last)) u after
+              (subst (λ o. StandsAt c t (k + 1) o u after)
+              (sym (left-more steps first last (k + 1)
+              ∙ ap (less (left (k + 1))) (count-replicate x.count (k + 1)))) now.1)
+              (λ j other. up_to-others e (k + 1) x.count j (left (k + 1)) v other)
+              (λ j other. left-more steps first last j
+              ∙ ap (less (left j)) (count-others x.count (k + 1) j (λ q. other (sym q)))
+              ∙ less-none (left j)),
+        ))
 
-module _ (e : Setup) where
+module _ (e : Setup) (steps : ℕ → Option ℕ) where
   -- the completion begins
   pub completes-first : (w : State)
-      → CompletesTo e 0 (run_on e w (completing e e.schedulers 1 w)) w
+      → CompletesTo e steps 0 (run_on e w (completing e steps e.schedulers 1 w)) w
   completes-first w = (e.schedulers, omega arith, refl)
 
   next_by : (rest first : ℕ) (target w : State) → first < e.schedulers
       → first + rest ≡ e.schedulers
-      → target ≡ run_on e w (completing e rest (first + 1) w)
-      → CompletesTo e (first + 1) target (run_on e w (finishing e w (first + 1)))
+      → target ≡ run_on e w (completing e steps rest (first + 1) w)
+      → CompletesTo e steps (first + 1) target
+      (run_on e w (finishing e w (steps (first + 1)) (first + 1)))
   next_by zero first target w below count is = absurd (omega (arith, below, count))
   next_by (suc rest) first target w below count is =
-      let v = run_on e w (finishing e w (first + 1)) in (
+      let now = finishing e w (steps (first + 1)) (first + 1) in
+      let v = run_on e w now in (
         rest,
         omega (arith, count),
-        is ∙ run-append e w (finishing e w (first + 1)) (completing e rest (suc (first + 1)) v)
-            ∙ ap (λ k. run_on e v (completing e rest k v)) (later (first + 1)),
+        is ∙ run-append e w now (completing e steps rest (suc (first + 1)) v)
+            ∙ ap (λ k. run_on e v (completing e steps rest k v)) (later (first + 1)),
       ) where
         later : (k : ℕ) → suc k ≡ k + 1
         later k = omega arith
 
   -- one scheduler more is at its end
   pub completes-next : (first : ℕ) (target w : State) → first < e.schedulers
-      → CompletesTo e first target w
-      → CompletesTo e (first + 1) target (run_on e w (finishing e w (first + 1)))
+      → CompletesTo e steps first target w
+      → CompletesTo e steps (first + 1) target
+      (run_on e w (finishing e w (steps (first + 1)) (first + 1)))
   completes-next first target w below h = next_by h.0 first target w below h.1 h.2
 
   last_by : (rest first : ℕ) (target w : State) → e.schedulers ≤ first
       → first + rest ≡ e.schedulers
-      → target ≡ run_on e w (completing e rest (first + 1) w) → target ≡ w
+      → target ≡ run_on e w (completing e steps rest (first + 1) w) → target ≡ w
   last_by zero first target w all count is = is
   last_by (suc rest) first target w all count is = absurd (omega (arith, all, count))
 
   -- all are
   pub completes-last : (first : ℕ) (target w : State) → e.schedulers ≤ first
-      → CompletesTo e first target w → target ≡ w
+      → CompletesTo e steps first target w → target ≡ w
   completes-last first target w all h = last_by h.0 first target w all h.1 h.2
+
+-- what is left to the schedulers then
+module _ (steps : ℕ → Option ℕ) where
+  abbrev over-from : (ℕ → Option ℕ) → ℕ → ℕ → Option ℕ
+  over-from now k = put now (k + 1) (Some 0)
+
+  -- number 0 is no scheduler's
+  pub after-none : IsAfter steps 0 (put steps 0 (Some 0))
+  after-none = record {
+    over = λ i upto. put-here steps 0 (Some 0) i (omega (arith, upto));
+    still = λ i past. put-other steps 0 (Some 0) i (λ q. absurd (omega (arith, past, q)));
+  }
+
+  pub after-one : (k : ℕ) (now : ℕ → Option ℕ) → IsAfter steps k now
+      → IsAfter steps (k + 1) (put now (k + 1) (Some 0))
+  after-one k now is = record {
+    over = λ i upto. elim (cases_eq i (k + 1)) [
+      | inl q ↦ put-here now (k + 1) (Some 0) i q
+      | inr n ↦ put-other now (k + 1) (Some 0) i n ∙ is.over i (omega (arith, upto, n))
+    ];
+    still = λ i past. put-other now (k + 1) (Some 0) i (λ q. absurd (omega (arith, past, q)))
+        ∙ is.still i (omega (arith, past));
+  }
 
 -- the start of the run
 module _ (c : Config) (t : Trace) where
   -- a scheduler before its first step stands there
   pub first-stands : (me : ℕ) (s : Scheduler) → s.config ≡ c → s.trace.now ≡ t → s.number ≡ me
-      → s.failed ≡ false → actor_of s ≡ first_actor (setup_for s) me
-      → StandsAt c t me s (start (setup_of c t))
-  first-stands me s config trace number going is = record {
+      → s.failed ≡ false → s.left ≡ s.stop → actor_of s ≡ first_actor (setup_for s) me
+      → StandsAt c t me ((setup_of c t).stops me) s (start (setup_of c t))
+  first-stands me s config trace number going left is = record {
     config = config;
     trace = trace;
     number = number;
     going = going;
     actor = sym (is ∙ ap (λ d. first_actor (setup_of d s.trace.now) me) config
         ∙ ap (λ x. first_actor (setup_of c x) me) trace);
+    left = λ _. left ∙ s.stop_is ∙ ap (λ (x : Trace). stop_in x.stops.items s.number) trace
+        ∙ ap (stop_in t.stops.items) number;
   }
 
   abbrev AreFirst : List Scheduler → Type 0
   AreFirst xs = (k : ℕ) (d : Scheduler) → k < length xs
-      → StandsAt c t (k + 1) (get_or xs k d) (start (setup_of c t))
+      → StandsAt c t (k + 1) ((setup_of c t).stops (k + 1)) (get_or xs k d) (start (setup_of c t))
 
   -- and one scheduler more
   pub one-more-stands : (n : ℕ) (xs : List Scheduler) → length xs ≡ n → AreFirst xs
-      → (s : Scheduler) → StandsAt c t (n + 1) s (start (setup_of c t)) → (ys : List Scheduler)
+      → (s : Scheduler) → StandsAt c t (n + 1) ((setup_of c t).stops (n + 1)) s (start (setup_of c t))
+      → (ys : List Scheduler)
       → ys ≡ xs ++ s ∷ [] → (length ys ≡ n + 1) × AreFirst ys
   one-more-stands n xs many are s at ys is =
       subst (λ zs. (length zs ≡ n + 1) × AreFirst zs) (sym is) (
         omega (arith, length_push xs s, many),
         λ k d within. elim (cases_lt k (length xs)) [
-          | inl below ↦ subst (λ x. StandsAt c t (k + 1) x (start (setup_of c t)))
+          | inl below ↦ subst (λ x. StandsAt c t (k + 1) ((setup_of c t).stops (k + 1)) x
+              (start (setup_of c t)))
               (sym (get_or_append_left xs (s ∷ []) d k below)) (are k d below)
           | inr past ↦
               let last : k ≡ n = omega (arith, past, many, within, length_push xs s) in
-              subst (λ j. StandsAt c t (j + 1) (get_or (xs ++ s ∷ []) j d)
-              (start (setup_of c t))) (sym last)
-              (subst (λ x. StandsAt c t (n + 1) x (start (setup_of c t)))
+              subst (λ j. StandsAt c t (j + 1) ((setup_of c t).stops (j + 1))
+              (get_or (xs ++ s ∷ []) j d) (start (setup_of c t))) (sym last)
+              (subst (λ x. StandsAt c t (n + 1) ((setup_of c t).stops (n + 1)) x
+              (start (setup_of c t)))
               (sym (get_or-append_right xs (s ∷ []) n n d many (omega arith)
               ∙ ap (λ j. get_or (s ∷ []) j d) (none n))) at)
         ],
@@ -222,34 +314,63 @@ module _ (c : Config) (t : Trace) where
     shares = shares;
   }
 
-  -- the schedulers of a state are those that are printed
-  module _ (ss : List Scheduler) (m : Sharing) (w : State)
-      (shares : SharesAt c t m w) (stand : AllStandAt c t ss w) where
-    actors_from : (low : ℕ) (xs : List Scheduler)
-        → ((k : ℕ) (d : Scheduler) → k < length xs
-        → w.actors (low + k) ≡ actor_of (get_or xs k d))
-        → map actor_of xs ≡ map w.actors (range_with_len low (length xs))
-    actors_from low [] each = refl
-    actors_from low (x ∷ xs) each =
+  -- the schedulers at the end of a run are those that are printed
+  module _ (ss : List Scheduler) (m : Sharing) (turns : List ℕ)
+      (shares : SharesAt c t m (run (setup_of c t) turns))
+      (stand : AllStandAt c t (λ _. Some 0) ss (run (setup_of c t) turns))
+      (rest : (i : ℕ) → Rests (setup_of c t) turns i) where
+    abbrev e : Setup
+    e = setup_of c t
+
+    abbrev w : State
+    w = run e turns
+
+    ranged : {A : Type 0} (f : Scheduler → A) (h : ℕ → A) (low : ℕ) (xs : List Scheduler)
+        → ((k : ℕ) (d : Scheduler) → k < length xs → h (low + k) ≡ f (get_or xs k d))
+        → map f xs ≡ map h (range_with_len low (length xs))
+    ranged f h low [] each = refl
+    ranged f h low (x ∷ xs) each =
         let here : low + 0 ≡ low = omega arith in
-        ap (λ a. a ∷ map actor_of xs) (sym (each 0 x (omega arith)) ∙ ap w.actors here)
-        ∙ ap (λ bs. w.actors low ∷ bs) (actors_from (low + 1) xs
-        (λ k d within. ap w.actors (next low k) ∙ each (suc k) d (omega (arith, within))))
+        ap (λ a. a ∷ map f xs) (sym (each 0 x (omega arith)) ∙ ap h here)
+        ∙ ap (λ bs. h low ∷ bs) (ranged f h (low + 1) xs
+        (λ k d within. ap h (next low k) ∙ each (suc k) d (omega (arith, within))))
       where
         next : (low k : ℕ) → low + 1 + k ≡ low + suc k
         next low k = omega arith
 
-    pub stand-in : StandIn c t ss (place_at m.places) m.given w
+    first : (k : ℕ) → 1 + k ≡ k + 1
+    first k = omega arith
+
+    stop-is : (k : ℕ) (d : Scheduler) → k < length ss
+        → stop_of e w turns (k + 1) ≡ stop_line (get_or ss k d)
+    stop-is k d within =
+        let s = get_or ss k d in
+        let at = stand.each k d within in
+        let stage = ap (λ (a : Actor). a.stage) at.actor in
+        let stop = s.stop_is ∙ ap (λ (x : Trace). stop_in x.stops.items s.number) at.trace
+        ∙ ap (stop_in t.stops.items) at.number in
+        ap (λ st. stop_at st (e.stops (k + 1)) (left_after e turns (k + 1))) stage
+        ∙ ap (λ o. stop_at s.stage o (left_after e turns (k + 1))) (sym stop)
+        ∙ stop-same s.stage s.stop (left_after e turns (k + 1)) s.left
+        (elim (cases_Bool (is_ended s.stage)) [
+          | inl ended ↦ inl (ended-is s.stage ended)
+          | inr going ↦ elim (rest (k + 1)) [
+            | inl ended ↦ inl (sym stage ∙ ended)
+            | inr over ↦ inr (over, at.left going)
+          ]
+        ])
+
+    pub stand-in : StandIn c t ss (place_at m.places) m.given turns
     stand-in = record {
-      reached = shares.reached;
-      actors = actors_from 1 ss
+      actors = ranged actor_of w.actors 1 ss
           (λ k d within. ap w.actors (first k) ∙ (stand.each k d within).actor)
           ∙ ap (λ n. map w.actors (range_with_len 1 n)) stand.all;
+      stops = ranged stop_line (stop_of e w turns) 1 ss
+          (λ k d within. ap (stop_of e w turns) (first k) ∙ stop-is k d within)
+          ∙ ap (λ n. map (stop_of e w turns) (range_with_len 1 n)) stand.all;
       told = λ on n. ap (λ s. s.places n) shares.shares;
       given = ap (λ s. s.given) shares.shares;
-    } where
-      first : (k : ℕ) → 1 + k ≡ k + 1
-      first k = omega arith
+    }
 
 -- a slice that was written is the list that it was lent from
 pub written : {A : Type 0} (n : ℕ) (xs ys : List A) → length xs ≡ n → take n (xs ++ ys) ≡ xs
@@ -258,27 +379,34 @@ written n xs ys many =
 
 -- the turns of a schedule, and then those that complete it, lead to the end of the run
 end-is : (e : Setup) (t : Trace) (turns : List Turns) → turns ≡ turns_of t.mode
-    → (let v = run e (turns_from turns) in
-    run_on e v (completing e e.schedulers 1 v)) ≡ end_of e t.mode
+    → (let first = turns_from turns in
+    let v = run e (cut e.stops first) in
+    run_on e v (completing e (left_by e.stops first) e.schedulers 1 v)) ≡ end_of e t.mode
 end-is e t turns same =
     let f : List Turns → State = λ xs.
-    run_on e (run e (turns_from xs)) (completing e e.schedulers 1 (run e (turns_from xs))) in
-    let v = run e (turns_in t.mode) in
-    ap f same ∙ sym (run-append e (start e) (turns_in t.mode) (completing e e.schedulers 1 v))
+    run_on e (run e (cut e.stops (turns_from xs))) (completing e (left_by e.stops (turns_from xs))
+    e.schedulers 1 (run e (cut e.stops (turns_from xs)))) in
+    let all = turns_in t.mode in
+    let taken = cut e.stops all in
+    let v = run e taken in
+    ap f same
+    ∙ ap (λ left. run_on e v (completing e left e.schedulers 1 v))
+    (fun_ext (λ i. sym (cut-left e.stops all i)))
+    ∙ sym (run-append e (start e) taken (completing e (left_by e.stops taken) e.schedulers 1 v))
 
 module _ (c : Config) (t : Trace) (turns : List Turns) (same : turns ≡ turns_of t.mode)
     (ss us vs : List Scheduler) (m n p : Sharing)
     (shares : SharesAt c t m (start (setup_of c t)))
-    (stand : AllStandAt c t ss (start (setup_of c t)))
-    (took : AllTook (λ e w. turns_from turns) ss m us n)
-    (completed : AllTook (λ e w. completing e e.schedulers 1 w) us n vs p) where
+    (stand : AllStandAt c t (setup_of c t).stops ss (start (setup_of c t)))
+    (took : AllTook (turns_from turns) ss m us n) (completed : AllEnded us n vs p) where
   pub end-stands : SharesAt c t p (end_of (setup_of c t) t.mode)
-      × AllStandAt c t vs (end_of (setup_of c t) t.mode)
+      × AllStandAt c t (λ _. Some 0) vs (end_of (setup_of c t) t.mode)
   end-stands =
       let e = setup_of c t in
-      let then = took c t (start e) shares stand in
-      subst (λ w. SharesAt c t p w × AllStandAt c t vs w) (end-is e t turns same)
-      (completed c t (run e (turns_from turns)) then.0 then.1)
+      let first = turns_from turns in
+      let then = took c t e.stops (start e) shares stand in
+      subst (λ w. SharesAt c t p w × AllStandAt c t (λ _. Some 0) vs w) (end-is e t turns same)
+      (completed c t (left_by e.stops first) (run e (cut e.stops first)) then.0 then.1)
 
 theirs_by : (n : ℕ) (m : Mode) → IsValidMode n m
     → All (λ y. IsScheduler n y.scheduler) (turns_of m)

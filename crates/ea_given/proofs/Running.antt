@@ -1,7 +1,8 @@
 -- Schedulers take their turns on plain memory.
-use Rattle.std.proofs.Common.{◌≡◌, ◌≢◌, ℕ, zero, suc, ◌+◌, ◌-◌, ◌<◌, ◌≤◌, length, true, false}
-use Rattle.std.proofs.Common.{List, inl, inr, refl, sym, ap, subst, ◌∙◌, arith}
-use Rattle.std.specs.Prelude.{None, Some, replicate}
+use Rattle.std.proofs.Common.{◌≡◌, ◌≢◌, ◌⊎◌, ℕ, zero, suc, ◌+◌, ◌-◌, ◌<◌, ◌≤◌, length, true, false}
+use Rattle.std.proofs.Common.{List, [], ◌∷◌, inl, inr, refl, sym, ap, subst, ◌∙◌, arith}
+use Rattle.std.specs.Prelude.{Bool, Option, None, Some, not, replicate, take, ◌&&◌, ◌||◌, ◌==◌}
+use Rattle.std.proofs.lemmas.Bool.{cases_Bool}
 use Rattle.std.proofs.lemmas.List.{replicate-append-replicate}
 use Rattle.ea_model.specs.declared.settings.Config.{Config}
 use Rattle.ea_model.specs.declared.trace.Trace.{Trace}
@@ -13,7 +14,7 @@ use Rattle.ea_machine.specs.declared.stages.Stage.TheVariants.{Begin, Routed, Co
 use Rattle.ea_machine.specs.declared.stages.Stage.TheVariants.{Searching, Fetching, Creating}
 use Rattle.ea_machine.specs.declared.stages.Stage.TheVariants.{Giving, Taking, Ended, Ready}
 use Rattle.ea_machine.specs.Actor.{Actor}
-use Rattle.ea_machine.specs.Completion.{actor_rows, ending, work}
+use Rattle.ea_machine.specs.Completion.{actor_rows, ending, finishing, work}
 use Rattle.ea_machine.specs.Machine.{IsReached, after_row, onward}
 use Rattle.ea_machine.specs.Machine.{run_on, step, wants}
 use Rattle.ea_machine.specs.Setup.{Setup, migration, setup_of}
@@ -22,17 +23,24 @@ use Rattle.ea_machine.specs.State.{State}
 use Rattle.ea_machine.specs.Statistics.{observed}
 use Rattle.ea_machine.specs.Table.{answer, effect}
 use Rattle.ea_sound.proofs.Asked.{reached-rule}
-use Rattle.ea_sound.proofs.Completing.{ending-none, ending-one, reached-step, rule-less}
+use Rattle.ea_machine.specs.Stops.{less, up_to}
+use Rattle.ea_sound.proofs.Completing.{ending-none, ending-one, reached-run, reached-step, rule-less}
+use Rattle.ea_sound.proofs.Stopping.{less-more, less-none, less-over, up_to-more, up_to-nothing}
+use Rattle.ea_sound.proofs.Stopping.{up_to-one, up_to-over, up_to-some, up_to-step}
 use Rattle.ea_sound.proofs.TurnLists.{ended-or, run-append, step-ended, step-mine, step-shared}
 use Rattle.ea_shared.specs.Memory.{Sharing, shared_of}
 use Rattle.ea_sched.specs.declared.state.Scheduler.{Scheduler}
-use Rattle.ea_sched.specs.Acting.{actor_of, is_ended, setup_for}
-use Rattle.ea_given.specs.Running.{LeadsTo, SharesAt, Stands, StandsAt, Took, alone_in, work_left}
+use Rattle.ea_sched.specs.declared.step.Progress.{Progress}
+use Rattle.ea_sched.specs.declared.step.Progress.TheVariants.{Went, Stopped}
+use Rattle.ea_sched.specs.declared.step.Progress.TheVariants as progress
+use Rattle.ea_sched.specs.Acting.{actor_of, is_ended, is_over, is_stopped, rests, setup_for}
+use Rattle.ea_given.specs.Running.{LeadsTo, SharesAt, Stands, StandsAt, Took, TookOf, alone_in}
+use Rattle.ea_given.specs.Running.{work_left}
 use Rattle.ea_sched.specs.Steps.{Stepped}
-use Rattle.ea_sched.specs.Steps as steps
+use Rattle.ea_sched.specs.Steps as taking
 
 -- a scheduler whose text is done has ended
-ended-is : (stage : Stage Content) → is_ended stage ≡ true → stage ≡ Ended
+pub ended-is : (stage : Stage Content) → is_ended stage ≡ true → stage ≡ Ended
 ended-is Begin is = absurd cc
 ended-is (Routed route why gone) is = absurd cc
 ended-is (Collecting number) is = absurd cc
@@ -43,6 +51,67 @@ ended-is (Giving given to) is = absurd cc
 ended-is (Taking name tries left) is = absurd cc
 ended-is Ended is = refl
 ended-is Ready is = absurd cc
+
+-- no step is left until its stop, or some are
+pub over-is : (o : Option ℕ) → is_over o ≡ true → o ≡ Some 0
+over-is None is = absurd cc
+over-is (Some n) is = ap Some (grind (arith, is))
+
+over-or : (o : Option ℕ) → (o ≡ Some 0) ⊎ (o ≢ Some 0)
+over-or None = inr (λ q. absurd cc)
+over-or (Some zero) = inl refl
+over-or (Some (suc n)) = inr (λ q. absurd (some n q)) where
+  some : (n : ℕ) → Some (suc n) ≡ Some 0 → ⊥
+  some n q = let e : suc n ≡ 0 = cc in omega (arith, e)
+
+some-left : (o : Option ℕ) → is_over o ≡ false → o ≢ Some 0
+some-left o is = λ q. let no : true ≡ false = ap is_over (sym q) ∙ is in cc
+
+both-no : (a b : Bool) → (a || b) ≡ false → (a ≡ false) × (b ≡ false)
+both-no true b is = absurd cc
+both-no false b is = (refl, is)
+
+either : (a b : Bool) → (a || b) ≡ true → (a ≡ true) ⊎ (b ≡ true)
+either true b is = inl refl
+either false b is = inr is
+
+other-so : (a b : Bool) → (not a && b) ≡ true → (a ≡ false) × (b ≡ true)
+other-so true b is = absurd cc
+other-so false b is = (refl, is)
+
+pub goes-is : (s : Scheduler) → rests s ≡ false
+    → (is_ended s.stage ≡ false) × (s.left ≢ Some 0)
+goes-is s is =
+    let both = both-no (is_ended s.stage) (is_over s.left) is in
+    (both.0, some-left s.left both.1)
+
+stopped-is : (s : Scheduler) → is_stopped s ≡ true
+    → (is_ended s.stage ≡ false) × (s.left ≡ Some 0)
+stopped-is s is =
+    let both = other-so (is_ended s.stage) (is_over s.left) is in
+    (both.0, over-is s.left both.1)
+
+rests-is : (s : Scheduler) → rests s ≡ true → (is_ended s.stage ≡ true) ⊎ (s.left ≡ Some 0)
+rests-is s is = elim (either (is_ended s.stage) (is_over s.left) is) [
+  | inl ended ↦ inl ended
+  | inr over ↦ inr (over-is s.left over)
+]
+
+not-both : {A : Type 0} (b : Bool) → b ≡ true → b ≡ false → A
+not-both b is other = absurd (let never : true ≡ false = sym is ∙ other in cc)
+
+-- it takes no step any more, if it has ended or is stopped
+pub rests-ended : (s : Scheduler) → is_ended s.stage ≡ true → rests s ≡ true
+rests-ended s is = by (is_ended s.stage) (is_over s.left) is where
+  by : (a b : Bool) → a ≡ true → (a || b) ≡ true
+  by true b is = refl
+  by false b is = absurd cc
+
+pub rests-stopped : (s : Scheduler) → is_stopped s ≡ true → rests s ≡ true
+rests-stopped s is = by (is_ended s.stage) (is_over s.left) is where
+  by : (a b : Bool) → (not a && b) ≡ true → (a || b) ≡ true
+  by true b is = absurd cc
+  by false b is = is
 
 -- a step of a scheduler is the same from each state in which it and what is shared are the same
 module _ (e : Setup) (me : ℕ) (v w : State) (same : v.actors me ≡ w.actors me)
@@ -84,21 +153,9 @@ run-more : (e : Setup) (me : ℕ) (w : State) (n k : ℕ) → run_on e w (replic
 run-more e me w n k = ap (run_on e w) (sym (replicate-append-replicate n k me))
     ∙ run-append e w (replicate n me) (replicate k me)
 
--- as many as there are, once it has ended
-run-all : (e : Setup) (me : ℕ) (w : State) (n count : ℕ) → n ≤ count
-    → ((run_on e w (replicate n me)).actors me).stage ≡ Ended
-    → run_on e w (replicate count me) ≡ run_on e w (replicate n me)
-run-all e me w n count upto ended =
-    let v = run_on e w (replicate n me) in
-    let rest = count - n in
-    let parts : n + rest ≡ count = omega (arith, upto) in
-    ap (λ k. run_on e w (replicate k me)) (sym parts)
-    ∙ ap (run_on e w) (sym (replicate-append-replicate n rest me))
-    ∙ run-append e w (replicate n me) (replicate rest me) ∙ ended-stays e me v rest ended
-
 -- a scheduler that stands in a state of a run
-module _ (c : Config) (t : Trace) (me : ℕ) (s : Scheduler) (w : State)
-    (at : StandsAt c t me s w) where
+module _ (c : Config) (t : Trace) (me : ℕ) (steps : Option ℕ) (s : Scheduler) (w : State)
+    (at : StandsAt c t me steps s w) where
   -- what holds of the run holds of that of the scheduler, and the other way round
   pub as-run : (P : Config → Trace → ℕ → Type 0) → P c t me → P s.config s.trace.now s.number
   as-run P p = subst (P s.config s.trace.now) (sym at.number)
@@ -116,11 +173,55 @@ module _ (c : Config) (t : Trace) (me : ℕ) (s : Scheduler) (w : State)
   pub stands-ended : is_ended s.stage ≡ true → (w.actors me).stage ≡ Ended
   stands-ended e = ap (λ (a : Actor). a.stage) at.actor ∙ ended-is s.stage e
 
+  -- it takes no step any more in the state
+  pub stands-rests : rests s ≡ true → ((w.actors me).stage ≡ Ended) ⊎ (steps ≡ Some 0)
+  stands-rests is = elim (cases_Bool (is_ended s.stage)) [
+    | inl ended ↦ inl (stands-ended ended)
+    | inr going ↦ elim (rests-is s is) [
+      | inl ended ↦ not-both (is_ended s.stage) ended going
+      | inr over ↦ inr (sym (at.left going) ∙ over)
+    ]
+  ]
+
+  -- it still stands, with other steps left if it has ended, or if none are left
+  pub same-stands : (more : Option ℕ) → (is_ended s.stage ≡ false → s.left ≡ more)
+      → StandsAt c t me more s w
+  same-stands more left = record {
+    config = at.config;
+    trace = at.trace;
+    number = at.number;
+    going = at.going;
+    actor = at.actor;
+    left = left;
+  }
+
+  -- then more turns leave it as it is
+  pub rests-stays : (k : ℕ) → rests s ≡ true
+      → run_on (setup_of c t) w (up_to steps (replicate k me)) ≡ w
+  rests-stays k is = elim (stands-rests is) [
+    | inl ended ↦
+        let some = up_to-some steps k me in
+        ap (run_on (setup_of c t) w) some.1 ∙ ended-stays (setup_of c t) me w some.0 ended
+    | inr over ↦ ap (run_on (setup_of c t) w) (up_to-over steps (replicate k me) over)
+  ]
+
+  pub rests-stands : (k : ℕ) → rests s ≡ true → StandsAt c t me (less steps k) s w
+  rests-stands k is = same-stands (less steps k) (λ going. elim (rests-is s is) [
+    | inl ended ↦ not-both (is_ended s.stage) ended going
+    | inr over ↦ over ∙ sym (less-over steps k (sym (at.left going) ∙ over))
+  ])
+
+  pub rests-over : rests s ≡ true → StandsAt c t me (Some 0) s w
+  rests-over is = same-stands (Some 0) (λ going. elim (rests-is s is) [
+    | inl ended ↦ not-both (is_ended s.stage) ended going
+    | inr over ↦ over
+  ])
+
   module _ (m : Sharing) (shares : SharesAt c t m w) where
     -- it is ready for its step
-    pub stands-ready : steps.Ready s.config s.trace.now s.number (actor_of s)
+    pub stands-ready : taking.Ready s.config s.trace.now s.number (actor_of s)
         (Some (shared_of m)) None
-    stands-ready = as-run (λ d u k. steps.Ready d u k (actor_of s) (Some (shared_of m)) None)
+    stands-ready = as-run (λ d u k. taking.Ready d u k (actor_of s) (Some (shared_of m)) None)
         (record {
           config = shares.config;
           trace = shares.trace;
@@ -137,14 +238,15 @@ module _ (c : Config) (t : Trace) (me : ℕ) (s : Scheduler) (w : State)
     stands-moves = as-run (λ d u k. m.migrates ≡ migration (setup_of d u)) shares.moves
 
     -- and stands in the next state after it
-    pub stepped-stands : (u : Scheduler) (n : Sharing) → u.config ≡ s.config
+    stepped-stands : (u : Scheduler) (n : Sharing) → u.config ≡ s.config
         → u.trace ≡ s.trace → u.number ≡ s.number
         → n.schedulers ≡ m.schedulers → n.greatest ≡ m.greatest → n.migrates ≡ m.migrates
-        → u.failed ≡ false
+        → u.failed ≡ false → is_ended s.stage ≡ false → u.left ≡ less s.left 1
         → Stepped s.config s.trace.now s.number (actor_of s) (actor_of u) (Some (shared_of m))
         (Some (shared_of n)) None None
-        → (let v = step (setup_of c t) w me in SharesAt c t n v × StandsAt c t me u v)
-    stepped-stands u n config trace number made names moves going stepped =
+        → (let v = step (setup_of c t) w me in
+        SharesAt c t n v × StandsAt c t me (less steps 1) u v)
+    stepped-stands u n config trace number made names moves going goes left stepped =
         let e = setup_of c t in
         let v = step e w me in
         let took = of-run (λ d x k. Stepped d x k (actor_of s) (actor_of u) (Some (shared_of m))
@@ -167,8 +269,56 @@ module _ (c : Config) (t : Trace) (me : ℕ) (s : Scheduler) (w : State)
             number = number ∙ at.number;
             going = going;
             actor = sym alike.0 ∙ sym took.is;
+            left = λ _. left ∙ ap (λ o. less o 1) (at.left goes);
           },
         )
+
+    -- a turn of it, if it went, and if it had ended or was stopped
+    pub turn-went : (u : Scheduler) (n : Sharing) → u.config ≡ s.config
+        → u.trace ≡ s.trace → u.number ≡ s.number
+        → n.schedulers ≡ m.schedulers → n.greatest ≡ m.greatest → n.migrates ≡ m.migrates
+        → u.failed ≡ false → rests s ≡ false → u.left ≡ less s.left 1
+        → Stepped s.config s.trace.now s.number (actor_of s) (actor_of u) (Some (shared_of m))
+        (Some (shared_of n)) None None
+        → (let v = run_on (setup_of c t) w (up_to steps (replicate 1 me)) in
+        SharesAt c t n v × StandsAt c t me (less steps 1) u v)
+    turn-went u n config trace number made names moves going goes left stepped =
+        let some = goes-is s goes in
+        let one = ap (run_on (setup_of c t) w)
+        (up_to-step steps me (λ over. some.1 (at.left some.0 ∙ over))) in
+        subst (λ v. SharesAt c t n v × StandsAt c t me (less steps 1) u v) (sym one)
+        (stepped-stands u n config trace number made names moves going some.0 left stepped)
+
+    pub turn-rests : rests s ≡ true
+        → (let v = run_on (setup_of c t) w (up_to steps (replicate 1 me)) in
+        SharesAt c t m v × StandsAt c t me (less steps 1) s v)
+    turn-rests is = subst (λ v. SharesAt c t m v × StandsAt c t me (less steps 1) s v)
+        (sym (rests-stays 1 is)) (shares, rests-stands 1 is)
+
+    abbrev After : Scheduler → Sharing → Type 0
+    After u n = SharesAt c t n (run_on (setup_of c t) w (up_to steps (replicate 1 me)))
+        × StandsAt c t me (less steps 1) u (run_on (setup_of c t) w (up_to steps (replicate 1 me)))
+
+    rested : (u : Scheduler) (n : Sharing) → rests s ≡ true → (u ≡ s) × (n ≡ m) → After u n
+    rested u n is same = subst (λ x. After x n) (sym same.0)
+        (subst (After s) (sym same.1) (turn-rests is))
+
+    -- a turn of it, by what came of it
+    pub turn-taken : (p : Progress) (u : Scheduler) (n : Sharing) → u.config ≡ s.config
+        → u.trace ≡ s.trace → u.number ≡ s.number
+        → n.schedulers ≡ m.schedulers → n.greatest ≡ m.greatest → n.migrates ≡ m.migrates
+        → u.failed ≡ false → (p ≡ Went → rests s ≡ false) → (p ≡ Went → u.left ≡ less s.left 1)
+        → (p ≡ progress.Ended → is_ended s.stage ≡ true) → (p ≡ Stopped → is_stopped s ≡ true)
+        → (p ≢ Went → (u ≡ s) × (n ≡ m))
+        → (p ≡ Went → Stepped s.config s.trace.now s.number (actor_of s) (actor_of u)
+        (Some (shared_of m)) (Some (shared_of n)) None None)
+        → After u n
+    turn-taken Went u n config trace number made names moves going goes left ended stopped rest took =
+        turn-went u n config trace number made names moves going (goes refl) (left refl) (took refl)
+    turn-taken progress.Ended u n config trace number made names moves going goes left ended stopped rest
+        took = rested u n (rests-ended s (ended refl)) (rest (λ q. absurd cc))
+    turn-taken Stopped u n config trace number made names moves going goes left ended stopped rest
+        took = rested u n (rests-stopped s (stopped refl)) (rest (λ q. absurd cc))
 
     -- it has the work that is left in the state
     pub work-is : work (setup_of c t) w me ≡ work_left s m
@@ -181,71 +331,99 @@ module _ (c : Config) (t : Trace) (me : ℕ) (s : Scheduler) (w : State)
         ≡ work (setup_of d x) (alone_in s m) k) refl
 
 -- no turns
-pub took-none : (s : Scheduler) (m : Sharing) (k : ℕ) → k ≡ 0
-    → Took (λ e w me. replicate k me) s m s m
-took-none s m k none = subst (λ n. Took (λ e w me. replicate n me) s m s m) (sym none)
-    (λ c t me w shares at. (shares, at))
+pub took-none : (s : Scheduler) (m : Sharing) (k : ℕ) → k ≡ 0 → Took k s m s m
+took-none s m k none = subst (λ n. Took n s m s m) (sym none)
+    (λ c t me steps w shares at.
+    let e = setup_of c t in
+    subst (λ v. SharesAt c t m v × StandsAt c t me (less steps 0) s v)
+    (sym (ap (run_on e w) (up_to-nothing steps (replicate 0 me) refl)))
+    (shares, same-stands c t me steps s w at (less steps 0)
+    (λ going. at.left going ∙ sym (less-none steps))))
 
 -- what a scheduler has taken
 module _ (s u : Scheduler) (m n : Sharing) where
   -- it stands after its turns
-  pub took-stands : (turns : Setup → State → ℕ → List ℕ) → Stands s m → Took turns s m u n
-      → Stands u n
-  took-stands turns h took =
-      let (c, t, me, w, shares, at) = h in
+  pub took-stands : (k : ℕ) → Stands s m → Took k s m u n → Stands u n
+  took-stands k h took =
+      let (c, t, me, steps, w, shares, at) = h in
       let e = setup_of c t in
-      let then = took c t me w shares at in
-      (c, t, me, run_on e w (turns e w me), then.0, then.1)
+      let then = took c t me steps w shares at in
+      (c, t, me, less steps k, run_on e w (up_to steps (replicate k me)), then.0, then.1)
 
   -- turns of a scheduler, and more
-  pub took-more : (k j : ℕ) (x : Scheduler) (p : Sharing)
-      → Took (λ e w me. replicate k me) s m u n → Took (λ e w me. replicate j me) u n x p
-      → Took (λ e w me. replicate (k + j) me) s m x p
-  took-more k j x p before more c t me w shares at =
+  pub took-more : (k j : ℕ) (x : Scheduler) (p : Sharing) → Took k s m u n → Took j u n x p
+      → Took (k + j) s m x p
+  took-more k j x p before more c t me steps w shares at =
       let e = setup_of c t in
-      let v = run_on e w (replicate k me) in
-      let then = before c t me w shares at in
-      let last = more c t me v then.0 then.1 in
-      subst (λ y. SharesAt c t p y × StandsAt c t me x y) (sym (run-more e me w k j)) last
+      let v = run_on e w (up_to steps (replicate k me)) in
+      let then = before c t me steps w shares at in
+      let last = more c t me (less steps k) v then.0 then.1 in
+      subst (λ y. SharesAt c t p y × StandsAt c t me (less steps (k + j)) x y)
+      (sym (ap (run_on e w) (up_to-more steps k j me)
+      ∙ run-append e w (up_to steps (replicate k me)) (up_to (less steps k) (replicate j me))))
+      (subst (λ o. SharesAt c t p (run_on e v (up_to (less steps k) (replicate j me)))
+      × StandsAt c t me o x (run_on e v (up_to (less steps k) (replicate j me))))
+      (less-more steps k j) last)
 
-  -- the rest of the turns of one that has ended
-  pub took-all : (k count : ℕ) → k ≤ count → is_ended u.stage ≡ true
-      → Took (λ e w me. replicate k me) s m u n → Took (λ e w me. replicate count me) s m u n
-  took-all k count upto ended before c t me w shares at =
-      let e = setup_of c t in
-      let v = run_on e w (replicate k me) in
-      let then = before c t me w shares at in
-      subst (λ y. SharesAt c t n y × StandsAt c t me u y)
-      (sym (run-all e me w k count upto (stands-ended c t me u v then.1 ended))) then
+  -- the rest of the turns of one that takes no step any more
+  pub took-all : (k count : ℕ) → k ≤ count → rests u ≡ true → Took k s m u n → Took count s m u n
+  took-all k count upto is before =
+      let parts : k + (count - k) ≡ count = omega (arith, upto) in
+      subst (λ i. Took i s m u n) parts (took-more k (count - k) u n before
+      (λ c t me steps w shares at. subst
+      (λ v. SharesAt c t n v × StandsAt c t me (less steps (count - k)) u v)
+      (sym (rests-stays c t me steps u w at (count - k) is))
+      (shares, rests-stands c t me steps u w at (count - k) is)))
 
   -- that many turns
-  pub took-count : (k count : ℕ) → k ≡ count → Took (λ e w me. replicate k me) s m u n
-      → Took (λ e w me. replicate count me) s m u n
-  took-count k count same = subst (λ i. Took (λ e w me. replicate i me) s m u n) same
+  pub took-count : (k count : ℕ) → k ≡ count → Took k s m u n → Took count s m u n
+  took-count k count same = subst (λ i. Took i s m u n) same
 
 -- the run of a scheduler to its end
 module _ (e : Setup) (me : ℕ) where
-  pub leads-last : (target w : State) → (w.actors me).stage ≡ Ended → LeadsTo e me target w
-      → target ≡ w
-  leads-last target w ended leads = leads.2
-      ∙ ap (λ st. run_on e w (ending e leads.0 w me st)) ended
-      ∙ ap (run_on e w) (ending-none e leads.0 w me)
+  pub leads-first : (steps : Option ℕ) (w : State)
+      → LeadsTo e me steps (run_on e w (finishing e w steps me)) w
+  leads-first steps w = (work e w me, omega arith, refl)
 
-  leads_by : (most : ℕ) (target w : State) → (w.actors me).stage ≢ Ended
-      → work e (step e w me) me < work e w me → work e w me ≤ most
-      → target ≡ run_on e w (ending e most w me (w.actors me).stage)
-      → LeadsTo e me target (step e w me)
-  leads_by zero target w going less upto is = absurd (omega (arith, less, upto))
-  leads_by (suc most) target w going less upto is = (
+  pub leads-last : (steps : Option ℕ) (target w : State)
+      → ((w.actors me).stage ≡ Ended) ⊎ (steps ≡ Some 0) → LeadsTo e me steps target w → target ≡ w
+  leads-last steps target w (inl ended) leads = leads.2
+      ∙ ap (run_on e w) (up_to-nothing steps (ending e leads.0 w me (w.actors me).stage)
+      (ap (ending e leads.0 w me) ended ∙ ending-none e leads.0 w me))
+  leads-last steps target w (inr over) leads = leads.2
+      ∙ ap (run_on e w) (up_to-over steps (ending e leads.0 w me (w.actors me).stage) over)
+
+  one-off : (o : Option ℕ) (x : ℕ) (xs : List ℕ) → o ≢ Some 0
+      → up_to o (x ∷ xs) ≡ x ∷ up_to (less o 1) xs
+  one-off None x xs some = refl
+  one-off (Some zero) x xs some = absurd (some refl)
+  one-off (Some (suc n)) x xs some = ap (λ k. x ∷ take k xs) (down n) where
+    down : (n : ℕ) → n ≡ suc n - 1
+    down n = omega arith
+
+  leads_by : (most : ℕ) (steps : Option ℕ) (target w : State) → (w.actors me).stage ≢ Ended
+      → steps ≢ Some 0 → work e (step e w me) me < work e w me → work e w me ≤ most
+      → target ≡ run_on e w (up_to steps (ending e most w me (w.actors me).stage))
+      → LeadsTo e me (less steps 1) target (step e w me)
+  leads_by zero steps target w going left fewer upto is = absurd (omega (arith, fewer, upto))
+  leads_by (suc most) steps target w going left fewer upto is = (
     most,
-    omega (arith, less, upto),
-    is ∙ ap (run_on e w) (ending-one e most w me (w.actors me).stage going),
+    omega (arith, fewer, upto),
+    is ∙ ap (λ js. run_on e w (up_to steps js))
+        (ending-one e most w me (w.actors me).stage going)
+        ∙ ap (run_on e w) (one-off steps me
+        (ending e most (step e w me) me ((step e w me).actors me).stage) left),
   )
 
-  pub leads-next : (target w : State) → (w.actors me).stage ≢ Ended
-      → work e (step e w me) me < work e w me → LeadsTo e me target w
-      → LeadsTo e me target (step e w me)
-  leads-next target w going less leads = leads_by leads.0 target w going less leads.1 leads.2
+  leads-ended : (steps more : Option ℕ) (target w : State) → (w.actors me).stage ≡ Ended
+      → LeadsTo e me steps target w → LeadsTo e me more target w
+  leads-ended steps more target w ended leads = (
+    leads.0,
+    leads.1,
+    leads-last steps target w (inl ended) leads
+        ∙ sym (ap (run_on e w) (up_to-nothing more (ending e leads.0 w me (w.actors me).stage)
+        (ap (ending e leads.0 w me) ended ∙ ending-none e leads.0 w me))),
+  )
 
 -- turns of a scheduler, in a reached state of the run of a valid trace
 module _ (c : Config) (t : Trace) (config : IsValidConfig c) (trace : IsValidTrace c.schedulers t)
@@ -266,18 +444,46 @@ module _ (c : Config) (t : Trace) (config : IsValidConfig c) (trace : IsValidTra
       | inr going ↦ omega (arith, goes-less going)
     ]
 
-    one-leads : (target : State) → LeadsTo e me target w → LeadsTo e me target (step e w me)
-    one-leads target leads = elim (ended-or (w.actors me).stage) [
-      | inl ended ↦ subst (LeadsTo e me target) (sym (step-ended e w me ended)) leads
-      | inr going ↦ leads-next e me target w going (goes-less going) leads
+    -- the run to its end is still to come after a turn
+    one-leads : (steps : Option ℕ) (target : State) → LeadsTo e me steps target w
+        → LeadsTo e me (less steps 1) target (run_on e w (up_to steps (me ∷ [])))
+    one-leads steps target leads = elim (over-or steps) [
+      | inl over ↦ subst (LeadsTo e me (less steps 1) target)
+          (sym (ap (run_on e w) (up_to-over steps (me ∷ []) over)))
+          (subst (λ o. LeadsTo e me o target w) (over ∙ sym (less-over steps 1 over)) leads)
+      | inr left ↦ subst (LeadsTo e me (less steps 1) target)
+          (sym (ap (run_on e w) (up_to-step steps me left)))
+          (elim (ended-or (w.actors me).stage) [
+            | inl ended ↦ subst (LeadsTo e me (less steps 1) target)
+                (sym (step-ended e w me ended)) (leads-ended e me steps (less steps 1) target w
+                ended leads)
+            | inr going ↦ leads_by e me leads.0 steps target w going left (goes-less going) leads.1
+                leads.2
+          ])
     ]
 
-  -- the run to its end is still to come after them
-  pub all-lead : (k : ℕ) (target w : State) → IsReached e w → LeadsTo e me target w
-      → LeadsTo e me target (run_on e w (replicate k me))
-  all-lead zero target w reached leads = leads
-  all-lead (suc k) target w reached leads = all-lead k target (step e w me)
-      (next-reached w reached) (one-leads w reached target leads)
+  -- and after more of them
+  pub all-lead : (k : ℕ) (steps : Option ℕ) (target w : State) → IsReached e w
+      → LeadsTo e me steps target w
+      → LeadsTo e me (less steps k) target (run_on e w (up_to steps (replicate k me)))
+  all-lead zero steps target w reached leads =
+      subst (LeadsTo e me (less steps 0) target)
+      (sym (ap (run_on e w) (up_to-nothing steps (replicate 0 me) refl)))
+      (subst (λ o. LeadsTo e me o target w) (sym (less-none steps)) leads)
+  all-lead (suc k) steps target w reached leads =
+      let first = up_to steps (me ∷ []) in
+      let v = run_on e w first in
+      let last = all-lead k (less steps 1) target v (reached-run e w first reached)
+      (one-leads w reached steps target leads) in
+      subst (LeadsTo e me (less steps (suc k)) target)
+      (sym (ap (λ n. run_on e w (up_to steps (replicate n me))) (sum k)
+      ∙ ap (run_on e w) (up_to-more steps 1 k me)
+      ∙ run-append e w first (up_to (less steps 1) (replicate k me))))
+      (subst (λ o. LeadsTo e me o target (run_on e v (up_to (less steps 1) (replicate k me))))
+      (less-more steps 1 k ∙ ap (less steps) (sym (sum k))) last)
+    where
+      sum : (k : ℕ) → suc k ≡ 1 + k
+      sum k = omega arith
 
   not-more : (k : ℕ) (w : State) → IsReached e w
       → work e (run_on e w (replicate k me)) me ≤ work e w me
@@ -288,12 +494,23 @@ module _ (c : Config) (t : Trace) (config : IsValidConfig c) (trace : IsValidTra
     one-more_not w reached,
   )
 
-  -- they leave it less
-  pub some-less : (k : ℕ) (w : State) → IsReached e w → (w.actors me).stage ≢ Ended → 1 ≤ k
+  fewer : (k : ℕ) (w : State) → IsReached e w → (w.actors me).stage ≢ Ended → 1 ≤ k
       → work e (run_on e w (replicate k me)) me < work e w me
-  some-less zero w reached going some = absurd (omega (arith, some))
-  some-less (suc k) w reached going some = omega (
+  fewer zero w reached going some = absurd (omega (arith, some))
+  fewer (suc k) w reached going some = omega (
     arith,
     not-more k (step e w me) (next-reached w reached),
     goes-less w reached going,
   )
+
+  -- they leave it less work
+  pub some-less : (k : ℕ) (steps : Option ℕ) (w : State) → IsReached e w
+      → (w.actors me).stage ≢ Ended → steps ≢ Some 0 → 1 ≤ k
+      → work e (run_on e w (up_to steps (replicate k me))) me < work e w me
+  some-less k steps w reached going left some =
+      let (m, one, is) = up_to-one steps k me left some in
+      omega (
+        arith,
+        fewer m w reached going one,
+        ap (λ js. work e (run_on e w js) me) is,
+      )

@@ -1,16 +1,16 @@
 //! The run of a trace that has a schedule, or none.
-ghost use Rattle.std.specs.Prelude.{◌≡◌, ◌+◌, ◌<◌, ◌≤◌, [], ◌∷◌, IfOk, OnOk, All};
+ghost use Rattle.std.specs.Prelude.{◌≡◌, ◌+◌, ◌<◌, ◌≤◌, IfOk, OnOk, All};
 ghost use Rattle.std.specs.Prelude.{flat_map, length, replicate};
 ghost use Rattle.ea_model.specs.Outcome.{plain_outcome};
 ghost use Rattle.ea_model.specs.Settings.{IsValidConfig};
 ghost use Rattle.ea_model.specs.Trace.{IsScheduler, IsValidTrace};
 ghost use Rattle.ea_model.specs.Trace as traces;
-ghost use Rattle.ea_machine.specs.Completion.{completing, finishing};
 ghost use Rattle.ea_machine.specs.Machine.{start};
 ghost use Rattle.ea_sound.specs.MachineLaws.{Protocol};
 ghost use Rattle.ea_machine.specs.Outcome as machine;
 ghost use Rattle.ea_machine.specs.Setup.{setup_of};
-ghost use Rattle.ea_given.specs.Running.{AllStand, AllStandAt, AllTook, IsAtEnd, Stands, Took};
+ghost use Rattle.ea_given.specs.Running.{AllEnded, AllStand, AllStandAt, AllTook, HasLeft};
+ghost use Rattle.ea_given.specs.Running.{IsAtEnd, Stands, Took, TookAll};
 
 use ea_mbc::Mbc;
 use ea_model::{Config, List, Mode, OutOfMemory, Outcome, Trace, Turns};
@@ -45,8 +45,8 @@ fn schedulers_of<'t>(
     requires config { IsValidConfig config }
     requires trace { IsValidTrace config.schedulers trace.now }
     requires texts { length trace.now.texts.items ≡ config.schedulers }
-    ensures { IfOk result (λ schedulers. AllStandAt config trace.now schedulers.items
-        (start (setup_of config trace.now))) }
+    ensures { IfOk result (λ schedulers. AllStandAt config trace.now
+        (setup_of config trace.now).stops schedulers.items (start (setup_of config trace.now))) }
 {
     let mut schedulers = Vec::new(alloc);
     for before in 0..config.schedulers {
@@ -55,15 +55,14 @@ fn schedulers_of<'t>(
     Ok(schedulers)
 }
 
-/// Takes one step of the scheduler.
+/// Takes one turn of the scheduler: a step, if it takes any more.
 fn take_turn(
     scheduler: &mut Scheduler<'_>,
     alloc: Global,
     shared: &mut MemShared<Mbc>,
 ) -> Result<(), OutOfMemory>
     requires { Stands scheduler.old shared.old }
-    ensures { OnOk result (Took (λ _ _ me. me ∷ []) scheduler.old shared.old scheduler.new
-        shared.new) }
+    ensures { OnOk result (Took 1 scheduler.old shared.old scheduler.new shared.new) }
 {
     scheduler.step(alloc, shared)?;
     Ok(())
@@ -72,10 +71,10 @@ fn take_turn(
 /// Takes the next looks of the scheduler's search in a row, up to one at an owner word that counts
 /// or at number 1, but not more than `most` of them. Answers how many it took.
 fn pass_looks(scheduler: &mut Scheduler<'_>, shared: &MemShared<Mbc>, most: u32) -> u32
-    requires { Stands scheduler.old shared.now }
+    requires stands { Stands scheduler.old shared.now }
+    requires within { HasLeft most scheduler.old.left }
     ensures few { result ≤ most }
-    ensures took { Took (λ _ _ me. replicate result me) scheduler.old shared.now scheduler.new
-        shared.now }
+    ensures took { Took result scheduler.old shared.now scheduler.new shared.now }
 {
     let Some(at) = scheduler.next_look() else {
         return 0;
@@ -86,8 +85,8 @@ fn pass_looks(scheduler: &mut Scheduler<'_>, shared: &MemShared<Mbc>, most: u32)
     at - next
 }
 
-/// Takes turns of the scheduler, at least one and not more than `most`: looks of a search in a row,
-/// or one step. Answers how many it took.
+/// Takes turns of the scheduler, at least one and not more than `most`: looks of a search in a row, up
+/// to its stop, or one step. Answers how many it took.
 fn take_some(
     scheduler: &mut Scheduler<'_>,
     alloc: Global,
@@ -97,10 +96,11 @@ fn take_some(
     requires stands { Stands scheduler.old shared.old }
     requires some { 1 ≤ most }
     ensures few { IfOk result (λ count. (1 ≤ count) × (count ≤ most)) }
-    ensures took { IfOk result (λ count. Took (λ _ _ me. replicate count me) scheduler.old
-        shared.old scheduler.new shared.new) }
+    ensures took { IfOk result (λ count. Took count scheduler.old shared.old scheduler.new
+        shared.new) }
 {
-    let passed = pass_looks(scheduler, shared, most);
+    let within = scheduler.within(most);
+    let passed = pass_looks(scheduler, shared, within);
     if passed > 0 {
         return Ok(passed);
     }
@@ -108,7 +108,8 @@ fn take_some(
     Ok(1)
 }
 
-/// Takes that many turns of the scheduler. Those after its end change nothing, and are left out.
+/// Takes that many turns of the scheduler. Those after its end or its stop change nothing, and are
+/// left out.
 fn take_turns(
     scheduler: &mut Scheduler<'_>,
     alloc: Global,
@@ -116,12 +117,11 @@ fn take_turns(
     count: u32,
 ) -> Result<(), OutOfMemory>
     requires { Stands scheduler.old shared.old }
-    ensures { OnOk result (Took (λ _ _ me. replicate count me) scheduler.old shared.old
-        scheduler.new shared.new) }
+    ensures { OnOk result (Took count scheduler.old shared.old scheduler.new shared.new) }
 {
     let mut left = count;
     while left > 0 {
-        if scheduler.ended() {
+        if scheduler.rests() {
             return Ok(());
         }
         left -= take_some(scheduler, alloc, shared, left)?;
@@ -129,16 +129,16 @@ fn take_turns(
     Ok(())
 }
 
-/// Steps until the scheduler has ended.
+/// Steps until the scheduler has ended or is stopped.
 fn run_out(
     scheduler: &mut Scheduler<'_>,
     alloc: Global,
     shared: &mut MemShared<Mbc>,
 ) -> Result<(), OutOfMemory>
     requires { Stands scheduler.old shared.old }
-    ensures { OnOk result (Took finishing scheduler.old shared.old scheduler.new shared.new) }
+    ensures { OnOk result (TookAll scheduler.old shared.old scheduler.new shared.new) }
 {
-    while !scheduler.ended() {
+    while !scheduler.rests() {
         take_some(scheduler, alloc, shared, u32::MAX)?;
     }
     Ok(())
@@ -153,9 +153,8 @@ fn take_schedule(
 ) -> Result<(), OutOfMemory>
     requires stand { AllStand schedulers.old shared.old }
     requires theirs { All (λ t. IsScheduler (length schedulers.old) t.scheduler) schedule.now }
-    ensures { OnOk result (AllTook
-        (λ _ _. flat_map (λ t. replicate t.count t.scheduler) schedule.now) schedulers.old
-        shared.old schedulers.new shared.new) }
+    ensures { OnOk result (AllTook (flat_map (λ t. replicate t.count t.scheduler) schedule.now)
+        schedulers.old shared.old schedulers.new shared.new) }
 {
     for turns in schedule {
         let index = turns.scheduler as usize - 1;
@@ -164,15 +163,15 @@ fn take_schedule(
     Ok(())
 }
 
-/// Steps until the first scheduler has ended, then until the next one has, up to the last one.
+/// Steps until the first scheduler has ended or is stopped, then until the next one has, up to the
+/// last one.
 fn complete(
     schedulers: &mut [Scheduler<'_>],
     alloc: Global,
     shared: &mut MemShared<Mbc>,
 ) -> Result<(), OutOfMemory>
     requires { AllStand schedulers.old shared.old }
-    ensures { OnOk result (AllTook (λ e w. completing e e.schedulers 1 w) schedulers.old shared.old
-        schedulers.new shared.new) }
+    ensures { OnOk result (AllEnded schedulers.old shared.old schedulers.new shared.new) }
 {
     for scheduler in schedulers.iter_mut() {
         run_out(scheduler, alloc, shared)?;
@@ -195,7 +194,8 @@ fn run_to_end<'t>(alloc: Global, config: Config, trace: &'t Trace) -> Result<Run
 }
 
 /// Runs a trace by its schedule: the schedulers take its turns, each one atomic step, and then
-/// scheduler 1 goes on until it has ended, then scheduler 2, up to the last one. A generated trace,
+/// scheduler 1 goes on until it has ended or is stopped, then scheduler 2, up to the last one; a turn
+/// of a scheduler that has ended or is stopped changes nothing. A generated trace,
 /// whose operations have to be made before, has no turns. Answers what is printed of the state
 /// then; it fails only where there is no memory. Whatever it answers, each run of the trace keeps
 /// the machine's protocol, whatever steps its schedulers take.

@@ -1,4 +1,4 @@
--- The turns until every scheduler has ended.
+-- The turns until every scheduler has ended or is stopped.
 use Rattle.std.specs.Prelude.{ℕ, zero, suc, ◌+◌, ◌*◌, List, [], ◌∷◌, ◌++◌, Option, None, Some}
 use Rattle.std.specs.Prelude.{flat_map, length, replicate, sum_by}
 use Rattle.ea_model.specs.declared.operations.Op.{Op}
@@ -21,6 +21,7 @@ use Rattle.ea_machine.specs.declared.tasks.Why.TheVariants.{Walk, For}
 use Rattle.ea_machine.specs.State.{State}
 use Rattle.ea_machine.specs.Tasks.{later}
 use Rattle.ea_machine.specs.Machine.{run, run_on, step}
+use Rattle.ea_machine.specs.Stops.{cut, left_after, up_to}
 
 -- the rows of a release route that are left, at most
 abbrev pub route_rows : Route Content → ℕ
@@ -101,25 +102,34 @@ module _ (setup : Setup) where
   ending (suc most) w me stage =
       let v = step setup w me in me ∷ ending most v me (v.actors me).stage
 
-  -- its turns until it has ended
-  abbrev pub finishing : State → ℕ → List ℕ
-  finishing w me = ending (work w me) w me (w.actors me).stage
+  -- its turns until it has ended or, with so many steps left until its stop, is stopped
+  abbrev pub finishing : State → Option ℕ → ℕ → List ℕ
+  finishing w left me = up_to left (ending (work w me) w me (w.actors me).stage)
 
-  -- the turns until each of `count` schedulers from `me` on has ended, one after another
-  abbrev pub completing : ℕ → ℕ → State → List ℕ
-  completing zero me w = []
-  completing (suc count) me w = finishing w me
-      ++ completing count (suc me) (run_on setup w (finishing w me))
+  -- the turns until each of `count` schedulers from `me` on has ended or is stopped, one after
+  -- another, if each has so many steps left until its stop
+  abbrev pub completing : (ℕ → Option ℕ) → ℕ → ℕ → State → List ℕ
+  completing left zero me w = []
+  completing left (suc count) me w = finishing w (left me) me
+      ++ completing left count (suc me) (run_on setup w (finishing w (left me) me))
 
-  -- the turns of a schedule, then those of scheduler 1 until it has ended, then of scheduler 2, up
-  -- to the last one
+  -- what completes these turns
+  abbrev pub completion : List ℕ → List ℕ
+  completion taken = completing (left_after setup taken) setup.schedulers 1 (run setup taken)
+
+  -- the turns of a schedule, each scheduler's up to its stop, then those of scheduler 1 until it has
+  -- ended or is stopped, then of scheduler 2, up to the last one
   abbrev pub complete : List ℕ → List ℕ
-  complete turns = turns ++ completing setup.schedulers 1 (run setup turns)
+  complete turns = let taken = cut setup.stops turns in taken ++ completion taken
 
 -- the turns of a schedule, one number for each; another mode has none
 abbrev pub turns_in : Mode → List ℕ
 turns_in mode = flat_map (λ t. replicate t.count t.scheduler) (turns_of mode)
 
--- the state in which the run of a trace ends that has a schedule or is generated
+-- the turns that the run of a trace takes that has a schedule or is generated
+abbrev pub course_of : Setup → Mode → List ℕ
+course_of setup mode = complete setup (turns_in mode)
+
+-- the state in which it ends
 abbrev pub end_of : Setup → Mode → State
-end_of setup mode = run setup (complete setup (turns_in mode))
+end_of setup mode = run setup (course_of setup mode)

@@ -21,6 +21,7 @@ pub mod Tasks
 pub mod Statistics
 -- Runs, and what is printed of them.
 pub mod Machine
+pub mod Stops
 pub mod Completion
 pub mod Courses
 pub mod Outcome

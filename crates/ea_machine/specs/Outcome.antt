@@ -7,6 +7,7 @@ use Rattle.ea_model.specs.declared.carriers.CarrierLine.{CarrierLine}
 use Rattle.ea_model.specs.declared.carriers.Totals.{Totals}
 use Rattle.ea_model.specs.declared.carriers.Standing.{Standing}
 use Rattle.ea_model.specs.declared.carriers.Standing.TheVariants as standing
+use Rattle.ea_model.specs.declared.entries.Entry.{Entry}
 use Rattle.ea_model.specs.declared.outcome.Outcome.{Outcome}
 use Rattle.ea_model.specs.declared.trace.Trace.{Trace}
 use Rattle.ea_model.specs.declared.settings.Config.{Config}
@@ -25,7 +26,9 @@ use Rattle.ea_machine.specs.declared.stages.Route.TheVariants.{Abandoning, Sendi
 use Rattle.ea_machine.specs.declared.stages.Route.TheVariants.{Pushing, Linking}
 use Rattle.ea_machine.specs.Actor.{Actor, on_route}
 use Rattle.ea_machine.specs.State.{State}
-use Rattle.ea_machine.specs.Completion.{end_of}
+use Rattle.ea_machine.specs.Stops.{stop_of}
+use Rattle.ea_machine.specs.Completion.{course_of}
+use Rattle.ea_machine.specs.Machine.{run}
 use Rattle.ea_machine.specs.Statistics.{employed_multis, employed_singles}
 
 -- the content in the hand of a carrier that was made busy
@@ -139,14 +142,24 @@ module _ (setup : Setup) (w : State) where
     queued = units_at xs queued_spots;
   }
 
-  -- what is printed of the state
-  abbrev pub outcome : Outcome
-  outcome = record {
-    logs = listed (map (λ a. listed a.log) actors_of);
+  -- the sums over all carriers that are there
+  abbrev pub sums : Totals
+  sums = totals_of (map (λ p. p.content) present)
+
+  -- what is printed of the state, if the logs say this of stops
+  abbrev pub outcome_with : (ℕ → List Entry) → Outcome
+  outcome_with stop = record {
+    logs = listed (map (λ i. listed ((w.actors i).log ++ stop i))
+        (range_with_len 1 setup.schedulers));
     carriers = listed (map line_of present);
-    totals = totals_of (map (λ p. p.content) present);
+    totals = sums;
   }
+
+-- what is printed of a run once these turns are taken
+abbrev pub outcome : Setup → List ℕ → Outcome
+outcome setup turns =
+    let w = run setup turns in outcome_with setup w (stop_of setup w turns)
 
 -- what is printed of the run of a trace that has a schedule or is generated
 abbrev pub outcome_of : Config → Trace → Outcome
-outcome_of c t = outcome (setup_of c t) (end_of (setup_of c t) t.mode)
+outcome_of c t = outcome (setup_of c t) (course_of (setup_of c t) t.mode)

@@ -1,12 +1,13 @@
 -- What stays the same in a run.
 use Rattle.std.specs.Prelude.{ℕ, zero, suc, ◌-◌, ◌*◌, Bool, nat_lt, nat_le, ◌&&◌, List, []}
+use Rattle.std.specs.Prelude.{Option}
 use Rattle.ea_model.specs.declared.settings.Config.{Config}
 use Rattle.ea_model.specs.declared.settings.Settings.{Settings}
 use Rattle.ea_model.specs.declared.operations.Op.{Op}
 use Rattle.ea_model.specs.declared.trace.Trace.{Trace}
 use Rattle.ea_model.specs.declared.units.TheConstants.{NUMBERS}
 use Rattle.ea_model.specs.Settings.{region_pages, settings_of}
-use Rattle.ea_model.specs.Trace.{text_at, texts_of}
+use Rattle.ea_model.specs.Trace.{stop_in, text_at, texts_of}
 
 -- what all schedulers know
 pub record Setup : Type 0 where
@@ -18,6 +19,8 @@ pub record Setup : Type 0 where
   pub pages : ℕ
   -- the operations of each scheduler
   pub texts : ℕ → List Op
+  -- the steps after which each scheduler stops, if it does
+  pub stops : ℕ → Option ℕ
 
 -- the operations of scheduler i, of texts that begin with scheduler 1's
 abbrev pub text_for : List (List Op) → ℕ → List Op
@@ -31,6 +34,7 @@ setup_of c t = record {
   settings = settings_of c t.letter;
   pages = region_pages c;
   texts = text_for (texts_of t);
+  stops = stop_in t.stops.items;
 }
 
 -- whether a number is a scheduler's

@@ -1,18 +1,20 @@
 -- What a trace holds, and the traces that are valid.
 use Rattle.std.specs.Prelude.{◌≡◌, ℕ, ◌+◌, ◌*◌, ◌≤◌, ◌⊎◌, max, Bool, true, false, ◌&&◌, ◌||◌, ◌==◌}
 use Rattle.std.specs.Prelude.{List, [], ◌∷◌, ◌++◌, All, count_by, flat_map, length, map}
+use Rattle.std.specs.Prelude.{Option, None, Some, if◌then◌else◌}
 use Rattle.std.specs.Prelude.{slice_index_or, sum_by}
 use Rattle.std.specs.List.{list_any}
 use Rattle.ea_model.specs.Lists.{Items}
 use Rattle.ea_model.specs.declared.operations.Op.{Op}
 use Rattle.ea_model.specs.declared.operations.Op.TheVariants.{Alloc, Free, Realloc, Give, Take}
 use Rattle.ea_model.specs.declared.operations.Op.TheVariants.{Info, Idle}
+use Rattle.ea_model.specs.declared.trace.Stop.{Stop}
 use Rattle.ea_model.specs.declared.trace.Turns.{Turns}
 use Rattle.ea_model.specs.declared.trace.Mode.{Mode}
 use Rattle.ea_model.specs.declared.trace.Mode.TheVariants.{Threads, Schedule, Generated}
 use Rattle.ea_model.specs.declared.trace.Trace.{Trace}
 use Rattle.ea_model.specs.declared.units.TheConstants.{MAX_ALL_TRIES, MAX_BYTES, MAX_NAME, MAX_OPS}
-use Rattle.ea_model.specs.declared.units.TheConstants.{MAX_SEED, MAX_TRIES, MAX_TURNS}
+use Rattle.ea_model.specs.declared.units.TheConstants.{MAX_SEED, MAX_STEPS, MAX_TRIES, MAX_TURNS}
 
 -- a list as a definition answers it: definitions speak of no room for more
 abbrev pub listed : {A : Type 0} → List A → Items A
@@ -28,6 +30,7 @@ abbrev pub plain : Trace → Trace
 plain t = record {
   letter = t.letter;
   texts = listed (map (λ text. listed text.items) t.texts.items);
+  stops = listed t.stops.items;
   mode = plain_mode t.mode;
   greatest = t.greatest;
 }
@@ -45,6 +48,11 @@ abbrev pub turns_of : Mode → List Turns
 turns_of Threads = []
 turns_of (Schedule turns) = turns.items
 turns_of (Generated seed count) = []
+
+-- the steps after which a scheduler stops, if it is among these stops
+abbrev pub stop_in : List Stop → ℕ → Option ℕ
+stop_in [] i = None
+stop_in (s ∷ ss) i = if i == s.scheduler then Some s.steps else stop_in ss i
 
 -- whether an operation makes the name: allocates it, or gives it to a block that it reallocates
 abbrev pub makes : ℕ → Op → Bool
@@ -126,6 +134,16 @@ IsValidMode n (Schedule turns) = All (IsTurns n) turns.items
     × (sum_by (λ t. t.count) turns.items ≤ MAX_TURNS)
 IsValidMode n (Generated seed count) = (seed ≤ MAX_SEED) × (1 ≤ count) × (n * count ≤ MAX_OPS)
 
+-- the stop of one of the schedulers 1 to n
+abbrev pub IsStop : ℕ → Stop → Type 0
+IsStop n s = IsScheduler n s.scheduler × (s.steps ≤ MAX_STEPS)
+
+-- in a generated trace no scheduler stops
+abbrev pub MayStop : Mode → List Stop → Type 0
+MayStop Threads stops = Unit {0}
+MayStop (Schedule turns) stops = Unit {0}
+MayStop (Generated seed count) stops = stops ≡ []
+
 -- each of n schedulers has a text; a generated trace may have none yet
 abbrev pub HasTexts : ℕ → Mode → List (List Op) → Type 0
 HasTexts n Threads texts = length texts ≡ n
@@ -142,10 +160,14 @@ abbrev pub text_at : ℕ → List (List Op) → List Op
 text_at i texts = slice_index_or texts i []
 
 -- a trace for n schedulers: a name is made once at most and given once at most, it is needed only
--- after it was made or taken, and taken only by a scheduler to which it is given
+-- after it was made or taken, and taken only by a scheduler to which it is given; a scheduler has
+-- one stop at most
 pub record IsValidTrace (n : ℕ) (t : Trace) : Type 0 where
   pub texts : HasTexts n t.mode (texts_of t)
   pub mode : IsValidMode n t.mode
+  pub stops : All (IsStop n) t.stops.items
+  pub stopped_once : (i : ℕ) → count_by (λ s. i == s.scheduler) t.stops.items ≤ 1
+  pub may_stop : MayStop t.mode t.stops.items
   pub operations : All (IsOperation n) (operations_of t)
   pub few : length (operations_of t) ≤ MAX_OPS
   pub tries : sum_by tries_of (operations_of t) ≤ MAX_ALL_TRIES

@@ -1,4 +1,4 @@
-//! What a scheduler's log says of its operations, one entry each.
+//! What a scheduler's log says of its operations, one entry each, and of its stop.
 
 use crate::carriers::Place;
 
@@ -115,4 +115,8 @@ pub enum Entry {
     },
     /// Nothing was to be done.
     Idle,
+    /// No operation, but the end of the log: the scheduler stopped after that many steps.
+    Stopped {
+        steps: u32,
+    },
 }

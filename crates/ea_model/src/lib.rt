@@ -26,10 +26,10 @@ pub use operations::Op;
 pub use outcome::Outcome;
 pub use reallocation::{Decision, Where};
 pub use settings::{Config, Letter, Settings, Strategy};
-pub use trace::{Mode, Trace, Turns};
+pub use trace::{Mode, Stop, Trace, Turns};
 pub use units::{
     HEADER_UNITS, KILOBYTE_UNITS, MAX_ALL_TRIES, MAX_BYTES, MAX_DIGITS, MAX_GROWTH_CARRIERS,
     MAX_INPUT, MAX_MEGABYTES, MAX_NAME, MAX_OPS, MAX_PAGES, MAX_PERCENT, MAX_SCHEDULERS,
-    MAX_SEARCH_DEPTH, MAX_SEED, MAX_TRIES, MAX_TURNS, MAX_UNITS, MEGABYTE_PAGES, MIN_BLOCK,
-    NUMBERS, PAGE_UNITS, SEARCH_LIMIT, UNIT_BYTES, least_pages, need, pages_for,
+    MAX_SEARCH_DEPTH, MAX_SEED, MAX_STEPS, MAX_TRIES, MAX_TURNS, MAX_UNITS, MEGABYTE_PAGES,
+    MIN_BLOCK, NUMBERS, PAGE_UNITS, SEARCH_LIMIT, UNIT_BYTES, least_pages, need, pages_for,
 };

@@ -13,6 +13,15 @@ pub struct Turns {
     pub count: u32,
 }
 
+/// Where a scheduler stops for good, if its text isn't done before.
+#[derive(Debug, Clone, Copy, PartialEq, Eq)]
+pub struct Stop {
+    /// The scheduler, from 1.
+    pub scheduler: u32,
+    /// After how many of its own steps, 0 to 100000000.
+    pub steps: u32,
+}
+
 /// How the texts of a trace come about, and how they run.
 #[derive(Drop)]
 pub enum Mode {
@@ -34,6 +43,8 @@ pub struct Trace {
     /// The operations of each scheduler in order, scheduler 1's first. A generated trace has none
     /// before they are made.
     pub texts: List<List<Op>>,
+    /// The schedulers that stop, each once at most. In a generated trace none does.
+    pub stops: List<Stop>,
     /// How the texts run.
     pub mode: Mode,
     /// The greatest name of an operation, 0 where there is none.

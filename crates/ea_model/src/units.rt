@@ -32,6 +32,8 @@ pub const MAX_TRIES: u32 = 10_000_000;
 pub const MAX_ALL_TRIES: u32 = 100_000_000;
 /// The most turns of a schedule.
 pub const MAX_TURNS: u32 = 100_000_000;
+/// The most steps after which a scheduler stops.
+pub const MAX_STEPS: u32 = 100_000_000;
 /// The greatest seed of a generated trace.
 pub const MAX_SEED: u32 = 2_147_483_647;
 /// The greatest percentage of a setting.

@@ -32,12 +32,15 @@ use Rattle.ea_model.specs.Trace as traces
 use Rattle.ea_model.proofs.NumberedItems.{each-range, flat_map-same, if_there, map-flat_map}
 use Rattle.ea_machine.specs.declared.nodes.Named.{Named}
 use Rattle.ea_machine.specs.Actor.{Actor}
+use Rattle.ea_machine.specs.Machine.{run}
 use Rattle.ea_machine.specs.Outcome.{Present, actors_of, line_of, outcome, place_in, place_of}
+use Rattle.ea_machine.specs.Outcome as machine
 use Rattle.ea_machine.specs.Outcome.{present, present_at, present_if, settling_at}
 use Rattle.ea_machine.specs.Owners.{CarrierAt, Absent, Employed, Pooled, Busy, Returning}
 use Rattle.ea_machine.specs.Setup.{Setup, greatest_number, is_scheduler, migration, setup_of}
 use Rattle.ea_machine.specs.State.{State}
 use Rattle.ea_machine.specs.Statistics.{employed_multis, employed_singles, leaving_at}
+use Rattle.ea_machine.specs.Stops.{stop_of}
 use Rattle.ea_sound.specs.Contents.{sum_everywhere}
 use Rattle.ea_sound.specs.Places.{IsNumber}
 use Rattle.ea_sound.specs.Present.{Rule}
@@ -58,7 +61,7 @@ use Rattle.ea_sound.proofs.SoundRanges.{number-scheduler}
 use Rattle.ea_sound.proofs.SoundUnits.{sound-sums}
 use Rattle.ea_sound.proofs.Weights.{sum-map, sum-same, sum_by-sum_over}
 use Rattle.ea_sched.specs.declared.state.Scheduler.{Scheduler}
-use Rattle.ea_sched.specs.Acting.{actor_of}
+use Rattle.ea_sched.specs.Acting.{actor_of, stop_line}
 use Rattle.ea_outcome.specs.Resting.{AreGiven, AreLive, HasBlock, HaveBlocks, HaveParts, StandIn}
 use Rattle.ea_outcome.specs.Resting.{block_by, carrier_at, carrier_of, employed_by, first_lines}
 use Rattle.ea_outcome.specs.Resting.{found, lines_if, live_units, place_by, totals_by}
@@ -73,6 +76,23 @@ same_outcome : (a b : Items (Items Entry)) (c d : Items CarrierLine) (s t : Tota
     → IsOutcome (record { logs = a; carriers = c; totals = s })
     (record { logs = b; carriers = d; totals = t })
 same_outcome a b c d s t p q r = cc
+
+-- lists that are the same, item by item, are so when they are put together
+both-mapped : {A B C : Type 0} (f g : A → List C) (p q : B → List C) (xs : List A) (ys : List B)
+    → map f xs ≡ map p ys → map g xs ≡ map q ys
+    → map (λ x. f x ++ g x) xs ≡ map (λ y. p y ++ q y) ys
+both-mapped f g p q [] [] a b = refl
+both-mapped f g p q [] (y ∷ ys) a b = absurd cc
+both-mapped f g p q (x ∷ xs) [] a b = absurd cc
+both-mapped {A} {B} {C} f g p q (x ∷ xs) (y ∷ ys) a b =
+    ap (λ z. (z ++ g x) ∷ map (λ x. f x ++ g x) xs) (heads a)
+    ∙ ap (λ z. (p y ++ z) ∷ map (λ x. f x ++ g x) xs) (heads b)
+    ∙ ap (λ zs. (p y ++ q y) ∷ zs) (both-mapped f g p q xs ys (tails a) (tails b)) where
+  heads : {x y : List C} {xs ys : List (List C)} → x ∷ xs ≡ y ∷ ys → x ≡ y
+  heads e = cc
+
+  tails : {x y : List C} {xs ys : List (List C)} → x ∷ xs ≡ y ∷ ys → xs ≡ ys
+  tails e = cc
 
 -- totals that are the same, one by one
 abbrev IsTotals : Totals → Totals → Type 0
@@ -136,13 +156,16 @@ all-true n most b some upto is = grind (arith, some, upto, is)
 
 module _ (c : Config) (t : Trace) (valid : IsValidConfig c) (made : IsValidTrace c.schedulers t)
     (m : Bool) (mode : m ≡ migration (setup_of c t)) (ss : List Scheduler)
-    (places : ℕ → CarrierAt) (given : List Named) (w : State)
-    (stand : StandIn c t ss places given w) where
+    (places : ℕ → CarrierAt) (given : List Named) (turns : List ℕ)
+    (stand : StandIn c t ss places given turns) where
   abbrev e : Setup
   e = setup_of c t
 
+  abbrev w : State
+  w = run e turns
+
   rule : Rule e w
-  rule = reached-rule c t valid made w stand.reached
+  rule = reached-rule c t valid made w (turns, refl)
 
   k : Kept e w
   k = rule.kept
@@ -160,7 +183,7 @@ module _ (c : Config) (t : Trace) (valid : IsValidConfig c) (made : IsValidTrace
   are-given = subst (AreGiven t.greatest) (sym stand.given)
       (record {
         rising = rule.present.given;
-        within = given-range c t valid made w stand.reached;
+        within = given-range c t valid made w (turns, refl);
       })
 
   -- one of the schedulers is as in the state
@@ -320,7 +343,7 @@ module _ (c : Config) (t : Trace) (valid : IsValidConfig c) (made : IsValidTrace
       ∙ sym (sum_by-sum_over (λ (s : Scheduler). units_named m places ss s.names.held) ss)
 
   abbrev totals : Totals
-  totals = (outcome e w).totals
+  totals = machine.sums e w
 
   live-is : totals.live ≡ live_units m places ss given
   live-is = omega (
@@ -412,21 +435,33 @@ module _ (c : Config) (t : Trace) (valid : IsValidConfig c) (made : IsValidTrace
         (ap (λ n. 8 * n) many-lines)
 
     module _ (o : Outcome)
-        (logs : map (λ log. log.items) o.logs.items ≡ map (λ s. s.log.items) ss)
+        (logs : map (λ log. log.items) o.logs.items ≡ map (λ s. s.log.items ++ stop_line s) ss)
         (carriers : o.carriers.items ≡ first_lines m places ss (greatest_number e))
         (sums : o.totals ≡ totals_by o.carriers.items live) where
+      abbrev numbers : List ℕ
+      numbers = range_with_len 1 c.schedulers
+
+      -- the log of a scheduler, and its stop
+      abbrev log_at : ℕ → List Entry
+      log_at i = (w.actors i).log
+
+      logs-own : map (λ (s : Scheduler). s.log.items) ss ≡ map log_at numbers
+      logs-own = sym (map-map (λ (a : Actor). a.log) actor_of ss)
+          ∙ ap (map (λ (a : Actor). a.log)) stand.actors
+          ∙ map-map (λ (a : Actor). a.log) w.actors numbers
+
       logs-are : traces.listed (map traces.listed (map (λ log. log.items) o.logs.items))
-          ≡ traces.listed (map (λ (a : Actor). traces.listed a.log) (actors_of e w))
-      logs-are = ap (λ ls. traces.listed (map traces.listed ls)) logs
-          ∙ ap traces.listed (map-map traces.listed (λ (s : Scheduler). s.log.items) ss
-          ∙ sym (map-map (λ (a : Actor). traces.listed a.log) actor_of ss)
-          ∙ ap (map (λ (a : Actor). traces.listed a.log)) stand.actors)
+          ≡ traces.listed (map (λ i. traces.listed (log_at i ++ stop_of e w turns i)) numbers)
+      logs-are = ap (λ ls. traces.listed (map traces.listed ls)) (logs
+          ∙ both-mapped (λ (s : Scheduler). s.log.items) stop_line log_at (stop_of e w turns)
+          ss numbers logs-own stand.stops)
+          ∙ ap traces.listed (map-map traces.listed (λ i. log_at i ++ stop_of e w turns i) numbers)
 
       lines-are : o.carriers.items ≡ lines
       lines-are = carriers ∙ lines-printed
 
       -- an outcome with these parts is what is printed
-      pub outcome-is : plain_outcome o ≡ outcome e w
+      pub outcome-is : plain_outcome o ≡ outcome e turns
       outcome-is = same_outcome _ _ _ _ _ _ logs-are (ap traces.listed lines-are)
           (sums ∙ ap (λ ls. totals_by ls live) lines-are ∙ totals-printed)
 
@@ -446,8 +481,8 @@ module _ (c : Config) (t : Trace) (valid : IsValidConfig c) (made : IsValidTrace
     their-parts = subst (λ xs. HaveParts xs live) (sym first-lines) (have-parts live is)
 
     pub outcome-from : (o : Outcome)
-        → map (λ log. log.items) o.logs.items ≡ map (λ s. s.log.items) ss
+        → map (λ log. log.items) o.logs.items ≡ map (λ s. s.log.items ++ stop_line s) ss
         → o.carriers.items ≡ theirs → o.totals ≡ totals_by theirs live
-        → plain_outcome o ≡ outcome e w
+        → plain_outcome o ≡ outcome e turns
     outcome-from o logs carriers sums = outcome-is live is o logs (carriers ∙ first-lines)
         (sums ∙ ap (λ xs. totals_by xs live) (sym carriers))

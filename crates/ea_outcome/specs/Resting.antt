@@ -20,16 +20,16 @@ use Rattle.ea_model.specs.Instance.{content_of, employed, owner_of}
 use Rattle.ea_model.specs.Keyed.{IsBelow}
 use Rattle.ea_model.specs.Outcome.{plain_outcome}
 use Rattle.ea_machine.specs.declared.nodes.Named.{Named}
-use Rattle.ea_machine.specs.Machine.{IsReached}
+use Rattle.ea_machine.specs.Machine.{run}
 use Rattle.ea_machine.specs.Nodes.{name_of}
 use Rattle.ea_machine.specs.Outcome as machine
 use Rattle.ea_machine.specs.Outcome.{Present, line_of, settling_at}
 use Rattle.ea_machine.specs.Owners.{CarrierAt, Absent, Employed, Pooled, Busy, Returning}
 use Rattle.ea_machine.specs.Setup.{migration, setup_of}
-use Rattle.ea_machine.specs.State.{State}
+use Rattle.ea_machine.specs.Stops.{stop_of}
 use Rattle.ea_machine.specs.Statistics.{leaving_at}
 use Rattle.ea_sched.specs.declared.state.Scheduler.{Scheduler}
-use Rattle.ea_sched.specs.Acting.{actor_of}
+use Rattle.ea_sched.specs.Acting.{actor_of, stop_line}
 
 -- given names stand by rising name, from 1 up to the greatest
 pub record AreGiven (greatest : ℕ) (given : List Named) : Type 0 where
@@ -140,20 +140,22 @@ pub record HaveParts (lines : List CarrierLine) (live : ℕ) : Type 0 where
 
 module _ (c : Config) (t : Trace) (schedulers : List Scheduler) (places : ℕ → CarrierAt)
     (named : List Named) where
-  -- the schedulers are those of a reached state, in order, and the names are those given there; if
-  -- carriers migrate, they are at these places there
-  pub record StandIn (state : State) : Type 0 where
-    pub reached : IsReached (setup_of c t) state
-    pub actors : map actor_of schedulers ≡ machine.actors_of (setup_of c t) state
+  -- the schedulers are those of the state after these turns, in order, and so are their stops, and
+  -- the names are those given there; if carriers migrate, they are at these places there
+  pub record StandIn (turns : List ℕ) : Type 0 where
+    pub actors : map actor_of schedulers ≡ machine.actors_of (setup_of c t) (run (setup_of c t) turns)
+    pub stops : map stop_line schedulers
+        ≡ map (stop_of (setup_of c t) (run (setup_of c t) turns) turns)
+        (range_with_len 1 c.schedulers)
     pub told : migration (setup_of c t) ≡ true → (number : ℕ)
-        → places number ≡ state.shared.places number
-    pub given : named ≡ state.shared.given
+        → places number ≡ (run (setup_of c t) turns).shared.places number
+    pub given : named ≡ (run (setup_of c t) turns).shared.given
 
-  -- there is such a state
+  -- there are such turns
   abbrev pub Stand : Type 0
-  Stand = (state : State) × StandIn state
+  Stand = (turns : List ℕ) × StandIn turns
 
-  -- it is what is printed of each such state
+  -- it is what is printed after all such turns
   abbrev pub IsOutcome : Outcome → Type 0
-  IsOutcome outcome = (state : State) → StandIn state
-      → plain_outcome outcome ≡ machine.outcome (setup_of c t) state
+  IsOutcome outcome = (turns : List ℕ) → StandIn turns
+      → plain_outcome outcome ≡ machine.outcome (setup_of c t) turns

@@ -1,11 +1,12 @@
 //! The outcome of a run in which nobody steps any more.
-ghost use Rattle.std.specs.Prelude.{◌≡◌, ◌*◌, ◌^◌, ◌<◌, ◌≤◌, IfOk, length, map, option_map};
+ghost use Rattle.std.specs.Prelude.{◌≡◌, ◌*◌, ◌^◌, ◌<◌, ◌≤◌, ◌++◌, IfOk, length, map, option_map};
 ghost use Rattle.std.specs.Prelude.{sum_by};
 ghost use Rattle.ea_model.specs.declared.units.TheConstants.{MAX_SCHEDULERS, NUMBERS, PAGE_UNITS};
 ghost use Rattle.ea_model.specs.Settings.{IsValidConfig};
 ghost use Rattle.ea_model.specs.Trace.{IsValidTrace};
 ghost use Rattle.ea_machine.specs.Outcome.{line_of};
 ghost use Rattle.ea_machine.specs.Setup.{migration, setup_of};
+ghost use Rattle.ea_sched.specs.Acting.{stop_line};
 ghost use Rattle.ea_shared.specs.Carriers.{IsCarrier};
 ghost use Rattle.ea_outcome.specs.Resting.{HaveParts, IsOutcome, Stand};
 ghost use Rattle.ea_outcome.specs.Resting.{carrier_of, first_lines, totals_by};
@@ -21,10 +22,10 @@ use ea_sched::{Scheduler, migrates};
 use ea_shared::Rested;
 use std::alloc::Global;
 
-/// The logs of the schedulers. None is copied.
+/// The logs of the schedulers, with their stops. None is copied.
 fn logs_of(alloc: Global, schedulers: List<Scheduler<'_>>) -> Result<List<List<Entry>>, OutOfMemory>
     ensures { IfOk result (λ logs. map (λ log. log.items) logs.items
-        ≡ map (λ s. s.log.items) schedulers.entry.items) }
+        ≡ map (λ s. s.log.items ++ stop_line s) schedulers.entry.items) }
 {
     let mut logs = List::new(alloc);
     for scheduler in schedulers.into_vec() {
@@ -115,8 +116,8 @@ fn totals_of(lines: &[CarrierLine], units: u64, live: u64) -> Totals
     }
 }
 
-/// What is printed of a run in which nobody steps any more: of whatever state it is in which its
-/// schedulers, in order, and what they share stand so. It fails only where there is no memory.
+/// What is printed of a run in which nobody steps any more: after whatever turns its schedulers, in
+/// order, and what they share stand so. It fails only where there is no memory.
 pub fn outcome_of<H: Rested<Content = Mbc>>(
     alloc: Global,
     config: Config,

@@ -74,6 +74,7 @@ entry_text (entry.TakeAbsent name tries) = line (codes "take")
 entry_text (entry.Info mbcs sbcs) = report_text (codes "mbcs") mbcs ++ report_text
     (codes "sbcs") sbcs
 entry_text entry.Idle = line (codes "idle") []
+entry_text (entry.Stopped steps) = line (codes "stopped") (decimal steps ∷ [])
 
 abbrev pub kind_text : Kind → List ℕ
 kind_text kind.Main = codes "main"

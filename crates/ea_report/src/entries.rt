@@ -196,6 +196,7 @@ pub fn put_entry(text: &mut List<u8>, entry: Entry) -> Result<(), OutOfMemory>
         }
         Entry::Info { mbcs, sbcs } => put_info(text, mbcs, sbcs),
         Entry::Idle => put_line(text, "idle", &[]),
+        Entry::Stopped { steps } => put_line(text, "stopped", &[Number(steps)]),
     }
 }
 

@@ -129,6 +129,7 @@ fn each_kind_of_entry_has_its_line(rt: HostRuntime) -> Result<(), Fail> {
             carriers_size 4294967305 4294967306 4294967307\n",
         ),
         (Entry::Idle, "idle\n"),
+        (Entry::Stopped { steps: 522 }, "stopped 522\n"),
     ];
     for (entry, line) in cases {
         let mut text = List::new(rt.alloc());

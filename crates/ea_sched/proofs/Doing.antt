@@ -1,5 +1,5 @@
 -- A row that a scheduler has done, as it is told, and where the step leaves the scheduler.
-use Rattle.std.specs.Prelude.{◌≡◌, ◌≢◌, ◌⊎◌, ℕ, true, false, Option, None, Some, IfSome, IsSome}
+use Rattle.std.specs.Prelude.{◌≡◌, ◌≢◌, ◌⊎◌, ℕ, ◌+◌, true, false, Option, None, Some, IfSome, IsSome}
 use Rattle.std.proofs.Common.{Bor, refl, sym, ap, ◌∙◌, subst, inl, inr}
 use Rattle.ea_model.specs.declared.settings.Config.{Config}
 use Rattle.ea_model.specs.declared.trace.Trace.{Trace}
@@ -26,12 +26,6 @@ use Rattle.ea_sched.specs.Acting.{actor_of, is_ended, setup_for, standing_at}
 use Rattle.ea_sched.specs.Creations.{Creates, CreatesAt, IsCreation}
 use Rattle.ea_sched.specs.Steps.{DidRow, IsReady, ObservedRow, Ready, Stepped}
 
--- what is told is told again
-same-told : {A : Type 0} (o : Option A) (x : A) → IfSome o (λ y. y ≡ x)
-    → IfSome o (λ y. (y ≡ x) × (o ≡ Some x))
-same-told None x same = tt
-same-told (Some y) x same = (same, ap Some same)
-
 -- something is told
 none-told : (shared : Option Shared) (caller : Option Caller) → shared ≡ None → caller ≡ None
     → IsSome shared ⊎ IsSome caller → ⊥
@@ -40,15 +34,15 @@ none-told shared caller unshared uncalled (inr is) = let some = (some_value call
 
 module _ {A B : Type 0} where
   -- what is told after a step, by whether anything was told before
-  told-after : (o : Option A) (p : Option B) (x : B) → IfSome o (λ y. p ≡ Some x)
-      → (o ≡ None → p ≡ None) → IfSome p (λ y. y ≡ x)
-  told-after None p x some none = subst (λ q. IfSome q (λ y. y ≡ x)) (sym (none refl)) tt
-  told-after (Some y) p x some none = subst (λ q. IfSome q (λ z. z ≡ x)) (sym some) refl
+  told-after : (o : Option A) (p : Option B) (f : A → B) (Q : B → Type 0) → ((x : A) → Q (f x))
+      → IfSome o (λ x. p ≡ Some (f x)) → (o ≡ None → p ≡ None) → IfSome p Q
+  told-after None p f Q holds some none = subst (λ q. IfSome q Q) (sym (none refl)) tt
+  told-after (Some x) p f Q holds some none = subst (λ q. IfSome q Q) (sym some) (holds x)
 
-  still-told : (o : Option A) (p : Option B) (x : B) → IfSome o (λ y. p ≡ Some x) → IsSome o
+  still-told : (o : Option A) (p : Option B) (f : A → B) → IfSome o (λ x. p ≡ Some (f x)) → IsSome o
       → IsSome p
-  still-told None p x some is = absurd (let no : false ≡ true = is in cc)
-  still-told (Some y) p x some is = subst IsSome (sym some) refl
+  still-told None p f some is = absurd (let no : false ≡ true = is in cc)
+  still-told (Some x) p f some is = subst IsSome (sym some) refl
 
 -- a step of a scheduler that hasn't ended and wants a row
 module _ (e : Setup) (w : State) (me : ℕ) (a : Actor) (at : w.actors me ≡ a) (row : Row)
@@ -77,8 +71,8 @@ pub record Answered (e : Setup) (me : ℕ) (a : Actor) (row : Row) (got : Answer
   pub actor : state.actors me ≡ a
   pub answered : got ≡ answer me row state.shared
   pub shares : IfSome shared (λ s. s ≡ state.shared)
-  pub calls : IfSome caller (λ x. (x ≡ caller_of e me state)
-      × (now ≡ Some (caller_of e me (step e state me))))
+  pub calls : IfSome caller (λ x. (x ≡ caller_of e me state x.taken)
+      × (now ≡ Some (caller_of e me (step e state me) (x.taken + 1))))
 
 module _ (c : Config) (t : Trace) (me : ℕ) (a : Actor) where
   abbrev e : Setup
@@ -148,7 +142,7 @@ module _ (c : Config) (t : Trace) (me : ℕ) (a : Actor) where
       -- in a state where it is answered so
       pub creates-in : (w : State) → IsReached e w → w.actors me ≡ a
           → got ≡ answer me row w.shared → (shared : Option Shared) (caller : Option Caller)
-          → IfSome shared (λ s. s ≡ w.shared) → IfSome caller (λ x. x ≡ caller_of e me w)
+          → IfSome shared (λ s. s ≡ w.shared) → IfSome caller (λ x. x ≡ caller_of e me w x.taken)
           → Creates c t me a shared caller
       unfolding after
       creates-in w reached at answered shared caller shares calls = record {
@@ -167,32 +161,10 @@ module _ (c : Config) (t : Trace) (me : ℕ) (a : Actor) where
           → Creates c t me a shared caller
       creates-so shared new caller now h did =
           let u = answered-so shared new caller now h did in
-          let calls = if_some caller (λ x. (x ≡ caller_of e me u.state)
-          × (now ≡ Some (caller_of e me (step e u.state me)))) (λ x. x ≡ caller_of e me u.state)
-          (λ x both. both.0) u.calls in
+          let calls = if_some caller (λ x. (x ≡ caller_of e me u.state x.taken)
+          × (now ≡ Some (caller_of e me (step e u.state me) (x.taken + 1))))
+          (λ x. x ≡ caller_of e me u.state x.taken) (λ x both. both.0) u.calls in
           creates-in u.state u.reached u.actor u.answered shared caller u.shares calls
-
-  -- an ended scheduler stays as it is
-  pub ended-stepped : (shared : Option Shared) (caller : Option Caller)
-      → Ready c t me a shared caller → a.stage ≡ Ended
-      → Stepped c t me a a shared shared caller caller
-  ended-stepped shared caller h ended =
-      let w = h.state in
-      let stays = step-ended e w me (ap (λ (x : Actor). x.stage) h.actor ∙ ended) in
-      record {
-        state = w;
-        reached = h.reached;
-        actor = h.actor;
-        is = sym (ap (λ (v : State). v.actors me) stays ∙ h.actor);
-        shares = subst (λ (v : State). IfSome shared
-            (λ s. (s ≡ w.shared) × (shared ≡ Some v.shared))) (sym stays)
-            (same-told shared w.shared h.shares);
-        shares_untold = λ none. none;
-        calls = subst (λ (v : State). IfSome caller
-            (λ x. (x ≡ caller_of e me w) × (caller ≡ Some (caller_of e me v)))) (sym stays)
-            (same-told caller (caller_of e me w) h.calls);
-        calls_untold = λ none. none;
-      }
 
 -- by whether its text is done
 pub stage-goes : (stage : Stage Content) → is_ended stage ≡ false → stage ≢ Ended
@@ -255,21 +227,23 @@ module _ (c : Config) (t : Trace) (me : ℕ) (a b : Actor) (shared new : Option 
   ready-again valid made told o =
       let e = setup_of c t in
       let then = step e o.state me in
-      let mine = caller_of e me then in
       let shares = if_some shared (λ s. (s ≡ o.state.shared) × (new ≡ Some then.shared))
       (λ s. new ≡ Some then.shared) (λ s both. both.1) o.shares in
-      let calls = if_some caller (λ x. (x ≡ caller_of e me o.state) × (now ≡ Some mine))
-      (λ x. now ≡ Some mine) (λ x both. both.1) o.calls in
+      let mine : Caller → Caller = λ x. caller_of e me then (x.taken + 1) in
+      let calls = if_some caller (λ x. (x ≡ caller_of e me o.state x.taken) × (now ≡ Some (mine x)))
+      (λ x. now ≡ Some (mine x)) (λ x both. both.1) o.calls in
       record {
         config = valid;
         trace = made;
         state = then;
         reached = reached-step e o.state me o.reached;
         actor = sym o.is;
-        shares = told-after shared new then.shared shares o.shares_untold;
-        calls = told-after caller now mine calls o.calls_untold;
+        shares = told-after shared new (λ s. then.shared) (λ s. s ≡ then.shared) (λ s. refl) shares
+            o.shares_untold;
+        calls = told-after caller now mine (λ x. x ≡ caller_of e me then x.taken) (λ x. refl) calls
+            o.calls_untold;
         told = elim told [
-          | inl is ↦ inl (still-told shared new then.shared shares is)
+          | inl is ↦ inl (still-told shared new (λ s. then.shared) shares is)
           | inr is ↦ inr (still-told caller now mine calls is)
         ];
       }

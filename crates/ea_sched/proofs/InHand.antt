@@ -35,18 +35,18 @@ as-for {n} {k} {gap} {x} {y} same is h =
 
 module _ {stage : Stage Content} (s : Scheduler) {shared : Option Shared} {caller : Option Caller}
     (h : IsReadyAt stage s shared caller) where
-  told-caller : (P : Caller → Type 0) → P (caller_of (setup_for s) s.number h.state)
-      → IfSome caller P
-  told-caller P holds = if_some caller (λ x. x ≡ caller_of (setup_for s) s.number h.state) P
-      (λ x same. subst P (sym same) holds) h.calls
+  told-caller : (P : Caller → Type 0)
+      → ((taken : ℕ) → P (caller_of (setup_for s) s.number h.state taken)) → IfSome caller P
+  told-caller P holds = if_some caller (λ x. x ≡ caller_of (setup_for s) s.number h.state x.taken) P
+      (λ x same. subst P (sym same) (holds x.taken)) h.calls
 
   pub collects : (n : ℕ) → stage ≡ Collecting n → IfSome caller (IsCollecting n)
-  collects n now = told-caller (IsCollecting n) (in_state s h (Collecting n) now)
+  collects n now = told-caller (IsCollecting n) (λ _. in_state s h (Collecting n) now)
 
   module _ (why : Why) (gone : Gone) (x : Content) where
-    settle-row : stage ≡ Routed (Settling x) why gone
-        → WantsRow s.number (Settle x) (caller_of (setup_for s) s.number h.state)
-    settle-row now = (
+    settle-row : stage ≡ Routed (Settling x) why gone → (taken : ℕ)
+        → WantsRow s.number (Settle x) (caller_of (setup_for s) s.number h.state taken)
+    settle-row now taken = (
       refl,
       ap (wants_at (h.state.actors s.number).next)
           (in_state s h (Routed (Settling x) why gone) now),
@@ -57,7 +57,7 @@ module _ {stage : Stage Content} (s : Scheduler) {shared : Option Shared} {calle
 
     pub clear-leaving : stage ≡ Routed (Clearing x) why gone → IfSome caller IsLeaving
     clear-leaving now = told-caller IsLeaving
-        (x, ap leaving_at (in_state s h (Routed (Clearing x) why gone) now))
+        (λ _. (x, ap leaving_at (in_state s h (Routed (Clearing x) why gone) now)))
 
 -- a carrier that isn't empty
 pub not-nil : (bs : List BlockAt) → (bs ≡ [] → ⊥) → is_nil bs ≡ false

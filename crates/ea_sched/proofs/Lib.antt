@@ -1,5 +1,6 @@
 pub mod Doing
 pub mod Acts
+pub mod Resting
 pub mod Placing
 pub mod Observing
 pub mod Seeking

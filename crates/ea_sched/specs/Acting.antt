@@ -1,5 +1,8 @@
 -- A scheduler as an actor of the machine.
-use Rattle.std.specs.Prelude.{◌≡◌, Bool, true, false, drop}
+use Rattle.std.specs.Prelude.{◌≡◌, ℕ, Bool, true, false, ◌==◌, ◌&&◌, ◌||◌, not, Option, None, Some}
+use Rattle.std.specs.Prelude.{List, [], ◌∷◌, drop}
+use Rattle.ea_model.specs.declared.entries.Entry.{Entry}
+use Rattle.ea_model.specs.declared.entries.Entry.TheVariants as entry
 use Rattle.ea_model.specs.Content.{Content}
 use Rattle.ea_machine.specs.Setup.{Setup, setup_of}
 use Rattle.ea_machine.specs.declared.stages.Stage.{Stage}
@@ -7,6 +10,7 @@ use Rattle.ea_machine.specs.declared.stages.Stage.TheVariants.{Begin, Routed, Co
 use Rattle.ea_machine.specs.declared.stages.Stage.TheVariants.{Searching, Fetching, Creating}
 use Rattle.ea_machine.specs.declared.stages.Stage.TheVariants.{Giving, Taking, Ended, Ready}
 use Rattle.ea_machine.specs.Actor.{Actor}
+use Rattle.ea_machine.specs.Stops.{stop_at}
 use Rattle.ea_machine.specs.Walks.{ready}
 use Rattle.ea_sched.specs.declared.state.Scheduler.{Scheduler}
 
@@ -26,6 +30,28 @@ is_ended (Giving given to) = false
 is_ended (Taking name tries left) = false
 is_ended Ended = true
 is_ended Ready = false
+
+-- whether no step is left until a stop
+abbrev pub is_over : Option ℕ → Bool
+is_over None = false
+is_over (Some left) = left == 0
+
+-- whether the scheduler is stopped: its text isn't done
+abbrev pub is_stopped : Scheduler → Bool
+is_stopped s = not (is_ended s.stage) && is_over s.left
+
+-- the entry of a stop after that many steps, if there is one
+abbrev pub stop_entries : Option ℕ → List Entry
+stop_entries None = []
+stop_entries (Some steps) = entry.Stopped steps ∷ []
+
+-- what its log says of its stop
+abbrev pub stop_line : Scheduler → List Entry
+stop_line s = stop_at s.stage s.stop s.left
+
+-- whether it takes no step any more
+abbrev pub rests : Scheduler → Bool
+rests s = is_ended s.stage || is_over s.left
 
 -- the scheduler at a stage, whatever its own is
 abbrev pub standing_at : Stage Content → Scheduler → Actor
@@ -54,4 +80,5 @@ pub record IsSame (s t : Scheduler) : Type 0 where
   pub trace : t.trace ≡ s.trace
   pub number : t.number ≡ s.number
   pub text : t.text ≡ s.text
+  pub left : t.left ≡ s.left
   pub failed : t.failed ≡ s.failed

@@ -30,7 +30,7 @@ pub record Creates (c : Config) (t : Trace) (me : ℕ) (a : Actor) (shared : Opt
   pub reached : IsReached (setup_of c t) state
   pub actor : state.actors me ≡ a
   pub shares : IfSome shared (λ s. s ≡ state.shared)
-  pub calls : IfSome caller (λ x. x ≡ caller_of (setup_of c t) me state)
+  pub calls : IfSome caller (λ x. x ≡ caller_of (setup_of c t) me state x.taken)
   pub creation : IsCreation a.instance ((step (setup_of c t) state me).actors me)
 
 -- the scheduler stands so, at a stage

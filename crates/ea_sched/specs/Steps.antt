@@ -1,5 +1,5 @@
 -- A scheduler in a run, and its step there.
-use Rattle.std.specs.Prelude.{◌≡◌, ◌⊎◌, ℕ, Bool, Option, None, Some, IfSome, IsSome}
+use Rattle.std.specs.Prelude.{◌≡◌, ◌⊎◌, ℕ, ◌+◌, Bool, Option, None, Some, IfSome, IsSome}
 use Rattle.ea_model.specs.declared.settings.Config.{Config}
 use Rattle.ea_model.specs.declared.trace.Trace.{Trace}
 use Rattle.ea_model.specs.Content.{Content}
@@ -29,7 +29,7 @@ pub record Ready (c : Config) (t : Trace) (me : ℕ) (a : Actor) (shared : Optio
   pub reached : IsReached (setup_of c t) state
   pub actor : state.actors me ≡ a
   pub shares : IfSome shared (λ s. s ≡ state.shared)
-  pub calls : IfSome caller (λ x. x ≡ caller_of (setup_of c t) me state)
+  pub calls : IfSome caller (λ x. x ≡ caller_of (setup_of c t) me state x.taken)
   pub told : IsSome shared ⊎ IsSome caller
 
 -- scheduler `me`, which stood so in a reached state, has taken its step there: it is as it is after
@@ -43,8 +43,8 @@ pub record Stepped (c : Config) (t : Trace) (me : ℕ) (a b : Actor) (shared aft
   pub shares : IfSome shared (λ s. (s ≡ state.shared)
       × (after ≡ Some (step (setup_of c t) state me).shared))
   pub shares_untold : shared ≡ None → after ≡ None
-  pub calls : IfSome caller (λ x. (x ≡ caller_of (setup_of c t) me state)
-      × (now ≡ Some (caller_of (setup_of c t) me (step (setup_of c t) state me))))
+  pub calls : IfSome caller (λ x. (x ≡ caller_of (setup_of c t) me state x.taken)
+      × (now ≡ Some (caller_of (setup_of c t) me (step (setup_of c t) state me) (x.taken + 1))))
   pub calls_untold : caller ≡ None → now ≡ None
 
 -- the scheduler stands so, at a stage

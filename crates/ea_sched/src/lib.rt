@@ -14,6 +14,7 @@ mod scheduler;
 mod searches;
 mod state;
 mod step;
+mod stops;
 mod turning;
 mod turns;
 mod walks;

@@ -1,20 +1,34 @@
 //! A scheduler before its first step, and what it tells.
-ghost use Rattle.std.specs.Prelude.{◌≡◌, ◌≤◌, false, IfOk, length};
+ghost use Rattle.std.specs.Prelude.{◌≡◌, ◌++◌, ◌≤◌, min, false, IfOk, length};
+ghost use Rattle.std.specs.Option.{option_map_or};
 ghost use Rattle.ea_model.specs.Settings.{IsValidConfig};
 ghost use Rattle.ea_model.specs.Trace.{IsValidTrace};
 ghost use Rattle.ea_machine.specs.Machine.{first_actor};
-ghost use Rattle.ea_sched.specs.Acting.{actor_of, is_ended, setup_for};
+ghost use Rattle.ea_sched.specs.Acting.{actor_of, is_ended, is_stopped, setup_for, stop_entries, stop_line};
+ghost use Rattle.ea_sched.specs.Acting as acting;
 
 use crate::brought::names_for;
 use crate::migration::migrates;
 use crate::passed::Passed;
 use crate::state::Scheduler;
+use crate::stops::{is_over, stop_of};
 use ea_instance::Instance;
 use ea_machine::Stage;
 use ea_model::{Config, Entry, List, OutOfMemory, Trace};
 use ea_names::Names;
 use ea_stats::Stats;
 use std::alloc::Global;
+
+/// A log with the entry of a stop after that many steps, if there is one.
+fn with_stop(mut log: List<Entry>, stop: Option<u32>) -> List<Entry>
+    requires { 1 ≤ log.room }
+    ensures { result.items ≡ log.items ++ stop_entries stop }
+{
+    if let Some(steps) = stop {
+        log.push_within(Entry::Stopped { steps });
+    }
+    log
+}
 
 impl<'t> Scheduler<'t> {
     /// Scheduler `number` before its first step. It takes the memory for its log, for the names that
@@ -35,6 +49,7 @@ impl<'t> Scheduler<'t> {
         ensures trace { IfOk result (λ s. s.trace.now ≡ trace.now) }
         ensures number { IfOk result (λ s. s.number ≡ number) }
         ensures failed { IfOk result (λ s. s.failed ≡ false) }
+        ensures left { IfOk result (λ s. s.left ≡ s.stop) }
     {
         let text = trace.texts.get(number as usize - 1).as_slice();
         let pages = config.region_pages();
@@ -46,11 +61,12 @@ impl<'t> Scheduler<'t> {
             pages,
         )?;
         let mut log = List::new(alloc);
-        log.reserve(text.len())?;
+        log.reserve(text.len() + 1)?;
         let names = names_for(alloc, text, trace.greatest)?;
         let passed = Passed::new(alloc)?;
         let mbcs = Stats::new(instance.multi_figures());
         let sbcs = Stats::new(instance.single_figures());
+        let stop = stop_of(trace.stops.as_slice(), number);
         Ok(Scheduler {
             config,
             trace,
@@ -66,6 +82,8 @@ impl<'t> Scheduler<'t> {
             mbcs,
             sbcs,
             log,
+            stop,
+            left: stop,
             failed: false,
         })
     }
@@ -77,18 +95,30 @@ impl<'t> Scheduler<'t> {
         self.number
     }
 
-    /// What came of its operations so far, in order.
+    /// What came of its operations so far, in order. A stop isn't among it.
     pub fn log(&self) -> &List<Entry>
         ensures { result.now ≡ self.now.log }
     {
         &self.log
     }
 
-    /// Its log, by value. It is not copied.
+    /// Its log, by value: what came of its operations, and then its stop, if it is stopped. It is not
+    /// copied.
     pub fn into_log(self) -> List<Entry>
-        ensures { result ≡ self.entry.log }
+        ensures { result.items ≡ self.entry.log.items ++ stop_line self.entry }
     {
-        self.log
+        let stop = self.stopped_after();
+        with_stop(self.log, stop)
+    }
+
+    /// After how many steps it stopped; None exactly where it isn't stopped.
+    pub fn stopped_after(&self) -> Option<u32>
+        ensures { stop_entries result ≡ stop_line self.now }
+    {
+        if self.stopped() {
+            return self.stop;
+        }
+        None
     }
 
     /// Its allocator instance.
@@ -110,5 +140,29 @@ impl<'t> Scheduler<'t> {
         ensures { result ≡ is_ended self.now.stage }
     {
         matches!(self.stage, Stage::Ended)
+    }
+
+    /// Whether it is stopped: its text isn't done, and no step is left until its stop.
+    pub fn stopped(&self) -> bool
+        ensures { result ≡ is_stopped self.now }
+    {
+        !self.ended() && is_over(self.left)
+    }
+
+    /// Whether it takes no step any more: it has ended or is stopped.
+    pub fn rests(&self) -> bool
+        ensures { result ≡ acting.rests self.now }
+    {
+        self.ended() || is_over(self.left)
+    }
+
+    /// As many of so many steps as are left until its stop.
+    pub fn within(&self, steps: u32) -> u32
+        ensures { result ≡ option_map_or (λ left. min left steps) self.now.left steps }
+    {
+        match self.left {
+            Some(left) => left.min(steps),
+            None => steps,
+        }
     }
 }

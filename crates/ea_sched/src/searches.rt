@@ -1,8 +1,9 @@
 //! How a scheduler searches the pool, fetches a carrier, or creates one.
-ghost use Rattle.std.specs.Prelude.{◌≡◌, ℕ, ◌≤◌, true, Some, OnErr, OnOk};
+ghost use Rattle.std.specs.Prelude.{◌≡◌, ℕ, ◌-◌, ◌≤◌, true, Some, OnErr, OnOk};
 ghost use Rattle.ea_machine.specs.declared.stages.Stage.TheVariants as stage;
 ghost use Rattle.ea_machine.specs.Placements as placements;
 ghost use Rattle.ea_machine.specs.Setup.{migration};
+ghost use Rattle.ea_machine.specs.Stops as stops;
 ghost use Rattle.ea_sched.specs.Acting.{IsSame, actor_of, ready_of, setup_for};
 ghost use Rattle.ea_sched.specs.Asking.{HasMore, IsAsked};
 ghost use Rattle.ea_sched.specs.Creations.{CreatesAt, IsCreation};
@@ -11,6 +12,7 @@ ghost use Rattle.ea_sched.specs.Looks.{HasPassed};
 ghost use Rattle.ea_sched.specs.Steps.{DidRow, StartsRow};
 
 use crate::state::Scheduler;
+use crate::stops::less;
 use ea_machine::{Ask, OwnerWord, Stage};
 use ea_mbc::Mbc;
 use ea_model::{CarrierPlan, OutOfMemory};
@@ -132,12 +134,18 @@ impl<'t> Scheduler<'t> {
         requires some { 1 ≤ next }
         requires from { (at : ℕ) × (looks.next_look self.old.stage ≡ Some at) × (next ≤ at) }
         ensures passed { HasPassed next self.old self.new }
-        ensures same { IsSame self.old self.new }
+        ensures run { (self.new.config ≡ self.old.config) × (self.new.trace ≡ self.old.trace)
+            × (self.new.number ≡ self.old.number) }
+        ensures failed { self.new.failed ≡ self.old.failed }
+        ensures left { (at : ℕ) → looks.next_look self.old.stage ≡ Some at
+            → self.new.left ≡ stops.less self.old.left (at - next) }
     {
         let Stage::Searching { at, .. } = &mut self.stage else {
             unreachable!()
         };
+        let passed = *at - next;
         *at = next;
+        self.left = less(self.left, passed);
     }
 
     /// One try to fetch the carrier that the search saw: it is employed, and the block placed; or

@@ -1,7 +1,7 @@
 //! What a scheduler keeps.
 ghost use Rattle.std.specs.Prelude.{◌≡◌, ◌+◌, ◌≤◌, length};
 ghost use Rattle.ea_model.specs.declared.units.TheConstants.{MAX_SCHEDULERS};
-ghost use Rattle.ea_model.specs.Trace.{texts_of};
+ghost use Rattle.ea_model.specs.Trace.{stop_in, texts_of};
 ghost use Rattle.ea_machine.specs.Setup.{migration, setup_of, text_for};
 ghost use Rattle.ea_sched.specs.Brought.{HavePlaces};
 
@@ -16,7 +16,8 @@ use ea_stats::Stats;
 /// whether carriers migrate; for itself it keeps its text, how many of its operations are done, its
 /// allocator instance, the names that it holds, with a place for each that its text brings, where
 /// it is in its operation, the nodes that its walk passed and the next one, the statistics of its
-/// multiblock and of its singleblock carriers, and its log. Once it had no memory it has failed.
+/// multiblock and of its singleblock carriers, its log, and after how many steps it stops, if it
+/// does, and how many are left until then. Once it had no memory it has failed.
 #[derive(Drop)]
 pub struct Scheduler<'t> {
     pub(crate) config: Config,
@@ -33,6 +34,8 @@ pub struct Scheduler<'t> {
     pub(crate) mbcs: Stats,
     pub(crate) sbcs: Stats,
     pub(crate) log: List<Entry>,
+    pub(crate) stop: Option<u32>,
+    pub(crate) left: Option<u32>,
     pub(crate) failed: bool,
     ghost migrates_so: { migrates ≡ migration (setup_of config trace.now) },
     ghost schedulers_to: { config.schedulers ≤ MAX_SCHEDULERS },
@@ -41,5 +44,7 @@ pub struct Scheduler<'t> {
     ghost text_is: { text.now ≡ text_for (texts_of trace.now) number },
     ghost names_upto: { names.greatest ≡ trace.now.greatest },
     ghost places: { HavePlaces names.places text.now },
-    ghost log_room: { length text.now ≤ done + log.room },
+    ghost stop_is: { stop ≡ stop_in trace.now.stops.items number },
+    ghost done_to: { done ≤ length text.now },
+    ghost log_room: { length text.now + 1 ≤ done + log.room },
 }

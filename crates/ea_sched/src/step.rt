@@ -4,12 +4,14 @@ ghost use Rattle.ea_machine.specs.declared.asks.Ask.{Ask};
 ghost use Rattle.ea_machine.specs.declared.stages.Stage.TheVariants as stage;
 ghost use Rattle.ea_machine.specs.Setup.{migration};
 ghost use Rattle.ea_machine.specs.Statistics as statistics;
-ghost use Rattle.ea_sched.specs.Acting.{IsSame, actor_of, is_ended, setup_for};
+ghost use Rattle.ea_machine.specs.Stops as stops;
+ghost use Rattle.ea_sched.specs.Acting.{IsSame, actor_of, is_ended, is_stopped, rests, setup_for};
 ghost use Rattle.ea_sched.specs.Creations.{CreatesAt};
 ghost use Rattle.ea_sched.specs.declared.step.Progress.TheVariants as progress;
 ghost use Rattle.ea_sched.specs.Steps.{DidRow, IsReady, ObservedRow, StartsRow, Stepped};
 
 use crate::state::Scheduler;
+use crate::stops::less;
 use ea_machine::Stage;
 use ea_mbc::Mbc;
 use ea_model::OutOfMemory;
@@ -24,6 +26,8 @@ pub enum Progress {
     Went,
     /// The scheduler had ended before, and nothing changed.
     Ended,
+    /// The scheduler was stopped before, and nothing changed.
+    Stopped,
 }
 
 impl<'t> Scheduler<'t> {
@@ -112,7 +116,8 @@ impl<'t> Scheduler<'t> {
         Ok(())
     }
 
-    /// Takes one atomic step on what is shared, and does all up to the next one. An `Err` says that
+    /// Takes one atomic step on what is shared, and does all up to the next one; one that has ended or
+    /// is stopped takes none. An `Err` says that
     /// the step is one that creates a carrier, and that there was no memory for it, or no number
     /// left to count it with: no other step fails. From then on an `Err` is all that this scheduler
     /// answers.
@@ -129,15 +134,19 @@ impl<'t> Scheduler<'t> {
         ensures stays { S.stays shared.old shared.new }
         ensures run { (self.new.config ≡ self.old.config) × (self.new.trace ≡ self.old.trace)
             × (self.new.number ≡ self.old.number) }
-        ensures step { OnOk result (Stepped self.old.config self.old.trace.now self.old.number
-            (actor_of self.old) (actor_of self.new) (S.shared shared.old) (S.shared shared.new)
-            (S.caller shared.old) (S.caller shared.new)) }
+        ensures step { IfOk result (λ p. p ≡ progress.Went → Stepped self.old.config
+            self.old.trace.now self.old.number (actor_of self.old) (actor_of self.new)
+            (S.shared shared.old) (S.shared shared.new) (S.caller shared.old)
+            (S.caller shared.new)) }
         ensures ready { OnOk result (IsReady self.new (S.shared shared.new) (S.caller shared.new)) }
         ensures goes { OnOk result (self.old.failed ≡ false × self.new.failed ≡ false) }
         ensures went { IfOk result (λ p. p ≡ progress.Went
-            → (actor_of self.old).stage ≢ stage.Ended) }
+            → (rests self.old ≡ false) × ((actor_of self.old).stage ≢ stage.Ended)) }
+        ensures left { IfOk result (λ p. p ≡ progress.Went
+            → self.new.left ≡ stops.less self.old.left 1) }
         ensures ended { IfOk result (λ p. (p ≡ progress.Ended) ↔ (is_ended self.old.stage ≡ true)) }
-        ensures rests { IfOk result (λ p. p ≡ progress.Ended → (self.new ≡ self.old)
+        ensures stopped { IfOk result (λ p. (p ≡ progress.Stopped) ↔ (is_stopped self.old ≡ true)) }
+        ensures rests { IfOk result (λ p. p ≢ progress.Went → (self.new ≡ self.old)
             × (shared.new ≡ shared.old)) }
         ensures fails { OnErr result (self.new.failed ≡ true) }
         ensures memory { OnErr result (self.old.failed ≡ false → CreatesAt self.old.stage self.old
@@ -151,10 +160,14 @@ impl<'t> Scheduler<'t> {
         if self.ended() {
             return Ok(Progress::Ended);
         }
+        if self.stopped() {
+            return Ok(Progress::Stopped);
+        }
         if self.advance(alloc, shared).is_err() {
             self.failed = true;
             return Err(OutOfMemory);
         }
+        self.left = less(self.left, 1);
         Ok(Progress::Went)
     }
 }

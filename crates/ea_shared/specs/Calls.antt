@@ -1,5 +1,5 @@
 -- What a call on what schedulers share asks for, and what it does.
-use Rattle.std.specs.Prelude.{◌≡◌, ℕ, Option, None, Some, IfSome, length}
+use Rattle.std.specs.Prelude.{◌≡◌, ℕ, ◌+◌, Option, None, Some, IfSome, length}
 use Rattle.ea_machine.specs.Setup.{Setup}
 use Rattle.ea_machine.specs.Shared.{Shared}
 use Rattle.ea_machine.specs.Actor.{Actor}
@@ -9,20 +9,22 @@ use Rattle.ea_machine.specs.Table.{answer, effect}
 use Rattle.ea_machine.specs.Machine.{IsReached, step, wants}
 
 -- the scheduler that calls, where the object tells it: its number, how it stands in a run of the
--- setup, and how many nodes are left of its walk
+-- setup, how many nodes are left of its walk, and how many steps it has taken
 pub record Caller : Type 0 where
   pub setup : Setup
   pub number : ℕ
   pub actor : Actor
   pub rest : ℕ
+  pub taken : ℕ
 
--- a scheduler in a state of a run, as the caller of a row
-abbrev pub caller_of : Setup → ℕ → State → Caller
-caller_of setup me state = record {
+-- a scheduler in a state of a run, after so many steps of its own, as the caller of a row
+abbrev pub caller_of : Setup → ℕ → State → ℕ → Caller
+caller_of setup me state taken = record {
   setup = setup;
   number = me;
   actor = state.actors me;
   rest = length (state.shared.rests me);
+  taken = taken;
 }
 
 -- the scheduler with that number wants the row
@@ -42,9 +44,9 @@ HasEffect me row got after before = (got ≡ answer me row before)
 -- it is told, and took its step there
 abbrev pub TookStep : ℕ → Row → Answer → Option Shared → Option Caller → Caller → Type 0
 TookStep me row got shared after before = (state : State) × IsReached before.setup state
-    × (before ≡ caller_of before.setup me state) × IfSome shared (λ s. s ≡ state.shared)
+    × (before ≡ caller_of before.setup me state before.taken) × IfSome shared (λ s. s ≡ state.shared)
     × (got ≡ answer me row state.shared)
-    × (after ≡ Some (caller_of before.setup me (step before.setup state me)))
+    × (after ≡ Some (caller_of before.setup me (step before.setup state me) (before.taken + 1)))
 
 -- the row was done, with this answer: on what is shared, where that is told, and by the caller,
 -- where that is told. What isn't told before a call isn't told after it

@@ -140,6 +140,7 @@ fn trace_of(alloc: Global) -> Trace
     Trace {
         letter: Letter::H,
         texts: List::new(alloc),
+        stops: List::new(alloc),
         mode: Mode::Threads,
         greatest: 3,
     }

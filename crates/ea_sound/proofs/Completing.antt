@@ -1,8 +1,8 @@
--- A schedule that is completed ends every scheduler.
+-- After a completed schedule every scheduler has ended or is stopped.
 use Rattle.std.proofs.Common.{◌≡◌, ◌≢◌, ◌⊎◌, ℕ, zero, suc, ◌+◌, ◌*◌, ◌<◌, ◌≤◌, List, [], ◌∷◌, ◌++◌}
-use Rattle.std.proofs.Common.{Bool, true, false, refl, sym, ap, ◌∙◌, subst, inl, inr, arith}
-use Rattle.std.specs.Prelude.{Option, Some, None, length}
-use Rattle.std.proofs.lemmas.Bool.{cases_eq}
+use Rattle.std.proofs.Common.{Bool, true, false, refl, sym, ap, ◌∙◌, subst, inl, inr, arith, ◌-◌}
+use Rattle.std.specs.Prelude.{Option, Some, None, length, replicate, take}
+use Rattle.std.proofs.lemmas.Bool.{cases_eq, cases_lt}
 use Rattle.ea_model.specs.declared.entries.Entry.TheVariants as entry
 use Rattle.ea_model.specs.Content.{Content}
 use Rattle.ea_machine.specs.declared.nodes.Node.{Node}
@@ -23,7 +23,7 @@ use Rattle.ea_machine.specs.Completion.{actor_rows, begin_rows, completing, endi
 use Rattle.ea_machine.specs.Completion.{next_rows, passed_rows, stage_rows, work}
 use Rattle.ea_machine.specs.Machine.{IsReached, after_row, begins, first_stage, run, run_on, start}
 use Rattle.ea_machine.specs.Machine.{step, wants_at, wants_on}
-use Rattle.ea_sound.specs.MachineLaws.{EndsAll}
+use Rattle.ea_sound.specs.MachineLaws.{AllEnd}
 use Rattle.ea_machine.specs.Nodes.{Mark, first_node, link_in, pushed}
 use Rattle.ea_machine.specs.Owners.{CarrierAt, Employed, Busy}
 use Rattle.ea_machine.specs.Releases.{disowned}
@@ -31,6 +31,7 @@ use Rattle.ea_machine.specs.Rows.{Answer, Done, Head, Rests, Passes, Saw, Won, L
 use Rattle.ea_machine.specs.Setup.{Setup, is_scheduler}
 use Rattle.ea_machine.specs.Shared.{Shared, put}
 use Rattle.ea_machine.specs.State.{State}
+use Rattle.ea_machine.specs.Stops.{count_of, cut, left_after, less, up_to}
 use Rattle.ea_machine.specs.Table.{answer, effect, link_answer, link_read, moved_if, rest_after}
 use Rattle.ea_machine.specs.Table.{rest_by, tried_at}
 use Rattle.ea_machine.specs.Tasks.{let_go}
@@ -41,6 +42,8 @@ use Rattle.ea_sound.proofs.Ending.{created-less, fetched-less, logged-less, onwa
 use Rattle.ea_sound.proofs.Ending.{searched-less, task-route, took-less, walk-route, walk_rows}
 use Rattle.ea_sound.proofs.Ending.{whole_rows, worked-less}
 use Rattle.ea_sound.proofs.OtherRows.{linked-rest}
+use Rattle.ea_sound.proofs.Stopping.{count-append, count-others, count-replicate, less-more}
+use Rattle.ea_sound.proofs.Stopping.{less-none, less-over, take-fewer, up_to-all, up_to-some}
 use Rattle.ea_sound.proofs.Totals.{put-here, put-other}
 use Rattle.ea_sound.proofs.TurnLists.{by-turns, ended-or, run-append, run-snoc, step-ended}
 use Rattle.ea_sound.proofs.TurnLists.{step-mine, step-other, step-shared}
@@ -281,8 +284,45 @@ module _ (e : Setup) where
             ∙ step-other e w s j ne
       ]
 
+  -- they are its own turns
+  pub ending-own : (most : ℕ) (w : State) (s : ℕ) (st : Stage Content)
+      → (n : ℕ) × (ending e most w s st ≡ replicate n s)
+  ending-own zero w s st = (0, ending-zero w s st)
+  ending-own (suc most) w s st =
+      elim (ended-or st) [
+        | inl q ↦ (0, ap (ending e (suc most) w s) q ∙ ending-none (suc most) w s)
+        | inr going ↦
+            let (n, is) = ending-own most (step e w s) s ((step e w s).actors s).stage in
+            (suc n, ending-one most w s st going ∙ ap (λ js. s ∷ js) is)
+      ]
+
+  pub replicate-others : (n : ℕ) (w : State) (s j : ℕ) → j ≢ s
+      → (run_on e w (replicate n s)).actors j ≡ w.actors j
+  replicate-others zero w s j ne = refl
+  replicate-others (suc n) w s j ne =
+      replicate-others n (step e w s) s j ne ∙ step-other e w s j ne
+
+  -- who has ended stays so
+  ended-on : (w : State) (js : List ℕ) (s : ℕ) → (w.actors s).stage ≡ Ended
+      → ((run_on e w js).actors s).stage ≡ Ended
+  ended-on w [] s q = q
+  ended-on w (j ∷ js) s q = ended-on (step e w j) js s (elim (cases_eq j s) [
+    | inl i ↦ ap (λ (v : State). (v.actors s).stage)
+        (ap (step e w) i ∙ step-ended e w s q) ∙ q
+    | inr ne ↦ ap (λ (a : Actor). a.stage) (step-other e w j s (λ i. ne (sym i))) ∙ q
+  ])
+
+  -- the scheduler has ended, or no step is left until its stop
+  abbrev RestsAt : State → Option ℕ → ℕ → Type 0
+  RestsAt w left s = ((w.actors s).stage ≡ Ended) ⊎ (left ≡ Some 0)
+
+  rests-on : (w : State) (left : Option ℕ) (js : List ℕ) (s : ℕ) → RestsAt w left s
+      → RestsAt (run_on e w js) (less left (count_of s js)) s
+  rests-on w left js s (inl q) = inl (ended-on w js s q)
+  rests-on w left js s (inr q) = inr (less-over left (count_of s js) q)
+
   -- who is no scheduler has ended from the start
-  outside : (s : ℕ) → is_scheduler e s ≡ false → (L : List ℕ)
+  pub outside : (s : ℕ) → is_scheduler e s ≡ false → (L : List ℕ)
       → ((run e L).actors s).stage ≡ Ended
   outside s o = by-turns (λ L. ((run e L).actors s).stage ≡ Ended)
       (λ L j q. elim (cases_eq j s) [
@@ -327,40 +367,96 @@ module _ (e : Setup) where
 
     -- a scheduler that alone steps has ended after as many turns as it has work, at most
     finishes : (w : State) (s : ℕ) → IsReached e w
-        → ((run_on e w (finishing e w s)).actors s).stage ≡ Ended
+        → ((run_on e w (ending e (work e w s) w s (w.actors s).stage)).actors s).stage ≡ Ended
     finishes w s r = ends (work e w s) w s r (omega arith)
 
-    completes : (count s : ℕ) (w : State) (j : ℕ) → IsReached e w
-        → ((w.actors j).stage ≡ Ended) ⊎ ((s ≤ j) × (j < s + count))
-        → ((run_on e w (completing e count s w)).actors j).stage ≡ Ended
-    completes zero s w j r (inl q) = q
-    completes zero s w j r (inr l) = absurd (omega (arith, l.0, l.1))
-    completes (suc count) s w j r h =
-        let v = run_on e w (finishing e w s) in
-        ap (λ (u : State). (u.actors j).stage)
-        (run-append e w (finishing e w s) (completing e count (suc s) v))
-        ∙ completes count (suc s) v j (reached-run w (finishing e w s) r)
-        (elim (cases_eq j s) [
-          | inl q ↦ inl (subst (λ i. ((run_on e w (finishing e w s)).actors i).stage ≡ Ended)
-              (sym q) (finishes w s r))
-          | inr ne ↦ elim h [
-            | inl q ↦ inl (ap (λ (a : Actor). a.stage)
-                (ending-others (work e w s) w s j (w.actors s).stage ne) ∙ q)
-            | inr l ↦ inr (omega (arith, l.0, ne), omega (arith, l.1))
-          ]
-        ])
+    -- or it is stopped before
+    halts : (w : State) (left : Option ℕ) (s : ℕ) → IsReached e w
+        → RestsAt (run_on e w (finishing e w left s))
+        (less left (count_of s (finishing e w left s))) s
+    halts w None s r = inl (finishes w s r)
+    halts w (Some k) s r = by (ending-own (work e w s) w s (w.actors s).stage) where
+      all : List ℕ
+      all = ending e (work e w s) w s (w.actors s).stage
 
-    -- after the schedule and then one scheduler after another, all have ended
-    ends-all : EndsAll e
-    ends-all turns s =
-        ap (λ (w : State). (w.actors s).stage)
-        (run-append e (start e) turns (completing e e.schedulers 1 (run e turns)))
-        ∙ completes e.schedulers 1 (run e turns) s (turns, refl) (by (is_scheduler e s) refl)
+      none : (k : ℕ) → k - k ≡ 0
+      none k = omega arith
+
+      by : (n : ℕ) × (all ≡ replicate n s)
+          → RestsAt (run_on e w (take k all)) (less (Some k) (count_of s (take k all))) s
+      by own = elim (cases_lt k own.0) [
+        | inl below ↦ inr (ap (λ js. less (Some k) (count_of s js))
+            (ap (take k) own.1 ∙ take-fewer k own.0 s (omega (arith, below)))
+            ∙ ap (less (Some k)) (count-replicate k s) ∙ ap Some (none k))
+        | inr past ↦ inl (ap (λ js. ((run_on e w js).actors s).stage)
+            (ap (take k) own.1 ∙ up_to-all k own.0 s (omega (arith, past)) ∙ sym own.1)
+            ∙ finishes w s r)
+      ]
+
+    -- nobody else's turns are among those
+    finishing-others : (w : State) (left : Option ℕ) (s j : ℕ) → j ≢ s
+        → count_of j (finishing e w left s) ≡ 0
+    finishing-others w left s j ne =
+        let own = ending-own (work e w s) w s (w.actors s).stage in
+        let some = up_to-some left own.0 s in
+        ap (λ js. count_of j (up_to left js)) own.1 ∙ ap (count_of j) some.1
+        ∙ count-others some.0 s j (λ q. ne (sym q))
+
+    module _ (left : ℕ → Option ℕ) where
+      completes : (count s : ℕ) (w : State) (j : ℕ) (o : Option ℕ) → IsReached e w
+          → RestsAt w o j ⊎ ((s ≤ j) × (j < s + count) × (o ≡ left j))
+          → RestsAt (run_on e w (completing e left count s w))
+          (less o (count_of j (completing e left count s w))) j
+      completes zero s w j o r (inl q) = rests-on w o [] j q
+      completes zero s w j o r (inr l) = absurd (omega (arith, l.0, l.1))
+      completes (suc count) s w j o r h =
+          let first = finishing e w (left s) s in
+          let v = run_on e w first in
+          let later = completing e left count (suc s) v in
+          let now = less o (count_of j first) in
+          subst (λ (u : State). RestsAt u (less o (count_of j (first ++ later))) j)
+          (sym (run-append e w first later))
+          (subst (λ p. RestsAt (run_on e v later) p j)
+          (less-more o (count_of j first) (count_of j later)
+          ∙ ap (less o) (sym (count-append j first later)))
+          (completes count (suc s) v j now (reached-run w first r)
+          (elim (cases_eq j s) [
+            | inl q ↦ inl (elim h [
+              | inl rests ↦ rests-on w o first j rests
+              | inr l ↦ subst (λ p. RestsAt v (less p (count_of j first)) j) (sym l.2)
+                  (subst (λ i. RestsAt v (less (left i) (count_of i first)) i) (sym q)
+                  (halts w (left s) s r))
+            ])
+            | inr ne ↦ elim h [
+              | inl rests ↦ inl (rests-on w o first j rests)
+              | inr l ↦ inr (
+                omega (arith, l.0, ne),
+                omega (arith, l.1),
+                ap (less o) (finishing-others w (left s) s j ne) ∙ less-none o ∙ l.2,
+              )
+            ]
+          ])))
+
+    -- after the schedule and then one scheduler after another, all have ended or are stopped
+    all-end : AllEnd e
+    all-end turns s =
+        let taken = cut e.stops turns in
+        let w = run e taken in
+        let left = left_after e taken in
+        let more = completing e left e.schedulers 1 w in
+        subst (λ (u : State). RestsAt u (left_after e (taken ++ more) s) s)
+        (sym (run-append e (start e) taken more))
+        (subst (λ p. RestsAt (run_on e w more) p s)
+        (less-more (e.stops s) (count_of s taken) (count_of s more)
+        ∙ ap (less (e.stops s)) (sym (count-append s taken more)))
+        (completes left e.schedulers 1 w s (left s) (taken, refl)
+        (by (is_scheduler e s) refl taken (left s))))
       where
-        by : (b : Bool) → is_scheduler e s ≡ b
-            → (((run e turns).actors s).stage ≡ Ended) ⊎ ((1 ≤ s) × (s < 1 + e.schedulers))
-        by true t = inr (grind (arith, t), grind (arith, t))
-        by false t = inl (outside s t turns)
+        by : (b : Bool) → is_scheduler e s ≡ b → (taken : List ℕ) (o : Option ℕ)
+            → RestsAt (run e taken) o s
+            ⊎ ((1 ≤ s) × (s < 1 + e.schedulers) × (o ≡ o))
+        by true t taken o = inr (grind (arith, t), grind (arith, t), refl)
+        by false t taken o = inl (inl (outside s t taken))
 
 -- by the rule pushes go elsewhere
 module _ (e : Setup) (w : State) (s : ℕ) where
@@ -396,8 +492,8 @@ rule-less e w s rule ne =
     step-less e w s ne (λ ready. subst (Fits e w s (w.actors s)) ready fits)
     (fits-elsewhere e w s (w.actors s) (w.actors s).stage fits)
 
-pub rule-ends_all : (e : Setup) → ((turns : List ℕ) → Rule e (run e turns)) → EndsAll e
-rule-ends_all e rule = ends-all e
+pub rule-all_end : (e : Setup) → ((turns : List ℕ) → Rule e (run e turns)) → AllEnd e
+rule-all_end e rule = all-end e
     (λ L s q. subst (Fits e (run e L) s ((run e L).actors s)) q ((rule L).present.fits s)) (λ L s.
     fits-elsewhere e (run e L) s ((run e L).actors s) ((run e L).actors s).stage
     ((rule L).present.fits s))

@@ -107,6 +107,7 @@ pub mod GoneNames
 pub mod KeptPlaces
 -- What an entry tells of the turns before it.
 pub mod TurnLists
+pub mod Stopping
 pub mod BeginTurns
 pub mod ShortRoutes
 pub mod SearchLists

@@ -20,7 +20,7 @@ use Rattle.ea_model.proofs.Rising.{item_at-key, item_here, item_past}
 use Rattle.ea_laws.specs.Kept.{number_of}
 use Rattle.ea_machine.specs.declared.nodes.Named.{Named}
 use Rattle.ea_machine.specs.Actor.{Actor}
-use Rattle.ea_machine.specs.Outcome.{actors_of, live_spots, outcome}
+use Rattle.ea_machine.specs.Outcome.{actors_of, live_spots, sums}
 use Rattle.ea_machine.specs.Outcome.{Present, place_of, present, present_at, present_if}
 use Rattle.ea_machine.specs.Outcome.{settling_at}
 use Rattle.ea_machine.specs.Owners.{CarrierAt, Absent, Busy, Employed, Pooled, Returning}
@@ -274,7 +274,7 @@ module _ (e : Setup) (w : State) (k : Kept e w) where
       ∙ sym (sum_by-sum_over (λ (b : Actor). of_names b.held) bs)
 
   -- all live units, name by name
-  pub live-named : (outcome e w).totals.live
+  pub live-named : (sums e w).live
       ≡ sum_by (λ (b : Actor). of_names b.held) (actors_of e w) + of_names w.shared.given
   live-named = omega (
     arith,

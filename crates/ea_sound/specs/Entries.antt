@@ -77,7 +77,8 @@ IsDone setup turns s name = HasNoBlock setup turns s name
 -- its own; a block keeps its spot; no place was found; a name isn't held, and nothing changes; a
 -- block is gone, and s released it itself, or it went to another scheduler's queue, by who was seen
 -- to employ its carrier, or, where carriers don't migrate, owns it; a name was given, or taken,
--- with its spot, or tried for in vain as often as it was to be; and what carriers are employed then
+-- with its spot, or tried for in vain as often as it was to be; and what carriers are employed then.
+-- No step makes an entry of a stop
 abbrev pub Tells : Setup → List ℕ → ℕ → Entry → Type 0
 Tells setup turns s (entry.Alloc name place) = IsPlacement setup turns s name place
 Tells setup turns s (entry.AllocFail name need looked why) =
@@ -102,6 +103,7 @@ Tells setup turns s (entry.Info mbcs sbcs) =
     Reports mbcs (employed_multis (actor_after setup (turns ++ s ∷ []) s))
     × Reports sbcs (employed_singles (actor_after setup (turns ++ s ∷ []) s))
 Tells setup turns s entry.Idle = Unit {0}
+Tells setup turns s (entry.Stopped steps) = ⊥
 
 -- a step of s makes at most one entry, in its own log, and this entry tells how it came about
 abbrev pub EntersOne : Setup → Type 0

@@ -6,10 +6,10 @@ use Rattle.ea_model.specs.declared.trace.Trace.{Trace}
 use Rattle.ea_model.specs.Settings.{IsValidConfig}
 use Rattle.ea_model.specs.Trace.{IsValidTrace}
 use Rattle.ea_machine.specs.Setup.{Setup, setup_of}
-use Rattle.ea_machine.specs.declared.stages.Stage.TheVariants.{Ended}
 use Rattle.ea_machine.specs.State.{State}
 use Rattle.ea_machine.specs.Machine.{run}
 use Rattle.ea_machine.specs.Completion.{complete}
+use Rattle.ea_machine.specs.Courses.{Rests}
 use Rattle.ea_sound.specs.Units.{PrintsSums}
 use Rattle.ea_sound.specs.Sound.{Sound}
 use Rattle.ea_sound.specs.Released.{FailedHaveNone, KeepsPlaces, ReleasesOnce, StaysGone}
@@ -27,10 +27,9 @@ AtEachMoment P setup = (turns : List ℕ) → P setup (run setup turns)
 abbrev pub LogEach : Setup → State → Type 0
 LogEach setup state = (i : ℕ) → LogsEach setup state i
 
--- after the turns that complete a schedule, every scheduler has ended
-abbrev pub EndsAll : Setup → Type 0
-EndsAll setup = (turns : List ℕ) (s : ℕ)
-    → ((run setup (complete setup turns)).actors s).stage ≡ Ended
+-- after the turns that complete a schedule, every scheduler has ended or is stopped
+abbrev pub AllEnd : Setup → Type 0
+AllEnd setup = (turns : List ℕ) (s : ℕ) → Rests setup (complete setup turns) s
 
 -- each moment is sound, and what is printed of it are the sums of soundness; no scheduler does a
 -- row that it may not do, and some answers never come; a carrier that is fetched fits; each
@@ -38,7 +37,7 @@ EndsAll setup = (turns : List ℕ) (s : ℕ)
 -- and fails are exhausted; where no place is found an operation fails, where its name isn't held it
 -- is skipped, and where another employer is seen its block is queued to that; no name is released
 -- twice, one that failed has no block, and both stay so; a block keeps its place and its units; and
--- a completed schedule ends
+-- after a completed schedule all have ended or are stopped
 pub record Protocol (setup : Setup) : Type 0 where
   pub sound : AtEachMoment Sound setup
   pub prints : AtEachMoment PrintsSums setup
@@ -54,7 +53,7 @@ pub record Protocol (setup : Setup) : Type 0 where
   pub failed : AtEachMoment FailedHaveNone setup
   pub gone : StaysGone setup
   pub places : KeepsPlaces setup
-  pub ends : EndsAll setup
+  pub ends : AllEnd setup
 
 -- it holds of each setup that a valid trace has under a valid configuration
 abbrev pub Always : (Setup → Type 0) → Type 0

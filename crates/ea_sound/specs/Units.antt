@@ -5,7 +5,7 @@ use Rattle.ea_model.specs.declared.units.TheConstants.{HEADER_UNITS}
 use Rattle.ea_model.specs.Content.{Content, block_at, free_units, gaps_of, size_of}
 use Rattle.ea_machine.specs.Setup.{Setup}
 use Rattle.ea_machine.specs.State.{State}
-use Rattle.ea_machine.specs.Outcome.{outcome}
+use Rattle.ea_machine.specs.Outcome.{sums}
 use Rattle.ea_sound.specs.Contents.{sum_everywhere}
 use Rattle.ea_sound.specs.Names.{given, held, in_hands, queued, walked}
 
@@ -47,8 +47,8 @@ SumsUnits setup state = live_units setup state + queued_units setup state
 
 -- what is printed of a state are these sums
 pub record PrintsSums (setup : Setup) (state : State) : Type 0 where
-  pub live : (outcome setup state).totals.live ≡ live_units setup state
-  pub queued : (outcome setup state).totals.queued ≡ queued_units setup state
-  pub free : (outcome setup state).totals.free ≡ gap_units setup state
-  pub header : (outcome setup state).totals.header ≡ header_units setup state
-  pub units : (outcome setup state).totals.units ≡ carrier_units setup state
+  pub live : (sums setup state).live ≡ live_units setup state
+  pub queued : (sums setup state).queued ≡ queued_units setup state
+  pub free : (sums setup state).free ≡ gap_units setup state
+  pub header : (sums setup state).header ≡ header_units setup state
+  pub units : (sums setup state).units ≡ carrier_units setup state

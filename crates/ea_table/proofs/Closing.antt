@@ -9,6 +9,8 @@ use Rattle.ea_model.specs.declared.trace.Trace.{Trace}
 use Rattle.ea_model.specs.declared.units.TheConstants.{NUMBERS}
 use Rattle.ea_model.specs.Content.{Content}
 use Rattle.ea_machine.specs.declared.nodes.Named.{Named}
+use Rattle.ea_machine.specs.Machine.{run}
+use Rattle.ea_machine.specs.Setup.{setup_of}
 use Rattle.ea_machine.specs.State.{State}
 use Rattle.ea_outcome.specs.Resting.{StandIn}
 use Rattle.ea_sched.specs.declared.state.Scheduler.{Scheduler}
@@ -125,15 +127,17 @@ word-told w found slot p shown is at coded =
     at ∙ ap (λ v. place_by v slot) (ap word_in is ∙ word-back w shown) in
     told-by w slot (sym is ∙ coded ∙ ap place_code here) ∙ ap word_of (sym here)
 
--- the schedulers stand in the state in which the table was closed
+-- the schedulers stand as after the turns after which the table was closed
 pub stand-in : (c : Config) (t : Trace) (ss : List Scheduler) (ws : List ℕ) (xs : List Slot)
-    (w : State) → IsClosedIn c t ss ws xs w → (names : List Named)
+    (turns : List ℕ) → IsClosedIn c t ss ws xs turns → (names : List Named)
     → AreGiven c.schedulers t.greatest ws names
-    → StandIn c t ss (places_in c.schedulers t.greatest ws xs) names w
-stand-in c t ss ws xs w closed names are = record {
-  reached = closed.reached;
-  actors = closed.actors;
-  told = λ on number.
-      places-read c.schedulers t.greatest ws xs w.shared.places closed.places number;
-  given = are w.shared.given closed.given;
-}
+    → StandIn c t ss (places_in c.schedulers t.greatest ws xs) names turns
+stand-in c t ss ws xs turns closed names are =
+    let w = run (setup_of c t) turns in
+    record {
+      actors = closed.actors;
+      stops = closed.stops;
+      told = λ on number.
+          places-read c.schedulers t.greatest ws xs w.shared.places closed.places number;
+      given = are w.shared.given closed.given;
+    }

@@ -1,5 +1,6 @@
 -- The state in which the table was closed, and its schedulers.
-use Rattle.std.proofs.Common.{◌≡◌, ◌≢◌, ℕ, suc, ◌+◌, ◌<◌, List, [], ◌∷◌, ◌++◌, map, Some}
+use Rattle.std.proofs.Common.{◌≡◌, ◌≢◌, ℕ, suc, ◌+◌, ◌-◌, ◌<◌, ◌≤◌, List, [], ◌∷◌, ◌++◌, map, Some}
+use Rattle.std.proofs.Common.{Bool, true, false, Option, None}
 use Rattle.std.proofs.Common.{length, get_or, refl, sym, ap, ◌∙◌, subst, arith}
 use Rattle.std.specs.Prelude.{All}
 use mathlib.Core.Option.{some}
@@ -8,6 +9,7 @@ use lib.ListN.{get_elem?}
 use Rattle.std.specs.List.{range_with_len}
 use Rattle.std.proofs.Math.ListN.{get_or-map}
 use Rattle.std.proofs.lemmas.List.{length-map, map-append, map_push}
+use Rattle.std.proofs.lemmas.Simd.{map-map}
 use Rattle.std.proofs.lemmas.List.Elements.{All-head, All-push, All-tail}
 use Rattle.atomic_table.specs.Seated.{TableId}
 use Rattle.atomic_table.specs.Table.{Final, Seen}
@@ -18,26 +20,30 @@ use Rattle.ea_model.specs.Content.{Content}
 use Rattle.ea_model.specs.Settings.{IsValidConfig}
 use Rattle.ea_model.specs.Trace.{IsValidTrace}
 use Rattle.ea_model.proofs.Rising.{item_at-All}
-use Rattle.ea_machine.specs.Courses.{AreSteps}
+use Rattle.ea_machine.specs.Actor.{Actor}
+use Rattle.ea_machine.specs.Courses.{AreSteps, AreWithin}
 use Rattle.ea_machine.specs.Machine.{run}
 use Rattle.ea_machine.specs.Nodes.{block_node, name_of}
 use Rattle.ea_machine.specs.Outcome.{actors_of}
 use Rattle.ea_machine.specs.Owners.{CarrierAt, Absent, Employed, Pooled, Busy, Returning}
-use Rattle.ea_machine.specs.Setup.{Setup, setup_of}
+use Rattle.ea_machine.specs.Setup.{Setup, is_scheduler, setup_of}
 use Rattle.ea_machine.specs.State.{State}
-use Rattle.ea_sched.specs.Acting.{actor_of}
+use Rattle.ea_machine.specs.Stops.{count_of, left_after, less, stop_at, stop_of}
+use Rattle.ea_sched.specs.Acting.{actor_of, stop_line}
 use Rattle.ea_sched.specs.declared.state.Scheduler.{Scheduler}
 use Rattle.ea_shared.specs.Carriers.{home_of}
 use Rattle.ea_sound.proofs.Asked.{named-spot}
 use Rattle.ea_sound.proofs.CarrierCalls.{there-number}
 use Rattle.ea_sound.proofs.Calls as calls
+use Rattle.ea_sound.proofs.Completing.{outside}
 use Rattle.ea_sound.proofs.OtherTurns.{actor-since}
 use Rattle.ea_sound.proofs.Protocols.{rule-run}
+use Rattle.ea_sound.proofs.Stopping.{count-append, count-cons, count-no, count-one}
 use Rattle.ea_table.specs.declared.views.About.{About}
 use Rattle.ea_table.specs.declared.views.Seated.{Seated}
 use Rattle.ea_table.specs.declared.views.View.{View}
 use Rattle.ea_table.specs.declared.worker.Finished.{Finished}
-use Rattle.ea_table.specs.Ending.{Gives, HasPlaces, IsClosedIn, IsLast}
+use Rattle.ea_table.specs.Ending.{Counts, Gives, HasPlaces, IsClosedIn, IsLast}
 use Rattle.ea_table.specs.Ruling.{Keeps, Knows, Sits, acting, holds}
 use Rattle.ea_table.specs.Slots.{IsSlot, Slot, slot_at}
 use Rattle.ea_table.specs.Words.{IsFit}
@@ -133,6 +139,22 @@ closes about j v ws xs final =
           (has-places c t final.0 h xs final.4);
     }
 
+-- what is left is what isn't taken
+counts-left : (stop : Option ℕ) (taken : ℕ) (left : Option ℕ) → Counts stop taken left
+    → left ≡ less stop taken
+counts-left None taken None counts = refl
+counts-left None taken (Some left) counts = absurd counts
+counts-left (Some steps) taken None counts = absurd counts
+counts-left (Some steps) taken (Some left) counts = ap Some (omega (arith, counts))
+
+-- who has a turn after others had steps left after these
+never : (stop : Option ℕ) (all before : ℕ) (left : Option ℕ) → Counts stop all left → before < all
+    → less stop before ≡ Some 0 → ⊥
+never None all before left counts more over = absurd cc
+never (Some steps) all before None counts more over = counts
+never (Some steps) all before (Some left) counts more over =
+    let none : steps - before ≡ 0 = cc in omega (arith, counts, more, none)
+
 module _ (c : Config) (t : Trace) (valid : IsValidConfig c) (made : IsValidTrace c.schedulers t)
     (id : TableId) (front : List Finished) (last : Finished)
     (all : length (front ++ last ∷ []) ≡ c.schedulers)
@@ -164,13 +186,22 @@ module _ (c : Config) (t : Trace) (valid : IsValidConfig c) (made : IsValidTrace
         (All-tail P (seat_of last) (map seat_of front) both)
         (All-head P (seat_of last) (map seat_of front) both))
 
+    -- what its seat knows of a scheduler
+    sat : (k : ℕ) (d : Finished) → k < length (front ++ last ∷ [])
+        → P (seat_of (get_or (front ++ last ∷ []) k d))
+    sat k d less = subst P (get_or-map seat_of (front ++ last ∷ []) k d) (sits k (seat_of d)
+        (omega (arith, less, length-map (front ++ last ∷ []) seat_of)))
+
+    is-last : (k : ℕ) (d : Finished) → k < length (front ++ last ∷ [])
+        → IsLast c t id (k + 1) (get_or (front ++ last ∷ []) k d)
+    is-last k d less = each k d (omega (arith, less, all))
+
     stands : (k : ℕ) (d : Finished) → k < length (front ++ last ∷ [])
         → actor_of (get_or (front ++ last ∷ []) k d).scheduler ≡ (run e turns).actors (1 + k)
     stands k d less =
         let f = get_or (front ++ last ∷ []) k d in
-        let x = each k d (omega (arith, less, all)) in
-        let y = subst P (get_or-map seat_of (front ++ last ∷ []) k d) (sits k (seat_of d)
-        (omega (arith, less, length-map (front ++ last ∷ []) seat_of))) in
+        let x = is-last k d less in
+        let y = sat k d less in
         sym x.actor
         ∙ ap (λ (z : Config). (run (setup_of z f.pass.seat.me.0.trace) (seat_of f).turns).actors
         (seat_of f).number) x.config
@@ -181,33 +212,124 @@ module _ (c : Config) (t : Trace) (valid : IsValidConfig c) (made : IsValidTrace
         ∙ ap (λ i. (run e turns).actors i)
         (x.number ∙ (let q : k + 1 ≡ 1 + k = omega arith in q))
 
+    -- it has taken as many steps as its seat has seen
+    all-seen : (k : ℕ) (d : Finished) → k < length (front ++ last ∷ [])
+        → (let f = get_or (front ++ last ∷ []) k d in
+        count_of (seat_of f).number (seat_of f).turns ≡ count_of (k + 1) turns)
+    all-seen k d less =
+        let f = get_or (front ++ last ∷ []) k d in
+        let x = is-last k d less in
+        let y = sat k d less in
+        let i = (seat_of f).number in
+        let parts : count_of i turns ≡ count_of i (seat_of f).turns =
+        omega (
+          arith,
+          ap (count_of i) y.front,
+          count-append i (seat_of f).turns y.since,
+          count-no i y.since y.others,
+        ) in
+        sym parts ∙ ap (λ j. count_of j turns) x.number
+
+    counts : (k : ℕ) (d : Finished) → k < length (front ++ last ∷ [])
+        → Counts (e.stops (k + 1)) (count_of (k + 1) turns)
+        (get_or (front ++ last ∷ []) k d).scheduler.left
+    counts k d less =
+        let s = (get_or (front ++ last ∷ []) k d).scheduler in
+        let x = is-last k d less in
+        subst (λ o. Counts o (count_of (k + 1) turns) s.left) x.stop
+        (subst (λ n. Counts s.stop n s.left) (all-seen k d less) x.counted)
+
+    pub left-is : (k : ℕ) (d : Finished) → k < length (front ++ last ∷ [])
+        → (get_or (front ++ last ∷ []) k d).scheduler.left ≡ left_after e turns (k + 1)
+    left-is k d less = counts-left (e.stops (k + 1)) (count_of (k + 1) turns)
+        (get_or (front ++ last ∷ []) k d).scheduler.left (counts k d less)
+
+    stop-is : (k : ℕ) (d : Finished) → k < length (front ++ last ∷ [])
+        → stop_line (get_or (front ++ last ∷ []) k d).scheduler
+        ≡ stop_of e (run e turns) turns (1 + k)
+    stop-is k d less =
+        let s = (get_or (front ++ last ∷ []) k d).scheduler in
+        let x = is-last k d less in
+        let here : k + 1 ≡ 1 + k = omega arith in
+        ap (λ o. stop_at s.stage o s.left) x.stop
+        ∙ ap (stop_at s.stage (e.stops (k + 1))) (left-is k d less)
+        ∙ ap (λ st. stop_at st (e.stops (k + 1)) (left_after e turns (k + 1)))
+        (ap (λ (a : Actor). a.stage) (stands k d less))
+        ∙ ap (λ i. stop_at ((run e turns).actors (1 + k)).stage (e.stops i) (left_after e turns i))
+        here
+
+    -- none stepped after its stop
+    pub are-within : AreSteps e turns → AreWithin e turns
+    are-within steps before later me q over =
+        by (is_scheduler e me) refl
+      where
+        by : (b : Bool) → is_scheduler e me ≡ b → ⊥
+        by false o = steps before later me q (outside e me o before)
+        by true o =
+            let k = me - 1 in
+            let from : 1 ≤ me = grind (arith, o) in
+            let to : me ≤ e.schedulers = grind (arith, o) in
+            let here : k + 1 ≡ me = omega (arith, from) in
+            let d : Finished = last in
+            never (e.stops me) (count_of me turns) (count_of me before)
+            (get_or (front ++ last ∷ []) k d).scheduler.left
+            (subst (λ i. Counts (e.stops i) (count_of i turns)
+            (get_or (front ++ last ∷ []) k d).scheduler.left) here
+            (counts k d (omega (arith, from, to, all))))
+            (omega (
+              arith,
+              ap (count_of me) q,
+              count-append me before (me ∷ later),
+              count-cons me me later,
+              count-one me me refl,
+            )) over
+
+    -- what is so for each scheduler is so for the run
+    of-all : {A : Type 0} (f : Finished → A) (h : ℕ → A)
+        → ((k : ℕ) (d : Finished) → k < length (front ++ last ∷ [])
+        → f (get_or (front ++ last ∷ []) k d) ≡ h (1 + k))
+        → map f (front ++ last ∷ []) ≡ map h (range_with_len 1 c.schedulers)
+    of-all f h same = ranged f h 1 (front ++ last ∷ []) same
+        ∙ ap (λ n. map h (range_with_len 1 n)) all
+
     pub actors-are : map (λ (f : Finished). actor_of f.scheduler) (front ++ last ∷ [])
         ≡ actors_of e (run e turns)
-    actors-are = ranged (λ (f : Finished). actor_of f.scheduler) (λ i. (run e turns).actors i) 1
-        (front ++ last ∷ []) stands
-        ∙ ap (λ n. map (λ i. (run e turns).actors i) (range_with_len 1 n)) all
+    actors-are = of-all (λ f. actor_of f.scheduler) (λ i. (run e turns).actors i) stands
 
-  -- the table was closed in a state of the run, in which the schedulers stand so
+    pub stops-are : map (λ (f : Finished). stop_line f.scheduler) (front ++ last ∷ [])
+        ≡ map (stop_of e (run e turns) turns) (range_with_len 1 c.schedulers)
+    stops-are = of-all (λ f. stop_line f.scheduler) (stop_of e (run e turns) turns) stop-is
+
+  -- the table was closed after turns of the run, after which the schedulers stand so
   closed-in : (about : About) → about.config ≡ c → about.trace.now ≡ t → (j : ℕ) (v : View)
       → v ≡ record (last.pass.seat.me.0) {
         seated = last.pass.seat.me.0.seated ++ map seat_of front;
       }
       → (ws : List ℕ) (xs : List Slot) → Final (Seen (holds about) j v) ws xs
-      → (ss : List Scheduler)
-      → map (λ s. actor_of s) ss ≡ map (λ (f : Finished). actor_of f.scheduler) (front ++ last ∷ [])
-      → (turns : List ℕ) × AreSteps e turns × IsClosedIn c t ss ws xs (run e turns)
+      → (ss : List Scheduler) → ss ≡ map (λ (f : Finished). f.scheduler) (front ++ last ∷ [])
+      → (turns : List ℕ) × AreSteps e turns × AreWithin e turns × IsClosedIn c t ss ws xs turns
+      × (map (λ (f : Finished). actor_of f.scheduler) (front ++ last ∷ [])
+      ≡ actors_of e (run e turns))
+      × ((k : ℕ) (d : Finished) → k < length (front ++ last ∷ [])
+      → (get_or (front ++ last ∷ []) k d).scheduler.left ≡ left_after e turns (k + 1))
   closed-in about p q j v is ws xs final ss same =
       let closed = moved about.config c about.trace.now t p q (Closes j v ws xs)
-      (closes about j v ws xs final) in (
-        closed.ran,
+      (closes about j v ws xs final) in
+      let turns = closed.ran in
+      let actors = actors-are turns closed.seat_of closed.claim_of j v is closed.knows.seated in
+      let theirs = (λ (f : Finished). f.scheduler) in (
+        turns,
         closed.steps,
+        are-within turns closed.seat_of closed.claim_of j v is closed.knows.seated closed.steps,
         record {
-          reached = (closed.ran, refl);
-          actors = same
-              ∙ actors-are closed.ran closed.seat_of closed.claim_of j v is closed.knows.seated;
+          actors = ap (map actor_of) same ∙ map-map actor_of theirs (front ++ last ∷ []) ∙ actors;
+          stops = ap (map stop_line) same ∙ map-map stop_line theirs (front ++ last ∷ [])
+              ∙ stops-are turns closed.seat_of closed.claim_of j v is closed.knows.seated;
           given = closed.given;
           places = closed.places;
         },
+        actors,
+        left-is turns closed.seat_of closed.claim_of j v is closed.knows.seated,
       )
 
 -- the same of finished schedulers of which the last one's seat took in the others
@@ -221,23 +343,26 @@ pub gathered : (c : Config) (t : Trace) → IsValidConfig c → IsValidTrace c.s
     }
     → (ws : List ℕ) (xs : List Slot) → Final (Seen (holds about) j v) ws xs
     → (taken ss : List Scheduler) → ss ≡ taken ++ last.scheduler ∷ []
-    → map (λ s. actor_of s) taken ≡ map (λ (f : Finished). actor_of f.scheduler) front
-    → (turns : List ℕ) × AreSteps (setup_of c t) turns
-    × IsClosedIn c t ss ws xs (run (setup_of c t) turns)
+    → taken ≡ map (λ (f : Finished). f.scheduler) front
+    → (turns : List ℕ) × AreSteps (setup_of c t) turns × AreWithin (setup_of c t) turns
+    × IsClosedIn c t ss ws xs turns
     × (map (λ (f : Finished). actor_of f.scheduler) finished
     ≡ actors_of (setup_of c t) (run (setup_of c t) turns))
+    × ((k : ℕ) (d : Finished) → k < length finished
+    → (get_or finished k d).scheduler.left ≡ left_after (setup_of c t) turns (k + 1))
 gathered c t valid made about p q id finished all each front last items j v is ws xs final taken ss
     pushed same =
-    let same' = ap (map (λ s. actor_of s)) pushed
-    ∙ map-append (λ s. actor_of s) taken (last.scheduler ∷ [])
-    ∙ ap (λ xs. xs ++ actor_of last.scheduler ∷ []) same
-    ∙ sym (map-append (λ (f : Finished). actor_of f.scheduler) front (last ∷ [])) in
-    let (turns, steps, closed) = closed-in c t valid made id front last
+    let same' = pushed ∙ ap (λ xs. xs ++ last.scheduler ∷ []) same
+    ∙ sym (map-append (λ (f : Finished). f.scheduler) front (last ∷ [])) in
+    let (turns, steps, within, closed, actors, left) = closed-in c t valid made id front last
     (ap length (sym items) ∙ all)
     (λ k d less. subst (λ xs. IsLast c t id (k + 1) (get_or xs k d)) items (each k d less))
     about p q j v is ws xs final ss same' in (
       turns,
       steps,
+      within,
       closed,
-      ap (map (λ (f : Finished). actor_of f.scheduler)) items ∙ sym same' ∙ closed.actors,
+      ap (map (λ (f : Finished). actor_of f.scheduler)) items ∙ actors,
+      subst (λ (fs : List Finished). (k : ℕ) (d : Finished) → k < length fs
+          → (get_or fs k d).scheduler.left ≡ left_after (setup_of c t) turns (k + 1)) (sym items) left,
     )

@@ -1,5 +1,6 @@
 -- Schedulers that run beside each other.
-use Rattle.std.proofs.Common.{◌≡◌, inl, inr, ℕ, ◌+◌, ◌-◌, ◌<◌, false}
+use Rattle.std.proofs.Common.{◌≡◌, ◌⊎◌, inl, inr, ℕ, ◌+◌, ◌-◌, ◌<◌, true, false, Bor, Option}
+use Rattle.std.specs.Prelude.{◌||◌, ◌==◌}
 use Rattle.std.proofs.Common.{IsFalse, List, [], ◌∷◌, ◌++◌, length, map, get_or}
 use Rattle.std.proofs.Common.{Some, None, refl, sym, ap, ◌∙◌, subst, arith}
 use Rattle.std.proofs.Math.ListN.{get_or-map}
@@ -17,19 +18,27 @@ use Rattle.ea_model.specs.declared.trace.Mode.TheVariants.{Threads, Schedule, Ge
 use Rattle.ea_model.specs.declared.trace.Trace.{Trace}
 use Rattle.ea_model.specs.Lists.{Items}
 use Rattle.ea_model.specs.Settings.{IsValidConfig}
-use Rattle.ea_model.specs.Trace.{HasTexts, IsValidTrace, texts_of}
+use Rattle.ea_model.specs.Content.{Content}
+use Rattle.ea_model.specs.Trace.{HasTexts, IsValidTrace, stop_in, texts_of}
+use Rattle.ea_machine.specs.declared.stages.Stage.{Stage}
+use Rattle.ea_machine.specs.declared.stages.Stage.TheVariants.{Begin, Routed, Collecting, Searching}
+use Rattle.ea_machine.specs.declared.stages.Stage.TheVariants.{Fetching, Creating, Giving, Taking}
 use Rattle.ea_machine.specs.declared.stages.Stage.TheVariants.{Ended}
+use Rattle.ea_machine.specs.declared.stages.Stage.TheVariants as stage
+use Rattle.ea_machine.specs.Courses.{Rests}
+use Rattle.ea_machine.specs.Stops.{left_after}
 use Rattle.ea_machine.specs.Actor.{Actor}
 use Rattle.ea_machine.specs.Machine.{first_actor, run, start}
 use Rattle.ea_machine.specs.Setup.{setup_of}
-use Rattle.ea_sched.specs.Acting.{actor_of, setup_for}
+use Rattle.ea_shared.specs.Calls.{caller_of}
+use Rattle.ea_sched.specs.Acting.{actor_of, is_ended, is_over, rests, setup_for}
 use Rattle.ea_sched.specs.declared.state.Scheduler.{Scheduler}
 use Rattle.ea_table.specs.declared.pass.Pass.{Pass}
 use Rattle.ea_sched.specs.Steps.{IsReady, Ready}
 use Rattle.ea_table.specs.declared.views.View.{View}
 use Rattle.ea_table.specs.declared.worker.Finished.{Finished}
 use Rattle.ea_table.specs.declared.worker.Worker.{Worker}
-use Rattle.ea_table.specs.Ending.{IsEnd}
+use Rattle.ea_table.specs.Ending.{Counts, IsCounted, IsEnd}
 use Rattle.ea_table.specs.Ruling.{acting, actor_in, caller_in}
 use Rattle.ea_table.specs.Threads.{HasEnded, IsDealt, IsFirst, IsFresh, IsOfRun}
 use Rattle.ea_table.proofs.Rows.{moved}
@@ -60,7 +69,9 @@ module _ (c : Config) (t : Trace) (id : TableId) (i : ℕ) where
         reached = ([], refl);
         actor = sym s.actor;
         shares = tt;
-        calls = ap caller_in is.pass.view;
+        calls = ap caller_in is.pass.view
+            ∙ ap (caller_of (setup_of c t) i (start (setup_of c t)))
+            (sym (ap (λ (u : View). (caller_in u).taken) is.pass.view));
         told = inr refl;
       } in
       subst (λ (z : Config × (Trace × ℕ)). Ready z.0 z.1.0 z.1.1 a None (Some (caller_in v)))
@@ -73,28 +84,46 @@ module _ (c : Config) (t : Trace) (id : TableId) (i : ℕ) where
       → f.pass.seat.me.0.trace ≡ w.pass.seat.me.0.trace
       → (IsFalse f.memory → (acting f.pass.seat.me.0).number ≡ f.scheduler.number)
       → (IsFalse f.memory → actor_in f.pass.seat.me.0 ≡ actor_of f.scheduler)
-      → (IsFalse f.memory → (actor_of f.scheduler).stage ≡ Ended)
+      → f.scheduler.trace ≡ w.scheduler.trace
+      → (IsFalse f.memory → IsCounted f.pass.seat.me.0 f.scheduler)
+      → (IsFalse f.memory → rests f.scheduler ≡ true)
       → HasEnded c t id i f
-  worker-ended w is f seated number config trace named actor ended = record {
+  worker-ended w is f seated number config trace named actor theirs counted rest = record {
     last = λ none. record {
       seated = seated;
       config = config ∙ ap (λ (v : View). v.config) is.pass.view;
       trace = trace ∙ ap (λ (v : View). v.trace) is.pass.view;
       number = named none ∙ number ∙ is.scheduler.number;
       actor = actor none;
+      stop = f.scheduler.stop_is
+          ∙ ap (λ (r : Bor Trace). stop_in r.now.stops.items f.scheduler.number) theirs
+          ∙ ap (λ (x : Trace). stop_in x.stops.items f.scheduler.number) is.scheduler.trace
+          ∙ ap (stop_in t.stops.items) (number ∙ is.scheduler.number);
+      counted = counted none;
     };
-    ended = ended;
+    rest = rest;
   }
 
+  -- before its first step it has taken none
+  pub first-counted : (w : Worker) → IsFresh c t id i w → IsCounted w.pass.seat.me.0 w.scheduler
+  first-counted w is = subst (λ (v : View). IsCounted v w.scheduler) (sym is.pass.view)
+      (subst (Counts w.scheduler.stop 0) (sym is.scheduler.left) (none w.scheduler.stop))
+    where
+      none : (o : Option ℕ) → Counts o 0 o
+      none None = tt
+      none (Some steps) = omega arith
+
 pub first-is : (c : Config) (t : Trace) (i : ℕ) (s : Scheduler) → s.config ≡ c → s.trace.now ≡ t
-    → s.number ≡ i → s.failed ≡ false → actor_of s ≡ first_actor (setup_for s) i → IsFirst c t i s
-first-is c t i s config trace number going actor = record {
+    → s.number ≡ i → s.failed ≡ false → s.left ≡ s.stop
+    → actor_of s ≡ first_actor (setup_for s) i → IsFirst c t i s
+first-is c t i s config trace number going left actor = record {
   config = config;
   trace = trace;
   number = number;
   going = going;
   actor = actor
       ∙ ap (λ (z : Config × Trace). first_actor (setup_of z.0 z.1) i) (λ k. (config k, trace k));
+  left = left;
 }
 
 pub dealt-at : (c : Config) (t : Trace) (id : TableId) (ws : List Worker) (ps : List Pass)
@@ -132,31 +161,61 @@ pub there : {A : Type 0} (Is : Config → Trace → ℕ → A → Type 0) (c : C
 there {A} Is c t c' t' p q xs = moved c c' t t' p q
     (λ c t. (k : ℕ) (d : A) → k < c.schedulers → Is c t (k + 1) (get_or xs k d))
 
--- the schedulers of a reached state have ended there
-stands-ended : {A : Type 0} (f : A → Actor) (h : ℕ → Actor) (xs : List A)
-    → map f xs ≡ map h (range_with_len 1 (length xs))
-    → ((k : ℕ) (d : A) → k < length xs → (f (get_or xs k d)).stage ≡ Ended)
-    → (j : ℕ) → j < length xs → (h (1 + j)).stage ≡ Ended
-stands-ended f h [] same ended j less = absurd (omega (arith, less))
-stands-ended f h (x ∷ xs) same ended j less =
-    ap (λ (a : Actor). a.stage)
-    (sym (get_or-map-range_with_len h 1 (length (x ∷ xs)) j (1 + j) (f x) less refl)
-    ∙ sym (ap (λ ys. get_or ys j (f x)) same) ∙ get_or-map f (x ∷ xs) j x) ∙ ended j x less
+over-is : (o : Option ℕ) → is_over o ≡ true → o ≡ Some 0
+over-is None is = absurd cc
+over-is (Some n) is = ap Some (grind (arith, is))
+
+-- by what is left of each scheduler's steps
+ended-or_stopped : (st : Stage Content) (left : Option ℕ) → (is_ended st || is_over left) ≡ true
+    → (st ≡ Ended) ⊎ (left ≡ Some 0)
+ended-or_stopped Ended left rest = inl refl
+ended-or_stopped Begin left rest = inr (over-is left rest)
+ended-or_stopped (Routed route why gone) left rest = inr (over-is left rest)
+ended-or_stopped (Collecting number) left rest = inr (over-is left rest)
+ended-or_stopped (Searching ask at looked) left rest = inr (over-is left rest)
+ended-or_stopped (Fetching ask at looked seen) left rest = inr (over-is left rest)
+ended-or_stopped (Creating ask p) left rest = inr (over-is left rest)
+ended-or_stopped (Giving given to) left rest = inr (over-is left rest)
+ended-or_stopped (Taking name tries more) left rest = inr (over-is left rest)
+ended-or_stopped stage.Ready left rest = inr (over-is left rest)
+
+-- the schedulers of a run are so after its turns
+stands-so : {A B : Type 0} (f : A → B) (h : ℕ → B) (xs : List A)
+    → map f xs ≡ map h (range_with_len 1 (length xs)) → (j : ℕ) (d : A) → j < length xs
+    → h (1 + j) ≡ f (get_or xs j d)
+stands-so f h xs same j d less =
+    sym (get_or-map-range_with_len h 1 (length xs) j (1 + j) (f d) less refl)
+    ∙ sym (ap (λ ys. get_or ys j (f d)) same) ∙ get_or-map f xs j d
 
 pub of-run : (c : Config) (t : Trace) (fs : List Finished) → length fs ≡ c.schedulers
-    → ((k : ℕ) (d : Finished) → k < c.schedulers
-    → (actor_of (get_or fs k d).scheduler).stage ≡ Ended)
+    → ((k : ℕ) (d : Finished) → k < c.schedulers → rests (get_or fs k d).scheduler ≡ true)
     → (o : Outcome) → IsEnd c t fs o → IsOfRun c t o
-of-run c t fs all ended o is =
-    let actors = (run (setup_of c t) is.turns).actors in
+of-run c t fs all rest o is =
+    let e = setup_of c t in
+    let actors = (run e is.turns).actors in
+    let same = is.actors ∙ ap (λ n. map actors (range_with_len 1 n)) (sym all) in
     record {
       turns = is.turns;
       steps = is.steps;
-      ended = λ i from to. ap (λ k. (actors k).stage)
-          (let e : i ≡ 1 + (i - 1) = omega (arith, from) in e)
-          ∙ stands-ended (λ (f : Finished). actor_of f.scheduler) actors fs
-          (is.actors ∙ ap (λ n. map actors (range_with_len 1 n)) (sym all))
-          (λ k d less. ended k d (omega (arith, less, all))) (i - 1)
-          (omega (arith, from, to, all));
+      within = is.within;
+      rest = λ i from to. by i (i - 1) (omega (arith, from)) (omega (arith, from, to, all)) fs refl same;
       printed = is.printed;
-    }
+    } where
+      by : (i k : ℕ) → 1 + k ≡ i → k < length fs → (xs : List Finished) → fs ≡ xs
+          → map (λ (f : Finished). actor_of f.scheduler) fs
+          ≡ map (run (setup_of c t) is.turns).actors (range_with_len 1 (length fs))
+          → Rests (setup_of c t) is.turns i
+      by i k at below [] none same = absurd (omega (arith, below, ap length none))
+      by i k at below (d ∷ xs) some same =
+          let e = setup_of c t in
+          let s = (get_or fs k d).scheduler in
+          let here : k + 1 ≡ i = omega (arith, at) in
+          let there = ap (λ (a : Actor). a.stage)
+          (ap (run e is.turns).actors (sym at)
+          ∙ stands-so (λ (f : Finished). actor_of f.scheduler) (run e is.turns).actors fs same k d
+          below) in
+          elim (ended-or_stopped s.stage s.left (rest k d (omega (arith, below, all)))) [
+            | inl ended ↦ inl (there ∙ ended)
+            | inr over ↦ inr (ap (left_after e is.turns) (sym here)
+                ∙ sym (is.left k d below) ∙ over)
+          ]

@@ -1,5 +1,7 @@
 -- A step leaves a worker less of its own work.
-use Rattle.std.proofs.Common.{◌≡◌, ◌≢◌, ℕ, ◌<◌, Bor, Some, None, refl, sym, ap, subst, arith}
+use Rattle.std.proofs.Common.{◌≡◌, ◌≢◌, ℕ, ◌+◌, ◌<◌, Bor, Bool, Option, Some, None, refl, sym, ap, subst, arith}
+use Rattle.std.proofs.Common.{zero, suc, true, false, ◌∙◌}
+use Rattle.std.specs.Prelude.{◌||◌}
 use Rattle.ea_model.specs.declared.settings.Config.{Config}
 use Rattle.ea_model.specs.declared.trace.Trace.{Trace}
 use Rattle.ea_model.proofs.Options.{same-some}
@@ -12,8 +14,13 @@ use Rattle.ea_shared.specs.Calls.{Caller, caller_of}
 use Rattle.ea_sound.specs.OwnWork.{own_work}
 use Rattle.ea_sound.proofs.OwnWork.{own-less}
 use Rattle.ea_sched.specs.declared.state.Scheduler.{Scheduler}
-use Rattle.ea_sched.specs.Acting.{actor_of}
+use Rattle.ea_sched.specs.Acting.{actor_of, is_ended, is_over, rests}
 use Rattle.ea_sched.specs.Steps.{IsReady, Ready, Stepped}
+use Rattle.ea_machine.specs.Stops.{less}
+use Rattle.ea_model.specs.Trace.{stop_in}
+use Rattle.ea_table.specs.declared.views.View.{View}
+use Rattle.ea_table.specs.Ending.{Counts, IsCounted}
+use Rattle.ea_table.specs.Ruling.{caller_in}
 
 stepped-less : (c : Config) (t : Trace) (me : ℕ) (a b : Actor) (x y : Caller)
     → Ready c t me a None (Some x) → a.stage ≢ Ended
@@ -23,7 +30,7 @@ stepped-less c t me a b x y h goes took =
     let w : State = took.state in
     let v : State = step (setup_of c t) w me in
     let goes' = subst (λ (d : Actor). d.stage ≢ Ended) (sym took.actor) goes in
-    let now = same-some (Some y) y (caller_of (setup_of c t) me v) refl took.calls.1 in
+    let now = same-some (Some y) y (caller_of (setup_of c t) me v (x.taken + 1)) refl took.calls.1 in
     let less = own-less c t h.config h.trace w took.reached me goes' in
     omega (
       arith,
@@ -46,3 +53,37 @@ step-less s t x y config trace h goes took = omega (
   ap (λ c. own_work c t.trace.now (actor_of t) y.rest) config,
   ap (λ (r : Bor Trace). own_work s.config r.now (actor_of t) y.rest) trace,
 )
+
+-- it has taken one step more, and one less is left until its stop
+one-less : (stop left : Option ℕ) (taken : ℕ) → Counts stop taken left → left ≢ Some 0
+    → Counts stop (taken + 1) (less left 1)
+one-less None None taken counts some = tt
+one-less None (Some left) taken counts some = absurd counts
+one-less (Some steps) None taken counts some = absurd counts
+one-less (Some steps) (Some zero) taken counts some = absurd (some refl)
+one-less (Some steps) (Some (suc left)) taken counts some = omega (arith, counts)
+
+-- some are left, if it goes on
+some-left : (s : Scheduler) → rests s ≡ false → s.left ≢ Some 0
+some-left s goes = λ over. both (is_ended s.stage) (is_over s.left) goes (ap is_over over) where
+  both : (a b : Bool) → (a || b) ≡ false → b ≡ true → ⊥
+  both true b goes is = absurd cc
+  both false b goes is = let no : true ≡ false = sym is ∙ goes in cc
+
+pub step-counted : (s t : Scheduler) (v u : View) → t.config ≡ s.config → t.trace ≡ s.trace
+    → t.number ≡ s.number → rests s ≡ false → t.left ≡ less s.left 1
+    → Stepped s.config s.trace.now s.number (actor_of s) (actor_of t) None None
+    (Some (caller_in v)) (Some (caller_in u))
+    → IsCounted v s → IsCounted u t
+step-counted s t v u config trace number goes left took counted =
+    let e = setup_of s.config s.trace.now in
+    let now = same-some (Some (caller_in u)) (caller_in u)
+    (caller_of e s.number (step e took.state s.number) ((caller_in v).taken + 1)) refl took.calls.1 in
+    let taken : (caller_in u).taken ≡ (caller_in v).taken + 1 = ap (λ (x : Caller). x.taken) now in
+    let stop : t.stop ≡ s.stop = t.stop_is
+    ∙ ap (λ (r : Bor Trace). stop_in r.now.stops.items t.number) trace
+    ∙ ap (stop_in s.trace.now.stops.items) number ∙ sym s.stop_is in
+    subst (λ o. Counts o (caller_in u).taken t.left) (sym stop)
+    (subst (λ n. Counts s.stop n t.left) (sym taken)
+    (subst (Counts s.stop ((caller_in v).taken + 1)) (sym left)
+    (one-less s.stop s.left (caller_in v).taken counted (some-left s goes))))

@@ -1,5 +1,7 @@
 -- How a run ends.
-use Rattle.std.specs.Prelude.{◌≡◌, ℕ, ◌+◌, ◌*◌, ◌/◌, ◌%◌, ◌^◌, ◌≤◌, nat_le, ◌==◌}
+use Rattle.std.specs.Prelude.{◌≡◌, ℕ, ◌+◌, ◌*◌, ◌/◌, ◌%◌, ◌^◌, ◌<◌, ◌≤◌, nat_le, ◌==◌}
+use Rattle.std.specs.Prelude.{Option, get_or, length}
+use Rattle.std.specs.List.{range_with_len}
 use Rattle.std.specs.Prelude.{Bool, true, false, ◌&&◌, if◌then◌else◌, List, All, AllPairs, None}
 use Rattle.std.specs.Prelude.{Some, map, slice_index, slice_index_or}
 use mathlib.Core.Option.{some}
@@ -17,24 +19,29 @@ use Rattle.ea_machine.specs.declared.nodes.Named.{Named}
 use Rattle.ea_machine.specs.declared.nodes.Node.TheVariants.{Block}
 use Rattle.ea_machine.specs.declared.owners.OwnerWord.{OwnerWord}
 use Rattle.ea_machine.specs.declared.owners.OwnerWord.TheVariants as word
-use Rattle.ea_machine.specs.Courses.{AreSteps}
-use Rattle.ea_machine.specs.Machine.{IsReached, run}
+use Rattle.ea_machine.specs.Courses.{AreSteps, AreWithin}
+use Rattle.ea_machine.specs.Machine.{run}
 use Rattle.ea_machine.specs.Nodes.{spot_named, name_of}
 use Rattle.ea_machine.specs.Owners.{CarrierAt, Absent, Employed, Pooled, Busy, Returning, word_of}
 use Rattle.ea_machine.specs.Outcome as machine
 use Rattle.ea_machine.specs.Setup.{setup_of}
-use Rattle.ea_machine.specs.State.{State}
+use Rattle.ea_machine.specs.Stops.{count_of, left_after, stop_of}
 use Rattle.ea_sched.specs.declared.state.Scheduler.{Scheduler}
-use Rattle.ea_sched.specs.Acting.{actor_of}
+use Rattle.ea_sched.specs.Acting.{actor_of, stop_line}
 use Rattle.ea_shared.specs.Carriers.{IsCarrier, home_of}
 use Rattle.ea_word.specs.declared.owners.TheConstants.{BUSY_STATE, EMPLOYED_STATE, INSTANCE_SHIFT}
 use Rattle.ea_word.specs.declared.owners.TheConstants.{LARGEST_SHIFT, MAX_CODED_INSTANCE}
 use Rattle.ea_word.specs.declared.owners.TheConstants.{POOLED_STATE, RETURNING_STATE, STATES}
 use Rattle.ea_word.specs.Codes.{IsCodable, IsShown}
+use Rattle.ea_table.specs.declared.views.View.{View}
 use Rattle.ea_table.specs.declared.worker.Finished.{Finished}
 use Rattle.ea_table.specs.Ruling.{acting, actor_in}
 use Rattle.ea_table.specs.Slots.{Slot, slot_at}
 use Rattle.ea_table.specs.Words.{given_code, name_at, owner_at, place_code}
+
+-- turns, one number for each
+abbrev pub Turns : Type 0
+Turns = List ℕ
 
 -- the words of names are those of these given names
 pub record Gives (n g : ℕ) (ws : List ℕ) (given : List Named) : Type 0 where
@@ -95,13 +102,28 @@ module _ (n g : ℕ) (ws : List ℕ) (xs : List Slot) where
         → home_of (places number) ≡ Some x → get_elem? xs (slot_at number) ≡ some (Some x)
     pub beyond : (number : ℕ) → (IsCarrier n number → ⊥) → places number ≡ Absent
 
--- such a table was closed in that state of the run, in which its schedulers are these
+-- such a table was closed after these turns of the run, in which its schedulers are these, and so are
+-- their stops
 pub record IsClosedIn (c : Config) (t : Trace) (schedulers : List Scheduler) (ws : List ℕ)
-    (xs : List Slot) (w : State) : Type 0 where
-  pub reached : IsReached (setup_of c t) w
-  pub actors : map actor_of schedulers ≡ machine.actors_of (setup_of c t) w
-  pub given : Gives c.schedulers t.greatest ws w.shared.given
-  pub places : HasPlaces c.schedulers t.greatest ws xs w.shared.places
+    (xs : List Slot) (turns : List ℕ) : Type 0 where
+  pub actors : map actor_of schedulers
+      ≡ machine.actors_of (setup_of c t) (run (setup_of c t) turns)
+  pub stops : map stop_line schedulers
+      ≡ map (stop_of (setup_of c t) (run (setup_of c t) turns) turns)
+      (range_with_len 1 c.schedulers)
+  pub given : Gives c.schedulers t.greatest ws (run (setup_of c t) turns).shared.given
+  pub places : HasPlaces c.schedulers t.greatest ws xs (run (setup_of c t) turns).shared.places
+
+-- a scheduler with that stop has taken so many steps, and so many are left until it
+abbrev pub Counts : Option ℕ → ℕ → Option ℕ → Type 0
+Counts None taken None = Unit {0}
+Counts None taken (Some left) = ⊥
+Counts (Some steps) taken None = ⊥
+Counts (Some steps) taken (Some left) = taken + left ≡ steps
+
+-- the steps that are left to a scheduler are those that the seat hasn't seen
+abbrev pub IsCounted : View → Scheduler → Type 0
+IsCounted v s = Counts s.stop (count_of (acting v).number (acting v).turns) s.left
 
 -- scheduler i of the run with its pass of that table, which knows it as it stands
 pub record IsLast (c : Config) (t : Trace) (id : TableId) (i : ℕ) (f : Finished) : Type 0 where
@@ -110,13 +132,18 @@ pub record IsLast (c : Config) (t : Trace) (id : TableId) (i : ℕ) (f : Finishe
   pub trace : f.pass.seat.me.0.trace ≡ t
   pub number : (acting f.pass.seat.me.0).number ≡ i
   pub actor : actor_in f.pass.seat.me.0 ≡ actor_of f.scheduler
+  pub stop : f.scheduler.stop ≡ (setup_of c t).stops i
+  pub counted : IsCounted f.pass.seat.me.0 f.scheduler
 
--- what is printed is that of the state after some steps, in which the schedulers stand so
+-- what is printed is that of the run after some steps, of each scheduler up to its stop, in which the
+-- schedulers stand so
 pub record IsEnd (c : Config) (t : Trace) (finished : List Finished) (outcome : Outcome) : Type 0
   where
     pub turns : List ℕ
     pub steps : AreSteps (setup_of c t) turns
+    pub within : AreWithin (setup_of c t) turns
     pub actors : map (λ (f : Finished). actor_of f.scheduler) finished
         ≡ machine.actors_of (setup_of c t) (run (setup_of c t) turns)
-    pub printed : plain_outcome outcome
-        ≡ machine.outcome (setup_of c t) (run (setup_of c t) turns)
+    pub left : (k : ℕ) (d : Finished) → k < length finished
+        → (get_or finished k d).scheduler.left ≡ left_after (setup_of c t) turns (k + 1)
+    pub printed : plain_outcome outcome ≡ machine.outcome (setup_of c t) turns

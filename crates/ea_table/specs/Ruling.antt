@@ -33,6 +33,7 @@ use Rattle.ea_machine.specs.Rows.{Create, SendHome, Clear, Give, TakeTry, Nothin
 use Rattle.ea_machine.specs.Setup.{Setup, setup_of}
 use Rattle.ea_machine.specs.Shared.{Shared}
 use Rattle.ea_machine.specs.State.{State}
+use Rattle.ea_machine.specs.Stops.{count_of}
 use Rattle.ea_machine.specs.Table.{answer}
 use Rattle.ea_shared.specs.Calls.{Caller, caller_of}
 use Rattle.ea_sound.specs.Standing.{IsOlderAt}
@@ -131,6 +132,7 @@ actor_in v = (run (setup_in v) (acting v).turns).actors (acting v).number
 
 abbrev pub caller_in : View → Caller
 caller_in v = caller_of (setup_in v) (acting v).number (run (setup_in v) (acting v).turns)
+    (count_of (acting v).number (acting v).turns)
 
 -- the link word of a pushed node, by the word that was found at the head
 abbrev pub older_word : ℕ → ℕ
@@ -286,7 +288,13 @@ no_config = record {
 }
 
 abbrev pub no_trace : Trace
-no_trace = record { letter = H; texts = listed []; mode = Threads; greatest = 0 }
+no_trace = record {
+  letter = H;
+  texts = listed [];
+  stops = listed [];
+  mode = Threads;
+  greatest = 0;
+}
 
 abbrev pub spent_view : View
 spent_view = record { config = no_config; trace = no_trace; live = false; seated = [] }

@@ -1,17 +1,16 @@
 -- Schedulers that run beside each other.
-use Rattle.std.specs.Prelude.{◌≡◌, ℕ, List, false, IsFalse}
+use Rattle.std.specs.Prelude.{◌≡◌, ℕ, List, true, false, IsFalse}
 use Rattle.atomic_table.specs.Seated.{TableId}
 use Rattle.ea_model.specs.declared.outcome.Outcome.{Outcome}
 use Rattle.ea_model.specs.declared.settings.Config.{Config}
 use Rattle.ea_model.specs.declared.trace.Trace.{Trace}
 use Rattle.ea_model.specs.Outcome.{plain_outcome}
-use Rattle.ea_machine.specs.declared.stages.Stage.TheVariants.{Ended}
-use Rattle.ea_machine.specs.Courses.{AreSteps, HaveEnded}
-use Rattle.ea_machine.specs.Machine.{first_actor, run}
+use Rattle.ea_machine.specs.Courses.{AllRest, AreSteps, AreWithin}
+use Rattle.ea_machine.specs.Machine.{first_actor}
 use Rattle.ea_machine.specs.Outcome as machine
 use Rattle.ea_machine.specs.Setup.{setup_of}
 use Rattle.ea_sched.specs.declared.state.Scheduler.{Scheduler}
-use Rattle.ea_sched.specs.Acting.{actor_of}
+use Rattle.ea_sched.specs.Acting.{actor_of, rests}
 use Rattle.ea_table.specs.declared.pass.Pass.{Pass}
 use Rattle.ea_table.specs.declared.worker.Finished.{Finished}
 use Rattle.ea_table.specs.declared.worker.Worker.{Worker}
@@ -31,22 +30,23 @@ module _ (c : Config) (t : Trace) where
     pub number : s.number ≡ i
     pub going : s.failed ≡ false
     pub actor : actor_of s ≡ first_actor (setup_of c t) i
+    pub left : s.left ≡ s.stop
 
   -- scheduler i with its pass of that table, before its first step
   pub record IsFresh (id : TableId) (i : ℕ) (w : Worker) : Type 0 where
     pub scheduler : IsFirst i w.scheduler
     pub pass : IsDealt id i w.pass
 
-  -- scheduler i has ended, if it had memory
+  -- scheduler i has ended or is stopped, if it had memory
   pub record HasEnded (id : TableId) (i : ℕ) (f : Finished) : Type 0 where
     pub last : IsFalse f.memory → IsLast c t id i f
-    pub ended : IsFalse f.memory → (actor_of f.scheduler).stage ≡ Ended
+    pub rest : IsFalse f.memory → rests f.scheduler ≡ true
 
-  -- what is printed is that of the state after some steps, in whatever order of the schedulers, in
-  -- which all have ended
+  -- what is printed is that of the run after some steps, in whatever order of the schedulers, of each
+  -- up to its stop, after which all have ended or are stopped
   pub record IsOfRun (outcome : Outcome) : Type 0 where
     pub turns : List ℕ
     pub steps : AreSteps (setup_of c t) turns
-    pub ended : HaveEnded (setup_of c t) (run (setup_of c t) turns)
-    pub printed : plain_outcome outcome
-        ≡ machine.outcome (setup_of c t) (run (setup_of c t) turns)
+    pub within : AreWithin (setup_of c t) turns
+    pub rest : AllRest (setup_of c t) turns
+    pub printed : plain_outcome outcome ≡ machine.outcome (setup_of c t) turns

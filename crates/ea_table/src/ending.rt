@@ -9,13 +9,11 @@ ghost use Rattle.ea_model.specs.Trace.{IsValidTrace};
 ghost use Rattle.ea_machine.specs.Outcome as machine;
 ghost use Rattle.ea_machine.specs.Owners.{word_of};
 ghost use Rattle.ea_machine.specs.Setup.{setup_of};
-ghost use Rattle.ea_machine.specs.State.{State};
 ghost use Rattle.ea_shared.specs.Carriers.{IsCarrier};
-ghost use Rattle.ea_table.specs.Ending.{AreGiven, IsClosedIn, IsEnd, IsLast, places_in};
+ghost use Rattle.ea_table.specs.Ending.{AreGiven, IsClosedIn, IsEnd, IsLast, Turns, places_in};
 ghost use Rattle.ea_table.specs.Slots.{slot_at};
 ghost use Rattle.ea_table.specs.Words.{owner_at, place_code, words_in};
 ghost use Rattle.ea_word.specs.Codes.{IsShown};
-ghost use Rattle.ea_sched.specs.Acting.{actor_of};
 ghost use Rattle.ea_table.specs.Ruling.{acting};
 
 use crate::board::Board;
@@ -57,8 +55,8 @@ fn take_in<'t>(
       seated = seat.me.0.seated
           ++ map (λ f. acting f.pass.seat.me.0) others.entry.items;
     }) }
-    ensures schedulers { IfOk result (λ t. map (λ s. actor_of s) t.schedulers.items
-        ≡ map (λ f. actor_of f.scheduler) others.entry.items) }
+    ensures schedulers { IfOk result (λ t. t.schedulers.items
+        ≡ map (λ f. f.scheduler) others.entry.items) }
 {
     let mut schedulers = List::new(alloc);
     for other in others {
@@ -171,7 +169,7 @@ fn read_given(
     Ok(given)
 }
 
-/// What is printed of the state in which a table was closed, with these schedulers, in order.
+/// What is printed of the run after which a table was closed, with these schedulers, in order.
 fn outcome_of_closed(
     alloc: Global,
     config: Config,
@@ -185,11 +183,11 @@ fn outcome_of_closed(
     requires slots_full { IsFull closed.now.slots }
     requires words { slots_len closed.now.words ≡ words_in config.schedulers trace.now.greatest }
     requires slots { slots_len closed.now.slots ≡ NUMBERS * config.schedulers }
-    requires stand { (w : State) × IsClosedIn config trace.now schedulers.items
-        (slots_items closed.now.words) (slots_items closed.now.slots) w }
-    ensures { IfOk result (λ o. (w : State) → IsClosedIn config trace.now schedulers.entry.items
-        (slots_items closed.now.words) (slots_items closed.now.slots) w
-        → plain_outcome o ≡ machine.outcome (setup_of config trace.now) w) }
+    requires stand { (turns : Turns) × IsClosedIn config trace.now schedulers.items
+        (slots_items closed.now.words) (slots_items closed.now.slots) turns }
+    ensures { IfOk result (λ o. (turns : Turns) → IsClosedIn config trace.now
+        schedulers.entry.items (slots_items closed.now.words) (slots_items closed.now.slots) turns
+        → plain_outcome o ≡ machine.outcome (setup_of config trace.now) turns) }
 {
     let given = read_given(alloc, closed, config.schedulers, trace.greatest)?;
     let still = Still {
@@ -212,7 +210,7 @@ fn discard(mut closed: Closed<Option<Mbc>, Global>)
     closed.free();
 }
 
-/// What is printed of the state in which the table is closed, whose schedulers these are: the board
+/// What is printed of the run after which the table is closed, whose schedulers these are: the board
 /// and the passes are those of one `make_seats`, each pass once and in order. It fails only where
 /// there is no memory.
 pub fn gather<'t>(

@@ -47,7 +47,7 @@ fn workers_of<'t>(
     Ok(workers)
 }
 
-/// Runs a scheduler until it has ended or had no memory.
+/// Runs a scheduler until it has ended, is stopped or had no memory.
 fn run_worker<'t, G: Gate>(
     worker: Worker<'t>,
     alloc: Global,
@@ -65,7 +65,7 @@ fn run_worker<'t, G: Gate>(
     worker.run(alloc, board, gate)
 }
 
-/// Runs the schedulers beside each other, each until it has ended or had no memory.
+/// Runs the schedulers beside each other, each until it has ended, is stopped or had no memory.
 fn run_workers<'t, R: Threads + Sync, G: Gate + Sync>(
     rt: &R,
     alloc: Global,
@@ -113,7 +113,7 @@ fn lacks_memory(finished: &[Finished<'_>]) -> bool
 
 /// Runs a trace whose schedulers step beside each other, each on a thread of its own. Answers what
 /// is printed of the state after all steps that they took, in the order in which these came; then
-/// every scheduler has ended. It fails only where there is no memory, after all threads are joined.
+/// every scheduler has ended or is stopped. It fails only where there is no memory, after all threads are joined.
 /// Whatever it answers, each run of the trace keeps the machine's protocol, whatever steps its
 /// schedulers take.
 pub fn run_threads<R: Threads + Sync, G: Gate + Sync>(

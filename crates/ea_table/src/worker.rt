@@ -1,8 +1,8 @@
 //! A scheduler that runs beside others.
-ghost use Rattle.std.specs.Prelude.{◌≡◌, false, Some, None, IsFalse};
-ghost use Rattle.ea_machine.specs.declared.stages.Stage.TheVariants.{Ended};
-ghost use Rattle.ea_sched.specs.Acting.{actor_of};
+ghost use Rattle.std.specs.Prelude.{◌≡◌, true, false, Some, None, IsFalse};
+ghost use Rattle.ea_sched.specs.Acting.{actor_of, rests};
 ghost use Rattle.ea_sched.specs.Steps.{IsReady};
+ghost use Rattle.ea_table.specs.Ending.{IsCounted};
 ghost use Rattle.ea_table.specs.Ruling.{acting, actor_in, caller_in};
 ghost use Rattle.ea_table.specs.Seating.{IsSeatedAt};
 
@@ -33,8 +33,8 @@ pub struct Worker<'t> {
     pub pass: Pass,
 }
 
-/// A scheduler that takes no more steps: it has ended or, where `memory` is true, a step had no
-/// memory.
+/// A scheduler that takes no more steps: it has ended or is stopped or, where `memory` is true, a step
+/// had no memory.
 #[derive(Drop)]
 pub struct Finished<'t> {
     pub scheduler: Scheduler<'t>,
@@ -50,13 +50,14 @@ impl<'t> Worker<'t> {
         Worker { scheduler, pass }
     }
 
-    /// Steps until the scheduler has ended, or had no memory. The gate is passed before each step.
+    /// Steps until the scheduler has ended or is stopped, or had no memory. The gate is passed before each step.
     pub fn run<G: Gate>(self, alloc: Global, board: &Board<'_>, gate: &G) -> Finished<'t>
         requires seated { IsSeatedAt board.now self.pass }
         requires config { self.pass.seat.me.0.config ≡ self.scheduler.config }
         requires trace { self.pass.seat.me.0.trace ≡ self.scheduler.trace.now }
         requires going { self.scheduler.failed ≡ false }
         requires ready { IsReady self.scheduler None (Some (caller_in self.pass.seat.me.0)) }
+        requires counted { IsCounted self.pass.seat.me.0 self.scheduler }
         ensures seated { result.pass.seat.table_id ≡ board.now.table.shared.table_id }
         ensures same { (result.scheduler.number ≡ self.entry.scheduler.number)
             × (result.scheduler.config ≡ self.entry.scheduler.config)
@@ -68,7 +69,8 @@ impl<'t> Worker<'t> {
             → (acting result.pass.seat.me.0).number ≡ result.scheduler.number }
         ensures actor { IsFalse result.memory
             → actor_in result.pass.seat.me.0 ≡ actor_of result.scheduler }
-        ensures ended { IsFalse result.memory → (actor_of result.scheduler).stage ≡ Ended }
+        ensures counted { IsFalse result.memory → IsCounted result.pass.seat.me.0 result.scheduler }
+        ensures rests { IsFalse result.memory → rests result.scheduler ≡ true }
     {
         let Worker {
             mut scheduler,
@@ -80,6 +82,7 @@ impl<'t> Worker<'t> {
             match scheduler.step(alloc, &mut shared) {
                 Ok(Progress::Went) => {}
                 Ok(Progress::Ended) => break false,
+                Ok(Progress::Stopped) => break false,
                 Err(_) => break true,
             }
         };

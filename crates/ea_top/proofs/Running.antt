@@ -12,7 +12,7 @@ use Rattle.ea_model.specs.declared.trace.Turns.{Turns}
 use Rattle.ea_model.specs.Lists.{Items}
 use Rattle.ea_model.specs.Trace.{HasTexts, IsValidTrace, texts_of}
 use Rattle.ea_gen.specs.Generated.{generated_trace}
-use Rattle.ea_machine.specs.Completion.{complete, end_of, turns_in}
+use Rattle.ea_machine.specs.Completion.{complete, course_of, turns_in}
 use Rattle.ea_machine.specs.Courses.{IsCourse}
 use Rattle.ea_machine.specs.Machine.{run}
 use Rattle.ea_machine.specs.Outcome.{outcome, outcome_of}
@@ -39,10 +39,10 @@ module _ (c : Config) (t : Trace) where
   -- the outcome is that of a course of it
   abbrev IsOutcomeBy : Outcome → Mode → Type 0
   IsOutcomeBy o m = (turns : List ℕ) × IsCourse (setup_by m) m turns
-      × (o ≡ outcome (setup_by m) (run (setup_by m) turns))
+      × (o ≡ outcome (setup_by m) turns)
 
   outcome-by : (o : Outcome) (m : Mode) → m ≢ Threads
-      → o ≡ outcome (setup_by m) (end_of (setup_by m) m) → IsOutcomeBy o m
+      → o ≡ outcome (setup_by m) (course_of (setup_by m) m) → IsOutcomeBy o m
   outcome-by o m h e = (complete (setup_by m) (turns_in m), scheduled (setup_by m) m h, e)
 
   pub threads-ran : (o : Outcome) → t.mode ≡ Threads → IsOutcomeBy o Threads → IsRunOutcome c t o
@@ -52,7 +52,7 @@ module _ (c : Config) (t : Trace) where
       → o ≡ outcome_of c t → IsRunOutcome c t o
   given-ran o turns is e = subst (IsOutcomeBy o) (sym is)
       (outcome-by o (Schedule turns) (λ no. absurd cc)
-      (e ∙ ap (λ m. outcome (setup_of c t) (end_of (setup_of c t) m)) is))
+      (e ∙ ap (λ m. outcome (setup_of c t) (course_of (setup_of c t) m)) is))
 
   pub generated-ran : (o : Outcome) (seed count : ℕ) → t.mode ≡ Generated seed count
       → o ≡ outcome_of c (generated_trace t.letter seed c.schedulers count)

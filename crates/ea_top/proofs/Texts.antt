@@ -14,9 +14,9 @@ use Rattle.ea_model.specs.declared.trace.Trace.{Trace}
 use Rattle.ea_model.specs.declared.units.TheConstants.{MAX_INPUT}
 use Rattle.ea_model.specs.Outcome.{logs_of, plain_outcome}
 use Rattle.ea_model.specs.Settings.{region_pages, settings_of}
-use Rattle.ea_model.specs.Trace.{listed, plain, plain_mode}
+use Rattle.ea_model.specs.Trace.{listed, plain, plain_mode, stop_in}
 use Rattle.ea_model.proofs.Traces.{plain-texts}
-use Rattle.ea_machine.specs.Completion.{end_of}
+use Rattle.ea_machine.specs.Completion.{course_of}
 use Rattle.ea_machine.specs.Courses.{IsCourse}
 use Rattle.ea_machine.specs.Machine.{run}
 use Rattle.ea_machine.specs.Outcome.{outcome, outcome_of}
@@ -32,9 +32,10 @@ same_setup c t = ap (λ texts. record {
   settings = settings_of c t.letter;
   pages = region_pages c;
   texts = text_for texts;
+  stops = stop_in t.stops.items;
 }) (plain-texts t)
 
-same_end : (setup : Setup) (m : Mode) → end_of setup (plain_mode m) ≡ end_of setup m
+same_end : (setup : Setup) (m : Mode) → course_of setup (plain_mode m) ≡ course_of setup m
 same_end setup Threads = refl
 same_end setup (Schedule turns) = refl
 same_end setup (Generated seed count) = refl
@@ -43,7 +44,7 @@ same_end setup (Generated seed count) = refl
 pub made-outcome : (c : Config) (made t : Trace) (o : Outcome) → plain made ≡ t
     → o ≡ outcome_of c made → o ≡ outcome_of c t
 made-outcome c made t o is e = e
-    ∙ ap (λ setup. outcome setup (end_of setup made.mode)) (sym (same_setup c made))
+    ∙ ap (λ setup. outcome setup (course_of setup made.mode)) (sym (same_setup c made))
     ∙ ap (outcome (setup_of c (plain made)))
     (sym (same_end (setup_of c (plain made)) made.mode))
     ∙ ap (outcome_of c) is
@@ -62,7 +63,7 @@ same_run c t = same_filled c t t.mode
 -- the same turns have the same outcome
 same_outcome : (c : Config) (t : Trace) (turns : List ℕ)
     → outcome_after c (plain t) turns ≡ outcome_after c t turns
-same_outcome c t turns = ap (λ setup. outcome setup (run setup turns)) (same_run c t)
+same_outcome c t turns = ap (λ setup. outcome setup turns) (same_run c t)
 
 course_mode : (setup : Setup) (m : Mode) (turns : List ℕ) → IsCourse setup m turns
     → IsCourse setup (plain_mode m) turns

@@ -10,7 +10,6 @@ use Rattle.ea_model.specs.declared.trace.Mode.TheVariants.{Threads, Schedule, Ge
 use Rattle.ea_model.specs.declared.trace.Trace.{Trace}
 use Rattle.ea_gen.specs.Generated.{generated_trace}
 use Rattle.ea_machine.specs.Courses.{IsCourse}
-use Rattle.ea_machine.specs.Machine.{run}
 use Rattle.ea_machine.specs.Outcome.{outcome}
 use Rattle.ea_machine.specs.Setup.{Setup, setup_of}
 use Rattle.ea_report.specs.Text.{outcome_text, summary_text}
@@ -35,7 +34,7 @@ module _ (c : Config) (t : Trace) where
 
   -- the logs, carriers and totals once these turns are taken
   abbrev pub outcome_after : List ℕ → Outcome
-  outcome_after turns = outcome run_setup (run run_setup turns)
+  outcome_after turns = outcome run_setup turns
 
   -- they are those of a course of the run
   abbrev pub IsRunOutcome : Outcome → Type 0

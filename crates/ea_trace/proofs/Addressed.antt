@@ -9,6 +9,7 @@ use Rattle.ea_model.specs.declared.operations.Op.TheVariants.{Alloc, Free, Reall
 use Rattle.ea_model.specs.declared.operations.Op.TheVariants.{Info, Idle}
 use Rattle.ea_trace.specs.Language.{Earlier, is_given_to, is_unaddressed, section_operations}
 use Rattle.ea_trace.specs.Language.{sections, takes_in, texts_after, texts_before}
+use Rattle.ea_trace.specs.declared.lines.Line.TheVariants as lines
 use Rattle.ea_trace.specs.declared.lines.Line.TheVariants.{Skipped, Letter, Section, Operation}
 use Rattle.ea_trace.specs.declared.lines.Line.TheVariants.{Threads, Schedule, Turns, Generate, End}
 use Rattle.ea_trace.specs.declared.lines.Line.TheVariants.{Unreadable}
@@ -81,6 +82,7 @@ taken_here (Operation op ∷ older) k h = either_taken (takes k op)
     (list_any (takes k) (section_operations older)) (is_taken k (sections older)
     (Operation op ∷ older)) h
     (taken_now k op older) (λ e. taken_more k (sections older) op older (taken_here older k e))
+taken_here (lines.Stop stop ∷ older) k h = taken_here older k h
 taken_here (Threads ∷ older) k h = taken_here older k h
 taken_here (Schedule ∷ older) k h = taken_here older k h
 taken_here (Turns ts ∷ older) k h = taken_here older k h
@@ -112,6 +114,7 @@ taken_before n (Section number ∷ older) f i = each_last (AreTaken older) (sect
     (none_taken older) (taken_before n older f.0) (last_taken older) i
 taken_before n (Operation op ∷ older) f i = λ k h. taken_more k (i + 1) op older
     (taken_before n older f.0 i k h)
+taken_before n (lines.Stop stop ∷ older) f i = taken_before n older f.0 i
 taken_before n (Threads ∷ older) f i = taken_before n older f.0 i
 taken_before n (Schedule ∷ older) f i = taken_before n older f.0 i
 taken_before n (Turns ts ∷ older) f i = taken_before n older f.0 i

@@ -18,16 +18,18 @@ use Rattle.ea_model.specs.declared.operations.Op.TheVariants.{Info, Idle}
 use Rattle.ea_model.specs.declared.settings.Letter as Letter
 use Rattle.ea_model.specs.declared.trace.Mode.{Mode}
 use Rattle.ea_model.specs.declared.trace.Mode.TheVariants as mode
+use Rattle.ea_model.specs.declared.trace.Stop.{Stop}
 use Rattle.ea_model.specs.declared.trace.Turns as model
 use Rattle.ea_model.specs.declared.units.TheConstants.{MAX_ALL_TRIES, MAX_OPS, MAX_SEED, MAX_TURNS}
 use Rattle.ea_trace.specs.Language.{Earlier, all_turns, and_last, gives_outside, is_bad_scheduler}
 use Rattle.ea_trace.specs.Language.{is_given, is_held, is_made, is_many, is_not_held, is_outside}
 use Rattle.ea_trace.specs.Language.{is_reused, lacks, may_stand, mode_after, operations, refusal}
 use Rattle.ea_trace.specs.Language.{reuses, section_operations, sections, stage_after, texts_after}
-use Rattle.ea_trace.specs.Language.{texts_before, turns_after}
+use Rattle.ea_trace.specs.Language.{no_stops, stops_after, texts_before, turns_after}
 use Rattle.ea_trace.specs.Lines.{Said}
 use Rattle.ea_trace.specs.Ranges.{HasRanges, InRange, IsCount}
 use Rattle.ea_trace.specs.declared.lines.Line.TheVariants.{Skipped, Letter, Section, Operation}
+use Rattle.ea_trace.specs.declared.lines.Line.TheVariants as lines
 use Rattle.ea_trace.specs.declared.lines.Line.TheVariants.{Threads, Schedule, Turns, Generate, End}
 use Rattle.ea_trace.specs.declared.lines.Line.TheVariants.{Unreadable}
 use Rattle.ea_trace.specs.declared.stages.Stage.{Stage}
@@ -37,8 +39,8 @@ use Rattle.ea_trace.proofs.Turned.{turned_more}
 
 -- a line that isn't refused passes each test
 pub record Passes (n : ℕ) (older : Earlier) (line : Said) : Type 0 where
-  pub stands : may_stand n (stage_after older) (sections older) line ≡ true
-  pub good : is_bad_scheduler n (sections older) line ≡ false
+  pub stands : may_stand n (stage_after older) (sections older) (stops_after older) line ≡ true
+  pub good : is_bad_scheduler n (sections older) (stops_after older) line ≡ false
   pub few : is_many n older line ≡ false
   pub fresh : is_reused older line ≡ false
   pub held : is_not_held older line ≡ false
@@ -58,8 +60,8 @@ module _ {A : Type 0} where
 pub passes : (n : ℕ) (older : Earlier) (line : Said) → refusal n older line ≡ None
     → Passes n older line
 passes n older line h =
-    let t = first_none (may_stand n (stage_after older) (sections older) line)
-    (is_bad_scheduler n (sections older) line) (is_many n older line) (is_reused older line)
+    let t = first_none (may_stand n (stage_after older) (sections older) (stops_after older) line)
+    (is_bad_scheduler n (sections older) (stops_after older) line) (is_many n older line) (is_reused older line)
     (is_not_held older line) _ _ _ _ _ h in
     record { stands = t.0; good = t.1; few = t.2; fresh = t.3; held = t.4 }
 
@@ -68,14 +70,23 @@ abbrev pub Followed : ℕ → Earlier → Type 0
 Followed n [] = Unit {0}
 Followed n (line ∷ older) = Followed n older × Passes n older line × InRange line
 
+-- both hold
+first-of : (a b c : Bool) (section : ℕ) → ((a && b) || c) ≡ true → c ≡ false → nat_lt 0 section ≡ a
+    → 0 < section
+first-of true b c section h g e = grind (arith, e)
+first-of false b true section h g e = absurd cc
+first-of false b false section h g e = absurd cc
+
 -- an operation stands in a section
-begun : (n : ℕ) (stage : Stage) (section : ℕ) (op : Op) → may_stand n stage section (Operation op)
+begun : (n : ℕ) (stage : Stage) (section : ℕ) (ss : List Stop) (op : Op)
+    → may_stand n stage section ss (Operation op)
     ≡ true → gives_outside n op ≡ false → 0 < section
-begun n at.Start section op h g = absurd cc
-begun n at.Opening section op h g = grind arith
-begun n at.Turns section op h g = absurd cc
-begun n at.Closing section op h g = absurd cc
-begun n at.Ended section op h g = absurd cc
+begun n at.Start section ss op h g = absurd cc
+begun n at.Opening section ss op h g =
+    first-of (nat_lt 0 section) (no_stops ss) (gives_outside n op) section h g refl
+begun n at.Turns section ss op h g = absurd cc
+begun n at.Closing section ss op h g = absurd cc
+begun n at.Ended section ss op h g = absurd cc
 
 -- before its mode is said, a trace is in its opening part
 abbrev pub Early : Stage → Option Mode → Type 0
@@ -91,48 +102,49 @@ Fits n section (Some (mode.Schedule turns)) = section ≡ n
 Fits n section (Some (mode.Generated seed count)) = (section ≡ 0) × (seed ≤ MAX_SEED) × (1 ≤ count)
     × (n * count ≤ MAX_OPS)
 
-early_letter : (n : ℕ) (stage : Stage) (section : ℕ) (m : Option Mode) (l : Letter.Letter)
-    → may_stand n stage section (Letter l) ≡ true → Early stage m → m ≡ None
-early_letter n at.Start section m l h e = e
-early_letter n at.Opening section m l h e = e
-early_letter n at.Turns section m l h e = absurd cc
-early_letter n at.Closing section m l h e = absurd cc
-early_letter n at.Ended section m l h e = absurd cc
+early_letter : (n : ℕ) (stage : Stage) (section : ℕ) (ss : List Stop) (m : Option Mode) (l : Letter.Letter)
+    → may_stand n stage section ss (Letter l) ≡ true → Early stage m → m ≡ None
+early_letter n at.Start section ss m l h e = e
+early_letter n at.Opening section ss m l h e = e
+early_letter n at.Turns section ss m l h e = absurd cc
+early_letter n at.Closing section ss m l h e = absurd cc
+early_letter n at.Ended section ss m l h e = absurd cc
 
-early_section : (n : ℕ) (stage : Stage) (section : ℕ) (m : Option Mode) (k : ℕ)
-    → may_stand n stage section (Section k) ≡ true → Early stage m → m ≡ None
-early_section n at.Start section m k h e = absurd cc
-early_section n at.Opening section m k h e = e
-early_section n at.Turns section m k h e = absurd cc
-early_section n at.Closing section m k h e = absurd cc
-early_section n at.Ended section m k h e = absurd cc
+early_section : (n : ℕ) (stage : Stage) (section : ℕ) (ss : List Stop) (m : Option Mode) (k : ℕ)
+    → may_stand n stage section ss (Section k) ≡ true → Early stage m → m ≡ None
+early_section n at.Start section ss m k h e = absurd cc
+early_section n at.Opening section ss m k h e = e
+early_section n at.Turns section ss m k h e = absurd cc
+early_section n at.Closing section ss m k h e = absurd cc
+early_section n at.Ended section ss m k h e = absurd cc
 
-early_threads : (n : ℕ) (stage : Stage) (section : ℕ) (m : Option Mode)
-    → may_stand n stage section Threads ≡ true → Early stage m → m ≡ None
-early_threads n at.Start section m h e = absurd cc
-early_threads n at.Opening section m h e = e
-early_threads n at.Turns section m h e = absurd cc
-early_threads n at.Closing section m h e = absurd cc
-early_threads n at.Ended section m h e = absurd cc
+early_threads : (n : ℕ) (stage : Stage) (section : ℕ) (ss : List Stop) (m : Option Mode)
+    → may_stand n stage section ss Threads ≡ true → Early stage m → m ≡ None
+early_threads n at.Start section ss m h e = absurd cc
+early_threads n at.Opening section ss m h e = e
+early_threads n at.Turns section ss m h e = absurd cc
+early_threads n at.Closing section ss m h e = absurd cc
+early_threads n at.Ended section ss m h e = absurd cc
 
-early_schedule : (n : ℕ) (stage : Stage) (section : ℕ) (m : Option Mode)
-    → may_stand n stage section Schedule ≡ true → Early stage m → m ≡ None
-early_schedule n at.Start section m h e = absurd cc
-early_schedule n at.Opening section m h e = e
-early_schedule n at.Turns section m h e = absurd cc
-early_schedule n at.Closing section m h e = absurd cc
-early_schedule n at.Ended section m h e = absurd cc
+early_schedule : (n : ℕ) (stage : Stage) (section : ℕ) (ss : List Stop) (m : Option Mode)
+    → may_stand n stage section ss Schedule ≡ true → Early stage m → m ≡ None
+early_schedule n at.Start section ss m h e = absurd cc
+early_schedule n at.Opening section ss m h e = e
+early_schedule n at.Turns section ss m h e = absurd cc
+early_schedule n at.Closing section ss m h e = absurd cc
+early_schedule n at.Ended section ss m h e = absurd cc
 
-no_section : (n : ℕ) (stage : Stage) (section seed count : ℕ)
-    → may_stand n stage section (Generate seed count) ≡ true → section ≡ 0
-no_section n at.Start section seed count h = absurd cc
-no_section n at.Opening section seed count h = grind arith
-no_section n at.Turns section seed count h = absurd cc
-no_section n at.Closing section seed count h = absurd cc
-no_section n at.Ended section seed count h = absurd cc
+no_section : (n : ℕ) (stage : Stage) (section : ℕ) (ss : List Stop) (seed count : ℕ)
+    → may_stand n stage section ss (Generate seed count) ≡ true → section ≡ 0
+no_section n at.Start section ss seed count h = absurd cc
+no_section n at.Opening section ss seed count h = grind arith
+no_section n at.Turns section ss seed count h = absurd cc
+no_section n at.Closing section ss seed count h = absurd cc
+no_section n at.Ended section ss seed count h = absurd cc
 
-due : (n section number : ℕ) → is_bad_scheduler n section (Section number) ≡ false → section + 1 ≤ n
-due n section number h = grind arith
+due : (n section number : ℕ) (ss : List Stop) → is_bad_scheduler n section ss (Section number) ≡ false
+    → section + 1 ≤ n
+due n section number ss h = grind arith
 
 all_begun : (n section : ℕ) → nat_lt section n ≡ false → section ≤ n → section ≡ n
 all_begun n section h le = grind arith
@@ -153,24 +165,26 @@ stays n (Skipped ∷ older) f = let h = stays n older f.0 in record { early = h.
 stays n (Letter l ∷ older) f =
     let h = stays n older f.0 in
     record {
-      early = early_letter n (stage_after older) (sections older)
+      early = early_letter n (stage_after older) (sections older) (stops_after older)
           (mode_after older) l f.1.stands h.early;
       fits = h.fits;
     }
 stays n (Section k ∷ older) f =
     let h = stays n older f.0 in
-    let none = early_section n (stage_after older) (sections older)
+    let none = early_section n (stage_after older) (sections older) (stops_after older)
     (mode_after older) k f.1.stands h.early in
     record {
       early = h.early;
       fits = subst (Fits n (sections older + 1)) (sym none)
-          (due n (sections older) k f.1.good);
+          (due n (sections older) k (stops_after older) f.1.good);
     }
 stays n (Operation op ∷ older) f =
     let h = stays n older f.0 in record { early = h.early; fits = h.fits }
+stays n (lines.Stop stop ∷ older) f =
+    let h = stays n older f.0 in record { early = h.early; fits = h.fits }
 stays n (Threads ∷ older) f =
     let h = stays n older f.0 in
-    let none = early_threads n (stage_after older) (sections older)
+    let none = early_threads n (stage_after older) (sections older) (stops_after older)
     (mode_after older) f.1.stands h.early in
     record {
       early = tt;
@@ -179,7 +193,7 @@ stays n (Threads ∷ older) f =
     }
 stays n (Schedule ∷ older) f =
     let h = stays n older f.0 in
-    let none = early_schedule n (stage_after older) (sections older)
+    let none = early_schedule n (stage_after older) (sections older) (stops_after older)
     (mode_after older) f.1.stands h.early in
     record {
       early = tt;
@@ -193,7 +207,7 @@ stays n (Generate seed count ∷ older) f =
       early = tt;
       fits = (
         no_section n (stage_after older)
-            (sections older) seed count f.1.stands,
+            (sections older) (stops_after older) seed count f.1.stands,
         f.2.0,
         f.2.1,
         few_made n count f.1.few,
@@ -271,7 +285,9 @@ laid n (Letter l ∷ older) f =
     let h = laid n older f.0 in record { all = h.all; none = h.none; count = h.count }
 laid n (Section k ∷ older) f = laid_section k older (laid n older f.0)
 laid n (Operation op ∷ older) f = laid_operation op older
-    (begun n (stage_after older) (sections older) op f.1.stands f.1.good) (laid n older f.0)
+    (begun n (stage_after older) (sections older) (stops_after older) op f.1.stands f.1.good) (laid n older f.0)
+laid n (lines.Stop stop ∷ older) f =
+    let h = laid n older f.0 in record { all = h.all; none = h.none; count = h.count }
 laid n (Threads ∷ older) f =
     let h = laid n older f.0 in record { all = h.all; none = h.none; count = h.count }
 laid n (Schedule ∷ older) f =
@@ -313,6 +329,7 @@ brought n (Operation op ∷ older) f = subst BringsBefore
     (brings_more (reverse (section_operations older)) op (brought n older f.0)
     (λ name e. any_turned (brings name) (section_operations older)
     ∙ needed older op f.1.held name e))
+brought n (lines.Stop stop ∷ older) f = brought n older f.0
 brought n (Threads ∷ older) f = brought n older f.0
 brought n (Schedule ∷ older) f = brought n older f.0
 brought n (Turns ts ∷ older) f = brought n older f.0
@@ -342,6 +359,7 @@ brought_before n (Section k ∷ older) f i = each_last (λ j text. BringsBefore 
     (λ j. brings_none)
     (brought_before n older f.0) (λ b. brought n older f.0) i
 brought_before n (Operation op ∷ older) f i = brought_before n older f.0 i
+brought_before n (lines.Stop stop ∷ older) f i = brought_before n older f.0 i
 brought_before n (Threads ∷ older) f i = brought_before n older f.0 i
 brought_before n (Schedule ∷ older) f i = brought_before n older f.0 i
 brought_before n (Turns ts ∷ older) f i = brought_before n older f.0 i
@@ -453,6 +471,7 @@ counts n (Skipped ∷ older) f = same_counts n (Skipped ∷ older) older refl (c
 counts n (Letter l ∷ older) f = same_counts n (Letter l ∷ older) older refl (counts n older f.0)
 counts n (Section k ∷ older) f = same_counts n (Section k ∷ older) older refl (counts n older f.0)
 counts n (Operation op ∷ older) f = counts_more n op older f.1 f.2 (counts n older f.0)
+counts n (lines.Stop stop ∷ older) f = same_counts n (lines.Stop stop ∷ older) older refl (counts n older f.0)
 counts n (Threads ∷ older) f = same_counts n (Threads ∷ older) older refl (counts n older f.0)
 counts n (Schedule ∷ older) f = same_counts n (Schedule ∷ older) older refl (counts n older f.0)
 counts n (Turns ts ∷ older) f = same_counts n (Turns ts ∷ older) older refl (counts n older f.0)
@@ -500,6 +519,7 @@ turns_all n (Skipped ∷ older) f = turns_all n older f.0
 turns_all n (Letter l ∷ older) f = turns_all n older f.0
 turns_all n (Section k ∷ older) f = turns_all n older f.0
 turns_all n (Operation op ∷ older) f = turns_all n older f.0
+turns_all n (lines.Stop stop ∷ older) f = turns_all n older f.0
 turns_all n (Threads ∷ older) f = turns_all n older f.0
 turns_all n (Schedule ∷ older) f = turns_all n older f.0
 turns_all n (Turns ts ∷ older) f = turns_more n ts older f.1 f.2 (turns_all n older f.0)

@@ -4,5 +4,6 @@ pub mod Noted
 pub mod Reading
 pub mod Turned
 pub mod Followed
+pub mod Stopped
 pub mod Addressed
 pub mod Valid

@@ -12,13 +12,14 @@ use Rattle.ea_model.specs.declared.operations.Op.TheVariants.{Alloc, Free, Reall
 use Rattle.ea_model.specs.declared.operations.Op.TheVariants.{Info, Idle}
 use Rattle.ea_model.specs.declared.settings.Letter.{Letter}
 use Rattle.ea_model.specs.declared.trace.Turns as model
-use Rattle.ea_model.specs.declared.units.TheConstants.{MAX_BYTES, MAX_NAME, MAX_SEED, MAX_TRIES}
+use Rattle.ea_model.specs.declared.units.TheConstants.{MAX_BYTES, MAX_NAME, MAX_SEED, MAX_STEPS}
+use Rattle.ea_model.specs.declared.units.TheConstants.{MAX_TRIES}
 use Rattle.ea_model.specs.declared.units.TheConstants.{MAX_TURNS}
 use Rattle.ea_trace.specs.Lines.{Said, and_turns, alloc_in, bare, both_words, command, free_in}
 use Rattle.ea_trace.specs.Lines.{generate_in, generate_line, give_in, is_comment, is_star}
 use Rattle.ea_trace.specs.Lines.{letter_line, line_of, line_of_words, name_in, one_of, only_word}
 use Rattle.ea_trace.specs.Lines.{operation_in, pair, realloc_in, scheduler_in, section_in}
-use Rattle.ea_trace.specs.Lines.{section_line, take_in, three_words, triple, turns_at, turns_from}
+use Rattle.ea_trace.specs.Lines.{section_line, stop_from, stop_in, stop_line, take_in, three_words, triple, turns_at, turns_from}
 use Rattle.ea_trace.specs.Lines.{turns_in, turns_line, turns_of_parts, type_in}
 use Rattle.ea_trace.specs.Ranges.{HasRanges, InRange, IsCount}
 use Rattle.ea_trace.specs.declared.lines.Line.TheVariants as line
@@ -157,11 +158,16 @@ command_ranges keyword ws =
     (mapped letter_line _ (λ l. Unit {0}) InRange (any_letter _) (λ x h. tt)) (
     either (bytes_eq keyword (codes "scheduler")) (section_in ws) _ InRange
     (mapped section_line _ Any InRange (any _) (λ x h. tt)) (
+    either (bytes_eq keyword (codes "stop")) (stop_in ws) _ InRange
+    (mapped stop_line _ (λ s. s.steps ≤ MAX_STEPS) InRange
+    (chained _ (both_words ws) (λ s. s.steps ≤ MAX_STEPS) (λ w. paired stop_from _ _ Any
+    (λ k. k ≤ MAX_STEPS) (λ s. s.steps ≤ MAX_STEPS) (any (scheduler_in w.0))
+    (upper MAX_STEPS (numeral w.1)) (λ x y h k. k))) (λ x h. h)) (
     either (bytes_eq keyword (codes "generate")) (generate_in ws) _ InRange
     (chained _ (both_words ws) InRange (λ w. paired generate_line _ _ (λ n. n ≤ MAX_SEED)
     (Within 1 MAX_READ) InRange (upper MAX_SEED (numeral w.0))
     (from_to_within 1 MAX_READ (scheduler_in w.1)) (λ x y h k. (h, k.0))))
-    (one_ranges _ _ (operation_ranges keyword ws) (turns_ranges (keyword ∷ ws))))))))
+    (one_ranges _ _ (operation_ranges keyword ws) (turns_ranges (keyword ∷ ws)))))))))
 
 or_unreadable : (o : Option Said) → IfSome o InRange → InRange (unwrap_or o line.Unreadable)
 or_unreadable None h = tt

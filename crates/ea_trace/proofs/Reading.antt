@@ -1,6 +1,6 @@
 -- A line that passes each test, and the trace that the lines make.
 use Rattle.std.proofs.Common.{◌≡◌, ℕ, Bool, true, false, if◌then◌else◌, List, [], ◌∷◌, Option, Some}
-use Rattle.std.proofs.Common.{None, map, refl, ap}
+use Rattle.std.proofs.Common.{None, Result, Err, ◌+◌, length, map, refl, ap}
 use Rattle.std.specs.Prelude.{not}
 use Rattle.std.specs.List.{find, AllByRecursion}
 use Rattle.ea_model.specs.Lists.{Items}
@@ -9,13 +9,17 @@ use Rattle.ea_model.specs.declared.settings.Letter.{Letter}
 use Rattle.ea_model.specs.declared.trace.Mode.{Mode}
 use Rattle.ea_model.specs.declared.trace.Trace.{Trace}
 use Rattle.ea_model.specs.Words.{lines}
+use Rattle.ea_model.specs.declared.trace.Stop.{Stop}
 use Rattle.ea_model.specs.declared.trace.Turns as model
 use Rattle.ea_trace.specs.Language.{Earlier, is_bad_scheduler, is_many, is_not_held, is_reused}
-use Rattle.ea_trace.specs.Language.{may_stand, operations, read_after, refusal, sections}
+use Rattle.ea_trace.specs.Language.{Answer, may_stand, operations, read_after, refusal}
+use Rattle.ea_trace.specs.Language.{refused_or, sections}
+use Rattle.ea_trace.specs.Language.{stops_after}
 use Rattle.ea_trace.specs.Language.{stage_after, texts_after, trace_from, turns_after, with_turns}
 use Rattle.ea_trace.specs.Lines.{Said, line_of}
 use Rattle.ea_trace.specs.TurnLines.{Adds}
 use Rattle.ea_trace.specs.declared.fault.TraceFault.{TraceFault}
+use Rattle.ea_trace.specs.declared.fault.TraceFault.TheVariants as fault
 use Rattle.ea_trace.specs.declared.lines.Line.TheVariants as says
 use Rattle.ea_trace.specs.declared.stages.Stage.{Stage}
 use Rattle.ea_trace.specs.declared.stages.Stage.TheVariants as at
@@ -23,11 +27,20 @@ use Rattle.ea_trace.specs.declared.takes.TakeLine.{TakeLine}
 
 -- a line that passes each test isn't refused
 pub accepted : (n : ℕ) (earlier : Earlier) (line : Said)
-    → may_stand n (stage_after earlier) (sections earlier) line ≡ true
-    → is_bad_scheduler n (sections earlier) line ≡ false → is_many n earlier line ≡ false
+    → may_stand n (stage_after earlier) (sections earlier) (stops_after earlier) line ≡ true
+    → is_bad_scheduler n (sections earlier) (stops_after earlier) line ≡ false → is_many n earlier line ≡ false
     → is_reused earlier line ≡ false → is_not_held earlier line ≡ false
     → refusal n earlier line ≡ None
 accepted n earlier line a b c d e = rw (a, b, c, d, e) refl
+
+-- a line that only takes a name its section doesn't hold is refused for that
+pub lacking : (n : ℕ) (earlier : Earlier) (line : Said) (number : ℕ) (read : Answer)
+    → may_stand n (stage_after earlier) (sections earlier) (stops_after earlier) line ≡ true
+    → is_bad_scheduler n (sections earlier) (stops_after earlier) line ≡ false
+    → is_many n earlier line ≡ false → is_reused earlier line ≡ false
+    → is_not_held earlier line ≡ true → length earlier + 1 ≡ number
+    → refused_or (refusal n earlier line) read ≡ Err (fault.NotHeld number)
+lacking n earlier line number read a b c d e same = rw (a, b, c, d, e, same) refl
 
 -- tests that agree on the elements find the same one
 pub find_same : (P : TakeLine → Type 0) (p q : TakeLine → Bool) → ((t : TakeLine) → P t → p t ≡ q t)
@@ -42,12 +55,13 @@ pub listed-items : {A : Type 0} (texts : List (Items A))
 listed-items [] = refl
 listed-items (text ∷ texts) = ap (λ rest. listed text.items ∷ rest) (listed-items texts)
 
--- the lines' trace is the one that has their letter, texts, mode and greatest name
+-- the lines' trace is the one that has their letter, texts, mode and greatest name and stops
 pub trace_same : (letter : Letter) (mode : Mode) (lines : Earlier) (t : Trace) → t.letter ≡ letter
     → map (λ text. text.items) t.texts.items ≡ texts_after lines
     → plain_mode t.mode ≡ with_turns (turns_after lines) mode
-    → t.greatest ≡ greatest_of (operations lines) → trace_from letter mode lines ≡ plain t
-trace_same letter mode lines t a b m g = rw (a, listed-items t.texts.items, b, m, g) refl
+    → t.greatest ≡ greatest_of (operations lines) → t.stops.items ≡ stops_after lines
+    → trace_from letter mode lines ≡ plain t
+trace_same letter mode lines t a b m g s = rw (a, listed-items t.texts.items, b, m, g, s) refl
 
 -- the first line is taken, and those after it are left
 pub read_more : (n : ℕ) (earlier : Earlier) (text first : List ℕ) (rest : List (List ℕ))
@@ -56,13 +70,13 @@ pub read_more : (n : ℕ) (earlier : Earlier) (text first : List ℕ) (rest : Li
     ≡ read_after n (line ∷ earlier) (map line_of rest)
 read_more n earlier text first rest line e s none = rw (e, s, none) refl
 
-stands_nowhere : (n : ℕ) (stage : Stage) (section : ℕ)
-    → may_stand n stage section says.Unreadable ≡ false
-stands_nowhere n at.Start section = refl
-stands_nowhere n at.Opening section = refl
-stands_nowhere n at.Turns section = refl
-stands_nowhere n at.Closing section = refl
-stands_nowhere n at.Ended section = refl
+stands_nowhere : (n : ℕ) (stage : Stage) (section : ℕ) (ss : List Stop)
+    → may_stand n stage section ss says.Unreadable ≡ false
+stands_nowhere n at.Start section ss = refl
+stands_nowhere n at.Opening section ss = refl
+stands_nowhere n at.Turns section ss = refl
+stands_nowhere n at.Closing section ss = refl
+stands_nowhere n at.Ended section ss = refl
 
 refused_once : (b : Bool) (f : TraceFault) (o : Option TraceFault) → b ≡ false
     → (if not b then Some f else o) ≡ None → ⊥
@@ -77,11 +91,12 @@ turns_more n earlier says.Skipped new h e = e
 turns_more n earlier (says.Letter letter) new h e = e
 turns_more n earlier (says.Section number) new h e = e
 turns_more n earlier (says.Operation op) new h e = e
+turns_more n earlier (says.Stop stop) new h e = e
 turns_more n earlier says.Threads new h e = e
 turns_more n earlier says.Schedule new h e = e
 turns_more n earlier (says.Turns turns) new h e = e
 turns_more n earlier (says.Generate seed count) new h e = e
 turns_more n earlier says.End new h e = e
 turns_more n earlier says.Unreadable new h e = absurd (refused_once
-    (may_stand n (stage_after earlier) (sections earlier) says.Unreadable) _ _
-    (stands_nowhere n (stage_after earlier) (sections earlier)) h)
+    (may_stand n (stage_after earlier) (sections earlier) (stops_after earlier) says.Unreadable) _ _
+    (stands_nowhere n (stage_after earlier) (sections earlier) (stops_after earlier)) h)

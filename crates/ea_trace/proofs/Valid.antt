@@ -5,6 +5,7 @@ use Rattle.std.proofs.Common.{arith}
 use Rattle.std.specs.List.{All, AllByRecursion, count_by, find, list_any, sum_by}
 use Rattle.std.proofs.lemmas.List.{length-reverse}
 use Rattle.ea_model.specs.Trace.{BringsBefore, HasTexts, IsOperation, IsValidMode, IsValidTrace}
+use Rattle.ea_model.specs.Trace.{MayStop}
 use Rattle.ea_model.specs.Trace.{gives, gives_to, greatest_of, listed, makes, operations_of, plain}
 use Rattle.ea_model.specs.Trace.{takes, text_at, texts_of, tries_of}
 use Rattle.ea_model.proofs.Traces.{valid_from_plain}
@@ -18,7 +19,10 @@ use Rattle.ea_trace.specs.Language.{Answer, Earlier, Gives, addressed_or, at_end
 use Rattle.ea_trace.specs.Language.{letter_after, mode_after, operations, read_after, refusal}
 use Rattle.ea_trace.specs.Language.{refused_or, section_operations, sections, stage_after, takes_in}
 use Rattle.ea_trace.specs.Language.{texts_after, texts_before, trace, trace_from, turns_after}
-use Rattle.ea_trace.specs.Language.{with_turns}
+use Rattle.ea_trace.specs.Language.{stops_after, with_turns}
+use Rattle.ea_model.specs.declared.trace.Stop.{Stop}
+use Rattle.ea_model.specs.declared.trace.Turns as model
+use Rattle.ea_trace.proofs.Stopped.{all_stops, no_section_none, once_stopped}
 use Rattle.ea_trace.specs.Lines.{line_of}
 use Rattle.ea_trace.specs.Ranges.{InRange}
 use Rattle.ea_trace.specs.declared.fault.TraceFault.{TraceFault}
@@ -51,6 +55,12 @@ valid_mode n section mode.Threads ts g f = tt
 valid_mode n section (mode.Schedule turns) ts g f = (g.good, g.few)
 valid_mode n section (mode.Generated seed count) ts g f = (f.1, f.2, f.3)
 
+may_stop : (n section : ℕ) (m : Mode) (ts : List model.Turns) (ss : List Stop)
+    → Fits n section (Some m) → (section ≡ 0 → ss ≡ []) → MayStop (with_turns ts m) ss
+may_stop n section mode.Threads ts ss fits none = tt
+may_stop n section (mode.Schedule turns) ts ss fits none = tt
+may_stop n section (mode.Generated seed count) ts ss fits none = none fits.0
+
 pub valid_from : (n : ℕ) (lines : Earlier) (letter : Letter) (m : Mode) → Followed n lines
     → mode_after lines ≡ Some m
     → find (is_unaddressed lines) (takes_in lines) ≡ None
@@ -69,6 +79,10 @@ valid_from n lines letter m f e none =
       texts = has_texts n (sections lines) m (turns_after lines)
           (texts_of (trace_from letter m lines)) (ap length texts ∙ size) fits;
       mode = valid_mode n (sections lines) m (turns_after lines) (turns_all n lines f) fits;
+      stops = all_stops n lines f;
+      stopped_once = once_stopped n lines f;
+      may_stop = may_stop n (sections lines) m (turns_after lines) (stops_after lines) fits
+          (no_section_none n lines f);
       operations = subst (All (IsOperation n)) (sym all)
           (all_turned (IsOperation n) (operations lines) count.good);
       few = omega (arith, ap length all, length-reverse (operations lines), count.few);

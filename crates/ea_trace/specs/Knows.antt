@@ -9,11 +9,11 @@ use Rattle.ea_model.specs.Words.{words}
 use Rattle.ea_model.specs.declared.units.TheConstants.{MAX_ALL_TRIES, MAX_NAME, MAX_OPS, MAX_TURNS}
 use Rattle.ea_trace.specs.Language.{all_turns, gives_outside, is_given, is_given_to, is_held}
 use Rattle.ea_trace.specs.Language.{is_made, letter_after, mode_after, operations}
-use Rattle.ea_trace.specs.Language.{section_operations, sections, stage_after, takes_in}
+use Rattle.ea_trace.specs.Language.{section_operations, sections, stage_after, stops_after, takes_in}
 use Rattle.ea_trace.specs.Language.{texts_before, turns_after}
 use Rattle.ea_trace.specs.Lines.{Said, turns_in}
 use Rattle.ea_trace.specs.declared.lines.Line.{Line}
-use Rattle.ea_trace.specs.declared.lines.Line.TheVariants.{Section, Operation, Turns}
+use Rattle.ea_trace.specs.declared.lines.Line.TheVariants.{Section, Operation, Stop, Turns}
 use Rattle.ea_trace.specs.declared.names.Names.{Names}
 use Rattle.ea_trace.specs.declared.seen.Seen.{Seen}
 
@@ -43,6 +43,7 @@ pub record Knows (n : ℕ) (earlier : List Said) (s : Seen) : Type 0 where
   pub greatest : s.greatest ≡ greatest_of (operations earlier)
   pub text : s.text.items ≡ reverse (section_operations earlier)
   pub texts : map (λ text. text.items) s.texts.items ≡ texts_before earlier
+  pub stops : s.stops.items ≡ stops_after earlier
 
 -- all but the texts is as it was
 pub record KeepsRest (old new : Seen) : Type 0 where
@@ -57,6 +58,7 @@ pub record KeepsRest (old new : Seen) : Type 0 where
   pub tries : new.tries ≡ old.tries
   pub turn_count : new.turn_count ≡ old.turn_count
   pub greatest : new.greatest ≡ old.greatest
+  pub stops : new.stops ≡ old.stops
 
 -- what a line that may stand, and names no wrong scheduler, has
 abbrev pub Stands : ℕ → ℕ → Line (Bor (List ℕ)) → Type 0
@@ -74,6 +76,7 @@ HasRoom s line = Unit {0}
 abbrev pub is_mark : Line (Bor (List ℕ)) → Bool
 is_mark (Section number) = false
 is_mark (Operation op) = false
+is_mark (Stop stop) = false
 is_mark (Turns text) = false
 is_mark line = true
 

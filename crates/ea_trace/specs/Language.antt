@@ -13,13 +13,15 @@ use Rattle.ea_model.specs.declared.settings.Letter as settings
 use Rattle.ea_model.specs.declared.trace.Mode.{Mode}
 use Rattle.ea_model.specs.declared.trace.Mode.TheVariants as mode
 use Rattle.ea_model.specs.declared.trace.Trace.{Trace}
+use Rattle.ea_model.specs.declared.trace.Stop as stops
 use Rattle.ea_model.specs.declared.trace.Turns as model
 use Rattle.ea_model.specs.declared.units.TheConstants.{MAX_ALL_TRIES, MAX_OPS, MAX_TURNS}
 use Rattle.ea_trace.specs.Lines.{Said, line_of}
 use Rattle.ea_trace.specs.declared.fault.TraceFault.{TraceFault}
 use Rattle.ea_trace.specs.declared.fault.TraceFault.TheVariants as fault
 use Rattle.ea_trace.specs.declared.lines.Line.TheVariants.{Skipped, Letter, Section, Operation}
-use Rattle.ea_trace.specs.declared.lines.Line.TheVariants.{Threads, Schedule, Turns, Generate, End}
+use Rattle.ea_trace.specs.declared.lines.Line.TheVariants.{Stop, Threads, Schedule, Turns}
+use Rattle.ea_trace.specs.declared.lines.Line.TheVariants.{Generate, End}
 use Rattle.ea_trace.specs.declared.stages.Stage.{Stage}
 use Rattle.ea_trace.specs.declared.stages.Stage.TheVariants as at
 use Rattle.ea_trace.specs.declared.takes.TakeLine.{TakeLine}
@@ -61,6 +63,21 @@ section_operations (Section number ∷ older) = []
 section_operations (Operation op ∷ older) = op ∷ section_operations older
 section_operations (line ∷ older) = section_operations older
 
+-- the stops of these lines, in order
+abbrev pub stops_after : List Said → List stops.Stop
+stops_after [] = []
+stops_after (Stop stop ∷ older) = stops_after older ++ stop ∷ []
+stops_after (line ∷ older) = stops_after older
+
+-- whether one of them is that scheduler's
+abbrev pub is_stopped : ℕ → List stops.Stop → Bool
+is_stopped k ss = list_any (λ s. k == s.scheduler) ss
+
+-- whether there are none
+abbrev pub no_stops : List stops.Stop → Bool
+no_stops [] = true
+no_stops (s ∷ ss) = false
+
 -- the turns of these lines, in order
 abbrev pub turns_after : List Said → List model.Turns
 turns_after [] = []
@@ -76,33 +93,44 @@ abbrev pub gives_outside : ℕ → Op → Bool
 gives_outside n (Give name to) = is_outside n to
 gives_outside n op = false
 
--- a section that isn't due, a scheduler that isn't there, or sections that are missing
-abbrev pub is_bad_scheduler : ℕ → ℕ → Said → Bool
-is_bad_scheduler n section (Section number) = not (nat_lt section n && (number == section + 1))
-is_bad_scheduler n section (Operation op) = gives_outside n op
-is_bad_scheduler n section Threads = nat_lt section n
-is_bad_scheduler n section Schedule = nat_lt section n
-is_bad_scheduler n section (Turns turns) = list_any (λ t. is_outside n t.scheduler) turns
-is_bad_scheduler n section line = false
+-- a stop of a scheduler that isn't there or has one of these stops, or before the last section
+abbrev pub stops_badly : ℕ → ℕ → List stops.Stop → stops.Stop → Bool
+stops_badly n section ss stop = nat_lt section n
+    || (is_outside n stop.scheduler || is_stopped stop.scheduler ss)
 
--- whether a line has its place among the sections, of which that many have begun
-abbrev pub in_opening : ℕ → Said → Bool
-in_opening section (Section number) = true
-in_opening section (Operation op) = nat_lt 0 section
-in_opening section Threads = true
-in_opening section Schedule = true
-in_opening section (Generate seed count) = section == 0
-in_opening section line = false
+-- a section that isn't due, a scheduler that isn't there or has stopped, or sections that are
+-- missing
+abbrev pub is_bad_scheduler : ℕ → ℕ → List stops.Stop → Said → Bool
+is_bad_scheduler n section ss (Section number) =
+    not (nat_lt section n && (number == section + 1))
+is_bad_scheduler n section ss (Operation op) = gives_outside n op
+is_bad_scheduler n section ss (Stop stop) = stops_badly n section ss stop
+is_bad_scheduler n section ss Threads = nat_lt section n
+is_bad_scheduler n section ss Schedule = nat_lt section n
+is_bad_scheduler n section ss (Turns turns) = list_any (λ t. is_outside n t.scheduler) turns
+is_bad_scheduler n section ss line = false
+
+-- whether a line has its place among the sections, of which that many have begun, and the stops
+-- after them
+abbrev pub in_opening : ℕ → List stops.Stop → Said → Bool
+in_opening section ss (Section number) = true
+in_opening section ss (Operation op) = nat_lt 0 section && no_stops ss
+in_opening section ss (Stop stop) = true
+in_opening section ss Threads = true
+in_opening section ss Schedule = true
+in_opening section ss (Generate seed count) = section == 0
+in_opening section ss line = false
 
 -- whether a line may stand there; in the opening part one that is a case of BadScheduler may
-abbrev pub may_stand : ℕ → Stage → ℕ → Said → Bool
-may_stand n stage section Skipped = true
-may_stand n at.Start section (Letter letter) = true
-may_stand n at.Opening section line = in_opening section line || is_bad_scheduler n section line
-may_stand n at.Turns section (Turns turns) = true
-may_stand n at.Turns section End = true
-may_stand n at.Closing section End = true
-may_stand n stage section line = false
+abbrev pub may_stand : ℕ → Stage → ℕ → List stops.Stop → Said → Bool
+may_stand n stage section ss Skipped = true
+may_stand n at.Start section ss (Letter letter) = true
+may_stand n at.Opening section ss line =
+    in_opening section ss line || is_bad_scheduler n section ss line
+may_stand n at.Turns section ss (Turns turns) = true
+may_stand n at.Turns section ss End = true
+may_stand n at.Closing section ss End = true
+may_stand n stage section ss line = false
 
 -- how many turns these are
 abbrev pub all_turns : List model.Turns → ℕ
@@ -159,9 +187,9 @@ is_not_held earlier line = false
 -- why a line with this number is refused after the earlier ones: the first that holds
 abbrev pub refusal_at : ℕ → ℕ → List Said → Said → Option TraceFault
 refusal_at number n earlier line =
-    if not (may_stand n (stage_after earlier) (sections earlier) line)
+    if not (may_stand n (stage_after earlier) (sections earlier) (stops_after earlier) line)
     then Some (fault.Syntax number) else (
-    if is_bad_scheduler n (sections earlier) line then Some (fault.BadScheduler number) else (
+    if is_bad_scheduler n (sections earlier) (stops_after earlier) line then Some (fault.BadScheduler number) else (
     if is_many n earlier line then Some (fault.TooMany number) else (
     if is_reused earlier line then Some (fault.NameReused number) else (
     if is_not_held earlier line then Some (fault.NotHeld number) else None))))
@@ -220,6 +248,7 @@ abbrev pub trace_from : settings.Letter → Mode → List Said → Trace
 trace_from letter mode lines = record {
   letter = letter;
   texts = listed (map (λ text. listed text) (texts_after lines));
+  stops = listed (stops_after lines);
   mode = with_turns (turns_after lines) mode;
   greatest = greatest_of (operations lines);
 }

@@ -8,9 +8,10 @@ use Rattle.ea_model.specs.declared.operations.Op.TheVariants.{Alloc, Free, Reall
 use Rattle.ea_model.specs.declared.operations.Op.TheVariants.{Info, Idle}
 use Rattle.ea_model.specs.declared.settings.Letter.{Letter}
 use Rattle.ea_model.specs.declared.settings.Letter.TheVariants as letter
+use Rattle.ea_model.specs.declared.trace.Stop.{Stop}
 use Rattle.ea_model.specs.declared.trace.Turns as model
-use Rattle.ea_model.specs.declared.units.TheConstants.{MAX_BYTES, MAX_NAME, MAX_SEED, MAX_TRIES}
-use Rattle.ea_model.specs.declared.units.TheConstants.{MAX_TURNS}
+use Rattle.ea_model.specs.declared.units.TheConstants.{MAX_BYTES, MAX_NAME, MAX_SEED, MAX_STEPS}
+use Rattle.ea_model.specs.declared.units.TheConstants.{MAX_TRIES, MAX_TURNS}
 use Rattle.ea_trace.specs.declared.lines.Line.{Line}
 use Rattle.ea_trace.specs.declared.lines.Line.TheVariants as line
 use Rattle.ea_trace.specs.declared.lines.TheConstants.{MAX_READ}
@@ -147,6 +148,9 @@ section_line n = line.Section n
 abbrev pub generate_line : ℕ → ℕ → Said
 generate_line seed count = line.Generate seed count
 
+abbrev pub stop_line : Stop → Said
+stop_line s = line.Stop s
+
 abbrev pub turns_line : List model.Turns → Said
 turns_line ts = line.Turns ts
 
@@ -155,6 +159,14 @@ type_in ws = option_map letter_line (option_and_then letter_in (only_word ws))
 
 abbrev pub section_in : List (List ℕ) → Option Said
 section_in ws = option_map section_line (option_and_then scheduler_in (only_word ws))
+
+abbrev pub stop_from : ℕ → ℕ → Stop
+stop_from s k = record { scheduler = s; steps = k }
+
+-- a stop: a scheduler, be it there or not, and its steps
+abbrev pub stop_in : List (List ℕ) → Option Said
+stop_in ws = option_map stop_line (option_and_then
+    (λ w. pair stop_from (scheduler_in w.0) (number 0 MAX_STEPS w.1)) (both_words ws))
 
 abbrev pub generate_in : List (List ℕ) → Option Said
 generate_in ws = option_and_then
@@ -173,8 +185,9 @@ command keyword ws =
     if bytes_eq keyword (codes "end") then bare line.End ws else (
     if bytes_eq keyword (codes "type") then type_in ws else (
     if bytes_eq keyword (codes "scheduler") then section_in ws else (
+    if bytes_eq keyword (codes "stop") then stop_in ws else (
     if bytes_eq keyword (codes "generate") then generate_in ws
-    else one_of (operation_in keyword ws) (turns_in (keyword ∷ ws)))))))
+    else one_of (operation_in keyword ws) (turns_in (keyword ∷ ws))))))))
 
 -- a word that begins with '#'
 abbrev pub is_comment : List ℕ → Bool

@@ -5,10 +5,11 @@ use Rattle.ea_model.specs.declared.operations.Op.{Op}
 use Rattle.ea_model.specs.declared.operations.Op.TheVariants.{Alloc, Free, Realloc, Give, Take}
 use Rattle.ea_model.specs.declared.operations.Op.TheVariants.{Info, Idle}
 use Rattle.ea_model.specs.declared.trace.Turns as model
-use Rattle.ea_model.specs.declared.units.TheConstants.{MAX_BYTES, MAX_NAME, MAX_SEED, MAX_TRIES}
+use Rattle.ea_model.specs.declared.units.TheConstants.{MAX_BYTES, MAX_NAME, MAX_SEED, MAX_STEPS}
+use Rattle.ea_model.specs.declared.units.TheConstants.{MAX_TRIES}
 use Rattle.ea_model.specs.declared.units.TheConstants.{MAX_TURNS}
 use Rattle.ea_trace.specs.Lines.{Said}
-use Rattle.ea_trace.specs.declared.lines.Line.TheVariants.{Operation, Turns, Generate}
+use Rattle.ea_trace.specs.declared.lines.Line.TheVariants.{Operation, Stop, Turns, Generate}
 use Rattle.ea_trace.specs.declared.takes.TakeLine.{TakeLine}
 
 -- the numbers of an operation, but for a scheduler's
@@ -27,6 +28,7 @@ IsCount t = (1 ≤ t.count) × (t.count ≤ MAX_TURNS)
 
 abbrev pub InRange : Said → Type 0
 InRange (Operation op) = HasRanges op
+InRange (Stop stop) = stop.steps ≤ MAX_STEPS
 InRange (Turns turns) = All IsCount turns
 InRange (Generate seed count) = (seed ≤ MAX_SEED) × (1 ≤ count)
 InRange line = Unit {0}

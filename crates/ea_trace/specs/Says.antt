@@ -5,7 +5,7 @@ use Rattle.ea_model.specs.Words.{words}
 use Rattle.ea_model.specs.declared.trace.Turns as model
 use Rattle.ea_trace.specs.Lines.{Said, turns_in}
 use Rattle.ea_trace.specs.declared.lines.Line.{Line}
-use Rattle.ea_trace.specs.declared.lines.Line.TheVariants.{Skipped, Letter, Section, Operation}
+use Rattle.ea_trace.specs.declared.lines.Line.TheVariants.{Skipped, Letter, Section, Operation, Stop}
 use Rattle.ea_trace.specs.declared.lines.Line.TheVariants.{Threads, Schedule, Turns, Generate, End}
 use Rattle.ea_trace.specs.declared.lines.Line.TheVariants.{Unreadable}
 
@@ -18,6 +18,7 @@ said Skipped = Skipped
 said (Letter letter) = Letter letter
 said (Section number) = Section number
 said (Operation op) = Operation op
+said (Stop stop) = Stop stop
 said Threads = Threads
 said Schedule = Schedule
 said (Turns text) = said_turns (turns_in (words text.now))

@@ -3,7 +3,8 @@ ghost use Rattle.std.specs.Prelude.{◌≡◌, ◌+◌, ◌<◌, ℕ, true, fals
 ghost use Rattle.ea_model.specs.Trace;
 ghost use Rattle.ea_trace.specs.Knows.{HasRoom, Knows, Stands};
 ghost use Rattle.ea_trace.specs.Language.{Earlier, in_opening, is_bad_scheduler, is_held, is_many};
-ghost use Rattle.ea_trace.specs.Language.{is_not_held, is_reused, may_stand};
+ghost use Rattle.ea_trace.specs.Language.{is_not_held, is_reused, may_stand, no_stops};
+ghost use Rattle.ea_trace.specs.Language as language;
 ghost use Rattle.ea_trace.specs.Ranges.{InRange};
 ghost use Rattle.ea_trace.specs.Says.{said};
 ghost use Rattle.ea_trace.specs.TurnLines.{tally_in};
@@ -13,7 +14,7 @@ use crate::seen::Seen;
 use crate::stages::Stage;
 use crate::tally::Tally;
 use crate::turns::is_nobody;
-use ea_model::{MAX_ALL_TRIES, MAX_OPS, MAX_TURNS, Op};
+use ea_model::{MAX_ALL_TRIES, MAX_OPS, MAX_TURNS, Op, Stop};
 
 /// The tries that an operation asks for.
 pub fn tries_of(op: Op) -> u32
@@ -25,12 +26,38 @@ pub fn tries_of(op: Op) -> u32
     }
 }
 
+/// Whether one of these stops is that scheduler's.
+fn is_stopped(stops: &[Stop], number: u32) -> bool
+    ensures { result ≡ language.is_stopped number stops.now }
+{
+    stops.iter().any(|s| number == s.scheduler)
+}
+
+/// Whether there are no stops.
+fn has_none(stops: &[Stop]) -> bool
+    ensures { result ≡ no_stops stops.now }
+{
+    stops.is_empty()
+}
+
 impl Seen {
+    /// Whether a stop of that scheduler comes before the last section, or the scheduler isn't there
+    /// or has a stop.
+    fn stops_badly(&self, number: u32) -> bool
+        ensures { (steps : ℕ) → result ≡ language.stops_badly self.now.schedulers self.now.section
+            self.now.stops.items (record { scheduler = number; steps = steps }) }
+    {
+        self.section < self.schedulers
+            || is_nobody(self.schedulers, number)
+            || is_stopped(self.stops.as_slice(), number)
+    }
+
     /// Whether a line begins a section that isn't due, names a scheduler that isn't there, or comes
     /// before the last section.
     pub fn is_bad(&self, line: Line<&[u8]>, tally: Option<Tally>) -> bool
         requires { tally ≡ tally_in self.now.schedulers line }
-        ensures { result ≡ is_bad_scheduler self.now.schedulers self.now.section (said line.entry) }
+        ensures { result ≡ is_bad_scheduler self.now.schedulers self.now.section
+            self.now.stops.items (said line.entry) }
     {
         match line {
             Line::Section { number } => {
@@ -39,6 +66,7 @@ impl Seen {
             Line::Operation {
                 op: Op::Give { to, .. },
             } => is_nobody(self.schedulers, to),
+            Line::Stop { stop } => self.stops_badly(stop.scheduler),
             Line::Threads | Line::Schedule => self.section < self.schedulers,
             Line::Turns { .. } => matches!(tally, Some(Tally { outside: true, .. })),
             _ => false,
@@ -47,11 +75,11 @@ impl Seen {
 
     /// Whether a line has its place among the sections.
     fn is_in_opening(&self, line: Line<&[u8]>) -> bool
-        ensures { result ≡ in_opening self.now.section (said line.entry) }
+        ensures { result ≡ in_opening self.now.section self.now.stops.items (said line.entry) }
     {
         match line {
-            Line::Section { .. } | Line::Threads | Line::Schedule => true,
-            Line::Operation { .. } => self.section > 0,
+            Line::Section { .. } | Line::Stop { .. } | Line::Threads | Line::Schedule => true,
+            Line::Operation { .. } => self.section > 0 && has_none(self.stops.as_slice()),
             Line::Generate { .. } => self.section == 0,
             _ => false,
         }
@@ -61,7 +89,8 @@ impl Seen {
     pub fn admits(&self, line: Line<&[u8]>, tally: Option<Tally>) -> bool
         requires { tally ≡ tally_in self.now.schedulers line }
         ensures exact { result ≡
-            may_stand self.now.schedulers self.now.stage self.now.section (said line.entry) }
+            may_stand self.now.schedulers self.now.stage self.now.section self.now.stops.items
+            (said line.entry) }
         ensures stands { result ≡ true → Stands self.now.schedulers self.now.section line.entry }
     {
         match (self.stage, line) {
@@ -101,7 +130,8 @@ impl Seen {
     pub fn reuses(&self, line: Line<&[u8]>) -> bool
         requires range { InRange (said line) }
         requires stands { Stands self.now.schedulers self.now.section line }
-        requires good { is_bad_scheduler self.now.schedulers self.now.section (said line) ≡ false }
+        requires good { is_bad_scheduler self.now.schedulers self.now.section self.now.stops.items
+            (said line) ≡ false }
         ensures { (n : ℕ) (earlier : Earlier) → Knows n earlier self.now
             → result ≡ is_reused earlier (said line.entry) }
     {
@@ -124,7 +154,8 @@ impl Seen {
     pub fn lacks(&self, line: Line<&[u8]>) -> bool
         requires range { InRange (said line) }
         requires stands { Stands self.now.schedulers self.now.section line }
-        requires good { is_bad_scheduler self.now.schedulers self.now.section (said line) ≡ false }
+        requires good { is_bad_scheduler self.now.schedulers self.now.section self.now.stops.items
+            (said line) ≡ false }
         ensures { (n : ℕ) (earlier : Earlier) → Knows n earlier self.now
             → result ≡ is_not_held earlier (said line.entry) }
     {

@@ -2,7 +2,7 @@
 ghost use Rattle.std.specs.Prelude.{◌≡◌, ◌∷◌, unwrap_or};
 ghost use Rattle.ea_trace.specs.declared.lines.Line.TheVariants.{Unreadable};
 ghost use Rattle.ea_model.specs.Words.{words};
-ghost use Rattle.ea_trace.specs.Lines.{section_in, letter_in, type_in, generate_in, alloc_in};
+ghost use Rattle.ea_trace.specs.Lines.{section_in, letter_in, type_in, generate_in, alloc_in, stop_in};
 ghost use Rattle.ea_trace.specs.Lines.{free_in, realloc_in, give_in, take_in, operation_in, one_of};
 ghost use Rattle.ea_trace.specs.Lines.{turns_in, line_of};
 ghost use Rattle.ea_trace.specs.Ranges.{InRange};
@@ -10,7 +10,7 @@ ghost use Rattle.ea_trace.specs.Says.{said, said_or};
 
 use crate::words::{bare, bytes, count, name, one_word, scheduler, three_words, two_words};
 use ea_model::words::{first_word, number};
-use ea_model::{Letter, MAX_SEED, MAX_TRIES, Op};
+use ea_model::{Letter, MAX_SEED, MAX_STEPS, MAX_TRIES, Op, Stop};
 
 /// What one line says. `T` holds the turns of a line of turns: in definitions their list, in code
 /// the text of the line, which may turn out to be malformed when its turns are read.
@@ -24,6 +24,8 @@ pub enum Line<T> {
     Section { number: u32 },
     /// An operation of the section.
     Operation { op: Op },
+    /// `stop I STEPS`: a scheduler stops after that many steps, 0 to 100000000.
+    Stop { stop: Stop },
     /// `threads`: each scheduler is to have a thread.
     Threads,
     /// `schedule`: lines of turns may follow.
@@ -90,6 +92,19 @@ fn generate(rest: &[u8]) -> Option<Line<&[u8]>>
     Some(Line::Generate {
         seed: number(seed, 0, MAX_SEED)?,
         count: count(operations)?,
+    })
+}
+
+/// A stop.
+fn stop(rest: &[u8]) -> Option<Line<&[u8]>>
+    ensures { said_or result ≡ stop_in (words rest.now) }
+{
+    let (who, steps) = two_words(rest)?;
+    Some(Line::Stop {
+        stop: Stop {
+            scheduler: scheduler(who)?,
+            steps: number(steps, 0, MAX_STEPS)?,
+        },
     })
 }
 
@@ -193,6 +208,8 @@ fn command<'a>(text: &'a [u8], keyword: &[u8], rest: &'a [u8]) -> Option<Line<&'
         type_line(rest)
     } else if keyword == b"scheduler".as_slice() {
         section(rest)
+    } else if keyword == b"stop".as_slice() {
+        stop(rest)
     } else if keyword == b"generate".as_slice() {
         generate(rest)
     } else {

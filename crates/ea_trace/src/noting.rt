@@ -11,6 +11,7 @@ ghost use Rattle.ea_trace.specs.Says.{said, said_turns};
 ghost use Rattle.ea_trace.specs.TurnLines.{tally_in, tally_of};
 ghost use Rattle.ea_model.specs.Words.{words};
 ghost use Rattle.ea_trace.specs.declared.lines.Line.TheVariants.{Operation, Section};
+ghost use Rattle.ea_trace.specs.declared.lines.Line.TheVariants as lines;
 
 use crate::judging::tries_of;
 use crate::lines::Line;
@@ -18,7 +19,7 @@ use crate::seen::Seen;
 use crate::stages::Stage;
 use crate::takes::TakeLine;
 use crate::tally::Tally;
-use ea_model::{List, Mode, Op, OutOfMemory};
+use ea_model::{List, Mode, Op, OutOfMemory, Stop};
 use std::alloc::Global;
 use std::mem;
 
@@ -114,7 +115,15 @@ impl Seen {
         }
     }
 
-    /// Notes a line that begins no section and has no operation and no turns.
+    /// Notes a stop.
+    fn note_stop(&mut self, stop: Stop) -> Result<(), OutOfMemory>
+        ensures { OnOk result ((n : ℕ) (earlier : Earlier) → Knows n earlier self.old
+            → Knows n (lines.Stop stop ∷ earlier) self.new) }
+    {
+        self.stops.push(stop)
+    }
+
+    /// Notes a line that begins no section and has no operation, no stop and no turns.
     fn pass(&mut self, alloc: Global, line: Line<&[u8]>)
         requires { is_mark line ≡ true }
         ensures { (n : ℕ) (earlier : Earlier) → Knows n earlier self.old
@@ -155,7 +164,8 @@ impl Seen {
         requires range { InRange (said line) }
         requires read { tally ≡ tally_in self.old.schedulers line }
         requires stands { Stands self.old.schedulers self.old.section line }
-        requires good { is_bad_scheduler self.old.schedulers self.old.section (said line) ≡ false }
+        requires good { is_bad_scheduler self.old.schedulers self.old.section self.old.stops.items
+            (said line) ≡ false }
         requires room { HasRoom self.old (said line) }
         ensures { OnOk result ((n : ℕ) (earlier : Earlier) → Knows n earlier self.old
             → is_reused earlier (said line.entry) ≡ false → length earlier + 1 ≡ number
@@ -164,6 +174,7 @@ impl Seen {
         match line {
             Line::Section { .. } => self.begin(alloc),
             Line::Operation { op } => self.note(number, op),
+            Line::Stop { stop } => self.note_stop(stop),
             Line::Turns { turns } => {
                 self.note_turns(turns, tally);
                 Ok(())

@@ -84,6 +84,7 @@ impl Seen {
             takes: Vec::new(alloc),
             texts: List::new(alloc),
             text: List::new(alloc),
+            stops: List::new(alloc),
         })
     }
 
@@ -148,6 +149,7 @@ impl Seen {
             greatest,
             texts,
             text,
+            stops,
             ..
         } = self;
         let (Some(letter), Some(mode)) = (letter, mode) else {
@@ -159,6 +161,7 @@ impl Seen {
         Ok(Trace {
             letter,
             texts: with_last(section, texts, text)?,
+            stops,
             mode: with_turns(mode, turns),
             greatest,
         })

@@ -7,7 +7,7 @@ ghost use Rattle.ea_trace.specs.Ranges.{IsNamed};
 use crate::names::Names;
 use crate::stages::Stage;
 use crate::takes::TakeLine;
-use ea_model::{Letter, List, Mode, Op};
+use ea_model::{Letter, List, Mode, Op, Stop};
 
 /// What is known of the lines that were taken, beside their turns.
 #[derive(Drop)]
@@ -38,6 +38,8 @@ pub struct Seen {
     pub texts: List<List<Op>>,
     /// The text of the section that was begun last.
     pub text: List<Op>,
+    /// The stops, in order.
+    pub stops: List<Stop>,
     ghost takes_named: { All IsNamed takes.items },
     ghost few_sections: { section ≤ schedulers },
     ghost few_schedulers: { schedulers ≤ MAX_SCHEDULERS },

@@ -8,3 +8,4 @@ pub mod pools;
 pub mod queues;
 pub mod reports;
 pub mod resizing;
+pub mod stops;

@@ -38,6 +38,7 @@ moving_setup = record {
   texts = text_for
       ((op.Alloc 1 100 ∷ op.Alloc 2 100 ∷ op.Free 1 ∷ op.Realloc 2 4 200 ∷ op.Idle ∷ [])
       ∷ (op.Alloc 3 100 ∷ op.Free 3 ∷ op.Idle ∷ []) ∷ []);
+  stops = λ i. None;
 }
 
 -- one scheduler frees block 1, and abandons its carrier
@@ -48,6 +49,7 @@ gaps_setup = record {
   pages = 16384;
   texts = text_for
       ((op.Alloc 1 130 ∷ op.Alloc 2 100 ∷ op.Free 1 ∷ op.Alloc 3 100 ∷ []) ∷ []);
+  stops = λ i. None;
 }
 
 -- scheduler 2 takes and frees block 1
@@ -58,6 +60,7 @@ handed_setup = record {
   pages = 8192;
   texts = text_for
       ((op.Alloc 1 100 ∷ op.Give 1 2 ∷ []) ∷ (op.Take 1 1 ∷ op.Free 1 ∷ []) ∷ []);
+  stops = λ i. None;
 }
 
 -- scheduler 2 has no room for a second carrier
@@ -69,6 +72,7 @@ full_setup = record {
   texts = text_for
       ((op.Alloc 1 200000 ∷ op.Alloc 2 100 ∷ op.Free 1 ∷ op.Free 2 ∷ [])
       ∷ (op.Alloc 4 500000 ∷ op.Alloc 5 100000 ∷ []) ∷ []);
+  stops = λ i. None;
 }
 
 -- the instance of scheduler 2, with its one carrier

@@ -15,7 +15,7 @@ use Rattle.ea_sound.specs.NodePlaces.{anywhere, at_instance, before_link, carrie
 use Rattle.ea_sound.specs.NodePlaces.{is_returning, unlinked_at}
 use Rattle.ea_machine.specs.Nodes.{same_spot}
 use Rattle.ea_machine.specs.declared.nodes.Named.{Named}
-use Rattle.ea_machine.specs.Outcome.{outcome, place_of}
+use Rattle.ea_machine.specs.Outcome.{place_of, sums}
 use Rattle.ea_machine.specs.Owners.{CarrierAt, Absent, Employed, Pooled, Busy, Returning}
 use Rattle.ea_model.specs.Instance.{owner_of}
 use Rattle.ea_sound.specs.Places.{busy_count, employed_count, has_number, is_there, owned_as}
@@ -134,7 +134,7 @@ module _ (setup : Setup) (state : State) where
       && (t.units == carrier_units setup state)
 
   abbrev pub prints_sums : Bool
-  prints_sums = prints (outcome setup state).totals
+  prints_sums = prints (sums setup state)
 
   -- a pooled carrier has a block, and its recorded largest gap is its largest gap
   abbrev pub records_gap : CarrierAt → Bool

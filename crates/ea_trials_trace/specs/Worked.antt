@@ -29,6 +29,7 @@ abbrev pub is_trace : Letter → Mode → List (List Op) → ℕ → Result Trac
 is_trace letter mode texts greatest = Ok (record {
   letter = letter;
   texts = listed (map (λ text. listed text) texts);
+  stops = listed [];
   mode = mode;
   greatest = greatest;
 })

@@ -31,8 +31,8 @@ loop-before-preserved c =
 
 pub returns-clause-trace : goal.returns-clause-trace
 returns-clause-trace c = is_generated c.args.letter c.args.seed c.args.schedulers c.args.count
-    c.loop-before.greatest c.loop-before.texts.room c.loop-before.texts.items
-    (all_texts c.args.seed c.args.schedulers c.args.count c.loop-before.before
+    c.loop-before.greatest c.loop-before.texts.room c.loop-before.texts.items c.new.result
+    c.new.ensures (all_texts c.args.seed c.args.schedulers c.args.count c.loop-before.before
     (items_of c.loop-before.texts.items) c.loop-before.given.items (omega arith)
     c.loop-before.invariant.texts) c.loop-before.invariant.greatest
 

@@ -1,7 +1,7 @@
 use Rattle.std.proofs.Common.{◌≡◌, sym, subst}
 use Rattle.std.proofs.lemmas.Result.{IfOk-weaker}
 use Rattle.ea_model.specs.Outcome.{plain_outcome}
-use Rattle.ea_machine.specs.Completion.{end_of}
+use Rattle.ea_machine.specs.Completion.{course_of, turns_in}
 use Rattle.ea_machine.specs.Outcome.{outcome_of}
 use Rattle.ea_machine.specs.Setup.{setup_of}
 use Rattle.ea_sound.proofs.Protocols.{always-protocol}
@@ -25,11 +25,12 @@ outcome_of-requires-clause-stand c =
     let t = c.args.trace.now in
     let run = c.in_ok-schedulers.field-0 in
     let end = c.in_ok-schedulers.ensures in
-    let w = end_of (setup_of d t) t.mode in (
-      w,
-      subst (λ xs. StandIn d t xs (place_at run.shared.places) run.shared.given w)
+    let turns = course_of (setup_of d t) t.mode in (
+      turns,
+      subst (λ xs. StandIn d t xs (place_at run.shared.places) run.shared.given turns)
           (sym c.from_vec.ensures)
-          (stand-in d t run.schedulers.items run.shared w end.shared end.schedulers),
+          (stand-in d t run.schedulers.items run.shared turns end.shared end.schedulers
+          ((always-protocol d t c.requires.config c.requires.trace).ends (turns_in t.mode))),
     )
 
 pub returns-clause-outcome : goal.returns-clause-outcome
@@ -38,13 +39,14 @@ returns-clause-outcome c =
     let t = c.args.trace.now in
     let run = c.in_ok-schedulers.field-0 in
     let end = c.in_ok-schedulers.ensures in
-    let w = end_of (setup_of d t) t.mode in
-    let stands = subst (λ xs. StandIn d t xs (place_at run.shared.places) run.shared.given w)
+    let turns = course_of (setup_of d t) t.mode in
+    let stands = subst (λ xs. StandIn d t xs (place_at run.shared.places) run.shared.given turns)
     (sym c.from_vec.ensures)
-    (stand-in d t run.schedulers.items run.shared w end.shared end.schedulers) in
+    (stand-in d t run.schedulers.items run.shared turns end.shared end.schedulers
+    ((always-protocol d t c.requires.config c.requires.trace).ends (turns_in t.mode))) in
     IfOk-weaker c.outcome_of.result (IsOutcome d t c.from_vec.result.items
     (place_at run.shared.places) run.shared.given)
-    (λ o. plain_outcome o ≡ outcome_of d t) (λ o is. is w stands) c.outcome_of.ensures
+    (λ o. plain_outcome o ≡ outcome_of d t) (λ o is. is turns stands) c.outcome_of.ensures
 
 pub returns-clause-protocol : goal.returns-clause-protocol
 returns-clause-protocol c = always-protocol c.args.config c.args.trace.now c.requires.config

@@ -10,7 +10,7 @@ loop-before-preserved c =
     one-more-stands c.args.config c.args.trace.now c.loop-before.before xs c.loop-before.invariant.0
     c.loop-before.invariant.1 s
     (first-stands c.args.config c.args.trace.now (c.loop-before.before + 1) s e.config e.trace
-    e.number e.failed e.actor) c.push.new.self.items c.in_ok-push.ensures.items
+    e.number e.failed e.left e.actor) c.push.new.self.items c.in_ok-push.ensures.items
 
 pub returns : goal.returns
 returns c = record {

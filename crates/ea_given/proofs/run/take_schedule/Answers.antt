@@ -2,8 +2,12 @@ use Rattle.std.proofs.Common.{◌-◌, List, subst, arith, get_or, take}
 use Rattle.std.proofs.lemmas.List.{take_all}
 use Rattle.ea_model.specs.declared.trace.Turns.{Turns}
 use Rattle.ea_given.specs.Running.{AllTook}
-use Rattle.ea_given.proofs.Ends.{all-stand-one, all-took-stand, schedule-more, turns_from}
+use Rattle.ea_given.proofs.Ends.{all-stand-one, all-took-stand, none-taken, schedule-more}
+use Rattle.ea_given.proofs.Ends.{turns_from}
 use Rattle.ea_given.proofs.run.take_schedule.Goals as goal
+
+pub loop-turns-init : goal.loop-turns-init
+loop-turns-init c = none-taken c.args.schedulers.now c.args.shared.now
 
 pub take_turns-requires : goal.take_turns-requires
 take_turns-requires c =
@@ -17,7 +21,7 @@ take_turns-requires c =
     let is = c.requires.theirs i d c.loop-turns-test.true in
     all-stand-one ss us m n (x.scheduler - 1) c.index-schedulers-index.result
     (omega (arith, is.0, is.1, c.loop-turns.auto.schedulers))
-    (all-took-stand ss us m n (λ e w. turns_from (take i c.args.schedule.now)) c.requires.stand
+    (all-took-stand ss us m n (turns_from (take i c.args.schedule.now)) c.requires.stand
     c.loop-turns.invariant)
 
 pub loop-turns-preserved : goal.loop-turns-preserved
@@ -33,7 +37,7 @@ loop-turns-preserved c =
 
 pub returns : goal.returns
 returns c =
-    subst (λ (xs : List Turns). AllTook (λ e w. turns_from xs) c.args.schedulers.now
+    subst (λ (xs : List Turns). AllTook (turns_from xs) c.args.schedulers.now
     c.args.shared.now c.loop-turns.schedulers c.loop-turns.shared)
     (take_all c.loop-turns.turns-index c.args.schedule.now c.loop-turns-test.false)
     c.loop-turns.invariant

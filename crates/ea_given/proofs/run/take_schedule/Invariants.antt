@@ -4,5 +4,5 @@ use Rattle.ea_given.proofs.run.take_schedule.Given as goal
 
 abbrev pub invariant-loop-turns : goal.invariant-loop-turns
 invariant-loop-turns l = AllTook
-    (λ e w. flat_map (λ t. replicate t.count t.scheduler) (take l.turns-index l.schedule))
+    (flat_map (λ t. replicate t.count t.scheduler) (take l.turns-index l.schedule))
     l.initial.schedulers l.initial.shared l.schedulers l.shared

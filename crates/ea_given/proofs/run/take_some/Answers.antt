@@ -1,10 +1,15 @@
-use Rattle.std.proofs.Common.{◌+◌, arith, replicate}
+use Rattle.std.proofs.Common.{◌+◌, arith}
+use Rattle.ea_given.proofs.Looking.{within-has}
 use Rattle.ea_given.proofs.Running.{took-count, took-more, took-stands}
 use Rattle.ea_given.proofs.run.take_some.Goals as goal
 
+pub pass_looks-passed-requires-clause-within : goal.pass_looks-passed-requires-clause-within
+pass_looks-passed-requires-clause-within c = within-has c.args.scheduler.now.left c.args.most
+    c.within-within.result c.within-within.ensures
+
 pub take_turn-requires : goal.take_turn-requires
 take_turn-requires c = took-stands c.args.scheduler.now c.pass_looks-passed.new.scheduler
-    c.args.shared.now c.args.shared.now (λ e w me. replicate c.pass_looks-passed.result me)
+    c.args.shared.now c.args.shared.now c.pass_looks-passed.result
     c.requires.stands c.pass_looks-passed.ensures.took
 
 pub returns-clause-took : goal.returns-clause-took

@@ -1,4 +1,4 @@
-use Rattle.std.proofs.Common.{◌+◌, ◌-◌, arith, replicate, sym, ◌∙◌}
+use Rattle.std.proofs.Common.{◌+◌, ◌-◌, arith, sym, ◌∙◌}
 use Rattle.ea_given.proofs.Running.{took-all, took-count, took-more, took-none, took-stands}
 use Rattle.ea_given.proofs.run.take_turns.Goals as goal
 
@@ -8,15 +8,15 @@ loop-left-init c = (
   took-none c.args.scheduler.now c.args.shared.now (c.args.count - c.args.count) (omega arith),
 )
 
-pub returns-then-ended : goal.returns-then-ended
-returns-then-ended c = took-all c.args.scheduler.now c.loop-left.scheduler c.args.shared.now
+pub returns-then-rests : goal.returns-then-rests
+returns-then-rests c = took-all c.args.scheduler.now c.loop-left.scheduler c.args.shared.now
     c.loop-left.shared (c.args.count - c.loop-left.left) c.args.count (omega arith)
-    (sym c.ended.ensures ∙ c.if-ended.true) c.loop-left.invariant.1
+    (sym c.rests.ensures ∙ c.if-rests.true) c.loop-left.invariant.1
 
 pub take_some-requires-clause-stands : goal.take_some-requires-clause-stands
 take_some-requires-clause-stands c = took-stands c.args.scheduler.now c.loop-left.scheduler
-    c.args.shared.now c.loop-left.shared
-    (λ e w me. replicate (c.args.count - c.loop-left.left) me) c.requires c.loop-left.invariant.1
+    c.args.shared.now c.loop-left.shared (c.args.count - c.loop-left.left) c.requires
+    c.loop-left.invariant.1
 
 pub loop-left-preserved : goal.loop-left-preserved
 loop-left-preserved c =

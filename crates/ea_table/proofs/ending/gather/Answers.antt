@@ -1,13 +1,11 @@
-use Rattle.std.proofs.Common.{◌≡◌, ◌<◌, [], ◌∷◌, length, get_or, sym, ap, ◌∙◌, arith}
+use Rattle.std.proofs.Common.{◌≡◌, ℕ, List, ◌<◌, [], ◌∷◌, length, get_or, sym, ap, ◌∙◌, arith}
 use Rattle.std.proofs.lemmas.List.{get_or_append_left, length-append}
 use Rattle.std.proofs.lemmas.Result.{IfOk-weaker}
 use Rattle.std.specs.Mem.Slots.{slots_items}
 use Rattle.ea_model.specs.declared.outcome.Outcome.{Outcome}
 use Rattle.ea_model.specs.Outcome.{plain_outcome}
-use Rattle.ea_machine.specs.Machine.{run}
 use Rattle.ea_machine.specs.Outcome as machine
 use Rattle.ea_machine.specs.Setup.{setup_of}
-use Rattle.ea_machine.specs.State.{State}
 use Rattle.ea_table.specs.declared.worker.Finished.{Finished}
 use Rattle.ea_table.specs.Ending.{IsClosedIn, IsEnd}
 use Rattle.ea_table.proofs.Gathered.{gathered}
@@ -32,7 +30,7 @@ pub outcome_of_closed-outcome-requires-clause-stand :
     goal.outcome_of_closed-outcome-requires-clause-stand
 outcome_of_closed-outcome-requires-clause-stand c =
     let b = c.args.board in
-    let (turns, steps, closed, actors) = gathered c.args.config c.args.trace.now
+    let (turns, steps, within, closed, actors, left) = gathered c.args.config c.args.trace.now
     c.requires.config c.requires.trace b.table.shared.key c.requires.key_config
     c.requires.key_trace b.table.shared.table_id
     c.args.finished.items c.requires.all c.requires.each c.pop.new.self.items c.in-Some.last
@@ -42,7 +40,7 @@ outcome_of_closed-outcome-requires-clause-stand c =
     c.close_with-closed.ensures.values.2
     c.in_ok-seat.field-0.schedulers.items c.push.new.self.items
     c.in_ok-push.ensures.ok c.in_ok-seat.ensures.schedulers in
-    (run (setup_of c.args.config c.args.trace.now) turns, closed)
+    (turns, closed)
 
 pub returns : goal.returns
 returns c =
@@ -50,7 +48,7 @@ returns c =
     let ws = slots_items c.close_with-closed.result.words in
     let xs = slots_items c.close_with-closed.result.slots in
     let e = setup_of c.args.config c.args.trace.now in
-    let (turns, steps, closed, actors) = gathered c.args.config c.args.trace.now
+    let (turns, steps, within, closed, actors, left) = gathered c.args.config c.args.trace.now
     c.requires.config c.requires.trace b.table.shared.key c.requires.key_config
     c.requires.key_trace b.table.shared.table_id
     c.args.finished.items c.requires.all c.requires.each c.pop.new.self.items c.in-Some.last
@@ -60,13 +58,15 @@ returns c =
     c.in_ok-seat.field-0.schedulers.items c.push.new.self.items
     c.in_ok-push.ensures.ok c.in_ok-seat.ensures.schedulers in
     IfOk-weaker c.outcome_of_closed-outcome.result
-    (λ (o : Outcome). (w : State)
-    → IsClosedIn c.args.config c.args.trace.now c.push.new.self.items ws xs w
-    → plain_outcome o ≡ machine.outcome e w)
+    (λ (o : Outcome). (turns : List ℕ)
+    → IsClosedIn c.args.config c.args.trace.now c.push.new.self.items ws xs turns
+    → plain_outcome o ≡ machine.outcome e turns)
     (IsEnd c.args.config c.args.trace.now c.args.finished.items)
     (λ o is. record {
       turns = turns;
       steps = steps;
+      within = within;
       actors = actors;
-      printed = is (run e turns) closed;
+      left = left;
+      printed = is turns closed;
     }) c.outcome_of_closed-outcome.ensures

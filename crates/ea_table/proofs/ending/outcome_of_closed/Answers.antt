@@ -1,12 +1,12 @@
-use Rattle.std.proofs.Common.{◌≡◌}
+use Rattle.std.proofs.Common.{◌≡◌, ℕ, List}
 use Rattle.std.proofs.lemmas.Grind.{merely}
 use Rattle.std.proofs.lemmas.Result.{IfOk-weaker}
 use Rattle.std.specs.Mem.Slots.{slots_items}
 use Rattle.ea_model.specs.declared.outcome.Outcome.{Outcome}
 use Rattle.ea_model.specs.Outcome.{plain_outcome}
+use Rattle.ea_machine.specs.Machine.{run}
 use Rattle.ea_machine.specs.Outcome as machine
 use Rattle.ea_machine.specs.Setup.{setup_of}
-use Rattle.ea_machine.specs.State.{State}
 use Rattle.ea_outcome.specs.Resting.{IsOutcome}
 use Rattle.ea_table.specs.Ending.{IsClosedIn, places_in}
 use Rattle.ea_table.proofs.Closing.{owners-read, shown-read, stand-in}
@@ -18,7 +18,7 @@ invariant_of-still c =
     let g = c.args.trace.now.greatest in
     let ws = slots_items c.args.closed.now.words in
     let xs = slots_items c.args.closed.now.slots in
-    let places = c.requires.stand.0.shared.places in
+    let places = (run (setup_of c.args.config c.args.trace.now) c.requires.stand.0).shared.places in
     let has = c.requires.stand.1.places in
     record {
       full = c.requires.full;
@@ -49,8 +49,8 @@ returns c =
     let names = c.in_ok-given.given.held in
     IfOk-weaker c.outcome_of.result
     (IsOutcome d t ss (places_in d.schedulers t.greatest ws xs) names)
-    (λ (o : Outcome). (w : State) → IsClosedIn d t ss ws xs w
-    → plain_outcome o ≡ machine.outcome (setup_of d t) w)
+    (λ (o : Outcome). (turns : List ℕ) → IsClosedIn d t ss ws xs turns
+    → plain_outcome o ≡ machine.outcome (setup_of d t) turns)
     (λ o is w closed.
     is w (stand-in d t ss ws xs w closed names c.in_ok-given.ensures.named))
     c.outcome_of.ensures

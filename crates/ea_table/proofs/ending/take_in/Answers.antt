@@ -2,7 +2,6 @@ use Rattle.std.proofs.Common.{◌≡◌, [], ◌∷◌, ◌++◌, map, sym, ap, 
 use Rattle.std.specs.Prelude.{All}
 use Rattle.std.proofs.lemmas.List.{append_assoc, map-append}
 use Rattle.std.proofs.lemmas.List.Elements.{All-head, All-tail}
-use Rattle.ea_sched.specs.Acting.{actor_of}
 use Rattle.ea_table.specs.declared.worker.Finished.{Finished}
 use Rattle.ea_table.specs.Ruling.{acting}
 use Rattle.ea_table.proofs.Opening.{joins}
@@ -18,7 +17,7 @@ loop-other-init c =
       rest = subst (All (λ (f : Finished). f.pass.seat.table_id ≡ c.args.table.now.shared.table_id))
           (sym gives) c.requires.others;
       view = beside-none c.args.seat.me.0;
-      schedulers = ap (map (λ s. actor_of s)) c.new-schedulers.ensures;
+      schedulers = c.new-schedulers.ensures;
     }
 
 pub join_seat-requires : goal.join_seat-requires
@@ -52,9 +51,7 @@ loop-other-preserved c =
           ∙ ap (beside c.args.seat.me.0)
           (sym (map-append (λ (f : Finished). acting f.pass.seat.me.0) c.loop-other.yielded
           (other ∷ [])));
-      schedulers = ap (map (λ s. actor_of s)) c.in_ok-push.ensures.ok
-          ∙ map-append (λ s. actor_of s) c.loop-other.schedulers.items (other.scheduler ∷ [])
-          ∙ ap (λ xs. xs ++ actor_of other.scheduler ∷ []) i.schedulers
-          ∙ sym (map-append (λ (f : Finished). actor_of f.scheduler) c.loop-other.yielded
-          (other ∷ []));
+      schedulers = c.in_ok-push.ensures.ok
+          ∙ ap (λ xs. xs ++ other.scheduler ∷ []) i.schedulers
+          ∙ sym (map-append (λ (f : Finished). f.scheduler) c.loop-other.yielded (other ∷ []));
     }

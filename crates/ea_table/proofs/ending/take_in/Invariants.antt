@@ -1,6 +1,5 @@
 use Rattle.std.proofs.Common.{◌≡◌, ◌++◌, map}
 use Rattle.std.specs.Prelude.{All}
-use Rattle.ea_sched.specs.Acting.{actor_of}
 use Rattle.ea_table.specs.declared.worker.Finished.{Finished}
 use Rattle.ea_table.specs.Ruling.{acting}
 use Rattle.ea_table.proofs.Taking.{beside}
@@ -14,6 +13,5 @@ invariant-loop-other l = record {
       l.other-iterator.rest.items;
   view : l.seat.me.0
       ≡ beside l.fn.seat.me.0 (map (λ (f : Finished). acting f.pass.seat.me.0) l.yielded);
-  schedulers : map (λ s. actor_of s) l.schedulers.items
-      ≡ map (λ (f : Finished). actor_of f.scheduler) l.yielded;
+  schedulers : l.schedulers.items ≡ map (λ (f : Finished). f.scheduler) l.yielded;
 }

@@ -68,7 +68,7 @@ returns-clause-outcome g c =
     (c.in_ok-finished.ensures.all ∙ ap (λ z. z.schedulers) e.config)
     (λ k d less. (there (λ z t. HasEnded z t b.table.shared.table_id) b.table.shared.key.config
     b.table.shared.key.trace.now c.args.config c.args.trace.now e.config e.trace
-    c.in_ok-finished.finished.items c.in_ok-finished.ensures.each k d less).ended
+    c.in_ok-finished.finished.items c.in_ok-finished.ensures.each k d less).rest
     (subst (λ (fs : List Finished). (j : ℕ) (x : Finished) → j < length fs
     → IsFalse (slice_index_or fs j x).memory) c.deref.ensures.value
     (c.lacks_memory.ensures c.if-lacks_memory.false) k d

@@ -1,5 +1,5 @@
 use Rattle.std.proofs.Common.{sym, ap, ◌∙◌}
-use Rattle.ea_table.proofs.Threading.{first-ready, worker-ended}
+use Rattle.ea_table.proofs.Threading.{first-counted, first-ready, worker-ended}
 use Rattle.ea_table.proofs.threads.run_worker.Goals as goal
 
 pub run-requires-clause-seated : goal.run-requires-clause-seated
@@ -19,10 +19,16 @@ run-requires-clause-ready g c =
     c.args.worker.scheduler.number c.requires.config c.requires.trace c.args.worker
     c.requires.fresh
 
+pub run-requires-clause-counted : goal.run-requires-clause-counted
+run-requires-clause-counted g c =
+    let b = c.args.board.now in
+    first-counted b.table.shared.key.config b.table.shared.key.trace.now b.table.shared.table_id
+    c.args.worker.scheduler.number c.args.worker c.requires.fresh
+
 pub returns : goal.returns
 returns g c =
     let b = c.args.board.now in
     let e = c.run.ensures in
     worker-ended b.table.shared.key.config b.table.shared.key.trace.now b.table.shared.table_id
     c.args.worker.scheduler.number c.args.worker c.requires.fresh c.run.result e.seated e.same.0
-    e.run.0 e.run.1 e.number e.actor e.ended
+    e.run.0 e.run.1 e.number e.actor e.same.2 e.counted e.rests

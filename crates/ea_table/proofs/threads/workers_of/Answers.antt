@@ -57,7 +57,7 @@ loop-pass-preserved c =
           c.loop-pass.number ws i.number i.first w
           (subst (IsFirst c.args.config c.args.trace.now (c.loop-pass.number + 1))
           (sym c.new-in-loop-pass.ensures.0) (first-is c.args.config c.args.trace.now
-          (c.loop-pass.number + 1) s e.config e.trace e.number e.failed e.actor))
+          (c.loop-pass.number + 1) s e.config e.trace e.number e.failed e.left e.actor))
           c.push.new.self.items c.in_ok-push.ensures.items;
     }
 

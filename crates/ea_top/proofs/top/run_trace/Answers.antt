@@ -26,7 +26,7 @@ returns-in-Threads g c =
     IfOk-weaker c.run_threads.result (IsOfRun d t)
     (λ o. IsRunOutcome d t (plain_outcome o))
     (λ o ran. threads-ran d t (plain_outcome o) c.in-Threads.is
-    (ran.turns, (ran.steps, ran.ended), ran.printed)) c.run_threads.ensures.outcome
+    (ran.turns, (ran.steps, ran.within, ran.rest), ran.printed)) c.run_threads.ensures.outcome
 
 pub returns-in-Schedule : goal.returns-in-Schedule
 returns-in-Schedule g c =

@@ -1,9 +1,10 @@
-use Rattle.std.proofs.Common.{◌≡◌, ℕ, ◌-◌, ◌*◌, ◌≤◌, true, ap, sym, subst, ◌∙◌, arith}
+use Rattle.std.proofs.Common.{◌≡◌, List, ℕ, ◌-◌, ◌*◌, ◌≤◌, true, ap, sym, subst, ◌∙◌, arith}
 use Rattle.std.specs.Prelude.{All, nat_lt, nat_le, ◌&&◌}
 use Rattle.ea_model.specs.Instance.{new_instance}
 use Rattle.ea_machine.specs.Setup.{setup_of}
 use Rattle.ea_machine.specs.Statistics.{seen, unseen}
-use Rattle.ea_model.specs.Trace.{greatest_in}
+use Rattle.ea_model.specs.declared.trace.Stop.{Stop}
+use Rattle.ea_model.specs.Trace.{greatest_in, stop_in}
 use Rattle.ea_sound.proofs.Asked.{text-upto}
 use Rattle.ea_sched.proofs.Starting.{starts}
 use Rattle.ea_sched.proofs.Texts.{text-is}
@@ -52,3 +53,7 @@ returns-clause-actor c =
     (c.new-mbcs.ensures ∙ ap (λ f. seen f unseen) c.multi_figures.ensures.figures)
     (c.new-sbcs.ensures ∙ ap (λ f. seen f unseen) c.single_figures.ensures.figures)
     (c.reserve.ensures.items ∙ c.new-log.ensures)
+
+pub invariant_of-result-clause-stop_is : goal.invariant_of-result-clause-stop_is
+invariant_of-result-clause-stop_is c =
+    c.stop_of-stop.ensures ∙ ap (λ (xs : List Stop). stop_in xs c.args.number) c.as_slice.ensures

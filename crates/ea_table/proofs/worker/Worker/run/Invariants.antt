@@ -2,6 +2,7 @@ use Rattle.std.proofs.Common.{◌≡◌, false, Some, None}
 use Rattle.ea_sched.specs.Acting.{actor_of}
 use Rattle.ea_sched.specs.Steps.{IsReady}
 use Rattle.ea_sound.specs.OwnWork.{own_work}
+use Rattle.ea_table.specs.Ending.{IsCounted}
 use Rattle.ea_table.specs.Ruling.{caller_in}
 use Rattle.ea_table.proofs.worker.Worker.run.Given as goal
 
@@ -15,6 +16,7 @@ invariant-loop g l = record {
   scheduler_trace : l.scheduler.trace ≡ l.fn.self.scheduler.trace;
   going : l.scheduler.failed ≡ false;
   ready : IsReady l.scheduler None (Some (caller_in l.shared.pass.seat.me.0));
+  counted : IsCounted l.shared.pass.seat.me.0 l.scheduler;
 }
 
 abbrev pub decreases-loop : goal.decreases-loop

@@ -14,3 +14,7 @@ returns-in-Turns c = λ n earlier k fresh number. rw c.in-Turns.is (c.note_turns
 
 pub returns-in_default : goal.returns-in_default
 returns-in_default c = λ n earlier k fresh number. c.pass.ensures n earlier k
+
+pub returns-in-Stop : goal.returns-in-Stop
+returns-in-Stop c = on_ok_weaker c.note_stop.result (λ d n earlier k fresh number. rw c.in-Stop.is
+    (d n earlier k)) c.note_stop.ensures

@@ -24,10 +24,11 @@ returns c = λ n earlier k same.
     let read : Trace = record {
       letter = c.in-Some-Some.letter;
       texts = c.in_ok-with_last.field-0;
+      stops = s.stops;
       mode = c.with_turns.result;
       greatest = s.greatest;
     } in
     rw (stage, letter, mode, found) (ap Ok (trace_same c.in-Some-Some.letter
     (plain_mode c.in-Some-Some.mode) earlier read refl (c.in_ok-with_last.ensures ∙ last)
     (c.with_turns.ensures ∙ ap (λ ts. with_turns ts (plain_mode c.in-Some-Some.mode)) same)
-    k.greatest))
+    k.greatest k.stops))

@@ -1,17 +1,19 @@
 use Rattle.std.proofs.Common.{◌≡◌, true, false, sym, ◌∙◌}
 use Rattle.ea_trace.specs.Language.{is_bad_scheduler, is_reused, may_stand, sections, stage_after}
+use Rattle.ea_trace.specs.Language.{stops_after}
 use Rattle.ea_trace.specs.Says.{said}
-use Rattle.ea_trace.proofs.Reading.{accepted}
+use Rattle.ea_trace.proofs.Reading.{accepted, lacking}
 use Rattle.ea_trace.proofs.seen.Seen.take.Goals as goal
 
 pub returns-clause-ok : goal.returns-clause-ok
 returns-clause-ok c = λ n earlier k number.
     let line = said c.args.line in
-    let stands : may_stand n (stage_after earlier) (sections earlier) line ≡ true =
-    rw (sym k.schedulers, sym k.stage, sym k.section)
+    let stands : may_stand n (stage_after earlier) (sections earlier) (stops_after earlier) line
+    ≡ true =
+    rw (sym k.schedulers, sym k.stage, sym k.section, sym k.stops)
     (sym c.admits.ensures.exact ∙ c.if-not-admits.false) in
-    let good : is_bad_scheduler n (sections earlier) line ≡ false =
-    rw (sym k.schedulers, sym k.section) (sym c.is_bad.ensures ∙ c.if-is_bad.false) in
+    let good : is_bad_scheduler n (sections earlier) (stops_after earlier) line ≡ false =
+    rw (sym k.schedulers, sym k.section, sym k.stops) (sym c.is_bad.ensures ∙ c.if-is_bad.false) in
     let fresh : is_reused earlier line ≡ false = sym (c.reuses.ensures n earlier k)
     ∙ c.if-reuses.false in (
       accepted n earlier line stands good
@@ -19,3 +21,17 @@ returns-clause-ok c = λ n earlier k number.
           (sym (c.lacks.ensures n earlier k) ∙ c.if-lacks.false),
       c.in_ok-add.ensures n earlier k fresh number,
     )
+
+pub returns-then-lacks-clause-err : goal.returns-then-lacks-clause-err
+returns-then-lacks-clause-err c = λ n earlier read k number.
+    let line = said c.args.line in
+    let stands : may_stand n (stage_after earlier) (sections earlier) (stops_after earlier) line
+    ≡ true =
+    rw (sym k.schedulers, sym k.stage, sym k.section, sym k.stops)
+    (sym c.admits.ensures.exact ∙ c.if-not-admits.false) in
+    let good : is_bad_scheduler n (sections earlier) (stops_after earlier) line ≡ false =
+    rw (sym k.schedulers, sym k.section, sym k.stops) (sym c.is_bad.ensures ∙ c.if-is_bad.false) in
+    lacking n earlier line c.args.number read stands good
+    (sym (c.is_full.ensures.many n earlier k) ∙ c.if-is_full.false)
+    (sym (c.reuses.ensures n earlier k) ∙ c.if-reuses.false)
+    (sym (c.lacks.ensures n earlier k) ∙ c.if-lacks.true) number
