@@ -8,8 +8,10 @@ use Rattle.ea_model.specs.declared.trace.Trace.{Trace}
 use Rattle.ea_model.specs.declared.units.TheConstants.{NUMBERS}
 use Rattle.ea_model.specs.Content.{Content}
 use Rattle.ea_model.specs.Settings.{IsValidConfig}
-use Rattle.ea_model.specs.Trace.{IsValidTrace}
+use Rattle.ea_model.specs.Trace.{IsScheduler, IsValidTrace}
 use Rattle.ea_machine.specs.declared.asks.Ask.{Ask}
+use Rattle.ea_machine.specs.declared.parts.Part.{Part}
+use Rattle.ea_machine.specs.declared.parts.Part.TheVariants.{Own, Traitors, Pool}
 use Rattle.ea_machine.specs.declared.stages.Stage.{Stage}
 use Rattle.ea_machine.specs.declared.stages.Stage.TheVariants.{Begin, Routed, Collecting}
 use Rattle.ea_machine.specs.declared.stages.Stage.TheVariants.{Searching, Fetching, Creating}
@@ -17,20 +19,22 @@ use Rattle.ea_machine.specs.declared.stages.Stage.TheVariants.{Giving, Taking, E
 use Rattle.ea_machine.specs.Actor.{Actor}
 use Rattle.ea_machine.specs.Machine.{IsReached, run_on}
 use Rattle.ea_machine.specs.Owners.{word_of}
-use Rattle.ea_machine.specs.Placements.{counts}
+use Rattle.ea_machine.specs.Lists.{counts}
 use Rattle.ea_machine.specs.Setup.{Setup, setup_of}
 use Rattle.ea_machine.specs.Shared.{Shared}
 use Rattle.ea_machine.specs.State.{State}
 use Rattle.ea_machine.specs.Stops.{less, up_to}
+use Rattle.ea_sound.specs.Places.{IsNumber}
 use Rattle.ea_sound.specs.Present.{Fits}
 use Rattle.ea_sound.proofs.Asked.{reached-rule}
+use Rattle.ea_sound.proofs.CarrierCalls.{search-number}
 use Rattle.ea_sound.proofs.Completing.{reached-run}
 use Rattle.ea_sound.proofs.Stopping.{up_to-all}
 use Rattle.ea_shared.specs.Carriers.{IsCarrier, counts_at}
 use Rattle.ea_shared.specs.Memory.{Sharing}
 use Rattle.ea_sched.specs.declared.state.Scheduler.{Scheduler}
 use Rattle.ea_sched.specs.Acting.{actor_of, is_ended}
-use Rattle.ea_sched.specs.Looks.{HasPassed, next_look}
+use Rattle.ea_sched.specs.Looks.{HasPassed, looks_left, next_in, next_look}
 use Rattle.ea_given.specs.Running.{HasLeft, SharesAt, StandsAt}
 use Rattle.ea_given.proofs.Running.{of-run}
 
@@ -54,15 +58,28 @@ pub fewer-has : (o : Option ℕ) (most k : ℕ) → HasLeft most o → k ≤ mos
 fewer-has None most k has less = tt
 fewer-has (Some n) most k has less = omega (arith, has, less)
 
--- a scheduler that is to look at a number is in a search
+-- a scheduler that is to look at a number is in the last part of a search
+looks-in-part : (at : ℕ) (part : Part) (high : ℕ) → next_in at part ≡ Some high
+    → (left : ℕ) × (looked : ℕ) × (at ≡ high) × (part ≡ Pool left looked)
+looks-in-part at (Own left) high is = absurd cc
+looks-in-part at (Traitors left) high is = absurd cc
+looks-in-part at (Pool left looked) high is = (left, looked, at-next, refl) where
+  at-next : at ≡ high
+  at-next = cc
+
 looks-in : (st : Stage Content) (high : ℕ) → next_look st ≡ Some high
-    → (ask : Ask) × (looked : ℕ) × (st ≡ Searching ask high looked)
+    → (ask : Ask) × (left : ℕ) × (looked : ℕ) × (st ≡ Searching ask high (Pool left looked))
 looks-in Begin high is = absurd cc
 looks-in (Routed route why gone) high is = absurd cc
 looks-in (Collecting number) high is = absurd cc
-looks-in (Searching ask at looked) high is =
-    let same : at ≡ high = cc in (ask, looked, ap (λ n. Searching ask n looked) same)
-looks-in (Fetching ask at looked seen) high is = absurd cc
+looks-in (Searching ask at part) high is =
+    let (left, looked, same, there) = looks-in-part at part high is in (
+      ask,
+      left,
+      looked,
+      ap (λ n. Searching ask n part) same ∙ ap (λ p. Searching ask high p) there,
+    )
+looks-in (Fetching ask at part seen) high is = absurd cc
 looks-in (Creating ask p) high is = absurd cc
 looks-in (Giving given to) high is = absurd cc
 looks-in (Taking name tries left) high is = absurd cc
@@ -75,36 +92,58 @@ module _ (c : Config) (t : Trace) (me : ℕ) (steps : Option ℕ) (s : Scheduler
   abbrev e : Setup
   e = setup_of c t
 
-  fits : (ask : Ask) × (looked : ℕ) × Fits e w me (w.actors me) (Searching ask high looked)
-  fits =
-      let (ask, looked, is) = looks-in s.stage high next in (
-        ask,
-        looked,
-        subst (Fits e w me (w.actors me)) (ap (λ (a : Actor). a.stage) at.actor ∙ is)
-            ((reached-rule c t shares.config shares.trace w shares.reached).present.fits me),
-      )
+  abbrev seen : (ask : Ask) × (left : ℕ) × (looked : ℕ)
+      × (s.stage ≡ Searching ask high (Pool left looked))
+  seen = looks-in s.stage high next
+
+  in-state : (w.actors me).stage ≡ Searching seen.0 high (Pool seen.1 seen.2)
+  in-state = ap (λ (a : Actor). a.stage) at.actor ∙ seen.3
+
+  fits : Fits e w me (w.actors me) (Searching seen.0 high (Pool seen.1 seen.2))
+  fits = subst (Fits e w me (w.actors me)) in-state
+      ((reached-rule c t shares.config shares.trace w shares.reached).present.fits me)
 
   -- carriers migrate then, and the number is one of a carrier
   pub search-moves : m.migrates ≡ true
-  search-moves = shares.moves ∙ fits.2.5
+  search-moves = shares.moves ∙ fits.4
 
-  search-some : 1 ≤ high
-  search-some = fits.2.1
+  number : IsScheduler c.schedulers me
+  number = (
+    omega (arith, s.number_from, at.number),
+    omega (arith, s.number_to, at.number, ap (λ (d : Config). d.schedulers) at.config),
+  )
 
-  -- it comes down from the number that it looks at, whatever turns it has
-  pub comes-down : (last most first few n : ℕ) → last ≤ high → first ≡ max last 1
-      → few ≡ high - most → n ≡ max first few → n ≤ high
-  comes-down last most first few n upto least turns is =
-      omega (arith, clamps, upto, search-some, least, turns, is)
+  is-number : IsNumber e high
+  is-number = search-number c t shares.config shares.trace w shares.reached me number seen.0 high
+      (Pool seen.1 seen.2) in-state
 
   pub search-carrier : IsCarrier m.schedulers high
   search-carrier = (
-    fits.2.1,
-    omega (arith, fits.2.2, ap (λ n. NUMBERS * n) shares.made),
+    is-number.0,
+    omega (arith, is-number.1, ap (λ n. NUMBERS * n) shares.made),
   )
 
   going : is_ended s.stage ≡ false
-  going = let (ask, looked, is) = looks-in s.stage high next in ap is_ended is
+  going = ap is_ended seen.3
+
+  -- there are looks left
+  pub search-left : 1 ≤ looks_left s.stage
+  search-left =
+      let left : looks_left s.stage ≡ seen.1 = ap looks_left seen.3 in
+      omega (arith, left, fits.1.0)
+
+  -- it comes down from the number that it looks at, whatever turns it has
+  pub comes-down : (last most fewer first few n : ℕ) → last ≤ high
+      → fewer ≡ min most (looks_left s.stage - 1) → first ≡ max last 1
+      → few ≡ high - fewer → n ≡ max first few
+      → (n ≤ high) × (high - n < looks_left s.stage) × (high - n ≤ most)
+  comes-down last most fewer first few n upto less least turns is =
+      let some : 1 ≤ high = is-number.0 in
+      let left = search-left in (
+        omega (arith, clamps, upto, some, least, turns, is),
+        omega (arith, clamps, upto, some, left, less, least, turns, is),
+        omega (arith, clamps, upto, some, left, less, least, turns, is),
+      )
 
   -- it has taken the looks down to a number, at words that don't count
   pub looks-taken : (n : ℕ) (u : Scheduler) → HasPassed n s u → u.config ≡ s.config
@@ -114,7 +153,7 @@ module _ (c : Config) (t : Trace) (me : ℕ) (steps : Option ℕ) (s : Scheduler
       → ((i : ℕ) → n < i → i ≤ high → counts_at m.places i ≡ false)
       → (let v = run_on e w (up_to steps (replicate (high - n) me)) in
       SharesAt c t m v × StandsAt c t me (less steps (high - n)) u v)
-  looks-taken n u passed config trace number failed left within none =
+  looks-taken n u passed config trace same failed left within none =
       let v = run_on e w (replicate (high - n) me) in
       let is = of-run c t me steps s w at
       (λ d x k. IsValidConfig d → IsValidTrace d.schedulers x → IsReached (setup_of d x) w
@@ -141,7 +180,7 @@ module _ (c : Config) (t : Trace) (me : ℕ) (steps : Option ℕ) (s : Scheduler
         record {
           config = config ∙ at.config;
           trace = ap (λ x. x.now) trace ∙ at.trace;
-          number = number ∙ at.number;
+          number = same ∙ at.number;
           going = failed ∙ at.going;
           actor = is.1;
           left = λ _. left high next ∙ ap (λ o. less o (high - n)) (at.left going);

@@ -336,9 +336,11 @@ took-none s m k none = subst (λ n. Took n s m s m) (sym none)
     (λ c t me steps w shares at.
     let e = setup_of c t in
     subst (λ v. SharesAt c t m v × StandsAt c t me (less steps 0) s v)
-    (sym (ap (run_on e w) (up_to-nothing steps (replicate 0 me) refl)))
-    (shares, same-stands c t me steps s w at (less steps 0)
-    (λ going. at.left going ∙ sym (less-none steps))))
+    (sym (ap (run_on e w) (up_to-nothing steps (replicate 0 me) refl))) (
+      shares,
+      same-stands c t me steps s w at (less steps 0)
+          (λ going. at.left going ∙ sym (less-none steps)),
+    ))
 
 -- what a scheduler has taken
 module _ (s u : Scheduler) (m n : Sharing) where

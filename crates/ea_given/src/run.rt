@@ -79,8 +79,9 @@ fn pass_looks(scheduler: &mut Scheduler<'_>, shared: &MemShared<Mbc>, most: u32)
     let Some(at) = scheduler.next_look() else {
         return 0;
     };
+    let fewer = most.min(scheduler.looks_left() - 1);
     let last = shared.last_counted(at);
-    let next = last.max(1).max(at.saturating_sub(most));
+    let next = last.max(1).max(at.saturating_sub(fewer));
     scheduler.pass_over(next);
     at - next
 }

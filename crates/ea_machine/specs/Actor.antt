@@ -12,6 +12,7 @@ use Rattle.ea_machine.specs.declared.stages.Stage.TheVariants.{Begin, Routed, Co
 use Rattle.ea_machine.specs.declared.stages.Stage.TheVariants.{Searching, Fetching, Creating}
 use Rattle.ea_machine.specs.declared.stages.Stage.TheVariants.{Giving, Taking, Ended, Ready}
 use Rattle.ea_machine.specs.declared.nodes.Named.{Named}
+use Rattle.ea_machine.specs.Lists.{Lists}
 
 -- the greatest figures that were observed, since the last report and ever
 pub record Stat : Type 0 where
@@ -22,6 +23,8 @@ pub record Stat : Type 0 where
 pub record Actor : Type 0 where
   -- the carriers that it owns, and the contents that it employs
   pub instance : Instance
+  -- the numbers of the multiblock carriers that it owns and doesn't employ
+  pub lists : Lists
   -- the names that it holds, by rising name
   pub held : List Named
   -- the operations left, first the present one
@@ -40,8 +43,8 @@ abbrev pub on_route : {A : Type 0} → A → (Route Content → A) → Stage Con
 on_route other f Begin = other
 on_route other f (Routed r why gone) = f r
 on_route other f (Collecting number) = other
-on_route other f (Searching ask at looked) = other
-on_route other f (Fetching ask at looked seen) = other
+on_route other f (Searching ask at part) = other
+on_route other f (Fetching ask at part seen) = other
 on_route other f (Creating ask p) = other
 on_route other f (Giving given to) = other
 on_route other f (Taking name tries left) = other

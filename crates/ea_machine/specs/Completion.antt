@@ -6,6 +6,7 @@ use Rattle.ea_model.specs.declared.operations.Op.TheVariants as op
 use Rattle.ea_model.specs.declared.trace.Mode.{Mode}
 use Rattle.ea_model.specs.Trace.{turns_of}
 use Rattle.ea_model.specs.Content.{Content}
+use Rattle.ea_model.specs.declared.units.TheConstants.{LIST_LIMIT}
 use Rattle.ea_machine.specs.declared.nodes.Node.{Node}
 use Rattle.ea_machine.specs.Setup.{Setup, greatest_number}
 use Rattle.ea_machine.specs.declared.stages.Stage.{Stage}
@@ -16,6 +17,8 @@ use Rattle.ea_machine.specs.declared.stages.Route.{Route}
 use Rattle.ea_machine.specs.declared.stages.Route.TheVariants.{Looking, Trying, Settling}
 use Rattle.ea_machine.specs.declared.stages.Route.TheVariants.{Abandoning, Sending, Clearing}
 use Rattle.ea_machine.specs.declared.stages.Route.TheVariants.{Pushing, Linking}
+use Rattle.ea_machine.specs.declared.parts.Part.{Part}
+use Rattle.ea_machine.specs.declared.parts.Part.TheVariants.{Own, Traitors, Pool}
 use Rattle.ea_machine.specs.Actor.{Actor}
 use Rattle.ea_machine.specs.declared.tasks.Why.TheVariants.{Walk, For}
 use Rattle.ea_machine.specs.State.{State}
@@ -49,10 +52,16 @@ begin_rows None = 11
 begin_rows (Some node) = 1
 
 module _ (setup : Setup) where
-  -- those of a search, which looks at each number and tries to fetch some carriers, and of what
-  -- follows
+  -- the numbers that a search may still look at, the next one among them
+  abbrev pub looks_left : Part → ℕ
+  looks_left (Own left) = left + (LIST_LIMIT + greatest_number setup)
+  looks_left (Traitors left) = left + greatest_number setup
+  looks_left (Pool left looked) = left
+
+  -- the rows of a search, which looks at each number, at some of them before, and tries to fetch
+  -- some carriers, and of what follows
   abbrev pub search_rows : ℕ
-  search_rows = 2 * greatest_number setup + 10
+  search_rows = 2 * (2 * LIST_LIMIT + greatest_number setup) + 10
 
   -- those of an operation once its begin is over
   abbrev pub operation_rows : Op → ℕ
@@ -78,8 +87,8 @@ module _ (setup : Setup) where
   stage_rows next ops (Routed r Walk gone) = text_rows ops + route_rows r
   stage_rows next ops (Routed r (For task) gone) = later_rows ops + route_rows r
   stage_rows next ops (Collecting number) = text_rows ops + 1
-  stage_rows next ops (Searching ask at looked) = later_rows ops + (2 * at + 10)
-  stage_rows next ops (Fetching ask at looked seen) = later_rows ops + (2 * at + 9)
+  stage_rows next ops (Searching ask at part) = later_rows ops + (2 * looks_left part + 10)
+  stage_rows next ops (Fetching ask at part seen) = later_rows ops + (2 * looks_left part + 9)
   stage_rows next ops (Creating ask p) = later_rows ops + 8
   stage_rows next ops (Giving given to) = later_rows ops + 1
   stage_rows next ops (Taking name tries left) = later_rows ops + left

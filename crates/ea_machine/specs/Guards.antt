@@ -10,13 +10,14 @@ use Rattle.ea_model.specs.Instance.{owner_of}
 use Rattle.ea_machine.specs.Setup.{Setup}
 use Rattle.ea_machine.specs.Shared.{Shared}
 use Rattle.ea_machine.specs.declared.stages.Stage.TheVariants.{Collecting, Fetching}
+use Rattle.ea_machine.specs.declared.parts.Part.{Part}
 use Rattle.ea_machine.specs.Actor.{Actor}
 use Rattle.ea_machine.specs.declared.asks.Ask.{Ask}
 use Rattle.ea_machine.specs.Rows.{Row, TakeAll, TakeLink, Look, Push, Link, BusyTry, Settle}
 use Rattle.ea_machine.specs.Rows.{Abandon, FetchTry, Create, SendHome, Clear, Give, TakeTry}
 use Rattle.ea_machine.specs.Rows.{Nothing}
 use Rattle.ea_model.specs.Abandonment.{is_due}
-use Rattle.ea_machine.specs.Placements.{fits}
+use Rattle.ea_machine.specs.Searches.{fits}
 use Rattle.ea_machine.specs.Statistics.{employed_multis, leaving_at}
 
 -- the node is in no queue, and in no walk before it was passed
@@ -49,8 +50,8 @@ module _ (setup : Setup) (me : ℕ) (a : Actor) (s : Shared) where
   pub record SawFitting (seen : OwnerWord) : Type 0 where
     pub ask : Ask
     pub at : ℕ
-    pub looked : ℕ
-    pub fetches : a.stage ≡ Fetching ask at looked seen
+    pub part : Part
+    pub fetches : a.stage ≡ Fetching ask at part seen
     pub large : fits ask.need seen ≡ true
 
   -- what holds when the scheduler wants the row

@@ -5,6 +5,7 @@ pub mod Words
 pub mod Nodes
 pub mod Alike
 pub mod Shared
+pub mod Lists
 pub mod Actor
 pub mod State
 -- The atomic steps.
@@ -14,6 +15,7 @@ pub mod Guards
 -- What a scheduler does between two of them.
 pub mod Walks
 pub mod Operations
+pub mod Searches
 pub mod Placements
 pub mod Reallocations
 pub mod Releases

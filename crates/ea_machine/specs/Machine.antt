@@ -15,6 +15,7 @@ use Rattle.ea_machine.specs.declared.stages.Route.{Route}
 use Rattle.ea_machine.specs.declared.stages.Route.TheVariants.{Looking, Trying, Settling}
 use Rattle.ea_machine.specs.declared.stages.Route.TheVariants.{Abandoning, Sending, Clearing}
 use Rattle.ea_machine.specs.declared.stages.Route.TheVariants.{Pushing, Linking}
+use Rattle.ea_machine.specs.Lists.{no_lists}
 use Rattle.ea_machine.specs.Actor.{Actor}
 use Rattle.ea_machine.specs.State.{State}
 use Rattle.ea_machine.specs.Rows.{Answer, Row, TakeAll, TakeLink, Look, Push, Link, BusyTry, Settle}
@@ -49,8 +50,8 @@ abbrev pub wants_at : Option Node → Stage Content → Row
 wants_at next Begin = begins next
 wants_at next (Routed r why gone) = wants_on r
 wants_at next (Collecting number) = Clear number
-wants_at next (Searching ask at looked) = Look at
-wants_at next (Fetching ask at looked seen) = FetchTry at seen
+wants_at next (Searching ask at part) = Look at
+wants_at next (Fetching ask at part seen) = FetchTry at seen
 wants_at next (Creating ask p) = Create p.number
 wants_at next (Giving given to) = Give given
 wants_at next (Taking name tries left) = TakeTry name
@@ -69,8 +70,8 @@ module _ (setup : Setup) (me : ℕ) where
   after_row a r (Routed route why gone) = carried why (after_route setup me why)
       (turned setup me route gone a r)
   after_row a r (Collecting number) = collected setup me number a
-  after_row a r (Searching ask at looked) = searched setup me ask at looked a r
-  after_row a r (Fetching ask at looked seen) = fetched setup me ask at looked a r
+  after_row a r (Searching ask at part) = searched setup me ask at part a r
+  after_row a r (Fetching ask at part seen) = fetched setup me ask at part a r
   after_row a r (Creating ask p) = created setup me ask p a
   after_row a r (Giving given to) = gave given to a
   after_row a r (Taking name tries left) = took name tries left a r
@@ -82,8 +83,8 @@ module _ (setup : Setup) (me : ℕ) where
   onward_at a Begin = a
   onward_at a (Routed route why gone) = a
   onward_at a (Collecting number) = a
-  onward_at a (Searching ask at looked) = a
-  onward_at a (Fetching ask at looked seen) = a
+  onward_at a (Searching ask at part) = a
+  onward_at a (Fetching ask at part seen) = a
   onward_at a (Creating ask p) = a
   onward_at a (Giving given to) = a
   onward_at a (Taking name tries left) = a
@@ -144,6 +145,7 @@ module _ (setup : Setup) where
   first_actor me = observed
       (record {
         instance = first_instance me;
+        lists = no_lists;
         held = [];
         todo = setup.texts me;
         stage = first_stage (is_scheduler setup me);

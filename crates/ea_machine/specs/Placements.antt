@@ -1,21 +1,23 @@
 -- How a block finds its place.
-use Rattle.std.specs.Prelude.{ℕ, ◌+◌, ◌-◌, Bool, true, false, ◌&&◌, nat_lt, nat_le, Option, None}
-use Rattle.std.specs.Prelude.{Some, Result, Ok, Err}
+use Rattle.std.specs.Prelude.{ℕ, Bool, true, false, Option, None, Some, Result, Ok, Err}
 use Rattle.ea_model.specs.declared.carriers.Place.{Place}
 use Rattle.ea_model.specs.declared.carriers.Spot.{Spot}
 use Rattle.ea_model.specs.declared.carriers.CarrierPlan.{CarrierPlan}
 use Rattle.ea_model.specs.declared.entries.NoCarrier.{NoCarrier}
 use Rattle.ea_model.specs.declared.entries.Entry.{Entry}
 use Rattle.ea_model.specs.declared.entries.Entry.TheVariants as entry
-use Rattle.ea_model.specs.declared.units.TheConstants.{SEARCH_LIMIT}
+use Rattle.ea_model.specs.Content.{Content}
 use Rattle.ea_model.specs.Instance.{chosen_spot, creating, creating_single, is_alone, place_at}
 use Rattle.ea_model.specs.Instance.{placing_at, plan, single_place}
 use Rattle.ea_machine.specs.declared.owners.OwnerWord.{OwnerWord}
-use Rattle.ea_machine.specs.declared.owners.OwnerWord.TheVariants as word
 use Rattle.ea_machine.specs.Nodes.{with_name}
 use Rattle.ea_machine.specs.declared.nodes.Named.{Named}
 use Rattle.ea_machine.specs.Setup.{Setup, greatest_number, migration}
 use Rattle.ea_machine.specs.declared.stages.Stage.TheVariants.{Creating, Fetching, Searching}
+use Rattle.ea_machine.specs.declared.parts.Part.{Part}
+use Rattle.ea_machine.specs.Lists.{unlisted}
+use Rattle.ea_machine.specs.Searches.{Search, fits, goes_on, looked_in, new_search, passed}
+use Rattle.ea_machine.specs.Searches.{with_counted}
 use Rattle.ea_machine.specs.Actor.{Actor}
 use Rattle.ea_machine.specs.declared.tasks.Task.TheVariants.{Moving}
 use Rattle.ea_machine.specs.declared.asks.Ask.{Ask}
@@ -36,31 +38,12 @@ abbrev pub failed : Ask → ℕ → NoCarrier → Option Named → Entry
 failed ask looked why None = entry.AllocFail ask.name ask.need looked why
 failed ask looked why (Some old) = entry.ReallocFail old.name ask.name ask.need looked why
 
--- whether a search counts the word: pooled and busy carriers are looked at up to a limit
-abbrev pub counts : OwnerWord → Bool
-counts word.Absent = false
-counts (word.Employed i) = false
-counts (word.Pooled i largest) = true
-counts (word.Busy i) = true
-counts (word.Returning i) = false
-
--- by whether one more counts
-abbrev pub counted_by : Bool → ℕ → ℕ
-counted_by true looked = looked + 1
-counted_by false looked = looked
-
--- how many words are counted with this one
-abbrev pub counted : OwnerWord → ℕ → ℕ
-counted w looked = counted_by (counts w) looked
-
--- whether the search tries to fetch the carrier of the word: it is pooled, and its largest gap has
--- the units
-abbrev pub fits : ℕ → OwnerWord → Bool
-fits need word.Absent = false
-fits need (word.Employed i) = false
-fits need (word.Pooled i largest) = nat_le need largest
-fits need (word.Busy i) = false
-fits need (word.Returning i) = false
+-- the instance employs a carrier that it fetched, which is in none of its lists now
+abbrev pub fetches : ℕ → Content → Actor → Actor
+fetches at x a = record a {
+  instance = employing a.instance x;
+  lists = unlisted at a.lists;
+}
 
 module _ (setup : Setup) (me : ℕ) where
   -- the block is placed: an allocation is over, and of a reallocation the old block goes
@@ -110,18 +93,18 @@ module _ (setup : Setup) (me : ℕ) where
   new_carrier ask looked a = new_carrier_by ask looked a (plan a.instance ask.need)
 
   -- whether the search looks at one more number
-  abbrev pub searched_by : Ask → ℕ → ℕ → Actor → Bool → Actor
-  searched_by ask at looked a true = record a { stage = Searching ask at looked }
-  searched_by ask at looked a false = new_carrier ask looked a
+  abbrev pub searched_by : Ask → Search → Actor → Bool → Actor
+  searched_by ask x a true = record a { stage = Searching ask x.at x.part }
+  searched_by ask x a false = new_carrier ask (looked_in x.part) a
 
-  -- the search looks at the number next, if there is one and the limit isn't reached
-  abbrev pub search_at : Ask → ℕ → ℕ → Actor → Actor
-  search_at ask at looked a = searched_by ask at looked a
-      (nat_lt 0 at && nat_lt looked SEARCH_LIMIT)
+  -- the search looks at its next number, if there is one, and a new carrier is planned else. It
+  -- leaves the lists as they are now
+  abbrev pub search_on : Ask → Search → Actor → Actor
+  search_on ask x a = searched_by ask x (record a { lists = x.lists }) (goes_on x.part)
 
-  -- whether carriers migrate: then the pool is searched, from the greatest number down
+  -- whether carriers migrate: then one is searched for
   abbrev pub search_if : Ask → Actor → Bool → Actor
-  search_if ask a true = search_at ask (greatest_number setup) 0 a
+  search_if ask a true = search_on ask (new_search (greatest_number setup) a.lists) a
   search_if ask a false = new_carrier ask 0 a
 
   -- the block is placed at the chosen spot, if there is one
@@ -139,20 +122,23 @@ module _ (setup : Setup) (me : ℕ) where
   abbrev pub seek : Ask → Actor → Actor
   seek ask a = seek_by ask a (is_alone a.instance ask.need)
 
+  -- the search goes past the number, whose carrier it doesn't get
+  abbrev pub pass : Ask → ℕ → Part → Actor → OwnerWord → Actor
+  pass ask at part a w = search_on ask (passed (greatest_number setup) a.lists at part w) a
+
   -- whether the word that was seen fits
-  abbrev pub saw_by : Ask → ℕ → ℕ → Actor → OwnerWord → Bool → Actor
-  saw_by ask at looked a w true = record a { stage = Fetching ask at looked w }
-  saw_by ask at looked a w false = search_at ask (at - 1) looked a
+  abbrev pub saw_by : Ask → ℕ → Part → Actor → OwnerWord → Bool → Actor
+  saw_by ask at part a w true = record a { stage = Fetching ask at part w }
+  saw_by ask at part a w false = pass ask at part a w
 
   -- the search looked at a number
-  abbrev pub searched : Ask → ℕ → ℕ → Actor → Answer → Actor
-  searched ask at looked a (Saw w) = saw_by ask at (counted w looked) a w (fits ask.need w)
-  searched ask at looked a _ = halted a
+  abbrev pub searched : Ask → ℕ → Part → Actor → Answer → Actor
+  searched ask at part a (Saw w) = saw_by ask at (with_counted w part) a w (fits ask.need w)
+  searched ask at part a _ = halted a
 
   -- the carrier was fetched, and the block is placed; or another scheduler was faster, and the
   -- search goes on
-  abbrev pub fetched : Ask → ℕ → ℕ → Actor → Answer → Actor
-  fetched ask at looked a (Won x) = placed_in_choice ask
-      (record a { instance = employing a.instance x })
-  fetched ask at looked a (Lost w) = search_at ask (at - 1) looked a
-  fetched ask at looked a _ = halted a
+  abbrev pub fetched : Ask → ℕ → Part → Actor → Answer → Actor
+  fetched ask at part a (Won x) = placed_in_choice ask (fetches at x a)
+  fetched ask at part a (Lost w) = pass ask at part a w
+  fetched ask at part a _ = halted a

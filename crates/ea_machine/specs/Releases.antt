@@ -16,6 +16,7 @@ use Rattle.ea_machine.specs.declared.stages.Route.{Route}
 use Rattle.ea_machine.specs.declared.stages.Route.TheVariants.{Looking, Trying, Settling}
 use Rattle.ea_machine.specs.declared.stages.Route.TheVariants.{Abandoning, Sending, Clearing}
 use Rattle.ea_machine.specs.declared.stages.Route.TheVariants.{Pushing, Linking}
+use Rattle.ea_machine.specs.Lists.{pooled_if, unlisted}
 use Rattle.ea_machine.specs.Actor.{Actor}
 use Rattle.ea_machine.specs.declared.tasks.Gone.{Gone}
 use Rattle.ea_machine.specs.declared.tasks.Gone.TheVariants.{Open, Here, Queued}
@@ -54,6 +55,15 @@ dismissed number a = record a { instance = dismissing a.instance number }
 -- it no longer owns the carrier
 abbrev pub disowned : ℕ → Actor → Actor
 disowned number a = record a { instance = disowning a.instance number }
+
+-- the carrier is in none of its lists any longer; another's carrier is in none anyway
+abbrev pub struck : ℕ → Actor → Actor
+struck number a = record a { lists = unlisted number a.lists }
+
+-- a carrier was abandoned: an own one comes last in the pooled list
+abbrev pub abandoned : ℕ → ℕ → Actor → Actor
+abandoned me number a =
+    record a { lists = pooled_if (owner_of number == me) number a.lists }
 
 -- a carrier is abandoned, if that is due; else the route is over
 abbrev pub abandoned_if : Bool → Content → Gone → Actor → Turned
@@ -138,9 +148,10 @@ module _ (setup : Setup) (me : ℕ) where
   looked_at hand gone a (Saw w) = looked hand gone a w
   looked_at hand gone a _ = ends gone a
 
-  -- the carrier was settled, and whether it is empty: then it leaves, else it is in the pool again
+  -- the carrier was settled, and whether it is empty: then it is employed, and leaves; else it is
+  -- in the pool again
   abbrev pub settled : Bool → Content → Gone → Actor → Turned
-  settled true x gone a = leaving x gone a
+  settled true x gone a = leaving x gone (struck x.number a)
   settled false x gone a = ends gone a
 
   -- the route once its row is answered
@@ -148,7 +159,7 @@ module _ (setup : Setup) (me : ℕ) where
   turned (Looking hand) gone a r = looked_at hand gone a r
   turned (Trying hand seen) gone a r = tried hand gone a r
   turned (Settling x) gone a r = settled (is_nil x.blocks) x gone a
-  turned (Abandoning x) gone a r = ends gone a
+  turned (Abandoning x) gone a r = ends gone (abandoned me x.number a)
   turned (Sending x) gone a r = goes_on (Pushing (Carrier x.number) (owner_of x.number)) gone a
   turned (Clearing x) gone a r = ends gone (disowned x.number a)
   turned (Pushing node to) gone a r = goes_on (Linking node to) gone a

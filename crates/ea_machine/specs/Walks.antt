@@ -11,7 +11,7 @@ use Rattle.ea_machine.specs.declared.tasks.Why.{Why}
 use Rattle.ea_machine.specs.declared.tasks.Why.TheVariants.{Walk, For}
 use Rattle.ea_machine.specs.declared.tasks.Gone.{Gone}
 use Rattle.ea_machine.specs.Rows.{Answer, Head, Rests, Passes}
-use Rattle.ea_machine.specs.Releases.{disowned, route_of}
+use Rattle.ea_machine.specs.Releases.{disowned, route_of, struck}
 use Rattle.ea_machine.specs.Tasks.{carried, halted, task_over}
 
 -- the begin is over
@@ -37,9 +37,9 @@ module _ (setup : Setup) (me : ℕ) where
       (route_of setup me (record { name = name; spot = spot }) (record a { passed = nodes }))
   worked_off (Carrier number ∷ nodes) a = record a { stage = Collecting number; passed = nodes }
 
-  -- the carrier was collected
+  -- the carrier was collected: it is no longer there
   abbrev pub collected : ℕ → Actor → Actor
-  collected number a = worked_off a.passed (disowned number a)
+  collected number a = worked_off a.passed (disowned number (struck number a))
 
   -- what comes after a route
   abbrev pub after_route : Why → Gone → Actor → Actor

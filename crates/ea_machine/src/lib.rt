@@ -2,18 +2,18 @@
 //! the protocol of blocks that another scheduler frees than the one that allocated them, and of
 //! carriers that are abandoned into a pool and fetched from it.
 //!
-//! There is no code here but nine types, each in its module. The machine is defined in `specs/`,
+//! There is no code here but ten types, each in its module. The machine is defined in `specs/`,
 //! which read as its manual, in this order:
 //!
 //! - `Setup` is what stays the same in a run; `Owners` and `Nodes` are what is shared of a carrier
 //!   and of a queue, `Words` and `Alike` say what words can show and which nodes are those of one
-//!   name, and `Shared` is all that is shared; `Actor` is one scheduler, `State` is all of them
-//!   with what they share.
+//!   name, and `Shared` is all that is shared; `Lists` are the numbers of own carriers that an
+//!   instance doesn't employ, `Actor` is one scheduler, `State` is all of them with what they share.
 //! - `Rows` names the atomic steps, `Table` says what each of them answers and does, and `Guards`
 //!   what holds whenever one is wanted.
 //! - What a scheduler does between two steps is its own affair: `Walks` begins an operation,
 //!   `Operations` has each of the seven, `Placements`, `Reallocations` and `Releases` what becomes
-//!   of a block, `Tasks` how an operation ends, and `Statistics` its figures. When a carrier is
+//!   of a block, `Searches` in which order a search looks at carriers, `Tasks` how an operation ends, and `Statistics` its figures. When a carrier is
 //!   abandoned, and how carriers come to an instance and leave it, are `Abandonment` and
 //!   `Employment` of ea_model.
 //! - `Machine` puts them together: a scheduler wants a row, the row is answered, the scheduler goes
@@ -28,11 +28,13 @@
 pub mod asks;
 pub mod nodes;
 pub mod owners;
+pub mod parts;
 pub mod stages;
 pub mod tasks;
 
 pub use asks::Ask;
 pub use nodes::{Named, Node};
 pub use owners::OwnerWord;
+pub use parts::Part;
 pub use stages::{Route, Stage};
 pub use tasks::{Gone, Task, Why};

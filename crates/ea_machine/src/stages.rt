@@ -4,6 +4,7 @@
 use crate::asks::Ask;
 use crate::nodes::{Named, Node};
 use crate::owners::OwnerWord;
+use crate::parts::Part;
 use crate::tasks::{Gone, Why};
 use ea_model::CarrierPlan;
 
@@ -44,17 +45,17 @@ pub enum Stage<C> {
     Collecting {
         number: u32,
     },
-    /// It searches the pool, next at a number, with that many words counted.
+    /// It searches for a carrier, next at a number, in a part of the search.
     Searching {
         ask: Ask,
         at: u32,
-        looked: u32,
+        part: Part,
     },
     /// It saw a carrier in the pool that fits, and is to fetch it.
     Fetching {
         ask: Ask,
         at: u32,
-        looked: u32,
+        part: Part,
         seen: OwnerWord,
     },
     /// It is to create the carrier of a plan.

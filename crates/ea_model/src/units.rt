@@ -24,6 +24,8 @@ pub const MAX_NAME: u32 = 262_144;
 pub const MAX_OPS: u32 = 262_144;
 /// The pooled or busy carriers after which a search of the pool ends.
 pub const SEARCH_LIMIT: u32 = 16;
+/// The most numbers that a search looks at in each of its instance's own lists.
+pub const LIST_LIMIT: u32 = 8;
 /// The most bytes of a request.
 pub const MAX_BYTES: u32 = 1_073_741_823;
 /// The most tries of one take.

@@ -88,11 +88,11 @@ both-mapped {A} {B} {C} f g p q (x ∷ xs) (y ∷ ys) a b =
     ap (λ z. (z ++ g x) ∷ map (λ x. f x ++ g x) xs) (heads a)
     ∙ ap (λ z. (p y ++ z) ∷ map (λ x. f x ++ g x) xs) (heads b)
     ∙ ap (λ zs. (p y ++ q y) ∷ zs) (both-mapped f g p q xs ys (tails a) (tails b)) where
-  heads : {x y : List C} {xs ys : List (List C)} → x ∷ xs ≡ y ∷ ys → x ≡ y
-  heads e = cc
+      heads : {x y : List C} {xs ys : List (List C)} → x ∷ xs ≡ y ∷ ys → x ≡ y
+      heads e = cc
 
-  tails : {x y : List C} {xs ys : List (List C)} → x ∷ xs ≡ y ∷ ys → xs ≡ ys
-  tails e = cc
+      tails : {x y : List C} {xs ys : List (List C)} → x ∷ xs ≡ y ∷ ys → xs ≡ ys
+      tails e = cc
 
 -- totals that are the same, one by one
 abbrev IsTotals : Totals → Totals → Type 0

@@ -1,8 +1,10 @@
 -- What the calls of a scheduler on carriers ask for, as what is shared is told, and what it has of
 -- a carrier by their answers.
+use Rattle.ea_sound.proofs.ListedCalls as listed
 use Rattle.std.proofs.Common.{◌≡◌, ◌≢◌, ℕ, ◌%◌, ◌<◌, true, [], refl, sym, ap, ◌∙◌}
 use Rattle.std.proofs.Common.{subst, arith}
-use Rattle.std.specs.Prelude.{IfSome, IsSome, None, Option}
+use Rattle.std.specs.Prelude.{IfSome, IsSome, None, Option, ◌+◌, length}
+use Rattle.ea_model.specs.declared.units.TheConstants.{NUMBERS}
 use Rattle.ea_model.specs.declared.carriers.Kind.TheVariants.{Multi}
 use Rattle.ea_model.specs.Content.{Content, block_at, gaps_of, largest}
 use Rattle.ea_model.specs.Instance.{Instance, block_in, content_of, employed, own_at}
@@ -118,6 +120,14 @@ module _ {stage : Stage Content} (s : Scheduler) {shared : Option Shared} {calle
         abandon-carrier = of-run x.number
             (leaving.abandon-number s.config s.trace.now h.config h.trace h.state h.reached me
             number why gone x (in_state s h (Routed (Abandoning x) why gone) now))
+
+        -- there is room for its number, where it is an own one
+        pub abandon-room : owner_of x.number ≡ me
+            → length s.lists.lists.pooled + length s.lists.lists.traitors < NUMBERS
+        abandon-room own = subst (λ (a : Actor). length a.lists.pooled + length a.lists.traitors
+            < NUMBERS) h.actor
+            (listed.abandon-room s.config s.trace.now h.config h.trace h.state h.reached me number
+            why gone x (in_state s h (Routed (Abandoning x) why gone) now) own)
 
         pub abandon-employed : IfSome shared (λ y. y.places x.number ≡ Employed me)
         abandon-employed = told-so s h (λ y. y.places x.number ≡ Employed me)

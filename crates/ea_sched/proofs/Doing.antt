@@ -174,8 +174,8 @@ pub stage-ends : (stage : Stage Content) → is_ended stage ≡ true → stage �
 stage-ends (stages.Routed route why gone) ends = absurd cc
 stage-ends stages.Begin ends = absurd cc
 stage-ends (stages.Collecting number) ends = absurd cc
-stage-ends (stages.Searching ask at looked) ends = absurd cc
-stage-ends (stages.Fetching ask at looked seen) ends = absurd cc
+stage-ends (stages.Searching ask at part) ends = absurd cc
+stage-ends (stages.Fetching ask at part seen) ends = absurd cc
 stage-ends (stages.Creating ask p) ends = absurd cc
 stage-ends (stages.Giving given to) ends = absurd cc
 stage-ends (stages.Taking name tries left) ends = absurd cc

@@ -1,7 +1,9 @@
 -- What the placing of a block makes of an actor, by what it changes.
-use Rattle.std.proofs.Common.{◌≡◌, ◌≢◌, ℕ, ◌-◌, ◌&&◌, Bool, true, false, List, ◌∷◌}
+use Rattle.ea_machine.specs.declared.parts.Part.{Part}
+use Rattle.ea_machine.specs.Placements.{fetches}
+use Rattle.std.proofs.Common.{◌≡◌, ◌≢◌, ℕ, Bool, true, false, List, ◌∷◌}
 use Rattle.std.proofs.Common.{refl, sym, ap, ◌∙◌}
-use Rattle.std.specs.Prelude.{◌↔◌, Option, None, Some, Result, Ok, Err, is_some, nat_lt}
+use Rattle.std.specs.Prelude.{◌↔◌, Option, None, Some, Result, Ok, Err, is_some}
 use Rattle.std.specs.Prelude.{if◌then◌else◌}
 use Rattle.ea_model.specs.declared.carriers.CarrierPlan.{CarrierPlan}
 use Rattle.ea_model.specs.declared.carriers.Place.{Place}
@@ -10,9 +12,7 @@ use Rattle.ea_model.specs.declared.entries.NoCarrier.{NoCarrier}
 use Rattle.ea_model.specs.declared.reallocation.Decision.{Decision}
 use Rattle.ea_model.specs.declared.reallocation.Decision.TheVariants.{Stay, ShrinkHere, GrowHere}
 use Rattle.ea_model.specs.declared.reallocation.Decision.TheVariants.{ShrinkCarrier, Move}
-use Rattle.ea_model.specs.declared.units.TheConstants.{SEARCH_LIMIT}
 use Rattle.ea_model.specs.Content.{Content}
-use Rattle.ea_model.specs.Employment.{employing}
 use Rattle.ea_model.specs.Instance.{Instance, chosen_spot, creating, creating_single, decision_at}
 use Rattle.ea_model.specs.Instance.{employed, has_content, is_alone, place_at, placing_at, plan}
 use Rattle.ea_model.specs.Instance.{single_place}
@@ -31,19 +31,19 @@ use Rattle.ea_machine.specs.declared.tasks.Task.TheVariants.{Moving}
 use Rattle.ea_machine.specs.declared.tasks.Why.TheVariants.{For, Walk}
 use Rattle.ea_machine.specs.Actor.{Actor}
 use Rattle.ea_machine.specs.Machine.{onward}
-use Rattle.ea_machine.specs.Placements.{chosen_by, counted, created, created_by, fetched, fits}
+use Rattle.ea_machine.specs.Placements.{chosen_by, created, created_by, fetched}
+use Rattle.ea_machine.specs.Searches.{Search, fits, goes_on, looked_in, next_number, passed}
+use Rattle.ea_machine.specs.Searches.{with_counted}
 use Rattle.ea_machine.specs.Placements.{holding, making, new_carrier, new_carrier_by, placed_by}
-use Rattle.ea_machine.specs.Placements.{placed_in_choice, saw_by, search_at, search_if, searched}
+use Rattle.ea_machine.specs.Placements.{placed_in_choice, saw_by, search_if, search_on, searched}
 use Rattle.ea_machine.specs.Placements.{searched_by, seek, seek_by, spot_of_place, stands}
 use Rattle.ea_machine.specs.Releases.{routed}
 use Rattle.ea_machine.specs.Rows.{Saw, Won}
-use Rattle.ea_machine.specs.Setup.{Setup, migration}
+use Rattle.ea_machine.specs.Setup.{Setup, greatest_number, migration}
 use Rattle.ea_machine.specs.Tasks.{carried, hands_over, let_go, task_over}
 use Rattle.ea_machine.specs.Walks.{ready, worked_off}
-use Rattle.ea_search.specs.declared.search.Search.{Search}
 use Rattle.ea_search.specs.declared.search.Verdict.{Verdict}
 use Rattle.ea_search.specs.declared.search.Verdict.TheVariants.{Skip, Try}
-use Rattle.ea_search.specs.Looks.{next_number}
 use Rattle.ea_sched.specs.Passing.{stage_for}
 
 -- a block whose carrier isn't employed here is to move where it is reallocated
@@ -76,28 +76,21 @@ at-by : (b : Bool) (x n : ℕ) → (if b then Some x else None) ≡ Some n → n
 at-by true x n e = cc
 at-by false x n e = absurd cc
 
-next-at : (s : Search) (n : ℕ) → next_number s ≡ Some n → n ≡ s.at
-next-at s n = at-by (nat_lt 0 s.at && nat_lt s.looked SEARCH_LIMIT) s.at n
+module _ (e : Setup) (me : ℕ) (ask : Ask) (x : Search) (a : Actor) where
+  abbrev there : Actor
+  there = record a { lists = x.lists }
 
-next-looks : (s : Search) (n : ℕ) → next_number s ≡ Some n
-    → (nat_lt 0 s.at && nat_lt s.looked SEARCH_LIMIT) ≡ true
-next-looks s n = looks-by (nat_lt 0 s.at && nat_lt s.looked SEARCH_LIMIT) s.at n
-
-next-ends : (s : Search) → next_number s ≡ None
-    → (nat_lt 0 s.at && nat_lt s.looked SEARCH_LIMIT) ≡ false
-next-ends s = ends-by (nat_lt 0 s.at && nat_lt s.looked SEARCH_LIMIT) s.at
-
-module _ (e : Setup) (me : ℕ) (ask : Ask) (s : Search) (a : Actor) where
   -- it looks at that number
-  pub next-searches : (n : ℕ) → next_number s ≡ Some n
-      → record a { stage = Searching ask n s.looked } ≡ search_at e me ask s.at s.looked a
-  next-searches n next = ap (λ m. record a { stage = Searching ask m s.looked }) (next-at s n next)
-      ∙ sym (ap (searched_by e me ask s.at s.looked a) (next-looks s n next))
+  pub next-searches : (n : ℕ) → next_number x ≡ Some n
+      → record there { stage = Searching ask n x.part } ≡ search_on e me ask x a
+  next-searches n next =
+      ap (λ m. record there { stage = Searching ask m x.part }) (at-by (goes_on x.part) x.at n next)
+      ∙ sym (ap (searched_by e me ask x there) (looks-by (goes_on x.part) x.at n next))
 
   -- where none is next a carrier is created
-  pub none-creates : next_number s ≡ None
-      → new_carrier e me ask s.looked a ≡ search_at e me ask s.at s.looked a
-  none-creates none = sym (ap (searched_by e me ask s.at s.looked a) (next-ends s none))
+  pub none-creates : next_number x ≡ None
+      → new_carrier e me ask (looked_in x.part) there ≡ search_on e me ask x a
+  none-creates none = sym (ap (searched_by e me ask x there) (ends-by (goes_on x.part) x.at none))
 
 -- it passes a carrier over that doesn't fit
 pub skips-unfit : {verdict : Verdict} (b : Bool) → (verdict ≡ Try) ↔ (b ≡ true)
@@ -134,10 +127,10 @@ module _ (e : Setup) (me : ℕ) (on : migration e ≡ true) where
     onward-chosen a = onward-placed a (chosen_spot a.instance ask.need)
 
     -- a carrier was fetched
-    pub onward-won : (a : Actor) (at looked : ℕ) (x : Content)
-        → onward e me (fetched e me ask at looked a (Won x))
-        ≡ placed_in_choice e me ask (record (ready a) { instance = employing a.instance x })
-    onward-won a at looked x = onward-chosen (record a { instance = employing a.instance x })
+    pub onward-won : (a : Actor) (at : ℕ) (part : Part) (x : Content)
+        → onward e me (fetched e me ask at part a (Won x))
+        ≡ placed_in_choice e me ask (fetches at x (ready a))
+    onward-won a at part x = onward-chosen (fetches at x a)
 
     -- a carrier was created
     created-by : (p : CarrierPlan) (a : Actor) (single : Bool)
@@ -159,31 +152,33 @@ module _ (e : Setup) (me : ℕ) (on : migration e ≡ true) where
     new-by looked a (Err why) = refl
 
     -- the search goes on
-    searched-by : (at looked : ℕ) (a : Actor) (b : Bool)
-        → onward e me (searched_by e me ask at looked a b)
-        ≡ searched_by e me ask at looked (ready a) b
-    searched-by at looked a true = refl
-    searched-by at looked a false = new-by looked a (plan a.instance ask.need)
+    searched-by : (x : Search) (a : Actor) (b : Bool)
+        → onward e me (searched_by e me ask x a b) ≡ searched_by e me ask x (ready a) b
+    searched-by x a true = refl
+    searched-by x a false = new-by (looked_in x.part) a (plan a.instance ask.need)
 
-    pub onward-search : (at looked : ℕ) (a : Actor)
-        → onward e me (search_at e me ask at looked a) ≡ search_at e me ask at looked (ready a)
-    onward-search at looked a =
-        searched-by at looked a (nat_lt 0 at && nat_lt looked SEARCH_LIMIT)
+    pub onward-search : (x : Search) (a : Actor)
+        → onward e me (search_on e me ask x a) ≡ search_on e me ask x (ready a)
+    onward-search x a = searched-by x (record a { lists = x.lists }) (goes_on x.part)
 
-    -- it saw a word that fits
-    pub onward-try : (at looked : ℕ) (a : Actor) (w : OwnerWord) → fits ask.need w ≡ true
-        → onward e me (searched e me ask at looked a (Saw w))
-        ≡ record a { stage = Fetching ask at (counted w looked) w }
-    onward-try at looked a w fit =
-        ap (λ b. onward e me (saw_by e me ask at (counted w looked) a w b)) fit
+    module _ (at : ℕ) (part : Part) (a : Actor) (w : OwnerWord) where
+      saw : Bool → Actor
+      saw b = saw_by e me ask at (with_counted w part) a w b
 
-    -- or one that doesn't
-    pub onward-skip : (at looked : ℕ) (a : Actor) (w : OwnerWord) → fits ask.need w ≡ false
-        → onward e me (searched e me ask at looked a (Saw w))
-        ≡ search_at e me ask (at - 1) (counted w looked) (ready a)
-    onward-skip at looked a w other =
-        ap (λ b. onward e me (saw_by e me ask at (counted w looked) a w b)) other
-        ∙ onward-search (at - 1) (counted w looked) a
+      -- it saw a word that fits
+      pub onward-try : fits ask.need w ≡ true
+          → onward e me (searched e me ask at part a (Saw w))
+          ≡ record a { stage = Fetching ask at (with_counted w part) w }
+      unfolding saw
+      onward-try fit = ap (λ b. onward e me (saw b)) fit
+
+      -- or one that doesn't
+      pub onward-skip : fits ask.need w ≡ false
+          → onward e me (searched e me ask at part a (Saw w)) ≡ search_on e me ask
+          (passed (greatest_number e) a.lists at (with_counted w part) w) (ready a)
+      unfolding saw
+      onward-skip other = ap (λ b. onward e me (saw b)) other
+          ∙ onward-search (passed (greatest_number e) a.lists at (with_counted w part) w) a
 
 -- nothing is chosen among the employed carriers
 pub seek-beyond : (e : Setup) (me : ℕ) (a : Actor) (ask : Ask)

@@ -1,5 +1,7 @@
 -- What the rows ask for by which a scheduler searches, fetches and creates a carrier, and where
 -- their answers leave it.
+use Rattle.ea_machine.specs.declared.parts.Part.{Part}
+use Rattle.ea_machine.specs.declared.parts.Part.TheVariants.{Own, Traitors, Pool}
 use Rattle.std.proofs.Common.{◌≡◌, ℕ, ◌*◌, ◌<◌, ◌≤◌, true, false, List, [], ◌∷◌, drop}
 use Rattle.std.proofs.Common.{refl, sym, ap, ◌∙◌, subst, arith}
 use Rattle.std.specs.Prelude.{Option, None, Some, IfSome, IsSome, All, option_map, Ok}
@@ -8,7 +10,7 @@ use Rattle.ea_model.specs.declared.carriers.Spot.{Spot}
 use Rattle.ea_model.specs.declared.carriers.Kind.TheVariants.{Multi}
 use Rattle.ea_model.specs.declared.operations.Op.{Op}
 use Rattle.ea_model.specs.declared.operations.Op.TheVariants as op
-use Rattle.ea_model.specs.declared.units.TheConstants.{MAX_PAGES, NUMBERS, SEARCH_LIMIT}
+use Rattle.ea_model.specs.declared.units.TheConstants.{MAX_PAGES, NUMBERS}
 use Rattle.ea_model.specs.Content.{Content}
 use Rattle.ea_model.specs.Employment.{employing}
 use Rattle.ea_model.specs.Instance.{Instance, chosen_spot, content_of, employed}
@@ -23,7 +25,9 @@ use Rattle.ea_machine.specs.declared.stages.Stage.{Stage}
 use Rattle.ea_machine.specs.declared.stages.Stage.TheVariants.{Creating, Fetching, Searching}
 use Rattle.ea_machine.specs.Actor.{Actor}
 use Rattle.ea_machine.specs.Machine.{after_row, onward}
+use Rattle.ea_machine.specs.Lists.{times_listed}
 use Rattle.ea_machine.specs.Owners as owners
+use Rattle.ea_machine.specs.Searches.{goes_on, left_in}
 use Rattle.ea_machine.specs.Nodes.{named_at, spot_named}
 use Rattle.ea_machine.specs.Rows.{FetchTry, Won}
 use Rattle.ea_machine.specs.Setup.{Setup, migration}
@@ -32,10 +36,11 @@ use Rattle.ea_machine.specs.State.{State}
 use Rattle.ea_machine.specs.Statistics.{observed}
 use Rattle.ea_machine.specs.Table.{tried_at}
 use Rattle.ea_names.specs.Holding.{has_place}
-use Rattle.ea_search.specs.Looks.{next_number}
+use Rattle.ea_search.specs.Looks.{IsInList}
 use Rattle.ea_shared.specs.Calls.{Caller, Did}
 use Rattle.ea_shared.specs.Carriers.{IsCarrier, IsPooled}
-use Rattle.ea_sound.specs.Present.{Asked, Fits, OfAsk}
+use Rattle.ea_sound.specs.Listed.{LooksAt}
+use Rattle.ea_sound.specs.Present.{Asked, Fits, HasLeft, OfAsk}
 use Rattle.ea_sound.proofs.Asked.{reached-rule}
 use Rattle.ea_sound.proofs.AskedCalls as asks
 use Rattle.ea_sound.proofs.CarrierCalls as carriers
@@ -88,6 +93,18 @@ module _ {stage : Stage Content} (s : Scheduler) {shared : Option Shared} {calle
 
   same-instance : (w.actors me).instance ≡ s.instance
   same-instance = ap (λ (x : Actor). x.instance) h.actor
+
+  listed-here : (at : ℕ) → 1 ≤ times_listed at (w.actors me).lists
+      → 1 ≤ times_listed at s.lists.lists
+  listed-here at listed = subst (λ (x : Actor). 1 ≤ times_listed at x.lists) h.actor listed
+
+  -- before a number that is left
+  stands-before : (e : Setup) (at : ℕ) (part : Part) → HasLeft e part
+      → LooksAt e (w.actors me).lists at part
+      → (1 ≤ left_in part) × IsInList part at s.lists.lists
+  stands-before e at (Own left) some looks = (some.0, listed-here at looks)
+  stands-before e at (Traitors left) some looks = (some.0, listed-here at looks)
+  stands-before e at (Pool left looked) some looks = (some.0, tt)
 
   suits : (at : Stage Content) → stage ≡ at → Fits e w me (w.actors me) at
   suits at now = subst (Fits e w me (w.actors me)) (in_state at now)
@@ -142,21 +159,22 @@ module _ {stage : Stage Content} (s : Scheduler) {shared : Option Shared} {calle
       }
 
   -- a search is to look at its next number
-  module _ (ask : Ask) (at looked : ℕ) (now : stage ≡ Searching ask at looked) where
-    searches : Fits e w me (w.actors me) (Searching ask at looked)
-    searches = suits (Searching ask at looked) now
+  module _ (ask : Ask) (at : ℕ) (part : Part) (now : stage ≡ Searching ask at part) where
+    searches : Fits e w me (w.actors me) (Searching ask at part)
+    searches = suits (Searching ask at part) now
 
     pub search-on : migration e ≡ true
-    search-on = searches.5
+    search-on = searches.4
 
     pub search-carrier : {count : ℕ} → count ≡ s.config.schedulers → IsCarrier count at
-    search-carrier same = as-carrier same (searches.1, searches.2)
+    search-carrier same = as-carrier same (carriers.search-number s.config s.trace.now h.config
+        h.trace w h.reached me number ask at part (in_state (Searching ask at part) now))
 
-    pub search-next : IsSome (next_number (record { at = at; looked = looked }))
-    search-next = goes at looked searches.1 searches.3 where
-      goes : (n k : ℕ) → 0 < n → k < SEARCH_LIMIT
-          → IsSome (next_number (record { at = n; looked = k }))
-      goes n k some few = grind (arith, some, few)
+    pub search-next : goes_on part ≡ true
+    search-next = searches.2
+
+    pub search-before : (1 ≤ left_in part) × IsInList part at s.lists.lists
+    search-before = stands-before e at part searches.1 searches.5
 
     pub search-more : HasMore s
     search-more = ask-more ask searches.0
@@ -165,8 +183,8 @@ module _ {stage : Stage Content} (s : Scheduler) {shared : Option Shared} {calle
         → IsAsked s.instance t ask
     search-asked t names moves = ask-asked ask searches.0 search-on t names moves s.instance
 
-    observes : observed (standing_at (Searching ask at looked) s)
-        ≡ standing_at (Searching ask at looked) s
+    observes : observed (standing_at (Searching ask at part) s)
+        ≡ standing_at (Searching ask at part) s
     observes = subst (λ st. observed (standing_at st s) ≡ standing_at st s) now
         (subst (λ (x : Actor). observed x ≡ x) h.actor (reached-observed e me w h.reached))
 
@@ -178,29 +196,31 @@ module _ {stage : Stage Content} (s : Scheduler) {shared : Option Shared} {calle
       row = did;
       is = sym (subst (λ (x : Actor). observed x ≡ x) (sym (did.is
           ∙ ap (λ at. onward e me (after_row e me (standing_at at s) did.got at)) now))
-          (searched-observed (standing_at (Searching ask at looked) s) observes refl e me search-on
-          ask at looked did.got));
+          (searched-observed (standing_at (Searching ask at part) s) observes refl e me search-on
+          ask at part did.got));
     }
 
   -- a carrier is to be fetched
-  module _ (ask : Ask) (at looked : ℕ) (seen : OwnerWord)
-      (now : stage ≡ Fetching ask at looked seen) where
-    fetches : Fits e w me (w.actors me) (Fetching ask at looked seen)
-    fetches = suits (Fetching ask at looked seen) now
+  module _ (ask : Ask) (at : ℕ) (part : Part) (seen : OwnerWord)
+      (now : stage ≡ Fetching ask at part seen) where
+    fetches : Fits e w me (w.actors me) (Fetching ask at part seen)
+    fetches = suits (Fetching ask at part seen) now
 
     pub fetch-on : migration e ≡ true
-    fetch-on = fetches.5
-
-    pub fetch-some : 0 < at
-    fetch-some = fetches.1
+    fetch-on = fetches.3
 
     pub fetch-carrier : {count : ℕ} → count ≡ s.config.schedulers → IsCarrier count at
-    fetch-carrier same = as-carrier same (fetches.1, fetches.2)
+    fetch-carrier same = as-carrier same (carriers.fetch-number s.config s.trace.now h.config
+        h.trace w h.reached me number ask at part seen
+        (in_state (Fetching ask at part seen) now))
+
+    pub fetch-before : (1 ≤ left_in part) × IsInList part at s.lists.lists
+    fetch-before = stands-before e at part fetches.1 fetches.5
 
     pub fetch-pooled : {count : ℕ} → count ≡ s.config.schedulers → IsPooled count seen
     fetch-pooled same =
         let (i, g, is, by, units) = carriers.fetch-seen s.config s.trace.now h.config h.trace w
-        h.reached me number ask at looked seen (in_state (Fetching ask at looked seen) now) in
+        h.reached me number ask at part seen (in_state (Fetching ask at part seen) now) in
         let from = scheduler-number e i by in
         record {
           instance = i;
@@ -224,7 +244,7 @@ module _ {stage : Stage Content} (s : Scheduler) {shared : Option Shared} {calle
       u = answered-so s.config s.trace.now me (standing_at stage s) (FetchTry at seen) (Won x)
           shared new caller then h did
 
-      there : (u.state.actors me).stage ≡ Fetching ask at looked seen
+      there : (u.state.actors me).stage ≡ Fetching ask at part seen
       there = ap (λ (y : Actor). y.stage) u.actor ∙ now
 
       is-same : (u.state.actors me).instance ≡ s.instance
@@ -239,31 +259,31 @@ module _ {stage : Stage Content} (s : Scheduler) {shared : Option Shared} {calle
 
       won-number : x.number ≡ at
       won-number = carriers.fetched-number s.config s.trace.now h.config h.trace u.state u.reached
-          me number ask at looked seen there x won
+          me number ask at part seen there x won
 
       pub won-new : content_of (employed s.instance) x.number ≡ None
       won-new = ap (content_of (employed s.instance)) won-number
           ∙ subst (λ (i : Instance). content_of (employed i) at ≡ None) is-same
           (carriers.fetched-none s.config s.trace.now h.config h.trace u.state u.reached me number
-          ask at looked seen there x won)
+          ask at part seen there x won)
 
       pub won-kind : x.kind ≡ Multi
       won-kind = carriers.fetched-many s.config s.trace.now h.config h.trace u.state u.reached
-          me number ask at looked seen there x won
+          me number ask at part seen there x won
 
       pub won-laid : IsLaidOut x
       won-laid = carriers.fetched-laid s.config s.trace.now h.config h.trace u.state u.reached
-          me number ask at looked seen there x won
+          me number ask at part seen there x won
 
       pub won-apart : All (ContentsApart x) (employed s.instance)
       won-apart = subst (λ (i : Instance). All (ContentsApart x) (employed i)) is-same
           (carriers.fetched-away s.config s.trace.now h.config h.trace u.state u.reached me number
-          ask at looked seen there x won)
+          ask at part seen there x won)
 
       pub won-someones : IsSomeones s.instance (own_of x)
       won-someones = subst (λ (i : Instance). IsSomeones i (own_of x)) is-same
           (carriers.fetched-someones s.config s.trace.now h.config h.trace u.state u.reached me
-          number ask at looked seen there x won)
+          number ask at part seen there x won)
 
       pub won-choice : IsSome (chosen_spot (employing s.instance x) ask.need)
       won-choice = subst IsSome
@@ -271,7 +291,7 @@ module _ {stage : Stage Content} (s : Scheduler) {shared : Option Shared} {calle
             chosen : (spot : Spot)
                 × (chosen_spot (employing (u.state.actors me).instance x) ask.need ≡ Some spot)
             chosen = asks.fetched-chosen s.config s.trace.now h.config h.trace u.state u.reached me
-                number ask at looked seen there x won
+                number ask at part seen there x won
 
   -- a carrier is to be created
   module _ (ask : Ask) (p : CarrierPlan) (now : stage ≡ Creating ask p) where

@@ -1,5 +1,6 @@
 -- Once a walk is over by a row of a route, or by a carrier that was collected, the scheduler may do
 -- its next operation.
+use Rattle.ea_machine.specs.Releases.{struck}
 use Rattle.std.proofs.Common.{◌≡◌, ℕ, refl, sym, ap, ◌∙◌, subst}
 use Rattle.std.specs.Prelude.{None, Option, Some}
 use Rattle.ea_model.specs.Content.{Content}
@@ -124,10 +125,10 @@ module _ (s t : Scheduler) (same : IsSame s t) (n : ℕ) {shared : Option Shared
   cleared = effect s.number (Clear n) h.state.shared
 
   pub suits-collected : standing_at Begin t
-      ≡ at Begin (disowned n (standing_at (Collecting n) s)) → SuitsNext t.instance t
+      ≡ at Begin (disowned n (struck n (standing_at (Collecting n) s))) → SuitsNext t.instance t
   suits-collected is = suits-same s t same h.config h.trace h.state h.reached cleared
-      (disowned n (standing_at (Collecting n) s)) (ap (λ (b : Actor). b.todo) h.actor) is
-      (subst (λ b. InWalk (setup_for s) h.state cleared s.number (at Begin (disowned n b))) h.actor
+      (disowned n (struck n (standing_at (Collecting n) s))) (ap (λ (b : Actor). b.todo) h.actor) is
+      (subst (λ b. InWalk (setup_for s) h.state cleared s.number (at Begin (disowned n (struck n b)))) h.actor
       (collected-walks s.config s.trace.now h.config h.trace h.state h.reached s.number
       (s.number_from, s.number_to) n
       (ap (λ (b : Actor). b.stage) h.actor)))

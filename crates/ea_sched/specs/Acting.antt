@@ -23,8 +23,8 @@ abbrev pub is_ended : Stage Content → Bool
 is_ended Begin = false
 is_ended (Routed route why gone) = false
 is_ended (Collecting number) = false
-is_ended (Searching ask at looked) = false
-is_ended (Fetching ask at looked seen) = false
+is_ended (Searching ask at part) = false
+is_ended (Fetching ask at part seen) = false
 is_ended (Creating ask p) = false
 is_ended (Giving given to) = false
 is_ended (Taking name tries left) = false
@@ -57,6 +57,7 @@ rests s = is_ended s.stage || is_over s.left
 abbrev pub standing_at : Stage Content → Scheduler → Actor
 standing_at stage s = record {
   instance = s.instance;
+  lists = s.lists.lists;
   held = s.names.held;
   todo = drop s.done s.text.now;
   stage = stage;

@@ -1,4 +1,5 @@
 -- Where a row of a route leaves a scheduler.
+use Rattle.ea_machine.specs.Releases.{struck}
 use Rattle.std.specs.Prelude.{◌≡◌, ℕ, Option, None, Some}
 use Rattle.ea_model.specs.Content.{Content}
 use Rattle.ea_machine.specs.declared.stages.Stage.{Stage}
@@ -42,7 +43,8 @@ pub record CollectedRow (number : ℕ) (s t : Scheduler) (shared after : Option 
     (caller now : Option Caller) : Type 0 where
   pub got : Answer
   pub did : Did s.number (Clear number) got shared after caller now
-  pub is : (at : Stage Content) → standing_at at t ≡ disowned number (standing_at at s)
+  pub is : (at : Stage Content) → standing_at at t
+      ≡ disowned number (struck number (standing_at at s))
 
 -- what comes after a route is done, if the route is over; else nothing is
 abbrev pub EndsRoute : Setup → ℕ → Why → Option Gone → Scheduler → Scheduler → Type 0

@@ -12,7 +12,7 @@ ghost use Rattle.ea_sched.specs.Creations.{IsCreation};
 use crate::state::Scheduler;
 use ea_machine::{Ask, Stage, Task};
 use ea_mbc::Mbc;
-use ea_model::{CarrierPlan, Entry, NUMBERS, NoCarrier, OutOfMemory, Place, Spot};
+use ea_model::{CarrierPlan, Entry, NoCarrier, OutOfMemory, Place, Spot};
 use ea_search::Search;
 use std::alloc::Global;
 
@@ -204,8 +204,8 @@ impl<'t> Scheduler<'t> {
         ensures same { IsSame self.old self.new }
     {
         if self.migrates {
-            let greatest = self.config.schedulers * NUMBERS;
-            return self.search_on(alloc, ask, Search::new(greatest));
+            let search = Search::new(self.greatest(), &self.lists);
+            return self.search_on(alloc, ask, search);
         }
         self.seek_new(alloc, ask, false, 0)
     }

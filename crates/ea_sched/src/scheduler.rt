@@ -14,8 +14,9 @@ use crate::state::Scheduler;
 use crate::stops::{is_over, stop_of};
 use ea_instance::Instance;
 use ea_machine::Stage;
-use ea_model::{Config, Entry, List, OutOfMemory, Trace};
+use ea_model::{Config, Entry, List, NUMBERS, OutOfMemory, Trace};
 use ea_names::Names;
+use ea_search::OwnLists;
 use ea_stats::Stats;
 use std::alloc::Global;
 
@@ -60,6 +61,7 @@ impl<'t> Scheduler<'t> {
             (number - 1) * pages,
             pages,
         )?;
+        let lists = OwnLists::new(alloc, NUMBERS)?;
         let mut log = List::new(alloc);
         log.reserve(text.len() + 1)?;
         let names = names_for(alloc, text, trace.greatest)?;
@@ -75,6 +77,7 @@ impl<'t> Scheduler<'t> {
             text,
             done: 0,
             instance,
+            lists,
             names,
             stage: Stage::Begin,
             passed,

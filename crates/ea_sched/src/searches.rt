@@ -1,8 +1,9 @@
 //! How a scheduler searches the pool, fetches a carrier, or creates one.
-ghost use Rattle.std.specs.Prelude.{◌≡◌, ℕ, ◌-◌, ◌≤◌, true, Some, OnErr, OnOk};
+ghost use Rattle.std.specs.Prelude.{◌≡◌, ℕ, ◌-◌, ◌<◌, ◌≤◌, true, Some, OnErr, OnOk};
+ghost use Rattle.ea_machine.specs.declared.parts.Part.{Part};
 ghost use Rattle.ea_machine.specs.declared.stages.Stage.TheVariants as stage;
 ghost use Rattle.ea_machine.specs.Placements as placements;
-ghost use Rattle.ea_machine.specs.Setup.{migration};
+ghost use Rattle.ea_machine.specs.Setup.{greatest_number, migration};
 ghost use Rattle.ea_machine.specs.Stops as stops;
 ghost use Rattle.ea_sched.specs.Acting.{IsSame, actor_of, ready_of, setup_for};
 ghost use Rattle.ea_sched.specs.Asking.{HasMore, IsAsked};
@@ -10,17 +11,25 @@ ghost use Rattle.ea_sched.specs.Creations.{CreatesAt, IsCreation};
 ghost use Rattle.ea_sched.specs.Looks as looks;
 ghost use Rattle.ea_sched.specs.Looks.{HasPassed};
 ghost use Rattle.ea_sched.specs.Steps.{DidRow, StartsRow};
+ghost use Rattle.ea_search.specs.Looks.{standing};
 
 use crate::state::Scheduler;
 use crate::stops::less;
-use ea_machine::{Ask, OwnerWord, Stage};
+use ea_machine::{Ask, OwnerWord, Part, Stage};
 use ea_mbc::Mbc;
-use ea_model::{CarrierPlan, OutOfMemory};
+use ea_model::{CarrierPlan, NUMBERS, OutOfMemory};
 use ea_search::{Search, Verdict};
 use ea_shared::{Shared, Tried};
 use std::alloc::Global;
 
 impl<'t> Scheduler<'t> {
+    /// The greatest number of a carrier.
+    pub(crate) fn greatest(&self) -> u32
+        ensures { result ≡ greatest_number (setup_for self.now) }
+    {
+        self.config.schedulers * NUMBERS
+    }
+
     /// A search that counted `looked` words is at its end: a carrier is created.
     fn end_search(&mut self, alloc: Global, ask: Ask, looked: u32) -> Result<(), OutOfMemory>
         requires more { HasMore self.old }
@@ -46,18 +55,19 @@ impl<'t> Scheduler<'t> {
         requires more { HasMore self.old }
         requires asked { IsAsked self.old.instance self.old ask }
         requires on { migration (setup_for self.old) ≡ true }
-        ensures actor { OnOk result (actor_of self.new ≡ placements.search_at
-            (setup_for self.old) self.old.number ask search.at search.looked
+        ensures actor { OnOk result (actor_of self.new ≡ placements.search_on
+            (setup_for self.old) self.old.number ask (standing search self.old.lists.lists)
             (ready_of self.old)) }
         ensures memory { OnErr result (IsCreation self.old.instance
-            (placements.search_at (setup_for self.old) self.old.number ask search.at search.looked
-            (ready_of self.old))) }
+            (placements.search_on (setup_for self.old) self.old.number ask
+            (standing search self.old.lists.lists) (ready_of self.old))) }
         ensures same { IsSame self.old self.new }
     {
-        let looked = search.looked;
-        match search.next_look() {
+        let part = search.part;
+        let looked = search.looked();
+        match search.next_look(&self.lists) {
             Some(at) => {
-                self.stage = Stage::Searching { ask, at, looked };
+                self.stage = Stage::Searching { ask, at, part };
                 Ok(())
             }
             None => self.end_search(alloc, ask, looked),
@@ -65,8 +75,7 @@ impl<'t> Scheduler<'t> {
     }
 
     /// A look of the search, at the owner word of its next carrier: one that fits is to be fetched,
-    /// and past another one the search goes on. Its stage is changed in its place, and what was
-    /// asked for isn't copied.
+    /// and past another one the search goes on.
     pub(crate) fn search<S: Shared<Content = Mbc>>(
         &mut self,
         alloc: Global,
@@ -75,8 +84,8 @@ impl<'t> Scheduler<'t> {
         requires starts { StartsRow self.old.stage self.old
             (S.schedulers shared.old) (S.greatest shared.old) (S.migrates shared.old)
             (S.shared shared.old) (S.caller shared.old) }
-        requires searches { (ask : Ask) × (at : ℕ) × (looked : ℕ)
-            × (self.old.stage ≡ stage.Searching ask at looked) }
+        requires searches { (ask : Ask) × (at : ℕ) × (part : Part)
+            × (self.old.stage ≡ stage.Searching ask at part) }
         ensures stays { S.stays shared.old shared.new }
         ensures same { IsSame self.old self.new }
         ensures row { OnOk result (DidRow self.old.stage self.old self.new
@@ -85,54 +94,61 @@ impl<'t> Scheduler<'t> {
         ensures memory { OnErr result (CreatesAt self.old.stage self.old
             (S.shared shared.old) (S.caller shared.old)) }
     {
-        let Stage::Searching { ask, at, looked } = &mut self.stage else {
+        let Stage::Searching { ask, at, part } = &self.stage else {
             unreachable!()
         };
-        let seen = shared.look(self.number, *at);
-        let mut search = Search {
-            at: *at,
-            looked: *looked,
-        };
-        match search.saw(seen, ask.need) {
+        let (ask, at, part) = (*ask, *at, *part);
+        let seen = shared.look(self.number, at);
+        let highest = self.greatest();
+        let mut search = Search { highest, at, part };
+        match search.saw(&mut self.lists, seen, ask.need) {
             Verdict::Try => {
-                let (ask, at, looked) = (*ask, *at, search.looked);
+                let part = search.part;
                 self.stage = Stage::Fetching {
                     ask,
                     at,
-                    looked,
+                    part,
                     seen,
                 };
                 Ok(())
             }
-            Verdict::Skip => match search.next_look() {
-                Some(number) => {
-                    *at = number;
-                    *looked = search.looked;
-                    Ok(())
-                }
-                None => {
-                    let ask = *ask;
-                    self.end_search(alloc, ask, search.looked)
-                }
-            },
+            Verdict::Skip => self.search_on(alloc, ask, search),
         }
     }
 
-    /// The number that its search looks at next. None exactly where it is in no search.
+    /// The number that its search looks at next, in the last part of the search. None exactly where
+    /// it is in no search, or in another part of it.
     pub fn next_look(&self) -> Option<u32>
         ensures { result ≡ looks.next_look self.now.stage }
     {
         match &self.stage {
-            Stage::Searching { at, .. } => Some(*at),
+            Stage::Searching { at, part, .. } => match part {
+                Part::Pool { .. } => Some(*at),
+                _ => None,
+            },
             _ => None,
         }
     }
 
+    /// How many numbers are left there to be looked at, that one among them.
+    pub fn looks_left(&self) -> u32
+        ensures { result ≡ looks.looks_left self.now.stage }
+    {
+        match &self.stage {
+            Stage::Searching { part, .. } => match part {
+                Part::Pool { left, .. } => *left,
+                _ => 0,
+            },
+            _ => 0,
+        }
+    }
+
     /// Goes on with its search, down to a number from 1 on, by one turn for each number that it
-    /// passes over: a look at an owner word that doesn't count.
+    /// passes over: a look at an owner word that doesn't count. There is a number left after them.
     pub fn pass_over(&mut self, next: u32)
         requires some { 1 ≤ next }
-        requires from { (at : ℕ) × (looks.next_look self.old.stage ≡ Some at) × (next ≤ at) }
+        requires from { (at : ℕ) × (looks.next_look self.old.stage ≡ Some at) × (next ≤ at)
+            × (at - next < looks.looks_left self.old.stage) }
         ensures passed { HasPassed next self.old self.new }
         ensures run { (self.new.config ≡ self.old.config) × (self.new.trace ≡ self.old.trace)
             × (self.new.number ≡ self.old.number) }
@@ -140,10 +156,14 @@ impl<'t> Scheduler<'t> {
         ensures left { (at : ℕ) → looks.next_look self.old.stage ≡ Some at
             → self.new.left ≡ stops.less self.old.left (at - next) }
     {
-        let Stage::Searching { at, .. } = &mut self.stage else {
+        let Stage::Searching { at, part, .. } = &mut self.stage else {
+            unreachable!()
+        };
+        let Part::Pool { left, .. } = part else {
             unreachable!()
         };
         let passed = *at - next;
+        *left -= passed;
         *at = next;
         self.left = less(self.left, passed);
     }
@@ -156,29 +176,32 @@ impl<'t> Scheduler<'t> {
         shared: &mut S,
         ask: Ask,
         at: u32,
-        looked: u32,
+        part: Part,
         seen: OwnerWord,
     ) -> Result<(), OutOfMemory>
-        requires starts { StartsRow (stage.Fetching ask at looked seen) self.old
+        requires starts { StartsRow (stage.Fetching ask at part seen) self.old
             (S.schedulers shared.old) (S.greatest shared.old) (S.migrates shared.old)
             (S.shared shared.old) (S.caller shared.old) }
         ensures stays { S.stays shared.old shared.new }
         ensures same { IsSame self.old self.new }
-        ensures row { OnOk result (DidRow (stage.Fetching ask at looked seen) self.old self.new
+        ensures row { OnOk result (DidRow (stage.Fetching ask at part seen) self.old self.new
             (S.shared shared.old) (S.shared shared.new) (S.caller shared.old)
             (S.caller shared.new)) }
-        ensures memory { OnErr result (CreatesAt (stage.Fetching ask at looked seen) self.old
+        ensures memory { OnErr result (CreatesAt (stage.Fetching ask at part seen) self.old
             (S.shared shared.old) (S.caller shared.old)) }
     {
         match shared.fetch_try(self.number, at, seen) {
             Tried::Won { content } => {
                 self.instance.adopt(content);
+                self.lists.remove(at);
                 self.place(ask);
                 Ok(())
             }
-            Tried::Lost { .. } => {
-                let at = at - 1;
-                self.search_on(alloc, ask, Search { at, looked })
+            Tried::Lost { word } => {
+                let highest = self.greatest();
+                let mut search = Search { highest, at, part };
+                search.lost(&mut self.lists, word);
+                self.search_on(alloc, ask, search)
             }
         }
     }

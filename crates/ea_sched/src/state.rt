@@ -1,4 +1,5 @@
 //! What a scheduler keeps.
+ghost use Rattle.ea_model.specs.declared.units.TheConstants.{NUMBERS};
 ghost use Rattle.std.specs.Prelude.{◌≡◌, ◌+◌, ◌≤◌, length};
 ghost use Rattle.ea_model.specs.declared.units.TheConstants.{MAX_SCHEDULERS};
 ghost use Rattle.ea_model.specs.Trace.{stop_in, texts_of};
@@ -10,6 +11,7 @@ use ea_instance::{Held, Instance};
 use ea_machine::{Node, Stage};
 use ea_model::{Config, Entry, List, Op, Trace};
 use ea_names::Names;
+use ea_search::OwnLists;
 use ea_stats::Stats;
 
 /// Scheduler `number` in the run of a trace. Of the run it knows the configuration, the trace, and
@@ -27,6 +29,7 @@ pub struct Scheduler<'t> {
     pub(crate) text: &'t [Op],
     pub(crate) done: usize,
     pub(crate) instance: Instance,
+    pub(crate) lists: OwnLists,
     pub(crate) names: Names,
     pub(crate) stage: Stage<Held>,
     pub(crate) passed: Passed,
@@ -46,5 +49,6 @@ pub struct Scheduler<'t> {
     ghost places: { HavePlaces names.places text.now },
     ghost stop_is: { stop ≡ stop_in trace.now.stops.items number },
     ghost done_to: { done ≤ length text.now },
+    ghost lists_room: { lists.room ≡ NUMBERS },
     ghost log_room: { length text.now + 1 ≤ done + log.room },
 }

@@ -1,6 +1,7 @@
 //! A step of a scheduler.
 ghost use Rattle.std.specs.Prelude.{◌≡◌, ◌≢◌, ◌↔◌, ℕ, true, false, [], IfOk, OnErr, OnOk, Ok, Err};
 ghost use Rattle.ea_machine.specs.declared.asks.Ask.{Ask};
+ghost use Rattle.ea_machine.specs.declared.parts.Part.{Part};
 ghost use Rattle.ea_machine.specs.declared.stages.Stage.TheVariants as stage;
 ghost use Rattle.ea_machine.specs.Setup.{migration};
 ghost use Rattle.ea_machine.specs.Statistics as statistics;
@@ -53,8 +54,8 @@ impl<'t> Scheduler<'t> {
             (S.schedulers shared.old) (S.greatest shared.old) (S.migrates shared.old)
             (S.shared shared.old) (S.caller shared.old) }
         requires goes { is_ended self.old.stage ≡ false }
-        requires other { (ask : Ask) (at looked : ℕ)
-            → self.old.stage ≢ stage.Searching ask at looked }
+        requires other { (ask : Ask) (at : ℕ) (part : Part)
+            → self.old.stage ≢ stage.Searching ask at part }
         ensures stays { S.stays shared.old shared.new }
         ensures same { IsSame self.old self.new }
         ensures row { OnOk result (DidRow self.old.stage self.old self.new
@@ -73,9 +74,9 @@ impl<'t> Scheduler<'t> {
             Stage::Fetching {
                 ask,
                 at,
-                looked,
+                part,
                 seen,
-            } => self.fetch(alloc, shared, ask, at, looked, seen),
+            } => self.fetch(alloc, shared, ask, at, part, seen),
             Stage::Creating { ask, plan } => self.make(alloc, shared, ask, plan),
             Stage::Giving { given, to } => {
                 self.give(shared, given, to);

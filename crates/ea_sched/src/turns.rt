@@ -1,5 +1,10 @@
 //! The rows of a release route.
-ghost use Rattle.std.specs.Prelude.{◌≡◌, true, None, OnErr, OnOk};
+ghost use Rattle.std.specs.Prelude.{◌≡◌, ◌<◌, true, None, OnErr, OnOk};
+ghost use Rattle.ea_model.specs.declared.units.TheConstants.{NUMBERS};
+ghost use Rattle.ea_model.specs.Content.{Content};
+ghost use Rattle.ea_model.specs.Instance as instances;
+ghost use Rattle.ea_machine.specs.declared.stages.Stage.{Stage};
+ghost use Rattle.ea_search.specs.Rooms.{count_of};
 ghost use Rattle.ea_machine.specs.declared.stages.Stage.TheVariants as stage;
 ghost use Rattle.ea_machine.specs.declared.stages.Route.TheVariants as route;
 ghost use Rattle.ea_machine.specs.Releases as releases;
@@ -109,6 +114,7 @@ impl<'t> Scheduler<'t> {
         let number = content.number();
         if content.is_empty() {
             shared.settle_employed(self.number, number);
+            self.lists.remove(number);
             self.leave(content, why, gone);
             return None;
         }
@@ -116,6 +122,19 @@ impl<'t> Scheduler<'t> {
         let largest = carrier.largest();
         shared.settle_pooled(self.number, number, carrier, largest);
         Some(gone)
+    }
+
+    /// A carrier was abandoned: an own one comes last in the pooled list.
+    fn list_abandoned(&mut self, number: u32)
+        requires room { instances.owner_of number ≡ self.old.number
+            → count_of self.old.lists.lists < NUMBERS }
+        ensures same { IsSame self.old self.new }
+        ensures listed { (at : Stage Content) → standing_at at self.new
+            ≡ releases.abandoned self.old.number number (standing_at at self.old) }
+    {
+        if owner_of(number) == self.number {
+            self.lists.abandoned(number);
+        }
     }
 
     /// The carrier is abandoned into the pool.
@@ -140,6 +159,7 @@ impl<'t> Scheduler<'t> {
         let carrier = content.into_multi();
         let largest = carrier.largest();
         shared.abandon(self.number, number, carrier, largest);
+        self.list_abandoned(number);
         Some(gone)
     }
 
@@ -208,6 +228,7 @@ impl<'t> Scheduler<'t> {
             (S.shared shared.new) (S.caller shared.old) (S.caller shared.new) }
     {
         let content = Held::multi(shared.clear_returned(self.number, number));
+        self.lists.remove(number);
         self.instance.disown(number);
         self.instance.discard(content);
     }

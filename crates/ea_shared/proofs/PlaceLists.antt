@@ -10,7 +10,7 @@ use Rattle.ea_model.specs.Content.{Content}
 use Rattle.ea_machine.specs.declared.owners.OwnerWord.{OwnerWord}
 use Rattle.ea_machine.specs.declared.owners.OwnerWord.TheVariants as word
 use Rattle.ea_machine.specs.Owners.{CarrierAt, Absent, Pooled, same_word, word_of}
-use Rattle.ea_machine.specs.Placements.{counts}
+use Rattle.ea_machine.specs.Lists.{counts}
 use Rattle.ea_machine.specs.Rows.{Lost, Won}
 use Rattle.ea_machine.specs.Table.{tried_at, won_if}
 use Rattle.ea_shared.specs.declared.carriers.Place.{Place}

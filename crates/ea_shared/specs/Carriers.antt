@@ -10,7 +10,7 @@ use Rattle.ea_machine.specs.declared.owners.OwnerWord.TheVariants as word
 use Rattle.ea_machine.specs.declared.stages.Stage.TheVariants.{Collecting}
 use Rattle.ea_machine.specs.Owners.{CarrierAt}
 use Rattle.ea_machine.specs.Owners as owners
-use Rattle.ea_machine.specs.Placements.{counts}
+use Rattle.ea_machine.specs.Lists.{counts}
 use Rattle.ea_machine.specs.Rows.{Answer, Settle}
 use Rattle.ea_machine.specs.Rows as rows
 use Rattle.ea_machine.specs.Statistics.{leaving_at}

@@ -3,7 +3,7 @@ ghost use Rattle.std.specs.Prelude.{◌≡◌, ℕ, ◌<◌, ◌+◌, Some, IfOk
 ghost use Rattle.ea_model.specs.Content.{Content};
 ghost use Rattle.ea_machine.specs.declared.owners.OwnerWord.TheVariants as word;
 ghost use Rattle.ea_machine.specs.Owners as owners;
-ghost use Rattle.ea_machine.specs.Placements.{counts};
+ghost use Rattle.ea_machine.specs.Lists.{counts};
 ghost use Rattle.ea_machine.specs.Table.{tried_at};
 ghost use Rattle.ea_shared.specs.Carriers.{HasReturned, after_try, counts_at, home_of, place_at};
 ghost use Rattle.ea_shared.specs.Carriers.{placed, told_by};

@@ -35,8 +35,8 @@ module _ (b h f g : Content → ℕ) (busy : (x : Content) → b x ≡ 0 → f x
   hand-none Begin z = refl
   hand-none (Routed route why gone) z = route-none route z
   hand-none (Collecting number) z = refl
-  hand-none (Searching ask at looked) z = refl
-  hand-none (Fetching ask at looked seen) z = refl
+  hand-none (Searching ask at part) z = refl
+  hand-none (Fetching ask at part seen) z = refl
   hand-none (Creating ask p) z = refl
   hand-none (Giving given to) z = refl
   hand-none (Taking name tries left) z = refl
@@ -80,8 +80,8 @@ module _ (f g : Content → ℕ) (less : (x : Content) → f x ≤ g x) where
   hand-less Begin = omega arith
   hand-less (Routed route why gone) = route-less route
   hand-less (Collecting number) = omega arith
-  hand-less (Searching ask at looked) = omega arith
-  hand-less (Fetching ask at looked seen) = omega arith
+  hand-less (Searching ask at part) = omega arith
+  hand-less (Fetching ask at part seen) = omega arith
   hand-less (Creating ask p) = omega arith
   hand-less (Giving given to) = omega arith
   hand-less (Taking name tries left) = omega arith

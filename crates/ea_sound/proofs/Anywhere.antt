@@ -98,8 +98,8 @@ module _ (e : Setup) (w : State) (k : Kept e w) (P : Content → Type 0)
     hand-has (Routed r why gone) at belongs laid =
         route-has r (λ f. ap (hand_sum f f) at) belongs laid
     hand-has (Collecting number) at belongs laid = tt
-    hand-has (Searching ask n looked) at belongs laid = tt
-    hand-has (Fetching ask n looked seen) at belongs laid = tt
+    hand-has (Searching ask n part) at belongs laid = tt
+    hand-has (Fetching ask n part seen) at belongs laid = tt
     hand-has (Creating ask p) at belongs laid = tt
     hand-has (Giving given to) at belongs laid = tt
     hand-has (Taking name tries left) at belongs laid = tt

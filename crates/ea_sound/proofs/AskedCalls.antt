@@ -3,7 +3,9 @@
 -- placed, its name is one of the trace and isn't held, and the old block of a reallocation is;
 -- nothing is chosen among the employed carriers; a carrier that is fetched has a choice; and the
 -- plan of one that is created is still the plan.
-use Rattle.std.proofs.Common.{◌≡◌, ℕ, ◌%◌, ◌<◌, ◌≤◌, true, List, [], ◌∷◌, sym, ap, ◌∙◌, subst}
+use Rattle.ea_machine.specs.Searches.{goes_on}
+use Rattle.ea_sound.specs.Present.{HasLeft}
+use Rattle.std.proofs.Common.{◌≡◌, ℕ, ◌%◌, ◌≤◌, true, List, [], ◌∷◌, sym, ap, ◌∙◌, subst}
 use Rattle.std.proofs.Common.{refl, arith}
 use Rattle.std.specs.Prelude.{None, Some, Ok, ◌⊎◌}
 use Rattle.ea_model.specs.declared.carriers.CarrierPlan.{CarrierPlan}
@@ -12,7 +14,7 @@ use Rattle.ea_model.specs.declared.operations.Op.{Op}
 use Rattle.ea_model.specs.declared.operations.Op.TheVariants as op
 use Rattle.ea_model.specs.declared.settings.Config.{Config}
 use Rattle.ea_model.specs.declared.trace.Trace.{Trace}
-use Rattle.ea_model.specs.declared.units.TheConstants.{MAX_PAGES, MIN_BLOCK, SEARCH_LIMIT}
+use Rattle.ea_model.specs.declared.units.TheConstants.{MAX_PAGES, MIN_BLOCK}
 use Rattle.ea_model.specs.Content.{Content}
 use Rattle.ea_model.specs.Employment.{employing}
 use Rattle.ea_model.specs.Instance.{Instance, chosen_spot, plan, planned_own, with_own}
@@ -23,6 +25,7 @@ use Rattle.ea_model.proofs.Rising.{item_at-All, item_at-new}
 use Rattle.ea_laws.specs.Kept.{HasPages, IsKept, own_number}
 use Rattle.ea_laws.proofs.Keeping.{IsKept-made}
 use Rattle.ea_laws.proofs.Owned.{unused-All}
+use Rattle.ea_machine.specs.declared.parts.Part.{Part}
 use Rattle.ea_machine.specs.declared.asks.Ask.{Ask}
 use Rattle.ea_machine.specs.declared.nodes.Named.{Named}
 use Rattle.ea_machine.specs.declared.owners.OwnerWord.{OwnerWord}
@@ -138,40 +141,43 @@ module _ (c : Config) (t : Trace) (valid : IsValidConfig c)
       asked-old_name = old-by ask a.todo refl asked.of old of
 
   -- in a search
-  module _ (ask : Ask) (n looked : ℕ) (now : a.stage ≡ Searching ask n looked) where
-    searches : Fits e w me a (Searching ask n looked)
-    searches = fits (Searching ask n looked) now
+  module _ (ask : Ask) (n : ℕ) (part : Part) (now : a.stage ≡ Searching ask n part) where
+    searches : Fits e w me a (Searching ask n part)
+    searches = fits (Searching ask n part) now
 
     pub search-asked : Asked e w a ask
     search-asked = searches.0
 
-    pub search-limit : looked < SEARCH_LIMIT
-    search-limit = searches.3
+    pub search-left : HasLeft e part
+    search-left = searches.1
+
+    pub search-goes : goes_on part ≡ true
+    search-goes = searches.2
 
     pub search-none : chosen_spot a.instance ask.need ≡ None
-    search-none = searches.4
+    search-none = searches.3
 
   -- before a try to fetch
-  module _ (ask : Ask) (n looked : ℕ) (seen : OwnerWord)
-      (now : a.stage ≡ Fetching ask n looked seen) where
-    fetches : Fits e w me a (Fetching ask n looked seen)
-    fetches = fits (Fetching ask n looked seen) now
+  module _ (ask : Ask) (n : ℕ) (part : Part) (seen : OwnerWord)
+      (now : a.stage ≡ Fetching ask n part seen) where
+    fetches : Fits e w me a (Fetching ask n part seen)
+    fetches = fits (Fetching ask n part seen) now
 
     pub fetch-asked : Asked e w a ask
     fetch-asked = fetches.0
 
-    pub fetch-limit : looked ≤ SEARCH_LIMIT
-    fetch-limit = fetches.3
+    pub fetch-left : HasLeft e part
+    fetch-left = fetches.1
 
     pub fetch-none : chosen_spot a.instance ask.need ≡ None
-    fetch-none = fetches.4
+    fetch-none = fetches.2
 
     -- there is a choice with what it brings
     pub fetched-chosen : (x : Content) → tried_at seen (w.shared.places n) ≡ Won x
         → (spot : Spot) × (chosen_spot (employing a.instance x) ask.need ≡ Some spot)
     fetched-chosen x won =
         let (i, g, word, same) = won-from seen (w.shared.places n) x won in
-        rows.fetched-chosen e w me is rule ask n looked seen now i g x word same
+        rows.fetched-chosen e w me is rule ask n part seen now i g x word same
 
   -- before a carrier is created
   module _ (ask : Ask) (p : CarrierPlan) (now : a.stage ≡ Creating ask p) where

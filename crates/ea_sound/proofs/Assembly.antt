@@ -1,5 +1,7 @@
 -- What each move of a scheduler keeps, its local work keeps.
-use Rattle.std.proofs.Common.{◌≡◌, ℕ, List, [], ◌∷◌, Bool, true, false, refl, sym, subst, inr}
+use Rattle.ea_machine.specs.Lists.{Lists, pooled_if, unlisted}
+use Rattle.ea_machine.specs.Releases.{struck}
+use Rattle.std.proofs.Common.{◌≡◌, ◌≢◌, ℕ, List, [], ◌∷◌, Bool, true, false, refl, sym, subst, inr}
 use Rattle.std.specs.Prelude.{Option, Some, None, ◌==◌}
 use Rattle.std.proofs.lemmas.Bool.{eqb-true}
 use Rattle.ea_model.specs.declared.carriers.BlockAt.{BlockAt}
@@ -71,6 +73,7 @@ pub record Closed (e : Setup) (s : Shared) (me : ℕ) (P : Actor → Type 0) : T
   pub hand : (h : Named) (y : Why) (g : Gone) (a : Actor) → named_at h.name a.held ≡ Some h
       → P (at Begin a) → P (at (Routed (Looking h) y g) (let_go h.name a))
   pub log : (x : Entry) (a : Actor) → P (at Begin a) → P (logged x a)
+  pub lists : (l : Lists) (a : Actor) → a.stage ≢ Ready → P a → P (record a { lists = l })
 
 -- and those of a walk
 pub record ClosedWalk (P : Actor → Type 0) : Type 0 where
@@ -222,7 +225,9 @@ module _ (e : Setup) (w : State) (s : Shared) (me : ℕ) (P : Actor → Type 0) 
 
     settled-holds : (b : Bool) (x : Content) (y : Why) (g : Gone) (a : Actor) → is_nil x.blocks ≡ b
         → LeavesSettled e w s me P y g a x b → Holds y a.passed (settled e me b x g a)
-    settled-holds true x y g a z l = leaving-holds _ _ x y g a refl refl (nil-is x.blocks z) l
+    settled-holds true x y g a z l =
+        leaving-holds _ _ x y g (struck x.number a) refl refl (nil-is x.blocks z)
+        (c.lists (unlisted x.number a.lists) (at (Routed (Abandoning x) y g) a) (λ q. absurd cc) l)
     settled-holds false x y g a z l = (l, refl)
 
     looked_at-holds : (h : Named) (y : Why) (g : Gone) (a : Actor) (r : Answer)
@@ -254,7 +259,9 @@ module _ (e : Setup) (w : State) (s : Shared) (me : ℕ) (P : Actor → Type 0) 
     turned-holds (Looking h) y g a r l = looked_at-holds h y g a r l
     turned-holds (Trying h seen) y g a r l = tried-holds h seen y g a r l
     turned-holds (Settling x) y g a r l = settled-holds (is_nil x.blocks) x y g a refl l
-    turned-holds (Abandoning x) y g a r l = (l, refl)
+    turned-holds (Abandoning x) y g a r l =
+        let own = owner_of x.number == me in
+        (c.lists (pooled_if own x.number a.lists) (at Begin a) (λ q. absurd cc) l, refl)
     turned-holds (Sending x) y g a r l = (l, refl)
     turned-holds (Clearing x) y g a r l = (l, refl)
     turned-holds (Pushing node to) y g a r l = (l, refl)

@@ -13,7 +13,7 @@ use Rattle.ea_machine.specs.Actor.{Actor}
 use Rattle.ea_machine.specs.declared.tasks.Why.TheVariants.{Walk, For}
 use Rattle.ea_machine.specs.declared.tasks.Gone.{Gone}
 use Rattle.ea_machine.specs.Machine.{after_row}
-use Rattle.ea_machine.specs.Releases.{looked, route_of, turned}
+use Rattle.ea_machine.specs.Releases.{route_of, turned}
 use Rattle.ea_machine.specs.Rows.{Answer, Done, Head, Rests, Passes, Saw, Won, Lost, Home, Got}
 use Rattle.ea_machine.specs.Setup.{Setup}
 use Rattle.ea_machine.specs.Tasks.{carried}
@@ -26,8 +26,8 @@ IsInBegin Begin = Unit {0}
 IsInBegin (Routed r Walk g) = Unit {0}
 IsInBegin (Routed r (For task) g) = ⊥
 IsInBegin (Collecting c) = Unit {0}
-IsInBegin (Searching ask at looked) = ⊥
-IsInBegin (Fetching ask at looked seen) = ⊥
+IsInBegin (Searching ask at part) = ⊥
+IsInBegin (Fetching ask at part seen) = ⊥
 IsInBegin (Creating ask p) = ⊥
 IsInBegin (Giving h to) = ⊥
 IsInBegin (Taking n tries left) = ⊥
@@ -80,8 +80,8 @@ module _ (e : Setup) (me : ℕ) (a : Actor) where
   walks Ended r w ne nr = absurd (ne refl)
   walks Ready r w ne nr = absurd (nr refl)
   walks (Routed z (For task) g) r w ne nr = absurd w
-  walks (Searching ask at looked) r w ne nr = absurd w
-  walks (Fetching ask at looked seen) r w ne nr = absurd w
+  walks (Searching ask at part) r w ne nr = absurd w
+  walks (Fetching ask at part seen) r w ne nr = absurd w
   walks (Creating ask p) r w ne nr = absurd w
   walks (Giving h to) r w ne nr = absurd w
   walks (Taking n tries left) r w ne nr = absurd w

@@ -3,6 +3,9 @@
 -- abandoned, sent home or cleared is employed, one that is collected has returned; the block in the
 -- hand is in a carrier that its scheduler employs, and in one that it makes busy; and a carrier
 -- that it fetches fits into its instance.
+use Rattle.ea_sound.proofs.Protocols.{lists-run}
+use Rattle.ea_sound.proofs.SoundLists.{looks-number}
+use Rattle.ea_sound.specs.Listed.{KeepsLists}
 use Rattle.std.proofs.Common.{◌≡◌, ◌≢◌, ℕ, ◌<◌, true, false, refl, sym, ap, ◌∙◌, subst, inl, inr}
 use Rattle.std.proofs.Common.{arith}
 use Rattle.std.specs.Prelude.{All, None, Some}
@@ -21,6 +24,7 @@ use Rattle.ea_model.proofs.Rising.{none-other}
 use Rattle.std.proofs.lemmas.Bool.{cases_eq, cases_lt}
 use Rattle.ea_sound.proofs.Created.{scheduler-number}
 use Rattle.ea_sound.proofs.Starting.{regions-apart}
+use Rattle.ea_machine.specs.declared.parts.Part.{Part}
 use Rattle.ea_machine.specs.declared.asks.Ask.{Ask}
 use Rattle.ea_machine.specs.declared.nodes.Named.{Named}
 use Rattle.ea_machine.specs.declared.owners.OwnerWord.{OwnerWord}
@@ -132,6 +136,9 @@ module _ (c : Config) (t : Trace) (valid : IsValidConfig c)
 
   steady : AreSteady e w
   steady = subst (AreSteady e) (sym reached.1) (steady-run c t valid made reached.0)
+
+  lists : KeepsLists e w
+  lists = subst (KeepsLists e) (sym reached.1) (lists-run c t valid made reached.0)
 
   -- a carrier that is somewhere has a number
   pub there-number : (n : ℕ) → w.shared.places n ≢ Absent → IsNumber e n
@@ -280,20 +287,20 @@ module _ (c : Config) (t : Trace) (valid : IsValidConfig c)
             ∙ off.0 in cc
       ])
 
-    pub search-number : (ask : Ask) (n looked : ℕ) → a.stage ≡ Searching ask n looked
+    pub search-number : (ask : Ask) (n : ℕ) (part : Part) → a.stage ≡ Searching ask n part
         → IsNumber e n
-    search-number ask n looked now = let f = fits (Searching ask n looked) now in (f.1, f.2)
+    search-number ask n part now = looks-number e w rule lists me n part (fits (Searching ask n part) now).5
 
     -- a carrier that is fetched
-    module _ (ask : Ask) (n looked : ℕ) (seen : OwnerWord)
-        (now : a.stage ≡ Fetching ask n looked seen) where
+    module _ (ask : Ask) (n : ℕ) (part : Part) (seen : OwnerWord)
+        (now : a.stage ≡ Fetching ask n part seen) where
       pub fetch-number : IsNumber e n
-      fetch-number = let f = fits (Fetching ask n looked seen) now in (f.1, f.2)
+      fetch-number = looks-number e w rule lists me n part (fits (Fetching ask n part seen) now).5
 
       pub fetch-seen : (i g : ℕ) × (seen ≡ word.Pooled i g) × (is_scheduler e i ≡ true)
           × IsLargest g
       fetch-seen =
-          let (i, g, q, room) = (fits (Fetching ask n looked seen) now).6 in
+          let (i, g, q, room) = (fits (Fetching ask n part seen) now).4 in
           let s = subst (IsSteadyStage e me a.instance.contents) now (steady me).route in
           let shown = subst (IsShown e) q s in
           (i, g, q, shown.0, shown.1)
@@ -320,7 +327,7 @@ module _ (c : Config) (t : Trace) (valid : IsValidConfig c)
               sym fetched.2 ∙ on.1 in cc
           | inr off ↦ absurd
               (let never : true ≡ false =
-              sym (fits (Fetching ask n looked seen) now).5 ∙ off.0 in cc)
+              sym (fits (Fetching ask n part seen) now).3 ∙ off.0 in cc)
         ])
 
         -- apart from all that the instance employs

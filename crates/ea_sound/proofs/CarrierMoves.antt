@@ -1,5 +1,6 @@
 -- Moves of a scheduler with a carrier: a block of it is released, and it leaves the instance or its
 -- owner.
+use Rattle.ea_sound.proofs.StillMoves.{lists-goes}
 use Rattle.std.proofs.Common.{◌≡◌, ℕ, ◌+◌, ◌*◌, ◌/◌, List, [], ◌∷◌, true, false, refl, sym, ap, ◌∙◌}
 use Rattle.std.proofs.Common.{subst, inl, inr, arith}
 use Rattle.std.proofs.lemmas.Bool.{cases_eq, true≢false}
@@ -318,4 +319,5 @@ module _ (e : Setup) (w : State) (s : Shared) (me : ℕ) (is : is_scheduler e me
     try = try-goes e w s me is P keeps;
     hand = hand-goes e w s me is P keeps;
     log = log-goes e w s me is P keeps;
+    lists = lists-goes e w s me is P keeps;
   }

@@ -1,5 +1,7 @@
 -- What the turns so far say of a scheduler, by where it is in its operation.
-use Rattle.std.proofs.Common.{◌≡◌, ◌≢◌, ℕ, ◌+◌, ◌<◌, ◌≤◌, List, [], ◌∷◌, ◌++◌, Bool, true, false}
+use Rattle.ea_machine.specs.Lists.{Lists}
+use Rattle.ea_machine.specs.Searches.{Search, goes_on, new_search, with_counted}
+use Rattle.std.proofs.Common.{◌≡◌, ◌≢◌, ℕ, ◌+◌, ◌≤◌, List, [], ◌∷◌, ◌++◌, Bool, true, false}
 use Rattle.std.proofs.Common.{refl, sym, ap, ◌∙◌, subst, arith}
 use Rattle.std.specs.Prelude.{Option, Some, None, Ok, ◌==◌, count_by, length}
 use Rattle.std.proofs.lemmas.List.{append-nil, append_assoc, length-append}
@@ -10,9 +12,9 @@ use Rattle.ea_model.specs.declared.entries.Entry.TheVariants as entry
 use Rattle.ea_model.specs.declared.entries.NoCarrier.{NoCarrier}
 use Rattle.ea_model.specs.declared.operations.Op.{Op}
 use Rattle.ea_model.specs.declared.operations.Op.TheVariants as op
-use Rattle.ea_model.specs.declared.units.TheConstants.{SEARCH_LIMIT}
 use Rattle.ea_model.specs.Instance.{chosen_spot, plan, owner_of}
 use Rattle.ea_model.specs.Content.{Content}
+use Rattle.ea_machine.specs.declared.parts.Part.{Part}
 use Rattle.ea_machine.specs.declared.owners.OwnerWord.{OwnerWord}
 use Rattle.ea_machine.specs.declared.owners.OwnerWord.TheVariants as word
 use Rattle.ea_machine.specs.declared.stages.Stage.{Stage}
@@ -41,7 +43,8 @@ use Rattle.ea_sound.specs.Exhausted.{IsFailOf, seen_since}
 use Rattle.ea_machine.specs.Machine.{run}
 use Rattle.ea_sound.specs.Needs.{AsksFor}
 use Rattle.ea_machine.specs.declared.nodes.Named.{Named}
-use Rattle.ea_machine.specs.Placements.{counted, failed, fits}
+use Rattle.ea_machine.specs.Placements.{failed}
+use Rattle.ea_machine.specs.Searches.{fits}
 use Rattle.ea_sound.specs.Searches.{Searched, Shown, Sight, sight_if}
 use Rattle.ea_machine.specs.Setup.{Setup, greatest_number, migration}
 use Rattle.ea_machine.specs.State.{State}
@@ -60,9 +63,9 @@ abbrev pub IsSame : Actor → Actor → Type 0
 IsSame a b = (b.log ≡ a.log) × (b.todo ≡ a.todo) × (b.instance ≡ a.instance) × (b.held ≡ a.held)
 
 -- the begin of its operation was over in a turn of L, nothing was to be chosen then, it was as R
--- says, and what it saw since then, with each of its steps, is as P says
+-- says, and what it saw since then, with each of its steps, is as P says, by the lists that it had
 pub record Underway (e : Setup) (L : List ℕ) (s need : ℕ) (R : Actor → Type 0)
-    (P : List Sight → Type 0) : Type 0 where
+    (P : Lists → List Sight → Type 0) : Type 0 where
   pub before : List ℕ
   pub since : List ℕ
   pub split : L ≡ before ++ s ∷ since
@@ -70,35 +73,39 @@ pub record Underway (e : Setup) (L : List ℕ) (s need : ℕ) (R : Actor → Typ
   pub same : R (begun e before s)
   pub asks : AsksFor (begun e before s) (begun e before s).todo need
   pub none : chosen_spot (begun e before s).instance need ≡ None
-  pub saw : P (seen_since e before s since)
+  pub saw : P (begun e before s).lists (seen_since e before s since)
   pub steps : count_by (λ j. j == s) since ≡ length (seen_since e before s since)
 
-pub record Searches (e : Setup) (L : List ℕ) (s : ℕ) (a : Actor) (ask : Ask) (at looked : ℕ)
+-- a search that began with these lists saw this, and stands there
+abbrev pub CameTo : Setup → ℕ → Search → Lists → List Sight → Type 0
+CameTo e need x l xs =
+    Searched (greatest_number e) need (new_search (greatest_number e) l) x xs
+
+pub record Searches (e : Setup) (L : List ℕ) (s : ℕ) (a : Actor) (ask : Ask) (at : ℕ) (part : Part)
     : Type 0 where
   pub of : OfAsk ask a.todo
   pub on : migration e ≡ true
   pub small : ask.need ≤ e.settings.sbct
-  pub low : 0 < at
-  pub room : looked < SEARCH_LIMIT
+  pub goes : goes_on part ≡ true
   pub way : Underway e L s ask.need (λ b. IsSame b a)
-      (Searched ask.need (greatest_number e) 0 at looked)
+      (CameTo e ask.need (record { lists = a.lists; at = at; part = part }))
 
 -- the last sight showed the word that is tried
-abbrev pub AndShown : Setup → ℕ → ℕ → ℕ → OwnerWord → List Sight → Type 0
-AndShown e need at looked seen xs = (ys : List Sight) × (xs ≡ ys ++ Shown at seen ∷ [])
-    × Searched need (greatest_number e) 0 at looked ys
+abbrev pub AndShown : Setup → ℕ → Search → OwnerWord → Lists → List Sight → Type 0
+AndShown e need x seen l xs = (ys : List Sight) × (xs ≡ ys ++ Shown x.at seen ∷ [])
+    × CameTo e need x l ys
 
-pub record Fetches (e : Setup) (L : List ℕ) (s : ℕ) (a : Actor) (ask : Ask) (at looked : ℕ)
+pub record Fetches (e : Setup) (L : List ℕ) (s : ℕ) (a : Actor) (ask : Ask) (at : ℕ) (part : Part)
     (seen : OwnerWord) : Type 0 where
   pub of : OfAsk ask a.todo
   pub on : migration e ≡ true
   pub small : ask.need ≤ e.settings.sbct
-  pub low : 0 < at
-  pub old : ℕ
-  pub room : old < SEARCH_LIMIT
-  pub counts : looked ≡ counted seen old
+  pub old : Part
+  pub goes : goes_on old ≡ true
+  pub counts : part ≡ with_counted seen old
   pub fit : fits ask.need seen ≡ true
-  pub way : Underway e L s ask.need (λ b. IsSame b a) (AndShown e ask.need at old seen)
+  pub way : Underway e L s ask.need (λ b. IsSame b a)
+      (AndShown e ask.need (record { lists = a.lists; at = at; part = old }) seen)
 
 -- the old block that an ask may have was held when the operation itself began
 abbrev pub HasOld : Setup → List ℕ → ℕ → List Entry → Option Named → Type 0
@@ -225,8 +232,8 @@ abbrev pub SoFar : Setup → List ℕ → ℕ → Actor → Stage Content → Ty
 SoFar e L s a Begin = Unit {0}
 SoFar e L s a (Routed r why g) = OnTask e L s a r why g
 SoFar e L s a (Collecting c) = Unit {0}
-SoFar e L s a (Searching ask at looked) = Searches e L s a ask at looked
-SoFar e L s a (Fetching ask at looked seen) = Fetches e L s a ask at looked seen
+SoFar e L s a (Searching ask at part) = Searches e L s a ask at part
+SoFar e L s a (Fetching ask at part seen) = Fetches e L s a ask at part seen
 SoFar e L s a (Creating ask p) = Creates e L s a ask p
 SoFar e L s a (Giving h to) = (ops : List Op) × (a.todo ≡ op.Give h.name to ∷ ops)
 SoFar e L s a (Taking n tries left) = Takes e L s a n tries left
@@ -235,10 +242,10 @@ SoFar e L s a Ready = ⊥
 
 -- one turn more, of s or of another
 pub further : (e : Setup) (L : List ℕ) (s j need : ℕ) (R : Actor → Type 0)
-    (P Q : List Sight → Type 0) (b : Bool) → (j == s) ≡ b
+    (P Q : Lists → List Sight → Type 0) (b : Bool) → (j == s) ≡ b
     → length (sight_if b ((run e L).actors s).stage (answered (run e L) s)) ≡ one_if b
-    → ((xs : List Sight) → P xs
-    → Q (xs ++ sight_if b ((run e L).actors s).stage (answered (run e L) s)))
+    → ((l : Lists) (xs : List Sight) → P l xs
+    → Q l (xs ++ sight_if b ((run e L).actors s).stage (answered (run e L) s)))
     → Underway e L s need R P → Underway e (L ++ j ∷ []) s need R Q
 further e L s j need R P Q b d one f u = record {
   before = u.before;
@@ -248,7 +255,8 @@ further e L s j need R P Q b d one f u = record {
   same = u.same;
   asks = u.asks;
   none = u.none;
-  saw = subst Q (sym sees) (f xs u.saw);
+  saw = subst (Q (begun e u.before s).lists) (sym sees)
+      (f (begun e u.before s).lists xs u.saw);
   steps = count-snoc s u.since j
       ∙ omega (
         arith,
@@ -282,7 +290,7 @@ asked-longer e L s j need log h = record {
   same = h.same;
 }
 
-pub way-asked : (e : Setup) (L : List ℕ) (s need : ℕ) (a : Actor) (P : List Sight → Type 0)
+pub way-asked : (e : Setup) (L : List ℕ) (s need : ℕ) (a : Actor) (P : Lists → List Sight → Type 0)
     → Underway e L s need (λ b. IsSame b a) P → HasAsked e L s need a.log
 way-asked e L s need a P u = record {
   before = u.before;
@@ -408,29 +416,28 @@ way-longer e L s j log n (Linking node to) g w = pushed-longer e L s j log n g w
 
 -- a turn of another scheduler adds nothing
 module _ (e : Setup) (L : List ℕ) (s j : ℕ) (ne : j ≢ s) where
-  away : (need : ℕ) (R : Actor → Type 0) (P : List Sight → Type 0) → Underway e L s need R P
+  away : (need : ℕ) (R : Actor → Type 0) (P : Lists → List Sight → Type 0)
+      → Underway e L s need R P
       → Underway e (L ++ j ∷ []) s need R P
   away need R P u =
       let d : (j == s) ≡ false = grind (arith, ne) in
-      further e L s j need R P P false d refl (λ xs p. subst P (sym (append-nil xs)) p) u
+      further e L s j need R P P false d refl (λ l xs p. subst (P l) (sym (append-nil xs)) p) u
 
   pub other-so_far : (a : Actor) (st : Stage Content) → SoFar e L s a st
       → SoFar e (L ++ j ∷ []) s a st
-  other-so_far a (Searching ask at looked) h = record {
+  other-so_far a (Searching ask at part) h = record {
     of = h.of;
     on = h.on;
     small = h.small;
-    low = h.low;
-    room = h.room;
+    goes = h.goes;
     way = away ask.need (λ b. IsSame b a) _ h.way;
   }
-  other-so_far a (Fetching ask at looked seen) h = record {
+  other-so_far a (Fetching ask at part seen) h = record {
     of = h.of;
     on = h.on;
     small = h.small;
-    low = h.low;
     old = h.old;
-    room = h.room;
+    goes = h.goes;
     counts = h.counts;
     fit = h.fit;
     way = away ask.need (λ b. IsSame b a) _ h.way;

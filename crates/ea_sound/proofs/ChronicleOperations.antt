@@ -1,4 +1,5 @@
 -- An operation itself, once its begin is over: what it makes of what the turns before say.
+use Rattle.ea_machine.specs.Searches.{new_search}
 use Rattle.std.proofs.Common.{◌≡◌, ◌≢◌, ◌⊎◌, ℕ, ◌<◌, ◌≤◌, List, [], ◌∷◌, Bool, true, false, refl}
 use Rattle.std.proofs.Common.{sym, ap, ◌∙◌, subst, inl, inr, arith, ◌++◌}
 use Rattle.std.specs.Prelude.{All, Option, Some, None, ◌==◌, count_by, filter, not}
@@ -154,8 +155,8 @@ module _ (e : Setup) (rules : (L : List ℕ) → Rule e (run e L)) (L : List ℕ
         → IsWanted ask → AsksFor mid mid.todo ask.need → ask.need ≤ e.settings.sbct
         → chosen_spot mid.instance ask.need ≡ None → Fine (search_if e me ask mid on)
     no_choice-fine ask true m o want asks small c =
-        search-fine e rules L me set is works ask (greatest_number e) 0 mid k
-        (asked-now ask o want asks) m small (omega arith) want
+        search-fine e rules L me set is works ask (new_search (greatest_number e) mid.lists) mid k
+        (asked-now ask o want asks) m small want
         (record {
           before = L;
           since = [];
@@ -164,7 +165,7 @@ module _ (e : Setup) (rules : (L : List ℕ) → Rule e (run e L)) (L : List ℕ
           same = (refl, refl, refl, refl);
           asks = asks;
           none = c;
-          saw = (refl, refl);
+          saw = refl;
           steps = no-steps;
         })
     no_choice-fine ask false m o want asks small c = plan-fine ask o want asks (λ s. c) (inl m)

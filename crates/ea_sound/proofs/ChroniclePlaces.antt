@@ -1,8 +1,11 @@
 -- A turn of a scheduler that places a block, plans a carrier or searches for one: what it makes of
 -- what the turns before say.
-use Rattle.std.proofs.Common.{◌≡◌, ◌⊎◌, ℕ, zero, suc, ◌<◌, ◌≤◌, List, [], ◌∷◌, ◌++◌, Bool, true}
+use Rattle.ea_machine.specs.Placements.{search_on}
+use Rattle.ea_machine.specs.Searches.{Search, goes_on, looked_in, passed}
+use Rattle.ea_sound.proofs.Chronicle.{CameTo}
+use Rattle.std.proofs.Common.{◌≡◌, ◌⊎◌, ℕ, ◌<◌, ◌≤◌, List, [], ◌∷◌, ◌++◌, Bool, true}
 use Rattle.std.proofs.Common.{false, refl, sym, ap, ◌∙◌, subst, inl, inr, arith, ◌≢◌}
-use Rattle.std.specs.Prelude.{Option, Some, None, Result, Ok, Err, ◌&&◌, nat_lt, ◌==◌}
+use Rattle.std.specs.Prelude.{Option, Some, None, Result, Ok, Err, ◌==◌}
 use Rattle.ea_model.specs.declared.carriers.CarrierPlan.{CarrierPlan}
 use Rattle.ea_model.specs.declared.carriers.Place.{Place}
 use Rattle.ea_model.specs.declared.carriers.Spot.{Spot}
@@ -10,7 +13,6 @@ use Rattle.ea_model.specs.declared.entries.Entry.{Entry}
 use Rattle.ea_model.specs.declared.entries.Entry.TheVariants as entry
 use Rattle.ea_model.specs.declared.entries.NoCarrier.{NoCarrier}
 use Rattle.ea_model.specs.declared.entries.NoCarrier.TheVariants.{Space}
-use Rattle.ea_model.specs.declared.units.TheConstants.{SEARCH_LIMIT}
 use Rattle.ea_model.specs.Instance.{chosen_spot, creating, is_alone, place_at, plan, single_place}
 use Rattle.ea_model.specs.Instance.{creating_single, placing_at, owner_of}
 use Rattle.ea_laws.proofs.Keeping.{plan-IsPlanned}
@@ -36,11 +38,10 @@ use Rattle.ea_sound.specs.Exhausted.{FindsNoPlace, IsExhausted, IsFailOf}
 use Rattle.ea_machine.specs.Machine.{run, wants}
 use Rattle.ea_machine.specs.declared.nodes.Named.{Named}
 use Rattle.ea_machine.specs.Placements.{created, created_by, failed, making, new_carrier_by}
-use Rattle.ea_machine.specs.Placements.{placed_at, placed_by, search_at, searched_by, stands}
+use Rattle.ea_machine.specs.Placements.{placed_at, placed_by, searched_by, stands}
 use Rattle.ea_machine.specs.Placements.{holding, spot_of_place}
 use Rattle.ea_machine.specs.Releases.{Turned, owned_by, release_here, route_of, routed}
-use Rattle.ea_sound.specs.Searches.{Searched}
-use Rattle.ea_machine.specs.Setup.{Setup, greatest_number, migration, is_scheduler}
+use Rattle.ea_machine.specs.Setup.{Setup, migration, is_scheduler}
 use Rattle.ea_machine.specs.Statistics.{observed}
 use Rattle.ea_machine.specs.Tasks.{carried, entry_of, hands_over, later, let_go, logged, task_over}
 use Rattle.ea_sound.specs.Turns.{actor_after, begun}
@@ -68,7 +69,8 @@ use Rattle.ea_sound.proofs.FewBlocks.{blocks_named}
 use Rattle.ea_sound.proofs.Hits.{HasBlock, held-stands, hit}
 use Rattle.ea_sound.proofs.LyingBlocks.{LiesWith, lying, placing-lies, route-lies, single-lies}
 use Rattle.ea_sound.proofs.Numbered.{scheduler-seat}
-use Rattle.ea_sound.proofs.Operating.{closed-operation, held-other, held-stays, made-wanted}
+use Rattle.ea_sound.proofs.Operating.{closed-operation, held-other, held-stays, listed-wanted}
+use Rattle.ea_sound.proofs.Operating.{made-wanted}
 use Rattle.ea_sound.proofs.Totals.{put-here, total-part}
 use Rattle.ea_sound.proofs.Created.{scheduler-number}
 use Rattle.ea_sound.proofs.GoneRoutes.{IsBare, NotByWord, NotSent, Yields, here-bare, here-not_sent}
@@ -84,12 +86,6 @@ failed-says : (n : ℕ) (ask : Ask) (looked : ℕ) (why : NoCarrier) (old : Opti
     → says_failed n (failed ask looked why old) ≡ (n == ask.name)
 failed-says n ask looked why None = refl
 failed-says n ask looked why (Some h) = refl
-
--- a search that goes on no more
-ends : (n looked limit : ℕ) → looked ≤ limit → (nat_lt 0 n && nat_lt looked limit) ≡ false
-    → (n ≡ 0) ⊎ (looked ≡ limit)
-ends zero looked limit m t = inl refl
-ends (suc n) looked limit m t = inr (grind (arith, m, t))
 
 module _ (e : Setup) (rules : (L : List ℕ) → Rule e (run e L)) (L : List ℕ) (me : ℕ) where
   abbrev pub acting : Actor
@@ -723,20 +719,19 @@ module _ (e : Setup) (rules : (L : List ℕ) → Rule e (run e L)) (L : List ℕ
     }
 
     -- the search goes on, or no number or no word is left
-    pub search-fine : (ask : Ask) (at looked : ℕ) (b : Actor) → Keeps acting b
-        → IsAsking ask → migration e ≡ true → ask.need ≤ e.settings.sbct
-        → looked ≤ SEARCH_LIMIT → IsWanted b ask
-        → Underway e turn me ask.need (λ c. IsSame c b)
-        (Searched ask.need (greatest_number e) 0 at looked)
-        → Fine (search_at e me ask at looked b)
-    search-fine ask at looked b k o on small most want u =
-        by (nat_lt 0 at && nat_lt looked SEARCH_LIMIT) refl
+    pub search-fine : (ask : Ask) (x : Search) (b : Actor) → Keeps acting b
+        → IsAsking ask → migration e ≡ true → ask.need ≤ e.settings.sbct → IsWanted b ask
+        → Underway e turn me ask.need (λ c. IsSame c b) (CameTo e ask.need x)
+        → Fine (search_on e me ask x b)
+    search-fine ask x b k o on small want u = by (goes_on x.part) refl
       where
         none : chosen_spot b.instance ask.need ≡ None
         none = ap (λ i. chosen_spot i ask.need) u.same.2 ∙ u.none
 
-        by : (t : Bool) → (nat_lt 0 at && nat_lt looked SEARCH_LIMIT) ≡ t
-            → Fine (searched_by e me ask at looked b t)
+        c : Actor
+        c = record b { lists = x.lists }
+
+        by : (t : Bool) → goes_on x.part ≡ t → Fine (searched_by e me ask x c t)
         by true t = (
           (λ q. absurd cc),
           k.2 ∙ set,
@@ -745,22 +740,22 @@ module _ (e : Setup) (rules : (L : List ℕ) → Rule e (run e L)) (L : List ℕ
               of = subst (OfAsk ask) (sym k.1) o.0;
               on = on;
               small = small;
-              low = grind (arith, t);
-              room = grind (arith, t);
+              goes = t;
               way = u;
             },
             inl (k.0, k.1),
           ),
         )
-        by false t = planned-fine ask looked b (plan b.instance ask.need) refl k o
-            (λ why r. fails ask looked why b u.before u.since u.split u.same
+        by false t = planned-fine ask (looked_in x.part) c (plan c.instance ask.need) refl k o
+            (λ why r. fails ask (looked_in x.part) why c u.before u.since u.split u.same
             (subst (OfAsk ask) (sym k.1) o.0)
             (record {
               begins = u.begins;
               asks = u.asks;
               none = λ s. u.none;
-              sought = inr (on, small, (at, u.saw, ends at looked SEARCH_LIMIT most t));
+              sought = inr (on, small, (x, u.saw, t, refl));
               steps = u.steps;
               refused = ap (λ i. plan i ask.need) (sym u.same.2) ∙ r;
             }))
-            (λ s. none) want (λ off p r. absurd (let no : true ≡ false = sym on ∙ off in cc))
+            (λ s. none) (listed-wanted e (run e L) shared me is ask x.lists b want)
+            (λ off p r. absurd (let no : true ≡ false = sym on ∙ off in cc))

@@ -1,12 +1,23 @@
 -- A turn of a scheduler: what it makes of what the turns before say.
-use Rattle.std.proofs.Common.{◌≡◌, ◌≢◌, ◌⊎◌, ℕ, zero, suc, ◌+◌, ◌-◌, ◌≤◌, List, [], ◌∷◌, ◌++◌, Bool}
+use Rattle.ea_machine.specs.Lists.{Lists}
+use Rattle.ea_machine.specs.Placements.{fetches, pass}
+use Rattle.ea_machine.specs.Searches.{Search, new_search, with_counted}
+use Rattle.ea_sound.proofs.Chronicle.{CameTo}
+use Rattle.ea_sound.specs.Searches.{past}
+use Rattle.ea_sound.proofs.Operating.{listed-wanted}
+use Rattle.ea_sound.proofs.StillMoves.{keeps-operation, lists-goes}
+use Rattle.ea_sound.specs.Leaves.{InOperation}
+use Rattle.ea_sound.specs.Moments.{at as at_stage}
+use Rattle.ea_machine.specs.Lists.{unlisted}
+use Rattle.ea_machine.specs.Releases.{abandoned}
+use Rattle.std.proofs.Common.{◌≡◌, ◌≢◌, ◌⊎◌, ℕ, zero, suc, ◌+◌, ◌≤◌, List, [], ◌∷◌, ◌++◌, Bool}
 use Rattle.std.proofs.Common.{true, false, refl, sym, ap, ◌∙◌, subst, inl, inr, arith}
 use Rattle.std.specs.Prelude.{Option, Some, None, count_by, length, ◌==◌}
 use Rattle.std.proofs.lemmas.List.{append_assoc}
 use Rattle.ea_model.specs.declared.entries.Entry.TheVariants as entry
 use Rattle.ea_model.specs.declared.operations.Op.TheVariants as op
-use Rattle.ea_model.specs.declared.units.TheConstants.{SEARCH_LIMIT}
 use Rattle.ea_model.specs.Instance.{chosen_spot, owner_of}
+use Rattle.ea_machine.specs.declared.parts.Part.{Part}
 use Rattle.ea_machine.specs.declared.owners.OwnerWord.{OwnerWord}
 use Rattle.ea_machine.specs.declared.stages.Stage.{Stage}
 use Rattle.ea_machine.specs.declared.stages.Stage.TheVariants.{Begin, Routed, Collecting, Searching}
@@ -25,11 +36,12 @@ use Rattle.ea_sound.proofs.FetchedFits.{fetched-number, fetched-there}
 use Rattle.ea_model.specs.Employment.{employing}
 use Rattle.ea_machine.specs.Machine.{after_row, onward, onward_at, run, wants_at}
 use Rattle.ea_machine.specs.Operations.{took}
-use Rattle.ea_machine.specs.Placements.{counted, fetched, fits, holding, saw_by, search_at}
+use Rattle.ea_machine.specs.Placements.{fetched, holding, saw_by}
+use Rattle.ea_machine.specs.Searches.{fits}
 use Rattle.ea_machine.specs.Placements.{searched}
 use Rattle.ea_machine.specs.Releases.{Turned, disowned, turned}
 use Rattle.ea_machine.specs.Rows.{Answer, Done, Head, Rests, Passes, Saw, Won, Lost, Home, Got}
-use Rattle.ea_sound.specs.Searches.{Missed, Searched, Shown, Sight, sight, sight_if}
+use Rattle.ea_sound.specs.Searches.{Missed, Shown, Sight, sight, sight_if}
 use Rattle.ea_machine.specs.Setup.{Setup, greatest_number, is_scheduler, migration}
 use Rattle.ea_machine.specs.Statistics.{observed}
 use Rattle.ea_machine.specs.Table.{answer, effect}
@@ -45,7 +57,7 @@ use Rattle.ea_machine.specs.Nodes.{block_node, named_at, pushed, spot_named}
 use Rattle.ea_machine.specs.declared.nodes.Named.{Named}
 use Rattle.ea_machine.specs.State.{State}
 use Rattle.ea_machine.specs.Sums.{one_if}
-use Rattle.ea_sound.proofs.SearchLists.{count-snoc, counted-most, searched-look, searched-lost}
+use Rattle.ea_sound.proofs.SearchLists.{count-snoc, searched-look, searched-lost}
 use Rattle.ea_sound.proofs.SearchLists.{searched-on}
 use Rattle.ea_sound.proofs.SearchTurns.{busy-tries, fetch-tries, look-saw, lost-other}
 use Rattle.ea_sound.proofs.SearchTurns.{won-or_lost}
@@ -136,8 +148,8 @@ module _ (e : Setup) (rules : (L : List ℕ) → Rule e (run e L)) (L : List ℕ
         rests-fine mid (Routed r Walk g) q (λ r. absurd cc) tt k
     walk-fine Ended q w k ne = rests-fine mid Ended q (λ r. absurd cc) tt k
     walk-fine (Routed r (For task) g) q w k ne = absurd w
-    walk-fine (Searching ask at looked) q w k ne = absurd w
-    walk-fine (Fetching ask at looked seen) q w k ne = absurd w
+    walk-fine (Searching ask at part) q w k ne = absurd w
+    walk-fine (Fetching ask at part seen) q w k ne = absurd w
     walk-fine (Creating ask p) q w k ne = absurd w
     walk-fine (Giving h to) q w k ne = absurd w
     walk-fine (Taking n tries left) q w k ne = absurd w
@@ -150,18 +162,18 @@ module _ (e : Setup) (rules : (L : List ℕ) → Rule e (run e L)) (L : List ℕ
     saw = sight_if true acting.stage (answered (run e L) me)
 
     turn-of : (need : ℕ) (st : Stage Content) (r : Answer) (x : Sight) (R : Actor → Type 0)
-        (P Q : List Sight → Type 0)
+        (P Q : Lists → List Sight → Type 0)
         → acting.stage ≡ st → answered (run e L) me ≡ r → sight st r ≡ x ∷ []
-        → ((xs : List Sight) → P xs → Q (xs ++ x ∷ [])) → Underway e L me need R P
+        → ((l : Lists) (xs : List Sight) → P l xs → Q l (xs ++ x ∷ [])) → Underway e L me need R P
         → Underway e turn me need R Q
     turn-of need st r x R P Q q a is f u =
         let sees : saw ≡ x ∷ [] = ap (λ st. sight st (answered (run e L) me)) q
         ∙ ap (λ r. sight st r) a ∙ is in
         further e L me me need R P Q true (grind arith) (ap length sees)
-        (λ xs p. subst (λ ys. Q (xs ++ ys)) (sym sees) (f xs p)) u
+        (λ l xs p. subst (λ ys. Q l (xs ++ ys)) (sym sees) (f l xs p)) u
 
     -- the old block was held when the operation began
-    way-old : (need : ℕ) (P : List Sight → Type 0) → Underway e L me need IsStill P
+    way-old : (need : ℕ) (P : Lists → List Sight → Type 0) → Underway e L me need IsStill P
         → (old : Option Named) → OldHeld old acting.held → HasOld e turn me acting.log old
     way-old need P u None held = tt
     way-old need P u (Some h) held = record {
@@ -173,7 +185,7 @@ module _ (e : Setup) (rules : (L : List ℕ) → Rule e (run e L)) (L : List ℕ
       held = subst (λ hs. named_at h.name hs ≡ Some h) u.same.3 held;
     }
 
-    asking : (ask : Ask) (P : List Sight → Type 0) → OfAsk ask acting.todo
+    asking : (ask : Ask) (P : Lists → List Sight → Type 0) → OfAsk ask acting.todo
         → OldHeld ask.old acting.held → Underway e L me ask.need IsStill P
         → IsAsking e rules L me ask
     asking ask P o old u = (
@@ -182,14 +194,17 @@ module _ (e : Setup) (rules : (L : List ℕ) → Rule e (run e L)) (L : List ℕ
       way-old ask.need P u ask.old old,
     )
 
-    searched-fine : (ask : Ask) (at looked : ℕ) (r : Answer)
-        → acting.stage ≡ Searching ask at looked → answered (run e L) me ≡ r
-        → LeftAt (Searching ask at looked) r → Searches e L me acting ask at looked
-        → Fine (searched e me ask at looked acting r)
-    searched-fine ask at looked (Saw v) st ans l h = by (fits ask.need v) refl
+    searched-fine : (ask : Ask) (at : ℕ) (part : Part) (r : Answer)
+        → acting.stage ≡ Searching ask at part → answered (run e L) me ≡ r
+        → LeftAt (Searching ask at part) r → Searches e L me acting ask at part
+        → Fine (searched e me ask at part acting r)
+    searched-fine ask at part (Saw v) st ans l h = by (fits ask.need v) refl
       where
+        x : Search
+        x = record { lists = acting.lists; at = at; part = part }
+
         by : (t : Bool) → fits ask.need v ≡ t
-            → Fine (saw_by e me ask at (counted v looked) acting v t)
+            → Fine (saw_by e me ask at (with_counted v part) acting v t)
         by true t = (
           (λ q. absurd cc),
           set,
@@ -198,38 +213,37 @@ module _ (e : Setup) (rules : (L : List ℕ) → Rule e (run e L)) (L : List ℕ
               of = h.of;
               on = h.on;
               small = h.small;
-              low = h.low;
-              old = looked;
-              room = h.room;
+              old = part;
+              goes = h.goes;
               counts = refl;
               fit = t;
-              way = turn-of ask.need (Searching ask at looked) (Saw v) (Shown at v) IsStill _
-                  (AndShown e ask.need at looked v) st ans refl (λ xs p. (xs, refl, p)) h.way;
+              way = turn-of ask.need (Searching ask at part) (Saw v) (Shown at v) IsStill _
+                  (AndShown e ask.need x v) st ans refl (λ l xs p. (xs, refl, p)) h.way;
             },
             inl (refl, refl),
           ),
         )
-        by false t = search-fine e rules L me set is works ask (at - 1) (counted v looked) acting
-            (keeps-same acting) (asking ask _ h.of l.0.old h.way) h.on h.small
-            (counted-most looked SEARCH_LIMIT v h.room) l.0
-            (turn-of ask.need (Searching ask at looked) (Saw v) (Shown at v) IsStill _
-            (Searched ask.need (greatest_number e) 0 (at - 1) (counted v looked)) st ans refl
-            (λ xs p. searched-on ask.need (greatest_number e) 0 at looked (at - 1)
-            (counted v looked) xs (Shown at v ∷ []) p
-            (searched-look ask.need at looked v h.low h.room t)) h.way)
-    searched-fine ask at looked Done st ans l h = halted-fine
-    searched-fine ask at looked (Head x) st ans l h = halted-fine
-    searched-fine ask at looked Rests st ans l h = halted-fine
-    searched-fine ask at looked (Passes x) st ans l h = halted-fine
-    searched-fine ask at looked (Won x) st ans l h = halted-fine
-    searched-fine ask at looked (Lost x) st ans l h = halted-fine
-    searched-fine ask at looked (Home x) st ans l h = halted-fine
-    searched-fine ask at looked (Got x) st ans l h = halted-fine
+        by false t = search-fine e rules L me set is works ask (past (greatest_number e) x v v)
+            acting (keeps-same acting) (asking ask _ h.of l.0.old h.way) h.on h.small l.0
+            (turn-of ask.need (Searching ask at part) (Saw v) (Shown at v) IsStill _
+            (CameTo e ask.need (past (greatest_number e) x v v)) st ans refl
+            (λ l xs p. searched-on (greatest_number e) ask.need
+            (new_search (greatest_number e) l) x (past (greatest_number e) x v v) xs
+            (Shown at v ∷ []) p
+            (searched-look (greatest_number e) ask.need x v h.goes t)) h.way)
+    searched-fine ask at part Done st ans l h = halted-fine
+    searched-fine ask at part (Head x) st ans l h = halted-fine
+    searched-fine ask at part Rests st ans l h = halted-fine
+    searched-fine ask at part (Passes x) st ans l h = halted-fine
+    searched-fine ask at part (Won x) st ans l h = halted-fine
+    searched-fine ask at part (Lost x) st ans l h = halted-fine
+    searched-fine ask at part (Home x) st ans l h = halted-fine
+    searched-fine ask at part (Got x) st ans l h = halted-fine
 
     -- the number that it tries to fetch is the first whose word fits
-    first-fit : (ask : Ask) (at looked : ℕ) (seen : OwnerWord)
-        → Fetches e L me acting ask at looked seen → IsFirstFit e L me ask.need at seen
-    first-fit ask at looked seen h = record {
+    first-fit : (ask : Ask) (at : ℕ) (part : Part) (seen : OwnerWord)
+        → Fetches e L me acting ask at part seen → IsFirstFit e L me ask.need at seen
+    first-fit ask at part seen h = record {
       before = h.way.before;
       since = h.way.since;
       split = h.way.split;
@@ -238,58 +252,67 @@ module _ (e : Setup) (rules : (L : List ℕ) → Rule e (run e L)) (L : List ℕ
       asks = h.way.asks;
       none = h.way.none;
       passed = h.way.saw.0;
-      looked = h.old;
+      last = record { lists = acting.lists; at = at; part = h.old };
       searched = h.way.saw.2;
-      next = (refl, h.low, h.room);
+      next = (refl, h.goes);
       fit = h.fit;
       saw = h.way.saw.1;
       steps = h.way.steps;
     }
 
-    fetched-fine : (ask : Ask) (at looked : ℕ) (seen : OwnerWord) (r : Answer)
-        → acting.stage ≡ Fetching ask at looked seen → answered (run e L) me ≡ r
-        → LeftAt (Fetching ask at looked seen) r → Fetches e L me acting ask at looked seen
-        → Fine (fetched e me ask at looked acting r)
-    fetched-fine ask at looked seen (Won x) st ans l h =
+    fetched-fine : (ask : Ask) (at : ℕ) (part : Part) (seen : OwnerWord) (r : Answer)
+        → acting.stage ≡ Fetching ask at part seen → answered (run e L) me ≡ r
+        → LeftAt (Fetching ask at part seen) r → Fetches e L me acting ask at part seen
+        → Fine (fetched e me ask at part acting r)
+    fetched-fine ask at part seen (Won x) st ans l h =
         choice-fine e rules L me set is works ask
-        (record acting { instance = employing acting.instance x })
+        (fetches at x acting)
         (chosen_spot (employing acting.instance x) ask.need) refl (refl, refl, refl)
         (asking ask _ h.of l.0.old h.way) h.small
         (Fetched x (record {
           ask = ask;
           number = at;
-          looked = looked;
+          part = part;
           seen = seen;
           stage = st;
           asks = refl;
           won = ans;
-          is = fetched-number e (run e L) (rules L) me at looked ask seen x st ans;
-          first = first-fit ask at looked seen h;
-          there = fetched-there e (run e L) (rules L) me at looked ask seen x st ans;
-        }) (ap (λ i. chosen_spot i ask.need) h.way.same.2 ∙ h.way.none) refl) l.0 l.2
-    fetched-fine ask at looked seen (Lost u) st ans l h =
-        subst (λ k. Fine (search_at e me ask (at - 1) k acting)) (sym h.counts)
-        (search-fine e rules L me set is works ask (at - 1) (counted seen h.old) acting
-        (keeps-same acting) (asking ask _ h.of l.0.old h.way) h.on h.small
-        (counted-most h.old SEARCH_LIMIT seen h.room) l.0
-        (turn-of ask.need (Fetching ask at looked seen) (Lost u) (Missed at u) IsStill _
-        (Searched ask.need (greatest_number e) 0 (at - 1) (counted seen h.old)) st ans refl
-        (λ xs p. subst (Searched ask.need (greatest_number e) 0 (at - 1) (counted seen h.old))
-        (sym (ap (λ l. l ++ Missed at u ∷ []) p.1
+          is = fetched-number e (run e L) (rules L) me at part ask seen x st ans;
+          first = first-fit ask at part seen h;
+          there = fetched-there e (run e L) (rules L) me at part ask seen x st ans;
+        }) (ap (λ i. chosen_spot i ask.need) h.way.same.2 ∙ h.way.none) refl)
+        (listed-wanted e (run e L) s me is ask (unlisted at acting.lists) b l.0)
+        (lists-goes e (run e L) s me is (InOperation e (run e L) s me)
+        (keeps-operation e (run e L) s me is) (unlisted at acting.lists) (at_stage Begin b)
+        (λ q. absurd cc) l.2)
+      where
+        b : Actor
+        b = record acting { instance = employing acting.instance x }
+    fetched-fine ask at part seen (Lost u) st ans l h =
+        subst (λ p. Fine (pass e me ask at p acting u)) (sym h.counts)
+        (search-fine e rules L me set is works ask (past (greatest_number e) x seen u) acting
+        (keeps-same acting) (asking ask _ h.of l.0.old h.way) h.on h.small l.0
+        (turn-of ask.need (Fetching ask at part seen) (Lost u) (Missed at u) IsStill _
+        (CameTo e ask.need (past (greatest_number e) x seen u)) st ans refl
+        (λ l xs p. subst (CameTo e ask.need (past (greatest_number e) x seen u) l)
+        (sym (ap (λ zs. zs ++ Missed at u ∷ []) p.1
         ∙ append_assoc p.0 (Shown at seen ∷ []) (Missed at u ∷ [])))
-        (searched-on ask.need (greatest_number e) 0 at h.old (at - 1) (counted seen h.old) p.0
-        (Shown at seen ∷ Missed at u ∷ []) p.2
-        (searched-lost ask.need at h.old seen u h.low h.room h.fit
+        (searched-on (greatest_number e) ask.need (new_search (greatest_number e) l) x
+        (past (greatest_number e) x seen u) p.0 (Shown at seen ∷ Missed at u ∷ []) p.2
+        (searched-lost (greatest_number e) ask.need x seen u h.goes h.fit
         (lost-other ask.need seen u ((run e L).shared.places at) h.fit
         (sym (ap (λ stage. answer me (wants_at acting.next stage) (run e L).shared) st
         ∙ fetch-tries me at seen (run e L).shared) ∙ ans))))) h.way))
-    fetched-fine ask at looked seen Done st ans l h = halted-fine
-    fetched-fine ask at looked seen (Head x) st ans l h = halted-fine
-    fetched-fine ask at looked seen Rests st ans l h = halted-fine
-    fetched-fine ask at looked seen (Passes x) st ans l h = halted-fine
-    fetched-fine ask at looked seen (Saw x) st ans l h = halted-fine
-    fetched-fine ask at looked seen (Home x) st ans l h = halted-fine
-    fetched-fine ask at looked seen (Got x) st ans l h = halted-fine
+      where
+        x : Search
+        x = record { lists = acting.lists; at = at; part = h.old }
+    fetched-fine ask at part seen Done st ans l h = halted-fine
+    fetched-fine ask at part seen (Head x) st ans l h = halted-fine
+    fetched-fine ask at part seen Rests st ans l h = halted-fine
+    fetched-fine ask at part seen (Passes x) st ans l h = halted-fine
+    fetched-fine ask at part seen (Saw x) st ans l h = halted-fine
+    fetched-fine ask at part seen (Home x) st ans l h = halted-fine
+    fetched-fine ask at part seen (Got x) st ans l h = halted-fine
 
     -- one more try in vain
     module _ (n tries left : ℕ) (st : acting.stage ≡ Taking n tries (suc left))
@@ -374,8 +397,8 @@ module _ (e : Setup) (rules : (L : List ℕ) → Rule e (run e L)) (L : List ℕ
     onward-by b Begin q h = h
     onward-by b (Routed r y g) q h = h
     onward-by b (Collecting c) q h = h
-    onward-by b (Searching ask at looked) q h = h
-    onward-by b (Fetching ask at looked seen) q h = h
+    onward-by b (Searching ask at part) q h = h
+    onward-by b (Fetching ask at part seen) q h = h
     onward-by b (Creating ask p) q h = h
     onward-by b (Giving g to) q h = h
     onward-by b (Taking n tries left) q h = h
@@ -485,7 +508,7 @@ module _ (e : Setup) (rules : (L : List ℕ) → Rule e (run e L)) (L : List ℕ
         (sym (settled-gone e me (is_nil x.blocks) x g acting))
         (left-longer e L me me acting.log (name_in task) g w))
     row-becomes task g z ans (Abandoning x) q w =
-        left-becomes e rules L me set is works task None g acting tt
+        left-becomes e rules L me set is works task None g (abandoned me x.number acting) tt
         (left-longer e L me me acting.log (name_in task) g w)
     row-becomes task g z ans (Sending x) q w =
         left-becomes e rules L me set is works task
@@ -544,12 +567,12 @@ module _ (e : Setup) (rules : (L : List ℕ) → Rule e (run e L)) (L : List ℕ
         ])
         (row-becomes task g (answered (run e L) me) refl r q h.3)
         (λ now. placing-longer e L me me acting.log task h.1))
-    row-fine (Searching ask at looked) q h ne =
-        inr (searched-fine ask at looked (answered (run e L) me) q refl
-        (left (Searching ask at looked) (answered (run e L) me) q (λ r. ne (sym q ∙ r)) refl) h)
-    row-fine (Fetching ask at looked seen) q h ne =
-        inr (fetched-fine ask at looked seen (answered (run e L) me) q refl
-        (left (Fetching ask at looked seen) (answered (run e L) me) q (λ r. ne (sym q ∙ r)) refl) h)
+    row-fine (Searching ask at part) q h ne =
+        inr (searched-fine ask at part (answered (run e L) me) q refl
+        (left (Searching ask at part) (answered (run e L) me) q (λ r. ne (sym q ∙ r)) refl) h)
+    row-fine (Fetching ask at part seen) q h ne =
+        inr (fetched-fine ask at part seen (answered (run e L) me) q refl
+        (left (Fetching ask at part seen) (answered (run e L) me) q (λ r. ne (sym q ∙ r)) refl) h)
     row-fine (Creating ask p) q h ne =
         let l = left (Creating ask p) (answered (run e L) me) q (λ r. ne (sym q ∙ r)) refl in
         inr (created-fine e rules L me set is works ask p acting (keeps-same acting) (

@@ -1,4 +1,7 @@
 -- After a completed schedule every scheduler has ended or is stopped.
+use Rattle.ea_machine.specs.Releases.{struck}
+use Rattle.ea_machine.specs.Searches.{left_in}
+use Rattle.ea_sound.proofs.SearchParts.{has-some}
 use Rattle.std.proofs.Common.{◌≡◌, ◌≢◌, ◌⊎◌, ℕ, zero, suc, ◌+◌, ◌*◌, ◌<◌, ◌≤◌, List, [], ◌∷◌, ◌++◌}
 use Rattle.std.proofs.Common.{Bool, true, false, refl, sym, ap, ◌∙◌, subst, inl, inr, arith, ◌-◌}
 use Rattle.std.specs.Prelude.{Option, Some, None, length, replicate, take}
@@ -48,10 +51,13 @@ use Rattle.ea_sound.proofs.Totals.{put-here, put-other}
 use Rattle.ea_sound.proofs.TurnLists.{by-turns, ended-or, run-append, run-snoc, step-ended}
 use Rattle.ea_sound.proofs.TurnLists.{step-mine, step-other, step-shared}
 
--- a node is pushed to another scheduler's queue
-abbrev pub PushesElsewhere : ℕ → Stage Content → Type 0
-PushesElsewhere s (Routed (Pushing node to) why gone) = to ≢ s
-PushesElsewhere s stage = Unit {0}
+-- what a step that leaves less work begins with: a node is pushed to another scheduler's queue, and
+-- the part of a search has a number left
+abbrev pub LeavesLess : ℕ → Stage Content → Type 0
+LeavesLess s (Routed (Pushing node to) why gone) = to ≢ s
+LeavesLess s (Searching ask at part) = 1 ≤ left_in part
+LeavesLess s (Fetching ask at part seen) = 1 ≤ left_in part
+LeavesLess s stage = Unit {0}
 
 -- to link a node leaves as many
 pub linked-length : (n : Node) (ms : List Mark) → length (link_in n ms) ≡ length ms
@@ -81,7 +87,7 @@ module _ (e : Setup) (me : ℕ) where
 
   -- a row of a route adds no mark of mine, unless it pushes to me
   route-marks : (r : Route Content) (y : Why) (g : Gone) (s : Shared)
-      → PushesElsewhere me (Routed r y g) → marks (effect me (wants_on r) s) ≡ marks s
+      → LeavesLess me (Routed r y g) → marks (effect me (wants_on r) s) ≡ marks s
   unfolding effect
   route-marks (Looking h) y g s f = refl
   route-marks (Trying h seen) y g s f =
@@ -97,14 +103,14 @@ module _ (e : Setup) (me : ℕ) where
   route-marks (Linking node to) y g s f =
       omega (arith, linked-marks node to me s.queues, linked-marks node to me s.rests)
 
-  pub plain-marks : (next : Option Node) (st : Stage Content) (s : Shared) → PushesElsewhere me st
+  pub plain-marks : (next : Option Node) (st : Stage Content) (s : Shared) → LeavesLess me st
       → st ≢ Begin → marks (effect me (wants_at next st) s) ≡ marks s
   unfolding effect
   plain-marks next Begin s f ne = absurd (ne refl)
   plain-marks next (Routed r y g) s f ne = route-marks r y g s f
   plain-marks next (Collecting c) s f ne = refl
-  plain-marks next (Searching ask n looked) s f ne = refl
-  plain-marks next (Fetching ask n looked seen) s f ne =
+  plain-marks next (Searching ask n part) s f ne = refl
+  plain-marks next (Fetching ask n part seen) s f ne =
       moved-marks (tried_at seen (s.places n)) n (Employed me) s
   plain-marks next (Creating ask p) s f ne = refl
   plain-marks next (Giving h to) s f ne = refl
@@ -164,7 +170,7 @@ module _ (e : Setup) (me : ℕ) where
 
   -- each row, with the work after it
   row-less : (a : Actor) (s : Shared) (st : Stage Content) → st ≢ Ended → st ≢ Ready
-      → PushesElsewhere me st
+      → LeavesLess me st
       → marks (effect me (wants_at a.next st) s)
       + actor_rows e (after_row e me a (answer me (wants_at a.next st) s) st)
       < marks s + (walk_rows e me a + stage_rows e a.next a.todo st)
@@ -185,20 +191,20 @@ module _ (e : Setup) (me : ℕ) where
       omega (
         arith,
         plain-marks a.next (Collecting c) s f (λ q. absurd (cc)),
-        worked-less e me a.passed (disowned c a),
+        worked-less e me a.passed (disowned c (struck c a)),
       )
-  row-less a s (Searching ask n looked) ne nr f =
+  row-less a s (Searching ask n part) ne nr f =
       omega (
         arith,
-        plain-marks a.next (Searching ask n looked) s f (λ q. absurd (cc)),
-        searched-less e me ask n looked a (answer me (wants_at a.next (Searching ask n looked)) s),
+        plain-marks a.next (Searching ask n part) s f (λ q. absurd (cc)),
+        searched-less e me ask n part a (answer me (wants_at a.next (Searching ask n part)) s) f,
       )
-  row-less a s (Fetching ask n looked seen) ne nr f =
+  row-less a s (Fetching ask n part seen) ne nr f =
       omega (
         arith,
-        plain-marks a.next (Fetching ask n looked seen) s f (λ q. absurd (cc)),
-        fetched-less e me ask n looked a
-            (answer me (wants_at a.next (Fetching ask n looked seen)) s),
+        plain-marks a.next (Fetching ask n part seen) s f (λ q. absurd (cc)),
+        fetched-less e me ask n part a
+            (answer me (wants_at a.next (Fetching ask n part seen)) s) f,
       )
   row-less a s (Creating ask p) ne nr f =
       omega (
@@ -224,7 +230,7 @@ module _ (e : Setup) (me : ℕ) where
 module _ (e : Setup) where
   -- a turn of a scheduler that hasn't ended leaves it less work
   step-less : (w : State) (s : ℕ) → (w.actors s).stage ≢ Ended → (w.actors s).stage ≢ Ready
-      → PushesElsewhere s (w.actors s).stage → work e (step e w s) s < work e w s
+      → LeavesLess s (w.actors s).stage → work e (step e w s) s < work e w s
   step-less w s ne nr f = omega (
     arith,
     ap (marks e s) (step-shared e w s ne),
@@ -252,8 +258,8 @@ module _ (e : Setup) where
   ending-one most w s Begin ne = refl
   ending-one most w s (Routed r y g) ne = refl
   ending-one most w s (Collecting c) ne = refl
-  ending-one most w s (Searching ask n looked) ne = refl
-  ending-one most w s (Fetching ask n looked seen) ne = refl
+  ending-one most w s (Searching ask n part) ne = refl
+  ending-one most w s (Fetching ask n part seen) ne = refl
   ending-one most w s (Creating ask p) ne = refl
   ending-one most w s (Giving h to) ne = refl
   ending-one most w s (Taking n tries left) ne = refl
@@ -264,8 +270,8 @@ module _ (e : Setup) where
   ending-zero w s Begin = refl
   ending-zero w s (Routed r y g) = refl
   ending-zero w s (Collecting c) = refl
-  ending-zero w s (Searching ask n looked) = refl
-  ending-zero w s (Fetching ask n looked seen) = refl
+  ending-zero w s (Searching ask n part) = refl
+  ending-zero w s (Fetching ask n part seen) = refl
   ending-zero w s (Creating ask p) = refl
   ending-zero w s (Giving h to) = refl
   ending-zero w s (Taking n tries left) = refl
@@ -334,14 +340,14 @@ module _ (e : Setup) where
       (ap (first_stage e) o)
 
   module _ (resting : (L : List ℕ) (s : ℕ) → ((run e L).actors s).stage ≢ Ready)
-      (elsewhere : (L : List ℕ) (s : ℕ) → PushesElsewhere s ((run e L).actors s).stage) where
+      (elsewhere : (L : List ℕ) (s : ℕ) → LeavesLess s ((run e L).actors s).stage) where
     never-ready : (w : State) (s : ℕ) → IsReached e w → (w.actors s).stage ≢ Ready
     never-ready w s r =
         subst (λ (v : State). (v.actors s).stage ≢ Ready) (sym r.1) (resting r.0 s)
 
-    pushes : (w : State) (s : ℕ) → IsReached e w → PushesElsewhere s (w.actors s).stage
+    pushes : (w : State) (s : ℕ) → IsReached e w → LeavesLess s (w.actors s).stage
     pushes w s r =
-        subst (λ (v : State). PushesElsewhere s (v.actors s).stage) (sym r.1) (elsewhere r.0 s)
+        subst (λ (v : State). LeavesLess s (v.actors s).stage) (sym r.1) (elsewhere r.0 s)
 
     ends : (most : ℕ) (w : State) (s : ℕ) → IsReached e w → work e w s ≤ most
         → ((run_on e w (ending e most w s (w.actors s).stage)).actors s).stage ≡ Ended
@@ -458,31 +464,31 @@ module _ (e : Setup) where
         by true t taken o = inr (grind (arith, t), grind (arith, t), refl)
         by false t taken o = inl (inl (outside s t taken))
 
--- by the rule pushes go elsewhere
+-- by the rule it does
 module _ (e : Setup) (w : State) (s : ℕ) where
-  route-elsewhere : (r : Route Content) (y : Why) (g : Gone) → FitsRoute e w.shared s r
-      → PushesElsewhere s (Routed r y g)
-  route-elsewhere (Looking h) y g f = tt
-  route-elsewhere (Trying h seen) y g f = tt
-  route-elsewhere (Settling x) y g f = tt
-  route-elsewhere (Abandoning x) y g f = tt
-  route-elsewhere (Sending x) y g f = tt
-  route-elsewhere (Clearing x) y g f = tt
-  route-elsewhere (Pushing (Block n p) to) y g f = f.0
-  route-elsewhere (Pushing (Carrier c) to) y g f = f.1
-  route-elsewhere (Linking node to) y g f = tt
+  route-less : (r : Route Content) (y : Why) (g : Gone) → FitsRoute e w.shared s r
+      → LeavesLess s (Routed r y g)
+  route-less (Looking h) y g f = tt
+  route-less (Trying h seen) y g f = tt
+  route-less (Settling x) y g f = tt
+  route-less (Abandoning x) y g f = tt
+  route-less (Sending x) y g f = tt
+  route-less (Clearing x) y g f = tt
+  route-less (Pushing (Block n p) to) y g f = f.0
+  route-less (Pushing (Carrier c) to) y g f = f.1
+  route-less (Linking node to) y g f = tt
 
-  pub fits-elsewhere : (a : Actor) (st : Stage Content) → Fits e w s a st → PushesElsewhere s st
-  fits-elsewhere a Begin f = tt
-  fits-elsewhere a (Routed r y g) f = route-elsewhere r y g f.0
-  fits-elsewhere a (Collecting c) f = tt
-  fits-elsewhere a (Searching ask n looked) f = tt
-  fits-elsewhere a (Fetching ask n looked seen) f = tt
-  fits-elsewhere a (Creating ask p) f = tt
-  fits-elsewhere a (Giving h to) f = tt
-  fits-elsewhere a (Taking n tries left) f = tt
-  fits-elsewhere a Ended f = tt
-  fits-elsewhere a Ready f = tt
+  pub fits-less : (a : Actor) (st : Stage Content) → Fits e w s a st → LeavesLess s st
+  fits-less a Begin f = tt
+  fits-less a (Routed r y g) f = route-less r y g f.0
+  fits-less a (Collecting c) f = tt
+  fits-less a (Searching ask n part) f = has-some e part f.1
+  fits-less a (Fetching ask n part seen) f = has-some e part f.1
+  fits-less a (Creating ask p) f = tt
+  fits-less a (Giving h to) f = tt
+  fits-less a (Taking n tries left) f = tt
+  fits-less a Ended f = tt
+  fits-less a Ready f = tt
 
 -- a turn of a scheduler that hasn't ended leaves it less work
 pub rule-less : (e : Setup) (w : State) (s : ℕ) → Rule e w → (w.actors s).stage ≢ Ended
@@ -490,10 +496,10 @@ pub rule-less : (e : Setup) (w : State) (s : ℕ) → Rule e w → (w.actors s).
 rule-less e w s rule ne =
     let fits = rule.present.fits s in
     step-less e w s ne (λ ready. subst (Fits e w s (w.actors s)) ready fits)
-    (fits-elsewhere e w s (w.actors s) (w.actors s).stage fits)
+    (fits-less e w s (w.actors s) (w.actors s).stage fits)
 
 pub rule-all_end : (e : Setup) → ((turns : List ℕ) → Rule e (run e turns)) → AllEnd e
 rule-all_end e rule = all-end e
     (λ L s q. subst (Fits e (run e L) s ((run e L).actors s)) q ((rule L).present.fits s)) (λ L s.
-    fits-elsewhere e (run e L) s ((run e L).actors s) ((run e L).actors s).stage
+    fits-less e (run e L) s ((run e L).actors s) ((run e L).actors s).stage
     ((rule L).present.fits s))

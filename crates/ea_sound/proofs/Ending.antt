@@ -1,7 +1,11 @@
 -- Each row that a scheduler does leaves it less work.
-use Rattle.std.proofs.Common.{◌≡◌, ℕ, zero, suc, ◌+◌, ◌-◌, ◌*◌, ◌<◌, ◌≤◌, List, [], ◌∷◌, Bool, true}
-use Rattle.std.proofs.Common.{false, refl, sym, ap, subst, arith}
-use Rattle.std.specs.Prelude.{Option, Some, None, Result, Ok, Err, ◌&&◌, nat_lt}
+use Rattle.ea_machine.specs.Completion.{looks_left}
+use Rattle.ea_machine.specs.Placements.{fetches, search_on}
+use Rattle.ea_machine.specs.Searches.{Search, goes_on, left_in, looked_in, new_search, passed, with_counted}
+use Rattle.ea_sound.proofs.SearchParts.{counted-as_many, new-looks, passed-looks}
+use Rattle.std.proofs.Common.{◌≡◌, ℕ, zero, suc, ◌+◌, ◌*◌, ◌<◌, ◌≤◌, List, [], ◌∷◌, Bool, true}
+use Rattle.std.proofs.Common.{false, refl, ap, arith}
+use Rattle.std.specs.Prelude.{Option, Some, None, Result, Ok, Err}
 use Rattle.std.proofs.lemmas.List.Sums.{sum_by-cons}
 use Rattle.ea_model.specs.declared.carriers.CarrierPlan.{CarrierPlan}
 use Rattle.ea_model.specs.declared.carriers.Place.{Place}
@@ -14,11 +18,11 @@ use Rattle.ea_model.specs.declared.operations.Op.TheVariants as op
 use Rattle.ea_model.specs.declared.reallocation.Decision.{Decision}
 use Rattle.ea_model.specs.declared.reallocation.Decision.TheVariants.{Stay, ShrinkHere, GrowHere}
 use Rattle.ea_model.specs.declared.reallocation.Decision.TheVariants.{ShrinkCarrier, Move}
-use Rattle.ea_model.specs.declared.units.TheConstants.{SEARCH_LIMIT}
 use Rattle.ea_model.specs.Instance.{chosen_spot, creating, creating_single, decision_at, is_alone}
 use Rattle.ea_model.specs.Instance.{place_at, placing_at, plan, single_place}
 use Rattle.ea_model.specs.Units.{need_of}
 use Rattle.ea_model.specs.Content.{Content}
+use Rattle.ea_machine.specs.declared.parts.Part.{Part}
 use Rattle.ea_machine.specs.declared.nodes.Node.{Node}
 use Rattle.ea_machine.specs.declared.nodes.Node.TheVariants.{Block, Carrier}
 use Rattle.ea_machine.specs.declared.owners.OwnerWord.{OwnerWord}
@@ -43,9 +47,10 @@ use Rattle.ea_machine.specs.Machine.{after_row, onward, onward_at}
 use Rattle.ea_machine.specs.Nodes.{named_at}
 use Rattle.ea_machine.specs.declared.nodes.Named.{Named}
 use Rattle.ea_machine.specs.Operations.{freed, giving, itself, took}
-use Rattle.ea_machine.specs.Placements.{chosen_by, counted, created_by, failed, fetched, fits}
+use Rattle.ea_machine.specs.Placements.{chosen_by, created_by, failed, fetched}
+use Rattle.ea_machine.specs.Searches.{fits}
 use Rattle.ea_machine.specs.Placements.{holding, making, new_carrier, new_carrier_by, placed_by}
-use Rattle.ea_machine.specs.Placements.{saw_by, search_at, search_if, searched, searched_by, seek}
+use Rattle.ea_machine.specs.Placements.{saw_by, search_if, searched, searched_by, seek}
 use Rattle.ea_machine.specs.Placements.{seek_by, spot_of_place, stands}
 use Rattle.ea_machine.specs.Reallocations.{reallocated, reallocated_by, resized_here}
 use Rattle.ea_machine.specs.Releases.{looked, route_of, turned}
@@ -137,28 +142,30 @@ module _ (e : Setup) (me : ℕ) where
       → actor_rows e (new_carrier e me ask looked b) ≤ rest_rows b + 20
   new_carrier-less ask looked b = planned-less ask looked b (plan b.instance ask.need)
 
-  searched_by-less : (ask : Ask) (n looked : ℕ) (b : Actor) (t : Bool)
-      → actor_rows e (searched_by e me ask n looked b t) ≤ rest_rows b + 12 + (2 * n + 10)
-  searched_by-less ask n looked b true = omega arith
-  searched_by-less ask n looked b false = omega (arith, new_carrier-less ask looked b)
+  searched_by-less : (ask : Ask) (x : Search) (b : Actor) (t : Bool)
+      → actor_rows e (searched_by e me ask x b t)
+      ≤ rest_rows b + 12 + (2 * looks_left e x.part + 10)
+  searched_by-less ask x b true = omega arith
+  searched_by-less ask x b false = omega (arith, new_carrier-less ask (looked_in x.part) b)
 
-  search-less : (ask : Ask) (n looked : ℕ) (b : Actor)
-      → actor_rows e (search_at e me ask n looked b) ≤ rest_rows b + 12 + (2 * n + 10)
-  search-less ask n looked b =
-      searched_by-less ask n looked b (nat_lt 0 n && nat_lt looked SEARCH_LIMIT)
+  search-less : (ask : Ask) (x : Search) (b : Actor)
+      → actor_rows e (search_on e me ask x b)
+      ≤ rest_rows b + 12 + (2 * looks_left e x.part + 10)
+  search-less ask x b = searched_by-less ask x (record b { lists = x.lists }) (goes_on x.part)
 
   -- before the next number
-  search-next : (ask : Ask) (n looked : ℕ) (b : Actor)
-      → actor_rows e (search_at e me ask (n - 1) looked b) ≤ rest_rows b + 12 + (2 * n + 8)
-  search-next ask zero looked b = omega (arith, new_carrier-less ask looked b)
-  search-next ask (suc n) looked b =
-      let m : suc n - 1 ≡ n = omega arith in
-      subst (λ k. actor_rows e (search_at e me ask k looked b) ≤ rest_rows b + 12 + (2 * suc n + 8))
-      (sym m) (omega (arith, search-less ask n looked b))
+  search-next : (ask : Ask) (n : ℕ) (part : Part) (b : Actor) (v : OwnerWord) → 1 ≤ left_in part
+      → actor_rows e (search_on e me ask (passed (greatest_number e) b.lists n part v) b)
+      ≤ rest_rows b + 12 + (2 * looks_left e part + 8)
+  search-next ask n part b v some =
+      let x = passed (greatest_number e) b.lists n part v in
+      omega (arith, search-less ask x b, passed-looks e b.lists n part v some)
 
   search_if-less : (ask : Ask) (a : Actor) (on : Bool)
       → actor_rows e (search_if e me ask a on) ≤ rest_rows a + 12 + search_rows e
-  search_if-less ask a true = search-less ask (greatest_number e) 0 a
+  search_if-less ask a true =
+      let x = new_search (greatest_number e) a.lists in
+      omega (arith, search-less ask x a, new-looks e a.lists)
   search_if-less ask a false = omega (arith, new_carrier-less ask 0 a)
 
   chosen-less : (ask : Ask) (a : Actor) (o : Option Spot)
@@ -244,8 +251,8 @@ module _ (e : Setup) (me : ℕ) where
   onward-by b Begin q = omega arith
   onward-by b (Routed r y g) q = omega arith
   onward-by b (Collecting c) q = omega arith
-  onward-by b (Searching ask n looked) q = omega arith
-  onward-by b (Fetching ask n looked seen) q = omega arith
+  onward-by b (Searching ask n part) q = omega arith
+  onward-by b (Fetching ask n part seen) q = omega arith
   onward-by b (Creating ask p) q = omega arith
   onward-by b (Giving g to) q = omega arith
   onward-by b (Taking n tries left) q = omega arith
@@ -320,40 +327,47 @@ module _ (e : Setup) (me : ℕ) where
       by None h b l q = omega (arith, logged-less (entry_of task h) b, q, route-some r)
       by (Some o) h b l q = omega (arith, l, q)
 
-  saw-less : (ask : Ask) (n looked : ℕ) (a : Actor) (v : OwnerWord) (t : Bool)
-      → actor_rows e (saw_by e me ask n looked a v t) < rest_rows a + 12 + (2 * n + 10)
-  saw-less ask n looked a v true = omega arith
-  saw-less ask n looked a v false = omega (arith, search-next ask n looked a)
+  saw-less : (ask : Ask) (n : ℕ) (part : Part) (a : Actor) (v : OwnerWord) (t : Bool)
+      → 1 ≤ left_in part
+      → actor_rows e (saw_by e me ask n part a v t)
+      < rest_rows a + 12 + (2 * looks_left e part + 10)
+  saw-less ask n part a v true some = omega arith
+  saw-less ask n part a v false some = omega (arith, search-next ask n part a v some)
 
-  pub searched-less : (ask : Ask) (n looked : ℕ) (a : Actor) (r : Answer)
-      → actor_rows e (searched e me ask n looked a r) < rest_rows a + 12 + (2 * n + 10)
-  searched-less ask n looked a (Saw v) =
-      saw-less ask n (counted v looked) a v (fits ask.need v)
-  searched-less ask n looked a Done = omega arith
-  searched-less ask n looked a (Head x) = omega arith
-  searched-less ask n looked a Rests = omega arith
-  searched-less ask n looked a (Passes x) = omega arith
-  searched-less ask n looked a (Won x) = omega arith
-  searched-less ask n looked a (Lost x) = omega arith
-  searched-less ask n looked a (Home x) = omega arith
-  searched-less ask n looked a (Got x) = omega arith
+  pub searched-less : (ask : Ask) (n : ℕ) (part : Part) (a : Actor) (r : Answer) → 1 ≤ left_in part
+      → actor_rows e (searched e me ask n part a r)
+      < rest_rows a + 12 + (2 * looks_left e part + 10)
+  searched-less ask n part a (Saw v) some = omega (
+    arith,
+    saw-less ask n (with_counted v part) a v (fits ask.need v)
+        (omega (arith, some, counted-as_many e part v)),
+    counted-as_many e part v,
+  )
+  searched-less ask n part a Done some = omega arith
+  searched-less ask n part a (Head x) some = omega arith
+  searched-less ask n part a Rests some = omega arith
+  searched-less ask n part a (Passes x) some = omega arith
+  searched-less ask n part a (Won x) some = omega arith
+  searched-less ask n part a (Lost x) some = omega arith
+  searched-less ask n part a (Home x) some = omega arith
+  searched-less ask n part a (Got x) some = omega arith
 
-  pub fetched-less : (ask : Ask) (n looked : ℕ) (a : Actor) (r : Answer)
-      → actor_rows e (fetched e me ask n looked a r) < rest_rows a + 12 + (2 * n + 9)
-  fetched-less ask n looked a (Won x) =
+  pub fetched-less : (ask : Ask) (n : ℕ) (part : Part) (a : Actor) (r : Answer) → 1 ≤ left_in part
+      → actor_rows e (fetched e me ask n part a r)
+      < rest_rows a + 12 + (2 * looks_left e part + 9)
+  fetched-less ask n part a (Won x) some =
       omega (
         arith,
-        placed-less ask (record a { instance = employing a.instance x })
-            (chosen_spot (employing a.instance x) ask.need),
+        placed-less ask (fetches n x a) (chosen_spot (employing a.instance x) ask.need),
       )
-  fetched-less ask n looked a (Lost u) = omega (arith, search-next ask n looked a)
-  fetched-less ask n looked a Done = omega arith
-  fetched-less ask n looked a (Head x) = omega arith
-  fetched-less ask n looked a Rests = omega arith
-  fetched-less ask n looked a (Passes x) = omega arith
-  fetched-less ask n looked a (Saw x) = omega arith
-  fetched-less ask n looked a (Home x) = omega arith
-  fetched-less ask n looked a (Got x) = omega arith
+  fetched-less ask n part a (Lost u) some = omega (arith, search-next ask n part a u some)
+  fetched-less ask n part a Done some = omega arith
+  fetched-less ask n part a (Head x) some = omega arith
+  fetched-less ask n part a Rests some = omega arith
+  fetched-less ask n part a (Passes x) some = omega arith
+  fetched-less ask n part a (Saw x) some = omega arith
+  fetched-less ask n part a (Home x) some = omega arith
+  fetched-less ask n part a (Got x) some = omega arith
 
   pub took-less : (n tries left : ℕ) (a : Actor) (r : Answer)
       → actor_rows e (took n tries left a r) < rest_rows a + 12 + left

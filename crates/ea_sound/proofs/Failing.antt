@@ -1,18 +1,25 @@
 -- Where no place is found, an operation fails.
-use Rattle.std.proofs.Common.{◌≡◌, ◌≢◌, ◌⊎◌, ℕ, zero, suc, ◌-◌, ◌<◌, ◌≤◌, List, [], ◌∷◌, ◌++◌, Bool}
+use Rattle.ea_machine.specs.Lists.{no_lists}
+use Rattle.ea_machine.specs.Placements.{search_on}
+use Rattle.ea_machine.specs.Searches.{Search, goes_on, looked_in, new_search, passed, with_counted}
+use Rattle.ea_machine.specs.declared.parts.Part.TheVariants.{Pool}
+use Rattle.ea_sound.proofs.SearchTurns.{same-missed}
+use Rattle.ea_sound.specs.Searches.{past}
+use Rattle.std.proofs.Common.{◌≡◌, ◌≢◌, ◌⊎◌, ℕ, ◌<◌, ◌≤◌, List, [], ◌∷◌, ◌++◌, Bool}
 use Rattle.std.proofs.Common.{true, false, refl, sym, ap, ◌∙◌, subst, inl, inr, arith}
-use Rattle.std.specs.Prelude.{Option, Some, None, Err, ◌==◌, ◌&&◌, count_by, length, nat_lt}
+use Rattle.std.specs.Prelude.{Option, Some, None, Err, ◌==◌, count_by, length}
 use Rattle.std.proofs.lemmas.Bool.{cases_eq}
 use Rattle.std.proofs.lemmas.List.{length-append}
 use Rattle.ea_model.specs.declared.entries.Entry.{Entry}
 use Rattle.ea_model.specs.declared.entries.NoCarrier.{NoCarrier}
 use Rattle.ea_model.specs.declared.operations.Op.{Op}
 use Rattle.ea_model.specs.declared.operations.Op.TheVariants as op
-use Rattle.ea_model.specs.declared.units.TheConstants.{SEARCH_LIMIT}
 use Rattle.ea_model.specs.Instance.{chosen_spot, is_alone, plan}
 use Rattle.ea_model.specs.Units.{need_of}
 use Rattle.ea_model.proofs.Rising.{item_at-key}
 use Rattle.ea_machine.specs.declared.owners.OwnerWord.{OwnerWord}
+use Rattle.ea_machine.specs.declared.stages.Stage.{Stage}
+use Rattle.ea_model.specs.Content.{Content}
 use Rattle.ea_machine.specs.declared.stages.Stage.TheVariants.{Searching, Fetching, Ended}
 use Rattle.ea_machine.specs.Actor.{Actor}
 use Rattle.ea_machine.specs.declared.asks.Ask.{Ask}
@@ -23,12 +30,13 @@ use Rattle.ea_machine.specs.Nodes.{named_at, name_of}
 use Rattle.ea_machine.specs.declared.nodes.Named.{Named}
 use Rattle.ea_machine.specs.Operations.{itself}
 use Rattle.ea_machine.specs.Owners.{word_of}
-use Rattle.ea_machine.specs.Placements.{chosen_by, counted, failed, fetched, fits, new_carrier}
-use Rattle.ea_machine.specs.Placements.{new_carrier_by, saw_by, search_at, search_if, searched}
+use Rattle.ea_machine.specs.Placements.{chosen_by, failed, fetched, new_carrier}
+use Rattle.ea_machine.specs.Searches.{fits}
+use Rattle.ea_machine.specs.Placements.{new_carrier_by, saw_by, search_if, searched}
 use Rattle.ea_machine.specs.Placements.{searched_by, seek, seek_by}
 use Rattle.ea_machine.specs.Reallocations.{reallocated, reallocated_by}
 use Rattle.ea_machine.specs.Rows.{Answer, Saw, Won, Lost}
-use Rattle.ea_sound.specs.Searches.{IsNextLook, IsSought, IsUnsought, Missed, Searched, Shown}
+use Rattle.ea_sound.specs.Searches.{IsSought, IsUnsought, Missed, Searched, Shown}
 use Rattle.ea_sound.specs.Searches.{Sight, sight, sights}
 use Rattle.ea_machine.specs.Setup.{Setup, greatest_number, migration}
 use Rattle.ea_machine.specs.State.{State}
@@ -82,72 +90,70 @@ seeks e s b need (op.Take n tries ∷ ops) q h = absurd h
 seeks e s b need (op.Info ∷ ops) q h = absurd h
 seeks e s b need (op.Idle ∷ ops) q h = absurd h
 
-never : (n looked m : ℕ) → (n ≡ 0) ⊎ (SEARCH_LIMIT ≤ looked) → IsNextLook n looked m → ⊥
-never n looked m (inl z) l = absurd (omega (arith, z, l.1))
-never n looked m (inr z) l = absurd (omega (arith, z, l.2))
-
 -- where a search stands that goes on, or has ended
-module _ (e : Setup) (s : ℕ) (b : Actor) (ask : Ask) (last sum : ℕ) (why : NoCarrier)
-    (refused : plan b.instance ask.need ≡ Err why) (over : (last ≡ 0) ⊎ (sum ≡ SEARCH_LIMIT)) where
+module _ (e : Setup) (s : ℕ) (b : Actor) (ask : Ask) (last : Search) (why : NoCarrier)
+    (refused : plan b.instance ask.need ≡ Err why) (over : goes_on last.part ≡ false) where
+  abbrev g : ℕ
+  g = greatest_number e
+
   abbrev IsStill : Actor → Type 0
   IsStill a = (a.log ≡ b.log) × (a.instance ≡ b.instance)
 
-  abbrev fail : Entry
-  fail = failed ask sum why ask.old
+  abbrev fail_of : Search → Entry
+  fail_of x = failed ask (looked_in x.part) why ask.old
 
   data Waits (a : Actor) (xs : List Sight) : Type 0 where
-    Looks : (n looked : ℕ) (stage : a.stage ≡ Searching ask n looked) (still : IsStill a)
-        (low : 0 < n) (room : looked < SEARCH_LIMIT)
-        (saw : Searched ask.need n looked last sum xs) → Waits a xs
-    Tries : (n looked : ℕ) (seen : OwnerWord) (stage : a.stage ≡ Fetching ask n looked seen)
-        (still : IsStill a) (p : ℕ) (u : OwnerWord) (ys : List Sight) (is : xs ≡ Missed p u ∷ ys)
-        (saw : Searched ask.need (n - 1) looked last sum ys) → Waits a xs
-    Failed : (log : a.log ≡ b.log ++ fail ∷ []) (none : xs ≡ []) → Waits a xs
+    Looks : (x : Search) (stage : a.stage ≡ Searching ask x.at x.part) (lists : a.lists ≡ x.lists)
+        (still : IsStill a) (goes : goes_on x.part ≡ true)
+        (saw : Searched (greatest_number e) ask.need x last xs) → Waits a xs
+    Tries : (x : Search) (seen : OwnerWord)
+        (stage : a.stage ≡ Fetching ask x.at (with_counted seen x.part) seen)
+        (lists : a.lists ≡ x.lists) (still : IsStill a) (p : ℕ) (u : OwnerWord)
+        (ys : List Sight) (is : xs ≡ Missed p u ∷ ys)
+        (saw : Searched (greatest_number e) ask.need (past (greatest_number e) x seen u) last ys)
+        → Waits a xs
+    Failed : (log : a.log ≡ b.log ++ fail_of last ∷ []) (none : xs ≡ []) → Waits a xs
 
   -- a search goes on, or fails
-  abbrev Found : ℕ → ℕ → Actor → Actor → Type 0
-  Found n looked c r = ((0 < n) × (looked < SEARCH_LIMIT) × (r ≡ at (Searching ask n looked) c))
-      ⊎ (((n ≡ 0) ⊎ (SEARCH_LIMIT ≤ looked)) × (r ≡ logged (failed ask looked why ask.old) c))
+  abbrev Found : Search → Actor → Actor → Type 0
+  Found x c r = ((goes_on x.part ≡ true)
+      × (r ≡ at (Searching ask x.at x.part) (record c { lists = x.lists })))
+      ⊎ ((goes_on x.part ≡ false) × (r ≡ logged (fail_of x) (record c { lists = x.lists })))
 
-  found : (n looked : ℕ) (c : Actor) → IsStill c → Found n looked c (search_at e s ask n looked c)
-  found n looked c still = by (nat_lt 0 n && nat_lt looked SEARCH_LIMIT) refl
+  found : (x : Search) (c : Actor) → IsStill c → Found x c (search_on e s ask x c)
+  found x c still = by (goes_on x.part) refl
     where
-      ends : (n looked limit : ℕ) → (nat_lt 0 n && nat_lt looked limit) ≡ false
-          → (n ≡ 0) ⊎ (limit ≤ looked)
-      ends zero looked limit t = inl refl
-      ends (suc n) looked limit t = inr (grind (arith, t))
-
-      by : (t : Bool) → (nat_lt 0 n && nat_lt looked SEARCH_LIMIT) ≡ t
-          → Found n looked c (searched_by e s ask n looked c t)
-      by true t = inl (grind (arith, t), grind (arith, t), refl)
+      by : (t : Bool) → goes_on x.part ≡ t
+          → Found x c (searched_by e s ask x (record c { lists = x.lists }) t)
+      by true t = inl (t, refl)
       by false t = inr (
-        ends n looked SEARCH_LIMIT t,
-        ap (new_carrier_by e s ask looked c)
+        t,
+        ap (new_carrier_by e s ask (looked_in x.part) (record c { lists = x.lists }))
             (ap (λ i. plan i ask.need) still.1 ∙ refused),
       )
 
-  waits : (n looked : ℕ) (c r a : Actor) (xs : List Sight) → IsStill c → Found n looked c r
-      → a ≡ observed r → Searched ask.need n looked last sum xs → Waits a xs
-  waits n looked c r a xs still (inl f) q saw =
-      let is : a ≡ observed (at (Searching ask n looked) c) = q ∙ ap observed f.2 in
-      Looks n looked (ap (λ (a : Actor). a.stage) is)
-      (ap (λ (a : Actor). a.log) is ∙ still.0, ap (λ (a : Actor). a.instance) is ∙ still.1) f.0 f.1
-      saw
-  waits n looked c r a [] still (inr f) q saw =
-      Failed (ap (λ (a : Actor). a.log) (q ∙ ap observed f.1)
-      ∙ ap (λ l. l ++ failed ask looked why ask.old ∷ []) still.0
-      ∙ ap (λ k. b.log ++ failed ask k why ask.old ∷ []) saw.1) refl
-  waits n looked c r a (Missed p u ∷ xs) still f q saw = absurd saw
-  waits n looked c r a (Shown m v ∷ []) still (inr f) q saw = absurd (never n looked m f.0 saw.0)
-  waits n looked c r a (Shown m v ∷ Shown p u ∷ xs) still (inr f) q saw =
-      absurd (never n looked m f.0 saw.0)
-  waits n looked c r a (Shown m v ∷ Missed p u ∷ xs) still (inr f) q saw =
-      absurd (never n looked m f.0 saw.0)
+  never : (x : Search) → goes_on x.part ≡ false → goes_on x.part ≡ true → ⊥
+  never x f t = let no : true ≡ false = sym t ∙ f in cc
 
-  found-onward : (n looked : ℕ) (c r : Actor) → Found n looked c r
-      → Found n looked c (onward e s r)
-  found-onward n looked c r (inl f) = inl (f.0, f.1, ap (onward e s) f.2)
-  found-onward n looked c r (inr f) = inr (f.0, ap (onward e s) f.1)
+  waits : (x : Search) (c r a : Actor) (xs : List Sight) → IsStill c → Found x c r
+      → a ≡ observed r → Searched g ask.need x last xs → Waits a xs
+  waits x c r a xs still (inl f) q saw =
+      let is : a ≡ observed (at (Searching ask x.at x.part) (record c { lists = x.lists })) =
+      q ∙ ap observed f.1 in
+      Looks x (ap (λ (a : Actor). a.stage) is) (ap (λ (a : Actor). a.lists) is)
+      (ap (λ (a : Actor). a.log) is ∙ still.0, ap (λ (a : Actor). a.instance) is ∙ still.1) f.0 saw
+  waits x c r a [] still (inr f) q saw =
+      Failed (ap (λ (a : Actor). a.log) (q ∙ ap observed f.1)
+      ∙ ap (λ l. l ++ fail_of x ∷ []) still.0
+      ∙ ap (λ (y : Search). b.log ++ fail_of y ∷ []) saw) refl
+  waits x c r a (Missed p u ∷ xs) still f q saw = absurd saw
+  waits x c r a (Shown m v ∷ []) still (inr f) q saw = absurd (never x f.0 saw.0.1)
+  waits x c r a (Shown m v ∷ Shown p u ∷ xs) still (inr f) q saw = absurd (never x f.0 saw.0.1)
+  waits x c r a (Shown m v ∷ Missed p u ∷ xs) still (inr f) q saw = absurd (never x f.0 saw.0.1)
+
+  found-onward : (x : Search) (c r : Actor) → Found x c r → Found x c (onward e s r)
+  found-onward x c r (inl f) = inl (f.0, ap (onward e s) f.1)
+  found-onward x c r (inr f) = inr (f.0, ap (onward e s) f.1)
 
   module _ (w : State) (rest : List Sight)
       (one : length (sight (w.actors s).stage (answered w s)) ≡ 1) where
@@ -158,65 +164,74 @@ module _ (e : Setup) (s : ℕ) (b : Actor) (ask : Ask) (last sum : ℕ) (why : N
     now = (step e w s).actors s
 
     -- a search goes on from here
-    goes-on : (n looked : ℕ) → a.stage ≢ Ended → IsStill a
-        → advanced e w s ≡ search_at e s ask n looked a
-        → Searched ask.need n looked last sum rest → Waits now rest
-    goes-on n looked ne still q saw =
-        waits n looked a (onward e s (search_at e s ask n looked a)) now rest still
-        (found-onward n looked a (search_at e s ask n looked a) (found n looked a still))
+    goes-on : (x : Search) → a.stage ≢ Ended → IsStill a → advanced e w s ≡ search_on e s ask x a
+        → Searched g ask.need x last rest → Waits now rest
+    goes-on x ne still q saw =
+        waits x a (onward e s (search_on e s ask x a)) now rest still
+        (found-onward x a (search_on e s ask x a) (found x a still))
         (step-mine e w s ne ∙ ap (λ c. observed (onward e s c)) q) saw
 
     more : Waits a (sight a.stage (answered w s) ++ rest) → Waits now rest
-    more (Looks n looked stage still low room saw) = by (next ask.need n looked last sum n v rest
-        (subst (λ xs. Searched ask.need n looked last sum (xs ++ rest)) sees saw))
+    more (Looks x stage lists still goes saw) = by (next g ask.need x last x.at v rest
+        (subst (λ xs. Searched g ask.need x last (xs ++ rest)) sees saw))
       where
         v : OwnerWord
-        v = word_of (w.shared.places n)
+        v = word_of (w.shared.places x.at)
 
         ans : answered w s ≡ Saw v
-        ans = ap (λ st. answer s (wants_at a.next st) w.shared) stage ∙ look-saw s n w.shared
+        ans = ap (λ st. answer s (wants_at a.next st) w.shared) stage ∙ look-saw s x.at w.shared
 
-        sees : sight a.stage (answered w s) ≡ Shown n v ∷ []
-        sees = ap (λ st. sight st (answered w s)) stage ∙ ap (sight (Searching ask n looked)) ans
+        sees : sight a.stage (answered w s) ≡ Shown x.at v ∷ []
+        sees = ap (λ st. sight st (answered w s)) stage ∙ ap (sight (Searching ask x.at x.part)) ans
 
         going : a.stage ≢ Ended
-        going q = let t : Searching ask n looked ≡ Ended = sym stage ∙ q in absurd (cc)
+        going q = let t : Searching ask x.at x.part ≡ Ended = sym stage ∙ q in absurd (cc)
 
-        is : advanced e w s ≡ saw_by e s ask n (counted v looked) a v (fits ask.need v)
-        is = ap (after_row e s a (answered w s)) stage ∙ ap (searched e s ask n looked a) ans
+        is : advanced e w s
+            ≡ saw_by e s ask x.at (with_counted v x.part) a v (fits ask.need v)
+        is = ap (after_row e s a (answered w s)) stage ∙ ap (searched e s ask x.at x.part a) ans
 
-        by : Next ask.need n looked last sum v rest → Waits now rest
-        by (inl f) = goes-on (n - 1) (counted v looked) going still
-            (is ∙ ap (saw_by e s ask n (counted v looked) a v) f.0) f.1
+        by : Next g ask.need x last v rest → Waits now rest
+        by (inl f) = goes-on (past g x v v) going still
+            (is ∙ ap (saw_by e s ask x.at (with_counted v x.part) a v) f.0
+            ∙ ap (λ l. search_on e s ask (passed g l x.at (with_counted v x.part) v) a) lists) f.1
         by (inr f) =
-            let q : now ≡ observed (at (Fetching ask n (counted v looked) v) a) =
+            let q : now ≡ observed (at (Fetching ask x.at (with_counted v x.part) v) a) =
             step-mine e w s going ∙ ap (λ c. observed (onward e s c))
-            (is ∙ ap (saw_by e s ask n (counted v looked) a v) f.0) in
-            Tries n (counted v looked) v (ap (λ (a : Actor). a.stage) q)
+            (is ∙ ap (saw_by e s ask x.at (with_counted v x.part) a v) f.0) in
+            Tries x v (ap (λ (a : Actor). a.stage) q) (ap (λ (a : Actor). a.lists) q ∙ lists)
             (ap (λ (a : Actor). a.log) q ∙ still.0, ap (λ (a : Actor). a.instance) q ∙ still.1)
             f.1.number f.1.present f.1.later f.1.is f.1.saw
-    more (Tries n looked seen stage still p u ys is saw) =
-        by (subst WonOrLost (sym ans) (won-or_lost seen (w.shared.places n)))
+    more (Tries x seen stage lists still p u ys is saw) =
+        by (subst WonOrLost (sym ans) (won-or_lost seen (w.shared.places x.at)))
       where
-        ans : answered w s ≡ tried_at seen (w.shared.places n)
+        trying : Stage Content
+        trying = Fetching ask x.at (with_counted seen x.part) seen
+
+        ans : answered w s ≡ tried_at seen (w.shared.places x.at)
         ans = ap (λ st. answer s (wants_at a.next st) w.shared) stage
-            ∙ fetch-tries s n seen w.shared
+            ∙ fetch-tries s x.at seen w.shared
 
         going : a.stage ≢ Ended
-        going q = let t : Fetching ask n looked seen ≡ Ended = sym stage ∙ q in absurd (cc)
+        going q = let t : trying ≡ Ended = sym stage ∙ q in absurd (cc)
 
         sees : (r : Answer) → answered w s ≡ r
-            → sight a.stage (answered w s) ≡ sight (Fetching ask n looked seen) r
-        sees r q = ap (λ st. sight st (answered w s)) stage
-            ∙ ap (sight (Fetching ask n looked seen)) q
+            → sight a.stage (answered w s) ≡ sight trying r
+        sees r q = ap (λ st. sight st (answered w s)) stage ∙ ap (sight trying) q
 
         by : WonOrLost (answered w s) → Waits now rest
-        by (inl x) = absurd (omega (arith, one, ap length (sees (Won x.0) x.1)))
-        by (inr x) = goes-on (n - 1) looked going still
-            (ap (after_row e s a (answered w s)) stage ∙ ap (fetched e s ask n looked a) x.1)
-            (subst (Searched ask.need (n - 1) looked last sum)
-            (sym (tails (Missed n x.0) (Missed p u) rest ys
-            (sym (ap (λ xs. xs ++ rest) (sees (Lost x.0) x.1)) ∙ is))) saw)
+        by (inl y) = absurd (omega (arith, one, ap length (sees (Won y.0) y.1)))
+        by (inr y) =
+            let same : Missed x.at y.0 ∷ rest ≡ Missed p u ∷ ys =
+            sym (ap (λ xs. xs ++ rest) (sees (Lost y.0) y.1)) ∙ is in
+            let part = with_counted seen x.part in
+            goes-on (past g x seen u) going still
+            (ap (after_row e s a (answered w s)) stage ∙ ap (fetched e s ask x.at part a) y.1
+            ∙ ap (λ l. search_on e s ask (passed g l x.at part y.0) a) lists
+            ∙ ap (λ r. search_on e s ask (passed g x.lists x.at part r) a)
+            (same-missed x.at p y.0 u rest ys same))
+            (subst (Searched g ask.need (past g x seen u) last)
+            (sym (tails (Missed x.at y.0) (Missed p u) rest ys same)) saw)
     more (Failed log none) = absurd (omega (
       arith,
       one,
@@ -227,13 +242,10 @@ module _ (e : Setup) (s : ℕ) (b : Actor) (ask : Ask) (last sum : ℕ) (why : N
   -- along all its turns
   goes : (js : List ℕ) (w : State) → Waits (w.actors s) (sights e w s js)
       → count_by (λ i. i == s) js ≡ length (sights e w s js)
-      → ((run_on e w js).actors s).log ≡ b.log ++ fail ∷ []
-  goes [] w (Looks n looked stage still low room saw) c = absurd (past over)
-    where
-      past : (last ≡ 0) ⊎ (sum ≡ SEARCH_LIMIT) → ⊥
-      past (inl z) = absurd (omega (arith, z, low, saw.0))
-      past (inr z) = absurd (omega (arith, z, room, saw.1))
-  goes [] w (Tries n looked seen stage still p u ys is saw) c = absurd (cc)
+      → ((run_on e w js).actors s).log ≡ b.log ++ fail_of last ∷ []
+  goes [] w (Looks x stage lists still more saw) c =
+      absurd (never last over (sym (ap (λ (y : Search). goes_on y.part) saw) ∙ more))
+  goes [] w (Tries x seen stage lists still p u ys is saw) c = absurd (cc)
   goes [] w (Failed log none) c = log
   goes (j ∷ js) w h c =
       elim (cases_eq j s) [
@@ -280,7 +292,8 @@ module _ (e : Setup) (rules : (L : List ℕ) → Rule e (run e L)) (before : Lis
             let l : ask.need ≤ e.settings.sbct = grind (arith, t, q) in omega (arith, big, l))
 
     sought : migration e ≡ true → ask.need ≤ e.settings.sbct
-        → seek e s ask mid ≡ search_at e s ask (greatest_number e) 0 mid
+        → seek e s ask mid
+        ≡ search_on e s ask (new_search (greatest_number e) mid.lists) mid
     sought on small =
         let q = threshold in
         let alone : is_alone mid.instance ask.need ≡ false = grind (arith, small, q) in
@@ -301,24 +314,26 @@ module _ (e : Setup) (rules : (L : List ℕ) → Rule e (run e L)) (before : Lis
       all = run-since e (before ++ s ∷ since) before since s refl
 
       by : IsUnsought e ask.need looked (seen_since e before s since)
-          ⊎ IsSought e ask.need looked (seen_since e before s since)
+          ⊎ IsSought e mid.lists ask.need looked (seen_since e before s since)
           → log_after e (before ++ s ∷ since) s ≡ mid.log ++ failed ask looked why ask.old ∷ []
       by (inl u) =
           let q = now (logged (failed ask 0 why ask.old) mid)
           (unsought f.begins ask f.none u.0 ∙ ap (new_carrier_by e s ask 0 mid) f.refused) in
+          let none : Search = record { lists = no_lists; at = 0; part = Pool 0 looked } in
           sym (ap (λ (w : State). (w.actors s).log) all)
-          ∙ goes e s mid ask 0 looked why f.refused (inl refl) since (run e (before ++ s ∷ []))
+          ∙ goes e s mid ask none why f.refused refl since (run e (before ++ s ∷ []))
           (Failed (ap (λ (a : Actor). a.log) q
           ∙ ap (λ k. mid.log ++ failed ask k why ask.old ∷ []) (sym u.2)) u.1) f.steps
       by (inr h) =
+          let (last, saw, over, counts) = h.2 in
+          let first = new_search (greatest_number e) mid.lists in
           sym (ap (λ (w : State). (w.actors s).log) all)
-          ∙ goes e s mid ask h.2.0 looked why f.refused h.2.2 since (run e (before ++ s ∷ []))
-          (waits e s mid ask h.2.0 looked why f.refused h.2.2 (greatest_number e) 0 mid
-          (search_at e s ask (greatest_number e) 0 mid) (actor_after e (before ++ s ∷ []) s)
-          (seen_since e before s since) (refl, refl)
-          (found e s mid ask h.2.0 looked why f.refused h.2.2 (greatest_number e) 0 mid
-          (refl, refl))
-          (now _ (sought f.begins ask f.none h.0 h.1)) h.2.1) f.steps
+          ∙ goes e s mid ask last why f.refused over since (run e (before ++ s ∷ []))
+          (waits e s mid ask last why f.refused over first mid (search_on e s ask first mid)
+          (actor_after e (before ++ s ∷ []) s) (seen_since e before s since) (refl, refl)
+          (found e s mid ask last why f.refused over first mid (refl, refl))
+          (now _ (sought f.begins ask f.none h.0 h.1)) saw) f.steps
+          ∙ ap (λ k. mid.log ++ failed ask k why ask.old ∷ []) (sym counts)
 
 pub fails-if_exhausted : (e : Setup) → ((L : List ℕ) → Rule e (run e L)) → FailsIfExhausted e
 fails-if_exhausted e rules before s since need looked why f =

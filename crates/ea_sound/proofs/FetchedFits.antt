@@ -1,4 +1,6 @@
 -- A carrier that is fetched has a gap for the block, which is placed there.
+use Rattle.ea_machine.specs.Placements.{fetches}
+use Rattle.ea_machine.specs.declared.parts.Part.{Part}
 use Rattle.std.proofs.Common.{◌≡◌, ℕ, ◌≤◌, ◌∙◌, Bool, true, false, List, [], ◌∷◌, refl, sym, ap}
 use Rattle.std.proofs.Common.{subst, inl, inr, arith}
 use Rattle.std.specs.Prelude.{Any, Some}
@@ -14,7 +16,6 @@ use Rattle.ea_machine.specs.declared.stages.Stage.{Stage}
 use Rattle.ea_machine.specs.declared.stages.Stage.TheVariants.{Ended, Fetching}
 use Rattle.ea_machine.specs.Actor.{Actor}
 use Rattle.ea_machine.specs.declared.asks.Ask.{Ask}
-use Rattle.ea_model.specs.Employment.{employing}
 use Rattle.ea_sound.specs.Fetches.{FetchFits, FetchesFit}
 use Rattle.ea_machine.specs.Machine.{after_row, wants_at}
 use Rattle.ea_machine.specs.Owners.{CarrierAt, Absent, Employed, Pooled, Busy, Returning, same_word}
@@ -58,15 +59,15 @@ won-from seen p x = by p (same_word (word_of p) seen) refl where
   by (Returning i y) true same won = absurd cc
   by p false same won = absurd cc
 
-module _ (e : Setup) (w : State) (rule : Rule e w) (s at looked : ℕ) (ask : Ask)
-    (seen : OwnerWord) (x : Content) (now : (w.actors s).stage ≡ Fetching ask at looked seen)
+module _ (e : Setup) (w : State) (rule : Rule e w) (s at : ℕ) (part : Part) (ask : Ask)
+    (seen : OwnerWord) (x : Content) (now : (w.actors s).stage ≡ Fetching ask at part seen)
     (won : answered w s ≡ Won x) where
   abbrev a : Actor
   a = w.actors s
 
   is : is_scheduler e s ≡ true
   is = working-scheduler e w rule.kept s
-      (λ q. let never : Fetching ask at looked seen ≡ Ended = sym now ∙ q in cc)
+      (λ q. let never : Fetching ask at part seen ≡ Ended = sym now ∙ q in cc)
 
   tried : tried_at seen (w.shared.places at) ≡ Won x
   unfolding answer
@@ -79,27 +80,27 @@ module _ (e : Setup) (w : State) (rule : Rule e w) (s at looked : ℕ) (ask : As
       (rule.kept.placed.pooled at i g x word).0
 
   abbrev with_carrier : Actor
-  with_carrier = record a { instance = employing a.instance x }
+  with_carrier = fetches at x a
 
-  fits : Fits e w s a (Fetching ask at looked seen)
+  fits : Fits e w s a (Fetching ask at part seen)
   fits = subst (Fits e w s a) now (rule.present.fits s)
 
   -- and what the strategy chooses then is in it
   chosen-there : (spot : Spot) → chosen_spot with_carrier.instance ask.need ≡ Some spot
       → spot.carrier ≡ x.number
   chosen-there spot chosen = chosen-in_fetched a.instance ask.need x spot
-      (sure-strategy e s a.instance (rule.kept.ranges.instances s is) fits.5) fits.4 chosen
+      (sure-strategy e s a.instance (rule.kept.ranges.instances s is) fits.3) fits.2 chosen
 
   pub fetched-there : (spot : Spot) → chosen_spot with_carrier.instance ask.need ≡ Some spot
       → spot.carrier ≡ at
   fetched-there spot chosen = chosen-there spot chosen ∙ fetched-number
 
-  fetch-fits : FetchFits e w s ask x
+  fetch-fits : FetchFits e w s at ask x
   fetch-fits =
       let (i, g, word, same) = won-from seen (w.shared.places at) x tried in
       let pooled = rule.kept.placed.pooled at i g x word in
-      let room = seen-room e w s is rule ask at looked seen now i g same in
-      let chosen = fetched-chosen e w s is rule ask at looked seen now i g x word same in
+      let room = seen-room e w s is rule ask at part seen now i g same in
+      let chosen = fetched-chosen e w s is rule ask at part seen now i g x word same in
       record {
         gap = large-gap ask.need (gaps_of x) least (omega (arith, room, pooled.3));
         spot = chosen.0;
@@ -113,5 +114,5 @@ module _ (e : Setup) (w : State) (rule : Rule e w) (s at looked : ℕ) (ask : As
         least = omega (arith, ask-least ask a.todo fits.0.of)
 
 pub rule-FetchesFit : (e : Setup) (w : State) → Rule e w → FetchesFit e w
-rule-FetchesFit e w rule s at looked ask seen x now won =
-    fetch-fits e w rule s at looked ask seen x now won
+rule-FetchesFit e w rule s at part ask seen x now won =
+    fetch-fits e w rule s at part ask seen x now won

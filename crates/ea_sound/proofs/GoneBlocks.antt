@@ -1,4 +1,5 @@
 -- Blocks that are gone: once its name has left the hand on a release route, no block has it.
+use Rattle.ea_machine.specs.Searches.{passed}
 use Rattle.std.proofs.Common.{◌≡◌, ◌≢◌, ℕ, ◌+◌, ◌<◌, ◌≤◌, List, [], ◌∷◌, ◌++◌, refl, sym, ap, ◌∙◌}
 use Rattle.std.proofs.Common.{subst, arith}
 use Rattle.std.specs.Prelude.{Some, ◌==◌}

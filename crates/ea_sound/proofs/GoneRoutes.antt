@@ -1,5 +1,6 @@
 -- What first became of a block on its route: where it was queued, its node is what is pushed next;
 -- and what a row leaves of a route with the block in the hand.
+use Rattle.ea_machine.specs.Releases.{struck}
 use Rattle.std.proofs.Common.{◌≡◌, ◌⊎◌, subst, ℕ, Bool, true, false, refl, sym, ap, ◌∙◌, inl, inr}
 use Rattle.std.specs.Prelude.{Option, None, Some, ◌==◌}
 use Rattle.ea_model.specs.declared.carriers.Kind.{Kind}
@@ -185,8 +186,9 @@ module _ (e : Setup) (me : ℕ) where
   pub settled-not : (empty : Bool) (x : Content) (g : Gone) (a : Actor)
       → NotByWord (settled e me empty x g a).route
   settled-not true x g a =
-      bare-not (leaving_by e me (owner_of x.number == me) (migration e) x g a).route
-      (leaving-bare (owner_of x.number == me) (migration e) x g a)
+      let b = struck x.number a in
+      bare-not (leaving_by e me (owner_of x.number == me) (migration e) x g b).route
+      (leaving-bare (owner_of x.number == me) (migration e) x g b)
   settled-not false x g a = tt
 
   leaving-gone : (own on : Bool) (x : Content) (g : Gone) (a : Actor)
@@ -276,7 +278,8 @@ module _ (e : Setup) (me : ℕ) where
 
   pub settled-gone : (empty : Bool) (x : Content) (g : Gone) (a : Actor)
       → (settled e me empty x g a).gone ≡ g
-  settled-gone true x g a = leaving-gone (owner_of x.number == me) (migration e) x g a
+  settled-gone true x g a =
+      leaving-gone (owner_of x.number == me) (migration e) x g (struck x.number a)
   settled-gone false x g a = refl
 
   -- once a row of the route is answered

@@ -25,7 +25,7 @@ use Rattle.ea_sound.specs.Guarded.{IsGuarded, is_on_word}
 use Rattle.ea_machine.specs.Guards.{Guard}
 use Rattle.ea_machine.specs.Machine.{begins, wants_at, wants_on}
 use Rattle.ea_machine.specs.Owners.{Employed}
-use Rattle.ea_machine.specs.Placements.{fits}
+use Rattle.ea_machine.specs.Searches.{fits}
 use Rattle.ea_sound.specs.Places.{has_number, none}
 use Rattle.ea_machine.specs.Setup.{Setup, is_scheduler, migration}
 use Rattle.ea_machine.specs.State.{State}
@@ -152,15 +152,15 @@ module _ (e : Setup) (w : State) (rule : Rule e w) (steady : AreSteady e w) (me 
         fits-at (Collecting number) now,
         inr (record { content = home.0; collects = now; returning = home.1 }),
       )
-  stage-may (Searching ask at looked) now = tt
-  stage-may (Fetching ask at looked seen) now =
-      let f = fits-at (Fetching ask at looked seen) now in
+  stage-may (Searching ask at part) now = tt
+  stage-may (Fetching ask at part seen) now =
+      let f = fits-at (Fetching ask at part seen) now in
       record {
         ask = ask;
         at = at;
-        looked = looked;
+        part = part;
         fetches = now;
-        large = ap (fits ask.need) f.6.2 ∙ fits-large ask.need f.6.0 f.6.1 f.6.3;
+        large = ap (fits ask.need) f.4.2 ∙ fits-large ask.need f.4.0 f.4.1 f.4.3;
       }
   stage-may (Creating ask p) now =
       let f = fits-at (Creating ask p) now in
@@ -202,10 +202,10 @@ module _ (e : Setup) (w : State) (rule : Rule e w) (steady : AreSteady e w) (me 
     stage-off (Collecting number) now =
         let home = collecting-home e w k me (seat-at (Collecting number) now (λ z. cc)) number now
         in absurd (never-on (returning-on e w k number me home.0 home.1))
-    stage-off (Searching ask at looked) now =
-        absurd (never-on (fits-at (Searching ask at looked) now).5)
-    stage-off (Fetching ask at looked seen) now =
-        absurd (never-on (fits-at (Fetching ask at looked seen) now).5)
+    stage-off (Searching ask at part) now =
+        absurd (never-on (fits-at (Searching ask at part) now).4)
+    stage-off (Fetching ask at part seen) now =
+        absurd (never-on (fits-at (Fetching ask at part seen) now).3)
     stage-off (Creating ask p) now = absurd (never-on (fits-at (Creating ask p) now).2)
     stage-off (Giving given to) now = refl
     stage-off (Taking name tries left) now = refl

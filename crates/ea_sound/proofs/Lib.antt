@@ -9,6 +9,8 @@ pub mod ActorWeights
 pub mod EmployedWeights
 pub mod BlockWeights
 pub mod SumParts
+pub mod ListSums
+pub mod SearchParts
 -- One instance, through each change of it.
 pub mod Laid
 pub mod Choosing
@@ -91,13 +93,19 @@ pub mod SoundOwners
 pub mod SoundPlaces
 pub mod SoundRanges
 pub mod SoundUnits
-pub mod Sounding
 -- What else follows: answers that never come, guards, fetches that fit, what is printed, and names.
 pub mod Hearing
 pub mod SteadyRoutes
 pub mod SteadyWork
 pub mod Steadying
 pub mod Guarding
+pub mod KeptLists
+pub mod ListPlaces
+pub mod ListMoves
+pub mod Listing
+pub mod SoundLists
+pub mod FewListed
+pub mod Sounding
 pub mod FetchedFits
 pub mod Printed
 pub mod PrintedSums
@@ -144,6 +152,7 @@ pub mod TraceNames
 pub mod Calls
 pub mod FewPassed
 pub mod CarrierCalls
+pub mod ListedCalls
 pub mod LeavingCalls
 pub mod HeldBlocks
 pub mod WordCalls

@@ -1,8 +1,12 @@
 -- In each reached state the figures of each scheduler's carriers are observed: to observe them once
 -- more changes nothing. After a look of a search they still are.
-use Rattle.std.proofs.Common.{◌≡◌, ℕ, ◌-◌, Bool, true, false, List, [], ◌++◌, inl, inr, refl, sym}
+use Rattle.ea_machine.specs.Lists.{Lists, no_lists}
+use Rattle.ea_machine.specs.Searches.{Search, goes_on, looked_in, passed, with_counted}
+use Rattle.ea_machine.specs.Setup.{greatest_number}
+use Rattle.ea_machine.specs.declared.parts.Part.{Part}
+use Rattle.std.proofs.Common.{◌≡◌, ℕ, Bool, true, false, List, [], ◌++◌, inl, inr, refl, sym}
 use Rattle.std.proofs.Common.{ap, ◌∙◌, subst, arith}
-use Rattle.std.specs.Prelude.{None, Result, Ok, Err, ◌&&◌, filter, max, nat_lt, not}
+use Rattle.std.specs.Prelude.{None, Result, Ok, Err, filter, max, not}
 use Rattle.std.proofs.lemmas.Bool.{cases_eq}
 use Rattle.std.proofs.lemmas.Int.{clamps}
 use Rattle.ea_model.specs.declared.carriers.CarrierPlan.{CarrierPlan}
@@ -10,7 +14,6 @@ use Rattle.ea_model.specs.declared.carriers.Figures.{Figures}
 use Rattle.ea_model.specs.declared.entries.Entry.{Entry}
 use Rattle.ea_model.specs.declared.entries.NoCarrier.{NoCarrier}
 use Rattle.ea_model.specs.declared.operations.Op.{Op}
-use Rattle.ea_model.specs.declared.units.TheConstants.{SEARCH_LIMIT}
 use Rattle.ea_model.specs.Content.{Content}
 use Rattle.ea_model.specs.Instance.{figures, plan}
 use Rattle.ea_machine.specs.declared.asks.Ask.{Ask}
@@ -21,7 +24,8 @@ use Rattle.ea_machine.specs.declared.stages.Stage.TheVariants.{Searching}
 use Rattle.ea_machine.specs.Actor.{Actor, Stat}
 use Rattle.ea_machine.specs.Machine.{IsReached, first_instance, first_stage, onward, run, start}
 use Rattle.ea_machine.specs.Machine.{step}
-use Rattle.ea_machine.specs.Placements.{counted, fits, making, new_carrier_by, saw_by}
+use Rattle.ea_machine.specs.Placements.{making, new_carrier_by, saw_by}
+use Rattle.ea_machine.specs.Searches.{fits}
 use Rattle.ea_machine.specs.Placements.{searched, searched_by}
 use Rattle.ea_machine.specs.Rows.{Answer, Done, Got, Head, Home, Lost, Passes, Rests, Saw, Won}
 use Rattle.ea_machine.specs.Setup.{Setup, is_scheduler, migration}
@@ -68,6 +72,7 @@ module _ (e : Setup) (i : ℕ) where
   at-start : IsObserved (start e)
   at-start = observed-again (record {
     instance = first_instance e i;
+    lists = no_lists;
     held = [];
     todo = e.texts i;
     stage = first_stage e (is_scheduler e i);
@@ -103,47 +108,52 @@ module _ (a : Actor) (is : observed a ≡ a) (none : leaving_at a.stage ≡ []) 
     sbcs = seen (figures (filter (λ x. is_single x.kind) leaving ++ b.instance.singles)) b.sbcs;
   }
 
-  -- they are at another stage too, where it has none either
-  pub still-observed : (at : Stage Content) (todo : List Op) (log : List Entry) → leaving_at at ≡ []
-      → observed (record a { stage = at; todo = todo; log = log })
-      ≡ record a { stage = at; todo = todo; log = log }
-  still-observed at todo log none_too =
-      ap (λ xs. seen_with xs (record a { stage = at; todo = todo; log = log }))
+  -- they are at another stage too, where it has none either, and with other lists
+  pub still-observed : (at : Stage Content) (l : Lists) (todo : List Op) (log : List Entry)
+      → leaving_at at ≡ []
+      → observed (record a { stage = at; lists = l; todo = todo; log = log })
+      ≡ record a { stage = at; lists = l; todo = todo; log = log }
+  still-observed at l todo log none_too =
+      ap (λ xs. seen_with xs (record a { stage = at; lists = l; todo = todo; log = log }))
       (none_too ∙ sym none)
-      ∙ ap (λ (b : Actor). record b { stage = at; todo = todo; log = log }) is
+      ∙ ap (λ (b : Actor). record b { stage = at; lists = l; todo = todo; log = log }) is
 
   -- a search of its own, where carriers migrate
   module _ (e : Setup) (me : ℕ) (on : migration e ≡ true) (ask : Ask) where
     abbrev StillObserved : Actor → Type 0
     StillObserved b = observed (onward e me b) ≡ onward e me b
 
-    new-observed : (looked : ℕ) (r : Result CarrierPlan NoCarrier)
-        → StillObserved (new_carrier_by e me ask looked a r)
-    new-observed looked (Ok p) = subst (λ m. StillObserved (making e me ask p a m)) (sym on)
-        (still-observed (Creating ask p) a.todo a.log refl)
-    new-observed looked (Err why) = still-observed Begin (later a.todo) _ refl
+    new-observed : (l : Lists) (looked : ℕ) (r : Result CarrierPlan NoCarrier)
+        → StillObserved (new_carrier_by e me ask looked (record a { lists = l }) r)
+    new-observed l looked (Ok p) =
+        subst (λ m. StillObserved (making e me ask p (record a { lists = l }) m)) (sym on)
+        (still-observed (Creating ask p) l a.todo a.log refl)
+    new-observed l looked (Err why) = still-observed Begin l (later a.todo) _ refl
 
-    search-observed : (n k : ℕ) (b : Bool) → StillObserved (searched_by e me ask n k a b)
-    search-observed n k true = still-observed (Searching ask n k) a.todo a.log refl
-    search-observed n k false = new-observed k (plan a.instance ask.need)
+    search-observed : (x : Search) (b : Bool)
+        → StillObserved (searched_by e me ask x (record a { lists = x.lists }) b)
+    search-observed x true = still-observed (Searching ask x.at x.part) x.lists a.todo a.log refl
+    search-observed x false = new-observed x.lists (looked_in x.part) (plan a.instance ask.need)
 
-    saw-observed : (n k : ℕ) (w : OwnerWord) (b : Bool)
-        → StillObserved (saw_by e me ask n k a w b)
-    saw-observed n k w true = still-observed (Fetching ask n k w) a.todo a.log refl
-    saw-observed n k w false =
-        search-observed (n - 1) k (nat_lt 0 (n - 1) && nat_lt k SEARCH_LIMIT)
+    saw-observed : (n : ℕ) (part : Part) (w : OwnerWord) (b : Bool)
+        → StillObserved (saw_by e me ask n part a w b)
+    saw-observed n part w true = still-observed (Fetching ask n part w) a.lists a.todo a.log refl
+    saw-observed n part w false =
+        let x = passed (greatest_number e) a.lists n part w in search-observed x (goes_on x.part)
 
     halted-observed : StillObserved (record a { stage = Ended })
-    halted-observed = still-observed Ended a.todo a.log refl
+    halted-observed = still-observed Ended a.lists a.todo a.log refl
 
     -- after a look
-    pub searched-observed : (n k : ℕ) (r : Answer) → StillObserved (searched e me ask n k a r)
-    searched-observed n k (Saw w) = saw-observed n (counted w k) w (fits ask.need w)
-    searched-observed n k Done = halted-observed
-    searched-observed n k (Head x) = halted-observed
-    searched-observed n k Rests = halted-observed
-    searched-observed n k (Passes x) = halted-observed
-    searched-observed n k (Won x) = halted-observed
-    searched-observed n k (Lost w) = halted-observed
-    searched-observed n k (Home x) = halted-observed
-    searched-observed n k (Got x) = halted-observed
+    pub searched-observed : (n : ℕ) (part : Part) (r : Answer)
+        → StillObserved (searched e me ask n part a r)
+    searched-observed n part (Saw w) =
+        saw-observed n (with_counted w part) w (fits ask.need w)
+    searched-observed n part Done = halted-observed
+    searched-observed n part (Head x) = halted-observed
+    searched-observed n part Rests = halted-observed
+    searched-observed n part (Passes x) = halted-observed
+    searched-observed n part (Won x) = halted-observed
+    searched-observed n part (Lost w) = halted-observed
+    searched-observed n part (Home x) = halted-observed
+    searched-observed n part (Got x) = halted-observed

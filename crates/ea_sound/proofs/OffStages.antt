@@ -36,8 +36,8 @@ abbrev pub IsOffStage : Stage Content → Type 0
 IsOffStage Begin = Unit {0}
 IsOffStage (Routed route why gone) = IsOffRoute route
 IsOffStage (Collecting number) = ⊥
-IsOffStage (Searching ask at looked) = ⊥
-IsOffStage (Fetching ask at looked seen) = ⊥
+IsOffStage (Searching ask at part) = ⊥
+IsOffStage (Fetching ask at part seen) = ⊥
 IsOffStage (Creating ask p) = ⊥
 IsOffStage (Giving given to) = Unit {0}
 IsOffStage (Taking name tries left) = Unit {0}
@@ -77,8 +77,8 @@ module _ (e : Setup) (w : State) (rule : Rule e w) (me : ℕ) (is : is_scheduler
   off-stage (Collecting number) now fits =
       let (x, home) = collecting-home e w rule.kept me (scheduler-seat e me is) number now in
       let never : Absent ≡ Returning me x = sym (absent number) ∙ home in cc
-  off-stage (Searching ask at looked) now fits = never-on fits.5
-  off-stage (Fetching ask at looked seen) now fits = never-on fits.5
+  off-stage (Searching ask at part) now fits = never-on fits.4
+  off-stage (Fetching ask at part seen) now fits = never-on fits.3
   off-stage (Creating ask p) now fits = never-on fits.2
   off-stage (Giving given to) now fits = tt
   off-stage (Taking name tries left) now fits = tt

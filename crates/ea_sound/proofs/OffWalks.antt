@@ -1,6 +1,7 @@
 -- A walk where carriers don't migrate: what it passed are blocks; one whose carrier the scheduler
 -- owns lies there, as does each block that it holds in such a carrier; and this stays so from node
 -- to node.
+use Rattle.ea_machine.specs.Searches.{passed}
 use Rattle.std.proofs.Common.{◌≡◌, ℕ, ◌<◌, ◌≤◌, true, false, List, [], ◌∷◌, refl, sym, ap, ◌∙◌}
 use Rattle.std.proofs.Common.{subst, inr, arith}
 use Rattle.std.specs.Prelude.{All, Option, None, Some, IsSome}

@@ -1,4 +1,5 @@
 -- The local work after a row keeps what every moment keeps.
+use Rattle.ea_machine.specs.Lists.{Lists}
 use Rattle.std.proofs.Common.{◌≡◌, ◌≢◌, ℕ, true, refl, ◌∙◌, arith}
 use Rattle.std.specs.Prelude.{Some}
 use Rattle.ea_model.specs.declared.carriers.CarrierPlan.{CarrierPlan}
@@ -59,6 +60,20 @@ module _ (e : Setup) (w : State) (s : Shared) (me : ℕ) (is : is_scheduler e me
     old = want.old;
   }
 
+  -- or where the lists of own carriers change
+  pub listed-wanted : (ask : Ask) (l : Lists) (a : Actor) → Wanted e w s me a ask
+      → Wanted e w s me (record a { lists = l }) ask
+  listed-wanted ask l a want = record {
+    fresh = omega (
+      arith,
+      want.fresh,
+      allocated-with e w s me is (only ask.name) (at Begin a) (at Begin (record a { lists = l })),
+    );
+    least = want.least;
+    even = want.even;
+    old = want.old;
+  }
+
   -- a held name is another than one that is new beside it
   pub held-other : (n : ℕ) (spot : Spot) (h : Named) (a : Actor) → named_at h.name a.held ≡ Some h
       → G (at Begin (holding n spot a)) → h.name ≢ n
@@ -100,6 +115,7 @@ module _ (e : Setup) (w : State) (s : Shared) (me : ℕ) (is : is_scheduler e me
       busy = λ q. absurd cc;
     };
     made = made-wanted;
+    listed = listed-wanted;
     stays = held-stays;
     resize = λ old fresh need a held new least even stays g.
         log-goes e w s me is G (keeps-operation e w s me is)

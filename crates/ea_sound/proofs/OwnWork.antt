@@ -38,7 +38,7 @@ use Rattle.ea_sound.specs.OwnWork.{most_queued, own_work}
 use Rattle.ea_sound.specs.Present.{Rule}
 use Rattle.ea_sound.proofs.Asked.{reached-rule}
 use Rattle.ea_sound.proofs.Calls.{queue-nodes, rest-none}
-use Rattle.ea_sound.proofs.Completing.{PushesElsewhere, fits-elsewhere, linked-marks, rule-less}
+use Rattle.ea_sound.proofs.Completing.{LeavesLess, fits-less, linked-marks, rule-less}
 use Rattle.ea_sound.proofs.FewNodes.{IsWithin, few-nodes, is-within}
 use Rattle.ea_sound.proofs.Numbered.{no_scheduler-beyond}
 use Rattle.ea_sound.proofs.SharedRows.{tried-queues}
@@ -53,7 +53,7 @@ module _ (me : ℕ) (s : Shared) where
   abbrev LeavesQueue : Row → Type 0
   LeavesQueue row = length ((effect me row s).queues me) ≡ length (s.queues me)
 
-  route-queue : (r : Route Content) (y : Why) (g : Gone) → PushesElsewhere me (Routed r y g)
+  route-queue : (r : Route Content) (y : Why) (g : Gone) → LeavesLess me (Routed r y g)
       → LeavesQueue (wants_on r)
   unfolding effect
   route-queue (Looking h) y g f = refl
@@ -68,15 +68,15 @@ module _ (me : ℕ) (s : Shared) where
   route-queue (Linking node to) y g f = linked-marks node to me s.queues
 
   -- where the scheduler doesn't take it
-  own-queue : (next : Option Node) (st : Stage Content) → PushesElsewhere me st
+  own-queue : (next : Option Node) (st : Stage Content) → LeavesLess me st
       → (st ≡ Begin → next ≢ None) → LeavesQueue (wants_at next st)
   unfolding effect
   own-queue None Begin f walks = absurd (walks refl refl)
   own-queue (Some n) Begin f walks = refl
   own-queue next (Routed r y g) f walks = route-queue r y g f
   own-queue next (Collecting c) f walks = refl
-  own-queue next (Searching ask n looked) f walks = refl
-  own-queue next (Fetching ask n looked seen) f walks =
+  own-queue next (Searching ask n part) f walks = refl
+  own-queue next (Fetching ask n part seen) f walks =
       ap (λ ms. length ms) (tried-queues (tried_at seen (s.places n)) n me (Employed me) s)
   own-queue next (Creating ask p) f walks = refl
   own-queue next (Giving h to) f walks = refl
@@ -97,8 +97,8 @@ takes-or None Begin = inl (refl, refl)
 takes-or (Some n) Begin = inr (λ q r. absurd cc)
 takes-or next (Routed r y g) = inr (λ q r. absurd cc)
 takes-or next (Collecting c) = inr (λ q r. absurd cc)
-takes-or next (Searching ask n looked) = inr (λ q r. absurd cc)
-takes-or next (Fetching ask n looked seen) = inr (λ q r. absurd cc)
+takes-or next (Searching ask n part) = inr (λ q r. absurd cc)
+takes-or next (Fetching ask n part seen) = inr (λ q r. absurd cc)
 takes-or next (Creating ask p) = inr (λ q r. absurd cc)
 takes-or next (Giving h to) = inr (λ q r. absurd cc)
 takes-or next (Taking n tries left) = inr (λ q r. absurd cc)
@@ -172,7 +172,7 @@ module _ (c : Config) (t : Trace) (valid : IsValidConfig c)
         less,
         ap (λ (x : Shared). length (x.queues me)) (step-shared e w me goes),
         own-queue me w.shared a.next a.stage
-            (fits-elsewhere e w me a a.stage (rule.present.fits me)) walks,
+            (fits-less e w me a a.stage (rule.present.fits me)) walks,
         mul-le-mul_left (most_queued c t) (step-few e w me goes),
       )
     ]

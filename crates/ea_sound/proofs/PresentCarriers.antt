@@ -93,8 +93,8 @@ module _ (e : Setup) (w : State) (rule : Rule e w) (off : migration e ≡ false)
   leaves-none i a Begin fits = refl
   leaves-none i a (Routed r why gone) fits = route-leaves_none i r fits.0
   leaves-none i a (Collecting number) fits = refl
-  leaves-none i a (Searching ask at looked) fits = refl
-  leaves-none i a (Fetching ask at looked seen) fits = refl
+  leaves-none i a (Searching ask at part) fits = refl
+  leaves-none i a (Fetching ask at part seen) fits = refl
   leaves-none i a (Creating ask p) fits = refl
   leaves-none i a (Giving given to) fits = refl
   leaves-none i a (Taking name tries left) fits = refl

@@ -1,7 +1,12 @@
 -- Where the operation itself leaves a scheduler, once its begin is over.
-use Rattle.std.proofs.Common.{◌≡◌, ◌≢◌, ◌⊎◌, ℕ, ◌+◌, ◌<◌, ◌≤◌, List, [], ◌∷◌, Bool, true, false}
+use Rattle.ea_machine.specs.Placements.{search_on}
+use Rattle.ea_machine.specs.Searches.{Search, goes_on, looked_in, new_search}
+use Rattle.ea_sound.proofs.SearchParts.{new-left, new-looks_at}
+use Rattle.ea_sound.specs.Listed.{LooksAt}
+use Rattle.ea_sound.specs.Present.{HasLeft}
+use Rattle.std.proofs.Common.{◌≡◌, ◌≢◌, ◌⊎◌, ℕ, ◌+◌, ◌≤◌, List, [], ◌∷◌, Bool, true, false}
 use Rattle.std.proofs.Common.{refl, sym, ap, ◌∙◌, subst, inl, inr, arith}
-use Rattle.std.specs.Prelude.{Option, None, Some, Result, Ok, Err, ◌==◌, ◌&&◌, nat_lt}
+use Rattle.std.specs.Prelude.{Option, None, Some, Result, Ok, Err, ◌==◌}
 use Rattle.ea_model.specs.declared.carriers.CarrierPlan.{CarrierPlan}
 use Rattle.ea_model.specs.declared.carriers.Spot.{Spot}
 use Rattle.ea_model.specs.declared.entries.Entry.{Entry}
@@ -12,7 +17,6 @@ use Rattle.ea_model.specs.declared.operations.Op.TheVariants as op
 use Rattle.ea_model.specs.declared.reallocation.Decision.{Decision}
 use Rattle.ea_model.specs.declared.reallocation.Decision.TheVariants.{Stay, ShrinkHere, GrowHere}
 use Rattle.ea_model.specs.declared.reallocation.Decision.TheVariants.{ShrinkCarrier, Move}
-use Rattle.ea_model.specs.declared.units.TheConstants.{SEARCH_LIMIT}
 use Rattle.ea_model.specs.Instance.{chosen_spot, decision_at, figures, is_alone, plan, resizing_at}
 use Rattle.ea_model.specs.Units.{need_of}
 use Rattle.ea_model.proofs.Rising.{item_at-key}
@@ -27,7 +31,7 @@ use Rattle.ea_machine.specs.Nodes.{named_at, name_of}
 use Rattle.ea_machine.specs.declared.nodes.Named.{Named}
 use Rattle.ea_machine.specs.Operations.{freed, giving, itself}
 use Rattle.ea_machine.specs.Placements.{chosen_by, failed, holding, making, new_carrier}
-use Rattle.ea_machine.specs.Placements.{new_carrier_by, search_at, search_if, searched_by, seek}
+use Rattle.ea_machine.specs.Placements.{new_carrier_by, search_if, searched_by, seek}
 use Rattle.ea_machine.specs.Placements.{seek_by}
 use Rattle.ea_machine.specs.Reallocations.{reallocated, reallocated_by, resized_here, resized_place}
 use Rattle.ea_machine.specs.Setup.{Setup, greatest_number, migration}
@@ -57,54 +61,48 @@ module _ (e : Setup) (s : Shared) (me : ℕ) (home bound : Counting → ℕ) (R 
   abbrev Asks : Actor → Ask → Type 0
   Asks a ask = Wants e s me a ask
 
+  making-good : (ask : Ask) (a : Actor) (wants : Asks a ask) (b : IsBare a.todo a) (p : CarrierPlan)
+      (on : Bool) → migration e ≡ on → plan a.instance ask.need ≡ Ok p
+      → (p.single ≡ true) ⊎ (chosen_spot a.instance ask.need ≡ None)
+      → IsGood (making e me ask p a on)
+  making-good ask a wants b p true m asked none =
+      record { core = b.core; suits = (wants, asked, m, none) }
+  making-good ask a wants b p false m asked none =
+      created-good e s me home bound R ask a wants.0 b.core p asked b.own
+      (planned-missing a.instance (b.core.stands m) ask.need p asked) none
+
+  carrier-good : (ask : Ask) (a : Actor) (wants : Asks a ask) (b : IsBare a.todo a) (looked : ℕ)
+      → (is_alone a.instance ask.need ≡ true) ⊎ (chosen_spot a.instance ask.need ≡ None)
+      → IsGood (new_carrier e me ask looked a)
+  carrier-good ask a wants b looked none = by (plan a.instance ask.need) refl where
+    by : (r : Result CarrierPlan NoCarrier) → plan a.instance ask.need ≡ r
+        → IsGood (new_carrier_by e me ask looked a r)
+    by (Ok p) asked = making-good ask a wants b p (migration e) refl asked (elim none [
+      | inl alone ↦ inl ((plan-IsPlanned a.instance ask.need p asked).single ∙ alone)
+      | inr free ↦ inr free
+    ])
+    by (Err why) refused = log-good e s me home bound R (failed ask looked why ask.old) a a.todo
+        b.core (ask-failed ask a.todo looked why ask.old refl wants.0)
+        (λ n. later-made n a.todo)
+
   module _ (ask : Ask) (a : Actor) (wants : Asks a ask) (b : IsBare a.todo a) where
-    making-good : (p : CarrierPlan) (on : Bool) → migration e ≡ on
-        → plan a.instance ask.need ≡ Ok p
-        → (p.single ≡ true) ⊎ (chosen_spot a.instance ask.need ≡ None)
-        → IsGood (making e me ask p a on)
-    making-good p true m asked none = record { core = b.core; suits = (wants, asked, m, none) }
-    making-good p false m asked none =
-        created-good e s me home bound R ask a wants.0 b.core p asked b.own
-        (planned-missing a.instance (b.core.stands m) ask.need p asked) none
-
-    carrier-good : (looked : ℕ)
-        → (is_alone a.instance ask.need ≡ true) ⊎ (chosen_spot a.instance ask.need ≡ None)
-        → IsGood (new_carrier e me ask looked a)
-    carrier-good looked none = by (plan a.instance ask.need) refl where
-      by : (r : Result CarrierPlan NoCarrier) → plan a.instance ask.need ≡ r
-          → IsGood (new_carrier_by e me ask looked a r)
-      by (Ok p) asked = making-good p (migration e) refl asked (elim none [
-        | inl alone ↦ inl ((plan-IsPlanned a.instance ask.need p asked).single ∙ alone)
-        | inr free ↦ inr free
-      ])
-      by (Err why) refused = log-good e s me home bound R (failed ask looked why ask.old) a a.todo
-          b.core (ask-failed ask a.todo looked why ask.old refl wants.0)
-          (λ n. later-made n a.todo)
-
-    pub search-good : (at looked : ℕ) → at ≤ greatest_number e → migration e ≡ true
-        → chosen_spot a.instance ask.need ≡ None → IsGood (search_at e me ask at looked a)
-    search-good at looked most on free = by (nat_lt 0 at && nat_lt looked SEARCH_LIMIT) refl where
-      some : (at looked : ℕ) → (nat_lt 0 at && nat_lt looked SEARCH_LIMIT) ≡ true → 0 < at
-      some at looked q = grind (arith, q)
-
-      few : (at looked : ℕ) → (nat_lt 0 at && nat_lt looked SEARCH_LIMIT) ≡ true
-          → looked < SEARCH_LIMIT
-      few at looked q = grind (arith, q)
-
-      by : (on' : Bool) → (nat_lt 0 at && nat_lt looked SEARCH_LIMIT) ≡ on'
-          → IsGood (searched_by e me ask at looked a on')
-      by true q = record {
-        core = b.core;
-        suits = (wants, some at looked q, most, few at looked q, free, on);
-      }
-      by false q = carrier-good looked (inr free)
+    pub search-good : (x : Search) → (goes_on x.part ≡ true → HasLeft e x.part)
+        → (goes_on x.part ≡ true → LooksAt e x.lists x.at x.part) → migration e ≡ true → chosen_spot a.instance ask.need ≡ None
+        → IsGood (search_on e me ask x a)
+    search-good x left looks on free = by (goes_on x.part) refl where
+      by : (more : Bool) → goes_on x.part ≡ more
+          → IsGood (searched_by e me ask x (record a { lists = x.lists }) more)
+      by true q = record { core = b.core; suits = (wants, left q, q, free, on, looks q) }
+      by false q = carrier-good ask (record a { lists = x.lists }) wants
+          (record { core = b.core; own = b.own }) (looked_in x.part) (inr free)
 
     seek-good : IsGood (seek e me ask a)
     seek-good = alone (is_alone a.instance ask.need) refl where
       searching : (on : Bool) → migration e ≡ on → chosen_spot a.instance ask.need ≡ None
           → IsGood (search_if e me ask a on)
-      searching true m free = search-good (greatest_number e) 0 (omega arith) m free
-      searching false m free = carrier-good 0 (inr free)
+      searching true m free = search-good (new_search (greatest_number e) a.lists)
+          (new-left e a.lists) (new-looks_at e a.lists) m free
+      searching false m free = carrier-good ask a wants b 0 (inr free)
 
       choosing : (o : Option Spot) → chosen_spot a.instance ask.need ≡ o
           → IsGood (chosen_by e me ask a o)
@@ -113,7 +111,7 @@ module _ (e : Setup) (s : Shared) (me : ℕ) (home bound : Counting → ℕ) (R 
       choosing None free = searching (migration e) refl free
 
       alone : (own : Bool) → is_alone a.instance ask.need ≡ own → IsGood (seek_by e me ask a own)
-      alone true q = carrier-good 0 (inl q)
+      alone true q = carrier-good ask a wants b 0 (inl q)
       alone false q = choosing (chosen_spot a.instance ask.need) refl
 
   pub first-good : (x : Entry) (a : Actor) (o : Op) (ops : List Op) → a.todo ≡ o ∷ ops

@@ -75,8 +75,8 @@ one-leaves : (s : Stage Content) → IsOneOrNone (leaving_at s)
 one-leaves Begin = tt
 one-leaves (Routed r why gone) = route-leaves-one r
 one-leaves (Collecting number) = tt
-one-leaves (Searching ask at looked) = tt
-one-leaves (Fetching ask at looked seen) = tt
+one-leaves (Searching ask at part) = tt
+one-leaves (Fetching ask at part seen) = tt
 one-leaves (Creating ask p) = tt
 one-leaves (Giving given to) = tt
 one-leaves (Taking name tries left) = tt

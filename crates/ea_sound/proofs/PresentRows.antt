@@ -1,5 +1,10 @@
 -- Where each row leaves the scheduler that does it.
-use Rattle.std.proofs.Common.{◌≡◌, ◌≢◌, ℕ, zero, suc, ◌+◌, ◌-◌, ◌≤◌, List, [], ◌∷◌, Bool, true}
+use Rattle.ea_machine.specs.Placements.{fetches}
+use Rattle.ea_machine.specs.Releases.{struck}
+use Rattle.ea_machine.specs.Searches.{passed, with_counted}
+use Rattle.ea_machine.specs.Setup.{greatest_number}
+use Rattle.ea_sound.proofs.SearchParts.{counted-left, counted-looks_at, passed-left, passed-looks_at}
+use Rattle.std.proofs.Common.{◌≡◌, ◌≢◌, ℕ, zero, suc, ◌+◌, ◌≤◌, List, [], ◌∷◌, Bool, true}
 use Rattle.std.proofs.Common.{false, ◌&&◌, refl, sym, ap, ◌∙◌, subst, inl, arith}
 use Rattle.std.specs.Prelude.{Option, None, Some, option_map, ◌==◌, nat_le}
 use Rattle.std.proofs.lemmas.Bool.{and_right, true≢false}
@@ -8,6 +13,7 @@ use Rattle.ea_model.specs.declared.carriers.CarrierPlan.{CarrierPlan}
 use Rattle.ea_model.specs.declared.entries.Entry.TheVariants as entry
 use Rattle.ea_model.specs.declared.operations.Op.TheVariants as op
 use Rattle.ea_model.specs.Content.{Content, can_go, is_nil}
+use Rattle.ea_machine.specs.declared.parts.Part.{Part}
 use Rattle.ea_machine.specs.declared.owners.OwnerWord.{OwnerWord}
 use Rattle.ea_machine.specs.declared.owners.OwnerWord.TheVariants as word
 use Rattle.ea_machine.specs.declared.stages.Stage.{Stage}
@@ -17,7 +23,6 @@ use Rattle.ea_machine.specs.declared.stages.Stage.TheVariants.{Ended, Ready}
 use Rattle.ea_machine.specs.Actor.{Actor}
 use Rattle.ea_machine.specs.declared.asks.Ask.{Ask}
 use Rattle.ea_sound.specs.Contents.{home_sum, seats, slots}
-use Rattle.ea_model.specs.Employment.{employing}
 use Rattle.ea_sound.specs.Places.{MayStay}
 use Rattle.ea_machine.specs.Tasks.{let_go, logged}
 use Rattle.ea_model.proofs.Rising.{item_at-key}
@@ -28,9 +33,10 @@ use Rattle.ea_machine.specs.declared.nodes.Named.{Named}
 use Rattle.ea_machine.specs.Operations.{gave, took_by}
 use Rattle.ea_machine.specs.Owners.{CarrierAt, Absent, Employed, Pooled, Busy, Returning, same_word}
 use Rattle.ea_machine.specs.Owners.{word_of}
-use Rattle.ea_machine.specs.Placements.{created, holding, counted, counted_by, counts, fetched}
-use Rattle.ea_machine.specs.Placements.{fits as word_fits, placed_by, saw_by, searched}
-use Rattle.ea_machine.specs.Releases.{disowned, looked, turned}
+use Rattle.ea_machine.specs.Placements.{created, holding, fetched}
+use Rattle.ea_machine.specs.Placements.{placed_by, saw_by, searched}
+use Rattle.ea_machine.specs.Searches.{fits as word_fits}
+use Rattle.ea_machine.specs.Releases.{disowned, turned}
 use Rattle.ea_machine.specs.Rows.{Lost, Saw, Won}
 use Rattle.ea_machine.specs.Setup.{Setup, is_scheduler}
 use Rattle.ea_machine.specs.Shared.{Shared, at_place}
@@ -73,12 +79,6 @@ fits-pooled need (word.Pooled i largest) q = (i, largest, refl, enough need larg
 fits-pooled need (word.Busy i) q = absurd cc
 fits-pooled need (word.Returning i) q = absurd cc
 
-counted-most : (v : OwnerWord) (looked : ℕ) → counted v looked ≤ looked + 1
-counted-most v looked = by (counts v) where
-  by : (b : Bool) → counted_by b looked ≤ looked + 1
-  by true = omega arith
-  by false = omega arith
-
 some-blocks : (bs : List BlockAt) → bs ≢ [] → is_nil bs ≡ false
 some-blocks [] some = absurd (some refl)
 some-blocks (b ∷ bs) some = refl
@@ -113,64 +113,67 @@ module _ (e : Setup) (w : State) (me : ℕ) (is : is_scheduler e me ≡ true) (r
       (core e w me is rule stage now w.shared (λ n. 0) (rule.present.walking me)
       (λ n. omega (arith, none n)))
 
-  module _ (ask : Ask) (at looked : ℕ) where
-    searching-good : a.stage ≡ Searching ask at looked → (v : OwnerWord)
-        → IsGood w.shared (searched e me ask at looked a (Saw v))
+  module _ (ask : Ask) (at : ℕ) (part : Part) where
+    searching-good : a.stage ≡ Searching ask at part → (v : OwnerWord)
+        → IsGood w.shared (searched e me ask at part a (Saw v))
     searching-good now v = by (word_fits ask.need v) refl where
-      f : Fits e w me a (Searching ask at looked)
-      f = fits (Searching ask at looked) now
+      f : Fits e w me a (Searching ask at part)
+      f = fits (Searching ask at part) now
 
       c : CoreAt w.shared
-      c = bare (Searching ask at looked) now refl (λ n. refl)
+      c = bare (Searching ask at part) now refl (λ n. refl)
 
       by : (b : Bool) → word_fits ask.need v ≡ b
-          → IsGood w.shared (saw_by e me ask at (counted v looked) a v b)
+          → IsGood w.shared (saw_by e me ask at (with_counted v part) a v b)
       by true q = record {
         core = c;
         suits = (
           asked ask f.0,
-          f.1,
-          f.2,
-          omega (arith, f.3, counted-most v looked),
+          counted-left e part v f.1 f.2,
+          f.3,
           f.4,
-          f.5,
           fits-pooled ask.need v q,
+          counted-looks_at e a.lists at part v f.5,
         );
       }
       by false q = search-good e w.shared me (home_of e w.shared) (bound_of e w me)
           (InOrder e me) ask a (asked ask f.0)
-          (record { core = c; own = own e w me is rule }) (at - 1) (counted v looked)
-          (omega (arith, f.2)) f.5 f.4
+          (record { core = c; own = own e w me is rule })
+          (passed (greatest_number e) a.lists at (with_counted v part) v)
+          (passed-left e a.lists at (with_counted v part) v (counted-left e part v f.1 f.2))
+          (passed-looks_at e a.lists at (with_counted v part) v (counted-left e part v f.1 f.2)
+          (counted-looks_at e a.lists at part v f.5)) f.4 f.3
 
-    module _ (seen : OwnerWord) (now : a.stage ≡ Fetching ask at looked seen) where
+    module _ (seen : OwnerWord) (now : a.stage ≡ Fetching ask at part seen) where
       abbrev stage : Stage Content
-      stage = Fetching ask at looked seen
+      stage = Fetching ask at part seen
 
-      f : Fits e w me a (Fetching ask at looked seen)
-      f = fits (Fetching ask at looked seen) now
+      f : Fits e w me a (Fetching ask at part seen)
+      f = fits (Fetching ask at part seen) now
 
-      lost : (v : OwnerWord) → IsGood w.shared (fetched e me ask at looked a (Lost v))
+      lost : (v : OwnerWord) → IsGood w.shared (fetched e me ask at part a (Lost v))
       lost v = search-good e w.shared me (home_of e w.shared) (bound_of e w me)
           (InOrder e me) ask a (asked ask f.0)
           (record {
-            core = bare (Fetching ask at looked seen) now refl (λ n. refl);
+            core = bare (Fetching ask at part seen) now refl (λ n. refl);
             own = own e w me is rule;
-          }) (at - 1) looked (omega (arith, f.2)) f.5 f.4
+          }) (passed (greatest_number e) a.lists at part v) (passed-left e a.lists at part v f.1)
+          (passed-looks_at e a.lists at part v f.1 f.5) f.3 f.2
 
       won : (j l : ℕ) (x : Content) → w.shared.places at ≡ Pooled j l x
-          → Leaves e w (at_place at (Employed me) w.shared) me a (Fetching ask at looked seen)
+          → Leaves e w (at_place at (Employed me) w.shared) me a (Fetching ask at part seen)
           (Won x)
-          → IsGood (at_place at (Employed me) w.shared) (fetched e me ask at looked a (Won x))
+          → IsGood (at_place at (Employed me) w.shared) (fetched e me ask at part a (Won x))
       won j l x there leaves =
           let s = at_place at (Employed me) w.shared in
-          let b : Actor = record a { instance = employing a.instance x } in
+          let b : Actor = fetches at x a in
           let pooled = k.placed.pooled at j l x there in
           let stays : MayStay me x = (
             ap (λ empty. can_go x.kind && empty) (some-blocks x.blocks pooled.2)
                 ∙ and_right (can_go x.kind) false refl,
             inl pooled.1,
           ) in
-          let c = bare (Fetching ask at looked seen) now refl (λ n. refl) in
+          let c = bare (Fetching ask at part seen) now refl (λ n. refl) in
           subst (λ o. IsGood s (placed_by e me ask b o)) (sym leaves.1.1)
           (placed-good e s me (home_of e s) (bound_of e w me)
           (InOrder e me) ask b f.0.of
@@ -188,7 +191,7 @@ module _ (e : Setup) (w : State) (me : ℕ) (is : is_scheduler e me ≡ true) (r
             );
             rising = c.rising;
             names = c.names;
-            stands = λ off. absurd (true≢false (sym f.5 ∙ off));
+            stands = λ off. absurd (true≢false (sym f.3 ∙ off));
             main = employing-main e me a.instance c.main x;
           })
           leaves.1.0 leaves.1.1
@@ -197,9 +200,9 @@ module _ (e : Setup) (w : State) (me : ℕ) (is : is_scheduler e me ≡ true) (r
 
       fetching-good : (p : CarrierAt) → w.shared.places at ≡ p → (b : Bool)
           → Leaves e w (moved_if (won_if b p) at (Employed me) w.shared) me a
-          (Fetching ask at looked seen) (won_if b p)
+          (Fetching ask at part seen) (won_if b p)
           → IsGood (moved_if (won_if b p) at (Employed me) w.shared)
-          (fetched e me ask at looked a (won_if b p))
+          (fetched e me ask at part a (won_if b p))
       fetching-good (Pooled j l x) there true leaves = won j l x there leaves
       fetching-good (Pooled j l x) there false leaves = lost (word.Pooled j l)
       fetching-good Absent there true leaves = lost word.Absent
@@ -299,8 +302,8 @@ module _ (e : Setup) (w : State) (me : ℕ) (is : is_scheduler e me ≡ true) (r
   collecting-good c now =
       let s = at_place c Absent w.shared in
       let home = collecting-home e w k me (seat e w me is rule) c now in
-      work-good e s me (home_of e s) (bound_of e w me) a.passed (disowned c a)
-      (disowned-bare e s me (home_of e s) (bound_of e w me) a.todo c a
+      work-good e s me (home_of e s) (bound_of e w me) a.passed (disowned c (struck c a))
+      (disowned-bare e s me (home_of e s) (bound_of e w me) a.todo c (struck c a)
       (returning-on e w k c me home.0 home.1)
       (record {
         core = core e w me is rule (Collecting c) now s (λ n. 0) (rule.present.walking me)
@@ -322,11 +325,11 @@ module _ (e : Setup) (w : State) (me : ℕ) (is : is_scheduler e me ≡ true) (r
       (turned-good e w me is rule y g r now)
       (λ h b c why. route_over-good e s me (home_of e s) (bound_of e w me) y h b c why)
   row-good (Collecting c) goes now = collecting-good c now
-  row-good (Searching ask at looked) goes now =
-      searching-good ask at looked now (word_of (w.shared.places at))
-  row-good (Fetching ask at looked seen) goes now = fetching-good ask at looked seen now
+  row-good (Searching ask at part) goes now =
+      searching-good ask at part now (word_of (w.shared.places at))
+  row-good (Fetching ask at part seen) goes now = fetching-good ask at part seen now
       (w.shared.places at) refl (same_word (word_of (w.shared.places at)) seen)
-      (row-left e w me is rule (Fetching ask at looked seen) goes now)
+      (row-left e w me is rule (Fetching ask at part seen) goes now)
   row-good (Creating ask p) goes now = creating-good ask p now
   row-good (Giving given to) goes now = giving-good _ given to now
       (core e w me is rule (Giving given to) now _ (λ n. 0) (rule.present.walking me)

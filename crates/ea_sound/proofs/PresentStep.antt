@@ -155,8 +155,8 @@ module _ (e : Setup) (w : State) (me : ℕ) (rule : Rule e w) (is : is_scheduler
     by Begin now f = starts a.next
     by (Routed r y g) now f = on r y g now f
     by (Collecting c) now f = tt
-    by (Searching ask n looked) now f = tt
-    by (Fetching ask n looked seen) now f = tt
+    by (Searching ask n part) now f = tt
+    by (Fetching ask n part seen) now f = tt
     by (Creating ask p) now f = tt
     by (Giving given to) now f = tt
     by (Taking name tries left) now f = tt
@@ -185,8 +185,8 @@ module _ (e : Setup) (w : State) (me : ℕ) (rule : Rule e w) (is : is_scheduler
     by Begin now f = starts a.next
     by (Routed r y g) now f = on r
     by (Collecting c) now f = tt
-    by (Searching ask n looked) now f = tt
-    by (Fetching ask n looked seen) now f = tt
+    by (Searching ask n part) now f = tt
+    by (Fetching ask n part seen) now f = tt
     by (Creating ask p) now f = tt
     by (Giving given to) now f = omega (
       arith,

@@ -80,8 +80,8 @@ module _ (e : Setup) (s : Shared) (me : ℕ) (home bound : Counting → ℕ) whe
   still-suits a Begin n q = q
   still-suits a (Routed r y g) n q = q
   still-suits a (Collecting c) n q = q
-  still-suits a (Searching ask at looked) n q = q
-  still-suits a (Fetching ask at looked seen) n q = q
+  still-suits a (Searching ask at part) n q = q
+  still-suits a (Fetching ask at part seen) n q = q
   still-suits a (Creating ask p) n q = q
   still-suits a (Giving h to) n q = q
   still-suits a (Taking name tries left) n q = q
@@ -109,10 +109,10 @@ module _ (e : Setup) (s : Shared) (me : ℕ) (home bound : Counting → ℕ) whe
   onward-good a Begin q g = still-good a Begin q (λ r. cc) g
   onward-good a (Routed r y h) q g = still-good a (Routed r y h) q (λ r. cc) g
   onward-good a (Collecting c) q g = still-good a (Collecting c) q (λ r. cc) g
-  onward-good a (Searching ask at looked) q g =
-      still-good a (Searching ask at looked) q (λ r. cc) g
-  onward-good a (Fetching ask at looked seen) q g =
-      still-good a (Fetching ask at looked seen) q (λ r. cc) g
+  onward-good a (Searching ask at part) q g =
+      still-good a (Searching ask at part) q (λ r. cc) g
+  onward-good a (Fetching ask at part seen) q g =
+      still-good a (Fetching ask at part seen) q (λ r. cc) g
   onward-good a (Creating ask p) q g = still-good a (Creating ask p) q (λ r. cc) g
   onward-good a (Giving h to) q g = still-good a (Giving h to) q (λ r. cc) g
   onward-good a (Taking name tries left) q g = still-good a (Taking name tries left) q (λ r. cc) g
@@ -124,8 +124,8 @@ module _ (e : Setup) (s : Shared) (me : ℕ) (home bound : Counting → ℕ) whe
   observed-suits a Begin q = q
   observed-suits a (Routed r y g) q = q
   observed-suits a (Collecting c) q = q
-  observed-suits a (Searching ask at looked) q = q
-  observed-suits a (Fetching ask at looked seen) q = q
+  observed-suits a (Searching ask at part) q = q
+  observed-suits a (Fetching ask at part seen) q = q
   observed-suits a (Creating ask p) q = q
   observed-suits a (Giving h to) q = q
   observed-suits a (Taking name tries left) q = q

@@ -63,8 +63,8 @@ pub hand-leaves : (b h : Content → ℕ) (s : Stage Content)
 hand-leaves b h Begin = refl
 hand-leaves b h (Routed r why gone) = route-leaves b h r
 hand-leaves b h (Collecting number) = refl
-hand-leaves b h (Searching ask at looked) = refl
-hand-leaves b h (Fetching ask at looked seen) = refl
+hand-leaves b h (Searching ask at part) = refl
+hand-leaves b h (Fetching ask at part seen) = refl
 hand-leaves b h (Creating ask p) = refl
 hand-leaves b h (Giving given to) = refl
 hand-leaves b h (Taking name tries left) = refl

@@ -77,8 +77,8 @@ module _ (f : Spot → ℕ) where
   hand-spots Begin = refl
   hand-spots (Routed r why gone) = route-spots r
   hand-spots (Collecting number) = refl
-  hand-spots (Searching ask at looked) = refl
-  hand-spots (Fetching ask at looked seen) = refl
+  hand-spots (Searching ask at part) = refl
+  hand-spots (Fetching ask at part seen) = refl
   hand-spots (Creating ask p) = refl
   hand-spots (Giving given to) = refl
   hand-spots (Taking name tries left) = refl

@@ -1,4 +1,5 @@
 -- Where the row of a route leaves a scheduler.
+use Rattle.ea_machine.specs.Releases.{struck}
 use Rattle.std.proofs.Common.{◌≡◌, ◌≢◌, ◌⊎◌, ℕ, ◌+◌, ◌≤◌, List, Bool, true, false, refl, sym, ap}
 use Rattle.std.proofs.Common.{◌∙◌, subst, inl, inr, arith}
 use Rattle.std.specs.Prelude.{◌==◌}
@@ -240,7 +241,7 @@ module _ (e : Setup) (w : State) (me : ℕ) (is : is_scheduler e me ≡ true) (r
       let multi = (its (Settling x) now).0 in
       let on = (its (Settling x) now).1 in
       leaving-good e s me (home_of e s) (bound_of e w me) y (owner_of x.number == me)
-      (migration e) x g a refl refl (ap can_go multi) (λ other. (multi, on))
+      (migration e) x g (struck x.number a) refl refl (ap can_go multi) (λ other. (multi, on))
       (λ on. nil-is x.blocks nil)
       (λ on. moved (Settling x) now x.number (Employed me) (λ n. blocks_named n x)
       (λ n. omega arith))
@@ -270,10 +271,9 @@ module _ (e : Setup) (w : State) (me : ℕ) (is : is_scheduler e me ≡ true) (r
   turned-good (Trying h seen) now = trying-good h seen now (w.shared.places h.spot.carrier) refl
       (same_word (word_of (w.shared.places h.spot.carrier)) seen) refl
   turned-good (Settling x) now = settling-good x now (is_nil x.blocks) refl
-  turned-good (Abandoning x) now = (
-    placed-bare (Abandoning x) now x.number (pooled me x) (λ n. omega arith),
-    why (Abandoning x) now,
-  )
+  turned-good (Abandoning x) now =
+      let b = placed-bare (Abandoning x) now x.number (pooled me x) (λ n. omega arith) in
+      (record { core = b.core; own = b.own }, why (Abandoning x) now)
   turned-good (Sending x) now = (
     moved (Sending x) now x.number (Returning (owner_of x.number) x) (λ n. 0) (λ n. omega arith),
     ((refl, (its (Sending x) now).2), why (Sending x) now),

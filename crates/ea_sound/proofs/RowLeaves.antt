@@ -8,6 +8,7 @@ use Rattle.ea_model.specs.Content.{Content}
 use Rattle.ea_model.specs.Instance.{chosen_spot}
 use Rattle.ea_model.proofs.Options.{some_value}
 use Rattle.ea_laws.specs.Kinds.{is_shared}
+use Rattle.ea_machine.specs.declared.parts.Part.{Part}
 use Rattle.ea_machine.specs.declared.nodes.Node.{Node}
 use Rattle.ea_machine.specs.declared.owners.OwnerWord.{OwnerWord}
 use Rattle.ea_machine.specs.declared.owners.OwnerWord.TheVariants as word
@@ -62,16 +63,16 @@ use Rattle.ea_sound.proofs.Numbered.{scheduler-seat}
 use Rattle.ea_sound.proofs.RouteLeaves.{route-left}
 use Rattle.ea_sound.proofs.Totals.{total-part, total-put}
 
-searching-bare : (ask : Ask) (n looked : ℕ) → IsBare (Searching ask n looked)
-searching-bare ask n looked = record {
+searching-bare : (ask : Ask) (n : ℕ) (part : Part) → IsBare (Searching ask n part)
+searching-bare ask n part = record {
   names = λ f. refl;
   hands = λ b k. refl;
   links = λ u. refl;
   nodes = λ g i. refl;
 }
 
-fetching-bare : (ask : Ask) (n looked : ℕ) (seen : OwnerWord) → IsBare (Fetching ask n looked seen)
-fetching-bare ask n looked seen = record {
+fetching-bare : (ask : Ask) (n : ℕ) (part : Part) (seen : OwnerWord) → IsBare (Fetching ask n part seen)
+fetching-bare ask n part seen = record {
   names = λ f. refl;
   hands = λ b k. refl;
   links = λ u. refl;
@@ -237,18 +238,18 @@ module _ (e : Setup) (w : State) (me : ℕ) (is : is_scheduler e me ≡ true) (r
         in_operation w.shared (at Begin old) moved refl (λ z. cc),
       )
 
-  searching-left : (ask : Ask) (n looked : ℕ) → old.stage ≡ Searching ask n looked
-      → Left (effect me (Look n) w.shared) (Searching ask n looked) (answer me (Look n) w.shared)
+  searching-left : (ask : Ask) (n : ℕ) (part : Part) → old.stage ≡ Searching ask n part
+      → Left (effect me (Look n) w.shared) (Searching ask n part) (answer me (Look n) w.shared)
   unfolding effect answer
-  searching-left ask n looked now =
-      let stage = Searching ask n looked in
-      bare-left ask stage (searching-bare ask n looked) now (fits stage now).0
+  searching-left ask n part now =
+      let stage = Searching ask n part in
+      bare-left ask stage (searching-bare ask n part) now (fits stage now).0
 
   -- a try to fetch a carrier
-  module _ (ask : Ask) (n looked : ℕ) (seen : OwnerWord)
-      (now : old.stage ≡ Fetching ask n looked seen) where
+  module _ (ask : Ask) (n : ℕ) (part : Part) (seen : OwnerWord)
+      (now : old.stage ≡ Fetching ask n part seen) where
     abbrev here : Stage Content
-    here = Fetching ask n looked seen
+    here = Fetching ask n part seen
 
     sees : Fits e w me old here
     sees = fits here now
@@ -256,7 +257,7 @@ module _ (e : Setup) (w : State) (me : ℕ) (is : is_scheduler e me ≡ true) (r
     -- the word that was seen tells of room, and so does one that is the same
     pub seen-room : (i g : ℕ) → same_word (word.Pooled i g) seen ≡ true → ask.need ≤ g
     seen-room i g same =
-        let (j, room, is, enough) = sees.6 in
+        let (j, room, is, enough) = sees.4 in
         of_word j room enough (ap (same_word (word.Pooled i g)) (sym is) ∙ same) where
           of_word : (j room : ℕ) → ask.need ≤ room
               → same_word (word.Pooled i g) (word.Pooled j room) ≡ true → ask.need ≤ g
@@ -270,7 +271,7 @@ module _ (e : Setup) (w : State) (me : ℕ) (is : is_scheduler e me ≡ true) (r
         let stands : Standing e me old.instance = k.ranges.instances me is in
         let pooled = k.placed.pooled n i g x word in
         some_value (chosen_spot (employing old.instance x) ask.need)
-        (chosen-fetched old.instance ask.need x (sure-strategy e me old.instance stands sees.5)
+        (chosen-fetched old.instance ask.need x (sure-strategy e me old.instance stands sees.3)
         (ap is_shared pooled.1) (omega (arith, ask-least ask old.todo sees.0.of))
         (omega (arith, seen-room i g same, pooled.3)))
 
@@ -280,22 +281,22 @@ module _ (e : Setup) (w : State) (me : ℕ) (is : is_scheduler e me ≡ true) (r
     fetch-left true (Pooled i g x) word same =
         let a : Actor = record old { instance = employing old.instance x } in
         let s = at_place n (Employed me) w.shared in
-        let moved = fetched_carrier e w me is k here (fetching-bare ask n looked seen) now n i g x
+        let moved = fetched_carrier e w me is k here (fetching-bare ask n part seen) now n i g x
         word in (
           wanted s a ask sees.0 refl (moved.1 ask.name),
           fetched-chosen i g x word same,
           in_operation s (at Begin a) moved refl (λ z. cc),
         )
     fetch-left true Absent word same =
-        bare-left ask here (fetching-bare ask n looked seen) now sees.0
+        bare-left ask here (fetching-bare ask n part seen) now sees.0
     fetch-left true (Employed i) word same =
-        bare-left ask here (fetching-bare ask n looked seen) now sees.0
+        bare-left ask here (fetching-bare ask n part seen) now sees.0
     fetch-left true (Busy i) word same =
-        bare-left ask here (fetching-bare ask n looked seen) now sees.0
+        bare-left ask here (fetching-bare ask n part seen) now sees.0
     fetch-left true (Returning i x) word same =
-        bare-left ask here (fetching-bare ask n looked seen) now sees.0
+        bare-left ask here (fetching-bare ask n part seen) now sees.0
     fetch-left false p word same =
-        bare-left ask here (fetching-bare ask n looked seen) now sees.0
+        bare-left ask here (fetching-bare ask n part seen) now sees.0
 
     fetching-left : Left (effect me (FetchTry n seen) w.shared) here
         (answer me (FetchTry n seen) w.shared)
@@ -374,8 +375,8 @@ module _ (e : Setup) (w : State) (me : ℕ) (is : is_scheduler e me ≡ true) (r
   row-left Begin goes now = begin-left now old.next refl
   row-left (Routed route why gone) goes now = routed-left route why gone now
   row-left (Collecting c) goes now = collecting-left c now
-  row-left (Searching ask n looked) goes now = searching-left ask n looked now
-  row-left (Fetching ask n looked seen) goes now = fetching-left ask n looked seen now
+  row-left (Searching ask n part) goes now = searching-left ask n part now
+  row-left (Fetching ask n part seen) goes now = fetching-left ask n part seen now
   row-left (Creating ask p) goes now = creating-left ask p now
   row-left (Giving given to) goes now = giving-left given to now
   row-left (Taking name tries left) goes now = taking-left name tries left now

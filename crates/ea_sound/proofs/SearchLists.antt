@@ -1,60 +1,47 @@
 -- Searches as lists of what they saw: one goes on where another stands.
-use Rattle.std.proofs.Common.{◌≡◌, ℕ, ◌+◌, ◌-◌, ◌<◌, ◌≤◌, List, [], ◌∷◌, ◌++◌, Bool, true, false}
+use Rattle.std.proofs.Common.{◌≡◌, ℕ, ◌+◌, List, [], ◌∷◌, ◌++◌, true, false}
 use Rattle.std.proofs.Common.{refl, sym, ap, ◌∙◌, subst, arith}
 use Rattle.std.specs.Prelude.{◌==◌, count_by}
 use Rattle.std.proofs.lemmas.List.{append_assoc, append-nil}
 use Rattle.ea_machine.specs.declared.owners.OwnerWord.{OwnerWord}
 use Rattle.ea_machine.specs.Machine.{run_on, step}
 use Rattle.ea_machine.specs.Owners.{same_word}
-use Rattle.ea_machine.specs.Placements.{counted, counted_by, counts, fits}
-use Rattle.ea_sound.specs.Searches.{Missed, Searched, Shown, Sight, sight_if, sights}
+use Rattle.ea_machine.specs.Searches.{Search, fits, goes_on}
+use Rattle.ea_sound.specs.Searches.{Missed, Searched, Shown, Sight, past, sight_if, sights}
 use Rattle.ea_machine.specs.Setup.{Setup}
 use Rattle.ea_machine.specs.State.{State}
 use Rattle.ea_machine.specs.Sums.{one_if, sum_over}
 use Rattle.ea_sound.specs.Turns.{answered}
 use Rattle.ea_sound.proofs.Weights.{sum-append, sum_by-sum_over}
-use Rattle.ea_model.specs.declared.units.TheConstants.{SEARCH_LIMIT}
 
-pub searched-on : (need at looked mid sum last more : ℕ) (xs ys : List Sight)
-    → Searched need at looked mid sum xs → Searched need mid sum last more ys
-    → Searched need at looked last more (xs ++ ys)
-searched-on need at looked mid sum last more [] ys s t =
-    subst (λ (n : ℕ). Searched need n looked last more ys) (sym s.0)
-    (subst (λ (n : ℕ). Searched need mid n last more ys) (sym s.1) t)
-searched-on need at looked mid sum last more (Missed m v ∷ xs) ys s t = absurd s
-searched-on need at looked mid sum last more (Shown m v ∷ Missed p u ∷ xs) ys s t =
-    (s.0, s.1, s.2, s.3, searched-on need (at - 1) (counted v looked) mid sum last more xs ys s.4 t)
-searched-on need at looked mid sum last more (Shown m v ∷ Shown p u ∷ xs) ys s t = (
-  s.0,
-  s.1,
-  searched-on need (at - 1) (counted v looked) mid sum last more (Shown p u ∷ xs) ys s.2 t,
-)
-searched-on need at looked mid sum last more (Shown m v ∷ []) ys s t =
-    onto ys (searched-on need (at - 1) (counted v looked) mid sum last more [] ys s.2 t)
+pub searched-on : (g need : ℕ) (x mid last : Search) (xs ys : List Sight)
+    → Searched g need x mid xs → Searched g need mid last ys → Searched g need x last (xs ++ ys)
+searched-on g need x mid last [] ys s t =
+    subst (λ (y : Search). Searched g need y last ys) (sym s) t
+searched-on g need x mid last (Missed m v ∷ xs) ys s t = absurd s
+searched-on g need x mid last (Shown m v ∷ Missed p u ∷ xs) ys s t =
+    (s.0, s.1, s.2, s.3, searched-on g need (past g x v u) mid last xs ys s.4 t)
+searched-on g need x mid last (Shown m v ∷ Shown p u ∷ xs) ys s t =
+    (s.0, s.1, searched-on g need (past g x v v) mid last (Shown p u ∷ xs) ys s.2 t)
+searched-on g need x mid last (Shown m v ∷ []) ys s t =
+    onto ys (searched-on g need (past g x v v) mid last [] ys s.2 t)
   where
-    onto : (ys : List Sight) → Searched need (at - 1) (counted v looked) last more ys
-        → Searched need at looked last more (Shown m v ∷ ys)
+    onto : (ys : List Sight) → Searched g need (past g x v v) last ys
+        → Searched g need x last (Shown m v ∷ ys)
     onto [] t = (s.0, s.1, t)
     onto (Shown p u ∷ ys) t = (s.0, s.1, t)
     onto (Missed p u ∷ ys) t = absurd t
 
 -- one look that doesn't fit
-pub searched-look : (need at looked : ℕ) (v : OwnerWord) → 0 < at → looked < SEARCH_LIMIT
-    → fits need v ≡ false → Searched need at looked (at - 1) (counted v looked) (Shown at v ∷ [])
-searched-look need at looked v p l f = ((refl, p, l), f, (refl, refl))
+pub searched-look : (g need : ℕ) (x : Search) (v : OwnerWord) → goes_on x.part ≡ true
+    → fits need v ≡ false → Searched g need x (past g x v v) (Shown x.at v ∷ [])
+searched-look g need x v l f = ((refl, l), f, refl)
 
 -- one look that fits, and the lost try to fetch the carrier
-pub searched-lost : (need at looked : ℕ) (v u : OwnerWord) → 0 < at → looked < SEARCH_LIMIT
+pub searched-lost : (g need : ℕ) (x : Search) (v u : OwnerWord) → goes_on x.part ≡ true
     → fits need v ≡ true → same_word u v ≡ false
-    → Searched need at looked (at - 1) (counted v looked) (Shown at v ∷ Missed at u ∷ [])
-searched-lost need at looked v u p l f d = ((refl, p, l), f, refl, d, (refl, refl))
-
-pub counted-most : (looked limit : ℕ) (v : OwnerWord) → looked < limit → counted v looked ≤ limit
-counted-most looked limit v l = by (counts v)
-  where
-    by : (b : Bool) → counted_by b looked ≤ limit
-    by true = omega (arith, l)
-    by false = omega (arith, l)
+    → Searched g need x (past g x v u) (Shown x.at v ∷ Missed x.at u ∷ [])
+searched-lost g need x v u l f d = ((refl, l), f, refl, d, refl)
 
 pub sights-snoc : (e : Setup) (w : State) (s : ℕ) (js : List ℕ) (j : ℕ)
     → sights e w s (js ++ j ∷ []) ≡ sights e w s js

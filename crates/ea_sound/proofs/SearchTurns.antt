@@ -1,5 +1,5 @@
 -- What turns see of a search, step by step.
-use Rattle.std.proofs.Common.{◌≡◌, ◌≢◌, ◌⊎◌, ℕ, suc, ◌+◌, ◌-◌, ◌≤◌, List, [], ◌∷◌, ◌++◌, Bool, true}
+use Rattle.std.proofs.Common.{◌≡◌, ◌≢◌, ◌⊎◌, ℕ, suc, ◌+◌, ◌≤◌, List, [], ◌∷◌, ◌++◌, Bool, true}
 use Rattle.std.proofs.Common.{false, refl, sym, ap, ◌∙◌, inl, inr, arith}
 use Rattle.std.specs.Prelude.{◌==◌, count_by, length}
 use Rattle.std.proofs.lemmas.Bool.{cases_eq}
@@ -14,10 +14,10 @@ use Rattle.ea_machine.specs.declared.stages.Stage.TheVariants.{Ended, Ready}
 use Rattle.ea_machine.specs.Machine.{step}
 use Rattle.ea_machine.specs.Owners.{CarrierAt, Absent, Employed, Pooled, Busy, Returning, same_word}
 use Rattle.ea_machine.specs.Owners.{word_of}
-use Rattle.ea_machine.specs.Placements.{counted, fits}
+use Rattle.ea_machine.specs.Searches.{Search, fits}
 use Rattle.ea_machine.specs.Rows.{Answer, Done, Head, Rests, Passes, Saw, Won, Lost, Home, Got}
 use Rattle.ea_machine.specs.Rows.{BusyTry, FetchTry, Look}
-use Rattle.ea_sound.specs.Searches.{Missed, Searched, Shown, Sight, sight, sight_if, sights}
+use Rattle.ea_sound.specs.Searches.{Missed, Searched, Shown, Sight, past, sight, sight_if, sights}
 use Rattle.ea_machine.specs.Setup.{Setup}
 use Rattle.ea_machine.specs.Shared.{Shared}
 use Rattle.ea_machine.specs.State.{State}
@@ -28,24 +28,24 @@ use Rattle.ea_sound.proofs.Weights.{sum_by-sum_over}
 
 -- a step sees one thing at most
 pub sight-most : (st : Stage Content) (r : Answer) → length (sight st r) ≤ 1
-sight-most (Searching ask n looked) Done = omega arith
-sight-most (Searching ask n looked) (Head x) = omega arith
-sight-most (Searching ask n looked) Rests = omega arith
-sight-most (Searching ask n looked) (Passes x) = omega arith
-sight-most (Searching ask n looked) (Saw x) = omega arith
-sight-most (Searching ask n looked) (Won x) = omega arith
-sight-most (Searching ask n looked) (Lost x) = omega arith
-sight-most (Searching ask n looked) (Home x) = omega arith
-sight-most (Searching ask n looked) (Got x) = omega arith
-sight-most (Fetching ask n looked seen) Done = omega arith
-sight-most (Fetching ask n looked seen) (Head x) = omega arith
-sight-most (Fetching ask n looked seen) Rests = omega arith
-sight-most (Fetching ask n looked seen) (Passes x) = omega arith
-sight-most (Fetching ask n looked seen) (Saw x) = omega arith
-sight-most (Fetching ask n looked seen) (Won x) = omega arith
-sight-most (Fetching ask n looked seen) (Lost x) = omega arith
-sight-most (Fetching ask n looked seen) (Home x) = omega arith
-sight-most (Fetching ask n looked seen) (Got x) = omega arith
+sight-most (Searching ask n part) Done = omega arith
+sight-most (Searching ask n part) (Head x) = omega arith
+sight-most (Searching ask n part) Rests = omega arith
+sight-most (Searching ask n part) (Passes x) = omega arith
+sight-most (Searching ask n part) (Saw x) = omega arith
+sight-most (Searching ask n part) (Won x) = omega arith
+sight-most (Searching ask n part) (Lost x) = omega arith
+sight-most (Searching ask n part) (Home x) = omega arith
+sight-most (Searching ask n part) (Got x) = omega arith
+sight-most (Fetching ask n part seen) Done = omega arith
+sight-most (Fetching ask n part seen) (Head x) = omega arith
+sight-most (Fetching ask n part seen) Rests = omega arith
+sight-most (Fetching ask n part seen) (Passes x) = omega arith
+sight-most (Fetching ask n part seen) (Saw x) = omega arith
+sight-most (Fetching ask n part seen) (Won x) = omega arith
+sight-most (Fetching ask n part seen) (Lost x) = omega arith
+sight-most (Fetching ask n part seen) (Home x) = omega arith
+sight-most (Fetching ask n part seen) (Got x) = omega arith
 sight-most Begin z = omega arith
 sight-most (Routed r y g) z = omega arith
 sight-most (Collecting c) z = omega arith
@@ -170,24 +170,30 @@ lost-other need seen u p fit lost = by (same_word (word_of p) seen) p refl lost
     by true (Returning i x) s l = absurd (none (word.Returning i) s refl)
 
 -- after a look: the word doesn't fit, or the try that follows is lost
-pub record ThenMissed (need n looked last sum : ℕ) (rest : List Sight) : Type 0 where
-  pub number : ℕ
-  pub present : OwnerWord
-  pub later : List Sight
-  pub is : rest ≡ Missed number present ∷ later
-  pub saw : Searched need (n - 1) looked last sum later
+pub record ThenMissed (g need : ℕ) (x last : Search) (v : OwnerWord) (rest : List Sight) : Type 0
+  where
+    pub number : ℕ
+    pub present : OwnerWord
+    pub later : List Sight
+    pub is : rest ≡ Missed number present ∷ later
+    pub saw : Searched g need (past g x v present) last later
 
-abbrev pub Next : ℕ → ℕ → ℕ → ℕ → ℕ → OwnerWord → List Sight → Type 0
-Next need n looked last sum v rest =
-    ((fits need v ≡ false) × Searched need (n - 1) (counted v looked) last sum rest)
-    ⊎ ((fits need v ≡ true) × ThenMissed need n (counted v looked) last sum rest)
+abbrev pub Next : ℕ → ℕ → Search → Search → OwnerWord → List Sight → Type 0
+Next g need x last v rest =
+    ((fits need v ≡ false) × Searched g need (past g x v v) last rest)
+    ⊎ ((fits need v ≡ true) × ThenMissed g need x last v rest)
 
-pub next : (need n looked last sum m : ℕ) (v : OwnerWord) (rest : List Sight)
-    → Searched need n looked last sum (Shown m v ∷ rest) → Next need n looked last sum v rest
-next need n looked last sum m v [] h = inl (h.1, h.2)
-next need n looked last sum m v (Shown p u ∷ rest) h = inl (h.1, h.2)
-next need n looked last sum m v (Missed p u ∷ rest) h = inr
+pub next : (g need : ℕ) (x last : Search) (m : ℕ) (v : OwnerWord) (rest : List Sight)
+    → Searched g need x last (Shown m v ∷ rest) → Next g need x last v rest
+next g need x last m v [] h = inl (h.1, h.2)
+next g need x last m v (Shown p u ∷ rest) h = inl (h.1, h.2)
+next g need x last m v (Missed p u ∷ rest) h = inr
     (h.1, record { number = p; present = u; later = rest; is = refl; saw = h.4 })
+
+-- the first of two lists that are the same
+pub same-missed : (m p : ℕ) (v u : OwnerWord) (xs ys : List Sight)
+    → Missed m v ∷ xs ≡ Missed p u ∷ ys → v ≡ u
+same-missed m p v u xs ys q = cc
 
 pub tails : (x y : Sight) (xs ys : List Sight) → x ∷ xs ≡ y ∷ ys → xs ≡ ys
 tails x y xs ys q = cc

@@ -1,4 +1,5 @@
 -- Release routes are short, and leave alone what is no part of them.
+use Rattle.ea_machine.specs.Releases.{struck}
 use Rattle.std.proofs.Common.{◌≡◌, ℕ, ◌<◌, ◌≤◌, Bool, true, false, refl, ◌∙◌, arith}
 use Rattle.std.specs.Prelude.{Option, Some, None, ◌==◌}
 use Rattle.ea_model.specs.declared.carriers.Kind.{Kind}
@@ -117,7 +118,8 @@ module _ (e : Setup) (me : ℕ) where
 
   settled-short : (b : Bool) (x : Content) (g : Gone) (a : Actor)
       → Short 3 a (settled e me b x g a)
-  settled-short true x g a = leaving-short (owner_of x.number == me) (migration e) x g a
+  settled-short true x g a =
+      leaving-short (owner_of x.number == me) (migration e) x g (struck x.number a)
   settled-short false x g a = (omega arith, same a)
 
   looked_at-short : (h : Named) (g : Gone) (a : Actor) (r : Answer)

@@ -38,13 +38,13 @@ use Rattle.ea_sound.proofs.SoundOwners.{sound-own}
 
 module _ (e : Setup) (w : State) (k : Kept e w) where
   -- where a carrier is, by its word or by its owner
-  place-on : (c : ℕ) → migration e ≡ true → place_of e w c ≡ w.shared.places c
+  pub place-on : (c : ℕ) → migration e ≡ true → place_of e w c ≡ w.shared.places c
   place-on c on = ap (λ b. place_in e w b c) on
 
   abbrev is_owned : ℕ → Bool
   is_owned c = is_used c (w.actors (owner_of c)).instance.own
 
-  place-off : (c : ℕ) → migration e ≡ false
+  pub place-off : (c : ℕ) → migration e ≡ false
       → place_of e w c ≡ owned_place e w (is_owned c) (owner_of c)
   place-off c off = ap (λ b. place_in e w b c) off
 
@@ -176,8 +176,8 @@ module _ (e : Setup) (w : State) (i : ℕ) where
   hand-stays a Begin fits belongs = tt
   hand-stays a (Routed r why gone) fits belongs = route-stays r fits.0 belongs
   hand-stays a (Collecting number) fits belongs = tt
-  hand-stays a (Searching ask n looked) fits belongs = tt
-  hand-stays a (Fetching ask n looked seen) fits belongs = tt
+  hand-stays a (Searching ask n part) fits belongs = tt
+  hand-stays a (Fetching ask n part seen) fits belongs = tt
   hand-stays a (Creating ask p) fits belongs = tt
   hand-stays a (Giving given to) fits belongs = tt
   hand-stays a (Taking name tries left) fits belongs = tt

@@ -1,4 +1,6 @@
 -- A state that keeps the rule is sound.
+use Rattle.ea_sound.proofs.SoundLists.{sound-lists}
+use Rattle.ea_sound.specs.Listed.{KeepsLists}
 use Rattle.std.proofs.Common.{ℕ, inl, inr}
 use Rattle.std.proofs.lemmas.Bool.{cases_Bool}
 use Rattle.ea_model.specs.Trace.{IsScheduler}
@@ -30,8 +32,8 @@ module _ (e : Setup) (w : State) (rule : Rule e w) where
     | inr none ↦ rule.present.nobody i none
   ]
 
-  pub rule-Sound : Sound e w
-  rule-Sound = record {
+  pub rule-Sound : KeepsLists e w → Sound e w
+  rule-Sound h = record {
     ranges = sound-ranges e w rule.kept;
     carriers = sound-carriers e w rule;
     names = sound-names e w rule;
@@ -39,6 +41,7 @@ module _ (e : Setup) (w : State) (rule : Rule e w) where
     sums = sound-sums e w rule;
     returning = sound-returning e w rule;
     unlinked = sound-unlinked e w rule;
+    lists = sound-lists e w rule h;
     instances = instance-of;
     nobody = nobody;
   }

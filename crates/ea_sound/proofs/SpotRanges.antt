@@ -113,8 +113,8 @@ hand-fine : (s : Stage Content) → InHand IsLaidOut IsLaidOutAsKind s → hand_
 hand-fine Begin laid = refl
 hand-fine (Routed route why gone) laid = route-fine route laid
 hand-fine (Collecting number) laid = refl
-hand-fine (Searching ask at looked) laid = refl
-hand-fine (Fetching ask at looked seen) laid = refl
+hand-fine (Searching ask at part) laid = refl
+hand-fine (Fetching ask at part seen) laid = refl
 hand-fine (Creating ask p) laid = refl
 hand-fine (Giving given to) laid = refl
 hand-fine (Taking name tries left) laid = refl

@@ -21,14 +21,14 @@ use Rattle.ea_sound.proofs.Working.{HasNoHand}
 
 -- nothing is in the hand
 none-in-hand : (me : ℕ) (st : Stage Content) → HasNoHand st → SameHand me Begin st
-none-in-hand me (Searching ask n looked) h = record {
+none-in-hand me (Searching ask n part) h = record {
   content = λ f g. refl;
   holds = λ B E q. q;
   name = λ f. refl;
   link = λ u. refl;
   node = λ g. refl;
 }
-none-in-hand me (Fetching ask n looked seen) h = record {
+none-in-hand me (Fetching ask n part seen) h = record {
   content = λ f g. refl;
   holds = λ B E q. q;
   name = λ f. refl;

@@ -1,4 +1,6 @@
 -- A route leaves the walk of its scheduler as it is, and is steady.
+use Rattle.ea_machine.specs.Releases.{struck}
+use Rattle.ea_machine.specs.Searches.{passed}
 use Rattle.std.proofs.Common.{◌≡◌, ℕ, Bool, true, false, List, ◌∷◌, refl, sym, ap, ◌∙◌, inl, inr}
 use Rattle.std.specs.Prelude.{Option, Some, None, ◌==◌}
 use Rattle.std.proofs.lemmas.Bool.{cases_Bool, eqb-true, true≢false}
@@ -154,7 +156,8 @@ module _ (e : Setup) (me : ℕ) where
 
   settled-goes : (empty : Bool) (x : Content) (g : Gone) (a : Actor)
       → Goes a.next a.passed (settled e me empty x g a)
-  settled-goes true x g a = leaving-goes (owner_of x.number == me) (migration e) x g a
+  settled-goes true x g a =
+      leaving-goes (owner_of x.number == me) (migration e) x g (struck x.number a)
   settled-goes false x g a = (refl, refl, tt)
 
   -- a route once its row is answered

@@ -1,7 +1,9 @@
 -- The local work of a scheduler leaves it steady.
-use Rattle.std.proofs.Common.{◌≡◌, ℕ, zero, suc, ◌-◌, Bool, true, false, List, [], ◌∷◌, refl, sym}
+use Rattle.ea_machine.specs.Placements.{fetches, search_on}
+use Rattle.ea_machine.specs.Searches.{Search, goes_on, looked_in, new_search, passed, with_counted}
+use Rattle.std.proofs.Common.{◌≡◌, ℕ, zero, suc, Bool, true, false, List, [], ◌∷◌, refl, sym}
 use Rattle.std.proofs.Common.{ap, ◌∙◌}
-use Rattle.std.specs.Prelude.{Option, Some, None, Result, Ok, Err, ◌&&◌, nat_lt}
+use Rattle.std.specs.Prelude.{Option, Some, None, Result, Ok, Err}
 use Rattle.std.proofs.lemmas.Bool.{true≢false}
 use Rattle.ea_model.specs.declared.carriers.CarrierPlan.{CarrierPlan}
 use Rattle.ea_model.specs.declared.carriers.Place.{Place}
@@ -12,11 +14,11 @@ use Rattle.ea_model.specs.declared.operations.Op.TheVariants as op
 use Rattle.ea_model.specs.declared.reallocation.Decision.{Decision}
 use Rattle.ea_model.specs.declared.reallocation.Decision.TheVariants.{Stay, ShrinkHere, GrowHere}
 use Rattle.ea_model.specs.declared.reallocation.Decision.TheVariants.{ShrinkCarrier, Move}
-use Rattle.ea_model.specs.declared.units.TheConstants.{SEARCH_LIMIT}
 use Rattle.ea_model.specs.Instance.{chosen_spot, creating, creating_single, decision_at, is_alone}
 use Rattle.ea_model.specs.Instance.{placing_at, plan}
 use Rattle.ea_model.specs.Units.{need_of}
 use Rattle.ea_model.specs.Content.{Content}
+use Rattle.ea_machine.specs.declared.parts.Part.{Part}
 use Rattle.ea_machine.specs.declared.nodes.Node.{Node}
 use Rattle.ea_machine.specs.declared.nodes.Node.TheVariants.{Block, Carrier}
 use Rattle.ea_machine.specs.declared.owners.OwnerWord.{OwnerWord}
@@ -32,14 +34,14 @@ use Rattle.ea_machine.specs.declared.tasks.Why.{Why}
 use Rattle.ea_machine.specs.declared.tasks.Why.TheVariants.{Walk, For}
 use Rattle.ea_machine.specs.declared.tasks.Gone.{Gone}
 use Rattle.ea_machine.specs.declared.asks.Ask.{Ask}
-use Rattle.ea_model.specs.Employment.{employing}
 use Rattle.ea_machine.specs.Machine.{after, after_row, onward_at}
 use Rattle.ea_machine.specs.Nodes.{named_at}
 use Rattle.ea_machine.specs.declared.nodes.Named.{Named}
 use Rattle.ea_machine.specs.Operations.{freed, gave, giving, itself, took, took_by}
-use Rattle.ea_machine.specs.Placements.{chosen_by, counted, created_by, fetched, fits, holding}
+use Rattle.ea_machine.specs.Placements.{chosen_by, created_by, fetched, holding}
+use Rattle.ea_machine.specs.Searches.{fits}
 use Rattle.ea_machine.specs.Placements.{making, new_carrier, new_carrier_by, placed_by}
-use Rattle.ea_machine.specs.Placements.{placed_in_choice, saw_by, search_at, search_if, searched}
+use Rattle.ea_machine.specs.Placements.{placed_in_choice, saw_by, search_if, searched}
 use Rattle.ea_machine.specs.Placements.{searched_by, seek, seek_by, stands}
 use Rattle.ea_machine.specs.Reallocations.{reallocated, reallocated_by}
 use Rattle.ea_machine.specs.Releases.{route_of, turned}
@@ -107,19 +109,19 @@ module _ (e : Setup) (me : ℕ) where
       → Leaves a.next a.passed (new_carrier e me ask looked a)
   new-leaves ask looked a = new_by-leaves ask looked a (plan a.instance ask.need)
 
-  searched_by-leaves : (ask : Ask) (at looked : ℕ) (a : Actor) (more : Bool)
-      → Leaves a.next a.passed (searched_by e me ask at looked a more)
-  searched_by-leaves ask at looked a true = (refl, refl, tt)
-  searched_by-leaves ask at looked a false = new-leaves ask looked a
+  searched_by-leaves : (ask : Ask) (x : Search) (a : Actor) (more : Bool)
+      → Leaves a.next a.passed (searched_by e me ask x a more)
+  searched_by-leaves ask x a true = (refl, refl, tt)
+  searched_by-leaves ask x a false = new-leaves ask (looked_in x.part) a
 
-  search-leaves : (ask : Ask) (at looked : ℕ) (a : Actor)
-      → Leaves a.next a.passed (search_at e me ask at looked a)
-  search-leaves ask at looked a =
-      searched_by-leaves ask at looked a (nat_lt 0 at && nat_lt looked SEARCH_LIMIT)
+  search-leaves : (ask : Ask) (x : Search) (a : Actor)
+      → Leaves a.next a.passed (search_on e me ask x a)
+  search-leaves ask x a =
+      searched_by-leaves ask x (record a { lists = x.lists }) (goes_on x.part)
 
   search_if-leaves : (ask : Ask) (a : Actor) (on : Bool)
       → Leaves a.next a.passed (search_if e me ask a on)
-  search_if-leaves ask a true = search-leaves ask (greatest_number e) 0 a
+  search_if-leaves ask a true = search-leaves ask (new_search (greatest_number e) a.lists) a
   search_if-leaves ask a false = new-leaves ask 0 a
 
   chosen-leaves : (ask : Ask) (a : Actor) (o : Option Spot)
@@ -135,36 +137,38 @@ module _ (e : Setup) (me : ℕ) where
   seek-leaves : (ask : Ask) (a : Actor) → Leaves a.next a.passed (seek e me ask a)
   seek-leaves ask a = seek_by-leaves ask a (is_alone a.instance ask.need)
 
-  saw-leaves : (ask : Ask) (at looked : ℕ) (a : Actor) (w : OwnerWord) (fit : Bool) → IsShown e w
-      → Leaves a.next a.passed (saw_by e me ask at looked a w fit)
-  saw-leaves ask at looked a w true shown = (refl, refl, shown)
-  saw-leaves ask at looked a w false shown = search-leaves ask (at - 1) looked a
+  saw-leaves : (ask : Ask) (at : ℕ) (part : Part) (a : Actor) (w : OwnerWord) (fit : Bool) → IsShown e w
+      → Leaves a.next a.passed (saw_by e me ask at part a w fit)
+  saw-leaves ask at part a w true shown = (refl, refl, shown)
+  saw-leaves ask at part a w false shown =
+      search-leaves ask (passed (greatest_number e) a.lists at part w) a
 
-  searched-leaves : (ask : Ask) (at looked : ℕ) (a : Actor) (r : Answer) → TellsShown e r
-      → Leaves a.next a.passed (searched e me ask at looked a r)
-  searched-leaves ask at looked a (Saw w) shown =
-      saw-leaves ask at (counted w looked) a w (fits ask.need w) shown
-  searched-leaves ask at looked a Done shown = (refl, refl, tt)
-  searched-leaves ask at looked a (Head n) shown = (refl, refl, tt)
-  searched-leaves ask at looked a Rests shown = (refl, refl, tt)
-  searched-leaves ask at looked a (Passes n) shown = (refl, refl, tt)
-  searched-leaves ask at looked a (Won x) shown = (refl, refl, tt)
-  searched-leaves ask at looked a (Lost w) shown = (refl, refl, tt)
-  searched-leaves ask at looked a (Home x) shown = (refl, refl, tt)
-  searched-leaves ask at looked a (Got o) shown = (refl, refl, tt)
+  searched-leaves : (ask : Ask) (at : ℕ) (part : Part) (a : Actor) (r : Answer) → TellsShown e r
+      → Leaves a.next a.passed (searched e me ask at part a r)
+  searched-leaves ask at part a (Saw w) shown =
+      saw-leaves ask at (with_counted w part) a w (fits ask.need w) shown
+  searched-leaves ask at part a Done shown = (refl, refl, tt)
+  searched-leaves ask at part a (Head n) shown = (refl, refl, tt)
+  searched-leaves ask at part a Rests shown = (refl, refl, tt)
+  searched-leaves ask at part a (Passes n) shown = (refl, refl, tt)
+  searched-leaves ask at part a (Won x) shown = (refl, refl, tt)
+  searched-leaves ask at part a (Lost w) shown = (refl, refl, tt)
+  searched-leaves ask at part a (Home x) shown = (refl, refl, tt)
+  searched-leaves ask at part a (Got o) shown = (refl, refl, tt)
 
-  fetched-leaves : (ask : Ask) (at looked : ℕ) (a : Actor) (r : Answer)
-      → Leaves a.next a.passed (fetched e me ask at looked a r)
-  fetched-leaves ask at looked a (Won x) =
-      choice-leaves ask (record a { instance = employing a.instance x })
-  fetched-leaves ask at looked a (Lost w) = search-leaves ask (at - 1) looked a
-  fetched-leaves ask at looked a Done = (refl, refl, tt)
-  fetched-leaves ask at looked a (Head n) = (refl, refl, tt)
-  fetched-leaves ask at looked a Rests = (refl, refl, tt)
-  fetched-leaves ask at looked a (Passes n) = (refl, refl, tt)
-  fetched-leaves ask at looked a (Saw w) = (refl, refl, tt)
-  fetched-leaves ask at looked a (Home x) = (refl, refl, tt)
-  fetched-leaves ask at looked a (Got o) = (refl, refl, tt)
+  fetched-leaves : (ask : Ask) (at : ℕ) (part : Part) (a : Actor) (r : Answer)
+      → Leaves a.next a.passed (fetched e me ask at part a r)
+  fetched-leaves ask at part a (Won x) =
+      choice-leaves ask (fetches at x a)
+  fetched-leaves ask at part a (Lost w) =
+      search-leaves ask (passed (greatest_number e) a.lists at part w) a
+  fetched-leaves ask at part a Done = (refl, refl, tt)
+  fetched-leaves ask at part a (Head n) = (refl, refl, tt)
+  fetched-leaves ask at part a Rests = (refl, refl, tt)
+  fetched-leaves ask at part a (Passes n) = (refl, refl, tt)
+  fetched-leaves ask at part a (Saw w) = (refl, refl, tt)
+  fetched-leaves ask at part a (Home x) = (refl, refl, tt)
+  fetched-leaves ask at part a (Got o) = (refl, refl, tt)
 
   took_by-leaves : (name tries left : ℕ) (a : Actor) (o : Option Spot)
       → Leaves a.next a.passed (took_by name tries left a o)
@@ -301,10 +305,10 @@ module _ (e : Setup) (me : ℕ) where
         (s.walk (ap works_off q))
         (carried-leaves (For task) task t.gone a.next a.passed t.actor t.route n p next)
     row-steady (Collecting number) q s = worked-steady a.passed _
-    row-steady (Searching ask at looked) q s = leaves-steady a _ (s.walk (ap works_off q))
-        (searched-leaves ask at looked a r shown)
-    row-steady (Fetching ask at looked seen) q s = leaves-steady a _ (s.walk (ap works_off q))
-        (fetched-leaves ask at looked a r)
+    row-steady (Searching ask at part) q s = leaves-steady a _ (s.walk (ap works_off q))
+        (searched-leaves ask at part a r shown)
+    row-steady (Fetching ask at part seen) q s = leaves-steady a _ (s.walk (ap works_off q))
+        (fetched-leaves ask at part a r)
     row-steady (Creating ask p) q s = leaves-steady a _ (s.walk (ap works_off q))
         (created_by-leaves ask p a p.single)
     row-steady (Giving given to) q s =
@@ -319,8 +323,8 @@ module _ (e : Setup) (me : ℕ) where
   onward-steady a Begin q s = s
   onward-steady a (Routed route why gone) q s = s
   onward-steady a (Collecting number) q s = s
-  onward-steady a (Searching ask at looked) q s = s
-  onward-steady a (Fetching ask at looked seen) q s = s
+  onward-steady a (Searching ask at part) q s = s
+  onward-steady a (Fetching ask at part seen) q s = s
   onward-steady a (Creating ask p) q s = s
   onward-steady a (Giving given to) q s = s
   onward-steady a (Taking name tries left) q s = s

@@ -27,10 +27,10 @@ module _ (e : Setup) (w : State) (me : ℕ) (k : Kept e w) (P : State → Type 0
   step_at-holds is (Routed route why gone) now =
       stepped-holds is (Routed route why gone) (λ z. cc) now
   step_at-holds is (Collecting c) now = stepped-holds is (Collecting c) (λ z. cc) now
-  step_at-holds is (Searching ask n looked) now =
-      stepped-holds is (Searching ask n looked) (λ z. cc) now
-  step_at-holds is (Fetching ask n looked seen) now =
-      stepped-holds is (Fetching ask n looked seen) (λ z. cc) now
+  step_at-holds is (Searching ask n part) now =
+      stepped-holds is (Searching ask n part) (λ z. cc) now
+  step_at-holds is (Fetching ask n part seen) now =
+      stepped-holds is (Fetching ask n part seen) (λ z. cc) now
   step_at-holds is (Creating ask p) now = stepped-holds is (Creating ask p) (λ z. cc) now
   step_at-holds is (Giving given to) now = stepped-holds is (Giving given to) (λ z. cc) now
   step_at-holds is (Taking name tries left) now =

@@ -1,5 +1,10 @@
 -- What a row leaves, the local work after it keeps.
-use Rattle.std.proofs.Common.{◌≡◌, ◌≢◌, ◌⊎◌, ℕ, zero, suc, ◌-◌, List, [], ◌∷◌, true, refl, sym, ap}
+use Rattle.ea_machine.specs.Lists.{unlisted}
+use Rattle.ea_machine.specs.Placements.{fetches}
+use Rattle.ea_machine.specs.Releases.{struck}
+use Rattle.ea_machine.specs.Searches.{passed, with_counted}
+use Rattle.ea_machine.specs.Setup.{greatest_number}
+use Rattle.std.proofs.Common.{◌≡◌, ◌≢◌, ◌⊎◌, ℕ, zero, suc, List, [], ◌∷◌, true, refl, sym, ap}
 use Rattle.std.proofs.Common.{◌∙◌, subst, inl, inr, arith}
 use Rattle.std.specs.Prelude.{Some, None, ◌==◌}
 use Rattle.ea_model.specs.declared.entries.Entry.TheVariants as entry
@@ -7,6 +12,7 @@ use Rattle.ea_model.specs.declared.operations.Op.{Op}
 use Rattle.ea_model.specs.declared.operations.Op.TheVariants as op
 use Rattle.ea_model.specs.Trace.{makes}
 use Rattle.ea_model.specs.Content.{Content}
+use Rattle.ea_machine.specs.declared.parts.Part.{Part}
 use Rattle.ea_machine.specs.declared.owners.OwnerWord.{OwnerWord}
 use Rattle.ea_machine.specs.declared.stages.Stage.{Stage}
 use Rattle.ea_machine.specs.declared.stages.Stage.TheVariants.{Begin, Routed, Collecting, Searching}
@@ -19,7 +25,8 @@ use Rattle.ea_model.specs.Employment.{employing}
 use Rattle.ea_machine.specs.Machine.{after, after_row, onward_at}
 use Rattle.ea_sound.specs.Names.{made_in}
 use Rattle.ea_machine.specs.Operations.{took}
-use Rattle.ea_machine.specs.Placements.{counted, fetched, fits, holding, searched}
+use Rattle.ea_machine.specs.Placements.{fetched, holding, searched}
+use Rattle.ea_machine.specs.Searches.{fits}
 use Rattle.ea_machine.specs.Releases.{disowned, turned}
 use Rattle.ea_machine.specs.Rows.{Answer, Done, Head, Rests, Passes, Saw, Won, Lost, Home, Got}
 use Rattle.ea_machine.specs.Setup.{Setup}
@@ -65,33 +72,34 @@ module _ (e : Setup) (w : State) (s : Shared) (me : ℕ)
   begun-holds a (Home x) l = absurd l
   begun-holds a (Got x) l = absurd l
 
-  searched-holds : (ask : Ask) (n looked : ℕ) (a : Actor) (r : Answer)
-      → LeavesAt a (Searching ask n looked) r → G (searched e me ask n looked a r)
-  searched-holds ask n looked a (Saw x) l =
-      saw-holds e w s me c o ask n (counted x looked) a x (fits ask.need x) l.0 l.1
-  searched-holds ask n looked a Done l = absurd l
-  searched-holds ask n looked a (Head x) l = absurd l
-  searched-holds ask n looked a Rests l = absurd l
-  searched-holds ask n looked a (Passes x) l = absurd l
-  searched-holds ask n looked a (Won x) l = absurd l
-  searched-holds ask n looked a (Lost x) l = absurd l
-  searched-holds ask n looked a (Home x) l = absurd l
-  searched-holds ask n looked a (Got x) l = absurd l
+  searched-holds : (ask : Ask) (n : ℕ) (part : Part) (a : Actor) (r : Answer)
+      → LeavesAt a (Searching ask n part) r → G (searched e me ask n part a r)
+  searched-holds ask n part a (Saw x) l =
+      saw-holds e w s me c o ask n (with_counted x part) a x (fits ask.need x) l.0 l.1
+  searched-holds ask n part a Done l = absurd l
+  searched-holds ask n part a (Head x) l = absurd l
+  searched-holds ask n part a Rests l = absurd l
+  searched-holds ask n part a (Passes x) l = absurd l
+  searched-holds ask n part a (Won x) l = absurd l
+  searched-holds ask n part a (Lost x) l = absurd l
+  searched-holds ask n part a (Home x) l = absurd l
+  searched-holds ask n part a (Got x) l = absurd l
 
-  fetched-holds : (ask : Ask) (n looked : ℕ) (seen : OwnerWord) (a : Actor) (r : Answer)
-      → LeavesAt a (Fetching ask n looked seen) r → G (fetched e me ask n looked a r)
-  fetched-holds ask n looked seen a (Won x) l =
-      placed-holds e w s me c o ask (record a { instance = employing a.instance x }) l.1.0 l.0 l.1.1
-      l.2
-  fetched-holds ask n looked seen a (Lost x) l = search-holds e w s me c o ask (n - 1) looked a l.0
-      l.1
-  fetched-holds ask n looked seen a Done l = absurd l
-  fetched-holds ask n looked seen a (Head x) l = absurd l
-  fetched-holds ask n looked seen a Rests l = absurd l
-  fetched-holds ask n looked seen a (Passes x) l = absurd l
-  fetched-holds ask n looked seen a (Saw x) l = absurd l
-  fetched-holds ask n looked seen a (Home x) l = absurd l
-  fetched-holds ask n looked seen a (Got x) l = absurd l
+  fetched-holds : (ask : Ask) (n : ℕ) (part : Part) (seen : OwnerWord) (a : Actor) (r : Answer)
+      → LeavesAt a (Fetching ask n part seen) r → G (fetched e me ask n part a r)
+  fetched-holds ask n part seen a (Won x) l =
+      let b : Actor = record a { instance = employing a.instance x } in
+      placed-holds e w s me c o ask (fetches n x a) l.1.0 (o.listed ask (unlisted n a.lists) b l.0)
+      l.1.1 (c.lists (unlisted n a.lists) (at Begin b) (λ q. absurd cc) l.2)
+  fetched-holds ask n part seen a (Lost x) l =
+      search-holds e w s me c o ask (passed (greatest_number e) a.lists n part x) a l.0 l.1
+  fetched-holds ask n part seen a Done l = absurd l
+  fetched-holds ask n part seen a (Head x) l = absurd l
+  fetched-holds ask n part seen a Rests l = absurd l
+  fetched-holds ask n part seen a (Passes x) l = absurd l
+  fetched-holds ask n part seen a (Saw x) l = absurd l
+  fetched-holds ask n part seen a (Home x) l = absurd l
+  fetched-holds ask n part seen a (Got x) l = absurd l
 
   took-holds : (n tries left : ℕ) (a : Actor) (r : Answer) → LeavesAt a (Taking n tries left) r
       → G (took n tries left a r)
@@ -122,9 +130,10 @@ module _ (e : Setup) (w : State) (s : Shared) (me : ℕ)
       ((turned-holds e w s me G c z (For task) g a r l).0, refl)
       (λ h b q k. c.log (entry_of task h) b k))
   after_row-holds a r (Collecting d) l =
-      inl (worked-holds e w s me V v walk a.passed (disowned d a) l)
-  after_row-holds a r (Searching ask n looked) l = inr (searched-holds ask n looked a r l)
-  after_row-holds a r (Fetching ask n looked seen) l = inr (fetched-holds ask n looked seen a r l)
+      inl (worked-holds e w s me V v walk a.passed (disowned d (struck d a))
+      (v.lists (unlisted d a.lists) (at Begin (disowned d a)) (λ q. absurd cc) l))
+  after_row-holds a r (Searching ask n part) l = inr (searched-holds ask n part a r l)
+  after_row-holds a r (Fetching ask n part seen) l = inr (fetched-holds ask n part seen a r l)
   after_row-holds a r (Creating ask p) l = inr (created-holds e w s me c o ask p a l.0 l.1 l.2)
   after_row-holds a r (Giving h to) l = inr (c.log (entry.Give h.name to) (let_go h.name a) l)
   after_row-holds a r (Taking n tries left) l = inr (took-holds n tries left a r l)

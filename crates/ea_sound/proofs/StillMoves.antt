@@ -1,4 +1,5 @@
 -- Moves of a scheduler that change no carrier: its stage, its names, its nodes or its log.
+use Rattle.ea_machine.specs.Lists.{Lists}
 use Rattle.std.proofs.Common.{◌≡◌, ◌≢◌, ℕ, ◌≤◌, List, [], ◌∷◌, true, refl, sym, ap, ◌∙◌, subst}
 use Rattle.std.proofs.Common.{arith}
 use Rattle.std.proofs.lemmas.Bool.{true≢false}
@@ -254,6 +255,16 @@ module _ (e : Setup) (w : State) (s : Shared) (me : ℕ) (is : is_scheduler e me
       links = λ u. refl;
       nodes = λ g. refl;
     }) (todo-later a.todo) (λ q. absurd cc)
+
+    pub lists-goes : (l : Lists) (a : Actor) → a.stage ≢ Ready → P a → P (record a { lists = l })
+    lists-goes l a busy = goes-still a (record a { lists = l }) (record {
+      instance = refl;
+      hand = λ f g. refl;
+      in_hand = λ B E q. q;
+      names = λ f. refl;
+      links = λ u. refl;
+      nodes = λ g. refl;
+    }) (λ n. omega arith) busy
 
     pub hand-goes : (h : Named) (y : Why) (g : Gone) (a : Actor) → named_at h.name a.held ≡ Some h
         → P (at Begin a) → P (at (Routed (Looking h) y g) (let_go h.name a))

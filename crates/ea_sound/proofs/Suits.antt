@@ -1,12 +1,14 @@
 -- What the local work of a scheduler keeps by itself, and where it leaves the scheduler; the state
 -- that it comes to gives the rest.
-use Rattle.std.specs.Prelude.{◌≡◌, ◌≢◌, ◌⊎◌, ℕ, ◌+◌, ◌<◌, ◌≤◌, true, false, List, [], ◌∷◌, ◌++◌}
+use Rattle.ea_machine.specs.Searches.{goes_on}
+use Rattle.ea_sound.specs.Listed.{LooksAt}
+use Rattle.ea_sound.specs.Present.{HasLeft}
+use Rattle.std.specs.Prelude.{◌≡◌, ◌≢◌, ◌⊎◌, ℕ, ◌+◌, ◌≤◌, true, false, List, [], ◌∷◌, ◌++◌}
 use Rattle.std.specs.Prelude.{Option, None, Some, Ok, AllPairs}
 use Rattle.std.specs.List.{AllZip}
 use Rattle.ea_model.specs.declared.entries.Entry.{Entry}
 use Rattle.ea_model.specs.declared.operations.Op.{Op}
 use Rattle.ea_model.specs.declared.operations.Op.TheVariants as op
-use Rattle.ea_model.specs.declared.units.TheConstants.{SEARCH_LIMIT}
 use Rattle.ea_model.specs.Instance.{Instance, chosen_spot, plan, owner_of}
 use Rattle.ea_model.specs.Keyed.{IsBelow}
 use Rattle.ea_laws.specs.Kept.{Stands}
@@ -31,7 +33,7 @@ use Rattle.ea_sound.specs.Names.{made_in, unplaced, unplaced_by}
 use Rattle.ea_machine.specs.Nodes.{first_node, named_at, name_of}
 use Rattle.ea_machine.specs.declared.nodes.Named.{Named}
 use Rattle.ea_machine.specs.Releases.{Turned}
-use Rattle.ea_machine.specs.Setup.{Setup, greatest_number, is_scheduler, migration}
+use Rattle.ea_machine.specs.Setup.{Setup, is_scheduler, migration}
 use Rattle.ea_machine.specs.Shared.{Shared}
 use Rattle.ea_sound.specs.Blocks.{EmploysMain}
 use Rattle.ea_sound.specs.Present.{FitsRoute, OfAsk, OfWhy, OldHeld}
@@ -63,11 +65,13 @@ module _ (e : Setup) (s : Shared) (me : ℕ) where
   Suits R a Begin = Unit {0}
   Suits R a (Routed route why gone) = SuitsRoute route × OfWhy why a.todo
   Suits R a (Collecting number) = Unit {0}
-  Suits R a (Searching ask at looked) = Wants a ask × (0 < at) × (at ≤ greatest_number e)
-      × (looked < SEARCH_LIMIT) × (chosen_spot a.instance ask.need ≡ None) × (migration e ≡ true)
-  Suits R a (Fetching ask at looked seen) = Wants a ask × (0 < at) × (at ≤ greatest_number e)
-      × (looked ≤ SEARCH_LIMIT) × (chosen_spot a.instance ask.need ≡ None) × (migration e ≡ true)
+  Suits R a (Searching ask at part) = Wants a ask × HasLeft e part × (goes_on part ≡ true)
+      × (chosen_spot a.instance ask.need ≡ None) × (migration e ≡ true)
+      × LooksAt e a.lists at part
+  Suits R a (Fetching ask at part seen) = Wants a ask × HasLeft e part
+      × (chosen_spot a.instance ask.need ≡ None) × (migration e ≡ true)
       × ((i largest : ℕ) × (seen ≡ word.Pooled i largest) × (ask.need ≤ largest))
+      × LooksAt e a.lists at part
   Suits R a (Creating ask p) = Wants a ask × (plan a.instance ask.need ≡ Ok p)
       × (migration e ≡ true) × ((p.single ≡ true) ⊎ (chosen_spot a.instance ask.need ≡ None))
   Suits R a (Giving given to) = (named_at given.name a.held ≡ Some given)

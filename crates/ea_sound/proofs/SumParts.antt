@@ -55,8 +55,8 @@ module _ (f g h t : Content → ℕ) where
   hand-parts Begin parts = refl
   hand-parts (Routed r why gone) parts = route-parts r parts
   hand-parts (Collecting number) parts = refl
-  hand-parts (Searching ask at looked) parts = refl
-  hand-parts (Fetching ask at looked seen) parts = refl
+  hand-parts (Searching ask at part) parts = refl
+  hand-parts (Fetching ask at part seen) parts = refl
   hand-parts (Creating ask p) parts = refl
   hand-parts (Giving given to) parts = refl
   hand-parts (Taking name tries left) parts = refl

@@ -1,8 +1,11 @@
 -- No row that a scheduler does lets it take its queue more often, and where it takes the queue it
 -- does so less often from then on.
-use Rattle.std.proofs.Common.{◌≡◌, ◌≢◌, ℕ, zero, suc, ◌-◌, ◌<◌, ◌≤◌, List, [], ◌∷◌, Bool, true}
+use Rattle.ea_machine.specs.Placements.{fetches, search_on}
+use Rattle.ea_machine.specs.Releases.{struck}
+use Rattle.ea_machine.specs.Searches.{Search, goes_on, looked_in, new_search, passed, with_counted}
+use Rattle.std.proofs.Common.{◌≡◌, ◌≢◌, ℕ, zero, suc, ◌<◌, ◌≤◌, List, [], ◌∷◌, Bool, true}
 use Rattle.std.proofs.Common.{false, refl, ap, arith}
-use Rattle.std.specs.Prelude.{Option, Some, None, Result, Ok, Err, ◌&&◌, length, nat_lt}
+use Rattle.std.specs.Prelude.{Option, Some, None, Result, Ok, Err, length}
 use Rattle.ea_model.specs.declared.carriers.CarrierPlan.{CarrierPlan}
 use Rattle.ea_model.specs.declared.carriers.Place.{Place}
 use Rattle.ea_model.specs.declared.carriers.Spot.{Spot}
@@ -14,11 +17,11 @@ use Rattle.ea_model.specs.declared.operations.Op.TheVariants as op
 use Rattle.ea_model.specs.declared.reallocation.Decision.{Decision}
 use Rattle.ea_model.specs.declared.reallocation.Decision.TheVariants.{Stay, ShrinkHere, GrowHere}
 use Rattle.ea_model.specs.declared.reallocation.Decision.TheVariants.{ShrinkCarrier, Move}
-use Rattle.ea_model.specs.declared.units.TheConstants.{SEARCH_LIMIT}
 use Rattle.ea_model.specs.Instance.{chosen_spot, creating, creating_single, decision_at, is_alone}
 use Rattle.ea_model.specs.Instance.{place_at, placing_at, plan, single_place}
 use Rattle.ea_model.specs.Units.{need_of}
 use Rattle.ea_model.specs.Content.{Content}
+use Rattle.ea_machine.specs.declared.parts.Part.{Part}
 use Rattle.ea_machine.specs.declared.nodes.Node.{Node}
 use Rattle.ea_machine.specs.declared.nodes.Node.TheVariants.{Block, Carrier}
 use Rattle.ea_machine.specs.declared.owners.OwnerWord.{OwnerWord}
@@ -38,9 +41,10 @@ use Rattle.ea_machine.specs.Machine.{after_row, onward, onward_at, step, wants}
 use Rattle.ea_machine.specs.Nodes.{named_at}
 use Rattle.ea_machine.specs.declared.nodes.Named.{Named}
 use Rattle.ea_machine.specs.Operations.{freed, giving, itself, took, took_by}
-use Rattle.ea_machine.specs.Placements.{chosen_by, counted, created_by, failed, fetched, fits}
+use Rattle.ea_machine.specs.Placements.{chosen_by, created_by, failed, fetched}
+use Rattle.ea_machine.specs.Searches.{fits}
 use Rattle.ea_machine.specs.Placements.{holding, making, new_carrier, new_carrier_by, placed_by}
-use Rattle.ea_machine.specs.Placements.{saw_by, search_at, search_if, searched, searched_by, seek}
+use Rattle.ea_machine.specs.Placements.{saw_by, search_if, searched, searched_by, seek}
 use Rattle.ea_machine.specs.Placements.{seek_by, spot_of_place, stands}
 use Rattle.ea_machine.specs.Reallocations.{reallocated, reallocated_by, resized_here}
 use Rattle.ea_machine.specs.Releases.{disowned, route_of, turned}
@@ -112,19 +116,18 @@ module _ (e : Setup) (me : ℕ) where
       → takings (new_carrier e me ask looked b) ≤ later_takings b.todo
   new_carrier-few ask looked b = planned-few ask looked b (plan b.instance ask.need)
 
-  searched_by-few : (ask : Ask) (n looked : ℕ) (b : Actor) (t : Bool)
-      → takings (searched_by e me ask n looked b t) ≤ later_takings b.todo
-  searched_by-few ask n looked b true = omega arith
-  searched_by-few ask n looked b false = new_carrier-few ask looked b
+  searched_by-few : (ask : Ask) (x : Search) (b : Actor) (t : Bool)
+      → takings (searched_by e me ask x b t) ≤ later_takings b.todo
+  searched_by-few ask x b true = omega arith
+  searched_by-few ask x b false = new_carrier-few ask (looked_in x.part) b
 
-  search-few : (ask : Ask) (n looked : ℕ) (b : Actor)
-      → takings (search_at e me ask n looked b) ≤ later_takings b.todo
-  search-few ask n looked b =
-      searched_by-few ask n looked b (nat_lt 0 n && nat_lt looked SEARCH_LIMIT)
+  search-few : (ask : Ask) (x : Search) (b : Actor)
+      → takings (search_on e me ask x b) ≤ later_takings b.todo
+  search-few ask x b = searched_by-few ask x (record b { lists = x.lists }) (goes_on x.part)
 
   search_if-few : (ask : Ask) (a : Actor) (on : Bool)
       → takings (search_if e me ask a on) ≤ later_takings a.todo
-  search_if-few ask a true = search-few ask (greatest_number e) 0 a
+  search_if-few ask a true = search-few ask (new_search (greatest_number e) a.lists) a
   search_if-few ask a false = new_carrier-few ask 0 a
 
   chosen-few : (ask : Ask) (a : Actor) (o : Option Spot)
@@ -194,8 +197,8 @@ module _ (e : Setup) (me : ℕ) where
   onward-by b Begin q = omega arith
   onward-by b (Routed r y g) q = omega arith
   onward-by b (Collecting c) q = omega arith
-  onward-by b (Searching ask n looked) q = omega arith
-  onward-by b (Fetching ask n looked seen) q = omega arith
+  onward-by b (Searching ask n part) q = omega arith
+  onward-by b (Fetching ask n part seen) q = omega arith
   onward-by b (Creating ask p) q = omega arith
   onward-by b (Giving g to) q = omega arith
   onward-by b (Taking n tries left) q = omega arith
@@ -246,36 +249,38 @@ module _ (e : Setup) (me : ℕ) where
         ap later_takings (turned-short e me r g a z).1.2,
       )
 
-  saw-few : (ask : Ask) (n looked : ℕ) (a : Actor) (v : OwnerWord) (t : Bool)
-      → takings (saw_by e me ask n looked a v t) ≤ later_takings a.todo
-  saw-few ask n looked a v true = omega arith
-  saw-few ask n looked a v false = search-few ask (n - 1) looked a
+  saw-few : (ask : Ask) (n : ℕ) (part : Part) (a : Actor) (v : OwnerWord) (t : Bool)
+      → takings (saw_by e me ask n part a v t) ≤ later_takings a.todo
+  saw-few ask n part a v true = omega arith
+  saw-few ask n part a v false =
+      search-few ask (passed (greatest_number e) a.lists n part v) a
 
-  searched-few : (ask : Ask) (n looked : ℕ) (a : Actor) (r : Answer)
-      → takings (searched e me ask n looked a r) ≤ later_takings a.todo
-  searched-few ask n looked a (Saw v) = saw-few ask n (counted v looked) a v (fits ask.need v)
-  searched-few ask n looked a Done = omega arith
-  searched-few ask n looked a (Head x) = omega arith
-  searched-few ask n looked a Rests = omega arith
-  searched-few ask n looked a (Passes x) = omega arith
-  searched-few ask n looked a (Won x) = omega arith
-  searched-few ask n looked a (Lost x) = omega arith
-  searched-few ask n looked a (Home x) = omega arith
-  searched-few ask n looked a (Got x) = omega arith
+  searched-few : (ask : Ask) (n : ℕ) (part : Part) (a : Actor) (r : Answer)
+      → takings (searched e me ask n part a r) ≤ later_takings a.todo
+  searched-few ask n part a (Saw v) = saw-few ask n (with_counted v part) a v (fits ask.need v)
+  searched-few ask n part a Done = omega arith
+  searched-few ask n part a (Head x) = omega arith
+  searched-few ask n part a Rests = omega arith
+  searched-few ask n part a (Passes x) = omega arith
+  searched-few ask n part a (Won x) = omega arith
+  searched-few ask n part a (Lost x) = omega arith
+  searched-few ask n part a (Home x) = omega arith
+  searched-few ask n part a (Got x) = omega arith
 
-  fetched-few : (ask : Ask) (n looked : ℕ) (a : Actor) (r : Answer)
-      → takings (fetched e me ask n looked a r) ≤ later_takings a.todo
-  fetched-few ask n looked a (Won x) =
-      placed-few ask (record a { instance = employing a.instance x })
+  fetched-few : (ask : Ask) (n : ℕ) (part : Part) (a : Actor) (r : Answer)
+      → takings (fetched e me ask n part a r) ≤ later_takings a.todo
+  fetched-few ask n part a (Won x) =
+      placed-few ask (fetches n x a)
       (chosen_spot (employing a.instance x) ask.need)
-  fetched-few ask n looked a (Lost u) = search-few ask (n - 1) looked a
-  fetched-few ask n looked a Done = omega arith
-  fetched-few ask n looked a (Head x) = omega arith
-  fetched-few ask n looked a Rests = omega arith
-  fetched-few ask n looked a (Passes x) = omega arith
-  fetched-few ask n looked a (Saw x) = omega arith
-  fetched-few ask n looked a (Home x) = omega arith
-  fetched-few ask n looked a (Got x) = omega arith
+  fetched-few ask n part a (Lost u) =
+      search-few ask (passed (greatest_number e) a.lists n part u) a
+  fetched-few ask n part a Done = omega arith
+  fetched-few ask n part a (Head x) = omega arith
+  fetched-few ask n part a Rests = omega arith
+  fetched-few ask n part a (Passes x) = omega arith
+  fetched-few ask n part a (Saw x) = omega arith
+  fetched-few ask n part a (Home x) = omega arith
+  fetched-few ask n part a (Got x) = omega arith
 
   took_by-few : (n tries left : ℕ) (a : Actor) (o : Option Spot)
       → takings (took_by n tries left a o) ≤ later_takings a.todo
@@ -326,11 +331,11 @@ module _ (e : Setup) (me : ℕ) where
   row-few a r (Routed route (For task) g) q =
       omega (arith, task-route route task g a r, ap (stage_takings a.next a.todo) q)
   row-few a r (Collecting c) q =
-      omega (arith, worked-few a.passed (disowned c a), ap (stage_takings a.next a.todo) q)
-  row-few a r (Searching ask n looked) q =
-      omega (arith, searched-few ask n looked a r, ap (stage_takings a.next a.todo) q)
-  row-few a r (Fetching ask n looked seen) q =
-      omega (arith, fetched-few ask n looked a r, ap (stage_takings a.next a.todo) q)
+      omega (arith, worked-few a.passed (disowned c (struck c a)), ap (stage_takings a.next a.todo) q)
+  row-few a r (Searching ask n part) q =
+      omega (arith, searched-few ask n part a r, ap (stage_takings a.next a.todo) q)
+  row-few a r (Fetching ask n part seen) q =
+      omega (arith, fetched-few ask n part a r, ap (stage_takings a.next a.todo) q)
   row-few a r (Creating ask p) q =
       omega (arith, created-few ask p a p.single, ap (stage_takings a.next a.todo) q)
   row-few a r (Giving h to) q = omega (

@@ -10,7 +10,6 @@ use Rattle.ea_machine.specs.declared.stages.Stage.TheVariants.{Ended, Ready}
 use Rattle.ea_machine.specs.Actor.{Actor}
 use Rattle.ea_machine.specs.Machine.{after, after_row, onward, run, run_on, start, step, step_at}
 use Rattle.ea_machine.specs.Machine.{wants_at}
-use Rattle.ea_machine.specs.Releases.{looked}
 use Rattle.ea_machine.specs.Setup.{Setup}
 use Rattle.ea_machine.specs.State.{State}
 use Rattle.ea_machine.specs.Statistics.{observed}
@@ -54,8 +53,8 @@ ended-or Ended = inl refl
 ended-or Begin = inr (λ q. absurd (cc))
 ended-or (Routed r y g) = inr (λ q. absurd (cc))
 ended-or (Collecting c) = inr (λ q. absurd (cc))
-ended-or (Searching ask at looked) = inr (λ q. absurd (cc))
-ended-or (Fetching ask at looked seen) = inr (λ q. absurd (cc))
+ended-or (Searching ask at part) = inr (λ q. absurd (cc))
+ended-or (Fetching ask at part seen) = inr (λ q. absurd (cc))
 ended-or (Creating ask p) = inr (λ q. absurd (cc))
 ended-or (Giving h to) = inr (λ q. absurd (cc))
 ended-or (Taking n tries left) = inr (λ q. absurd (cc))
@@ -69,8 +68,8 @@ module _ (e : Setup) (w : State) (s : ℕ) where
   other-at j Begin ne = put-other w.actors s _ j ne
   other-at j (Routed r y g) ne = put-other w.actors s _ j ne
   other-at j (Collecting c) ne = put-other w.actors s _ j ne
-  other-at j (Searching ask at looked) ne = put-other w.actors s _ j ne
-  other-at j (Fetching ask at looked seen) ne = put-other w.actors s _ j ne
+  other-at j (Searching ask at part) ne = put-other w.actors s _ j ne
+  other-at j (Fetching ask at part seen) ne = put-other w.actors s _ j ne
   other-at j (Creating ask p) ne = put-other w.actors s _ j ne
   other-at j (Giving h to) ne = put-other w.actors s _ j ne
   other-at j (Taking n tries left) ne = put-other w.actors s _ j ne
@@ -95,8 +94,8 @@ module _ (e : Setup) (w : State) (s : ℕ) where
   mine-at Begin ne = put-here w.actors s _ s refl
   mine-at (Routed r y g) ne = put-here w.actors s _ s refl
   mine-at (Collecting c) ne = put-here w.actors s _ s refl
-  mine-at (Searching ask at looked) ne = put-here w.actors s _ s refl
-  mine-at (Fetching ask at looked seen) ne = put-here w.actors s _ s refl
+  mine-at (Searching ask at part) ne = put-here w.actors s _ s refl
+  mine-at (Fetching ask at part seen) ne = put-here w.actors s _ s refl
   mine-at (Creating ask p) ne = put-here w.actors s _ s refl
   mine-at (Giving h to) ne = put-here w.actors s _ s refl
   mine-at (Taking n tries left) ne = put-here w.actors s _ s refl
@@ -113,8 +112,8 @@ module _ (e : Setup) (w : State) (s : ℕ) where
   shared-at Begin ne = refl
   shared-at (Routed r y g) ne = refl
   shared-at (Collecting c) ne = refl
-  shared-at (Searching ask at looked) ne = refl
-  shared-at (Fetching ask at looked seen) ne = refl
+  shared-at (Searching ask at part) ne = refl
+  shared-at (Fetching ask at part seen) ne = refl
   shared-at (Creating ask p) ne = refl
   shared-at (Giving h to) ne = refl
   shared-at (Taking n tries left) ne = refl
@@ -128,8 +127,8 @@ module _ (e : Setup) (w : State) (s : ℕ) where
   is-at Begin ne = (_, refl)
   is-at (Routed r y g) ne = (_, refl)
   is-at (Collecting c) ne = (_, refl)
-  is-at (Searching ask at looked) ne = (_, refl)
-  is-at (Fetching ask at looked seen) ne = (_, refl)
+  is-at (Searching ask at part) ne = (_, refl)
+  is-at (Fetching ask at part seen) ne = (_, refl)
   is-at (Creating ask p) ne = (_, refl)
   is-at (Giving h to) ne = (_, refl)
   is-at (Taking n tries left) ne = (_, refl)

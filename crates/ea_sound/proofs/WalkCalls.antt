@@ -15,9 +15,10 @@ use Rattle.ea_machine.specs.declared.stages.Stage.TheVariants.{Begin, Collecting
 use Rattle.ea_machine.specs.declared.stages.Route.TheVariants.{Abandoning, Clearing, Looking}
 use Rattle.ea_machine.specs.declared.stages.Route.TheVariants.{Settling}
 use Rattle.ea_machine.specs.Actor.{Actor}
+use Rattle.ea_machine.specs.Lists.{unlisted}
 use Rattle.ea_machine.specs.Machine.{IsReached}
 use Rattle.ea_machine.specs.Owners.{Employed}
-use Rattle.ea_machine.specs.Releases.{disowned}
+use Rattle.ea_machine.specs.Releases.{disowned, struck}
 use Rattle.ea_machine.specs.Rows.{Abandon, Clear, Settle}
 use Rattle.ea_machine.specs.Setup.{Setup, is_scheduler, setup_of}
 use Rattle.ea_machine.specs.State.{State}
@@ -29,7 +30,7 @@ use Rattle.ea_sound.proofs.Asked.{reached-rule}
 use Rattle.ea_sound.proofs.CarrierMoves.{closed}
 use Rattle.ea_sound.proofs.RowLeaves.{row-left}
 use Rattle.ea_sound.proofs.SoundRanges.{number-scheduler}
-use Rattle.ea_sound.proofs.StillMoves.{keeps-walk}
+use Rattle.ea_sound.proofs.StillMoves.{keeps-walk, lists-goes}
 
 module _ (c : Config) (t : Trace) (valid : IsValidConfig c)
     (made : IsValidTrace c.schedulers t) (w : State) (reached : IsReached (setup_of c t) w)
@@ -81,5 +82,10 @@ module _ (c : Config) (t : Trace) (valid : IsValidConfig c)
           row-left e w me is rule (Routed (Clearing x) Walk gone) (λ z. cc) now
 
   pub collected-walks : (n : ℕ) → a.stage ≡ Collecting n
-      → InWalk e w (effect me (Clear n) w.shared) me (at Begin (disowned n a))
-  collected-walks n now = row-left e w me is rule (Collecting n) (λ z. cc) now
+      → InWalk e w (effect me (Clear n) w.shared) me
+      (at Begin (disowned n (struck n a)))
+  collected-walks n now =
+      let s = effect me (Clear n) w.shared in
+      lists-goes e w s me is (InWalk e w s me) (keeps-walk e w s me is) (unlisted n a.lists)
+      (at Begin (disowned n a)) (λ q. absurd cc)
+      (row-left e w me is rule (Collecting n) (λ z. cc) now)

@@ -45,8 +45,8 @@ told-at : (next : Option Node) (stage : Stage Content) → Told (wants_at next s
 told-at next Begin = told-begins next
 told-at next (Routed route why gone) = told-on route why gone
 told-at next (Collecting number) = tt
-told-at next (Searching ask at looked) = tt
-told-at next (Fetching ask at looked seen) = tt
+told-at next (Searching ask at part) = tt
+told-at next (Fetching ask at part seen) = tt
 told-at next (Creating ask p) = tt
 told-at next (Giving given to) = (to, refl)
 told-at next (Taking name tries left) = tt

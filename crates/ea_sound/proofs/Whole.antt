@@ -92,11 +92,11 @@ module _ (e : Setup) (v : State) (k : Kept e v) (later : MakesLater e v) (i : 鈩
       let home = collecting-home e v k i
       (scheduler-seat e i (scheduler (Collecting c) now (位 z. cc))) c now in
       sym (k.returns.to_owner c i home.0 home.1).0
-  whole R never (Searching ask n looked) now s = (
+  whole R never (Searching ask n part) now s = (
     record {
       of = s.0.0;
       old = s.0.1;
-      fresh = fresh ask (Searching ask n looked) now (位 z. cc) refl s.0.0;
+      fresh = fresh ask (Searching ask n part) now (位 z. cc) refl s.0.0;
     },
     s.1,
     s.2,
@@ -104,18 +104,17 @@ module _ (e : Setup) (v : State) (k : Kept e v) (later : MakesLater e v) (i : 鈩
     s.4,
     s.5,
   )
-  whole R never (Fetching ask n looked seen) now s = (
+  whole R never (Fetching ask n part seen) now s = (
     record {
       of = s.0.0;
       old = s.0.1;
-      fresh = fresh ask (Fetching ask n looked seen) now (位 z. cc) refl s.0.0;
+      fresh = fresh ask (Fetching ask n part seen) now (位 z. cc) refl s.0.0;
     },
     s.1,
     s.2,
     s.3,
     s.4,
     s.5,
-    s.6,
   )
   whole R never (Creating ask p) now s = (
     record {
@@ -154,22 +153,21 @@ module _ (e : Setup) (v : State) (k : Kept e v) (later : MakesLater e v) (i : 鈩
       f.1,
     )
     fits-by (Collecting c) now f = f
-    fits-by (Searching ask n looked) now f = (
-      asked-stays ask (Searching ask n looked) now (位 z. cc) refl f.0,
+    fits-by (Searching ask n part) now f = (
+      asked-stays ask (Searching ask n part) now (位 z. cc) refl f.0,
       f.1,
       f.2,
       f.3,
       f.4,
       f.5,
     )
-    fits-by (Fetching ask n looked seen) now f = (
-      asked-stays ask (Fetching ask n looked seen) now (位 z. cc) refl f.0,
+    fits-by (Fetching ask n part seen) now f = (
+      asked-stays ask (Fetching ask n part seen) now (位 z. cc) refl f.0,
       f.1,
       f.2,
       f.3,
       f.4,
       f.5,
-      f.6,
     )
     fits-by (Creating ask p) now f =
         (asked-stays ask (Creating ask p) now (位 z. cc) refl f.0, f.1, f.2, f.3)

@@ -1,7 +1,10 @@
 -- What the moves of an operation keep, the operation itself keeps.
-use Rattle.std.proofs.Common.{◌≡◌, ◌≢◌, ℕ, ◌-◌, ◌%◌, ◌≤◌, List, [], ◌∷◌, Bool, true, false, refl}
+use Rattle.ea_machine.specs.Lists.{Lists}
+use Rattle.ea_machine.specs.Placements.{search_on}
+use Rattle.ea_machine.specs.Searches.{Search, goes_on, looked_in, new_search, passed}
+use Rattle.std.proofs.Common.{◌≡◌, ◌≢◌, ℕ, ◌%◌, ◌≤◌, List, [], ◌∷◌, Bool, true, false, refl}
 use Rattle.std.proofs.Common.{sym, ◌∙◌, subst}
-use Rattle.std.specs.Prelude.{Option, Some, None, Result, Ok, Err, nat_lt, ◌&&◌}
+use Rattle.std.specs.Prelude.{Option, Some, None, Result, Ok, Err}
 use Rattle.ea_model.specs.declared.carriers.CarrierPlan.{CarrierPlan}
 use Rattle.ea_model.specs.declared.carriers.Place.{Place}
 use Rattle.ea_model.specs.declared.carriers.Spot.{Spot}
@@ -12,7 +15,6 @@ use Rattle.ea_model.specs.declared.operations.Op.TheVariants as op
 use Rattle.ea_model.specs.declared.reallocation.Decision.{Decision}
 use Rattle.ea_model.specs.declared.reallocation.Decision.TheVariants.{Stay, ShrinkHere, GrowHere}
 use Rattle.ea_model.specs.declared.reallocation.Decision.TheVariants.{ShrinkCarrier, Move}
-use Rattle.ea_model.specs.declared.units.TheConstants.{SEARCH_LIMIT}
 use Rattle.ea_model.specs.Instance.{chosen_spot, creating, decision_at, is_alone, place_at, plan}
 use Rattle.ea_model.specs.Instance.{single_place}
 use Rattle.ea_model.specs.Units.{need_of}
@@ -21,6 +23,7 @@ use Rattle.ea_model.proofs.Rising.{item_at-key}
 use Rattle.ea_laws.proofs.Keeping.{chosen-planned}
 use Rattle.ea_model.proofs.Needs.{need-even, need-least}
 use Rattle.ea_model.specs.Content.{Content}
+use Rattle.ea_machine.specs.declared.parts.Part.{Part}
 use Rattle.ea_machine.specs.declared.owners.OwnerWord.{OwnerWord}
 use Rattle.ea_machine.specs.declared.stages.Stage.{Stage}
 use Rattle.ea_machine.specs.declared.stages.Stage.TheVariants.{Begin, Searching, Fetching, Creating}
@@ -33,7 +36,7 @@ use Rattle.ea_machine.specs.declared.nodes.Named.{Named}
 use Rattle.ea_machine.specs.Operations.{freed, giving, itself}
 use Rattle.ea_machine.specs.Placements.{chosen_by, created, failed, holding, making as making_by}
 use Rattle.ea_machine.specs.Placements.{placed_at, placed_by, created_by, placed_in_choice}
-use Rattle.ea_machine.specs.Placements.{new_carrier, new_carrier_by, saw_by, search_at, search_if}
+use Rattle.ea_machine.specs.Placements.{new_carrier, new_carrier_by, saw_by, search_if}
 use Rattle.ea_machine.specs.Placements.{searched_by, seek, seek_by, spot_of_place, stands}
 use Rattle.ea_machine.specs.Reallocations.{reallocated, reallocated_by, resized_here}
 use Rattle.ea_machine.specs.Setup.{Setup, greatest_number, migration}
@@ -47,8 +50,8 @@ use Rattle.ea_sound.proofs.Assembly.{Closed, hands-holds}
 
 -- a stage of an operation with nothing in the hand
 abbrev pub HasNoHand : Stage Content → Type 0
-HasNoHand (Searching ask n looked) = Unit {0}
-HasNoHand (Fetching ask n looked seen) = Unit {0}
+HasNoHand (Searching ask n part) = Unit {0}
+HasNoHand (Fetching ask n part seen) = Unit {0}
 HasNoHand (Creating ask p) = Unit {0}
 HasNoHand (Giving given to) = Unit {0}
 HasNoHand (Taking name tries left) = Unit {0}
@@ -69,6 +72,8 @@ pub record ClosedOperation (e : Setup) (w : State) (s : Shared) (me : ℕ) : Typ
       → InOperation e w s me (at Begin (making ask p a p.single))
   pub made : (ask : Ask) (p : CarrierPlan) (a : Actor) → Wanted e w s me a ask
       → Wanted e w s me (record a { instance = creating a.instance p }) ask
+  pub listed : (ask : Ask) (l : Lists) (a : Actor) → Wanted e w s me a ask
+      → Wanted e w s me (record a { lists = l }) ask
   pub stays : (n : ℕ) (spot : Spot) (h : Named) (a : Actor) → named_at h.name a.held ≡ Some h
       → InOperation e w s me (at Begin (holding n spot a))
       → named_at h.name (holding n spot a).held ≡ Some h
@@ -144,19 +149,21 @@ module _ (e : Setup) (w : State) (s : Shared) (me : ℕ)
       → G (new_carrier e me ask looked a)
   planned-holds ask looked a want g = new_carrier_by-holds ask looked a _ refl want g
 
-  searched_by-holds : (ask : Ask) (n looked : ℕ) (a : Actor) (b : Bool) → Wanted e w s me a ask
-      → G (at Begin a) → G (searched_by e me ask n looked a b)
-  searched_by-holds ask n looked a true want g = o.rest (Searching ask n looked) a tt g
-  searched_by-holds ask n looked a false want g = planned-holds ask looked a want g
+  searched_by-holds : (ask : Ask) (x : Search) (a : Actor) (b : Bool) → Wanted e w s me a ask
+      → G (at Begin a) → G (searched_by e me ask x a b)
+  searched_by-holds ask x a true want g = o.rest (Searching ask x.at x.part) a tt g
+  searched_by-holds ask x a false want g = planned-holds ask (looked_in x.part) a want g
 
-  pub search-holds : (ask : Ask) (n looked : ℕ) (a : Actor) → Wanted e w s me a ask
-      → G (at Begin a) → G (search_at e me ask n looked a)
-  search-holds ask n looked a want g =
-      searched_by-holds ask n looked a (nat_lt 0 n && nat_lt looked SEARCH_LIMIT) want g
+  pub search-holds : (ask : Ask) (x : Search) (a : Actor) → Wanted e w s me a ask
+      → G (at Begin a) → G (search_on e me ask x a)
+  search-holds ask x a want g =
+      searched_by-holds ask x (record a { lists = x.lists }) (goes_on x.part)
+      (o.listed ask x.lists a want) (c.lists x.lists (at Begin a) (λ q. absurd cc) g)
 
   search_if-holds : (ask : Ask) (a : Actor) (on : Bool) → Wanted e w s me a ask → G (at Begin a)
       → G (search_if e me ask a on)
-  search_if-holds ask a true want g = search-holds ask (greatest_number e) 0 a want g
+  search_if-holds ask a true want g =
+      search-holds ask (new_search (greatest_number e) a.lists) a want g
   search_if-holds ask a false want g = planned-holds ask 0 a want g
 
   chosen-holds : (ask : Ask) (a : Actor) (x : Option Spot) → chosen_spot a.instance ask.need ≡ x
@@ -174,10 +181,11 @@ module _ (e : Setup) (w : State) (s : Shared) (me : ℕ)
   seek-holds ask a want g = seek_by-holds ask a (is_alone a.instance ask.need) want g
 
   -- after a look of the search
-  pub saw-holds : (ask : Ask) (n looked : ℕ) (a : Actor) (v : OwnerWord) (b : Bool)
-      → Wanted e w s me a ask → G (at Begin a) → G (saw_by e me ask n looked a v b)
-  saw-holds ask n looked a v true want g = o.rest (Fetching ask n looked v) a tt g
-  saw-holds ask n looked a v false want g = search-holds ask (n - 1) looked a want g
+  pub saw-holds : (ask : Ask) (n : ℕ) (part : Part) (a : Actor) (v : OwnerWord) (b : Bool)
+      → Wanted e w s me a ask → G (at Begin a) → G (saw_by e me ask n part a v b)
+  saw-holds ask n part a v true want g = o.rest (Fetching ask n part v) a tt g
+  saw-holds ask n part a v false want g =
+      search-holds ask (passed (greatest_number e) a.lists n part v) a want g
 
   -- a held block is released, given, or takes another size
   freed-holds : (n : ℕ) (a : Actor) (x : Option Named) → named_at n a.held ≡ x → G (at Begin a)

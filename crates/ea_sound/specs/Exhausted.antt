@@ -19,7 +19,7 @@ seen_since setup before s since = sights setup (run setup (before ++ s ∷ [])) 
 
 -- the begin of its operation was over in its step after `before`, and it asks for a place; up to
 -- the singleblock threshold the strategy has no choice among the carriers that it employs then, and
--- with migration on the pool was searched in vain, with all of its steps since then; and no carrier
+-- with migration on own carriers and the pool were searched in vain, with all of its steps since then; and no carrier
 -- can be created, for want of numbers or of space
 pub record FindsNoPlace (setup : Setup) (before : List ℕ) (s : ℕ) (since : List ℕ)
     (need looked : ℕ) (why : NoCarrier) : Type 0 where
@@ -28,7 +28,7 @@ pub record FindsNoPlace (setup : Setup) (before : List ℕ) (s : ℕ) (since : L
   pub none : need ≤ setup.settings.sbct
       → chosen_spot (begun setup before s).instance need ≡ None
   pub sought : IsUnsought setup need looked (seen_since setup before s since)
-      ⊎ IsSought setup need looked (seen_since setup before s since)
+      ⊎ IsSought setup (begun setup before s).lists need looked (seen_since setup before s since)
   pub steps : count_by (λ j. j == s) since ≡ length (seen_since setup before s since)
   pub refused : plan (begun setup before s).instance need ≡ Err why
 

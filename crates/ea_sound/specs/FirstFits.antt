@@ -8,7 +8,8 @@ use Rattle.ea_model.specs.Instance.{chosen_spot}
 use Rattle.ea_machine.specs.declared.owners.OwnerWord.{OwnerWord}
 use Rattle.ea_machine.specs.declared.stages.Stage.TheVariants.{Fetching}
 use Rattle.ea_machine.specs.declared.asks.Ask.{Ask}
-use Rattle.ea_machine.specs.Placements.{fits}
+use Rattle.ea_machine.specs.declared.parts.Part.{Part}
+use Rattle.ea_machine.specs.Searches.{Search, fits, new_search}
 use Rattle.ea_machine.specs.Rows.{Won}
 use Rattle.ea_machine.specs.Setup.{Setup, greatest_number}
 use Rattle.ea_machine.specs.Machine.{run}
@@ -19,8 +20,8 @@ use Rattle.ea_sound.specs.Searches.{IsNextLook, Searched, Shown, Sight}
 
 -- the begin of the operation of s was over in a step among the steps `turns`; it asks for a place
 -- for a block of this need, and the strategy had no choice. With each of its steps since then s
--- searched the pool: it passed the numbers from the greatest down to this one, since no word of
--- theirs fits, or the try to fetch was lost; and the word of this one, seen last, fits
+-- searched for a carrier: it passed the numbers before this one, since no word of theirs fits, or the
+-- try to fetch was lost; and the word of this one, seen last, fits
 pub record IsFirstFit (setup : Setup) (turns : List ℕ) (s need number : ℕ) (seen : OwnerWord)
     : Type 0 where
   pub before : List ℕ
@@ -31,9 +32,10 @@ pub record IsFirstFit (setup : Setup) (turns : List ℕ) (s need number : ℕ) (
   pub asks : AsksFor (begun setup before s) (begun setup before s).todo need
   pub none : chosen_spot (begun setup before s).instance need ≡ None
   pub passed : List Sight
-  pub looked : ℕ
-  pub searched : Searched need (greatest_number setup) 0 number looked passed
-  pub next : IsNextLook number looked number
+  pub last : Search
+  pub searched : Searched (greatest_number setup) need
+      (new_search (greatest_number setup) (begun setup before s).lists) last passed
+  pub next : IsNextLook last number
   pub fit : fits need seen ≡ true
   pub saw : seen_since setup before s since ≡ passed ++ Shown number seen ∷ []
   pub steps : count_by (λ j. j == s) since ≡ length (seen_since setup before s since)
@@ -43,9 +45,9 @@ pub record IsFirstFit (setup : Setup) (turns : List ℕ) (s need number : ℕ) (
 pub record IsFetched (setup : Setup) (turns : List ℕ) (s need : ℕ) (x : Content) : Type 0 where
   pub ask : Ask
   pub number : ℕ
-  pub looked : ℕ
+  pub part : Part
   pub seen : OwnerWord
-  pub stage : (actor_after setup turns s).stage ≡ Fetching ask number looked seen
+  pub stage : (actor_after setup turns s).stage ≡ Fetching ask number part seen
   pub asks : ask.need ≡ need
   pub won : answered (run setup turns) s ≡ Won x
   pub is : x.number ≡ number

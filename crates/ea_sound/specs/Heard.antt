@@ -1,13 +1,17 @@
 -- Answers that never come.
-use Rattle.std.specs.Prelude.{◌≡◌, ◌≢◌, ℕ, ◌+◌, ◌<◌, []}
+use Rattle.std.specs.Prelude.{◌≡◌, ◌≢◌, ℕ, ◌+◌, ◌<◌, true, []}
 use Rattle.ea_model.specs.declared.carriers.Spot.{Spot}
 use Rattle.ea_model.specs.Content.{Content}
+use Rattle.ea_machine.specs.declared.asks.Ask.{Ask}
+use Rattle.ea_machine.specs.declared.parts.Part.{Part}
+use Rattle.ea_sound.specs.Listed.{IsAwayFrom, is_by_list}
 use Rattle.ea_machine.specs.declared.owners.OwnerWord.{OwnerWord}
 use Rattle.ea_machine.specs.declared.owners.OwnerWord.TheVariants as word
 use Rattle.ea_machine.specs.declared.nodes.Named.{Named}
 use Rattle.ea_machine.specs.Owners.{Returning}
 use Rattle.ea_machine.specs.Setup.{Setup}
 use Rattle.ea_machine.specs.declared.stages.Stage.TheVariants.{Collecting, Ended, Ready, Routed}
+use Rattle.ea_machine.specs.declared.stages.Stage.TheVariants.{Searching}
 use Rattle.ea_machine.specs.declared.stages.Route.TheVariants.{Looking, Trying}
 use Rattle.ea_machine.specs.declared.tasks.Why.{Why}
 use Rattle.ea_machine.specs.declared.tasks.Gone.{Gone}
@@ -56,3 +60,10 @@ pub record HearsNoOther (setup : Setup) (state : State) : Type 0 where
       → (x : Content) × (state.shared.places number ≡ Returning s x)
   pub ended : (s : ℕ) → (state.actors s).stage ≡ Ended → (state.actors s).todo ≡ []
   pub resting : (s : ℕ) → (state.actors s).stage ≢ Ready
+
+-- a look of the first two parts of a search shows a carrier that is there, and that the one who looks
+-- doesn't employ
+abbrev pub FindsOwn : Setup → State → Type 0
+FindsOwn setup state = (s at : ℕ) (ask : Ask) (part : Part) (seen : OwnerWord)
+    → (state.actors s).stage ≡ Searching ask at part → is_by_list part ≡ true
+    → answered state s ≡ Saw seen → IsAwayFrom s seen

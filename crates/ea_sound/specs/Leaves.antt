@@ -112,14 +112,14 @@ module _ (e : Setup) (w : State) (s : Shared) (me : ℕ) where
   Leaves a (Routed route Walk gone) r = LeavesRoute InWalk Walk gone a route r
   Leaves a (Routed route (For task) gone) r = LeavesRoute InOperation (For task) gone a route r
   Leaves a (Collecting number) r = InWalk (at Begin (disowned number a))
-  Leaves a (Searching ask n looked) (Saw v) = Wanted a ask × InOperation (at Begin a)
-  Leaves a (Searching ask n looked) r = ⊥
-  Leaves a (Fetching ask n looked seen) (Won x) =
+  Leaves a (Searching ask n part) (Saw v) = Wanted a ask × InOperation (at Begin a)
+  Leaves a (Searching ask n part) r = ⊥
+  Leaves a (Fetching ask n part seen) (Won x) =
       Wanted (record a { instance = employing a.instance x }) ask
       × ((spot : Spot) × (chosen_spot (employing a.instance x) ask.need ≡ Some spot))
       × InOperation (at Begin (record a { instance = employing a.instance x }))
-  Leaves a (Fetching ask n looked seen) (Lost v) = Wanted a ask × InOperation (at Begin a)
-  Leaves a (Fetching ask n looked seen) r = ⊥
+  Leaves a (Fetching ask n part seen) (Lost v) = Wanted a ask × InOperation (at Begin a)
+  Leaves a (Fetching ask n part seen) r = ⊥
   Leaves a (Creating ask p) r = Wanted a ask × (plan a.instance ask.need ≡ Ok p)
       × InOperation (at Begin (making ask p a p.single))
   Leaves a (Giving given to) r = InOperation (at Begin (let_go given.name a))

@@ -6,6 +6,7 @@ pub mod Places
 pub mod NamePlaces
 pub mod Ranges
 pub mod Units
+pub mod Listed
 pub mod Sound
 -- Turns, and what entries tell of those before them.
 pub mod Turns

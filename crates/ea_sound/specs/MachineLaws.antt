@@ -17,7 +17,7 @@ use Rattle.ea_sound.specs.Exhausted.{FailsIfExhausted}
 use Rattle.ea_sound.specs.Entries.{EntersOne, LogsEach, QueuesIfSeen, SkipsUnheld}
 use Rattle.ea_sound.specs.Fetches.{FetchesFit}
 use Rattle.ea_sound.specs.Guarded.{IsGuarded}
-use Rattle.ea_sound.specs.Heard.{HearsNoOther}
+use Rattle.ea_sound.specs.Heard.{FindsOwn, HearsNoOther}
 
 -- it holds at each moment: after any list of steps
 abbrev pub AtEachMoment : (Setup → State → Type 0) → Setup → Type 0
@@ -43,6 +43,7 @@ pub record Protocol (setup : Setup) : Type 0 where
   pub prints : AtEachMoment PrintsSums setup
   pub guarded : AtEachMoment IsGuarded setup
   pub hears : AtEachMoment HearsNoOther setup
+  pub finds : AtEachMoment FindsOwn setup
   pub fetches : AtEachMoment FetchesFit setup
   pub logs : AtEachMoment LogEach setup
   pub enters : EntersOne setup

@@ -4,7 +4,7 @@ use Rattle.std.specs.Prelude.{None, Some, Ok, All, AllPairs}
 use Rattle.ea_model.specs.declared.carriers.Kind.TheVariants.{Multi}
 use Rattle.ea_model.specs.declared.operations.Op.{Op}
 use Rattle.ea_model.specs.declared.operations.Op.TheVariants as op
-use Rattle.ea_model.specs.declared.units.TheConstants.{SEARCH_LIMIT}
+use Rattle.ea_model.specs.declared.units.TheConstants.{LIST_LIMIT, SEARCH_LIMIT}
 use Rattle.ea_model.specs.Content.{Content, can_go}
 use Rattle.ea_model.specs.Instance.{chosen_spot, plan, owner_of}
 use Rattle.ea_model.specs.Keyed.{IsBelow}
@@ -21,6 +21,9 @@ use Rattle.ea_machine.specs.declared.stages.Route.{Route}
 use Rattle.ea_machine.specs.declared.stages.Route.TheVariants.{Looking, Trying, Settling}
 use Rattle.ea_machine.specs.declared.stages.Route.TheVariants.{Abandoning, Sending, Clearing}
 use Rattle.ea_machine.specs.declared.stages.Route.TheVariants.{Pushing, Linking}
+use Rattle.ea_machine.specs.declared.parts.Part.{Part}
+use Rattle.ea_machine.specs.declared.parts.Part.TheVariants.{Own, Traitors, Pool}
+use Rattle.ea_machine.specs.Searches.{goes_on}
 use Rattle.ea_machine.specs.Actor.{Actor}
 use Rattle.ea_machine.specs.declared.tasks.Task.{Task}
 use Rattle.ea_machine.specs.declared.tasks.Task.TheVariants.{Freeing, Moving}
@@ -38,6 +41,7 @@ use Rattle.ea_machine.specs.Shared.{Shared}
 use Rattle.ea_sound.specs.Sound.{HasNothing}
 use Rattle.ea_machine.specs.State.{State}
 use Rattle.ea_sound.specs.Blocks.{EmploysMain}
+use Rattle.ea_sound.specs.Listed.{LooksAt}
 use Rattle.ea_sound.specs.Rule.{Kept}
 
 -- the operation whose block is on its route
@@ -111,16 +115,24 @@ pub record Asked (e : Setup) (w : State) (a : Actor) (ask : Ask) : Type 0 where
   pub old : OldHeld ask.old a.held
   pub fresh : allocated e (only ask.name) w ≡ 0
 
+-- a part of a search has a number left, and not too many; and no more words were counted than may be
+abbrev pub HasLeft : Setup → Part → Type 0
+HasLeft e (Own left) = (0 < left) × (left ≤ LIST_LIMIT)
+HasLeft e (Traitors left) = (0 < left) × (left ≤ LIST_LIMIT)
+HasLeft e (Pool left looked) = (0 < left) × (left ≤ greatest_number e) × (looked ≤ SEARCH_LIMIT)
+
 -- where a scheduler may be in its operation
 abbrev pub Fits : Setup → State → ℕ → Actor → Stage Content → Type 0
 Fits e w me a Begin = Unit {0}
 Fits e w me a (Routed route why gone) = FitsRoute e w.shared me route × OfWhy why a.todo
 Fits e w me a (Collecting number) = owner_of number ≡ me
-Fits e w me a (Searching ask at looked) = Asked e w a ask × (0 < at) × (at ≤ greatest_number e)
-    × (looked < SEARCH_LIMIT) × (chosen_spot a.instance ask.need ≡ None) × (migration e ≡ true)
-Fits e w me a (Fetching ask at looked seen) = Asked e w a ask × (0 < at) × (at ≤ greatest_number e)
-    × (looked ≤ SEARCH_LIMIT) × (chosen_spot a.instance ask.need ≡ None) × (migration e ≡ true)
+Fits e w me a (Searching ask at part) = Asked e w a ask × HasLeft e part
+    × (goes_on part ≡ true) × (chosen_spot a.instance ask.need ≡ None) × (migration e ≡ true)
+    × LooksAt e a.lists at part
+Fits e w me a (Fetching ask at part seen) = Asked e w a ask × HasLeft e part
+    × (chosen_spot a.instance ask.need ≡ None) × (migration e ≡ true)
     × ((i largest : ℕ) × (seen ≡ word.Pooled i largest) × (ask.need ≤ largest))
+    × LooksAt e a.lists at part
 Fits e w me a (Creating ask p) = Asked e w a ask × (plan a.instance ask.need ≡ Ok p)
     × (migration e ≡ true) × ((p.single ≡ true) ⊎ (chosen_spot a.instance ask.need ≡ None))
 Fits e w me a (Giving given to) = (named_at given.name a.held ≡ Some given)

@@ -9,6 +9,7 @@ use Rattle.ea_sound.specs.Ranges.{LaysOut}
 use Rattle.ea_sound.specs.Places.{PlacesCarriers, RecordsGaps}
 use Rattle.ea_sound.specs.NamePlaces.{PlacesNames}
 use Rattle.ea_sound.specs.Units.{SumsUnits}
+use Rattle.ea_sound.specs.Listed.{ListsCarriers}
 use Rattle.ea_sound.specs.NodePlaces.{LinksNodes, ReturnsCarriers}
 
 -- an instance has the settings of the run, its number and its region
@@ -31,8 +32,8 @@ pub record HasNothing (i : ℕ) (state : State) : Type 0 where
 
 -- blocks and carriers lie apart; each carrier is in one place, and each name; of a pooled carrier
 -- the largest gap is recorded; blocks, gaps and headers are all units; a carrier that returns has
--- one node; each node that isn't linked is about to be; and each scheduler has its own instance,
--- and nobody else has anything
+-- one node; each node that isn't linked is about to be; a carrier that is away from its owner stands
+-- in one of its lists; and each scheduler has its own instance, and nobody else has anything
 pub record Sound (setup : Setup) (state : State) : Type 0 where
   pub ranges : LaysOut setup state
   pub carriers : PlacesCarriers setup state
@@ -41,6 +42,7 @@ pub record Sound (setup : Setup) (state : State) : Type 0 where
   pub sums : SumsUnits setup state
   pub returning : ReturnsCarriers setup state
   pub unlinked : LinksNodes setup state
+  pub lists : ListsCarriers setup state
   pub instances : (i : ℕ) → IsScheduler setup.schedulers i
       → IsInstanceOf setup i (state.actors i)
   pub nobody : (i : ℕ) → (IsScheduler setup.schedulers i → ⊥) → HasNothing i state

@@ -30,8 +30,8 @@ abbrev pub works_off : Stage Content → Bool
 works_off Begin = false
 works_off (Routed route why gone) = is_walked why
 works_off (Collecting number) = true
-works_off (Searching ask at looked) = false
-works_off (Fetching ask at looked seen) = false
+works_off (Searching ask at part) = false
+works_off (Fetching ask at part seen) = false
 works_off (Creating ask p) = false
 works_off (Giving given to) = false
 works_off (Taking name tries left) = false
@@ -65,8 +65,8 @@ module _ (e : Setup) (me : ℕ) (employs : List Content) where
   IsSteadyStage Begin = Unit {0}
   IsSteadyStage (Routed route why gone) = IsSteadyRoute route
   IsSteadyStage (Collecting number) = Unit {0}
-  IsSteadyStage (Searching ask at looked) = Unit {0}
-  IsSteadyStage (Fetching ask at looked seen) = IsShown e seen
+  IsSteadyStage (Searching ask at part) = Unit {0}
+  IsSteadyStage (Fetching ask at part seen) = IsShown e seen
   IsSteadyStage (Creating ask p) = Unit {0}
   IsSteadyStage (Giving given to) = Unit {0}
   IsSteadyStage (Taking name tries left) = Unit {0}

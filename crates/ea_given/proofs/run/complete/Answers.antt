@@ -29,9 +29,15 @@ run_out-requires c =
     let (d, t, steps, w, shares, stand) = c.requires in
     let (now, left, after, shared_now, stand_now, comes) =
     c.loop-scheduler.invariant d t steps w shares stand in
-    let within : k < length ss = omega (arith, c.loop-scheduler.auto.schedulers) in
-    (d, t, k + 1, left (k + 1), now, shared_now,
-    one-stands d t left ss now stand_now k within c.scheduler-item.result)
+    let within : k < length ss = omega (arith, c.loop-scheduler.auto.schedulers) in (
+      d,
+      t,
+      k + 1,
+      left (k + 1),
+      now,
+      shared_now,
+      one-stands d t left ss now stand_now k within c.scheduler-item.result,
+    )
 
 pub loop-scheduler-preserved : goal.loop-scheduler-preserved
 loop-scheduler-preserved c = λ d t steps w shares stand.
@@ -71,6 +77,8 @@ returns c = λ d t steps w shares stand.
     subst (λ v. SharesAt d t c.loop-scheduler.shared v × AllStandAt d t (λ _. Some 0) ss v)
     (sym (completes-last e steps k (run_on e w (completing e steps e.schedulers 1 w)) now
     (omega (arith, c.loop-scheduler-test.false, c.loop-scheduler.auto.schedulers, stand_now.all))
-    comes))
-    (shared_now, all-over d t left ss now stand_now (λ j below. after.over (j + 1)
-    (omega (arith, below, c.loop-scheduler-test.false))))
+    comes)) (
+      shared_now,
+      all-over d t left ss now stand_now (λ j below. after.over (j + 1)
+          (omega (arith, below, c.loop-scheduler-test.false))),
+    )

@@ -1,9 +1,15 @@
+use Rattle.ea_model.specs.Instance.{owner_of}
+use Rattle.ea_machine.specs.Rows.{Abandon, Done}
+use Rattle.ea_shared.specs.Calls.{Did}
+use Rattle.ea_machine.specs.Releases.{abandoned}
+use Rattle.ea_machine.specs.declared.stages.Stage.TheVariants.{Begin}
+use Rattle.ea_sched.specs.Acting.{standing_at}
 use Rattle.std.proofs.Common.{◌≡◌, refl, sym, ap, ◌∙◌, subst}
 use Rattle.std.specs.Prelude.{IfSome}
 use Rattle.ea_model.specs.Content.{Content, gaps_of, largest}
 use Rattle.ea_machine.specs.Owners.{Employed}
 use Rattle.ea_sched.proofs.CarrierCalling.{abandon-carrier, abandon-employed, abandon-for}
-use Rattle.ea_sched.proofs.CarrierCalling.{abandon-many}
+use Rattle.ea_sched.proofs.CarrierCalling.{abandon-many, abandon-room}
 use Rattle.ea_sched.proofs.InHand.{as-carrier, as-for}
 use Rattle.ea_sched.proofs.state.Scheduler.abandon.Goals as goal
 
@@ -30,3 +36,25 @@ abandon-requires-clause-content g c = as-for c.number-number.ensures c.into_mult
     (abandon-for c.args.self.now c.requires.starts.ready c.args.why c.args.gone c.args.content refl
     c.largest-largest.result (c.largest-largest.ensures
     ∙ ap (λ (y : Content). largest (gaps_of y)) c.into_multi-carrier.ensures))
+
+pub list_abandoned-requires : goal.list_abandoned-requires
+list_abandoned-requires g c = record {
+  room = λ own. abandon-room c.args.self.now c.requires.starts.ready c.args.why c.args.gone
+      c.args.content refl (ap owner_of (sym c.number-number.ensures) ∙ own);
+}
+
+pub returns-clause-row : goal.returns-clause-row
+returns-clause-row g c =
+    let s = c.args.self.now in
+    record {
+      got = Done;
+      did = subst (λ y. Did s.number (Abandon y) Done (g.S.Shared.shared c.args.shared.now)
+          (g.S.Shared.shared c.abandon.new.self) (g.S.Shared.caller c.args.shared.now)
+          (g.S.Shared.caller c.abandon.new.self)) c.into_multi-carrier.ensures
+          c.abandon.ensures.row;
+      turned = (
+        refl,
+        c.list_abandoned.ensures.listed Begin
+            ∙ ap (λ n. abandoned s.number n (standing_at Begin s)) c.number-number.ensures,
+      );
+    }

@@ -6,5 +6,5 @@ pub returns-in-Searching-clause-row : goal.returns-in-Searching-clause-row
 returns-in-Searching-clause-row g c =
     on_ok_weaker c.search.result
     (search-observed c.args.self.now c.requires.starts.ready c.in-Searching.ask c.in-Searching.at
-    c.in-Searching.looked c.in-Searching.is)
+    c.in-Searching.part c.in-Searching.is)
     c.search.ensures.row

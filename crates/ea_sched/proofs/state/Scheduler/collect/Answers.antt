@@ -1,3 +1,5 @@
+use Rattle.ea_model.specs.Employment.{disowning}
+use Rattle.ea_search.specs.Rooms.{RoomyLists}
 use Rattle.std.proofs.Common.{refl, ap, ◌∙◌}
 use Rattle.std.specs.Prelude.{Some}
 use Rattle.ea_machine.specs.Rows.{Home}
@@ -35,6 +37,12 @@ pub returns-clause-row : goal.returns-clause-row
 returns-clause-row g c = record {
   got = Home (Some c.clear_returned.result);
   did = c.clear_returned.ensures.row;
-  is = λ at. ap (λ i. record (standing_at at c.args.self.now) { instance = i })
-      (c.discard.ensures ∙ c.disown.ensures);
+  is = λ at. ap (λ i. record (standing_at at c.args.self.now) {
+    instance = i;
+    lists = c.remove.new.self.lists;
+  }) (c.discard.ensures ∙ c.disown.ensures)
+      ∙ ap (λ (l : RoomyLists). record (standing_at at c.args.self.now) {
+        instance = disowning c.args.self.now.instance c.args.number;
+        lists = l.lists;
+      }) c.remove.ensures;
 }

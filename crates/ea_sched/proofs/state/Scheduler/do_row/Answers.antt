@@ -9,8 +9,8 @@ use Rattle.ea_sched.proofs.state.Scheduler.do_row.Goals as goal
 
 pub unreachable-requires : goal.unreachable-requires
 unreachable-requires g c = elim c.in-Searching.is [
-  | inl (ask, at, looked, is) ↦
-      c.requires.other ask at looked (sym c.replace.ensures.value ∙ is)
+  | inl (ask, at, part, is) ↦
+      c.requires.other ask at part (sym c.replace.ensures.value ∙ is)
   | inr (inl ended) ↦
       let no : true ≡ false = ap is_ended (sym ended ∙ c.replace.ensures.value) ∙ c.requires.goes in
       cc
@@ -47,7 +47,7 @@ returns-in-Collecting-clause-row g c = on_ok_weaker c.receive.result
 pub returns-in-Fetching-clause-row : goal.returns-in-Fetching-clause-row
 returns-in-Fetching-clause-row g c = on_ok_weaker c.fetch.result
     (restaged c.args.self.now _ c.fetch.new.self
-    (Fetching c.in-Fetching.ask c.in-Fetching.at c.in-Fetching.looked c.in-Fetching.seen)
+    (Fetching c.in-Fetching.ask c.in-Fetching.at c.in-Fetching.part c.in-Fetching.seen)
     c.args.self.now.stage
     (sym c.in-Fetching.is ∙ c.replace.ensures.value) refl refl refl refl)
     c.fetch.ensures.row
@@ -87,7 +87,7 @@ returns-in-Collecting-clause-memory g c = on_err_weaker c.receive.result
 pub returns-in-Fetching-clause-memory : goal.returns-in-Fetching-clause-memory
 returns-in-Fetching-clause-memory g c = on_err_weaker c.fetch.result
     (restaged-creates c.args.self.now
-    (Fetching c.in-Fetching.ask c.in-Fetching.at c.in-Fetching.looked c.in-Fetching.seen)
+    (Fetching c.in-Fetching.ask c.in-Fetching.at c.in-Fetching.part c.in-Fetching.seen)
     c.args.self.now.stage (sym c.in-Fetching.is ∙ c.replace.ensures.value))
     c.fetch.ensures.memory
 

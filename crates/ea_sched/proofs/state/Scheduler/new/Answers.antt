@@ -1,3 +1,4 @@
+use Rattle.ea_search.specs.Rooms.{RoomyLists}
 use Rattle.std.proofs.Common.{◌≡◌, List, ℕ, ◌-◌, ◌*◌, ◌≤◌, true, ap, sym, subst, ◌∙◌, arith}
 use Rattle.std.specs.Prelude.{All, nat_lt, nat_le, ◌&&◌}
 use Rattle.ea_model.specs.Instance.{new_instance}
@@ -39,12 +40,13 @@ pub returns-clause-actor : goal.returns-clause-actor
 returns-clause-actor c =
     let n = c.args.number in
     let setup = setup_of c.args.config c.args.trace.now in
-    starts setup n c.in_ok-instance.instance _ _ _ _ _ _
+    starts setup n c.in_ok-instance.instance _ _ _ _ _ _ _
     (is_there n c.args.config.schedulers c.requires.from c.requires.to)
     (c.in_ok-instance.ensures
     ∙ ap (λ s. new_instance s n ((n - 1) * c.region_pages-pages.result)
     c.region_pages-pages.result) c.of.ensures
     ∙ ap (λ p. new_instance setup.settings n ((n - 1) * p) p) c.region_pages-pages.ensures)
+    (ap (λ (l : RoomyLists). l.lists) c.in_ok-lists.ensures)
     c.in_ok-names.ensures.none
     (c.as_slice-text.ensures
     ∙ text-is c.args.trace.now.texts.items n c.get.result.now c.requires.from

@@ -1,39 +1,48 @@
 use Rattle.std.proofs.Common.{refl, sym, ap, subst, ◌∙◌}
 use Rattle.std.proofs.lemmas.Result.{on_err_weaker, on_ok_weaker}
 use Rattle.ea_machine.specs.declared.stages.Stage.TheVariants.{Fetching, Searching}
-use Rattle.ea_machine.specs.Placements.{fits, search_at}
+use Rattle.ea_machine.specs.Placements.{search_on}
+use Rattle.ea_machine.specs.Searches as machine
+use Rattle.ea_machine.specs.Searches.{fits, passed, with_counted}
 use Rattle.ea_machine.specs.Rows.{Look, Saw}
-use Rattle.ea_search.specs.declared.search.Search.{Search}
+use Rattle.ea_search.specs.Looks.{saw_by}
 use Rattle.ea_sched.specs.Acting.{actor_of, ready_of, setup_for, standing_at}
 use Rattle.ea_sched.specs.Creations.{IsCreation}
 use Rattle.ea_sched.proofs.Calling.{row-creates, row-done}
-use Rattle.ea_sched.proofs.Placing.{next-searches, none-creates, onward-skip, onward-try}
-use Rattle.ea_sched.proofs.Placing.{skips-unfit}
-use Rattle.ea_sched.proofs.Seeking.{search-asked, search-carrier, search-more, search-next}
-use Rattle.ea_sched.proofs.Seeking.{search-on}
+use Rattle.ea_sched.proofs.Placing.{onward-skip, onward-try, skips-unfit}
+use Rattle.ea_sched.proofs.Seeking.{search-asked, search-before, search-carrier, search-more}
+use Rattle.ea_sched.proofs.Seeking.{search-next, search-on}
 use Rattle.ea_sched.proofs.state.Scheduler.search.Goals as goal
 
 pub look-seen-requires-clause-migrates : goal.look-seen-requires-clause-migrates
 look-seen-requires-clause-migrates g c = c.requires.starts.migrates
     ∙ search-on c.args.self.now c.requires.starts.ready c.in-Searching.ask c.in-Searching.at
-    c.in-Searching.looked c.in-Searching.is
+    c.in-Searching.part c.in-Searching.is
 
 pub look-seen-requires-clause-carrier : goal.look-seen-requires-clause-carrier
 look-seen-requires-clause-carrier g c = search-carrier c.args.self.now c.requires.starts.ready
-    c.in-Searching.ask c.in-Searching.at c.in-Searching.looked c.in-Searching.is
+    c.in-Searching.ask c.in-Searching.at c.in-Searching.part c.in-Searching.is
     c.requires.starts.schedulers
 
-pub saw-requires : goal.saw-requires
-saw-requires g c = search-next c.args.self.now c.requires.starts.ready c.in-Searching.ask
-    c.in-Searching.at c.in-Searching.looked c.in-Searching.is
+pub saw-requires-clause-next : goal.saw-requires-clause-next
+saw-requires-clause-next g c = search-next c.args.self.now c.requires.starts.ready
+    c.in-Searching.ask c.in-Searching.at c.in-Searching.part c.in-Searching.is
 
-pub end_search-requires-clause-more : goal.end_search-requires-clause-more
-end_search-requires-clause-more g c = search-more c.args.self.now c.requires.starts.ready
-    c.in-Searching.ask c.in-Searching.at c.in-Searching.looked c.in-Searching.is
+pub saw-requires-clause-before : goal.saw-requires-clause-before
+saw-requires-clause-before g c = search-before c.args.self.now c.requires.starts.ready
+    c.in-Searching.ask c.in-Searching.at c.in-Searching.part c.in-Searching.is
 
-pub end_search-requires-clause-asked : goal.end_search-requires-clause-asked
-end_search-requires-clause-asked g c = search-asked c.args.self.now c.requires.starts.ready
-    c.in-Searching.ask c.in-Searching.at c.in-Searching.looked c.in-Searching.is _ refl refl
+pub search_on-requires-clause-more : goal.search_on-requires-clause-more
+search_on-requires-clause-more g c = search-more c.args.self.now c.requires.starts.ready
+    c.in-Searching.ask c.in-Searching.at c.in-Searching.part c.in-Searching.is
+
+pub search_on-requires-clause-asked : goal.search_on-requires-clause-asked
+search_on-requires-clause-asked g c = search-asked c.args.self.now c.requires.starts.ready
+    c.in-Searching.ask c.in-Searching.at c.in-Searching.part c.in-Searching.is _ refl refl
+
+pub search_on-requires-clause-on : goal.search_on-requires-clause-on
+search_on-requires-clause-on g c = search-on c.args.self.now c.requires.starts.ready
+    c.in-Searching.ask c.in-Searching.at c.in-Searching.part c.in-Searching.is
 
 pub returns-in-Try-clause-row : goal.returns-in-Try-clause-row
 returns-in-Try-clause-row g c =
@@ -41,70 +50,56 @@ returns-in-Try-clause-row g c =
     let h = c.requires.starts.ready in
     let ask = c.in-Searching.ask in
     let at = c.in-Searching.at in
-    let looked = c.in-Searching.looked in
+    let part = c.in-Searching.part in
     let seen = c.look-seen.result in
-    row-done s h (Look at) (Saw seen) (Searching ask at looked) c.in-Searching.is refl
+    let fit = c.saw.ensures.verdict.0 c.in-Try.is in
+    let x : machine.Search = record { lists = s.lists.lists; at = at; part = part } in
+    row-done s h (Look at) (Saw seen) (Searching ask at part) c.in-Searching.is refl
     c.look-seen.ensures.row
-    (ap (λ (x : Search). standing_at (Fetching ask at x.looked seen) s) c.saw.ensures.next
-    ∙ sym (onward-try (setup_for s) s.number (search-on s h ask at looked c.in-Searching.is) ask at
-    looked (actor_of s) seen (c.saw.ensures.verdict.0 c.in-Try.is)))
+    (ap (λ (y : machine.Search).
+    record (standing_at (Fetching ask at y.part seen) s) { lists = y.lists })
+    (c.saw.ensures.stands ∙ ap (λ b. saw_by b c.greatest-highest.result x seen) fit)
+    ∙ sym (onward-try (setup_for s) s.number (search-on s h ask at part c.in-Searching.is) ask at
+    part (actor_of s) seen fit))
 
-pub returns-in-Some-clause-row : goal.returns-in-Some-clause-row
-returns-in-Some-clause-row g c =
+pub returns-in-Skip-clause-row : goal.returns-in-Skip-clause-row
+returns-in-Skip-clause-row g c =
     let s = c.args.self.now in
     let h = c.requires.starts.ready in
     let ask = c.in-Searching.ask in
     let at = c.in-Searching.at in
-    let looked = c.in-Searching.looked in
+    let part = c.in-Searching.part in
     let seen = c.look-seen.result in
-    row-done s h (Look at) (Saw seen) (Searching ask at looked) c.in-Searching.is refl
-    c.look-seen.ensures.row
-    (next-searches (setup_for s) s.number ask c.saw.new.self (ready_of s) c.in-Some.number
-    (sym c.next_look.ensures ∙ c.in-Some.is)
-    ∙ ap (λ (x : Search). search_at (setup_for s) s.number ask x.at x.looked (ready_of s))
-    c.saw.ensures.next
-    ∙ sym (onward-skip (setup_for s) s.number (search-on s h ask at looked c.in-Searching.is) ask at
-    looked (actor_of s) seen
-    (skips-unfit (fits ask.need seen) c.saw.ensures.verdict c.in-Skip.is)))
-
-pub returns-in-None-clause-row : goal.returns-in-None-clause-row
-returns-in-None-clause-row g c =
-    let s = c.args.self.now in
-    let h = c.requires.starts.ready in
-    let ask = c.in-Searching.ask in
-    let at = c.in-Searching.at in
-    let looked = c.in-Searching.looked in
-    let seen = c.look-seen.result in
-    on_ok_weaker c.end_search.result
-    (λ is. row-done s h (Look at) (Saw seen) (Searching ask at looked) c.in-Searching.is refl
+    let unfit = skips-unfit (fits ask.need seen) c.saw.ensures.verdict c.in-Skip.is in
+    let x : machine.Search = record { lists = s.lists.lists; at = at; part = part } in
+    on_ok_weaker c.search_on.result
+    (λ is. row-done s h (Look at) (Saw seen) (Searching ask at part) c.in-Searching.is refl
     c.look-seen.ensures.row
     (is
-    ∙ none-creates (setup_for s) s.number ask c.saw.new.self (ready_of s)
-    (sym c.next_look.ensures ∙ c.in-None.is)
-    ∙ ap (λ (x : Search). search_at (setup_for s) s.number ask x.at x.looked (ready_of s))
-    c.saw.ensures.next
-    ∙ sym (onward-skip (setup_for s) s.number (search-on s h ask at looked c.in-Searching.is) ask at
-    looked (actor_of s) seen
-    (skips-unfit (fits ask.need seen) c.saw.ensures.verdict c.in-Skip.is))))
-    c.end_search.ensures.actor
+    ∙ ap (λ y. search_on (setup_for s) s.number ask y (ready_of s))
+    (c.saw.ensures.stands ∙ ap (λ b. saw_by b c.greatest-highest.result x seen) unfit
+    ∙ ap (λ k. passed k s.lists.lists at (with_counted seen part) seen) c.greatest-highest.ensures)
+    ∙ sym (onward-skip (setup_for s) s.number (search-on s h ask at part c.in-Searching.is) ask at
+    part (actor_of s) seen unfit)))
+    c.search_on.ensures.actor
 
-pub returns-in-None-clause-memory : goal.returns-in-None-clause-memory
-returns-in-None-clause-memory g c =
+pub returns-in-Skip-clause-memory : goal.returns-in-Skip-clause-memory
+returns-in-Skip-clause-memory g c =
     let s = c.args.self.now in
     let h = c.requires.starts.ready in
     let ask = c.in-Searching.ask in
     let at = c.in-Searching.at in
-    let looked = c.in-Searching.looked in
+    let part = c.in-Searching.part in
     let seen = c.look-seen.result in
-    on_err_weaker c.end_search.result
-    (λ is. row-creates s h (Look at) (Saw seen) (Searching ask at looked) c.in-Searching.is refl
+    let unfit = skips-unfit (fits ask.need seen) c.saw.ensures.verdict c.in-Skip.is in
+    let x : machine.Search = record { lists = s.lists.lists; at = at; part = part } in
+    on_err_weaker c.search_on.result
+    (λ is. row-creates s h (Look at) (Saw seen) (Searching ask at part) c.in-Searching.is refl
     refl c.look-seen.ensures.row
     (subst (IsCreation s.instance)
-    (none-creates (setup_for s) s.number ask c.saw.new.self (ready_of s)
-    (sym c.next_look.ensures ∙ c.in-None.is)
-    ∙ ap (λ (x : Search). search_at (setup_for s) s.number ask x.at x.looked (ready_of s))
-    c.saw.ensures.next
-    ∙ sym (onward-skip (setup_for s) s.number (search-on s h ask at looked c.in-Searching.is) ask at
-    looked (actor_of s) seen
-    (skips-unfit (fits ask.need seen) c.saw.ensures.verdict c.in-Skip.is))) is))
-    c.end_search.ensures.memory
+    (ap (λ y. search_on (setup_for s) s.number ask y (ready_of s))
+    (c.saw.ensures.stands ∙ ap (λ b. saw_by b c.greatest-highest.result x seen) unfit
+    ∙ ap (λ k. passed k s.lists.lists at (with_counted seen part) seen) c.greatest-highest.ensures)
+    ∙ sym (onward-skip (setup_for s) s.number (search-on s h ask at part c.in-Searching.is) ask at
+    part (actor_of s) seen unfit)) is))
+    c.search_on.ensures.memory

@@ -1,6 +1,6 @@
 use Rattle.std.proofs.Common.{sym, ap, ◌∙◌}
-use Rattle.ea_machine.specs.Placements.{search_at, search_if}
-use Rattle.ea_search.specs.declared.search.Search.{Search}
+use Rattle.ea_machine.specs.Placements.{search_if, search_on}
+use Rattle.ea_machine.specs.Searches.{new_search}
 use Rattle.ea_sched.specs.Acting.{ready_of, setup_for}
 use Rattle.ea_sched.proofs.Acts.{creates-as, made-as}
 use Rattle.ea_sched.proofs.state.Scheduler.seek_beyond.Goals as goal
@@ -10,8 +10,8 @@ returns-then-self-clause-actor c =
     let s = c.args.self.now in
     let ask = c.args.ask in
     made-as c.search_on.result _ c.search_on.ensures.actor
-    (ap (λ (x : Search). search_at (setup_for s) s.number ask x.at x.looked (ready_of s))
-    c.new.ensures
+    (ap (λ x. search_on (setup_for s) s.number ask x (ready_of s))
+    (c.new-search.ensures.stands ∙ ap (λ g. new_search g s.lists.lists) c.greatest.ensures)
     ∙ sym (ap (search_if (setup_for s) s.number ask (ready_of s))
     (sym s.migrates_so ∙ c.if-self.true)))
 
@@ -30,8 +30,8 @@ returns-then-self-clause-memory c =
     let s = c.args.self.now in
     let ask = c.args.ask in
     creates-as c.search_on.result s.instance c.search_on.ensures.memory
-    (ap (λ (x : Search). search_at (setup_for s) s.number ask x.at x.looked (ready_of s))
-    c.new.ensures
+    (ap (λ x. search_on (setup_for s) s.number ask x (ready_of s))
+    (c.new-search.ensures.stands ∙ ap (λ g. new_search g s.lists.lists) c.greatest.ensures)
     ∙ sym (ap (search_if (setup_for s) s.number ask (ready_of s))
     (sym s.migrates_so ∙ c.if-self.true)))
 

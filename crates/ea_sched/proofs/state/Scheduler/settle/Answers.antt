@@ -4,7 +4,8 @@ use Rattle.ea_model.specs.Content.{Content, gaps_of, is_nil, largest}
 use Rattle.ea_machine.specs.declared.stages.Stage.TheVariants.{Routed}
 use Rattle.ea_machine.specs.declared.stages.Route.TheVariants.{Settling}
 use Rattle.ea_machine.specs.Owners.{Busy}
-use Rattle.ea_machine.specs.Releases.{settled}
+use Rattle.ea_machine.specs.Releases.{leaving, settled, struck}
+use Rattle.ea_search.specs.Rooms.{RoomyLists}
 use Rattle.ea_machine.specs.Rows.{Done}
 use Rattle.ea_sched.specs.Acting.{setup_for, standing_at}
 use Rattle.ea_sched.specs.Turning.{HasTurned}
@@ -28,6 +29,7 @@ pub returns-then-is_empty-clause-row : goal.returns-then-is_empty-clause-row
 returns-then-is_empty-clause-row g c =
     let s = c.args.self.now in
     let x = c.args.content in
+    let at = Routed (Settling x) c.args.why c.args.gone in
     let empty = c.is_empty.ensures.0 c.if-is_empty.true in
     record {
       got = Done;
@@ -37,7 +39,11 @@ returns-then-is_empty-clause-row g c =
       turned = subst (λ b. HasTurned c.args.why (settled (setup_for s) s.number b x c.args.gone
           (standing_at (Routed (Settling x) c.args.why c.args.gone) s)) None c.leave.new.self)
           (sym (ap is_nil empty))
-          (c.leave.ensures.turned (Routed (Settling x) c.args.why c.args.gone));
+          (subst (λ a. HasTurned c.args.why (leaving (setup_for s) s.number x c.args.gone a) None
+          c.leave.new.self)
+          (ap (λ (l : RoomyLists). record (standing_at at s) { lists = l.lists }) c.remove.ensures
+          ∙ ap (λ n. struck n (standing_at at s)) c.number-number.ensures)
+          (c.leave.ensures.turned at));
     }
 
 pub into_multi-carrier-requires : goal.into_multi-carrier-requires
