@@ -50,7 +50,8 @@ pub finishing-others : (e : Setup) (me j : ℕ) (steps : Option ℕ) (w : State)
     → (run_on e w (finishing e w steps me)).actors j ≡ w.actors j
 finishing-others e me j steps w other =
     let own = ending-own e (work e w me) w me (w.actors me).stage in
-    ap (λ js. (run_on e w (up_to steps js)).actors j) own.1 ∙ up_to-others e me own.0 j steps w other
+    ap (λ js. (run_on e w (up_to steps js)).actors j) own.1
+    ∙ up_to-others e me own.0 j steps w other
 
 -- schedulers that all stand in a state of a run, of which one takes its turns
 module _ (c : Config) (t : Trace) (steps : ℕ → Option ℕ) (ss : List Scheduler) (w : State)
@@ -174,7 +175,8 @@ module _ (ss us : List Scheduler) (m n : Sharing) where
         turns-more schedule i d more ∙ ap (λ j. first ++ replicate x.count j) (sym me) in
         subst (λ ys. SharesAt c t p (run_on e w (cut steps ys))
         × AllStandAt c t (left_by steps ys) (set us k u) (run_on e w (cut steps ys))) (sym turns)
-        (subst (λ y. SharesAt c t p y × AllStandAt c t (left_by steps (first ++ last)) (set us k u) y)
+        (subst (λ y. SharesAt c t p y
+        × AllStandAt c t (left_by steps (first ++ last)) (set us k u) y)
         (sym (ap (run_on e w) (cut-append steps first last
         ∙ ap (λ zs. cut steps first ++ zs) (cut-replicate left x.count (k + 1)))
         ∙ run-append e w (cut steps first) (up_to (left (k + 1)) last))) (
@@ -276,7 +278,8 @@ module _ (c : Config) (t : Trace) where
 
   -- and one scheduler more
   pub one-more-stands : (n : ℕ) (xs : List Scheduler) → length xs ≡ n → AreFirst xs
-      → (s : Scheduler) → StandsAt c t (n + 1) ((setup_of c t).stops (n + 1)) s (start (setup_of c t))
+      → (s : Scheduler) → StandsAt c t (n + 1) ((setup_of c t).stops (n + 1)) s
+      (start (setup_of c t))
       → (ys : List Scheduler)
       → ys ≡ xs ++ s ∷ [] → (length ys ≡ n + 1) × AreFirst ys
   one-more-stands n xs many are s at ys is =

@@ -24,7 +24,8 @@ use Rattle.ea_machine.specs.Statistics.{observed}
 use Rattle.ea_machine.specs.Table.{answer, effect}
 use Rattle.ea_sound.proofs.Asked.{reached-rule}
 use Rattle.ea_machine.specs.Stops.{less, up_to}
-use Rattle.ea_sound.proofs.Completing.{ending-none, ending-one, reached-run, reached-step, rule-less}
+use Rattle.ea_sound.proofs.Completing.{ending-none, ending-one, reached-run, reached-step}
+use Rattle.ea_sound.proofs.Completing.{rule-less}
 use Rattle.ea_sound.proofs.Stopping.{less-more, less-none, less-over, up_to-more, up_to-nothing}
 use Rattle.ea_sound.proofs.Stopping.{up_to-one, up_to-over, up_to-some, up_to-step}
 use Rattle.ea_sound.proofs.TurnLists.{ended-or, run-append, step-ended, step-mine, step-shared}
@@ -313,9 +314,11 @@ module _ (c : Config) (t : Trace) (me : ℕ) (steps : Option ℕ) (s : Scheduler
         → (p ≡ Went → Stepped s.config s.trace.now s.number (actor_of s) (actor_of u)
         (Some (shared_of m)) (Some (shared_of n)) None None)
         → After u n
-    turn-taken Went u n config trace number made names moves going goes left ended stopped rest took =
+    turn-taken Went u n config trace number made names moves going goes left ended stopped rest took
+        =
         turn-went u n config trace number made names moves going (goes refl) (left refl) (took refl)
-    turn-taken progress.Ended u n config trace number made names moves going goes left ended stopped rest
+    turn-taken progress.Ended u n config trace number made names moves going goes left ended stopped
+        rest
         took = rested u n (rests-ended s (ended refl)) (rest (λ q. absurd cc))
     turn-taken Stopped u n config trace number made names moves going goes left ended stopped rest
         took = rested u n (rests-stopped s (stopped refl)) (rest (λ q. absurd cc))

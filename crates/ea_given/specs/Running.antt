@@ -1,5 +1,6 @@
 -- The schedulers of a run, which take their turns on plain memory.
-use Rattle.std.specs.Prelude.{◌≡◌, ℕ, ◌+◌, ◌<◌, ◌≤◌, false, List, Option, None, Some, get_or, length}
+use Rattle.std.specs.Prelude.{◌≡◌, ℕ, ◌+◌, ◌<◌, ◌≤◌, false, List, Option, None, Some, get_or}
+use Rattle.std.specs.Prelude.{length}
 use Rattle.std.specs.Prelude.{replicate}
 use Rattle.ea_model.specs.declared.settings.Config.{Config}
 use Rattle.ea_model.specs.declared.trace.Trace.{Trace}
@@ -26,8 +27,8 @@ module _ (c : Config) (t : Trace) where
     pub reached : IsReached (setup_of c t) state
     pub shares : shared_of shared ≡ state.shared
 
-  -- it is scheduler `me` of the run as that stands in the state, and had memory so far; if it hasn't
-  -- ended, it has so many steps left until its stop
+  -- it is scheduler `me` of the run as that stands in the state, and had memory so far; if it
+  -- hasn't ended, it has so many steps left until its stop
   pub record StandsAt (me : ℕ) (steps : Option ℕ) (s : Scheduler) (state : State) : Type 0 where
     pub config : s.config ≡ c
     pub trace : s.trace.now ≡ t
@@ -37,14 +38,15 @@ module _ (c : Config) (t : Trace) where
     pub left : is_ended s.stage ≡ false → s.left ≡ steps
 
   -- they are all schedulers of the run, in order, as they stand in the state
-  pub record AllStandAt (steps : ℕ → Option ℕ) (schedulers : List Scheduler) (state : State) : Type 0
+  pub record AllStandAt (steps : ℕ → Option ℕ) (schedulers : List Scheduler)
+      (state : State) : Type 0
     where
       pub all : length schedulers ≡ c.schedulers
       pub each : (k : ℕ) (d : Scheduler) → k < length schedulers
           → StandsAt (k + 1) (steps (k + 1)) (get_or schedulers k d) state
 
-  -- the run is in the state in which it ends: each scheduler has ended, or no step is left until its
-  -- stop
+  -- the run is in the state in which it ends: each scheduler has ended, or no step is left until
+  -- its stop
   pub record IsAtEnd (run : Run) : Type 0 where
     pub shared : SharesAt run.shared (end_of (setup_of c t) t.mode)
     pub schedulers : AllStandAt (λ _. Some 0) run.schedulers.items (end_of (setup_of c t) t.mode)
@@ -54,8 +56,8 @@ abbrev pub Stands : Scheduler → Sharing → Type 0
 Stands s shared = (c : Config) × (t : Trace) × (me : ℕ) × (steps : Option ℕ) × (state : State)
     × SharesAt c t shared state × StandsAt c t me steps s state
 
--- in whatever state the scheduler stood, it has taken these turns there, by the steps that were left
--- until its stop, and so many are left after them
+-- in whatever state the scheduler stood, it has taken these turns there, by the steps that were
+-- left until its stop, and so many are left after them
 abbrev pub TookOf : (Setup → State → Option ℕ → ℕ → List ℕ) → (Option ℕ → Option ℕ) → Scheduler
     → Sharing → Scheduler → Sharing → Type 0
 TookOf turns left s shared stepped after =
@@ -112,7 +114,8 @@ work_left s shared = work (setup_for s) (alone_in s shared) s.number
 -- where so many steps are left until its stop
 abbrev pub LeadsTo : Setup → ℕ → Option ℕ → State → State → Type 0
 LeadsTo setup me steps target state = (most : ℕ) × (work setup state me ≤ most)
-    × (target ≡ run_on setup state (up_to steps (ending setup most state me (state.actors me).stage)))
+    × (target ≡ run_on setup state
+    (up_to steps (ending setup most state me (state.actors me).stage)))
 
 -- the runs of the schedulers after the first ones to their ends, which lead to a state, are still
 -- to come from that state on

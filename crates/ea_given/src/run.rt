@@ -86,8 +86,8 @@ fn pass_looks(scheduler: &mut Scheduler<'_>, shared: &MemShared<Mbc>, most: u32)
     at - next
 }
 
-/// Takes turns of the scheduler, at least one and not more than `most`: looks of a search in a row, up
-/// to its stop, or one step. Answers how many it took.
+/// Takes turns of the scheduler, at least one and not more than `most`: looks of a search in a row,
+/// up to its stop, or one step. Answers how many it took.
 fn take_some(
     scheduler: &mut Scheduler<'_>,
     alloc: Global,
@@ -195,11 +195,11 @@ fn run_to_end<'t>(alloc: Global, config: Config, trace: &'t Trace) -> Result<Run
 }
 
 /// Runs a trace by its schedule: the schedulers take its turns, each one atomic step, and then
-/// scheduler 1 goes on until it has ended or is stopped, then scheduler 2, up to the last one; a turn
-/// of a scheduler that has ended or is stopped changes nothing. A generated trace,
-/// whose operations have to be made before, has no turns. Answers what is printed of the state
-/// then; it fails only where there is no memory. Whatever it answers, each run of the trace keeps
-/// the machine's protocol, whatever steps its schedulers take.
+/// scheduler 1 goes on until it has ended or is stopped, then scheduler 2, up to the last one; a
+/// turn of a scheduler that has ended or is stopped changes nothing. A generated trace, whose
+/// operations have to be made before, has no turns. Answers what is printed of the state then; it
+/// fails only where there is no memory. Whatever it answers, each run of the trace keeps the
+/// machine's protocol, whatever steps its schedulers take.
 pub fn run_given(alloc: Global, config: Config, trace: &Trace) -> Result<Outcome, OutOfMemory>
     requires config { IsValidConfig config }
     requires trace { IsValidTrace config.schedulers trace.now }

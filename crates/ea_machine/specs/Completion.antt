@@ -126,8 +126,8 @@ module _ (setup : Setup) where
   abbrev pub completion : List ℕ → List ℕ
   completion taken = completing (left_after setup taken) setup.schedulers 1 (run setup taken)
 
-  -- the turns of a schedule, each scheduler's up to its stop, then those of scheduler 1 until it has
-  -- ended or is stopped, then of scheduler 2, up to the last one
+  -- the turns of a schedule, each scheduler's up to its stop, then those of scheduler 1 until it
+  -- has ended or is stopped, then of scheduler 2, up to the last one
   abbrev pub complete : List ℕ → List ℕ
   complete turns = let taken = cut setup.stops turns in taken ++ completion taken
 

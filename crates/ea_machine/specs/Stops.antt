@@ -8,6 +8,7 @@ use Rattle.ea_machine.specs.declared.stages.Stage.{Stage}
 use Rattle.ea_machine.specs.declared.stages.Stage.TheVariants.{Begin, Routed, Collecting, Searching}
 use Rattle.ea_machine.specs.declared.stages.Stage.TheVariants.{Fetching, Creating, Giving, Taking}
 use Rattle.ea_machine.specs.declared.stages.Stage.TheVariants.{Ended, Ready}
+use Rattle.ea_machine.specs.Machine.{run}
 use Rattle.ea_machine.specs.Setup.{Setup}
 use Rattle.ea_machine.specs.Shared.{put}
 use Rattle.ea_machine.specs.State.{State}
@@ -55,14 +56,18 @@ stop_at Ended stop left = []
 stop_at Begin stop left = stop_entry stop left
 stop_at (Routed route why gone) stop left = stop_entry stop left
 stop_at (Collecting number) stop left = stop_entry stop left
-stop_at (Searching ask at looked) stop left = stop_entry stop left
-stop_at (Fetching ask at looked seen) stop left = stop_entry stop left
+stop_at (Searching ask at part) stop left = stop_entry stop left
+stop_at (Fetching ask at part seen) stop left = stop_entry stop left
 stop_at (Creating ask p) stop left = stop_entry stop left
 stop_at (Giving given to) stop left = stop_entry stop left
 stop_at (Taking name tries left') stop left = stop_entry stop left
 stop_at Ready stop left = stop_entry stop left
 
 module _ (setup : Setup) where
+  -- the state after these turns, of which each scheduler takes those up to its stop
+  abbrev pub run_with_stops : List ℕ → State
+  run_with_stops turns = run setup (cut setup.stops turns)
+
   -- the steps that a scheduler has left until its stop, once these turns are taken
   abbrev pub left_after : List ℕ → ℕ → Option ℕ
   left_after turns me = left_by setup.stops turns me

@@ -8,14 +8,15 @@
 //! - `Setup` is what stays the same in a run; `Owners` and `Nodes` are what is shared of a carrier
 //!   and of a queue, `Words` and `Alike` say what words can show and which nodes are those of one
 //!   name, and `Shared` is all that is shared; `Lists` are the numbers of own carriers that an
-//!   instance doesn't employ, `Actor` is one scheduler, `State` is all of them with what they share.
+//!   instance doesn't employ, `Actor` is one scheduler, `State` is all of them with what they
+//!   share.
 //! - `Rows` names the atomic steps, `Table` says what each of them answers and does, and `Guards`
 //!   what holds whenever one is wanted.
 //! - What a scheduler does between two steps is its own affair: `Walks` begins an operation,
 //!   `Operations` has each of the seven, `Placements`, `Reallocations` and `Releases` what becomes
-//!   of a block, `Searches` in which order a search looks at carriers, `Tasks` how an operation ends, and `Statistics` its figures. When a carrier is
-//!   abandoned, and how carriers come to an instance and leave it, are `Abandonment` and
-//!   `Employment` of ea_model.
+//!   of a block, `Searches` in which order a search looks at carriers, `Tasks` how an operation
+//!   ends, and `Statistics` its figures. When a carrier is abandoned, and how carriers come to an
+//!   instance and leave it, are `Abandonment` and `Employment` of ea_model.
 //! - `Machine` puts them together: a scheduler wants a row, the row is answered, the scheduler goes
 //!   on. A run is a list of scheduler numbers, one for each step.
 //! - `Completion` adds the turns until every scheduler has ended, `Courses` has the lists of turns

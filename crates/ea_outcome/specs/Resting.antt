@@ -143,7 +143,8 @@ module _ (c : Config) (t : Trace) (schedulers : List Scheduler) (places : ℕ �
   -- the schedulers are those of the state after these turns, in order, and so are their stops, and
   -- the names are those given there; if carriers migrate, they are at these places there
   pub record StandIn (turns : List ℕ) : Type 0 where
-    pub actors : map actor_of schedulers ≡ machine.actors_of (setup_of c t) (run (setup_of c t) turns)
+    pub actors : map actor_of schedulers
+        ≡ machine.actors_of (setup_of c t) (run (setup_of c t) turns)
     pub stops : map stop_line schedulers
         ≡ map (stop_of (setup_of c t) (run (setup_of c t) turns) turns)
         (range_with_len 1 c.schedulers)

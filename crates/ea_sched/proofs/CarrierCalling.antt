@@ -1,6 +1,5 @@
 -- What the calls of a scheduler on carriers ask for, as what is shared is told, and what it has of
 -- a carrier by their answers.
-use Rattle.ea_sound.proofs.ListedCalls as listed
 use Rattle.std.proofs.Common.{◌≡◌, ◌≢◌, ℕ, ◌%◌, ◌<◌, true, [], refl, sym, ap, ◌∙◌}
 use Rattle.std.proofs.Common.{subst, arith}
 use Rattle.std.specs.Prelude.{IfSome, IsSome, None, Option, ◌+◌, length}
@@ -24,14 +23,15 @@ use Rattle.ea_machine.specs.Owners.{Busy, Employed}
 use Rattle.ea_machine.specs.Rows.{Answer, BusyTry, Look, Lost, Row, Saw, Won}
 use Rattle.ea_machine.specs.Setup.{Setup, migration}
 use Rattle.ea_machine.specs.Shared.{Shared}
-use Rattle.ea_shared.specs.Calls.{Caller, Did}
-use Rattle.ea_shared.specs.Carriers.{HasReturned, IsCarrier, IsFor, IsPooledBy}
+use Rattle.ea_sound.proofs.ListedCalls as listed
 use Rattle.ea_sound.specs.Places.{IsNumber}
 use Rattle.ea_sound.proofs.CarrierCalls as carriers
 use Rattle.ea_sound.proofs.LeavingCalls as leaving
 use Rattle.ea_sound.proofs.ReleasingCalls as releasing
 use Rattle.ea_sound.proofs.WordCalls as words
 use Rattle.ea_sound.proofs.WordCalls.{NamesEmployer}
+use Rattle.ea_shared.specs.Calls.{Caller, Did}
+use Rattle.ea_shared.specs.Carriers.{HasReturned, IsCarrier, IsFor, IsPooledBy}
 use Rattle.ea_sched.specs.declared.state.Scheduler.{Scheduler}
 use Rattle.ea_sched.specs.Acting.{setup_for, standing_at}
 use Rattle.ea_sched.specs.Steps.{IsReadyAt}

@@ -1,9 +1,9 @@
 -- Looks of a search that a scheduler takes in a row.
-use Rattle.ea_machine.specs.declared.parts.Part.TheVariants.{Pool}
 use Rattle.std.proofs.Common.{◌≡◌, ℕ, ◌-◌, ◌<◌, ◌≤◌, sym, ap, ◌∙◌, arith}
 use Rattle.std.specs.Prelude.{Some, false, replicate}
 use Rattle.ea_model.specs.Settings.{IsValidConfig}
 use Rattle.ea_model.specs.Trace.{IsValidTrace}
+use Rattle.ea_machine.specs.declared.parts.Part.TheVariants.{Pool}
 use Rattle.ea_machine.specs.declared.asks.Ask.{Ask}
 use Rattle.ea_machine.specs.declared.stages.Stage.TheVariants.{Searching}
 use Rattle.ea_machine.specs.Machine.{IsReached, run_on}

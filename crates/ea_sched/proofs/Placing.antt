@@ -1,6 +1,4 @@
 -- What the placing of a block makes of an actor, by what it changes.
-use Rattle.ea_machine.specs.declared.parts.Part.{Part}
-use Rattle.ea_machine.specs.Placements.{fetches}
 use Rattle.std.proofs.Common.{◌≡◌, ◌≢◌, ℕ, Bool, true, false, List, ◌∷◌}
 use Rattle.std.proofs.Common.{refl, sym, ap, ◌∙◌}
 use Rattle.std.specs.Prelude.{◌↔◌, Option, None, Some, Result, Ok, Err, is_some}
@@ -18,6 +16,8 @@ use Rattle.ea_model.specs.Instance.{employed, has_content, is_alone, place_at, p
 use Rattle.ea_model.specs.Instance.{single_place}
 use Rattle.ea_laws.specs.Kept.{IsOrderly}
 use Rattle.ea_laws.proofs.Orderly.{stays-employed}
+use Rattle.ea_machine.specs.declared.parts.Part.{Part}
+use Rattle.ea_machine.specs.Placements.{fetches}
 use Rattle.ea_machine.specs.declared.asks.Ask.{Ask}
 use Rattle.ea_machine.specs.declared.nodes.Named.{Named}
 use Rattle.ea_machine.specs.declared.nodes.Node.{Node}

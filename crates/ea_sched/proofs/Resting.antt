@@ -1,5 +1,6 @@
 -- Schedulers that take no step any more.
-use Rattle.std.proofs.Common.{◌≡◌, ℕ, zero, suc, Bool, true, false, List, [], ◌∷◌, Option, Some, None}
+use Rattle.std.proofs.Common.{◌≡◌, ℕ, zero, suc, Bool, true, false, List, [], ◌∷◌, Option, Some}
+use Rattle.std.proofs.Common.{None}
 use Rattle.std.proofs.Common.{refl, sym, ap, ◌∙◌, inl, inr, arith}
 use Rattle.std.specs.Prelude.{not, ◌&&◌, ◌||◌}
 use Rattle.std.proofs.lemmas.Bool.{cases_Bool}
@@ -22,7 +23,8 @@ goes-on s goes stopped = neither (is_ended s.stage) (is_over s.left) goes stoppe
 
 -- what a log says of a stop, by where the scheduler is
 module _ (stop left : Option ℕ) where
-  at-going : (st : Stage Content) → is_ended st ≡ false → stop_at st stop left ≡ stop_entry stop left
+  at-going : (st : Stage Content) → is_ended st ≡ false → stop_at st stop left
+      ≡ stop_entry stop left
   at-going Begin is = refl
   at-going (Routed route why gone) is = refl
   at-going (Collecting number) is = refl

@@ -1,7 +1,5 @@
 -- What the rows ask for by which a scheduler searches, fetches and creates a carrier, and where
 -- their answers leave it.
-use Rattle.ea_machine.specs.declared.parts.Part.{Part}
-use Rattle.ea_machine.specs.declared.parts.Part.TheVariants.{Own, Traitors, Pool}
 use Rattle.std.proofs.Common.{◌≡◌, ℕ, ◌*◌, ◌<◌, ◌≤◌, true, false, List, [], ◌∷◌, drop}
 use Rattle.std.proofs.Common.{refl, sym, ap, ◌∙◌, subst, arith}
 use Rattle.std.specs.Prelude.{Option, None, Some, IfSome, IsSome, All, option_map, Ok}
@@ -18,6 +16,8 @@ use Rattle.ea_model.specs.Instance.{own_of, owner_of, plan}
 use Rattle.ea_model.specs.Trace.{IsScheduler}
 use Rattle.ea_model.proofs.Options.{if_some}
 use Rattle.ea_laws.specs.Kept.{ContentsApart, IsLaidOut, IsSomeones}
+use Rattle.ea_machine.specs.declared.parts.Part.{Part}
+use Rattle.ea_machine.specs.declared.parts.Part.TheVariants.{Own, Traitors, Pool}
 use Rattle.ea_machine.specs.declared.asks.Ask.{Ask}
 use Rattle.ea_machine.specs.declared.nodes.Named.{Named}
 use Rattle.ea_machine.specs.declared.owners.OwnerWord.{OwnerWord}
@@ -35,10 +35,6 @@ use Rattle.ea_machine.specs.Shared.{Shared}
 use Rattle.ea_machine.specs.State.{State}
 use Rattle.ea_machine.specs.Statistics.{observed}
 use Rattle.ea_machine.specs.Table.{tried_at}
-use Rattle.ea_names.specs.Holding.{has_place}
-use Rattle.ea_search.specs.Looks.{IsInList}
-use Rattle.ea_shared.specs.Calls.{Caller, Did}
-use Rattle.ea_shared.specs.Carriers.{IsCarrier, IsPooled}
 use Rattle.ea_sound.specs.Listed.{LooksAt}
 use Rattle.ea_sound.specs.Present.{Asked, Fits, HasLeft, OfAsk}
 use Rattle.ea_sound.proofs.Asked.{reached-rule}
@@ -49,6 +45,10 @@ use Rattle.ea_sound.proofs.Observed.{reached-observed, searched-observed}
 use Rattle.ea_sound.proofs.Plans.{planned-number}
 use Rattle.ea_sound.proofs.ReleasingCalls.{own-migrates}
 use Rattle.ea_sound.proofs.WordCalls.{fetch-won}
+use Rattle.ea_names.specs.Holding.{has_place}
+use Rattle.ea_search.specs.Looks.{IsInList}
+use Rattle.ea_shared.specs.Calls.{Caller, Did}
+use Rattle.ea_shared.specs.Carriers.{IsCarrier, IsPooled}
 use Rattle.ea_sched.specs.declared.state.Scheduler.{Scheduler}
 use Rattle.ea_sched.specs.Acting.{setup_for, standing_at}
 use Rattle.ea_sched.specs.Asking.{HasMore, IsAsked, IsHere}

@@ -1,11 +1,11 @@
 -- Once a walk is over by a row of a route, or by a carrier that was collected, the scheduler may do
 -- its next operation.
-use Rattle.ea_machine.specs.Releases.{struck}
 use Rattle.std.proofs.Common.{◌≡◌, ℕ, refl, sym, ap, ◌∙◌, subst}
 use Rattle.std.specs.Prelude.{None, Option, Some}
 use Rattle.ea_model.specs.Content.{Content}
 use Rattle.ea_model.specs.Settings.{IsValidConfig}
 use Rattle.ea_model.specs.Trace.{IsScheduler, IsValidTrace}
+use Rattle.ea_machine.specs.Releases.{struck}
 use Rattle.ea_machine.specs.declared.tasks.Gone.{Gone}
 use Rattle.ea_machine.specs.declared.tasks.Why.TheVariants.{Walk}
 use Rattle.ea_machine.specs.declared.stages.Stage.TheVariants.{Begin, Collecting, Routed}
@@ -18,13 +18,13 @@ use Rattle.ea_machine.specs.Setup.{Setup, setup_of}
 use Rattle.ea_machine.specs.Shared.{Shared}
 use Rattle.ea_machine.specs.State.{State}
 use Rattle.ea_machine.specs.Table.{effect}
-use Rattle.ea_shared.specs.Calls.{Caller, Did}
 use Rattle.ea_sound.specs.Leaves.{InWalk}
 use Rattle.ea_sound.specs.Moments.{at}
 use Rattle.ea_sound.proofs.Assembly.{HoldsAt}
 use Rattle.ea_sound.proofs.CarrierCalls.{turned-walk, walks}
 use Rattle.ea_sound.proofs.ShortRoutes.{turned-keeps}
 use Rattle.ea_sound.proofs.WalkCalls.{collected-walks}
+use Rattle.ea_shared.specs.Calls.{Caller, Did}
 use Rattle.ea_sched.specs.declared.state.Scheduler.{Scheduler}
 use Rattle.ea_sched.specs.Acting.{IsSame, setup_for, standing_at}
 use Rattle.ea_sched.specs.Asking.{SuitsNext}
@@ -128,7 +128,8 @@ module _ (s t : Scheduler) (same : IsSame s t) (n : ℕ) {shared : Option Shared
       ≡ at Begin (disowned n (struck n (standing_at (Collecting n) s))) → SuitsNext t.instance t
   suits-collected is = suits-same s t same h.config h.trace h.state h.reached cleared
       (disowned n (struck n (standing_at (Collecting n) s))) (ap (λ (b : Actor). b.todo) h.actor) is
-      (subst (λ b. InWalk (setup_for s) h.state cleared s.number (at Begin (disowned n (struck n b)))) h.actor
+      (subst (λ b. InWalk (setup_for s) h.state cleared s.number
+      (at Begin (disowned n (struck n b)))) h.actor
       (collected-walks s.config s.trace.now h.config h.trace h.state h.reached s.number
       (s.number_from, s.number_to) n
       (ap (λ (b : Actor). b.stage) h.actor)))

@@ -54,8 +54,9 @@ looks_left (Taking name tries left) = 0
 looks_left Ended = 0
 looks_left Ready = 0
 
--- in whatever state the scheduler stood so, its search came down to the number by its own turns, one
--- for each number that it passed over, if no word of these counts; nothing that is shared changed
+-- in whatever state the scheduler stood so, its search came down to the number by its own turns,
+-- one for each number that it passed over, if no word of these counts; nothing that is shared
+-- changed
 abbrev pub HasPassed : ℕ → Scheduler → Scheduler → Type 0
 HasPassed number s t = (at : ℕ) (w : State) → next_look s.stage ≡ Some at
     → IsValidConfig s.config → IsValidTrace s.config.schedulers s.trace.now

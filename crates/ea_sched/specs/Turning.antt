@@ -1,7 +1,7 @@
 -- Where a row of a route leaves a scheduler.
-use Rattle.ea_machine.specs.Releases.{struck}
 use Rattle.std.specs.Prelude.{◌≡◌, ℕ, Option, None, Some}
 use Rattle.ea_model.specs.Content.{Content}
+use Rattle.ea_machine.specs.Releases.{struck}
 use Rattle.ea_machine.specs.declared.stages.Stage.{Stage}
 use Rattle.ea_machine.specs.declared.stages.Stage.TheVariants.{Begin, Routed}
 use Rattle.ea_machine.specs.declared.stages.Route.{Route}

@@ -4,7 +4,8 @@ ghost use Rattle.std.specs.Option.{option_map_or};
 ghost use Rattle.ea_model.specs.Settings.{IsValidConfig};
 ghost use Rattle.ea_model.specs.Trace.{IsValidTrace};
 ghost use Rattle.ea_machine.specs.Machine.{first_actor};
-ghost use Rattle.ea_sched.specs.Acting.{actor_of, is_ended, is_stopped, setup_for, stop_entries, stop_line};
+ghost use Rattle.ea_sched.specs.Acting.{actor_of, is_ended, is_stopped, setup_for, stop_entries};
+ghost use Rattle.ea_sched.specs.Acting.{stop_line};
 ghost use Rattle.ea_sched.specs.Acting as acting;
 
 use crate::brought::names_for;
@@ -32,8 +33,8 @@ fn with_stop(mut log: List<Entry>, stop: Option<u32>) -> List<Entry>
 }
 
 impl<'t> Scheduler<'t> {
-    /// Scheduler `number` before its first step. It takes the memory for its log, for the names that
-    /// it may hold, and for the nodes that its walks pass.
+    /// Scheduler `number` before its first step. It takes the memory for its log, for the names
+    /// that it may hold, and for the nodes that its walks pass.
     pub fn new(
         alloc: Global,
         config: Config,
@@ -105,8 +106,8 @@ impl<'t> Scheduler<'t> {
         &self.log
     }
 
-    /// Its log, by value: what came of its operations, and then its stop, if it is stopped. It is not
-    /// copied.
+    /// Its log, by value: what came of its operations, and then its stop, if it is stopped. It is
+    /// not copied.
     pub fn into_log(self) -> List<Entry>
         ensures { result.items ≡ self.entry.log.items ++ stop_line self.entry }
     {

@@ -117,11 +117,10 @@ impl<'t> Scheduler<'t> {
         Ok(())
     }
 
-    /// Takes one atomic step on what is shared, and does all up to the next one; one that has ended or
-    /// is stopped takes none. An `Err` says that
-    /// the step is one that creates a carrier, and that there was no memory for it, or no number
-    /// left to count it with: no other step fails. From then on an `Err` is all that this scheduler
-    /// answers.
+    /// Takes one atomic step on what is shared, and does all up to the next one; one that has ended
+    /// or is stopped takes none. An `Err` says that the step is one that creates a carrier, and
+    /// that there was no memory for it, or no number left to count it with: no other step fails.
+    /// From then on an `Err` is all that this scheduler answers.
     pub fn step<S: Shared<Content = Mbc>>(
         &mut self,
         alloc: Global,

@@ -44,7 +44,8 @@ HasEffect me row got after before = (got ≡ answer me row before)
 -- it is told, and took its step there
 abbrev pub TookStep : ℕ → Row → Answer → Option Shared → Option Caller → Caller → Type 0
 TookStep me row got shared after before = (state : State) × IsReached before.setup state
-    × (before ≡ caller_of before.setup me state before.taken) × IfSome shared (λ s. s ≡ state.shared)
+    × (before ≡ caller_of before.setup me state before.taken)
+    × IfSome shared (λ s. s ≡ state.shared)
     × (got ≡ answer me row state.shared)
     × (after ≡ Some (caller_of before.setup me (step before.setup state me) (before.taken + 1)))
 

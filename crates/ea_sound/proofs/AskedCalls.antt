@@ -3,8 +3,6 @@
 -- placed, its name is one of the trace and isn't held, and the old block of a reallocation is;
 -- nothing is chosen among the employed carriers; a carrier that is fetched has a choice; and the
 -- plan of one that is created is still the plan.
-use Rattle.ea_machine.specs.Searches.{goes_on}
-use Rattle.ea_sound.specs.Present.{HasLeft}
 use Rattle.std.proofs.Common.{◌≡◌, ℕ, ◌%◌, ◌≤◌, true, List, [], ◌∷◌, sym, ap, ◌∙◌, subst}
 use Rattle.std.proofs.Common.{refl, arith}
 use Rattle.std.specs.Prelude.{None, Some, Ok, ◌⊎◌}
@@ -25,6 +23,7 @@ use Rattle.ea_model.proofs.Rising.{item_at-All, item_at-new}
 use Rattle.ea_laws.specs.Kept.{HasPages, IsKept, own_number}
 use Rattle.ea_laws.proofs.Keeping.{IsKept-made}
 use Rattle.ea_laws.proofs.Owned.{unused-All}
+use Rattle.ea_machine.specs.Searches.{goes_on}
 use Rattle.ea_machine.specs.declared.parts.Part.{Part}
 use Rattle.ea_machine.specs.declared.asks.Ask.{Ask}
 use Rattle.ea_machine.specs.declared.nodes.Named.{Named}
@@ -38,6 +37,7 @@ use Rattle.ea_machine.specs.Rows.{Won}
 use Rattle.ea_machine.specs.Setup.{Setup, is_scheduler, setup_of}
 use Rattle.ea_machine.specs.State.{State}
 use Rattle.ea_machine.specs.Table.{tried_at}
+use Rattle.ea_sound.specs.Present.{HasLeft}
 use Rattle.ea_sound.specs.Present.{Asked, Fits, OfAsk, OldHeld, Rule}
 use Rattle.ea_sound.specs.Rule.{Kept}
 use Rattle.ea_sound.proofs.Asked.{first-operation, reached-rule}

@@ -1,6 +1,4 @@
 -- What each move of a scheduler keeps, its local work keeps.
-use Rattle.ea_machine.specs.Lists.{Lists, pooled_if, unlisted}
-use Rattle.ea_machine.specs.Releases.{struck}
 use Rattle.std.proofs.Common.{◌≡◌, ◌≢◌, ℕ, List, [], ◌∷◌, Bool, true, false, refl, sym, subst, inr}
 use Rattle.std.specs.Prelude.{Option, Some, None, ◌==◌}
 use Rattle.std.proofs.lemmas.Bool.{eqb-true}
@@ -12,6 +10,8 @@ use Rattle.ea_model.specs.Content.{Content, is_nil}
 use Rattle.ea_model.specs.Instance.{content_of, employed, releasing_at, owner_of}
 use Rattle.ea_model.proofs.Rising.{item_at-key}
 use Rattle.ea_laws.specs.Kept.{number_of}
+use Rattle.ea_machine.specs.Lists.{Lists, pooled_if, unlisted}
+use Rattle.ea_machine.specs.Releases.{struck}
 use Rattle.ea_machine.specs.declared.nodes.Node.{Node}
 use Rattle.ea_machine.specs.declared.nodes.Node.TheVariants.{Block, Carrier}
 use Rattle.ea_machine.specs.declared.owners.OwnerWord.{OwnerWord}

@@ -3,12 +3,10 @@
 -- abandoned, sent home or cleared is employed, one that is collected has returned; the block in the
 -- hand is in a carrier that its scheduler employs, and in one that it makes busy; and a carrier
 -- that it fetches fits into its instance.
-use Rattle.ea_sound.proofs.Protocols.{lists-run}
-use Rattle.ea_sound.proofs.SoundLists.{looks-number}
-use Rattle.ea_sound.specs.Listed.{KeepsLists}
 use Rattle.std.proofs.Common.{◌≡◌, ◌≢◌, ℕ, ◌<◌, true, false, refl, sym, ap, ◌∙◌, subst, inl, inr}
 use Rattle.std.proofs.Common.{arith}
 use Rattle.std.specs.Prelude.{All, None, Some}
+use Rattle.std.proofs.lemmas.Bool.{cases_eq, cases_lt}
 use Rattle.ea_model.specs.declared.carriers.BlockAt.{BlockAt}
 use Rattle.ea_model.specs.declared.carriers.CarrierPlan.{CarrierPlan}
 use Rattle.ea_model.specs.declared.carriers.Kind.TheVariants.{Multi}
@@ -18,12 +16,9 @@ use Rattle.ea_model.specs.Content.{Content, block_at, gaps_of, largest}
 use Rattle.ea_model.specs.Instance.{content_of, employed, own_at, own_of, owner_of}
 use Rattle.ea_model.specs.Settings.{IsValidConfig}
 use Rattle.ea_model.specs.Trace.{IsScheduler, IsValidTrace}
-use Rattle.ea_laws.specs.Kept.{ContentsApart, IsForeign, IsLaidOut, IsSomeones, number_of}
 use Rattle.ea_model.proofs.Merged.{merged-All}
 use Rattle.ea_model.proofs.Rising.{none-other}
-use Rattle.std.proofs.lemmas.Bool.{cases_eq, cases_lt}
-use Rattle.ea_sound.proofs.Created.{scheduler-number}
-use Rattle.ea_sound.proofs.Starting.{regions-apart}
+use Rattle.ea_laws.specs.Kept.{ContentsApart, IsForeign, IsLaidOut, IsSomeones, number_of}
 use Rattle.ea_machine.specs.declared.parts.Part.{Part}
 use Rattle.ea_machine.specs.declared.asks.Ask.{Ask}
 use Rattle.ea_machine.specs.declared.nodes.Named.{Named}
@@ -37,22 +32,35 @@ use Rattle.ea_machine.specs.declared.stages.Stage.TheVariants.{Routed, Searching
 use Rattle.ea_machine.specs.declared.stages.Route.{Route}
 use Rattle.ea_machine.specs.declared.stages.Route.TheVariants.{Clearing, Looking, Settling, Trying}
 use Rattle.ea_machine.specs.Actor.{Actor}
-use Rattle.ea_sound.specs.Contents.{AtHome, Everywhere, InHand, hand_sum, home_sum, seats}
 use Rattle.ea_machine.specs.Machine.{IsReached}
-use Rattle.ea_sound.specs.Names.{of_hand, only_at}
 use Rattle.ea_machine.specs.Owners.{CarrierAt, Absent, Busy, Employed, Pooled, Returning, word_of}
-use Rattle.ea_sound.specs.Places.{IsNumber, has_number, is_there, none}
-use Rattle.ea_sound.specs.Ranges.{IsApartFrom, IsLaidOutAsKind}
 use Rattle.ea_machine.specs.Rows.{Answer, Won}
 use Rattle.ea_machine.specs.Setup.{Setup, is_scheduler, setup_of}
 use Rattle.ea_machine.specs.Shared.{Shared}
 use Rattle.ea_machine.specs.State.{State}
 use Rattle.ea_machine.specs.Sums.{one_if}
 use Rattle.ea_machine.specs.Table.{tried_at}
+use Rattle.ea_machine.specs.Words.{IsLargest}
+use Rattle.ea_machine.specs.Machine.{wants_on}
+use Rattle.ea_machine.specs.Releases.{turned}
+use Rattle.ea_machine.specs.Table.{answer, effect}
+use Rattle.ea_machine.specs.declared.tasks.Task.{Task}
+use Rattle.ea_machine.specs.declared.tasks.Why.TheVariants.{For, Walk}
+use Rattle.ea_sound.specs.Listed.{KeepsLists}
+use Rattle.ea_sound.specs.Contents.{AtHome, Everywhere, InHand, hand_sum, home_sum, seats}
+use Rattle.ea_sound.specs.Names.{of_hand, only_at}
+use Rattle.ea_sound.specs.Places.{IsNumber, has_number, is_there, none}
+use Rattle.ea_sound.specs.Ranges.{IsApartFrom, IsLaidOutAsKind}
 use Rattle.ea_sound.specs.Here.{Here}
 use Rattle.ea_sound.specs.Moments.{at, with_actor}
 use Rattle.ea_sound.specs.Present.{Fits, HasEmployer, HasOther, Rule, StillPooled}
 use Rattle.ea_sound.specs.Rule.{Belongs, Kept, Standing, of_owner}
+use Rattle.ea_sound.specs.Leaves.{InOperation, InWalk}
+use Rattle.ea_sound.specs.Steady.{AreSteady, IsShown, IsSteadyStage}
+use Rattle.ea_sound.proofs.Protocols.{lists-run}
+use Rattle.ea_sound.proofs.SoundLists.{looks-number}
+use Rattle.ea_sound.proofs.Created.{scheduler-number}
+use Rattle.ea_sound.proofs.Starting.{regions-apart}
 use Rattle.ea_sound.proofs.Asked.{reached-rule}
 use Rattle.ea_sound.proofs.BlockWeights.{only_at-itself}
 use Rattle.ea_sound.proofs.CarrierRows.{create_absent}
@@ -66,20 +74,12 @@ use Rattle.ea_sound.proofs.Numbered.{scheduler-seat}
 use Rattle.ea_sound.proofs.OwnEntries.{IsSomewhere, not_here-none, owner-has, owner-scheduler}
 use Rattle.ea_sound.proofs.Plans.{planned-number}
 use Rattle.ea_sound.proofs.OwnEntries.{somewhere-hand, somewhere-home, somewhere-returning, this}
-use Rattle.ea_sound.specs.Leaves.{InOperation, InWalk}
-use Rattle.ea_machine.specs.Words.{IsLargest}
-use Rattle.ea_sound.specs.Steady.{AreSteady, IsShown, IsSteadyStage}
 use Rattle.ea_sound.proofs.Assembly.{Closed, Holds, turned-holds}
 use Rattle.ea_sound.proofs.CarrierMoves.{closed}
 use Rattle.ea_sound.proofs.LargestGaps.{laid-largest}
 use Rattle.ea_sound.proofs.Protocols.{steady-run}
 use Rattle.ea_sound.proofs.StillMoves.{keeps-operation, keeps-walk}
 use Rattle.ea_sound.proofs.RowLeaves.{creating-bare, row-left}
-use Rattle.ea_machine.specs.Machine.{wants_on}
-use Rattle.ea_machine.specs.Releases.{turned}
-use Rattle.ea_machine.specs.Table.{answer, effect}
-use Rattle.ea_machine.specs.declared.tasks.Task.{Task}
-use Rattle.ea_machine.specs.declared.tasks.Why.TheVariants.{For, Walk}
 use Rattle.ea_sound.proofs.SoundOwners.{content-number}
 use Rattle.ea_sound.proofs.SoundRanges.{number-scheduler, sound-ranges}
 use Rattle.ea_sound.proofs.Totals.{put-here}
@@ -289,7 +289,8 @@ module _ (c : Config) (t : Trace) (valid : IsValidConfig c)
 
     pub search-number : (ask : Ask) (n : ℕ) (part : Part) → a.stage ≡ Searching ask n part
         → IsNumber e n
-    search-number ask n part now = looks-number e w rule lists me n part (fits (Searching ask n part) now).5
+    search-number ask n part now =
+        looks-number e w rule lists me n part (fits (Searching ask n part) now).5
 
     -- a carrier that is fetched
     module _ (ask : Ask) (n : ℕ) (part : Part) (seen : OwnerWord)

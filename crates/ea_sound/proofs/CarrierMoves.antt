@@ -1,6 +1,5 @@
 -- Moves of a scheduler with a carrier: a block of it is released, and it leaves the instance or its
 -- owner.
-use Rattle.ea_sound.proofs.StillMoves.{lists-goes}
 use Rattle.std.proofs.Common.{◌≡◌, ℕ, ◌+◌, ◌*◌, ◌/◌, List, [], ◌∷◌, true, false, refl, sym, ap, ◌∙◌}
 use Rattle.std.proofs.Common.{subst, inl, inr, arith}
 use Rattle.std.proofs.lemmas.Bool.{cases_eq, true≢false}
@@ -16,31 +15,34 @@ use Rattle.ea_model.specs.Instance.{Instance, changed, content_of, employed, own
 use Rattle.ea_model.specs.Instance.{releasing_at, without_own, owner_of}
 use Rattle.ea_model.proofs.Options.{same-some}
 use Rattle.ea_model.proofs.Rising.{item_at-All, item_at-key, item_past, without_here}
+use Rattle.ea_model.specs.Employment.{dismissing}
 use Rattle.ea_laws.specs.Kept.{number_of, own_number, HasOneBlock, IsLaidOut, IsLaidOutAlone}
 use Rattle.ea_laws.specs.Kept.{IsOrderly, IsRising}
 use Rattle.ea_laws.specs.Kinds.{is_shared}
 use Rattle.ea_laws.proofs.BlockLists.{offset_of}
 use Rattle.ea_laws.proofs.Apart.{changed-All}
 use Rattle.ea_laws.proofs.Changed.{released-keeps}
+use Rattle.ea_laws.proofs.Orderly.{changing-found, disowning-IsOrderly, dismissing-IsOrderly}
+use Rattle.ea_laws.proofs.Orderly.{releasing-IsOrderly}
 use Rattle.ea_machine.specs.declared.stages.Stage.TheVariants.{Begin, Routed}
 use Rattle.ea_machine.specs.declared.stages.Route.TheVariants.{Looking, Abandoning}
 use Rattle.ea_machine.specs.Actor.{Actor}
 use Rattle.ea_machine.specs.declared.tasks.Why.{Why}
 use Rattle.ea_machine.specs.declared.tasks.Gone.{Gone}
-use Rattle.ea_model.specs.Employment.{dismissing}
-use Rattle.ea_sound.specs.Contents.{hand_sum}
-use Rattle.ea_sound.specs.Names.{of_block, of_content, only}
 use Rattle.ea_machine.specs.declared.nodes.Named.{Named}
-use Rattle.ea_sound.specs.Ranges.{IsLaidOutAsKind}
 use Rattle.ea_machine.specs.Releases.{dismissed, disowned}
 use Rattle.ea_machine.specs.Setup.{Setup, is_scheduler, migration}
 use Rattle.ea_machine.specs.Shared.{Shared, put}
 use Rattle.ea_machine.specs.State.{State}
 use Rattle.ea_machine.specs.Sums.{sum_over}
+use Rattle.ea_sound.specs.Contents.{hand_sum}
+use Rattle.ea_sound.specs.Names.{of_block, of_content, only}
+use Rattle.ea_sound.specs.Ranges.{IsLaidOutAsKind}
 use Rattle.ea_sound.specs.Here.{Here}
 use Rattle.ea_sound.specs.Blocks.{employed_sum, spot_at}
 use Rattle.ea_sound.specs.Moments.{at, with_actor}
 use Rattle.ea_sound.specs.Rule.{Belongs, Kept, Standing, of_owner}
+use Rattle.ea_sound.proofs.StillMoves.{lists-goes}
 use Rattle.ea_sound.proofs.Assembly.{Closed}
 use Rattle.ea_sound.proofs.Alike.{Alike, lies-with}
 use Rattle.ea_sound.proofs.BlockWeights.{block-rising, only_at-itself, sum-released}
@@ -48,8 +50,6 @@ use Rattle.ea_sound.proofs.EmployedWeights.{employed_sum-changing, employed_sum-
 use Rattle.ea_sound.proofs.KeyedWeights.{sum-without, times-once}
 use Rattle.ea_sound.proofs.Hits.{HasBlock, employed-holds, hit}
 use Rattle.ea_sound.proofs.Numbered.{scheduler-seat}
-use Rattle.ea_laws.proofs.Orderly.{changing-found, disowning-IsOrderly, dismissing-IsOrderly}
-use Rattle.ea_laws.proofs.Orderly.{releasing-IsOrderly}
 use Rattle.ea_sound.proofs.RangeRows.{LieWell}
 use Rattle.ea_sound.proofs.OwnEntries.{owner-has, somewhere-hand, this}
 use Rattle.ea_sound.proofs.StillMoves.{Fewer, Keeps, clear-goes, goes-alike, hand-goes, log-goes}

@@ -1,6 +1,4 @@
 -- What the turns so far say of a scheduler, by where it is in its operation.
-use Rattle.ea_machine.specs.Lists.{Lists}
-use Rattle.ea_machine.specs.Searches.{Search, goes_on, new_search, with_counted}
 use Rattle.std.proofs.Common.{◌≡◌, ◌≢◌, ℕ, ◌+◌, ◌≤◌, List, [], ◌∷◌, ◌++◌, Bool, true, false}
 use Rattle.std.proofs.Common.{refl, sym, ap, ◌∙◌, subst, arith}
 use Rattle.std.specs.Prelude.{Option, Some, None, Ok, ◌==◌, count_by, length}
@@ -14,6 +12,8 @@ use Rattle.ea_model.specs.declared.operations.Op.{Op}
 use Rattle.ea_model.specs.declared.operations.Op.TheVariants as op
 use Rattle.ea_model.specs.Instance.{chosen_spot, plan, owner_of}
 use Rattle.ea_model.specs.Content.{Content}
+use Rattle.ea_machine.specs.Lists.{Lists}
+use Rattle.ea_machine.specs.Searches.{Search, goes_on, new_search, with_counted}
 use Rattle.ea_machine.specs.declared.parts.Part.{Part}
 use Rattle.ea_machine.specs.declared.owners.OwnerWord.{OwnerWord}
 use Rattle.ea_machine.specs.declared.owners.OwnerWord.TheVariants as word
@@ -33,30 +33,30 @@ use Rattle.ea_machine.specs.declared.tasks.Why.TheVariants.{Walk, For}
 use Rattle.ea_machine.specs.declared.tasks.Gone.{Gone}
 use Rattle.ea_machine.specs.declared.tasks.Gone.TheVariants.{Open, Here, Queued}
 use Rattle.ea_machine.specs.declared.asks.Ask.{Ask}
-use Rattle.ea_sound.specs.Chosen.{HasAsked, IsPlacedAt}
-use Rattle.ea_sound.specs.Entries.{Makes}
-use Rattle.ea_sound.specs.HandedOver.{HasHeld, HasPushed, IsAnother, IsReleasedHere}
-use Rattle.ea_sound.specs.Shown.{HasSeen, SeesEmployer, SeesItself}
 use Rattle.ea_machine.specs.declared.nodes.Node.{Node}
 use Rattle.ea_machine.specs.Nodes.{block_node}
-use Rattle.ea_sound.specs.Exhausted.{IsFailOf, seen_since}
 use Rattle.ea_machine.specs.Machine.{run}
-use Rattle.ea_sound.specs.Needs.{AsksFor}
 use Rattle.ea_machine.specs.declared.nodes.Named.{Named}
 use Rattle.ea_machine.specs.Placements.{failed}
 use Rattle.ea_machine.specs.Searches.{fits}
-use Rattle.ea_sound.specs.Searches.{Searched, Shown, Sight, sight_if}
 use Rattle.ea_machine.specs.Setup.{Setup, greatest_number, migration}
 use Rattle.ea_machine.specs.State.{State}
 use Rattle.ea_machine.specs.Sums.{one_if}
 use Rattle.ea_machine.specs.Tasks.{entry_of}
+use Rattle.ea_sound.specs.Chosen.{HasAsked, IsPlacedAt}
+use Rattle.ea_sound.specs.Entries.{Makes}
+use Rattle.ea_sound.specs.HandedOver.{HasHeld, HasPushed, IsAnother, IsReleasedHere}
+use Rattle.ea_sound.specs.Shown.{HasSeen, SeesEmployer, SeesItself}
+use Rattle.ea_sound.specs.Exhausted.{IsFailOf, seen_since}
+use Rattle.ea_sound.specs.Needs.{AsksFor}
+use Rattle.ea_sound.specs.Searches.{Searched, Shown, Sight, sight_if}
 use Rattle.ea_sound.specs.Turns.{IsBegun, answered, begun, log_after}
 use Rattle.ea_sound.specs.Present.{OfAsk, OfTask}
+use Rattle.ea_sound.specs.Released.{LiesAt, blocks_named}
+use Rattle.ea_sound.specs.Names.{to_make}
 use Rattle.ea_sound.proofs.HandedNames.{NeverGiven, never-other}
 use Rattle.ea_sound.proofs.SearchLists.{count-snoc, sights-snoc}
 use Rattle.ea_sound.proofs.TurnLists.{longer, run-since}
-use Rattle.ea_sound.specs.Released.{LiesAt, blocks_named}
-use Rattle.ea_sound.specs.Names.{to_make}
 
 -- b has the log, the operations left, the instance and the held names of a
 abbrev pub IsSame : Actor → Actor → Type 0

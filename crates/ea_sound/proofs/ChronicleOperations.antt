@@ -1,9 +1,9 @@
 -- An operation itself, once its begin is over: what it makes of what the turns before say.
-use Rattle.ea_machine.specs.Searches.{new_search}
 use Rattle.std.proofs.Common.{◌≡◌, ◌≢◌, ◌⊎◌, ℕ, ◌<◌, ◌≤◌, List, [], ◌∷◌, Bool, true, false, refl}
 use Rattle.std.proofs.Common.{sym, ap, ◌∙◌, subst, inl, inr, arith, ◌++◌}
 use Rattle.std.specs.Prelude.{All, Option, Some, None, ◌==◌, count_by, filter, not}
 use Rattle.std.proofs.lemmas.List.Elements.{All-head}
+use Rattle.std.proofs.lemmas.Bool.{eqb-true}
 use Rattle.ea_model.specs.declared.carriers.Figures.{Figures}
 use Rattle.ea_model.specs.declared.carriers.Spot.{Spot}
 use Rattle.ea_model.specs.declared.entries.Entry.{Entry}
@@ -17,13 +17,15 @@ use Rattle.ea_model.specs.Instance.{chosen_spot, decision_at, figures, is_alone,
 use Rattle.ea_model.specs.Instance.{Instance}
 use Rattle.ea_model.specs.Units.{need_of}
 use Rattle.ea_model.proofs.Rising.{item_at-key}
+use Rattle.ea_model.specs.Trace.{makes}
+use Rattle.ea_model.proofs.Needs.{need-even, need-least}
+use Rattle.ea_model.specs.Content.{Content}
+use Rattle.ea_laws.proofs.Orderly.{resizing-fixed, stays-employed}
+use Rattle.ea_machine.specs.Searches.{new_search}
 use Rattle.ea_machine.specs.declared.stages.Stage.TheVariants.{Ready, Ended, Begin}
 use Rattle.ea_machine.specs.Actor.{Actor, Stat}
 use Rattle.ea_machine.specs.declared.tasks.Task.TheVariants.{Freeing}
 use Rattle.ea_machine.specs.declared.asks.Ask.{Ask}
-use Rattle.ea_sound.specs.Chosen.{AtOnce, Had}
-use Rattle.ea_sound.specs.Entries.{IsSkipped, Makes, Reports}
-use Rattle.ea_sound.specs.Needs.{AsksFor, HasNeed, IsToMove}
 use Rattle.ea_machine.specs.Nodes.{named_at, name_of}
 use Rattle.ea_machine.specs.declared.nodes.Named.{Named}
 use Rattle.ea_machine.specs.Operations.{freed, giving, itself}
@@ -33,27 +35,26 @@ use Rattle.ea_machine.specs.Setup.{Setup, greatest_number, migration, is_schedul
 use Rattle.ea_machine.specs.Statistics.{employed_multis, employed_singles, informed, is_single}
 use Rattle.ea_machine.specs.Statistics.{leaving_at, observed, report, restarted}
 use Rattle.ea_machine.specs.Tasks.{let_go, logged}
+use Rattle.ea_machine.specs.Sums.{one_if}
+use Rattle.ea_machine.specs.Machine.{run}
+use Rattle.ea_machine.specs.Shared.{Shared}
+use Rattle.ea_sound.specs.Chosen.{AtOnce, Had}
+use Rattle.ea_sound.specs.Entries.{IsSkipped, Makes, Reports}
+use Rattle.ea_sound.specs.Needs.{AsksFor, HasNeed, IsToMove}
 use Rattle.ea_sound.specs.Turns.{actor_after, begun}
 use Rattle.ea_sound.specs.Present.{HasTry, OfAsk, OfTask, OldHeld, Rule}
-use Rattle.ea_sound.proofs.Chronicle.{HasOld, IsOfFirst}
 use Rattle.ea_sound.specs.HandedOver.{HasHeld}
+use Rattle.ea_sound.specs.Names.{made_in}
+use Rattle.ea_sound.specs.Leaves.{InOperation, InWalk, IsFresh}
+use Rattle.ea_sound.specs.Moments.{at, with_actor}
+use Rattle.ea_sound.proofs.Chronicle.{HasOld, IsOfFirst}
 use Rattle.ea_sound.proofs.HandedNames.{never-first}
 use Rattle.ea_sound.proofs.TextTotals.{All-back}
-use Rattle.ea_laws.proofs.Orderly.{resizing-fixed, stays-employed}
 use Rattle.ea_sound.proofs.ShortRoutes.{Keeps}
 use Rattle.ea_sound.proofs.Weights.{sum_by-sum_over}
-use Rattle.ea_machine.specs.Sums.{one_if}
 use Rattle.ea_sound.proofs.ChroniclePlaces.{Fine as IsFine, IsAsking, IsNow, IsWanted as Wants}
 use Rattle.ea_sound.proofs.ChroniclePlaces.{landed, shared, choice-fine, logged-fine, planned-fine}
 use Rattle.ea_sound.proofs.ChroniclePlaces.{search-fine, task-fine, big, little, fails}
-use Rattle.ea_model.specs.Trace.{makes}
-use Rattle.std.proofs.lemmas.Bool.{eqb-true}
-use Rattle.ea_model.proofs.Needs.{need-even, need-least}
-use Rattle.ea_machine.specs.Machine.{run}
-use Rattle.ea_sound.specs.Names.{made_in}
-use Rattle.ea_machine.specs.Shared.{Shared}
-use Rattle.ea_sound.specs.Leaves.{InOperation, InWalk, IsFresh}
-use Rattle.ea_sound.specs.Moments.{at, with_actor}
 use Rattle.ea_sound.proofs.Alike.{lies-with}
 use Rattle.ea_sound.proofs.Hits.{held-stands}
 use Rattle.ea_sound.proofs.LyingBlocks.{LiesWith, resizing-lies}
@@ -61,7 +62,6 @@ use Rattle.ea_sound.proofs.Numbered.{scheduler-seat}
 use Rattle.ea_sound.proofs.Operating.{closed-operation}
 use Rattle.ea_sound.proofs.StandingBlocks.{hit-found}
 use Rattle.ea_sound.proofs.Totals.{put-here}
-use Rattle.ea_model.specs.Content.{Content}
 
 module _ (e : Setup) (rules : (L : List ℕ) → Rule e (run e L)) (L : List ℕ) (me : ℕ) where
   abbrev acting : Actor

@@ -1,11 +1,11 @@
 -- A turn of a scheduler that places a block, plans a carrier or searches for one: what it makes of
 -- what the turns before say.
-use Rattle.ea_machine.specs.Placements.{search_on}
-use Rattle.ea_machine.specs.Searches.{Search, goes_on, looked_in, passed}
-use Rattle.ea_sound.proofs.Chronicle.{CameTo}
 use Rattle.std.proofs.Common.{◌≡◌, ◌⊎◌, ℕ, ◌<◌, ◌≤◌, List, [], ◌∷◌, ◌++◌, Bool, true}
 use Rattle.std.proofs.Common.{false, refl, sym, ap, ◌∙◌, subst, inl, inr, arith, ◌≢◌}
 use Rattle.std.specs.Prelude.{Option, Some, None, Result, Ok, Err, ◌==◌}
+use Rattle.std.proofs.lemmas.Bool.{eqb-true}
+use Rattle.std.proofs.lemmas.List.{append-nil}
+use Rattle.std.proofs.lemmas.Bool.{true≢false}
 use Rattle.ea_model.specs.declared.carriers.CarrierPlan.{CarrierPlan}
 use Rattle.ea_model.specs.declared.carriers.Place.{Place}
 use Rattle.ea_model.specs.declared.carriers.Spot.{Spot}
@@ -15,8 +15,11 @@ use Rattle.ea_model.specs.declared.entries.NoCarrier.{NoCarrier}
 use Rattle.ea_model.specs.declared.entries.NoCarrier.TheVariants.{Space}
 use Rattle.ea_model.specs.Instance.{chosen_spot, creating, is_alone, place_at, plan, single_place}
 use Rattle.ea_model.specs.Instance.{creating_single, placing_at, owner_of}
-use Rattle.ea_laws.proofs.Keeping.{plan-IsPlanned}
 use Rattle.ea_model.specs.Content.{Content}
+use Rattle.ea_laws.proofs.Keeping.{plan-IsPlanned}
+use Rattle.ea_laws.specs.Kept.{IsOrderly}
+use Rattle.ea_machine.specs.Placements.{search_on}
+use Rattle.ea_machine.specs.Searches.{Search, goes_on, looked_in, passed}
 use Rattle.ea_machine.specs.declared.stages.Stage.TheVariants.{Begin, Ready, Ended, Routed}
 use Rattle.ea_machine.specs.declared.stages.Route.{Route}
 use Rattle.ea_machine.specs.declared.stages.Route.TheVariants.{Looking, Trying, Settling}
@@ -30,11 +33,6 @@ use Rattle.ea_machine.specs.declared.tasks.Why.TheVariants.{For}
 use Rattle.ea_machine.specs.declared.tasks.Gone.{Gone}
 use Rattle.ea_machine.specs.declared.tasks.Gone.TheVariants.{Open, Here, Queued}
 use Rattle.ea_machine.specs.declared.asks.Ask.{Ask}
-use Rattle.ea_sound.specs.Chosen.{Created, Creates, HasAsked, IsJustBefore, IsPlacedAt, IsPlacement}
-use Rattle.ea_sound.specs.Entries.{Tells}
-use Rattle.ea_sound.specs.HandedOver.{HasHeld, IsAnother, IsReleasedHere}
-use Rattle.ea_sound.specs.Shown.{SeesEmployer, SeesItself}
-use Rattle.ea_sound.specs.Exhausted.{FindsNoPlace, IsExhausted, IsFailOf}
 use Rattle.ea_machine.specs.Machine.{run, wants}
 use Rattle.ea_machine.specs.declared.nodes.Named.{Named}
 use Rattle.ea_machine.specs.Placements.{created, created_by, failed, making, new_carrier_by}
@@ -44,25 +42,29 @@ use Rattle.ea_machine.specs.Releases.{Turned, owned_by, release_here, route_of, 
 use Rattle.ea_machine.specs.Setup.{Setup, migration, is_scheduler}
 use Rattle.ea_machine.specs.Statistics.{observed}
 use Rattle.ea_machine.specs.Tasks.{carried, entry_of, hands_over, later, let_go, logged, task_over}
+use Rattle.ea_machine.specs.Nodes.{named_at, block_node, without_name}
+use Rattle.ea_machine.specs.State.{State}
+use Rattle.ea_machine.specs.Shared.{Shared}
+use Rattle.ea_machine.specs.Table.{effect}
+use Rattle.ea_sound.specs.Chosen.{Created, Creates, HasAsked, IsJustBefore, IsPlacedAt, IsPlacement}
+use Rattle.ea_sound.specs.Entries.{Tells}
+use Rattle.ea_sound.specs.HandedOver.{HasHeld, IsAnother, IsReleasedHere}
+use Rattle.ea_sound.specs.Shown.{SeesEmployer, SeesItself}
+use Rattle.ea_sound.specs.Exhausted.{FindsNoPlace, IsExhausted, IsFailOf}
 use Rattle.ea_sound.specs.Turns.{actor_after, begun}
 use Rattle.ea_sound.specs.Present.{OfAsk, OfTask, OldHeld, Rule, Fits, FitsRoute}
+use Rattle.ea_sound.specs.Contents.{actor_sum, seats}
+use Rattle.ea_sound.specs.Released.{LiesAt, blocks_named as blocks_of_name, says_failed}
+use Rattle.ea_sound.specs.Names.{allocated, of_hand, only}
+use Rattle.ea_sound.specs.Rule.{blocks_of}
+use Rattle.ea_sound.specs.Leaves.{InOperation, IsFresh, Wanted, making as with_carrier}
+use Rattle.ea_sound.specs.Moments.{at, with_actor}
+use Rattle.ea_sound.proofs.Chronicle.{CameTo}
 use Rattle.ea_sound.proofs.Chronicle.{HasOld, IsOut, LeftBy, OnWay, PushedBy, PushesBy, Sent}
 use Rattle.ea_sound.proofs.Chronicle.{IsOfFirst, IsSame, Outcomes, Placement, Placing, SoFar}
 use Rattle.ea_sound.proofs.Chronicle.{Underway, WentTo, failed-is, name_in, outcomes, task-first}
 use Rattle.ea_sound.proofs.ShortRoutes.{Keeps, here-short, keeps-on, route-keeps}
-use Rattle.ea_sound.specs.Contents.{actor_sum, seats}
-use Rattle.ea_machine.specs.Nodes.{named_at, block_node, without_name}
-use Rattle.ea_sound.specs.Released.{LiesAt, blocks_named as blocks_of_name, says_failed}
-use Rattle.ea_sound.specs.Names.{allocated, of_hand, only}
-use Rattle.ea_machine.specs.State.{State}
-use Rattle.std.proofs.lemmas.Bool.{eqb-true}
-use Rattle.ea_sound.specs.Rule.{blocks_of}
 use Rattle.ea_sound.proofs.TurnLists.{run-snoc, step-is}
-use Rattle.ea_machine.specs.Shared.{Shared}
-use Rattle.ea_machine.specs.Table.{effect}
-use Rattle.ea_sound.specs.Leaves.{InOperation, IsFresh, Wanted, making as with_carrier}
-use Rattle.ea_sound.specs.Moments.{at, with_actor}
-use Rattle.ea_laws.specs.Kept.{IsOrderly}
 use Rattle.ea_sound.proofs.Alike.{allocated-with, lies-with}
 use Rattle.ea_sound.proofs.Choosing.{chosen-gap}
 use Rattle.ea_sound.proofs.FewBlocks.{blocks_named}
@@ -78,8 +80,6 @@ use Rattle.ea_sound.proofs.GoneRoutes.{route-queued}
 use Rattle.ea_sound.proofs.GoneBlocks.{NoneNow, held-out}
 use Rattle.ea_sound.proofs.Fading.{stays-gone}
 use Rattle.ea_sound.proofs.FewBlocks.{all_of}
-use Rattle.std.proofs.lemmas.List.{append-nil}
-use Rattle.std.proofs.lemmas.Bool.{true≢false}
 
 -- the name of which a fail says so
 failed-says : (n : ℕ) (ask : Ask) (looked : ℕ) (why : NoCarrier) (old : Option Named)

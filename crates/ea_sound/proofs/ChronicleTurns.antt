@@ -1,22 +1,19 @@
 -- A turn of a scheduler: what it makes of what the turns before say.
-use Rattle.ea_machine.specs.Lists.{Lists}
-use Rattle.ea_machine.specs.Placements.{fetches, pass}
-use Rattle.ea_machine.specs.Searches.{Search, new_search, with_counted}
-use Rattle.ea_sound.proofs.Chronicle.{CameTo}
-use Rattle.ea_sound.specs.Searches.{past}
-use Rattle.ea_sound.proofs.Operating.{listed-wanted}
-use Rattle.ea_sound.proofs.StillMoves.{keeps-operation, lists-goes}
-use Rattle.ea_sound.specs.Leaves.{InOperation}
-use Rattle.ea_sound.specs.Moments.{at as at_stage}
-use Rattle.ea_machine.specs.Lists.{unlisted}
-use Rattle.ea_machine.specs.Releases.{abandoned}
 use Rattle.std.proofs.Common.{◌≡◌, ◌≢◌, ◌⊎◌, ℕ, zero, suc, ◌+◌, ◌≤◌, List, [], ◌∷◌, ◌++◌, Bool}
 use Rattle.std.proofs.Common.{true, false, refl, sym, ap, ◌∙◌, subst, inl, inr, arith}
 use Rattle.std.specs.Prelude.{Option, Some, None, count_by, length, ◌==◌}
 use Rattle.std.proofs.lemmas.List.{append_assoc}
+use Rattle.std.proofs.lemmas.Bool.{true≢false}
 use Rattle.ea_model.specs.declared.entries.Entry.TheVariants as entry
 use Rattle.ea_model.specs.declared.operations.Op.TheVariants as op
 use Rattle.ea_model.specs.Instance.{chosen_spot, owner_of}
+use Rattle.ea_model.specs.Employment.{employing}
+use Rattle.ea_model.specs.Content.{Content, is_nil}
+use Rattle.ea_machine.specs.Lists.{Lists}
+use Rattle.ea_machine.specs.Placements.{fetches, pass}
+use Rattle.ea_machine.specs.Searches.{Search, new_search, with_counted}
+use Rattle.ea_machine.specs.Lists.{unlisted}
+use Rattle.ea_machine.specs.Releases.{abandoned}
 use Rattle.ea_machine.specs.declared.parts.Part.{Part}
 use Rattle.ea_machine.specs.declared.owners.OwnerWord.{OwnerWord}
 use Rattle.ea_machine.specs.declared.stages.Stage.{Stage}
@@ -30,10 +27,6 @@ use Rattle.ea_machine.specs.declared.stages.Route.TheVariants.{Pushing, Linking}
 use Rattle.ea_machine.specs.Actor.{Actor}
 use Rattle.ea_machine.specs.declared.tasks.Why.TheVariants.{Walk, For}
 use Rattle.ea_machine.specs.declared.asks.Ask.{Ask}
-use Rattle.ea_sound.specs.Chosen.{ByItself, Fetched}
-use Rattle.ea_sound.specs.FirstFits.{IsFirstFit}
-use Rattle.ea_sound.proofs.FetchedFits.{fetched-number, fetched-there}
-use Rattle.ea_model.specs.Employment.{employing}
 use Rattle.ea_machine.specs.Machine.{after_row, onward, onward_at, run, wants_at}
 use Rattle.ea_machine.specs.Operations.{took}
 use Rattle.ea_machine.specs.Placements.{fetched, holding, saw_by}
@@ -41,22 +34,45 @@ use Rattle.ea_machine.specs.Searches.{fits}
 use Rattle.ea_machine.specs.Placements.{searched}
 use Rattle.ea_machine.specs.Releases.{Turned, disowned, turned}
 use Rattle.ea_machine.specs.Rows.{Answer, Done, Head, Rests, Passes, Saw, Won, Lost, Home, Got}
-use Rattle.ea_sound.specs.Searches.{Missed, Shown, Sight, sight, sight_if}
 use Rattle.ea_machine.specs.Setup.{Setup, greatest_number, is_scheduler, migration}
 use Rattle.ea_machine.specs.Statistics.{observed}
 use Rattle.ea_machine.specs.Table.{answer, effect}
 use Rattle.ea_machine.specs.Tasks.{halted, logged, let_go}
+use Rattle.ea_machine.specs.Nodes.{block_node, named_at, pushed, spot_named}
+use Rattle.ea_machine.specs.declared.nodes.Named.{Named}
+use Rattle.ea_machine.specs.State.{State}
+use Rattle.ea_machine.specs.Sums.{one_if}
+use Rattle.ea_machine.specs.Shared.{Shared}
+use Rattle.ea_machine.specs.declared.owners.OwnerWord.TheVariants as word
+use Rattle.ea_machine.specs.Owners.{word_of}
+use Rattle.ea_machine.specs.Table.{tried_at}
+use Rattle.ea_machine.specs.declared.tasks.Task.{Task}
+use Rattle.ea_machine.specs.declared.tasks.Gone.TheVariants.{Open, Here, Queued}
+use Rattle.ea_machine.specs.declared.nodes.Node.TheVariants.{Carrier}
+use Rattle.ea_machine.specs.declared.tasks.Why.{Why}
+use Rattle.ea_machine.specs.declared.tasks.Gone.{Gone}
+use Rattle.ea_sound.specs.Searches.{past}
+use Rattle.ea_sound.specs.Leaves.{InOperation}
+use Rattle.ea_sound.specs.Moments.{at as at_stage}
+use Rattle.ea_sound.specs.Chosen.{ByItself, Fetched}
+use Rattle.ea_sound.specs.FirstFits.{IsFirstFit}
+use Rattle.ea_sound.specs.Searches.{Missed, Shown, Sight, sight, sight_if}
 use Rattle.ea_sound.specs.Turns.{actor_after, answered, begun}
+use Rattle.ea_sound.specs.Leaves.{Leaves}
+use Rattle.ea_sound.specs.Present.{Fits, FitsRoute, OfAsk, OldHeld, Rule}
+use Rattle.ea_sound.specs.Shown.{Employs, HasSeen, Looks, Loses, SeesEmployer, SeesItself, Wins}
+use Rattle.ea_sound.specs.Heard.{HearsNoOther}
+use Rattle.ea_sound.specs.Names.{only}
+use Rattle.ea_sound.proofs.Chronicle.{CameTo}
+use Rattle.ea_sound.proofs.Operating.{listed-wanted}
+use Rattle.ea_sound.proofs.StillMoves.{keeps-operation, lists-goes}
+use Rattle.ea_sound.proofs.FetchedFits.{fetched-number, fetched-there}
 use Rattle.ea_sound.proofs.Chronicle.{AndShown, Fetches, IsSame, Searches, SoFar, Takes, Underway}
 use Rattle.ea_sound.proofs.Chronicle.{asked-longer, further, placing-longer, way-asked, LeftBy}
 use Rattle.ea_sound.proofs.Chronicle.{OnWay, WentTo, left-longer, over-longer, pushed-longer}
 use Rattle.ea_sound.proofs.Chronicle.{name_in, held-longer, old-longer, seen-longer, HasOld}
 use Rattle.ea_sound.proofs.HandedNames.{NeverGiven, is-given, is-taken, never-mine, tried-given}
 use Rattle.ea_sound.proofs.TurnLists.{longer, run-snoc, step-shared}
-use Rattle.ea_machine.specs.Nodes.{block_node, named_at, pushed, spot_named}
-use Rattle.ea_machine.specs.declared.nodes.Named.{Named}
-use Rattle.ea_machine.specs.State.{State}
-use Rattle.ea_machine.specs.Sums.{one_if}
 use Rattle.ea_sound.proofs.SearchLists.{count-snoc, searched-look, searched-lost}
 use Rattle.ea_sound.proofs.SearchLists.{searched-on}
 use Rattle.ea_sound.proofs.SearchTurns.{busy-tries, fetch-tries, look-saw, lost-other}
@@ -67,32 +83,16 @@ use Rattle.ea_sound.proofs.ChroniclePlaces.{Becomes, Fine as IsFine, IsAsking, h
 use Rattle.ea_sound.proofs.ChroniclePlaces.{left-becomes, pushed-becomes, carried-fine, choice-fine}
 use Rattle.ea_sound.proofs.ChroniclePlaces.{created-fine, logged-fine, search-fine, shared}
 use Rattle.ea_sound.proofs.ChronicleOperations.{itself-fine}
-use Rattle.ea_machine.specs.Shared.{Shared}
-use Rattle.ea_sound.specs.Leaves.{Leaves}
-use Rattle.ea_sound.specs.Present.{Fits, FitsRoute, OfAsk, OldHeld, Rule}
 use Rattle.ea_sound.proofs.Operating.{begun-kept}
 use Rattle.ea_sound.proofs.RowLeaves.{row-left}
-use Rattle.ea_machine.specs.declared.owners.OwnerWord.TheVariants as word
-use Rattle.ea_sound.specs.Shown.{Employs, HasSeen, Looks, Loses, SeesEmployer, SeesItself, Wins}
-use Rattle.ea_sound.specs.Heard.{HearsNoOther}
 use Rattle.ea_sound.proofs.Hearing.{hears-no_other}
-use Rattle.ea_machine.specs.Owners.{word_of}
-use Rattle.ea_machine.specs.Table.{tried_at}
 use Rattle.ea_sound.proofs.GoneRoutes.{ByWord, LookGives, LookShows, LookShowsMe, TryGives}
 use Rattle.ea_sound.proofs.GoneRoutes.{TryIsWon, TryShows, looking-yields, losing-yields}
 use Rattle.ea_sound.proofs.GoneRoutes.{settled-gone, settled-not, winning-yields}
 use Rattle.ea_sound.proofs.GoneRoutes.{turned-queued}
 use Rattle.ea_sound.proofs.GoneBlocks.{pushed-after, hand-out, look-names, name-one, try-names}
-use Rattle.ea_machine.specs.declared.tasks.Task.{Task}
-use Rattle.ea_machine.specs.declared.tasks.Gone.TheVariants.{Open, Here, Queued}
-use Rattle.ea_machine.specs.declared.nodes.Node.TheVariants.{Carrier}
-use Rattle.ea_sound.specs.Names.{only}
-use Rattle.ea_model.specs.Content.{Content, is_nil}
 use Rattle.ea_sound.proofs.Employers.{there-on}
 use Rattle.ea_sound.proofs.OtherRows.{tried-there}
-use Rattle.std.proofs.lemmas.Bool.{true≢false}
-use Rattle.ea_machine.specs.declared.tasks.Why.{Why}
-use Rattle.ea_machine.specs.declared.tasks.Gone.{Gone}
 
 module _ (e : Setup) (rules : (L : List ℕ) → Rule e (run e L)) (L : List ℕ) (me : ℕ) where
   abbrev acting : Actor

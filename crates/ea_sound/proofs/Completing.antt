@@ -1,13 +1,12 @@
 -- After a completed schedule every scheduler has ended or is stopped.
-use Rattle.ea_machine.specs.Releases.{struck}
-use Rattle.ea_machine.specs.Searches.{left_in}
-use Rattle.ea_sound.proofs.SearchParts.{has-some}
 use Rattle.std.proofs.Common.{◌≡◌, ◌≢◌, ◌⊎◌, ℕ, zero, suc, ◌+◌, ◌*◌, ◌<◌, ◌≤◌, List, [], ◌∷◌, ◌++◌}
 use Rattle.std.proofs.Common.{Bool, true, false, refl, sym, ap, ◌∙◌, subst, inl, inr, arith, ◌-◌}
 use Rattle.std.specs.Prelude.{Option, Some, None, length, replicate, take}
 use Rattle.std.proofs.lemmas.Bool.{cases_eq, cases_lt}
 use Rattle.ea_model.specs.declared.entries.Entry.TheVariants as entry
 use Rattle.ea_model.specs.Content.{Content}
+use Rattle.ea_machine.specs.Releases.{struck}
+use Rattle.ea_machine.specs.Searches.{left_in}
 use Rattle.ea_machine.specs.declared.nodes.Node.{Node}
 use Rattle.ea_machine.specs.declared.nodes.Node.TheVariants.{Block, Carrier}
 use Rattle.ea_machine.specs.declared.stages.Stage.{Stage}
@@ -26,7 +25,6 @@ use Rattle.ea_machine.specs.Completion.{actor_rows, begin_rows, completing, endi
 use Rattle.ea_machine.specs.Completion.{next_rows, passed_rows, stage_rows, work}
 use Rattle.ea_machine.specs.Machine.{IsReached, after_row, begins, first_stage, run, run_on, start}
 use Rattle.ea_machine.specs.Machine.{step, wants_at, wants_on}
-use Rattle.ea_sound.specs.MachineLaws.{AllEnd}
 use Rattle.ea_machine.specs.Nodes.{Mark, first_node, link_in, pushed}
 use Rattle.ea_machine.specs.Owners.{CarrierAt, Employed, Busy}
 use Rattle.ea_machine.specs.Releases.{disowned}
@@ -34,18 +32,21 @@ use Rattle.ea_machine.specs.Rows.{Answer, Done, Head, Rests, Passes, Saw, Won, L
 use Rattle.ea_machine.specs.Setup.{Setup, is_scheduler}
 use Rattle.ea_machine.specs.Shared.{Shared, put}
 use Rattle.ea_machine.specs.State.{State}
-use Rattle.ea_machine.specs.Stops.{count_of, cut, left_after, less, up_to}
+use Rattle.ea_machine.specs.Stops.{count_of, cut, left_after, left_by, less, up_to}
 use Rattle.ea_machine.specs.Table.{answer, effect, link_answer, link_read, moved_if, rest_after}
 use Rattle.ea_machine.specs.Table.{rest_by, tried_at}
 use Rattle.ea_machine.specs.Tasks.{let_go}
-use Rattle.ea_sound.specs.Turns.{advanced}
 use Rattle.ea_machine.specs.Walks.{begun, with_passed}
+use Rattle.ea_sound.specs.MachineLaws.{AllComeToRest, CompletesWithin}
+use Rattle.ea_sound.specs.Turns.{advanced}
 use Rattle.ea_sound.specs.Present.{Fits, FitsRoute, Rule}
+use Rattle.ea_sound.proofs.SearchParts.{has-some}
 use Rattle.ea_sound.proofs.Ending.{created-less, fetched-less, logged-less, onward-less}
 use Rattle.ea_sound.proofs.Ending.{searched-less, task-route, took-less, walk-route, walk_rows}
 use Rattle.ea_sound.proofs.Ending.{whole_rows, worked-less}
 use Rattle.ea_sound.proofs.OtherRows.{linked-rest}
-use Rattle.ea_sound.proofs.Stopping.{count-append, count-others, count-replicate, less-more}
+use Rattle.ea_sound.proofs.Stopping.{count-append, count-others, count-replicate}
+use Rattle.ea_sound.proofs.Stopping.{cut-again, cut-append, cut-own, less-more}
 use Rattle.ea_sound.proofs.Stopping.{less-none, less-over, take-fewer, up_to-all, up_to-some}
 use Rattle.ea_sound.proofs.Totals.{put-here, put-other}
 use Rattle.ea_sound.proofs.TurnLists.{by-turns, ended-or, run-append, run-snoc, step-ended}
@@ -339,6 +340,67 @@ module _ (e : Setup) where
       ])
       (ap (first_stage e) o)
 
+  -- nobody else's turns are among those of its end
+  finishing-others : (w : State) (left : Option ℕ) (s j : ℕ) → j ≢ s
+      → count_of j (finishing e w left s) ≡ 0
+  finishing-others w left s j ne =
+      let own = ending-own (work e w s) w s (w.actors s).stage in
+      let some = up_to-some left own.0 s in
+      ap (λ js. count_of j (up_to left js)) own.1 ∙ ap (count_of j) some.1
+      ∙ count-others some.0 s j (λ q. ne (sym q))
+
+  -- by what is left to those that are still to come
+  completing-alike : (f g : ℕ → Option ℕ) (count s : ℕ) (w : State)
+      → ((i : ℕ) → s ≤ i → f i ≡ g i) → completing e f count s w ≡ completing e g count s w
+  completing-alike f g zero s w same = refl
+  completing-alike f g (suc count) s w same =
+      ap (λ o. finishing e w o s
+      ++ completing e f count (suc s) (run_on e w (finishing e w o s))) (same s (omega arith))
+      ∙ ap (λ later. finishing e w (g s) s ++ later)
+      (completing-alike f g count (suc s) (run_on e w (finishing e w (g s) s))
+      (λ i from. same i (omega (arith, from))))
+
+  -- all of these turns are taken
+  cut-completing : (left : ℕ → Option ℕ) (count s : ℕ) (w : State)
+      → cut left (completing e left count s w) ≡ completing e left count s w
+  cut-completing left zero s w = refl
+  cut-completing left (suc count) s w =
+      cut-append left first later
+      ∙ ap (λ xs. xs ++ cut next later) taken
+      ∙ ap (λ xs. first ++ xs) (ap (cut next) same
+      ∙ cut-completing next count (suc s) v ∙ sym same)
+    where
+      first : List ℕ
+      first = finishing e w (left s) s
+
+      v : State
+      v = run_on e w first
+
+      later : List ℕ
+      later = completing e left count (suc s) v
+
+      next : ℕ → Option ℕ
+      next = left_by left first
+
+      taken : cut left first ≡ first
+      taken = let own = ending-own (work e w s) w s (w.actors s).stage in
+          ap (λ js. cut left (up_to (left s) js)) own.1 ∙ cut-own left own.0 s
+          ∙ ap (up_to (left s)) (sym own.1)
+
+      same : later ≡ completing e next count (suc s) v
+      same = completing-alike left next count (suc s) v (λ i from. sym
+          (ap (less (left i)) (finishing-others w (left s) s i (omega (arith, from)))
+          ∙ less-none (left i)))
+
+  pub completes-within : CompletesWithin e
+  completes-within turns =
+      let taken = cut e.stops turns in
+      let left = left_by e.stops taken in
+      let more = completing e left e.schedulers 1 (run e taken) in
+      cut-append e.stops taken more
+      ∙ ap (λ xs. xs ++ cut left more) (cut-again e.stops turns)
+      ∙ ap (λ xs. taken ++ xs) (cut-completing left e.schedulers 1 (run e taken))
+
   module _ (resting : (L : List ℕ) (s : ℕ) → ((run e L).actors s).stage ≢ Ready)
       (elsewhere : (L : List ℕ) (s : ℕ) → LeavesLess s ((run e L).actors s).stage) where
     never-ready : (w : State) (s : ℕ) → IsReached e w → (w.actors s).stage ≢ Ready
@@ -399,15 +461,6 @@ module _ (e : Setup) where
             ∙ finishes w s r)
       ]
 
-    -- nobody else's turns are among those
-    finishing-others : (w : State) (left : Option ℕ) (s j : ℕ) → j ≢ s
-        → count_of j (finishing e w left s) ≡ 0
-    finishing-others w left s j ne =
-        let own = ending-own (work e w s) w s (w.actors s).stage in
-        let some = up_to-some left own.0 s in
-        ap (λ js. count_of j (up_to left js)) own.1 ∙ ap (count_of j) some.1
-        ∙ count-others some.0 s j (λ q. ne (sym q))
-
     module _ (left : ℕ → Option ℕ) where
       completes : (count s : ℕ) (w : State) (j : ℕ) (o : Option ℕ) → IsReached e w
           → RestsAt w o j ⊎ ((s ≤ j) × (j < s + count) × (o ≡ left j))
@@ -444,8 +497,8 @@ module _ (e : Setup) where
           ])))
 
     -- after the schedule and then one scheduler after another, all have ended or are stopped
-    all-end : AllEnd e
-    all-end turns s =
+    all-rest : AllComeToRest e
+    all-rest turns s =
         let taken = cut e.stops turns in
         let w = run e taken in
         let left = left_after e taken in
@@ -498,8 +551,8 @@ rule-less e w s rule ne =
     step-less e w s ne (λ ready. subst (Fits e w s (w.actors s)) ready fits)
     (fits-less e w s (w.actors s) (w.actors s).stage fits)
 
-pub rule-all_end : (e : Setup) → ((turns : List ℕ) → Rule e (run e turns)) → AllEnd e
-rule-all_end e rule = all-end e
+pub rule-all_rest : (e : Setup) → ((turns : List ℕ) → Rule e (run e turns)) → AllComeToRest e
+rule-all_rest e rule = all-rest e
     (λ L s q. subst (Fits e (run e L) s ((run e L).actors s)) q ((rule L).present.fits s)) (λ L s.
     fits-less e (run e L) s ((run e L).actors s) ((run e L).actors s).stage
     ((rule L).present.fits s))

@@ -1,8 +1,4 @@
 -- Each row that a scheduler does leaves it less work.
-use Rattle.ea_machine.specs.Completion.{looks_left}
-use Rattle.ea_machine.specs.Placements.{fetches, search_on}
-use Rattle.ea_machine.specs.Searches.{Search, goes_on, left_in, looked_in, new_search, passed, with_counted}
-use Rattle.ea_sound.proofs.SearchParts.{counted-as_many, new-looks, passed-looks}
 use Rattle.std.proofs.Common.{◌≡◌, ℕ, zero, suc, ◌+◌, ◌*◌, ◌<◌, ◌≤◌, List, [], ◌∷◌, Bool, true}
 use Rattle.std.proofs.Common.{false, refl, ap, arith}
 use Rattle.std.specs.Prelude.{Option, Some, None, Result, Ok, Err}
@@ -22,6 +18,11 @@ use Rattle.ea_model.specs.Instance.{chosen_spot, creating, creating_single, deci
 use Rattle.ea_model.specs.Instance.{place_at, placing_at, plan, single_place}
 use Rattle.ea_model.specs.Units.{need_of}
 use Rattle.ea_model.specs.Content.{Content}
+use Rattle.ea_model.specs.Employment.{employing}
+use Rattle.ea_machine.specs.Completion.{looks_left}
+use Rattle.ea_machine.specs.Placements.{fetches, search_on}
+use Rattle.ea_machine.specs.Searches.{Search, goes_on, left_in, looked_in, new_search, passed}
+use Rattle.ea_machine.specs.Searches.{with_counted}
 use Rattle.ea_machine.specs.declared.parts.Part.{Part}
 use Rattle.ea_machine.specs.declared.nodes.Node.{Node}
 use Rattle.ea_machine.specs.declared.nodes.Node.TheVariants.{Block, Carrier}
@@ -42,7 +43,6 @@ use Rattle.ea_machine.specs.declared.tasks.Gone.{Gone}
 use Rattle.ea_machine.specs.declared.asks.Ask.{Ask}
 use Rattle.ea_machine.specs.Completion.{actor_rows, begin_rows, next_rows, operation_rows}
 use Rattle.ea_machine.specs.Completion.{passed_rows, route_rows, search_rows, stage_rows, text_rows}
-use Rattle.ea_model.specs.Employment.{employing}
 use Rattle.ea_machine.specs.Machine.{after_row, onward, onward_at}
 use Rattle.ea_machine.specs.Nodes.{named_at}
 use Rattle.ea_machine.specs.declared.nodes.Named.{Named}
@@ -58,6 +58,7 @@ use Rattle.ea_machine.specs.Rows.{Answer, Done, Head, Rests, Passes, Saw, Won, L
 use Rattle.ea_machine.specs.Setup.{Setup, greatest_number, migration}
 use Rattle.ea_machine.specs.Tasks.{carried, entry_of, hands_over, later, let_go, logged, task_over}
 use Rattle.ea_machine.specs.Walks.{after_route, worked_off}
+use Rattle.ea_sound.proofs.SearchParts.{counted-as_many, new-looks, passed-looks}
 use Rattle.ea_sound.proofs.ShortRoutes.{Same, route-short, some_rows, turned-short}
 
 module _ (e : Setup) (me : ℕ) where

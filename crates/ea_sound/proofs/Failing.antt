@@ -1,10 +1,4 @@
 -- Where no place is found, an operation fails.
-use Rattle.ea_machine.specs.Lists.{no_lists}
-use Rattle.ea_machine.specs.Placements.{search_on}
-use Rattle.ea_machine.specs.Searches.{Search, goes_on, looked_in, new_search, passed, with_counted}
-use Rattle.ea_machine.specs.declared.parts.Part.TheVariants.{Pool}
-use Rattle.ea_sound.proofs.SearchTurns.{same-missed}
-use Rattle.ea_sound.specs.Searches.{past}
 use Rattle.std.proofs.Common.{◌≡◌, ◌≢◌, ◌⊎◌, ℕ, ◌<◌, ◌≤◌, List, [], ◌∷◌, ◌++◌, Bool}
 use Rattle.std.proofs.Common.{true, false, refl, sym, ap, ◌∙◌, subst, inl, inr, arith}
 use Rattle.std.specs.Prelude.{Option, Some, None, Err, ◌==◌, count_by, length}
@@ -17,15 +11,17 @@ use Rattle.ea_model.specs.declared.operations.Op.TheVariants as op
 use Rattle.ea_model.specs.Instance.{chosen_spot, is_alone, plan}
 use Rattle.ea_model.specs.Units.{need_of}
 use Rattle.ea_model.proofs.Rising.{item_at-key}
+use Rattle.ea_model.specs.Content.{Content}
+use Rattle.ea_machine.specs.Lists.{no_lists}
+use Rattle.ea_machine.specs.Placements.{search_on}
+use Rattle.ea_machine.specs.Searches.{Search, goes_on, looked_in, new_search, passed, with_counted}
+use Rattle.ea_machine.specs.declared.parts.Part.TheVariants.{Pool}
 use Rattle.ea_machine.specs.declared.owners.OwnerWord.{OwnerWord}
 use Rattle.ea_machine.specs.declared.stages.Stage.{Stage}
-use Rattle.ea_model.specs.Content.{Content}
 use Rattle.ea_machine.specs.declared.stages.Stage.TheVariants.{Searching, Fetching, Ended}
 use Rattle.ea_machine.specs.Actor.{Actor}
 use Rattle.ea_machine.specs.declared.asks.Ask.{Ask}
-use Rattle.ea_sound.specs.Exhausted.{FailsIfExhausted, FindsNoPlace, IsFailOf, seen_since}
 use Rattle.ea_machine.specs.Machine.{after_row, onward, run, run_on, step, wants_at}
-use Rattle.ea_sound.specs.Needs.{AsksFor, IsToMove}
 use Rattle.ea_machine.specs.Nodes.{named_at, name_of}
 use Rattle.ea_machine.specs.declared.nodes.Named.{Named}
 use Rattle.ea_machine.specs.Operations.{itself}
@@ -36,16 +32,20 @@ use Rattle.ea_machine.specs.Placements.{new_carrier_by, saw_by, search_if, searc
 use Rattle.ea_machine.specs.Placements.{searched_by, seek, seek_by}
 use Rattle.ea_machine.specs.Reallocations.{reallocated, reallocated_by}
 use Rattle.ea_machine.specs.Rows.{Answer, Saw, Won, Lost}
-use Rattle.ea_sound.specs.Searches.{IsSought, IsUnsought, Missed, Searched, Shown}
-use Rattle.ea_sound.specs.Searches.{Sight, sight, sights}
 use Rattle.ea_machine.specs.Setup.{Setup, greatest_number, migration}
 use Rattle.ea_machine.specs.State.{State}
 use Rattle.ea_machine.specs.Statistics.{observed}
 use Rattle.ea_machine.specs.Table.{answer, tried_at}
 use Rattle.ea_machine.specs.Tasks.{logged}
+use Rattle.ea_sound.specs.Searches.{past}
+use Rattle.ea_sound.specs.Exhausted.{FailsIfExhausted, FindsNoPlace, IsFailOf, seen_since}
+use Rattle.ea_sound.specs.Needs.{AsksFor, IsToMove}
+use Rattle.ea_sound.specs.Searches.{IsSought, IsUnsought, Missed, Searched, Shown}
+use Rattle.ea_sound.specs.Searches.{Sight, sight, sights}
 use Rattle.ea_sound.specs.Turns.{IsBegun, actor_after, advanced, answered, begun, log_after}
 use Rattle.ea_sound.specs.Moments.{at}
 use Rattle.ea_sound.specs.Present.{OfAsk, Rule}
+use Rattle.ea_sound.proofs.SearchTurns.{same-missed}
 use Rattle.ea_sound.proofs.Chronicle.{failed-is}
 use Rattle.ea_sound.proofs.Chronicled.{begun-now, begun-settings}
 use Rattle.ea_sound.proofs.TurnLists.{run-since, step-mine, step-other}

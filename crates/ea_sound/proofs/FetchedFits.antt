@@ -1,6 +1,4 @@
 -- A carrier that is fetched has a gap for the block, which is placed there.
-use Rattle.ea_machine.specs.Placements.{fetches}
-use Rattle.ea_machine.specs.declared.parts.Part.{Part}
 use Rattle.std.proofs.Common.{◌≡◌, ℕ, ◌≤◌, ◌∙◌, Bool, true, false, List, [], ◌∷◌, refl, sym, ap}
 use Rattle.std.proofs.Common.{subst, inl, inr, arith}
 use Rattle.std.specs.Prelude.{Any, Some}
@@ -10,13 +8,14 @@ use Rattle.ea_model.specs.declared.carriers.Spot.{Spot}
 use Rattle.ea_model.specs.Instance.{chosen_spot}
 use Rattle.ea_model.specs.Content.{Content, gaps_of, largest}
 use Rattle.ea_laws.proofs.Tails.{any_here, any_later}
+use Rattle.ea_machine.specs.Placements.{fetches}
+use Rattle.ea_machine.specs.declared.parts.Part.{Part}
 use Rattle.ea_machine.specs.declared.owners.OwnerWord.{OwnerWord}
 use Rattle.ea_machine.specs.declared.owners.OwnerWord.TheVariants as word
 use Rattle.ea_machine.specs.declared.stages.Stage.{Stage}
 use Rattle.ea_machine.specs.declared.stages.Stage.TheVariants.{Ended, Fetching}
 use Rattle.ea_machine.specs.Actor.{Actor}
 use Rattle.ea_machine.specs.declared.asks.Ask.{Ask}
-use Rattle.ea_sound.specs.Fetches.{FetchFits, FetchesFit}
 use Rattle.ea_machine.specs.Machine.{after_row, wants_at}
 use Rattle.ea_machine.specs.Owners.{CarrierAt, Absent, Employed, Pooled, Busy, Returning, same_word}
 use Rattle.ea_machine.specs.Owners.{word_of}
@@ -25,6 +24,7 @@ use Rattle.ea_machine.specs.Rows.{Answer, Won}
 use Rattle.ea_machine.specs.Setup.{Setup, is_scheduler}
 use Rattle.ea_machine.specs.State.{State}
 use Rattle.ea_machine.specs.Table.{answer, tried_at, won_if}
+use Rattle.ea_sound.specs.Fetches.{FetchFits, FetchesFit}
 use Rattle.ea_sound.specs.Turns.{answered}
 use Rattle.ea_sound.specs.Present.{Fits, Rule}
 use Rattle.ea_sound.proofs.Choosing.{chosen-in_fetched}

@@ -1,23 +1,20 @@
 -- Blocks that are gone: once its name has left the hand on a release route, no block has it.
-use Rattle.ea_machine.specs.Searches.{passed}
 use Rattle.std.proofs.Common.{◌≡◌, ◌≢◌, ℕ, ◌+◌, ◌<◌, ◌≤◌, List, [], ◌∷◌, ◌++◌, refl, sym, ap, ◌∙◌}
 use Rattle.std.proofs.Common.{subst, arith}
 use Rattle.std.specs.Prelude.{Some, ◌==◌}
 use Rattle.ea_model.proofs.Rising.{item_at-gone}
 use Rattle.ea_model.specs.declared.carriers.Spot.{Spot}
 use Rattle.ea_model.specs.Content.{Content}
+use Rattle.ea_machine.specs.Searches.{passed}
 use Rattle.ea_machine.specs.declared.nodes.Named.{Named}
 use Rattle.ea_machine.specs.declared.nodes.Node.{Node}
 use Rattle.ea_machine.specs.declared.owners.OwnerWord.{OwnerWord}
 use Rattle.ea_machine.specs.declared.stages.Stage.{Stage}
 use Rattle.ea_machine.specs.declared.stages.Stage.TheVariants.{Begin, Ended}
 use Rattle.ea_machine.specs.Actor.{Actor}
-use Rattle.ea_sound.specs.Contents.{seats}
 use Rattle.ea_machine.specs.Machine.{run, wants, wants_at}
-use Rattle.ea_sound.specs.Names.{allocated, of_hand, of_named, of_node, only, to_make}
 use Rattle.ea_machine.specs.Nodes.{named_at, pushed, without_name, name_of}
 use Rattle.ea_machine.specs.Owners.{Busy, CarrierAt}
-use Rattle.ea_sound.specs.Released.{blocks_named}
 use Rattle.ea_machine.specs.Rows.{Answer, BusyTry, Done, Got, Head, Home, Look, Lost, Passes, Push}
 use Rattle.ea_machine.specs.Rows.{Rests, Saw, Won}
 use Rattle.ea_machine.specs.Setup.{Setup}
@@ -26,6 +23,9 @@ use Rattle.ea_machine.specs.State.{State}
 use Rattle.ea_machine.specs.Statistics.{observed}
 use Rattle.ea_machine.specs.Sums.{one_if, sum_over, total}
 use Rattle.ea_machine.specs.Table.{effect, moved_if, tried_at}
+use Rattle.ea_sound.specs.Contents.{seats}
+use Rattle.ea_sound.specs.Names.{allocated, of_hand, of_named, of_node, only, to_make}
+use Rattle.ea_sound.specs.Released.{blocks_named}
 use Rattle.ea_sound.specs.Turns.{actor_after}
 use Rattle.ea_sound.specs.Moments.{at, with_actor}
 use Rattle.ea_sound.specs.Present.{Rule}

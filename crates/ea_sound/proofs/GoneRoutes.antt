@@ -1,13 +1,14 @@
 -- What first became of a block on its route: where it was queued, its node is what is pushed next;
 -- and what a row leaves of a route with the block in the hand.
-use Rattle.ea_machine.specs.Releases.{struck}
 use Rattle.std.proofs.Common.{◌≡◌, ◌⊎◌, subst, ℕ, Bool, true, false, refl, sym, ap, ◌∙◌, inl, inr}
 use Rattle.std.specs.Prelude.{Option, None, Some, ◌==◌}
+use Rattle.std.proofs.lemmas.Bool.{eqb-true}
 use Rattle.ea_model.specs.declared.carriers.Kind.{Kind}
 use Rattle.ea_model.specs.declared.carriers.Kind.TheVariants.{Main, Multi, Single}
 use Rattle.ea_model.specs.Content.{Content, is_nil}
 use Rattle.ea_model.specs.Instance.{content_of, employed, releasing_at, owner_of}
 use Rattle.ea_model.specs.Abandonment.{is_due}
+use Rattle.ea_machine.specs.Releases.{struck}
 use Rattle.ea_machine.specs.declared.stages.Route.{Route}
 use Rattle.ea_machine.specs.declared.stages.Route.TheVariants.{Looking, Trying, Settling}
 use Rattle.ea_machine.specs.declared.stages.Route.TheVariants.{Abandoning, Sending, Clearing}
@@ -28,7 +29,6 @@ use Rattle.ea_machine.specs.Rows.{Answer, Done, Head, Rests, Passes, Saw, Won, L
 use Rattle.ea_machine.specs.Setup.{Setup, migration}
 use Rattle.ea_sound.specs.Shown.{ShowsEmployer}
 use Rattle.ea_sound.specs.Heard.{NamesAnother, NamesEmployer}
-use Rattle.std.proofs.lemmas.Bool.{eqb-true}
 
 -- the block was queued there before, or its node is to be pushed there
 abbrev pub IsQueuedBy : Gone → Turned → Type 0

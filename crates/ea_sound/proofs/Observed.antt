@@ -1,9 +1,5 @@
 -- In each reached state the figures of each scheduler's carriers are observed: to observe them once
 -- more changes nothing. After a look of a search they still are.
-use Rattle.ea_machine.specs.Lists.{Lists, no_lists}
-use Rattle.ea_machine.specs.Searches.{Search, goes_on, looked_in, passed, with_counted}
-use Rattle.ea_machine.specs.Setup.{greatest_number}
-use Rattle.ea_machine.specs.declared.parts.Part.{Part}
 use Rattle.std.proofs.Common.{◌≡◌, ℕ, Bool, true, false, List, [], ◌++◌, inl, inr, refl, sym}
 use Rattle.std.proofs.Common.{ap, ◌∙◌, subst, arith}
 use Rattle.std.specs.Prelude.{None, Result, Ok, Err, filter, max, not}
@@ -16,6 +12,10 @@ use Rattle.ea_model.specs.declared.entries.NoCarrier.{NoCarrier}
 use Rattle.ea_model.specs.declared.operations.Op.{Op}
 use Rattle.ea_model.specs.Content.{Content}
 use Rattle.ea_model.specs.Instance.{figures, plan}
+use Rattle.ea_machine.specs.Lists.{Lists, no_lists}
+use Rattle.ea_machine.specs.Searches.{Search, goes_on, looked_in, passed, with_counted}
+use Rattle.ea_machine.specs.Setup.{greatest_number}
+use Rattle.ea_machine.specs.declared.parts.Part.{Part}
 use Rattle.ea_machine.specs.declared.asks.Ask.{Ask}
 use Rattle.ea_machine.specs.declared.owners.OwnerWord.{OwnerWord}
 use Rattle.ea_machine.specs.declared.stages.Stage.{Stage}

@@ -1,7 +1,6 @@
 -- A walk where carriers don't migrate: what it passed are blocks; one whose carrier the scheduler
 -- owns lies there, as does each block that it holds in such a carrier; and this stays so from node
 -- to node.
-use Rattle.ea_machine.specs.Searches.{passed}
 use Rattle.std.proofs.Common.{◌≡◌, ℕ, ◌<◌, ◌≤◌, true, false, List, [], ◌∷◌, refl, sym, ap, ◌∙◌}
 use Rattle.std.proofs.Common.{subst, inr, arith}
 use Rattle.std.specs.Prelude.{All, Option, None, Some, IsSome}
@@ -20,6 +19,7 @@ use Rattle.ea_model.specs.Trace.{IsScheduler, IsValidTrace}
 use Rattle.ea_model.proofs.Merged.{merged-All}
 use Rattle.ea_model.proofs.Rising.{item_at-All, item_at-key}
 use Rattle.ea_laws.specs.Kept.{number_of}
+use Rattle.ea_machine.specs.Searches.{passed}
 use Rattle.ea_machine.specs.declared.nodes.Named.{Named}
 use Rattle.ea_machine.specs.declared.nodes.Node.{Node}
 use Rattle.ea_machine.specs.declared.nodes.Node.TheVariants.{Block, Carrier}
@@ -30,12 +30,8 @@ use Rattle.ea_machine.specs.declared.stages.Stage.TheVariants.{Begin, Routed}
 use Rattle.ea_machine.specs.declared.stages.Route.{Route}
 use Rattle.ea_machine.specs.declared.stages.Route.TheVariants.{Linking, Looking}
 use Rattle.ea_machine.specs.Actor.{Actor}
-use Rattle.ea_sound.specs.Contents.{seats}
 use Rattle.ea_machine.specs.Machine.{IsReached, begins}
-use Rattle.ea_sound.specs.Names.{of_node, only_at}
-use Rattle.ea_sound.specs.NodePlaces.{anywhere, of_carrier_actor, of_carrier_node}
 use Rattle.ea_machine.specs.Nodes.{named_at}
-use Rattle.ea_sound.specs.Places.{none}
 use Rattle.ea_machine.specs.Releases.{Turned, route_of}
 use Rattle.ea_machine.specs.Rows.{Answer, Link, Passes, Rests, TakeAll, TakeLink}
 use Rattle.ea_machine.specs.Setup.{Setup, is_scheduler, migration, setup_of}
@@ -44,6 +40,10 @@ use Rattle.ea_machine.specs.State.{State}
 use Rattle.ea_machine.specs.Sums.{sum_over}
 use Rattle.ea_machine.specs.Table.{answer, effect}
 use Rattle.ea_machine.specs.Walks.{with_passed}
+use Rattle.ea_sound.specs.Contents.{seats}
+use Rattle.ea_sound.specs.Names.{of_node, only_at}
+use Rattle.ea_sound.specs.NodePlaces.{anywhere, of_carrier_actor, of_carrier_node}
+use Rattle.ea_sound.specs.Places.{none}
 use Rattle.ea_sound.specs.Leaves.{InWalk, Leaves}
 use Rattle.ea_sound.specs.Moments.{at, with_actor}
 use Rattle.ea_sound.specs.Present.{Rule}

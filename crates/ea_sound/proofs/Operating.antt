@@ -1,5 +1,4 @@
 -- The local work after a row keeps what every moment keeps.
-use Rattle.ea_machine.specs.Lists.{Lists}
 use Rattle.std.proofs.Common.{◌≡◌, ◌≢◌, ℕ, true, refl, ◌∙◌, arith}
 use Rattle.std.specs.Prelude.{Some}
 use Rattle.ea_model.specs.declared.carriers.CarrierPlan.{CarrierPlan}
@@ -8,12 +7,12 @@ use Rattle.ea_model.specs.declared.entries.Entry.TheVariants as entry
 use Rattle.ea_model.specs.Instance.{creating, resizing_at}
 use Rattle.ea_model.proofs.Rising.{item_at-old}
 use Rattle.ea_model.specs.Content.{Content}
+use Rattle.ea_machine.specs.Lists.{Lists}
 use Rattle.ea_machine.specs.declared.stages.Stage.{Stage}
 use Rattle.ea_machine.specs.declared.stages.Stage.TheVariants.{Begin, Ready}
 use Rattle.ea_machine.specs.Actor.{Actor}
 use Rattle.ea_machine.specs.declared.asks.Ask.{Ask}
 use Rattle.ea_machine.specs.Machine.{after, after_row}
-use Rattle.ea_sound.specs.Names.{of_content, of_named, only}
 use Rattle.ea_machine.specs.Nodes.{named_at, name_of}
 use Rattle.ea_machine.specs.declared.nodes.Named.{Named}
 use Rattle.ea_machine.specs.Placements.{holding}
@@ -23,6 +22,7 @@ use Rattle.ea_machine.specs.Setup.{Setup, is_scheduler}
 use Rattle.ea_machine.specs.Shared.{Shared}
 use Rattle.ea_machine.specs.State.{State}
 use Rattle.ea_machine.specs.Tasks.{let_go}
+use Rattle.ea_sound.specs.Names.{of_content, of_named, only}
 use Rattle.ea_sound.specs.Leaves.{InOperation, InWalk, Leaves, Wanted}
 use Rattle.ea_sound.specs.Moments.{at, with_actor}
 use Rattle.ea_sound.specs.Rule.{Kept}

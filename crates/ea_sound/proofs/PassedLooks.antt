@@ -1,9 +1,5 @@
 -- Looks of a search in a row at words that don't count: the search comes down by as many numbers,
 -- and nothing else changes.
-use Rattle.ea_machine.specs.Placements.{pass}
-use Rattle.ea_machine.specs.Searches.{Search, below, goes_on}
-use Rattle.ea_machine.specs.Setup.{greatest_number}
-use Rattle.ea_machine.specs.declared.parts.Part.TheVariants.{Pool}
 use Rattle.std.proofs.Common.{◌≡◌, ◌≢◌, ℕ, zero, suc, ◌+◌, ◌-◌, ◌<◌, ◌≤◌, true, false, refl, sym}
 use Rattle.std.proofs.Common.{ap, ◌∙◌, subst, arith}
 use Rattle.std.specs.Prelude.{◌&&◌, nat_lt, replicate}
@@ -12,6 +8,10 @@ use Rattle.ea_model.specs.declared.trace.Trace.{Trace}
 use Rattle.ea_model.specs.declared.units.TheConstants.{SEARCH_LIMIT}
 use Rattle.ea_model.specs.Settings.{IsValidConfig}
 use Rattle.ea_model.specs.Trace.{IsValidTrace}
+use Rattle.ea_machine.specs.Placements.{pass}
+use Rattle.ea_machine.specs.Searches.{Search, below, goes_on}
+use Rattle.ea_machine.specs.Setup.{greatest_number}
+use Rattle.ea_machine.specs.declared.parts.Part.TheVariants.{Pool}
 use Rattle.ea_machine.specs.declared.asks.Ask.{Ask}
 use Rattle.ea_machine.specs.declared.owners.OwnerWord.{OwnerWord}
 use Rattle.ea_machine.specs.declared.owners.OwnerWord.TheVariants as word
@@ -126,7 +126,8 @@ module _ (e : Setup) (me : ℕ) (ask : Ask) (looked : ℕ) (few : looked < SEARC
       (none high (omega arith) (omega arith)) in
       let rest = looks-passed k n left a (step e w me) some more
       (one.0 ∙ ap (λ i. to_look i (all - 1) a) next ∙ ap (λ j. to_look (n + k) j a) fewer)
-      (still-observed (to_look high all a) seen refl (Searching ask (n + k) (Pool (left + k) looked))
+      (still-observed (to_look high all a) seen refl
+      (Searching ask (n + k) (Pool (left + k) looked))
       a.lists a.todo a.log refl)
       (λ i low upto. ap (λ (s : Shared). counts (word_of (s.places i))) one.1
       ∙ none i low (omega (arith, upto))) in

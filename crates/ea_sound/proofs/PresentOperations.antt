@@ -1,9 +1,4 @@
 -- Where the operation itself leaves a scheduler, once its begin is over.
-use Rattle.ea_machine.specs.Placements.{search_on}
-use Rattle.ea_machine.specs.Searches.{Search, goes_on, looked_in, new_search}
-use Rattle.ea_sound.proofs.SearchParts.{new-left, new-looks_at}
-use Rattle.ea_sound.specs.Listed.{LooksAt}
-use Rattle.ea_sound.specs.Present.{HasLeft}
 use Rattle.std.proofs.Common.{◌≡◌, ◌≢◌, ◌⊎◌, ℕ, ◌+◌, ◌≤◌, List, [], ◌∷◌, Bool, true, false}
 use Rattle.std.proofs.Common.{refl, sym, ap, ◌∙◌, subst, inl, inr, arith}
 use Rattle.std.specs.Prelude.{Option, None, Some, Result, Ok, Err, ◌==◌}
@@ -20,13 +15,13 @@ use Rattle.ea_model.specs.declared.reallocation.Decision.TheVariants.{ShrinkCarr
 use Rattle.ea_model.specs.Instance.{chosen_spot, decision_at, figures, is_alone, plan, resizing_at}
 use Rattle.ea_model.specs.Units.{need_of}
 use Rattle.ea_model.proofs.Rising.{item_at-key}
-use Rattle.ea_laws.proofs.Keeping.{plan-IsPlanned}
 use Rattle.ea_model.proofs.Needs.{need-even, need-least}
+use Rattle.ea_laws.proofs.Keeping.{plan-IsPlanned}
+use Rattle.ea_machine.specs.Placements.{search_on}
+use Rattle.ea_machine.specs.Searches.{Search, goes_on, looked_in, new_search}
 use Rattle.ea_machine.specs.Actor.{Actor}
 use Rattle.ea_machine.specs.declared.tasks.Task.TheVariants.{Freeing}
 use Rattle.ea_machine.specs.declared.asks.Ask.{Ask}
-use Rattle.ea_sound.specs.Entries.{Makes}
-use Rattle.ea_sound.specs.Names.{made_in}
 use Rattle.ea_machine.specs.Nodes.{named_at, name_of}
 use Rattle.ea_machine.specs.declared.nodes.Named.{Named}
 use Rattle.ea_machine.specs.Operations.{freed, giving, itself}
@@ -40,7 +35,12 @@ use Rattle.ea_machine.specs.Statistics.{employed_multis, employed_singles, obser
 use Rattle.ea_machine.specs.Statistics.{restarted}
 use Rattle.ea_machine.specs.Sums.{one_if}
 use Rattle.ea_machine.specs.Tasks.{later, let_go, logged}
+use Rattle.ea_sound.specs.Listed.{LooksAt}
+use Rattle.ea_sound.specs.Present.{HasLeft}
+use Rattle.ea_sound.specs.Entries.{Makes}
+use Rattle.ea_sound.specs.Names.{made_in}
 use Rattle.ea_sound.specs.Present.{OfAsk, OfTask}
+use Rattle.ea_sound.proofs.SearchParts.{new-left, new-looks_at}
 use Rattle.ea_sound.proofs.Entries.{OfFirst, ask-failed, later-made}
 use Rattle.ea_sound.proofs.FewBlocks.{Counting, resizing-fewer}
 use Rattle.ea_sound.proofs.HeldNames.{holding-names, holding-rising, let_go-rising, let_go-times}
@@ -87,7 +87,8 @@ module _ (e : Setup) (s : Shared) (me : ℕ) (home bound : Counting → ℕ) (R 
 
   module _ (ask : Ask) (a : Actor) (wants : Asks a ask) (b : IsBare a.todo a) where
     pub search-good : (x : Search) → (goes_on x.part ≡ true → HasLeft e x.part)
-        → (goes_on x.part ≡ true → LooksAt e x.lists x.at x.part) → migration e ≡ true → chosen_spot a.instance ask.need ≡ None
+        → (goes_on x.part ≡ true → LooksAt e x.lists x.at x.part) → migration e ≡ true
+        → chosen_spot a.instance ask.need ≡ None
         → IsGood (search_on e me ask x a)
     search-good x left looks on free = by (goes_on x.part) refl where
       by : (more : Bool) → goes_on x.part ≡ more

@@ -1,9 +1,4 @@
 -- Where each row leaves the scheduler that does it.
-use Rattle.ea_machine.specs.Placements.{fetches}
-use Rattle.ea_machine.specs.Releases.{struck}
-use Rattle.ea_machine.specs.Searches.{passed, with_counted}
-use Rattle.ea_machine.specs.Setup.{greatest_number}
-use Rattle.ea_sound.proofs.SearchParts.{counted-left, counted-looks_at, passed-left, passed-looks_at}
 use Rattle.std.proofs.Common.{◌≡◌, ◌≢◌, ℕ, zero, suc, ◌+◌, ◌≤◌, List, [], ◌∷◌, Bool, true}
 use Rattle.std.proofs.Common.{false, ◌&&◌, refl, sym, ap, ◌∙◌, subst, inl, arith}
 use Rattle.std.specs.Prelude.{Option, None, Some, option_map, ◌==◌, nat_le}
@@ -13,6 +8,11 @@ use Rattle.ea_model.specs.declared.carriers.CarrierPlan.{CarrierPlan}
 use Rattle.ea_model.specs.declared.entries.Entry.TheVariants as entry
 use Rattle.ea_model.specs.declared.operations.Op.TheVariants as op
 use Rattle.ea_model.specs.Content.{Content, can_go, is_nil}
+use Rattle.ea_model.proofs.Rising.{item_at-key}
+use Rattle.ea_machine.specs.Placements.{fetches}
+use Rattle.ea_machine.specs.Releases.{struck}
+use Rattle.ea_machine.specs.Searches.{passed, with_counted}
+use Rattle.ea_machine.specs.Setup.{greatest_number}
 use Rattle.ea_machine.specs.declared.parts.Part.{Part}
 use Rattle.ea_machine.specs.declared.owners.OwnerWord.{OwnerWord}
 use Rattle.ea_machine.specs.declared.owners.OwnerWord.TheVariants as word
@@ -22,12 +22,8 @@ use Rattle.ea_machine.specs.declared.stages.Stage.TheVariants.{Fetching, Creatin
 use Rattle.ea_machine.specs.declared.stages.Stage.TheVariants.{Ended, Ready}
 use Rattle.ea_machine.specs.Actor.{Actor}
 use Rattle.ea_machine.specs.declared.asks.Ask.{Ask}
-use Rattle.ea_sound.specs.Contents.{home_sum, seats, slots}
-use Rattle.ea_sound.specs.Places.{MayStay}
 use Rattle.ea_machine.specs.Tasks.{let_go, logged}
-use Rattle.ea_model.proofs.Rising.{item_at-key}
 use Rattle.ea_machine.specs.Machine.{after_row, wants_at, wants_on}
-use Rattle.ea_sound.specs.Names.{made_in, of_named, only, unplaced}
 use Rattle.ea_machine.specs.Nodes.{named_at, name_of}
 use Rattle.ea_machine.specs.declared.nodes.Named.{Named}
 use Rattle.ea_machine.specs.Operations.{gave, took_by}
@@ -44,8 +40,14 @@ use Rattle.ea_machine.specs.State.{State}
 use Rattle.ea_machine.specs.Sums.{one_if}
 use Rattle.ea_machine.specs.Table.{answer, effect, moved_if, won_if}
 use Rattle.ea_machine.specs.Walks.{after_route, collected}
+use Rattle.ea_sound.specs.Contents.{home_sum, seats, slots}
+use Rattle.ea_sound.specs.Places.{MayStay}
+use Rattle.ea_sound.specs.Names.{made_in, of_named, only, unplaced}
 use Rattle.ea_sound.specs.Present.{Asked, Fits, Rule}
 use Rattle.ea_sound.specs.Rule.{Kept, Standing, names_of}
+use Rattle.ea_sound.specs.Leaves.{Leaves}
+use Rattle.ea_sound.proofs.SearchParts.{counted-left, counted-looks_at, passed-left}
+use Rattle.ea_sound.proofs.SearchParts.{passed-looks_at}
 use Rattle.ea_sound.proofs.FewBlocks.{Counting, blocks_named}
 use Rattle.ea_sound.proofs.EmployedWeights.{employed_sum-employing}
 use Rattle.ea_sound.proofs.HeldNames.{holding-names, holding-rising, let_go-rising, let_go-times}
@@ -64,7 +66,6 @@ use Rattle.ea_sound.proofs.BeginRows.{begin-good}
 use Rattle.ea_sound.proofs.RouteRows.{turned-good}
 use Rattle.ea_sound.proofs.RowLeaves.{creating-bare, row-left}
 use Rattle.ea_sound.proofs.CarrierRows.{create_new}
-use Rattle.ea_sound.specs.Leaves.{Leaves}
 use Rattle.ea_sound.proofs.Suits.{CoreOf, Wants}
 use Rattle.ea_sound.proofs.Totals.{put-here, total-part, total-put}
 

@@ -1,5 +1,4 @@
 -- Where the row of a route leaves a scheduler.
-use Rattle.ea_machine.specs.Releases.{struck}
 use Rattle.std.proofs.Common.{◌≡◌, ◌≢◌, ◌⊎◌, ℕ, ◌+◌, ◌≤◌, List, Bool, true, false, refl, sym, ap}
 use Rattle.std.proofs.Common.{◌∙◌, subst, inl, inr, arith}
 use Rattle.std.specs.Prelude.{◌==◌}
@@ -8,7 +7,9 @@ use Rattle.ea_model.specs.declared.carriers.Kind.TheVariants.{Multi, Single}
 use Rattle.ea_model.specs.declared.carriers.Spot.{Spot}
 use Rattle.ea_model.specs.declared.operations.Op.{Op}
 use Rattle.ea_model.specs.Content.{Content, can_go, is_nil, released}
+use Rattle.ea_model.specs.Instance.{owner_of}
 use Rattle.ea_laws.specs.Kinds.{is_shared}
+use Rattle.ea_machine.specs.Releases.{struck}
 use Rattle.ea_machine.specs.declared.owners.OwnerWord.{OwnerWord}
 use Rattle.ea_machine.specs.declared.owners.OwnerWord.TheVariants as word
 use Rattle.ea_machine.specs.declared.stages.Stage.TheVariants.{Routed}
@@ -19,20 +20,19 @@ use Rattle.ea_machine.specs.declared.stages.Route.TheVariants.{Pushing, Linking}
 use Rattle.ea_machine.specs.Actor.{Actor}
 use Rattle.ea_machine.specs.declared.tasks.Why.{Why}
 use Rattle.ea_machine.specs.declared.tasks.Gone.{Gone}
-use Rattle.ea_sound.specs.Contents.{home_sum, slots}
 use Rattle.ea_machine.specs.Machine.{wants_on}
-use Rattle.ea_sound.specs.Names.{of_hand, only_at, unplaced_by}
 use Rattle.ea_machine.specs.declared.nodes.Named.{Named}
 use Rattle.ea_machine.specs.Nodes.{first_node}
 use Rattle.ea_machine.specs.Owners.{CarrierAt, Absent, Employed, Pooled, Busy, Returning, same_word}
 use Rattle.ea_machine.specs.Owners.{word_of}
-use Rattle.ea_model.specs.Instance.{owner_of}
 use Rattle.ea_machine.specs.Releases.{Turned, employed_by, looked, pooled_by, sent_to, settled}
 use Rattle.ea_machine.specs.Releases.{tried, turned}
 use Rattle.ea_machine.specs.Setup.{Setup, is_scheduler, migration}
 use Rattle.ea_machine.specs.Shared.{Shared, at_place}
 use Rattle.ea_machine.specs.State.{State}
 use Rattle.ea_machine.specs.Table.{answer, effect, moved_if, pooled, settled_at, won_if}
+use Rattle.ea_sound.specs.Contents.{home_sum, slots}
+use Rattle.ea_sound.specs.Names.{of_hand, only_at, unplaced_by}
 use Rattle.ea_sound.specs.Present.{Fits, FitsRoute, HasEmployer, HasOther, OfWhy, Rule, StillPooled}
 use Rattle.ea_sound.specs.Rule.{Kept, names_of}
 use Rattle.ea_sound.proofs.Assembly.{nil-is}

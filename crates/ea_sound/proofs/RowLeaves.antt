@@ -71,7 +71,8 @@ searching-bare ask n part = record {
   nodes = λ g i. refl;
 }
 
-fetching-bare : (ask : Ask) (n : ℕ) (part : Part) (seen : OwnerWord) → IsBare (Fetching ask n part seen)
+fetching-bare : (ask : Ask) (n : ℕ) (part : Part) (seen : OwnerWord)
+    → IsBare (Fetching ask n part seen)
 fetching-bare ask n part seen = record {
   names = λ f. refl;
   hands = λ b k. refl;

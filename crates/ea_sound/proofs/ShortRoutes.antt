@@ -1,14 +1,14 @@
 -- Release routes are short, and leave alone what is no part of them.
-use Rattle.ea_machine.specs.Releases.{struck}
 use Rattle.std.proofs.Common.{◌≡◌, ℕ, ◌<◌, ◌≤◌, Bool, true, false, refl, ◌∙◌, arith}
 use Rattle.std.specs.Prelude.{Option, Some, None, ◌==◌}
 use Rattle.ea_model.specs.declared.carriers.Kind.{Kind}
 use Rattle.ea_model.specs.declared.carriers.Kind.TheVariants.{Main, Multi, Single}
 use Rattle.ea_model.specs.Content.{Content, is_nil}
 use Rattle.ea_model.specs.Instance.{content_of, employed, releasing_at, owner_of}
+use Rattle.ea_model.specs.Abandonment.{is_due}
+use Rattle.ea_machine.specs.Releases.{struck}
 use Rattle.ea_machine.specs.declared.owners.OwnerWord.{OwnerWord}
 use Rattle.ea_machine.specs.declared.owners.OwnerWord.TheVariants as word
-use Rattle.ea_model.specs.Abandonment.{is_due}
 use Rattle.ea_machine.specs.declared.stages.Route.{Route}
 use Rattle.ea_machine.specs.declared.stages.Route.TheVariants.{Looking, Trying, Settling}
 use Rattle.ea_machine.specs.declared.stages.Route.TheVariants.{Abandoning, Sending, Clearing}

@@ -1,13 +1,13 @@
 -- A state that keeps the rule is sound.
-use Rattle.ea_sound.proofs.SoundLists.{sound-lists}
-use Rattle.ea_sound.specs.Listed.{KeepsLists}
 use Rattle.std.proofs.Common.{ℕ, inl, inr}
 use Rattle.std.proofs.lemmas.Bool.{cases_Bool}
 use Rattle.ea_model.specs.Trace.{IsScheduler}
 use Rattle.ea_machine.specs.Setup.{Setup, is_scheduler}
-use Rattle.ea_sound.specs.Sound.{HasNothing, IsInstanceOf, Sound}
 use Rattle.ea_machine.specs.State.{State}
+use Rattle.ea_sound.specs.Listed.{KeepsLists}
+use Rattle.ea_sound.specs.Sound.{HasNothing, IsInstanceOf, Sound}
 use Rattle.ea_sound.specs.Present.{Rule}
+use Rattle.ea_sound.proofs.SoundLists.{sound-lists}
 use Rattle.ea_sound.proofs.Created.{scheduler-number}
 use Rattle.ea_sound.proofs.SoundNames.{sound-names}
 use Rattle.ea_sound.proofs.SoundNodes.{sound-returning, sound-unlinked}

@@ -1,6 +1,4 @@
 -- A route leaves the walk of its scheduler as it is, and is steady.
-use Rattle.ea_machine.specs.Releases.{struck}
-use Rattle.ea_machine.specs.Searches.{passed}
 use Rattle.std.proofs.Common.{◌≡◌, ℕ, Bool, true, false, List, ◌∷◌, refl, sym, ap, ◌∙◌, inl, inr}
 use Rattle.std.specs.Prelude.{Option, Some, None, ◌==◌}
 use Rattle.std.proofs.lemmas.Bool.{cases_Bool, eqb-true, true≢false}
@@ -9,11 +7,14 @@ use Rattle.ea_model.specs.declared.carriers.Kind.TheVariants.{Main, Multi, Singl
 use Rattle.ea_model.specs.Content.{Content, is_nil}
 use Rattle.ea_model.specs.Instance.{content_of, employed, releasing_at, without_content, owner_of}
 use Rattle.ea_model.proofs.Rising.{item_at-key}
+use Rattle.ea_model.specs.Abandonment.{is_due}
 use Rattle.ea_laws.specs.Kept.{number_of, IsOrderly}
+use Rattle.ea_laws.proofs.Orderly.{releasing-IsOrderly}
+use Rattle.ea_machine.specs.Releases.{struck}
+use Rattle.ea_machine.specs.Searches.{passed}
 use Rattle.ea_machine.specs.declared.nodes.Node.{Node}
 use Rattle.ea_machine.specs.declared.owners.OwnerWord.{OwnerWord}
 use Rattle.ea_machine.specs.declared.owners.OwnerWord.TheVariants as word
-use Rattle.ea_model.specs.Abandonment.{is_due}
 use Rattle.ea_machine.specs.declared.stages.Route.{Route}
 use Rattle.ea_machine.specs.declared.stages.Route.TheVariants.{Looking, Trying, Settling}
 use Rattle.ea_machine.specs.declared.stages.Route.TheVariants.{Abandoning, Sending, Clearing}
@@ -30,7 +31,6 @@ use Rattle.ea_machine.specs.Rows.{Answer, Done, Head, Rests, Passes, Saw, Won, L
 use Rattle.ea_machine.specs.Setup.{Setup, migration}
 use Rattle.ea_sound.specs.Steady.{IsShown, IsSteadyRoute, TellsShown}
 use Rattle.ea_sound.proofs.Due.{due-in_hand, multi-found}
-use Rattle.ea_laws.proofs.Orderly.{releasing-IsOrderly}
 use Rattle.ea_sound.proofs.Unmoved.{due-unmoved}
 
 module _ (e : Setup) (me : ℕ) where

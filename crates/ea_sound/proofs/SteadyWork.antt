@@ -1,6 +1,4 @@
 -- The local work of a scheduler leaves it steady.
-use Rattle.ea_machine.specs.Placements.{fetches, search_on}
-use Rattle.ea_machine.specs.Searches.{Search, goes_on, looked_in, new_search, passed, with_counted}
 use Rattle.std.proofs.Common.{◌≡◌, ℕ, zero, suc, Bool, true, false, List, [], ◌∷◌, refl, sym}
 use Rattle.std.proofs.Common.{ap, ◌∙◌}
 use Rattle.std.specs.Prelude.{Option, Some, None, Result, Ok, Err}
@@ -18,6 +16,8 @@ use Rattle.ea_model.specs.Instance.{chosen_spot, creating, creating_single, deci
 use Rattle.ea_model.specs.Instance.{placing_at, plan}
 use Rattle.ea_model.specs.Units.{need_of}
 use Rattle.ea_model.specs.Content.{Content}
+use Rattle.ea_machine.specs.Placements.{fetches, search_on}
+use Rattle.ea_machine.specs.Searches.{Search, goes_on, looked_in, new_search, passed, with_counted}
 use Rattle.ea_machine.specs.declared.parts.Part.{Part}
 use Rattle.ea_machine.specs.declared.nodes.Node.{Node}
 use Rattle.ea_machine.specs.declared.nodes.Node.TheVariants.{Block, Carrier}
@@ -137,7 +137,8 @@ module _ (e : Setup) (me : ℕ) where
   seek-leaves : (ask : Ask) (a : Actor) → Leaves a.next a.passed (seek e me ask a)
   seek-leaves ask a = seek_by-leaves ask a (is_alone a.instance ask.need)
 
-  saw-leaves : (ask : Ask) (at : ℕ) (part : Part) (a : Actor) (w : OwnerWord) (fit : Bool) → IsShown e w
+  saw-leaves : (ask : Ask) (at : ℕ) (part : Part) (a : Actor) (w : OwnerWord) (fit : Bool)
+      → IsShown e w
       → Leaves a.next a.passed (saw_by e me ask at part a w fit)
   saw-leaves ask at part a w true shown = (refl, refl, shown)
   saw-leaves ask at part a w false shown =

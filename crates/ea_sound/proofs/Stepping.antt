@@ -1,9 +1,4 @@
 -- What a row leaves, the local work after it keeps.
-use Rattle.ea_machine.specs.Lists.{unlisted}
-use Rattle.ea_machine.specs.Placements.{fetches}
-use Rattle.ea_machine.specs.Releases.{struck}
-use Rattle.ea_machine.specs.Searches.{passed, with_counted}
-use Rattle.ea_machine.specs.Setup.{greatest_number}
 use Rattle.std.proofs.Common.{◌≡◌, ◌≢◌, ◌⊎◌, ℕ, zero, suc, List, [], ◌∷◌, true, refl, sym, ap}
 use Rattle.std.proofs.Common.{◌∙◌, subst, inl, inr, arith}
 use Rattle.std.specs.Prelude.{Some, None, ◌==◌}
@@ -12,6 +7,12 @@ use Rattle.ea_model.specs.declared.operations.Op.{Op}
 use Rattle.ea_model.specs.declared.operations.Op.TheVariants as op
 use Rattle.ea_model.specs.Trace.{makes}
 use Rattle.ea_model.specs.Content.{Content}
+use Rattle.ea_model.specs.Employment.{employing}
+use Rattle.ea_machine.specs.Lists.{unlisted}
+use Rattle.ea_machine.specs.Placements.{fetches}
+use Rattle.ea_machine.specs.Releases.{struck}
+use Rattle.ea_machine.specs.Searches.{passed, with_counted}
+use Rattle.ea_machine.specs.Setup.{greatest_number}
 use Rattle.ea_machine.specs.declared.parts.Part.{Part}
 use Rattle.ea_machine.specs.declared.owners.OwnerWord.{OwnerWord}
 use Rattle.ea_machine.specs.declared.stages.Stage.{Stage}
@@ -21,9 +22,7 @@ use Rattle.ea_machine.specs.declared.stages.Stage.TheVariants.{Ended, Ready}
 use Rattle.ea_machine.specs.Actor.{Actor}
 use Rattle.ea_machine.specs.declared.tasks.Why.TheVariants.{Walk, For}
 use Rattle.ea_machine.specs.declared.asks.Ask.{Ask}
-use Rattle.ea_model.specs.Employment.{employing}
 use Rattle.ea_machine.specs.Machine.{after, after_row, onward_at}
-use Rattle.ea_sound.specs.Names.{made_in}
 use Rattle.ea_machine.specs.Operations.{took}
 use Rattle.ea_machine.specs.Placements.{fetched, holding, searched}
 use Rattle.ea_machine.specs.Searches.{fits}
@@ -35,6 +34,7 @@ use Rattle.ea_machine.specs.State.{State}
 use Rattle.ea_machine.specs.Sums.{one_if}
 use Rattle.ea_machine.specs.Tasks.{entry_of, let_go}
 use Rattle.ea_machine.specs.Walks.{after_route, begun, with_passed}
+use Rattle.ea_sound.specs.Names.{made_in}
 use Rattle.ea_sound.specs.Leaves.{InOperation, InWalk, IsFresh, Leaves}
 use Rattle.ea_sound.specs.Moments.{at}
 use Rattle.ea_sound.proofs.Assembly.{Closed, ClosedWalk, carried-holds, turned-holds, worked-holds}

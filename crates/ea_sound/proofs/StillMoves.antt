@@ -1,5 +1,4 @@
 -- Moves of a scheduler that change no carrier: its stage, its names, its nodes or its log.
-use Rattle.ea_machine.specs.Lists.{Lists}
 use Rattle.std.proofs.Common.{◌≡◌, ◌≢◌, ℕ, ◌≤◌, List, [], ◌∷◌, true, refl, sym, ap, ◌∙◌, subst}
 use Rattle.std.proofs.Common.{arith}
 use Rattle.std.proofs.lemmas.Bool.{true≢false}
@@ -11,6 +10,7 @@ use Rattle.ea_model.specs.declared.operations.Op.{Op}
 use Rattle.ea_model.specs.Content.{Content}
 use Rattle.ea_model.specs.Instance.{Instance}
 use Rattle.ea_laws.specs.Kept.{IsLaidOut}
+use Rattle.ea_machine.specs.Lists.{Lists}
 use Rattle.ea_machine.specs.declared.nodes.Node.{Node}
 use Rattle.ea_machine.specs.declared.nodes.Node.TheVariants.{Carrier}
 use Rattle.ea_machine.specs.declared.owners.OwnerWord.{OwnerWord}
@@ -24,17 +24,17 @@ use Rattle.ea_machine.specs.declared.tasks.Why.{Why}
 use Rattle.ea_machine.specs.declared.tasks.Why.TheVariants.{Walk}
 use Rattle.ea_machine.specs.declared.tasks.Gone.{Gone}
 use Rattle.ea_machine.specs.declared.tasks.Gone.TheVariants.{Open}
-use Rattle.ea_sound.specs.Contents.{InHand, actor_sum, hand_sum}
-use Rattle.ea_sound.specs.Names.{made_in, of_content, of_hand, of_named, only}
-use Rattle.ea_sound.specs.NodePlaces.{of_carrier_actor, of_carrier_hand, of_link}
 use Rattle.ea_machine.specs.Nodes.{block_node, named_at, name_of}
 use Rattle.ea_machine.specs.declared.nodes.Named.{Named}
-use Rattle.ea_sound.specs.Ranges.{IsLaidOutAsKind}
 use Rattle.ea_machine.specs.Setup.{Setup, is_scheduler}
 use Rattle.ea_machine.specs.Shared.{Shared}
 use Rattle.ea_machine.specs.State.{State}
 use Rattle.ea_machine.specs.Sums.{sum_over}
 use Rattle.ea_machine.specs.Tasks.{later, let_go, logged}
+use Rattle.ea_sound.specs.Contents.{InHand, actor_sum, hand_sum}
+use Rattle.ea_sound.specs.Names.{made_in, of_content, of_hand, of_named, only}
+use Rattle.ea_sound.specs.NodePlaces.{of_carrier_actor, of_carrier_hand, of_link}
+use Rattle.ea_sound.specs.Ranges.{IsLaidOutAsKind}
 use Rattle.ea_sound.specs.Leaves.{InOperation, InWalk}
 use Rattle.ea_sound.specs.Moments.{at, with_actor}
 use Rattle.ea_sound.specs.Rule.{Belongs, Kept, Standing, blocks_of, names_of, of_owner}

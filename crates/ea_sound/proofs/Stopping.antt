@@ -1,5 +1,6 @@
 -- Lists of turns, as schedulers that stop take them.
-use Rattle.std.proofs.Common.{◌≡◌, ◌≢◌, ◌⊎◌, ℕ, zero, suc, ◌+◌, ◌-◌, ◌<◌, ◌≤◌, ◌==◌, Bool, true, false}
+use Rattle.std.proofs.Common.{◌≡◌, ◌≢◌, ◌⊎◌, ℕ, zero, suc, ◌+◌, ◌-◌, ◌<◌, ◌≤◌, ◌==◌, Bool, true}
+use Rattle.std.proofs.Common.{false}
 use Rattle.std.proofs.Common.{List, [], ◌∷◌, ◌++◌, length, replicate, take, Option, Some, None}
 use Rattle.std.proofs.Common.{refl, sym, ap, ◌∙◌, subst, inl, inr, arith}
 use Rattle.std.specs.Prelude.{All, cond, count_by}
@@ -11,8 +12,12 @@ use Rattle.std.proofs.lemmas.List.Sums.{sum_by-append, sum_by-cons}
 use Rattle.ea_model.specs.Content.{Content}
 use Rattle.ea_machine.specs.declared.stages.Stage.{Stage}
 use Rattle.ea_machine.specs.declared.stages.Stage.TheVariants.{Ended}
+use Rattle.ea_machine.specs.Machine.{run}
+use Rattle.ea_machine.specs.Setup.{Setup}
 use Rattle.ea_machine.specs.Stops.{count_of, cut, left_by, less, put_left, stop_at, up_to}
+use Rattle.ea_sound.specs.MachineLaws.{HeedsStops}
 use Rattle.ea_sound.proofs.Totals.{put-here, put-other}
+use Rattle.ea_sound.proofs.TurnLists.{run-snoc}
 
 -- counts of turns
 abbrev pub mine : ℕ → ℕ → ℕ
@@ -137,7 +142,8 @@ pub take-fewer : (k n me : ℕ) → k ≤ n → take k (replicate n me) ≡ repl
 take-fewer zero zero me within = refl
 take-fewer zero (suc n) me within = refl
 take-fewer (suc k) zero me within = absurd (omega (arith, within))
-take-fewer (suc k) (suc n) me within = ap (λ xs. me ∷ xs) (take-fewer k n me (omega (arith, within)))
+take-fewer (suc k) (suc n) me within =
+    ap (λ xs. me ∷ xs) (take-fewer k n me (omega (arith, within)))
 
 -- and more of them
 pub up_to-more : (o : Option ℕ) (k j me : ℕ) → up_to o (replicate (k + j) me)
@@ -167,7 +173,8 @@ up_to-more (Some n) k j me = ap (take n) (sym (replicate-append-replicate k j me
         nothing : (n : ℕ) → take n (replicate 0 me) ≡ []
         nothing zero = refl
         nothing (suc n) = refl
-    taken zero (suc k) = sym (none-of (replicate j me)) ∙ ap (λ i. take i (replicate j me)) (sym (none (suc k)))
+    taken zero (suc k) = sym (none-of (replicate j me))
+        ∙ ap (λ i. take i (replicate j me)) (sym (none (suc k)))
     taken (suc n) (suc k) = ap (λ xs. me ∷ xs) (taken n k)
         ∙ ap (λ i. me ∷ take n (replicate k me) ++ take i (replicate j me)) (down n k)
 
@@ -266,15 +273,69 @@ module _ where
             ∙ sym (less-over (left i) (count_of i (x ∷ [])) (ap left (sym q) ∙ is))
         | inr n ↦ ap (less (left i)) (sym (omega (arith, count-cons i x [], count-none i x n)))
       ]
-      first (Some (suc k)) is = ap (λ (xs : List ℕ). less (left i) (count_of i (x ∷ xs))) (nothing k)
+      first (Some (suc k)) is =
+          ap (λ (xs : List ℕ). less (left i) (count_of i (x ∷ xs))) (nothing k)
         where
           nothing : (k : ℕ) → (let xs : List ℕ = [] in take k xs ≡ xs)
           nothing zero = refl
           nothing (suc k) = refl
+
+-- turns that are taken are all taken
+take-again : (n : ℕ) (xs : List ℕ) → take n (take n xs) ≡ take n xs
+take-again zero [] = refl
+take-again zero (x ∷ xs) = refl
+take-again (suc n) [] = refl
+take-again (suc n) (x ∷ xs) = ap (λ ys. x ∷ ys) (take-again n xs)
+
+up_to-again : (o : Option ℕ) (xs : List ℕ) → up_to o (up_to o xs) ≡ up_to o xs
+up_to-again None xs = refl
+up_to-again (Some n) xs = take-again n xs
+
+pub cut-own : (left : ℕ → Option ℕ) (n me : ℕ)
+    → cut left (up_to (left me) (replicate n me)) ≡ up_to (left me) (replicate n me)
+cut-own left n me = let some = up_to-some (left me) n me in
+    ap (cut left) some.1 ∙ cut-replicate left some.0 me
+    ∙ ap (up_to (left me)) (sym some.1) ∙ up_to-again (left me) (replicate n me)
+
+pub cut-again : (left : ℕ → Option ℕ) (xs : List ℕ) → cut left (cut left xs) ≡ cut left xs
+cut-again left [] = refl
+cut-again left (x ∷ xs) =
+    ap (cut left) (cut-cons left x xs) ∙ cut-append left first (cut next xs)
+    ∙ ap (λ ys. ys ++ cut (left_by left first) (cut next xs)) (cut-own left 1 x)
+    ∙ ap (λ ys. first ++ ys)
+    (cut-alike (left_by left first) next same (cut next xs) ∙ cut-again next xs)
+    ∙ sym (cut-cons left x xs)
+  where
+    first : List ℕ
+    first = up_to (left x) (x ∷ [])
+
+    next : ℕ → Option ℕ
+    next = left_by left (x ∷ [])
+
+    same : (i : ℕ) → left_by left first i ≡ next i
+    same i = ap (λ ys. left_by left ys i) (sym (append-nil first)) ∙ cut-left left (x ∷ []) i
+
+-- one turn more is a step, unless its scheduler is stopped
+pub heeds-stops : (e : Setup) → HeedsStops e
+heeds-stops e turns me = (
+  λ over. from [] (up_to-over (left me) (me ∷ []) over) ∙ ap (run e) (append-nil taken),
+  λ going. from (me ∷ []) (up_to-step (left me) me going) ∙ run-snoc e taken me,
+) where
+  left : ℕ → Option ℕ
+  left = left_by e.stops turns
+
+  taken : List ℕ
+  taken = cut e.stops turns
+
+  from : (more : List ℕ) → up_to (left me) (me ∷ []) ≡ more
+      → run e (cut e.stops (turns ++ me ∷ [])) ≡ run e (taken ++ more)
+  from more is = ap (run e) (cut-append e.stops turns (me ∷ [])
+      ∙ ap (λ xs. taken ++ xs) (append-nil (up_to (left me) (me ∷ [])) ∙ is))
 
 -- what the log says of a stop, whatever is left of one that has ended
 pub stop-same : (st : Stage Content) (stop left o : Option ℕ)
     → (st ≡ Ended) ⊎ ((left ≡ Some 0) × (o ≡ Some 0)) → stop_at st stop left ≡ stop_at st stop o
 stop-same st stop left o (inl ended) = ap (λ x. stop_at x stop left) ended
     ∙ sym (ap (λ x. stop_at x stop o) ended)
-stop-same st stop left o (inr both) = ap (stop_at st stop) both.0 ∙ sym (ap (stop_at st stop) both.1)
+stop-same st stop left o (inr both) = ap (stop_at st stop) both.0
+    ∙ sym (ap (stop_at st stop) both.1)

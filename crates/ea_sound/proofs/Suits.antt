@@ -1,8 +1,5 @@
 -- What the local work of a scheduler keeps by itself, and where it leaves the scheduler; the state
 -- that it comes to gives the rest.
-use Rattle.ea_machine.specs.Searches.{goes_on}
-use Rattle.ea_sound.specs.Listed.{LooksAt}
-use Rattle.ea_sound.specs.Present.{HasLeft}
 use Rattle.std.specs.Prelude.{◌≡◌, ◌≢◌, ◌⊎◌, ℕ, ◌+◌, ◌≤◌, true, false, List, [], ◌∷◌, ◌++◌}
 use Rattle.std.specs.Prelude.{Option, None, Some, Ok, AllPairs}
 use Rattle.std.specs.List.{AllZip}
@@ -11,8 +8,9 @@ use Rattle.ea_model.specs.declared.operations.Op.{Op}
 use Rattle.ea_model.specs.declared.operations.Op.TheVariants as op
 use Rattle.ea_model.specs.Instance.{Instance, chosen_spot, plan, owner_of}
 use Rattle.ea_model.specs.Keyed.{IsBelow}
-use Rattle.ea_laws.specs.Kept.{Stands}
 use Rattle.ea_model.specs.Content.{Content}
+use Rattle.ea_laws.specs.Kept.{Stands}
+use Rattle.ea_machine.specs.Searches.{goes_on}
 use Rattle.ea_machine.specs.declared.nodes.Node.{Node}
 use Rattle.ea_machine.specs.declared.nodes.Node.TheVariants.{Block, Carrier}
 use Rattle.ea_machine.specs.declared.owners.OwnerWord.TheVariants as word
@@ -27,14 +25,16 @@ use Rattle.ea_machine.specs.declared.stages.Route.TheVariants.{Pushing, Linking}
 use Rattle.ea_machine.specs.Actor.{Actor}
 use Rattle.ea_machine.specs.declared.tasks.Why.{Why}
 use Rattle.ea_machine.specs.declared.asks.Ask.{Ask}
-use Rattle.ea_sound.specs.Contents.{hand_sum, route_sum}
-use Rattle.ea_sound.specs.Entries.{Makes}
-use Rattle.ea_sound.specs.Names.{made_in, unplaced, unplaced_by}
 use Rattle.ea_machine.specs.Nodes.{first_node, named_at, name_of}
 use Rattle.ea_machine.specs.declared.nodes.Named.{Named}
 use Rattle.ea_machine.specs.Releases.{Turned}
 use Rattle.ea_machine.specs.Setup.{Setup, is_scheduler, migration}
 use Rattle.ea_machine.specs.Shared.{Shared}
+use Rattle.ea_sound.specs.Listed.{LooksAt}
+use Rattle.ea_sound.specs.Present.{HasLeft}
+use Rattle.ea_sound.specs.Contents.{hand_sum, route_sum}
+use Rattle.ea_sound.specs.Entries.{Makes}
+use Rattle.ea_sound.specs.Names.{made_in, unplaced, unplaced_by}
 use Rattle.ea_sound.specs.Blocks.{EmploysMain}
 use Rattle.ea_sound.specs.Present.{FitsRoute, OfAsk, OfWhy, OldHeld}
 use Rattle.ea_sound.specs.Rule.{Standing}

@@ -1,8 +1,5 @@
 -- No row that a scheduler does lets it take its queue more often, and where it takes the queue it
 -- does so less often from then on.
-use Rattle.ea_machine.specs.Placements.{fetches, search_on}
-use Rattle.ea_machine.specs.Releases.{struck}
-use Rattle.ea_machine.specs.Searches.{Search, goes_on, looked_in, new_search, passed, with_counted}
 use Rattle.std.proofs.Common.{◌≡◌, ◌≢◌, ℕ, zero, suc, ◌<◌, ◌≤◌, List, [], ◌∷◌, Bool, true}
 use Rattle.std.proofs.Common.{false, refl, ap, arith}
 use Rattle.std.specs.Prelude.{Option, Some, None, Result, Ok, Err, length}
@@ -21,6 +18,10 @@ use Rattle.ea_model.specs.Instance.{chosen_spot, creating, creating_single, deci
 use Rattle.ea_model.specs.Instance.{place_at, placing_at, plan, single_place}
 use Rattle.ea_model.specs.Units.{need_of}
 use Rattle.ea_model.specs.Content.{Content}
+use Rattle.ea_model.specs.Employment.{employing}
+use Rattle.ea_machine.specs.Placements.{fetches, search_on}
+use Rattle.ea_machine.specs.Releases.{struck}
+use Rattle.ea_machine.specs.Searches.{Search, goes_on, looked_in, new_search, passed, with_counted}
 use Rattle.ea_machine.specs.declared.parts.Part.{Part}
 use Rattle.ea_machine.specs.declared.nodes.Node.{Node}
 use Rattle.ea_machine.specs.declared.nodes.Node.TheVariants.{Block, Carrier}
@@ -36,7 +37,6 @@ use Rattle.ea_machine.specs.declared.tasks.Task.TheVariants.{Freeing, Moving}
 use Rattle.ea_machine.specs.declared.tasks.Why.TheVariants.{Walk, For}
 use Rattle.ea_machine.specs.declared.tasks.Gone.{Gone}
 use Rattle.ea_machine.specs.declared.asks.Ask.{Ask}
-use Rattle.ea_model.specs.Employment.{employing}
 use Rattle.ea_machine.specs.Machine.{after_row, onward, onward_at, step, wants}
 use Rattle.ea_machine.specs.Nodes.{named_at}
 use Rattle.ea_machine.specs.declared.nodes.Named.{Named}
@@ -53,8 +53,8 @@ use Rattle.ea_machine.specs.Setup.{Setup, greatest_number, migration}
 use Rattle.ea_machine.specs.State.{State}
 use Rattle.ea_machine.specs.Table.{answer}
 use Rattle.ea_machine.specs.Tasks.{carried, entry_of, hands_over, let_go, logged, task_over}
-use Rattle.ea_sound.specs.Turns.{advanced}
 use Rattle.ea_machine.specs.Walks.{after_route, begun, passed_on, taken, with_passed, worked_off}
+use Rattle.ea_sound.specs.Turns.{advanced}
 use Rattle.ea_sound.specs.OwnWork.{begin_takings, later_takings, stage_takings, takings}
 use Rattle.ea_sound.proofs.ShortRoutes.{route-short, turned-short}
 use Rattle.ea_sound.proofs.TurnLists.{step-mine}
@@ -331,7 +331,12 @@ module _ (e : Setup) (me : ℕ) where
   row-few a r (Routed route (For task) g) q =
       omega (arith, task-route route task g a r, ap (stage_takings a.next a.todo) q)
   row-few a r (Collecting c) q =
-      omega (arith, worked-few a.passed (disowned c (struck c a)), ap (stage_takings a.next a.todo) q)
+      omega (
+        arith,
+        worked-few a.passed (disowned c (struck c a)),
+        ap
+            (stage_takings a.next a.todo) q,
+      )
   row-few a r (Searching ask n part) q =
       omega (arith, searched-few ask n part a r, ap (stage_takings a.next a.todo) q)
   row-few a r (Fetching ask n part seen) q =

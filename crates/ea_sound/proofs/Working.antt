@@ -1,7 +1,4 @@
 -- What the moves of an operation keep, the operation itself keeps.
-use Rattle.ea_machine.specs.Lists.{Lists}
-use Rattle.ea_machine.specs.Placements.{search_on}
-use Rattle.ea_machine.specs.Searches.{Search, goes_on, looked_in, new_search, passed}
 use Rattle.std.proofs.Common.{◌≡◌, ◌≢◌, ℕ, ◌%◌, ◌≤◌, List, [], ◌∷◌, Bool, true, false, refl}
 use Rattle.std.proofs.Common.{sym, ◌∙◌, subst}
 use Rattle.std.specs.Prelude.{Option, Some, None, Result, Ok, Err}
@@ -20,9 +17,12 @@ use Rattle.ea_model.specs.Instance.{single_place}
 use Rattle.ea_model.specs.Units.{need_of}
 use Rattle.ea_model.proofs.Options.{some_value}
 use Rattle.ea_model.proofs.Rising.{item_at-key}
-use Rattle.ea_laws.proofs.Keeping.{chosen-planned}
 use Rattle.ea_model.proofs.Needs.{need-even, need-least}
 use Rattle.ea_model.specs.Content.{Content}
+use Rattle.ea_laws.proofs.Keeping.{chosen-planned}
+use Rattle.ea_machine.specs.Lists.{Lists}
+use Rattle.ea_machine.specs.Placements.{search_on}
+use Rattle.ea_machine.specs.Searches.{Search, goes_on, looked_in, new_search, passed}
 use Rattle.ea_machine.specs.declared.parts.Part.{Part}
 use Rattle.ea_machine.specs.declared.owners.OwnerWord.{OwnerWord}
 use Rattle.ea_machine.specs.declared.stages.Stage.{Stage}

@@ -77,8 +77,8 @@ IsDone setup turns s name = HasNoBlock setup turns s name
 -- its own; a block keeps its spot; no place was found; a name isn't held, and nothing changes; a
 -- block is gone, and s released it itself, or it went to another scheduler's queue, by who was seen
 -- to employ its carrier, or, where carriers don't migrate, owns it; a name was given, or taken,
--- with its spot, or tried for in vain as often as it was to be; and what carriers are employed then.
--- No step makes an entry of a stop
+-- with its spot, or tried for in vain as often as it was to be; and what carriers are employed
+-- then. No step makes an entry of a stop
 abbrev pub Tells : Setup → List ℕ → ℕ → Entry → Type 0
 Tells setup turns s (entry.Alloc name place) = IsPlacement setup turns s name place
 Tells setup turns s (entry.AllocFail name need looked why) =

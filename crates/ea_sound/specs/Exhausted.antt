@@ -19,8 +19,8 @@ seen_since setup before s since = sights setup (run setup (before ++ s ∷ [])) 
 
 -- the begin of its operation was over in its step after `before`, and it asks for a place; up to
 -- the singleblock threshold the strategy has no choice among the carriers that it employs then, and
--- with migration on own carriers and the pool were searched in vain, with all of its steps since then; and no carrier
--- can be created, for want of numbers or of space
+-- with migration on own carriers and the pool were searched in vain, with all of its steps since
+-- then; and no carrier can be created, for want of numbers or of space
 pub record FindsNoPlace (setup : Setup) (before : List ℕ) (s : ℕ) (since : List ℕ)
     (need looked : ℕ) (why : NoCarrier) : Type 0 where
   pub begins : IsBegun setup (run setup before) s

@@ -20,8 +20,8 @@ use Rattle.ea_sound.specs.Searches.{IsNextLook, Searched, Shown, Sight}
 
 -- the begin of the operation of s was over in a step among the steps `turns`; it asks for a place
 -- for a block of this need, and the strategy had no choice. With each of its steps since then s
--- searched for a carrier: it passed the numbers before this one, since no word of theirs fits, or the
--- try to fetch was lost; and the word of this one, seen last, fits
+-- searched for a carrier: it passed the numbers before this one, since no word of theirs fits, or
+-- the try to fetch was lost; and the word of this one, seen last, fits
 pub record IsFirstFit (setup : Setup) (turns : List ℕ) (s need number : ℕ) (seen : OwnerWord)
     : Type 0 where
   pub before : List ℕ

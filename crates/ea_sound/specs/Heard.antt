@@ -61,8 +61,8 @@ pub record HearsNoOther (setup : Setup) (state : State) : Type 0 where
   pub ended : (s : ℕ) → (state.actors s).stage ≡ Ended → (state.actors s).todo ≡ []
   pub resting : (s : ℕ) → (state.actors s).stage ≢ Ready
 
--- a look of the first two parts of a search shows a carrier that is there, and that the one who looks
--- doesn't employ
+-- a look of the first two parts of a search shows a carrier that is there, and that the one who
+-- looks doesn't employ
 abbrev pub FindsOwn : Setup → State → Type 0
 FindsOwn setup state = (s at : ℕ) (ask : Ask) (part : Part) (seen : OwnerWord)
     → (state.actors s).stage ≡ Searching ask at part → is_by_list part ≡ true

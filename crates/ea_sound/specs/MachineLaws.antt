@@ -1,13 +1,14 @@
 -- Laws of the machine: what holds of each run of a valid trace under a valid configuration,
 -- whatever steps its schedulers take.
-use Rattle.std.specs.Prelude.{◌≡◌, ℕ, List}
+use Rattle.std.specs.Prelude.{◌≡◌, ◌≢◌, ℕ, List, [], ◌∷◌, ◌++◌, Some}
 use Rattle.ea_model.specs.declared.settings.Config.{Config}
 use Rattle.ea_model.specs.declared.trace.Trace.{Trace}
 use Rattle.ea_model.specs.Settings.{IsValidConfig}
 use Rattle.ea_model.specs.Trace.{IsValidTrace}
 use Rattle.ea_machine.specs.Setup.{Setup, setup_of}
 use Rattle.ea_machine.specs.State.{State}
-use Rattle.ea_machine.specs.Machine.{run}
+use Rattle.ea_machine.specs.Machine.{run, step}
+use Rattle.ea_machine.specs.Stops.{cut, left_after, run_with_stops}
 use Rattle.ea_machine.specs.Completion.{complete}
 use Rattle.ea_machine.specs.Courses.{Rests}
 use Rattle.ea_sound.specs.Units.{PrintsSums}
@@ -27,17 +28,32 @@ AtEachMoment P setup = (turns : List ℕ) → P setup (run setup turns)
 abbrev pub LogEach : Setup → State → Type 0
 LogEach setup state = (i : ℕ) → LogsEach setup state i
 
+-- after any turns, a further turn of a scheduler that has no step left until its stop changes
+-- nothing, and any other turn is a step
+abbrev pub HeedsStops : Setup → Type 0
+HeedsStops setup = (turns : List ℕ) (me : ℕ)
+    → (left_after setup turns me ≡ Some 0
+    → run_with_stops setup (turns ++ me ∷ []) ≡ run_with_stops setup turns)
+    × (left_after setup turns me ≢ Some 0
+    → run_with_stops setup (turns ++ me ∷ []) ≡ step setup (run_with_stops setup turns) me)
+
+-- of the turns that complete a schedule each is taken: none is that of a stopped scheduler
+abbrev pub CompletesWithin : Setup → Type 0
+CompletesWithin setup = (turns : List ℕ)
+    → cut setup.stops (complete setup turns) ≡ complete setup turns
+
 -- after the turns that complete a schedule, every scheduler has ended or is stopped
-abbrev pub AllEnd : Setup → Type 0
-AllEnd setup = (turns : List ℕ) (s : ℕ) → Rests setup (complete setup turns) s
+abbrev pub AllComeToRest : Setup → Type 0
+AllComeToRest setup = (turns : List ℕ) (s : ℕ) → Rests setup (complete setup turns) s
 
 -- each moment is sound, and what is printed of it are the sums of soundness; no scheduler does a
 -- row that it may not do, and some answers never come; a carrier that is fetched fits; each
 -- operation makes one entry, of its own kind, which tells how it came about: placements are chosen,
 -- and fails are exhausted; where no place is found an operation fails, where its name isn't held it
 -- is skipped, and where another employer is seen its block is queued to that; no name is released
--- twice, one that failed has no block, and both stay so; a block keeps its place and its units; and
--- after a completed schedule all have ended or are stopped
+-- twice, one that failed has no block, and both stay so; a block keeps its place and its units; who
+-- is stopped takes no step, in a completed schedule neither; and after that all have ended or are
+-- stopped
 pub record Protocol (setup : Setup) : Type 0 where
   pub sound : AtEachMoment Sound setup
   pub prints : AtEachMoment PrintsSums setup
@@ -54,7 +70,9 @@ pub record Protocol (setup : Setup) : Type 0 where
   pub failed : AtEachMoment FailedHaveNone setup
   pub gone : StaysGone setup
   pub places : KeepsPlaces setup
-  pub ends : AllEnd setup
+  pub stops : HeedsStops setup
+  pub within : CompletesWithin setup
+  pub ends : AllComeToRest setup
 
 -- it holds of each setup that a valid trace has under a valid configuration
 abbrev pub Always : (Setup → Type 0) → Type 0

@@ -115,7 +115,8 @@ pub record Asked (e : Setup) (w : State) (a : Actor) (ask : Ask) : Type 0 where
   pub old : OldHeld ask.old a.held
   pub fresh : allocated e (only ask.name) w ≡ 0
 
--- a part of a search has a number left, and not too many; and no more words were counted than may be
+-- a part of a search has a number left, and not too many; and no more words were counted than may
+-- be
 abbrev pub HasLeft : Setup → Part → Type 0
 HasLeft e (Own left) = (0 < left) × (left ≤ LIST_LIMIT)
 HasLeft e (Traitors left) = (0 < left) × (left ≤ LIST_LIMIT)

@@ -47,9 +47,9 @@ module _ (greatest : ℕ) where
   past x seen present =
       passed greatest x.lists x.at (with_counted seen x.part) present
 
-  -- a search that stood at x saw this, and then stands at y. It looks at one number after another, in
-  -- the order of its parts. No word that it saw fits, or the try to fetch the carrier, which follows
-  -- directly, was lost: another word was there
+  -- a search that stood at x saw this, and then stands at y. It looks at one number after another,
+  -- in the order of its parts. No word that it saw fits, or the try to fetch the carrier, which
+  -- follows directly, was lost: another word was there
   abbrev pub Searched : ℕ → Search → Search → List Sight → Type 0
   Searched need x y [] = x ≡ y
   Searched need x y (Missed m w ∷ xs) = ⊥
@@ -65,8 +65,8 @@ abbrev pub IsUnsought : Setup → ℕ → ℕ → List Sight → Type 0
 IsUnsought setup need looked seen =
     ((migration setup ≡ false) ⊎ (setup.settings.sbct < need)) × (seen ≡ []) × (looked ≡ 0)
 
--- with these lists a search began, and went on through its parts until no number was left in the last
--- one, or enough of its words were counted
+-- with these lists a search began, and went on through its parts until no number was left in the
+-- last one, or enough of its words were counted
 abbrev pub IsSought : Setup → Lists → ℕ → ℕ → List Sight → Type 0
 IsSought setup lists need looked seen = (migration setup ≡ true) × (need ≤ setup.settings.sbct)
     × ((last : Search) × Searched (greatest_number setup) need

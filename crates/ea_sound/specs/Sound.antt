@@ -32,8 +32,8 @@ pub record HasNothing (i : ℕ) (state : State) : Type 0 where
 
 -- blocks and carriers lie apart; each carrier is in one place, and each name; of a pooled carrier
 -- the largest gap is recorded; blocks, gaps and headers are all units; a carrier that returns has
--- one node; each node that isn't linked is about to be; a carrier that is away from its owner stands
--- in one of its lists; and each scheduler has its own instance, and nobody else has anything
+-- one node; each node that isn't linked is about to be; a carrier that is away from its owner
+-- stands in one of its lists; and each scheduler has its own instance, and nobody else has anything
 pub record Sound (setup : Setup) (state : State) : Type 0 where
   pub ranges : LaysOut setup state
   pub carriers : PlacesCarriers setup state

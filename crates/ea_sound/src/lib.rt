@@ -33,9 +33,9 @@ ghost use Rattle.ea_sound.specs.OwnWork.{PassesFew};
 
 /// In each run of a valid trace under a valid configuration, after any list of steps: every moment
 /// is sound, what is printed of it adds up, no scheduler does a row that it may not do, each entry
-/// of a log tells how it came about, no block is released twice, and after a completed schedule each
-/// scheduler has ended or is stopped; and a walk passes no more nodes than the run has names and
-/// carrier numbers.
+/// of a log tells how it came about, no block is released twice, and after a completed schedule
+/// each scheduler has ended or is stopped; and a walk passes no more nodes than the run has names
+/// and carrier numbers.
 pub fn soundness()
     ensures protocol { Always Protocol }
     ensures walks { (c : Config) (t : Trace) → IsValidConfig c → IsValidTrace c.schedulers t

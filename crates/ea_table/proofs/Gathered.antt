@@ -364,5 +364,6 @@ gathered c t valid made about p q id finished all each front last items j v is w
       closed,
       ap (map (λ (f : Finished). actor_of f.scheduler)) items ∙ actors,
       subst (λ (fs : List Finished). (k : ℕ) (d : Finished) → k < length fs
-          → (get_or fs k d).scheduler.left ≡ left_after (setup_of c t) turns (k + 1)) (sym items) left,
+          → (get_or fs k d).scheduler.left ≡ left_after (setup_of c t) turns (k + 1))
+          (sym items) left,
     )

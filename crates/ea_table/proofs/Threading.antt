@@ -198,7 +198,8 @@ of-run c t fs all rest o is =
       turns = is.turns;
       steps = is.steps;
       within = is.within;
-      rest = λ i from to. by i (i - 1) (omega (arith, from)) (omega (arith, from, to, all)) fs refl same;
+      rest = λ i from to. by i (i - 1) (omega (arith, from))
+          (omega (arith, from, to, all)) fs refl same;
       printed = is.printed;
     } where
       by : (i k : ℕ) → 1 + k ≡ i → k < length fs → (xs : List Finished) → fs ≡ xs

@@ -1,5 +1,6 @@
 -- A step leaves a worker less of its own work.
-use Rattle.std.proofs.Common.{◌≡◌, ◌≢◌, ℕ, ◌+◌, ◌<◌, Bor, Bool, Option, Some, None, refl, sym, ap, subst, arith}
+use Rattle.std.proofs.Common.{◌≡◌, ◌≢◌, ℕ, ◌+◌, ◌<◌, Bor, Bool, Option, Some, None, refl, sym, ap}
+use Rattle.std.proofs.Common.{subst, arith}
 use Rattle.std.proofs.Common.{zero, suc, true, false, ◌∙◌}
 use Rattle.std.specs.Prelude.{◌||◌}
 use Rattle.ea_model.specs.declared.settings.Config.{Config}
@@ -30,7 +31,8 @@ stepped-less c t me a b x y h goes took =
     let w : State = took.state in
     let v : State = step (setup_of c t) w me in
     let goes' = subst (λ (d : Actor). d.stage ≢ Ended) (sym took.actor) goes in
-    let now = same-some (Some y) y (caller_of (setup_of c t) me v (x.taken + 1)) refl took.calls.1 in
+    let now = same-some (Some y) y
+    (caller_of (setup_of c t) me v (x.taken + 1)) refl took.calls.1 in
     let less = own-less c t h.config h.trace w took.reached me goes' in
     omega (
       arith,
@@ -78,7 +80,8 @@ pub step-counted : (s t : Scheduler) (v u : View) → t.config ≡ s.config → 
 step-counted s t v u config trace number goes left took counted =
     let e = setup_of s.config s.trace.now in
     let now = same-some (Some (caller_in u)) (caller_in u)
-    (caller_of e s.number (step e took.state s.number) ((caller_in v).taken + 1)) refl took.calls.1 in
+    (caller_of e s.number (step e took.state s.number) ((caller_in v).taken + 1)) refl took.calls.1
+    in
     let taken : (caller_in u).taken ≡ (caller_in v).taken + 1 = ap (λ (x : Caller). x.taken) now in
     let stop : t.stop ≡ s.stop = t.stop_is
     ∙ ap (λ (r : Bor Trace). stop_in r.now.stops.items t.number) trace

@@ -102,8 +102,8 @@ module _ (n g : ℕ) (ws : List ℕ) (xs : List Slot) where
         → home_of (places number) ≡ Some x → get_elem? xs (slot_at number) ≡ some (Some x)
     pub beyond : (number : ℕ) → (IsCarrier n number → ⊥) → places number ≡ Absent
 
--- such a table was closed after these turns of the run, in which its schedulers are these, and so are
--- their stops
+-- such a table was closed after these turns of the run, in which its schedulers are these, and so
+-- are their stops
 pub record IsClosedIn (c : Config) (t : Trace) (schedulers : List Scheduler) (ws : List ℕ)
     (xs : List Slot) (turns : List ℕ) : Type 0 where
   pub actors : map actor_of schedulers
@@ -135,8 +135,8 @@ pub record IsLast (c : Config) (t : Trace) (id : TableId) (i : ℕ) (f : Finishe
   pub stop : f.scheduler.stop ≡ (setup_of c t).stops i
   pub counted : IsCounted f.pass.seat.me.0 f.scheduler
 
--- what is printed is that of the run after some steps, of each scheduler up to its stop, in which the
--- schedulers stand so
+-- what is printed is that of the run after some steps, of each scheduler up to its stop, in which
+-- the schedulers stand so
 pub record IsEnd (c : Config) (t : Trace) (finished : List Finished) (outcome : Outcome) : Type 0
   where
     pub turns : List ℕ

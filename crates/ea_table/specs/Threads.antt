@@ -42,8 +42,8 @@ module _ (c : Config) (t : Trace) where
     pub last : IsFalse f.memory → IsLast c t id i f
     pub rest : IsFalse f.memory → rests f.scheduler ≡ true
 
-  -- what is printed is that of the run after some steps, in whatever order of the schedulers, of each
-  -- up to its stop, after which all have ended or are stopped
+  -- what is printed is that of the run after some steps, in whatever order of the schedulers, of
+  -- each up to its stop, after which all have ended or are stopped
   pub record IsOfRun (outcome : Outcome) : Type 0 where
     pub turns : List ℕ
     pub steps : AreSteps (setup_of c t) turns

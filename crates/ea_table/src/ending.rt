@@ -210,9 +210,9 @@ fn discard(mut closed: Closed<Option<Mbc>, Global>)
     closed.free();
 }
 
-/// What is printed of the run after which the table is closed, whose schedulers these are: the board
-/// and the passes are those of one `make_seats`, each pass once and in order. It fails only where
-/// there is no memory.
+/// What is printed of the run after which the table is closed, whose schedulers these are: the
+/// board and the passes are those of one `make_seats`, each pass once and in order. It fails only
+/// where there is no memory.
 pub fn gather<'t>(
     alloc: Global,
     config: Config,

@@ -113,9 +113,9 @@ fn lacks_memory(finished: &[Finished<'_>]) -> bool
 
 /// Runs a trace whose schedulers step beside each other, each on a thread of its own. Answers what
 /// is printed of the state after all steps that they took, in the order in which these came; then
-/// every scheduler has ended or is stopped. It fails only where there is no memory, after all threads are joined.
-/// Whatever it answers, each run of the trace keeps the machine's protocol, whatever steps its
-/// schedulers take.
+/// every scheduler has ended or is stopped. It fails only where there is no memory, after all
+/// threads are joined. Whatever it answers, each run of the trace keeps the machine's protocol,
+/// whatever steps its schedulers take.
 pub fn run_threads<R: Threads + Sync, G: Gate + Sync>(
     rt: &R,
     alloc: Global,

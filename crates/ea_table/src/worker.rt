@@ -33,8 +33,8 @@ pub struct Worker<'t> {
     pub pass: Pass,
 }
 
-/// A scheduler that takes no more steps: it has ended or is stopped or, where `memory` is true, a step
-/// had no memory.
+/// A scheduler that takes no more steps: it has ended or is stopped or, where `memory` is true, a
+/// step had no memory.
 #[derive(Drop)]
 pub struct Finished<'t> {
     pub scheduler: Scheduler<'t>,
@@ -50,7 +50,8 @@ impl<'t> Worker<'t> {
         Worker { scheduler, pass }
     }
 
-    /// Steps until the scheduler has ended or is stopped, or had no memory. The gate is passed before each step.
+    /// Steps until the scheduler has ended or is stopped, or had no memory. The gate is passed
+    /// before each step.
     pub fn run<G: Gate>(self, alloc: Global, board: &Board<'_>, gate: &G) -> Finished<'t>
         requires seated { IsSeatedAt board.now self.pass }
         requires config { self.pass.seat.me.0.config ≡ self.scheduler.config }

@@ -52,12 +52,13 @@ pub fn run<R: Threads + Sync, S: Source, O: Sink, E: Sink>(
     ensures statuses { result ≤ 5 }
 
     // 0: the whole text of an input in the language, which was read to its end. It is the text of
-    // a list of steps, each scheduler's up to its stop if it has one, after which every scheduler has
-    // ended or is stopped. Where the input has a schedule, these are exactly the completed schedule:
-    // the turns that it asks for, and then those of each scheduler until it has ended or is stopped;
-    // a turn of one that has ended or is stopped changes nothing. Where the input asks for generated operations, they are the
-    // ones that are defined, run by an empty schedule, and the text is the counts of them. Where
-    // the source doesn't tell its bytes, as a terminal, this holds of some input.
+    // a list of steps, each scheduler's up to its stop if it has one, after which every scheduler
+    // has ended or is stopped. Where the input has a schedule, these are exactly the completed
+    // schedule: the turns that it asks for, and then those of each scheduler until it has ended or
+    // is stopped; a turn of one that has ended or is stopped changes nothing. Where the input asks
+    // for generated operations, they are the ones that are defined, run by an empty schedule, and
+    // the text is the counts of them. Where the source doesn't tell its bytes, as a terminal, this
+    // holds of some input.
     ensures done { result ≡ 0
         → WroteText words.now (S.left source.old) (O.taken out.old) (O.taken out.new) }
     ensures end { result ≡ 0 → IsAtEnd (S.left source.new) }
@@ -68,8 +69,8 @@ pub fn run<R: Threads + Sync, S: Source, O: Sink, E: Sink>(
     // of its own kind: a block is placed where the strategy takes a gap first, or in a carrier of
     // its own if it is above the threshold; an allocation fails only where nothing that is looked
     // at fits and no carrier can be created, and then it does; what isn't held is skipped. No block
-    // is released twice, and none changes its place. After a completed schedule each scheduler has ended or
-    // is stopped.
+    // is released twice, and none changes its place. After a completed schedule each scheduler has
+    // ended or is stopped.
     ensures protocol { result ≡ 0 → ForEachTrace Protocol words.now }
 
     // 1: exactly for words that are refused, and nothing was read.

@@ -61,7 +61,8 @@ pub passes : (n : ℕ) (older : Earlier) (line : Said) → refusal n older line 
     → Passes n older line
 passes n older line h =
     let t = first_none (may_stand n (stage_after older) (sections older) (stops_after older) line)
-    (is_bad_scheduler n (sections older) (stops_after older) line) (is_many n older line) (is_reused older line)
+    (is_bad_scheduler n (sections older) (stops_after older) line) (is_many n older line)
+    (is_reused older line)
     (is_not_held older line) _ _ _ _ _ h in
     record { stands = t.0; good = t.1; few = t.2; fresh = t.3; held = t.4 }
 
@@ -102,7 +103,8 @@ Fits n section (Some (mode.Schedule turns)) = section ≡ n
 Fits n section (Some (mode.Generated seed count)) = (section ≡ 0) × (seed ≤ MAX_SEED) × (1 ≤ count)
     × (n * count ≤ MAX_OPS)
 
-early_letter : (n : ℕ) (stage : Stage) (section : ℕ) (ss : List Stop) (m : Option Mode) (l : Letter.Letter)
+early_letter : (n : ℕ) (stage : Stage) (section : ℕ) (ss : List Stop) (m : Option Mode)
+    (l : Letter.Letter)
     → may_stand n stage section ss (Letter l) ≡ true → Early stage m → m ≡ None
 early_letter n at.Start section ss m l h e = e
 early_letter n at.Opening section ss m l h e = e
@@ -142,7 +144,8 @@ no_section n at.Turns section ss seed count h = absurd cc
 no_section n at.Closing section ss seed count h = absurd cc
 no_section n at.Ended section ss seed count h = absurd cc
 
-due : (n section number : ℕ) (ss : List Stop) → is_bad_scheduler n section ss (Section number) ≡ false
+due : (n section number : ℕ) (ss : List Stop) → is_bad_scheduler n section ss (Section number)
+    ≡ false
     → section + 1 ≤ n
 due n section number ss h = grind arith
 
@@ -285,7 +288,8 @@ laid n (Letter l ∷ older) f =
     let h = laid n older f.0 in record { all = h.all; none = h.none; count = h.count }
 laid n (Section k ∷ older) f = laid_section k older (laid n older f.0)
 laid n (Operation op ∷ older) f = laid_operation op older
-    (begun n (stage_after older) (sections older) (stops_after older) op f.1.stands f.1.good) (laid n older f.0)
+    (begun n (stage_after older) (sections older) (stops_after older) op f.1.stands f.1.good)
+    (laid n older f.0)
 laid n (lines.Stop stop ∷ older) f =
     let h = laid n older f.0 in record { all = h.all; none = h.none; count = h.count }
 laid n (Threads ∷ older) f =
@@ -471,7 +475,8 @@ counts n (Skipped ∷ older) f = same_counts n (Skipped ∷ older) older refl (c
 counts n (Letter l ∷ older) f = same_counts n (Letter l ∷ older) older refl (counts n older f.0)
 counts n (Section k ∷ older) f = same_counts n (Section k ∷ older) older refl (counts n older f.0)
 counts n (Operation op ∷ older) f = counts_more n op older f.1 f.2 (counts n older f.0)
-counts n (lines.Stop stop ∷ older) f = same_counts n (lines.Stop stop ∷ older) older refl (counts n older f.0)
+counts n (lines.Stop stop ∷ older) f =
+    same_counts n (lines.Stop stop ∷ older) older refl (counts n older f.0)
 counts n (Threads ∷ older) f = same_counts n (Threads ∷ older) older refl (counts n older f.0)
 counts n (Schedule ∷ older) f = same_counts n (Schedule ∷ older) older refl (counts n older f.0)
 counts n (Turns ts ∷ older) f = same_counts n (Turns ts ∷ older) older refl (counts n older f.0)

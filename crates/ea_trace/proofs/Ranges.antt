@@ -19,7 +19,8 @@ use Rattle.ea_trace.specs.Lines.{Said, and_turns, alloc_in, bare, both_words, co
 use Rattle.ea_trace.specs.Lines.{generate_in, generate_line, give_in, is_comment, is_star}
 use Rattle.ea_trace.specs.Lines.{letter_line, line_of, line_of_words, name_in, one_of, only_word}
 use Rattle.ea_trace.specs.Lines.{operation_in, pair, realloc_in, scheduler_in, section_in}
-use Rattle.ea_trace.specs.Lines.{section_line, stop_from, stop_in, stop_line, take_in, three_words, triple, turns_at, turns_from}
+use Rattle.ea_trace.specs.Lines.{section_line, stop_from, stop_in, stop_line, take_in, three_words}
+use Rattle.ea_trace.specs.Lines.{triple, turns_at, turns_from}
 use Rattle.ea_trace.specs.Lines.{turns_in, turns_line, turns_of_parts, type_in}
 use Rattle.ea_trace.specs.Ranges.{HasRanges, InRange, IsCount}
 use Rattle.ea_trace.specs.declared.lines.Line.TheVariants as line

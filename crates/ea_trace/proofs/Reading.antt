@@ -28,7 +28,8 @@ use Rattle.ea_trace.specs.declared.takes.TakeLine.{TakeLine}
 -- a line that passes each test isn't refused
 pub accepted : (n : ℕ) (earlier : Earlier) (line : Said)
     → may_stand n (stage_after earlier) (sections earlier) (stops_after earlier) line ≡ true
-    → is_bad_scheduler n (sections earlier) (stops_after earlier) line ≡ false → is_many n earlier line ≡ false
+    → is_bad_scheduler n (sections earlier) (stops_after earlier) line ≡ false
+    → is_many n earlier line ≡ false
     → is_reused earlier line ≡ false → is_not_held earlier line ≡ false
     → refusal n earlier line ≡ None
 accepted n earlier line a b c d e = rw (a, b, c, d, e) refl

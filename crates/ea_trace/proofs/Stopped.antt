@@ -27,7 +27,8 @@ inside n k e = (grind (arith, e), grind (arith, e))
 all_begun : (n section : ℕ) → nat_lt section n ≡ false → n ≤ section
 all_begun n section e = grind (arith, e)
 
--- a stop that isn't refused comes after the last section, and its scheduler is there and has none yet
+-- a stop that isn't refused comes after the last section, and its scheduler is there and has none
+-- yet
 good_stop : (n section : ℕ) (ss : List Stop) (stop : Stop) → stops_badly n section ss stop ≡ false
     → (n ≤ section) × IsScheduler n stop.scheduler × (is_stopped stop.scheduler ss ≡ false)
 good_stop n section ss stop h =

@@ -9,7 +9,8 @@ use Rattle.ea_model.specs.Words.{words}
 use Rattle.ea_model.specs.declared.units.TheConstants.{MAX_ALL_TRIES, MAX_NAME, MAX_OPS, MAX_TURNS}
 use Rattle.ea_trace.specs.Language.{all_turns, gives_outside, is_given, is_given_to, is_held}
 use Rattle.ea_trace.specs.Language.{is_made, letter_after, mode_after, operations}
-use Rattle.ea_trace.specs.Language.{section_operations, sections, stage_after, stops_after, takes_in}
+use Rattle.ea_trace.specs.Language.{section_operations, sections, stage_after, stops_after}
+use Rattle.ea_trace.specs.Language.{takes_in}
 use Rattle.ea_trace.specs.Language.{texts_before, turns_after}
 use Rattle.ea_trace.specs.Lines.{Said, turns_in}
 use Rattle.ea_trace.specs.declared.lines.Line.{Line}

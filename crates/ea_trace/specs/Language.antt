@@ -189,7 +189,8 @@ abbrev pub refusal_at : ℕ → ℕ → List Said → Said → Option TraceFault
 refusal_at number n earlier line =
     if not (may_stand n (stage_after earlier) (sections earlier) (stops_after earlier) line)
     then Some (fault.Syntax number) else (
-    if is_bad_scheduler n (sections earlier) (stops_after earlier) line then Some (fault.BadScheduler number) else (
+    if is_bad_scheduler n (sections earlier) (stops_after earlier) line then Some
+    (fault.BadScheduler number) else (
     if is_many n earlier line then Some (fault.TooMany number) else (
     if is_reused earlier line then Some (fault.NameReused number) else (
     if is_not_held earlier line then Some (fault.NotHeld number) else None))))

@@ -5,7 +5,8 @@ use Rattle.ea_model.specs.Words.{words}
 use Rattle.ea_model.specs.declared.trace.Turns as model
 use Rattle.ea_trace.specs.Lines.{Said, turns_in}
 use Rattle.ea_trace.specs.declared.lines.Line.{Line}
-use Rattle.ea_trace.specs.declared.lines.Line.TheVariants.{Skipped, Letter, Section, Operation, Stop}
+use Rattle.ea_trace.specs.declared.lines.Line.TheVariants.{Skipped, Letter, Section, Operation}
+use Rattle.ea_trace.specs.declared.lines.Line.TheVariants.{Stop}
 use Rattle.ea_trace.specs.declared.lines.Line.TheVariants.{Threads, Schedule, Turns, Generate, End}
 use Rattle.ea_trace.specs.declared.lines.Line.TheVariants.{Unreadable}
 

@@ -2,7 +2,8 @@
 ghost use Rattle.std.specs.Prelude.{◌≡◌, ◌∷◌, unwrap_or};
 ghost use Rattle.ea_trace.specs.declared.lines.Line.TheVariants.{Unreadable};
 ghost use Rattle.ea_model.specs.Words.{words};
-ghost use Rattle.ea_trace.specs.Lines.{section_in, letter_in, type_in, generate_in, alloc_in, stop_in};
+ghost use Rattle.ea_trace.specs.Lines.{section_in, letter_in, type_in, generate_in, alloc_in};
+ghost use Rattle.ea_trace.specs.Lines.{stop_in};
 ghost use Rattle.ea_trace.specs.Lines.{free_in, realloc_in, give_in, take_in, operation_in, one_of};
 ghost use Rattle.ea_trace.specs.Lines.{turns_in, line_of};
 ghost use Rattle.ea_trace.specs.Ranges.{InRange};

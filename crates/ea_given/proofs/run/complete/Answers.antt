@@ -48,8 +48,10 @@ loop-scheduler-preserved c = λ d t steps w shares stand.
     c.loop-scheduler.invariant d t steps w shares stand in
     let within : k < length ss = omega (arith, c.loop-scheduler.auto.schedulers) in
     let still : left (k + 1) ≡ steps (k + 1) = after.still (k + 1) (omega arith) in
-    let then = subst (λ o. SharesAt d t c.run_out.new.shared (run_on e now (finishing e now o (k + 1)))
-    × StandsAt d t (k + 1) (Some 0) c.run_out.new.scheduler (run_on e now (finishing e now o (k + 1))))
+    let then = subst (λ o. SharesAt d t c.run_out.new.shared
+    (run_on e now (finishing e now o (k + 1)))
+    × StandsAt d t (k + 1) (Some 0) c.run_out.new.scheduler
+    (run_on e now (finishing e now o (k + 1))))
     still (c.in_ok-run_out.ensures d t (k + 1) (left (k + 1)) now shared_now
     (one-stands d t left ss now stand_now k within c.scheduler-item.result)) in
     let v = run_on e now (finishing e now (steps (k + 1)) (k + 1)) in

@@ -21,14 +21,16 @@ last_counted-last-requires-clause-carrier c =
 pub overflow_sub-looks_left : goal.overflow_sub-looks_left
 overflow_sub-looks_left c =
     let (d, t, me, steps, w, shares, at) = c.requires.stands in
-    let left = search-left d t me steps c.args.scheduler.now c.args.shared.now w shares at c.in-Some.at
+    let left = search-left d t me steps c.args.scheduler.now c.args.shared.now w shares at
+    c.in-Some.at
     (sym c.next_look.ensures ∙ c.in-Some.is) in
     omega (arith, left, c.looks_left.ensures)
 
 pub pass_over-requires-clause-from : goal.pass_over-requires-clause-from
 pass_over-requires-clause-from c =
     let (d, t, me, steps, w, shares, at) = c.requires.stands in
-    let down = comes-down d t me steps c.args.scheduler.now c.args.shared.now w shares at c.in-Some.at
+    let down = comes-down d t me steps c.args.scheduler.now c.args.shared.now w shares at
+    c.in-Some.at
     (sym c.next_look.ensures ∙ c.in-Some.is) c.last_counted-last.result c.args.most
     c.min-fewer.result c.max.result c.saturating_sub.result c.max-next.result
     c.last_counted-last.ensures.upto
@@ -39,7 +41,8 @@ pass_over-requires-clause-from c =
 pub overflow_sub-result : goal.overflow_sub-result
 overflow_sub-result c =
     let (d, t, me, steps, w, shares, at) = c.requires.stands in
-    let down = comes-down d t me steps c.args.scheduler.now c.args.shared.now w shares at c.in-Some.at
+    let down = comes-down d t me steps c.args.scheduler.now c.args.shared.now w shares at
+    c.in-Some.at
     (sym c.next_look.ensures ∙ c.in-Some.is) c.last_counted-last.result c.args.most
     c.min-fewer.result c.max.result c.saturating_sub.result c.max-next.result
     c.last_counted-last.ensures.upto
@@ -56,5 +59,6 @@ returns-clause-took c = λ d t me steps w shares at.
     (sym c.next_look.ensures ∙ c.in-Some.is) c.max-next.result c.pass_over.new.self
     passed.passed passed.run.0 passed.run.1 passed.run.2 passed.failed passed.left
     (fewer-has c.args.scheduler.now.left c.args.most (c.in-Some.at - c.max-next.result)
-    c.requires.within (omega (arith, c.min-fewer.ensures, c.saturating_sub.ensures, c.max-next.ensures, clamps)))
+    c.requires.within (omega
+    (arith, c.min-fewer.ensures, c.saturating_sub.ensures, c.max-next.ensures, clamps)))
     (λ i low within. c.last_counted-last.ensures.none_after i (omega (arith, low, past)) within)

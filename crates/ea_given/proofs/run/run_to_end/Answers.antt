@@ -45,7 +45,8 @@ complete-requires c =
     let w = start (setup_of d t) in
     let shares = start-shares d t c.in_ok-shared.shared c.requires.config c.requires.trace
     new.schedulers new.greatest new.migrates new.start in
-    let stand = subst (λ xs. AllStandAt d t (setup_of d t).stops xs w) (sym c.deref_mut.ensures.value)
+    let stand = subst (λ xs. AllStandAt d t (setup_of d t).stops xs w)
+    (sym c.deref_mut.ensures.value)
     c.in_ok-schedulers.ensures in
     let many : length us ≡ c.in_ok-schedulers.schedulers.len = c.take_schedule.auto.schedulers
     ∙ c.deref_mut.ensures.len in

@@ -1,13 +1,13 @@
-use Rattle.ea_model.specs.Instance.{owner_of}
-use Rattle.ea_machine.specs.Rows.{Abandon, Done}
-use Rattle.ea_shared.specs.Calls.{Did}
-use Rattle.ea_machine.specs.Releases.{abandoned}
-use Rattle.ea_machine.specs.declared.stages.Stage.TheVariants.{Begin}
-use Rattle.ea_sched.specs.Acting.{standing_at}
 use Rattle.std.proofs.Common.{◌≡◌, refl, sym, ap, ◌∙◌, subst}
 use Rattle.std.specs.Prelude.{IfSome}
+use Rattle.ea_model.specs.Instance.{owner_of}
 use Rattle.ea_model.specs.Content.{Content, gaps_of, largest}
+use Rattle.ea_machine.specs.Rows.{Abandon, Done}
+use Rattle.ea_machine.specs.Releases.{abandoned}
+use Rattle.ea_machine.specs.declared.stages.Stage.TheVariants.{Begin}
 use Rattle.ea_machine.specs.Owners.{Employed}
+use Rattle.ea_shared.specs.Calls.{Did}
+use Rattle.ea_sched.specs.Acting.{standing_at}
 use Rattle.ea_sched.proofs.CarrierCalling.{abandon-carrier, abandon-employed, abandon-for}
 use Rattle.ea_sched.proofs.CarrierCalling.{abandon-many, abandon-room}
 use Rattle.ea_sched.proofs.InHand.{as-carrier, as-for}

@@ -1,8 +1,8 @@
-use Rattle.ea_model.specs.Employment.{disowning}
-use Rattle.ea_search.specs.Rooms.{RoomyLists}
 use Rattle.std.proofs.Common.{refl, ap, ◌∙◌}
 use Rattle.std.specs.Prelude.{Some}
+use Rattle.ea_model.specs.Employment.{disowning}
 use Rattle.ea_machine.specs.Rows.{Home}
+use Rattle.ea_search.specs.Rooms.{RoomyLists}
 use Rattle.ea_sched.specs.Acting.{standing_at}
 use Rattle.ea_sched.proofs.CarrierCalling.{collect-carrier, collect-mine, collect-none, collect-own}
 use Rattle.ea_sched.proofs.CarrierCalling.{collect-returned}

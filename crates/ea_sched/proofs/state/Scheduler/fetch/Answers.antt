@@ -1,14 +1,14 @@
-use Rattle.ea_model.specs.Employment.{employing}
-use Rattle.ea_search.specs.Rooms.{RoomyLists}
 use Rattle.std.proofs.Common.{refl, sym, ap, ◌∙◌, subst}
 use Rattle.std.specs.Prelude.{IsSome}
 use Rattle.std.proofs.lemmas.Result.{on_err_weaker, on_ok_weaker}
+use Rattle.ea_model.specs.Employment.{employing}
+use Rattle.ea_model.specs.Instance.{chosen_spot}
 use Rattle.ea_machine.specs.declared.stages.Stage.TheVariants.{Fetching}
 use Rattle.ea_machine.specs.Placements.{placed_in_choice, search_on}
 use Rattle.ea_machine.specs.Searches.{passed}
 use Rattle.ea_machine.specs.Setup.{greatest_number}
 use Rattle.ea_machine.specs.Rows.{FetchTry, Lost, Won}
-use Rattle.ea_model.specs.Instance.{chosen_spot}
+use Rattle.ea_search.specs.Rooms.{RoomyLists}
 use Rattle.ea_sched.specs.Acting.{ready_of, setup_for, standing_at}
 use Rattle.ea_sched.specs.Creations.{IsCreation}
 use Rattle.ea_sched.proofs.Calling.{row-creates, row-done}

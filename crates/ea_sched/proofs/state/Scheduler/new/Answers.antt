@@ -1,12 +1,12 @@
-use Rattle.ea_search.specs.Rooms.{RoomyLists}
 use Rattle.std.proofs.Common.{◌≡◌, List, ℕ, ◌-◌, ◌*◌, ◌≤◌, true, ap, sym, subst, ◌∙◌, arith}
 use Rattle.std.specs.Prelude.{All, nat_lt, nat_le, ◌&&◌}
 use Rattle.ea_model.specs.Instance.{new_instance}
-use Rattle.ea_machine.specs.Setup.{setup_of}
-use Rattle.ea_machine.specs.Statistics.{seen, unseen}
 use Rattle.ea_model.specs.declared.trace.Stop.{Stop}
 use Rattle.ea_model.specs.Trace.{greatest_in, stop_in}
+use Rattle.ea_machine.specs.Setup.{setup_of}
+use Rattle.ea_machine.specs.Statistics.{seen, unseen}
 use Rattle.ea_sound.proofs.Asked.{text-upto}
+use Rattle.ea_search.specs.Rooms.{RoomyLists}
 use Rattle.ea_sched.proofs.Starting.{starts}
 use Rattle.ea_sched.proofs.Texts.{text-is}
 use Rattle.ea_sched.proofs.state.Scheduler.new.Goals as goal
