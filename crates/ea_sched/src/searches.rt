@@ -75,7 +75,8 @@ impl<'t> Scheduler<'t> {
     }
 
     /// A look of the search, at the owner word of its next carrier: one that fits is to be fetched,
-    /// and past another one the search goes on.
+    /// and past another one the search goes on. Its stage is changed in its place, and what was
+    /// asked for isn't copied.
     pub(crate) fn search<S: Shared<Content = Mbc>>(
         &mut self,
         alloc: Global,
@@ -94,16 +95,19 @@ impl<'t> Scheduler<'t> {
         ensures memory { OnErr result (CreatesAt self.old.stage self.old
             (S.shared shared.old) (S.caller shared.old)) }
     {
-        let Stage::Searching { ask, at, part } = &self.stage else {
+        let highest = self.greatest();
+        let Stage::Searching { ask, at, part } = &mut self.stage else {
             unreachable!()
         };
-        let (ask, at, part) = (*ask, *at, *part);
-        let seen = shared.look(self.number, at);
-        let highest = self.greatest();
-        let mut search = Search { highest, at, part };
+        let seen = shared.look(self.number, *at);
+        let mut search = Search {
+            highest,
+            at: *at,
+            part: *part,
+        };
         match search.saw(&mut self.lists, seen, ask.need) {
             Verdict::Try => {
-                let part = search.part;
+                let (ask, at, part) = (*ask, *at, search.part);
                 self.stage = Stage::Fetching {
                     ask,
                     at,
@@ -112,7 +116,17 @@ impl<'t> Scheduler<'t> {
                 };
                 Ok(())
             }
-            Verdict::Skip => self.search_on(alloc, ask, search),
+            Verdict::Skip => match search.next_look(&self.lists) {
+                Some(number) => {
+                    *at = number;
+                    *part = search.part;
+                    Ok(())
+                }
+                None => {
+                    let ask = *ask;
+                    self.end_search(alloc, ask, search.looked())
+                }
+            },
         }
     }
 
@@ -190,16 +204,16 @@ impl<'t> Scheduler<'t> {
         ensures memory { OnErr result (CreatesAt (stage.Fetching ask at part seen) self.old
             (S.shared shared.old) (S.caller shared.old)) }
     {
+        let highest = self.greatest();
+        let mut search = Search { highest, at, part };
         match shared.fetch_try(self.number, at, seen) {
             Tried::Won { content } => {
                 self.instance.adopt(content);
-                self.lists.remove(at);
+                search.won(&mut self.lists);
                 self.place(ask);
                 Ok(())
             }
             Tried::Lost { word } => {
-                let highest = self.greatest();
-                let mut search = Search { highest, at, part };
                 search.lost(&mut self.lists, word);
                 self.search_on(alloc, ask, search)
             }

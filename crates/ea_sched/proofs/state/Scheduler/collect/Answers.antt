@@ -44,5 +44,5 @@ returns-clause-row g c = record {
       ∙ ap (λ (l : RoomyLists). record (standing_at at c.args.self.now) {
         instance = disowning c.args.self.now.instance c.args.number;
         lists = l.lists;
-      }) c.remove.ensures;
+      }) c.remove.ensures.lists;
 }

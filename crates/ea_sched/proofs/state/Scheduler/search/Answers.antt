@@ -1,15 +1,16 @@
 use Rattle.std.proofs.Common.{refl, sym, ap, subst, ◌∙◌}
 use Rattle.std.proofs.lemmas.Result.{on_err_weaker, on_ok_weaker}
 use Rattle.ea_machine.specs.declared.stages.Stage.TheVariants.{Fetching, Searching}
-use Rattle.ea_machine.specs.Placements.{search_on}
+use Rattle.ea_machine.specs.Placements.{new_carrier, search_on}
 use Rattle.ea_machine.specs.Searches as machine
 use Rattle.ea_machine.specs.Searches.{fits, passed, with_counted}
 use Rattle.ea_machine.specs.Rows.{Look, Saw}
-use Rattle.ea_search.specs.Looks.{saw_by}
+use Rattle.ea_search.specs.Looks.{saw_by, standing}
 use Rattle.ea_sched.specs.Acting.{actor_of, ready_of, setup_for, standing_at}
 use Rattle.ea_sched.specs.Creations.{IsCreation}
 use Rattle.ea_sched.proofs.Calling.{row-creates, row-done}
-use Rattle.ea_sched.proofs.Placing.{onward-skip, onward-try, skips-unfit}
+use Rattle.ea_sched.proofs.Placing.{next-searches, none-creates, onward-skip, onward-try}
+use Rattle.ea_sched.proofs.Placing.{skips-unfit}
 use Rattle.ea_sched.proofs.Seeking.{search-asked, search-before, search-carrier, search-more}
 use Rattle.ea_sched.proofs.Seeking.{search-next, search-on}
 use Rattle.ea_sched.proofs.state.Scheduler.search.Goals as goal
@@ -32,17 +33,13 @@ pub saw-requires-clause-before : goal.saw-requires-clause-before
 saw-requires-clause-before g c = search-before c.args.self.now c.requires.starts.ready
     c.in-Searching.ask c.in-Searching.at c.in-Searching.part c.in-Searching.is
 
-pub search_on-requires-clause-more : goal.search_on-requires-clause-more
-search_on-requires-clause-more g c = search-more c.args.self.now c.requires.starts.ready
+pub end_search-requires-clause-more : goal.end_search-requires-clause-more
+end_search-requires-clause-more g c = search-more c.args.self.now c.requires.starts.ready
     c.in-Searching.ask c.in-Searching.at c.in-Searching.part c.in-Searching.is
 
-pub search_on-requires-clause-asked : goal.search_on-requires-clause-asked
-search_on-requires-clause-asked g c = search-asked c.args.self.now c.requires.starts.ready
+pub end_search-requires-clause-asked : goal.end_search-requires-clause-asked
+end_search-requires-clause-asked g c = search-asked c.args.self.now c.requires.starts.ready
     c.in-Searching.ask c.in-Searching.at c.in-Searching.part c.in-Searching.is _ refl refl
-
-pub search_on-requires-clause-on : goal.search_on-requires-clause-on
-search_on-requires-clause-on g c = search-on c.args.self.now c.requires.starts.ready
-    c.in-Searching.ask c.in-Searching.at c.in-Searching.part c.in-Searching.is
 
 pub returns-in-Try-clause-row : goal.returns-in-Try-clause-row
 returns-in-Try-clause-row g c =
@@ -62,8 +59,8 @@ returns-in-Try-clause-row g c =
     ∙ sym (onward-try (setup_for s) s.number (search-on s h ask at part c.in-Searching.is) ask at
     part (actor_of s) seen fit))
 
-pub returns-in-Skip-clause-row : goal.returns-in-Skip-clause-row
-returns-in-Skip-clause-row g c =
+pub returns-in-Some-clause-row : goal.returns-in-Some-clause-row
+returns-in-Some-clause-row g c =
     let s = c.args.self.now in
     let h = c.requires.starts.ready in
     let ask = c.in-Searching.ask in
@@ -72,19 +69,43 @@ returns-in-Skip-clause-row g c =
     let seen = c.look-seen.result in
     let unfit = skips-unfit (fits ask.need seen) c.saw.ensures.verdict c.in-Skip.is in
     let x : machine.Search = record { lists = s.lists.lists; at = at; part = part } in
-    on_ok_weaker c.search_on.result
+    row-done s h (Look at) (Saw seen) (Searching ask at part) c.in-Searching.is refl
+    c.look-seen.ensures.row
+    (next-searches (setup_for s) s.number ask (standing c.saw.new.self c.saw.new.lists.lists)
+    (ready_of s) c.in-Some.number (sym c.next_look.ensures ∙ c.in-Some.is)
+    ∙ ap (λ y. search_on (setup_for s) s.number ask y (ready_of s))
+    (c.saw.ensures.stands ∙ ap (λ b. saw_by b c.greatest-highest.result x seen) unfit
+    ∙ ap (λ k. passed k s.lists.lists at (with_counted seen part) seen) c.greatest-highest.ensures)
+    ∙ sym (onward-skip (setup_for s) s.number (search-on s h ask at part c.in-Searching.is) ask at
+    part (actor_of s) seen unfit))
+
+pub returns-in-None-clause-row : goal.returns-in-None-clause-row
+returns-in-None-clause-row g c =
+    let s = c.args.self.now in
+    let h = c.requires.starts.ready in
+    let ask = c.in-Searching.ask in
+    let at = c.in-Searching.at in
+    let part = c.in-Searching.part in
+    let seen = c.look-seen.result in
+    let unfit = skips-unfit (fits ask.need seen) c.saw.ensures.verdict c.in-Skip.is in
+    let x : machine.Search = record { lists = s.lists.lists; at = at; part = part } in
+    on_ok_weaker c.end_search.result
     (λ is. row-done s h (Look at) (Saw seen) (Searching ask at part) c.in-Searching.is refl
     c.look-seen.ensures.row
     (is
+    ∙ ap (λ n. new_carrier (setup_for s) s.number ask n
+    (record (ready_of s) { lists = c.saw.new.lists.lists })) c.looked.ensures
+    ∙ none-creates (setup_for s) s.number ask (standing c.saw.new.self c.saw.new.lists.lists)
+    (ready_of s) (sym c.next_look.ensures ∙ c.in-None.is)
     ∙ ap (λ y. search_on (setup_for s) s.number ask y (ready_of s))
     (c.saw.ensures.stands ∙ ap (λ b. saw_by b c.greatest-highest.result x seen) unfit
     ∙ ap (λ k. passed k s.lists.lists at (with_counted seen part) seen) c.greatest-highest.ensures)
     ∙ sym (onward-skip (setup_for s) s.number (search-on s h ask at part c.in-Searching.is) ask at
     part (actor_of s) seen unfit)))
-    c.search_on.ensures.actor
+    c.end_search.ensures.actor
 
-pub returns-in-Skip-clause-memory : goal.returns-in-Skip-clause-memory
-returns-in-Skip-clause-memory g c =
+pub returns-in-None-clause-memory : goal.returns-in-None-clause-memory
+returns-in-None-clause-memory g c =
     let s = c.args.self.now in
     let h = c.requires.starts.ready in
     let ask = c.in-Searching.ask in
@@ -93,13 +114,17 @@ returns-in-Skip-clause-memory g c =
     let seen = c.look-seen.result in
     let unfit = skips-unfit (fits ask.need seen) c.saw.ensures.verdict c.in-Skip.is in
     let x : machine.Search = record { lists = s.lists.lists; at = at; part = part } in
-    on_err_weaker c.search_on.result
+    on_err_weaker c.end_search.result
     (λ is. row-creates s h (Look at) (Saw seen) (Searching ask at part) c.in-Searching.is refl
     refl c.look-seen.ensures.row
     (subst (IsCreation s.instance)
-    (ap (λ y. search_on (setup_for s) s.number ask y (ready_of s))
+    (ap (λ n. new_carrier (setup_for s) s.number ask n
+    (record (ready_of s) { lists = c.saw.new.lists.lists })) c.looked.ensures
+    ∙ none-creates (setup_for s) s.number ask (standing c.saw.new.self c.saw.new.lists.lists)
+    (ready_of s) (sym c.next_look.ensures ∙ c.in-None.is)
+    ∙ ap (λ y. search_on (setup_for s) s.number ask y (ready_of s))
     (c.saw.ensures.stands ∙ ap (λ b. saw_by b c.greatest-highest.result x seen) unfit
     ∙ ap (λ k. passed k s.lists.lists at (with_counted seen part) seen) c.greatest-highest.ensures)
     ∙ sym (onward-skip (setup_for s) s.number (search-on s h ask at part c.in-Searching.is) ask at
     part (actor_of s) seen unfit)) is))
-    c.search_on.ensures.memory
+    c.end_search.ensures.memory
