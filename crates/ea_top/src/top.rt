@@ -68,11 +68,11 @@ pub fn run<R: Threads + Sync, S: Source, O: Sink, E: Sink>(
     // carrier is in one place, and each name; one that its owner doesn't employ, and no other,
     // stands in a list of its owner, once; blocks, gaps and headers are all units. Each operation
     // has one entry, of its own kind: a block is placed where the strategy takes a gap first, or in
-    // a carrier of its own if it is above the threshold; an allocation fails only where nothing that
-    // is looked at fits and no carrier can be created, and then it does; what isn't held is skipped.
-    // No block is released twice, and none changes its place. Of any list of turns each scheduler
-    // takes those up to its stop, and in a completed schedule there are no others; after that each
-    // has ended or is stopped.
+    // a carrier of its own if it is above the threshold; an allocation fails only where nothing
+    // that is looked at fits and no carrier can be created, and then it does; what isn't held is
+    // skipped. No block is released twice, and none changes its place. Of any list of turns each
+    // scheduler takes those up to its stop, and in a completed schedule there are no others; after
+    // that each has ended or is stopped.
     ensures protocol { result ≡ 0 → ForEachTrace Protocol words.now }
 
     // 1: exactly for words that are refused, and nothing was read.
