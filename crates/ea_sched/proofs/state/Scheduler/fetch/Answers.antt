@@ -94,7 +94,7 @@ returns-in-Won-clause-row g c =
     (record (ready_of s) { instance = i; lists = c.won.new.lists.lists })) c.adopt.ensures
     ∙ ap (λ (l : RoomyLists). placed_in_choice (setup_for s) s.number ask
     (record (ready_of s) { instance = employing s.instance x; lists = l.lists }))
-        c.won.ensures.lists
+    c.won.ensures.lists
     ∙ sym (onward-won (setup_for s) s.number
     (fetch-on s c.requires.starts.ready ask c.args.at c.args.part c.args.seen refl) ask
     (standing_at stage s) c.args.at c.args.part x))

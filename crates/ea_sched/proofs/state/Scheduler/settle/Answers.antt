@@ -42,7 +42,7 @@ returns-then-is_empty-clause-row g c =
           (subst (λ a. HasTurned c.args.why (leaving (setup_for s) s.number x c.args.gone a) None
           c.leave.new.self)
           (ap (λ (l : RoomyLists). record (standing_at at s) { lists = l.lists })
-              c.remove.ensures.lists
+          c.remove.ensures.lists
           ∙ ap (λ n. struck n (standing_at at s)) c.number-number.ensures)
           (c.leave.ensures.turned at));
     }
