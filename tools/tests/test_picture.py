@@ -384,6 +384,7 @@ class Stops(Case):
         [[moment, scheduler, _]] = data["stops"]
         [life] = (it for it in data["lives"] if it["number"] == 1)
         self.assertEqual((scheduler, life["told"][-1]), (1, [moment, 3, 1]))
+        self.assertEqual([it[5:] for it in blocks_of(data) if it[0] == 2], [(moment, moment)])
         self.assertLess(moment, data["last"])
         for at, busy in ((moment - 1, False), (moment, True)):
             svg = self.svg(trace, at, "+S", "2")
