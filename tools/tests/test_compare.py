@@ -23,6 +23,9 @@ EXAMPLES = f"{TOP}/examples"
 PROGRAM = []
 NOT_SECONDS = "list,trace,status,carriers_end,carriers_most,units_end,units_most,failed,moved,said"
 KEPT_APART = ["--each", "+MHacul 0"]
+# With migration and one scheduler an allocation that finds no room looks at each of its numbers before it creates a
+# carrier.
+NUMBERS = 256
 
 
 def one(*operations):
@@ -32,6 +35,11 @@ def one(*operations):
 
 def two(first, second, *turns):
     return "\n".join(["type H", "scheduler 1", *first, "scheduler 2", *second, "schedule", *turns, "end", ""])
+
+
+def stopped(trace, *stops):
+    """The trace with these stops."""
+    return trace.replace("\nschedule\n", "\n" + "".join(f"stop {it}\n" for it in stops) + "schedule\n")
 
 
 def program():
@@ -157,6 +165,64 @@ class Compare(unittest.TestCase):
         row = self.row(two(["alloc 1 1000", "give 1 2"], ["take 1 1", "free 1"]), "--each", "+S 2", *KEPT_APART)
         # 126 of 32768 units are 0.38 percent.
         self.assertRow(row, queued=126, utilisation_end=0.3, utilisation_most=0.3, carriers_most=1)
+
+    def test_a_stop(self):
+        """Each operation takes one step here. A single carrier of one page, a multiblock one of 64, and the single one
+        is gone; the fourth operation is not done."""
+        operations = ["alloc 1 2000", "alloc 2 100", "free 1", "alloc 3 2000"]
+        row = self.row(stopped(one(*operations), "1 3"), *KEPT_APART, "--each", "+MHsbct 1")
+        self.assertRow(row, stopped=1, undone=1, carriers_end=1, carriers_most=2, units_end=32768, units_most=33280)
+        # Of 512 units 252 are in a block; after it 266 of 33280.
+        self.assertRow(row, utilisation_most=49.2, failed=0, moved=0, queued=0, said=None)
+
+    def test_how_far_a_stop_lets_a_scheduler_come(self):
+        """By its flags: with migration it is still in the search of its first operation."""
+        trace = stopped(one("alloc 1 100", "alloc 2 100", "free 1", "idle"), "1 4")
+        rows = self.rows(self.file("a.trace", trace), "--each", "+MHacul 0 60")
+        self.assertEqual([(it["stopped"], it["undone"], it["carriers_end"]) for it in rows], [(1, 0, 1), (1, 4, 0)])
+        # One step more, and it has ended.
+        self.assertRow(self.row(trace.replace("stop 1 4", "stop 1 5"), *KEPT_APART), stopped=0, undone=0)
+
+    def test_a_stop_within_a_free(self):
+        """The first free abandons the carrier; the second takes its queue, looks at the carrier, makes it busy and
+        releases block 2, of 14 units."""
+        operations = ["alloc 1 100", "alloc 2 100", "alloc 3 100", "free 1", "free 2"]
+        for steps, queued in ((7, 0), (8, 14), (9, 14), (10, 0)):
+            with self.subTest(steps=steps):
+                row = self.row(stopped(one(*operations), f"1 {NUMBERS + steps}"))
+                self.assertRow(row, stopped=1, undone=1, queued=queued, abandoned=1, fetched=0, returned=0)
+                self.assertRow(row, carriers_most=1, units_most=32768)
+
+    def test_a_stop_within_a_free_that_sends_a_carrier_home(self):
+        """Scheduler 1 ends with its carrier abandoned. Scheduler 2 looks at each number of both and fetches it; its
+        free of block 3 abandons it, and that of block 2 takes its queue, looks, makes it busy and releases the block,
+        employs it, and marks it as on its way."""
+        first = ["alloc 1 100", "alloc 2 100", "free 1", "give 2 2"]
+        second = ["alloc 3 100", "take 2 1", "free 3", "free 2"]
+        for steps, returned in ((11, 0), (12, 1), (13, 1)):
+            with self.subTest(steps=steps):
+                row = self.row(stopped(two(first, second), f"2 {2 * NUMBERS + steps}"), "--each", "+S 2")
+                self.assertRow(row, abandoned=2, fetched=1, returned=returned, carriers_most=1, queued=0, undone=1)
+
+    def test_a_stop_within_a_realloc(self):
+        """It had placed its block in a new carrier, of which no entry tells: after the `info` that would be a bound."""
+        sections = ["alloc 1 100", "give 1 2", "info"], ["take 1 1", "info", "realloc 1 2 1000"]
+        trace = stopped(two(*sections, "1*5 2*4"), "2 4")
+        row = self.row(trace, "--each", "+S 2", *KEPT_APART)
+        self.assertRow(row, carriers_end=2, units_end=65536, units_most=None, queued=14, undone=1, moved=0)
+        # Without its step the carrier is not there, and scheduler 1 alone has any.
+        row = self.row(trace.replace("stop 2 4", "stop 2 3").replace("realloc 1 2 1000", "free 1"), "--each", "+S 2",
+                       *KEPT_APART)
+        self.assertRow(row, carriers_end=1, units_most=32768, queued=0, undone=1)
+
+    def test_the_columns_of_stops_stand_in_the_text_where_there_are_any(self):
+        plain, halted = self.file("a.trace", one("idle")), self.file("b.trace", stopped(one("idle"), "1 0"))
+        heads = [self.compare(*it)[1].partition("\n")[0].split() for it in ([plain], [plain, halted])]
+        self.assertEqual([it for it in heads[1] if it not in heads[0]], ["stopped", "undone"])
+        [row] = csv.DictReader(io.StringIO(self.compare(plain, "--as", "csv")[1]))
+        self.assertEqual((row["stopped"], row["undone"]), ("0", "0"))
+        # A scheduler that takes no step does not end, either.
+        self.assertRow(self.rows(halted)[0], stopped=1, undone=1, carriers_most=0)
 
     def test_bounds_where_the_order_is_not_known(self):
         lists = ["higher-acul.acul20.flags", "higher-acul.acul60.flags"]

@@ -541,6 +541,12 @@ carriers by bytes of their largest gap
         done = self.load("--beside", self.file(self.RUN, "text"), self.file(self.NODE))
         self.assertEqual((done.returncode, done.stderr, "\n" + done.stdout), (0, "", self.TABLE))
 
+    def test_a_stopped_scheduler(self):
+        """Its line tells of no carrier."""
+        text = self.RUN.replace("alloc 1 1 8 14\n", "alloc 1 1 8 14\nstopped 4\n")
+        done = self.load("--beside", self.file(text, "text"), self.file(self.NODE))
+        self.assertEqual((done.returncode, done.stderr, "\n" + done.stdout), (0, "", self.TABLE))
+
     def test_nothing_to_tell(self):
         text = "scheduler 1\ntotal carriers 0 units 0 live 0 queued 0 free 0 header 0\n"
         done = self.load("--beside", self.file(text, "text"), self.file(SMALL))

@@ -5,6 +5,7 @@ Without PROGRAM the tool takes the one that ./run keeps. What is expected is wor
 docs/FORMATS.md, or read from the program's text by this file's own reading. The tests with a browser are skipped where
 there is no chromium.
 """
+import itertools
 import json
 import os
 import re
@@ -26,6 +27,7 @@ LONGEST_SECONDS = 30
 LONGEST_STEP = 0.25
 BLUE = (0x4E, 0x79, 0xA7)
 PAGE_OF_UNITS = 512
+NUMBERS = 256
 
 
 class Case(unittest.TestCase):
@@ -51,6 +53,11 @@ class Case(unittest.TestCase):
     def trace(self, *operations):
         """A trace of one scheduler."""
         return self.write("a.trace", "\n".join(["type H", "scheduler 1", *operations, "schedule", "end", ""]))
+
+    def sections(self, sections, *ending):
+        """A trace of several schedulers."""
+        parts = [it for number, part in enumerate(sections, 1) for it in (f"scheduler {number}", *part)]
+        return self.write("a.trace", "\n".join(["type H", *parts, *ending, "end", ""]))
 
     def run_tool(self, *words):
         return subprocess.run([TOOL, *PROGRAM, *words], capture_output=True, text=True, check=False)
@@ -101,6 +108,12 @@ def blocks_of(data):
 def spans_of(data, number):
     """The moment, base and pages of each span of a carrier of this number."""
     return [tuple(span) for life in data["lives"] if life["number"] == number for span in life["spans"]]
+
+
+def users_of(data, number):
+    """The instances that use a carrier of this number, one after the other."""
+    [life] = (it for it in data["lives"] if it["number"] == number)
+    return [user for user, _ in itertools.groupby(user for _, _, user in life["told"])]
 
 
 def names_in(svg):
@@ -225,6 +238,165 @@ class Schedulers(Case):
         one, three = (next(it for it in blocks_of(data) if it[0] == name) for name in (1, 3))
         self.assertEqual(one[1:3], three[1:3])
         self.assertLessEqual(one[6], three[4])
+
+
+    def test_a_carrier_that_its_owner_fetches_back(self):
+        """Scheduler 1 looks at each number of both instances and creates carrier 1; its free abandons that in the third
+        turn. Scheduler 2 looks down to number 1, fetches it, and abandons it again. Scheduler 1 has it in its list of
+        own carriers: it looks there, and fetches it."""
+        sections = ("alloc 1 100", "alloc 2 100", "free 1", "alloc 4 100"), ("alloc 3 100", "free 3")
+        trace = self.sections(sections, "schedule", f"1*{2 * NUMBERS + 6} 2*{2 * NUMBERS + 5} 1*3")
+        data = self.data("--trace", trace, "--", "+S", "2")
+        self.assertEqual(users_of(data, 1), [1, 2, 1])
+        places = {name: place for name, *place, _, _, _ in blocks_of(data)}
+        self.assertEqual(places, {1: [1, 8, 14], 2: [1, 22, 14], 3: [1, 8, 14], 4: [1, 8, 14]})
+
+
+# The first allocation of one scheduler takes its queue, looks at each number and creates a carrier; the second finds
+# room there. The first free takes the queue, looks, and abandons the carrier. So begins the second free after NUMBERS +
+# 7 steps. It takes the queue, looks at the carrier, makes it busy and releases the block, and puts the carrier back.
+TWO_FREES = ("alloc 1 100", "alloc 2 100", "alloc 3 100", "free 1", "free 2")
+BEFORE_THE_SECOND = NUMBERS + 7
+# A block that grows over its neighbour moves: it is placed when the queue is taken. The next step looks at the carrier
+# of the old one and releases that, and the carrier is to be abandoned.
+ONE_MOVE = ("alloc 1 100", "alloc 2 100", "realloc 1 3 1000")
+BEFORE_THE_MOVE = NUMBERS + 3
+
+
+KEEPS_ONE = "It keeps carrier 1: no other scheduler places or releases a block there."
+LEFT_BUSY = (
+    "Block 2 is released, and carrier 1 is not back in the pool.",
+    "It leaves carrier 1 busy: no other scheduler fetches it, or releases a block there.",
+)
+
+
+class Stops(Case):
+    """What a stopped scheduler keeps. Steps and units are worked out from docs/FORMATS.md."""
+
+    def stopped(self, operations, steps, *flags):
+        """The page's data of one scheduler that is stopped."""
+        trace = self.sections([operations], f"stop 1 {steps}", "schedule")
+        return self.data("--trace", trace, "--", *flags)
+
+    def said(self, data):
+        """What the page says of each stop: its moment, its scheduler, and what comes after the first words."""
+        return [(moment, scheduler, *words[1:]) for moment, scheduler, words in data["stops"]]
+
+    def test_a_node_that_is_never_linked(self):
+        """Scheduler 2 stops between the step that puts block 1 in the queue and the one that links it. Scheduler 3
+        then puts block 2 there. Scheduler 1 takes its queue with `idle`."""
+        first = "alloc 1 100", "alloc 2 200", "alloc 3 40", "give 1 2", "give 2 3", "idle"
+        sections = first, ("take 1 1", "free 1"), ("take 2 1", "free 2")
+        trace = self.sections(sections, "stop 2 4", "schedule", "1*7 2*4 3*5")
+        data = self.data("--trace", trace, "--", "+S", "3", "+MHacul", "0")
+        self.assertEqual((data["total"]["live"], data["total"]["queued"]), (6, 14 + 26))
+        self.assertEqual([(it[0], it[5] is None, it[6]) for it in blocks_of(data)],
+                         [(1, False, None), (2, False, None), (3, True, None)])
+        [(moment, scheduler, words)] = data["stops"]
+        self.assertEqual((scheduler, data["lines"][moment - 1], data["by"][moment - 1]), (2, "stopped 4", 2))
+        self.assertEqual(words, [
+            "Scheduler 2 is stopped after 4 steps of its own, in 'free 1', which has no entry.",
+            "Block 1 is in the queue of scheduler 1 and not linked there: 1 block more in that queue waits."])
+        self.assertEqual(data["kept"], [0])
+        self.draw("--trace", trace, "--svg", self.path("a.svg"), "--", "+S", "3", "+MHacul", "0")
+        svg = self.read("a.svg")
+        self.assertIn(words[0].replace("'", "&#x27;"), svg)
+        self.assertEqual((svg.count('class="sign kept"'), svg.count('data-stopped="1"')), (3, 1))
+
+    def test_each_step_of_a_free(self):
+        hand = "Block 2 is in its hand: no scheduler releases it."
+        wanted = [(None, None), (5, None, hand), (5, None, hand), (5, 5, *LEFT_BUSY)]
+        for steps, (queued, end, *words) in enumerate(wanted, BEFORE_THE_SECOND):
+            with self.subTest(steps=steps):
+                data = self.stopped(TWO_FREES, steps)
+                self.assertEqual(data["lines"][4:], [f"stopped {steps}"])
+                self.assertEqual(self.said(data), [(5, 1, *words)])
+                self.assertEqual([it for it in blocks_of(data) if it[0] == 2], [(2, 1, 22, 14, 2, queued, end)])
+                self.assertEqual(data["total"]["queued"], 14 if queued and not end else 0)
+
+    def test_a_free_that_is_over_by_its_last_step(self):
+        data = self.stopped(TWO_FREES, BEFORE_THE_SECOND + 4)
+        self.assertEqual(data["lines"][4:], ["free 2 done", f"stopped {BEFORE_THE_SECOND + 4}"])
+        self.assertEqual(data["stops"][0][2], [
+            f"Scheduler 1 is stopped after {BEFORE_THE_SECOND + 4} steps of its own, with its operations done, before "
+            "its end."])
+        self.assertEqual(self.stopped(TWO_FREES, BEFORE_THE_SECOND + 5)["stops"], [])
+
+    def test_each_step_of_a_realloc(self):
+        placed, hand = "Block 3 is placed and held.", "Block 1 is in its hand: no scheduler releases it."
+        gone = "Block 1 is released, and carrier 1 is not abandoned, though that is due."
+        one, two, three = (1, 1, 8, 14, 1), (2, 1, 22, 14, 2, None, None), (3, 1, 36, 126, 3, None, None)
+        wanted = [
+            ([(*one, None, None), two], [KEEPS_ONE]),
+            ([(*one, 3, None), two, three], [placed, hand, KEEPS_ONE]),
+            ([(*one, 3, 3), two, three], [placed, gone, KEEPS_ONE]),
+        ]
+        for steps, (blocks, words) in enumerate(wanted, BEFORE_THE_MOVE):
+            with self.subTest(steps=steps):
+                data = self.stopped(ONE_MOVE, steps)
+                self.assertEqual(sorted(blocks_of(data)), blocks)
+                self.assertEqual(self.said(data), [(3, 1, *words)])
+
+    def test_each_step_of_a_carrier_that_goes_home(self):
+        """Scheduler 2 fetches carrier 1 after it looked at each number, takes block 2, abandons the carrier when it
+        frees block 3, and frees block 2: it takes its queue, looks at the carrier, makes it busy and releases the
+        block, employs it, marks it as on its way, puts it in the queue, and links it there."""
+        first = "alloc 1 100", "alloc 2 100", "free 1", "give 2 2"
+        second = "alloc 3 100", "take 2 1", "free 3", "free 2"
+        gone = "Block 2 is released, and carrier 1, which is empty,"
+        wanted = [
+            LEFT_BUSY,
+            (f"{gone} is not sent to scheduler 1.", KEEPS_ONE),
+            (f"{gone} is in its hand, on its way to scheduler 1.",),
+            (f"{gone} is in the queue of scheduler 1 and not linked there: what comes into that queue waits.",),
+        ]
+        for steps, words in enumerate(wanted, 2 * NUMBERS + 10):
+            with self.subTest(steps=steps):
+                turns = f"1*{2 * NUMBERS + 8} 2*{steps}"
+                trace = self.sections((first, second), f"stop 2 {steps}", "schedule", turns)
+                data = self.data("--trace", trace, "--", "+S", "2")
+                self.assertEqual([it[1:] for it in self.said(data)], [(2, *words)])
+                self.assertEqual((data["total"]["live"], data["total"]["queued"]), (0, 0))
+
+    def test_what_waits_in_its_queue(self):
+        trace = self.sections((("alloc 1 100", "give 1 2"), ("take 1 1", "free 1")), "stop 1 3", "schedule", "1*3 2*5")
+        data = self.data("--trace", trace, "--", "+S", "2", "+MHacul", "0")
+        waits = "1 block of 14 units in its queue: no scheduler releases what is there."
+        self.assertEqual([it[1:] for it in self.said(data)], [(1, KEEPS_ONE, waits)])
+
+    def test_a_stop_before_the_first_step(self):
+        data = self.stopped(["alloc 1 100"], 0)
+        said = "Scheduler 1 is stopped after 0 steps of its own, at 'alloc 1 100', which has no entry."
+        self.assertEqual((data["stops"], data["lives"], data["last"]), ([[1, 1, [said]]], [], 1))
+
+    def test_a_carrier_that_is_gone_at_the_end(self):
+        """Without migration each `alloc` and `free` takes one step."""
+        sections = ("alloc 1 2000", "free 1", "alloc 2 100"), ("alloc 3 100",)
+        trace = self.sections(sections, "stop 1 2", "schedule")
+        data = self.data("--trace", trace, "--", "+S", "2", "+MHacul", "0", "+MHsbct", "1")
+        self.assertEqual(([it[1:] for it in spans_of(data, 1)], data["unknown"]), ([(0, 1)], 0))
+        self.assertEqual(self.said(data), [(data["lines"].index("stopped 2") + 1, 1)])
+
+    def test_a_carrier_is_kept_from_the_stop_on(self):
+        """Scheduler 1 stops with its carrier busy; scheduler 2 creates one of its own then."""
+        trace = self.sections((TWO_FREES, ("alloc 4 100",)), f"stop 1 {2 * NUMBERS + 10}", "schedule")
+        data = self.data("--trace", trace, "--", "+S", "2")
+        [[moment, scheduler, _]] = data["stops"]
+        [life] = (it for it in data["lives"] if it["number"] == 1)
+        self.assertEqual((scheduler, life["told"][-1]), (1, [moment, 3, 1]))
+        self.assertEqual([it[5:] for it in blocks_of(data) if it[0] == 2], [(moment, moment)])
+        self.assertLess(moment, data["last"])
+        for at, busy in ((moment - 1, False), (moment, True)):
+            svg = self.svg(trace, at, "+S", "2")
+            self.assertEqual(("owner 1, busy 1, stopped" in svg, "is stopped after" in svg), (busy, busy))
+
+    def test_threads(self):
+        """Where a block in the hand is on its way, a run anew does not tell."""
+        trace = self.sections((TWO_FREES, ()), f"stop 1 {2 * NUMBERS + 9}", "threads")
+        data = self.data("--trace", trace, "--", "+S", "2")
+        self.assertEqual([it[2:] for it in self.said(data)],
+                         [("Block 2 is in its hand, or in a queue and not linked there.",)])
+        self.assertEqual((data["total"]["queued"], data["kept"]), (14, [1]))
 
 
 class Refusals(Case):
@@ -421,6 +593,21 @@ class Browser(Case):
         pointed = "block 2, since entry 2\ncarrier 1, offset 22, 14 units (112 bytes)\n"
         pointed += "address 0xb0 in the super carrier"
         self.assertEqual(self.said("a.html", "#at=2", script), f"{pointed}; 0:0; 1:1; 2:2; 1:1; 7:1; 6:2")
+
+    def test_a_stop(self):
+        """The block is in the hand from the last moment on."""
+        trace = self.sections([TWO_FREES], f"stop 1 {BEFORE_THE_SECOND + 1}", "schedule")
+        self.draw("--trace", trace, "--output", self.path("a.html"))
+        script = """[4, 5].map(moment => {
+            goTo(moment);
+            const { stopped, queued } = at("picture").dataset;
+            return [stopped, queued, at("words").textContent, at("stops").textContent].join("; ");
+        }).join("; ")"""
+        steps = f"is stopped after {BEFORE_THE_SECOND + 1} steps of its own"
+        before = "0; 0; The scheduler frees block 1, which is released.; "
+        words = f"1; 1; The scheduler {steps}, and does nothing more.; Scheduler 1 {steps}, in 'free 2', which has " \
+            "no entry.Block 2 is in its hand: no scheduler releases it."
+        self.assertEqual(self.said("a.html", "", script), f"{before}; {words}")
 
     def test_a_long_run_does_not_stall(self):
         """Jumps anywhere in a hundred thousand entries, and the page's start."""
