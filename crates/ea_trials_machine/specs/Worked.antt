@@ -12,7 +12,7 @@ use Rattle.ea_report.specs.Text.{outcome_text}
 use Rattle.ea_trace.specs.Language.{trace}
 use Rattle.ea_machine.specs.Outcome.{outcome_of}
 
--- once the turns of the schedule are taken, each scheduler goes on until it has ended
+-- once the turns of the schedule are taken, each scheduler goes on until it has ended or is stopped
 abbrev pub trace_text : Config → Trace → List ℕ
 trace_text c t = outcome_text (outcome_of c t)
 

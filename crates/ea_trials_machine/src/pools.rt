@@ -61,14 +61,6 @@ pub fn pools()
         ++ codes "free 20\nfree 22\nfree 24\nfree 26\nfree 28\nfree 30\nfree 32\nfree 34\n"
         ++ codes "alloc 35 2000\nschedule\nend\n"))
         ≡ true }
-    ensures own_carrier_fetched_back { text_of (words (codes "+S 2"))
-        (codes "type H\nscheduler 1\nalloc 1 100\nalloc 2 100\nfree 1\nalloc 4 100\n"
-        ++ codes "scheduler 2\nalloc 3 100\nfree 3\nschedule\n1*518 2*517\nend\n")
-        ≡ Some
-        (codes "scheduler 1\nalloc 1 1 8 14\nalloc 2 1 22 14\nfree 1 done\nalloc 4 1 8 14\n"
-        ++ codes "scheduler 2\nalloc 3 1 8 14\nfree 3 done\n"
-        ++ codes "carrier 1 multi owner 1 employed 1 base 0 pages 64 allocated 28 largest 32732\n"
-        ++ codes "total carriers 1 units 32768 live 28 queued 0 free 32732 header 8\n") }
     ensures sixteen_schedulers { text_of (words (codes "+S 0000000016"))
         (codes "type H\nscheduler 1\nscheduler 2\nscheduler 3\nscheduler 4\nscheduler 5\n"
         ++ codes "scheduler 6\nscheduler 7\nscheduler 8\nscheduler 9\nscheduler 10\nscheduler 11\n"
@@ -162,10 +154,13 @@ pub fn pools()
         ++ codes "carrier 1 single owner 1 employed 1 base 0 pages 1 allocated 140 largest 364\n"
         ++ codes "carrier 2 single owner 1 employed 1 base 1 pages 1 allocated 250 largest 254\n"
         ++ codes "carrier 257 multi owner 2 pooled 1 base 128 pages 1 allocated 142 largest 302\n"
-        ++ codes "carrier 258 single owner 2 employed 2 base 129 pages 1 allocated 170 largest 334\n"
-        ++ codes "carrier 259 single owner 2 employed 2 base 130 pages 1 allocated 170 largest 334\n"
+        ++ codes "carrier 258 single owner 2 employed 2 base 129 pages 1 "
+        ++ codes "allocated 170 largest 334\n"
+        ++ codes "carrier 259 single owner 2 employed 2 base 130 pages 1 "
+        ++ codes "allocated 170 largest 334\n"
         ++ codes "carrier 260 single owner 2 employed 2 base 131 pages 1 allocated 446 largest 58\n"
-        ++ codes "carrier 261 single owner 2 employed 2 base 132 pages 1 allocated 140 largest 364\n"
+        ++ codes "carrier 261 single owner 2 employed 2 base 132 pages 1 "
+        ++ codes "allocated 140 largest 364\n"
         ++ codes "carrier 262 single owner 2 employed 2 base 133 pages 1 allocated 498 largest 6\n"
         ++ codes "total carriers 8 units 4096 live 1340 queued 616 free 2076 header 64\n") }
     ensures two_under_best_fit { text_of
@@ -232,10 +227,13 @@ pub fn pools()
         ++ codes "alloc 14 257 144 152\nscheduler 3\nalloc 6 513 8 20\nalloc 10 513 28 30\n"
         ++ codes "alloc 11 513 58 8\nalloc 12 514 8 458\nalloc 13 513 66 8\nfree 11 done\n"
         ++ codes "carrier 1 multi owner 1 employed 1 base 0 pages 1 allocated 30 largest 474\n"
-        ++ codes "carrier 257 multi owner 2 employed 2 base 5461 pages 151 allocated 294 largest 76622\n"
-        ++ codes "carrier 258 multi owner 2 employed 2 base 5612 pages 10 allocated 5106 largest 6\n"
+        ++ codes "carrier 257 multi owner 2 employed 2 base 5461 pages 151 "
+        ++ codes "allocated 294 largest 76622\n"
+        ++ codes "carrier 258 multi owner 2 employed 2 base 5612 pages 10 "
+        ++ codes "allocated 5106 largest 6\n"
         ++ codes "carrier 513 multi owner 3 pooled 3 base 10922 pages 1 allocated 58 largest 438\n"
-        ++ codes "carrier 514 multi owner 3 employed 3 base 10923 pages 1 allocated 458 largest 46\n"
+        ++ codes "carrier 514 multi owner 3 employed 3 base 10923 pages 1 "
+        ++ codes "allocated 458 largest 46\n"
         ++ codes "total carriers 5 units 83968 live 5946 queued 0 free 77982 header 40\n") }
     ensures carriers_of_one_page { text_of
         (words (codes "+S 2 +MBsmbcs 1 +MBlmbcs 1 +MBacul 90 +MBacul 64"))
@@ -257,7 +255,8 @@ pub fn pools()
         ++ codes "free 2 done\nalloc 10 259 8 204\nalloc 11 259 212 204\n"
         ++ codes "carrier 1 multi owner 1 employed 1 base 0 pages 1 allocated 394 largest 76\n"
         ++ codes "carrier 2 multi owner 1 employed 1 base 1 pages 1 allocated 210 largest 294\n"
-        ++ codes "carrier 257 multi owner 2 employed 2 base 8192 pages 1 allocated 194 largest 160\n"
+        ++ codes "carrier 257 multi owner 2 employed 2 base 8192 pages 1 "
+        ++ codes "allocated 194 largest 160\n"
         ++ codes "carrier 258 multi owner 2 employed 2 base 8193 pages 1 allocated 476 largest 28\n"
         ++ codes "carrier 259 multi owner 2 employed 2 base 8194 pages 1 allocated 408 largest 96\n"
         ++ codes "total carriers 5 units 2560 live 1682 queued 0 free 838 header 40\n") }
@@ -626,12 +625,18 @@ pub fn pools()
         ++ codes "realloc 15 22 skipped\nrealloc 11 24 skipped\n"
         ++ codes "carrier 1 multi owner 1 pooled 1 base 0 pages 16 allocated 8 largest 8176\n"
         ++ codes "carrier 2 single owner 1 employed 1 base 16 pages 6 allocated 2554 largest 510\n"
-        ++ codes "carrier 257 multi owner 2 employed 3 base 128 pages 16 allocated 132 largest 8034\n"
-        ++ codes "carrier 258 single owner 2 employed 2 base 161 pages 10 allocated 4722 largest 390\n"
-        ++ codes "carrier 259 single owner 2 employed 2 base 145 pages 5 allocated 2186 largest 366\n"
-        ++ codes "carrier 260 single owner 2 employed 2 base 150 pages 6 allocated 2606 largest 458\n"
-        ++ codes "carrier 262 single owner 2 employed 2 base 171 pages 5 allocated 2266 largest 286\n"
-        ++ codes "carrier 263 single owner 2 employed 2 base 176 pages 2 allocated 814 largest 202\n"
+        ++ codes "carrier 257 multi owner 2 employed 3 base 128 pages 16 "
+        ++ codes "allocated 132 largest 8034\n"
+        ++ codes "carrier 258 single owner 2 employed 2 base 161 pages 10 "
+        ++ codes "allocated 4722 largest 390\n"
+        ++ codes "carrier 259 single owner 2 employed 2 base 145 pages 5 "
+        ++ codes "allocated 2186 largest 366\n"
+        ++ codes "carrier 260 single owner 2 employed 2 base 150 pages 6 "
+        ++ codes "allocated 2606 largest 458\n"
+        ++ codes "carrier 262 single owner 2 employed 2 base 171 pages 5 "
+        ++ codes "allocated 2266 largest 286\n"
+        ++ codes "carrier 263 single owner 2 employed 2 base 176 pages 2 "
+        ++ codes "allocated 814 largest 202\n"
         ++ codes "total carriers 8 units 33792 live 15288 queued 0 free 18440 header 64\n") }
     ensures employed_by_the_other { text_of
         (words (codes "+S 2 +MMscs 3 +MHsmbcs 12 +MHlmbcs 40 +MHacul 80 +MHas bf"))

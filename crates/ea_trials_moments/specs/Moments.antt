@@ -12,6 +12,7 @@ use Rattle.ea_trace.specs.Language.{trace}
 use Rattle.ea_machine.specs.declared.nodes.Node.{Node}
 use Rattle.ea_machine.specs.declared.owners.OwnerWord.{OwnerWord}
 use Rattle.ea_machine.specs.Actor.{Actor}
+use Rattle.ea_machine.specs.Lists.{Lists}
 use Rattle.ea_machine.specs.Completion.{turns_in}
 use Rattle.ea_machine.specs.Machine.{run, wants}
 use Rattle.ea_machine.specs.Nodes.{Mark}
@@ -21,14 +22,16 @@ use Rattle.ea_machine.specs.Owners.{word_of}
 use Rattle.ea_machine.specs.Rows.{Row}
 use Rattle.ea_machine.specs.Setup.{Setup, setup_of}
 use Rattle.ea_machine.specs.State.{State}
+use Rattle.ea_machine.specs.Stops.{cut}
 
 -- a state, and what stays the same in its run
 pub record Moment : Type 0 where
   pub setup : Setup
   pub state : State
 
+-- once these turns are taken; a turn of a stopped scheduler is none
 abbrev pub moment_in : Setup → List ℕ → Moment
-moment_in setup turns = record { setup = setup; state = run setup turns }
+moment_in setup turns = record { setup = setup; state = run setup (cut setup.stops turns) }
 
 abbrev pub moment_of : Config → Trace → Moment
 moment_of c t = moment_in (setup_of c t) (turns_in t.mode)
@@ -77,6 +80,10 @@ contents_of i m = option_map (λ a. a.instance.contents) (actor i m)
 -- the carriers that it owns
 abbrev pub own_of : ℕ → Option Moment → Option (List OwnCarrier)
 own_of i m = option_map (λ a. a.instance.own) (actor i m)
+
+-- the numbers of the carriers that it owns and doesn't employ
+abbrev pub lists_of : ℕ → Option Moment → Option Lists
+lists_of i m = option_map (λ a. a.lists) (actor i m)
 
 -- the nodes that its walk passed, oldest first
 abbrev pub passed_by : ℕ → Option Moment → Option (List Node)

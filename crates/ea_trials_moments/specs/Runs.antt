@@ -5,6 +5,7 @@ use Rattle.ea_model.specs.declared.carriers.Kind.TheVariants.{Multi}
 use Rattle.ea_model.specs.declared.carriers.Totals.{Totals}
 use Rattle.ea_model.specs.Content.{Content}
 use Rattle.ea_model.specs.Words.{words}
+use Rattle.ea_machine.specs.Lists.{Lists}
 use Rattle.ea_machine.specs.declared.nodes.Node.{Node}
 use Rattle.ea_machine.specs.declared.nodes.Node.TheVariants.{Block}
 use Rattle.ea_machine.specs.Nodes.{Mark}
@@ -79,6 +80,46 @@ two_in_the_queue turns = moment (words (codes "+S 2"))
     (scheduled
     (codes "type H\nscheduler 1\nalloc 1 100\nalloc 2 100\nalloc 3 100\ngive 1 2\ngive 2 2\n"
     ++ codes "idle\nscheduler 2\ntake 1 1\ntake 2 1\nfree 1\nfree 2\n") turns)
+
+-- scheduler 1 abandons its carrier and needs a place again; scheduler 2 fetches the carrier, and
+-- abandons it too
+abbrev pub own_carrier : List ℕ → Option Moment
+own_carrier turns = moment (words (codes "+S 2"))
+    (scheduled
+    (codes "type H\nscheduler 1\nalloc 1 100\nalloc 2 100\nfree 1\nalloc 4 100\n"
+    ++ codes "scheduler 2\nalloc 3 100\nfree 3\n") turns)
+
+-- one scheduler abandons two carriers of a page, and needs a place for that many bytes
+abbrev pub two_pooled : List ℕ → List ℕ → Option Moment
+two_pooled bytes turns = moment (words (codes "+MHacul 100 +MHsmbcs 4 +MHlmbcs 4"))
+    (scheduled
+    (codes "type H\nscheduler 1\nalloc 1 3000\nalloc 2 1000\nalloc 3 2000\nalloc 4 2000\n"
+    ++ codes "free 2\nfree 3\nalloc 5 " ++ bytes ++ codes "\n") turns)
+
+-- one scheduler abandons its carrier, and stops before it fetches it back
+abbrev pub stopped_before_fetch : List ℕ → Option Moment
+stopped_before_fetch turns = moment []
+    (scheduled
+    (codes "type H\nscheduler 1\nalloc 1 100\nalloc 2 100\nfree 1\nalloc 3 100\nstop 1 264\n")
+    turns)
+
+-- scheduler 1 stops while its carrier is busy; scheduler 2 needs a place
+abbrev pub stopped_while_busy : List ℕ → Option Moment
+stopped_while_busy turns = moment (words (codes "+S 2"))
+    (scheduled
+    (codes "type H\nscheduler 1\nalloc 1 100\nalloc 2 100\nalloc 3 100\nfree 1\nfree 3\n"
+    ++ codes "scheduler 2\nalloc 4 100\nstop 1 522\n") turns)
+
+-- without migration, scheduler 2 stops with a node that it pushed and didn't link
+abbrev pub stopped_before_link : List ℕ → Option Moment
+stopped_before_link turns = moment (words (codes "+S 2 +MHacul 0"))
+    (scheduled
+    (codes "type H\nscheduler 1\nalloc 1 100\ngive 1 2\nidle\n"
+    ++ codes "scheduler 2\ntake 1 1\nfree 1\nstop 2 4\n") turns)
+
+-- lists of these own carriers
+abbrev pub listed : (pooled traitors : List ℕ) → Lists
+listed pooled traitors = record { pooled = pooled; traitors = traitors }
 
 -- block `name` lies in carrier 1, from that offset on
 abbrev pub named : ℕ → ℕ → Named

@@ -22,21 +22,21 @@ pub fn abandoning()
     ensures employs_nothing { contents_of 1 (abandon_and_fetch (codes "1*262")) ≡ Some [] }
     ensures owned_all_the_same { own_of 1 (abandon_and_fetch (codes "1*262"))
         ≡ Some (record { number = 1; base = 0; pages = 64 } ∷ []) }
-    ensures to_be_fetched { row_of 1 (abandon_and_fetch (codes "1*519"))
+    ensures to_be_fetched { row_of 1 (abandon_and_fetch (codes "1*264"))
         ≡ Some (FetchTry 1 (word.Pooled 1 32732)) }
-    ensures fetched { owner_word 1 (abandon_and_fetch (codes "1*520")) ≡ Some (word.Employed 1) }
-    ensures fetched_content { contents_of 1 (abandon_and_fetch (codes "1*520"))
+    ensures fetched { owner_word 1 (abandon_and_fetch (codes "1*265")) ≡ Some (word.Employed 1) }
+    ensures fetched_content { contents_of 1 (abandon_and_fetch (codes "1*265"))
         ≡ Some (carrier_with (usual 3 8 ∷ usual 2 22 ∷ []) ∷ []) }
-    ensures held_names { held_by 1 (abandon_and_fetch (codes "1*520"))
+    ensures held_names { held_by 1 (abandon_and_fetch (codes "1*265"))
         ≡ Some (named 2 22 ∷ named 3 8 ∷ []) }
-    ensures old_block_held { held_by 1 (moved_block (codes "1*519")) ≡ Some (named 2 22 ∷ []) }
-    ensures new_block_held { held_by 1 (moved_block (codes "1*520")) ≡ Some (named 3 36 ∷ []) }
-    ensures old_block_in_the_hand { row_of 1 (moved_block (codes "1*520")) ≡ Some (Look 1) }
-    ensures both_allocated { sums (moved_block (codes "1*520")) ≡ Some (sums_of 26 14 32720) }
-    ensures old_block_released { row_of 1 (moved_block (codes "1*521"))
+    ensures old_block_held { held_by 1 (moved_block (codes "1*264")) ≡ Some (named 2 22 ∷ []) }
+    ensures new_block_held { held_by 1 (moved_block (codes "1*265")) ≡ Some (named 3 36 ∷ []) }
+    ensures old_block_in_the_hand { row_of 1 (moved_block (codes "1*265")) ≡ Some (Look 1) }
+    ensures both_allocated { sums (moved_block (codes "1*265")) ≡ Some (sums_of 26 14 32720) }
+    ensures old_block_released { row_of 1 (moved_block (codes "1*266"))
         ≡ Some (Abandon (carrier_with (record { name = 3; offset = 36; size = 26 } ∷ []))) }
-    ensures new_block_left { sums (moved_block (codes "1*521")) ≡ Some (sums_of 26 0 32734) }
-    ensures abandoned_again { owner_word 1 (moved_block (codes "1*522"))
+    ensures new_block_left { sums (moved_block (codes "1*266")) ≡ Some (sums_of 26 0 32734) }
+    ensures abandoned_again { owner_word 1 (moved_block (codes "1*267"))
         ≡ Some (word.Pooled 1 32706) }
     ensures single_to_be_created { row_of 1 (single_block (codes "1*1")) ≡ Some (Create 1) }
     ensures single_employed { owner_word 1 (single_block (codes "1*2")) ≡ Some (word.Employed 1) }

@@ -3,6 +3,8 @@
 #![tactic(auto)]
 
 pub mod abandoning;
+pub mod owns;
 pub mod queues;
 pub mod returning;
+pub mod stopping;
 pub mod tries;

@@ -1,6 +1,6 @@
 -- A worked failure, from what is computed of the run.
-use Rattle.std.proofs.Common.{◌≡◌, ◌≤◌, ℕ, true, ◌==◌, List, [], ◌∷◌, ◌++◌, None, Err, refl, sym}
-use Rattle.std.proofs.Common.{◌∙◌, ap, subst, inl, inr}
+use Rattle.std.proofs.Common.{◌≡◌, ◌≤◌, ℕ, true, false, ◌==◌, List, [], ◌∷◌, ◌++◌, None, Err, sym}
+use Rattle.std.proofs.Common.{◌∙◌, ap, subst, inr}
 use Rattle.std.specs.Prelude.{count_by, length}
 use Rattle.ea_model.specs.declared.entries.Entry.{Entry}
 use Rattle.ea_model.specs.declared.entries.NoCarrier.{NoCarrier}
@@ -9,12 +9,17 @@ use Rattle.ea_sound.specs.Exhausted.{IsExhausted, IsFailOf, seen_since}
 use Rattle.ea_machine.specs.Machine.{run}
 use Rattle.ea_sound.specs.Needs.{AsksFor}
 use Rattle.ea_machine.specs.declared.nodes.Named.{Named}
+use Rattle.ea_machine.specs.Searches.{Search, goes_on, looked_in, new_search}
 use Rattle.ea_sound.specs.Searches.{Searched, Sight}
 use Rattle.ea_machine.specs.Setup.{Setup, greatest_number, migration}
 use Rattle.ea_sound.specs.Turns.{IsBegun, actor_after, begun, log_after}
-use Rattle.ea_trials_sound.proofs.Searched.{is_searched, searched}
+use Rattle.ea_trials_sound.proofs.Searched.{is_searched, last_of, searched}
 
--- the pool was searched down to number 1, and no carrier can be created
+-- the search that began when the begin of the operation was over
+abbrev pub search_of : (setup : Setup) → List ℕ → ℕ → Search
+search_of setup before s = new_search (greatest_number setup) (begun setup before s).lists
+
+-- own carriers and the pool were searched in vain, and no carrier can be created
 pub exhausted : (setup : Setup) (turns : List ℕ) (s : ℕ) (x : Entry) (need looked : ℕ)
     (why : NoCarrier) (before since : List ℕ) (seen : List Sight) (log : List Entry) (i : Instance)
     (held : List Named)
@@ -25,7 +30,9 @@ pub exhausted : (setup : Setup) (turns : List ℕ) (s : ℕ) (x : Entry) (need l
     → seen_since setup before s since ≡ seen
     → migration setup ≡ true
     → need ≤ setup.settings.sbct
-    → is_searched need (greatest_number setup) 0 0 looked seen ≡ true
+    → is_searched (greatest_number setup) need (search_of setup before s) seen ≡ true
+    → goes_on (last_of (greatest_number setup) (search_of setup before s) seen).part ≡ false
+    → looked ≡ looked_in (last_of (greatest_number setup) (search_of setup before s) seen).part
     → count_by (λ j. j == s) since ≡ length seen
     → plan i need ≡ Err why
     → IsFailOf (begun setup before s).todo need looked why x
@@ -37,7 +44,7 @@ pub exhausted : (setup : Setup) (turns : List ℕ) (s : ℕ) (x : Entry) (need l
     → (actor_after setup (turns ++ s ∷ []) s).held ≡ held
     → IsExhausted setup turns s x need looked why
 exhausted setup turns s x need looked why before since seen log i held split begins asks none sees
-    on small search steps refused fails then now had has held_then held_now = record {
+    on small search over counts steps refused fails then now had has held_then held_now = record {
       before = before;
       since = since;
       split = split;
@@ -49,10 +56,14 @@ exhausted setup turns s x need looked why before since seen log i held split beg
           on,
           small,
           (
-            0,
-            subst (Searched need (greatest_number setup) 0 0 looked)
-                (sym sees) (searched need (greatest_number setup) 0 0 looked seen search),
-            inl refl,
+            last_of (greatest_number setup) (search_of setup before s) seen,
+            subst
+                (Searched (greatest_number setup) need (search_of setup before s)
+                (last_of (greatest_number setup) (search_of setup before s) seen))
+                (sym sees)
+                (searched (greatest_number setup) need (search_of setup before s) seen search),
+            over,
+            counts,
           ),
         );
         steps = steps ∙ ap length (sym sees);

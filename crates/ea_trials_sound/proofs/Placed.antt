@@ -11,7 +11,8 @@ use Rattle.ea_model.specs.Content.{Content}
 use Rattle.ea_model.specs.Instance.{chosen_spot, creating, place_at, plan, single_place}
 use Rattle.ea_machine.specs.declared.owners.OwnerWord.{OwnerWord}
 use Rattle.ea_machine.specs.declared.stages.Stage.TheVariants.{Creating, Fetching}
-use Rattle.ea_machine.specs.Placements.{fits}
+use Rattle.ea_machine.specs.declared.parts.Part.{Part}
+use Rattle.ea_machine.specs.Searches.{fits}
 use Rattle.ea_sound.specs.FirstFits.{IsFirstFit}
 use Rattle.ea_sound.specs.Searches.{IsNextLook, Shown, Sight}
 use Rattle.ea_sound.specs.Exhausted.{seen_since}
@@ -23,7 +24,8 @@ use Rattle.ea_sound.specs.Needs.{AsksFor}
 use Rattle.ea_sound.specs.Released.{blocks_at}
 use Rattle.ea_machine.specs.Rows.{Won}
 use Rattle.ea_machine.specs.Setup.{Setup, greatest_number, migration}
-use Rattle.ea_trials_sound.proofs.Searched.{is_searched, searched}
+use Rattle.ea_trials_sound.proofs.Exhausted.{search_of}
+use Rattle.ea_trials_sound.proofs.Searched.{is_searched, last_of, searched}
 use Rattle.ea_sound.specs.Turns.{IsBegun, actor_after, answered, begun, log_after}
 
 -- the operation asked for a place in one of these turns
@@ -44,7 +46,7 @@ asked setup turns before since s need then now split begins asks was is = record
 }
 
 -- the number was the first that fitted in a search since one of these turns
-pub first_fit : (setup : Setup) (turns before since : List ℕ) (s need number looked : ℕ)
+pub first_fit : (setup : Setup) (turns before since : List ℕ) (s need number : ℕ)
     (seen : OwnerWord) (passed : List Sight) (log : List Entry)
     → turns ≡ before ++ s ∷ since
     → IsBegun setup (run setup before) s
@@ -52,14 +54,14 @@ pub first_fit : (setup : Setup) (turns before since : List ℕ) (s need number l
     → log_after setup turns s ≡ log
     → AsksFor (begun setup before s) (begun setup before s).todo need
     → chosen_spot (begun setup before s).instance need ≡ None
-    → is_searched need (greatest_number setup) 0 number looked passed ≡ true
-    → IsNextLook number looked number
+    → is_searched (greatest_number setup) need (search_of setup before s) passed ≡ true
+    → IsNextLook (last_of (greatest_number setup) (search_of setup before s) passed) number
     → fits need seen ≡ true
     → seen_since setup before s since ≡ passed ++ Shown number seen ∷ []
     → count_by (λ j. j == s) since ≡ length (seen_since setup before s since)
     → IsFirstFit setup turns s need number seen
-first_fit setup turns before since s need number looked seen passed log split begins was now asks
-    none search next fit saw steps = record {
+first_fit setup turns before since s need number seen passed log split begins was now asks none
+    search next fit saw steps = record {
       before = before;
       since = since;
       split = split;
@@ -68,8 +70,8 @@ first_fit setup turns before since s need number looked seen passed log split be
       asks = asks;
       none = none;
       passed = passed;
-      looked = looked;
-      searched = searched need (greatest_number setup) 0 number looked passed search;
+      last = last_of (greatest_number setup) (search_of setup before s) passed;
+      searched = searched (greatest_number setup) need (search_of setup before s) passed search;
       next = next;
       fit = fit;
       saw = saw;
@@ -78,10 +80,10 @@ first_fit setup turns before since s need number looked seen passed log split be
 
 -- a block is placed in a carrier that was fetched, and its entry made in the same step
 pub fetched-placement : (setup : Setup) (turns : List ℕ) (s name : ℕ) (place : Place) (ask : Ask)
-    (at looked : ℕ) (seen : OwnerWord) (x : Content) (spot : Spot)
+    (at : ℕ) (part : Part) (seen : OwnerWord) (x : Content) (spot : Spot)
     → ask.need ≤ setup.settings.sbct
     → HasAsked setup (turns ++ s ∷ []) s ask.need (log_after setup turns s)
-    → (actor_after setup turns s).stage ≡ Fetching ask at looked seen
+    → (actor_after setup turns s).stage ≡ Fetching ask at part seen
     → chosen_spot (actor_after setup turns s).instance ask.need ≡ None
     → answered (run setup turns) s ≡ Won x
     → x.number ≡ at
@@ -91,7 +93,7 @@ pub fetched-placement : (setup : Setup) (turns : List ℕ) (s name : ℕ) (place
     → place_at (employing (actor_after setup turns s).instance x) spot ask.need ≡ place
     → blocks_at setup name place (run setup (turns ++ s ∷ [])) ≡ 1
     → IsPlacement setup turns s name place
-fetched-placement setup turns s name place ask at looked seen x spot small asks stage none won of
+fetched-placement setup turns s name place ask at part seen x spot small asks stage none won of
     first chosen there is lies =
     record {
       before = turns;
@@ -107,7 +109,7 @@ fetched-placement setup turns s name place ask at looked seen x spot small asks 
           before = Fetched x (record {
             ask = ask;
             number = at;
-            looked = looked;
+            part = part;
             seen = seen;
             stage = stage;
             asks = refl;

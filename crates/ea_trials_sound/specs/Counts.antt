@@ -1,5 +1,6 @@
 -- The items of a sound state that count, each as a test over what occurs in a run.
-use Rattle.std.specs.Prelude.{ℕ, ◌+◌, ◌*◌, ◌%◌, Bool, true, ◌&&◌, ◌||◌, not, ◌==◌, nat_le, List}
+use Rattle.std.specs.Prelude.{ℕ, ◌+◌, ◌*◌, ◌%◌, Bool, true, false, ◌&&◌, ◌||◌, not, ◌==◌, nat_le}
+use Rattle.std.specs.Prelude.{List, ◌++◌}
 use Rattle.std.specs.List.{list_all, list_any, range_with_len}
 use Rattle.ea_model.specs.declared.carriers.OwnCarrier.{OwnCarrier}
 use Rattle.ea_model.specs.declared.carriers.Spot.{Spot}
@@ -9,7 +10,9 @@ use Rattle.ea_model.specs.Content.{is_multi, is_nil, is_vacant, largest}
 use Rattle.ea_laws.specs.Kinds.{is_shared}
 use Rattle.ea_machine.specs.declared.nodes.Node.{Node}
 use Rattle.ea_machine.specs.Actor.{Actor}
+use Rattle.ea_machine.specs.Lists.{times, times_listed}
 use Rattle.ea_sound.specs.Contents.{actor_sum, seats, sum_everywhere}
+use Rattle.ea_sound.specs.Listed.{is_away}
 use Rattle.ea_sound.specs.Names.{allocated, only, only_at, standing, to_make}
 use Rattle.ea_sound.specs.NodePlaces.{anywhere, at_instance, before_link, carrier_nodes}
 use Rattle.ea_sound.specs.NodePlaces.{is_returning, unlinked_at}
@@ -98,6 +101,36 @@ module _ (setup : Setup) (state : State) where
   abbrev pub counts_own : List OwnCarrier → Bool
   counts_own os = list_all (λ o. list_all (is_owned o) (range_with_len 0 (seats setup))) os
       && own_no_others os
+
+  -- an instance has a number in its lists once, exactly if it owns the carrier, which is there, and
+  -- doesn't employ it; else it never has
+  abbrev pub is_listed : ℕ → ℕ → Bool
+  is_listed number i = times_listed number (state.actors i).lists
+      == one_if ((i == owner_of number) && is_away number (place_of setup state number))
+
+  -- whether a carrier is pooled by its owner, or busy by it
+  abbrev pub is_owners_pooled : ℕ → CarrierAt → Bool
+  is_owners_pooled number Absent = false
+  is_owners_pooled number (Employed i) = false
+  is_owners_pooled number (Pooled i largest x) = i == owner_of number
+  is_owners_pooled number (Busy i) = i == owner_of number
+  is_owners_pooled number (Returning i x) = false
+
+  -- then the number is in the pooled list
+  abbrev pub is_in_pooled : ℕ → Bool
+  is_in_pooled number = not (is_owners_pooled number (state.shared.places number))
+      || (times number (state.actors (owner_of number)).lists.pooled == 1)
+
+  -- no other number is in a list
+  abbrev pub list_no_others : List ℕ → Bool
+  list_no_others numbers = total (seats setup)
+      (λ (a : Actor). sum_over (λ n. one_if (not (list_any (λ m. m == n) numbers)))
+      (a.lists.pooled ++ a.lists.traitors)) state.actors == 0
+
+  abbrev pub lists_carriers : List ℕ → Bool
+  lists_carriers numbers = list_all (λ number.
+      list_all (is_listed number) (range_with_len 0 (seats setup)) && is_in_pooled number) numbers
+      && list_no_others numbers
 
   -- a carrier that returns is empty, and its node stands once, with its owner; another has none
   abbrev pub returns_empty : CarrierAt → Bool

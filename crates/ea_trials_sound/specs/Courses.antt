@@ -1,10 +1,12 @@
 -- The moments of a run, one after another.
-use Rattle.std.specs.Prelude.{ℕ, Bool, true, false, List, [], ◌∷◌, ◌++◌, Option, None, Some}
+use Rattle.std.specs.Prelude.{ℕ, Bool, true, false, ◌&&◌, List, [], ◌∷◌, ◌++◌, Option, None, Some}
 use Rattle.std.specs.Prelude.{flat_map, if◌then◌else◌, replicate}
 use Rattle.ea_model.specs.declared.trace.Turns.{Turns}
 use Rattle.ea_model.specs.Words.{words}
 use Rattle.ea_trace.specs.Lines.{turns_in}
 use Rattle.ea_model.specs.Content.{Content}
+use Rattle.ea_machine.specs.declared.parts.Part.{Part}
+use Rattle.ea_machine.specs.declared.parts.Part.TheVariants.{Pool}
 use Rattle.ea_machine.specs.declared.stages.Stage.{Stage}
 use Rattle.ea_machine.specs.declared.stages.Stage.TheVariants.{Searching}
 use Rattle.ea_machine.specs.Machine.{step}
@@ -30,18 +32,24 @@ abbrev pub from : Option Moment → List ℕ → Option Course
 from None line = None
 from (Some m) line = Some (record { moment = m; turns = turns line })
 
--- whether a scheduler looks at owner words; nothing else changes by that
+-- whether a part of a search is its last one
+abbrev pub is_last : Part → Bool
+is_last (Pool left looked) = true
+is_last _ = false
+
+-- whether a scheduler searches the pool; from one look there to the next one nothing else changes
 abbrev pub is_searching : Stage Content → Bool
-is_searching (Searching ask at looked) = true
+is_searching (Searching ask at part) = is_last part
 is_searching _ = false
 
 module _ (setup : Setup) where
-  -- the states after each of these turns, without those within a search of who stepped
+  -- the states after each of these turns, without those within a search of the pool by who stepped
   abbrev pub states_after : State → List ℕ → List State
   states_after state [] = []
   states_after state (s ∷ ss) = let next = step setup state s in
-      (if is_searching (next.actors s).stage then [] else next ∷ []) ++ states_after next ss
+      (if is_searching (state.actors s).stage && is_searching (next.actors s).stage then []
+      else next ∷ []) ++ states_after next ss
 
--- the states of a course, without those within a search
+-- the states of a course, without those within a search of the pool
 abbrev pub states_of : Course → List State
 states_of c = c.moment.state ∷ states_after c.moment.setup c.moment.state c.turns

@@ -9,6 +9,7 @@ use Rattle.ea_machine.specs.Setup.{Setup, greatest_number}
 use Rattle.ea_machine.specs.State.{State}
 use Rattle.ea_trials_sound.specs.Counts.{Seen, counts_carriers, counts_links, counts_names}
 use Rattle.ea_trials_sound.specs.Counts.{counts_nodes, counts_own, counts_units, lays_out}
+use Rattle.ea_trials_sound.specs.Counts.{lists_carriers}
 use Rattle.ea_trials_sound.specs.Counts.{prints_sums, stay_with_owners, records_gaps}
 use Rattle.ea_trials_sound.specs.Courses.{Course, states_of}
 
@@ -20,6 +21,8 @@ pub data Item : Type 0 where
   Carriers : Item
   -- each instance owns the carriers that it created and that are there
   Own : Item
+  -- it lists those of them, by number, that are away from it
+  Lists : Item
   -- each name is in one place, and those that stand are the blocks
   Names : Item
   -- a pooled carrier's largest gap is recorded
@@ -59,6 +62,7 @@ failures_at setup seen k state = let numbers = numbers_in setup seen in
     failed k (lays_out setup state) Ranges
     ++ failed k (counts_carriers setup state numbers && stay_with_owners setup state) Carriers
     ++ failed k (counts_own setup state seen.own) Own
+    ++ failed k (lists_carriers setup state numbers) Lists
     ++ failed k (counts_names setup state seen.names) Names
     ++ failed k (records_gaps setup state numbers) Gaps
     ++ failed k (counts_units setup state) Units
@@ -72,6 +76,6 @@ failures_in setup seen k [] = []
 failures_in setup seen k (state ∷ states) = failures_at setup seen k state
     ++ failures_in setup seen (suc k) states
 
--- at all moments of a course, but for those within a search
+-- at all moments of a course, but for those within a search of the pool
 abbrev pub failures : Seen → Option Course → Option (List Failure)
 failures seen course = option_map (λ c. failures_in c.moment.setup seen 0 (states_of c)) course

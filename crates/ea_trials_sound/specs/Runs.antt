@@ -4,8 +4,8 @@ use Rattle.ea_model.specs.declared.carriers.OwnCarrier.{OwnCarrier}
 use Rattle.ea_model.specs.Words.{words}
 use Rattle.ea_machine.specs.declared.nodes.Named.{Named}
 use Rattle.ea_trials_moments.specs.Moments.{Moment, moment}
-use Rattle.ea_trials_moments.specs.Runs.{forwarded_block, named, pooled_twice, returned_carrier}
-use Rattle.ea_trials_moments.specs.Runs.{scheduled, two_freed}
+use Rattle.ea_trials_moments.specs.Runs.{forwarded_block, named, own_carrier, pooled_twice}
+use Rattle.ea_trials_moments.specs.Runs.{returned_carrier, scheduled, two_freed}
 use Rattle.ea_trials_sound.specs.Counts.{Seen}
 use Rattle.ea_trials_sound.specs.Courses.{Course, from}
 
@@ -38,15 +38,25 @@ moved_away turns = moment (words (codes "+S 2"))
     (codes "type H\nscheduler 1\nalloc 1 100\nalloc 2 100\nfree 1\nrealloc 2 4 200\nidle\n"
     ++ codes "scheduler 2\nalloc 3 100\nfree 3\nidle\n") turns)
 
--- the old block is queued to scheduler 2, whose walk rests at it until it is linked
+-- it searches in vain before that. The old block is queued to scheduler 2, whose walk rests at it
+-- until it is linked
 abbrev pub moving : Option Course
-moving = from (moved_away (codes "1*518 2*514 1*513")) (codes "1*3 2*4 1 2*5 1 2 1*2 2*2")
+moving = from (moved_away (codes "1*518 2*514")) (codes "1*518 2*4 1 2*5 1 2 1*2 2*2")
 
 abbrev pub seen_moving : Seen
 seen_moving = record {
   names = named 1 8 ∷ named 2 22 ∷ named 3 8 ∷ named_in 2 4 8 ∷ [];
   own = own 1 0 64 ∷ own 2 64 64 ∷ [];
 }
+
+-- scheduler 1 looks for its carrier, which scheduler 2 has fetched; scheduler 2 abandons it before
+-- the second look
+abbrev pub fetching_back : Option Course
+fetching_back = from (own_carrier (codes "1*516 2*512")) (codes "1*2 2*2 1*2 2*3 1*2 2")
+
+abbrev pub seen_fetching_back : Seen
+seen_fetching_back = in_one_carrier
+    (named 1 8 ∷ named 2 22 ∷ named 3 8 ∷ named 4 8 ∷ [])
 
 -- scheduler 2 is to fetch the carrier of scheduler 1, which makes it busy before that
 abbrev pub made_busy : Option Course

@@ -4,7 +4,8 @@ ghost use Rattle.std.specs.Prelude.{◌≡◌, Some, [], ◌∷◌};
 ghost use Rattle.ea_trials_sound.specs.Failures.{failures};
 ghost use Rattle.ea_trials_sound.specs.Paths.{path_of, content_path, Nowhere, Held, Queued, Walked};
 ghost use Rattle.ea_trials_sound.specs.Paths.{InHand, Employed, Busy, Home};
-ghost use Rattle.ea_trials_sound.specs.Runs.{fetched_first, made_busy, seen_busy, seen_fetched};
+ghost use Rattle.ea_trials_sound.specs.Runs.{fetched_first, fetching_back, made_busy, seen_busy};
+ghost use Rattle.ea_trials_sound.specs.Runs.{seen_fetched, seen_fetching_back};
 
 /// What holds at each moment.
 pub fn tries()
@@ -16,4 +17,7 @@ pub fn tries()
     ensures left_in_a_walk { path_of 3 fetched_first
         ≡ Some (Held ∷ InHand ∷ Queued ∷ Walked ∷ []) }
     ensures fetched { content_path 1 fetched_first ≡ Some (Home ∷ Employed 2 ∷ []) }
+    ensures no_failure_fetching_back { failures seen_fetching_back fetching_back ≡ Some [] }
+    ensures fetched_back { content_path 1 fetching_back
+        ≡ Some (Employed 1 ∷ Home ∷ Employed 2 ∷ Home ∷ Employed 1 ∷ []) }
 {}

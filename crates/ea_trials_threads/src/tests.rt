@@ -31,6 +31,18 @@ const FETCHED_TEXT: &str = "scheduler 1\nalloc 1 1 8 14\nalloc 2 1 22 14\nfree 1
     carrier 1 multi owner 1 employed 2 base 0 pages 64 allocated 28 largest 32732\n\
     total carriers 1 units 32768 live 28 queued 0 free 32732 header 8\n";
 
+/// Scheduler 1 gives, and stops before it takes.
+const STOPPED: &str = "type H\n\
+    scheduler 1\nalloc 1 100\ngive 1 2\ntake 2 10000000\n\
+    scheduler 2\nalloc 2 100\ngive 2 1\ntake 1 10000000\n\
+    stop 1 4\nthreads\nend\n";
+
+const STOPPED_TEXT: &str = "scheduler 1\nalloc 1 1 8 14\ngive 1 2\nstopped 4\n\
+    scheduler 2\nalloc 2 257 8 14\ngive 2 1\ntake 1 got\n\
+    carrier 1 multi owner 1 employed 1 base 0 pages 64 allocated 14 largest 32746\n\
+    carrier 257 multi owner 2 employed 2 base 8192 pages 64 allocated 14 largest 32746\n\
+    total carriers 2 units 65536 live 28 queued 0 free 65492 header 16\n";
+
 #[test]
 fn each_scheduler_is_at_its_second_step_while_the_other_is(rt: HostRuntime) -> Result<(), Fail> {
     let alloc = rt.alloc();
@@ -38,6 +50,7 @@ fn each_scheduler_is_at_its_second_step_while_the_other_is(rt: HostRuntime) -> R
         ("0", HANDED_OVER, HANDED_OVER_TEXT),
         ("60", HANDED_OVER, HANDED_OVER_TEXT),
         ("60", FETCHED, FETCHED_TEXT),
+        ("0", STOPPED, STOPPED_TEXT),
     ] {
         let mut words = Vec::new(alloc);
         for word in ["+S", "2", "+MHacul", acul] {

@@ -7,6 +7,7 @@ use Rattle.ea_model.specs.declared.operations.Op.{Op}
 use Rattle.ea_model.specs.declared.settings.Letter.{Letter}
 use Rattle.ea_model.specs.declared.trace.Mode.{Mode}
 use Rattle.ea_model.specs.declared.trace.Mode.TheVariants.{Schedule}
+use Rattle.ea_model.specs.declared.trace.Stop.{Stop}
 use Rattle.ea_model.specs.declared.trace.Trace.{Trace}
 use Rattle.ea_model.specs.declared.trace.Turns.{Turns}
 use Rattle.ea_trace.specs.Language.{trace}
@@ -24,15 +25,23 @@ refused n text = fault_of (trace text n)
 abbrev pub refused_cuts : ℕ → List ℕ → ℕ → List (Option TraceFault)
 refused_cuts n text cuts = map (λ k. refused n (take k text)) (range_with_len 0 cuts)
 
--- a trace with these texts, and this greatest name
-abbrev pub is_trace : Letter → Mode → List (List Op) → ℕ → Result Trace TraceFault
-is_trace letter mode texts greatest = Ok (record {
+-- a trace with these texts and stops, and this greatest name
+abbrev pub is_stopped_trace : Letter → Mode → List (List Op) → List Stop → ℕ
+    → Result Trace TraceFault
+is_stopped_trace letter mode texts stops greatest = Ok (record {
   letter = letter;
   texts = listed (map (λ text. listed text) texts);
-  stops = listed [];
+  stops = listed stops;
   mode = mode;
   greatest = greatest;
 })
+
+-- one without stops
+abbrev pub is_trace : Letter → Mode → List (List Op) → ℕ → Result Trace TraceFault
+is_trace letter mode texts greatest = is_stopped_trace letter mode texts [] greatest
+
+abbrev pub stop : ℕ → ℕ → Stop
+stop scheduler steps = record { scheduler = scheduler; steps = steps }
 
 abbrev pub turns : ℕ → ℕ → Turns
 turns scheduler count = record { scheduler = scheduler; count = count }

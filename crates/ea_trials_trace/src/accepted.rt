@@ -6,7 +6,8 @@ ghost use Rattle.ea_model.specs.declared.settings.Letter.TheVariants.{B, D, H, T
 ghost use Rattle.ea_model.specs.declared.trace.Mode.TheVariants.{Threads, Generated};
 ghost use Rattle.ea_trace.specs.Language.{trace};
 ghost use Rattle.ea_trace.specs.declared.fault.TraceFault.TheVariants as fault;
-ghost use Rattle.ea_trials_trace.specs.Worked.{in_turns, is_trace, refused, refused_cuts, turns};
+ghost use Rattle.ea_trials_trace.specs.Worked.{in_turns, is_stopped_trace, is_trace, refused};
+ghost use Rattle.ea_trials_trace.specs.Worked.{refused_cuts, stop, turns};
 
 /// A trace of each mode, with each operation.
 pub fn worked_traces()
@@ -27,6 +28,14 @@ pub fn worked_traces()
         ≡ is_trace T Threads ((Alloc 9 1 ∷ Realloc 9 4 2 ∷ Info ∷ []) ∷ [] ∷ []) 9 }
     ensures generated { trace (codes "type H\ngenerate 7 20\nend\n") 16
         ≡ is_trace H (Generated 7 20) [] 0 }
+    ensures stops_before_a_schedule { trace
+        (codes "type H\nscheduler 1\nidle\nscheduler 2\n"
+        ++ codes "stop 2 0\n# c\n\tstop  1 100000000\r\nschedule\n1\nend\n") 2
+        ≡ is_stopped_trace H (in_turns (turns 1 1 ∷ [])) ((Idle ∷ []) ∷ [] ∷ [])
+        (stop 2 0 ∷ stop 1 100000000 ∷ []) 0 }
+    ensures stop_before_threads { trace
+        (codes "type H\nscheduler 1\nalloc 3 1\nstop 0000000001 0000000007\nthreads\nend\n") 1
+        ≡ is_stopped_trace H Threads ((Alloc 3 1 ∷ []) ∷ []) (stop 1 7 ∷ []) 3 }
     ensures spaces_and_zeros { trace
         (codes "# c\n\ttype  H\r\n\nscheduler 01\n"
         ++ codes " alloc\t1 0000000100 \n#end\nschedule\r\n\t\nend") 1

@@ -208,6 +208,71 @@ pub fn refused_turns()
     ensures before_the_letter { refused 1 (codes "9\n") ≡ Some (fault.Syntax 1) }
 {}
 
+/// Lines that say where a scheduler stops, and what comes after one.
+pub fn refused_stops()
+    ensures first { refused 1 (codes "stop 1 5\n") ≡ Some (fault.Syntax 1) }
+    ensures before_a_section { refused 1 (codes "type H\nstop 1 5\n")
+        ≡ Some (fault.BadScheduler 2) }
+    ensures before_the_last_section { refused 2 (codes "type H\nscheduler 1\nstop 1 5\n")
+        ≡ Some (fault.BadScheduler 3) }
+    ensures no_scheduler { refused 1 (codes "type H\nscheduler 1\nstop 2 5\n")
+        ≡ Some (fault.BadScheduler 3) }
+    ensures scheduler_zero { refused 1 (codes "type H\nscheduler 1\nstop 0 5\n")
+        ≡ Some (fault.BadScheduler 3) }
+    ensures long_scheduler { refused 1 (codes "type H\nscheduler 1\nstop 9999999999 5\n")
+        ≡ Some (fault.BadScheduler 3) }
+    ensures scheduler_of_eleven_digits { refused 1
+        (codes "type H\nscheduler 1\nstop 00000000001 5\n") ≡ Some (fault.Syntax 3) }
+    ensures stopped_twice { refused 1 (codes "type H\nscheduler 1\nstop 1 5\nstop 1 6\n")
+        ≡ Some (fault.BadScheduler 4) }
+    ensures stopped_twice_among_others { refused 2
+        (codes "type H\nscheduler 1\nscheduler 2\nstop 1 5\nstop 2 5\nstop 1 5\n")
+        ≡ Some (fault.BadScheduler 6) }
+    ensures greatest_steps { refused 1 (codes "type H\nscheduler 1\nstop 1 100000000\n")
+        ≡ Some fault.NoEnd }
+    ensures steps_too_many { refused 1 (codes "type H\nscheduler 1\nstop 1 100000001\n")
+        ≡ Some (fault.Syntax 3) }
+    ensures steps_of_ten_digits { refused 1 (codes "type H\nscheduler 1\nstop 1 9999999999\n")
+        ≡ Some (fault.Syntax 3) }
+    ensures signed_steps { refused 1 (codes "type H\nscheduler 1\nstop 1 +5\n")
+        ≡ Some (fault.Syntax 3) }
+    ensures steps_missing { refused 1 (codes "type H\nscheduler 1\nstop 1\n")
+        ≡ Some (fault.Syntax 3) }
+    ensures word_too_many { refused 1 (codes "type H\nscheduler 1\nstop 1 5 5\n")
+        ≡ Some (fault.Syntax 3) }
+    ensures syntax_before_scheduler { refused 1 (codes "type H\nscheduler 1\nstop 9 100000001\n")
+        ≡ Some (fault.Syntax 3) }
+    ensures operation_after_a_stop { refused 1 (codes "type H\nscheduler 1\nstop 1 5\nidle\n")
+        ≡ Some (fault.Syntax 4) }
+    ensures free_of_no_name_after_a_stop { refused 1
+        (codes "type H\nscheduler 1\nstop 1 5\nfree 9\n") ≡ Some (fault.Syntax 4) }
+    ensures give_after_a_stop { refused 1
+        (codes "type H\nscheduler 1\nalloc 1 1\nstop 1 5\ngive 1 1\n") ≡ Some (fault.Syntax 5) }
+    ensures give_outside_after_a_stop { refused 1
+        (codes "type H\nscheduler 1\nstop 1 5\ngive 1 9\n") ≡ Some (fault.BadScheduler 4) }
+    ensures section_after_a_stop { refused 1 (codes "type H\nscheduler 1\nstop 1 5\nscheduler 2\n")
+        ≡ Some (fault.BadScheduler 4) }
+    ensures turns_after_a_stop { refused 1 (codes "type H\nscheduler 1\nstop 1 5\n1 1*2\n")
+        ≡ Some (fault.Syntax 4) }
+    ensures turns_outside_after_a_stop { refused 1 (codes "type H\nscheduler 1\nstop 1 5\n9\n")
+        ≡ Some (fault.BadScheduler 4) }
+    ensures letter_after_a_stop { refused 1 (codes "type H\nscheduler 1\nstop 1 5\ntype H\n")
+        ≡ Some (fault.Syntax 4) }
+    ensures generate_after_a_stop { refused 1
+        (codes "type H\nscheduler 1\nstop 1 5\ngenerate 1 1\n") ≡ Some (fault.Syntax 4) }
+    ensures end_after_a_stop { refused 1 (codes "type H\nscheduler 1\nstop 1 5\nend\n")
+        ≡ Some (fault.Syntax 4) }
+    ensures after_schedule { refused 1 (codes "type H\nscheduler 1\nschedule\nstop 1 5\n")
+        ≡ Some (fault.Syntax 4) }
+    ensures after_turns { refused 1 (codes "type H\nscheduler 1\nschedule\n1\nstop 9 5\n")
+        ≡ Some (fault.Syntax 5) }
+    ensures after_threads { refused 1 (codes "type H\nscheduler 1\nthreads\nstop 1 5\n")
+        ≡ Some (fault.Syntax 4) }
+    ensures after_generate { refused 1 (codes "type H\ngenerate 1 1\nstop 1 5\n")
+        ≡ Some (fault.Syntax 3) }
+    ensures no_mode { refused 1 (codes "type H\nscheduler 1\nstop 1 5\n") ≡ Some fault.NoEnd }
+{}
+
 /// Texts without their end, and takes that nobody addressed.
 pub fn refused_ends()
     ensures nothing { refused 1 (codes "") ≡ Some fault.NoEnd }

@@ -1,4 +1,5 @@
 //! Inputs at the edge of the language, and large ones.
+use ea_model::{Mode, Stop};
 use ea_trace::{TraceFault, read_trace};
 use std::alloc::Global;
 use std::test::Fail;
@@ -128,6 +129,27 @@ fn an_input_is_refused_at_its_first_bad_line(rt: HostRuntime) {
         let read = read_trace(rt.alloc(), input, schedulers).err();
         assert_eq!(rt; read, Some(fault), "of {input:?}");
     }
+}
+
+#[test]
+fn stops_are_read_in_their_order(rt: HostRuntime) -> Result<(), Fail> {
+    let input = b"type H\nscheduler 1\nidle\nscheduler 2\n\
+        stop 2 0\n\tstop  1 0100000000\r\nschedule\n1\nend\n";
+    let trace = read_trace(rt.alloc(), input, 2)?;
+    let stops = [
+        Stop {
+            scheduler: 2,
+            steps: 0,
+        },
+        Stop {
+            scheduler: 1,
+            steps: 100_000_000,
+        },
+    ];
+    assert_eq!(rt; trace.stops.as_slice(), stops.as_slice());
+    assert_eq!(rt; trace.texts.len(), 2);
+    assert!(rt; matches!(trace.mode, Mode::Schedule { .. }));
+    Ok(())
 }
 
 // A first text, a line that many times, and the last text.

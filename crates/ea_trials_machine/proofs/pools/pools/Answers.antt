@@ -30,10 +30,6 @@ pub returns-clause-search_limit : goal.returns-clause-search_limit
 unfolding digits unused_from bin_of powers answer effect after step_at
 returns-clause-search_limit c = refl
 
-pub returns-clause-own_carrier_fetched_back : goal.returns-clause-own_carrier_fetched_back
-unfolding digits unused_from bin_of powers answer effect after step_at
-returns-clause-own_carrier_fetched_back c = refl
-
 pub returns-clause-sixteen_schedulers : goal.returns-clause-sixteen_schedulers
 unfolding digits unused_from bin_of powers answer effect after step_at
 returns-clause-sixteen_schedulers c = refl

@@ -3,6 +3,7 @@ use Rattle.ea_model.specs.declared.entries.Entry.TheVariants as entry
 use Rattle.ea_model.specs.declared.entries.NoCarrier.TheVariants.{Space}
 use Rattle.ea_model.specs.Instance.{unused_from}
 use Rattle.ea_machine.specs.declared.owners.OwnerWord.TheVariants as word
+use Rattle.ea_machine.specs.declared.parts.Part.TheVariants.{Own}
 use Rattle.ea_machine.specs.Table.{answer, effect}
 use Rattle.ea_machine.specs.Machine.{after, run, step_at}
 use Rattle.ea_trials_moments.specs.Runs.{carrier_with, named, usual}
@@ -29,6 +30,10 @@ pub returns-clause-sights : goal.returns-clause-sights
 unfolding unused_from answer effect after step_at
 returns-clause-sights c = refl
 
+pub returns-clause-sights_of_each_part : goal.returns-clause-sights_of_each_part
+unfolding unused_from answer effect after step_at
+returns-clause-sights_of_each_part c = refl
+
 pub returns-clause-failed : goal.returns-clause-failed
 unfolding unused_from answer effect after step_at
 returns-clause-failed c = refl
@@ -45,34 +50,33 @@ returns-clause-exhausted c = under-setup
     (absent_from 512 255 ++ Shown 257 (word.Employed 2) ∷ absent_from 256 255
     ++ Shown 1 (word.Pooled 1 25002) ∷ Missed 1 (word.Busy 1) ∷ [])
     (entry.Alloc 4 (place 257 8 62502) ∷ []) full_instance (named_in 257 4 8 ∷ []) refl refl refl
-    refl refl refl (omega arith) refl refl refl refl refl refl refl refl refl refl)
+    refl refl refl (omega arith) refl refl refl refl refl refl refl refl refl refl refl refl)
 
 pub returns-clause-in_a_fetched_carrier : goal.returns-clause-in_a_fetched_carrier
 unfolding unused_from answer effect after step_at
 returns-clause-in_a_fetched_carrier c = fetched-placement _ _ _ _ _
-    (record { name = 3; need = 14; old = None }) 1 1 (word.Pooled 1 32728)
+    (record { name = 3; need = 14; old = None }) 1 (Own 1) (word.Pooled 1 32728)
     (carrier_with (usual 2 26 ∷ [])) (record { carrier = 1; offset = 8 }) (omega arith)
-    (asked _ _ (turns (codes "1*262")) (turns (codes "1*257")) 1 14
+    (asked _ _ (turns (codes "1*262")) (turns (codes "1*2")) 1 14
     (entry.Alloc 1 (place 1 8 18) ∷ entry.Alloc 2 (place 1 26 14) ∷ entry.Free 1 ∷ []) _ refl refl
     refl refl refl) refl
     refl refl refl
-    (first_fit _ _ (turns (codes "1*262")) (turns (codes "1*256")) 1 14 1 0 (word.Pooled 1 32728)
-    (absent_from 256 255)
+    (first_fit _ _ (turns (codes "1*262")) (turns (codes "1")) 1 14 1 (word.Pooled 1 32728) []
     (entry.Alloc 1 (place 1 8 18) ∷ entry.Alloc 2 (place 1 26 14) ∷ entry.Free 1 ∷ []) refl refl
-    refl refl refl refl refl (refl, omega arith, omega arith) refl refl refl) refl refl refl refl
+    refl refl refl refl refl (refl, refl) refl refl refl) refl refl refl refl
 
 pub returns-clause-in_a_new_carrier : goal.returns-clause-in_a_new_carrier
 unfolding unused_from answer effect after step_at
 returns-clause-in_a_new_carrier c = under-setup
-    (λ setup. IsPlacement setup (turns (codes "1*518 2*514 1*513 1*3 2*4")) 1 4 (place 2 8 26))
+    (λ setup. IsPlacement setup (turns (codes "1*518 2*514 1*515 1*3 2*4")) 1 4 (place 2 8 26))
     moving_setup (moved_away []) refl
-    (created-placement moving_setup (turns (codes "1*518 2*514 1*513 1*3 2*4")) 1 4 (place 2 8 26)
-    (turns (codes "1*518 2*514 1*513")) (turns (codes "1*2 2*4 1"))
+    (created-placement moving_setup (turns (codes "1*518 2*514 1*515 1*3 2*4")) 1 4 (place 2 8 26)
+    (turns (codes "1*518 2*514 1*515")) (turns (codes "1*2 2*4 1"))
     (entry.Alloc 1 (place 1 8 14) ∷ entry.Alloc 2 (place 1 22 14) ∷ entry.Free 1 ∷ [])
     (record { name = 4; need = 26; old = Some (named 2 22) })
     (record { number = 2; base = 64; pages = 64; birth = 2; single = false })
     (record { carrier = 2; offset = 8 }) refl refl refl refl (omega arith)
-    (asked moving_setup _ (turns (codes "1*518 2*514")) (turns (codes "1*513")) 1 26
+    (asked moving_setup _ (turns (codes "1*518 2*514")) (turns (codes "1*515")) 1 26
     (entry.Alloc 1 (place 1 8 14) ∷ entry.Alloc 2 (place 1 22 14) ∷ entry.Free 1 ∷ []) _ refl refl
     (refl, refl) refl refl) refl refl refl refl
     refl refl)

@@ -31,3 +31,11 @@ returns-clause-left_in_a_walk c = refl
 pub returns-clause-fetched : goal.returns-clause-fetched
 unfolding unused_from answer effect after step_at
 returns-clause-fetched c = refl
+
+pub returns-clause-no_failure_fetching_back : goal.returns-clause-no_failure_fetching_back
+unfolding unused_from answer effect after step_at
+returns-clause-no_failure_fetching_back c = refl
+
+pub returns-clause-fetched_back : goal.returns-clause-fetched_back
+unfolding unused_from answer effect after step_at
+returns-clause-fetched_back c = refl
