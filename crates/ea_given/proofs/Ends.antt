@@ -35,7 +35,7 @@ use Rattle.ea_shared.specs.Memory.{Sharing, shared_of}
 use Rattle.ea_sched.specs.declared.state.Scheduler.{Scheduler}
 use Rattle.ea_sched.specs.Acting.{actor_of, is_ended, setup_for, stop_line}
 use Rattle.ea_outcome.specs.Resting.{StandIn}
-use Rattle.ea_given.specs.Running.{AllEnded, AllStand, AllStandAt, AllTook, CompletesTo, IsAfter}
+use Rattle.ea_given.specs.Running.{AllRanOut, AllStand, AllStandAt, AllTook, CompletesTo, IsAfter}
 use Rattle.ea_given.specs.Running.{SharesAt, Stands, StandsAt, Took}
 use Rattle.ea_given.proofs.Running.{ended-is}
 
@@ -401,7 +401,7 @@ module _ (c : Config) (t : Trace) (turns : List Turns) (same : turns ≡ turns_o
     (ss us vs : List Scheduler) (m n p : Sharing)
     (shares : SharesAt c t m (start (setup_of c t)))
     (stand : AllStandAt c t (setup_of c t).stops ss (start (setup_of c t)))
-    (took : AllTook (turns_from turns) ss m us n) (completed : AllEnded us n vs p) where
+    (took : AllTook (turns_from turns) ss m us n) (completed : AllRanOut us n vs p) where
   pub end-stands : SharesAt c t p (end_of (setup_of c t) t.mode)
       × AllStandAt c t (λ _. Some 0) vs (end_of (setup_of c t) t.mode)
   end-stands =

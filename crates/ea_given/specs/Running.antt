@@ -28,7 +28,7 @@ module _ (c : Config) (t : Trace) where
     pub shares : shared_of shared ≡ state.shared
 
   -- it is scheduler `me` of the run as that stands in the state, and had memory so far; if it
-  -- hasn't ended, it has so many steps left until its stop
+  -- hasn't ended, it has that many steps left until its stop
   pub record StandsAt (me : ℕ) (steps : Option ℕ) (s : Scheduler) (state : State) : Type 0 where
     pub config : s.config ≡ c
     pub trace : s.trace.now ≡ t
@@ -57,7 +57,7 @@ Stands s shared = (c : Config) × (t : Trace) × (me : ℕ) × (steps : Option �
     × SharesAt c t shared state × StandsAt c t me steps s state
 
 -- in whatever state the scheduler stood, it has taken these turns there, by the steps that were
--- left until its stop, and so many are left after them
+-- left until its stop, and what is left after them
 abbrev pub TookOf : (Setup → State → Option ℕ → ℕ → List ℕ) → (Option ℕ → Option ℕ) → Scheduler
     → Sharing → Scheduler → Sharing → Type 0
 TookOf turns left s shared stepped after =
@@ -67,7 +67,7 @@ TookOf turns left s shared stepped after =
     let v = run_on e state (turns e state steps me) in
     SharesAt c t after v × StandsAt c t me (left steps) stepped v)
 
--- it has taken so many turns, those after its stop left out
+-- it has taken that many turns, those after its stop left out
 abbrev pub Took : ℕ → Scheduler → Sharing → Scheduler → Sharing → Type 0
 Took count = TookOf (λ e w steps me. up_to steps (replicate count me)) (λ steps. less steps count)
 
@@ -75,7 +75,7 @@ Took count = TookOf (λ e w steps me. up_to steps (replicate count me)) (λ step
 abbrev pub TookAll : Scheduler → Sharing → Scheduler → Sharing → Type 0
 TookAll = TookOf finishing (λ _. Some 0)
 
--- so many steps at least are left until a stop
+-- that many steps at least are left until a stop
 abbrev pub HasLeft : ℕ → Option ℕ → Type 0
 HasLeft count None = Unit {0}
 HasLeft count (Some left) = count ≤ left
@@ -99,8 +99,8 @@ abbrev pub AllTook : List ℕ → List Scheduler → Sharing → List Scheduler 
 AllTook turns = AllTookOf (λ e w steps. cut steps turns) (λ steps. left_by steps turns)
 
 -- each of them in order has taken all turns until it ended or was stopped
-abbrev pub AllEnded : List Scheduler → Sharing → List Scheduler → Sharing → Type 0
-AllEnded = AllTookOf (λ e w steps. completing e steps e.schedulers 1 w) (λ steps me. Some 0)
+abbrev pub AllRanOut : List Scheduler → Sharing → List Scheduler → Sharing → Type 0
+AllRanOut = AllTookOf (λ e w steps. completing e steps e.schedulers 1 w) (λ steps me. Some 0)
 
 -- the scheduler alone, as it would stand in a state with that memory
 abbrev pub alone_in : Scheduler → Sharing → State
@@ -111,7 +111,7 @@ abbrev pub work_left : Scheduler → Sharing → ℕ
 work_left s shared = work (setup_for s) (alone_in s shared) s.number
 
 -- the run of the scheduler to its end, which leads to a state, is still to come from that state on,
--- where so many steps are left until its stop
+-- where that many steps are left until its stop
 abbrev pub LeadsTo : Setup → ℕ → Option ℕ → State → State → Type 0
 LeadsTo setup me steps target state = (most : ℕ) × (work setup state me ≤ most)
     × (target ≡ run_on setup state
@@ -123,7 +123,7 @@ abbrev pub CompletesTo : Setup → (ℕ → Option ℕ) → ℕ → State → St
 CompletesTo setup steps first target state = (rest : ℕ) × (first + rest ≡ setup.schedulers)
     × (target ≡ run_on setup state (completing setup steps rest (first + 1) state))
 
--- the first ones have taken all their turns, and the others have so many steps left as before
+-- the first ones have taken all their turns, and the others have as many steps left as before
 pub record IsAfter (steps : ℕ → Option ℕ) (first : ℕ) (now : ℕ → Option ℕ) : Type 0 where
   pub over : (i : ℕ) → i ≤ first → now i ≡ Some 0
   pub still : (i : ℕ) → first < i → now i ≡ steps i

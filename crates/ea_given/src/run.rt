@@ -9,7 +9,7 @@ ghost use Rattle.ea_machine.specs.Machine.{start};
 ghost use Rattle.ea_sound.specs.MachineLaws.{Protocol};
 ghost use Rattle.ea_machine.specs.Outcome as machine;
 ghost use Rattle.ea_machine.specs.Setup.{setup_of};
-ghost use Rattle.ea_given.specs.Running.{AllEnded, AllStand, AllStandAt, AllTook, HasLeft};
+ghost use Rattle.ea_given.specs.Running.{AllRanOut, AllStand, AllStandAt, AllTook, HasLeft};
 ghost use Rattle.ea_given.specs.Running.{IsAtEnd, Stands, Took, TookAll};
 
 use ea_mbc::Mbc;
@@ -172,7 +172,7 @@ fn complete(
     shared: &mut MemShared<Mbc>,
 ) -> Result<(), OutOfMemory>
     requires { AllStand schedulers.old shared.old }
-    ensures { OnOk result (AllEnded schedulers.old shared.old schedulers.new shared.new) }
+    ensures { OnOk result (AllRanOut schedulers.old shared.old schedulers.new shared.new) }
 {
     for scheduler in schedulers.iter_mut() {
         run_out(scheduler, alloc, shared)?;

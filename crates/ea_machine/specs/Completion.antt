@@ -111,12 +111,12 @@ module _ (setup : Setup) where
   ending (suc most) w me stage =
       let v = step setup w me in me ∷ ending most v me (v.actors me).stage
 
-  -- its turns until it has ended or, with so many steps left until its stop, is stopped
+  -- its turns until it has ended or, with that many steps left until its stop, is stopped
   abbrev pub finishing : State → Option ℕ → ℕ → List ℕ
   finishing w left me = up_to left (ending (work w me) w me (w.actors me).stage)
 
   -- the turns until each of `count` schedulers from `me` on has ended or is stopped, one after
-  -- another, if each has so many steps left until its stop
+  -- another, if each has that many steps left until its stop
   abbrev pub completing : (ℕ → Option ℕ) → ℕ → ℕ → State → List ℕ
   completing left zero me w = []
   completing left (suc count) me w = finishing w (left me) me

@@ -88,7 +88,7 @@ module _ (setup : Setup) (me : ℕ) where
   new_carrier_by ask looked a (Ok p) = making ask p a (migration setup)
   new_carrier_by ask looked a (Err why) = logged (failed ask looked why ask.old) a
 
-  -- a new carrier is planned, after a search that counted so many words
+  -- a new carrier is planned, after a search that counted that many words
   abbrev pub new_carrier : Ask → ℕ → Actor → Actor
   new_carrier ask looked a = new_carrier_by ask looked a (plan a.instance ask.need)
 
@@ -118,7 +118,8 @@ module _ (setup : Setup) (me : ℕ) where
   seek_by ask a false = chosen_by ask a (chosen_spot a.instance ask.need)
 
   -- a block is to be placed: above the singleblock threshold in a carrier of its own, else where
-  -- the strategy chooses among the employed carriers, or in one from the pool, or in a new one
+  -- the strategy chooses among the employed carriers, or in one that a search fetches, or in a new
+  -- one
   abbrev pub seek : Ask → Actor → Actor
   seek ask a = seek_by ask a (is_alone a.instance ask.need)
 

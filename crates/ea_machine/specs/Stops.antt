@@ -18,7 +18,7 @@ abbrev pub less : Option ℕ → ℕ → Option ℕ
 less None taken = None
 less (Some left) taken = Some (left - taken)
 
--- the first of these turns of a scheduler: those that it takes if it has so many steps left
+-- the first of these turns of a scheduler: those that it takes if it has that many steps left
 abbrev pub up_to : Option ℕ → List ℕ → List ℕ
 up_to None turns = turns
 up_to (Some left) turns = take left turns
@@ -28,7 +28,7 @@ abbrev pub put_left : Option ℕ → (ℕ → Option ℕ) → ℕ → ℕ → Op
 put_left None left me = left
 put_left (Some n) left me = put left me (Some (n - 1))
 
--- those of these turns that are taken, if each scheduler has so many steps left until its stop: a
+-- those of these turns that are taken, if each scheduler has that many steps left until its stop: a
 -- turn of a stopped scheduler is none
 abbrev pub cut : (ℕ → Option ℕ) → List ℕ → List ℕ
 cut left [] = []

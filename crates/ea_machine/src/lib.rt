@@ -19,8 +19,9 @@
 //!   instance and leave it, are `Abandonment` and `Employment` of ea_model.
 //! - `Machine` puts them together: a scheduler wants a row, the row is answered, the scheduler goes
 //!   on. A run is a list of scheduler numbers, one for each step.
-//! - `Completion` adds the turns until every scheduler has ended, `Courses` has the lists of turns
-//!   that runs may be, and `Outcome` is what is printed.
+//! - `Stops` says which turns a scheduler that stops takes, `Completion` adds those until every
+//!   scheduler has ended or is stopped, `Courses` has the lists of turns that runs may be, and
+//!   `Outcome` is what is printed.
 //! - `Sums` are sums over lists and over what is numbered.
 //!
 //! When a state is sound, and what holds of each run, is said and proved in ea_sound.

@@ -189,8 +189,8 @@ impl<'t> Scheduler<'t> {
         }
     }
 
-    /// Places the block, for which nothing is chosen, in a carrier from the pool, where carriers
-    /// migrate, or in a new one.
+    /// Places the block, for which nothing is chosen, in a carrier that a search fetches, where
+    /// carriers migrate, or in a new one.
     fn seek_beyond(&mut self, alloc: Global, ask: Ask) -> Result<(), OutOfMemory>
         requires more { HasMore self.old }
         requires asked { IsAsked self.old.instance self.old ask }
@@ -211,7 +211,8 @@ impl<'t> Scheduler<'t> {
     }
 
     /// Places the block: above the singleblock threshold in a carrier of its own, else where the
-    /// strategy chooses among the employed carriers, or in one from the pool, or in a new one.
+    /// strategy chooses among the employed carriers, or in one that a search fetches, or in a new
+    /// one.
     pub(crate) fn seek(&mut self, alloc: Global, ask: Ask) -> Result<(), OutOfMemory>
         requires more { HasMore self.old }
         requires asked { IsAsked self.old.instance self.old ask }

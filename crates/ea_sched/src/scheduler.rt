@@ -160,7 +160,7 @@ impl<'t> Scheduler<'t> {
         self.ended() || is_over(self.left)
     }
 
-    /// As many of so many steps as are left until its stop.
+    /// As many of these steps as are left until its stop.
     pub fn within(&self, steps: u32) -> u32
         ensures { result ≡ option_map_or (λ left. min left steps) self.now.left steps }
     {

@@ -1,4 +1,4 @@
-//! How a scheduler searches the pool, fetches a carrier, or creates one.
+//! How a scheduler searches for a carrier, fetches one, or creates one.
 ghost use Rattle.std.specs.Prelude.{◌≡◌, ℕ, ◌-◌, ◌<◌, ◌≤◌, true, Some, OnErr, OnOk};
 ghost use Rattle.ea_machine.specs.declared.parts.Part.{Part};
 ghost use Rattle.ea_machine.specs.declared.stages.Stage.TheVariants as stage;

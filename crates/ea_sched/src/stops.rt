@@ -18,7 +18,7 @@ pub(crate) fn stop_of(stops: &[Stop], number: u32) -> Option<u32>
     None
 }
 
-/// What is left until the stop, if there is one, after so many steps more.
+/// What is left until the stop, if there is one, after that many steps more.
 pub(crate) fn less(left: Option<u32>, steps: u32) -> Option<u32>
     ensures { result ≡ stops.less left steps }
 {

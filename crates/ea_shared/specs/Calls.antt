@@ -17,7 +17,7 @@ pub record Caller : Type 0 where
   pub rest : ℕ
   pub taken : ℕ
 
--- a scheduler in a state of a run, after so many steps of its own, as the caller of a row
+-- a scheduler in a state of a run, after that many steps of its own, as the caller of a row
 abbrev pub caller_of : Setup → ℕ → State → ℕ → Caller
 caller_of setup me state taken = record {
   setup = setup;

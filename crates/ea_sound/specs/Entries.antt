@@ -73,7 +73,7 @@ IsDone setup turns s name = HasNoBlock setup turns s name
     × IsReleasedHere setup (turns ++ s ∷ []) s name (log_after setup turns s)
 
 -- what an entry tells, which s made in its step after the steps `turns`: a block was placed where
--- the strategy chooses, in the first carrier of the pool that fitted among them, or in a carrier of
+-- the strategy chooses, in the first carrier that fitted and that a search got, or in a carrier of
 -- its own; a block keeps its spot; no place was found; a name isn't held, and nothing changes; a
 -- block is gone, and s released it itself, or it went to another scheduler's queue, by who was seen
 -- to employ its carrier, or, where carriers don't migrate, owns it; a name was given, or taken,

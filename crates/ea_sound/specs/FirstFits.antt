@@ -1,4 +1,4 @@
--- Which carrier a search of the pool fetches: the first that fits, and isn't lost.
+-- Which carrier a search fetches: the first that fits, and isn't lost.
 use Rattle.std.specs.Prelude.{◌≡◌, ℕ, ◌==◌, true, List, [], ◌∷◌, ◌++◌, None, Some, count_by}
 use Rattle.std.specs.Prelude.{length}
 use Rattle.ea_model.specs.declared.carriers.Spot.{Spot}

@@ -1,4 +1,4 @@
--- What a search of the pool saw.
+-- What a search for a carrier saw.
 use Rattle.std.specs.Prelude.{◌≡◌, ◌⊎◌, ℕ, ◌<◌, ◌≤◌, Bool, true, false, ◌==◌, List, [], ◌∷◌}
 use Rattle.std.specs.Prelude.{◌++◌}
 use Rattle.ea_model.specs.Content.{Content}

@@ -5,7 +5,7 @@
 //! `specs/` say what holds:
 //!
 //! - `Sound` is when a state is sound. What it counts and where things stand and lie is said in
-//!   `Contents`, `Names`, `NodePlaces`, `Places`, `NamePlaces`, `Ranges` and `Units`.
+//!   `Contents`, `Names`, `NodePlaces`, `Places`, `NamePlaces`, `Listed`, `Ranges` and `Units`.
 //! - `Entries` is what each entry of a log tells of the turns before it, with `Turns`, `Needs`,
 //!   `Searches`, `Fetches`, `Exhausted`, `Chosen`, `HandedOver` and `Released`.
 //! - `Guarded` says that no scheduler does a row that it may not do, `Heard` which answers never
@@ -16,7 +16,8 @@
 //! in the middle of: where contents lie and carriers are, whose names stand where, and which nodes
 //! are on their way; each as a balance of sums. `Present` has what each scheduler is in the middle
 //! of, and `Leaves` what a row leaves to the local work that follows it; `Orderly`, `Blocks`,
-//! `Moments` and `Here` are words of these. `Steady`, `Standing` and `OwnWork` are what the code
+//! `Moments` and `Here` are words of these. Beside it stands what `Listed` says of the lists of own
+//! carriers. `Steady`, `Standing` and `OwnWork` are what the code
 //! and threads need beside the rule; `Releasing` and `Walking` say what a release and a walk come
 //! to where carriers don't migrate.
 //!

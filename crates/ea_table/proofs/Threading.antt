@@ -40,7 +40,7 @@ use Rattle.ea_table.specs.declared.worker.Finished.{Finished}
 use Rattle.ea_table.specs.declared.worker.Worker.{Worker}
 use Rattle.ea_table.specs.Ending.{Counts, IsCounted, IsEnd}
 use Rattle.ea_table.specs.Ruling.{acting, actor_in, caller_in}
-use Rattle.ea_table.specs.Threads.{HasEnded, IsDealt, IsFirst, IsFresh, IsOfRun}
+use Rattle.ea_table.specs.Threads.{IsAtRest, IsDealt, IsFirst, IsFresh, IsOfRun}
 use Rattle.ea_table.proofs.Rows.{moved}
 
 -- each scheduler has a text where the operations of the trace are given
@@ -87,7 +87,7 @@ module _ (c : Config) (t : Trace) (id : TableId) (i : ℕ) where
       → f.scheduler.trace ≡ w.scheduler.trace
       → (IsFalse f.memory → IsCounted f.pass.seat.me.0 f.scheduler)
       → (IsFalse f.memory → rests f.scheduler ≡ true)
-      → HasEnded c t id i f
+      → IsAtRest c t id i f
   worker-ended w is f seated number config trace named actor theirs counted rest = record {
     last = λ none. record {
       seated = seated;

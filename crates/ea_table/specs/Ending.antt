@@ -114,7 +114,7 @@ pub record IsClosedIn (c : Config) (t : Trace) (schedulers : List Scheduler) (ws
   pub given : Gives c.schedulers t.greatest ws (run (setup_of c t) turns).shared.given
   pub places : HasPlaces c.schedulers t.greatest ws xs (run (setup_of c t) turns).shared.places
 
--- a scheduler with that stop has taken so many steps, and so many are left until it
+-- a scheduler with that stop has taken that many steps, and the others are left until it
 abbrev pub Counts : Option ℕ → ℕ → Option ℕ → Type 0
 Counts None taken None = Unit {0}
 Counts None taken (Some left) = ⊥

@@ -38,7 +38,7 @@ module _ (c : Config) (t : Trace) where
     pub pass : IsDealt id i w.pass
 
   -- scheduler i has ended or is stopped, if it had memory
-  pub record HasEnded (id : TableId) (i : ℕ) (f : Finished) : Type 0 where
+  pub record IsAtRest (id : TableId) (i : ℕ) (f : Finished) : Type 0 where
     pub last : IsFalse f.memory → IsLast c t id i f
     pub rest : IsFalse f.memory → rests f.scheduler ≡ true
 

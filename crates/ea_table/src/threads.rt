@@ -6,7 +6,7 @@ ghost use Rattle.ea_model.specs.Settings.{IsValidConfig};
 ghost use Rattle.ea_model.specs.Trace.{IsValidTrace};
 ghost use Rattle.ea_sound.specs.MachineLaws.{Protocol};
 ghost use Rattle.ea_machine.specs.Setup.{setup_of};
-ghost use Rattle.ea_table.specs.Threads.{HasEnded, IsDealt, IsFresh, IsOfRun};
+ghost use Rattle.ea_table.specs.Threads.{IsAtRest, IsDealt, IsFresh, IsOfRun};
 
 use crate::board::Board;
 use crate::ending::gather;
@@ -59,7 +59,7 @@ fn run_worker<'t, G: Gate>(
         board.now.table.shared.key.trace.now }
     requires fresh { IsFresh board.now.table.shared.key.config board.now.table.shared.key.trace.now
         board.now.table.shared.table_id worker.scheduler.number worker }
-    ensures { HasEnded board.now.table.shared.key.config board.now.table.shared.key.trace.now
+    ensures { IsAtRest board.now.table.shared.key.config board.now.table.shared.key.trace.now
         board.now.table.shared.table_id worker.entry.scheduler.number result }
 {
     worker.run(alloc, board, gate)
@@ -84,7 +84,7 @@ fn run_workers<'t, R: Threads + Sync, G: Gate + Sync>(
         ≡ board.now.table.shared.key.config.schedulers) }
     ensures each { IfOk result (λ fs. (k : ℕ) (d : _)
         → k < board.now.table.shared.key.config.schedulers
-        → HasEnded board.now.table.shared.key.config board.now.table.shared.key.trace.now
+        → IsAtRest board.now.table.shared.key.config board.now.table.shared.key.trace.now
         board.now.table.shared.table_id (k + 1) (slice_index_or fs.items k d)) }
 {
     Ok(thread::map_vec(
@@ -97,7 +97,7 @@ fn run_workers<'t, R: Threads + Sync, G: Gate + Sync>(
             requires fresh { IsFresh board.now.table.shared.key.config
                 board.now.table.shared.key.trace.now board.now.table.shared.table_id
                 w.scheduler.number w }
-            ensures { HasEnded board.entry.now.table.shared.key.config
+            ensures { IsAtRest board.entry.now.table.shared.key.config
                 board.entry.now.table.shared.key.trace.now board.entry.now.table.shared.table_id
                 w.entry.scheduler.number result }
         { run_worker(w, alloc, board, gate) },

@@ -5,7 +5,7 @@ use Rattle.ea_model.specs.Trace.{IsScheduler}
 use Rattle.ea_machine.specs.Completion.{end_of}
 use Rattle.ea_machine.specs.Machine.{start}
 use Rattle.ea_machine.specs.Setup.{setup_of}
-use Rattle.ea_given.specs.Running.{AllEnded, AllStand, AllStandAt}
+use Rattle.ea_given.specs.Running.{AllRanOut, AllStand, AllStandAt}
 use Rattle.ea_given.proofs.Ends.{all-took-stand, end-stands, start-shares}
 use Rattle.ea_given.proofs.Ends.{turns-theirs, turns_from, written}
 use Rattle.ea_given.proofs.run.run_to_end.Goals as goal
@@ -71,7 +71,7 @@ returns c =
     c.in_ok-schedulers.ensures in
     let many : length us ≡ c.in_ok-schedulers.schedulers.len = c.take_schedule.auto.schedulers
     ∙ c.deref_mut.ensures.len in
-    let last = subst (λ xs. AllEnded xs c.take_schedule.new.shared vs p)
+    let last = subst (λ xs. AllRanOut xs c.take_schedule.new.shared vs p)
     (c.deref_mut-2.ensures.value ∙ written _ us _ many) c.in_ok-complete.ensures in
     let end = end-stands d t c.turns_of.result.now c.turns_of.ensures c.deref_mut.result.now us vs
     c.in_ok-shared.shared c.take_schedule.new.shared p shares stand c.in_ok-take_schedule.ensures

@@ -4,7 +4,7 @@ use Rattle.std.specs.Prelude.{IfOk}
 use Rattle.std.proofs.lemmas.Result.{IfOk-weaker}
 use Rattle.ea_sound.proofs.Protocols.{always-protocol}
 use Rattle.ea_table.specs.Ending.{IsEnd, IsLast}
-use Rattle.ea_table.specs.Threads.{HasEnded, IsFresh, IsOfRun}
+use Rattle.ea_table.specs.Threads.{IsAtRest, IsFresh, IsOfRun}
 use Rattle.ea_table.specs.declared.worker.Finished.{Finished}
 use Rattle.ea_table.proofs.Threading.{of-run, texts-many, there}
 use Rattle.ea_table.proofs.threads.run_threads.Goals as goal
@@ -33,7 +33,7 @@ gather-requires-clause-each g c = λ k d less.
     (omega (arith, less, c.in_ok-finished.ensures.all, ap (λ z. z.schedulers) e.config)) in
     subst (λ (xs : List Finished). IsLast c.args.config c.args.trace.now b.table.shared.table_id
     (k + 1) (slice_index_or xs k d)) (sym c.from_vec.ensures)
-    ((there (λ z t. HasEnded z t b.table.shared.table_id) b.table.shared.key.config
+    ((there (λ z t. IsAtRest z t b.table.shared.table_id) b.table.shared.key.config
     b.table.shared.key.trace.now c.args.config c.args.trace.now e.config e.trace fs
     c.in_ok-finished.ensures.each k d less).last had)
 
@@ -66,7 +66,7 @@ returns-clause-outcome g c =
     (IsOfRun c.args.config c.args.trace.now)
     (λ o is. of-run c.args.config c.args.trace.now c.in_ok-finished.finished.items
     (c.in_ok-finished.ensures.all ∙ ap (λ z. z.schedulers) e.config)
-    (λ k d less. (there (λ z t. HasEnded z t b.table.shared.table_id) b.table.shared.key.config
+    (λ k d less. (there (λ z t. IsAtRest z t b.table.shared.table_id) b.table.shared.key.config
     b.table.shared.key.trace.now c.args.config c.args.trace.now e.config e.trace
     c.in_ok-finished.finished.items c.in_ok-finished.ensures.each k d less).rest
     (subst (λ (fs : List Finished). (j : ℕ) (x : Finished) → j < length fs

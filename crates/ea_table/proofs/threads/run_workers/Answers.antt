@@ -1,5 +1,5 @@
 use Rattle.std.proofs.Common.{rules, ◌+◌, slice_index_or, sym, subst, arith}
-use Rattle.ea_table.specs.Threads.{HasEnded, IsFresh}
+use Rattle.ea_table.specs.Threads.{IsAtRest, IsFresh}
 use Rattle.ea_table.specs.declared.worker.Finished.{Finished}
 use Rattle.ea_table.proofs.threads.run_workers.Goals as goal
 
@@ -28,7 +28,7 @@ returns-clause-each g c = λ k d less.
     b.table.shared.table_id (k + 1)) (sym j.job_read) (c.requires.each k j.job less) in
     let m = j.call.met in
     let u : Finished = slice_index_or c.in_ok-map_vec.field-0.items k d in
-    let said : HasEnded b.table.shared.key.config b.table.shared.key.trace.now
+    let said : IsAtRest b.table.shared.key.config b.table.shared.key.trace.now
     b.table.shared.table_id j.job.scheduler.number u = search (rules, m) in
-    subst (λ n. HasEnded b.table.shared.key.config b.table.shared.key.trace.now
+    subst (λ n. IsAtRest b.table.shared.key.config b.table.shared.key.trace.now
     b.table.shared.table_id n u) w.scheduler.number said
