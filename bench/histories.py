@@ -708,12 +708,30 @@ class Moved(History):
         return me, at
 
     def steps(self, me):
-        least = sum(self.least_steps(it) for it in self.sections[me])
+        least = sum(self.least_steps(it) for it in self.sections[me]) + self.search_steps(me)
         texts = list(itertools.chain.from_iterable(self.trace.sections))
         ends, places = (sum(it[0] in words for it in texts) for words in (ENDINGS, PLACINGS))
         # A block goes to one more queue where its carrier was fetched, and an empty carrier to one.
         nodes = ends * (places + 2)
         return least, STEPS_OF_A_NODE * nodes + sum(self.most_steps(it.operation) for it in self.sections[me])
+
+    def search_steps(self, me):
+        """The steps that a section took at least for carriers that it had not used before: of the own ones each was
+        created after a search for another one, and the others were fetched."""
+        places = [it.place[0] for it in self.sections[me] if it.place and it.result != "here"]
+        first = {it for it in places if not (self.is_main(it) and owner_of(it) == me)} & self.shared_numbers()
+        own = sum(owner_of(it) == me for it in first)
+        # A look and a try for each of the others, all looks and a step that creates for each own one.
+        return 2 * (len(first) - own) + (self.looks_in_vain() + 1) * own
+
+    def shared_numbers(self):
+        """Those of carriers with several blocks."""
+        return {it.carrier for it in self.blocks.values() if not it.room}
+
+    def looks_in_vain(self):
+        """The least looks of a search that ends without a carrier."""
+        are_many = sum(not self.is_main(it) for it in self.shared_numbers()) >= MOST_LOOKED
+        return MOST_LOOKED if are_many else NUMBERS * len(self.sections)
 
     def least_steps(self, entry):
         """The steps of an operation if no queue has a block and it finds a place at once."""
@@ -722,8 +740,7 @@ class Moved(History):
             return entry.least_steps
         is_alone = word in PLACINGS and need_of(entry.operation[-1]) > self.threshold
         if result == "failed":
-            looked, numbers = entry.said[1], NUMBERS * len(self.sections)
-            return 1 if is_alone else 1 + (looked if looked == MOST_LOOKED else numbers)
+            return 1 if is_alone else 1 + self.looks_in_vain()
         return {"placed": 1, "done": 2, "queued": 4}[result] + is_alone
 
     def most_steps(self, operation):
@@ -783,8 +800,8 @@ class Moved(History):
         need, looked, cause = entry.said
         demand(need == need_of(entry.operation[-1]), f"'{entry}' does not need {need}")
         numbers = {it.carrier for it in self.blocks.values()}
-        shared = {it.carrier for it in self.blocks.values() if not (it.room or self.is_main(it.carrier))}
-        most = 0 if need > self.threshold else min(MOST_LOOKED, len(shared))
+        shared = sum(not self.is_main(it) for it in self.shared_numbers())
+        most = 0 if need > self.threshold else min(MOST_LOOKED, shared)
         demand(looked <= most, f"'{entry}' looked at {looked} carriers")
         used = sum(owner_of(it) == me and not self.is_main(it) for it in numbers) + bool(self.main)
         demand(cause != "numbers" or used >= NUMBERS, f"'{entry}' had numbers")

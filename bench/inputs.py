@@ -3,12 +3,13 @@
 
 They are the same bytes on every machine, and good under the flags +MMscs 512 +MHacul 0, with +S as many schedulers as
 they have. Those in FOLDER/strategies are for +MHlmbcs 256 and a strategy besides. Those in FOLDER/migrating are for any
-acul, the one with carriers of one page (+MHsmbcs 4 +MHlmbcs 4), the other with a main carrier of 20 MB. In filled and
+acul, staying with a main carrier of 20 MB, the others with carriers of one page (+MHsmbcs 4 +MHlmbcs 4). In filled and
 changing no allocation fails under a strategy that looks at all gaps. Good fit runs out of carriers there, and has fewer
 blocks in fewer-filled and fewer-changing; under address fit nearly each block would have a carrier, and it has blocks of
 one size in equal-filled and equal-changing. Those in FOLDER/threads end with `threads`, and the same operations by a
-schedule are in FOLDER/schedules; mingled is for carriers of 512 kB, one of them main, and mingled and contended for an
-acul of 60. That in FOLDER/generated is for +S 16 and no other flag. Those in FOLDER/live are for any strategy, and for
+schedule are in FOLDER/schedules; mingled is for carriers of 512 kB, one of them main, contended for such of 256 kB,
+searching for such of one page, and these, fetched-back and back-among-4096 for an acul of 60. Those in FOLDER/wanted are
+for that, too, and for carriers of 256 kB. In FOLDER/stops are some of the traces with stops that never come. That in FOLDER/generated is for +S 16 and no other flag. Those in FOLDER/live are for any strategy, and for
 carriers of which each scheduler has one with all its blocks: of 50 bytes for each block of one size, and of 700 for each
 of random ones, where address fit has too few carriers. Those in FOLDER/spread are for 1, 16 or 256 carriers of each
 scheduler, of 4096 kB in all for blocks of one size, and of 7168 kB for random ones. Those in FOLDER/operations and in
@@ -36,6 +37,8 @@ LARGE = 480_000
 MOST_OF_A_CARRIER = 140_000
 # A bit less, and more than the other leaves of the carrier.
 LESS_OF_A_CARRIER = 125_000
+# A bit more than half of a carrier of one page, and less than 60 percent.
+HALF_A_PAGE = 2100
 # Turns with which a scheduler makes what comes before, and then waits.
 MANY_TURNS = 100_000
 # Turns for the one who wants a carrier back, more than it takes to look at 4,096 numbers.
@@ -201,6 +204,13 @@ def tries():
     return OPENING + f"take 1 {MOST_TRIES}\nalloc 1 100\ngive 1 1\n" + CLOSING
 
 
+def with_stops(text):
+    """The same trace, in which each scheduler has a stop, after more steps than it takes."""
+    schedulers = text.count("\nscheduler ")
+    stops = "".join(f"stop {at} {MOST_TURNS}\n" for at in range(1, schedulers + 1))
+    return text.replace("\nschedule\n", f"\n{stops}schedule\n")
+
+
 def crowded(filled, kept, least, most, changes):
     """`filled` blocks of least to most bytes fill carriers of 256 kB, and random ones are freed until `kept` are left;
     then come `changes` operations, in which a random block is freed and a new one is allocated, in turn."""
@@ -272,6 +282,22 @@ def searching(schedulers, count):
             text.append(f"alloc {large} 3900\n")
             text += [f"alloc {it} {TINY}\nfree {it}\n" for it in small]
             text.append(f"free {large}\n")
+        texts.append(text)
+    return sections_of(texts) + CLOSING
+
+
+def abandoned(schedulers, count, carriers):
+    """`count` operations in all, as many of each scheduler, for carriers of one page: each has `carriers` in the pool, and
+    again and again it allocates a block for which none of them has room, so that a carrier is created."""
+    names, texts = itertools.count(1), []
+    for _ in range(schedulers):
+        text = []
+        for _ in range(carriers):
+            large, small = next(names), next(names)
+            text += [f"alloc {large} {HALF_A_PAGE}\n", f"alloc {small} {TINY}\n", f"free {small}\n"]
+        for _ in range((count // schedulers - len(text)) // 2):
+            large = next(names)
+            text += [f"alloc {large} 3900\n", f"free {large}\n"]
         texts.append(text)
     return sections_of(texts) + CLOSING
 
@@ -414,6 +440,7 @@ def main(folder):
     os.makedirs(f"{folder}/operations", exist_ok=True)
     os.makedirs(f"{folder}/carriers", exist_ok=True)
     os.makedirs(f"{folder}/wanted", exist_ok=True)
+    os.makedirs(f"{folder}/stops", exist_ok=True)
     made = {
         "comments": comments(),
         "long-comment": long_comment(),
@@ -432,6 +459,7 @@ def main(folder):
         "generated/most": f"type H\ngenerate 7 {MOST_OPERATIONS // SCHEDULERS}\nend\n",
         "carriers/one-by-one": carriers(2000),
         "migrating/searching": searching(SCHEDULERS, 100_000),
+        "migrating/abandoned": abandoned(SCHEDULERS, 100_000, 250),
         "migrating/staying": mixed(200000, 8, SMALL, 2),
         "strategies/filled": crowded(5600, 5000, 8000, 15000, 0),
         "strategies/changing": crowded(5600, 5000, 8000, 15000, 5000),
@@ -440,6 +468,8 @@ def main(folder):
         "strategies/equal-filled": crowded(5120, 4600, TWENTIETH, TWENTIETH, 0),
         "strategies/equal-changing": crowded(5120, 4600, TWENTIETH, TWENTIETH, 5000),
     }
+    for name in ("mixed-200000", "tries", "handed-over-16"):
+        made[f"stops/{name}"] = with_stops(made[name])
     made.update(live_traces())
     for name, text in wanted_back():
         made[f"wanted/{name}"] = text
