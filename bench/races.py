@@ -291,15 +291,16 @@ def some_stop(pick, operations, search, has_main, migrates):
     """After how many steps a section stops: none, some of its first operation, some more than lead to an operation or
     than a search more, nearly all, or more than there are. `search` are the steps of one that finds nothing."""
     steps = steps_before(operations, 1 if has_main else search, migrates)
-    at = pick.choice(steps)
+    often = [6 if it[0] in ("free", "realloc") else 1 for it in operations]
+    at = pick.choices(steps, [*often, 1])[0]
     kinds = [
         (1, 0),
         (2, pick.randrange(max(*steps[:2], 2))),
-        (6, at + pick.randrange(3)),
+        (8, at + pick.randrange(4)),
         (6, at + pick.randrange(7)),
         (2, at + pick.randrange(search + 3)),
-        (3, max(steps[-1] - pick.randrange(6), 0)),
-        (2, steps[-1] + pick.randrange(8)),
+        (2, max(steps[-1] - pick.randrange(6), 0)),
+        (1, steps[-1] + pick.randrange(8)),
         (1, pick.choice([2 * steps[-1], MOST_STEPS])),
     ]
     return pick.choices([it for _, it in kinds], [often for often, _ in kinds])[0]
