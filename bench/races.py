@@ -205,6 +205,12 @@ class Sections:
         patience = LITTLE_PATIENCE if giver in self.stopping else PATIENCE
         self.take(me, name, 1 if me in self.counting else patience)
 
+    def abandon(self, me):
+        """Allocates some blocks and frees two: where carriers migrate the first free mostly abandons their carrier, and the
+        second one makes it busy."""
+        for name in [self.alloc(me, self.pick.randrange(300)) for _ in range(self.pick.randint(2, 3))][:2]:
+            self.free(me, name)
+
     def linger(self, me, tries):
         """Tries for a block of its own that it gives itself at the end of its section."""
         name = next(self.names)
@@ -296,7 +302,8 @@ def some_stop(pick, operations, search, has_main, migrates):
     kinds = [
         (1, 0),
         (2, pick.randrange(max(*steps[:2], 2))),
-        (8, at + pick.randrange(4)),
+        (4, steps[min(pick.randrange(6), len(operations))] + pick.randrange(5)),
+        (6, at + pick.randrange(4)),
         (6, at + pick.randrange(7)),
         (2, at + pick.randrange(search + 3)),
         (2, max(steps[-1] - pick.randrange(6), 0)),
@@ -326,6 +333,9 @@ def race(number):
         few = pick.randint(1, schedulers if pick.random() < 0.2 else schedulers // 2)
         made.stopping = set(pick.sample(range(schedulers), few))
         made.counting = {it for it in made.stopping if pick.random() < 0.8}
+    if "acul" in values:
+        for it in sorted(made.counting):
+            made.abandon(it)
     if pick.random() < 0.8:
         made.meet()
     for _ in range(schedulers * pick.randint(1, 20)):
