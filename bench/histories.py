@@ -6,12 +6,20 @@ its place. These have to fit together. Where carriers don't migrate, only its ow
 lines of one section tell which of its blocks lie there at the same time, up to those that others queued and whose
 release no line tells. Where they migrate (`Moved`) less is known: two blocks that were placed over each other have an
 order, and those that no line ended lie there in the end.
+
+Of a scheduler that stopped the log is a front. Its steps are counted: where carriers don't migrate, those of its lines
+are known up to what others queued, and else there is a least and a most. They tell how far it may be in the operation
+without a line: what it held may be in its hand, a block may be placed that no line tells, and a node that it didn't link
+keeps all that its owner takes out of the queue with it. Where carriers migrate, it may also have one in its hand, which
+is busy or empty.
 """
 import itertools
 import re
-from dataclasses import dataclass
+from dataclasses import dataclass, field
 
 NUMBERS = 256
+ENDINGS = ("free", "realloc")
+PLACINGS = ("alloc", "realloc")
 HEADER = 8
 PAGE = 512
 UNITS_OF_A_KB = 128
@@ -22,6 +30,10 @@ N = "(0|[1-9][0-9]*)"
 PLACE = f"{N} {N} {N}"
 FAIL = f"fail need {N} looked {N} (space|numbers)"
 MOST_LOOKED = 16
+MOST_LISTED = 2 * 8
+# A node costs no more steps than this, each time that it is in a queue, and an operation no more beside its search.
+STEPS_OF_A_NODE = 9
+STEPS_OF_A_ROUTE = 12
 FIGURES = " ".join(f"{it} {N} {N} {N}" for it in ("blocks", "blocks_size", "carriers", "carriers_size"))
 # What may follow the words of its operation that a line repeats.
 FORMS = {
@@ -94,8 +106,42 @@ class Entry:
         """Whether it has steps after the one in which it begins."""
         return self.result in ("given", "got", "absent", "queued")
 
+    @property
+    def least_steps(self):
+        """Its steps if no queue has a block, where carriers don't migrate; of a take that got its block, if it did so at
+        once."""
+        if self.result == "absent":
+            return 1 + self.operation[-1]
+        return {"given": 2, "got": 2, "queued": 3}.get(self.result, 1)
+
     def __str__(self):
         return " ".join(map(str, self.operation))
+
+
+@dataclass
+class Halt:
+    """What a scheduler that stopped may have done of the operation that has no line: `least` and `most` are the steps of
+    it. `old` is the block that it frees or replaces, if it held its name, and `need` what a block needs in its place."""
+
+    least: int
+    most: int
+    old: object = None
+    need: int = None
+    # Of each carrier that it employs whether the known blocks fit alone, and the sizes of one more with which they do.
+    fits: list = field(default_factory=list)
+
+    def lives(self):
+        """By how much the units of live blocks may differ from those of the blocks that no line ended."""
+        if not self.old:
+            return {0}
+        gone = {-self.old.size} if self.most else set()
+        if not self.need:
+            return gone | ({0} if self.least <= 0 else set())
+        others = [sizes for alone, sizes in self.fits if not alone]
+        kept = {0} if self.least <= 0 and not others else set()
+        sizes = set.union(*(sizes for _, sizes in self.fits)) if self.fits and not others else set()
+        sizes = others[0] if len(others) == 1 else sizes
+        return kept | {it + size for it in gone for size in sizes}
 
 
 @dataclass
@@ -180,15 +226,30 @@ def entry_of(operation, lines):
     raise Wrong(f"'{line}' is no line of '{' '.join(map(str, operation))}'")
 
 
+def log_of(operations, stop, lines):
+    """The entries of a section, and whether it stopped: then it has those of a front."""
+    entries = []
+    while not lines or not lines[-1].startswith("stopped "):
+        if len(entries) == len(operations):
+            return entries, False
+        entries.append(entry_of(operations[len(entries)], lines))
+    line = lines.pop()
+    demand(stop is not None, f"'{line}' of one that has no stop")
+    demand(line == f"stopped {stop}", f"'{line}' in place of 'stopped {stop}'")
+    return entries, True
+
+
 def read(trace, text):
-    """The entries of each section, the carriers and the numbers of the total line."""
+    """The entries of each section, those that stopped, the carriers and the numbers of the total line."""
     demand(text.endswith("\n"), "the last line has no end")
     lines = text[:-1].split("\n")[::-1]
-    sections = []
-    for number, operations in enumerate(trace.sections, 1):
+    sections, stopped = [], set()
+    for me, operations in enumerate(trace.sections):
         line = next_line(lines)
-        demand(line == f"scheduler {number}", f"'{line}' in place of 'scheduler {number}'")
-        sections.append([entry_of(it, lines) for it in operations])
+        demand(line == f"scheduler {me + 1}", f"'{line}' in place of 'scheduler {me + 1}'")
+        entries, is_stopped = log_of(operations, trace.stops.get(me), lines)
+        sections.append(entries)
+        stopped |= {me} if is_stopped else set()
     carriers = []
     while len(lines) > 1:
         line = lines.pop()
@@ -198,12 +259,13 @@ def read(trace, text):
     line = next_line(lines)
     match = TOTAL.fullmatch(line)
     demand(match, f"'{line}' is no line of totals")
-    return sections, carriers, numbers_in(match)
+    return sections, stopped, carriers, numbers_in(match)
 
 
 class Order:
     """What is known of the order of steps: `first` and `last` have for each section and each of its operations the step
-    in which the operation itself begins, after its queue, and its last one. The end of a section is one step more."""
+    in which the operation itself begins, after its queue, and its last one. The end of a section is one step more, or, of one
+    that stopped, the begin of its next operation, if there was one."""
 
     def __init__(self, sections):
         self.first, self.last, self.steps, self.after = [], [], [], []
@@ -245,17 +307,20 @@ class Order:
 
 class History:
     """What an output tells: `gives` has the section and the operation that gave each name, `queuings` for each
-    scheduler those that put a block in its queue."""
+    scheduler those that put a block in its queue. `halts` has those that stopped, and `hangings` for each scheduler those
+    that may have put a block in its queue without a link."""
 
     def __init__(self, trace, text):
         self.trace = trace
         self.values = trace.values
         self.threshold = trace.values["sbct"] * UNITS_OF_A_KB
         self.main = -(-trace.values["mmbcs"] // KB_OF_A_PAGE)
-        self.sections, self.carriers, self.total = read(trace, text)
+        self.sections, stopped, self.carriers, self.total = read(trace, text)
+        self.halts = dict.fromkeys(stopped)
         self.order = Order(self.sections)
         self.blocks = {}
         self.queuings = [[] for _ in self.sections]
+        self.hangings = [[] for _ in self.sections]
         self.gives = {
             entry.operation[1]: (me, at)
             for me, entries in enumerate(self.sections)
@@ -265,8 +330,9 @@ class History:
 
     def check(self):
         self.note_places()
-        for me in range(len(self.sections)):
-            self.follow(me)
+        held = [self.follow(me) for me in range(len(self.sections))]
+        for me, steps in self.trace.stops.items():
+            self.count_steps(me, steps, held[me])
         self.order_places()
         self.order.close()
         for me, entries in enumerate(self.sections):
@@ -305,6 +371,9 @@ class History:
         used = sum(it.owner == me for it in self.blocks.values()) + bool(self.main)
         demand((number - 1) % NUMBERS <= used, f"'{entry}' placed in a carrier whose number is too large")
 
+    def is_main(self, number):
+        return self.main > 0 and number % NUMBERS == 1
+
     def birth_of(self, _, at):
         return at
 
@@ -336,7 +405,7 @@ class History:
         return False, (need,), least if shrinks and is_much else old.room
 
     def follow(self, me):
-        """Goes through a section with the names that it holds."""
+        """Goes through a section with the names that it holds, and answers them."""
         held, got = set(), set()
         for at, entry in enumerate(self.sections[me]):
             word, *rest = entry.operation
@@ -350,6 +419,60 @@ class History:
                 held.remove(rest[0])
             if entry.place or entry.result == "got":
                 held.add(rest[-2])
+        return held
+
+    def count_steps(self, me, stop, held):
+        """Has the steps of a section fit its stop, and notes how far it may be in what has no line."""
+        least, most = self.steps(me)
+        if me not in self.halts:
+            demand(least < stop, f"{me + 1} took {least + 1} steps and had to stop after {stop}")
+            return
+        at, operations = len(self.sections[me]), self.trace.sections[me]
+        operation = operations[at] if at < len(operations) else ("end",)
+        halt = self.halts[me] = Halt(stop - most, stop - least, self.left_block(me, operation, held))
+        demand(halt.most >= 0, f"{me + 1} took {least} steps and had to stop after {stop}")
+        left = self.steps_left(operation, halt, held)
+        demand(halt.least <= left, f"{me + 1} took {most + left} steps at most and did not stop before {stop}")
+        if halt.old:
+            halt.need = need_of(operation[-1]) if operation[0] == "realloc" else None
+            self.leave_block(me, at, halt)
+
+    def steps(self, me):
+        """The least and the most steps of the lines of a section. A block that others queued is passed in one, and may be
+        found without its link in another one before."""
+        least = sum(it.least_steps for it in self.sections[me])
+        more = sum(it.operation[-1] - 1 for it in self.sections[me] if it.result == "got")
+        maybe = sum(self.may_queue(other, me) for other in self.halts if other != me)
+        return least, least + more + 2 * (len(self.queuings[me]) + maybe)
+
+    def may_queue(self, me, to):
+        """Whether one that stopped may have put a block in a queue, in the operation that has no line."""
+        for word, *rest in self.trace.sections[me][len(self.sections[me]) :][:1]:
+            return word in ENDINGS and rest[0] in self.blocks and self.blocks[rest[0]].owner == to
+        return False
+
+    def left_block(self, me, operation, held):
+        """The block that an operation frees or replaces in several steps, if it does."""
+        if operation[0] not in ENDINGS or operation[1] not in held:
+            return None
+        block = self.blocks.get(operation[1])
+        demand(block and not block.death, f"{me + 1} holds {operation[1]}, and there is no such block")
+        return block if self.takes_steps(me, block) else None
+
+    def takes_steps(self, me, block):
+        return block.owner != me
+
+    def steps_left(self, operation, halt, held):
+        """The most steps of an operation that isn't over."""
+        word, *rest = operation
+        if word == "take":
+            return rest[1]
+        return 2 if halt.old else word == "give" and rest[0] in held
+
+    def leave_block(self, me, at, halt):
+        """Notes a block that may be in its owner's queue without a link."""
+        if halt.most >= 2:
+            self.hangings[halt.old.owner].append((me, at))
 
     def take(self, me, at, entry, got):
         """Puts a take before or after the give of its name."""
@@ -426,9 +549,9 @@ class History:
         linked before the begin of the operation before is released."""
         first, last = self.order.first, self.order.last
         return at >= 2 and all(
-            self.order.is_before(last[section][it], last[me][at - 2])
-            or self.order.is_before(first[me][at], first[section][it])
-            for section, it in self.queuings[me]
+            self.order.is_before(first[me][at], first[section][it])
+            or (section, it) not in self.hangings[me] and self.order.is_before(last[section][it], last[me][at - 2])
+            for section, it in self.queuings[me] + self.hangings[me]
         )
 
     def lying(self, me, at):
@@ -493,28 +616,54 @@ class History:
         self.check_employer(carrier, me, text)
         inside = regions * me <= carrier.base and carrier.base + carrier.pages <= regions * (me + 1)
         demand(carrier.pages and inside, f"{text} lies outside its region")
-        is_main = self.main > 0 and carrier.number == me * NUMBERS + 1
+        is_main = self.is_main(carrier.number)
         demand((carrier.kind == "main") == is_main, f"{text} is {carrier.kind}")
         if is_main:
             demand((carrier.base, carrier.pages) == (regions * me, self.main), f"{text} is not where it was")
         is_away = carrier.standing == "returning"
-        demand(is_main or is_away or carrier.allocated, f"{text} has no block")
+        is_empty = not (is_main or is_away or carrier.allocated)
+        demand(not is_empty or self.may_be_empty(carrier), f"{text} has no block")
         room = carrier.units if carrier.kind == "single" else 0
         demand({it.room for it in sure} <= {room}, f"{text} is {carrier.kind}")
         maybe = [it for it in maybe if it.room == room]
-        demand(are_some(carrier.has, sure, maybe), f"{text} has other blocks")
+        alone, sizes = are_some(carrier.has, sure, maybe), self.untold_sizes(carrier, sure, maybe)
+        demand(alone or sizes, f"{text} has other blocks")
+        if carrier.employer - 1 in self.halts:
+            self.halts[carrier.employer - 1].fits.append((alone, sizes))
+
+    def may_be_empty(self, _):
+        return False
+
+    def untold_sizes(self, carrier, sure, maybe):
+        """The sizes of a block with which those of a carrier fit that its employer may have placed before it stopped."""
+        halt = self.halts.get(carrier.employer - 1)
+        if not halt or not halt.need or halt.most < 1 or carrier.standing != "employed":
+            return set()
+        is_single = carrier.kind == "single"
+        if is_single != (halt.need > self.threshold):
+            return set()
+        places = {HEADER, *(it.end for it in (*sure, *maybe))}
+        sizes = [halt.need] if is_single else [halt.need, halt.need + 2, halt.need + 4]
+        fits = lambda at, size: are_some(carrier.has, [*sure, Block(carrier.number, at, size, 0, None)], maybe)
+        return {size for size in sizes if any(fits(at, size) for at in places)}
 
     def check_employer(self, carrier, me, text):
         demand(carrier.owner == carrier.employer == me + 1, f"{text} has another owner or employer than {me + 1}")
         demand(carrier.standing == "employed", f"{text} is {carrier.standing}")
 
+    def has_no_line(self, section, at):
+        """Whether an operation is that of one that stopped in it."""
+        return at == len(self.sections[section])
+
     def check_totals(self):
         carriers, allocated = len(self.carriers), sum(it.allocated for it in self.carriers)
         units = sum(it.units for it in self.carriers)
-        live = sum(it.size for it in self.blocks.values() if not it.death)
+        lives = {sum(it.size for it in self.blocks.values() if not it.death or self.has_no_line(*it.death))}
+        for halt in self.halts.values():
+            lives = {live + more for live in lives for more in halt.lives()}
         free = units - allocated - HEADER * carriers
-        due = carriers, units, live, allocated - live, free, HEADER * carriers
-        demand(self.total == due, f"the totals are not {due}")
+        dues = [(carriers, units, live, allocated - live, free, HEADER * carriers) for live in sorted(lives)]
+        demand(self.total in dues, f"the totals are not {' or '.join(map(str, dues))}")
 
 
 def check_columns(figures, before):
@@ -533,7 +682,12 @@ def are_some(fits, sure, maybe):
 
 class Moved(History):
     """The same of a trace whose carriers migrate: blocks of all schedulers may lie in a carrier, and who frees one tells
-    neither whose it was nor in which carrier's queue it was put."""
+    neither whose it was nor in which carrier's queue it was put. `hands` are the schedulers that stopped with a carrier in
+    the hand."""
+
+    def __init__(self, trace, text):
+        super().__init__(trace, text)
+        self.hands = set()
 
     def note_places(self):
         """Blocks that another section placed before may keep their place, so these come when theirs are known."""
@@ -552,6 +706,59 @@ class Moved(History):
 
     def birth_of(self, me, at):
         return me, at
+
+    def steps(self, me):
+        least = sum(self.least_steps(it) for it in self.sections[me]) + self.search_steps(me)
+        texts = list(itertools.chain.from_iterable(self.trace.sections))
+        ends, places = (sum(it[0] in words for it in texts) for words in (ENDINGS, PLACINGS))
+        # A block goes to one more queue where its carrier was fetched, and an empty carrier to one.
+        nodes = ends * (places + 2)
+        return least, STEPS_OF_A_NODE * nodes + sum(self.most_steps(it.operation) for it in self.sections[me])
+
+    def search_steps(self, me):
+        """The steps that a section took at least for carriers that it had not used before: of the own ones each was
+        created after a search for another one, and the others were fetched."""
+        places = [it.place[0] for it in self.sections[me] if it.place and it.result != "here"]
+        first = {it for it in places if not (self.is_main(it) and owner_of(it) == me)} & self.shared_numbers()
+        own = sum(owner_of(it) == me for it in first)
+        # A look and a try for each of the others, all looks and a step that creates for each own one.
+        return 2 * (len(first) - own) + (self.looks_in_vain() + 1) * own
+
+    def shared_numbers(self):
+        """Those of carriers with several blocks."""
+        return {it.carrier for it in self.blocks.values() if not it.room}
+
+    def looks_in_vain(self):
+        """The least looks of a search that ends without a carrier."""
+        are_many = sum(not self.is_main(it) for it in self.shared_numbers()) >= MOST_LOOKED
+        return MOST_LOOKED if are_many else NUMBERS * len(self.sections)
+
+    def least_steps(self, entry):
+        """The steps of an operation if no queue has a block and it finds a place at once."""
+        word, result = entry.operation[0], entry.result
+        if word not in (*ENDINGS, *PLACINGS) or result in ("skipped", "here"):
+            return entry.least_steps
+        is_alone = word in PLACINGS and need_of(entry.operation[-1]) > self.threshold
+        if result == "failed":
+            return 1 if is_alone else 1 + self.looks_in_vain()
+        return {"placed": 1, "done": 2, "queued": 4}[result] + is_alone
+
+    def most_steps(self, operation):
+        """The most steps of an operation beside those for its queue."""
+        word, *rest = operation
+        search = 2 * (MOST_LISTED + NUMBERS * len(self.sections)) if word in PLACINGS else 0
+        return STEPS_OF_A_ROUTE + search + (rest[1] if word == "take" else 0)
+
+    def takes_steps(self, me, block):
+        return True
+
+    def steps_left(self, operation, halt, held):
+        return self.most_steps(operation)
+
+    def leave_block(self, me, at, halt):
+        """Notes a block that may be released."""
+        if halt.most >= 2:
+            halt.old.death = me, at
 
     def end_block(self, me, at, entry):
         block = self.blocks.get(entry.operation[1])
@@ -590,9 +797,14 @@ class Moved(History):
         return section != me or end < birth or end == birth and self.sections[me][birth].result == "here"
 
     def check_failure(self, me, at, entry):
-        need, looked, _ = entry.said
+        need, looked, cause = entry.said
         demand(need == need_of(entry.operation[-1]), f"'{entry}' does not need {need}")
-        demand(looked <= (0 if need > self.threshold else MOST_LOOKED), f"'{entry}' looked at {looked} carriers")
+        numbers = {it.carrier for it in self.blocks.values()}
+        shared = sum(not self.is_main(it) for it in self.shared_numbers())
+        most = 0 if need > self.threshold else min(MOST_LOOKED, shared)
+        demand(looked <= most, f"'{entry}' looked at {looked} carriers")
+        used = sum(owner_of(it) == me and not self.is_main(it) for it in numbers) + bool(self.main)
+        demand(cause != "numbers" or used >= NUMBERS, f"'{entry}' had numbers")
 
     def check_infos(self, me):
         before = {}
@@ -603,23 +815,36 @@ class Moved(History):
                     before[kind] = figures
 
     def lying(self, me, at):
-        """At the end, the blocks of carriers of a scheduler that no line ended, and those that were queued."""
+        """At the end, the blocks of carriers of a scheduler that nothing ended, and those that were queued."""
         known = [it for it in self.blocks.values() if it.owner == me]
-        queued = [it for it in known if it.death and self.result_of(it.death) == "queued"]
-        return [it for it in known if not it.death], queued
+        return [it for it in known if not it.death], [it for it in known if it.death and self.may_lie(*it.death)]
 
-    def result_of(self, death):
-        section, at = death
-        return self.sections[section][at].result
+    def may_lie(self, section, at):
+        """Whether a block may lie in its carrier after that operation, which freed or replaced it."""
+        return self.has_no_line(section, at) or self.sections[section][at].result == "queued"
 
     def check_employer(self, carrier, me, text):
         demand(carrier.owner == me + 1, f"{text} has another owner than {me + 1}")
         demand(1 <= carrier.employer <= len(self.sections), f"{text} has an employer that there is not")
-        demand(carrier.standing != "busy", f"{text} is busy when all have ended")
+        is_busy = carrier.standing == "busy"
+        demand(not is_busy or self.may_be_in_hand(carrier), f"{text} is busy, and its employer has ended")
         stays = carrier.kind == "multi" or carrier.employer == me + 1 and carrier.standing == "employed"
         demand(stays, f"{text} is {carrier.kind}, and left its owner")
         is_home = carrier.standing != "returning" or carrier.employer == me + 1
         demand(is_home, f"{text} returns to another than its owner")
+
+    def may_be_empty(self, carrier):
+        """A busy carrier is known to be in the hand of its employer."""
+        return carrier.standing == "busy" or carrier.standing == "employed" and self.may_be_in_hand(carrier)
+
+    def may_be_in_hand(self, carrier):
+        """Whether its employer may have stopped while it released a block: it has one carrier in the hand at most."""
+        me = carrier.employer - 1
+        is_free = me in self.halts and me not in self.hands
+        self.hands.add(me)
+        releases = [it.old for it in self.halts.values() if it.most >= 2]
+        queued = (it.result == "queued" for it in itertools.chain.from_iterable(self.sections))
+        return is_free and (any(releases) or any(queued))
 
 
 def check(trace, text):

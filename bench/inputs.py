@@ -3,12 +3,13 @@
 
 They are the same bytes on every machine, and good under the flags +MMscs 512 +MHacul 0, with +S as many schedulers as
 they have. Those in FOLDER/strategies are for +MHlmbcs 256 and a strategy besides. Those in FOLDER/migrating are for any
-acul, the one with carriers of one page (+MHsmbcs 4 +MHlmbcs 4), the other with a main carrier of 20 MB. In filled and
+acul, staying with a main carrier of 20 MB, the others with carriers of one page (+MHsmbcs 4 +MHlmbcs 4). In filled and
 changing no allocation fails under a strategy that looks at all gaps. Good fit runs out of carriers there, and has fewer
 blocks in fewer-filled and fewer-changing; under address fit nearly each block would have a carrier, and it has blocks of
 one size in equal-filled and equal-changing. Those in FOLDER/threads end with `threads`, and the same operations by a
-schedule are in FOLDER/schedules; mingled is for carriers of 512 kB, one of them main, and mingled and contended for an
-acul of 60. That in FOLDER/generated is for +S 16 and no other flag. Those in FOLDER/live are for any strategy, and for
+schedule are in FOLDER/schedules; mingled is for carriers of 512 kB, one of them main, contended for such of 256 kB,
+searching for such of one page, and these, fetched-back and back-among-4096 for an acul of 60. Those in FOLDER/wanted are
+for that, too, and for carriers of 256 kB. In FOLDER/stops are some of the traces with stops that never come. That in FOLDER/generated is for +S 16 and no other flag. Those in FOLDER/live are for any strategy, and for
 carriers of which each scheduler has one with all its blocks: of 50 bytes for each block of one size, and of 700 for each
 of random ones, where address fit has too few carriers. Those in FOLDER/spread are for 1, 16 or 256 carriers of each
 scheduler, of 4096 kB in all for blocks of one size, and of 7168 kB for random ones. Those in FOLDER/operations and in
@@ -32,6 +33,16 @@ LEAST = 40
 TINY = 100
 SMALL = 3000
 LARGE = 480_000
+# More than half of a carrier of 256 kB, and less than 60 percent.
+MOST_OF_A_CARRIER = 140_000
+# A bit less, and more than the other leaves of the carrier.
+LESS_OF_A_CARRIER = 125_000
+# A bit more than half of a carrier of one page, and less than 60 percent.
+HALF_A_PAGE = 2100
+# Turns with which a scheduler makes what comes before, and then waits.
+MANY_TURNS = 100_000
+# Turns for the one who wants a carrier back, more than it takes to look at 4,096 numbers.
+MOST_WANTED = 5000
 LARGEST = 524280
 # Blocks of a carrier, and how many schedulers have one of these.
 LIVE = {1000: 16, 10_000: 4, 100_000: 1, 200_000: 1}
@@ -193,6 +204,13 @@ def tries():
     return OPENING + f"take 1 {MOST_TRIES}\nalloc 1 100\ngive 1 1\n" + CLOSING
 
 
+def with_stops(text):
+    """The same trace, in which each scheduler has a stop, after more steps than it takes."""
+    schedulers = text.count("\nscheduler ")
+    stops = "".join(f"stop {at} {MOST_TURNS}\n" for at in range(1, schedulers + 1))
+    return text.replace("\nschedule\n", f"\n{stops}schedule\n")
+
+
 def crowded(filled, kept, least, most, changes):
     """`filled` blocks of least to most bytes fill carriers of 256 kB, and random ones are freed until `kept` are left;
     then come `changes` operations, in which a random block is freed and a new one is allocated, in turn."""
@@ -268,6 +286,22 @@ def searching(schedulers, count):
     return sections_of(texts) + CLOSING
 
 
+def abandoned(schedulers, count, carriers):
+    """`count` operations in all, as many of each scheduler, for carriers of one page: each has `carriers` in the pool, and
+    again and again it allocates a block for which none of them has room, so that a carrier is created."""
+    names, texts = itertools.count(1), []
+    for _ in range(schedulers):
+        text = []
+        for _ in range(carriers):
+            large, small = next(names), next(names)
+            text += [f"alloc {large} {HALF_A_PAGE}\n", f"alloc {small} {TINY}\n", f"free {small}\n"]
+        for _ in range((count // schedulers - len(text)) // 2):
+            large = next(names)
+            text += [f"alloc {large} 3900\n", f"free {large}\n"]
+        texts.append(text)
+    return sections_of(texts) + CLOSING
+
+
 def mingled(schedulers, count):
     """Some `count` operations in all, as many of each scheduler, which has about 1000 small blocks. A quarter of what it
     frees it gives to the next one, which frees it. Every hundredth block that it allocates finds no room in the main
@@ -304,24 +338,84 @@ def mingled(schedulers, count):
     return sections_of(texts)
 
 
+def abandoning(names, count):
+    """`count` operations of a scheduler: each second free leaves so little in a carrier that it is abandoned, and the next
+    block has to be placed in a carrier that is fetched."""
+    lines = []
+    for _ in range(count // 4):
+        one, other = next(names), next(names)
+        lines += [f"alloc {one} {TINY}\n", f"alloc {other} {TINY}\n", f"free {one}\n", f"free {other}\n"]
+    return lines
+
+
+def fetched_back(schedulers, count, idle=0):
+    """`count` operations in all, as many of each scheduler, which abandons its own carrier and fetches it back, again and
+    again; the schedulers after them do nothing."""
+    names = itertools.count(1)
+    texts = [[f"alloc {next(names)} {TINY}\n", *abandoning(names, count // schedulers)] for _ in range(schedulers)]
+    return sections_of([*texts, *[[]] * idle])
+
+
 def contended(schedulers, count):
-    """`count` operations in all, as many of each scheduler: each second free leaves so little in a carrier that it is
-    abandoned, and the next block has to be placed in a carrier that is fetched, whosever it was."""
-    names, texts = itertools.count(1), []
-    for _ in range(schedulers):
-        text = []
-        for _ in range(count // schedulers // 4):
-            one, other = next(names), next(names)
-            text += [f"alloc {one} {TINY}\n", f"alloc {other} {TINY}\n", f"free {one}\n", f"free {other}\n"]
-        texts.append([f"alloc {next(names)} {TINY}\n", *text])
-    return sections_of(texts)
+    """The same of schedulers without carriers of their own, which fetch those of one more: it abandons a dozen, each with
+    a block that leaves less than the next one needs, before it gives each of the others a block that they wait for."""
+    names = itertools.count(1)
+    last = []
+    for _ in range(12):
+        small = next(names)
+        last += [f"alloc {next(names)} {MOST_OF_A_CARRIER}\n", f"alloc {small} {TINY}\n", f"free {small}\n"]
+    signals = [next(names) for _ in range(schedulers)]
+    last += [f"alloc {it} {TINY}\n" for it in signals]
+    last += [f"give {it} {at}\n" for at, it in enumerate(signals, 1)]
+    waits = [f"take {it} {MOST_TRIES}\n" for it in signals]
+    return sections_of([*([it, *abandoning(names, count // schedulers)] for it in waits), last])
+
+
+def contended_turns(schedulers):
+    """The turns with which the carriers are abandoned first, and as much work as each of the others has."""
+    return f"schedule\n{schedulers + 1}*{MOST_TURNS // 2}\nend\n"
+
+
+def wanted(first, others, opening, size):
+    """A trace of sixteen schedulers that tells how many turns an allocation takes. Scheduler 1 gives block 2 to scheduler
+    2, allocates block 3 of `size` bytes, and gives it to scheduler 3: between its turns each of these tries once."""
+    texts = [[] for _ in range(SCHEDULERS)]
+    texts[0] = [*first, "give 2 2\n", f"alloc 3 {size}\n", "give 3 3\n"]
+    texts[1], texts[2] = (["take 2 1\n"] * MOST_WANTED, ["take 3 1\n"] * MOST_WANTED)
+    for me, text in others.items():
+        texts[me - 1] = text
+    return sections_of(texts) + f"schedule\n{opening}\n" + "1 2*2 3*2\n" * MOST_WANTED + "end\n"
+
+
+def wanted_back():
+    """Scheduler 1 wants a carrier back that it abandoned: it is the only one; it is the last of eight, and the others
+    have no room; or another scheduler fetched and abandoned it meanwhile."""
+    wait, much = f"take 9 {MANY_TURNS}\n", f"*{MANY_TURNS}"
+    two = [f"alloc 1 {TINY}\n", f"alloc 2 {TINY}\n", "free 1\n"]
+    # The last scheduler has a block before there is a carrier in the pool.
+    giver = {SCHEDULERS: [f"alloc 9 {TINY}\n", "give 9 1\n"]}
+    opening = f"{SCHEDULERS}*{2 + 256 * SCHEDULERS} 1{much} {SCHEDULERS}{much}"
+    yield "only", wanted([*two, wait], giver, opening, TINY)
+    names, eight = itertools.count(10), []
+    for size in [MOST_OF_A_CARRIER] * 7 + [LESS_OF_A_CARRIER]:
+        large, small = next(names), next(names)
+        eight += [f"alloc {large} {size}\n", f"alloc {small} {TINY}\n", f"free {small}\n"]
+    eight[3 * 7] = f"alloc 2 {LESS_OF_A_CARRIER}\n"
+    yield "last", wanted([*eight, wait], giver, opening, LESS_OF_A_CARRIER + 8000)
+    large = [f"alloc 5 {MOST_OF_A_CARRIER}\n", f"alloc 6 {TINY}\n", "give 6 4\n", f"take 10 {MANY_TURNS}\n"]
+    four = [f"alloc {it} {TINY}\n" for it in (7, 8, 9, 10)] + ["give 9 1\n"]
+    four += [f"take 6 {MANY_TURNS}\n", "free 7\n", "give 10 1\n"]
+    yield "was-away", wanted([*two, wait, *large], {4: four}, f"1{much} 4{much} " * 2, LESS_OF_A_CARRIER)
 
 
 def for_threads():
     """Sections that run with `threads`, and the end of the same trace by a schedule."""
     for schedulers in (1, 4):
         yield f"mingled-{schedulers}", mingled(schedulers, 200_000), CLOSING
-        yield f"contended-{schedulers}", contended(schedulers, 100_000), CLOSING
+        yield f"contended-{schedulers}", contended(schedulers, 100_000), contended_turns(schedulers)
+        yield f"fetched-back-{schedulers}", fetched_back(schedulers, 100_000), CLOSING
+    yield "back-among-4096", fetched_back(1, 100_000, SCHEDULERS - 1), CLOSING
+    yield f"searching-{SCHEDULERS}", searching(SCHEDULERS, 100_000), CLOSING
     for schedulers in (1, 2, 4):
         yield f"disjoint-{schedulers}", disjoint(schedulers, 200_000, 8, SMALL), CLOSING
         yield f"disjoint-crowded-{schedulers}", disjoint(schedulers, 200_000, 1000, TINY), CLOSING
@@ -345,6 +439,8 @@ def main(folder):
     os.makedirs(f"{folder}/spread", exist_ok=True)
     os.makedirs(f"{folder}/operations", exist_ok=True)
     os.makedirs(f"{folder}/carriers", exist_ok=True)
+    os.makedirs(f"{folder}/wanted", exist_ok=True)
+    os.makedirs(f"{folder}/stops", exist_ok=True)
     made = {
         "comments": comments(),
         "long-comment": long_comment(),
@@ -363,6 +459,7 @@ def main(folder):
         "generated/most": f"type H\ngenerate 7 {MOST_OPERATIONS // SCHEDULERS}\nend\n",
         "carriers/one-by-one": carriers(2000),
         "migrating/searching": searching(SCHEDULERS, 100_000),
+        "migrating/abandoned": abandoned(SCHEDULERS, 100_000, 250),
         "migrating/staying": mixed(200000, 8, SMALL, 2),
         "strategies/filled": crowded(5600, 5000, 8000, 15000, 0),
         "strategies/changing": crowded(5600, 5000, 8000, 15000, 5000),
@@ -371,7 +468,11 @@ def main(folder):
         "strategies/equal-filled": crowded(5120, 4600, TWENTIETH, TWENTIETH, 0),
         "strategies/equal-changing": crowded(5120, 4600, TWENTIETH, TWENTIETH, 5000),
     }
+    for name in ("mixed-200000", "tries", "handed-over-16"):
+        made[f"stops/{name}"] = with_stops(made[name])
     made.update(live_traces())
+    for name, text in wanted_back():
+        made[f"wanted/{name}"] = text
     for name, text in without_change():
         made[f"operations/{name}"] = text
     for name, sections, closing in for_threads():

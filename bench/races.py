@@ -4,6 +4,10 @@
 most of them all schedulers meet before their operations, so that these run beside each other, and in some once more
 after them, so that all queues are worked off in the end. `duel` makes one of two schedulers that meet and then have at
 most three operations each, and tells which lists of turns lead to all that these can give; there no carrier migrates.
+
+In a third of both some schedulers stop. How many steps one takes that waits for another is not known before. So most of
+those that stop take no part in the meeting but by a block that they give: in place of waiting they try for a block that
+isn't there, as often as it says, and stop after about as many steps as lead to one of their operations.
 """
 import itertools
 import math
@@ -11,6 +15,8 @@ import random
 from dataclasses import dataclass, field
 
 LETTERS = "BDEHLRST"
+NUMBERS = 256
+STOPPING = 1 / 3
 STRATEGIES = "bf aobf aoff aoffcbf aoffcaobf ageffcaoff ageffcbf ageffcaobf gf af".split()
 DEFAULTS = {
     "as": "aoffcbf",
@@ -45,8 +51,13 @@ CHOICES = {
 PAGES_OF_A_MB = 256
 KB_OF_A_PAGE = 4
 LARGEST_NAME = 2**18
-# So many tries wait some milliseconds for a block.
+# So many tries wait some milliseconds for a block, and so many for one whose giver may stop before.
 PATIENCE = 500_000
+LITTLE_PATIENCE = 20_000
+# So many tries take as long as the other threads need to begin, mostly.
+LINGERING = [1000, 3000, 10_000, 20_000]
+LONG_ENOUGH = 5000
+MOST_STEPS = 10**8
 LEAST_SCHEDULES, MOST_SCHEDULES = 100, 20_000
 TRIES = [1, 1, 3, 50, 1000, 20000]
 FEW_TRIES = [1, 2]
@@ -57,19 +68,22 @@ SETTLING = [("idle",), ("idle",)]
 
 @dataclass
 class Trace:
-    """Flags and the operations of each section; `regions` are the pages of each scheduler."""
+    """Flags and the operations of each section; `regions` are the pages of each scheduler, `stops` the steps after which
+    some of them stop, by their number from 0."""
 
     letter: str
     words: list
     values: dict
     regions: int
     sections: list
+    stops: dict
 
     def text(self, ending="threads\n"):
         lines = [f"type {self.letter}\n"]
         for number, operations in enumerate(self.sections, 1):
             lines.append(f"scheduler {number}\n")
             lines += [" ".join(map(str, it)) + "\n" for it in operations]
+        lines += [f"stop {me + 1} {steps}\n" for me, steps in self.stops.items()]
         return "".join(lines) + ending + "end\n"
 
 
@@ -100,7 +114,8 @@ class Duel(Trace):
 
 class Sections:
     """Sections in the making, with what each may name: `held` is what a section holds if all allocations and takes
-    succeed, `named` what its lines made or took, `offered` what it may take."""
+    succeed, `named` what its lines made or took, `offered` what it may take. Those of `stopping` may stop before they
+    give a block, and those of `counting` wait for none."""
 
     def __init__(self, pick, schedulers, names, threshold, often=None, tries=None):
         self.pick = pick
@@ -113,6 +128,9 @@ class Sections:
         self.named = [[] for _ in range(schedulers)]
         self.offered = [[] for _ in range(schedulers)]
         self.given = set()
+        self.stopping = set()
+        self.counting = set()
+        self.lent = []
 
     def makes(self, me, name):
         for known in (self.held[me], self.named[me]):
@@ -182,18 +200,43 @@ class Sections:
         else:
             self.alloc(me, self.size())
 
+    def wait(self, me, name, giver):
+        """Waits for a block of the giver, or for nothing: then it tries for the block once."""
+        patience = LITTLE_PATIENCE if giver in self.stopping else PATIENCE
+        self.take(me, name, 1 if me in self.counting else patience)
+
+    def abandon(self, me):
+        """Allocates some blocks and frees two: where carriers migrate the first free mostly abandons their carrier, and the
+        second one makes it busy."""
+        for name in [self.alloc(me, self.pick.randrange(300)) for _ in range(self.pick.randint(2, 3))][:2]:
+            self.free(me, name)
+
+    def linger(self, me, tries):
+        """Tries for a block of its own that it gives itself at the end of its section."""
+        name = next(self.names)
+        self.texts[me] += [("alloc", name, 0), ("take", name, tries)]
+        self.lent.append((me, name))
+
+    def give_back(self):
+        """The ends of the sections that lingered."""
+        for me, name in self.lent:
+            self.texts[me].append(("give", name, me + 1))
+
     def meet(self):
-        """Each scheduler waits until all others have come so far."""
-        middle = self.pick.randrange(len(self.texts))
-        others = [it for it in range(len(self.texts)) if it != middle]
+        """Each scheduler waits until all others have come so far, but for those that count their steps."""
+        all_of_them = range(len(self.texts))
+        middle = self.pick.choice([it for it in all_of_them if it not in self.stopping] or all_of_them)
+        others = [it for it in all_of_them if it != middle]
         there = [(it, self.alloc(it), self.alloc(middle)) for it in others]
         for it, coming, _ in there:
             self.give(it, coming, middle)
-        for _, coming, _ in there:
-            self.take(middle, coming, PATIENCE)
+        for it in sorted(self.counting):
+            self.linger(it, self.pick.choice(LINGERING))
+        for it, coming, _ in there:
+            self.wait(middle, coming, it)
         for it, _, going in there:
             self.give(middle, going, it)
-            self.take(it, going, PATIENCE)
+            self.wait(it, going, middle)
 
 
 def some_values(pick, megabytes, schedulers, may_migrate):
@@ -227,6 +270,57 @@ def some_names(pick):
     return (it * stretch for it in names)
 
 
+def steps_of(operation, own, migrates):
+    """About how many steps an operation takes that places its block in a carrier that is there, and finds what it tries
+    for at once if it isn't of its own section; `own` are the names that its section makes."""
+    word, *rest = operation
+    if word == "take":
+        return 1 + rest[1] if rest[0] in own else 2
+    if word == "give":
+        return 2
+    if word not in ("free", "realloc"):
+        return 1
+    return 1 + migrates + 2 * (rest[0] not in own)
+
+
+def steps_before(operations, first, migrates):
+    """About how many steps a section takes up to each of its operations, and to its end; its first allocation takes
+    `first`."""
+    own, steps = made_by(operations), [0]
+    for operation in operations:
+        steps.append(steps[-1] + (first if operation[0] == "alloc" else steps_of(operation, own, migrates)))
+        first = 1 if operation[0] == "alloc" else first
+    return steps
+
+
+def some_stop(pick, operations, search, has_main, migrates):
+    """After how many steps a section stops: none, some of its first operation, some more than lead to an operation or
+    than a search more, nearly all, or more than there are. `search` are the steps of one that finds nothing."""
+    steps = steps_before(operations, 1 if has_main else search, migrates)
+    often = [6 if it[0] in ("free", "realloc") else 1 for it in operations]
+    at = pick.choices(steps, [*often, 1])[0]
+    kinds = [
+        (1, 0),
+        (2, pick.randrange(max(*steps[:2], 2))),
+        (4, steps[min(pick.randrange(6), len(operations))] + pick.randrange(5)),
+        (6, at + pick.randrange(4)),
+        (6, at + pick.randrange(7)),
+        (2, at + pick.randrange(search + 3)),
+        (2, max(steps[-1] - pick.randrange(6), 0)),
+        (1, steps[-1] + pick.randrange(8)),
+        (1, pick.choice([2 * steps[-1], MOST_STEPS])),
+    ]
+    return pick.choices([it for _, it in kinds], [often for often, _ in kinds])[0]
+
+
+def some_stops(pick, made, values):
+    """Has some of the sections stop, by their operations as they are now."""
+    migrates, schedulers = values.get("acul", 0) > 0, len(made.texts)
+    search = 2 + NUMBERS * schedulers if migrates else 1
+    has_main = not migrates or values.get("mmbcs", 0) > 0
+    return {me: some_stop(pick, made.texts[me], search, has_main, migrates) for me in sorted(made.stopping)}
+
+
 def race(number):
     """A trace of 2 to 8 schedulers."""
     pick = random.Random(number)
@@ -235,6 +329,13 @@ def race(number):
     values = some_values(pick, megabytes, schedulers, letter != "T")
     threshold = values.get("sbct", DEFAULTS["sbct"])
     made = Sections(pick, schedulers, some_names(pick), threshold)
+    if pick.random() < STOPPING:
+        few = pick.randint(1, schedulers if pick.random() < 0.2 else schedulers // 2)
+        made.stopping = set(pick.sample(range(schedulers), few))
+        made.counting = {it for it in made.stopping if pick.random() < 0.8}
+    if "acul" in values:
+        for it in sorted(made.counting):
+            made.abandon(it)
     if pick.random() < 0.8:
         made.meet()
     for _ in range(schedulers * pick.randint(1, 20)):
@@ -243,8 +344,10 @@ def race(number):
         made.meet()
         for it in made.texts:
             it += SETTLING
+    made.give_back()
+    stops = some_stops(pick, made, values)
     words = words_of(pick, letter, schedulers, megabytes, values)
-    return Trace(letter, words, {**DEFAULTS, **values}, megabytes * PAGES_OF_A_MB // schedulers, made.texts)
+    return Trace(letter, words, {**DEFAULTS, **values}, megabytes * PAGES_OF_A_MB // schedulers, made.texts, stops)
 
 
 def meeting(made, pick):
@@ -259,21 +362,25 @@ def meeting(made, pick):
     coming, going = made.alloc(1), made.alloc(0)
     waiting = [list(it) for it in made.offered]
     first = [turns_of(it) for it in made.texts]
+    if made.counting:
+        made.linger(0, LONG_ENOUGH)
     for me in (0, 1):
         for name in waiting[me]:
-            made.take(me, name, PATIENCE)
+            made.wait(me, name, 1 - me)
     made.give(1, coming, 0)
-    made.take(0, coming, PATIENCE)
+    made.wait(0, coming, 1)
     made.give(0, going, 1)
     opening = f"1*{first[0]} 2*{turns_of(made.texts[1])} 1*{turns_of(made.texts[0]) - first[0]}"
-    made.take(1, going, PATIENCE)
+    made.wait(1, going, 0)
     made.offered = [[], []]
     return opening
 
 
 def turns_of(operations):
-    """The turns of operations that succeed, where each take does so at once and no queue has a block."""
-    return sum(2 if it[0] in ("give", "take") else 1 for it in operations)
+    """The turns of operations that succeed, where each take of another's block does so at once and no queue has a
+    block."""
+    own = made_by(operations)
+    return sum(1 + it[2] if it[0] == "take" and it[1] in own else 2 if it[0] in ("give", "take") else 1 for it in operations)
 
 
 def made_by(operations):
@@ -325,8 +432,17 @@ def turn_words(me, texts, fronts, held):
     return words
 
 
+def cut(words, turns):
+    """As many of the words as have these turns."""
+    for count, sums in enumerate(itertools.accumulate(words), 1):
+        if sums >= turns:
+            return words[:count]
+    return words
+
+
 def duel(number):
-    """A trace of two schedulers that meet, with some lists of turns and not too many."""
+    """A trace of two schedulers that meet, with some lists of turns and not too many. In a third of them the first one
+    stops, not before they have met."""
     pick = random.Random(number)
     while True:
         made = some_duel(pick)
@@ -338,11 +454,19 @@ def some_duel(pick):
     values, letter = some_values(pick, 64, 2, False), pick.choice(LETTERS)
     threshold = min(values.get("sbct", DEFAULTS["sbct"]), 8)
     made = Sections(pick, 2, iter(range(1, 100)), threshold, TELLING_OPERATIONS, FEW_TRIES)
+    if pick.random() < STOPPING:
+        made.counting = {0}
     opening = meeting(made, pick)
     fronts = [len(it) for it in made.texts]
     held = [set(it) for it in made.held]
     for at in range(pick.randint(2, 6)):
         made.add(at % 2)
+    made.give_back()
     turns = [turn_words(me, made.texts, fronts, held[me]) for me in (0, 1)]
+    stops = {}
+    for me in made.counting:
+        left = pick.randrange(sum(turns[me]) + 2)
+        stops[me] = turns_of(made.texts[me][: fronts[me]]) + left
+        turns[me] = cut(turns[me], left)
     words = words_of(pick, letter, 2, 64, values)
-    return Duel(letter, words, {**DEFAULTS, **values}, 32 * PAGES_OF_A_MB, made.texts, opening, fronts, turns)
+    return Duel(letter, words, {**DEFAULTS, **values}, 32 * PAGES_OF_A_MB, made.texts, stops, opening, fronts, turns)
