@@ -1,6 +1,6 @@
 -- What the calls of a scheduler on carriers ask for, as what is shared is told, and what it has of
 -- a carrier by their answers.
-use Rattle.std.proofs.Common.{◌≡◌, ◌≢◌, ℕ, ◌%◌, ◌<◌, true, [], refl, sym, ap, ◌∙◌}
+use Rattle.std.proofs.Common.{◌≤◌, ◌≡◌, ◌≢◌, ℕ, ◌%◌, ◌<◌, true, [], refl, sym, ap, ◌∙◌}
 use Rattle.std.proofs.Common.{subst, arith}
 use Rattle.std.specs.Prelude.{IfSome, IsSome, None, Option, ◌+◌, length}
 use Rattle.ea_model.specs.declared.units.TheConstants.{NUMBERS}
@@ -19,6 +19,7 @@ use Rattle.ea_machine.specs.declared.stages.Stage.TheVariants.{Collecting, Route
 use Rattle.ea_machine.specs.declared.stages.Route.TheVariants.{Abandoning, Clearing, Looking}
 use Rattle.ea_machine.specs.declared.stages.Route.TheVariants.{Sending, Settling, Trying}
 use Rattle.ea_machine.specs.Actor.{Actor}
+use Rattle.ea_machine.specs.Lists.{times_listed}
 use Rattle.ea_machine.specs.Owners.{Busy, Employed}
 use Rattle.ea_machine.specs.Rows.{Answer, BusyTry, Look, Lost, Row, Saw, Won}
 use Rattle.ea_machine.specs.Setup.{Setup, migration}
@@ -57,6 +58,11 @@ module _ {stage : Stage Content} (s : Scheduler) {shared : Option Shared} {calle
   -- the instance in that state is the scheduler's
   its : (P : Instance → Type 0) → P (h.state.actors me).instance → P s.instance
   its P holds = subst (λ (a : Actor). P a.instance) h.actor holds
+
+  -- a number stands in the lists once at most
+  pub listed-once : (n : ℕ) → times_listed n s.lists.lists ≤ 1
+  listed-once n = subst (λ (a : Actor). times_listed n a.lists ≤ 1) h.actor
+      (listed.listed-once s.config s.trace.now h.config h.trace h.state h.reached me number n)
 
   module _ (why : Why) (gone : Gone) where
     -- the owner word of the carrier of the block in the hand is to be read

@@ -54,6 +54,7 @@ use Rattle.ea_sched.specs.Acting.{setup_for, standing_at}
 use Rattle.ea_sched.specs.Asking.{HasMore, IsAsked, IsHere}
 use Rattle.ea_sched.specs.Steps.{DidRow, IsReadyAt, ObservedRow}
 use Rattle.ea_sched.proofs.Calling.{left-more}
+use Rattle.ea_sched.proofs.CarrierCalling.{listed-once}
 use Rattle.ea_sched.proofs.Doing.{Answered, answered-so}
 use Rattle.ea_sched.proofs.AfterWalk.{next-placed}
 
@@ -95,8 +96,12 @@ module _ {stage : Stage Content} (s : Scheduler) {shared : Option Shared} {calle
   same-instance = ap (λ (x : Actor). x.instance) h.actor
 
   listed-here : (at : ℕ) → 1 ≤ times_listed at (w.actors me).lists
-      → 1 ≤ times_listed at s.lists.lists
-  listed-here at listed = subst (λ (x : Actor). 1 ≤ times_listed at x.lists) h.actor listed
+      → times_listed at s.lists.lists ≡ 1
+  listed-here at there = omega (
+    arith,
+    listed-once s h at,
+    subst (λ (x : Actor). 1 ≤ times_listed at x.lists) h.actor there,
+  )
 
   -- before a number that is left
   stands-before : (e : Setup) (at : ℕ) (part : Part) → HasLeft e part

@@ -5,7 +5,7 @@ use Rattle.ea_machine.specs.Rows.{Home}
 use Rattle.ea_search.specs.Rooms.{RoomyLists}
 use Rattle.ea_sched.specs.Acting.{standing_at}
 use Rattle.ea_sched.proofs.CarrierCalling.{collect-carrier, collect-mine, collect-none, collect-own}
-use Rattle.ea_sched.proofs.CarrierCalling.{collect-returned}
+use Rattle.ea_sched.proofs.CarrierCalling.{collect-returned, listed-once}
 use Rattle.ea_sched.proofs.InHand.{as-carrier, collects}
 use Rattle.ea_sched.proofs.state.Scheduler.collect.Goals as goal
 
@@ -32,6 +32,11 @@ disown-requires-clause-own g c = collect-own c.args.self.now c.requires.starts.r
 pub disown-requires-clause-not_here : goal.disown-requires-clause-not_here
 disown-requires-clause-not_here g c = collect-none c.args.self.now c.requires.starts.ready
     c.args.number refl
+
+pub remove-requires : goal.remove-requires
+remove-requires g c = record {
+  once = listed-once c.args.self.now c.requires.starts.ready c.args.number;
+}
 
 pub returns-clause-row : goal.returns-clause-row
 returns-clause-row g c = record {

@@ -12,6 +12,7 @@ use Rattle.ea_search.specs.Rooms.{RoomyLists}
 use Rattle.ea_sched.specs.Acting.{ready_of, setup_for, standing_at}
 use Rattle.ea_sched.specs.Creations.{IsCreation}
 use Rattle.ea_sched.proofs.Calling.{row-creates, row-done}
+use Rattle.ea_sched.proofs.CarrierCalling.{listed-once}
 use Rattle.ea_sched.proofs.Placing.{onward-search, onward-won}
 use Rattle.ea_sched.proofs.Seeking.{fetch-asked, fetch-before, fetch-carrier, fetch-more, fetch-on}
 use Rattle.ea_sched.proofs.Seeking.{fetch-pooled, won-apart, won-choice, won-kind, won-laid}
@@ -50,6 +51,11 @@ adopt-requires g c =
       someones = won-someones s h c.args.ask c.args.at c.args.part c.args.seen refl x
           c.in-Won.ensures.row;
     }
+
+pub won-requires : goal.won-requires
+won-requires g c = record {
+  once = listed-once c.args.self.now c.requires.starts.ready c.args.at;
+}
 
 pub place-requires : goal.place-requires
 place-requires g c =

@@ -9,6 +9,7 @@ use Rattle.ea_search.specs.Rooms.{RoomyLists}
 use Rattle.ea_machine.specs.Rows.{Done}
 use Rattle.ea_sched.specs.Acting.{setup_for, standing_at}
 use Rattle.ea_sched.specs.Turning.{HasTurned}
+use Rattle.ea_sched.proofs.CarrierCalling.{listed-once}
 use Rattle.ea_sched.proofs.CarrierCalling.{settle-busy, settle-carrier, settle-for, settle-many}
 use Rattle.ea_sched.proofs.InHand.{as-carrier, as-for, settle-wanted}
 use Rattle.ea_sched.proofs.state.Scheduler.settle.Goals as goal
@@ -24,6 +25,11 @@ settle_employed-requires-clause-busy g c =
     subst (λ n. IfSome (g.S.Shared.shared c.args.shared.now)
     (λ s. s.places n ≡ Busy c.args.self.now.number)) (sym c.number-number.ensures)
     (settle-busy c.args.self.now c.requires.starts.ready c.args.why c.args.gone c.args.content refl)
+
+pub remove-requires : goal.remove-requires
+remove-requires g c = record {
+  once = listed-once c.args.self.now c.requires.starts.ready c.number-number.result;
+}
 
 pub returns-then-is_empty-clause-row : goal.returns-then-is_empty-clause-row
 returns-then-is_empty-clause-row g c =
