@@ -283,7 +283,7 @@ def searching(schedulers, count):
             text += [f"alloc {it} {TINY}\nfree {it}\n" for it in small]
             text.append(f"free {large}\n")
         texts.append(text)
-    return sections_of(texts) + CLOSING
+    return sections_of(texts)
 
 
 def abandoned(schedulers, count, carriers):
@@ -458,7 +458,7 @@ def main(folder):
         "tries": tries(),
         "generated/most": f"type H\ngenerate 7 {MOST_OPERATIONS // SCHEDULERS}\nend\n",
         "carriers/one-by-one": carriers(2000),
-        "migrating/searching": searching(SCHEDULERS, 100_000),
+        "migrating/searching": searching(SCHEDULERS, 100_000) + CLOSING,
         "migrating/abandoned": abandoned(SCHEDULERS, 100_000, 250),
         "migrating/staying": mixed(200000, 8, SMALL, 2),
         "strategies/filled": crowded(5600, 5000, 8000, 15000, 0),
