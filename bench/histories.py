@@ -17,7 +17,7 @@ import itertools
 import re
 from dataclasses import dataclass, field
 
-NUMBERS = 256
+NUMBERS = 1024
 ENDINGS = ("free", "realloc")
 PLACINGS = ("alloc", "realloc")
 HEADER = 8

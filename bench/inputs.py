@@ -4,16 +4,18 @@
 They are the same bytes on every machine, and good under the flags +MMscs 512 +MHacul 0, with +S as many schedulers as
 they have. Those in FOLDER/strategies are for +MHlmbcs 256 and a strategy besides. Those in FOLDER/migrating are for any
 acul, staying with a main carrier of 20 MB, the others with carriers of one page (+MHsmbcs 4 +MHlmbcs 4). In filled and
-changing no allocation fails under a strategy that looks at all gaps. Good fit runs out of carriers there, and has fewer
-blocks in fewer-filled and fewer-changing; under address fit nearly each block would have a carrier, and it has blocks of
-one size in equal-filled and equal-changing. Those in FOLDER/threads end with `threads`, and the same operations by a
-schedule are in FOLDER/schedules; mingled is for carriers of 512 kB, one of them main, contended for such of 256 kB,
-searching for such of one page, and these, fetched-back and back-among-4096 for an acul of 60. Those in FOLDER/wanted are
-for that, too, and for carriers of 256 kB. In FOLDER/stops are some of the traces with stops that never come. That in FOLDER/generated is for +S 16 and no other flag. Those in FOLDER/live are for any strategy, and for
-carriers of which each scheduler has one with all its blocks: of 50 bytes for each block of one size, and of 700 for each
-of random ones, where address fit has too few carriers. Those in FOLDER/spread are for 1, 16 or 256 carriers of each
-scheduler, of 4096 kB in all for blocks of one size, and of 7168 kB for random ones. Those in FOLDER/operations and in
-FOLDER/carriers are for carriers of any size.
+changing no allocation fails under good fit or under a strategy that looks at all gaps; under address fit nearly each
+block would have a carrier, and it has blocks of one size in equal-filled and equal-changing. Those in FOLDER/threads end
+with `threads`, and the same operations by a schedule are in FOLDER/schedules; mingled is for carriers of 512 kB, one of
+them main, contended for such of 256 kB, searching for such of one page, and these, fetched-back and back-among for an
+acul of 60. Those in FOLDER/wanted are for that, too, and for carriers of 256 kB. In FOLDER/stops are some of the traces
+with stops that never come. Those in FOLDER/generated are for +S 16 and no other flag. Those in FOLDER/live are for any
+strategy, and for carriers of which each scheduler has one with all its blocks: of 50 bytes for each block of one size,
+and of 700 for each of random ones, where address fit has too few carriers. Those in FOLDER/spread are for 1, 16 or 256
+carriers of each scheduler, of 4096 kB in all for blocks of one size, and of 7168 kB for random ones. Those in
+FOLDER/operations and in FOLDER/carriers are for carriers of any size. Those in FOLDER/alone are of several schedulers of
+which the first one does all, by a schedule and as threads, for an acul of 60 and carriers of one page. Those in
+FOLDER/idle are of schedulers that do nothing, for no other flag.
 """
 import itertools
 import os
@@ -22,13 +24,22 @@ import sys
 
 OPENING = "type H\nscheduler 1\n"
 SCHEDULERS = 16
+MOST_SCHEDULERS = 64
+# Carrier numbers of each scheduler.
+NUMBERS = 1024
+# So many schedulers have 4,096 carrier numbers.
+OF_4096 = 4096 // NUMBERS
 CLOSING = "schedule\nend\n"
 LARGEST_INPUT = 2**24
 MOST_TURNS = 10**8
 MOST_TRIES = 10**7
 TRIES_IN_ALL = 10**8
-GREATEST_NAME = 2**18
-MOST_OPERATIONS = 2**18
+GREATEST_NAME = 2**20
+MOST_OPERATIONS = 2**20
+# How many schedulers there are where one works alone, and how often it does what is measured.
+ALONE = [1, 4, 16, 64]
+SEARCHES = 500
+PAIRS = 50_000
 LEAST = 40
 TINY = 100
 SMALL = 3000
@@ -81,7 +92,7 @@ def line_of_turns():
     return filled_up(OPENING + "alloc 1 100\nschedule\n", "1 ", " ", "\nend\n")
 
 
-def mixed(count, most_held, largest, seed):
+def mixed_lines(count, most_held, largest, seed):
     """count operations, a random one of at most most_held blocks freed at a time, no name used twice."""
     pick = random.Random(seed).random
     lines, held, name = [], [], 0
@@ -94,7 +105,16 @@ def mixed(count, most_held, largest, seed):
             name += 1
             held.append(name)
             lines.append(f"alloc {name} {int(pick() * (largest + 1))}\n")
-    return OPENING + "".join(lines) + CLOSING
+    return "".join(lines)
+
+
+def mixed(count, most_held, largest, seed):
+    return OPENING + mixed_lines(count, most_held, largest, seed) + CLOSING
+
+
+def most():
+    """As many operations as there may be, and a comment line up to the most bytes that an input may have."""
+    return filled_up(OPENING + mixed_lines(MOST_OPERATIONS, 8, SMALL, 5) + CLOSING, "#", "#", "")
 
 
 def stacked(count):
@@ -377,9 +397,9 @@ def contended_turns(schedulers):
 
 
 def wanted(first, others, opening, size):
-    """A trace of sixteen schedulers that tells how many turns an allocation takes. Scheduler 1 gives block 2 to scheduler
-    2, allocates block 3 of `size` bytes, and gives it to scheduler 3: between its turns each of these tries once."""
-    texts = [[] for _ in range(SCHEDULERS)]
+    """A trace of four schedulers that tells how many turns an allocation takes. Scheduler 1 gives block 2 to scheduler 2,
+    allocates block 3 of `size` bytes, and gives it to scheduler 3: between its turns each of these tries once."""
+    texts = [[] for _ in range(OF_4096)]
     texts[0] = [*first, "give 2 2\n", f"alloc 3 {size}\n", "give 3 3\n"]
     texts[1], texts[2] = (["take 2 1\n"] * MOST_WANTED, ["take 3 1\n"] * MOST_WANTED)
     for me, text in others.items():
@@ -393,8 +413,8 @@ def wanted_back():
     wait, much = f"take 9 {MANY_TURNS}\n", f"*{MANY_TURNS}"
     two = [f"alloc 1 {TINY}\n", f"alloc 2 {TINY}\n", "free 1\n"]
     # The last scheduler has a block before there is a carrier in the pool.
-    giver = {SCHEDULERS: [f"alloc 9 {TINY}\n", "give 9 1\n"]}
-    opening = f"{SCHEDULERS}*{2 + 256 * SCHEDULERS} 1{much} {SCHEDULERS}{much}"
+    giver = {OF_4096: [f"alloc 9 {TINY}\n", "give 9 1\n"]}
+    opening = f"{OF_4096}*{2 + NUMBERS * OF_4096} 1{much} {OF_4096}{much}"
     yield "only", wanted([*two, wait], giver, opening, TINY)
     names, eight = itertools.count(10), []
     for size in [MOST_OF_A_CARRIER] * 7 + [LESS_OF_A_CARRIER]:
@@ -402,10 +422,42 @@ def wanted_back():
         eight += [f"alloc {large} {size}\n", f"alloc {small} {TINY}\n", f"free {small}\n"]
     eight[3 * 7] = f"alloc 2 {LESS_OF_A_CARRIER}\n"
     yield "last", wanted([*eight, wait], giver, opening, LESS_OF_A_CARRIER + 8000)
-    large = [f"alloc 5 {MOST_OF_A_CARRIER}\n", f"alloc 6 {TINY}\n", "give 6 4\n", f"take 10 {MANY_TURNS}\n"]
+    large = [f"alloc 5 {MOST_OF_A_CARRIER}\n", f"alloc 6 {TINY}\n", f"give 6 {OF_4096}\n", f"take 10 {MANY_TURNS}\n"]
     four = [f"alloc {it} {TINY}\n" for it in (7, 8, 9, 10)] + ["give 9 1\n"]
     four += [f"take 6 {MANY_TURNS}\n", "free 7\n", "give 10 1\n"]
-    yield "was-away", wanted([*two, wait, *large], {4: four}, f"1{much} 4{much} " * 2, LESS_OF_A_CARRIER)
+    opening = f"1{much} {OF_4096}{much} " * 2
+    yield "was-away", wanted([*two, wait, *large], {OF_4096: four}, opening, LESS_OF_A_CARRIER)
+
+
+def alone():
+    """What the first of several schedulers does while the others do nothing, for carriers of one page: searches of all
+    numbers in vain, each with a carrier that is created and goes; pairs of an alloc and a free in a carrier that stays;
+    pairs of which each second abandons the carrier and each second fetches it back; blocks that it gives itself; and
+    infos. In nothing it has the one block, of the greatest name, that it has in all of them."""
+    first = f"alloc {2 * PAIRS} 2500\n"
+    yield "nothing", first
+    yield "searching", first + "".join(f"alloc {it} 3900\nfree {it}\n" for it in range(1, SEARCHES + 1))
+    yield "staying", first + "".join(f"alloc {it} {TINY}\nfree {it}\n" for it in range(1, PAIRS + 1))
+    small = f"alloc {2 * PAIRS} {TINY}\n"
+    yield "fetched-back", small + "".join(abandoning(itertools.count(1), 2 * PAIRS))
+    pieces = (f"alloc {it} {TINY}\ngive {it} 1\ntake {it} 1\nfree {it}\n" for it in range(1, PAIRS // 2 + 1))
+    yield "given-to-itself", first + "".join(pieces)
+    yield "info", first + "info\n" * PAIRS
+
+
+def alone_traces():
+    for schedulers in ALONE:
+        for name, text in alone():
+            for ending in ("schedule", "threads"):
+                sections = sections_of([text, *[""] * (schedulers - 1)])
+                yield f"alone/{name}-{schedulers}-{ending}", sections + f"{ending}\nend\n"
+
+
+def idle_traces():
+    """Schedulers without operations, as few and as many as there may be."""
+    for schedulers in (1, MOST_SCHEDULERS):
+        for ending in ("schedule", "threads"):
+            yield f"idle/{schedulers}-{ending}", sections_of([[]] * schedulers) + f"{ending}\nend\n"
 
 
 def for_threads():
@@ -414,8 +466,10 @@ def for_threads():
         yield f"mingled-{schedulers}", mingled(schedulers, 200_000), CLOSING
         yield f"contended-{schedulers}", contended(schedulers, 100_000), contended_turns(schedulers)
         yield f"fetched-back-{schedulers}", fetched_back(schedulers, 100_000), CLOSING
-    yield "back-among-4096", fetched_back(1, 100_000, SCHEDULERS - 1), CLOSING
-    yield f"searching-{SCHEDULERS}", searching(SCHEDULERS, 100_000), CLOSING
+    for schedulers, count in ((OF_4096, 100_000), (MOST_SCHEDULERS, 10_240)):
+        numbers = NUMBERS * schedulers
+        yield f"back-among-{numbers}", fetched_back(1, 100_000, schedulers - 1), CLOSING
+        yield f"searching-{numbers}", searching(schedulers, count), CLOSING
     for schedulers in (1, 2, 4):
         yield f"disjoint-{schedulers}", disjoint(schedulers, 200_000, 8, SMALL), CLOSING
         yield f"disjoint-crowded-{schedulers}", disjoint(schedulers, 200_000, 1000, TINY), CLOSING
@@ -430,17 +484,6 @@ def for_threads():
 
 
 def main(folder):
-    os.makedirs(f"{folder}/strategies", exist_ok=True)
-    os.makedirs(f"{folder}/threads", exist_ok=True)
-    os.makedirs(f"{folder}/schedules", exist_ok=True)
-    os.makedirs(f"{folder}/migrating", exist_ok=True)
-    os.makedirs(f"{folder}/generated", exist_ok=True)
-    os.makedirs(f"{folder}/live", exist_ok=True)
-    os.makedirs(f"{folder}/spread", exist_ok=True)
-    os.makedirs(f"{folder}/operations", exist_ok=True)
-    os.makedirs(f"{folder}/carriers", exist_ok=True)
-    os.makedirs(f"{folder}/wanted", exist_ok=True)
-    os.makedirs(f"{folder}/stops", exist_ok=True)
     made = {
         "comments": comments(),
         "long-comment": long_comment(),
@@ -449,28 +492,29 @@ def main(folder):
         "growing-5000": mixed(5000, 400, LARGEST, 3),
         "mixed-5000": mixed(5000, 40, SMALL, 1),
         "mixed-200000": mixed(200000, 8, SMALL, 2),
-        "mixed-262144": mixed(262144, 8, SMALL, 5),
+        f"mixed-{MOST_OPERATIONS}": most(),
         "stacked-4000": stacked(4000),
         "handed-over-1": handed_over(1, 1000, 25),
         "handed-over-16": handed_over(SCHEDULERS, 125, 25),
         "ended-turns": ended_turns(),
         "filled-512": filled_carriers(1100),
         "tries": tries(),
-        "generated/most": f"type H\ngenerate 7 {MOST_OPERATIONS // SCHEDULERS}\nend\n",
+        f"generated/{2**18}": f"type H\ngenerate 7 {2**18 // SCHEDULERS}\nend\n",
+        f"generated/{MOST_OPERATIONS}": f"type H\ngenerate 7 {MOST_OPERATIONS // SCHEDULERS}\nend\n",
         "carriers/one-by-one": carriers(2000),
-        "migrating/searching": searching(SCHEDULERS, 100_000) + CLOSING,
+        "migrating/searching": searching(OF_4096, 100_000) + CLOSING,
         "migrating/abandoned": abandoned(SCHEDULERS, 100_000, 250),
         "migrating/staying": mixed(200000, 8, SMALL, 2),
         "strategies/filled": crowded(5600, 5000, 8000, 15000, 0),
         "strategies/changing": crowded(5600, 5000, 8000, 15000, 5000),
-        "strategies/fewer-filled": crowded(5200, 4600, 8000, 15000, 0),
-        "strategies/fewer-changing": crowded(5200, 4600, 8000, 15000, 5000),
         "strategies/equal-filled": crowded(5120, 4600, TWENTIETH, TWENTIETH, 0),
         "strategies/equal-changing": crowded(5120, 4600, TWENTIETH, TWENTIETH, 5000),
     }
     for name in ("mixed-200000", "tries", "handed-over-16"):
         made[f"stops/{name}"] = with_stops(made[name])
     made.update(live_traces())
+    made.update(alone_traces())
+    made.update(idle_traces())
     for name, text in wanted_back():
         made[f"wanted/{name}"] = text
     for name, text in without_change():
@@ -479,6 +523,7 @@ def main(folder):
         made[f"threads/{name}"] = sections + "threads\nend\n"
         made[f"schedules/{name}"] = sections + closing
     for name, text in made.items():
+        os.makedirs(os.path.dirname(f"{folder}/{name}"), exist_ok=True)
         with open(f"{folder}/{name}.trace", "w", encoding="ascii", newline="\n") as file:
             file.write(text)
 

@@ -2,10 +2,11 @@
 
 `race` makes one of 2 to 8 schedulers with operations of all kinds and random flags; in half of them carriers migrate. In
 most of them all schedulers meet before their operations, so that these run beside each other, and in some once more
-after them, so that all queues are worked off in the end. `duel` makes one of two schedulers that meet and then have at
-most three operations each, and tells which lists of turns lead to all that these can give; there no carrier migrates.
+after them, so that all queues are worked off in the end. `crowd` makes such a one of 17 to 64 schedulers, whose carriers
+migrate: some of them abandon one before they meet. `duel` makes one of two schedulers that meet and then have at most
+three operations each, and tells which lists of turns lead to all that these can give; there no carrier migrates.
 
-In a third of both some schedulers stop. How many steps one takes that waits for another is not known before. So most of
+In a third of all these some schedulers stop. How many steps one takes that waits for another is not known before. So most of
 those that stop take no part in the meeting but by a block that they give: in place of waiting they try for a block that
 isn't there, as often as it says, and stop after about as many steps as lead to one of their operations.
 """
@@ -14,8 +15,11 @@ import math
 import random
 from dataclasses import dataclass, field
 
+from histories import NUMBERS
+
 LETTERS = "BDEHLRST"
-NUMBERS = 256
+MOST_SCHEDULERS = 64
+FEWEST_OF_MANY = 17
 STOPPING = 1 / 3
 STRATEGIES = "bf aobf aoff aoffcbf aoffcaobf ageffcaoff ageffcbf ageffcaobf gf af".split()
 DEFAULTS = {
@@ -50,9 +54,11 @@ CHOICES = {
 }
 PAGES_OF_A_MB = 256
 KB_OF_A_PAGE = 4
-LARGEST_NAME = 2**18
-# So many tries wait some milliseconds for a block, and so many for one whose giver may stop before.
+LARGEST_NAME = 2**20
+# So many tries wait some milliseconds for a block, and so many for one whose giver may stop before. Where there are many
+# schedulers all their tries have to stay below the most that a trace may have.
 PATIENCE = 500_000
+PATIENCE_OF_MANY = 200_000
 LITTLE_PATIENCE = 20_000
 # So many tries take as long as the other threads need to begin, mostly.
 LINGERING = [1000, 3000, 10_000, 20_000]
@@ -117,8 +123,9 @@ class Sections:
     succeed, `named` what its lines made or took, `offered` what it may take. Those of `stopping` may stop before they
     give a block, and those of `counting` wait for none."""
 
-    def __init__(self, pick, schedulers, names, threshold, often=None, tries=None):
+    def __init__(self, pick, schedulers, names, threshold, often=None, tries=None, patience=PATIENCE):
         self.pick = pick
+        self.patience = patience
         self.names = names
         self.threshold = threshold
         self.often = often or OPERATIONS
@@ -202,7 +209,7 @@ class Sections:
 
     def wait(self, me, name, giver):
         """Waits for a block of the giver, or for nothing: then it tries for the block once."""
-        patience = LITTLE_PATIENCE if giver in self.stopping else PATIENCE
+        patience = LITTLE_PATIENCE if giver in self.stopping else self.patience
         self.take(me, name, 1 if me in self.counting else patience)
 
     def abandon(self, me):
@@ -327,8 +334,26 @@ def race(number):
     schedulers, megabytes = pick.randint(2, 8), pick.choice([1, 1, 2, 4, 64])
     letter = pick.choice(LETTERS)
     values = some_values(pick, megabytes, schedulers, letter != "T")
+    made = Sections(pick, schedulers, some_names(pick), values.get("sbct", DEFAULTS["sbct"]))
+    return some_race(made, letter, megabytes, values)
+
+
+def crowd(number):
+    """A trace of 17 to 64 schedulers, whose carriers migrate. Some of them abandon one at first."""
+    pick = random.Random(number)
+    schedulers, megabytes = pick.randint(FEWEST_OF_MANY, MOST_SCHEDULERS), pick.choice([1, 4, 16, 64, 512])
+    letter = pick.choice(LETTERS.replace("T", ""))
+    values = {**some_values(pick, megabytes, schedulers, False), "acul": pick.choice(ACULS)}
     threshold = values.get("sbct", DEFAULTS["sbct"])
-    made = Sections(pick, schedulers, some_names(pick), threshold)
+    made = Sections(pick, schedulers, some_names(pick), threshold, patience=PATIENCE_OF_MANY)
+    for me in sorted(pick.sample(range(schedulers), pick.randrange(schedulers))):
+        made.abandon(me)
+    return some_race(made, letter, megabytes, values)
+
+
+def some_race(made, letter, megabytes, values):
+    """The trace of sections in the making, with meetings, operations and stops."""
+    pick, schedulers = made.pick, len(made.texts)
     if pick.random() < STOPPING:
         few = pick.randint(1, schedulers if pick.random() < 0.2 else schedulers // 2)
         made.stopping = set(pick.sample(range(schedulers), few))

@@ -25,7 +25,7 @@ NOT_SECONDS = "list,trace,status,carriers_end,carriers_most,units_end,units_most
 KEPT_APART = ["--each", "+MHacul 0"]
 # With migration and one scheduler an allocation that finds no room looks at each of its numbers before it creates a
 # carrier.
-NUMBERS = 256
+NUMBERS = 1024
 
 
 def one(*operations):
@@ -140,9 +140,9 @@ class Compare(unittest.TestCase):
         self.assertRow(row, failed=1, failed_space=1, failed_numbers=0, carriers_most=1)
 
     def test_failures_for_want_of_numbers(self):
-        operations = [f"alloc {it} 2000" for it in range(1, 259)]
-        row = self.row(one(*operations), *KEPT_APART, "--each", "+MHsbct 1", "--each", "+MMscs 2")
-        self.assertRow(row, failed=2, failed_space=0, failed_numbers=2, carriers_most=256, units_most=256 * 512)
+        operations = [f"alloc {it} 2000" for it in range(1, 1027)]
+        row = self.row(one(*operations), *KEPT_APART, "--each", "+MHsbct 1", "--each", "+MMscs 8")
+        self.assertRow(row, failed=2, failed_space=0, failed_numbers=2, carriers_most=1024, units_most=1024 * 512)
 
     def test_abandoned_and_fetched(self):
         pages = ["--each", "+MHsmbcs 4", "--each", "+MHlmbcs 4", "--each", "+MHacul 60 0"]

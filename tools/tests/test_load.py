@@ -32,7 +32,7 @@ FIRST = "node-load 1\n"
 SMALL = FIRST + "type B\nblocks 64 64 1\nblocks 128 128 2\nblocks 256 256 5\n"
 # The SHA-256 of what one machine made of SMALL with the words of test_same_bytes, so that a change of bytes is seen. It
 # says nothing of what is right.
-MADE_ONCE = "45b1cc57719d1ca07cfc6eec8165d677730e10943e965ab406d95508405e68c9"
+MADE_ONCE = "9938fb7cdcfd2bc6de0640a930257bf2d1ebd01ca8d50e404844db52eb26c6f0"
 
 
 def module_of(path):
@@ -102,7 +102,7 @@ class Trace:
                 if word in ("alloc", "realloc"):
                     name = numbers[-2]
                     self.test.assertNotIn(name, made)
-                    self.test.assertTrue(1 <= name <= 262144)
+                    self.test.assertTrue(1 <= name <= 1048576)
                     self.test.assertTrue(0 <= numbers[-1] <= 1073741823)
                     made.add(name)
                     held.add(name)
@@ -117,7 +117,7 @@ class Trace:
                     self.test.assertIn(word, ("free", "info", "realloc"))
 
     def check_limits(self, text):
-        self.test.assertLessEqual(len(self.operations), 262144)
+        self.test.assertLessEqual(len(self.operations), 1048576)
         self.test.assertLessEqual(len(text), 2**24)
         tries = [it[2] for it in self.words("take")]
         self.test.assertTrue(all(1 <= it <= 10**7 for it in tries) and sum(tries) <= 10**8)
@@ -233,7 +233,7 @@ class Sizes(Case):
 
 class Operations(Case):
     def test_no_more_than_asked_for(self):
-        for schedulers, operations in (1, 2), (16, 32), (3, 100), (16, 262144):
+        for schedulers, operations in (1, 2), (16, 32), (3, 100), (64, 128), (64, 262144):
             trace = self.made(SMALL, "--operations", operations, "--ending", "turns", schedulers=schedulers)
             self.assertEqual(len(trace.operations), operations)
             lengths = list(map(len, trace.sections))
@@ -325,9 +325,10 @@ class Operations(Case):
         self.assertEqual(self.made(SMALL, "--operations", 9000).words("give"), [])
 
     def test_turns(self):
-        """Eight of each scheduler in a row for each operation of the longest section, and then a thousand times 512."""
+        """Eight of each scheduler in a row for each operation of the longest section, and then a thousand times
+        1024."""
         trace = self.made(SMALL, "--operations", 300, "--ending", "turns", schedulers=3)
-        self.assertEqual(trace.turns, ["1*8", "2*8", "3*8"] * 100 + ["1*512", "2*512", "3*512"] * 1000)
+        self.assertEqual(trace.turns, ["1*8", "2*8", "3*8"] * 100 + ["1*1024", "2*1024", "3*1024"] * 1000)
 
 
 class Bytes(Case):
@@ -402,25 +403,36 @@ class Refusals(Case):
         path, see = self.file(SMALL), " (see --help)"
         for words, line in (
             ([], "the following arguments are required: FILE"),
-            (["--operations", "0"], "argument --operations: '0' is no number from 2 to 262144"),
-            (["--operations", "262145"], "argument --operations: '262145' is no number from 2 to 262144"),
-            (["--schedulers", "17"], "argument --schedulers: '17' is no number from 1 to 16"),
+            (["--operations", "0"], "argument --operations: '0' is no number from 2 to 1048576"),
+            (["--operations", "1048577"], "argument --operations: '1048577' is no number from 2 to 1048576"),
+            (["--schedulers", "65"], "argument --schedulers: '65' is no number from 1 to 64"),
             (["--seed", "2147483648"], "argument --seed: '2147483648' is no number from 0 to 2147483647"),
             (["--seed", "-1"], "argument --seed: '-1' is no number from 0 to 2147483647"),
-            (["--live", "0"], "argument --live: '0' is no number from 1 to 262144"),
+            (["--live", "0"], "argument --live: '0' is no number from 1 to 1048576"),
             (["--phases", "0"], "argument --phases: '0' is no number from 1 to 1000"),
             (["--valley", "101"], "argument --valley: '101' is no number from 0 to 100"),
             (["--youngest", "half"], "argument --youngest: 'half' is no number from 0 to 100"),
             (["--overhead", "65"], "argument --overhead: '65' is no number from 0 to 64"),
             (["--handed-over", "1"], "--handed-over needs two --schedulers"),
             (["--live", "101", "--operations", "100"], "--live is more than --operations"),
-            (["--schedulers", "16", "--operations", "31"], "--operations is less than two for each scheduler"),
+            (["--schedulers", "64", "--operations", "127"], "--operations is less than two for each scheduler"),
             (["--frob"], "unrecognized arguments: --frob"),
         ):
             with self.subTest(words):
                 self.refused(line + see, *words, *([path] if words else []), status=2)
         done = self.load("--ending", "never", path)
         self.assertEqual((done.returncode, done.stdout, done.stderr.count("\n")), (2, "", 1))
+
+    def test_a_trace_that_is_too_long(self):
+        """With the turns of 64 schedulers so many operations are more than the program reads; nothing is written."""
+        path, out = self.file(SMALL), f"{self.room}/long"
+        words = ["--operations", 1048576, "--schedulers", 64, "--ending", "turns", "--output", out, path]
+        done = self.load(*words)
+        said = r"load: the trace has (\d+) bytes, and the program reads 16777216: give fewer --operations\n"
+        found = re.fullmatch(said, done.stderr)
+        self.assertEqual((done.returncode, done.stdout, bool(found)), (1, "", True))
+        self.assertGreater(int(found[1]), 16777216)
+        self.assertFalse(os.path.exists(out))
 
     def test_bad_outputs(self):
         path = self.file(SMALL)

@@ -27,7 +27,7 @@ LONGEST_SECONDS = 30
 LONGEST_STEP = 0.25
 BLUE = (0x4E, 0x79, 0xA7)
 PAGE_OF_UNITS = 512
-NUMBERS = 256
+NUMBERS = 1024
 
 
 class Case(unittest.TestCase):
@@ -399,6 +399,55 @@ class Stops(Case):
         self.assertEqual((data["total"]["queued"], data["kept"]), (14, [1]))
 
 
+# Each scheduler has a block of 376 units in a carrier of one page, the first of the 256 pages of its region.
+EACH_HAS_ONE = [(f"alloc {it} 3000",) for it in range(1, 65)]
+ONE_PAGE_EACH = ("+S", "64", "+MMscs", "64", "+MHacul", "0", "+MHsmbcs", "4", "+MHlmbcs", "4")
+
+
+class ManySchedulers(Case):
+    def test_each_region_is_drawn(self):
+        """In four columns of 16 rows, none over another, and each carrier at the front of its own."""
+        trace = self.sections(EACH_HAS_ONE, "schedule")
+        svg = self.svg(trace, 65, *ONE_PAGE_EACH)
+        names = re.findall(r'<text class="" [^>]*>instance (\d+)</text>', svg)
+        self.assertEqual(names, [str(it) for it in range(1, 65)])
+        pages = re.findall(r">pages (\d+) to (\d+)</text>", svg)
+        self.assertEqual(pages, [(str(it), str(it + 15)) for it in range(0, 64 * 256, 256)])
+        place = r'x="([\d.]+)" y="([\d.]+)" width="([\d.]+)" height="([\d.]+)"'
+        strips = [tuple(map(float, it)) for it in re.findall(f'class="free" {place}', svg)]
+        self.assertEqual((len(strips), len({x for x, *_ in strips}), len({y for _, y, *_ in strips})), (64, 4, 16))
+        for (x, y, width, _), (other, below, _, _) in zip(strips, strips[1:]):
+            self.assertTrue(y == below and x + width < other or y + 26 < below, (x, y, other, below))
+        self.assertTrue(all(x + width <= 1000 for x, _, width, _ in strips))
+        blocks = [tuple(map(float, it)) for it in re.findall(f'class="region-block" {place}', svg)]
+        # A strip shows 16 pages. The block begins at unit 8 of the first one.
+        for (x, y, width, _), (left, top, _, _) in zip(strips, blocks, strict=True):
+            self.assertAlmostEqual(left, x + 8 * width / (16 * PAGE_OF_UNITS), delta=0.02)
+            self.assertEqual(top, y + 3)
+
+    def test_no_two_have_one_colour(self):
+        svg = self.svg(self.sections(EACH_HAS_ONE, "schedule"), 65, *ONE_PAGE_EACH)
+        bars = re.findall(r'class="owner"[^>]* width="4" [^>]*fill="(#[0-9a-f]{6})"', svg)
+        self.assertEqual((len(bars), len(set(bars))), (64, 64))
+
+    def test_regions_without_carriers_are_named(self):
+        """Of the 64 regions of 4 pages the last alone has a carrier."""
+        self.draw(*self.example("small-regions"), "--svg", self.path("a.svg"))
+        svg = self.read("a.svg")
+        self.assertEqual(re.findall(r">region of instance (\d+)<", svg), ["64"])
+        self.assertIn(">no carrier: instances 1 to 63<", svg)
+        self.assertIn(">carrier 64513, multi, page 252<", svg)
+        self.assertEqual(names_in(svg), [1])
+
+    def test_the_page_has_the_owners(self):
+        data = self.data("--trace", self.sections(EACH_HAS_ONE, "schedule"), "--", *ONE_PAGE_EACH)
+        self.assertEqual(len(set(data["colours"])), 64)
+        for instance in range(1, 65):
+            number = (instance - 1) * NUMBERS + 1
+            self.assertEqual(users_of(data, number), [instance])
+            self.assertEqual([span[1:] for span in spans_of(data, number)], [((instance - 1) * 256, 1)])
+
+
 class Refusals(Case):
     def test_a_trace(self):
         trace = self.write("bad.trace", "type H\nscheduler 1\nfrob\n")
@@ -604,10 +653,24 @@ class Browser(Case):
             return [stopped, queued, at("words").textContent, at("stops").textContent].join("; ");
         }).join("; ")"""
         steps = f"is stopped after {BEFORE_THE_SECOND + 1} steps of its own"
+        parted = steps.replace("1032", "1\u202f032")
         before = "0; 0; The scheduler frees block 1, which is released.; "
-        words = f"1; 1; The scheduler {steps}, and does nothing more.; Scheduler 1 {steps}, in 'free 2', which has " \
+        words = f"1; 1; The scheduler {parted}, and does nothing more.; Scheduler 1 {steps}, in 'free 2', which has " \
             "no entry.Block 2 is in its hand: no scheduler releases it."
         self.assertEqual(self.said("a.html", "", script), f"{before}; {words}")
+
+    def test_pointing_at_one_of_many_regions(self):
+        """Each region shows its own carrier where it is drawn, and names it."""
+        self.draw("--trace", self.sections(EACH_HAS_ONE, "schedule"), "--output", self.path("a.html"), "--",
+                  *ONE_PAGE_EACH)
+        script = """[1, 4, 5, 37, 64].map(instance => {
+            const box = at("regions").getBoundingClientRect(), { x, y } = stripOf(instance);
+            const middle = x + view.regions.label + 200 * view.regions.scale;
+            const event = { clientX: box.left + middle, clientY: box.top + y + 12 };
+            return /carrier \\d+/.exec(overRegions(event))[0];
+        }).join(", ") + "; " + at("picture").dataset.drawn + "; " + at("bare").textContent"""
+        wanted = "carrier 1, carrier 3073, carrier 4097, carrier 36865, carrier 64513; 64; "
+        self.assertEqual(self.said("a.html", "", script), wanted)
 
     def test_a_long_run_does_not_stall(self):
         """Jumps anywhere in a hundred thousand entries, and the page's start."""

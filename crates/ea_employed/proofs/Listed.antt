@@ -3,9 +3,10 @@ use Rattle.std.proofs.Common.{◌≡◌, ◌<◌, ◌≤◌, ◌≢◌, ℕ, tru
 use Rattle.std.proofs.Common.{AllPairs, get_or, length, sym, ap, ◌∙◌, subst, refl, inl, inr, arith}
 use Rattle.std.proofs.Common.{suc, Bool}
 use Rattle.std.specs.Prelude.{Option, IfSome, IsSome, None, Some, is_some, option_map, sum_by}
-use Rattle.std.specs.Prelude.{◌+◌, ◌==◌}
+use Rattle.std.specs.Prelude.{◌+◌, ◌*◌, ◌==◌}
 use Rattle.std.proofs.lemmas.Bool.{cases_eq}
 use Rattle.std.proofs.lemmas.List.Elements.{All-head, All-tail}
+use Rattle.ea_model.specs.declared.units.TheConstants.{MAX_SCHEDULERS, NUMBERS}
 use Rattle.ea_model.specs.Content.{Content, gaps_of, largest}
 use Rattle.ea_model.specs.Instance.{changed, content_of, has_content}
 use Rattle.ea_model.specs.Instance.{with_content, without_content}
@@ -156,7 +157,7 @@ module _ (f : Content → Content) (k : KeepsPlace f) (n : ℕ) (item : Content)
             ap (λ (x : Carriers). x.held) e ∙ ap (refitted n fit) l.held
             ∙ ap (λ m. refitted n m (map held_of cs)) fits
             ∙ held-changed cs (only-item n item cs rising there) ∙ sym (ap (map held_of) is);
-        room = subst (λ (x : Carriers). 4096 ≤ x.room) (sym e) l.room;
+        room = subst (λ (x : Carriers). NUMBERS * MAX_SCHEDULERS ≤ x.room) (sym e) l.room;
         fit = same ∙ l.fit;
         gaps = gaps;
         places = kept units l.places;
@@ -187,7 +188,7 @@ IsListed-entered s units cs new x key fit set after bins left l few is keyed fit
           ∙ ap (λ m. entered set_number (record { key = (held_of x).key; fit = m })
           (map held_of cs)) fits
           ∙ entered-map set_number held_of x cs ∙ sym (ap (map held_of) is);
-      room = subst (λ (c : Carriers). 4096 ≤ c.room) (sym e) l.room;
+      room = subst (λ (c : Carriers). NUMBERS * MAX_SCHEDULERS ≤ c.room) (sym e) l.room;
       fit = same ∙ l.fit;
       gaps = gaps;
       places = kept units l.places;
@@ -205,7 +206,7 @@ IsListed-left s units cs new n x set after bins left there rising l is e same ke
   held =
       ap (λ (c : Carriers). c.held) e ∙ ap (without set_number n) l.held
       ∙ without-map set_number held_of n cs ∙ sym (ap (map held_of) is);
-  room = subst (λ (c : Carriers). 4096 ≤ c.room) (sym e) l.room;
+  room = subst (λ (c : Carriers). NUMBERS * MAX_SCHEDULERS ≤ c.room) (sym e) l.room;
   fit = same ∙ l.fit;
   gaps = gaps;
   places = kept units l.places;

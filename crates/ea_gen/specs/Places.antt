@@ -5,7 +5,7 @@ use Rattle.ea_model.specs.declared.units.TheConstants.{MAX_OPS, MAX_SCHEDULERS}
 use Rattle.ea_gen.specs.Generated.{is_within, without}
 use Rattle.ea_gen.specs.declared.section.Section.{Section}
 
--- one of at most 16 schedulers, with as many operations as a trace may have
+-- one of the schedulers of a run, with as many operations as a trace may have
 pub record IsSection (s : Section) : Type 0 where
   pub begun : 1 ≤ s.scheduler
   pub there : s.scheduler ≤ s.schedulers

@@ -10,8 +10,8 @@ use crate::texts::{greatest_of, make_text};
 use ea_model::{Letter, List, Mode, OutOfMemory, Trace};
 use std::alloc::Global;
 
-/// Makes the trace of a seed, 0 to 2147483647, for schedulers 1 to `schedulers`, 16 at most. Each
-/// has `count` operations, 262144 at most for all together.
+/// Makes the trace of a seed, 0 to `MAX_SEED`, for schedulers 1 to `schedulers`, `MAX_SCHEDULERS`
+/// at most. Each has `count` operations, `MAX_OPS` at most for all together.
 pub fn make_trace(
     alloc: Global,
     letter: Letter,

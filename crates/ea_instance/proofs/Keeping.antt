@@ -129,7 +129,7 @@ module _ (s : Settings) (n : ℕ) (own : OwnList) (ks : CarrierList) (ss : List 
   pub kept-few : length ks.contents + length ss ≤ NUMBERS * MAX_SCHEDULERS
   kept-few = employed-few here k.stands
 
-  pub kept-few_alone : length ss ≤ 256
+  pub kept-few_alone : length ss ≤ NUMBERS
   kept-few_alone = singles-few here k.stands
 
   -- a content of a multiblock carrier, or else of a singleblock one, is one of all
@@ -467,7 +467,7 @@ module _ (s : Settings) (n : ℕ) (own : OwnList) (ks : CarrierList) (ss : List 
           length-entered number_of (created_content n Multi p) ks.contents,
         )
 
-    pub few-alone : 6 ≤ need → need % 2 ≡ 0 → length ss < 256
+    pub few-alone : 6 ≤ need → need % 2 ≡ 0 → length ss < NUMBERS
     few-alone least even =
         let more = creating_single-Stands here need p k.stands asked_here 0 least even in
         omega (
@@ -476,7 +476,7 @@ module _ (s : Settings) (n : ℕ) (own : OwnList) (ks : CarrierList) (ss : List 
           length-entered number_of (created_single n p need 0) ss,
         )
 
-    pub few-own : length own.carriers < 256
+    pub few-own : length own.carriers < NUMBERS
     few-own = has-number here need p k.stands.orderly.kept asked_here
 
     -- its pages are the lowest free run of the region that holds them

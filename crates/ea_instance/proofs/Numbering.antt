@@ -1,5 +1,5 @@
 -- The lowest number that isn't in use, found along the carriers by rising number.
-use Rattle.std.proofs.Common.{zero, suc, ◌≡◌, ◌≢◌, ℕ, ◌+◌, ◌<◌, ◌≤◌, true, false, List, [], ◌∷◌}
+use Rattle.std.proofs.Common.{zero, suc, ◌≡◌, ◌≢◌, ℕ, ◌+◌, ◌-◌, ◌<◌, ◌≤◌, true, false, List, [], ◌∷◌}
 use Rattle.std.proofs.Common.{length, get_or, drop, All, sym, ap, ◌∙◌, refl, inl, inr, arith}
 use Rattle.std.specs.Prelude.{None, Some, is_some}
 use Rattle.std.proofs.lemmas.Bool.{cases_Bool}
@@ -50,8 +50,8 @@ pub record IsNext (first number : ℕ) (rest all : List OwnCarrier) : Type 0 whe
   pub used : ℕ
   pub left : ℕ
   pub at : first + used ≡ number
-  pub count : left + used ≡ 256
-  pub within : used < 256
+  pub count : left + used ≡ NUMBERS
+  pub within : used < NUMBERS
   pub rising : IsRisingOwn rest
   pub same : unused_from left (first + used) rest ≡ unused_from NUMBERS first all
 
@@ -116,19 +116,19 @@ module _ (first number : ℕ) (o : OwnCarrier) (os all : List OwnCarrier)
   }
 
   -- the number of a carrier is in use
-  taken : number ≡ o.number → (left : ℕ) × (left + (h.used + 1) ≡ 256)
+  taken : number ≡ o.number → (left : ℕ) × (left + (h.used + 1) ≡ NUMBERS)
       × (unused_from left (first + (h.used + 1)) (o ∷ os) ≡ unused_from NUMBERS first all)
   taken e = goes_on h.left h.used first (o ∷ os) _ h.count h.within
       (used_here (first + h.used) o os (sym e ∙ sym h.at)) h.same
 
   -- if it is the last one, all are in use
-  pub next_none : number ≡ o.number → number ≡ first + 255 → None ≡ unused_from NUMBERS first all
+  pub next_none : number ≡ o.number → number ≡ first + (NUMBERS - 1) → None ≡ unused_from NUMBERS first all
   next_none e last =
       let (left, count, same) = taken e in
       ends left (h.used + 1) first (o ∷ os) _ count (omega (arith, h.at)) same
 
   -- else the next number is the candidate
-  pub next_up : (n : ℕ) → n ≡ number + 1 → number ≡ o.number → number ≢ first + 255
+  pub next_up : (n : ℕ) → n ≡ number + 1 → number ≡ o.number → number ≢ first + (NUMBERS - 1)
       → IsNext first n os all
   next_up n is e more =
       let (left, count, same) = taken e in

@@ -5,6 +5,7 @@ use Rattle.std.specs.Prelude.{Option, Some, None, Ok, IsSome, ◌==◌}
 use Rattle.std.proofs.lemmas.Bool.{cond_both}
 use Rattle.std.proofs.lemmas.List.Elements.{All-filter, All-map, All-weaker}
 use Rattle.std.proofs.lemmas.List.Kept.{AllPairs-filter}
+use Rattle.ea_model.specs.declared.units.TheConstants.{NUMBERS}
 use Rattle.ea_model.specs.declared.settings.Settings.{Settings}
 use Rattle.ea_model.specs.declared.units.TheConstants.{MAX_UNITS}
 use Rattle.ea_model.specs.declared.carriers.OwnCarrier.{OwnCarrier}
@@ -37,7 +38,7 @@ IsKept-cleared s n number first end o os k there = record {
   valid = k.valid;
   instance = k.instance;
   rising = AllPairs-filter (IsBelow own_number) _ os k.rising;
-  numbers = All-filter _ (HasNumberIn (first_number n) (first_number n + 256)) os k.numbers;
+  numbers = All-filter _ (HasNumberIn (first_number n) (first_number n + NUMBERS)) os k.numbers;
   pages = All-filter _ HasPages os k.pages;
   within = k.within;
   laid = subst (Laid first end)
@@ -57,7 +58,7 @@ module _ (s : Settings) (n number first end pages : ℕ) (o : OwnCarrier) (os : 
 
   pub IsKept-shortened : IsKept s n first end (with_pages number pages os)
   IsKept-shortened =
-      let owns = HasNumberIn (first_number n) (first_number n + 256) in
+      let owns = HasNumberIn (first_number n) (first_number n + NUMBERS) in
       let less = change own_number shorter number in
       record {
         valid = k.valid;
@@ -79,7 +80,7 @@ module _ (s : Settings) (n number first end pages : ℕ) (o : OwnCarrier) (os : 
 
 -- what a plan says
 pub record IsPlanned (i : Instance) (need : ℕ) (p : CarrierPlan) : Type 0 where
-  pub number : unused_from 256 (first_number i.number) i.own ≡ Some p.number
+  pub number : unused_from NUMBERS (first_number i.number) i.own ≡ Some p.number
   pub run : free_run i p.pages ≡ Some p.base
   pub birth : p.birth ≡ i.created + 1
   pub single : p.single ≡ is_alone i need
@@ -91,7 +92,7 @@ wanted-enough i need = cond_both (is_alone i need) (least_pages need) (next_page
     (λ n. least_pages need ≤ n) (λ _. omega arith) (λ _. omega arith)
 
 at_least : (i : Instance) (need number : ℕ) (p : CarrierPlan) (o : Option ℕ)
-    → unused_from 256 (first_number i.number) i.own ≡ Some number
+    → unused_from NUMBERS (first_number i.number) i.own ≡ Some number
     → free_run i (least_pages need) ≡ o → least_plan i need number o ≡ Ok p → IsPlanned i need p
 at_least i need number p None n f e = absurd cc
 at_least i need number p (Some base) n f e =
@@ -105,7 +106,7 @@ at_least i need number p (Some base) n f e =
     })
 
 at_size : (i : Instance) (need number : ℕ) (p : CarrierPlan) (o : Option ℕ)
-    → unused_from 256 (first_number i.number) i.own ≡ Some number
+    → unused_from NUMBERS (first_number i.number) i.own ≡ Some number
     → free_run i (wanted_pages i need) ≡ o → sized_plan i need number o ≡ Ok p → IsPlanned i need p
 at_size i need number p None n f e = at_least i need number p (free_run i (least_pages need)) n refl
     e
@@ -120,7 +121,7 @@ at_size i need number p (Some base) n f e =
     })
 
 at_number : (i : Instance) (need : ℕ) (p : CarrierPlan) (o : Option ℕ)
-    → unused_from 256 (first_number i.number) i.own ≡ o → numbered_plan i need o ≡ Ok p
+    → unused_from NUMBERS (first_number i.number) i.own ≡ o → numbered_plan i need o ≡ Ok p
     → IsPlanned i need p
 at_number i need p None n e = absurd cc
 at_number i need p (Some number) n e = at_size i need number p (free_run i (wanted_pages i need)) n
@@ -128,7 +129,7 @@ at_number i need p (Some number) n e = at_size i need number p (free_run i (want
 
 pub plan-IsPlanned : (i : Instance) (need : ℕ) (p : CarrierPlan) → plan i need ≡ Ok p
     → IsPlanned i need p
-plan-IsPlanned i need p e = at_number i need p (unused_from 256 (first_number i.number) i.own)
+plan-IsPlanned i need p e = at_number i need p (unused_from NUMBERS (first_number i.number) i.own)
     refl e
 
 -- pages in units are pages
@@ -154,9 +155,9 @@ module _ (i : Instance) (need : ℕ) (p : CarrierPlan)
   some_pages : 1 ≤ p.pages
   some_pages = omega (arith, planned_here.enough)
 
-  unused : (first_number i.number ≤ p.number) × (p.number < first_number i.number + 256)
+  unused : (first_number i.number ≤ p.number) × (p.number < first_number i.number + NUMBERS)
       × (is_used p.number i.own ≡ false)
-  unused = unused_from-free 256 (first_number i.number) p.number i.own planned_here.number
+  unused = unused_from-free NUMBERS (first_number i.number) p.number i.own planned_here.number
 
   run_fits : Fits i.first i.end p.base p.pages (segments i.own)
   run_fits =
@@ -173,7 +174,7 @@ module _ (i : Instance) (need : ℕ) (p : CarrierPlan)
   planned-within = (run_fits.behind, run_fits.before)
 
   -- it has a number of the instance
-  pub planned-numbered : HasNumberIn (first_number i.number) (first_number i.number + 256)
+  pub planned-numbered : HasNumberIn (first_number i.number) (first_number i.number + NUMBERS)
       (planned_own p)
   planned-numbered = (unused.0, unused.1)
 
@@ -189,18 +190,18 @@ module _ (i : Instance) (need : ℕ) (p : CarrierPlan)
   still_rising = rising-entered own_number (planned_own p) i.own k.rising
       (unused-All p.number i.own unused.2)
 
-  still_numbered : All (HasNumberIn (first_number i.number) (first_number i.number + 256))
+  still_numbered : All (HasNumberIn (first_number i.number) (first_number i.number + NUMBERS))
       (with_own (planned_own p) i.own)
   still_numbered = All-entered own_number
-      (HasNumberIn (first_number i.number) (first_number i.number + 256)) (planned_own p) i.own
+      (HasNumberIn (first_number i.number) (first_number i.number + NUMBERS)) (planned_own p) i.own
       (unused.0, unused.1) k.numbers
 
   -- there are fewer carriers than numbers
-  pub has-number : length i.own < 256
+  pub has-number : length i.own < NUMBERS
   has-number = omega (
     arith,
     length-entered own_number (planned_own p) i.own,
-    rising-length (first_number i.number) (first_number i.number + 256)
+    rising-length (first_number i.number) (first_number i.number + NUMBERS)
         (with_own (planned_own p) i.own) still_rising still_numbered,
   )
 

@@ -4,6 +4,7 @@ use Rattle.std.proofs.Common.{◌∷◌, filter, All, sym, ◌∙◌, ap, subst,
 use Rattle.std.specs.Prelude.{Bool, Option, Some, None, IsNone, Err, option_map}
 use Rattle.std.proofs.lemmas.Bool.{cases_Bool, cases_eq}
 use Rattle.std.proofs.lemmas.List.Elements.{All-nil, All-cons, All-head, All-tail}
+use Rattle.ea_model.specs.declared.units.TheConstants.{NUMBERS}
 use Rattle.ea_model.specs.declared.carriers.Candidate.{Candidate}
 use Rattle.ea_model.specs.declared.carriers.OwnCarrier.{OwnCarrier}
 use Rattle.ea_model.specs.declared.carriers.Segment.{Segment}
@@ -147,9 +148,9 @@ numbered i need (Some number) e = absurd
 -- the numbers are the cause exactly where all are in use
 pub plan-numbers : (i : Instance) (need : ℕ) → (plan i need ≡ Err Numbers) ↔ AllUsed i
 plan-numbers i need = (
-  λ e. all_used 256 (first_number i.number) i.own
-      (numbered i need (unused_from 256 (first_number i.number) i.own) e),
-  λ h. ap (numbered_plan i need) (none_unused 256 (first_number i.number) i.own h),
+  λ e. all_used NUMBERS (first_number i.number) i.own
+      (numbered i need (unused_from NUMBERS (first_number i.number) i.own) e),
+  λ h. ap (numbered_plan i need) (none_unused NUMBERS (first_number i.number) i.own h),
 )
 
 no_room : (i : Instance) (need number : ℕ) (o : Option ℕ) → least_plan i need number o ≡ Err Space
@@ -194,12 +195,12 @@ pub plan-space : (i : Instance) (need : ℕ)
     × All (λ r. r.pages < least_pages need) (runs i.first i.end (segments i.own)))
 plan-space i need =
     let rs : List Segment = runs i.first i.end (segments i.own) in (
-      λ e. let both = spaced i need (unused_from 256 (first_number i.number) i.own) e in (
-        λ all. both.0 (none_unused 256 (first_number i.number) i.own all),
+      λ e. let both = spaced i need (unused_from NUMBERS (first_number i.number) i.own) e in (
+        λ all. both.0 (none_unused NUMBERS (first_number i.number) i.own all),
         (lowest-none (least_pages need) rs).0 both.1,
       ),
-      λ h. unplanned i need (unused_from 256 (first_number i.number) i.own)
-          (λ none. h.0 (all_used 256 (first_number i.number) i.own none))
+      λ h. unplanned i need (unused_from NUMBERS (first_number i.number) i.own)
+          (λ none. h.0 (all_used NUMBERS (first_number i.number) i.own none))
           (is_none (free_run i (wanted_pages i need))
           ((lowest-none (wanted_pages i need) rs).1
           (All-more (least_pages need) (wanted_pages i need) rs (wanted-enough i need) h.1)))

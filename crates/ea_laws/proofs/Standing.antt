@@ -110,9 +110,9 @@ employed-own i number c st off there =
 
 -- the number of an own carrier is the instance's
 pub own-numbered : (i : Instance) → Stands i → (o : OwnCarrier) → IsOwn i.own o
-    → HasNumberIn (first_number i.number) (first_number i.number + 256) o
+    → HasNumberIn (first_number i.number) (first_number i.number + NUMBERS) o
 own-numbered i st o own = item_at-All own_number
-    (HasNumberIn (first_number i.number) (first_number i.number + 256)) o.number o i.own
+    (HasNumberIn (first_number i.number) (first_number i.number + NUMBERS)) o.number o i.own
     st.orderly.kept.numbers own
 
 -- each number is a carrier's
@@ -159,14 +159,14 @@ employed-few i st = omega (
 )
 
 -- nor more singleblock carriers than its own
-pub singles-few : (i : Instance) → Stands i → length i.singles ≤ 256
+pub singles-few : (i : Instance) → Stands i → length i.singles ≤ NUMBERS
 singles-few i st = omega (
   arith,
-  rising-length (first_number i.number) (first_number i.number + 256) (map own_of i.singles)
+  rising-length (first_number i.number) (first_number i.number + NUMBERS) (map own_of i.singles)
       (pairs_map (IsBelow own_number) own_of i.singles st.orderly.rising_singles)
-      (All-map (HasNumberIn (first_number i.number) (first_number i.number + 256)) own_of i.singles
+      (All-map (HasNumberIn (first_number i.number) (first_number i.number + NUMBERS)) own_of i.singles
       (All-weaker (λ c. IsOwn i.own (own_of c))
-      (λ c. HasNumberIn (first_number i.number) (first_number i.number + 256) (own_of c))
+      (λ c. HasNumberIn (first_number i.number) (first_number i.number + NUMBERS) (own_of c))
       (λ c own. own-numbered i st (own_of c) own) i.singles st.owned)),
   length-map i.singles own_of,
 )
@@ -561,7 +561,7 @@ new_without s number first pages valid own within = record {
       valid = valid;
       instance = own;
       rising = pairs_nil (IsBelow own_number);
-      numbers = All-nil (HasNumberIn (first_number number) (first_number number + 256));
+      numbers = All-nil (HasNumberIn (first_number number) (first_number number + NUMBERS));
       pages = All-nil HasPages;
       within = within;
       laid = omega arith;
@@ -614,9 +614,9 @@ new_with s number first pages valid own within main some =
           instance = own;
           rising = AllPairs-cons (IsBelow own_number) o [] (All-nil (IsBelow own_number o))
               (pairs_nil (IsBelow own_number));
-          numbers = All-cons (HasNumberIn (first_number number) (first_number number + 256)) o []
+          numbers = All-cons (HasNumberIn (first_number number) (first_number number + NUMBERS)) o []
               (omega arith, omega arith)
-              (All-nil (HasNumberIn (first_number number) (first_number number + 256)));
+              (All-nil (HasNumberIn (first_number number) (first_number number + NUMBERS)));
           pages = All-cons HasPages o [] (omega (arith, one, same)) (All-nil HasPages);
           within = within;
           laid = (omega arith, omega (arith, one, same), omega (arith, main, same));

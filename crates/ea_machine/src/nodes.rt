@@ -2,14 +2,15 @@
 
 use ea_model::Spot;
 
-/// A name, 1 to 262144, and where its block begins.
+/// A name, 1 to `MAX_NAME`, and where its block begins.
 #[derive(Debug, Clone, Copy, PartialEq, Eq)]
 pub struct Named {
     pub name: u32,
     pub spot: Spot,
 }
 
-/// A node of a queue. Names are 1 to 262144, and carrier numbers 1 to 4096.
+/// A node of a queue. Names are 1 to `MAX_NAME`, and carrier numbers 1 to
+/// `NUMBERS * MAX_SCHEDULERS`.
 #[derive(Debug, Clone, Copy, PartialEq, Eq)]
 pub enum Node {
     /// A block that the instance is to release.

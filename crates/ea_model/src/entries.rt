@@ -37,7 +37,7 @@ pub enum Entry {
         place: Place,
     },
     /// No block was placed: `need` units were asked for, and `looked` pooled or busy carriers were
-    /// seen.
+    /// seen in the last part of the search.
     AllocFail {
         name: u32,
         need: u32,

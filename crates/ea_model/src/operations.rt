@@ -1,7 +1,7 @@
 //! The operations of a trace.
 
-/// An operation of a scheduler. Names are 1 to 262144, schedulers 1 to 16, tries 1 to 10000000,
-/// and the bytes of a request 0 to 1073741823.
+/// An operation of a scheduler. Names are 1 to `MAX_NAME`, schedulers 1 to `MAX_SCHEDULERS`, tries 1
+/// to `MAX_TRIES`, and the bytes of a request 0 to `MAX_BYTES`.
 #[derive(Debug, Clone, Copy, PartialEq, Eq)]
 pub enum Op {
     /// Allocates a block.

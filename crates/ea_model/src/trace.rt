@@ -27,8 +27,8 @@ pub struct Stop {
 pub enum Mode {
     /// Each scheduler has a thread of its own.
     Threads,
-    /// The schedulers take these turns, and then each runs to its end. There are 100000000 turns at
-    /// most.
+    /// The schedulers take these turns, and then each runs to its end or its stop. There are
+    /// 100000000 turns at most.
     Schedule { turns: List<Turns> },
     /// Each scheduler has `count` operations, which follow from the seed and its number. The seed
     /// is 0 to 2147483647.

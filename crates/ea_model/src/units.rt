@@ -15,13 +15,13 @@ pub const HEADER_UNITS: u32 = 8;
 /// The fewest units of a block, its header included.
 pub const MIN_BLOCK: u32 = 6;
 /// The carrier numbers of an allocator instance.
-pub const NUMBERS: u32 = 256;
+pub const NUMBERS: u32 = 1024;
 /// The most schedulers of a run.
-pub const MAX_SCHEDULERS: u32 = 16;
+pub const MAX_SCHEDULERS: u32 = 64;
 /// The greatest name of a block; names begin at 1.
-pub const MAX_NAME: u32 = 262_144;
+pub const MAX_NAME: u32 = 1_048_576;
 /// The most operations of a trace.
-pub const MAX_OPS: u32 = 262_144;
+pub const MAX_OPS: u32 = 1_048_576;
 /// The pooled or busy carriers after which a search of the pool ends.
 pub const SEARCH_LIMIT: u32 = 16;
 /// The most numbers that a search looks at in each of its instance's own lists.

@@ -9,7 +9,7 @@ const FIRST: Spot = Spot {
 };
 
 const SECOND: Spot = Spot {
-    carrier: 257,
+    carrier: 1025,
     offset: 22,
 };
 

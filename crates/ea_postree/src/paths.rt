@@ -1,7 +1,8 @@
 //! Ways through a flat tree of maxima.
 ghost use Rattle.std.specs.Prelude.{◌≡◌, ◌≢◌, ℕ, ◌*◌, ◌/◌, ◌<◌, ◌≤◌, length, drop, slice_index};
 ghost use Rattle.ea_postree.specs.Firsts.{IsFirstAtLeast};
-ghost use Rattle.ea_postree.specs.Maxima.{IsGreater, IsTree};
+ghost use Rattle.std.specs.Int.{IsPowerOfTwo};
+ghost use Rattle.ea_postree.specs.Maxima.{HasValues, IsGreater, IsTree};
 
 /// Goes up from a leaf whose value has changed, and gives each node the greater value of the two
 /// below it.
@@ -24,6 +25,33 @@ pub fn update_above(leaf: usize, leaves: usize, maxima: &mut [u32])
         }
         maxima[node] = greater;
     }
+}
+
+/// Gives each node the greater value of the two below it.
+pub fn update_all(leaves: usize, maxima: &mut [u32])
+    requires long { length maxima.old ≡ 2 * leaves }
+    ensures greater { (node : ℕ) → 1 ≤ node → node < leaves → IsGreater maxima.new node }
+    ensures leaves { drop leaves maxima.new ≡ drop leaves maxima.old }
+    ensures long { length maxima.new ≡ length maxima.old }
+{
+    let mut node = leaves;
+    while node > 1 {
+        node -= 1;
+        maxima[node] = maxima[2 * node].max(maxima[2 * node + 1]);
+    }
+}
+
+/// Makes a tree with more leaves: its values come first, and 0 after the last of them.
+pub fn spread(leaves: usize, wider: usize, maxima: &mut [u32])
+    requires wider { leaves < wider }
+    requires power { IsPowerOfTwo wider }
+    requires long { length maxima.old ≡ 2 * wider }
+    requires free { (node : ℕ) → 2 * leaves ≤ node → slice_index maxima.old node ≡ 0 }
+    ensures tree { IsTree wider maxima.new }
+    ensures same { HasValues leaves maxima.old wider maxima.new }
+{
+    maxima.copy_within(leaves..2 * leaves, wider);
+    update_all(wider, maxima);
 }
 
 /// The position of the first leaf with at least `value`, where some leaf has that much.

@@ -13,6 +13,9 @@ fn compare(rt: &impl Abort, alloc: Global, positions: u32, steps: &[Step]) -> Re
     let mut tree = PosTree::new(alloc, positions)?;
     assert_eq!(rt; tree.first_at_least(1), None);
     assert_eq!(rt; tree.largest(), 0);
+    if positions > 0 {
+        assert_eq!(rt; tree.value(positions - 1), 0);
+    }
     for (position, value, wanted, first, largest) in steps {
         assert!(rt; *position < positions);
         assert!(rt; *wanted > 0);
@@ -99,6 +102,24 @@ fn five_positions_and_eight(rt: HostRuntime) -> Result<(), Fail> {
             (5, 0, 5, Some(3), 5),
             (3, 0, 2, Some(4), 5),
             (4, 0, 1, Some(7), 1),
+        ],
+    )
+}
+
+#[test]
+fn a_later_position_leaves_the_values_before_it(rt: HostRuntime) -> Result<(), Fail> {
+    compare(
+        &rt,
+        rt.alloc(),
+        1000,
+        &[
+            (0, 5, 5, Some(0), 5),
+            (1, 6, 6, Some(1), 6),
+            (999, 7, 7, Some(999), 7),
+            (1, 0, 6, Some(999), 7),
+            (999, 0, 6, None, 5),
+            (2, 5, 5, Some(0), 5),
+            (0, 0, 5, Some(2), 5),
         ],
     )
 }

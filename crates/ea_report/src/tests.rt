@@ -48,12 +48,12 @@ fn each_kind_of_entry_has_its_line(rt: HostRuntime) -> Result<(), Fail> {
         ),
         (
             Entry::AllocFail {
-                name: 262_144,
+                name: 1_048_576,
                 need: 134_217_730,
                 looked: 0,
                 why: NoCarrier::Numbers,
             },
-            "alloc 262144 fail need 134217730 looked 0 numbers\n",
+            "alloc 1048576 fail need 134217730 looked 0 numbers\n",
         ),
         (Entry::Free { name: 7 }, "free 7 done\n"),
         (Entry::FreeQueued { name: 7, to: 2 }, "free 7 queued 2\n"),
@@ -150,27 +150,27 @@ fn a_carrier_has_its_kind_and_its_standing(rt: HostRuntime) -> Result<(), Fail> 
         (
             Kind::Main,
             Standing::Employed,
-            "carrier 257 main owner 2 employed 1 base 64 pages 32 allocated 56 largest 16000\n",
+            "carrier 1025 main owner 2 employed 1 base 64 pages 32 allocated 56 largest 16000\n",
         ),
         (
             Kind::Multi,
             Standing::Pooled,
-            "carrier 257 multi owner 2 pooled 1 base 64 pages 32 allocated 56 largest 16000\n",
+            "carrier 1025 multi owner 2 pooled 1 base 64 pages 32 allocated 56 largest 16000\n",
         ),
         (
             Kind::Multi,
             Standing::Busy,
-            "carrier 257 multi owner 2 busy 1 base 64 pages 32 allocated 56 largest 16000\n",
+            "carrier 1025 multi owner 2 busy 1 base 64 pages 32 allocated 56 largest 16000\n",
         ),
         (
             Kind::Single,
             Standing::Returning,
-            "carrier 257 single owner 2 returning 1 base 64 pages 32 allocated 56 largest 16000\n",
+            "carrier 1025 single owner 2 returning 1 base 64 pages 32 allocated 56 largest 16000\n",
         ),
     ];
     for (kind, word, line) in cases {
         let carrier = CarrierLine {
-            number: 257,
+            number: 1025,
             kind,
             owner: 2,
             word,
@@ -311,14 +311,14 @@ fn the_text_of_a_generated_trace_counts_what_was_done(rt: HostRuntime) -> Result
     let cases: [(&[&[Entry]], &str); 3] = [
         (
             &[PLACED, GENERATED],
-            "generated 2147483647 131072\n\
+            "generated 2147483647 524288\n\
             scheduler 1 alloc 1 fail 0 free 0 queued 0 give 0 take 0\n\
             scheduler 2 alloc 1 fail 1 free 1 queued 2 give 1 take 3\n\
             total carriers 1 units 16384 live 14 queued 28 free 16334 header 8\n",
         ),
         (
             &[FREED, &[], PLACED],
-            "generated 2147483647 131072\n\
+            "generated 2147483647 524288\n\
             scheduler 1 alloc 0 fail 0 free 0 queued 1 give 0 take 1\n\
             scheduler 2 alloc 0 fail 0 free 0 queued 0 give 0 take 0\n\
             scheduler 3 alloc 1 fail 0 free 0 queued 0 give 0 take 0\n\
@@ -326,13 +326,13 @@ fn the_text_of_a_generated_trace_counts_what_was_done(rt: HostRuntime) -> Result
         ),
         (
             &[],
-            "generated 2147483647 131072\n\
+            "generated 2147483647 524288\n\
             total carriers 1 units 16384 live 14 queued 28 free 16334 header 8\n",
         ),
     ];
     for (logs, text) in cases {
         let outcome = outcome(rt.alloc(), logs, &[CARRIER])?;
-        let printed = print_summary(rt.alloc(), 2_147_483_647, 131_072, &outcome)?;
+        let printed = print_summary(rt.alloc(), 2_147_483_647, 524_288, &outcome)?;
         assert_eq!(rt; printed.as_slice(), text.as_bytes());
     }
     Ok(())

@@ -2,6 +2,7 @@ pub mod Doing
 pub mod Acts
 pub mod Resting
 pub mod Placing
+pub mod Looking
 pub mod Observing
 pub mod Seeking
 pub mod StandsOn

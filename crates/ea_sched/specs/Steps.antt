@@ -65,6 +65,15 @@ pub record StartsRow (stage : Stage Content) (s : Scheduler) (count last : ℕ) 
   pub migrates : moves ≡ migration (setup_for s)
   pub ready : IsReadyAt stage s shared caller
 
+-- the scheduler stands so in a reached state, whatever is told of it
+abbrev pub HasReached : Scheduler → Type 0
+HasReached s = (shared : Option Shared) × (caller : Option Caller) × IsReady s shared caller
+
+-- the scheduler once the row that it wanted is answered: it has gone on, up to its next row
+abbrev pub gone_on_by : Scheduler → Answer → Actor
+gone_on_by s got = onward (setup_for s) s.number
+    (after_row (setup_for s) s.number (actor_of s) got s.stage)
+
 -- the row that the scheduler wanted at the stage was done, and it has gone on by the answer, up to
 -- its next row
 pub record DidRow (stage : Stage Content) (s t : Scheduler) (shared after : Option Shared)

@@ -3,6 +3,7 @@ ghost use Rattle.std.specs.Prelude.{◌≡◌, ℕ, ◌-◌, ◌<◌, ◌≤◌,
 ghost use Rattle.ea_machine.specs.declared.parts.Part.{Part};
 ghost use Rattle.ea_machine.specs.declared.stages.Stage.TheVariants as stage;
 ghost use Rattle.ea_machine.specs.Placements as placements;
+ghost use Rattle.ea_machine.specs.Rows.{Saw};
 ghost use Rattle.ea_machine.specs.Setup.{greatest_number, migration};
 ghost use Rattle.ea_machine.specs.Stops as stops;
 ghost use Rattle.ea_sched.specs.Acting.{IsSame, actor_of, ready_of, setup_for};
@@ -10,7 +11,7 @@ ghost use Rattle.ea_sched.specs.Asking.{HasMore, IsAsked};
 ghost use Rattle.ea_sched.specs.Creations.{CreatesAt, IsCreation};
 ghost use Rattle.ea_sched.specs.Looks as looks;
 ghost use Rattle.ea_sched.specs.Looks.{HasPassed};
-ghost use Rattle.ea_sched.specs.Steps.{DidRow, StartsRow};
+ghost use Rattle.ea_sched.specs.Steps.{DidRow, HasReached, StartsRow, gone_on_by};
 ghost use Rattle.ea_search.specs.Looks.{standing};
 
 use crate::state::Scheduler;
@@ -18,7 +19,7 @@ use crate::stops::less;
 use ea_machine::{Ask, OwnerWord, Part, Stage};
 use ea_mbc::Mbc;
 use ea_model::{CarrierPlan, NUMBERS, OutOfMemory};
-use ea_search::{Search, Verdict};
+use ea_search::{Search, Verdict, skips};
 use ea_shared::{Shared, Tried};
 use std::alloc::Global;
 
@@ -74,32 +75,23 @@ impl<'t> Scheduler<'t> {
         }
     }
 
-    /// A look of the search, at the owner word of its next carrier: one that fits is to be fetched,
-    /// and past another one the search goes on. Its stage is changed in its place, and what was
-    /// asked for isn't copied.
-    pub(crate) fn search<S: Shared<Content = Mbc>>(
-        &mut self,
-        alloc: Global,
-        shared: &mut S,
-    ) -> Result<(), OutOfMemory>
-        requires starts { StartsRow self.old.stage self.old
-            (S.schedulers shared.old) (S.greatest shared.old) (S.migrates shared.old)
-            (S.shared shared.old) (S.caller shared.old) }
+    /// The search saw the word of its next number: a carrier that fits is to be fetched, and past
+    /// another one the search goes on. Its stage is changed in its place, and what was asked for
+    /// isn't copied. It is kept out of `search`, so that most looks don't pay for what few take.
+    #[inline(never)]
+    fn see(&mut self, alloc: Global, seen: OwnerWord) -> Result<(), OutOfMemory>
+        requires reached { HasReached self.old }
         requires searches { (ask : Ask) × (at : ℕ) × (part : Part)
             × (self.old.stage ≡ stage.Searching ask at part) }
-        ensures stays { S.stays shared.old shared.new }
+        ensures actor { OnOk result (actor_of self.new ≡ gone_on_by self.old (Saw seen)) }
+        ensures memory { OnErr result (IsCreation self.old.instance
+            (gone_on_by self.old (Saw seen))) }
         ensures same { IsSame self.old self.new }
-        ensures row { OnOk result (DidRow self.old.stage self.old self.new
-            (S.shared shared.old) (S.shared shared.new) (S.caller shared.old)
-            (S.caller shared.new)) }
-        ensures memory { OnErr result (CreatesAt self.old.stage self.old
-            (S.shared shared.old) (S.caller shared.old)) }
     {
         let highest = self.greatest();
         let Stage::Searching { ask, at, part } = &mut self.stage else {
             unreachable!()
         };
-        let seen = shared.look(self.number, *at);
         let mut search = Search {
             highest,
             at: *at,
@@ -128,6 +120,37 @@ impl<'t> Scheduler<'t> {
                 }
             },
         }
+    }
+
+    /// A look of the search, at the owner word of its next carrier. Most carriers of the pool are
+    /// passed over, and nothing else comes of the look.
+    pub(crate) fn search<S: Shared<Content = Mbc>>(
+        &mut self,
+        alloc: Global,
+        shared: &mut S,
+    ) -> Result<(), OutOfMemory>
+        requires starts { StartsRow self.old.stage self.old
+            (S.schedulers shared.old) (S.greatest shared.old) (S.migrates shared.old)
+            (S.shared shared.old) (S.caller shared.old) }
+        requires searches { (ask : Ask) × (at : ℕ) × (part : Part)
+            × (self.old.stage ≡ stage.Searching ask at part) }
+        ensures stays { S.stays shared.old shared.new }
+        ensures same { IsSame self.old self.new }
+        ensures row { OnOk result (DidRow self.old.stage self.old self.new
+            (S.shared shared.old) (S.shared shared.new) (S.caller shared.old)
+            (S.caller shared.new)) }
+        ensures memory { OnErr result (CreatesAt self.old.stage self.old
+            (S.shared shared.old) (S.caller shared.old)) }
+    {
+        let highest = self.greatest();
+        let Stage::Searching { at, part, .. } = &mut self.stage else {
+            unreachable!()
+        };
+        let seen = shared.look(self.number, *at);
+        if skips(highest, at, part, seen) {
+            return Ok(());
+        }
+        self.see(alloc, seen)
     }
 
     /// The number that its search looks at next, in the last part of the search. None exactly where

@@ -1,178 +1,110 @@
--- The greatest number that counts, where one number begins or ceases to count.
-use Rattle.std.proofs.Common.{◌≡◌, ◌≢◌, ℕ, ◌+◌, ◌-◌, ◌<◌, ◌≤◌, Bool, true, false, List}
-use Rattle.std.proofs.Common.{get_or, get_or-set_other, get_or-set_same, length}
-use Rattle.std.proofs.Common.{length-set, refl, sym, ap, ◌∙◌, subst, inl, inr, arith}
-use Rattle.std.specs.Prelude.{set, if◌then◌else◌}
-use Rattle.std.proofs.lemmas.Bool.{cases_eq, cases_lt}
-use Rattle.ea_shared.specs.Counted.{AreLast, IsLast, IsRun, IsWholeRun}
+-- Numbers that count, as keys of a tree.
+use Rattle.std.proofs.Common.{◌≡◌, ◌≢◌, ℕ, zero, suc, ◌+◌, ◌<◌, ◌≤◌, Bool, true, false, List, [], ◌∷◌}
+use Rattle.std.proofs.Common.{get_or, length, map, All, refl}
+use Rattle.std.proofs.Common.{sym, ap, ◌∙◌, subst, inl, inr, arith}
+use Rattle.std.specs.Prelude.{Option, None, Some, is_some, set, replicate, Contains, ◌==◌}
+use Rattle.std.proofs.lemmas.Bool.{cases_eq}
+use Rattle.std.proofs.lemmas.List.{map-set}
+use Rattle.std.proofs.Math.ListN.{get_or-map as get_or-map_default}
+use Rattle.std.proofs.lemmas.List.Elements.{All-from_get_or, Contains-get_or}
+use Rattle.ea_keytree.specs.declared.tree.Found.{Found}
+use Rattle.ea_keytree.specs.Keys.{IsLastUpTo}
+use Rattle.ea_shared.specs.Counted.{AreOwn, IsLast, is_counted}
 
-both : {b : Bool} → b ≡ true → b ≡ false → ⊥
-both t f = let never : true ≡ false = sym t ∙ f in cc
+-- a list of one thing, each mapped
+pub map-replicate : {A B : Type 0} (f : A → B) (n : ℕ) (x : A)
+    → map f (replicate n x) ≡ replicate n (f x)
+map-replicate f zero x = refl
+map-replicate f (suc n) x = ap (λ xs. f x ∷ xs) (map-replicate f n x)
 
--- a run is one place longer
-pub longer : (first end from to : ℕ) (old new : List ℕ) → IsRun first end from to old new
-    → end < length new → get_or new end 0 ≡ from
-    → IsRun first (end + 1) from to old (set new end to)
-longer first end from to old new r within is = record {
-  past = omega (arith, r.past);
-  within = omega (arith, within, r.count);
-  count = length-set new end to ∙ r.count;
-  before = λ n low. get_or-set_other new end n to 0 (λ same. absurd (omega (
-    arith,
-    low,
-    same,
-    r.past,
-  ))) ∙ r.before n low;
-  was = λ n from_first below. elim (cases_eq n end) [
-    | inl same ↦ ap (λ i. get_or old i 0) same ∙ sym (r.after end (omega arith)) ∙ is
-    | inr other ↦ r.was n from_first (omega (arith, below, other))
-  ];
-  is = λ n from_first below. elim (cases_eq n end) [
-    | inl same ↦ ap (λ i. get_or (set new end to) i 0) same
-        ∙ get_or-set_same new end to 0 within
-    | inr other ↦ get_or-set_other new end n to 0 other
-        ∙ r.is n from_first (omega (arith, below, other))
-  ];
-  after = λ n past. get_or-set_other new end n to 0 (λ same. absurd (omega (arith, past, same)))
-      ∙ r.after n (omega (arith, past));
+-- whether a position holds a key
+pub counted-at : (keys : List (Option ℕ)) (n : ℕ)
+    → is_counted (map is_some keys) n ≡ is_some (get_or keys n None)
+counted-at keys n = get_or-map_default is_some keys n None
+
+module _ (keys : List (Option ℕ)) (own : AreOwn keys) where
+  -- what is known of a number whose position holds a key
+  at-key : (n k : ℕ) → get_or keys n None ≡ Some k → get_or keys n None ≡ Some n
+  at-key n k e = e ∙ ap Some (own n k e)
+
+  -- a number that stands at none of the keys doesn't count
+  uncounted : (n : ℕ) → ((k : ℕ) → get_or keys n None ≡ Some k → ⊥)
+      → is_counted (map is_some keys) n ≡ false
+  uncounted n free = counted-at keys n ∙ by (get_or keys n None) refl where
+    by : (o : Option ℕ) → get_or keys n None ≡ o → is_some (get_or keys n None) ≡ false
+    by None e = ap is_some e
+    by (Some k) e = absurd (free k e)
+
+  module _ (n : ℕ) (f : Found) (l : IsLastUpTo n keys f) where
+    same : f.key ≡ f.position
+    same = own f.position f.key l.held
+
+    pub last-found : IsLast (is_counted (map is_some keys)) n f.position
+    last-found = record {
+      upto = omega (arith, same, l.small);
+      none_after = λ m past upto. uncounted m (λ k e.
+          let is : k ≡ m = own m k e in
+          omega (arith, is, same, past, l.greatest m k e (omega (arith, is, upto))));
+      counts = λ some. counted-at keys f.position ∙ ap is_some l.held;
+    }
+
+    pub has-found : (f.position == n) ≡ is_counted (map is_some keys) n
+    has-found = elim (cases_eq f.position n) [
+      | inl is ↦ ap (λ p. p == n) is ∙ here ∙ sym (counted-at keys n ∙ ap is_some
+          (sym (ap (λ p. get_or keys p None) is) ∙ l.held))
+      | inr other ↦ not_here other ∙ sym (uncounted n (λ k e.
+          let is : k ≡ n = own n k e in
+          other (omega (arith, is, same, l.small, l.greatest n k e (omega (arith, is))))))
+    ] where
+      here : (n == n) ≡ true
+      here = grind arith
+
+      not_here : f.position ≢ n → (f.position == n) ≡ false
+      not_here other = grind (arith, other)
+
+  module _ (n : ℕ) (none : (q k : ℕ) → get_or keys q None ≡ Some k → n < k) where
+    pub last-none : IsLast (is_counted (map is_some keys)) n 0
+    last-none = record {
+      upto = omega arith;
+      none_after = λ m past upto. uncounted m (λ k e.
+          omega (arith, own m k e, upto, none m k e));
+      counts = λ some. absurd (omega (arith, some));
+    }
+
+    pub has-none : false ≡ is_counted (map is_some keys) n
+    has-none = sym (uncounted n (λ k e. omega (arith, own n k e, none n k e)))
+
+  -- a number that doesn't count has a free position, and its key stands nowhere
+  pub is-free : (n : ℕ) → false ≡ is_counted (map is_some keys) n → get_or keys n None ≡ None
+  is-free n uncounts = by (get_or keys n None) refl where
+    by : (o : Option ℕ) → get_or keys n None ≡ o → get_or keys n None ≡ None
+    by None e = e
+    by (Some k) e = absurd (cc (uncounts ∙ counted-at keys n ∙ ap is_some e))
+
+  pub is-new : (n : ℕ) → get_or keys n None ≡ None → All (λ k. k ≢ Some n) keys
+  is-new n free = All-from_get_or (λ k. k ≢ Some n) keys None (λ i within e.
+      let is : n ≡ i = own i n e in
+      cc (sym free ∙ ap (λ p. get_or keys p None) is ∙ e))
+
+  -- one that counts is held
+  pub is-held : (n : ℕ) → n < length keys → true ≡ is_counted (map is_some keys) n
+      → Contains keys (Some n)
+  is-held n within counts = subst (Contains keys) (by (get_or keys n None) refl)
+      (Contains-get_or keys n None within) where
+        by : (o : Option ℕ) → get_or keys n None ≡ o → get_or keys n None ≡ Some n
+        by None e = absurd (cc (counts ∙ counted-at keys n ∙ ap is_some e))
+        by (Some k) e = at-key n k e
+
+-- the same of what contracts see
+pub counted-set : (keys : List (Option ℕ)) (n : ℕ) (o : Option ℕ)
+    → map is_some (set keys n o) ≡ set (map is_some keys) n (is_some o)
+counted-set keys n o = map-set is_some keys n o
+
+-- the last of the carriers that a search counts
+pub last-same : (f g : ℕ → Bool) → ((n : ℕ) → f n ≡ g n) → (n last : ℕ) → IsLast f n last
+    → IsLast g n last
+last-same f g same n last l = record {
+  upto = l.upto;
+  none_after = λ m past upto. sym (same m) ∙ l.none_after m past upto;
+  counts = λ some. sym (same last) ∙ l.counts some;
 }
-
-pub no-run : (first from to : ℕ) (xs : List ℕ) → first < length xs
-    → IsRun first first from to xs xs
-no-run first from to xs within = record {
-  past = omega arith;
-  within = omega (arith, within);
-  count = refl;
-  before = λ n low. refl;
-  was = λ n from_first below. absurd (omega (arith, from_first, below));
-  is = λ n from_first below. absurd (omega (arith, from_first, below));
-  after = λ n past. refl;
-}
-
--- a number that counts now, or doesn't, and others as before
-module _ (f g : ℕ → Bool) (number : ℕ) (b : Bool) (others : (n : ℕ) → n ≢ number → g n ≡ f n)
-    (now : g number ≡ b) where
-  -- of a number before it
-  before-same : (n last : ℕ) → n < number → IsLast f n last → IsLast g n last
-  before-same n last low l = record {
-    upto = l.upto;
-    none_after = λ m past upto. others m (λ same. absurd (omega (arith, same, upto, low)))
-        ∙ l.none_after m past upto;
-    counts = λ some. others last (λ same. absurd (omega (arith, same, l.upto, low)))
-        ∙ l.counts some;
-  }
-
-  -- of the number itself
-  itself-by : (below : ℕ) (c : Bool) → g number ≡ c → IsLast f (number - 1) below
-      → IsLast g number (if c then number else below)
-  itself-by below true counted l = record {
-    upto = omega arith;
-    none_after = λ m past upto. absurd (omega (arith, past, upto));
-    counts = λ some. counted;
-  }
-  itself-by below false uncounted l = record {
-    upto = omega (arith, l.upto);
-    none_after = λ m past upto. elim (cases_eq m number) [
-      | inl same ↦ ap g same ∙ uncounted
-      | inr other ↦ others m other ∙ l.none_after m past (omega (arith, upto, other))
-    ];
-    counts = λ some. others below (λ same. absurd (omega (arith, same, some, l.upto)))
-        ∙ l.counts some;
-  }
-
-  -- of a number after it, up to which the last one was that of the number itself
-  after-changed : (n from to : ℕ) → number ≤ n → IsLast f n from → IsLast f number from
-      → IsLast g number to → IsLast g n to
-  after-changed n from to past l at new = record {
-    upto = omega (arith, new.upto, past);
-    none_after = λ m high upto. elim (cases_lt number m) [
-      | inl beyond ↦ others m (λ same. absurd (omega (arith, same, beyond)))
-          ∙ l.none_after m (omega (arith, at.upto, beyond)) upto
-      | inr within ↦ new.none_after m high within
-    ];
-    counts = new.counts;
-  }
-
-  -- another one comes after the number
-  comes-after : (n from last : ℕ) → number ≤ n → IsLast f n last → IsLast f number from
-      → last ≢ from → number < last
-  comes-after n from last past l at other = elim (cases_lt number last) [
-    | inl after ↦ after
-    | inr within ↦ elim (cases_lt from last) [
-      | inl more ↦ absurd (both (l.counts (omega (arith, more))) (at.none_after last more within))
-      | inr less ↦
-          let below : last < from = omega (arith, less, other) in
-          absurd (both (at.counts (omega (arith, below)))
-          (l.none_after from below (omega (arith, at.upto, past))))
-    ]
-  ]
-
-  after-same : (n from last : ℕ) → number ≤ n → IsLast f n last → IsLast f number from
-      → last ≢ from → IsLast g n last
-  after-same n from last past l at other =
-      let after = comes-after n from last past l at other in
-      record {
-        upto = l.upto;
-        none_after = λ m high upto. others m (λ same. absurd (omega (arith, same, high, after)))
-            ∙ l.none_after m high upto;
-        counts = λ some. others last (λ same. absurd (omega (arith, same, after)))
-            ∙ l.counts some;
-      }
-
-  -- and so do those that follow it
-  still-other : (k n from first last : ℕ) → number ≤ k → k ≤ n → IsLast f k first
-      → IsLast f n last → IsLast f number from → first ≢ from → last ≢ from
-  still-other k n from first last past more l m at other = λ same.
-      let after = comes-after k from first past l at other in
-      both (l.counts (omega (arith, after)))
-      (m.none_after first (omega (arith, same, at.upto, after)) (omega (arith, l.upto, more)))
-
-  module _ (old : List ℕ) (within : number < length old) (last : AreLast f old) where
-    abbrev from : ℕ
-    from = get_or old number 0
-
-    abbrev to : ℕ
-    to = if b then number else get_or old (number - 1) 0
-
-    itself : IsLast g number to
-    itself = itself-by (get_or old (number - 1) 0) b now
-        (last (number - 1) (omega (arith, within)))
-
-    each : (n x : ℕ) → n < length old → (n < number → x ≡ get_or old n 0)
-        → (number ≤ n → get_or old n 0 ≡ from → x ≡ to)
-        → (number ≤ n → get_or old n 0 ≢ from → x ≡ get_or old n 0) → IsLast g n x
-    each n x there low changed same = elim (cases_lt n number) [
-      | inl before ↦ subst (IsLast g n) (sym (low before))
-          (before-same n (get_or old n 0) before (last n there))
-      | inr past ↦ elim (cases_eq (get_or old n 0) from) [
-        | inl is ↦ subst (IsLast g n) (sym (changed past is))
-            (after-changed n from to past (subst (IsLast f n) is (last n there))
-            (last number within) itself)
-        | inr other ↦ subst (IsLast g n) (sym (same past other))
-            (after-same n from (get_or old n 0) past (last n there) (last number within) other)
-      ]
-    ]
-
-    -- nothing has to be written
-    pub noted-same : from ≡ to → AreLast g old
-    noted-same same = λ n there. each n (get_or old n 0) there (λ low. refl)
-        (λ past is. is ∙ same) (λ past other. refl)
-
-    -- the run is written
-    pub noted-run : (new : List ℕ) → IsWholeRun number from to old new → AreLast g new
-    noted-run new whole =
-        let r = whole.run in
-        let stays = λ (n : ℕ) (there : n < length old) (past : whole.end ≤ n).
-        still-other whole.end n from (get_or old whole.end 0) (get_or old n 0) r.past past
-        (last whole.end (omega (arith, past, there))) (last n there) (last number within)
-        (whole.stops (omega (arith, past, there))) in
-        λ n in_new. let there : n < length old = omega (arith, in_new, r.count) in
-        each n (get_or new n 0) there (λ low. r.before n low)
-        (λ past is. elim (cases_lt n whole.end) [
-          | inl below ↦ r.is n past below
-          | inr beyond ↦ absurd (stays n there beyond is)
-        ])
-        (λ past other. elim (cases_lt n whole.end) [
-          | inl below ↦ absurd (other (r.was n past below))
-          | inr beyond ↦ r.after n beyond
-        ])

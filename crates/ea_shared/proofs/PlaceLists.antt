@@ -1,21 +1,21 @@
 -- Lists of places, and the places that they are.
 use Rattle.std.proofs.Common.{◌≡◌, ◌≢◌, ℕ, zero, suc, ◌+◌, ◌<◌, ◌≤◌, Bool, true, false, List, []}
-use Rattle.std.proofs.Common.{get_or-set_other, get_or-set_same}
 use Rattle.std.proofs.Common.{◌∷◌, ◌++◌, get_or, length, map, refl, sym, ap, ◌∙◌, inl, inr, arith}
 use Rattle.std.specs.Prelude.{replicate, set}
 use Rattle.std.proofs.lemmas.Bool.{cases_lt}
 use Rattle.std.proofs.lemmas.List.{get_or-replicate, length-replicate, map-append, map-set}
 use Rattle.std.proofs.lemmas.List.{replicate-append-replicate}
+use Rattle.std.proofs.Math.ListN.{get_or-map as get_or-map_default}
 use Rattle.ea_model.specs.Content.{Content}
 use Rattle.ea_machine.specs.declared.owners.OwnerWord.{OwnerWord}
 use Rattle.ea_machine.specs.declared.owners.OwnerWord.TheVariants as word
 use Rattle.ea_machine.specs.Owners.{CarrierAt, Absent, Pooled, same_word, word_of}
-use Rattle.ea_machine.specs.Lists.{counts}
 use Rattle.ea_machine.specs.Rows.{Lost, Won}
 use Rattle.ea_machine.specs.Table.{tried_at, won_if}
 use Rattle.ea_shared.specs.declared.carriers.Place.{Place}
 use Rattle.ea_shared.specs.declared.carriers.Place.TheVariants as code
-use Rattle.ea_shared.specs.Carriers.{counts_at, place_at, placed}
+use Rattle.ea_shared.specs.Carriers.{counts_at, is_in_search, place_at, placed}
+use Rattle.ea_shared.specs.Counted.{is_counted}
 
 -- a number without a place has no carrier, and neither has one of many absent places
 pub all-absent : (n k : ℕ) → place_at (replicate n Absent) k ≡ Absent
@@ -54,17 +54,15 @@ module _ {C : Type 0} (content : C → Content) where
       → map (placed content) qs ≡ set (map (placed content) ps) k (placed content p)
   places-set ps qs k p is = ap (map (placed content)) is ∙ map-set (placed content) ps k p
 
--- one carrier is at another place
-module _ (places : List CarrierAt) (number : ℕ) (place : CarrierAt) where
-  pub counts-others : (n : ℕ) → n ≢ number
-      → counts_at (set places number place) n ≡ counts_at places n
-  counts-others n other = ap (λ p. counts (word_of p))
-      (get_or-set_other places number n place Absent other)
+-- whether a search counts the carriers, before and after one is at another place
+pub counted-places : (places : List CarrierAt) (n : ℕ)
+    → is_counted (map is_in_search places) n ≡ counts_at places n
+counted-places places n = get_or-map_default is_in_search places n Absent
 
-  pub counts-itself : number < length places
-      → counts_at (set places number place) number ≡ counts (word_of place)
-  counts-itself within = ap (λ p. counts (word_of p))
-      (get_or-set_same places number place Absent within)
+pub counts-set : (places : List CarrierAt) (n : ℕ) (place : CarrierAt)
+    → map is_in_search (set places n place)
+    ≡ set (map is_in_search places) n (is_in_search place)
+counts-set places n place = map-set is_in_search places n place
 
 -- two words are the same exactly if they are told to be
 pub same-itself : (w : OwnerWord) → same_word w w ≡ true

@@ -41,8 +41,11 @@ abbrev pub place_at : List CarrierAt → ℕ → CarrierAt
 place_at places number = get_or places number owners.Absent
 
 -- whether a search of the pool counts the carrier
+abbrev pub is_in_search : CarrierAt → Bool
+is_in_search place = counts (owners.word_of place)
+
 abbrev pub counts_at : List CarrierAt → ℕ → Bool
-counts_at places number = counts (owners.word_of (place_at places number))
+counts_at places number = is_in_search (place_at places number)
 
 -- where the carrier of a number is, if each of the first schedulers employs its main carrier and no
 -- other is there

@@ -49,15 +49,14 @@ pub struct Places<C: Carried> {
 impl<C: Carried> Model for Places<C> {
     ghost use Rattle.std.specs.Prelude.{◌≡◌, List, length, map};
     ghost use Rattle.ea_machine.specs.Owners.{CarrierAt};
-    ghost use Rattle.ea_shared.specs.Carriers.{counts_at, placed};
-    ghost use Rattle.ea_shared.specs.Counted.{AreLast};
+    ghost use Rattle.ea_shared.specs.Carriers.{is_in_search, placed};
 
     ghost Value = { List CarrierAt };
 
     ghost view = { λ p. map (placed C.content) p.list.items };
 
-    ghost invariant = { λ p. (length p.counted ≡ length p.list.items)
-        × AreLast (counts_at (map (placed C.content) p.list.items)) p.counted };
+    ghost invariant = { λ p. p.counted
+        ≡ map is_in_search (map (placed C.content) p.list.items) };
 }
 
 /// The owner word of a carrier that is there.
@@ -95,11 +94,11 @@ fn is_counted<C: Carried>(place: &Place<C>) -> bool
 
 impl<C: Carried + Drop> Places<C> {
     /// Places of that many numbers, of which no carrier is there.
-    pub fn new(alloc: Global, count: usize) -> Result<Places<C>, OutOfMemory>
+    pub fn new(alloc: Global, count: u32) -> Result<Places<C>, OutOfMemory>
         ensures count { IfOk result (λ p. length p ≡ count) }
         ensures absent { IfOk result (λ p. (n : ℕ) → place_at p n ≡ owners.Absent) }
     {
-        let mut list = Vec::new(alloc);
+        let mut list = Vec::with_capacity(alloc, count as usize)?;
         for _number in 0..count {
             list.push(Place::Absent)?;
         }

@@ -1,85 +1,75 @@
 //! Which carriers count in a search of the pool.
-ghost use Rattle.std.specs.Prelude.{◌≡◌, ◌≢◌, ℕ, ◌-◌, ◌<◌, Bool, IfOk, get_or, length};
-ghost use Rattle.std.specs.Prelude.{if◌then◌else◌};
-ghost use Rattle.ea_shared.specs.Counted.{AreLast, IsWholeRun};
+ghost use Rattle.std.specs.Prelude.{◌≡◌, ◌<◌, IfOk, false, get_or, length, replicate, set};
+ghost use Rattle.ea_shared.specs.Counted.{IsLast, is_counted};
 
+use ea_keytree::KeyTree;
 use ea_model::OutOfMemory;
 use std::alloc::Global;
 use std::marker::Model;
 
-/// Which carriers count in a search of the pool, by their numbers. Each number, from 0 on, has the
-/// greatest one up to it that counts, 0 where none does. So a search passes over all that don't
-/// count at once, and a carrier that begins or ceases to count changes the numbers up to the next
-/// one that counts.
+/// Which carriers count in a search of the pool, by their numbers. Those that count are the keys of
+/// a tree. So a search passes over all that don't count at once, and what it takes to note that a
+/// carrier begins or ceases to count is logarithmic in how many numbers there are. Contracts see of
+/// each number, from 0 on, whether it counts. No call but `new` takes memory.
 #[derive(Drop)]
 pub struct Counted {
-    last: Vec<u32>,
+    numbers: KeyTree,
 }
 
 impl Model for Counted {
-    ghost use Rattle.ea_shared.specs.Counted.{Numbers};
+    ghost use Rattle.std.specs.Prelude.{◌≡◌, List, Bool, is_some, length, map};
+    ghost use Rattle.ea_shared.specs.Counted.{AreOwn};
 
-    ghost Value = { Numbers };
+    ghost Value = { List Bool };
 
-    ghost view = { λ c. c.last.items };
+    ghost view = { λ c. map is_some c.numbers.keys };
+
+    ghost invariant = { λ c. (c.numbers.width ≡ length c.numbers.keys) × AreOwn c.numbers.keys };
 }
 
 impl Counted {
     /// That many numbers, of which none counts.
-    pub fn new(alloc: Global, count: usize) -> Result<Counted, OutOfMemory>
-        ensures count { IfOk result (λ c. length c ≡ count) }
-        ensures none { IfOk result (λ c. (n : ℕ) → get_or c n 0 ≡ 0) }
+    pub fn new(alloc: Global, count: u32) -> Result<Counted, OutOfMemory>
+        ensures { IfOk result (λ c. c ≡ replicate count false) }
     {
-        let mut last = Vec::new(alloc);
-        for _number in 0..count {
-            last.push(0)?;
+        let numbers = KeyTree::with_positions(alloc, u64::from(count), count)?;
+        Ok(Counted { numbers })
+    }
+
+    /// Whether the number counts.
+    fn has(&self, number: u32) -> bool
+        requires { number < length self.now }
+        ensures { result ≡ get_or self.now number false }
+    {
+        match self.numbers.last_up_to(u64::from(number)) {
+            Some(found) => found.position == number,
+            None => false,
         }
-        Ok(Counted { last })
     }
 
     /// The greatest number up to this one that counts; 0 where none does.
     pub fn last_upto(&self, number: u32) -> u32
         requires { number < length self.now }
-        ensures { result ≡ get_or self.now number 0 }
+        ensures { IsLast (is_counted self.now) number result }
     {
-        self.last[number as usize]
-    }
-
-    /// Writes `to` in place of `from`, from a number on, up to the first one that has another.
-    fn rewrite(&mut self, first: usize, from: u32, to: u32)
-        requires { first < length self.old }
-        ensures { IsWholeRun first from to self.old self.new }
-    {
-        let mut at = first;
-        while at < self.last.len() && self.last[at] == from {
-            self.last[at] = to;
-            at += 1;
+        match self.numbers.last_up_to(u64::from(number)) {
+            Some(found) => found.position,
+            None => 0,
         }
-    }
-
-    /// The greatest number up to this one that counts, by whether this one does.
-    fn last_if(&self, number: u32, counts: bool) -> u32
-        requires { number < length self.now }
-        ensures { result ≡ (if counts then number else get_or self.now (number - 1) 0) }
-    {
-        if counts {
-            return number;
-        }
-        self.last_upto(number.saturating_sub(1))
     }
 
     /// From now on the number counts, or doesn't.
     pub fn note(&mut self, number: u32, counts: bool)
         requires { number < length self.old }
-        ensures count { length self.new ≡ length self.old }
-        ensures last { (f g : ℕ → Bool) → AreLast f self.old
-            → ((n : ℕ) → n ≢ number → g n ≡ f n) → g number ≡ counts → AreLast g self.new }
+        ensures { self.new ≡ set self.old number counts }
     {
-        let from = self.last_upto(number);
-        let to = self.last_if(number, counts);
-        if from == to {
+        if self.has(number) == counts {
             return;
         }
-        self.rewrite(number as usize, from, to);
+        if counts {
+            self.numbers.insert(u64::from(number), number);
+        } else {
+            self.numbers.remove(u64::from(number));
+        }
     }
 }

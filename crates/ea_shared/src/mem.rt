@@ -55,11 +55,12 @@ impl<C: Carried> Model for MemShared<C> {
 }
 
 /// How many places there are: if carriers migrate, one for each carrier number, and for 0.
-fn count_of(migrates: bool, schedulers: u32) -> usize
+fn count_of(migrates: bool, schedulers: u32) -> u32
+    requires { schedulers ≤ MAX_SCHEDULERS }
     ensures { migrates ≡ true → result ≡ NUMBERS * schedulers + 1 }
 {
     if migrates {
-        NUMBERS as usize * schedulers as usize + 1
+        NUMBERS * schedulers + 1
     } else {
         0
     }

@@ -73,7 +73,7 @@ const MIGRATING: Config = Config {
 };
 
 const SPOT: Spot = Spot {
-    carrier: 257,
+    carrier: 1025,
     offset: 8,
 };
 
@@ -85,7 +85,7 @@ const OLDER: Node = Node::Block {
 const NEWER: Node = Node::Block {
     name: 3,
     spot: Spot {
-        carrier: 257,
+        carrier: 1025,
         offset: 22,
     },
 };
@@ -235,9 +235,9 @@ fn a_walk_passes_the_newest_node_first(rt: HostRuntime) -> Result<(), Fail> {
 fn main_carriers_are_employed_where_carriers_migrate(rt: HostRuntime) -> Result<(), Fail> {
     let mut shared = migrating(rt.alloc())?;
     assert_eq!(rt; shared.look(2, 1), OwnerWord::Employed { instance: 1 });
-    assert_eq!(rt; shared.look(1, 257), OwnerWord::Employed { instance: 2 });
+    assert_eq!(rt; shared.look(1, 1025), OwnerWord::Employed { instance: 2 });
     assert_eq!(rt; shared.look(1, 2), OwnerWord::Absent);
-    assert_eq!(rt; shared.look(1, 512), OwnerWord::Absent);
+    assert_eq!(rt; shared.look(1, 2048), OwnerWord::Absent);
     Ok(())
 }
 
@@ -285,11 +285,11 @@ fn the_last_carrier_that_counts_is_pooled_or_busy(rt: HostRuntime) -> Result<(),
     let mut shared = abandoned(rt.alloc())?;
     assert_eq!(rt; shared.last_counted(1), 0);
     assert_eq!(rt; shared.last_counted(2), 2);
-    assert_eq!(rt; shared.last_counted(512), 2);
+    assert_eq!(rt; shared.last_counted(2048), 2);
     assert!(rt; is_won(shared.busy_try(1, 2, POOLED)));
-    assert_eq!(rt; shared.last_counted(512), 2);
+    assert_eq!(rt; shared.last_counted(2048), 2);
     shared.settle_employed(1, 2);
-    assert_eq!(rt; shared.last_counted(512), 0);
+    assert_eq!(rt; shared.last_counted(2048), 0);
     Ok(())
 }
 

@@ -2,6 +2,7 @@
 use Rattle.std.proofs.Common.{◌≡◌, ℕ, ◌+◌, ◌*◌, ◌%◌, ◌<◌, ◌≤◌, ◌-◌, List, true, false, sym, ap, ◌∙◌}
 use Rattle.std.proofs.Common.{inr, arith}
 use Rattle.std.specs.Prelude.{None, Ok, ◌&&◌, nat_lt, nat_le}
+use Rattle.ea_model.specs.declared.units.TheConstants.{NUMBERS}
 use Rattle.ea_model.specs.declared.carriers.BlockAt.{BlockAt}
 use Rattle.ea_model.specs.declared.carriers.CarrierPlan.{CarrierPlan}
 use Rattle.ea_model.specs.declared.carriers.Kind.{Kind}
@@ -61,7 +62,7 @@ module _ (e : Setup) (me : ℕ) (i : Instance) (stands : Standing e me i) (need 
         numbered-most me p.number e.schedulers number.0 number.1 (omega (
           arith,
           (planned-number i need p asked).1,
-          ap (λ n. 256 * (n - 1) + 1) stands.number,
+          ap (λ n. NUMBERS * (n - 1) + 1) stands.number,
         )),
       )
 

@@ -4,6 +4,7 @@ use Rattle.std.proofs.Common.{◌≡◌, ◌≢◌, ℕ, ◌+◌, ◌<◌, ◌�
 use Rattle.std.proofs.Common.{subst, inl, inr, arith}
 use Rattle.std.proofs.lemmas.Bool.{cases_lt}
 use Rattle.std.proofs.lemmas.List.Elements.{All-weaker}
+use Rattle.ea_model.specs.declared.units.TheConstants.{NUMBERS}
 use Rattle.ea_model.specs.declared.carriers.OwnCarrier.{OwnCarrier}
 use Rattle.ea_model.specs.Instance.{Instance, first_number, owner_of}
 use Rattle.ea_laws.specs.Kept.{HasNumberIn}
@@ -74,7 +75,7 @@ module _ (e : Setup) (w : State) (k : Kept e w) where
         let kept = stands.order.kept in
         let low = first_number j.number in
         sum-zero (λ (o : OwnCarrier). h i o.number) j.own
-        (All-weaker (HasNumberIn low (low + 256)) (λ (o : OwnCarrier). h i o.number ≡ 0)
+        (All-weaker (HasNumberIn low (low + NUMBERS)) (λ (o : OwnCarrier). h i o.number ≡ 0)
         (λ o within. only i o.number (λ s. other (sym stands.number
         ∙ sym (numbered-owner j.number o.number kept.instance.0 within.0 within.1)
         ∙ ap owner_of s))) j.own kept.numbers)

@@ -19,9 +19,9 @@ use Rattle.ea_laws.proofs.Segments.{start_of, Laid-end}
 
 -- its number is one of the instance's own, and isn't in use
 pub planned-number : (i : Instance) (need : ℕ) (p : CarrierPlan) → plan i need ≡ Ok p
-    → (first_number i.number ≤ p.number) × (p.number < first_number i.number + 256)
+    → (first_number i.number ≤ p.number) × (p.number < first_number i.number + NUMBERS)
     × (is_used p.number i.own ≡ false)
-planned-number i need p asked = unused_from-free 256 (first_number i.number) p.number i.own
+planned-number i need p asked = unused_from-free NUMBERS (first_number i.number) p.number i.own
     (plan-IsPlanned i need p asked).number
 
 none_used : (o : Option OwnCarrier) → is_some o ≡ false → o ≡ None
@@ -60,7 +60,7 @@ own-between first end n o os laid there =
 
 -- whose a number is
 pub numbered-owner : (n number : ℕ) → 1 ≤ n → first_number n ≤ number
-    → number < first_number n + 256 → owner_of number ≡ n
+    → number < first_number n + NUMBERS → owner_of number ≡ n
 numbered-owner n number some from below = omega arith
 
 pub planned-owner : (i : Instance) (need : ℕ) (p : CarrierPlan) → 1 ≤ i.number
@@ -73,12 +73,12 @@ pub own-owner : (i : Instance) (n : ℕ) (o : OwnCarrier)
     → IsKept i.settings i.number i.first i.end i.own → own_at i.own n ≡ Some o
     → owner_of n ≡ i.number
 own-owner i n o kept there =
-    let numbered = HasNumberIn (first_number i.number) (first_number i.number + 256) in
+    let numbered = HasNumberIn (first_number i.number) (first_number i.number + NUMBERS) in
     let has = item_at-All own_number numbered n o i.own kept.numbers there in
     ap owner_of (sym (item_at-key own_number n o i.own there))
     ∙ numbered-owner i.number o.number kept.instance.0 has.0 has.1
 
 -- and that it is none beyond the greatest
 pub numbered-most : (n number schedulers : ℕ) → 1 ≤ n → n ≤ schedulers
-    → number < first_number n + 256 → number ≤ schedulers * NUMBERS
+    → number < first_number n + NUMBERS → number ≤ schedulers * NUMBERS
 numbered-most n number schedulers some most below = omega arith

@@ -2,6 +2,7 @@
 use Rattle.std.proofs.Common.{◌≡◌, ◌≢◌, ℕ, ◌+◌, ◌*◌, ◌/◌, ◌≤◌, ◌∙◌, List, [], Bool, true, false}
 use Rattle.std.proofs.Common.{refl, sym, ap, subst, arith}
 use Rattle.std.specs.Prelude.{Option, None, Some, is_some, ◌==◌, ◌&&◌}
+use Rattle.ea_model.specs.declared.units.TheConstants.{NUMBERS}
 use Rattle.ea_model.specs.declared.carriers.OwnCarrier.{OwnCarrier}
 use Rattle.ea_model.specs.Instance.{Instance, first_number, is_used, own_at, owner_of}
 use Rattle.ea_model.specs.Keyed.{IsBelow}
@@ -83,7 +84,7 @@ module _ (e : Setup) (w : State) (k : Kept e w) where
         let stands = k.ranges.instances i is in
         let n = (w.actors i).instance.number in
         let low = first_number n in
-        let numbers = item_at-All own_number (HasNumberIn low (low + 256)) c o
+        let numbers = item_at-All own_number (HasNumberIn low (low + NUMBERS)) c o
         (w.actors i).instance.own stands.order.kept.numbers found in
         let same = item_at-key own_number c o (w.actors i).instance.own found in
         let scheduler = scheduler-number e i is in (

@@ -7,12 +7,12 @@ ghost use Rattle.ea_model.specs.Region.{AreFree, IsTail};
 
 use crate::walks::{index_of, longest_run, lowest_start};
 use ea_model::keyed::enter_within;
-use ea_model::{OutOfMemory, Segment};
+use ea_model::{NUMBERS, OutOfMemory, Segment};
 use std::alloc::Global;
 use std::marker::Model;
 
 /// For how many taken segments memory is reserved.
-const ROOM: usize = 257;
+const ROOM: usize = NUMBERS as usize + 1;
 
 /// A region of pages, of which some are taken. Contracts see it as its first page, the page after
 /// its last one, and the taken segments by rising base.
@@ -24,7 +24,8 @@ pub struct Region {
 }
 
 impl Model for Region {
-    ghost use Rattle.std.specs.Prelude.{◌≤◌, vec_capacity};
+    ghost use Rattle.std.specs.Prelude.{◌≤◌, ◌+◌, vec_capacity};
+    ghost use Rattle.ea_model.specs.declared.units.TheConstants.{NUMBERS};
     ghost use Rattle.ea_model.specs.Region.{Region, Laid};
 
     ghost Value = { Region };
@@ -32,7 +33,7 @@ impl Model for Region {
     ghost view = { λ r. record { first = r.first; end = r.end; taken = r.taken.items } };
 
     ghost invariant = { λ r. record {
-      room : 257 ≤ vec_capacity r.taken;
+      room : NUMBERS + 1 ≤ vec_capacity r.taken;
       laid : Laid r.first r.end r.taken.items;
     } };
 }

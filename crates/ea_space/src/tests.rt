@@ -1,5 +1,6 @@
 //! Worked examples.
 ghost use Rattle.std.specs.Prelude.{◌≡◌, ℕ, ◌+◌, ◌<◌, ◌≤◌, IfSome, IfNone, length};
+ghost use Rattle.ea_model.specs.declared.units.TheConstants.{NUMBERS};
 ghost use Rattle.ea_model.specs.Region.{runs_of, lowest_run, with_segment, IsTail};
 
 use crate::Region;
@@ -8,7 +9,7 @@ use std::test::Fail;
 // Takes that many pages where they are found, and answers the first of them.
 fn take(region: &mut Region, pages: u32) -> Option<u32>
     requires some { 1 ≤ pages }
-    requires room { length region.old.taken < 256 }
+    requires room { length region.old.taken < NUMBERS }
     ensures found { result ≡ lowest_run pages (runs_of region.old) }
     ensures taken { IfSome result
         (λ base. region.new ≡ record region.old

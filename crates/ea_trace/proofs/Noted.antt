@@ -1,5 +1,6 @@
--- What a name's table says after a write.
-use Rattle.std.proofs.Common.{◌≡◌, ℕ, ◌<◌, ◌≤◌, Bool, false, ◌&&◌, ◌||◌, nat_lt, ◌==◌, List, length}
+-- What a name's table says after a write, and with more places.
+use Rattle.std.proofs.Common.{zero, suc, ◌≡◌, ℕ, ◌<◌, ◌≤◌, Bool, false, ◌&&◌, ◌||◌, nat_lt, ◌==◌}
+use Rattle.std.proofs.Common.{List, [], ◌∷◌, ◌++◌, length, refl}
 use Rattle.std.proofs.Common.{get_or, set, inl, inr, arith, get_or-set_other, get_or-set_same}
 use Rattle.std.proofs.lemmas.Bool.{cases_eq}
 
@@ -18,3 +19,11 @@ given_to_more xs name to k i g lt none one e = elim (cases_eq k name) [
   | inl h ↦ grind (arith, get_or-set_same, get_or-set_other)
   | inr h ↦ grind (arith, get_or-set_same, get_or-set_other)
 ]
+
+-- one place more that holds nothing
+pub none_more : {T : Type 0} (xs : List T) (d : T) (k : ℕ)
+    → get_or (xs ++ d ∷ []) k d ≡ get_or xs k d
+none_more [] d zero = refl
+none_more [] d (suc k) = refl
+none_more (x ∷ xs) d zero = refl
+none_more (x ∷ xs) d (suc k) = none_more xs d k

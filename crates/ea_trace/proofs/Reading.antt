@@ -1,6 +1,6 @@
 -- A line that passes each test, and the trace that the lines make.
 use Rattle.std.proofs.Common.{◌≡◌, ℕ, Bool, true, false, if◌then◌else◌, List, [], ◌∷◌, Option, Some}
-use Rattle.std.proofs.Common.{None, Result, Err, ◌+◌, length, map, refl, ap}
+use Rattle.std.proofs.Common.{None, Err, ◌+◌, length, map, refl, ap}
 use Rattle.std.specs.Prelude.{not}
 use Rattle.std.specs.List.{find, AllByRecursion}
 use Rattle.ea_model.specs.Lists.{Items}

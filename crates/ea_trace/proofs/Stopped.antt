@@ -1,16 +1,14 @@
 -- The stops of lines of which none is refused.
-use Rattle.std.proofs.Common.{◌≡◌, ℕ, ◌+◌, ◌<◌, ◌≤◌, Bool, true, false, ◌||◌, nat_lt, ◌==◌, cond}
-use Rattle.std.proofs.Common.{List, [], ◌∷◌, ◌++◌, refl, sym, ap, ◌∙◌, subst, inl, inr, arith}
+use Rattle.std.proofs.Common.{◌≡◌, ℕ, ◌≤◌, Bool, true, false, ◌||◌, nat_lt, ◌==◌, cond}
+use Rattle.std.proofs.Common.{List, [], ◌∷◌, ◌++◌, refl, sym, ap, subst, inl, inr, arith}
 use Rattle.std.specs.List.{All, count_by, list_any}
 use Rattle.std.proofs.lemmas.Bool.{cases_Bool}
 use Rattle.std.proofs.lemmas.List.Elements.{All-nil, All-push}
 use Rattle.std.proofs.lemmas.List.Sums.{sum_by-append, sum_by-cons}
 use Rattle.ea_model.specs.Trace.{IsScheduler, IsStop}
 use Rattle.ea_model.specs.declared.trace.Stop.{Stop}
-use Rattle.ea_model.specs.declared.units.TheConstants.{MAX_STEPS}
 use Rattle.ea_trace.specs.Language.{Earlier, is_outside, is_stopped, sections, stops_after}
 use Rattle.ea_trace.specs.Language.{stops_badly}
-use Rattle.ea_trace.specs.Lines.{Said}
 use Rattle.ea_trace.specs.declared.lines.Line.TheVariants.{Skipped, Letter, Section, Operation}
 use Rattle.ea_trace.specs.declared.lines.Line.TheVariants.{Threads, Schedule, Turns, Generate, End}
 use Rattle.ea_trace.specs.declared.lines.Line.TheVariants.{Unreadable}

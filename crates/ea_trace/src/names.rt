@@ -1,16 +1,40 @@
 //! What lines say of each name.
 ghost use Rattle.std.specs.Prelude.{◌≡◌, ◌+◌, ◌<◌, ◌≤◌, ◌∷◌, ◌==◌, [], ℕ, false, IfOk, get_or};
-ghost use Rattle.std.specs.Prelude.{length};
+ghost use Rattle.std.specs.Prelude.{length, vec_capacity};
 ghost use Rattle.ea_model.specs.declared.units.TheConstants.{MAX_NAME};
 ghost use Rattle.ea_trace.specs.Language as language;
-ghost use Rattle.ea_trace.specs.Language.{Earlier, reuses};
+ghost use Rattle.ea_trace.specs.Language.{Earlier, noted_name, reuses};
 ghost use Rattle.ea_trace.specs.Ranges.{HasRanges};
 ghost use Rattle.ea_trace.specs.declared.lines.Line.TheVariants.{Operation};
 
 use ea_model::{MAX_NAME, Op};
 use std::alloc::{AllocError, Global};
 
-/// What lines say of each name, in tables by name.
+/// The value of a name in a table, whose names past its end have `none`.
+fn value_of<T: Copy>(name: u32, none: T, table: &[T]) -> T
+    ensures { result ≡ get_or table.now name none }
+{
+    match table.get(name as usize) {
+        Some(value) => *value,
+        None => none,
+    }
+}
+
+/// Sees to it that a table, whose names past its end have `none`, has at least that many places.
+#[tactic(auto, using(crate::proofs::Noted::none_more))]
+fn lengthen<T: Copy>(count: usize, none: T, table: &mut Vec<T>)
+    requires { count ≤ vec_capacity table.old }
+    ensures places { count ≤ length table.new.items }
+    ensures same { (k : ℕ) → get_or table.new.items k none ≡ get_or table.old.items k none }
+    ensures capacity { vec_capacity table.new ≡ vec_capacity table.old }
+{
+    while table.len() < count {
+        table.push_reserved(none);
+    }
+}
+
+/// What lines say of each name, in tables by name. There is room for all names, and as much of it
+/// is used as the names take up to the greatest that was noted.
 #[derive(Drop)]
 pub struct Names {
     /// Whether the name was made.
@@ -19,22 +43,34 @@ pub struct Names {
     pub holder: Vec<u32>,
     /// The scheduler to which the name was given, or 0.
     pub addressee: Vec<u32>,
-    ghost made_names: { length made.items ≡ MAX_NAME + 1 },
-    ghost held_names: { length holder.items ≡ MAX_NAME + 1 },
-    ghost given_names: { length addressee.items ≡ MAX_NAME + 1 },
+    ghost made_room: { MAX_NAME < vec_capacity made },
+    ghost holder_room: { MAX_NAME < vec_capacity holder },
+    ghost addressee_room: { MAX_NAME < vec_capacity addressee },
+}
+
+/// The name that an operation makes, gives or takes, or 0.
+fn noted_name(op: Op) -> u32
+    ensures { result ≡ noted_name op }
+{
+    match op {
+        Op::Alloc { name, .. } | Op::Give { name, .. } | Op::Take { name, .. } => name,
+        Op::Realloc { fresh, .. } => fresh,
+        _ => 0,
+    }
 }
 
 impl Names {
-    ghost use Rattle.ea_trace.specs.Knows.{GivesOn, KnowsNames};
+    ghost use Rattle.ea_trace.specs.Knows.{GivesOn, HasPlace, KnowsNames};
 
-    /// Before the first line.
+    /// Before the first line. No other call takes memory.
     pub fn new(alloc: Global) -> Result<Names, AllocError>
         ensures { IfOk result (KnowsNames [] 0) }
     {
+        let room = MAX_NAME as usize + 1;
         Ok(Names {
-            made: vec![in alloc; false; MAX_NAME as usize + 1]?,
-            holder: vec![in alloc; 0; MAX_NAME as usize + 1]?,
-            addressee: vec![in alloc; 0; MAX_NAME as usize + 1]?,
+            made: Vec::with_capacity(alloc, room)?,
+            holder: Vec::with_capacity(alloc, room)?,
+            addressee: Vec::with_capacity(alloc, room)?,
         })
     }
 
@@ -44,7 +80,7 @@ impl Names {
         ensures { (section : ℕ) (earlier : Earlier) → KnowsNames earlier section self.now
             → result ≡ language.is_made name earlier }
     {
-        self.made[name as usize]
+        value_of(name, false, &self.made)
     }
 
     /// Whether the section, which was begun last, holds the name.
@@ -54,7 +90,7 @@ impl Names {
         ensures { (earlier : Earlier) → KnowsNames earlier section self.now
             → result ≡ language.is_held name earlier }
     {
-        self.holder[name as usize] == section
+        value_of(name, 0, &self.holder) == section
     }
 
     /// Whether a line gave the name.
@@ -63,7 +99,7 @@ impl Names {
         ensures { (section : ℕ) (earlier : Earlier) → KnowsNames earlier section self.now
             → result ≡ language.is_given name earlier }
     {
-        self.addressee[name as usize] > 0
+        value_of(name, 0, &self.addressee) > 0
     }
 
     /// Whether a line gave the name to the scheduler, from 1 on.
@@ -71,11 +107,25 @@ impl Names {
         requires { name ≤ MAX_NAME }
         ensures { result ≡ (scheduler == get_or self.now.addressee.items name 0) }
     {
-        scheduler == self.addressee[name as usize]
+        scheduler == value_of(name, 0, &self.addressee)
     }
 
-    /// Notes an operation of the section that was begun last.
-    pub fn note(&mut self, section: u32, op: Op)
+    /// Sees to it that the name has a place in each table.
+    fn reach(&mut self, name: u32)
+        requires { name ≤ MAX_NAME }
+        ensures place { HasPlace name self.new }
+        ensures same { (section : ℕ) (earlier : Earlier) → KnowsNames earlier section self.old
+            → KnowsNames earlier section self.new }
+    {
+        let count = name as usize + 1;
+        lengthen(count, false, &mut self.made);
+        lengthen(count, 0, &mut self.holder);
+        lengthen(count, 0, &mut self.addressee);
+    }
+
+    /// Writes what an operation of the section that was begun last says, at its place.
+    fn write(&mut self, section: u32, op: Op)
+        requires place { HasPlace (noted_name op) self.old }
         requires range { HasRanges op }
         requires given { GivesOn op }
         requires begun { 0 < section }
@@ -92,5 +142,18 @@ impl Names {
             Op::Take { name, .. } => self.holder[name as usize] = section,
             _ => (),
         }
+    }
+
+    /// Notes an operation of the section that was begun last.
+    pub fn note(&mut self, section: u32, op: Op)
+        requires range { HasRanges op }
+        requires given { GivesOn op }
+        requires begun { 0 < section }
+        ensures { (earlier : Earlier) → KnowsNames earlier section self.old
+            → reuses earlier op ≡ false
+            → KnowsNames (Operation op ∷ earlier) section self.new }
+    {
+        self.reach(noted_name(op));
+        self.write(section, op);
     }
 }

@@ -168,9 +168,9 @@ impl Seen {
     }
 }
 
-/// Reads a trace for schedulers 1 to `schedulers`, 16 at most. The text has fewer than 2^32 - 1
-/// bytes. A generated trace has no operations yet. Without `OutOfMemory` the answer is the trace
-/// that the text is, or its first refusal, with the number of the line.
+/// Reads a trace for schedulers 1 to `schedulers`, `MAX_SCHEDULERS` at most. The text has fewer
+/// than 2^32 - 1 bytes. A generated trace has no operations yet. Without `OutOfMemory` the answer
+/// is the trace that the text is, or its first refusal, with the number of the line.
 pub fn read_trace(alloc: Global, bytes: &[u8], schedulers: u32) -> Result<Trace, TraceFault>
     requires schedulers { schedulers ≤ MAX_SCHEDULERS }
     requires bytes { length bytes.now + 1 < 2 ^ 32 }

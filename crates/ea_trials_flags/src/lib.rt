@@ -27,7 +27,7 @@ pub fn refused_words()
     ensures above_hundred_percent { flags (words (codes "+MHacul 101")) ≡ bad_value 2 }
     ensures schedulers_missing { flags (words (codes "+S")) ≡ no_value 1 }
     ensures no_schedulers { flags (words (codes "+S 0")) ≡ bad_value 2 }
-    ensures too_many_schedulers { flags (words (codes "+S 17")) ≡ bad_value 2 }
+    ensures too_many_schedulers { flags (words (codes "+S 65")) ≡ bad_value 2 }
     ensures zeros_are_digits { flags (words (codes "+S 00000000016")) ≡ bad_value 2 }
     ensures eleven_digits { flags (words (codes "+MHacnl 10000000000")) ≡ bad_value 2 }
     ensures no_number { flags (words (codes "+MHacfml 1x")) ≡ bad_value 2 }
@@ -68,7 +68,7 @@ pub fn given_settings()
     ensures super_carrier_only { flags (words (codes "+MMsco true")) ≡ given plain }
     ensures only_super_carrier { flags (words (codes "+MMsco true +MMscs 128"))
         ≡ given (record plain { scs = 128 }) }
-    ensures schedulers { flags (words (codes "+S 16")) ≡ given (record plain { schedulers = 16 }) }
+    ensures schedulers { flags (words (codes "+S 64")) ≡ given (record plain { schedulers = 64 }) }
     ensures one_then_all { flags (words (codes "+MHacul 40 +Muacul 30"))
         ≡ given (for_all (limit_is 30)) }
     ensures all_then_one { flags (words (codes "+Muacul 30 +MHacul 40"))
@@ -136,6 +136,9 @@ pub fn main_carriers()
     ensures sixteenth { flags (words (codes "+S 16 +MHmmbcs 4096"))
         ≡ given (record (with_h (record usual { mmbcs = 524288 })) { schedulers = 16 }) }
     ensures over_a_sixteenth { flags (words (codes "+S 16 +MHmmbcs 4097")) ≡ too_small }
+    ensures sixty_fourth { flags (words (codes "+S 64 +MHmmbcs 1024"))
+        ≡ given (record (with_h (record usual { mmbcs = 131072 })) { schedulers = 64 }) }
+    ensures over_a_sixty_fourth { flags (words (codes "+S 64 +MHmmbcs 1025")) ≡ too_small }
     ensures schedulers_last { flags (words (codes "+MHmmbcs 4097 +S 16")) ≡ too_small }
     ensures third { flags (words (codes "+S 3 +MHmmbcs 21844"))
         ≡ given (record (with_h (record usual { mmbcs = 2796032 })) { schedulers = 3 }) }

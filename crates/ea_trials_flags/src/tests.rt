@@ -109,7 +109,7 @@ fn a_refused_word_is_named(rt: HostRuntime) -> Result<(), Fail> {
         ("+S ''", BadValue { word: 2 }),
         ("+S -1", BadValue { word: 2 }),
         ("+S +1", BadValue { word: 2 }),
-        ("+S 17", BadValue { word: 2 }),
+        ("+S 65", BadValue { word: 2 }),
         ("+MMscs 0", BadValue { word: 2 }),
         ("+MMsco TRUE", BadValue { word: 2 }),
         ("+MHas BF", BadValue { word: 2 }),
@@ -383,8 +383,8 @@ fn u_sets_each_allocator_at_its_place(rt: HostRuntime) -> Result<(), Fail> {
 #[test]
 fn schedulers_and_the_super_carrier_are_set(rt: HostRuntime) -> Result<(), Fail> {
     let cases = [
-        ("+S 0000000016", 16, 64),
-        ("+S 16 +S 1", 1, 64),
+        ("+S 0000000064", 64, 64),
+        ("+S 64 +S 1", 1, 64),
         ("+MMscs 1", 1, 1),
         ("+MMsco true +MMscs 512 +S 2", 2, 512),
         ("+MMscs 3 +MMsco true", 1, 3),
@@ -411,6 +411,8 @@ fn each_main_carrier_fits_an_equal_part_of_the_super_carrier(rt: HostRuntime) ->
         ("+S 16 +MHmmbcs 4096", true),
         ("+S 16 +MHmmbcs 4097", false),
         ("+MHmmbcs 4097 +S 16", false),
+        ("+S 64 +MHmmbcs 1024", true),
+        ("+S 64 +MHmmbcs 1025", false),
         // A third of 16,384 pages is 5,461 pages and a rest.
         ("+S 3 +MHmmbcs 21844", true),
         ("+S 3 +MHmmbcs 21845", false),

@@ -96,7 +96,7 @@ impl Trial {
     }
 
     fn plan(&self, rt: &impl Abort, need: u32, alone: bool) -> Result<CarrierPlan, NoCarrier> {
-        assert!(rt; self.instance.created() < 1000);
+        assert!(rt; self.instance.created() < 2000);
         assert!(rt; self.instance.is_alone(need) == alone);
         self.instance.plan_carrier(need, alone)
     }
@@ -107,7 +107,7 @@ impl Trial {
         alloc: Global,
         need: u32,
     ) -> Result<Result<CarrierPlan, NoCarrier>, OutOfMemory> {
-        assert!(rt; self.instance.created() < 1000 && !self.instance.is_alone(need));
+        assert!(rt; self.instance.created() < 2000 && !self.instance.is_alone(need));
         let plan = match self.instance.plan_carrier(need, false) {
             Ok(plan) => plan,
             Err(cause) => return Ok(Err(cause)),
@@ -124,7 +124,7 @@ impl Trial {
         need: u32,
         name: u32,
     ) -> Result<(CarrierPlan, Place), NoCarrier> {
-        assert!(rt; need >= 6 && need % 2 == 0 && self.instance.created() < 1000);
+        assert!(rt; need >= 6 && need % 2 == 0 && self.instance.created() < 2000);
         assert!(rt; self.instance.is_alone(need));
         let plan = self.instance.plan_carrier(need, true)?;
         let place = self.instance.create_single(plan, need, name);
@@ -254,25 +254,25 @@ fn a_carrier_is_created_where_no_gap_is_large_enough(rt: HostRuntime) -> Result<
     let mut trial = Trial::new(rt.alloc(), SETTINGS, 2, 128, 100)?;
     let steps = [
         Put(14, 1, None),
-        Plan(14, Ok((257, 128, 2, 1))),
-        Employs(257, false),
-        Create(14, Ok((257, 128, 2, 1))),
-        Employs(257, true),
-        Employs(258, false),
+        Plan(14, Ok((1025, 128, 2, 1))),
+        Employs(1025, false),
+        Create(14, Ok((1025, 128, 2, 1))),
+        Employs(1025, true),
+        Employs(1026, false),
         // A rest of 2 units stays in the second block, and then there is no gap.
-        Put(14, 1, Some((257, 8, 14))),
+        Put(14, 1, Some((1025, 8, 14))),
         FreeUnits(1002),
-        Put(1000, 2, Some((257, 22, 1002))),
+        Put(1000, 2, Some((1025, 22, 1002))),
         FreeUnits(0),
         Put(6, 3, None),
-        Create(6, Ok((258, 130, 3, 2))),
-        Put(6, 3, Some((258, 8, 6))),
+        Create(6, Ok((1026, 130, 3, 2))),
+        Put(6, 3, Some((1026, 8, 6))),
         FreeUnits(1522),
-        BlockAt(257, 8, Some((1, 14))),
-        BlockAt(257, 22, Some((2, 1002))),
-        BlockAt(258, 8, Some((3, 6))),
-        BlockAt(258, 22, None),
-        BlockAt(259, 8, None),
+        BlockAt(1025, 8, Some((1, 14))),
+        BlockAt(1025, 22, Some((2, 1002))),
+        BlockAt(1026, 8, Some((3, 6))),
+        BlockAt(1026, 22, None),
+        BlockAt(1027, 8, None),
     ];
     trial.steps(&rt, rt.alloc(), &steps)?;
     Ok(())
@@ -374,19 +374,19 @@ fn a_block_above_the_threshold_has_a_carrier_of_its_own(rt: HostRuntime) -> Resu
         IsAlone(402, true),
         // A multiblock carrier has 1024 units at first, a singleblock carrier as few pages as hold
         // the block and the header.
-        Plan(400, Ok((257, 128, 2, 1))),
-        PlanSingle(402, Ok((257, 128, 1, 1))),
-        PlanSingle(504, Ok((257, 128, 1, 1))),
-        PlanSingle(506, Ok((257, 128, 2, 1))),
-        PutSingle(506, 1, (257, 128, 2, 1), (257, 8, 506)),
+        Plan(400, Ok((1025, 128, 2, 1))),
+        PlanSingle(402, Ok((1025, 128, 1, 1))),
+        PlanSingle(504, Ok((1025, 128, 1, 1))),
+        PlanSingle(506, Ok((1025, 128, 2, 1))),
+        PutSingle(506, 1, (1025, 128, 2, 1), (1025, 8, 506)),
         // A tail of 2 units doesn't make the block larger.
-        PutSingle(502, 2, (258, 130, 1, 2), (258, 8, 502)),
-        BlockAt(257, 8, Some((1, 506))),
-        BlockAt(258, 8, Some((2, 502))),
-        BlockAt(258, 510, None),
-        Employs(257, true),
-        Employs(258, true),
-        Employs(259, false),
+        PutSingle(502, 2, (1026, 130, 1, 2), (1026, 8, 502)),
+        BlockAt(1025, 8, Some((1, 506))),
+        BlockAt(1026, 8, Some((2, 502))),
+        BlockAt(1026, 510, None),
+        Employs(1025, true),
+        Employs(1026, true),
+        Employs(1027, false),
         Created(2),
     ];
     trial.steps(&rt, rt.alloc(), &steps)?;
@@ -527,14 +527,14 @@ fn a_singleblock_carrier_needs_a_run_that_holds_it(rt: HostRuntime) -> Result<()
 }
 
 #[test]
-fn multiblock_and_singleblock_carriers_share_256_numbers(rt: HostRuntime) -> Result<(), Fail> {
+fn multiblock_and_singleblock_carriers_share_1024_numbers(rt: HostRuntime) -> Result<(), Fail> {
     let settings = Settings {
         smbcs: 512,
         lmbcs: 512,
         ..LOW_THRESHOLD
     };
-    let mut trial = Trial::new(rt.alloc(), settings, 1, 0, 300)?;
-    for k in 0..128 {
+    let mut trial = Trial::new(rt.alloc(), settings, 1, 0, 1100)?;
+    for k in 0..512 {
         let steps = [
             PutSingle(
                 504,
@@ -551,10 +551,10 @@ fn multiblock_and_singleblock_carriers_share_256_numbers(rt: HostRuntime) -> Res
         PlanSingle(504, Err(NoCarrier::Numbers)),
         Plan(20, Err(NoCarrier::Numbers)),
         TakeOut(101, 8, true),
-        Plan(20, Ok((101, 100, 1, 257))),
-        PlanSingle(504, Ok((101, 100, 1, 257))),
-        PlanSingle(506, Ok((101, 256, 2, 257))),
-        Created(256),
+        Plan(20, Ok((101, 100, 1, 1025))),
+        PlanSingle(504, Ok((101, 100, 1, 1025))),
+        PlanSingle(506, Ok((101, 1024, 2, 1025))),
+        Created(1024),
     ];
     trial.steps(&rt, rt.alloc(), &steps)?;
     Ok(())
@@ -758,7 +758,7 @@ const FOREIGN: CarrierPlan = CarrierPlan {
 };
 
 const SINGLE: CarrierPlan = CarrierPlan {
-    number: 257,
+    number: 1025,
     base: 128,
     pages: 2,
     birth: 1,
@@ -794,7 +794,7 @@ fn a_singleblock_carrier_without_its_block_is_given_up(rt: HostRuntime) -> Resul
         ..
     } = instance.create_single(SINGLE, 600, 1);
     assert!(rt; instance.release(Spot { carrier, offset }));
-    let single = instance.give_up_single(257);
-    assert!(rt; single.number() == 257 && instance.owns(257) && !instance.employs(257));
+    let single = instance.give_up_single(1025);
+    assert!(rt; single.number() == 1025 && instance.owns(1025) && !instance.employs(1025));
     Ok(())
 }

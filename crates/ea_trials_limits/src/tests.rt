@@ -43,12 +43,12 @@ fn an_input_has_16_megabytes_at_most(rt: HostRuntime) -> Result<(), Fail> {
 }
 
 #[test]
-fn a_trace_has_262144_operations_at_most(rt: HostRuntime) -> Result<(), Fail> {
+fn a_trace_has_1048576_operations_at_most(rt: HostRuntime) -> Result<(), Fail> {
     // 12 bytes of the section's line, 14 of the block, 12 of its free, 15 of each other, 57 of the
     // totals.
     let cases = [
-        (262_143, 0, 95 + 15 * 262_142, ""),
-        (262_144, 2, 0, "erts_alloc_run: line 262147: too many\n"),
+        (1_048_575, 0, 95 + 15 * 1_048_574, ""),
+        (1_048_576, 2, 0, "erts_alloc_run: line 1048579: too many\n"),
     ];
     for (frees, wanted, text, line) in cases {
         let mut input = Vec::from_slice(rt.alloc(), b"type H\nscheduler 1\nalloc 1 0\n")?;

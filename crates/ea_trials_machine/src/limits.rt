@@ -41,7 +41,7 @@ pub fn limits()
         ++ codes "total carriers 1 units 512 live 504 queued 0 free 0 header 8\n") }
     ensures busy_word_counted { text_of (words (codes "+S 2 +MMscs 1"))
         (codes "type H\nscheduler 1\nalloc 1 100\nalloc 2 100\nalloc 3 100\nfree 1\nfree 2\n"
-        ++ codes "scheduler 2\nalloc 4 524280\nschedule\n1*522 2*513\nend\n")
+        ++ codes "scheduler 2\nalloc 4 524280\nschedule\n1*2058 2*2049\nend\n")
         ≡ Some
         (codes "scheduler 1\nalloc 1 1 8 14\nalloc 2 1 22 14\nalloc 3 1 36 14\nfree 1 done\n"
         ++ codes "free 2 done\nscheduler 2\nalloc 4 fail need 65536 looked 1 space\n"
@@ -49,7 +49,7 @@ pub fn limits()
         ++ codes "total carriers 1 units 32768 live 14 queued 0 free 32746 header 8\n") }
     ensures pooled_word_counted { text_of (words (codes "+S 2 +MMscs 1"))
         (codes "type H\nscheduler 1\nalloc 1 100\nalloc 2 100\nalloc 3 100\nfree 1\nfree 2\n"
-        ++ codes "scheduler 2\nalloc 4 524280\nschedule\n1*519 2*513\nend\n")
+        ++ codes "scheduler 2\nalloc 4 524280\nschedule\n1*2055 2*2049\nend\n")
         ≡ Some
         (codes "scheduler 1\nalloc 1 1 8 14\nalloc 2 1 22 14\nalloc 3 1 36 14\nfree 1 done\n"
         ++ codes "free 2 done\nscheduler 2\nalloc 4 fail need 65536 looked 1 space\n"
@@ -57,7 +57,7 @@ pub fn limits()
         ++ codes "total carriers 1 units 32768 live 14 queued 0 free 32746 header 8\n") }
     ensures employed_word_not_counted { text_of (words (codes "+S 2 +MMscs 1"))
         (codes "type H\nscheduler 1\nalloc 1 100\nalloc 2 100\nalloc 3 100\nfree 1\nfree 2\n"
-        ++ codes "scheduler 2\nalloc 4 524280\nschedule\n1*516 2*513\nend\n")
+        ++ codes "scheduler 2\nalloc 4 524280\nschedule\n1*2052 2*2049\nend\n")
         ≡ Some
         (codes "scheduler 1\nalloc 1 1 8 14\nalloc 2 1 22 14\nalloc 3 1 36 14\nfree 1 done\n"
         ++ codes "free 2 done\nscheduler 2\nalloc 4 fail need 65536 looked 0 space\n"
@@ -66,13 +66,13 @@ pub fn limits()
     ensures lost_try_counted_once { text_of (words (codes "+S 3 +MMscs 1"))
         (codes "type H\nscheduler 1\nalloc 1 100\nalloc 2 100\nfree 1\nscheduler 2\nalloc 3 100\n"
         ++ codes "scheduler 3\nalloc 5 200000\nalloc 4 160000\nschedule\n"
-        ++ codes "3*770 1*774 2*769 3*769 2 3\nend\n")
+        ++ codes "3*3074 1*3078 2*3073 3*3073 2 3\nend\n")
         ≡ Some
         (codes "scheduler 1\nalloc 1 1 8 14\nalloc 2 1 22 14\nfree 1 done\nscheduler 2\n"
-        ++ codes "alloc 3 1 8 14\nscheduler 3\nalloc 5 513 8 25002\n"
+        ++ codes "alloc 3 1 8 14\nscheduler 3\nalloc 5 2049 8 25002\n"
         ++ codes "alloc 4 fail need 20002 looked 1 space\n"
         ++ codes "carrier 1 multi owner 1 employed 2 base 0 pages 64 allocated 28 largest 32732\n"
-        ++ codes "carrier 513 multi owner 3 employed 3 base 170 pages 64 "
+        ++ codes "carrier 2049 multi owner 3 employed 3 base 170 pages 64 "
         ++ codes "allocated 25002 largest 7758\n"
         ++ codes "total carriers 2 units 65536 live 25030 queued 0 free 40490 header 16\n") }
     ensures sum_is_not_sparse { text_of (words (codes "+MHacul 50 +MHsmbcs 1 +MHlmbcs 1"))

@@ -16,16 +16,16 @@ pub fn stops()
         (codes "type H\nscheduler 1\nscheduler 2\nalloc 1 100\nidle\nstop 2 3\nstop 1 1\n"
         ++ codes "schedule\nend\n")
         ≡ Some
-        (codes "scheduler 1\nscheduler 2\nalloc 1 257 8 14\nidle\n"
-        ++ codes "carrier 257 multi owner 2 employed 2 base 8192 pages 64 "
+        (codes "scheduler 1\nscheduler 2\nalloc 1 1025 8 14\nidle\n"
+        ++ codes "carrier 1025 multi owner 2 employed 2 base 8192 pages 64 "
         ++ codes "allocated 14 largest 32746\n"
         ++ codes "total carriers 1 units 32768 live 14 queued 0 free 32746 header 8\n") }
     ensures stopped_a_step_before_its_end { text_of (words (codes "+S 2 +MHacul 0"))
         (codes "type H\nscheduler 1\nscheduler 2\nalloc 1 100\nidle\nstop 2 2\nstop 1 2\n"
         ++ codes "schedule\n2*100 1*5 2*1\nend\n")
         ≡ Some
-        (codes "scheduler 1\nscheduler 2\nalloc 1 257 8 14\nidle\nstopped 2\n"
-        ++ codes "carrier 257 multi owner 2 employed 2 base 8192 pages 64 "
+        (codes "scheduler 1\nscheduler 2\nalloc 1 1025 8 14\nidle\nstopped 2\n"
+        ++ codes "carrier 1025 multi owner 2 employed 2 base 8192 pages 64 "
         ++ codes "allocated 14 largest 32746\n"
         ++ codes "total carriers 1 units 32768 live 14 queued 0 free 32746 header 8\n") }
     ensures stopped_before_link { text_of (words (codes "+S 2 +MHacul 0"))
@@ -38,58 +38,58 @@ pub fn stops()
         ++ codes "total carriers 1 units 32768 live 0 queued 14 free 32746 header 8\n") }
     ensures stopped_while_busy { text_of (words (codes "+S 2"))
         (codes "type H\nscheduler 1\nalloc 1 100\nalloc 2 100\nalloc 3 100\nfree 1\nfree 2\n"
-        ++ codes "scheduler 2\nalloc 4 100\nstop 1 522\nschedule\nend\n")
+        ++ codes "scheduler 2\nalloc 4 100\nstop 1 2058\nschedule\nend\n")
         ≡ Some
         (codes "scheduler 1\nalloc 1 1 8 14\nalloc 2 1 22 14\nalloc 3 1 36 14\nfree 1 done\n"
-        ++ codes "stopped 522\nscheduler 2\nalloc 4 257 8 14\n"
+        ++ codes "stopped 2058\nscheduler 2\nalloc 4 1025 8 14\n"
         ++ codes "carrier 1 multi owner 1 busy 1 base 0 pages 64 allocated 14 largest 32718\n"
-        ++ codes "carrier 257 multi owner 2 employed 2 base 8192 pages 64 "
+        ++ codes "carrier 1025 multi owner 2 employed 2 base 8192 pages 64 "
         ++ codes "allocated 14 largest 32746\n"
         ++ codes "total carriers 2 units 65536 live 28 queued 0 free 65492 header 16\n") }
     ensures own_carrier_fetched_back { text_of (words (codes "+S 2"))
         (codes "type H\nscheduler 1\nalloc 1 100\nalloc 2 100\nfree 1\nalloc 4 100\n"
-        ++ codes "scheduler 2\nalloc 3 100\nfree 3\nstop 1 521\nschedule\n1*518 2*517\nend\n")
+        ++ codes "scheduler 2\nalloc 3 100\nfree 3\nstop 1 2057\nschedule\n1*2054 2*2053\nend\n")
         ≡ Some
         (codes "scheduler 1\nalloc 1 1 8 14\nalloc 2 1 22 14\nfree 1 done\nalloc 4 1 8 14\n"
-        ++ codes "stopped 521\nscheduler 2\nalloc 3 1 8 14\nfree 3 done\n"
+        ++ codes "stopped 2057\nscheduler 2\nalloc 3 1 8 14\nfree 3 done\n"
         ++ codes "carrier 1 multi owner 1 employed 1 base 0 pages 64 allocated 28 largest 32732\n"
         ++ codes "total carriers 1 units 32768 live 28 queued 0 free 32732 header 8\n") }
     ensures stopped_between_own_looks { text_of
         (words (codes "+MHacul 100 +MHsmbcs 4 +MHlmbcs 4"))
         (codes "type H\nscheduler 1\nalloc 1 3000\nalloc 2 1000\nalloc 3 2000\nalloc 4 2000\n"
-        ++ codes "free 2\nfree 3\nalloc 5 2000\nstop 1 526\nschedule\nend\n")
+        ++ codes "free 2\nfree 3\nalloc 5 2000\nstop 1 2062\nschedule\nend\n")
         ≡ Some
         (codes "scheduler 1\nalloc 1 1 8 376\nalloc 2 1 384 128\nalloc 3 2 8 252\n"
-        ++ codes "alloc 4 2 260 252\nfree 2 done\nfree 3 done\nstopped 526\n"
+        ++ codes "alloc 4 2 260 252\nfree 2 done\nfree 3 done\nstopped 2062\n"
         ++ codes "carrier 1 multi owner 1 pooled 1 base 0 pages 1 allocated 376 largest 128\n"
         ++ codes "carrier 2 multi owner 1 pooled 1 base 1 pages 1 allocated 252 largest 252\n"
         ++ codes "total carriers 2 units 1024 live 628 queued 0 free 380 header 16\n") }
     ensures stopped_after_own_try { text_of
         (words (codes "+MHacul 100 +MHsmbcs 4 +MHlmbcs 4"))
         (codes "type H\nscheduler 1\nalloc 1 3000\nalloc 2 1000\nalloc 3 2000\nalloc 4 2000\n"
-        ++ codes "free 2\nfree 3\nalloc 5 2000\nstop 1 528\nschedule\nend\n")
+        ++ codes "free 2\nfree 3\nalloc 5 2000\nstop 1 2064\nschedule\nend\n")
         ≡ Some
         (codes "scheduler 1\nalloc 1 1 8 376\nalloc 2 1 384 128\nalloc 3 2 8 252\n"
-        ++ codes "alloc 4 2 260 252\nfree 2 done\nfree 3 done\nalloc 5 2 8 252\nstopped 528\n"
+        ++ codes "alloc 4 2 260 252\nfree 2 done\nfree 3 done\nalloc 5 2 8 252\nstopped 2064\n"
         ++ codes "carrier 1 multi owner 1 pooled 1 base 0 pages 1 allocated 376 largest 128\n"
         ++ codes "carrier 2 multi owner 1 employed 1 base 1 pages 1 allocated 504 largest 0\n"
         ++ codes "total carriers 2 units 1024 live 880 queued 0 free 128 header 16\n") }
     ensures stopped_before_traitor_try { text_of (words (codes "+S 2"))
         (codes "type H\nscheduler 1\nalloc 1 100\nalloc 2 100\nfree 1\nalloc 4 100\n"
-        ++ codes "scheduler 2\nalloc 3 100\nfree 3\nstop 1 521\nschedule\n"
-        ++ codes "1*518 2*514 1*2 2*3\nend\n")
+        ++ codes "scheduler 2\nalloc 3 100\nfree 3\nstop 1 2057\nschedule\n"
+        ++ codes "1*2054 2*2050 1*2 2*3\nend\n")
         ≡ Some
-        (codes "scheduler 1\nalloc 1 1 8 14\nalloc 2 1 22 14\nfree 1 done\nstopped 521\n"
+        (codes "scheduler 1\nalloc 1 1 8 14\nalloc 2 1 22 14\nfree 1 done\nstopped 2057\n"
         ++ codes "scheduler 2\nalloc 3 1 8 14\nfree 3 done\n"
         ++ codes "carrier 1 multi owner 1 pooled 2 base 0 pages 64 allocated 14 largest 32732\n"
         ++ codes "total carriers 1 units 32768 live 14 queued 0 free 32746 header 8\n") }
     ensures stopped_after_traitor_try { text_of (words (codes "+S 2"))
         (codes "type H\nscheduler 1\nalloc 1 100\nalloc 2 100\nfree 1\nalloc 4 100\n"
-        ++ codes "scheduler 2\nalloc 3 100\nfree 3\nstop 1 522\nschedule\n"
-        ++ codes "1*518 2*514 1*2 2*3\nend\n")
+        ++ codes "scheduler 2\nalloc 3 100\nfree 3\nstop 1 2058\nschedule\n"
+        ++ codes "1*2054 2*2050 1*2 2*3\nend\n")
         ≡ Some
         (codes "scheduler 1\nalloc 1 1 8 14\nalloc 2 1 22 14\nfree 1 done\nalloc 4 1 8 14\n"
-        ++ codes "stopped 522\nscheduler 2\nalloc 3 1 8 14\nfree 3 done\n"
+        ++ codes "stopped 2058\nscheduler 2\nalloc 3 1 8 14\nfree 3 done\n"
         ++ codes "carrier 1 multi owner 1 employed 1 base 0 pages 64 allocated 28 largest 32732\n"
         ++ codes "total carriers 1 units 32768 live 28 queued 0 free 32732 header 8\n") }
 {}

@@ -100,7 +100,7 @@ two_pooled bytes turns = moment (words (codes "+MHacul 100 +MHsmbcs 4 +MHlmbcs 4
 abbrev pub stopped_before_fetch : List ℕ → Option Moment
 stopped_before_fetch turns = moment []
     (scheduled
-    (codes "type H\nscheduler 1\nalloc 1 100\nalloc 2 100\nfree 1\nalloc 3 100\nstop 1 264\n")
+    (codes "type H\nscheduler 1\nalloc 1 100\nalloc 2 100\nfree 1\nalloc 3 100\nstop 1 1032\n")
     turns)
 
 -- scheduler 1 stops while its carrier is busy; scheduler 2 needs a place
@@ -108,7 +108,7 @@ abbrev pub stopped_while_busy : List ℕ → Option Moment
 stopped_while_busy turns = moment (words (codes "+S 2"))
     (scheduled
     (codes "type H\nscheduler 1\nalloc 1 100\nalloc 2 100\nalloc 3 100\nfree 1\nfree 3\n"
-    ++ codes "scheduler 2\nalloc 4 100\nstop 1 522\n") turns)
+    ++ codes "scheduler 2\nalloc 4 100\nstop 1 2058\n") turns)
 
 -- without migration, scheduler 2 stops with a node that it pushed and didn't link
 abbrev pub stopped_before_link : List ℕ → Option Moment

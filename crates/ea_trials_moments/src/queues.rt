@@ -11,26 +11,26 @@ ghost use Rattle.ea_trials_moments.specs.Runs.{usual};
 
 /// What stands after so many turns.
 pub fn queues()
-    ensures to_be_given { row_of 1 (forwarded_block (codes "1*772")) ≡ Some (Give (named 2 22)) }
-    ensures not_given_yet { given (forwarded_block (codes "1*772")) ≡ Some [] }
-    ensures given { given (forwarded_block (codes "1*773")) ≡ Some (named 2 22 ∷ []) }
-    ensures held_no_longer { held_by 1 (forwarded_block (codes "1*773")) ≡ Some (named 1 8 ∷ []) }
-    ensures given_and_alive { sums (forwarded_block (codes "1*776")) ≡ Some (sums_of 14 0 32746) }
-    ensures taken { held_by 3 (forwarded_block (codes "1*776 3*2")) ≡ Some (named 2 22 ∷ []) }
-    ensures given_no_longer { given (forwarded_block (codes "1*776 3*2")) ≡ Some [] }
-    ensures to_be_queued { row_of 3 (forwarded_block (codes "1*776 3*4"))
+    ensures to_be_given { row_of 1 (forwarded_block (codes "1*3076")) ≡ Some (Give (named 2 22)) }
+    ensures not_given_yet { given (forwarded_block (codes "1*3076")) ≡ Some [] }
+    ensures given { given (forwarded_block (codes "1*3077")) ≡ Some (named 2 22 ∷ []) }
+    ensures held_no_longer { held_by 1 (forwarded_block (codes "1*3077")) ≡ Some (named 1 8 ∷ []) }
+    ensures given_and_alive { sums (forwarded_block (codes "1*3080")) ≡ Some (sums_of 14 0 32746) }
+    ensures taken { held_by 3 (forwarded_block (codes "1*3080 3*2")) ≡ Some (named 2 22 ∷ []) }
+    ensures given_no_longer { given (forwarded_block (codes "1*3080 3*2")) ≡ Some [] }
+    ensures to_be_queued { row_of 3 (forwarded_block (codes "1*3080 3*4"))
         ≡ Some (Push (block 2 22) 1) }
-    ensures fetched_meanwhile { owner_word 1 (forwarded_block (codes "1*776 3*4 2*770"))
+    ensures fetched_meanwhile { owner_word 1 (forwarded_block (codes "1*3080 3*4 2*3074"))
         ≡ Some (word.Employed 2) }
-    ensures with_the_former_employer { queue_of 1 (forwarded_block (codes "1*776 3*4 2*770 3*2"))
+    ensures with_the_former_employer { queue_of 1 (forwarded_block (codes "1*3080 3*4 2*3074 3*2"))
         ≡ Some (linked (block 2 22) ∷ []) }
-    ensures to_be_forwarded { row_of 1 (forwarded_block (codes "1*776 3*4 2*770 3*2 1*3"))
+    ensures to_be_forwarded { row_of 1 (forwarded_block (codes "1*3080 3*4 2*3074 3*2 1*3"))
         ≡ Some (Push (block 2 22) 2) }
-    ensures forwarded { queue_of 2 (forwarded_block (codes "1*776 3*4 2*770 3*2 1*4"))
+    ensures forwarded { queue_of 2 (forwarded_block (codes "1*3080 3*4 2*3074 3*2 1*4"))
         ≡ Some (unlinked (block 2 22) ∷ []) }
-    ensures forwarded_and_linked { queue_of 2 (forwarded_block (codes "1*776 3*4 2*770 3*2 1*5"))
+    ensures forwarded_and_linked { queue_of 2 (forwarded_block (codes "1*3080 3*4 2*3074 3*2 1*5"))
         ≡ Some (linked (block 2 22) ∷ []) }
-    ensures allocated_on_its_way { sums (forwarded_block (codes "1*776 3*4 2*770 3*2 1*5"))
+    ensures allocated_on_its_way { sums (forwarded_block (codes "1*3080 3*4 2*3074 3*2 1*5"))
         ≡ Some (sums_of 14 14 32732) }
     ensures newest_first { queue_of 1 (two_freed (codes "1*6 2*4 3*5"))
         ≡ Some (linked (block 2 22) ∷ unlinked (block 1 8) ∷ []) }
@@ -53,20 +53,21 @@ pub fn queues()
     ensures worked_off { passed_by 1 (two_freed (codes "1*6 2*4 3*5 1*3 2 1")) ≡ Some [] }
     ensures all_released { sums (two_freed (codes "1*6 2*4 3*5 1*3 2 1"))
         ≡ Some (record { carriers = 0; units = 0; live = 0; queued = 0; free = 0; header = 0 }) }
-    ensures both_linked { queue_of 1 (two_in_the_queue (codes "1*520 2*12"))
+    ensures both_linked { queue_of 1 (two_in_the_queue (codes "1*2056 2*12"))
         ≡ Some (linked (block 2 22) ∷ linked (block 1 8) ∷ []) }
-    ensures second_waits { passed_by 1 (two_in_the_queue (codes "1*520 2*12 1*3"))
+    ensures second_waits { passed_by 1 (two_in_the_queue (codes "1*2056 2*12 1*3"))
         ≡ Some (block 2 22 ∷ []) }
-    ensures first_looked_at { row_of 1 (two_in_the_queue (codes "1*520 2*12 1*3")) ≡ Some (Look 1) }
-    ensures both_on_their_way { sums (two_in_the_queue (codes "1*520 2*12 1*3"))
-        ≡ Some (sums_of 14 28 32718) }
-    ensures first_released { row_of 1 (two_in_the_queue (codes "1*520 2*12 1*4"))
-        ≡ Some (Abandon (carrier_with (usual 2 22 ∷ usual 3 36 ∷ []))) }
-    ensures none_waits { passed_by 1 (two_in_the_queue (codes "1*520 2*12 1*5")) ≡ Some [] }
-    ensures second_looked_at { row_of 1 (two_in_the_queue (codes "1*520 2*12 1*5"))
+    ensures first_looked_at { row_of 1 (two_in_the_queue (codes "1*2056 2*12 1*3"))
         ≡ Some (Look 1) }
-    ensures second_in_the_pool { row_of 1 (two_in_the_queue (codes "1*520 2*12 1*6"))
+    ensures both_on_their_way { sums (two_in_the_queue (codes "1*2056 2*12 1*3"))
+        ≡ Some (sums_of 14 28 32718) }
+    ensures first_released { row_of 1 (two_in_the_queue (codes "1*2056 2*12 1*4"))
+        ≡ Some (Abandon (carrier_with (usual 2 22 ∷ usual 3 36 ∷ []))) }
+    ensures none_waits { passed_by 1 (two_in_the_queue (codes "1*2056 2*12 1*5")) ≡ Some [] }
+    ensures second_looked_at { row_of 1 (two_in_the_queue (codes "1*2056 2*12 1*5"))
+        ≡ Some (Look 1) }
+    ensures second_in_the_pool { row_of 1 (two_in_the_queue (codes "1*2056 2*12 1*6"))
         ≡ Some (BusyTry 1 (word.Pooled 1 32718)) }
-    ensures second_released { row_of 1 (two_in_the_queue (codes "1*520 2*12 1*7"))
+    ensures second_released { row_of 1 (two_in_the_queue (codes "1*2056 2*12 1*7"))
         ≡ Some (Settle (carrier_with (usual 3 36 ∷ []))) }
 {}

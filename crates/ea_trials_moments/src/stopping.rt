@@ -11,23 +11,23 @@ ghost use Rattle.ea_trials_moments.specs.Runs.{sums_of, unlinked, usual};
 
 /// What stands after so many turns.
 pub fn stopping()
-    ensures before_its_last_step { row_of 1 (stopped_before_fetch (codes "1*263"))
+    ensures before_its_last_step { row_of 1 (stopped_before_fetch (codes "1*1031"))
         ≡ Some (Look 1) }
-    ensures try_left { row_of 1 (stopped_before_fetch (codes "1*900"))
+    ensures try_left { row_of 1 (stopped_before_fetch (codes "1*2500"))
         ≡ Some (FetchTry 1 (word.Pooled 1 32732)) }
-    ensures still_pooled { owner_word 1 (stopped_before_fetch (codes "1*900"))
+    ensures still_pooled { owner_word 1 (stopped_before_fetch (codes "1*2500"))
         ≡ Some (word.Pooled 1 32732) }
-    ensures still_listed { lists_of 1 (stopped_before_fetch (codes "1*900"))
+    ensures still_listed { lists_of 1 (stopped_before_fetch (codes "1*2500"))
         ≡ Some (listed (1 ∷ []) []) }
-    ensures name_kept { held_by 1 (stopped_before_fetch (codes "1*900"))
+    ensures name_kept { held_by 1 (stopped_before_fetch (codes "1*2500"))
         ≡ Some (named 2 22 ∷ []) }
-    ensures still_busy { owner_word 1 (stopped_while_busy (codes "1*900")) ≡ Some (word.Busy 1) }
-    ensures content_in_its_hand { row_of 1 (stopped_while_busy (codes "1*900"))
+    ensures still_busy { owner_word 1 (stopped_while_busy (codes "1*2500")) ≡ Some (word.Busy 1) }
+    ensures content_in_its_hand { row_of 1 (stopped_while_busy (codes "1*2500"))
         ≡ Some (Settle (carrier_with (usual 2 22 ∷ []))) }
-    ensures counted_in_its_hand { sums (stopped_while_busy (codes "1*900"))
+    ensures counted_in_its_hand { sums (stopped_while_busy (codes "1*2500"))
         ≡ Some (sums_of 14 0 32746) }
-    ensures others_go_on { row_of 2 (stopped_while_busy (codes "1*900 2*513"))
-        ≡ Some (Create 257) }
+    ensures others_go_on { row_of 2 (stopped_while_busy (codes "1*2500 2*2049"))
+        ≡ Some (Create 1025) }
     ensures not_linked { queue_of 1 (stopped_before_link (codes "1*3 2*9"))
         ≡ Some (unlinked (block 1 8) ∷ []) }
     ensures link_left { row_of 2 (stopped_before_link (codes "1*3 2*9"))

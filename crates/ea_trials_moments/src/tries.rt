@@ -9,45 +9,47 @@ ghost use Rattle.ea_trials_moments.specs.Runs.{sums_of, usual};
 
 /// What stands after so many turns.
 pub fn tries()
-    ensures pooled { owner_word 1 (pooled_twice (codes "1*519")) ≡ Some (word.Pooled 1 32718) }
-    ensures to_be_busy { row_of 1 (pooled_twice (codes "1*521"))
+    ensures pooled { owner_word 1 (pooled_twice (codes "1*2055")) ≡ Some (word.Pooled 1 32718) }
+    ensures to_be_busy { row_of 1 (pooled_twice (codes "1*2057"))
         ≡ Some (BusyTry 1 (word.Pooled 1 32718)) }
-    ensures block_in_the_hand { sums (pooled_twice (codes "1*521")) ≡ Some (sums_of 14 14 32732) }
-    ensures busy { owner_word 1 (pooled_twice (codes "1*522")) ≡ Some (word.Busy 1) }
-    ensures to_be_settled { row_of 1 (pooled_twice (codes "1*522"))
+    ensures block_in_the_hand { sums (pooled_twice (codes "1*2057")) ≡ Some (sums_of 14 14 32732) }
+    ensures busy { owner_word 1 (pooled_twice (codes "1*2058")) ≡ Some (word.Busy 1) }
+    ensures to_be_settled { row_of 1 (pooled_twice (codes "1*2058"))
         ≡ Some (Settle (carrier_with (usual 2 22 ∷ []))) }
-    ensures block_released { sums (pooled_twice (codes "1*522")) ≡ Some (sums_of 14 0 32746) }
-    ensures busy_passed_over { row_of 2 (pooled_twice (codes "1*522 2*513")) ≡ Some (Create 257) }
-    ensures settled { owner_word 1 (pooled_twice (codes "1*523")) ≡ Some (word.Pooled 1 32732) }
-    ensures to_be_fetched { row_of 2 (pooled_twice (codes "1*519 2*513"))
+    ensures block_released { sums (pooled_twice (codes "1*2058")) ≡ Some (sums_of 14 0 32746) }
+    ensures busy_passed_over { row_of 2 (pooled_twice (codes "1*2058 2*2049"))
+        ≡ Some (Create 1025) }
+    ensures settled { owner_word 1 (pooled_twice (codes "1*2059")) ≡ Some (word.Pooled 1 32732) }
+    ensures to_be_fetched { row_of 2 (pooled_twice (codes "1*2055 2*2049"))
         ≡ Some (FetchTry 1 (word.Pooled 1 32718)) }
-    ensures fetched { owner_word 1 (pooled_twice (codes "1*519 2*513 2")) ≡ Some (word.Employed 2) }
-    ensures lost_to_a_busy_word { row_of 2 (pooled_twice (codes "1*519 2*513 1*3 2"))
-        ≡ Some (Create 257) }
-    ensures still_busy { owner_word 1 (pooled_twice (codes "1*519 2*513 1*3 2"))
+    ensures fetched { owner_word 1 (pooled_twice (codes "1*2055 2*2049 2"))
+        ≡ Some (word.Employed 2) }
+    ensures lost_to_a_busy_word { row_of 2 (pooled_twice (codes "1*2055 2*2049 1*3 2"))
+        ≡ Some (Create 1025) }
+    ensures still_busy { owner_word 1 (pooled_twice (codes "1*2055 2*2049 1*3 2"))
         ≡ Some (word.Busy 1) }
-    ensures lost_to_another_gap { row_of 2 (pooled_twice (codes "1*519 2*513 1*4 2"))
-        ≡ Some (Create 257) }
-    ensures still_pooled { owner_word 1 (pooled_twice (codes "1*519 2*513 1*4 2"))
+    ensures lost_to_another_gap { row_of 2 (pooled_twice (codes "1*2055 2*2049 1*4 2"))
+        ≡ Some (Create 1025) }
+    ensures still_pooled { owner_word 1 (pooled_twice (codes "1*2055 2*2049 1*4 2"))
         ≡ Some (word.Pooled 1 32732) }
-    ensures fetched_before_the_try { owner_word 1 (pooled_twice (codes "1*519 2*513 1*2 2"))
+    ensures fetched_before_the_try { owner_word 1 (pooled_twice (codes "1*2055 2*2049 1*2 2"))
         ≡ Some (word.Employed 2) }
-    ensures busy_try_lost { row_of 1 (pooled_twice (codes "1*519 2*513 1*2 2 1"))
+    ensures busy_try_lost { row_of 1 (pooled_twice (codes "1*2055 2*2049 1*2 2 1"))
         ≡ Some (Push (block 3 36) 2) }
-    ensures still_fetched { owner_word 1 (pooled_twice (codes "1*519 2*513 1*2 2 1"))
+    ensures still_fetched { owner_word 1 (pooled_twice (codes "1*2055 2*2049 1*2 2 1"))
         ≡ Some (word.Employed 2) }
-    ensures second_wants_it { row_of 2 (fetched_once (codes "1*774 2*769 3*769"))
+    ensures second_wants_it { row_of 2 (fetched_once (codes "1*3078 2*3073 3*3073"))
         ≡ Some (FetchTry 1 (word.Pooled 1 32732)) }
-    ensures third_wants_it { row_of 3 (fetched_once (codes "1*774 2*769 3*769"))
+    ensures third_wants_it { row_of 3 (fetched_once (codes "1*3078 2*3073 3*3073"))
         ≡ Some (FetchTry 1 (word.Pooled 1 32732)) }
-    ensures second_has_it { owner_word 1 (fetched_once (codes "1*774 2*769 3*769 2"))
+    ensures second_has_it { owner_word 1 (fetched_once (codes "1*3078 2*3073 3*3073 2"))
         ≡ Some (word.Employed 2) }
-    ensures third_lost_it { row_of 3 (fetched_once (codes "1*774 2*769 3*769 2 3"))
-        ≡ Some (Create 513) }
-    ensures second_keeps_it { contents_of 2 (fetched_once (codes "1*774 2*769 3*769 2 3"))
+    ensures third_lost_it { row_of 3 (fetched_once (codes "1*3078 2*3073 3*3073 2 3"))
+        ≡ Some (Create 2049) }
+    ensures second_keeps_it { contents_of 2 (fetched_once (codes "1*3078 2*3073 3*3073 2 3"))
         ≡ Some (carrier_with (usual 3 8 ∷ usual 2 22 ∷ []) ∷ []) }
-    ensures third_has_nothing { contents_of 3 (fetched_once (codes "1*774 2*769 3*769 2 3"))
+    ensures third_has_nothing { contents_of 3 (fetched_once (codes "1*3078 2*3073 3*3073 2 3"))
         ≡ Some [] }
-    ensures third_creates_another { owner_word 513 (fetched_once (codes "1*774 2*769 3*769 2 3*2"))
-        ≡ Some (word.Employed 3) }
+    ensures third_creates_another { owner_word 2049
+        (fetched_once (codes "1*3078 2*3073 3*3073 2 3*2")) ≡ Some (word.Employed 3) }
 {}

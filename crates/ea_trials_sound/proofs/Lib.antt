@@ -3,3 +3,5 @@ mod Placed
 mod Handed
 mod Searched
 mod Setups
+mod Fetching
+mod Parts

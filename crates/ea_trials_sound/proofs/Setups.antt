@@ -52,11 +52,22 @@ gaps_setup = record {
   stops = λ i. None;
 }
 
+-- likewise, and its next block is larger than the largest gap there
+abbrev pub large_setup : Setup
+large_setup = record {
+  schedulers = 1;
+  settings = usual_settings;
+  pages = 16384;
+  texts = text_for
+      ((op.Alloc 1 130 ∷ op.Alloc 2 100 ∷ op.Free 1 ∷ op.Alloc 3 262144 ∷ []) ∷ []);
+  stops = λ i. None;
+}
+
 -- scheduler 2 takes and frees block 1
 abbrev pub handed_setup : Setup
 handed_setup = record {
   schedulers = 2;
-  settings = usual_settings;
+  settings = record usual_settings { mmbcs = 12800 };
   pages = 8192;
   texts = text_for
       ((op.Alloc 1 100 ∷ op.Give 1 2 ∷ []) ∷ (op.Take 1 1 ∷ op.Free 1 ∷ []) ∷ []);
@@ -82,9 +93,9 @@ full_instance = record {
   number = 2;
   first = 128;
   end = 256;
-  own = own 257 128 123 ∷ [];
+  own = own 1025 128 123 ∷ [];
   contents = record {
-    number = 257;
+    number = 1025;
     owner = 2;
     base = 128;
     birth = 1;

@@ -31,9 +31,15 @@ two_gaps schedule = moment []
     (scheduled
     (codes "type H\nscheduler 1\nalloc 1 130\nalloc 2 100\nfree 1\nalloc 3 100\n") schedule)
 
--- scheduler 2 takes a block of scheduler 1, and frees it
+-- one scheduler abandons its carrier, and its next block is larger than the largest gap there
+abbrev pub too_large : List ℕ → Option Moment
+too_large schedule = moment []
+    (scheduled
+    (codes "type H\nscheduler 1\nalloc 1 130\nalloc 2 100\nfree 1\nalloc 3 262144\n") schedule)
+
+-- scheduler 2 takes a block of scheduler 1, which lies in its main carrier, and frees it
 abbrev pub handed_over : List ℕ → Option Moment
-handed_over schedule = moment (words (codes "+S 2"))
+handed_over schedule = moment (words (codes "+S 2 +MHmmbcs 100"))
     (scheduled
     (codes "type H\nscheduler 1\nalloc 1 100\ngive 1 2\n"
     ++ codes "scheduler 2\ntake 1 1\nfree 1\n") schedule)

@@ -12,7 +12,7 @@ pub fn tries()
     ensures no_failure_busy { failures seen_busy made_busy ≡ Some [] }
     ensures released { path_of 3 made_busy ≡ Some (Held ∷ InHand ∷ Nowhere ∷ []) }
     ensures pooled_again { content_path 1 made_busy ≡ Some (Home ∷ Busy 1 ∷ Home ∷ []) }
-    ensures another_created { content_path 257 made_busy ≡ Some (Nowhere ∷ Employed 2 ∷ []) }
+    ensures another_created { content_path 1025 made_busy ≡ Some (Nowhere ∷ Employed 2 ∷ []) }
     ensures no_failure_fetched { failures seen_fetched fetched_first ≡ Some [] }
     ensures left_in_a_walk { path_of 3 fetched_first
         ≡ Some (Held ∷ InHand ∷ Queued ∷ Walked ∷ []) }

@@ -15,9 +15,9 @@ const HANDED_OVER: &str = "type H\n\
     threads\nend\n";
 
 const HANDED_OVER_TEXT: &str = "scheduler 1\nalloc 1 1 8 14\ngive 1 2\ntake 2 got\n\
-    scheduler 2\nalloc 2 257 8 14\ngive 2 1\ntake 1 got\n\
+    scheduler 2\nalloc 2 1025 8 14\ngive 2 1\ntake 1 got\n\
     carrier 1 multi owner 1 employed 1 base 0 pages 64 allocated 14 largest 32746\n\
-    carrier 257 multi owner 2 employed 2 base 8192 pages 64 allocated 14 largest 32746\n\
+    carrier 1025 multi owner 2 employed 2 base 8192 pages 64 allocated 14 largest 32746\n\
     total carriers 2 units 65536 live 28 queued 0 free 65492 header 16\n";
 
 /// Scheduler 1 abandons its carrier before it gives, and scheduler 2 fetches it after it took.
@@ -38,9 +38,9 @@ const STOPPED: &str = "type H\n\
     stop 1 4\nthreads\nend\n";
 
 const STOPPED_TEXT: &str = "scheduler 1\nalloc 1 1 8 14\ngive 1 2\nstopped 4\n\
-    scheduler 2\nalloc 2 257 8 14\ngive 2 1\ntake 1 got\n\
+    scheduler 2\nalloc 2 1025 8 14\ngive 2 1\ntake 1 got\n\
     carrier 1 multi owner 1 employed 1 base 0 pages 64 allocated 14 largest 32746\n\
-    carrier 257 multi owner 2 employed 2 base 8192 pages 64 allocated 14 largest 32746\n\
+    carrier 1025 multi owner 2 employed 2 base 8192 pages 64 allocated 14 largest 32746\n\
     total carriers 2 units 65536 live 28 queued 0 free 65492 header 16\n";
 
 #[test]

@@ -26,7 +26,7 @@ pub fn worked_traces()
     ensures threads { trace
         (codes "type T\nscheduler 1\nalloc 9 1\nrealloc 9 4 2\ninfo\nscheduler 2\nthreads\nend\n") 2
         ≡ is_trace T Threads ((Alloc 9 1 ∷ Realloc 9 4 2 ∷ Info ∷ []) ∷ [] ∷ []) 9 }
-    ensures generated { trace (codes "type H\ngenerate 7 20\nend\n") 16
+    ensures generated { trace (codes "type H\ngenerate 7 20\nend\n") 64
         ≡ is_trace H (Generated 7 20) [] 0 }
     ensures stops_before_a_schedule { trace
         (codes "type H\nscheduler 1\nidle\nscheduler 2\n"

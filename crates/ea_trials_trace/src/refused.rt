@@ -107,9 +107,9 @@ pub fn refused_places()
 pub fn refused_numbers()
     ensures name_zero { refused 1 (codes "type H\nscheduler 1\nalloc 0 1\n")
         ≡ Some (fault.Syntax 3) }
-    ensures name_too_great { refused 1 (codes "type H\nscheduler 1\nalloc 262145 1\n")
+    ensures name_too_great { refused 1 (codes "type H\nscheduler 1\nalloc 1048577 1\n")
         ≡ Some (fault.Syntax 3) }
-    ensures greatest_name { refused 1 (codes "type H\nscheduler 1\nalloc 262144 1\n")
+    ensures greatest_name { refused 1 (codes "type H\nscheduler 1\nalloc 1048576 1\n")
         ≡ Some fault.NoEnd }
     ensures bytes_too_many { refused 1 (codes "type H\nscheduler 1\nalloc 1 1073741824\n")
         ≡ Some (fault.Syntax 3) }
@@ -141,10 +141,10 @@ pub fn refused_numbers()
         ≡ Some (fault.Syntax 2) }
     ensures greatest_seed { refused 1 (codes "type H\ngenerate 2147483647 1\n") ≡ Some fault.NoEnd }
     ensures count_zero { refused 1 (codes "type H\ngenerate 1 0\n") ≡ Some (fault.Syntax 2) }
-    ensures count_too_great { refused 1 (codes "type H\ngenerate 1 262145\n")
+    ensures count_too_great { refused 1 (codes "type H\ngenerate 1 1048577\n")
         ≡ Some (fault.TooMany 2) }
-    ensures greatest_count { refused 1 (codes "type H\ngenerate 1 262144\n") ≡ Some fault.NoEnd }
-    ensures count_for_two { refused 2 (codes "type H\ngenerate 1 131073\n")
+    ensures greatest_count { refused 1 (codes "type H\ngenerate 1 1048576\n") ≡ Some fault.NoEnd }
+    ensures count_for_two { refused 2 (codes "type H\ngenerate 1 524289\n")
         ≡ Some (fault.TooMany 2) }
     ensures count_of_ten_digits { refused 1 (codes "type H\ngenerate 1 9999999999\n")
         ≡ Some (fault.TooMany 2) }

@@ -74,7 +74,7 @@ fn an_input_is_refused_at_its_first_bad_line(rt: HostRuntime) {
         ),
         (
             1,
-            b"type H\nscheduler 1\nrealloc 1 262145 1\n",
+            b"type H\nscheduler 1\nrealloc 1 1048577 1\n",
             TraceFault::Syntax { line: 3 },
         ),
         (
@@ -99,8 +99,8 @@ fn an_input_is_refused_at_its_first_bad_line(rt: HostRuntime) {
             TraceFault::BadScheduler { line: 3 },
         ),
         (
-            16,
-            b"type H\nscheduler 17\n",
+            64,
+            b"type H\nscheduler 65\n",
             TraceFault::BadScheduler { line: 2 },
         ),
         // After the schedule.
@@ -173,16 +173,16 @@ fn limits_are_exact(rt: HostRuntime) -> Result<(), Fail> {
         (
             b"type H\nscheduler 1\n",
             b"idle\n",
-            262_144,
+            1_048_576,
             b"threads\nend\n",
             None,
         ),
         (
             b"type H\nscheduler 1\n",
             b"idle\n",
-            262_145,
+            1_048_577,
             b"threads\nend\n",
-            Some(TraceFault::TooMany { line: 262_147 }),
+            Some(TraceFault::TooMany { line: 1_048_579 }),
         ),
         (
             b"type H\nscheduler 1\nalloc 1 1\ngive 1 1\n",
@@ -214,7 +214,7 @@ fn limits_are_exact(rt: HostRuntime) -> Result<(), Fail> {
         ),
         (
             b"type H\nscheduler 1\n",
-            b"alloc 262144 1\n",
+            b"alloc 1048576 1\n",
             1,
             b"threads\nend\n",
             None,

@@ -17,13 +17,13 @@
 //! | Bits | Of an owner word's number |
 //! |---|---|
 //! | 0 to 2 | 0 absent, 1 employed, 2 pooled, 3 busy, 4 returning |
-//! | 3 to 7 | its instance less one, or 0 if absent |
-//! | 8 to 38 | half of its largest gap in units if pooled, else 0 |
-//! | 39 to 63 | 0 |
+//! | 3 to 12 | its instance less one, or 0 if absent |
+//! | 13 to 43 | half of its largest gap in units if pooled, else 0 |
+//! | 44 to 63 | 0 |
 //!
-//! So instances of 1 to 32 have room, and even largest gaps below 2^32 units. Different owner words
-//! have different numbers, and a number gives its owner word back. A node may have the number of an
-//! owner word: who reads a word knows which of them it is.
+//! So instances of 1 to 1,024 have room, and even largest gaps below 2^32 units. Different owner
+//! words have different numbers, and a number gives its owner word back. A node may have the number
+//! of an owner word: who reads a word knows which of them it is.
 #![tactic(auto)]
 
 mod nodes;

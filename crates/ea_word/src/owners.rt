@@ -20,9 +20,9 @@ pub const RETURNING_STATE: u64 = 4;
 /// The bit where the instance begins, less one.
 pub const INSTANCE_SHIFT: u32 = 3;
 /// The bit where half of a pooled carrier's largest gap begins.
-pub const LARGEST_SHIFT: u32 = 8;
-/// The greatest instance that has room, in 5 bits; instances begin at 1.
-pub const MAX_CODED_INSTANCE: u32 = 1 << 5;
+pub const LARGEST_SHIFT: u32 = 13;
+/// The greatest instance that has room, in 10 bits; instances begin at 1.
+pub const MAX_CODED_INSTANCE: u32 = 1 << 10;
 /// A largest gap has room if it is even and below this many units, so that its half has 31 bits.
 pub const CODED_LARGEST: u64 = 1 << 32;
 

@@ -22,14 +22,14 @@ fn each_node_has_its_number(rt: HostRuntime) {
         (4_194_306, block(1, 2, 0)),
         (274_877_906_946, block(1, 1, 2)),
         (1_099_511_627_786, block(3, 1, 8)),
-        // The greatest of a run, and the greatest that has room.
         (9_223_371_779_153_592_318, block(262_144, 4096, 67_108_862)),
+        // The greatest of a run, and the greatest that has room.
         (
             9_223_372_036_854_775_806,
             block(1_048_576, 65_536, 67_108_862),
         ),
         (3, carrier(1)),
-        (1027, carrier(257)),
+        (4099, carrier(1025)),
         (16_383, carrier(4096)),
         (262_143, carrier(65_536)),
     ] {
@@ -86,18 +86,19 @@ fn each_owner_word_has_its_number(rt: HostRuntime) {
         (1, employed(1)),
         (9, employed(2)),
         // The greatest of a run, and the greatest that has room.
-        (121, employed(16)),
-        (249, employed(32)),
+        (505, employed(64)),
+        (8185, employed(1024)),
         (2, pooled(1, 0)),
-        (258, pooled(1, 2)),
-        (4_191_498, pooled(2, 32_746)),
-        (549_755_813_882, pooled(32, 4_294_967_294)),
+        (8194, pooled(1, 2)),
+        (134_127_626, pooled(2, 32_746)),
+        (4_191_498, pooled(674, 1022)),
+        (17_592_186_044_410, pooled(1024, 4_294_967_294)),
         (3, busy(1)),
         (19, busy(3)),
-        (251, busy(32)),
+        (8187, busy(1024)),
         (4, returning(1)),
-        (124, returning(16)),
-        (252, returning(32)),
+        (508, returning(64)),
+        (8188, returning(1024)),
     ] {
         match decode(number) {
             Some(decoded) => {
@@ -117,20 +118,20 @@ fn other_numbers_are_no_owner_words(rt: HostRuntime) {
         6,
         7,
         13,
-        255,
+        8191,
         // An instance where no carrier is.
         8,
-        248,
+        8184,
         // A gap of what isn't pooled.
-        256,
-        257,
-        259,
-        260,
+        8192,
+        8193,
+        8195,
+        8196,
         // A gap of 2^31 pairs, and the bits above.
-        549_755_813_890,
-        1_099_511_627_776,
-        1_099_511_627_777,
-        1_099_511_627_778,
+        17_592_186_044_418,
+        35_184_372_088_832,
+        35_184_372_088_833,
+        35_184_372_088_834,
         9_223_372_036_854_775_810,
         18_446_744_073_709_551_615,
     ] {

@@ -16,6 +16,12 @@ returns-clause-sixteenth c = refl
 pub returns-clause-over_a_sixteenth : goal.returns-clause-over_a_sixteenth
 returns-clause-over_a_sixteenth c = refl
 
+pub returns-clause-sixty_fourth : goal.returns-clause-sixty_fourth
+returns-clause-sixty_fourth c = refl
+
+pub returns-clause-over_a_sixty_fourth : goal.returns-clause-over_a_sixty_fourth
+returns-clause-over_a_sixty_fourth c = refl
+
 pub returns-clause-schedulers_last : goal.returns-clause-schedulers_last
 returns-clause-schedulers_last c = refl
 

@@ -11,10 +11,10 @@ use Rattle.ea_shared.proofs.Following.{after-row, none-there, nothing_shared}
 use Rattle.ea_shared.proofs.tests.a_walk_passes_the_newest_node_first.Goals as goal
 
 abbrev older : Node
-older = Block 1 (record { carrier = 257; offset = 8 })
+older = Block 1 (record { carrier = 1025; offset = 8 })
 
 abbrev newer : Node
-newer = Block 3 (record { carrier = 257; offset = 22 })
+newer = Block 3 (record { carrier = 1025; offset = 22 })
 
 -- what is shared before each push
 abbrev before_first : Shared

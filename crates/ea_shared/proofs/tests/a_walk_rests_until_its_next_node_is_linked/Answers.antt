@@ -10,7 +10,7 @@ use Rattle.ea_shared.proofs.Following.{after-row, none-there, nothing_shared}
 use Rattle.ea_shared.proofs.tests.a_walk_rests_until_its_next_node_is_linked.Goals as goal
 
 abbrev older : Node
-older = Block 1 (record { carrier = 257; offset = 8 })
+older = Block 1 (record { carrier = 1025; offset = 8 })
 
 pub push-requires-clause-nowhere : goal.push-requires-clause-nowhere
 push-requires-clause-nowhere g c =

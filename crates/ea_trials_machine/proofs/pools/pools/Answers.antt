@@ -34,10 +34,6 @@ pub returns-clause-sixteen_schedulers : goal.returns-clause-sixteen_schedulers
 unfolding digits unused_from bin_of powers answer effect after step_at
 returns-clause-sixteen_schedulers c = refl
 
-pub returns-clause-four_under_age_order : goal.returns-clause-four_under_age_order
-unfolding digits unused_from bin_of powers answer effect after step_at
-returns-clause-four_under_age_order c = refl
-
 pub returns-clause-three_under_address_fit : goal.returns-clause-three_under_address_fit
 unfolding digits unused_from bin_of powers answer effect after step_at
 returns-clause-three_under_address_fit c = refl
@@ -74,11 +70,6 @@ pub returns-clause-two_by_age_with_singles : goal.returns-clause-two_by_age_with
 unfolding digits unused_from bin_of powers answer effect after step_at
 returns-clause-two_by_age_with_singles c = refl
 
-pub returns-clause-four_under_address_order_best_fit
-    : goal.returns-clause-four_under_address_order_best_fit
-unfolding digits unused_from bin_of powers answer effect after step_at
-returns-clause-four_under_address_order_best_fit c = refl
-
 pub returns-clause-two_by_age_with_a_least_gap : goal.returns-clause-two_by_age_with_a_least_gap
 unfolding digits unused_from bin_of powers answer effect after step_at
 returns-clause-two_by_age_with_a_least_gap c = refl
@@ -107,11 +98,6 @@ pub returns-clause-at_half_utilization : goal.returns-clause-at_half_utilization
 unfolding digits unused_from bin_of powers answer effect after step_at
 returns-clause-at_half_utilization c = refl
 
-pub returns-clause-five_with_carriers_of_one_page
-    : goal.returns-clause-five_with_carriers_of_one_page
-unfolding digits unused_from bin_of powers answer effect after step_at
-returns-clause-five_with_carriers_of_one_page c = refl
-
 pub returns-clause-moved_and_queued : goal.returns-clause-moved_and_queued
 unfolding digits unused_from bin_of powers answer effect after step_at
 returns-clause-moved_and_queued c = refl
@@ -120,14 +106,6 @@ pub returns-clause-two_in_address_order : goal.returns-clause-two_in_address_ord
 unfolding digits unused_from bin_of powers answer effect after step_at
 returns-clause-two_in_address_order c = refl
 
-pub returns-clause-four_with_singles : goal.returns-clause-four_with_singles
-unfolding digits unused_from bin_of powers answer effect after step_at
-returns-clause-four_with_singles c = refl
-
 pub returns-clause-employed_by_the_other : goal.returns-clause-employed_by_the_other
 unfolding digits unused_from bin_of powers answer effect after step_at
 returns-clause-employed_by_the_other c = refl
-
-pub returns-clause-five_under_best_fit : goal.returns-clause-five_under_best_fit
-unfolding digits unused_from bin_of powers answer effect after step_at
-returns-clause-five_under_best_fit c = refl

@@ -70,17 +70,9 @@ pub returns-clause-three_under_best_fit : goal.returns-clause-three_under_best_f
 unfolding digits unused_from bin_of powers answer effect after step_at
 returns-clause-three_under_best_fit c = refl
 
-pub returns-clause-four_with_small_carriers : goal.returns-clause-four_with_small_carriers
-unfolding digits unused_from bin_of powers answer effect after step_at
-returns-clause-four_with_small_carriers c = refl
-
 pub returns-clause-four_under_age_order : goal.returns-clause-four_under_age_order
 unfolding digits unused_from bin_of powers answer effect after step_at
 returns-clause-four_under_age_order c = refl
-
-pub returns-clause-four_that_give_and_take : goal.returns-clause-four_that_give_and_take
-unfolding digits unused_from bin_of powers answer effect after step_at
-returns-clause-four_that_give_and_take c = refl
 
 pub returns-clause-two_that_queue : goal.returns-clause-two_that_queue
 unfolding digits unused_from bin_of powers answer effect after step_at

@@ -1,8 +1,8 @@
-use Rattle.std.proofs.Common.{◌≡◌, ◌∙◌, ◌<◌, ◌≤◌, false, length, nat_lt, get_or, arith}
+use Rattle.std.proofs.Common.{◌≡◌, ◌∙◌, ◌<◌, ◌≤◌, false, length, nat_lt, get_or}
 use Rattle.ea_model.specs.Trace.{IsName}
 use Rattle.ea_trace.specs.Language.{is_given, is_given_to}
 use Rattle.ea_trace.proofs.Noted.{given_more, given_to_more}
-use Rattle.ea_trace.proofs.names.Names.note.Goals as goal
+use Rattle.ea_trace.proofs.names.Names.write.Goals as goal
 
 pub returns-in-Give : goal.returns-in-Give
 returns-in-Give c = λ earlier k fresh. rw c.in-Give.is (
@@ -12,7 +12,7 @@ returns-in-Give c = λ earlier k fresh. rw c.in-Give.is (
     let one : 1 ≤ to = rw c.in-Give.is at c.requires.given in
     let again : is_given name earlier ≡ false = rw c.in-Give.is at fresh in
     let range : IsName name = rw c.in-Give.is at c.requires.range in
-    let lt : name < length s.addressee.items = omega (arith, s.given_names, range.1) in
+    let lt : name < length s.addressee.items = rw c.in-Give.is at c.requires.place.given in
     let none : nat_lt 0 (get_or s.addressee.items name 0) ≡ false = k.given name range.1 ∙ again in
     record {
       made = k.made;
