@@ -8,7 +8,7 @@ use std::alloc::Global;
 use std::thread::Threads;
 
 /// The bytes that a sink of a case has room for.
-const ROOM: usize = 40_000;
+const ROOM: usize = 1 << 18;
 
 /// The most words of a case.
 const MOST_WORDS: usize = 100;
