@@ -71,25 +71,6 @@ pub fn pools()
         ++ codes "scheduler 7\nscheduler 8\nscheduler 9\nscheduler 10\nscheduler 11\nscheduler 12\n"
         ++ codes "scheduler 13\nscheduler 14\nscheduler 15\nscheduler 16\n"
         ++ codes "total carriers 0 units 0 live 0 queued 0 free 0 header 0\n") }
-    ensures three_under_address_fit { text_of
-        (words (codes "+S 3 +MHlmbcs 8 +MHasbcst 0 +MHacul 100 +MHsmbcs 8 +MHmbsd 5 +MHas af"))
-        (codes "type H\nscheduler 1\nalloc 1 829\nalloc 3 6717\nalloc 5 8120\nalloc 7 2385\n"
-        ++ codes "free 3\nalloc 8 1416\ngive 7 1\nrealloc 1 10 2168\nalloc 11 2313\nscheduler 2\n"
-        ++ codes "alloc 4 0\nalloc 6 85\nfree 6\nscheduler 3\nalloc 2 32\nfree 2\nalloc 9 1209\n"
-        ++ codes "give 9 3\ntake 9 5\ngive 2 1\nschedule\nend\n")
-        ≡ Some
-        (codes "scheduler 1\nalloc 1 1 8 106\nalloc 3 1 114 842\nalloc 5 2 8 1016\n"
-        ++ codes "alloc 7 3 8 300\nfree 3 done\nalloc 8 3 308 178\ngive 7 1\n"
-        ++ codes "realloc 1 10 3 486 272 moved done\nalloc 11 1 8 292\nscheduler 2\n"
-        ++ codes "alloc 4 1025 8 6\nalloc 6 1025 14 12\nfree 6 done\nscheduler 3\n"
-        ++ codes "alloc 2 1025 14 6\n"
-        ++ codes "free 2 done\nalloc 9 1025 14 154\ngive 9 3\ntake 9 got\ngive 2 1 skipped\n"
-        ++ codes "carrier 1 multi owner 1 employed 1 base 0 pages 2 allocated 292 largest 724\n"
-        ++ codes "carrier 2 multi owner 1 employed 1 base 2 pages 2 allocated 1016 largest 0\n"
-        ++ codes "carrier 3 multi owner 1 employed 1 base 4 pages 2 allocated 750 largest 266\n"
-        ++ codes "carrier 1025 multi owner 2 employed 3 base 5461 pages 2 "
-        ++ codes "allocated 160 largest 856\n"
-        ++ codes "total carriers 4 units 4096 live 2218 queued 0 free 1846 header 32\n") }
     ensures two_under_good_fit { text_of
         (words (codes "+S 2 +MMscs 1 +MRsmbcs 4 +MRlmbcs 40 +MRacul 90 +MRas gf +MRsbct 1 "
         ++ codes "+MRrmbcmt 20 +MRrsbcst 20"))
@@ -133,21 +114,6 @@ pub fn pools()
         ++ codes "allocated 140 largest 364\n"
         ++ codes "carrier 1030 single owner 2 employed 2 base 133 pages 1 allocated 498 largest 6\n"
         ++ codes "total carriers 8 units 4096 live 1340 queued 616 free 2076 header 64\n") }
-    ensures two_under_best_fit { text_of
-        (words (codes "+S 2 +MMscs 3 +Musmbcs 8 +Mulmbcs 40 +Muacul 80 +Muas bf +Muacfml 2000"))
-        (codes "type D\nscheduler 1\nalloc 1 1368\nalloc 4 0\nfree 1\n free 4\ntake 6 1\nfree 6\n"
-        ++ codes "alloc 9 1520\nalloc 10 328\nscheduler 2\nalloc 2 40\nfree 2\nalloc 3 208\n"
-        ++ codes "alloc 5 40\nalloc 6 2512\ngive 6 1\nrealloc 3 7 848\nalloc 8 736\nschedule\n"
-        ++ codes "2*2053 1*2056 2*4108 1*3 1*2057\n1*1\nend\n")
-        ≡ Some
-        (codes "scheduler 1\nalloc 1 1 8 172\nalloc 4 1 180 6\nfree 1 done\nfree 4 queued 2\n"
-        ++ codes "take 6 got\nfree 6 queued 2\nalloc 9 2 8 192\nalloc 10 2 200 42\nscheduler 2\n"
-        ++ codes "alloc 2 1025 8 6\nfree 2 done\nalloc 3 1 8 28\nalloc 5 1 36 6\n"
-        ++ codes "alloc 6 1 186 316\n"
-        ++ codes "give 6 1\nrealloc 3 7 1 42 108 moved done\nalloc 8 1 502 94\n"
-        ++ codes "carrier 1 multi owner 1 employed 2 base 0 pages 2 allocated 530 largest 428\n"
-        ++ codes "carrier 2 multi owner 1 employed 1 base 2 pages 2 allocated 234 largest 782\n"
-        ++ codes "total carriers 2 units 2048 live 442 queued 322 free 1268 header 16\n") }
     ensures singles_above_a_kilobyte { text_of
         (words (codes "+S 2 +MBsmbcs 1 +MBlmbcs 1 +MBacul de +MBsbct 1"))
         (codes "type B\nscheduler 1\nalloc 1 152\nalloc 5 1920\nalloc 6 176\nalloc 7 1808\n"
@@ -208,87 +174,6 @@ pub fn pools()
         ++ codes "carrier 2050 multi owner 3 employed 3 base 10923 pages 1 "
         ++ codes "allocated 458 largest 46\n"
         ++ codes "total carriers 5 units 83968 live 5946 queued 0 free 77982 header 40\n") }
-    ensures carriers_of_one_page { text_of
-        (words (codes "+S 2 +MBsmbcs 1 +MBlmbcs 1 +MBacul 90 +MBacul 64"))
-        (codes "type B\nscheduler 1\nalloc 1 1128\ntake 5 1\nalloc 9 288\nfree 1\nalloc 12 56\n"
-        ++ codes "alloc 13 488\ntake 8 1\nalloc 14 40\nalloc 15 736\nfree 8\nfree 15\n"
-        ++ codes "alloc 16 1976\nalloc 17 200\nalloc 18 0\nalloc 19 1672\nscheduler 2\n"
-        ++ codes "alloc 2 1024\nidle\nalloc 3 3800\nalloc 4 232\nalloc 5 1536\nalloc 6 1288\n"
-        ++ codes "give 5 1\nalloc 7 56\nfree 4\nrealloc 6 8 40\ngive 8 1\nfree 7\nfree 2\n"
-        ++ codes "alloc 10 1624\nalloc 11 1616\nschedule\n2*2051 2*4102\n2*9 1*260\n"
-        ++ codes "2*3 1*2050 2*2 2*5 2*2050 2*2\n1*7 1*3 1*1 1*8 1*2052 1*2\n1*1 1*2051\nend\n")
-        ≡ Some
-        (codes "scheduler 1\nalloc 1 1 8 142\ntake 5 got\nalloc 9 1 150 38\nfree 1 done\n"
-        ++ codes "alloc 12 1 8 8\nalloc 13 1 16 62\ntake 8 got\nalloc 14 1 78 6\n"
-        ++ codes "alloc 15 1 188 94\nfree 8 queued 2\nfree 15 done\nalloc 16 1 188 248\n"
-        ++ codes "alloc 17 1 84 26\nalloc 18 1 110 6\nalloc 19 2 8 210\nscheduler 2\n"
-        ++ codes "alloc 2 1025 8 130\nidle\nalloc 3 1026 8 476\nalloc 4 1025 138 30\n"
-        ++ codes "alloc 5 1025 168 194\nalloc 6 1027 8 162\ngive 5 1\nalloc 7 1025 362 8\n"
-        ++ codes "free 4 done\nrealloc 6 8 1025 138 6 moved done\ngive 8 1\nfree 7 done\n"
-        ++ codes "free 2 done\nalloc 10 1027 8 204\nalloc 11 1027 212 204\n"
-        ++ codes "carrier 1 multi owner 1 employed 1 base 0 pages 1 allocated 394 largest 76\n"
-        ++ codes "carrier 2 multi owner 1 employed 1 base 1 pages 1 allocated 210 largest 294\n"
-        ++ codes "carrier 1025 multi owner 2 employed 2 base 8192 pages 1 "
-        ++ codes "allocated 194 largest 160\n"
-        ++ codes "carrier 1026 multi owner 2 employed 2 base 8193 pages 1 "
-        ++ codes "allocated 476 largest 28\n"
-        ++ codes "carrier 1027 multi owner 2 employed 2 base 8194 pages 1 "
-        ++ codes "allocated 408 largest 96\n"
-        ++ codes "total carriers 5 units 2560 live 1682 queued 0 free 838 header 40\n") }
-    ensures three_with_many_singles { text_of
-        (words (codes "+Murmbcmt 55 +MMscs 8 +S 3 +Muacfml 4000 +Musbct 8"))
-        (codes "type D\nscheduler 1\nalloc 4 229\ngive 4 3\nrealloc 4 5 89\nalloc 6 0\n"
-        ++ codes "alloc 8 10696\nfree 6\nalloc 11 64773\nalloc 12 49\nrealloc 12 15 51352\n"
-        ++ codes "realloc  8  202  262137\nalloc 204 89\nidle\ngive 202 1\nfree 5\n"
-        ++ codes "alloc 205 177257\nalloc 214 0\nalloc 215 205489\nscheduler 2\nalloc 1 55576\n"
-        ++ codes "free 1\ngive 1 3\nalloc 9 61104\nalloc 206 62352\ngive 206 3\nalloc 208 74880\n"
-        ++ codes "alloc 211 233\nalloc 212 0\nfree 208\nscheduler 3\nalloc 2 236400\nfree 2\n"
-        ++ codes "realloc 2 3 35017\nfree 3\nalloc 7 873\nalloc 10 18789\nalloc 13 247505\n"
-        ++ codes "alloc 14 149913\nrealloc 10 201 85272\nalloc 203 33\nrealloc 10 207 213120\n"
-        ++ codes "alloc 209 2205\nalloc 210 233\nalloc 213 225281\nalloc 216 254560\nfree 210\n"
-        ++ codes "schedule\n1*1 2*2 3*6 1*3073 2*3091\n1*7 1*6170 3*1 3*10 3*3086\nend\n")
-        ≡ Some
-        (codes "scheduler 1\nalloc 4 1 8 30\ngive 4 3\nrealloc 4 5 skipped\nalloc 6 1 38 6\n"
-        ++ codes "alloc 8 2 8 1338\nfree 6 done\nalloc 11 3 8 8098\nalloc 12 1 38 8\n"
-        ++ codes "realloc 12 15 4 8 6420 moved done\nrealloc 8 202 5 8 32770 moved done\n"
-        ++ codes "alloc 204 1 38 14\nidle\ngive 202 1\nfree 5 skipped\nalloc 205 2 8 22160\n"
-        ++ codes "alloc 214 1 52 6\nalloc 215 6 8 25688\nscheduler 2\nalloc 1 1025 8 6948\n"
-        ++ codes "free 1 done\ngive 1 3 skipped\nalloc 9 1025 8 7640\nalloc 206 1026 8 7796\n"
-        ++ codes "give 206 3\nalloc 208 1027 8 9362\nalloc 211 1028 8 32\nalloc 212 1028 40 6\n"
-        ++ codes "free 208 done\nscheduler 3\nalloc 2 2049 8 29552\nfree 2 done\n"
-        ++ codes "realloc 2 3 skipped\nfree 3 skipped\nalloc 7 2049 8 112\nalloc 10 2050 8 2350\n"
-        ++ codes "alloc 13 2051 8 30940\nalloc 14 2052 8 18742\n"
-        ++ codes "realloc 10 201 2053 8 10660 moved done\nalloc 203 2049 120 6\n"
-        ++ codes "realloc 10 207 skipped\nalloc 209 2049 126 278\nalloc 210 2049 404 32\n"
-        ++ codes "alloc 213 2050 8 28162\nalloc 216 2054 8 31822\nfree 210 done\n"
-        ++ codes "carrier 1 multi owner 1 employed 1 base 0 pages 64 allocated 50 largest 32710\n"
-        ++ codes "carrier 2 single owner 1 employed 1 base 161 pages 44 "
-        ++ codes "allocated 22160 largest 360\n"
-        ++ codes "carrier 3 single owner 1 employed 1 base 67 pages 16 allocated 8098 largest 86\n"
-        ++ codes "carrier 4 single owner 1 employed 1 base 83 pages 13 allocated 6420 largest 228\n"
-        ++ codes "carrier 5 single owner 1 employed 1 base 96 pages 65 "
-        ++ codes "allocated 32770 largest 502\n"
-        ++ codes "carrier 6 single owner 1 employed 1 base 205 pages 51 "
-        ++ codes "allocated 25688 largest 416\n"
-        ++ codes "carrier 1025 single owner 2 employed 2 base 682 pages 15 "
-        ++ codes "allocated 7640 largest 32\n"
-        ++ codes "carrier 1026 single owner 2 employed 2 base 697 pages 16 "
-        ++ codes "allocated 7796 largest 388\n"
-        ++ codes "carrier 1028 multi owner 2 employed 2 base 732 pages 64 "
-        ++ codes "allocated 38 largest 32722\n"
-        ++ codes "carrier 2049 multi owner 3 pooled 3 base 1364 pages 64 "
-        ++ codes "allocated 396 largest 32364\n"
-        ++ codes "carrier 2050 single owner 3 employed 3 base 1552 pages 56 "
-        ++ codes "allocated 28162 largest 502\n"
-        ++ codes "carrier 2051 single owner 3 employed 3 base 1433 pages 61 "
-        ++ codes "allocated 30940 largest 284\n"
-        ++ codes "carrier 2052 single owner 3 employed 3 base 1494 pages 37 "
-        ++ codes "allocated 18742 largest 194\n"
-        ++ codes "carrier 2053 single owner 3 employed 3 base 1531 pages 21 "
-        ++ codes "allocated 10660 largest 84\n"
-        ++ codes "carrier 2054 single owner 3 employed 3 base 1608 pages 63 "
-        ++ codes "allocated 31822 largest 426\n"
-        ++ codes "total carriers 15 units 332800 live 231382 queued 0 free 101298 header 120\n") }
     ensures two_by_age_with_singles { text_of
         (words (codes "+S 2 +MHacul 30 +MHacfml 2000 +MHrsbcmt 62 +MHas af +MHsbct 2 +MLsmbcs "
         ++ codes "1 +MRrmbcmt 69 +Muas ageffcaobf"))
@@ -334,52 +219,6 @@ pub fn pools()
         ++ codes "carrier 1027 multi owner 2 employed 2 base 8320 pages 186 "
         ++ codes "allocated 14502 largest 80722\n"
         ++ codes "total carriers 5 units 288768 live 177062 queued 0 free 111666 header 40\n") }
-    ensures two_by_default { text_of (words (codes "+S 2 +MLasbcst 1"))
-        (codes "type L\nscheduler 1\nalloc 2 69456\nalloc 3 69520\ngive 3 1\nalloc 6 41389\n"
-        ++ codes "take 3 3\nalloc 8 29\nfree 2\nfree 3\nalloc 9 152\nalloc 11 40\nalloc 380 18184\n"
-        ++ codes "alloc 381 10333\ngive 8 1\nalloc 382 48809\nrealloc 380 383 63269\n"
-        ++ codes "alloc 385 41760\nrealloc 6 388 524272\nalloc 389 88\nalloc 390 149\nfree 385\n"
-        ++ codes "alloc 392 173953\nalloc 393 214249\ngive 390 1\nrealloc 389 394 152\n"
-        ++ codes "scheduler 2\nalloc 1 36357\nfree 1\nalloc 4 65021\nalloc 5 17357\nalloc 7 37\n"
-        ++ codes "alloc 10 75216\nfree 10\nfree 5\ngive 7 1\nrealloc 4 384 41\nalloc 386 119241\n"
-        ++ codes "alloc 387 37\nfree 387\nalloc 391 83208\ngive 384 1\nfree 391\nfree 386\n"
-        ++ codes "schedule\n2*4 1*8235 2*510 2*2 2*6436\nend\n")
-        ≡ Some
-        (codes "scheduler 1\nalloc 2 1 8 8684\nalloc 3 1 8692 8692\ngive 3 1\n"
-        ++ codes "alloc 6 1 17384 5176\ntake 3 got\nalloc 8 1 22560 6\nfree 2 done\nfree 3 done\n"
-        ++ codes "alloc 9 1 22566 20\nalloc 11 1 22586 6\nalloc 380 1 22592 2274\n"
-        ++ codes "alloc 381 1 24866 1294\ngive 8 1\nalloc 382 1 26160 6104\n"
-        ++ codes "realloc 380 383 1 8 7910 moved done\nalloc 385 1 7918 5222\n"
-        ++ codes "realloc 6 388 2 8 65536 moved done\nalloc 389 1 32264 12\nalloc 390 1 32276 20\n"
-        ++ codes "free 385 done\nalloc 392 2 65544 21746\nalloc 393 3 8 26784\ngive 390 1\n"
-        ++ codes "realloc 389 394 1 32296 20 moved done\nscheduler 2\nalloc 1 1 7918 4546\n"
-        ++ codes "free 1 done\nalloc 4 1 7918 8130\nalloc 5 1 22592 2172\nalloc 7 1 32264 6\n"
-        ++ codes "alloc 10 1025 8 9404\nfree 10 done\nfree 5 done\ngive 7 1\n"
-        ++ codes "realloc 4 384 1 32316 8 moved done\nalloc 386 1025 8 14908\n"
-        ++ codes "alloc 387 1025 14916 6\nfree 387 done\nalloc 391 1025 14916 10402\ngive 384 1\n"
-        ++ codes "free 391 done\nfree 386 done\n"
-        ++ codes "carrier 1 multi owner 1 pooled 2 base 0 pages 64 allocated 15394 largest 14642\n"
-        ++ codes "carrier 2 multi owner 1 employed 1 base 64 pages 186 "
-        ++ codes "allocated 87282 largest 7942\n"
-        ++ codes "carrier 3 multi owner 1 employed 1 base 250 pages 308 "
-        ++ codes "allocated 26784 largest 130904\n"
-        ++ codes "total carriers 3 units 285696 live 129460 queued 0 free 156212 header 24\n") }
-    ensures two_in_a_megabyte { text_of
-        (words (codes "+S 2 +MMscs 1 +MEsmbcs 4 +MElmbcs 8 +MEacul 90 +MEas aoffcbf"))
-        (codes "type E\nscheduler 1\nalloc 1 1896\ngive 1 2\nalloc 3 104\nalloc 4 3160\n"
-        ++ codes "alloc 5 1256\n  free 5 \nalloc 6 448\ngive 6 2\nscheduler 2\nalloc 2 992\n"
-        ++ codes "take  1  1\nrealloc 1 7 104\ntake 6 1\nfree 6\nalloc 8 72\nalloc 9 3720\n"
-        ++ codes "alloc 10 656\nschedule\n1*4103 1*8 2*2049 2*4113 2*1\nend\n")
-        ≡ Some
-        (codes "scheduler 1\nalloc 1 1 8 238\ngive 1 2\nalloc 3 1 246 14\nalloc 4 2 8 396\n"
-        ++ codes "alloc 5 1 260 158\nfree 5 done\nalloc 6 2 404 58\ngive 6 2\nscheduler 2\n"
-        ++ codes "alloc 2 1 260 126\ntake 1 got\nrealloc 1 7 1 386 14 moved done\ntake 6 got\n"
-        ++ codes "free 6 queued 1\nalloc 8 1 400 10\nalloc 9 1025 8 466\nalloc 10 1 410 84\n"
-        ++ codes "carrier 1 multi owner 1 employed 2 base 0 pages 1 allocated 248 largest 238\n"
-        ++ codes "carrier 2 multi owner 1 employed 1 base 1 pages 2 allocated 454 largest 562\n"
-        ++ codes "carrier 1025 multi owner 2 employed 2 base 128 pages 2 "
-        ++ codes "allocated 466 largest 550\n"
-        ++ codes "total carriers 3 units 2560 live 1110 queued 58 free 1368 header 24\n") }
     ensures two_always_moving { text_of
         (words (codes "+MDsmbcs 2 +MRt true +MDsbct 8 +S 0000000002 +MDramv true +MDasbcst 0 "
         ++ codes "+MDlmbcs 50 +MDas gf +MHsmbcs 5000 +MDmbsd 1000 +MBas gf +MDrmbcmt 99 "
@@ -412,34 +251,6 @@ pub fn pools()
         ++ codes "allocated 194 largest 310\n"
         ++ codes "carrier 1027 multi owner 2 pooled 2 base 132 pages 2 allocated 370 largest 490\n"
         ++ codes "total carriers 5 units 5120 live 1976 queued 0 free 3104 header 40\n") }
-    ensures carriers_of_one_size { text_of
-        (words (codes "+S 2 +MHsmbcs 12 +MHsbct 16 +MHmbsd 1 +MHlmbcs 12"))
-        (codes "type H\nscheduler 1\nalloc  2  48\nalloc 5 1576\nalloc 7 45\nalloc 8 2216\n"
-        ++ codes "free 7\nfree 8\nalloc 9 2777\nalloc 10 49\nalloc 11 4056\nrealloc 9 13 2984\n"
-        ++ codes "free 11\nalloc 15 8701\ngive 15 1\nfree 5\nfree  11\nalloc 19 9133\nscheduler 2\n"
-        ++ codes "alloc 1 0\nalloc 3 3824\nalloc 4 104\nalloc 6 12149\ngive 1 1\ngive 4 2\n"
-        ++ codes "alloc 12 11392\nalloc 14 1553\nalloc 16 48\ngive 3 1\nfree 14\nalloc 17 909\n"
-        ++ codes "alloc 18 1288\nschedule\n2*4101 2*2064\n1*4097 1*4128\nend\n")
-        ≡ Some
-        (codes "scheduler 1\nalloc 2 1 8 8\nalloc 5 1 16 198\nalloc 7 1 214 8\n"
-        ++ codes "alloc 8 1 222 278\nfree 7 done\nfree 8 done\nalloc 9 1 214 350\n"
-        ++ codes "alloc 10 1 564 8\nalloc 11 1 572 508\nrealloc 9 13 1 1080 374 moved done\n"
-        ++ codes "free 11 done\nalloc 15 2 8 1090\ngive 15 1\nfree 5 done\nfree 11 skipped\n"
-        ++ codes "alloc 19 3 8 1144\nscheduler 2\nalloc 1 1025 8 6\nalloc 3 1025 14 480\n"
-        ++ codes "alloc 4 1025 494 14\nalloc 6 1026 8 1520\ngive 1 1\ngive 4 2\n"
-        ++ codes "alloc 12 1027 8 1426\n"
-        ++ codes "alloc 14 1025 508 196\nalloc 16 1025 704 8\ngive 3 1\nfree 14 done\n"
-        ++ codes "alloc 17 1025 508 116\nalloc 18 1025 712 162\n"
-        ++ codes "carrier 1 multi owner 1 pooled 1 base 0 pages 3 allocated 390 largest 548\n"
-        ++ codes "carrier 2 multi owner 1 employed 1 base 3 pages 3 allocated 1090 largest 438\n"
-        ++ codes "carrier 3 multi owner 1 employed 1 base 6 pages 3 allocated 1144 largest 384\n"
-        ++ codes "carrier 1025 multi owner 2 employed 2 base 8192 pages 3 "
-        ++ codes "allocated 786 largest 662\n"
-        ++ codes "carrier 1026 multi owner 2 employed 2 base 8195 pages 3 "
-        ++ codes "allocated 1520 largest 8\n"
-        ++ codes "carrier 1027 multi owner 2 employed 2 base 8198 pages 3 "
-        ++ codes "allocated 1426 largest 102\n"
-        ++ codes "total carriers 6 units 9216 live 6356 queued 0 free 2812 header 48\n") }
     ensures three_always_moving { text_of
         (words (codes "+MHrsbcst 100 +MHlmbcs 20 +MHacfml 64 +MHas aoffcbf +MHasbcst 1024 +S "
         ++ codes "0000000003 +MHramv true +MHsmbcs 4 +MTsmbcs 1 +MHrmbcmt 50"))
@@ -475,29 +286,6 @@ pub fn pools()
         ++ codes "carrier 1026 multi owner 2 employed 2 base 8193 pages 3 "
         ++ codes "allocated 1494 largest 34\n"
         ++ codes "total carriers 3 units 2560 live 1922 queued 0 free 614 header 24\n") }
-    ensures moved_and_queued { text_of
-        (words (codes "+S 2 +MMscs 3 +MLsmbcs 4 +MLlmbcs 4 +MLacul 100"))
-        (codes "type L\nscheduler 1\nalloc 1 248\nalloc 3 248\ngive 1 2\ngive 3 2\ntake 2 1\n"
-        ++ codes "alloc 5 760\nrealloc 2 6 2040\nalloc 7 0\nalloc 9 1528\nalloc 10 0\ntake 8 2\n"
-        ++ codes "free 7\ngive 10 2\nfree 6\ngive 9 2\nscheduler 2\nalloc 2 760\ngive 2 1\n"
-        ++ codes "take 1 2\nalloc 4 4088\ntake 3 2\nalloc 8 248\ngive 8 1\nfree 3\nfree 1\n"
-        ++ codes "alloc 11 248\nalloc 12 760\nalloc 13 248\nfree 11\ntake 1 9\nrealloc 13 14 248\n"
-        ++ codes "schedule\n1*2049 2*2050 1*1 1*3\n2*4 1*9 2*2055 1*2051 2*3 1*1\n2*281\n"
-        ++ codes "1*22 2*3 2*1\n"
-        ++ codes "end\n")
-        ≡ Some
-        (codes "scheduler 1\nalloc 1 1 8 32\nalloc 3 1 40 32\ngive 1 2\ngive 3 2\ntake 2 got\n"
-        ++ codes "alloc 5 1 72 96\nrealloc 2 6 1 168 256 moved queued 2\nalloc 7 1 424 6\n"
-        ++ codes "alloc 9 2 8 192\nalloc 10 1 430 6\ntake 8 got\nfree 7 done\ngive 10 2\n"
-        ++ codes "free 6 done\ngive 9 2\nscheduler 2\nalloc 2 1025 8 96\ngive 2 1\ntake 1 got\n"
-        ++ codes "alloc 4 1025 8 512\ntake 3 got\nalloc 8 1025 520 32\ngive 8 1\nfree 3 queued 1\n"
-        ++ codes "free 1 queued 1\nalloc 11 1025 552 32\nalloc 12 1025 584 96\n"
-        ++ codes "alloc 13 1025 680 32\n"
-        ++ codes "free 11 done\ntake 1 absent 9\nrealloc 13 14 1025 552 32 moved done\n"
-        ++ codes "carrier 1 multi owner 1 pooled 1 base 0 pages 1 allocated 102 largest 262\n"
-        ++ codes "carrier 2 multi owner 1 employed 1 base 1 pages 1 allocated 192 largest 312\n"
-        ++ codes "carrier 1025 multi owner 2 pooled 2 base 384 pages 2 allocated 672 largest 344\n"
-        ++ codes "total carriers 3 units 2048 live 966 queued 0 free 1058 header 24\n") }
     ensures two_in_address_order { text_of
         (words (codes "+MHas aoff +Murmbcmt 1 +MHasbcst 1024 +MHacfml 64 +MRlmbcs 2 +MRacnl "
         ++ codes "4294967295 +MHacul 100 +MMscs 1 +S 2"))
@@ -515,22 +303,4 @@ pub fn pools()
         ++ codes "carrier 1025 multi owner 2 pooled 1 base 128 pages 64 "
         ++ codes "allocated 22836 largest 5698\n"
         ++ codes "total carriers 1 units 32768 live 22836 queued 0 free 9924 header 8\n") }
-    ensures employed_by_the_other { text_of
-        (words (codes "+S 2 +MMscs 3 +MHsmbcs 12 +MHlmbcs 40 +MHacul 80 +MHas bf"))
-        (codes "type H\nscheduler 1\nalloc 1 10592\nalloc 3 4328\nalloc 4 9408\nalloc 5 4232\n"
-        ++ codes "alloc 6 2448\nrealloc 5 7 6112\nalloc 8 56\nfree 3\nscheduler 2\nalloc 2 2872\n"
-        ++ codes "alloc 9 232\nfree 2\nalloc 10 5744\nalloc 11 1400\nfree 9\nalloc 12 104\n"
-        ++ codes "  alloc 13 2696 \nschedule\n1*6151 1*2 1*4 2*2050\n2*2053\nend\n")
-        ≡ Some
-        (codes "scheduler 1\nalloc 1 1 8 1326\nalloc 3 2 8 542\nalloc 4 2 550 1178\n"
-        ++ codes "alloc 5 3 8 530\nalloc 6 2 1728 308\nrealloc 5 7 3 8 766 here\nalloc 8 1 1334 8\n"
-        ++ codes "free 3 done\nscheduler 2\nalloc 2 2 8 360\nalloc 9 2 368 30\nfree 2 done\n"
-        ++ codes "alloc 10 1025 8 720\nalloc 11 1025 728 176\nfree 9 done\nalloc 12 1025 904 14\n"
-        ++ codes "alloc 13 1025 918 338\n"
-        ++ codes "carrier 1 multi owner 1 employed 1 base 0 pages 3 allocated 1334 largest 194\n"
-        ++ codes "carrier 2 multi owner 1 pooled 2 base 3 pages 4 allocated 1486 largest 542\n"
-        ++ codes "carrier 3 multi owner 1 employed 1 base 7 pages 5 allocated 766 largest 1786\n"
-        ++ codes "carrier 1025 multi owner 2 employed 2 base 384 pages 3 "
-        ++ codes "allocated 1248 largest 280\n"
-        ++ codes "total carriers 4 units 7680 live 4834 queued 0 free 2814 header 32\n") }
 {}

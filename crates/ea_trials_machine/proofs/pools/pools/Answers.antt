@@ -34,17 +34,9 @@ pub returns-clause-sixteen_schedulers : goal.returns-clause-sixteen_schedulers
 unfolding digits unused_from bin_of powers answer effect after step_at
 returns-clause-sixteen_schedulers c = refl
 
-pub returns-clause-three_under_address_fit : goal.returns-clause-three_under_address_fit
-unfolding digits unused_from bin_of powers answer effect after step_at
-returns-clause-three_under_address_fit c = refl
-
 pub returns-clause-two_under_good_fit : goal.returns-clause-two_under_good_fit
 unfolding digits unused_from bin_of powers answer effect after step_at
 returns-clause-two_under_good_fit c = refl
-
-pub returns-clause-two_under_best_fit : goal.returns-clause-two_under_best_fit
-unfolding digits unused_from bin_of powers answer effect after step_at
-returns-clause-two_under_best_fit c = refl
 
 pub returns-clause-singles_above_a_kilobyte : goal.returns-clause-singles_above_a_kilobyte
 unfolding digits unused_from bin_of powers answer effect after step_at
@@ -58,14 +50,6 @@ pub returns-clause-three_under_age_order : goal.returns-clause-three_under_age_o
 unfolding digits unused_from bin_of powers answer effect after step_at
 returns-clause-three_under_age_order c = refl
 
-pub returns-clause-carriers_of_one_page : goal.returns-clause-carriers_of_one_page
-unfolding digits unused_from bin_of powers answer effect after step_at
-returns-clause-carriers_of_one_page c = refl
-
-pub returns-clause-three_with_many_singles : goal.returns-clause-three_with_many_singles
-unfolding digits unused_from bin_of powers answer effect after step_at
-returns-clause-three_with_many_singles c = refl
-
 pub returns-clause-two_by_age_with_singles : goal.returns-clause-two_by_age_with_singles
 unfolding digits unused_from bin_of powers answer effect after step_at
 returns-clause-two_by_age_with_singles c = refl
@@ -74,21 +58,9 @@ pub returns-clause-two_by_age_with_a_least_gap : goal.returns-clause-two_by_age_
 unfolding digits unused_from bin_of powers answer effect after step_at
 returns-clause-two_by_age_with_a_least_gap c = refl
 
-pub returns-clause-two_by_default : goal.returns-clause-two_by_default
-unfolding digits unused_from bin_of powers answer effect after step_at
-returns-clause-two_by_default c = refl
-
-pub returns-clause-two_in_a_megabyte : goal.returns-clause-two_in_a_megabyte
-unfolding digits unused_from bin_of powers answer effect after step_at
-returns-clause-two_in_a_megabyte c = refl
-
 pub returns-clause-two_always_moving : goal.returns-clause-two_always_moving
 unfolding digits unused_from bin_of powers answer effect after step_at
 returns-clause-two_always_moving c = refl
-
-pub returns-clause-carriers_of_one_size : goal.returns-clause-carriers_of_one_size
-unfolding digits unused_from bin_of powers answer effect after step_at
-returns-clause-carriers_of_one_size c = refl
 
 pub returns-clause-three_always_moving : goal.returns-clause-three_always_moving
 unfolding digits unused_from bin_of powers answer effect after step_at
@@ -98,14 +70,6 @@ pub returns-clause-at_half_utilization : goal.returns-clause-at_half_utilization
 unfolding digits unused_from bin_of powers answer effect after step_at
 returns-clause-at_half_utilization c = refl
 
-pub returns-clause-moved_and_queued : goal.returns-clause-moved_and_queued
-unfolding digits unused_from bin_of powers answer effect after step_at
-returns-clause-moved_and_queued c = refl
-
 pub returns-clause-two_in_address_order : goal.returns-clause-two_in_address_order
 unfolding digits unused_from bin_of powers answer effect after step_at
 returns-clause-two_in_address_order c = refl
-
-pub returns-clause-employed_by_the_other : goal.returns-clause-employed_by_the_other
-unfolding digits unused_from bin_of powers answer effect after step_at
-returns-clause-employed_by_the_other c = refl

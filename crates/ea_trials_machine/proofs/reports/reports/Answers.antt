@@ -74,15 +74,6 @@ pub returns-clause-four_under_age_order : goal.returns-clause-four_under_age_ord
 unfolding digits unused_from bin_of powers answer effect after step_at
 returns-clause-four_under_age_order c = refl
 
-pub returns-clause-two_that_queue : goal.returns-clause-two_that_queue
-unfolding digits unused_from bin_of powers answer effect after step_at
-returns-clause-two_that_queue c = refl
-
-pub returns-clause-two_under_address_order_best_fit
-    : goal.returns-clause-two_under_address_order_best_fit
-unfolding digits unused_from bin_of powers answer effect after step_at
-returns-clause-two_under_address_order_best_fit c = refl
-
 pub returns-clause-two_in_address_order : goal.returns-clause-two_in_address_order
 unfolding digits unused_from bin_of powers answer effect after step_at
 returns-clause-two_in_address_order c = refl
