@@ -37,6 +37,12 @@ def two(first, second, *turns):
     return "\n".join(["type H", "scheduler 1", *first, "scheduler 2", *second, "schedule", *turns, "end", ""])
 
 
+def several(letters, *sections):
+    """An input of these allocator types, whose schedulers run one after the other."""
+    parts = [it for number, part in enumerate(sections, 1) for it in (f"scheduler {number}", *part)]
+    return "\n".join([f"types {letters}", *parts, "schedule", "end", ""])
+
+
 def stopped(trace, *stops):
     """The trace with these stops."""
     return trace.replace("\nschedule\n", "\n" + "".join(f"stop {it}\n" for it in stops) + "schedule\n")
@@ -247,6 +253,57 @@ class Compare(unittest.TestCase):
         self.assertRow(roomy, failed=0, moved=0, returned=0)
         self.assertRow(roomy, carriers_most=None, units_most=None, failed_space=None, abandoned=0, fetched=0)
         self.assertGreaterEqual(tight["failed"], 578)
+
+    # Several allocator types
+
+    def test_each_type_has_a_line(self):
+        lists = ["own-carriers.scs1.flags", "own-carriers.scs2.flags"]
+        rows = self.rows("own-carriers.trace", "--flags", *lists, folder=EXAMPLES)
+        self.assertEqual([it["type"] for it in rows], ["H", "B", "E"] * 2)
+        # Carriers of 123 pages for two blocks of 62502 units, and none for the third; or of 123, 186 and 123 pages.
+        self.assertEqual([(it["carriers_most"], it["units_most"], it["failed_space"]) for it in rows[::3]], [
+            (2, 2 * 123 * 512, 1), (3, (123 + 186 + 123) * 512, 0)])
+        for it in rows[1:3] + rows[4:]:
+            self.assertRow(it, carriers_end=1, carriers_most=1, units_most=32768, failed=0)
+
+    def test_a_line_is_that_of_the_type_alone(self):
+        """Of a trace of its lines. In that of B a carrier is abandoned, so that the replay needs a further run."""
+        second = ["take 1 1", "alloc 3 1000", "free 1", "free 3"]
+        sections = {
+            "H": (["alloc 1 1000", "alloc 2 3000", "give 1 2"], second),
+            "B": (["alloc 1 1000", "alloc 2 3000", "free 2", "give 1 2"], second),
+        }
+        mixed = [[f"{letter} {it}" for letter, parts in sections.items() for it in parts[at]] for at in range(2)]
+        words = [it for letter in "HB" for it in ("--each", f"+M{letter}smbcs 4", "--each", f"+M{letter}lmbcs 4")]
+        rows = self.rows(self.file("both.trace", several("H B", *mixed)), "--each", "+S 2", *words)
+        for row, (letter, parts) in zip(rows, sections.items()):
+            alone = self.row(two(*parts).replace("type H", f"type {letter}"), "--each", "+S 2", *words)
+            self.assertRow(row, **{name: it for name, it in alone.items() if name not in ("trace", "seconds")})
+        self.assertEqual([(it["type"], it["returned"]) for it in rows], [("H", 0), ("B", 1)])
+
+    def test_types_by_turns(self):
+        [heap, binary] = self.rows("two-queues.trace", "--flags", "two-queues.flags", folder=EXAMPLES)
+        # Blocks of 626 and 40 units; one of 26, since the one of 126 that was queued is released.
+        self.assertRow(heap, carriers_end=1, utilisation_end=2.0, queued=0, utilisation_most=None)
+        self.assertRow(binary, carriers_end=1, utilisation_end=0.0, queued=0, utilisation_most=None)
+
+    def test_the_column_of_types_stands_in_the_text_where_there_are_several(self):
+        inputs = [self.file("a.trace", several("H B", ["H idle"])), self.file("b.trace", one("idle"))]
+        heads = [self.compare(it)[1].partition("\n")[0].split() for it in inputs]
+        self.assertEqual([it for it in heads[0] if it not in heads[1]], ["type"])
+        words = [self.file("c.trace", one("idle").replace("type H", "type E")), "b.trace", "--columns", "type"]
+        self.assertEqual(self.compare(*words)[1], "type\nE\nH\n")
+
+    def test_the_word_of_types_before_a_list(self):
+        """It counts for nothing, and the program counts its words after it."""
+        self.file("bad.flags", "types\n+MHas\nff\n")
+        for trace in (several("H B", ["H idle"]), one("idle")):
+            ran = self.compare(self.file("a.trace", trace), "--flags", "bad.flags")
+            self.assertEqual(ran[::2], (1, "compare: bad.flags: line 3: ff: bad value\n"))
+
+    def test_refused_types(self):
+        words = [self.file("a.trace", several("H B", ["H alloc 1 1", "E idle"])), "--columns", "type,status"]
+        self.assertEqual(self.compare(*words), (1, "type  status\n-          2\n", "compare: a.trace: line 4: syntax\n"))
 
     def test_at_most_is_the_greatest_of_all_fronts(self):
         """The program's own totals on each front of an example, beside the replay."""
