@@ -302,8 +302,9 @@ class Compare(unittest.TestCase):
             self.assertEqual(ran[::2], (1, "compare: bad.flags: line 3: ff: bad value\n"))
 
     def test_refused_types(self):
-        words = [self.file("a.trace", several("H B", ["H alloc 1 1", "E idle"])), "--columns", "type,status"]
-        self.assertEqual(self.compare(*words), (1, "type  status\n-          2\n", "compare: a.trace: line 4: syntax\n"))
+        trace, columns = self.file("a.trace", several("H B", ["H alloc 1 1", "E idle"])), "type,status"
+        wanted = 1, "type  status\n-          2\n", "compare: a.trace: line 4: syntax\n"
+        self.assertEqual(self.compare(trace, "--columns", columns), wanted)
 
     def test_at_most_is_the_greatest_of_all_fronts(self):
         """The program's own totals on each front of an example, beside the replay."""

@@ -448,6 +448,55 @@ class ManySchedulers(Case):
             self.assertEqual([span[1:] for span in spans_of(data, number)], [((instance - 1) * 256, 1)])
 
 
+class Types(Case):
+    """Inputs of several allocator types. What is wanted of a type is what a trace of its lines alone has."""
+
+    FLAGS = "+MHacul", "0", "+MBacul", "0", "+MHsbct", "16"
+
+    def several(self, *operations):
+        """An input of H and B with one scheduler."""
+        lines = ["types H B", "scheduler 1", *operations, "schedule", "end", ""]
+        return self.write("both.trace", "\n".join(lines))
+
+    def test_each_type_has_a_file(self):
+        grows, moves = ("alloc 1 30000", "alloc 2 9000", "free 1"), ("alloc 1 30000", "free 1", "alloc 2 9000")
+        trace = self.several(*(it for pair in zip(moves, grows) for it in (f"H {pair[0]}", f"B {pair[1]}")))
+        self.draw("--trace", trace, "--output", self.path("c.html"), "--svg", self.path("c.svg"), "--", *self.FLAGS)
+        files = [f"c.{letter}.{kind}" for letter in "BH" for kind in ("html", "svg")]
+        self.assertEqual(sorted(os.listdir(self.folder)), ["both.trace", *files])
+        for letter, part in ("H", moves), ("B", grows):
+            alone = self.trace(*part)
+            self.write("a.trace", self.read("a.trace").replace("type H", f"type {letter}"))
+            wanted, found = self.data("--trace", alone, "--", *self.FLAGS), data_in(self.read(f"c.{letter}.html"))
+            self.assertEqual((wanted.pop("name"), found.pop("name")), ("a.trace", f"both.trace, type {letter}"))
+            self.assertEqual(found, wanted)
+            self.assertEqual(names_in(self.read(f"c.{letter}.svg")), [2])
+            self.assertIn(f"both.trace, type {letter}: after entry 3 of 3", self.read(f"c.{letter}.svg"))
+
+    def test_types_by_turns(self):
+        """Of the example: block 1 of B is queued from entry 5 of its type on, and released at its end."""
+        words = "--trace", f"{TOP}/examples/two-queues.trace", "--flags", f"{TOP}/examples/two-queues.flags"
+        for moment, queued in ((3, False), (5, True), (6, None)):
+            self.draw(*words, "--type", "B", "--svg", self.path("a.svg"), "--at", str(moment))
+            svg = self.read("a.B.svg")
+            self.assertEqual(count_in(svg), 1 if queued is None else 2)
+            self.assertEqual('class="block queued"' in svg, bool(queued))
+        self.assertEqual(sorted(os.listdir(self.folder)), ["a.B.svg"])
+
+    def test_what_is_refused(self):
+        trace = self.several("H alloc 1 100", "B idle", "H idle")
+        words = "--trace", trace, "--svg", self.path("a.svg")
+        self.refused(f"{trace}, type B: there are moments 0 to 1, and no 2", *words, "--at", "2")
+        self.refused(f"{trace}: there is no type E", *words, "--type", "E")
+        self.refused("the words after --: word 3: bad value", *words, "--", "types", "+MHas", "ff")
+        flags = self.write("a.flags", "types\n+MHacul\n0\n+MHfoo\n1\n")
+        self.refused(f"{flags}: line 4: unknown flag", *words, "--flags", flags)
+        trace = self.several("H alloc 1 100", "E idle")
+        self.refused(f"{trace}: line 4: syntax", *words)
+        self.assertNotIn("a.H.svg", os.listdir(self.folder))
+        self.draw("--trace", self.trace("idle"), "--type", "H", "--svg", self.path("a.svg"))
+
+
 class Refusals(Case):
     def test_a_trace(self):
         trace = self.write("bad.trace", "type H\nscheduler 1\nfrob\n")
