@@ -363,6 +363,106 @@ class Bytes(Case):
             self.assertEqual(self.load(*words[2:], path).stdout, text)
 
 
+class SeveralTypes(Case):
+    """Of two files of 20000 and 10000 calls, and of 8 and 16 blocks, comes an input of their types."""
+
+    BINARIES = SMALL + "calls 15000 0 5000\n"
+    HEAPS = FIRST + "type H\nblocks 512 512 16\ncalls 4000 5000 1000\n"
+
+    def input(self, *words, schedulers=1, texts=(BINARIES, HEAPS)):
+        """Its lines, and the trace of each type."""
+        files = [self.file(text, f"{at}.load") for at, text in enumerate(texts)]
+        done = self.load(*words, "--schedulers", schedulers, *files)
+        self.assertEqual((done.returncode, done.stderr), (0, ""))
+        lines = [it for it in done.stdout.split("\n") if not it.startswith("#")]
+        self.assertEqual(lines[0], "types B H")
+        return lines, [Trace(self, self.left_of(lines, it), schedulers) for it in "BH"]
+
+    def left_of(self, lines, letter):
+        """The trace of a type."""
+        own = [it.removeprefix(f"{letter} ") for it in lines[1:] if it[:2] not in ("B ", "H ") or it[0] == letter]
+        return "\n".join([f"type {letter}", *own])
+
+    def test_operations_are_shared_by_calls(self):
+        """Two for each scheduler and type, and of the other 2988 two thirds and one third."""
+        for ending in "schedule", "turns", "threads":
+            _, traces = self.input("--operations", 3000, "--ending", ending, schedulers=3)
+            self.assertEqual([len(it.operations) for it in traces], [1998, 1002])
+            for trace in traces:
+                self.assertEqual(trace.ending, ending.replace("turns", "schedule"))
+                self.assertTrue(all(it[-1] == ("info",) for it in trace.sections))
+        _, traces = self.input("--operations", 3000, texts=(SMALL, self.HEAPS))
+        self.assertEqual([len(it.operations) for it in traces], [1500, 1500])
+        few = self.HEAPS.replace("4000 5000 1000", "1 0 0")
+        _, traces = self.input("--operations", 3000, schedulers=3, texts=(self.BINARIES, few))
+        self.assertEqual([len(it.operations) for it in traces], [2994, 6])
+
+    def test_what_each_has_of_its_file(self):
+        """Half of the calls for heaps reallocate, and none for binaries; of 150 live blocks 50 and 100 are for 8 and 16
+        blocks of the node. All heaps have 512 bytes, of which 8 are the header."""
+        lines, (binaries, heaps) = self.input("--operations", 6000, "--live", 150)
+        self.assertFalse(binaries.words("realloc"))
+        self.assertGreater(len(heaps.words("realloc")), 700)
+        self.assertEqual([max(it.live(0)) for it in (binaries, heaps)], [50, 100])
+        self.assertEqual((set(binaries.sizes), set(heaps.sizes)), ({56, 120, 248}, {504}))
+
+    def test_types_come_evenly(self):
+        """After each operation none is further than the other by more than one of its own."""
+        lines, traces = self.input("--operations", 900)
+        totals, done = [len(it.operations) for it in traces], [0, 0]
+        for line in lines[2 : lines.index("schedule")]:
+            done["BH".index(line[0])] += 1
+            self.assertLessEqual(abs(done[0] * totals[1] - done[1] * totals[0]), max(totals))
+        self.assertEqual(done, totals)
+
+    def test_the_comment_makes_it_again(self):
+        files = self.file(self.BINARIES, "b.load"), self.file(self.HEAPS, "h.load")
+        done = self.load("--operations", 300, "--schedulers", 2, "--seed", 5, "--phases", 2, *files)
+        first, *comments = [it for it in done.stdout.split("\n") if it.startswith("#")]
+        again = self.load(*first.removeprefix("# tools/load ").split(), *files)
+        self.assertEqual((again.returncode, again.stdout), (0, done.stdout))
+        self.assertTrue(comments[-1].startswith("# Flags to begin with: types +S 2 +MMscs 1 "))
+        self.assertEqual([it for it in comments if it.startswith("# Type ")], [
+            "# Type B, 199 operations:", "# Type H, 101 operations:"])
+        alone = self.load(files[0])
+        self.assertNotIn("Type B", alone.stdout)
+
+    def test_what_is_refused(self):
+        binaries, heaps = self.file(self.BINARIES, "b.load"), self.file(self.HEAPS, "h.load")
+        more = self.file(self.BINARIES, "c.load")
+        self.refused(f"{more}: its type B is that of {binaries}, too", binaries, heaps, more)
+        words = "--schedulers", 4, "--operations", 15, binaries, heaps
+        self.refused("--operations is less than two for each scheduler and file (see --help)", *words, status=2)
+
+    def test_carriers_of_each_type(self):
+        """Of the run's text the part of the file's type, also where one file is given."""
+        files = self.file(Carriers.NODE, "b.load"), self.file(self.HEAPS, "h.load")
+        none = "scheduler 1\ntotal carriers 0 units 0 live 0 queued 0 free 0 header 0\n"
+        text = self.file(f"type H\n{none}type B\n{Carriers.RUN}", "text")
+        done = self.load("--beside", text, *files)
+        self.assertEqual((done.returncode, done.stderr), (0, ""))
+        of_binaries, _, of_heaps = done.stdout.partition("type H")
+        self.assertEqual("\n" + of_binaries.replace("type B", "      "), Carriers.TABLE)
+        self.assertRegex(of_heaps, r"^ +node +run\ncarriers +0 +0\n")
+        self.assertEqual("\n" + self.load("--beside", text, files[0]).stdout, Carriers.TABLE)
+        text = self.file(f"type H\n{none}", "text")
+        self.refused(f"{text}: it has no type B", "--beside", text, *files)
+        text = self.file(none, "text")
+        self.refused(f"{text}: it is of one type, and there are 2 files", "--beside", text, *files)
+
+    @unittest.skipUnless(os.access(PROGRAM, os.X_OK), f"no program at {PROGRAM}, so no input was run")
+    def test_it_runs(self):
+        files = self.file(self.BINARIES, "b.load"), self.file(self.HEAPS, "h.load")
+        path = f"{self.room}/input"
+        for ending in "schedule", "threads":
+            words = "--operations", 600, "--schedulers", 2, "--ending", ending, "--output", path
+            self.assertEqual(self.load(*words, *files).returncode, 0)
+            out = run_of(self, path, "types", "+S", "2")
+            self.assertEqual(len(re.findall(r"^(?:alloc|free|realloc|give|take|info) ", out, re.M)), 604)
+            beside = self.load("--beside", self.file(out, "text"), *files)
+            self.assertEqual((beside.returncode, beside.stderr), (0, ""))
+
+
 class Refusals(Case):
     def test_bad_files(self):
         letters = "one letter is due, of B D E H L R S T"
