@@ -15,7 +15,8 @@ and of 700 for each of random ones, where address fit has too few carriers. Thos
 carriers of each scheduler, of 4096 kB in all for blocks of one size, and of 7168 kB for random ones. Those in
 FOLDER/operations and in FOLDER/carriers are for carriers of any size. Those in FOLDER/alone are of several schedulers of
 which the first one does all, by a schedule and as threads, for an acul of 60 and carriers of one page. Those in
-FOLDER/idle are of schedulers that do nothing, for no other flag.
+FOLDER/idle are of schedulers that do nothing, for no other flag. Those in FOLDER/types are of two allocator types with
+the same work, H and B, and of each of these alone, by a schedule and as threads, for +MMscs 256.
 """
 import itertools
 import os
@@ -460,6 +461,33 @@ def idle_traces():
             yield f"idle/{schedulers}-{ending}", sections_of([[]] * schedulers) + f"{ending}\nend\n"
 
 
+def typed(sections):
+    """The first lines and sections of an input of two allocator types that both do what these sections do, line by line,
+    and of the trace of each type, which has an empty line for each of the other."""
+    both, *alone = ["types H B\n"], ["type H\n"], ["type B\n"]
+    for line in sections.splitlines(keepends=True)[1:]:
+        if line.startswith("scheduler "):
+            for it in (both, *alone):
+                it.append(line)
+        else:
+            both.append(f"H {line}B {line}")
+            alone[0].append(f"{line}\n")
+            alone[1].append(f"\n{line}")
+    return {kind: "".join(it) for kind, it in zip(("both", "H", "B"), (both, *alone))}
+
+
+def typed_traces():
+    works = {
+        "mixed": (OPENING + mixed_lines(200_000, 8, SMALL, 2), ["schedule"]),
+        "disjoint": (disjoint(4, 200_000, 8, SMALL), ["schedule", "threads"]),
+        "mingled": (mingled(4, 200_000), ["schedule", "threads"]),
+    }
+    for name, (sections, endings) in works.items():
+        for kind, text in typed(sections).items():
+            for ending in endings:
+                yield f"types/{name}-{ending}-{kind}", f"{text}{ending}\nend\n"
+
+
 def for_threads():
     """Sections that run with `threads`, and the end of the same trace by a schedule."""
     for schedulers in (1, 4):
@@ -515,6 +543,7 @@ def main(folder):
     made.update(live_traces())
     made.update(alone_traces())
     made.update(idle_traces())
+    made.update(typed_traces())
     for name, text in wanted_back():
         made[f"wanted/{name}"] = text
     for name, text in without_change():
