@@ -5,17 +5,19 @@ most of them all schedulers meet before their operations, so that these run besi
 after them, so that all queues are worked off in the end. `crowd` makes such a one of 17 to 64 schedulers, whose carriers
 migrate: some of them abandon one before they meet. `duel` makes one of two schedulers that meet and then have at most
 three operations each, and tells which lists of turns lead to all that these can give; there no carrier migrates.
+`several` makes an input of two or three allocator types, each with what `race` makes of it.
 
-In a third of all these some schedulers stop. How many steps one takes that waits for another is not known before. So most of
+In a third of all these but the last some schedulers stop. How many steps one takes that waits for another is not known before. So most of
 those that stop take no part in the meeting but by a block that they give: in place of waiting they try for a block that
 isn't there, as often as it says, and stop after about as many steps as lead to one of their operations.
 """
 import itertools
 import math
 import random
+import re
 from dataclasses import dataclass, field
 
-from histories import NUMBERS
+from histories import NUMBERS, demand
 
 LETTERS = "BDEHLRST"
 MOST_SCHEDULERS = 64
@@ -91,6 +93,43 @@ class Trace:
             lines += [" ".join(map(str, it)) + "\n" for it in operations]
         lines += [f"stop {me + 1} {steps}\n" for me, steps in self.stops.items()]
         return "".join(lines) + ending + "end\n"
+
+    def parts(self, output):
+        """The traces that an output tells of, each with its text."""
+        return [(self, output)]
+
+
+@dataclass
+class Several:
+    """The traces of allocator types with as many schedulers, and for each scheduler the types of its lines in order."""
+
+    types: list
+    orders: list
+    stops: dict = field(default_factory=dict)
+
+    @property
+    def words(self):
+        return ["types", *itertools.chain(*(it.words for it in self.types))]
+
+    @property
+    def sections(self):
+        """Of each scheduler the operations, each after its type."""
+        left = [[iter(section) for section in it.sections] for it in self.types]
+        return [
+            [(self.types[at].letter, *next(left[at][me])) for at in order] for me, order in enumerate(self.orders)
+        ]
+
+    def text(self):
+        lines = [f"types {' '.join(it.letter for it in self.types)}\n"]
+        for number, operations in enumerate(self.sections, 1):
+            lines.append(f"scheduler {number}\n")
+            lines += [" ".join(map(str, it)) + "\n" for it in operations]
+        return "".join(lines) + "threads\nend\n"
+
+    def parts(self, output):
+        texts = re.split("^type ([A-Z])\n", output, flags=re.MULTILINE)
+        demand(texts[:1] == [""] and texts[1::2] == [it.letter for it in self.types], "its types are others")
+        return zip(self.types, texts[2::2])
 
 
 @dataclass
@@ -332,10 +371,27 @@ def race(number):
     """A trace of 2 to 8 schedulers."""
     pick = random.Random(number)
     schedulers, megabytes = pick.randint(2, 8), pick.choice([1, 1, 2, 4, 64])
-    letter = pick.choice(LETTERS)
+    return race_of(pick, schedulers, megabytes, pick.choice(LETTERS), STOPPING)
+
+
+def race_of(pick, schedulers, megabytes, letter, stopping):
     values = some_values(pick, megabytes, schedulers, letter != "T")
     made = Sections(pick, schedulers, some_names(pick), values.get("sbct", DEFAULTS["sbct"]))
-    return some_race(made, letter, megabytes, values)
+    return some_race(made, letter, megabytes, values, stopping)
+
+
+def several(number):
+    """An input of two or three allocator types. What the flags of one set for all letters they set for its own alone."""
+    pick = random.Random(number)
+    schedulers, megabytes = pick.randint(2, 8), pick.choice([1, 1, 2, 4, 64])
+    types = [race_of(pick, schedulers, megabytes, it, 0) for it in pick.sample(LETTERS, pick.randint(2, 3))]
+    for it in types:
+        it.words = [word.replace("+Mu", f"+M{it.letter}") for word in it.words]
+    orders = []
+    for sections in zip(*(it.sections for it in types)):
+        orders.append([at for at, section in enumerate(sections) for _ in section])
+        pick.shuffle(orders[-1])
+    return Several(types, orders)
 
 
 def crowd(number):
@@ -351,10 +407,10 @@ def crowd(number):
     return some_race(made, letter, megabytes, values)
 
 
-def some_race(made, letter, megabytes, values):
-    """The trace of sections in the making, with meetings, operations and stops."""
+def some_race(made, letter, megabytes, values, stopping=STOPPING):
+    """The trace of sections in the making, with meetings, operations and, by this chance, stops."""
     pick, schedulers = made.pick, len(made.texts)
-    if pick.random() < STOPPING:
+    if pick.random() < stopping:
         few = pick.randint(1, schedulers if pick.random() < 0.2 else schedulers // 2)
         made.stopping = set(pick.sample(range(schedulers), few))
         made.counting = {it for it in made.stopping if pick.random() < 0.8}
