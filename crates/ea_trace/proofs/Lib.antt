@@ -2,6 +2,7 @@ pub mod Stars
 pub mod Ranges
 pub mod Noted
 pub mod Reading
+pub mod Taken
 pub mod Turned
 pub mod Followed
 pub mod Stopped

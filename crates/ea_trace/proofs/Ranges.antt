@@ -1,12 +1,12 @@
 -- The numbers of each line that a text says are in their ranges.
 use Rattle.std.proofs.Common.{◌≡◌, ℕ, ◌≤◌, Bool, true, false, if◌then◌else◌, ◌&&◌, nat_le, List, []}
-use Rattle.std.proofs.Common.{◌∷◌, Option, Some, None, IfSome, bytes_eq, codes, refl, arith, tests}
+use Rattle.std.proofs.Common.{◌∷◌, Option, Some, None, IfSome, refl, arith, tests}
 use Rattle.std.proofs.Common.{rules}
 use Rattle.std.specs.List.{All, slice_split}
 use Rattle.std.specs.Option.{option_and_then, option_map, unwrap_or}
 use Rattle.std.proofs.lemmas.List.Elements.{All-cons, All-nil}
 use Rattle.ea_model.specs.Trace.{IsName}
-use Rattle.ea_model.specs.Words.{from_to, number, numeral, words}
+use Rattle.ea_model.specs.Words.{from_to, number, numeral}
 use Rattle.ea_model.specs.declared.operations.Op.{Op}
 use Rattle.ea_model.specs.declared.operations.Op.TheVariants.{Alloc, Free, Realloc, Give, Take}
 use Rattle.ea_model.specs.declared.operations.Op.TheVariants.{Info, Idle}
@@ -15,14 +15,17 @@ use Rattle.ea_model.specs.declared.trace.Turns as model
 use Rattle.ea_model.specs.declared.units.TheConstants.{MAX_BYTES, MAX_NAME, MAX_SEED, MAX_STEPS}
 use Rattle.ea_model.specs.declared.units.TheConstants.{MAX_TRIES}
 use Rattle.ea_model.specs.declared.units.TheConstants.{MAX_TURNS}
-use Rattle.ea_trace.specs.Lines.{Said, and_turns, alloc_in, bare, both_words, command, free_in}
-use Rattle.ea_trace.specs.Lines.{generate_in, generate_line, give_in, is_comment, is_star}
-use Rattle.ea_trace.specs.Lines.{letter_line, line_of, line_of_words, name_in, one_of, only_word}
-use Rattle.ea_trace.specs.Lines.{operation_in, pair, realloc_in, scheduler_in, section_in}
-use Rattle.ea_trace.specs.Lines.{section_line, stop_from, stop_in, stop_line, take_in, three_words}
-use Rattle.ea_trace.specs.Lines.{triple, turns_at, turns_from}
-use Rattle.ea_trace.specs.Lines.{turns_in, turns_line, turns_of_parts, type_in}
+use Rattle.ea_trace.specs.Lines.{Said, and_turns, bare, both_words, command, command_of}
+use Rattle.ea_trace.specs.Lines.{generate_line, is_comment, is_star, keyword_in, kind_in}
+use Rattle.ea_trace.specs.Lines.{letter_line, line_of_words, name_in, one_of, only_word}
+use Rattle.ea_trace.specs.Lines.{operation_in, operation_of, pair, scheduler_in, section_line}
+use Rattle.ea_trace.specs.Lines.{stop_from, stop_line, three_words, triple, turns_at, turns_from}
+use Rattle.ea_trace.specs.Lines.{turns_in, turns_line, turns_of_parts}
 use Rattle.ea_trace.specs.Ranges.{HasRanges, InRange, IsCount}
+use Rattle.ea_trace.specs.declared.keywords.Keyword.{Keyword}
+use Rattle.ea_trace.specs.declared.keywords.Keyword.TheVariants as keyword
+use Rattle.ea_trace.specs.declared.keywords.OpKind.{OpKind}
+use Rattle.ea_trace.specs.declared.keywords.OpKind.TheVariants as kind
 use Rattle.ea_trace.specs.declared.lines.Line.TheVariants as line
 use Rattle.ea_trace.specs.declared.lines.TheConstants.{MAX_READ}
 
@@ -94,29 +97,24 @@ upper high None = tt
 upper high (Some n) = guarded (λ n. n ≤ high) n (nat_le 0 n) (nat_le n high)
     (λ a b. (within 0 high n a b).1)
 
-pub operation_ranges : (keyword : List ℕ) (ws : List (List ℕ))
-    → IfSome (operation_in keyword ws) HasRanges
-operation_ranges keyword ws =
-    either (bytes_eq keyword (codes "alloc")) (alloc_in ws) _ HasRanges
-    (chained _ (both_words ws) HasRanges (λ w. paired Alloc _ _ IsName IsRequest HasRanges
-    (name_within w.0) (upper MAX_BYTES (numeral w.1)) (λ x y h k. (h, k)))) (
-    either (bytes_eq keyword (codes "free")) (free_in ws) _ HasRanges
-    (mapped Free _ IsName HasRanges (chained name_in (only_word ws) IsName name_within) (λ x h. h))
-    (
-    either (bytes_eq keyword (codes "realloc")) (realloc_in ws) _ HasRanges
-    (chained _ (three_words ws) HasRanges (λ w. tripled Realloc _ _ _ IsName IsName IsRequest
-    HasRanges (name_within w.0) (name_within w.1) (upper MAX_BYTES (numeral w.2))
-    (λ x y z h k l. (h, k, l)))) (
-    either (bytes_eq keyword (codes "give")) (give_in ws) _ HasRanges
-    (chained _ (both_words ws) HasRanges (λ w. paired Give _ _ IsName Any HasRanges
-    (name_within w.0) (any (scheduler_in w.1)) (λ x y h k. h))) (
-    either (bytes_eq keyword (codes "take")) (take_in ws) _ HasRanges
-    (chained _ (both_words ws) HasRanges (λ w. paired Take _ _ IsName (Within 1 MAX_TRIES) HasRanges
-    (name_within w.0) (from_to_within 1 MAX_TRIES (numeral w.1)) (λ x y h k. (h, k.0, k.1)))) (
-    either (bytes_eq keyword (codes "info")) (bare Info ws) _ HasRanges
-    (bare_in Info ws HasRanges tt) (
-    either (bytes_eq keyword (codes "idle")) (bare Idle ws) None HasRanges
-    (bare_in Idle ws HasRanges tt) tt))))))
+kind_ranges : (ws : List (List ℕ)) (k : OpKind) → IfSome (operation_of ws k) HasRanges
+kind_ranges ws kind.Alloc = chained _ (both_words ws) HasRanges (λ w. paired Alloc _ _ IsName
+    IsRequest HasRanges (name_within w.0) (upper MAX_BYTES (numeral w.1)) (λ x y h k. (h, k)))
+kind_ranges ws kind.Free = mapped Free _ IsName HasRanges
+    (chained name_in (only_word ws) IsName name_within) (λ x h. h)
+kind_ranges ws kind.Realloc = chained _ (three_words ws) HasRanges (λ w. tripled Realloc _ _ _
+    IsName IsName IsRequest HasRanges (name_within w.0) (name_within w.1)
+    (upper MAX_BYTES (numeral w.2)) (λ x y z h k l. (h, k, l)))
+kind_ranges ws kind.Give = chained _ (both_words ws) HasRanges (λ w. paired Give _ _ IsName Any
+    HasRanges (name_within w.0) (any (scheduler_in w.1)) (λ x y h k. h))
+kind_ranges ws kind.Take = chained _ (both_words ws) HasRanges (λ w. paired Take _ _ IsName
+    (Within 1 MAX_TRIES) HasRanges (name_within w.0) (from_to_within 1 MAX_TRIES (numeral w.1))
+    (λ x y h k. (h, k.0, k.1)))
+kind_ranges ws kind.Info = bare_in Info ws HasRanges tt
+kind_ranges ws kind.Idle = bare_in Idle ws HasRanges tt
+
+operation_ranges : (w : List ℕ) (ws : List (List ℕ)) → IfSome (operation_in w ws) HasRanges
+operation_ranges w ws = chained (operation_of ws) (kind_in w) HasRanges (kind_ranges ws)
 
 parts_count : (parts : List (List ℕ)) → IfSome (turns_of_parts parts) IsCount
 parts_count [] = tt
@@ -147,28 +145,23 @@ any_letter : (o : Option Letter) → IfSome o (λ l. Unit {0})
 any_letter None = tt
 any_letter (Some l) = tt
 
-command_ranges : (keyword : List ℕ) (ws : List (List ℕ)) → IfSome (command keyword ws) InRange
-command_ranges keyword ws =
-    either (bytes_eq keyword (codes "threads")) (bare line.Threads ws) _ InRange
-    (bare_in line.Threads ws InRange tt) (
-    either (bytes_eq keyword (codes "schedule")) (bare line.Schedule ws) _ InRange
-    (bare_in line.Schedule ws InRange tt) (
-    either (bytes_eq keyword (codes "end")) (bare line.End ws) _ InRange
-    (bare_in line.End ws InRange tt) (
-    either (bytes_eq keyword (codes "type")) (type_in ws) _ InRange
-    (mapped letter_line _ (λ l. Unit {0}) InRange (any_letter _) (λ x h. tt)) (
-    either (bytes_eq keyword (codes "scheduler")) (section_in ws) _ InRange
-    (mapped section_line _ Any InRange (any _) (λ x h. tt)) (
-    either (bytes_eq keyword (codes "stop")) (stop_in ws) _ InRange
-    (mapped stop_line _ (λ s. s.steps ≤ MAX_STEPS) InRange
-    (chained _ (both_words ws) (λ s. s.steps ≤ MAX_STEPS) (λ w. paired stop_from _ _ Any
-    (λ k. k ≤ MAX_STEPS) (λ s. s.steps ≤ MAX_STEPS) (any (scheduler_in w.0))
-    (upper MAX_STEPS (numeral w.1)) (λ x y h k. k))) (λ x h. h)) (
-    either (bytes_eq keyword (codes "generate")) (generate_in ws) _ InRange
-    (chained _ (both_words ws) InRange (λ w. paired generate_line _ _ (λ n. n ≤ MAX_SEED)
-    (Within 1 MAX_READ) InRange (upper MAX_SEED (numeral w.0))
-    (from_to_within 1 MAX_READ (scheduler_in w.1)) (λ x y h k. (h, k.0))))
-    (one_ranges _ _ (operation_ranges keyword ws) (turns_ranges (keyword ∷ ws)))))))))
+command_ranges : (k : Option Keyword) (w : List ℕ) (ws : List (List ℕ))
+    → IfSome (command_of k w ws) InRange
+command_ranges (Some keyword.Threads) w ws = bare_in line.Threads ws InRange tt
+command_ranges (Some keyword.Schedule) w ws = bare_in line.Schedule ws InRange tt
+command_ranges (Some keyword.End) w ws = bare_in line.End ws InRange tt
+command_ranges (Some keyword.Letter) w ws = mapped letter_line _ (λ l. Unit {0}) InRange
+    (any_letter _) (λ x h. tt)
+command_ranges (Some keyword.Section) w ws = mapped section_line _ Any InRange (any _) (λ x h. tt)
+command_ranges (Some keyword.Stop) w ws = mapped stop_line _ (λ s. s.steps ≤ MAX_STEPS) InRange
+    (chained _ (both_words ws) (λ s. s.steps ≤ MAX_STEPS) (λ v. paired stop_from _ _ Any
+    (λ k. k ≤ MAX_STEPS) (λ s. s.steps ≤ MAX_STEPS) (any (scheduler_in v.0))
+    (upper MAX_STEPS (numeral v.1)) (λ x y h k. k))) (λ x h. h)
+command_ranges (Some keyword.Generate) w ws = chained _ (both_words ws) InRange
+    (λ v. paired generate_line _ _ (λ n. n ≤ MAX_SEED) (Within 1 MAX_READ) InRange
+    (upper MAX_SEED (numeral v.0)) (from_to_within 1 MAX_READ (scheduler_in v.1))
+    (λ x y h k. (h, k.0)))
+command_ranges None w ws = one_ranges _ _ (operation_ranges w ws) (turns_ranges (w ∷ ws))
 
 or_unreadable : (o : Option Said) → IfSome o InRange → InRange (unwrap_or o line.Unreadable)
 or_unreadable None h = tt
@@ -179,14 +172,11 @@ skipped_or true l h = tt
 skipped_or false l h = h
 
 -- a line by its first word and the words after it
-pub command_or_ranges : (keyword : List ℕ) (ws : List (List ℕ))
-    → InRange (unwrap_or (command keyword ws) line.Unreadable)
-command_or_ranges keyword ws = or_unreadable (command keyword ws) (command_ranges keyword ws)
+pub command_or_ranges : (w : List ℕ) (ws : List (List ℕ))
+    → InRange (unwrap_or (command w ws) line.Unreadable)
+command_or_ranges w ws = or_unreadable (command w ws) (command_ranges (keyword_in w) w ws)
 
-words_ranges : (ws : List (List ℕ)) → InRange (line_of_words ws)
+pub words_ranges : (ws : List (List ℕ)) → InRange (line_of_words ws)
 words_ranges [] = tt
 words_ranges (w ∷ ws) = skipped_or (is_comment w) (unwrap_or (command w ws) line.Unreadable)
     (command_or_ranges w ws)
-
-pub line_ranges : (text : List ℕ) → InRange (line_of text)
-line_ranges text = words_ranges (words text)

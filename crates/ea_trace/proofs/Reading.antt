@@ -1,6 +1,6 @@
 -- A line that passes each test, and the trace that the lines make.
 use Rattle.std.proofs.Common.{◌≡◌, ℕ, Bool, true, false, if◌then◌else◌, List, [], ◌∷◌, Option, Some}
-use Rattle.std.proofs.Common.{None, Err, ◌+◌, length, map, refl, ap}
+use Rattle.std.proofs.Common.{None, ◌+◌, length, map, refl, ap}
 use Rattle.std.specs.Prelude.{not}
 use Rattle.std.specs.List.{find, AllByRecursion}
 use Rattle.ea_model.specs.Lists.{Items}
@@ -8,15 +8,12 @@ use Rattle.ea_model.specs.Trace.{greatest_of, listed, plain, plain_mode}
 use Rattle.ea_model.specs.declared.settings.Letter.{Letter}
 use Rattle.ea_model.specs.declared.trace.Mode.{Mode}
 use Rattle.ea_model.specs.declared.trace.Trace.{Trace}
-use Rattle.ea_model.specs.Words.{lines}
 use Rattle.ea_model.specs.declared.trace.Stop.{Stop}
 use Rattle.ea_model.specs.declared.trace.Turns as model
 use Rattle.ea_trace.specs.Language.{Earlier, is_bad_scheduler, is_many, is_not_held, is_reused}
-use Rattle.ea_trace.specs.Language.{Answer, may_stand, operations, read_after, refusal}
-use Rattle.ea_trace.specs.Language.{refused_or, sections}
-use Rattle.ea_trace.specs.Language.{stops_after}
+use Rattle.ea_trace.specs.Language.{may_stand, operations, refusal, sections, stops_after}
 use Rattle.ea_trace.specs.Language.{stage_after, texts_after, trace_from, turns_after, with_turns}
-use Rattle.ea_trace.specs.Lines.{Said, line_of}
+use Rattle.ea_trace.specs.Lines.{Said}
 use Rattle.ea_trace.specs.TurnLines.{Adds}
 use Rattle.ea_trace.specs.declared.fault.TraceFault.{TraceFault}
 use Rattle.ea_trace.specs.declared.fault.TraceFault.TheVariants as fault
@@ -35,13 +32,13 @@ pub accepted : (n : ℕ) (earlier : Earlier) (line : Said)
 accepted n earlier line a b c d e = rw (a, b, c, d, e) refl
 
 -- a line that only takes a name its section doesn't hold is refused for that
-pub lacking : (n : ℕ) (earlier : Earlier) (line : Said) (number : ℕ) (read : Answer)
+pub lacking : (n : ℕ) (earlier : Earlier) (line : Said) (number : ℕ)
     → may_stand n (stage_after earlier) (sections earlier) (stops_after earlier) line ≡ true
     → is_bad_scheduler n (sections earlier) (stops_after earlier) line ≡ false
     → is_many n earlier line ≡ false → is_reused earlier line ≡ false
     → is_not_held earlier line ≡ true → length earlier + 1 ≡ number
-    → refused_or (refusal n earlier line) read ≡ Err (fault.NotHeld number)
-lacking n earlier line number read a b c d e same = rw (a, b, c, d, e, same) refl
+    → Some (fault.NotHeld number) ≡ refusal n earlier line
+lacking n earlier line number a b c d e same = rw (a, b, c, d, e, same) refl
 
 -- tests that agree on the elements find the same one
 pub find_same : (P : TakeLine → Type 0) (p q : TakeLine → Bool) → ((t : TakeLine) → P t → p t ≡ q t)
@@ -63,13 +60,6 @@ pub trace_same : (letter : Letter) (mode : Mode) (lines : Earlier) (t : Trace) �
     → t.greatest ≡ greatest_of (operations lines) → t.stops.items ≡ stops_after lines
     → trace_from letter mode lines ≡ plain t
 trace_same letter mode lines t a b m g s = rw (a, listed-items t.texts.items, b, m, g, s) refl
-
--- the first line is taken, and those after it are left
-pub read_more : (n : ℕ) (earlier : Earlier) (text first : List ℕ) (rest : List (List ℕ))
-    (line : Said) → lines text ≡ first ∷ rest → line_of first ≡ line
-    → refusal n earlier line ≡ None → read_after n earlier (map line_of (lines text))
-    ≡ read_after n (line ∷ earlier) (map line_of rest)
-read_more n earlier text first rest line e s none = rw (e, s, none) refl
 
 stands_nowhere : (n : ℕ) (stage : Stage) (section : ℕ) (ss : List Stop)
     → may_stand n stage section ss says.Unreadable ≡ false

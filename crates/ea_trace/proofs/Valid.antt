@@ -9,21 +9,21 @@ use Rattle.ea_model.specs.Trace.{MayStop}
 use Rattle.ea_model.specs.Trace.{gives, gives_to, greatest_of, listed, makes, operations_of, plain}
 use Rattle.ea_model.specs.Trace.{takes, text_at, texts_of, tries_of}
 use Rattle.ea_model.proofs.Traces.{valid_from_plain}
-use Rattle.ea_model.specs.Words.{lines}
 use Rattle.ea_model.specs.declared.operations.Op.{Op}
 use Rattle.ea_model.specs.declared.settings.Letter.{Letter}
 use Rattle.ea_model.specs.declared.trace.Mode.{Mode}
 use Rattle.ea_model.specs.declared.trace.Mode.TheVariants as mode
 use Rattle.ea_model.specs.declared.trace.Trace.{Trace}
-use Rattle.ea_trace.specs.Language.{Answer, Earlier, Gives, addressed_or, at_end, is_unaddressed}
+use Rattle.ea_trace.specs.Language.{Answer, Earlier, Gives, WordLines, addressed_or, at_end}
+use Rattle.ea_trace.specs.Language.{is_unaddressed}
 use Rattle.ea_trace.specs.Language.{letter_after, mode_after, operations, read_after, refusal}
 use Rattle.ea_trace.specs.Language.{refused_or, section_operations, sections, stage_after, takes_in}
-use Rattle.ea_trace.specs.Language.{texts_after, texts_before, trace, trace_from, turns_after}
+use Rattle.ea_trace.specs.Language.{texts_after, texts_before, trace_from, trace_of, turns_after}
 use Rattle.ea_trace.specs.Language.{stops_after, with_turns}
 use Rattle.ea_model.specs.declared.trace.Stop.{Stop}
 use Rattle.ea_model.specs.declared.trace.Turns as model
 use Rattle.ea_trace.proofs.Stopped.{all_stops, no_section_none, once_stopped}
-use Rattle.ea_trace.specs.Lines.{line_of}
+use Rattle.ea_trace.specs.Lines.{line_of_words}
 use Rattle.ea_trace.specs.Ranges.{InRange}
 use Rattle.ea_trace.specs.declared.fault.TraceFault.{TraceFault}
 use Rattle.ea_trace.specs.declared.stages.Stage.{Stage}
@@ -31,7 +31,7 @@ use Rattle.ea_trace.specs.declared.stages.Stage.TheVariants as at
 use Rattle.ea_trace.proofs.Addressed.{addressed, taken_each}
 use Rattle.ea_trace.proofs.Followed.{Fits, Followed, GoodTurns, all_of, brought_each, counts, laid}
 use Rattle.ea_trace.proofs.Followed.{laid_last, length_cases, passes, stays, turns_all}
-use Rattle.ea_trace.proofs.Ranges.{line_ranges}
+use Rattle.ea_trace.proofs.Ranges.{words_ranges}
 use Rattle.ea_trace.proofs.Turned.{all_turned, any_turned, greatest_turned, sum_turned}
 
 items-listed : (texts : List (List Op)) → map (λ text. text.items) (map (λ text. listed text) texts)
@@ -138,16 +138,15 @@ read_valid n earlier (line ∷ later) t f r h = not_refused (refusal n earlier l
     (read_after n (line ∷ earlier) later) t h (λ none. read_valid n (line ∷ earlier) later t
     (f, passes n earlier line none, r.0) r.1)
 
-lines_ranges : (texts : List (List ℕ)) → AllByRecursion InRange (map line_of texts)
+lines_ranges : (ls : WordLines) → AllByRecursion InRange (map line_of_words ls)
 lines_ranges [] = tt
-lines_ranges (text ∷ texts) = (line_ranges text, lines_ranges texts)
+lines_ranges (ws ∷ ls) = (words_ranges ws, lines_ranges ls)
 
 -- what the language calls a trace for n schedulers is valid for them
-pub trace_valid : (bytes : List ℕ) (n : ℕ) (t : Trace) → trace bytes n ≡ Ok t → IsValidTrace n t
-trace_valid bytes n t h = read_valid n [] (map line_of (lines bytes)) t tt
-    (lines_ranges (lines bytes)) h
+trace_valid : (ls : WordLines) (n : ℕ) (t : Trace) → trace_of n ls ≡ Ok t → IsValidTrace n t
+trace_valid ls n t h = read_valid n [] (map line_of_words ls) t tt (lines_ranges ls) h
 
-pub given_valid : (answer : Answer) (bytes : List ℕ) (n : ℕ) → Gives answer (trace bytes n)
+pub given_valid : (answer : Answer) (ls : WordLines) (n : ℕ) → Gives answer (trace_of n ls)
     → IfOk answer (IsValidTrace n)
-given_valid (Ok t) bytes n h = valid_from_plain n t (trace_valid bytes n (plain t) h)
-given_valid (Err fault) bytes n h = tt
+given_valid (Ok t) ls n h = valid_from_plain n t (trace_valid ls n (plain t) h)
+given_valid (Err fault) ls n h = tt

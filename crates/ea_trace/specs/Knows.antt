@@ -1,6 +1,7 @@
 -- What a reader knows of the lines that it took.
 use Rattle.std.specs.Prelude.{◌≡◌, ℕ, ◌+◌, ◌<◌, ◌≤◌, Bool, true, false, nat_lt, ◌==◌, List, get_or}
-use Rattle.std.specs.Prelude.{is_some, length, map, option_map, reverse, sum_by}
+use Rattle.std.specs.Prelude.{◌∷◌, Option, Some, None, is_some, length, map, option_map, reverse}
+use Rattle.std.specs.Prelude.{sum_by}
 use Rattle.std.specs.Borrow.{Bor}
 use Rattle.ea_model.specs.Trace.{greatest_of, plain_mode, tries_of}
 use Rattle.ea_model.specs.declared.operations.Op.{Op}
@@ -8,11 +9,12 @@ use Rattle.ea_model.specs.declared.operations.Op.TheVariants.{Give}
 use Rattle.ea_model.specs.Words.{words}
 use Rattle.ea_model.specs.declared.units.TheConstants.{MAX_ALL_TRIES, MAX_NAME, MAX_OPS, MAX_TURNS}
 use Rattle.ea_trace.specs.Language.{all_turns, gives_outside, is_given, is_given_to, is_held}
-use Rattle.ea_trace.specs.Language.{is_made, letter_after, mode_after, operations}
+use Rattle.ea_trace.specs.Language.{is_made, letter_after, mode_after, operations, refusal}
 use Rattle.ea_trace.specs.Language.{section_operations, sections, stage_after, stops_after}
 use Rattle.ea_trace.specs.Language.{takes_in}
 use Rattle.ea_trace.specs.Language.{texts_before, turns_after}
 use Rattle.ea_trace.specs.Lines.{Said, turns_in}
+use Rattle.ea_trace.specs.declared.fault.TraceFault.{TraceFault}
 use Rattle.ea_trace.specs.declared.lines.Line.{Line}
 use Rattle.ea_trace.specs.declared.lines.Line.TheVariants.{Section, Operation, Stop, Turns}
 use Rattle.ea_trace.specs.declared.names.Names.{Names}
@@ -51,6 +53,17 @@ pub record Knows (n : ℕ) (earlier : List Said) (s : Seen) : Type 0 where
   pub text : s.text.items ≡ reverse (section_operations earlier)
   pub texts : map (λ text. text.items) s.texts.items ≡ texts_before earlier
   pub stops : s.stops.items ≡ stops_after earlier
+
+-- a line that isn't refused is known after it
+abbrev pub KnowsMore : ℕ → List Said → Option TraceFault → Seen → Type 0
+KnowsMore n lines None s = Knows n lines s
+KnowsMore n lines (Some f) s = Unit {0}
+
+-- the answer to a line after the earlier ones, which is refused or known
+pub record Judged (n : ℕ) (earlier : List Said) (line : Said) (s : Seen)
+    (answer : Option TraceFault) : Type 0 where
+  pub refused : answer ≡ refusal n earlier line
+  pub known : KnowsMore n (line ∷ earlier) answer s
 
 -- all but the texts is as it was
 pub record KeepsRest (old new : Seen) : Type 0 where

@@ -6,7 +6,7 @@ use Rattle.std.specs.Prelude.{Err, find, length, map, reverse, sum_by}
 use Rattle.std.specs.List.{list_any}
 use Rattle.ea_model.specs.Trace.{brings, gives, gives_to, greatest_of, listed, makes, plain}
 use Rattle.ea_model.specs.Trace.{tries_of}
-use Rattle.ea_model.specs.Words.{lines}
+use Rattle.ea_model.specs.Words.{lines, words}
 use Rattle.ea_model.specs.declared.operations.Op.{Op}
 use Rattle.ea_model.specs.declared.operations.Op.TheVariants.{Alloc, Free, Realloc, Give, Take}
 use Rattle.ea_model.specs.declared.settings.Letter as settings
@@ -16,7 +16,7 @@ use Rattle.ea_model.specs.declared.trace.Trace.{Trace}
 use Rattle.ea_model.specs.declared.trace.Stop as stops
 use Rattle.ea_model.specs.declared.trace.Turns as model
 use Rattle.ea_model.specs.declared.units.TheConstants.{MAX_ALL_TRIES, MAX_OPS, MAX_TURNS}
-use Rattle.ea_trace.specs.Lines.{Said, line_of}
+use Rattle.ea_trace.specs.Lines.{Said, line_of_words}
 use Rattle.ea_trace.specs.declared.fault.TraceFault.{TraceFault}
 use Rattle.ea_trace.specs.declared.fault.TraceFault.TheVariants as fault
 use Rattle.ea_trace.specs.declared.lines.Line.TheVariants.{Skipped, Letter, Section, Operation}
@@ -288,9 +288,25 @@ read_after n earlier [] = at_end (stage_after earlier) (letter_after earlier) (m
 read_after n earlier (line ∷ later) = refused_or (refusal n earlier line)
     (read_after n (line ∷ earlier) later)
 
+-- the words of a line
+abbrev pub LineWords : Type 0
+LineWords = List (List ℕ)
+
+-- those of each line, in order
+abbrev pub WordLines : Type 0
+WordLines = List LineWords
+
+-- the lines of a text
+abbrev pub lines_of : List ℕ → WordLines
+lines_of bytes = map words (lines bytes)
+
+-- the trace of lines for n schedulers, or their first refusal
+abbrev pub trace_of : ℕ → WordLines → Answer
+trace_of n ls = read_after n [] (map line_of_words ls)
+
 -- the trace of a text for n schedulers, or its first refusal
 abbrev pub trace : List ℕ → ℕ → Answer
-trace bytes n = read_after n [] (map line_of (lines bytes))
+trace bytes n = trace_of n (lines_of bytes)
 
 -- an answer is what the text gives, or there was no memory
 abbrev pub Gives : Answer → Answer → Type 0

@@ -3,5 +3,6 @@ pub mod Language
 pub mod Says
 pub mod Ranges
 pub mod Knows
+pub mod Taken
 pub mod TurnLines
 pub mod Refusals

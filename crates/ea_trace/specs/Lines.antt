@@ -1,8 +1,8 @@
 -- What one line of a trace says, by itself.
 use Rattle.std.specs.Prelude.{ℕ, min, Bool, false, if◌then◌else◌, ◌==◌, List, [], ◌∷◌, Option, Some}
 use Rattle.std.specs.Prelude.{None, codes, bytes_eq, option_and_then, option_map, unwrap_or}
-use Rattle.std.specs.List.{slice_split}
-use Rattle.ea_model.specs.Words.{from_to, number, numeral, words}
+use Rattle.std.specs.List.{find, slice_split}
+use Rattle.ea_model.specs.Words.{from_to, number, numeral}
 use Rattle.ea_model.specs.declared.operations.Op.{Op}
 use Rattle.ea_model.specs.declared.operations.Op.TheVariants.{Alloc, Free, Realloc, Give, Take}
 use Rattle.ea_model.specs.declared.operations.Op.TheVariants.{Info, Idle}
@@ -12,6 +12,10 @@ use Rattle.ea_model.specs.declared.trace.Stop.{Stop}
 use Rattle.ea_model.specs.declared.trace.Turns as model
 use Rattle.ea_model.specs.declared.units.TheConstants.{MAX_BYTES, MAX_NAME, MAX_SEED, MAX_STEPS}
 use Rattle.ea_model.specs.declared.units.TheConstants.{MAX_TRIES, MAX_TURNS}
+use Rattle.ea_trace.specs.declared.keywords.Keyword.{Keyword}
+use Rattle.ea_trace.specs.declared.keywords.Keyword.TheVariants as keyword
+use Rattle.ea_trace.specs.declared.keywords.OpKind.{OpKind}
+use Rattle.ea_trace.specs.declared.keywords.OpKind.TheVariants as kind
 use Rattle.ea_trace.specs.declared.lines.Line.{Line}
 use Rattle.ea_trace.specs.declared.lines.Line.TheVariants as line
 use Rattle.ea_trace.specs.declared.lines.TheConstants.{MAX_READ}
@@ -89,28 +93,49 @@ abbrev pub take_in : List (List ℕ) → Option Op
 take_in ws = option_and_then
     (λ w. pair Take (name_in w.0) (number 1 MAX_TRIES w.1)) (both_words ws)
 
--- an operation by its keyword and the words after it
+-- the kind of the operations that a word names
+abbrev pub kind_in : List ℕ → Option OpKind
+kind_in w =
+    if bytes_eq w (codes "alloc") then Some kind.Alloc else (
+    if bytes_eq w (codes "free") then Some kind.Free else (
+    if bytes_eq w (codes "realloc") then Some kind.Realloc else (
+    if bytes_eq w (codes "give") then Some kind.Give else (
+    if bytes_eq w (codes "take") then Some kind.Take else (
+    if bytes_eq w (codes "info") then Some kind.Info else (
+    if bytes_eq w (codes "idle") then Some kind.Idle else None))))))
+
+-- an operation of that kind by the words after its name
+abbrev pub operation_of : List (List ℕ) → OpKind → Option Op
+operation_of ws kind.Alloc = alloc_in ws
+operation_of ws kind.Free = free_in ws
+operation_of ws kind.Realloc = realloc_in ws
+operation_of ws kind.Give = give_in ws
+operation_of ws kind.Take = take_in ws
+operation_of ws kind.Info = bare Info ws
+operation_of ws kind.Idle = bare Idle ws
+
+-- an operation by its name and the words after it
 abbrev pub operation_in : List ℕ → List (List ℕ) → Option Op
-operation_in keyword ws =
-    if bytes_eq keyword (codes "alloc") then alloc_in ws else (
-    if bytes_eq keyword (codes "free") then free_in ws else (
-    if bytes_eq keyword (codes "realloc") then realloc_in ws else (
-    if bytes_eq keyword (codes "give") then give_in ws else (
-    if bytes_eq keyword (codes "take") then take_in ws else (
-    if bytes_eq keyword (codes "info") then bare Info ws else (
-    if bytes_eq keyword (codes "idle") then bare Idle ws else None))))))
+operation_in w ws = option_and_then (operation_of ws) (kind_in w)
+
+-- the word of a letter
+abbrev pub letter_word : Letter → List ℕ
+letter_word letter.B = codes "B"
+letter_word letter.D = codes "D"
+letter_word letter.E = codes "E"
+letter_word letter.H = codes "H"
+letter_word letter.L = codes "L"
+letter_word letter.R = codes "R"
+letter_word letter.S = codes "S"
+letter_word letter.T = codes "T"
+
+abbrev pub all_letters : List Letter
+all_letters = letter.B ∷ letter.D ∷ letter.E ∷ letter.H ∷ letter.L ∷ letter.R ∷ letter.S
+    ∷ letter.T ∷ []
 
 -- the letter of an allocator
 abbrev pub letter_in : List ℕ → Option Letter
-letter_in w =
-    if bytes_eq w (codes "B") then Some letter.B else (
-    if bytes_eq w (codes "D") then Some letter.D else (
-    if bytes_eq w (codes "E") then Some letter.E else (
-    if bytes_eq w (codes "H") then Some letter.H else (
-    if bytes_eq w (codes "L") then Some letter.L else (
-    if bytes_eq w (codes "R") then Some letter.R else (
-    if bytes_eq w (codes "S") then Some letter.S else (
-    if bytes_eq w (codes "T") then Some letter.T else None)))))))
+letter_in w = find (λ l. bytes_eq w (letter_word l)) all_letters
 
 -- a star
 abbrev pub is_star : ℕ → Bool
@@ -177,17 +202,31 @@ abbrev pub one_of : Option Op → Option (List model.Turns) → Option Said
 one_of (Some o) ts = Some (line.Operation o)
 one_of None ts = option_map turns_line ts
 
+-- the keyword that a word is
+abbrev pub keyword_in : List ℕ → Option Keyword
+keyword_in w =
+    if bytes_eq w (codes "threads") then Some keyword.Threads else (
+    if bytes_eq w (codes "schedule") then Some keyword.Schedule else (
+    if bytes_eq w (codes "end") then Some keyword.End else (
+    if bytes_eq w (codes "type") then Some keyword.Letter else (
+    if bytes_eq w (codes "scheduler") then Some keyword.Section else (
+    if bytes_eq w (codes "stop") then Some keyword.Stop else (
+    if bytes_eq w (codes "generate") then Some keyword.Generate else None))))))
+
+-- a line by its keyword, if it begins with one, its first word and the words after it
+abbrev pub command_of : Option Keyword → List ℕ → List (List ℕ) → Option Said
+command_of (Some keyword.Threads) w ws = bare line.Threads ws
+command_of (Some keyword.Schedule) w ws = bare line.Schedule ws
+command_of (Some keyword.End) w ws = bare line.End ws
+command_of (Some keyword.Letter) w ws = type_in ws
+command_of (Some keyword.Section) w ws = section_in ws
+command_of (Some keyword.Stop) w ws = stop_in ws
+command_of (Some keyword.Generate) w ws = generate_in ws
+command_of None w ws = one_of (operation_in w ws) (turns_in (w ∷ ws))
+
 -- a line by its first word and the words after it
 abbrev pub command : List ℕ → List (List ℕ) → Option Said
-command keyword ws =
-    if bytes_eq keyword (codes "threads") then bare line.Threads ws else (
-    if bytes_eq keyword (codes "schedule") then bare line.Schedule ws else (
-    if bytes_eq keyword (codes "end") then bare line.End ws else (
-    if bytes_eq keyword (codes "type") then type_in ws else (
-    if bytes_eq keyword (codes "scheduler") then section_in ws else (
-    if bytes_eq keyword (codes "stop") then stop_in ws else (
-    if bytes_eq keyword (codes "generate") then generate_in ws
-    else one_of (operation_in keyword ws) (turns_in (keyword ∷ ws))))))))
+command w ws = command_of (keyword_in w) w ws
 
 -- a word that begins with '#'
 abbrev pub is_comment : List ℕ → Bool
@@ -199,7 +238,3 @@ abbrev pub line_of_words : List (List ℕ) → Said
 line_of_words [] = line.Skipped
 line_of_words (w ∷ ws) = if is_comment w then line.Skipped
     else unwrap_or (command w ws) line.Unreadable
-
--- what a line says
-abbrev pub line_of : List ℕ → Said
-line_of text = line_of_words (words text)

@@ -3,7 +3,9 @@
 #![tactic(auto)]
 
 mod fault;
+mod gathering;
 mod judging;
+mod keywords;
 mod lines;
 mod names;
 mod noting;
@@ -18,4 +20,6 @@ mod turns;
 mod words;
 
 pub use fault::TraceFault;
-pub use reader::read_trace;
+pub use keywords::{Keyword, OpKind, is_comment, keyword_at, kind_at, letter_at, letter_word};
+pub use lines::{Line, read_line};
+pub use reader::{TraceReader, read_trace};

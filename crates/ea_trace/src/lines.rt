@@ -2,13 +2,14 @@
 ghost use Rattle.std.specs.Prelude.{◌≡◌, ◌∷◌, unwrap_or};
 ghost use Rattle.ea_trace.specs.declared.lines.Line.TheVariants.{Unreadable};
 ghost use Rattle.ea_model.specs.Words.{words};
-ghost use Rattle.ea_trace.specs.Lines.{section_in, letter_in, type_in, generate_in, alloc_in};
+ghost use Rattle.ea_trace.specs.Lines.{section_in, type_in, generate_in, alloc_in};
 ghost use Rattle.ea_trace.specs.Lines.{stop_in};
 ghost use Rattle.ea_trace.specs.Lines.{free_in, realloc_in, give_in, take_in, operation_in, one_of};
-ghost use Rattle.ea_trace.specs.Lines.{turns_in, line_of};
+ghost use Rattle.ea_trace.specs.Lines.{turns_in, line_of_words};
 ghost use Rattle.ea_trace.specs.Ranges.{InRange};
 ghost use Rattle.ea_trace.specs.Says.{said, said_or};
 
+use crate::keywords::{Keyword, OpKind, is_comment, keyword_at, kind_at, letter_at};
 use crate::words::{bare, bytes, count, name, one_word, scheduler, three_words, two_words};
 use ea_model::words::{first_word, number};
 use ea_model::{Letter, MAX_SEED, MAX_STEPS, MAX_TRIES, Op, Stop};
@@ -52,30 +53,6 @@ fn section(rest: &[u8]) -> Option<Line<&[u8]>>
     Some(Line::Section {
         number: scheduler(one_word(rest)?)?,
     })
-}
-
-fn letter_at(word: &[u8]) -> Option<Letter>
-    ensures { result ≡ letter_in word.now }
-{
-    if word == b"B".as_slice() {
-        Some(Letter::B)
-    } else if word == b"D".as_slice() {
-        Some(Letter::D)
-    } else if word == b"E".as_slice() {
-        Some(Letter::E)
-    } else if word == b"H".as_slice() {
-        Some(Letter::H)
-    } else if word == b"L".as_slice() {
-        Some(Letter::L)
-    } else if word == b"R".as_slice() {
-        Some(Letter::R)
-    } else if word == b"S".as_slice() {
-        Some(Letter::S)
-    } else if word == b"T".as_slice() {
-        Some(Letter::T)
-    } else {
-        None
-    }
 }
 
 fn type_line(rest: &[u8]) -> Option<Line<&[u8]>>
@@ -158,76 +135,54 @@ fn take(rest: &[u8]) -> Option<Op>
     })
 }
 
-/// The operation that a keyword and the words after it spell.
-fn operation(keyword: &[u8], rest: &[u8]) -> Option<Op>
-    ensures { result ≡ operation_in keyword.now (words rest.now) }
+/// The operation that its name and the words after it spell.
+fn operation(first: &[u8], rest: &[u8]) -> Option<Op>
+    ensures { result ≡ operation_in first.now (words rest.now) }
 {
-    if keyword == b"alloc".as_slice() {
-        alloc(rest)
-    } else if keyword == b"free".as_slice() {
-        free(rest)
-    } else if keyword == b"realloc".as_slice() {
-        realloc(rest)
-    } else if keyword == b"give".as_slice() {
-        give(rest)
-    } else if keyword == b"take".as_slice() {
-        take(rest)
-    } else if keyword == b"info".as_slice() {
-        bare(Op::Info, rest)
-    } else if keyword == b"idle".as_slice() {
-        bare(Op::Idle, rest)
-    } else {
-        None
+    match kind_at(first)? {
+        OpKind::Alloc => alloc(rest),
+        OpKind::Free => free(rest),
+        OpKind::Realloc => realloc(rest),
+        OpKind::Give => give(rest),
+        OpKind::Take => take(rest),
+        OpKind::Info => bare(Op::Info, rest),
+        OpKind::Idle => bare(Op::Idle, rest),
     }
 }
 
 /// A line of an operation, or else one that may be of turns.
-fn operation_or_turns<'a>(text: &'a [u8], keyword: &[u8], rest: &[u8]) -> Line<&'a [u8]>
-    requires { words text.now ≡ keyword.now ∷ words rest.now }
-    ensures { said result ≡ unwrap_or (one_of (operation_in keyword.now (words rest.now))
+fn operation_or_turns<'a>(text: &'a [u8], first: &[u8], rest: &[u8]) -> Line<&'a [u8]>
+    requires { words text.now ≡ first.now ∷ words rest.now }
+    ensures { said result ≡ unwrap_or (one_of (operation_in first.now (words rest.now))
         (turns_in (words text.now))) Unreadable }
 {
-    match operation(keyword, rest) {
+    match operation(first, rest) {
         Some(op) => Line::Operation { op },
         None => Line::Turns { turns: text },
     }
 }
 
 /// The line that a text says, by its first word and the rest after it; None where it is malformed.
-fn command<'a>(text: &'a [u8], keyword: &[u8], rest: &'a [u8]) -> Option<Line<&'a [u8]>>
-    requires { words text.now ≡ keyword.now ∷ words rest.now }
+fn command<'a>(text: &'a [u8], first: &[u8], rest: &'a [u8]) -> Option<Line<&'a [u8]>>
+    requires { words text.now ≡ first.now ∷ words rest.now }
     ensures { unwrap_or (said_or result) Unreadable
-        ≡ unwrap_or (Rattle.ea_trace.specs.Lines.command keyword.now (words rest.now)) Unreadable }
+        ≡ unwrap_or (Rattle.ea_trace.specs.Lines.command first.now (words rest.now)) Unreadable }
 {
-    if keyword == b"threads".as_slice() {
-        bare(Line::Threads, rest)
-    } else if keyword == b"schedule".as_slice() {
-        bare(Line::Schedule, rest)
-    } else if keyword == b"end".as_slice() {
-        bare(Line::End, rest)
-    } else if keyword == b"type".as_slice() {
-        type_line(rest)
-    } else if keyword == b"scheduler".as_slice() {
-        section(rest)
-    } else if keyword == b"stop".as_slice() {
-        stop(rest)
-    } else if keyword == b"generate".as_slice() {
-        generate(rest)
-    } else {
-        Some(operation_or_turns(text, keyword, rest))
+    match keyword_at(first) {
+        Some(Keyword::Threads) => bare(Line::Threads, rest),
+        Some(Keyword::Schedule) => bare(Line::Schedule, rest),
+        Some(Keyword::End) => bare(Line::End, rest),
+        Some(Keyword::Letter) => type_line(rest),
+        Some(Keyword::Section) => section(rest),
+        Some(Keyword::Stop) => stop(rest),
+        Some(Keyword::Generate) => generate(rest),
+        None => Some(operation_or_turns(text, first, rest)),
     }
-}
-
-/// Whether a word begins a comment.
-fn is_comment(word: &[u8]) -> bool
-    ensures { result ≡ Rattle.ea_trace.specs.Lines.is_comment word.now }
-{
-    matches!(word, [b'#', ..])
 }
 
 /// What a line says. Whether one of turns is malformed isn't looked at.
 pub fn read_line(text: &[u8]) -> Line<&[u8]>
-    ensures line { said result ≡ line_of text.now }
+    ensures line { said result ≡ line_of_words (words text.now) }
     ensures in_range { InRange (said result) }
 {
     let Some((word, rest)) = first_word(text) else {

@@ -1,170 +1,79 @@
 //! Reads a trace line by line.
-ghost use Rattle.std.specs.Prelude.{◌≡◌, ◌+◌, ◌<◌, ◌≤◌, ◌^◌, ◌∷◌, [], ◌==◌, ℕ, All, Err, None};
-ghost use Rattle.std.specs.Prelude.{Result, find, get_or, length, map, not, IfOk, IfErr, OnOk};
-ghost use Rattle.ea_model.specs.Trace.{IsValidTrace, plain_mode};
+ghost use Rattle.std.specs.Prelude.{◌≡◌, ◌+◌, ◌<◌, ◌≤◌, ◌^◌, ◌++◌, ◌∷◌, [], ℕ, length, IfOk, OnOk};
+ghost use Rattle.ea_model.specs.Trace.{IsValidTrace};
 ghost use Rattle.ea_model.specs.declared.units.TheConstants.{MAX_SCHEDULERS};
-ghost use Rattle.ea_trace.specs.Knows.{Knows};
-ghost use Rattle.ea_trace.specs.Language;
-ghost use Rattle.ea_trace.specs.Language.{Answer, Earlier, Gives, and_last, at_end, is_unaddressed};
-ghost use Rattle.ea_trace.specs.Language.{letter_after, mode_after, refusal, refused_or};
-ghost use Rattle.ea_trace.specs.Language.{stage_after, takes_in, trace, turns_after};
-ghost use Rattle.ea_trace.specs.Ranges.{InRange, IsNamed};
+ghost use Rattle.ea_trace.specs.Language.{Gives, LineWords, WordLines, trace, trace_of};
+ghost use Rattle.ea_trace.specs.Lines.{line_of_words};
+ghost use Rattle.ea_trace.specs.Ranges.{InRange};
 ghost use Rattle.ea_trace.specs.Says.{said};
-ghost use Rattle.ea_trace.specs.TurnLines.{tally_in};
 
 use crate::fault::TraceFault;
 use crate::lines::{Line, read_line};
-use crate::names::Names;
 use crate::seen::Seen;
-use crate::stages::Stage;
-use crate::takes::TakeLine;
-use crate::tally::Tally;
 use crate::turns::read_turns;
 use ea_model::words::first_line;
-use ea_model::{List, Mode, Op, OutOfMemory, Trace, Turns};
+use ea_model::{List, OutOfMemory, Trace, Turns};
 use std::alloc::{AllocError, Global};
 
-/// The first of these lines that takes a name which isn't given to its scheduler.
-fn first_unaddressed(takes: &[TakeLine], names: &Names) -> Option<TakeLine>
-    requires { All IsNamed takes.now }
-    ensures { result ≡ find (λ t. not (t.scheduler == get_or names.now.addressee.items t.name 0))
-        takes.now }
-{
-    for take in takes {
-        if !names.is_given_to(take.name, take.scheduler) {
-            return Some(*take);
-        }
-    }
-    None
+/// A reader that takes the lines of a trace one by one. The first refused line decides: after it
+/// lines are only counted.
+#[derive(Drop)]
+pub struct TraceReader {
+    /// What is known of the lines before the first refused one, beside their turns.
+    seen: Seen,
+    /// The turns of these lines.
+    turns: List<Turns>,
+    /// How many lines were taken.
+    taken: u32,
+    /// Why a line was refused.
+    refused: Option<TraceFault>,
 }
 
-/// A mode with the turns that its lines had, if it is a schedule.
-fn with_turns(mode: Mode, turns: List<Turns>) -> Mode
-    ensures { plain_mode result ≡ Language.with_turns turns.items (plain_mode mode) }
-{
-    match mode {
-        Mode::Threads => Mode::Threads,
-        Mode::Schedule { .. } => Mode::Schedule { turns },
-        Mode::Generated { seed, count } => Mode::Generated { seed, count },
-    }
-}
+impl TraceReader {
+    ghost use Rattle.ea_trace.specs.Taken.{HasTaken, lines_taken};
 
-/// These texts and the last one, where a section has begun.
-fn with_last(
-    section: u32,
-    mut texts: List<List<Op>>,
-    last: List<Op>,
-) -> Result<List<List<Op>>, OutOfMemory>
-    ensures { IfOk result (λ all. map (λ text. text.items) all.items ≡
-        and_last section (map (λ text. text.items) texts.items) last.items) }
-{
-    if section > 0 {
-        texts.push(last)?;
-    }
-    Ok(texts)
-}
-
-impl Seen {
-    /// Before the first line.
-    fn new(alloc: Global, schedulers: u32) -> Result<Seen, AllocError>
+    /// A reader for schedulers 1 to `schedulers`, `MAX_SCHEDULERS` at most, before the first line.
+    pub fn new(alloc: Global, schedulers: u32) -> Result<TraceReader, AllocError>
         requires { schedulers ≤ MAX_SCHEDULERS }
-        ensures { IfOk result (Knows schedulers []) }
+        ensures { IfOk result (HasTaken schedulers []) }
     {
-        Ok(Seen {
-            schedulers,
-            stage: Stage::Start,
-            section: 0,
-            letter: None,
-            mode: None,
-            names: Names::new(alloc)?,
-            count: 0,
-            tries: 0,
-            turn_count: 0,
-            greatest: 0,
-            takes: Vec::new(alloc),
-            texts: List::new(alloc),
-            text: List::new(alloc),
-            stops: List::new(alloc),
+        Ok(TraceReader {
+            seen: Seen::new(alloc, schedulers)?,
+            turns: List::new(alloc),
+            taken: 0,
+            refused: None,
         })
     }
 
-    /// Takes the line with this number.
-    fn take(
-        &mut self,
-        alloc: Global,
-        number: u32,
-        line: Line<&[u8]>,
-        tally: Option<Tally>,
-    ) -> Result<(), TraceFault>
+    /// Takes the next line, fewer than 2^32 in all. If it is refused, `finish` says so.
+    pub fn take(&mut self, alloc: Global, line: Line<&[u8]>) -> Result<(), OutOfMemory>
         requires range { InRange (said line) }
-        requires read { tally ≡ tally_in self.old.schedulers line }
-        ensures ok { OnOk result ((n : ℕ) (earlier : Earlier) → Knows n earlier self.old
-            → length earlier + 1 ≡ number
-            → (refusal n earlier (said line.entry) ≡ None)
-            × Knows n (said line.entry ∷ earlier) self.new) }
-        ensures err { IfErr result (λ fault. (n : ℕ) (earlier : Earlier) (read : Answer)
-            → Knows n earlier self.old → length earlier + 1 ≡ number
-            → Gives (Err fault) (refused_or (refusal n earlier (said line.entry)) read)) }
+        requires room { lines_taken self.old + 1 < 2 ^ 32 }
+        ensures count { OnOk result (lines_taken self.new ≡ lines_taken self.old + 1) }
+        ensures taken { OnOk result ((n : ℕ) (before : WordLines) (words : LineWords)
+            → HasTaken n before self.old → said line.entry ≡ line_of_words words
+            → HasTaken n (before ++ words ∷ []) self.new) }
     {
-        if !self.admits(line, tally) {
-            return Err(TraceFault::Syntax { line: number });
+        self.taken += 1;
+        if self.refused.is_some() {
+            return Ok(());
         }
-        if self.is_bad(line, tally) {
-            return Err(TraceFault::BadScheduler { line: number });
-        }
-        if self.is_full(line, tally) {
-            return Err(TraceFault::TooMany { line: number });
-        }
-        if self.reuses(line) {
-            return Err(TraceFault::NameReused { line: number });
-        }
-        if self.lacks(line) {
-            return Err(TraceFault::NotHeld { line: number });
-        }
-        Ok(self.add(alloc, number, line, tally)?)
+        let tally = read_turns(&mut self.turns, line, self.seen.schedulers)?;
+        self.refused = self.seen.take(alloc, self.taken, line, tally)?;
+        Ok(())
     }
 
-    /// The first line that takes a name which no line gives to its scheduler.
-    fn unaddressed(&self) -> Option<TakeLine>
-        ensures { (n : ℕ) (earlier : Earlier) → Knows n earlier self.now
-            → result ≡ find (is_unaddressed earlier) (takes_in earlier) }
+    /// The trace that the lines are, or its first refusal.
+    pub fn finish(self) -> Result<Trace, TraceFault>
+        ensures given { (n : ℕ) (lines : WordLines) → HasTaken n lines self
+            → Gives result (trace_of n lines) }
+        ensures valid { (n : ℕ) (lines : WordLines) → HasTaken n lines self
+            → IfOk result (IsValidTrace n) }
     {
-        first_unaddressed(&self.takes, &self.names)
-    }
-
-    /// The texts of all sections, with these turns.
-    fn finish(self, turns: List<Turns>) -> Result<Trace, TraceFault>
-        ensures { (n : ℕ) (earlier : Earlier) → Knows n earlier self
-            → turns.items ≡ turns_after earlier → Gives result
-            (at_end (stage_after earlier) (letter_after earlier) (mode_after earlier) earlier) }
-    {
-        let Stage::Ended = self.stage else {
-            return Err(TraceFault::NoEnd);
-        };
-        let unaddressed = self.unaddressed();
-        let Seen {
-            letter,
-            mode,
-            section,
-            greatest,
-            texts,
-            text,
-            stops,
-            ..
-        } = self;
-        let (Some(letter), Some(mode)) = (letter, mode) else {
-            return Err(TraceFault::NoEnd);
-        };
-        if let Some(take) = unaddressed {
-            return Err(TraceFault::NotAddressed { line: take.line });
+        if let Some(fault) = self.refused {
+            return Err(fault);
         }
-        Ok(Trace {
-            letter,
-            texts: with_last(section, texts, text)?,
-            stops,
-            mode: with_turns(mode, turns),
-            greatest,
-        })
+        self.seen.finish(self.turns)
     }
 }
 
@@ -177,17 +86,12 @@ pub fn read_trace(alloc: Global, bytes: &[u8], schedulers: u32) -> Result<Trace,
     ensures given { Gives result (trace bytes.now schedulers) }
     ensures valid { IfOk result (IsValidTrace schedulers) }
 {
-    let mut seen = Seen::new(alloc, schedulers)?;
-    let mut turns = List::new(alloc);
-    let mut number = 0u32;
+    let mut reader = TraceReader::new(alloc, schedulers)?;
     let mut rest = Some(bytes);
     while let Some(text) = rest {
         let (line, after) = first_line(text);
-        number += 1;
-        let line = read_line(line);
-        let tally = read_turns(&mut turns, line, schedulers)?;
-        seen.take(alloc, number, line, tally)?;
+        reader.take(alloc, read_line(line))?;
         rest = after;
     }
-    seen.finish(turns)
+    reader.finish()
 }

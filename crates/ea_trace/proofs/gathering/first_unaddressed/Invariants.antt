@@ -1,7 +1,7 @@
 use Rattle.std.proofs.Common.{◌≡◌, ◌==◌, get_or, drop}
 use Rattle.std.specs.Prelude.{not}
 use Rattle.std.specs.List.{find}
-use Rattle.ea_trace.proofs.reader.first_unaddressed.Given as goal
+use Rattle.ea_trace.proofs.gathering.first_unaddressed.Given as goal
 
 abbrev pub invariant-loop-take : goal.invariant-loop-take
 invariant-loop-take l =
