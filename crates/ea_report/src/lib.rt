@@ -11,4 +11,4 @@ mod tests;
 mod text;
 
 pub use summary::print_summary;
-pub use text::print;
+pub use text::{print, put_outcome};

@@ -21,14 +21,22 @@ fn put_logs(text: &mut List<u8>, logs: &[List<Entry>]) -> Result<(), OutOfMemory
     Ok(())
 }
 
-/// The output text: the log of each scheduler, the carriers by rising number and the totals.
-/// An `Err` says that there was no memory.
+/// Adds the output text: the log of each scheduler, the carriers by rising number and the totals.
+#[tactic(auto, using(std::proofs::lemmas::List::append_assoc))]
+pub fn put_outcome(text: &mut List<u8>, outcome: &Outcome) -> Result<(), OutOfMemory>
+    ensures { OnOk result (text.new.items ≡ text.old.items ++ outcome_text outcome.now) }
+{
+    put_logs(text, outcome.logs.as_slice())?;
+    put_carriers(text, outcome.carriers.as_slice())?;
+    put_totals(text, outcome.totals)?;
+    Ok(())
+}
+
+/// The output text. An `Err` says that there was no memory.
 pub fn print(alloc: Global, outcome: &Outcome) -> Result<List<u8>, OutOfMemory>
     ensures { IfOk result (λ printed. printed.items ≡ outcome_text outcome.now) }
 {
     let mut text = List::new(alloc);
-    put_logs(&mut text, outcome.logs.as_slice())?;
-    put_carriers(&mut text, outcome.carriers.as_slice())?;
-    put_totals(&mut text, outcome.totals)?;
+    put_outcome(&mut text, outcome)?;
     Ok(text)
 }
