@@ -2,8 +2,7 @@
 use Rattle.std.proofs.Common.{◌≡◌, ◌≢◌, ℕ, zero, suc, ◌+◌, ◌-◌, ◌<◌, ◌≤◌, List, [], ◌∷◌, ◌++◌}
 use Rattle.std.proofs.Common.{length, length-set, get_or, get_or-set_other, get_or-set_same}
 use Rattle.std.proofs.Common.{set, take, append-nil, inl, inr, refl, sym, ap, subst, ◌∙◌, arith}
-use Rattle.std.specs.Prelude.{All, Option, None, Some, false, flat_map, map, replicate}
-use mathlib.Core.Path.{fun_ext}
+use Rattle.std.specs.Prelude.{All, Option, Some, false, flat_map, map, replicate}
 use Rattle.std.specs.List.{range_with_len}
 use Rattle.std.proofs.lemmas.Bool.{cases_Bool, cases_eq, cases_lt}
 use Rattle.std.proofs.lemmas.List.{get_or_append_left, get_or-append_right}
@@ -17,15 +16,15 @@ use Rattle.ea_model.specs.declared.trace.Mode.{Mode}
 use Rattle.ea_model.specs.declared.trace.Mode.TheVariants.{Threads, Schedule, Generated}
 use Rattle.ea_model.specs.Trace.{IsScheduler, IsValidMode, IsValidTrace, stop_in, turns_of}
 use Rattle.ea_machine.specs.Actor.{Actor}
-use Rattle.ea_machine.specs.Completion.{completing, end_of, finishing, turns_in, work}
-use Rattle.ea_machine.specs.Courses.{Rests}
-use Rattle.ea_machine.specs.Machine.{first_actor, run, run_on, start, step}
+use Rattle.ea_machine.specs.Completion.{completing, finishing, work}
+use Rattle.ea_machine.specs.Machine.{first_actor, run, run_on, start}
 use Rattle.ea_machine.specs.Setup.{Setup, migration, setup_of}
 use Rattle.ea_machine.specs.State.{State}
 use Rattle.ea_machine.specs.Shared.{put}
-use Rattle.ea_machine.specs.Stops.{cut, left_after, left_by, less, stop_at, stop_of, up_to}
+use Rattle.ea_machine.specs.Stops.{cut, left_after, left_by, less, run_with_stops, stop_at}
+use Rattle.ea_machine.specs.Stops.{stop_of, up_to}
 use Rattle.ea_sound.proofs.Completing.{ending-own, replicate-others}
-use Rattle.ea_sound.proofs.Stopping.{count-append, count-others, count-replicate, cut-append}
+use Rattle.ea_sound.proofs.Stopping.{count-others, count-replicate, cut-append}
 use Rattle.ea_sound.proofs.Stopping.{cut-left, cut-replicate, left-more, less-none, stop-same}
 use Rattle.ea_sound.proofs.Stopping.{up_to-some}
 use Rattle.ea_sound.proofs.Totals.{put-here, put-other}
@@ -35,7 +34,7 @@ use Rattle.ea_shared.specs.Memory.{Sharing, shared_of}
 use Rattle.ea_sched.specs.declared.state.Scheduler.{Scheduler}
 use Rattle.ea_sched.specs.Acting.{actor_of, is_ended, setup_for, stop_line}
 use Rattle.ea_outcome.specs.Resting.{StandIn}
-use Rattle.ea_given.specs.Running.{AllRanOut, AllStand, AllStandAt, AllTook, CompletesTo, IsAfter}
+use Rattle.ea_given.specs.Running.{AllStand, AllStandAt, AllTook, CompletesTo, IsAfter}
 use Rattle.ea_given.specs.Running.{SharesAt, Stands, StandsAt, Took}
 use Rattle.ea_given.proofs.Running.{ended-is}
 
@@ -147,49 +146,63 @@ module _ (ss us : List Scheduler) (m n : Sharing) where
       let (c, t, steps, w, shares, stand) = h in
       (c, t, k + 1, steps (k + 1), w, shares, one-stands c t steps us w stand k within s)
 
-  -- and takes the turns of the next entry of a schedule
-  module _ (schedule : List Turns) (i : ℕ) (d : Turns) (more : i < length schedule)
-      (some : 1 ≤ (get_or schedule i d).scheduler)
-      (within : (get_or schedule i d).scheduler ≤ length us) (s u : Scheduler)
-      (p : Sharing) where
-    abbrev x : Turns
-    x = get_or schedule i d
+  -- turns of theirs, and more
+  pub all-took-more : (xs ys : List ℕ) (vs : List Scheduler) (p : Sharing) → AllTook xs ss m us n
+      → AllTook ys us n vs p → AllTook (xs ++ ys) ss m vs p
+  all-took-more xs ys vs p before more c t steps w shares stand =
+      let e = setup_of c t in
+      let left = left_by steps xs in
+      let v = run_on e w (cut steps xs) in
+      let then = before c t steps w shares stand in
+      let last = more c t left v then.0 then.1 in
+      subst (λ y. SharesAt c t p y × AllStandAt c t (left_by steps (xs ++ ys)) vs y)
+      (sym (ap (run_on e w) (cut-append steps xs ys)
+      ∙ run-append e w (cut steps xs) (cut left ys))) (
+        last.0,
+        other-left c t (left_by left ys) vs (run_on e v (cut left ys)) last.1
+            (left_by steps (xs ++ ys)) (λ k. left-more steps xs ys (k + 1)),
+      )
 
-    pub schedule-more : AllTook (turns_from (take i schedule)) ss m us n
-        → Took x.count (get_or us (x.scheduler - 1) s) n u p
-        → AllTook (turns_from (take (i + 1) schedule)) ss m (set us (x.scheduler - 1) u) p
-    schedule-more before took c t steps w shares stand =
-        let e = setup_of c t in
-        let first = turns_from (take i schedule) in
-        let left = left_by steps first in
-        let v = run_on e w (cut steps first) in
-        let then = before c t steps w shares stand in
-        let k = x.scheduler - 1 in
-        let below : k < length us = omega (arith, some, within) in
-        let me : k + 1 ≡ x.scheduler = omega (arith, some) in
-        let now = took c t (k + 1) (left (k + 1)) v then.0
-        (one-stands c t left us v then.1 k below s) in
-        let last = replicate x.count (k + 1) in
-        let after = run_on e v (up_to (left (k + 1)) last) in
-        let turns : turns_from (take (i + 1) schedule) ≡ first ++ last =
-        turns-more schedule i d more ∙ ap (λ j. first ++ replicate x.count j) (sym me) in
-        subst (λ ys. SharesAt c t p (run_on e w (cut steps ys))
-        × AllStandAt c t (left_by steps ys) (set us k u) (run_on e w (cut steps ys))) (sym turns)
-        (subst (λ y. SharesAt c t p y
-        × AllStandAt c t (left_by steps (first ++ last)) (set us k u) y)
-        (sym (ap (run_on e w) (cut-append steps first last
-        ∙ ap (λ zs. cut steps first ++ zs) (cut-replicate left x.count (k + 1)))
-        ∙ run-append e w (cut steps first) (up_to (left (k + 1)) last))) (
-          now.0,
-          all-after c t left us v then.1 k below (left_by steps (first ++ last)) u after
-              (subst (λ o. StandsAt c t (k + 1) o u after)
-              (sym (left-more steps first last (k + 1)
-              ∙ ap (less (left (k + 1))) (count-replicate x.count (k + 1)))) now.1)
-              (λ j other. up_to-others e (k + 1) x.count j (left (k + 1)) v other)
-              (λ j other. left-more steps first last j
-              ∙ ap (less (left j)) (count-others x.count (k + 1) j (λ q. other (sym q)))
-              ∙ less-none (left j)),
-        ))
+-- one of them takes turns
+pub one-taken : (ss : List Scheduler) (m : Sharing) (k count : ℕ) (s u : Scheduler) (p : Sharing)
+    → k < length ss → Took count (get_or ss k s) m u p
+    → AllTook (replicate count (k + 1)) ss m (set ss k u) p
+one-taken ss m k count s u p within took c t steps w shares stand =
+    let e = setup_of c t in
+    let mine = replicate count (k + 1) in
+    let v = run_on e w (up_to (steps (k + 1)) mine) in
+    let now = took c t (k + 1) (steps (k + 1)) w shares
+    (one-stands c t steps ss w stand k within s) in
+    subst (λ y. SharesAt c t p y × AllStandAt c t (left_by steps mine) (set ss k u) y)
+    (sym (ap (run_on e w) (cut-replicate steps count (k + 1)))) (
+      now.0,
+      all-after c t steps ss w stand k within (left_by steps mine) u v
+          (subst (λ o. StandsAt c t (k + 1) o u v)
+          (sym (ap (less (steps (k + 1))) (count-replicate count (k + 1)))) now.1)
+          (λ j other. up_to-others e (k + 1) count j (steps (k + 1)) w other)
+          (λ j other. ap (less (steps j)) (count-others count (k + 1) j (λ q. other (sym q)))
+          ∙ less-none (steps j)),
+    )
+
+-- it takes those of the next entry of a schedule
+module _ (ss us : List Scheduler) (m n : Sharing) (schedule : List Turns) (i : ℕ) (d : Turns)
+    (more : i < length schedule) (some : 1 ≤ (get_or schedule i d).scheduler)
+    (within : (get_or schedule i d).scheduler ≤ length us) (s u : Scheduler)
+    (p : Sharing) where
+  abbrev x : Turns
+  x = get_or schedule i d
+
+  pub schedule-more : AllTook (turns_from (take i schedule)) ss m us n
+      → Took x.count (get_or us (x.scheduler - 1) s) n u p
+      → AllTook (turns_from (take (i + 1) schedule)) ss m (set us (x.scheduler - 1) u) p
+  schedule-more before took =
+      let first = turns_from (take i schedule) in
+      let k = x.scheduler - 1 in
+      let me : k + 1 ≡ x.scheduler = omega (arith, some) in
+      subst (λ ys. AllTook ys ss m (set us k u) p)
+      (ap (λ j. first ++ replicate x.count j) me ∙ sym (turns-more schedule i d more))
+      (all-took-more ss us m n first (replicate x.count (k + 1)) (set us k u) p before
+      (one-taken us n k x.count s u p (omega (arith, some, within)) took))
 
 module _ (e : Setup) (steps : ℕ → Option ℕ) where
   -- the completion begins
@@ -317,16 +330,19 @@ module _ (c : Config) (t : Trace) where
     shares = shares;
   }
 
-  -- the schedulers at the end of a run are those that are printed
+  -- the schedulers of a run are those that are printed of it
   module _ (ss : List Scheduler) (m : Sharing) (turns : List ℕ)
-      (shares : SharesAt c t m (run (setup_of c t) turns))
-      (stand : AllStandAt c t (λ _. Some 0) ss (run (setup_of c t) turns))
-      (rest : (i : ℕ) → Rests (setup_of c t) turns i) where
+      (shares : SharesAt c t m (run_with_stops (setup_of c t) turns))
+      (stand : AllStandAt c t (left_after (setup_of c t) turns) ss
+      (run_with_stops (setup_of c t) turns)) where
     abbrev e : Setup
     e = setup_of c t
 
+    abbrev taken : List ℕ
+    taken = cut e.stops turns
+
     abbrev w : State
-    w = run e turns
+    w = run e taken
 
     ranged : {A : Type 0} (f : Scheduler → A) (h : ℕ → A) (low : ℕ) (xs : List Scheduler)
         → ((k : ℕ) (d : Scheduler) → k < length xs → h (low + k) ≡ f (get_or xs k d))
@@ -345,32 +361,29 @@ module _ (c : Config) (t : Trace) where
     first k = omega arith
 
     stop-is : (k : ℕ) (d : Scheduler) → k < length ss
-        → stop_of e w turns (k + 1) ≡ stop_line (get_or ss k d)
+        → stop_of e w taken (k + 1) ≡ stop_line (get_or ss k d)
     stop-is k d within =
         let s = get_or ss k d in
         let at = stand.each k d within in
-        let stage = ap (λ (a : Actor). a.stage) at.actor in
         let stop = s.stop_is ∙ ap (λ (x : Trace). stop_in x.stops.items s.number) at.trace
         ∙ ap (stop_in t.stops.items) at.number in
-        ap (λ st. stop_at st (e.stops (k + 1)) (left_after e turns (k + 1))) stage
-        ∙ ap (λ o. stop_at s.stage o (left_after e turns (k + 1))) (sym stop)
-        ∙ stop-same s.stage s.stop (left_after e turns (k + 1)) s.left
-        (elim (cases_Bool (is_ended s.stage)) [
-          | inl ended ↦ inl (ended-is s.stage ended)
-          | inr going ↦ elim (rest (k + 1)) [
-            | inl ended ↦ inl (sym stage ∙ ended)
-            | inr over ↦ inr (over, at.left going)
-          ]
-        ])
+        ap (λ (a : Actor). stop_at a.stage (e.stops (k + 1)) (left_after e taken (k + 1))) at.actor
+        ∙ ap (λ o. stop_at s.stage o (left_after e taken (k + 1))) (sym stop)
+        ∙ elim (cases_Bool (is_ended s.stage)) [
+          | inl ended ↦ stop-same s.stage s.stop (left_after e taken (k + 1)) s.left
+              (inl (ended-is s.stage ended))
+          | inr going ↦ ap (stop_at s.stage s.stop)
+              (cut-left e.stops turns (k + 1) ∙ sym (at.left going))
+        ]
 
-    pub stand-in : StandIn c t ss (place_at m.places) m.given turns
+    pub stand-in : StandIn c t ss (place_at m.places) m.given taken
     stand-in = record {
       actors = ranged actor_of w.actors 1 ss
           (λ k d within. ap w.actors (first k) ∙ (stand.each k d within).actor)
           ∙ ap (λ n. map w.actors (range_with_len 1 n)) stand.all;
-      stops = ranged stop_line (stop_of e w turns) 1 ss
-          (λ k d within. ap (stop_of e w turns) (first k) ∙ stop-is k d within)
-          ∙ ap (λ n. map (stop_of e w turns) (range_with_len 1 n)) stand.all;
+      stops = ranged stop_line (stop_of e w taken) 1 ss
+          (λ k d within. ap (stop_of e w taken) (first k) ∙ stop-is k d within)
+          ∙ ap (λ n. map (stop_of e w taken) (range_with_len 1 n)) stand.all;
       told = λ on n. ap (λ s. s.places n) shares.shares;
       given = ap (λ s. s.given) shares.shares;
     }
@@ -379,37 +392,6 @@ module _ (c : Config) (t : Trace) where
 pub written : {A : Type 0} (n : ℕ) (xs ys : List A) → length xs ≡ n → take n (xs ++ ys) ≡ xs
 written n xs ys many =
     take-append-le n xs ys (omega (arith, many)) ∙ take_all n xs (omega (arith, many))
-
--- the turns of a schedule, and then those that complete it, lead to the end of the run
-end-is : (e : Setup) (t : Trace) (turns : List Turns) → turns ≡ turns_of t.mode
-    → (let first = turns_from turns in
-    let v = run e (cut e.stops first) in
-    run_on e v (completing e (left_by e.stops first) e.schedulers 1 v)) ≡ end_of e t.mode
-end-is e t turns same =
-    let f : List Turns → State = λ xs.
-    run_on e (run e (cut e.stops (turns_from xs))) (completing e (left_by e.stops (turns_from xs))
-    e.schedulers 1 (run e (cut e.stops (turns_from xs)))) in
-    let all = turns_in t.mode in
-    let taken = cut e.stops all in
-    let v = run e taken in
-    ap f same
-    ∙ ap (λ left. run_on e v (completing e left e.schedulers 1 v))
-    (fun_ext (λ i. sym (cut-left e.stops all i)))
-    ∙ sym (run-append e (start e) taken (completing e (left_by e.stops taken) e.schedulers 1 v))
-
-module _ (c : Config) (t : Trace) (turns : List Turns) (same : turns ≡ turns_of t.mode)
-    (ss us vs : List Scheduler) (m n p : Sharing)
-    (shares : SharesAt c t m (start (setup_of c t)))
-    (stand : AllStandAt c t (setup_of c t).stops ss (start (setup_of c t)))
-    (took : AllTook (turns_from turns) ss m us n) (completed : AllRanOut us n vs p) where
-  pub end-stands : SharesAt c t p (end_of (setup_of c t) t.mode)
-      × AllStandAt c t (λ _. Some 0) vs (end_of (setup_of c t) t.mode)
-  end-stands =
-      let e = setup_of c t in
-      let first = turns_from turns in
-      let then = took c t e.stops (start e) shares stand in
-      subst (λ w. SharesAt c t p w × AllStandAt c t (λ _. Some 0) vs w) (end-is e t turns same)
-      (completed c t (left_by e.stops first) (run e (cut e.stops first)) then.0 then.1)
 
 theirs_by : (n : ℕ) (m : Mode) → IsValidMode n m
     → All (λ y. IsScheduler n y.scheduler) (turns_of m)

@@ -1,3 +1,4 @@
 pub mod Running
 pub mod Looking
 pub mod Ends
+pub mod GivenRuns

@@ -30,13 +30,14 @@ use Rattle.ea_sound.specs.Present.{Fits}
 use Rattle.ea_sound.proofs.Asked.{reached-rule}
 use Rattle.ea_sound.proofs.CarrierCalls.{search-number}
 use Rattle.ea_sound.proofs.Completing.{reached-run}
+use Rattle.ea_sound.proofs.PassedLooks.{search-passed}
 use Rattle.ea_sound.proofs.Stopping.{up_to-all}
 use Rattle.ea_shared.specs.Carriers.{IsCarrier, counts_at}
 use Rattle.ea_shared.specs.Memory.{Sharing}
 use Rattle.ea_sched.specs.declared.state.Scheduler.{Scheduler}
-use Rattle.ea_sched.specs.Acting.{actor_of, is_ended}
+use Rattle.ea_sched.specs.Acting.{actor_of, is_ended, standing_at}
 use Rattle.ea_sched.specs.Looks.{HasPassed, looks_left, next_in, next_look}
-use Rattle.ea_given.specs.Running.{HasLeft, SharesAt, StandsAt}
+use Rattle.ea_given.specs.Running.{HasLeft, IsQuiet, SharesAt, StandsAt}
 use Rattle.ea_given.proofs.Running.{of-run}
 
 -- the number that a search is at after looks in a row is none after the last one that counts
@@ -146,44 +147,65 @@ module _ (c : Config) (t : Trace) (me : ℕ) (steps : Option ℕ) (s : Scheduler
         omega (arith, clamps, upto, some, left, less, least, turns, is),
       )
 
-  -- it has taken the looks down to a number, at words that don't count
-  pub looks-taken : (n : ℕ) (u : Scheduler) → HasPassed n s u → u.config ≡ s.config
-      → u.trace ≡ s.trace → u.number ≡ s.number → u.failed ≡ s.failed
-      → ((i : ℕ) → next_look s.stage ≡ Some i → u.left ≡ less s.left (i - n))
-      → HasLeft (high - n) s.left
-      → ((i : ℕ) → n < i → i ≤ high → counts_at m.places i ≡ false)
-      → (let v = run_on e w (up_to steps (replicate (high - n) me)) in
-      SharesAt c t m v × StandsAt c t me (less steps (high - n)) u v)
-  looks-taken n u passed config trace same failed left within none =
-      let v = run_on e w (replicate (high - n) me) in
-      let is = of-run c t me steps s w at
-      (λ d x k. IsValidConfig d → IsValidTrace d.schedulers x → IsReached (setup_of d x) w
-      → w.actors k ≡ actor_of s
-      → ((i : ℕ) → n < i → i ≤ high → counts (word_of (w.shared.places i)) ≡ false)
-      → (let z = run_on (setup_of d x) w (replicate (high - n) k) in
-      (z.shared ≡ w.shared) × (z.actors k ≡ actor_of u)))
-      (λ valid made reached stands plain. passed high w next valid made reached stands plain)
-      shares.config shares.trace shares.reached at.actor
-      (λ i low upto. ap (λ (x : Shared). counts (word_of (x.places i))) (sym shares.shares)
-      ∙ none i low upto) in
-      let all = ap (run_on e w) (all-within steps (high - n) me
-      (subst (HasLeft (high - n)) (at.left going) within)) in
-      subst (λ y. SharesAt c t m y × StandsAt c t me (less steps (high - n)) u y) (sym all) (
-        record {
-          config = shares.config;
-          trace = shares.trace;
-          made = shares.made;
-          names = shares.names;
-          moves = shares.moves;
-          reached = reached-run e w (replicate (high - n) me) shares.reached;
-          shares = shares.shares ∙ sym is.0;
-        },
-        record {
-          config = config ∙ at.config;
-          trace = ap (λ x. x.now) trace ∙ at.trace;
-          number = same ∙ at.number;
-          going = failed ∙ at.going;
-          actor = is.1;
-          left = λ _. left high next ∙ ap (λ o. less o (high - n)) (at.left going);
-        },
-      )
+  module _ (n : ℕ) (u : Scheduler) (passed : HasPassed n s u)
+      (none : (i : ℕ) → n < i → i ≤ high → counts_at m.places i ≡ false) where
+    abbrev passed_over : State
+    passed_over = run_on e w (replicate (high - n) me)
+
+    -- no word that the search passed over counts
+    none-counts : (i : ℕ) → n < i → i ≤ high → counts (word_of (w.shared.places i)) ≡ false
+    none-counts i low upto = ap (λ (x : Shared). counts (word_of (x.places i))) (sym shares.shares)
+        ∙ none i low upto
+
+    -- it stands so after its looks
+    passed-is : (passed_over.shared ≡ w.shared) × (passed_over.actors me ≡ actor_of u)
+    passed-is = of-run c t me steps s w at
+        (λ d x k. IsValidConfig d → IsValidTrace d.schedulers x → IsReached (setup_of d x) w
+        → w.actors k ≡ actor_of s
+        → ((i : ℕ) → n < i → i ≤ high → counts (word_of (w.shared.places i)) ≡ false)
+        → (let z = run_on (setup_of d x) w (replicate (high - n) k) in
+        (z.shared ≡ w.shared) × (z.actors k ≡ actor_of u)))
+        (λ valid made reached stands plain. passed high w next valid made reached stands plain)
+        shares.config shares.trace shares.reached at.actor none-counts
+
+    -- it has taken the looks down to the number, at words that don't count
+    pub looks-taken : u.config ≡ s.config → u.trace ≡ s.trace → u.number ≡ s.number
+        → u.failed ≡ s.failed
+        → ((i : ℕ) → next_look s.stage ≡ Some i → u.left ≡ less s.left (i - n))
+        → HasLeft (high - n) s.left
+        → (let v = run_on e w (up_to steps (replicate (high - n) me)) in
+        SharesAt c t m v × StandsAt c t me (less steps (high - n)) u v)
+    looks-taken config trace same failed left within =
+        let all = ap (run_on e w) (all-within steps (high - n) me
+        (subst (HasLeft (high - n)) (at.left going) within)) in
+        subst (λ y. SharesAt c t m y × StandsAt c t me (less steps (high - n)) u y) (sym all) (
+          record {
+            config = shares.config;
+            trace = shares.trace;
+            made = shares.made;
+            names = shares.names;
+            moves = shares.moves;
+            reached = reached-run e w (replicate (high - n) me) shares.reached;
+            shares = shares.shares ∙ sym passed-is.0;
+          },
+          record {
+            config = config ∙ at.config;
+            trace = ap (λ x. x.now) trace ∙ at.trace;
+            number = same ∙ at.number;
+            going = failed ∙ at.going;
+            actor = passed-is.1;
+            left = λ _. left high next ∙ ap (λ o. less o (high - n)) (at.left going);
+          },
+        )
+
+    -- no operation is done by them
+    pub looks-quiet : 0 < n → n ≤ high → high - n < looks_left s.stage → IsQuiet s u
+    looks-quiet some upto enough =
+        let left : looks_left s.stage ≡ seen.1 = ap looks_left seen.3 in
+        let there = (search-passed c t shares.config shares.trace w shares.reached me (actor_of s)
+        seen.0 high seen.1 seen.2 (at.actor ∙ ap (λ st. standing_at st s) seen.3) n some upto
+        (omega (arith, enough, left)) none-counts).1 in
+        let is = sym passed-is.1 ∙ there in record {
+          log = ap (λ (a : Actor). a.log) is;
+          going = ap (λ (a : Actor). is_ended a.stage) is;
+        }

@@ -1,7 +1,7 @@
 -- Schedulers take their turns on plain memory.
 use Rattle.std.proofs.Common.{◌≡◌, ◌≢◌, ◌⊎◌, ℕ, zero, suc, ◌+◌, ◌-◌, ◌<◌, ◌≤◌, length, true, false}
 use Rattle.std.proofs.Common.{List, [], ◌∷◌, inl, inr, refl, sym, ap, subst, ◌∙◌, arith}
-use Rattle.std.specs.Prelude.{Bool, Option, None, Some, not, replicate, take, ◌&&◌, ◌||◌, ◌==◌}
+use Rattle.std.specs.Prelude.{Bool, Option, None, Some, not, replicate, take, ◌&&◌, ◌||◌}
 use Rattle.std.proofs.lemmas.Bool.{cases_Bool}
 use Rattle.std.proofs.lemmas.List.{replicate-append-replicate}
 use Rattle.ea_model.specs.declared.settings.Config.{Config}
@@ -35,7 +35,7 @@ use Rattle.ea_sched.specs.declared.step.Progress.{Progress}
 use Rattle.ea_sched.specs.declared.step.Progress.TheVariants.{Went, Stopped}
 use Rattle.ea_sched.specs.declared.step.Progress.TheVariants as progress
 use Rattle.ea_sched.specs.Acting.{actor_of, is_ended, is_over, is_stopped, rests, setup_for}
-use Rattle.ea_given.specs.Running.{LeadsTo, SharesAt, Stands, StandsAt, Took, TookOf, alone_in}
+use Rattle.ea_given.specs.Running.{LeadsTo, SharesAt, Stands, StandsAt, Took, alone_in}
 use Rattle.ea_given.specs.Running.{work_left}
 use Rattle.ea_sched.specs.Steps.{Stepped}
 use Rattle.ea_sched.specs.Steps as taking

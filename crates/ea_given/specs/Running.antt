@@ -6,13 +6,12 @@ use Rattle.ea_model.specs.declared.settings.Config.{Config}
 use Rattle.ea_model.specs.declared.trace.Trace.{Trace}
 use Rattle.ea_model.specs.Settings.{IsValidConfig}
 use Rattle.ea_model.specs.Trace.{IsValidTrace}
-use Rattle.ea_machine.specs.Completion.{completing, end_of, ending, finishing, work}
+use Rattle.ea_machine.specs.Completion.{completing, ending, finishing, work}
 use Rattle.ea_machine.specs.Setup.{Setup, migration, setup_of}
 use Rattle.ea_machine.specs.State.{State}
 use Rattle.ea_machine.specs.Machine.{IsReached, run_on}
 use Rattle.ea_machine.specs.Stops.{cut, left_by, less, up_to}
 use Rattle.ea_shared.specs.Memory.{Sharing, shared_of}
-use Rattle.ea_given.specs.declared.run.Run.{Run}
 use Rattle.ea_sched.specs.declared.state.Scheduler.{Scheduler}
 use Rattle.ea_sched.specs.Acting.{actor_of, is_ended, setup_for}
 
@@ -45,12 +44,6 @@ module _ (c : Config) (t : Trace) where
       pub each : (k : ℕ) (d : Scheduler) → k < length schedulers
           → StandsAt (k + 1) (steps (k + 1)) (get_or schedulers k d) state
 
-  -- the run is in the state in which it ends: each scheduler has ended, or no step is left until
-  -- its stop
-  pub record IsAtEnd (run : Run) : Type 0 where
-    pub shared : SharesAt run.shared (end_of (setup_of c t) t.mode)
-    pub schedulers : AllStandAt (λ _. Some 0) run.schedulers.items (end_of (setup_of c t) t.mode)
-
 -- in some state of some run the scheduler stands so, and what is shared there is in the memory
 abbrev pub Stands : Scheduler → Sharing → Type 0
 Stands s shared = (c : Config) × (t : Trace) × (me : ℕ) × (steps : Option ℕ) × (state : State)
@@ -74,6 +67,11 @@ Took count = TookOf (λ e w steps me. up_to steps (replicate count me)) (λ step
 -- it has taken all turns until it ended or was stopped
 abbrev pub TookAll : Scheduler → Sharing → Scheduler → Sharing → Type 0
 TookAll = TookOf finishing (λ _. Some 0)
+
+-- no operation of it was done by its turns, and it hasn't ended
+pub record IsQuiet (s stepped : Scheduler) : Type 0 where
+  pub log : stepped.log.items ≡ s.log.items
+  pub going : is_ended stepped.stage ≡ false
 
 -- that many steps at least are left until a stop
 abbrev pub HasLeft : ℕ → Option ℕ → Type 0

@@ -1,6 +1,8 @@
-//! The run of a given schedule: its schedulers take their turns on plain memory.
+//! The run of a given schedule: its schedulers take their turns on plain memory, one turn at a time
+//! or to the end.
 #![tactic(auto)]
 
 mod run;
+mod turns;
 
-pub use run::run_given;
+pub use run::{GivenRun, run_given};

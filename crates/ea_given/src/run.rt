@@ -1,17 +1,21 @@
-//! The run of a trace that has a schedule, or none.
-ghost use Rattle.std.specs.Prelude.{◌≡◌, ◌+◌, ◌<◌, ◌≤◌, IfOk, OnOk, All};
-ghost use Rattle.std.specs.Prelude.{flat_map, length, replicate};
+//! The run of a trace by turns: one turn after another, or those of its schedule to its end.
+ghost use Rattle.std.specs.Prelude.{◌≡◌, ◌+◌, ◌<◌, ◌≤◌, [], ◌∷◌, IfOk, OnOk, All};
+ghost use Rattle.std.specs.Prelude.{◌-◌, flat_map, get_or, length, replicate};
 ghost use Rattle.ea_model.specs.Outcome.{plain_outcome};
 ghost use Rattle.ea_model.specs.Settings.{IsValidConfig};
 ghost use Rattle.ea_model.specs.Trace.{IsScheduler, IsValidTrace};
 ghost use Rattle.ea_model.specs.Trace as traces;
+ghost use Rattle.ea_machine.specs.Completion.{course_of};
 ghost use Rattle.ea_machine.specs.Machine.{start};
+ghost use Rattle.ea_machine.specs.Stops.{cut};
 ghost use Rattle.ea_sound.specs.MachineLaws.{Protocol};
 ghost use Rattle.ea_machine.specs.Outcome as machine;
 ghost use Rattle.ea_machine.specs.Setup.{setup_of};
-ghost use Rattle.ea_given.specs.Running.{AllRanOut, AllStand, AllStandAt, AllTook, HasLeft};
-ghost use Rattle.ea_given.specs.Running.{IsAtEnd, Stands, Took, TookAll};
+ghost use Rattle.ea_given.specs.Running.{AllRanOut, AllStand, AllStandAt, AllTook};
+ghost use Rattle.ea_given.specs.Runs.{HasCompleted, HasScheduler, HasTaken, IsRun, StandsAfter};
+ghost use Rattle.ea_given.specs.Runs.{StaysInOperation, Tells, done_after, ended_after};
 
+use crate::turns::{run_out, take_some, take_turn, take_turns};
 use ea_mbc::Mbc;
 use ea_model::{Config, List, Mode, OutOfMemory, Outcome, Trace, Turns};
 use ea_outcome::outcome_of;
@@ -27,13 +31,6 @@ fn turns_of(mode: &Mode) -> &[Turns]
         Mode::Schedule { turns } => turns.as_slice(),
         Mode::Threads | Mode::Generated { .. } => &[],
     }
-}
-
-/// A run: all its schedulers, in order, and what they share.
-#[derive(Drop)]
-struct Run<'t> {
-    schedulers: Vec<Scheduler<'t>>,
-    shared: MemShared<Mbc>,
 }
 
 /// All schedulers of the run of a trace, in order, before their first step.
@@ -53,96 +50,6 @@ fn schedulers_of<'t>(
         schedulers.push(Scheduler::new(alloc, config, trace, before + 1)?)?;
     }
     Ok(schedulers)
-}
-
-/// Takes one turn of the scheduler: a step, if it takes any more.
-fn take_turn(
-    scheduler: &mut Scheduler<'_>,
-    alloc: Global,
-    shared: &mut MemShared<Mbc>,
-) -> Result<(), OutOfMemory>
-    requires { Stands scheduler.old shared.old }
-    ensures { OnOk result (Took 1 scheduler.old shared.old scheduler.new shared.new) }
-{
-    scheduler.step(alloc, shared)?;
-    Ok(())
-}
-
-/// Takes the next looks of the scheduler's search in a row, up to one at an owner word that counts
-/// or at number 1, but not more than `most` of them. Answers how many it took.
-fn pass_looks(scheduler: &mut Scheduler<'_>, shared: &MemShared<Mbc>, most: u32) -> u32
-    requires stands { Stands scheduler.old shared.now }
-    requires within { HasLeft most scheduler.old.left }
-    ensures few { result ≤ most }
-    ensures took { Took result scheduler.old shared.now scheduler.new shared.now }
-{
-    let Some(at) = scheduler.next_look() else {
-        return 0;
-    };
-    let fewer = most.min(scheduler.looks_left() - 1);
-    let last = shared.last_counted(at);
-    let next = last.max(1).max(at.saturating_sub(fewer));
-    scheduler.pass_over(next);
-    at - next
-}
-
-/// Takes turns of the scheduler, at least one and not more than `most`: looks of a search in a row,
-/// up to its stop, or one step. Answers how many it took.
-fn take_some(
-    scheduler: &mut Scheduler<'_>,
-    alloc: Global,
-    shared: &mut MemShared<Mbc>,
-    most: u32,
-) -> Result<u32, OutOfMemory>
-    requires stands { Stands scheduler.old shared.old }
-    requires some { 1 ≤ most }
-    ensures few { IfOk result (λ count. (1 ≤ count) × (count ≤ most)) }
-    ensures took { IfOk result (λ count. Took count scheduler.old shared.old scheduler.new
-        shared.new) }
-{
-    let within = scheduler.within(most);
-    let passed = pass_looks(scheduler, shared, within);
-    if passed > 0 {
-        return Ok(passed);
-    }
-    take_turn(scheduler, alloc, shared)?;
-    Ok(1)
-}
-
-/// Takes that many turns of the scheduler. Those after its end or its stop change nothing, and are
-/// left out.
-fn take_turns(
-    scheduler: &mut Scheduler<'_>,
-    alloc: Global,
-    shared: &mut MemShared<Mbc>,
-    count: u32,
-) -> Result<(), OutOfMemory>
-    requires { Stands scheduler.old shared.old }
-    ensures { OnOk result (Took count scheduler.old shared.old scheduler.new shared.new) }
-{
-    let mut left = count;
-    while left > 0 {
-        if scheduler.rests() {
-            return Ok(());
-        }
-        left -= take_some(scheduler, alloc, shared, left)?;
-    }
-    Ok(())
-}
-
-/// Steps until the scheduler has ended or is stopped.
-fn run_out(
-    scheduler: &mut Scheduler<'_>,
-    alloc: Global,
-    shared: &mut MemShared<Mbc>,
-) -> Result<(), OutOfMemory>
-    requires { Stands scheduler.old shared.old }
-    ensures { OnOk result (TookAll scheduler.old shared.old scheduler.new shared.new) }
-{
-    while !scheduler.rests() {
-        take_some(scheduler, alloc, shared, u32::MAX)?;
-    }
-    Ok(())
 }
 
 /// Takes the turns of a schedule.
@@ -180,18 +87,139 @@ fn complete(
     Ok(())
 }
 
+/// A run by turns, on plain memory: all its schedulers, in order, and what they share. It takes
+/// turns of one scheduler or of another, and can be asked between them. Once a call had no memory,
+/// nothing is said of the run any more.
+#[derive(Drop)]
+pub struct GivenRun<'t> {
+    config: Config,
+    trace: &'t Trace,
+    schedulers: Vec<Scheduler<'t>>,
+    shared: MemShared<Mbc>,
+}
+
+impl<'t> GivenRun<'t> {
+    /// The run of a trace before its first turn. It fails only where there is no memory.
+    pub fn new(alloc: Global, config: Config, trace: &'t Trace) -> Result<GivenRun<'t>, OutOfMemory>
+        requires config { IsValidConfig config }
+        requires trace { IsValidTrace config.schedulers trace.now }
+        requires texts { length trace.now.texts.items ≡ config.schedulers }
+        ensures { IfOk result (StandsAfter config trace.now []) }
+    {
+        let shared = MemShared::new(alloc, config, trace)?;
+        let schedulers = schedulers_of(alloc, config, trace)?;
+        Ok(GivenRun {
+            config,
+            trace,
+            schedulers,
+            shared,
+        })
+    }
+
+    /// The scheduler with that number.
+    fn scheduler(&self, me: u32) -> &Scheduler<'t>
+        requires stands { IsRun self.now }
+        requires scheduler { HasScheduler me self.now }
+        ensures { result.now ≡ get_or self.now.schedulers.items (me - 1) result.now }
+    {
+        &self.schedulers[me as usize - 1]
+    }
+
+    /// Takes one turn of a scheduler: a step, or nothing where that has ended or is stopped. It
+    /// fails only where there is no memory.
+    pub fn turn(&mut self, alloc: Global, me: u32) -> Result<(), OutOfMemory>
+        requires stands { IsRun self.old }
+        requires scheduler { HasScheduler me self.old }
+        ensures { OnOk result (HasTaken (me ∷ []) self.old self.new) }
+    {
+        let index = me as usize - 1;
+        take_turn(&mut self.schedulers[index], alloc, &mut self.shared)
+    }
+
+    /// Takes turns of a scheduler, at least one and not more than `most`: looks of a search in a
+    /// row, up to its stop, or one turn. Answers how many it took. It fails only where there is no
+    /// memory.
+    pub fn turns(&mut self, alloc: Global, me: u32, most: u32) -> Result<u32, OutOfMemory>
+        requires stands { IsRun self.old }
+        requires scheduler { HasScheduler me self.old }
+        requires some { 1 ≤ most }
+        ensures few { IfOk result (λ count. (1 ≤ count) × (count ≤ most)) }
+        ensures taken { IfOk result (λ count. HasTaken (replicate count me) self.old self.new) }
+        ensures looks { IfOk result (λ count.
+            1 < count → StaysInOperation me (replicate count me) self.old) }
+    {
+        take_some(
+            &mut self.schedulers[me as usize - 1],
+            alloc,
+            &mut self.shared,
+            most,
+        )
+    }
+
+    /// Whether a scheduler has ended: its text is done.
+    pub fn ended(&self, me: u32) -> bool
+        requires stands { IsRun self.now }
+        requires scheduler { HasScheduler me self.now }
+        ensures { Tells (λ setup turns. result ≡ ended_after setup turns me) self.now }
+    {
+        self.scheduler(me).ended()
+    }
+
+    /// How many operations of a scheduler are done: how many entries its log has.
+    pub fn done(&self, me: u32) -> usize
+        requires stands { IsRun self.now }
+        requires scheduler { HasScheduler me self.now }
+        ensures { Tells (λ setup turns. result ≡ done_after setup turns me) self.now }
+    {
+        self.scheduler(me).log().len()
+    }
+
+    /// Takes the turns of a schedule.
+    fn take(&mut self, alloc: Global, schedule: &[Turns]) -> Result<(), OutOfMemory>
+        requires stands { IsRun self.old }
+        requires theirs { All (λ t. HasScheduler t.scheduler self.old) schedule.now }
+        ensures { OnOk result (HasTaken (flat_map (λ t. replicate t.count t.scheduler) schedule.now)
+            self.old self.new) }
+    {
+        take_schedule(&mut self.schedulers, alloc, &mut self.shared, schedule)
+    }
+
+    /// Takes the turns that complete those that were taken: scheduler 1 goes on until it has ended
+    /// or is stopped, then scheduler 2, up to the last one.
+    fn complete(&mut self, alloc: Global) -> Result<(), OutOfMemory>
+        requires { IsRun self.old }
+        ensures { OnOk result (HasCompleted self.old self.new) }
+    {
+        complete(&mut self.schedulers, alloc, &mut self.shared)
+    }
+
+    /// What is printed of the run as it stands. It fails only where there is no memory.
+    pub fn outcome(self, alloc: Global) -> Result<Outcome, OutOfMemory>
+        requires { IsRun self }
+        ensures { IfOk result (λ outcome. Tells (λ setup turns.
+            plain_outcome outcome ≡ machine.outcome setup (cut setup.stops turns)) self.entry) }
+    {
+        let schedulers = List::from_vec(self.schedulers);
+        outcome_of(alloc, self.config, self.trace, schedulers, &self.shared)
+    }
+}
+
 /// Runs a trace from its start to its end: the turns of its schedule, and what completes them.
-fn run_to_end<'t>(alloc: Global, config: Config, trace: &'t Trace) -> Result<Run<'t>, OutOfMemory>
+fn run_to_end<'t>(
+    alloc: Global,
+    config: Config,
+    trace: &'t Trace,
+) -> Result<GivenRun<'t>, OutOfMemory>
     requires config { IsValidConfig config }
     requires trace { IsValidTrace config.schedulers trace.now }
     requires texts { length trace.now.texts.items ≡ config.schedulers }
-    ensures { IfOk result (IsAtEnd config trace.now) }
+    ensures { IfOk result (StandsAfter config trace.now
+        (course_of (setup_of config trace.now) trace.now.mode)) }
 {
-    let mut shared = MemShared::new(alloc, config, trace)?;
-    let mut schedulers = schedulers_of(alloc, config, trace)?;
-    take_schedule(&mut schedulers, alloc, &mut shared, turns_of(&trace.mode))?;
-    complete(&mut schedulers, alloc, &mut shared)?;
-    Ok(Run { schedulers, shared })
+    let mut run = GivenRun::new(alloc, config, trace)?;
+    run.take(alloc, turns_of(&trace.mode))?;
+    run.complete(alloc)?;
+    Ok(run)
 }
 
 /// Runs a trace by its schedule: the schedulers take its turns, each one atomic step, and then
@@ -208,6 +236,5 @@ pub fn run_given(alloc: Global, config: Config, trace: &Trace) -> Result<Outcome
         plain_outcome outcome ≡ machine.outcome_of config trace.now) }
     ensures protocol { Protocol (setup_of config trace.now) }
 {
-    let Run { schedulers, shared } = run_to_end(alloc, config, trace)?;
-    outcome_of(alloc, config, trace, List::from_vec(schedulers), &shared)
+    run_to_end(alloc, config, trace)?.outcome(alloc)
 }

@@ -1,6 +1,6 @@
 use Rattle.std.proofs.Common.{◌+◌, ◌-◌, arith, sym, ◌∙◌}
 use Rattle.ea_given.proofs.Running.{took-all, took-count, took-more, took-none, took-stands}
-use Rattle.ea_given.proofs.run.take_turns.Goals as goal
+use Rattle.ea_given.proofs.turns.take_turns.Goals as goal
 
 pub loop-left-init : goal.loop-left-init
 loop-left-init c = (

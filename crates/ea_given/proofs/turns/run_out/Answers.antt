@@ -1,4 +1,4 @@
-use Rattle.std.proofs.Common.{replicate, arith, inl, inr, subst, sym, ◌∙◌}
+use Rattle.std.proofs.Common.{replicate, arith, subst, sym, ◌∙◌}
 use Rattle.std.specs.Prelude.{Some}
 use Rattle.ea_machine.specs.Completion.{finishing}
 use Rattle.ea_machine.specs.Machine.{run_on}
@@ -7,7 +7,7 @@ use Rattle.ea_machine.specs.Stops.{less, up_to}
 use Rattle.ea_given.specs.Running.{SharesAt, StandsAt}
 use Rattle.ea_given.proofs.Running.{all-lead, goes-is, leads-first, leads-last, rests-over}
 use Rattle.ea_given.proofs.Running.{some-less, stands-going, stands-rests, work-is}
-use Rattle.ea_given.proofs.run.run_out.Goals as goal
+use Rattle.ea_given.proofs.turns.run_out.Goals as goal
 
 pub loop-alloc-init : goal.loop-alloc-init
 loop-alloc-init c = λ d t me steps w shares at.

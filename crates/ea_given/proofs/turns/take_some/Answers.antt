@@ -1,7 +1,7 @@
 use Rattle.std.proofs.Common.{◌+◌, arith}
 use Rattle.ea_given.proofs.Looking.{within-has}
 use Rattle.ea_given.proofs.Running.{took-count, took-more, took-stands}
-use Rattle.ea_given.proofs.run.take_some.Goals as goal
+use Rattle.ea_given.proofs.turns.take_some.Goals as goal
 
 pub pass_looks-passed-requires-clause-within : goal.pass_looks-passed-requires-clause-within
 pass_looks-passed-requires-clause-within c = within-has c.args.scheduler.now.left c.args.most

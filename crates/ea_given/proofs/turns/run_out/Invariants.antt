@@ -7,7 +7,7 @@ use Rattle.ea_machine.specs.Machine.{run_on}
 use Rattle.ea_machine.specs.Setup.{setup_of}
 use Rattle.ea_machine.specs.State.{State}
 use Rattle.ea_given.specs.Running.{LeadsTo, SharesAt, StandsAt, work_left}
-use Rattle.ea_given.proofs.run.run_out.Given as goal
+use Rattle.ea_given.proofs.turns.run_out.Given as goal
 
 abbrev pub invariant-loop-alloc : goal.invariant-loop-alloc
 invariant-loop-alloc l = (c : Config) (t : Trace) (me : ℕ) (steps : Option ℕ) (state : State)

@@ -1,5 +1,5 @@
 use Rattle.ea_given.proofs.Running.{stands-moves, stands-ready, turn-taken}
-use Rattle.ea_given.proofs.run.take_turn.Goals as goal
+use Rattle.ea_given.proofs.turns.take_turn.Goals as goal
 
 pub step-requires-clause-ready : goal.step-requires-clause-ready
 step-requires-clause-ready c =

@@ -1,6 +1,6 @@
 use Rattle.std.proofs.Common.{◌-◌, ◌≤◌}
 use Rattle.ea_given.specs.Running.{Took}
-use Rattle.ea_given.proofs.run.take_turns.Given as goal
+use Rattle.ea_given.proofs.turns.take_turns.Given as goal
 
 abbrev pub invariant-loop-left : goal.invariant-loop-left
 invariant-loop-left l = (l.left ≤ l.count)

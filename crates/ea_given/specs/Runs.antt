@@ -1,0 +1,60 @@
+-- The run of a trace, as it stands after some turns.
+use Rattle.std.specs.Prelude.{◌≡◌, ℕ, Bool, false, List, ◌++◌, length}
+use Rattle.ea_model.specs.declared.settings.Config.{Config}
+use Rattle.ea_model.specs.declared.trace.Trace.{Trace}
+use Rattle.ea_model.specs.Trace.{IsScheduler}
+use Rattle.ea_machine.specs.Completion.{complete}
+use Rattle.ea_machine.specs.Setup.{Setup, setup_of}
+use Rattle.ea_machine.specs.Stops.{left_after, run_with_stops}
+use Rattle.ea_sched.specs.Acting.{is_ended}
+use Rattle.ea_given.specs.declared.run.GivenRun.{GivenRun}
+use Rattle.ea_given.specs.Running.{AllStandAt, SharesAt}
+
+-- it is the run of the trace as it stands after these turns, of which each scheduler takes those up
+-- to its stop
+pub record StandsAfter (c : Config) (t : Trace) (turns : List ℕ) (run : GivenRun) : Type 0 where
+  pub config : run.config ≡ c
+  pub trace : run.trace.now ≡ t
+  pub shared : SharesAt c t run.shared (run_with_stops (setup_of c t) turns)
+  pub schedulers : AllStandAt c t (left_after (setup_of c t) turns) run.schedulers.items
+      (run_with_stops (setup_of c t) turns)
+
+-- it is some run of a valid trace, after some turns
+abbrev pub IsRun : GivenRun → Type 0
+IsRun run = (c : Config) × (t : Trace) × (turns : List ℕ) × StandsAfter c t turns run
+
+-- it has a scheduler of that number
+abbrev pub HasScheduler : ℕ → GivenRun → Type 0
+HasScheduler me run = IsScheduler run.config.schedulers me
+
+-- this holds of its setup and of the turns after which it stands
+abbrev pub Tells : (Setup → List ℕ → Type 0) → GivenRun → Type 0
+Tells P run = (c : Config) (t : Trace) (turns : List ℕ) → StandsAfter c t turns run
+    → P (setup_of c t) turns
+
+-- it has gone on from the turns that it had taken to others
+abbrev pub GoesOn : (Setup → List ℕ → List ℕ) → GivenRun → GivenRun → Type 0
+GoesOn after run gone = (c : Config) (t : Trace) (turns : List ℕ) → StandsAfter c t turns run
+    → StandsAfter c t (after (setup_of c t) turns) gone
+
+-- it has taken these turns after those
+abbrev pub HasTaken : List ℕ → GivenRun → GivenRun → Type 0
+HasTaken more = GoesOn (λ setup turns. turns ++ more)
+
+-- it has taken those that complete them
+abbrev pub HasCompleted : GivenRun → GivenRun → Type 0
+HasCompleted = GoesOn complete
+
+-- whether the scheduler has ended after these turns
+abbrev pub ended_after : Setup → List ℕ → ℕ → Bool
+ended_after setup turns me = is_ended ((run_with_stops setup turns).actors me).stage
+
+-- how many of its operations are done then
+abbrev pub done_after : Setup → List ℕ → ℕ → ℕ
+done_after setup turns me = length ((run_with_stops setup turns).actors me).log
+
+-- it is in the same operation as before after these turns, too
+abbrev pub StaysInOperation : ℕ → List ℕ → GivenRun → Type 0
+StaysInOperation me more = Tells (λ setup turns.
+    (done_after setup (turns ++ more) me ≡ done_after setup turns me)
+    × (ended_after setup (turns ++ more) me ≡ false))
