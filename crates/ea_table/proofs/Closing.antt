@@ -11,7 +11,6 @@ use Rattle.ea_model.specs.Content.{Content}
 use Rattle.ea_machine.specs.declared.nodes.Named.{Named}
 use Rattle.ea_machine.specs.Machine.{run}
 use Rattle.ea_machine.specs.Setup.{setup_of}
-use Rattle.ea_machine.specs.State.{State}
 use Rattle.ea_outcome.specs.Resting.{StandIn}
 use Rattle.ea_sched.specs.declared.state.Scheduler.{Scheduler}
 use Rattle.ea_machine.specs.declared.owners.OwnerWord.{OwnerWord}

@@ -19,4 +19,4 @@ pub mod Reading
 pub mod Closing
 pub mod Gathered
 pub mod Threading
-pub mod Working
+pub mod WorkerSteps

@@ -1,6 +1,7 @@
 -- Schedulers that run beside each other.
-use Rattle.std.proofs.Common.{◌≡◌, ◌⊎◌, inl, inr, ℕ, ◌+◌, ◌-◌, ◌<◌, true, false, Bor, Option}
-use Rattle.std.specs.Prelude.{◌||◌, ◌==◌}
+use Rattle.std.proofs.Common.{◌≡◌, ◌⊎◌, inl, inr, ℕ, ◌+◌, ◌-◌, ◌<◌, Bool, true, false, Bor}
+use Rattle.std.proofs.Common.{Option}
+use Rattle.std.specs.Prelude.{◌||◌}
 use Rattle.std.proofs.Common.{IsFalse, List, [], ◌∷◌, ◌++◌, length, map, get_or}
 use Rattle.std.proofs.Common.{Some, None, refl, sym, ap, ◌∙◌, subst, arith}
 use Rattle.std.proofs.Math.ListN.{get_or-map}
@@ -30,7 +31,7 @@ use Rattle.ea_machine.specs.Stops.{left_after}
 use Rattle.ea_machine.specs.Actor.{Actor}
 use Rattle.ea_machine.specs.Machine.{first_actor, run, start}
 use Rattle.ea_machine.specs.Setup.{setup_of}
-use Rattle.ea_shared.specs.Calls.{caller_of}
+use Rattle.ea_shared.specs.Calls.{Caller, caller_of}
 use Rattle.ea_sched.specs.Acting.{actor_of, is_ended, is_over, rests, setup_for}
 use Rattle.ea_sched.specs.declared.state.Scheduler.{Scheduler}
 use Rattle.ea_table.specs.declared.pass.Pass.{Pass}
@@ -38,9 +39,11 @@ use Rattle.ea_sched.specs.Steps.{IsReady, Ready}
 use Rattle.ea_table.specs.declared.views.View.{View}
 use Rattle.ea_table.specs.declared.worker.Finished.{Finished}
 use Rattle.ea_table.specs.declared.worker.Worker.{Worker}
+use Rattle.ea_table.specs.declared.worker.Working.{Working}
 use Rattle.ea_table.specs.Ending.{Counts, IsCounted, IsEnd}
 use Rattle.ea_table.specs.Ruling.{acting, actor_in, caller_in}
 use Rattle.ea_table.specs.Threads.{IsAtRest, IsDealt, IsFirst, IsFresh, IsOfRun}
+use Rattle.ea_table.specs.Working.{AtWork, IsThrough}
 use Rattle.ea_table.proofs.Rows.{moved}
 
 -- each scheduler has a text where the operations of the trace are given
@@ -102,6 +105,32 @@ module _ (c : Config) (t : Trace) (id : TableId) (i : ℕ) where
       counted = counted none;
     };
     rest = rest;
+  }
+
+  -- a worker that takes no more steps, if it had memory
+  pub is-at_rest : (w : Working) → AtWork c t id i w → (memory : Bool)
+      → (memory ≡ false → IsThrough w) → (f : Finished) → f.scheduler ≡ w.scheduler
+      → f.pass ≡ w.shared.pass → f.memory ≡ memory → IsAtRest c t id i f
+  is-at_rest w at memory through f scheduler pass same = record {
+    last = λ none.
+        let ready = at.ready (through (sym same ∙ none)).0 in
+        let had = at.counted (through (sym same ∙ none)).0 in
+        record {
+          seated = ap (λ (p : Pass). p.seat.table_id) pass ∙ w.shared.seated.table ∙ at.table;
+          config = ap (λ (p : Pass). p.seat.me.0.config) pass ∙ at.known_config;
+          trace = ap (λ (p : Pass). p.seat.me.0.trace) pass ∙ at.known_trace;
+          number = ap (λ (p : Pass). (acting p.seat.me.0).number) pass
+              ∙ ap (λ (x : Caller). x.number) ready.calls ∙ at.number;
+          actor = ap (λ (p : Pass). actor_in p.seat.me.0) pass
+              ∙ ap (λ (x : Caller). x.actor) ready.calls ∙ ready.actor
+              ∙ sym (ap actor_of scheduler);
+          stop = ap (λ (s : Scheduler). s.stop) scheduler ∙ w.scheduler.stop_is
+              ∙ ap (λ (x : Trace). stop_in x.stops.items w.scheduler.number) at.trace
+              ∙ ap (stop_in t.stops.items) at.number;
+          counted = subst (λ (p : Pass). IsCounted p.seat.me.0 f.scheduler) (sym pass)
+              (subst (IsCounted w.shared.pass.seat.me.0) (sym scheduler) had);
+        };
+    rest = λ none. ap rests scheduler ∙ (through (sym same ∙ none)).1;
   }
 
   -- before its first step it has taken none

@@ -6,3 +6,4 @@ pub mod Start
 pub mod Handing
 pub mod Threads
 pub mod Ending
+pub mod Working

@@ -30,6 +30,6 @@ pub use places::HEAD_WORDS;
 pub use rule::{Deal, Ruled, Steps, TakesIn};
 pub use seats::{Made, make_seats};
 pub use shared::TableShared;
-pub use threads::run_threads;
+pub use threads::{gather_run, run_threads, workers_of};
 pub use views::{About, Seated, View};
-pub use worker::{Finished, Gate, OpenGate, Worker};
+pub use worker::{Finished, Gate, OpenGate, Worker, Working};

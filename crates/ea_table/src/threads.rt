@@ -19,8 +19,8 @@ use std::alloc::Global;
 use std::thread;
 use std::thread::Threads;
 
-/// The schedulers with their passes, in order.
-fn workers_of<'t>(
+/// The schedulers of a trace with their passes, in order.
+pub fn workers_of<'t>(
     alloc: Global,
     config: Config,
     trace: &'t Trace,
@@ -111,6 +111,32 @@ fn lacks_memory(finished: &[Finished<'_>]) -> bool
     finished.iter().any(|f| f.memory)
 }
 
+/// What is printed of the run of a trace, whose schedulers step no more: the board and the passes
+/// are those of one `make_seats`, each pass once and in order. It fails where a scheduler had no
+/// memory, and else only where there is none.
+pub fn gather_run<'t>(
+    alloc: Global,
+    config: Config,
+    trace: &'t Trace,
+    board: Board<'t>,
+    finished: Vec<Finished<'t>>,
+) -> Result<Outcome, OutOfMemory>
+    requires config { IsValidConfig config }
+    requires trace { IsValidTrace config.schedulers trace.now }
+    requires key_config { board.table.shared.key.config ≡ config }
+    requires key_trace { board.table.shared.key.trace.now ≡ trace.now }
+    requires all { length finished.items ≡ config.schedulers }
+    requires each { (k : ℕ) (d : _) → k < config.schedulers
+        → IsAtRest config trace.now board.table.shared.table_id (k + 1)
+        (slice_index_or finished.items k d) }
+    ensures { IfOk result (IsOfRun config trace.now) }
+{
+    if lacks_memory(&finished) {
+        return Err(OutOfMemory);
+    }
+    gather(alloc, config, trace, board, List::from_vec(finished))
+}
+
 /// Runs a trace whose schedulers step beside each other, each on a thread of its own. Answers what
 /// is printed of the state after all steps that they took, in the order in which these came; then
 /// every scheduler has ended or is stopped. It fails only where there is no memory, after all
@@ -132,8 +158,5 @@ pub fn run_threads<R: Threads + Sync, G: Gate + Sync>(
     let Made { board, passes } = make_seats(alloc, config, trace)?;
     let workers = workers_of(alloc, config, trace, passes)?;
     let finished = run_workers(rt, alloc, &board, gate, workers)?;
-    if lacks_memory(&finished) {
-        return Err(OutOfMemory);
-    }
-    gather(alloc, config, trace, board, List::from_vec(finished))
+    gather_run(alloc, config, trace, board, finished)
 }

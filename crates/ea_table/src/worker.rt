@@ -1,14 +1,20 @@
 //! A scheduler that runs beside others.
-ghost use Rattle.std.specs.Prelude.{◌≡◌, true, false, Some, None, IsFalse};
+ghost use Rattle.std.specs.Prelude.{◌≡◌, ◌+◌, ◌<◌, ◌≤◌, false, true, None, Some, IfOk, IsFalse};
+ghost use Rattle.std.specs.Prelude.{OnErr, OnOk};
+ghost use Rattle.ea_model.specs.Settings.{IsValidConfig};
+ghost use Rattle.ea_model.specs.Trace.{IsValidTrace};
 ghost use Rattle.ea_sched.specs.Acting.{actor_of, rests};
 ghost use Rattle.ea_sched.specs.Steps.{IsReady};
 ghost use Rattle.ea_table.specs.Ending.{IsCounted};
 ghost use Rattle.ea_table.specs.Ruling.{acting, actor_in, caller_in};
 ghost use Rattle.ea_table.specs.Seating.{IsSeatedAt};
+ghost use Rattle.ea_table.specs.Threads.{IsAtRest, IsFresh};
+ghost use Rattle.ea_table.specs.Working.{AtWork, IsAtWork, IsThrough, WorksOn, entries, work_left};
 
 use crate::board::Board;
 use crate::pass::Pass;
 use crate::shared::TableShared;
+use ea_model::OutOfMemory;
 use ea_sched::{Progress, Scheduler};
 use std::alloc::Global;
 
@@ -42,6 +48,13 @@ pub struct Finished<'t> {
     pub memory: bool,
 }
 
+/// A scheduler at work at a table, with its pass. It may pause after each operation.
+#[derive(Drop)]
+pub struct Working<'a, 'b, 't> {
+    pub scheduler: Scheduler<'t>,
+    pub shared: TableShared<'a, 'b>,
+}
+
 impl<'t> Worker<'t> {
     /// A scheduler with its pass.
     pub fn new(scheduler: Scheduler<'t>, pass: Pass) -> Worker<'t>
@@ -73,20 +86,99 @@ impl<'t> Worker<'t> {
         ensures counted { IsFalse result.memory → IsCounted result.pass.seat.me.0 result.scheduler }
         ensures rests { IsFalse result.memory → rests result.scheduler ≡ true }
     {
-        let Worker {
-            mut scheduler,
-            pass,
-        } = self;
-        let mut shared = TableShared::new(board, pass);
-        let memory = loop {
-            gate.pass(scheduler.number());
-            match scheduler.step(alloc, &mut shared) {
-                Ok(Progress::Went) => {}
-                Ok(Progress::Ended) => break false,
-                Ok(Progress::Stopped) => break false,
-                Err(_) => break true,
+        let Worker { scheduler, pass } = self;
+        let shared = TableShared::new(board, pass);
+        let mut working = Working { scheduler, shared };
+        let memory = working.run_out(alloc, gate).is_err();
+        working.finish(memory)
+    }
+
+    /// Sits down at the table, before the first step.
+    pub fn begin<'a, 'b>(self, board: &'a Board<'b>) -> Working<'a, 'b, 't>
+        requires config { IsValidConfig board.now.table.shared.key.config }
+        requires trace { IsValidTrace board.now.table.shared.key.config.schedulers
+            board.now.table.shared.key.trace.now }
+        requires fresh { IsFresh board.now.table.shared.key.config
+            board.now.table.shared.key.trace.now board.now.table.shared.table_id
+            self.scheduler.number self }
+        ensures { AtWork board.now.table.shared.key.config board.now.table.shared.key.trace.now
+            board.now.table.shared.table_id self.entry.scheduler.number result }
+    {
+        let Worker { scheduler, pass } = self;
+        let shared = TableShared::new(board, pass);
+        Working { scheduler, shared }
+    }
+}
+
+impl<'a, 'b, 't> Working<'a, 'b, 't> {
+    /// Takes a step, and says whether there was one: not where the scheduler has ended or is
+    /// stopped. The gate is passed before.
+    #[inline(always)]
+    fn step<G: Gate>(&mut self, alloc: Global, gate: &G) -> Result<bool, OutOfMemory>
+        requires works { IsAtWork self.old }
+        ensures works { WorksOn self.old self.new }
+        ensures trace { self.new.scheduler.trace ≡ self.old.scheduler.trace }
+        ensures less { IfOk result (λ went. went ≡ true
+            → work_left self.new < work_left self.old) }
+        ensures entry { IfOk result (λ went. went ≡ true
+            → (entries self.old ≤ entries self.new)
+            × (entries self.new ≤ entries self.old + 1)) }
+        ensures rests { IfOk result (λ went. went ≡ false
+            → (rests self.new.scheduler ≡ true) × (entries self.new ≡ entries self.old)) }
+        ensures goes { OnOk result (self.new.scheduler.failed ≡ false) }
+        ensures memory { OnErr result (self.new.scheduler.failed ≡ true) }
+    {
+        gate.pass(self.scheduler.number());
+        let progress = self.scheduler.step(alloc, &mut self.shared)?;
+        Ok(progress == Progress::Went)
+    }
+
+    /// Steps until an operation is over, which then has its entry in the log, or until the
+    /// scheduler has ended or is stopped without one. It answers which: true where an operation is
+    /// over. It has no memory from the first `Err` on. The gate is passed before each step.
+    pub fn operate<G: Gate>(&mut self, alloc: Global, gate: &G) -> Result<bool, OutOfMemory>
+        requires works { IsAtWork self.old }
+        ensures works { WorksOn self.old self.new }
+        ensures entry { IfOk result (λ over. over ≡ true
+            → entries self.new ≡ entries self.old + 1) }
+        ensures rests { IfOk result (λ over. over ≡ false
+            → (rests self.new.scheduler ≡ true) × (entries self.new ≡ entries self.old)) }
+        ensures goes { OnOk result (self.new.scheduler.failed ≡ false) }
+        ensures memory { OnErr result (self.new.scheduler.failed ≡ true) }
+    {
+        let entries = self.scheduler.log().len();
+        while self.scheduler.log().len() == entries {
+            if !self.step(alloc, gate)? {
+                return Ok(false);
             }
-        };
+        }
+        Ok(true)
+    }
+
+    /// Steps until the scheduler has ended or is stopped. It has no memory from the first `Err`
+    /// on. The gate is passed before each step.
+    pub fn run_out<G: Gate>(&mut self, alloc: Global, gate: &G) -> Result<(), OutOfMemory>
+        requires works { IsAtWork self.old }
+        ensures works { WorksOn self.old self.new }
+        ensures trace { self.new.scheduler.trace ≡ self.old.scheduler.trace }
+        ensures through { OnOk result (IsThrough self.new) }
+        ensures memory { OnErr result (self.new.scheduler.failed ≡ true) }
+    {
+        while self.step(alloc, gate)? {}
+        Ok(())
+    }
+
+    /// The worker when it takes no more steps; `memory` says whether one had none.
+    pub fn finish(self, memory: bool) -> Finished<'t>
+        requires works { IsAtWork self }
+        requires through { memory ≡ false → IsThrough self }
+        ensures scheduler { result.scheduler ≡ self.entry.scheduler }
+        ensures pass { result.pass ≡ self.entry.shared.pass }
+        ensures memory { result.memory ≡ memory }
+        ensures rest { (c : _) (t : _) (id : _) (i : _) → AtWork c t id i self.entry
+            → IsAtRest c t id i result }
+    {
+        let Working { scheduler, shared } = self;
         Finished {
             scheduler,
             pass: shared.into_pass(),

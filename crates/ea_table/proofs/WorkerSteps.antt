@@ -1,19 +1,24 @@
 -- A step leaves a worker less of its own work.
-use Rattle.std.proofs.Common.{◌≡◌, ◌≢◌, ℕ, ◌+◌, ◌<◌, Bor, Bool, Option, Some, None, refl, sym, ap}
-use Rattle.std.proofs.Common.{subst, arith}
-use Rattle.std.proofs.Common.{zero, suc, true, false, ◌∙◌}
+use Rattle.std.proofs.Common.{◌≡◌, ◌≢◌, ◌⊎◌, inl, inr, ℕ, ◌+◌, ◌<◌, ◌≤◌, Bor, Bool, Option}
+use Rattle.std.proofs.Common.{Some, None, refl, sym, ap, subst, arith}
+use Rattle.std.proofs.Common.{zero, suc, true, false, ◌∙◌, [], ◌∷◌, ◌++◌, length, length-append}
 use Rattle.std.specs.Prelude.{◌||◌}
+use Rattle.ea_model.specs.declared.entries.Entry.{Entry}
 use Rattle.ea_model.specs.declared.settings.Config.{Config}
 use Rattle.ea_model.specs.declared.trace.Trace.{Trace}
 use Rattle.ea_model.proofs.Options.{same-some}
 use Rattle.ea_machine.specs.declared.stages.Stage.TheVariants.{Ended}
 use Rattle.ea_machine.specs.Actor.{Actor}
 use Rattle.ea_machine.specs.Machine.{step}
-use Rattle.ea_machine.specs.Setup.{setup_of}
+use Rattle.ea_machine.specs.Setup.{Setup, setup_of}
 use Rattle.ea_machine.specs.State.{State}
 use Rattle.ea_shared.specs.Calls.{Caller, caller_of}
+use Rattle.ea_sound.specs.Entries.{Tells}
 use Rattle.ea_sound.specs.OwnWork.{own_work}
+use Rattle.ea_sound.specs.Turns.{log_after}
 use Rattle.ea_sound.proofs.OwnWork.{own-less}
+use Rattle.ea_sound.proofs.Protocols.{always-protocol}
+use Rattle.ea_sound.proofs.TurnLists.{run-snoc}
 use Rattle.ea_sched.specs.declared.state.Scheduler.{Scheduler}
 use Rattle.ea_sched.specs.Acting.{actor_of, is_ended, is_over, rests}
 use Rattle.ea_sched.specs.Steps.{IsReady, Ready, Stepped}
@@ -22,6 +27,11 @@ use Rattle.ea_model.specs.Trace.{stop_in}
 use Rattle.ea_table.specs.declared.views.View.{View}
 use Rattle.ea_table.specs.Ending.{Counts, IsCounted}
 use Rattle.ea_table.specs.Ruling.{caller_in}
+use Rattle.atomic_table.specs.Seated.{TableId}
+use Rattle.ea_table.specs.declared.pass.Pass.{Pass}
+use Rattle.ea_table.specs.declared.shared.TableShared.{TableShared}
+use Rattle.ea_table.specs.declared.worker.Worker.{Worker}
+use Rattle.ea_table.specs.Working.{AtWork}
 
 stepped-less : (c : Config) (t : Trace) (me : ℕ) (a b : Actor) (x y : Caller)
     → Ready c t me a None (Some x) → a.stage ≢ Ended
@@ -90,3 +100,59 @@ step-counted s t v u config trace number goes left took counted =
     (subst (λ n. Counts s.stop n t.left) (sym taken)
     (subst (Counts s.stop ((caller_in v).taken + 1)) (sym left)
     (one-less s.stop s.left (caller_in v).taken counted (some-left s goes))))
+
+-- a step makes at most one entry in the log
+pub step-enters : (s t : Scheduler) (x y : Caller) → IsReady s None (Some x)
+    → Stepped s.config s.trace.now s.number (actor_of s) (actor_of t) None None (Some x) (Some y)
+    → (length s.log.items ≤ length t.log.items) × (length t.log.items ≤ length s.log.items + 1)
+step-enters s t x y h took =
+    by ((always-protocol s.config s.trace.now h.config h.trace).enters took.reached.0 me me) where
+      me : ℕ
+      me = s.number
+
+      e : Setup
+      e = setup_of s.config s.trace.now
+
+      before : s.log.items ≡ log_after e took.reached.0 me
+      before = sym (ap (λ (a : Actor). a.log) took.actor)
+          ∙ ap (λ (w : State). (w.actors me).log) took.reached.1
+
+      after : t.log.items ≡ log_after e (took.reached.0 ++ me ∷ []) me
+      after = ap (λ (a : Actor). a.log) took.is
+          ∙ ap (λ (w : State). ((step e w me).actors me).log) took.reached.1
+          ∙ sym (ap (λ (w : State). (w.actors me).log) (run-snoc e took.reached.0 me))
+
+      by : (log_after e (took.reached.0 ++ me ∷ []) me ≡ log_after e took.reached.0 me)
+          ⊎ ((me ≡ me) × ((entry : Entry) × (log_after e (took.reached.0 ++ me ∷ []) me
+          ≡ log_after e took.reached.0 me ++ entry ∷ []) × Tells e took.reached.0 me entry))
+          → (length s.log.items ≤ length t.log.items) × (length t.log.items ≤ length s.log.items + 1)
+      by (inl same) =
+          let here : length t.log.items ≡ length s.log.items = ap length (after ∙ same ∙ sym before) in
+          (omega (arith, here), omega (arith, here))
+      by (inr one) =
+          let there : length t.log.items ≡ length s.log.items + 1 =
+          ap length (after ∙ one.1.1 ∙ sym (ap (λ es. es ++ one.1.0 ∷ []) before))
+          ∙ length-append s.log.items (one.1.0 ∷ []) in
+          (omega (arith, there), omega (arith, there))
+
+-- a scheduler that its pass knows as it stands is at work, once it sits at the table
+pub sits : (id : TableId) (w : Worker) (x : TableShared) → x.pass ≡ w.pass
+    → x.board.now.table.shared.table_id ≡ id
+    → w.pass.seat.me.0.config ≡ w.scheduler.config
+    → w.pass.seat.me.0.trace ≡ w.scheduler.trace.now
+    → IsReady w.scheduler None (Some (caller_in w.pass.seat.me.0))
+    → IsCounted w.pass.seat.me.0 w.scheduler
+    → AtWork w.scheduler.config w.scheduler.trace.now id w.scheduler.number
+    (record { scheduler = w.scheduler; shared = x })
+sits id w x pass table config trace ready counted = record {
+  table = table;
+  config = refl;
+  trace = refl;
+  number = refl;
+  known_config = ap (λ (p : Pass). p.seat.me.0.config) pass ∙ config;
+  known_trace = ap (λ (p : Pass). p.seat.me.0.trace) pass ∙ trace;
+  ready = λ going.
+      subst (λ (p : Pass). IsReady w.scheduler None (Some (caller_in p.seat.me.0))) (sym pass)
+      ready;
+  counted = λ going. subst (λ (p : Pass). IsCounted p.seat.me.0 w.scheduler) (sym pass) counted;
+}
