@@ -1,3 +1,3 @@
-pub mod Texts
-pub mod Ending
+pub mod Asking
 pub mod Running
+pub mod Texts

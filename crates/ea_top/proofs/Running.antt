@@ -14,7 +14,6 @@ use Rattle.ea_model.specs.Trace.{HasTexts, IsValidTrace, texts_of}
 use Rattle.ea_gen.specs.Generated.{generated_trace}
 use Rattle.ea_machine.specs.Completion.{complete, course_of, turns_in}
 use Rattle.ea_machine.specs.Courses.{IsCourse}
-use Rattle.ea_machine.specs.Machine.{run}
 use Rattle.ea_machine.specs.Outcome.{outcome, outcome_of}
 use Rattle.ea_machine.specs.Setup.{Setup, setup_of}
 use Rattle.ea_top.specs.Output.{IsRunOutcome, filled_by}

@@ -1,30 +1,22 @@
 -- What a definition answers for a trace or an outcome has the same text.
 use Rattle.std.proofs.Common.{◌≡◌, ℕ, List, refl, sym, subst, ap, ◌∙◌}
-use Rattle.std.specs.Prelude.{◌≤◌, Ok, Option, None, Some, IfSome, length}
-use Rattle.std.specs.Result.{result_ok}
-use Rattle.std.specs.declared.string.String.{String}
 use Rattle.std.proofs.lemmas.List.{map-id}
 use Rattle.std.proofs.lemmas.Simd.{map-map}
-use Rattle.ea_flags.specs.Flags.{flags}
 use Rattle.ea_model.specs.declared.outcome.Outcome.{Outcome}
 use Rattle.ea_model.specs.declared.settings.Config.{Config}
 use Rattle.ea_model.specs.declared.trace.Mode.{Mode}
 use Rattle.ea_model.specs.declared.trace.Mode.TheVariants.{Threads, Schedule, Generated}
 use Rattle.ea_model.specs.declared.trace.Trace.{Trace}
-use Rattle.ea_model.specs.declared.units.TheConstants.{MAX_INPUT}
 use Rattle.ea_model.specs.Outcome.{logs_of, plain_outcome}
 use Rattle.ea_model.specs.Settings.{region_pages, settings_of}
 use Rattle.ea_model.specs.Trace.{listed, plain, plain_mode, stop_in}
 use Rattle.ea_model.proofs.Traces.{plain-texts}
 use Rattle.ea_machine.specs.Completion.{course_of}
 use Rattle.ea_machine.specs.Courses.{IsCourse}
-use Rattle.ea_machine.specs.Machine.{run}
 use Rattle.ea_machine.specs.Outcome.{outcome, outcome_of}
 use Rattle.ea_machine.specs.Setup.{Setup, setup_of, text_for}
-use Rattle.ea_trace.specs.Language.{trace}
-use Rattle.ea_top.specs.Answers.{GivesText, HasOutput, spelled}
-use Rattle.ea_top.specs.Output.{IsOutputUnder, IsRunOutcome, IsRunText, filled_by, outcome_after}
-use Rattle.ea_top.specs.Output.{read_under, run_setup, text_by}
+use Rattle.ea_top.specs.Output.{IsRunOutcome, IsRunText, filled_by, outcome_after, run_setup}
+use Rattle.ea_top.specs.Output.{text_by}
 
 same_setup : (c : Config) (t : Trace) → setup_of c (plain t) ≡ setup_of c t
 same_setup c t = ap (λ texts. record {
@@ -95,21 +87,3 @@ run-text c t o h = (
   same_text t.mode o
       ∙ ap (text_by (plain_mode t.mode)) (h.2 ∙ sym (same_outcome c t h.0)),
 )
-
-module _ {Z : Type 0} (words : List (String Z)) where
-  -- the text that was made of an input is an output of it
-  pub gives-text : (c : Config) (input slice text : List ℕ) → Ok c ≡ flags (spelled words)
-      → length input ≤ MAX_INPUT → slice ≡ input
-      → IsOutputUnder (Ok c) (result_ok (trace slice c.schedulers)) text
-      → GivesText words input text
-  gives-text c input slice text read short same is = (
-    short,
-    subst (λ r. IsOutputUnder r (read_under r input) text) read
-        (subst (λ bytes. IsOutputUnder (Ok c) (read_under (Ok c) bytes) text) same is),
-  )
-
-  pub has-output : (left : Option (List ℕ)) (input text : List ℕ)
-      → IfSome left (λ known. input ≡ known) → GivesText words input text
-      → IfSome left (HasOutput words)
-  has-output None input text is gives = tt
-  has-output (Some known) input text is gives = subst (HasOutput words) is (text, gives)

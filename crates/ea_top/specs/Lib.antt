@@ -1,5 +1,4 @@
-pub mod Output
 pub mod Answers
-pub mod Faults
-pub mod Whys
 pub mod EachTrace
+pub mod Language
+pub mod Output

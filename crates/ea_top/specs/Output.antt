@@ -1,8 +1,5 @@
--- The output of a run, and of an input.
-use Rattle.std.specs.Prelude.{◌≡◌, ℕ, List, Option, None, Some, Result, Ok, Err}
-use Rattle.std.specs.Result.{result_ok}
-use Rattle.ea_flags.specs.declared.fault.FlagFault.{FlagFault}
-use Rattle.ea_flags.specs.Flags.{flags}
+-- The output of the run of a trace.
+use Rattle.std.specs.Prelude.{◌≡◌, ℕ, List}
 use Rattle.ea_model.specs.declared.outcome.Outcome.{Outcome}
 use Rattle.ea_model.specs.declared.settings.Config.{Config}
 use Rattle.ea_model.specs.declared.trace.Mode.{Mode}
@@ -13,7 +10,6 @@ use Rattle.ea_machine.specs.Courses.{IsCourse}
 use Rattle.ea_machine.specs.Outcome.{outcome}
 use Rattle.ea_machine.specs.Setup.{Setup, setup_of}
 use Rattle.ea_report.specs.Text.{outcome_text, summary_text}
-use Rattle.ea_trace.specs.Language.{trace}
 
 -- the trace, or the one that is generated for n schedulers where its mode says so
 abbrev pub filled_by : ℕ → Trace → Mode → Trace
@@ -44,21 +40,3 @@ module _ (c : Config) (t : Trace) where
   abbrev pub IsRunText : List ℕ → Type 0
   IsRunText text = (turns : List ℕ) × IsCourse run_setup t.mode turns
       × (text ≡ text_by t.mode (outcome_after turns))
-
-abbrev pub read_under : Result Config FlagFault → List ℕ → Option Trace
-read_under (Ok c) input = result_ok (trace input c.schedulers)
-read_under (Err f) input = None
-
--- the trace that the input is under the configuration that the words ask for; none where they are
--- refused, and where it is no trace
-abbrev pub read_for : List (List ℕ) → List ℕ → Option Trace
-read_for words input = read_under (flags words) input
-
-abbrev pub IsOutputUnder : Result Config FlagFault → Option Trace → List ℕ → Type 0
-IsOutputUnder (Ok c) (Some t) text = IsRunText c t text
-IsOutputUnder (Ok c) None text = ⊥
-IsOutputUnder (Err f) t text = ⊥
-
--- there is one, and its run has this text
-abbrev pub IsOutput : List (List ℕ) → List ℕ → List ℕ → Type 0
-IsOutput words input text = IsOutputUnder (flags words) (read_for words input) text

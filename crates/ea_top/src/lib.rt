@@ -1,8 +1,7 @@
-//! The top call: words and input in, text and status out.
+//! The top call: words and a trace in, text and status out.
 #![tactic(auto)]
 
-mod faults;
+mod part;
 mod top;
 
-pub use faults::Fault;
 pub use top::run;

@@ -1,36 +1,22 @@
 //! The top call.
-ghost use Rattle.std.specs.Prelude.{◌≡◌, ◌≢◌, ℕ, ◌+◌, ◌^◌, ◌<◌, ◌≤◌, ◌⊎◌, ◌↔◌, true, Ok, IfOk};
-ghost use Rattle.std.specs.Prelude.{IfErr, IfSome, OnOk, IsErrOf, length};
-ghost use Rattle.std.specs.Result.{result_ok};
+ghost use Rattle.std.specs.Prelude.{◌≡◌, ◌≢◌, ℕ, ◌+◌, ◌^◌, ◌<◌, ◌≤◌, ◌⊎◌, ◌↔◌, IfSome, length};
 ghost use Rattle.std.specs.Io.KnownBytes.{IsAtEnd};
 ghost use Rattle.ea_io.specs.Calls.{StopsAtFault};
 ghost use Rattle.ea_io.specs.Counts.{Calm};
 ghost use Rattle.ea_io.specs.Fronts.{ConsumesAtMost};
-ghost use Rattle.ea_gen.specs.Generated.{generated_trace};
-ghost use Rattle.ea_machine.specs.Outcome.{outcome_of};
-ghost use Rattle.ea_model.specs.declared.trace.Mode.TheVariants.{Generated};
 ghost use Rattle.ea_model.specs.declared.units.TheConstants.{MAX_INPUT};
-ghost use Rattle.ea_model.specs.Outcome.{plain_outcome};
-ghost use Rattle.ea_model.specs.Settings.{IsValidConfig};
-ghost use Rattle.ea_model.specs.Trace.{IsValidMode, IsValidTrace};
-ghost use Rattle.ea_trace.specs.Language as language;
-ghost use Rattle.ea_top.specs.Output.{IsOutputUnder, IsRunOutcome, text_by};
-ghost use Rattle.ea_top.specs.Answers.{GoodWords, GoodInput, WroteText, WroteFront};
 ghost use Rattle.ea_sound.specs.MachineLaws.{Protocol};
+ghost use Rattle.ea_frame.specs.Answered.{Answered, end_of};
+ghost use Rattle.ea_frame.specs.Faults.{Complains, status_of};
+ghost use Rattle.ea_frame.specs.Inputs.{GoodWords};
+ghost use Rattle.ea_frame.specs.declared.faults.Fault.{Fault};
+ghost use Rattle.ea_top.specs.Answers.{GoodInput, IsWhy, WroteFront, WroteText};
 ghost use Rattle.ea_top.specs.EachTrace.{ForEachTrace};
-ghost use Rattle.ea_top.specs.Whys.{IsWhy, IsReadFault, IsTextFault};
-ghost use Rattle.ea_top.specs.Faults.{Complains, status_of};
-ghost use Rattle.ea_top.specs.declared.faults.Fault.{Fault};
+ghost use Rattle.ea_top.specs.Language.{traces};
 
-use crate::faults::{Fault, complain};
-use ea_flags::read_flags;
-use ea_gen::make_trace;
-use ea_given::run_given;
-use ea_io::{ReadAllFault, Sink, Source, read_all, write_all};
-use ea_model::{Config, Letter, List, MAX_INPUT, Mode, OutOfMemory, Outcome, Trace};
-use ea_report::{print, print_summary};
-use ea_table::{OpenGate, run_threads};
-use ea_trace::read_trace;
+use crate::part::Traces;
+use ea_frame::run_part;
+use ea_io::{Sink, Source};
 use std::alloc::Global;
 use std::thread::Threads;
 
@@ -118,135 +104,11 @@ pub fn run<R: Threads + Sync, S: Source, O: Sink, E: Sink>(
         (StopsAtFault O.taken O.faults out.old out.new) fault }
     ensures stops { (E.faults err.new ≡ E.faults err.old)
         ⊎ StopsAtFault E.taken E.faults err.old err.new }
-{
-    match attempt(rt, alloc, words, source, out) {
-        Ok(()) => 0,
-        Err(fault) => {
-            complain(err, fault);
-            fault.status()
-        }
-    }
-}
 
-fn attempt<R: Threads + Sync, S: Source, O: Sink>(
-    rt: &R,
-    alloc: Global,
-    words: &[String],
-    source: &mut S,
-    out: &mut O,
-) -> Result<(), Fault>
-    requires { length words.now < 2 ^ 32 }
-    ensures good { OnOk result (GoodWords words.now) }
-    ensures done { OnOk result
-        (WroteText words.now (S.left source.old) (O.taken out.old) (O.taken out.new)) }
-    ensures end { OnOk result (IsAtEnd (S.left source.new)) }
-    ensures protocol { OnOk result (ForEachTrace Protocol words.now) }
-    ensures why { IfErr result
-        (IsWhy words.now (S.left source.old) (S.left source.new)
-        (StopsAtFault S.left S.faults source.old source.new)
-        (StopsAtFault O.taken O.faults out.old out.new)) }
-    ensures taken { ConsumesAtMost (S.left source.old) (S.left source.new) (MAX_INPUT + 1) }
-    ensures unread { IfErr result (λ f. status_of f ≡ 1 → source.new ≡ source.old) }
-    ensures untouched { IfErr result (λ f. f ≢ Fault.WriteFailed → out.new ≡ out.old) }
-    ensures read_told { S.faults source.old < S.faults source.new
-        → IsErrOf result Fault.ReadFailed }
-    ensures write_told { O.faults out.old < O.faults out.new → IsErrOf result Fault.WriteFailed }
-    ensures write_stops { IsErrOf result Fault.WriteFailed
-        → StopsAtFault O.taken O.faults out.old out.new }
-    ensures front { IsErrOf result Fault.WriteFailed
-        → WroteFront words.now (S.left source.old) (O.taken out.old) (O.taken out.new) }
+    // All of this in the words that every command has.
+    ensures answered { Answered traces words.now (end_of S.left S.faults source.old source.new)
+        (end_of O.taken O.faults out.old out.new) (end_of E.taken E.faults err.old err.new) result }
 {
-    let config = read_flags(words)?;
-    let bytes = input_of(alloc, source)?;
-    let text = text_of(rt, alloc, config, bytes.as_slice())?;
-    if write_all(out, text.as_slice()).is_err() {
-        return Err(Fault::WriteFailed);
-    }
-    Ok(())
-}
-
-/// The bytes of the source, to its end.
-fn input_of<S: Source>(alloc: Global, source: &mut S) -> Result<List<u8>, Fault>
-    ensures all { IfOk result (λ bytes. IfSome (S.left source.old) (λ input. bytes.items ≡ input)) }
-    ensures short { IfOk result (λ bytes. length bytes.items ≤ MAX_INPUT) }
-    ensures end { OnOk result (IsAtEnd (S.left source.new)) }
-    ensures taken { ConsumesAtMost (S.left source.old) (S.left source.new) (MAX_INPUT + 1) }
-    ensures told { S.faults source.old < S.faults source.new → IsErrOf result Fault.ReadFailed }
-    ensures why { IfErr result
-        (IsReadFault (S.left source.old) (S.left source.new)
-        (StopsAtFault S.left S.faults source.old source.new)) }
-{
-    match read_all(alloc, source, MAX_INPUT) {
-        Ok(bytes) => Ok(bytes),
-        Err(ReadAllFault::ReadFault) => Err(Fault::ReadFailed),
-        Err(ReadAllFault::TooLong) => Err(Fault::TooLong),
-        Err(ReadAllFault::OutOfMemory) => Err(Fault::OutOfMemory),
-    }
-}
-
-/// An output text for an input under a configuration.
-fn text_of<R: Threads + Sync>(
-    rt: &R,
-    alloc: Global,
-    config: Config,
-    input: &[u8],
-) -> Result<List<u8>, Fault>
-    requires config { IsValidConfig config }
-    requires short { length input.now ≤ MAX_INPUT }
-    ensures ok { IfOk result (λ text.
-        IsOutputUnder (Ok config) (result_ok (language.trace input.now config.schedulers))
-        text.items) }
-    ensures err { IfErr result (IsTextFault config input.now) }
-{
-    let trace = read_trace(alloc, input, config.schedulers)?;
-    let outcome = run_trace(rt, alloc, config, &trace)?;
-    Ok(print_run(alloc, &trace.mode, &outcome)?)
-}
-
-/// Runs a trace as its mode says: each scheduler on a thread of its own, or all by the schedule, or
-/// with the operations that are generated.
-fn run_trace<R: Threads + Sync>(
-    rt: &R,
-    alloc: Global,
-    config: Config,
-    trace: &Trace,
-) -> Result<Outcome, OutOfMemory>
-    requires config { IsValidConfig config }
-    requires trace { IsValidTrace config.schedulers trace.now }
-    ensures { IfOk result (λ outcome. IsRunOutcome config trace.now (plain_outcome outcome)) }
-{
-    match trace.mode {
-        Mode::Threads => run_threads(rt, alloc, config, trace, &OpenGate),
-        Mode::Schedule { .. } => run_given(alloc, config, trace),
-        Mode::Generated { seed, count } => {
-            run_generated(alloc, config, trace.letter, seed, count)
-        }
-    }
-}
-
-/// Makes the operations of a generated trace, and runs it by an empty schedule.
-fn run_generated(
-    alloc: Global,
-    config: Config,
-    letter: Letter,
-    seed: u32,
-    count: u32,
-) -> Result<Outcome, OutOfMemory>
-    requires config { IsValidConfig config }
-    requires mode { IsValidMode config.schedulers (Generated seed count) }
-    ensures { IfOk result (λ outcome. plain_outcome outcome
-        ≡ outcome_of config (generated_trace letter seed config.schedulers count)) }
-{
-    let trace = make_trace(alloc, letter, seed, config.schedulers, count)?;
-    run_given(alloc, config, &trace)
-}
-
-/// The text of the outcome of a trace of this mode.
-fn print_run(alloc: Global, mode: &Mode, outcome: &Outcome) -> Result<List<u8>, OutOfMemory>
-    ensures { IfOk result (λ text. text.items ≡ text_by mode.now outcome.now) }
-{
-    match mode {
-        Mode::Threads | Mode::Schedule { .. } => print(alloc, outcome),
-        Mode::Generated { seed, count } => print_summary(alloc, *seed, *count, outcome),
-    }
+    let part = Traces { rt };
+    run_part(&part, alloc, words, source, out, err)
 }

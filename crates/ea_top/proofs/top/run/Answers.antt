@@ -1,57 +1,18 @@
-use Rattle.std.proofs.Common.{◌≡◌, sym, ◌∙◌, ap, refl, arith}
-use Rattle.ea_io.specs.Counts.{next_count}
-use Rattle.std.specs.Prelude.{Err}
-use Rattle.ea_top.specs.declared.faults.Fault.{Fault}
-use Rattle.ea_top.specs.declared.faults.Fault.TheVariants.{Words, Trace, TooLong}
-use Rattle.ea_top.specs.declared.faults.Fault.TheVariants.{ReadFailed, WriteFailed, OutOfMemory}
-use Rattle.ea_top.specs.Faults.{status_of, trace_status}
-use Rattle.ea_trace.specs.declared.fault.TraceFault.{TraceFault}
-use Rattle.ea_trace.specs.declared.fault.TraceFault.TheVariants as trace
-use Rattle.ea_top.proofs.Ending.{completing, refusing, written}
+use Rattle.std.proofs.Common.{inl, inr}
+use Rattle.ea_sound.specs.MachineLaws.{Protocol}
+use Rattle.ea_top.proofs.Asking.{each_trace, never_declined, of_good}
 use Rattle.ea_top.proofs.top.run.Goals as goal
 
--- a refused trace ends with 2, and want of memory with 5
-trace_ends : (refusal : TraceFault) → trace_status refusal ≡ 4 → ⊥
-trace_ends (trace.Syntax line) e = absurd cc
-trace_ends (trace.BadScheduler line) e = absurd cc
-trace_ends (trace.NameReused line) e = absurd cc
-trace_ends (trace.NotHeld line) e = absurd cc
-trace_ends (trace.NotAddressed line) e = absurd cc
-trace_ends (trace.TooMany line) e = absurd cc
-trace_ends trace.NoEnd e = absurd cc
-trace_ends trace.OutOfMemory e = absurd cc
+pub returns-clause-statuses : goal.returns-clause-statuses
+returns-clause-statuses g c = elim c.run_part.ensures.statuses [
+  | inl most ↦ most
+  | inr seven ↦ absurd (never_declined c.args.words.now _ (c.run_part.ensures.declined_input seven))
+]
 
--- only a failing write ends with 4
-ends_with_4 : (f : Fault) → status_of f ≡ 4 → f ≡ WriteFailed
-ends_with_4 (Words refusal) e = absurd cc
-ends_with_4 (Trace refusal) e = absurd (trace_ends refusal e)
-ends_with_4 TooLong e = absurd cc
-ends_with_4 ReadFailed e = absurd cc
-ends_with_4 WriteFailed e = refl
-ends_with_4 OutOfMemory e = absurd cc
+pub returns-clause-protocol : goal.returns-clause-protocol
+returns-clause-protocol g c = λ zero.
+    each_trace c.args.words.now Protocol (c.run_part.ensures.promised zero)
 
-pub returns-in-Err-clause-write_failed : goal.returns-in-Err-clause-write_failed
-returns-in-Err-clause-write_failed g c = λ four.
-    c.in-Err.ensures.write_stops (ap Err (ends_with_4 _ (sym c.status.ensures ∙ four)))
-
-pub returns-in-Err-clause-front : goal.returns-in-Err-clause-front
-returns-in-Err-clause-front g c = λ four.
-    c.in-Err.ensures.front (ap Err (ends_with_4 _ (sym c.status.ensures ∙ four)))
-
-pub returns-in-Ok-clause-refuses : goal.returns-in-Ok-clause-refuses
-returns-in-Ok-clause-refuses g c = λ good calm.
-    written c.args.words.now _ _ _ _ c.in-Ok.ensures.done
-
-pub returns-in-Err-clause-refuses : goal.returns-in-Err-clause-refuses
-returns-in-Err-clause-refuses g c = λ good calm.
-    refusing c.args.words.now _ _ _ good
-    (λ stops. absurd (omega (arith, calm, stops.once, ap next_count stops.calm)))
-    c.status.result _ c.in-Err.fault c.status.ensures c.in-Err.ensures.why
-
-pub returns-in-Err-clause-complete : goal.returns-in-Err-clause-complete
-returns-in-Err-clause-complete g c = λ good calm dry.
-    completing c.args.words.now _ _ _ good
-    (λ stops. absurd (omega (arith, calm, stops.once, ap next_count stops.calm)))
-    c.status.result
-    (λ stops. absurd (omega (arith, dry, stops.once, ap next_count stops.calm)))
-    _ c.in-Err.fault c.status.ensures c.in-Err.ensures.why
+pub returns-clause-complete : goal.returns-clause-complete
+returns-clause-complete g c = λ good calm dry.
+    of_good c.args.words.now _ _ (c.run_part.ensures.complete good calm dry)

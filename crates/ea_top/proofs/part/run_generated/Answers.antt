@@ -4,7 +4,7 @@ use Rattle.ea_model.specs.Outcome.{plain_outcome}
 use Rattle.ea_gen.specs.Generated.{generated_trace}
 use Rattle.ea_machine.specs.Outcome.{outcome_of}
 use Rattle.ea_top.proofs.Texts.{made-outcome}
-use Rattle.ea_top.proofs.top.run_generated.Goals as goal
+use Rattle.ea_top.proofs.part.run_generated.Goals as goal
 
 pub returns : goal.returns
 returns c =

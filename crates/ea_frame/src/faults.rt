@@ -4,8 +4,8 @@ ghost use Rattle.std.specs.Io.KnownBytes.{Appends};
 ghost use Rattle.ea_io.specs.Calls.{StopsAtFault};
 ghost use Rattle.ea_io.specs.Counts.{Calm};
 ghost use Rattle.ea_io.specs.Fronts.{AppendsFront};
-ghost use Rattle.ea_top.specs.Faults.{Complains, fault_line, line_with, refusal_text, status_of};
-ghost use Rattle.ea_top.specs.declared.faults.Fault.TheVariants as fault;
+ghost use Rattle.ea_frame.specs.Faults.{Complains, fault_line, line_with, refusal_text, status_of};
+ghost use Rattle.ea_frame.specs.declared.faults.Fault.TheVariants as fault;
 
 use ea_flags::FlagFault;
 use ea_io::{Failed, ReadAllFault, Sink, write_texts};
@@ -18,8 +18,8 @@ use itoa::Buffer;
 pub enum Fault {
     /// The words are refused.
     Words(FlagFault),
-    /// The input gives no trace.
-    Trace(TraceFault),
+    /// The input is refused: it isn't in the language of the command.
+    Input(TraceFault),
     /// The input has more than 2^24 bytes.
     TooLong,
     /// The source failed.
@@ -28,6 +28,8 @@ pub enum Fault {
     WriteFailed,
     /// There was no memory.
     OutOfMemory,
+    /// The input is in the language of the command, but asks for what the command doesn't run.
+    ScheduleWanted,
 }
 
 impl From<FlagFault> for Fault {
@@ -39,10 +41,10 @@ impl From<FlagFault> for Fault {
 }
 
 impl From<TraceFault> for Fault {
-    ghost from_gives = { λ refusal f. f ≡ fault.Trace refusal };
+    ghost from_gives = { λ refusal f. f ≡ fault.Input refusal };
 
     fn from(refusal: TraceFault) -> Fault {
-        Fault::Trace(refusal)
+        Fault::Input(refusal)
     }
 }
 
@@ -61,10 +63,11 @@ impl Fault {
     {
         match self {
             Fault::Words(_) => 1,
-            Fault::Trace(TraceFault::OutOfMemory) | Fault::OutOfMemory => 5,
-            Fault::Trace(_) | Fault::TooLong => 2,
+            Fault::Input(TraceFault::OutOfMemory) | Fault::OutOfMemory => 5,
+            Fault::Input(_) | Fault::TooLong => 2,
             Fault::ReadFailed => 3,
             Fault::WriteFailed => 4,
+            Fault::ScheduleWanted => 7,
         }
     }
 }
@@ -112,11 +115,12 @@ fn write_line<E: Sink>(err: &mut E, fault: Fault) -> Result<(), Failed>
 {
     match fault {
         Fault::Words(refusal) => write_refusal(err, "word", refusal.word(), refusal.message()),
-        Fault::Trace(refusal) => write_refusal(err, "line", refusal.line(), refusal.message()),
+        Fault::Input(refusal) => write_refusal(err, "line", refusal.line(), refusal.message()),
         Fault::TooLong => write_with(err, ReadAllFault::TooLong.message()),
         Fault::ReadFailed => write_with(err, ReadAllFault::ReadFault.message()),
         Fault::WriteFailed => write_with(err, "write failed"),
         Fault::OutOfMemory => write_with(err, OutOfMemory.message()),
+        Fault::ScheduleWanted => write_with(err, "schedule wanted"),
     }
 }
 

@@ -7,7 +7,7 @@ use Rattle.ea_machine.specs.Outcome.{outcome_of}
 use Rattle.ea_table.specs.Threads.{IsOfRun}
 use Rattle.ea_top.specs.Output.{IsRunOutcome}
 use Rattle.ea_top.proofs.Running.{generated-ran, given-ran, texts-given, threads-ran}
-use Rattle.ea_top.proofs.top.run_trace.Goals as goal
+use Rattle.ea_top.proofs.part.run_trace.Goals as goal
 
 pub run_given-requires-clause-texts : goal.run_given-requires-clause-texts
 run_given-requires-clause-texts g c =
