@@ -1,10 +1,12 @@
-//! The program: words from the command line, the trace from standard input, the text to standard
-//! output. It ends with the status of the run, or with 5 where the words could not be had for want
+//! The program: words from the command line, the input from standard input, the text to standard
+//! output. It ends with the status of the command, or with 5 where the words could not be had for want
 //! of memory, or with 8 where they could not be had for another cause, or are 2^32 or more.
 #![tactic(auto)]
 
+mod program;
+
 use ea_io::{StdSink, StdSource};
-use ea_top::run;
+use program::run_program;
 use std::alloc::Global;
 use std::env::Env;
 use std::io::ErrorKind;
@@ -23,7 +25,7 @@ fn main(rt: HostRuntime) -> ExitCode {
             let mut source = StdSource::new(rt.stdin());
             let mut out = StdSink::new(rt.stdout());
             let mut err = StdSink::new(rt.stderr());
-            run(&rt, alloc, &words, &mut source, &mut out, &mut err)
+            run_program(&rt, alloc, &words, &mut source, &mut out, &mut err)
         }
         Err(error) if error.kind() == ErrorKind::OutOfMemory => NO_MEMORY,
         _ => NO_WORDS,

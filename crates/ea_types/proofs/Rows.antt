@@ -1,0 +1,263 @@
+-- Turns of one scheduler in a row in one type, more than one only within an operation.
+use Rattle.std.proofs.Common.{◌≡◌, ◌≢◌, ℕ, zero, suc, ◌+◌, ◌-◌, ◌<◌, ◌≤◌, List, [], ◌∷◌, ◌++◌, true}
+use Rattle.std.proofs.Common.{false, refl, sym, ap, ◌∙◌, subst, inl, inr, arith, length}
+use Rattle.std.specs.Prelude.{Bool, Some, nat_lt, replicate}
+use Rattle.std.specs.List.{range_with_len}
+use Rattle.std.proofs.lemmas.Bool.{cases_Bool, cases_eq}
+use Rattle.std.proofs.lemmas.List.{append_assoc, length_push}
+use Rattle.std.proofs.lemmas.List.{replicate-append-replicate}
+use Rattle.ea_machine.specs.Machine.{run, run_on, start, step}
+use Rattle.ea_machine.specs.Setup.{Setup}
+use Rattle.ea_machine.specs.State.{State}
+use Rattle.ea_sound.specs.Entries.{EntersOne}
+use Rattle.ea_sound.specs.Turns.{log_after}
+use Rattle.ea_sound.proofs.Totals.{put-here, put-other}
+use Rattle.ea_sound.proofs.TurnLists.{run-append, run-snoc, step-ended}
+use Rattle.ea_sched.specs.Acting.{is_ended}
+use Rattle.ea_types.specs.Turning.{Standing, Types, all_work, ending, first_going, lines_after}
+use Rattle.ea_types.specs.Turning.{log_length}
+use Rattle.ea_types.specs.Turning.{own_by, own_if, own_on, turn_of, turned, turned_by, turned_in}
+use Rattle.ea_types.specs.Turning.{turned_on}
+use Rattle.ea_types.proofs.OwnRuns.{is-other, is-same}
+use Rattle.ea_types.proofs.Turns.{Fits, Lessens, ended-is, first-same, step-fits, step-less}
+use Rattle.ea_types.proofs.Turns.{turn-in}
+
+-- a run of one type, in which a scheduler takes steps
+module _ (e : Setup) (enters : EntersOne e) (me : ℕ) where
+  one-grows : (L : List ℕ) → log_length (run e L) me ≤ log_length (step e (run e L) me) me
+  one-grows L = subst (λ (w : State). log_length (run e L) me ≤ log_length w me) (run-snoc e L me)
+      (elim (enters L me me) [
+        | inl same ↦ omega (arith, ap length same)
+        | inr more ↦ omega (
+          arith,
+          ap length more.1.1,
+          length_push (log_after e L me) more.1.0,
+        )
+      ])
+
+  -- its log grows
+  grows : (k : ℕ) (L : List ℕ)
+      → log_length (run e L) me ≤ log_length (run_on e (run e L) (replicate k me)) me
+  grows zero L = omega arith
+  grows (suc k) L = omega (
+    arith,
+    one-grows L,
+    subst (λ (w : State). log_length w me ≤ log_length (run_on e w (replicate k me)) me)
+        (run-snoc e L me) (grows k (L ++ me ∷ [])),
+  )
+
+  stays-ended : (k : ℕ) (w : State) → is_ended (w.actors me).stage ≡ true
+      → is_ended ((run_on e w (replicate k me)).actors me).stage ≡ true
+  stays-ended zero w ended = ended
+  stays-ended (suc k) w ended =
+      let same = step-ended e w me (ended-is (w.actors me).stage ended) in
+      ap (λ (v : State). is_ended ((run_on e v (replicate k me)).actors me).stage) same
+      ∙ stays-ended k w ended
+
+  -- where after so many steps its log is as before, and it hasn't ended, it was so all the time
+  module _ (L : List ℕ) (count : ℕ)
+      (log : log_length (run_on e (run e L) (replicate count me)) me ≡ log_length (run e L) me)
+      (going : is_ended ((run_on e (run e L) (replicate count me)).actors me).stage ≡ false)
+      (k : ℕ) (before : k < count) where
+    abbrev now : State
+    now = run_on e (run e L) (replicate k me)
+
+    rest : run_on e now (replicate (count - k) me) ≡ run_on e (run e L) (replicate count me)
+    rest = sym (run-append e (run e L) (replicate k me) (replicate (count - k) me))
+        ∙ ap (run_on e (run e L)) (replicate-append-replicate k (count - k) me
+        ∙ ap (λ n. replicate n me) (sum k count before))
+      where
+        sum : (k count : ℕ) → k < count → k + (count - k) ≡ count
+        sum k count before = omega (arith, before)
+
+    now-run : run e (L ++ replicate k me) ≡ now
+    now-run = run-append e (start e) L (replicate k me)
+
+    pub same-log : log_length now me ≡ log_length (run e L) me
+    same-log = omega (
+      arith,
+      log,
+      grows k L,
+      subst (λ (w : State). log_length w me ≤ log_length (run_on e w (replicate (count - k) me)) me)
+          now-run (grows (count - k) (L ++ replicate k me)),
+      ap (λ (w : State). log_length w me) rest,
+    )
+
+    pub same-going : is_ended (now.actors me).stage ≡ false
+    same-going = elim (cases_Bool (is_ended (now.actors me).stage)) [
+      | inl ended ↦
+          let then = ap (λ (w : State). is_ended (w.actors me).stage) (sym rest)
+          ∙ stays-ended (count - k) now ended in
+          absurd (let no : true ≡ false = sym then ∙ going in cc)
+      | inr is ↦ is
+    ]
+
+-- turns in a row
+module _ (t : Types) (me x : ℕ) where
+  abbrev e : Setup
+  e = t.setups x
+
+  -- the state of the type after so many steps
+  abbrev pub later : Standing → ℕ → State
+  later p k = run_on e (p.states x) (replicate k me)
+
+  -- before the last one of so many steps the log is as at first, and the scheduler hasn't ended
+  abbrev pub IsRow : ℕ → Standing → Type 0
+  IsRow count p = (k : ℕ) → suc k < count
+      → (log_length (later p (suc k)) me ≡ log_length (p.states x) me)
+      × (is_ended ((later p (suc k)).actors me).stage ≡ false)
+
+  turned-is : (p : Standing) → turn_of t p me ≡ Some x → turned t p me ≡ turned_in t p me x
+  turned-is p is = ap (turned_by t p me) is
+
+  stepped-is : (p : Standing) → (turned_in t p me x).states x ≡ step e (p.states x) me
+  stepped-is p = put-here p.states x (step e (p.states x) me) x refl
+
+  not-grown : (a b : ℕ) → b ≡ a → nat_lt a b ≡ false
+  not-grown a b same = grind (arith, same)
+
+  later-is : (p : Standing) (k : ℕ) → later (turned_in t p me x) k ≡ later p (suc k)
+  later-is p k = ap (λ w. run_on e w (replicate k me)) (stepped-is p)
+
+  -- after one of them
+  module _ (n : ℕ) (p : Standing) (is : turn_of t p me ≡ Some x) (row : IsRow (suc (suc n)) p) where
+    abbrev v : State
+    v = step e (p.states x) me
+
+    abbrev q : Standing
+    q = turned_in t p me x
+
+    first : (log_length v me ≡ log_length (p.states x) me) × (is_ended (v.actors me).stage ≡ false)
+    first = row 0 (omega arith)
+
+    next-log : log_length (q.states x) me ≡ log_length (p.states x) me
+    next-log = ap (λ (w : State). log_length w me) (stepped-is p) ∙ first.0
+
+    next-lines : (i : ℕ) → q.lines i ≡ p.lines i
+    next-lines i =
+        let grown = nat_lt (log_length (p.states x) me) (log_length v me) in
+        elim (cases_eq i me) [
+          | inl same ↦ put-here p.lines me (lines_after grown x (p.lines me)) i same
+              ∙ ap (λ b. lines_after b x (p.lines me))
+              (not-grown (log_length (p.states x) me) (log_length v me) first.0)
+              ∙ ap p.lines (sym same)
+          | inr other ↦ put-other p.lines me (lines_after grown x (p.lines me)) i other
+        ]
+
+    next-turn : turn_of t q me ≡ Some x
+    next-turn = ap (λ ls. first_going q.states me (ls ++ range_with_len 0 t.types)) (next-lines me)
+        ∙ first-same p.states q.states me (p.lines me ++ range_with_len 0 t.types) x
+        (λ y other. put-other p.states x v y other)
+        (ap (λ (w : State). is_ended (w.actors me).stage) (stepped-is p) ∙ first.1) is
+
+    next-row : IsRow (suc n) q
+    next-row k below =
+        let then = row (suc k) (omega (arith, below)) in (
+          ap (λ (w : State). log_length w me) (later-is p (suc k)) ∙ then.0 ∙ sym next-log,
+          ap (λ (w : State). is_ended (w.actors me).stage) (later-is p (suc k)) ∙ then.1,
+        )
+
+  -- they are all of that type
+  one-own : (p : Standing) (js : List ℕ) → turn_of t p me ≡ Some x
+      → own_on t x p (me ∷ js) ≡ me ∷ own_on t x (turned_in t p me x) js
+  one-own p js is =
+      ap (λ o. own_if t x me o ++ own_on t x (turned_by t p me o) js) is
+      ∙ ap (λ b. own_by t b me ++ own_on t x (turned_in t p me x) js) (is-same x x refl)
+
+  one-others : (y : ℕ) (p : Standing) (js : List ℕ) → x ≢ y → turn_of t p me ≡ Some x
+      → own_on t y p (me ∷ js) ≡ own_on t y (turned_in t p me x) js
+  one-others y p js other is =
+      ap (λ o. own_if t y me o ++ own_on t y (turned_by t p me o) js) is
+      ∙ ap (λ b. own_by t b me ++ own_on t y (turned_in t p me x) js) (is-other x y other)
+
+  pub row-own : (count : ℕ) (p : Standing) → turn_of t p me ≡ Some x → IsRow count p
+      → own_on t x p (replicate count me) ≡ replicate count me
+  row-own zero p is row = refl
+  row-own (suc zero) p is row = one-own p [] is
+  row-own (suc (suc n)) p is row = one-own p (replicate (suc n) me) is
+      ∙ ap (λ js. me ∷ js)
+      (row-own (suc n) (turned_in t p me x) (next-turn n p is row) (next-row n p is row))
+
+  pub row-others : (y count : ℕ) (p : Standing) → x ≢ y → turn_of t p me ≡ Some x
+      → IsRow count p → own_on t y p (replicate count me) ≡ []
+  row-others y zero p other is row = refl
+  row-others y (suc zero) p other is row = one-others y p [] other is
+  row-others y (suc (suc n)) p other is row = one-others y p (replicate (suc n) me) other is
+      ∙ row-others y (suc n) (turned_in t p me x) other (next-turn n p is row)
+      (next-row n p is row)
+
+  -- and a line of it is over if the log has grown by then
+  abbrev pub grown_by : Standing → ℕ → Bool
+  grown_by p count = nat_lt (log_length (p.states x) me) (log_length (later p count) me)
+
+  pub row-lines : (count : ℕ) (p : Standing) → turn_of t p me ≡ Some x → IsRow count p
+      → 1 ≤ count → (turned_on t p (replicate count me)).lines me
+      ≡ lines_after (grown_by p count) x (p.lines me)
+  row-lines zero p is row some = absurd (omega (arith, some))
+  row-lines (suc zero) p is row some =
+      ap (λ (s : Standing). s.lines me) (turned-is p is)
+      ∙ put-here p.lines me (lines_after (grown_by p 1) x (p.lines me)) me refl
+  row-lines (suc (suc n)) p is row some =
+      let q = turned_in t p me x in
+      ap (λ s. (turned_on t s (replicate (suc n) me)).lines me) (turned-is p is)
+      ∙ row-lines (suc n) q (next-turn n p is row) (next-row n p is row) (omega arith)
+      ∙ ap (λ ls. lines_after (grown_by q (suc n)) x ls) (next-lines n p is row me)
+      ∙ ap (λ b. lines_after b x (p.lines me))
+      (ap (λ k. nat_lt k (log_length (later q (suc n)) me)) (next-log n p is row)
+      ∙ ap (λ (w : State). nat_lt (log_length (p.states x) me) (log_length w me))
+      (later-is p (suc n)))
+
+  pub row-other_lines : (i count : ℕ) (p : Standing) → i ≢ me → turn_of t p me ≡ Some x
+      → IsRow count p → (turned_on t p (replicate count me)).lines i ≡ p.lines i
+  row-other_lines i zero p other is row = refl
+  row-other_lines i (suc zero) p other is row =
+      ap (λ (s : Standing). s.lines i) (turned-is p is)
+      ∙ put-other p.lines me (lines_after (grown_by p 1) x (p.lines me)) i other
+  row-other_lines i (suc (suc n)) p other is row =
+      ap (λ s. (turned_on t s (replicate (suc n) me)).lines i) (turned-is p is)
+      ∙ row-other_lines i (suc n) (turned_in t p me x) other (next-turn n p is row)
+      (next-row n p is row) ∙ next-lines n p is row i
+
+  -- they are the next ones of the scheduler until it has ended
+  module _ (lessens : Lessens t) where
+    abbrev Follow : ℕ → ℕ → Standing → Standing → Type 0
+    Follow count most p q = (all_work t q me < all_work t p me) × ((rest : ℕ)
+        × (all_work t q me ≤ rest) × (ending t most p me (turn_of t p me)
+        ≡ replicate count me ++ ending t rest q me (turn_of t q me)))
+
+    one-follows : (most : ℕ) (p : Standing) → Fits t p → turn_of t p me ≡ Some x
+        → all_work t p me ≤ most → Follow 1 most p (turned_in t p me x)
+    one-follows zero p fits is upto =
+        let (there, going) = turn-in t p fits me x is in
+        absurd (omega (arith, upto, step-less t p fits me lessens x there going))
+    one-follows (suc most) p fits is upto =
+        let (there, going) = turn-in t p fits me x is in
+        let less = step-less t p fits me lessens x there going in
+        (less, (most, omega (arith, upto, less), ap (ending t (suc most) p me) is))
+
+    pub row-ending : (count most : ℕ) (p : Standing) → Fits t p → turn_of t p me ≡ Some x
+        → IsRow count p → 1 ≤ count → all_work t p me ≤ most
+        → Follow count most p (turned_on t p (replicate count me))
+    row-ending zero most p fits is row some upto = absurd (omega (arith, some))
+    row-ending (suc zero) most p fits is row some upto =
+        subst (Follow 1 most p) (sym (turned-is p is)) (one-follows most p fits is upto)
+    row-ending (suc (suc n)) most p fits is row some upto =
+        let q = turned_in t p me x in
+        let one = one-follows most p fits is upto in
+        let more = row-ending (suc n) one.1.0 q (step-fits t p fits me x) (next-turn n p is row)
+        (next-row n p is row) (omega arith) one.1.1 in
+        subst (λ s. Follow (suc (suc n)) most p (turned_on t s (replicate (suc n) me)))
+        (sym (turned-is p is)) (
+          omega (arith, one.0, more.0),
+          (more.1.0, more.1.1, one.1.2 ∙ ap (λ js. me ∷ js) more.1.2),
+        )
+
+-- turns after turns are those of a type
+pub own-append : (t : Types) (x : ℕ) (p : Standing) (xs ys : List ℕ)
+    → own_on t x p (xs ++ ys) ≡ own_on t x p xs ++ own_on t x (turned_on t p xs) ys
+own-append t x p [] ys = refl
+own-append t x p (me ∷ xs) ys =
+    let first = own_if t x me (turn_of t p me) in
+    ap (λ js. first ++ js) (own-append t x (turned t p me) xs ys)
+    ∙ sym (append_assoc first (own_on t x (turned t p me) xs)
+    (own_on t x (turned_on t (turned t p me) xs) ys))

@@ -1,0 +1,12 @@
+pub mod Language
+pub mod Turning
+pub mod Courses
+pub mod Given
+pub mod Output
+pub mod Command
+pub mod Input
+pub mod Sorting
+pub mod Sections
+pub mod Readers
+pub mod Reading
+pub mod Tables
