@@ -113,6 +113,7 @@ pub mod PrintedUnits
 pub mod Fading
 pub mod GoneNames
 pub mod KeptPlaces
+pub mod OverUnits
 -- What an entry tells of the turns before it.
 pub mod TurnLists
 pub mod Stopping

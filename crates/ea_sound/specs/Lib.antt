@@ -19,6 +19,7 @@ pub mod Chosen
 pub mod Shown
 pub mod HandedOver
 pub mod Released
+pub mod Over
 pub mod Entries
 -- Rows: their guards, and answers that never come.
 pub mod Guarded
