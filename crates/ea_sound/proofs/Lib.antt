@@ -130,6 +130,7 @@ pub mod ChroniclePlaces
 pub mod ChronicleOperations
 pub mod ChronicleTurns
 pub mod Chronicled
+pub mod MadeNames
 pub mod Failing
 pub mod Queueing
 -- Each schedule ends.

@@ -20,6 +20,7 @@ pub mod Shown
 pub mod HandedOver
 pub mod Released
 pub mod Over
+pub mod Made
 pub mod Entries
 -- Rows: their guards, and answers that never come.
 pub mod Guarded
