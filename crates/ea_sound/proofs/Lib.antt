@@ -172,3 +172,4 @@ pub mod Creations
 pub mod PresentCarriers
 pub mod PresentContents
 pub mod PresentPlaces
+pub mod PresentUnits

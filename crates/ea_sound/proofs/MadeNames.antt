@@ -1,8 +1,9 @@
--- The step in which a block gets a name that was still to be made: it is a step of the scheduler whose
+-- The step in which a block gets a name that was still to be made: it is one of the scheduler whose
 -- operation makes it, and that scheduler holds it then.
 use Rattle.std.proofs.Common.{◌≡◌, ◌≢◌, ◌⊎◌, ℕ, ◌<◌, ◌≤◌, List, [], ◌∷◌, ◌++◌, true}
 use Rattle.std.proofs.Common.{refl, sym, ap, ◌∙◌, subst, inl, inr, arith}
-use Rattle.std.specs.Prelude.{None, Some, ◌==◌}
+use Rattle.std.specs.Prelude.{Bool, false, Option, None, Some, ◌==◌, ◌||◌}
+use Rattle.std.specs.List.{list_any}
 use Rattle.std.proofs.lemmas.Bool.{cases_Bool, eqb-true}
 use Rattle.std.proofs.lemmas.List.{append_assoc}
 use Rattle.ea_model.specs.declared.carriers.Place.{Place}
@@ -13,12 +14,15 @@ use Rattle.ea_model.specs.declared.operations.Op.TheVariants as op
 use Rattle.ea_model.specs.Content.{Content}
 use Rattle.ea_model.specs.Trace.{makes}
 use Rattle.ea_machine.specs.Actor.{Actor}
-use Rattle.ea_machine.specs.Machine.{run}
+use Rattle.ea_machine.specs.Machine.{after_row, onward, onward_at, run}
 use Rattle.ea_machine.specs.Nodes.{named_at}
 use Rattle.ea_machine.specs.Setup.{Setup}
 use Rattle.ea_machine.specs.State.{State}
 use Rattle.ea_machine.specs.Tasks.{later}
 use Rattle.ea_machine.specs.Sums.{one_if}
+use Rattle.ea_machine.specs.Statistics.{observed}
+use Rattle.ea_machine.specs.declared.asks.Ask.{Ask}
+use Rattle.ea_machine.specs.declared.nodes.Named.{Named}
 use Rattle.ea_machine.specs.declared.stages.Route.{Route}
 use Rattle.ea_machine.specs.declared.stages.Stage.{Stage}
 use Rattle.ea_machine.specs.declared.stages.Stage.TheVariants.{Begin, Routed, Collecting, Searching}
@@ -29,22 +33,24 @@ use Rattle.ea_machine.specs.declared.tasks.Task.TheVariants.{Freeing, Moving}
 use Rattle.ea_machine.specs.declared.tasks.Why.TheVariants.{Walk, For}
 use Rattle.ea_sound.specs.Chosen.{IsPlacement}
 use Rattle.ea_sound.specs.Contents.{seats}
-use Rattle.ea_sound.specs.Entries.{Makes, Tells}
-use Rattle.ea_sound.specs.Made.{IsMadeBy, MakesItsOwn}
+use Rattle.ea_sound.specs.Entries.{HasSkipped, Makes, Tells}
+use Rattle.ea_sound.specs.Made.{HoldsOld, IsMadeBy, MakesItsOwn}
 use Rattle.ea_sound.specs.Names.{allocated, made_in, only, to_make, unplaced}
-use Rattle.ea_sound.specs.Present.{OfTask, Rule}
+use Rattle.ea_sound.specs.Present.{Asked, Fits, OfAsk, OfTask, OldHeld, Rule}
 use Rattle.ea_sound.specs.Released.{blocks_named, says_failed}
-use Rattle.ea_sound.specs.Turns.{HoldsAfter, actor_after}
+use Rattle.ea_sound.specs.Turns.{HoldsAfter, actor_after, answered, begun, log_after}
+use Rattle.ea_sound.proofs.BeginTurns.{IsInBegin, Walks, walks}
 use Rattle.ea_sound.proofs.Chronicle.{SoFar}
-use Rattle.ea_sound.proofs.Chronicled.{so_far, turn-told}
+use Rattle.ea_sound.proofs.Chronicled.{skips-unheld, so_far, turn-told}
 use Rattle.ea_sound.proofs.ChroniclePlaces.{OneMore, Stays}
 use Rattle.ea_sound.proofs.Fading.{make-fades}
 use Rattle.ea_sound.proofs.Global.{working-scheduler}
+use Rattle.ea_sound.proofs.GoneNames.{failed-none}
 use Rattle.ea_sound.proofs.HandedNames.{split-snoc}
 use Rattle.ea_sound.proofs.HeldBlocks.{not_held}
 use Rattle.ea_sound.proofs.Numbered.{scheduler-seat}
 use Rattle.ea_sound.proofs.Totals.{put-here, total-part, total-put}
-use Rattle.ea_sound.proofs.TurnLists.{run-snoc, step-ended, step-is}
+use Rattle.ea_sound.proofs.TurnLists.{run-snoc, step-ended, step-is, step-mine}
 
 -- the first of the operations makes a name that none of the others makes
 first-makes : (name : ℕ) (ops : List Op) → 0 < made_in name ops → made_in name (later ops) ≡ 0
@@ -58,6 +64,18 @@ first-makes name (o ∷ ops) some none = elim (cases_Bool (makes name o)) [
 later-fewer : (name : ℕ) (ops : List Op) → made_in name (later ops) ≤ made_in name ops
 later-fewer name [] = omega arith
 later-fewer name (o ∷ ops) = omega arith
+
+-- what is said by the last of a list is said by one of it
+any-last : (says : Entry → Bool) (xs : List Entry) (x : Entry) → says x ≡ true
+    → list_any says (xs ++ x ∷ []) ≡ true
+any-last says [] x is = by (says x) is where
+  by : (b : Bool) → b ≡ true → (b || false) ≡ true
+  by true is = refl
+  by false is = absurd cc
+any-last says (y ∷ xs) x is = either (says y) (any-last says xs x is) where
+  either : {c : Bool} (b : Bool) → c ≡ true → (b || c) ≡ true
+  either true is = refl
+  either false is = is
 
 -- what is still to be made are the operations left, but where a block is moving
 pub record IsMoving (st : Stage Content) : Type 0 where
@@ -233,6 +251,113 @@ module _ (e : Setup) (rules : (L : List ℕ) → Rule e (run e L)) (name : ℕ) 
   entry-holds op.Info x of is t never = absurd cc
   entry-holds op.Idle x of is t never = absurd cc
 
+  -- the old name of a reallocation is held before it
+  abbrev mid : Actor
+  mid = begun e L me
+
+  now : b ≡ observed (onward e me mid)
+  now = ap (λ (w : State). w.actors me) (run-snoc e L me) ∙ step-mine e (run e L) me works
+
+  -- the turn did more than a part of the begin
+  stays-begun : (st : Stage Content) → mid.stage ≡ st → onward_at e me mid st ≡ mid
+      → ((ops : List Op) → unplaced st ops ≡ ops) → mid.todo ≡ a.todo → ⊥
+  stays-begun st q same plain todo = omega (
+    arith,
+    share-before,
+    share-after,
+    unplaced-fewer name a.stage a.todo,
+    ap share (now ∙ ap (λ s. observed (onward_at e me mid s)) q ∙ ap observed same),
+    ap (λ s. made_in name (unplaced s mid.todo)) q,
+    ap (made_in name) (plain mid.todo ∙ todo),
+  )
+
+  module _ (old bytes : ℕ) (os : List Op) (todo : a.todo ≡ op.Realloc old name bytes ∷ os)
+      (none : made_in name (later a.todo) ≡ 0) where
+    asked-holds : (ask : Ask) → Asked e (run e L) a ask → HoldsAfter e L me old
+    asked-holds ask asked =
+        let of = subst (OfAsk ask) todo asked.of in (
+          of.2.0,
+          subst (λ n. named_at n a.held ≡ Some of.2.0) of.2.2
+              (subst (λ o. OldHeld o a.held) of.2.1 asked.old),
+        )
+
+    skips-none : mid.stage ≡ Ready → mid.todo ≡ a.todo → named_at old mid.held ≡ None → ⊥
+    skips-none ready same absent =
+        let skipped = subst (λ ops. HasSkipped mid ops (log_after e turn me)) (same ∙ todo)
+        (skips-unheld e L me ready) absent in
+        omega (
+          arith,
+          block,
+          failed-none e rules turn name me
+              (ap (list_any (says_failed name)) skipped
+              ∙ any-last (says_failed name) mid.log (entry.ReallocSkipped old name)
+              (grind arith)),
+        )
+
+    walk-holds : (st : Stage Content) → mid.stage ≡ st → Walks a mid → IsInBegin st
+        → HoldsAfter e L me old
+    walk-holds Ready q w is = by (named_at old mid.held) refl where
+      by : (o : Option Named) → named_at old mid.held ≡ o → HoldsAfter e L me old
+      by None held = absurd (skips-none q w.0.1 held)
+      by (Some x) held = (x, ap (named_at old) (sym w.2) ∙ held)
+    walk-holds Begin q w is = absurd (stays-begun Begin q refl (λ ops. refl) w.0.1)
+    walk-holds (Collecting c) q w is =
+        absurd (stays-begun (Collecting c) q refl (λ ops. refl) w.0.1)
+    walk-holds (Routed r Walk g) q w is =
+        absurd (stays-begun (Routed r Walk g) q refl (λ ops. refl) w.0.1)
+    walk-holds Ended q w is = absurd (stays-begun Ended q refl (λ ops. refl) w.0.1)
+    walk-holds (Routed r (For task) g) q w is = absurd is
+    walk-holds (Searching ask at part) q w is = absurd is
+    walk-holds (Fetching ask at part seen) q w is = absurd is
+    walk-holds (Creating ask p) q w is = absurd is
+    walk-holds (Giving h to) q w is = absurd is
+    walk-holds (Taking n tries left) q w is = absurd is
+
+    walked-holds : (st : Stage Content) → a.stage ≡ st → IsInBegin st → st ≢ Ended → st ≢ Ready
+        → HoldsAfter e L me old
+    walked-holds st q is ended ready =
+        let w = subst (λ s. Walks a (after_row e me a (answered (run e L) me) s)) (sym q)
+        (walks e me a st (answered (run e L) me) is ended ready) in
+        walk-holds mid.stage refl w w.1
+
+    old-at : (st : Stage Content) → a.stage ≡ st → Fits e (run e L) me a st
+        → HoldsAfter e L me old
+    old-at Begin q f = walked-holds Begin q tt (λ r. absurd cc) (λ r. absurd cc)
+    old-at (Routed r Walk g) q f =
+        walked-holds (Routed r Walk g) q tt (λ s. absurd cc) (λ s. absurd cc)
+    old-at (Collecting c) q f = walked-holds (Collecting c) q tt (λ r. absurd cc) (λ r. absurd cc)
+    old-at (Routed r (For (Freeing n)) g) q f = absurd (subst (OfTask (Freeing n)) todo f.1)
+    old-at (Routed r (For (Moving o n p)) g) q f = absurd (omega (
+      arith,
+      share-before,
+      none,
+      ap (λ s. made_in name (unplaced s a.todo)) q,
+    ))
+    old-at (Searching ask at part) q f = asked-holds ask f.0
+    old-at (Fetching ask at part seen) q f = asked-holds ask f.0
+    old-at (Creating ask p) q f = asked-holds ask f.0
+    old-at (Giving h to) q f =
+        absurd (let t : op.Realloc old name bytes ∷ os ≡ op.Give h.name to ∷ f.1.0
+        = sym todo ∙ f.1.1 in cc)
+    old-at (Taking n tries left) q f =
+        absurd (let t : op.Realloc old name bytes ∷ os ≡ op.Take n tries ∷ f.1.0
+        = sym todo ∙ f.1.1 in cc)
+    old-at Ended q f = absurd (works q)
+    old-at Ready q f = absurd f
+
+  old-holds : (o : Op) (os : List Op) → a.todo ≡ o ∷ os → makes name o ≡ true
+      → made_in name (later a.todo) ≡ 0 → HoldsOld e L me o
+  old-holds (op.Realloc old n bytes) os todo is none =
+      let same = eqb-true name n is in
+      old-at old bytes os (todo ∙ ap (λ k. op.Realloc old k bytes ∷ os) (sym same)) none
+      a.stage refl ((rules L).present.fits me)
+  old-holds (op.Alloc n bytes) os todo is none = tt
+  old-holds (op.Free n) os todo is none = tt
+  old-holds (op.Give n to) os todo is none = tt
+  old-holds (op.Take n tries) os todo is none = tt
+  old-holds op.Info os todo is none = tt
+  old-holds op.Idle os todo is none = tt
+
   -- the operation made its entry in this turn
   by-entry : OneMore e rules L me b → IsMadeBy e L me name
   by-entry m =
@@ -253,6 +378,7 @@ module _ (e : Setup) (rules : (L : List ℕ) → Rule e (run e L)) (name : ℕ) 
         holds = entry-holds f.0 m.entry
             (subst (λ o. Makes o m.entry) (sym (first-is f.0 f.1 f.2 m)) m.of.makes) f.3 m.tells
             (λ said. omega (arith, block, m.none name said));
+        old = old-holds f.0 f.1 f.2 f.3 none;
       } where
         same-first : (o p : Op) (os ps : List Op) → o ∷ os ≡ p ∷ ps → o ≡ p
         same-first o p os ps q = cc
@@ -286,6 +412,8 @@ module _ (e : Setup) (rules : (L : List ℕ) → Rule e (run e L)) (name : ℕ) 
             (subst (λ k. HoldsAfter e (told.1.before ++ me ∷ []) me k)
             (task-makes f.0 f.1 (subst (OfTask (Moving m.old m.fresh m.place)) f.2 told.0) f.3)
             told.1.holds);
+        old = old-holds f.0 f.1 (sym todo ∙ f.2) f.3
+            (ap (λ ops. made_in name (later ops)) (sym todo) ∙ none);
       } where
         task-makes : (o : Op) (os : List Op) → OfTask (Moving m.old m.fresh m.place) (o ∷ os)
             → makes name o ≡ true → m.fresh ≡ name

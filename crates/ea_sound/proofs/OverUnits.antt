@@ -1,6 +1,6 @@
 -- Blocks have units of their own, and keep them.
 use Rattle.std.proofs.Common.{◌≡◌, ◌≢◌, ◌⊎◌, ℕ, suc, ◌+◌, ◌-◌, ◌*◌, ◌/◌, ◌<◌, ◌≤◌, List, []}
-use Rattle.std.proofs.Common.{◌∷◌, refl, sym, ap, ◌∙◌, inl, inr}
+use Rattle.std.proofs.Common.{◌∷◌, refl, sym, ap, ◌∙◌, inl, inr, Bool, true, false}
 use Rattle.std.proofs.Common.{arith, ◌%◌, ◌&&◌, if◌then◌else◌, mul-le-mul_right, suc-mul}
 use Rattle.std.specs.Prelude.{◌==◌}
 use Rattle.std.proofs.lemmas.Bool.{cases_eq, cases_lt}
@@ -17,6 +17,7 @@ use Rattle.ea_machine.specs.Sums.{one_if, sum_over}
 use Rattle.ea_sound.specs.Contents.{sum_everywhere}
 use Rattle.ea_sound.specs.Names.{allocated, only}
 use Rattle.ea_sound.specs.Over.{HadUnits, KeepsUnits, LieApart, LiesOver, blocks_over, is_over}
+use Rattle.ea_sound.specs.Over.{units_if, units_named}
 use Rattle.ea_sound.specs.Places.{none}
 use Rattle.ea_sound.specs.Present.{Rule}
 use Rattle.ea_sound.specs.Ranges.{IsLaidOutAsKind}
@@ -30,7 +31,7 @@ use Rattle.ea_sound.proofs.SoundOwners.{number-once}
 use Rattle.ea_sound.proofs.SoundRanges.{apart, is-owned}
 use Rattle.ea_sound.proofs.Created.{scheduler-number}
 use Rattle.ea_sound.proofs.SumParts.{AreParts, sum-nothing, sum-parts}
-use Rattle.ea_sound.proofs.Weights.{sum-both, sum-less}
+use Rattle.ea_sound.proofs.Weights.{sum-both, sum-less, sum-none}
 
 -- the block of the name with these units
 abbrev over : ℕ → Range → ℕ → BlockAt → ℕ
@@ -174,6 +175,47 @@ find-one n r base at end (b ∷ bs) t some = elim (over-cases n r base b) [
       }
 ]
 
+-- where a block has the name and no other one has, its units are those of the name
+abbrev sized : ℕ → BlockAt → ℕ
+sized n b = units_if (b.name == n) b.size
+
+sized-none : (n : ℕ) (b : BlockAt) → one_if (b.name == n) ≡ 0 → sized n b ≡ 0
+sized-none n b none = by (b.name == n) none where
+  by : (t : Bool) → one_if t ≡ 0 → units_if t b.size ≡ 0
+  by true none = absurd (omega (arith, none))
+  by false none = refl
+
+sized-here : (n : ℕ) (b : BlockAt) → b.name ≡ n → sized n b ≡ b.size
+sized-here n b is = by (b.name == n) (grind (arith, is)) where
+  by : (t : Bool) → t ≡ true → units_if t b.size ≡ b.size
+  by true t = refl
+  by false t = absurd cc
+
+sized-in : (n : ℕ) (r : Range) (base : ℕ) (bs : List BlockAt) → 0 < sum_over (over n r base) bs
+    → sum_over (λ b. one_if (b.name == n)) bs ≤ 1 → sum_over (sized n) bs ≡ r.units
+sized-in n r base [] some once = absurd (omega (arith, some))
+sized-in n r base (b ∷ bs) some once = elim (over-cases n r base b) [
+  | inl is ↦
+      let this : one_if (b.name == n) ≡ 1 = let name = is.0 in grind (arith, name) in
+      omega (
+        arith,
+        is.2,
+        sized-here n b is.0,
+        sum-none (λ (c : BlockAt). one_if (c.name == n)) (sized n) bs (sized-none n)
+            (omega (arith, once, this)),
+      )
+  | inr none ↦
+      let later : 0 < sum_over (over n r base) bs = omega (arith, some, none) in
+      let few : sum_over (over n r base) bs ≤ sum_over (λ c. one_if (c.name == n)) bs =
+      sum-less (over n r base) (λ (c : BlockAt). one_if (c.name == n)) bs
+      (λ i d within. over-small n r base _) in
+      omega (
+        arith,
+        sized-none n b (omega (arith, once, later, few)),
+        sized-in n r base bs later (omega (arith, once)),
+      )
+]
+
 -- blocks of two names in one carrier
 apart-in : (n m : ℕ) (r q : Range) (base at end : ℕ) (bs : List BlockAt) → n ≢ m
     → Ordered at end bs → 0 < sum_over (over n r base) bs → 0 < sum_over (over m q base) bs
@@ -200,7 +242,7 @@ module _ (e : Setup) (w : State) (k : Kept e w) where
   in_content n r x = sum_over (over n r x.base) x.blocks
 
   -- some content has something of what all have
-  by-content : (f : Content → ℕ) → 0 < sum_everywhere e f w
+  pub by-content : (f : Content → ℕ) → 0 < sum_everywhere e f w
       → ((i : ℕ) (x : Content) → Belongs e i x → IsLaidOutAsKind x → Counts e w x → 0 < f x → ⊥) → ⊥
   by-content f some not =
       let parts = everywhere e w k (AreParts f none none none) (λ i x b l c.
@@ -314,6 +356,25 @@ module _ (e : Setup) (w : State) (k : Kept e w) where
       k.names.once n,
       named-allocated n,
     ));
+    sized = λ n r lies. elim (cases_eq (units_named e n w) r.units) [
+      | inl same ↦ same
+      | inr other ↦ absurd (by-content (in_content n r) lies (λ i x b l c has.
+          let named = blocks_named (all_of n) in
+          let once = k.names.once n in
+          let few = sum-less (over n r x.base) (λ (d : BlockAt). one_if (d.name == n)) x.blocks
+          (λ j d within. over-small n r x.base _) in
+          let whole = c.whole named in
+          let none = c.counted named (λ y. sum_over (sized n) y.blocks)
+          (λ y zero. sum-none (λ (d : BlockAt). one_if (d.name == n)) (sized n) y.blocks
+          (sized-none n) zero)
+          (omega (arith, once, whole, named-allocated n, has, few)) in
+          other (omega (
+            arith,
+            c.whole (λ y. sum_over (sized n) y.blocks),
+            none,
+            sized-in n r x.base x.blocks has (omega (arith, once, whole, named-allocated n)),
+          ))))
+    ];
     some = λ n r lies. elim (cases_lt 0 r.units) [
       | inl some ↦ some
       | inr none ↦ absurd (by-content (in_content n r) lies (λ i x b l c has.

@@ -1,5 +1,5 @@
 -- The units of the super carrier that blocks have, wherever their carriers are.
-use Rattle.std.specs.Prelude.{◌≡◌, ◌≢◌, ℕ, ◌+◌, ◌*◌, ◌<◌, ◌≤◌, Bool, ◌&&◌, ◌==◌, List, ◌++◌}
+use Rattle.std.specs.Prelude.{◌≡◌, ◌≢◌, ℕ, ◌+◌, ◌*◌, ◌<◌, ◌≤◌, Bool, true, false, ◌&&◌, ◌==◌, List, ◌++◌}
 use Rattle.ea_model.specs.declared.carriers.BlockAt.{BlockAt}
 use Rattle.ea_model.specs.declared.units.TheConstants.{PAGE_UNITS}
 use Rattle.ea_laws.specs.InOrder.{Range, RangesApart}
@@ -24,6 +24,16 @@ blocks_over setup name r state = sum_everywhere setup
 abbrev pub LiesOver : Setup → ℕ → Range → State → Type 0
 LiesOver setup name r state = 0 < blocks_over setup name r state
 
+-- the units of a block, if it has the name
+abbrev pub units_if : Bool → ℕ → ℕ
+units_if true units = units
+units_if false units = 0
+
+-- the units of the block of a name, or 0 where it has none
+abbrev pub units_named : Setup → ℕ → State → ℕ
+units_named setup name state = sum_everywhere setup
+    (λ x. sum_over (λ b. units_if (b.name == name) b.size) x.blocks) state
+
 -- as long as a name has a block, that keeps its units, though its carrier be fetched by others
 abbrev pub KeepsUnits : Setup → Type 0
 KeepsUnits setup = (name : ℕ) (r later : Range) (turns more : List ℕ)
@@ -42,6 +52,7 @@ pub record LieApart (setup : Setup) (state : State) : Type 0 where
   pub apart : (n m : ℕ) (r q : Range) → n ≢ m → LiesOver setup n r state
       → LiesOver setup m q state → RangesApart r q
   pub one : (n : ℕ) (r q : Range) → LiesOver setup n r state → LiesOver setup n q state → r ≡ q
+  pub sized : (n : ℕ) (r : Range) → LiesOver setup n r state → units_named setup n state ≡ r.units
   pub some : (n : ℕ) (r : Range) → LiesOver setup n r state → 1 ≤ r.units
   pub within : (n : ℕ) (r : Range) → LiesOver setup n r state
       → r.first + r.units ≤ PAGE_UNITS * (setup.schedulers * setup.pages)
