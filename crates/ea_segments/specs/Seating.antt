@@ -1,0 +1,36 @@
+-- Passes and their desk.
+use Rattle.std.specs.Prelude.{◌≡◌, ℕ, ◌+◌, List, ◌∷◌, ◌++◌, []}
+use Rattle.atomic_table.specs.Seated.{TableId}
+use Rattle.ea_segments.specs.declared.calls.Call.{Call}
+use Rattle.ea_segments.specs.declared.desk.Desk.{Desk}
+use Rattle.ea_segments.specs.declared.pass.Pass.{Pass}
+use Rattle.ea_segments.specs.declared.views.About.{About}
+use Rattle.ea_segments.specs.declared.views.Seated.{Seated}
+use Rattle.ea_segments.specs.Histories.{IsLegal, calls_of}
+use Rattle.ea_segments.specs.Ruling.{acting}
+
+-- the scheduler of a pass
+abbrev pub known : Pass → Seated
+known p = acting p.seat.me.0
+
+-- the pass is of this desk
+abbrev pub IsPassOf : Desk → Pass → Type 0
+IsPassOf d p = p.seat.table_id ≡ d.table.shared.table_id
+
+-- a pass of scheduler i that has made no call, and may make so many
+pub record IsFresh (id : TableId) (a : About) (i left : ℕ) (p : Pass) : Type 0 where
+  pub seated : p.seat.table_id ≡ id
+  pub known : acting p.seat.me.0
+      ≡ record { number = i; pages = a.pages; most = a.most; left = left; seen = []; mine = [] }
+
+-- the pass made that call. It has seen a legal history, which goes on from all that it had seen and
+-- ends with the call; and what it made are all calls of its scheduler in it
+pub record Called (v w : Seated) (call : Call) : Type 0 where
+  pub number : w.number ≡ v.number
+  pub pages : w.pages ≡ v.pages
+  pub left : w.left + 1 ≡ v.left
+  pub between : List Call
+  pub seen : w.seen ≡ v.seen ++ between ++ call ∷ []
+  pub legal : IsLegal v.pages w.seen
+  pub mine : w.mine ≡ v.mine ++ call ∷ []
+  pub all : calls_of v.number w.seen ≡ w.mine
