@@ -3,16 +3,25 @@ use Rattle.std.proofs.Common.{◌≡◌, ℕ, ◌+◌, ◌≤◌, false, List, [
 use Rattle.std.proofs.Common.{ap, ◌∙◌, subst, refl, arith}
 use Rattle.atomic_table.specs.Table.{Allows, Me, Step, rest}
 use Rattle.ea_segments.specs.declared.calls.Call.{Call}
+use Rattle.ea_segments.specs.declared.calls.Reply.{Reply}
+use Rattle.ea_segments.specs.declared.calls.Request.{Request}
+use Rattle.ea_segments.specs.declared.calls.Request.TheVariants.{Back, Take}
 use Rattle.ea_segments.specs.declared.views.About.{About}
 use Rattle.ea_segments.specs.declared.views.View.{View}
 use Rattle.ea_segments.specs.Accounts.{Account}
-use Rattle.ea_segments.specs.Histories.{IsLegal, calls_of}
+use Rattle.ea_segments.specs.Histories.{IsLegal, IsSoundThroughout, calls_of}
+use Rattle.ea_segments.specs.Requests.{call_of}
 use Rattle.ea_segments.specs.Ruling.{IsSingle, Won, acting, carried, ends, holds, released}
 use Rattle.ea_segments.specs.Seating.{Called}
+use Rattle.ea_segments.proofs.Legal.{sound-throughout}
 use Rattle.ea_segments.proofs.Locking.{calls-own, drop-front, may-end}
 
 first-carried : (x y : Account) (xs ys : List (ℕ × Account)) → (0, x) ∷ xs ≡ (0, y) ∷ ys → x ≡ y
 first-carried x y xs ys e = ap carried e
+
+pub call-scheduler : (i : ℕ) (q : Request) (r : Reply) → (call_of i q r).scheduler ≡ i
+call-scheduler i (Take name pages) r = refl
+call-scheduler i (Back name) r = refl
 
 -- n is the seat with the ledger, and x the ledger in it; y is what the call made of that
 module _ (m n : Me Account View) (bare : m.1 ≡ []) (won : Won m n) (x y : Account)
@@ -80,6 +89,11 @@ module _ (m n : Me Account View) (bare : m.1 ≡ []) (won : Won m n) (x y : Acco
     number-after = ap (λ (u : View). (acting u).number) is
         ∙ ap (λ (u : View). (acting u).number) won.view
 
+    legal-here : IsLegal (acting m.0).pages y.history
+    legal-here = subst (λ p. IsLegal p y.history)
+        (ap (λ (z : Account). z.pages) added ∙ ap (λ (z : Account). z.pages) same ∙ won.pages)
+        legal
+
     pub called : Called (acting m.0) (acting k.0) c
     called = record {
       number = number-after;
@@ -97,9 +111,10 @@ module _ (m n : Me Account View) (bare : m.1 ≡ []) (won : Won m n) (x y : Acco
           (ap (λ (z : Account). z.history) same ∙ won.front.1);
       legal = subst (IsLegal (acting m.0).pages)
           (sym (ap (λ (u : View). (acting u).seen) is))
-          (subst (λ p. IsLegal p y.history)
-          (ap (λ (z : Account). z.pages) added ∙ ap (λ (z : Account). z.pages) same ∙ won.pages)
-          legal);
+          legal-here;
+      sound = subst (IsSoundThroughout (acting m.0).pages)
+          (sym (ap (λ (u : View). (acting u).seen) is))
+          (sound-throughout (acting m.0).pages y.history legal-here);
       mine = mine;
       all = ap (calls_of (acting m.0).number)
           (ap (λ (u : View). (acting u).seen) is ∙ history)

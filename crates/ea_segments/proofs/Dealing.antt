@@ -15,6 +15,7 @@ use Rattle.ea_segments.specs.declared.views.About.{About}
 use Rattle.ea_segments.specs.declared.views.Seated.{Seated}
 use Rattle.ea_segments.specs.declared.views.View.{View}
 use Rattle.ea_segments.specs.Accounts.{Account}
+use Rattle.ea_segments.specs.Histories.{IsByOneOf}
 use Rattle.ea_segments.specs.Ruling.{IsOf, IsTaken, Sits, acting, after_first}
 use Rattle.ea_segments.specs.Ruling.{dealt_left, dealt_right, first, holds, left_in, spent_view}
 use Rattle.ea_segments.specs.Ruling.{taken_in, waiting_from}
@@ -67,7 +68,7 @@ opens a x is enough = record {
     sum_by-cons left_in (first a) [],
     waiting-left a.pages a.most 1 a.calls.items,
   );
-  theirs = All-nil (λ (c : Call). (1 ≤ c.scheduler) × (c.scheduler ≤ length a.calls.items));
+  theirs = All-nil (IsByOneOf (length a.calls.items));
   lock = inl (record {
     words = refl;
     account = x;
@@ -120,6 +121,13 @@ module _ (a : About) (log : List Call) where
         seen = s.seen;
         mine = s.mine;
       }
+
+-- a seat without the lock is not the one that has it
+not-holder : (id : ℕ) (v : View) (s : State Account View) (log : List Call)
+    → v.holds ≡ false → get_elem? s.views id ≡ some v → (t : IsTaken log s) → t.holder ≢ id
+not-holder id v s log free there t e =
+    let same = some-injective v _ (sym there ∙ ap (get_elem? s.views) (sym e) ∙ t.there) in
+    let never : true ≡ false = sym (ap (λ (u : View). u.holds) same) ∙ free in cc
 
 pub splits : (a : About) (id : ℕ) (v : View)
     → v.seated ≡ acting v ∷ after_first v.seated
@@ -187,12 +195,10 @@ splits a id v is differ free s h there =
           ];
         })
         | inr t ↦ inr (record {
-          word = t.word;
+          by = t.by;
           words = t.words;
-          some_word = t.some_word;
           homes = t.homes;
           holder = t.holder;
-          by = t.by;
           there = at_longer (set s.views id (dealt_left v)) (dealt_right v ∷ []) t.holder _
               (set_else s.views id t.holder (dealt_left v) (not-holder id v s h.log free there t)
               ∙ t.there);
@@ -212,12 +218,6 @@ splits a id v is differ free s h there =
 
       here : (s n : ℕ) (f : ℕ → ℕ) → seat_put f s n s ≡ n
       here s n f = grind arith
-
-      not-holder : (id : ℕ) (v : View) (s : State Account View) (log : List Call)
-          → v.holds ≡ false → get_elem? s.views id ≡ some v → (t : IsTaken log s) → t.holder ≢ id
-      not-holder id v s log free there t e =
-          let same = some-injective v _ (sym there ∙ ap (get_elem? s.views) (sym e) ∙ t.there) in
-          let never : true ≡ false = sym (ap (λ (u : View). u.holds) same) ∙ free in cc
 
 pub joins : (a : About) (id : ℕ) (v : View) (other : ℕ) (u : View) → v.holds ≡ false
     → u.holds ≡ false → Joins (holds a) id v other u (taken_in v u) spent_view
@@ -274,12 +274,10 @@ joins a id v other u free free' s h there apart there' =
           ];
         })
         | inr t ↦ inr (record {
-          word = t.word;
+          by = t.by;
           words = t.words;
-          some_word = t.some_word;
           homes = t.homes;
           holder = t.holder;
-          by = t.by;
           there = set_else views other t.holder spent_view
               (not-holder other u s h.log free' from t)
               ∙ set_else s.views id t.holder (taken_in v u) (not-holder id v s h.log free there t)
@@ -300,9 +298,3 @@ joins a id v other u free free' s h there apart there' =
 
       comes : (f : ℕ → ℕ) (other id n : ℕ) → f n ≡ other → seat_moved f other id n ≡ id
       comes f other id n same = grind (arith, same)
-
-      not-holder : (id : ℕ) (v : View) (s : State Account View) (log : List Call)
-          → v.holds ≡ false → get_elem? s.views id ≡ some v → (t : IsTaken log s) → t.holder ≢ id
-      not-holder id v s log free there t e =
-          let same = some-injective v _ (sym there ∙ ap (get_elem? s.views) (sym e) ∙ t.there) in
-          let never : true ≡ false = sym (ap (λ (u : View). u.holds) same) ∙ free in cc

@@ -14,9 +14,9 @@ use Rattle.ea_segments.specs.declared.views.About.{About}
 use Rattle.ea_segments.specs.declared.views.Seated.{Seated}
 use Rattle.ea_segments.specs.declared.views.View.{View}
 use Rattle.ea_segments.specs.Accounts.{Account}
-use Rattle.ea_segments.specs.Histories.{StartsWith, calls_of}
+use Rattle.ea_segments.specs.Histories.{IsByOneOf, StartsWith, calls_of}
 use Rattle.ea_segments.specs.Ruling.{IsSingle, Sits, acting, holds, taken_in}
-use Rattle.ea_segments.specs.Seating.{known}
+use Rattle.ea_segments.specs.Seating.{IsAmong, known}
 
 -- the view of a seat with these schedulers beside its own
 abbrev pub beside : View → List Seated → View
@@ -42,7 +42,7 @@ module _ (a : About) where
   pub record IsClosed (v : View) (y : Account) : Type 0 where
     pub pages : y.pages ≡ a.pages
     pub each : All (Told y.history) v.seated
-    pub theirs : All (λ c. (1 ≤ c.scheduler) × (c.scheduler ≤ length a.calls.items)) y.history
+    pub theirs : All (IsByOneOf (length a.calls.items)) y.history
 
   told-of : (log : List Call) (seat_of : ℕ → ℕ) (j : ℕ) (xs : List Seated)
       → All (Sits a log seat_of j) xs → All (Told log) xs
@@ -62,8 +62,7 @@ module _ (a : About) where
           pages = ap (λ (z : Account). z.pages) same ∙ f.is.pages;
           each = subst (λ l. All (Told l) v.seated) (sym log)
               (told-of h.log h.seat_of id v.seated (h.each_seat id v there));
-          theirs = subst (All (λ (c : Call). (1 ≤ c.scheduler)
-              × (c.scheduler ≤ length a.calls.items))) (sym log) h.theirs;
+          theirs = subst (All (IsByOneOf (length a.calls.items))) (sym log) h.theirs;
         }
     | inr t ↦
         let by = All-head (Sits a h.log h.seat_of t.holder) t.by []
@@ -90,13 +89,9 @@ each-pass P others last passes are all =
     (All-nil (λ (p : Pass). P (known p)))))
 
 -- no scheduler is missing
-pub none-missing : (N : ℕ) (others : List Pass) (last : Pass) (passes : List Pass)
-    → passes ≡ others ++ last ∷ [] → length passes ≡ N
-    → ((k : ℕ) (d : Pass) → k < length passes → (known (get_or passes k d)).number ≡ k + 1)
-    → (n : ℕ) → 1 ≤ n → n ≤ N
+pub none-missing : (others : List Pass) (last : Pass) (passes : List Pass)
+    → passes ≡ others ++ last ∷ [] → (n : ℕ) → IsAmong n passes
     → All (λ x. x.number ≢ n)
     (acting last.seat.me.0 ∷ map (λ (p : Pass). acting p.seat.me.0) others) → ⊥
-none-missing N others last passes are count numbers n low high all =
-    let each = each-pass (λ (x : Seated). x.number ≢ n) others last passes are all in
-    let less : n - 1 < length passes = omega (arith, low, high, count) in
-    each (n - 1) last less (numbers (n - 1) last less ∙ (let e : n - 1 + 1 ≡ n = omega (arith, low) in e))
+none-missing others last passes are n (k, within, is) all =
+    each-pass (λ (x : Seated). x.number ≢ n) others last passes are all k last within (is last)

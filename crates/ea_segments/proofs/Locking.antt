@@ -18,7 +18,7 @@ use Rattle.ea_segments.specs.declared.views.About.{About}
 use Rattle.ea_segments.specs.declared.views.Seated.{Seated}
 use Rattle.ea_segments.specs.declared.views.View.{View}
 use Rattle.ea_segments.specs.Accounts.{Account}
-use Rattle.ea_segments.specs.Histories.{StartsWith, calls_of}
+use Rattle.ea_segments.specs.Histories.{IsByOneOf, StartsWith, calls_of}
 use Rattle.ea_segments.specs.Ruling.{IsFree, IsSingle, IsTaken, Keeps, Sits, Won, acting}
 use Rattle.ea_segments.specs.Ruling.{ends, holds, left_in, left_of, locked, released, tries}
 use prog.Atomic.{either}
@@ -106,11 +106,11 @@ module _ (a : About) where
       sits = sits-one h.log h.seat_of id v is (h.each_seat id v there)
 
       -- the lock is won
-      won : (number : ℕ) → number ≢ 0 → (f : IsFree a h.log s)
+      won : (number : ℕ) → number ≡ (acting v).number → (f : IsFree a h.log s)
           → Valid s.homes [] (takes 0 f.account)
           × holds a (stepped s 0 number id [] (locked v f.account.history) (takes 0 f.account))
           × Won (v, []) (locked v f.account.history, carried_after [] (takes 0 f.account))
-      won number some_number f =
+      won number is_own f =
           let x = f.account in
           let w = locked v x.history in
           let me : Seated = record (acting v) { seen = x.history } in
@@ -136,12 +136,11 @@ module _ (a : About) where
               room = omega (arith, h.room, left-set s.views id v w there, same);
               theirs = h.theirs;
               lock = inr (record {
-                word = number;
-                words = ap (λ (ws : List ℕ). set ws 0 number) f.words;
-                some_word = some_number;
+                by = me;
+                words = ap (λ (ws : List ℕ). set ws 0 number) f.words
+                    ∙ ap (λ n. n ∷ []) is_own;
                 homes = ap (λ hs. set hs 0 none) f.homes;
                 holder = id;
-                by = me;
                 there = put_here s.views id v w there;
                 seen = f.is.history;
                 idle = λ j u there' other. elim (at_set s.views id j w u there') [
@@ -171,7 +170,7 @@ module _ (a : About) where
 
       -- the table is as it was
       word-of : (n : ℕ) × (s.words ≡ n ∷ [])
-      word-of = elim h.lock [ inl f ↦ (0, f.words) | inr t ↦ (t.word, t.words) ]
+      word-of = elim h.lock [ inl f ↦ (0, f.words) | inr t ↦ (t.by.number, t.words) ]
 
       stays : (found : ℕ) → found ≡ slice_index s.words 0
           → holds a (stepped s 0 found id [] v keeps)
@@ -184,23 +183,30 @@ module _ (a : About) where
           (subst (λ (us : List View).
           holds a (record { words = s.words; homes = s.homes; views = us })) (sym views) h)
 
-      tried : (number : ℕ) → number ≢ 0
+      -- a word that is taken is the holder's number, which isn't 0
+      taken-word : (t : IsTaken h.log s) → slice_index s.words 0 ≢ 0
+      taken-word t zero_word =
+          let by = sits-one h.log h.seat_of t.holder (record { holds = true; seated = t.by ∷ [] })
+          refl (h.each_seat t.holder (record { holds = true; seated = t.by ∷ [] }) t.there) in
+          omega (arith, by.within.0, first-word s.words t.by.number t.words, zero_word)
+
+      tried : (number : ℕ) → number ≡ (acting v).number
           → Leaves [] (λ n. either (n == 0) number n) (tries st (v, [])) s
-      tried number some_number =
+      tried number is_own =
           let found = slice_index s.words 0 in
           exchanged found 0 number
           (λ k. (w : View) × (x : Act Account) × Valid s.homes [] x
           × holds a (stepped s 0 k id [] w x)
           × tries st (v, []) found (w, carried_after [] x))
           (λ hit. elim h.lock [
-            | inl f ↦ let (valid, rule, told) = won number some_number f in (
+            | inl f ↦ let (valid, rule, told) = won number is_own f in (
               locked v f.account.history,
               takes 0 f.account,
               valid,
               rule,
               ((λ q. told), (λ q. absurd (q hit))),
             )
-            | inr t ↦ absurd (t.some_word (sym (first-word s.words t.word t.words) ∙ hit))
+            | inr t ↦ absurd (taken-word t hit)
           ])
           (λ miss. (v, keeps, tt, stays found refl, ((λ q. absurd (miss q)), (λ q. refl))))
 
@@ -278,15 +284,11 @@ module _ (a : About) where
                 ap length grown,
                 length_push h.log c,
               );
-              theirs = subst (All (λ (d : Call). (1 ≤ d.scheduler)
-                  × (d.scheduler ≤ length a.calls.items))) (sym grown)
-                  (All-append (λ (d : Call). (1 ≤ d.scheduler)
-                  × (d.scheduler ≤ length a.calls.items)) h.log (c ∷ []) h.theirs
-                  (All-cons (λ (d : Call). (1 ≤ d.scheduler)
-                  × (d.scheduler ≤ length a.calls.items)) c []
+              theirs = subst (All (IsByOneOf (length a.calls.items))) (sym grown)
+                  (All-append (IsByOneOf (length a.calls.items)) h.log (c ∷ []) h.theirs
+                  (All-cons (IsByOneOf (length a.calls.items)) c []
                   (omega (arith, number, sits.within.0), omega (arith, number, sits.within.1))
-                  (All-nil (λ (d : Call). (1 ≤ d.scheduler)
-                  × (d.scheduler ≤ length a.calls.items)))));
+                  (All-nil (IsByOneOf (length a.calls.items)))));
               lock = inl (record {
                 words = ap (λ (ws : List ℕ). set ws 0 0) t.words;
                 account = x;
@@ -310,9 +312,9 @@ module _ (a : About) where
         ]
 
     -- a seat without the lock may try for it
-    pub may-try : (number : ℕ) → number ≢ 0
+    pub may-try : (number : ℕ) → number ≡ (acting v).number
         → Allows (holds a) slots id (v, []) 0 (λ n. either (n == 0) number n) (tries st (v, []))
-    may-try number some_number s h count there bound = tried s h there number some_number
+    may-try number is_own s h count there bound = tried s h there number is_own
 
     -- a seat that has it may give the ledger back, with one more call of its scheduler
     pub may-end : (xs : List (ℕ × Account)) (x : Account) (c : Call) → xs ≡ (0, x) ∷ []

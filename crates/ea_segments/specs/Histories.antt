@@ -83,7 +83,7 @@ next s c = left_by c.reply c s
 abbrev pub stands : List Call → Standing
 stands cs = fold next start cs
 
--- the reply to one that asks for pages, by the lowest run that has so many
+-- the reply to a call that asks for pages, by the lowest run that has that many
 abbrev pub reply_to_run : Option ℕ → Reply
 reply_to_run None = NoRun
 reply_to_run (Some at) = At at
@@ -92,7 +92,7 @@ abbrev pub reply_to_take : ℕ → ℕ → List Held → Reply
 reply_to_take total pages hs = if nat_le MAX_SEGMENTS (length hs) then Full
     else reply_to_run (lowest_run pages (runs 0 total (segments hs)))
 
--- the reply to one that gives a segment back, by the segment
+-- the reply to a call that gives a segment back, by the segment
 abbrev pub reply_to_back : Option Held → Reply
 reply_to_back None = Skipped
 reply_to_back (Some h) = Done
@@ -114,6 +114,10 @@ IsLegal total cs = IsLegalFrom total start cs
 -- the calls of a scheduler
 abbrev pub calls_of : ℕ → List Call → List Call
 calls_of i cs = filter (λ c. c.scheduler == i) cs
+
+-- the call is of one of the schedulers 1 to n
+abbrev pub IsByOneOf : ℕ → Call → Type 0
+IsByOneOf n c = (1 ≤ c.scheduler) × (c.scheduler ≤ n)
 
 -- how often a number is among these
 abbrev pub times : ℕ → List ℕ → ℕ

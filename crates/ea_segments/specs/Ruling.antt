@@ -10,7 +10,7 @@ use Rattle.ea_segments.specs.declared.views.About.{About}
 use Rattle.ea_segments.specs.declared.views.Seated.{Seated}
 use Rattle.ea_segments.specs.declared.views.View.{View}
 use Rattle.ea_segments.specs.Accounts.{Account}
-use Rattle.ea_segments.specs.Histories.{StartsWith, calls_of}
+use Rattle.ea_segments.specs.Histories.{IsByOneOf, StartsWith, calls_of}
 
 -- the scheduler whose calls a seat makes
 
@@ -57,14 +57,12 @@ pub record IsFree (a : About) (log : List Call) (s : table.State Account View) :
   pub is : IsOf a log account
   pub idle : (j : ℕ) (v : View) → get_elem? s.views j ≡ some v → v.holds ≡ false
 
--- one seat has it, and had seen the history when it took it
+-- the seat of one scheduler has it, whose number the word is; it had seen the history when it took it
 pub record IsTaken (log : List Call) (s : table.State Account View) : Type 0 where
-  pub word : ℕ
-  pub words : s.words ≡ word ∷ []
-  pub some_word : word ≢ 0
+  pub by : Seated
+  pub words : s.words ≡ by.number ∷ []
   pub homes : s.homes ≡ none ∷ []
   pub holder : ℕ
-  pub by : Seated
   pub there : get_elem? s.views holder ≡ some (record { holds = true; seated = by ∷ [] })
   pub seen : by.seen ≡ log
   pub idle : (j : ℕ) (v : View) → get_elem? s.views j ≡ some v → j ≢ holder → v.holds ≡ false
@@ -83,14 +81,14 @@ pub record Keeps (a : About) (s : table.State Account View) : Type 0 where
   pub each_seat : (j : ℕ) (v : View) → get_elem? s.views j ≡ some v
       → All (Sits a log seat_of j) v.seated
   pub room : left_of s.views + length log ≤ a.most
-  pub theirs : All (λ c. (1 ≤ c.scheduler) × (c.scheduler ≤ length a.calls.items)) log
+  pub theirs : All (IsByOneOf (length a.calls.items)) log
   pub lock : IsFree a log s ⊎ IsTaken log s
 
 -- the rule of the table
 abbrev pub holds : About → table.State Account View → Type 0
 holds a s = Keeps a s
 
--- schedulers before their first call, from number i on, that have these numbers of calls left
+-- schedulers before their first call, from number i on, with that many calls left to each
 abbrev pub waiting_from : (pages most : ℕ) → ℕ → List ℕ → List Seated
 waiting_from pages most i [] = []
 waiting_from pages most i (n ∷ ns) =

@@ -2,8 +2,8 @@
 ghost use Rattle.std.specs.Prelude.{◌≡◌, ℕ, ◌+◌, ◌<◌, ◌≤◌, ◌++◌, false, All, length, map};
 ghost use Rattle.std.specs.Prelude.{slice_index_or, sum_by};
 ghost use Rattle.ea_segments.specs.Ruling.{acting};
-ghost use Rattle.ea_segments.specs.Histories.{IsLegal, StartsWith, calls_of, stands};
-ghost use Rattle.ea_segments.specs.Seating.{IsPassOf, known};
+ghost use Rattle.ea_segments.specs.Histories.{IsByOneOf, IsLegal, IsSoundThroughout, StartsWith, calls_of, stands};
+ghost use Rattle.ea_segments.specs.Seating.{IsAmong, IsPassOf, known};
 
 use crate::calls::Book;
 use crate::desk::Desk;
@@ -41,23 +41,20 @@ fn take_in(
     seat
 }
 
-/// The book of a region whose passes are back, each once and in order: all calls that were made on
-/// it. Each reply is the one that one thread gets at that point.
+/// The book of a region whose passes are all back, each once: the calls that were made on it. Each
+/// reply is the one that one thread gets at that point; at each point the segments that are taken
+/// have no page in common, and each goes back once at most.
 pub fn close(desk: Desk, passes: List<Pass>) -> Book
     requires some { 1 ≤ length passes.items }
     requires all { length passes.items ≡ length desk.table.shared.key.calls.items }
-    requires each { (k : ℕ) (d : _) → k < length passes.items
-        → IsPassOf desk (slice_index_or passes.items k d) }
-    requires numbers { (k : ℕ) (d : _) → k < length passes.items
-        → (known (slice_index_or passes.items k d)).number ≡ k + 1 }
+    requires theirs { All (IsPassOf desk) passes.items }
+    requires once { (i : ℕ) → 1 ≤ i → i ≤ length passes.items → IsAmong i passes.items }
     ensures legal { IsLegal desk.table.shared.key.pages result.history.items }
-    ensures seen { (k : ℕ) (d : _) → k < length passes.items
-        → StartsWith result.history.items (known (slice_index_or passes.items k d)).seen }
-    ensures mine { (k : ℕ) (d : _) → k < length passes.items
-        → calls_of (k + 1) result.history.items
-        ≡ (known (slice_index_or passes.items k d)).mine }
-    ensures theirs { All (λ c. (1 ≤ c.scheduler) × (c.scheduler ≤ length passes.items))
-        result.history.items }
+    ensures sound { IsSoundThroughout desk.table.shared.key.pages result.history.items }
+    ensures seen { All (λ p. StartsWith result.history.items (known p).seen) passes.items }
+    ensures mine { All (λ p. calls_of (known p).number result.history.items ≡ (known p).mine)
+        passes.items }
+    ensures theirs { All (IsByOneOf (length passes.items)) result.history.items }
     ensures segments { result.segments ≡ length (stands result.history.items).held }
     ensures pages { result.pages ≡ sum_by (λ h. h.pages) (stands result.history.items).held }
     ensures free { result.free + result.pages ≡ desk.table.shared.key.pages }

@@ -7,8 +7,9 @@ ghost use Rattle.ea_model.specs.declared.units.TheConstants.{MAX_OPS};
 ghost use Rattle.ea_segments.specs.declared.calls.TheConstants.{MAX_SEGMENTS};
 ghost use Rattle.ea_segments.specs.Histories.{IsLegal, next, oldest, reply_at, reply_to_back};
 ghost use Rattle.ea_segments.specs.Histories.{reply_to_take, segments, standing, stands};
+ghost use Rattle.ea_segments.specs.Requests.{IsRequest, call_of};
 
-use crate::calls::{Book, Call, MAX_SEGMENTS, Reply};
+use crate::calls::{Book, Call, MAX_SEGMENTS, Reply, Request, call_of};
 use crate::held::{Held, lowest_start, oldest_of, pages_of};
 use ea_model::keyed::{enter_within, take_out};
 use ea_model::{List, OutOfMemory};
@@ -76,7 +77,7 @@ fn carry_out(held: &mut Vec<Held>, call: Call, turn: u32)
 
 impl Ledger {
     /// A region of `pages` pages, all free, with room for that many calls.
-    pub fn new(alloc: Global, pages: u32, most: u32) -> Result<Ledger, OutOfMemory>
+    pub(crate) fn new(alloc: Global, pages: u32, most: u32) -> Result<Ledger, OutOfMemory>
         requires { most ≤ MAX_OPS }
         ensures { IfOk result (λ l. l ≡ record { pages = pages; most = most; history = [] }) }
     {
@@ -125,56 +126,36 @@ impl Ledger {
         self.history.push_within(call);
     }
 
-    /// Scheduler `scheduler` asks for that many pages under a name.
-    pub fn take(&mut self, scheduler: u32, name: u32, pages: u32) -> Reply
-        requires some { 1 ≤ pages }
-        requires room { length self.old.history < self.old.most }
-        ensures added { self.new ≡ record self.old {
-          history = self.old.history ++ record {
-            scheduler = scheduler;
-            name = name;
-            pages = pages;
-            reply = result;
-          } ∷ [];
-        } }
-        ensures legal { IsLegal self.new.pages self.new.history }
+    /// The reply that one thread gets now.
+    fn reply_to(&self, scheduler: u32, request: Request) -> Reply
+        requires { IsRequest request }
+        ensures { result ≡ reply_at self.now.pages (stands self.now.history)
+            (call_of scheduler request result) }
     {
-        let reply = self.reply_to_take(pages);
-        self.add(Call {
-            scheduler,
-            name,
-            pages,
-            reply,
-        });
-        reply
+        match request {
+            Request::Take { pages, .. } => self.reply_to_take(pages),
+            Request::Back { name } => self.reply_to_back(scheduler, name),
+        }
     }
 
-    /// Scheduler `scheduler` gives the segment back that it took under a name: of several the one
-    /// that it took first.
-    pub fn back(&mut self, scheduler: u32, name: u32) -> Reply
+    /// Answers a request of a scheduler, and adds the call. Pages that are asked for are those of the
+    /// lowest free run that has that many; of several segments of a name the one that the scheduler
+    /// took first goes back.
+    pub(crate) fn answer(&mut self, scheduler: u32, request: Request) -> Reply
+        requires is { IsRequest request }
         requires room { length self.old.history < self.old.most }
         ensures added { self.new ≡ record self.old {
-          history = self.old.history ++ record {
-            scheduler = scheduler;
-            name = name;
-            pages = 0;
-            reply = result;
-          } ∷ [];
+          history = self.old.history ++ call_of scheduler request result ∷ [];
         } }
         ensures legal { IsLegal self.new.pages self.new.history }
     {
-        let reply = self.reply_to_back(scheduler, name);
-        self.add(Call {
-            scheduler,
-            name,
-            pages: 0,
-            reply,
-        });
+        let reply = self.reply_to(scheduler, request);
+        self.add(call_of(scheduler, request, reply));
         reply
     }
 
     /// Its history, and what stands after it.
-    pub fn into_book(self) -> Book
+    pub(crate) fn into_book(self) -> Book
         ensures history { result.history.items ≡ self.history }
         ensures legal { IsLegal self.pages self.history }
         ensures segments { result.segments ≡ length (stands self.history).held }

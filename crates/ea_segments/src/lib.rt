@@ -12,26 +12,22 @@ mod calls;
 mod closing;
 mod desk;
 mod held;
-mod laws;
 mod ledger;
 mod making;
 mod pass;
 mod playing;
-mod requests;
 mod rule;
 #[cfg(test)]
 mod tests;
 mod views;
 
-pub use calls::{Book, Call, MAX_SEGMENTS, Reply};
+pub use calls::{Book, Call, MAX_SEGMENTS, Reply, Request};
 pub use closing::close;
 pub use desk::Desk;
 pub use held::Held;
-pub use laws::soundness;
 pub use ledger::Ledger;
 pub use making::{Start, make_passes};
 pub use pass::Pass;
 pub use playing::play;
-pub use requests::Request;
-pub use rule::{Deals, Ends, Locked, TakesIn, Tries};
+pub use rule::Locked;
 pub use views::{About, Seated, View};

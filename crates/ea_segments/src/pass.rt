@@ -2,7 +2,7 @@
 ghost use Rattle.std.specs.Prelude.{◌≡◌, ◌≢◌, ◌<◌, ◌≤◌, false, [], ◌∷◌};
 ghost use Rattle.ea_segments.specs.Ruling.{IsSingle, Won, acting};
 
-use crate::calls::Reply;
+use crate::calls::{Reply, Request};
 use crate::desk::Desk;
 use crate::ledger::Ledger;
 use crate::rule::{Ends, Tries};
@@ -20,7 +20,6 @@ pub struct Pass {
     ghost idle: { seat.me.0.holds ≡ false },
     ghost single: { IsSingle seat.me.0 },
     ghost number_is: { number ≡ (acting seat.me.0).number },
-    ghost some_number: { 1 ≤ number },
 }
 
 /// Tries for the lock until it is won.
@@ -29,7 +28,7 @@ fn lock<W: Wait>(wait: &W, desk: &Desk, seat: &mut Seat<Ledger, View>, number: u
     requires bare { seat.old.me.1 ≡ [] }
     requires idle { seat.old.me.0.holds ≡ false }
     requires single { IsSingle seat.old.me.0 }
-    requires number { 1 ≤ number }
+    requires number { number ≡ (acting seat.old.me.0).number }
     ensures seated { seat.new.table_id ≡ seat.old.table_id }
     ensures won { Won seat.old.me seat.new.me }
 {
@@ -48,9 +47,30 @@ fn lock<W: Wait>(wait: &W, desk: &Desk, seat: &mut Seat<Ledger, View>, number: u
 
 impl Pass {
     ghost use Rattle.ea_segments.specs.declared.calls.Call.{Call};
+    ghost use Rattle.ea_segments.specs.Requests.{IsRequest, asked, call_of};
     ghost use Rattle.ea_segments.specs.Seating.{Called, IsPassOf, known};
 
-    /// Asks for that many pages under a name.
+    /// Makes a request while it has the lock.
+    pub(crate) fn ask<W: Wait>(&mut self, wait: &W, desk: &Desk, request: Request) -> Reply
+        requires seated { IsPassOf desk.now self.old }
+        requires left { 1 ≤ (known self.old).left }
+        requires is { IsRequest request }
+        ensures seated { self.new.seat.table_id ≡ self.old.seat.table_id }
+        ensures called { Called (known self.old) (known self.new)
+            (call_of (known self.old).number request result) }
+        ensures asked { asked (call_of (known self.old).number request result) ≡ request }
+    {
+        lock(wait, desk, &mut self.seat, self.number);
+        let reply = self
+            .seat
+            .slot_mut(&desk.table.shared, 0)
+            .answer(self.number, request);
+        desk.table.shared.store::<Ends>(&mut self.seat, 0, 0);
+        reply
+    }
+
+    /// Asks for a segment of `pages` pages under a name: the reply is where it begins, or why none
+    /// was taken. It waits for the lock, and takes no memory.
     pub fn take<W: Wait>(&mut self, wait: &W, desk: &Desk, name: u32, pages: u32) -> Reply
         requires seated { IsPassOf desk.now self.old }
         requires left { 1 ≤ (known self.old).left }
@@ -63,17 +83,12 @@ impl Pass {
           reply = result;
         }) }
     {
-        lock(wait, desk, &mut self.seat, self.number);
-        let reply = self
-            .seat
-            .slot_mut(&desk.table.shared, 0)
-            .take(self.number, name, pages);
-        desk.table.shared.store::<Ends>(&mut self.seat, 0, 0);
-        reply
+        self.ask(wait, desk, Request::Take { name, pages })
     }
 
     /// Gives the segment back that the scheduler took under a name: of several the one that it took
-    /// first.
+    /// first. The reply is Done, or Skipped where there is none. It waits for the lock, and takes
+    /// no memory.
     pub fn back<W: Wait>(&mut self, wait: &W, desk: &Desk, name: u32) -> Reply
         requires seated { IsPassOf desk.now self.old }
         requires left { 1 ≤ (known self.old).left }
@@ -85,12 +100,6 @@ impl Pass {
           reply = result;
         }) }
     {
-        lock(wait, desk, &mut self.seat, self.number);
-        let reply = self
-            .seat
-            .slot_mut(&desk.table.shared, 0)
-            .back(self.number, name);
-        desk.table.shared.store::<Ends>(&mut self.seat, 0, 0);
-        reply
+        self.ask(wait, desk, Request::Back { name })
     }
 }

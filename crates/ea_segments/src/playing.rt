@@ -2,38 +2,19 @@
 ghost use Rattle.std.specs.Prelude.{◌≡◌, ℕ, ◌<◌, ◌≤◌, All, IfOk, length, map};
 ghost use Rattle.std.specs.Prelude.{slice_index_or, sum_by};
 ghost use Rattle.ea_model.specs.declared.units.TheConstants.{MAX_OPS, MAX_PAGES, MAX_SCHEDULERS};
-ghost use Rattle.ea_segments.specs.Requests.{IsBookOf, IsRequest, Made, MayPlay, Played};
-ghost use Rattle.ea_segments.specs.Seating.{IsPassOf, known};
+ghost use Rattle.ea_segments.specs.Requests.{IsBookOf, IsRequest};
+ghost use Rattle.ea_segments.specs.Seating.{IsPassOf, MayPlay, Played, known};
 
-use crate::calls::Book;
+use crate::calls::{Book, Request};
 use crate::closing::close;
 use crate::desk::Desk;
 use crate::making::{Start, make_passes};
 use crate::pass::Pass;
-use crate::requests::Request;
 use ea_model::{List, OutOfMemory};
 use std::alloc::Global;
 use std::sync::Wait;
 use std::thread;
 use std::thread::Threads;
-
-/// Makes one request.
-fn make<W: Wait>(wait: &W, desk: &Desk, pass: &mut Pass, request: Request)
-    requires seated { IsPassOf desk.now pass.old }
-    requires left { 1 ≤ (known pass.old).left }
-    requires is { IsRequest request }
-    ensures seated { pass.new.seat.table_id ≡ pass.old.seat.table_id }
-    ensures made { Made request (known pass.old) (known pass.new) }
-{
-    match request {
-        Request::Take { name, pages } => {
-            pass.take(wait, desk, name, pages);
-        }
-        Request::Back { name } => {
-            pass.back(wait, desk, name);
-        }
-    }
-}
 
 /// Makes the requests of a section, in their order.
 fn play_section<W: Wait>(wait: &W, desk: &Desk, pass: &mut Pass, requests: &[Request])
@@ -42,7 +23,7 @@ fn play_section<W: Wait>(wait: &W, desk: &Desk, pass: &mut Pass, requests: &[Req
     ensures played { Played requests.now (known pass.old) (known pass.new) }
 {
     for request in requests {
-        make(wait, desk, pass, *request);
+        pass.ask(wait, desk, *request);
     }
 }
 

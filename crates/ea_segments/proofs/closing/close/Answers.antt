@@ -1,15 +1,15 @@
-use Rattle.std.proofs.Common.{◌≡◌, ◌≢◌, ◌+◌, ◌≤◌, ◌∷◌, ◌++◌, [], length, map, sym, ap, ◌∙◌}
+use Rattle.std.proofs.Common.{◌≡◌, ◌≢◌, ◌∷◌, ◌++◌, [], arith, length, map, slice_index_or, sym, ap, ◌∙◌}
 use Rattle.std.proofs.Common.{subst}
 use Rattle.std.specs.Prelude.{All}
 use Rattle.std.specs.Mem.Slots.{slots_items}
-use Rattle.ea_segments.specs.declared.calls.Call.{Call}
 use Rattle.ea_segments.specs.declared.pass.Pass.{Pass}
 use Rattle.ea_segments.specs.declared.views.Seated.{Seated}
 use Rattle.ea_segments.specs.declared.views.View.{View}
-use Rattle.ea_segments.specs.Histories.{IsLegal, calls_of}
+use Rattle.ea_segments.specs.Histories.{IsByOneOf, IsLegal, calls_of}
 use Rattle.ea_segments.specs.Ruling.{acting}
 use Rattle.ea_segments.specs.Seating.{known}
 use Rattle.ea_segments.proofs.Ending.{IsClosed, Told, closes, each-pass, none-missing}
+use Rattle.ea_segments.proofs.Legal.{sound-throughout}
 use Rattle.ea_segments.proofs.closing.close.Goals as goal
 
 are : (c : goal.After-into_book)
@@ -29,8 +29,8 @@ closed c =
     closes a c.take_in-seat.result.id c.take_in-seat.result.me.0
     (slots_items c.close_with-closed.result.words) (slots_items c.close_with-closed.result.slots)
     c.close_with-closed.ensures.values.2 (ap (λ (v : View). v.holds) c.take_in-seat.ensures.view)
-    (λ n low high all. none-missing (length a.calls.items) c.pop.new.self.items c.in-Some.last
-    c.args.passes.items (are c) c.requires.all c.requires.numbers n low high
+    (λ n low high all. none-missing c.pop.new.self.items c.in-Some.last c.args.passes.items (are c) n
+    (c.requires.once n low (omega (arith, high, c.requires.all)))
     (subst (All (λ (x : Seated). x.number ≢ n)) (seats c) all))
     c.take-ledger.result c.take-ledger.ensures.value
 
@@ -47,22 +47,25 @@ returns-clause-legal c =
     subst (IsLegal c.args.desk.table.shared.key.pages) (sym c.into_book.ensures.history)
     (subst (λ p. IsLegal p c.take-ledger.result.history) (closed c).pages c.into_book.ensures.legal)
 
+pub returns-clause-sound : goal.returns-clause-sound
+returns-clause-sound c =
+    sound-throughout c.args.desk.table.shared.key.pages c.into_book.result.history.items
+    (returns-clause-legal c)
+
 pub returns-clause-seen : goal.returns-clause-seen
 returns-clause-seen c = λ k d less.
     let s = (told c k d less).0 in (s.0, c.into_book.ensures.history ∙ s.1)
 
 pub returns-clause-mine : goal.returns-clause-mine
 returns-clause-mine c = λ k d less.
-    ap (calls_of (k + 1)) c.into_book.ensures.history
-    ∙ ap (λ n. calls_of n c.take-ledger.result.history) (sym (c.requires.numbers k d less))
+    ap (calls_of (known (slice_index_or c.args.passes.items k d)).number) c.into_book.ensures.history
     ∙ (told c k d less).1
 
 pub returns-clause-theirs : goal.returns-clause-theirs
 returns-clause-theirs c =
-    subst (All (λ (d : Call). (1 ≤ d.scheduler) × (d.scheduler ≤ length c.args.passes.items)))
-    (sym c.into_book.ensures.history)
-    (subst (λ n. All (λ (d : Call). (1 ≤ d.scheduler) × (d.scheduler ≤ n))
-    c.take-ledger.result.history) (sym c.requires.all) (closed c).theirs)
+    subst (All (IsByOneOf (length c.args.passes.items))) (sym c.into_book.ensures.history)
+    (subst (λ n. All (IsByOneOf n) c.take-ledger.result.history) (sym c.requires.all)
+    (closed c).theirs)
 
 pub returns-clause-free : goal.returns-clause-free
 returns-clause-free c = c.into_book.ensures.free ∙ (closed c).pages

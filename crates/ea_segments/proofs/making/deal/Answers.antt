@@ -42,7 +42,6 @@ invariant_of-push c =
       idle = idle-is a (dealt + 1) (get_or ns dealt 0) v right;
       single = single-is a (dealt + 1) (get_or ns dealt 0) v right;
       number_is = at ∙ sym (ap (λ s. s.number) (fresh-is a (dealt + 1) (get_or ns dealt 0) v right));
-      some_number = omega (arith, at);
     }
 
 pub loop-before-preserved : goal.loop-before-preserved
@@ -91,7 +90,6 @@ invariant_of-push-2 c =
       single = single-is a (dealt + 1) (get_or ns dealt 0) v whole;
       number_is = sym end
           ∙ sym (ap (λ s. s.number) (fresh-is a (dealt + 1) (get_or ns dealt 0) v whole));
-      some_number = omega (arith, end);
     }
 
 all-dealt : (c : goal.In_ok-push-2) → ArePasses c.args.table.now.shared.key

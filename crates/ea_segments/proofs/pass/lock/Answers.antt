@@ -24,5 +24,5 @@ compare_exchange-found-requires g c =
           (tries (step t.table_id.slots 0 0 c.from.result none) (m.0, xs))) (sym c.requires.bare)
           (may-try t.key m.0 c.requires.single s.id t.table_id.slots
           (step t.table_id.slots 0 0 c.from.result none) c.from.result
-          (λ e. omega (arith, e, c.from.ensures, c.requires.number)))),
+          (c.from.ensures ∙ c.requires.number))),
     )

@@ -2,7 +2,7 @@ use Rattle.std.proofs.Common.{◌≡◌, ◌≤◌, ◌++◌, drop, length, map}
 use Rattle.std.specs.Prelude.{sum_by}
 use Rattle.ea_model.specs.Lists.{Items}
 use Rattle.ea_model.specs.declared.units.TheConstants.{MAX_OPS}
-use Rattle.ea_segments.specs.declared.requests.Request.{Request}
+use Rattle.ea_segments.specs.declared.calls.Request.{Request}
 use Rattle.ea_segments.proofs.playing.counts_of.Given as goal
 
 abbrev pub invariant-loop-section : goal.invariant-loop-section

@@ -1,7 +1,6 @@
 use Rattle.std.proofs.Common.{slice_index_or, sym, subst, arith}
 use Rattle.ea_segments.specs.declared.pass.Pass.{Pass}
-use Rattle.ea_segments.specs.Requests.{MayPlay, Played}
-use Rattle.ea_segments.specs.Seating.{known}
+use Rattle.ea_segments.specs.Seating.{MayPlay, Played, known}
 use Rattle.ea_segments.proofs.playing.play_all.Goals as goal
 
 pub for_each_mut-requires-clause-accepts : goal.for_each_mut-requires-clause-accepts

@@ -1,6 +1,5 @@
 use Rattle.std.proofs.Common.{◌≡◌, slice_index_or, sym, ◌∙◌, subst, arith}
-use Rattle.ea_segments.specs.Requests.{MayPlay, Played}
-use Rattle.ea_segments.specs.Seating.{known}
+use Rattle.ea_segments.specs.Seating.{MayPlay, Played, known}
 use Rattle.ea_segments.proofs.Passing.{whole}
 use Rattle.ea_segments.proofs.playing.play_passes.Goals as goal
 
