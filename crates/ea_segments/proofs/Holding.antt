@@ -23,14 +23,14 @@ use Rattle.ea_segments.specs.declared.held.Held.{Held}
 use Rattle.ea_segments.specs.Histories.{HeldApart, is_earlier, is_of, oldest, segment_of, segments}
 use Rattle.ea_segments.specs.Histories.{start_of}
 
--- what begins behind all that are laid from there on
+-- segments that are laid from a page on begin there or after it
 
-laid-behind : (at end : ℕ) (hs : List Held) → Laid at end (segments hs) → All (λ h. at ≤ h.start) hs
-laid-behind at end [] t = All-nil (λ (h : Held). at ≤ h.start)
-laid-behind at end (h ∷ hs) t =
+laid-after : (at end : ℕ) (hs : List Held) → Laid at end (segments hs) → All (λ h. at ≤ h.start) hs
+laid-after at end [] t = All-nil (λ (h : Held). at ≤ h.start)
+laid-after at end (h ∷ hs) t =
     All-cons (λ (x : Held). at ≤ x.start) h hs t.0
     (All-weaker (λ (x : Held). h.start + h.pages ≤ x.start) (λ x. at ≤ x.start)
-    (λ x le. omega (arith, t.0, le)) hs (laid-behind (h.start + h.pages) end hs t.2))
+    (λ x le. omega (arith, t.0, le)) hs (laid-after (h.start + h.pages) end hs t.2))
 
 pub laid-rising : (at end : ℕ) (hs : List Held) → Laid at end (segments hs)
     → AllPairs (IsBelow start_of) hs
@@ -38,7 +38,7 @@ laid-rising at end [] t = pairs_nil (IsBelow start_of)
 laid-rising at end (h ∷ hs) t =
     AllPairs-cons (IsBelow start_of) h hs
     (All-weaker (λ (x : Held). h.start + h.pages ≤ x.start) (IsBelow start_of h)
-    (λ x le. omega (arith, t.1, le)) hs (laid-behind (h.start + h.pages) end hs t.2))
+    (λ x le. omega (arith, t.1, le)) hs (laid-after (h.start + h.pages) end hs t.2))
     (laid-rising (h.start + h.pages) end hs t.2)
 
 pub laid-apart : (at end : ℕ) (hs : List Held) → Laid at end (segments hs) → AllPairs HeldApart hs
@@ -46,7 +46,7 @@ laid-apart at end [] t = pairs_nil HeldApart
 laid-apart at end (h ∷ hs) t =
     AllPairs-cons HeldApart h hs
     (All-weaker (λ (x : Held). h.start + h.pages ≤ x.start) (HeldApart h)
-    (λ x le. inl le) hs (laid-behind (h.start + h.pages) end hs t.2))
+    (λ x le. inl le) hs (laid-after (h.start + h.pages) end hs t.2))
     (laid-apart (h.start + h.pages) end hs t.2)
 
 -- one more segment where a free run was found

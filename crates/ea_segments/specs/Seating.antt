@@ -43,6 +43,12 @@ pub record Called (v w : Seated) (call : Call) : Type 0 where
   pub mine : w.mine ≡ v.mine ++ call ∷ []
   pub all : calls_of v.number w.seen ≡ w.mine
 
+-- one call that asked for that
+pub record Made (q : Request) (v w : Seated) : Type 0 where
+  pub call : Call
+  pub called : Called v w call
+  pub asks : asked call ≡ q
+
 -- the pass may make these requests, and no more calls
 pub record MayPlay (d : Desk) (qs : List Request) (p : Pass) : Type 0 where
   pub seated : IsPassOf d p

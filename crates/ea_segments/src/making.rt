@@ -43,12 +43,9 @@ fn deal(
         (slice_index_or table.now.shared.key.calls.items k 0) (slice_index_or passes.items k d)) }
 {
     let mut passes = List::new(alloc);
-    for before in 1..schedulers {
+    for number in 1..schedulers {
         let seat = table.shared.split_seat::<Deals>(&mut first);
-        passes.push(Pass {
-            seat,
-            number: before,
-        })?;
+        passes.push(Pass { seat, number })?;
     }
     passes.push(Pass {
         seat: first,
@@ -57,8 +54,9 @@ fn deal(
     Ok(passes)
 }
 
-/// The table of a region of `pages` pages, and a pass for each scheduler: pass i may make as many
-/// calls as number i of `calls`. All memory is taken here.
+/// The desk of a new region of `pages` pages, all free, and a pass for each scheduler: pass i may
+/// make as many calls as number i of `calls`. All memory is taken here, and it fails only where
+/// there is none.
 pub fn make_passes(alloc: Global, pages: u32, calls: &List<u32>) -> Result<Start, OutOfMemory>
     requires pages { (1 ≤ pages) × (pages ≤ MAX_PAGES) }
     requires schedulers { (1 ≤ length calls.now.items) × (length calls.now.items ≤ MAX_SCHEDULERS) }

@@ -47,18 +47,17 @@ fn lock<W: Wait>(wait: &W, desk: &Desk, seat: &mut Seat<Ledger, View>, number: u
 
 impl Pass {
     ghost use Rattle.ea_segments.specs.declared.calls.Call.{Call};
-    ghost use Rattle.ea_segments.specs.Requests.{IsRequest, asked, call_of};
+    ghost use Rattle.ea_segments.specs.Requests.{IsRequest, call_of};
     ghost use Rattle.ea_segments.specs.Seating.{Called, IsPassOf, known};
 
     /// Makes a request while it has the lock.
-    pub(crate) fn ask<W: Wait>(&mut self, wait: &W, desk: &Desk, request: Request) -> Reply
+    fn ask<W: Wait>(&mut self, wait: &W, desk: &Desk, request: Request) -> Reply
         requires seated { IsPassOf desk.now self.old }
         requires left { 1 ≤ (known self.old).left }
         requires is { IsRequest request }
         ensures seated { self.new.seat.table_id ≡ self.old.seat.table_id }
         ensures called { Called (known self.old) (known self.new)
             (call_of (known self.old).number request result) }
-        ensures asked { asked (call_of (known self.old).number request result) ≡ request }
     {
         lock(wait, desk, &mut self.seat, self.number);
         let reply = self

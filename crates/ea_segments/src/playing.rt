@@ -3,7 +3,7 @@ ghost use Rattle.std.specs.Prelude.{◌≡◌, ℕ, ◌<◌, ◌≤◌, All, IfO
 ghost use Rattle.std.specs.Prelude.{slice_index_or, sum_by};
 ghost use Rattle.ea_model.specs.declared.units.TheConstants.{MAX_OPS, MAX_PAGES, MAX_SCHEDULERS};
 ghost use Rattle.ea_segments.specs.Requests.{IsBookOf, IsRequest};
-ghost use Rattle.ea_segments.specs.Seating.{IsPassOf, MayPlay, Played, known};
+ghost use Rattle.ea_segments.specs.Seating.{IsPassOf, Made, MayPlay, Played, known};
 
 use crate::calls::{Book, Request};
 use crate::closing::close;
@@ -16,6 +16,24 @@ use std::sync::Wait;
 use std::thread;
 use std::thread::Threads;
 
+/// Makes one request.
+fn make<W: Wait>(wait: &W, desk: &Desk, pass: &mut Pass, request: Request)
+    requires seated { IsPassOf desk.now pass.old }
+    requires left { 1 ≤ (known pass.old).left }
+    requires is { IsRequest request }
+    ensures seated { pass.new.seat.table_id ≡ pass.old.seat.table_id }
+    ensures made { Made request (known pass.old) (known pass.new) }
+{
+    match request {
+        Request::Take { name, pages } => {
+            pass.take(wait, desk, name, pages);
+        }
+        Request::Back { name } => {
+            pass.back(wait, desk, name);
+        }
+    }
+}
+
 /// Makes the requests of a section, in their order.
 fn play_section<W: Wait>(wait: &W, desk: &Desk, pass: &mut Pass, requests: &[Request])
     requires { MayPlay desk.now requests.now pass.old }
@@ -23,7 +41,7 @@ fn play_section<W: Wait>(wait: &W, desk: &Desk, pass: &mut Pass, requests: &[Req
     ensures played { Played requests.now (known pass.old) (known pass.new) }
 {
     for request in requests {
-        pass.ask(wait, desk, *request);
+        make(wait, desk, pass, *request);
     }
 }
 

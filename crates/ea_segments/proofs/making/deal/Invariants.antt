@@ -2,10 +2,10 @@ use Rattle.std.proofs.Common.{◌≡◌, ℕ, ◌+◌, ◌≤◌, [], drop}
 use Rattle.ea_segments.proofs.Passing.{ArePasses, waiting}
 use Rattle.ea_segments.proofs.making.deal.Given as goal
 
-abbrev pub invariant-loop-before : goal.invariant-loop-before
-invariant-loop-before l =
+abbrev pub invariant-loop-number : goal.invariant-loop-number
+invariant-loop-number l =
     let a = l.fn.table.shared.key in
-    (dealt : ℕ) × (l.before ≡ dealt + 1) × (dealt + 1 ≤ l.fn.schedulers)
+    (dealt : ℕ) × (l.number ≡ dealt + 1) × (dealt + 1 ≤ l.fn.schedulers)
     × (l.first.table_id ≡ l.fn.table.shared.table_id)
     × (l.first.me.1 ≡ [])
     × (l.first.me.0 ≡ waiting a (dealt + 1) (drop dealt a.calls.items))
