@@ -144,7 +144,8 @@ oldest-found i name hs rising =
 pub oldest-there : (i name : ℕ) (h : Held) (hs : List Held) → AllPairs (IsBelow start_of) hs
     → oldest i name hs ≡ Some h → IsSome (item_at start_of hs h.start)
 oldest-there i name h hs rising is =
-    subst IsSome (sym (some_holds (oldest i name hs) h (λ x. item_at start_of hs x.start ≡ Some x) is
+    subst IsSome
+    (sym (some_holds (oldest i name hs) h (λ x. item_at start_of hs x.start ≡ Some x) is
     (oldest-found i name hs rising))) refl
 
 -- the next segment of the rest, and the rest after it

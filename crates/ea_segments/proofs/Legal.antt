@@ -14,7 +14,8 @@ use Rattle.ea_segments.specs.declared.calls.Reply.{Reply}
 use Rattle.ea_segments.specs.declared.calls.Reply.TheVariants.{At, Done, Full, NoRun, Skipped}
 use Rattle.ea_segments.specs.declared.calls.TheConstants.{MAX_SEGMENTS}
 use Rattle.ea_segments.specs.declared.held.Held.{Held}
-use Rattle.ea_segments.specs.Histories.{IsLegal, IsLegalFrom, IsSound, IsSoundThroughout, Standing, given_back, left_by}
+use Rattle.ea_segments.specs.Histories.{IsLegal, IsLegalFrom, IsSound, IsSoundThroughout}
+use Rattle.ea_segments.specs.Histories.{Standing, given_back, left_by}
 use Rattle.ea_segments.specs.Histories.{next, oldest, passed, reply_at, reply_to_back, reply_to_run}
 use Rattle.ea_segments.specs.Histories.{reply_to_take, segments, standing, stands, start, start_of}
 use Rattle.ea_segments.specs.Histories.{times}

@@ -57,7 +57,8 @@ pub record IsFree (a : About) (log : List Call) (s : table.State Account View) :
   pub is : IsOf a log account
   pub idle : (j : ℕ) (v : View) → get_elem? s.views j ≡ some v → v.holds ≡ false
 
--- the seat of one scheduler has it, whose number the word is; it had seen the history when it took it
+-- the seat of one scheduler has it, and the word is that one's number; it had seen the history when
+-- it took the ledger
 pub record IsTaken (log : List Call) (s : table.State Account View) : Type 0 where
   pub by : Seated
   pub words : s.words ≡ by.number ∷ []

@@ -1,5 +1,6 @@
 -- Passes and their desk, and what a pass knows after its calls.
-use Rattle.std.specs.Prelude.{◌≡◌, ℕ, ◌+◌, ◌<◌, List, ◌∷◌, ◌++◌, [], All, length, map, slice_index_or}
+use Rattle.std.specs.Prelude.{◌≡◌, ℕ, ◌+◌, ◌<◌, List, ◌∷◌, ◌++◌, [], All, length, map}
+use Rattle.std.specs.Prelude.{slice_index_or}
 use Rattle.atomic_table.specs.Seated.{TableId}
 use Rattle.ea_segments.specs.declared.calls.Call.{Call}
 use Rattle.ea_segments.specs.declared.calls.Request.{Request}

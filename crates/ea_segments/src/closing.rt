@@ -2,7 +2,8 @@
 ghost use Rattle.std.specs.Prelude.{◌≡◌, ℕ, ◌+◌, ◌<◌, ◌≤◌, ◌++◌, false, All, length, map};
 ghost use Rattle.std.specs.Prelude.{slice_index_or, sum_by};
 ghost use Rattle.ea_segments.specs.Ruling.{acting};
-ghost use Rattle.ea_segments.specs.Histories.{IsByOneOf, IsLegal, IsSoundThroughout, StartsWith, calls_of, stands};
+ghost use Rattle.ea_segments.specs.Histories.{IsByOneOf, IsLegal, IsSoundThroughout, StartsWith};
+ghost use Rattle.ea_segments.specs.Histories.{calls_of, stands};
 ghost use Rattle.ea_segments.specs.Seating.{IsAmong, IsPassOf, known};
 
 use crate::calls::Book;

@@ -138,9 +138,9 @@ impl Ledger {
         }
     }
 
-    /// Answers a request of a scheduler, and adds the call. Pages that are asked for are those of the
-    /// lowest free run that has that many; of several segments of a name the one that the scheduler
-    /// took first goes back.
+    /// Answers a request of a scheduler, and adds the call. Pages that are asked for are those of
+    /// the lowest free run that has that many; of several segments of a name the one that the
+    /// scheduler took first goes back.
     pub(crate) fn answer(&mut self, scheduler: u32, request: Request) -> Reply
         requires is { IsRequest request }
         requires room { length self.old.history < self.old.most }

@@ -1,5 +1,6 @@
 //! A new table, and its passes.
-ghost use Rattle.std.specs.Prelude.{◌≡◌, ℕ, ◌+◌, ◌<◌, ◌≤◌, false, [], IfOk, length, slice_index_or, sum_by};
+ghost use Rattle.std.specs.Prelude.{◌≡◌, ℕ, ◌+◌, ◌<◌, ◌≤◌, false, [], IfOk, length};
+ghost use Rattle.std.specs.Prelude.{slice_index_or, sum_by};
 ghost use Rattle.ea_model.specs.declared.units.TheConstants.{MAX_OPS, MAX_PAGES, MAX_SCHEDULERS};
 ghost use Rattle.ea_segments.specs.Ruling.{waiting_from};
 ghost use Rattle.ea_segments.specs.Seating.{IsFresh};

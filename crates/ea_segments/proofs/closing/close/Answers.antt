@@ -1,5 +1,5 @@
-use Rattle.std.proofs.Common.{◌≡◌, ◌≢◌, ◌∷◌, ◌++◌, [], arith, length, map, slice_index_or, sym, ap, ◌∙◌}
-use Rattle.std.proofs.Common.{subst}
+use Rattle.std.proofs.Common.{◌≡◌, ◌≢◌, ◌∷◌, ◌++◌, [], length, map, slice_index_or, sym, ap, ◌∙◌}
+use Rattle.std.proofs.Common.{subst, arith}
 use Rattle.std.specs.Prelude.{All}
 use Rattle.std.specs.Mem.Slots.{slots_items}
 use Rattle.ea_segments.specs.declared.pass.Pass.{Pass}
@@ -29,7 +29,8 @@ closed c =
     closes a c.take_in-seat.result.id c.take_in-seat.result.me.0
     (slots_items c.close_with-closed.result.words) (slots_items c.close_with-closed.result.slots)
     c.close_with-closed.ensures.values.2 (ap (λ (v : View). v.holds) c.take_in-seat.ensures.view)
-    (λ n low high all. none-missing c.pop.new.self.items c.in-Some.last c.args.passes.items (are c) n
+    (λ n low high all.
+    none-missing c.pop.new.self.items c.in-Some.last c.args.passes.items (are c) n
     (c.requires.once n low (omega (arith, high, c.requires.all)))
     (subst (All (λ (x : Seated). x.number ≢ n)) (seats c) all))
     c.take-ledger.result c.take-ledger.ensures.value
@@ -58,7 +59,8 @@ returns-clause-seen c = λ k d less.
 
 pub returns-clause-mine : goal.returns-clause-mine
 returns-clause-mine c = λ k d less.
-    ap (calls_of (known (slice_index_or c.args.passes.items k d)).number) c.into_book.ensures.history
+    ap (calls_of (known (slice_index_or c.args.passes.items k d)).number)
+    c.into_book.ensures.history
     ∙ (told c k d less).1
 
 pub returns-clause-theirs : goal.returns-clause-theirs

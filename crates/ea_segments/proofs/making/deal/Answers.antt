@@ -41,7 +41,8 @@ invariant_of-push c =
       bare = ap (λ m. m.1) c.split_seat-seat.ensures.4;
       idle = idle-is a (dealt + 1) (get_or ns dealt 0) v right;
       single = single-is a (dealt + 1) (get_or ns dealt 0) v right;
-      number_is = at ∙ sym (ap (λ s. s.number) (fresh-is a (dealt + 1) (get_or ns dealt 0) v right));
+      number_is = at
+          ∙ sym (ap (λ s. s.number) (fresh-is a (dealt + 1) (get_or ns dealt 0) v right));
     }
 
 pub loop-number-preserved : goal.loop-number-preserved

@@ -21,14 +21,15 @@ new-requires-2 c =
     c.in_ok-extend_from_slice.ensures.ok
     ∙ ap (λ (xs : List ℕ). xs ++ c.as_slice.result.now) c.new-own.ensures ∙ c.as_slice.ensures in
     let slots : c.push.new.self.items ≡ ledger ∷ [] =
-    c.in_ok-push.ensures.items ∙ ap (λ (xs : List Account). xs ++ ledger ∷ []) c.new-slots.ensures.items
-    in
+    c.in_ok-push.ensures.items
+    ∙ ap (λ (xs : List Account). xs ++ ledger ∷ []) c.new-slots.ensures.items in
     subst (λ xs. holds about (opening (0 ∷ []) xs (first about))) (sym slots)
     (opens about ledger (record {
       pages = ap (λ (x : Account). x.pages) is;
       most = ap (λ (x : Account). x.most) is;
       history = ap (λ (x : Account). x.history) is;
     }) (subst (λ ns. sum_by (λ (n : ℕ). n) ns ≤ c.loop-count.most) (sym calls)
-    (counted c.loop-count.most c.loop-count.count-index (sum_by (λ (n : ℕ). n) c.args.calls.now.items)
+    (counted c.loop-count.most c.loop-count.count-index
+    (sum_by (λ (n : ℕ). n) c.args.calls.now.items)
     c.as_slice-count-items.result.now c.loop-count.invariant
     (omega (arith, c.loop-count-test.false)))))

@@ -20,7 +20,8 @@ compare_exchange-found-requires g c =
           Allows (holds t.key) t.table_id.slots s.id me 0 (λ n. either (n == 0) c.from.result n)
           (tries (step t.table_id.slots 0 0 c.from.result none) me)) (sym same)
           (subst (λ (xs : List (ℕ × Account)).
-          Allows (holds t.key) t.table_id.slots s.id (m.0, xs) 0 (λ n. either (n == 0) c.from.result n)
+          Allows (holds t.key) t.table_id.slots s.id (m.0, xs) 0
+          (λ n. either (n == 0) c.from.result n)
           (tries (step t.table_id.slots 0 0 c.from.result none) (m.0, xs))) (sym c.requires.bare)
           (may-try t.key m.0 c.requires.single s.id t.table_id.slots
           (step t.table_id.slots 0 0 c.from.result none) c.from.result

@@ -1,5 +1,5 @@
-use Rattle.std.proofs.Common.{◌≡◌, ℕ, ◌+◌, ◌-◌, ◌<◌, ◌++◌, sym, [], List, length, map, slice_index_or}
-use Rattle.std.proofs.Common.{ap, ◌∙◌, subst, arith}
+use Rattle.std.proofs.Common.{◌≡◌, ℕ, ◌+◌, ◌-◌, ◌<◌, ◌++◌, [], List, length, map, slice_index_or}
+use Rattle.std.proofs.Common.{sym, ap, ◌∙◌, subst, arith}
 use Rattle.std.specs.Prelude.{All}
 use Rattle.std.proofs.lemmas.List.{length-map}
 use Rattle.ea_model.specs.Lists.{Items}
@@ -18,7 +18,8 @@ abbrev no_section : Items Request
 no_section = record { items = []; room = 0 }
 
 -- each pass is that of the scheduler of its section
-numbered : (g : Over) (c : goal.After-play_passes-passes g) (k : ℕ) (d : Pass) → k < length c.args.sections.now
+numbered : (g : Over) (c : goal.After-play_passes-passes g) (k : ℕ) (d : Pass)
+    → k < length c.args.sections.now
     → (known (slice_index_or c.play_passes-passes.result.items k d)).number ≡ k + 1
 numbered g c k d less =
     let many : k < length c.in_ok-counts.counts.items = omega (

@@ -11,7 +11,8 @@ play_all-requires-clause-may g c = λ κs bound k d e less.
 
 pub returns-clause-played : goal.returns-clause-played
 returns-clause-played g c = λ k d e less.
-    let same : c.from_vec.result.items ≡ c.play_all.new.passes = c.from_vec.ensures ∙ whole _ c.play_all.new.passes _
+    let same : c.from_vec.result.items ≡ c.play_all.new.passes =
+    c.from_vec.ensures ∙ whole _ c.play_all.new.passes _
     (omega (arith, c.play_all.auto.passes, c.deref_mut.ensures.len)) in
     let was : c.deref_mut.result.now ≡ c.args.passes.items = c.deref_mut.ensures.value
     ∙ c.into_vec-passes.ensures in

@@ -17,7 +17,8 @@ store-requires g c =
       omega (arith, c.args.desk.now.words),
       may-give-back p.seat.me c.lock.new.seat.me p.bare c.lock.ensures.won c.slot_mut.result.now
           c.answer-reply.new.self c.slot_mut.ensures.value made c.answer-reply.ensures.added
-          (call-scheduler p.number c.args.request c.answer-reply.result ∙ p.number_is) c.requires.left t.key c.lock.new.seat.id t.table_id.slots
+          (call-scheduler p.number c.args.request c.answer-reply.result ∙ p.number_is)
+          c.requires.left t.key c.lock.new.seat.id t.table_id.slots
           (step t.table_id.slots 0 0 0 none),
     )
 
