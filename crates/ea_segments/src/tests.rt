@@ -129,11 +129,18 @@ fn full_comes_before_no_run(rt: HostRuntime) -> Result<(), Fail> {
 fn one_of_two_schedulers_gets_the_whole_region(rt: HostRuntime) -> Result<(), Fail> {
     let alloc = rt.alloc();
     let mut sections = Vec::new(alloc);
-    for name in 1..3 {
-        let mut section = List::new(alloc);
-        section.push(Request::Take { name, pages: 256 })?;
-        sections.push(section)?;
-    }
+    let mut section = List::new(alloc);
+    section.push(Request::Take {
+        name: 1,
+        pages: 256,
+    })?;
+    sections.push(section)?;
+    let mut section = List::new(alloc);
+    section.push(Request::Take {
+        name: 2,
+        pages: 256,
+    })?;
+    sections.push(section)?;
     let book = play(&rt, alloc, 256, &sections)?;
     let history = book.history.as_slice();
     assert_eq!(rt; history.len(), 2);
