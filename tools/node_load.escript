@@ -13,11 +13,15 @@ main(["--help"]) ->
     io:put_chars(usage());
 main([Node, Cookie, Word, File]) ->
     try
+        load_beside("node_flags"),
         {Letter, Type} = allocator(Word),
-        connect(list_to_atom(Node), Cookie),
+        case node_flags:connect("node_load", Node, Cookie) of
+            ok -> ok;
+            Line -> refuse("~ts: ~ts", [Node, Line])
+        end,
         write(File, load(list_to_atom(Node), Letter, Type))
     catch
-        throw:Line -> stop(1, Line);
+        throw:Refused -> stop(1, Refused);
         _:Reason -> stop(1, io_lib:format("~ts: it tells what this does not know: ~0P", [Node, Reason, 9]))
     end;
 main(_) ->
@@ -49,12 +53,16 @@ stop(Status, Line) ->
 refuse(Form, Values) ->
     throw(lists:flatten(io_lib:format(Form, Values))).
 
-allocators() ->
-    [{"B", binary_alloc}, {"D", std_alloc}, {"E", ets_alloc}, {"H", eheap_alloc}, {"L", ll_alloc},
-     {"R", driver_alloc}, {"S", sl_alloc}, {"T", temp_alloc}].
+%% A module whose source lies beside this file.
+load_beside(Name) ->
+    Path = filename:join(filename:dirname(escript:script_name()), Name),
+    case compile:file(Path, [binary]) of
+        {ok, Module, Code} -> {module, _} = code:load_binary(Module, Path, Code);
+        _ -> refuse("~ts.erl: it is not there beside node_load.escript, or it does not compile", [Path])
+    end.
 
 allocator(Word) ->
-    case [Pair || {Letter, Type} = Pair <- allocators(), lists:member(Word, [Letter, atom_to_list(Type)])] of
+    case [Pair || {Letter, Type} = Pair <- node_flags:allocators(), lists:member(Word, [Letter, atom_to_list(Type)])] of
         [Pair] -> Pair;
         [] -> refuse("~ts: no allocator of this name (see --help)", [Word])
     end.
@@ -72,25 +80,6 @@ write(File, Text) ->
         {error, Reason} ->
             Plain andalso file:delete(Beside),
             refuse("~ts: ~ts", [File, file:format_error(Reason)])
-    end.
-
-%% Joins the node, with long names if its host has a dot.
-connect(Node, Cookie) ->
-    Host = case string:split(atom_to_list(Node), "@") of
-        [[_ | _], [_ | _] = Some] -> Some;
-        _ -> refuse("~ts: no name of a node, as shop@host is", [Node])
-    end,
-    Domain = case lists:member($., Host) of true -> longnames; false -> shortnames end,
-    Own = list_to_atom("node_load_" ++ os:getpid() ++ "@" ++ Host),
-    Options = #{name_domain => Domain, hidden => true, dist_listen => false},
-    case catch net_kernel:start(Own, Options) of
-        {ok, _} -> ok;
-        Error -> refuse("~ts: this node cannot join: ~0p", [Node, Error])
-    end,
-    [erlang:set_cookie(Node, list_to_atom(Cookie)) || Cookie =/= "-"],
-    case net_kernel:connect_node(Node) of
-        true -> ok;
-        _ -> refuse("~ts: no connection: is the node up, is this its name and its cookie?", [Node])
     end.
 
 ask(Node, Module, Function, Words) ->
@@ -120,6 +109,7 @@ load(Node, Letter, Type) ->
      io_lib:format("type ~ts\n", [Letter]),
      io_lib:format("schedulers ~b\n", [ask(Node, erlang, system_info, [schedulers])]),
      io_lib:format("calls ~b ~b ~b\n", calls(Type, Instances)),
+     node_flags:lines(Letter, hd([Set || Facts <- lists:reverse(Instances), {options, Set} <- Facts])),
      blocks(Scans),
      [carrier(It) || It <- element(2, Carriers)]].
 

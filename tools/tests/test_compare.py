@@ -21,6 +21,8 @@ TOP = os.path.dirname(os.path.dirname(os.path.dirname(os.path.realpath(__file__)
 TOOL = f"{TOP}/tools/compare"
 EXAMPLES = f"{TOP}/examples"
 PROGRAM = []
+STRATEGIES = "bf aobf aoff aoffcbf aoffcaobf ageffcaoff ageffcbf ageffcaobf gf af"
+NO_STRATEGY = f"compare: expected: +MHas takes {STRATEGIES}\n"
 NOT_SECONDS = "list,trace,status,carriers_end,carriers_most,units_end,units_most,failed,moved,said"
 KEPT_APART = ["--each", "+MHacul 0"]
 # With migration and one scheduler an allocation that finds no room looks at each of its numbers before it creates a
@@ -224,7 +226,7 @@ class Compare(unittest.TestCase):
     def test_the_columns_of_stops_stand_in_the_text_where_there_are_any(self):
         plain, halted = self.file("a.trace", one("idle")), self.file("b.trace", stopped(one("idle"), "1 0"))
         heads = [self.compare(*it)[1].partition("\n")[0].split() for it in ([plain], [plain, halted])]
-        self.assertEqual([it for it in heads[1] if it not in heads[0]], ["stopped", "undone"])
+        self.assertEqual([it for it in heads[1] if it not in heads[0]], ["trace", "stopped", "undone"])
         [row] = csv.DictReader(io.StringIO(self.compare(plain, "--as", "csv")[1]))
         self.assertEqual((row["stopped"], row["undone"]), ("0", "0"))
         # A scheduler that takes no step does not end, either.
@@ -253,6 +255,95 @@ class Compare(unittest.TestCase):
         self.assertRow(roomy, failed=0, moved=0, returned=0)
         self.assertRow(roomy, carriers_most=None, units_most=None, failed_space=None, abandoned=0, fetched=0)
         self.assertGreaterEqual(tight["failed"], 578)
+
+    # Memory, blocks and gaps
+
+    def test_megabytes(self):
+        """A singleblock carrier of 129 pages comes and goes, of which the block's 65538 units are the most; then there
+        is one of 64 pages."""
+        row = self.row(one("alloc 1 524281", "free 1", "alloc 2 100"), *KEPT_APART)
+        self.assertRow(row, mb_end=0.2, mb_most=0.5, units_most=129 * 512, blocks_single=0, mb_single=0.0)
+
+    def test_blocks_and_gaps(self):
+        """Two blocks of 126 and 65538 units: 262656 bytes on average. The gap is what the first one leaves."""
+        row = self.row(one("alloc 1 1000", "alloc 2 524281", "alloc 3 100", "free 3"), *KEPT_APART)
+        self.assertRow(row, blocks_end=2, block_bytes=(126 + 65538) * 8 // 2, blocks_single=1, mb_single=0.5)
+        self.assertRow(row, gap_kb=(32768 - 8 - 126) * 8 // 1024, utilisation_each=f"{row['utilisation_end']}")
+
+    def test_the_use_of_each_instance(self):
+        row = self.row(two(["alloc 1 100000"], ["idle"]), "--each", "+S 2", *KEPT_APART)
+        # 12502 units of 32768.
+        self.assertRow(row, utilisation_each="38.1/-")
+
+    def test_a_text_is_sorted_by_memory_and_what_failed_comes_last(self):
+        trace = self.file("a.trace", one("alloc 1 524280", "alloc 2 100"))
+        text = self.compare(trace, "--each", "+MHsmbcs 2000 256 512", "--all", "+MHacul 0", "--columns", "list,mb_most")[1]
+        self.assertEqual([it.split()[1] for it in text.splitlines()[2:5]], ["256", "512", "2000"])
+        grid = ["--each", "+MMscs 1 2", "--columns", "list,failed"]
+        text = self.compare(self.file("b.trace", one("alloc 1 524280", "alloc 2 524280")), *grid, "--", "+MHacul", "0")[1]
+        self.assertEqual([it.split() for it in text.splitlines()[1:3]], [["+MMscs", "2", "0"], ["+MMscs", "1", "1"]])
+        self.assertIn("In 1 of 2 lines allocations failed", text)
+        self.assertIn("Failed for want of pages", text)
+
+    def test_what_all_lists_share_stands_below(self):
+        words = ["--each", "+MHacul 0", "--each", "+MHas bf gf", "--columns", "list"]
+        text = self.compare(self.file("a.trace", one("idle")), *words, "--", "+MMscs", "2")[1]
+        self.assertEqual(text, "list\n+MHas bf\n+MHas gf\n\nAll lists have +MHacul 0.\n")
+        rows = self.rows("a.trace", *words[:4])
+        self.assertEqual([it["list"] for it in rows], ["+MHacul 0 +MHas bf", "+MHacul 0 +MHas gf"])
+
+    def test_flags_of_all_lists_come_first(self):
+        trace = self.file("a.trace", one("alloc 1 100"))
+        [row] = self.rows(trace, "--each", "+MHsmbcs 8", "--all", "+MHsmbcs 16 +MHacul 0")
+        self.assertRow(row, list="+MHsmbcs 8", flags="+MHsmbcs 16 +MHacul 0 +MHsmbcs 8", units_end=2 * 512)
+        said = self.compare(trace, "--", "+MHas", "ff")[2]
+        self.assertEqual(said, f"compare: the flags of all lists: ff: bad value\n{NO_STRATEGY}")
+
+    def test_lists_that_differ_in_strategy_with_several_schedulers(self):
+        trace, words = self.file("a.trace", two(["idle"], ["idle"])), ["--all", "+S 2", "--each"]
+        self.assertIn("DEPARTURES", self.compare(trace, *words, "+MHas bf gf")[1])
+        self.assertNotIn("DEPARTURES", self.compare(trace, *words, "+MHsbct 1 2")[1])
+        self.assertNotIn("DEPARTURES", self.compare(self.file("b.trace", one()), "--each", "+MHas bf gf")[1])
+
+    def test_marks(self):
+        trace = self.file("a.trace", one("alloc 1 300000", "alloc 2 300000", "# mark peak", "free 1", "# mark half", "free 2"))
+        rows = self.rows(trace, "--marks", *KEPT_APART, "--each", "+MHsbct 1")
+        # A carrier of 74 pages for each block.
+        self.assertEqual([(it["mark"], it["carriers_end"], it["units_end"]) for it in rows], [
+            ("peak", 2, 2 * 74 * 512), ("half", 1, 74 * 512), ("end", 0, 0)])
+        sections = two(["alloc 1 100", "# mark one"], ["alloc 2 100", "# mark two"])
+        rows = self.rows(self.file("b.trace", sections), "--marks", "--each", "+S 2", *KEPT_APART)
+        self.assertEqual([(it["mark"], it["carriers_end"]) for it in rows], [("one", 1), ("two", 2), ("end", 2)])
+
+    def test_a_run_that_takes_too_long(self):
+        self.file("slow", "#!/bin/sh\n" + '[ "${2:-}" = 0 ] && sleep 60\n' + f'exec {shlex.quote(program())} "$@"\n')
+        os.chmod(f"{self.room}/slow", 0o755)
+        began = time.monotonic()
+        words = ["--program", "./slow", "--seconds", "3", *KEPT_APART, "--as", "json"]
+        status, text, said = self.compare(self.file("a.trace", one()), *words)
+        self.assertLess(time.monotonic() - began, 40)
+        self.assertEqual((status, said), (1, "compare: it was ended after 3 seconds\n"))
+        self.assertEqual(json.loads(text)[0]["status"], None)
+
+    # Recorded operations
+
+    def test_recorded_operations(self):
+        """Two schedulers: the second one's free goes to the queue of the first, whose next operation releases it."""
+        lines = ["type H", "1 alloc 1 1000", "2 alloc 2 100", "1 give 1 2", "2 take 1 1", "2 free 1", "# mark given",
+                 "1 idle", "end", ""]
+        rows = self.recorded("\n".join(lines), "--marks", "--all", "+S 2", *KEPT_APART)
+        self.assertEqual([(it["mark"], it["carriers_end"], it["queued"]) for it in rows], [("given", 1, 0), ("end", 1, 0)])
+
+    def test_recorded_operations_of_one_scheduler_are_exact(self):
+        lines = ["type H", "1 alloc 1 300000", "1 free 1", "1 alloc 2 100", "end", ""]
+        [row] = self.recorded("\n".join(lines), *KEPT_APART, "--each", "+MHsbct 1")
+        self.assertRow(row, carriers_most=1, units_most=74 * 512, units_end=32768)
+
+    def recorded(self, text, *words):
+        probe = subprocess.run([program(), "recorded"], input="type H\nend\n", capture_output=True, text=True, check=False)
+        if probe.returncode:
+            self.skipTest("this program has no recorded operations")
+        return self.rows(self.file("a.input", text), *words)
 
     # Several allocator types
 
@@ -283,8 +374,8 @@ class Compare(unittest.TestCase):
 
     def test_types_by_turns(self):
         [heap, binary] = self.rows("two-queues.trace", "--flags", "two-queues.flags", folder=EXAMPLES)
-        # Blocks of 626 and 40 units; one of 26, since the one of 126 that was queued is released.
-        self.assertRow(heap, carriers_end=1, utilisation_end=2.0, queued=0, utilisation_most=None)
+        # Blocks of 626 and 40 units, of one scheduler alone; one of 26, since the one of 126 that was queued is released.
+        self.assertRow(heap, carriers_end=1, utilisation_end=2.0, queued=0, utilisation_most=2.0)
         self.assertRow(binary, carriers_end=1, utilisation_end=0.0, queued=0, utilisation_most=None)
 
     def test_the_column_of_types_stands_in_the_text_where_there_are_several(self):
@@ -299,12 +390,13 @@ class Compare(unittest.TestCase):
         self.file("bad.flags", "types\n+MHas\nff\n")
         for trace in (several("H B", ["H idle"]), one("idle")):
             ran = self.compare(self.file("a.trace", trace), "--flags", "bad.flags")
-            self.assertEqual(ran[::2], (1, "compare: bad.flags: line 3: ff: bad value\n"))
+            self.assertEqual(ran[::2], (1, f"compare: bad.flags: line 3: ff: bad value\n{NO_STRATEGY}"))
 
     def test_refused_types(self):
         trace, columns = self.file("a.trace", several("H B", ["H alloc 1 1", "E idle"])), "type,status"
-        wanted = 1, "type  status\n-          2\n", "compare: a.trace: line 4: syntax\n"
-        self.assertEqual(self.compare(trace, "--columns", columns), wanted)
+        status, text, said = self.compare(trace, "--columns", columns)
+        self.assertEqual((status, text), (1, "type  status\n-          2\n"))
+        self.assertTrue(said.startswith("compare: a.trace: line 4: syntax\ncompare: expected: "), said)
 
     def test_at_most_is_the_greatest_of_all_fronts(self):
         """The program's own totals on each front of an example, beside the replay."""
@@ -355,29 +447,32 @@ class Compare(unittest.TestCase):
     def test_a_refused_trace_is_a_line_of_the_table(self):
         good, bad = self.file("good.trace", one("alloc 1 100")), self.file("bad.trace", one("frob 1"))
         status, text, said = self.compare(bad, good, "--each", "+MHas bf gf", *KEPT_APART, "--as", "json")
-        self.assertEqual((status, said), (1, "compare: bad.trace: line 3: syntax\n"))
+        self.assertEqual((status, said.splitlines()[0]), (1, "compare: bad.trace: line 3: syntax"))
         self.assertEqual([(it["trace"], it["status"], it["carriers_end"]) for it in json.loads(text)], [
             ("bad.trace", 2, None), ("good.trace", 0, 1), ("bad.trace", 2, None), ("good.trace", 0, 1)])
 
     def test_a_trace_without_an_end(self):
-        self.assertEqual(self.compare(self.file("a.trace", "type H\n"))[::2], (1, "compare: a.trace: no end line\n"))
+        said = "compare: a.trace: no end line\ncompare: expected: `end` as the last line\n"
+        self.assertEqual(self.compare(self.file("a.trace", "type H\n"))[::2], (1, said))
 
     def test_refused_flags_name_file_and_line(self):
         self.file("bad.flags", "+MMscs\n1\n+MHas\nff\n")
         words = [self.file("a.trace", one("alloc 1 100")), "--as", "json", "--flags", "bad.flags"]
         status, text, said = self.compare(*words, self.file("good.flags", "+MHacul 0"))
-        self.assertEqual((status, said), (1, "compare: bad.flags: line 4: ff: bad value\n"))
+        self.assertEqual((status, said), (1, f"compare: bad.flags: line 4: ff: bad value\n{NO_STRATEGY}"))
         self.assertEqual([(it["list"], it["status"]) for it in json.loads(text)], [("bad.flags", 1), ("good.flags", 0)])
 
     def test_refused_flags_of_a_grid(self):
         words = ["--each", "+MHas bf ff", "--columns", "list,status"]
         status, text, said = self.compare(self.file("a.trace", one()), *words)
-        self.assertEqual((status, said), (1, "compare: --each '+MHas ff': ff: bad value\n"))
+        self.assertEqual((status, said), (1, f"compare: --each '+MHas ff': ff: bad value\n{NO_STRATEGY}"))
         self.assertEqual(text, "list      status\n+MHas bf       0\n+MHas ff       1\n")
 
     def test_a_main_carrier_that_does_not_fit(self):
         said = self.compare(self.file("a.trace", one()), "--each", "+MMscs 1", "--each", "+MHmmbcs 2000")[2]
-        self.assertEqual(said, "compare: +MMscs 1 +MHmmbcs 2000: super carrier too small\n")
+        first, second = said.splitlines()
+        self.assertEqual(first, "compare: +MMscs 1 +MHmmbcs 2000: super carrier too small")
+        self.assertIn("a larger +MMscs", second)
 
     def test_files_that_are_not_there(self):
         trace = self.file("a.trace", one())

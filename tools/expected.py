@@ -1,0 +1,305 @@
+#!/usr/bin/env python3
+"""What the program expected where it refuses a word or a line: the second line of ./run and of the tools.
+
+expected.py LINE -- WORDS says it of the program's line for these words, and of standard input, where that is a file.
+With an empty LINE it says the program's line and its own where the words alone are refused, and else nothing.
+"""
+import difflib
+import os
+import re
+import stat
+import sys
+
+LETTERS = "B D E H L R S T"
+COMMANDS = ("types", "super", "contents", "histogram", "recorded")
+STRATEGIES = "bf aobf aoff aoffcbf aoffcaobf ageffcaoff ageffcbf ageffcaobf gf af"
+KILOBYTES = "kilobytes"
+# Of each flag its least and greatest number, in what, and the values that are names.
+FLAGS_OF_ALL = {"+S": (1, 64, "schedulers", ""), "+MMscs": (1, 512, "megabytes", ""), "+MMsco": (None, None, "", "true")}
+FLAGS_OF_ONE = {
+    "as": (None, None, "", STRATEGIES),
+    "acul": (0, 100, "percent", "de"),
+    "acfml": (0, 1073741823, "bytes", ""),
+    "acnl": (1000, 4294967295, "carriers", ""),
+    "sbct": (1, 524288, KILOBYTES, ""),
+    "smbcs": (1, 524288, KILOBYTES, ""),
+    "lmbcs": (1, 524288, KILOBYTES, ""),
+    "mbcgs": (1, 10000, "steps", ""),
+    "mmbcs": (0, 524288, KILOBYTES, ""),
+    "mbsd": (1, 1000, "gaps", ""),
+    "asbcst": (0, 524288, KILOBYTES, ""),
+    "rsbcst": (0, 100, "percent", ""),
+    "rsbcmt": (0, 100, "percent", ""),
+    "rmbcmt": (0, 100, "percent", ""),
+    "ramv": (None, None, "", "true false"),
+    "t": (None, None, "", "true"),
+    "e": (None, None, "", "true"),
+}
+# What is a value of the flag, and refused as unsupported.
+UNSUPPORTED_VALUES = {"+MMsco": "false", "t": "false", "e": "false"}
+UNSUPPORTED = re.compile(r"\+Mea$|\+M[MYFIX]|\+M[BDEHLRSTu](cp|atags|mmsbc|mmmbc)$")
+OWN_FLAG = re.compile(r"\+M([BDEHLRSTu])([a-z]+)$")
+
+OPERATIONS = {
+    "alloc": ("alloc NAME BYTES", ("NAME", "BYTES")),
+    "free": ("free NAME", ("NAME",)),
+    "realloc": ("realloc OLD NEW BYTES", ("NAME", "NAME", "BYTES")),
+    "give": ("give NAME SCHEDULER", ("NAME", "SCHEDULER")),
+    "take": ("take NAME TRIES", ("NAME", "TRIES")),
+    "info": ("info", ()),
+    "idle": ("idle", ()),
+}
+OTHERS = {
+    "scheduler": ("scheduler I", ("SCHEDULER",)),
+    "stop": ("stop SCHEDULER STEPS", ("SCHEDULER", "STEPS")),
+    "generate": ("generate SEED COUNT", ("SEED", "COUNT")),
+    "threads": ("threads", ()),
+    "schedule": ("schedule", ()),
+    "end": ("end", ()),
+}
+RANGES = {
+    "NAME": (1, 1048576),
+    "BYTES": (0, 1073741823),
+    "TRIES": (1, 10000000),
+    "STEPS": (0, 100000000),
+    "SEED": (0, 2147483647),
+    "SCHEDULER": (0, 9999999999),
+    "COUNT": (1, 9999999999),
+}
+OF_WHOLE = {
+    "super carrier too small": "a main carrier (mmbcs) has to fit the region of a scheduler, which is +MMscs divided by"
+    " +S: a larger +MMscs, or a smaller mmbcs",
+    "no end line": "`end` as the last line",
+    "input too long": "16777216 bytes at most",
+    "too many": "at most 1048576 operations, 100000000 turns and 100000000 tries of all `take` lines; of several types"
+    " super carriers of 512 MB in all",
+    "name reused": "each name is made by one line (alloc, or the second of realloc), and given by one",
+    "name not held": "a block that an earlier line of the same scheduler made or took",
+    "name not addressed": "a line that gives this name to the scheduler of the `take`",
+}
+
+
+# Flags
+
+
+def settings_of(flag):
+    """The key and the row of a flag, or None."""
+    match = OWN_FLAG.match(flag)
+    if flag in FLAGS_OF_ALL:
+        return flag, FLAGS_OF_ALL[flag]
+    if match and match[2] in FLAGS_OF_ONE:
+        return match[2], FLAGS_OF_ONE[match[2]]
+    return None
+
+
+def values_words(flag):
+    """What a flag takes, in words."""
+    least, most, unit, names = settings_of(flag)[1]
+    numbers = [f"{least} to {most} {unit}"] if most is not None else []
+    return f"{flag} takes {', or '.join([*numbers, *([names] if names else [])])}"
+
+
+def is_value(flag, word):
+    least, most, _, names = settings_of(flag)[1]
+    if word in names.split():
+        return True
+    return most is not None and re.fullmatch("[0-9]{1,10}", word) is not None and least <= int(word) <= most
+
+
+def near_words(flag):
+    """What may have been meant by a word that is no flag."""
+    known = [*FLAGS_OF_ALL]
+    match = re.match(r"\+M([A-Za-z])", flag)
+    letter = match[1] if match and match[1] in "BDEHLRSTu" else "H"
+    known += [f"+M{letter}{it}" for it in FLAGS_OF_ONE]
+    joined = sorted((it for it in known if flag.startswith(it) and is_value(it, flag[len(it):])), key=len)
+    if joined:
+        return f"a value as a word of its own: {joined[-1]} {flag[len(joined[-1]):]}"
+    near = difflib.get_close_matches(flag, known, 3)
+    if near:
+        return f"a flag; near it are {' '.join(near)}"
+    return f"a flag: +S, +MMscs, or +M with a letter of {LETTERS} u and one of {' '.join(FLAGS_OF_ONE)}"
+
+
+def is_unsupported_number(key, word):
+    return key == "acnl" and re.fullmatch("[0-9]{1,10}", word) is not None and int(word) < 1000
+
+
+def refusal(words):
+    """The program's line for the first word that is refused, and what was expected; None where none is."""
+    at = 0
+    while at < len(words):
+        flag, found = words[at], settings_of(words[at])
+        if found is None and UNSUPPORTED.match(flag) and flag not in FLAGS_OF_ALL:
+            return f"word {at + 1}: unsupported", "this flag dropped: the simulator does not have what it sets"
+        if found is None:
+            return f"word {at + 1}: unknown flag", near_words(flag)
+        if at + 1 == len(words):
+            return f"word {at + 1}: value missing", values_words(flag)
+        value = words[at + 1]
+        if value == UNSUPPORTED_VALUES.get(found[0]) or is_unsupported_number(found[0], value):
+            return f"word {at + 1}: unsupported", values_words(flag)
+        if not is_value(flag, value):
+            return f"word {at + 2}: bad value", values_words(flag)
+        at += 2
+    return None
+
+
+# Lines
+
+
+def words_of(line):
+    return line.decode("latin-1").split()
+
+
+def is_said(words):
+    return bool(words) and not words[0].startswith("#")
+
+
+def form_words(form):
+    names = dict.fromkeys(it for it in form[1] if it in ("NAME", "BYTES", "TRIES", "STEPS", "SEED"))
+    ranges = [f"{it} {RANGES[it][0]} to {RANGES[it][1]}" for it in names]
+    return f"`{form[0]}`" + (f", {', '.join(ranges)}" if ranges else "")
+
+
+def fits(words, form):
+    """Whether the words after the first have the form's count and ranges."""
+    if len(words) != len(form[1]) + 1:
+        return False
+    pairs = zip(words[1:], form[1])
+    return all(re.fullmatch("[0-9]{1,10}", it) and RANGES[of][0] <= int(it) <= RANGES[of][1] for it, of in pairs)
+
+
+def stage_before(lines):
+    """Where a trace stands after these lines: start, type, section, stops, turns, threads, generated or over."""
+    stage = "start"
+    for words in filter(is_said, lines):
+        after = {"type": "type", "types": "type", "scheduler": "section", "stop": "stops", "schedule": "turns",
+                 "threads": "threads", "generate": "generated", "end": "over"}
+        stage = after.get(words[0], stage)
+    return stage
+
+
+def of_syntax(stage, words, command):
+    """What a line may be that is refused for its syntax."""
+    first, form = words[0], OPERATIONS.get(words[0]) or OTHERS.get(words[0])
+    if stage == "start":
+        return f"`types X Y ..` first, of {LETTERS}" if command == "types" else f"`type X` first, of {LETTERS}"
+    if stage == "over":
+        return "nothing after `end`"
+    if stage == "type":
+        return "`scheduler 1` before its operations; or `generate SEED COUNT`"
+    if stage == "turns":
+        return "turns, as 1 or 2*50, or `end`"
+    if stage in ("threads", "generated"):
+        return "`end`"
+    if first == "end":
+        return "`schedule` or `threads` before `end`"
+    if stage == "stops" and first in OPERATIONS:
+        return "`stop`, `schedule` or `threads`: the sections are over"
+    if form and not fits(words, form):
+        return form_words(form)
+    names = [*OPERATIONS, "scheduler", "stop", "schedule", "threads"]
+    near = difflib.get_close_matches(first.lower(), names, 1)
+    return f"a line that begins with one of {' '.join(names)}" + (f"; near it is {near[0]}" if near else "")
+
+
+def of_recorded_syntax(lines, words):
+    said = [*filter(is_said, lines)]
+    if not said:
+        return f"`type X` first, of {LETTERS}"
+    if said[-1][0] == "end":
+        return "nothing after `end`"
+    if len(words) > 1 and words[0].isdigit() and words[1] in OPERATIONS:
+        return f"a scheduler and {form_words(OPERATIONS[words[1]])}"
+    return "a scheduler and its operation, as `2 alloc 7 100`, or `end`"
+
+
+def of_types_syntax(lines, words):
+    """With several types an operation has its letter before it."""
+    stage = stage_before(lines)
+    if stage == "section" and words[0] in OPERATIONS:
+        return f"the letter of its type before it, as `H {' '.join(words)}`"
+    if stage == "section" and len(words) > 1 and words[0] in LETTERS.split():
+        return of_syntax(stage, words[1:], "types")
+    return of_syntax(stage, words, "types")
+
+
+def of_scheduler(lines, count, command):
+    """A scheduler's number that may not stand there."""
+    said = [words for words in lines if is_said(words)]
+    heads = sum(words[0] == "scheduler" for words in said)
+    have = f"+S is {count}, so schedulers are 1 to {count}"
+    if command != "recorded" and heads < count and stage_before(lines) in ("type", "section"):
+        return f"{have}; the next section is `scheduler {heads + 1}`"
+    return f"{have}; give +S as many as there are sections" if command != "recorded" else have
+
+
+def schedulers_of(words):
+    return next((int(value) for flag, value in reversed([*zip(words[::2], words[1::2])]) if flag == "+S"), 1)
+
+
+def of_line(kind, at, command, words, data):
+    """What was expected in a line of the input."""
+    if kind in OF_WHOLE:
+        return OF_WHOLE[kind]
+    lines = [words_of(it) for it in data.split(b"\n")] if data is not None else []
+    if command not in ("", "types", "recorded") or not 0 < at <= len(lines) or not lines[at - 1]:
+        return "docs/FORMATS.md says what a line may be"
+    before, line = lines[: at - 1], lines[at - 1]
+    if kind == "bad scheduler":
+        return of_scheduler(before, schedulers_of(words), command)
+    if command == "recorded":
+        return of_recorded_syntax(before, line)
+    if command == "types":
+        return of_types_syntax(before, line)
+    return of_syntax(stage_before(before), line, command)
+
+
+def command_and_flags(words):
+    return (words[0], words[1:]) if words and words[0] in COMMANDS else ("", list(words))
+
+
+def explained(said, words, data):
+    """What was expected where the program said this of these words and of this input, None where that isn't known."""
+    said = said.strip().removeprefix("erts_alloc_run: ")
+    command, flags = command_and_flags(words)
+    found = refusal(flags)
+    match = re.fullmatch(r"(?:line ([0-9]+): )?(.*)", said)
+    if said.startswith("word "):
+        return found[1] if found and found[0] == said else None
+    if match and (match[1] or match[2] in OF_WHOLE):
+        return of_line(match[2], int(match[1] or 0), command, flags, data)
+    return None
+
+
+def data_of_input():
+    """Standard input, where it is a file that can be read anew."""
+    try:
+        if stat.S_ISREG(os.fstat(0).st_mode):
+            with open("/dev/stdin", "rb") as file:
+                return file.read(2**24 + 1)
+    except OSError:
+        pass
+    return None
+
+
+def main(words):
+    if len(words) < 2 or words[1] != "--":
+        print("expected.py: due are LINE -- WORDS", file=sys.stderr)
+        return 2
+    said, given = words[0], words[2:]
+    command, flags = command_and_flags(given)
+    if not said:
+        found = refusal(flags) if command in ("", "types", "recorded") else None
+        if found:
+            print(f"erts_alloc_run: {found[0]}\nrun: expected: {found[1]}")
+        return 0
+    found = explained(said, given, data_of_input())
+    if found:
+        print(f"run: expected: {found}")
+    return 0
+
+
+if __name__ == "__main__":
+    sys.exit(main(sys.argv[1:]))

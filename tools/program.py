@@ -1,0 +1,136 @@
+"""The program, for the tools that run it: where it is, runs that end when the tool does, and its inputs."""
+import contextlib
+import glob
+import os
+import signal
+import subprocess
+import sys
+import tempfile
+import threading
+
+from refused import Refused
+
+TOP = os.path.dirname(os.path.dirname(os.path.realpath(__file__)))
+NOT_BUILT = 70
+SMALLEST_TRACE = b"type H\nscheduler 1\nschedule\nend\n"
+# The program's first words for an input of several allocator types, which begins the first line of that, too, and for
+# one of operations in their recorded order.
+OF_SEVERAL, OF_RECORDED = "types", "recorded"
+COMMANDS = (OF_SEVERAL, OF_RECORDED)
+
+
+def reason_of(error):
+    return error.strerror or str(error)
+
+
+# Inputs
+
+
+def is_said(line):
+    """Whether the program does not skip a line."""
+    return bool(line.strip()) and not line.lstrip().startswith(b"#")
+
+
+def command_of(lines):
+    """The words that come before the flags where the program takes an input of these lines: after the `type` line of a
+    recorded one each line begins with a scheduler."""
+    said = filter(is_said, lines)
+    first, second = (next(said, b"").split(None, 1)[:1] for _ in range(2))
+    if first == [OF_SEVERAL.encode()]:
+        return [OF_SEVERAL]
+    is_recorded = first == [b"type"] and second and (second[0].isdigit() or second == [b"end"])
+    return [OF_RECORDED] if is_recorded else []
+
+
+# Runs
+
+# Those that are under way, of this process.
+RUNNING = set()
+LOCK = threading.Lock()
+
+
+class Ended(Exception):
+    """A run that was ended, since its seconds were over."""
+
+
+def run(words, data, seconds=None):
+    """What a run of these words with this input did. It is ended when its seconds are over, or by end_runs."""
+    how = {"stdin": subprocess.PIPE, "stdout": subprocess.PIPE, "stderr": subprocess.PIPE, "start_new_session": True}
+    with subprocess.Popen(words, **how) as child:
+        with LOCK:
+            RUNNING.add(child)
+        try:
+            text, said = child.communicate(data, timeout=seconds)
+        except subprocess.TimeoutExpired:
+            raise Ended(f"it was ended after {seconds} seconds") from None
+        finally:
+            with LOCK:
+                RUNNING.discard(child)
+            if child.poll() is None:
+                kill(child)
+    return subprocess.CompletedProcess(words, child.returncode, text, said)
+
+
+def kill(child):
+    """Ends a run and what it has started."""
+    with contextlib.suppress(ProcessLookupError):
+        os.killpg(child.pid, signal.SIGKILL)
+
+
+def end_runs():
+    """Ends the runs of this process at once."""
+    for child in [*RUNNING]:
+        kill(child)
+
+
+def end_runs_by_signals(status=128):
+    """SIGINT and SIGTERM end this process and its runs at once, with 128 and the signal's number."""
+
+    def end(number, _):
+        end_runs()
+        os._exit(status + number)
+
+    for it in (signal.SIGINT, signal.SIGTERM):
+        if signal.getsignal(it) != signal.SIG_IGN:
+            signal.signal(it, end)
+
+
+# Where it is
+
+
+def unproved_program(tell):
+    """The path of a program that ./run compiles without a proof, in a folder that is removed at the end."""
+    folder = tempfile.TemporaryDirectory(prefix="unproved-")
+    path = f"{folder.name}/erts_alloc_run"
+    ran = subprocess.run([f"{TOP}/run", "--unproved", "--keep", path], stdin=subprocess.DEVNULL, check=False)
+    if ran.returncode:
+        raise Refused(f"{TOP}/run: the program could not be compiled")
+    unproved_program.folder = folder
+    tell("nothing is proved of the program that is run")
+    return path
+
+
+def find_program(given, is_unproved, tell):
+    """The path of the program, which has run the smallest trace."""
+    if is_unproved:
+        given = unproved_program(tell)
+    path = os.path.abspath(given) if given else f"{TOP}/run"
+    kept = f"{glob.escape(TOP)}/out/erts_alloc_run-*"
+    if not given and not glob.glob(kept):
+        tell("./run is asked for the program, and may have to prove and build it for half an hour; --unproved takes"
+             " half a minute, and --program PATH takes one that is there")
+    try:
+        ran = subprocess.run([path], input=SMALLEST_TRACE, stdout=subprocess.PIPE, check=False)
+    except OSError as error:
+        raise Refused(f"{given or path}: {reason_of(error)}") from error
+    if ran.returncode == NOT_BUILT:
+        raise Refused(f"{path}: the program could not be proved or built")
+    if ran.returncode or not ran.stdout.startswith(b"scheduler 1\ntotal "):
+        raise Refused(f"{given or path}: this is not the simulator: it ends with status {ran.returncode}")
+    found = [] if given else glob.glob(kept)
+    return found[0] if len(found) == 1 else path
+
+
+def told_of(said):
+    """The program's line on standard error, without its name."""
+    return said.decode(errors="replace").strip().rpartition("\n")[2].removeprefix("erts_alloc_run: ")

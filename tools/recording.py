@@ -1,0 +1,333 @@
+"""What tools/record wrote of a node: how tools/load reads it, and makes an input of it."""
+import re
+from collections import Counter
+from dataclasses import dataclass, field
+
+from refused import Refused, demand
+
+FIRST_LINE = "node-record 1"
+LETTERS = "BDEHLRST"
+MOST_SCHEDULERS = 64
+MOST_OPERATIONS = 1048576
+LARGEST_INPUT = 2**24
+MOST_BYTES = 1073741823
+END = "end\n"
+# The turns that an operation takes with an empty queue, if no carrier migrates.
+TURNS = {"give": 2, "take": 2}
+
+
+@dataclass
+class Instance:
+    """What the node said of an instance: carriers and their bytes, of those that it uses, of its pool and of the
+    singleblock ones, and all blocks and theirs."""
+
+    number: int
+    multi: int
+    multi_bytes: int
+    pooled: int
+    pooled_bytes: int
+    single: int
+    single_bytes: int
+    blocks: int
+    block_bytes: int
+
+    @property
+    def carriers(self):
+        return self.multi + self.pooled + self.single
+
+    @property
+    def carrier_bytes(self):
+        return self.multi_bytes + self.pooled_bytes + self.single_bytes
+
+
+@dataclass
+class Mark:
+    """After how many events it was set, and the instances of each letter."""
+
+    events: int
+    name: str
+    instances: dict = field(default_factory=dict)
+
+
+@dataclass
+class Recording:
+    """The head of a file, and where its events begin: how many lines come before them."""
+
+    path: str
+    types: list = field(default_factory=list)
+    schedulers: int = 0
+    megabytes: int = 0
+    flags: dict = field(default_factory=dict)
+    untranslated: list = field(default_factory=list)
+    marks: list = field(default_factory=list)
+    threads: dict = field(default_factory=dict)
+    lines: int = 0
+
+    def mark(self, name):
+        found = next((it for it in self.marks if it.name == name), None)
+        names = ", ".join(it.name for it in self.marks)
+        demand(found, f"{self.path}: there is no mark {name}: there are {names}")
+        return found
+
+    def letter(self, wanted):
+        """The letter that is wanted, or the only one."""
+        demand(wanted or len(self.types) == 1, f"{self.path}: it has the types {' '.join(self.types)}: choose by --type")
+        demand(not wanted or wanted in self.types, f"{self.path}: it has no type {wanted}")
+        return wanted or self.types[0]
+
+
+# ---------------------------------------------------------------------------------------------------------------------
+# The file
+# ---------------------------------------------------------------------------------------------------------------------
+
+
+def number(word):
+    demand(re.fullmatch(r"[0-9]{1,18}", word), f"{word[:40]!a} is no number")
+    return int(word)
+
+
+def read_head_line(made, words):
+    """Takes over a line that comes before the events."""
+    kind, rest = words[0], words[1:]
+    if kind == "types":
+        demand(rest and all(it in LETTERS and len(it) == 1 for it in rest), f"letters are due, of {' '.join(LETTERS)}")
+        made.types = rest
+    elif kind in ("schedulers", "super") and len(rest) == 1:
+        setattr(made, "schedulers" if kind == "schedulers" else "megabytes", number(rest[0]))
+    elif kind == "flags":
+        demand(len(rest) % 2 == 0 and all(it[:2] == "+M" and it[2:3] in LETTERS for it in rest[::2]), "pairs are due")
+        made.flags.setdefault(rest[0][2] if rest else "", []).extend(rest)
+    elif kind == "untranslated":
+        made.untranslated.append(" ".join(rest))
+    elif kind == "mark" and len(rest) == 2:
+        made.marks.append(Mark(number(rest[0]), rest[1]))
+    elif kind == "instance" and len(rest) == 10:
+        demand(made.marks, "no `mark` line stands before it")
+        made.marks[-1].instances.setdefault(rest[0], []).append(Instance(*map(number, rest[1:])))
+    elif kind == "thread" and len(rest) >= 2:
+        made.threads[rest[0]] = number(rest[1])
+    else:
+        raise Refused(f"no line is {' '.join(words)[:60]!a}")
+
+
+def read_recording(path):
+    """The head of a file, or a refusal with its name and the number of the line."""
+    made, at = Recording(path), 1
+    try:
+        with open(path, encoding="utf-8", errors="replace") as file:
+            demand(next(file, "").rstrip() == FIRST_LINE, f"it is not `{FIRST_LINE}`")
+            for at, line in enumerate(file, 2):
+                words = line.split()
+                if words == ["events"]:
+                    break
+                if words and not words[0].startswith("#"):
+                    read_head_line(made, words)
+            else:
+                raise Refused("there is no `events` line")
+    except OSError as error:
+        raise Refused(f"{path}: {error.strerror}") from None
+    except Refused as what:
+        raise Refused(f"{path}: line {at}: {what}") from None
+    demand(made.types and made.marks, f"{path}: there is no `types` line or no `mark` line")
+    demand(1 <= made.schedulers <= MOST_SCHEDULERS,
+           f"{path}: the node has {made.schedulers} schedulers, and a run has 1 to {MOST_SCHEDULERS}")
+    made.lines = at
+    return made
+
+
+# ---------------------------------------------------------------------------------------------------------------------
+# The operations
+# ---------------------------------------------------------------------------------------------------------------------
+
+
+class Full(Exception):
+    """No operation more fits the limits."""
+
+
+@dataclass
+class Block:
+    """The name and size of a block, and who has it; 0 is a thread that is no scheduler, whose blocks are left out."""
+
+    name: int
+    size: int
+    holder: int
+
+
+class Maker:
+    """Follows the events of one allocator, and makes operations of them: (scheduler, line), and (0, mark)."""
+
+    def __init__(self, recording, letter, others, more):
+        self.threads = {it: number or others for it, number in recording.threads.items()}
+        self.letter, self.more = letter, more
+        self.blocks, self.moving = {}, {}
+        self.lines, self.names, self.operations = [], 0, 0
+        self.size = len(f"type {letter}\n") + len(END)
+        self.counts, self.said = Counter(), Counter()
+
+    def add(self, *operations):
+        """Adds all of them, or none where they don't fit."""
+        texts = [(me, f"{me} {line}\n") for me, line in operations]
+        size = sum(len(it) for _, it in texts)
+        if self.operations + len(texts) > MOST_OPERATIONS or self.size + size > LARGEST_INPUT:
+            raise Full
+        self.size += size
+        self.operations += len(texts)
+        self.lines += texts
+        for _, line in operations:
+            self.counts[line.split(" ", 1)[0]] += 1
+
+    def mark(self, name):
+        line = f"# mark {name}\n"
+        if self.size + len(line) <= LARGEST_INPUT:
+            self.size += len(line)
+            self.lines.append((0, line))
+
+    def scheduler(self, thread):
+        return self.threads.get(thread, 0)
+
+    def alloc(self, me, place, size):
+        if not me:
+            self.said["other"] += 1
+        elif size > MOST_BYTES:
+            self.said["large"] += 1
+            me = 0
+        else:
+            self.add((me, f"alloc {self.names + 1} {size}"))
+            self.names += 1
+        self.blocks[place] = Block(self.names, size, me)
+
+    def handed(self, me, block):
+        """The operations that bring a block to the scheduler that frees it or reallocates it."""
+        if me == block.holder:
+            return []
+        return [(block.holder, f"give {block.name} {me}"), (me, f"take {block.name} 1")]
+
+    def free(self, me, place):
+        block = self.blocks.get(place)
+        if block is None:
+            self.said["before"] += 1
+        elif not block.holder:
+            self.said["other"] += 1
+        else:
+            who = me or block.holder
+            self.said["freed"] += not me
+            self.add(*self.handed(who, block), (who, f"free {block.name}"))
+        self.blocks.pop(place, None)
+
+    def begin_move(self, thread, place, size):
+        """A reallocation: where the block lay another may lie before its end is noted."""
+        self.moving[thread] = self.blocks.pop(place, None), size
+
+    def end_move(self, me, thread, place):
+        old, size = self.moving.pop(thread, (None, 0))
+        self.said["before"] += old is None
+        if old is None or not old.holder or not me or size > MOST_BYTES:
+            if old and old.holder:
+                self.add((old.holder, f"free {old.name}"))
+            self.alloc(me, place, size)
+            return
+        self.add(*self.handed(me, old), (me, f"realloc {old.name} {self.names + 1} {size}"))
+        self.names += 1
+        self.blocks[place] = Block(self.names, size, me)
+
+    def take(self, words):
+        """Takes over an event."""
+        kind, thread, place = words[0], words[2], words[3]
+        me = self.scheduler(thread)
+        if kind in ("alloc", "to") and place in self.blocks:
+            # A lost event was its free.
+            self.said["unclear"] += 1
+            self.free(0, place)
+        if kind == "alloc":
+            self.alloc(me, place, int(words[4]) + self.more)
+        elif kind == "free":
+            self.free(me, place)
+        elif kind == "realloc":
+            self.begin_move(thread, place, int(words[4]) + self.more)
+        else:
+            self.end_move(me, thread, place)
+
+
+def follow(recording, maker, last):
+    """Gives the maker the events up to a mark. It returns how many events were taken, and whether all of them were."""
+    marks = sorted(recording.marks, key=lambda it: it.events)
+    done = at = 0
+    with open(recording.path, encoding="ascii", errors="replace") as file:
+        for _ in range(recording.lines):
+            next(file)
+        try:
+            for at, line in enumerate(file, 1):
+                while done < len(marks) and marks[done].events < at:
+                    maker.mark(marks[done].name)
+                    done += 1
+                if at > last.events:
+                    return at - 1, True
+                words = line.split()
+                if words[0] == "lost":
+                    maker.said["lost"] += 1
+                elif words[1] == maker.letter:
+                    maker.take(words)
+        except Full:
+            return at - 1, False
+        except (IndexError, ValueError):
+            raise Refused(f"{recording.path}: line {recording.lines + at}: it is no event") from None
+    for it in marks[done:]:
+        maker.mark(it.name)
+    return at, True
+
+
+def told(recording, maker, last, taken, is_whole):
+    """Comment lines on what was made and left out."""
+    said = maker.said
+    yield "Of a node are order, sizes, and who allocates, reallocates and frees; sizes are those that were asked for."
+    yield f"Of {last.events} recorded events of all types {taken} are taken, up to mark {last.name}."
+    if not is_whole:
+        yield "CUT: more operations than these do not fit an input of the program; marks after the last one are left out."
+    yield "Operations: " + ", ".join(f"{maker.counts[it]} {it}" for it in ("alloc", "realloc", "free", "give", "take"))
+    for count, words in (
+        (said["before"], "frees and reallocations of blocks that were there before the recording; a free is left out"),
+        (said["other"], "operations of threads that are no schedulers, left out"),
+        (said["freed"], "frees of such threads, done by the scheduler that had the block"),
+        (said["large"], f"blocks of more than {MOST_BYTES} bytes, left out"),
+        (said["lost"], "events that were not noted whole, of any type, left out"),
+        (said["unclear"], "blocks whose free was not noted, freed where the next one has their place"),
+    ):
+        if count:
+            yield f"{count} {words}."
+
+
+def own_flags(recording, letter, megabytes):
+    """The flags that the node runs under, as the program takes them."""
+    return ["+S", str(recording.schedulers), "+MMscs", str(megabytes), *recording.flags.get(letter, [])]
+
+
+def untranslated(recording, letter):
+    """What of the node's settings has no flag here."""
+    return [it for it in recording.untranslated if it.startswith(f"+M{letter}")]
+
+
+def as_recorded(maker):
+    return [text for _, text in maker.lines]
+
+
+def as_trace(maker, schedulers):
+    """The sections, and turns that follow the order about: as many as the operations take with empty queues, if no
+    carrier migrates."""
+    sections = [[] for _ in range(schedulers)]
+    turns = []
+    for me, text in maker.lines:
+        if me:
+            line = text.split(" ", 1)[1]
+            sections[me - 1].append(line.replace(" 1\n", " 1000\n") if line.startswith("take ") else line)
+            count = TURNS.get(line.split(" ", 1)[0], 1)
+            if turns and turns[-1][0] == me:
+                turns[-1][1] += count
+            else:
+                turns.append([me, count])
+    for me, section in enumerate(sections, 1):
+        yield f"scheduler {me}\n"
+        yield from section
+    yield "schedule\n"
+    words = [f"{me}*{count}" for me, count in turns]
+    for at in range(0, len(words), 16):
+        yield " ".join(words[at : at + 16]) + "\n"

@@ -1,0 +1,253 @@
+"""The rows of tools/compare: what came of a run, or of a type or a mark of it."""
+import itertools
+import os
+import stat
+import time
+from collections import Counter
+
+from columns import DECIMALS
+from program import OF_RECORDED, Ended, command_of, is_said, reason_of, run, told_of
+from replay import UNITS_EVER, replay
+from texts import (
+    NUMBERS_OF_AN_INSTANCE, allocated_in, can_migrate, carrier_of, is_placed, owner_of, read_texts, read_traces, units_of
+)
+
+UNITS_OF_A_MB = 2**17
+BYTES_OF_A_UNIT = 8
+MARK = b"# mark "
+WHOLE = "end"
+
+
+def percent(part, whole):
+    """Rounded down to tenths."""
+    return 1000 * part // whole / 10 if whole else None
+
+
+def bound(sign, number):
+    return f"{sign}{number}"
+
+
+def megabytes(units):
+    """Of units, or of a bound of them."""
+    if units is None:
+        return None
+    sign, number = (units[:2], int(units[2:])) if isinstance(units, str) else ("", units)
+    number = round(number / UNITS_OF_A_MB, DECIMALS["mb_most"])
+    return bound(sign, number) if sign else number
+
+
+# What the text says
+
+
+def count_blocks(text):
+    """How many blocks are held or given at the end."""
+    count = 0
+    for entry in itertools.chain(*text.logs):
+        count += entry[0] == "alloc" and is_placed(entry)
+        count -= entry[0] == "free" and entry[2] != "skipped"
+    return count
+
+
+def of_blocks(text):
+    """The columns on the blocks at the end, and on the gaps between them."""
+    count, singles = count_blocks(text), [it for it in text.carriers if it[2] == "single"]
+    gaps = [int(it[it.index("largest") + 1]) for it in text.carriers if it[2] != "single"]
+    return {
+        "blocks_end": count,
+        "block_bytes": text.total["live"] * BYTES_OF_A_UNIT // count if count else None,
+        "blocks_single": sum(allocated_in(it) > 0 for it in singles),
+        "mb_single": megabytes(sum(map(units_of, singles))),
+        "gap_kb": max(gaps, default=0) * BYTES_OF_A_UNIT // 1024,
+    }
+
+
+def utilisation_each(text):
+    """Of the carriers that each instance uses."""
+    parts = []
+    for me in range(1, len(text.logs) + 1):
+        used = [it for it in text.carriers if it[5] == "employed" and int(it[6]) == me]
+        part = percent(sum(map(allocated_in, used)), sum(map(units_of, used)))
+        parts.append("-" if part is None else str(part))
+    return "/".join(parts)
+
+
+def counted(trace, text):
+    """The columns that are counts of entries, or stand in the totals or the lines of carriers."""
+    total = text.total
+    reasons, moved = Counter(), 0
+    for entry in itertools.chain(*text.logs):
+        if entry[0] in ("alloc", "realloc") and "fail" in entry:
+            reasons[entry[-1]] += 1
+        moved += entry[0] == "realloc" and "moved" in entry
+    is_generated = text.generated_failed is not None
+    return {
+        "carriers_end": total["carriers"],
+        "units_end": total["units"],
+        "mb_end": megabytes(total["units"]),
+        "utilisation_end": percent(total["live"] + total["queued"], total["units"]),
+        **({} if is_generated else {**of_blocks(text), "utilisation_each": utilisation_each(text)}),
+        "failed": text.generated_failed if is_generated else sum(reasons.values()),
+        "failed_space": None if is_generated else reasons["space"],
+        "failed_numbers": None if is_generated else reasons["numbers"],
+        "moved": moved,
+        "queued": total["queued"],
+        "stopped": len(text.stopped),
+        "undone": sum(map(len, trace.sections)) - sum(map(len, text.logs)),
+    }
+
+
+def replayed(found):
+    """The columns of a replay."""
+    return {
+        "carriers_most": found.most_carriers,
+        "units_most": found.most_units,
+        "utilisation_most": percent(*found.most_use),
+        **{name: found.counts[name] for name in ("abandoned", "fetched", "returned")},
+    }
+
+
+def most_carriers(text):
+    """The sum over the owners of how many carriers each had at most, by their greatest numbers."""
+    numbers = {carrier_of(it) for it in itertools.chain(*text.logs) if is_placed(it)}
+    numbers.update(int(it[1]) for it in text.carriers)
+    most = Counter()
+    for number in numbers:
+        most[owner_of(number)] = max(most[owner_of(number)], (number - 1) % NUMBERS_OF_AN_INSTANCE + 1)
+    all_most = sum(most.values())
+    return all_most if len(most) <= 1 or all_most == text.total["carriers"] else bound("<=", all_most)
+
+
+def most_units(trace, text):
+    """The sum of the greatest units that the schedulers' last `info` tell, where each has one after its last block; a
+    stopped `realloc` may have placed one without an entry."""
+    parts = []
+    for me, (section, log) in enumerate(zip(trace.sections, text.logs), 1):
+        if len(log) < len(section) and section[len(log)].split()[0] == b"realloc":
+            return None
+        last = next((it for it in reversed(log) if it[0] == "info" or is_placed(it)), None)
+        if last is None:
+            parts.append(sum(units_of(it) for it in text.carriers if it[2] == "main" and int(it[4]) == me))
+        elif last[0] != "info":
+            return None
+        else:
+            parts += [int(last[UNITS_EVER]), int(last[len(last) // 2 + UNITS_EVER])]
+    most = sum(parts)
+    return most if sum(it > 0 for it in parts) <= 1 or most == text.total["units"] else bound("<=", most)
+
+
+def shown(text):
+    """At least how many carriers were abandoned, fetched and returned, as far as the text shows it."""
+    fetched = set()
+    for me, log in enumerate(text.logs, 1):
+        fetched.update((me, it) for it in map(carrier_of, filter(is_placed, log)) if owner_of(it) != me)
+    states = Counter(it[5] for it in text.carriers)
+    numbers = {
+        "abandoned": len(fetched) + states["pooled"] + states["busy"],
+        "fetched": len(fetched),
+        "returned": states["returning"],
+    }
+    return {name: bound(">=", number) if number else None for name, number in numbers.items()}
+
+
+def bounded(trace, text, migrates):
+    """The columns of a run whose order is not known."""
+    made = {name: 0 for name in ("abandoned", "fetched", "returned") if not migrates}
+    if text.logs and migrates:
+        made = shown(text)
+    if text.logs:
+        made["carriers_most"] = most_carriers(text)
+        made["units_most"] = None if migrates else most_units(trace, text)
+    return made
+
+
+# Runs
+
+
+def read_input(file):
+    """The bytes of a regular file, or what is said of it."""
+    try:
+        with open(file, "rb") as source:
+            if not stat.S_ISREG(os.fstat(source.fileno()).st_mode):
+                return None, f"{file}: no regular file"
+            return source.read(), None
+    except OSError as error:
+        return None, f"{file}: {reason_of(error)}"
+
+
+def fronts_of(data):
+    """The marks of an input, each with the input up to it, and None with all of it. In a trace a mark stands in a
+    section; the later ones are empty then. So it is for inputs whose order is that of their lines."""
+    lines = data.split(b"\n")
+    places = [at for at, line in enumerate(lines) if line.startswith(MARK)]
+    for at in places:
+        yield lines[at][len(MARK):].decode("latin-1").strip(), b"\n".join([*lines[:at], *closed(lines[at:], lines), b""])
+    yield None, data
+
+
+def closed(rest, lines):
+    """What ends an input that is cut before the rest of its lines."""
+    if command_of(lines) == [OF_RECORDED]:
+        return [b"end"]
+    heads = [it for it in rest if is_said(it) and it.split()[0] in (b"scheduler", b"schedule", b"threads")]
+    return [*heads, b"end"]
+
+
+def run_program(program, words, data, seconds):
+    """The status, the text, what was said and the seconds of one run."""
+    command = command_of(data.split(b"\n", 100)[:100])
+    began = time.perf_counter()
+    try:
+        ran = run([program, *command, *words], data, seconds)
+    except Ended as ended:
+        return None, b"", str(ended), None
+    except OSError as error:
+        return None, b"", f"{error.filename or program}: {reason_of(error)}", None
+    said = told_of(ran.stderr)
+    if ran.returncode < 0:
+        said = f"ended by signal {-ran.returncode}"
+    return ran.returncode, ran.stdout, said, time.perf_counter() - began
+
+
+def empty_row(flags, file):
+    return {"list": flags.name, "flags": " ".join(flags.words), "trace": file}
+
+
+def columns_of(program, words, trace, text, seconds):
+    """The columns of a trace that was run, or of one type of several."""
+    trace.sections += [[] for _ in text.logs[len(trace.sections) :] if trace.sections]
+    found = replay(program, words, trace, text, seconds) if trace.has_one_order() else None
+    of_time = replayed(found) if found else bounded(trace, text, can_migrate(trace.letter, words))
+    return {"type": trace.letter, **counted(trace, text), **of_time, "mb_most": megabytes(of_time.get("units_most"))}
+
+
+def rows_of_input(program, flags, row, data, seconds):
+    """The lines of the table for one input, one for each of its types."""
+    row["status"], output, said, wall = run_program(program, flags.words, data, seconds)
+    row["said"] = said or None
+    row["seconds"] = wall and round(wall, DECIMALS["seconds"])
+    if row["status"] != 0:
+        return [row]
+    try:
+        texts, traces = read_texts(output), read_traces(data)
+        if len(texts) != len(traces):
+            raise ValueError(f"it has {len(texts)} types in place of {len(traces)}")
+        return [{**row, **columns_of(program, flags.words, *it, seconds)} for it in zip(traces, texts)]
+    except Ended as ended:
+        return [{**row, "said": str(ended)}]
+    except (ValueError, LookupError, TypeError) as error:
+        return [{**row, "said": f"the text is not understood: {error}"}]
+
+
+def rows_of_run(program, flags, file, options):
+    """The lines of the table for one run, and with marks for each of them."""
+    data, said = read_input(file)
+    if data is None:
+        return [{**empty_row(flags, file), "status": None, "said": said}]
+    if not options.marks:
+        return rows_of_input(program, flags, empty_row(flags, file), data, options.seconds)
+    rows = []
+    for mark, front in fronts_of(data):
+        row = {**empty_row(flags, file), "mark": mark or WHOLE}
+        if mark != WHOLE:
+            rows += rows_of_input(program, flags, row, front, options.seconds)
+    return rows

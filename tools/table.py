@@ -1,0 +1,142 @@
+"""Tables and where they go, for tools/compare."""
+import csv
+import errno
+import io
+import json
+import os
+import sys
+import tempfile
+
+from columns import DECIMALS, OF_WORDS
+from program import reason_of
+from refused import Refused
+
+
+def number_of(value):
+    """A value by which rows are sorted; of a bound its number."""
+    return float(value[2:]) if isinstance(value, str) else value
+
+
+def by_column(rows, column, is_reversed):
+    """The rows by a column, those without a value last."""
+    known = [it for it in rows if it.get(column) is not None]
+    known.sort(key=lambda it: it[column] if column in OF_WORDS else number_of(it[column]), reverse=is_reversed)
+    return known + [it for it in rows if it.get(column) is None]
+
+
+def by_memory(rows):
+    """The rows by mb_most, or by mb_end where that of one is not known; those whose allocations failed last, since what
+    found no place needs no memory."""
+    column = "mb_most" if all(it.get("mb_most") is not None for it in rows if it.get("status") == 0) else "mb_end"
+    rows = by_column(rows, column, False)
+    return [it for it in rows if not it.get("failed")] + [it for it in rows if it.get("failed")]
+
+
+# The names of lists
+
+
+def parts_of(name):
+    """The words of a list's name, a flag and its value as one."""
+    words, parts = name.split(), []
+    for word in words:
+        if parts and parts[-1].startswith("+") and " " not in parts[-1] and not word.startswith("+"):
+            parts[-1] += f" {word}"
+        else:
+            parts.append(word)
+    return parts
+
+
+def shared_parts(rows):
+    """What the names of all lists have, where there are several."""
+    names = [*dict.fromkeys(it.get("list") or "" for it in rows)]
+    parts = [parts_of(it) for it in names]
+    return [it for it in parts[0] if all(it in other for other in parts)] if len(names) > 1 else []
+
+
+def with_short_names(rows):
+    """The rows with what differs between their lists alone, and what all of these share."""
+    shared = shared_parts(rows)
+    short = {it: " ".join(part for part in parts_of(it) if part not in shared) for it in (row["list"] for row in rows)}
+    return [{**it, "list": short[it["list"]] or "(these alone)"} for it in rows], " ".join(shared)
+
+
+def cell(row, column, unknown):
+    value = row.get(column)
+    if value is None:
+        return unknown
+    return f"{value:.{DECIMALS[column]}f}" if column in DECIMALS and not isinstance(value, str) else str(value)
+
+
+def as_text(rows, columns):
+    """Columns of one width, their heads in two lines if one has two words."""
+    heads = [it for it in zip(*(it.partition("_")[::2] for it in columns)) if any(it)]
+    lines = [*heads, *([cell(row, it, "-") for it in columns] for row in rows)]
+    widths = [max(map(len, it)) for it in zip(*lines)]
+    is_left = [it in OF_WORDS for it in columns]
+    for line in lines:
+        cells = (it.ljust(width) if left else it.rjust(width) for it, width, left in zip(line, widths, is_left))
+        yield "  ".join(cells).rstrip() + "\n"
+
+
+def as_csv(rows, columns):
+    made = io.StringIO()
+    writer = csv.writer(made, lineterminator="\n")
+    writer.writerow(columns)
+    writer.writerows([cell(row, it, "") for it in columns] for row in rows)
+    yield made.getvalue()
+
+
+def as_json(rows, columns):
+    lines = (json.dumps({it: row.get(it) for it in columns}) for row in rows)
+    yield "[\n" + ",\n".join(lines) + "\n]\n"
+
+
+FORMS = {"text": as_text, "csv": as_csv, "json": as_json}
+
+
+class Output:
+    """Standard output, or a file, which is replaced as a whole once its new content is there."""
+
+    def __init__(self, path):
+        self.path = path
+        self.made = None
+        if path and os.path.isdir(path):
+            raise Refused(f"{path}: {os.strerror(errno.EISDIR)}")
+        if path and (not os.path.exists(path) or os.path.isfile(path)):
+            folder = os.path.dirname(os.path.realpath(path))
+            self.made = tempfile.NamedTemporaryFile("wb", prefix=".compare-", dir=folder, delete=False)
+
+    def write(self, text):
+        """Where the file cannot be written, what was to stand there goes to standard output."""
+        data = text.encode(errors="surrogateescape")
+        try:
+            if self.path:
+                self.write_file(data)
+        except OSError as error:
+            write_all(data)
+            raise Refused(f"{self.path}: {reason_of(error)}: it is on standard output") from error
+        if not self.path:
+            write_all(data)
+
+    def write_file(self, data):
+        if self.made is None:
+            with open(self.path, "wb") as it:
+                it.write(data)
+            return
+        with self.made as it:
+            it.write(data)
+        mask = os.umask(0)
+        os.umask(mask)
+        os.chmod(self.made.name, 0o666 & ~mask)
+        os.replace(self.made.name, os.path.realpath(self.path))
+
+    def drop(self):
+        if self.made is not None and os.path.exists(self.made.name):
+            os.unlink(self.made.name)
+
+
+def write_all(data):
+    if not sys.stdout:
+        raise Refused(f"standard output: {os.strerror(errno.EBADF)}")
+    sys.stdout.buffer.write(data)
+    sys.stdout.buffer.flush()

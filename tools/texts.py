@@ -1,0 +1,147 @@
+"""Traces that the program took, and texts that it wrote, for tools/compare."""
+import re
+from dataclasses import dataclass, field, replace
+
+from program import OF_RECORDED, command_of, is_said
+
+UNITS_OF_A_PAGE = 512
+NUMBERS_OF_AN_INSTANCE = 1024
+
+
+@dataclass
+class Trace:
+    """A trace that the program took, or the lines of one type of an input of several. A generated one has no
+    sections."""
+
+    letter: str
+    # The lines of each scheduler's operations.
+    sections: list
+    # After how many steps the schedulers are stopped that have a `stop`.
+    stops: dict
+    has_turns: bool
+    is_threaded: bool
+
+    def has_one_order(self):
+        """Whether each scheduler does all of its operations before the next one begins, or one alone has any."""
+        is_one = len(self.sections) == 1 or sum(map(bool, self.sections)) == 1
+        return is_one or bool(self.sections) and not self.has_turns and not self.is_threaded
+
+
+@dataclass
+class Text:
+    # For each scheduler a list of words for each operation, the words of both lines of an `info` in one.
+    logs: list = field(default_factory=list)
+    # The schedulers that are stopped.
+    stopped: list = field(default_factory=list)
+    # The words of each line of a carrier and of the totals.
+    carriers: list = field(default_factory=list)
+    total: dict = field(default_factory=dict)
+    # What was generated: the failed allocations.
+    generated_failed: int = None
+
+
+def read_traces(text):
+    """The trace of a file that the program took, or that of each type of an input of several, in their order."""
+    lines = [it for it in text.split(b"\n") if is_said(it)]
+    if command_of(lines) == [OF_RECORDED]:
+        return [read_recorded(lines)]
+    made = {letter: Trace(letter.decode(), [], {}, False, False) for letter in lines[0].split()[1:]}
+    one = None if command_of(lines) else next(iter(made.values()))
+    is_over = has_turns = is_threaded = False
+    for line in lines[1:]:
+        words = line.split(None, 2)
+        if is_over:
+            has_turns = has_turns or words != [b"end"]
+        elif words[0] == b"scheduler":
+            for it in made.values():
+                it.sections.append([])
+        elif words[0] in (b"schedule", b"threads", b"generate"):
+            is_over, is_threaded = True, words[0] == b"threads"
+        elif words[0] == b"stop":
+            one.stops[int(words[1])] = int(words[2])
+        elif one:
+            one.sections[-1].append(line)
+        else:
+            made[words[0]].sections[-1].append(line.split(None, 1)[1])
+    return [replace(it, has_turns=has_turns, is_threaded=is_threaded) for it in made.values()]
+
+
+def read_recorded(lines):
+    """The trace of recorded operations: those of each scheduler. How many there are the lines need not tell; one that
+    has none has an empty section, and so have those that only the flags know, of which nothing is asked."""
+    sections = {}
+    for line in lines[1:]:
+        me, _, operation = line.strip().partition(b" ")
+        if me.isdigit():
+            sections.setdefault(int(me), []).append(operation.strip())
+    count = max(sections, default=1)
+    parts = [sections.get(it, []) for it in range(1, count + 1)]
+    return Trace(lines[0].split()[1].decode(), parts, {}, True, False)
+
+
+def read_texts(text):
+    """The text of a run with status 0, or that of each type, in their order."""
+    parts = re.split(rb"^type [A-Z]\n", text, flags=re.MULTILINE)
+    return [read_text(it) for it in parts[1:] or parts]
+
+
+def read_text(text):
+    """The text of one type."""
+    made = Text()
+    for line in text.decode("ascii").split("\n"):
+        words = line.split(" ")
+        if words[0] == "scheduler" and len(words) == 2:
+            made.logs.append([])
+        elif words[0] == "scheduler":
+            made.generated_failed += int(words[5])
+        elif words[0] == "generated":
+            made.generated_failed = 0
+        elif words[0] == "stopped":
+            made.stopped.append(len(made.logs))
+        elif words[0] == "carrier":
+            made.carriers.append(words)
+        elif words[0] == "total":
+            made.total = {name: int(number) for name, number in zip(words[1::2], words[2::2])}
+        elif words[:2] == ["info", "sbcs"]:
+            made.logs[-1][-1] += words
+        elif words[0]:
+            made.logs[-1].append(words)
+    if not made.total:
+        raise ValueError("there is no line of totals")
+    return made
+
+
+def figure(entry, at):
+    """A figure of an `info`, over multiblock and singleblock carriers."""
+    return int(entry[at]) + int(entry[len(entry) // 2 + at])
+
+
+def units_of(carrier):
+    return int(carrier[carrier.index("pages") + 1]) * UNITS_OF_A_PAGE
+
+
+def allocated_in(carrier):
+    return int(carrier[carrier.index("allocated") + 1])
+
+
+def owner_of(number):
+    return (number - 1) // NUMBERS_OF_AN_INSTANCE + 1
+
+
+def is_placed(entry):
+    """Whether an entry says where a block lies."""
+    return entry[0] == "alloc" and entry[2] != "fail" or entry[0] == "realloc" and entry[3] not in ("fail", "skipped")
+
+
+def carrier_of(entry):
+    """The number of the carrier where it does."""
+    return int(entry[2] if entry[0] == "alloc" else entry[3])
+
+
+def can_migrate(letter, words):
+    """Whether the words, which the program took, set the letter's `acul` above 0."""
+    limit = "60"
+    for flag, value in zip(words[::2], words[1::2]):
+        if flag in (f"+M{letter}acul", "+Muacul"):
+            limit = value
+    return letter != "T" and limit.strip("0") != ""
