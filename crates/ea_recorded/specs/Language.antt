@@ -112,9 +112,13 @@ schedule_line = codes "schedule" ∷ []
 abbrev pub end_line : LineWords
 end_line = codes "end" ∷ []
 
--- the section of a scheduler: its lines, in their order
+-- the lines of a scheduler, in their order
+abbrev pub own_of : ℕ → List Told → List Placed
+own_of me told = map placed (filter (is_of me) told)
+
+-- its section
 abbrev pub section : ℕ → List Told → List Placed
-section me told = unplaced (section_line me) ∷ map placed (filter (is_of me) told)
+section me told = unplaced (section_line me) ∷ own_of me told
 
 -- those of `count` schedulers from `me` on
 abbrev pub sections : ℕ → ℕ → List Told → List Placed
@@ -171,10 +175,18 @@ asked_for n x told =
     let ls = trace_lines n x told in
     asked_by (order_of told) (answer_in ls (trace_of n (words_of ls)))
 
--- what all lines ask for at the end
+-- the letter of an input that has come to its end
+abbrev pub ended_letter : Stage → Option Letter
+ended_letter (at.Ended x) = Some x
+ended_letter stage = None
+
+-- what all lines ask for, by that
+abbrev pub asked_if : ℕ → List Told → Option Letter → Asked
+asked_if n told (Some x) = asked_for n x told
+asked_if n told None = Err fault.NoEnd
+
 abbrev pub at_end : ℕ → Stage → List Told → Asked
-at_end n (at.Ended x) told = asked_for n x told
-at_end n stage told = Err fault.NoEnd
+at_end n stage told = asked_if n told (ended_letter stage)
 
 abbrev pub refused_by : Option TraceFault → Asked → Asked
 refused_by None asked = asked

@@ -15,7 +15,7 @@ use crate::input::RecordedInput;
 use crate::lines::{OwnLine, RecordedLine, Stage, gives_to_nobody, is_nobody, read_own};
 use crate::sections::trace_of_lines;
 use ea_model::words::first_line;
-use ea_model::{List, OutOfMemory};
+use ea_model::{Letter, List, OutOfMemory};
 use ea_trace::TraceFault;
 use std::alloc::Global;
 
@@ -27,6 +27,16 @@ fn next(stage: Stage, line: RecordedLine) -> Stage
         (Stage::Start, RecordedLine::Letter { letter }) => Stage::Lines { letter },
         (Stage::Lines { letter }, RecordedLine::End) => Stage::Ended { letter },
         _ => stage,
+    }
+}
+
+/// The letter of an input that has come to its end.
+fn ended_letter(stage: Stage) -> Option<Letter>
+    ensures { result ≡ language.ended_letter stage }
+{
+    match stage {
+        Stage::Ended { letter } => Some(letter),
+        Stage::Start | Stage::Lines { .. } => None,
     }
 }
 
@@ -147,7 +157,7 @@ impl Reading {
         ensures texts { IfOk result (λ i. length i.trace.texts.items ≡ self.schedulers) }
         ensures order { IfOk result (λ i. All (IsScheduler self.schedulers) i.order.items) }
     {
-        let Stage::Ended { letter } = self.stage else {
+        let Some(letter) = ended_letter(self.stage) else {
             return Err(TraceFault::NoEnd);
         };
         let trace = trace_of_lines(alloc, self.schedulers, letter, &self.lines)?;

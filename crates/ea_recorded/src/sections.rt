@@ -5,12 +5,14 @@ ghost use Rattle.ea_model.specs.Trace.{IsValidTrace};
 ghost use Rattle.ea_model.specs.declared.units.TheConstants.{MAX_INPUT, MAX_SCHEDULERS};
 ghost use Rattle.ea_trace.specs.Language.{Gives, LineWords, trace_of};
 ghost use Rattle.ea_trace.specs.Lines.{line_of_words};
-ghost use Rattle.ea_trace.specs.Ranges.{InRange};
+ghost use Rattle.ea_trace.specs.Ranges.{HasRanges, InRange};
 ghost use Rattle.ea_trace.specs.Says.{said};
 ghost use Rattle.ea_trace.specs.Taken.{lines_taken};
 ghost use Rattle.ea_recorded.specs.Language as language;
-ghost use Rattle.ea_recorded.specs.Language.{answer_in, section, trace_lines, words_of};
-ghost use Rattle.ea_recorded.specs.Told.{AreTold, IsTold, PlacedLines, ToldLines, numbers_of};
+ghost use Rattle.ea_recorded.specs.Language.{Told, answer_in, own_of, section, trace_lines};
+ghost use Rattle.ea_recorded.specs.Language.{words_of};
+ghost use Rattle.ea_recorded.specs.Told.{AreTold, IsSaid, IsTold, PlacedLines, ToldLines};
+ghost use Rattle.ea_recorded.specs.Told.{numbers_of};
 
 use crate::lines::OwnLine;
 use ea_model::{Letter, List, OutOfMemory, Trace};
@@ -94,6 +96,21 @@ impl TraceLines {
         Ok(())
     }
 
+    /// Takes a line of an operation, if it is the scheduler's.
+    fn take_own(&mut self, alloc: Global, me: u32, line: OwnLine) -> Result<(), OutOfMemory>
+        requires range { HasRanges line.op }
+        requires room { lines_taken self.old.reader + 1 < 2 ^ 32 }
+        ensures count { OnOk result
+            (lines_taken self.new.reader ≤ lines_taken self.old.reader + 1) }
+        ensures taken { OnOk result ((n : ℕ) (ls : PlacedLines) (t : Told) → HasLines n ls self.old
+            → line ≡ t.own → IsSaid t → HasLines n (ls ++ own_of me (t ∷ [])) self.new) }
+    {
+        if line.scheduler != me {
+            return Ok(());
+        }
+        self.take(alloc, line.number, Line::Operation { op: line.op })
+    }
+
     /// Takes the section of a scheduler.
     fn take_section(
         &mut self,
@@ -112,9 +129,7 @@ impl TraceLines {
     {
         self.take(alloc, 0, Line::Section { number: me })?;
         for line in lines {
-            if line.scheduler == me {
-                self.take(alloc, line.number, Line::Operation { op: line.op })?;
-            }
+            self.take_own(alloc, me, *line)?;
         }
         Ok(())
     }
