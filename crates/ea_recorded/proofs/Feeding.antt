@@ -1,10 +1,10 @@
 -- The lines of the trace: each is said, and they make a trace with a schedule and without stops.
-use Rattle.std.proofs.Common.{◌≡◌, ℕ, zero, suc, ◌+◌, ◌<◌, ◌≤◌, ◌==◌, ◌&&◌, Bool, true, false, List}
+use Rattle.std.proofs.Common.{◌≡◌, ◌≢◌, ℕ, zero, suc, ◌+◌, ◌<◌, ◌≤◌, ◌==◌, ◌&&◌, Bool, true, false, List}
 use Rattle.std.proofs.Common.{[], ◌∷◌, ◌++◌, Option, Some, None, Ok, Err, length, map, refl, sym, ap}
 use Rattle.std.proofs.Common.{subst, ◌∙◌, arith, inl, inr}
 use Rattle.std.proofs.lemmas.Bool.{cases_Bool, cases_eq}
 use Rattle.std.proofs.lemmas.List.{append_assoc, append-nil, length-map, map-append}
-use Rattle.std.specs.Prelude.{All, IfOk, Result, filter, get_or, not, take}
+use Rattle.std.specs.Prelude.{All, IfOk, Result, filter, get_or, take}
 use Rattle.std.specs.List.{find}
 use Rattle.std.proofs.lemmas.List.{get_or-map, take_more}
 use Rattle.std.proofs.lemmas.List.Elements.{All-append, All-cons, All-get_or, All-head, All-nil}
@@ -103,7 +103,7 @@ section-said me few = section-is me (line_of_words (section_line me))
 
 -- the lines of a section
 
-nobody : Told
+abbrev pub nobody : Told
 nobody = record { own = record { number = 0; scheduler = 0; op = Info }; words = [] }
 
 -- the lines of a scheduler up to a place
@@ -348,8 +348,8 @@ module _ (n : ℕ) (x : Letter) (told : List Told) (said : All IsSaid told) (few
   all-texts (Err f) gives valid = tt
 
 -- two numbers that are compared
-pub is-other : (a b : ℕ) → not (a == b) ≡ true → (a == b) ≡ false
-is-other a b e = grind (arith, e)
+pub is-other : (a b : ℕ) → a ≢ b → (a == b) ≡ false
+is-other a b n = grind (arith, n)
 
-pub is-one : (a b : ℕ) → not (a == b) ≡ false → (a == b) ≡ true
+pub is-one : (a b : ℕ) → a ≡ b → (a == b) ≡ true
 is-one a b e = grind (arith, e)

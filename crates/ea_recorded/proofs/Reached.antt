@@ -10,6 +10,7 @@ use Rattle.std.proofs.lemmas.List.Elements.{All-append, All-cons, All-nil}
 use Rattle.ea_model.specs.Trace.{IsScheduler, plain}
 use Rattle.ea_model.specs.Words.{lines, words}
 use Rattle.ea_model.specs.declared.operations.Op.{Op}
+use Rattle.ea_model.specs.declared.operations.Op.TheVariants.{Alloc}
 use Rattle.ea_model.specs.declared.settings.Letter.{Letter}
 use Rattle.ea_model.specs.declared.trace.Trace.{Trace}
 use Rattle.ea_trace.specs.Language.{Answer, Gives, LineWords, WordLines, gives_outside, is_outside}
@@ -34,13 +35,12 @@ use Rattle.ea_recorded.specs.declared.reader.Reading.{Reading}
 
 -- what an operation line says is said by its words after the scheduler
 
-same-operation : (i j : ℕ) (o p : Op) → line.Operation i o ≡ line.Operation j p
-    → said.Operation o ≡ said.Operation p
+same-operation : (i j : ℕ) (o p : Op) → line.Operation i o ≡ line.Operation j p → o ≡ p
 same-operation i j o p e = cc
 
 by-said : (o : Option ℕ) (s : Said) (i : ℕ) (op : Op) → operation_by o s ≡ line.Operation i op
     → s ≡ said.Operation op
-by-said (Some j) (said.Operation p) i op e = same-operation j i p op e
+by-said (Some j) (said.Operation p) i op e = ap said.Operation (same-operation j i p op e)
 by-said (Some j) said.Skipped i op e = absurd cc
 by-said (Some j) (said.Letter x) i op e = absurd cc
 by-said (Some j) (said.Section number) i op e = absurd cc
@@ -116,14 +116,6 @@ few-by number ws (line.Letter x) = omega arith
 few-by number ws line.End = omega arith
 few-by number ws line.Unreadable = omega arith
 
-is-false : (b : Bool) → not b ≡ true → b ≡ false
-is-false true is = absurd cc
-is-false false is = refl
-
-is-true : (b : Bool) → not b ≡ false → b ≡ true
-is-true true is = refl
-is-true false is = absurd cc
-
 module _ (n number : ℕ) (asked : Asked) (ws : LineWords) (left : WordLines) (r : Reading)
     (reads : Reads n asked number (ws ∷ left) r) where
   abbrev l : RecordedLine
@@ -135,17 +127,17 @@ module _ (n number : ℕ) (asked : Asked) (ws : LineWords) (left : WordLines) (r
   refused-by : (f : TraceFault) → refusal n number r.stage l ≡ Some f → asked ≡ Err f
   refused-by f e = reads.gives ∙ ap (λ o. refused_by o later) e
 
-  pub syntax-gives : (stands : Bool) → stands ≡ may_stand r.stage l → not stands ≡ true
+  pub syntax-gives : (stands : Bool) → stands ≡ may_stand r.stage l → stands ≡ false
       → asked ≡ Err (fault.Syntax r.number)
   syntax-gives stands is wrong =
-      refused-by (fault.Syntax number) (rw (sym is ∙ is-false stands wrong) refl)
+      refused-by (fault.Syntax number) (rw (sym is ∙ wrong) refl)
       ∙ ap (λ k. Err (fault.Syntax k)) (sym reads.count)
 
   pub bad-gives : (stands bad : Bool) → stands ≡ may_stand r.stage l → bad ≡ is_bad r.schedulers l
-      → not stands ≡ false → bad ≡ true → asked ≡ Err (fault.BadScheduler r.number)
-  bad-gives stands bad is are not known =
+      → stands ≡ true → bad ≡ true → asked ≡ Err (fault.BadScheduler r.number)
+  bad-gives stands bad is are good known =
       refused-by (fault.BadScheduler number) (rw (
-        sym is ∙ is-true stands not,
+        sym is ∙ good,
         ap (λ k. is_bad k l) (sym reads.schedulers) ∙ sym are ∙ known,
       ) refl)
       ∙ ap (λ k. Err (fault.BadScheduler k)) (sym reads.count)
@@ -179,13 +171,13 @@ module _ (n number : ℕ) (asked : Asked) (ws : LineWords) (left : WordLines) (r
   }
 
   pub reads-more : (stands bad : Bool) → stands ≡ may_stand r.stage l
-      → bad ≡ is_bad r.schedulers l → not stands ≡ false → bad ≡ false → (s : Reading)
+      → bad ≡ is_bad r.schedulers l → stands ≡ true → bad ≡ false → (s : Reading)
       → s.schedulers ≡ r.schedulers → s.number ≡ r.number + 1 → s.stage ≡ next r.stage l
       → ((told : ToldLines) → AreTold told r.lines.items
       → AreTold (told ++ told_by r.number ws l) s.lines.items)
       → Reads n asked (number + 1) left s
-  reads-more stands bad is are not fine s schedulers count stage more =
-      reads-by (sym is ∙ is-true stands not)
+  reads-more stands bad is are good fine s schedulers count stage more =
+      reads-by (sym is ∙ good)
       (ap (λ k. is_bad k l) (sym reads.schedulers) ∙ sym are ∙ fine) s schedulers count stage
       (subst (λ k. AreTold (reads.told ++ told_by k ws l) s.lines.items) reads.count
       (more reads.told reads.own))
@@ -261,6 +253,10 @@ trace-err (fault.NotAddressed number) order read e = ap (asked_by order) e
 trace-err (fault.TooMany number) order read e = ap (asked_by order) e
 trace-err fault.NoEnd order read e = ap (asked_by order) e
 trace-err fault.OutOfMemory order read e = tt
+
+-- the line that stands for one that isn't there
+abbrev pub no_line : OwnLine
+no_line = record { number = 0; scheduler = 0; op = Alloc 0 0 }
 
 -- at the end of all lines
 

@@ -4,7 +4,8 @@ use Rattle.std.specs.Prelude.{All, IfOk}
 use Rattle.ea_model.specs.Trace.{IsScheduler, IsValidTrace}
 use Rattle.ea_model.specs.Words.{words}
 use Rattle.ea_recorded.specs.Input.{GivesInput}
-use Rattle.ea_recorded.specs.Language.{recorded}
+use Rattle.ea_trace.specs.Language.{lines_of}
+use Rattle.ea_recorded.specs.Language.{Asked, recorded}
 use Rattle.ea_recorded.specs.Reading.{Reads, rest_lines}
 use Rattle.ea_recorded.specs.declared.reader.Reading.{Reading}
 use Rattle.ea_recorded.proofs.Reached.{at-number, few-lines, fewer-left, lines-first}
@@ -12,10 +13,12 @@ use Rattle.ea_recorded.proofs.reader.read_recorded.Goals as goal
 
 pub loop-rest-init : goal.loop-rest-init
 loop-rest-init c =
-    let reads = c.new-reading.ensures (recorded c.args.bytes.now c.args.schedulers)
-    (rest_lines _) refl in
+    let n : ℕ = c.args.schedulers in
+    let asked : Asked = recorded c.args.bytes.now n in
+    let reads : Reads n asked 1 (lines_of c.args.bytes.now) c.new-reading.result =
+    c.new-reading.ensures asked (lines_of c.args.bytes.now) refl in
     record {
-      reads = at-number c.args.schedulers _ 1 _ c.new-reading.result reads;
+      reads = at-number n asked 1 (lines_of c.args.bytes.now) c.new-reading.result reads;
       fewer = omega (arith, reads.count);
     }
 
@@ -68,7 +71,8 @@ finish-requires-clause-few c =
     let fewer = rw c.in_default.is at c.loop-rest.invariant.fewer in
     omega (
       arith,
-      few-lines c.args.schedulers _ c.loop-rest.reading.number _ c.loop-rest.reading
+      few-lines c.args.schedulers (recorded c.args.bytes.now c.args.schedulers)
+          c.loop-rest.reading.number (rest_lines c.loop-rest.rest) c.loop-rest.reading
           c.loop-rest.invariant.reads,
       fewer,
       c.requires.bytes,

@@ -9,5 +9,5 @@ invariant-loop-before l = record {
   most : l.before ≤ l.schedulers;
   count : lines_taken l.trace.reader ≤ 1 + l.before * 16777218;
   taken : (told : ToldLines) → AreTold told l.lines
-      → HasLines l.schedulers (unplaced (type_line l.letter) ∷ sections l.before 1 told) l.trace;
+      → HasLines l.schedulers (unplaced (type_line l.fn.letter) ∷ sections l.before 1 told) l.trace;
 }

@@ -8,9 +8,14 @@ use Rattle.ea_recorded.proofs.Reached.{ended-err, ended-ok, not-ended, order-the
 use Rattle.ea_recorded.proofs.reader.Reading.finish.Goals as goal
 
 pub returns-in_default : goal.returns-in_default
-returns-in_default c = λ n number asked reads.
-    not-ended n number asked c.args.self reads c.ended_letter.result c.ended_letter.ensures
-    c.in_default.is
+returns-in_default c = record {
+  given = λ n number asked reads. not-ended n number asked c.args.self reads
+      c.ended_letter.result c.ended_letter.ensures c.in_default.is;
+  valid = tt;
+  unstopped = tt;
+  texts = tt;
+  order = tt;
+}
 
 pub trace_of_lines-requires-clause-few : goal.trace_of_lines-requires-clause-few
 trace_of_lines-requires-clause-few c = rw c.deref.ensures.value c.requires.few
