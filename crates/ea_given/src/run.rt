@@ -186,7 +186,7 @@ impl<'t> GivenRun<'t> {
 
     /// Takes the turns that complete those that were taken: scheduler 1 goes on until it has ended
     /// or is stopped, then scheduler 2, up to the last one.
-    fn complete(&mut self, alloc: Global) -> Result<(), OutOfMemory>
+    pub fn complete(&mut self, alloc: Global) -> Result<(), OutOfMemory>
         requires { IsRun self.old }
         ensures { OnOk result (HasCompleted self.old self.new) }
     {
