@@ -9,6 +9,10 @@ pub enum Command {
     Trace,
     /// `types`: to run several allocator types.
     Types,
+    /// `super`: to play sections on one region that all schedulers share.
+    Super,
+    /// `recorded`: to run operations in the order of their lines.
+    Recorded,
 }
 
 /// The command that the first word names; without such a word that of a trace.
@@ -21,6 +25,10 @@ pub fn command_of(words: &[String]) -> Command
     let name = first.as_bytes();
     if name == b"types".as_slice() {
         Command::Types
+    } else if name == b"super".as_slice() {
+        Command::Super
+    } else if name == b"recorded".as_slice() {
+        Command::Recorded
     } else {
         Command::Trace
     }

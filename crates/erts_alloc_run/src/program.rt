@@ -5,9 +5,12 @@ ghost use Rattle.erts_alloc_run.specs.Commands.{after_first, command, language_o
 
 use crate::commands::{Command, command_of};
 use ea_io::{Sink, Source};
+use ea_recorded::run_recorded;
+use ea_super::run_super;
 use ea_top::run;
 use ea_types::run_types;
 use std::alloc::Global;
+use std::sync::Wait;
 use std::thread::Threads;
 
 /// The words after the first.
@@ -23,7 +26,7 @@ fn after_first(words: &[String]) -> &[String]
 /// Answers as the command does that the first word names, over the words after that one, of which
 /// the first then has the number 1. Where the first word names no command, a trace is run, over all
 /// words.
-pub fn run_program<R: Threads + Sync, S: Source, O: Sink, E: Sink>(
+pub fn run_program<R: Threads + Wait + Sync, S: Source, O: Sink, E: Sink>(
     rt: &R,
     alloc: Global,
     words: &[String],
@@ -39,5 +42,7 @@ pub fn run_program<R: Threads + Sync, S: Source, O: Sink, E: Sink>(
     match command_of(words) {
         Command::Trace => run(rt, alloc, words, source, out, err),
         Command::Types => run_types(rt, alloc, after_first(words), source, out, err),
+        Command::Super => run_super(rt, alloc, after_first(words), source, out, err),
+        Command::Recorded => run_recorded(alloc, after_first(words), source, out, err),
     }
 }
