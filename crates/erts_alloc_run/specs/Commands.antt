@@ -36,4 +36,4 @@ module _ {Z : Type 0} where
   -- the words that a command reads: all but its name
   abbrev pub words_for : Command → List (String Z) → List (String Z)
   words_for Trace ws = ws
-  words_for named ws = after_first ws
+  words_for other ws = after_first ws
