@@ -19,7 +19,6 @@ use Rattle.ea_sound.proofs.Completing.{reached-step}
 use Rattle.ea_sound.proofs.Protocols.{always-protocol}
 use Rattle.ea_sound.proofs.TurnLists.{run-append}
 use Rattle.ea_sched.specs.Acting.{is_ended}
-use Rattle.ea_sched.specs.declared.state.Scheduler.{Scheduler}
 use Rattle.ea_given.specs.declared.run.GivenRun.{GivenRun}
 use Rattle.ea_given.specs.Running.{StandsAt}
 use Rattle.ea_given.specs.Runs.{HasScheduler, HasTaken, IsRun, StandsAfter, StaysInOperation}
@@ -207,15 +206,25 @@ module _ (c : Config) (t : Trace) (config : IsValidConfig c)
       left-is has =
           let place : (me - 1) + 1 ≡ me = omega (arith, has.0) in
           got (λ o. left_to o r.shared ≡ work e w me) r.schedulers.items (me - 1)
-          (omega (arith, has.0, has.1, ap (λ (x : Config). x.schedulers) at.config,
-          at.schedulers.all))
+          (omega (
+            arith,
+            has.0,
+            has.1,
+            ap (λ (x : Config). x.schedulers) at.config,
+            at.schedulers.all,
+          ))
           (λ d.
           let mate = get_or r.schedulers.items (me - 1) d in
           sym (work-is c t me (left_after e turns me) mate (run_with_stops e turns)
           (subst (λ i. StandsAt c t i (left_after e turns i) mate (run_with_stops e turns)) place
           (at.schedulers.each (me - 1) d
-          (omega (arith, has.0, has.1, ap (λ (x : Config). x.schedulers) at.config,
-          at.schedulers.all)))) r.shared at.shared)
+          (omega (
+            arith,
+            has.0,
+            has.1,
+            ap (λ (x : Config). x.schedulers) at.config,
+            at.schedulers.all,
+          )))) r.shared at.shared)
           ∙ ap (λ (w : State). work e w me) (all-taken turns))
 
 -- a run goes on with a line

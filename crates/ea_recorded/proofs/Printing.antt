@@ -20,7 +20,6 @@ use Rattle.ea_model.proofs.Traces.{plain-texts}
 use Rattle.ea_machine.specs.Outcome.{outcome}
 use Rattle.ea_machine.specs.Setup.{setup_of, text_for}
 use Rattle.ea_report.specs.Text.{outcome_text}
-use Rattle.ea_recorded.specs.Language.{Recorded}
 use Rattle.ea_recorded.specs.Order.{recorded_turns}
 use Rattle.ea_recorded.specs.Output.{IsRecordedText}
 

@@ -1,14 +1,13 @@
 -- The language of recorded operations: which line may stand where, the trace that the lines are,
 -- and what is refused. A line is the list of its words.
-use Rattle.std.specs.Prelude.{◌≡◌, ℕ, zero, suc, ◌+◌, ◌-◌, ◌/◌, ◌%◌, ◌==◌, nat_lt, Bool, true}
+use Rattle.std.specs.Prelude.{ℕ, zero, suc, ◌+◌, ◌-◌, ◌/◌, ◌%◌, ◌==◌, nat_lt, Bool, true}
 use Rattle.std.specs.Prelude.{false, ◌||◌, not}
 use Rattle.std.specs.Prelude.{if◌then◌else◌, List, [], ◌∷◌, ◌++◌, Option, None, Some, Result, Ok, Err}
 use Rattle.std.specs.Prelude.{codes, filter, map, slice_index_or}
-use Rattle.ea_model.specs.declared.operations.Op.{Op}
 use Rattle.ea_model.specs.declared.settings.Letter.{Letter}
 use Rattle.ea_model.specs.declared.trace.Trace.{Trace}
 use Rattle.ea_trace.specs.Language.{Answer, LineWords, WordLines, gives_outside, is_outside}
-use Rattle.ea_trace.specs.Language.{lines_of, refused_or, trace_of}
+use Rattle.ea_trace.specs.Language.{lines_of, trace_of}
 use Rattle.ea_trace.specs.Lines.{Said, letter_word, line_of_words, scheduler_in}
 use Rattle.ea_trace.specs.declared.fault.TraceFault.{TraceFault}
 use Rattle.ea_trace.specs.declared.fault.TraceFault.TheVariants as fault

@@ -1,5 +1,5 @@
 -- The turns in which lines are run one after another, each whole before the next one begins.
-use Rattle.std.specs.Prelude.{◌≡◌, ℕ, zero, suc, nat_lt, Bool, true, false, ◌||◌, List, [], ◌∷◌}
+use Rattle.std.specs.Prelude.{ℕ, zero, suc, nat_lt, Bool, true, false, ◌||◌, List, [], ◌∷◌}
 use Rattle.std.specs.Prelude.{◌++◌, length}
 use Rattle.ea_machine.specs.Completion.{complete, work}
 use Rattle.ea_machine.specs.Machine.{run_on, start, step}

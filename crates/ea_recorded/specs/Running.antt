@@ -1,13 +1,11 @@
 -- The run of a trace by its lines, as it stands after some.
 use Rattle.std.specs.Prelude.{◌≡◌, ℕ, ◌-◌, List, [], ◌++◌, All, Option, None, Some, slice_get}
-use Rattle.ea_model.specs.declared.settings.Config.{Config}
-use Rattle.ea_model.specs.declared.trace.Trace.{Trace}
 use Rattle.ea_machine.specs.Machine.{run}
 use Rattle.ea_shared.specs.Memory.{Sharing}
 use Rattle.ea_sched.specs.declared.state.Scheduler.{Scheduler}
 use Rattle.ea_given.specs.declared.run.GivenRun.{GivenRun}
 use Rattle.ea_given.specs.Running.{work_left}
-use Rattle.ea_given.specs.Runs.{GoesOn, HasScheduler, IsRun, StandsAfter}
+use Rattle.ea_given.specs.Runs.{GoesOn, HasScheduler, IsRun}
 use Rattle.ea_recorded.specs.Order.{line_turns, turns_in_order}
 
 -- it is some run of a valid trace, after some turns, and no scheduler of it stops

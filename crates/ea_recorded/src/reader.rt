@@ -48,7 +48,10 @@ fn may_stand(stage: Stage, line: RecordedLine) -> bool
         (stage, line),
         (_, RecordedLine::Skipped)
             | (Stage::Start, RecordedLine::Letter { .. })
-            | (Stage::Lines { .. }, RecordedLine::Operation { .. } | RecordedLine::End)
+            | (
+                Stage::Lines { .. },
+                RecordedLine::Operation { .. } | RecordedLine::End
+            )
     )
 }
 

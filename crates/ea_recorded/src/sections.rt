@@ -112,12 +112,7 @@ impl TraceLines {
     }
 
     /// Takes the section of a scheduler.
-    fn take_section(
-        &mut self,
-        alloc: Global,
-        me: u32,
-        lines: &[OwnLine],
-    ) -> Result<(), OutOfMemory>
+    fn take_section(&mut self, alloc: Global, me: u32, lines: &[OwnLine]) -> Result<(), OutOfMemory>
         requires told { IsTold lines.now }
         requires scheduler { me ≤ MAX_SCHEDULERS }
         requires room { lines_taken self.old.reader + length lines.now + 1 < 2 ^ 32 }

@@ -1,4 +1,4 @@
-use Rattle.std.proofs.Common.{◌≡◌, ◌++◌, List, map, sym, ap, ◌∙◌}
+use Rattle.std.proofs.Common.{◌++◌, map, sym, ap, ◌∙◌}
 use Rattle.ea_recorded.specs.Language.{Told, told_by}
 use Rattle.ea_recorded.specs.declared.lines.RecordedLine.{RecordedLine}
 use Rattle.ea_recorded.proofs.Reached.{told-more}

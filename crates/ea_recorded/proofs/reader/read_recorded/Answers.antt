@@ -1,13 +1,11 @@
-use Rattle.std.proofs.Common.{◌≡◌, ◌+◌, ℕ, List, [], ◌∷◌, length, refl, sym, ap, subst, ◌∙◌, arith}
+use Rattle.std.proofs.Common.{◌≡◌, ◌+◌, ℕ, ◌∷◌, length, refl, ap, subst, ◌∙◌, arith}
 use Rattle.std.proofs.lemmas.Result.{err_from_is_err_and}
 use Rattle.std.specs.Prelude.{All, IfOk}
 use Rattle.ea_model.specs.Trace.{IsScheduler, IsValidTrace}
 use Rattle.ea_model.specs.Words.{words}
-use Rattle.ea_recorded.specs.Input.{GivesInput}
 use Rattle.ea_trace.specs.Language.{lines_of}
 use Rattle.ea_recorded.specs.Language.{Asked, recorded}
 use Rattle.ea_recorded.specs.Reading.{Reads, rest_lines}
-use Rattle.ea_recorded.specs.declared.reader.Reading.{Reading}
 use Rattle.ea_recorded.proofs.Reached.{at-number, few-lines, fewer-left, lines-first}
 use Rattle.ea_recorded.proofs.reader.read_recorded.Goals as goal
 

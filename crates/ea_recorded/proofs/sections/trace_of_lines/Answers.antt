@@ -1,4 +1,4 @@
-use Rattle.std.proofs.Common.{◌≡◌, ◌+◌, ◌≤◌, List, [], ◌∷◌, ◌++◌, refl, sym, ap, subst, ◌∙◌, arith}
+use Rattle.std.proofs.Common.{◌≡◌, List, [], ◌∷◌, ◌++◌, refl, subst, arith}
 use Rattle.std.proofs.lemmas.List.{append_assoc}
 use Rattle.ea_recorded.specs.Language.{Placed, end_line, schedule_line, sections, trace_lines}
 use Rattle.ea_recorded.specs.Language.{type_line, unplaced}

@@ -1,7 +1,5 @@
-use Rattle.std.proofs.Common.{◌≡◌, Err, map, refl, sym, ap, subst, ◌∙◌}
-use Rattle.std.specs.Prelude.{IfOk}
+use Rattle.std.proofs.Common.{map, sym, ap, subst, ◌∙◌}
 use Rattle.std.proofs.lemmas.Result.{err_from_is_err_and}
-use Rattle.ea_model.specs.Trace.{IsValidTrace}
 use Rattle.ea_recorded.specs.Told.{AreTold, IsTold}
 use Rattle.ea_recorded.specs.declared.lines.OwnLine.{OwnLine}
 use Rattle.ea_recorded.proofs.Reached.{ended-err, ended-ok, not-ended, order-theirs}

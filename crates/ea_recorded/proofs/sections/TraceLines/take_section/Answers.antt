@@ -1,4 +1,4 @@
-use Rattle.std.proofs.Common.{◌≡◌, ◌+◌, ◌<◌, [], ◌∷◌, ◌++◌, length, take, refl, sym, ap, subst}
+use Rattle.std.proofs.Common.{[], ◌∷◌, ◌++◌, length, sym, ap, subst}
 use Rattle.std.proofs.Common.{◌∙◌, arith}
 use Rattle.std.proofs.lemmas.List.{append-nil, append_assoc, length-map, take_all}
 use Rattle.ea_recorded.specs.Language.{Told, own_of, section_line, unplaced}
@@ -63,7 +63,11 @@ returns-clause-taken c = λ n ls told h are.
     (section-said me c.requires.scheduler) in
     let all = c.loop-line.invariant.taken n (ls ++ head ∷ []) told begun are in
     subst (λ ts. HasLines n (ls ++ head ∷ own_of me ts) c.loop-line.self)
-    (take_all k told (omega (arith, c.loop-line-test.false, ap length are.own,
-    length-map told (λ (t : Told). t.own))))
+    (take_all k told (omega (
+      arith,
+      c.loop-line-test.false,
+      ap length are.own,
+      length-map told (λ (t : Told). t.own),
+    )))
     (subst (λ xs. HasLines n xs c.loop-line.self)
     (append_assoc ls (head ∷ []) (own_upto me k told)) all)
