@@ -6,6 +6,10 @@
 
 mod access;
 mod laws;
+mod memory;
+#[cfg(test)]
+mod tests;
 
 pub use access::{Access, Making};
 pub use laws::agreement;
+pub use memory::{Extent, Memory};
