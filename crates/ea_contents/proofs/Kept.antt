@@ -1,5 +1,6 @@
 -- The memory keeps the words of each block the list of its name.
-use Rattle.std.proofs.Common.{◌≡◌, ◌≢◌, ◌⊎◌, ℕ, ◌+◌, ◌<◌, ◌≤◌, List, [], ◌∷◌, ◌++◌, drop, length, take}
+use Rattle.std.proofs.Common.{◌≡◌, ◌≢◌, ◌⊎◌, ℕ, ◌+◌, ◌<◌, ◌≤◌}
+use Rattle.std.proofs.Common.{List, [], ◌∷◌, ◌++◌, drop, length, take}
 use Rattle.std.proofs.Common.{set, refl, sym, ap, ◌∙◌, subst, inl, inr, arith}
 use Rattle.std.proofs.Common.{true, ◌*◌, get_or}
 use Rattle.std.specs.Prelude.{Option, None, Some, is_some, not, ◌&&◌, ◌==◌}
@@ -139,7 +140,8 @@ module _ (setup : Setup) (w : State) (memory : List ℕ) (lists : ℕ → List �
         ]
 
 -- what the law says of the step that makes a name is what is made
-new-so : (a b : Option Named) (n : Named) → a ≡ None → b ≡ Some n → (not (is_some a) && is_some b) ≡ true
+new-so : (a b : Option Named) (n : Named) → a ≡ None → b ≡ Some n
+    → (not (is_some a) && is_some b) ≡ true
 new-so a b n none there =
     ap (λ o. not (is_some o) && is_some b) none ∙ ap (λ o. true && is_some o) there
 

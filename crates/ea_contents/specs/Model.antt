@@ -81,7 +81,7 @@ lists_made lists size (Some m) =
 abbrev pub lists_written : (ℕ → List ℕ) → ℕ → ℕ → ℕ → ℕ → List ℕ
 lists_written lists name index value = put lists name (slice_set (lists name) index value)
 
--- the writes and reads of scheduler i that stand behind its first d operations, in order
+-- the writes and reads of scheduler i that stand after its first d operations, in order
 abbrev pub Script : Type 0
 Script = ℕ → ℕ → List Access
 
@@ -197,7 +197,7 @@ module _ (setup : Setup) where
   steps_in script c (i ∷ turns) =
       steps_by (waiting script c i) i ++ steps_in script (turn script c i) turns
 
-  -- the writes and reads of scheduler i that stand behind its first d operations and more, of n more
+  -- the writes and reads of scheduler i that stand after its first d operations and more, of n more
   abbrev pub later_accesses : Script → ℕ → ℕ → ℕ → ℕ
   later_accesses script i d zero = length (script i d)
   later_accesses script i d (suc n) = length (script i d) + later_accesses script i (d + 1) n

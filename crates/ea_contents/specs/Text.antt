@@ -7,7 +7,8 @@ use Rattle.ea_machine.specs.Completion.{turns_in}
 use Rattle.ea_machine.specs.Setup.{Setup, setup_of}
 use Rattle.ea_report.specs.Text.{line, outcome_text}
 use Rattle.ea_contents.specs.Language.{Request}
-use Rattle.ea_contents.specs.Model.{Line, Found, Moment, ReadOutside, ReadSkipped, Script, WriteOutside}
+use Rattle.ea_contents.specs.Model.{Line, Found, Moment}
+use Rattle.ea_contents.specs.Model.{ReadOutside, ReadSkipped, Script, WriteOutside}
 use Rattle.ea_contents.specs.Model.{WriteSkipped, Wrote, complete, opening, play, steps_in}
 
 -- the line of a write or a read

@@ -1,5 +1,6 @@
 -- Two inputs: their setups, their writes and reads, and where they end.
-use Rattle.std.specs.Prelude.{ℕ, ◌&&◌, ◌==◌, if◌then◌else◌, List, [], ◌∷◌, codes, Result, Ok, Err, None}
+use Rattle.std.specs.Prelude.{ℕ, ◌&&◌, ◌==◌, if◌then◌else◌, List, []}
+use Rattle.std.specs.Prelude.{◌∷◌, codes, Result, Ok, Err, None}
 use Rattle.ea_flags.specs.declared.config.TheConstants.{DEFAULT_CONFIG}
 use Rattle.ea_flags.specs.declared.fault.FlagFault.{FlagFault}
 use Rattle.ea_flags.specs.Flags.{flags}
