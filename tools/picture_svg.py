@@ -267,9 +267,9 @@ class Drawing:
         """What is said of a carrier, in two lines."""
         span, told = life.span_at(self.moment), life.told_at(self.moment)
         place = "place not known" if span.base is None else pages_words(span.base, span.pages)
-        users = f"owner {life.owner}, {standing_words(*told[1:])}, {megabytes(self.units(life))}"
+        users = f"owner {life.owner}, {standing_words(*told[1:])}"
         users += ", stopped" if self.is_kept(life) else ""
-        return f"carrier {life.number}, {life.kind}, {place}", users
+        return f"carrier {life.number}, {life.kind}, {place}", f"{users}, {megabytes(self.units(life))}"
 
     def use(self, life):
         """The units of its blocks."""

@@ -38,6 +38,7 @@ MADE_ONCE = "9938fb7cdcfd2bc6de0640a930257bf2d1ebd01ca8d50e404844db52eb26c6f0"
 def module_of(path):
     """The tool as a module, so that most tests need no process of its own for it."""
     sys.dont_write_bytecode = True
+    sys.path.insert(0, os.path.dirname(path))
     loader = importlib.machinery.SourceFileLoader("load", path)
     sys.modules["load"] = importlib.util.module_from_spec(importlib.util.spec_from_loader("load", loader))
     loader.exec_module(sys.modules["load"])
