@@ -10,6 +10,7 @@ import json
 import os
 import re
 import shutil
+import signal
 import struct
 import subprocess
 import sys
@@ -501,6 +502,27 @@ class Types(Case):
         self.refused(f"{trace}: line 4: syntax", *words, expected="the letter of its type before it, as `H idle`")
         self.assertNotIn("a.H.svg", os.listdir(self.folder))
         self.draw("--trace", self.trace("idle"), "--type", "H", "--svg", self.path("a.svg"))
+
+
+class Interrupts(Case):
+    def test_signals_end_its_runs_at_once(self):
+        begun, page = self.path("begun"), self.path("a.html")
+        lines = ["#!/bin/sh", f'[ "${{2:-}}" = bf ] && touch {begun} && {{ sleep 61; exit 0; }}', f'exec {PATH} "$@"', ""]
+        slow = self.write("slow", "\n".join(lines))
+        os.chmod(slow, 0o755)
+        words = [TOOL, "--program", slow, "--trace", self.trace("idle"), "--output", page, "--", "+MHas", "bf"]
+        for number in signal.SIGINT, signal.SIGTERM:
+            how = {"preexec_fn": lambda: signal.signal(signal.SIGINT, signal.SIG_DFL), "start_new_session": True}
+            ran = subprocess.Popen(words, stdout=subprocess.PIPE, stderr=subprocess.PIPE, text=True, **how)
+            while not os.path.exists(begun):
+                self.assertIsNone(ran.poll())
+                time.sleep(0.05)
+            since = time.monotonic()
+            ran.send_signal(number)
+            self.assertEqual((*ran.communicate(timeout=50), ran.returncode), ("", "", 128 + number))
+            self.assertLess(time.monotonic() - since, 30)
+            self.assertFalse(os.path.exists(page))
+            os.unlink(begun)
 
 
 class ManyCarriers(Case):
