@@ -18,7 +18,7 @@ WIDTH, LABEL, MARGIN = 1000, 244, 16
 STRIPS_OF_A_COLUMN, MOST_COLUMNS, SHORT_LABEL = 16, 4, 126
 LONGEST_LINE, LONGEST_TITLE = 150, 110
 # About how wide a letter of a label is.
-LETTER = 6.2
+LETTER = 6.8
 # Where there are more carriers than this, those with so many percent in blocks stand in one row for each owner.
 MANY_CARRIERS, FULL = 40, 90
 UNITS_OF_A_MB = 2**17
@@ -145,11 +145,13 @@ class Drawing:
         self.regions()
         self.y += 8
         longest = max((self.units(it) for it in self.lives if it not in self.full), default=PAGE)
-        rows = [it for it in self.lives if it not in self.full]
-        for life in sorted(rows, key=lambda it: (it.owner, self.base(it), it.number)):
-            self.carrier(life, (WIDTH - self.label - 2 * MARGIN) / longest)
-        for owner in sorted({it.owner for it in self.full}):
-            self.folded(owner)
+        owner = 0
+        for life in sorted(self.lives, key=lambda it: (it.owner, self.base(it), it.number)):
+            if life.owner != owner:
+                owner = life.owner
+                self.folded(owner)
+            if life not in self.full:
+                self.carrier(life, (WIDTH - self.label - 2 * MARGIN) / longest)
         self.legend()
         size = f'width="{WIDTH}" height="{self.y}" viewBox="0 0 {WIDTH} {self.y}"'
         counts = f'data-moment="{self.moment}" data-blocks="{sum(map(len, self.blocks.values()))}"'
@@ -267,9 +269,9 @@ class Drawing:
         """What is said of a carrier, in two lines."""
         span, told = life.span_at(self.moment), life.told_at(self.moment)
         place = "place not known" if span.base is None else pages_words(span.base, span.pages)
-        users = f"owner {life.owner}, {standing_words(*told[1:])}, {megabytes(self.units(life))}"
+        users = f"owner {life.owner}, {standing_words(*told[1:])}"
         users += ", stopped" if self.is_kept(life) else ""
-        return f"carrier {life.number}, {life.kind}, {place}", users
+        return f"carrier {life.number}, {life.kind}, {place}", f"{users}, {megabytes(self.units(life))}"
 
     def use(self, life):
         """The units of its blocks."""
@@ -280,8 +282,10 @@ class Drawing:
         return 100 * self.use(life) >= FULL * self.units(life) and not is_waiting and not self.is_kept(life)
 
     def folded(self, owner):
-        """The row of the full carriers of an owner."""
+        """The row of the full carriers of an owner, if it has any."""
         lives = [it for it in self.full if it.owner == owner]
+        if not lives:
+            return
         units, used = sum(map(self.units, lives)), sum(map(self.use, lives))
         self.parts.append(rectangle("owner", MARGIN, self.y, 4, 16, f' fill="{colour_of(owner)}"'))
         said = f"{len(lives)} full carriers of owner {owner}: {megabytes(units)}, {100 * used // units} percent in blocks"

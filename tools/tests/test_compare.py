@@ -542,6 +542,27 @@ class Compare(unittest.TestCase):
         self.assertIn("+MHas gf       0\n", text)
         self.assertNotIn("Traceback", said)
 
+    def test_a_signal_to_the_tool_alone_ends_its_runs_at_once(self):
+        """Also what a run has started: nothing of it is left."""
+        lines = ["#!/bin/sh", '[ "${2:-}" = bf ] && touch begun && { sleep 61; exit 0; }',
+                 f'exec {shlex.quote(program())} "$@"', ""]
+        self.file("slow", "\n".join(lines))
+        os.chmod(f"{self.room}/slow", 0o755)
+        words = [self.file("a.trace", one()), "--program", "./slow", "--each", "+MHas gf bf", "--columns", "list,status"]
+        for number in signal.SIGINT, signal.SIGTERM:
+            how = {"preexec_fn": lambda: signal.signal(signal.SIGINT, signal.SIG_DFL), "start_new_session": True}
+            streams = {"stdout": subprocess.PIPE, "stderr": subprocess.PIPE, "text": True}
+            ran = subprocess.Popen(self.words(*words), cwd=self.room, **streams, **how)
+            while not os.path.exists(f"{self.room}/begun"):
+                self.assertIsNone(ran.poll())
+                time.sleep(0.05)
+            began = time.monotonic()
+            ran.send_signal(number)
+            text, said = ran.communicate(timeout=50)
+            self.assertLess(time.monotonic() - began, 30)
+            self.assertEqual((ran.returncode, said), (130, "compare: interrupted\n"), text)
+            os.unlink(f"{self.room}/begun")
+
     def test_words_that_are_no_command(self):
         trace = self.file("a.trace", one())
         options = ["--by size", "--each +MHas", "--jobs 0", "--as xml", "--from a.json", "--columns size", "--other"]

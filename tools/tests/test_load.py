@@ -32,12 +32,13 @@ FIRST = "node-load 1\n"
 SMALL = FIRST + "type B\nblocks 64 64 1\nblocks 128 128 2\nblocks 256 256 5\n"
 # The SHA-256 of what one machine made of SMALL with the words of test_same_bytes, so that a change of bytes is seen. It
 # says nothing of what is right.
-MADE_ONCE = "9938fb7cdcfd2bc6de0640a930257bf2d1ebd01ca8d50e404844db52eb26c6f0"
+MADE_ONCE = "db9093bd9594c73fd114ba475f8a2fed69bf62c6bfb5e92c58e77531a70e2a0f"
 
 
 def module_of(path):
     """The tool as a module, so that most tests need no process of its own for it."""
     sys.dont_write_bytecode = True
+    sys.path.insert(0, os.path.dirname(path))
     loader = importlib.machinery.SourceFileLoader("load", path)
     sys.modules["load"] = importlib.util.module_from_spec(importlib.util.spec_from_loader("load", loader))
     loader.exec_module(sys.modules["load"])
@@ -257,6 +258,51 @@ class Operations(Case):
         self.assertGreaterEqual(live[-1], 900)
         trace = self.made(SMALL, "--operations", 6001, "--live", 1000, "--phases", 2, "--valley", 50)
         self.assertIn(trace.live(0)[2999], (500, 501))
+
+    def test_an_end_in_a_valley(self):
+        words = "--operations", 6001, "--live", 1000, "--phases", 3
+        trace = self.made(SMALL, *words, "--end", "valley")
+        live = trace.live(0)
+        for end in 2000, 4000, 6000:
+            self.assertIn(live[end - 1], (200, 201))
+        self.assertEqual(self.made(SMALL, *words, "--end", "peak").operations, self.made(SMALL, *words).operations)
+
+    def test_marks(self):
+        """Each peak and valley of one scheduler has a mark after its operation; with several there are none."""
+        words = "--operations", 6001, "--live", 1000, "--phases", 3, "--end", "valley"
+        lines = self.load(*words, self.file(SMALL)).stdout.splitlines()
+        places = [at for at, it in enumerate(lines) if it.startswith("# mark ")]
+        self.assertEqual([lines[it][7:] for it in places],
+                         [f"{kind}-{phase}" for phase in (1, 2, 3) for kind in ("peak", "valley")])
+        for place in places:
+            words_before = [it.split()[0] for it in lines[:place]]
+            live = words_before.count("alloc") - words_before.count("free")
+            self.assertTrue(live == 1000 if "peak" in lines[place] else live in (200, 201))
+        self.assertNotIn("# mark", self.load(*words, "--schedulers", 2, self.file(SMALL)).stdout)
+
+    def test_tries_by_turns_are_few(self):
+        """So that a block whose allocation failed does not hold up the run."""
+        trace = self.made(SMALL, "--operations", 2000, "--ending", "turns", schedulers=4)
+        self.assertEqual({it[2] for it in trace.words("take")}, {4 * 1024 * 4})
+
+    def test_the_flags_of_the_node(self):
+        text = SMALL + "flags +MBas bf +MBacul 0\nuntranslated +MBatags true\n"
+        words = "--live", 5, "--operations", 100, "--schedulers", 2
+        done = self.load(*words, "--node-flags", f"{self.room}/a.flags", self.file(text))
+        with open(f"{self.room}/a.flags", encoding="ascii") as file:
+            self.assertEqual(file.read().split(), "+S 2 +MMscs 1 +MBas bf +MBacul 0".split())
+        self.assertIn("# The node's own flags, the first list to compare: +S 2 +MMscs 1 +MBas bf +MBacul 0\n", done.stdout)
+        self.assertIn("# Not translated: +MBatags true\n", done.stdout)
+        self.refused(f"{self.room}/node.load: line 6: pairs of a flag and its value are due",
+                     self.file(SMALL + "flags +MBas\n"))
+
+    def test_failed_allocations_are_told_beside(self):
+        out = self.file("scheduler 1\nalloc 1 fail need 14 looked 0 space\nrealloc 1 2 fail need 14 looked 0 numbers\n"
+                        "total carriers 0 units 0 live 0 queued 0 free 0 header 0\n", "a.out")
+        text = self.load("--beside", out, self.file(SMALL)).stdout
+        self.assertIn("FAILED: 2 allocations of the run", text)
+        self.assertIn("1 for want of pages", text)
+        self.assertIn("1 for want of numbers", text)
 
     def test_blocks_that_are_live_by_default(self):
         """As many as the node's 8, or a third of the operations."""
@@ -502,7 +548,7 @@ class Refusals(Case):
     def test_bad_words(self):
         path, see = self.file(SMALL), " (see --help)"
         for words, line in (
-            ([], "the following arguments are required: FILE"),
+            ([], "either --recorded FILE or one FILE or several are due"),
             (["--operations", "0"], "argument --operations: '0' is no number from 2 to 1048576"),
             (["--operations", "1048577"], "argument --operations: '1048577' is no number from 2 to 1048576"),
             (["--schedulers", "65"], "argument --schedulers: '65' is no number from 1 to 64"),

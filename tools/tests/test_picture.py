@@ -10,6 +10,7 @@ import json
 import os
 import re
 import shutil
+import signal
 import struct
 import subprocess
 import sys
@@ -21,6 +22,7 @@ import zlib
 TOP = os.path.realpath(os.path.join(os.path.dirname(os.path.realpath(__file__)), "..", ".."))
 TOOL = f"{TOP}/tools/picture"
 PROGRAM = [f"--program={os.path.abspath(sys.argv[1])}"] if len(sys.argv) > 1 else []
+PATH = os.path.abspath(sys.argv[1]) if len(sys.argv) > 1 else f"{TOP}/run"
 BROWSER = next(filter(None, map(shutil.which, ("chromium", "chromium-browser", "google-chrome"))), None)
 LARGEST_PAGE = 8_000_000
 LONGEST_SECONDS = 30
@@ -64,7 +66,8 @@ class Case(unittest.TestCase):
 
     def draw(self, *words):
         ran = self.run_tool(*words)
-        self.assertEqual((ran.returncode, ran.stdout, ran.stderr), (0, "", ""))
+        said = [it for it in ran.stderr.splitlines() if "FAILED allocations" not in it]
+        self.assertEqual((ran.returncode, ran.stdout, said), (0, "", []))
 
     def svg(self, trace, moment, *flags):
         self.draw("--trace", trace, "--svg", self.path("a.svg"), "--at", str(moment), "--", *flags)
@@ -78,9 +81,11 @@ class Case(unittest.TestCase):
     def example(self, name):
         return "--trace", f"{TOP}/examples/{name.partition('.')[0]}.trace", "--flags", f"{TOP}/examples/{name}.flags"
 
-    def refused(self, said, *words):
+    def refused(self, said, *words, expected=None):
+        """Refused by this line, and with what was expected in a second one."""
         ran = self.run_tool(*words)
-        self.assertEqual((ran.returncode, ran.stdout, ran.stderr), (1, "", f"picture: {said}\n"))
+        lines = f"picture: {said}\n" + (f"picture: expected: {expected}\n" if expected else "")
+        self.assertEqual((ran.returncode, ran.stdout, ran.stderr), (1, "", lines))
 
 
 def data_in(page):
@@ -488,11 +493,13 @@ class Types(Case):
         words = "--trace", trace, "--svg", self.path("a.svg")
         self.refused(f"{trace}, type B: there are moments 0 to 1, and no 2", *words, "--at", "2")
         self.refused(f"{trace}: there is no type E", *words, "--type", "E")
-        self.refused("the words after --: word 3: bad value", *words, "--", "types", "+MHas", "ff")
-        flags = self.write("a.flags", "types\n+MHacul\n0\n+MHfoo\n1\n")
-        self.refused(f"{flags}: line 4: unknown flag", *words, "--flags", flags)
-        trace = self.several("H alloc 1 100", "E idle")
-        self.refused(f"{trace}: line 4: syntax", *words)
+        self.refused("the words after --: word 3: bad value", *words, "--", "types", "+MHramv", "no",
+                     expected="+MHramv takes true false")
+        flags = self.write("a.flags", "types\n+MHacul\n0\n+MHasbf\n1\n")
+        self.refused(f"{flags}: line 4: unknown flag", *words, "--flags", flags,
+                     expected="a value as a word of its own: +MHas bf")
+        trace = self.several("H alloc 1 100", "idle")
+        self.refused(f"{trace}: line 4: syntax", *words, expected="the letter of its type before it, as `H idle`")
         self.assertNotIn("a.H.svg", os.listdir(self.folder))
         self.draw("--trace", self.trace("idle"), "--type", "H", "--svg", self.path("a.svg"))
 
@@ -514,19 +521,96 @@ class Histograms(Case):
         self.refused(f"{trace}: schedule wanted", "--trace", trace, "--histograms", self.path("a.svg"))
 
 
+class Interrupts(Case):
+    def test_signals_end_its_runs_at_once(self):
+        begun, page = self.path("begun"), self.path("a.html")
+        lines = ["#!/bin/sh", f'[ "${{2:-}}" = bf ] && touch {begun} && {{ sleep 61; exit 0; }}', f'exec {PATH} "$@"', ""]
+        slow = self.write("slow", "\n".join(lines))
+        os.chmod(slow, 0o755)
+        words = [TOOL, "--program", slow, "--trace", self.trace("idle"), "--output", page, "--", "+MHas", "bf"]
+        for number in signal.SIGINT, signal.SIGTERM:
+            how = {"preexec_fn": lambda: signal.signal(signal.SIGINT, signal.SIG_DFL), "start_new_session": True}
+            ran = subprocess.Popen(words, stdout=subprocess.PIPE, stderr=subprocess.PIPE, text=True, **how)
+            while not os.path.exists(begun):
+                self.assertIsNone(ran.poll())
+                time.sleep(0.05)
+            since = time.monotonic()
+            ran.send_signal(number)
+            self.assertEqual((*ran.communicate(timeout=50), ran.returncode), ("", "", 128 + number))
+            self.assertLess(time.monotonic() - since, 30)
+            self.assertFalse(os.path.exists(page))
+            os.unlink(begun)
+
+
+class ManyCarriers(Case):
+    def trace_of(self, count):
+        """So many carriers of a page, all but the last filled to 504 of 512 units."""
+        return self.trace(*[f"alloc {it} 4020" for it in range(1, count)], f"alloc {count} 100")
+
+    def test_full_ones_are_one_row(self):
+        flags = "--", "+MHsbct", "1", "+MHacul", "0", "+MHsmbcs", "4", "+MHlmbcs", "4"
+        for count, more, rows in ((50, (), 1), (50, ("--all",), 50), (40, (), 40)):
+            with self.subTest(count=count, more=more):
+                self.draw("--trace", self.trace_of(count), "--svg", self.path("a.svg"), *more, *flags)
+                svg = self.read("a.svg")
+                self.assertEqual(len(re.findall(r">carrier \d+, (?:multi|single), page", svg)), rows)
+                words = "49 full carriers of owner 1: 0.2 MB, 98 percent in blocks (each 90 or more): 1 to 49"
+                self.assertEqual(words in svg, rows == 1)
+
+    def test_megabytes_and_a_scale(self):
+        self.draw("--trace", self.trace("alloc 1 600000"), "--svg", self.path("a.svg"), "--", "+MMscs", "2")
+        svg = self.read("a.svg")
+        # 147 pages, which are 75264 units.
+        self.assertIn("units 75,264 (0.6 MB)", svg)
+        self.assertIn("owner 1, employed 1, 0.6 MB<", svg)
+        self.assertEqual(re.findall(r">([0-9.]+(?: MB)?)<", svg), "0 0.2 0.4 0.6 0.8 1 1.2 1.4 1.6 1.8 2 MB".split(" ", 10))
+
+    def test_failed_allocations_are_said(self):
+        trace = self.trace("alloc 1 524280", "alloc 2 524280")
+        ran = self.run_tool("--trace", trace, "--svg", self.path("a.svg"), "--", "+MMscs", "1")
+        self.assertEqual((ran.returncode, ran.stderr.count("FAILED allocations: 1, ")), (0, 1), ran.stderr)
+
+
+class Recorded(Case):
+    LINES = ["1 alloc 1 1000", "2 alloc 2 100", "1 give 1 2", "2 take 1 1", "2 free 1", "1 idle", "1 alloc 3 1000"]
+
+    def setUp(self):
+        super().setUp()
+        probe = subprocess.run([PATH, "recorded"], input="type H\nend\n", capture_output=True, text=True, check=False)
+        if probe.returncode:
+            self.skipTest("this program has no recorded operations")
+
+    def test_the_order_is_that_of_the_lines(self):
+        trace = self.write("a.input", "\n".join(["type H", *self.LINES, "end", ""]))
+        data = self.data("--trace", trace, "--", "+S", "2", "+MHacul", "0")
+        self.assertEqual(data["by"], [int(it.split()[0]) for it in self.LINES])
+        # Block 1 is queued by its free, entry 5, and released where the next operation of scheduler 1 begins, entry 6.
+        self.assertEqual([it[4:] for it in blocks_of(data) if it[0] == 1], [(1, 5, 6)])
+
+    def test_of_more_schedulers_than_have_operations(self):
+        trace = self.write("a.input", "type H\n1 alloc 1 100\nend\n")
+        data = self.data("--trace", trace, "--", "+S", "4")
+        self.assertEqual((data["schedulers"], data["by"]), (4, [1]))
+
+
 class Refusals(Case):
     def test_a_trace(self):
-        trace = self.write("bad.trace", "type H\nscheduler 1\nfrob\n")
-        self.refused(f"{trace}: line 3: syntax", "--trace", trace, "--output", self.path("a.html"))
+        trace = self.write("bad.trace", "type H\nscheduler 1\nend\n")
+        expected = "`schedule` or `threads` before `end`"
+        words = "--trace", trace, "--output", self.path("a.html")
+        self.refused(f"{trace}: line 3: syntax", *words, expected=expected)
         trace = self.write("short.trace", "type H\nscheduler 1\nschedule\n")
-        self.refused(f"{trace}: no end line", "--trace", trace, "--output", self.path("a.html"))
+        words = "--trace", trace, "--output", self.path("a.html")
+        self.refused(f"{trace}: no end line", *words, expected="`end` as the last line")
         self.assertEqual(sorted(os.listdir(self.folder)), ["bad.trace", "short.trace"])
 
     def test_flags(self):
         words = "--trace", self.trace("idle"), "--output", self.path("a.html")
-        self.refused("the words after --: word 2: bad value", *words, "--", "+MHas", "ff")
-        flags = self.write("a.flags", "+MHacul\n0\n+MHfoo\n1\n")
-        self.refused(f"{flags}: line 3: unknown flag", *words, "--flags", flags)
+        self.refused("the words after --: word 2: bad value", *words, "--", "+MHramv", "no",
+                     expected="+MHramv takes true false")
+        flags = self.write("a.flags", "+MHacul\n0\n+MHasbf\n1\n")
+        self.refused(f"{flags}: line 3: unknown flag", *words, "--flags", flags,
+                     expected="a value as a word of its own: +MHas bf")
 
     def test_files(self):
         trace, page = self.trace("idle"), self.path("a.html")
@@ -552,7 +636,8 @@ class Refusals(Case):
     def test_what_is_there_stays(self):
         page = self.write("a.html", "old")
         trace = self.write("bad.trace", "type H\nfrob\n")
-        self.refused(f"{trace}: line 2: syntax", "--trace", trace, "--output", page)
+        self.refused(f"{trace}: line 2: syntax", "--trace", trace, "--output", page,
+                     expected="`scheduler 1` before its operations; or `generate SEED COUNT`")
         self.assertEqual(self.read("a.html"), "old")
 
     def test_words(self):

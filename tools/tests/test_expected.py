@@ -1,0 +1,160 @@
+#!/usr/bin/env python3
+"""Tests of tools/expected.py, and of ./run where it answers before a build: python3 tools/tests/test_expected.py [PROGRAM].
+
+Each refusal of docs/FORMATS.md's tables of flags is compared with what expected.py says beforehand; the sentences are
+this file's. PROGRAM is asked for the lines, if it is there. The last line is 'N passed, M failed'.
+"""
+import os
+import re
+import subprocess
+import sys
+import tempfile
+import unittest
+
+TOP = os.path.dirname(os.path.dirname(os.path.dirname(os.path.realpath(__file__))))
+sys.dont_write_bytecode = True
+sys.path.insert(0, f"{TOP}/tools")
+from expected import explained, refusal
+
+PROGRAM = os.path.abspath(sys.argv.pop(1)) if len(sys.argv) > 1 else None
+TAKES = "+MHas takes bf aobf aoff aoffcbf aoffcaobf ageffcaoff ageffcbf ageffcaobf gf af"
+
+
+def rows_of_manual():
+    """The words and lines of the table of refused words in docs/FORMATS.md."""
+    with open(f"{TOP}/docs/FORMATS.md", encoding="utf-8") as source:
+        section = source.read().partition("\n### Refusals\n")[2].partition("\n## ")[0]
+    return re.findall(r"^\| `(\+[^`]*|--help)` \| `([^`]*)` \|", section, re.M)
+
+
+class Words(unittest.TestCase):
+    def test_the_lines_of_the_manual(self):
+        rows = rows_of_manual()
+        self.assertGreater(len(rows), 18)
+        for words, line in rows:
+            if line != "super carrier too small":
+                self.assertEqual((refusal(words.split()) or ("",))[0], line, words)
+
+    def test_what_is_accepted(self):
+        for words in ("", "+S 64 +MMscs 512", "+MHas gf +Muacul de", "+MHacnl 1000 +MMsco true +MBt true", "+S 0000000001"):
+            self.assertIsNone(refusal(words.split()), words)
+
+    def test_the_lines_of_the_program(self):
+        if not PROGRAM:
+            self.skipTest("there is no program")
+        values = "0 1 5 101 10000 524288 524289 de bf true false x".split()
+        for flag in "as acul acfml acnl sbct mbcgs mmbcs mbsd asbcst rsbcst ramv t e cp atags foo".split():
+            for value in values:
+                words = [f"+MH{flag}", value, "+MMscs", "512"]
+                ran = subprocess.run([PROGRAM, *words], input="", capture_output=True, text=True, check=False)
+                said = ran.stderr.strip().removeprefix("erts_alloc_run: ") if ran.returncode == 1 else None
+                if said != "super carrier too small":
+                    self.assertEqual((refusal(words) or (None,))[0], said, words)
+
+    def test_what_was_expected(self):
+        for words, wanted in (
+            ("+MHas ff", TAKES),
+            ("+MHas", TAKES),
+            ("+MHasbf", "a value as a word of its own: +MHas bf"),
+            ("+MHacull 1", "a flag; near it are +MHacul +MHacnl +MHacfml"),
+            ("+MMscs 513", "+MMscs takes 1 to 512 megabytes"),
+            ("+MHacul 101", "+MHacul takes 0 to 100 percent, or de"),
+            ("+MHt false", "+MHt takes true"),
+        ):
+            self.assertEqual(refusal(words.split())[1], wanted)
+
+
+class Lines(unittest.TestCase):
+    def check(self, said, wanted, *lines, words=""):
+        data = "\n".join(lines).encode()
+        self.assertEqual(explained(f"erts_alloc_run: {said}\n", words.split(), data), wanted)
+
+    def test_a_trace(self):
+        head = "type H", "scheduler 1"
+        self.check("line 3: syntax", "`schedule` or `threads` before `end`", *head, "end")
+        self.check("line 1: syntax", "`type X` first, of B D E H L R S T", "scheduler 1")
+        self.check("line 2: syntax", "`scheduler 1` before its operations; or `generate SEED COUNT`", "type H", "alloc 1 1")
+        self.check("line 3: syntax", "`alloc NAME BYTES`, NAME 1 to 1048576, BYTES 0 to 1073741823", *head, "alloc 1")
+        self.check("line 3: syntax", "`take NAME TRIES`, NAME 1 to 1048576, TRIES 1 to 10000000", *head, "take 1 0")
+        self.check("line 4: syntax", "turns, as 1 or 2*50, or `end`", *head, "schedule", "alloc 1 1")
+        self.check("line 5: syntax", "nothing after `end`", *head, "schedule", "end", "end")
+        self.check("no end line", "`end` as the last line", *head)
+        self.assertIn("near it is alloc", explained("line 3: syntax", [], b"type H\nscheduler 1\naloc 1 1"))
+
+    def test_schedulers(self):
+        lines = "type H", "scheduler 1", "scheduler 3"
+        self.check("line 3: bad scheduler", "+S is 3, so schedulers are 1 to 3; the next section is `scheduler 2`", *lines,
+                   words="+S 3")
+        self.check("line 3: bad scheduler", "+S is 1, so schedulers are 1 to 1; give +S as many as there are sections",
+                   *lines)
+
+    def test_several_types_and_recorded_operations(self):
+        self.check("line 3: syntax", "the letter of its type before it, as `H alloc 1 1`", "types H B", "scheduler 1",
+                   "alloc 1 1", words="types")
+        self.check("line 2: syntax", "a scheduler and its operation, as `2 alloc 7 100`, or `end`", "type H", "alloc 1 1",
+                   words="recorded")
+        self.check("line 2: syntax", "a scheduler and `free NAME`, NAME 1 to 1048576", "type H", "1 free", words="recorded")
+
+    def test_what_is_not_known(self):
+        self.assertIsNone(explained("out of memory", [], None))
+        self.assertEqual(explained("line 3: syntax", [], None), "docs/FORMATS.md says what a line may be")
+
+
+class Run(unittest.TestCase):
+    """./run, where it needs no program."""
+
+    def run_words(self, *words):
+        ran = subprocess.run([f"{TOP}/run", *words], stdin=subprocess.DEVNULL, capture_output=True, text=True, check=False)
+        return ran.returncode, ran.stdout, ran.stderr
+
+    def test_help(self):
+        for word in ("-h", "--help"):
+            status, text, said = self.run_words(word)
+            self.assertEqual((status, said), (0, ""))
+            self.assertTrue(text.startswith("usage: ./run FLAGS"))
+
+    def test_keep_wants_a_file(self):
+        self.assertEqual(self.run_words("--unproved", "--keep")[0], 70)
+
+    def test_a_second_line(self):
+        if not PROGRAM:
+            self.skipTest("there is no program")
+        with tempfile.TemporaryDirectory() as room:
+            self.make_checkout(room)
+            trace = f"{room}/bad.trace"
+            with open(trace, "w", encoding="utf-8") as made:
+                made.write("type H\nscheduler 1\nend\n")
+            with open(trace, "rb") as source:
+                ran = subprocess.run([f"{room}/run"], stdin=source, capture_output=True, text=True, check=False)
+            wanted = "erts_alloc_run: line 3: syntax\nrun: expected: `schedule` or `threads` before `end`\n"
+            self.assertEqual((ran.returncode, ran.stdout, ran.stderr), (2, "", wanted))
+            ran = subprocess.run([f"{room}/run", "+MHas", "ff"], input="", capture_output=True, text=True, check=False)
+            wanted = f"erts_alloc_run: word 2: bad value\nrun: expected: {TAKES}\n"
+            self.assertEqual((ran.returncode, ran.stdout, ran.stderr), (1, "", wanted))
+
+    def make_checkout(self, room):
+        """A checkout of one crate, whose kept program is PROGRAM."""
+        os.makedirs(f"{room}/crates/erts_alloc_run/src")
+        os.mkdir(f"{room}/out")
+        os.symlink(f"{TOP}/tools", f"{room}/tools")
+        for name, text in (("crates.txt", "erts_alloc_run:\n"), ("crates/erts_alloc_run/src/main.rt", "\n")):
+            with open(f"{room}/{name}", "w", encoding="utf-8") as made:
+                made.write(text)
+        with open(f"{TOP}/run", encoding="utf-8") as source, open(f"{room}/run", "w", encoding="utf-8") as made:
+            made.write(source.read())
+        os.chmod(f"{room}/run", 0o755)
+        files = "crates.txt\ncrates/erts_alloc_run/src/main.rt\n"
+        line = f"cd {room} && printf '%s' '{files}' | LC_ALL=C sort | xargs sha256sum | sha256sum | cut -c 1-32"
+        found = subprocess.run(["sh", "-c", line], capture_output=True, text=True, check=True).stdout.strip()
+        os.symlink(PROGRAM, f"{room}/out/erts_alloc_run-{found}")
+
+
+def main():
+    result = unittest.TextTestRunner(stream=sys.stdout).run(unittest.defaultTestLoader.loadTestsFromName("__main__"))
+    failed = len(result.failures) + len(result.errors)
+    print(f"{result.testsRun - failed - len(result.skipped)} passed, {failed} failed")
+    return 1 if failed else 0
+
+
+if __name__ == "__main__":
+    sys.exit(main())

@@ -1,0 +1,270 @@
+#!/usr/bin/env python3
+"""Tests of tools/record and of tools/load --recorded: python3 tools/tests/test_record.py [PROGRAM].
+
+What wants an erl or a C compiler is skipped where there is none, and so is what wants a PROGRAM that takes recorded
+operations. Expected lines are worked out by hand of docs/FORMATS.md. The last line is 'N passed, M failed'.
+"""
+import os
+import re
+import shutil
+import subprocess
+import sys
+import tempfile
+import unittest
+
+TOP = os.path.dirname(os.path.dirname(os.path.dirname(os.path.realpath(__file__))))
+LOAD, RECORD = f"{TOP}/tools/load", f"{TOP}/tools/record"
+PROGRAM = os.path.abspath(sys.argv.pop(1)) if len(sys.argv) > 1 else None
+HEAD = """node-record 1
+# by hand
+types B H
+schedulers 2
+super 0
+flags +MBas bf +MBacul 0
+flags +MHas aoff
+untranslated +MBatags true
+mark 0 begin
+instance B 1 1 32768 0 0 0 0 0 0
+instance B 2 1 32768 0 0 0 0 0 0
+mark 3 middle
+instance B 0 1 65536 0 0 0 0 5 400
+instance B 1 1 32768 1 262144 0 0 2 2000
+instance B 2 1 32768 0 0 1 528384 1 524300
+mark 100 end
+instance B 1 1 32768 0 0 0 0 0 0
+instance B 2 1 32768 0 0 0 0 0 0
+thread 1 1 1_scheduler
+thread 2 2 erts_sched_2
+thread 3 0 1_dirty_io_sch
+events
+"""
+
+
+def has_erl():
+    return all(map(shutil.which, ("erl", "escript", "cc")))
+
+
+def operations(text):
+    return [it for it in text.splitlines() if not it.startswith("#")]
+
+
+class Case(unittest.TestCase):
+    def setUp(self):
+        self.room = tempfile.mkdtemp(prefix="test-record-")
+        self.addCleanup(shutil.rmtree, self.room)
+
+    def write(self, name, text):
+        with open(f"{self.room}/{name}", "w", encoding="utf-8") as made:
+            made.write(text)
+        return f"{self.room}/{name}"
+
+    def run_tool(self, *words, **how):
+        return subprocess.run(words, capture_output=True, text=True, timeout=300, check=False, **how)
+
+    def load(self, *words, status=0):
+        ran = self.run_tool(sys.executable, "-B", LOAD, *words)
+        self.assertEqual(ran.returncode, status, ran.stderr)
+        return ran.stdout if status == 0 else ran.stderr
+
+    def made(self, *events, more=()):
+        """The operations that are made of these events of B."""
+        path = self.write("a.record", HEAD + "".join(f"{it}\n" for it in events))
+        return operations(self.load("--recorded", path, "--type", "B", *more))
+
+
+class Events(Case):
+    def test_in_their_order(self):
+        lines = self.made("alloc B 1 a0 100", "alloc H 1 b0 50", "alloc B 2 c0 200", "free B 1 a0", "alloc B 2 a0 7")
+        self.assertEqual(lines, ["type B", "1 alloc 1 100", "2 alloc 2 200", "1 free 1", "2 alloc 3 7", "end"])
+
+    def test_a_free_by_another_scheduler(self):
+        lines = self.made("alloc B 1 a0 100", "free B 2 a0")
+        self.assertEqual(lines[1:-1], ["1 alloc 1 100", "1 give 1 2", "2 take 1 1", "2 free 1"])
+
+    def test_a_reallocation_by_another_scheduler(self):
+        lines = self.made("alloc B 1 a0 100", "realloc B 2 a0 200", "to B 2 c0", "free B 2 c0")
+        wanted = ["1 alloc 1 100", "1 give 1 2", "2 take 1 1", "2 realloc 1 2 200", "2 free 2"]
+        self.assertEqual(lines[1:-1], wanted)
+
+    def test_a_place_that_is_taken_while_a_reallocation_is_under_way(self):
+        lines = self.made("alloc B 1 a0 100", "realloc B 1 a0 200", "alloc B 2 a0 30", "to B 1 c0", "free B 2 a0")
+        self.assertEqual(lines[1:-1], ["1 alloc 1 100", "2 alloc 2 30", "1 realloc 1 3 200", "2 free 2"])
+
+    def test_blocks_that_were_there_before(self):
+        """A free of one is left out, and a reallocation is an allocation."""
+        lines = self.made("free B 1 f0", "realloc B 1 e0 200", "to B 1 c0", "free B 1 c0")
+        self.assertEqual(lines[1:-1], ["1 alloc 1 200", "1 free 1"])
+
+    def test_threads_that_are_no_schedulers(self):
+        events = "alloc B 3 a0 100", "free B 1 a0", "alloc B 1 c0 100", "free B 3 c0"
+        self.assertEqual(self.made(*events)[1:-1], ["1 alloc 1 100", "1 free 1"])
+        lines = self.made(*events, more=("--others", "2"))
+        self.assertEqual(lines[1:4], ["2 alloc 1 100", "2 give 1 1", "1 take 1 1"])
+
+    def test_a_reallocation_by_a_thread_that_is_no_scheduler(self):
+        lines = self.made("alloc B 1 a0 100", "realloc B 3 a0 200", "to B 3 c0", "free B 1 c0")
+        self.assertEqual(lines[1:-1], ["1 alloc 1 100", "1 free 1"])
+
+    def test_lost_events(self):
+        """Where the free of a block was lost, it is freed where the next one has its place."""
+        lines = self.made("alloc B 1 a0 100", "lost", "alloc B 2 a0 200")
+        self.assertEqual(lines[1:-1], ["1 alloc 1 100", "1 free 1", "2 alloc 2 200"])
+
+    def test_a_block_that_is_too_large(self):
+        lines = self.made("alloc B 1 a0 1073741824", "free B 1 a0", "alloc B 1 a0 1073741823")
+        self.assertEqual(lines[1:-1], ["1 alloc 1 1073741823"])
+
+    def test_bytes_more(self):
+        lines = self.made("alloc B 1 a0 100", "realloc B 1 a0 200", "to B 1 a0", more=("--more", "8"))
+        self.assertEqual(lines[1:-1], ["1 alloc 1 108", "1 realloc 1 2 208"])
+
+    def test_marks(self):
+        path = self.write("a.record", HEAD + "".join(f"alloc B 1 a{it} 8\n" for it in range(5)))
+        text = self.load("--recorded", path, "--type", "B")
+        lines = [it for it in text.splitlines() if it[0] != "#" or it.startswith("# mark ")]
+        self.assertEqual(lines[1:7], ["# mark begin", "1 alloc 1 8", "1 alloc 2 8", "1 alloc 3 8", "# mark middle",
+                                      "1 alloc 4 8"])
+        lines = operations(self.load("--recorded", path, "--type", "B", "--until", "middle"))
+        self.assertEqual(len(lines), 5)
+
+    def test_what_does_not_fit_is_cut_at_a_whole_operation(self):
+        """A free by another scheduler is three lines, of which 1048576 hold 262144 with their allocations."""
+        pairs = (f"alloc B 1 {it:x} 8\nfree B 2 {it:x}\n" for it in range(300000))
+        path = self.write("a.record", HEAD.replace("mark 100 end", "mark 600000 end") + "".join(pairs))
+        text = self.load("--recorded", path, "--type", "B", "--until", "end")
+        lines = operations(text)
+        self.assertLessEqual(len(lines) - 2, 1048576)
+        self.assertLessEqual(len(text), 2**24)
+        self.assertEqual(lines[-2].split()[:2], ["2", "free"])
+        self.assertIn("# CUT: ", text)
+
+    def test_the_flags_of_the_node(self):
+        path = self.write("a.record", HEAD)
+        text = self.load("--recorded", path, "--type", "B", "--node-flags", f"{self.room}/a.flags")
+        with open(f"{self.room}/a.flags", encoding="utf-8") as source:
+            self.assertEqual(source.read().split(), "+S 2 +MMscs 1 +MBas bf +MBacul 0".split()[:2] + source_words(text))
+        self.assertIn("# Not translated: +MBatags true\n", text)
+
+    def test_as_a_trace(self):
+        lines = self.made("alloc B 1 a0 100", "alloc B 2 c0 50", "free B 2 a0", more=("--as", "trace"))
+        self.assertEqual(lines, ["type B", "scheduler 1", "alloc 1 100", "give 1 2", "scheduler 2", "alloc 2 50",
+                                 "take 1 1000", "free 1", "schedule", "1*1 2*1 1*2 2*3", "end"])
+
+    def test_refusals(self):
+        cases = {
+            "node-load 1\n": "line 1: it is not `node-record 1`",
+            HEAD.replace("events\n", ""): "line 21: there is no `events` line",
+            HEAD.replace("schedulers 2", "schedulers x"): "line 4: 'x' is no number",
+            HEAD.replace("schedulers 2", "schedulers 65"): "the node has 65 schedulers, and a run has 1 to 64",
+            HEAD + "alloc B 1\n": "line 23: it is no event",
+        }
+        for text, said in cases.items():
+            path = self.write("a.record", text)
+            self.assertEqual(self.load("--recorded", path, "--type", "B", status=1), f"load: {path}: {said}\n")
+        path = self.write("a.record", HEAD)
+        for words, said in (((), "it has the types B H: choose by --type"), (("--type", "E"), "it has no type E"),
+                            (("--type", "B", "--until", "x"), "there is no mark x: there are begin, middle, end")):
+            self.assertEqual(self.load("--recorded", path, *words, status=1), f"load: {path}: {said}\n")
+
+    def test_beside_a_run(self):
+        path = self.write("a.record", HEAD)
+        carriers = ["carrier 1 main owner 1 employed 1 base 0 pages 8 allocated 14 largest 4000",
+                    "carrier 2 multi owner 1 pooled 1 base 8 pages 64 allocated 100 largest 4000",
+                    "carrier 1025 single owner 2 employed 2 base 100 pages 129 allocated 65538 largest 502"]
+        text = ["scheduler 1", "alloc 9 fail need 14 looked 0 space", "scheduler 2", *carriers, "total carriers 3", ""]
+        table = self.load("--recorded", path, "--type", "B", "--until", "middle", "--beside",
+                          self.write("a.out", "\n".join(text)))
+        rows = {line[:40].strip(): line[40:].split() for line in table.splitlines()}
+        self.assertEqual(rows["carriers"], ["4", "3"])
+        self.assertEqual(rows["pooled"], ["262144", "262144"])
+        self.assertEqual(rows["bytes in blocks"], ["526300", str((14 + 100 + 65538) * 8)])
+        self.assertIn("FAILED: 1 allocations", table)
+
+
+def source_words(text):
+    """The words after those of the schedulers that a comment tells."""
+    line = re.search(r"^# The node's own flags, the first list to compare: \+S 2 (.*)$", text, re.M)
+    return line[1].split()
+
+
+@unittest.skipUnless(has_erl(), "there is no erl, escript or cc")
+class Node(Case):
+    LOAD = ("lists:foreach(fun(I) -> put(I, binary:copy(<<1>>, 5000 + I)) end, lists:seq(1, 300)),"
+            "record_node:mark(\"full\"), erase(), erlang:garbage_collect(), timer:sleep(100).")
+
+    def record(self, *words, status=0, **how):
+        ran = self.run_tool(RECORD, *words, **how)
+        self.assertEqual(ran.returncode, status, ran.stderr)
+        return ran.stderr
+
+    def test_a_node_of_its_own(self):
+        path = f"{self.room}/a.record"
+        said = self.record("--start", "+S 2 +MBas bf +MBsbct 8", "B,H", path, "--eval", self.LOAD)
+        self.assertIn("for a test node", said)
+        self.assertIn("the load is over", said)
+        with open(path, encoding="utf-8") as source:
+            text = source.read()
+        self.assertIn("\ntypes B H\nschedulers 2\n", text)
+        self.assertIn("+MBsbct 8 ", text)
+        self.assertIn("+MBas bf\n", text)
+        sizes = [int(it) for it in re.findall(r"^alloc B [0-9]+ [0-9a-f]+ ([0-9]+)$", text, re.M)]
+        # Each binary has a head of its own before its bytes.
+        for wanted in range(5001, 5301):
+            self.assertTrue(any(wanted <= it <= wanted + 64 for it in sizes), wanted)
+        lines = operations(self.load("--recorded", path, "--type", "B"))
+        self.assertGreaterEqual(sum(" alloc " in it for it in lines), 300)
+        self.assertGreaterEqual(sum(" free " in it for it in lines), 290)
+        self.run_of(path)
+
+    def run_of(self, path):
+        """The run of a recording ends with about as many bytes in blocks as the node."""
+        if not PROGRAM or self.run_tool(PROGRAM, "recorded", input="type B\nend\n").returncode:
+            return
+        made, flags = f"{self.room}/a.input", f"{self.room}/a.flags"
+        self.load("--recorded", path, "--type", "B", "--until", "full", "--output", made, "--node-flags", flags)
+        with open(made, "rb") as source, open(flags, encoding="utf-8") as words:
+            ran = subprocess.run([PROGRAM, "recorded", *words.read().split()], stdin=source, capture_output=True, check=True)
+        text = self.write("a.out", ran.stdout.decode())
+        table = self.load("--recorded", path, "--type", "B", "--until", "full", "--beside", text)
+        node, run = map(int, re.search(r"^bytes in blocks +([0-9]+) +([0-9]+)$", table, re.M).groups())
+        self.assertLess(abs(node - run), node // 10)
+
+    def test_full_memory_ends_it(self):
+        path = f"{self.room}/a.record"
+        said = self.record("--start", "+S 1", "B", path, "--events", "100", "--eval", self.LOAD)
+        self.assertIn("the memory for events was full", said)
+        with open(path, encoding="utf-8") as source:
+            events = source.read().partition("\nevents\n")[2].splitlines()
+        self.assertEqual(len(events), 100)
+
+    def test_what_is_wanting(self):
+        path = f"{self.room}/a.record"
+        for word in ("erl", "escript"):
+            os.symlink(shutil.which(word), f"{self.room}/{word}")
+        for word in ("sh", "dirname", "basename", "readlink", "sed", "env"):
+            os.symlink(shutil.which(word), f"{self.room}/{word}")
+        said = self.record("--start", "+S 1", "B", path, status=1, env={**os.environ, "PATH": self.room})
+        self.assertEqual(said, "record: there is no C compiler: install one (Debian: gcc)\n")
+        said = self.record("--start", "+MBas nothing", "B", path, status=1)
+        self.assertTrue(said.splitlines()[-1].startswith("record: the node does not start under +MBas nothing"), said)
+        said = self.record("nobody@localhost", "x", "B", path, status=1)
+        self.assertTrue(said.splitlines()[-1].startswith("record: nobody@localhost: "), said)
+        self.assertFalse(os.path.exists(path))
+
+    def test_words(self):
+        for words in ((), ("a@b",), ("--start", "+S 1", "B"), ("a@b", "-", "Q", "x"), ("a@b", "-", "B", "x", "--events", "0"),
+                      ("a@b", "-", "B", "x", "--path", "/"), ("--foo",)):
+            said = self.record(*words, status=2)
+            self.assertRegex(said, r"^record: .* \(see --help\)\n$")
+        self.assertEqual(self.run_tool(RECORD, "--help").returncode, 0)
+
+
+def main():
+    result = unittest.TextTestRunner(stream=sys.stdout).run(unittest.defaultTestLoader.loadTestsFromName("__main__"))
+    failed = len(result.failures) + len(result.errors)
+    print(f"{result.testsRun - failed - len(result.skipped)} passed, {failed} failed")
+    return 1 if failed else 0
+
+
+if __name__ == "__main__":
+    sys.exit(main())
