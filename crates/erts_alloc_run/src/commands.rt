@@ -13,6 +13,8 @@ pub enum Command {
     Super,
     /// `recorded`: to run operations in the order of their lines.
     Recorded,
+    /// `histogram`: to run a trace, and to count its blocks and gaps by their size.
+    Histogram,
 }
 
 /// The command that the first word names; without such a word that of a trace.
@@ -29,6 +31,8 @@ pub fn command_of(words: &[String]) -> Command
         Command::Super
     } else if name == b"recorded".as_slice() {
         Command::Recorded
+    } else if name == b"histogram".as_slice() {
+        Command::Histogram
     } else {
         Command::Trace
     }
