@@ -192,7 +192,7 @@ class Sizes(Case):
     def test_shares_of_many(self):
         """Of A sizes each slot has less than one more or less than A * count / all."""
         counts = {(64, 120): 7, (512, 1016): 11, (4096, 8184): 1, (40000, 50000): 983}
-        text = FIRST + "type H\n" + "".join(f"blocks {low} {high} {it}\n" for (low, high), it in counts.items())
+        text = "node-load 1\ntype H\n" + "".join(f"blocks {low} {high} {it}\n" for (low, high), it in counts.items())
         trace = self.made(text, "--operations", 9000, "--reallocs", 30)
         for (low, high), count in counts.items():
             found = sum(low <= it + 8 <= high for it in trace.sizes)
@@ -413,7 +413,7 @@ class SeveralTypes(Case):
     """Of two files of 20000 and 10000 calls, and of 8 and 16 blocks, comes an input of their types."""
 
     BINARIES = SMALL + "calls 15000 0 5000\n"
-    HEAPS = FIRST + "type H\nblocks 512 512 16\ncalls 4000 5000 1000\n"
+    HEAPS = "node-load 1\ntype H\nblocks 512 512 16\ncalls 4000 5000 1000\n"
 
     def input(self, *words, schedulers=1, texts=(BINARIES, HEAPS)):
         """Its lines, and the trace of each type."""
@@ -710,6 +710,29 @@ carriers by bytes of their largest gap
         done = self.load("--beside", self.file(text, "text"), self.file(SMALL))
         self.assertEqual(done.returncode, 0)
         self.assertIn("percent in blocks                                    -             -\n", done.stdout)
+
+    def test_histograms(self):
+        """Blocks and gaps by size: one that lies across a border is told apart."""
+        node = "node-load 1\ntype H\nblocks 96 96 10\nblocks 128 248 4\nblocks 1008 1008 3\nblocks 100 300 2\n"
+        node += "carrier 4096 used 5 1000 0\ngaps 128 248 2\ncarrier 8388616 pooled 1 8 0\ngaps 8388608 8388608 1\n"
+        blocks, gaps = [1, 1, *[0] * 16], [*[0] * 11, 1, *[0] * 5, 2]
+        line = f"blocks {' '.join(map(str, blocks))} gaps {' '.join(map(str, gaps))}"
+        text, path = self.file(f"carrier 1 {line}\nall {line}\n", "text"), self.file(node)
+        done = self.load("--beside", text, path)
+        self.assertEqual((done.returncode, done.stderr, "\n" + done.stdout), (0, "", """
+                                                  node           run
+blocks by their size
+  below 128 bytes                                   10             1
+  128 to 248 bytes                                   4             1
+  512 to 1016 bytes                                  3             0
+  told across a border                               2             -
+gaps by their size
+  128 to 248 bytes                                   2             0
+  131072 to 262136 bytes                             0             1
+  8388608 bytes and more                             1             2
+"""))
+        other = self.file(node.replace("type H", "type B"), "b.load")
+        self.refused(f"{text}: histograms are of one type, and there are 2 files", "--beside", text, path, other)
 
     def test_bad_texts(self):
         path, text = self.file(self.NODE), f"{self.room}/text"

@@ -504,6 +504,23 @@ class Types(Case):
         self.draw("--trace", self.trace("idle"), "--type", "H", "--svg", self.path("a.svg"))
 
 
+class Histograms(Case):
+    def test_each_bar_is_one_count(self):
+        """By the example's own text: the bars of all carriers come first, then those of each."""
+        svg = self.path("a.svg")
+        self.draw(*self.example("gaps-by-strategy.aoff"), "--histograms", svg)
+        bars = re.findall(r'class="(blocks|gaps)"[^>]*><title>(.*?)</title>', self.read("a.svg"))
+        self.assertEqual(bars[: len(bars) // 2], [
+            ("blocks", "2 blocks of below 16 units"), ("blocks", "1 block of 32 to 63 units"),
+            ("blocks", "1 block of 256 to 511 units"), ("gaps", "1 gap of 64 to 127 units"),
+            ("gaps", "1 gap of 256 to 511 units"), ("gaps", "1 gap of 16384 to 32767 units")])
+        self.assertEqual(bars[: len(bars) // 2], bars[len(bars) // 2 :])
+
+    def test_a_trace_without_a_schedule(self):
+        trace = self.write("a.trace", "type H\nscheduler 1\nthreads\nend\n")
+        self.refused(f"{trace}: schedule wanted", "--trace", trace, "--histograms", self.path("a.svg"))
+
+
 class Interrupts(Case):
     def test_signals_end_its_runs_at_once(self):
         begun, page = self.path("begun"), self.path("a.html")

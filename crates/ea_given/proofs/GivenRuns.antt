@@ -1,12 +1,17 @@
 -- A run takes turns, goes on to its end, and is asked in between.
 use Rattle.std.proofs.Common.{◌≡◌, ℕ, ◌+◌, ◌-◌, ◌<◌, List, [], ◌++◌, length, get_or, sym, ap}
-use Rattle.std.proofs.Common.{subst, ◌∙◌, ◌⊎◌, inl, inr, arith, set, get_or-set_same}
+use Rattle.std.proofs.Common.{subst, ◌∙◌, ◌⊎◌, inl, inr, arith, set, get_or-set_same, true}
 use Rattle.std.specs.Prelude.{IfOk, Option, Some, replicate}
 use Rattle.std.specs.Prelude.{Result, Ok, Err}
 use mathlib.Core.Path.{fun_ext}
+use Rattle.std.proofs.lemmas.List.{length-map}
+use Rattle.ea_model.specs.declared.operations.Op.{Op}
 use Rattle.ea_model.specs.declared.settings.Config.{Config}
+use Rattle.ea_model.specs.declared.trace.Mode.{Mode}
+use Rattle.ea_model.specs.declared.trace.Mode.TheVariants.{Threads, Schedule, Generated}
 use Rattle.ea_model.specs.declared.trace.Trace.{Trace}
-use Rattle.ea_model.specs.Trace.{IsScheduler}
+use Rattle.ea_model.specs.Lists.{Items}
+use Rattle.ea_model.specs.Trace.{HasTexts, IsScheduler, IsValidTrace, texts_of}
 use Rattle.ea_machine.specs.declared.stages.Stage.TheVariants.{Ended}
 use Rattle.ea_machine.specs.Actor.{Actor}
 use Rattle.ea_machine.specs.Completion.{complete, completing, completion}
@@ -22,6 +27,7 @@ use Rattle.ea_sched.specs.declared.state.Scheduler.{Scheduler}
 use Rattle.ea_sched.specs.Acting.{actor_of, is_ended}
 use Rattle.ea_outcome.specs.Resting.{StandIn}
 use Rattle.ea_given.specs.declared.run.GivenRun.{GivenRun}
+use Rattle.ea_given.specs.Layouts.{is_scheduled}
 use Rattle.ea_given.specs.Running.{AllRanOut, AllStandAt, AllTook, IsQuiet, SharesAt}
 use Rattle.ea_given.specs.Running.{Took}
 use Rattle.ea_given.specs.Runs.{HasCompleted, HasScheduler, HasTaken, IsRun, StandsAfter}
@@ -180,3 +186,14 @@ run-stands r c t turns at =
     (sym at.config)
     (subst (λ x. StandIn c x r.schedulers.items places r.shared.given taken) (sym at.trace)
     (stand-in c t r.schedulers.items r.shared turns at.shared at.schedulers))
+
+-- each scheduler has a text where the trace has a schedule
+pub scheduled-texts : (n : ℕ) (t : Trace) → is_scheduled t.mode ≡ true → IsValidTrace n t
+    → length t.texts.items ≡ n
+scheduled-texts n t is valid = sym (length-map t.texts.items (λ (x : Items Op). x.items))
+    ∙ by t.mode is valid.texts where
+      by : (m : Mode) → is_scheduled m ≡ true → HasTexts n m (texts_of t)
+          → length (texts_of t) ≡ n
+      by Threads q has = has
+      by (Schedule turns) q has = has
+      by (Generated seed count) q has = absurd cc

@@ -5,4 +5,4 @@
 mod run;
 mod turns;
 
-pub use run::{GivenRun, run_given};
+pub use run::{GivenRun, run_given, run_layouts};

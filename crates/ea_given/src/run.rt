@@ -1,24 +1,28 @@
 //! The run of a trace by turns: one turn after another, or those of its schedule to its end.
-ghost use Rattle.std.specs.Prelude.{◌≡◌, ◌+◌, ◌<◌, ◌≤◌, [], ◌∷◌, IfOk, OnOk, All};
-ghost use Rattle.std.specs.Prelude.{◌-◌, flat_map, get_or, length, replicate};
+ghost use Rattle.std.specs.Prelude.{◌≡◌, ◌+◌, ◌<◌, ◌≤◌, true, [], ◌∷◌, IfOk, OnOk, All};
+ghost use Rattle.std.specs.Prelude.{◌-◌, flat_map, get_or, length, map, replicate};
 ghost use Rattle.ea_model.specs.Outcome.{plain_outcome};
 ghost use Rattle.ea_model.specs.Settings.{IsValidConfig};
 ghost use Rattle.ea_model.specs.Trace.{IsScheduler, IsValidTrace};
 ghost use Rattle.ea_model.specs.Trace as traces;
 ghost use Rattle.ea_machine.specs.Completion.{course_of};
 ghost use Rattle.ea_machine.specs.Machine.{start};
-ghost use Rattle.ea_machine.specs.Stops.{cut};
+ghost use Rattle.ea_machine.specs.Stops.{cut, run_with_stops};
 ghost use Rattle.ea_sound.specs.MachineLaws.{Protocol};
 ghost use Rattle.ea_machine.specs.Outcome as machine;
 ghost use Rattle.ea_machine.specs.Setup.{setup_of};
+ghost use Rattle.ea_instance.specs.Layouts.{plain_layout};
+ghost use Rattle.ea_outcome.specs.Layouts.{layouts_in};
+ghost use Rattle.ea_given.specs.Layouts.{is_scheduled, layouts_of_run};
 ghost use Rattle.ea_given.specs.Running.{AllRanOut, AllStand, AllStandAt, AllTook};
 ghost use Rattle.ea_given.specs.Runs.{HasCompleted, HasScheduler, HasTaken, IsRun, StandsAfter};
 ghost use Rattle.ea_given.specs.Runs.{StaysInOperation, Tells, done_after, ended_after};
 
 use crate::turns::{run_out, take_some, take_turn, take_turns};
+use ea_instance::Layout;
 use ea_mbc::Mbc;
 use ea_model::{Config, List, Mode, OutOfMemory, Outcome, Trace, Turns};
-use ea_outcome::outcome_of;
+use ea_outcome::{layouts_of, outcome_of};
 use ea_sched::Scheduler;
 use ea_shared::MemShared;
 use std::alloc::Global;
@@ -186,7 +190,7 @@ impl<'t> GivenRun<'t> {
 
     /// Takes the turns that complete those that were taken: scheduler 1 goes on until it has ended
     /// or is stopped, then scheduler 2, up to the last one.
-    fn complete(&mut self, alloc: Global) -> Result<(), OutOfMemory>
+    pub fn complete(&mut self, alloc: Global) -> Result<(), OutOfMemory>
         requires { IsRun self.old }
         ensures { OnOk result (HasCompleted self.old self.new) }
     {
@@ -201,6 +205,23 @@ impl<'t> GivenRun<'t> {
     {
         let schedulers = List::from_vec(self.schedulers);
         outcome_of(alloc, self.config, self.trace, schedulers, &self.shared)
+    }
+
+    /// The layouts of all carriers of the run as it stands, by number. It fails only where there is
+    /// no memory.
+    pub fn layouts(&self, alloc: Global) -> Result<List<Layout>, OutOfMemory>
+        requires { IsRun self.now }
+        ensures { IfOk result (λ layouts. Tells (λ setup turns.
+            map plain_layout layouts.items ≡ layouts_in setup (run_with_stops setup turns))
+            self.now) }
+    {
+        layouts_of(
+            alloc,
+            self.config,
+            self.trace,
+            &self.schedulers,
+            &self.shared,
+        )
     }
 }
 
@@ -237,4 +258,21 @@ pub fn run_given(alloc: Global, config: Config, trace: &Trace) -> Result<Outcome
     ensures protocol { Protocol (setup_of config trace.now) }
 {
     run_to_end(alloc, config, trace)?.outcome(alloc)
+}
+
+/// Runs a trace by its schedule as `run_given` does, and answers the layouts of all carriers that
+/// are there in the end, by number: with an employer, in the pool, busy or returning to their
+/// owner, and those of singleblock carriers. It fails only where there is no memory.
+pub fn run_layouts(
+    alloc: Global,
+    config: Config,
+    trace: &Trace,
+) -> Result<List<Layout>, OutOfMemory>
+    requires config { IsValidConfig config }
+    requires trace { IsValidTrace config.schedulers trace.now }
+    requires schedule { is_scheduled trace.now.mode ≡ true }
+    ensures { IfOk result (λ layouts.
+        map plain_layout layouts.items ≡ layouts_of_run config trace.now) }
+{
+    run_to_end(alloc, config, trace)?.layouts(alloc)
 }

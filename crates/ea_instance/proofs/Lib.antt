@@ -9,3 +9,4 @@ pub mod Planning
 pub mod HandingOut
 pub mod HandFigures
 pub mod Beginning
+pub mod PartWalks

@@ -3,3 +3,4 @@ pub mod Merging
 pub mod Kept
 pub mod Answers
 pub mod Hands
+pub mod Layouts

@@ -1,5 +1,5 @@
 //! A carrier in a scheduler's hand.
-ghost use Rattle.std.specs.Prelude.{◌≡◌, ◌↔◌, ◌≤◌, ◌*◌, true, [], ◌∷◌, Some, IfSome, IsTrue};
+ghost use Rattle.std.specs.Prelude.{◌≡◌, ◌↔◌, ◌≤◌, ◌*◌, true, [], ◌∷◌, Some, IfOk, IfSome, IsTrue};
 ghost use Rattle.std.specs.Prelude.{length};
 ghost use Rattle.std.specs.Prelude.{List as Items, option_map};
 ghost use Rattle.ea_model.specs.declared.carriers.Kind.TheVariants as kind;
@@ -8,12 +8,15 @@ ghost use Rattle.ea_model.specs.Content.{Content, allocated, block_at, can_go, n
 ghost use Rattle.ea_model.specs.Employment.{dismissing};
 ghost use Rattle.ea_model.specs.Instance.{carrier_line, content_of, employed, figures};
 ghost use Rattle.ea_model.specs.Instance.{has_content};
+ghost use Rattle.ea_instance.specs.Layouts.{layout_of, plain_layout};
 
 use crate::instance::Instance;
+use crate::layouts::{Layout, multi_layout, single_layout};
 use crate::lines::{multi_line, single_line};
 use ea_mbc::Mbc;
-use ea_model::{Block, CarrierLine, Figures};
+use ea_model::{Block, CarrierLine, Figures, OutOfMemory};
 use ea_sbc::Sbc;
+use std::alloc::Global;
 use std::marker::Model;
 
 /// A carrier by its kind.
@@ -166,6 +169,16 @@ impl Held {
         match &self.part {
             Part::Multi { carrier } => multi_line(employer, carrier),
             Part::Single { carrier } => single_line(employer, carrier),
+        }
+    }
+
+    /// Its layout. It fails only where there is no memory.
+    pub fn layout(&self, alloc: Global) -> Result<Layout, OutOfMemory>
+        ensures { IfOk result (λ layout. plain_layout layout ≡ layout_of self.now) }
+    {
+        match &self.part {
+            Part::Multi { carrier } => multi_layout(alloc, carrier),
+            Part::Single { carrier } => single_layout(alloc, carrier),
         }
     }
 

@@ -25,12 +25,14 @@ ghost use Rattle.ea_model.specs.Instance.{has_content, has_vacant, is_used, own_
 ghost use Rattle.ea_model.specs.Instance.{least_pages};
 ghost use Rattle.ea_model.specs.Instance as instances;
 ghost use Rattle.ea_instance.specs.Answers.{placing_if};
+ghost use Rattle.ea_instance.specs.Layouts.{layout_of, plain_layout};
 ghost use Rattle.ea_laws.specs.InOrder.{IsInOrder};
 ghost use Rattle.ea_laws.specs.Kept.{ContentsApart, IsLaidOut, IsSomeones, Stands};
 ghost use Rattle.ea_model.specs.Abandonment.{is_due, is_sparse};
 ghost use Rattle.ea_model.specs.Employment.{dismissing, disowning, employing};
 ghost use Rattle.ea_laws.specs.Spots.{AllUsed, FindsNone, HaveSameBlocks, IsOther, IsPlaced};
 
+use crate::layouts::{Layout, multi_layout, single_layout};
 use crate::lines::{put_merged, single_line};
 use crate::own::OwnCarriers;
 use ea_employed::strategies::order_of;
@@ -245,6 +247,21 @@ impl Instance {
         match item_of(carrier, self.singles.as_slice()) {
             Some(single) => Some(single_line(self.number, single)),
             None => None,
+        }
+    }
+
+    /// The layout of a carrier that it employs. It fails only where there is no memory.
+    pub fn layout(&self, alloc: Global, number: u32) -> Result<Layout, OutOfMemory>
+        requires { has_content number (employed self.now) ≡ true }
+        ensures { IfOk result (λ layout. option_map layout_of
+            (content_of (employed self.now) number) ≡ Some (plain_layout layout)) }
+    {
+        if let Some(multi) = self.carriers.carrier(number) {
+            return multi_layout(alloc, &multi.carrier);
+        }
+        match item_of(number, self.singles.as_slice()) {
+            Some(single) => single_layout(alloc, single),
+            None => unreachable!(),
         }
     }
 

@@ -4,10 +4,12 @@
 
 mod held;
 mod instance;
+mod layouts;
 mod lines;
 mod own;
 
 pub use ea_model::CarrierPlan;
 pub use held::Held;
 pub use instance::Instance;
+pub use layouts::{Layout, multi_layout};
 pub use lines::multi_line;

@@ -12,9 +12,11 @@ ghost use Rattle.ea_model.specs.Content.{resized, allocated, largest, free_units
 ghost use Rattle.ea_model.specs.Choice.{before, fitting, choice, IsFirst};
 ghost use Rattle.ea_model.specs.Instance.{created_content};
 ghost use Rattle.ea_mbc.specs.Gaps.{room_at, GapTaken, GapsJoined, GapResized};
+ghost use Rattle.ea_mbc.specs.Parts.{HasPart, part_in};
 ghost use Rattle.ea_mbc.specs.Tagged.{BlockTagged, GapTagged};
 
 use crate::choosing::taken;
+use crate::parts::Part;
 use crate::units::CarrierUnits;
 use ea_model::{
     Block, BlockAt, Carried, CarrierPlan, Gap, HEADER_UNITS, Inner, OutOfMemory, PAGE_UNITS,
@@ -357,6 +359,14 @@ impl Mbc {
         ensures { result ≡ gap_at (gaps_of self.now) offset }
     {
         self.units.gap_at(offset)
+    }
+
+    /// The block or the gap that begins at `offset`, read off its header.
+    pub fn part_at(&self, offset: u32) -> Part
+        requires { HasPart self.now.blocks (gaps_of self.now) offset }
+        ensures { result ≡ part_in self.now.blocks (gaps_of self.now) offset }
+    {
+        self.units.part_at(offset)
     }
 
     /// The units of the gap directly after the block that begins at `offset`, 0 where there is

@@ -7,10 +7,12 @@ pub mod carrier;
 mod choosing;
 mod coding;
 mod index;
+pub mod parts;
 pub mod spare;
 #[cfg(test)]
 mod tests;
 mod units;
 
 pub use carrier::{Freed, Mbc, Placed, Resized};
+pub use parts::Part;
 pub use spare::Spare;

@@ -6,11 +6,13 @@ ghost use Rattle.ea_model.specs.Content.{gaps, gap_at, gap_up_to, block_at, end_
 ghost use Rattle.ea_model.specs.Content.{inserted, largest, IsGapSize, Tiled};
 ghost use Rattle.ea_model.specs.Choice.{choice};
 ghost use Rattle.ea_model.specs.Keyed.{without, changed_at};
+ghost use Rattle.ea_mbc.specs.Parts.{HasPart, part_in};
 ghost use Rattle.ea_mbc.specs.Tagged.{BlockTagged, GapTagged};
 
 use crate::choosing::{better_of, free_units};
 use crate::coding::{clear, lay, put_gap};
 use crate::index::GapIndex;
+use crate::parts::Part;
 use ea_model::{BlockAt, Gap, HEADER_UNITS, Inner, OutOfMemory};
 use ea_tags::UnitArray;
 use std::alloc::Global;
@@ -210,6 +212,21 @@ impl CarrierUnits {
         ensures { result ≡ gap_at (gaps HEADER_UNITS self.now.end self.now.blocks) offset }
     {
         self.tags.header(offset).size
+    }
+
+    /// The block or the gap that begins at the offset.
+    pub fn part_at(&self, offset: u32) -> Part
+        requires { HasPart self.now.blocks (gaps HEADER_UNITS self.now.end self.now.blocks) offset }
+        ensures { result ≡ part_in self.now.blocks
+            (gaps HEADER_UNITS self.now.end self.now.blocks) offset }
+    {
+        let header = self.tags.header(offset);
+        let size = header.size;
+        if header.this_free {
+            Part::Gap { size }
+        } else {
+            Part::Block { size }
+        }
     }
 
     /// The units of the gap directly after the block that begins at the offset, or 0.

@@ -1,4 +1,5 @@
 pub mod OutcomeGiven
 pub mod OutcomeBlocks
+pub mod OutcomeLayouts
 pub mod OutcomeLines
 pub mod OutcomeSums

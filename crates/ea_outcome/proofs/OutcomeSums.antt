@@ -105,7 +105,7 @@ same_totals : (a b c d f h i j k l m n : ℕ) → a ≡ i → b ≡ j → c ≡ 
 same_totals a b c d f h i j k l m n p q r s t u = cc
 
 -- a carrier as a list of at most one
-abbrev listed : Option Present → List Present
+abbrev pub listed : Option Present → List Present
 listed None = []
 listed (Some p) = p ∷ []
 
@@ -257,7 +257,7 @@ module _ (c : Config) (t : Trace) (valid : IsValidConfig c) (made : IsValidTrace
       ∙ with-found (employed_by n) (either n) (λ s. refl) i is)
 
   -- the carrier of a number is found where it is
-  present-is : (n : ℕ) → IsNumber e n
+  pub present-is : (n : ℕ) → IsNumber e n
       → present_at e w n (place_of e w n) ≡ listed (carrier_of m places ss n)
   present-is n number = elim (cases_Bool m) [
     | inl on ↦ by-place n (place_of e w n) refl

@@ -1,12 +1,14 @@
 //! A carrier where it is.
-ghost use Rattle.std.specs.Prelude.{◌≡◌, option_map};
+ghost use Rattle.std.specs.Prelude.{◌≡◌, IfOk, option_map};
 ghost use Rattle.std.specs.Option.{option_and_then};
 ghost use Rattle.ea_model.specs.Content as contents;
 ghost use Rattle.ea_machine.specs.Outcome.{line_of};
+ghost use Rattle.ea_instance.specs.Layouts.{layout_of, plain_layout};
 
-use ea_instance::{Held, Instance, multi_line};
+use ea_instance::{Held, Instance, Layout, multi_layout, multi_line};
 use ea_mbc::Mbc;
-use ea_model::{Block, CarrierLine, Spot, Standing};
+use ea_model::{Block, CarrierLine, OutOfMemory, Spot, Standing};
+use std::alloc::Global;
 
 /// Who has the content of a carrier.
 #[derive(Clone, Copy)]
@@ -58,6 +60,23 @@ impl<'a> Found<'a> {
                 let line = multi_line(self.employer, carrier);
                 Some(standing(line, self.word, self.employer))
             }
+        }
+    }
+
+    /// Its layout, if it is there with that number. It fails only where there is no memory.
+    pub fn layout(&self, alloc: Global, number: u32) -> Result<Option<Layout>, OutOfMemory>
+        ensures { IfOk result (λ layout. option_map plain_layout layout
+            ≡ option_map (λ p. layout_of p.content) (present_with number self.now)) }
+    {
+        match &self.whose {
+            Whose::Employer { instance } => {
+                if !instance.employs(number) {
+                    return Ok(None);
+                }
+                Ok(Some(instance.layout(alloc, number)?))
+            }
+            Whose::Hand { carrier } => Ok(Some(carrier.layout(alloc)?)),
+            Whose::Home { carrier } => Ok(Some(multi_layout(alloc, carrier)?)),
         }
     }
 

@@ -50,7 +50,7 @@ use Rattle.ea_sound.specs.Shown.{HasSeen, SeesEmployer, SeesItself}
 use Rattle.ea_sound.specs.Exhausted.{IsFailOf, seen_since}
 use Rattle.ea_sound.specs.Needs.{AsksFor}
 use Rattle.ea_sound.specs.Searches.{Searched, Shown, Sight, sight_if}
-use Rattle.ea_sound.specs.Turns.{IsBegun, answered, begun, log_after}
+use Rattle.ea_sound.specs.Turns.{HoldsAfter, IsBegun, answered, begun, log_after}
 use Rattle.ea_sound.specs.Present.{OfAsk, OfTask}
 use Rattle.ea_sound.specs.Released.{LiesAt, blocks_named}
 use Rattle.ea_sound.specs.Names.{to_make}
@@ -146,6 +146,7 @@ pub record Placement (e : Setup) (L : List ℕ) (s : ℕ) (log : List Entry) (na
   pub asked : HasAsked e (before ++ s ∷ []) s need log
   pub placed : IsPlacedAt e before s need place
   pub there : LiesAt e name place (run e (before ++ s ∷ []))
+  pub holds : HoldsAfter e (before ++ s ∷ []) s name
 
 abbrev pub Placing : Setup → List ℕ → ℕ → List Entry → Task → Type 0
 Placing e L s log (Freeing n) = Unit {0}
@@ -313,6 +314,7 @@ placing-longer e L s j log (Moving o n p) h = record {
   asked = h.asked;
   placed = h.placed;
   there = h.there;
+  holds = h.holds;
 }
 
 pub held-longer : (e : Setup) (L : List ℕ) (s j n : ℕ) (h : Named) (log : List Entry)

@@ -16,7 +16,7 @@ use Rattle.ea_model.specs.declared.reallocation.Decision.TheVariants.{ShrinkCarr
 use Rattle.ea_model.specs.Instance.{chosen_spot, decision_at, figures, is_alone, plan, resizing_at}
 use Rattle.ea_model.specs.Instance.{Instance}
 use Rattle.ea_model.specs.Units.{need_of}
-use Rattle.ea_model.proofs.Rising.{item_at-key}
+use Rattle.ea_model.proofs.Rising.{item_at-key, item_at-new, item_at-stays, none-other}
 use Rattle.ea_model.specs.Trace.{makes}
 use Rattle.ea_model.proofs.Needs.{need-even, need-least}
 use Rattle.ea_model.specs.Content.{Content}
@@ -26,7 +26,7 @@ use Rattle.ea_machine.specs.declared.stages.Stage.TheVariants.{Ready, Ended, Beg
 use Rattle.ea_machine.specs.Actor.{Actor, Stat}
 use Rattle.ea_machine.specs.declared.tasks.Task.TheVariants.{Freeing}
 use Rattle.ea_machine.specs.declared.asks.Ask.{Ask}
-use Rattle.ea_machine.specs.Nodes.{named_at, name_of}
+use Rattle.ea_machine.specs.Nodes.{named_at, name_of, with_name, without_name}
 use Rattle.ea_machine.specs.declared.nodes.Named.{Named}
 use Rattle.ea_machine.specs.Operations.{freed, giving, itself}
 use Rattle.ea_machine.specs.Placements.{chosen_by, holding, new_carrier, search_if, seek, seek_by}
@@ -57,6 +57,7 @@ use Rattle.ea_sound.proofs.ChroniclePlaces.{landed, shared, choice-fine, logged-
 use Rattle.ea_sound.proofs.ChroniclePlaces.{search-fine, task-fine, big, little, fails}
 use Rattle.ea_sound.proofs.Alike.{lies-with}
 use Rattle.ea_sound.proofs.Hits.{held-stands}
+use Rattle.ea_sound.proofs.HeldBlocks.{walk-realloc}
 use Rattle.ea_sound.proofs.LyingBlocks.{LiesWith, resizing-lies}
 use Rattle.ea_sound.proofs.Numbered.{scheduler-seat}
 use Rattle.ea_sound.proofs.Operating.{closed-operation}
@@ -230,6 +231,19 @@ module _ (e : Setup) (rules : (L : List ℕ) → Rule e (run e L)) (L : List ℕ
           resizing-lies mid.instance h.spot (need_of bytes) fresh order stays found.0 found.1
           block.0 block.1
 
+      -- the new name is held in place of the old one
+      fresh-held : (h : Named) → named_at h.name mid.held ≡ Some h
+          → named_at fresh (with_name (record { name = fresh; spot = h.spot })
+          (without_name h.name mid.held)) ≡ Some (record { name = fresh; spot = h.spot })
+      fresh-held h held =
+          let none = walk-realloc e (run e L) s me is mid walk old fresh bytes ops todo in
+          let other : fresh ≢ h.name = λ q. absurd (let t : None ≡ Some h =
+          sym none ∙ ap (λ n. named_at n mid.held) q ∙ held in cc) in
+          item_at-new name_of (record { name = fresh; spot = h.spot })
+          (without_name h.name mid.held)
+          (none-other name_of fresh (without_name h.name mid.held)
+          (item_at-stays name_of fresh h.name mid.held other ∙ none))
+
       resized-fine : (h : Named) (d : Decision) → named_at old mid.held ≡ Some h → h.name ≡ old
           → decision_at mid.instance h.spot (need_of bytes) ≡ d → d ≢ Move
           → Fine (resized_here h fresh (need_of bytes) mid)
@@ -256,7 +270,12 @@ module _ (e : Setup) (rules : (L : List ℕ) → Rule e (run e L)) (L : List ℕ
                 (holding fresh h.spot (let_go h.name
                 (record mid { instance = resizing_at mid.instance h.spot (need_of bytes) fresh })))
                 (resized-lies h (itself-held h i nm) (subst (λ d. d ≢ Move) (sym dec) ne))
-                (ap (λ (a : Actor). a.instance) now);
+                (ap (λ (a : Actor). a.instance) now, ap (λ (a : Actor). a.held) now);
+            holds = (
+              record { name = fresh; spot = h.spot },
+              subst (λ l. named_at fresh l ≡ Some (record { name = fresh; spot = h.spot }))
+                  (ap (λ (a : Actor). a.held) now) (fresh-held h (itself-held h i nm)),
+            );
           })
 
       decided-fine : (h : Named) (d : Decision) → named_at old mid.held ≡ Some h → h.name ≡ old

@@ -16,6 +16,7 @@ use Rattle.ea_model.specs.declared.entries.NoCarrier.TheVariants.{Space}
 use Rattle.ea_model.specs.Instance.{chosen_spot, creating, is_alone, place_at, plan, single_place}
 use Rattle.ea_model.specs.Instance.{creating_single, placing_at, owner_of}
 use Rattle.ea_model.specs.Content.{Content}
+use Rattle.ea_model.proofs.Rising.{item_at-key, item_at-new, item_at-stays, none-other}
 use Rattle.ea_laws.proofs.Keeping.{plan-IsPlanned}
 use Rattle.ea_laws.specs.Kept.{IsOrderly}
 use Rattle.ea_machine.specs.Placements.{search_on}
@@ -42,7 +43,7 @@ use Rattle.ea_machine.specs.Releases.{Turned, owned_by, release_here, route_of, 
 use Rattle.ea_machine.specs.Setup.{Setup, migration, is_scheduler}
 use Rattle.ea_machine.specs.Statistics.{observed}
 use Rattle.ea_machine.specs.Tasks.{carried, entry_of, hands_over, later, let_go, logged, task_over}
-use Rattle.ea_machine.specs.Nodes.{named_at, block_node, without_name}
+use Rattle.ea_machine.specs.Nodes.{named_at, block_node, name_of, without_name}
 use Rattle.ea_machine.specs.State.{State}
 use Rattle.ea_machine.specs.Shared.{Shared}
 use Rattle.ea_machine.specs.Table.{effect}
@@ -51,7 +52,7 @@ use Rattle.ea_sound.specs.Entries.{Tells}
 use Rattle.ea_sound.specs.HandedOver.{HasHeld, IsAnother, IsReleasedHere}
 use Rattle.ea_sound.specs.Shown.{SeesEmployer, SeesItself}
 use Rattle.ea_sound.specs.Exhausted.{FindsNoPlace, IsExhausted, IsFailOf}
-use Rattle.ea_sound.specs.Turns.{actor_after, begun}
+use Rattle.ea_sound.specs.Turns.{HoldsAfter, actor_after, begun}
 use Rattle.ea_sound.specs.Present.{OfAsk, OfTask, OldHeld, Rule, Fits, FitsRoute}
 use Rattle.ea_sound.specs.Contents.{actor_sum, seats}
 use Rattle.ea_sound.specs.Released.{LiesAt, blocks_named as blocks_of_name, says_failed}
@@ -63,7 +64,7 @@ use Rattle.ea_sound.proofs.Chronicle.{CameTo}
 use Rattle.ea_sound.proofs.Chronicle.{HasOld, IsOut, LeftBy, OnWay, PushedBy, PushesBy, Sent}
 use Rattle.ea_sound.proofs.Chronicle.{IsOfFirst, IsSame, Outcomes, Placement, Placing, SoFar}
 use Rattle.ea_sound.proofs.Chronicle.{Underway, WentTo, failed-is, name_in, outcomes, task-first}
-use Rattle.ea_sound.proofs.ShortRoutes.{Keeps, here-short, keeps-on, route-keeps}
+use Rattle.ea_sound.proofs.ShortRoutes.{Keeps, here-short, keeps-on, route-keeps, route-short}
 use Rattle.ea_sound.proofs.TurnLists.{run-snoc, step-is}
 use Rattle.ea_sound.proofs.Alike.{allocated-with, lies-with}
 use Rattle.ea_sound.proofs.Choosing.{chosen-gap}
@@ -107,6 +108,7 @@ module _ (e : Setup) (rules : (L : List ℕ) → Rule e (run e L)) (L : List ℕ
     pub of : IsOfFirst acting.todo entry
     pub left : b.todo ≡ later acting.todo
     pub log : b.log ≡ acting.log ++ entry ∷ []
+    pub begins : b.stage ≡ Begin
     pub tells : Tells e L me entry
     pub none : (n : ℕ) → says_failed n entry ≡ true → blocks_of_name e n (run e turn) ≡ 0
 
@@ -137,7 +139,12 @@ module _ (e : Setup) (rules : (L : List ℕ) → Rule e (run e L)) (L : List ℕ
   module _ (set : acting.instance.settings ≡ e.settings) (is : is_scheduler e me ≡ true)
       (works : acting.stage ≢ Ended) where
     abbrev pub IsAfter : Actor → Type 0
-    IsAfter b = b.instance ≡ (actor_after e turn me).instance
+    IsAfter b = (b.instance ≡ (actor_after e turn me).instance)
+        × (b.held ≡ (actor_after e turn me).held)
+
+    -- the scheduler that comes to be has the instance and the held names of b
+    abbrev pub now-after : (b : Actor) → IsNow b → IsAfter b
+    now-after b now = (ap (λ (a : Actor). a.instance) now, ap (λ (a : Actor). a.held) now)
 
     -- a block that the scheduler's instance has lies there
     pub landed : (n : ℕ) (p : Place) (b : Actor) → LiesWith n p b.instance → IsAfter b
@@ -146,7 +153,7 @@ module _ (e : Setup) (rules : (L : List ℕ) → Rule e (run e L)) (L : List ℕ
         let f = blocks_named (lying n p) in
         omega (
           arith,
-          subst (LiesWith n p) q has,
+          subst (LiesWith n p) q.0 has,
           total-part (actor_sum f f) (run e turn).actors me (seats e) (scheduler-seat e me is),
         )
 
@@ -184,6 +191,7 @@ module _ (e : Setup) (rules : (L : List ℕ) → Rule e (run e L)) (L : List ℕ
           of = o;
           left = ap later k.1;
           log = ap (λ l. l ++ x ∷ []) k.0;
+          begins = refl;
           tells = t now;
           none = λ n said. absent-now n x b (f n said) now;
         }),
@@ -201,6 +209,7 @@ module _ (e : Setup) (rules : (L : List ℕ) → Rule e (run e L)) (L : List ℕ
       asked = h.asked;
       placed = h.placed;
       there = h.there;
+      holds = h.holds;
     }
 
     -- the block that was held under the name is released by the scheduler itself
@@ -487,7 +496,7 @@ module _ (e : Setup) (rules : (L : List ℕ) → Rule e (run e L)) (L : List ℕ
         → Fine (carried (For task) (task_over task) (record { actor = b; route = r; gone = g }))
     carried-fine task None g b k o w out h = logged-fine (entry_of task g) b k
         (task-first task g acting.todo o) (task-made task g b)
-        (λ now. entry-tells task g (h (ap (λ (a : Actor). a.instance) now))
+        (λ now. entry-tells task g (h (now-after (logged (entry_of task g) b) now))
         (ended-went g w) (out now))
     carried-fine task (Some r) g b k o w out h = (
       (λ q. absurd cc),
@@ -496,7 +505,7 @@ module _ (e : Setup) (rules : (L : List ℕ) → Rule e (run e L)) (L : List ℕ
         (
           subst (OfTask task) (sym k.1) o,
           subst (λ l. Placing e turn me l task) (sym k.0)
-              (h (ap (λ (a : Actor). a.instance) now)),
+              (h (now-after (record b { stage = Routed r (For task) g }) now)),
           routed-went r (For task) g w (sym (ap (λ (a : Actor). a.stage) now)),
           subst (λ l. OnWay e turn me l (name_in task) r g) (sym k.0) (out now),
         ),
@@ -526,6 +535,20 @@ module _ (e : Setup) (rules : (L : List ℕ) → Rule e (run e L)) (L : List ℕ
       in_order : IsOrderly c.instance
       in_order = ((lies-with e (run e L) shared me is (at Begin b) g.kept).instance is).order
 
+      -- the name is held
+      holds-new : named_at n (holding n spot c).held ≡ Some (record { name = n; spot = spot })
+      holds-new =
+          let none = absent (named_at n c.held) refl in
+          item_at-new name_of (record { name = n; spot = spot }) c.held
+          (none-other name_of n c.held none)
+        where
+          absent : (o : Option Named) → named_at n c.held ≡ o → named_at n c.held ≡ None
+          absent None q = q
+          absent (Some x) q =
+              let same = item_at-key name_of n x c.held q in
+              absurd (held-other e (run e L) shared me is n spot x c
+              (subst (λ m. named_at m c.held ≡ Some x) (sym same) q) g same)
+
       -- the old block stands at its spot
       old-stands : (h : Named) → named_at h.name c.held ≡ Some h → migration e ≡ false
           → owner_of h.spot.carrier ≡ me → HasBlock c.instance h.name h.spot
@@ -546,9 +569,15 @@ module _ (e : Setup) (rules : (L : List ℕ) → Rule e (run e L)) (L : List ℕ
     stands-fine ask place spot c k o p held has g =
         by ask.old refl held (outcomes ask 0 Space place acting.todo o.0 ask.old refl)
       where
-        here : LiesAt e ask.name place (run e turn)
+        new : Named
+        new = record { name = ask.name; spot = spot }
+
+        new-held : named_at ask.name (holding ask.name spot c).held ≡ Some new
+        new-held = holds-new ask.name spot c g
+
+        here : LiesAt e ask.name place (run e turn) → HoldsAfter e turn me ask.name
             → Placement e turn me acting.log ask.name place
-        here lies = record {
+        here lies holds = record {
           before = L;
           since = [];
           split = refl;
@@ -557,6 +586,7 @@ module _ (e : Setup) (rules : (L : List ℕ) → Rule e (run e L)) (L : List ℕ
           asked = o.1;
           placed = p;
           there = lies;
+          holds = holds;
         }
 
         by : (old : Option Named) → ask.old ≡ old → OldHeld old c.held
@@ -565,8 +595,10 @@ module _ (e : Setup) (rules : (L : List ℕ) → Rule e (run e L)) (L : List ℕ
         by None q h f =
             let b = holding ask.name spot c in
             logged-fine (entry.Alloc ask.name place) b k f.1 (λ n q. absurd cc)
-            (λ now. placed ask.name place
-            (here (landed ask.name place b has (ap (λ (a : Actor). a.instance) now))))
+            (λ now.
+            let q = now-after (logged (entry.Alloc ask.name place) b) now in
+            placed ask.name place (here (landed ask.name place b has q)
+            (new, subst (λ l. named_at ask.name l ≡ Some new) q.1 new-held)))
         by (Some h) q old f =
             let b = holding ask.name spot c in
             let t = route_of e me h (let_go h.name b) in
@@ -577,7 +609,14 @@ module _ (e : Setup) (rules : (L : List ℕ) → Rule e (run e L)) (L : List ℕ
             (route-lies e me ask.name place h
             (held-other e (run e L) shared me is ask.name spot h c old g) (let_go h.name b) has
             (λ off own. (in_order ask.name spot c g, old-stands ask.name spot c g h old off own)))
-            now))
+            now) (
+              new,
+              subst (λ l. named_at ask.name l ≡ Some new)
+                  (sym (route-short e me h (let_go h.name b)).1.5 ∙ now.1)
+                  (item_at-stays name_of ask.name h.name b.held
+                  (λ same. held-other e (run e L) shared me is ask.name spot h c old g (sym same))
+                  ∙ new-held),
+            ))
 
     placed_at-fine : (ask : Ask) (b : Actor) (spot : Spot) → Keeps acting b → IsAsking ask
         → IsPlacedAt e L me ask.need (place_at b.instance spot ask.need)

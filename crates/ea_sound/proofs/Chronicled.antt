@@ -74,6 +74,7 @@ module _ (e : Setup) (rules : (L : List ℕ) → Rule e (run e L)) where
     of = m.of;
     left = m.left;
     log = m.log;
+    begins = m.begins;
     tells = m.tells;
     none = m.none;
   })

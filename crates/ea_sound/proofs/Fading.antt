@@ -15,7 +15,7 @@ use Rattle.ea_sound.proofs.Weights.{sum-zero}
 
 -- nothing of a name
 abbrev none_of : ℕ → Counting
-none_of n = record { name = n; counts = λ c b. 0; small = λ c b. omega arith }
+none_of n = record { name = n; counts = λ c o b. 0; small = λ c o b. omega arith }
 
 module _ (e : Setup) (rules : (L : List ℕ) → Rule e (run e L)) where
   -- steps leave no more

@@ -31,23 +31,24 @@ use Rattle.ea_sound.proofs.KeyedWeights.{sum-without_less, times-once}
 use Rattle.ea_laws.proofs.Orderly.{stays-employed}
 use Rattle.ea_laws.proofs.Resizing.{content_after}
 
--- a name, and what is counted of its blocks, by the numbers of their carriers: each once at most
+-- a name, and what is counted of its blocks, by the numbers and the bases of their carriers: each
+-- once at most
 pub record Counting : Type 0 where
   pub name : ℕ
-  pub counts : ℕ → BlockAt → ℕ
-  pub small : (c : ℕ) (b : BlockAt) → counts c b ≤ one_if (b.name == name)
+  pub counts : (number base : ℕ) → BlockAt → ℕ
+  pub small : (number base : ℕ) (b : BlockAt) → counts number base b ≤ one_if (b.name == name)
 
 -- every block of the name
 abbrev pub all_of : ℕ → Counting
 all_of n = record {
   name = n;
-  counts = λ c b. one_if (b.name == n);
-  small = λ c b. omega arith;
+  counts = λ number base b. one_if (b.name == n);
+  small = λ number base b. omega arith;
 }
 
 -- what is counted of a carrier, and of an instance
 abbrev pub blocks_named : Counting → Content → ℕ
-blocks_named n x = sum_over (n.counts x.number) x.blocks
+blocks_named n x = sum_over (n.counts x.number x.base) x.blocks
 
 abbrev pub all_named : Counting → Instance → ℕ
 all_named n i = employed_sum (blocks_named n) i
@@ -75,7 +76,7 @@ module _ {A : Type 0} (key_of : A → ℕ) (g : A → A) (key : ℕ) (f : A → 
 module _ (n : Counting) where
   pub released-fewer : (x : Content) (offset : ℕ)
       → blocks_named n (released x offset) ≤ blocks_named n x
-  released-fewer x offset = sum-without_less offset_of (n.counts x.number) offset x.blocks
+  released-fewer x offset = sum-without_less offset_of (n.counts x.number x.base) offset x.blocks
 
   pub releasing-fewer : (i : Instance) (spot : Spot)
       → all_named n (releasing_at i spot) ≤ all_named n i
@@ -101,8 +102,8 @@ module _ (n : Counting) where
       omega (
         arith,
         employed_sum-placing (blocks_named n) i spot need name c order gap.1,
-        sum-entered offset_of (n.counts c.number) b c.blocks,
-        n.small c.number b,
+        sum-entered offset_of (n.counts c.number c.base) b c.blocks,
+        n.small c.number c.base b,
       )
 
   pub creating-fewer : (i : Instance) (p : CarrierPlan)
@@ -115,13 +116,13 @@ module _ (n : Counting) where
       omega (
         arith,
         employed_sum-creating_single (blocks_named n) i p need name,
-        n.small p.number (record { name = name; offset = 8; size = need }),
+        n.small p.number p.base (record { name = name; offset = 8; size = need }),
       )
 
   -- a block gets the name
   module _ (x : Content) (offset size name : ℕ) where
     abbrev counted : BlockAt → ℕ
-    counted b = n.counts x.number b
+    counted b = n.counts x.number x.base b
 
     in_blocks : HasRisingBlocks x → (o : Option BlockAt) → block_at x.blocks offset ≡ o
         → sum_over counted (changed_at offset_of (with_size size name) offset x.blocks)
@@ -135,7 +136,7 @@ module _ (n : Counting) where
       arith,
       sum-changed offset_of (with_size size name) offset counted b x.blocks
           (times-once offset_of offset x.blocks rising) found,
-      n.small x.number (with_size size name b),
+      n.small x.number x.base (with_size size name b),
     )
 
     after-fewer : (d : Decision) → HasRisingBlocks x → d ≢ Move

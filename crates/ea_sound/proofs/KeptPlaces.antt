@@ -60,7 +60,7 @@ module _ (e : Setup) (rules : (L : List ℕ) → Rule e (run e L)) where
             (arith, sum-both (lies n p x.number) (lies n q x.number) x.blocks))),
         sum-nothing e w k none (λ x. refl),
         everywhere-less both (blocks_named (all_of n))
-            (λ x. sum-less (at x.number) ((all_of n).counts x.number) x.blocks
+            (λ x. sum-less (at x.number) ((all_of n).counts x.number x.base) x.blocks
             (λ i d within. two x.number _)) e w,
       )
 

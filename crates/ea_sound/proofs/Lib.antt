@@ -113,6 +113,7 @@ pub mod PrintedUnits
 pub mod Fading
 pub mod GoneNames
 pub mod KeptPlaces
+pub mod OverUnits
 -- What an entry tells of the turns before it.
 pub mod TurnLists
 pub mod Stopping
@@ -129,6 +130,7 @@ pub mod ChroniclePlaces
 pub mod ChronicleOperations
 pub mod ChronicleTurns
 pub mod Chronicled
+pub mod MadeNames
 pub mod Failing
 pub mod Queueing
 -- Each schedule ends.
@@ -170,3 +172,4 @@ pub mod Creations
 pub mod PresentCarriers
 pub mod PresentContents
 pub mod PresentPlaces
+pub mod PresentUnits

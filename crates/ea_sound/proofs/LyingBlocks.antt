@@ -60,7 +60,11 @@ pub lies-small : (n : ℕ) (p : Place) (c : ℕ) (b : BlockAt) → lies n p c b 
 lies-small n p c b = grind arith
 
 abbrev pub lying : ℕ → Place → Counting
-lying n p = record { name = n; counts = lies n p; small = lies-small n p }
+lying n p = record {
+  name = n;
+  counts = λ number base b. lies n p number b;
+  small = λ number base b. lies-small n p number b;
+}
 
 -- it is counted, and a block of another name isn't
 lies-there : (n : ℕ) (p : Place) (c : ℕ) (b : BlockAt) → b.name ≡ n → c ≡ p.carrier

@@ -202,7 +202,7 @@ module _ (e : Setup) (w : State) (k : Kept e w) where
           (other x.number) q,
     ))
 
-  stands-printed : (n : ℕ) (p : Spot) → 1 ≤ all_names e (only_at n p) w → IsPrinted p
+  pub stands-printed : (n : ℕ) (p : Spot) → 1 ≤ all_names e (only_at n p) w → IsPrinted p
   stands-printed n p stands =
       let (x, found, some) = item-hit number_of (of_content (only_at n p)) p.carrier contents
       (other-content n p)

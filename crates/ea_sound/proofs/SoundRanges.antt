@@ -43,14 +43,14 @@ across e x y whole high low apart = omega (arith, whole.0, high, low, apart)
 
 module _ (e : Setup) (w : State) (k : Kept e w) where
   -- a carrier whose owner has it in its region
-  record IsOwned (x : Content) : Type 0 where
+  pub record IsOwned (x : Content) : Type 0 where
     pub scheduler : is_scheduler e x.owner ≡ true
     pub found : own_at (w.actors x.owner).instance.own x.number ≡ Some (own_of x)
     pub whole : IsWhole x
     pub low : first_page e x.owner ≤ x.base
     pub high : x.base + x.units / 512 ≤ first_page e x.owner + e.pages
 
-  is-owned : (i : ℕ) (x : Content) → Belongs e i x → IsLaidOutAsKind x → Counts e w x → IsOwned x
+  pub is-owned : (i : ℕ) (x : Content) → Belongs e i x → IsLaidOutAsKind x → Counts e w x → IsOwned x
   is-owned i x belongs laid counts =
       let there : IsSomewhere e w x =
       omega (arith, this-itself x, counts-less e w x counts (of_owner (this x))) in
@@ -62,7 +62,7 @@ module _ (e : Setup) (w : State) (k : Kept e w) where
         high = belongs.high;
       }
 
-  apart : (x y : Content) → IsOwned x → IsOwned y → IsApartFrom x y
+  pub apart : (x y : Content) → IsOwned x → IsOwned y → IsApartFrom x y
   apart x y a b other = elim (cases_eq y.owner x.owner) [
     | inl same ↦
         let own = (w.actors x.owner).instance.own in

@@ -18,7 +18,7 @@ use Rattle.ea_machine.specs.State.{State}
 use Rattle.ea_model.specs.Employment.{employing}
 use Rattle.ea_machine.specs.Machine.{run}
 use Rattle.ea_sound.specs.Released.{LiesAt}
-use Rattle.ea_sound.specs.Turns.{IsBegun, actor_after, advanced, begun, log_after}
+use Rattle.ea_sound.specs.Turns.{HoldsAfter, IsBegun, actor_after, advanced, begun, log_after}
 use Rattle.ea_sound.specs.Needs.{AsksFor, HasNeed}
 use Rattle.ea_sound.specs.FirstFits.{IsFetched}
 
@@ -86,7 +86,7 @@ pub record HasAsked (setup : Setup) (turns : List ℕ) (s need : ℕ) (log : Lis
 
 -- s placed a block in its step after `before`, for the operation of which it has made the entry in
 -- its step after the steps `turns`: the same step, or, where the old block of a reallocation went
--- then, an earlier one. Once it is placed, a block of that name lies there
+-- then, an earlier one. Once it is placed, a block of that name lies there, and s holds the name
 pub record IsPlacement (setup : Setup) (turns : List ℕ) (s name : ℕ) (place : Place) : Type 0
   where
     pub before : List ℕ
@@ -97,9 +97,11 @@ pub record IsPlacement (setup : Setup) (turns : List ℕ) (s name : ℕ) (place 
     pub asked : HasAsked setup (before ++ s ∷ []) s need (log_after setup turns s)
     pub placed : IsPlacedAt setup before s need place
     pub there : LiesAt setup name place (run setup (before ++ s ∷ []))
+    pub holds : HoldsAfter setup (before ++ s ∷ []) s name
 
 -- a block that is reallocated in its place, in the step of s after the steps `turns`, keeps its
--- spot, and has the units that are decided. After this step a block of the new name lies there
+-- spot, and has the units that are decided. After this step a block of the new name lies there, and
+-- s holds that name
 pub record IsResized (setup : Setup) (turns : List ℕ) (s old fresh : ℕ) (place : Place) : Type 0
   where
     pub begins : IsBegun setup (run setup turns) s
@@ -112,3 +114,4 @@ pub record IsResized (setup : Setup) (turns : List ℕ) (s old fresh : ℕ) (pla
     pub offset : place.offset ≡ named.spot.offset
     pub size : place.size ≡ resized_to (begun setup turns s).instance named.spot need
     pub there : LiesAt setup fresh place (run setup (turns ++ s ∷ []))
+    pub holds : HoldsAfter setup (turns ++ s ∷ []) s fresh

@@ -19,6 +19,8 @@ pub mod Chosen
 pub mod Shown
 pub mod HandedOver
 pub mod Released
+pub mod Over
+pub mod Made
 pub mod Entries
 -- Rows: their guards, and answers that never come.
 pub mod Guarded

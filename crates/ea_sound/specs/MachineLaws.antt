@@ -13,6 +13,8 @@ use Rattle.ea_machine.specs.Completion.{complete}
 use Rattle.ea_machine.specs.Courses.{Rests}
 use Rattle.ea_sound.specs.Units.{PrintsSums}
 use Rattle.ea_sound.specs.Sound.{Sound}
+use Rattle.ea_sound.specs.Made.{MakesItsOwn}
+use Rattle.ea_sound.specs.Over.{HadUnits, KeepsUnits, LieApart}
 use Rattle.ea_sound.specs.Released.{FailedHaveNone, KeepsPlaces, ReleasesOnce, StaysGone}
 use Rattle.ea_sound.specs.Exhausted.{FailsIfExhausted}
 use Rattle.ea_sound.specs.Entries.{EntersOne, LogsEach, QueuesIfSeen, SkipsUnheld}
@@ -51,9 +53,10 @@ AllComeToRest setup = (turns : List ℕ) (s : ℕ) → Rests setup (complete set
 -- operation makes one entry, of its own kind, which tells how it came about: placements are chosen,
 -- and fails are exhausted; where no place is found an operation fails, where its name isn't held it
 -- is skipped, and where another employer is seen its block is queued to that; no name is released
--- twice, one that failed has no block, and both stay so; a block keeps its place and its units; who
--- is stopped takes no step, in a completed schedule neither; and after that all have ended or are
--- stopped
+-- twice, one that failed has no block, and both stay so; a block keeps its place and its units,
+-- wherever its carrier goes; blocks of two names lie apart, a name that nobody is still to make has
+-- the units that it had, and one that gets a block is made by the scheduler whose step it was; who is
+-- stopped takes no step, in a completed schedule neither; and after that all have ended or are stopped
 pub record Protocol (setup : Setup) : Type 0 where
   pub sound : AtEachMoment Sound setup
   pub prints : AtEachMoment PrintsSums setup
@@ -70,6 +73,10 @@ pub record Protocol (setup : Setup) : Type 0 where
   pub failed : AtEachMoment FailedHaveNone setup
   pub gone : StaysGone setup
   pub places : KeepsPlaces setup
+  pub apart : AtEachMoment LieApart setup
+  pub units : KeepsUnits setup
+  pub had : HadUnits setup
+  pub makes : MakesItsOwn setup
   pub stops : HeedsStops setup
   pub within : CompletesWithin setup
   pub ends : AllComeToRest setup

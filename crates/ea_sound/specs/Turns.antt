@@ -1,6 +1,8 @@
 -- What a scheduler does in one step of a run.
-use Rattle.std.specs.Prelude.{◌≡◌, ℕ, List}
+use Rattle.std.specs.Prelude.{◌≡◌, ℕ, List, Some}
 use Rattle.ea_model.specs.declared.entries.Entry.{Entry}
+use Rattle.ea_machine.specs.declared.nodes.Named.{Named}
+use Rattle.ea_machine.specs.Nodes.{named_at}
 use Rattle.ea_machine.specs.Setup.{Setup}
 use Rattle.ea_machine.specs.declared.stages.Stage.TheVariants.{Ready}
 use Rattle.ea_machine.specs.Actor.{Actor}
@@ -29,6 +31,11 @@ actor_after setup turns s = (run setup turns).actors s
 
 abbrev pub log_after : Setup → List ℕ → ℕ → List Entry
 log_after setup turns s = (actor_after setup turns s).log
+
+-- it holds the name then
+abbrev pub HoldsAfter : Setup → List ℕ → ℕ → ℕ → Type 0
+HoldsAfter setup turns s name =
+    (named : Named) × (named_at name (actor_after setup turns s).held ≡ Some named)
 
 -- scheduler s when the begin of its operation is over, in its step after the steps `before`
 abbrev pub begun : Setup → List ℕ → ℕ → Actor

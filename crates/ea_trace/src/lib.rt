@@ -17,7 +17,7 @@ mod tally;
 #[cfg(test)]
 mod tests;
 mod turns;
-mod words;
+pub mod words;
 
 pub use fault::TraceFault;
 pub use keywords::{Keyword, OpKind, is_comment, keyword_at, kind_at, letter_at, letter_word};

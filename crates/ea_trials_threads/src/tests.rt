@@ -5,6 +5,7 @@ use ea_model::Mode;
 use ea_report::print;
 use ea_table::run_threads;
 use ea_trace::read_trace;
+use ea_types::{read_types, run_typed_threads};
 use std::process::Abort;
 use std::test::Fail;
 
@@ -19,6 +20,15 @@ const HANDED_OVER_TEXT: &str = "scheduler 1\nalloc 1 1 8 14\ngive 1 2\ntake 2 go
     carrier 1 multi owner 1 employed 1 base 0 pages 64 allocated 14 largest 32746\n\
     carrier 1025 multi owner 2 employed 2 base 8192 pages 64 allocated 14 largest 32746\n\
     total carriers 2 units 65536 live 28 queued 0 free 65492 header 16\n";
+
+/// The same as that of two types, of which one has no operations.
+const HANDED_OVER_IN_ONE_TYPE: &str = "types H B\n\
+    scheduler 1\nH alloc 1 100\nH give 1 2\nH take 2 10000000\n\
+    scheduler 2\nH alloc 2 100\nH give 2 1\nH take 1 10000000\n\
+    threads\nend\n";
+
+const NOTHING_TEXT: &str = "scheduler 1\nscheduler 2\n\
+    total carriers 0 units 0 live 0 queued 0 free 0 header 0\n";
 
 /// Scheduler 1 abandons its carrier before it gives, and scheduler 2 fetches it after it took.
 const FETCHED: &str = "type H\n\
@@ -71,5 +81,39 @@ fn each_scheduler_is_at_its_second_step_while_the_other_is(rt: HostRuntime) -> R
             Ok(text)
         );
     }
+    Ok(())
+}
+
+#[test]
+fn schedulers_of_two_types_are_at_their_second_step_beside_each_other(
+    rt: HostRuntime,
+) -> Result<(), Fail> {
+    let alloc = rt.alloc();
+    let mut words = Vec::new(alloc);
+    for word in ["+S", "2", "+MHacul", "0", "+MBacul", "0"] {
+        words.push(String::from_str(alloc, word)?)?;
+    }
+    assert!(rt; words.len() < 1 << 32);
+    let config = read_flags(&words)?;
+    let bytes = HANDED_OVER_IN_ONE_TYPE.as_bytes();
+    assert!(rt; bytes.len() < 1 << 24);
+    let input = read_types(alloc, config, bytes)?;
+    let traces = input.traces.as_slice();
+
+    let meeting = Meeting::new();
+    let parts = input.parts.as_slice();
+    let outcomes = run_typed_threads(&rt, alloc, config, traces, parts, &meeting)?;
+    assert!(rt; meeting.have_met());
+    for (outcome, text) in outcomes
+        .as_slice()
+        .iter()
+        .zip([HANDED_OVER_TEXT, NOTHING_TEXT])
+    {
+        assert_eq!(rt;
+            str::from_utf8(print(alloc, outcome)?.as_slice()),
+            Ok(text)
+        );
+    }
+    assert_eq!(rt; outcomes.len(), 2);
     Ok(())
 }

@@ -20,4 +20,5 @@ mod types;
 pub use input::{MAX_TYPES, TypedInput};
 pub use laws::{all_end, own_runs};
 pub use reader::read_types;
+pub use threads::run_typed_threads;
 pub use types::run_types;

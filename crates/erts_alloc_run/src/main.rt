@@ -3,6 +3,7 @@
 //! of memory, or with 8 where they could not be had for another cause, or are 2^32 or more.
 #![tactic(auto)]
 
+mod commands;
 mod program;
 
 use ea_io::{StdSink, StdSource};

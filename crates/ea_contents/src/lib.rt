@@ -1,0 +1,20 @@
+//! What blocks contain: the words of names, and a memory that has them by address.
+//!
+//! The model has a list of words for each name, and no addresses. The memory has one word for each
+//! unit of the super carrier. The law says that steps, writes and copies keep the words of each
+//! block the list of its name.
+//!
+//! `specs/` say what an input with writes and reads asks for (`Language`), what its run comes to
+//! (`Model`) and its text (`Text`); what a memory has (`Memory`, `Stored`), and when it agrees with
+//! the model (`Agreeing`). No code runs such an input yet.
+#![tactic(auto)]
+
+mod access;
+mod laws;
+mod memory;
+#[cfg(test)]
+mod tests;
+
+pub use access::{Access, Making};
+pub use laws::agreement;
+pub use memory::{Extent, Memory};

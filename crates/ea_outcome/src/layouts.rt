@@ -1,0 +1,83 @@
+//! The layouts of all carriers of a run in which nobody steps any more.
+ghost use Rattle.std.specs.Prelude.{◌≡◌, ◌*◌, IfOk, map, option_map};
+ghost use Rattle.ea_model.specs.declared.units.TheConstants.{NUMBERS};
+ghost use Rattle.ea_model.specs.Settings.{IsValidConfig};
+ghost use Rattle.ea_model.specs.Trace.{IsValidTrace};
+ghost use Rattle.ea_machine.specs.Setup.{migration, setup_of};
+ghost use Rattle.ea_instance.specs.Layouts.{layout_of, plain_layout};
+ghost use Rattle.ea_shared.specs.Carriers.{IsCarrier};
+ghost use Rattle.ea_outcome.specs.Layouts.{AreLayouts, first_layouts};
+ghost use Rattle.ea_outcome.specs.Resting.{Stand, carrier_of};
+
+use crate::finding::find;
+use ea_instance::Layout;
+use ea_mbc::Mbc;
+use ea_model::{Config, List, NUMBERS, OutOfMemory, Trace};
+use ea_sched::{Scheduler, migrates};
+use ea_shared::Rested;
+use std::alloc::Global;
+
+/// The layout of the carrier with that number, if it is there.
+fn layout_at<H: Rested<Content = Mbc>>(
+    alloc: Global,
+    schedulers: &[Scheduler<'_>],
+    shared: &H,
+    migrates: bool,
+    number: u32,
+) -> Result<Option<Layout>, OutOfMemory>
+    requires migrates { migrates ≡ H.migrates shared.now }
+    requires number { IsCarrier (H.schedulers shared.now) number }
+    ensures { IfOk result (λ layout. option_map plain_layout layout
+        ≡ option_map (λ p. layout_of p.content)
+        (carrier_of migrates (H.places shared.now) schedulers.now number)) }
+{
+    match find(schedulers, shared, migrates, number) {
+        Some(carrier) => carrier.layout(alloc, number),
+        None => Ok(None),
+    }
+}
+
+/// The layouts of all carriers that are there, by number: there are that many numbers.
+fn layouts_from<H: Rested<Content = Mbc>>(
+    alloc: Global,
+    schedulers: &[Scheduler<'_>],
+    shared: &H,
+    migrates: bool,
+    numbers: u32,
+) -> Result<List<Layout>, OutOfMemory>
+    requires migrates { migrates ≡ H.migrates shared.now }
+    requires numbers { numbers ≡ NUMBERS * H.schedulers shared.now }
+    ensures { IfOk result (λ layouts. map plain_layout layouts.items
+        ≡ first_layouts migrates (H.places shared.now) schedulers.now numbers) }
+{
+    let mut layouts = List::new(alloc);
+    for before in 0..numbers {
+        if let Some(layout) = layout_at(alloc, schedulers, shared, migrates, before + 1)? {
+            layouts.push(layout)?;
+        }
+    }
+    Ok(layouts)
+}
+
+/// The layouts of all carriers of a run in which nobody steps any more, by number, wherever they
+/// are: after whatever turns its schedulers, in order, and what they share stand so. It fails only
+/// where there is no memory.
+pub fn layouts_of<H: Rested<Content = Mbc>>(
+    alloc: Global,
+    config: Config,
+    trace: &Trace,
+    schedulers: &[Scheduler<'_>],
+    shared: &H,
+) -> Result<List<Layout>, OutOfMemory>
+    requires config { IsValidConfig config }
+    requires trace { IsValidTrace config.schedulers trace.now }
+    requires schedulers { H.schedulers shared.now ≡ config.schedulers }
+    requires migrates { H.migrates shared.now ≡ migration (setup_of config trace.now) }
+    requires stand { Stand config trace.now schedulers.now (H.places shared.now)
+        (H.named shared.now) }
+    ensures { IfOk result (AreLayouts config trace.now schedulers.now
+        (H.places shared.now) (H.named shared.now)) }
+{
+    let numbers = NUMBERS * config.schedulers;
+    layouts_from(alloc, schedulers, shared, migrates(config, trace), numbers)
+}

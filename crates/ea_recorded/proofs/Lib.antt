@@ -1,0 +1,4 @@
+pub mod Feeding
+pub mod Reached
+pub mod Operating
+pub mod Printing

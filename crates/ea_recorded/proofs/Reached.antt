@@ -1,0 +1,296 @@
+-- One line more of an input is read.
+use Rattle.std.proofs.Common.{◌≡◌, ℕ, ◌+◌, ◌<◌, ◌≤◌, ◌||◌, ◌==◌, Bool, true, false, List, [], ◌∷◌}
+use Rattle.std.proofs.Common.{◌++◌, Option, Some, None, Ok, Err, length, map, refl, sym, ap, subst}
+use Rattle.std.proofs.Common.{◌∙◌, arith}
+use Rattle.std.specs.Borrow.{Bor}
+use Rattle.std.specs.Option.{option_map_or}
+use Rattle.std.specs.Prelude.{All, IfSome, nat_lt}
+use Rattle.std.proofs.lemmas.List.{length-append, length-map, map-append}
+use Rattle.std.proofs.lemmas.List.Elements.{All-append, All-cons, All-nil}
+use Rattle.ea_model.specs.Trace.{IsScheduler, plain}
+use Rattle.ea_model.specs.Words.{lines, words}
+use Rattle.ea_model.specs.declared.operations.Op.{Op}
+use Rattle.ea_model.specs.declared.operations.Op.TheVariants.{Alloc}
+use Rattle.ea_model.specs.declared.settings.Letter.{Letter}
+use Rattle.ea_model.specs.declared.trace.Trace.{Trace}
+use Rattle.ea_trace.specs.Language.{Answer, Gives, LineWords, WordLines, gives_outside, is_outside}
+use Rattle.ea_trace.specs.Language.{lines_of, trace_of}
+use Rattle.ea_trace.specs.Lines.{Said, line_of_words, scheduler_in}
+use Rattle.ea_trace.specs.declared.fault.TraceFault.{TraceFault}
+use Rattle.ea_trace.specs.declared.fault.TraceFault.TheVariants as fault
+use Rattle.ea_trace.specs.declared.lines.Line.TheVariants as said
+use Rattle.ea_recorded.specs.Input.{GivesInput}
+use Rattle.ea_recorded.specs.Language.{Asked, Told, addressed, after_first, asked_by, is_bad}
+use Rattle.ea_recorded.specs.Language.{line_by, line_of, may_stand, next, operation_by, order_of}
+use Rattle.ea_recorded.specs.Language.{answer_in, asked_for, asked_if, ended_letter, read_after}
+use Rattle.ea_recorded.specs.Language.{refusal, refused_by, told_by, trace_lines, words_of}
+use Rattle.ea_recorded.specs.Reading.{Reads, rest_lines}
+use Rattle.ea_recorded.specs.Told.{AreTold, IsSaid, ToldLines}
+use Rattle.ea_recorded.specs.declared.lines.OwnLine.{OwnLine}
+use Rattle.ea_recorded.specs.declared.lines.RecordedLine.{RecordedLine}
+use Rattle.ea_recorded.specs.declared.lines.RecordedLine.TheVariants as line
+use Rattle.ea_recorded.specs.declared.lines.Stage.{Stage}
+use Rattle.ea_recorded.specs.declared.reader.Reading.{Reading}
+
+-- what an operation line says is said by its words after the scheduler
+
+same-operation : (i j : ℕ) (o p : Op) → line.Operation i o ≡ line.Operation j p → o ≡ p
+same-operation i j o p e = cc
+
+by-said : (o : Option ℕ) (s : Said) (i : ℕ) (op : Op) → operation_by o s ≡ line.Operation i op
+    → s ≡ said.Operation op
+by-said (Some j) (said.Operation p) i op e = ap said.Operation (same-operation j i p op e)
+by-said (Some j) said.Skipped i op e = absurd cc
+by-said (Some j) (said.Letter x) i op e = absurd cc
+by-said (Some j) (said.Section number) i op e = absurd cc
+by-said (Some j) (said.Stop stop) i op e = absurd cc
+by-said (Some j) said.Threads i op e = absurd cc
+by-said (Some j) said.Schedule i op e = absurd cc
+by-said (Some j) (said.Turns turns) i op e = absurd cc
+by-said (Some j) (said.Generate seed count) i op e = absurd cc
+by-said (Some j) said.End i op e = absurd cc
+by-said (Some j) said.Unreadable i op e = absurd cc
+by-said None s i op e = absurd cc
+
+addressed-said : (ws : LineWords) (i : ℕ) (op : Op) → addressed ws ≡ line.Operation i op
+    → line_of_words (after_first ws) ≡ said.Operation op
+addressed-said [] i op e = absurd cc
+addressed-said (w ∷ ws) i op e = by-said (scheduler_in w) (line_of_words ws) i op e
+
+line-addressed : (s : Said) (ws : LineWords) (i : ℕ) (op : Op) → line_by s ws ≡ line.Operation i op
+    → addressed ws ≡ line.Operation i op
+line-addressed said.Skipped ws i op e = absurd cc
+line-addressed (said.Letter x) ws i op e = absurd cc
+line-addressed said.End ws i op e = absurd cc
+line-addressed (said.Section number) ws i op e = e
+line-addressed (said.Operation o) ws i op e = e
+line-addressed (said.Stop stop) ws i op e = e
+line-addressed said.Threads ws i op e = e
+line-addressed said.Schedule ws i op e = e
+line-addressed (said.Turns turns) ws i op e = e
+line-addressed (said.Generate seed count) ws i op e = e
+line-addressed said.Unreadable ws i op e = e
+
+told-said : (number : ℕ) (ws : LineWords) (l : RecordedLine) → l ≡ line_of ws
+    → All IsSaid (told_by number ws l)
+told-said number ws (line.Operation i op) e = All-cons IsSaid _ []
+    (addressed-said ws i op (line-addressed (line_of_words ws) ws i op (sym e))) (All-nil IsSaid)
+told-said number ws line.Skipped e = All-nil IsSaid
+told-said number ws (line.Letter x) e = All-nil IsSaid
+told-said number ws line.End e = All-nil IsSaid
+told-said number ws line.Unreadable e = All-nil IsSaid
+
+-- a line more is told
+pub told-more : (told : ToldLines) (old new : List OwnLine) (number : ℕ) (ws : LineWords)
+    (l : RecordedLine) → AreTold told old → l ≡ line_of ws
+    → new ≡ old ++ map (λ (t : Told). t.own) (told_by number ws l)
+    → AreTold (told ++ told_by number ws l) new
+told-more told old new number ws l are e is = record {
+  own = is ∙ ap (λ xs. xs ++ map (λ (t : Told). t.own) (told_by number ws l)) are.own
+      ∙ sym (map-append (λ (t : Told). t.own) told (told_by number ws l));
+  said = All-append IsSaid told (told_by number ws l) are.said (told-said number ws l e);
+}
+
+-- its scheduler is there
+inside : (n i : ℕ) → ((i == 0) || nat_lt n i) ≡ false → IsScheduler n i
+inside n i e = (grind (arith, e), grind (arith, e))
+
+or-left : (a b : Bool) → (a || b) ≡ false → a ≡ false
+or-left false b e = refl
+or-left true b e = absurd cc
+
+theirs-by : (n number : ℕ) (ws : LineWords) (l : RecordedLine) → is_bad n l ≡ false
+    → All (IsScheduler n) (order_of (told_by number ws l))
+theirs-by n number ws (line.Operation i op) good = All-cons (IsScheduler n) i []
+    (inside n i (or-left (is_outside n i) (gives_outside n op) good)) (All-nil (IsScheduler n))
+theirs-by n number ws line.Skipped good = All-nil (IsScheduler n)
+theirs-by n number ws (line.Letter x) good = All-nil (IsScheduler n)
+theirs-by n number ws line.End good = All-nil (IsScheduler n)
+theirs-by n number ws line.Unreadable good = All-nil (IsScheduler n)
+
+few-by : (number : ℕ) (ws : LineWords) (l : RecordedLine) → length (told_by number ws l) ≤ 1
+few-by number ws (line.Operation i op) = omega arith
+few-by number ws line.Skipped = omega arith
+few-by number ws (line.Letter x) = omega arith
+few-by number ws line.End = omega arith
+few-by number ws line.Unreadable = omega arith
+
+module _ (n number : ℕ) (asked : Asked) (ws : LineWords) (left : WordLines) (r : Reading)
+    (reads : Reads n asked number (ws ∷ left) r) where
+  abbrev l : RecordedLine
+  l = line_of ws
+
+  abbrev later : Asked
+  later = read_after n (next r.stage l) (number + 1) (reads.told ++ told_by number ws l) left
+
+  refused-by : (f : TraceFault) → refusal n number r.stage l ≡ Some f → asked ≡ Err f
+  refused-by f e = reads.gives ∙ ap (λ o. refused_by o later) e
+
+  pub syntax-gives : (stands : Bool) → stands ≡ may_stand r.stage l → stands ≡ false
+      → asked ≡ Err (fault.Syntax r.number)
+  syntax-gives stands is wrong =
+      refused-by (fault.Syntax number) (rw (sym is ∙ wrong) refl)
+      ∙ ap (λ k. Err (fault.Syntax k)) (sym reads.count)
+
+  pub bad-gives : (stands bad : Bool) → stands ≡ may_stand r.stage l → bad ≡ is_bad r.schedulers l
+      → stands ≡ true → bad ≡ true → asked ≡ Err (fault.BadScheduler r.number)
+  bad-gives stands bad is are good known =
+      refused-by (fault.BadScheduler number) (rw (
+        sym is ∙ good,
+        ap (λ k. is_bad k l) (sym reads.schedulers) ∙ sym are ∙ known,
+      ) refl)
+      ∙ ap (λ k. Err (fault.BadScheduler k)) (sym reads.count)
+
+  accepted : may_stand r.stage l ≡ true → is_bad n l ≡ false
+      → refusal n number r.stage l ≡ None
+  accepted stands good = rw (stands, good) refl
+
+  reads-by : may_stand r.stage l ≡ true → is_bad n l ≡ false → (s : Reading)
+      → s.schedulers ≡ r.schedulers → s.number ≡ r.number + 1 → s.stage ≡ next r.stage l
+      → AreTold (reads.told ++ told_by number ws l) s.lines.items
+      → Reads n asked (number + 1) left s
+  reads-by stands good s schedulers count stage told = record {
+    schedulers = schedulers ∙ reads.schedulers;
+    count = count ∙ ap (λ k. k + 1) reads.count;
+    told = reads.told ++ told_by number ws l;
+    own = told;
+    theirs = subst (All (IsScheduler n))
+        (sym (map-append (λ (t : Told). t.own.scheduler) reads.told (told_by number ws l)))
+        (All-append (IsScheduler n) (order_of reads.told) (order_of (told_by number ws l))
+        reads.theirs (theirs-by n number ws l good));
+    few = omega (
+      arith,
+      reads.few,
+      few-by number ws l,
+      length-append reads.told (told_by number ws l),
+    );
+    gives = reads.gives ∙ ap (λ o. refused_by o later) (accepted stands good)
+        ∙ ap (λ st. read_after n st (number + 1) (reads.told ++ told_by number ws l) left)
+        (sym stage);
+  }
+
+  pub reads-more : (stands bad : Bool) → stands ≡ may_stand r.stage l
+      → bad ≡ is_bad r.schedulers l → stands ≡ true → bad ≡ false → (s : Reading)
+      → s.schedulers ≡ r.schedulers → s.number ≡ r.number + 1 → s.stage ≡ next r.stage l
+      → ((told : ToldLines) → AreTold told r.lines.items
+      → AreTold (told ++ told_by r.number ws l) s.lines.items)
+      → Reads n asked (number + 1) left s
+  reads-more stands bad is are good fine s schedulers count stage more =
+      reads-by (sym is ∙ good)
+      (ap (λ k. is_bad k l) (sym reads.schedulers) ∙ sym are ∙ fine) s schedulers count stage
+      (subst (λ k. AreTold (reads.told ++ told_by k ws l) s.lines.items) reads.count
+      (more reads.told reads.own))
+
+-- what is said of a line that was read is said of its words
+
+pub said-stands : (ws : LineWords) (l : RecordedLine) (stage : Stage) → l ≡ line_of ws
+    → (b : Bool) → b ≡ may_stand stage l → b ≡ may_stand stage (line_of ws)
+said-stands ws l stage e b is = is ∙ ap (may_stand stage) e
+
+pub said-bad : (ws : LineWords) (l : RecordedLine) (n : ℕ) → l ≡ line_of ws → (b : Bool)
+    → b ≡ is_bad n l → b ≡ is_bad n (line_of ws)
+said-bad ws l n e b is = is ∙ ap (is_bad n) e
+
+pub said-next : (ws : LineWords) (l : RecordedLine) (stage : Stage) → l ≡ line_of ws
+    → (s : Stage) → s ≡ next stage l → s ≡ next stage (line_of ws)
+said-next ws l stage e s is = is ∙ ap (next stage) e
+
+pub said-told : (ws : LineWords) (l : RecordedLine) (number : ℕ) (told : ToldLines)
+    (new : List OwnLine) → l ≡ line_of ws → AreTold (told ++ told_by number ws l) new
+    → AreTold (told ++ told_by number ws (line_of ws)) new
+said-told ws l number told new e are =
+    subst (λ k. AreTold (told ++ told_by number ws k) new) e are
+
+-- the lines of a text, from its first one
+
+pub lines-first : (text first : List ℕ) (rest : Option (Bor (List ℕ)))
+    → lines text ≡ first ∷ option_map_or (λ r. lines r.now) rest []
+    → lines_of text ≡ words first ∷ rest_lines rest
+lines-first text first None e = ap (map words) e
+lines-first text first (Some r) e = ap (map words) e
+
+pub fewer-left : (rest : Option (Bor (List ℕ))) (number more size all : ℕ) → more ≡ number + 1
+    → IfSome rest (λ r. length r.now < size) → number + size + 1 ≤ all
+    → option_map_or (λ r. more + length r.now + 1) rest more ≤ all
+fewer-left None number more size all is e le = omega (arith, le, is)
+fewer-left (Some r) number more size all is e le = omega (arith, e, le, is)
+
+-- the reading has the number of the next line, and fewer lines of operations
+pub at-number : (n : ℕ) (asked : Asked) (number : ℕ) (left : WordLines) (r : Reading)
+    → Reads n asked number left r → Reads n asked r.number left r
+at-number n asked number left r reads =
+    subst (λ k. Reads n asked k left r) (sym reads.count) reads
+
+pub few-lines : (n : ℕ) (asked : Asked) (number : ℕ) (left : WordLines) (r : Reading)
+    → Reads n asked number left r → length r.lines.items + 1 ≤ number
+few-lines n asked number left r reads = omega (
+  arith,
+  reads.few,
+  ap length reads.own.own,
+  length-map reads.told (λ (t : Told). t.own),
+)
+
+-- the answer of the trace is that of the input
+
+pub gives-err : (f : TraceFault) (asked : Asked) → asked ≡ Err f → GivesInput (Err f) asked
+gives-err (fault.Syntax number) asked e = e
+gives-err (fault.BadScheduler number) asked e = e
+gives-err (fault.NameReused number) asked e = e
+gives-err (fault.NotHeld number) asked e = e
+gives-err (fault.NotAddressed number) asked e = e
+gives-err (fault.TooMany number) asked e = e
+gives-err fault.NoEnd asked e = e
+gives-err fault.OutOfMemory asked e = tt
+
+pub trace-err : (f : TraceFault) (order : List ℕ) (read : Answer) → Gives (Err f) read
+    → GivesInput (Err f) (asked_by order read)
+trace-err (fault.Syntax number) order read e = ap (asked_by order) e
+trace-err (fault.BadScheduler number) order read e = ap (asked_by order) e
+trace-err (fault.NameReused number) order read e = ap (asked_by order) e
+trace-err (fault.NotHeld number) order read e = ap (asked_by order) e
+trace-err (fault.NotAddressed number) order read e = ap (asked_by order) e
+trace-err (fault.TooMany number) order read e = ap (asked_by order) e
+trace-err fault.NoEnd order read e = ap (asked_by order) e
+trace-err fault.OutOfMemory order read e = tt
+
+-- the line that stands for one that isn't there
+abbrev pub no_line : OwnLine
+no_line = record { number = 0; scheduler = 0; op = Alloc 0 0 }
+
+-- at the end of all lines
+
+schedulers-is : (ts : ToldLines)
+    → map (λ (o : OwnLine). o.scheduler) (map (λ (t : Told). t.own) ts) ≡ order_of ts
+schedulers-is [] = refl
+schedulers-is (t ∷ ts) = ap (λ os. t.own.scheduler ∷ os) (schedulers-is ts)
+
+pub not-ended : (n number : ℕ) (asked : Asked) (r : Reading) → Reads n asked number [] r
+    → (o : Option Letter) → o ≡ ended_letter r.stage → o ≡ None → asked ≡ Err fault.NoEnd
+not-ended n number asked r reads o same none =
+    reads.gives ∙ ap (asked_if n reads.told) (sym same ∙ none)
+
+module _ (n number : ℕ) (asked : Asked) (r : Reading) (reads : Reads n asked number [] r)
+    (x : Letter) (o : Option Letter) (same : o ≡ ended_letter r.stage) (is : o ≡ Some x) where
+  ended : asked ≡ asked_for r.schedulers x reads.told
+  ended = reads.gives ∙ ap (asked_if n reads.told) (sym same ∙ is)
+      ∙ ap (λ k. asked_for k x reads.told) (sym reads.schedulers)
+
+  pub ended-ok : (t : Trace) (order : List ℕ) → order ≡ map (λ (o : OwnLine). o.scheduler)
+      r.lines.items → (let ls = trace_lines r.schedulers x reads.told in
+      Gives (Ok t) (answer_in ls (trace_of r.schedulers (words_of ls))))
+      → asked ≡ Ok (record { trace = plain t; order = order })
+  ended-ok t order same gives = ended ∙ ap (asked_by (order_of reads.told)) gives
+      ∙ ap (λ os. Ok (record { trace = plain t; order = os })) (sym (same
+      ∙ ap (map (λ (o : OwnLine). o.scheduler)) reads.own.own ∙ schedulers-is reads.told))
+
+  pub ended-err : (f : TraceFault) → (let ls = trace_lines r.schedulers x reads.told in
+      Gives (Err f) (answer_in ls (trace_of r.schedulers (words_of ls)))) → GivesInput (Err f) asked
+  ended-err f gives = subst (GivesInput (Err f)) (sym ended)
+      (trace-err f (order_of reads.told) _ gives)
+
+pub order-theirs : (n number : ℕ) (asked : Asked) (r : Reading) → Reads n asked number [] r
+    → (order : List ℕ) → order ≡ map (λ (o : OwnLine). o.scheduler) r.lines.items
+    → All (IsScheduler r.schedulers) order
+order-theirs n number asked r reads order same = subst (All (IsScheduler r.schedulers))
+    (sym (same ∙ ap (map (λ (o : OwnLine). o.scheduler)) reads.own.own ∙ schedulers-is reads.told))
+    (subst (λ k. All (IsScheduler k) (order_of reads.told)) (sym reads.schedulers) reads.theirs)

@@ -1,0 +1,16 @@
+use Rattle.std.proofs.Common.{[], refl, arith}
+use Rattle.std.proofs.lemmas.List.Elements.{All-nil}
+use Rattle.ea_model.specs.Trace.{IsScheduler}
+use Rattle.ea_recorded.specs.Told.{IsSaid}
+use Rattle.ea_recorded.proofs.reader.Reading.new.Goals as goal
+
+pub returns : goal.returns
+returns c = λ asked left e. record {
+  schedulers = refl;
+  count = refl;
+  told = [];
+  own = record { own = c.new.ensures.items; said = All-nil IsSaid };
+  theirs = All-nil (IsScheduler c.args.schedulers);
+  few = omega arith;
+  gives = e;
+}

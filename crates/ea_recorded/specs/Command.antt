@@ -1,0 +1,20 @@
+-- The language of the command, inputs of recorded operations.
+use Rattle.std.specs.Prelude.{true}
+use Rattle.ea_frame.specs.Language.{Language}
+use Rattle.ea_model.specs.declared.trace.Trace.{Trace}
+use Rattle.ea_model.specs.Trace.{IsValidTrace}
+use Rattle.ea_machine.specs.Setup.{setup_of}
+use Rattle.ea_sound.specs.MachineLaws.{Protocol}
+use Rattle.ea_recorded.specs.Language.{Recorded, recorded}
+use Rattle.ea_recorded.specs.Output.{IsRecordedText}
+
+-- an input asks that a trace be run by its lines in their order, and has the text of that run; each
+-- run of a trace keeps the protocol
+abbrev pub recorded_traces : Language
+recorded_traces = record {
+  Request = Recorded;
+  read = λ c input. recorded input c.schedulers;
+  runs = λ asked. true;
+  Gives = λ c asked text. IsRecordedText c asked text;
+  Promises = λ c. (t : Trace) → IsValidTrace c.schedulers t → Protocol (setup_of c t);
+}

@@ -1,0 +1,210 @@
+-- The language of recorded operations: which line may stand where, the trace that the lines are,
+-- and what is refused. A line is the list of its words.
+use Rattle.std.specs.Prelude.{ℕ, zero, suc, ◌+◌, ◌-◌, ◌/◌, ◌%◌, ◌==◌, nat_lt, Bool, true}
+use Rattle.std.specs.Prelude.{false, ◌||◌, not}
+use Rattle.std.specs.Prelude.{if◌then◌else◌, List, [], ◌∷◌, ◌++◌, Option, None, Some, Result, Ok, Err}
+use Rattle.std.specs.Prelude.{codes, filter, map, slice_index_or}
+use Rattle.ea_model.specs.declared.settings.Letter.{Letter}
+use Rattle.ea_model.specs.declared.trace.Trace.{Trace}
+use Rattle.ea_trace.specs.Language.{Answer, LineWords, WordLines, gives_outside, is_outside}
+use Rattle.ea_trace.specs.Language.{lines_of, trace_of}
+use Rattle.ea_trace.specs.Lines.{Said, letter_word, line_of_words, scheduler_in}
+use Rattle.ea_trace.specs.declared.fault.TraceFault.{TraceFault}
+use Rattle.ea_trace.specs.declared.fault.TraceFault.TheVariants as fault
+use Rattle.ea_trace.specs.declared.lines.Line.TheVariants as said
+use Rattle.ea_recorded.specs.declared.lines.OwnLine.{OwnLine}
+use Rattle.ea_recorded.specs.declared.lines.RecordedLine.{RecordedLine}
+use Rattle.ea_recorded.specs.declared.lines.RecordedLine.TheVariants as line
+use Rattle.ea_recorded.specs.declared.lines.Stage.{Stage}
+use Rattle.ea_recorded.specs.declared.lines.Stage.TheVariants as at
+
+-- what a line says
+
+-- that of a scheduler, if one is named, by what the words after it say in a trace
+abbrev pub operation_by : Option ℕ → Said → RecordedLine
+operation_by (Some i) (said.Operation op) = line.Operation i op
+operation_by (Some i) other = line.Unreadable
+operation_by None other = line.Unreadable
+
+abbrev pub addressed : LineWords → RecordedLine
+addressed [] = line.Unreadable
+addressed (w ∷ ws) = operation_by (scheduler_in w) (line_of_words ws)
+
+-- by what it says in a trace: an operation has its scheduler before it
+abbrev pub line_by : Said → LineWords → RecordedLine
+line_by said.Skipped ws = line.Skipped
+line_by (said.Letter x) ws = line.Letter x
+line_by said.End ws = line.End
+line_by other ws = addressed ws
+
+abbrev pub line_of : LineWords → RecordedLine
+line_of ws = line_by (line_of_words ws) ws
+
+-- whether a line may stand there: first `type`, then operations, then `end`
+abbrev pub may_stand : Stage → RecordedLine → Bool
+may_stand stage line.Skipped = true
+may_stand at.Start (line.Letter x) = true
+may_stand (at.Lines x) (line.Operation i op) = true
+may_stand (at.Lines x) line.End = true
+may_stand stage other = false
+
+-- whether a line names a scheduler that isn't among n
+abbrev pub is_bad : ℕ → RecordedLine → Bool
+is_bad n (line.Operation i op) = is_outside n i || gives_outside n op
+is_bad n other = false
+
+-- the part after a line that stands there
+abbrev pub next : Stage → RecordedLine → Stage
+next at.Start (line.Letter x) = at.Lines x
+next (at.Lines x) line.End = at.Ended x
+next stage other = stage
+
+-- why the line with this number is refused there: the first that holds
+abbrev pub refusal : ℕ → ℕ → Stage → RecordedLine → Option TraceFault
+refusal n number stage l =
+    if not (may_stand stage l) then Some (fault.Syntax number) else (
+    if is_bad n l then Some (fault.BadScheduler number) else None)
+
+-- the lines of operations
+
+-- one of them: its number, whose operation it is, and the words of that, which stand after the
+-- scheduler
+pub record Told : Type 0 where
+  pub own : OwnLine
+  pub words : LineWords
+
+abbrev pub after_first : LineWords → LineWords
+after_first [] = []
+after_first (w ∷ ws) = ws
+
+abbrev pub told_by : ℕ → LineWords → RecordedLine → List Told
+told_by number ws (line.Operation i op) = record {
+  own = record { number = number; scheduler = i; op = op };
+  words = after_first ws;
+} ∷ []
+told_by number ws other = []
+
+abbrev pub is_of : ℕ → Told → Bool
+is_of me t = t.own.scheduler == me
+
+-- the trace that they are
+
+-- a line of it, with the number that it has in the input, or 0 where it isn't there
+pub record Placed : Type 0 where
+  pub number : ℕ
+  pub words : LineWords
+
+abbrev pub unplaced : LineWords → Placed
+unplaced ws = record { number = 0; words = ws }
+
+abbrev pub placed : Told → Placed
+placed t = record { number = t.own.number; words = t.words }
+
+abbrev pub type_line : Letter → LineWords
+type_line x = codes "type" ∷ letter_word x ∷ []
+
+-- the word of a number below 100, as that of each scheduler is
+abbrev pub number_word : ℕ → List ℕ
+number_word n = if nat_lt n 10 then (48 + n) ∷ [] else (48 + n / 10) ∷ (48 + n % 10) ∷ []
+
+abbrev pub section_line : ℕ → LineWords
+section_line me = codes "scheduler" ∷ number_word me ∷ []
+
+abbrev pub schedule_line : LineWords
+schedule_line = codes "schedule" ∷ []
+
+abbrev pub end_line : LineWords
+end_line = codes "end" ∷ []
+
+-- the lines of a scheduler, in their order
+abbrev pub own_of : ℕ → List Told → List Placed
+own_of me told = map placed (filter (is_of me) told)
+
+-- its section
+abbrev pub section : ℕ → List Told → List Placed
+section me told = unplaced (section_line me) ∷ own_of me told
+
+-- those of `count` schedulers from `me` on
+abbrev pub sections : ℕ → ℕ → List Told → List Placed
+sections zero me told = []
+sections (suc count) me told = section me told ++ sections count (suc me) told
+
+-- the lines of the trace, of that letter and for n schedulers; its schedule is empty
+abbrev pub trace_lines : ℕ → Letter → List Told → List Placed
+trace_lines n x told = unplaced (type_line x) ∷ sections n 1 told
+    ++ unplaced schedule_line ∷ unplaced end_line ∷ []
+
+-- what a refusal of one of these lines, by its place from 1, is in the input
+abbrev pub number_at : List Placed → ℕ → ℕ
+number_at ls place = (slice_index_or ls (place - 1) (unplaced [])).number
+
+abbrev pub in_input : List Placed → TraceFault → TraceFault
+in_input ls (fault.Syntax place) = fault.Syntax (number_at ls place)
+in_input ls (fault.BadScheduler place) = fault.BadScheduler (number_at ls place)
+in_input ls (fault.NameReused place) = fault.NameReused (number_at ls place)
+in_input ls (fault.NotHeld place) = fault.NotHeld (number_at ls place)
+in_input ls (fault.NotAddressed place) = fault.NotAddressed (number_at ls place)
+in_input ls (fault.TooMany place) = fault.TooMany (number_at ls place)
+in_input ls fault.NoEnd = fault.NoEnd
+in_input ls fault.OutOfMemory = fault.OutOfMemory
+
+-- the answer of the trace, as one of the input
+abbrev pub answer_in : List Placed → Answer → Answer
+answer_in ls (Ok t) = Ok t
+answer_in ls (Err f) = Err (in_input ls f)
+
+-- what an input asks for: that this trace be run, by lines of these schedulers in order
+pub record Recorded : Type 0 where
+  pub trace : Trace
+  pub order : List ℕ
+
+-- or its first refusal
+abbrev pub Asked : Type 0
+Asked = Result Recorded TraceFault
+
+abbrev pub asked_by : List ℕ → Answer → Asked
+asked_by order (Ok t) = Ok (record { trace = t; order = order })
+asked_by order (Err f) = Err f
+
+abbrev pub words_of : List Placed → WordLines
+words_of ls = map (λ l. l.words) ls
+
+-- the scheduler of each line
+abbrev pub order_of : List Told → List ℕ
+order_of told = map (λ t. t.own.scheduler) told
+
+-- what lines of operations ask for, by the trace that they are
+abbrev pub asked_for : ℕ → Letter → List Told → Asked
+asked_for n x told =
+    let ls = trace_lines n x told in
+    asked_by (order_of told) (answer_in ls (trace_of n (words_of ls)))
+
+-- the letter of an input that has come to its end
+abbrev pub ended_letter : Stage → Option Letter
+ended_letter (at.Ended x) = Some x
+ended_letter stage = None
+
+-- what all lines ask for, by that
+abbrev pub asked_if : ℕ → List Told → Option Letter → Asked
+asked_if n told (Some x) = asked_for n x told
+asked_if n told None = Err fault.NoEnd
+
+abbrev pub at_end : ℕ → Stage → List Told → Asked
+at_end n stage told = asked_if n told (ended_letter stage)
+
+abbrev pub refused_by : Option TraceFault → Asked → Asked
+refused_by None asked = asked
+refused_by (Some f) asked = Err f
+
+-- what lines from that number on ask for, after those that were told: the first line that is
+-- refused decides, and after them the trace
+abbrev pub read_after : ℕ → Stage → ℕ → List Told → WordLines → Asked
+read_after n stage number told [] = at_end n stage told
+read_after n stage number told (ws ∷ left) =
+    let l = line_of ws in
+    refused_by (refusal n number stage l)
+    (read_after n (next stage l) (number + 1) (told ++ told_by number ws l) left)
+
+-- what an input asks for, for n schedulers
+abbrev pub recorded : List ℕ → ℕ → Asked
+recorded input n = read_after n at.Start 1 [] (lines_of input)

@@ -1,0 +1,15 @@
+//! Operations in the order in which they were recorded: each line is run whole before the next one
+//! begins.
+#![tactic(auto)]
+
+mod input;
+mod lines;
+mod order;
+mod part;
+mod reader;
+mod recorded;
+mod sections;
+
+pub use input::RecordedInput;
+pub use reader::read_recorded;
+pub use recorded::run_recorded;

@@ -1,0 +1,97 @@
+//! What one line of recorded operations says, by itself.
+ghost use Rattle.std.specs.Prelude.{◌≡◌};
+ghost use Rattle.ea_model.specs.Words.{words};
+ghost use Rattle.ea_recorded.specs.Language.{addressed, line_of};
+ghost use Rattle.ea_trace.specs.Language.{gives_outside, is_outside};
+ghost use Rattle.ea_trace.specs.Lines.{scheduler_in};
+
+use ea_model::words::{first_word, numeral};
+use ea_model::{Letter, Op};
+use ea_trace::{Line, read_line};
+
+/// What one line says.
+#[derive(Clone, Copy)]
+pub enum RecordedLine {
+    /// A line without words, or a comment.
+    Skipped,
+    /// `type X`: whose settings hold.
+    Letter { letter: Letter },
+    /// `N` and an operation, which is scheduler N's. Whether it is there isn't looked at.
+    Operation { scheduler: u32, op: Op },
+    /// `end`: nothing but lines that are skipped may follow.
+    End,
+    /// No line of the language.
+    Unreadable,
+}
+
+/// The part of an input that has been reached.
+#[derive(Clone, Copy)]
+pub enum Stage {
+    /// Before the `type` line.
+    Start,
+    /// Among the operations, which are of this letter.
+    Lines { letter: Letter },
+    /// After `end`.
+    Ended { letter: Letter },
+}
+
+/// A line of an operation: its number, from 1, and whose operation it is.
+#[derive(Clone, Copy)]
+pub struct OwnLine {
+    pub number: u32,
+    pub scheduler: u32,
+    pub op: Op,
+}
+
+/// The number of a scheduler that a word spells, be there one or not; `u32::MAX` for a greater one.
+fn scheduler(word: &[u8]) -> Option<u32>
+    ensures { result ≡ scheduler_in word.now }
+{
+    let value = numeral(word)?;
+    Some(value.min(u64::from(u32::MAX)) as u32)
+}
+
+/// A line that may be a scheduler's number and an operation.
+fn addressed_line(text: &[u8]) -> RecordedLine
+    ensures { result ≡ addressed (words text.now) }
+{
+    let Some((word, rest)) = first_word(text) else {
+        return RecordedLine::Unreadable;
+    };
+    let Some(scheduler) = scheduler(word) else {
+        return RecordedLine::Unreadable;
+    };
+    match read_line(rest) {
+        Line::Operation { op } => RecordedLine::Operation { scheduler, op },
+        _ => RecordedLine::Unreadable,
+    }
+}
+
+/// What a line says.
+pub fn read_own(text: &[u8]) -> RecordedLine
+    ensures { result ≡ line_of (words text.now) }
+{
+    match read_line(text) {
+        Line::Skipped => RecordedLine::Skipped,
+        Line::Letter { letter } => RecordedLine::Letter { letter },
+        Line::End => RecordedLine::End,
+        _ => addressed_line(text),
+    }
+}
+
+/// Whether none of the schedulers 1 to `schedulers` has that number.
+pub fn is_nobody(schedulers: u32, number: u32) -> bool
+    ensures { result ≡ is_outside schedulers number }
+{
+    number == 0 || number > schedulers
+}
+
+/// Whether an operation gives to none of them.
+pub fn gives_to_nobody(schedulers: u32, op: Op) -> bool
+    ensures { result ≡ gives_outside schedulers op }
+{
+    match op {
+        Op::Give { to, .. } => is_nobody(schedulers, to),
+        _ => false,
+    }
+}

@@ -1,0 +1,197 @@
+//! Reads recorded operations line by line.
+ghost use Rattle.std.specs.Prelude.{◌≡◌, ◌+◌, ◌<◌, ◌≤◌, ◌^◌, [], ◌∷◌, ◌++◌, ℕ, All, Err, IfErr};
+ghost use Rattle.std.specs.Prelude.{IfOk, OnOk, length, map};
+ghost use Rattle.ea_model.specs.Trace.{IsScheduler, IsValidTrace};
+ghost use Rattle.ea_model.specs.Words.{words};
+ghost use Rattle.ea_model.specs.declared.units.TheConstants.{MAX_INPUT, MAX_SCHEDULERS};
+ghost use Rattle.ea_trace.specs.Language.{LineWords, WordLines};
+ghost use Rattle.ea_recorded.specs.Input.{GivesInput};
+ghost use Rattle.ea_recorded.specs.Language.{Asked, line_of, read_after, recorded, told_by};
+ghost use Rattle.ea_recorded.specs.Language as language;
+ghost use Rattle.ea_recorded.specs.Told.{AreTold, ToldLines};
+ghost use Rattle.ea_recorded.specs.declared.lines.Stage.TheVariants.{Start};
+
+use crate::input::RecordedInput;
+use crate::lines::{OwnLine, RecordedLine, Stage, gives_to_nobody, is_nobody, read_own};
+use crate::sections::trace_of_lines;
+use ea_model::words::first_line;
+use ea_model::{Letter, List, OutOfMemory};
+use ea_trace::TraceFault;
+use std::alloc::Global;
+
+/// The part after a line that stands there.
+fn next(stage: Stage, line: RecordedLine) -> Stage
+    ensures { result ≡ language.next stage line }
+{
+    match (stage, line) {
+        (Stage::Start, RecordedLine::Letter { letter }) => Stage::Lines { letter },
+        (Stage::Lines { letter }, RecordedLine::End) => Stage::Ended { letter },
+        _ => stage,
+    }
+}
+
+/// The letter of an input that has come to its end.
+fn ended_letter(stage: Stage) -> Option<Letter>
+    ensures { result ≡ language.ended_letter stage }
+{
+    match stage {
+        Stage::Ended { letter } => Some(letter),
+        Stage::Start | Stage::Lines { .. } => None,
+    }
+}
+
+/// Whether a line may stand there.
+fn may_stand(stage: Stage, line: RecordedLine) -> bool
+    ensures { result ≡ language.may_stand stage line }
+{
+    matches!(
+        (stage, line),
+        (_, RecordedLine::Skipped)
+            | (Stage::Start, RecordedLine::Letter { .. })
+            | (
+                Stage::Lines { .. },
+                RecordedLine::Operation { .. } | RecordedLine::End
+            )
+    )
+}
+
+/// Whether a line names a scheduler that isn't there.
+fn is_bad(schedulers: u32, line: RecordedLine) -> bool
+    ensures { result ≡ language.is_bad schedulers line }
+{
+    match line {
+        RecordedLine::Operation { scheduler, op } => {
+            is_nobody(schedulers, scheduler) || gives_to_nobody(schedulers, op)
+        }
+        _ => false,
+    }
+}
+
+/// The reading of an input, as it stands after some lines.
+#[derive(Drop)]
+struct Reading {
+    /// How many schedulers there are.
+    schedulers: u32,
+    /// The part that has been reached.
+    stage: Stage,
+    /// The number of the next line.
+    number: u32,
+    /// The lines of operations so far.
+    lines: Vec<OwnLine>,
+}
+
+/// Adds a line, if it is one of an operation.
+fn add(lines: &mut Vec<OwnLine>, number: u32, line: RecordedLine) -> Result<(), OutOfMemory>
+    ensures { OnOk result ((told : ToldLines) (words : LineWords) → AreTold told lines.old.items
+        → line ≡ line_of words
+        → AreTold (told ++ told_by number words line) lines.new.items) }
+{
+    if let RecordedLine::Operation { scheduler, op } = line {
+        lines.push(OwnLine {
+            number,
+            scheduler,
+            op,
+        })?;
+    }
+    Ok(())
+}
+
+/// The scheduler of each line.
+fn order_of(alloc: Global, lines: &[OwnLine]) -> Result<List<u32>, OutOfMemory>
+    ensures { IfOk result (λ order. order.items ≡ map (λ l. l.scheduler) lines.now) }
+{
+    let mut order = List::new(alloc);
+    for line in lines {
+        order.push(line.scheduler)?;
+    }
+    Ok(order)
+}
+
+impl Reading {
+    ghost use Rattle.ea_recorded.specs.Reading.{IsRead, Reads};
+
+    /// Before the first line.
+    fn new(alloc: Global, schedulers: u32) -> Reading
+        ensures { (asked : Asked) (left : WordLines)
+            → asked ≡ read_after schedulers Start 1 [] left
+            → Reads schedulers asked 1 left result }
+    {
+        Reading {
+            schedulers,
+            stage: Stage::Start,
+            number: 1,
+            lines: Vec::new(alloc),
+        }
+    }
+
+    /// Takes the next line, if it isn't refused.
+    fn take(&mut self, text: &[u8]) -> Result<(), TraceFault>
+        requires { self.old.number + 1 < 2 ^ 32 }
+        ensures ok { OnOk result ((n number : ℕ) (asked : Asked) (left : WordLines)
+            → Reads n asked number (words text.now ∷ left) self.old
+            → Reads n asked (number + 1) left self.new) }
+        ensures err { IfErr result (λ fault. (n number : ℕ) (asked : Asked) (left : WordLines)
+            → Reads n asked number (words text.now ∷ left) self.old
+            → GivesInput (Err fault) asked) }
+    {
+        let number = self.number;
+        let line = read_own(text);
+        if !may_stand(self.stage, line) {
+            return Err(TraceFault::Syntax { line: number });
+        }
+        if is_bad(self.schedulers, line) {
+            return Err(TraceFault::BadScheduler { line: number });
+        }
+        add(&mut self.lines, number, line)?;
+        self.stage = next(self.stage, line);
+        self.number += 1;
+        Ok(())
+    }
+
+    /// What all lines ask for.
+    fn finish(self, alloc: Global) -> Result<RecordedInput, TraceFault>
+        requires schedulers { self.schedulers ≤ MAX_SCHEDULERS }
+        requires few { length self.lines.items ≤ MAX_INPUT + 1 }
+        requires read { IsRead self }
+        ensures given { (n number : ℕ) (asked : Asked) → Reads n asked number [] self
+            → GivesInput result asked }
+        ensures valid { IfOk result (λ i. IsValidTrace self.schedulers i.trace) }
+        ensures unstopped { IfOk result (λ i. i.trace.stops.items ≡ []) }
+        ensures texts { IfOk result (λ i. length i.trace.texts.items ≡ self.schedulers) }
+        ensures order { IfOk result (λ i. All (IsScheduler self.schedulers) i.order.items) }
+    {
+        let Some(letter) = ended_letter(self.stage) else {
+            return Err(TraceFault::NoEnd);
+        };
+        let trace = trace_of_lines(alloc, self.schedulers, letter, &self.lines)?;
+        let order = order_of(alloc, &self.lines)?;
+        Ok(RecordedInput { trace, order })
+    }
+}
+
+/// Reads recorded operations of schedulers 1 to `schedulers`, `MAX_SCHEDULERS` at most. The text
+/// has `MAX_INPUT` bytes at most. Without `OutOfMemory` the answer is what the input asks for, or
+/// its first refusal, with the number of the line: the first line that is refused by itself, then
+/// that `end` is missing, then what the trace is refused for.
+pub fn read_recorded(
+    alloc: Global,
+    bytes: &[u8],
+    schedulers: u32,
+) -> Result<RecordedInput, TraceFault>
+    requires schedulers { schedulers ≤ MAX_SCHEDULERS }
+    requires bytes { length bytes.now ≤ MAX_INPUT }
+    ensures given { GivesInput result (recorded bytes.now schedulers) }
+    ensures valid { IfOk result (λ i. IsValidTrace schedulers i.trace) }
+    ensures unstopped { IfOk result (λ i. i.trace.stops.items ≡ []) }
+    ensures texts { IfOk result (λ i. length i.trace.texts.items ≡ schedulers) }
+    ensures order { IfOk result (λ i. All (IsScheduler schedulers) i.order.items) }
+{
+    let mut reading = Reading::new(alloc, schedulers);
+    let mut rest = Some(bytes);
+    while let Some(text) = rest {
+        let (line, after) = first_line(text);
+        reading.take(line)?;
+        rest = after;
+    }
+    reading.finish(alloc)
+}

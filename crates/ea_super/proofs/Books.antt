@@ -1,0 +1,69 @@
+-- A book of sections is one of the lists of their requests.
+use Rattle.std.proofs.Common.{zero, suc, ◌≡◌, ℕ, ◌<◌, List, [], ◌∷◌, length, map, All, refl}
+use Rattle.std.proofs.Common.{true, rules, tests, sym, subst, ◌∙◌}
+use Rattle.std.proofs.lemmas.List.{length-map}
+use Rattle.std.proofs.lemmas.List.Elements.{All-from_recursion, recursion_from_All}
+use Rattle.std.specs.List.{AllByRecursion}
+use Rattle.std.specs.Prelude.{slice_index_or}
+use Rattle.ea_model.specs.Lists.{Items}
+use Rattle.ea_model.specs.Trace.{listed}
+use Rattle.ea_segments.specs.Histories.{IsByOneOf}
+use Rattle.ea_segments.specs.Requests.{IsBookOf, IsRequest}
+use Rattle.ea_segments.specs.declared.calls.Book.{Book}
+use Rattle.ea_segments.specs.declared.calls.Request.{Request}
+use Rattle.ea_segments.specs.declared.calls.Request.TheVariants.{Back, Take}
+use Rattle.ea_super.specs.Asked.{AsksPages, asks_pages}
+use Rattle.ea_super.specs.Reading.{all_of}
+
+-- the same lists, without their room
+abbrev Plain : List (Items Request) → List (Items Request)
+Plain sections = map listed (all_of sections)
+
+plain-length : (sections : List (Items Request)) → length (Plain sections) ≡ length sections
+plain-length sections = length-map (all_of sections) listed
+    ∙ length-map sections (λ s. s.items)
+
+plain-at : (sections : List (Items Request)) (k : ℕ) (d : Items Request)
+    → (slice_index_or (Plain sections) k d).items ≡ (slice_index_or sections k d).items
+plain-at [] k d = refl
+plain-at (s ∷ ss) zero d = refl
+plain-at (s ∷ ss) (suc k) d = plain-at ss k d
+
+pub book-of-plain : (total : ℕ) (sections : List (Items Request)) (book : Book)
+    → IsBookOf total sections book → IsBookOf total (Plain sections) book
+book-of-plain total sections book h = record {
+  legal = h.legal;
+  sound = h.sound;
+  asks = λ k d less. h.asks k d (subst (λ n. k < n) (plain-length sections) less)
+      ∙ sym (plain-at sections k d);
+  theirs = subst (λ n. All (IsByOneOf n) book.history.items) (sym (plain-length sections))
+      h.theirs;
+  segments = h.segments;
+  pages = h.pages;
+  free = h.free;
+}
+
+-- what asks for pages is a request
+
+request-of : (q : Request) → asks_pages q ≡ true → IsRequest q
+request-of (Take name pages) h = search (rules, tests)
+request-of (Back name) h = tt
+
+requests-by : (qs : List Request) → AllByRecursion (λ q. asks_pages q ≡ true) qs
+    → AllByRecursion IsRequest qs
+requests-by [] h = tt
+requests-by (q ∷ qs) h = (request-of q h.0, requests-by qs h.1)
+
+requests-of : (qs : List Request) → AsksPages qs → All IsRequest qs
+requests-of qs h = All-from_recursion IsRequest qs
+    (requests-by qs (recursion_from_All (λ q. asks_pages q ≡ true) qs h))
+
+sections-by : (ss : List (Items Request)) → AllByRecursion (λ s. AsksPages s.items) ss
+    → AllByRecursion (λ s. All IsRequest s.items) ss
+sections-by [] h = tt
+sections-by (s ∷ ss) h = (requests-of s.items h.0, sections-by ss h.1)
+
+pub sections-of : (ss : List (Items Request)) → All (λ s. AsksPages s.items) ss
+    → All (λ s. All IsRequest s.items) ss
+sections-of ss h = All-from_recursion (λ s. All IsRequest s.items) ss
+    (sections-by ss (recursion_from_All (λ s. AsksPages s.items) ss h))

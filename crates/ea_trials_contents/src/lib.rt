@@ -1,0 +1,8 @@
+//! Worked inputs of what blocks contain, computed from the definitions alone.
+#![tactic(auto)]
+
+mod inputs;
+mod worked;
+
+pub use inputs::{accesses_of_a_move, lines_of_a_move, refusals};
+pub use worked::{migrates, moves};

@@ -1,0 +1,47 @@
+-- Worked inputs of recorded operations: in short what the language says of them, and their turns.
+use Rattle.std.specs.Prelude.{ℕ, List, [], Option, Some, None, Ok, Err}
+use Rattle.ea_flags.specs.declared.config.TheConstants.{DEFAULT_CONFIG}
+use Rattle.ea_model.specs.Trace.{texts_of}
+use Rattle.ea_model.specs.declared.operations.Op.{Op}
+use Rattle.ea_model.specs.declared.settings.Config.{Config}
+use Rattle.ea_machine.specs.Setup.{setup_of}
+use Rattle.ea_trace.specs.declared.fault.TraceFault.{TraceFault}
+use Rattle.ea_recorded.specs.Language.{Asked, Recorded, recorded}
+use Rattle.ea_recorded.specs.Order.{recorded_turns}
+
+abbrev pub fault_of : Asked → Option TraceFault
+fault_of (Ok asked) = None
+fault_of (Err f) = Some f
+
+-- why an input is refused with that many schedulers, if it is
+abbrev pub refused : ℕ → List ℕ → Option TraceFault
+refused schedulers input = fault_of (recorded input schedulers)
+
+-- the operations of each scheduler
+abbrev pub texts_in : Asked → List (List Op)
+texts_in (Ok asked) = texts_of asked.trace
+texts_in (Err f) = []
+
+abbrev pub texts : ℕ → List ℕ → List (List Op)
+texts schedulers input = texts_in (recorded input schedulers)
+
+-- the scheduler of each line
+abbrev pub order_in : Asked → List ℕ
+order_in (Ok asked) = asked.order
+order_in (Err f) = []
+
+abbrev pub order : ℕ → List ℕ → List ℕ
+order schedulers input = order_in (recorded input schedulers)
+
+-- the turns of the run, under the default configuration
+
+abbrev pub turns_of : Config → Recorded → List ℕ
+turns_of c asked = recorded_turns (setup_of c asked.trace) asked.order
+
+abbrev pub turns_in : ℕ → Asked → List ℕ
+turns_in schedulers (Ok asked) =
+    turns_of (record DEFAULT_CONFIG { schedulers = schedulers }) asked
+turns_in schedulers (Err f) = []
+
+abbrev pub turns : ℕ → List ℕ → List ℕ
+turns schedulers input = turns_in schedulers (recorded input schedulers)
