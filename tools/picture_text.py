@@ -3,14 +3,13 @@ import re
 from dataclasses import dataclass, replace
 
 from expected import explained
-from program import COMMANDS, NOT_BUILT, OF_RECORDED, OF_SEVERAL, command_of, reason_of, run, told_of
+from program import COMMANDS, NOT_BUILT, OF_RECORDED, OF_REGION, OF_SEVERAL, command_of, reason_of, run, told_of
 from refused import Refused
 
 MOST_STEPS_OF_A_STOP = 100_000_000
 NUMBERS = 1024
 PAGES_OF_A_MB = 256
 UNITS_OF_A_KB = 128
-UNITS_OF_A_MB = 2**17
 SMALLEST = 6
 BYTES_OF_A_UNIT = 8
 
@@ -169,6 +168,11 @@ def words_of_lines(data):
 def is_of_several(data):
     """Whether it is an input of several allocator types."""
     return next(words_of_lines(data), [""])[0] == OF_SEVERAL
+
+
+def is_of_region(data):
+    """Whether it is an input of one shared region."""
+    return command_of(data.split(b"\n")) == [OF_REGION]
 
 
 def read_traces(data):
@@ -349,9 +353,9 @@ class Program:
         self.before = int(words[:1] != [] and words[0] in COMMANDS)
         self.path, self.words, self.flags_file = path, words[self.before :], flags_file
 
-    def run(self, data, name):
-        """The text of this input, which stands in the file of this name."""
-        command = command_of(data.split(b"\n"))
+    def run(self, data, name, asked=()):
+        """The text of this input, which stands in the file of this name, after a command that is asked for."""
+        command = [*asked] or command_of(data.split(b"\n"))
         try:
             ran = run([self.path, *command, *self.words], data)
         except ValueError as error:
@@ -366,7 +370,7 @@ class Program:
             raise Refused(f"{self.path}: the program could not be proved or built: {said}")
         if ran.returncode == 1:
             raise Refused(self.said_of_flags(said), expected)
-        if ran.returncode == 2:
+        if ran.returncode in (2, 7):
             raise Refused(f"{name}: {said}", expected)
         raise Refused(f"{self.path}: status {ran.returncode}: {said or 'it said nothing'}")
 

@@ -4,7 +4,6 @@ import glob
 import os
 import signal
 import subprocess
-import sys
 import tempfile
 import threading
 
@@ -16,7 +15,9 @@ SMALLEST_TRACE = b"type H\nscheduler 1\nschedule\nend\n"
 # The program's first words for an input of several allocator types, which begins the first line of that, too, and for
 # one of operations in their recorded order.
 OF_SEVERAL, OF_RECORDED = "types", "recorded"
-COMMANDS = (OF_SEVERAL, OF_RECORDED)
+# And for an input of one shared region, whose first line is that word, and for the histograms of a run.
+OF_REGION, HISTOGRAM = "super", "histogram"
+COMMANDS = (OF_SEVERAL, OF_RECORDED, OF_REGION, HISTOGRAM)
 
 
 def reason_of(error):
@@ -36,8 +37,9 @@ def command_of(lines):
     recorded one each line begins with a scheduler."""
     said = filter(is_said, lines)
     first, second = (next(said, b"").split(None, 1)[:1] for _ in range(2))
-    if first == [OF_SEVERAL.encode()]:
-        return [OF_SEVERAL]
+    for it in OF_SEVERAL, OF_REGION:
+        if first == [it.encode()]:
+            return [it]
     is_recorded = first == [b"type"] and second and (second[0].isdigit() or second == [b"end"])
     return [OF_RECORDED] if is_recorded else []
 
@@ -81,18 +83,6 @@ def end_runs():
     """Ends the runs of this process at once."""
     for child in [*RUNNING]:
         kill(child)
-
-
-def end_runs_by_signals(status=128):
-    """SIGINT and SIGTERM end this process and its runs at once, with 128 and the signal's number."""
-
-    def end(number, _):
-        end_runs()
-        os._exit(status + number)
-
-    for it in (signal.SIGINT, signal.SIGTERM):
-        if signal.getsignal(it) != signal.SIG_IGN:
-            signal.signal(it, end)
 
 
 # Where it is

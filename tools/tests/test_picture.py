@@ -504,6 +504,56 @@ class Types(Case):
         self.draw("--trace", self.trace("idle"), "--type", "H", "--svg", self.path("a.svg"))
 
 
+class Regions(Case):
+    """Inputs of one shared region. Where segments lie is worked out by hand: the lowest run that is long enough."""
+
+    REQUESTS = "take 1 100", "take 2 200", "back 1", "back 1", "take 3 50", "take 4 60"
+
+    def region(self, *requests):
+        """An input of one scheduler."""
+        return self.write("a.region", "\n".join(["super", "scheduler 1", *requests, "end", ""]))
+
+    def drawn(self, *more):
+        self.draw("--trace", self.region(*self.REQUESTS), "--svg", self.path("a.svg"), *more, "--", "+MMscs", "1")
+        svg = self.read("a.svg")
+        segments = re.findall(r'<rect class="segment" [^>]*data-name="(\d+)"><title>([^<]*)</title>', svg)
+        return svg, [(int(name), said.partition(": ")[2]) for name, said in segments]
+
+    def test_segments_from_call_to_call(self):
+        svg, segments = self.drawn()
+        wanted = [
+            (1, "pages 0 to 99, from call 1 to call 3"),
+            (3, "pages 0 to 49, from call 5 to the end"),
+            (4, "pages 50 to 109, from call 6 to the end"),
+        ]
+        self.assertEqual(segments, wanted)
+        self.assertIn('data-calls="6" data-segments="2"', svg)
+        self.assertIn("segments 2 · pages 110 · free 146", svg)
+        for kind, line in ("refused", "1 take 2 none"), ("skipped", "1 back 1 skipped"):
+            self.assertRegex(svg, f'class="{kind}"[^>]*><title>{line}</title>')
+
+    def test_the_first_calls_alone(self):
+        svg, segments = self.drawn("--at", "2")
+        self.assertEqual(segments, [(1, "pages 0 to 99, from call 1 to the end")])
+        self.assertIn("segments 1 · pages 100 · free 156", svg)
+
+    def test_a_page(self):
+        trace = self.region(*self.REQUESTS)
+        self.draw("--trace", trace, "--output", self.path("a.html"), "--", "super", "+MMscs", "1")
+        self.assertIn('<main data-calls="6" data-segments="2"><svg ', self.read("a.html"))
+
+    def test_what_is_refused(self):
+        trace = self.region("take 1 1")
+        words = "--trace", trace, "--svg", self.path("a.svg")
+        self.refused(f"{trace}: there are moments 0 to 1, and no 2", *words, "--at", "2")
+        self.refused(f"{trace}: there is no type H", *words, "--type", "H")
+        self.refused("the words after --: word 2: unknown flag", *words, "--", "super", "+MHasbf", "1",
+                     expected="a value as a word of its own: +MHas bf")
+        trace = self.region("take 1 0")
+        self.refused(f"{trace}: line 3: syntax", *words, expected="docs/FORMATS.md says what a line may be")
+        self.assertNotIn("a.svg", os.listdir(self.folder))
+
+
 class Histograms(Case):
     def test_each_bar_is_one_count(self):
         """By the example's own text: the bars of all carriers come first, then those of each."""
