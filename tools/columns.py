@@ -15,7 +15,7 @@ COLUMNS = {
     "units_most": "and at most",
     "utilisation_end": "percent of the carriers' units that are in blocks, queued ones too, at the end",
     "utilisation_most": "and at most",
-    "utilisation_each": "the same at the end, of the carriers that each instance uses, with / between; - if it has none",
+    "utilisation_each": "the same at the end, of the carriers that each instance uses, / between them; - for none",
     "blocks_end": "how many blocks there are at the end, without queued ones",
     "block_bytes": "the bytes of one of them on average, its header included",
     "blocks_single": "how many of them have a singleblock carrier",

@@ -15,7 +15,11 @@ COMMANDS = ("types", "super", "contents", "histogram", "recorded")
 STRATEGIES = "bf aobf aoff aoffcbf aoffcaobf ageffcaoff ageffcbf ageffcaobf gf af"
 KILOBYTES = "kilobytes"
 # Of each flag its least and greatest number, in what, and the values that are names.
-FLAGS_OF_ALL = {"+S": (1, 64, "schedulers", ""), "+MMscs": (1, 512, "megabytes", ""), "+MMsco": (None, None, "", "true")}
+FLAGS_OF_ALL = {
+    "+S": (1, 64, "schedulers", ""),
+    "+MMscs": (1, 512, "megabytes", ""),
+    "+MMsco": (None, None, "", "true"),
+}
 FLAGS_OF_ONE = {
     "as": (None, None, "", STRATEGIES),
     "acul": (0, 100, "percent", "de"),

@@ -288,8 +288,8 @@ class Drawing:
             return
         units, used = sum(map(self.units, lives)), sum(map(self.use, lives))
         self.parts.append(rectangle("owner", MARGIN, self.y, 4, 16, f' fill="{colour_of(owner)}"'))
-        said = f"{len(lives)} full carriers of owner {owner}: {megabytes(units)}, {100 * used // units} percent in blocks"
-        said += f" (each {FULL} or more): {ranges_words(sorted(it.number for it in lives))}"
+        said = f"{len(lives)} full carriers of owner {owner}: {megabytes(units)}, {100 * used // units} percent in"
+        said += f" blocks (each {FULL} or more): {ranges_words(sorted(it.number for it in lives))}"
         for line in textwrap.wrap(said, LONGEST_LINE):
             self.parts.append(words_at("", MARGIN + 10, self.y + 12, line))
             self.y += 16

@@ -4,7 +4,6 @@ import glob
 import os
 import signal
 import subprocess
-import sys
 import tempfile
 import threading
 
@@ -81,18 +80,6 @@ def end_runs():
     """Ends the runs of this process at once."""
     for child in [*RUNNING]:
         kill(child)
-
-
-def end_runs_by_signals(status=128):
-    """SIGINT and SIGTERM end this process and its runs at once, with 128 and the signal's number."""
-
-    def end(number, _):
-        end_runs()
-        os._exit(status + number)
-
-    for it in (signal.SIGINT, signal.SIGTERM):
-        if signal.getsignal(it) != signal.SIG_IGN:
-            signal.signal(it, end)
 
 
 # Where it is

@@ -50,7 +50,9 @@ serve(Types, Marks) ->
             {Events, _} = count(),
             From ! {?MODULE, lists:reverse(Marks, [{Events, "end", figures(Types)}])};
         {nodedown, _} ->
-            stop()
+            %% Nobody is there to whom it could be told; the memory is given back.
+            stop(),
+            write("/dev/null", lists:duplicate(16, $?))
     end.
 
 ask(Message) ->

@@ -71,7 +71,8 @@ class Recording:
 
     def letter(self, wanted):
         """The letter that is wanted, or the only one."""
-        demand(wanted or len(self.types) == 1, f"{self.path}: it has the types {' '.join(self.types)}: choose by --type")
+        types = " ".join(self.types)
+        demand(wanted or len(self.types) == 1, f"{self.path}: it has the types {types}: choose by --type")
         demand(not wanted or wanted in self.types, f"{self.path}: it has no type {wanted}")
         return wanted or self.types[0]
 
@@ -282,7 +283,7 @@ def told(recording, maker, last, taken, is_whole):
     yield "Of a node are order, sizes, and who allocates, reallocates and frees; sizes are those that were asked for."
     yield f"Of {last.events} recorded events of all types {taken} are taken, up to mark {last.name}."
     if not is_whole:
-        yield "CUT: more operations than these do not fit an input of the program; marks after the last one are left out."
+        yield "CUT: more operations than these do not fit an input of the program; later marks are left out."
     yield "Operations: " + ", ".join(f"{maker.counts[it]} {it}" for it in ("alloc", "realloc", "free", "give", "take"))
     for count, words in (
         (said["before"], "frees and reallocations of blocks that were there before the recording; a free is left out"),

@@ -9,7 +9,8 @@ from columns import DECIMALS
 from program import OF_RECORDED, Ended, command_of, is_said, reason_of, run, told_of
 from replay import UNITS_EVER, replay
 from texts import (
-    NUMBERS_OF_AN_INSTANCE, allocated_in, can_migrate, carrier_of, is_placed, owner_of, read_texts, read_traces, units_of
+    NUMBERS_OF_AN_INSTANCE, allocated_in, can_migrate, carrier_of, is_placed, owner_of, read_texts, read_traces,
+    units_of,
 )
 
 UNITS_OF_A_MB = 2**17
@@ -180,7 +181,8 @@ def fronts_of(data):
     lines = data.split(b"\n")
     places = [at for at, line in enumerate(lines) if line.startswith(MARK)]
     for at in places:
-        yield lines[at][len(MARK):].decode("latin-1").strip(), b"\n".join([*lines[:at], *closed(lines[at:], lines), b""])
+        front = b"\n".join([*lines[:at], *closed(lines[at:], lines), b""])
+        yield lines[at][len(MARK) :].decode("latin-1").strip(), front
     yield None, data
 
 
