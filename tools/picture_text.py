@@ -3,7 +3,7 @@ import re
 from dataclasses import dataclass, replace
 
 from expected import explained
-from program import COMMANDS, NOT_BUILT, OF_RECORDED, OF_SEVERAL, command_of, reason_of, run, told_of
+from program import COMMANDS, NOT_BUILT, OF_RECORDED, OF_REGION, OF_SEVERAL, command_of, reason_of, run, told_of
 from refused import Refused
 
 MOST_STEPS_OF_A_STOP = 100_000_000
@@ -165,9 +165,18 @@ def words_of_lines(data):
             yield words
 
 
+def first_word(data):
+    return next(words_of_lines(data), [""])[0]
+
+
 def is_of_several(data):
     """Whether it is an input of several allocator types."""
-    return next(words_of_lines(data), [""])[0] == OF_SEVERAL
+    return first_word(data) == OF_SEVERAL
+
+
+def is_of_region(data):
+    """Whether it is an input of one shared region."""
+    return first_word(data) == OF_REGION
 
 
 def read_traces(data):
@@ -348,9 +357,10 @@ class Program:
         self.before = int(words[:1] != [] and words[0] in COMMANDS)
         self.path, self.words, self.flags_file = path, words[self.before :], flags_file
 
-    def run(self, data, name):
-        """The text of this input, which stands in the file of this name."""
-        command = command_of(data.split(b"\n"))
+    def run(self, data, name, asked=None):
+        """The text of this input, which stands in the file of this name, by the command that its lines are of, or by
+        another one that is asked for."""
+        command = [asked] if asked else command_of(data.split(b"\n"))
         try:
             ran = run([self.path, *command, *self.words], data)
         except ValueError as error:
@@ -365,7 +375,7 @@ class Program:
             raise Refused(f"{self.path}: the program could not be proved or built: {said}")
         if ran.returncode == 1:
             raise Refused(self.said_of_flags(said), expected)
-        if ran.returncode == 2:
+        if ran.returncode in (2, 7):
             raise Refused(f"{name}: {said}", expected)
         raise Refused(f"{self.path}: status {ran.returncode}: {said or 'it said nothing'}")
 

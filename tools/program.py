@@ -12,10 +12,10 @@ from refused import Refused
 TOP = os.path.dirname(os.path.dirname(os.path.realpath(__file__)))
 NOT_BUILT = 70
 SMALLEST_TRACE = b"type H\nscheduler 1\nschedule\nend\n"
-# The program's first words for an input of several allocator types, which begins the first line of that, too, and for
-# one of operations in their recorded order.
-OF_SEVERAL, OF_RECORDED = "types", "recorded"
-COMMANDS = (OF_SEVERAL, OF_RECORDED)
+# The program's first words for an input of several allocator types, and for one of one shared region, each of which
+# begins the first line of that, too; for one of operations in their recorded order; and for the histograms of a trace.
+OF_SEVERAL, OF_REGION, OF_RECORDED, OF_HISTOGRAMS = "types", "super", "recorded", "histogram"
+COMMANDS = (OF_SEVERAL, OF_REGION, OF_RECORDED, OF_HISTOGRAMS)
 
 
 def reason_of(error):
