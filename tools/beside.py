@@ -1,4 +1,4 @@
-"""What a node has and what a run has side by side, carriers or histograms, for tools/load."""
+"""The carriers of a node and those of a run side by side, or their histograms, for tools/load."""
 import re
 from dataclasses import dataclass
 
@@ -11,6 +11,7 @@ PAGE = 4096
 # The intervals of histograms: the first one ends below 2**4 units, and each next one is twice as long.
 INTERVALS = 18
 FIRST_BORDER_BITS = 4
+SUMS_LINE = re.compile(r"all blocks((?: [0-9]{1,12}){18}) gaps((?: [0-9]{1,12}){18})")
 
 
 @dataclass
@@ -73,6 +74,48 @@ def carriers_of_run(path, letter, types):
     return found
 
 
+def sums_of_run(path):
+    """How many blocks and how many gaps lie in each interval, where a run's text has histograms."""
+    lines = [it for it in read_lines(path) if it]
+    match = SUMS_LINE.fullmatch(lines[-1]) if lines else None
+    return match and [[int(it) for it in counts.split()] for counts in match.groups()]
+
+
+def interval_of(count):
+    """The interval of a size of so many bytes, from 0."""
+    return min(max((count // UNIT).bit_length() - FIRST_BORDER_BITS, 0), INTERVALS - 1)
+
+
+def sums_of_slots(slots):
+    """How many blocks or gaps lie in each interval, and last how many may lie in more than one."""
+    counts = [0] * (INTERVALS + 1)
+    for slot in slots:
+        low, high = interval_of(slot.low), interval_of(slot.high)
+        counts[low if low == high else INTERVALS] += slot.count
+    return counts
+
+
+def interval_name(at):
+    if at == 0:
+        return f"below {UNIT * 2**FIRST_BORDER_BITS} bytes"
+    low = UNIT * 2 ** (at + FIRST_BORDER_BITS - 1)
+    if at == INTERVALS - 1:
+        return f"{low} bytes and more"
+    return f"{low} to {2 * low - UNIT} bytes"
+
+
+def rows_by_interval(node, run):
+    """The rows of the table of histograms: those intervals in which somebody has a block or a gap."""
+    told = [sums_of_slots(node.slots), sums_of_slots([gap for it in node.carriers for gap in it.gaps])]
+    for title, theirs, ours in zip(("blocks by their size", "gaps by their size"), told, run):
+        yield title, []
+        for at in range(INTERVALS):
+            if theirs[at] or ours[at]:
+                yield f"  {interval_name(at)}", [theirs[at], ours[at]]
+        if theirs[INTERVALS]:
+            yield "  told across a border", [theirs[INTERVALS], "-"]
+
+
 def up_to(count):
     """A power of two of bytes, in words."""
     return f"up to {count // 1024} kB" if count >= 1024 else f"up to {count} bytes"
@@ -119,14 +162,14 @@ def table_of(name, rows):
 def tables_of(path, nodes):
     """A table for each node beside the text of a run; of several the type stands above it."""
     sums = sums_of_run(path)
-    if sums:
-        demand(len(nodes) == 1, f"{path}: histograms are of one type, and there are {len(nodes)} files")
-        yield from table_of("", rows_by_interval(nodes[0], sums))
-        return
+    demand(not sums or len(nodes) == 1, f"{path}: histograms are of one type, and there are {len(nodes)} files")
     for node in nodes:
         name = f"type {node.letter}" if len(nodes) > 1 else ""
-        sides = [filled_of_node(node), filled_of_run(path, node.letter, len(nodes))]
-        yield from table_of(name, rows_beside(sides))
+        if sums:
+            yield from table_of(name, rows_by_interval(node, sums))
+        else:
+            sides = [filled_of_node(node), filled_of_run(path, node.letter, len(nodes))]
+            yield from table_of(name, rows_beside(sides))
     yield from told_of_failed(path)
 
 
@@ -140,53 +183,6 @@ def told_of_failed(path):
             yield f"{space} for want of pages: run it with a larger +MMscs."
         if numbers:
             yield f"{numbers} for want of numbers: 1024 carriers an instance at most; a larger +M<S>sbct needs fewer."
-
-
-# Histograms
-
-SUMS_LINE = re.compile(r"all blocks((?: [0-9]{1,12}){18}) gaps((?: [0-9]{1,12}){18})")
-
-
-def sums_of_run(path):
-    """How many blocks and how many gaps lie in each interval, where a run's text has histograms."""
-    lines = [it for it in read_lines(path) if it]
-    match = SUMS_LINE.fullmatch(lines[-1]) if lines else None
-    return match and [[int(it) for it in counts.split()] for counts in match.groups()]
-
-
-def interval_of(count):
-    """The interval of a size of so many bytes, from 0."""
-    return min(max((count // UNIT).bit_length() - FIRST_BORDER_BITS, 0), INTERVALS - 1)
-
-
-def sums_of_slots(slots):
-    """How many blocks or gaps lie in each interval, and last how many may lie in more than one."""
-    counts = [0] * (INTERVALS + 1)
-    for slot in slots:
-        low, high = interval_of(slot.low), interval_of(slot.high)
-        counts[low if low == high else INTERVALS] += slot.count
-    return counts
-
-
-def interval_name(at):
-    if at == 0:
-        return f"below {UNIT * 2**FIRST_BORDER_BITS} bytes"
-    low = UNIT * 2 ** (at + FIRST_BORDER_BITS - 1)
-    if at == INTERVALS - 1:
-        return f"{low} bytes and more"
-    return f"{low} to {2 * low - UNIT} bytes"
-
-
-def rows_by_interval(node, run):
-    """The rows of the table of histograms: those intervals in which somebody has a block or a gap."""
-    told = [sums_of_slots(node.slots), sums_of_slots([gap for it in node.carriers for gap in it.gaps])]
-    for title, theirs, ours in zip(("blocks by their size", "gaps by their size"), told, run):
-        yield title, []
-        for at in range(INTERVALS):
-            if theirs[at] or ours[at]:
-                yield f"  {interval_name(at)}", [theirs[at], ours[at]]
-        if theirs[INTERVALS]:
-            yield "  told across a border", [theirs[INTERVALS], "-"]
 
 
 # A mark of a recording

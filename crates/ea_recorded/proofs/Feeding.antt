@@ -5,6 +5,7 @@ use Rattle.std.proofs.Common.{subst, ◌∙◌, arith, inl, inr}
 use Rattle.std.proofs.lemmas.Bool.{cases_eq}
 use Rattle.std.proofs.lemmas.List.{append_assoc, append-nil, length-map, map-append}
 use Rattle.std.specs.Prelude.{All, IfOk, Result, filter, get_or, take}
+use Rattle.std.specs.Fmt.{digits}
 use Rattle.std.specs.List.{find}
 use Rattle.std.proofs.lemmas.List.{get_or-map, take_more}
 use Rattle.std.proofs.lemmas.List.Elements.{All-append, All-cons, All-get_or, All-head, All-nil}
@@ -61,6 +62,7 @@ all_said low (suc count) = is_section low (line_of_words (section_line low))
     && all_said (suc low) count
 
 said-all : all_said 0 65 ≡ true
+unfolding digits
 said-all = refl
 
 both-left : (a b : Bool) → (a && b) ≡ true → a ≡ true

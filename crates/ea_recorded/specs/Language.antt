@@ -1,9 +1,8 @@
 -- The language of recorded operations: which line may stand where, the trace that the lines are,
 -- and what is refused. A line is the list of its words.
-use Rattle.std.specs.Prelude.{ℕ, zero, suc, ◌+◌, ◌-◌, ◌/◌, ◌%◌, ◌==◌, nat_lt, Bool, true}
-use Rattle.std.specs.Prelude.{false, ◌||◌, not}
+use Rattle.std.specs.Prelude.{ℕ, zero, suc, ◌+◌, ◌-◌, ◌==◌, Bool, true, false, ◌||◌, not}
 use Rattle.std.specs.Prelude.{if◌then◌else◌, List, [], ◌∷◌, ◌++◌, Option, None, Some, Result, Ok, Err}
-use Rattle.std.specs.Prelude.{codes, filter, map, slice_index_or}
+use Rattle.std.specs.Prelude.{codes, decimal, filter, map, slice_index_or}
 use Rattle.ea_model.specs.declared.settings.Letter.{Letter}
 use Rattle.ea_model.specs.declared.trace.Trace.{Trace}
 use Rattle.ea_trace.specs.Language.{Answer, LineWords, WordLines, gives_outside, is_outside}
@@ -103,12 +102,8 @@ placed t = record { number = t.own.number; words = t.words }
 abbrev pub type_line : Letter → LineWords
 type_line x = codes "type" ∷ letter_word x ∷ []
 
--- the word of a number below 100, as that of each scheduler is
-abbrev pub number_word : ℕ → List ℕ
-number_word n = if nat_lt n 10 then (48 + n) ∷ [] else (48 + n / 10) ∷ (48 + n % 10) ∷ []
-
 abbrev pub section_line : ℕ → LineWords
-section_line me = codes "scheduler" ∷ number_word me ∷ []
+section_line me = codes "scheduler" ∷ decimal me ∷ []
 
 abbrev pub schedule_line : LineWords
 schedule_line = codes "schedule" ∷ []

@@ -20,8 +20,8 @@ abbrev pub IsBookText : ℕ → List (List Request) → List ℕ → Type 0
 IsBookText total sections text = (book : Book) × IsBookOf total (map listed sections) book
     × (text ≡ book_text book)
 
--- an input asks that its sections be played on the region, and its texts are those of the books that
--- this may give; nothing is promised beside the text
+-- an input asks that its sections be played on the region, and its texts are those of the books
+-- that this may give; nothing is promised beside the text
 abbrev pub shared_region : Language
 shared_region = record {
   Request = List (List Request);

@@ -1,6 +1,6 @@
 //! Gathers the lines of an input.
-ghost use Rattle.std.specs.Prelude.{◌≡◌, ◌+◌, ◌-◌, ◌<◌, ◌≤◌, ◌∷◌, [], ℕ, List, false, true, All, IfErr};
-ghost use Rattle.std.specs.Prelude.{IfOk, OnOk, length, map};
+ghost use Rattle.std.specs.Prelude.{◌≡◌, ◌+◌, ◌-◌, ◌<◌, ◌≤◌, ◌∷◌, [], ℕ, List, false, true};
+ghost use Rattle.std.specs.Prelude.{All, IfErr, IfOk, OnOk, length, map};
 ghost use Rattle.ea_model.specs.declared.units.TheConstants.{MAX_OPS, MAX_SCHEDULERS};
 ghost use Rattle.ea_super.specs.Asked.{AsksPages, IsAsked, asks_pages, count_in};
 ghost use Rattle.ea_super.specs.Knows.{HasRoom, IsBegun, IsRefusal, Knows, Takes};

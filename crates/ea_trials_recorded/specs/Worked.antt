@@ -1,12 +1,13 @@
 -- Worked inputs of recorded operations: in short what the language says of them, and their turns.
-use Rattle.std.specs.Prelude.{ℕ, List, [], Option, Some, None, Ok, Err}
-use Rattle.ea_flags.specs.declared.config.TheConstants.{DEFAULT_CONFIG}
+use Rattle.std.specs.Prelude.{ℕ, List, [], Option, Some, None, Result, Ok, Err}
+use Rattle.ea_flags.specs.declared.fault.FlagFault.{FlagFault}
+use Rattle.ea_flags.specs.Flags.{flags}
 use Rattle.ea_model.specs.Trace.{texts_of}
 use Rattle.ea_model.specs.declared.operations.Op.{Op}
 use Rattle.ea_model.specs.declared.settings.Config.{Config}
 use Rattle.ea_machine.specs.Setup.{setup_of}
 use Rattle.ea_trace.specs.declared.fault.TraceFault.{TraceFault}
-use Rattle.ea_recorded.specs.Language.{Asked, Recorded, recorded}
+use Rattle.ea_recorded.specs.Language.{Asked, recorded}
 use Rattle.ea_recorded.specs.Order.{recorded_turns}
 
 abbrev pub fault_of : Asked → Option TraceFault
@@ -33,15 +34,15 @@ order_in (Err f) = []
 abbrev pub order : ℕ → List ℕ → List ℕ
 order schedulers input = order_in (recorded input schedulers)
 
--- the turns of the run, under the default configuration
+-- the turns of the run, under the configuration that the words ask for
 
-abbrev pub turns_of : Config → Recorded → List ℕ
-turns_of c asked = recorded_turns (setup_of c asked.trace) asked.order
+abbrev pub turns_of : Config → Asked → List ℕ
+turns_of c (Ok asked) = recorded_turns (setup_of c asked.trace) asked.order
+turns_of c (Err f) = []
 
-abbrev pub turns_in : ℕ → Asked → List ℕ
-turns_in schedulers (Ok asked) =
-    turns_of (record DEFAULT_CONFIG { schedulers = schedulers }) asked
-turns_in schedulers (Err f) = []
+abbrev pub turns_under : List ℕ → Result Config FlagFault → List ℕ
+turns_under input (Ok c) = turns_of c (recorded input c.schedulers)
+turns_under input (Err f) = []
 
-abbrev pub turns : ℕ → List ℕ → List ℕ
-turns schedulers input = turns_in schedulers (recorded input schedulers)
+abbrev pub turns : List (List ℕ) → List ℕ → List ℕ
+turns words input = turns_under input (flags words)

@@ -1,5 +1,6 @@
 //! Worked inputs of recorded operations.
 ghost use Rattle.std.specs.Prelude.{◌≡◌, [], ◌∷◌, codes, Some, None};
+ghost use Rattle.ea_model.specs.Words.{words};
 ghost use Rattle.ea_model.specs.declared.operations.Op.TheVariants as op;
 ghost use Rattle.ea_trace.specs.declared.fault.TraceFault.TheVariants as fault;
 ghost use Rattle.ea_trials_recorded.specs.Worked.{order, refused, texts, turns};
@@ -19,10 +20,12 @@ pub fn two_schedulers()
 /// `free` to another's queue three, and an `idle` that finds a node in the queue two. At the end
 /// each scheduler takes its queue once more.
 pub fn turns_of_lines()
-    ensures turns { turns 2 (codes
+    ensures turns { turns (words (codes "+S 2")) (codes
         "type T\n1 alloc 1 8\n2 alloc 2 9\n1 give 1 2\n2 take 1 3\n2 free 1\n1 idle\nend\n")
         ≡ 1 ∷ 2 ∷ 1 ∷ 1 ∷ 2 ∷ 2 ∷ 2 ∷ 2 ∷ 2 ∷ 1 ∷ 1 ∷ 1 ∷ 2 ∷ [] }
-    ensures too_early { turns 2 (codes
+    ensures idle_alone { turns [] (codes "type T\n1 idle\nend\n") ≡ 1 ∷ 1 ∷ [] }
+    ensures one_scheduler { turns [] (codes "type T\n1 alloc 1 8\n1 idle\nend\n") ≡ 1 ∷ 1 ∷ 1 ∷ [] }
+    ensures too_early { turns (words (codes "+S 2")) (codes
         "type T\n1 alloc 1 8\n2 take 1 3\n1 give 1 2\n2 free 1\nend\n")
         ≡ 1 ∷ 2 ∷ 2 ∷ 2 ∷ 2 ∷ 1 ∷ 1 ∷ 2 ∷ 1 ∷ 2 ∷ [] }
 {}
