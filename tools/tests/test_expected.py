@@ -105,12 +105,14 @@ class Lines(unittest.TestCase):
             ("line 4: syntax", "nothing after `end`", *head, "end", "end"),
             ("line 2: bad scheduler", "+S is 1, so schedulers are 1 to 1; the next section is `scheduler 1`", "super",
              "end"),
-            ("line 4: name reused", "each name is taken by one line, of whatever section", *head, "take 1 1", "take 1 1"),
+            ("line 4: name reused", "each name is taken by one line, of whatever section", *head, "take 1 1",
+             "take 1 1"),
         ):
             self.check(said, wanted, *lines, words="super")
 
     def test_histograms(self):
-        self.check("line 3: syntax", "`free NAME`, NAME 1 to 1048576", "type H", "scheduler 1", "free", words="histogram")
+        head = "type H", "scheduler 1"
+        self.check("line 3: syntax", "`free NAME`, NAME 1 to 1048576", *head, "free", words="histogram")
 
     def test_what_is_not_known(self):
         self.assertIsNone(explained("out of memory", [], None))

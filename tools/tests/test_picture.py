@@ -504,23 +504,6 @@ class Types(Case):
         self.draw("--trace", self.trace("idle"), "--type", "H", "--svg", self.path("a.svg"))
 
 
-class Histograms(Case):
-    def test_each_bar_is_one_count(self):
-        """By the example's own text: the bars of all carriers come first, then those of each."""
-        svg = self.path("a.svg")
-        self.draw(*self.example("gaps-by-strategy.aoff"), "--histograms", svg)
-        bars = re.findall(r'class="(blocks|gaps)"[^>]*><title>(.*?)</title>', self.read("a.svg"))
-        self.assertEqual(bars[: len(bars) // 2], [
-            ("blocks", "2 blocks of fewer than 16 units"), ("blocks", "1 block of 32 to 63 units"),
-            ("blocks", "1 block of 256 to 511 units"), ("gaps", "1 gap of 64 to 127 units"),
-            ("gaps", "1 gap of 256 to 511 units"), ("gaps", "1 gap of 16384 to 32767 units")])
-        self.assertEqual(bars[: len(bars) // 2], bars[len(bars) // 2 :])
-
-    def test_a_trace_without_a_schedule(self):
-        trace = self.write("a.trace", "type H\nscheduler 1\nthreads\nend\n")
-        self.refused(f"{trace}: schedule wanted", "--trace", trace, "--histograms", self.path("a.svg"))
-
-
 class Regions(Case):
     """Inputs of one shared region. Where segments lie is worked out by hand: the lowest run that is long enough."""
 
@@ -562,9 +545,8 @@ class Regions(Case):
         self.assertIn('data-calls="1" data-segments="1"', self.read("a.svg"))
 
     def test_too_many_calls(self):
-        """Of 20000 taken and given back in turn the first ones can be drawn."""
-        trace = self.region(*(f"{word} {name} 1" if word == "take" else f"back {name}"
-                              for name in range(1, 10002) for word in ("take", "back")))
+        """Of 20002 calls the first 20000 are drawn: each other one takes a segment, and the legend shows one more."""
+        trace = self.region(*(line for name in range(1, 10002) for line in (f"take {name} 1", f"back {name}")))
         said = f"{trace}: 20002 calls are more than 20000; --svg and --at K draw the first"
         self.refused(said, "--trace", trace, "--output", self.path("a.html"))
         self.draw("--trace", trace, "--svg", self.path("a.svg"), "--at", "20000")
@@ -584,6 +566,23 @@ class Regions(Case):
         expected = "`take NAME PAGES`, NAME 1 to 1048576, PAGES 1 to 131072"
         self.refused(f"{trace}: line 3: syntax", *words, expected=expected)
         self.assertNotIn("a.svg", os.listdir(self.folder))
+
+
+class Histograms(Case):
+    def test_each_bar_is_one_count(self):
+        """By the example's own text: the bars of all carriers come first, then those of each."""
+        svg = self.path("a.svg")
+        self.draw(*self.example("gaps-by-strategy.aoff"), "--histograms", svg)
+        bars = re.findall(r'class="(blocks|gaps)"[^>]*><title>(.*?)</title>', self.read("a.svg"))
+        self.assertEqual(bars[: len(bars) // 2], [
+            ("blocks", "2 blocks of fewer than 16 units"), ("blocks", "1 block of 32 to 63 units"),
+            ("blocks", "1 block of 256 to 511 units"), ("gaps", "1 gap of 64 to 127 units"),
+            ("gaps", "1 gap of 256 to 511 units"), ("gaps", "1 gap of 16384 to 32767 units")])
+        self.assertEqual(bars[: len(bars) // 2], bars[len(bars) // 2 :])
+
+    def test_a_trace_without_a_schedule(self):
+        trace = self.write("a.trace", "type H\nscheduler 1\nthreads\nend\n")
+        self.refused(f"{trace}: schedule wanted", "--trace", trace, "--histograms", self.path("a.svg"))
 
 
 class Interrupts(Case):
