@@ -109,10 +109,7 @@ fn schedulers_of_two_types_are_at_their_second_step_beside_each_other(
         .iter()
         .zip([HANDED_OVER_TEXT, NOTHING_TEXT])
     {
-        assert_eq!(rt;
-            str::from_utf8(print(alloc, outcome)?.as_slice()),
-            Ok(text)
-        );
+        assert_eq!(rt; str::from_utf8(print(alloc, outcome)?.as_slice()), Ok(text));
     }
     assert_eq!(rt; outcomes.len(), 2);
     Ok(())

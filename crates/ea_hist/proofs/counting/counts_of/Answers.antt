@@ -1,4 +1,4 @@
-use Rattle.std.proofs.Common.{◌+◌, ◌<◌, arith, ap, get_or, length, refl, set, sym, take, ◌∙◌}
+use Rattle.std.proofs.Common.{◌+◌, ◌<◌, arith, ap, get_or, refl, set, sym, take, ◌∙◌}
 use Rattle.std.proofs.lemmas.List.{length-take, take_more}
 use Rattle.ea_hist.specs.Intervals.{counts}
 use Rattle.ea_hist.proofs.Counts.{count-most, counts-at, one-more}
