@@ -1,4 +1,4 @@
-"""The carriers of a node and those of a run side by side, for tools/load."""
+"""The carriers of a node and those of a run side by side, or their histograms, for tools/load."""
 import re
 from dataclasses import dataclass
 
@@ -11,7 +11,7 @@ PAGE = 4096
 # The intervals of histograms: the first one ends below 2**4 units, and each next one is twice as long.
 INTERVALS = 18
 FIRST_BORDER_BITS = 4
-SUMS_LINE = re.compile(r"all blocks((?: [0-9]+){18}) gaps((?: [0-9]+){18})")
+SUMS_LINE = re.compile(r"all blocks((?: [0-9]{1,12}){18}) gaps((?: [0-9]{1,12}){18})")
 
 
 @dataclass

@@ -12,6 +12,8 @@ import sys
 
 LETTERS = "B D E H L R S T"
 COMMANDS = ("types", "super", "contents", "histogram", "recorded")
+# Those whose lines are known here, and the program without one.
+KNOWN = ("", "types", "super", "histogram", "recorded")
 STRATEGIES = "bf aobf aoff aoffcbf aoffcaobf ageffcaoff ageffcbf ageffcaobf gf af"
 KILOBYTES = "kilobytes"
 # Of each flag its least and greatest number, in what, and the values that are names.
@@ -53,6 +55,8 @@ OPERATIONS = {
     "info": ("info", ()),
     "idle": ("idle", ()),
 }
+# Of one shared region.
+REQUESTS = {"take": ("take NAME PAGES", ("NAME", "PAGES")), "back": ("back NAME", ("NAME",))}
 OTHERS = {
     "scheduler": ("scheduler I", ("SCHEDULER",)),
     "stop": ("stop SCHEDULER STEPS", ("SCHEDULER", "STEPS")),
@@ -64,6 +68,7 @@ OTHERS = {
 RANGES = {
     "NAME": (1, 1048576),
     "BYTES": (0, 1073741823),
+    "PAGES": (1, 131072),
     "TRIES": (1, 10000000),
     "STEPS": (0, 100000000),
     "SEED": (0, 2147483647),
@@ -80,6 +85,11 @@ OF_WHOLE = {
     "name reused": "each name is made by one line (alloc, or the second of realloc), and given by one",
     "name not held": "a block that an earlier line of the same scheduler made or took",
     "name not addressed": "a line that gives this name to the scheduler of the `take`",
+}
+OF_WHOLE_REGION = {
+    "too many": "at most 1048576 requests",
+    "name reused": "each name is taken by one line, of whatever section",
+    "name not held": "a name that an earlier line of the same section takes",
 }
 
 
@@ -161,7 +171,7 @@ def is_said(words):
 
 
 def form_words(form):
-    names = dict.fromkeys(it for it in form[1] if it in ("NAME", "BYTES", "TRIES", "STEPS", "SEED"))
+    names = dict.fromkeys(it for it in form[1] if it in ("NAME", "BYTES", "PAGES", "TRIES", "STEPS", "SEED"))
     ranges = [f"{it} {RANGES[it][0]} to {RANGES[it][1]}" for it in names]
     return f"`{form[0]}`" + (f", {', '.join(ranges)}" if ranges else "")
 
@@ -178,8 +188,8 @@ def stage_before(lines):
     """Where a trace stands after these lines: start, type, section, stops, turns, threads, generated or over."""
     stage = "start"
     for words in filter(is_said, lines):
-        after = {"type": "type", "types": "type", "scheduler": "section", "stop": "stops", "schedule": "turns",
-                 "threads": "threads", "generate": "generated", "end": "over"}
+        after = {"type": "type", "types": "type", "super": "type", "scheduler": "section", "stop": "stops",
+                 "schedule": "turns", "threads": "threads", "generate": "generated", "end": "over"}
         stage = after.get(words[0], stage)
     return stage
 
@@ -229,6 +239,20 @@ def of_types_syntax(lines, words):
     return of_syntax(stage, words, "types")
 
 
+def of_region_syntax(lines, words):
+    """With one shared region there are requests in place of operations."""
+    stage = stage_before(lines)
+    if stage == "start":
+        return "`super` first"
+    if stage == "type":
+        return "`scheduler 1` before its requests"
+    if stage == "over":
+        return "nothing after `end`"
+    if words[0] in REQUESTS:
+        return form_words(REQUESTS[words[0]])
+    return f"{', '.join(f'`{it[0]}`' for it in REQUESTS.values())}, `scheduler I` or `end`"
+
+
 def of_scheduler(lines, count, command):
     """A scheduler's number that may not stand there."""
     said = [words for words in lines if is_said(words)]
@@ -245,10 +269,11 @@ def schedulers_of(words):
 
 def of_line(kind, at, command, words, data):
     """What was expected in a line of the input."""
-    if kind in OF_WHOLE:
-        return OF_WHOLE[kind]
+    whole = {**OF_WHOLE, **(OF_WHOLE_REGION if command == "super" else {})}
+    if kind in whole:
+        return whole[kind]
     lines = [words_of(it) for it in data.split(b"\n")] if data is not None else []
-    if command not in ("", "types", "recorded") or not 0 < at <= len(lines) or not lines[at - 1]:
+    if command not in KNOWN or not 0 < at <= len(lines) or not lines[at - 1]:
         return "docs/FORMATS.md says what a line may be"
     before, line = lines[: at - 1], lines[at - 1]
     if kind == "bad scheduler":
@@ -257,6 +282,8 @@ def of_line(kind, at, command, words, data):
         return of_recorded_syntax(before, line)
     if command == "types":
         return of_types_syntax(before, line)
+    if command == "super":
+        return of_region_syntax(before, line)
     return of_syntax(stage_before(before), line, command)
 
 
@@ -295,7 +322,7 @@ def main(words):
     said, given = words[0], words[2:]
     command, flags = command_and_flags(given)
     if not said:
-        found = refusal(flags) if command in ("", "types", "recorded") else None
+        found = refusal(flags) if command in KNOWN else None
         if found:
             print(f"erts_alloc_run: {found[0]}\nrun: expected: {found[1]}")
         return 0

@@ -1,15 +1,25 @@
-"""The histograms of a run as an SVG, for tools/picture."""
+"""How large the blocks and gaps of a run are, as an SVG, for tools/picture."""
 import math
+import os
 import re
 from dataclasses import dataclass
 
 from picture_run import plural
-from picture_svg import rectangle, shape, words_at
+from picture_svg import MARGIN, flags_words, heading_of, rectangle, shape, svg_of, words_at
+from program import OF_HISTOGRAMS
 from refused import Refused
 
 INTERVALS = 18
 FIRST_BORDER = 16
 MOST_HISTOGRAMS = 200
+LINE = re.compile(r"(carrier [0-9]+|all) blocks((?: [0-9]{1,18}){18}) gaps((?: [0-9]{1,18}){18})")
+# How wide a bar is and how high at most, how high a row, and how wide its name and what is between its two parts.
+BAR, HIGHEST, ROW, LEFT, BETWEEN = 22, 48, 74, 100, 30
+STYLE_OF_BARS = """\
+.blocks { fill: #4e79a7 } .gaps { fill: #bab0ac } .base { stroke: #8b949e; stroke-width: .5 }
+.count { font-size: 9px; text-anchor: middle }
+@media (prefers-color-scheme: dark) { .gaps { fill: #79706e } }
+"""
 
 
 @dataclass
@@ -22,8 +32,8 @@ class Histogram:
 
 
 def read_histograms(text):
-    line_of = re.compile(r"(carrier [0-9]+|all) blocks((?: [0-9]+){18}) gaps((?: [0-9]+){18})")
-    matches = [line_of.fullmatch(line) for line in text.splitlines()]
+    """Those of each carrier, and last those of all."""
+    matches = [LINE.fullmatch(line) for line in text.splitlines()]
     if not matches or not all(matches) or matches[-1][1] != "all":
         raise Refused("the program wrote no histograms")
     return [Histogram(it[1], *([int(count) for count in it[at].split()] for at in (2, 3))) for it in matches]
@@ -32,50 +42,49 @@ def read_histograms(text):
 def interval_words(at):
     """The sizes of an interval, counted from 0."""
     if at == 0:
-        return f"below {FIRST_BORDER} units"
+        return f"fewer than {FIRST_BORDER} units"
     low = FIRST_BORDER << (at - 1)
     return f"{low} units and more" if at == INTERVALS - 1 else f"{low} to {2 * low - 1} units"
 
 
-HISTOGRAM_STYLE = (
-    "text{font:11px sans-serif;fill:#333}.name{font-weight:bold}.count{font-size:9px;text-anchor:middle}"
-    ".blocks{fill:#4c78a8}.gaps{fill:#bbb;stroke:#777;stroke-width:.5}.base{stroke:#999;stroke-width:.5}"
-)
-BAR, ROW, LEFT, PANEL = 22, 74, 96, 30
-
-
 def bars_of(kind, counts, x, base, most):
-    """The bars of a histogram: as high as their counts have digits, since these differ much."""
+    """The bars of a histogram: as high as the logarithm of their counts, since these differ much."""
     for at, count in enumerate(counts):
         if count:
-            height = 48 * math.log(1 + count) / math.log(1 + most)
+            height = HIGHEST * math.log(1 + count) / math.log(1 + most)
             title = f"{plural(count, kind[:-1])} of {interval_words(at)}"
             yield rectangle(kind, x + BAR * at + 2, base - height, BAR - 4, height, title=title)
             yield words_at("count", x + BAR * (at + 0.5), base - height - 2, str(count))
-    yield f'<path class="base" d="M{x} {shape(base)}h{BAR * INTERVALS}"/>'
+    yield f'<path class="base" d="M{shape(x)} {shape(base)}h{BAR * INTERVALS}"/>'
 
 
-def drawing_of(name, histograms):
-    """The histograms of a run as an SVG, those of all carriers together first."""
+def axis_at(x, y):
+    """The least units of each third interval."""
+    for at in range(0, INTERVALS, 3):
+        yield words_at("small", x + BAR * at, y, str(FIRST_BORDER << (at - 1) if at else 0))
+
+
+def drawing_of(name, words, histograms):
+    """The histograms of a run, those of all carriers together first."""
     shown = [histograms[-1], *histograms[:-1][:MOST_HISTOGRAMS]]
     most = max([1, *histograms[-1].blocks, *histograms[-1].gaps])
-    right = LEFT + BAR * INTERVALS + PANEL
-    parts = [words_at("name", 10, 20, f"Sizes of blocks and gaps: {name}")]
-    for x, kind in (LEFT, "blocks"), (right, "gaps"):
-        parts.append(words_at("name", x, 40, kind))
-    y = 40
+    places = {"blocks": MARGIN + LEFT, "gaps": MARGIN + LEFT + BAR * INTERVALS + BETWEEN}
+    parts, y = heading_of(f"{os.path.basename(name)}: sizes of blocks and gaps at the end", flags_words(words), MARGIN)
+    parts += [words_at("", x, y + 12, kind) for kind, x in places.items()]
     for it in shown:
         y += ROW
-        parts.append(words_at("name", 10, y, it.name))
-        parts += [*bars_of("blocks", it.blocks, LEFT, y, most), *bars_of("gaps", it.gaps, right, y, most)]
-    y += 16
-    for x in LEFT, right:
-        for at in range(0, INTERVALS, 3):
-            parts.append(words_at("axis", x + BAR * at, y, str(FIRST_BORDER << (at - 1) if at else 0)))
+        parts.append(words_at("", MARGIN, y, it.name))
+        for kind, x in places.items():
+            parts += bars_of(kind, getattr(it, kind), x, y, most)
+    parts += [it for x in places.values() for it in axis_at(x, y + 14)]
     said = "Below each third bar: the least units of its interval. A bar is as high as the logarithm of its number."
     left_out = len(histograms) - len(shown)
     said += f" {plural(left_out, 'carrier')} not drawn." if left_out else ""
-    parts.append(words_at("axis", 10, y + 24, said))
-    width, height = right + BAR * INTERVALS + 10, y + 40
-    head = f'<svg xmlns="http://www.w3.org/2000/svg" width="{width}" height="{height}" viewBox="0 0 {width} {height}">'
-    return "\n".join([head, f"<style>{HISTOGRAM_STYLE}</style>", *parts, "</svg>", ""])
+    parts.append(words_at("small", MARGIN, y + 40, said))
+    return svg_of(places["gaps"] + BAR * INTERVALS + MARGIN, y + 54, STYLE_OF_BARS, parts)
+
+
+def drawn_histograms(given, program, data):
+    """What is written of the histograms of a trace: a path and a text."""
+    found = read_histograms(program.run(data, given.trace, OF_HISTOGRAMS))
+    yield given.histograms, drawing_of(given.trace, program.words, found)

@@ -83,6 +83,39 @@ def words_at(kind, x, y, said):
     return f'<text class="{kind}" x="{shape(x)}" y="{shape(y)}">{html.escape(said)}</text>'
 
 
+def svg_of(width, height, style, parts, more=""):
+    """The whole of an SVG with these parts, on a ground of its own; `more` are attributes of it."""
+    size = f'width="{width}" height="{height}" viewBox="0 0 {width} {height}"'
+    head = f'<svg xmlns="http://www.w3.org/2000/svg" {size}{more}>'
+    ground = rectangle("page", 0, 0, width, height)
+    return "\n".join([head, f"<style>{STYLE}{style}</style>", ground, *parts, "</svg>", ""])
+
+
+def heading_of(title, said, y):
+    """The parts of a title and of a line below it, which are cut in lines, and where the next part stands."""
+    parts = []
+    for line in textwrap.wrap(title, LONGEST_TITLE):
+        parts.append(words_at("title", MARGIN, y + 12, line))
+        y += 18
+    for line in textwrap.wrap(said, LONGEST_LINE):
+        parts.append(words_at("small", MARGIN, y + 12, line))
+        y += 15
+    return parts, y + 11
+
+
+def keys_of(kinds, y):
+    """The parts of a legend of these kinds, each with its colour, if it has one of its own, and what is said of it; and
+    where the next one stands."""
+    parts, x = [], MARGIN
+    for kind, colour, said in kinds:
+        if x > WIDTH - 150:
+            x, y = MARGIN, y + 20
+        parts.append(rectangle(kind, x, y - 9, 12, 12, f' fill="{colour}"' if colour else ""))
+        parts.append(words_at("small", x + 17, y + 1, said))
+        x += 30 + 6.2 * len(said)
+    return parts, x, y
+
+
 def sign_at(x, y, size):
     """The octagon of a stop."""
     low, high = 0.29 * size, 0.71 * size
@@ -94,6 +127,10 @@ def mark_at(x, y):
     """Points at a block from above."""
     corners = (x, y + 6), (x - 5, y - 3), (x + 5, y - 3)
     return f'<polygon class="sign kept" points="{" ".join(f"{shape(it)},{shape(at)}" for it, at in corners)}"/>'
+
+
+def flags_words(words):
+    return " ".join(words) or "no flags"
 
 
 def megabytes(units):
@@ -153,13 +190,10 @@ class Drawing:
             if life not in self.full:
                 self.carrier(life, (WIDTH - self.label - 2 * MARGIN) / longest)
         self.legend()
-        size = f'width="{WIDTH}" height="{self.y}" viewBox="0 0 {WIDTH} {self.y}"'
-        counts = f'data-moment="{self.moment}" data-blocks="{sum(map(len, self.blocks.values()))}"'
+        counts = f' data-moment="{self.moment}" data-blocks="{sum(map(len, self.blocks.values()))}"'
         counts += f' data-stopped="{len(self.stopped)}"' if self.run.stops else ""
-        head = f'<svg xmlns="http://www.w3.org/2000/svg" {size} {counts}>'
-        ground = rectangle("page", 0, 0, WIDTH, self.y)
-        style = STYLE + (STYLE_OF_STOPS if self.run.stops else "")
-        return "\n".join([head, f"<style>{style}</style><defs>{QUEUED}</defs>", ground, *self.parts, "</svg>", ""])
+        style = STYLE_OF_STOPS if self.run.stops else ""
+        return svg_of(WIDTH, self.y, style, [f"<defs>{QUEUED}</defs>", *self.parts], counts)
 
     def base(self, life):
         base = life.span_at(self.moment).base
@@ -172,16 +206,11 @@ class Drawing:
 
     def heading(self):
         run, figures = self.run, self.run.figures(self.moment)
-        for line in textwrap.wrap(f"{os.path.basename(run.name)}: {self.title()}", LONGEST_TITLE):
-            self.parts.append(words_at("title", MARGIN, self.y + 12, line))
-            self.y += 18
         names = ("units", "live", "queued", "free")
         said = " · ".join(f"{it} {figures[it]:,} ({megabytes(figures[it])})" for it in names)
-        flags = " ".join(run.program.words) or "no flags"
-        for line in textwrap.wrap(f"{flags} · carriers {figures['carriers']:,} · {said}", LONGEST_LINE):
-            self.parts.append(words_at("small", MARGIN, self.y + 12, line))
-            self.y += 15
-        self.y += 11
+        said = f"{flags_words(run.program.words)} · carriers {figures['carriers']:,} · {said}"
+        parts, self.y = heading_of(f"{os.path.basename(run.name)}: {self.title()}", said, self.y)
+        self.parts += parts
 
     def stop(self, words):
         """What a stopped scheduler keeps, in lines."""
@@ -343,17 +372,11 @@ class Drawing:
         return [(it, str(it) if at else f"used by instance {it}") for at, it in enumerate(using)]
 
     def legend(self):
-        self.y += 14
-        x = MARGIN
         users = [("owner", colour_of(it), said) for it, said in self.users()]
         kinds = [("queued", "queued"), ("gap", "gap"), ("gap pooled", "abandoned"), ("head", "header")]
         kinds += [("stopped", "carrier of a stopped scheduler")] if self.stopped else []
-        for kind, colour, said in [*users, *((kind, None, said) for kind, said in kinds)]:
-            if x > WIDTH - 150:
-                x, self.y = MARGIN, self.y + 20
-            self.parts.append(rectangle(kind, x, self.y - 9, 12, 12, f' fill="{colour}"' if colour else ""))
-            self.parts.append(words_at("small", x + 17, self.y + 1, said))
-            x += 30 + 6.2 * len(said)
+        parts, x, self.y = keys_of([*users, *((kind, None, said) for kind, said in kinds)], self.y + 14)
+        self.parts += parts
         if any(it.is_kept for blocks in self.blocks.values() for it in blocks):
             self.parts.append(mark_at(x + 6, self.y - 6))
             self.parts.append(words_at("small", x + 17, self.y + 1, "block whose release was stopped"))

@@ -165,14 +165,18 @@ def words_of_lines(data):
             yield words
 
 
+def first_word(data):
+    return next(words_of_lines(data), [""])[0]
+
+
 def is_of_several(data):
     """Whether it is an input of several allocator types."""
-    return next(words_of_lines(data), [""])[0] == OF_SEVERAL
+    return first_word(data) == OF_SEVERAL
 
 
 def is_of_region(data):
     """Whether it is an input of one shared region."""
-    return command_of(data.split(b"\n")) == [OF_REGION]
+    return first_word(data) == OF_REGION
 
 
 def read_traces(data):
@@ -353,9 +357,10 @@ class Program:
         self.before = int(words[:1] != [] and words[0] in COMMANDS)
         self.path, self.words, self.flags_file = path, words[self.before :], flags_file
 
-    def run(self, data, name, asked=()):
-        """The text of this input, which stands in the file of this name, after a command that is asked for."""
-        command = [*asked] or command_of(data.split(b"\n"))
+    def run(self, data, name, asked=None):
+        """The text of this input, which stands in the file of this name, by the command that its lines are of, or by
+        another one that is asked for."""
+        command = [asked] if asked else command_of(data.split(b"\n"))
         try:
             ran = run([self.path, *command, *self.words], data)
         except ValueError as error:

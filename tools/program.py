@@ -12,12 +12,10 @@ from refused import Refused
 TOP = os.path.dirname(os.path.dirname(os.path.realpath(__file__)))
 NOT_BUILT = 70
 SMALLEST_TRACE = b"type H\nscheduler 1\nschedule\nend\n"
-# The program's first words for an input of several allocator types, which begins the first line of that, too, and for
-# one of operations in their recorded order.
-OF_SEVERAL, OF_RECORDED = "types", "recorded"
-# And for an input of one shared region, whose first line is that word, and for the histograms of a run.
-OF_REGION, HISTOGRAM = "super", "histogram"
-COMMANDS = (OF_SEVERAL, OF_RECORDED, OF_REGION, HISTOGRAM)
+# The program's first words for an input of several allocator types, and for one of one shared region, each of which
+# begins the first line of that, too; for one of operations in their recorded order; and for the histograms of a trace.
+OF_SEVERAL, OF_REGION, OF_RECORDED, OF_HISTOGRAMS = "types", "super", "recorded", "histogram"
+COMMANDS = (OF_SEVERAL, OF_REGION, OF_RECORDED, OF_HISTOGRAMS)
 
 
 def reason_of(error):
@@ -37,9 +35,8 @@ def command_of(lines):
     recorded one each line begins with a scheduler."""
     said = filter(is_said, lines)
     first, second = (next(said, b"").split(None, 1)[:1] for _ in range(2))
-    for it in OF_SEVERAL, OF_REGION:
-        if first == [it.encode()]:
-            return [it]
+    if first == [OF_SEVERAL.encode()]:
+        return [OF_SEVERAL]
     is_recorded = first == [b"type"] and second and (second[0].isdigit() or second == [b"end"])
     return [OF_RECORDED] if is_recorded else []
 

@@ -426,7 +426,7 @@ class Compare(unittest.TestCase):
             lists = [it for it in os.listdir(EXAMPLES) if it.partition(".")[0] == name and it.endswith(".flags")]
             with open(f"{EXAMPLES}/{trace}", encoding="utf-8") as source:
                 text = source.read()
-            if not lists or "generate" in text or text.count("\nscheduler ") > 1:
+            if not lists or text.count("\nscheduler ") != 1 or "\nsuper\n" in f"\n{text}":
                 continue
             for row in self.rows(trace, "--flags", *lists, folder=EXAMPLES):
                 for column in ("carriers_most", "units_most", "abandoned", "fetched", "returned"):
@@ -443,6 +443,12 @@ class Compare(unittest.TestCase):
             self.assertEqual((ran.returncode, ran.stdout, ran.stderr), (0, source.read(), ""))
 
     # Bad input
+
+    def test_an_input_of_one_shared_region_is_refused(self):
+        """It has no carriers to compare."""
+        status, _, said = self.compare(self.file("a.trace", "super\nscheduler 1\ntake 1 1\nend\n"), *KEPT_APART)
+        wanted = "compare: a.trace: line 1: syntax\ncompare: expected: `type X` first, of B D E H L R S T\n"
+        self.assertEqual((status, said), (1, wanted))
 
     def test_a_refused_trace_is_a_line_of_the_table(self):
         good, bad = self.file("good.trace", one("alloc 1 100")), self.file("bad.trace", one("frob 1"))

@@ -95,6 +95,25 @@ class Lines(unittest.TestCase):
                    words="recorded")
         self.check("line 2: syntax", "a scheduler and `free NAME`, NAME 1 to 1048576", "type H", "1 free", words="recorded")
 
+    def test_one_shared_region(self):
+        head = "super", "scheduler 1"
+        for said, wanted, *lines in (
+            ("line 1: syntax", "`super` first", "scheduler 1"),
+            ("line 2: syntax", "`scheduler 1` before its requests", "super", "take 1 1"),
+            ("line 3: syntax", "`take NAME PAGES`, NAME 1 to 1048576, PAGES 1 to 131072", *head, "take 1 0"),
+            ("line 3: syntax", "`take NAME PAGES`, `back NAME`, `scheduler I` or `end`", *head, "alloc 1 100"),
+            ("line 4: syntax", "nothing after `end`", *head, "end", "end"),
+            ("line 2: bad scheduler", "+S is 1, so schedulers are 1 to 1; the next section is `scheduler 1`", "super",
+             "end"),
+            ("line 4: name reused", "each name is taken by one line, of whatever section", *head, "take 1 1",
+             "take 1 1"),
+        ):
+            self.check(said, wanted, *lines, words="super")
+
+    def test_histograms(self):
+        head = "type H", "scheduler 1"
+        self.check("line 3: syntax", "`free NAME`, NAME 1 to 1048576", *head, "free", words="histogram")
+
     def test_what_is_not_known(self):
         self.assertIsNone(explained("out of memory", [], None))
         self.assertEqual(explained("line 3: syntax", [], None), "docs/FORMATS.md says what a line may be")

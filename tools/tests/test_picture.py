@@ -528,29 +528,43 @@ class Regions(Case):
         ]
         self.assertEqual(segments, wanted)
         self.assertIn('data-calls="6" data-segments="2"', svg)
-        self.assertIn("segments 2 · pages 110 · free 146", svg)
+        # A page is 4096 bytes.
+        self.assertIn("segments 2 · pages 110 (0.4 MB) · free 146 (0.6 MB)", svg)
         for kind, line in ("refused", "1 take 2 none"), ("skipped", "1 back 1 skipped"):
             self.assertRegex(svg, f'class="{kind}"[^>]*><title>{line}</title>')
 
     def test_the_first_calls_alone(self):
         svg, segments = self.drawn("--at", "2")
         self.assertEqual(segments, [(1, "pages 0 to 99, from call 1 to the end")])
-        self.assertIn("segments 1 · pages 100 · free 156", svg)
+        self.assertIn("segments 1 · pages 100 (0.4 MB) · free 156 (0.6 MB)", svg)
 
-    def test_a_page(self):
-        trace = self.region(*self.REQUESTS)
-        self.draw("--trace", trace, "--output", self.path("a.html"), "--", "super", "+MMscs", "1")
+    def test_a_page_has_all_calls(self):
+        words = "--output", self.path("a.html"), "--svg", self.path("a.svg"), "--at", "1"
+        self.draw("--trace", self.region(*self.REQUESTS), *words, "--", "super", "+MMscs", "1")
         self.assertIn('<main data-calls="6" data-segments="2"><svg ', self.read("a.html"))
+        self.assertIn('data-calls="1" data-segments="1"', self.read("a.svg"))
+
+    def test_too_many_calls(self):
+        """Of 20002 calls the first 20000 are drawn: each other one takes a segment, and the legend shows one more."""
+        trace = self.region(*(line for name in range(1, 10002) for line in (f"take {name} 1", f"back {name}")))
+        said = f"{trace}: 20002 calls are more than 20000; --svg and --at K draw the first"
+        self.refused(said, "--trace", trace, "--output", self.path("a.html"))
+        self.draw("--trace", trace, "--svg", self.path("a.svg"), "--at", "20000")
+        self.assertEqual(self.read("a.svg").count('class="segment" '), 10000 + 1)
 
     def test_what_is_refused(self):
         trace = self.region("take 1 1")
         words = "--trace", trace, "--svg", self.path("a.svg")
-        self.refused(f"{trace}: there are moments 0 to 1, and no 2", *words, "--at", "2")
+        for moment in "2", "-1":
+            self.refused(f"{trace}: there are moments 0 to 1, and no {moment}", *words, "--at", moment)
         self.refused(f"{trace}: there is no type H", *words, "--type", "H")
-        self.refused("the words after --: word 2: unknown flag", *words, "--", "super", "+MHasbf", "1",
-                     expected="a value as a word of its own: +MHas bf")
+        self.refused("the words after --: word 2: unknown flag", *words, "--", "super", "+MHfoo", "1",
+                     expected="a flag; near it are +MHt +MHe")
+        self.refused(f"{trace}: line 1: syntax", "--trace", trace, "--histograms", self.path("a.svg"),
+                     expected="`type X` first, of B D E H L R S T")
         trace = self.region("take 1 0")
-        self.refused(f"{trace}: line 3: syntax", *words, expected="docs/FORMATS.md says what a line may be")
+        expected = "`take NAME PAGES`, NAME 1 to 1048576, PAGES 1 to 131072"
+        self.refused(f"{trace}: line 3: syntax", *words, expected=expected)
         self.assertNotIn("a.svg", os.listdir(self.folder))
 
 
@@ -561,7 +575,7 @@ class Histograms(Case):
         self.draw(*self.example("gaps-by-strategy.aoff"), "--histograms", svg)
         bars = re.findall(r'class="(blocks|gaps)"[^>]*><title>(.*?)</title>', self.read("a.svg"))
         self.assertEqual(bars[: len(bars) // 2], [
-            ("blocks", "2 blocks of below 16 units"), ("blocks", "1 block of 32 to 63 units"),
+            ("blocks", "2 blocks of fewer than 16 units"), ("blocks", "1 block of 32 to 63 units"),
             ("blocks", "1 block of 256 to 511 units"), ("gaps", "1 gap of 64 to 127 units"),
             ("gaps", "1 gap of 256 to 511 units"), ("gaps", "1 gap of 16384 to 32767 units")])
         self.assertEqual(bars[: len(bars) // 2], bars[len(bars) // 2 :])
@@ -692,7 +706,8 @@ class Refusals(Case):
 
     def test_words(self):
         trace = self.trace("idle")
-        for words in ((), ("--output", trace), ("--output", "x", "--at", "1"), ("--svg", "x", "--output", "x")):
+        same = ("--svg", "x", "--output", "x"), ("--svg", "x", "--histograms", "x"), ("--histograms", trace)
+        for words in ((), ("--output", trace), ("--output", "x", "--at", "1"), *same):
             ran = self.run_tool("--trace", trace, *words)
             self.assertEqual((ran.returncode, ran.stdout), (2, ""))
             self.assertNotIn("Traceback", ran.stderr)
