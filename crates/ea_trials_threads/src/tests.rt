@@ -85,9 +85,7 @@ fn each_scheduler_is_at_its_second_step_while_the_other_is(rt: HostRuntime) -> R
 }
 
 #[test]
-fn schedulers_of_two_types_are_at_their_second_step_beside_each_other(
-    rt: HostRuntime,
-) -> Result<(), Fail> {
+fn schedulers_of_two_types_meet(rt: HostRuntime) -> Result<(), Fail> {
     let alloc = rt.alloc();
     let mut words = Vec::new(alloc);
     for word in ["+S", "2", "+MHacul", "0", "+MBacul", "0"] {
