@@ -35,4 +35,4 @@ unfolding unused_from answer effect after step_at
 fetched-placed = fetched-placement gaps_setup _ 1 3 (place 1 8 18)
     (record { name = 3; need = 14; old = None }) 1 (Own 1) (word.Pooled 1 32728)
     (carrier_with (usual 2 26 ∷ [])) (record { carrier = 1; offset = 8 }) (omega arith)
-    fetched-asked refl refl refl refl fetched-first refl refl refl refl
+    fetched-asked refl refl refl refl fetched-first refl refl refl refl refl

@@ -1,8 +1,8 @@
 -- A worked placement, from what is computed of the run.
 use Rattle.std.proofs.Common.{◌≡◌, ◌≤◌, ◌<◌, ℕ, true, List, [], ◌∷◌, ◌++◌, None, Some, Ok, refl}
 use Rattle.std.proofs.Common.{sym, ap, ◌∙◌, inl, inr, arith}
-use Rattle.std.specs.Prelude.{◌==◌, count_by, length}
-use Rattle.ea_model.proofs.Options.{same-some}
+use Rattle.std.specs.Prelude.{◌==◌, IsSome, count_by, length}
+use Rattle.ea_model.proofs.Options.{same-some, some_value}
 use Rattle.ea_model.specs.declared.carriers.CarrierPlan.{CarrierPlan}
 use Rattle.ea_model.specs.declared.carriers.Place.{Place}
 use Rattle.ea_model.specs.declared.carriers.Spot.{Spot}
@@ -20,6 +20,7 @@ use Rattle.ea_machine.specs.declared.asks.Ask.{Ask}
 use Rattle.ea_sound.specs.Chosen.{ByItself, Created, Fetched, HasAsked, IsPlacement}
 use Rattle.ea_model.specs.Employment.{employing}
 use Rattle.ea_machine.specs.Machine.{run}
+use Rattle.ea_machine.specs.Nodes.{named_at}
 use Rattle.ea_sound.specs.Needs.{AsksFor}
 use Rattle.ea_sound.specs.Released.{blocks_at}
 use Rattle.ea_machine.specs.Rows.{Won}
@@ -92,9 +93,10 @@ pub fetched-placement : (setup : Setup) (turns : List ℕ) (s name : ℕ) (place
     → spot.carrier ≡ at
     → place_at (employing (actor_after setup turns s).instance x) spot ask.need ≡ place
     → blocks_at setup name place (run setup (turns ++ s ∷ [])) ≡ 1
+    → IsSome (named_at name (actor_after setup (turns ++ s ∷ []) s).held)
     → IsPlacement setup turns s name place
 fetched-placement setup turns s name place ask at part seen x spot small asks stage none won of
-    first chosen there is lies =
+    first chosen there is lies held =
     record {
       before = turns;
       since = [];
@@ -126,6 +128,7 @@ fetched-placement setup turns s name place ask at part seen x spot small asks st
         },
       );
       there = omega (arith, lies);
+      holds = some_value (named_at name (actor_after setup (turns ++ s ∷ []) s).held) held;
     }
 
 -- a block is placed in a carrier that was created, and its entry made in a later step
@@ -143,9 +146,10 @@ pub created-placement : (setup : Setup) (turns : List ℕ) (s name : ℕ) (place
     → chosen_spot (creating (actor_after setup before s).instance p) ask.need ≡ Some spot
     → place_at (creating (actor_after setup before s).instance p) spot ask.need ≡ place
     → blocks_at setup name place (run setup (before ++ s ∷ [])) ≡ 1
+    → IsSome (named_at name (actor_after setup (before ++ s ∷ []) s).held)
     → IsPlacement setup turns s name place
 created-placement setup turns s name place before since log ask p spot split then now on small asks
-    stage planned none chosen is lies = record {
+    stage planned none chosen is lies held = record {
       before = before;
       since = since;
       split = split;
@@ -164,6 +168,7 @@ created-placement setup turns s name place before since log ask p spot split the
         },
       );
       there = omega (arith, lies);
+      holds = some_value (named_at name (actor_after setup (before ++ s ∷ []) s).held) held;
     }
 
 -- a large block is placed in a carrier of its own, and its entry made in the same step
@@ -175,8 +180,9 @@ pub single-placement : (setup : Setup) (turns : List ℕ) (s name : ℕ) (ask : 
     → plan (actor_after setup turns s).instance ask.need ≡ Ok p
     → p.single ≡ true
     → blocks_at setup name (single_place p ask.need) (run setup (turns ++ s ∷ [])) ≡ 1
+    → IsSome (named_at name (actor_after setup (turns ++ s ∷ []) s).held)
     → IsPlacement setup turns s name (single_place p ask.need)
-single-placement setup turns s name ask p on large asks stage planned single lies = record {
+single-placement setup turns s name ask p on large asks stage planned single lies held = record {
   before = turns;
   since = [];
   split = refl;
@@ -194,4 +200,5 @@ single-placement setup turns s name ask p on large asks stage planned single lie
     },
   );
   there = omega (arith, lies);
+  holds = some_value (named_at name (actor_after setup (turns ++ s ∷ []) s).held) held;
 }

@@ -78,14 +78,14 @@ returns-clause-in_a_new_carrier c = under-setup
     (asked moving_setup _ (turns (codes "1*2054 2*2050")) (turns (codes "1*2051")) 1 26
     (entry.Alloc 1 (place 1 8 14) ∷ entry.Alloc 2 (place 1 22 14) ∷ entry.Free 1 ∷ []) _ refl refl
     (refl, refl) refl refl) refl refl refl refl
-    refl refl)
+    refl refl refl)
 
 pub returns-clause-in_a_carrier_of_its_own : goal.returns-clause-in_a_carrier_of_its_own
 unfolding unused_from answer effect after step_at
 returns-clause-in_a_carrier_of_its_own c = single-placement _ _ _ _
     (record { name = 1; need = 75002; old = None })
     (record { number = 1; base = 0; pages = 147; birth = 1; single = true }) refl (omega arith)
-    (asked _ _ [] (1 ∷ []) 1 75002 [] _ refl refl refl refl refl) refl refl refl refl
+    (asked _ _ [] (1 ∷ []) 1 75002 [] _ refl refl refl refl refl) refl refl refl refl refl
 
 -- the block that scheduler 2 frees
 taken-held : HasHeld handed_setup (turns (codes "1*3 2*5") ++ 2 ∷ []) 2 1 (named 1 8)
