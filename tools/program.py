@@ -43,9 +43,10 @@ def command_of(lines):
 
 # Runs
 
-# Those that are under way, of this process.
+# Those that are under way, of this process, and whether they were to end: a run that begins after that ends at once.
 RUNNING = set()
 LOCK = threading.Lock()
+IS_OVER = threading.Event()
 
 
 class Ended(Exception):
@@ -58,6 +59,8 @@ def run(words, data, seconds=None):
     with subprocess.Popen(words, **how) as child:
         with LOCK:
             RUNNING.add(child)
+        if IS_OVER.is_set():
+            kill(child)
         try:
             text, said = child.communicate(data, timeout=seconds)
         except subprocess.TimeoutExpired:
@@ -77,7 +80,8 @@ def kill(child):
 
 
 def end_runs():
-    """Ends the runs of this process at once."""
+    """Ends the runs of this process at once, also one that is just beginning."""
+    IS_OVER.set()
     for child in [*RUNNING]:
         kill(child)
 
