@@ -2,25 +2,19 @@
 ghost use Rattle.std.specs.Prelude.{◌≡◌};
 ghost use Rattle.ea_flags.specs.Refusals.{message_of, word_of};
 
-use thiserror::Error;
 
 /// Why words are refused. Words are numbered from 1.
-#[derive(Debug, Clone, Copy, PartialEq, Eq, Error)]
+#[derive(Debug, Clone, Copy, PartialEq, Eq)]
 pub enum FlagFault {
     /// This word stands where a flag is due, and is none.
-    #[error("word {word}: {}", self.message())]
     Unknown { word: u32 },
     /// This word is a flag, and the last word.
-    #[error("word {word}: {}", self.message())]
     NoValue { word: u32 },
     /// This word is no value of the flag before it.
-    #[error("word {word}: {}", self.message())]
     BadValue { word: u32 },
     /// This word is a flag of the runtime that isn't simulated, or not with the value after it.
-    #[error("word {word}: {}", self.message())]
     Unsupported { word: u32 },
     /// The main carrier of an allocator has more pages than an instance's region.
-    #[error("{}", self.message())]
     SpaceTooSmall,
 }
 

@@ -10,19 +10,15 @@ ghost use Rattle.ea_io.specs.declared.reading.ReadAllFault.TheVariants.{OutOfMem
 use crate::ends::Source;
 use ea_model::{List, OutOfMemory as NoMemory};
 use std::alloc::{AllocError, Global};
-use thiserror::Error;
 
 /// Why a source was not read to its end.
-#[derive(Debug, Drop, Error)]
+#[derive(Debug, Drop)]
 pub enum ReadAllFault {
     /// A read failed: the source's count of faults rose.
-    #[error("{}", self.message())]
     ReadFault,
     /// The source gave one byte more than the limit.
-    #[error("{}", self.message())]
     TooLong,
     /// There was no memory for the bytes.
-    #[error("{}", self.message())]
     OutOfMemory,
 }
 

@@ -13,8 +13,8 @@ use std::alloc::Global;
 /// For how many carriers there is room once one was made.
 const ROOM: usize = 16;
 
-/// Carriers that were deallocated: the next one with as many units as one of them is made of that
-/// one, and needs no memory of its own. They have no blocks, and together `most` units at most.
+/// Carriers that were deallocated, of which the next ones may be made. They have no blocks, and
+/// together `most` units at most. Which of them are kept is no promise.
 #[derive(Drop)]
 pub struct Spare {
     most: u32,
@@ -61,7 +61,7 @@ fn put_first(carrier: Mbc, carriers: &mut Vec<Mbc>)
 }
 
 impl Spare {
-    /// No carriers. It takes no memory.
+    /// No carriers.
     pub fn new(alloc: Global, most: u32) -> Spare {
         Spare {
             most,
@@ -80,9 +80,8 @@ impl Spare {
             || units > self.most - units_of(&self.carriers)
     }
 
-    /// Keeps a carrier that is deallocated. Where that is too much, those that have been kept for
-    /// longest are dropped. One that has blocks, or more units than all may have, is itself
-    /// dropped.
+    /// Takes a carrier that is deallocated: it is kept, in place of those that have been kept for
+    /// longest, or dropped.
     pub fn keep(&mut self, carrier: Mbc) {
         if !carrier.is_empty() {
             return;
@@ -106,8 +105,8 @@ impl Spare {
         Some(self.carriers.remove(place))
     }
 
-    /// The multiblock carrier of a plan, as `Mbc::new` makes it. It takes no memory where one with
-    /// as many units was kept.
+    /// The multiblock carrier of a plan, as `Mbc::new` makes it, of one with as many units that was
+    /// kept, or of new memory.
     pub fn carrier(
         &mut self,
         alloc: Global,

@@ -5,37 +5,28 @@ ghost use Rattle.ea_trace.specs.declared.fault.TraceFault.TheVariants as fault;
 
 use ea_model::OutOfMemory;
 use std::alloc::AllocError;
-use thiserror::Error;
 
 /// Why a text is no trace. Lines count from 1. The first refused line decides; of one line the
 /// first of `Syntax`, `BadScheduler`, `TooMany`, `NameReused` and `NotHeld` that holds.
-#[derive(Debug, Clone, Copy, PartialEq, Eq, Error)]
+#[derive(Debug, Clone, Copy, PartialEq, Eq)]
 pub enum TraceFault {
     /// The line isn't one that may stand there, or is malformed, or a number that isn't a
     /// scheduler's is out of its range.
-    #[error("line {line}: {}", self.message())]
     Syntax { line: u32 },
     /// The line begins another section than the next due, names a scheduler that isn't there, or
     /// ends the sections too early.
-    #[error("line {line}: {}", self.message())]
     BadScheduler { line: u32 },
     /// The line makes a name that an earlier line made, or gives a name that an earlier line gave.
-    #[error("line {line}: {}", self.message())]
     NameReused { line: u32 },
     /// The line needs a name that no earlier line of its section made or took.
-    #[error("line {line}: {}", self.message())]
     NotHeld { line: u32 },
     /// No line gives the name that the line takes to its scheduler.
-    #[error("line {line}: {}", self.message())]
     NotAddressed { line: u32 },
     /// With this line the operations, the tries or the turns are more than a trace may have.
-    #[error("line {line}: {}", self.message())]
     TooMany { line: u32 },
     /// The text ends before an `end` line.
-    #[error("{}", self.message())]
     NoEnd,
     /// There was no memory.
-    #[error("{}", self.message())]
     OutOfMemory,
 }
 
