@@ -136,6 +136,8 @@ pub mod Queueing
 -- Each schedule ends.
 pub mod Ending
 pub mod Completing
+-- How many carriers an instance creates.
+pub mod CreationsLeft
 -- All together.
 pub mod Protocols
 -- For threads.
@@ -169,6 +171,7 @@ pub mod Paths
 pub mod Freed
 pub mod Walked
 pub mod Creations
+pub mod FewCreated
 pub mod PresentCarriers
 pub mod PresentContents
 pub mod PresentPlaces

@@ -25,6 +25,8 @@ pub mod Entries
 -- Rows: their guards, and answers that never come.
 pub mod Guarded
 pub mod Heard
+-- How many carriers are created.
+pub mod FewCreated
 -- What holds of each run.
 pub mod MachineLaws
 -- The rule that each step keeps, and the middle of a step.

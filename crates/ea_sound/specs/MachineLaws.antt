@@ -19,6 +19,7 @@ use Rattle.ea_sound.specs.Released.{FailedHaveNone, KeepsPlaces, ReleasesOnce, S
 use Rattle.ea_sound.specs.Exhausted.{FailsIfExhausted}
 use Rattle.ea_sound.specs.Entries.{EntersOne, LogsEach, QueuesIfSeen, SkipsUnheld}
 use Rattle.ea_sound.specs.Fetches.{FetchesFit}
+use Rattle.ea_sound.specs.FewCreated.{CreatesFew}
 use Rattle.ea_sound.specs.Guarded.{IsGuarded}
 use Rattle.ea_sound.specs.Heard.{FindsOwn, HearsNoOther}
 
@@ -49,9 +50,10 @@ abbrev pub AllComeToRest : Setup → Type 0
 AllComeToRest setup = (turns : List ℕ) (s : ℕ) → Rests setup (complete setup turns) s
 
 -- each moment is sound, and what is printed of it are the sums of soundness; no scheduler does a
--- row that it may not do, and some answers never come; a carrier that is fetched fits; each
--- operation makes one entry, of its own kind, which tells how it came about: placements are chosen,
--- and fails are exhausted; where no place is found an operation fails, where its name isn't held it
+-- row that it may not do, and some answers never come; a carrier that is fetched fits, and an
+-- instance creates no more carriers than operations began, beside its main carrier; each operation
+-- makes one entry, of its own kind, which tells how it came about: placements are chosen, and fails
+-- are exhausted; where no place is found an operation fails, where its name isn't held it
 -- is skipped, and where another employer is seen its block is queued to that; no name is released
 -- twice, one that failed has no block, and both stay so; a block keeps its place and its units,
 -- wherever its carrier goes; blocks of two names lie apart, a name that nobody is still to make has
@@ -64,6 +66,7 @@ pub record Protocol (setup : Setup) : Type 0 where
   pub hears : AtEachMoment HearsNoOther setup
   pub finds : AtEachMoment FindsOwn setup
   pub fetches : AtEachMoment FetchesFit setup
+  pub creates : AtEachMoment CreatesFew setup
   pub logs : AtEachMoment LogEach setup
   pub enters : EntersOne setup
   pub fails : FailsIfExhausted setup
