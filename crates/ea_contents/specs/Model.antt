@@ -17,17 +17,11 @@ use Rattle.ea_machine.specs.State.{State}
 use Rattle.ea_sound.specs.Over.{units_named}
 use Rattle.ea_contents.specs.declared.access.Access.{Access}
 use Rattle.ea_contents.specs.declared.access.Access.TheVariants.{Read, Write}
+use Rattle.ea_contents.specs.declared.access.AccessEntry.{AccessEntry}
+use Rattle.ea_contents.specs.declared.access.AccessEntry.TheVariants.{Found, ReadOutside, ReadSkipped}
+use Rattle.ea_contents.specs.declared.access.AccessEntry.TheVariants.{WriteOutside, WriteSkipped, Wrote}
 use Rattle.ea_contents.specs.declared.access.Making.{Making}
 use Rattle.ea_contents.specs.Memory.{fitted}
-
--- what a write or a read prints
-pub data Line : Type 0 where
-  Wrote : (name index : ℕ) → Line
-  Found : (name index value : ℕ) → Line
-  WriteOutside : (name index : ℕ) → Line
-  ReadOutside : (name index : ℕ) → Line
-  WriteSkipped : (name : ℕ) → Line
-  ReadSkipped : (name : ℕ) → Line
 
 -- the name that an operation makes, with the name whose words it takes over, if there is one
 abbrev pub making_by : Op → Option Making
@@ -91,7 +85,7 @@ pub record Moment : Type 0 where
   pub state : State
   pub lists : ℕ → List ℕ
   pub past : ℕ → ℕ
-  pub shown : ℕ → List Line
+  pub shown : ℕ → List AccessEntry
 
 abbrev pub opening : Setup → Moment
 opening setup = record {

@@ -7,12 +7,13 @@ use Rattle.ea_machine.specs.Completion.{turns_in}
 use Rattle.ea_machine.specs.Setup.{Setup, setup_of}
 use Rattle.ea_report.specs.Text.{line, outcome_text}
 use Rattle.ea_contents.specs.Language.{Request}
-use Rattle.ea_contents.specs.Model.{Line, Found, Moment}
-use Rattle.ea_contents.specs.Model.{ReadOutside, ReadSkipped, Script, WriteOutside}
-use Rattle.ea_contents.specs.Model.{WriteSkipped, Wrote, complete, opening, play, steps_in}
+use Rattle.ea_contents.specs.Model.{Moment, Script, complete, opening, play, steps_in}
+use Rattle.ea_contents.specs.declared.access.AccessEntry.{AccessEntry}
+use Rattle.ea_contents.specs.declared.access.AccessEntry.TheVariants.{Found, ReadOutside, ReadSkipped}
+use Rattle.ea_contents.specs.declared.access.AccessEntry.TheVariants.{WriteOutside, WriteSkipped, Wrote}
 
 -- the line of a write or a read
-abbrev pub line_text : Line → List ℕ
+abbrev pub line_text : AccessEntry → List ℕ
 line_text (Wrote name index) =
     line (codes "write") (decimal name ∷ decimal index ∷ codes "done" ∷ [])
 line_text (Found name index value) =

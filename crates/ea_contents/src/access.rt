@@ -15,3 +15,20 @@ pub struct Making {
     pub fresh: u32,
     pub source: Option<u32>,
 }
+
+/// What came of a write or a read.
+#[derive(Debug, Clone, Copy, PartialEq, Eq)]
+pub enum AccessEntry {
+    /// The word became the value.
+    Wrote { name: u32, index: u32 },
+    /// The word was this value.
+    Found { name: u32, index: u32, value: u32 },
+    /// The block has no word with that index.
+    WriteOutside { name: u32, index: u32 },
+    /// The block has no word with that index.
+    ReadOutside { name: u32, index: u32 },
+    /// The scheduler doesn't hold the name.
+    WriteSkipped { name: u32 },
+    /// The scheduler doesn't hold the name.
+    ReadSkipped { name: u32 },
+}

@@ -10,11 +10,13 @@
 #![tactic(auto)]
 
 mod access;
+mod input;
 mod laws;
 mod memory;
 #[cfg(test)]
 mod tests;
 
-pub use access::{Access, Making};
+pub use access::{Access, AccessEntry, Making};
+pub use input::{ContentsInput, Placed};
 pub use laws::agreement;
 pub use memory::{Extent, Memory};

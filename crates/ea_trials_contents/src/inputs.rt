@@ -1,7 +1,8 @@
 //! Whole inputs with writes and reads.
 ghost use Rattle.std.specs.Prelude.{◌≡◌, ◌++◌, [], ◌∷◌, Some, codes, flat_map};
 ghost use Rattle.ea_trace.specs.declared.fault.TraceFault.TheVariants.{NotHeld, Syntax};
-ghost use Rattle.ea_contents.specs.Model.{Found, ReadSkipped, WriteOutside, Wrote};
+ghost use Rattle.ea_contents.specs.declared.access.AccessEntry.TheVariants.{Found, ReadSkipped};
+ghost use Rattle.ea_contents.specs.declared.access.AccessEntry.TheVariants.{WriteOutside, Wrote};
 ghost use Rattle.ea_contents.specs.Text.{line_text};
 ghost use Rattle.ea_contents.specs.declared.access.Access.TheVariants.{Read, Write};
 ghost use Rattle.ea_trials_contents.specs.Inputs.{moving_accesses, of_no_name, of_no_trace};
