@@ -99,6 +99,7 @@ pub mod SteadyRoutes
 pub mod SteadyWork
 pub mod Steadying
 pub mod Guarding
+pub mod Grounding
 pub mod KeptLists
 pub mod ListPlaces
 pub mod ListMoves

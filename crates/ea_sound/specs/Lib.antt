@@ -24,6 +24,7 @@ pub mod Made
 pub mod Entries
 -- Rows: their guards, and answers that never come.
 pub mod Guarded
+pub mod Grounded
 pub mod Heard
 -- How many carriers are created.
 pub mod FewCreated

@@ -20,6 +20,7 @@ use Rattle.ea_sound.specs.Exhausted.{FailsIfExhausted}
 use Rattle.ea_sound.specs.Entries.{EntersOne, LogsEach, QueuesIfSeen, SkipsUnheld}
 use Rattle.ea_sound.specs.Fetches.{FetchesFit}
 use Rattle.ea_sound.specs.FewCreated.{CreatesFew}
+use Rattle.ea_sound.specs.Grounded.{AreGrounded}
 use Rattle.ea_sound.specs.Guarded.{IsGuarded}
 use Rattle.ea_sound.specs.Heard.{FindsOwn, HearsNoOther}
 
@@ -50,19 +51,21 @@ abbrev pub AllComeToRest : Setup → Type 0
 AllComeToRest setup = (turns : List ℕ) (s : ℕ) → Rests setup (complete setup turns) s
 
 -- each moment is sound, and what is printed of it are the sums of soundness; no scheduler does a
--- row that it may not do, and some answers never come; a carrier that is fetched fits, and an
--- instance creates no more carriers than operations began, beside its main carrier; each operation
--- makes one entry, of its own kind, which tells how it came about: placements are chosen, and fails
--- are exhausted; where no place is found an operation fails, where its name isn't held it
--- is skipped, and where another employer is seen its block is queued to that; no name is released
--- twice, one that failed has no block, and both stay so; a block keeps its place and its units,
--- wherever its carrier goes; blocks of two names lie apart, a name that nobody is still to make has
--- the units that it had, and one that gets a block is made by the scheduler whose step it was; who is
--- stopped takes no step, in a completed schedule neither; and after that all have ended or are stopped
+-- row that it may not do, and its last step was as the guard says; some answers never come; a carrier
+-- that is fetched fits, and an instance creates no more carriers than operations began, beside its
+-- main carrier; each operation makes one entry, of its own kind, which tells how it came about:
+-- placements are chosen, and fails are exhausted; where no place is found an operation fails, where
+-- its name isn't held it is skipped, and where another employer is seen its block is queued to that;
+-- no name is released twice, one that failed has no block, and both stay so; a block keeps its place
+-- and its units, wherever its carrier goes; blocks of two names lie apart, a name that nobody is
+-- still to make has the units that it had, and one that gets a block is made by the scheduler whose
+-- step it was; who is stopped takes no step, in a completed schedule neither; and after that all have
+-- ended or are stopped
 pub record Protocol (setup : Setup) : Type 0 where
   pub sound : AtEachMoment Sound setup
   pub prints : AtEachMoment PrintsSums setup
   pub guarded : AtEachMoment IsGuarded setup
+  pub grounded : AreGrounded setup
   pub hears : AtEachMoment HearsNoOther setup
   pub finds : AtEachMoment FindsOwn setup
   pub fetches : AtEachMoment FetchesFit setup

@@ -8,8 +8,9 @@
 //!   `Contents`, `Names`, `NodePlaces`, `Places`, `NamePlaces`, `Listed`, `Ranges` and `Units`.
 //! - `Entries` is what each entry of a log tells of the turns before it, with `Turns`, `Needs`,
 //!   `Searches`, `Fetches`, `Exhausted`, `Chosen`, `HandedOver` and `Released`.
-//! - `Guarded` says that no scheduler does a row that it may not do, `Heard` which answers never
-//!   come, `FewCreated` how many carriers are created.
+//! - `Guarded` says that no scheduler does a row that it may not do, `Grounded` what its last step
+//!   was where a guard speaks of that, `Heard` which answers never come, `FewCreated` how many
+//!   carriers are created.
 //! - `MachineLaws` puts them together: `Protocol` is what holds of each run.
 //!
 //! The proof goes by a rule that each step keeps. `Rule` has what is kept whatever a scheduler is
