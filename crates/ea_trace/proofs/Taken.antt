@@ -1,10 +1,12 @@
 -- A reader that takes one line more.
 use Rattle.std.proofs.Common.{◌≡◌, ℕ, ◌+◌, [], ◌∷◌, ◌++◌, Option, Some, None, Err}
 use Rattle.std.proofs.Common.{false, is_some}
-use Rattle.std.proofs.Common.{length, refl, sym, ap, subst, ◌∙◌, append_assoc, append-nil}
+use Rattle.std.proofs.Common.{length, map, reverse, refl, sym, ap, subst, ◌∙◌, append_assoc, append-nil}
 use Rattle.std.proofs.Common.{length-append, arith}
 use Rattle.ea_trace.specs.Knows.{Judged}
-use Rattle.ea_trace.specs.Language.{Answer, Gives, LineWords, WordLines, at_end}
+use Rattle.std.proofs.lemmas.List.{map-append, reverse-append}
+use Rattle.ea_trace.specs.Between.{earlier_of}
+use Rattle.ea_trace.specs.Language.{Answer, Earlier, Gives, LineWords, WordLines, at_end}
 use Rattle.ea_trace.specs.Language.{letter_after, mode_after, refusal}
 use Rattle.ea_trace.specs.Language.{stage_after, trace_of}
 use Rattle.ea_trace.specs.Lines.{Said, line_of_words}
@@ -19,6 +21,18 @@ use Rattle.ea_trace.proofs.Reading.{turns_more}
 pub one_more : (before : WordLines) (words : LineWords) (k : ℕ) → k ≡ length before
     → k + 1 ≡ length (before ++ words ∷ [])
 one_more before words k e = omega (arith, length-append before (words ∷ []))
+
+-- what one more line says
+pub earlier_more : (before : WordLines) (words : LineWords)
+    → line_of_words words ∷ earlier_of before ≡ earlier_of (before ++ words ∷ [])
+earlier_more before words = sym (ap reverse (map-append line_of_words before (words ∷ []))
+    ∙ reverse-append (map line_of_words before) (line_of_words words ∷ []))
+
+-- the same of a line that is read
+pub said_more : (before : WordLines) (words : LineWords) (line : Said) (earlier : Earlier)
+    → line ≡ line_of_words words → earlier ≡ earlier_of before
+    → line ∷ earlier ≡ earlier_of (before ++ words ∷ [])
+said_more before words line earlier e said = rw (e, said) (earlier_more before words)
 
 -- a line that comes later is taken
 pub moved : (n : ℕ) (before : WordLines) (words : LineWords) (later : WordLines)
@@ -52,6 +66,7 @@ decided n before words r s line None t e j a =
     let none : refusal n t.earlier line ≡ None = sym j.refused in
     record {
       earlier = line ∷ t.earlier;
+      said = said_more before words line t.earlier e t.said;
       known = j.known;
       turns = turns_more n t.earlier line s.turns.items none
           (subst (λ old. Adds old line s.turns.items) t.turns a);

@@ -1,5 +1,7 @@
 -- What a reader has taken.
-use Rattle.std.specs.Prelude.{◌≡◌, ℕ, ◌++◌, Option, Some, None, Err, length, map}
+use Rattle.std.specs.Prelude.{◌≡◌, ℕ, ◌++◌, Option, Some, None, Ok, Err, length, map}
+use Rattle.ea_model.specs.declared.trace.Trace.{Trace}
+use Rattle.ea_trace.specs.Between.{earlier_of}
 use Rattle.ea_trace.specs.Knows.{Knows}
 use Rattle.ea_trace.specs.Language.{Earlier, WordLines, read_after, trace_of, turns_after}
 use Rattle.ea_trace.specs.Lines.{line_of_words}
@@ -15,6 +17,7 @@ pub record Tells (n : ℕ) (lines : WordLines) (r : TraceReader) : Type 0 where
   pub earlier : Earlier
   pub known : Knows n earlier r.seen
   pub turns : r.turns.items ≡ turns_after earlier
+  pub said : earlier ≡ earlier_of lines
   pub count : length earlier ≡ length lines
   pub later : (later : WordLines)
       → trace_of n (lines ++ later) ≡ read_after n earlier (map line_of_words later)
@@ -28,3 +31,8 @@ Decides n lines r (Some f) = (later : WordLines) → trace_of n (lines ++ later)
 pub record HasTaken (n : ℕ) (lines : WordLines) (r : TraceReader) : Type 0 where
   pub count : lines_taken r ≡ length lines
   pub decides : Decides n lines r r.refused
+
+-- it is so of n and the lines that were taken, where they and some later ones are a trace
+abbrev pub WithinTrace : (ℕ → Earlier → Type 0) → TraceReader → Type 0
+WithinTrace P r = (n : ℕ) (lines later : WordLines) (t : Trace) → HasTaken n lines r
+    → trace_of n (lines ++ later) ≡ Ok t → P n (earlier_of lines)

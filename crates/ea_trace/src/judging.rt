@@ -34,7 +34,7 @@ fn is_stopped(stops: &[Stop], number: u32) -> bool
 }
 
 /// Whether there are no stops.
-fn has_none(stops: &[Stop]) -> bool
+pub fn has_none(stops: &[Stop]) -> bool
     ensures { result ≡ no_stops stops.now }
 {
     stops.is_empty()

@@ -1,15 +1,19 @@
 //! Reads a trace line by line.
 ghost use Rattle.std.specs.Prelude.{◌≡◌, ◌+◌, ◌<◌, ◌≤◌, ◌^◌, ◌++◌, ◌∷◌, [], ℕ, length, IfOk, OnOk};
 ghost use Rattle.ea_model.specs.Trace.{IsValidTrace};
-ghost use Rattle.ea_model.specs.declared.units.TheConstants.{MAX_SCHEDULERS};
-ghost use Rattle.ea_trace.specs.Language.{Gives, LineWords, WordLines, trace, trace_of};
+ghost use Rattle.ea_model.specs.declared.units.TheConstants.{MAX_NAME, MAX_SCHEDULERS};
+ghost use Rattle.ea_trace.specs.Between as between;
+ghost use Rattle.ea_trace.specs.Language.{Gives, LineWords, WordLines, is_held, section_operations};
+ghost use Rattle.ea_trace.specs.Language.{sections, trace, trace_of};
 ghost use Rattle.ea_trace.specs.Lines.{line_of_words};
 ghost use Rattle.ea_trace.specs.Ranges.{InRange};
 ghost use Rattle.ea_trace.specs.Says.{said};
 
 use crate::fault::TraceFault;
+use crate::judging::has_none;
 use crate::lines::{Line, read_line};
 use crate::seen::Seen;
+use crate::stages::Stage;
 use crate::turns::read_turns;
 use ea_model::words::first_line;
 use ea_model::{List, OutOfMemory, Trace, Turns};
@@ -30,7 +34,7 @@ pub struct TraceReader {
 }
 
 impl TraceReader {
-    ghost use Rattle.ea_trace.specs.Taken.{HasTaken, lines_taken};
+    ghost use Rattle.ea_trace.specs.Taken.{HasTaken, WithinTrace, lines_taken};
 
     /// A reader for schedulers 1 to `schedulers`, `MAX_SCHEDULERS` at most, before the first line.
     pub fn new(alloc: Global, schedulers: u32) -> Result<TraceReader, AllocError>
@@ -61,6 +65,47 @@ impl TraceReader {
         let tally = read_turns(&mut self.turns, line, self.seen.schedulers)?;
         self.refused = self.seen.take(alloc, self.taken, line, tally)?;
         Ok(())
+    }
+
+    /// How many lines were taken.
+    pub fn len(&self) -> u32
+        ensures { result ≡ lines_taken self.now }
+    {
+        self.taken
+    }
+
+    /// Whether a line after those that were taken stands in the section of a scheduler, where an
+    /// operation may stand too. This and the answers below are so where no line was refused.
+    pub fn in_section(&self) -> bool
+        ensures { WithinTrace (λ n earlier. result ≡ between.in_section earlier) self.now }
+    {
+        matches!(self.seen.stage, Stage::Opening)
+            && self.seen.section > 0
+            && has_none(self.seen.stops.as_slice())
+    }
+
+    /// How many sections have begun; the number of the scheduler whose section was begun last.
+    pub fn section(&self) -> u32
+        ensures begun { WithinTrace (λ n earlier. result ≡ sections earlier) self.now }
+        ensures few { WithinTrace (λ n earlier. result ≤ n) self.now }
+    {
+        self.seen.section
+    }
+
+    /// How many operations the section that was begun last has.
+    pub fn operations(&self) -> usize
+        ensures { WithinTrace (λ n earlier. result ≡ length (section_operations earlier)) self.now }
+    {
+        self.seen.text.len()
+    }
+
+    /// Whether a line of the section that was begun last made the name or took it.
+    pub fn holds(&self, name: u32) -> bool
+        requires { name ≤ MAX_NAME }
+        ensures { WithinTrace (λ n earlier. 0 < sections earlier → result ≡ is_held name earlier)
+            self.now }
+    {
+        self.seen.section > 0 && self.seen.names.is_held(name, self.seen.section)
     }
 
     /// The trace that the lines are, or its first refusal.
