@@ -10,5 +10,6 @@ mod summary;
 mod tests;
 mod text;
 
+pub use lines::{Word, put_line};
 pub use summary::print_summary;
 pub use text::{print, put_outcome};
