@@ -37,10 +37,10 @@ use Rattle.ea_sound.proofs.TurnLists.{by-turns, on-from, run-snoc}
 use Rattle.ea_sound.proofs.Weights.{sum-append}
 
 -- an entry that says that a name was made, or that it wasn't, is of an operation that makes it
-made-makes : (n : ℕ) (o : Op) (x : Entry) → Makes o x → says_made n x ≡ true → makes n o ≡ true
+pub made-makes : (n : ℕ) (o : Op) (x : Entry) → Makes o x → says_made n x ≡ true → makes n o ≡ true
 made-makes n o x of said = grind (arith, of, said)
 
-failed-makes : (n : ℕ) (o : Op) (x : Entry) → Makes o x → says_failed n x ≡ true
+pub failed-makes : (n : ℕ) (o : Op) (x : Entry) → Makes o x → says_failed n x ≡ true
     → makes n o ≡ true
 failed-makes n o x of said = grind (arith, of, said)
 
@@ -60,12 +60,12 @@ done-makes n says of (o ∷ done) (x ∷ log) each said =
       by false is said others = omega (arith, others said)
 
 -- the names that are made beside others
-total-beside : {A B : Type 0} (f : A → ℕ) (g : B → ℕ) (m : ℕ → A) (o : ℕ → B) (d : ℕ → ℕ) (n : ℕ)
-    → ((i : ℕ) → f (m i) + d i ≤ g (o i)) → total n f m + total n (λ k. k) d ≤ total n g o
+pub total-beside : {A B : Type 0} (f : A → ℕ) (g : B → ℕ) (m : ℕ → A) (o : ℕ → B) (d : ℕ → ℕ)
+    (n : ℕ) → ((i : ℕ) → f (m i) + d i ≤ g (o i)) → total n f m + total n (λ k. k) d ≤ total n g o
 total-beside f g m o d zero less = omega arith
 total-beside f g m o d (suc n) less = omega (arith, less n, total-beside f g m o d n less)
 
-unplaced-fewer : (n : ℕ) (s : Stage Content) (ops : List Op)
+pub unplaced-fewer : (n : ℕ) (s : Stage Content) (ops : List Op)
     → made_in n (unplaced s ops) ≤ made_in n ops
 unplaced-fewer n (Routed r Walk gone) ops = omega arith
 unplaced-fewer n (Routed r (For (Freeing m)) gone) ops = omega arith
@@ -80,7 +80,7 @@ unplaced-fewer n (Taking m tries left) ops = omega arith
 unplaced-fewer n Ended ops = omega arith
 unplaced-fewer n Ready ops = omega arith
 
-first-unplaced : (e : Setup) (b : Bool) (ops : List Op) → unplaced (first_stage e b) ops ≡ ops
+pub first-unplaced : (e : Setup) (b : Bool) (ops : List Op) → unplaced (first_stage e b) ops ≡ ops
 first-unplaced e true ops = refl
 first-unplaced e false ops = refl
 
@@ -99,7 +99,7 @@ module _ (e : Setup) (rules : (L : List ℕ) → Rule e (run e L)) where
         (omega (arith, make-fades e rules n L (s ∷ []), made n L first.was)),
   )
 
-  texts-once : (n : ℕ) → total (seats e) (made_in n) e.texts ≤ 1
+  pub texts-once : (n : ℕ) → total (seats e) (made_in n) e.texts ≤ 1
   texts-once n = omega (
     arith,
     (rules []).present.later n,
@@ -109,7 +109,7 @@ module _ (e : Setup) (rules : (L : List ℕ) → Rule e (run e L)) where
   )
 
   -- who is no scheduler has no operations
-  nobody-texts : (i : ℕ) → is_scheduler e i ≡ false → e.texts i ≡ []
+  pub nobody-texts : (i : ℕ) → is_scheduler e i ≡ false → e.texts i ≡ []
   nobody-texts i none = subst (Fits e (run e []) i ((run e []).actors i))
       ((rules []).present.nobody i none).stage ((rules []).present.fits i)
 

@@ -132,6 +132,8 @@ pub mod ChronicleOperations
 pub mod ChronicleTurns
 pub mod Chronicled
 pub mod MadeNames
+pub mod MovingNames
+pub mod PlacedNames
 pub mod Failing
 pub mod Queueing
 -- Each schedule ends.

@@ -53,7 +53,7 @@ use Rattle.ea_sound.proofs.Totals.{put-here, total-part, total-put}
 use Rattle.ea_sound.proofs.TurnLists.{run-snoc, step-ended, step-is, step-mine}
 
 -- the first of the operations makes a name that none of the others makes
-first-makes : (name : ℕ) (ops : List Op) → 0 < made_in name ops → made_in name (later ops) ≡ 0
+pub first-makes : (name : ℕ) (ops : List Op) → 0 < made_in name ops → made_in name (later ops) ≡ 0
     → (o : Op) × (others : List Op) × (ops ≡ o ∷ others) × (makes name o ≡ true)
 first-makes name [] some none = absurd (omega (arith, some))
 first-makes name (o ∷ ops) some none = elim (cases_Bool (makes name o)) [
@@ -86,7 +86,7 @@ pub record IsMoving (st : Stage Content) : Type 0 where
   pub gone : Gone
   pub is : st ≡ Routed route (For (Moving old fresh place)) gone
 
-unplaced-or : (st : Stage Content) → ((ops : List Op) → unplaced st ops ≡ ops) ⊎ IsMoving st
+pub unplaced-or : (st : Stage Content) → ((ops : List Op) → unplaced st ops ≡ ops) ⊎ IsMoving st
 unplaced-or Begin = inl (λ ops. refl)
 unplaced-or (Routed r Walk g) = inl (λ ops. refl)
 unplaced-or (Routed r (For (Freeing n)) g) = inl (λ ops. refl)
@@ -111,6 +111,19 @@ unplaced-fewer name st ops = elim (unplaced-or st) [
     ap (λ s. made_in name (unplaced s ops)) m.is,
   )
 ]
+
+-- a name that is held has a block, so no operation is still to make it
+module _ (e : Setup) (rules : (L : List ℕ) → Rule e (run e L)) (name me : ℕ) (seat : me < seats e)
+  where
+    pub held-made : (M : List ℕ) → HoldsAfter e M me name → to_make e name (run e M) ≡ 0
+    held-made M h = elim (cases_zero (allocated e (only name) (run e M))) [
+      | inl none ↦ absurd (let never : None ≡ Some h.0 =
+          sym (not_held e (run e M) me seat (rules M).kept (actor_after e M me) refl name none)
+          ∙ h.1 in cc)
+      | inr some ↦ omega (arith, some, (rules M).present.later name)
+    ] where
+      cases_zero : (n : ℕ) → (n ≡ 0) ⊎ (0 < n)
+      cases_zero n = grind arith
 
 module _ (e : Setup) (rules : (L : List ℕ) → Rule e (run e L)) (name : ℕ) (L : List ℕ) (me : ℕ)
     (still : 0 < to_make e name (run e L))
@@ -160,17 +173,6 @@ module _ (e : Setup) (rules : (L : List ℕ) → Rule e (run e L)) (name : ℕ) 
         total-put share (run e L).actors me t.0 (seats e) seat,
       )
 
-  -- a name that was held had a block, so no operation was still to make it
-  held-made : (M : List ℕ) → HoldsAfter e M me name → to_make e name (run e M) ≡ 0
-  held-made M h = elim (cases_zero (allocated e (only name) (run e M))) [
-    | inl none ↦ absurd (let never : None ≡ Some h.0 =
-        sym (not_held e (run e M) me seat (rules M).kept (actor_after e M me) refl name none)
-        ∙ h.1 in cc)
-    | inr some ↦ omega (arith, some, (rules M).present.later name)
-  ] where
-    cases_zero : (n : ℕ) → (n ≡ 0) ⊎ (0 < n)
-    cases_zero n = grind arith
-
   -- so what was placed in this turn or before was placed in it
   placed-now : (before since : List ℕ) → turn ≡ before ++ me ∷ since
       → HoldsAfter e (before ++ me ∷ []) me name → HoldsAfter e turn me name
@@ -179,7 +181,7 @@ module _ (e : Setup) (rules : (L : List ℕ) → Rule e (run e L)) (name : ℕ) 
     | inr earlier ↦ absurd (omega (
       arith,
       still,
-      held-made (before ++ me ∷ []) h,
+      held-made e rules name me seat (before ++ me ∷ []) h,
       ap (λ l. to_make e name (run e l))
           (earlier.1 ∙ sym (append_assoc before (me ∷ []) earlier.0)),
       make-fades e rules name (before ++ me ∷ []) earlier.0,

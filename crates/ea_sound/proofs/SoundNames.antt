@@ -12,7 +12,7 @@ use Rattle.ea_sound.specs.Present.{Rule}
 use Rattle.ea_sound.specs.Rule.{all_names}
 
 -- the parts of a total
-total-both : {A : Type 0} (f g : A → ℕ) (m : ℕ → A) (n : ℕ)
+pub total-both : {A : Type 0} (f g : A → ℕ) (m : ℕ → A) (n : ℕ)
     → total n (λ a. f a + g a) m ≡ total n f m + total n g m
 total-both f g m zero = refl
 total-both f g m (suc n) = omega (arith, total-both f g m n)

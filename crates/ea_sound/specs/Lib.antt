@@ -19,6 +19,7 @@ pub mod Chosen
 pub mod Shown
 pub mod HandedOver
 pub mod Released
+pub mod OnePlace
 pub mod Over
 pub mod Made
 pub mod Entries

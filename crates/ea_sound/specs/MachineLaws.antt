@@ -14,6 +14,7 @@ use Rattle.ea_machine.specs.Courses.{Rests}
 use Rattle.ea_sound.specs.Units.{PrintsSums}
 use Rattle.ea_sound.specs.Sound.{Sound}
 use Rattle.ea_sound.specs.Made.{MakesItsOwn}
+use Rattle.ea_sound.specs.OnePlace.{NamesInOnePlace}
 use Rattle.ea_sound.specs.Over.{HadUnits, KeepsUnits, LieApart}
 use Rattle.ea_sound.specs.Released.{FailedHaveNone, KeepsPlaces, ReleasesOnce, StaysGone}
 use Rattle.ea_sound.specs.Exhausted.{FailsIfExhausted}
@@ -50,39 +51,46 @@ CompletesWithin setup = (turns : List ℕ)
 abbrev pub AllComeToRest : Setup → Type 0
 AllComeToRest setup = (turns : List ℕ) (s : ℕ) → Rests setup (complete setup turns) s
 
--- each moment is sound, and what is printed of it are the sums of soundness; no scheduler does a
--- row that it may not do, and its last step was as the guard says; some answers never come; a carrier
--- that is fetched fits, and an instance creates no more carriers than operations began, beside its
--- main carrier; each operation makes one entry, of its own kind, which tells how it came about:
--- placements are chosen, and fails are exhausted; where no place is found an operation fails, where
--- its name isn't held it is skipped, and where another employer is seen its block is queued to that;
--- no name is released twice, one that failed has no block, and both stay so; a block keeps its place
--- and its units, wherever its carrier goes; blocks of two names lie apart, a name that nobody is
--- still to make has the units that it had, and one that gets a block is made by the scheduler whose
--- step it was; who is stopped takes no step, in a completed schedule neither; and after that all have
--- ended or are stopped
+-- what holds of each run
 pub record Protocol (setup : Setup) : Type 0 where
+  -- each moment is sound, and what is printed of it are the sums of soundness
   pub sound : AtEachMoment Sound setup
   pub prints : AtEachMoment PrintsSums setup
+  -- no scheduler does a row that it may not do, and its last step was as the guard says; some
+  -- answers never come
   pub guarded : AtEachMoment IsGuarded setup
   pub grounded : AreGrounded setup
   pub hears : AtEachMoment HearsNoOther setup
   pub finds : AtEachMoment FindsOwn setup
+  -- a carrier that is fetched fits, and an instance creates no more carriers than operations began,
+  -- beside its main carrier
   pub fetches : AtEachMoment FetchesFit setup
   pub creates : AtEachMoment CreatesFew setup
+  -- each operation makes one entry, of its own kind, which tells how it came about: placements are
+  -- chosen, and fails are exhausted
   pub logs : AtEachMoment LogEach setup
   pub enters : EntersOne setup
+  -- where no place is found an operation fails, where its name isn't held it is skipped, and where
+  -- another employer is seen its block is queued to that
   pub fails : FailsIfExhausted setup
   pub skips : SkipsUnheld setup
   pub queues : QueuesIfSeen setup
+  -- each name is in one place; no name is released twice, one that failed has no block, and both
+  -- stay so
+  pub names : AtEachMoment NamesInOnePlace setup
   pub once : ReleasesOnce setup
   pub failed : AtEachMoment FailedHaveNone setup
   pub gone : StaysGone setup
+  -- a block keeps its place and its units, wherever its carrier goes; blocks of two names lie
+  -- apart; a name that nobody is still to make has the units that it had, and one that gets a block
+  -- is made by the scheduler whose step it was
   pub places : KeepsPlaces setup
   pub apart : AtEachMoment LieApart setup
   pub units : KeepsUnits setup
   pub had : HadUnits setup
   pub makes : MakesItsOwn setup
+  -- who is stopped takes no step, in a completed schedule neither; and after that all have ended or
+  -- are stopped
   pub stops : HeedsStops setup
   pub within : CompletesWithin setup
   pub ends : AllComeToRest setup
