@@ -38,8 +38,9 @@ use Rattle.ea_machine.specs.Tasks.{let_go, logged}
 use Rattle.ea_machine.specs.Sums.{one_if}
 use Rattle.ea_machine.specs.Machine.{run}
 use Rattle.ea_machine.specs.Shared.{Shared}
+use Rattle.ea_machine.specs.State.{State}
 use Rattle.ea_sound.specs.Chosen.{AtOnce, Had}
-use Rattle.ea_sound.specs.Entries.{IsSkipped, Makes, Reports}
+use Rattle.ea_sound.specs.Entries.{DoesNothing, IsSkipped, Makes, Reports}
 use Rattle.ea_sound.specs.Needs.{AsksFor, HasNeed, IsToMove}
 use Rattle.ea_sound.specs.Turns.{actor_after, begun}
 use Rattle.ea_sound.specs.Present.{HasTry, OfAsk, OfTask, OldHeld, Rule}
@@ -50,6 +51,7 @@ use Rattle.ea_sound.specs.Moments.{at, with_actor}
 use Rattle.ea_sound.proofs.Chronicle.{HasOld, IsOfFirst}
 use Rattle.ea_sound.proofs.HandedNames.{never-first}
 use Rattle.ea_sound.proofs.TextTotals.{All-back}
+use Rattle.ea_sound.proofs.TurnLists.{run-snoc, step-shared}
 use Rattle.ea_sound.proofs.ShortRoutes.{Keeps}
 use Rattle.ea_sound.proofs.Weights.{sum_by-sum_over}
 use Rattle.ea_sound.proofs.ChroniclePlaces.{Fine as IsFine, IsAsking, IsNow, IsWanted as Wants}
@@ -195,15 +197,17 @@ module _ (e : Setup) (rules : (L : List ℕ) → Rule e (run e L)) (L : List ℕ
         → IsOfFirst acting.todo x
     first-is o ops x q m = record { first = o; others = ops; is = sym k.1 ∙ q; makes = m }
 
-    -- an operation whose name isn't held
-    skipped : (n : ℕ) (x : Entry) → named_at n mid.held ≡ None → IsNow e rules L me (logged x mid)
-        → IsSkipped e L me n
-    skipped n x i now = record {
+    -- an operation that does nothing, and one whose name isn't held
+    nothing : (x : Entry) → IsNow e rules L me (logged x mid) → DoesNothing e L me x
+    nothing x now = record {
       begins = ready;
-      absent = i;
-      instance = sym (ap (λ (a : Actor). a.instance) now);
-      held = sym (ap (λ (a : Actor). a.held) now);
+      leaves = sym now;
+      shared = ap (λ (w : State). w.shared) (run-snoc e L me) ∙ step-shared e (run e L) me works;
     }
+
+    skipped : (n : ℕ) (x : Entry) → named_at n mid.held ≡ None → IsNow e rules L me (logged x mid)
+        → IsSkipped e L me n x
+    skipped n x i now = record { absent = i; nothing = nothing x now }
 
     -- a reallocation
     module _ (old fresh bytes : ℕ) (ops : List Op)
@@ -420,4 +424,4 @@ module _ (e : Setup) (rules : (L : List ℕ) → Rule e (run e L)) (L : List ℕ
     itself-fine (op.Info ∷ ops) q = informed-fine ops q
     itself-fine (op.Idle ∷ ops) q =
         logged-fine e rules L me set is works entry.Idle mid k (first-is op.Idle ops _ q tt)
-        (λ n q. absurd cc) (λ now. tt)
+        (λ n q. absurd cc) (nothing entry.Idle)

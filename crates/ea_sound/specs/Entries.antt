@@ -14,8 +14,10 @@ use Rattle.ea_machine.specs.Nodes.{named_at}
 use Rattle.ea_machine.specs.Setup.{Setup}
 use Rattle.ea_machine.specs.Actor.{Actor}
 use Rattle.ea_machine.specs.State.{State}
-use Rattle.ea_machine.specs.Machine.{run}
-use Rattle.ea_machine.specs.Statistics.{employed_multis, employed_singles}
+use Rattle.ea_machine.specs.Machine.{run, wants}
+use Rattle.ea_machine.specs.Statistics.{employed_multis, employed_singles, observed}
+use Rattle.ea_machine.specs.Table.{effect}
+use Rattle.ea_machine.specs.Tasks.{logged}
 use Rattle.ea_sound.specs.Turns.{IsBegun, actor_after, begun, log_after}
 use Rattle.ea_sound.specs.Chosen.{IsPlacement, IsResized}
 use Rattle.ea_sound.specs.Exhausted.{IsExhausted}
@@ -52,14 +54,21 @@ pub record LogsEach (setup : Setup) (state : State) (i : ℕ) : Type 0 where
   pub split : setup.texts i ≡ done ++ (state.actors i).todo
   pub each : AllZip Makes done (state.actors i).log
 
--- the name isn't held when the operation itself begins, in the step of s after the steps `turns`;
--- and s employs, owns and holds after this step what it did then
-pub record IsSkipped (setup : Setup) (turns : List ℕ) (s name : ℕ) : Type 0 where
+-- the begin of the operation is over in the step of s after the steps `turns`, and the operation
+-- itself does nothing: after this step s is as it was then, but that the operation is over, this
+-- entry stands last in its log, and its figures were observed. So its instance, its own lists, the
+-- names that it holds and its walk are as the begin left them, and what is shared is as the row of
+-- the begin left it
+pub record DoesNothing (setup : Setup) (turns : List ℕ) (s : ℕ) (x : Entry) : Type 0 where
   pub begins : IsBegun setup (run setup turns) s
+  pub leaves : actor_after setup (turns ++ s ∷ []) s ≡ observed (logged x (begun setup turns s))
+  pub shared : (run setup (turns ++ s ∷ [])).shared
+      ≡ effect s (wants (actor_after setup turns s)) (run setup turns).shared
+
+-- the name isn't held when the operation itself begins, and the operation does nothing
+pub record IsSkipped (setup : Setup) (turns : List ℕ) (s name : ℕ) (x : Entry) : Type 0 where
   pub absent : named_at name (begun setup turns s).held ≡ None
-  pub instance : (actor_after setup (turns ++ s ∷ []) s).instance
-      ≡ (begun setup turns s).instance
-  pub held : (actor_after setup (turns ++ s ∷ []) s).held ≡ (begun setup turns s).held
+  pub nothing : DoesNothing setup turns s x
 
 -- the figures that a report has as they are now are those of these carriers
 abbrev pub Reports : Report → List Content → Type 0
@@ -74,18 +83,19 @@ IsDone setup turns s name = HasNoBlock setup turns s name
 
 -- what an entry tells, which s made in its step after the steps `turns`: a block was placed where
 -- the strategy chooses, in the first carrier that fitted and that a search got, or in a carrier of
--- its own; a block keeps its spot; no place was found; a name isn't held, and nothing changes; a
+-- its own; a block keeps its spot; no place was found; a name isn't held, and nothing is done; a
 -- block is gone, and s released it itself, or it went to another scheduler's queue, by who was seen
 -- to employ its carrier, or, where carriers don't migrate, owns it; a name was given, or taken,
--- with its spot, or tried for in vain as often as it was to be; and what carriers are employed
--- then. No step makes an entry of a stop
+-- with its spot, or tried for in vain as often as it was to be; what carriers are employed then; and
+-- an idle operation does nothing. No step makes an entry of a stop
 abbrev pub Tells : Setup → List ℕ → ℕ → Entry → Type 0
 Tells setup turns s (entry.Alloc name place) = IsPlacement setup turns s name place
 Tells setup turns s (entry.AllocFail name need looked why) =
     IsExhausted setup turns s (entry.AllocFail name need looked why) need looked why
 Tells setup turns s (entry.Free name) = IsDone setup turns s name
 Tells setup turns s (entry.FreeQueued name to) = IsQueued setup turns s name to
-Tells setup turns s (entry.FreeSkipped name) = IsSkipped setup turns s name
+Tells setup turns s (entry.FreeSkipped name) =
+    IsSkipped setup turns s name (entry.FreeSkipped name)
 Tells setup turns s (entry.ReallocHere old fresh place) =
     IsResized setup turns s old fresh place
 Tells setup turns s (entry.ReallocMoved old fresh place) =
@@ -94,15 +104,17 @@ Tells setup turns s (entry.ReallocQueued old fresh place to) =
     IsPlacement setup turns s fresh place × IsQueued setup turns s old to
 Tells setup turns s (entry.ReallocFail old fresh need looked why) =
     IsExhausted setup turns s (entry.ReallocFail old fresh need looked why) need looked why
-Tells setup turns s (entry.ReallocSkipped old fresh) = IsSkipped setup turns s old
+Tells setup turns s (entry.ReallocSkipped old fresh) =
+    IsSkipped setup turns s old (entry.ReallocSkipped old fresh)
 Tells setup turns s (entry.Give name to) = IsGiven setup turns s name
-Tells setup turns s (entry.GiveSkipped name to) = IsSkipped setup turns s name
+Tells setup turns s (entry.GiveSkipped name to) =
+    IsSkipped setup turns s name (entry.GiveSkipped name to)
 Tells setup turns s (entry.Take name) = IsTaken setup turns s name
 Tells setup turns s (entry.TakeAbsent name tries) = HasTried setup turns s name tries
 Tells setup turns s (entry.Info mbcs sbcs) =
     Reports mbcs (employed_multis (actor_after setup (turns ++ s ∷ []) s))
     × Reports sbcs (employed_singles (actor_after setup (turns ++ s ∷ []) s))
-Tells setup turns s entry.Idle = Unit {0}
+Tells setup turns s entry.Idle = DoesNothing setup turns s entry.Idle
 Tells setup turns s (entry.Stopped steps) = ⊥
 
 -- a step of s makes at most one entry, in its own log, and this entry tells how it came about
