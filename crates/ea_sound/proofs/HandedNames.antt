@@ -35,17 +35,17 @@ use Rattle.ea_sound.proofs.TurnLists.{run-snoc, step-shared}
 use Rattle.ea_sound.proofs.Weights.{one-itself}
 
 -- what the rows answer and do
-given-after : (me : ℕ) (g : Named) (s : Shared)
+pub given-after : (me : ℕ) (g : Named) (s : Shared)
     → (effect me (Give g) s).given ≡ with_name g s.given
 unfolding effect
 given-after me g s = refl
 
-taken-after : (me n : ℕ) (s : Shared)
+pub taken-after : (me n : ℕ) (s : Shared)
     → (effect me (TakeTry n) s).given ≡ without_name n s.given
 unfolding effect
 taken-after me n s = refl
 
-take-got : (me n : ℕ) (s : Shared) → answer me (TakeTry n) s ≡ Got (spot_named n s.given)
+pub take-got : (me n : ℕ) (s : Shared) → answer me (TakeTry n) s ≡ Got (spot_named n s.given)
 unfolding answer
 take-got me n s = refl
 
@@ -53,7 +53,7 @@ got-same : (p q : Option Spot) → Got p ≡ Got q → p ≡ q
 got-same p q r = cc
 
 -- the name whose spot is found
-spot-named : (n : ℕ) (names : List Named) (spot : Spot) → spot_named n names ≡ Some spot
+pub spot-named : (n : ℕ) (names : List Named) (spot : Spot) → spot_named n names ≡ Some spot
     → (x : Named) × (named_at n names ≡ Some x)
 spot-named n names spot q = by (named_at n names) refl q where
   by : (o : Option Named) → named_at n names ≡ o → option_map (λ (x : Named). x.spot) o ≡ Some spot

@@ -134,6 +134,10 @@ pub mod Chronicled
 pub mod MadeNames
 pub mod MovingNames
 pub mod PlacedNames
+pub mod WorkNames
+pub mod LiveNames
+pub mod Somewhere
+pub mod Heaps
 pub mod Failing
 pub mod Queueing
 -- Each schedule ends.

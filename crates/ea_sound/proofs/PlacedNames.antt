@@ -129,10 +129,10 @@ counts-any says (x ∷ log) some = by (says x) some (λ later. counts-any says l
 
 -- a name that is found counts, and one that counts is found
 module _ (n : ℕ) (names : List Named) where
-  abbrev counted : ℕ
+  abbrev pub counted : ℕ
   counted = sum_over (of_named (only n)) names
 
-  among-counts : IsAmong n names → 0 < counted
+  pub among-counts : IsAmong n names → 0 < counted
   among-counts a = omega (
     arith,
     sum-item name_of (of_named (only n)) n a.0 names a.1,

@@ -23,6 +23,7 @@ pub mod OnePlace
 pub mod Over
 pub mod Made
 pub mod Entries
+pub mod Heap
 -- Rows: their guards, and answers that never come.
 pub mod Guarded
 pub mod Grounded

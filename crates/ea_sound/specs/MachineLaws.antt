@@ -23,6 +23,7 @@ use Rattle.ea_sound.specs.Fetches.{FetchesFit}
 use Rattle.ea_sound.specs.FewCreated.{CreatesFew}
 use Rattle.ea_sound.specs.Grounded.{AreGrounded}
 use Rattle.ea_sound.specs.Guarded.{IsGuarded}
+use Rattle.ea_sound.specs.Heap.{IsHeap}
 use Rattle.ea_sound.specs.Heard.{FindsOwn, HearsNoOther}
 
 -- it holds at each moment: after any list of steps
@@ -89,6 +90,8 @@ pub record Protocol (setup : Setup) : Type 0 where
   pub units : KeepsUnits setup
   pub had : HadUnits setup
   pub makes : MakesItsOwn setup
+  -- for who reads nothing else: the live names and the units of their blocks are a heap
+  pub heap : IsHeap setup
   -- who is stopped takes no step, in a completed schedule neither; and after that all have ended or
   -- are stopped
   pub stops : HeedsStops setup
