@@ -2,7 +2,6 @@
 ghost use Rattle.std.specs.Prelude.{◌≡◌};
 ghost use Rattle.ea_flags.specs.Refusals.{message_of, word_of};
 
-
 /// Why words are refused. Words are numbered from 1.
 #[derive(Debug, Clone, Copy, PartialEq, Eq)]
 pub enum FlagFault {
