@@ -189,3 +189,11 @@ module _ (e : Setup) (rules : (L : List ℕ) → Rule e (run e L)) where
       let ne = begun-going e L s b in
       let is = working-scheduler e (run e L) (rules L).kept s ne in
       (begun-keeps e rules L s h.1 is ne h.0 ne b).2 ∙ h.1
+
+  pub begun-log : (L : List ℕ) (s : ℕ) → IsBegun e (run e L) s
+      → (begun e L s).log ≡ log_after e L s
+  begun-log L s b =
+      let h = so_far L s in
+      let ne = begun-going e L s b in
+      let is = working-scheduler e (run e L) (rules L).kept s ne in
+      (begun-keeps e rules L s h.1 is ne h.0 ne b).0

@@ -139,7 +139,9 @@ pub mod LiveNames
 pub mod Somewhere
 pub mod Heaps
 pub mod Failing
+pub mod SettledRoutes
 pub mod Queueing
+pub mod OwnerQueues
 -- Each schedule ends.
 pub mod Ending
 pub mod Completing

@@ -1,5 +1,5 @@
 -- What the log of a scheduler says of its operations.
-use Rattle.std.specs.Prelude.{◌≡◌, ◌≢◌, ◌⊎◌, ℕ, List, [], ◌∷◌, ◌++◌, None}
+use Rattle.std.specs.Prelude.{◌≡◌, ◌≢◌, ◌⊎◌, ℕ, false, List, [], ◌∷◌, ◌++◌, None, Some}
 use Rattle.std.specs.List.{AllZip}
 use Rattle.ea_model.specs.declared.entries.Entry.{Entry}
 use Rattle.ea_model.specs.declared.entries.Entry.TheVariants as entry
@@ -7,11 +7,11 @@ use Rattle.ea_model.specs.declared.entries.Report.{Report}
 use Rattle.ea_model.specs.declared.operations.Op.{Op}
 use Rattle.ea_model.specs.declared.operations.Op.TheVariants as op
 use Rattle.ea_model.specs.Content.{Content}
-use Rattle.ea_model.specs.Instance.{figures}
+use Rattle.ea_model.specs.Instance.{figures, owner_of}
 use Rattle.ea_model.specs.Units.{need_of}
 use Rattle.ea_machine.specs.declared.nodes.Named.{Named}
 use Rattle.ea_machine.specs.Nodes.{named_at}
-use Rattle.ea_machine.specs.Setup.{Setup}
+use Rattle.ea_machine.specs.Setup.{Setup, migration}
 use Rattle.ea_machine.specs.Actor.{Actor}
 use Rattle.ea_machine.specs.State.{State}
 use Rattle.ea_machine.specs.Machine.{run, wants}
@@ -22,7 +22,7 @@ use Rattle.ea_sound.specs.Turns.{IsBegun, actor_after, begun, log_after}
 use Rattle.ea_sound.specs.Chosen.{IsPlacement, IsResized}
 use Rattle.ea_sound.specs.Exhausted.{IsExhausted}
 use Rattle.ea_sound.specs.Released.{HasNoBlock}
-use Rattle.ea_sound.specs.Shown.{SeesEmployer}
+use Rattle.ea_sound.specs.Shown.{SeesEmployer, SeesItself}
 use Rattle.ea_sound.specs.HandedOver.{HasTried, IsGiven, IsQueued, IsReleasedHere, IsTaken}
 
 -- an operation makes an entry of its own kind, with its own names and numbers
@@ -154,3 +154,47 @@ QueuesIfSeen setup = (turns more : List ℕ) (s to : ℕ) (named : Named) → to
     → (log_after setup (turns ++ s ∷ more) s ≡ log_after setup turns s)
     ⊎ ((x : Entry) × (later : List Entry) × (log_after setup (turns ++ s ∷ more) s
     ≡ log_after setup turns s ++ x ∷ later) × SaysQueued to x)
+
+-- the entry says that a block was released, and not queued
+abbrev pub SaysDone : Entry → Type 0
+SaysDone (entry.Free name) = Unit {0}
+SaysDone (entry.ReallocMoved old fresh place) = Unit {0}
+SaysDone x = ⊥
+
+-- where s sees that it employs that carrier itself, or makes it busy, the entry of the operation
+-- says that the block was released
+abbrev pub ReleasesIfSeen : Setup → Type 0
+ReleasesIfSeen setup = (turns more : List ℕ) (s : ℕ) (named : Named)
+    → SeesItself s named (run setup turns)
+    → (log_after setup (turns ++ s ∷ more) s ≡ log_after setup turns s)
+    ⊎ ((x : Entry) × (later : List Entry) × (log_after setup (turns ++ s ∷ more) s
+    ≡ log_after setup turns s ++ x ∷ later) × SaysDone x)
+
+-- the entry says that the block of a reallocation stays: it is resized in its place, or no place
+-- was found
+abbrev pub SaysStays : Entry → Type 0
+SaysStays (entry.ReallocHere old fresh place) = Unit {0}
+SaysStays (entry.ReallocFail old fresh need looked why) = Unit {0}
+SaysStays x = ⊥
+
+-- what an entry of s says of a block whose carrier has this owner: it was released if that is s,
+-- and queued to the owner if that is another; or it stays
+abbrev pub SaysByOwner : (s owner : ℕ) → Entry → Type 0
+SaysByOwner s owner x = ((owner ≡ s) × SaysDone x) ⊎ ((owner ≢ s) × SaysQueued owner x)
+    ⊎ SaysStays x
+
+-- the first of these operations releases or reallocates this block, which the scheduler holds
+abbrev pub IsOfBlock : Actor → List Op → Named → Type 0
+IsOfBlock a (op.Free name ∷ ops) named = named_at name a.held ≡ Some named
+IsOfBlock a (op.Realloc old fresh bytes ∷ ops) named = named_at old a.held ≡ Some named
+IsOfBlock a _ named = ⊥
+
+-- where carriers don't migrate, the entry of such an operation goes by the owner of the carrier of
+-- the block
+abbrev pub QueuesByOwner : Setup → Type 0
+QueuesByOwner setup = migration setup ≡ false → (turns more : List ℕ) (s : ℕ) (named : Named)
+    → IsBegun setup (run setup turns) s
+    → IsOfBlock (begun setup turns s) (begun setup turns s).todo named
+    → (log_after setup (turns ++ s ∷ more) s ≡ log_after setup turns s)
+    ⊎ ((x : Entry) × (later : List Entry) × (log_after setup (turns ++ s ∷ more) s
+    ≡ log_after setup turns s ++ x ∷ later) × SaysByOwner s (owner_of named.spot.carrier) x)

@@ -18,7 +18,8 @@ use Rattle.ea_sound.specs.OnePlace.{NamesInOnePlace}
 use Rattle.ea_sound.specs.Over.{HadUnits, KeepsUnits, LieApart}
 use Rattle.ea_sound.specs.Released.{FailedHaveNone, KeepsPlaces, ReleasesOnce, StaysGone}
 use Rattle.ea_sound.specs.Exhausted.{FailsIfExhausted}
-use Rattle.ea_sound.specs.Entries.{EntersOne, LogsEach, QueuesIfSeen, SkipsUnheld}
+use Rattle.ea_sound.specs.Entries.{EntersOne, LogsEach, QueuesByOwner, QueuesIfSeen, ReleasesIfSeen}
+use Rattle.ea_sound.specs.Entries.{SkipsUnheld}
 use Rattle.ea_sound.specs.Fetches.{FetchesFit}
 use Rattle.ea_sound.specs.FewCreated.{CreatesFew}
 use Rattle.ea_sound.specs.Grounded.{AreGrounded}
@@ -71,11 +72,14 @@ pub record Protocol (setup : Setup) : Type 0 where
   -- chosen, and fails are exhausted
   pub logs : AtEachMoment LogEach setup
   pub enters : EntersOne setup
-  -- where no place is found an operation fails, where its name isn't held it is skipped, and where
-  -- another employer is seen its block is queued to that
+  -- where no place is found an operation fails, where its name isn't held it is skipped; where
+  -- another employer is seen its block is queued to that, and where its scheduler sees itself the
+  -- block is released; where carriers don't migrate, this goes by the owner of the carrier
   pub fails : FailsIfExhausted setup
   pub skips : SkipsUnheld setup
   pub queues : QueuesIfSeen setup
+  pub releases : ReleasesIfSeen setup
+  pub owners : QueuesByOwner setup
   -- each name is in one place; no name is released twice, one that failed has no block, and both
   -- stay so
   pub names : AtEachMoment NamesInOnePlace setup
