@@ -19,4 +19,4 @@ mod tests;
 pub use access::{Access, AccessEntry, Making};
 pub use input::{ContentsInput, Placed};
 pub use laws::agreement;
-pub use memory::{Extent, Memory};
+pub use memory::Memory;

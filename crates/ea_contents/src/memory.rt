@@ -3,20 +3,13 @@ ghost use Rattle.std.specs.Prelude.{◌≡◌, ◌+◌, ◌<◌, ◌≤◌, Some
 ghost use Rattle.std.specs.Prelude.{replicate, slice_set, take};
 ghost use Rattle.ea_contents.specs.Agreeing.{memory_made, source_in};
 ghost use Rattle.ea_contents.specs.Memory.{with_words, words_from, words_of};
-ghost use Rattle.ea_contents.specs.Stored.{IsStored, range_if, range_of};
+ghost use Rattle.ea_contents.specs.Stored.{IsStored};
+ghost use Rattle.ea_outcome.specs.Extents.{range_if, range_of};
 
 use ea_model::OutOfMemory;
+use ea_outcome::Extent;
 use std::alloc::Global;
 use std::marker::Model;
-
-/// The units of the super carrier that a block has: the first of them, counted from the first unit
-/// of the super carrier, and how many. A block of k units has the words 0 to k - 2, since its first
-/// unit is its header.
-#[derive(Debug, Clone, Copy, PartialEq, Eq)]
-pub struct Extent {
-    pub first: u32,
-    pub units: u32,
-}
 
 /// A word for each unit of the super carrier. Contracts see them as a list.
 #[derive(Drop)]

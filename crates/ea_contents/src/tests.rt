@@ -1,5 +1,6 @@
 //! A memory with blocks.
-use crate::{Extent, Memory};
+use crate::Memory;
+use ea_outcome::Extent;
 use std::test::Fail;
 
 #[test]

@@ -3,3 +3,4 @@ pub mod OutcomeBlocks
 pub mod OutcomeLayouts
 pub mod OutcomeLines
 pub mod OutcomeSums
+pub mod OutcomeExtents

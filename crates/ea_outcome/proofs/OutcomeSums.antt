@@ -123,10 +123,10 @@ lines-listed : (o : Option Present) → map line_of (listed o) ≡ lines_if o
 lines-listed None = refl
 lines-listed (Some p) = refl
 
-abbrev content_in : Present → Content
+abbrev pub content_in : Present → Content
 content_in p = p.content
 
-first-listed : (o : Option Present) → first_content (listed o) ≡ option_map content_in o
+pub first-listed : (o : Option Present) → first_content (listed o) ≡ option_map content_in o
 first-listed None = refl
 first-listed (Some p) = refl
 
@@ -187,7 +187,7 @@ module _ (c : Config) (t : Trace) (valid : IsValidConfig c) (made : IsValidTrace
       })
 
   -- one of the schedulers is as in the state
-  scheduler-is : (j : ℕ) (d : Scheduler) → j < length ss
+  pub scheduler-is : (j : ℕ) (d : Scheduler) → j < length ss
       → actor_of (get_or ss j d) ≡ w.actors (1 + j)
   scheduler-is j d within =
       sym (get_or-map actor_of ss j d (actor_of d) within)

@@ -1,3 +1,4 @@
 pub mod Resting
 pub mod Finding
 pub mod Layouts
+pub mod Extents

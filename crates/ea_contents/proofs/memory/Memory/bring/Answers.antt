@@ -1,7 +1,7 @@
 use Rattle.std.proofs.Common.{◌+◌, ◌-◌, ℕ, replicate, ap, ◌∙◌, arith}
 use Rattle.ea_contents.specs.Agreeing.{source_in}
 use Rattle.ea_contents.specs.Memory.{with_words}
-use Rattle.ea_contents.specs.Stored.{range_if}
+use Rattle.ea_outcome.specs.Extents.{range_if}
 use Rattle.ea_contents.proofs.Storing.{brought}
 use Rattle.ea_contents.proofs.memory.Memory.bring.Goals as goal
 

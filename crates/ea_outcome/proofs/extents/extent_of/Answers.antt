@@ -1,0 +1,41 @@
+use Rattle.std.proofs.Common.{sym, ap, ◌∙◌, arith}
+use Rattle.ea_outcome.specs.Extents.{range_if, range_of}
+use Rattle.ea_outcome.proofs.OutcomeExtents.{has-carrier, lies-there, range-fits, range-there}
+use Rattle.ea_outcome.proofs.extents.extent_of.Goals as goal
+
+pub extent_at-requires-clause-number : goal.extent_at-requires-clause-number
+extent_at-requires-clause-number g c =
+    let (turns, stand) = c.requires.stand in
+    let (name, has) = c.requires.named in
+    let number = has-carrier c.args.config c.args.trace.now c.requires.config c.requires.trace
+    c.migrates.result c.migrates.ensures c.args.schedulers.now
+    (g.H.Rested.places c.args.shared.now) (g.H.Rested.named c.args.shared.now) turns stand name
+    c.args.spot has in
+    (number.0, omega (arith, number.1, c.requires.schedulers))
+
+pub extent_at-requires-clause-fits : goal.extent_at-requires-clause-fits
+extent_at-requires-clause-fits g c =
+    let (turns, stand) = c.requires.stand in
+    let (name, has) = c.requires.named in
+    range-fits c.args.config c.args.trace.now c.requires.config c.requires.trace
+    c.migrates.result c.migrates.ensures c.args.schedulers.now
+    (g.H.Rested.places c.args.shared.now) (g.H.Rested.named c.args.shared.now) turns stand name
+    c.args.spot has
+
+pub unreachable-requires : goal.unreachable-requires
+unreachable-requires g c =
+    let (turns, stand) = c.requires.stand in
+    let (name, has) = c.requires.named in
+    range-there c.args.config c.args.trace.now c.requires.config c.requires.trace
+    c.migrates.result c.migrates.ensures c.args.schedulers.now
+    (g.H.Rested.places c.args.shared.now) (g.H.Rested.named c.args.shared.now) turns stand name
+    c.args.spot has
+    (sym c.extent_at.ensures ∙ ap range_if c.in-None.is)
+
+pub returns : goal.returns
+returns g c = λ turns stand name has.
+    lies-there c.args.config c.args.trace.now c.requires.config c.requires.trace
+    c.migrates.result c.migrates.ensures c.args.schedulers.now
+    (g.H.Rested.places c.args.shared.now) (g.H.Rested.named c.args.shared.now) turns stand name
+    c.args.spot has (range_of c.in-Some.extent)
+    (sym (ap range_if c.in-Some.is) ∙ c.extent_at.ensures)

@@ -1,0 +1,84 @@
+//! Where blocks lie in the super carrier.
+ghost use Rattle.std.specs.Prelude.{◌≡◌, ◌^◌, ◌<◌, IfSome};
+ghost use Rattle.ea_model.specs.Settings.{IsValidConfig};
+ghost use Rattle.ea_model.specs.Trace.{IsValidTrace};
+ghost use Rattle.ea_machine.specs.Setup.{migration, setup_of};
+ghost use Rattle.ea_shared.specs.Carriers.{IsCarrier};
+ghost use Rattle.ea_outcome.specs.Extents.{IsNamed, LiesWhere, range_at, range_if, range_of};
+ghost use Rattle.ea_outcome.specs.Finding.{present_with};
+ghost use Rattle.ea_outcome.specs.Resting.{Stand, carrier_of};
+
+use crate::finding::find;
+use crate::found::Found;
+use ea_mbc::Mbc;
+use ea_model::{Config, PAGE_UNITS, Spot, Trace};
+use ea_sched::{Scheduler, migrates};
+use ea_shared::Rested;
+
+/// The units of the super carrier that a block has: the first of them, counted from the first unit
+/// of the super carrier, and how many.
+#[derive(Debug, Clone, Copy, PartialEq, Eq)]
+pub struct Extent {
+    pub first: u32,
+    pub units: u32,
+}
+
+/// The extent of the block at the spot, if the carrier is there and a block begins there.
+fn extent_in(carrier: &Found<'_>, spot: Spot) -> Option<Extent>
+    requires { IfSome (range_at spot (present_with spot.carrier carrier.now))
+        (λ r. r.first < 2 ^ 32) }
+    ensures { range_if result ≡ range_at spot (present_with spot.carrier carrier.now) }
+{
+    let block = carrier.block_at(spot)?;
+    let line = carrier.line(spot.carrier)?;
+    Some(Extent {
+        first: PAGE_UNITS * line.base + spot.offset,
+        units: block.size,
+    })
+}
+
+/// The extent of the block at the spot, if its carrier is there and a block begins there.
+fn extent_at<H: Rested<Content = Mbc>>(
+    schedulers: &[Scheduler<'_>],
+    shared: &H,
+    migrates: bool,
+    spot: Spot,
+) -> Option<Extent>
+    requires migrates { migrates ≡ H.migrates shared.now }
+    requires number { IsCarrier (H.schedulers shared.now) spot.carrier }
+    requires fits { IfSome (range_at spot
+        (carrier_of migrates (H.places shared.now) schedulers.now spot.carrier))
+        (λ r. r.first < 2 ^ 32) }
+    ensures { range_if result ≡ range_at spot
+        (carrier_of migrates (H.places shared.now) schedulers.now spot.carrier) }
+{
+    let carrier = find(schedulers, shared, migrates, spot.carrier)?;
+    extent_in(&carrier, spot)
+}
+
+/// Where the block of a held or a given name lies, which begins at the spot: the units that it has
+/// in the super carrier, wherever its carrier is: with its employer, in a scheduler's hand, busy,
+/// pooled or on its way home. That is so after whatever turns the schedulers, in order, and what
+/// they share stand so.
+pub fn extent_of<H: Rested<Content = Mbc>>(
+    config: Config,
+    trace: &Trace,
+    schedulers: &[Scheduler<'_>],
+    shared: &H,
+    spot: Spot,
+) -> Extent
+    requires config { IsValidConfig config }
+    requires trace { IsValidTrace config.schedulers trace.now }
+    requires schedulers { H.schedulers shared.now ≡ config.schedulers }
+    requires migrates { H.migrates shared.now ≡ migration (setup_of config trace.now) }
+    requires stand { Stand config trace.now schedulers.now (H.places shared.now)
+        (H.named shared.now) }
+    requires named { IsNamed schedulers.now (H.named shared.now) spot }
+    ensures { LiesWhere config trace.now schedulers.now (H.places shared.now)
+        (H.named shared.now) spot (range_of result) }
+{
+    match extent_at(schedulers, shared, migrates(config, trace), spot) {
+        Some(extent) => extent,
+        None => unreachable!(),
+    }
+}
