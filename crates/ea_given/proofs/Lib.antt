@@ -3,3 +3,4 @@ pub mod Looking
 pub mod Ends
 pub mod GivenRuns
 pub mod Growing
+pub mod NamesHeld

@@ -1,9 +1,14 @@
 -- The run of a trace, as it stands after some turns.
-use Rattle.std.specs.Prelude.{◌≡◌, ℕ, Bool, false, List, ◌++◌, length}
+use Rattle.std.specs.Prelude.{◌≡◌, ℕ, ◌+◌, ◌*◌, ◌≤◌, Bool, false, List, ◌++◌, Option, is_some}
+use Rattle.std.specs.Prelude.{length}
+use Rattle.ea_model.specs.declared.carriers.Spot.{Spot}
 use Rattle.ea_model.specs.declared.settings.Config.{Config}
 use Rattle.ea_model.specs.declared.trace.Trace.{Trace}
+use Rattle.ea_model.specs.declared.units.TheConstants.{PAGE_UNITS}
 use Rattle.ea_model.specs.Trace.{IsScheduler}
+use Rattle.ea_laws.specs.InOrder.{Range}
 use Rattle.ea_machine.specs.Completion.{complete}
+use Rattle.ea_machine.specs.Nodes.{named_at, spot_named}
 use Rattle.ea_machine.specs.Setup.{Setup, setup_of}
 use Rattle.ea_machine.specs.Stops.{left_after, run_with_stops}
 use Rattle.ea_sched.specs.Acting.{is_ended}
@@ -52,6 +57,20 @@ ended_after setup turns me = is_ended ((run_with_stops setup turns).actors me).s
 -- how many of its operations are done then
 abbrev pub done_after : Setup → List ℕ → ℕ → ℕ
 done_after setup turns me = length ((run_with_stops setup turns).actors me).log
+
+-- where the block of a name begins then, if the scheduler holds the name
+abbrev pub spot_after : Setup → List ℕ → ℕ → ℕ → Option Spot
+spot_after setup turns me name = spot_named name ((run_with_stops setup turns).actors me).held
+
+-- whether it holds the name then
+abbrev pub holds_after : Setup → List ℕ → ℕ → ℕ → Bool
+holds_after setup turns me name =
+    is_some (named_at name ((run_with_stops setup turns).actors me).held)
+
+-- these are units of the super carrier, and at least one
+abbrev pub FitsSuperCarrier : Setup → Range → Type 0
+FitsSuperCarrier setup r = (1 ≤ r.units)
+    × (r.first + r.units ≤ PAGE_UNITS * (setup.schedulers * setup.pages))
 
 -- it is in the same operation as before after these turns, too
 abbrev pub StaysInOperation : ℕ → List ℕ → GivenRun → Type 0

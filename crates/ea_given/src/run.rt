@@ -1,6 +1,6 @@
 //! The run of a trace by turns: one turn after another, or those of its schedule to its end.
-ghost use Rattle.std.specs.Prelude.{◌≡◌, ◌+◌, ◌<◌, ◌≤◌, true, [], ◌∷◌, IfOk, OnOk, All};
-ghost use Rattle.std.specs.Prelude.{◌-◌, flat_map, get_or, length, map, replicate};
+ghost use Rattle.std.specs.Prelude.{◌≡◌, ◌+◌, ◌<◌, ◌≤◌, true, [], ◌∷◌, IfOk, IfSome, OnOk, All};
+ghost use Rattle.std.specs.Prelude.{◌-◌, flat_map, get_or, is_some, length, map, replicate};
 ghost use Rattle.ea_model.specs.Outcome.{plain_outcome};
 ghost use Rattle.ea_model.specs.Settings.{IsValidConfig};
 ghost use Rattle.ea_model.specs.Trace.{IsScheduler, IsValidTrace};
@@ -9,20 +9,23 @@ ghost use Rattle.ea_machine.specs.Completion.{course_of};
 ghost use Rattle.ea_machine.specs.Machine.{start};
 ghost use Rattle.ea_machine.specs.Stops.{cut, run_with_stops};
 ghost use Rattle.ea_sound.specs.MachineLaws.{Protocol};
+ghost use Rattle.ea_sound.specs.Over.{LiesOver};
 ghost use Rattle.ea_machine.specs.Outcome as machine;
 ghost use Rattle.ea_machine.specs.Setup.{setup_of};
 ghost use Rattle.ea_instance.specs.Layouts.{plain_layout};
+ghost use Rattle.ea_outcome.specs.Extents.{range_of};
 ghost use Rattle.ea_outcome.specs.Layouts.{layouts_in};
 ghost use Rattle.ea_given.specs.Layouts.{is_scheduled, layouts_of_run};
 ghost use Rattle.ea_given.specs.Running.{AllRanOut, AllStand, AllStandAt, AllTook};
-ghost use Rattle.ea_given.specs.Runs.{HasCompleted, HasScheduler, HasTaken, IsRun, StandsAfter};
-ghost use Rattle.ea_given.specs.Runs.{StaysInOperation, Tells, done_after, ended_after};
+ghost use Rattle.ea_given.specs.Runs.{FitsSuperCarrier, HasCompleted, HasScheduler, HasTaken, IsRun};
+ghost use Rattle.ea_given.specs.Runs.{StandsAfter, StaysInOperation, Tells, done_after, ended_after};
+ghost use Rattle.ea_given.specs.Runs.{holds_after, spot_after};
 
 use crate::turns::{run_out, take_some, take_turn, take_turns};
 use ea_instance::Layout;
 use ea_mbc::Mbc;
-use ea_model::{Config, List, Mode, OutOfMemory, Outcome, Trace, Turns};
-use ea_outcome::{layouts_of, outcome_of};
+use ea_model::{Config, List, Mode, OutOfMemory, Outcome, Spot, Trace, Turns};
+use ea_outcome::{Extent, extent_of, layouts_of, outcome_of};
 use ea_sched::Scheduler;
 use ea_shared::MemShared;
 use std::alloc::Global;
@@ -176,6 +179,49 @@ impl<'t> GivenRun<'t> {
         ensures { Tells (λ setup turns. result ≡ done_after setup turns me) self.now }
     {
         self.scheduler(me).log().len()
+    }
+
+    /// Where the block of a name begins, if a scheduler holds the name.
+    fn spot_of(&self, me: u32, name: u32) -> Option<Spot>
+        requires stands { IsRun self.now }
+        requires scheduler { HasScheduler me self.now }
+        ensures { Tells (λ setup turns. result ≡ spot_after setup turns me name) self.now }
+    {
+        if name > self.trace.greatest {
+            return None;
+        }
+        self.scheduler(me).names().spot_of(name)
+    }
+
+    /// Whether a scheduler holds a name.
+    pub fn holds(&self, me: u32, name: u32) -> bool
+        requires stands { IsRun self.now }
+        requires scheduler { HasScheduler me self.now }
+        ensures { Tells (λ setup turns. result ≡ holds_after setup turns me name) self.now }
+    {
+        self.spot_of(me, name).is_some()
+    }
+
+    /// The units of the super carrier that the block of a name has which a scheduler holds,
+    /// wherever its carrier is. None exactly where the scheduler doesn't hold the name.
+    pub fn extent(&self, me: u32, name: u32) -> Option<Extent>
+        requires stands { IsRun self.now }
+        requires scheduler { HasScheduler me self.now }
+        ensures held { Tells (λ setup turns.
+            is_some result ≡ holds_after setup turns me name) self.now }
+        ensures lies { IfSome result (λ x. Tells (λ setup turns.
+            LiesOver setup name (range_of x) (run_with_stops setup turns)) self.now) }
+        ensures fits { IfSome result (λ x. Tells (λ setup turns.
+            FitsSuperCarrier setup (range_of x)) self.now) }
+    {
+        let spot = self.spot_of(me, name)?;
+        Some(extent_of(
+            self.config,
+            self.trace,
+            &self.schedulers,
+            &self.shared,
+            spot,
+        ))
     }
 
     /// Takes the turns of a schedule.
