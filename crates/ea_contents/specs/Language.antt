@@ -1,6 +1,6 @@
 -- Inputs with writes and reads. A line is the list of its words; the lines that were read are lists
 -- with the newest first.
-use Rattle.std.specs.Prelude.{ℕ, ◌+◌, ◌-◌, ◌^◌, nat_lt, Bool, true, false, ◌&&◌, ◌||◌, ◌==◌, not}
+use Rattle.std.specs.Prelude.{ℕ, ◌+◌, ◌-◌, ◌^◌, Bool, true, false, ◌&&◌, ◌||◌, ◌==◌, not}
 use Rattle.std.specs.Prelude.{if◌then◌else◌, List, [], ◌∷◌, ◌++◌}
 use Rattle.std.specs.Prelude.{Option, Some, None, Result, Ok, Err}
 use Rattle.std.specs.Prelude.{bytes_eq, codes, is_some, length, map, option_and_then}
@@ -9,14 +9,12 @@ use Rattle.ea_model.specs.declared.trace.Mode.{Mode}
 use Rattle.ea_model.specs.declared.trace.Mode.TheVariants as mode
 use Rattle.ea_model.specs.declared.trace.Trace.{Trace}
 use Rattle.ea_model.specs.Words.{number}
+use Rattle.ea_trace.specs.Between.{in_section}
 use Rattle.ea_trace.specs.Language.{Answer, Earlier, LineWords, WordLines, is_held, lines_of}
-use Rattle.ea_trace.specs.Language.{no_stops, section_operations, sections, stage_after}
-use Rattle.ea_trace.specs.Language.{stops_after, trace_of}
+use Rattle.ea_trace.specs.Language.{no_stops, section_operations, sections, trace_of}
 use Rattle.ea_trace.specs.Lines.{both_words, line_of_words, name_in, pair, three_words, triple}
 use Rattle.ea_trace.specs.declared.fault.TraceFault.{TraceFault}
 use Rattle.ea_trace.specs.declared.fault.TraceFault.TheVariants as fault
-use Rattle.ea_trace.specs.declared.stages.Stage.{Stage}
-use Rattle.ea_trace.specs.declared.stages.Stage.TheVariants.{Opening}
 use Rattle.ea_contents.specs.declared.access.Access.{Access}
 use Rattle.ea_contents.specs.declared.access.Access.TheVariants.{Read, Write}
 use Rattle.ea_contents.specs.Model.{Script}
@@ -50,15 +48,6 @@ blanked l = if is_access l then [] else l
 abbrev pub name_of : Access → ℕ
 name_of (Write name index value) = name
 name_of (Read name index) = name
-
--- whether a line after these stands in the section of a scheduler
-abbrev pub is_opening : Stage → Bool
-is_opening Opening = true
-is_opening stage = false
-
-abbrev pub in_section : Earlier → Bool
-in_section earlier = is_opening (stage_after earlier)
-    && (nat_lt 0 (sections earlier) && no_stops (stops_after earlier))
 
 -- whether it is a write or a read that is malformed, or stands elsewhere
 abbrev pub is_misplaced : Earlier → LineWords → Bool

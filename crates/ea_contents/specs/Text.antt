@@ -1,6 +1,7 @@
 -- The text of a run with writes and reads.
-use Rattle.std.specs.Prelude.{ℕ, List, [], ◌∷◌, ◌++◌, codes, decimal, flat_map}
+use Rattle.std.specs.Prelude.{ℕ, ◌+◌, List, [], ◌∷◌, ◌++◌, codes, decimal, flat_map}
 use Rattle.std.specs.List.{range_with_len}
+use Rattle.ea_model.specs.declared.outcome.Outcome.{Outcome}
 use Rattle.ea_model.specs.declared.settings.Config.{Config}
 use Rattle.ea_machine.specs.Outcome.{outcome}
 use Rattle.ea_machine.specs.Completion.{turns_in}
@@ -24,6 +25,16 @@ line_text (ReadOutside name index) =
     line (codes "read") (decimal name ∷ decimal index ∷ codes "outside" ∷ [])
 line_text (WriteSkipped name) = line (codes "write") (decimal name ∷ codes "skipped" ∷ [])
 line_text (ReadSkipped name) = line (codes "read") (decimal name ∷ codes "skipped" ∷ [])
+
+-- the lines of schedulers from that number on, each after one with its number
+abbrev pub lists_text : ℕ → List (List AccessEntry) → List ℕ
+lists_text i [] = []
+lists_text i (entries ∷ later) = line (codes "scheduler") (decimal i ∷ [])
+    ++ flat_map line_text entries ++ lists_text (i + 1) later
+
+-- the text of an outcome and of what came of the writes and reads of each scheduler
+abbrev pub ran_text : Outcome → List (List AccessEntry) → List ℕ
+ran_text o shown = outcome_text o ++ (line (codes "contents") [] ++ lists_text 1 shown)
 
 -- the lines of each scheduler, in order
 abbrev pub shown_text : Setup → Moment → List ℕ

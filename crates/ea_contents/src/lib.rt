@@ -10,13 +10,19 @@
 #![tactic(auto)]
 
 mod access;
+mod accesses;
 mod input;
 mod laws;
+mod lines;
 mod memory;
+mod reader;
 #[cfg(test)]
 mod tests;
+mod text;
 
 pub use access::{Access, AccessEntry, Making};
 pub use input::{ContentsInput, Placed};
 pub use laws::agreement;
 pub use memory::Memory;
+pub use reader::read_contents;
+pub use text::print_contents;
