@@ -1,10 +1,10 @@
 -- Which fault a call may end with: of an input that isn't good, of one that the command declines,
 -- and of one that it runs.
-use Rattle.std.proofs.Common.{◌≡◌, ◌≢◌, ℕ, true, false, List, inl, inr, refl, subst, sym, ◌∙◌, ap}
+use Rattle.std.proofs.Common.{◌≡◌, ◌≢◌, ℕ, true, false, List, inl, inr, refl, subst, sym, ◌∙◌}
 use Rattle.std.proofs.Common.{arith}
 use Rattle.std.specs.Prelude.{◌⊎◌, ◌↔◌, Option, None, Some, Result, Ok, Err, IsOk, IsOkAnd, IfSome}
 use Rattle.std.specs.declared.string.String.{String}
-use Rattle.ea_io.specs.Counts.{next_count}
+use Rattle.ea_io.proofs.Calling.{stopped-reading, stopped-writing}
 use Rattle.ea_flags.specs.declared.fault.FlagFault.{FlagFault}
 use Rattle.ea_flags.specs.Flags.{flags}
 use Rattle.ea_model.specs.declared.settings.Config.{Config}
@@ -14,7 +14,7 @@ use Rattle.ea_frame.specs.declared.faults.Fault.{Fault}
 use Rattle.ea_frame.specs.declared.faults.Fault.TheVariants.{Words, Input, TooLong}
 use Rattle.ea_frame.specs.declared.faults.Fault.TheVariants.{ReadFailed, WriteFailed, OutOfMemory}
 use Rattle.ea_frame.specs.declared.faults.Fault.TheVariants.{ScheduleWanted}
-use Rattle.ea_frame.specs.Answered.{End, HasFailed, IsCalm}
+use Rattle.ea_frame.specs.Answered.{End, FailedReading, FailedWriting, IsCalm}
 use Rattle.ea_frame.specs.Faults.{status_of, refusal_status}
 use Rattle.ea_frame.specs.Inputs.{DeclinedInput, GivesText, GoodInput, GoodWords, OfInput}
 use Rattle.ea_frame.specs.Inputs.{RunInput, spelled}
@@ -24,8 +24,13 @@ use Rattle.ea_frame.proofs.Statuses.{never_refused}
 use Rattle.ea_frame.proofs.Statuses.{refused_ends}
 
 -- an end that counted no fault hasn't failed
-pub never_failed : {E : Type 0} (e : End E) → IsCalm e → HasFailed e → ⊥
-never_failed e calm failed = absurd (omega (arith, calm, failed.once, ap next_count failed.calm))
+pub no_read_failed : {E : Type 0} (e : End E) → IsCalm e → FailedReading e → ⊥
+no_read_failed e calm failed =
+    absurd (omega (arith, calm, stopped-reading e.bytes e.faults e.old e.new failed))
+
+pub no_write_failed : {E : Type 0} (e : End E) → IsCalm e → FailedWriting e → ⊥
+no_write_failed e calm failed =
+    absurd (omega (arith, calm, stopped-writing e.bytes e.faults e.old e.new failed))
 
 -- what holds of an answer
 weaker : {A E : Type 0} (r : Result A E) (P Q : A → Type 0) → ((x : A) → P x → Q x) → IsOkAnd r P

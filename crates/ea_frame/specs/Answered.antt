@@ -2,7 +2,7 @@
 use Rattle.std.specs.Prelude.{◌≡◌, ◌≢◌, ℕ, ◌+◌, ◌<◌, ◌≤◌, ◌⊎◌, ◌↔◌, List, Option, IfSome}
 use Rattle.std.specs.Io.KnownBytes.{IsAtEnd}
 use Rattle.std.specs.declared.string.String.{String}
-use Rattle.ea_io.specs.Calls.{StopsAtFault}
+use Rattle.ea_io.specs.Calls.{StopsReading, StopsWriting}
 use Rattle.ea_io.specs.Counts.{Calm}
 use Rattle.ea_io.specs.Fronts.{ConsumesAtMost}
 use Rattle.ea_model.specs.declared.units.TheConstants.{MAX_INPUT}
@@ -41,9 +41,13 @@ module _ {E : Type 0} where
   abbrev pub IsCalm : End E → Type 0
   IsCalm e = Calm (e.faults e.old) (e.faults e.new)
 
-  -- one was, after which nothing was done
-  abbrev pub HasFailed : End E → Type 0
-  HasFailed e = StopsAtFault e.bytes e.faults e.old e.new
+  -- of a source: one was, by the last read, and all reads before it succeeded
+  abbrev pub FailedReading : End E → Type 0
+  FailedReading e = StopsReading e.bytes e.faults e.old e.new
+
+  -- of a sink: one was, by the last write, and all writes before it succeeded
+  abbrev pub FailedWriting : End E → Type 0
+  FailedWriting e = StopsWriting e.bytes e.faults e.old e.new
 
 -- What holds once a call of the command of this language, with these words, has ended with this
 -- status: of the source that it reads, of out, which takes the text, and of err, which takes the
@@ -77,9 +81,9 @@ pub record Answered (language : Language) {Z S O E : Type 0} (words : List (Stri
   pub taken : ConsumesAtMost (before source) (after source) (MAX_INPUT + 1)
   -- 3 and 4: only where that end failed, after which nothing more was read or written, and
   -- wherever it did; at 4 a front of the text was written.
-  pub read_failed : status ≡ 3 → HasFailed source
+  pub read_failed : status ≡ 3 → FailedReading source
   pub read_told : source.faults source.old < source.faults source.new → status ≡ 3
-  pub write_failed : status ≡ 4 → HasFailed out
+  pub write_failed : status ≡ 4 → FailedWriting out
   pub write_told : out.faults out.old < out.faults out.new → status ≡ 4
   pub front : status ≡ 4 → WroteFront language words (before source) (before out) (after out)
   pub untouched : status ≢ 0 → status ≢ 4 → out.new ≡ out.old
@@ -93,5 +97,6 @@ pub record Answered (language : Language) {Z S O E : Type 0} (words : List (Stri
   pub quiet : status ≡ 0 → err.new ≡ err.old
   pub reason : status ≢ 0 → (fault : Fault) × (status ≡ status_of fault)
       × Complains (before err) (after err) (IsCalm err) fault
-      × IsWhy language words (before source) (after source) (HasFailed source) (HasFailed out) fault
-  pub stops : (err.faults err.new ≡ err.faults err.old) ⊎ HasFailed err
+      × IsWhy language words (before source) (after source) (FailedReading source)
+      (FailedWriting out) fault
+  pub stops : (err.faults err.new ≡ err.faults err.old) ⊎ FailedWriting err

@@ -1,7 +1,7 @@
 //! Why a run has no text, with its status and its line.
 ghost use Rattle.std.specs.Prelude.{◌≡◌, ◌⊎◌, OnOk, OnErr};
 ghost use Rattle.std.specs.Io.KnownBytes.{Appends};
-ghost use Rattle.ea_io.specs.Calls.{StopsAtFault};
+ghost use Rattle.ea_io.specs.Calls.{StopsWriting};
 ghost use Rattle.ea_io.specs.Counts.{Calm};
 ghost use Rattle.ea_io.specs.Fronts.{AppendsFront};
 ghost use Rattle.ea_frame.specs.Faults.{Complains, fault_line, line_with, refusal_text, status_of};
@@ -77,7 +77,7 @@ fn write_with<E: Sink>(err: &mut E, text: &str) -> Result<(), Failed>
     ensures whole { OnOk result (Appends (E.taken err.old) (E.taken err.new) (line_with text.now)) }
     ensures front { AppendsFront (E.taken err.old) (E.taken err.new) (line_with text.now) }
     ensures kept { OnOk result (E.faults err.new ≡ E.faults err.old) }
-    ensures stops { OnErr result (StopsAtFault E.taken E.faults err.old err.new) }
+    ensures stops { OnErr result (StopsWriting E.taken E.faults err.old err.new) }
 {
     write_texts(err, &["erts_alloc_run: ", text, "\n"])
 }
@@ -94,7 +94,7 @@ fn write_refusal<E: Sink>(
     ensures front { AppendsFront (E.taken err.old) (E.taken err.new)
         (line_with (refusal_text thing.now number what.now)) }
     ensures kept { OnOk result (E.faults err.new ≡ E.faults err.old) }
-    ensures stops { OnErr result (StopsAtFault E.taken E.faults err.old err.new) }
+    ensures stops { OnErr result (StopsWriting E.taken E.faults err.old err.new) }
 {
     let Some(number) = number else {
         return write_with(err, what);
@@ -111,7 +111,7 @@ fn write_line<E: Sink>(err: &mut E, fault: Fault) -> Result<(), Failed>
     ensures whole { OnOk result (Appends (E.taken err.old) (E.taken err.new) (fault_line fault)) }
     ensures front { AppendsFront (E.taken err.old) (E.taken err.new) (fault_line fault) }
     ensures kept { OnOk result (E.faults err.new ≡ E.faults err.old) }
-    ensures stops { OnErr result (StopsAtFault E.taken E.faults err.old err.new) }
+    ensures stops { OnErr result (StopsWriting E.taken E.faults err.old err.new) }
 {
     match fault {
         Fault::Words(refusal) => write_refusal(err, "word", refusal.word(), refusal.message()),
@@ -129,7 +129,7 @@ pub fn complain<E: Sink>(err: &mut E, fault: Fault)
     ensures line { Complains (E.taken err.old) (E.taken err.new)
         (Calm (E.faults err.old) (E.faults err.new)) fault }
     ensures stops { (E.faults err.new ≡ E.faults err.old)
-        ⊎ StopsAtFault E.taken E.faults err.old err.new }
+        ⊎ StopsWriting E.taken E.faults err.old err.new }
 {
     let _ = write_line(err, fault);
 }

@@ -2,7 +2,7 @@
 ghost use Rattle.std.specs.Prelude.{◌≡◌, ◌≢◌, ℕ, ◌+◌, ◌^◌, ◌<◌, ◌≤◌, IfOk, IfErr, IfSome, OnOk};
 ghost use Rattle.std.specs.Prelude.{IsErrOf, length};
 ghost use Rattle.std.specs.Io.KnownBytes.{IsAtEnd};
-ghost use Rattle.ea_io.specs.Calls.{StopsAtFault};
+ghost use Rattle.ea_io.specs.Calls.{StopsReading, StopsWriting};
 ghost use Rattle.ea_io.specs.Fronts.{ConsumesAtMost};
 ghost use Rattle.ea_model.specs.declared.units.TheConstants.{MAX_INPUT};
 ghost use Rattle.ea_model.specs.Settings.{IsValidConfig};
@@ -88,8 +88,8 @@ fn attempt<P: Part, S: Source, O: Sink>(
     ensures end { OnOk result (IsAtEnd (S.left source.new)) }
     ensures why { IfErr result
         (IsWhy P.language words.now (S.left source.old) (S.left source.new)
-        (StopsAtFault S.left S.faults source.old source.new)
-        (StopsAtFault O.taken O.faults out.old out.new)) }
+        (StopsReading S.left S.faults source.old source.new)
+        (StopsWriting O.taken O.faults out.old out.new)) }
     ensures taken { ConsumesAtMost (S.left source.old) (S.left source.new) (MAX_INPUT + 1) }
     ensures unread { IfErr result (λ f. status_of f ≡ 1 → source.new ≡ source.old) }
     ensures untouched { IfErr result (λ f. f ≢ Fault.WriteFailed → out.new ≡ out.old) }
@@ -97,7 +97,7 @@ fn attempt<P: Part, S: Source, O: Sink>(
         → IsErrOf result Fault.ReadFailed }
     ensures write_told { O.faults out.old < O.faults out.new → IsErrOf result Fault.WriteFailed }
     ensures write_stops { IsErrOf result Fault.WriteFailed
-        → StopsAtFault O.taken O.faults out.old out.new }
+        → StopsWriting O.taken O.faults out.old out.new }
     ensures front { IsErrOf result Fault.WriteFailed
         → WroteFront P.language words.now (S.left source.old) (O.taken out.old) (O.taken out.new) }
 {
@@ -119,7 +119,7 @@ fn input_of<S: Source>(alloc: Global, source: &mut S) -> Result<List<u8>, Fault>
     ensures told { S.faults source.old < S.faults source.new → IsErrOf result Fault.ReadFailed }
     ensures why { IfErr result
         (IsReadFault (S.left source.old) (S.left source.new)
-        (StopsAtFault S.left S.faults source.old source.new)) }
+        (StopsReading S.left S.faults source.old source.new)) }
 {
     match read_all(alloc, source, MAX_INPUT) {
         Ok(bytes) => Ok(bytes),

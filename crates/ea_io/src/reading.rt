@@ -1,7 +1,7 @@
 //! Reading a source to its end.
 ghost use Rattle.std.specs.Prelude.{◌≡◌, ◌+◌, ◌^◌, ◌<◌, ◌≤◌, IfOk, OnOk, IfSome, IsErrOf, length};
 ghost use Rattle.std.specs.Io.KnownBytes.{IsAtEnd};
-ghost use Rattle.ea_io.specs.Calls.{StopsAtFault};
+ghost use Rattle.ea_io.specs.Calls.{OnlyReads, StopsReading};
 ghost use Rattle.ea_io.specs.Counts.{Rose};
 ghost use Rattle.ea_io.specs.Fronts.{ConsumesAtMost, ConsumesMany};
 ghost use Rattle.ea_io.specs.Messages.{message_of};
@@ -61,6 +61,7 @@ pub fn read_all<S: Source>(
     ensures end { OnOk result (IsAtEnd (S.left source.new)) }
     ensures short { IfOk result (λ bytes. length bytes.items ≤ max) }
     ensures kept { OnOk result (S.faults source.new ≡ S.faults source.old) }
+    ensures reads { OnOk result (OnlyReads S.left S.faults source.old source.new) }
     ensures too_long { IsErrOf result ReadAllFault.TooLong →
         ConsumesMany (S.left source.old) (S.left source.new) (max + 1) }
     ensures too_long_kept { IsErrOf result ReadAllFault.TooLong →
@@ -70,7 +71,7 @@ pub fn read_all<S: Source>(
     ensures read_fault_short { IsErrOf result ReadAllFault.ReadFault →
         ConsumesAtMost (S.left source.old) (S.left source.new) max }
     ensures read_fault_stops { IsErrOf result ReadAllFault.ReadFault →
-        StopsAtFault S.left S.faults source.old source.new }
+        StopsReading S.left S.faults source.old source.new }
     ensures memory_kept { IsErrOf result ReadAllFault.OutOfMemory →
         S.faults source.new ≡ S.faults source.old }
     ensures taken { ConsumesAtMost (S.left source.old) (S.left source.new) (max + 1) }

@@ -101,18 +101,22 @@ fn numbers_and_texts_are_put_and_counted(rt: HostRuntime) -> Result<(), Fail> {
     Ok(())
 }
 
-// Gives its bytes by threes, and fails at its second call.
+// Gives its bytes by threes; at its second call it fails, or gives none, as at an end.
 #[derive(Drop)]
 struct Lapsing<'a> {
     rest: &'a [u8],
     calls: u8,
+    fails: bool,
 }
 
 impl Read for Lapsing<'_> {
     fn read(&mut self, buf: &mut [u8]) -> io::Result<usize> {
         self.calls = self.calls.saturating_add(1);
         if self.calls == 2 {
-            return Err(io::Error::from(ErrorKind::TimedOut));
+            if self.fails {
+                return Err(io::Error::from(ErrorKind::TimedOut));
+            }
+            return Ok(0);
         }
         let room = buf.len().min(3);
         self.rest.read(&mut buf[..room])
@@ -127,6 +131,7 @@ fn a_reader_gives_its_bytes_and_may_fail_in_between(rt: HostRuntime) -> Result<(
     let mut source = StdSource::new(Lapsing {
         rest: LETTERS,
         calls: 0,
+        fails: true,
     });
     assert_eq!(rt;
         name_of(&read_all(rt.alloc(), &mut source, 20)),
@@ -134,6 +139,30 @@ fn a_reader_gives_its_bytes_and_may_fail_in_between(rt: HostRuntime) -> Result<(
     );
     let rest = read_all(rt.alloc(), &mut source, 20)?;
     assert_eq!(rt; rest.as_slice(), b"defghijklmnopqrst".as_slice());
+    Ok(())
+}
+
+#[test]
+fn a_reader_that_gives_none_is_at_its_end_and_is_not_read_again(
+    rt: HostRuntime,
+) -> Result<(), Fail> {
+    let mut source = StdSource::new(Lapsing {
+        rest: LETTERS,
+        calls: 0,
+        fails: false,
+    });
+    assert_eq!(rt; source.read(&mut [0; 20]), Ok(3));
+    assert_eq!(rt; source.read(&mut [0; 20]), Ok(0));
+    let rest = read_all(rt.alloc(), &mut source, 20)?;
+    assert_eq!(rt; rest.as_slice(), b"defghijklmnopqrst".as_slice());
+
+    let mut source = StdSource::new(Lapsing {
+        rest: LETTERS,
+        calls: 0,
+        fails: false,
+    });
+    let first = read_all(rt.alloc(), &mut source, 20)?;
+    assert_eq!(rt; first.as_slice(), b"abc".as_slice());
     Ok(())
 }
 

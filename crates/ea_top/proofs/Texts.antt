@@ -8,8 +8,8 @@ use Rattle.ea_model.specs.declared.trace.Mode.{Mode}
 use Rattle.ea_model.specs.declared.trace.Mode.TheVariants.{Threads, Schedule, Generated}
 use Rattle.ea_model.specs.declared.trace.Trace.{Trace}
 use Rattle.ea_model.specs.Outcome.{logs_of, plain_outcome}
-use Rattle.ea_model.specs.Settings.{region_pages, settings_of}
-use Rattle.ea_model.specs.Trace.{listed, plain, plain_mode, stop_in}
+use Rattle.ea_model.specs.Settings.{IsValidConfig, region_pages, settings_of}
+use Rattle.ea_model.specs.Trace.{IsValidTrace, listed, plain, plain_mode, stop_in}
 use Rattle.ea_model.proofs.Traces.{plain-texts}
 use Rattle.ea_machine.specs.Completion.{course_of}
 use Rattle.ea_machine.specs.Courses.{IsCourse}
@@ -17,6 +17,8 @@ use Rattle.ea_machine.specs.Outcome.{outcome, outcome_of}
 use Rattle.ea_machine.specs.Setup.{Setup, setup_of, text_for}
 use Rattle.ea_top.specs.Output.{IsRunOutcome, IsRunText, filled_by, outcome_after, run_setup}
 use Rattle.ea_top.specs.Output.{text_by}
+use Rattle.ea_sound.proofs.Protocols.{always-protocol}
+use Rattle.ea_top.proofs.Valid.{filled-valid, plain-valid}
 
 same_setup : (c : Config) (t : Trace) → setup_of c (plain t) ≡ setup_of c t
 same_setup c t = ap (λ texts. record {
@@ -79,11 +81,17 @@ same_text (Schedule turns) o = rw (same_logs o) refl
 same_text (Generated seed count) o = rw (same_logs o) refl
 
 -- the text of an outcome of the run of a trace is one of the trace as a definition answers it
-pub run-text : (c : Config) (t : Trace) (o : Outcome) → IsRunOutcome c t (plain_outcome o)
+pub run-text : (c : Config) (t : Trace) (o : Outcome) → IsValidConfig c
+    → IsValidTrace c.schedulers t → IsRunOutcome c t (plain_outcome o)
     → IsRunText c (plain t) (text_by t.mode o)
-run-text c t o h = (
-  h.0,
-  same_course c t h.0 h.1,
-  same_text t.mode o
-      ∙ ap (text_by (plain_mode t.mode)) (h.2 ∙ sym (same_outcome c t h.0)),
-)
+run-text c t o config trace h =
+    let valid = filled-valid c.schedulers t t.mode trace.mode (plain-valid c.schedulers t trace) in
+    record {
+      turns = h.0;
+      course = same_course c t h.0 h.1;
+      printed = same_text t.mode o
+          ∙ ap (text_by (plain_mode t.mode)) (h.2 ∙ sym (same_outcome c t h.0));
+      valid = valid;
+      protocol = always-protocol c (filled_by c.schedulers (plain t) (plain_mode t.mode)) config
+          valid;
+    }

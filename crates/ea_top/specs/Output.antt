@@ -5,10 +5,12 @@ use Rattle.ea_model.specs.declared.settings.Config.{Config}
 use Rattle.ea_model.specs.declared.trace.Mode.{Mode}
 use Rattle.ea_model.specs.declared.trace.Mode.TheVariants.{Threads, Schedule, Generated}
 use Rattle.ea_model.specs.declared.trace.Trace.{Trace}
+use Rattle.ea_model.specs.Trace.{IsValidTrace}
 use Rattle.ea_gen.specs.Generated.{generated_trace}
 use Rattle.ea_machine.specs.Courses.{IsCourse}
 use Rattle.ea_machine.specs.Outcome.{outcome}
 use Rattle.ea_machine.specs.Setup.{Setup, setup_of}
+use Rattle.ea_sound.specs.MachineLaws.{Protocol}
 use Rattle.ea_report.specs.Text.{outcome_text, summary_text}
 
 -- the trace, or the one that is generated for n schedulers where its mode says so
@@ -36,7 +38,11 @@ module _ (c : Config) (t : Trace) where
   abbrev pub IsRunOutcome : Outcome → Type 0
   IsRunOutcome o = (turns : List ℕ) × IsCourse run_setup t.mode turns × (o ≡ outcome_after turns)
 
-  -- the text is that of a course of it
-  abbrev pub IsRunText : List ℕ → Type 0
-  IsRunText text = (turns : List ℕ) × IsCourse run_setup t.mode turns
-      × (text ≡ text_by t.mode (outcome_after turns))
+  -- the text is that of a course of it, and of this run, at each moment of each list of its steps,
+  -- the protocol holds
+  pub record IsRunText (text : List ℕ) : Type 0 where
+    pub turns : List ℕ
+    pub course : IsCourse run_setup t.mode turns
+    pub printed : text ≡ text_by t.mode (outcome_after turns)
+    pub valid : IsValidTrace c.schedulers (filled_by c.schedulers t t.mode)
+    pub protocol : Protocol run_setup

@@ -1,7 +1,7 @@
 //! The top call.
 ghost use Rattle.std.specs.Prelude.{◌≡◌, ◌≢◌, ℕ, ◌+◌, ◌^◌, ◌<◌, ◌≤◌, ◌⊎◌, ◌↔◌, IfSome, length};
 ghost use Rattle.std.specs.Io.KnownBytes.{IsAtEnd};
-ghost use Rattle.ea_io.specs.Calls.{StopsAtFault};
+ghost use Rattle.ea_io.specs.Calls.{StopsReading, StopsWriting};
 ghost use Rattle.ea_io.specs.Counts.{Calm};
 ghost use Rattle.ea_io.specs.Fronts.{ConsumesAtMost};
 ghost use Rattle.ea_model.specs.declared.units.TheConstants.{MAX_INPUT};
@@ -43,8 +43,10 @@ pub fn run<R: Threads + Sync, S: Source, O: Sink, E: Sink>(
     // schedule: the turns that it asks for, and then those of each scheduler until it has ended or
     // is stopped; a turn of one that has ended or is stopped changes nothing. Where the input asks
     // for generated operations, they are the ones that are defined, run by an empty schedule, and
-    // the text is the counts of them. Where the source doesn't tell its bytes, as a terminal, this
-    // holds of some input.
+    // the text is the counts of them. This trace, given or generated, is valid for the schedulers
+    // of the words, so at every moment of every list of steps of this run all holds that stands at
+    // `protocol` below. Where the source doesn't tell its bytes, as a terminal, this holds of some
+    // input.
     ensures done { result ≡ 0
         → WroteText words.now (S.left source.old) (O.taken out.old) (O.taken out.new) }
     ensures end { result ≡ 0 → IsAtEnd (S.left source.new) }
@@ -78,9 +80,9 @@ pub fn run<R: Threads + Sync, S: Source, O: Sink, E: Sink>(
 
     // 3 and 4: only where that end failed, after which nothing more was read or written, and
     // wherever it did; at 4 a front of the text was written.
-    ensures read_failed { result ≡ 3 → StopsAtFault S.left S.faults source.old source.new }
+    ensures read_failed { result ≡ 3 → StopsReading S.left S.faults source.old source.new }
     ensures read_told { S.faults source.old < S.faults source.new → result ≡ 3 }
-    ensures write_failed { result ≡ 4 → StopsAtFault O.taken O.faults out.old out.new }
+    ensures write_failed { result ≡ 4 → StopsWriting O.taken O.faults out.old out.new }
     ensures write_told { O.faults out.old < O.faults out.new → result ≡ 4 }
     ensures front { result ≡ 4
         → WroteFront words.now (S.left source.old) (O.taken out.old) (O.taken out.new) }
@@ -100,10 +102,10 @@ pub fn run<R: Threads + Sync, S: Source, O: Sink, E: Sink>(
         × Complains (E.taken err.old) (E.taken err.new)
         (Calm (E.faults err.old) (E.faults err.new)) fault
         × IsWhy words.now (S.left source.old) (S.left source.new)
-        (StopsAtFault S.left S.faults source.old source.new)
-        (StopsAtFault O.taken O.faults out.old out.new) fault }
+        (StopsReading S.left S.faults source.old source.new)
+        (StopsWriting O.taken O.faults out.old out.new) fault }
     ensures stops { (E.faults err.new ≡ E.faults err.old)
-        ⊎ StopsAtFault E.taken E.faults err.old err.new }
+        ⊎ StopsWriting E.taken E.faults err.old err.new }
 
     // All of this in the words that every command has.
     ensures answered { Answered traces words.now (end_of S.left S.faults source.old source.new)

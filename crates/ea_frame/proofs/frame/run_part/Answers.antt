@@ -32,11 +32,11 @@ returns-in-Err g c =
       unread = tried.unread;
       bad_input = ending.bad_input language words _ _ _ _ f why;
       refuses = λ good calm. ending.refuses language words _ _ _ good
-          (ending.never_failed source calm) _ f why;
+          (ending.no_read_failed source calm) _ f why;
       declined_input = λ seven. ending.declined_input language words _ _ _ _ f why
           (ends_with_7 f seven);
       declines = λ good calm. ending.declines language words _ _ _ good
-          (ending.never_failed source calm) _ f why;
+          (ending.no_read_failed source calm) _ f why;
       taken = tried.taken;
       read_failed = λ three. ending.read_failed language words _ _ _ _ f why (ends_with_3 f three);
       read_told = λ rose. same_status f ReadFailed (tried.read_told rose);
@@ -45,7 +45,7 @@ returns-in-Err g c =
       front = λ four. tried.front (ap Err (ends_with_4 f four));
       untouched = λ some other. tried.untouched (λ is. other (ap status_of is));
       complete = λ good calm dry. ending.complete language words _ _ _ good
-          (ending.never_failed source calm) (ending.never_failed out dry) _ f why;
+          (ending.no_read_failed source calm) (ending.no_write_failed out dry) _ f why;
       quiet = λ zero. absurd (is_some f zero);
       reason = λ some. (f, refl, c.complain.ensures.line, why);
       stops = c.complain.ensures.stops;
