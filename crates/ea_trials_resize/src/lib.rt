@@ -18,6 +18,8 @@ pub fn worked_decisions()
     ensures at_threshold { multi 65530 65536 6 ≡ GrowHere }
     ensures same { multi 100 100 0 ≡ Stay }
     ensures five_less { multi 100 95 0 ≡ Stay }
+    ensures four_less_at_a_low_limit { decision (record usual { rmbcmt = 3 }) 100 96 (Multi 0)
+        ≡ Stay }
     ensures six_less { multi 100 94 0 ≡ ShrinkHere }
     ensures half { multi 100 50 0 ≡ ShrinkHere }
     ensures less_than_half { multi 100 49 0 ≡ Move }
