@@ -12,8 +12,6 @@ import sys
 
 LETTERS = "B D E H L R S T"
 COMMANDS = ("types", "super", "contents", "histogram", "recorded")
-# Those whose lines are known here, and the program without one.
-KNOWN = ("", "types", "super", "histogram", "recorded")
 STRATEGIES = "bf aobf aoff aoffcbf aoffcaobf ageffcaoff ageffcbf ageffcaobf gf af"
 KILOBYTES = "kilobytes"
 # Of each flag its least and greatest number, in what, and the values that are names.
@@ -55,6 +53,8 @@ OPERATIONS = {
     "info": ("info", ()),
     "idle": ("idle", ()),
 }
+# Of what blocks contain.
+ACCESSES = {"write": ("write NAME INDEX VALUE", ("NAME", "INDEX", "VALUE")), "read": ("read NAME INDEX", ("NAME", "INDEX"))}
 # Of one shared region.
 REQUESTS = {"take": ("take NAME PAGES", ("NAME", "PAGES")), "back": ("back NAME", ("NAME",))}
 OTHERS = {
@@ -68,6 +68,8 @@ OTHERS = {
 RANGES = {
     "NAME": (1, 1048576),
     "BYTES": (0, 1073741823),
+    "INDEX": (0, 4294967295),
+    "VALUE": (0, 4294967295),
     "PAGES": (1, 131072),
     "TRIES": (1, 10000000),
     "STEPS": (0, 100000000),
@@ -171,7 +173,7 @@ def is_said(words):
 
 
 def form_words(form):
-    names = dict.fromkeys(it for it in form[1] if it in ("NAME", "BYTES", "PAGES", "TRIES", "STEPS", "SEED"))
+    names = dict.fromkeys(it for it in form[1] if it not in ("SCHEDULER", "COUNT"))
     ranges = [f"{it} {RANGES[it][0]} to {RANGES[it][1]}" for it in names]
     return f"`{form[0]}`" + (f", {', '.join(ranges)}" if ranges else "")
 
@@ -239,6 +241,16 @@ def of_types_syntax(lines, words):
     return of_syntax(stage, words, "types")
 
 
+def of_contents_syntax(lines, words):
+    """With contents there are writes and reads among the operations."""
+    stage = stage_before(lines)
+    if words[0] in ACCESSES and stage == "section":
+        return form_words(ACCESSES[words[0]])
+    if words[0] in ACCESSES:
+        return f"`{words[0]}` in the section of a scheduler"
+    return of_syntax(stage, words, "contents")
+
+
 def of_region_syntax(lines, words):
     """With one shared region there are requests in place of operations."""
     stage = stage_before(lines)
@@ -273,7 +285,7 @@ def of_line(kind, at, command, words, data):
     if kind in whole:
         return whole[kind]
     lines = [words_of(it) for it in data.split(b"\n")] if data is not None else []
-    if command not in KNOWN or not 0 < at <= len(lines) or not lines[at - 1]:
+    if not 0 < at <= len(lines) or not lines[at - 1]:
         return "docs/FORMATS.md says what a line may be"
     before, line = lines[: at - 1], lines[at - 1]
     if kind == "bad scheduler":
@@ -284,6 +296,8 @@ def of_line(kind, at, command, words, data):
         return of_types_syntax(before, line)
     if command == "super":
         return of_region_syntax(before, line)
+    if command == "contents":
+        return of_contents_syntax(before, line)
     return of_syntax(stage_before(before), line, command)
 
 
@@ -320,9 +334,9 @@ def main(words):
         print("expected.py: due are LINE -- WORDS", file=sys.stderr)
         return 2
     said, given = words[0], words[2:]
-    command, flags = command_and_flags(given)
+    flags = command_and_flags(given)[1]
     if not said:
-        found = refusal(flags) if command in KNOWN else None
+        found = refusal(flags)
         if found:
             print(f"erts_alloc_run: {found[0]}\nrun: expected: {found[1]}")
         return 0

@@ -13,9 +13,11 @@ TOP = os.path.dirname(os.path.dirname(os.path.realpath(__file__)))
 NOT_BUILT = 70
 SMALLEST_TRACE = b"type H\nscheduler 1\nschedule\nend\n"
 # The program's first words for an input of several allocator types, and for one of one shared region, each of which
-# begins the first line of that, too; for one of operations in their recorded order; and for the histograms of a trace.
+# begins the first line of that, too; for one of operations in their recorded order; for the histograms of a trace; and
+# for one with writes and reads.
 OF_SEVERAL, OF_REGION, OF_RECORDED, OF_HISTOGRAMS = "types", "super", "recorded", "histogram"
-COMMANDS = (OF_SEVERAL, OF_REGION, OF_RECORDED, OF_HISTOGRAMS)
+OF_CONTENTS = "contents"
+COMMANDS = (OF_SEVERAL, OF_REGION, OF_RECORDED, OF_HISTOGRAMS, OF_CONTENTS)
 
 
 def reason_of(error):

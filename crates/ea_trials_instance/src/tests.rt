@@ -14,6 +14,7 @@ use ea_model::{
     Standing, Strategy,
 };
 use std::alloc::Global;
+use std::fmt::Debug;
 use std::process::Abort;
 use std::test::Fail;
 
@@ -68,6 +69,11 @@ enum Step {
     FreeUnits(u64),
     MultiFigures(Figures),
     SingleFigures(Figures),
+}
+
+// What the step answers is what it has to be.
+fn compare<T: Debug + PartialEq>(rt: &impl Abort, step: Step, answer: &T, wanted: &T) {
+    assert!(rt; answer == wanted, "{step:?}: {answer:?}");
 }
 
 // An instance that steps are tried on.
@@ -147,76 +153,68 @@ impl Trial {
         self.instance.resize(spot, need, name)
     }
 
-    fn step(&mut self, rt: &impl Abort, alloc: Global, step: Step) -> Result<(), OutOfMemory> {
+    // A step that changes nothing, if it is one.
+    fn ask(&self, rt: &impl Abort, step: Step) {
         match step {
-            IsAlone(need, alone) => {
-                assert_eq!(rt; self.instance.is_alone(need), alone, "{step:?}");
-            }
+            IsAlone(need, alone) => compare(rt, step, &self.instance.is_alone(need), &alone),
             Plan(need, plan) => {
-                assert_eq!(rt; self.plan(rt, need, false), plan.map(plan_of), "{step:?}");
+                compare(rt, step, &self.plan(rt, need, false), &plan.map(plan_of));
             }
             PlanSingle(need, plan) => {
-                assert_eq!(rt;
-                    self.plan(rt, need, true),
-                    plan.map(single_plan_of),
-                    "{step:?}"
-                );
-            }
-            Create(need, plan) => {
-                assert_eq!(rt;
-                    self.create(rt, alloc, need)?,
-                    plan.map(plan_of),
-                    "{step:?}"
-                );
-            }
-            Put(need, name, place) => {
-                assert!(rt; need >= 6 && need % 2 == 0);
-                assert_eq!(rt;
-                    self.instance.try_alloc(need, name),
-                    place.map(place_of),
-                    "{step:?}"
-                );
-            }
-            PutSingle(need, name, plan, place) => {
-                assert_eq!(rt;
-                    self.put_single(rt, need, name),
-                    Ok((single_plan_of(plan), place_of(place))),
-                    "{step:?}"
-                );
-            }
-            TakeOut(carrier, offset, released) => {
-                assert_eq!(rt;
-                    self.take_out(rt, Spot { carrier, offset }),
-                    released,
-                    "{step:?}"
-                );
-            }
-            Resize(carrier, offset, need, name, size) => {
-                let spot = Spot { carrier, offset };
-                assert_eq!(rt; self.resize(rt, spot, need, name), size, "{step:?}");
+                compare(rt, step, &self.plan(rt, need, true), &plan.map(single_plan_of));
             }
             BlockAt(carrier, offset, block) => {
                 let found = self.instance.block_at(Spot { carrier, offset });
-                assert_eq!(rt;
-                    found,
-                    block.map(|(name, size)| Block { name, size }),
-                    "{step:?}"
-                );
+                compare(rt, step, &found, &block.map(|(name, size)| Block { name, size }));
             }
             Employs(carrier, employs) => {
-                assert_eq!(rt; self.instance.employs(carrier), employs, "{step:?}");
+                compare(rt, step, &self.instance.employs(carrier), &employs);
             }
-            Created(count) => assert_eq!(rt; self.instance.created(), count),
-            FreeUnits(units) => assert_eq!(rt; self.instance.free_units(), units),
-            MultiFigures(figures) => assert_eq!(rt; self.instance.multi_figures(), figures),
-            SingleFigures(figures) => assert_eq!(rt; self.instance.single_figures(), figures),
+            Created(count) => compare(rt, step, &self.instance.created(), &count),
+            FreeUnits(units) => compare(rt, step, &self.instance.free_units(), &units),
+            MultiFigures(figures) => {
+                compare(rt, step, &self.instance.multi_figures(), &figures);
+            }
+            SingleFigures(figures) => {
+                compare(rt, step, &self.instance.single_figures(), &figures);
+            }
+            Create(..) | Put(..) | PutSingle(..) | TakeOut(..) | Resize(..) => {}
+        }
+    }
+
+    // A step that changes the instance, if it is one.
+    fn change(&mut self, rt: &impl Abort, alloc: Global, step: Step) -> Result<(), OutOfMemory> {
+        match step {
+            Create(need, plan) => {
+                let created = self.create(rt, alloc, need)?;
+                compare(rt, step, &created, &plan.map(plan_of));
+            }
+            Put(need, name, place) => {
+                assert!(rt; need >= 6 && need % 2 == 0);
+                let put = self.instance.try_alloc(need, name);
+                compare(rt, step, &put, &place.map(place_of));
+            }
+            PutSingle(need, name, plan, place) => {
+                let put = self.put_single(rt, need, name);
+                compare(rt, step, &put, &Ok((single_plan_of(plan), place_of(place))));
+            }
+            TakeOut(carrier, offset, released) => {
+                let vacant = self.take_out(rt, Spot { carrier, offset });
+                compare(rt, step, &vacant, &released);
+            }
+            Resize(carrier, offset, need, name, size) => {
+                let resized = self.resize(rt, Spot { carrier, offset }, need, name);
+                compare(rt, step, &resized, &size);
+            }
+            _ => {}
         }
         Ok(())
     }
 
     fn steps(&mut self, rt: &impl Abort, alloc: Global, steps: &[Step]) -> Result<(), OutOfMemory> {
         for step in steps {
-            self.step(rt, alloc, *step)?;
+            self.ask(rt, *step);
+            self.change(rt, alloc, *step)?;
         }
         Ok(())
     }
