@@ -24,7 +24,8 @@ use Rattle.ea_machine.specs.declared.nodes.Named.{Named}
 use Rattle.ea_machine.specs.declared.stages.Stage.TheVariants.{Begin}
 use Rattle.ea_machine.specs.Actor.{Actor}
 use Rattle.ea_machine.specs.Tasks.{later, logged}
-use Rattle.ea_sched.specs.Creations.{IsCreation}
+use Rattle.ea_sched.specs.declared.state.Scheduler.{Scheduler}
+use Rattle.ea_sched.specs.Creations.{HasPlanned, PlansFrom}
 
 pub finished : (a : Actor) (x : Entry) (todo : List Op) (log : List Entry)
     → todo ≡ later a.todo → log ≡ a.log ++ x ∷ []
@@ -118,17 +119,20 @@ pub at-exit : {T E P : Type 0} (r : Result T E) → P → OnErr r P
 at-exit (Ok x) p = tt
 at-exit (Err x) p = p
 
--- what it was to make is a creation
-pub creates-as : {T E : Type 0} (r : Result T E) (i : Instance) {x y : Actor}
-    → OnErr r (IsCreation i x) → x ≡ y → OnErr r (IsCreation i y)
-creates-as r i h e = on_err_weaker r (subst (IsCreation i) e) h
+-- what it was to make plans a carrier
+pub plans-as : {T E : Type 0} (r : Result T E) (s : Scheduler) {x y : Actor}
+    → OnErr r (PlansFrom s x) → x ≡ y → OnErr r (PlansFrom s y)
+plans-as r s h e = on_err_weaker r (subst (PlansFrom s) e) h
 
--- a creation is one for an instance that has created as many
-pub creation-from : (i j : Instance) (a : Actor) → i.created ≡ j.created → IsCreation i a
-    → IsCreation j a
-creation-from i j a e creation = record {
-  counts = elim creation.counts [
-    | inl more ↦ inl (more ∙ ap (λ n. n + 1) e)
-    | inr full ↦ inr (sym e ∙ full)
-  ];
+-- one that is planned is the next one of an instance that has created as many
+pub planned-from : {e : Setup} {me : ℕ} (i j : Instance) (a : Actor) → i.created ≡ j.created
+    → HasPlanned e me i a → HasPlanned e me j a
+planned-from i j a same h = record {
+  before = h.before;
+  ask = h.ask;
+  plan = h.plan;
+  is_plan = h.is_plan;
+  multi = h.multi;
+  next = h.next ∙ ap (λ n. n + 1) same;
+  is = h.is;
 }

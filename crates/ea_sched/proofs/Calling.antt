@@ -34,14 +34,16 @@ use Rattle.ea_machine.specs.Walks.{ready, with_passed, worked_off}
 use Rattle.ea_shared.specs.Calls.{Caller, Did}
 use Rattle.ea_names.specs.Holding.{has_place}
 use Rattle.ea_sound.proofs.Calls as calls
+use Rattle.ea_sound.proofs.FewCreated.{created-counts}
 use Rattle.ea_sound.proofs.FewPassed.{passes-few}
 use Rattle.ea_sched.specs.declared.state.Scheduler.{Scheduler}
 use Rattle.ea_sched.specs.Acting.{actor_of, is_ended, setup_for, standing_at}
-use Rattle.ea_sched.specs.Asking.{HasMore, IsFresh, SuitsNext}
-use Rattle.ea_sched.specs.Creations.{CreatesAt, IsCreation}
+use Rattle.ea_sched.specs.Asking.{CanCount, HasMore, IsFresh, SuitsNext}
+use Rattle.ea_sched.specs.Creations.{PlansAt, PlansFrom}
 use Rattle.ea_sched.specs.Steps.{DidRow, IsReadyAt}
 use Rattle.ea_sound.specs.Walking.{CanAllGo, worked}
-use Rattle.ea_sched.proofs.Doing.{Answered, answered-so, creates-so, stage-goes}
+use Rattle.ea_sched.proofs.Doing.{Answered, answered-so, is_creating, none-creating, plans-so}
+use Rattle.ea_sched.proofs.Doing.{stage-goes}
 use Rattle.ea_sched.proofs.AfterWalk.{next-placed}
 use Rattle.ea_sched.proofs.Suiting.{goes-linked, goes-passed, suits-after_link, suits-linked}
 use Rattle.ea_sched.proofs.Suiting.{suits-passed, suits-rests, suits-taken}
@@ -101,6 +103,11 @@ module _ {stage : Stage Content} (s : Scheduler) {shared : Option Shared} {calle
   pub told-so : (P : Shared → Type 0) → P h.state.shared → IfSome shared P
   told-so P holds = if_some shared (λ x. x ≡ h.state.shared) P (λ x same. subst P (sym same) holds)
       h.shares
+
+  -- one carrier more can be counted
+  pub ready-counts : CanCount s.instance
+  ready-counts = subst (λ (x : Actor). CanCount x.instance) h.actor
+      (created-counts s.config s.trace.now h.config h.trace h.state h.reached me)
 
   -- where an operation is left in that state, one is left
   more : (o : Op) (ops : List Op) → (h.state.actors me).todo ≡ o ∷ ops → HasMore s
@@ -258,16 +265,18 @@ module _ {stage : Stage Content} (s : Scheduler) {shared : Option Shared} {calle
       is = is ∙ sym (ap (λ x. onward e me (after_row e me a got x)) same);
     }
 
-    -- what goes on from it creates a carrier
-    pub row-creates : (row : Row) (got : Answer) (at : Stage Content) → stage ≡ at
-        → is_ended at ≡ false → wants_at a.next at ≡ row → Did me row got shared new caller now
-        → IsCreation s.instance (onward e me (after_row e me a got at))
-        → CreatesAt stage s shared caller
-    row-creates row got at same goes want did creates =
-        creates-so s.config s.trace.now me a row got (ap (wants_at a.next) same ∙ want)
+    -- what goes on from it plans a carrier
+    pub row-plans : (row : Row) (got : Answer) (at : Stage Content) → stage ≡ at
+        → is_ended at ≡ false → is_creating at ≡ false → wants_at a.next at ≡ row
+        → Did me row got shared new caller now
+        → PlansFrom s (onward e me (after_row e me a got at))
+        → PlansAt stage s shared caller
+    row-plans row got at same goes other want did plans =
+        plans-so s.config s.trace.now me a row got (ap (wants_at a.next) same ∙ want)
         (stage-goes stage (ap is_ended same ∙ goes))
-        (subst (λ x. IsCreation s.instance (onward e me (after_row e me a got x))) (sym same)
-        creates) shared new caller now h did
+        (none-creating stage (ap is_creating same ∙ other))
+        (subst (λ x. PlansFrom s (onward e me (after_row e me a got x))) (sym same) plans)
+        shared new caller now h did
 
     -- the walk's next node isn't linked
     pub rests-suits : (node : Node) → stage ≡ Begin → s.next ≡ Some node
@@ -309,12 +318,12 @@ module _ {stage : Stage Content} (s : Scheduler) {shared : Option Shared} {calle
         passed-ended is = row-done TakeLink (Passes None) Begin begin
             (ap begins next) did (is ∙ ap (onward e me) ended-is)
 
-        pub ended-creates : IsCreation s.instance (onward e me
+        pub ended-plans : PlansFrom s (onward e me
             (worked_off e me nodes (record a { passed = nodes; next = None })))
-            → CreatesAt stage s shared caller
-        ended-creates creates = row-creates TakeLink (Passes None) Begin begin refl
+            → PlansAt stage s shared caller
+        ended-plans plans = row-plans TakeLink (Passes None) Begin begin refl refl
             (ap begins next) did
-            (subst (IsCreation s.instance) (ap (onward e me) ended-is) creates)
+            (subst (PlansFrom s) (ap (onward e me) ended-is) plans)
 
       -- an older one is next
       pub passed-next : {t : Scheduler} (older : Node)

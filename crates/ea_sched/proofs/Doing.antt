@@ -1,6 +1,6 @@
 -- A row that a scheduler has done, as it is told, and where the step leaves the scheduler.
-use Rattle.std.specs.Prelude.{◌≡◌, ◌≢◌, ◌⊎◌, ℕ, ◌+◌, true, false, Option, None, Some, IfSome}
-use Rattle.std.specs.Prelude.{IsSome}
+use Rattle.std.specs.Prelude.{◌≡◌, ◌≢◌, ◌⊎◌, ℕ, ◌+◌, Bool, true, false, Option, None, Some}
+use Rattle.std.specs.Prelude.{IfSome, IsSome}
 use Rattle.std.proofs.Common.{Bor, refl, sym, ap, ◌∙◌, subst, inl, inr}
 use Rattle.ea_model.specs.declared.settings.Config.{Config}
 use Rattle.ea_model.specs.declared.trace.Trace.{Trace}
@@ -21,10 +21,12 @@ use Rattle.ea_sound.proofs.Completing.{reached-step}
 use Rattle.ea_sound.proofs.TurnLists.{step-ended, step-mine, step-shared}
 use Rattle.ea_machine.specs.declared.stages.Stage.{Stage}
 use Rattle.ea_machine.specs.declared.stages.Stage.TheVariants as stages
-use Rattle.ea_machine.specs.declared.stages.Stage.TheVariants.{Ended}
+use Rattle.ea_machine.specs.declared.asks.Ask.{Ask}
+use Rattle.ea_machine.specs.declared.stages.Stage.TheVariants.{Creating, Ended}
+use Rattle.ea_model.specs.declared.carriers.CarrierPlan.{CarrierPlan}
 use Rattle.ea_sched.specs.declared.state.Scheduler.{Scheduler}
 use Rattle.ea_sched.specs.Acting.{actor_of, is_ended, setup_for, standing_at}
-use Rattle.ea_sched.specs.Creations.{Creates, CreatesAt, IsCreation}
+use Rattle.ea_sched.specs.Creations.{HasPlanned, Plans, PlansAt}
 use Rattle.ea_sched.specs.Steps.{DidRow, IsReady, ObservedRow, Ready, Stepped}
 
 -- something is told
@@ -137,35 +139,38 @@ module _ (c : Config) (t : Trace) (me : ℕ) (a : Actor) where
             calls_untold = did.caller_untold;
           }
 
-    -- it creates a carrier by it
+    -- it plans a multiblock carrier by it, and had none to create
     module _ (want : wants a ≡ row) (goes : a.stage ≢ Ended)
-        (creates : IsCreation a.instance (onward e me (after_row e me a got a.stage))) where
+        (unplanned : (ask : Ask) (p : CarrierPlan) → a.stage ≢ Creating ask p)
+        (plans : HasPlanned e me a.instance (onward e me (after_row e me a got a.stage))) where
       -- in a state where it is answered so
-      pub creates-in : (w : State) → IsReached e w → w.actors me ≡ a
+      plans-in : (w : State) → IsReached e w → w.actors me ≡ a
           → got ≡ answer me row w.shared → (shared : Option Shared) (caller : Option Caller)
           → IfSome shared (λ s. s ≡ w.shared) → IfSome caller (λ x. x ≡ caller_of e me w x.taken)
-          → Creates c t me a shared caller
+          → Plans c t me a shared caller
       unfolding after
-      creates-in w reached at answered shared caller shares calls = record {
+      plans-in w reached at answered shared caller shares calls = record {
         state = w;
         reached = reached;
         actor = at;
         shares = shares;
         calls = calls;
-        creation = subst (IsCreation a.instance)
-            (ap (λ r. after e me a r a.stage) answered
-            ∙ sym (step-own e w me a at row want goes)) (record { counts = creates.counts });
+        unplanned = unplanned;
+        gone_on = onward e me (after_row e me a got a.stage);
+        planned = plans;
+        is = step-own e w me a at row want goes
+            ∙ sym (ap (λ r. after e me a r a.stage) answered);
       }
 
-      pub creates-so : (shared new : Option Shared) (caller now : Option Caller)
+      pub plans-so : (shared new : Option Shared) (caller now : Option Caller)
           → Ready c t me a shared caller → Did me row got shared new caller now
-          → Creates c t me a shared caller
-      creates-so shared new caller now h did =
+          → Plans c t me a shared caller
+      plans-so shared new caller now h did =
           let u = answered-so shared new caller now h did in
           let calls = if_some caller (λ x. (x ≡ caller_of e me u.state x.taken)
           × (now ≡ Some (caller_of e me (step e u.state me) (x.taken + 1))))
           (λ x. x ≡ caller_of e me u.state x.taken) (λ x both. both.0) u.calls in
-          creates-in u.state u.reached u.actor u.answered shared caller u.shares calls
+          plans-in u.state u.reached u.actor u.answered shared caller u.shares calls
 
 -- by whether its text is done
 pub stage-goes : (stage : Stage Content) → is_ended stage ≡ false → stage ≢ Ended
@@ -182,6 +187,24 @@ stage-ends (stages.Giving given to) ends = absurd cc
 stage-ends (stages.Taking name tries left) ends = absurd cc
 stage-ends stages.Ended ends = refl
 stage-ends stages.Ready ends = absurd cc
+
+-- whether a carrier is to be created
+abbrev pub is_creating : Stage Content → Bool
+is_creating (stages.Routed route why gone) = false
+is_creating stages.Begin = false
+is_creating (stages.Collecting number) = false
+is_creating (stages.Searching ask at part) = false
+is_creating (stages.Fetching ask at part seen) = false
+is_creating (stages.Creating ask p) = true
+is_creating (stages.Giving given to) = false
+is_creating (stages.Taking name tries left) = false
+is_creating stages.Ended = false
+is_creating stages.Ready = false
+
+pub none-creating : (stage : Stage Content) → is_creating stage ≡ false → (ask : Ask)
+    (p : CarrierPlan) → stage ≢ Creating ask p
+none-creating stage other ask p creating =
+    let no : true ≡ false = ap is_creating (sym creating) ∙ other in cc
 
 -- a row that was done by a scheduler, and by one that stands the same but at its own stage
 pub restaged : (s u t : Scheduler) (stage at : Stage Content) {shared new : Option Shared}
@@ -202,12 +225,12 @@ restaged s u t stage at {shared} {new} {caller} {now} same config trace number s
   goes : Setup → ℕ → Actor → Stage Content → Actor
   goes e me a x = onward e me (after_row e me a d.got x)
 
--- a scheduler creates a carrier at its own stage
-pub restaged-creates : (s : Scheduler) (stage at : Stage Content) {shared : Option Shared}
-    {caller : Option Caller} → stage ≡ at → CreatesAt stage s shared caller
-    → CreatesAt at s shared caller
-restaged-creates s stage at {shared} {caller} same =
-    subst (λ x. CreatesAt x s shared caller) same
+-- a scheduler plans a carrier at its own stage
+pub restaged-plans : (s : Scheduler) (stage at : Stage Content) {shared : Option Shared}
+    {caller : Option Caller} → stage ≡ at → PlansAt stage s shared caller
+    → PlansAt at s shared caller
+restaged-plans s stage at {shared} {caller} same =
+    subst (λ x. PlansAt x s shared caller) same
 
 -- a step is a row that was done, and the figures observed
 pub row-stepped : (s t : Scheduler) (shared new : Option Shared) (caller now : Option Caller)

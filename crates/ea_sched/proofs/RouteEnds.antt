@@ -1,5 +1,5 @@
 -- What comes after the row of a route.
-use Rattle.std.proofs.Common.{◌≡◌, ℕ, true, false, drop, refl, sym, ap, ◌∙◌, subst}
+use Rattle.std.proofs.Common.{◌≡◌, ℕ, ◌+◌, ◌^◌, ◌<◌, true, false, drop, refl, sym, ap, ◌∙◌, subst}
 use Rattle.std.specs.Prelude.{Option, None, Some, IsSome}
 use Rattle.ea_model.specs.Content.{Content}
 use Rattle.ea_model.specs.Trace.{IsScheduler}
@@ -24,12 +24,12 @@ use Rattle.ea_sound.proofs.Calls as calls
 use Rattle.ea_sound.proofs.ShortRoutes.{turned-created, turned-keeps}
 use Rattle.ea_sched.specs.declared.state.Scheduler.{Scheduler}
 use Rattle.ea_sched.specs.Acting.{IsSame, setup_for, standing_at}
-use Rattle.ea_sched.specs.Asking.{HasMore, SuitsNext}
+use Rattle.ea_sched.specs.Asking.{CanCount, HasMore, SuitsNext}
 use Rattle.ea_sched.specs.Steps.{DidRow, IsReadyAt}
-use Rattle.ea_sched.specs.Creations.{CreatesAfter, CreatesAt, IsCreation}
+use Rattle.ea_sched.specs.Creations.{HasPlanned, PlansAfter, PlansAt, PlansFrom}
 use Rattle.ea_sched.specs.Turning.{CollectedRow, EndsRoute, TurnedBy, TurnedRow}
-use Rattle.ea_sched.proofs.Acts.{creation-from}
-use Rattle.ea_sched.proofs.Calling.{left-more, row-creates}
+use Rattle.ea_sched.proofs.Acts.{planned-from}
+use Rattle.ea_sched.proofs.Calling.{left-more, ready-counts, row-plans}
 use Rattle.ea_sched.proofs.Carrying.{home-on, over-by, turned-next, turned-over}
 use Rattle.ea_sched.proofs.StandsOn.{no-route, same-setup, stands-on}
 use Rattle.ea_sched.proofs.WalkSuiting.{suits-row}
@@ -40,10 +40,10 @@ pub ends-as : (e : Setup) (me : ℕ) (s t : Scheduler) (why y : Why) (o p : Opti
 ends-as e me s t why y o p q r ends = subst (λ x. EndsRoute e me x o s t) (sym q)
     (subst (λ x. EndsRoute e me y x s t) (sym r) ends)
 
-pub creates-after_as : (e : Setup) (me : ℕ) (s : Scheduler) (why y : Why) (o p : Option Gone)
-    → why ≡ y → o ≡ p → CreatesAfter e me y p s → CreatesAfter e me why o s
-creates-after_as e me s why y o p q r creates = subst (λ x. CreatesAfter e me x o s) (sym q)
-    (subst (λ x. CreatesAfter e me y x s) (sym r) creates)
+pub plans-after_as : (e : Setup) (me : ℕ) (s : Scheduler) (why y : Why) (o p : Option Gone)
+    → why ≡ y → o ≡ p → PlansAfter e me y p s → PlansAfter e me why o s
+plans-after_as e me s why y o p q r creates = subst (λ x. PlansAfter e me x o s) (sym q)
+    (subst (λ x. PlansAfter e me y x s) (sym r) creates)
 
 -- a route on a carrier is one where carriers migrate
 pub route-on : {shared : Option Shared} {caller : Option Caller} (s : Scheduler)
@@ -101,6 +101,16 @@ module _ (s t : Scheduler) (same : IsSame s t) (route : Route Content) (why : Wh
         ∙ (turned-keeps e s.number route gone a row.got).1
         ∙ sym (ap (λ (x : Actor). x.todo) h.actor) ∙ first.2)
 
+    -- one carrier more can be counted
+    pub over-counts : (o : Option Gone) → TurnedRow route why gone s t o shared new caller then
+        → IsSome o → CanCount t.instance
+    over-counts None row is = absurd (let no : false ≡ true = is in cc)
+    over-counts (Some g) row is =
+        let a = standing_at (Routed route why gone) s in
+        let u = turned e s.number route gone a row.got in
+        subst (λ n. n + 1 < 2 ^ 32) (sym (created-by u g u.route row.turned
+        ∙ turned-created e s.number route gone a row.got)) (ready-counts s h)
+
     -- the scheduler has gone on by the answer
     pub turned-done : (o : Option Gone) (v : Scheduler)
         → TurnedRow route why gone s t o shared new caller then
@@ -113,33 +123,39 @@ module _ (s t : Scheduler) (same : IsSame s t) (route : Route Content) (why : Wh
         (subst (λ n. EndsRoute e n why (Some g) t v) same.number
         (subst (λ x. EndsRoute x t.number why (Some g) t v) (same-setup s t same) ends))
 
-    -- what comes after the route creates a carrier
-    pub turned-creates : (o : Option Gone) → TurnedRow route why gone s t o shared new caller then
-        → CreatesAfter (setup_for t) t.number why o t
-        → CreatesAt (Routed route why gone) s shared caller
-    turned-creates None row never = absurd never
-    turned-creates (Some g) row creates =
+    -- what comes after the route plans a carrier
+    pub turned-plans : (o : Option Gone) → TurnedRow route why gone s t o shared new caller then
+        → PlansAfter (setup_for t) t.number why o t
+        → PlansAt (Routed route why gone) s shared caller
+    turned-plans None row never = absurd never
+    turned-plans (Some g) row plans =
         let a = standing_at (Routed route why gone) s in
         let u = turned e s.number route gone a row.got in
-        let after : CreatesAfter e s.number why (Some g) t =
-        subst (λ n. CreatesAfter e n why (Some g) t) same.number
-        (subst (λ x. CreatesAfter x t.number why (Some g) t) (same-setup s t same) creates) in
-        row-creates s h (wants_on route) row.got (Routed route why gone) refl refl refl row.did
-        (creation-from t.instance s.instance _
+        let after : PlansAfter e s.number why (Some g) t =
+        subst (λ n. PlansAfter e n why (Some g) t) same.number
+        (subst (λ x. PlansAfter x t.number why (Some g) t) (same-setup s t same) plans) in
+        row-plans s h (wants_on route) row.got (Routed route why gone) refl refl refl refl row.did
+        (planned-from t.instance s.instance _
         (created-by u g u.route row.turned ∙ turned-created e s.number route gone a row.got)
-        (subst (IsCreation t.instance)
+        (subst (HasPlanned e s.number t.instance)
         (over-by e s.number why (after_route e s.number why) u.gone u.actor u.route g t row.turned)
         (after u.actor.stage)))
 
--- what goes on from a carrier that was collected creates a carrier
-pub home-creates : (n : ℕ) (s : Scheduler) {shared new : Option Shared}
+-- what goes on from a carrier that was collected plans a carrier
+pub home-plans : (n : ℕ) (s : Scheduler) {shared new : Option Shared}
     {caller then : Option Caller} → IsReadyAt (Collecting n) s shared caller → (t : Scheduler)
     → IsSame s t → CollectedRow n s t shared new caller then
-    → ((at : Stage Content) → IsCreation t.instance (onward (setup_for t) t.number
+    → ((at : Stage Content) → PlansFrom t (onward (setup_for t) t.number
     (worked_off (setup_for t) t.number t.passed.nodes (standing_at at t))))
-    → CreatesAt (Collecting n) s shared caller
-home-creates n s h t same row creates =
-    row-creates s h (Clear n) row.got (Collecting n) refl refl refl row.did
-    (creation-from t.instance s.instance _
+    → PlansAt (Collecting n) s shared caller
+home-plans n s h t same row plans =
+    let e = setup_for s in
+    let now = onward (setup_for t) t.number
+    (worked_off (setup_for t) t.number t.passed.nodes (standing_at (Collecting n) t)) in
+    row-plans s h (Clear n) row.got (Collecting n) refl refl refl refl row.did
+    (planned-from t.instance s.instance _
     (ap (λ (a : Actor). a.instance.created) (row.is (Collecting n)))
-    (subst (IsCreation t.instance) (home-on n s t same row) (creates (Collecting n))))
+    (subst (HasPlanned e s.number t.instance) (home-on n s t same row)
+    (subst (λ k. HasPlanned e k t.instance now) same.number
+    (subst (λ x. HasPlanned x t.number t.instance now) (same-setup s t same)
+    (plans (Collecting n))))))

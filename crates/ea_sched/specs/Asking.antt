@@ -1,5 +1,5 @@
 -- What the local work of a scheduler asks for, of its instance and of the names that it holds.
-use Rattle.std.specs.Prelude.{◌≡◌, ℕ, ◌%◌, ◌<◌, ◌≤◌, Bool, true, false, List}
+use Rattle.std.specs.Prelude.{◌≡◌, ℕ, ◌+◌, ◌%◌, ◌^◌, ◌<◌, ◌≤◌, Bool, true, false, List}
 use Rattle.std.specs.Prelude.{◌∷◌, None, IfSome, IsSome, drop, length}
 use Rattle.ea_model.specs.declared.operations.Op.{Op}
 use Rattle.ea_model.specs.declared.operations.Op.TheVariants.{Alloc, Free, Realloc}
@@ -16,6 +16,10 @@ use Rattle.ea_sched.specs.declared.state.Scheduler.{Scheduler}
 -- an operation is left
 abbrev pub HasMore : Scheduler → Type 0
 HasMore s = s.done < length s.text.now
+
+-- a carrier more can be counted
+abbrev pub CanCount : Instance → Type 0
+CanCount i = i.created + 1 < 2 ^ 32
 
 -- a name that has a place and isn't held
 pub record IsFreshIn (names : Holding) (name : ℕ) : Type 0 where

@@ -1,6 +1,7 @@
 pub mod Passing
 pub mod Acting
 pub mod Steps
+pub mod Prepared
 pub mod Creations
 pub mod Turning
 pub mod Asking

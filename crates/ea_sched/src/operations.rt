@@ -12,8 +12,9 @@ ghost use Rattle.ea_machine.specs.Reallocations as reallocations;
 ghost use Rattle.ea_machine.specs.Statistics as statistics;
 ghost use Rattle.ea_machine.specs.Tasks as tasks;
 ghost use Rattle.ea_sched.specs.Acting.{IsSame, actor_of, ready_of, setup_for};
-ghost use Rattle.ea_sched.specs.Asking.{HasMore, HasName, IsFresh, IsHere, Lies, Suits};
-ghost use Rattle.ea_sched.specs.Creations.{IsCreation};
+ghost use Rattle.ea_sched.specs.Asking.{CanCount, HasMore, HasName, IsFresh, IsHere, Lies};
+ghost use Rattle.ea_sched.specs.Asking.{Suits};
+ghost use Rattle.ea_sched.specs.Creations.{PlansFrom};
 
 use crate::state::Scheduler;
 use ea_machine::{Ask, Named, Stage};
@@ -36,10 +37,11 @@ impl<'t> Scheduler<'t> {
         requires fresh { IsFresh self.old fresh }
         requires even { need % 2 ≡ 0 }
         requires least { 6 ≤ need }
+        requires counts { CanCount self.old.instance }
         ensures actor { OnOk result (actor_of self.new ≡ reallocations.reallocated_by
             (setup_for self.old) self.old.number old fresh need (ready_of self.old)
             (decision_at self.old.instance old.spot need)) }
-        ensures memory { OnErr result (IsCreation self.old.instance
+        ensures memory { OnErr result (PlansFrom self.old
             (reallocations.reallocated_by (setup_for self.old) self.old.number old fresh need
             (ready_of self.old) (decision_at self.old.instance old.spot need))) }
         ensures same { IsSame self.old self.new }
@@ -85,10 +87,11 @@ impl<'t> Scheduler<'t> {
             (Lies self.old.instance) }
         requires fresh { IsFresh self.old fresh }
         requires bytes { bytes ≤ MAX_BYTES }
+        requires counts { CanCount self.old.instance }
         ensures actor { OnOk result (actor_of self.new ≡ reallocations.reallocated
             (setup_for self.old) self.old.number old fresh (need_of bytes) (ready_of self.old)
             (nodes.named_at old self.old.names.held)) }
-        ensures memory { OnErr result (IsCreation self.old.instance
+        ensures memory { OnErr result (PlansFrom self.old
             (reallocations.reallocated (setup_for self.old) self.old.number old fresh
             (need_of bytes) (ready_of self.old) (nodes.named_at old self.old.names.held))) }
         ensures same { IsSame self.old self.new }
@@ -172,10 +175,11 @@ impl<'t> Scheduler<'t> {
     pub(crate) fn operate(&mut self, alloc: Global, op: Op) -> Result<(), OutOfMemory>
         requires more { HasMore self.old }
         requires fits { Suits self.old.instance self.old op }
+        requires counts { CanCount self.old.instance }
         ensures actor { OnOk result (actor_of self.new ≡ operations.itself
             (setup_for self.old) self.old.number (ready_of self.old)
             (op ∷ drop (self.old.done + 1) self.old.text.now)) }
-        ensures memory { OnErr result (IsCreation self.old.instance
+        ensures memory { OnErr result (PlansFrom self.old
             (operations.itself (setup_for self.old) self.old.number (ready_of self.old)
             (op ∷ drop (self.old.done + 1) self.old.text.now))) }
         ensures same { IsSame self.old self.new }

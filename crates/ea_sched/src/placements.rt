@@ -1,13 +1,13 @@
 //! How a scheduler finds a place for a block.
-ghost use Rattle.std.specs.Prelude.{◌≡◌, ◌≤◌, true, false, Ok, OnErr, OnOk, IsSome};
-ghost use Rattle.ea_model.specs.declared.carriers.Kind.TheVariants.{Multi};
+ghost use Rattle.std.specs.Prelude.{◌≡◌, ◌≤◌, true, false, Some, Ok, OnErr, OnOk, IsSome};
 ghost use Rattle.ea_model.specs.declared.units.TheConstants.{MAX_PAGES};
 ghost use Rattle.ea_model.specs.Instance as instances;
 ghost use Rattle.ea_machine.specs.Placements as placements;
 ghost use Rattle.ea_machine.specs.Setup.{migration};
 ghost use Rattle.ea_sched.specs.Acting.{IsSame, actor_of, ready_of, setup_for};
-ghost use Rattle.ea_sched.specs.Asking.{HasMore, IsAsked};
-ghost use Rattle.ea_sched.specs.Creations.{IsCreation};
+ghost use Rattle.ea_sched.specs.Asking.{CanCount, HasMore, IsAsked};
+ghost use Rattle.ea_sched.specs.Creations.{PlansFrom};
+ghost use Rattle.ea_sched.specs.Prepared.{planned_content};
 
 use crate::state::Scheduler;
 use ea_machine::{Ask, Stage, Task};
@@ -86,7 +86,7 @@ impl<'t> Scheduler<'t> {
     }
 
     /// Creates the singleblock carrier of the plan, with the block in it.
-    pub(crate) fn create_single(&mut self, ask: Ask, plan: CarrierPlan)
+    fn create_single(&mut self, ask: Ask, plan: CarrierPlan)
         requires more { HasMore self.old }
         requires asked { IsAsked self.old.instance self.old ask }
         requires plan { instances.plan self.old.instance ask.need ≡ Ok plan }
@@ -101,43 +101,62 @@ impl<'t> Scheduler<'t> {
 
     /// Employs the multiblock carrier of the plan, and places the block where the strategy chooses
     /// then.
-    pub(crate) fn create_multi(&mut self, ask: Ask, plan: CarrierPlan, carrier: Mbc)
+    fn create_multi(&mut self, ask: Ask, plan: CarrierPlan, carrier: Mbc)
         requires more { HasMore self.old }
         requires asked { IsAsked self.old.instance self.old ask }
         requires plan { instances.plan self.old.instance ask.need ≡ Ok plan }
         requires multi { plan.single ≡ false }
-        requires carrier { carrier ≡ instances.created_content self.old.instance.number Multi plan }
+        requires carrier { carrier ≡ planned_content plan }
         ensures actor { actor_of self.new ≡ placements.created
             (setup_for self.old) self.old.number ask plan (ready_of self.old) }
         ensures same { IsSame self.old self.new }
     {
+        self.instance.stands();
         self.instance.create(plan, ask.need, carrier);
         self.place(ask);
     }
 
-    /// Creates the carrier of the plan, and places the block.
-    fn create(&mut self, alloc: Global, ask: Ask, plan: CarrierPlan) -> Result<(), OutOfMemory>
+    /// Creates the carrier of the plan, and places the block. A multiblock carrier is prepared.
+    pub(crate) fn create(&mut self, ask: Ask, plan: CarrierPlan, prepared: Option<Mbc>)
         requires more { HasMore self.old }
         requires asked { IsAsked self.old.instance self.old ask }
         requires plan { instances.plan self.old.instance ask.need ≡ Ok plan }
-        requires pages { (1 ≤ plan.pages) × (plan.pages ≤ MAX_PAGES) }
-        ensures actor { OnOk result (actor_of self.new ≡ placements.created
-            (setup_for self.old) self.old.number ask plan (ready_of self.old)) }
-        ensures memory { OnErr result (IsCreation self.old.instance
-            (placements.created (setup_for self.old) self.old.number ask plan
-            (ready_of self.old))) }
+        requires prepared { plan.single ≡ false → prepared ≡ Some (planned_content plan) }
+        ensures actor { actor_of self.new ≡ placements.created
+            (setup_for self.old) self.old.number ask plan (ready_of self.old) }
         ensures same { IsSame self.old self.new }
     {
         if plan.single {
             self.create_single(ask, plan);
-            return Ok(());
+            return;
         }
-        let carrier = self.instance.prepare(alloc, plan)?;
-        self.create_multi(ask, plan, carrier);
-        Ok(())
+        match prepared {
+            Some(carrier) => self.create_multi(ask, plan, carrier),
+            None => unreachable!(),
+        }
     }
 
-    /// Has the carrier of the plan created: where carriers migrate, in a step of its own.
+    /// Has the carrier of the plan created. Where carriers migrate that is a step of its own, up to
+    /// which a multiblock carrier, which is prepared, is kept.
+    fn create_in_turn(&mut self, ask: Ask, plan: CarrierPlan, prepared: Option<Mbc>)
+        requires more { HasMore self.old }
+        requires asked { IsAsked self.old.instance self.old ask }
+        requires plan { instances.plan self.old.instance ask.need ≡ Ok plan }
+        requires prepared { plan.single ≡ false → prepared ≡ Some (planned_content plan) }
+        ensures actor { actor_of self.new ≡ placements.making (setup_for self.old)
+            self.old.number ask plan (ready_of self.old) (migration (setup_for self.old)) }
+        ensures same { IsSame self.old self.new }
+    {
+        if self.migrates {
+            self.prepared = prepared;
+            self.stage = Stage::Creating { ask, plan };
+            return;
+        }
+        self.create(ask, plan, prepared);
+    }
+
+    /// Has the carrier of the plan created. The memory of a multiblock carrier is taken now, before
+    /// anything changes.
     fn plan(&mut self, alloc: Global, ask: Ask, plan: CarrierPlan) -> Result<(), OutOfMemory>
         requires more { HasMore self.old }
         requires asked { IsAsked self.old.instance self.old ask }
@@ -145,21 +164,23 @@ impl<'t> Scheduler<'t> {
         requires pages { (1 ≤ plan.pages) × (plan.pages ≤ MAX_PAGES) }
         ensures actor { OnOk result (actor_of self.new ≡ placements.making (setup_for self.old)
             self.old.number ask plan (ready_of self.old) (migration (setup_for self.old))) }
-        ensures memory { OnErr result (IsCreation self.old.instance
+        ensures memory { OnErr result (PlansFrom self.old
             (placements.making (setup_for self.old) self.old.number ask plan (ready_of self.old)
             (migration (setup_for self.old)))) }
         ensures same { IsSame self.old self.new }
     {
-        if self.migrates {
-            self.stage = Stage::Creating { ask, plan };
+        if plan.single {
+            self.create_in_turn(ask, plan, None);
             return Ok(());
         }
-        self.create(alloc, ask, plan)
+        self.instance.stands();
+        let carrier = self.instance.prepare(alloc, plan)?;
+        self.create_in_turn(ask, plan, Some(carrier));
+        Ok(())
     }
 
     /// Places the block in a carrier that is created for it, of its own if it is alone; if none can
     /// be, the operation fails. A search before counted `looked` words.
-    /// A count of carriers that has no greater number counts as want of memory.
     pub(crate) fn seek_new(
         &mut self,
         alloc: Global,
@@ -170,16 +191,14 @@ impl<'t> Scheduler<'t> {
         requires more { HasMore self.old }
         requires asked { IsAsked self.old.instance self.old ask }
         requires alone { alone ≡ instances.is_alone self.old.instance ask.need }
+        requires counts { CanCount self.old.instance }
         ensures actor { OnOk result (actor_of self.new ≡ placements.new_carrier
             (setup_for self.old) self.old.number ask looked (ready_of self.old)) }
-        ensures memory { OnErr result (IsCreation self.old.instance
+        ensures memory { OnErr result (PlansFrom self.old
             (placements.new_carrier (setup_for self.old) self.old.number ask looked
             (ready_of self.old))) }
         ensures same { IsSame self.old self.new }
     {
-        if self.instance.created() == u32::MAX {
-            return Err(OutOfMemory);
-        }
         match self.instance.plan_carrier(ask.need, alone) {
             Ok(plan) => self.plan(alloc, ask, plan),
             Err(why) => {
@@ -195,10 +214,11 @@ impl<'t> Scheduler<'t> {
         requires more { HasMore self.old }
         requires asked { IsAsked self.old.instance self.old ask }
         requires shared { instances.is_alone self.old.instance ask.need ≡ false }
+        requires counts { CanCount self.old.instance }
         ensures actor { OnOk result (actor_of self.new ≡ placements.search_if
             (setup_for self.old) self.old.number ask (ready_of self.old)
             (migration (setup_for self.old))) }
-        ensures memory { OnErr result (IsCreation self.old.instance
+        ensures memory { OnErr result (PlansFrom self.old
             (placements.search_if (setup_for self.old) self.old.number ask (ready_of self.old)
             (migration (setup_for self.old)))) }
         ensures same { IsSame self.old self.new }
@@ -216,9 +236,10 @@ impl<'t> Scheduler<'t> {
     pub(crate) fn seek(&mut self, alloc: Global, ask: Ask) -> Result<(), OutOfMemory>
         requires more { HasMore self.old }
         requires asked { IsAsked self.old.instance self.old ask }
+        requires counts { CanCount self.old.instance }
         ensures actor { OnOk result (actor_of self.new ≡ placements.seek
             (setup_for self.old) self.old.number ask (ready_of self.old)) }
-        ensures memory { OnErr result (IsCreation self.old.instance
+        ensures memory { OnErr result (PlansFrom self.old
             (placements.seek (setup_for self.old) self.old.number ask (ready_of self.old))) }
         ensures same { IsSame self.old self.new }
     {

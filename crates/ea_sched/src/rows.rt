@@ -1,7 +1,7 @@
 //! The rows of the machine's table, each with what a scheduler does once it is answered.
 ghost use Rattle.std.specs.Prelude.{◌≡◌, Some, None, OnErr, OnOk, false};
 ghost use Rattle.ea_sched.specs.Acting.{IsSame, setup_for};
-ghost use Rattle.ea_sched.specs.Creations.{CreatesAt};
+ghost use Rattle.ea_sched.specs.Creations.{PlansAt};
 ghost use Rattle.ea_sched.specs.Steps.{DidRow, StartsRow};
 ghost use Rattle.ea_machine.specs.declared.stages.Stage.TheVariants as stage;
 ghost use Rattle.ea_machine.specs.declared.stages.Route.TheVariants as route;
@@ -30,7 +30,7 @@ impl<'t> Scheduler<'t> {
         ensures row { OnOk result (DidRow stage.Begin self.old self.new
             (S.shared shared.old) (S.shared shared.new)
             (S.caller shared.old) (S.caller shared.new)) }
-        ensures memory { OnErr result (CreatesAt stage.Begin self.old
+        ensures memory { OnErr result (PlansAt stage.Begin self.old
             (S.shared shared.old) (S.caller shared.old)) }
     {
         match shared.take_all(self.number) {
@@ -60,7 +60,7 @@ impl<'t> Scheduler<'t> {
         ensures row { OnOk result (DidRow stage.Begin self.old self.new
             (S.shared shared.old) (S.shared shared.new)
             (S.caller shared.old) (S.caller shared.new)) }
-        ensures memory { OnErr result (CreatesAt stage.Begin self.old
+        ensures memory { OnErr result (PlansAt stage.Begin self.old
             (S.shared shared.old) (S.caller shared.old)) }
     {
         match shared.take_link(self.number, node) {
@@ -120,7 +120,7 @@ impl<'t> Scheduler<'t> {
         ensures row { OnOk result (DidRow (stage.Routed (route.Linking node to) why gone)
             self.old self.new (S.shared shared.old) (S.shared shared.new)
             (S.caller shared.old) (S.caller shared.new)) }
-        ensures memory { OnErr result (CreatesAt (stage.Routed (route.Linking node to) why gone)
+        ensures memory { OnErr result (PlansAt (stage.Routed (route.Linking node to) why gone)
             self.old (S.shared shared.old) (S.caller shared.old)) }
     {
         shared.link(self.number, to, node);

@@ -81,6 +81,7 @@ impl<'t> Scheduler<'t> {
             lists,
             names,
             stage: Stage::Begin,
+            prepared: None,
             passed,
             next: None,
             mbcs,

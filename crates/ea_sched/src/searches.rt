@@ -1,5 +1,5 @@
 //! How a scheduler searches for a carrier, fetches one, or creates one.
-ghost use Rattle.std.specs.Prelude.{◌≡◌, ℕ, ◌-◌, ◌<◌, ◌≤◌, true, Some, OnErr, OnOk};
+ghost use Rattle.std.specs.Prelude.{◌≡◌, ℕ, ◌-◌, ◌<◌, ◌≤◌, true, false, Some, OnErr, OnOk};
 ghost use Rattle.ea_machine.specs.declared.parts.Part.{Part};
 ghost use Rattle.ea_machine.specs.declared.stages.Stage.TheVariants as stage;
 ghost use Rattle.ea_machine.specs.Placements as placements;
@@ -7,10 +7,11 @@ ghost use Rattle.ea_machine.specs.Rows.{Saw};
 ghost use Rattle.ea_machine.specs.Setup.{greatest_number, migration};
 ghost use Rattle.ea_machine.specs.Stops as stops;
 ghost use Rattle.ea_sched.specs.Acting.{IsSame, actor_of, ready_of, setup_for};
-ghost use Rattle.ea_sched.specs.Asking.{HasMore, IsAsked};
-ghost use Rattle.ea_sched.specs.Creations.{CreatesAt, IsCreation};
+ghost use Rattle.ea_sched.specs.Asking.{CanCount, HasMore, IsAsked};
+ghost use Rattle.ea_sched.specs.Creations.{PlansAt, PlansFrom};
 ghost use Rattle.ea_sched.specs.Looks as looks;
 ghost use Rattle.ea_sched.specs.Looks.{HasPassed};
+ghost use Rattle.ea_sched.specs.Prepared.{planned_content};
 ghost use Rattle.ea_sched.specs.Steps.{DidRow, HasReached, StartsRow, gone_on_by};
 ghost use Rattle.ea_search.specs.Looks.{standing};
 
@@ -35,9 +36,10 @@ impl<'t> Scheduler<'t> {
     fn end_search(&mut self, alloc: Global, ask: Ask, looked: u32) -> Result<(), OutOfMemory>
         requires more { HasMore self.old }
         requires asked { IsAsked self.old.instance self.old ask }
+        requires counts { CanCount self.old.instance }
         ensures actor { OnOk result (actor_of self.new ≡ placements.new_carrier
             (setup_for self.old) self.old.number ask looked (ready_of self.old)) }
-        ensures memory { OnErr result (IsCreation self.old.instance
+        ensures memory { OnErr result (PlansFrom self.old
             (placements.new_carrier (setup_for self.old) self.old.number ask looked
             (ready_of self.old))) }
         ensures same { IsSame self.old self.new }
@@ -55,11 +57,12 @@ impl<'t> Scheduler<'t> {
     ) -> Result<(), OutOfMemory>
         requires more { HasMore self.old }
         requires asked { IsAsked self.old.instance self.old ask }
+        requires counts { CanCount self.old.instance }
         requires on { migration (setup_for self.old) ≡ true }
         ensures actor { OnOk result (actor_of self.new ≡ placements.search_on
             (setup_for self.old) self.old.number ask (standing search self.old.lists.lists)
             (ready_of self.old)) }
-        ensures memory { OnErr result (IsCreation self.old.instance
+        ensures memory { OnErr result (PlansFrom self.old
             (placements.search_on (setup_for self.old) self.old.number ask
             (standing search self.old.lists.lists) (ready_of self.old))) }
         ensures same { IsSame self.old self.new }
@@ -84,7 +87,7 @@ impl<'t> Scheduler<'t> {
         requires searches { (ask : Ask) × (at : ℕ) × (part : Part)
             × (self.old.stage ≡ stage.Searching ask at part) }
         ensures actor { OnOk result (actor_of self.new ≡ gone_on_by self.old (Saw seen)) }
-        ensures memory { OnErr result (IsCreation self.old.instance
+        ensures memory { OnErr result (PlansFrom self.old
             (gone_on_by self.old (Saw seen))) }
         ensures same { IsSame self.old self.new }
     {
@@ -139,7 +142,7 @@ impl<'t> Scheduler<'t> {
         ensures row { OnOk result (DidRow self.old.stage self.old self.new
             (S.shared shared.old) (S.shared shared.new) (S.caller shared.old)
             (S.caller shared.new)) }
-        ensures memory { OnErr result (CreatesAt self.old.stage self.old
+        ensures memory { OnErr result (PlansAt self.old.stage self.old
             (S.shared shared.old) (S.caller shared.old)) }
     {
         let highest = self.greatest();
@@ -224,7 +227,7 @@ impl<'t> Scheduler<'t> {
         ensures row { OnOk result (DidRow (stage.Fetching ask at part seen) self.old self.new
             (S.shared shared.old) (S.shared shared.new) (S.caller shared.old)
             (S.caller shared.new)) }
-        ensures memory { OnErr result (CreatesAt (stage.Fetching ask at part seen) self.old
+        ensures memory { OnErr result (PlansAt (stage.Fetching ask at part seen) self.old
             (S.shared shared.old) (S.caller shared.old)) }
     {
         let highest = self.greatest();
@@ -243,33 +246,27 @@ impl<'t> Scheduler<'t> {
         }
     }
 
-    /// The carrier of the plan is created, and the block placed. Memory for it is taken before.
+    /// The carrier of the plan is created, and the block placed. It takes no memory: a multiblock
+    /// carrier was prepared when it was planned.
     pub(crate) fn make<S: Shared<Content = Mbc>>(
         &mut self,
-        alloc: Global,
         shared: &mut S,
         ask: Ask,
         plan: CarrierPlan,
-    ) -> Result<(), OutOfMemory>
+    )
         requires starts { StartsRow (stage.Creating ask plan) self.old
             (S.schedulers shared.old) (S.greatest shared.old) (S.migrates shared.old)
             (S.shared shared.old) (S.caller shared.old) }
+        requires prepared { plan.single ≡ false
+            → self.old.prepared ≡ Some (planned_content plan) }
         ensures stays { S.stays shared.old shared.new }
         ensures same { IsSame self.old self.new }
-        ensures row { OnOk result (DidRow (stage.Creating ask plan) self.old self.new
+        ensures row { DidRow (stage.Creating ask plan) self.old self.new
             (S.shared shared.old) (S.shared shared.new) (S.caller shared.old)
-            (S.caller shared.new)) }
-        ensures memory { OnErr result (CreatesAt (stage.Creating ask plan) self.old
-            (S.shared shared.old) (S.caller shared.old)) }
+            (S.caller shared.new) }
     {
-        if plan.single {
-            shared.create(self.number, plan.number);
-            self.create_single(ask, plan);
-            return Ok(());
-        }
-        let carrier = self.instance.prepare(alloc, plan)?;
         shared.create(self.number, plan.number);
-        self.create_multi(ask, plan, carrier);
-        Ok(())
+        let prepared = self.prepared.take();
+        self.create(ask, plan, prepared);
     }
 }

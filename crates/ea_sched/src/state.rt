@@ -1,14 +1,19 @@
 //! What a scheduler keeps.
 ghost use Rattle.ea_model.specs.declared.units.TheConstants.{NUMBERS};
-ghost use Rattle.std.specs.Prelude.{◌≡◌, ◌+◌, ◌≤◌, length};
+ghost use Rattle.std.specs.Prelude.{◌≡◌, ◌+◌, ◌≤◌, false, Some, length};
+ghost use Rattle.ea_model.specs.declared.carriers.CarrierPlan.{CarrierPlan};
 ghost use Rattle.ea_model.specs.declared.units.TheConstants.{MAX_SCHEDULERS};
 ghost use Rattle.ea_model.specs.Trace.{stop_in, texts_of};
+ghost use Rattle.ea_machine.specs.declared.asks.Ask.{Ask};
+ghost use Rattle.ea_machine.specs.declared.stages.Stage.TheVariants.{Creating};
 ghost use Rattle.ea_machine.specs.Setup.{migration, setup_of, text_for};
 ghost use Rattle.ea_sched.specs.Brought.{HavePlaces};
+ghost use Rattle.ea_sched.specs.Prepared.{planned_content};
 
 use crate::passed::Passed;
 use ea_instance::{Held, Instance};
 use ea_machine::{Node, Stage};
+use ea_mbc::Mbc;
 use ea_model::{Config, Entry, List, Op, Trace};
 use ea_names::Names;
 use ea_search::OwnLists;
@@ -17,9 +22,10 @@ use ea_stats::Stats;
 /// Scheduler `number` in the run of a trace. Of the run it knows the configuration, the trace, and
 /// whether carriers migrate; for itself it keeps its text, how many of its operations are done, its
 /// allocator instance, the names that it holds, with a place for each that its text brings, where
-/// it is in its operation, the nodes that its walk passed and the next one, the statistics of its
-/// multiblock and of its singleblock carriers, its log, and after how many steps it stops, if it
-/// does, and how many are left until then. Once it had no memory it has failed.
+/// it is in its operation, the multiblock carrier that it is to create there, if it is to create
+/// one, the nodes that its walk passed and the next one, the statistics of its multiblock and of
+/// its singleblock carriers, its log, and after how many steps it stops, if it does, and how many
+/// are left until then. Once it had no memory it has failed.
 #[derive(Drop)]
 pub struct Scheduler<'t> {
     pub(crate) config: Config,
@@ -32,6 +38,7 @@ pub struct Scheduler<'t> {
     pub(crate) lists: OwnLists,
     pub(crate) names: Names,
     pub(crate) stage: Stage<Held>,
+    pub(crate) prepared: Option<Mbc>,
     pub(crate) passed: Passed,
     pub(crate) next: Option<Node>,
     pub(crate) mbcs: Stats,
@@ -49,6 +56,8 @@ pub struct Scheduler<'t> {
     ghost places: { HavePlaces names.places text.now },
     ghost stop_is: { stop ≡ stop_in trace.now.stops.items number },
     ghost done_to: { done ≤ length text.now },
+    ghost is_prepared: { (ask : Ask) (plan : CarrierPlan) → stage ≡ Creating ask plan
+        → plan.single ≡ false → prepared ≡ Some (planned_content plan) },
     ghost lists_room: { lists.room ≡ NUMBERS },
     ghost log_room: { length text.now + 1 ≤ done + log.room },
 }

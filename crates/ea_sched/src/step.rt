@@ -7,7 +7,7 @@ ghost use Rattle.ea_machine.specs.Setup.{migration};
 ghost use Rattle.ea_machine.specs.Statistics as statistics;
 ghost use Rattle.ea_machine.specs.Stops as stops;
 ghost use Rattle.ea_sched.specs.Acting.{IsSame, actor_of, is_ended, is_stopped, rests, setup_for};
-ghost use Rattle.ea_sched.specs.Creations.{CreatesAt};
+ghost use Rattle.ea_sched.specs.Creations.{PlansAt};
 ghost use Rattle.ea_sched.specs.declared.step.Progress.TheVariants as progress;
 ghost use Rattle.ea_sched.specs.Steps.{DidRow, IsReady, ObservedRow, StartsRow, Stepped};
 
@@ -61,7 +61,7 @@ impl<'t> Scheduler<'t> {
         ensures row { OnOk result (DidRow self.old.stage self.old self.new
             (S.shared shared.old) (S.shared shared.new)
             (S.caller shared.old) (S.caller shared.new)) }
-        ensures memory { OnErr result (CreatesAt self.old.stage self.old
+        ensures memory { OnErr result (PlansAt self.old.stage self.old
             (S.shared shared.old) (S.caller shared.old)) }
     {
         match mem::replace(&mut self.stage, Stage::Begin) {
@@ -77,7 +77,10 @@ impl<'t> Scheduler<'t> {
                 part,
                 seen,
             } => self.fetch(alloc, shared, ask, at, part, seen),
-            Stage::Creating { ask, plan } => self.make(alloc, shared, ask, plan),
+            Stage::Creating { ask, plan } => {
+                self.make(shared, ask, plan);
+                Ok(())
+            }
             Stage::Giving { given, to } => {
                 self.give(shared, given, to);
                 Ok(())
@@ -106,7 +109,7 @@ impl<'t> Scheduler<'t> {
         ensures row { OnOk result (ObservedRow self.old.stage self.old self.new
             (S.shared shared.old) (S.shared shared.new)
             (S.caller shared.old) (S.caller shared.new)) }
-        ensures memory { OnErr result (CreatesAt self.old.stage self.old
+        ensures memory { OnErr result (PlansAt self.old.stage self.old
             (S.shared shared.old) (S.caller shared.old)) }
     {
         if let Stage::Searching { .. } = self.stage {
@@ -118,9 +121,10 @@ impl<'t> Scheduler<'t> {
     }
 
     /// Takes one atomic step on what is shared, and does all up to the next one; one that has ended
-    /// or is stopped takes none. An `Err` says that the step is one that creates a carrier, and
-    /// that there was no memory for it, or no number left to count it with: no other step fails.
-    /// From then on an `Err` is all that this scheduler answers.
+    /// or is stopped takes none. An `Err` says that the step is one that plans a multiblock carrier,
+    /// and that there was no memory for it: no other step fails. Where carriers migrate the carrier
+    /// is kept until the step that creates it. From then on an `Err` is all that this scheduler
+    /// answers.
     pub fn step<S: Shared<Content = Mbc>>(
         &mut self,
         alloc: Global,
@@ -149,7 +153,7 @@ impl<'t> Scheduler<'t> {
         ensures rests { IfOk result (λ p. p ≢ progress.Went → (self.new ≡ self.old)
             × (shared.new ≡ shared.old)) }
         ensures fails { OnErr result (self.new.failed ≡ true) }
-        ensures memory { OnErr result (self.old.failed ≡ false → CreatesAt self.old.stage self.old
+        ensures memory { OnErr result (self.old.failed ≡ false → PlansAt self.old.stage self.old
             (S.shared shared.old) (S.caller shared.old)) }
         ensures failed { self.old.failed ≡ true → (result ≡ Err (record {}))
             × (self.new ≡ self.old) × (shared.new ≡ shared.old) }

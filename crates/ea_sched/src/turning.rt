@@ -7,8 +7,8 @@ ghost use Rattle.ea_machine.specs.declared.tasks.Task.{Task};
 ghost use Rattle.ea_machine.specs.declared.tasks.Why.TheVariants as reason;
 ghost use Rattle.ea_machine.specs.Setup.{migration};
 ghost use Rattle.ea_sched.specs.Acting.{IsSame, setup_for};
-ghost use Rattle.ea_sched.specs.Asking.{HasMore, SuitsNext};
-ghost use Rattle.ea_sched.specs.Creations.{CreatesAfter, CreatesAt};
+ghost use Rattle.ea_sched.specs.Asking.{CanCount, HasMore, SuitsNext};
+ghost use Rattle.ea_sched.specs.Creations.{PlansAfter, PlansAt};
 ghost use Rattle.ea_sched.specs.Steps.{DidRow, StartsRow};
 ghost use Rattle.ea_sched.specs.Turning.{EndsRoute, TurnedRow};
 
@@ -27,9 +27,10 @@ impl<'t> Scheduler<'t> {
         requires on { self.old.migrates ≡ true }
         requires next { IsSome over → why ≡ reason.Walk → SuitsNext self.old.instance self.old }
         requires more { IsSome over → (task : Task) → why ≡ reason.For task → HasMore self.old }
+        requires counts { IsSome over → CanCount self.old.instance }
         ensures ends { OnOk result (EndsRoute (setup_for self.old) self.old.number why over self.old
             self.new) }
-        ensures memory { OnErr result (CreatesAfter (setup_for self.old) self.old.number why over
+        ensures memory { OnErr result (PlansAfter (setup_for self.old) self.old.number why over
             self.old) }
         ensures same { IsSame self.old self.new }
     {
@@ -97,7 +98,7 @@ impl<'t> Scheduler<'t> {
         ensures row { OnOk result (DidRow (stage.Routed route why gone) self.old self.new
             (S.shared shared.old) (S.shared shared.new) (S.caller shared.old)
             (S.caller shared.new)) }
-        ensures memory { OnErr result (CreatesAt (stage.Routed route why gone) self.old
+        ensures memory { OnErr result (PlansAt (stage.Routed route why gone) self.old
             (S.shared shared.old) (S.caller shared.old)) }
     {
         match route {

@@ -10,7 +10,7 @@ ghost use Rattle.ea_machine.specs.declared.stages.Route.TheVariants as route;
 ghost use Rattle.ea_machine.specs.Releases as releases;
 ghost use Rattle.ea_machine.specs.Setup.{migration};
 ghost use Rattle.ea_sched.specs.Acting.{IsSame, setup_for, standing_at};
-ghost use Rattle.ea_sched.specs.Creations.{CreatesAt};
+ghost use Rattle.ea_sched.specs.Creations.{PlansAt};
 ghost use Rattle.ea_sched.specs.Steps.{DidRow, StartsRow};
 ghost use Rattle.ea_sched.specs.Turning.{CollectedRow, HasTurned, TurnedRow};
 
@@ -248,7 +248,7 @@ impl<'t> Scheduler<'t> {
         ensures row { OnOk result (DidRow (stage.Collecting number) self.old self.new
             (S.shared shared.old) (S.shared shared.new) (S.caller shared.old)
             (S.caller shared.new)) }
-        ensures memory { OnErr result (CreatesAt (stage.Collecting number) self.old
+        ensures memory { OnErr result (PlansAt (stage.Collecting number) self.old
             (S.shared shared.old) (S.caller shared.old)) }
     {
         self.collect(shared, number);

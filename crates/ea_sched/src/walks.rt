@@ -3,8 +3,8 @@ ghost use Rattle.std.specs.Prelude.{◌≡◌, true, false, [], None, OnErr, OnO
 ghost use Rattle.ea_machine.specs.Machine as machine;
 ghost use Rattle.ea_machine.specs.Walks as walks;
 ghost use Rattle.ea_sched.specs.Acting.{IsSame, actor_of, ready_of, setup_for, standing_at};
-ghost use Rattle.ea_sched.specs.Asking.{SuitsNext};
-ghost use Rattle.ea_sched.specs.Creations.{IsCreation};
+ghost use Rattle.ea_sched.specs.Asking.{CanCount, SuitsNext};
+ghost use Rattle.ea_sched.specs.Creations.{PlansFrom};
 ghost use Rattle.ea_sched.specs.Passing.{stage_for};
 ghost use Rattle.ea_sound.specs.Walking.{CanAllGo, worked};
 
@@ -59,9 +59,10 @@ impl<'t> Scheduler<'t> {
     /// Does the operation itself, once its begin is over; where none is left, its text is done.
     pub(crate) fn go_on(&mut self, alloc: Global) -> Result<(), OutOfMemory>
         requires next { SuitsNext self.old.instance self.old }
+        requires counts { CanCount self.old.instance }
         ensures actor { OnOk result (actor_of self.new ≡ machine.onward (setup_for self.old)
             self.old.number (ready_of self.old)) }
-        ensures memory { OnErr result (IsCreation self.old.instance
+        ensures memory { OnErr result (PlansFrom self.old
             (machine.onward (setup_for self.old) self.old.number (ready_of self.old))) }
         ensures same { IsSame self.old self.new }
     {
@@ -79,10 +80,11 @@ impl<'t> Scheduler<'t> {
     fn work_oldest(&mut self, alloc: Global) -> Result<(), OutOfMemory>
         requires next { self.old.passed.nodes ≡ [] → SuitsNext self.old.instance self.old }
         requires on { self.old.migrates ≡ true }
+        requires counts { CanCount self.old.instance }
         ensures actor { OnOk result ((at : _) → actor_of self.new ≡ machine.onward
             (setup_for self.old) self.old.number (walks.worked_off (setup_for self.old)
             self.old.number self.old.passed.nodes (standing_at at self.old))) }
-        ensures memory { OnErr result ((at : _) → IsCreation self.old.instance
+        ensures memory { OnErr result ((at : _) → PlansFrom self.old
             (machine.onward (setup_for self.old) self.old.number
             (walks.worked_off (setup_for self.old) self.old.number self.old.passed.nodes
             (standing_at at self.old)))) }
@@ -105,10 +107,11 @@ impl<'t> Scheduler<'t> {
             → SuitsNext (worked self.old.number self.old.instance self.old.passed.nodes).instance
             self.old }
         requires off { self.old.migrates ≡ false }
+        requires counts { CanCount self.old.instance }
         ensures actor { OnOk result ((at : _) → actor_of self.new ≡ machine.onward
             (setup_for self.old) self.old.number (walks.worked_off (setup_for self.old)
             self.old.number self.old.passed.nodes (standing_at at self.old))) }
-        ensures memory { OnErr result ((at : _) → IsCreation self.old.instance
+        ensures memory { OnErr result ((at : _) → PlansFrom self.old
             (machine.onward (setup_for self.old) self.old.number
             (walks.worked_off (setup_for self.old) self.old.number self.old.passed.nodes
             (standing_at at self.old)))) }
@@ -134,10 +137,11 @@ impl<'t> Scheduler<'t> {
             self.old }
         requires next_on { self.old.migrates ≡ true → self.old.passed.nodes ≡ []
             → SuitsNext self.old.instance self.old }
+        requires counts { CanCount self.old.instance }
         ensures actor { OnOk result ((at : _) → actor_of self.new ≡ machine.onward
             (setup_for self.old) self.old.number (walks.worked_off (setup_for self.old)
             self.old.number self.old.passed.nodes (standing_at at self.old))) }
-        ensures memory { OnErr result ((at : _) → IsCreation self.old.instance
+        ensures memory { OnErr result ((at : _) → PlansFrom self.old
             (machine.onward (setup_for self.old) self.old.number
             (walks.worked_off (setup_for self.old) self.old.number self.old.passed.nodes
             (standing_at at self.old)))) }

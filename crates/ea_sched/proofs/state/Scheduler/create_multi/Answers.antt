@@ -1,10 +1,19 @@
 use Rattle.std.proofs.Common.{refl, sym, ap, subst, ◌∙◌}
 use Rattle.std.specs.Prelude.{IsSome}
-use Rattle.ea_model.specs.Instance.{Instance, own_at}
+use Rattle.ea_model.specs.declared.carriers.Kind.TheVariants.{Multi}
+use Rattle.ea_model.specs.Instance.{Instance, created_content, own_at}
 use Rattle.ea_machine.specs.Placements.{created_by, placed_in_choice}
+use Rattle.ea_sound.proofs.Plans.{planned-owner}
 use Rattle.ea_sched.specs.Acting.{ready_of, setup_for}
 use Rattle.ea_sched.proofs.OwnCarriers.{asked-again, created-own}
 use Rattle.ea_sched.proofs.state.Scheduler.create_multi.Goals as goal
+
+pub create-requires-clause-carrier : goal.create-requires-clause-carrier
+create-requires-clause-carrier c =
+    let s = c.args.self.now in
+    let p = c.args.plan in
+    c.requires.carrier ∙ ap (λ n. created_content n Multi p) (planned-owner s.instance
+    c.args.ask.need p c.stands.ensures.stands.orderly.kept.instance.0 c.requires.plan)
 
 pub returns-clause-actor : goal.returns-clause-actor
 returns-clause-actor c =

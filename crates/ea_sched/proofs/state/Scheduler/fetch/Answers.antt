@@ -10,8 +10,8 @@ use Rattle.ea_machine.specs.Setup.{greatest_number}
 use Rattle.ea_machine.specs.Rows.{FetchTry, Lost, Won}
 use Rattle.ea_search.specs.Rooms.{RoomyLists}
 use Rattle.ea_sched.specs.Acting.{ready_of, setup_for, standing_at}
-use Rattle.ea_sched.specs.Creations.{IsCreation}
-use Rattle.ea_sched.proofs.Calling.{row-creates, row-done}
+use Rattle.ea_sched.specs.Creations.{PlansFrom}
+use Rattle.ea_sched.proofs.Calling.{ready-counts, row-done, row-plans}
 use Rattle.ea_sched.proofs.CarrierCalling.{listed-once}
 use Rattle.ea_sched.proofs.Placing.{onward-search, onward-won}
 use Rattle.ea_sched.proofs.Seeking.{fetch-asked, fetch-before, fetch-carrier, fetch-more, fetch-on}
@@ -85,6 +85,7 @@ search_on-requires g c =
       asked = fetch-asked s h c.args.ask c.args.at c.args.part c.args.seen refl s.instance _ refl
           refl;
       on = fetch-on s h c.args.ask c.args.at c.args.part c.args.seen refl;
+      counts = ready-counts s h;
     }
 
 pub returns-in-Won-clause-row : goal.returns-in-Won-clause-row
@@ -133,9 +134,9 @@ returns-in-Lost-clause-memory g c =
     let w = c.in-Lost.word in
     let stage = Fetching ask at part c.args.seen in
     on_err_weaker c.search_on.result
-    (λ is. row-creates s c.requires.starts.ready (FetchTry at c.args.seen) (Lost w) stage refl refl
-    refl c.in-Lost.ensures.row
-    (subst (IsCreation s.instance)
+    (λ is. row-plans s c.requires.starts.ready (FetchTry at c.args.seen) (Lost w) stage refl refl
+    refl refl c.in-Lost.ensures.row
+    (subst (PlansFrom s)
     (ap (λ y. search_on (setup_for s) s.number ask y (ready_of s))
     (c.lost.ensures.stands ∙ ap (λ k. passed k s.lists.lists at part w) c.greatest-highest.ensures)
     ∙ sym (onward-search (setup_for s) s.number

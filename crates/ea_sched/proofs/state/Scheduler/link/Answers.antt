@@ -6,7 +6,7 @@ use Rattle.ea_machine.specs.declared.stages.Route.TheVariants.{Linking}
 use Rattle.ea_machine.specs.Rows.{Done, Link}
 use Rattle.ea_sched.proofs.Calling.{as-node, link-node, link-target, link-unlinked}
 use Rattle.ea_sched.proofs.Calling.{linked-can, linked-next, linked-suits, row-done}
-use Rattle.ea_sched.proofs.Calling.{row-creates, task-more}
+use Rattle.ea_sched.proofs.Calling.{ready-counts, row-plans, task-more}
 use Rattle.ea_sched.proofs.state.Scheduler.link.Goals as goal
 
 pub link-requires-clause-target : goal.link-requires-clause-target
@@ -47,6 +47,9 @@ end_walk-requires-clause-next_on g c =
     λ on none. linked-next s c.requires.starts.ready c.args.node c.args.to c.args.gone
     (ap (λ why. Routed (Linking c.args.node c.args.to) why c.args.gone) c.in-Walk.is)
 
+pub end_walk-requires-clause-counts : goal.end_walk-requires-clause-counts
+end_walk-requires-clause-counts g c = ready-counts c.args.self.now c.requires.starts.ready
+
 pub finish_task-requires : goal.finish_task-requires
 finish_task-requires g c =
     let s = c.args.self.now in
@@ -71,9 +74,9 @@ returns-in-For-clause-row g c = row-done c.args.self.now c.requires.starts.ready
 
 pub returns-in-Walk-clause-memory : goal.returns-in-Walk-clause-memory
 returns-in-Walk-clause-memory g c = on_err_weaker c.end_walk.result
-    (λ is. row-creates c.args.self.now c.requires.starts.ready (Link c.args.node c.args.to) Done
+    (λ is. row-plans c.args.self.now c.requires.starts.ready (Link c.args.node c.args.to) Done
     (Routed (Linking c.args.node c.args.to) Walk c.args.gone)
     (ap (λ why. Routed (Linking c.args.node c.args.to) why c.args.gone) c.in-Walk.is)
-    refl refl c.link.ensures.row
+    refl refl refl c.link.ensures.row
     (is (Routed (Linking c.args.node c.args.to) c.args.why c.args.gone)))
     c.end_walk.ensures.memory

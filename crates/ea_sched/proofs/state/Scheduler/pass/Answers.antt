@@ -4,9 +4,9 @@ use Rattle.ea_machine.specs.declared.stages.Stage.TheVariants.{Begin}
 use Rattle.ea_machine.specs.Machine.{begins}
 use Rattle.ea_machine.specs.Rows.{Rests, TakeLink}
 use Rattle.ea_sched.specs.Acting.{actor_of}
-use Rattle.ea_sched.proofs.Calling.{as-node, ended-creates, pass-few, pass-next, pass-node}
+use Rattle.ea_sched.proofs.Calling.{as-node, ended-plans, pass-few, pass-next, pass-node}
 use Rattle.ea_sched.proofs.Calling.{passed-can, passed-ended, passed-next, passed-suits}
-use Rattle.ea_sched.proofs.Calling.{rests-suits, row-creates, row-done}
+use Rattle.ea_sched.proofs.Calling.{ready-counts, rests-suits, row-done, row-plans}
 use Rattle.ea_sched.proofs.state.Scheduler.pass.Goals as goal
 
 pub take_link-requires-clause-node : goal.take_link-requires-clause-node
@@ -30,6 +30,7 @@ go_on-requires g c = record {
   next = rests-suits c.args.self.now c.requires.starts.ready c.args.node refl
       c.requires.next
       c.in-Rest.ensures.row;
+  counts = ready-counts c.args.self.now c.requires.starts.ready;
 }
 
 pub end_walk-requires-clause-passed : goal.end_walk-requires-clause-passed
@@ -47,6 +48,9 @@ end_walk-requires-clause-next g c = λ off. passed-suits c.args.self.now c.requi
 pub end_walk-requires-clause-next_on : goal.end_walk-requires-clause-next_on
 end_walk-requires-clause-next_on g c = λ on none. absurd
     (let no : c.args.node ∷ c.args.self.now.passed.nodes ≡ [] = sym c.add.ensures ∙ none in cc)
+
+pub end_walk-requires-clause-counts : goal.end_walk-requires-clause-counts
+end_walk-requires-clause-counts g c = ready-counts c.args.self.now c.requires.starts.ready
 
 pub returns-in-Rest-clause-row : goal.returns-in-Rest-clause-row
 returns-in-Rest-clause-row g c =
@@ -77,12 +81,12 @@ returns-in-Next-clause-row g c = passed-next c.args.self.now c.requires.starts.r
 
 pub returns-in-Rest-clause-memory : goal.returns-in-Rest-clause-memory
 returns-in-Rest-clause-memory g c = on_err_weaker c.go_on.result
-    (row-creates c.args.self.now c.requires.starts.ready TakeLink Rests Begin refl refl
-    (ap begins c.requires.next) c.in-Rest.ensures.row)
+    (row-plans c.args.self.now c.requires.starts.ready TakeLink Rests Begin refl refl
+    refl (ap begins c.requires.next) c.in-Rest.ensures.row)
     c.go_on.ensures.memory
 
 pub returns-in-End-clause-memory : goal.returns-in-End-clause-memory
 returns-in-End-clause-memory g c = on_err_weaker c.end_walk.result
-    (λ is. ended-creates c.args.self.now c.requires.starts.ready c.args.node refl c.requires.next
+    (λ is. ended-plans c.args.self.now c.requires.starts.ready c.args.node refl c.requires.next
     c.add.new.self.nodes c.add.ensures c.in-End.ensures.row (is Begin))
     c.end_walk.ensures.memory

@@ -5,7 +5,7 @@ use Rattle.ea_model.specs.Units.{need_of}
 use Rattle.ea_sound.proofs.Asked.{named-spot}
 use Rattle.ea_sched.specs.Acting.{ready_of, setup_for}
 use Rattle.ea_sched.specs.Asking.{Lies}
-use Rattle.ea_sched.proofs.Acts.{creates-as, made-as}
+use Rattle.ea_sched.proofs.Acts.{plans-as, made-as}
 use Rattle.ea_sched.proofs.state.Scheduler.realloc.Goals as goal
 
 pub reallocate-requires-clause-held : goal.reallocate-requires-clause-held
@@ -36,7 +36,7 @@ returns-in-Some-clause-memory c =
     let s = c.args.self.now in
     let held = named-spot c.args.old c.in-Some.spot s.names.held
     (sym c.spot_of.ensures ∙ c.in-Some.is) in
-    creates-as c.reallocate.result s.instance c.reallocate.ensures.memory
+    plans-as c.reallocate.result s c.reallocate.ensures.memory
     (ap (λ need. reallocated (setup_for s) s.number c.args.old c.args.fresh need (ready_of s)
     (Some (record { name = c.args.old; spot = c.in-Some.spot }))) c.need.ensures
     ∙ sym (ap (reallocated (setup_for s) s.number c.args.old c.args.fresh (need_of c.args.bytes)

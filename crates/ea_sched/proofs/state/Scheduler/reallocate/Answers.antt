@@ -7,7 +7,7 @@ use Rattle.ea_machine.specs.Nodes.{spot_named, with_name}
 use Rattle.ea_machine.specs.Placements.{seek}
 use Rattle.ea_sched.specs.Acting.{ready_of, setup_for}
 use Rattle.ea_sched.proofs.Placing.{foreign-moves}
-use Rattle.ea_sched.proofs.Acts.{creates-as, creation-from, kept-resized, made-as}
+use Rattle.ea_sched.proofs.Acts.{plans-as, planned-from, kept-resized, made-as}
 use Rattle.ea_sched.proofs.Acts.{unheld-let_go}
 use Rattle.ea_sound.proofs.Paths.{moves, resized}
 use Rattle.ea_sched.proofs.state.Scheduler.reallocate.Goals as goal
@@ -71,7 +71,7 @@ returns-then-not-employs-clause-memory c =
     let need = c.args.need in
     let goes = foreign-moves s.instance old.spot need c.stands.ensures.stands.orderly
     (sym c.employs.ensures ∙ c.if-not-employs.true) in
-    creates-as c.seek.result s.instance c.seek.ensures.memory
+    plans-as c.seek.result s c.seek.ensures.memory
     (sym (moves (setup_for s) s.number (ready_of s) old c.args.fresh need goes))
 
 pub returns-in_default-clause-memory : goal.returns-in_default-clause-memory
@@ -84,8 +84,8 @@ returns-in_default-clause-memory c =
     c.resize.ensures.moves.0 (subst IsNone (sym c.in_default.is) refl) in
     let same = c.resize.ensures.resized
     ∙ ap (λ d. resized_by d s.instance old.spot (resized_to s.instance old.spot need) fresh) goes in
-    creates-as c.seek-in_default.result s.instance
-    (on_err_weaker c.seek-in_default.result (creation-from c.resize.new.self s.instance _
+    plans-as c.seek-in_default.result s
+    (on_err_weaker c.seek-in_default.result (planned-from c.resize.new.self s.instance _
     (ap (λ (i : Instance). i.created) same)) c.seek-in_default.ensures.memory)
     (ap (λ i. seek (setup_for s) s.number (record { name = fresh; need = need; old = Some old })
     (record (ready_of s) { instance = i })) same

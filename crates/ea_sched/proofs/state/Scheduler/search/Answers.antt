@@ -2,8 +2,8 @@ use Rattle.std.proofs.Common.{refl, sym, ap, subst, ◌∙◌}
 use Rattle.std.proofs.lemmas.Result.{on_err_weaker, on_ok_weaker}
 use Rattle.ea_machine.specs.declared.stages.Stage.TheVariants.{Searching}
 use Rattle.ea_machine.specs.Rows.{Look, Saw}
-use Rattle.ea_sched.specs.Creations.{IsCreation}
-use Rattle.ea_sched.proofs.Calling.{row-creates, row-done}
+use Rattle.ea_sched.specs.Creations.{PlansFrom}
+use Rattle.ea_sched.proofs.Calling.{row-plans, row-done}
 use Rattle.ea_sched.proofs.Looking.{looked-next, looked-still, still-reached}
 use Rattle.ea_sched.proofs.Seeking.{search-carrier, search-next, search-on}
 use Rattle.ea_sched.proofs.state.Scheduler.search.Goals as goal
@@ -73,9 +73,9 @@ returns-clause-memory g c =
     let part = c.in-Searching.part in
     let on = search-on s h ask at part c.in-Searching.is in
     on_err_weaker c.see.result
-    (λ is. row-creates s h (Look at) (Saw c.look-seen.result) (Searching ask at part)
-    c.in-Searching.is refl refl c.look-seen.ensures.row
-    (subst (IsCreation s.instance) (looked-still s on ask at part c.in-Searching.is
+    (λ is. row-plans s h (Look at) (Saw c.look-seen.result) (Searching ask at part)
+    c.in-Searching.is refl refl refl c.look-seen.ensures.row
+    (subst (PlansFrom s) (looked-still s on ask at part c.in-Searching.is
     c.look-seen.result c.skips.new.at c.skips.new.part (c.skips.ensures.same c.if-skips.false))
     is))
     c.see.ensures.memory

@@ -2,7 +2,7 @@ use Rattle.std.proofs.Common.{sym, ap, ◌∙◌}
 use Rattle.ea_machine.specs.Placements.{new_carrier}
 use Rattle.ea_search.specs.Looks.{standing}
 use Rattle.ea_sched.specs.Acting.{ready_of, setup_for}
-use Rattle.ea_sched.proofs.Acts.{creates-as, made-as}
+use Rattle.ea_sched.proofs.Acts.{plans-as, made-as}
 use Rattle.ea_sched.proofs.Placing.{next-searches, none-creates}
 use Rattle.ea_sched.proofs.state.Scheduler.search_on.Goals as goal
 
@@ -23,7 +23,7 @@ returns-in-None-clause-actor c =
 pub returns-in-None-clause-memory : goal.returns-in-None-clause-memory
 returns-in-None-clause-memory c =
     let s = c.args.self.now in
-    creates-as c.end_search.result s.instance c.end_search.ensures.memory
+    plans-as c.end_search.result s c.end_search.ensures.memory
     (ap (λ k. new_carrier (setup_for s) s.number c.args.ask k (ready_of s)) c.looked-looked.ensures
     ∙ none-creates (setup_for s) s.number c.args.ask (standing c.args.search s.lists.lists)
     (ready_of s) (sym c.next_look.ensures ∙ c.in-None.is))

@@ -3,7 +3,8 @@ use Rattle.ea_machine.specs.Placements.{new_carrier}
 use Rattle.ea_machine.specs.Searches.{fits}
 use Rattle.ea_search.specs.Looks.{standing}
 use Rattle.ea_sched.specs.Acting.{ready_of, setup_for}
-use Rattle.ea_sched.proofs.Acts.{creates-as, made-as}
+use Rattle.ea_sched.proofs.Acts.{plans-as, made-as}
+use Rattle.ea_sched.proofs.Calling.{ready-counts}
 use Rattle.ea_sched.proofs.Looking.{looked-on, looked-try}
 use Rattle.ea_sched.proofs.Placing.{next-searches, none-creates, skips-unfit}
 use Rattle.ea_sched.proofs.Seeking.{search-asked, search-before, search-more, search-next}
@@ -25,6 +26,9 @@ end_search-requires-clause-more c = search-more c.args.self.now c.requires.reach
 pub end_search-requires-clause-asked : goal.end_search-requires-clause-asked
 end_search-requires-clause-asked c = search-asked c.args.self.now c.requires.reached.2
     c.in-Searching.ask c.in-Searching.at c.in-Searching.part c.in-Searching.is _ refl refl
+
+pub end_search-requires-clause-counts : goal.end_search-requires-clause-counts
+end_search-requires-clause-counts c = ready-counts c.args.self.now c.requires.reached.2
 
 pub returns-in-Try-clause-actor : goal.returns-in-Try-clause-actor
 returns-in-Try-clause-actor c =
@@ -76,7 +80,7 @@ returns-in-None-clause-memory c =
     let part = c.in-Searching.part in
     let on = search-on s c.requires.reached.2 ask at part c.in-Searching.is in
     let x = standing c.saw.new.self c.saw.new.lists.lists in
-    creates-as c.end_search.result s.instance c.end_search.ensures.memory
+    plans-as c.end_search.result s c.end_search.ensures.memory
     (ap (λ n. new_carrier (setup_for s) s.number ask n
     (record (ready_of s) { lists = c.saw.new.lists.lists })) c.looked.ensures
     ∙ none-creates (setup_for s) s.number ask x (ready_of s)

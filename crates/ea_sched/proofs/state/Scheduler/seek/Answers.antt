@@ -6,7 +6,7 @@ use Rattle.ea_laws.specs.Spots.{IsPlaced}
 use Rattle.ea_machine.specs.Placements.{search_if}
 use Rattle.ea_machine.specs.Setup.{migration}
 use Rattle.ea_sched.specs.Acting.{ready_of, setup_for}
-use Rattle.ea_sched.proofs.Acts.{chosen-place, creates-as, creation-from, made-as}
+use Rattle.ea_sched.proofs.Acts.{chosen-place, plans-as, planned-from, made-as}
 use Rattle.ea_sched.proofs.Acts.{stood-placed, unplaced}
 use Rattle.ea_sound.proofs.Paths.{seek-chosen}
 use Rattle.ea_sched.proofs.Placing.{seek-beyond}
@@ -62,8 +62,8 @@ returns-in-None-clause-memory c =
     let (none, same) = unplaced s.instance c.try_alloc.new.self
     (chosen_spot s.instance ask.need) ask.need ask.name
     (sym c.try_alloc.ensures.place ∙ c.in-None.is) c.try_alloc.ensures.placed in
-    creates-as c.seek_beyond.result s.instance
-    (on_err_weaker c.seek_beyond.result (creation-from c.try_alloc.new.self s.instance _
+    plans-as c.seek_beyond.result s
+    (on_err_weaker c.seek_beyond.result (planned-from c.try_alloc.new.self s.instance _
     (ap (λ (i : Instance). i.created) same)) c.seek_beyond.ensures.memory)
     (ap (λ i. search_if e s.number ask (record (ready_of s) { instance = i }) (migration e)) same
     ∙ sym (seek-beyond e s.number (ready_of s) ask

@@ -1,7 +1,7 @@
 use Rattle.std.proofs.Common.{sym, ap, ◌∙◌}
 use Rattle.ea_machine.specs.Placements.{new_carrier_by}
 use Rattle.ea_sched.specs.Acting.{ready_of, setup_for}
-use Rattle.ea_sched.proofs.Acts.{creates-as, made-as}
+use Rattle.ea_sched.proofs.Acts.{plans-as, made-as}
 use Rattle.ea_sched.proofs.state.Scheduler.seek_new.Goals as goal
 
 pub returns-in-Ok-clause-actor : goal.returns-in-Ok-clause-actor
@@ -14,6 +14,6 @@ returns-in-Ok-clause-actor c =
 pub returns-in-Ok-clause-memory : goal.returns-in-Ok-clause-memory
 returns-in-Ok-clause-memory c =
     let s = c.args.self.now in
-    creates-as c.plan.result s.instance c.plan.ensures.memory
+    plans-as c.plan.result s c.plan.ensures.memory
     (sym (ap (new_carrier_by (setup_for s) s.number c.args.ask c.args.looked (ready_of s))
     (sym c.plan_carrier.ensures.plan ∙ c.in-Ok.is)))

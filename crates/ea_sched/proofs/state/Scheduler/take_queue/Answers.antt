@@ -5,7 +5,8 @@ use Rattle.ea_machine.specs.declared.stages.Stage.TheVariants.{Begin}
 use Rattle.ea_machine.specs.Machine.{begins}
 use Rattle.ea_machine.specs.Rows.{Head, TakeAll}
 use Rattle.ea_sched.specs.Acting.{actor_of}
-use Rattle.ea_sched.proofs.Calling.{row-creates, row-done, take-walked, taken-suits}
+use Rattle.ea_sched.proofs.Calling.{ready-counts, row-done, row-plans, take-walked}
+use Rattle.ea_sched.proofs.Calling.{taken-suits}
 use Rattle.ea_sched.proofs.state.Scheduler.take_queue.Goals as goal
 
 pub take_all-requires-clause-walked : goal.take_all-requires-clause-walked
@@ -15,6 +16,7 @@ take_all-requires-clause-walked g c = take-walked c.args.self.now c.requires.sta
 pub go_on-requires : goal.go_on-requires
 go_on-requires g c = record {
   next = taken-suits c.args.self.now c.requires.starts.ready refl c.requires.next;
+  counts = ready-counts c.args.self.now c.requires.starts.ready;
 }
 
 pub returns-in-None-clause-row : goal.returns-in-None-clause-row
@@ -33,6 +35,6 @@ returns-in-Some-clause-row g c =
 
 pub returns-in-None-clause-memory : goal.returns-in-None-clause-memory
 returns-in-None-clause-memory g c = on_err_weaker c.go_on.result
-    (row-creates c.args.self.now c.requires.starts.ready TakeAll (Head None) Begin
-    refl refl (ap begins c.requires.next) c.in-None.ensures.row)
+    (row-plans c.args.self.now c.requires.starts.ready TakeAll (Head None) Begin
+    refl refl refl (ap begins c.requires.next) c.in-None.ensures.row)
     c.go_on.ensures.memory

@@ -1,10 +1,10 @@
-use Rattle.std.proofs.Common.{◌≡◌, None, sym, ap, subst, ◌∙◌}
+use Rattle.std.proofs.Common.{◌≡◌, ◌+◌, ◌^◌, ◌<◌, None, sym, ap, subst, ◌∙◌}
 use Rattle.std.proofs.lemmas.Result.{on_err_weaker, on_ok_weaker}
 use Rattle.ea_machine.specs.Machine.{onward}
 use Rattle.ea_sched.specs.Acting.{setup_for, standing_at}
 use Rattle.ea_sched.specs.Asking.{SuitsNext}
-use Rattle.ea_sched.specs.Creations.{IsCreation}
-use Rattle.ea_sched.proofs.Acts.{creation-from}
+use Rattle.ea_sched.specs.Creations.{PlansFrom}
+use Rattle.ea_sched.proofs.Acts.{planned-from}
 use Rattle.ea_sound.specs.Walking.{Worked, worked}
 use Rattle.ea_sound.proofs.Creations.{worked-created}
 use Rattle.ea_sound.proofs.Walked.{walked-none, walked-some}
@@ -19,6 +19,8 @@ go_on-requires c =
     record {
       next = subst (λ j. SuitsNext j s) (ap (λ (w : Worked). w.instance) (sym is))
           (c.requires.next none);
+      counts = subst (λ n. n + 1 < 2 ^ 32) (sym (ap (λ (w : Worked). w.instance.created) is
+          ∙ worked-created s.number s.passed.nodes s.instance)) c.requires.counts;
     }
 
 pub returns-in-None-clause-actor : goal.returns-in-None-clause-actor
@@ -53,11 +55,11 @@ returns-in-None-clause-memory c =
     let left = c.work_off.new.passed.nodes in
     let same = ap (λ (w : Worked). w.instance.created) c.work_off.ensures
     ∙ worked-created s.number s.passed.nodes s.instance in
-    on_err_weaker c.go_on.result (λ is at. subst (IsCreation s.instance)
+    on_err_weaker c.go_on.result (λ is at. subst (PlansFrom s)
     (ap (onward (setup_for s) s.number)
     (walked-none (setup_for s) s.number (sym s.migrates_so ∙ c.requires.off) (standing_at at s)
     s.passed.nodes c.requires.passed i left
     (ap (λ hand. record { instance = i; left = left; hand = hand }) (sym c.in-None.is)
     ∙ c.work_off.ensures)))
-    (creation-from i s.instance _ same is))
+    (planned-from i s.instance _ same is))
     c.go_on.ensures.memory

@@ -3,12 +3,15 @@ use Rattle.std.proofs.lemmas.Result.{on_err_weaker, on_ok_weaker}
 use Rattle.ea_machine.specs.Machine.{onward}
 use Rattle.ea_machine.specs.Walks.{ready, worked_off}
 use Rattle.ea_sched.specs.Acting.{setup_for, standing_at}
-use Rattle.ea_sched.specs.Creations.{IsCreation}
+use Rattle.ea_sched.specs.Creations.{PlansFrom}
 use Rattle.ea_sched.proofs.Placing.{worked-on}
 use Rattle.ea_sched.proofs.state.Scheduler.work_oldest.Goals as goal
 
 pub go_on-requires : goal.go_on-requires
-go_on-requires c = record { next = c.requires.next c.in-None.ensures.0 }
+go_on-requires c = record {
+  next = c.requires.next c.in-None.ensures.0;
+  counts = c.requires.counts;
+}
 
 pub returns-in-None-clause-actor : goal.returns-in-None-clause-actor
 returns-in-None-clause-actor c =
@@ -33,7 +36,7 @@ returns-in-Some-clause-actor c =
 pub returns-in-None-clause-memory : goal.returns-in-None-clause-memory
 returns-in-None-clause-memory c =
     let s = c.args.self.now in
-    on_err_weaker c.go_on.result (λ is at. subst (IsCreation s.instance)
+    on_err_weaker c.go_on.result (λ is at. subst (PlansFrom s)
     (ap (λ ns. onward (setup_for s) s.number
     (ready (record (standing_at at s) { passed = ns }))) c.in-None.ensures.1
     ∙ sym (ap (λ ns. onward (setup_for s) s.number
