@@ -257,6 +257,7 @@ impl<'t> Scheduler<'t> {
         requires starts { StartsRow (stage.Creating ask plan) self.old
             (S.schedulers shared.old) (S.greatest shared.old) (S.migrates shared.old)
             (S.shared shared.old) (S.caller shared.old) }
+        requires stage { self.old.stage ≡ stage.Begin }
         requires prepared { plan.single ≡ false
             → self.old.prepared ≡ Some (planned_content plan) }
         ensures stays { S.stays shared.old shared.new }

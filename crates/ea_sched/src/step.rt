@@ -121,10 +121,9 @@ impl<'t> Scheduler<'t> {
     }
 
     /// Takes one atomic step on what is shared, and does all up to the next one; one that has ended
-    /// or is stopped takes none. An `Err` says that the step is one that plans a multiblock carrier,
-    /// and that there was no memory for it: no other step fails. Where carriers migrate the carrier
-    /// is kept until the step that creates it. From then on an `Err` is all that this scheduler
-    /// answers.
+    /// or is stopped takes none. An `Err` says that the step plans a multiblock carrier, and that
+    /// there was no memory for it: no other step fails. Where carriers migrate the carrier is kept
+    /// until the step that creates it. From then on an `Err` is all that this scheduler answers.
     pub fn step<S: Shared<Content = Mbc>>(
         &mut self,
         alloc: Global,

@@ -14,7 +14,7 @@ pub create_in_turn-requires-2-clause-prepared : goal.create_in_turn-requires-2-c
 create_in_turn-requires-2-clause-prepared c = λ multi.
     let s = c.args.self.now in
     let p = c.args.plan in
-    ap Some (c.in_ok-carrier.ensures ∙ ap (λ n. created_content n Multi p)
+    ap Some (c.in_ok-carrier.ensures.carrier ∙ ap (λ n. created_content n Multi p)
     (sym (planned-owner s.instance c.args.ask.need p
     c.stands.ensures.stands.orderly.kept.instance.0 c.requires.plan)))
 
