@@ -1,7 +1,7 @@
 -- Names that schedulers of a run hold, and the spots where their blocks begin.
 use Rattle.std.proofs.Common.{◌≡◌, ℕ, ◌-◌, ◌<◌, ◌≤◌, get_or, refl, sym, ap, ◌∙◌, subst}
 use Rattle.std.proofs.Common.{inl, inr, arith}
-use Rattle.std.specs.Prelude.{◌==◌, Option, None, Some, is_some, option_map}
+use Rattle.std.specs.Prelude.{◌==◌, Option, None, Some, option_map}
 use Rattle.std.proofs.lemmas.Option.{slice_get_cases}
 use Rattle.ea_model.specs.declared.carriers.Spot.{Spot}
 use Rattle.ea_model.specs.declared.settings.Config.{Config}
@@ -34,14 +34,9 @@ use Rattle.ea_shared.specs.Carriers.{place_at}
 use Rattle.ea_sched.specs.declared.state.Scheduler.{Scheduler}
 use Rattle.ea_outcome.specs.Extents.{HasSpot, LiesWhere}
 use Rattle.ea_given.specs.declared.run.GivenRun.{GivenRun}
-use Rattle.ea_given.specs.Runs.{FitsSuperCarrier, HasScheduler, IsRun, Tells, holds_after}
+use Rattle.ea_given.specs.Runs.{FitsSuperCarrier, HasScheduler, IsRun, Tells}
 use Rattle.ea_given.specs.Runs.{spot_after}
 use Rattle.ea_given.proofs.GivenRuns.{actor-is, run-stands, there}
-
--- a name is found where its spot is
-found-spot : (o : Option Named) → is_some (option_map (λ (h : Named). h.spot) o) ≡ is_some o
-found-spot None = refl
-found-spot (Some h) = refl
 
 module _ (c : Config) (t : Trace) (valid : IsValidConfig c) (made : IsValidTrace c.schedulers t)
     (w : State) (reached : IsReached (setup_of c t) w) (me : ℕ) (is : IsScheduler c.schedulers me)
@@ -79,14 +74,6 @@ module _ (r : GivenRun) (me : ℕ) (has : HasScheduler me r) (name : ℕ) where
       (omega (arith, past, ap (λ (x : Trace). x.greatest) at.trace)))
 
   module _ (s : Scheduler) (one : s ≡ get_or r.schedulers.items (me - 1) s) where
-    -- a scheduler may hold the names of the trace
-    pub names-upto : IsRun r → s.names.greatest ≡ r.trace.now.greatest
-    names-upto is =
-        let (c, t, turns, at) = is in
-        let theirs = (at.schedulers.each (me - 1) s (there r me has is)).trace in
-        s.names_upto ∙ ap (λ (x : Trace). x.greatest)
-        (ap (λ (d : Scheduler). d.trace.now) one ∙ theirs ∙ sym at.trace)
-
     -- what it tells of a name
     pub spot-told : (o : Option Spot) → o ≡ spot_named name s.names.held
         → Tells (λ setup turns. o ≡ spot_after setup turns me name) r
@@ -96,11 +83,6 @@ module _ (r : GivenRun) (me : ℕ) (has : HasScheduler me r) (name : ℕ) where
 
   module _ (o : Option Spot) (told : Tells (λ setup turns. o ≡ spot_after setup turns me name) r)
     where
-      -- the name is held where a spot is told
-      pub holds-told : Tells (λ setup turns. is_some o ≡ holds_after setup turns me name) r
-      holds-told c t turns at = ap is_some (told c t turns at)
-          ∙ found-spot (named_at name ((run_with_stops (setup_of c t) turns).actors me).held)
-
       -- by the scheduler of the run
       pub has-spot : IsRun r → (p : Spot) → o ≡ Some p
           → HasSpot r.schedulers.items r.shared.given name p
