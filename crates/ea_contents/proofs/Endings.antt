@@ -178,15 +178,16 @@ module _ (c : Config) (t : Trace) (config : IsValidConfig c) (valid : IsValidTra
             ),
           )
 
+    -- a step of a scheduler that hasn't ended leaves it less work
+    pub steps-less : (i : ℕ) (taken : List ℕ) (w : State) → w ≡ run e taken
+        → (w.actors i).stage ≢ Ended → work e (step e w i) i < work e w i
+    steps-less i taken w is going =
+        rule-less e w i (reached-rule c t config valid w (taken, is)) going
+
     module _ (script : Script) (i : ℕ) where
       first-within : (d n : ℕ) → length (script i d) ≤ later_accesses e script i d n
       first-within d zero = omega arith
       first-within d (suc n) = omega arith
-
-      goes-less : (taken : List ℕ) (w : State) → w ≡ run e taken → (w.actors i).stage ≢ Ended
-          → work e (step e w i) i < work e w i
-      goes-less taken w is going =
-          rule-less e w i (reached-rule c t config valid w (taken, is)) going
 
       -- a turn of a scheduler that hasn't ended leaves fewer
       module _ (m : Moment) (taken : List ℕ) (is : m.state ≡ run e taken)
@@ -200,7 +201,7 @@ module _ (c : Config) (t : Trace) (config : IsValidConfig c) (valid : IsValidTra
           arith,
           few,
           first-within (done m.state i) (left_of m.state i),
-          goes-less taken m.state is going,
+          steps-less i taken m.state is going,
         )
 
         made-fewer : (lists : ℕ → List ℕ) (entry : AccessEntry) → Fewer (after_access m i lists entry)
@@ -213,7 +214,7 @@ module _ (c : Config) (t : Trace) (config : IsValidConfig c) (valid : IsValidTra
             < turns_left e script m i + past
         step-fewer v step past then (inl none) = omega (
           arith,
-          goes-less taken m.state is going,
+          steps-less i taken m.state is going,
           ap (λ u. work e u i) step,
           ap (λ d. later_accesses e script i d (left_of v i)) none.0,
           ap (λ n. later_accesses e script i (done m.state i) n) none.1,
@@ -223,7 +224,7 @@ module _ (c : Config) (t : Trace) (config : IsValidConfig c) (valid : IsValidTra
         step-fewer v step past then (inr one) = omega (
           arith,
           few,
-          goes-less taken m.state is going,
+          steps-less i taken m.state is going,
           ap (λ u. work e u i) step,
           ap (λ d. later_accesses e script i d (left_of v i)) one.0,
           ap (λ n. later_accesses e script i (done m.state i) n) one.1,

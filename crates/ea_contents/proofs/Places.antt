@@ -5,7 +5,7 @@ use Rattle.std.specs.Prelude.{Option, Some, None, drop, cond, map, filter}
 use Rattle.std.proofs.lemmas.Bool.{cases_Bool, cond-false, cond-true, eqb-true}
 use Rattle.ea_contents.specs.declared.access.Access.{Access}
 use Rattle.ea_contents.specs.declared.input.Placed.{Placed}
-use Rattle.ea_contents.specs.Placing.{IsAt, first_if, next_at}
+use Rattle.ea_contents.specs.Placing.{IsAt, first_if, first_of, next_at}
 use Rattle.ea_contents.specs.Script.{IsRising, RisesFrom, accesses_at}
 
 -- one place further
@@ -166,3 +166,30 @@ module _ (placed : List Placed) (made d past : ℕ) (at : IsAt placed made d pas
       rises = (none-here d (drop made placed) at.rises none).1;
       few = omega arith;
     }
+
+  by-next : (o : Option Access) → next_at d (drop made placed) ≡ o
+      → first_of (drop past (accesses_at d placed)) ≡ next_at d (drop made placed)
+  by-next None none = ap first_of (none-waits none) ∙ sym none
+  by-next (Some a) some = ap first_of (waits a some) ∙ sym some
+
+  -- what waits is seen at the next one
+  pub first-is : first_of (drop past (accesses_at d placed)) ≡ next_at d (drop made placed)
+  first-is = by-next (next_at d (drop made placed)) refl
+
+-- the same with equal numbers
+pub at-same : (placed : List Placed) (made k d n past j : ℕ) → IsAt placed made d past → k ≡ made
+    → n ≡ d → j ≡ past → IsAt placed k n j
+at-same placed made k d n past j at many operations now =
+    subst (λ x. IsAt placed x n j) (sym many)
+    (subst (λ x. IsAt placed made x j) (sym operations)
+    (subst (IsAt placed made d) (sym now) at))
+
+-- a first one is there, or none
+pub first-some : (xs : List Access) (a : Access) → first_of xs ≡ Some a
+    → (later : List Access) × (xs ≡ a ∷ later)
+first-some [] a some = absurd cc
+first-some (x ∷ xs) a some = (xs, cc)
+
+pub first-none : (xs : List Access) → first_of xs ≡ None → xs ≡ []
+first-none [] none = refl
+first-none (x ∷ xs) none = absurd cc

@@ -14,6 +14,11 @@ abbrev pub next_at : ℕ → List Placed → Option Access
 next_at d [] = None
 next_at d (p ∷ placed) = first_if (p.after == d) p.access
 
+-- the first of these writes and reads
+abbrev pub first_of : List Access → Option Access
+first_of [] = None
+first_of (a ∷ later) = Some a
+
 -- a scheduler has made that many of the writes and reads of its section, and ended d operations;
 -- of those that stand after d operations it has made `past`
 pub record IsAt (placed : List Placed) (made d past : ℕ) : Type 0 where

@@ -6,8 +6,8 @@
 //!
 //! `specs/` say what an input with writes and reads asks for (`Language`), what its run comes to
 //! (`Model`) and its text (`Text`); what a memory has (`Memory`, `Stored`), and when it agrees with
-//! the model (`Agreeing`); and what a session tells, a run with its memory (`Sessions`). No code
-//! runs such an input yet.
+//! the model (`Agreeing`); what a session tells, a run with its memory (`Sessions`); and where a play
+//! stands, a run by turns of all kinds (`Placing`, `Entering`, `Playing`).
 #![tactic(auto)]
 
 mod access;
@@ -16,6 +16,7 @@ mod input;
 mod laws;
 mod lines;
 mod memory;
+mod playing;
 mod reader;
 mod session;
 #[cfg(test)]
@@ -26,6 +27,7 @@ pub use access::{Access, AccessEntry, Making};
 pub use input::{ContentsInput, Placed};
 pub use laws::agreement;
 pub use memory::Memory;
+pub use playing::{ContentsOutcome, run_script};
 pub use reader::read_contents;
 pub use session::Session;
 pub use text::print_contents;
