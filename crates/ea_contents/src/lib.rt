@@ -12,10 +12,12 @@
 
 mod access;
 mod accesses;
+mod contents;
 mod input;
 mod laws;
 mod lines;
 mod memory;
+mod part;
 mod playing;
 mod reader;
 mod session;
@@ -24,6 +26,7 @@ mod tests;
 mod text;
 
 pub use access::{Access, AccessEntry, Making};
+pub use contents::run_contents;
 pub use input::{ContentsInput, Placed};
 pub use laws::agreement;
 pub use memory::Memory;

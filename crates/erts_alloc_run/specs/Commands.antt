@@ -2,6 +2,7 @@
 use Rattle.std.specs.Prelude.{if◌then◌else◌, List, [], ◌∷◌, ℕ, bytes_eq, codes, string_bytes}
 use Rattle.std.specs.declared.string.String.{String}
 use Rattle.ea_frame.specs.Language.{Language}
+use Rattle.ea_contents.specs.Command.{contents_traces}
 use Rattle.ea_hist.specs.Language.{histograms}
 use Rattle.ea_recorded.specs.Command.{recorded_traces}
 use Rattle.ea_super.specs.Command.{shared_region}
@@ -9,7 +10,7 @@ use Rattle.ea_top.specs.Language.{traces}
 use Rattle.ea_types.specs.Command.{typed_traces}
 use Rattle.erts_alloc_run.specs.declared.commands.Command.{Command}
 use Rattle.erts_alloc_run.specs.declared.commands.Command.TheVariants.{Trace, Types, Super}
-use Rattle.erts_alloc_run.specs.declared.commands.Command.TheVariants.{Recorded, Histogram}
+use Rattle.erts_alloc_run.specs.declared.commands.Command.TheVariants.{Recorded, Histogram, Contents}
 
 -- the command that a word names; that of a trace has no name
 abbrev pub named : List ℕ → Command
@@ -17,7 +18,8 @@ named word =
     if bytes_eq word (codes "types") then Types else (
     if bytes_eq word (codes "super") then Super else (
     if bytes_eq word (codes "recorded") then Recorded else (
-    if bytes_eq word (codes "histogram") then Histogram else Trace)))
+    if bytes_eq word (codes "histogram") then Histogram else (
+    if bytes_eq word (codes "contents") then Contents else Trace))))
 
 abbrev pub language_of : Command → Language
 language_of Trace = traces
@@ -25,6 +27,7 @@ language_of Types = typed_traces
 language_of Super = shared_region
 language_of Recorded = recorded_traces
 language_of Histogram = histograms
+language_of Contents = contents_traces
 
 module _ {Z : Type 0} where
   -- the command of the first word; without words that of a trace

@@ -15,6 +15,8 @@ pub enum Command {
     Recorded,
     /// `histogram`: to run a trace, and to count its blocks and gaps by their size.
     Histogram,
+    /// `contents`: to run a trace with writes and reads of words of its blocks.
+    Contents,
 }
 
 /// The command that the first word names; without such a word that of a trace.
@@ -33,6 +35,8 @@ pub fn command_of(words: &[String]) -> Command
         Command::Recorded
     } else if name == b"histogram".as_slice() {
         Command::Histogram
+    } else if name == b"contents".as_slice() {
+        Command::Contents
     } else {
         Command::Trace
     }

@@ -4,6 +4,7 @@ ghost use Rattle.ea_frame.specs.Answered.{Answered, end_of};
 ghost use Rattle.erts_alloc_run.specs.Commands.{after_first, command, language_of, words_for};
 
 use crate::commands::{Command, command_of};
+use ea_contents::run_contents;
 use ea_hist::run_hist;
 use ea_io::{Sink, Source};
 use ea_recorded::run_recorded;
@@ -46,5 +47,6 @@ pub fn run_program<R: Threads + Wait + Sync, S: Source, O: Sink, E: Sink>(
         Command::Super => run_super(rt, alloc, after_first(words), source, out, err),
         Command::Recorded => run_recorded(alloc, after_first(words), source, out, err),
         Command::Histogram => run_hist(alloc, after_first(words), source, out, err),
+        Command::Contents => run_contents(alloc, after_first(words), source, out, err),
     }
 }
