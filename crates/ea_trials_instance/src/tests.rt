@@ -161,11 +161,21 @@ impl Trial {
                 compare(rt, step, &self.plan(rt, need, false), &plan.map(plan_of));
             }
             PlanSingle(need, plan) => {
-                compare(rt, step, &self.plan(rt, need, true), &plan.map(single_plan_of));
+                compare(
+                    rt,
+                    step,
+                    &self.plan(rt, need, true),
+                    &plan.map(single_plan_of),
+                );
             }
             BlockAt(carrier, offset, block) => {
                 let found = self.instance.block_at(Spot { carrier, offset });
-                compare(rt, step, &found, &block.map(|(name, size)| Block { name, size }));
+                compare(
+                    rt,
+                    step,
+                    &found,
+                    &block.map(|(name, size)| Block { name, size }),
+                );
             }
             Employs(carrier, employs) => {
                 compare(rt, step, &self.instance.employs(carrier), &employs);
