@@ -180,7 +180,7 @@ module _ (setup : Setup) (turns : List ℕ) (i n : ℕ) where
     by op.Idle makes todo = absurd cc
 
 -- a block that lies over these units is one of its name
-over-named : (setup : Setup) (w : State) (n : ℕ) (q : Range) → LiesOver setup n q w
+pub over-named : (setup : Setup) (w : State) (n : ℕ) (q : Range) → LiesOver setup n q w
     → 0 < blocks_named setup n w
 over-named setup w n q lies = omega (
   arith,
@@ -204,7 +204,7 @@ module _ (setup : Setup) (laws : Protocol setup) where
   named-over turns i n q lies = over-named setup (run setup (turns ++ i ∷ [])) n q lies
 
   -- a block was there with the same units, or its name is the one that was made
-  had-or-made : (turns : List ℕ) (i : ℕ) (n : ℕ) (q : Range)
+  pub had-or-made : (turns : List ℕ) (i : ℕ) (n : ℕ) (q : Range)
       → LiesOver setup n q (run setup (turns ++ i ∷ []))
       → LiesOver setup n q (run setup turns)
       ⊎ ((m : Making) × (made setup (run setup turns) i ≡ Some m) × (m.fresh ≡ n))

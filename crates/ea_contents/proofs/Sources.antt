@@ -1,12 +1,10 @@
 -- A step that makes a name of which another's words are taken over: that other one is held before,
 -- and has a block.
-use Rattle.std.proofs.Common.{◌≡◌, ◌≢◌, ℕ, ◌+◌, ◌<◌, ◌≤◌, Bool, true, false, List, [], ◌∷◌, ◌++◌}
+use Rattle.std.proofs.Common.{◌≡◌, ◌≢◌, ℕ, ◌<◌, Bool, true, false, List, [], ◌∷◌, ◌++◌}
 use Rattle.std.proofs.Common.{refl, sym, ap, ◌∙◌, subst, arith}
 use Rattle.std.specs.Prelude.{◌==◌, ◌&&◌, Option, Some, None, is_some, not}
-use Rattle.std.proofs.lemmas.Bool.{cases_Bool, cases_lt}
 use Rattle.ea_model.specs.Content.{Content}
 use Rattle.ea_model.specs.Trace.{makes}
-use Rattle.ea_model.specs.declared.carriers.Place.{Place}
 use Rattle.ea_model.specs.declared.operations.Op.{Op}
 use Rattle.ea_model.specs.declared.operations.Op.TheVariants as op
 use Rattle.ea_laws.specs.InOrder.{Range}
@@ -26,7 +24,7 @@ use Rattle.ea_machine.specs.Releases.{Turned, turned}
 use Rattle.ea_machine.specs.Setup.{Setup}
 use Rattle.ea_machine.specs.State.{State}
 use Rattle.ea_machine.specs.Sums.{one_if}
-use Rattle.ea_machine.specs.Tasks.{carried, carried_by}
+use Rattle.ea_machine.specs.Tasks.{carried_by}
 use Rattle.ea_machine.specs.Walks.{after_route}
 use Rattle.ea_sound.specs.Contents.{seats}
 use Rattle.ea_sound.specs.Made.{HoldsOld, IsMadeBy}
@@ -40,7 +38,7 @@ use Rattle.ea_sound.proofs.Global.{working-scheduler}
 use Rattle.ea_sound.proofs.Numbered.{scheduler-seat}
 use Rattle.ea_sound.proofs.ShortRoutes.{turned-short}
 use Rattle.ea_sound.proofs.Totals.{total-part}
-use Rattle.ea_sound.proofs.TurnLists.{ended-or, run-snoc, step-ended, step-mine}
+use Rattle.ea_sound.proofs.TurnLists.{run-snoc, step-ended, step-mine}
 use Rattle.ea_contents.specs.declared.access.Making.{Making}
 use Rattle.ea_contents.specs.Model.{holds, if_new, is_new, made, made_by, making_by, making_of}
 use Rattle.ea_contents.proofs.Lying.{held-lies, held-named}

@@ -6,7 +6,8 @@
 //!
 //! `specs/` say what an input with writes and reads asks for (`Language`), what its run comes to
 //! (`Model`) and its text (`Text`); what a memory has (`Memory`, `Stored`), and when it agrees with
-//! the model (`Agreeing`). No code runs such an input yet.
+//! the model (`Agreeing`); and what a session tells, a run with its memory (`Sessions`). No code
+//! runs such an input yet.
 #![tactic(auto)]
 
 mod access;
@@ -16,6 +17,7 @@ mod laws;
 mod lines;
 mod memory;
 mod reader;
+mod session;
 #[cfg(test)]
 mod tests;
 mod text;
@@ -25,4 +27,5 @@ pub use input::{ContentsInput, Placed};
 pub use laws::agreement;
 pub use memory::Memory;
 pub use reader::read_contents;
+pub use session::Session;
 pub use text::print_contents;

@@ -1,0 +1,25 @@
+use Rattle.std.proofs.Common.{ℕ, length, refl, ap, arith}
+use Rattle.std.proofs.lemmas.List.{length-replicate}
+use Rattle.ea_contents.proofs.Standing.{scheduled-texts, start-empty}
+use Rattle.ea_contents.proofs.session.Session.new.Goals as goal
+
+pub returns-clause-stands : goal.returns-clause-stands
+returns-clause-stands c =
+    let d = c.args.config in
+    let t = c.args.trace.now in
+    record {
+      run = c.in_ok-run.ensures;
+      trace = refl;
+      texts = scheduled-texts d.schedulers t c.requires.schedule c.requires.trace.texts;
+      stops = c.requires.unstopped;
+      going = refl;
+      whole = omega (
+        arith,
+        ap length c.in_ok-memory.ensures,
+        length-replicate {A = ℕ} c.units_of.result 0,
+        c.units_of.ensures,
+      );
+      agrees = λ name r lies. absurd (start-empty d t name r lies);
+      places = omega (arith, c.in_ok-extents.ensures.len, c.in_ok-extents.extents.ok);
+      extents = λ name r lies. absurd (start-empty d t name r lies);
+    }
