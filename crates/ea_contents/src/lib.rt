@@ -5,9 +5,9 @@
 //! block the list of its name.
 //!
 //! `specs/` say what an input with writes and reads asks for (`Language`), what its run comes to
-//! (`Model`) and its text (`Text`); what a memory has (`Memory`, `Stored`), and when it agrees with
-//! the model (`Agreeing`); and what a session tells, a run with its memory (`Sessions`). No code
-//! runs such an input yet.
+//! (`Model`) and its text (`Text`); what a memory has (`Memory`, `Stored`) and what of it is there
+//! (`Paging`), and when it agrees with the model (`Agreeing`); and what a session tells, a run with
+//! its memory (`Sessions`). No code runs such an input yet.
 #![tactic(auto)]
 
 mod access;
@@ -16,6 +16,8 @@ mod input;
 mod laws;
 mod lines;
 mod memory;
+mod page;
+mod pages;
 mod reader;
 mod session;
 #[cfg(test)]
