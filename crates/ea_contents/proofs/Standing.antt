@@ -1,5 +1,5 @@
 -- Sessions that stand after some turns: what their steps, writes and reads come to.
-use Rattle.std.proofs.Common.{◌≡◌, ℕ, ◌+◌, ◌-◌, ◌<◌, ◌≤◌, Bool, true, false, List}
+use Rattle.std.proofs.Common.{◌≡◌, ℕ, ◌+◌, ◌-◌, ◌/◌, ◌<◌, ◌≤◌, Bool, true, false, List}
 use Rattle.std.proofs.Common.{[], drop, length, set, refl, sym, ap, ◌∙◌, subst}
 use Rattle.std.proofs.Common.{arith}
 use Rattle.std.specs.Prelude.{Option, Some, None, slice_index_or, get_or, not, ◌&&◌}
@@ -37,6 +37,8 @@ use Rattle.ea_contents.specs.declared.session.Session.{Session}
 use Rattle.ea_contents.specs.Memory.{words_from, words_of}
 use Rattle.ea_contents.specs.Model.{holds, if_new, lists_written, made_by}
 use Rattle.ea_contents.specs.Model.{making_of}
+use Rattle.ea_contents.specs.Paging.{HasWords}
+use Rattle.ea_contents.specs.declared.page.TheConstants.{PAGE_WORDS}
 use Rattle.ea_contents.specs.Sessions.{IsHeld, KeepsExtents, SessionHas}
 use Rattle.ea_contents.specs.Sessions.{StandsWith}
 use Rattle.ea_contents.specs.Sessions.{if_absent, kept, yet_made_by}
@@ -154,7 +156,7 @@ module _ (c : Config) (t : Trace) (turns : List ℕ) (lists : ℕ → List ℕ) 
 
   -- a block lies within the memory
   pub lies-stored : (name : ℕ) (x : Extent) → LiesOver setup name (range_of x) w
-      → IsStored x s.memory
+      → IsStored x s.memory.words
   lies-stored name x lies =
       let some = (laws.apart turns).some name (range_of x) lies in
       let within = (laws.apart turns).within name (range_of x) lies in
@@ -172,14 +174,17 @@ module _ (c : Config) (t : Trace) (turns : List ℕ) (lists : ℕ → List ℕ) 
     pub lies-units : x.units ≡ units_named setup name w
     lies-units = sym ((laws.apart turns).sized name (range_of x) lies)
 
-    pub word-stored : IsStored x s.memory
+    pub word-stored : IsStored x s.memory.words
     word-stored = lies-stored name x lies
+
+    pub word-there : HasWords (range_of x) s.memory
+    word-there = at.there name (range_of x) lies
 
     pub word-within : (index : ℕ) → index + 1 < units_named setup name w → index + 1 < x.units
     word-within index less = omega (arith, less, lies-units)
 
     pub word-read : (index value : ℕ)
-        → value ≡ get_or (words_of (range_of x) s.memory) index 0
+        → value ≡ get_or (words_of (range_of x) s.memory.words) index 0
         → value ≡ get_or (lists name) index 0
     word-read index value is =
         is ∙ ap (λ ws. get_or ws index 0) (at.agrees name (range_of x) lies)
@@ -187,9 +192,10 @@ module _ (c : Config) (t : Trace) (turns : List ℕ) (lists : ℕ → List ℕ) 
     -- one word is written
     pub word-written : (index value : ℕ) → index + 1 < x.units → (v : Session)
         → v.run ≡ s.run → v.trace ≡ s.trace → v.failed ≡ s.failed → v.extents ≡ s.extents
-        → v.memory ≡ set s.memory (words_from (range_of x) + index) value
+        → v.memory.words ≡ set s.memory.words (words_from (range_of x) + index) value
+        → v.memory.there ≡ s.memory.there
         → StandsWith c t turns (lists_written lists name index value) v
-    word-written index value within v same trace failed extents memory = record {
+    word-written index value within v same trace failed extents memory there = record {
       run = subst (StandsAfter c t turns) (sym same) at.run;
       trace = ap (λ (b : _). b.now) trace ∙ at.trace;
       texts = at.texts;
@@ -198,11 +204,13 @@ module _ (c : Config) (t : Trace) (turns : List ℕ) (lists : ℕ → List ℕ) 
       whole = subst (IsWhole setup) (sym memory) (omega (
         arith,
         at.whole,
-        length-set s.memory (words_from (range_of x) + index) value,
+        length-set s.memory.words (words_from (range_of x) + index) value,
       ));
       agrees = subst (λ m. Agree setup w m (lists_written lists name index value)) (sym memory)
-          ((keeps-agreement setup laws).writes turns s.memory lists name index value (range_of x)
+          ((keeps-agreement setup laws).writes turns s.memory.words lists name index value (range_of x)
           lies within at.agrees);
+      there = λ n r lies k from upto. ap (λ bs. get_or bs (k / PAGE_WORDS) false) there
+          ∙ at.there n r lies k from upto;
       places = ap (λ (l : _). length l.items) extents ∙ at.places;
       extents = subst (λ (l : _). KeepsExtents setup w l.items) (sym extents) at.extents;
     }

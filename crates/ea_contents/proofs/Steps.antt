@@ -30,7 +30,8 @@ use Rattle.ea_contents.specs.declared.session.Session.{Session}
 use Rattle.ea_contents.specs.Memory.{fitted, word_count, words_from}
 use Rattle.ea_contents.specs.Model.{holds, if_new, lists_after, made}
 use Rattle.ea_contents.specs.Model.{making_by, making_of}
-use Rattle.ea_contents.specs.Sessions.{KeepsExtents}
+use Rattle.ea_contents.specs.Paging.{HasWords, Paged, StaysThere}
+use Rattle.ea_contents.specs.Sessions.{AreBrought, KeepsExtents}
 use Rattle.ea_contents.specs.Sessions.{StandsWith}
 use Rattle.ea_contents.specs.Sessions.{kept, kept_if, yet_made_by}
 use Rattle.ea_contents.specs.Stored.{IsStored}
@@ -111,17 +112,17 @@ module _ (c : Config) (t : Trace) (turns : List ℕ) (lists : ℕ → List ℕ) 
         subst (HasSource setup w (Some old)) (sym (at.extents old lies.0 lies.1)) lies.1
 
   pub source-stored : (m : Making) → made setup w me ≡ Some m
-      → IfSome (kept_if s.extents.items m.source) (λ old. IsStored old s.memory)
+      → IfSome (kept_if s.extents.items m.source) (λ old. IsStored old s.memory.words)
   source-stored m is = by m.source (kept_if s.extents.items m.source) (source-kept m is) where
     by : (o : Option ℕ) (x : Option Extent) → HasSource setup w o (range_if x)
-        → IfSome x (λ old. IsStored old s.memory)
+        → IfSome x (λ old. IsStored old s.memory.words)
     by o None has = tt
     by None (Some x) has = absurd has
     by (Some old) (Some x) has = lies-stored c t turns lists s at old x has
 
   -- a block that lies somewhere after the step
   pub block-stored : (name : ℕ) (x : Extent) → LiesOver setup name (range_of x) (run setup later)
-      → IsStored x s.memory
+      → IsStored x s.memory.words
   block-stored name x lies =
       let some = (own_laws.apart later).some name (range_of x) lies in
       let within = (own_laws.apart later).within name (range_of x) lies in
@@ -157,22 +158,24 @@ module _ (c : Config) (t : Trace) (turns : List ℕ) (lists : ℕ → List ℕ) 
       (failed : v.failed ≡ s.failed) where
     stands-by : (r from : Option Range)
         → MadeAt setup w (run setup later) (made setup w me) r from
-        → IfSome r (λ q. (1 ≤ q.units) × (q.first + q.units ≤ length s.memory))
-        → v.memory ≡ memory_made s.memory r from
+        → IfSome r (λ q. (1 ≤ q.units) × (q.first + q.units ≤ length s.memory.words))
+        → v.memory.words ≡ memory_made s.memory.words r from
+        → AreBrought setup (run setup later) v.memory
         → length v.extents.items ≡ length s.extents.items
         → KeepsExtents setup (run setup later) v.extents.items
         → StandsWith c t later (lists_after setup w me lists) v
-    stands-by r from made-at fits memory places extents = record {
+    stands-by r from made-at fits memory brought places extents = record {
       run = run-on c t turns at.run;
       trace = ap (λ (b : _). b.now) trace ∙ at.trace;
       texts = at.texts;
       stops = at.stops;
       going = failed ∙ at.going;
       whole = subst (IsWhole setup) (sym memory)
-          (omega (arith, at.whole, made-length s.memory r from fits));
+          (omega (arith, at.whole, made-length s.memory.words r from fits));
       agrees = subst (λ m. Agree setup (run setup later) m (lists_after setup w me lists))
-          (sym memory) ((keeps-agreement setup own_laws).steps turns me s.memory lists r from at.whole
-          made-at at.agrees);
+          (sym memory) ((keeps-agreement setup own_laws).steps turns me s.memory.words lists r from
+          at.whole made-at at.agrees);
+      there = brought;
       places = places ∙ at.places;
       extents = extents;
     }
@@ -182,7 +185,12 @@ module _ (c : Config) (t : Trace) (turns : List ℕ) (lists : ℕ → List ℕ) 
         → StandsWith c t later (lists_after setup w me lists) v
     stands-unmade none memory same =
         stands-by None None (subst (λ o. MadeAt setup w (run setup later) o None None) (sym none) tt)
-        tt memory (ap (λ (l : _). length l.items) same)
+        tt (ap (λ (m : Paged). m.words) memory)
+        (λ n q lies. subst (HasWords q) (sym memory)
+        (elim (had-or-made setup own_laws turns me n q lies) [
+          | inl had ↦ at.there n q had
+          | inr new ↦ absurd (let never : None ≡ Some new.0 = sym none ∙ new.1 in cc)
+        ])) (ap (λ (l : _). length l.items) same)
         (λ n q lies. ap (λ (l : _). range_if (kept l.items n)) same
         ∙ elim (had-or-made setup own_laws turns me n q lies) [
           | inl had ↦ at.extents n q had
@@ -192,16 +200,27 @@ module _ (c : Config) (t : Trace) (turns : List ℕ) (lists : ℕ → List ℕ) 
     -- a block was made
     pub stands-made : (m : Making) (x : Extent) → made setup w me ≡ Some m
         → LiesOver setup m.fresh (range_of x) (run setup later)
-        → v.memory ≡ memory_made s.memory (Some (range_of x))
+        → v.memory.words ≡ memory_made s.memory.words (Some (range_of x))
         (range_if (kept_if s.extents.items m.source))
+        → HasWords (range_of x) v.memory → StaysThere s.memory v.memory
         → v.extents.items ≡ set s.extents.items m.fresh (Some x)
         → m.fresh < length s.extents.items
         → StandsWith c t later (lists_after setup w me lists) v
-    stands-made m x is there memory placed below =
+    stands-made m x is there memory brought stays placed below =
         stands-by (Some (range_of x)) (range_if (kept_if s.extents.items m.source))
         (subst (λ o. MadeAt setup w (run setup later) o (Some (range_of x))
         (range_if (kept_if s.extents.items m.source))) (sym is) (there, source-kept m is))
         (block-stored m.fresh x there) memory
+        (λ n q lies. elim (cases_eq n m.fresh) [
+          | inl e ↦ subst (λ r. HasWords r v.memory)
+              (sym ((own_laws.apart later).one m.fresh q (range_of x)
+              (subst (λ k. LiesOver setup k q (run setup later)) e lies) there)) brought
+          | inr other ↦ elim (had-or-made setup own_laws turns me n q lies) [
+            | inl had ↦ λ k from upto. stays k (at.there n q had k from upto)
+            | inr new ↦ absurd (other (sym new.2
+                ∙ ap (λ (k : Making). k.fresh) (same-made new.0 m (sym new.1 ∙ is))))
+          ]
+        ])
         (omega (arith, ap length placed, length-set s.extents.items m.fresh (Some x)))
         (λ n q lies. ap (λ l. range_if (kept l n)) placed ∙ elim (cases_eq n m.fresh) [
           | inl e ↦ ap (λ k. range_if (kept (set s.extents.items m.fresh (Some x)) k)) e

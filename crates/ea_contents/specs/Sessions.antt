@@ -14,6 +14,7 @@ use Rattle.ea_given.specs.Runs.{HasScheduler, StandsAfter}
 use Rattle.ea_contents.specs.Agreeing.{Agree, IsWhole}
 use Rattle.ea_contents.specs.declared.access.Making.{Making}
 use Rattle.ea_contents.specs.Model.{holds, lists_after, lists_written}
+use Rattle.ea_contents.specs.Paging.{HasWords, Paged}
 use Rattle.ea_contents.specs.declared.session.Session.{Session}
 
 -- the extent that is kept of a name, if one is
@@ -29,6 +30,10 @@ kept_if extents (Some old) = kept extents old
 abbrev pub KeepsExtents : Setup → State → List (Option Extent) → Type 0
 KeepsExtents setup w extents = (name : ℕ) (r : Range) → LiesOver setup name r w
     → range_if (kept extents name) ≡ Some r
+
+-- the words of each block are there
+abbrev pub AreBrought : Setup → State → Paged → Type 0
+AreBrought setup w memory = (name : ℕ) (r : Range) → LiesOver setup name r w → HasWords r memory
 
 -- what an operation makes, unless the name is held
 abbrev pub if_absent : Bool → Making → Option Making
@@ -50,8 +55,9 @@ pub record StandsWith (c : Config) (t : Trace) (turns : List ℕ) (lists : ℕ �
   pub texts : length t.texts.items ≡ c.schedulers
   pub stops : t.stops.items ≡ []
   pub going : s.failed ≡ false
-  pub whole : IsWhole (setup_of c t) s.memory
-  pub agrees : Agree (setup_of c t) (machine.run (setup_of c t) turns) s.memory lists
+  pub whole : IsWhole (setup_of c t) s.memory.words
+  pub agrees : Agree (setup_of c t) (machine.run (setup_of c t) turns) s.memory.words lists
+  pub there : AreBrought (setup_of c t) (machine.run (setup_of c t) turns) s.memory
   pub places : length s.extents.items ≡ t.greatest + 1
   pub extents : KeepsExtents (setup_of c t) (machine.run (setup_of c t) turns) s.extents.items
 

@@ -5,9 +5,10 @@
 //! block the list of its name.
 //!
 //! `specs/` say what an input with writes and reads asks for (`Language`), what its run comes to
-//! (`Model`) and its text (`Text`); what a memory has (`Memory`, `Stored`), and when it agrees with
-//! the model (`Agreeing`); what a session tells, a run with its memory (`Sessions`); and where a play
-//! stands, a run by turns of all kinds (`Placing`, `Entering`, `Playing`).
+//! (`Model`) and its text (`Text`); what a memory has (`Memory`, `Stored`) and what of it is there
+//! (`Paging`), and when it agrees with the model (`Agreeing`); what a session tells, a run with its
+//! memory (`Sessions`); and where a play stands, a run by turns of all kinds (`Placing`, `Entering`,
+//! `Playing`).
 #![tactic(auto)]
 
 mod access;
@@ -17,6 +18,8 @@ mod input;
 mod laws;
 mod lines;
 mod memory;
+mod page;
+mod pages;
 mod part;
 mod playing;
 mod reader;

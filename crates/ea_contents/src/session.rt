@@ -4,6 +4,7 @@ ghost use Rattle.std.specs.Prelude.{Some, drop, get_or, is_some, length, replica
 ghost use Rattle.ea_contents.specs.Agreeing.{memory_made};
 ghost use Rattle.ea_contents.specs.Model.{done, holds, making_of};
 ghost use Rattle.ea_contents.specs.Model as model;
+ghost use Rattle.ea_contents.specs.Paging.{HasWords, StaysThere};
 ghost use Rattle.ea_contents.specs.Sessions.{HasStepped, HasWord, HasWritten, IsSession};
 ghost use Rattle.ea_contents.specs.Sessions.{SessionHas, SessionTells, StandsWith, UnlessFailed};
 ghost use Rattle.ea_contents.specs.Sessions.{IsHeld, kept_if, yet_made_by};
@@ -84,18 +85,28 @@ fn kept_of(extents: &[Option<Extent>], source: Option<u32>) -> Option<Extent>
 }
 
 /// Gives a block that was made its words, and keeps its extent.
-fn keep(memory: &mut Memory, extents: &mut [Option<Extent>], making: Making, block: Extent)
-    requires stored { IsStored block memory.old }
+fn keep(
+    memory: &mut Memory,
+    extents: &mut [Option<Extent>],
+    alloc: Global,
+    making: Making,
+    block: Extent,
+) -> Result<(), OutOfMemory>
+    requires stored { IsStored block memory.old.words }
     requires source { IfSome (kept_if extents.old making.source)
-        (λ old. IsStored old memory.old) }
+        (λ old. IsStored old memory.old.words) }
     requires place { making.fresh < length extents.old }
-    ensures memory { memory.new ≡ memory_made memory.old (Some (range_of block))
-        (range_if (kept_if extents.old making.source)) }
-    ensures extents { extents.new ≡ slice_set extents.old making.fresh (Some block) }
+    ensures memory { OnOk result (memory.new.words ≡ memory_made memory.old.words
+        (Some (range_of block)) (range_if (kept_if extents.old making.source))) }
+    ensures there { OnOk result (HasWords (range_of block) memory.new) }
+    ensures kept { StaysThere memory.old memory.new }
+    ensures extents { OnOk result
+        (extents.new ≡ slice_set extents.old making.fresh (Some block)) }
 {
     let from = kept_of(extents, making.source);
-    memory.bring(block, from);
+    memory.bring(alloc, block, from)?;
     extents[making.fresh as usize] = Some(block);
+    Ok(())
 }
 
 /// The run of a trace by turns, with a memory that has a word for each unit of the super carrier.
@@ -120,7 +131,7 @@ impl<'t> Session<'t> {
         requires schedule { is_scheduled trace.now.mode ≡ true }
         requires unstopped { trace.now.stops.items ≡ [] }
         ensures stands { IfOk result (StandsWith config trace.now [] (λ name. [])) }
-        ensures zeros { IfOk result (λ s. s.memory
+        ensures zeros { IfOk result (λ s. s.memory.words
             ≡ replicate (PAGE_UNITS * (config.schedulers * region_pages config)) 0) }
     {
         let memory = Memory::new(alloc, units_of(config))?;
@@ -165,7 +176,7 @@ impl<'t> Session<'t> {
         let Some(block) = self.run.extent(me, making.fresh) else {
             return Ok(());
         };
-        keep(&mut self.memory, &mut self.extents, making, block);
+        keep(&mut self.memory, &mut self.extents, alloc, making, block)?;
         Ok(())
     }
 

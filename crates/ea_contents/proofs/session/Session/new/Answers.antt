@@ -20,6 +20,7 @@ returns-clause-stands c =
         c.units_of.ensures,
       );
       agrees = λ name r lies. absurd (start-empty d t name r lies);
+      there = λ name r lies. absurd (start-empty d t name r lies);
       places = omega (arith, c.in_ok-extents.ensures.len, c.in_ok-extents.extents.ok);
       extents = λ name r lies. absurd (start-empty d t name r lies);
     }

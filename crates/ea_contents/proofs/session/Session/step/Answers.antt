@@ -47,7 +47,7 @@ keep-requires-clause-source c =
     let (d, t, turns, lists, at) = c.requires.stands in
     let later = turns ++ c.args.me ∷ [] in
     subst (λ l. IfSome (kept_if l c.in-Some.making.source)
-    (λ old. IsStored old c.args.self.now.memory)) (sym c.deref_mut.ensures.value)
+    (λ old. IsStored old c.args.self.now.memory.words)) (sym c.deref_mut.ensures.value)
     (source-stored d t turns lists c.args.self.now at c.args.me c.in-Some.making
     (made-held d t turns lists c.args.self.now at c.args.me c.yet_to_make-making.result
     c.in-Some.making (c.yet_to_make-making.ensures d t turns lists at) c.in-Some.is true
@@ -73,7 +73,7 @@ returns c = λ d t turns lists at.
     let yet = c.yet_to_make-making.ensures d t turns lists at in
     let gone = c.in_ok-turn.ensures d t turns at.run in
     let placed : c.keep.new.extents ≡ slice_set s.extents.items m.fresh (Some x) =
-    c.keep.ensures.extents ∙ ap (λ l. slice_set l m.fresh (Some x)) c.deref_mut.ensures.value in
+    c.in_ok-keep.ensures.extents ∙ ap (λ l. slice_set l m.fresh (Some x)) c.deref_mut.ensures.value in
     let many : length c.keep.new.extents ≡ s.extents.len = omega (
       arith,
       ap length placed,
@@ -92,8 +92,9 @@ returns c = λ d t turns lists at.
     (sym (ap is_some c.in-Some-extent.is) ∙ c.extent.ensures.held d t later gone))
     (subst (λ (v : State). LiesOver (setup_of d t) m.fresh (range_of x) v)
     (unstopped d t at.stops later) (c.in-Some-extent.ensures.lies d t later gone))
-    (c.keep.ensures.memory ∙ ap (λ l. memory_made s.memory (Some (range_of x))
+    (c.in_ok-keep.ensures.memory ∙ ap (λ l. memory_made s.memory.words (Some (range_of x))
     (range_if (kept_if l m.source))) c.deref_mut.ensures.value)
+    c.in_ok-keep.ensures.there c.keep.ensures.kept
     (with_items_is s.extents c.keep.new.extents many ∙ placed)
     (yet-upto d t turns lists s at c.args.me c.yet_to_make-making.result m yet c.in-Some.is)
 
