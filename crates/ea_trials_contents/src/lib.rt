@@ -1,7 +1,10 @@
-//! Worked inputs of what blocks contain, computed from the definitions alone.
+//! Worked inputs of what blocks contain, computed from the definitions alone, and runs of the
+//! command.
 #![tactic(auto)]
 
 mod inputs;
+#[cfg(test)]
+mod tests;
 mod worked;
 
 pub use inputs::{accesses_of_a_move, lines_of_a_move, refusals};
