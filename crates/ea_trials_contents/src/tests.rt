@@ -26,7 +26,7 @@ fn text(bytes: &[u8]) -> &str {
     str::from_utf8(bytes).unwrap_or("(not UTF-8)")
 }
 
-/// Runs the command over an input, with one scheduler and the flags of all allocators as they are.
+/// Runs the command over an input without flags: one scheduler, and carriers migrate.
 fn run_plain(alloc: Global, input: &[u8]) -> Result<Told, OutOfMemory> {
     let words = Vec::new(alloc);
     let bytes = List::from_vec(Vec::from_slice(alloc, input)?);
@@ -42,7 +42,7 @@ fn a_block_that_moves_takes_its_words_along(rt: HostRuntime) -> Result<(), Fail>
     let input = b"type H\nscheduler 1\nalloc 1 100\nalloc 2 0\nwrite 1 0 7\nrealloc 1 3 200\n\
         read 3 0\nread 3 13\nwrite 3 25 1\nread 1 0\nschedule\nend\n";
     let text = "scheduler 1\nalloc 1 1 8 14\nalloc 2 1 22 6\nrealloc 1 3 1 28 26 moved done\n\
-        carrier 1 multi owner 1 employed 1 base 0 pages 64 allocated 32 largest 32714\n\
+        carrier 1 multi owner 1 pooled 1 base 0 pages 64 allocated 32 largest 32714\n\
         total carriers 1 units 32768 live 32 queued 0 free 32728 header 8\n\
         contents\nscheduler 1\nwrite 1 0 done\nread 3 0 7\nread 3 13 0\nwrite 3 25 outside\n\
         read 1 skipped\n";
