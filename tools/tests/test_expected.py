@@ -114,6 +114,19 @@ class Lines(unittest.TestCase):
         head = "type H", "scheduler 1"
         self.check("line 3: syntax", "`free NAME`, NAME 1 to 1048576", *head, "free", words="histogram")
 
+    def test_contents(self):
+        head = "type H", "scheduler 1", "alloc 1 100"
+        for said, wanted, *lines in (
+            ("line 4: syntax", "`write NAME INDEX VALUE`, NAME 1 to 1048576, INDEX 0 to 4294967295,"
+             " VALUE 0 to 4294967295", *head, "write 1 0"),
+            ("line 4: syntax", "`read NAME INDEX`, NAME 1 to 1048576, INDEX 0 to 4294967295", *head, "read 1 x"),
+            ("line 5: syntax", "`read` in the section of a scheduler", *head, "schedule", "read 1 0"),
+            ("line 4: name not held", "a block that an earlier line of the same scheduler made or took", *head,
+             "read 2 0"),
+            ("line 4: syntax", "`free NAME`, NAME 1 to 1048576", *head, "free"),
+        ):
+            self.check(said, wanted, *lines, words="contents")
+
     def test_what_is_not_known(self):
         self.assertIsNone(explained("out of memory", [], None))
         self.assertEqual(explained("line 3: syntax", [], None), "docs/FORMATS.md says what a line may be")
