@@ -426,7 +426,8 @@ class Compare(unittest.TestCase):
             lists = [it for it in os.listdir(EXAMPLES) if it.partition(".")[0] == name and it.endswith(".flags")]
             with open(f"{EXAMPLES}/{trace}", encoding="utf-8") as source:
                 text = source.read()
-            if not lists or text.count("\nscheduler ") != 1 or "\nsuper\n" in f"\n{text}":
+            of_others = "\nsuper\n" in f"\n{text}" or "\nread " in text
+            if not lists or text.count("\nscheduler ") != 1 or of_others:
                 continue
             for row in self.rows(trace, "--flags", *lists, folder=EXAMPLES):
                 for column in ("carriers_most", "units_most", "abandoned", "fetched", "returned"):
