@@ -29,8 +29,8 @@ use Rattle.ea_sound.proofs.Stopping.{cut-left, cut-replicate, left-more, less-no
 use Rattle.ea_sound.proofs.Stopping.{up_to-some}
 use Rattle.ea_sound.proofs.Totals.{put-here, put-other}
 use Rattle.ea_sound.proofs.TurnLists.{run-append}
-use Rattle.ea_shared.specs.Carriers.{place_at}
-use Rattle.ea_shared.specs.Memory.{Sharing, shared_of}
+use Rattle.ea_mem_shared.specs.Memory.{Sharing, shared_of}
+use Rattle.ea_mem_shared.specs.Places.{place_at}
 use Rattle.ea_sched.specs.declared.state.Scheduler.{Scheduler}
 use Rattle.ea_sched.specs.Acting.{actor_of, is_ended, setup_for, stop_line}
 use Rattle.ea_outcome.specs.Resting.{StandIn}

@@ -22,7 +22,7 @@ use Rattle.ea_machine.specs.Stops.{cut, left_after, left_by, run_with_stops}
 use Rattle.ea_sound.proofs.Protocols.{always-protocol}
 use Rattle.ea_sound.proofs.Stopping.{cut-append, cut-left, left-more, less-none}
 use Rattle.ea_sound.proofs.TurnLists.{run-append}
-use Rattle.ea_shared.specs.Carriers.{place_at}
+use Rattle.ea_mem_shared.specs.Places.{place_at}
 use Rattle.ea_sched.specs.declared.state.Scheduler.{Scheduler}
 use Rattle.ea_sched.specs.Acting.{actor_of, is_ended}
 use Rattle.ea_outcome.specs.Resting.{StandIn}

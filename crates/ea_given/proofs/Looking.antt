@@ -32,8 +32,9 @@ use Rattle.ea_sound.proofs.CarrierCalls.{search-number}
 use Rattle.ea_sound.proofs.Completing.{reached-run}
 use Rattle.ea_sound.proofs.PassedLooks.{search-passed}
 use Rattle.ea_sound.proofs.Stopping.{up_to-all}
-use Rattle.ea_shared.specs.Carriers.{IsCarrier, counts_at}
-use Rattle.ea_shared.specs.Memory.{Sharing}
+use Rattle.ea_shared.specs.Carriers.{IsCarrier}
+use Rattle.ea_mem_shared.specs.Memory.{Sharing}
+use Rattle.ea_mem_shared.specs.Places.{counts_at}
 use Rattle.ea_sched.specs.declared.state.Scheduler.{Scheduler}
 use Rattle.ea_sched.specs.Acting.{actor_of, is_ended, standing_at}
 use Rattle.ea_sched.specs.Looks.{HasPassed, looks_left, next_in, next_look}

@@ -30,7 +30,7 @@ use Rattle.ea_sound.proofs.SoundRanges.{number-scheduler}
 use Rattle.ea_sound.proofs.Totals.{total-part}
 use Rattle.ea_sound.proofs.TraceNames.{name-range}
 use Rattle.ea_sound.proofs.Weights.{one-itself}
-use Rattle.ea_shared.specs.Carriers.{place_at}
+use Rattle.ea_mem_shared.specs.Places.{place_at}
 use Rattle.ea_sched.specs.declared.state.Scheduler.{Scheduler}
 use Rattle.ea_outcome.specs.Extents.{HasSpot, LiesWhere}
 use Rattle.ea_given.specs.declared.run.GivenRun.{GivenRun}

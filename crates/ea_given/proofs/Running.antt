@@ -29,7 +29,7 @@ use Rattle.ea_sound.proofs.Completing.{rule-less}
 use Rattle.ea_sound.proofs.Stopping.{less-more, less-none, less-over, up_to-more, up_to-nothing}
 use Rattle.ea_sound.proofs.Stopping.{up_to-one, up_to-over, up_to-some, up_to-step}
 use Rattle.ea_sound.proofs.TurnLists.{ended-or, run-append, step-ended, step-mine, step-shared}
-use Rattle.ea_shared.specs.Memory.{Sharing, shared_of}
+use Rattle.ea_mem_shared.specs.Memory.{Sharing, shared_of}
 use Rattle.ea_sched.specs.declared.state.Scheduler.{Scheduler}
 use Rattle.ea_sched.specs.declared.step.Progress.{Progress}
 use Rattle.ea_sched.specs.declared.step.Progress.TheVariants.{Went, Stopped}

@@ -24,10 +24,10 @@ ghost use Rattle.ea_given.specs.Runs.{holds_after, spot_after};
 use crate::turns::{run_out, take_some, take_turn, take_turns};
 use ea_instance::Layout;
 use ea_mbc::Mbc;
+use ea_mem_shared::MemShared;
 use ea_model::{Config, List, Mode, OutOfMemory, Outcome, Spot, Trace, Turns};
 use ea_outcome::{Extent, extent_of, layouts_of, outcome_of};
 use ea_sched::Scheduler;
-use ea_shared::MemShared;
 use std::alloc::Global;
 
 /// The turns of a schedule; another mode has none.

@@ -4,9 +4,9 @@ ghost use Rattle.std.specs.Prelude.{◌≡◌, ◌<◌, ◌≤◌, IfOk, OnOk};
 ghost use Rattle.ea_given.specs.Running.{HasLeft, IsQuiet, Stands, Took, TookAll};
 
 use ea_mbc::Mbc;
+use ea_mem_shared::MemShared;
 use ea_model::OutOfMemory;
 use ea_sched::Scheduler;
-use ea_shared::MemShared;
 use std::alloc::Global;
 
 /// Takes one turn of the scheduler: a step, if it takes any more.

@@ -4,8 +4,6 @@
 #![tactic(auto)]
 
 mod cells;
-mod link;
 mod queues;
 
-pub use link::Link;
 pub use queues::Queues;

@@ -5,13 +5,13 @@ ghost use Rattle.ea_machine.specs.Rows.{Passes};
 ghost use Rattle.ea_machine.specs.Shared.{put};
 ghost use Rattle.ea_machine.specs.Table.{link_answer, rest_after};
 ghost use Rattle.ea_machine.specs.Alike.{IsNode};
-ghost use Rattle.ea_queues.specs.Links.{told_by};
+ghost use Rattle.ea_shared.specs.Links.{told_by};
 ghost use Rattle.ea_queues.specs.Chains.{HasNone, HasSameCounts, marks_of};
 
 use crate::cells::{Cell, Cells};
-use crate::link::Link;
 use ea_machine::Node;
 use ea_model::OutOfMemory;
+use ea_shared::Link;
 use std::alloc::Global;
 use std::marker::Model;
 

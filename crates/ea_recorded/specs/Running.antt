@@ -1,7 +1,7 @@
 -- The run of a trace by its lines, as it stands after some.
 use Rattle.std.specs.Prelude.{◌≡◌, ℕ, ◌-◌, List, [], ◌++◌, All, Option, None, Some, slice_get}
 use Rattle.ea_machine.specs.Machine.{run}
-use Rattle.ea_shared.specs.Memory.{Sharing}
+use Rattle.ea_mem_shared.specs.Memory.{Sharing}
 use Rattle.ea_sched.specs.declared.state.Scheduler.{Scheduler}
 use Rattle.ea_given.specs.declared.run.GivenRun.{GivenRun}
 use Rattle.ea_given.specs.Running.{work_left}

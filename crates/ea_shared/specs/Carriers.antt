@@ -1,7 +1,7 @@
--- Carriers in plain memory, what a try to get one tells, and what is handed to a call that puts one
--- home.
+-- Where carriers are before the first step, what a try to get one tells, and what is handed to a
+-- call that puts one home.
 use Rattle.std.specs.Prelude.{◌≡◌, ◌≢◌, ℕ, ◌*◌, ◌≤◌, ◌&&◌, ◌==◌, Bool, true, false, nat_le}
-use Rattle.std.specs.Prelude.{List, [], ◌∷◌, Option, None, Some, get_or, set}
+use Rattle.std.specs.Prelude.{[], ◌∷◌, Option, None, Some}
 use Rattle.ea_model.specs.declared.units.TheConstants.{NUMBERS}
 use Rattle.ea_model.specs.Content.{Content, gaps_of, largest}
 use Rattle.ea_model.specs.Instance.{first_number, owner_of}
@@ -10,15 +10,11 @@ use Rattle.ea_machine.specs.declared.owners.OwnerWord.TheVariants as word
 use Rattle.ea_machine.specs.declared.stages.Stage.TheVariants.{Collecting}
 use Rattle.ea_machine.specs.Owners.{CarrierAt}
 use Rattle.ea_machine.specs.Owners as owners
-use Rattle.ea_machine.specs.Lists.{counts}
 use Rattle.ea_machine.specs.Rows.{Answer, Settle}
 use Rattle.ea_machine.specs.Rows as rows
 use Rattle.ea_machine.specs.Statistics.{leaving_at}
 use Rattle.ea_machine.specs.Words.{IsLargest}
 use Rattle.ea_shared.specs.Calls.{Caller, WantsRow}
-use Rattle.ea_shared.specs.declared.carriers.Place.{Place}
-use Rattle.ea_shared.specs.declared.carriers.Place.TheVariants.{Absent, Employed, Pooled, Busy}
-use Rattle.ea_shared.specs.declared.carriers.Place.TheVariants.{Returning}
 use Rattle.ea_shared.specs.declared.tried.Tried.{Tried}
 use Rattle.ea_shared.specs.declared.tried.Tried.TheVariants.{Won, Lost}
 
@@ -27,25 +23,6 @@ module _ {C : Type 0} (content : C → Content) where
   abbrev pub told_by : Tried C → Answer
   told_by (Won x) = rows.Won (content x)
   told_by (Lost w) = rows.Lost w
-
-  -- where a carrier is, with the content that the value at home stands for
-  abbrev pub placed : Place C → CarrierAt
-  placed Absent = owners.Absent
-  placed (Employed i) = owners.Employed i
-  placed (Pooled i g x) = owners.Pooled i g (content x)
-  placed (Busy i) = owners.Busy i
-  placed (Returning i x) = owners.Returning i (content x)
-
--- where the carrier of a number is, among places from 0 on
-abbrev pub place_at : List CarrierAt → ℕ → CarrierAt
-place_at places number = get_or places number owners.Absent
-
--- whether a search of the pool counts the carrier
-abbrev pub is_in_search : CarrierAt → Bool
-is_in_search place = counts (owners.word_of place)
-
-abbrev pub counts_at : List CarrierAt → ℕ → Bool
-counts_at places number = is_in_search (place_at places number)
 
 -- where the carrier of a number is, if each of the first schedulers employs its main carrier and no
 -- other is there
@@ -59,11 +36,6 @@ employed_if false i = owners.Absent
 
 abbrev pub main_upto : ℕ → ℕ → CarrierAt
 main_upto last number = employed_if (is_first_upto last number) (owner_of number)
-
--- places after a try: it leaves another one where it is won
-abbrev pub after_try : Answer → ℕ → CarrierAt → List CarrierAt → List CarrierAt
-after_try (rows.Won x) number place places = set places number place
-after_try _ number place places = places
 
 -- the content that is at home
 abbrev pub home_of : CarrierAt → Option Content

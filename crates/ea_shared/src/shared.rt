@@ -10,16 +10,16 @@ ghost use Rattle.ea_machine.specs.Rows.{Abandon, BusyTry, Clear, Create, Done, F
 ghost use Rattle.ea_machine.specs.Rows.{Got, Head, Home, Look, Push, Saw, SendHome, Settle};
 ghost use Rattle.ea_machine.specs.Rows.{TakeAll, TakeLink, TakeTry};
 ghost use Rattle.ea_machine.specs.Rows as rows;
-ghost use Rattle.ea_queues.specs.Links.{told_by};
 ghost use Rattle.ea_shared.specs.Carriers as carriers;
 ghost use Rattle.ea_shared.specs.Carriers.{HasReturned, IsCarrier, IsCollecting, IsEmptied};
 ghost use Rattle.ea_shared.specs.Carriers.{IsFor, IsLeaving, IsPooled, IsPooledBy, SettlesEmptied};
 ghost use Rattle.ea_shared.specs.Calls.{Did, IsWanted};
+ghost use Rattle.ea_shared.specs.Links.{told_by};
 
+use crate::link::Link;
 use crate::tried::Tried;
 use ea_machine::{Node, OwnerWord};
 use ea_model::{Carried, Spot};
-use ea_queues::Link;
 
 /// What schedulers share. Each call is one row of the machine's table, done by scheduler `me`; no
 /// call takes memory, and none fails. An object may tell what is shared, as plain memory does, or

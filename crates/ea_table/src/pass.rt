@@ -4,8 +4,8 @@ ghost use Rattle.ea_model.specs.Trace.{IsScheduler};
 ghost use Rattle.ea_machine.specs.Alike.{IsNode, IsSpot};
 ghost use Rattle.ea_machine.specs.Rows.{Done, Give, Got, Head, Push, TakeAll, TakeLink, TakeTry};
 ghost use Rattle.ea_machine.specs.Rows as rows;
-ghost use Rattle.ea_queues.specs.Links.{told_by};
 ghost use Rattle.ea_shared.specs.Calls.{WantsRow};
+ghost use Rattle.ea_shared.specs.Links.{told_by};
 ghost use Rattle.ea_table.specs.Ruling.{DidRow, IsSingle, acting, actor_in, caller_in};
 ghost use Rattle.ea_table.specs.Words as words;
 
@@ -17,7 +17,7 @@ use atomic_table::Seat;
 use ea_machine::Node;
 use ea_mbc::Mbc;
 use ea_model::Spot;
-use ea_queues::Link;
+use ea_shared::Link;
 use ea_word::{NO_NODE, OLDEST, decode_node, encode_node};
 
 /// A seat with one scheduler. Between its push of a node and the link of it the pass keeps the word

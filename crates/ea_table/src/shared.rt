@@ -7,8 +7,7 @@ use crate::pass::Pass;
 use ea_machine::{Node, OwnerWord};
 use ea_mbc::Mbc;
 use ea_model::Spot;
-use ea_queues::Link;
-use ea_shared::{Shared, Tried};
+use ea_shared::{Link, Shared, Tried};
 
 /// The table as one scheduler steps on it: it tells that scheduler.
 #[derive(Drop)]

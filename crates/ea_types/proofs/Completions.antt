@@ -16,7 +16,7 @@ use Rattle.ea_machine.specs.Setup.{setup_of}
 use Rattle.ea_machine.specs.Shared.{Shared}
 use Rattle.ea_machine.specs.State.{State}
 use Rattle.ea_machine.specs.Stops.{left_after, run_with_stops}
-use Rattle.ea_shared.specs.Memory.{Sharing}
+use Rattle.ea_mem_shared.specs.Memory.{Sharing}
 use Rattle.ea_sched.specs.declared.state.Scheduler.{Scheduler}
 use Rattle.ea_given.specs.Running.{SharesAt, StandsAt, alone_in, work_left}
 use Rattle.ea_given.specs.Runs as one

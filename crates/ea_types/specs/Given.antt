@@ -10,7 +10,7 @@ use Rattle.ea_model.specs.Outcome.{plain_outcome}
 use Rattle.ea_model.specs.Settings.{IsValidConfig}
 use Rattle.ea_model.specs.Trace.{IsScheduler, IsValidTrace}
 use Rattle.ea_machine.specs.Outcome.{outcome}
-use Rattle.ea_shared.specs.Memory.{Sharing}
+use Rattle.ea_mem_shared.specs.Memory.{Sharing}
 use Rattle.ea_sched.specs.declared.state.Scheduler.{Scheduler}
 use Rattle.ea_sched.specs.Acting.{is_ended}
 use Rattle.ea_given.specs.declared.run.GivenRun.{GivenRun}

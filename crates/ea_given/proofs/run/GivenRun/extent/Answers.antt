@@ -1,7 +1,7 @@
 use Rattle.std.proofs.Common.{subst, sym}
 use Rattle.ea_machine.specs.Setup.{setup_of}
 use Rattle.ea_machine.specs.Stops.{cut}
-use Rattle.ea_shared.specs.Carriers.{place_at}
+use Rattle.ea_mem_shared.specs.Places.{place_at}
 use Rattle.ea_outcome.specs.Extents.{HasSpot, LiesWhere, range_of}
 use Rattle.ea_outcome.specs.Resting.{StandIn}
 use Rattle.ea_given.proofs.GivenRuns.{run-stands}

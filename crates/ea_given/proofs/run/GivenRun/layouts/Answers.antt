@@ -3,7 +3,7 @@ use Rattle.std.proofs.lemmas.Result.{IfOk-weaker}
 use Rattle.ea_machine.specs.Setup.{setup_of}
 use Rattle.ea_machine.specs.Machine.{run}
 use Rattle.ea_machine.specs.Stops.{cut}
-use Rattle.ea_shared.specs.Carriers.{place_at}
+use Rattle.ea_mem_shared.specs.Places.{place_at}
 use Rattle.ea_outcome.specs.Layouts.{layouts_in}
 use Rattle.ea_outcome.specs.Resting.{StandIn}
 use Rattle.ea_given.proofs.GivenRuns.{run-stands}

@@ -3,7 +3,7 @@ use Rattle.std.proofs.lemmas.Result.{IfOk-weaker}
 use Rattle.ea_machine.specs.Outcome as machine
 use Rattle.ea_machine.specs.Setup.{setup_of}
 use Rattle.ea_machine.specs.Stops.{cut}
-use Rattle.ea_shared.specs.Carriers.{place_at}
+use Rattle.ea_mem_shared.specs.Places.{place_at}
 use Rattle.ea_outcome.specs.Resting.{StandIn}
 use Rattle.ea_given.proofs.GivenRuns.{run-stands}
 use Rattle.ea_given.proofs.run.GivenRun.outcome.Goals as goal

@@ -1,5 +1,5 @@
 use Rattle.ea_machine.specs.Rows.{TakeLink}
-use Rattle.ea_queues.specs.Links.{told_by}
+use Rattle.ea_shared.specs.Links.{told_by}
 use Rattle.ea_table.proofs.Told.{caller-did}
 use Rattle.ea_table.proofs.shared.TableSharedShared.take_link.Goals as goal
 

@@ -1,0 +1,104 @@
+-- Lists of places, and the places that they are.
+use Rattle.std.proofs.Common.{◌≡◌, ◌≢◌, ℕ, zero, suc, ◌+◌, ◌<◌, ◌≤◌, Bool, true, false, List, []}
+use Rattle.std.proofs.Common.{◌∷◌, ◌++◌, get_or, length, map, refl, sym, ap, ◌∙◌, inl, inr, arith}
+use Rattle.std.specs.Prelude.{replicate, set}
+use Rattle.std.proofs.lemmas.Bool.{cases_lt}
+use Rattle.std.proofs.lemmas.List.{get_or-replicate, length-replicate, map-append, map-set}
+use Rattle.std.proofs.lemmas.List.{replicate-append-replicate}
+use Rattle.std.proofs.Math.ListN.{get_or-map as get_or-map_default}
+use Rattle.ea_model.specs.Content.{Content}
+use Rattle.ea_machine.specs.declared.owners.OwnerWord.{OwnerWord}
+use Rattle.ea_machine.specs.declared.owners.OwnerWord.TheVariants as word
+use Rattle.ea_machine.specs.Owners.{CarrierAt, Absent, Pooled, same_word, word_of}
+use Rattle.ea_machine.specs.Rows.{Lost, Won}
+use Rattle.ea_machine.specs.Table.{tried_at, won_if}
+use Rattle.ea_mem_shared.specs.declared.carriers.Place.{Place}
+use Rattle.ea_mem_shared.specs.declared.carriers.Place.TheVariants as code
+use Rattle.ea_mem_shared.specs.Counted.{is_counted}
+use Rattle.ea_mem_shared.specs.Places.{counts_at, is_in_search, place_at, placed}
+
+-- a number without a place has no carrier, and neither has one of many absent places
+pub all-absent : (n k : ℕ) → place_at (replicate n Absent) k ≡ Absent
+all-absent n k = elim (cases_lt k n) [
+  | inl within ↦ get_or-replicate n k Absent Absent within
+  | inr past ↦ beyond (replicate n Absent) k
+      (omega (arith, past, length-replicate n Absent))
+] where
+  beyond : (ps : List CarrierAt) (k : ℕ) → length ps ≤ k → get_or ps k Absent ≡ Absent
+  beyond [] k past = refl
+  beyond (p ∷ ps) zero past = absurd (omega (arith, past))
+  beyond (p ∷ ps) (suc k) past = beyond ps k (omega (arith, past))
+
+-- one absent place more
+pub one-absent : (n : ℕ) → replicate n Absent ++ Absent ∷ [] ≡ replicate (n + 1) Absent
+one-absent n = replicate-append-replicate n 1 Absent
+
+module _ {C : Type 0} (content : C → Content) where
+  pub more-absent : (n : ℕ) (ps qs : List (Place C)) → map (placed content) ps ≡ replicate n Absent
+      → qs ≡ ps ++ code.Absent ∷ [] → map (placed content) qs ≡ replicate (n + 1) Absent
+  more-absent n ps qs are is = ap (map (placed content)) is
+      ∙ map-append (placed content) ps (code.Absent ∷ [])
+      ∙ ap (λ xs. xs ++ Absent ∷ []) are ∙ one-absent n
+
+  -- a place of the list
+  pub place-of : (ps : List (Place C)) (k : ℕ) (d : Place C) → k < length ps
+      → place_at (map (placed content) ps) k ≡ placed content (get_or ps k d)
+  place-of ps k d within = by ps k within where
+    by : (ps : List (Place C)) (k : ℕ) → k < length ps
+        → place_at (map (placed content) ps) k ≡ placed content (get_or ps k d)
+    by [] k within = absurd (omega (arith, within))
+    by (p ∷ ps) zero within = refl
+    by (p ∷ ps) (suc k) within = by ps k (omega (arith, within))
+
+  pub places-set : (ps qs : List (Place C)) (k : ℕ) (p : Place C) → qs ≡ set ps k p
+      → map (placed content) qs ≡ set (map (placed content) ps) k (placed content p)
+  places-set ps qs k p is = ap (map (placed content)) is ∙ map-set (placed content) ps k p
+
+-- whether a search counts the carriers, before and after one is at another place
+pub counted-places : (places : List CarrierAt) (n : ℕ)
+    → is_counted (map is_in_search places) n ≡ counts_at places n
+counted-places places n = get_or-map_default is_in_search places n Absent
+
+pub counts-set : (places : List CarrierAt) (n : ℕ) (place : CarrierAt)
+    → map is_in_search (set places n place)
+    ≡ set (map is_in_search places) n (is_in_search place)
+counts-set places n place = map-set is_in_search places n place
+
+-- two words are the same exactly if they are told to be
+pub same-itself : (w : OwnerWord) → same_word w w ≡ true
+same-itself word.Absent = refl
+same-itself (word.Employed i) = grind arith
+same-itself (word.Pooled i g) = grind arith
+same-itself (word.Busy i) = grind arith
+same-itself (word.Returning i) = grind arith
+
+pub same-not : (v w : OwnerWord) → v ≢ w → same_word v w ≡ false
+same-not v w other = by (same_word v w) refl where
+  both : (v w : OwnerWord) → same_word v w ≡ true → v ≡ w
+  both word.Absent word.Absent q = refl
+  both (word.Employed i) (word.Employed j) q =
+      let e : i ≡ j = grind (arith, q) in ap word.Employed e
+  both (word.Pooled i g) (word.Pooled j h) q =
+      let e : i ≡ j = grind (arith, q) in
+      let f : g ≡ h = grind (arith, q) in
+      ap (λ k. word.Pooled k g) e ∙ ap (word.Pooled j) f
+  both (word.Busy i) (word.Busy j) q = let e : i ≡ j = grind (arith, q) in ap word.Busy e
+  both (word.Returning i) (word.Returning j) q =
+      let e : i ≡ j = grind (arith, q) in ap word.Returning e
+  both v w q = absurd cc
+
+  by : (b : Bool) → same_word v w ≡ b → same_word v w ≡ false
+  by false q = q
+  by true q = absurd (other (both v w q))
+
+-- where another word is there the try is lost
+pub tried-lost : (seen : OwnerWord) (p : CarrierAt) → word_of p ≢ seen
+    → tried_at seen p ≡ Lost (word_of p)
+tried-lost seen p other = ap (λ b. won_if b p) (same-not (word_of p) seen other)
+
+-- where it is the one seen the try is won
+pub tried-won : (seen : OwnerWord) (p : CarrierAt) (i g : ℕ) (x : Content) → p ≡ Pooled i g x
+    → word_of p ≡ seen → tried_at seen p ≡ Won x
+tried-won seen p i g x is same =
+    ap (λ w. won_if (same_word (word_of p) w) p) (sym same)
+    ∙ ap (λ b. won_if b p) (same-itself (word_of p)) ∙ ap (won_if true) is

@@ -1,0 +1,20 @@
+use Rattle.std.proofs.Common.{◌+◌, ◌*◌, length, refl, ap, ◌∙◌, arith}
+use Rattle.ea_model.specs.declared.units.TheConstants.{NUMBERS}
+use Rattle.std.proofs.lemmas.List.{length-set}
+use Rattle.ea_machine.specs.Owners.{Employed}
+use Rattle.ea_mem_shared.proofs.Mains.{next-main, no-main}
+use Rattle.ea_mem_shared.proofs.mem.employ_mains.Goals as goal
+
+pub loop-before-init : goal.loop-before-init
+loop-before-init g c = record { mains = λ n. c.requires.absent n ∙ no-main n; count = refl }
+
+pub loop-before-preserved : goal.loop-before-preserved
+loop-before-preserved g c = record {
+  mains = next-main c.loop-before.before c.loop-before.places c.put.new.self
+      (omega (arith, c.loop-before-test.true, c.requires.within, c.loop-before.invariant.count))
+      c.loop-before.invariant.mains c.put.ensures;
+  count = ap length c.put.ensures
+      ∙ length-set c.loop-before.places (NUMBERS * c.loop-before.before + 1)
+      (Employed (c.loop-before.before + 1))
+      ∙ c.loop-before.invariant.count;
+}

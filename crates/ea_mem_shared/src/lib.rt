@@ -1,0 +1,11 @@
+//! What schedulers share, in plain memory, where one step is taken after another: the queues of
+//! instances, what is left of their walks, the names that are given, and where carriers are.
+#![tactic(auto)]
+
+mod carriers;
+mod counted;
+mod mem;
+#[cfg(test)]
+mod tests;
+
+pub use mem::MemShared;
