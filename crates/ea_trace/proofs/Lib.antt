@@ -1,3 +1,4 @@
+pub mod Spaced
 pub mod Stars
 pub mod Ranges
 pub mod Noted

@@ -2,6 +2,7 @@ pub mod Lines
 pub mod Language
 pub mod Says
 pub mod Ranges
+pub mod Begins
 pub mod Between
 pub mod Knows
 pub mod Taken

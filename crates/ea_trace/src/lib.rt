@@ -2,6 +2,7 @@
 //! way in which they run, or to the first line that is refused and why.
 #![tactic(auto)]
 
+mod begins;
 mod fault;
 mod gathering;
 mod judging;

@@ -1,14 +1,18 @@
 //! Reads a trace line by line.
-ghost use Rattle.std.specs.Prelude.{◌≡◌, ◌+◌, ◌<◌, ◌≤◌, ◌^◌, ◌++◌, ◌∷◌, [], ℕ, length, IfOk, OnOk};
+ghost use Rattle.std.specs.Prelude.{◌≡◌, ◌+◌, ◌<◌, ◌≤◌, ◌^◌, ◌++◌, ◌∷◌, [], ℕ, length};
+ghost use Rattle.std.specs.Prelude.{IfOk, IfSome, OnOk};
+ghost use Rattle.std.specs.Option.{option_map_or};
 ghost use Rattle.ea_model.specs.Trace.{IsValidTrace};
 ghost use Rattle.ea_model.specs.declared.units.TheConstants.{MAX_NAME, MAX_SCHEDULERS};
+ghost use Rattle.ea_trace.specs.Begins.{FirstSays};
 ghost use Rattle.ea_trace.specs.Between as between;
 ghost use Rattle.ea_trace.specs.Language.{Gives, LineWords, WordLines, is_held, section_operations};
-ghost use Rattle.ea_trace.specs.Language.{sections, trace, trace_of};
+ghost use Rattle.ea_trace.specs.Language.{lines_of, sections, trace, trace_of};
 ghost use Rattle.ea_trace.specs.Lines.{line_of_words};
 ghost use Rattle.ea_trace.specs.Ranges.{InRange};
 ghost use Rattle.ea_trace.specs.Says.{said};
 
+use crate::begins::first_operation;
 use crate::fault::TraceFault;
 use crate::judging::has_none;
 use crate::lines::{Line, read_line};
@@ -122,6 +126,20 @@ impl TraceReader {
     }
 }
 
+/// What the first line of a text says, and what follows its line feed.
+fn next_line(text: &[u8]) -> (Line<&[u8]>, Option<&[u8]>)
+    ensures says { FirstSays (said result.0) text.now
+        (option_map_or (λ rest. lines_of rest.now) result.1 []) }
+    ensures range { InRange (said result.0) }
+    ensures shorter { IfSome result.1 (λ rest. length rest.now < length text.now) }
+{
+    if let Some((op, rest)) = first_operation(text) {
+        return (Line::Operation { op }, Some(rest));
+    }
+    let (line, rest) = first_line(text);
+    (read_line(line), rest)
+}
+
 /// Reads a trace for schedulers 1 to `schedulers`, `MAX_SCHEDULERS` at most. The text has fewer
 /// than 2^32 - 1 bytes. A generated trace has no operations yet. Without `OutOfMemory` the answer
 /// is the trace that the text is, or its first refusal, with the number of the line.
@@ -134,8 +152,8 @@ pub fn read_trace(alloc: Global, bytes: &[u8], schedulers: u32) -> Result<Trace,
     let mut reader = TraceReader::new(alloc, schedulers)?;
     let mut rest = Some(bytes);
     while let Some(text) = rest {
-        let (line, after) = first_line(text);
-        reader.take(alloc, read_line(line))?;
+        let (line, after) = next_line(text);
+        reader.take(alloc, line)?;
         rest = after;
     }
     reader.finish()
