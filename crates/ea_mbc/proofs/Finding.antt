@@ -1,5 +1,5 @@
 -- What the units of a carrier say where a block or a gap begins.
-use Rattle.std.proofs.Common.{◌≡◌, ◌≢◌, ℕ, ◌+◌, ◌-◌, ◌*◌, ◌/◌, ◌%◌, ◌^◌, ◌<◌, ◌≤◌, ◌⊎◌, Bool, true}
+use Rattle.std.proofs.Common.{◌≡◌, ◌≢◌, ℕ, ◌+◌, ◌-◌, ◌*◌, ◌/◌, ◌%◌, ◌<◌, ◌≤◌, ◌⊎◌, Bool, true}
 use Rattle.std.proofs.Common.{false, List, [], ◌∷◌, get_or, refl, sym, ap, ◌∙◌, subst, inl, inr}
 use Rattle.std.proofs.Common.{arith}
 use Rattle.std.specs.Prelude.{slice_index, nat_lt, ◌==◌, Some, None, IsSome, All}
@@ -37,10 +37,6 @@ code-injective h k e =
     k.last e in
     same_header h.size k.size h.this_free h.prev_free h.last k.this_free k.prev_free k.last same.0
     same.1 same.2 same.3
-
--- and is below 2 ^ 35
-pub code-small : (h : Header) → h.size < 2 ^ 32 → code h < 2 ^ 35
-code-small h small = grind arith
 
 -- what stands at the block at the offset, of blocks from `at` on
 pub record BlockThere (words names : List ℕ) (end at offset : ℕ) (b : BlockAt) (bs : List BlockAt)
@@ -168,7 +164,6 @@ header-of words names end offset b bs t c found h e =
 pub record HeaderAt (words : List ℕ) (end stop free : ℕ) (h : Header) : Type 0 where
   pub is : slice_index words stop ≡ code h
   pub least : 6 ≤ h.size
-  pub within : stop + h.size ≤ end
   pub gap : h.this_free ≡ true → free ≡ h.size
   pub block : h.this_free ≡ false → free ≡ 0
 
@@ -192,7 +187,6 @@ behind_gap words end at to free lt le whole g e =
         record {
           is = (g lt).0;
           least = whole.whole (omega arith);
-          within = omega arith;
           gap = λ _. omega arith;
           block = λ f. absurd cc;
         },
@@ -215,7 +209,6 @@ behind_block words names end at free prev b e none least le h =
         record {
           is = ap (slice_index words) (sym e) ∙ h.0;
           least = least;
-          within = omega arith;
           gap = λ f. absurd cc;
           block = λ _. none;
         },
@@ -332,28 +325,19 @@ gap_later words end at a offset g le h =
 
 gap_there : (words names : List ℕ) (end at offset g : ℕ) (bs : List BlockAt) → at % 2 ≡ 0
     → Tiled at end bs → Coded words names end at bs → 0 < g → g ≡ gap_at (gaps at end bs) offset
-    → GapThere words end at offset g × Behind words end (offset + g) 0
+    → GapThere words end at offset g
 gap_there words names end at offset g [] even t c some e =
-    let only = only_gap at end offset t.0 (omega arith) in (
-      gap_here words end at end offset g (omega arith) (omega arith) t.1 even c.0 only.0
-          (e ∙ only.1),
-      behind_end words end (offset + g) 0 (omega arith) refl,
-    )
+    let only = only_gap at end offset t.0 (omega arith) in
+    gap_here words end at end offset g (omega arith) (omega arith) t.1 even c.0 only.0
+    (e ∙ only.1)
 gap_there words names end at offset g (b ∷ bs) even t c some e =
     let within = Tiled-allocated (b.offset + b.size) end bs t.4 in
     elim (gap_at-step at b.offset offset (gaps (b.offset + b.size) end bs)) [
-      | inl p ↦ (
-        gap_here words end at b.offset offset g p.0 (omega (arith, within)) t.1 even c.0 p.1
-            (e ∙ p.2),
-        behind_block words names end (offset + g) 0 (nat_lt at b.offset) b
-            (omega (arith, p.2, t.0)) refl t.2 (omega (arith, within)) c.2,
-      )
-      | inr q ↦
-          let more = gap_there words names end (b.offset + b.size) offset g bs
-          (omega (arith, even, t.0, t.1.even, t.3)) t.4 c.4 some (e ∙ q) in (
-            gap_later words end at (b.offset + b.size) offset g (omega (arith, t.0)) more.0,
-            more.1,
-          )
+      | inl p ↦ gap_here words end at b.offset offset g p.0 (omega (arith, within)) t.1 even c.0 p.1
+          (e ∙ p.2)
+      | inr q ↦ gap_later words end at (b.offset + b.size) offset g (omega (arith, t.0))
+          (gap_there words names end (b.offset + b.size) offset g bs
+          (omega (arith, even, t.0, t.1.even, t.3)) t.4 c.4 some (e ∙ q))
     ]
 
 -- what the units say of a gap
@@ -361,61 +345,14 @@ pub gap-coded : (words names : List ℕ) (end offset : ℕ) (bs : List BlockAt) 
     → Coded words names end 8 bs → 0 < gap_at (gaps 8 end bs) offset
     → GapThere words end 8 offset (gap_at (gaps 8 end bs) offset)
 gap-coded words names end offset bs t c some =
-    (gap_there words names end 8 offset (gap_at (gaps 8 end bs) offset) bs refl t c some refl).0
+    gap_there words names end 8 offset (gap_at (gaps 8 end bs) offset) bs refl t c some refl
 
--- and where it ends
-pub after-coded : (words names : List ℕ) (end offset : ℕ) (bs : List BlockAt) → Tiled 8 end bs
-    → Coded words names end 8 bs → 0 < gap_at (gaps 8 end bs) offset
-    → Behind words end (offset + gap_at (gaps 8 end bs) offset) 0
-after-coded words names end offset bs t c some =
-    (gap_there words names end 8 offset (gap_at (gaps 8 end bs) offset) bs refl t c some refl).1
-
--- a word where a block or a gap ends is a header's
-pub Behind-small : (words : List ℕ) (end stop free : ℕ) → end < 2 ^ 32
-    → Behind words end stop free → stop < end → slice_index words stop < 2 ^ 35
-Behind-small words end stop free small h lt =
-    let header = h.header lt in
-    subst (λ n. n < 2 ^ 35) (sym header.1.is)
-    (code-small header.0 (omega (arith, header.1.within)))
-
--- the unit behind a block and the gap after it
+-- a block and the gap after it end within the carrier
 pub block-stop : (words names : List ℕ) (end offset stop : ℕ) (b : BlockAt) (bs : List BlockAt)
-    → Tiled 8 end bs → Coded words names end 8 bs → end < 2 ^ 32 → block_at bs offset ≡ Some b
-    → stop ≡ offset + b.size + gap_at (gaps 8 end bs) (offset + b.size)
-    → (stop ≤ end) × (stop < end → slice_index words stop < 2 ^ 35)
-block-stop words names end offset stop b bs t c small found s =
-    let first = behind-coded words names end offset (offset + b.size) b bs t c found refl in
-    let free : ℕ = gap_at (gaps 8 end bs) (offset + b.size) in
-    let ends : stop ≤ end = omega (arith, first.within) in
-    elim (cases_lt 0 free) [
-      | inl some ↦
-          let last = after-coded words names end (offset + b.size) bs t c some in (
-            ends,
-            Behind-small words end stop 0 small
-                (subst (λ n. Behind words end n 0) (sym s) last),
-          )
-      | inr none ↦
-          let same : offset + b.size ≡ stop = omega arith in (
-            ends,
-            Behind-small words end stop free small
-                (subst (λ n. Behind words end n free) same first),
-          )
-    ]
-
--- the unit behind a gap
-pub gap-stop : (words names : List ℕ) (end offset stop : ℕ) (bs : List BlockAt) → Tiled 8 end bs
-    → Coded words names end 8 bs → end < 2 ^ 32 → 0 < gap_at (gaps 8 end bs) offset
-    → stop ≡ offset + gap_at (gaps 8 end bs) offset → (8 ≤ offset) × (offset % 2 ≡ 0)
-    × (stop ≤ end) × (stop < end → slice_index words stop < 2 ^ 35)
-gap-stop words names end offset stop bs t c small some s =
-    let there = gap-coded words names end offset bs t c some in (
-      there.behind,
-      there.even,
-      omega (arith, there.within),
-      Behind-small words end stop 0 small
-          (subst (λ n. Behind words end n 0) (sym s)
-          (after-coded words names end offset bs t c some)),
-    )
+    → Tiled 8 end bs → Coded words names end 8 bs → block_at bs offset ≡ Some b
+    → stop ≡ offset + b.size + gap_at (gaps 8 end bs) (offset + b.size) → stop ≤ end
+block-stop words names end offset stop b bs t c found s =
+    omega (arith, (behind-coded words names end offset (offset + b.size) b bs t c found refl).within)
 
 -- a name that isn't 0 is that of a block
 found_past : (offset : ℕ) (b : BlockAt) (bs : List BlockAt) → b.offset ≢ offset

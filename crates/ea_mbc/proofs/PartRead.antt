@@ -1,5 +1,5 @@
 -- The block or the gap that is read off the header at an offset.
-use Rattle.std.proofs.Common.{◌≡◌, ℕ, ◌+◌, ◌^◌, ◌<◌, ◌==◌, true, false, List, length, sym, ap}
+use Rattle.std.proofs.Common.{◌≡◌, ℕ, ◌+◌, ◌<◌, ◌==◌, true, false, List, length, sym, ap}
 use Rattle.std.proofs.Common.{◌∙◌, refl, subst, inl, inr, arith}
 use Rattle.std.specs.Prelude.{None, Option, Some, IsSome, slice_index}
 use Rattle.std.proofs.lemmas.Bool.{false≢true}
@@ -11,7 +11,7 @@ use Rattle.ea_mbc.specs.Layout.{Layout}
 use Rattle.ea_mbc.specs.Parts.{HasPart, block_or, part_in}
 use Rattle.ea_mbc.specs.declared.parts.Part.TheVariants as part
 use Rattle.ea_mbc.proofs.Finding.{code-injective}
-use Rattle.ea_mbc.proofs.Seen.{Seen, block-read, gap-read, gap-size, gap-word, header-read}
+use Rattle.ea_mbc.proofs.Seen.{Seen, block-read, gap-read, gap-size, header-read}
 
 no-block : IsSome {T = BlockAt} None → ⊥
 no-block t = grind arith
@@ -22,16 +22,12 @@ module _ (words names : List ℕ) (end : ℕ) (now : Layout) (offset : ℕ)
   gap_here = gap_at (gaps 8 now.end now.blocks) offset
 
   -- a header stands there
-  pub part-word : HasPart now.blocks (gaps 8 now.end now.blocks) offset
-      → (offset < length words) × (slice_index words offset < 2 ^ 35)
-  part-word has = elim has [
-    | inl block ↦
-        let r = block-read words names end now offset s block in (r.inside, r.word)
+  pub part-inside : HasPart now.blocks (gaps 8 now.end now.blocks) offset → offset < length words
+  part-inside has = elim has [
+    | inl block ↦ (block-read words names end now offset s block).inside
     | inr gap ↦
-        let g = gap-read words names end now offset s gap in (
-          omega (arith, g.within, g.least, s.coded.long),
-          gap-word words now.end offset gap_here s.small g,
-        )
+        let g = gap-read words names end now offset s gap in
+        omega (arith, g.within, g.least, s.coded.long)
   ]
 
   module _ (h : Header) (e : code h ≡ slice_index words offset) where

@@ -1,6 +1,6 @@
 -- The units of a carrier whose blocks are known: what is read of them, and what a change makes of
 -- them.
-use Rattle.std.proofs.Common.{◌≡◌, ℕ, ◌+◌, ◌-◌, ◌*◌, ◌/◌, ◌%◌, ◌^◌, ◌<◌, ◌≤◌, Bool, true, false}
+use Rattle.std.proofs.Common.{◌≡◌, ℕ, ◌+◌, ◌-◌, ◌*◌, ◌/◌, ◌%◌, ◌<◌, ◌≤◌, Bool, true, false}
 use Rattle.std.proofs.Common.{List, [], length, set, replicate, sym, ap, ◌∙◌, subst, inl, inr}
 use Rattle.std.proofs.Common.{arith}
 use Rattle.std.specs.Prelude.{Some, IsSome, slice_index, nat_lt, ◌==◌}
@@ -8,6 +8,7 @@ use Rattle.std.proofs.lemmas.Bool.{cases_Bool}
 use Rattle.std.proofs.lemmas.List.{length-set, length-replicate, get_or-replicate}
 use Rattle.ea_model.specs.declared.carriers.Kind.TheVariants.{Multi}
 use Rattle.ea_model.specs.declared.carriers.BlockAt.{BlockAt}
+use Rattle.ea_model.specs.declared.units.TheConstants.{MAX_UNITS}
 use Rattle.ea_model.specs.Content.{gaps, gap_at, gap_up_to, block_at, end_of, size_of, inserted}
 use Rattle.ea_model.specs.Content.{Content, IsGapSize, Tiled}
 use Rattle.ea_model.specs.Keyed.{without}
@@ -19,9 +20,9 @@ use Rattle.ea_laws.proofs.Resized.{with_block, end_of-block, block_at-IsBlock, r
 use Rattle.ea_mbc.specs.Coding.{blocks_of, GapCoded, IsCoded, Laid, Cleared}
 use Rattle.ea_mbc.specs.Layout.{Layout}
 use Rattle.ea_mbc.specs.Walks.{free_of}
-use Rattle.ea_mbc.proofs.Finding.{code-injective, code-small, BlockThere, block-coded, header-of}
+use Rattle.ea_mbc.proofs.Finding.{code-injective, BlockThere, block-coded, header-of}
 use Rattle.ea_mbc.proofs.Finding.{Behind, behind-coded, GapThere, gap-coded}
-use Rattle.ea_mbc.proofs.Finding.{block-stop, gap-stop}
+use Rattle.ea_mbc.proofs.Finding.{block-stop}
 use Rattle.ea_mbc.proofs.Entering.{placed-IsCoded}
 use Rattle.ea_mbc.proofs.Leaving.{released-IsCoded}
 use Rattle.ea_mbc.proofs.Refitting.{resized-IsCoded, renamed-IsCoded}
@@ -44,18 +45,18 @@ as_content l =
 pub record Seen (words names : List ℕ) (end : ℕ) (now : Layout) : Type 0 where
   pub same : end ≡ now.end
   pub coded : IsCoded words names now.end now.blocks
-  pub small : now.end < 2 ^ 32
+  pub few : now.end ≤ MAX_UNITS
 
 pub seen : (words names : List ℕ) (end : ℕ) (now : Layout)
     → (let l : Layout = record { end = end; blocks = blocks_of words names end } in l) ≡ now
-    → IsCoded words names end (blocks_of words names end) × (end < 2 ^ 32)
+    → IsCoded words names end (blocks_of words names end) × (end ≤ MAX_UNITS)
     → Seen words names end now
 seen words names end now same c =
     let ends : end ≡ now.end = ap (λ (l : Layout). l.end) same in
     record {
       same = ends;
       coded = subst (λ l. IsCoded words names l.end l.blocks) same c.0;
-      small = subst (λ n. n < 2 ^ 32) ends c.1;
+      few = subst (λ n. n ≤ MAX_UNITS) ends c.1;
     }
 
 -- what is read at a block
@@ -67,7 +68,6 @@ pub record BlockRead (words names : List ℕ) (now : Layout) (offset : ℕ) : Ty
   pub ends : end_of now.blocks offset ≡ offset + b.size
   pub inside : offset < length words
   pub half : offset / 2 < length names
-  pub word : slice_index words offset < 2 ^ 35
 
 pub block-read : (words names : List ℕ) (end : ℕ) (now : Layout) (offset : ℕ)
     → Seen words names end now → IsSome (block_at now.blocks offset)
@@ -85,13 +85,6 @@ block-read words names end now offset s some =
           ∙ ap (λ n. n + block.0.size) there.begins;
       inside = omega (arith, s.coded.long, there.within, there.least);
       half = omega (arith, s.coded.half, there.within, there.least);
-      word = subst (λ n. n < 2 ^ 35) (sym there.header)
-          (code-small (record {
-            size = block.0.size;
-            this_free = false;
-            prev_free = nat_lt 0 (gap_up_to (gaps 8 now.end now.blocks) offset);
-            last = (offset + block.0.size) == now.end;
-          }) (omega (arith, there.within, s.small)));
     }
 
 -- the header that is read there
@@ -106,7 +99,6 @@ header-read words names end now offset h s r e =
 pub record BeforeRead (words : List ℕ) (offset free : ℕ) (prev : Bool) : Type 0 where
   pub first : 1 ≤ offset
   pub word : prev ≡ true → slice_index words (offset - 1) ≡ free
-  pub small : free < 2 ^ 32
   pub none : prev ≡ false → free ≡ 0
 
 some_free : (prev : Bool) (free : ℕ) → prev ≡ nat_lt 0 free → prev ≡ true → 0 < free
@@ -125,7 +117,6 @@ before-read words names end now offset h s r e =
     record {
       first = omega (arith, r.there.room);
       word = λ told. r.there.footer (some_free h.prev_free free prev told);
-      small = omega (arith, r.there.room, r.there.within, s.small);
       none = λ told. none_free h.prev_free free prev told;
     }
 
@@ -200,18 +191,6 @@ refitted ws vs ns ms end offset size stop name prev now s r last least fits tile
     (subst (λ p. Laid ws vs ns ms now.end offset size stop name p) free
     (subst (λ n. Laid ws vs ns ms n offset size stop name prev) s.same laid)))
 
--- the word of a gap's header
-pub gap-word : (words : List ℕ) (end offset g : ℕ) → end < 2 ^ 32 → GapThere words end 8 offset g
-    → slice_index words offset < 2 ^ 35
-gap-word words end offset g small there =
-    subst (λ n. n < 2 ^ 35) (sym there.header)
-    (code-small (record {
-      size = g;
-      this_free = true;
-      prev_free = false;
-      last = (offset + g) == end;
-    }) (omega (arith, there.within)))
-
 block_is : (b : BlockAt) (name offset size : ℕ) → b.name ≡ name → b.offset ≡ offset
     → b.size ≡ size → b ≡ record { name = name; offset = offset; size = size }
 block_is b name offset size e f g = grind arith
@@ -230,21 +209,18 @@ pub stop-read : (words names : List ℕ) (end : ℕ) (now : Layout) (offset stop
     → Seen words names end now → (r : BlockRead words names now offset)
     → stop ≡ offset + size_of (block_at now.blocks offset)
     + gap_at (gaps 8 now.end now.blocks) (end_of now.blocks offset)
-    → (stop ≤ now.end) × (stop < now.end → slice_index words stop < 2 ^ 35)
+    → stop ≤ now.end
 stop-read words names end now offset stop s r e =
-    block-stop words names now.end offset stop r.b now.blocks s.coded.tiled s.coded.coded s.small
-    r.found
+    block-stop words names now.end offset stop r.b now.blocks s.coded.tiled s.coded.coded r.found
     (e ∙ ap (λ n. offset + n + gap_at (gaps 8 now.end now.blocks) (end_of now.blocks offset))
     r.size ∙ ap (λ n. offset + r.b.size + gap_at (gaps 8 now.end now.blocks) n) r.ends)
 
 -- and where a gap ends
 pub gap-end : (words names : List ℕ) (end : ℕ) (now : Layout) (offset g : ℕ)
     → Seen words names end now → 0 < g → g ≡ gap_at (gaps 8 now.end now.blocks) offset
-    → (8 ≤ offset) × (offset % 2 ≡ 0) × (offset + g ≤ now.end)
-    × (offset + g < now.end → slice_index words (offset + g) < 2 ^ 35)
+    → offset + g ≤ now.end
 gap-end words names end now offset g s some e =
-    gap-stop words names now.end offset (offset + g) now.blocks s.coded.tiled s.coded.coded s.small
-    (omega arith) (ap (λ n. offset + n) e)
+    omega (arith, e, (gap-read words names end now offset s (omega arith)).within)
 
 -- what is left up to the end of the gap after a block is even
 pub left-even : (words names : List ℕ) (end : ℕ) (now : Layout) (offset size stop : ℕ)

@@ -1,5 +1,5 @@
 -- Headers one after another, of gaps and blocks.
-use Rattle.std.proofs.Common.{◌≡◌, ℕ, ◌+◌, ◌-◌, ◌/◌, ◌^◌, ◌<◌, ◌≤◌, Bool, true, false, List, []}
+use Rattle.std.proofs.Common.{◌≡◌, ℕ, ◌+◌, ◌-◌, ◌/◌, ◌<◌, ◌≤◌, Bool, true, false, List, []}
 use Rattle.std.proofs.Common.{◌∷◌, ◌++◌}
 use Rattle.std.proofs.Common.{append-nil, refl, sym, ap, ◌∙◌, subst, inl, inr, arith}
 use Rattle.std.specs.Prelude.{slice_index, nat_lt, ◌==◌}
@@ -12,7 +12,7 @@ use Rattle.ea_laws.proofs.Chosen.{gap_none}
 use Rattle.ea_laws.proofs.Tiling.{Tiled-allocated}
 use Rattle.ea_mbc.specs.Coding.{GapCoded, BlockCoded, Coded}
 use Rattle.ea_mbc.specs.Walks.{free_of}
-use Rattle.ea_mbc.proofs.Finding.{code-injective, code-small}
+use Rattle.ea_mbc.proofs.Finding.{code-injective}
 
 -- header by header from `at` on, where a block, a gap or the carrier's header ends, the units are
 -- gaps and these blocks
@@ -129,27 +129,4 @@ stepped words names end at h (b ∷ bs) t d lt e =
           (gap_none b.offset b.offset (omega arith))))
       | inr none ↦ over_block words names end at d.1 h b bs (omega (arith, t.0)) t.2
           (omega (arith, within)) d.2 e t.4 d.3
-    ]
-
-word_small : (w s : ℕ) (f p l : Bool)
-    → w ≡ code (record { size = s; this_free = f; prev_free = p; last = l }) → s < 2 ^ 32
-    → w < 2 ^ 35
-word_small w s f p l e small = subst (λ n. n < 2 ^ 35) (sym e)
-    (code-small (record { size = s; this_free = f; prev_free = p; last = l }) small)
-
--- the word at `at` is a header's
-pub word-small : (words names : List ℕ) (end at : ℕ) (bs : List BlockAt) → Tiled at end bs
-    → Headed words names end at bs → at < end → end < 2 ^ 32 → slice_index words at < 2 ^ 35
-word-small words names end at [] t d lt small =
-    word_small (slice_index words at) (end - at) true false (end == end) (d lt).0 (omega arith)
-word-small words names end at (b ∷ bs) t d lt small =
-    let within = Tiled-allocated (b.offset + b.size) end bs t.4 in
-    elim (cases_lt at b.offset) [
-      | inl some ↦ word_small (slice_index words at) (b.offset - at) true false (b.offset == end)
-          (d.0 some).0 (omega (arith, within))
-      | inr none ↦
-          let same : b.offset ≡ at = omega (arith, t.0) in
-          subst (λ n. slice_index words n < 2 ^ 35) same
-          (word_small (slice_index words b.offset) b.size false d.1
-          ((b.offset + b.size) == end) d.2.0 (omega (arith, within)))
     ]

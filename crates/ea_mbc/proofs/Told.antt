@@ -1,5 +1,5 @@
 -- What can be read of the tags of a carrier where a block or a gap begins.
-use Rattle.std.proofs.Common.{◌≡◌, ◌≢◌, ℕ, suc, ◌+◌, ◌-◌, ◌^◌, ◌<◌, ◌≤◌, false, true, List, []}
+use Rattle.std.proofs.Common.{◌≡◌, ◌≢◌, ℕ, suc, ◌+◌, ◌-◌, ◌<◌, ◌≤◌, false, true, List, []}
 use Rattle.std.proofs.Common.{◌∷◌, sym, ap, ◌∙◌, subst, inl, inr, arith}
 use Rattle.std.specs.Prelude.{All, Option, Some, IsSome, option_map, slice_index, nat_lt, ◌==◌}
 use Rattle.std.proofs.lemmas.Bool.{cases_eq}
@@ -14,7 +14,6 @@ use Rattle.ea_laws.proofs.BlockLists.{block_at-past}
 use Rattle.ea_laws.proofs.Candidates.{gaps_Inside, Inside}
 use Rattle.ea_laws.proofs.Resized.{block_at-IsBlock, none_there, same_block}
 use Rattle.ea_mbc.specs.Tagged.{BlockTagged, GapTagged}
-use Rattle.ea_mbc.proofs.Finding.{code-small}
 
 All_rest : {X : Type 0} (P : X → Type 0) (x : X) (xs : List X) → All P (x ∷ xs) → All P xs
 All_rest P x xs h = λ k d lt. h (suc k) d (omega arith)
@@ -52,7 +51,6 @@ gap_listed P offset (g ∷ gs) h some =
 -- at a block
 pub record BlockTold (words : List ℕ) (now : Content) (offset : ℕ) : Type 0 where
   pub within : offset < now.units
-  pub small : slice_index words offset < 2 ^ 35
   pub word : slice_index words offset
       ≡ code (record {
         size = size_of (block_at now.blocks offset);
@@ -62,9 +60,9 @@ pub record BlockTold (words : List ℕ) (now : Content) (offset : ℕ) : Type 0 
       })
 
 pub block-told : (words : List ℕ) (now : Content) (offset : ℕ) → Tiled 8 now.units now.blocks
-    → now.units < 2 ^ 32 → All (BlockTagged words now.units (gaps_of now)) now.blocks
+    → All (BlockTagged words now.units (gaps_of now)) now.blocks
     → IsSome (block_at now.blocks offset) → BlockTold words now offset
-block-told words now offset t fits told some =
+block-told words now offset t told some =
     let block = some_value (block_at now.blocks offset) some in
     let is = block_at-IsBlock now offset block.0 t block.1 in
     let tag = block_listed (BlockTagged words now.units (gaps_of now)) offset block.0 now.blocks
@@ -78,13 +76,6 @@ block-told words now offset t fits told some =
     })) is.begins tag in
     record {
       within = omega (arith, is.within, is.least);
-      small = subst (λ n. n < 2 ^ 35) (sym word)
-          (code-small (record {
-            size = block.0.size;
-            this_free = false;
-            prev_free = nat_lt 0 (gap_up_to (gaps_of now) offset);
-            last = (offset + block.0.size) == now.units;
-          }) (omega (arith, is.within)));
       word = subst (λ n. slice_index words offset
           ≡ code (record {
             size = n;
@@ -97,7 +88,6 @@ block-told words now offset t fits told some =
 -- at a gap of g units
 pub record GapTold (words : List ℕ) (now : Content) (offset g : ℕ) : Type 0 where
   pub within : offset + g ≤ now.units
-  pub small : slice_index words offset < 2 ^ 35
   pub word : slice_index words offset
       ≡ code (record {
         size = g;
@@ -108,9 +98,9 @@ pub record GapTold (words : List ℕ) (now : Content) (offset g : ℕ) : Type 0 
   pub footer : slice_index words (offset + g - 1) ≡ g
 
 pub gap-told : (words : List ℕ) (now : Content) (offset : ℕ) → Tiled 8 now.units now.blocks
-    → now.units < 2 ^ 32 → All (GapTagged words now.units) (gaps_of now)
+    → All (GapTagged words now.units) (gaps_of now)
     → 0 < gap_at (gaps_of now) offset → GapTold words now offset (gap_at (gaps_of now) offset)
-gap-told words now offset t fits told some =
+gap-told words now offset t told some =
     let tag = gap_listed (GapTagged words now.units) offset (gaps_of now) told some in
     let lies = gap_listed (Inside 8 now.units) offset (gaps_of now)
     (gaps_Inside 8 now.units now.blocks t) some in
@@ -123,13 +113,6 @@ gap-told words now offset t fits told some =
     (λ n. GapTagged words now.units (record { offset = offset; size = n })) (sym tag.3) at_offset in
     record {
       within = within;
-      small = subst (λ n. n < 2 ^ 35) (sym here.0)
-          (code-small (record {
-            size = gap_at (gaps_of now) offset;
-            this_free = true;
-            prev_free = false;
-            last = (offset + gap_at (gaps_of now) offset) == now.units;
-          }) (omega arith));
       word = here.0;
       footer = here.1;
     }

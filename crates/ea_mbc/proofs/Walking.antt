@@ -1,5 +1,5 @@
 -- A walk over the headers of a carrier.
-use Rattle.std.proofs.Common.{◌≡◌, ◌≢◌, ℕ, ◌+◌, ◌^◌, ◌<◌, ◌≤◌, Bool, true, false, List, []}
+use Rattle.std.proofs.Common.{◌≡◌, ◌≢◌, ℕ, ◌+◌, ◌<◌, ◌≤◌, Bool, true, false, List, []}
 use Rattle.std.proofs.Common.{◌∷◌, ◌++◌, max, fold, refl, sym, ap, ◌∙◌, subst, inl, inr, arith}
 use Rattle.std.specs.Prelude.{slice_index, nat_le, Option, None, IsTrue, IsSome, ◌↔◌, not}
 use Rattle.std.proofs.lemmas.List.Elements.{filter-append}
@@ -18,7 +18,7 @@ use Rattle.ea_laws.proofs.BlockLists.{block_at-past}
 use Rattle.ea_laws.proofs.Tiling.{Tiled-allocated}
 use Rattle.ea_laws.proofs.Chosen.{gap_none}
 use Rattle.ea_mbc.proofs.Greatest.{largest-append, largest-gap}
-use Rattle.ea_mbc.proofs.Stepping.{Headed, Coded-Headed, Stepped, stepped, word-small}
+use Rattle.ea_mbc.proofs.Stepping.{Headed, Coded-Headed, Stepped, stepped}
 
 -- where a walk is, and what is so of the place and of the blocks from there on
 pub record Walk (words names : List ℕ) (end at : ℕ) (P : ℕ → List BlockAt → Type 0) : Type 0 where
@@ -37,11 +37,6 @@ walk-start words names end bs P c h =
       headed = Coded-Headed words names end 8 bs c.coded;
       holds = h;
     }
-
-pub walk-word : (words names : List ℕ) (end at : ℕ) (P : ℕ → List BlockAt → Type 0)
-    → Walk words names end at P → at < end → end < 2 ^ 32 → slice_index words at < 2 ^ 35
-walk-word words names end at P w lt small =
-    word-small words names end at w.rest w.tiled w.headed lt small
 
 pub walk-step : (words names : List ℕ) (end at : ℕ) (P : ℕ → List BlockAt → Type 0) (h : Header)
     → (w : Walk words names end at P) → at < end → code h ≡ slice_index words at

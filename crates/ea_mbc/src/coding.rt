@@ -1,6 +1,7 @@
 //! What a change of a carrier writes into its units and names.
-ghost use Rattle.std.specs.Prelude.{◌≡◌, ◌≢◌, ℕ, ◌+◌, ◌*◌, ◌^◌, ◌<◌, ◌≤◌, ◌⊎◌};
+ghost use Rattle.std.specs.Prelude.{◌≡◌, ◌≢◌, ℕ, ◌+◌, ◌*◌, ◌<◌, ◌≤◌, ◌⊎◌};
 ghost use Rattle.std.specs.Prelude.{length, slice_index};
+ghost use Rattle.ea_model.specs.declared.units.TheConstants.{MAX_UNITS};
 ghost use Rattle.ea_mbc.specs.Coding.{GapCoded, Told, Laid, Cleared};
 
 use ea_model::BlockAt;
@@ -11,6 +12,7 @@ pub fn put_gap(tags: &mut UnitArray, end: u32, from: u32, to: u32)
     requires order { from ≤ to }
     requires whole { from < to → from + 2 ≤ to }
     requires within { to ≤ length tags.old }
+    requires few { to ≤ MAX_UNITS }
     ensures as_many { length tags.new ≡ length tags.old }
     ensures gap { GapCoded tags.new end from to }
     ensures others { (k : ℕ) → (k < from) ⊎ (to ≤ k)
@@ -34,7 +36,6 @@ pub fn put_gap(tags: &mut UnitArray, end: u32, from: u32, to: u32)
 fn tell(tags: &mut UnitArray, end: u32, stop: u32, prev_free: bool)
     requires within { stop ≤ end }
     requires end { end ≤ length tags.old }
-    requires header { stop < end → slice_index tags.old stop < 2 ^ 35 }
     ensures as_many { length tags.new ≡ length tags.old }
     ensures told { Told tags.old tags.new end stop prev_free }
     ensures others { (k : ℕ) → k ≢ stop → slice_index tags.new k ≡ slice_index tags.old k }
@@ -69,7 +70,7 @@ pub fn lay(
     requires within { stop ≤ end }
     requires long { length tags.old ≡ end }
     requires half { end ≤ 2 * length names.old.items }
-    requires header { stop < end → slice_index tags.old stop < 2 ^ 35 }
+    requires few { end ≤ MAX_UNITS }
     ensures { Laid tags.old tags.new names.old.items names.new.items end
         block.offset block.size stop block.name prev_free }
 {
@@ -101,7 +102,7 @@ pub fn clear(
     requires within { stop ≤ end }
     requires long { length tags.old ≡ end }
     requires half { end ≤ 2 * length names.old.items }
-    requires header { stop < end → slice_index tags.old stop < 2 ^ 35 }
+    requires few { end ≤ MAX_UNITS }
     ensures { Cleared tags.old tags.new names.old.items names.new.items end start offset stop }
 {
     put_gap(tags, end, start, stop);

@@ -247,11 +247,10 @@ fn a_block_shrinks_and_is_renamed_in_its_place(rt: HostRuntime) -> Result<(), Fa
 }
 
 // The word in the first unit of the block at the offset, if there is one.
-fn word(carrier: &Mbc, offset: u32) -> Option<u64> {
+fn word(carrier: &Mbc, offset: u32) -> Option<u32> {
     match carrier.block_at(offset) {
         Some(_) => {
             carrier.laid_out();
-            let _units = carrier.units();
             Some(encode(carrier.tags().header(offset)))
         }
         None => None,
@@ -259,7 +258,7 @@ fn word(carrier: &Mbc, offset: u32) -> Option<u64> {
 }
 
 // Where the first gap lies, and the words in its first and in its last unit, if there is a gap.
-fn first_gap(carrier: &Mbc) -> Option<(u32, u64, u32)> {
+fn first_gap(carrier: &Mbc) -> Option<(u32, u32, u32)> {
     match carrier.choose(Inner::Aoff, 6) {
         Some(gap) => {
             carrier.laid_out();

@@ -1,7 +1,8 @@
 //! The units of a carrier, with its tags, the names of its blocks and what finds its gaps.
 ghost use Rattle.std.specs.Prelude.{◌≡◌, ◌≢◌, ℕ, ◌+◌, ◌-◌, ◌%◌, ◌<◌, ◌≤◌, ◌↔◌, [], All};
 ghost use Rattle.std.specs.Prelude.{Some, IsTrue, IsSome, IfOk, length};
-ghost use Rattle.ea_model.specs.declared.units.TheConstants.{HEADER_UNITS, MIN_BLOCK};
+ghost use Rattle.ea_model.specs.declared.units.TheConstants.{HEADER_UNITS, MAX_UNITS};
+ghost use Rattle.ea_model.specs.declared.units.TheConstants.{MIN_BLOCK};
 ghost use Rattle.ea_model.specs.Content.{gaps, gap_at, gap_up_to, block_at, end_of, size_of};
 ghost use Rattle.ea_model.specs.Content.{inserted, largest, IsGapSize, Tiled};
 ghost use Rattle.ea_model.specs.Choice.{choice};
@@ -31,8 +32,8 @@ pub struct CarrierUnits {
 }
 
 impl Model for CarrierUnits {
-    ghost use Rattle.std.specs.Prelude.{◌^◌, ◌<◌};
-    ghost use Rattle.ea_model.specs.declared.units.TheConstants.{HEADER_UNITS};
+    ghost use Rattle.std.specs.Prelude.{◌≤◌};
+    ghost use Rattle.ea_model.specs.declared.units.TheConstants.{HEADER_UNITS, MAX_UNITS};
     ghost use Rattle.ea_model.specs.Content.{gaps};
     ghost use Rattle.ea_mbc.specs.Coding.{blocks_of, IsCoded};
     ghost use Rattle.ea_mbc.specs.Indexed.{Indexed};
@@ -44,7 +45,7 @@ impl Model for CarrierUnits {
 
     ghost invariant = { λ u. record {
       coded : IsCoded u.tags u.names.items u.end (blocks_of u.tags u.names.items u.end)
-          × (u.end < 2 ^ 32);
+          × (u.end ≤ MAX_UNITS);
       indexed : Indexed u.end u.index
           (gaps HEADER_UNITS u.end (blocks_of u.tags u.names.items u.end));
     } };
@@ -55,6 +56,7 @@ impl CarrierUnits {
     pub fn new(alloc: Global, inner: Inner, end: u32) -> Result<CarrierUnits, OutOfMemory>
         requires even { end % 2 ≡ 0 }
         requires gap { HEADER_UNITS + MIN_BLOCK ≤ end }
+        requires few { end ≤ MAX_UNITS }
         ensures { IfOk result (λ u. u ≡ record { end = end; blocks = [] }) }
     {
         let mut tags = UnitArray::new(alloc, end)?;

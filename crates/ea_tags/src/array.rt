@@ -1,7 +1,8 @@
 //! The units of a carrier, a word each.
-ghost use Rattle.std.specs.Prelude.{◌≡◌, ℕ, ◌^◌, ◌<◌, replicate, length, slice_index, slice_set};
+ghost use Rattle.std.specs.Prelude.{◌≡◌, ◌<◌, ◌≤◌, replicate, length, slice_index, slice_set};
 ghost use Rattle.std.specs.Prelude.{IfOk};
 ghost use Rattle.ea_tags.specs.Words.{code};
+ghost use Rattle.ea_tags.specs.declared.header.TheConstants.{MAX_SIZE};
 
 use crate::header::{Header, decode, encode};
 use ea_model::OutOfMemory;
@@ -11,7 +12,7 @@ use std::marker::Model;
 /// The units of a carrier. Contracts see them as the list of their words.
 #[derive(Drop)]
 pub struct UnitArray {
-    words: Vec<u64>,
+    words: Vec<u32>,
 }
 
 impl Model for UnitArray {
@@ -41,18 +42,19 @@ impl UnitArray {
         self.words.len() as u32
     }
 
-    /// The header in the unit at `at`. Each number below 2^35 is the word of just one header.
+    /// The header in the unit at `at`.
     pub fn header(&self, at: u32) -> Header
-        requires within { at < length self.now }
-        requires header { slice_index self.now at < 2 ^ 35 }
-        ensures { code result ≡ slice_index self.now at }
+        requires { at < length self.now }
+        ensures word { code result ≡ slice_index self.now at }
+        ensures small { result.size ≤ MAX_SIZE }
     {
         decode(self.words[at as usize])
     }
 
     /// Puts the word of a header into the unit at `at`.
     pub fn set_header(&mut self, at: u32, header: Header)
-        requires { at < length self.old }
+        requires within { at < length self.old }
+        requires small { header.size ≤ MAX_SIZE }
         ensures { self.new ≡ slice_set self.old at (code header) }
     {
         self.words[at as usize] = encode(header);
@@ -60,11 +62,10 @@ impl UnitArray {
 
     /// The number of units in the unit at `at`, the last one of a gap.
     pub fn footer(&self, at: u32) -> u32
-        requires within { at < length self.now }
-        requires small { slice_index self.now at < 2 ^ 32 }
+        requires { at < length self.now }
         ensures { result ≡ slice_index self.now at }
     {
-        self.words[at as usize] as u32
+        self.words[at as usize]
     }
 
     /// Puts a gap's number of units into the unit at `at`, its last one.
@@ -72,6 +73,6 @@ impl UnitArray {
         requires { at < length self.old }
         ensures { self.new ≡ slice_set self.old at size }
     {
-        self.words[at as usize] = u64::from(size);
+        self.words[at as usize] = size;
     }
 }

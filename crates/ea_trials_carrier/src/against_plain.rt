@@ -134,7 +134,6 @@ fn wanted_units(size: u32, after: u32, need: u32) -> Option<u32> {
 fn block_tag(carrier: &Mbc, offset: u32) -> Option<Header> {
     carrier.block_at(offset)?;
     carrier.laid_out();
-    let _units = carrier.units();
     Some(carrier.tags().header(offset))
 }
 

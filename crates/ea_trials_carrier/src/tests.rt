@@ -1,7 +1,7 @@
 //! A plain carrier and the words of headers, by hand.
 use crate::plain::PlainCarrier;
 use ea_model::{BlockAt, CarrierPlan, Kind};
-use ea_tags::header::{decode, encode};
+use ea_tags::header::{MAX_SIZE, decode, encode};
 use ea_tags::{Header, UnitArray};
 use std::test::Fail;
 
@@ -49,7 +49,7 @@ fn headers_have_their_words(rt: HostRuntime) -> Result<(), Fail> {
         (14, false, false, false, 112),
         (6, false, true, false, 50),
         (32_746, true, false, true, 261_973),
-        (0xffff_ffff, true, true, true, 0x7_ffff_ffff),
+        (0x1fff_ffff, true, true, true, 0xffff_ffff),
     ] {
         let header = Header {
             size,
@@ -57,8 +57,8 @@ fn headers_have_their_words(rt: HostRuntime) -> Result<(), Fail> {
             prev_free,
             last,
         };
+        assert!(rt; size <= MAX_SIZE);
         assert_eq!(rt; encode(header), word, "{header:?}");
-        assert!(rt; word < 1 << 35);
         assert_eq!(rt; decode(word), header, "{word}");
     }
     assert_eq!(rt; UnitArray::new(rt.alloc(), 512)?.len(), 512);

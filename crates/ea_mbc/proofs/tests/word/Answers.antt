@@ -5,11 +5,8 @@ use Rattle.ea_mbc.proofs.tests.word.Goals as goal
 told : (c : goal.After-tags) → BlockTold c.tags.result.now c.args.carrier.now c.args.offset
 told c =
     block-told c.tags.result.now c.args.carrier.now c.args.offset c.laid_out.ensures.tiled
-    (subst (λ n. n < 2 ^ 32) c.units-units.ensures c.units-units.type_inv) c.tags.ensures.blocks
+    c.tags.ensures.blocks
     (named-there _ _ (sym c.block_at.ensures ∙ c.in-Some.is))
 
-pub header-requires-clause-within : goal.header-requires-clause-within
-header-requires-clause-within c = omega (arith, (told c).within, c.tags.ensures.as_many)
-
-pub header-requires-clause-header : goal.header-requires-clause-header
-header-requires-clause-header c = (told c).small
+pub header-requires : goal.header-requires
+header-requires c = omega (arith, (told c).within, c.tags.ensures.as_many)

@@ -3,18 +3,9 @@ use Rattle.ea_model.specs.Content.{block_at}
 use Rattle.ea_trials_carrier.proofs.TagsRead.{block-tag, block-there}
 use Rattle.ea_trials_carrier.proofs.against_plain.block_tag.Goals as goal
 
-pub header-requires-clause-within : goal.header-requires-clause-within
-header-requires-clause-within c =
+pub header-requires : goal.header-requires
+header-requires c =
     let (b, found, e) = block-there (block_at c.args.carrier.now.blocks c.args.offset)
     c.in_ok-block_at.field-0 (sym c.block_at.ensures ∙ c.in_ok-block_at.was) in
-    (block-tag c.tags.result.now c.args.carrier.now c.args.offset b c.laid_out.ensures.tiled
-    (omega (arith, c.units-units.ensures, c.units-units.type_inv)) c.tags.ensures.as_many
-    c.tags.ensures.blocks found).0
-
-pub header-requires-clause-header : goal.header-requires-clause-header
-header-requires-clause-header c =
-    let (b, found, e) = block-there (block_at c.args.carrier.now.blocks c.args.offset)
-    c.in_ok-block_at.field-0 (sym c.block_at.ensures ∙ c.in_ok-block_at.was) in
-    (block-tag c.tags.result.now c.args.carrier.now c.args.offset b c.laid_out.ensures.tiled
-    (omega (arith, c.units-units.ensures, c.units-units.type_inv)) c.tags.ensures.as_many
-    c.tags.ensures.blocks found).1
+    block-tag c.tags.result.now c.args.carrier.now c.args.offset b c.laid_out.ensures.tiled
+    c.tags.ensures.as_many found

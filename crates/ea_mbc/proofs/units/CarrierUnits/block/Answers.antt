@@ -8,15 +8,10 @@ index-requires c =
     let s = seen _ _ _ c.args.self.now c.self.view_is c.self.invariant.coded in
     omega (arith, (block-read _ _ _ _ c.args.offset s c.requires).half)
 
-pub header-requires-clause-within : goal.header-requires-clause-within
-header-requires-clause-within c =
+pub header-requires : goal.header-requires
+header-requires c =
     let s = seen _ _ _ c.args.self.now c.self.view_is c.self.invariant.coded in
     (block-read _ _ _ _ c.args.offset s c.requires).inside
-
-pub header-requires-clause-header : goal.header-requires-clause-header
-header-requires-clause-header c =
-    let s = seen _ _ _ c.args.self.now c.self.view_is c.self.invariant.coded in
-    (block-read _ _ _ _ c.args.offset s c.requires).word
 
 pub returns : goal.returns
 returns c =
@@ -24,4 +19,4 @@ returns c =
     let r = block-read _ _ _ _ c.args.offset s c.requires in
     block-is _ _ _ c.args.offset c.index.result.now c.header.result.size r
     (get_or_read c.self.inside.names.items _ _ (omega (arith, r.half)) c.index.ensures 0)
-    (header-read _ _ _ _ c.args.offset c.header.result s r c.header.ensures).0
+    (header-read _ _ _ _ c.args.offset c.header.result s r c.header.ensures.word).0

@@ -1,4 +1,4 @@
-use Rattle.std.proofs.Common.{◌+◌, ◌-◌, ◌<◌, sym, ap, ◌∙◌, subst, arith}
+use Rattle.std.proofs.Common.{◌+◌, ◌-◌, sym, ap, ◌∙◌, subst, arith}
 use Rattle.ea_model.specs.Content.{inserted}
 use Rattle.ea_mbc.specs.Coding.{IsCoded}
 use Rattle.ea_mbc.proofs.Reading.{blocks_of-coded, IsCoded-read}
@@ -12,21 +12,14 @@ overflow_add-stop c =
     let s = seen _ _ _ c.args.self.now c.self.view_is c.self.invariant.coded in
     let g = gap-end _ _ _ _ c.args.block.offset c.args.gap s
     (omega (arith, c.requires.fits, c.requires.least)) c.requires.gap in
-    omega (arith, g.2, s.small)
+    omega (arith, g, s.few)
 
 pub lay-requires-clause-within : goal.lay-requires-clause-within
 lay-requires-clause-within c =
     let s = seen _ _ _ c.args.self.now c.self.view_is c.self.invariant.coded in
     let g = gap-end _ _ _ _ c.args.block.offset c.args.gap s
     (omega (arith, c.requires.fits, c.requires.least)) c.requires.gap in
-    omega (arith, g.2, s.same)
-
-pub lay-requires-clause-header : goal.lay-requires-clause-header
-lay-requires-clause-header c =
-    let s = seen _ _ _ c.args.self.now c.self.view_is c.self.invariant.coded in
-    let g = gap-end _ _ _ _ c.args.block.offset c.args.gap s
-    (omega (arith, c.requires.fits, c.requires.least)) c.requires.gap in
-    λ lt. g.3 (subst (λ n. c.args.block.offset + c.args.gap < n) s.same lt)
+    omega (arith, g, s.same)
 
 pub take-requires : goal.take-requires
 take-requires c =
@@ -46,7 +39,7 @@ overflow_add-block c =
     let s = seen _ _ _ c.args.self.now c.self.view_is c.self.invariant.coded in
     let g = gap-end _ _ _ _ c.args.block.offset c.args.gap s
     (omega (arith, c.requires.fits, c.requires.least)) c.requires.gap in
-    omega (arith, g.2, s.small, c.requires.fits)
+    omega (arith, g, s.few, c.requires.fits)
 
 pub put-requires : goal.put-requires
 put-requires c =

@@ -1,4 +1,4 @@
-use Rattle.std.proofs.Common.{ℕ, ◌+◌, ◌-◌, ◌<◌, sym, ap, ◌∙◌, subst, arith}
+use Rattle.std.proofs.Common.{ℕ, ◌+◌, ◌-◌, sym, ap, ◌∙◌, subst, arith}
 use Rattle.ea_model.specs.Keyed.{without}
 use Rattle.ea_laws.proofs.BlockLists.{offset_of}
 use Rattle.ea_mbc.specs.Coding.{IsCoded}
@@ -8,22 +8,17 @@ use Rattle.ea_mbc.proofs.Seen.{seen, block-read, header-read, stop-read, left}
 use Rattle.ea_mbc.proofs.Slotted.{stands, leaving, slots-made}
 use Rattle.ea_mbc.proofs.units.CarrierUnits.leave.Goals as goal
 
-pub header-requires-clause-within : goal.header-requires-clause-within
-header-requires-clause-within c =
+pub header-requires : goal.header-requires
+header-requires c =
     let s = seen _ _ _ c.args.self.now c.self.view_is c.self.invariant.coded in
     (block-read _ _ _ _ c.args.offset s c.requires.begins).inside
-
-pub header-requires-clause-header : goal.header-requires-clause-header
-header-requires-clause-header c =
-    let s = seen _ _ _ c.args.self.now c.self.view_is c.self.invariant.coded in
-    (block-read _ _ _ _ c.args.offset s c.requires.begins).word
 
 pub overflow_add-behind : goal.overflow_add-behind
 overflow_add-behind c =
     let s = seen _ _ _ c.args.self.now c.self.view_is c.self.invariant.coded in
     let r = block-read _ _ _ _ c.args.offset s c.requires.begins in
-    let size = header-read _ _ _ _ c.args.offset c.header.result s r c.header.ensures in
-    omega (arith, size.0, r.there.within, s.small)
+    let size = header-read _ _ _ _ c.args.offset c.header.result s r c.header.ensures.word in
+    omega (arith, size.0, r.there.within, s.few)
 
 pub clear-requires-clause-order : goal.clear-requires-clause-order
 clear-requires-clause-order c =
@@ -44,14 +39,7 @@ clear-requires-clause-within c =
     let s = seen _ _ _ c.args.self.now c.self.view_is c.self.invariant.coded in
     let r = block-read _ _ _ _ c.args.offset s c.requires.begins in
     let ends = stop-read _ _ _ _ c.args.offset c.args.stop s r c.requires.stop in
-    omega (arith, ends.0, s.same)
-
-pub clear-requires-clause-header : goal.clear-requires-clause-header
-clear-requires-clause-header c =
-    let s = seen _ _ _ c.args.self.now c.self.view_is c.self.invariant.coded in
-    let r = block-read _ _ _ _ c.args.offset s c.requires.begins in
-    let ends = stop-read _ _ _ _ c.args.offset c.args.stop s r c.requires.stop in
-    λ lt. ends.1 (subst (λ n. c.args.stop < n) s.same lt)
+    omega (arith, ends, s.same)
 
 pub take-requires : goal.take-requires
 take-requires c =
@@ -59,7 +47,7 @@ take-requires c =
     c.self.invariant.indexed in
     let s = seen _ _ _ c.args.self.now c.self.view_is c.self.invariant.coded in
     let r = block-read _ _ _ _ c.args.offset s c.requires.begins in
-    let size = header-read _ _ _ _ c.args.offset c.header.result s r c.header.ensures in
+    let size = header-read _ _ _ _ c.args.offset c.header.result s r c.header.ensures.word in
     let l = leaving _ _ c.args.self.now c.args.offset c.header.result.size c.args.start c.args.stop
     c.self.inside.index h r size.0 c.requires.start c.requires.stop in
     l.held_before
@@ -68,7 +56,7 @@ pub overflow_sub-stop : goal.overflow_sub-stop
 overflow_sub-stop c =
     let s = seen _ _ _ c.args.self.now c.self.view_is c.self.invariant.coded in
     let r = block-read _ _ _ _ c.args.offset s c.requires.begins in
-    let size = header-read _ _ _ _ c.args.offset c.header.result s r c.header.ensures in
+    let size = header-read _ _ _ _ c.args.offset c.header.result s r c.header.ensures.word in
     omega (arith, size.0, r.size, c.requires.stop)
 
 pub take-requires-2 : goal.take-requires-2
@@ -77,7 +65,7 @@ take-requires-2 c =
     c.self.invariant.indexed in
     let s = seen _ _ _ c.args.self.now c.self.view_is c.self.invariant.coded in
     let r = block-read _ _ _ _ c.args.offset s c.requires.begins in
-    let size = header-read _ _ _ _ c.args.offset c.header.result s r c.header.ensures in
+    let size = header-read _ _ _ _ c.args.offset c.header.result s r c.header.ensures.word in
     let l = leaving _ _ c.args.self.now c.args.offset c.header.result.size c.args.start c.args.stop
     c.self.inside.index h r size.0 c.requires.start c.requires.stop in
     subst (IsHeld (c.args.offset + c.header.result.size)
@@ -89,7 +77,7 @@ put-requires c =
     c.self.invariant.indexed in
     let s = seen _ _ _ c.args.self.now c.self.view_is c.self.invariant.coded in
     let r = block-read _ _ _ _ c.args.offset s c.requires.begins in
-    let size = header-read _ _ _ _ c.args.offset c.header.result s r c.header.ensures in
+    let size = header-read _ _ _ _ c.args.offset c.header.result s r c.header.ensures.word in
     let l = leaving _ _ c.args.self.now c.args.offset c.header.result.size c.args.start c.args.stop
     c.self.inside.index h r size.0 c.requires.start c.requires.stop in
     let at : ℕ = c.args.offset + c.header.result.size in
@@ -111,7 +99,7 @@ invariant_of-self c =
     c.self.invariant.indexed in
     let s = seen _ _ _ c.args.self.now c.self.view_is c.self.invariant.coded in
     let r = block-read _ _ _ _ c.args.offset s c.requires.begins in
-    let size = header-read _ _ _ _ c.args.offset c.header.result s r c.header.ensures in
+    let size = header-read _ _ _ _ c.args.offset c.header.result s r c.header.ensures.word in
     let l = leaving _ _ c.args.self.now c.args.offset c.header.result.size c.args.start c.args.stop
     c.self.inside.index h r size.0 c.requires.start c.requires.stop in
     let at : ℕ = c.args.offset + c.header.result.size in

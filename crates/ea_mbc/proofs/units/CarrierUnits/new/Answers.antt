@@ -29,7 +29,7 @@ coded c =
 pub invariant_of-result : goal.invariant_of-result
 invariant_of-result c =
     record {
-      coded = (IsCoded-read _ _ _ _ (coded c), c.ranges.end.fits);
+      coded = (IsCoded-read _ _ _ _ (coded c), c.requires.few);
       indexed = slots-made _ _ _ (record { end = c.args.end; blocks = [] }) _ _ refl
           (blocks_of-coded _ _ _ _ (coded c))
           (c.put.ensures ∙ ap (put_in HEADER_UNITS (c.args.end - HEADER_UNITS))

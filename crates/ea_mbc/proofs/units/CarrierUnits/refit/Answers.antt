@@ -1,4 +1,4 @@
-use Rattle.std.proofs.Common.{ℕ, ◌+◌, ◌-◌, ◌<◌, sym, ap, ◌∙◌, subst, arith}
+use Rattle.std.proofs.Common.{ℕ, ◌+◌, ◌-◌, sym, ap, ◌∙◌, subst, arith}
 use Rattle.ea_laws.proofs.Resized.{with_block}
 use Rattle.ea_mbc.specs.Coding.{IsCoded}
 use Rattle.ea_mbc.proofs.Reading.{blocks_of-coded, IsCoded-read}
@@ -7,15 +7,10 @@ use Rattle.ea_mbc.specs.Indexed.{HasSlot, put_in}
 use Rattle.ea_mbc.proofs.Slotted.{stands, refitting, slots-made}
 use Rattle.ea_mbc.proofs.units.CarrierUnits.refit.Goals as goal
 
-pub header-was-requires-clause-within : goal.header-was-requires-clause-within
-header-was-requires-clause-within c =
+pub header-was-requires : goal.header-was-requires
+header-was-requires c =
     let s = seen _ _ _ c.args.self.now c.self.view_is c.self.invariant.coded in
     (block-read _ _ _ _ c.args.block.offset s c.requires.begins).inside
-
-pub header-was-requires-clause-header : goal.header-was-requires-clause-header
-header-was-requires-clause-header c =
-    let s = seen _ _ _ c.args.self.now c.self.view_is c.self.invariant.coded in
-    (block-read _ _ _ _ c.args.block.offset s c.requires.begins).word
 
 pub lay-requires-clause-whole : goal.lay-requires-clause-whole
 lay-requires-clause-whole c =
@@ -29,29 +24,22 @@ lay-requires-clause-within c =
     let s = seen _ _ _ c.args.self.now c.self.view_is c.self.invariant.coded in
     let r = block-read _ _ _ _ c.args.block.offset s c.requires.begins in
     let ends = stop-read _ _ _ _ c.args.block.offset c.args.stop s r c.requires.stop in
-    omega (arith, ends.0, s.same)
-
-pub lay-requires-clause-header : goal.lay-requires-clause-header
-lay-requires-clause-header c =
-    let s = seen _ _ _ c.args.self.now c.self.view_is c.self.invariant.coded in
-    let r = block-read _ _ _ _ c.args.block.offset s c.requires.begins in
-    let ends = stop-read _ _ _ _ c.args.block.offset c.args.stop s r c.requires.stop in
-    λ lt. ends.1 (subst (λ n. c.args.stop < n) s.same lt)
+    omega (arith, ends, s.same)
 
 pub overflow_add-behind : goal.overflow_add-behind
 overflow_add-behind c =
     let s = seen _ _ _ c.args.self.now c.self.view_is c.self.invariant.coded in
     let r = block-read _ _ _ _ c.args.block.offset s c.requires.begins in
     let was = header-read _ _ _ _ c.args.block.offset c.header-was.result s r
-    c.header-was.ensures in
-    omega (arith, was.0, r.there.within, s.small)
+    c.header-was.ensures.word in
+    omega (arith, was.0, r.there.within, s.few)
 
 pub overflow_sub-stop : goal.overflow_sub-stop
 overflow_sub-stop c =
     let s = seen _ _ _ c.args.self.now c.self.view_is c.self.invariant.coded in
     let r = block-read _ _ _ _ c.args.block.offset s c.requires.begins in
     let was = header-read _ _ _ _ c.args.block.offset c.header-was.result s r
-    c.header-was.ensures in
+    c.header-was.ensures.word in
     omega (arith, was.0, r.size, c.requires.stop)
 
 pub take-requires : goal.take-requires
@@ -61,7 +49,7 @@ take-requires c =
     let s = seen _ _ _ c.args.self.now c.self.view_is c.self.invariant.coded in
     let r = block-read _ _ _ _ c.args.block.offset s c.requires.begins in
     let was = header-read _ _ _ _ c.args.block.offset c.header-was.result s r
-    c.header-was.ensures in
+    c.header-was.ensures.word in
     let l = refitting _ _ c.args.self.now c.args.block.offset c.header-was.result.size
     c.args.block.size c.args.stop c.args.block.name c.self.inside.index h r was.0 c.requires.stop
     c.requires.fits c.requires.tiled in
@@ -74,7 +62,7 @@ put-requires c =
     let s = seen _ _ _ c.args.self.now c.self.view_is c.self.invariant.coded in
     let r = block-read _ _ _ _ c.args.block.offset s c.requires.begins in
     let was = header-read _ _ _ _ c.args.block.offset c.header-was.result s r
-    c.header-was.ensures in
+    c.header-was.ensures.word in
     let l = refitting _ _ c.args.self.now c.args.block.offset c.header-was.result.size
     c.args.block.size c.args.stop c.args.block.name c.self.inside.index h r was.0 c.requires.stop
     c.requires.fits c.requires.tiled in
@@ -88,7 +76,7 @@ coded c =
     let s = seen _ _ _ c.args.self.now c.self.view_is c.self.invariant.coded in
     let r = block-read _ _ _ _ c.args.block.offset s c.requires.begins in
     let h = header-read _ _ _ _ c.args.block.offset c.header-was.result s r
-    c.header-was.ensures in
+    c.header-was.ensures.word in
     refitted _ _ _ _ c.self.inside.end c.args.block.offset c.args.block.size c.args.stop
     c.args.block.name c.header-was.result.prev_free c.args.self.now s r c.requires.stop
     c.requires.least c.requires.fits c.requires.tiled h.2 c.lay.ensures
@@ -100,7 +88,7 @@ invariant_of-self c =
     let s = seen _ _ _ c.args.self.now c.self.view_is c.self.invariant.coded in
     let r = block-read _ _ _ _ c.args.block.offset s c.requires.begins in
     let was = header-read _ _ _ _ c.args.block.offset c.header-was.result s r
-    c.header-was.ensures in
+    c.header-was.ensures.word in
     let l = refitting _ _ c.args.self.now c.args.block.offset c.header-was.result.size
     c.args.block.size c.args.stop c.args.block.name c.self.inside.index h r was.0 c.requires.stop
     c.requires.fits c.requires.tiled in

@@ -2,32 +2,28 @@ use Rattle.std.proofs.Common.{◌+◌, fold, ap, ◌∙◌, refl, arith}
 use Rattle.ea_model.specs.Content.{gap, gaps}
 use Rattle.ea_model.specs.Choice.{before, better, fitting, choice}
 use Rattle.ea_mbc.specs.Layout.{Layout}
-use Rattle.ea_mbc.proofs.Walking.{walk-start, walk-word, walk-step, choose-step, choose-end}
+use Rattle.ea_mbc.proofs.Walking.{walk-start, walk-step, choose-step, choose-end}
 use Rattle.ea_mbc.proofs.units.CarrierUnits.walk.Goals as goal
 
 pub loop-at-init : goal.loop-at-init
 loop-at-init c = walk-start _ _ _ _ _ c.self.invariant.coded.0 refl
 
-pub header-header-requires-clause-header : goal.header-header-requires-clause-header
-header-header-requires-clause-header c =
-    walk-word _ _ _ _ _ c.loop-at.invariant c.loop-at-test.true c.self.invariant.coded.1
-
 pub overflow_add-at : goal.overflow_add-at
 overflow_add-at c =
     let s = walk-step _ _ _ _ _ c.header-header.result c.loop-at.invariant c.loop-at-test.true
-    c.header-header.ensures in
+    c.header-header.ensures.word in
     omega (arith, s.within, c.self.invariant.coded.1)
 
 pub loop-at-smaller : goal.loop-at-smaller
 loop-at-smaller c =
     let s = walk-step _ _ _ _ _ c.header-header.result c.loop-at.invariant c.loop-at-test.true
-    c.header-header.ensures in
+    c.header-header.ensures.word in
     omega (arith, s.within, s.least, c.loop-at-test.true)
 
 pub loop-at-preserved : goal.loop-at-preserved
 loop-at-preserved c =
     choose-step _ _ _ _ c.args.need c.args.inner _ c.better_of-best.result _ c.header-header.result
-    c.loop-at.invariant c.loop-at-test.true c.header-header.ensures
+    c.loop-at.invariant c.loop-at-test.true c.header-header.ensures.word
     (c.better_of-best.ensures
     ∙ ap (λ n. fold (better (before c.args.inner)) c.loop-at.best
     (fitting c.args.need (gap c.loop-at.at (c.loop-at.at + n)))) c.free_units.ensures)
