@@ -2,7 +2,7 @@
 use Rattle.std.specs.Prelude.{List, Option}
 use Rattle.ea_model.specs.declared.carriers.Figures.{Figures}
 use Rattle.ea_model.specs.declared.operations.Op.{Op}
-use Rattle.ea_model.specs.declared.entries.Entry.{Entry}
+use Rattle.ea_model.specs.Entries.{Entry}
 use Rattle.ea_model.specs.Content.{Content}
 use Rattle.ea_model.specs.Instance.{Instance}
 use Rattle.ea_machine.specs.declared.nodes.Node.{Node}

@@ -4,7 +4,7 @@ use Rattle.ea_model.specs.declared.carriers.Place.{Place}
 use Rattle.ea_model.specs.declared.carriers.Spot.{Spot}
 use Rattle.ea_model.specs.declared.carriers.CarrierPlan.{CarrierPlan}
 use Rattle.ea_model.specs.declared.entries.NoCarrier.{NoCarrier}
-use Rattle.ea_model.specs.declared.entries.Entry.{Entry}
+use Rattle.ea_model.specs.Entries.{Entry}
 use Rattle.ea_model.specs.declared.entries.Entry.TheVariants as entry
 use Rattle.ea_model.specs.Content.{Content}
 use Rattle.ea_model.specs.Instance.{chosen_spot, creating, creating_single, is_alone, place_at}

@@ -90,7 +90,8 @@ restarted now s = record { last = now; ever = s.ever }
 
 -- the figures of this moment, which were observed, are reported
 abbrev pub reported : Figures → Figures → Actor → Actor
-reported mbcs sbcs a = logged (entry.Info (report mbcs a.mbcs) (report sbcs a.sbcs))
+reported mbcs sbcs a = logged
+    (entry.Info (record { mbcs = report mbcs a.mbcs; sbcs = report sbcs a.sbcs }))
     (record a { mbcs = restarted mbcs a.mbcs; sbcs = restarted sbcs a.sbcs })
 
 -- the allocator information; the report counts its own moment

@@ -1,3 +1,4 @@
+pub mod Filed
 pub mod First
 pub mod Merged
 pub mod Needs

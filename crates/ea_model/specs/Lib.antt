@@ -13,4 +13,5 @@ pub mod Employment
 pub mod Abandonment
 pub mod Words
 pub mod Trace
+pub mod Entries
 pub mod Outcome

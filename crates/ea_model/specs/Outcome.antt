@@ -1,6 +1,6 @@
 -- The outcome of a run, as definitions answer it.
 use Rattle.std.specs.Prelude.{List, map}
-use Rattle.ea_model.specs.declared.entries.Entry.{Entry}
+use Rattle.ea_model.specs.Entries.{Entry}
 use Rattle.ea_model.specs.declared.outcome.Outcome.{Outcome}
 use Rattle.ea_model.specs.Trace.{listed}
 

@@ -28,9 +28,17 @@ pub struct Report {
     pub carriers_size: Triple,
 }
 
-/// What came of an operation.
+/// The allocator information of an instance: its multiblock carriers, and its singleblock ones.
 #[derive(Debug, Clone, Copy, PartialEq, Eq)]
-pub enum Entry {
+pub struct Reports {
+    pub mbcs: Report,
+    pub sbcs: Report,
+}
+
+/// What came of an operation. A type parameter stands for the allocator information: in what
+/// contracts see it is the reports themselves, and a log keeps where they stand.
+#[derive(Debug, Clone, Copy, PartialEq, Eq)]
+pub enum Entry<R> {
     /// A block was placed.
     Alloc {
         name: u32,
@@ -110,8 +118,7 @@ pub enum Entry {
     },
     /// The allocator information.
     Info {
-        mbcs: Report,
-        sbcs: Report,
+        reports: R,
     },
     /// Nothing was to be done.
     Idle,

@@ -6,6 +6,7 @@ pub mod carriers;
 pub mod entries;
 pub mod keyed;
 pub mod lists;
+pub mod logs;
 pub mod operations;
 pub mod outcome;
 pub mod reallocation;
@@ -20,8 +21,9 @@ pub use carriers::{
     Block, BlockAt, Candidate, Carried, CarrierLine, CarrierPlan, Figures, Gap, Inner, Kind,
     OwnCarrier, Place, Segment, Spot, Standing, Totals, first_number, owner_of,
 };
-pub use entries::{Entry, NoCarrier, Report, Triple};
+pub use entries::{Entry, NoCarrier, Report, Reports, Triple};
 pub use lists::{List, OutOfMemory};
+pub use logs::Log;
 pub use operations::Op;
 pub use outcome::Outcome;
 pub use reallocation::{Decision, Where};

@@ -15,7 +15,7 @@ use crate::finding::find;
 use crate::units::live_units;
 use ea_mbc::Mbc;
 use ea_model::{
-    CarrierLine, Config, Entry, HEADER_UNITS, List, NUMBERS, OutOfMemory, Outcome, PAGE_UNITS,
+    CarrierLine, Config, HEADER_UNITS, List, Log, NUMBERS, OutOfMemory, Outcome, PAGE_UNITS,
     Totals, Trace,
 };
 use ea_sched::{Scheduler, migrates};
@@ -23,7 +23,7 @@ use ea_shared::Rested;
 use std::alloc::Global;
 
 /// The logs of the schedulers, with their stops. None is copied.
-fn logs_of(alloc: Global, schedulers: List<Scheduler<'_>>) -> Result<List<List<Entry>>, OutOfMemory>
+fn logs_of(alloc: Global, schedulers: List<Scheduler<'_>>) -> Result<List<Log>, OutOfMemory>
     ensures { IfOk result (λ logs. map (λ log. log.items) logs.items
         ≡ map (λ s. s.log.items ++ stop_line s) schedulers.entry.items) }
 {

@@ -13,7 +13,7 @@ use Rattle.ea_model.specs.declared.outcome.Outcome.{Outcome}
 use Rattle.ea_model.specs.declared.entries.NoCarrier.{NoCarrier}
 use Rattle.ea_model.specs.declared.entries.NoCarrier.TheVariants as cause
 use Rattle.ea_model.specs.declared.entries.Report.{Report}
-use Rattle.ea_model.specs.declared.entries.Entry.{Entry}
+use Rattle.ea_model.specs.Entries.{Entry}
 use Rattle.ea_model.specs.declared.entries.Entry.TheVariants as entry
 use Rattle.ea_model.specs.Outcome.{logs_of}
 use Rattle.ea_report.specs.declared.summary.Counted.{Counted}
@@ -71,8 +71,8 @@ entry_text (entry.GiveSkipped name to) = line (codes "give")
 entry_text (entry.Take name) = line (codes "take") (decimal name ∷ codes "got" ∷ [])
 entry_text (entry.TakeAbsent name tries) = line (codes "take")
     (decimal name ∷ codes "absent" ∷ decimal tries ∷ [])
-entry_text (entry.Info mbcs sbcs) = report_text (codes "mbcs") mbcs ++ report_text
-    (codes "sbcs") sbcs
+entry_text (entry.Info reports) = report_text (codes "mbcs") reports.mbcs ++ report_text
+    (codes "sbcs") reports.sbcs
 entry_text entry.Idle = line (codes "idle") []
 entry_text (entry.Stopped steps) = line (codes "stopped") (decimal steps ∷ [])
 

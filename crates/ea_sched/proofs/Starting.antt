@@ -1,7 +1,7 @@
 -- A scheduler before its first step.
 use Rattle.std.proofs.Common.{◌≡◌, ℕ, true, List, [], ap, ◌∙◌, sym}
 use Rattle.std.specs.Prelude.{None}
-use Rattle.ea_model.specs.declared.entries.Entry.{Entry}
+use Rattle.ea_model.specs.Entries.{Entry}
 use Rattle.ea_model.specs.declared.operations.Op.{Op}
 use Rattle.ea_model.specs.Instance.{Instance, figures}
 use Rattle.ea_machine.specs.Lists.{Lists, no_lists}

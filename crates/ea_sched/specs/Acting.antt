@@ -1,7 +1,7 @@
 -- A scheduler as an actor of the machine.
 use Rattle.std.specs.Prelude.{◌≡◌, ℕ, Bool, true, false, ◌==◌, ◌&&◌, ◌||◌, not, Option, None, Some}
 use Rattle.std.specs.Prelude.{List, [], ◌∷◌, drop}
-use Rattle.ea_model.specs.declared.entries.Entry.{Entry}
+use Rattle.ea_model.specs.Entries.{Entry}
 use Rattle.ea_model.specs.declared.entries.Entry.TheVariants as entry
 use Rattle.ea_model.specs.Content.{Content}
 use Rattle.ea_machine.specs.Setup.{Setup, setup_of}

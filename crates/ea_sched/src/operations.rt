@@ -18,7 +18,7 @@ ghost use Rattle.ea_sched.specs.Creations.{PlansFrom};
 
 use crate::state::Scheduler;
 use ea_machine::{Ask, Named, Stage};
-use ea_model::{Entry, Op, OutOfMemory, Place, Spot, need};
+use ea_model::{Entry, Op, OutOfMemory, Place, Reports, Spot, need};
 use std::alloc::Global;
 
 impl<'t> Scheduler<'t> {
@@ -168,7 +168,9 @@ impl<'t> Scheduler<'t> {
     {
         let mbcs = self.mbcs.report(self.instance.multi_figures());
         let sbcs = self.sbcs.report(self.instance.single_figures());
-        self.finish(Entry::Info { mbcs, sbcs });
+        self.finish(Entry::Info {
+            reports: Reports { mbcs, sbcs },
+        });
     }
 
     /// Does an operation, once its begin is over.

@@ -12,13 +12,13 @@ ghost use Rattle.ea_sched.specs.Prepared.{planned_content};
 use crate::state::Scheduler;
 use ea_machine::{Ask, Stage, Task};
 use ea_mbc::Mbc;
-use ea_model::{CarrierPlan, Entry, NoCarrier, OutOfMemory, Place, Spot};
+use ea_model::{CarrierPlan, Entry, NoCarrier, OutOfMemory, Place, Reports, Spot};
 use ea_search::Search;
 use std::alloc::Global;
 
 /// What the log says if no carrier was fetched or created, after a search that counted `looked`
 /// words.
-fn failed(ask: Ask, looked: u32, why: NoCarrier) -> Entry
+fn failed(ask: Ask, looked: u32, why: NoCarrier) -> Entry<Reports>
     ensures { result ≡ placements.failed ask looked why ask.old }
 {
     let Ask { name, need, old } = ask;

@@ -15,7 +15,7 @@ ghost use Rattle.ea_sound.specs.Walking as walking;
 use crate::state::Scheduler;
 use ea_instance::Instance;
 use ea_machine::{Gone, Named, Node, Route, Stage, Task, Why};
-use ea_model::{Entry, Spot, owner_of};
+use ea_model::{Entry, Reports, Spot, owner_of};
 
 /// The instance that employs the carrier with that number, which is at least 1: where carriers
 /// don't migrate, that is its owner.
@@ -62,7 +62,7 @@ pub fn release(instance: &mut Instance, me: u32, spot: Spot) -> bool
 }
 
 /// What the log says of an operation that released a block.
-fn entry_of(task: Task, gone: Gone) -> Entry
+fn entry_of(task: Task, gone: Gone) -> Entry<Reports>
     ensures { result ≡ tasks.entry_of task gone }
 {
     match task {
@@ -84,7 +84,7 @@ fn entry_of(task: Task, gone: Gone) -> Entry
 
 impl<'t> Scheduler<'t> {
     /// The operation is over, with this entry in the log, and the next one begins.
-    pub(crate) fn finish(&mut self, entry: Entry)
+    pub(crate) fn finish(&mut self, entry: Entry<Reports>)
         requires { HasMore self.old }
         ensures actor { actor_of self.new ≡ tasks.logged entry (ready_of self.old) }
         ensures same { IsSame self.old self.new }

@@ -15,14 +15,14 @@ use crate::state::Scheduler;
 use crate::stops::{is_over, stop_of};
 use ea_instance::Instance;
 use ea_machine::Stage;
-use ea_model::{Config, Entry, List, NUMBERS, OutOfMemory, Trace};
+use ea_model::{Config, Entry, Log, NUMBERS, OutOfMemory, Trace};
 use ea_names::Names;
 use ea_search::OwnLists;
 use ea_stats::Stats;
 use std::alloc::Global;
 
 /// A log with the entry of a stop after that many steps, if there is one.
-fn with_stop(mut log: List<Entry>, stop: Option<u32>) -> List<Entry>
+fn with_stop(mut log: Log, stop: Option<u32>) -> Log
     requires { 1 ≤ log.room }
     ensures { result.items ≡ log.items ++ stop_entries stop }
 {
@@ -63,7 +63,7 @@ impl<'t> Scheduler<'t> {
             pages,
         )?;
         let lists = OwnLists::new(alloc, NUMBERS)?;
-        let mut log = List::new(alloc);
+        let mut log = Log::new(alloc);
         log.reserve(text.len() + 1)?;
         let names = names_for(alloc, text, trace.greatest)?;
         let passed = Passed::new(alloc)?;
@@ -101,7 +101,7 @@ impl<'t> Scheduler<'t> {
     }
 
     /// What came of its operations so far, in order. A stop isn't among it.
-    pub fn log(&self) -> &List<Entry>
+    pub fn log(&self) -> &Log
         ensures { result.now ≡ self.now.log }
     {
         &self.log
@@ -109,7 +109,7 @@ impl<'t> Scheduler<'t> {
 
     /// Its log, by value: what came of its operations, and then its stop, if it is stopped. It is
     /// not copied.
-    pub fn into_log(self) -> List<Entry>
+    pub fn into_log(self) -> Log
         ensures { result.items ≡ self.entry.log.items ++ stop_line self.entry }
     {
         let stop = self.stopped_after();

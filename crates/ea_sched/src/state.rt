@@ -14,7 +14,7 @@ use crate::passed::Passed;
 use ea_instance::{Held, Instance};
 use ea_machine::{Node, Stage};
 use ea_mbc::Mbc;
-use ea_model::{Config, Entry, List, Op, Trace};
+use ea_model::{Config, Log, Op, Trace};
 use ea_names::Names;
 use ea_search::OwnLists;
 use ea_stats::Stats;
@@ -43,7 +43,7 @@ pub struct Scheduler<'t> {
     pub(crate) next: Option<Node>,
     pub(crate) mbcs: Stats,
     pub(crate) sbcs: Stats,
-    pub(crate) log: List<Entry>,
+    pub(crate) log: Log,
     pub(crate) stop: Option<u32>,
     pub(crate) left: Option<u32>,
     pub(crate) failed: bool,

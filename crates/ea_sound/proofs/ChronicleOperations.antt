@@ -6,7 +6,7 @@ use Rattle.std.proofs.lemmas.List.Elements.{All-head}
 use Rattle.std.proofs.lemmas.Bool.{eqb-true}
 use Rattle.ea_model.specs.declared.carriers.Figures.{Figures}
 use Rattle.ea_model.specs.declared.carriers.Spot.{Spot}
-use Rattle.ea_model.specs.declared.entries.Entry.{Entry}
+use Rattle.ea_model.specs.Entries.{Entry}
 use Rattle.ea_model.specs.declared.entries.Entry.TheVariants as entry
 use Rattle.ea_model.specs.declared.operations.Op.{Op}
 use Rattle.ea_model.specs.declared.operations.Op.TheVariants as op
@@ -365,7 +365,8 @@ module _ (e : Setup) (rules : (L : List ℕ) → Rule e (run e L)) (L : List ℕ
         let mbcs = figures (employed_multis mid) in
         let sbcs = figures (employed_singles mid) in
         let b = observed mid in
-        logged-fine e rules L me set is works (entry.Info (report mbcs b.mbcs) (report sbcs b.sbcs))
+        logged-fine e rules L me set is works
+        (entry.Info (record { mbcs = report mbcs b.mbcs; sbcs = report sbcs b.sbcs }))
         (record b { mbcs = restarted mbcs b.mbcs; sbcs = restarted sbcs b.sbcs }) k
         (first-is op.Info ops _ q tt) (λ n q. absurd cc)
         (λ now.

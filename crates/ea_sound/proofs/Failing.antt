@@ -4,7 +4,7 @@ use Rattle.std.proofs.Common.{true, false, refl, sym, ap, ◌∙◌, subst, inl,
 use Rattle.std.specs.Prelude.{Option, Some, None, Err, ◌==◌, count_by, length}
 use Rattle.std.proofs.lemmas.Bool.{cases_eq}
 use Rattle.std.proofs.lemmas.List.{length-append}
-use Rattle.ea_model.specs.declared.entries.Entry.{Entry}
+use Rattle.ea_model.specs.Entries.{Entry}
 use Rattle.ea_model.specs.declared.entries.NoCarrier.{NoCarrier}
 use Rattle.ea_model.specs.declared.operations.Op.{Op}
 use Rattle.ea_model.specs.declared.operations.Op.TheVariants as op

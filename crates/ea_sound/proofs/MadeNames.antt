@@ -7,7 +7,7 @@ use Rattle.std.specs.List.{list_any}
 use Rattle.std.proofs.lemmas.Bool.{cases_Bool, eqb-true}
 use Rattle.std.proofs.lemmas.List.{append_assoc}
 use Rattle.ea_model.specs.declared.carriers.Place.{Place}
-use Rattle.ea_model.specs.declared.entries.Entry.{Entry}
+use Rattle.ea_model.specs.Entries.{Entry}
 use Rattle.ea_model.specs.declared.entries.Entry.TheVariants as entry
 use Rattle.ea_model.specs.declared.operations.Op.{Op}
 use Rattle.ea_model.specs.declared.operations.Op.TheVariants as op
@@ -222,7 +222,7 @@ module _ (e : Setup) (rules : (L : List ℕ) → Rule e (run e L)) (name : ℕ) 
   entry-holds (op.Alloc m bytes) (entry.GiveSkipped n to) of is t never = absurd of
   entry-holds (op.Alloc m bytes) (entry.Take n) of is t never = absurd of
   entry-holds (op.Alloc m bytes) (entry.TakeAbsent n tries) of is t never = absurd of
-  entry-holds (op.Alloc m bytes) (entry.Info mbcs sbcs) of is t never = absurd of
+  entry-holds (op.Alloc m bytes) (entry.Info reports) of is t never = absurd of
   entry-holds (op.Alloc m bytes) entry.Idle of is t never = absurd of
   entry-holds (op.Alloc m bytes) (entry.Stopped steps) of is t never = absurd of
   entry-holds (op.Realloc old m bytes) (entry.Alloc n place) of is t never = absurd of
@@ -244,7 +244,7 @@ module _ (e : Setup) (rules : (L : List ℕ) → Rule e (run e L)) (name : ℕ) 
   entry-holds (op.Realloc old m bytes) (entry.GiveSkipped n to) of is t never = absurd of
   entry-holds (op.Realloc old m bytes) (entry.Take n) of is t never = absurd of
   entry-holds (op.Realloc old m bytes) (entry.TakeAbsent n tries) of is t never = absurd of
-  entry-holds (op.Realloc old m bytes) (entry.Info mbcs sbcs) of is t never = absurd of
+  entry-holds (op.Realloc old m bytes) (entry.Info reports) of is t never = absurd of
   entry-holds (op.Realloc old m bytes) entry.Idle of is t never = absurd of
   entry-holds (op.Realloc old m bytes) (entry.Stopped steps) of is t never = absurd of
   entry-holds (op.Free m) x of is t never = absurd cc

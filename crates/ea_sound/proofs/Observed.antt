@@ -7,7 +7,7 @@ use Rattle.std.proofs.lemmas.Bool.{cases_eq}
 use Rattle.std.proofs.lemmas.Int.{clamps}
 use Rattle.ea_model.specs.declared.carriers.CarrierPlan.{CarrierPlan}
 use Rattle.ea_model.specs.declared.carriers.Figures.{Figures}
-use Rattle.ea_model.specs.declared.entries.Entry.{Entry}
+use Rattle.ea_model.specs.Entries.{Entry}
 use Rattle.ea_model.specs.declared.entries.NoCarrier.{NoCarrier}
 use Rattle.ea_model.specs.declared.operations.Op.{Op}
 use Rattle.ea_model.specs.Content.{Content}

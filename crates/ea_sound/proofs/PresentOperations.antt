@@ -4,7 +4,7 @@ use Rattle.std.proofs.Common.{refl, sym, ap, ◌∙◌, subst, inl, inr, arith}
 use Rattle.std.specs.Prelude.{Option, None, Some, Result, Ok, Err, ◌==◌}
 use Rattle.ea_model.specs.declared.carriers.CarrierPlan.{CarrierPlan}
 use Rattle.ea_model.specs.declared.carriers.Spot.{Spot}
-use Rattle.ea_model.specs.declared.entries.Entry.{Entry}
+use Rattle.ea_model.specs.Entries.{Entry}
 use Rattle.ea_model.specs.declared.entries.Entry.TheVariants as entry
 use Rattle.ea_model.specs.declared.entries.NoCarrier.{NoCarrier}
 use Rattle.ea_model.specs.declared.operations.Op.{Op}
@@ -239,7 +239,7 @@ module _ (e : Setup) (s : Shared) (me : ℕ) (home bound : Counting → ℕ) (R 
       let mbcs = figures (employed_multis a) in
       let sbcs = figures (employed_singles a) in
       let c = observed a in
-      first-good (entry.Info (report mbcs c.mbcs) (report sbcs c.sbcs))
+      first-good (entry.Info (record { mbcs = report mbcs c.mbcs; sbcs = report sbcs c.sbcs }))
       (record c { mbcs = restarted mbcs c.mbcs; sbcs = restarted sbcs c.sbcs }) op.Info ops q tt
       b.core
   itself-good a (op.Idle ∷ ops) q b = first-good entry.Idle a op.Idle ops q tt b.core

@@ -1,7 +1,7 @@
 -- What the log of a scheduler says of its operations.
 use Rattle.std.specs.Prelude.{◌≡◌, ◌≢◌, ◌⊎◌, ℕ, false, List, [], ◌∷◌, ◌++◌, None, Some}
 use Rattle.std.specs.List.{AllZip}
-use Rattle.ea_model.specs.declared.entries.Entry.{Entry}
+use Rattle.ea_model.specs.Entries.{Entry}
 use Rattle.ea_model.specs.declared.entries.Entry.TheVariants as entry
 use Rattle.ea_model.specs.declared.entries.Report.{Report}
 use Rattle.ea_model.specs.declared.operations.Op.{Op}
@@ -43,7 +43,7 @@ Makes (op.Give name to) (entry.Give n i) = (n ≡ name) × (i ≡ to)
 Makes (op.Give name to) (entry.GiveSkipped n i) = (n ≡ name) × (i ≡ to)
 Makes (op.Take name tries) (entry.Take n) = n ≡ name
 Makes (op.Take name tries) (entry.TakeAbsent n t) = (n ≡ name) × (t ≡ tries)
-Makes op.Info (entry.Info mbcs sbcs) = Unit {0}
+Makes op.Info (entry.Info reports) = Unit {0}
 Makes op.Idle entry.Idle = Unit {0}
 Makes o x = ⊥
 
@@ -111,9 +111,9 @@ Tells setup turns s (entry.GiveSkipped name to) =
     IsSkipped setup turns s name (entry.GiveSkipped name to)
 Tells setup turns s (entry.Take name) = IsTaken setup turns s name
 Tells setup turns s (entry.TakeAbsent name tries) = HasTried setup turns s name tries
-Tells setup turns s (entry.Info mbcs sbcs) =
-    Reports mbcs (employed_multis (actor_after setup (turns ++ s ∷ []) s))
-    × Reports sbcs (employed_singles (actor_after setup (turns ++ s ∷ []) s))
+Tells setup turns s (entry.Info reports) =
+    Reports reports.mbcs (employed_multis (actor_after setup (turns ++ s ∷ []) s))
+    × Reports reports.sbcs (employed_singles (actor_after setup (turns ++ s ∷ []) s))
 Tells setup turns s entry.Idle = DoesNothing setup turns s entry.Idle
 Tells setup turns s (entry.Stopped steps) = ⊥
 

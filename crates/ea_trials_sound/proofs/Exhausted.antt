@@ -2,7 +2,7 @@
 use Rattle.std.proofs.Common.{◌≡◌, ◌≤◌, ℕ, true, false, ◌==◌, List, [], ◌∷◌, ◌++◌, None, Err, sym}
 use Rattle.std.proofs.Common.{◌∙◌, ap, subst, inr}
 use Rattle.std.specs.Prelude.{count_by, length}
-use Rattle.ea_model.specs.declared.entries.Entry.{Entry}
+use Rattle.ea_model.specs.Entries.{Entry}
 use Rattle.ea_model.specs.declared.entries.NoCarrier.{NoCarrier}
 use Rattle.ea_model.specs.Instance.{Instance, chosen_spot, plan}
 use Rattle.ea_sound.specs.Exhausted.{IsExhausted, IsFailOf, seen_since}

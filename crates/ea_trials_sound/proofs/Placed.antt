@@ -6,7 +6,7 @@ use Rattle.ea_model.proofs.Options.{same-some, some_value}
 use Rattle.ea_model.specs.declared.carriers.CarrierPlan.{CarrierPlan}
 use Rattle.ea_model.specs.declared.carriers.Place.{Place}
 use Rattle.ea_model.specs.declared.carriers.Spot.{Spot}
-use Rattle.ea_model.specs.declared.entries.Entry.{Entry}
+use Rattle.ea_model.specs.Entries.{Entry}
 use Rattle.ea_model.specs.Content.{Content}
 use Rattle.ea_model.specs.Instance.{chosen_spot, creating, place_at, plan, single_place}
 use Rattle.ea_machine.specs.declared.owners.OwnerWord.{OwnerWord}

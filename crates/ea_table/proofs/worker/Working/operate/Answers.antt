@@ -1,5 +1,5 @@
 use Rattle.std.proofs.Common.{◌≡◌, length, sym, ap, ◌∙◌, arith}
-use Rattle.ea_model.specs.declared.entries.Entry.{Entry}
+use Rattle.ea_model.specs.Entries.{Entry}
 use Rattle.ea_model.specs.Lists.{Items}
 use Rattle.ea_table.specs.Working.{entries}
 use Rattle.ea_table.proofs.worker.Working.operate.Goals as goal
