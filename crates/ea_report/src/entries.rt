@@ -34,10 +34,10 @@ fn put_figure(tail: &mut Tail, word: &str, figure: Triple)
 }
 
 /// Puts the allocator information of one class of carriers in front, whose word has four letters.
-fn put_report(tail: &mut Tail, class: &str, report: Report)
+fn put_report(tail: &mut Tail, class: &str, report: &Report)
     requires class { length class.now ≡ 4 }
     requires room { length tail.old + 304 ≤ LONGEST }
-    ensures bytes { tail.new ≡ report_text class.now report ++ tail.old }
+    ensures bytes { tail.new ≡ report_text class.now report.now ++ tail.old }
     ensures len { length tail.new ≤ length tail.old + 304 }
 {
     tail.text("\n");
@@ -190,7 +190,7 @@ fn put_entry(tail: &mut Tail, entry: &Entry)
             tail.number(name);
             tail.text("take");
         }
-        Entry::Info { mbcs, sbcs } => {
+        Entry::Info { ref mbcs, ref sbcs } => {
             put_report(tail, "sbcs", sbcs);
             put_report(tail, "mbcs", mbcs);
         }

@@ -11,7 +11,7 @@ figure word f rest = word ++ spaced (decimal f.now ∷ decimal f.last ∷ decima
 pub returns-clause-bytes : goal.returns-clause-bytes
 returns-clause-bytes c =
     let class = c.args.class.now in
-    let r = c.args.report in
+    let r = c.args.report.now in
     c.text-3.ensures.bytes
     ∙ ap (λ l. codes "info " ++ l) (c.text-2.ensures.bytes
     ∙ ap (λ l. class ++ l) (c.put_figure-4.ensures.bytes
