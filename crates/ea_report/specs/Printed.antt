@@ -1,5 +1,5 @@
 -- What the words of a line stand for.
-use Rattle.std.specs.Prelude.{ℕ, List, decimal}
+use Rattle.std.specs.Prelude.{ℕ, List, [], ◌∷◌, ◌++◌, decimal}
 use Rattle.ea_report.specs.declared.lines.Word as code
 use Rattle.ea_report.specs.declared.lines.Word.TheVariants.{Text, Number, Sum}
 
@@ -8,3 +8,8 @@ abbrev pub word_text : code.Word → List ℕ
 word_text (Text t) = t.now
 word_text (Number n) = decimal n
 word_text (Sum n) = decimal n
+
+-- words, each after a space, and then the rest
+abbrev pub spaced : List (List ℕ) → List ℕ → List ℕ
+spaced [] rest = rest
+spaced (w ∷ ws) rest = 32 ∷ w ++ spaced ws rest

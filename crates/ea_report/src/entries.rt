@@ -1,18 +1,16 @@
 //! The lines of a log.
-ghost use Rattle.std.specs.Prelude.{◌≡◌, ◌++◌, map, OnOk};
+ghost use Rattle.std.specs.Prelude.{◌≡◌, ◌+◌, ◌≤◌, [], ◌∷◌, ◌++◌, OnOk, codes, decimal, length};
 ghost use Rattle.std.specs.List.{flat_map};
-ghost use Rattle.ea_model.specs.declared.entries.Entry.TheVariants.{Alloc, AllocFail, ReallocFail};
-ghost use Rattle.ea_model.specs.declared.entries.Entry.TheVariants.{Info};
-ghost use Rattle.ea_report.specs.Text.{cause_text, report_text, realloc_text, entry_text};
-ghost use Rattle.ea_report.specs.Printed.{word_text};
+ghost use Rattle.ea_report.specs.Printed.{spaced};
+ghost use Rattle.ea_report.specs.Text.{cause_text, fail_words, report_text, entry_text};
+ghost use Rattle.ea_report.specs.declared.tails.TheConstants.{LONGEST};
 
-use crate::lines::Word::{Number, Sum, Text};
-use crate::lines::{Word, put_line, put_words};
-use ea_io::put_text;
-use ea_model::{Entry, List, NoCarrier, OutOfMemory, Place, Report};
+use crate::tails::Tail;
+use ea_model::{Entry, List, NoCarrier, OutOfMemory, Place, Report, Triple};
 
 fn cause_word(cause: NoCarrier) -> &'static str
-    ensures { result.now ≡ cause_text cause }
+    ensures word { result.now ≡ cause_text cause }
+    ensures short { length result.now ≤ 7 }
 {
     match cause {
         NoCarrier::Numbers => "numbers",
@@ -20,183 +18,188 @@ fn cause_word(cause: NoCarrier) -> &'static str
     }
 }
 
-/// Adds the allocator information of one class of carriers.
-fn put_report(text: &mut List<u8>, class: &str, report: Report) -> Result<(), OutOfMemory>
-    ensures { OnOk result (text.new.items ≡ text.old.items ++ report_text class.now report) }
+/// Puts the numbers of a figure in front, and before them the word that says what they count, with
+/// its space.
+fn put_figure(tail: &mut Tail, word: &str, figure: Triple)
+    requires word { length word.now ≤ 14 }
+    requires room { length tail.old + 77 ≤ LONGEST }
+    ensures bytes { tail.new ≡ word.now ++ spaced
+        (decimal figure.now ∷ decimal figure.last ∷ decimal figure.ever ∷ []) tail.old }
+    ensures len { length tail.new ≤ length tail.old + 63 + length word.now }
 {
-    let words = [
-        Text(class),
-        Text("blocks"),
-        Sum(report.blocks.now),
-        Sum(report.blocks.last),
-        Sum(report.blocks.ever),
-        Text("blocks_size"),
-        Sum(report.blocks_size.now),
-        Sum(report.blocks_size.last),
-        Sum(report.blocks_size.ever),
-        Text("carriers"),
-        Sum(report.carriers.now),
-        Sum(report.carriers.last),
-        Sum(report.carriers.ever),
-        Text("carriers_size"),
-        Sum(report.carriers_size.now),
-        Sum(report.carriers_size.last),
-        Sum(report.carriers_size.ever),
-    ];
-    put_line(text, "info", &words)
+    tail.sum(figure.ever);
+    tail.sum(figure.last);
+    tail.sum(figure.now);
+    tail.text(word);
 }
 
-/// Adds the line of a reallocation whose block lies at `place`, with what came of the old one.
-fn put_realloc(
-    text: &mut List<u8>,
-    old: u32,
-    fresh: u32,
-    place: Place,
-    rest: &[Word],
-) -> Result<(), OutOfMemory>
-    ensures { OnOk result (text.new.items ≡ text.old.items ++ realloc_text old fresh place
-        (map word_text rest.now)) }
+/// Puts the allocator information of one class of carriers in front, whose word has four letters.
+fn put_report(tail: &mut Tail, class: &str, report: &Report)
+    requires class { length class.now ≡ 4 }
+    requires room { length tail.old + 304 ≤ LONGEST }
+    ensures bytes { tail.new ≡ report_text class.now report.now ++ tail.old }
+    ensures len { length tail.new ≤ length tail.old + 304 }
 {
-    let words = [
-        Number(old),
-        Number(fresh),
-        Number(place.carrier),
-        Number(place.offset),
-        Number(place.size),
-    ];
-    put_text(text, "realloc")?;
-    put_words(text, &words)?;
-    put_words(text, rest)?;
-    put_text(text, "\n")
+    tail.text("\n");
+    put_figure(tail, " carriers_size", report.carriers_size);
+    put_figure(tail, " carriers", report.carriers);
+    put_figure(tail, " blocks_size", report.blocks_size);
+    put_figure(tail, " blocks", report.blocks);
+    tail.text(class);
+    tail.text("info ");
 }
 
-/// Adds the line of an allocation that found no place.
-fn put_alloc_fail(
-    text: &mut List<u8>,
-    name: u32,
-    need: u32,
-    looked: u32,
-    why: NoCarrier,
-) -> Result<(), OutOfMemory>
-    ensures { OnOk result
-        (text.new.items ≡ text.old.items ++ entry_text (AllocFail name need looked why)) }
+/// Puts a place in front.
+#[inline(always)]
+fn put_place(tail: &mut Tail, place: Place)
+    requires { length tail.old + 33 ≤ LONGEST }
+    ensures bytes { tail.new ≡ spaced
+        (decimal place.carrier ∷ decimal place.offset ∷ decimal place.size ∷ []) tail.old }
+    ensures len { length tail.new ≤ length tail.old + 33 }
 {
-    let words = [
-        Number(name),
-        Text("fail"),
-        Text("need"),
-        Number(need),
-        Text("looked"),
-        Number(looked),
-        Text(cause_word(why)),
-    ];
-    put_line(text, "alloc", &words)
+    tail.number(place.size);
+    tail.number(place.offset);
+    tail.number(place.carrier);
 }
 
-/// Adds the line of a reallocation that found no place.
-fn put_realloc_fail(
-    text: &mut List<u8>,
-    old: u32,
-    fresh: u32,
-    need: u32,
-    looked: u32,
-    why: NoCarrier,
-) -> Result<(), OutOfMemory>
-    ensures { OnOk result
-        (text.new.items ≡ text.old.items ++ entry_text (ReallocFail old fresh need looked why)) }
+/// Puts the names and the place of a reallocation in front.
+fn put_realloc(tail: &mut Tail, old: u32, fresh: u32, place: Place)
+    requires { length tail.old + 62 ≤ LONGEST }
+    ensures { tail.new ≡ codes "realloc" ++ spaced (decimal old ∷ decimal fresh
+        ∷ decimal place.carrier ∷ decimal place.offset ∷ decimal place.size ∷ []) tail.old }
 {
-    let words = [
-        Number(old),
-        Number(fresh),
-        Text("fail"),
-        Text("need"),
-        Number(need),
-        Text("looked"),
-        Number(looked),
-        Text(cause_word(why)),
-    ];
-    put_line(text, "realloc", &words)
+    put_place(tail, place);
+    tail.number(fresh);
+    tail.number(old);
+    tail.text("realloc");
 }
 
-/// Adds the line of a block that was placed.
-fn put_alloc(text: &mut List<u8>, name: u32, place: Place) -> Result<(), OutOfMemory>
-    ensures { OnOk result (text.new.items ≡ text.old.items ++ entry_text (Alloc name place)) }
+/// Puts in front what stands after the names of an operation that found no place.
+fn put_fail(tail: &mut Tail, need: u32, looked: u32, why: NoCarrier)
+    requires { length tail.old + 48 ≤ LONGEST }
+    ensures bytes { tail.new ≡ spaced (fail_words need looked why) tail.old }
+    ensures len { length tail.new ≤ length tail.old + 48 }
 {
-    let words = [
-        Number(name),
-        Number(place.carrier),
-        Number(place.offset),
-        Number(place.size),
-    ];
-    put_line(text, "alloc", &words)
+    tail.text(cause_word(why));
+    tail.text(" ");
+    tail.number(looked);
+    tail.text(" looked");
+    tail.number(need);
+    tail.text(" fail need");
 }
 
-/// Adds the two lines of the allocator information.
-fn put_info(text: &mut List<u8>, mbcs: Report, sbcs: Report) -> Result<(), OutOfMemory>
-    ensures { OnOk result (text.new.items ≡ text.old.items ++ entry_text (Info mbcs sbcs)) }
+/// Makes the lines of an entry: the allocator information has two, each other entry one.
+fn put_entry(tail: &mut Tail, entry: &Entry)
+    requires { tail.old ≡ [] }
+    ensures { tail.new ≡ entry_text entry.now }
 {
-    put_report(text, "mbcs", mbcs)?;
-    put_report(text, "sbcs", sbcs)
-}
-
-/// Adds the line of an entry; the allocator information has two.
-pub fn put_entry(text: &mut List<u8>, entry: Entry) -> Result<(), OutOfMemory>
-    ensures { OnOk result (text.new.items ≡ text.old.items ++ entry_text entry) }
-{
-    match entry {
-        Entry::Alloc { name, place } => put_alloc(text, name, place),
+    match *entry {
+        Entry::Alloc { name, place } => {
+            tail.text("\n");
+            put_place(tail, place);
+            tail.number(name);
+            tail.text("alloc");
+        }
         Entry::AllocFail {
             name,
             need,
             looked,
             why,
-        } => put_alloc_fail(text, name, need, looked, why),
-        Entry::Free { name } => put_line(text, "free", &[Number(name), Text("done")]),
-        Entry::FreeQueued { name, to } => {
-            put_line(text, "free", &[Number(name), Text("queued"), Number(to)])
+        } => {
+            tail.text("\n");
+            put_fail(tail, need, looked, why);
+            tail.number(name);
+            tail.text("alloc");
         }
-        Entry::FreeSkipped { name } => put_line(text, "free", &[Number(name), Text("skipped")]),
+        Entry::Free { name } => {
+            tail.text(" done\n");
+            tail.number(name);
+            tail.text("free");
+        }
+        Entry::FreeQueued { name, to } => {
+            tail.text("\n");
+            tail.number(to);
+            tail.text(" queued");
+            tail.number(name);
+            tail.text("free");
+        }
+        Entry::FreeSkipped { name } => {
+            tail.text(" skipped\n");
+            tail.number(name);
+            tail.text("free");
+        }
         Entry::ReallocHere { old, fresh, place } => {
-            put_realloc(text, old, fresh, place, &[Text("here")])
+            tail.text(" here\n");
+            put_realloc(tail, old, fresh, place);
         }
         Entry::ReallocMoved { old, fresh, place } => {
-            put_realloc(text, old, fresh, place, &[Text("moved"), Text("done")])
+            tail.text(" moved done\n");
+            put_realloc(tail, old, fresh, place);
         }
         Entry::ReallocQueued {
             old,
             fresh,
             place,
             to,
-        } => put_realloc(
-            text,
-            old,
-            fresh,
-            place,
-            &[Text("moved"), Text("queued"), Number(to)],
-        ),
+        } => {
+            tail.text("\n");
+            tail.number(to);
+            tail.text(" moved queued");
+            put_realloc(tail, old, fresh, place);
+        }
         Entry::ReallocFail {
             old,
             fresh,
             need,
             looked,
             why,
-        } => put_realloc_fail(text, old, fresh, need, looked, why),
-        Entry::ReallocSkipped { old, fresh } => put_line(
-            text,
-            "realloc",
-            &[Number(old), Number(fresh), Text("skipped")],
-        ),
-        Entry::Give { name, to } => put_line(text, "give", &[Number(name), Number(to)]),
+        } => {
+            tail.text("\n");
+            put_fail(tail, need, looked, why);
+            tail.number(fresh);
+            tail.number(old);
+            tail.text("realloc");
+        }
+        Entry::ReallocSkipped { old, fresh } => {
+            tail.text(" skipped\n");
+            tail.number(fresh);
+            tail.number(old);
+            tail.text("realloc");
+        }
+        Entry::Give { name, to } => {
+            tail.text("\n");
+            tail.number(to);
+            tail.number(name);
+            tail.text("give");
+        }
         Entry::GiveSkipped { name, to } => {
-            put_line(text, "give", &[Number(name), Number(to), Text("skipped")])
+            tail.text(" skipped\n");
+            tail.number(to);
+            tail.number(name);
+            tail.text("give");
         }
-        Entry::Take { name } => put_line(text, "take", &[Number(name), Text("got")]),
+        Entry::Take { name } => {
+            tail.text(" got\n");
+            tail.number(name);
+            tail.text("take");
+        }
         Entry::TakeAbsent { name, tries } => {
-            put_line(text, "take", &[Number(name), Text("absent"), Number(tries)])
+            tail.text("\n");
+            tail.number(tries);
+            tail.text(" absent");
+            tail.number(name);
+            tail.text("take");
         }
-        Entry::Info { mbcs, sbcs } => put_info(text, mbcs, sbcs),
-        Entry::Idle => put_line(text, "idle", &[]),
-        Entry::Stopped { steps } => put_line(text, "stopped", &[Number(steps)]),
+        Entry::Info { ref mbcs, ref sbcs } => {
+            put_report(tail, "sbcs", sbcs);
+            put_report(tail, "mbcs", mbcs);
+        }
+        Entry::Idle => tail.text("idle\n"),
+        Entry::Stopped { steps } => {
+            tail.text("\n");
+            tail.number(steps);
+            tail.text("stopped");
+        }
     }
 }
 
@@ -204,8 +207,11 @@ pub fn put_entry(text: &mut List<u8>, entry: Entry) -> Result<(), OutOfMemory>
 pub fn put_log(text: &mut List<u8>, log: &[Entry]) -> Result<(), OutOfMemory>
     ensures { OnOk result (text.new.items ≡ text.old.items ++ flat_map entry_text log.now) }
 {
+    let mut tail = Tail::new();
     for entry in log {
-        put_entry(text, *entry)?;
+        tail.clear();
+        put_entry(&mut tail, entry);
+        text.extend_from_slice(tail.bytes())?;
     }
     Ok(())
 }

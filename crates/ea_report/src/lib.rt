@@ -6,6 +6,7 @@ mod carriers;
 mod entries;
 mod lines;
 mod summary;
+mod tails;
 #[cfg(test)]
 mod tests;
 mod text;

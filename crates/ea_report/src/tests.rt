@@ -1,6 +1,6 @@
 //! The line of each kind of entry, the words of carriers, and whole texts of both forms.
 use crate::carriers::put_carrier;
-use crate::entries::put_entry;
+use crate::entries::put_log;
 use crate::{print, print_summary};
 use ea_model::{
     CarrierLine, Entry, Kind, List, NoCarrier, OutOfMemory, Outcome, Place, Report, Standing,
@@ -134,7 +134,7 @@ fn each_kind_of_entry_has_its_line(rt: HostRuntime) -> Result<(), Fail> {
     for (entry, line) in cases {
         let mut text = List::new(rt.alloc());
         text.push(b'>')?;
-        put_entry(&mut text, entry)?;
+        put_log(&mut text, &[entry])?;
         assert_eq!(rt;
             text.as_slice().split_first(),
             Some((&b'>', line.as_bytes())),
