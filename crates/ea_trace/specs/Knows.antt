@@ -31,12 +31,6 @@ pub record KnowsNames (earlier : List Said) (section : ℕ) (names : Names) : Ty
   pub given_to : (k i : ℕ) → k ≤ MAX_NAME → 1 ≤ i
       → (i == get_or names.addressee.items k 0) ≡ is_given_to k i earlier
 
--- the name has a place in each table
-pub record HasPlace (name : ℕ) (names : Names) : Type 0 where
-  pub made : name < length names.made.items
-  pub held : name < length names.holder.items
-  pub given : name < length names.addressee.items
-
 -- what is known after these lines
 pub record Knows (n : ℕ) (earlier : List Said) (s : Seen) : Type 0 where
   pub schedulers : s.schedulers ≡ n

@@ -161,14 +161,6 @@ is_given_to k i earlier = list_any (gives_to k i) (operations earlier)
 abbrev pub is_held : ℕ → List Said → Bool
 is_held k earlier = list_any (brings k) (section_operations earlier)
 
--- the name that an operation makes, gives or takes, or 0
-abbrev pub noted_name : Op → ℕ
-noted_name (Alloc name bytes) = name
-noted_name (Realloc old fresh bytes) = fresh
-noted_name (Give name to) = name
-noted_name (Take name tries) = name
-noted_name op = 0
-
 -- whether an operation makes a name again, or gives one again; a held name can't be its own NEW
 abbrev pub reuses : List Said → Op → Bool
 reuses earlier (Alloc name bytes) = is_made name earlier

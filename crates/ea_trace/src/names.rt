@@ -1,9 +1,9 @@
 //! What lines say of each name.
 ghost use Rattle.std.specs.Prelude.{◌≡◌, ◌+◌, ◌<◌, ◌≤◌, ◌∷◌, ◌==◌, [], ℕ, false, IfOk, get_or};
-ghost use Rattle.std.specs.Prelude.{length, vec_capacity};
+ghost use Rattle.std.specs.Prelude.{if◌then◌else◌, length, vec_capacity};
 ghost use Rattle.ea_model.specs.declared.units.TheConstants.{MAX_NAME};
 ghost use Rattle.ea_trace.specs.Language as language;
-ghost use Rattle.ea_trace.specs.Language.{Earlier, noted_name, reuses};
+ghost use Rattle.ea_trace.specs.Language.{Earlier, reuses};
 ghost use Rattle.ea_trace.specs.Ranges.{HasRanges};
 ghost use Rattle.ea_trace.specs.declared.lines.Line.TheVariants.{Operation};
 
@@ -33,8 +33,19 @@ fn lengthen<T: Copy>(count: usize, none: T, table: &mut Vec<T>)
     }
 }
 
+/// Gives a name its value in a table, whose names past its end have `none`. There is room for it.
+fn set_value<T: Copy>(name: u32, value: T, none: T, table: &mut Vec<T>)
+    requires { name < vec_capacity table.old }
+    ensures value { (k : ℕ) → get_or table.new.items k none
+        ≡ (if k == name then value else get_or table.old.items k none) }
+    ensures capacity { vec_capacity table.new ≡ vec_capacity table.old }
+{
+    lengthen(name as usize + 1, none, table);
+    table[name as usize] = value;
+}
+
 /// What lines say of each name, in tables by name. There is room for all names, and as much of it
-/// is used as the names take up to the greatest that was noted.
+/// is used as the names take up to the greatest of which a table says something.
 #[derive(Drop)]
 pub struct Names {
     /// Whether the name was made.
@@ -48,19 +59,8 @@ pub struct Names {
     ghost addressee_room: { MAX_NAME < vec_capacity addressee },
 }
 
-/// The name that an operation makes, gives or takes, or 0.
-fn noted_name(op: Op) -> u32
-    ensures { result ≡ noted_name op }
-{
-    match op {
-        Op::Alloc { name, .. } | Op::Give { name, .. } | Op::Take { name, .. } => name,
-        Op::Realloc { fresh, .. } => fresh,
-        _ => 0,
-    }
-}
-
 impl Names {
-    ghost use Rattle.ea_trace.specs.Knows.{GivesOn, HasPlace, KnowsNames};
+    ghost use Rattle.ea_trace.specs.Knows.{GivesOn, KnowsNames};
 
     /// Before the first line. No other call takes memory.
     pub fn new(alloc: Global) -> Result<Names, AllocError>
@@ -110,40 +110,6 @@ impl Names {
         scheduler == value_of(name, 0, &self.addressee)
     }
 
-    /// Sees to it that the name has a place in each table.
-    fn reach(&mut self, name: u32)
-        requires { name ≤ MAX_NAME }
-        ensures place { HasPlace name self.new }
-        ensures same { (section : ℕ) (earlier : Earlier) → KnowsNames earlier section self.old
-            → KnowsNames earlier section self.new }
-    {
-        let count = name as usize + 1;
-        lengthen(count, false, &mut self.made);
-        lengthen(count, 0, &mut self.holder);
-        lengthen(count, 0, &mut self.addressee);
-    }
-
-    /// Writes what an operation of the section that was begun last says, at its place.
-    fn write(&mut self, section: u32, op: Op)
-        requires place { HasPlace (noted_name op) self.old }
-        requires range { HasRanges op }
-        requires given { GivesOn op }
-        requires begun { 0 < section }
-        ensures { (earlier : Earlier) → KnowsNames earlier section self.old
-            → reuses earlier op ≡ false
-            → KnowsNames (Operation op ∷ earlier) section self.new }
-    {
-        match op {
-            Op::Alloc { name, .. } | Op::Realloc { fresh: name, .. } => {
-                self.made[name as usize] = true;
-                self.holder[name as usize] = section;
-            }
-            Op::Give { name, to } => self.addressee[name as usize] = to,
-            Op::Take { name, .. } => self.holder[name as usize] = section,
-            _ => (),
-        }
-    }
-
     /// Notes an operation of the section that was begun last.
     pub fn note(&mut self, section: u32, op: Op)
         requires range { HasRanges op }
@@ -153,7 +119,14 @@ impl Names {
             → reuses earlier op ≡ false
             → KnowsNames (Operation op ∷ earlier) section self.new }
     {
-        self.reach(noted_name(op));
-        self.write(section, op);
+        match op {
+            Op::Alloc { name, .. } | Op::Realloc { fresh: name, .. } => {
+                set_value(name, true, false, &mut self.made);
+                set_value(name, section, 0, &mut self.holder);
+            }
+            Op::Give { name, to } => set_value(name, to, 0, &mut self.addressee),
+            Op::Take { name, .. } => set_value(name, section, 0, &mut self.holder),
+            _ => (),
+        }
     }
 }
