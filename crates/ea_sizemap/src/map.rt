@@ -111,41 +111,17 @@ impl SizeMap {
         ensures highest { IfSome result (λ h. IsHighestOf h.size self.now.held h.position) }
         ensures none { IsNone result ↔ All (λ s. s < size) self.now.held }
     {
-        match self.least_at_least(size) {
+        match self.lowest_at_least(size) {
             Some(least) => Some(HeldSize {
-                size: least,
-                position: self.highest_of(least),
+                size: least.size,
+                position: self.highest_of(least.size),
             }),
             None => None,
         }
     }
 
-    /// The least held size of at least `size`, or None where none is that great.
-    pub fn least_at_least(&self, size: u32) -> Option<u32>
-        requires { 1 ≤ size }
-        ensures found { IfSome result (IsLeastAtLeast size self.now.held) }
-        ensures none { IsNone result ↔ All (λ s. s < size) self.now.held }
-    {
-        match self.lowest_at_least(size) {
-            Some(least) => Some(least.size),
-            None => None,
-        }
-    }
-
-    /// The lowest position that holds the size.
-    pub fn lowest_of(&self, size: u32) -> u32
-        requires some { 1 ≤ size }
-        requires held { Contains self.now.held size }
-        ensures { IsLowestOf size self.now.held result }
-    {
-        match self.lowest_at_least(size) {
-            Some(lowest) => lowest.position,
-            None => unreachable!(),
-        }
-    }
-
     /// The highest position that holds the size.
-    pub fn highest_of(&self, size: u32) -> u32
+    fn highest_of(&self, size: u32) -> u32
         requires some { 1 ≤ size }
         requires held { Contains self.now.held size }
         ensures { IsHighestOf size self.now.held result }

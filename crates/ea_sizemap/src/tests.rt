@@ -1,7 +1,7 @@
 //! Steps with known answers, and many steps against plain walks over the sizes.
 ghost use Rattle.std.specs.Prelude.{◌≡◌, ◌^◌, ◌<◌, ◌≤◌, length, vec_len};
 
-use crate::SizeMap;
+use crate::{HeldSize, SizeMap};
 use std::test::Fail;
 
 /// Lets the position hold the size, or none where it is 0, in the map and in a plain list.
@@ -25,29 +25,32 @@ fn put(map: &mut SizeMap, held: &mut Vec<u32>, position: u32, size: u32)
     }
 }
 
-/// The least held size of at least `size`, and the lowest and the highest position of that one.
-fn found(map: &SizeMap, size: u32) -> Option<(u32, u32, u32)>
+/// What the map finds of the least held size of at least `size`: with its lowest position, and with
+/// its highest.
+fn found(map: &SizeMap, size: u32) -> (Option<HeldSize>, Option<HeldSize>)
     requires { 1 ≤ size }
 {
-    match map.least_at_least(size) {
-        Some(least) => Some((least, map.lowest_of(least), map.highest_of(least))),
-        None => None,
+    (map.lowest_at_least(size), map.highest_at_least(size))
+}
+
+/// What is found where that is the size, with its lowest and its highest position.
+fn both(answer: Option<(u32, u32, u32)>) -> (Option<HeldSize>, Option<HeldSize>) {
+    match answer {
+        Some((size, lowest, highest)) => (
+            Some(HeldSize {
+                size,
+                position: lowest,
+            }),
+            Some(HeldSize {
+                size,
+                position: highest,
+            }),
+        ),
+        None => (None, None),
     }
 }
 
-/// The same by the calls that answer a size with a position.
-fn found_with_positions(map: &SizeMap, size: u32) -> Option<(u32, u32, u32)>
-    requires { 1 ≤ size }
-{
-    match (map.lowest_at_least(size), map.highest_at_least(size)) {
-        (Some(low), Some(high)) if low.size == high.size => {
-            Some((low.size, low.position, high.position))
-        }
-        _ => None,
-    }
-}
-
-/// The same by a walk.
+/// The least size of at least `size`, with its lowest and its highest position, by a walk.
 fn found_by_walk(held: &[u32], size: u32) -> Option<(u32, u32, u32)>
     requires { length held.now < 2 ^ 32 }
 {
@@ -95,8 +98,7 @@ fn the_least_that_is_great_enough_is_found(rt: HostRuntime) -> Result<(), Fail> 
     ] {
         assert!(rt; position < 9 && size <= 50 && least >= 1);
         put(&mut map, &mut held, position, size);
-        assert_eq!(rt; found(&map, least), answer, "at {position}");
-        assert_eq!(rt; found_with_positions(&map, least), answer, "at {position}");
+        assert_eq!(rt; found(&map, least), both(answer), "at {position}");
         assert_eq!(rt; map.greatest(), greatest, "at {position}");
     }
     Ok(())
@@ -113,12 +115,7 @@ fn many_steps_agree_with_a_walk(rt: HostRuntime) -> Result<(), Fail> {
         put(&mut map, &mut held, position, (number >> 20) % 13);
         let least = 1 + (number >> 26) % 13;
         let answer = found_by_walk(&held, least);
-        assert_eq!(rt; found(&map, least), answer, "after {step} steps");
-        assert_eq!(rt;
-            found_with_positions(&map, least),
-            answer,
-            "after {step} steps"
-        );
+        assert_eq!(rt; found(&map, least), both(answer), "after {step} steps");
         let greatest = held.iter().copied().max().unwrap_or(0);
         assert_eq!(rt; map.greatest(), greatest, "after {step} steps");
     }
@@ -128,8 +125,8 @@ fn many_steps_agree_with_a_walk(rt: HostRuntime) -> Result<(), Fail> {
 #[test]
 fn a_map_of_no_positions_finds_none(rt: HostRuntime) -> Result<(), Fail> {
     let map = SizeMap::new(rt.alloc(), 4_294_967_295, 0)?;
-    assert_eq!(rt; found(&map, 1), None);
-    assert_eq!(rt; found(&map, 4_294_967_295), None);
+    assert_eq!(rt; found(&map, 1), both(None));
+    assert_eq!(rt; found(&map, 4_294_967_295), both(None));
     assert_eq!(rt; map.greatest(), 0);
     Ok(())
 }
